@@ -1,0 +1,2 @@
+pub mod AllKinds
+pub mod SetBits
