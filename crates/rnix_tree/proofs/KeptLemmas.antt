@@ -1,0 +1,93 @@
+-- The elements and the text of a tree give the tree back.
+use Rattle.std.proofs.Common.{◌≡◌, ℕ, zero, suc, ◌+◌, ◌-◌, List, [], ◌∷◌, ◌++◌, length, take, drop, Option, Some, None, true, map, refl, ap, sym, ◌∙◌, arith, length-append, append_assoc}
+use Rattle.std.proofs.lemmas.List.{take_at, drop_at, append-nil, drop-drop}
+use Rattle.rnix_tree.specs.declared.green.Element.{Element}
+use Rattle.rnix_tree.specs.Forest.{Forest, empty, leaf, node, join, element_count, tree_count, text_of}
+use Rattle.rnix_tree.specs.Kept.{first_elements, elements_after, forest_from, as_tree, tree_from, item_from, IsKept}
+use Rattle.rnix_tree.specs.Tree.{Tree, Item, items_from, items_of, forest_of}
+use Rattle.rnix_tree.specs.declared.postorder.Entry.{Entry}
+use Rattle.rnix_tree.specs.declared.builder.OpenNode.{OpenNode as Pending}
+use Rattle.rnix_tree.specs.Draft.{is_one_node, is_complete_of}
+use Rattle.std.specs.Prelude.{slice_get}
+use Rattle.rnix_tree.specs.declared.postorder.Entry.TheVariants.{Node}
+use Rattle.rnix_tree.specs.Postorder.{entries_of}
+use Rattle.rnix_tree.specs.Entries.{IsBuilt, open_pairs, is_node_last, is_node_entry}
+use Rattle.rnix_tree.proofs.ForestLemmas.{join-empty}
+use Rattle.rnix_tree.proofs.EntriesLemmas.{first_elements-join, elements_after-join}
+
+-- the items of a forest, whose text stands at the start s, and further items
+pub forest_from-items : (whole : List ℕ) (n s : ℕ) (p : Option ℕ) (f : Forest) (rest : List ℕ) (is : List Item) → drop s whole ≡ text_of f ++ rest →
+    forest_from whole (items_from n s p f ++ is) ≡ join f (forest_from whole is)
+forest_from-items whole n s p empty rest is e = refl
+forest_from-items whole n s p (leaf k t f) rest is e =
+    let len : s + length t - s ≡ length t = omega arith in
+    let at : drop s whole ≡ t ++ (text_of f ++ rest) = e ∙ append_assoc t (text_of f) rest in
+    let text : take (s + length t - s) (drop s whole) ≡ t =
+    ap (λ m. take m (drop s whole)) len ∙ ap (take (length t)) at ∙ take_at t (text_of f ++ rest) (length t) refl in
+    let next : drop (s + length t) whole ≡ text_of f ++ rest =
+    sym (drop-drop (length t) s whole) ∙ ap (drop (length t)) at ∙ drop_at t (text_of f ++ rest) (length t) refl in
+    ap (λ x. leaf k x (forest_from whole (items_from (n + 1) (s + length t) p f ++ is))) text
+    ∙ ap (leaf k t) (forest_from-items whole (n + 1) (s + length t) p f rest is next)
+forest_from-items whole n s p (node k c f) rest is e =
+    let xs = items_from (n + 1) s (Some n) c in
+    let ys = items_from (n + 1 + element_count c) (s + length (text_of c)) p f in
+    let at : drop s whole ≡ text_of c ++ (text_of f ++ rest) = e ∙ append_assoc (text_of c) (text_of f) rest in
+    let next : drop (s + length (text_of c)) whole ≡ text_of f ++ rest =
+    sym (drop-drop (length (text_of c)) s whole) ∙ ap (drop (length (text_of c))) at ∙ drop_at (text_of c) (text_of f ++ rest) (length (text_of c)) refl in
+    let all : forest_from whole ((xs ++ ys) ++ is) ≡ join c (join f (forest_from whole is)) =
+    ap (forest_from whole) (append_assoc xs ys is) ∙ forest_from-items whole (n + 1) s (Some n) c (text_of f ++ rest) (ys ++ is) at
+    ∙ ap (join c) (forest_from-items whole (n + 1 + element_count c) (s + length (text_of c)) p f rest is next) in
+    ap (λ x. node k (first_elements (element_count c) x) (elements_after (element_count c) x)) all
+    ∙ ap (λ x. node k x (elements_after (element_count c) (join c (join f (forest_from whole is))))) (first_elements-join c (join f (forest_from whole is)))
+    ∙ ap (node k c) (elements_after-join c (join f (forest_from whole is)))
+
+pub tree_from_kept : (t : Tree) (es : List Element) (text : List ℕ) → IsKept t es text → tree_from es text ≡ t
+tree_from_kept t es text h =
+    let same : forest_from text (items_of t) ≡ forest_of t =
+    ap (forest_from text) (sym (append-nil (items_of t)))
+    ∙ forest_from-items text 0 0 None (forest_of t) [] [] (h.text_is ∙ sym (append-nil (text_of (forest_of t))))
+    ∙ join-empty (forest_of t) in
+    ap (λ is. as_tree (forest_from text is)) h.elements ∙ ap as_tree same
+
+pub kept : (t : Tree) (es : List Element) (text : List ℕ) → IsKept t es text → IsKept (tree_from es text) es text
+kept t es text h = rw (tree_from_kept t es text h) h
+
+pub one_node : (f : Forest) → is_one_node f ≡ true → forest_of (as_tree f) ≡ f
+one_node empty h = cc
+one_node (leaf k t f) h = cc
+one_node (node k c empty) h = refl
+one_node (node k c (leaf j t f)) h = cc
+one_node (node k c (node j d f)) h = cc
+
+-- the elements of a finished tree, beside the builder's text
+pub finished_kept : (f : Forest) (text : List ℕ) (es : List Entry) (os : List Pending) (st : List ℕ) (elements : List Element) → IsBuilt f text es os st →
+    is_one_node f ≡ true → map item_from elements ≡ items_from 0 0 None f → IsKept (as_tree f) elements text
+finished_kept empty text es os st elements h o e = absurd (cc)
+finished_kept (leaf k t f) text es os st elements h o e = absurd (cc)
+finished_kept (node k c empty) text es os st elements h o e = record { elements = e; text_is = h.text_is; characters = h.characters }
+finished_kept (node k c (leaf j t f)) text es os st elements h o e = absurd (cc)
+finished_kept (node k c (node j d f)) text es os st elements h o e = absurd (cc)
+
+pub finished_is : (f : Forest) (text : List ℕ) (elements : List Element) (t : Tree) → is_one_node f ≡ true → IsKept (as_tree f) elements text →
+    t ≡ tree_from elements text → forest_of t ≡ f
+finished_is f text elements t o h e = ap forest_of (e ∙ tree_from_kept (as_tree f) elements text h) ∙ one_node f o
+
+last_get : (es : List Entry) (x : Entry) (n : ℕ) → n ≡ length es → slice_get (es ++ x ∷ []) n ≡ Some x
+last_get [] x zero h = refl
+last_get [] x (suc n) h = absurd (omega arith)
+last_get (e ∷ es) x zero h = absurd (omega arith)
+last_get (e ∷ es) x (suc n) h = last_get es x n (omega arith)
+
+pub one_node_test : (f : Forest) → tree_count f ≡ 1 → is_one_node f ≡ is_node_last (entries_of f)
+one_node_test empty h = absurd (omega arith)
+one_node_test (leaf k t empty) h = refl
+one_node_test (leaf k t (leaf j u f)) h = absurd (omega arith)
+one_node_test (leaf k t (node j c f)) h = absurd (omega arith)
+one_node_test (node k c empty) h = ap is_node_entry (sym (last_get (entries_of c) (Node k (element_count c)) _ (omega (arith, length-append (entries_of c) (Node k (element_count c) ∷ [])))))
+one_node_test (node k c (leaf j u f)) h = absurd (omega arith)
+one_node_test (node k c (node j d f)) h = absurd (omega arith)
+
+pub complete_is : (f : Forest) (text : List ℕ) (es : List Entry) (os : List Pending) (st : List ℕ) → IsBuilt f text es os st → length os ≡ 0 → length st ≡ 1 →
+    is_node_last es ≡ is_complete_of record { finished = f; open_nodes = open_pairs os }
+complete_is f text es [] st h o s = ap is_node_last h.entries ∙ sym (one_node_test f (sym h.counted ∙ s))
+complete_is f text es (p ∷ os) st h o s = absurd (omega arith)

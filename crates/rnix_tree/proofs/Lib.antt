@@ -1,0 +1,11 @@
+pub mod NumberTests
+pub mod ListLemmas
+pub mod ForestLemmas
+pub mod PostorderLemmas
+pub mod EntriesLemmas
+pub mod KeptLemmas
+pub mod PieceLemmas
+pub mod ParentLemmas
+pub mod SiblingLemmas
+pub mod PartLemmas
+pub mod PreorderLemmas

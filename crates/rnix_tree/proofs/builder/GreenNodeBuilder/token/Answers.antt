@@ -1,0 +1,25 @@
+use Rattle.std.proofs.Common.{ap}
+use Rattle.rnix_tree.specs.Entries.{built, IsBuilt, open_pairs}
+use Rattle.rnix_tree.specs.Draft.{Draft, with_leaf}
+use Rattle.rnix_tree.specs.Forest.{Forest}
+use Rattle.std.specs.String.{string_bytes}
+use Rattle.rnix_tree.proofs.EntriesLemmas.{built-token, settled, built_is}
+use Rattle.rnix_tree.proofs.builder.GreenNodeBuilder.token.Goals as goal
+
+after : (c : goal.In_ok-push-2) →
+    IsBuilt (with_leaf c.args.kind c.args.text.now (built (string_bytes c.self.inside.text) c.self.inside.entries.items))
+    (string_bytes c.push_str.new.self) c.push.new.self.items c.self.inside.pending.items c.push-2.new.self.items
+after c =
+    let b = c.self.inside in
+    built-token (built (string_bytes b.text) b.entries.items) (string_bytes b.text) _ c.args.text.now b.entries.items _ b.pending.items b.starts.items _ c.args.kind
+    c.self.invariant c.utf8.text c.in_ok-push_str.ensures.bytes (rw c.in_ok-reserve.ensures.items at c.in_ok-push.ensures.items)
+    (rw (c.in_ok-reserve-2.ensures.items, c.len-start.ensures, c.reserve.new.self.ok.0, c.in_ok-reserve.ensures.items) at c.in_ok-push-2.ensures.items)
+
+pub invariant_of-self-2 : goal.invariant_of-self-2
+invariant_of-self-2 c = settled _ _ _ _ _ (after c)
+
+pub returns-clause-ok : goal.returns-clause-ok
+returns-clause-ok c =
+    let b = c.self.inside in
+    rw (← c.self.view_is)
+    (ap (λ (f : Forest). let d : Draft = record { finished = f; open_nodes = open_pairs b.pending.items } in d) (built_is _ _ _ _ _ (after c)))

@@ -1,0 +1,15 @@
+use Rattle.std.proofs.Common.{ap, map, ◌+◌, ◌∙◌}
+use Rattle.rnix_tree.specs.Tree.{Item, Located, items_of}
+use Rattle.rnix_tree.specs.Walk.{spot_at, children_of}
+use Rattle.rnix_tree.specs.Cursor.{siblings_between}
+use Rattle.rnix_tree.proofs.PartLemmas.{children_between}
+use Rattle.rnix_tree.proofs.node.SyntaxNode.children_with_tokens.Goals as goal
+
+pub returns : goal.returns
+returns c =
+    let s = c.self.inside in
+    let t = s.green.now in
+    ap (map (spot_at t))
+    (ap (λ (i : Item). siblings_between (items_of t) (s.number + 1) (s.number + 1 + i.below)) c.element-element.ensures.is
+    ∙ children_between t s.number c.self.invariant.is_there)
+    ∙ ap (λ (e : Located). children_of e) c.self.view_is

@@ -1,0 +1,7 @@
+use Rattle.std.proofs.Common.{ap, map}
+use Rattle.rnix_tree.specs.Walk.{event_at}
+use Rattle.rnix_tree.proofs.PreorderLemmas.{whole_walk}
+use Rattle.rnix_tree.proofs.walk.PreorderWithTokens.new.Goals as goal
+
+pub returns : goal.returns
+returns c = ap (map (event_at c.args.green.now)) (whole_walk _ _ c.requires)

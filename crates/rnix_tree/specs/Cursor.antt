@@ -1,0 +1,74 @@
+-- Where a walk stands, and what is left of it.
+use Rattle.std.specs.Prelude.{ℕ, zero, suc, ◌+◌, ◌-◌, ◌==◌, ◌<◌, ◌≤◌, nat_lt, List, [], ◌∷◌, ◌++◌, length, map, drop, false, Option, Some, None, if◌then◌else◌}
+use Rattle.rnix_tree.specs.Forest.{Forest, empty, leaf, node, element_count}
+use Rattle.rnix_tree.specs.Tree.{Tree, Item, items_of, item, part_at}
+use Rattle.rnix_tree.specs.Walk.{Step, Event, steps_from, event_at}
+use Rattle.rnix_tree.specs.declared.walk.Next.{Next}
+use Rattle.rnix_tree.specs.declared.walk.Next.TheVariants.{Enter, Leave, Done}
+
+-- the numbers that are reached by passing over what is inside each: skip comes first, and room is how many elements remain
+abbrev pub passed_over : ℕ → ℕ → ℕ → List Item → List ℕ
+passed_over n skip room [] = []
+passed_over n (suc skip) room (i ∷ is) = passed_over (n + 1) skip (room - 1) is
+passed_over n zero zero (i ∷ is) = []
+passed_over n zero (suc room) (i ∷ is) = n ∷ passed_over (n + 1) i.below room is
+
+-- the elements that stand side by side from the number n up to the end
+abbrev pub siblings_between : List Item → ℕ → ℕ → List ℕ
+siblings_between is n end = passed_over n 0 (end - n) (drop n is)
+
+-- the walk over a row, numbered from n, from where the element m is entered
+abbrev pub from_enter : ℕ → ℕ → Forest → List Step
+from_enter m n empty = []
+from_enter m n (leaf k t f) = if m == n then steps_from n (leaf k t f) else from_enter m (n + 1) f
+from_enter m n (node k c f) =
+    if m == n then steps_from n (node k c f)
+    else (if nat_lt m (n + 1 + element_count c) then from_enter m (n + 1) c ++ (false, n) ∷ steps_from (n + 1 + element_count c) f
+    else from_enter m (n + 1 + element_count c) f)
+
+-- the same from where the element m is left
+abbrev pub from_leave : ℕ → ℕ → Forest → List Step
+from_leave m n empty = []
+from_leave m n (leaf k t f) = if m == n then (false, n) ∷ steps_from (n + 1) f else from_leave m (n + 1) f
+from_leave m n (node k c f) =
+    if m == n then (false, n) ∷ steps_from (n + 1 + element_count c) f
+    else (if nat_lt m (n + 1 + element_count c) then from_leave m (n + 1) c ++ (false, n) ∷ steps_from (n + 1 + element_count c) f
+    else from_leave m (n + 1 + element_count c) f)
+
+-- what is left of a walk from a root
+abbrev pub steps_left : Tree → ℕ → Next → List Step
+steps_left t root (Enter m) = from_enter m root (part_at record { tree = t; number = root })
+steps_left t root (Leave m) = from_leave m root (part_at record { tree = t; number = root })
+steps_left t root Done = []
+
+abbrev pub events_left : Tree → ℕ → Next → List Event
+events_left t root next = map (event_at t) (steps_left t root next)
+
+-- the element is the root or inside it
+pub record IsInside (t : Tree) (root m : ℕ) : Type 0 where
+  pub low : root ≤ m
+  pub high : m < root + 1 + (item t root).below
+  pub there : m < length (items_of t)
+
+abbrev pub IsNextWithin : Tree → ℕ → Next → Type 0
+IsNextWithin t root (Enter m) = IsInside t root m
+IsNextWithin t root (Leave m) = IsInside t root m
+IsNextWithin t root Done = Unit {0}
+
+pub record IsWithin (t : Tree) (root : ℕ) (next : Next) : Type 0 where
+  pub root_there : root < length (items_of t)
+  pub next_inside : IsNextWithin t root next
+
+-- the next thing to do, after an element is entered
+abbrev pub after_enter : Tree → ℕ → Next
+after_enter t m = if nat_lt 0 (item t m).below then Enter (m + 1) else Leave m
+
+-- the same after it is left: the element behind it, or else its parent
+abbrev pub behind : Tree → ℕ → ℕ → Option ℕ → Next
+behind t root m None = Done
+behind t root m (Some p) =
+    if m == root then Done
+    else (if nat_lt (m + 1 + (item t m).below) (p + 1 + (item t p).below) then Enter (m + 1 + (item t m).below) else Leave p)
+
+abbrev pub after_leave : Tree → ℕ → ℕ → Next
+after_leave t root m = behind t root m (item t m).parent

@@ -1,0 +1,10 @@
+pub mod Forest
+pub mod ForestCode
+pub mod Draft
+pub mod Range
+pub mod Tree
+pub mod Walk
+pub mod Kept
+pub mod Postorder
+pub mod Entries
+pub mod Cursor

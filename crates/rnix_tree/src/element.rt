@@ -1,0 +1,64 @@
+//! What stands in a tree: nodes and tokens.
+
+ghost use Rattle.std.specs.Prelude.{◌≡◌, ◌<◌, length};
+ghost use Rattle.rnix_tree.specs.Tree.{items_of, item_of, extent_of};
+ghost use Rattle.rnix_tree.specs.Walk.{spot_at, spot_of, place_of};
+
+use crate::green::GreenNode;
+use crate::node::SyntaxNode;
+use crate::range::TextRange;
+use crate::token::SyntaxToken;
+use rnix_kinds::SyntaxKind;
+
+/// A node or a token.
+#[derive(Clone, Debug, PartialEq, Eq, Hash, Drop)]
+pub enum NodeOrToken<N, T> {
+    Node(N),
+    Token(T),
+}
+
+/// A node or a token of a tree.
+pub type SyntaxElement<'t> = NodeOrToken<SyntaxNode<'t>, SyntaxToken<'t>>;
+
+/// What a walk does at an element.
+#[derive(Clone, Debug, Drop)]
+pub enum WalkEvent<T> {
+    /// The element is met before what is inside it.
+    Enter(T),
+    /// The element is met again, after what is inside it.
+    Leave(T),
+}
+
+impl<'t> NodeOrToken<SyntaxNode<'t>, SyntaxToken<'t>> {
+    /// The element's kind.
+    pub fn kind(&self) -> SyntaxKind
+        ensures { result ≡ (item_of (place_of self.now)).kind }
+    {
+        match self {
+            NodeOrToken::Node(node) => node.kind(),
+            NodeOrToken::Token(token) => token.kind(),
+        }
+    }
+
+    /// The element's place in the text, in bytes.
+    pub fn text_range(&self) -> TextRange
+        ensures { result ≡ extent_of (place_of self.now) }
+    {
+        match self {
+            NodeOrToken::Node(node) => node.text_range(),
+            NodeOrToken::Token(token) => token.text_range(),
+        }
+    }
+}
+
+/// The element of a number.
+pub(crate) fn element_at<'t>(green: &'t GreenNode, number: usize) -> SyntaxElement<'t>
+    requires { number < length (items_of green.now) }
+    ensures { spot_of result ≡ spot_at green.now number }
+{
+    if green.element(number).is_node {
+        NodeOrToken::Node(SyntaxNode { green, number })
+    } else {
+        NodeOrToken::Token(SyntaxToken { green, number })
+    }
+}

@@ -1,0 +1,19 @@
+//! Syntax trees: a builder, and a tree that does not change, read by borrowed nodes and tokens.
+#![tactic(auto)]
+
+mod builder;
+mod element;
+mod green;
+mod node;
+mod postorder;
+mod range;
+mod token;
+mod walk;
+
+pub use builder::{Checkpoint, GreenNodeBuilder};
+pub use element::{NodeOrToken, SyntaxElement, WalkEvent};
+pub use green::GreenNode;
+pub use node::SyntaxNode;
+pub use range::{TextRange, TextSize};
+pub use token::SyntaxToken;
+pub use walk::{PreorderWithTokens, SyntaxElementChildren};

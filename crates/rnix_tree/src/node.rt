@@ -1,0 +1,80 @@
+//! Nodes of a tree.
+
+ghost use Rattle.std.specs.Prelude.{◌≡◌};
+ghost use Rattle.rnix_tree.specs.Tree.{item_of, extent_of, text_at};
+ghost use Rattle.rnix_tree.specs.Walk.{children_of, preorder_of};
+
+use crate::green::GreenNode;
+use crate::range::TextRange;
+use crate::walk::{PreorderWithTokens, SyntaxElementChildren};
+use rnix_kinds::SyntaxKind;
+use std::marker::Model;
+
+/// A node of a tree, which it borrows.
+#[derive(Clone, Drop)]
+pub struct SyntaxNode<'t> {
+    pub(crate) green: &'t GreenNode,
+    pub(crate) number: usize,
+}
+
+impl<'t> Model for SyntaxNode<'t> {
+    ghost use Rattle.rnix_tree.specs.Tree.{Located, located_code, IsNodeAt};
+
+    ghost Value = { Located };
+
+    ghost coded = { located_code };
+
+    ghost view = { λ n. record { tree = n.green.now; number = n.number } };
+
+    ghost invariant = { λ n. IsNodeAt record { tree = n.green.now; number = n.number } };
+}
+
+impl<'t> SyntaxNode<'t> {
+    /// The node at the root of a tree.
+    pub fn new_root(green: &'t GreenNode) -> Self
+        ensures { result ≡ record { tree = green.now; number = 0 } }
+    {
+        SyntaxNode { green, number: 0 }
+    }
+
+    /// The node's kind.
+    pub fn kind(&self) -> SyntaxKind
+        ensures { result ≡ (item_of self.now).kind }
+    {
+        self.green.element(self.number).kind
+    }
+
+    /// The node's place in the text, in bytes.
+    pub fn text_range(&self) -> TextRange
+        ensures { result ≡ extent_of self.now }
+    {
+        let element = self.green.element(self.number);
+        TextRange::new(element.start, element.end)
+    }
+
+    /// The node's text, a slice of the tree's.
+    pub fn text(&self) -> &'t str
+        ensures { result.now ≡ text_at self.now }
+    {
+        self.green.text_at(self.number)
+    }
+
+    /// The nodes and tokens right below the node, in order.
+    pub fn children_with_tokens(&self) -> SyntaxElementChildren<'t>
+        ensures { result ≡ children_of self.now }
+    {
+        let element = self.green.element(self.number);
+        SyntaxElementChildren {
+            green: self.green,
+            next: self.number + 1,
+            end: self.number + 1 + element.below,
+        }
+    }
+
+    /// A walk that enters and leaves the node and all that is inside it.
+    pub fn preorder_with_tokens(&self) -> PreorderWithTokens<'t>
+        ensures { result ≡ preorder_of self.now }
+    {
+        PreorderWithTokens::new(self.green, self.number)
+    }
+}

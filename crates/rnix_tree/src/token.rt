@@ -1,0 +1,52 @@
+//! Tokens of a tree.
+
+ghost use Rattle.std.specs.Prelude.{◌≡◌};
+ghost use Rattle.rnix_tree.specs.Tree.{item_of, extent_of, text_at};
+
+use crate::green::GreenNode;
+use crate::range::TextRange;
+use rnix_kinds::SyntaxKind;
+use std::marker::Model;
+
+/// A token of a tree, which it borrows.
+#[derive(Clone, Drop)]
+pub struct SyntaxToken<'t> {
+    pub(crate) green: &'t GreenNode,
+    pub(crate) number: usize,
+}
+
+impl<'t> Model for SyntaxToken<'t> {
+    ghost use Rattle.rnix_tree.specs.Tree.{Located, located_code, IsTokenAt};
+
+    ghost Value = { Located };
+
+    ghost coded = { located_code };
+
+    ghost view = { λ n. record { tree = n.green.now; number = n.number } };
+
+    ghost invariant = { λ n. IsTokenAt record { tree = n.green.now; number = n.number } };
+}
+
+impl<'t> SyntaxToken<'t> {
+    /// The token's kind.
+    pub fn kind(&self) -> SyntaxKind
+        ensures { result ≡ (item_of self.now).kind }
+    {
+        self.green.element(self.number).kind
+    }
+
+    /// The token's place in the text, in bytes.
+    pub fn text_range(&self) -> TextRange
+        ensures { result ≡ extent_of self.now }
+    {
+        let element = self.green.element(self.number);
+        TextRange::new(element.start, element.end)
+    }
+
+    /// The token's text, a slice of the tree's.
+    pub fn text(&self) -> &'t str
+        ensures { result.now ≡ text_at self.now }
+    {
+        self.green.text_at(self.number)
+    }
+}

@@ -1,0 +1,157 @@
+//! Walks over a tree, without memory and without recursion.
+
+ghost use Rattle.std.specs.Prelude.{◌≡◌, ◌<◌, length};
+ghost use Rattle.rnix_tree.specs.Tree.{items_of};
+ghost use Rattle.rnix_tree.specs.Walk.{preorder_of};
+ghost use Rattle.rnix_tree.specs.Cursor.{after_enter, after_leave};
+
+use crate::element::{SyntaxElement, WalkEvent, element_at};
+use crate::green::GreenNode;
+use std::marker::Model;
+
+/// The nodes and tokens right below a node, in order.
+#[derive(Drop)]
+pub struct SyntaxElementChildren<'t> {
+    pub(crate) green: &'t GreenNode,
+    pub(crate) next: usize,
+    pub(crate) end: usize,
+}
+
+impl<'t> Model for SyntaxElementChildren<'t> {
+    ghost use Rattle.std.specs.Prelude.{List, ◌≤◌, length, map};
+    ghost use Rattle.rnix_tree.specs.Tree.{items_of};
+    ghost use Rattle.rnix_tree.specs.Walk.{Spot, spots_code, spot_at};
+    ghost use Rattle.rnix_tree.specs.Cursor.{siblings_between};
+
+    ghost Value = { List Spot };
+
+    ghost coded = { spots_code };
+
+    ghost view = { λ s. map (spot_at s.green.now) (siblings_between (items_of s.green.now) s.next s.end) };
+
+    ghost invariant = { λ s. s.end ≤ length (items_of s.green.now) };
+}
+
+impl<'t> Iterator for SyntaxElementChildren<'t> {
+    type Item = SyntaxElement<'t>;
+
+    ghost use Rattle.std.specs.Iterator.{YieldsFirstBy, item_count};
+    ghost use Rattle.rnix_tree.specs.Walk.{spot_of};
+
+    ghost next_gives = { YieldsFirstBy spot_of (λ s. s) };
+
+    ghost remaining = { item_count (λ s. s) };
+
+    fn next(&mut self) -> Option<SyntaxElement<'t>> {
+        let green = self.green;
+        let number = self.next;
+        if number < self.end {
+            let element = green.element(number);
+            self.next = number + 1 + element.below;
+            Some(element_at(green, number))
+        } else {
+            None
+        }
+    }
+}
+
+// Where a walk stands: what it does next, at which element.
+#[derive(Clone, Copy)]
+pub(crate) enum Next {
+    Enter(usize),
+    Leave(usize),
+    Done,
+}
+
+/// A walk that enters and leaves each node and token, an element before what is inside it.
+#[derive(Drop)]
+pub struct PreorderWithTokens<'t> {
+    green: &'t GreenNode,
+    root: usize,
+    next: Next,
+}
+
+impl<'t> Model for PreorderWithTokens<'t> {
+    ghost use Rattle.std.specs.Prelude.{List};
+    ghost use Rattle.rnix_tree.specs.Walk.{Event, events_code};
+
+    ghost Value = { List Event };
+
+    ghost coded = { events_code };
+
+    ghost use Rattle.rnix_tree.specs.Cursor.{events_left, IsWithin};
+
+    ghost view = { λ w. events_left w.green.now w.root w.next };
+
+    ghost invariant = { λ w. IsWithin w.green.now w.root w.next };
+}
+
+impl<'t> PreorderWithTokens<'t> {
+    pub(crate) fn new(green: &'t GreenNode, root: usize) -> Self
+        requires { root < length (items_of green.now) }
+        ensures { result ≡ preorder_of record { tree = green.now; number = root } }
+    {
+        PreorderWithTokens {
+            green,
+            root,
+            next: Next::Enter(root),
+        }
+    }
+}
+
+// What a walk does after it entered the element.
+fn after_enter(green: &GreenNode, number: usize) -> Next
+    requires { number < length (items_of green.now) }
+    ensures { result ≡ after_enter green.now number }
+{
+    if green.element(number).below > 0 {
+        Next::Enter(number + 1)
+    } else {
+        Next::Leave(number)
+    }
+}
+
+// What a walk from the root does after it left the element.
+fn after_leave(green: &GreenNode, root: usize, number: usize) -> Next
+    requires { number < length (items_of green.now) }
+    ensures { result ≡ after_leave green.now root number }
+{
+    let element = green.element(number);
+    match element.parent {
+        Some(parent) if number != root => {
+            let next = number + 1 + element.below;
+            if next < parent + 1 + green.element(parent).below {
+                Next::Enter(next)
+            } else {
+                Next::Leave(parent)
+            }
+        }
+        _ => Next::Done,
+    }
+}
+
+impl<'t> Iterator for PreorderWithTokens<'t> {
+    type Item = WalkEvent<SyntaxElement<'t>>;
+
+    ghost use Rattle.std.specs.Iterator.{YieldsFirstBy, item_count};
+    ghost use Rattle.rnix_tree.specs.Walk.{event_of};
+
+    ghost next_gives = { YieldsFirstBy event_of (λ s. s) };
+
+    ghost remaining = { item_count (λ s. s) };
+
+    fn next(&mut self) -> Option<WalkEvent<SyntaxElement<'t>>> {
+        let green = self.green;
+        match self.next {
+            Next::Enter(number) => {
+                self.next = after_enter(green, number);
+                Some(WalkEvent::Enter(element_at(green, number)))
+            }
+            Next::Leave(number) => {
+                self.next = after_leave(green, self.root, number);
+                Some(WalkEvent::Leave(element_at(green, number)))
+            }
+            Next::Done => None,
+        }
+    }
+}
