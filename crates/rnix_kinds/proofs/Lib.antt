@@ -1,2 +1,3 @@
 pub mod AllKinds
 pub mod SetBits
+pub mod Lexical

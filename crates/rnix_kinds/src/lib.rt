@@ -1,8 +1,10 @@
-//! The kinds of Nix tokens and nodes, sets of them, and the tokenizer.
+//! The kinds of Nix tokens and nodes, sets of kinds, and the tokenizer.
 #![tactic(auto)]
 
 mod kinds;
 mod token_set;
+mod tokenizer;
 
 pub use kinds::{ParseSyntaxKindError, SyntaxKind};
 pub use token_set::TokenSet;
+pub use tokenizer::{Token, Tokenizer, longest, one_list, tokenize};

@@ -1,0 +1,8 @@
+-- Lemmas on the lexical rules.
+pub mod CutLemmas
+pub mod Laws
+pub mod LongestLemmas
+pub mod ModesLemmas
+pub mod StringsLemmas
+pub mod TokensLemmas
+pub mod WordsLemmas

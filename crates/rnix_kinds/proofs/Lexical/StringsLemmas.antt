@@ -1,0 +1,75 @@
+-- Rows of the pieces of a string.
+use Rattle.std.proofs.Common.{◌≡◌, ℕ, zero, suc, ◌+◌, ◌<◌, ◌≤◌, Bool, List, [], ◌∷◌, length, drop, refl, arith}
+use Rattle.rnix_kinds.specs.Lexical.Strings.{piece_len, content_from, content_len}
+
+-- a piece is passed as a whole
+content_from-inside : (m : Bool) (inside : ℕ) (xs : List ℕ) → inside ≤ length xs → content_from m inside xs ≡ inside + content_from m 0 (drop inside xs)
+unfolding content_from
+content_from-inside m zero xs h = omega arith
+content_from-inside m (suc k) [] h = absurd (omega arith)
+content_from-inside m (suc k) (x ∷ xs) h = omega (arith, content_from-inside m k xs (omega arith))
+
+-- the text ends in a piece
+content_from-past : (m : Bool) (inside : ℕ) (xs : List ℕ) → length xs ≤ inside → content_from m inside xs ≡ length xs
+unfolding content_from
+content_from-past m zero [] h = refl
+content_from-past m zero (x ∷ xs) h = absurd (omega arith)
+content_from-past m (suc k) [] h = refl
+content_from-past m (suc k) (x ∷ xs) h = omega (arith, content_from-past m k xs (omega arith))
+
+content_step : (m : Bool) (n : ℕ) (b : ℕ) (xs : List ℕ) → piece_len m (b ∷ xs) ≡ suc n → content_len m (b ∷ xs) ≡ 1 + content_from m n xs
+unfolding content_from
+content_step m n b xs e = rw (e, content_from)
+
+pub content_len-stop : (m : Bool) (xs : List ℕ) → piece_len m xs ≡ 0 → content_len m xs ≡ 0
+unfolding content_from
+content_len-stop m [] e = refl
+content_len-stop m (b ∷ xs) e = rw (e, content_from)
+
+pub content_len-piece : (m : Bool) (n : ℕ) (xs : List ℕ) → piece_len m xs ≡ n → 0 < n → n ≤ length xs → content_len m xs ≡ n + content_len m (drop n xs)
+content_len-piece m zero xs e some h = absurd (omega arith)
+content_len-piece m (suc n) [] e some h = absurd (omega arith)
+content_len-piece m (suc n) (b ∷ xs) e some h = omega (arith, content_step m n b xs e, content_from-inside m n xs (omega arith))
+
+pub content_len-past : (m : Bool) (n : ℕ) (xs : List ℕ) → piece_len m xs ≡ n → length xs < n → content_len m xs ≡ length xs
+unfolding content_from
+content_len-past m n [] e h = refl
+content_len-past m zero (b ∷ xs) e h = absurd (omega arith)
+content_len-past m (suc n) (b ∷ xs) e h = omega (arith, content_step m n b xs e, content_from-past m n xs (omega arith))
+
+pub content_len-nil : (m : Bool) → content_len m [] ≡ 0
+unfolding content_from
+content_len-nil m = refl
+
+content_le_step : (m : Bool) (x : ℕ) (xs : List ℕ) (n : ℕ) → piece_len m (x ∷ xs) ≡ n → ((k : ℕ) → content_from m k xs ≤ length xs) → content_len m (x ∷ xs) ≤ suc (length xs)
+content_le_step m x xs zero e more = omega (arith, content_len-stop m (x ∷ xs) e)
+content_le_step m x xs (suc n) e more = omega (arith, content_step m n x xs e, more n)
+
+content_stops_step : (m : Bool) (x : ℕ) (xs : List ℕ) (n : ℕ) → piece_len m (x ∷ xs) ≡ n → ((k : ℕ) → content_from m k xs < length xs → piece_len m (drop (content_from m k xs) xs) ≡ 0)
+    → content_len m (x ∷ xs) < suc (length xs) → piece_len m (drop (content_len m (x ∷ xs)) (x ∷ xs)) ≡ 0
+content_stops_step m x xs zero e more h = rw (content_len-stop m (x ∷ xs) e) e
+content_stops_step m x xs (suc n) e more h =
+    let step = content_step m n x xs e in
+    let next : content_len m (x ∷ xs) ≡ suc (content_from m n xs) = omega arith in
+    rw next (more n (omega arith))
+
+content_from-le : (m : Bool) (inside : ℕ) (xs : List ℕ) → content_from m inside xs ≤ length xs
+unfolding content_from
+content_from-le m inside [] = omega arith
+content_from-le m (suc k) (x ∷ xs) = omega (arith, content_from-le m k xs)
+content_from-le m zero (x ∷ xs) = content_le_step m x xs (piece_len m (x ∷ xs)) refl (λ k. content_from-le m k xs)
+
+pub content_len-le : (m : Bool) (xs : List ℕ) → content_len m xs ≤ length xs
+content_len-le m xs = content_from-le m 0 xs
+
+-- where the content ends before the text does, no piece follows
+content_from-stops : (m : Bool) (inside : ℕ) (xs : List ℕ) → content_from m inside xs < length xs → piece_len m (drop (content_from m inside xs) xs) ≡ 0
+unfolding content_from
+content_from-stops m inside [] h = absurd (omega arith)
+content_from-stops m (suc k) (x ∷ xs) h =
+    let next : 1 + content_from m k xs ≡ suc (content_from m k xs) = omega arith in
+    rw next (content_from-stops m k xs (omega arith))
+content_from-stops m zero (x ∷ xs) h = content_stops_step m x xs (piece_len m (x ∷ xs)) refl (λ k. content_from-stops m k xs) h
+
+pub content_len-stops : (m : Bool) (xs : List ℕ) → content_len m xs < length xs → piece_len m (drop (content_len m xs) xs) ≡ 0
+content_len-stops m xs h = content_from-stops m 0 xs h

@@ -1,0 +1,7 @@
+use Rattle.std.proofs.Common.{arith}
+use Rattle.rnix_kinds.proofs.Lexical.WordsLemmas.{within_from_byte}
+use Rattle.std.proofs.lemmas.Str.{IsCharBoundary-after_ascii}
+use Rattle.rnix_kinds.proofs.tokenizer.path.goes_on_as_path.Goals as goal
+
+pub range_from-requires : goal.range_from-requires
+range_from-requires c positive = IsCharBoundary-after_ascii c.args.text.now c.args.len c.utf8.text (within_from_byte _ _ (omega arith)) (omega arith)

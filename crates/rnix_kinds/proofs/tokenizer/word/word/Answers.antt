@@ -1,0 +1,7 @@
+use Rattle.std.proofs.Common.{zero-add}
+use Rattle.rnix_kinds.specs.declared.tokenizer.text.Class.TheVariants.{Name}
+use Rattle.rnix_kinds.proofs.Lexical.WordsLemmas.{IsCharBoundary-run}
+use Rattle.rnix_kinds.proofs.tokenizer.word.word.Goals as goal
+
+pub range-requires-clause-end_boundary : goal.range-requires-clause-end_boundary
+range-requires-clause-end_boundary c = rw (c.run_end-end.ensures.end, zero-add) (IsCharBoundary-run Name c.args.text.now c.utf8.text)

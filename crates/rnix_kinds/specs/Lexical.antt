@@ -1,0 +1,12 @@
+-- The lexical rules: which tokens a text has.
+pub mod Texts
+pub mod Classes
+pub mod Plain
+pub mod Strings
+pub mod Paths
+pub mod Numbers
+pub mod Operators
+pub mod Tokens
+pub mod Ahead
+pub mod PathKinds
+pub mod Longest

@@ -1,0 +1,25 @@
+-- The sets of bytes that runs are made of.
+use Rattle.std.specs.Prelude.{ℕ, Bool, not, ◌==◌, ◌&&◌, ◌||◌}
+use Rattle.std.specs.Char.{is_ascii_alphanumeric, is_ascii_digit}
+use Rattle.rnix_kinds.specs.declared.tokenizer.text.Class.{Class}
+use Rattle.rnix_kinds.specs.declared.tokenizer.text.Class.TheVariants.{Digit, Name, Path, Step, Scheme, Angle, Uri, Line}
+
+-- a path character: a letter, a digit, `/`, `_`, `.`, `+` or `-`
+abbrev pub is_path : ℕ → Bool
+is_path b = is_ascii_alphanumeric b || b == 47 || b == 95 || b == 46 || b == 43 || b == 45
+
+-- a path character, or one of `%?:@&=$,!~*'`
+abbrev pub is_uri : ℕ → Bool
+is_uri b =
+    is_path b || b == 37 || b == 63 || b == 58 || b == 64 || b == 38 || b == 61 || b == 36 || b == 44 || b == 33
+    || b == 126 || b == 42 || b == 39
+
+abbrev pub class_test : Class → ℕ → Bool
+class_test Digit = is_ascii_digit
+class_test Name = λ b. is_ascii_alphanumeric b || b == 95 || b == 45 || b == 39
+class_test Path = is_path
+class_test Step = λ b. is_path b && not (b == 47)
+class_test Scheme = λ b. is_path b && not (b == 47) && not (b == 95)
+class_test Angle = λ b. is_path b || b == 60
+class_test Uri = is_uri
+class_test Line = λ b. not (b == 10)

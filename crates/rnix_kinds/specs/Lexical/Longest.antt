@@ -1,0 +1,29 @@
+-- What the words on lengths mean: a longest run, a longest row of pieces, a first pair.
+use Rattle.std.specs.Prelude.{◌≡◌, ℕ, ◌+◌, ◌<◌, ◌≤◌, Bool, true, List, take, drop, length, slice_index}
+use Rattle.std.specs.List.{list_all}
+use Rattle.rnix_kinds.specs.Lexical.Strings.{piece_len}
+
+-- the largest number of this kind
+pub record IsLongest (Member : ℕ → Type 0) (n : ℕ) : Type 0 where
+  pub member : Member n
+  pub longest : (m : ℕ) → Member m → m ≤ n
+
+-- the first n bytes are there and passed the test
+abbrev pub IsRun : (ℕ → Bool) → List ℕ → ℕ → Type 0
+IsRun test text n = (n ≤ length text) × (list_all test (take n text) ≡ true)
+
+-- the first n bytes are pieces of a string, one after another
+pub data IsRow (multiline : Bool) : ℕ → List ℕ → Type 0 where
+  empty : (text : List ℕ) → IsRow multiline 0 text
+  piece : (n : ℕ) (text : List ℕ) → 0 < piece_len multiline text → piece_len multiline text ≤ length text
+      → IsRow multiline n (drop (piece_len multiline text) text) → IsRow multiline (piece_len multiline text + n) text
+
+-- a then b stand at the place k
+abbrev pub IsPair : ℕ → ℕ → List ℕ → ℕ → Type 0
+IsPair a b text k = (k + 1 < length text) × (slice_index text k ≡ a) × (slice_index text (k + 1) ≡ b)
+
+-- n is the first place of the pair, or the length where there is none
+pub record IsFirstPair (a b : ℕ) (text : List ℕ) (n : ℕ) : Type 0 where
+  pub within : n ≤ length text
+  pub found : n < length text → IsPair a b text n
+  pub first : (k : ℕ) → IsPair a b text k → n ≤ k

@@ -1,0 +1,144 @@
+//! The tokens of a text, one after another.
+ghost use Rattle.std.specs.Prelude.{◌≡◌, ◌<◌, ℕ, Bool, List, [], length, slice_index};
+ghost use Rattle.std.specs.List.{prefix_len};
+ghost use Rattle.rnix_kinds.specs.Lexical.Classes.{class_test};
+ghost use Rattle.rnix_kinds.specs.Lexical.Longest.{IsLongest, IsRun, IsRow, IsFirstPair};
+ghost use Rattle.rnix_kinds.specs.Lexical.Operators.{HasRoom};
+ghost use Rattle.rnix_kinds.specs.Lexical.Strings.{content_len};
+ghost use Rattle.rnix_kinds.specs.Lexical.Texts.{before_pair};
+ghost use Rattle.rnix_kinds.specs.Lexical.Ahead.{IsAhead};
+ghost use Rattle.rnix_kinds.specs.Lexical.Tokens.{cut_at, tokens_under, tokens_of, CountsFit, IsPathGoingOn, IsCutOf, GivesNext, AreTokens, AreSound, Lexeme};
+ghost use Rattle.rnix_kinds.specs.declared.kinds.SyntaxKind.{SyntaxKind};
+
+mod ahead;
+mod modes;
+mod normal;
+mod number;
+mod operator;
+mod path;
+mod rule;
+mod space;
+mod string;
+mod text;
+mod word;
+
+use self::modes::Modes;
+use self::normal::normal;
+use self::path::path;
+use self::rule::{Cut, Mode};
+use self::ahead::{Ahead, look_ahead, passed};
+use self::string::string;
+use crate::kinds::SyntaxKind;
+use std::alloc::{AllocError, Global};
+use std::marker::Model;
+
+/// A kind and the text it was given for.
+pub type Token<'a> = (SyntaxKind, &'a str);
+
+/// The token that begins the text, and what was looked over for it.
+#[tactic(auto, unfolding(crate::specs::Lexical::Tokens::cut_at))]
+fn cut_at(text: &str, top: Option<Mode>, ahead: Ahead) -> (Cut, Ahead)
+    requires some { 0 < length text.now }
+    requires room { HasRoom top }
+    requires goes_on { IsPathGoingOn top text.now }
+    requires ahead { IsAhead ahead text.now }
+    ensures cut { result.0 ≡ cut_at top text.now }
+    ensures good { IsCutOf top text.now result.0 }
+    ensures ahead { IsAhead result.1 text.now }
+{
+    match top {
+        Some(Mode::Quoted(multiline)) => (string(text, multiline), ahead),
+        Some(Mode::Path(start)) => (path(text, start), ahead),
+        _ => {
+            let runs = look_ahead(text, ahead);
+            (normal(text, top, runs), runs)
+        }
+    }
+}
+
+/// Cuts a text into its tokens. A clause sees the tokens that are left.
+#[derive(Drop)]
+pub struct Tokenizer<'a> {
+    rest: &'a str,
+    modes: Modes,
+    ahead: Ahead,
+}
+
+impl<'a> Model for Tokenizer<'a> {
+    ghost Value = { List (SyntaxKind × List ℕ) };
+
+    ghost view = { λ t. tokens_under t.modes t.rest.now };
+
+    ghost invariant = { λ t. CountsFit (length t.rest.now) t.modes × IsAhead t.ahead t.rest.now };
+}
+
+impl<'a> Tokenizer<'a> {
+    pub fn new(alloc: Global, text: &'a str) -> Self
+        ensures { result ≡ tokens_of text.now }
+    {
+        let _len = text.len();
+        Tokenizer {
+            rest: text,
+            modes: Modes::new(alloc),
+            ahead: Ahead {
+                step: 0,
+                scheme: 0,
+                angle: 0,
+            },
+        }
+    }
+
+    /// The next token. After a refusal the same token comes next.
+    pub fn next_token(&mut self) -> Option<Result<Token<'a>, AllocError>>
+        ensures { GivesNext self.old result self.new }
+    {
+        let text = self.rest;
+        if text.is_empty() {
+            return None;
+        }
+        self.modes.leave_ended_paths(text);
+        let (cut, ahead) = cut_at(text, self.modes.top(), self.ahead);
+        if let Err(error) = self.modes.change(cut.change) {
+            return Some(Err(error));
+        }
+        let (token, rest) = text.split_at(cut.len);
+        self.rest = rest;
+        self.ahead = passed(ahead, cut.len, text);
+        Some(Ok((cut.kind, token)))
+    }
+}
+
+/// The text's tokens.
+pub fn tokenize(alloc: Global, text: &str) -> Tokenizer<'_>
+    ensures { result ≡ tokens_of text.now }
+{
+    Tokenizer::new(alloc, text)
+}
+
+/// The tokens of a text are the one list that the rules give.
+pub fn one_list(text: &str)
+    ensures are { AreTokens [] text.now (tokens_of text.now) }
+    ensures only { (tokens : List Lexeme) → AreTokens [] text.now tokens → tokens ≡ tokens_of text.now }
+    ensures whole { AreSound text.now (tokens_of text.now) }
+{
+    let _len = text.len();
+}
+
+/// The words on lengths mean what they are called.
+pub fn longest(text: &str, multiline: bool)
+    ensures run { (test : ℕ → Bool) → IsLongest (IsRun test text.now) (prefix_len test text.now) }
+    ensures content { content_len multiline text.now < length text.now → IsLongest (λ n. IsRow multiline n text.now) (content_len multiline text.now) }
+    ensures comment { IsFirstPair 42 47 text.now (before_pair 42 47 text.now) }
+{
+    let _len = text.len();
+}
+
+impl<'a> Iterator for Tokenizer<'a> {
+    type Item = Result<Token<'a>, AllocError>;
+
+    ghost next_gives = { GivesNext };
+
+    fn next(&mut self) -> Option<Result<Token<'a>, AllocError>> {
+        self.next_token()
+    }
+}

@@ -1,0 +1,73 @@
+//! The stack of modes.
+ghost use Rattle.std.specs.Prelude.{◌≡◌, ◌∷◌, [], List, drop, reverse, length, true, OnOk, OnErr};
+ghost use Rattle.rnix_kinds.specs.Lexical.Tokens.{top, without_ended_paths, changed, opens};
+ghost use Rattle.rnix_kinds.specs.declared.tokenizer.rule.Mode.{Mode};
+
+use super::path::path_goes_on;
+use super::rule::{Change, Mode};
+use std::alloc::{AllocError, Global};
+use std::marker::Model;
+
+/// The modes that are open; a clause sees the innermost one first.
+#[derive(Drop)]
+pub struct Modes {
+    items: Vec<Mode>,
+}
+
+impl Model for Modes {
+    ghost Value = { List Mode };
+
+    ghost view = { λ m. reverse m.items.items };
+}
+
+impl Modes {
+    pub fn new(alloc: Global) -> Self
+        ensures { result ≡ [] }
+    {
+        Modes {
+            items: Vec::new(alloc),
+        }
+    }
+
+    pub fn top(&self) -> Option<Mode>
+        ensures { result ≡ top self.now }
+    {
+        self.items.last().copied()
+    }
+
+    pub fn close(&mut self)
+        ensures { self.new ≡ drop 1 self.old }
+    {
+        self.items.pop();
+    }
+
+    /// Leaves a path that does not go on.
+    pub fn leave_ended_paths(&mut self, text: &str)
+        ensures { self.new ≡ without_ended_paths self.old text.now }
+    {
+        if !path_goes_on(text) {
+            while let Some(Mode::Path(_)) = self.top() {
+                self.close();
+            }
+        }
+    }
+
+    pub fn change(&mut self, change: Change) -> Result<(), AllocError>
+        ensures ok { OnOk result (self.new ≡ changed change self.old) }
+        ensures err { OnErr result (self.new ≡ self.old) }
+        ensures memory { OnErr result (opens change ≡ true) }
+    {
+        match change {
+            Change::Stay => {}
+            Change::Open(mode) => self.items.push(mode)?,
+            Change::Close => self.close(),
+            Change::Count(braces) => {
+                let n = self.items.len();
+                if n > 0 {
+                    self.items[n - 1] = Mode::Interpolation(braces);
+                }
+            }
+        }
+        Ok(())
+    }
+}
