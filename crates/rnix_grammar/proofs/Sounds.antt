@@ -1,0 +1,419 @@
+-- What is read stands as it may, its errors are those of its trees, and mended it is strict.
+use Rattle.std.proofs.Common.{◌≡◌, ◌⊎◌, inl, inr, ℕ, zero, suc, ◌+◌, ◌<◌, ◌≤◌, Bool, true, false, List, [], ◌∷◌, ◌++◌, length, Option, Some, None, refl, ap, sym, ◌∙◌, subst, append_assoc, append-nil, arith}
+use Rattle.std.specs.Prelude.{codes, if◌then◌else◌}
+use Rattle.rnix_kinds.specs.declared.kinds.SyntaxKind.{SyntaxKind}
+use Rattle.rnix_kinds.specs.declared.kinds.SyntaxKind.TheVariants.{TOKEN_ADD, TOKEN_MUL, TOKEN_L_PAREN, TOKEN_R_PAREN, TOKEN_INTEGER, TOKEN_IDENT, TOKEN_CUR_POS, NODE_ROOT, NODE_BIN_OP, NODE_APPLY, NODE_PAREN, NODE_LITERAL, NODE_IDENT, NODE_CUR_POS}
+use Rattle.rnix_tree.specs.Forest.{Forest, empty, leaf, node, join}
+use Rattle.rnix_tree.proofs.ForestLemmas.{join-empty}
+use Rattle.rnix_grammar.specs.declared.level.Level.{Level}
+use Rattle.rnix_grammar.specs.declared.level.Level.TheVariants.{Sum, Product, Application}
+use Rattle.rnix_grammar.specs.declared.begin.Begin.{Begin}
+use Rattle.rnix_grammar.specs.declared.begin.Begin.TheVariants as b
+use Rattle.rnix_grammar.specs.declared.until.Until.{Until}
+use Rattle.rnix_grammar.specs.declared.until.Until.TheVariants.{RParen, End}
+use Rattle.rnix_grammar.specs.Fault.{Fault, ended, ended_before, too_deep}
+use Rattle.rnix_grammar.specs.Tables.{begin_of, goes_on, stops, wanted_kinds, is_cur_pos, depth_limit}
+use Rattle.rnix_grammar.specs.Sketch.{Token, Note, Stray, Unwanted, Extra, TooDeep, Sketch, blank, token, branch, fault, ◌⊕◌, one_token, one_branch, one_fault, leaf_of, row_of, tokens_in, told, told_as, head_kind, lexeme_of}
+use Rattle.rnix_grammar.specs.Rows.{is_error, is_simple, is_operand, is_infix, is_l_paren, is_r_paren, is_integer, is_ident, is_cur_pos_token, Place, RootStart, RootEnd, LiteralStart, IdentStart, CurPosStart, BinStart, BinOperator, BinEnd, ApplyStart, ApplyEnd, ParenStart, ParenInside, ParenEnd, Past, to, go, start, live, missing, report, AreUnwanted, IsBeside, Stands, end, leaf, wrong, inner, continues}
+use Rattle.rnix_grammar.specs.Reads.{Part, Expression, Operands, More, Simple, Atom, Wanted, Closing, Behind, Whole, operand_of, has_operator, Reads, expression, too-deep, operands, stop, operator, argument, simple, nothing, literal, name, cur-pos, stray, paren, wanted-now, wanted-later, closed, ended-open, nothing-behind, something-behind, document}
+use Rattle.rnix_grammar.specs.Mended.{NoneEnded, mended, is_ended}
+use Rattle.rnix_grammar.specs.Strict.{tighter, IsStrict, tight, binary, applied, number, named, position, enclosed, IsExpression}
+use Rattle.rnix_grammar.proofs.SketchLemmas.{⊕-assoc, ⊕-blank, tokens_two, tokens_in-row_of, mended-⊕}
+use Rattle.rnix_grammar.proofs.RowLemmas.{Operand, missed, stood, Row, row_start, row_add, row_more, row_token, row_due, row_operand, row_node, Head, operand_tokens, operand_head, operand_strict, operand_as}
+use Rattle.rnix_grammar.proofs.Lossless.{lossless}
+use Rattle.rnix_grammar.proofs.StopsLemmas.{Stops, stops_expression, not_continuing}
+
+true_is_not_false : true ≡ false → ⊥
+true_is_not_false h = cc
+
+not_nil : {t : Token} {ts : List Token} → t ∷ ts ≡ [] → ⊥
+not_nil h = cc
+
+-- inside of at least so many nodes, and behind so many items: where a part of depth d stands, and where an expression inside d others does
+abbrev pub Deep : ℕ → ℕ → ℕ → Type 0
+Deep d a i = (d ≤ a) × (d ≤ suc i)
+
+abbrev pub DeepInside : ℕ → ℕ → ℕ → Type 0
+DeepInside d a i = (d < a) × (d ≤ i)
+
+-- inside a node that stands at such a place
+abbrev pub InParen : ℕ → ℕ → ℕ → Type 0
+InParen d a i = (d < a) × (d ≤ suc i)
+
+-- the root, before its first item
+abbrev pub AtRoot : ℕ → ℕ → Type 0
+AtRoot a i = (a ≡ 1) × (i ≡ 0)
+
+-- the kinds of a level's trees
+abbrev pub class_of : Level → SyntaxKind → Bool
+class_of Application = is_simple
+class_of l = is_operand
+
+-- an expression, or what stands for it where nothing is left of the text and the limit is met
+pub data Inner (d : ℕ) : List Token → Sketch → List Fault → List Token → Type 0 where
+  found_one : {f : Sketch} {es : List Fault} {ts us : List Token} → Operand (DeepInside d) is_operand (Some Sum) ts f es us → Inner d ts f es us
+  lost : depth_limit ≤ d → Inner d [] (one_fault TooDeep blank) (too_deep ∷ []) []
+
+-- a closing token
+abbrev pub IsClosed : Sketch → Type 0
+IsClosed g = (u : List ℕ) × (mended g ≡ leaf TOKEN_R_PAREN u empty)
+
+-- what is shown of each part
+abbrev pub Goal : ℕ → Part → Sketch → List Token → Sketch → List Fault → List Token → Type 0
+Goal d Expression f ts g es us = Inner d ts g es us
+Goal d (Operands l) f ts g es us = Operand (Deep d) (class_of l) (Some l) ts g es us
+Goal d (More l) f ts g es us =
+    (ts0 : List Token) (ds : List Fault) → Operand (Deep d) (class_of l) (Some l) ts0 f ds ts → Operand (Deep d) (class_of l) (Some l) ts0 g (ds ++ es) us
+Goal d Simple f ts g es us = Operand (Deep d) is_simple None ts g es us
+Goal d (Atom begin) f ts g es us = Operand (Deep d) is_simple None ts g es us
+Goal d (Wanted RParen) f ts g es us =
+    (h : Sketch) (ds : List Fault) → Row (InParen d) NODE_PAREN ParenEnd h ds ts → Stops Sum ts → Row (InParen d) NODE_PAREN Past (h ⊕ g) (ds ++ es) us × (NoneEnded es → IsClosed g)
+Goal d (Wanted End) f ts g es us = Unit {0}
+Goal d (Closing RParen) f ts g es us =
+    (h : Sketch) (ds : List Fault) → Row (InParen d) NODE_PAREN ParenEnd h ds ts → Row (InParen d) NODE_PAREN Past (h ⊕ g) (ds ++ es) us × (NoneEnded es → IsClosed g)
+Goal d (Closing End) f ts g es us = Unit {0}
+Goal d Behind f ts g es us =
+    (h : Sketch) (ds : List Fault) → Row AtRoot NODE_ROOT RootEnd h ds ts → Stops Sum ts → Row AtRoot NODE_ROOT RootEnd (h ⊕ g) (ds ++ es) us × (mended g ≡ empty)
+Goal d Whole f ts g es us = Row AtRoot NODE_ROOT RootEnd g es us × (NoneEnded es → IsExpression (mended g))
+
+-- kinds by the tables
+sum_infix : (k : SyntaxKind) → goes_on Sum (Some k) ≡ true → is_infix k ≡ true
+sum_infix TOKEN_ADD h = refl
+sum_infix _ h = absurd (true_is_not_false (sym h))
+
+product_infix : (k : SyntaxKind) → goes_on Product (Some k) ≡ true → is_infix k ≡ true
+product_infix TOKEN_MUL h = refl
+product_infix _ h = absurd (true_is_not_false (sym h))
+
+level_infix : (l : Level) (k : SyntaxKind) → has_operator l ≡ true → goes_on l (Some k) ≡ true → is_infix k ≡ true
+level_infix Sum k h o = sum_infix k o
+level_infix Product k h o = product_infix k o
+level_infix Application k h o = absurd (true_is_not_false (sym h))
+
+-- no operator is a name
+infix_not_ident : (k : SyntaxKind) (text : List ℕ) → is_infix k ≡ true → k ≡ told_as NODE_BIN_OP text k
+infix_not_ident TOKEN_IDENT s h = refl
+infix_not_ident _ s h = refl
+
+simple_operand : (k : SyntaxKind) → is_simple k ≡ true → is_operand k ≡ true
+simple_operand NODE_BIN_OP h = refl
+simple_operand _ h = h
+
+operand_class : (l : Level) (k : SyntaxKind) → has_operator l ≡ true → is_operand k ≡ true → class_of l k ≡ true
+operand_class Sum k h c = c
+operand_class Product k h c = c
+operand_class Application k h c = absurd (true_is_not_false (sym h))
+
+class_operand : (l : Level) (k : SyntaxKind) → class_of l k ≡ true → is_operand k ≡ true
+class_operand Sum k c = c
+class_operand Product k c = c
+class_operand Application k c = simple_operand k c
+
+-- the goal of a level's operands, in one form
+abbrev inner_class : Level → SyntaxKind → Bool
+inner_class Sum = is_operand
+inner_class Product = is_simple
+inner_class Application = is_simple
+
+inner_goal : (d : ℕ) (l : Level) {g : Sketch} {es : List Fault} {ts us : List Token} → Goal d (operand_of l) blank ts g es us → Operand (Deep d) (inner_class l) (tighter l) ts g es us
+inner_goal d Sum h = h
+inner_goal d Product h = h
+inner_goal d Application h = h
+
+inner_operand : (l : Level) (k : SyntaxKind) → inner_class l k ≡ true → is_operand k ≡ true
+inner_operand Sum k c = c
+inner_operand Product k c = simple_operand k c
+inner_operand Application k c = simple_operand k c
+
+inner_level : (l : Level) (k : SyntaxKind) → inner_class l k ≡ true → class_of l k ≡ true
+inner_level Sum k c = c
+inner_level Product k c = simple_operand k c
+inner_level Application k c = c
+
+noneended-left : (es fs : List Fault) → NoneEnded (es ++ fs) → NoneEnded es
+noneended-left [] fs h = tt
+noneended-left (e ∷ es) fs h = (h.0, noneended-left es fs h.1)
+
+noneended-right : (es fs : List Fault) → NoneEnded (es ++ fs) → NoneEnded fs
+noneended-right [] fs h = h
+noneended-right (e ∷ es) fs h = noneended-right es fs h.1
+
+-- the same part with its errors written another way
+same_errors : {D : ℕ → ℕ → Type 0} {c : SyntaxKind → Bool} {l : Option Level} {f : Sketch} {es fs : List Fault} {ts us : List Token} → es ≡ fs → Operand D c l ts f es us → Operand D c l ts f fs us
+same_errors {D = D} {c = c} {l = l} {f = f} {ts = ts} {us = us} e r = subst (λ (x : List Fault). Operand D c l ts f x us) e r
+
+same_row : {D : ℕ → ℕ → Type 0} {k : SyntaxKind} {q : Place} {f g : Sketch} {es fs : List Fault} {us : List Token} → f ≡ g → es ≡ fs → Row D k q f es us → Row D k q g fs us
+same_row {D = D} {k = k} {q = q} {g = g} {es = es} {us = us} e h r = subst (λ (x : List Fault). Row D k q g x us) h (subst (λ (x : Sketch). Row D k q x es us) e r)
+
+-- one more node around: the conditions that it takes
+deeper : (d a i : ℕ) → Deep d a i → Deep d (suc a) i
+deeper d a i h = (omega (arith, h.0), h.1)
+
+further : (d a i n : ℕ) → Deep d a i → Deep d a (i + n)
+further d a i n h = (h.0, omega (arith, h.1))
+
+-- a tree with an operator
+binary_case : {d : ℕ} (l : Level) {f g : Sketch} {ds es : List Fault} {t : Token} {ts0 us vs : List Token} → has_operator l ≡ true → goes_on l (Some t.kind) ≡ true
+    → Operand (Deep d) (class_of l) (Some l) ts0 f ds (t ∷ us) → Operand (Deep d) (inner_class l) (tighter l) us g es vs
+    → Operand (Deep d) (class_of l) (Some l) ts0 (one_branch NODE_BIN_OP (f ⊕ token t.kind t g)) (ds ++ es) vs
+binary_case {d = d} l {f = f} {g = g} {ds = ds} {es = es} {t = t} {ts0 = ts0} {us = us} {vs = vs} h o x y =
+    let infix_ : is_infix t.kind ≡ true = level_infix l t.kind h o in
+    let r1 : Row (Deep d) NODE_BIN_OP BinOperator (blank ⊕ f) ([] ++ ds) (t ∷ us) =
+    row_operand BinStart BinOperator (row_start NODE_BIN_OP ts0 refl) x (λ k c. ap (λ b. to b BinOperator) (class_operand l k c)) refl (λ z. absurd (not_nil z)) (λ a i n. further d a i 0 n) in
+    let r2 : Row (Deep d) NODE_BIN_OP BinEnd (f ⊕ leaf_of t) (ds ++ []) us =
+    row_token t.kind t r1 (infix_not_ident t.kind t.text infix_) (ap (λ b. to b BinEnd) infix_) refl in
+    let r3 : Row (Deep d) NODE_BIN_OP Past ((f ⊕ leaf_of t) ⊕ g) ((ds ++ []) ++ es) vs =
+    row_operand BinEnd Past r2 y (λ k c. ap (λ b. to b Past) (inner_operand l k c)) refl (λ z. refl) (λ a i n. further d a i (length (tokens_in (f ⊕ leaf_of t))) n) in
+    let r4 : Row (Deep d) NODE_BIN_OP Past (f ⊕ token t.kind t g) (ds ++ es) vs =
+    same_row (⊕-assoc f (leaf_of t) g) (ap (λ z. z ++ es) (append-nil ds)) r3 in
+    row_node (class_of l) (Some l) NODE_BIN_OP r4 refl (operand_class l NODE_BIN_OP h refl) (operand_head x)
+    (operand_tokens x ∙ ap (λ z. tokens_in f ++ (t ∷ z)) (operand_tokens y) ∙ sym (tokens_two f (token t.kind t g) vs))
+    (λ n. subst (λ (z : Forest). IsStrict (Some l) (node NODE_BIN_OP z empty)) (sym (mended-⊕ f (token t.kind t g)))
+        (binary t.kind t.text h o (operand_strict x (noneended-left ds es n)) (operand_strict y (noneended-right ds es n))))
+    (λ a i n. deeper d a i n)
+
+-- a function with an argument
+applied_case : {d : ℕ} {f g : Sketch} {ds es : List Fault} {ts0 us vs : List Token} → goes_on Application (head_kind us) ≡ true
+    → Operand (Deep d) is_simple (Some Application) ts0 f ds us → Operand (Deep d) is_simple None us g es vs
+    → Operand (Deep d) is_simple (Some Application) ts0 (one_branch NODE_APPLY (f ⊕ g)) (ds ++ es) vs
+applied_case {us = []} o x y = absurd (true_is_not_false (sym o))
+applied_case {d = d} {f = f} {g = g} {ds = ds} {es = es} {ts0 = ts0} {us = t ∷ us} {vs = vs} o x y =
+    let r1 : Row (Deep d) NODE_APPLY ApplyEnd (blank ⊕ f) ([] ++ ds) (t ∷ us) =
+    row_operand ApplyStart ApplyEnd (row_start NODE_APPLY ts0 refl) x (λ k c. ap (λ b. to b ApplyEnd) c) refl (λ z. absurd (not_nil z)) (λ a i n. further d a i 0 n) in
+    let r2 : Row (Deep d) NODE_APPLY Past (f ⊕ g) (ds ++ es) vs =
+    row_operand ApplyEnd Past r1 y (λ k c. ap (λ b. to b Past) c) refl (λ z. refl) (λ a i n. further d a i (length (tokens_in f)) n) in
+    row_node is_simple (Some Application) NODE_APPLY r2 refl refl (operand_head x)
+    (operand_tokens x ∙ ap (λ z. tokens_in f ++ z) (operand_tokens y) ∙ sym (tokens_two f g vs))
+    (λ n. subst (λ (z : Forest). IsStrict (Some Application) (node NODE_APPLY z empty)) (sym (mended-⊕ f g))
+        (applied (operand_strict x (noneended-left ds es n)) (operand_strict y (noneended-right ds es n))))
+    (λ a i n. deeper d a i n)
+
+-- a node over one token
+leaf_case : (d : ℕ) (k j : SyntaxKind) (t : Token) (ts : List Token) → j ≡ told k t → go (start k) j ≡ Past → is_error k ≡ false → is_simple k ≡ true → live (start k) ≡ true
+    → IsStrict None (node k (leaf j t.text empty) empty) → Operand (Deep d) is_simple None (t ∷ ts) (one_branch k (one_token j t)) [] ts
+leaf_case d k j t ts h g n c l z =
+    row_node {Deeper = Deep d} is_simple None k (row_token j t (row_start k (t ∷ ts) l) h g refl) n c (record { token = t; more = ts; is = refl }) refl (λ _. z) (λ a i x. deeper d a i x)
+
+-- a token that begins no operand
+stray_case : (d : ℕ) (t : Token) (ts : List Token) → goes_on Application (Some t.kind) ≡ false → Operand (Deep d) is_simple None (t ∷ ts) (one_fault Stray (leaf_of t)) (report Stray (t ∷ []) ∷ []) ts
+stray_case d t ts h =
+    stood NODE_LITERAL refl (λ p a i q b deep. wrong Stray (t ∷ []) refl refl (refl, h) refl refl end refl) refl (λ n. number (codes "0"))
+
+-- all that is left, where expressions are nested too deep
+deep_case : (d : ℕ) (ts : List Token) → depth_limit ≤ d → Inner d ts (one_fault TooDeep (row_of ts)) (report TooDeep ts ∷ []) []
+deep_case d [] h = lost h
+deep_case d (t ∷ ts) h =
+    found_one (stood NODE_LITERAL refl
+    (λ p a i q b deep. wrong TooDeep (t ∷ ts) refl refl (refl, (let x : d < a = deep.0 in omega arith), (let y : d ≤ i = deep.1 in omega arith)) refl refl end refl)
+    (sym (ap (λ x. x ++ []) (ap (λ x. t ∷ x) (append-nil (tokens_in (row_of ts)) ∙ tokens_in-row_of ts)) ∙ append-nil (t ∷ ts)))
+    (λ n. tight (tight (tight (number (codes "0"))))))
+
+inside_case : {d : ℕ} {f : Sketch} {es : List Fault} {ts us : List Token} → Operand (Deep (suc d)) is_operand (Some Sum) ts f es us → Inner d ts f es us
+inside_case {d = d} x = found_one (operand_as (λ k h. h) (λ g h. h) (λ a i h. (omega (arith, h.0), omega (arith, h.1))) x)
+
+-- an expression is appended to the row of its node
+row_inner : {C : ℕ → ℕ → Type 0} {d : ℕ} {k : SyntaxKind} (q q' : Place) {f g : Sketch} {es ds : List Fault} {ts us : List Token} (r : Row C k q f es ts)
+    → r.reached ≡ q → r.due ≡ [] → Inner d ts g ds us → ((j : SyntaxKind) → is_operand j ≡ true → go q j ≡ q') → live q' ≡ true
+    → missing q ≡ ended ∷ missing q' → ((a i : ℕ) → C a i → DeepInside d a (i + length (tokens_in f))) → Row C k q' (f ⊕ g) (es ++ ds) us
+row_inner q q' r p z (found_one x) h l m c = row_operand q q' r x h l (λ _. m) c
+row_inner {d = d} {k = k} q q' {f = f} r p z (lost limit) h l m c =
+    row_add r p z refl
+    (λ a i j b deep e.
+        let w = c a i deep in
+        wrong TooDeep [] refl refl (refl, (let x : d < a = w.0 in omega arith), (let y : d ≤ i + length (tokens_in f) = w.1 in omega arith)) (h NODE_LITERAL refl) refl end refl)
+    l
+
+inner_tokens : {d : ℕ} {f : Sketch} {es : List Fault} {ts us : List Token} → Inner d ts f es us → ts ≡ tokens_in f ++ us
+inner_tokens (found_one x) = operand_tokens x
+inner_tokens (lost h) = refl
+
+inner_strict : {d : ℕ} {f : Sketch} {es : List Fault} {ts us : List Token} → Inner d ts f es us → NoneEnded es → IsStrict (Some Sum) (mended f)
+inner_strict (found_one x) n = operand_strict x n
+inner_strict (lost h) n = tight (tight (tight (number (codes "0"))))
+
+-- what an operand begins with, by its first token
+paren_kind : (k : SyntaxKind) (s : List ℕ) → begin_of (Some (k, s)) ≡ b.Paren → k ≡ TOKEN_L_PAREN
+paren_kind TOKEN_L_PAREN s h = refl
+paren_kind TOKEN_IDENT s h = absurd (name_is_not (is_cur_pos s) h)
+  where
+    name_is_not : (x : Bool) → (if x then b.CurPos else b.Name) ≡ b.Paren → ⊥
+    name_is_not true e = cc
+    name_is_not false e = cc
+paren_kind TOKEN_INTEGER s h = absurd (cc)
+paren_kind _ s h = absurd (cc)
+
+literal_kind : (k : SyntaxKind) (s : List ℕ) → begin_of (Some (k, s)) ≡ b.Literal → k ≡ TOKEN_INTEGER
+literal_kind TOKEN_INTEGER s h = refl
+literal_kind TOKEN_IDENT s h = absurd (name_is_not (is_cur_pos s) h)
+  where
+    name_is_not : (x : Bool) → (if x then b.CurPos else b.Name) ≡ b.Literal → ⊥
+    name_is_not true e = cc
+    name_is_not false e = cc
+literal_kind TOKEN_L_PAREN s h = absurd (cc)
+literal_kind _ s h = absurd (cc)
+
+name_kind : (k : SyntaxKind) (s : List ℕ) → begin_of (Some (k, s)) ≡ b.Name → (k ≡ TOKEN_IDENT) × (is_cur_pos s ≡ false)
+name_kind TOKEN_IDENT s h = (refl, name_is (is_cur_pos s) h)
+  where
+    name_is : (x : Bool) → (if x then b.CurPos else b.Name) ≡ b.Name → x ≡ false
+    name_is true e = absurd (cc)
+    name_is false e = refl
+name_kind TOKEN_INTEGER s h = absurd (cc)
+name_kind TOKEN_L_PAREN s h = absurd (cc)
+name_kind _ s h = absurd (cc)
+
+cur_pos_kind : (k : SyntaxKind) (s : List ℕ) → begin_of (Some (k, s)) ≡ b.CurPos → (k ≡ TOKEN_IDENT) × (is_cur_pos s ≡ true)
+cur_pos_kind TOKEN_IDENT s h = (refl, name_is (is_cur_pos s) h)
+  where
+    name_is : (x : Bool) → (if x then b.CurPos else b.Name) ≡ b.CurPos → x ≡ true
+    name_is true e = refl
+    name_is false e = absurd (cc)
+cur_pos_kind TOKEN_INTEGER s h = absurd (cc)
+cur_pos_kind TOKEN_L_PAREN s h = absurd (cc)
+cur_pos_kind _ s h = absurd (cc)
+
+stray_kind : (k : SyntaxKind) (s : List ℕ) → begin_of (Some (k, s)) ≡ b.Stray → goes_on Application (Some k) ≡ false
+stray_kind TOKEN_IDENT s h = absurd (name_is_not (is_cur_pos s) h)
+  where
+    name_is_not : (x : Bool) → (if x then b.CurPos else b.Name) ≡ b.Stray → ⊥
+    name_is_not true e = cc
+    name_is_not false e = cc
+stray_kind TOKEN_INTEGER s h = absurd (cc)
+stray_kind TOKEN_L_PAREN s h = absurd (cc)
+stray_kind _ s h = refl
+
+closing_kind : (k : SyntaxKind) → stops RParen (Some k) ≡ true → k ≡ TOKEN_R_PAREN
+closing_kind TOKEN_R_PAREN h = refl
+closing_kind _ h = absurd (true_is_not_false (sym h))
+
+literal_case : (d : ℕ) (t : Token) (ts : List Token) → begin_of (Some (lexeme_of t)) ≡ b.Literal → Operand (Deep d) is_simple None (t ∷ ts) (one_branch NODE_LITERAL (leaf_of t)) [] ts
+literal_case d t ts h =
+    let k : t.kind ≡ TOKEN_INTEGER = literal_kind t.kind t.text h in
+    leaf_case d NODE_LITERAL t.kind t ts (ap (λ x. x) k ∙ sym (ap (λ x. told_as NODE_LITERAL t.text x) k)) (ap (λ x. to (is_integer x) Past) k) refl refl refl
+    (subst (λ (x : SyntaxKind). IsStrict None (node NODE_LITERAL (leaf x t.text empty) empty)) (sym k) (number t.text))
+
+name_case : (d : ℕ) (t : Token) (ts : List Token) → begin_of (Some (lexeme_of t)) ≡ b.Name → Operand (Deep d) is_simple None (t ∷ ts) (one_branch NODE_IDENT (leaf_of t)) [] ts
+name_case d t ts h =
+    let w = name_kind t.kind t.text h in
+    leaf_case d NODE_IDENT t.kind t ts (ap (λ x. x) w.0 ∙ sym (ap (λ x. told_as NODE_IDENT t.text x) w.0)) (ap (λ x. to (is_ident x) Past) w.0) refl refl refl
+    (subst (λ (x : SyntaxKind). IsStrict None (node NODE_IDENT (leaf x t.text empty) empty)) (sym w.0) (named t.text w.1))
+
+cur_pos_case : (d : ℕ) (t : Token) (ts : List Token) → begin_of (Some (lexeme_of t)) ≡ b.CurPos
+    → Operand (Deep d) is_simple None (t ∷ ts) (one_branch NODE_CUR_POS (one_token TOKEN_CUR_POS t)) [] ts
+cur_pos_case d t ts h =
+    let w = cur_pos_kind t.kind t.text h in
+    leaf_case d NODE_CUR_POS TOKEN_CUR_POS t ts
+    (sym (ap (λ x. told_as NODE_CUR_POS t.text x) w.0 ∙ ap (λ x. if x then TOKEN_CUR_POS else TOKEN_IDENT) w.1)) refl refl refl refl (position t.text w.1)
+
+-- a parenthesis
+paren_case : {d : ℕ} {f g : Sketch} {es fs : List Fault} {t : Token} {ts us vs : List Token} → begin_of (Some (lexeme_of t)) ≡ b.Paren → Inner d ts f es us → Stops Sum us
+    → us ≡ tokens_in g ++ vs → Goal d (Wanted RParen) blank us g fs vs
+    → Operand (Deep d) is_simple None (t ∷ ts) (one_branch NODE_PAREN (token t.kind t (f ⊕ g))) (es ++ fs) vs
+paren_case {d = d} {f = f} {g = g} {es = es} {fs = fs} {t = t} {ts = ts} {us = us} {vs = vs} o a s e close =
+    let k : t.kind ≡ TOKEN_L_PAREN = paren_kind t.kind t.text o in
+    let r1 : Row (InParen d) NODE_PAREN ParenInside (leaf_of t) [] ts = record {
+      reached = ParenInside;
+      inside = [];
+      due = [];
+      stands = λ n i deep. leaf (ap (λ x. x) k ∙ sym (ap (λ x. told_as NODE_PAREN t.text x) k)) (ap (λ x. to (is_l_paren x) ParenInside) k) refl end;
+      errors = refl;
+      owes = refl;
+      at = inl (refl, refl);
+      lives = refl;
+    } in
+    let r2 : Row (InParen d) NODE_PAREN ParenEnd (leaf_of t ⊕ f) es us =
+    row_inner ParenInside ParenEnd r1 refl refl a (λ j c. ap (λ x. to x ParenEnd) c) refl refl (λ n i deep. (deep.0, omega (arith, deep.1))) in
+    let r3 = close (leaf_of t ⊕ f) es r2 s in
+    row_node is_simple None NODE_PAREN r3.0 refl refl (record { token = t; more = ts; is = refl })
+    (ap (λ x. t ∷ x) (inner_tokens a ∙ ap (λ x. tokens_in f ++ x) e ∙ sym (tokens_two f g vs)))
+    (λ n.
+        let c : IsClosed g = r3.1 (noneended-right es fs n) in
+        let inside : mended (f ⊕ g) ≡ join (mended f) (leaf TOKEN_R_PAREN c.0 empty) = mended-⊕ f g ∙ ap (join (mended f)) c.1 in
+        subst (λ (x : Forest). IsStrict None (node NODE_PAREN (leaf t.kind t.text x) empty)) (sym inside)
+        (subst (λ (x : SyntaxKind). IsStrict None (node NODE_PAREN (leaf x t.text (join (mended f) (leaf TOKEN_R_PAREN c.0 empty))) empty)) (sym k)
+        (enclosed t.text c.0 (inner_strict a (noneended-left es fs n)))))
+    (λ n i deep. (omega (arith, deep.0), deep.1))
+
+-- tokens that are not wanted, before one that is
+unwanted_case : {d : ℕ} {g : Sketch} {fs : List Fault} {us vs : List Token} (t : Token) (ran : List Token) → AreUnwanted RParen (t ∷ ran) → stops RParen (head_kind us) ≡ true
+    → Goal d (Closing RParen) blank us g fs vs → Goal d (Wanted RParen) blank (t ∷ (ran ++ us)) (fault (Unwanted RParen) (row_of (t ∷ ran)) g) (report (Unwanted RParen) (t ∷ ran) ∷ fs) vs
+unwanted_case {d = d} {g = g} {fs = fs} {us = us} {vs = vs} t ran w o close h ds r s =
+    let e : Fault = report (Unwanted RParen) (t ∷ ran) in
+    let run_ : Sketch = one_fault (Unwanted RParen) (row_of (t ∷ ran)) in
+    let all : t ∷ (ran ++ us) ≡ tokens_in run_ ++ us =
+    sym (ap (λ x. x ++ us) (append-nil (t ∷ tokens_in (row_of ran)) ∙ ap (λ x. t ∷ x) (tokens_in-row_of ran))) in
+    let r1 : Row (InParen d) NODE_PAREN ParenEnd (h ⊕ run_) (ds ++ e ∷ []) us =
+    row_more r all (λ a i j b deep n. wrong (Unwanted RParen) (t ∷ ran) refl refl (w, o, refl, not_continuing t.kind b s.0 s.1 s.2) refl refl end refl) refl in
+    let r2 = close (h ⊕ run_) (ds ++ e ∷ []) r1 in
+    (same_row (⊕-assoc h run_ g) (append_assoc ds (e ∷ []) fs) r2.0, λ n. r2.1 n.1)
+
+closed_case : (d : ℕ) (t : Token) (ts : List Token) → stops RParen (Some t.kind) ≡ true → Goal d (Closing RParen) blank (t ∷ ts) (leaf_of t) [] ts
+closed_case d t ts o h ds r =
+    let k : t.kind ≡ TOKEN_R_PAREN = closing_kind t.kind o in
+    (row_token t.kind t r (ap (λ x. x) k ∙ sym (ap (λ x. told_as NODE_PAREN t.text x) k)) (ap (λ x. to (is_r_paren x) Past) k) refl,
+     λ n. (t.text, ap (λ x. leaf x t.text empty) k))
+
+-- tokens behind the root's expression
+behind_case : (t : Token) (ts : List Token) → Goal 0 Behind blank (t ∷ ts) (one_fault Extra (row_of (t ∷ ts))) (report Extra (t ∷ ts) ∷ []) []
+behind_case t ts h ds r s =
+    (row_more r (sym (append-nil _ ∙ append-nil (t ∷ tokens_in (row_of ts)) ∙ ap (λ x. t ∷ x) (tokens_in-row_of ts)))
+    (λ a i j b deep n. wrong Extra (t ∷ ts) refl refl (refl, refl, not_continuing t.kind b s.0 s.1 s.2) refl refl end refl) refl, refl)
+
+whole_case : {f g : Sketch} {es fs : List Fault} {ts us vs : List Token} → Inner 0 ts f es us → Stops Sum us → Goal 0 Behind blank us g fs vs → Goal 0 Whole blank ts (f ⊕ g) (es ++ fs) vs
+whole_case {f = f} {g = g} {es = es} {fs = fs} {ts = ts} {us = us} a s behind =
+    let start_ : Row AtRoot NODE_ROOT RootStart blank [] ts = record {
+      reached = RootStart; inside = []; due = []; stands = λ n i deep. end; errors = refl; owes = refl; at = inl (refl, refl); lives = refl;
+    } in
+    let r : Row AtRoot NODE_ROOT RootEnd (blank ⊕ f) ([] ++ es) us =
+    row_inner {C = AtRoot} RootStart RootEnd start_ refl refl a (λ j c. ap (λ x. to x RootEnd) c) refl refl (λ n i deep. (omega (arith, deep.0), omega arith)) in
+    let w = behind f es r s in
+    (w.0, λ n. subst IsExpression (sym (mended-⊕ f g ∙ ap (join (mended f)) w.1 ∙ join-empty (mended f))) (inner_strict a (noneended-left es fs n)))
+
+-- the first of two parts is read, and then the second
+operands_case : {d : ℕ} (l : Level) {f g : Sketch} {es fs : List Fault} {ts us vs : List Token} → Operand (Deep d) (inner_class l) (tighter l) ts f es us → Goal d (More l) f us g fs vs
+    → Operand (Deep d) (class_of l) (Some l) ts g (es ++ fs) vs
+operands_case l {es = es} {ts = ts} a more = more ts es (operand_as (λ k c. inner_level l k c) (λ x s. tight s) (λ a i h. h) a)
+
+wanted_later_case : (d : ℕ) (until : Until) (g : Sketch) (fs : List Fault) (ts us vs : List Token) (t : Token) (ran : List Token) → AreUnwanted until (t ∷ ran) → ts ≡ t ∷ (ran ++ us)
+    → stops until (head_kind us) ≡ true → Goal d (Closing until) blank us g fs vs
+    → Goal d (Wanted until) blank ts (fault (Unwanted until) (row_of (t ∷ ran)) g) (report (Unwanted until) (t ∷ ran) ∷ fs) vs
+wanted_later_case d RParen g fs ts us vs t ran w e o close =
+    subst (λ (x : List Token). Goal d (Wanted RParen) blank x (fault (Unwanted RParen) (row_of (t ∷ ran)) g) (report (Unwanted RParen) (t ∷ ran) ∷ fs) vs) (sym e) (unwanted_case t ran w o close)
+wanted_later_case d End g fs ts us vs t ran w e o close = tt
+
+wanted_now_case : (d : ℕ) (until : Until) (g : Sketch) (fs : List Fault) (ts us : List Token) → Goal d (Closing until) blank ts g fs us → Goal d (Wanted until) blank ts g fs us
+wanted_now_case d RParen g fs ts us close = λ h ds r s. close h ds r
+wanted_now_case d End g fs ts us close = tt
+
+closing_case : (d : ℕ) (until : Until) (t : Token) (ts : List Token) → stops until (Some t.kind) ≡ true → Goal d (Closing until) blank (t ∷ ts) (leaf_of t) [] ts
+closing_case d RParen t ts o = closed_case d t ts o
+closing_case d End t ts o = tt
+
+ended_case : (d : ℕ) (until : Until) → Goal d (Closing until) blank [] blank (ended_before (wanted_kinds until) ∷ []) []
+ended_case d RParen = λ h ds r. (row_due (ended_before (wanted_kinds RParen)) r refl, λ n. absurd (true_is_not_false n.0))
+ended_case d End = tt
+
+-- each part that is read
+pub sounds : (p : Part) {d : ℕ} {f g : Sketch} {es : List Fault} {ts us : List Token} → Reads d p f ts g es us → Goal d p f ts g es us
+sounds _ (expression h a) = inside_case (sounds (Operands Sum) a)
+sounds _ (too-deep {d = d} {ts = ts} h) = deep_case d ts h
+sounds _ (operands {d = d} {l = l} a b) = operands_case l (inner_goal d l (sounds (operand_of l) a)) (sounds (More l) b)
+sounds _ (stop h) = λ ts0 ds r. same_errors (sym (append-nil ds)) r
+sounds _ (operator {d = d} {l = l} {es = es} {fs = fs} {t = t} h o a b) = λ ts0 ds r.
+    same_errors (append_assoc ds es fs) (sounds (More l) b ts0 (ds ++ es) (binary_case l h o r (inner_goal d l (sounds (operand_of l) a))))
+sounds _ (argument {es = es} {fs = fs} o a b) = λ ts0 ds r.
+    same_errors (append_assoc ds es fs) (sounds (More Application) b ts0 (ds ++ es) (applied_case o r (sounds Simple a)))
+sounds _ (simple {begin = begin} h a) = sounds (Atom begin) a
+sounds _ nothing = missed
+sounds _ (literal {d = d} {t = t} {ts = ts} h) = literal_case d t ts h
+sounds _ (name {d = d} {t = t} {ts = ts} h) = name_case d t ts h
+sounds _ (cur-pos {d = d} {t = t} {ts = ts} h) = cur_pos_case d t ts h
+sounds _ (stray {d = d} {t = t} {ts = ts} h) = stray_case d t ts (stray_kind t.kind t.text h)
+sounds _ (paren h a b) = paren_case h (sounds Expression a) (stops_expression a) (lossless (Wanted RParen) b) (sounds (Wanted RParen) b)
+sounds _ (wanted-now {d = d} {until = until} {g = g} {fs = fs} {ts = ts} {us = us} h a) = wanted_now_case d until g fs ts us (sounds (Closing until) a)
+sounds _ (wanted-later {d = d} {until = until} {g = g} {fs = fs} {ts = ts} {us = us} {vs = vs} t ran w e o a) = wanted_later_case d until g fs ts us vs t ran w e o (sounds (Closing until) a)
+sounds _ (closed {d = d} {until = until} {t = t} {ts = ts} h) = closing_case d until t ts h
+sounds _ (ended-open {d = d} {until = until}) = ended_case d until
+sounds _ nothing-behind = λ h ds r s. (same_row (sym (⊕-blank h)) (sym (append-nil ds)) r, refl)
+sounds _ (something-behind {t = t} {ts = ts}) = behind_case t ts
+sounds _ (document a b) = whole_case (sounds Expression a) (stops_expression a) (sounds Behind b)

@@ -1,0 +1,64 @@
+-- The errors of a text as values, and how they are printed.
+use Rattle.std.specs.Prelude.{ℕ, List, [], ◌∷◌, ◌++◌, codes, string_bytes}
+use Rattle.std.specs.List.{flat_map}
+use Rattle.std.specs.Fmt.{decimal}
+use Rattle.rnix_kinds.specs.declared.kinds.SyntaxKind.{SyntaxKind}
+use Rattle.rnix_kinds.specs.SyntaxKind.{name_of}
+use Rattle.rnix_tree.specs.Range.{Extent}
+use Rattle.rnix_grammar.specs.declared.error.ParseError.{ParseError}
+use Rattle.rnix_grammar.specs.declared.error.ParseError.TheVariants.{Unexpected, UnexpectedExtra, UnexpectedWanted, UnexpectedDoubleBind, UnexpectedEOF, UnexpectedEOFWanted, DuplicatedArgs, RecursionLimitExceeded}
+
+-- an error without the memory that holds its lists and names
+pub data Fault : Type 0 where
+  untold : Extent → Fault
+  extra : Extent → Fault
+  unwanted : SyntaxKind → Extent → List SyntaxKind → Fault
+  bound_twice : Extent → Fault
+  ended : Fault
+  ended_before : List SyntaxKind → Fault
+  named_twice : Extent → List ℕ → Fault
+  too_deep : Fault
+
+abbrev pub fault_of : ParseError → Fault
+fault_of (Unexpected range) = untold range
+fault_of (UnexpectedExtra range) = extra range
+fault_of (UnexpectedWanted kind range wanted) = unwanted kind range wanted.items
+fault_of (UnexpectedDoubleBind range) = bound_twice range
+fault_of UnexpectedEOF = ended
+fault_of (UnexpectedEOFWanted wanted) = ended_before wanted.items
+fault_of (DuplicatedArgs range name) = named_twice range (string_bytes name)
+fault_of RecursionLimitExceeded = too_deep
+
+-- a range in decimal, and what is said of it
+abbrev pub place_text : Extent → List ℕ
+place_text range = decimal range.start ++ codes ".." ++ decimal range.end
+
+abbrev pub range_text : List ℕ → Extent → List ℕ
+range_text what range = what ++ codes " at " ++ place_text range
+
+-- kinds in brackets, with commas
+abbrev pub more_kinds_text : List SyntaxKind → List ℕ
+more_kinds_text kinds = flat_map (λ kind. codes ", " ++ name_of kind) kinds
+
+abbrev pub kinds_text : List SyntaxKind → List ℕ
+kinds_text [] = codes "[]"
+kinds_text (kind ∷ kinds) = codes "[" ++ name_of kind ++ more_kinds_text kinds ++ codes "]"
+
+-- what was wanted
+abbrev pub wanted_text : List SyntaxKind → List ℕ
+wanted_text kinds = codes ", wanted any of " ++ kinds_text kinds
+
+-- where a name stands again
+abbrev pub again_text : Extent → List ℕ
+again_text range = codes "` is duplicated in " ++ place_text range
+
+-- how an error is printed
+abbrev pub fault_text : Fault → List ℕ
+fault_text (untold range) = range_text (codes "error node") range
+fault_text (extra range) = range_text (codes "unexpected token") range
+fault_text (unwanted kind range wanted) = codes "unexpected " ++ range_text (name_of kind) range ++ wanted_text wanted
+fault_text (bound_twice range) = range_text (codes "unexpected double bind") range
+fault_text ended = codes "unexpected end of file"
+fault_text (ended_before wanted) = codes "unexpected end of file" ++ wanted_text wanted
+fault_text (named_twice range name) = codes "argument `" ++ name ++ again_text range
+fault_text too_deep = codes "recursion limit exceeded"

@@ -1,0 +1,69 @@
+-- Where trivia stand: before a node's first item they stand before the node.
+use Rattle.std.specs.Prelude.{ℕ, Bool, true, false, List, [], ◌∷◌, Option, Some, None}
+use Rattle.rnix_kinds.specs.SyntaxKind.{is_trivia}
+use Rattle.rnix_grammar.specs.Sketch.{Token, Note, Stray, Unwanted, Extra, TooDeep, Sketch, blank, token, branch, fault, ◌⊕◌, one_token, one_branch, one_fault}
+
+-- the tokens from the first item on
+abbrev pub from_item_if : Bool → Token → List Token → List Token → List Token
+from_item_if true t ts later = later
+from_item_if false t ts later = t ∷ ts
+
+abbrev pub from_item : List Token → List Token
+from_item [] = []
+from_item (t ∷ ts) = from_item_if (is_trivia t.kind) t ts (from_item ts)
+
+-- the trivia before the first item, as leaves
+abbrev pub trivia_if : Bool → Token → Sketch → Sketch
+trivia_if true t more = token t.kind t more
+trivia_if false t more = blank
+
+abbrev pub trivia_before : List Token → Sketch
+trivia_before [] = blank
+trivia_before (t ∷ ts) = trivia_if (is_trivia t.kind) t (trivia_before ts)
+
+-- the tokens that are no trivia
+abbrev pub item_if : Bool → Token → List Token → List Token
+item_if true t more = more
+item_if false t more = t ∷ more
+
+abbrev pub items : List Token → List Token
+items [] = []
+items (t ∷ ts) = item_if (is_trivia t.kind) t (items ts)
+
+abbrev pub tail_of : List Token → List Token
+tail_of [] = []
+tail_of (t ∷ ts) = ts
+
+-- behind the node of what is nested too deep stand the trivia that are left
+abbrev pub is_last : Note → Bool
+is_last TooDeep = true
+is_last n = false
+
+abbrev pub trivia_after : Bool → List Token → Sketch
+trivia_after true ts = trivia_before ts
+trivia_after false ts = blank
+
+abbrev pub rest_after : Bool → List Token → List Token
+rest_after true ts = from_item ts
+rest_after false ts = ts
+
+-- the tokens that are left after a sketch of items
+abbrev pub left_after : Sketch → List Token → List Token
+left_after blank ts = ts
+left_after (token k t f) ts = left_after f (tail_of (from_item ts))
+left_after (branch k c f) ts = left_after f (left_after c (from_item ts))
+left_after (fault n c f) ts = left_after f (rest_after (is_last n) (left_after c (from_item ts)))
+
+-- a sketch of items with the trivia of the tokens that it is read from
+abbrev pub dressed : Sketch → List Token → Sketch
+dressed blank ts = blank
+dressed (token k t f) ts = trivia_before ts ⊕ token k t (dressed f (tail_of (from_item ts)))
+dressed (branch k c f) ts = trivia_before ts ⊕ branch k (dressed c (from_item ts)) (dressed f (left_after c (from_item ts)))
+dressed (fault n c f) ts =
+    trivia_before ts
+    ⊕ fault n (dressed c (from_item ts))
+      (trivia_after (is_last n) (left_after c (from_item ts)) ⊕ dressed f (rest_after (is_last n) (left_after c (from_item ts))))
+
+-- a whole text: the trivia behind the last item stand in the root
+abbrev pub dressed_whole : Sketch → List Token → Sketch
+dressed_whole f ts = dressed f ts ⊕ trivia_before (left_after f ts)

@@ -1,0 +1,10 @@
+pub mod Fault
+pub mod Tables
+pub mod Sketch
+pub mod Rows
+pub mod Layout
+pub mod Reads
+pub mod Strict
+pub mod Mended
+pub mod Shape
+pub mod Parsed

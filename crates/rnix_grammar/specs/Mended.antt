@@ -1,0 +1,67 @@
+-- The tree with its faults mended, and which of its nodes are whole.
+use Rattle.std.specs.Prelude.{◌≡◌, ℕ, ◌+◌, Bool, true, false, not, List, [], ◌∷◌, ◌++◌, codes, filter, if◌then◌else◌}
+use Rattle.rnix_kinds.specs.declared.kinds.SyntaxKind.{SyntaxKind}
+use Rattle.rnix_kinds.specs.declared.kinds.SyntaxKind.TheVariants.{TOKEN_INTEGER, NODE_LITERAL}
+use Rattle.rnix_tree.specs.Forest.{Forest, empty, leaf, node}
+use Rattle.rnix_grammar.specs.Fault.{Fault, ended, ended_before}
+use Rattle.rnix_grammar.specs.Sketch.{Note, Stray, Unwanted, Extra, TooDeep, Sketch, blank, token, branch, fault}
+use Rattle.rnix_grammar.specs.Rows.{is_row, IsBeginning}
+
+-- an error node in an operand's place becomes a number, others go
+abbrev pub patch : Note → Forest → Forest
+patch Stray f = node NODE_LITERAL (leaf TOKEN_INTEGER (codes "0") empty) f
+patch TooDeep f = node NODE_LITERAL (leaf TOKEN_INTEGER (codes "0") empty) f
+patch n f = f
+
+abbrev pub mended : Sketch → Forest
+mended blank = empty
+mended (token k t f) = leaf k t.text (mended f)
+mended (branch k c f) = node k (mended c) (mended f)
+mended (fault n c f) = patch n (mended f)
+
+-- the kinds of a row's trees
+abbrev pub kinds_of : Forest → List SyntaxKind
+kinds_of empty = []
+kinds_of (leaf k t f) = k ∷ kinds_of f
+kinds_of (node k c f) = k ∷ kinds_of f
+
+-- how many nodes are not whole
+abbrev pub halves : Forest → ℕ
+halves empty = 0
+halves (leaf k t f) = halves f
+halves (node k c f) = (if is_row k (kinds_of c) then 0 else 1) + halves c + halves f
+
+-- each node's children begin a row of its kind
+abbrev pub AreBegun : Forest → Type 0
+AreBegun empty = Unit {0}
+AreBegun (leaf k t f) = AreBegun f
+AreBegun (node k c f) = IsBeginning k (kinds_of c) × AreBegun c × AreBegun f
+
+-- the text ended too early
+abbrev pub is_ended : Fault → Bool
+is_ended ended = true
+is_ended (ended_before kinds) = true
+is_ended e = false
+
+-- how many errors are of the end of the text, and the others
+abbrev pub ended_count : List Fault → ℕ
+ended_count [] = 0
+ended_count (e ∷ es) = (if is_ended e then 1 else 0) + ended_count es
+
+abbrev pub others : List Fault → List Fault
+others [] = []
+others (e ∷ es) = if is_ended e then others es else e ∷ others es
+
+abbrev pub AllEnded : List Fault → Type 0
+AllEnded [] = Unit {0}
+AllEnded (e ∷ es) = (is_ended e ≡ true) × AllEnded es
+
+-- behind an error of the end of the text come such errors alone
+abbrev pub AreSettled : List Fault → Type 0
+AreSettled [] = Unit {0}
+AreSettled (e ∷ es) = AreSettled es × ((is_ended e ≡ true) → AllEnded es)
+
+-- no error is of the end of the text
+abbrev pub NoneEnded : List Fault → Type 0
+NoneEnded [] = Unit {0}
+NoneEnded (e ∷ es) = (is_ended e ≡ false) × NoneEnded es

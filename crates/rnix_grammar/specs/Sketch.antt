@@ -1,0 +1,140 @@
+-- Trees as they are read: each leaf keeps the token that it stands for, and each error node says what it is.
+use Rattle.std.specs.Prelude.{◌≡◌, ℕ, ◌+◌, Bool, true, false, List, [], ◌∷◌, ◌++◌, Option, Some, None, length, if◌then◌else◌}
+use Rattle.rnix_kinds.specs.declared.kinds.SyntaxKind.{SyntaxKind}
+use Rattle.rnix_kinds.specs.declared.kinds.SyntaxKind.TheVariants.{TOKEN_IDENT, TOKEN_CUR_POS, NODE_CUR_POS, NODE_ERROR}
+use Rattle.rnix_kinds.specs.SyntaxKind.{is_trivia}
+use Rattle.rnix_kinds.specs.Lexical.Tokens.{Lexeme}
+use Rattle.rnix_tree.specs.Forest.{Forest, empty, leaf, node}
+use Rattle.rnix_tree.specs.Range.{Extent}
+use Rattle.rnix_grammar.specs.declared.until.Until.{Until}
+use Rattle.rnix_grammar.specs.Tables.{is_cur_pos}
+
+-- a token of a text, with the place where it begins
+pub record Token : Type 0 where
+  pub kind : SyntaxKind
+  pub text : List ℕ
+  pub start : ℕ
+
+abbrev pub lexeme_of : Token → Lexeme
+lexeme_of t = (t.kind, t.text)
+
+abbrev pub end_of : Token → ℕ
+end_of t = t.start + length t.text
+
+-- tokens one after another, the first at the given place
+abbrev pub placed_from : ℕ → List Lexeme → List Token
+placed_from n [] = []
+placed_from n (l ∷ ls) = record { kind = l.0; text = l.1; start = n } ∷ placed_from (n + length l.1) ls
+
+-- what an error node is: a token that begins no operand, a run of tokens where others are wanted,
+-- the tokens behind the root's expression, the tokens that are nested too deep
+pub data Note : Type 0 where
+  Stray : Note
+  Unwanted : Until → Note
+  Extra : Note
+  TooDeep : Note
+
+-- a row of trees: a leaf has its kind and its token, an error node has its note
+pub data Sketch : Type 0 where
+  blank : Sketch
+  token : SyntaxKind → Token → Sketch → Sketch
+  branch : SyntaxKind → Sketch → Sketch → Sketch
+  fault : Note → Sketch → Sketch → Sketch
+
+infixl 20 ◌⊕◌
+abbrev pub ◌⊕◌ : Sketch → Sketch → Sketch
+blank ⊕ g = g
+(token k t f) ⊕ g = token k t (f ⊕ g)
+(branch k c f) ⊕ g = branch k c (f ⊕ g)
+(fault n c f) ⊕ g = fault n c (f ⊕ g)
+
+-- a row of one tree
+abbrev pub one_token : SyntaxKind → Token → Sketch
+one_token k t = token k t blank
+
+abbrev pub one_branch : SyntaxKind → Sketch → Sketch
+one_branch k c = branch k c blank
+
+abbrev pub one_fault : Note → Sketch → Sketch
+one_fault n c = fault n c blank
+
+-- tokens as leaves of their own kinds
+abbrev pub leaf_of : Token → Sketch
+leaf_of t = one_token t.kind t
+
+abbrev pub row_of : List Token → Sketch
+row_of [] = blank
+row_of (t ∷ ts) = token t.kind t (row_of ts)
+
+-- the tokens, from left to right
+abbrev pub tokens_in : Sketch → List Token
+tokens_in blank = []
+tokens_in (token k t f) = t ∷ tokens_in f
+tokens_in (branch k c f) = tokens_in c ++ tokens_in f
+tokens_in (fault n c f) = tokens_in c ++ tokens_in f
+
+-- the trees alone
+abbrev pub forget : Sketch → Forest
+forget blank = empty
+forget (token k t f) = leaf k t.text (forget f)
+forget (branch k c f) = node k (forget c) (forget f)
+forget (fault n c f) = node NODE_ERROR (forget c) (forget f)
+
+-- the kind of a token's leaf below a node: `__curPos` has a kind of its own where it is the current position
+abbrev pub told_name : SyntaxKind → List ℕ → SyntaxKind
+told_name NODE_CUR_POS name = if is_cur_pos name then TOKEN_CUR_POS else TOKEN_IDENT
+told_name parent name = TOKEN_IDENT
+
+abbrev pub told_as : SyntaxKind → List ℕ → SyntaxKind → SyntaxKind
+told_as parent text TOKEN_IDENT = told_name parent text
+told_as parent text kind = kind
+
+abbrev pub told : SyntaxKind → Token → SyntaxKind
+told parent t = told_as parent t.text t.kind
+
+-- each leaf has the kind that its token has below its parent
+abbrev pub AreTold : SyntaxKind → Sketch → Type 0
+AreTold parent blank = Unit {0}
+AreTold parent (token k t f) = (k ≡ told parent t) × AreTold parent f
+AreTold parent (branch k c f) = AreTold k c × AreTold parent f
+AreTold parent (fault n c f) = AreTold NODE_ERROR c × AreTold parent f
+
+-- the trees without trivia
+abbrev pub token_if : Bool → SyntaxKind → Token → Sketch → Sketch
+token_if true k t f = f
+token_if false k t f = token k t f
+
+abbrev pub clean : Sketch → Sketch
+clean blank = blank
+clean (token k t f) = token_if (is_trivia t.kind) k t (clean f)
+clean (branch k c f) = branch k (clean c) (clean f)
+clean (fault n c f) = fault n (clean c) (clean f)
+
+-- where the last of some tokens ends
+abbrev pub end_from : ℕ → List Token → ℕ
+end_from n [] = n
+end_from n (t ∷ ts) = end_from (end_of t) ts
+
+-- the place that tokens take, from the first to the last
+abbrev pub extent_of : List Token → Extent
+extent_of [] = record { start = 0; end = 0 }
+extent_of (t ∷ ts) = record { start = t.start; end = end_from (end_of t) ts }
+
+-- the kind of the next token
+abbrev pub head_of : List Token → Option Token
+head_of [] = None
+head_of (t ∷ ts) = Some t
+
+abbrev pub kind_in : Option Token → Option SyntaxKind
+kind_in None = None
+kind_in (Some t) = Some t.kind
+
+abbrev pub lexeme_in : Option Token → Option Lexeme
+lexeme_in None = None
+lexeme_in (Some t) = Some (lexeme_of t)
+
+abbrev pub head_kind : List Token → Option SyntaxKind
+head_kind ts = kind_in (head_of ts)
+
+abbrev pub head_lexeme : List Token → Option Lexeme
+head_lexeme ts = lexeme_in (head_of ts)

@@ -1,0 +1,178 @@
+//! The errors of a text.
+
+ghost use Rattle.std.specs.Prelude.{◌≡◌, IfOk, Some};
+ghost use Rattle.std.specs.Fmt.{DisplaysOnOk};
+ghost use Rattle.rnix_grammar.specs.Fault.{more_kinds_text, kinds_text, wanted_text, place_text, again_text, range_text, fault_text, unwanted, named_twice};
+
+use rnix_kinds::SyntaxKind;
+use rnix_tree::TextRange;
+use std::alloc::AllocError;
+use std::error::Error;
+use std::fmt;
+
+/// An error of a text. Its range is that of its node in the tree, in bytes.
+#[derive(Debug, PartialEq, Drop)]
+pub enum ParseError {
+    /// No cause is told. The reader never makes it.
+    Unexpected(TextRange),
+    /// Tokens stand behind the expression.
+    UnexpectedExtra(TextRange),
+    /// A token of the first kind stands where one of the listed kinds is wanted.
+    UnexpectedWanted(SyntaxKind, TextRange, Vec<SyntaxKind>),
+    /// A pattern is bound to two names.
+    UnexpectedDoubleBind(TextRange),
+    /// The text ends where more is wanted.
+    UnexpectedEOF,
+    /// The text ends where one of the listed kinds is wanted.
+    UnexpectedEOFWanted(Vec<SyntaxKind>),
+    /// A pattern names an argument twice.
+    DuplicatedArgs(TextRange, String),
+    /// Expressions are nested too deep.
+    RecursionLimitExceeded,
+}
+
+impl ParseError {
+    ghost use Rattle.rnix_grammar.specs.Fault.{fault_of};
+
+    /// A copy of the error.
+    pub fn try_clone(&self) -> Result<ParseError, AllocError>
+        ensures { IfOk result (λ error. fault_of error ≡ fault_of self.now) }
+    {
+        let error = match self {
+            ParseError::Unexpected(range) => ParseError::Unexpected(*range),
+            ParseError::UnexpectedExtra(range) => ParseError::UnexpectedExtra(*range),
+            ParseError::UnexpectedWanted(kind, range, wanted) => {
+                ParseError::UnexpectedWanted(*kind, *range, wanted.clone()?)
+            }
+            ParseError::UnexpectedDoubleBind(range) => ParseError::UnexpectedDoubleBind(*range),
+            ParseError::UnexpectedEOF => ParseError::UnexpectedEOF,
+            ParseError::UnexpectedEOFWanted(wanted) => {
+                ParseError::UnexpectedEOFWanted(wanted.clone()?)
+            }
+            ParseError::DuplicatedArgs(range, name) => {
+                ParseError::DuplicatedArgs(*range, name.clone()?)
+            }
+            ParseError::RecursionLimitExceeded => ParseError::RecursionLimitExceeded,
+        };
+        Ok(error)
+    }
+}
+
+// Each further kind of a list, behind a comma.
+fn write_more_kinds<W: fmt::Write>(
+    kinds: &[SyntaxKind],
+    f: &mut fmt::Formatter<W>,
+) -> fmt::Result
+    ensures { DisplaysOnOk W.write_str_gives f.old result (Some (more_kinds_text kinds.now)) f.new }
+{
+    for kind in kinds {
+        write!(f, ", ")?;
+        f.write_str(kind.name())?;
+    }
+    Ok(())
+}
+
+// A list of kinds in brackets.
+fn write_kinds<W: fmt::Write>(kinds: &[SyntaxKind], f: &mut fmt::Formatter<W>) -> fmt::Result
+    ensures { DisplaysOnOk W.write_str_gives f.old result (Some (kinds_text kinds.now)) f.new }
+{
+    f.write_str("[")?;
+    if let Some((first, more)) = kinds.split_first() {
+        f.write_str(first.name())?;
+        write_more_kinds(more, f)?;
+    }
+    f.write_str("]")
+}
+
+// What was wanted in place of what stands there.
+fn write_wanted<W: fmt::Write>(kinds: &[SyntaxKind], f: &mut fmt::Formatter<W>) -> fmt::Result
+    ensures { DisplaysOnOk W.write_str_gives f.old result (Some (wanted_text kinds.now)) f.new }
+{
+    f.write_str(", wanted any of ")?;
+    write_kinds(kinds, f)
+}
+
+// A range in decimal.
+fn write_place<W: fmt::Write>(range: TextRange, f: &mut fmt::Formatter<W>) -> fmt::Result
+    ensures { DisplaysOnOk W.write_str_gives f.old result (Some (place_text range)) f.new }
+{
+    let (start, end) = (range.start(), range.end());
+    write!(f, "{start}..{end}")
+}
+
+// What is said of a range.
+fn write_range<W: fmt::Write>(
+    what: &str,
+    range: TextRange,
+    f: &mut fmt::Formatter<W>,
+) -> fmt::Result
+    ensures { DisplaysOnOk W.write_str_gives f.old result (Some (range_text what.now range)) f.new }
+{
+    f.write_str(what)?;
+    f.write_str(" at ")?;
+    write_place(range, f)
+}
+
+// A token that is not wanted.
+fn write_unwanted<W: fmt::Write>(
+    kind: SyntaxKind,
+    range: TextRange,
+    wanted: &[SyntaxKind],
+    f: &mut fmt::Formatter<W>,
+) -> fmt::Result
+    ensures { DisplaysOnOk W.write_str_gives f.old result (Some (fault_text (unwanted kind range wanted.now))) f.new }
+{
+    f.write_str("unexpected ")?;
+    write_range(kind.name(), range, f)?;
+    write_wanted(wanted, f)
+}
+
+// Where a name stands again.
+fn write_again<W: fmt::Write>(range: TextRange, f: &mut fmt::Formatter<W>) -> fmt::Result
+    ensures { DisplaysOnOk W.write_str_gives f.old result (Some (again_text range)) f.new }
+{
+    f.write_str("` is duplicated in ")?;
+    write_place(range, f)
+}
+
+// An argument that is named twice.
+fn write_named_twice<W: fmt::Write>(
+    range: TextRange,
+    name: &str,
+    f: &mut fmt::Formatter<W>,
+) -> fmt::Result
+    ensures { DisplaysOnOk W.write_str_gives f.old result (Some (fault_text (named_twice range name.now))) f.new }
+{
+    f.write_str("argument `")?;
+    f.write_str(name)?;
+    write_again(range, f)
+}
+
+impl fmt::Display for ParseError {
+    ghost use Rattle.std.specs.Prelude.{Some};
+    ghost use Rattle.rnix_grammar.specs.Fault.{fault_of, fault_text};
+
+    ghost output = { λ error. Some (fault_text (fault_of error)) };
+
+    fn fmt<W: fmt::Write>(&self, f: &mut fmt::Formatter<W>) -> fmt::Result {
+        match self {
+            ParseError::Unexpected(range) => write_range("error node", *range, f),
+            ParseError::UnexpectedExtra(range) => write_range("unexpected token", *range, f),
+            ParseError::UnexpectedWanted(kind, range, wanted) => {
+                write_unwanted(*kind, *range, wanted, f)
+            }
+            ParseError::UnexpectedDoubleBind(range) => {
+                write_range("unexpected double bind", *range, f)
+            }
+            ParseError::UnexpectedEOF => f.write_str("unexpected end of file"),
+            ParseError::UnexpectedEOFWanted(wanted) => {
+                f.write_str("unexpected end of file")?;
+                write_wanted(wanted, f)
+            }
+            ParseError::DuplicatedArgs(range, name) => write_named_twice(*range, name.as_str(), f),
+            ParseError::RecursionLimitExceeded => f.write_str("recursion limit exceeded"),
+        }
+    }
+}
+
+impl Error for ParseError {}
