@@ -3,7 +3,7 @@ use Rattle.std.specs.Prelude.{◌≡◌, ℕ, ◌+◌, Bool, true, false, not, L
 use Rattle.rnix_kinds.specs.declared.kinds.SyntaxKind.{SyntaxKind}
 use Rattle.rnix_kinds.specs.declared.kinds.SyntaxKind.TheVariants.{TOKEN_INTEGER, NODE_LITERAL}
 use Rattle.rnix_tree.specs.Forest.{Forest, empty, leaf, node}
-use Rattle.rnix_grammar.specs.Fault.{Fault, ended, ended_before}
+use Rattle.rnix_grammar.specs.Fault.{Fault, extra, unwanted, ended, ended_before}
 use Rattle.rnix_grammar.specs.Sketch.{Note, Stray, Unwanted, Extra, TooDeep, Sketch, blank, token, branch, fault}
 use Rattle.rnix_grammar.specs.Rows.{is_row, IsBeginning}
 
@@ -52,14 +52,20 @@ abbrev pub others : List Fault → List Fault
 others [] = []
 others (e ∷ es) = if is_ended e then others es else e ∷ others es
 
-abbrev pub AllEnded : List Fault → Type 0
-AllEnded [] = Unit {0}
-AllEnded (e ∷ es) = (is_ended e ≡ true) × AllEnded es
+-- tokens are wrong where they stand
+abbrev pub is_misplaced : Fault → Bool
+is_misplaced (unwanted kind range kinds) = true
+is_misplaced (extra range) = true
+is_misplaced e = false
 
--- behind an error of the end of the text come such errors alone
+abbrev pub NoneMisplaced : List Fault → Type 0
+NoneMisplaced [] = Unit {0}
+NoneMisplaced (e ∷ es) = (is_misplaced e ≡ false) × NoneMisplaced es
+
+-- behind an error of the end of the text no token is wrong
 abbrev pub AreSettled : List Fault → Type 0
 AreSettled [] = Unit {0}
-AreSettled (e ∷ es) = AreSettled es × ((is_ended e ≡ true) → AllEnded es)
+AreSettled (e ∷ es) = AreSettled es × ((is_ended e ≡ true) → NoneMisplaced es)
 
 -- no error is of the end of the text
 abbrev pub NoneEnded : List Fault → Type 0

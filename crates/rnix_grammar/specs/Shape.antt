@@ -6,6 +6,7 @@ use Rattle.rnix_tree.specs.Forest.{Forest, empty, leaf, node, leaves_of}
 use Rattle.rnix_tree.specs.Tree.{Tree}
 use Rattle.rnix_grammar.specs.Fault.{Fault}
 use Rattle.rnix_grammar.specs.Sketch.{Token, Note, Sketch, blank, token, branch, fault, tokens_in}
+use Rattle.rnix_grammar.specs.Layout.{is_last}
 use Rattle.rnix_grammar.specs.Rows.{is_row, report}
 
 -- the kinds of a row's trees, without trivia
@@ -45,6 +46,25 @@ AreShaped (node k c f) = (is_row k (item_kinds c) ≡ true) × BeginsWithItem (l
 -- the root may begin and end with trivia
 abbrev pub IsShaped : Tree → Type 0
 IsShaped tree = (is_row tree.kind (item_kinds tree.children) ≡ true) × AreShaped tree.children
+
+-- the kinds of some tokens
+abbrev pub token_kinds : List Token → List SyntaxKind
+token_kinds [] = []
+token_kinds (t ∷ ts) = t.kind ∷ token_kinds ts
+
+-- no error node of a row begins or ends with trivia
+abbrev pub AreFaultsTrimmed : Sketch → Type 0
+AreFaultsTrimmed blank = Unit {0}
+AreFaultsTrimmed (token k t f) = AreFaultsTrimmed f
+AreFaultsTrimmed (branch k c f) = AreFaultsTrimmed c × AreFaultsTrimmed f
+AreFaultsTrimmed (fault n c f) = BeginsWithItem (token_kinds (tokens_in c)) × EndsWithItem (token_kinds (tokens_in c)) × AreFaultsTrimmed c × AreFaultsTrimmed f
+
+-- nothing is nested too deep
+abbrev pub NoneTooDeep : Sketch → Type 0
+NoneTooDeep blank = Unit {0}
+NoneTooDeep (token k t f) = NoneTooDeep f
+NoneTooDeep (branch k c f) = NoneTooDeep c × NoneTooDeep f
+NoneTooDeep (fault n c f) = (is_last n ≡ false) × NoneTooDeep c × NoneTooDeep f
 
 -- the errors of a row's error nodes, in the order in which the nodes close
 abbrev pub reports : Sketch → List Fault
