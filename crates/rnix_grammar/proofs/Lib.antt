@@ -3,5 +3,8 @@ pub mod RowLemmas
 pub mod StopsLemmas
 pub mod Lossless
 pub mod Sounds
+pub mod LayoutLemmas
 pub mod StandsFaults
 pub mod StandsShapes
+pub mod EdgeLemmas
+pub mod TreeShapes

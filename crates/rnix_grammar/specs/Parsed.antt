@@ -10,7 +10,7 @@ use Rattle.rnix_grammar.specs.Sketch.{Token, Sketch, forget, tokens_in, clean, p
 use Rattle.rnix_grammar.specs.Layout.{items}
 use Rattle.rnix_grammar.specs.Rows.{Place, RootStart, missing, live, Stands}
 use Rattle.rnix_grammar.specs.Mended.{mended, halves, AreBegun, ended_count, others, AreSettled, NoneEnded}
-use Rattle.rnix_grammar.specs.Shape.{AreTrimmed, IsShaped, AreFaultsTrimmed, NoneTooDeep, reports}
+use Rattle.rnix_grammar.specs.Shape.{IsShaped, AreFaultsTrimmed, reports}
 use Rattle.rnix_grammar.specs.Strict.{IsExpression, yield, nesting}
 
 -- the tokens of a text that are no trivia
@@ -38,9 +38,8 @@ pub record IsParsed (tokens : List Lexeme) (tree : Tree) (faults : List Fault) :
   -- the leaves are the tokens, one by one; `__curPos` alone has a kind of its own
   pub leaves : tokens_in sketch ≡ placed_from 0 tokens
   pub told : AreTold NODE_ROOT sketch
-  -- no error node begins or ends with trivia, nor does another node, unless expressions are nested too deep
-  pub trimmed_faults : AreFaultsTrimmed sketch
-  pub trimmed : NoneTooDeep sketch → AreTrimmed (forget sketch)
+  -- no error node begins or ends with trivia
+  pub trimmed : AreFaultsTrimmed sketch
   -- the errors other than those of the end of the text are those of the error nodes, in the order in which these close
   pub paired : others faults ≡ reports sketch
   pub stands : StandsWhole (clean sketch) faults

@@ -6,7 +6,6 @@ use Rattle.rnix_tree.specs.Forest.{Forest, empty, leaf, node, leaves_of}
 use Rattle.rnix_tree.specs.Tree.{Tree}
 use Rattle.rnix_grammar.specs.Fault.{Fault}
 use Rattle.rnix_grammar.specs.Sketch.{Token, Note, Sketch, blank, token, branch, fault, tokens_in}
-use Rattle.rnix_grammar.specs.Layout.{is_last}
 use Rattle.rnix_grammar.specs.Rows.{is_row, report}
 
 -- the kinds of a row's trees, without trivia
@@ -31,12 +30,6 @@ leaf_kinds empty = []
 leaf_kinds (leaf k t f) = k ∷ leaf_kinds f
 leaf_kinds (node k c f) = leaf_kinds c ++ leaf_kinds f
 
--- no node of a row begins or ends with trivia
-abbrev pub AreTrimmed : Forest → Type 0
-AreTrimmed empty = Unit {0}
-AreTrimmed (leaf k t f) = AreTrimmed f
-AreTrimmed (node k c f) = BeginsWithItem (leaf_kinds c) × EndsWithItem (leaf_kinds c) × AreTrimmed c × AreTrimmed f
-
 -- each node of a row has its shape
 abbrev pub AreShaped : Forest → Type 0
 AreShaped empty = Unit {0}
@@ -58,13 +51,6 @@ AreFaultsTrimmed blank = Unit {0}
 AreFaultsTrimmed (token k t f) = AreFaultsTrimmed f
 AreFaultsTrimmed (branch k c f) = AreFaultsTrimmed c × AreFaultsTrimmed f
 AreFaultsTrimmed (fault n c f) = BeginsWithItem (token_kinds (tokens_in c)) × EndsWithItem (token_kinds (tokens_in c)) × AreFaultsTrimmed c × AreFaultsTrimmed f
-
--- nothing is nested too deep
-abbrev pub NoneTooDeep : Sketch → Type 0
-NoneTooDeep blank = Unit {0}
-NoneTooDeep (token k t f) = NoneTooDeep f
-NoneTooDeep (branch k c f) = NoneTooDeep c × NoneTooDeep f
-NoneTooDeep (fault n c f) = (is_last n ≡ false) × NoneTooDeep c × NoneTooDeep f
 
 -- the errors of a row's error nodes, in the order in which the nodes close
 abbrev pub reports : Sketch → List Fault
