@@ -8,3 +8,4 @@ pub mod StandsFaults
 pub mod StandsShapes
 pub mod EdgeLemmas
 pub mod TreeShapes
+pub mod ParsedLemmas
