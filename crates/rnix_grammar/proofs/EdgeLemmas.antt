@@ -7,7 +7,7 @@ use Rattle.rnix_kinds.specs.SyntaxKind.{is_trivia}
 use Rattle.rnix_tree.specs.Forest.{Forest, empty, leaf as tree_leaf, node}
 use Rattle.rnix_grammar.specs.Fault.{Fault}
 use Rattle.rnix_grammar.specs.Tables.{is_cur_pos}
-use Rattle.rnix_grammar.specs.Sketch.{Token, Note, Stray, Unwanted, Extra, TooDeep, Sketch, blank, token, branch, fault, ◌⊕◌, row_of, tokens_in, forget, clean, token_if, told, told_as, told_name, AreTold, end_from, end_of, extent_of}
+use Rattle.rnix_grammar.specs.Sketch.{Token, Note, Stray, Unwanted, Extra, TooDeep, Sketch, blank, token, branch, fault, ◌⊕◌, row_of, tokens_in, forget, clean, token_if, told, told_as, told_name, AreTold, end_from, extent_of}
 use Rattle.rnix_grammar.specs.Layout.{from_item, trivia_before, trivia_if, item_if, items, tail_of, is_last, trivia_after, rest_after, left_after, dressed, dressed_whole}
 use Rattle.rnix_grammar.specs.Rows.{Place, Nowhere, start, run, whole, is_row, first_kind, report, Stands, end, leaf, wrong, inner}
 use Rattle.rnix_grammar.specs.Mended.{kinds_of}
@@ -161,16 +161,16 @@ same_end n [] h = refl
 same_end n (t ∷ []) h = ap (λ x. end_from n (item_if x t [])) h
 same_end n (t ∷ (u ∷ ts)) h =
     elim (is_trivia t.kind) as (λ x. end_from n (item_if x t (items (u ∷ ts))) ≡ end_from n (t ∷ (u ∷ ts)))
-    [ true ↦ same_end n (u ∷ ts) h ∙ refl | false ↦ same_end (end_of t) (u ∷ ts) h ]
+    [ true ↦ same_end n (u ∷ ts) h ∙ refl | false ↦ same_end (t.end) (u ∷ ts) h ]
 
 same_report : (n : Note) (ts : List Token) → BeginsWithItem (token_kinds ts) → EndsWithItem (token_kinds ts) → report n (items ts) ≡ report n ts
 same_report n [] b e = refl
 same_report n (t ∷ ts) b e =
     let first : items (t ∷ ts) ≡ t ∷ items ts = ap (λ x. item_if x t (items ts)) b in
-    let ends : end_from (end_of t) (items ts) ≡ end_from (end_of t) ts = sym (ap (end_from 0) first) ∙ same_end 0 (t ∷ ts) e in
+    let ends : end_from (t.end) (items ts) ≡ end_from (t.end) ts = sym (ap (end_from 0) first) ∙ same_end 0 (t ∷ ts) e in
     ap (report n) first ∙ by_note n ends
   where
-    by_note : (n : Note) → end_from (end_of t) (items ts) ≡ end_from (end_of t) ts → report n (t ∷ items ts) ≡ report n (t ∷ ts)
+    by_note : (n : Note) → end_from (t.end) (items ts) ≡ end_from (t.end) ts → report n (t ∷ items ts) ≡ report n (t ∷ ts)
     by_note Stray e = cc
     by_note (Unwanted u) e = cc
     by_note Extra e = cc

@@ -8,4 +8,5 @@ pub mod StandsFaults
 pub mod StandsShapes
 pub mod EdgeLemmas
 pub mod TreeShapes
+pub mod Found
 pub mod ParsedLemmas

@@ -24,6 +24,7 @@ use Rattle.rnix_grammar.proofs.StandsFaults.{others-++, others_missing, stands_r
 use Rattle.rnix_grammar.proofs.StandsShapes.{none_left, none_right, owes_none_whole, AreRows, stands_rows, rows_stand, mended_row, beginning, stands_begun, Counts, ended_count-++, owed_count, counts_three, stands_counts}
 use Rattle.rnix_grammar.proofs.EdgeLemmas.{stands_alone, whole_trimmed, clean_reports}
 use Rattle.rnix_grammar.proofs.TreeShapes as shapes
+use Rattle.rnix_grammar.proofs.Found.{whole_found as strict_is_found}
 
 -- no item is left behind the root
 nothing_behind : {f g : Sketch} {es : List Fault} {ts us : List Token} → Reads 0 Behind f ts g es us → us ≡ []
@@ -102,9 +103,6 @@ whole_begun : (f : Sketch) (es : List Fault) → StandsWhole f es → AreBegun (
 whole_begun f es s = (beginning NODE_ROOT (kinds_of (mended f)) s.last (mended_row s.stands) s.begun, stands_begun s.stands, tt)
 
 -- the shape of the tree, with its trivia
-tree_of : Sketch → Tree
-tree_of g = record { kind = NODE_ROOT; children = forget g }
-
 shape_of : (ts : List Token) (f g : Sketch) (es : List Fault) → items ts ≡ tokens_in f → g ≡ dressed_whole f ts → clean g ≡ f → AreTold NODE_ROOT g → StandsWhole f es
     → (es ≡ []) → IsShaped (record { kind = NODE_ROOT; children = forget g })
 shape_of ts f g es all is bare known s n =
@@ -123,9 +121,11 @@ abbrev pub IsFound : List Lexeme → Sketch → List Fault → Type 0
 IsFound tokens g es = (f : Forest) → IsDerived tokens f → (es ≡ []) × (forget g ≡ f)
 
 -- all that holds of a text that is read
-pub parsed : (tokens : List Lexeme) (f : Sketch) (es : List Fault) → IsWhole (placed_from 0 tokens) f es → IsFound tokens f es
+pub parsed : (tokens : List Lexeme) (f : Sketch) (es : List Fault) (us : List Token) → Reads 0 Whole blank (items (placed_from 0 tokens)) f es us
     → IsParsed tokens (record { kind = NODE_ROOT; children = forget (dressed_whole f (placed_from 0 tokens)) }) es
-parsed tokens f es w found =
+parsed tokens f es us r =
+    let w : IsWhole (placed_from 0 tokens) f es = whole_read r in
+    let found : IsFound tokens f es = λ g h. strict_is_found g h.strict h.shallow h.yields r in
     let ts = placed_from 0 tokens in
     let s = w.stands in
     let g = dressed_whole f ts in

@@ -9,22 +9,20 @@ use Rattle.rnix_tree.specs.Range.{Extent}
 use Rattle.rnix_grammar.specs.declared.until.Until.{Until}
 use Rattle.rnix_grammar.specs.Tables.{is_cur_pos}
 
--- a token of a text, with the place where it begins
+-- a token of a text, with the bytes that it takes
 pub record Token : Type 0 where
   pub kind : SyntaxKind
   pub text : List ℕ
   pub start : ℕ
+  pub end : ℕ
 
 abbrev pub lexeme_of : Token → Lexeme
 lexeme_of t = (t.kind, t.text)
 
-abbrev pub end_of : Token → ℕ
-end_of t = t.start + length t.text
-
 -- tokens one after another, the first at the given place
 abbrev pub placed_from : ℕ → List Lexeme → List Token
 placed_from n [] = []
-placed_from n (l ∷ ls) = record { kind = l.0; text = l.1; start = n } ∷ placed_from (n + length l.1) ls
+placed_from n (l ∷ ls) = record { kind = l.0; text = l.1; start = n; end = n + length l.1 } ∷ placed_from (n + length l.1) ls
 
 -- what an error node is: a token that begins no operand, a run of tokens where others are wanted,
 -- the tokens behind the root's expression, the tokens that are nested too deep
@@ -113,12 +111,12 @@ clean (fault n c f) = fault n (clean c) (clean f)
 -- where the last of some tokens ends
 abbrev pub end_from : ℕ → List Token → ℕ
 end_from n [] = n
-end_from n (t ∷ ts) = end_from (end_of t) ts
+end_from n (t ∷ ts) = end_from t.end ts
 
 -- the place that tokens take, from the first to the last
 abbrev pub extent_of : List Token → Extent
 extent_of [] = record { start = 0; end = 0 }
-extent_of (t ∷ ts) = record { start = t.start; end = end_from (end_of t) ts }
+extent_of (t ∷ ts) = record { start = t.start; end = end_from t.end ts }
 
 -- the kind of the next token
 abbrev pub head_of : List Token → Option Token

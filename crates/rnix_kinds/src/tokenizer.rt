@@ -1,13 +1,13 @@
 //! The tokens of a text, one after another.
 ghost use Rattle.std.specs.Prelude.{◌≡◌, ◌<◌, ℕ, Bool, List, [], length, slice_index};
-ghost use Rattle.std.specs.List.{prefix_len};
+ghost use Rattle.std.specs.List.{flat_map, prefix_len};
 ghost use Rattle.rnix_kinds.specs.Lexical.Classes.{class_test};
 ghost use Rattle.rnix_kinds.specs.Lexical.Longest.{IsLongest, IsRun, IsRow, IsFirstPair};
 ghost use Rattle.rnix_kinds.specs.Lexical.Operators.{HasRoom};
 ghost use Rattle.rnix_kinds.specs.Lexical.Strings.{content_len};
 ghost use Rattle.rnix_kinds.specs.Lexical.Texts.{before_pair};
 ghost use Rattle.rnix_kinds.specs.Lexical.Ahead.{IsAhead};
-ghost use Rattle.rnix_kinds.specs.Lexical.Tokens.{cut_at, tokens_under, tokens_of, CountsFit, IsPathGoingOn, IsCutOf, GivesNext, AreTokens, AreSound, Lexeme};
+ghost use Rattle.rnix_kinds.specs.Lexical.Tokens.{cut_at, tokens_under, tokens_of, CountsFit, IsPathGoingOn, IsCutOf, GivesNext, AreTokens, AreSound, Lexeme, text_of};
 ghost use Rattle.rnix_kinds.specs.declared.kinds.SyntaxKind.{SyntaxKind};
 
 mod ahead;
@@ -56,6 +56,14 @@ fn cut_at(text: &str, top: Option<Mode>, ahead: Ahead) -> (Cut, Ahead)
     }
 }
 
+// The tokens of a text, one after another, are the text.
+fn joined(modes: &Modes, text: &str)
+    ensures { flat_map text_of (tokens_under modes.now text.now) ≡ text.now }
+{
+    let _len = text.len();
+    let _top = modes.top();
+}
+
 /// Cuts a text into its tokens. A clause sees the tokens that are left.
 #[derive(Drop)]
 pub struct Tokenizer<'a> {
@@ -86,6 +94,14 @@ impl<'a> Tokenizer<'a> {
                 angle: 0,
             },
         }
+    }
+
+    /// The text that is left.
+    pub fn rest(&self) -> &'a str
+        ensures { flat_map text_of self.now ≡ result.now }
+    {
+        joined(&self.modes, self.rest);
+        self.rest
     }
 
     /// The next token. After a refusal the same token comes next.

@@ -117,7 +117,8 @@ impl GreenNodeBuilder {
 
     /// The place behind the finished trees.
     pub fn checkpoint(&self) -> Checkpoint
-        ensures { result ≡ tree_count self.now.finished }
+        ensures place { result ≡ tree_count self.now.finished }
+        ensures inside { IsTrue (is_checkpoint_of self.now result) }
     {
         let place = self.starts.len();
         Checkpoint { place }

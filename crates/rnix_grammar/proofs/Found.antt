@@ -1,0 +1,368 @@
+-- Each strict tree is what is read from its tokens, and nothing else is.
+use Rattle.std.proofs.Common.{◌≡◌, ℕ, suc, ◌+◌, ◌<◌, ◌≤◌, true, false, List, [], ◌∷◌, ◌++◌, map, Option, Some, None, refl, ap, sym, ◌∙◌, subst, append_assoc, append-nil, arith}
+use Rattle.std.specs.Prelude.{if◌then◌else◌}
+use Rattle.rnix_kinds.specs.declared.kinds.SyntaxKind.{SyntaxKind}
+use Rattle.rnix_kinds.specs.declared.kinds.SyntaxKind.TheVariants.{TOKEN_ADD, TOKEN_MUL, TOKEN_L_PAREN, TOKEN_R_PAREN, TOKEN_INTEGER, TOKEN_IDENT, TOKEN_CUR_POS, NODE_BIN_OP, NODE_APPLY, NODE_PAREN, NODE_LITERAL, NODE_IDENT, NODE_CUR_POS}
+use Rattle.rnix_kinds.specs.Lexical.Tokens.{Lexeme}
+use Rattle.rnix_tree.specs.Forest.{Forest, empty, leaf, node, join}
+use Rattle.rnix_grammar.specs.declared.level.Level.{Level}
+use Rattle.rnix_grammar.specs.declared.level.Level.TheVariants.{Sum, Product, Application}
+use Rattle.rnix_grammar.specs.declared.begin.Begin.{Begin}
+use Rattle.rnix_grammar.specs.declared.begin.Begin.TheVariants as b
+use Rattle.rnix_grammar.specs.declared.until.Until.TheVariants.{RParen}
+use Rattle.rnix_grammar.specs.Fault.{Fault}
+use Rattle.rnix_grammar.specs.Tables.{begin_of, goes_on, stops, is_cur_pos, depth_limit}
+use Rattle.rnix_grammar.specs.Sketch.{Token, Sketch, blank, token, ◌⊕◌, one_branch, leaf_of, forget, placed_from, head_kind, head_lexeme, lexeme_of}
+use Rattle.rnix_grammar.specs.Layout.{items}
+use Rattle.rnix_grammar.specs.Reads.{Expression, Operands, More, Simple, Atom, Wanted, Closing, Behind, Whole, operand_of, has_operator, Reads, expression, too-deep, operands, stop, operator, argument, simple, literal, name, cur-pos, paren, wanted-now, wanted-later, closed, ended-open, nothing-behind, something-behind, document}
+use Rattle.rnix_grammar.specs.Strict.{tighter, IsStrict, tight, binary, applied, number, named, position, enclosed, untold, yield, nesting}
+use Rattle.rnix_grammar.specs.Parsed.{IsDerived}
+use Rattle.rnix_grammar.proofs.SketchLemmas.{⊕-blank, forget-⊕}
+
+-- the two truth values differ
+true_is_not_false : true ≡ false → ⊥
+true_is_not_false h = cc
+
+-- the lexemes of two rows
+yield-join : (f g : Forest) → yield (join f g) ≡ yield f ++ yield g
+yield-join empty g = refl
+yield-join (leaf k t f) g = ap (λ x. (untold k, t) ∷ x) (yield-join f g)
+yield-join (node k c f) g = ap (λ x. yield c ++ x) (yield-join f g) ∙ sym (append_assoc (yield c) (yield f) (yield g))
+
+-- the lexemes of a node over two rows, before a rest
+yield_node : (k : SyntaxKind) (f g : Forest) (rest : List Lexeme) → yield (node k (join f g) empty) ++ rest ≡ yield f ++ (yield g ++ rest)
+yield_node k f g rest = ap (λ x. x ++ rest) (append-nil (yield (join f g)) ∙ yield-join f g) ∙ append_assoc (yield f) (yield g) rest
+
+-- the first part of a row is nested no deeper than the row
+nesting_left : (f g : Forest) → nesting f ≤ nesting (join f g)
+nesting_left empty g = omega arith
+nesting_left (leaf k t f) g = nesting_left f g
+nesting_left (node k c f) g = omega (arith, nesting_left f g)
+
+-- nor is the second part
+nesting_right : (f g : Forest) → nesting g ≤ nesting (join f g)
+nesting_right empty g = omega arith
+nesting_right (leaf k t f) g = nesting_right f g
+nesting_right (node k c f) g = omega (arith, nesting_right f g)
+
+-- the kind of the first lexeme
+abbrev pub first_of : List Lexeme → Option SyntaxKind
+first_of [] = None
+first_of (x ∷ xs) = Some x.0
+
+-- it is the kind of the first token
+head_first : (ts : List Token) (rest : List Lexeme) → map lexeme_of ts ≡ rest → head_kind ts ≡ first_of rest
+head_first [] rest e = ap first_of e
+head_first (t ∷ ts) rest e = ap first_of e
+
+-- equal lists have equal first lexemes
+first_same : {x y : Lexeme} {xs ys : List Lexeme} → x ∷ xs ≡ y ∷ ys → x ≡ y
+first_same h = cc
+
+-- equal lists have equal lexemes behind the first
+others_same : {x y : Lexeme} {xs ys : List Lexeme} → x ∷ xs ≡ y ∷ ys → xs ≡ ys
+others_same h = cc
+
+-- a list with a first lexeme is not empty
+nil_is_not_cons : {x : Lexeme} {xs : List Lexeme} → [] ≡ x ∷ xs → ⊥
+nil_is_not_cons h = cc
+
+-- two lists without errors are one without errors
+both_none : {es fs : List Fault} → es ≡ [] → fs ≡ [] → es ++ fs ≡ []
+both_none h k = rw (h, k) refl
+
+-- no operator of a tighter level goes on, and no argument
+abbrev pub EndsInside : Level → List Lexeme → Type 0
+EndsInside Application rest = Unit {0}
+EndsInside Product rest = goes_on Application (first_of rest) ≡ false
+EndsInside Sum rest = (goes_on Product (first_of rest) ≡ false) × (goes_on Application (first_of rest) ≡ false)
+
+-- this forest was read, with no error, and these lexemes are left
+pub record Got (f : Forest) (rest : List Lexeme) (g : Sketch) (es : List Fault) (us : List Token) : Type 0 where
+  pub forest : forget g ≡ f
+  pub none : es ≡ []
+  pub left : map lexeme_of us ≡ rest
+
+-- this forest was read at the left of a level, with no error, and the level goes on from there
+pub record Begun (d : ℕ) (l : Level) (f : Forest) (rest : List Lexeme) (g : Sketch) (es : List Fault) (us : List Token) : Type 0 where
+  pub before : Sketch
+  pub forest : forget before ≡ f
+  pub behind : List Token
+  pub left : map lexeme_of behind ≡ rest
+  pub more : Reads d (More l) before behind g es us
+
+-- what a strict tree gives, where its lexemes and a rest that does not go on stand
+abbrev pub Claim : Option Level → Forest → Type 0
+Claim None f =
+    (d : ℕ) (rest : List Lexeme) (ts : List Token) (g : Sketch) (es : List Fault) (us : List Token) → d + nesting f ≤ depth_limit → map lexeme_of ts ≡ yield f ++ rest
+    → Reads d Simple blank ts g es us → Got f rest g es us
+Claim (Some l) f =
+    (d : ℕ) (rest : List Lexeme) (ts : List Token) (g : Sketch) (es : List Fault) (us : List Token) → d + nesting f ≤ depth_limit → map lexeme_of ts ≡ yield f ++ rest → EndsInside l rest
+    → Reads d (Operands l) blank ts g es us → Begun d l f rest g es us
+
+-- a level that stands where it does not go on is at its end
+level_ends : (l : Level) {d : ℕ} {f : Forest} {rest : List Lexeme} {a g : Sketch} {es : List Fault} {ts us : List Token}
+    → forget a ≡ f → map lexeme_of ts ≡ rest → goes_on l (first_of rest) ≡ false → Reads d (More l) a ts g es us → Got f rest g es us
+level_ends l e m h (stop o) = record { forest = e; none = refl; left = m }
+level_ends l {rest = rest} e m h (operator {t = t} {ts = ts} k o a more) = absurd (true_is_not_false (sym o ∙ ap (goes_on l) (head_first (t ∷ ts) rest m) ∙ h))
+level_ends l {rest = rest} e m h (argument {ts = ts} o a more) = absurd (true_is_not_false (sym o ∙ ap (goes_on l) (head_first ts rest m) ∙ h))
+
+-- so a tree at the left of such a level is all that was read
+left_ends : (l : Level) {d : ℕ} {f : Forest} {rest : List Lexeme} {g : Sketch} {es : List Fault} {us : List Token} → goes_on l (first_of rest) ≡ false → Begun d l f rest g es us
+    → Got f rest g es us
+left_ends l h w = level_ends l w.forest w.left h w.more
+
+-- the operand of a level is read whole
+operand_found : (l : Level) (f : Forest) → Claim (tighter l) f → (d : ℕ) (rest : List Lexeme) (ts : List Token) (g : Sketch) (es : List Fault) (us : List Token)
+    → d + nesting f ≤ depth_limit → map lexeme_of ts ≡ yield f ++ rest → EndsInside l rest → Reads d (operand_of l) blank ts g es us → Got f rest g es us
+operand_found Sum f claim d rest ts g es us n e h r = left_ends Product h.0 (claim d rest ts g es us n e h.1 r)
+operand_found Product f claim d rest ts g es us n e h r = left_ends Application h (claim d rest ts g es us n e tt r)
+operand_found Application f claim d rest ts g es us n e h r = claim d rest ts g es us n e r
+
+-- after an operand without errors the level goes on with the errors that come later
+goes_along : (l : Level) {d : ℕ} {f e : Forest} {rest all : List Lexeme} {a b g : Sketch} {es fs : List Fault} {ts us : List Token}
+    → Got e all a es ts → forget b ≡ f → map lexeme_of ts ≡ rest → Reads d (More l) b ts g fs us → Begun d l f rest g (es ++ fs) us
+goes_along l {d = d} {b = b} {g = g} {fs = fs} {ts = ts} {us = us} got h m r = record {
+  before = b;
+  forest = h;
+  behind = ts;
+  left = m;
+  more = subst (λ (x : List Fault). Reads d (More l) b ts g (x ++ fs) us) (sym got.none) r;
+}
+
+-- an operand alone is a tree of its level
+tight_case : (l : Level) (f : Forest) → Claim (tighter l) f → Claim (Some l) f
+tight_case l f claim d rest ts g es us n e h (operands {f = a} {es = es1} {us = us1} r more) =
+    let got : Got f rest a es1 us1 = operand_found l f claim d rest ts a es1 us1 n e h r in
+    goes_along l got got.forest got.left more
+
+-- the lexeme of a sum's operator has the kind of its leaf
+sum_untold : (k : SyntaxKind) → goes_on Sum (Some k) ≡ true → untold k ≡ k
+sum_untold TOKEN_ADD h = refl
+sum_untold _ h = absurd (true_is_not_false (sym h))
+
+-- the lexeme of a product's operator has the kind of its leaf
+product_untold : (k : SyntaxKind) → goes_on Product (Some k) ≡ true → untold k ≡ k
+product_untold TOKEN_MUL h = refl
+product_untold _ h = absurd (true_is_not_false (sym h))
+
+-- the lexeme of each operator has the kind of its leaf
+operator_untold : (l : Level) (k : SyntaxKind) → has_operator l ≡ true → goes_on l (Some k) ≡ true → untold k ≡ k
+operator_untold Sum k h o = sum_untold k o
+operator_untold Product k h o = product_untold k o
+operator_untold Application k h o = absurd (true_is_not_false (sym h))
+
+-- a sum's operator goes on with no tighter level
+sum_inside : (k : SyntaxKind) → goes_on Sum (Some k) ≡ true → (goes_on Product (Some k) ≡ false) × (goes_on Application (Some k) ≡ false)
+sum_inside TOKEN_ADD h = (refl, refl)
+sum_inside _ h = absurd (true_is_not_false (sym h))
+
+-- a product's operator is no argument
+product_inside : (k : SyntaxKind) → goes_on Product (Some k) ≡ true → goes_on Application (Some k) ≡ false
+product_inside TOKEN_MUL h = refl
+product_inside _ h = absurd (true_is_not_false (sym h))
+
+-- each operator goes on with no tighter level
+operator_inside : (l : Level) (k : SyntaxKind) (t : List ℕ) (rest : List Lexeme) → has_operator l ≡ true → goes_on l (Some k) ≡ true → EndsInside l ((k, t) ∷ rest)
+operator_inside Sum k t rest h o = sum_inside k o
+operator_inside Product k t rest h o = product_inside k o
+operator_inside Application k t rest h o = absurd (true_is_not_false (sym h))
+
+-- a tree with an operator, from its parts
+binary_node : {f g : Forest} {k : SyntaxKind} {t : List ℕ} (a c : Sketch) (u : Token) → forget a ≡ f → lexeme_of u ≡ (k, t) → forget c ≡ g
+    → forget (one_branch NODE_BIN_OP (a ⊕ token u.kind u c)) ≡ node NODE_BIN_OP (join f (leaf k t g)) empty
+binary_node {f = f} {g = g} {k = k} {t = t} a c u h i j =
+    ap (λ x. node NODE_BIN_OP x empty)
+    (forget-⊕ a (token u.kind u c) ∙ ap (λ x. join x (leaf u.kind u.text (forget c))) h ∙ ap (λ (x : Lexeme). join f (leaf x.0 x.1 (forget c))) i ∙ ap (λ x. join f (leaf k t x)) j)
+
+-- the level goes on with the operator and its right operand
+binary_goes : (l : Level) (f g : Forest) (k : SyntaxKind) (t : List ℕ) → has_operator l ≡ true → goes_on l (Some k) ≡ true → Claim (tighter l) g
+    → {d : ℕ} {rest : List Lexeme} {a h : Sketch} {es : List Fault} {ts us : List Token} → d + nesting g ≤ depth_limit → forget a ≡ f → map lexeme_of ts ≡ (k, t) ∷ (yield g ++ rest)
+    → EndsInside l rest → Reads d (More l) a ts h es us → Begun d l (node NODE_BIN_OP (join f (leaf k t g)) empty) rest h es us
+binary_goes l f g k t w o claim {rest = rest} {ts = ts} n e m i (stop q) =
+    absurd (true_is_not_false (sym o ∙ sym (ap (goes_on l) (head_first ts ((k, t) ∷ (yield g ++ rest)) m)) ∙ q))
+binary_goes l f g k t w o claim {d = d} {rest = rest} {a = a} n e m i (operator {g = c} {es = es1} {t = u} {ts = ts1} {us = us1} v q r more) =
+    let got : Got g rest c es1 us1 = operand_found l g claim d rest ts1 c es1 us1 n (others_same m) i r in
+    goes_along l got (binary_node a c u e (first_same m) got.forest) got.left more
+binary_goes l f g k t w o claim n e m i (argument q r more) = absurd (true_is_not_false (sym w))
+
+-- a tree with an operator is found if its operands are
+binary_case : (l : Level) (f g : Forest) (k : SyntaxKind) (t : List ℕ) → has_operator l ≡ true → goes_on l (Some k) ≡ true → Claim (Some l) f → Claim (tighter l) g
+    → Claim (Some l) (node NODE_BIN_OP (join f (leaf k t g)) empty)
+binary_case l f g k t w o claim_left claim_right d rest ts h es us n e i r =
+    let same : yield (node NODE_BIN_OP (join f (leaf k t g)) empty) ++ rest ≡ yield f ++ ((k, t) ∷ (yield g ++ rest)) =
+    yield_node NODE_BIN_OP f (leaf k t g) rest ∙ ap (λ (x : SyntaxKind). yield f ++ ((x, t) ∷ (yield g ++ rest))) (operator_untold l k w o) in
+    let left_small : nesting f ≤ nesting (join f (leaf k t g)) = nesting_left f (leaf k t g) in
+    let right_small : nesting g ≤ nesting (join f (leaf k t g)) = nesting_right f (leaf k t g) in
+    let begun : Begun d l f ((k, t) ∷ (yield g ++ rest)) h es us =
+    claim_left d ((k, t) ∷ (yield g ++ rest)) ts h es us (omega (arith, n, left_small)) (e ∙ same) (operator_inside l k t (yield g ++ rest) w o) r in
+    binary_goes l f g k t w o claim_right (omega (arith, n, right_small)) begun.forest begun.left i begun.more
+
+-- a simple tree begins like an argument
+pub record Begins (f : Forest) : Type 0 where
+  pub first : Lexeme
+  pub others : List Lexeme
+  pub yields : yield f ≡ first ∷ others
+  pub goes : goes_on Application (Some first.0) ≡ true
+
+-- each of the simple trees does so
+begins : {f : Forest} → IsStrict None f → Begins f
+begins (number t) = record { first = (TOKEN_INTEGER, t); others = []; yields = refl; goes = refl }
+begins (named t h) = record { first = (TOKEN_IDENT, t); others = []; yields = refl; goes = refl }
+begins (position t h) = record { first = (TOKEN_IDENT, t); others = []; yields = refl; goes = refl }
+begins (enclosed {f = f} t u s) = record { first = (TOKEN_L_PAREN, t); others = yield (join f (leaf TOKEN_R_PAREN u empty)) ++ []; yields = refl; goes = refl }
+
+-- the level goes on with the argument
+applied_goes : (f g : Forest) → Begins g → Claim None g
+    → {d : ℕ} {rest : List Lexeme} {a h : Sketch} {es : List Fault} {ts us : List Token} → d + nesting g ≤ depth_limit → forget a ≡ f → map lexeme_of ts ≡ yield g ++ rest
+    → Reads d (More Application) a ts h es us → Begun d Application (node NODE_APPLY (join f g) empty) rest h es us
+applied_goes f g w claim {rest = rest} {ts = ts} n e m (stop q) =
+    absurd (true_is_not_false (sym w.goes ∙ sym (ap (goes_on Application) (head_first ts (w.first ∷ (w.others ++ rest)) (m ∙ ap (λ x. x ++ rest) w.yields))) ∙ q))
+applied_goes f g w claim n e m (operator v q r more) = absurd (true_is_not_false (sym v))
+applied_goes f g w claim {d = d} {rest = rest} {a = a} {ts = ts} n e m (argument {g = c} {es = es1} {us = us1} q r more) =
+    let got : Got g rest c es1 us1 = claim d rest ts c es1 us1 n m r in
+    goes_along Application got (ap (λ x. node NODE_APPLY x empty) (forget-⊕ a c ∙ ap (λ x. join x (forget c)) e ∙ ap (λ x. join f x) got.forest)) got.left more
+
+-- a function with an argument is found if both are
+applied_case : (f g : Forest) → Begins g → Claim (Some Application) f → Claim None g → Claim (Some Application) (node NODE_APPLY (join f g) empty)
+applied_case f g w claim_left claim_right d rest ts h es us n e i r =
+    let left_small : nesting f ≤ nesting (join f g) = nesting_left f g in
+    let right_small : nesting g ≤ nesting (join f g) = nesting_right f g in
+    let begun : Begun d Application f (yield g ++ rest) h es us = claim_left d (yield g ++ rest) ts h es us (omega (arith, n, left_small)) (e ∙ yield_node NODE_APPLY f g rest) tt r in
+    applied_goes f g w claim_right (omega (arith, n, right_small)) begun.forest begun.left begun.more
+
+-- some tokens by their first
+pub record Split (x : Lexeme) (rest : List Lexeme) (ts : List Token) : Type 0 where
+  pub head : Token
+  pub tail : List Token
+  pub is : ts ≡ head ∷ tail
+  pub first : lexeme_of head ≡ x
+  pub others : map lexeme_of tail ≡ rest
+
+-- each list of tokens with such lexemes is split in this way
+split : (x : Lexeme) (rest : List Lexeme) (ts : List Token) → map lexeme_of ts ≡ x ∷ rest → Split x rest ts
+split x rest [] e = absurd (nil_is_not_cons e)
+split x rest (t ∷ ts) e = record { head = t; tail = ts; is = refl; first = first_same e; others = others_same e }
+
+-- the first lexeme decides what is read
+atom_of : (begin : Begin) (x : Lexeme) (rest : List Lexeme) {d : ℕ} {g : Sketch} {es : List Fault} {ts us : List Token} (s : Split x rest ts) → begin_of (Some x) ≡ begin
+    → Reads d Simple blank ts g es us → Reads d (Atom begin) blank (s.head ∷ s.tail) g es us
+atom_of begin x rest {d = d} {g = g} {es = es} {ts = ts} {us = us} s h (simple {begin = other} i r) =
+    let same : other ≡ begin = sym i ∙ ap (λ (y : List Token). begin_of (head_lexeme y)) s.is ∙ ap (λ (y : Lexeme). begin_of (Some y)) s.first ∙ h in
+    subst (λ (y : List Token). Reads d (Atom begin) blank y g es us) s.is (subst (λ (y : Begin). Reads d (Atom y) blank ts g es us) same r)
+
+-- a node over a leaf that has the kind of its token
+leaf_node : (k : SyntaxKind) (j : SyntaxKind) (t : List ℕ) (u : Token) → lexeme_of u ≡ (j, t) → forget (one_branch k (leaf_of u)) ≡ node k (leaf j t empty) empty
+leaf_node k j t u e = ap (λ (x : Lexeme). node k (leaf x.0 x.1 empty) empty) e
+
+-- what is read where a number stands is the number
+number_found : {d : ℕ} {t : List ℕ} {rest : List Lexeme} {g : Sketch} {es : List Fault} {us vs : List Token} {u : Token} → lexeme_of u ≡ (TOKEN_INTEGER, t) → map lexeme_of us ≡ rest
+    → Reads d (Atom b.Literal) blank (u ∷ us) g es vs → Got (node NODE_LITERAL (leaf TOKEN_INTEGER t empty) empty) rest g es vs
+number_found {t = t} {u = u} e m (literal h) = record { forest = leaf_node NODE_LITERAL TOKEN_INTEGER t u e; none = refl; left = m }
+
+-- what is read where a name stands is the name
+name_found : {d : ℕ} {t : List ℕ} {rest : List Lexeme} {g : Sketch} {es : List Fault} {us vs : List Token} {u : Token} → lexeme_of u ≡ (TOKEN_IDENT, t) → map lexeme_of us ≡ rest
+    → Reads d (Atom b.Name) blank (u ∷ us) g es vs → Got (node NODE_IDENT (leaf TOKEN_IDENT t empty) empty) rest g es vs
+name_found {t = t} {u = u} e m (name h) = record { forest = leaf_node NODE_IDENT TOKEN_IDENT t u e; none = refl; left = m }
+
+-- what is read where the current position stands is the current position
+position_found : {d : ℕ} {t : List ℕ} {rest : List Lexeme} {g : Sketch} {es : List Fault} {us vs : List Token} {u : Token} → lexeme_of u ≡ (TOKEN_IDENT, t) → map lexeme_of us ≡ rest
+    → Reads d (Atom b.CurPos) blank (u ∷ us) g es vs → Got (node NODE_CUR_POS (leaf TOKEN_CUR_POS t empty) empty) rest g es vs
+position_found e m (cur-pos h) = record { forest = ap (λ (x : Lexeme). node NODE_CUR_POS (leaf TOKEN_CUR_POS x.1 empty) empty) e; none = refl; left = m }
+
+-- a closing token is read as such
+closed_found : {d : ℕ} {t : List ℕ} {rest : List Lexeme} {g : Sketch} {es : List Fault} {ts us : List Token} → map lexeme_of ts ≡ (TOKEN_R_PAREN, t) ∷ rest
+    → Reads d (Closing RParen) blank ts g es us → Got (leaf TOKEN_R_PAREN t empty) rest g es us
+closed_found e (closed o) = record { forest = ap (λ (x : Lexeme). leaf x.0 x.1 empty) (first_same e); none = refl; left = others_same e }
+closed_found e ended-open = absurd (nil_is_not_cons e)
+
+-- a closing token is read where it is wanted, without tokens before it
+wanted_found : {d : ℕ} {t : List ℕ} {rest : List Lexeme} {g : Sketch} {es : List Fault} {ts us : List Token} → map lexeme_of ts ≡ (TOKEN_R_PAREN, t) ∷ rest
+    → Reads d (Wanted RParen) blank ts g es us → Got (leaf TOKEN_R_PAREN t empty) rest g es us
+wanted_found e (wanted-now o r) = closed_found e r
+wanted_found {t = t} {rest = rest} {ts = ts} e (wanted-later {us = us1} u ran w i o r) =
+    absurd (true_is_not_false (sym (ap (stops RParen) (ap head_kind (sym i) ∙ head_first ts ((TOKEN_R_PAREN, t) ∷ rest) e)) ∙ w.0))
+
+-- an expression that is not nested too deep is found
+expression_found : (f : Forest) → Claim (Some Sum) f → (d : ℕ) (rest : List Lexeme) (ts : List Token) (g : Sketch) (es : List Fault) (us : List Token) → d + suc (nesting f) ≤ depth_limit
+    → map lexeme_of ts ≡ yield f ++ rest → goes_on Sum (first_of rest) ≡ false → EndsInside Sum rest → Reads d Expression blank ts g es us → Got f rest g es us
+expression_found f claim d rest ts g es us n e h i (expression small r) = left_ends Sum h (claim (suc d) rest ts g es us (omega (arith, n)) e i r)
+expression_found f claim d rest ts g es us n e h i (too-deep large) = absurd (omega (arith, n, large))
+
+-- what is read where a parenthesis stands is the parenthesis, if the expression in it is found
+paren_found : (f : Forest) → Claim (Some Sum) f → (t u : List ℕ) {d : ℕ} {rest : List Lexeme} {g : Sketch} {es : List Fault} {ts us : List Token} {w : Token}
+    → d + suc (nesting f) ≤ depth_limit → lexeme_of w ≡ (TOKEN_L_PAREN, t) → map lexeme_of ts ≡ yield f ++ ((TOKEN_R_PAREN, u) ∷ rest)
+    → Reads d (Atom b.Paren) blank (w ∷ ts) g es us → Got (node NODE_PAREN (leaf TOKEN_L_PAREN t (join f (leaf TOKEN_R_PAREN u empty))) empty) rest g es us
+paren_found f claim t u {d = d} {rest = rest} {ts = ts} {us = us} {w = w} n e m (paren {f = a} {g = c} {es = es1} {fs = fs1} {us = us1} o r close) =
+    let got : Got f ((TOKEN_R_PAREN, u) ∷ rest) a es1 us1 = expression_found f claim d ((TOKEN_R_PAREN, u) ∷ rest) ts a es1 us1 n m refl (refl, refl) r in
+    let shut : Got (leaf TOKEN_R_PAREN u empty) rest c fs1 us = wanted_found got.left close in
+    record {
+      forest =
+        ap (λ (x : Lexeme). node NODE_PAREN (leaf x.0 x.1 (forget (a ⊕ c))) empty) e
+        ∙ ap (λ x. node NODE_PAREN (leaf TOKEN_L_PAREN t x) empty) (forget-⊕ a c ∙ ap (λ x. join x (forget c)) got.forest ∙ ap (λ x. join f x) shut.forest);
+      none = both_none got.none shut.none;
+      left = shut.left;
+    }
+
+-- the lexemes of a parenthesis, before a rest
+yield_paren : (f : Forest) (t u : List ℕ) (rest : List Lexeme)
+    → yield (node NODE_PAREN (leaf TOKEN_L_PAREN t (join f (leaf TOKEN_R_PAREN u empty))) empty) ++ rest ≡ (TOKEN_L_PAREN, t) ∷ (yield f ++ ((TOKEN_R_PAREN, u) ∷ rest))
+yield_paren f t u rest = ap (λ x. (TOKEN_L_PAREN, t) ∷ x) (yield_node NODE_PAREN f (leaf TOKEN_R_PAREN u empty) rest)
+
+-- numbers are found
+number_case : (t : List ℕ) → Claim None (node NODE_LITERAL (leaf TOKEN_INTEGER t empty) empty)
+number_case t d rest ts g es us n e r =
+    let s : Split (TOKEN_INTEGER, t) rest ts = split (TOKEN_INTEGER, t) rest ts e in
+    number_found s.first s.others (atom_of b.Literal (TOKEN_INTEGER, t) rest s refl r)
+
+-- names are found
+name_case : (t : List ℕ) → is_cur_pos t ≡ false → Claim None (node NODE_IDENT (leaf TOKEN_IDENT t empty) empty)
+name_case t h d rest ts g es us n e r =
+    let s : Split (TOKEN_IDENT, t) rest ts = split (TOKEN_IDENT, t) rest ts e in
+    name_found s.first s.others (atom_of b.Name (TOKEN_IDENT, t) rest s (ap (λ x. if x then b.CurPos else b.Name) h) r)
+
+-- the current position is found
+position_case : (t : List ℕ) → is_cur_pos t ≡ true → Claim None (node NODE_CUR_POS (leaf TOKEN_CUR_POS t empty) empty)
+position_case t h d rest ts g es us n e r =
+    let s : Split (TOKEN_IDENT, t) rest ts = split (TOKEN_IDENT, t) rest ts e in
+    position_found s.first s.others (atom_of b.CurPos (TOKEN_IDENT, t) rest s (ap (λ x. if x then b.CurPos else b.Name) h) r)
+
+-- a parenthesis is found if the expression in it is
+enclosed_case : (f : Forest) (t u : List ℕ) → Claim (Some Sum) f → Claim None (node NODE_PAREN (leaf TOKEN_L_PAREN t (join f (leaf TOKEN_R_PAREN u empty))) empty)
+enclosed_case f t u claim d rest ts g es us n e r =
+    let s : Split (TOKEN_L_PAREN, t) (yield f ++ ((TOKEN_R_PAREN, u) ∷ rest)) ts = split (TOKEN_L_PAREN, t) (yield f ++ ((TOKEN_R_PAREN, u) ∷ rest)) ts (e ∙ yield_paren f t u rest) in
+    let small : nesting f ≤ nesting (join f (leaf TOKEN_R_PAREN u empty)) = nesting_left f (leaf TOKEN_R_PAREN u empty) in
+    paren_found f claim t u (omega (arith, n, small)) s.first s.others (atom_of b.Paren (TOKEN_L_PAREN, t) (yield f ++ ((TOKEN_R_PAREN, u) ∷ rest)) s refl r)
+
+-- each strict tree is found
+strict_found : (l : Option Level) (f : Forest) → IsStrict l f → Claim l f
+strict_found _ f (tight {l = l} s) = tight_case l f (strict_found (tighter l) f s)
+strict_found _ _ (binary {l = l} {f = f} {g = g} k t w o s r) = binary_case l f g k t w o (strict_found (Some l) f s) (strict_found (tighter l) g r)
+strict_found _ _ (applied {f = f} {g = g} s r) = applied_case f g (begins r) (strict_found (Some Application) f s) (strict_found None g r)
+strict_found _ _ (number t) = number_case t
+strict_found _ _ (named t h) = name_case t h
+strict_found _ _ (position t h) = position_case t h
+strict_found _ _ (enclosed {f = f} t u s) = enclosed_case f t u (strict_found (Some Sum) f s)
+
+-- where no lexemes are left nothing is read behind the expression
+behind_found : {d : ℕ} {g : Sketch} {es : List Fault} {ts us : List Token} → map lexeme_of ts ≡ [] → Reads d Behind blank ts g es us → (es ≡ []) × (g ≡ blank)
+behind_found e nothing-behind = (refl, refl)
+behind_found e something-behind = absurd (nil_is_not_cons (sym e))
+
+-- a strict expression whose lexemes are all that is read is what is read, with no error
+pub whole_found : (f : Forest) → IsStrict (Some Sum) f → nesting f < depth_limit → {ts : List Token} → map lexeme_of ts ≡ yield f → {g : Sketch} {es : List Fault} {us : List Token}
+    → Reads 0 Whole blank ts g es us → (es ≡ []) × (forget g ≡ f)
+whole_found f s n {ts = ts} e (document {f = a} {g = c} {es = es1} {us = us1} r behind) =
+    let got : Got f [] a es1 us1 = expression_found f (strict_found (Some Sum) f s) 0 [] ts a es1 us1 (omega (arith, n)) (e ∙ sym (append-nil (yield f))) refl (refl, refl) r in
+    let after = behind_found got.left behind in
+    (both_none got.none after.0, ap (λ x. forget (a ⊕ x)) after.1 ∙ ap forget (⊕-blank a) ∙ got.forest)
+
+-- whatever is read from the tokens of a strict expression is this expression, with no error
+pub found : (tokens : List Lexeme) (f : Forest) → IsDerived tokens f → (g : Sketch) (es : List Fault) → Reads 0 Whole blank (items (placed_from 0 tokens)) g es []
+    → (es ≡ []) × (forget g ≡ f)
+found tokens f derived g es r = whole_found f derived.strict derived.shallow derived.yields r
+
+-- of tokens that are read there is one strict expression at most
+pub alone : (tokens : List Lexeme) (f g : Forest) → IsDerived tokens f → IsDerived tokens g → (h : Sketch) (es : List Fault) → Reads 0 Whole blank (items (placed_from 0 tokens)) h es []
+    → f ≡ g
+alone tokens f g derived other h es r = sym (found tokens f derived h es r).1 ∙ (found tokens g other h es r).1
