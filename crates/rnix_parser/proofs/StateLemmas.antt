@@ -1,0 +1,95 @@
+-- The steps of the reader, one token at a time.
+use Rattle.std.proofs.Common.{◌≡◌, ℕ, Bool, true, false, List, [], ◌∷◌, ◌++◌, Option, Some, None, refl, ap, sym, ◌∙◌, subst, append-nil}
+use Rattle.std.specs.Option.{option_map}
+use Rattle.rnix_kinds.specs.declared.kinds.SyntaxKind.{SyntaxKind}
+use Rattle.rnix_kinds.specs.SyntaxKind.{is_trivia}
+use Rattle.rnix_tree.specs.Forest.{Forest, empty, leaf, join}
+use Rattle.rnix_tree.proofs.ForestLemmas.{join-empty, join_assoc}
+use Rattle.rnix_grammar.specs.Sketch.{Token, forget, head_of, head_kind, kind_in}
+use Rattle.rnix_grammar.specs.Layout.{items, from_item, from_item_if, trivia_before, trivia_if, tail_of}
+use Rattle.rnix_grammar.proofs.LayoutLemmas.{items_head, items-view, items-from_item}
+use Rattle.rnix_parser.specs.declared.cursor.PlacedToken.{PlacedToken}
+use Rattle.rnix_parser.specs.Placed.{token_of}
+use Rattle.rnix_parser.specs.State.{State, eaten, leaf_on, bumped}
+use Rattle.rnix_parser.proofs.LaidLemmas.{state_is}
+
+true_is_not_false : true ≡ false → ⊥
+true_is_not_false h = cc
+
+-- the tokens that are left, by the first of them
+pub first_there : (ts : List Token) (r : Option PlacedToken) (t : PlacedToken) → option_map token_of r ≡ head_of ts → r ≡ Some t → ts ≡ token_of t ∷ tail_of ts
+first_there [] r t e h = absurd (some_is_not_none (sym (ap (option_map token_of) h) ∙ e))
+  where
+    some_is_not_none : Some (token_of t) ≡ None → ⊥
+    some_is_not_none e = cc
+first_there (u ∷ us) r t e h =
+    let same : Some (token_of t) ≡ Some u = sym (ap (option_map token_of) h) ∙ e in
+    let one : u ≡ token_of t = cc in
+    ap (λ x. x ∷ us) one
+
+pub none_there : (ts : List Token) (r : Option PlacedToken) → option_map token_of r ≡ head_of ts → r ≡ None → ts ≡ []
+none_there [] r e h = refl
+none_there (u ∷ us) r e h = absurd (none_is_not_some (sym (ap (option_map token_of) h) ∙ e))
+  where
+    none_is_not_some : None ≡ Some u → ⊥
+    none_is_not_some e = cc
+
+-- the first item is the first from the first item on
+pub head_items : (ts : List Token) → head_of (from_item ts) ≡ head_of (items ts)
+head_items ts = by (from_item ts) ∙ sym (ap head_of (items-view ts))
+  where
+    by : (xs : List Token) → head_of xs ≡ head_of (items_head xs)
+    by [] = refl
+    by (x ∷ xs) = refl
+
+-- where no trivia are left nothing is eaten
+pub eaten-item : (s : State) (t : Token) (more : List Token) → s.rest ≡ t ∷ more → is_trivia t.kind ≡ false → eaten s ≡ s
+unfolding eaten
+eaten-item s t more e h =
+    state_is (ap from_item e ∙ ap (λ b. from_item_if b t more (from_item more)) h ∙ sym e)
+    (ap (λ x. join s.trees (forget x)) (ap trivia_before e ∙ ap (λ b. trivia_if b t (trivia_before more)) h) ∙ join-empty s.trees) refl refl
+
+pub eaten-end : (s : State) → s.rest ≡ [] → eaten s ≡ s
+unfolding eaten
+eaten-end s e = state_is (ap from_item e ∙ sym e) (ap (λ x. join s.trees (forget (trivia_before x))) e ∙ join-empty s.trees) refl refl
+
+-- one trivia token is eaten
+pub eaten-trivia : (s s' : State) (t : Token) (more : List Token) → s.rest ≡ t ∷ more → is_trivia t.kind ≡ true → s'.rest ≡ more → s'.trees ≡ join s.trees (leaf t.kind t.text empty)
+    → s'.open_nodes ≡ s.open_nodes → s'.faults ≡ s.faults → eaten s' ≡ eaten s
+unfolding eaten
+eaten-trivia s s' t more e h r x o f =
+    state_is (ap from_item r ∙ sym (ap from_item e ∙ ap (λ b. from_item_if b t more (from_item more)) h))
+    (ap (λ y. join y (forget (trivia_before s'.rest))) x ∙ ap (λ y. join (join s.trees (leaf t.kind t.text empty)) (forget (trivia_before y))) r
+    ∙ join_assoc s.trees (leaf t.kind t.text empty) (forget (trivia_before more))
+    ∙ ap (λ y. join s.trees (forget y)) (sym (ap trivia_before e ∙ ap (λ b. trivia_if b t (trivia_before more)) h)))
+    o f
+
+-- the items are left while trivia are eaten
+pub items-eaten : (s : State) → items (eaten s).rest ≡ items s.rest
+unfolding eaten
+items-eaten s = items-from_item s.rest
+
+-- the next item as a leaf
+pub bumped-item : (k : SyntaxKind) (s s1 s' : State) (t : Token) → s1 ≡ eaten s → s1.rest ≡ t ∷ tail_of s1.rest → s'.rest ≡ tail_of s1.rest
+    → s'.trees ≡ join s1.trees (leaf k t.text empty) → s'.open_nodes ≡ s1.open_nodes → s'.faults ≡ s1.faults → s' ≡ bumped k s
+unfolding bumped eaten
+bumped-item k s s1 s' t e here r x o f =
+    let rest : s1.rest ≡ from_item s.rest = ap (λ y. y.rest) e in
+    state_is (r ∙ ap tail_of rest)
+    (x ∙ ap (λ y. join y.trees (leaf k t.text empty)) e ∙ ap (λ y. join (join s.trees (forget (trivia_before s.rest))) (leaf_on k y)) (sym here ∙ rest))
+    (o ∙ ap (λ y. y.open_nodes) e) (f ∙ ap (λ y. y.faults) e)
+
+pub bumped-end : (k : SyntaxKind) (s s1 : State) → s1 ≡ eaten s → s1.rest ≡ [] → s1 ≡ bumped k s
+unfolding bumped eaten
+bumped-end k s s1 e none =
+    let rest : from_item s.rest ≡ [] = sym (ap (λ y. y.rest) e) ∙ none in
+    state_is (none ∙ ap tail_of (sym rest))
+    (ap (λ y. y.trees) e ∙ sym (join-empty (join s.trees (forget (trivia_before s.rest)))) ∙ ap (λ y. join (join s.trees (forget (trivia_before s.rest))) (leaf_on k y)) (sym rest))
+    (ap (λ y. y.open_nodes) e) (ap (λ y. y.faults) e)
+
+-- the kind of what is looked up
+pub kind_there : (ts : List Token) (r : Option PlacedToken) (t : PlacedToken) → option_map token_of r ≡ head_of ts → r ≡ Some t → Some t.kind ≡ head_kind ts
+kind_there ts r t e h = ap kind_in (sym (ap (option_map token_of) h) ∙ e)
+
+pub kind_none : (ts : List Token) (r : Option PlacedToken) → option_map token_of r ≡ head_of ts → r ≡ None → None ≡ head_kind ts
+kind_none ts r e h = ap kind_in (sym (ap (option_map token_of) h) ∙ e)

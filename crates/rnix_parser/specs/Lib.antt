@@ -1,0 +1,4 @@
+pub mod Placed
+pub mod State
+pub mod Gives
+pub mod Document

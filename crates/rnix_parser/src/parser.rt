@@ -1,0 +1,131 @@
+//! The steps of the reader: each moves a cursor over the tokens and builds the tree.
+
+ghost use Rattle.std.specs.Prelude.{◌≡◌, ◌<◌, ◌∷◌, ℕ, length, IfOk, OnOk, IsTrue, true, Some, option_map};
+ghost use Rattle.rnix_tree.specs.Forest.{tree_count};
+ghost use Rattle.rnix_tree.specs.Draft.{is_inside, is_checkpoint_of};
+ghost use Rattle.rnix_grammar.specs.Fault.{fault_of};
+ghost use Rattle.rnix_grammar.specs.Sketch.{placed_from, head_of, head_kind, lexeme_in};
+ghost use Rattle.rnix_grammar.specs.Layout.{from_item, items};
+ghost use Rattle.rnix_parser.specs.Placed.{token_of, AreInOrder};
+ghost use Rattle.rnix_parser.specs.State.{State, state, items_left, eaten, bumped, started, started_at, ended, failed};
+
+use crate::cursor::{Cursor, PlacedToken};
+use rnix_grammar::ParseError;
+use rnix_kinds::{SyntaxKind, Tokenizer};
+use rnix_tree::{Checkpoint, GreenNodeBuilder};
+use std::alloc::{AllocError, Global};
+
+/// Reads tokens, builds the tree and keeps the errors.
+#[derive(Drop)]
+pub(crate) struct Parser<'t> {
+    pub(crate) cursor: Cursor<'t>,
+    pub(crate) builder: GreenNodeBuilder,
+    pub(crate) errors: Vec<ParseError>,
+}
+
+impl<'t> Parser<'t> {
+    /// The next token that is not trivia.
+    pub(crate) fn item(&self) -> Option<PlacedToken<'t>>
+        ensures { option_map token_of result ≡ head_of (items_left (state self.now)) }
+    {
+        self.cursor.item()
+    }
+
+    /// The kind of the next token that is not trivia.
+    pub(crate) fn peek(&self) -> Option<SyntaxKind>
+        ensures { result ≡ head_kind (items_left (state self.now)) }
+    {
+        match self.item() {
+            Some(item) => Some(item.kind),
+            None => None,
+        }
+    }
+
+    /// Reads the trivia before the next item.
+    pub(crate) fn eat_trivia(&mut self) -> Result<(), AllocError>
+        ensures state { OnOk result (state self.new ≡ eaten (state self.old)) }
+        ensures nodes { OnOk result (self.new.builder.open_nodes ≡ self.old.builder.open_nodes) }
+    {
+        while let Some(token) = self.cursor.token() {
+            if !token.kind.is_trivia() {
+                return Ok(());
+            }
+            self.builder.token(token.kind, token.text)?;
+            self.cursor.advance();
+        }
+        Ok(())
+    }
+
+    /// Opens a node at the next item.
+    #[tactic(auto, unfolding(crate::specs::State::started, crate::specs::State::started_at, crate::specs::State::eaten))]
+    pub(crate) fn start_node(&mut self, kind: SyntaxKind) -> Result<Checkpoint, AllocError>
+        ensures state { OnOk result (state self.new ≡ started kind (state self.old)) }
+        ensures place { IfOk result (λ place. place ≡ tree_count (eaten (state self.old)).trees) }
+        ensures inside { IfOk result (λ place. is_inside place (state self.old).open_nodes ≡ true) }
+        ensures open { OnOk result (0 < length self.new.builder.open_nodes) }
+    {
+        self.eat_trivia()?;
+        let place = self.builder.checkpoint();
+        self.builder.start_node(kind)?;
+        Ok(place)
+    }
+
+    /// Opens a node before what is read from a place on.
+    #[tactic(auto, unfolding(crate::specs::State::started_at))]
+    pub(crate) fn start_node_at(
+        &mut self,
+        place: Checkpoint,
+        kind: SyntaxKind,
+    ) -> Result<(), AllocError>
+        requires { IsTrue (is_checkpoint_of self.old.builder place) }
+        ensures { OnOk result (state self.new ≡ started_at place kind (state self.old)) }
+    {
+        self.builder.start_node_at(place, kind)
+    }
+
+    /// Closes the innermost node.
+    #[tactic(auto, unfolding(crate::specs::State::ended))]
+    pub(crate) fn finish_node(&mut self) -> Result<(), AllocError>
+        requires { 0 < length self.old.builder.open_nodes }
+        ensures { OnOk result (state self.new ≡ ended (state self.old)) }
+    {
+        self.builder.finish_node()
+    }
+
+    /// Reports an error.
+    #[tactic(auto, unfolding(crate::specs::State::failed))]
+    pub(crate) fn fail(&mut self, error: ParseError) -> Result<(), AllocError>
+        ensures { OnOk result (state self.new ≡ failed (fault_of error) (state self.old)) }
+    {
+        self.errors.push(error)?;
+        Ok(())
+    }
+
+    /// Reads the next item as a leaf of the kind.
+    pub(crate) fn bump(&mut self, kind: SyntaxKind) -> Result<(), AllocError>
+        ensures state { OnOk result (state self.new ≡ bumped kind (state self.old)) }
+        ensures nodes { OnOk result (self.new.builder.open_nodes ≡ self.old.builder.open_nodes) }
+    {
+        self.eat_trivia()?;
+        if let Some(token) = self.cursor.token() {
+            self.builder.token(kind, token.text)?;
+            self.cursor.advance();
+        }
+        Ok(())
+    }
+
+    /// The place behind what is read.
+    pub(crate) fn here(&self) -> Checkpoint
+        ensures place { result ≡ tree_count (state self.now).trees }
+        ensures inside { is_inside result (state self.now).open_nodes ≡ true }
+    {
+        self.builder.checkpoint()
+    }
+
+    /// No token ends before it begins, or begins before the one before it ends.
+    pub(crate) fn ordered(&self)
+        ensures { AreInOrder 0 (state self.now).rest }
+    {
+        self.cursor.ordered();
+    }
+}
