@@ -1,7 +1,8 @@
 //! Nodes of a tree.
 
-ghost use Rattle.std.specs.Prelude.{◌≡◌};
-ghost use Rattle.rnix_tree.specs.Tree.{item_of, extent_of, text_at};
+ghost use Rattle.std.specs.Prelude.{◌≡◌, ◌<◌, ◌^◌};
+ghost use Rattle.rnix_tree.specs.Forest.{element_count};
+ghost use Rattle.rnix_tree.specs.Tree.{item_of, extent_of, text_at, part_at};
 ghost use Rattle.rnix_tree.specs.Walk.{children_of, preorder_of};
 
 use crate::green::GreenNode;
@@ -73,8 +74,10 @@ impl<'t> SyntaxNode<'t> {
 
     /// A walk that enters and leaves the node and all that is inside it.
     pub fn preorder_with_tokens(&self) -> PreorderWithTokens<'t>
-        ensures { result ≡ preorder_of self.now }
+        ensures walk { result ≡ preorder_of self.now }
+        ensures fits { element_count (part_at self.now) < 2 ^ 64 }
     {
+        let _element = self.green.element(self.number);
         PreorderWithTokens::new(self.green, self.number)
     }
 }

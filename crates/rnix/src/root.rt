@@ -1,0 +1,87 @@
+//! The tree of a text, with its errors.
+
+ghost use Rattle.std.specs.Prelude.{◌≡◌, map, IfOk};
+ghost use Rattle.rnix_kinds.specs.Lexical.Tokens.{tokens_of};
+ghost use Rattle.rnix_grammar.specs.Fault.{fault_of};
+ghost use Rattle.rnix_grammar.specs.Parsed.{IsParsed};
+
+use rnix_grammar::ParseError;
+use rnix_kinds::tokenize;
+use rnix_parser::parse;
+use rnix_tree::{GreenNode, SyntaxNode};
+use std::alloc::{AllocError, Global};
+
+/// The root of a tree.
+pub struct Root<'t> {
+    syntax: SyntaxNode<'t>,
+}
+
+/// The tree of a text, and its errors in the order in which they were found. A text always has a tree.
+#[derive(Drop)]
+pub struct Parse {
+    green: GreenNode,
+    errors: Vec<ParseError>,
+}
+
+impl<'t> Root<'t> {
+    /// Reads a text. Ranges are bytes of the text.
+    pub fn parse(alloc: Global, text: &str) -> Result<Parse, AllocError>
+        ensures { IfOk result (λ read. IsParsed (tokens_of text.now) read.green (map fault_of read.errors.items)) }
+    {
+        let (green, errors) = parse(alloc, tokenize(alloc, text))?;
+        Ok(Parse { green, errors })
+    }
+
+    /// The node.
+    pub fn syntax(&self) -> &SyntaxNode<'t>
+        ensures { result.now ≡ self.now.syntax }
+    {
+        &self.syntax
+    }
+}
+
+// A copy of each error.
+fn copies(alloc: Global, errors: &[ParseError]) -> Result<Vec<ParseError>, AllocError>
+    ensures { IfOk result (λ copies. map fault_of copies.items ≡ map fault_of errors.now) }
+{
+    let mut copies = Vec::new(alloc);
+    for error in errors {
+        copies.push(error.try_clone()?)?;
+    }
+    Ok(copies)
+}
+
+impl Parse {
+    /// The node at the root.
+    pub fn syntax(&self) -> SyntaxNode<'_>
+        ensures { result ≡ record { tree = self.now.green; number = 0 } }
+    {
+        SyntaxNode::new_root(&self.green)
+    }
+
+    /// The root.
+    pub fn tree(&self) -> Root<'_>
+        ensures { result.syntax ≡ record { tree = self.now.green; number = 0 } }
+    {
+        Root {
+            syntax: SyntaxNode::new_root(&self.green),
+        }
+    }
+
+    /// The errors. There are none exactly if the text is an expression.
+    pub fn errors(&self) -> &[ParseError]
+        ensures { result.now ≡ self.now.errors.items }
+    {
+        &self.errors
+    }
+
+    /// A copy of the tree and the errors.
+    pub fn try_clone(&self) -> Result<Parse, AllocError>
+        ensures tree { IfOk result (λ copy. copy.green ≡ self.now.green) }
+        ensures errors { IfOk result (λ copy. map fault_of copy.errors.items ≡ map fault_of self.now.errors.items) }
+    {
+        let green = self.green.try_clone()?;
+        let errors = copies(*self.errors.allocator(), &self.errors)?;
+        Ok(Parse { green, errors })
+    }
+}

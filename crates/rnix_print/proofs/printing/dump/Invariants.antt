@@ -1,0 +1,12 @@
+use Rattle.std.proofs.Common.{◌≡◌, ℕ, List, ◌++◌, ◌+◌, ◌<◌, ◌^◌}
+use Rattle.std.specs.Io.KnownBytes.{Appends}
+use Rattle.rnix_tree.specs.Walk.{preorder_of}
+use Rattle.rnix_print.specs.Walked.{event_lines, entered_in, IsNested}
+use Rattle.rnix_print.proofs.printing.dump.Given as goal
+
+-- the lines so far and those of the events left are those of all events
+abbrev pub invariant-loop-event : goal.invariant-loop-event
+invariant-loop-event g l =
+    (lines : List ℕ) × Appends (g.W.Write.contents l.initial.out) (g.W.Write.contents l.out) lines
+    × (lines ++ event_lines l.depth l.event-iterator ≡ event_lines 0 (preorder_of l.node))
+    × (l.depth + entered_in l.event-iterator < 2 ^ 64) × IsNested l.depth l.event-iterator

@@ -1,0 +1,7 @@
+-- What reading does to the bytes that a reader has left.
+use Rattle.std.specs.Prelude.{◌≡◌, ℕ, List, ◌++◌, Option}
+use Rattle.std.specs.Io.KnownBytes.{Consumes}
+
+-- the bytes that the reader gave stand behind the old ones
+abbrev pub HasMoved : Option (List ℕ) → Option (List ℕ) → List ℕ → List ℕ → Type 0
+HasMoved left rest old new = (more : List ℕ) × Consumes left rest more × (new ≡ old ++ more)

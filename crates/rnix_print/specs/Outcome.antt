@@ -1,0 +1,17 @@
+-- How a run ends: its status, and what is said of a run that was refused.
+use Rattle.std.specs.Prelude.{ℕ, List, codes, Bool, true, false, Result, Ok, Err}
+use Rattle.rnix_print.specs.declared.outcome.RunError.{RunError}
+use Rattle.rnix_print.specs.declared.outcome.RunError.TheVariants.{Read, NotUtf8, Write, Memory}
+
+-- 0 for a text without errors, 1 for a text with errors, 2 for a run that was refused
+abbrev pub status_of : Result Bool RunError → ℕ
+status_of (Ok true) = 0
+status_of (Ok false) = 1
+status_of (Err error) = 2
+
+-- what is said of a run that was refused
+abbrev pub complaint_of : RunError → List ℕ
+complaint_of Read = codes "nix-tree: cannot read input"
+complaint_of NotUtf8 = codes "nix-tree: input is not UTF-8"
+complaint_of Write = codes "nix-tree: cannot write output"
+complaint_of Memory = codes "nix-tree: out of memory"

@@ -1,0 +1,28 @@
+-- What a walk prints, as its events come.
+use Rattle.std.specs.Prelude.{◌≡◌, ◌<◌, false, ℕ, ◌+◌, ◌-◌, List, [], ◌∷◌, ◌++◌, if◌then◌else◌}
+use Rattle.rnix_tree.specs.Tree.{item_of, extent_of}
+use Rattle.rnix_tree.specs.Walk.{Event}
+use Rattle.rnix_print.specs.Lines.{line_of}
+
+-- the line that an event prints at a depth: one where an element is entered, none where it is left
+abbrev pub event_line : ℕ → Event → List ℕ
+event_line depth e = if e.0 then line_of depth (item_of e.1.1).kind (extent_of e.1.1) else []
+
+-- the depth behind an event
+abbrev pub depth_after : ℕ → Event → ℕ
+depth_after depth e = if e.0 then depth + 1 else depth - 1
+
+-- the lines that the events of a walk print, from a depth on
+abbrev pub event_lines : ℕ → List Event → List ℕ
+event_lines depth [] = []
+event_lines depth (e ∷ es) = event_line depth e ++ event_lines (depth_after depth e) es
+
+-- how many elements the events enter
+abbrev pub entered_in : List Event → ℕ
+entered_in [] = 0
+entered_in (e ∷ es) = (if e.0 then 1 else 0) + entered_in es
+
+-- each element is left at a depth above zero
+abbrev pub IsNested : ℕ → List Event → Type 0
+IsNested depth [] = Unit {0}
+IsNested depth (e ∷ es) = (e.0 ≡ false → 0 < depth) × IsNested (depth_after depth e) es

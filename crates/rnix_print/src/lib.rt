@@ -1,0 +1,13 @@
+//! What the program prints of a text, and how it ends.
+#![tactic(auto)]
+
+mod outcome;
+mod printing;
+mod reading;
+mod running;
+#[cfg(test)]
+mod tests;
+
+pub use outcome::{RunError, complaint, status};
+pub use printing::dump;
+pub use running::run;

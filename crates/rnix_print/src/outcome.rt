@@ -1,0 +1,40 @@
+//! How a run ends.
+
+ghost use Rattle.std.specs.Prelude.{◌≡◌};
+ghost use Rattle.rnix_print.specs.Outcome.{status_of, complaint_of};
+
+/// Why a run was refused.
+#[derive(Debug, Clone, Copy, PartialEq, Eq)]
+pub enum RunError {
+    /// The input cannot be read.
+    Read,
+    /// The input is not UTF-8.
+    NotUtf8,
+    /// The output cannot be written.
+    Write,
+    /// There is no memory left.
+    Memory,
+}
+
+/// The status that the program ends with, where `Ok(true)` says that the text has no errors.
+pub fn status(outcome: &Result<bool, RunError>) -> u8
+    ensures { result ≡ status_of outcome.now }
+{
+    match outcome {
+        Ok(true) => 0,
+        Ok(false) => 1,
+        Err(_) => 2,
+    }
+}
+
+/// The line that the program says of a run that was refused.
+pub fn complaint(error: &RunError) -> &'static str
+    ensures { result.now ≡ complaint_of error.now }
+{
+    match error {
+        RunError::Read => "nix-tree: cannot read input",
+        RunError::NotUtf8 => "nix-tree: input is not UTF-8",
+        RunError::Write => "nix-tree: cannot write output",
+        RunError::Memory => "nix-tree: out of memory",
+    }
+}

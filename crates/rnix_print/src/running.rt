@@ -1,0 +1,47 @@
+//! A text in, its printed tree out.
+
+ghost use Rattle.std.specs.Prelude.{◌≡◌, ◌++◌, OnOk, IfOk, IfErr, IfSome, Err, IsUtf8};
+ghost use Rattle.std.specs.Io.KnownBytes.{Appends};
+ghost use Rattle.rnix_print.specs.declared.outcome.RunError.TheVariants as refused;
+ghost use Rattle.rnix_print.specs.Lines.{error_lines, lines_of};
+ghost use Rattle.rnix_print.specs.Ran.{HasRun};
+
+use crate::outcome::RunError;
+use crate::printing::{dump, write_errors};
+use crate::reading::read_all;
+use rnix::{Parse, Root};
+use std::alloc::Global;
+use std::io;
+use std::io::{Read, Write};
+
+// The errors, and then the tree.
+fn print<W: Write>(read: &Parse, out: &mut W) -> io::Result<()>
+    ensures { OnOk result (Appends (W.contents out.old) (W.contents out.new)
+        (error_lines read.now.errors.items ++ lines_of record { tree = read.now.green; number = 0 })) }
+{
+    write_errors(read.errors(), out)?;
+    dump(&read.syntax(), out)?;
+    Ok(())
+}
+
+/// Reads all of the input and prints its errors and its tree: true if there are no errors. A refusal other than `Write` leaves the writer
+/// as it was.
+pub fn run<R: Read, W: Write>(
+    alloc: Global,
+    input: &mut R,
+    out: &mut W,
+) -> Result<bool, RunError>
+    ensures ran { IfOk result (λ good. HasRun (R.remaining input.old) good (W.contents out.old) (W.contents out.new)) }
+    ensures read { result ≡ Err refused.Read → out.new ≡ out.old }
+    ensures not_utf8 { result ≡ Err refused.NotUtf8 → (out.new ≡ out.old) × IfSome (R.remaining input.old) (λ all. ¬ IsUtf8 all) }
+    ensures memory { result ≡ Err refused.Memory → out.new ≡ out.old }
+{
+    let text = read_all(alloc, input)?;
+    let Ok(read) = Root::parse(alloc, text.as_str()) else {
+        return Err(RunError::Memory);
+    };
+    if print(&read, out).is_err() {
+        return Err(RunError::Write);
+    }
+    Ok(read.errors().is_empty())
+}
