@@ -7,7 +7,7 @@ use std::io::{BufWriter, Read, Write};
 use std::process::ExitCode;
 
 // A run whose output is gathered, and written in large parts.
-fn run_buffered<R: Read, W: Write + Drop>(
+fn run_buffered<R: Read + Drop, W: Write + Drop>(
     alloc: Global,
     input: R,
     output: W,
