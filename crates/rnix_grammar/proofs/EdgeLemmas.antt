@@ -1,21 +1,14 @@
 -- The first and the last leaf of a node.
-use Rattle.std.proofs.Common.{◌≡◌, ℕ, Bool, true, false, List, [], ◌∷◌, ◌++◌, map, Option, Some, None, refl, ap, sym, ◌∙◌, subst, append_assoc, append-nil}
-use Rattle.std.specs.Prelude.{if◌then◌else◌}
+use Rattle.std.proofs.Common.{◌≡◌, ℕ, Bool, true, false, List, [], ◌∷◌, ◌++◌, Option, refl, ap, sym, ◌∙◌, subst, append_assoc, append-nil}
 use Rattle.rnix_kinds.specs.declared.kinds.SyntaxKind.{SyntaxKind}
-use Rattle.rnix_kinds.specs.declared.kinds.SyntaxKind.TheVariants.{TOKEN_IDENT, TOKEN_CUR_POS, NODE_ROOT, NODE_LITERAL, NODE_IDENT, NODE_CUR_POS, NODE_BIN_OP, NODE_APPLY, NODE_PAREN, NODE_ERROR}
 use Rattle.rnix_kinds.specs.SyntaxKind.{is_trivia}
-use Rattle.rnix_tree.specs.Forest.{Forest, empty, leaf as tree_leaf, node}
 use Rattle.rnix_grammar.specs.Fault.{Fault}
-use Rattle.rnix_grammar.specs.Tables.{is_cur_pos}
-use Rattle.rnix_grammar.specs.Sketch.{Token, Note, Stray, Unwanted, Extra, TooDeep, Sketch, blank, token, branch, fault, ◌⊕◌, row_of, tokens_in, forget, clean, token_if, told, told_as, told_name, AreTold, end_from, extent_of}
+use Rattle.rnix_grammar.specs.Sketch.{Token, Note, Stray, Unwanted, Extra, TooDeep, Sketch, blank, token, branch, fault, ◌⊕◌, row_of, tokens_in, clean, token_if, end_from}
 use Rattle.rnix_grammar.specs.Layout.{from_item, trivia_before, trivia_if, item_if, items, tail_of, is_last, trivia_after, rest_after, left_after, dressed, dressed_whole}
-use Rattle.rnix_grammar.specs.Rows.{Place, Nowhere, start, run, whole, is_row, first_kind, report, Stands, end, leaf, wrong, inner}
-use Rattle.rnix_grammar.specs.Mended.{kinds_of}
-use Rattle.rnix_grammar.specs.Shape.{item_kinds, BeginsWithItem, EndsWithItem, leaf_kinds, AreShaped, token_kinds, AreFaultsTrimmed, reports}
+use Rattle.rnix_grammar.specs.Rows.{Place, report, Stands, end, leaf, wrong, inner}
+use Rattle.rnix_grammar.specs.Shape.{BeginsWithItem, EndsWithItem, token_kinds, AreFaultsTrimmed, reports}
 use Rattle.rnix_grammar.proofs.SketchLemmas.{tokens_in-⊕, tokens_in-row_of}
-use Rattle.rnix_grammar.proofs.LayoutLemmas.{IsFirst, first_item, IsBared, bared, items-from_item, items-rest_after, trivia-from_item, from_item-from_item, items-++}
-use Rattle.rnix_grammar.proofs.StandsFaults.{reports-row_of}
-use Rattle.rnix_grammar.proofs.StandsShapes.{AreRows}
+use Rattle.rnix_grammar.proofs.LayoutLemmas.{IsFirst, first_item, bared, items-from_item, items-rest_after, trivia-from_item, items-++}
 
 true_is_not_false : true ≡ false → ⊥
 true_is_not_false h = cc
@@ -133,12 +126,13 @@ faults_trimmed (fault n c f) ts us e h =
     let row : items (from_item ts) ≡ xs ++ (tokens_in f ++ us) = all ∙ ap (λ x. x ++ (tokens_in f ++ us)) (ap tokens_in h.0.1 ∙ tokens_in-row_of xs) in
     let edges = row_edges xs (from_item ts) (tokens_in f ++ us) row (trivia-from_item ts) in
     let same : dressed (row_of xs) (from_item ts) ≡ dressed c (from_item ts) = ap (λ x. dressed x (from_item ts)) (sym h.0.1) in
-    faults_trimmed-⊕ (trivia_before ts) (fault n (dressed c (from_item ts)) (trivia_after (is_last n) rest ⊕ later)) (faults_trimmed_trivia ts)
-    (subst (λ (x : Sketch). BeginsWithItem (kinds_in x)) same edges.0,
-     subst (λ (x : Sketch). EndsWithItem (kinds_in x)) same edges.1,
-     subst AreFaultsTrimmed same (faults_trimmed_row xs (from_item ts)),
-     faults_trimmed-⊕ (trivia_after (is_last n) rest) later (faults_trimmed_after (is_last n) rest)
-     (faults_trimmed f (rest_after (is_last n) rest) us (items-rest_after (is_last n) rest ∙ inside.left) h.1))
+    faults_trimmed-⊕ (trivia_before ts) (fault n (dressed c (from_item ts)) (trivia_after (is_last n) rest ⊕ later)) (faults_trimmed_trivia ts) (
+      subst (λ (x : Sketch). BeginsWithItem (kinds_in x)) same edges.0,
+      subst (λ (x : Sketch). EndsWithItem (kinds_in x)) same edges.1,
+      subst AreFaultsTrimmed same (faults_trimmed_row xs (from_item ts)),
+      faults_trimmed-⊕ (trivia_after (is_last n) rest) later (faults_trimmed_after (is_last n) rest)
+          (faults_trimmed f (rest_after (is_last n) rest) us (items-rest_after (is_last n) rest ∙ inside.left) h.1),
+    )
 
 pub whole_trimmed : (f : Sketch) (ts : List Token) → items ts ≡ tokens_in f → AreAlone f → AreFaultsTrimmed (dressed_whole f ts)
 whole_trimmed f ts e h =

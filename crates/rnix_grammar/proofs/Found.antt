@@ -298,8 +298,8 @@ paren_found f claim t u {d = d} {rest = rest} {ts = ts} {us = us} {w = w} n e m 
     let shut : Got (leaf TOKEN_R_PAREN u empty) rest c fs1 us = wanted_found got.left close in
     record {
       forest =
-        ap (λ (x : Lexeme). node NODE_PAREN (leaf x.0 x.1 (forget (a ⊕ c))) empty) e
-        ∙ ap (λ x. node NODE_PAREN (leaf TOKEN_L_PAREN t x) empty) (forget-⊕ a c ∙ ap (λ x. join x (forget c)) got.forest ∙ ap (λ x. join f x) shut.forest);
+          ap (λ (x : Lexeme). node NODE_PAREN (leaf x.0 x.1 (forget (a ⊕ c))) empty) e
+          ∙ ap (λ x. node NODE_PAREN (leaf TOKEN_L_PAREN t x) empty) (forget-⊕ a c ∙ ap (λ x. join x (forget c)) got.forest ∙ ap (λ x. join f x) shut.forest);
       none = both_none got.none shut.none;
       left = shut.left;
     }

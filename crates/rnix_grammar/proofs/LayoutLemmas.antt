@@ -1,11 +1,11 @@
 -- A sketch of items with its trivia.
-use Rattle.std.proofs.Common.{◌≡◌, ℕ, Bool, true, false, List, [], ◌∷◌, ◌++◌, Option, Some, None, refl, ap, sym, ◌∙◌, subst, append_assoc, append-nil}
+use Rattle.std.proofs.Common.{◌≡◌, ℕ, Bool, true, false, List, [], ◌∷◌, ◌++◌, refl, ap, sym, ◌∙◌, append_assoc, append-nil}
 use Rattle.rnix_kinds.specs.declared.kinds.SyntaxKind.{SyntaxKind}
 use Rattle.rnix_kinds.specs.declared.kinds.SyntaxKind.TheVariants.{TOKEN_IDENT, NODE_ERROR}
 use Rattle.rnix_kinds.specs.SyntaxKind.{is_trivia}
-use Rattle.rnix_grammar.specs.Sketch.{Token, Note, TooDeep, Sketch, blank, token, branch, fault, ◌⊕◌, tokens_in, clean, token_if, told, told_as, AreTold, head_of, kind_in, head_kind, lexeme_in, head_lexeme}
+use Rattle.rnix_grammar.specs.Sketch.{Token, Sketch, blank, token, branch, fault, ◌⊕◌, tokens_in, clean, token_if, told_as, AreTold}
 use Rattle.rnix_grammar.specs.Layout.{from_item_if, from_item, trivia_if, trivia_before, item_if, items, tail_of, is_last, trivia_after, rest_after, left_after, dressed, dressed_whole}
-use Rattle.rnix_grammar.proofs.SketchLemmas.{⊕-assoc, ⊕-blank, tokens_in-⊕, tokens_two}
+use Rattle.rnix_grammar.proofs.SketchLemmas.{⊕-blank, tokens_in-⊕, tokens_two}
 
 true_is_not_false : true ≡ false → ⊥
 true_is_not_false h = cc
@@ -175,9 +175,9 @@ dressed_tokens (fault n c f) ts us e =
     behind_trivia ts (left_after f later) (fault n (dressed c (from_item ts)) (trivia_after (is_last n) rest ⊕ dressed f later))
     (append_assoc (tokens_in (dressed c (from_item ts))) (tokens_in (trivia_after (is_last n) rest ⊕ dressed f later)) (left_after f later)
     ∙ ap (λ x. tokens_in (dressed c (from_item ts)) ++ x)
-      (tokens_two (trivia_after (is_last n) rest) (dressed f later) (left_after f later)
-      ∙ ap (λ x. tokens_in (trivia_after (is_last n) rest) ++ x) (dressed_tokens f later us (items-rest_after (is_last n) rest ∙ inside.left))
-      ∙ rest_tokens (is_last n) rest)
+    (tokens_two (trivia_after (is_last n) rest) (dressed f later) (left_after f later)
+    ∙ ap (λ x. tokens_in (trivia_after (is_last n) rest) ++ x) (dressed_tokens f later us (items-rest_after (is_last n) rest ∙ inside.left))
+    ∙ rest_tokens (is_last n) rest)
     ∙ dressed_tokens c (from_item ts) (tokens_in f ++ us) all)
 
 nothing_from : (xs : List Token) → items_head xs ≡ [] → xs ≡ []
@@ -226,9 +226,10 @@ told_dressed p (branch k c f) ts h =
 told_dressed p (fault n c f) ts h =
     let rest = left_after c (from_item ts) in
     let later = dressed f (rest_after (is_last n) rest) in
-    told-⊕ p (trivia_before ts) (fault n (dressed c (from_item ts)) (trivia_after (is_last n) rest ⊕ later)) (told_trivia p ts)
-    (told_dressed NODE_ERROR c (from_item ts) h.0,
-     told-⊕ p (trivia_after (is_last n) rest) later (told_trivia_after p (is_last n) rest) (told_dressed p f (rest_after (is_last n) rest) h.1))
+    told-⊕ p (trivia_before ts) (fault n (dressed c (from_item ts)) (trivia_after (is_last n) rest ⊕ later)) (told_trivia p ts) (
+      told_dressed NODE_ERROR c (from_item ts) h.0,
+      told-⊕ p (trivia_after (is_last n) rest) later (told_trivia_after p (is_last n) rest) (told_dressed p f (rest_after (is_last n) rest) h.1),
+    )
 
 pub told_whole : (p : SyntaxKind) (f : Sketch) (ts : List Token) → AreTold p f → AreTold p (dressed_whole f ts)
 told_whole p f ts h = told-⊕ p (dressed f ts) (trivia_before (left_after f ts)) (told_dressed p f ts h) (told_trivia p (left_after f ts))

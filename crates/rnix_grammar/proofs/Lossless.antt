@@ -1,11 +1,10 @@
 -- What is read is the items, one by one.
 use Rattle.std.proofs.Common.{◌≡◌, ℕ, List, [], ◌∷◌, ◌++◌, refl, ap, sym, ◌∙◌, append_assoc, append-nil}
-use Rattle.rnix_kinds.specs.declared.kinds.SyntaxKind.{SyntaxKind}
 use Rattle.rnix_grammar.specs.declared.level.Level.TheVariants.{Sum, Application}
 use Rattle.rnix_grammar.specs.declared.until.Until.TheVariants.{RParen}
 use Rattle.rnix_grammar.specs.Fault.{Fault}
-use Rattle.rnix_grammar.specs.Sketch.{Token, Sketch, blank, token, branch, fault, ◌⊕◌, row_of, tokens_in}
-use Rattle.rnix_grammar.specs.Reads.{Part, Expression, Operands, More, Simple, Atom, Wanted, Closing, Behind, Whole, operand_of, Reads, expression, too-deep, operands, stop, operator, argument, simple, nothing, literal, name, cur-pos, stray, paren, wanted-now, wanted-later, closed, ended-open, nothing-behind, something-behind, document}
+use Rattle.rnix_grammar.specs.Sketch.{Token, Sketch, token, ◌⊕◌, row_of, tokens_in}
+use Rattle.rnix_grammar.specs.Reads.{Part, Expression, Operands, More, Simple, Atom, Wanted, Closing, Behind, operand_of, Reads, expression, too-deep, operands, stop, operator, argument, simple, nothing, literal, name, cur-pos, stray, paren, wanted-now, wanted-later, closed, ended-open, nothing-behind, something-behind, document}
 use Rattle.rnix_grammar.proofs.SketchLemmas.{tokens_two, tokens_in-row_of}
 
 -- the tokens inside one node, and what is left

@@ -1,21 +1,19 @@
 -- What holds of a text whose items are read as a whole.
-use Rattle.std.proofs.Common.{◌≡◌, ◌⊎◌, inl, inr, ℕ, ◌+◌, ◌<◌, ◌≤◌, Bool, true, false, List, [], ◌∷◌, ◌++◌, map, Option, Some, None, refl, ap, sym, ◌∙◌, subst, append-nil, arith}
-use Rattle.std.specs.Prelude.{◌↔◌, if◌then◌else◌}
+use Rattle.std.proofs.Common.{◌≡◌, ℕ, ◌+◌, ◌≤◌, true, List, [], ◌∷◌, ◌++◌, Option, None, refl, ap, sym, ◌∙◌, subst, append-nil, arith}
+use Rattle.std.specs.Prelude.{if◌then◌else◌}
 use Rattle.rnix_kinds.specs.declared.kinds.SyntaxKind.{SyntaxKind}
 use Rattle.rnix_kinds.specs.declared.kinds.SyntaxKind.TheVariants.{TOKEN_IDENT, NODE_ROOT, NODE_ERROR}
 use Rattle.rnix_kinds.specs.Lexical.Tokens.{Lexeme}
 use Rattle.rnix_tree.specs.Forest.{Forest, empty, node}
-use Rattle.rnix_tree.specs.Tree.{Tree}
 use Rattle.rnix_grammar.specs.Fault.{Fault}
-use Rattle.rnix_grammar.specs.Tables.{depth_limit}
-use Rattle.rnix_grammar.specs.Sketch.{Token, Sketch, blank, token, branch, fault, ◌⊕◌, row_of, tokens_in, forget, clean, placed_from, told_as, told, AreTold, lexeme_of}
-use Rattle.rnix_grammar.specs.Layout.{items, left_after, dressed_whole}
-use Rattle.rnix_grammar.specs.Rows.{Place, RootStart, RootEnd, run, whole, is_row, live, missing, Stands, end, leaf, wrong, inner}
-use Rattle.rnix_grammar.specs.Reads.{Part, Expression, Behind, Whole, Reads, nothing-behind, something-behind, document}
+use Rattle.rnix_grammar.specs.Sketch.{Token, Sketch, blank, row_of, tokens_in, forget, clean, placed_from, told_as, AreTold}
+use Rattle.rnix_grammar.specs.Layout.{items, dressed_whole}
+use Rattle.rnix_grammar.specs.Rows.{Place, RootStart, RootEnd, whole, is_row, missing, Stands, end, leaf, wrong, inner}
+use Rattle.rnix_grammar.specs.Reads.{Behind, Whole, Reads, nothing-behind, something-behind, document}
 use Rattle.rnix_grammar.specs.Mended.{mended, kinds_of, halves, AreBegun, ended_count, others, AreSettled, NoneEnded}
-use Rattle.rnix_grammar.specs.Shape.{item_kinds, AreShaped, IsShaped, AreFaultsTrimmed, reports}
-use Rattle.rnix_grammar.specs.Strict.{IsExpression, yield, nesting}
-use Rattle.rnix_grammar.specs.Parsed.{items_of, IsDerived, StandsWhole, IsParsed}
+use Rattle.rnix_grammar.specs.Shape.{IsShaped, AreFaultsTrimmed, reports}
+use Rattle.rnix_grammar.specs.Strict.{IsExpression}
+use Rattle.rnix_grammar.specs.Parsed.{IsDerived, StandsWhole, IsParsed}
 use Rattle.rnix_grammar.proofs.RowLemmas.{Row}
 use Rattle.rnix_grammar.proofs.Lossless.{lossless}
 use Rattle.rnix_grammar.proofs.Sounds.{AtRoot, sounds}

@@ -1,14 +1,11 @@
 -- The children of a node that is being read, against its row.
-use Rattle.std.proofs.Common.{◌≡◌, ◌⊎◌, inl, inr, ℕ, suc, ◌+◌, ◌<◌, ◌≤◌, Bool, true, false, List, [], ◌∷◌, ◌++◌, length, Option, Some, None, refl, ap, sym, ◌∙◌, subst, append_assoc, append-nil, arith, length-append}
+use Rattle.std.proofs.Common.{◌≡◌, ◌⊎◌, inl, inr, ℕ, suc, ◌+◌, Bool, true, false, List, [], ◌∷◌, ◌++◌, length, Option, Some, None, refl, ap, sym, ◌∙◌, subst, append_assoc, append-nil, arith, length-append}
 use Rattle.rnix_kinds.specs.declared.kinds.SyntaxKind.{SyntaxKind}
-use Rattle.rnix_kinds.specs.declared.kinds.SyntaxKind.TheVariants.{NODE_LITERAL}
 use Rattle.rnix_tree.specs.Forest.{Forest, empty, node}
 use Rattle.rnix_grammar.specs.declared.level.Level.{Level}
-use Rattle.rnix_grammar.specs.declared.level.Level.TheVariants.{Sum}
-use Rattle.rnix_grammar.specs.Fault.{Fault, ended, ended_before, too_deep}
-use Rattle.rnix_grammar.specs.Tables.{depth_limit}
-use Rattle.rnix_grammar.specs.Sketch.{Token, Note, TooDeep, Sketch, blank, token, branch, fault, ◌⊕◌, one_token, one_branch, one_fault, row_of, tokens_in, told}
-use Rattle.rnix_grammar.specs.Rows.{Place, go, start, whole, live, missing, Past, patched, seen_as, report, is_error, is_operand, IsBeside, Stands, end, leaf, wrong, inner}
+use Rattle.rnix_grammar.specs.Fault.{Fault, ended}
+use Rattle.rnix_grammar.specs.Sketch.{Token, Sketch, blank, token, branch, fault, ◌⊕◌, one_token, one_branch, tokens_in, told}
+use Rattle.rnix_grammar.specs.Rows.{Place, go, start, whole, live, missing, Past, seen_as, is_error, Stands, end, leaf, wrong, inner}
 use Rattle.rnix_grammar.specs.Mended.{NoneEnded, mended}
 use Rattle.rnix_grammar.specs.Strict.{IsStrict}
 use Rattle.rnix_grammar.proofs.SketchLemmas.{⊕-blank, tokens_two, tokens_in-row_of}
@@ -136,7 +133,7 @@ row_operand q q' r missed h l m d = row_due ended r (m refl)
 row_operand {Deeper = Deeper} {k = k} q q' {g = g} {ds = ds} {us = us} r (stood j c s e z) h l m d =
     row_more r e
     (λ a i n b deep e'.
-        subst (λ (x : Place). Stands k a q x b n us g ds) (h j c) (s k a n q b (subst (λ (x : ℕ). Deeper a x) (sym e') (d a i deep))))
+    subst (λ (x : Place). Stands k a q x b n us g ds) (h j c) (s k a n q b (subst (λ (x : ℕ). Deeper a x) (sym e') (d a i deep))))
     l
 
 -- a node whose row is at its end
@@ -152,6 +149,7 @@ row_node {Deep = Deep} class l k {f = f} {es = es} {ts = ts} {us = us} r n c w e
   where
     ends : (whole r.reached ≡ true) ⊎ (us ≡ [])
     ends = elim r.at [ inl x ↦ inl (ap whole x.0) | inr x ↦ inr x ]
+
     errors : es ≡ (r.inside ++ missing r.reached) ++ []
     errors = sym (append-nil (r.inside ++ missing r.reached) ∙ ap (λ x. r.inside ++ x) (r.owes ∙ append-nil r.due) ∙ r.errors)
 

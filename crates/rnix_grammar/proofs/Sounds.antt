@@ -1,5 +1,5 @@
 -- What is read stands as it may, its errors are those of its trees, and mended it is strict.
-use Rattle.std.proofs.Common.{◌≡◌, ◌⊎◌, inl, inr, ℕ, zero, suc, ◌+◌, ◌<◌, ◌≤◌, Bool, true, false, List, [], ◌∷◌, ◌++◌, length, Option, Some, None, refl, ap, sym, ◌∙◌, subst, append_assoc, append-nil, arith}
+use Rattle.std.proofs.Common.{◌≡◌, inl, ℕ, suc, ◌+◌, ◌<◌, ◌≤◌, Bool, true, false, List, [], ◌∷◌, ◌++◌, length, Option, Some, None, refl, ap, sym, ◌∙◌, subst, append_assoc, append-nil, arith}
 use Rattle.std.specs.Prelude.{codes, if◌then◌else◌}
 use Rattle.rnix_kinds.specs.declared.kinds.SyntaxKind.{SyntaxKind}
 use Rattle.rnix_kinds.specs.declared.kinds.SyntaxKind.TheVariants.{TOKEN_ADD, TOKEN_MUL, TOKEN_L_PAREN, TOKEN_R_PAREN, TOKEN_INTEGER, TOKEN_IDENT, TOKEN_CUR_POS, NODE_ROOT, NODE_BIN_OP, NODE_APPLY, NODE_PAREN, NODE_LITERAL, NODE_IDENT, NODE_CUR_POS}
@@ -7,19 +7,18 @@ use Rattle.rnix_tree.specs.Forest.{Forest, empty, leaf, node, join}
 use Rattle.rnix_tree.proofs.ForestLemmas.{join-empty}
 use Rattle.rnix_grammar.specs.declared.level.Level.{Level}
 use Rattle.rnix_grammar.specs.declared.level.Level.TheVariants.{Sum, Product, Application}
-use Rattle.rnix_grammar.specs.declared.begin.Begin.{Begin}
 use Rattle.rnix_grammar.specs.declared.begin.Begin.TheVariants as b
 use Rattle.rnix_grammar.specs.declared.until.Until.{Until}
 use Rattle.rnix_grammar.specs.declared.until.Until.TheVariants.{RParen, End}
 use Rattle.rnix_grammar.specs.Fault.{Fault, ended, ended_before, too_deep}
 use Rattle.rnix_grammar.specs.Tables.{begin_of, goes_on, stops, wanted_kinds, is_cur_pos, depth_limit}
-use Rattle.rnix_grammar.specs.Sketch.{Token, Note, Stray, Unwanted, Extra, TooDeep, Sketch, blank, token, branch, fault, ◌⊕◌, one_token, one_branch, one_fault, leaf_of, row_of, tokens_in, told, told_as, head_kind, lexeme_of}
-use Rattle.rnix_grammar.specs.Rows.{is_error, is_simple, is_operand, is_infix, is_l_paren, is_r_paren, is_integer, is_ident, is_cur_pos_token, Place, RootStart, RootEnd, LiteralStart, IdentStart, CurPosStart, BinStart, BinOperator, BinEnd, ApplyStart, ApplyEnd, ParenStart, ParenInside, ParenEnd, Past, to, go, start, live, missing, report, AreUnwanted, IsBeside, Stands, end, leaf, wrong, inner, continues}
+use Rattle.rnix_grammar.specs.Sketch.{Token, Stray, Unwanted, Extra, TooDeep, Sketch, blank, token, fault, ◌⊕◌, one_token, one_branch, one_fault, leaf_of, row_of, tokens_in, told, told_as, head_kind, lexeme_of}
+use Rattle.rnix_grammar.specs.Rows.{is_error, is_simple, is_operand, is_infix, is_l_paren, is_r_paren, is_integer, is_ident, Place, RootStart, RootEnd, BinStart, BinOperator, BinEnd, ApplyStart, ApplyEnd, ParenInside, ParenEnd, Past, to, go, start, live, missing, report, AreUnwanted, end, leaf, wrong}
 use Rattle.rnix_grammar.specs.Reads.{Part, Expression, Operands, More, Simple, Atom, Wanted, Closing, Behind, Whole, operand_of, has_operator, Reads, expression, too-deep, operands, stop, operator, argument, simple, nothing, literal, name, cur-pos, stray, paren, wanted-now, wanted-later, closed, ended-open, nothing-behind, something-behind, document}
-use Rattle.rnix_grammar.specs.Mended.{NoneEnded, mended, is_ended}
+use Rattle.rnix_grammar.specs.Mended.{NoneEnded, mended}
 use Rattle.rnix_grammar.specs.Strict.{tighter, IsStrict, tight, binary, applied, number, named, position, enclosed, IsExpression}
 use Rattle.rnix_grammar.proofs.SketchLemmas.{⊕-assoc, ⊕-blank, tokens_two, tokens_in-row_of, mended-⊕}
-use Rattle.rnix_grammar.proofs.RowLemmas.{Operand, missed, stood, Row, row_start, row_add, row_more, row_token, row_due, row_operand, row_node, Head, operand_tokens, operand_head, operand_strict, operand_as}
+use Rattle.rnix_grammar.proofs.RowLemmas.{Operand, missed, stood, Row, row_start, row_add, row_more, row_token, row_due, row_operand, row_node, operand_tokens, operand_head, operand_strict, operand_as}
 use Rattle.rnix_grammar.proofs.Lossless.{lossless}
 use Rattle.rnix_grammar.proofs.StopsLemmas.{Stops, stops_expression, not_continuing}
 
@@ -169,7 +168,7 @@ binary_case {d = d} l {f = f} {g = g} {ds = ds} {es = es} {t = t} {ts0 = ts0} {u
     row_node (class_of l) (Some l) NODE_BIN_OP r4 refl (operand_class l NODE_BIN_OP h refl) (operand_head x)
     (operand_tokens x ∙ ap (λ z. tokens_in f ++ (t ∷ z)) (operand_tokens y) ∙ sym (tokens_two f (token t.kind t g) vs))
     (λ n. subst (λ (z : Forest). IsStrict (Some l) (node NODE_BIN_OP z empty)) (sym (mended-⊕ f (token t.kind t g)))
-        (binary t.kind t.text h o (operand_strict x (noneended-left ds es n)) (operand_strict y (noneended-right ds es n))))
+    (binary t.kind t.text h o (operand_strict x (noneended-left ds es n)) (operand_strict y (noneended-right ds es n))))
     (λ a i n. deeper d a i n)
 
 -- a function with an argument
@@ -185,7 +184,7 @@ applied_case {d = d} {f = f} {g = g} {ds = ds} {es = es} {ts0 = ts0} {us = t ∷
     row_node is_simple (Some Application) NODE_APPLY r2 refl refl (operand_head x)
     (operand_tokens x ∙ ap (λ z. tokens_in f ++ z) (operand_tokens y) ∙ sym (tokens_two f g vs))
     (λ n. subst (λ (z : Forest). IsStrict (Some Application) (node NODE_APPLY z empty)) (sym (mended-⊕ f g))
-        (applied (operand_strict x (noneended-left ds es n)) (operand_strict y (noneended-right ds es n))))
+    (applied (operand_strict x (noneended-left ds es n)) (operand_strict y (noneended-right ds es n))))
     (λ a i n. deeper d a i n)
 
 -- a node over one token
@@ -219,8 +218,8 @@ row_inner q q' r p z (found_one x) h l m c = row_operand q q' r x h l (λ _. m) 
 row_inner {d = d} {k = k} q q' {f = f} r p z (lost limit) h l m c =
     row_add r p z refl
     (λ a i j b deep e.
-        let w = c a i deep in
-        wrong TooDeep [] refl refl (refl, (let x : d < a = w.0 in omega arith), (let y : d ≤ i + length (tokens_in f) = w.1 in omega arith)) (h NODE_LITERAL refl) refl end refl)
+    let w = c a i deep in
+    wrong TooDeep [] refl refl (refl, (let x : d < a = w.0 in omega arith), (let y : d ≤ i + length (tokens_in f) = w.1 in omega arith)) (h NODE_LITERAL refl) refl end refl)
     l
 
 inner_tokens : {d : ℕ} {f : Sketch} {es : List Fault} {ts us : List Token} → Inner d ts f es us → ts ≡ tokens_in f ++ us
@@ -327,11 +326,11 @@ paren_case {d = d} {f = f} {g = g} {es = es} {fs = fs} {t = t} {ts = ts} {us = u
     row_node is_simple None NODE_PAREN r3.0 refl refl (record { token = t; more = ts; is = refl })
     (ap (λ x. t ∷ x) (inner_tokens a ∙ ap (λ x. tokens_in f ++ x) e ∙ sym (tokens_two f g vs)))
     (λ n.
-        let c : IsClosed g = r3.1 (noneended-right es fs n) in
-        let inside : mended (f ⊕ g) ≡ join (mended f) (leaf TOKEN_R_PAREN c.0 empty) = mended-⊕ f g ∙ ap (join (mended f)) c.1 in
-        subst (λ (x : Forest). IsStrict None (node NODE_PAREN (leaf t.kind t.text x) empty)) (sym inside)
-        (subst (λ (x : SyntaxKind). IsStrict None (node NODE_PAREN (leaf x t.text (join (mended f) (leaf TOKEN_R_PAREN c.0 empty))) empty)) (sym k)
-        (enclosed t.text c.0 (inner_strict a (noneended-left es fs n)))))
+    let c : IsClosed g = r3.1 (noneended-right es fs n) in
+    let inside : mended (f ⊕ g) ≡ join (mended f) (leaf TOKEN_R_PAREN c.0 empty) = mended-⊕ f g ∙ ap (join (mended f)) c.1 in
+    subst (λ (x : Forest). IsStrict None (node NODE_PAREN (leaf t.kind t.text x) empty)) (sym inside)
+    (subst (λ (x : SyntaxKind). IsStrict None (node NODE_PAREN (leaf x t.text (join (mended f) (leaf TOKEN_R_PAREN c.0 empty))) empty)) (sym k)
+    (enclosed t.text c.0 (inner_strict a (noneended-left es fs n)))))
     (λ n i deep. (omega (arith, deep.0), deep.1))
 
 -- tokens that are not wanted, before one that is
@@ -349,20 +348,30 @@ unwanted_case {d = d} {g = g} {fs = fs} {us = us} {vs = vs} t ran w o close h ds
 
 closed_case : (d : ℕ) (t : Token) (ts : List Token) → stops RParen (Some t.kind) ≡ true → Goal d (Closing RParen) blank (t ∷ ts) (leaf_of t) [] ts
 closed_case d t ts o h ds r =
-    let k : t.kind ≡ TOKEN_R_PAREN = closing_kind t.kind o in
-    (row_token t.kind t r (ap (λ x. x) k ∙ sym (ap (λ x. told_as NODE_PAREN t.text x) k)) (ap (λ x. to (is_r_paren x) Past) k) refl,
-     λ n. (t.text, ap (λ x. leaf x t.text empty) k))
+    let k : t.kind ≡ TOKEN_R_PAREN = closing_kind t.kind o in (
+      row_token t.kind t r (ap (λ x. x) k ∙ sym (ap (λ x. told_as NODE_PAREN t.text x) k)) (ap (λ x. to (is_r_paren x) Past) k) refl,
+      λ n. (t.text, ap (λ x. leaf x t.text empty) k),
+    )
 
 -- tokens behind the root's expression
 behind_case : (t : Token) (ts : List Token) → Goal 0 Behind blank (t ∷ ts) (one_fault Extra (row_of (t ∷ ts))) (report Extra (t ∷ ts) ∷ []) []
-behind_case t ts h ds r s =
-    (row_more r (sym (append-nil _ ∙ append-nil (t ∷ tokens_in (row_of ts)) ∙ ap (λ x. t ∷ x) (tokens_in-row_of ts)))
-    (λ a i j b deep n. wrong Extra (t ∷ ts) refl refl (refl, refl, not_continuing t.kind b s.0 s.1 s.2) refl refl end refl) refl, refl)
+behind_case t ts h ds r s = (
+  row_more r (sym (append-nil _ ∙ append-nil (t ∷ tokens_in (row_of ts)) ∙ ap (λ x. t ∷ x) (tokens_in-row_of ts)))
+      (λ a i j b deep n. wrong Extra (t ∷ ts) refl refl (refl, refl, not_continuing t.kind b s.0 s.1 s.2) refl refl end refl) refl,
+  refl,
+)
 
 whole_case : {f g : Sketch} {es fs : List Fault} {ts us vs : List Token} → Inner 0 ts f es us → Stops Sum us → Goal 0 Behind blank us g fs vs → Goal 0 Whole blank ts (f ⊕ g) (es ++ fs) vs
 whole_case {f = f} {g = g} {es = es} {fs = fs} {ts = ts} {us = us} a s behind =
     let start_ : Row AtRoot NODE_ROOT RootStart blank [] ts = record {
-      reached = RootStart; inside = []; due = []; stands = λ n i deep. end; errors = refl; owes = refl; at = inl (refl, refl); lives = refl;
+      reached = RootStart;
+      inside = [];
+      due = [];
+      stands = λ n i deep. end;
+      errors = refl;
+      owes = refl;
+      at = inl (refl, refl);
+      lives = refl;
     } in
     let r : Row AtRoot NODE_ROOT RootEnd (blank ⊕ f) ([] ++ es) us =
     row_inner {C = AtRoot} RootStart RootEnd start_ refl refl a (λ j c. ap (λ x. to x RootEnd) c) refl refl (λ n i deep. (omega (arith, deep.0), omega arith)) in

@@ -1,9 +1,9 @@
 -- The errors of a row that stands as it may.
-use Rattle.std.proofs.Common.{◌≡◌, ◌⊎◌, inl, inr, ℕ, Bool, true, false, List, [], ◌∷◌, ◌++◌, Option, Some, None, refl, ap, sym, ◌∙◌, subst, append-nil}
+use Rattle.std.proofs.Common.{◌≡◌, ◌⊎◌, inl, inr, ℕ, true, false, List, [], ◌∷◌, ◌++◌, Option, refl, ap, sym, ◌∙◌, subst, append-nil}
 use Rattle.std.specs.Prelude.{if◌then◌else◌}
 use Rattle.rnix_kinds.specs.declared.kinds.SyntaxKind.{SyntaxKind}
 use Rattle.rnix_grammar.specs.Fault.{Fault}
-use Rattle.rnix_grammar.specs.Sketch.{Token, Note, Stray, Unwanted, Extra, TooDeep, Sketch, blank, token, branch, fault, row_of, tokens_in}
+use Rattle.rnix_grammar.specs.Sketch.{Token, Note, Stray, Unwanted, Extra, TooDeep, Sketch, row_of, tokens_in}
 use Rattle.rnix_grammar.specs.Rows.{Place, RootEnd, ParenInside, ParenEnd, Past, missing, whole, report, IsBeside, Stands, end, leaf, wrong, inner}
 use Rattle.rnix_grammar.specs.Mended.{is_ended, others, is_misplaced, NoneMisplaced, AreSettled}
 use Rattle.rnix_grammar.specs.Shape.{reports}

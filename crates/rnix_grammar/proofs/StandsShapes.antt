@@ -1,13 +1,13 @@
 -- The rows of a sketch without trivia that stands as it may, and of its mended tree.
-use Rattle.std.proofs.Common.{◌≡◌, ◌⊎◌, inl, inr, ℕ, zero, suc, ◌+◌, ◌≤◌, Bool, true, false, List, [], ◌∷◌, ◌++◌, Option, Some, None, refl, ap, sym, ◌∙◌, subst, append-nil, arith}
+use Rattle.std.proofs.Common.{◌≡◌, ℕ, ◌+◌, ◌≤◌, true, false, List, [], ◌∷◌, ◌++◌, Option, refl, ap, sym, ◌∙◌, subst, arith}
 use Rattle.std.specs.Prelude.{if◌then◌else◌}
 use Rattle.rnix_kinds.specs.declared.kinds.SyntaxKind.{SyntaxKind}
-use Rattle.rnix_kinds.specs.declared.kinds.SyntaxKind.TheVariants.{TOKEN_ADD, TOKEN_L_PAREN, TOKEN_R_PAREN, TOKEN_INTEGER, TOKEN_IDENT, TOKEN_CUR_POS, NODE_LITERAL, NODE_ERROR}
-use Rattle.rnix_tree.specs.Forest.{Forest, empty, leaf as tree_leaf, node}
+use Rattle.rnix_kinds.specs.declared.kinds.SyntaxKind.TheVariants.{TOKEN_ADD, TOKEN_L_PAREN, TOKEN_R_PAREN, TOKEN_INTEGER, TOKEN_IDENT, TOKEN_CUR_POS, NODE_LITERAL}
+use Rattle.rnix_tree.specs.Forest.{Forest}
 use Rattle.rnix_grammar.specs.Fault.{Fault}
-use Rattle.rnix_grammar.specs.Sketch.{Token, Note, Stray, Unwanted, Extra, TooDeep, Sketch, blank, token, branch, fault, row_of, tokens_in, forget}
-use Rattle.rnix_grammar.specs.Rows.{Place, RootStart, RootEnd, LiteralStart, IdentStart, CurPosStart, BinStart, BinOperator, BinEnd, ApplyStart, ApplyEnd, ParenStart, ParenInside, ParenEnd, Past, Nowhere, go, start, run, is_row, IsBeginning, live, missing, whole, patched, report, Stands, end, leaf, wrong, inner}
-use Rattle.rnix_grammar.specs.Mended.{patch, mended, kinds_of, halves, AreBegun, is_ended, ended_count}
+use Rattle.rnix_grammar.specs.Sketch.{Token, Note, Stray, Unwanted, Extra, TooDeep, Sketch, blank, token, branch, fault, forget}
+use Rattle.rnix_grammar.specs.Rows.{Place, RootStart, RootEnd, LiteralStart, IdentStart, CurPosStart, BinStart, BinOperator, BinEnd, ApplyStart, ApplyEnd, ParenStart, ParenInside, ParenEnd, Past, Nowhere, start, run, is_row, IsBeginning, live, missing, whole, patched, report, Stands, end, leaf, wrong, inner}
+use Rattle.rnix_grammar.specs.Mended.{patch, mended, kinds_of, halves, AreBegun, ended_count}
 use Rattle.rnix_grammar.proofs.StandsFaults.{whole_owes_none}
 
 true_is_not_false : true ≡ false → ⊥

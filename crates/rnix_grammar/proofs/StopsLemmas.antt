@@ -1,13 +1,13 @@
 -- What may follow a part that was read.
-use Rattle.std.proofs.Common.{◌≡◌, ℕ, Bool, true, false, ◌||◌, List, [], ◌∷◌, Option, Some, None, refl, ap, sym, ◌∙◌}
+use Rattle.std.proofs.Common.{◌≡◌, ℕ, Bool, true, false, ◌||◌, List, Option, Some, None, refl, ap, ◌∙◌}
 use Rattle.rnix_kinds.specs.declared.kinds.SyntaxKind.{SyntaxKind}
 use Rattle.rnix_grammar.specs.declared.level.Level.{Level}
 use Rattle.rnix_grammar.specs.declared.level.Level.TheVariants.{Sum, Product, Application}
 use Rattle.rnix_grammar.specs.Fault.{Fault}
 use Rattle.rnix_grammar.specs.Tables.{goes_on}
 use Rattle.rnix_grammar.specs.Sketch.{Token, Sketch, head_kind}
-use Rattle.rnix_grammar.specs.Rows.{is_simple, is_operand, is_operator, continues, continues_kind}
-use Rattle.rnix_grammar.specs.Reads.{Part, Expression, Operands, More, Simple, operand_of, Reads, expression, too-deep, operands, stop, operator, argument, simple, nothing, literal, name, cur-pos, stray, paren, wanted-now, wanted-later, closed, ended-open, nothing-behind, something-behind, document}
+use Rattle.rnix_grammar.specs.Rows.{is_simple, is_operand, is_operator, continues}
+use Rattle.rnix_grammar.specs.Reads.{Part, Expression, Operands, More, operand_of, Reads, expression, too-deep, operands, stop, operator, argument, simple, nothing, literal, name, cur-pos, stray, paren, wanted-now, wanted-later, closed, ended-open, nothing-behind, something-behind, document}
 use Rattle.std.specs.Prelude.{if◌then◌else◌}
 
 -- no operator of the level or a tighter one goes on, and no argument

@@ -1,18 +1,16 @@
 -- The shape of a whole tree, with its trivia.
-use Rattle.std.proofs.Common.{◌≡◌, ℕ, Bool, true, false, List, [], ◌∷◌, ◌++◌, map, Option, Some, None, refl, ap, sym, ◌∙◌, subst, append_assoc, append-nil}
+use Rattle.std.proofs.Common.{◌≡◌, ℕ, Bool, true, false, List, [], ◌∷◌, ◌++◌, map, refl, ap, sym, ◌∙◌, subst, append_assoc, append-nil}
 use Rattle.std.specs.Prelude.{if◌then◌else◌}
 use Rattle.rnix_kinds.specs.declared.kinds.SyntaxKind.{SyntaxKind}
 use Rattle.rnix_kinds.specs.declared.kinds.SyntaxKind.TheVariants.{TOKEN_IDENT, TOKEN_CUR_POS, NODE_ROOT, NODE_LITERAL, NODE_IDENT, NODE_CUR_POS, NODE_BIN_OP, NODE_APPLY, NODE_PAREN, NODE_ERROR}
 use Rattle.rnix_kinds.specs.SyntaxKind.{is_trivia}
-use Rattle.rnix_tree.specs.Forest.{Forest, empty, leaf as tree_leaf, node}
 use Rattle.rnix_grammar.specs.Tables.{is_cur_pos}
-use Rattle.rnix_grammar.specs.Sketch.{Token, Note, Sketch, blank, token, branch, fault, ◌⊕◌, tokens_in, forget, clean, token_if, told, told_as, told_name, AreTold}
+use Rattle.rnix_grammar.specs.Sketch.{Token, Sketch, blank, token, branch, fault, ◌⊕◌, tokens_in, forget, clean, token_if, told, told_as, told_name, AreTold}
 use Rattle.rnix_grammar.specs.Layout.{from_item, trivia_before, trivia_if, items, tail_of, left_after, dressed, dressed_whole}
-use Rattle.rnix_grammar.specs.Rows.{Place, Nowhere, go, start, run, whole, is_row}
+use Rattle.rnix_grammar.specs.Rows.{Nowhere, run, whole, is_row}
 use Rattle.rnix_grammar.specs.Mended.{kinds_of}
-use Rattle.rnix_grammar.specs.Shape.{item_kinds, BeginsWithItem, EndsWithItem, leaf_kinds, AreShaped, token_kinds}
-use Rattle.rnix_grammar.proofs.SketchLemmas.{tokens_in-⊕, forget-⊕}
-use Rattle.rnix_grammar.proofs.LayoutLemmas.{IsFirst, first_item, IsBared, bared, items-from_item, trivia-from_item}
+use Rattle.rnix_grammar.specs.Shape.{item_kinds, BeginsWithItem, EndsWithItem, leaf_kinds, AreShaped}
+use Rattle.rnix_grammar.proofs.LayoutLemmas.{IsFirst, first_item, bared, items-from_item, trivia-from_item}
 use Rattle.rnix_grammar.proofs.StandsShapes.{AreRows}
 use Rattle.rnix_grammar.proofs.EdgeLemmas.{IsSome, some, ends_behind, some_behind, token_kinds-++, kinds_in, kinds_in-⊕}
 
@@ -203,11 +201,13 @@ rows_if false k t f h = h
 pub tree_shaped : (p : SyntaxKind) (f : Sketch) → AreTold p f → AreTrimmed f → AreRows (clean f) → AreShaped (forget f)
 tree_shaped p blank h t r = tt
 tree_shaped p (token k t f) h s r = tree_shaped p f h.1 s (rows_if (is_trivia t.kind) k t (clean f) r)
-tree_shaped p (branch k c f) h s r =
-    (ap (is_row k) (sym (clean_kinds k c h.0)) ∙ r.0,
-     begins_same (leaf_kinds (forget c)) (kinds_in c) (same_trivia k c h.0) s.0,
-     ends_same (leaf_kinds (forget c)) (kinds_in c) (same_trivia k c h.0) s.1,
-     tree_shaped k c h.0 s.2 r.1, tree_shaped p f h.1 s.3 r.2)
+tree_shaped p (branch k c f) h s r = (
+  ap (is_row k) (sym (clean_kinds k c h.0)) ∙ r.0,
+  begins_same (leaf_kinds (forget c)) (kinds_in c) (same_trivia k c h.0) s.0,
+  ends_same (leaf_kinds (forget c)) (kinds_in c) (same_trivia k c h.0) s.1,
+  tree_shaped k c h.0 s.2 r.1,
+  tree_shaped p f h.1 s.3 r.2,
+)
 tree_shaped p (fault n c f) h s r = absurd r
 
 -- and back

@@ -1,7 +1,7 @@
 -- Where trivia stand: before a node's first item they stand before the node.
-use Rattle.std.specs.Prelude.{ℕ, Bool, true, false, List, [], ◌∷◌, Option, Some, None}
+use Rattle.std.specs.Prelude.{Bool, true, false, List, [], ◌∷◌}
 use Rattle.rnix_kinds.specs.SyntaxKind.{is_trivia}
-use Rattle.rnix_grammar.specs.Sketch.{Token, Note, Stray, Unwanted, Extra, TooDeep, Sketch, blank, token, branch, fault, ◌⊕◌, one_token, one_branch, one_fault}
+use Rattle.rnix_grammar.specs.Sketch.{Token, Note, TooDeep, Sketch, blank, token, branch, fault, ◌⊕◌}
 
 -- the tokens from the first item on
 abbrev pub from_item_if : Bool → Token → List Token → List Token → List Token
@@ -62,7 +62,7 @@ dressed (branch k c f) ts = trivia_before ts ⊕ branch k (dressed c (from_item 
 dressed (fault n c f) ts =
     trivia_before ts
     ⊕ fault n (dressed c (from_item ts))
-      (trivia_after (is_last n) (left_after c (from_item ts)) ⊕ dressed f (rest_after (is_last n) (left_after c (from_item ts))))
+    (trivia_after (is_last n) (left_after c (from_item ts)) ⊕ dressed f (rest_after (is_last n) (left_after c (from_item ts))))
 
 -- a whole text: the trivia behind the last item stand in the root
 abbrev pub dressed_whole : Sketch → List Token → Sketch

@@ -1,10 +1,10 @@
 -- The tree with its faults mended, and which of its nodes are whole.
-use Rattle.std.specs.Prelude.{◌≡◌, ℕ, ◌+◌, Bool, true, false, not, List, [], ◌∷◌, ◌++◌, codes, filter, if◌then◌else◌}
+use Rattle.std.specs.Prelude.{◌≡◌, ℕ, ◌+◌, Bool, true, false, List, [], ◌∷◌, codes, if◌then◌else◌}
 use Rattle.rnix_kinds.specs.declared.kinds.SyntaxKind.{SyntaxKind}
 use Rattle.rnix_kinds.specs.declared.kinds.SyntaxKind.TheVariants.{TOKEN_INTEGER, NODE_LITERAL}
 use Rattle.rnix_tree.specs.Forest.{Forest, empty, leaf, node}
 use Rattle.rnix_grammar.specs.Fault.{Fault, extra, unwanted, ended, ended_before}
-use Rattle.rnix_grammar.specs.Sketch.{Note, Stray, Unwanted, Extra, TooDeep, Sketch, blank, token, branch, fault}
+use Rattle.rnix_grammar.specs.Sketch.{Note, Stray, TooDeep, Sketch, blank, token, branch, fault}
 use Rattle.rnix_grammar.specs.Rows.{is_row, IsBeginning}
 
 -- an error node in an operand's place becomes a number, others go

@@ -1,12 +1,12 @@
 -- What holds of the tokens of a text, its tree and its errors.
-use Rattle.std.specs.Prelude.{◌≡◌, ◌⊎◌, ◌↔◌, ℕ, ◌<◌, ◌≤◌, Bool, true, false, List, [], ◌∷◌, ◌++◌, Option, Some, None, map}
+use Rattle.std.specs.Prelude.{◌≡◌, ◌↔◌, ◌<◌, ◌≤◌, true, List, [], ◌++◌, None, map}
 use Rattle.rnix_kinds.specs.declared.kinds.SyntaxKind.TheVariants.{NODE_ROOT}
 use Rattle.rnix_kinds.specs.Lexical.Tokens.{Lexeme}
 use Rattle.rnix_tree.specs.Forest.{Forest, empty, node}
 use Rattle.rnix_tree.specs.Tree.{Tree}
 use Rattle.rnix_grammar.specs.Fault.{Fault}
 use Rattle.rnix_grammar.specs.Tables.{depth_limit}
-use Rattle.rnix_grammar.specs.Sketch.{Token, Sketch, forget, tokens_in, clean, placed_from, AreTold, lexeme_of}
+use Rattle.rnix_grammar.specs.Sketch.{Sketch, forget, tokens_in, clean, placed_from, AreTold, lexeme_of}
 use Rattle.rnix_grammar.specs.Layout.{items}
 use Rattle.rnix_grammar.specs.Rows.{Place, RootStart, missing, live, Stands}
 use Rattle.rnix_grammar.specs.Mended.{mended, halves, AreBegun, ended_count, others, AreSettled, NoneEnded}

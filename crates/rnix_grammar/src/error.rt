@@ -59,10 +59,7 @@ impl ParseError {
 }
 
 // Each further kind of a list, behind a comma.
-fn write_more_kinds<W: fmt::Write>(
-    kinds: &[SyntaxKind],
-    f: &mut fmt::Formatter<W>,
-) -> fmt::Result
+fn write_more_kinds<W: fmt::Write>(kinds: &[SyntaxKind], f: &mut fmt::Formatter<W>) -> fmt::Result
     ensures { DisplaysOnOk W.write_str_gives f.old result (Some (more_kinds_text kinds.now)) f.new }
 {
     for kind in kinds {

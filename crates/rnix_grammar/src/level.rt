@@ -25,9 +25,7 @@ pub fn goes_on(level: Level, next: Option<SyntaxKind>) -> bool
         Level::Product => matches!(next, Some(SyntaxKind::TOKEN_MUL)),
         Level::Application => matches!(
             next,
-            Some(
-                SyntaxKind::TOKEN_L_PAREN | SyntaxKind::TOKEN_INTEGER | SyntaxKind::TOKEN_IDENT
-            )
+            Some(SyntaxKind::TOKEN_L_PAREN | SyntaxKind::TOKEN_INTEGER | SyntaxKind::TOKEN_IDENT)
         ),
     }
 }

@@ -22,11 +22,11 @@ mod string;
 mod text;
 mod word;
 
+use self::ahead::{Ahead, look_ahead, passed};
 use self::modes::Modes;
 use self::normal::normal;
 use self::path::path;
 use self::rule::{Cut, Mode};
-use self::ahead::{Ahead, look_ahead, passed};
 use self::string::string;
 use crate::kinds::SyntaxKind;
 use std::alloc::{AllocError, Global};

@@ -1,5 +1,5 @@
 -- The tokens from a place on.
-use Rattle.std.proofs.Common.{◌≡◌, ℕ, zero, suc, ◌+◌, ◌<◌, ◌≤◌, max, Bool, true, false, not, List, [], ◌∷◌, map, drop, length, get_or, Option, Some, None, refl, ap, sym, ◌∙◌, subst, arith, length-drop, ltb, ltb-true, ltb-false}
+use Rattle.std.proofs.Common.{◌≡◌, ℕ, zero, suc, ◌+◌, ◌<◌, ◌≤◌, max, Bool, true, false, List, [], ◌∷◌, map, drop, length, get_or, Option, Some, None, refl, ap, sym, ◌∙◌, arith, length-drop, ltb, ltb-true, ltb-false}
 use Rattle.std.specs.Borrow.{Bor}
 use Rattle.std.specs.Option.{option_map, option_copied, is_some, IfSome}
 use Rattle.std.proofs.lemmas.List.{drop_all, length-map}
@@ -9,7 +9,7 @@ use Rattle.rnix_grammar.specs.Sketch.{Token, head_of, placed_from}
 use Rattle.rnix_grammar.specs.Layout.{from_item, from_item_if, tail_of}
 use Rattle.rnix_grammar.proofs.LayoutLemmas.{from_item-from_item}
 use Rattle.rnix_parser.specs.declared.cursor.PlacedToken.{PlacedToken}
-use Rattle.rnix_parser.specs.Placed.{token_of, AreInOrder, IsCursor}
+use Rattle.rnix_parser.specs.Placed.{token_of, AreInOrder}
 
 -- the token at a place within
 pub at_place : (ts : List PlacedToken) (i : ℕ) (d : PlacedToken) → i < length ts → drop i (map token_of ts) ≡ token_of (get_or ts i d) ∷ drop (suc i) (map token_of ts)

@@ -1,10 +1,10 @@
 -- A whole text.
-use Rattle.std.proofs.Common.{◌≡◌, ◌<◌, ℕ, Bool, true, ◌&&◌, List, [], ◌∷◌, ◌++◌, length, refl, ap, sym, ◌∙◌, subst, arith}
+use Rattle.std.proofs.Common.{◌≡◌, ℕ, true, ◌&&◌, List, [], ◌∷◌, ◌++◌, refl, ap, sym, ◌∙◌, subst}
 use Rattle.rnix_kinds.specs.declared.kinds.SyntaxKind.{SyntaxKind}
 use Rattle.rnix_kinds.specs.declared.kinds.SyntaxKind.TheVariants.{NODE_ROOT}
 use Rattle.rnix_kinds.specs.Lexical.Tokens.{Lexeme}
-use Rattle.rnix_tree.specs.Forest.{Forest, empty, leaf, node, join, tree_count}
-use Rattle.rnix_tree.specs.Draft.{Draft, OpenNode, node_opened, is_one_node, is_nothing}
+use Rattle.rnix_tree.specs.Forest.{Forest, empty, node, join, tree_count}
+use Rattle.rnix_tree.specs.Draft.{Draft, node_opened, is_one_node, is_nothing}
 use Rattle.rnix_tree.specs.Tree.{Tree, forest_of}
 use Rattle.rnix_grammar.specs.Fault.{Fault}
 use Rattle.rnix_grammar.specs.Sketch.{Token, Sketch, blank, ◌⊕◌, forget, placed_from}

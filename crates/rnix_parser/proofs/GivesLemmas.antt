@@ -1,8 +1,8 @@
 -- What each part of the reader gives.
-use Rattle.std.proofs.Common.{◌≡◌, ◌+◌, ◌≤◌, ◌<◌, ℕ, suc, Bool, true, false, ◌&&◌, nat_le, List, [], ◌∷◌, ◌++◌, length, Option, Some, None, refl, ap, sym, ◌∙◌, subst, append_assoc, append-nil, arith}
+use Rattle.std.proofs.Common.{◌≡◌, ◌+◌, ◌≤◌, ◌<◌, ℕ, suc, Bool, true, false, ◌&&◌, nat_le, List, [], ◌∷◌, ◌++◌, length, Some, None, refl, ap, sym, ◌∙◌, subst, append_assoc, append-nil, arith}
 use Rattle.rnix_kinds.specs.declared.kinds.SyntaxKind.{SyntaxKind}
 use Rattle.rnix_kinds.specs.declared.kinds.SyntaxKind.TheVariants.{NODE_BIN_OP, NODE_APPLY, NODE_PAREN}
-use Rattle.rnix_tree.specs.Forest.{Forest, join, tree_count}
+use Rattle.rnix_tree.specs.Forest.{join, tree_count}
 use Rattle.rnix_tree.specs.Draft.{OpenNode, is_inside}
 use Rattle.std.proofs.lemmas.Bool.Decides.{nat_tests}
 use Rattle.rnix_tree.proofs.ForestLemmas.{tree_count-join}
@@ -13,7 +13,7 @@ use Rattle.rnix_grammar.specs.declared.level.Level.TheVariants.{Sum, Product, Ap
 use Rattle.rnix_grammar.specs.declared.until.Until.TheVariants.{RParen}
 use Rattle.rnix_grammar.specs.Fault.{Fault}
 use Rattle.rnix_grammar.specs.Tables.{begin_of, goes_on, depth_limit}
-use Rattle.rnix_grammar.specs.Sketch.{Token, Note, Sketch, blank, token, branch, fault, ◌⊕◌, one_token, one_branch, forget, head_of, head_kind, kind_in, lexeme_in, lexeme_of}
+use Rattle.rnix_grammar.specs.Sketch.{Token, Sketch, blank, token, branch, fault, ◌⊕◌, one_token, one_branch, forget, head_of, head_kind, kind_in, lexeme_in, lexeme_of}
 use Rattle.rnix_grammar.specs.Layout.{items, from_item, trivia_before, dressed}
 use Rattle.rnix_grammar.specs.Reads.{Part, Expression, Operands, More, Simple, Atom, Wanted, operand_of, has_operator, Reads, expression, operands, stop, operator, argument, simple, paren}
 use Rattle.rnix_grammar.proofs.SketchLemmas.{forget-⊕}
@@ -227,9 +227,9 @@ paren_given d t s s1 s2 s3 s4 s5 p q n on e1 place inside e2 g h e5 =
       state =
           e5
           ∙ ap ended
-            (h.state ∙ ap (laid h.sketch h.faults) g.state ∙ laid-⊕ g.sketch h.sketch g.faults h.faults s2
-            ∙ ap (laid f es) (read_item t.kind s1 s2 t (ap head_of same ∙ n) e2 ∙ ap (laid (one_token t.kind t) []) e1)
-            ∙ laid-⊕ (one_token t.kind t) f [] es (started NODE_PAREN s))
+          (h.state ∙ ap (laid h.sketch h.faults) g.state ∙ laid-⊕ g.sketch h.sketch g.faults h.faults s2
+          ∙ ap (laid f es) (read_item t.kind s1 s2 t (ap head_of same ∙ n) e2 ∙ ap (laid (one_token t.kind t) []) e1)
+          ∙ laid-⊕ (one_token t.kind t) f [] es (started NODE_PAREN s))
           ∙ laid-node NODE_PAREN (token t.kind t f) es s;
       place_is = (place-eaten s p place).1 NODE_PAREN (token t.kind t f);
       inside = inside;

@@ -1,14 +1,13 @@
 -- Reading a sketch of items.
-use Rattle.std.proofs.Common.{◌≡◌, ◌+◌, ℕ, Bool, true, false, List, [], ◌∷◌, ◌++◌, Option, Some, None, refl, ap, sym, ◌∙◌, subst, append_assoc, append-nil}
+use Rattle.std.proofs.Common.{◌≡◌, ℕ, false, List, [], ◌∷◌, ◌++◌, refl, ap, sym, ◌∙◌, append_assoc, append-nil}
 use Rattle.rnix_kinds.specs.declared.kinds.SyntaxKind.{SyntaxKind}
 use Rattle.rnix_kinds.specs.declared.kinds.SyntaxKind.TheVariants.{NODE_ERROR}
-use Rattle.rnix_kinds.specs.SyntaxKind.{is_trivia}
 use Rattle.rnix_tree.specs.Forest.{Forest, empty, leaf, node, join, tree_count}
-use Rattle.rnix_tree.specs.Draft.{OpenNode, wrapped, closed_over, wrapped-join}
+use Rattle.rnix_tree.specs.Draft.{OpenNode, wrapped, wrapped-join}
 use Rattle.rnix_tree.proofs.ForestLemmas.{join-empty, join_assoc}
 use Rattle.rnix_grammar.specs.Fault.{Fault}
-use Rattle.rnix_grammar.specs.Sketch.{Token, Note, Stray, Unwanted, Extra, TooDeep, Sketch, blank, token, branch, fault, ◌⊕◌, one_token, one_branch, one_fault, forget}
-use Rattle.rnix_grammar.specs.Layout.{from_item, from_item_if, trivia_before, trivia_if, tail_of, is_last, trivia_after, rest_after, left_after, dressed}
+use Rattle.rnix_grammar.specs.Sketch.{Token, Note, TooDeep, Sketch, blank, token, branch, fault, ◌⊕◌, one_token, one_branch, one_fault, forget}
+use Rattle.rnix_grammar.specs.Layout.{from_item, trivia_before, tail_of, is_last, trivia_after, rest_after, left_after, dressed}
 use Rattle.rnix_grammar.proofs.SketchLemmas.{⊕-assoc, ⊕-blank, forget-⊕}
 use Rattle.rnix_grammar.proofs.LayoutLemmas.{trivia-from_item, from_item-from_item}
 use Rattle.rnix_parser.specs.State.{State, eaten, leaf_on, bumped, started_at, started, ended, failed, laid, place_of}

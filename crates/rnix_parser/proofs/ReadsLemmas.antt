@@ -1,9 +1,7 @@
 -- What every reading of a part leaves and makes.
-use Rattle.std.proofs.Common.{◌≡◌, ◌+◌, ◌≤◌, ◌<◌, ℕ, suc, List, [], ◌∷◌, ◌++◌, length, ap, refl, sym, ◌∙◌, arith, length-append}
-use Rattle.rnix_grammar.specs.declared.begin.Begin.{Begin}
+use Rattle.std.proofs.Common.{◌≡◌, ◌≤◌, ◌<◌, ℕ, List, [], ◌∷◌, ◌++◌, length, ap, refl, arith, length-append}
 use Rattle.rnix_grammar.specs.declared.level.Level.{Level}
 use Rattle.rnix_grammar.specs.declared.level.Level.TheVariants.{Sum, Product, Application}
-use Rattle.rnix_grammar.specs.declared.until.Until.{Until}
 use Rattle.rnix_grammar.specs.declared.until.Until.TheVariants.{RParen}
 use Rattle.rnix_grammar.specs.Fault.{Fault}
 use Rattle.rnix_grammar.specs.Sketch.{Token, Sketch, blank}

@@ -1,5 +1,5 @@
 -- Runs of items, and what is wanted behind them.
-use Rattle.std.proofs.Common.{◌≡◌, ◌+◌, ◌≤◌, ◌<◌, ℕ, Bool, true, false, List, [], ◌∷◌, ◌++◌, length, Option, Some, None, refl, ap, sym, ◌∙◌, subst, append_assoc, append-nil, arith}
+use Rattle.std.proofs.Common.{◌≡◌, ◌≤◌, ◌<◌, ℕ, true, false, List, [], ◌∷◌, ◌++◌, length, Option, Some, None, refl, ap, sym, ◌∙◌, subst, append_assoc, append-nil, arith}
 use Rattle.std.specs.Option.{option_map}
 use Rattle.rnix_kinds.specs.declared.kinds.SyntaxKind.{SyntaxKind}
 use Rattle.rnix_kinds.specs.declared.kinds.SyntaxKind.TheVariants.{NODE_ERROR}
@@ -12,17 +12,17 @@ use Rattle.rnix_grammar.specs.declared.until.Until.{Until}
 use Rattle.rnix_grammar.specs.declared.until.Until.TheVariants.{RParen, End}
 use Rattle.rnix_grammar.specs.Fault.{Fault, extra, unwanted, ended as ended_fault, ended_before, too_deep}
 use Rattle.rnix_grammar.specs.Tables.{begin_of, stops, wanted_kinds, operand_kinds, depth_limit}
-use Rattle.rnix_grammar.specs.Sketch.{Token, Note, Stray, Unwanted, Extra, TooDeep, Sketch, blank, token, branch, fault, ◌⊕◌, one_token, one_branch, one_fault, leaf_of, row_of, tokens_in, end_from, extent_of, head_of, head_kind, kind_in, lexeme_of}
-use Rattle.rnix_grammar.specs.Layout.{items, item_if, from_item, trivia_before, tail_of}
+use Rattle.rnix_grammar.specs.Sketch.{Token, Note, Stray, Unwanted, Extra, TooDeep, Sketch, blank, token, fault, ◌⊕◌, one_token, one_branch, one_fault, leaf_of, row_of, end_from, head_of, head_kind, kind_in, lexeme_of}
+use Rattle.rnix_grammar.specs.Layout.{items, item_if, from_item, tail_of}
 use Rattle.rnix_grammar.specs.Rows.{report, AreUnwanted}
-use Rattle.rnix_grammar.specs.Reads.{Part, Expression, Atom, Wanted, Closing, Behind, Reads, too-deep, nothing, stray, wanted-now, wanted-later, closed, ended-open, nothing-behind, something-behind}
+use Rattle.rnix_grammar.specs.Reads.{Expression, Atom, Wanted, Closing, Behind, Reads, too-deep, nothing, stray, wanted-now, wanted-later, closed, ended-open, nothing-behind, something-behind}
 use Rattle.rnix_grammar.proofs.LayoutLemmas.{items_head, items-view, items-from_item}
 use Rattle.rnix_parser.specs.declared.cursor.PlacedToken.{PlacedToken}
 use Rattle.rnix_parser.specs.Placed.{token_of, AreInOrder}
 use Rattle.rnix_parser.specs.State.{State, items_left, eaten, bumped, started_at, started, ended, failed, laid, place_of}
 use Rattle.rnix_parser.specs.Gives.{Gives, Adds, Skips, Stopped, Runs}
 use Rattle.rnix_parser.proofs.CursorLemmas.{in_order_from}
-use Rattle.rnix_parser.proofs.LaidLemmas.{state_is, laid-blank, laid-⊕, laid-failed, laid-node, laid-fault, laid-deep, laid-leaf}
+use Rattle.rnix_parser.proofs.LaidLemmas.{laid-blank, laid-⊕, laid-failed, laid-fault, laid-deep, laid-leaf}
 use Rattle.rnix_parser.proofs.StateLemmas.{items-eaten}
 
 true_is_not_false : true ≡ false → ⊥

@@ -1,9 +1,9 @@
 -- The steps of the reader, one token at a time.
-use Rattle.std.proofs.Common.{◌≡◌, ℕ, Bool, true, false, List, [], ◌∷◌, ◌++◌, Option, Some, None, refl, ap, sym, ◌∙◌, subst, append-nil}
+use Rattle.std.proofs.Common.{◌≡◌, true, false, List, [], ◌∷◌, Option, Some, None, refl, ap, sym, ◌∙◌}
 use Rattle.std.specs.Option.{option_map}
 use Rattle.rnix_kinds.specs.declared.kinds.SyntaxKind.{SyntaxKind}
 use Rattle.rnix_kinds.specs.SyntaxKind.{is_trivia}
-use Rattle.rnix_tree.specs.Forest.{Forest, empty, leaf, join}
+use Rattle.rnix_tree.specs.Forest.{empty, leaf, join}
 use Rattle.rnix_tree.proofs.ForestLemmas.{join-empty, join_assoc}
 use Rattle.rnix_grammar.specs.Sketch.{Token, forget, head_of, head_kind, kind_in}
 use Rattle.rnix_grammar.specs.Layout.{items, from_item, from_item_if, trivia_before, trivia_if, tail_of}

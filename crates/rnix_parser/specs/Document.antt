@@ -1,7 +1,7 @@
 -- A whole text that is read.
 use Rattle.std.specs.Prelude.{◌≡◌, List, []}
 use Rattle.rnix_kinds.specs.declared.kinds.SyntaxKind.TheVariants.{NODE_ROOT}
-use Rattle.rnix_tree.specs.Forest.{Forest, empty, node}
+use Rattle.rnix_tree.specs.Forest.{empty, node}
 use Rattle.rnix_grammar.specs.Fault.{Fault}
 use Rattle.rnix_grammar.specs.Sketch.{Token, Sketch, blank, forget}
 use Rattle.rnix_grammar.specs.Layout.{items, dressed_whole}

@@ -1,5 +1,5 @@
 -- What the parts of the reader do, by the grammar.
-use Rattle.std.specs.Prelude.{◌≡◌, ◌<◌, ◌≤◌, ℕ, Bool, true, false, List, [], ◌∷◌, ◌++◌, length}
+use Rattle.std.specs.Prelude.{◌≡◌, ◌<◌, ◌≤◌, ℕ, true, List, [], ◌∷◌, ◌++◌, length}
 use Rattle.rnix_kinds.specs.declared.kinds.SyntaxKind.{SyntaxKind}
 use Rattle.rnix_kinds.specs.declared.kinds.SyntaxKind.TheVariants.{NODE_BIN_OP, NODE_APPLY, NODE_ERROR}
 use Rattle.rnix_tree.specs.Draft.{is_inside}
@@ -9,9 +9,9 @@ use Rattle.rnix_grammar.specs.declared.level.Level.TheVariants.{Application}
 use Rattle.rnix_grammar.specs.declared.until.Until.{Until}
 use Rattle.rnix_grammar.specs.Fault.{Fault}
 use Rattle.rnix_grammar.specs.Tables.{stops}
-use Rattle.rnix_grammar.specs.Sketch.{Token, Sketch, blank, token, branch, fault, ◌⊕◌, row_of, end_from, extent_of, head_kind}
+use Rattle.rnix_grammar.specs.Sketch.{Token, Sketch, blank, branch, ◌⊕◌, row_of, end_from, extent_of, head_kind}
 use Rattle.rnix_grammar.specs.Rows.{AreUnwanted}
-use Rattle.rnix_grammar.specs.Reads.{Part, More, Operands, operand_of, Reads}
+use Rattle.rnix_grammar.specs.Reads.{Part, More, Operands, Reads}
 use Rattle.rnix_parser.specs.State.{State, items_left, started, started_at, ended, laid, place_of}
 
 -- from a state to another, inside so many expressions, a part is read; its first item is at the place

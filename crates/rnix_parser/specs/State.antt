@@ -1,10 +1,10 @@
 -- What the reader holds, as values: the tokens that are left, the trees so far, the open nodes, the errors; and its steps.
-use Rattle.std.specs.Prelude.{◌≡◌, ℕ, List, [], ◌∷◌, ◌++◌, map}
+use Rattle.std.specs.Prelude.{ℕ, List, [], ◌∷◌, ◌++◌, map}
 use Rattle.rnix_kinds.specs.declared.kinds.SyntaxKind.{SyntaxKind}
 use Rattle.rnix_tree.specs.Forest.{Forest, empty, leaf, join, tree_count}
 use Rattle.rnix_tree.specs.Draft.{Draft, OpenNode, node_closed}
 use Rattle.rnix_grammar.specs.Fault.{Fault, fault_of}
-use Rattle.rnix_grammar.specs.Sketch.{Token, Sketch, blank, token, branch, fault, forget}
+use Rattle.rnix_grammar.specs.Sketch.{Token, Sketch, blank, forget}
 use Rattle.rnix_grammar.specs.Layout.{items, from_item, trivia_before, tail_of, left_after, dressed}
 use Rattle.rnix_parser.specs.declared.parser.Parser.{Parser}
 

@@ -42,10 +42,7 @@ impl<'t> Model for Cursor<'t> {
 }
 
 // The tokens, each with the bytes that it takes.
-fn placed_tokens(
-    alloc: Global,
-    tokens: Tokenizer<'_>,
-) -> Result<Vec<PlacedToken<'_>>, AllocError>
+fn placed_tokens(alloc: Global, tokens: Tokenizer<'_>) -> Result<Vec<PlacedToken<'_>>, AllocError>
     ensures { IfOk result (λ placed. map token_of placed.items ≡ placed_from 0 tokens.entry) }
 {
     let mut tokens = tokens;

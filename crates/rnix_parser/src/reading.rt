@@ -34,11 +34,7 @@ pub(crate) fn read_expression(p: &mut Parser<'_>, depth: usize) -> Result<Checkp
 
 // The operands of a level, as far as it goes.
 #[cycle(reader)]
-fn read_level(
-    p: &mut Parser<'_>,
-    level: Level,
-    depth: usize,
-) -> Result<Checkpoint, AllocError>
+fn read_level(p: &mut Parser<'_>, level: Level, depth: usize) -> Result<Checkpoint, AllocError>
     ensures { IfOk result (λ place. Gives depth (Operands level) (state p.old) place (state p.new)) }
 {
     let place = read_operand(p, level, depth)?;
@@ -53,11 +49,7 @@ fn read_level(
 
 // One operand of a level.
 #[cycle(reader)]
-fn read_operand(
-    p: &mut Parser<'_>,
-    level: Level,
-    depth: usize,
-) -> Result<Checkpoint, AllocError>
+fn read_operand(p: &mut Parser<'_>, level: Level, depth: usize) -> Result<Checkpoint, AllocError>
     ensures { IfOk result (λ place. Gives depth (operand_of level) (state p.old) place (state p.new)) }
 {
     match level {

@@ -37,11 +37,7 @@ impl<'t> Parser<'t> {
     }
 
     // An error node over a run of items that begins with the first, and its range.
-    fn error_run(
-        &mut self,
-        until: Until,
-        first: PlacedToken<'_>,
-    ) -> Result<TextRange, AllocError>
+    fn error_run(&mut self, until: Until, first: PlacedToken<'_>) -> Result<TextRange, AllocError>
         requires first { head_of (items_left (state self.old)) ≡ Some (token_of first) }
         requires unwanted { stops until (Some first.kind) ≡ false }
         ensures { IfOk result (λ range. Runs until (state self.old) (token_of first.entry) range (state self.new)) }

@@ -26,11 +26,7 @@ fn print<W: Write>(read: &Parse, out: &mut W) -> io::Result<()>
 
 /// Reads all of the input and prints its errors and its tree: true if there are no errors. A refusal other than `Write` leaves the writer
 /// as it was.
-pub fn run<R: Read, W: Write>(
-    alloc: Global,
-    input: &mut R,
-    out: &mut W,
-) -> Result<bool, RunError>
+pub fn run<R: Read, W: Write>(alloc: Global, input: &mut R, out: &mut W) -> Result<bool, RunError>
     ensures ran { IfOk result (λ good. HasRun (R.remaining input.old) good (W.contents out.old) (W.contents out.new)) }
     ensures read { result ≡ Err refused.Read → out.new ≡ out.old }
     ensures not_utf8 { result ≡ Err refused.NotUtf8 → (out.new ≡ out.old) × IfSome (R.remaining input.old) (λ all. ¬ IsUtf8 all) }

@@ -5,11 +5,11 @@ ghost use Rattle.rnix_kinds.specs.Lexical.Classes.{class_test};
 ghost use Rattle.rnix_kinds.specs.Lexical.Operators.{HasRoom};
 ghost use Rattle.rnix_kinds.specs.Lexical.Tokens.{normal_cut};
 
+use super::ahead::Ahead;
 use super::number::number;
 use super::operator::{brace, ellipsis, opener, operator};
 use super::path::{home, relative, search_path, slash};
 use super::rule::{Cut, Mode, plain};
-use super::ahead::Ahead;
 use super::space::{comment, space};
 use super::text::{Class, char_len};
 use super::word::{uri, word};

@@ -1,6 +1,4 @@
-use Rattle.std.proofs.Common.{◌≡◌, sym, ap, ◌∙◌, drop, map, suc, ◌+◌, add-one, get_or, length, arith}
-use Rattle.rnix_grammar.specs.Layout.{from_item}
-use Rattle.rnix_parser.specs.Placed.{token_of}
+use Rattle.std.proofs.Common.{sym, ◌∙◌, add-one}
 use Rattle.rnix_parser.proofs.CursorLemmas.{at_place, at_item, from_trivia}
 use Rattle.rnix_parser.proofs.cursor.item_from.Goals as goal
 

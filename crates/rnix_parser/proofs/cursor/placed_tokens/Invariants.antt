@@ -1,4 +1,4 @@
-use Rattle.std.proofs.Common.{◌≡◌, ◌+◌, ◌++◌, ℕ, List, length, drop, map}
+use Rattle.std.proofs.Common.{◌≡◌, ◌+◌, ◌++◌, length, map}
 use Rattle.std.specs.List.{flat_map}
 use Rattle.rnix_kinds.specs.Lexical.Tokens.{text_of}
 use Rattle.rnix_grammar.specs.Sketch.{placed_from}

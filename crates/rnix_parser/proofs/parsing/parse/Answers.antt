@@ -1,4 +1,3 @@
-use Rattle.std.proofs.Common.{◌≡◌, ◌∙◌, sym, ap, map}
 use Rattle.rnix_parser.specs.State.{state}
 use Rattle.rnix_parser.proofs.DocumentLemmas.{document_parsed}
 use Rattle.rnix_parser.proofs.parsing.parse.Goals as goal

@@ -1,7 +1,5 @@
-use Rattle.std.proofs.Common.{◌≡◌, ◌∙◌, sym, ap}
-use Rattle.rnix_tree.specs.Forest.{tree_count}
-use Rattle.rnix_kinds.specs.declared.kinds.SyntaxKind.TheVariants.{NODE_ROOT}
-use Rattle.rnix_parser.specs.State.{state, started_at}
+use Rattle.std.proofs.Common.{◌∙◌}
+use Rattle.rnix_parser.specs.State.{state}
 use Rattle.rnix_parser.proofs.GivesLemmas.{nodes_given, nodes_added, one_open, still_open}
 use Rattle.rnix_parser.proofs.DocumentLemmas.{root_started, document_given}
 use Rattle.rnix_parser.proofs.parsing.read_document.Goals as goal

@@ -1,12 +1,10 @@
-use Rattle.std.proofs.Common.{◌≡◌, ◌∙◌, sym, ap, refl, true, false, arith, length, ◌+◌, add-one, Option, Some, None}
-use Rattle.rnix_kinds.specs.declared.kinds.SyntaxKind.TheVariants.{TOKEN_CUR_POS, NODE_LITERAL, NODE_IDENT, NODE_CUR_POS, NODE_PAREN}
+use Rattle.std.proofs.Common.{◌∙◌, sym, ap, arith, add-one}
+use Rattle.rnix_kinds.specs.declared.kinds.SyntaxKind.TheVariants.{TOKEN_CUR_POS, NODE_LITERAL, NODE_IDENT, NODE_CUR_POS}
 use Rattle.rnix_grammar.specs.declared.begin.Begin.TheVariants as b
-use Rattle.rnix_grammar.specs.declared.level.Level.TheVariants.{Sum}
 use Rattle.rnix_grammar.specs.Tables.{begin_of, goes_on}
-use Rattle.rnix_grammar.specs.Sketch.{lexeme_in, lexeme_of, kind_in}
+use Rattle.rnix_grammar.specs.Sketch.{lexeme_in, kind_in}
 use Rattle.rnix_grammar.specs.Reads.{simple, literal, name, cur-pos}
 use Rattle.rnix_parser.specs.Placed.{token_of}
-use Rattle.rnix_parser.specs.State.{state}
 use Rattle.rnix_parser.proofs.RunLemmas.{item_there, none_there}
 use Rattle.rnix_parser.proofs.GivesLemmas.{nodes_given, nodes_added, one_open, still_open, level_starts, level_steps, level_stops, level_ends, level_checkpoint, argument_grows, right_grows, simple_given, leaf_given, paren_given, expression_given, count_started_at, count_operator, count_paren}
 use Rattle.rnix_parser.proofs.reading.+reader.Goals as goal
@@ -91,7 +89,10 @@ read_simple-returns-in_ok-nothing-in-None t c =
     simple_given c.args.depth b.Nothing _ _ _ (ap (λ x. begin_of (lexeme_in x)) (none_there _ _ c.item.ensures c.in-None.is)) (c.in_ok-nothing-in-None.ensures c.args.depth)
 
 pub read_level-read_more-requires : goal.read_level-read_more-requires
-read_level-read_more-requires t c =
-    (omega (arith, c.loop-item.invariant.fewer),
-     (item_there _ _ _ c.item.ensures c.in-Some.is,
-      (sym c.goes_on.ensures ∙ c.if-not-goes_on.false, level_checkpoint c.args.depth c.args.level _ _ _ c.loop-item.invariant)))
+read_level-read_more-requires t c = (
+  omega (arith, c.loop-item.invariant.fewer),
+  (
+    item_there _ _ _ c.item.ensures c.in-Some.is,
+    (sym c.goes_on.ensures ∙ c.if-not-goes_on.false, level_checkpoint c.args.depth c.args.level _ _ _ c.loop-item.invariant),
+  ),
+)

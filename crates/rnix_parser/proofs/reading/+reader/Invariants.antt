@@ -1,4 +1,4 @@
-use Rattle.std.proofs.Common.{◌≡◌, ◌*◌, ◌+◌, ◌≤◌, ℕ, length}
+use Rattle.std.proofs.Common.{◌*◌, ◌+◌, ℕ, length}
 use Rattle.rnix_parser.specs.declared.parser.Parser.{Parser}
 use Rattle.rnix_grammar.specs.declared.level.Level.{Level}
 use Rattle.rnix_grammar.specs.declared.level.Level.TheVariants.{Sum, Product, Application}

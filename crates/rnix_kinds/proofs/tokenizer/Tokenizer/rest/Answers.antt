@@ -1,4 +1,4 @@
-use Rattle.std.proofs.Common.{◌≡◌, sym, ap, ◌∙◌, ℕ, List}
+use Rattle.std.proofs.Common.{sym, ap, ◌∙◌, List}
 use Rattle.std.specs.List.{flat_map}
 use Rattle.rnix_kinds.specs.Lexical.Tokens.{Lexeme, text_of}
 use Rattle.rnix_kinds.proofs.tokenizer.Tokenizer.rest.Goals as goal

@@ -1,5 +1,4 @@
-use Rattle.std.proofs.Common.{◌≡◌, sym, ap, ◌∙◌, List, ℕ, max, suc, ◌+◌, ◌<◌, map, drop, length, arith, add-one}
-use Rattle.rnix_grammar.specs.Sketch.{Token}
+use Rattle.std.proofs.Common.{◌≡◌, sym, ap, ◌∙◌, List, ℕ, max, suc, ◌<◌, map, drop, length, arith, add-one}
 use Rattle.rnix_grammar.specs.Layout.{from_item, tail_of}
 use Rattle.rnix_parser.specs.declared.cursor.PlacedToken.{PlacedToken}
 use Rattle.rnix_parser.specs.Placed.{token_of}

@@ -1,4 +1,4 @@
-use Rattle.std.proofs.Common.{sym, subst, ◌≡◌, ◌∙◌}
+use Rattle.std.proofs.Common.{sym, subst}
 use Rattle.rnix_parser.specs.Placed.{AreInOrder}
 use Rattle.rnix_parser.proofs.CursorLemmas.{placed_in_order}
 use Rattle.rnix_parser.proofs.cursor.Cursor.new.Goals as goal

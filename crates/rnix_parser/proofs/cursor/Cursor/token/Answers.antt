@@ -1,4 +1,4 @@
-use Rattle.std.proofs.Common.{◌≡◌, sym, ap, ◌∙◌}
+use Rattle.std.proofs.Common.{ap, ◌∙◌}
 use Rattle.rnix_grammar.specs.Sketch.{head_of}
 use Rattle.rnix_parser.proofs.CursorLemmas.{looked_up}
 use Rattle.rnix_parser.proofs.cursor.Cursor.token.Goals as goal

@@ -1,4 +1,4 @@
-use Rattle.std.proofs.Common.{◌≡◌, sym, ap, ◌∙◌, refl}
+use Rattle.std.proofs.Common.{ap, refl}
 use Rattle.rnix_parser.specs.Placed.{token_of}
 use Rattle.rnix_parser.specs.State.{state}
 use Rattle.rnix_parser.proofs.StateLemmas.{first_there, none_there, bumped-item, bumped-end}

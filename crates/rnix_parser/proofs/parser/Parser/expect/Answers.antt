@@ -1,11 +1,10 @@
-use Rattle.std.proofs.Common.{◌≡◌, true, sym, ap, ◌∙◌, refl}
-use Rattle.rnix_tree.specs.Range.{Extent}
+use Rattle.std.proofs.Common.{◌≡◌, true, sym, ap, ◌∙◌}
 use Rattle.rnix_grammar.specs.Fault.{unwanted}
 use Rattle.rnix_grammar.specs.Tables.{wanted_kinds, stops}
 use Rattle.rnix_grammar.specs.Sketch.{head_kind}
 use Rattle.rnix_parser.specs.Placed.{token_of}
 use Rattle.rnix_parser.specs.State.{state, items_left, failed}
-use Rattle.rnix_parser.proofs.RunLemmas.{left_failed, stops_still, wants_now, wants_later}
+use Rattle.rnix_parser.proofs.RunLemmas.{stops_still, wants_now, wants_later}
 use Rattle.rnix_parser.proofs.parser.Parser.expect.Goals as goal
 
 pub returns-then-stops : goal.returns-then-stops

@@ -1,5 +1,5 @@
 use Rattle.rnix_parser.specs.Placed.{token_of}
-use Rattle.rnix_parser.proofs.RunLemmas.{item_there, none_there, nothing_more, extra_more}
+use Rattle.rnix_parser.proofs.RunLemmas.{none_there, nothing_more, extra_more}
 use Rattle.rnix_parser.proofs.parser.Parser.extra.Goals as goal
 
 pub returns-in_ok-fail : goal.returns-in_ok-fail

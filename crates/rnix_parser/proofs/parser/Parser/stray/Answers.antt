@@ -1,4 +1,4 @@
-use Rattle.std.proofs.Common.{◌≡◌, sym, ap, ◌∙◌, refl}
+use Rattle.std.proofs.Common.{◌≡◌, ap, ◌∙◌}
 use Rattle.rnix_tree.specs.Range.{Extent}
 use Rattle.rnix_grammar.specs.Fault.{unwanted}
 use Rattle.rnix_grammar.specs.Tables.{operand_kinds}
