@@ -329,23 +329,17 @@ impl SyntaxKind {
     pub fn is_fn_arg(self) -> bool
         ensures { result ≡ is_fn_arg self }
     {
-        matches!(
-            self,
-            SyntaxKind::TOKEN_FLOAT
-                | SyntaxKind::TOKEN_INTEGER
-                | SyntaxKind::TOKEN_PATH_ABS
-                | SyntaxKind::TOKEN_PATH_REL
-                | SyntaxKind::TOKEN_PATH_HOME
-                | SyntaxKind::TOKEN_PATH_SEARCH
-                | SyntaxKind::TOKEN_URI
-                | SyntaxKind::TOKEN_REC
-                | SyntaxKind::TOKEN_L_BRACE
-                | SyntaxKind::TOKEN_L_BRACK
-                | SyntaxKind::TOKEN_L_PAREN
-                | SyntaxKind::TOKEN_STRING_START
-                | SyntaxKind::TOKEN_IDENT
-                | SyntaxKind::TOKEN_CUR_POS
-        )
+        self.is_literal()
+            || matches!(
+                self,
+                SyntaxKind::TOKEN_REC
+                    | SyntaxKind::TOKEN_L_BRACE
+                    | SyntaxKind::TOKEN_L_BRACK
+                    | SyntaxKind::TOKEN_L_PAREN
+                    | SyntaxKind::TOKEN_STRING_START
+                    | SyntaxKind::TOKEN_IDENT
+                    | SyntaxKind::TOKEN_CUR_POS
+            )
     }
 
     /// Whether the token is a comment or white space.

@@ -1,9 +1,10 @@
 use crate::outcome::{RunError, complaint, status};
 use crate::printing::{dump, write_errors};
 use crate::reading::read_all;
-use rnix_grammar::ParseError;
-use rnix_kinds::SyntaxKind;
-use rnix_tree::{GreenNodeBuilder, SyntaxNode, TextRange};
+use crate::running::run;
+use rnix::{
+    GreenNodeBuilder, ParseError, Root, SyntaxKind, SyntaxNode, TextRange, TokenSet, WalkEvent,
+};
 use std::io;
 use std::io::{ErrorKind, Read};
 use std::test::Fail;
@@ -97,4 +98,37 @@ fn refuses_what_cannot_be_read(rt: HostRuntime) {
 fn ends(rt: HostRuntime) {
     assert_eq!(rt; status(&Err(RunError::Write)), 2);
     assert_eq!(rt; complaint(&RunError::Memory), "nix-tree: out of memory");
+}
+
+#[test]
+fn runs_a_broken_text(rt: HostRuntime) -> Result<(), Fail> {
+    let mut input = Faulty {
+        rest: b"()",
+        error: Some(ErrorKind::Interrupted),
+    };
+    let mut out = Vec::new(rt.alloc());
+    assert_eq!(rt; run(rt.alloc(), &mut input, &mut out).ok(), Some(false));
+    let want =
+        "error: unexpected TOKEN_R_PAREN at 1..2, wanted any of [TOKEN_L_PAREN, TOKEN_REC, TOKEN_L_BRACE, TOKEN_L_BRACK, TOKEN_STRING_START, TOKEN_IDENT]\nerror: unexpected end of file, wanted any of [TOKEN_R_PAREN]\nNODE_ROOT@0..2\n  NODE_PAREN@0..2\n    TOKEN_L_PAREN@0..1\n    NODE_ERROR@1..2\n      TOKEN_R_PAREN@1..2\n";
+    assert_eq!(rt; out.as_slice(), want.as_bytes());
+    Ok(())
+}
+
+#[test]
+fn gives_a_tree_to_walk(rt: HostRuntime) -> Result<(), Fail> {
+    let read = Root::parse(rt.alloc(), "f (1 + x)")?;
+    assert!(rt; read.errors().is_empty());
+    let operators: TokenSet = SyntaxKind::TOKEN_ADD | SyntaxKind::TOKEN_MUL;
+    let mut found: u8 = 0;
+    for event in read.syntax().preorder_with_tokens() {
+        if let WalkEvent::Enter(element) = event {
+            if operators.contains(element.kind()) {
+                found = found.saturating_add(1);
+            }
+        }
+    }
+    assert_eq!(rt; found, 1);
+    let copy = read.try_clone()?;
+    assert_eq!(rt; copy.syntax().text(), "f (1 + x)");
+    Ok(())
 }

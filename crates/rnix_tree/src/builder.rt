@@ -120,8 +120,9 @@ impl GreenNodeBuilder {
         ensures place { result ≡ tree_count self.now.finished }
         ensures inside { IsTrue (is_checkpoint_of self.now result) }
     {
-        let place = self.starts.len();
-        Checkpoint { place }
+        Checkpoint {
+            place: self.starts.len(),
+        }
     }
 
     /// Opens a node whose first child is the first tree after the checkpoint.

@@ -6,7 +6,7 @@ ghost use Rattle.rnix_kinds.specs.Lexical.Ahead.{IsAhead};
 
 use super::text::{Class, byte_at, looked};
 
-/// The lengths of runs at the front of a text; 0 where a run is not ahead.
+/// The lengths of runs at the front of a text; 0 where a run was not looked over.
 #[derive(Clone, Copy)]
 pub struct Ahead {
     pub step: usize,
