@@ -68,7 +68,7 @@ impl Parse {
         }
     }
 
-    /// The errors. There are none exactly if the text is an expression.
+    /// The errors. There are none exactly if each node has the shape of its kind.
     pub fn errors(&self) -> &[ParseError]
         ensures { result.now ≡ self.now.errors.items }
     {
