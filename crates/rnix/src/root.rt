@@ -10,10 +10,21 @@ use rnix_kinds::tokenize;
 use rnix_parser::parse;
 use rnix_tree::{GreenNode, SyntaxNode};
 use std::alloc::{AllocError, Global};
+use std::marker::Model;
 
 /// The root of a tree.
 pub struct Root<'t> {
     syntax: SyntaxNode<'t>,
+}
+
+impl<'t> Model for Root<'t> {
+    ghost use Rattle.rnix_tree.specs.Tree.{Located, located_code};
+
+    ghost Value = { Located };
+
+    ghost coded = { located_code };
+
+    ghost view = { λ r. r.syntax };
 }
 
 /// The tree of a text, and its errors in the order in which they were found. A text always has a tree.
@@ -23,10 +34,25 @@ pub struct Parse {
     errors: Vec<ParseError>,
 }
 
+impl Model for Parse {
+    ghost use Rattle.std.specs.Prelude.{map};
+    ghost use Rattle.rnix_grammar.specs.Fault.{fault_of};
+    ghost use Rattle.std.specs.Coded.{codes};
+    ghost use Rattle.rnix_kinds.specs.contracts.kinds.SyntaxKind as kinds;
+    ghost use Rattle.rnix_tree.specs.Tree.{tree_code};
+    ghost use Rattle.rnix.specs.Reading.{Reading};
+
+    ghost Value = { Reading };
+
+    ghost coded = { Prim.hlevel (codes, tree_code, kinds.the_row.coded) };
+
+    ghost view = { λ p. record { tree = p.green; faults = map fault_of p.errors.items } };
+}
+
 impl<'t> Root<'t> {
     /// Reads a text. Ranges are bytes of the text.
     pub fn parse(alloc: Global, text: &str) -> Result<Parse, AllocError>
-        ensures { IfOk result (λ read. IsParsed (tokens_of text.now) read.green (map fault_of read.errors.items)) }
+        ensures { IfOk result (λ read. IsParsed (tokens_of text.now) read.tree read.faults) }
     {
         let (green, errors) = parse(alloc, tokenize(alloc, text))?;
         Ok(Parse { green, errors })
@@ -34,7 +60,7 @@ impl<'t> Root<'t> {
 
     /// The node.
     pub fn syntax(&self) -> &SyntaxNode<'t>
-        ensures { result.now ≡ self.now.syntax }
+        ensures { result.now ≡ self.now }
     {
         &self.syntax
     }
@@ -54,14 +80,14 @@ fn copies(alloc: Global, errors: &[ParseError]) -> Result<Vec<ParseError>, Alloc
 impl Parse {
     /// The node at the root.
     pub fn syntax(&self) -> SyntaxNode<'_>
-        ensures { result ≡ record { tree = self.now.green; number = 0 } }
+        ensures { result ≡ record { tree = self.now.tree; number = 0 } }
     {
         SyntaxNode::new_root(&self.green)
     }
 
     /// The root.
     pub fn tree(&self) -> Root<'_>
-        ensures { result.syntax ≡ record { tree = self.now.green; number = 0 } }
+        ensures { result ≡ record { tree = self.now.tree; number = 0 } }
     {
         Root {
             syntax: SyntaxNode::new_root(&self.green),
@@ -70,15 +96,14 @@ impl Parse {
 
     /// The errors. There are none exactly if each node has the shape of its kind.
     pub fn errors(&self) -> &[ParseError]
-        ensures { result.now ≡ self.now.errors.items }
+        ensures { map fault_of result.now ≡ self.now.faults }
     {
         &self.errors
     }
 
     /// A copy of the tree and the errors.
     pub fn try_clone(&self) -> Result<Parse, AllocError>
-        ensures tree { IfOk result (λ copy. copy.green ≡ self.now.green) }
-        ensures errors { IfOk result (λ copy. map fault_of copy.errors.items ≡ map fault_of self.now.errors.items) }
+        ensures { IfOk result (λ copy. copy ≡ self.now) }
     {
         let green = self.green.try_clone()?;
         let errors = copies(*self.errors.allocator(), &self.errors)?;

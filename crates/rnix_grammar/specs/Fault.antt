@@ -1,9 +1,10 @@
 -- The errors of a text as values, and how they are printed.
-use Rattle.std.specs.Prelude.{ℕ, List, [], ◌∷◌, ◌++◌, codes, string_bytes}
+use Rattle.std.specs.Prelude.{ℕ, Bool, true, false, ◌==◌, ◌&&◌, bytes_eq, List, [], ◌∷◌, ◌++◌, codes, string_bytes}
 use Rattle.std.specs.List.{flat_map}
+use Rattle.std.specs.Cmp.Lexicographic.{pointwise}
 use Rattle.std.specs.Fmt.{decimal}
 use Rattle.rnix_kinds.specs.declared.kinds.SyntaxKind.{SyntaxKind}
-use Rattle.rnix_kinds.specs.SyntaxKind.{name_of}
+use Rattle.rnix_kinds.specs.SyntaxKind.{name_of, place_of}
 use Rattle.rnix_tree.specs.Range.{Extent}
 use Rattle.rnix_grammar.specs.declared.error.ParseError.{ParseError}
 use Rattle.rnix_grammar.specs.declared.error.ParseError.TheVariants.{Unexpected, UnexpectedExtra, UnexpectedWanted, UnexpectedDoubleBind, UnexpectedEOF, UnexpectedEOFWanted, DuplicatedArgs, RecursionLimitExceeded}
@@ -28,6 +29,24 @@ fault_of UnexpectedEOF = ended
 fault_of (UnexpectedEOFWanted wanted) = ended_before wanted.items
 fault_of (DuplicatedArgs range name) = named_twice range (string_bytes name)
 fault_of RecursionLimitExceeded = too_deep
+
+-- two errors are of one variant with the same fields
+abbrev pub same_extent : Extent → Extent → Bool
+same_extent a b = a.start == b.start && a.end == b.end
+
+abbrev pub same_kind : SyntaxKind → SyntaxKind → Bool
+same_kind a b = place_of a == place_of b
+
+abbrev pub same_fault : Fault → Fault → Bool
+same_fault (untold a) (untold b) = same_extent a b
+same_fault (extra a) (extra b) = same_extent a b
+same_fault (unwanted kind a wanted) (unwanted other b others) = pointwise same_kind wanted others && (same_kind kind other && same_extent a b)
+same_fault (bound_twice a) (bound_twice b) = same_extent a b
+same_fault ended ended = true
+same_fault (ended_before wanted) (ended_before others) = pointwise same_kind wanted others
+same_fault (named_twice a name) (named_twice b other) = same_extent a b && bytes_eq name other
+same_fault too_deep too_deep = true
+same_fault _ _ = false
 
 -- a range in decimal, and what is said of it
 abbrev pub place_text : Extent → List ℕ

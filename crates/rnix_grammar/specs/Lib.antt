@@ -1,4 +1,5 @@
 pub mod Fault
+pub mod SameFaults
 pub mod Tables
 pub mod Sketch
 pub mod Rows

@@ -1,8 +1,10 @@
 //! The errors of a text.
 
-ghost use Rattle.std.specs.Prelude.{◌≡◌, IfOk, Some};
+ghost use Rattle.std.specs.Prelude.{◌≡◌, ◌&&◌, IfOk, Some};
+ghost use Rattle.std.specs.Bool.{Decides};
+ghost use Rattle.std.specs.Cmp.Lexicographic.{pointwise};
 ghost use Rattle.std.specs.Fmt.{DisplaysOnOk};
-ghost use Rattle.rnix_grammar.specs.Fault.{more_kinds_text, kinds_text, wanted_text, place_text, again_text, range_text, fault_text, unwanted, named_twice};
+ghost use Rattle.rnix_grammar.specs.Fault.{fault_of, more_kinds_text, kinds_text, wanted_text, place_text, again_text, range_text, fault_text, unwanted, named_twice, same_kind, same_extent};
 
 use rnix_kinds::SyntaxKind;
 use rnix_tree::TextRange;
@@ -11,7 +13,7 @@ use std::error::Error;
 use std::fmt;
 
 /// An error of a text. Its range is that of its node in the tree, in bytes.
-#[derive(Debug, PartialEq, Drop)]
+#[derive(Debug, Drop)]
 pub enum ParseError {
     /// No cause is told. The reader never makes it.
     Unexpected(TextRange),
@@ -32,8 +34,6 @@ pub enum ParseError {
 }
 
 impl ParseError {
-    ghost use Rattle.rnix_grammar.specs.Fault.{fault_of};
-
     /// A copy of the error.
     pub fn try_clone(&self) -> Result<ParseError, AllocError>
         ensures { IfOk result (λ error. fault_of error ≡ fault_of self.now) }
@@ -56,6 +56,57 @@ impl ParseError {
         };
         Ok(error)
     }
+}
+
+// Whether two lists hold the same kinds.
+fn same_kinds(a: &[SyntaxKind], b: &[SyntaxKind]) -> bool
+    ensures { result ≡ pointwise same_kind a.now b.now }
+{
+    a == b
+}
+
+// Whether two tokens are of one kind in one place.
+fn same_token(kind: SyntaxKind, range: TextRange, other: SyntaxKind, place: TextRange) -> bool
+    ensures { result ≡ (same_kind kind other && same_extent range place) }
+{
+    kind == other && range == place
+}
+
+impl PartialEq for ParseError {
+    ghost use Rattle.rnix_grammar.specs.Fault.{fault_of, same_fault};
+    ghost use Rattle.rnix_grammar.specs.SameFaults.{same_faults};
+
+    ghost eq = { λ a b. same_fault (fault_of a) (fault_of b) };
+
+    ghost laws = { same_faults };
+
+    fn eq(&self, other: &ParseError) -> bool {
+        match (self, other) {
+            (ParseError::Unexpected(a), ParseError::Unexpected(b)) => a == b,
+            (ParseError::UnexpectedExtra(a), ParseError::UnexpectedExtra(b)) => a == b,
+            (
+                ParseError::UnexpectedWanted(kind, a, wanted),
+                ParseError::UnexpectedWanted(other_kind, b, others),
+            ) => same_kinds(wanted, others) && same_token(*kind, *a, *other_kind, *b),
+            (ParseError::UnexpectedDoubleBind(a), ParseError::UnexpectedDoubleBind(b)) => a == b,
+            (ParseError::UnexpectedEOF, ParseError::UnexpectedEOF) => true,
+            (ParseError::UnexpectedEOFWanted(wanted), ParseError::UnexpectedEOFWanted(others)) => {
+                same_kinds(wanted, others)
+            }
+            (ParseError::DuplicatedArgs(a, name), ParseError::DuplicatedArgs(b, other_name)) => {
+                a == b && name == other_name
+            }
+            (ParseError::RecursionLimitExceeded, ParseError::RecursionLimitExceeded) => true,
+            _ => false,
+        }
+    }
+}
+
+/// Whether two errors are of one variant with the same fields.
+pub fn same_errors(a: &ParseError, b: &ParseError) -> bool
+    ensures { Decides result (fault_of a.now ≡ fault_of b.now) }
+{
+    a == b
 }
 
 // Each further kind of a list, behind a comma.

@@ -64,7 +64,7 @@ power_bits p k = (forth, λ e. subst (λ (n : ℕ). IsBitSet (2 ^ p) n) (sym e) 
         same_or_not (suc a) (suc b) = elim (same_or_not a b) [ inl e ↦ inl (ap suc e) | inr d ↦ inr (λ e. d (omega arith)) ]
 
 -- the number that code sees of a kind
-tag_is_place : (k : SyntaxKind) → tag_of the_type k ≡ place_of k
+pub tag_is_place : (k : SyntaxKind) → tag_of the_type k ≡ place_of k
 tag_is_place TOKEN_ADD = refl
 tag_is_place TOKEN_AND_AND = refl
 tag_is_place TOKEN_ASSIGN = refl
@@ -160,7 +160,7 @@ tag_is_place NODE_UNARY_OP = refl
 tag_is_place NODE_WITH = refl
 
 -- two kinds in one place are one
-same_place : (a b : SyntaxKind) → place_of a ≡ place_of b → a ≡ b
+pub same_place : (a b : SyntaxKind) → place_of a ≡ place_of b → a ≡ b
 same_place a b e = sym (kind_at_place a a) ∙ ap (λ n. get_or ALL n a) e ∙ kind_at_place b a
 
 -- the bit of one kind

@@ -6,8 +6,7 @@ use Rattle.rnix_kinds.specs.SyntaxKind.{name_of}
 use Rattle.rnix_tree.specs.Range.{Extent}
 use Rattle.rnix_tree.specs.Forest.{Forest, empty, leaf, node, text_of}
 use Rattle.rnix_tree.specs.Tree.{Located, item_of, part_at}
-use Rattle.rnix_grammar.specs.declared.error.ParseError.{ParseError}
-use Rattle.rnix_grammar.specs.Fault.{place_text, fault_of, fault_text}
+use Rattle.rnix_grammar.specs.Fault.{Fault, place_text, fault_text}
 
 -- two spaces for each level
 abbrev pub indent : ℕ → List ℕ
@@ -31,9 +30,9 @@ abbrev pub lines_of : Located → List ℕ
 lines_of e = lines_from 0 (item_of e).start (part_at e)
 
 -- an error's line
-abbrev pub error_line : ParseError → List ℕ
-error_line error = codes "error: " ++ fault_text (fault_of error) ++ codes "\n"
+abbrev pub error_line : Fault → List ℕ
+error_line fault = codes "error: " ++ fault_text fault ++ codes "\n"
 
 -- the lines of errors, in order
-abbrev pub error_lines : List ParseError → List ℕ
-error_lines errors = flat_map error_line errors
+abbrev pub error_lines : List Fault → List ℕ
+error_lines = flat_map error_line

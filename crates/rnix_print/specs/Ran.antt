@@ -1,10 +1,9 @@
 -- What a run that was not refused has done.
-use Rattle.std.specs.Prelude.{◌≡◌, ◌↔◌, ℕ, Bool, true, List, [], ◌++◌, Option, IfSome, IsUtf8, map}
+use Rattle.std.specs.Prelude.{◌≡◌, ◌↔◌, ℕ, Bool, true, List, [], ◌++◌, Option, IfSome, IsUtf8}
 use Rattle.std.specs.Io.KnownBytes.{Appends}
 use Rattle.rnix_kinds.specs.Lexical.Tokens.{tokens_of}
 use Rattle.rnix_tree.specs.Tree.{Tree}
-use Rattle.rnix_grammar.specs.declared.error.ParseError.{ParseError}
-use Rattle.rnix_grammar.specs.Fault.{fault_of}
+use Rattle.rnix_grammar.specs.Fault.{Fault}
 use Rattle.rnix_grammar.specs.Parsed.{IsParsed}
 use Rattle.rnix_print.specs.Lines.{error_lines, lines_of}
 
@@ -14,7 +13,7 @@ pub record HasRun (left : Option (List ℕ)) (good : Bool) (old new : Option (Li
   pub text_is : IfSome left (λ all. text ≡ all)
   pub utf8 : IsUtf8 text
   pub tree : Tree
-  pub errors : List ParseError
-  pub parsed : IsParsed (tokens_of text) tree (map fault_of errors)
-  pub printed : Appends old new (error_lines errors ++ lines_of record { tree = tree; number = 0 })
-  pub good_is : (good ≡ true) ↔ (errors ≡ [])
+  pub faults : List Fault
+  pub parsed : IsParsed (tokens_of text) tree faults
+  pub printed : Appends old new (error_lines faults ++ lines_of record { tree = tree; number = 0 })
+  pub good_is : (good ≡ true) ↔ (faults ≡ [])

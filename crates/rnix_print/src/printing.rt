@@ -1,9 +1,10 @@
 //! What is printed of a tree and of the errors of a text.
 
-ghost use Rattle.std.specs.Prelude.{◌≡◌, OnOk};
+ghost use Rattle.std.specs.Prelude.{◌≡◌, OnOk, map};
 ghost use Rattle.std.specs.Io.KnownBytes.{Appends};
 ghost use Rattle.rnix_tree.specs.Tree.{item_of, extent_of};
 ghost use Rattle.rnix_tree.specs.Walk.{place_of};
+ghost use Rattle.rnix_grammar.specs.Fault.{fault_of};
 ghost use Rattle.rnix_print.specs.Lines.{indent, line_of, lines_of, error_lines};
 
 use rnix_grammar::ParseError;
@@ -52,7 +53,7 @@ pub fn dump<W: Write>(node: &SyntaxNode<'_>, out: &mut W) -> io::Result<()>
 
 /// Prints each error, one line each.
 pub(crate) fn write_errors<W: Write>(errors: &[ParseError], out: &mut W) -> io::Result<()>
-    ensures { OnOk result (Appends (W.contents out.old) (W.contents out.new) (error_lines errors.now)) }
+    ensures { OnOk result (Appends (W.contents out.old) (W.contents out.new) (error_lines (map fault_of errors.now))) }
 {
     for error in errors {
         write!(out, "error: {error}\n")?;

@@ -17,7 +17,7 @@ use std::io::{Read, Write};
 // The errors, and then the tree.
 fn print<W: Write>(read: &Parse, out: &mut W) -> io::Result<()>
     ensures { OnOk result (Appends (W.contents out.old) (W.contents out.new)
-        (error_lines read.now.errors.items ++ lines_of record { tree = read.now.green; number = 0 })) }
+        (error_lines read.now.faults ++ lines_of record { tree = read.now.tree; number = 0 })) }
 {
     write_errors(read.errors(), out)?;
     dump(&read.syntax(), out)?;

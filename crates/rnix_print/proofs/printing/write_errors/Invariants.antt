@@ -1,7 +1,8 @@
-use Rattle.std.proofs.Common.{take}
+use Rattle.std.proofs.Common.{take, map}
 use Rattle.std.specs.Io.KnownBytes.{Appends}
+use Rattle.rnix_grammar.specs.Fault.{fault_of}
 use Rattle.rnix_print.specs.Lines.{error_lines}
 use Rattle.rnix_print.proofs.printing.write_errors.Given as goal
 
 abbrev pub invariant-loop-error : goal.invariant-loop-error
-invariant-loop-error g l = Appends (g.W.Write.contents l.initial.out) (g.W.Write.contents l.out) (error_lines (take l.error-index l.errors))
+invariant-loop-error g l = Appends (g.W.Write.contents l.initial.out) (g.W.Write.contents l.out) (error_lines (map fault_of (take l.error-index l.errors)))

@@ -1,0 +1,9 @@
+-- What a text was read as.
+use Rattle.std.specs.Prelude.{List}
+use Rattle.rnix_tree.specs.Tree.{Tree}
+use Rattle.rnix_grammar.specs.Fault.{Fault}
+
+-- the tree, and the errors in the order in which they were found
+pub record Reading : Type 0 where
+  pub tree : Tree
+  pub faults : List Fault

@@ -1,0 +1,29 @@
+//! Stored lists. A case is a line with two numbers, then so many bytes of text, then so many bytes that are wanted of it, then the end of
+//! the line.
+
+/// A text, and what is wanted of it.
+#[derive(Clone, Copy)]
+pub struct Case<'a> {
+    pub text: &'a str,
+    pub wanted: &'a str,
+}
+
+// The first line, without its end, and what stands behind it.
+fn first_line(list: &str) -> Option<(&str, &str)> {
+    list.split_once('\n')
+}
+
+// The first `len` bytes, and what stands behind them.
+fn cut<'a>(list: &'a str, len: &str) -> Option<(&'a str, &'a str)> {
+    list.split_at_checked(len.parse().ok()?)
+}
+
+/// The first case of a list, and the cases behind it; None where no case stands.
+pub fn first_case(list: &str) -> Option<(Case<'_>, &str)> {
+    let (head, rest) = first_line(list)?;
+    let (text_len, wanted_len) = head.split_once(' ')?;
+    let (text, rest) = cut(rest, text_len)?;
+    let (wanted, rest) = cut(rest, wanted_len)?;
+    let (_end, rest) = first_line(rest)?;
+    Some((Case { text, wanted }, rest))
+}

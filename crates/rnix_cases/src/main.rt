@@ -1,0 +1,58 @@
+//! Replays stored cases: a line for each list with the number of its texts. Where a text prints something else than what is stored, the
+//! text and what it prints are shown, ten times at most, and the status is 1.
+#![tactic(auto)]
+
+mod list;
+mod printed;
+
+use self::list::{Case, first_case};
+use self::printed::{List, printed};
+use std::process::ExitCode;
+use std::{fs, io};
+
+// How many differences are shown.
+const SHOWN: u64 = 10;
+
+// Whether a case prints what is stored; if not, it is shown.
+fn holds(rt: &HostRuntime, list: List, case: Case<'_>, shows: bool) -> io::Result<bool> {
+    let found = printed(rt.alloc(), list, case.text)?;
+    if found.as_slice() == case.wanted.as_bytes() {
+        return Ok(true);
+    }
+    if shows {
+        let (name, text, wanted) = (list.name(), case.text, case.wanted);
+        let found = str::from_utf8(found.as_slice()).unwrap_or("");
+        println!(rt; "{name}: the text\n{text}\nprints\n{found}and not\n{wanted}")?;
+    }
+    Ok(false)
+}
+
+// Replays a list: how many of its texts print something else. A list that is not read to its end has one difference more.
+fn replay(rt: &HostRuntime, list: List) -> io::Result<u64> {
+    let name = list.name();
+    let stored = fs::read_to_string(rt, name)?;
+    let mut rest = stored.as_str();
+    let (mut texts, mut differences): (u64, u64) = (0, 0);
+    for _byte in 0..stored.len() {
+        let Some((case, more)) = first_case(rest) else {
+            break;
+        };
+        rest = more;
+        texts = texts.saturating_add(1);
+        if !holds(rt, list, case, differences < SHOWN)? {
+            differences = differences.saturating_add(1);
+        }
+    }
+    println!(rt; "{name}: {texts} texts")?;
+    if !rest.is_empty() {
+        println!(rt; "{name}: a part of the list cannot be read")?;
+        differences = differences.saturating_add(1);
+    }
+    Ok(differences)
+}
+
+fn main(rt: HostRuntime) -> io::Result<ExitCode> {
+    let mut differences = replay(&rt, List::Tokens)?;
+    differences = differences.saturating_add(replay(&rt, List::Trees)?);
+    Ok(ExitCode::from(if differences == 0 { 0 } else { 1 }))
+}
