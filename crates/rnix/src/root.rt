@@ -13,6 +13,7 @@ use std::alloc::{AllocError, Global};
 use std::marker::Model;
 
 /// The root of a tree.
+#[derive(Clone, Drop)]
 pub struct Root<'t> {
     syntax: SyntaxNode<'t>,
 }

@@ -6,3 +6,5 @@ pub mod ModesLemmas
 pub mod StringsLemmas
 pub mod TokensLemmas
 pub mod WordsLemmas
+pub mod OperatorsLemmas
+pub mod SchemeLemmas

@@ -1,14 +1,15 @@
 //! The tokens of a text, one after another.
-ghost use Rattle.std.specs.Prelude.{◌≡◌, ◌<◌, ℕ, Bool, List, [], length, slice_index};
+ghost use Rattle.std.specs.Prelude.{◌≡◌, ◌↔◌, ◌<◌, ℕ, Bool, List, [], Some, length, slice_index};
 ghost use Rattle.std.specs.List.{flat_map, prefix_len};
 ghost use Rattle.rnix_kinds.specs.Lexical.Classes.{class_test};
-ghost use Rattle.rnix_kinds.specs.Lexical.Longest.{IsLongest, IsRun, IsRow, IsFirstPair};
-ghost use Rattle.rnix_kinds.specs.Lexical.Operators.{HasRoom};
+ghost use Rattle.rnix_kinds.specs.Lexical.Longest.{IsLongest, IsRun, IsRow, IsFirstPair, FitsRow, IsScheme};
+ghost use Rattle.rnix_kinds.specs.Lexical.Operators.{HasRoom, operators, operator};
 ghost use Rattle.rnix_kinds.specs.Lexical.Strings.{content_len};
 ghost use Rattle.rnix_kinds.specs.Lexical.Texts.{before_pair};
 ghost use Rattle.rnix_kinds.specs.Lexical.Ahead.{IsAhead};
 ghost use Rattle.rnix_kinds.specs.Lexical.Tokens.{cut_at, tokens_under, tokens_of, CountsFit, IsPathGoingOn, IsCutOf, GivesNext, AreTokens, AreSound, Lexeme, text_of};
 ghost use Rattle.rnix_kinds.specs.declared.kinds.SyntaxKind.{SyntaxKind};
+ghost use Rattle.rnix_kinds.specs.declared.tokenizer.text.Class.TheVariants.{Scheme};
 
 mod ahead;
 mod modes;
@@ -145,6 +146,8 @@ pub fn longest(text: &str, multiline: bool)
     ensures run { (test : ℕ → Bool) → IsLongest (IsRun test text.now) (prefix_len test text.now) }
     ensures content { content_len multiline text.now < length text.now → IsLongest (λ n. IsRow multiline n text.now) (content_len multiline text.now) }
     ensures comment { IsFirstPair 42 47 text.now (before_pair 42 47 text.now) }
+    ensures operator { (cut : Cut) → operator text.now ≡ Some cut → IsLongest (FitsRow operators text.now) cut.len }
+    ensures scheme { (slice_index text.now (prefix_len (class_test Scheme) text.now) ≡ 58) ↔ IsScheme text.now }
 {
     let _len = text.len();
 }

@@ -5,8 +5,6 @@ mod outcome;
 mod printing;
 mod reading;
 mod running;
-#[cfg(test)]
-mod tests;
 
 pub use outcome::{RunError, complaint, status};
 pub use printing::dump;

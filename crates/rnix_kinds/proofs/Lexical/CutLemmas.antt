@@ -27,7 +27,7 @@ use Rattle.rnix_kinds.specs.Lexical.Plain.{plain, space, comment, block_comment,
 use Rattle.rnix_kinds.specs.Lexical.Paths.{is_broken, segment, first_segment, slash, home, relative, goes_on_as_path, search_path, path_goes_on, path_cut}
 use Rattle.rnix_kinds.specs.Lexical.Strings.{piece_len, content_len, string_cut}
 use Rattle.rnix_kinds.proofs.Lexical.StringsLemmas.{content_len-le, content_len-stops}
-use Rattle.rnix_kinds.specs.Lexical.Tokens.{CountsUp, MayBe, may_open, opens, IsCutOf, IsPathGoingOn, first_that_fits, normal_rules, normal_cut, cut_at}
+use Rattle.rnix_kinds.specs.Lexical.Tokens.{CountsUp, MayBe, opens_alone, opens_path, opens, IsPathBegun, IsCutOf, IsPathGoingOn, first_that_fits, normal_rules, normal_cut, cut_at}
 use Rattle.rnix_kinds.specs.Lexical.Numbers.{number, digits_to, fraction, exponent, exponent_digits}
 use Rattle.rnix_kinds.specs.Lexical.Operators.{ellipsis, opener, brace, opening_brace, closing_brace, operator, operators, first_row}
 use Rattle.rnix_kinds.proofs.Lexical.WordsLemmas.{within_from_byte, IsCharBoundary-run, IsCharBoundary-space_len, IsCharBoundary-char_len, char_len_some, before_pair-le, before_pair-found}
@@ -65,8 +65,16 @@ free_if false k l e f = f
 free_path : (start : PathStart) → is_free (kind_of_path start) ≡ true
 free_path start = elim start as (λ s. is_free (kind_of_path s) ≡ true) [ StartSlash ↦ refl | StartName ↦ refl | StartTilde ↦ refl ]
 
-opens_path : (start : PathStart) → may_open (kind_of_path start) ≡ true
-opens_path start = elim start as (λ s. may_open (kind_of_path s) ≡ true) [ StartSlash ↦ refl | StartName ↦ refl | StartTilde ↦ refl ]
+path_opens : (start : PathStart) → opens_path (kind_of_path start) ≡ true
+path_opens start = elim start as (λ s. opens_path (kind_of_path s) ≡ true) [ StartSlash ↦ refl | StartName ↦ refl | StartTilde ↦ refl ]
+
+-- `${` stands where the rest begins
+interpolation_next : (n : ℕ) (text : List ℕ) → stands_at (codes "${") n text ≡ true → begins (codes "${") (drop n text) ≡ true
+interpolation_next n text e =
+    let here : get_or (drop n text) 0 0 ≡ get_or text n 0 = get_or-drop n text 0 0 ∙ ap (λ k. get_or text k 0) (add-zero n) in
+    let one : n + 1 ≡ suc n = omega arith in
+    let next : get_or (drop n text) 1 0 ≡ get_or text (suc n) 0 = get_or-drop n text 1 0 ∙ ap (λ k. get_or text k 0) one in
+    rw (here, next) e
 
 named_if : (b : Bool) (k l : SyntaxKind) (word : List ℕ) → (b ≡ true → MayBe k word) → (b ≡ false → MayBe l word) → MayBe (cond b k l) word
 named_if true k l word holds fails = holds refl
@@ -333,13 +341,13 @@ module _ (top : Option Mode) (text : List ℕ) (utf8 : IsUtf8 text) (some : 0 < 
       (λ e. fraction_good 1 (omega arith) (byte_end text 0 46 utf8 refl (and_parts _ _ e).0))
       (λ e. tt))
 
-  good_change : (kind : SyntaxKind) (bytes : List ℕ) (change : Change) → is_free kind ≡ true → may_open kind ≡ true → CountsUp top change → 0 < length bytes → list_all is_plain_byte bytes ≡ true → begins bytes text ≡ true → IsCutOf top text (record { kind = kind; len = length bytes; change = change })
+  good_change : (kind : SyntaxKind) (bytes : List ℕ) (change : Change) → is_free kind ≡ true → opens_alone kind ≡ true → CountsUp top change → 0 < length bytes → list_all is_plain_byte bytes ≡ true → begins bytes text ≡ true → IsCutOf top text (record { kind = kind; len = length bytes; change = change })
   good_change kind bytes change free may counted some ascii e = record {
     some = some;
     boundary = subst (IsCharBoundary text) (zero-add (length bytes)) (stands_end bytes 0 text utf8 some ascii e);
     counted = counted;
     named = free_named kind _ free;
-    opener = λ _. may;
+    opener = λ _. inl may;
   }
 
   pub opener_fits : FitsWell top text (opener text)
@@ -356,16 +364,16 @@ module _ (top : Option Mode) (text : List ℕ) (utf8 : IsUtf8 text) (some : 0 < 
       (λ e. tt))
 
   -- a segment of a path
-  segment_good : (start : PathStart) (going ended : Change) (from : ℕ) → CountsUp top going → CountsUp top ended → (opens ended ≡ true → ⊥) → IsCharBoundary text from → is_path (get_or text from 0) ≡ true → IsCutOf top text (segment start going ended from text)
-  segment_good start going ended from go stop ends begins_at first =
+  segment_good : (start : PathStart) (going ended : Change) (from : ℕ) → CountsUp top going → CountsUp top ended → (opens going ≡ true → IsPathBegun going) → (opens ended ≡ true → ⊥) → IsCharBoundary text from → is_path (get_or text from 0) ≡ true → IsCutOf top text (segment start going ended from text)
+  segment_good start going ended from go stop starts ends begins_at first =
       let end : IsCharBoundary text (run_end is_path from text) = run_boundary (Rattle.rnix_kinds.specs.declared.tokenizer.text.Class.TheVariants.Path) from text utf8 begins_at in
       let more : 0 < prefix_len is_path (drop from text) = path_some text from first in
       if_good top text (stands_at (codes "${") (run_end is_path from text) text) _ _
-      (λ e. record { some = omega arith; boundary = end; counted = go; named = free_named _ _ (free_path start); opener = λ _. opens_path start })
+      (λ e. record { some = omega arith; boundary = end; counted = go; named = free_named _ _ (free_path start); opener = λ opened. inr (path_opens start, starts opened, interpolation_next (run_end is_path from text) text e) })
       (λ e. record { some = omega arith; boundary = end; counted = stop; named = free_named _ _ (free_if (is_broken (take (run_end is_path from text) text)) TOKEN_ERROR (kind_of_path start) refl (free_path start)); opener = λ e. absurd (ends e) })
 
   first_segment_good : (start : PathStart) (from : ℕ) → IsCharBoundary text from → is_path (get_or text from 0) ≡ true → IsCutOf top text (first_segment start from text)
-  first_segment_good start from begins_at first = segment_good start (Open (Path start)) Stay from refl tt (λ e. cc) begins_at first
+  first_segment_good start from begins_at first = segment_good start (Open (Path start)) Stay from refl tt (λ e. tt) (λ e. cc) begins_at first
 
   pub slash_fits : FitsWell top text (slash text)
   slash_fits =
@@ -400,7 +408,7 @@ module _ (top : Option Mode) (text : List ℕ) (utf8 : IsUtf8 text) (some : 0 < 
   pub path_good : (kind : PathStart) → path_goes_on text ≡ true → IsCutOf top text (path_cut kind text)
   path_good kind going =
       if_good top text (begins (codes "${") text) _ _ (good_change _ (codes "${") (Open (Interpolation 0)) refl refl refl (omega arith) refl)
-      (λ e. segment_good kind Stay Close 0 tt tt (λ e. cc) (IsCharBoundary-start text utf8) (or_right _ _ e going))
+      (λ e. segment_good kind Stay Close 0 tt tt (λ e. absurd (cc)) (λ e. cc) (IsCharBoundary-start text utf8) (or_right _ _ e going))
 
   closer_good : (m : Bool) → content_len m text < length text → nat_lt 0 (content_len m text) ≡ false → begins (codes "${") text ≡ false → IsCutOf top text (record { kind = TOKEN_STRING_END; len = cond m 2 1; change = Close })
   closer_good m before s t =

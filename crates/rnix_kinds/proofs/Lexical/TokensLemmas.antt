@@ -1,14 +1,17 @@
 -- The tokens of a text, one after another.
-use Rattle.std.proofs.Common.{◌≡◌, ℕ, zero, suc, ◌-◌, ◌<◌, ◌≤◌, Bool, true, false, cond, List, [], ◌∷◌, length, take, drop, refl, ap, ◌∙◌, arith, ◌^◌}
+use Rattle.std.proofs.Common.{◌≡◌, ℕ, zero, suc, ◌-◌, ◌<◌, ◌≤◌, Bool, true, false, cond, List, [], ◌∷◌, length, take, drop, refl, ap, sym, subst, inl, inr, ◌∙◌, arith, ◌^◌}
+use Rattle.std.specs.Prelude.{codes}
+use Rattle.rnix_kinds.specs.declared.kinds.SyntaxKind.TheVariants.{TOKEN_INTERPOL_START}
 use Rattle.rnix_kinds.specs.declared.tokenizer.rule.PathStart.{PathStart}
 use Rattle.rnix_kinds.specs.declared.tokenizer.rule.Cut.{Cut}
 use Rattle.rnix_kinds.specs.declared.tokenizer.rule.Mode.{Mode}
 use Rattle.rnix_kinds.specs.declared.tokenizer.rule.Mode.TheVariants.{Quoted, Interpolation, Path}
 use Rattle.rnix_kinds.specs.declared.tokenizer.rule.Change.{Change}
 use Rattle.rnix_kinds.specs.declared.tokenizer.rule.Change.TheVariants.{Stay, Open, Close, Count}
-use Rattle.rnix_kinds.specs.Lexical.Paths.{path_goes_on}
+use Rattle.rnix_kinds.specs.Lexical.Texts.{begins}
+use Rattle.rnix_kinds.specs.Lexical.Paths.{path_goes_on, path_cut}
 use Rattle.rnix_kinds.specs.Lexical.Operators.{HasRoom}
-use Rattle.rnix_kinds.specs.Lexical.Tokens.{cut_at, top, without_ended_paths, changed, tokens_behind, tokens_under, CountsFit, IsPathGoingOn, CountsUp}
+use Rattle.rnix_kinds.specs.Lexical.Tokens.{cut_at, top, without_ended_paths, changed, tokens_behind, tokens_under, CountsFit, IsPathGoingOn, CountsUp, IsPathBegun, OpensBefore, InterpolatesFirst, OpensFirst}
 
 tokens_behind-passed : (passed : ℕ) (modes : List Mode) (text : List ℕ) → tokens_behind passed modes text ≡ tokens_under modes (drop passed text)
 unfolding tokens_behind
@@ -104,3 +107,31 @@ pub tokens_under-settled : (modes : List Mode) (text : List ℕ) → tokens_unde
 unfolding tokens_behind
 tokens_under-settled modes [] = refl
 tokens_under-settled modes (b ∷ text) = rw (without_ended_paths-settled modes (b ∷ text)) refl
+
+-- after `${` in a path comes an interpolation
+interpolation_cut : (start : PathStart) (text : List ℕ) → begins (codes "${") text ≡ true → path_cut start text ≡ record { kind = TOKEN_INTERPOL_START; len = 2; change = Open (Interpolation 0) }
+interpolation_cut start text e = rw e refl
+
+begins_some : (text : List ℕ) → begins (codes "${") text ≡ true → 0 < length text
+begins_some [] e = absurd (cc)
+begins_some (b ∷ text) e = omega arith
+
+goes_on_there : (text : List ℕ) → begins (codes "${") text ≡ true → path_goes_on text ≡ true
+goes_on_there text e = rw e refl
+
+path_interpolates : (start : PathStart) (modes : List Mode) (text : List ℕ) → begins (codes "${") text ≡ true → InterpolatesFirst (tokens_under (Path start ∷ modes) text)
+unfolding cut_at
+path_interpolates start modes text e =
+    let cut : Cut = record { kind = TOKEN_INTERPOL_START; len = 2; change = Open (Interpolation 0) } in
+    let settled : without_ended_paths (Path start ∷ modes) text ≡ Path start ∷ modes = settled_stays (Path start ∷ modes) text (goes_on_there text e) in
+    let here : cut_at (top (without_ended_paths (Path start ∷ modes) text)) text ≡ cut = rw settled (interpolation_cut start text e) in
+    subst InterpolatesFirst (sym (tokens_under-cut (Path start ∷ modes) text cut (begins_some text e) here (omega arith))) refl
+
+-- a token that opens a mode, before the tokens that follow it
+path_opens_first : (change : Change) (modes : List Mode) (text : List ℕ) → IsPathBegun change → begins (codes "${") text ≡ true → InterpolatesFirst (tokens_under (changed change modes) text)
+path_opens_first (Open (Path start)) modes text begun e = path_interpolates start modes text e
+path_opens_first change modes text begun e = absurd begun
+
+pub opens_first : (cut : Cut) (modes : List Mode) (word text : List ℕ) → OpensBefore cut text → OpensFirst ((cut.kind, word) ∷ tokens_under (changed cut.change modes) text)
+opens_first cut modes word text (inl alone) = inl alone
+opens_first cut modes word text (inr path) = inr (path.0, path_opens_first cut.change modes text path.1 path.2)

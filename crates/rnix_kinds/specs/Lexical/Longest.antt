@@ -1,6 +1,10 @@
--- What the words on lengths mean: a longest run, a longest row of pieces, a first pair.
-use Rattle.std.specs.Prelude.{◌≡◌, ℕ, ◌+◌, ◌<◌, ◌≤◌, Bool, true, List, take, drop, length, slice_index}
-use Rattle.std.specs.List.{list_all}
+-- What the words on lengths mean: a longest run, a longest row of pieces, a first pair, the longest operator; and where a scheme ends.
+use Rattle.std.specs.Prelude.{◌≡◌, ◌==◌, ◌⊎◌, ℕ, ◌+◌, ◌<◌, ◌≤◌, Bool, true, not, List, [], ◌∷◌, take, drop, length, slice_index}
+use Rattle.std.specs.List.{list_all, prefix_len}
+use Rattle.rnix_kinds.specs.declared.kinds.SyntaxKind.{SyntaxKind}
+use Rattle.rnix_kinds.specs.declared.tokenizer.text.Class.TheVariants.{Step}
+use Rattle.rnix_kinds.specs.Lexical.Classes.{class_test}
+use Rattle.rnix_kinds.specs.Lexical.Texts.{begins}
 use Rattle.rnix_kinds.specs.Lexical.Strings.{piece_len}
 
 -- the largest number of this kind
@@ -27,3 +31,14 @@ pub record IsFirstPair (a b : ℕ) (text : List ℕ) (n : ℕ) : Type 0 where
   pub within : n ≤ length text
   pub found : n < length text → IsPair a b text n
   pub first : (k : ℕ) → IsPair a b text k → n ≤ k
+
+-- one of the rows has n bytes, and they begin the text
+abbrev pub FitsRow : List (List ℕ × SyntaxKind) → List ℕ → ℕ → Type 0
+FitsRow [] text n = ⊥
+FitsRow (row ∷ rows) text n = ((begins row.0 text ≡ true) × (length row.0 ≡ n)) ⊎ FitsRow rows text n
+
+-- the path characters but `/` at the front hold no `_`, and `:` follows them
+abbrev pub IsScheme : List ℕ → Type 0
+IsScheme text =
+    (list_all (λ b. not (b == 95)) (take (prefix_len (class_test Step) text) text) ≡ true)
+    × (slice_index text (prefix_len (class_test Step) text) ≡ 58)

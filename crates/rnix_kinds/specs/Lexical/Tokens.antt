@@ -1,5 +1,5 @@
 -- The tokens of a text.
-use Rattle.std.specs.Prelude.{codes, Result, Ok, Err, length, ◌≡◌, ◌<◌, ◌≤◌, ◌^◌, ◌+◌, Bool, true, false, ℕ, zero, suc, ◌-◌, if◌then◌else◌, List, [], ◌∷◌, take, drop, Option, Some, None}
+use Rattle.std.specs.Prelude.{codes, ◌⊎◌, Result, Ok, Err, length, ◌≡◌, ◌<◌, ◌≤◌, ◌^◌, ◌+◌, Bool, true, false, ℕ, zero, suc, ◌-◌, if◌then◌else◌, List, [], ◌∷◌, take, drop, Option, Some, None}
 use Rattle.std.specs.Borrow.{Bor}
 use Rattle.std.specs.List.{flat_map, All}
 use Rattle.std.specs.Str.{IsCharBoundary, IsUtf8}
@@ -11,7 +11,7 @@ use Rattle.rnix_kinds.specs.declared.tokenizer.rule.Mode.{Mode}
 use Rattle.rnix_kinds.specs.declared.tokenizer.rule.Mode.TheVariants.{Quoted, Interpolation, Path}
 use Rattle.rnix_kinds.specs.declared.tokenizer.rule.Change.{Change}
 use Rattle.rnix_kinds.specs.declared.tokenizer.rule.Change.TheVariants.{Stay, Open, Close, Count}
-use Rattle.rnix_kinds.specs.Lexical.Texts.{char_len}
+use Rattle.rnix_kinds.specs.Lexical.Texts.{begins, char_len}
 use Rattle.rnix_kinds.specs.Lexical.Plain.{plain, space, comment, uri, word}
 use Rattle.rnix_kinds.specs.Lexical.Strings.{string_cut}
 use Rattle.rnix_kinds.specs.Lexical.Paths.{slash, home, relative, search_path, path_goes_on, path_cut}
@@ -99,14 +99,18 @@ abbrev pub IsPathGoingOn : Option Mode → List ℕ → Type 0
 IsPathGoingOn (Some (Path kind)) text = path_goes_on text ≡ true
 IsPathGoingOn mode text = Unit {0}
 
--- a token that may open a mode
-abbrev pub may_open : SyntaxKind → Bool
-may_open TOKEN_STRING_START = true
-may_open TOKEN_INTERPOL_START = true
-may_open TOKEN_PATH_ABS = true
-may_open TOKEN_PATH_HOME = true
-may_open TOKEN_PATH_REL = true
-may_open kind = false
+-- a token that opens a mode wherever it stands
+abbrev pub opens_alone : SyntaxKind → Bool
+opens_alone TOKEN_STRING_START = true
+opens_alone TOKEN_INTERPOL_START = true
+opens_alone kind = false
+
+-- a token that opens a mode where `${` follows
+abbrev pub opens_path : SyntaxKind → Bool
+opens_path TOKEN_PATH_ABS = true
+opens_path TOKEN_PATH_HOME = true
+opens_path TOKEN_PATH_REL = true
+opens_path kind = false
 
 -- what a kind says of the text: `or` is its own kind, and no rule gives a current position
 abbrev pub MayBe : SyntaxKind → List ℕ → Type 0
@@ -121,12 +125,21 @@ CountsUp top (Count n) = n ≤ braces_of top + 1
 CountsUp top (Open mode) = braces_of (Some mode) ≡ 0
 CountsUp top change = Unit {0}
 
+-- the change begins a path
+abbrev pub IsPathBegun : Change → Type 0
+IsPathBegun (Open (Path start)) = Unit {0}
+IsPathBegun change = ⊥
+
+-- the token opens a string, an interpolation, or a path that `${` follows
+abbrev pub OpensBefore : Cut → List ℕ → Type 0
+OpensBefore cut rest = (opens_alone cut.kind ≡ true) ⊎ ((opens_path cut.kind ≡ true) × IsPathBegun cut.change × (begins (codes "${") rest ≡ true))
+
 pub record IsCutOf (top : Option Mode) (text : List ℕ) (cut : Cut) : Type 0 where
   pub some : 0 < cut.len
   pub boundary : IsCharBoundary text cut.len
   pub counted : CountsUp top cut.change
   pub named : MayBe cut.kind (take cut.len text)
-  pub opener : opens cut.change ≡ true → may_open cut.kind ≡ true
+  pub opener : opens cut.change ≡ true → OpensBefore cut (drop cut.len text)
 
 -- the tokens, one after another: each begins where the last one ended, under the modes that it left
 pub data AreTokens : List Mode → List ℕ → List Lexeme → Type 0 where
@@ -147,10 +160,15 @@ pub record AreSound (text : List ℕ) (tokens : List Lexeme) : Type 0 where
   pub utf8 : All (λ t. IsUtf8 t.1) tokens
   pub named : All (λ t. MayBe t.0 t.1) tokens
 
--- the first of the tokens may open a mode
+-- an interpolation begins the tokens
+abbrev pub InterpolatesFirst : List Lexeme → Type 0
+InterpolatesFirst [] = ⊥
+InterpolatesFirst (token ∷ tokens) = token.0 ≡ TOKEN_INTERPOL_START
+
+-- the first of the tokens opens a mode: a string, an interpolation, or a path before an interpolation
 abbrev pub OpensFirst : List Lexeme → Type 0
 OpensFirst [] = ⊥
-OpensFirst (token ∷ tokens) = may_open token.0 ≡ true
+OpensFirst (token ∷ tokens) = (opens_alone token.0 ≡ true) ⊎ ((opens_path token.0 ≡ true) × InterpolatesFirst tokens)
 
 -- the next of the tokens that are left; after a refusal it is left, and it opens a mode
 abbrev pub GivesNext : List Lexeme → Option (Result (SyntaxKind × Bor (List ℕ)) AllocError) → List Lexeme → Type 0

@@ -1,5 +1,7 @@
 use Rattle.std.proofs.Common.{lit<}
 use Rattle.rnix_kinds.proofs.Lexical.LongestLemmas.{prefix_len-IsLongest, content_len-IsLongest, before_pair-IsFirstPair}
+use Rattle.rnix_kinds.proofs.Lexical.OperatorsLemmas.{operator-IsLongest}
+use Rattle.rnix_kinds.proofs.Lexical.SchemeLemmas.{scheme_ends}
 use Rattle.rnix_kinds.proofs.tokenizer.longest.Goals as goal
 
 pub returns : goal.returns
@@ -7,4 +9,6 @@ returns c = record {
   run = λ test. prefix_len-IsLongest test c.args.text.now;
   content = content_len-IsLongest c.args.multiline c.args.text.now;
   comment = before_pair-IsFirstPair 42 47 c.args.text.now (lit< tt);
+  operator = operator-IsLongest c.args.text.now;
+  scheme = scheme_ends c.args.text.now;
 }

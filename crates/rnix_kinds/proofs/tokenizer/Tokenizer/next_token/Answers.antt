@@ -1,7 +1,7 @@
-use Rattle.std.proofs.Common.{◌≡◌, ◌<◌, [], length, sym, ◌∙◌, ap, subst, arith, true-eqb, false-eqb}
+use Rattle.std.proofs.Common.{◌≡◌, ◌<◌, [], length, take, drop, sym, ◌∙◌, ap, subst, arith, true-eqb, false-eqb}
 use Rattle.rnix_kinds.specs.Lexical.Tokens.{cut_at, top, without_ended_paths, tokens_under, OpensFirst}
 use Rattle.rnix_kinds.specs.Lexical.Ahead.{IsAhead}
-use Rattle.rnix_kinds.proofs.Lexical.TokensLemmas.{nil_from_length, tokens_under-nil, tokens_under-cut, tokens_under-settled, IsPathGoingOn-settled, CountsFit-settled, CountsFit-changed, HasRoom-fit}
+use Rattle.rnix_kinds.proofs.Lexical.TokensLemmas.{nil_from_length, tokens_under-nil, tokens_under-cut, tokens_under-settled, IsPathGoingOn-settled, CountsFit-settled, CountsFit-changed, HasRoom-fit, opens_first}
 use Rattle.rnix_kinds.proofs.tokenizer.Tokenizer.next_token.Goals as goal
 
 pub returns-then-is_empty : goal.returns-then-is_empty
@@ -27,7 +27,7 @@ returns-in-Err c =
     let some : 0 < length c.self.inside.rest.now = omega (arith, false-eqb _ 0 c.if-is_empty.ensures) in
     let cut : cut_at (top (without_ended_paths c.self.inside.modes c.self.inside.rest.now)) c.self.inside.rest.now ≡ c.cut_at.result.0 = sym (rw (c.top.ensures, c.leave_ended_paths.ensures) at c.cut_at.ensures.cut) in
     let turn = tokens_under-cut c.self.inside.modes c.self.inside.rest.now c.cut_at.result.0 some cut good.some in
-    let first = subst OpensFirst (sym (sym c.self.view_is ∙ turn)) (good.opener c.in-Err.ensures.memory) in
+    let first = subst OpensFirst (sym (sym c.self.view_is ∙ turn)) (opens_first c.cut_at.result.0 (without_ended_paths c.self.inside.modes c.self.inside.rest.now) (take c.cut_at.result.0.len c.self.inside.rest.now) (drop c.cut_at.result.0.len c.self.inside.rest.now) (good.opener c.in-Err.ensures.memory)) in
     rw (c.in-Err.ensures.err, c.leave_ended_paths.ensures) (tokens_under-settled c.self.inside.modes c.self.inside.rest.now ∙ c.self.view_is, first)
 
 pub split_at-requires : goal.split_at-requires

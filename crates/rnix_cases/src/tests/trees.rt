@@ -1,0 +1,106 @@
+//! Trees: built by hand and read from a text.
+
+use rnix::{
+    GreenNode, GreenNodeBuilder, NodeOrToken, ParseError, Root, SyntaxKind, SyntaxNode, TextRange,
+    TokenSet, WalkEvent,
+};
+use rnix_print::dump;
+use std::alloc::Global;
+use std::test::Fail;
+
+// What is printed of a node.
+fn dumped(alloc: Global, node: &SyntaxNode<'_>) -> Result<Vec<u8>, Fail> {
+    let mut out = Vec::new(alloc);
+    dump(node, &mut out)?;
+    Ok(out)
+}
+
+// `turns` times `part`.
+fn repeated(text: &mut String, part: &str, turns: usize) -> Result<(), Fail> {
+    for _turn in 0..turns {
+        text.push_str(part)?;
+    }
+    Ok(())
+}
+
+// So many parentheses around `1`.
+fn nested(alloc: Global, turns: usize) -> Result<String, Fail> {
+    let mut text = String::new(alloc);
+    repeated(&mut text, "(", turns)?;
+    text.push_str("1")?;
+    repeated(&mut text, ")", turns)?;
+    Ok(text)
+}
+
+// A ROOT over one leaf.
+fn small(alloc: Global) -> Result<GreenNode, Fail> {
+    let mut builder = GreenNodeBuilder::new(alloc);
+    builder.start_node(SyntaxKind::NODE_ROOT)?;
+    builder.token(SyntaxKind::TOKEN_IDENT, "a")?;
+    builder.finish_node()?;
+    Ok(builder.finish()?)
+}
+
+#[test]
+fn a_copied_tree_prints_the_same(rt: HostRuntime) -> Result<(), Fail> {
+    let tree = small(rt.alloc())?;
+    let copy = tree.try_clone()?;
+    let want = "NODE_ROOT@0..1\n  TOKEN_IDENT@0..1\n";
+    let printed = dumped(rt.alloc(), &SyntaxNode::new_root(&copy))?;
+    assert_eq!(rt; printed.as_slice(), want.as_bytes());
+    Ok(())
+}
+
+#[test]
+fn a_node_inside_prints_from_its_place(rt: HostRuntime) -> Result<(), Fail> {
+    let read = Root::parse(rt.alloc(), "1 + 2 * 3")?;
+    for event in read.syntax().preorder_with_tokens() {
+        if let WalkEvent::Enter(NodeOrToken::Node(node)) = event {
+            if node.kind() == SyntaxKind::NODE_LITERAL && node.text_range().start() == 4 {
+                let printed = dumped(rt.alloc(), &node)?;
+                let want = "NODE_LITERAL@4..5\n  TOKEN_INTEGER@4..5\n";
+                assert_eq!(rt; printed.as_slice(), want.as_bytes());
+            }
+        }
+    }
+    Ok(())
+}
+
+#[test]
+fn operators_are_found(rt: HostRuntime) -> Result<(), Fail> {
+    let read = Root::parse(rt.alloc(), "f (1 + x)")?;
+    let operators: TokenSet = SyntaxKind::TOKEN_ADD | SyntaxKind::TOKEN_MUL;
+    let mut found: u8 = 0;
+    for event in read.syntax().preorder_with_tokens() {
+        if let WalkEvent::Enter(element) = event {
+            if operators.contains(element.kind()) {
+                found = found.saturating_add(1);
+            }
+        }
+    }
+    assert_eq!(rt; found, 1);
+    Ok(())
+}
+
+#[test]
+fn parentheses_nest_up_to_the_limit(rt: HostRuntime) -> Result<(), Fail> {
+    let alloc = rt.alloc();
+    let deep = Root::parse(alloc, nested(alloc, 511)?.as_str())?;
+    assert!(rt; deep.errors().is_empty());
+    let too_deep = Root::parse(alloc, nested(alloc, 512)?.as_str())?;
+    assert!(rt; too_deep.errors().first() == Some(&ParseError::RecursionLimitExceeded));
+    assert_eq!(rt; too_deep.errors().len(), 513);
+    assert_eq!(rt; too_deep.syntax().text(), nested(alloc, 512)?.as_str());
+    Ok(())
+}
+
+#[test]
+fn open_parentheses_end_with_the_text(rt: HostRuntime) -> Result<(), Fail> {
+    let mut text = String::new(rt.alloc());
+    repeated(&mut text, "(", 512)?;
+    let read = Root::parse(rt.alloc(), text.as_str())?;
+    assert!(rt; read.errors().first() == Some(&ParseError::RecursionLimitExceeded));
+    assert_eq!(rt; read.errors().len(), 513);
+    assert!(rt; read.syntax().text_range() == TextRange::new(0, 512));
+    Ok(())
+}
