@@ -1,4 +1,5 @@
 //! The tokens of a text, one after another.
+
 ghost use Rattle.std.specs.Prelude.{◌≡◌, ◌↔◌, ◌<◌, ℕ, Bool, List, [], Some, length, slice_index};
 ghost use Rattle.std.specs.List.{flat_map, prefix_len};
 ghost use Rattle.rnix_kinds.specs.Lexical.Classes.{class_test};

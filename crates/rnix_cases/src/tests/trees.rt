@@ -5,7 +5,7 @@ use rnix::{
     TokenSet, WalkEvent,
 };
 use rnix_print::dump;
-use std::alloc::Global;
+use std::alloc::{AllocError, Global};
 use std::test::Fail;
 
 // What is printed of a node.
@@ -102,5 +102,54 @@ fn open_parentheses_end_with_the_text(rt: HostRuntime) -> Result<(), Fail> {
     assert!(rt; read.errors().first() == Some(&ParseError::RecursionLimitExceeded));
     assert_eq!(rt; read.errors().len(), 513);
     assert!(rt; read.syntax().text_range() == TextRange::new(0, 512));
+    Ok(())
+}
+
+// The tree of `a b or c` without trivia, where each refused call is made again.
+fn built_again(alloc: Global) -> Result<GreenNode, AllocError> {
+    let mut builder = GreenNodeBuilder::new(alloc);
+    let rows = [
+        (SyntaxKind::TOKEN_IDENT, "a"),
+        (SyntaxKind::TOKEN_IDENT, "b"),
+        (SyntaxKind::TOKEN_IDENT, "or"),
+        (SyntaxKind::TOKEN_IDENT, "c"),
+    ];
+    let start = builder.checkpoint();
+    for (kind, text) in rows {
+        if builder.start_node(SyntaxKind::NODE_IDENT).is_err() {
+            builder.start_node(SyntaxKind::NODE_IDENT)?;
+        }
+        if builder.token(kind, text).is_err() {
+            builder.token(kind, text)?;
+        }
+        if builder.finish_node().is_err() {
+            builder.finish_node()?;
+        }
+    }
+    if builder.start_node_at(start, SyntaxKind::NODE_ROOT).is_err() {
+        builder.start_node_at(start, SyntaxKind::NODE_ROOT)?;
+    }
+    if builder.finish_node().is_err() {
+        builder.finish_node()?;
+    }
+    builder.finish()
+}
+
+#[test]
+fn a_tree_is_built_in_spite_of_refusals(rt: HostRuntime) -> Result<(), Fail> {
+    let alloc = rt.alloc();
+    // A refused `finish` takes the builder with it, so all is built again.
+    let tree = match built_again(alloc) {
+        Ok(tree) => tree,
+        Err(_refused) => built_again(alloc)?,
+    };
+    let root = SyntaxNode::new_root(&tree);
+    let mut places: usize = 0;
+    for child in root.children_with_tokens() {
+        let range = child.text_range();
+        assert!(rt; child.kind() == SyntaxKind::NODE_IDENT && range.start() == places);
+        places = range.end();
+    }
+    assert_eq!(rt; root.text(), "aborc");
     Ok(())
 }

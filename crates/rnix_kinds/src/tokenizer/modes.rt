@@ -1,4 +1,5 @@
 //! The stack of modes.
+
 ghost use Rattle.std.specs.Prelude.{◌≡◌, ◌∷◌, [], List, drop, reverse, length, true, OnOk, OnErr};
 ghost use Rattle.rnix_kinds.specs.Lexical.Tokens.{top, without_ended_paths, changed, opens};
 ghost use Rattle.rnix_kinds.specs.declared.tokenizer.rule.Mode.{Mode};
@@ -21,6 +22,7 @@ impl Model for Modes {
 }
 
 impl Modes {
+    /// No mode is open.
     pub fn new(alloc: Global) -> Self
         ensures { result ≡ [] }
     {
@@ -29,12 +31,14 @@ impl Modes {
         }
     }
 
+    /// The innermost mode.
     pub fn top(&self) -> Option<Mode>
         ensures { result ≡ top self.now }
     {
         self.items.last().copied()
     }
 
+    /// Leaves the innermost mode.
     pub fn close(&mut self)
         ensures { self.new ≡ drop 1 self.old }
     {
@@ -52,6 +56,7 @@ impl Modes {
         }
     }
 
+    /// What a token does to the modes. A refusal leaves them as they were.
     pub fn change(&mut self, change: Change) -> Result<(), AllocError>
         ensures ok { OnOk result (self.new ≡ changed change self.old) }
         ensures err { OnErr result (self.new ≡ self.old) }

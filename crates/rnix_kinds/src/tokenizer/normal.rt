@@ -1,4 +1,5 @@
 //! The rules in their order.
+
 ghost use Rattle.std.specs.Prelude.{◌≡◌, ◌<◌, length, slice_index};
 ghost use Rattle.std.specs.List.{prefix_len};
 ghost use Rattle.rnix_kinds.specs.Lexical.Classes.{class_test};
@@ -15,6 +16,7 @@ use super::text::{Class, char_len};
 use super::word::{uri, word};
 use crate::kinds::SyntaxKind;
 
+/// The token of the first rule that fits.
 #[tactic(auto, unfolding(crate::specs::Lexical::Tokens::normal_cut))]
 pub fn normal(text: &str, top: Option<Mode>, runs: Ahead) -> Cut
     requires some { 0 < length text.now }

@@ -1,4 +1,5 @@
 //! Numbers.
+
 ghost use Rattle.std.specs.Prelude.{◌≡◌, ◌≤◌, length};
 ghost use Rattle.rnix_kinds.specs.Lexical.Numbers.{number, fraction, exponent, exponent_digits};
 
@@ -6,6 +7,7 @@ use super::rule::{Cut, plain};
 use super::text::{Class, byte_at, run_end};
 use crate::kinds::SyntaxKind;
 
+// The digits of an exponent, which must be there.
 fn exponent_digits(text: &str, at: usize) -> Cut
     requires { at ≤ length text.now }
     ensures { result ≡ exponent_digits at text.now }
@@ -18,6 +20,7 @@ fn exponent_digits(text: &str, at: usize) -> Cut
     }
 }
 
+// A float whose digits end at `at`, with the exponent that may follow them.
 fn exponent(text: &str, at: usize) -> Cut
     requires { at ≤ length text.now }
     ensures { result ≡ exponent at text.now }
@@ -33,6 +36,7 @@ fn exponent(text: &str, at: usize) -> Cut
     }
 }
 
+// A float whose digits after the point begin at `at`.
 fn fraction(text: &str, at: usize) -> Cut
     requires { at ≤ length text.now }
     ensures { result ≡ fraction at text.now }
@@ -40,6 +44,7 @@ fn fraction(text: &str, at: usize) -> Cut
     exponent(text, run_end(text, at, Class::Digit))
 }
 
+/// A number.
 pub fn number(text: &str) -> Option<Cut>
     ensures { result ≡ number text.now }
 {

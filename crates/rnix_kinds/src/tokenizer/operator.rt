@@ -1,4 +1,5 @@
 //! Operators and brackets.
+
 ghost use Rattle.std.specs.Prelude.{◌≡◌, ◌<◌};
 ghost use Rattle.rnix_kinds.specs.Lexical.Operators.{ellipsis, opener, brace, operator, HasRoom};
 
@@ -6,6 +7,7 @@ use super::rule::{Change, Cut, Mode, plain};
 use super::text::byte_at;
 use crate::kinds::SyntaxKind;
 
+/// Three dots.
 pub fn ellipsis(text: &str) -> Option<Cut>
     ensures { result ≡ ellipsis text.now }
 {
@@ -16,6 +18,7 @@ pub fn ellipsis(text: &str) -> Option<Cut>
     }
 }
 
+/// What opens a string or an interpolation.
 pub fn opener(text: &str) -> Option<Cut>
     ensures { result ≡ opener text.now }
 {
@@ -40,6 +43,7 @@ pub fn opener(text: &str) -> Option<Cut>
     }
 }
 
+/// A brace. An interpolation counts its braces, and ends at a `}` too many.
 pub fn brace(text: &str, top: Option<Mode>) -> Option<Cut>
     requires { HasRoom top }
     ensures { result ≡ brace top text.now }
@@ -70,6 +74,7 @@ pub fn brace(text: &str, top: Option<Mode>) -> Option<Cut>
     }
 }
 
+/// An operator or a bracket, the longest that fits.
 pub fn operator(text: &str) -> Option<Cut>
     ensures { result ≡ operator text.now }
 {

@@ -1,4 +1,5 @@
 //! Paths.
+
 ghost use Rattle.std.specs.Prelude.{◌≡◌, ◌<◌, ◌≤◌, true, length, slice_index};
 ghost use Rattle.std.specs.List.{prefix_len};
 ghost use Rattle.rnix_kinds.specs.Lexical.Classes.{class_test};
@@ -8,6 +9,7 @@ use super::rule::{Change, Cut, Mode, PathStart, plain};
 use super::text::{Class, before_pair, begins_space, byte_at, byte_of, char_len, is_in, run_end};
 use crate::kinds::SyntaxKind;
 
+// Whether a segment ends with `/` or holds `//`.
 fn is_broken(segment: &[u8]) -> bool
     requires { 0 < length segment.now }
     ensures { result ≡ is_broken segment.now }
@@ -15,6 +17,7 @@ fn is_broken(segment: &[u8]) -> bool
     byte_of(segment, segment.len() - 1) == b'/' || before_pair(segment, b'/', b'/') < segment.len()
 }
 
+// A segment whose path characters begin at `from`. Before `${` it does `going` to the modes, and elsewhere `ended`.
 fn segment(text: &str, start: PathStart, going: Change, ended: Change, from: usize) -> Cut
     requires there { from < length text.now }
     requires some { class_test Class.Path (slice_index text.now from) ≡ true }
@@ -40,6 +43,7 @@ fn segment(text: &str, start: PathStart, going: Change, ended: Change, from: usi
     }
 }
 
+// The segment that begins a path.
 fn first_segment(text: &str, start: PathStart, from: usize) -> Cut
     requires there { from < length text.now }
     requires some { class_test Class.Path (slice_index text.now from) ≡ true }
@@ -54,6 +58,7 @@ fn first_segment(text: &str, start: PathStart, from: usize) -> Cut
     )
 }
 
+/// `//`, an absolute path, or a division.
 pub fn slash(text: &str) -> Option<Cut>
     ensures { result ≡ slash text.now }
 {
@@ -70,6 +75,7 @@ pub fn slash(text: &str) -> Option<Cut>
     }
 }
 
+/// A path from the home folder, or an error over `~` and the next character.
 pub fn home(text: &str) -> Option<Cut>
     ensures { result ≡ home text.now }
 {
@@ -87,6 +93,7 @@ pub fn home(text: &str) -> Option<Cut>
     Some(plain(SyntaxKind::TOKEN_ERROR, len))
 }
 
+// Whether `/` and what a path goes on with stand behind the first `len` bytes.
 fn goes_on_as_path(text: &str, len: usize) -> bool
     requires { len ≤ length text.now }
     ensures { result ≡ goes_on_as_path len text.now }
@@ -135,6 +142,7 @@ pub fn path_goes_on(text: &str) -> bool
     byte_at(text, 0) == b'$' && byte_at(text, 1) == b'{' || is_in(Class::Path, byte_at(text, 0))
 }
 
+/// What goes on a path behind an interpolation: a segment, or another interpolation.
 pub fn path(text: &str, start: PathStart) -> Cut
     requires { path_goes_on text.now ≡ true }
     ensures { result ≡ path_cut start text.now }

@@ -1,3 +1,5 @@
+//! What a rule of the tokenizer gives.
+
 ghost use Rattle.std.specs.Prelude.{◌≡◌};
 
 use crate::kinds::SyntaxKind;

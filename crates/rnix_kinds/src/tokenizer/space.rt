@@ -1,4 +1,5 @@
 //! White space and comments.
+
 ghost use Rattle.std.specs.Prelude.{◌≡◌};
 ghost use Rattle.rnix_kinds.specs.Lexical.Plain.{space, comment};
 
@@ -6,6 +7,7 @@ use super::rule::{Cut, plain};
 use super::text::{Class, before_pair, byte_at, run_end, space_len};
 use crate::kinds::SyntaxKind;
 
+/// White space.
 pub fn space(text: &str) -> Option<Cut>
     ensures { result ≡ space text.now }
 {
@@ -17,6 +19,7 @@ pub fn space(text: &str) -> Option<Cut>
     }
 }
 
+/// A comment: up to the end of its line, or through `*/`. Without a `*/` the rest of the text is an error.
 pub fn comment(text: &str) -> Option<Cut>
     ensures { result ≡ comment text.now }
 {

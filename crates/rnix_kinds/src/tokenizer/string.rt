@@ -1,4 +1,5 @@
 //! The inside of a string.
+
 ghost use Rattle.std.specs.Prelude.{◌≡◌, ◌<◌, ◌≤◌, length};
 ghost use Rattle.rnix_kinds.specs.Lexical.Strings.{piece_len, content_len, string_cut};
 
@@ -55,6 +56,7 @@ fn content_len(bytes: &[u8], multiline: bool) -> usize
     at
 }
 
+/// What stands inside a string: its content, an interpolation, its end, or an error where the text ends first.
 pub fn string(text: &str, multiline: bool) -> Cut
     ensures { result ≡ string_cut multiline text.now }
 {

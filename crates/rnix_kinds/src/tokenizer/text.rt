@@ -1,4 +1,5 @@
 //! Looking at a text.
+
 ghost use Rattle.std.specs.Prelude.{◌≡◌, ◌+◌, ◌<◌, ◌≤◌, length, slice_index};
 ghost use Rattle.std.specs.List.{prefix_len};
 ghost use Rattle.rnix_kinds.specs.Lexical.Texts.{run_end, before_pair, char_len, begins_space, space_len};
@@ -23,6 +24,7 @@ pub enum Class {
     Line,
 }
 
+// A path character: a letter, a digit, `/`, `_`, `.`, `+` or `-`.
 #[inline(always)]
 fn is_path(b: u8) -> bool
     ensures { result ≡ class_test Class.Path b }
@@ -69,6 +71,7 @@ pub fn byte_of(bytes: &[u8], index: usize) -> u8
     if index < bytes.len() { bytes[index] } else { 0 }
 }
 
+/// The byte of a text at `index`, or 0 past the end.
 #[inline]
 pub fn byte_at(text: &str, index: usize) -> u8
     ensures { result ≡ slice_index text.now index }
@@ -76,6 +79,7 @@ pub fn byte_at(text: &str, index: usize) -> u8
     byte_of(text.as_bytes(), index)
 }
 
+// The length of the longest run at the front.
 #[inline(always)]
 fn run_len(bytes: &[u8], class: Class) -> usize
     ensures len { result ≡ prefix_len (class_test class) bytes.now }

@@ -1,4 +1,5 @@
 //! Names, keywords and URIs.
+
 ghost use Rattle.std.specs.Prelude.{◌≡◌};
 ghost use Rattle.std.specs.List.{prefix_len};
 ghost use Rattle.rnix_kinds.specs.Lexical.Plain.{uri, word, kind_of_word};
@@ -23,6 +24,7 @@ pub fn uri(text: &str, scheme: usize) -> Option<Cut>
     }
 }
 
+// The kind of a keyword, or of a name.
 fn kind_of_word(word: &str) -> SyntaxKind
     ensures { result ≡ kind_of_word word.now }
 {
@@ -41,6 +43,7 @@ fn kind_of_word(word: &str) -> SyntaxKind
     }
 }
 
+/// A keyword or a name.
 pub fn word(text: &str) -> Option<Cut>
     ensures { result ≡ word text.now }
 {
