@@ -8,4 +8,7 @@ pub mod PieceLemmas
 pub mod ParentLemmas
 pub mod SiblingLemmas
 pub mod PartLemmas
+pub mod NestLemmas
+pub mod InsideLemmas
+pub mod RelativeLemmas
 pub mod PreorderLemmas

@@ -8,3 +8,5 @@ pub mod Kept
 pub mod Postorder
 pub mod Entries
 pub mod Cursor
+pub mod Relatives
+pub mod Around

@@ -7,6 +7,7 @@ mod green;
 mod node;
 mod postorder;
 mod range;
+mod relatives;
 mod token;
 mod walk;
 

@@ -1,0 +1,248 @@
+-- What stands beside an element and inside it.
+use Rattle.std.proofs.Common.{◌≡◌, ℕ, zero, suc, ◌+◌, ◌-◌, ◌≤◌, ◌<◌, length, Option, Some, None, Bool, true, false, refl, ap, sym, subst, ◌∙◌, arith, ◌⊎◌, inl, inr}
+use Rattle.std.proofs.lemmas.Bool.{cases_lt}
+use Rattle.std.proofs.lemmas.Option.{same_Some}
+use Rattle.rnix_tree.specs.Tree.{Tree, Item, items_of, item}
+use Rattle.rnix_tree.specs.Relatives.{IsFirst, IsLast, IsChild, IsSibling, IsNodeIn, IsTokenIn, IsSiblingNode}
+use Rattle.rnix_tree.specs.Around.{IsThereIfAny, IsOnWayTo, FirstNodeFrom, LastNodeFrom}
+use Rattle.rnix_tree.proofs.SiblingLemmas.{next_inside}
+use Rattle.rnix_tree.proofs.ParentLemmas.{parent_is_node, parent_is_before}
+use Rattle.rnix_tree.proofs.InsideLemmas.{held, ends_inside, first_child_of, below_parent, sibling_behind, has_parent}
+
+-- an element inside another has another parent than it has
+pub not_beside : (t : Tree) (n p m : ℕ) → n < length (items_of t) → (item t n).parent ≡ Some p → n < m → m ≤ n + (item t n).below → (item t m).parent ≡ Some p → ⊥
+not_beside t n p m l e low high same =
+    let in_n = held t n m l low high in
+    let above = parent_is_before t n p l e in
+    let eq : in_n.parent ≡ p = same_Some in_n.parent p (sym in_n.is ∙ same) in
+    omega (arith, in_n.low)
+
+-- only the root has no parent
+root_alone : (t : Tree) (m : ℕ) → m < length (items_of t) → (item t m).parent ≡ None → m ≡ 0
+root_alone t zero l e = refl
+root_alone t (suc m) l e = absurd (let h = has_parent t (suc m) (omega arith) l in let x = sym h.is ∙ e in cc)
+
+module _ (t : Tree) (n : ℕ) (l : n < length (items_of t)) where
+  -- the root has no siblings
+  pub no_next_of_root : (item t n).parent ≡ None → IsFirst (IsSibling record { tree = t; number = n }) n None
+  no_next_of_root e m low h = (let a = root_alone t m h.is_there (h.parent ∙ e) in omega arith)
+
+  pub no_prev_of_root : (item t n).parent ≡ None → IsLast (IsSibling record { tree = t; number = n }) n None
+  no_prev_of_root e m low h = (let b = root_alone t n l e in omega arith)
+
+  -- behind an element and what is inside it stands its next sibling, or its parent has ended
+  pub next_there : (p : ℕ) → (item t n).parent ≡ Some p → n + 1 + (item t n).below ≤ p + (item t p).below → IsFirst (IsSibling record { tree = t; number = n }) n (Some (n + 1 + (item t n).below))
+  next_there p e fits =
+      let above = below_parent t n p l e in
+      let inside = next_inside t p (omega (arith, above.low)) in (
+        omega arith,
+        record { is_there = omega arith; parent = sibling_behind t n p l e fits ∙ sym e },
+        λ m low high h. not_beside t n p m l e low (omega arith) (h.parent ∙ e),
+      )
+
+  pub no_next : (p : ℕ) → (item t n).parent ≡ Some p → p + (item t p).below < n + 1 + (item t n).below → IsFirst (IsSibling record { tree = t; number = n }) n None
+  no_next p e past m low h =
+      elim (cases_lt (n + (item t n).below) m) [
+        | inl behind ↦
+            let above = below_parent t m p h.is_there (h.parent ∙ e) in
+            omega (arith, above.high)
+        | inr inside ↦ not_beside t n p m l e low inside (h.parent ∙ e)
+      ]
+
+  -- no sibling stands before an element right behind its parent
+  pub no_prev : (p : ℕ) → (item t n).parent ≡ Some p → n - 1 ≡ p → IsLast (IsSibling record { tree = t; number = n }) n None
+  no_prev p e right m low h =
+      let above = below_parent t m p h.is_there (h.parent ∙ e) in
+      let here = below_parent t n p l e in
+      omega (arith, above.low, here.low)
+
+  -- the child in which the element before lies is the previous sibling
+  pub prev_there : (p child : ℕ) → (item t n).parent ≡ Some p → 0 < n → IsOnWayTo t p (n - 1) child → IsLast (IsSibling record { tree = t; number = n }) n (Some child)
+  prev_there p child e some h =
+      let low = h.low in
+      let there : child < length (items_of t) = omega arith in
+      let ends : child + (item t child).below < n =
+      elim (cases_lt (child + (item t child).below) n) [
+        | inl short ↦ short
+        | inr long ↦ absurd (not_beside t child p n there h.parent (omega arith) long e)
+      ] in (
+        omega arith,
+        record { is_there = there; parent = h.parent ∙ sym e },
+        λ m after before s. not_beside t child p m there h.parent after (omega (arith, h.high)) (s.parent ∙ e),
+      )
+
+  -- the children of an element
+  pub first_there : 0 < (item t n).below → IsFirst (IsChild record { tree = t; number = n }) n (Some (n + 1))
+  first_there some =
+      (omega arith, record { is_there = omega (arith, next_inside t n l); parent = first_child_of t n l some }, λ m low high h. omega arith)
+
+  no_children : (item t n).below ≡ 0 → (m : ℕ) → ¬ IsChild record { tree = t; number = n } m
+  no_children none m h = (let in_n = below_parent t m n h.is_there h.parent in omega (arith, in_n.low, in_n.high))
+
+  pub no_first : (item t n).below ≡ 0 → IsFirst (IsChild record { tree = t; number = n }) n None
+  no_first none m low h = no_children none m h
+
+  pub no_last : (item t n).below ≡ 0 → IsLast (IsChild record { tree = t; number = n }) (length (items_of t)) None
+  no_last none m low h = no_children none m h
+
+  -- the child that ends with the element is the last
+  pub last_there : (child : ℕ) → IsOnWayTo t n (n + (item t n).below) child → IsLast (IsChild record { tree = t; number = n }) (length (items_of t)) (Some child)
+  last_there child h =
+      let inside = next_inside t n l in
+      let there : child < length (items_of t) = omega (arith, h.low) in (
+        there,
+        record { is_there = there; parent = h.parent },
+        λ m after before s. let in_n = below_parent t m n s.is_there s.parent in not_beside t child n m there h.parent after (omega (arith, h.high, in_n.high)) s.parent,
+      )
+
+-- climbing from an element towards one around it
+pub record IsClimbing (t : Tree) (p m child : ℕ) : Type 0 where
+  pub above : p < child
+  pub low : child ≤ m
+  pub high : m ≤ child + (item t child).below
+
+pub climb_start : (t : Tree) (p m : ℕ) → p < m → IsClimbing t p m m
+climb_start t p m l = record { above = l; low = omega arith; high = omega arith }
+
+-- the element is inside p, so its parent is p or inside p
+pub climb_step : (t : Tree) (p m child above : ℕ) → p < length (items_of t) → m ≤ p + (item t p).below → IsClimbing t p m child → (item t child).parent ≡ Some above → ¬ (above ≡ p)
+    → IsClimbing t p m above
+climb_step t p m child above l high h e differs =
+    let inside = next_inside t p l in
+    let low = h.low in
+    let there : child < length (items_of t) = omega arith in
+    let held_in = held t p child l h.above (omega arith) in
+    let same : held_in.parent ≡ above = same_Some held_in.parent above (sym held_in.is ∙ e) in
+    let around = below_parent t child above there e in
+    let ends = ends_inside t above child (omega (arith, around.low)) around.low around.high in
+    record {
+      above = apart p above (omega (arith, held_in.low)) differs;
+      low = omega (arith, around.low);
+      high = omega (arith, h.high);
+    }
+  where
+    apart : (p q : ℕ) → p ≤ q → ¬ (q ≡ p) → p < q
+    apart p q l d = elim (cases_lt p q) [ inl less ↦ less | inr more ↦ absurd (d (omega arith)) ]
+
+pub climb_end : (t : Tree) (p m child : ℕ) → IsClimbing t p m child → (item t child).parent ≡ Some p → IsOnWayTo t p m child
+climb_end t p m child h e = record { parent = e; above = h.above; low = h.low; high = h.high }
+
+-- an element inside p has a parent
+pub climb_goes : (t : Tree) (p m child : ℕ) → p < length (items_of t) → m ≤ p + (item t p).below → IsClimbing t p m child → (item t child).parent ≡ None → ⊥
+climb_goes t p m child l high h none =
+    let low = h.low in
+    let held_in = held t p child l h.above (omega arith) in
+    let x = sym held_in.is ∙ none in
+    cc
+
+-- stepping over siblings, where no node was met yet
+pub record Stepped (t : Tree) (n k : ℕ) : Type 0 where
+  pub start : n < length (items_of t)
+  pub there : k < length (items_of t)
+  pub beside : (item t k).parent ≡ (item t n).parent
+
+abbrev pub IsAhead : Tree → Option ℕ → Option ℕ → Type 0
+IsAhead t None next = next ≡ None
+IsAhead t (Some n) None = (n < length (items_of t)) × ((m : ℕ) → n ≤ m → ¬ IsSiblingNode record { tree = t; number = n } m)
+IsAhead t (Some n) (Some k) = Stepped t n k × (n ≤ k) × ((m : ℕ) → n ≤ m → m < k → ¬ IsSiblingNode record { tree = t; number = n } m)
+
+abbrev pub IsBack : Tree → Option ℕ → Option ℕ → Type 0
+IsBack t None next = next ≡ None
+IsBack t (Some n) None = (n < length (items_of t)) × ((m : ℕ) → m ≤ n → ¬ IsSiblingNode record { tree = t; number = n } m)
+IsBack t (Some n) (Some k) = Stepped t n k × (k ≤ n) × ((m : ℕ) → k < m → m ≤ n → ¬ IsSiblingNode record { tree = t; number = n } m)
+
+-- how far the steps can go
+abbrev pub left_ahead : Tree → Option ℕ → ℕ
+left_ahead t None = 0
+left_ahead t (Some k) = 1 + (length (items_of t) - k)
+
+abbrev pub left_back : Option ℕ → ℕ
+left_back None = 0
+left_back (Some k) = 1 + k
+
+pub ahead_start : (t : Tree) (start : Option ℕ) → IsThereIfAny t start → IsAhead t start start
+ahead_start t None h = refl
+ahead_start t (Some n) h = (record { start = h; there = h; beside = refl }, omega arith, λ m low high s. omega arith)
+
+pub back_start : (t : Tree) (start : Option ℕ) → IsThereIfAny t start → IsBack t start start
+back_start t None h = refl
+back_start t (Some n) h = (record { start = h; there = h; beside = refl }, omega arith, λ m low high s. omega arith)
+
+no_node_there : (t : Tree) (k : ℕ) → (item t k).is_node ≡ false → IsNodeIn t k → ⊥
+no_node_there t k e h = (let x = sym e ∙ h.is_node in cc)
+
+pub ahead_step : (t : Tree) (start : Option ℕ) (k : ℕ) (next : Option ℕ) → IsAhead t start (Some k) → (item t k).is_node ≡ false → IsFirst (IsSibling record { tree = t; number = k }) k next → IsAhead t start next
+ahead_step t None k next h token first = absurd (cc)
+ahead_step t (Some n) k None h token first = (
+  h.0.start,
+  λ m low s.
+      elim (cases_lt m k) [
+        | inl before ↦ h.2 m low before s
+        | inr not_before ↦ elim (cases_lt k m) [
+          | inl behind ↦ first m behind (record { is_there = s.0.is_there; parent = s.0.parent ∙ sym h.0.beside })
+          | inr not_behind ↦ no_node_there t m (let same : k ≡ m = omega arith in subst (λ x. (item t x).is_node ≡ false) same token) s.1
+        ]
+      ],
+)
+ahead_step t (Some n) k (Some r) h token first = (
+  record { start = h.0.start; there = first.1.is_there; beside = first.1.parent ∙ h.0.beside },
+  omega (arith, h.1, first.0),
+  λ m low high s.
+      elim (cases_lt m k) [
+        | inl before ↦ h.2 m low before s
+        | inr not_before ↦ elim (cases_lt k m) [
+          | inl behind ↦ first.2 m behind high (record { is_there = s.0.is_there; parent = s.0.parent ∙ sym h.0.beside })
+          | inr not_behind ↦ no_node_there t m (let same : k ≡ m = omega arith in subst (λ x. (item t x).is_node ≡ false) same token) s.1
+        ]
+      ],
+)
+
+pub back_step : (t : Tree) (start : Option ℕ) (k : ℕ) (next : Option ℕ) → IsBack t start (Some k) → (item t k).is_node ≡ false → IsLast (IsSibling record { tree = t; number = k }) k next → IsBack t start next
+back_step t None k next h token last = absurd (cc)
+back_step t (Some n) k None h token last = (
+  h.0.start,
+  λ m low s.
+      elim (cases_lt k m) [
+        | inl behind ↦ h.2 m behind low s
+        | inr not_behind ↦ elim (cases_lt m k) [
+          | inl before ↦ last m before (record { is_there = s.0.is_there; parent = s.0.parent ∙ sym h.0.beside })
+          | inr not_before ↦ no_node_there t m (let same : k ≡ m = omega arith in subst (λ x. (item t x).is_node ≡ false) same token) s.1
+        ]
+      ],
+)
+back_step t (Some n) k (Some r) h token last = (
+  record { start = h.0.start; there = last.1.is_there; beside = last.1.parent ∙ h.0.beside },
+  omega (arith, h.1, last.0),
+  λ m low high s.
+      elim (cases_lt k m) [
+        | inl behind ↦ h.2 m behind high s
+        | inr not_behind ↦ elim (cases_lt m k) [
+          | inl before ↦ last.2 m low before (record { is_there = s.0.is_there; parent = s.0.parent ∙ sym h.0.beside })
+          | inr not_before ↦ no_node_there t m (let same : k ≡ m = omega arith in subst (λ x. (item t x).is_node ≡ false) same token) s.1
+        ]
+      ],
+)
+
+pub ahead_there : (t : Tree) (start : Option ℕ) (k : ℕ) → IsAhead t start (Some k) → k < length (items_of t)
+ahead_there t None k h = absurd (cc)
+ahead_there t (Some n) k h = h.0.there
+
+pub back_there : (t : Tree) (start : Option ℕ) (k : ℕ) → IsBack t start (Some k) → k < length (items_of t)
+back_there t None k h = absurd (cc)
+back_there t (Some n) k h = h.0.there
+
+pub ahead_found : (t : Tree) (start : Option ℕ) (k : ℕ) → IsAhead t start (Some k) → (item t k).is_node ≡ true → FirstNodeFrom t start (Some k)
+ahead_found t None k h node = absurd (cc)
+ahead_found t (Some n) k h node = (h.1, (record { is_there = h.0.there; parent = h.0.beside }, record { is_there = h.0.there; is_node = node }), h.2)
+
+pub back_found : (t : Tree) (start : Option ℕ) (k : ℕ) → IsBack t start (Some k) → (item t k).is_node ≡ true → LastNodeFrom t start (Some k)
+back_found t None k h node = absurd (cc)
+back_found t (Some n) k h node = (h.1, (record { is_there = h.0.there; parent = h.0.beside }, record { is_there = h.0.there; is_node = node }), h.2)
+
+pub ahead_none : (t : Tree) (start : Option ℕ) → IsAhead t start None → FirstNodeFrom t start None
+ahead_none t None h = h
+ahead_none t (Some n) h = h.1
+
+pub back_none : (t : Tree) (start : Option ℕ) → IsBack t start None → LastNodeFrom t start None
+back_none t None h = h
+back_none t (Some n) h = h.1

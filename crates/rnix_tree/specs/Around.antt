@@ -1,0 +1,41 @@
+-- What the steps over siblings and tokens give, by numbers.
+use Rattle.std.specs.Prelude.{◌≡◌, ◌<◌, ◌≤◌, ◌+◌, ℕ, length, Option, Some, None}
+use Rattle.rnix_tree.specs.Tree.{Tree, items_of, item}
+use Rattle.rnix_tree.specs.Relatives.{IsNodeIn, IsTokenIn, IsSiblingNode}
+
+-- the number is one of the tree's, if there is one
+abbrev pub IsThereIfAny : Tree → Option ℕ → Type 0
+IsThereIfAny t None = Unit {0}
+IsThereIfAny t (Some n) = n < length (items_of t)
+
+-- a child of the element p in which the element m lies
+pub record IsOnWayTo (t : Tree) (p m child : ℕ) : Type 0 where
+  pub parent : (item t child).parent ≡ Some p
+  pub above : p < child
+  pub low : child ≤ m
+  pub high : m ≤ child + (item t child).below
+
+-- the first node among an element and its siblings behind it
+abbrev pub FirstNodeFrom : Tree → Option ℕ → Option ℕ → Type 0
+FirstNodeFrom t None r = r ≡ None
+FirstNodeFrom t (Some n) None = (m : ℕ) → n ≤ m → ¬ IsSiblingNode record { tree = t; number = n } m
+FirstNodeFrom t (Some n) (Some r) =
+    (n ≤ r) × IsSiblingNode record { tree = t; number = n } r
+    × ((m : ℕ) → n ≤ m → m < r → ¬ IsSiblingNode record { tree = t; number = n } m)
+
+-- the last node among an element and its siblings before it
+abbrev pub LastNodeFrom : Tree → Option ℕ → Option ℕ → Type 0
+LastNodeFrom t None r = r ≡ None
+LastNodeFrom t (Some n) None = (m : ℕ) → m ≤ n → ¬ IsSiblingNode record { tree = t; number = n } m
+LastNodeFrom t (Some n) (Some r) =
+    (r ≤ n) × IsSiblingNode record { tree = t; number = n } r
+    × ((m : ℕ) → r < m → m ≤ n → ¬ IsSiblingNode record { tree = t; number = n } m)
+
+-- the first and the last token among the elements from one number up to another
+abbrev pub IsFirstTokenAmong : Tree → ℕ → ℕ → Option ℕ → Type 0
+IsFirstTokenAmong t from end None = (m : ℕ) → from ≤ m → m < end → ¬ IsTokenIn t m
+IsFirstTokenAmong t from end (Some r) = (from ≤ r) × (r < end) × IsTokenIn t r × ((m : ℕ) → from ≤ m → m < r → ¬ IsTokenIn t m)
+
+abbrev pub IsLastTokenAmong : Tree → ℕ → ℕ → Option ℕ → Type 0
+IsLastTokenAmong t from end None = (m : ℕ) → from ≤ m → m < end → ¬ IsTokenIn t m
+IsLastTokenAmong t from end (Some r) = (from ≤ r) × (r < end) × IsTokenIn t r × ((m : ℕ) → r < m → m < end → ¬ IsTokenIn t m)
