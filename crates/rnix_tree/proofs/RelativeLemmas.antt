@@ -1,10 +1,10 @@
 -- What stands beside an element and inside it.
-use Rattle.std.proofs.Common.{◌≡◌, ℕ, zero, suc, ◌+◌, ◌-◌, ◌≤◌, ◌<◌, length, Option, Some, None, Bool, true, false, refl, ap, sym, subst, ◌∙◌, arith, ◌⊎◌, inl, inr}
+use Rattle.std.proofs.Common.{is_some, ◌≡◌, ℕ, zero, suc, ◌+◌, ◌-◌, ◌≤◌, ◌<◌, length, Option, Some, None, Bool, true, false, refl, ap, sym, subst, ◌∙◌, arith, ◌⊎◌, inl, inr}
 use Rattle.std.proofs.lemmas.Bool.{cases_lt}
 use Rattle.std.proofs.lemmas.Option.{same_Some}
 use Rattle.rnix_tree.specs.Tree.{Tree, Item, items_of, item}
-use Rattle.rnix_tree.specs.Relatives.{IsFirst, IsLast, IsChild, IsSibling, IsNodeIn, IsTokenIn, IsSiblingNode}
-use Rattle.rnix_tree.specs.Around.{IsThereIfAny, IsOnWayTo, FirstNodeFrom, LastNodeFrom}
+use Rattle.rnix_tree.specs.Relatives.{IsThat, located, IsFirst, IsLast, IsChild, IsSibling, IsNodeIn, IsTokenIn, IsSiblingNode}
+use Rattle.rnix_tree.specs.Around.{IsThereIfAny, IsNodeIfAny, IsTokenIfAny, IsOnWayTo, FirstNodeFrom, LastNodeFrom}
 use Rattle.rnix_tree.proofs.SiblingLemmas.{next_inside}
 use Rattle.rnix_tree.proofs.ParentLemmas.{parent_is_node, parent_is_before}
 use Rattle.rnix_tree.proofs.InsideLemmas.{held, ends_inside, first_child_of, below_parent, sibling_behind, has_parent}
@@ -246,3 +246,88 @@ ahead_none t (Some n) h = h.1
 pub back_none : (t : Tree) (start : Option ℕ) → IsBack t start None → LastNodeFrom t start None
 back_none t None h = h
 back_none t (Some n) h = h.1
+
+-- a number tells the element
+pub located_that : (t : Tree) (P : Option ℕ → Type 0) (o : Option ℕ) → P o → IsThat t P (located t o)
+located_that t P None h = h
+located_that t P (Some n) h = (refl, h)
+
+-- nodes among siblings, where Q tells who is a sibling
+module _ (t : Tree) (Q : ℕ → Type 0) (beside : (c m : ℕ) → Q c → Q m → IsSibling record { tree = t; number = c } m)
+    (back : (c m : ℕ) → Q c → IsSibling record { tree = t; number = c } m → Q m) where
+  pub first_with : (n : ℕ) (start r : Option ℕ) → IsFirst Q n start → FirstNodeFrom t start r → IsFirst (λ m. Q m × IsNodeIn t m) n r
+  first_with n None None h e = λ m low q. h m low q.0
+  first_with n None (Some r) h e = absurd (cc)
+  first_with n (Some c) None h none = λ m low q. elim (cases_lt m c) [
+    | inl before ↦ h.2 m low before q.0
+    | inr behind ↦ none m behind (beside c m h.1 q.0, q.1)
+  ]
+  first_with n (Some c) (Some r) h found = (
+    omega (arith, h.0, found.0),
+    (back c r h.1 found.1.0, found.1.1),
+    λ m low high q.
+        elim (cases_lt m c) [
+          | inl before ↦ h.2 m low before q.0
+          | inr behind ↦ found.2 m behind high (beside c m h.1 q.0, q.1)
+        ],
+  )
+
+  pub last_with : (n : ℕ) (start r : Option ℕ) → IsLast Q n start → LastNodeFrom t start r → IsLast (λ m. Q m × IsNodeIn t m) n r
+  last_with n None None h e = λ m low q. h m low q.0
+  last_with n None (Some r) h e = absurd (cc)
+  last_with n (Some c) None h none = λ m low q. elim (cases_lt c m) [
+    | inl behind ↦ h.2 m behind low q.0
+    | inr before ↦ none m before (beside c m h.1 q.0, q.1)
+  ]
+  last_with n (Some c) (Some r) h found = (
+    omega (arith, h.0, found.0),
+    (back c r h.1 found.1.0, found.1.1),
+    λ m low high q.
+        elim (cases_lt c m) [
+          | inl behind ↦ h.2 m behind high q.0
+          | inr before ↦ found.2 m low before (beside c m h.1 q.0, q.1)
+        ],
+  )
+
+-- children and siblings of an element are siblings of one another
+module _ (t : Tree) (n : ℕ) where
+  pub child_beside : (c m : ℕ) → IsChild record { tree = t; number = n } c → IsChild record { tree = t; number = n } m → IsSibling record { tree = t; number = c } m
+  child_beside c m h k = record { is_there = k.is_there; parent = k.parent ∙ sym h.parent }
+
+  pub child_back : (c m : ℕ) → IsChild record { tree = t; number = n } c → IsSibling record { tree = t; number = c } m → IsChild record { tree = t; number = n } m
+  child_back c m h k = record { is_there = k.is_there; parent = k.parent ∙ h.parent }
+
+  pub sibling_beside : (c m : ℕ) → IsSibling record { tree = t; number = n } c → IsSibling record { tree = t; number = n } m → IsSibling record { tree = t; number = c } m
+  sibling_beside c m h k = record { is_there = k.is_there; parent = k.parent ∙ sym h.parent }
+
+  pub sibling_back : (c m : ℕ) → IsSibling record { tree = t; number = n } c → IsSibling record { tree = t; number = c } m → IsSibling record { tree = t; number = n } m
+  sibling_back c m h k = record { is_there = k.is_there; parent = k.parent ∙ h.parent }
+
+-- what was found is there
+pub first_is_there : (t : Tree) (Q : ℕ → Type 0) (n : ℕ) (r : Option ℕ) → ((m : ℕ) → Q m → m < length (items_of t)) → IsFirst Q n r → IsThereIfAny t r
+first_is_there t Q n None there h = tt
+first_is_there t Q n (Some r) there h = there r h.1
+
+pub last_is_there : (t : Tree) (Q : ℕ → Type 0) (n : ℕ) (r : Option ℕ) → ((m : ℕ) → Q m → m < length (items_of t)) → IsLast Q n r → IsThereIfAny t r
+last_is_there t Q n None there h = tt
+last_is_there t Q n (Some r) there h = there r h.1
+
+pub first_is_node : (t : Tree) (start r : Option ℕ) → FirstNodeFrom t start r → IsNodeIfAny t r
+first_is_node t start None h = tt
+first_is_node t None (Some r) h = absurd (cc)
+first_is_node t (Some n) (Some r) h = h.1.1
+
+pub last_is_node : (t : Tree) (start r : Option ℕ) → LastNodeFrom t start r → IsNodeIfAny t r
+last_is_node t start None h = tt
+last_is_node t None (Some r) h = absurd (cc)
+last_is_node t (Some n) (Some r) h = h.1.1
+
+-- the parent of an element is a node
+pub parent_if_any : (t : Tree) (n : ℕ) (parent : Option ℕ) → n < length (items_of t) → (item t n).parent ≡ parent → IsNodeIfAny t parent
+parent_if_any t n None l e = tt
+parent_if_any t n (Some p) l e = (let h = parent_is_node t n p l e in record { is_there = h.is_there; is_node = h.is_node })
+
+-- a token is not the root
+pub token_has_parent : (t : Tree) (n : ℕ) → n < length (items_of t) → (item t n).is_node ≡ false → is_some (located t (item t n).parent) ≡ true
+token_has_parent t zero l token = absurd (cc)
+token_has_parent t (suc n) l token = (let h = has_parent t (suc n) (omega arith) l in rw (h.is) refl)

@@ -8,6 +8,15 @@ abbrev pub IsThereIfAny : Tree → Option ℕ → Type 0
 IsThereIfAny t None = Unit {0}
 IsThereIfAny t (Some n) = n < length (items_of t)
 
+-- it is that of a node, or of a token
+abbrev pub IsNodeIfAny : Tree → Option ℕ → Type 0
+IsNodeIfAny t None = Unit {0}
+IsNodeIfAny t (Some n) = IsNodeIn t n
+
+abbrev pub IsTokenIfAny : Tree → Option ℕ → Type 0
+IsTokenIfAny t None = Unit {0}
+IsTokenIfAny t (Some n) = IsTokenIn t n
+
 -- a child of the element p in which the element m lies
 pub record IsOnWayTo (t : Tree) (p m child : ℕ) : Type 0 where
   pub parent : (item t child).parent ≡ Some p

@@ -54,7 +54,8 @@ impl<'t> NodeOrToken<SyntaxNode<'t>, SyntaxToken<'t>> {
 /// The element of a number.
 pub(crate) fn element_at<'t>(green: &'t GreenNode, number: usize) -> SyntaxElement<'t>
     requires { number < length (items_of green.now) }
-    ensures { spot_of result ≡ spot_at green.now number }
+    ensures spot { spot_of result ≡ spot_at green.now number }
+    ensures place { place_of result ≡ record { tree = green.now; number = number } }
 {
     if green.element(number).is_node {
         NodeOrToken::Node(SyntaxNode { green, number })

@@ -72,6 +72,13 @@ impl GreenNode {
         self.elements[number]
     }
 
+    /// How many elements the tree has.
+    pub(crate) fn element_count(&self) -> usize
+        ensures { result ≡ length (items_of self.now) }
+    {
+        self.elements.len()
+    }
+
     pub(crate) fn text_at(&self, number: usize) -> &str
         requires { number < length (items_of self.now) }
         ensures { let i = item self.now number in result.now ≡ take (i.end - i.start) (drop i.start (text_of (forest_of self.now))) }

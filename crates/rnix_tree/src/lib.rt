@@ -4,6 +4,7 @@
 mod builder;
 mod element;
 mod green;
+mod neighbours;
 mod node;
 mod postorder;
 mod range;

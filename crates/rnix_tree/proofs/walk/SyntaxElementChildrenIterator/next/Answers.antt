@@ -11,7 +11,7 @@ returns-then-number-self-clause-steps c =
     let t = s.green.now in
     sym c.self.view_is
     ∙ ap (map (spot_at t)) (next_sibling (items_of t) s.next s.end c.element-element.result.below c.if-number-self.true c.self.invariant (ap (λ (i : Item). i.below) c.element-element.ensures.is))
-    ∙ cons_same (sym c.element_at.ensures) refl
+    ∙ cons_same (sym c.element_at.ensures.spot) refl
 
 pub returns-then-number-self-clause-goes : goal.returns-then-number-self-clause-goes
 returns-then-number-self-clause-goes c = rw (returns-then-number-self-clause-steps c) (search rules)

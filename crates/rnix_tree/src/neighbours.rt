@@ -1,0 +1,196 @@
+//! From an element to those around it, beside it and inside it.
+
+ghost use Rattle.std.specs.Prelude.{◌≡◌, option_map, is_some, true};
+ghost use Rattle.rnix_tree.specs.Tree.{items_of};
+ghost use Rattle.rnix_tree.specs.Walk.{place_of};
+ghost use Rattle.rnix_tree.specs.Relatives.{located, parent_of, IsFirstChild, IsLastChild, IsFirstChildNode, IsLastChildNode, IsNextSibling, IsPrevSibling, IsNextSiblingNode, IsPrevSiblingNode, IsFirstToken, IsLastToken, IsNextToken, IsPrevToken};
+ghost use Rattle.rnix_tree.specs.Around.{IsThereIfAny, IsNodeIfAny, IsTokenIfAny};
+
+use crate::element::{NodeOrToken, SyntaxElement, element_at};
+use crate::green::GreenNode;
+use crate::node::SyntaxNode;
+use crate::relatives;
+use crate::token::SyntaxToken;
+
+// The node of a number, if there is one.
+fn node_if<'t>(green: &'t GreenNode, number: Option<usize>) -> Option<SyntaxNode<'t>>
+    requires { IsNodeIfAny green.now number }
+    ensures { result ≡ located green.now number }
+{
+    match number {
+        Some(number) => Some(SyntaxNode { green, number }),
+        None => None,
+    }
+}
+
+// The token of a number, if there is one.
+fn token_if<'t>(green: &'t GreenNode, number: Option<usize>) -> Option<SyntaxToken<'t>>
+    requires { IsTokenIfAny green.now number }
+    ensures { result ≡ located green.now number }
+{
+    match number {
+        Some(number) => Some(SyntaxToken { green, number }),
+        None => None,
+    }
+}
+
+// The element of a number, if there is one.
+fn element_if<'t>(green: &'t GreenNode, number: Option<usize>) -> Option<SyntaxElement<'t>>
+    requires { IsThereIfAny green.now number }
+    ensures { option_map place_of result ≡ located green.now number }
+{
+    match number {
+        Some(number) => Some(element_at(green, number)),
+        None => None,
+    }
+}
+
+impl<'t> SyntaxNode<'t> {
+    /// The node that this one lies in; None at the root.
+    pub fn parent(&self) -> Option<SyntaxNode<'t>>
+        ensures { result ≡ parent_of self.now }
+    {
+        node_if(self.green, self.green.element(self.number).parent)
+    }
+
+    /// The first node right below this one.
+    pub fn first_child(&self) -> Option<SyntaxNode<'t>>
+        ensures { IsFirstChildNode self.now result }
+    {
+        let first = relatives::first_child(self.green, self.number);
+        node_if(self.green, relatives::first_node(self.green, first))
+    }
+
+    /// The last node right below this one.
+    pub fn last_child(&self) -> Option<SyntaxNode<'t>>
+        ensures { IsLastChildNode self.now result }
+    {
+        let last = relatives::last_child(self.green, self.number);
+        node_if(self.green, relatives::last_node(self.green, last))
+    }
+
+    /// The first node or token right below this one.
+    pub fn first_child_or_token(&self) -> Option<SyntaxElement<'t>>
+        ensures { IsFirstChild self.now (option_map place_of result) }
+    {
+        element_if(self.green, relatives::first_child(self.green, self.number))
+    }
+
+    /// The last node or token right below this one.
+    pub fn last_child_or_token(&self) -> Option<SyntaxElement<'t>>
+        ensures { IsLastChild self.now (option_map place_of result) }
+    {
+        element_if(self.green, relatives::last_child(self.green, self.number))
+    }
+
+    /// The next node with the same parent.
+    pub fn next_sibling(&self) -> Option<SyntaxNode<'t>>
+        ensures { IsNextSiblingNode self.now result }
+    {
+        let next = relatives::next_sibling(self.green, self.number);
+        node_if(self.green, relatives::first_node(self.green, next))
+    }
+
+    /// The previous node with the same parent.
+    pub fn prev_sibling(&self) -> Option<SyntaxNode<'t>>
+        ensures { IsPrevSiblingNode self.now result }
+    {
+        let prev = relatives::prev_sibling(self.green, self.number);
+        node_if(self.green, relatives::last_node(self.green, prev))
+    }
+
+    /// The next node or token with the same parent.
+    pub fn next_sibling_or_token(&self) -> Option<SyntaxElement<'t>>
+        ensures { IsNextSibling self.now (option_map place_of result) }
+    {
+        element_if(self.green, relatives::next_sibling(self.green, self.number))
+    }
+
+    /// The previous node or token with the same parent.
+    pub fn prev_sibling_or_token(&self) -> Option<SyntaxElement<'t>>
+        ensures { IsPrevSibling self.now (option_map place_of result) }
+    {
+        element_if(self.green, relatives::prev_sibling(self.green, self.number))
+    }
+
+    /// The first token inside this node, at any depth.
+    pub fn first_token(&self) -> Option<SyntaxToken<'t>>
+        ensures { IsFirstToken self.now result }
+    {
+        let element = self.green.element(self.number);
+        let end = self.number + 1 + element.below;
+        token_if(
+            self.green,
+            relatives::first_token(self.green, self.number + 1, end),
+        )
+    }
+
+    /// The last token inside this node, at any depth.
+    pub fn last_token(&self) -> Option<SyntaxToken<'t>>
+        ensures { IsLastToken self.now result }
+    {
+        let element = self.green.element(self.number);
+        let end = self.number + 1 + element.below;
+        token_if(
+            self.green,
+            relatives::last_token(self.green, self.number + 1, end),
+        )
+    }
+}
+
+impl<'t> SyntaxToken<'t> {
+    /// The node that this token lies in.
+    pub fn parent(&self) -> Option<SyntaxNode<'t>>
+        ensures parent { result ≡ parent_of self.now }
+        ensures some { is_some result ≡ true }
+    {
+        node_if(self.green, self.green.element(self.number).parent)
+    }
+
+    /// The next token of the tree.
+    pub fn next_token(&self) -> Option<SyntaxToken<'t>>
+        ensures { IsNextToken self.now result }
+    {
+        let end = self.green.element_count();
+        token_if(
+            self.green,
+            relatives::first_token(self.green, self.number + 1, end),
+        )
+    }
+
+    /// The previous token of the tree.
+    pub fn prev_token(&self) -> Option<SyntaxToken<'t>>
+        ensures { IsPrevToken self.now result }
+    {
+        token_if(
+            self.green,
+            relatives::last_token(self.green, 0, self.number),
+        )
+    }
+
+    /// The next node or token with the same parent.
+    pub fn next_sibling_or_token(&self) -> Option<SyntaxElement<'t>>
+        ensures { IsNextSibling self.now (option_map place_of result) }
+    {
+        element_if(self.green, relatives::next_sibling(self.green, self.number))
+    }
+
+    /// The previous node or token with the same parent.
+    pub fn prev_sibling_or_token(&self) -> Option<SyntaxElement<'t>>
+        ensures { IsPrevSibling self.now (option_map place_of result) }
+    {
+        element_if(self.green, relatives::prev_sibling(self.green, self.number))
+    }
+}
+
+impl<'t> NodeOrToken<SyntaxNode<'t>, SyntaxToken<'t>> {
+    /// The node that this element lies in; None at the root.
+    pub fn parent(&self) -> Option<SyntaxNode<'t>>
+        ensures { result ≡ parent_of (place_of self.now) }
+    {
+        match self {
+            NodeOrToken::Node(node) => node.parent(),
+            NodeOrToken::Token(token) => token.parent(),
+        }
+    }
+}
