@@ -11,4 +11,5 @@ pub mod PartLemmas
 pub mod NestLemmas
 pub mod InsideLemmas
 pub mod RelativeLemmas
+pub mod AncestorLemmas
 pub mod PreorderLemmas

@@ -1,6 +1,7 @@
 -- What the steps over siblings and tokens give, by numbers.
-use Rattle.std.specs.Prelude.{◌≡◌, ◌<◌, ◌≤◌, ◌+◌, ℕ, length, Option, Some, None}
-use Rattle.rnix_tree.specs.Tree.{Tree, items_of, item}
+use Rattle.std.specs.Prelude.{◌≡◌, ◌<◌, ◌≤◌, ◌+◌, ℕ, length, List, [], Option, Some, None}
+use Rattle.rnix_tree.specs.Tree.{Tree, Located, items_of, item}
+use Rattle.rnix_tree.specs.Walk.{ancestors_of}
 use Rattle.rnix_tree.specs.Relatives.{IsNodeIn, IsTokenIn, IsSiblingNode}
 
 -- the number is one of the tree's, if there is one
@@ -16,6 +17,11 @@ IsNodeIfAny t (Some n) = IsNodeIn t n
 abbrev pub IsTokenIfAny : Tree → Option ℕ → Type 0
 IsTokenIfAny t None = Unit {0}
 IsTokenIfAny t (Some n) = IsTokenIn t n
+
+-- what is left of a walk outwards
+abbrev pub ancestors_if : Tree → Option ℕ → List Located
+ancestors_if t None = []
+ancestors_if t (Some n) = ancestors_of record { tree = t; number = n }
 
 -- a child of the element p in which the element m lies
 pub record IsOnWayTo (t : Tree) (p m child : ℕ) : Type 0 where

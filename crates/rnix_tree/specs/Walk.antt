@@ -1,8 +1,8 @@
 -- Walks over a tree, as lists of places.
-use Rattle.std.specs.Prelude.{ℕ, ◌+◌, List, [], ◌∷◌, ◌++◌, map, Bool, true, false}
+use Rattle.std.specs.Prelude.{ℕ, zero, suc, ◌+◌, nat_lt, List, [], ◌∷◌, ◌++◌, map, Bool, true, false, if◌then◌else◌}
 use Rattle.std.specs.Coded.{Coded, coded_list, coded×, coded_bool}
 use Rattle.rnix_tree.specs.Forest.{Forest, empty, leaf, node, element_count}
-use Rattle.rnix_tree.specs.Tree.{Tree, item, Located, located_code, part_at, children_in}
+use Rattle.rnix_tree.specs.Tree.{Tree, item, item_of, Located, located_code, part_at, children_in}
 use Rattle.rnix_tree.specs.declared.element.NodeOrToken.{NodeOrToken}
 use Rattle.rnix_tree.specs.declared.element.NodeOrToken.TheVariants.{Node, Token}
 use Rattle.rnix_tree.specs.declared.element.WalkEvent.{WalkEvent}
@@ -69,3 +69,43 @@ preorder_of e = map (event_at e.tree) (steps_from e.number (part_at e))
 abbrev pub event_of : WalkEvent (NodeOrToken Located Located) → Event
 event_of (Enter e) = (true, spot_of e)
 event_of (Leave e) = (false, spot_of e)
+
+-- so many numbers, from the first on
+abbrev pub counted : ℕ → ℕ → List ℕ
+counted n zero = []
+counted n (suc k) = n ∷ counted (n + 1) k
+
+-- an element and all that is inside it, in preorder
+abbrev pub elements_of : Located → List Spot
+elements_of e = map (spot_at e.tree) (counted e.number (1 + (item_of e).below))
+
+-- the nodes among elements
+abbrev pub nodes_in : List Spot → List Located
+nodes_in [] = []
+nodes_in (spot ∷ spots) = if spot.0 then spot.1 ∷ nodes_in spots else nodes_in spots
+
+-- a node is entered or left
+abbrev pub NodeEvent : Type 0
+NodeEvent = Bool × Located
+
+abbrev pub node_events_code : Coded (List NodeEvent)
+node_events_code = coded_list (coded× coded_bool located_code)
+
+-- the events of a walk that are those of nodes
+abbrev pub node_events : List Event → List NodeEvent
+node_events [] = []
+node_events (event ∷ events) = if event.1.0 then (event.0, event.1.1) ∷ node_events events else node_events events
+
+-- the event that a walk over nodes gives
+abbrev pub node_event_of : WalkEvent Located → NodeEvent
+node_event_of (Enter e) = (true, e)
+node_event_of (Leave e) = (false, e)
+
+-- of the elements of the numbers below k, the last first, those that the element n is or lies in
+abbrev pub holders : Tree → ℕ → ℕ → List Located
+holders t n zero = []
+holders t n (suc k) = if nat_lt (k + (item t k).below) n then holders t n k else record { tree = t; number = k } ∷ holders t n k
+
+-- the element and the nodes around it, the innermost first
+abbrev pub ancestors_of : Located → List Located
+ancestors_of e = holders e.tree e.number (e.number + 1)

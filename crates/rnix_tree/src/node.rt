@@ -3,9 +3,12 @@
 ghost use Rattle.std.specs.Prelude.{◌≡◌, ◌<◌, ◌^◌};
 ghost use Rattle.rnix_tree.specs.Forest.{element_count};
 ghost use Rattle.rnix_tree.specs.Tree.{item_of, extent_of, text_at, part_at};
-ghost use Rattle.rnix_tree.specs.Walk.{children_of, preorder_of};
+ghost use Rattle.rnix_tree.specs.Walk.{children_of, preorder_of, nodes_in, elements_of, node_events, ancestors_of};
 
+use crate::ancestors::Ancestors;
+use crate::descendants::{Descendants, DescendantsWithTokens};
 use crate::green::GreenNode;
+use crate::nodes::{Preorder, SyntaxNodeChildren};
 use crate::range::TextRange;
 use crate::walk::{PreorderWithTokens, SyntaxElementChildren};
 use rnix_kinds::SyntaxKind;
@@ -69,6 +72,55 @@ impl<'t> SyntaxNode<'t> {
             green: self.green,
             next: self.number + 1,
             end: self.number + 1 + element.below,
+        }
+    }
+
+    /// The nodes right below the node, in order.
+    pub fn children(&self) -> SyntaxNodeChildren<'t>
+        ensures { result ≡ nodes_in (children_of self.now) }
+    {
+        SyntaxNodeChildren {
+            elements: self.children_with_tokens(),
+        }
+    }
+
+    /// The node and the nodes around it, the innermost first.
+    pub fn ancestors(&self) -> Ancestors<'t>
+        ensures { result ≡ ancestors_of self.now }
+    {
+        Ancestors {
+            green: self.green,
+            next: Some(self.number),
+        }
+    }
+
+    /// The node and all nodes and tokens inside it, in preorder.
+    pub fn descendants_with_tokens(&self) -> DescendantsWithTokens<'t>
+        ensures { result ≡ elements_of self.now }
+    {
+        let element = self.green.element(self.number);
+        DescendantsWithTokens {
+            green: self.green,
+            next: self.number,
+            end: self.number + 1 + element.below,
+        }
+    }
+
+    /// The node and all nodes inside it, in preorder.
+    pub fn descendants(&self) -> Descendants<'t>
+        ensures { result ≡ nodes_in (elements_of self.now) }
+    {
+        Descendants {
+            elements: self.descendants_with_tokens(),
+        }
+    }
+
+    /// A walk that enters and leaves the node and all nodes inside it.
+    pub fn preorder(&self) -> Preorder<'t>
+        ensures { result ≡ node_events (preorder_of self.now) }
+    {
+        Preorder {
+            events: self.preorder_with_tokens(),
         }
     }
 
