@@ -20,6 +20,8 @@ pub record Inner (t : Tree) (a : ℕ) : Type 0 where
   pub start : ℕ
   pub count : element_count children ≡ (item t a).below
   pub items : (m : ℕ) → a < m → m ≤ a + (item t a).below → item t m ≡ at (a + 1) start (Some a) children (m - (a + 1))
+  pub begins : (item t a).is_node ≡ true → (item t a).start ≡ start
+  pub ends : (item t a).is_node ≡ true → (item t a).end ≡ start + length (text_of children)
 
 pub inner_of : (t : Tree) (a : ℕ) → a < length (items_of t) → Inner t a
 inner_of t a l = go _ (part_there t a l) (one_there t a l)
@@ -27,10 +29,24 @@ inner_of t a l = go _ (part_there t a l) (one_there t a l)
     go : (part : Forest) → IsPart 0 a part (items_of t) → IsOne part → Inner t a
     go _ h (one_leaf k u) =
         let none : suc 0 ≡ suc (item t a).below = below_of_part t a (leaf k u empty) h (one_leaf k u) in
-        record { children = empty; start = 0; count = omega arith; items = λ m low high. absurd (omega arith) }
+        let d : a - a ≡ 0 = omega arith in
+        let own = item_of_part t a a (leaf k u empty) h (omega arith) (omega arith) ∙ ap (λ i. at a h.start h.parent (leaf k u empty) i) d in
+        let token : (item t a).is_node ≡ false = ap (λ (i : Item). i.is_node) own in
+        record {
+          children = empty;
+          start = 0;
+          count = omega arith;
+          items = λ m low high. absurd (omega arith);
+          begins = λ e. absurd (let x = sym token ∙ e in cc);
+          ends = λ e. absurd (let x = sym token ∙ e in cc);
+        }
     go _ h (one_node k c) =
         let all : suc (element_count c + 0) ≡ suc (item t a).below = below_of_part t a (node k c empty) h (one_node k c) in
+        let d : a - a ≡ 0 = omega arith in
+        let own = item_of_part t a a (node k c empty) h (omega arith) (omega arith) ∙ ap (λ i. at a h.start h.parent (node k c empty) i) d in
         record {
+          begins = λ e. ap (λ (i : Item). i.start) own;
+          ends = λ e. ap (λ (i : Item). i.end) own;
           children = c;
           start = h.start;
           count = omega arith;

@@ -12,4 +12,7 @@ pub mod NestLemmas
 pub mod InsideLemmas
 pub mod RelativeLemmas
 pub mod AncestorLemmas
+pub mod StartLemmas
+pub mod FirstFromLemmas
+pub mod OffsetLemmas
 pub mod PreorderLemmas

@@ -10,3 +10,4 @@ pub mod Entries
 pub mod Cursor
 pub mod Relatives
 pub mod Around
+pub mod Offset

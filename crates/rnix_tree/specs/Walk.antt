@@ -1,5 +1,5 @@
 -- Walks over a tree, as lists of places.
-use Rattle.std.specs.Prelude.{ℕ, zero, suc, ◌+◌, nat_lt, List, [], ◌∷◌, ◌++◌, map, Bool, true, false, if◌then◌else◌}
+use Rattle.std.specs.Prelude.{ℕ, zero, suc, ◌+◌, nat_lt, List, [], ◌∷◌, ◌++◌, map, Bool, true, false, Option, Some, None, if◌then◌else◌}
 use Rattle.std.specs.Coded.{Coded, coded_list, coded×, coded_bool}
 use Rattle.rnix_tree.specs.Forest.{Forest, empty, leaf, node, element_count}
 use Rattle.rnix_tree.specs.Tree.{Tree, item, item_of, Located, located_code, part_at, children_in}
@@ -26,6 +26,15 @@ spot_at t n = ((item t n).is_node, record { tree = t; number = n })
 abbrev pub spot_of : NodeOrToken Located Located → Spot
 spot_of (Node e) = (true, e)
 spot_of (Token e) = (false, e)
+
+-- the node or the token that an element is
+abbrev pub node_in : {N T : Type 0} → NodeOrToken N T → Option N
+node_in (Node n) = Some n
+node_in (Token t) = None
+
+abbrev pub token_in : {N T : Type 0} → NodeOrToken N T → Option T
+token_in (Node n) = None
+token_in (Token t) = Some t
 
 -- where an element stands
 abbrev pub place_of : NodeOrToken Located Located → Located

@@ -1,8 +1,8 @@
 //! What stands in a tree: nodes and tokens.
 
-ghost use Rattle.std.specs.Prelude.{◌≡◌, ◌<◌, length};
+ghost use Rattle.std.specs.Prelude.{◌≡◌, ◌<◌, length, option_map};
 ghost use Rattle.rnix_tree.specs.Tree.{items_of, item_of, extent_of};
-ghost use Rattle.rnix_tree.specs.Walk.{spot_at, spot_of, place_of};
+ghost use Rattle.rnix_tree.specs.Walk.{spot_at, spot_of, place_of, node_in, token_in};
 
 use crate::green::GreenNode;
 use crate::node::SyntaxNode;
@@ -27,6 +27,50 @@ pub enum WalkEvent<T> {
     Enter(T),
     /// The element is met again, after what is inside it.
     Leave(T),
+}
+
+impl<N, T> NodeOrToken<N, T> {
+    /// The node, if it is one.
+    pub fn as_node(&self) -> Option<&N>
+        ensures { option_map (λ node. node.now) result ≡ node_in self.now }
+    {
+        match self {
+            NodeOrToken::Node(node) => Some(node),
+            NodeOrToken::Token(_) => None,
+        }
+    }
+
+    /// The token, if it is one.
+    pub fn as_token(&self) -> Option<&T>
+        ensures { option_map (λ token. token.now) result ≡ token_in self.now }
+    {
+        match self {
+            NodeOrToken::Node(_) => None,
+            NodeOrToken::Token(token) => Some(token),
+        }
+    }
+}
+
+impl<N: Drop, T: Drop> NodeOrToken<N, T> {
+    /// The node, if it is one.
+    pub fn into_node(self) -> Option<N>
+        ensures { result ≡ node_in self }
+    {
+        match self {
+            NodeOrToken::Node(node) => Some(node),
+            NodeOrToken::Token(_) => None,
+        }
+    }
+
+    /// The token, if it is one.
+    pub fn into_token(self) -> Option<T>
+        ensures { result ≡ token_in self }
+    {
+        match self {
+            NodeOrToken::Node(_) => None,
+            NodeOrToken::Token(token) => Some(token),
+        }
+    }
 }
 
 impl<'t> NodeOrToken<SyntaxNode<'t>, SyntaxToken<'t>> {

@@ -41,7 +41,7 @@ impl Model for GreenNode {
 }
 
 impl GreenNode {
-    ghost use Rattle.std.specs.Prelude.{◌≡◌, ◌<◌, ◌≤◌, ◌+◌, ◌-◌, ◌^◌, length, take, drop, IfOk, string_bytes};
+    ghost use Rattle.std.specs.Prelude.{◌≡◌, ◌<◌, ◌≤◌, ◌+◌, ◌-◌, ◌^◌, ℕ, length, take, drop, IfOk, string_bytes};
     ghost use Rattle.rnix_tree.specs.Tree.{item, items_of, forest_of};
     ghost use Rattle.rnix_tree.specs.Forest.{text_of};
     ghost use Rattle.rnix_tree.specs.Kept.{item_from, tree_from, IsKept};
@@ -70,6 +70,18 @@ impl GreenNode {
         ensures next_fits { number + 1 + result.below < 2 ^ 64 }
     {
         self.elements[number]
+    }
+
+    /// Where the elements from `from` up to `end` begin to start at the offset or behind it.
+    pub(crate) fn first_from(&self, from: usize, end: usize, offset: usize) -> usize
+        requires ordered { from ≤ end }
+        requires there { end ≤ length (items_of self.now) }
+        ensures low { from ≤ result }
+        ensures high { result ≤ end }
+        ensures before { (m : ℕ) → from ≤ m → m < result → (item self.now m).start < offset }
+        ensures behind { (m : ℕ) → result ≤ m → m < end → offset ≤ (item self.now m).start }
+    {
+        from + self.elements[from..end].partition_point(|element| element.start < offset)
     }
 
     /// How many elements the tree has.

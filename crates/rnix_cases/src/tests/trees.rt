@@ -1,8 +1,8 @@
 //! Trees: built by hand and read from a text.
 
 use rnix::{
-    GreenNode, GreenNodeBuilder, NodeOrToken, ParseError, Root, SyntaxKind, SyntaxNode, TextRange,
-    TokenSet, WalkEvent,
+    Checkpoint, GreenNode, GreenNodeBuilder, NodeOrToken, ParseError, Root, SyntaxKind, SyntaxNode,
+    TextRange, TokenSet, WalkEvent,
 };
 use rnix_print::dump;
 use std::alloc::{AllocError, Global};
@@ -105,43 +105,59 @@ fn open_parentheses_end_with_the_text(rt: HostRuntime) -> Result<(), Fail> {
     Ok(())
 }
 
-// The tree of `a b or c` without trivia, where each refused call is made again.
-fn built_again(alloc: Global) -> Result<GreenNode, AllocError> {
-    let mut builder = GreenNodeBuilder::new(alloc);
-    let rows = [
-        (SyntaxKind::TOKEN_IDENT, "a"),
-        (SyntaxKind::TOKEN_IDENT, "b"),
-        (SyntaxKind::TOKEN_IDENT, "or"),
-        (SyntaxKind::TOKEN_IDENT, "c"),
-    ];
-    let start = builder.checkpoint();
-    for (kind, text) in rows {
-        if builder.start_node(SyntaxKind::NODE_IDENT).is_err() {
-            builder.start_node(SyntaxKind::NODE_IDENT)?;
-        }
-        if builder.token(kind, text).is_err() {
-            builder.token(kind, text)?;
-        }
-        if builder.finish_node().is_err() {
-            builder.finish_node()?;
-        }
+// A NODE_IDENT over a leaf, where each refused call is made again.
+fn name_again(builder: &mut GreenNodeBuilder, text: &str) -> Result<(), AllocError> {
+    if builder.start_node(SyntaxKind::NODE_IDENT).is_err() {
+        builder.start_node(SyntaxKind::NODE_IDENT)?;
+    }
+    if builder.token(SyntaxKind::TOKEN_IDENT, text).is_err() {
+        builder.token(SyntaxKind::TOKEN_IDENT, text)?;
+    }
+    if builder.open_nodes() > 0 && builder.finish_node().is_err() {
+        builder.finish_node()?;
+    }
+    Ok(())
+}
+
+// A NODE_ROOT over the trees from the checkpoint on, where each refused call is made again.
+fn root_again(builder: &mut GreenNodeBuilder, start: Checkpoint) -> Result<(), AllocError> {
+    if !builder.is_valid_checkpoint(start) {
+        return Ok(());
     }
     if builder.start_node_at(start, SyntaxKind::NODE_ROOT).is_err() {
         builder.start_node_at(start, SyntaxKind::NODE_ROOT)?;
     }
-    if builder.finish_node().is_err() {
+    if builder.open_nodes() > 0 && builder.finish_node().is_err() {
         builder.finish_node()?;
     }
-    builder.finish()
+    Ok(())
+}
+
+// The tree of `a b or c` without trivia; None if what was built is no tree.
+fn built_again(alloc: Global) -> Result<Option<GreenNode>, AllocError> {
+    let mut builder = GreenNodeBuilder::new(alloc);
+    let start = builder.checkpoint();
+    for text in ["a", "b", "or", "c"] {
+        name_again(&mut builder, text)?;
+    }
+    root_again(&mut builder, start)?;
+    if !builder.is_complete() {
+        return Ok(None);
+    }
+    Ok(Some(builder.finish()?))
 }
 
 #[test]
 fn a_tree_is_built_in_spite_of_refusals(rt: HostRuntime) -> Result<(), Fail> {
     let alloc = rt.alloc();
     // A refused `finish` takes the builder with it, so all is built again.
-    let tree = match built_again(alloc) {
-        Ok(tree) => tree,
+    let built = match built_again(alloc) {
+        Ok(built) => built,
         Err(_refused) => built_again(alloc)?,
+    };
+    let Some(tree) = built else {
+        assert!(rt; false);
+        return Ok(());
     };
     let root = SyntaxNode::new_root(&tree);
     let mut places: usize = 0;

@@ -1,0 +1,96 @@
+//! The tokens at an offset.
+
+ghost use Rattle.std.specs.Prelude.{◌≡◌, ◌<◌, ◌≤◌, ℕ};
+ghost use Rattle.rnix_tree.specs.Tree.{item, item_of};
+ghost use Rattle.rnix_tree.specs.Relatives.{IsNodeIn};
+ghost use Rattle.rnix_tree.specs.Offset.{AreTouched, IsHolding, left_of, right_of};
+
+use crate::green::GreenNode;
+use crate::node::SyntaxNode;
+use crate::range::TextSize;
+use crate::token::SyntaxToken;
+
+/// The tokens at an offset: two where one ends and the other begins.
+#[derive(Clone, Debug, Drop)]
+pub enum TokenAtOffset<T> {
+    None,
+    Single(T),
+    Between(T, T),
+}
+
+impl<T: Drop> TokenAtOffset<T> {
+    /// The token, or of two the left one.
+    pub fn left_biased(self) -> Option<T>
+        ensures { result ≡ left_of self }
+    {
+        match self {
+            TokenAtOffset::None => None,
+            TokenAtOffset::Single(token) => Some(token),
+            TokenAtOffset::Between(left, _) => Some(left),
+        }
+    }
+
+    /// The token, or of two the right one.
+    pub fn right_biased(self) -> Option<T>
+        ensures { result ≡ right_of self }
+    {
+        match self {
+            TokenAtOffset::None => None,
+            TokenAtOffset::Single(token) => Some(token),
+            TokenAtOffset::Between(_, right) => Some(right),
+        }
+    }
+}
+
+// The token inside the node that has the byte before the offset. It is the last element that starts before the offset.
+fn token_before(green: &GreenNode, number: usize, offset: usize) -> usize
+    requires node { IsNodeIn green.now number }
+    requires low { (item green.now number).start < offset }
+    requires high { offset ≤ (item green.now number).end }
+    ensures token { IsHolding record { tree = green.now; number = number } offset result }
+    ensures only { (m : ℕ) → IsHolding record { tree = green.now; number = number } offset m → m ≡ result }
+{
+    let element = green.element(number);
+    green.first_from(number, number + 1 + element.below, offset) - 1
+}
+
+impl<'t> SyntaxNode<'t> {
+    /// The tokens inside the node whose ranges hold the offset, their ends included. Empty tokens are left out.
+    pub fn token_at_offset(&self, offset: TextSize) -> TokenAtOffset<SyntaxToken<'t>>
+        requires low { (item_of self.now).start ≤ offset }
+        requires high { offset ≤ (item_of self.now).end }
+        ensures { AreTouched self.now offset result }
+    {
+        let (green, range) = (self.green, self.text_range());
+        if range.is_empty() {
+            return TokenAtOffset::None;
+        }
+        if offset == range.start() {
+            let number = token_before(green, self.number, offset + 1);
+            return TokenAtOffset::Single(SyntaxToken { green, number });
+        }
+        let left = token_before(green, self.number, offset);
+        if offset == range.end() {
+            return TokenAtOffset::Single(SyntaxToken {
+                green,
+                number: left,
+            });
+        }
+        let right = token_before(green, self.number, offset + 1);
+        let left = SyntaxToken {
+            green,
+            number: left,
+        };
+        if left.number == right {
+            TokenAtOffset::Single(left)
+        } else {
+            TokenAtOffset::Between(
+                left,
+                SyntaxToken {
+                    green,
+                    number: right,
+                },
+            )
+        }
+    }
+}
