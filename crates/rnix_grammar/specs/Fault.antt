@@ -4,7 +4,8 @@ use Rattle.std.specs.List.{flat_map}
 use Rattle.std.specs.Cmp.Lexicographic.{pointwise}
 use Rattle.std.specs.Fmt.{decimal}
 use Rattle.rnix_kinds.specs.declared.kinds.SyntaxKind.{SyntaxKind}
-use Rattle.rnix_kinds.specs.SyntaxKind.{name_of, place_of}
+use Rattle.rnix_kinds.specs.SyntaxKind.{name_of}
+use Rattle.rnix_tree.specs.Equality.{same_kind}
 use Rattle.rnix_tree.specs.Range.{Extent}
 use Rattle.rnix_grammar.specs.declared.error.ParseError.{ParseError}
 use Rattle.rnix_grammar.specs.declared.error.ParseError.TheVariants.{Unexpected, UnexpectedExtra, UnexpectedWanted, UnexpectedDoubleBind, UnexpectedEOF, UnexpectedEOFWanted, DuplicatedArgs, RecursionLimitExceeded}
@@ -33,9 +34,6 @@ fault_of RecursionLimitExceeded = too_deep
 -- two errors are of one variant with the same fields
 abbrev pub same_extent : Extent → Extent → Bool
 same_extent a b = a.start == b.start && a.end == b.end
-
-abbrev pub same_kind : SyntaxKind → SyntaxKind → Bool
-same_kind a b = place_of a == place_of b
 
 abbrev pub same_fault : Fault → Fault → Bool
 same_fault (untold a) (untold b) = same_extent a b

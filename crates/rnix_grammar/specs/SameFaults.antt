@@ -1,21 +1,19 @@
 -- Equality of errors: the test on faults says that they are one.
 use Rattle.std.proofs.Common.{bytes_eq, ◌≡◌, ◌&&◌, ◌==◌, List, Bool, true, false, ap, sym, refl, ◌∙◌}
 use Rattle.std.specs.Bool.{Decides}
-use Rattle.std.specs.Cmp.{IsPartialEquivalence}
+use Rattle.std.specs.Cmp.{IsPartialEquivalence, partial_equiv_from_equiv}
+use Rattle.std.specs.Cmp.{on_per}
 use Rattle.std.specs.Cmp.Lexicographic.{pointwise}
 use Rattle.std.proofs.lemmas.Bool.Decides.{Decides-eqb, Decides-like, Decides-and}
 use Rattle.std.proofs.lemmas.Slice.Eq.{slice_eq-Decides, bytes_eq-Decides}
 use Rattle.rnix_kinds.specs.declared.kinds.SyntaxKind.{SyntaxKind}
 use Rattle.rnix_kinds.specs.SyntaxKind.{place_of}
-use Rattle.rnix_kinds.proofs.SetBits.{same_place}
+use Rattle.rnix_tree.specs.Equality.{same_kind, same_kind-decides, equivalence_from}
 use Rattle.rnix_tree.specs.Range.{Extent}
 use Rattle.rnix_grammar.specs.declared.error.ParseError.{ParseError}
-use Rattle.rnix_grammar.specs.Fault.{Fault, untold, extra, unwanted, bound_twice, ended, ended_before, named_twice, too_deep, fault_of, same_extent, same_kind, same_fault}
+use Rattle.rnix_grammar.specs.Fault.{Fault, untold, extra, unwanted, bound_twice, ended, ended_before, named_twice, too_deep, fault_of, same_extent, same_fault}
 
--- the test on kinds
-same_kind-decides : (a b : SyntaxKind) → Decides (same_kind a b) (a ≡ b)
-same_kind-decides a b = Decides-like (same_kind a b) (same_place a b) (ap place_of) (Decides-eqb (place_of a) (place_of b))
-
+-- the test on lists of kinds
 same_kinds-decides : (a b : List SyntaxKind) → Decides (pointwise same_kind a b) (a ≡ b)
 same_kinds-decides a b = slice_eq-Decides same_kind-decides a b (pointwise same_kind a b) refl
 
@@ -43,17 +41,6 @@ same_fault-decides (named_twice a name) (named_twice b other) =
 same_fault-decides too_deep too_deep = (λ e. refl, λ e. refl)
 same_fault-decides a b = (λ e. cc, λ e. cc)
 
--- so equality is symmetric and transitive
-same_both : (a b : Bool) → (a ≡ true → b ≡ true) → (b ≡ true → a ≡ true) → a ≡ b
-same_both true b to from = sym (to refl)
-same_both false true to from = from refl
-same_both false false to from = refl
-
+-- so equality is an equivalence
 pub same_faults : IsPartialEquivalence (λ (a b : ParseError). same_fault (fault_of a) (fault_of b))
-same_faults = record {
-  symm = λ a b. same_both (same_fault (fault_of a) (fault_of b)) (same_fault (fault_of b) (fault_of a))
-      (λ e. (same_fault-decides (fault_of b) (fault_of a)).1 (sym ((same_fault-decides (fault_of a) (fault_of b)).0 e)))
-      (λ e. (same_fault-decides (fault_of a) (fault_of b)).1 (sym ((same_fault-decides (fault_of b) (fault_of a)).0 e)));
-  trans = λ a b c x y. (same_fault-decides (fault_of a) (fault_of c)).1
-      ((same_fault-decides (fault_of a) (fault_of b)).0 x ∙ (same_fault-decides (fault_of b) (fault_of c)).0 y);
-}
+same_faults = on_per fault_of (partial_equiv_from_equiv (equivalence_from same_fault same_fault-decides))

@@ -4,7 +4,8 @@ ghost use Rattle.std.specs.Prelude.{◌≡◌, ◌&&◌, IfOk, Some};
 ghost use Rattle.std.specs.Bool.{Decides};
 ghost use Rattle.std.specs.Cmp.Lexicographic.{pointwise};
 ghost use Rattle.std.specs.Fmt.{DisplaysOnOk};
-ghost use Rattle.rnix_grammar.specs.Fault.{fault_of, more_kinds_text, kinds_text, wanted_text, place_text, again_text, range_text, fault_text, unwanted, named_twice, same_kind, same_extent};
+ghost use Rattle.rnix_tree.specs.Equality.{same_kind};
+ghost use Rattle.rnix_grammar.specs.Fault.{fault_of, more_kinds_text, kinds_text, wanted_text, place_text, again_text, range_text, fault_text, unwanted, named_twice, same_extent};
 
 use rnix_kinds::SyntaxKind;
 use rnix_tree::TextRange;

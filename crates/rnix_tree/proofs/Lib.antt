@@ -15,4 +15,5 @@ pub mod AncestorLemmas
 pub mod StartLemmas
 pub mod FirstFromLemmas
 pub mod OffsetLemmas
+pub mod SameLemmas
 pub mod PreorderLemmas

@@ -11,3 +11,6 @@ pub mod Cursor
 pub mod Relatives
 pub mod Around
 pub mod Offset
+pub mod Equality
+pub mod Same
+pub mod SameElements

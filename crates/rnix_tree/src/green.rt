@@ -1,6 +1,9 @@
 //! A tree that does not change: its elements in preorder beside one text.
 
+ghost use Rattle.std.specs.Bool.{Decides};
 ghost use Rattle.std.specs.Prelude.{◌≡◌};
+ghost use Rattle.rnix_tree.specs.Equality.{same_kind};
+ghost use Rattle.rnix_tree.specs.SameElements.{same_option, same_numbers};
 
 use rnix_kinds::SyntaxKind;
 use std::alloc::AllocError;
@@ -40,6 +43,54 @@ impl Model for GreenNode {
     ghost invariant = { λ g. IsKept (tree_from g.elements.items (string_bytes g.text)) g.elements.items (string_bytes g.text) };
 }
 
+// Whether the kinds are one.
+fn same_kind(a: SyntaxKind, b: SyntaxKind) -> bool
+    ensures { result ≡ same_kind a b }
+{
+    a == b
+}
+
+// Whether there is the same number, or none.
+fn same_option(a: Option<usize>, b: Option<usize>) -> bool
+    ensures { result ≡ same_option a b }
+{
+    match (a, b) {
+        (None, None) => true,
+        (Some(a), Some(b)) => a == b,
+        _ => false,
+    }
+}
+
+// Whether the ranges are one, and as many elements are inside.
+fn same_numbers(a: &Element, b: &Element) -> bool
+    ensures { result ≡ same_numbers a.now b.now }
+{
+    a.start == b.start && a.end == b.end && a.below == b.below
+}
+
+impl PartialEq for Element {
+    ghost use Rattle.std.specs.Cmp.{partial_equiv_from_equiv};
+    ghost use Rattle.rnix_tree.specs.SameElements.{same_element, elements_equal};
+
+    ghost eq = { same_element };
+
+    ghost laws = { partial_equiv_from_equiv elements_equal };
+
+    fn eq(&self, other: &Element) -> bool {
+        same_kind(self.kind, other.kind)
+            && self.is_node == other.is_node
+            && same_option(self.parent, other.parent)
+            && same_numbers(self, other)
+    }
+}
+
+// Whether two lists hold equal elements.
+fn same_elements(a: &[Element], b: &[Element]) -> bool
+    ensures { Decides result (a.now ≡ b.now) }
+{
+    a == b
+}
+
 impl GreenNode {
     ghost use Rattle.std.specs.Prelude.{◌≡◌, ◌<◌, ◌≤◌, ◌+◌, ◌-◌, ◌^◌, ℕ, length, take, drop, IfOk, string_bytes};
     ghost use Rattle.rnix_tree.specs.Tree.{item, items_of, forest_of};
@@ -70,6 +121,13 @@ impl GreenNode {
         ensures next_fits { number + 1 + result.below < 2 ^ 64 }
     {
         self.elements[number]
+    }
+
+    /// Whether the trees are equal as values.
+    pub(crate) fn is_same(&self, other: &GreenNode) -> bool
+        ensures { Decides result (self.now ≡ other.now) }
+    {
+        self.text == other.text && same_elements(&self.elements, &other.elements)
     }
 
     /// Where the elements from `from` up to `end` begin to start at the offset or behind it.

@@ -6,6 +6,7 @@ mod builder;
 mod descendants;
 mod element;
 mod green;
+mod identity;
 mod neighbours;
 mod node;
 mod nodes;

@@ -1,0 +1,124 @@
+//! Equality, hashes and printing of nodes and tokens.
+
+ghost use Rattle.std.specs.Prelude.{◌≡◌};
+
+use crate::node::SyntaxNode;
+use crate::range::TextRange;
+use crate::token::SyntaxToken;
+use rnix_kinds::SyntaxKind;
+use std::fmt;
+use std::hash::{Hash, Hasher};
+
+// A kind with its range.
+fn write_place<W: fmt::Write>(
+    kind: SyntaxKind,
+    range: TextRange,
+    f: &mut fmt::Formatter<W>,
+) -> fmt::Result {
+    let (name, start, end) = (kind.name(), range.start(), range.end());
+    write!(f, "{name}@{start}..{end}")
+}
+
+impl<'t> PartialEq for SyntaxNode<'t> {
+    ghost use Rattle.std.specs.Cmp.{partial_equiv_from_equiv};
+    ghost use Rattle.rnix_tree.specs.Same.{same_located, same_is_equivalence};
+
+    ghost eq = { same_located };
+
+    ghost laws = { partial_equiv_from_equiv same_is_equivalence };
+
+    fn eq(&self, other: &SyntaxNode<'t>) -> bool {
+        self.number == other.number && self.green.is_same(other.green)
+    }
+}
+
+impl<'t> Eq for SyntaxNode<'t> {
+    ghost use Rattle.rnix_tree.specs.Same.{same_is_equivalence};
+
+    ghost laws = { same_is_equivalence };
+}
+
+impl<'t> Hash for SyntaxNode<'t> {
+    ghost use Rattle.rnix_tree.specs.Same.{hashed, hashed_alike};
+
+    ghost hash_input = { hashed };
+
+    ghost respects_eq = { hashed_alike };
+
+    fn hash<H: Hasher>(&self, state: &mut H) {
+        let range = self.text_range();
+        self.number.hash(state);
+        (self.kind() as usize).hash(state);
+        range.start().hash(state);
+        range.end().hash(state);
+    }
+}
+
+impl<'t> fmt::Display for SyntaxNode<'t> {
+    ghost use Rattle.std.specs.Prelude.{Some};
+    ghost use Rattle.rnix_tree.specs.Tree.{text_at};
+
+    ghost output = { λ node. Some (text_at node) };
+
+    fn fmt<W: fmt::Write>(&self, f: &mut fmt::Formatter<W>) -> fmt::Result {
+        f.write_str(self.text())
+    }
+}
+
+impl<'t> fmt::Debug for SyntaxNode<'t> {
+    fn fmt<W: fmt::Write>(&self, f: &mut fmt::Formatter<W>) -> fmt::Result {
+        write_place(self.kind(), self.text_range(), f)
+    }
+}
+
+impl<'t> PartialEq for SyntaxToken<'t> {
+    ghost use Rattle.std.specs.Cmp.{partial_equiv_from_equiv};
+    ghost use Rattle.rnix_tree.specs.Same.{same_located, same_is_equivalence};
+
+    ghost eq = { same_located };
+
+    ghost laws = { partial_equiv_from_equiv same_is_equivalence };
+
+    fn eq(&self, other: &SyntaxToken<'t>) -> bool {
+        self.number == other.number && self.green.is_same(other.green)
+    }
+}
+
+impl<'t> Eq for SyntaxToken<'t> {
+    ghost use Rattle.rnix_tree.specs.Same.{same_is_equivalence};
+
+    ghost laws = { same_is_equivalence };
+}
+
+impl<'t> Hash for SyntaxToken<'t> {
+    ghost use Rattle.rnix_tree.specs.Same.{hashed, hashed_alike};
+
+    ghost hash_input = { hashed };
+
+    ghost respects_eq = { hashed_alike };
+
+    fn hash<H: Hasher>(&self, state: &mut H) {
+        let range = self.text_range();
+        self.number.hash(state);
+        (self.kind() as usize).hash(state);
+        range.start().hash(state);
+        range.end().hash(state);
+    }
+}
+
+impl<'t> fmt::Display for SyntaxToken<'t> {
+    ghost use Rattle.std.specs.Prelude.{Some};
+    ghost use Rattle.rnix_tree.specs.Tree.{text_at};
+
+    ghost output = { λ token. Some (text_at token) };
+
+    fn fmt<W: fmt::Write>(&self, f: &mut fmt::Formatter<W>) -> fmt::Result {
+        f.write_str(self.text())
+    }
+}
+
+impl<'t> fmt::Debug for SyntaxToken<'t> {
+    fn fmt<W: fmt::Write>(&self, f: &mut fmt::Formatter<W>) -> fmt::Result {
+        write_place(self.kind(), self.text_range(), f)
+    }
+}
