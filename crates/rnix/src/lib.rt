@@ -6,7 +6,8 @@ mod root;
 pub use rnix_grammar::ParseError;
 pub use rnix_kinds::{ParseSyntaxKindError, SyntaxKind, Token, TokenSet, Tokenizer, tokenize};
 pub use rnix_tree::{
-    Checkpoint, GreenNode, GreenNodeBuilder, NodeOrToken, PreorderWithTokens, SyntaxElement,
-    SyntaxElementChildren, SyntaxNode, SyntaxToken, TextRange, TextSize, WalkEvent,
+    Ancestors, Checkpoint, Descendants, DescendantsWithTokens, GreenNode, GreenNodeBuilder,
+    NodeOrToken, Preorder, PreorderWithTokens, SyntaxElement, SyntaxElementChildren, SyntaxNode,
+    SyntaxNodeChildren, SyntaxToken, TextRange, TextSize, TokenAtOffset, WalkEvent,
 };
 pub use root::{Parse, Root};
