@@ -16,4 +16,5 @@ pub mod StartLemmas
 pub mod FirstFromLemmas
 pub mod OffsetLemmas
 pub mod SameLemmas
+pub mod CountLemmas
 pub mod PreorderLemmas

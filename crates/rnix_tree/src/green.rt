@@ -118,7 +118,7 @@ impl GreenNode {
         ensures is { item_from result ≡ item self.now number }
         ensures ordered { result.start ≤ result.end }
         ensures inside { number + 1 + result.below ≤ length (items_of self.now) }
-        ensures next_fits { number + 1 + result.below < 2 ^ 64 }
+        ensures next_fits { number + 1 + result.below < 2 ^ 63 }
     {
         self.elements[number]
     }

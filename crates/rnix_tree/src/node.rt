@@ -1,6 +1,6 @@
 //! Nodes of a tree.
 
-ghost use Rattle.std.specs.Prelude.{◌≡◌, ◌<◌, ◌^◌};
+ghost use Rattle.std.specs.Prelude.{◌≡◌, ◌<◌, ◌^◌, length};
 ghost use Rattle.rnix_tree.specs.Forest.{element_count};
 ghost use Rattle.rnix_tree.specs.Tree.{item_of, extent_of, text_at, part_at};
 ghost use Rattle.rnix_tree.specs.Walk.{children_of, preorder_of, nodes_in, elements_of, node_events, ancestors_of};
@@ -65,7 +65,8 @@ impl<'t> SyntaxNode<'t> {
 
     /// The nodes and tokens right below the node, in order.
     pub fn children_with_tokens(&self) -> SyntaxElementChildren<'t>
-        ensures { result ≡ children_of self.now }
+        ensures children { result ≡ children_of self.now }
+        ensures fits { length result < 2 ^ 64 }
     {
         let element = self.green.element(self.number);
         SyntaxElementChildren {
@@ -77,7 +78,8 @@ impl<'t> SyntaxNode<'t> {
 
     /// The nodes right below the node, in order.
     pub fn children(&self) -> SyntaxNodeChildren<'t>
-        ensures { result ≡ nodes_in (children_of self.now) }
+        ensures children { result ≡ nodes_in (children_of self.now) }
+        ensures fits { length result < 2 ^ 64 }
     {
         SyntaxNodeChildren {
             elements: self.children_with_tokens(),
@@ -86,8 +88,10 @@ impl<'t> SyntaxNode<'t> {
 
     /// The node and the nodes around it, the innermost first.
     pub fn ancestors(&self) -> Ancestors<'t>
-        ensures { result ≡ ancestors_of self.now }
+        ensures ancestors { result ≡ ancestors_of self.now }
+        ensures fits { length result < 2 ^ 64 }
     {
+        let _element = self.green.element(self.number);
         Ancestors {
             green: self.green,
             next: Some(self.number),
@@ -96,7 +100,8 @@ impl<'t> SyntaxNode<'t> {
 
     /// The node and all nodes and tokens inside it, in preorder.
     pub fn descendants_with_tokens(&self) -> DescendantsWithTokens<'t>
-        ensures { result ≡ elements_of self.now }
+        ensures elements { result ≡ elements_of self.now }
+        ensures fits { length result < 2 ^ 64 }
     {
         let element = self.green.element(self.number);
         DescendantsWithTokens {
@@ -108,7 +113,8 @@ impl<'t> SyntaxNode<'t> {
 
     /// The node and all nodes inside it, in preorder.
     pub fn descendants(&self) -> Descendants<'t>
-        ensures { result ≡ nodes_in (elements_of self.now) }
+        ensures nodes { result ≡ nodes_in (elements_of self.now) }
+        ensures fits { length result < 2 ^ 64 }
     {
         Descendants {
             elements: self.descendants_with_tokens(),
@@ -117,7 +123,8 @@ impl<'t> SyntaxNode<'t> {
 
     /// A walk that enters and leaves the node and all nodes inside it.
     pub fn preorder(&self) -> Preorder<'t>
-        ensures { result ≡ node_events (preorder_of self.now) }
+        ensures walk { result ≡ node_events (preorder_of self.now) }
+        ensures fits { length result < 2 ^ 64 }
     {
         Preorder {
             events: self.preorder_with_tokens(),
@@ -127,7 +134,8 @@ impl<'t> SyntaxNode<'t> {
     /// A walk that enters and leaves the node and all that is inside it.
     pub fn preorder_with_tokens(&self) -> PreorderWithTokens<'t>
         ensures walk { result ≡ preorder_of self.now }
-        ensures fits { element_count (part_at self.now) < 2 ^ 64 }
+        ensures count { element_count (part_at self.now) < 2 ^ 64 }
+        ensures fits { length result < 2 ^ 64 }
     {
         let _element = self.green.element(self.number);
         PreorderWithTokens::new(self.green, self.number)

@@ -1,8 +1,8 @@
 //! Walks over trees that were read, and tokens at an offset.
 
 use rnix::{
-    NodeOrToken, Parse, Root, SyntaxKind, SyntaxNode, SyntaxToken, TextRange, TokenAtOffset,
-    WalkEvent,
+    NodeOrToken, Parse, Root, SyntaxElement, SyntaxKind, SyntaxNode, SyntaxToken, TextRange,
+    TokenAtOffset, WalkEvent,
 };
 use std::alloc::Global;
 use std::test::Fail;
@@ -22,9 +22,18 @@ fn node_at<'t>(
     None
 }
 
-// Whether an element is of this kind and starts and ends there.
-fn stands(kind: SyntaxKind, range: TextRange, wanted: (SyntaxKind, usize, usize)) -> bool {
-    kind == wanted.0 && range.start() == wanted.1 && range.end() == wanted.2
+// Whether there is a node or a token of this kind which starts and ends there.
+fn is_element(
+    found: Option<SyntaxElement<'_>>,
+    kind: SyntaxKind,
+    start: usize,
+    end: usize,
+) -> bool {
+    let Some(element) = found else {
+        return false;
+    };
+    let range = element.text_range();
+    element.kind() == kind && range.start() == start && range.end() == end
 }
 
 // The texts of the tokens at an offset: the left and the right one.
@@ -106,34 +115,16 @@ fn siblings_of_a_literal(rt: HostRuntime) -> Result<(), Fail> {
         return Ok(());
     };
     let next = one.next_sibling();
-    assert!(rt;
-        next.is_some_and(|node| stands(
-            node.kind(),
-            node.text_range(),
-            (SyntaxKind::NODE_BIN_OP, 4, 9)
-        ))
-    );
+    assert!(rt; next.is_some_and(|node| node.text_range() == TextRange::new(4, 9)));
     let beside = one.next_sibling_or_token();
-    assert!(rt;
-        beside.is_some_and(|it| stands(
-            it.kind(),
-            it.text_range(),
-            (SyntaxKind::TOKEN_WHITESPACE, 1, 2)
-        ))
-    );
+    assert!(rt; is_element(beside, SyntaxKind::TOKEN_WHITESPACE, 1, 2));
     assert!(rt; one.prev_sibling_or_token().is_none());
     assert!(rt; one.prev_sibling().is_none());
     let Some(token) = one.first_token() else {
         return Ok(());
     };
     let after = token.next_token();
-    assert!(rt;
-        after.is_some_and(|it| stands(
-            it.kind(),
-            it.text_range(),
-            (SyntaxKind::TOKEN_WHITESPACE, 1, 2)
-        ))
-    );
+    assert!(rt; after.is_some_and(|it| it.text_range() == TextRange::new(1, 2)));
     assert!(rt; token.prev_token().is_none());
     Ok(())
 }
@@ -176,23 +167,32 @@ fn children_from_both_ends(rt: HostRuntime) -> Result<(), Fail> {
     assert!(rt; product.first_child().is_some_and(|node| node.text() == "2"));
     assert!(rt; product.last_child().is_some_and(|node| node.text() == "3"));
     assert!(rt;
-        product
-            .first_child_or_token()
-            .is_some_and(|it| it.text_range() == TextRange::new(4, 5))
+        is_element(
+            product.first_child_or_token(),
+            SyntaxKind::NODE_LITERAL,
+            4,
+            5
+        )
     );
     assert!(rt;
-        product
-            .last_child_or_token()
-            .is_some_and(|it| it.text_range() == TextRange::new(8, 9))
+        is_element(
+            product.last_child_or_token(),
+            SyntaxKind::NODE_LITERAL,
+            8,
+            9
+        )
     );
     let Some(three) = product.last_child() else {
         return Ok(());
     };
     assert!(rt; three.prev_sibling().is_some_and(|node| node.text() == "2"));
     assert!(rt;
-        three
-            .prev_sibling_or_token()
-            .is_some_and(|it| it.kind() == SyntaxKind::TOKEN_WHITESPACE)
+        is_element(
+            three.prev_sibling_or_token(),
+            SyntaxKind::TOKEN_WHITESPACE,
+            7,
+            8
+        )
     );
     assert!(rt; three.next_sibling().is_none() && three.next_sibling_or_token().is_none());
     Ok(())

@@ -11,7 +11,7 @@ use Rattle.rnix_print.proofs.printing.dump.Goals as goal
 pub loop-event-init : goal.loop-event-init
 loop-event-init g c =
     let is = c.into_iter-event-iterator.ensures.into_iter_gives ∙ c.preorder_with_tokens-event-items.ensures.walk in
-    let start = begun c.args.node.now c.into_iter-event-iterator.result is c.preorder_with_tokens-event-items.ensures.fits in
+    let start = begun c.args.node.now c.into_iter-event-iterator.result is c.preorder_with_tokens-event-items.ensures.count in
     ([], Appends-nil _, ap (event_lines 0) is, start.0, start.1)
 
 pub loop-event-preserved-in-Enter : goal.loop-event-preserved-in-Enter
