@@ -6,10 +6,12 @@ use Rattle.std.specs.Hash as fed
 use Rattle.std.proofs.Common.{ap, sym, refl, ◌∙◌}
 use Rattle.std.proofs.lemmas.Bool.Decides.{Decides-eqb, Decides-like, Decides-and}
 use Rattle.std.proofs.lemmas.Slice.Eq.{bytes_eq-Decides}
+use Rattle.rnix_kinds.specs.declared.kinds.SyntaxKind.{SyntaxKind}
 use Rattle.rnix_kinds.specs.SyntaxKind.{place_of}
 use Rattle.rnix_tree.specs.Equality.{same_kind, same_kind-decides, equivalence_from}
 use Rattle.rnix_tree.specs.Forest.{Forest, empty, leaf, node}
-use Rattle.rnix_tree.specs.Tree.{Tree, Located, item_of}
+use Rattle.rnix_tree.specs.Tree.{Tree, Located, item_of, extent_of}
+use Rattle.rnix_tree.specs.Range.{Extent}
 
 -- two rows of trees are equal
 abbrev pub same_forest : Forest → Forest → Bool
@@ -23,8 +25,11 @@ abbrev pub same_located : Located → Located → Bool
 same_located a b = a.number == b.number && (same_kind a.tree.kind b.tree.kind && same_forest a.tree.children b.tree.children)
 
 -- what is hashed of an element: its number, its kind and its range
+abbrev pub hashed_at : ℕ → SyntaxKind → Extent → List (List ℕ)
+hashed_at number kind range = fed.usize number ++ (fed.usize (place_of kind) ++ (fed.usize range.start ++ fed.usize range.end))
+
 abbrev pub hashed : Located → List (List ℕ)
-hashed e = fed.usize e.number ++ (fed.usize (place_of (item_of e).kind) ++ (fed.usize (item_of e).start ++ fed.usize (item_of e).end))
+hashed e = hashed_at e.number (item_of e).kind (extent_of e)
 
 pub same_forest-decides : (f g : Forest) → Decides (same_forest f g) (f ≡ g)
 same_forest-decides empty empty = (λ e. refl, λ e. refl)

@@ -1,6 +1,7 @@
 //! Equality, hashes and printing of nodes and tokens.
 
-ghost use Rattle.std.specs.Prelude.{◌≡◌};
+ghost use Rattle.std.specs.Prelude.{◌≡◌, fold};
+ghost use Rattle.rnix_tree.specs.Same.{hashed_at};
 
 use crate::node::SyntaxNode;
 use crate::range::TextRange;
@@ -17,6 +18,16 @@ fn write_place<W: fmt::Write>(
 ) -> fmt::Result {
     let (name, start, end) = (kind.name(), range.start(), range.end());
     write!(f, "{name}@{start}..{end}")
+}
+
+// A number with a kind and a range.
+fn hash_place<H: Hasher>(number: usize, kind: SyntaxKind, range: TextRange, state: &mut H)
+    ensures { state.new ≡ fold H.write state.old (hashed_at number kind range) }
+{
+    number.hash(state);
+    (kind as usize).hash(state);
+    range.start().hash(state);
+    range.end().hash(state);
 }
 
 impl<'t> PartialEq for SyntaxNode<'t> {
@@ -46,11 +57,7 @@ impl<'t> Hash for SyntaxNode<'t> {
     ghost respects_eq = { hashed_alike };
 
     fn hash<H: Hasher>(&self, state: &mut H) {
-        let range = self.text_range();
-        self.number.hash(state);
-        (self.kind() as usize).hash(state);
-        range.start().hash(state);
-        range.end().hash(state);
+        hash_place(self.number, self.kind(), self.text_range(), state);
     }
 }
 
@@ -98,11 +105,7 @@ impl<'t> Hash for SyntaxToken<'t> {
     ghost respects_eq = { hashed_alike };
 
     fn hash<H: Hasher>(&self, state: &mut H) {
-        let range = self.text_range();
-        self.number.hash(state);
-        (self.kind() as usize).hash(state);
-        range.start().hash(state);
-        range.end().hash(state);
+        hash_place(self.number, self.kind(), self.text_range(), state);
     }
 }
 
