@@ -10,9 +10,6 @@ use Rattle.rnix_grammar.specs.Shape.{BeginsWithItem, EndsWithItem, token_kinds, 
 use Rattle.rnix_grammar.proofs.SketchLemmas.{tokens_in-⊕, tokens_in-row_of}
 use Rattle.rnix_grammar.proofs.LayoutLemmas.{IsFirst, first_item, bared, items-from_item, items-rest_after, trivia-from_item, items-++}
 
-true_is_not_false : true ≡ false → ⊥
-true_is_not_false h = cc
-
 -- some kinds
 pub data IsSome : List SyntaxKind → Type 0 where
   some : (k : SyntaxKind) (ks : List SyntaxKind) → IsSome (k ∷ ks)

@@ -12,16 +12,11 @@ use Rattle.rnix_grammar.specs.declared.begin.Begin.TheVariants as b
 use Rattle.rnix_grammar.specs.declared.until.Until.TheVariants.{RParen}
 use Rattle.rnix_grammar.specs.Fault.{Fault}
 use Rattle.rnix_grammar.specs.Tables.{begin_of, goes_on, stops, is_cur_pos, depth_limit}
-use Rattle.rnix_grammar.specs.Sketch.{Token, Sketch, blank, token, ◌⊕◌, one_branch, leaf_of, forget, placed_from, head_kind, head_lexeme, lexeme_of}
-use Rattle.rnix_grammar.specs.Layout.{items}
+use Rattle.rnix_grammar.specs.Sketch.{Token, Sketch, blank, token, ◌⊕◌, one_branch, leaf_of, forget, head_kind, head_lexeme, lexeme_of}
 use Rattle.rnix_grammar.specs.Reads.{Expression, Operands, More, Simple, Atom, Wanted, Closing, Behind, Whole, operand_of, has_operator, Reads, expression, too-deep, operands, stop, operator, argument, simple, literal, name, cur-pos, paren, wanted-now, wanted-later, closed, ended-open, nothing-behind, something-behind, document}
 use Rattle.rnix_grammar.specs.Strict.{tighter, IsStrict, tight, binary, applied, number, named, position, enclosed, untold, yield, nesting}
-use Rattle.rnix_grammar.specs.Parsed.{IsDerived}
 use Rattle.rnix_grammar.proofs.SketchLemmas.{⊕-blank, forget-⊕}
-
--- the two truth values differ
-true_is_not_false : true ≡ false → ⊥
-true_is_not_false h = cc
+use Rattle.rnix_grammar.proofs.Basics.{true_is_not_false}
 
 -- the lexemes of two rows
 yield-join : (f g : Forest) → yield (join f g) ≡ yield f ++ yield g
@@ -356,13 +351,3 @@ whole_found f s n {ts = ts} e (document {f = a} {g = c} {es = es1} {us = us1} r 
     let got : Got f [] a es1 us1 = expression_found f (strict_found (Some Sum) f s) 0 [] ts a es1 us1 (omega (arith, n)) (e ∙ sym (append-nil (yield f))) refl (refl, refl) r in
     let after = behind_found got.left behind in
     (both_none got.none after.0, ap (λ x. forget (a ⊕ x)) after.1 ∙ ap forget (⊕-blank a) ∙ got.forest)
-
--- whatever is read from the tokens of a strict expression is this expression, with no error
-pub found : (tokens : List Lexeme) (f : Forest) → IsDerived tokens f → (g : Sketch) (es : List Fault) → Reads 0 Whole blank (items (placed_from 0 tokens)) g es []
-    → (es ≡ []) × (forget g ≡ f)
-found tokens f derived g es r = whole_found f derived.strict derived.shallow derived.yields r
-
--- of tokens that are read there is one strict expression at most
-pub alone : (tokens : List Lexeme) (f g : Forest) → IsDerived tokens f → IsDerived tokens g → (h : Sketch) (es : List Fault) → Reads 0 Whole blank (items (placed_from 0 tokens)) h es []
-    → f ≡ g
-alone tokens f g derived other h es r = sym (found tokens f derived h es r).1 ∙ (found tokens g other h es r).1

@@ -6,9 +6,7 @@ use Rattle.rnix_kinds.specs.SyntaxKind.{is_trivia}
 use Rattle.rnix_grammar.specs.Sketch.{Token, Sketch, blank, token, branch, fault, ◌⊕◌, tokens_in, clean, token_if, told_as, AreTold}
 use Rattle.rnix_grammar.specs.Layout.{from_item_if, from_item, trivia_if, trivia_before, item_if, items, tail_of, is_last, trivia_after, rest_after, left_after, dressed, dressed_whole}
 use Rattle.rnix_grammar.proofs.SketchLemmas.{⊕-blank, tokens_in-⊕, tokens_two}
-
-true_is_not_false : true ≡ false → ⊥
-true_is_not_false h = cc
+use Rattle.rnix_grammar.proofs.Basics.{true_is_not_false}
 
 pub trivia-from_item : (ts : List Token) → trivia_before (from_item ts) ≡ blank
 trivia-from_item [] = refl

@@ -1,3 +1,4 @@
+pub mod Basics
 pub mod SketchLemmas
 pub mod RowLemmas
 pub mod StopsLemmas

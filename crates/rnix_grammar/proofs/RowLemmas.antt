@@ -9,6 +9,8 @@ use Rattle.rnix_grammar.specs.Rows.{Place, go, start, whole, live, missing, Past
 use Rattle.rnix_grammar.specs.Mended.{NoneEnded, mended}
 use Rattle.rnix_grammar.specs.Strict.{IsStrict}
 use Rattle.rnix_grammar.proofs.SketchLemmas.{⊕-blank, tokens_two, tokens_in-row_of}
+use Rattle.rnix_grammar.proofs.Basics.{true_is_not_false}
+use Rattle.rnix_grammar.proofs.Basics.{not_nil}
 
 -- the kind before what comes after a row
 abbrev pub last_seen : Option SyntaxKind → Sketch → Option SyntaxKind
@@ -34,9 +36,6 @@ stands-⊕ {us = us} {g = g} {es = es} (inner {s = s} {c = c} {f = f} {ds = ds} 
     let all : length (tokens_in c ++ tokens_in f) ≡ length (tokens_in c) + length (tokens_in f) = length-append (tokens_in c) (tokens_in f) in
     inner h (w ∙ ap (λ y. tokens_in f ++ y) v ∙ sym (tokens_two f g us)) x l o m j (stands-⊕ y v (omega arith) k refl)
     (e ∙ ap (λ y. y ++ es) z ∙ append_assoc (ds ++ missing s) fs es)
-
-not_nil : {t : Token} {ts : List Token} → t ∷ ts ≡ [] → ⊥
-not_nil h = cc
 
 -- the first of some tokens
 pub record Head (ts : List Token) : Type 0 where
@@ -161,9 +160,6 @@ operand_tokens (stood k c s e z) = e
 pub operand_head : {Deep : ℕ → ℕ → Type 0} {class : SyntaxKind → Bool} {l : Option Level} {f : Sketch} {es : List Fault} {ts us : List Token} {t : Token}
     → Operand Deep class l ts f es (t ∷ us) → Head ts
 operand_head (stood {t = t} {ts = ts} k c s e z) = record { token = t; more = ts; is = refl }
-
-true_is_not_false : true ≡ false → ⊥
-true_is_not_false h = cc
 
 pub operand_strict : {Deep : ℕ → ℕ → Type 0} {class : SyntaxKind → Bool} {l : Option Level} {f : Sketch} {es : List Fault} {ts us : List Token}
     → Operand Deep class l ts f es us → NoneEnded es → IsStrict l (mended f)

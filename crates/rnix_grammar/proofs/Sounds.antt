@@ -21,12 +21,8 @@ use Rattle.rnix_grammar.proofs.SketchLemmas.{⊕-assoc, ⊕-blank, tokens_two, t
 use Rattle.rnix_grammar.proofs.RowLemmas.{Operand, missed, stood, Row, row_start, row_add, row_more, row_token, row_due, row_operand, row_node, operand_tokens, operand_head, operand_strict, operand_as}
 use Rattle.rnix_grammar.proofs.Lossless.{lossless}
 use Rattle.rnix_grammar.proofs.StopsLemmas.{Stops, stops_expression, not_continuing}
-
-true_is_not_false : true ≡ false → ⊥
-true_is_not_false h = cc
-
-not_nil : {t : Token} {ts : List Token} → t ∷ ts ≡ [] → ⊥
-not_nil h = cc
+use Rattle.rnix_grammar.proofs.Basics.{true_is_not_false}
+use Rattle.rnix_grammar.proofs.Basics.{not_nil}
 
 -- inside of at least so many nodes, and behind so many items: where a part of depth d stands, and where an expression inside d others does
 abbrev pub Deep : ℕ → ℕ → ℕ → Type 0

@@ -8,12 +8,8 @@ use Rattle.rnix_grammar.specs.Rows.{Place, RootEnd, ParenInside, ParenEnd, Past,
 use Rattle.rnix_grammar.specs.Mended.{is_ended, others, is_misplaced, NoneMisplaced, AreSettled}
 use Rattle.rnix_grammar.specs.Shape.{reports}
 use Rattle.rnix_grammar.proofs.SketchLemmas.{tokens_in-row_of}
-
-true_is_not_false : true ≡ false → ⊥
-true_is_not_false h = cc
-
-not_nil : {t : Token} {ts : List Token} → t ∷ ts ≡ [] → ⊥
-not_nil h = cc
+use Rattle.rnix_grammar.proofs.Basics.{true_is_not_false}
+use Rattle.rnix_grammar.proofs.Basics.{not_nil}
 
 nil_left : (xs ys : List Token) → xs ++ ys ≡ [] → xs ≡ []
 nil_left [] ys h = refl

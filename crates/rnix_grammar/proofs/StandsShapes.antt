@@ -1,5 +1,5 @@
 -- The rows of a sketch without trivia that stands as it may, and of its mended tree.
-use Rattle.std.proofs.Common.{◌≡◌, ℕ, ◌+◌, ◌≤◌, true, false, List, [], ◌∷◌, ◌++◌, Option, refl, ap, sym, ◌∙◌, subst, arith}
+use Rattle.std.proofs.Common.{◌≡◌, ℕ, ◌+◌, ◌≤◌, true, List, [], ◌∷◌, ◌++◌, Option, refl, ap, sym, ◌∙◌, subst, arith}
 use Rattle.std.specs.Prelude.{if◌then◌else◌}
 use Rattle.rnix_kinds.specs.declared.kinds.SyntaxKind.{SyntaxKind}
 use Rattle.rnix_kinds.specs.declared.kinds.SyntaxKind.TheVariants.{TOKEN_ADD, TOKEN_L_PAREN, TOKEN_R_PAREN, TOKEN_INTEGER, TOKEN_IDENT, TOKEN_CUR_POS, NODE_LITERAL}
@@ -9,9 +9,7 @@ use Rattle.rnix_grammar.specs.Sketch.{Token, Note, Stray, Unwanted, Extra, TooDe
 use Rattle.rnix_grammar.specs.Rows.{Place, RootStart, RootEnd, LiteralStart, IdentStart, CurPosStart, BinStart, BinOperator, BinEnd, ApplyStart, ApplyEnd, ParenStart, ParenInside, ParenEnd, Past, Nowhere, start, run, is_row, IsBeginning, live, missing, whole, patched, report, Stands, end, leaf, wrong, inner}
 use Rattle.rnix_grammar.specs.Mended.{patch, mended, kinds_of, halves, AreBegun, ended_count}
 use Rattle.rnix_grammar.proofs.StandsFaults.{whole_owes_none}
-
-true_is_not_false : true ≡ false → ⊥
-true_is_not_false h = cc
+use Rattle.rnix_grammar.proofs.Basics.{true_is_not_false}
 
 cons_is_not_nil : {e : Fault} {es : List Fault} → e ∷ es ≡ [] → ⊥
 cons_is_not_nil h = cc

@@ -13,9 +13,7 @@ use Rattle.rnix_grammar.specs.Shape.{item_kinds, BeginsWithItem, EndsWithItem, l
 use Rattle.rnix_grammar.proofs.LayoutLemmas.{IsFirst, first_item, bared, items-from_item, trivia-from_item}
 use Rattle.rnix_grammar.proofs.StandsShapes.{AreRows}
 use Rattle.rnix_grammar.proofs.EdgeLemmas.{IsSome, some, ends_behind, some_behind, token_kinds-++, kinds_in, kinds_in-⊕}
-
-true_is_not_false : true ≡ false → ⊥
-true_is_not_false h = cc
+use Rattle.rnix_grammar.proofs.Basics.{true_is_not_false}
 
 -- whether a leaf is trivia, its token tells
 name_is_item : (p : SyntaxKind) (s : List ℕ) → is_trivia (told_name p s) ≡ false

@@ -1,5 +1,5 @@
 -- Equality of errors: the test on faults says that they are one.
-use Rattle.std.proofs.Common.{bytes_eq, ◌≡◌, ◌&&◌, ◌==◌, List, Bool, true, false, ap, sym, refl, ◌∙◌}
+use Rattle.std.proofs.Common.{bytes_eq, ◌≡◌, ◌&&◌, ◌==◌, List, ap, refl}
 use Rattle.std.specs.Bool.{Decides}
 use Rattle.std.specs.Cmp.{IsPartialEquivalence, partial_equiv_from_equiv}
 use Rattle.std.specs.Cmp.{on_per}
@@ -7,7 +7,6 @@ use Rattle.std.specs.Cmp.Lexicographic.{pointwise}
 use Rattle.std.proofs.lemmas.Bool.Decides.{Decides-eqb, Decides-like, Decides-and}
 use Rattle.std.proofs.lemmas.Slice.Eq.{slice_eq-Decides, bytes_eq-Decides}
 use Rattle.rnix_kinds.specs.declared.kinds.SyntaxKind.{SyntaxKind}
-use Rattle.rnix_kinds.specs.SyntaxKind.{place_of}
 use Rattle.rnix_tree.specs.Equality.{same_kind, same_kind-decides, equivalence_from}
 use Rattle.rnix_tree.specs.Range.{Extent}
 use Rattle.rnix_grammar.specs.declared.error.ParseError.{ParseError}

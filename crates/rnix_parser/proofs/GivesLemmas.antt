@@ -22,9 +22,7 @@ use Rattle.rnix_parser.specs.Gives.{Gives, Adds, Grows, Going, IsFull, node_of}
 use Rattle.rnix_parser.proofs.LaidLemmas.{dressed-past, laid-⊕, laid-wrap, laid-node, laid-started_at, place-full}
 use Rattle.rnix_parser.proofs.ReadsLemmas.{shrinks, simple_moves, operand_full}
 use Rattle.rnix_parser.proofs.RunLemmas.{left_bumped, left_started, left_ended, read_item, leaf_laid, leaf_left, place-eaten}
-
-true_is_not_false : true ≡ false → ⊥
-true_is_not_false h = cc
+use Rattle.rnix_grammar.proofs.Basics.{true_is_not_false}
 
 -- the nodes that are open stay open
 pub nodes_laid : (f : Sketch) (es : List Fault) (s s' : State) → s' ≡ laid f es s → s'.open_nodes ≡ s.open_nodes

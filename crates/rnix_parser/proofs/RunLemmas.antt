@@ -24,9 +24,7 @@ use Rattle.rnix_parser.specs.Gives.{Gives, Adds, Skips, Stopped, Runs}
 use Rattle.rnix_parser.proofs.CursorLemmas.{in_order_from}
 use Rattle.rnix_parser.proofs.LaidLemmas.{laid-blank, laid-⊕, laid-failed, laid-fault, laid-deep, laid-leaf}
 use Rattle.rnix_parser.proofs.StateLemmas.{items-eaten}
-
-true_is_not_false : true ≡ false → ⊥
-true_is_not_false h = cc
+use Rattle.rnix_grammar.proofs.Basics.{true_is_not_false}
 
 -- an item that is looked up is the first that is left
 pub item_there : (ts : List Token) (r : Option PlacedToken) (t : PlacedToken) → option_map token_of r ≡ head_of ts → r ≡ Some t → head_of ts ≡ Some (token_of t)

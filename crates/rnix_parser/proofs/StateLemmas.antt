@@ -13,9 +13,6 @@ use Rattle.rnix_parser.specs.Placed.{token_of}
 use Rattle.rnix_parser.specs.State.{State, eaten, leaf_on, bumped}
 use Rattle.rnix_parser.proofs.LaidLemmas.{state_is}
 
-true_is_not_false : true ≡ false → ⊥
-true_is_not_false h = cc
-
 -- the tokens that are left, by the first of them
 pub first_there : (ts : List Token) (r : Option PlacedToken) (t : PlacedToken) → option_map token_of r ≡ head_of ts → r ≡ Some t → ts ≡ token_of t ∷ tail_of ts
 first_there [] r t e h = absurd (some_is_not_none (sym (ap (option_map token_of) h) ∙ e))
