@@ -3,11 +3,11 @@
 use rnix::{
     GreenNode, GreenNodeBuilder, SyntaxKind, SyntaxNode, TextRange, TokenAtOffset, WalkEvent,
 };
-use std::alloc::Global;
+use std::alloc::{AllocError, Global};
 use std::test::Fail;
 
 // A ROOT over an empty LIST, the name `a`, an empty LIST and the name `b`.
-fn lists(alloc: Global) -> Result<GreenNode, Fail> {
+fn lists(alloc: Global) -> Result<GreenNode, AllocError> {
     let mut builder = GreenNodeBuilder::new(alloc);
     builder.start_node(SyntaxKind::NODE_ROOT)?;
     builder.start_node(SyntaxKind::NODE_LIST)?;
@@ -17,7 +17,7 @@ fn lists(alloc: Global) -> Result<GreenNode, Fail> {
     builder.finish_node()?;
     builder.token(SyntaxKind::TOKEN_IDENT, "b")?;
     builder.finish_node()?;
-    Ok(builder.finish()?)
+    builder.finish()
 }
 
 // A ROOT over an empty leaf, `a` and an empty leaf.
@@ -125,5 +125,36 @@ fn deep_lists_are_walked(rt: HostRuntime) -> Result<(), Fail> {
     assert_eq!(rt; left, 100_000);
     let copy = tree.try_clone()?;
     assert!(rt; SyntaxNode::new_root(&copy) == root);
+    Ok(())
+}
+
+#[test]
+fn a_copy_is_made_in_spite_of_a_refusal(rt: HostRuntime) -> Result<(), Fail> {
+    // The tree is built again if it was its own memory that was refused.
+    let tree = match lists(rt.alloc()) {
+        Ok(tree) => tree,
+        Err(_refused) => lists(rt.alloc())?,
+    };
+    let copy = match tree.try_clone() {
+        Ok(copy) => copy,
+        Err(_refused) => tree.try_clone()?,
+    };
+    assert!(rt; SyntaxNode::new_root(&copy) == SyntaxNode::new_root(&tree));
+    Ok(())
+}
+
+#[test]
+fn any_kind_stands_on_leaves_and_nodes(rt: HostRuntime) -> Result<(), Fail> {
+    let mut builder = GreenNodeBuilder::new(rt.alloc());
+    builder.start_node(SyntaxKind::TOKEN_ADD)?;
+    builder.token(SyntaxKind::NODE_LIST, "x")?;
+    builder.finish_node()?;
+    let tree = builder.finish()?;
+    let root = SyntaxNode::new_root(&tree);
+    assert!(rt; root.kind() == SyntaxKind::TOKEN_ADD);
+    assert!(rt;
+        root.first_token()
+            .is_some_and(|leaf| leaf.kind() == SyntaxKind::NODE_LIST)
+    );
     Ok(())
 }
