@@ -2,11 +2,11 @@
 use Rattle.std.proofs.Common.{◌≡◌, ℕ, suc, ◌+◌, ◌<◌, ◌≤◌, true, false, List, [], ◌∷◌, ◌++◌, map, Option, Some, None, refl, ap, sym, ◌∙◌, subst, append_assoc, append-nil, arith}
 use Rattle.std.specs.Prelude.{if◌then◌else◌}
 use Rattle.rnix_kinds.specs.declared.kinds.SyntaxKind.{SyntaxKind}
-use Rattle.rnix_kinds.specs.declared.kinds.SyntaxKind.TheVariants.{TOKEN_ADD, TOKEN_MUL, TOKEN_L_PAREN, TOKEN_R_PAREN, TOKEN_INTEGER, TOKEN_IDENT, TOKEN_CUR_POS, NODE_BIN_OP, NODE_APPLY, NODE_PAREN, NODE_LITERAL, NODE_IDENT, NODE_CUR_POS}
+use Rattle.rnix_kinds.specs.declared.kinds.SyntaxKind.TheVariants.{TOKEN_ADD, TOKEN_SUB, TOKEN_MUL, TOKEN_DIV, TOKEN_PIPE_RIGHT, TOKEN_OR_OR, TOKEN_AND_AND, TOKEN_L_PAREN, TOKEN_R_PAREN, TOKEN_INTEGER, TOKEN_IDENT, TOKEN_CUR_POS, NODE_BIN_OP, NODE_APPLY, NODE_PAREN, NODE_LITERAL, NODE_IDENT, NODE_CUR_POS}
 use Rattle.rnix_kinds.specs.Lexical.Tokens.{Lexeme}
 use Rattle.rnix_tree.specs.Forest.{Forest, empty, leaf, node, join}
 use Rattle.rnix_grammar.specs.declared.level.Level.{Level}
-use Rattle.rnix_grammar.specs.declared.level.Level.TheVariants.{Sum, Product, Application}
+use Rattle.rnix_grammar.specs.declared.level.Level.TheVariants.{PipeRight, Disjunction, Conjunction, Sum, Product, Application}
 use Rattle.rnix_grammar.specs.declared.begin.Begin.{Begin}
 use Rattle.rnix_grammar.specs.declared.begin.Begin.TheVariants as b
 use Rattle.rnix_grammar.specs.declared.until.Until.TheVariants.{RParen}
@@ -16,7 +16,10 @@ use Rattle.rnix_grammar.specs.Sketch.{Token, Sketch, blank, token, ◌⊕◌, on
 use Rattle.rnix_grammar.specs.Reads.{Expression, Operands, More, Simple, Atom, Wanted, Closing, Behind, Whole, operand_of, has_operator, Reads, expression, too-deep, operands, stop, operator, argument, simple, literal, name, cur-pos, paren, wanted-now, wanted-later, closed, ended-open, nothing-behind, something-behind, document}
 use Rattle.rnix_grammar.specs.Strict.{tighter, IsStrict, tight, binary, applied, number, named, position, enclosed, untold, yield, nesting}
 use Rattle.rnix_grammar.proofs.SketchLemmas.{⊕-blank, forget-⊕}
+use Rattle.rnix_grammar.specs.Rows.{is_infix}
 use Rattle.rnix_grammar.proofs.Basics.{true_is_not_false}
+use Rattle.rnix_grammar.proofs.StopsLemmas.{StopsBefore, InsideBefore}
+use Rattle.rnix_grammar.proofs.Sounds.{level_infix}
 
 -- the lexemes of two rows
 yield-join : (f g : Forest) → yield (join f g) ≡ yield f ++ yield g
@@ -68,9 +71,7 @@ both_none h k = rw (h, k) refl
 
 -- no operator of a tighter level goes on, and no argument
 abbrev pub EndsInside : Level → List Lexeme → Type 0
-EndsInside Application rest = Unit {0}
-EndsInside Product rest = goes_on Application (first_of rest) ≡ false
-EndsInside Sum rest = (goes_on Product (first_of rest) ≡ false) × (goes_on Application (first_of rest) ≡ false)
+EndsInside l rest = InsideBefore l (first_of rest)
 
 -- this forest was read, with no error, and these lexemes are left
 pub record Got (f : Forest) (rest : List Lexeme) (g : Sketch) (es : List Fault) (us : List Token) : Type 0 where
@@ -110,8 +111,11 @@ left_ends l h w = level_ends l w.forest w.left h w.more
 -- the operand of a level is read whole
 operand_found : (l : Level) (f : Forest) → Claim (tighter l) f → (d : ℕ) (rest : List Lexeme) (ts : List Token) (g : Sketch) (es : List Fault) (us : List Token)
     → d + nesting f ≤ depth_limit → map lexeme_of ts ≡ yield f ++ rest → EndsInside l rest → Reads d (operand_of l) blank ts g es us → Got f rest g es us
+operand_found PipeRight f claim d rest ts g es us n e h r = left_ends Disjunction h.0 (claim d rest ts g es us n e h.1 r)
+operand_found Disjunction f claim d rest ts g es us n e h r = left_ends Conjunction h.0 (claim d rest ts g es us n e h.1 r)
+operand_found Conjunction f claim d rest ts g es us n e h r = left_ends Sum h.0 (claim d rest ts g es us n e h.1 r)
 operand_found Sum f claim d rest ts g es us n e h r = left_ends Product h.0 (claim d rest ts g es us n e h.1 r)
-operand_found Product f claim d rest ts g es us n e h r = left_ends Application h (claim d rest ts g es us n e tt r)
+operand_found Product f claim d rest ts g es us n e h r = left_ends Application h.0 (claim d rest ts g es us n e h.1 r)
 operand_found Application f claim d rest ts g es us n e h r = claim d rest ts g es us n e r
 
 -- after an operand without errors the level goes on with the errors that come later
@@ -131,34 +135,42 @@ tight_case l f claim d rest ts g es us n e h (operands {f = a} {es = es1} {us = 
     let got : Got f rest a es1 us1 = operand_found l f claim d rest ts a es1 us1 n e h r in
     goes_along l got got.forest got.left more
 
--- the lexeme of a sum's operator has the kind of its leaf
-sum_untold : (k : SyntaxKind) → goes_on Sum (Some k) ≡ true → untold k ≡ k
-sum_untold TOKEN_ADD h = refl
-sum_untold _ h = absurd (true_is_not_false (sym h))
-
--- the lexeme of a product's operator has the kind of its leaf
-product_untold : (k : SyntaxKind) → goes_on Product (Some k) ≡ true → untold k ≡ k
-product_untold TOKEN_MUL h = refl
-product_untold _ h = absurd (true_is_not_false (sym h))
+-- an operator stands for itself
+infix_untold : (k : SyntaxKind) → is_infix k ≡ true → untold k ≡ k
+infix_untold TOKEN_CUR_POS h = absurd (true_is_not_false (sym h))
+infix_untold _ h = refl
 
 -- the lexeme of each operator has the kind of its leaf
 operator_untold : (l : Level) (k : SyntaxKind) → has_operator l ≡ true → goes_on l (Some k) ≡ true → untold k ≡ k
-operator_untold Sum k h o = sum_untold k o
-operator_untold Product k h o = product_untold k o
-operator_untold Application k h o = absurd (true_is_not_false (sym h))
-
--- a sum's operator goes on with no tighter level
-sum_inside : (k : SyntaxKind) → goes_on Sum (Some k) ≡ true → (goes_on Product (Some k) ≡ false) × (goes_on Application (Some k) ≡ false)
-sum_inside TOKEN_ADD h = (refl, refl)
-sum_inside _ h = absurd (true_is_not_false (sym h))
-
--- a product's operator is no argument
-product_inside : (k : SyntaxKind) → goes_on Product (Some k) ≡ true → goes_on Application (Some k) ≡ false
-product_inside TOKEN_MUL h = refl
-product_inside _ h = absurd (true_is_not_false (sym h))
+operator_untold l k h o = infix_untold k (level_infix l k h o)
 
 -- each operator goes on with no tighter level
+pipe_inside : (k : SyntaxKind) → goes_on PipeRight (Some k) ≡ true → StopsBefore Disjunction (Some k)
+pipe_inside TOKEN_PIPE_RIGHT h = (refl, (refl, (refl, (refl, (refl, tt)))))
+pipe_inside _ h = absurd (true_is_not_false (sym h))
+
+or_inside : (k : SyntaxKind) → goes_on Disjunction (Some k) ≡ true → StopsBefore Conjunction (Some k)
+or_inside TOKEN_OR_OR h = (refl, (refl, (refl, (refl, tt))))
+or_inside _ h = absurd (true_is_not_false (sym h))
+
+and_inside : (k : SyntaxKind) → goes_on Conjunction (Some k) ≡ true → StopsBefore Sum (Some k)
+and_inside TOKEN_AND_AND h = (refl, (refl, (refl, tt)))
+and_inside _ h = absurd (true_is_not_false (sym h))
+
+sum_inside : (k : SyntaxKind) → goes_on Sum (Some k) ≡ true → StopsBefore Product (Some k)
+sum_inside TOKEN_ADD h = (refl, (refl, tt))
+sum_inside TOKEN_SUB h = (refl, (refl, tt))
+sum_inside _ h = absurd (true_is_not_false (sym h))
+
+product_inside : (k : SyntaxKind) → goes_on Product (Some k) ≡ true → StopsBefore Application (Some k)
+product_inside TOKEN_MUL h = (refl, tt)
+product_inside TOKEN_DIV h = (refl, tt)
+product_inside _ h = absurd (true_is_not_false (sym h))
+
 operator_inside : (l : Level) (k : SyntaxKind) (t : List ℕ) (rest : List Lexeme) → has_operator l ≡ true → goes_on l (Some k) ≡ true → EndsInside l ((k, t) ∷ rest)
+operator_inside PipeRight k t rest h o = pipe_inside k o
+operator_inside Disjunction k t rest h o = or_inside k o
+operator_inside Conjunction k t rest h o = and_inside k o
 operator_inside Sum k t rest h o = sum_inside k o
 operator_inside Product k t rest h o = product_inside k o
 operator_inside Application k t rest h o = absurd (true_is_not_false (sym h))
@@ -279,17 +291,17 @@ wanted_found {t = t} {rest = rest} {ts = ts} e (wanted-later {us = us1} u ran w 
     absurd (true_is_not_false (sym (ap (stops RParen) (ap head_kind (sym i) ∙ head_first ts ((TOKEN_R_PAREN, t) ∷ rest) e)) ∙ w.0))
 
 -- an expression that is not nested too deep is found
-expression_found : (f : Forest) → Claim (Some Sum) f → (d : ℕ) (rest : List Lexeme) (ts : List Token) (g : Sketch) (es : List Fault) (us : List Token) → d + suc (nesting f) ≤ depth_limit
-    → map lexeme_of ts ≡ yield f ++ rest → goes_on Sum (first_of rest) ≡ false → EndsInside Sum rest → Reads d Expression blank ts g es us → Got f rest g es us
-expression_found f claim d rest ts g es us n e h i (expression small r) = left_ends Sum h (claim (suc d) rest ts g es us (omega (arith, n)) e i r)
+expression_found : (f : Forest) → Claim (Some PipeRight) f → (d : ℕ) (rest : List Lexeme) (ts : List Token) (g : Sketch) (es : List Fault) (us : List Token) → d + suc (nesting f) ≤ depth_limit
+    → map lexeme_of ts ≡ yield f ++ rest → goes_on PipeRight (first_of rest) ≡ false → EndsInside PipeRight rest → Reads d Expression blank ts g es us → Got f rest g es us
+expression_found f claim d rest ts g es us n e h i (expression small r) = left_ends PipeRight h (claim (suc d) rest ts g es us (omega (arith, n)) e i r)
 expression_found f claim d rest ts g es us n e h i (too-deep large) = absurd (omega (arith, n, large))
 
 -- what is read where a parenthesis stands is the parenthesis, if the expression in it is found
-paren_found : (f : Forest) → Claim (Some Sum) f → (t u : List ℕ) {d : ℕ} {rest : List Lexeme} {g : Sketch} {es : List Fault} {ts us : List Token} {w : Token}
+paren_found : (f : Forest) → Claim (Some PipeRight) f → (t u : List ℕ) {d : ℕ} {rest : List Lexeme} {g : Sketch} {es : List Fault} {ts us : List Token} {w : Token}
     → d + suc (nesting f) ≤ depth_limit → lexeme_of w ≡ (TOKEN_L_PAREN, t) → map lexeme_of ts ≡ yield f ++ ((TOKEN_R_PAREN, u) ∷ rest)
     → Reads d (Atom b.Paren) blank (w ∷ ts) g es us → Got (node NODE_PAREN (leaf TOKEN_L_PAREN t (join f (leaf TOKEN_R_PAREN u empty))) empty) rest g es us
 paren_found f claim t u {d = d} {rest = rest} {ts = ts} {us = us} {w = w} n e m (paren {f = a} {g = c} {es = es1} {fs = fs1} {us = us1} o r close) =
-    let got : Got f ((TOKEN_R_PAREN, u) ∷ rest) a es1 us1 = expression_found f claim d ((TOKEN_R_PAREN, u) ∷ rest) ts a es1 us1 n m refl (refl, refl) r in
+    let got : Got f ((TOKEN_R_PAREN, u) ∷ rest) a es1 us1 = expression_found f claim d ((TOKEN_R_PAREN, u) ∷ rest) ts a es1 us1 n m refl (refl, (refl, (refl, (refl, (refl, tt))))) r in
     let shut : Got (leaf TOKEN_R_PAREN u empty) rest c fs1 us = wanted_found got.left close in
     record {
       forest =
@@ -323,7 +335,7 @@ position_case t h d rest ts g es us n e r =
     position_found s.first s.others (atom_of b.CurPos (TOKEN_IDENT, t) rest s (ap (λ x. if x then b.CurPos else b.Name) h) r)
 
 -- a parenthesis is found if the expression in it is
-enclosed_case : (f : Forest) (t u : List ℕ) → Claim (Some Sum) f → Claim None (node NODE_PAREN (leaf TOKEN_L_PAREN t (join f (leaf TOKEN_R_PAREN u empty))) empty)
+enclosed_case : (f : Forest) (t u : List ℕ) → Claim (Some PipeRight) f → Claim None (node NODE_PAREN (leaf TOKEN_L_PAREN t (join f (leaf TOKEN_R_PAREN u empty))) empty)
 enclosed_case f t u claim d rest ts g es us n e r =
     let s : Split (TOKEN_L_PAREN, t) (yield f ++ ((TOKEN_R_PAREN, u) ∷ rest)) ts = split (TOKEN_L_PAREN, t) (yield f ++ ((TOKEN_R_PAREN, u) ∷ rest)) ts (e ∙ yield_paren f t u rest) in
     let small : nesting f ≤ nesting (join f (leaf TOKEN_R_PAREN u empty)) = nesting_left f (leaf TOKEN_R_PAREN u empty) in
@@ -337,7 +349,7 @@ strict_found _ _ (applied {f = f} {g = g} s r) = applied_case f g (begins r) (st
 strict_found _ _ (number t) = number_case t
 strict_found _ _ (named t h) = name_case t h
 strict_found _ _ (position t h) = position_case t h
-strict_found _ _ (enclosed {f = f} t u s) = enclosed_case f t u (strict_found (Some Sum) f s)
+strict_found _ _ (enclosed {f = f} t u s) = enclosed_case f t u (strict_found (Some PipeRight) f s)
 
 -- where no lexemes are left nothing is read behind the expression
 behind_found : {d : ℕ} {g : Sketch} {es : List Fault} {ts us : List Token} → map lexeme_of ts ≡ [] → Reads d Behind blank ts g es us → (es ≡ []) × (g ≡ blank)
@@ -345,9 +357,9 @@ behind_found e nothing-behind = (refl, refl)
 behind_found e something-behind = absurd (nil_is_not_cons (sym e))
 
 -- a strict expression whose lexemes are all that is read is what is read, with no error
-pub whole_found : (f : Forest) → IsStrict (Some Sum) f → nesting f < depth_limit → {ts : List Token} → map lexeme_of ts ≡ yield f → {g : Sketch} {es : List Fault} {us : List Token}
+pub whole_found : (f : Forest) → IsStrict (Some PipeRight) f → nesting f < depth_limit → {ts : List Token} → map lexeme_of ts ≡ yield f → {g : Sketch} {es : List Fault} {us : List Token}
     → Reads 0 Whole blank ts g es us → (es ≡ []) × (forget g ≡ f)
 whole_found f s n {ts = ts} e (document {f = a} {g = c} {es = es1} {us = us1} r behind) =
-    let got : Got f [] a es1 us1 = expression_found f (strict_found (Some Sum) f s) 0 [] ts a es1 us1 (omega (arith, n)) (e ∙ sym (append-nil (yield f))) refl (refl, refl) r in
+    let got : Got f [] a es1 us1 = expression_found f (strict_found (Some PipeRight) f s) 0 [] ts a es1 us1 (omega (arith, n)) (e ∙ sym (append-nil (yield f))) refl (refl, (refl, (refl, (refl, (refl, tt))))) r in
     let after = behind_found got.left behind in
     (both_none got.none after.0, ap (λ x. forget (a ⊕ x)) after.1 ∙ ap forget (⊕-blank a) ∙ got.forest)

@@ -1,6 +1,6 @@
 -- What is read is the items, one by one.
 use Rattle.std.proofs.Common.{◌≡◌, ℕ, List, [], ◌∷◌, ◌++◌, refl, ap, sym, ◌∙◌, append_assoc, append-nil}
-use Rattle.rnix_grammar.specs.declared.level.Level.TheVariants.{Sum, Application}
+use Rattle.rnix_grammar.specs.declared.level.Level.TheVariants.{PipeRight, Application}
 use Rattle.rnix_grammar.specs.declared.until.Until.TheVariants.{RParen}
 use Rattle.rnix_grammar.specs.Fault.{Fault}
 use Rattle.rnix_grammar.specs.Sketch.{Token, Sketch, token, ◌⊕◌, row_of, tokens_in}
@@ -15,7 +15,7 @@ one_row : (ts us : List Token) → (tokens_in (row_of ts) ++ []) ++ us ≡ ts ++
 one_row ts us = one_node (row_of ts) us ∙ ap (λ x. x ++ us) (tokens_in-row_of ts)
 
 pub lossless : (p : Part) {d : ℕ} {f g : Sketch} {es : List Fault} {ts us : List Token} → Reads d p f ts g es us → tokens_in f ++ ts ≡ tokens_in g ++ us
-lossless _ (expression h a) = lossless (Operands Sum) a
+lossless _ (expression h a) = lossless (Operands PipeRight) a
 lossless _ (too-deep {ts = ts} h) = sym (one_row ts [] ∙ append-nil ts)
 lossless _ (operands {l = l} a b) = lossless (operand_of l) a ∙ lossless (More l) b
 lossless _ (stop h) = refl

@@ -2,11 +2,11 @@
 use Rattle.std.proofs.Common.{◌≡◌, inl, ℕ, suc, ◌+◌, ◌<◌, ◌≤◌, Bool, true, false, List, [], ◌∷◌, ◌++◌, length, Option, Some, None, refl, ap, sym, ◌∙◌, subst, append_assoc, append-nil, arith}
 use Rattle.std.specs.Prelude.{codes, if◌then◌else◌}
 use Rattle.rnix_kinds.specs.declared.kinds.SyntaxKind.{SyntaxKind}
-use Rattle.rnix_kinds.specs.declared.kinds.SyntaxKind.TheVariants.{TOKEN_ADD, TOKEN_MUL, TOKEN_L_PAREN, TOKEN_R_PAREN, TOKEN_INTEGER, TOKEN_IDENT, TOKEN_CUR_POS, NODE_ROOT, NODE_BIN_OP, NODE_APPLY, NODE_PAREN, NODE_LITERAL, NODE_IDENT, NODE_CUR_POS}
+use Rattle.rnix_kinds.specs.declared.kinds.SyntaxKind.TheVariants.{TOKEN_ADD, TOKEN_SUB, TOKEN_MUL, TOKEN_DIV, TOKEN_PIPE_RIGHT, TOKEN_OR_OR, TOKEN_AND_AND, TOKEN_L_PAREN, TOKEN_R_PAREN, TOKEN_INTEGER, TOKEN_IDENT, TOKEN_CUR_POS, NODE_ROOT, NODE_BIN_OP, NODE_APPLY, NODE_PAREN, NODE_LITERAL, NODE_IDENT, NODE_CUR_POS}
 use Rattle.rnix_tree.specs.Forest.{Forest, empty, leaf, node, join}
 use Rattle.rnix_tree.proofs.ForestLemmas.{join-empty}
 use Rattle.rnix_grammar.specs.declared.level.Level.{Level}
-use Rattle.rnix_grammar.specs.declared.level.Level.TheVariants.{Sum, Product, Application}
+use Rattle.rnix_grammar.specs.declared.level.Level.TheVariants.{PipeRight, Disjunction, Conjunction, Sum, Product, Application}
 use Rattle.rnix_grammar.specs.declared.begin.Begin.TheVariants as b
 use Rattle.rnix_grammar.specs.declared.until.Until.{Until}
 use Rattle.rnix_grammar.specs.declared.until.Until.TheVariants.{RParen, End}
@@ -46,7 +46,7 @@ class_of l = is_operand
 
 -- an expression, or what stands for it where nothing is left of the text and the limit is met
 pub data Inner (d : ℕ) : List Token → Sketch → List Fault → List Token → Type 0 where
-  found_one : {f : Sketch} {es : List Fault} {ts us : List Token} → Operand (DeepInside d) is_operand (Some Sum) ts f es us → Inner d ts f es us
+  found_one : {f : Sketch} {es : List Fault} {ts us : List Token} → Operand (DeepInside d) is_operand (Some PipeRight) ts f es us → Inner d ts f es us
   lost : depth_limit ≤ d → Inner d [] (one_fault TooDeep blank) (too_deep ∷ []) []
 
 -- a closing token
@@ -62,25 +62,42 @@ Goal d (More l) f ts g es us =
 Goal d Simple f ts g es us = Operand (Deep d) is_simple None ts g es us
 Goal d (Atom begin) f ts g es us = Operand (Deep d) is_simple None ts g es us
 Goal d (Wanted RParen) f ts g es us =
-    (h : Sketch) (ds : List Fault) → Row (InParen d) NODE_PAREN ParenEnd h ds ts → Stops Sum ts → Row (InParen d) NODE_PAREN Past (h ⊕ g) (ds ++ es) us × (NoneEnded es → IsClosed g)
+    (h : Sketch) (ds : List Fault) → Row (InParen d) NODE_PAREN ParenEnd h ds ts → Stops PipeRight ts → Row (InParen d) NODE_PAREN Past (h ⊕ g) (ds ++ es) us × (NoneEnded es → IsClosed g)
 Goal d (Wanted End) f ts g es us = Unit {0}
 Goal d (Closing RParen) f ts g es us =
     (h : Sketch) (ds : List Fault) → Row (InParen d) NODE_PAREN ParenEnd h ds ts → Row (InParen d) NODE_PAREN Past (h ⊕ g) (ds ++ es) us × (NoneEnded es → IsClosed g)
 Goal d (Closing End) f ts g es us = Unit {0}
 Goal d Behind f ts g es us =
-    (h : Sketch) (ds : List Fault) → Row AtRoot NODE_ROOT RootEnd h ds ts → Stops Sum ts → Row AtRoot NODE_ROOT RootEnd (h ⊕ g) (ds ++ es) us × (mended g ≡ empty)
+    (h : Sketch) (ds : List Fault) → Row AtRoot NODE_ROOT RootEnd h ds ts → Stops PipeRight ts → Row AtRoot NODE_ROOT RootEnd (h ⊕ g) (ds ++ es) us × (mended g ≡ empty)
 Goal d Whole f ts g es us = Row AtRoot NODE_ROOT RootEnd g es us × (NoneEnded es → IsExpression (mended g))
 
 -- kinds by the tables
+pipe_infix : (k : SyntaxKind) → goes_on PipeRight (Some k) ≡ true → is_infix k ≡ true
+pipe_infix TOKEN_PIPE_RIGHT h = refl
+pipe_infix _ h = absurd (true_is_not_false (sym h))
+
+or_infix : (k : SyntaxKind) → goes_on Disjunction (Some k) ≡ true → is_infix k ≡ true
+or_infix TOKEN_OR_OR h = refl
+or_infix _ h = absurd (true_is_not_false (sym h))
+
+and_infix : (k : SyntaxKind) → goes_on Conjunction (Some k) ≡ true → is_infix k ≡ true
+and_infix TOKEN_AND_AND h = refl
+and_infix _ h = absurd (true_is_not_false (sym h))
+
 sum_infix : (k : SyntaxKind) → goes_on Sum (Some k) ≡ true → is_infix k ≡ true
 sum_infix TOKEN_ADD h = refl
+sum_infix TOKEN_SUB h = refl
 sum_infix _ h = absurd (true_is_not_false (sym h))
 
 product_infix : (k : SyntaxKind) → goes_on Product (Some k) ≡ true → is_infix k ≡ true
 product_infix TOKEN_MUL h = refl
+product_infix TOKEN_DIV h = refl
 product_infix _ h = absurd (true_is_not_false (sym h))
 
-level_infix : (l : Level) (k : SyntaxKind) → has_operator l ≡ true → goes_on l (Some k) ≡ true → is_infix k ≡ true
+pub level_infix : (l : Level) (k : SyntaxKind) → has_operator l ≡ true → goes_on l (Some k) ≡ true → is_infix k ≡ true
+level_infix PipeRight k h o = pipe_infix k o
+level_infix Disjunction k h o = or_infix k o
+level_infix Conjunction k h o = and_infix k o
 level_infix Sum k h o = sum_infix k o
 level_infix Product k h o = product_infix k o
 level_infix Application k h o = absurd (true_is_not_false (sym h))
@@ -95,32 +112,50 @@ simple_operand NODE_BIN_OP h = refl
 simple_operand _ h = h
 
 operand_class : (l : Level) (k : SyntaxKind) → has_operator l ≡ true → is_operand k ≡ true → class_of l k ≡ true
+operand_class PipeRight k h c = c
+operand_class Disjunction k h c = c
+operand_class Conjunction k h c = c
 operand_class Sum k h c = c
 operand_class Product k h c = c
 operand_class Application k h c = absurd (true_is_not_false (sym h))
 
 class_operand : (l : Level) (k : SyntaxKind) → class_of l k ≡ true → is_operand k ≡ true
+class_operand PipeRight k c = c
+class_operand Disjunction k c = c
+class_operand Conjunction k c = c
 class_operand Sum k c = c
 class_operand Product k c = c
 class_operand Application k c = simple_operand k c
 
 -- the goal of a level's operands, in one form
 abbrev inner_class : Level → SyntaxKind → Bool
+inner_class PipeRight = is_operand
+inner_class Disjunction = is_operand
+inner_class Conjunction = is_operand
 inner_class Sum = is_operand
 inner_class Product = is_simple
 inner_class Application = is_simple
 
 inner_goal : (d : ℕ) (l : Level) {g : Sketch} {es : List Fault} {ts us : List Token} → Goal d (operand_of l) blank ts g es us → Operand (Deep d) (inner_class l) (tighter l) ts g es us
+inner_goal d PipeRight h = h
+inner_goal d Disjunction h = h
+inner_goal d Conjunction h = h
 inner_goal d Sum h = h
 inner_goal d Product h = h
 inner_goal d Application h = h
 
 inner_operand : (l : Level) (k : SyntaxKind) → inner_class l k ≡ true → is_operand k ≡ true
+inner_operand PipeRight k c = c
+inner_operand Disjunction k c = c
+inner_operand Conjunction k c = c
 inner_operand Sum k c = c
 inner_operand Product k c = simple_operand k c
 inner_operand Application k c = simple_operand k c
 
 inner_level : (l : Level) (k : SyntaxKind) → inner_class l k ≡ true → class_of l k ≡ true
+inner_level PipeRight k c = c
+inner_level Disjunction k c = c
+inner_level Conjunction k c = c
 inner_level Sum k c = c
 inner_level Product k c = simple_operand k c
 inner_level Application k c = c
@@ -194,6 +229,10 @@ stray_case : (d : ℕ) (t : Token) (ts : List Token) → goes_on Application (So
 stray_case d t ts h =
     stood NODE_LITERAL refl (λ p a i q b deep. wrong Stray (t ∷ []) refl refl (refl, h) refl refl end refl) refl (λ n. number (codes "0"))
 
+-- a number is an expression
+a_number_alone : IsStrict (Some PipeRight) (node NODE_LITERAL (leaf TOKEN_INTEGER (codes "0") empty) empty)
+a_number_alone = tight (tight (tight (tight (tight (tight (number (codes "0")))))))
+
 -- all that is left, where expressions are nested too deep
 deep_case : (d : ℕ) (ts : List Token) → depth_limit ≤ d → Inner d ts (one_fault TooDeep (row_of ts)) (report TooDeep ts ∷ []) []
 deep_case d [] h = lost h
@@ -201,9 +240,9 @@ deep_case d (t ∷ ts) h =
     found_one (stood NODE_LITERAL refl
     (λ p a i q b deep. wrong TooDeep (t ∷ ts) refl refl (refl, (let x : d < a = deep.0 in omega arith), (let y : d ≤ i = deep.1 in omega arith)) refl refl end refl)
     (sym (ap (λ x. x ++ []) (ap (λ x. t ∷ x) (append-nil (tokens_in (row_of ts)) ∙ tokens_in-row_of ts)) ∙ append-nil (t ∷ ts)))
-    (λ n. tight (tight (tight (number (codes "0"))))))
+    (λ n. a_number_alone))
 
-inside_case : {d : ℕ} {f : Sketch} {es : List Fault} {ts us : List Token} → Operand (Deep (suc d)) is_operand (Some Sum) ts f es us → Inner d ts f es us
+inside_case : {d : ℕ} {f : Sketch} {es : List Fault} {ts us : List Token} → Operand (Deep (suc d)) is_operand (Some PipeRight) ts f es us → Inner d ts f es us
 inside_case {d = d} x = found_one (operand_as (λ k h. h) (λ g h. h) (λ a i h. (omega (arith, h.0), omega (arith, h.1))) x)
 
 -- an expression is appended to the row of its node
@@ -222,9 +261,9 @@ inner_tokens : {d : ℕ} {f : Sketch} {es : List Fault} {ts us : List Token} →
 inner_tokens (found_one x) = operand_tokens x
 inner_tokens (lost h) = refl
 
-inner_strict : {d : ℕ} {f : Sketch} {es : List Fault} {ts us : List Token} → Inner d ts f es us → NoneEnded es → IsStrict (Some Sum) (mended f)
+inner_strict : {d : ℕ} {f : Sketch} {es : List Fault} {ts us : List Token} → Inner d ts f es us → NoneEnded es → IsStrict (Some PipeRight) (mended f)
 inner_strict (found_one x) n = operand_strict x n
-inner_strict (lost h) n = tight (tight (tight (number (codes "0"))))
+inner_strict (lost h) n = a_number_alone
 
 -- what an operand begins with, by its first token
 paren_kind : (k : SyntaxKind) (s : List ℕ) → begin_of (Some (k, s)) ≡ b.Paren → k ≡ TOKEN_L_PAREN
@@ -301,7 +340,7 @@ cur_pos_case d t ts h =
     (sym (ap (λ x. told_as NODE_CUR_POS t.text x) w.0 ∙ ap (λ x. if x then TOKEN_CUR_POS else TOKEN_IDENT) w.1)) refl refl refl refl (position t.text w.1)
 
 -- a parenthesis
-paren_case : {d : ℕ} {f g : Sketch} {es fs : List Fault} {t : Token} {ts us vs : List Token} → begin_of (Some (lexeme_of t)) ≡ b.Paren → Inner d ts f es us → Stops Sum us
+paren_case : {d : ℕ} {f g : Sketch} {es fs : List Fault} {t : Token} {ts us vs : List Token} → begin_of (Some (lexeme_of t)) ≡ b.Paren → Inner d ts f es us → Stops PipeRight us
     → us ≡ tokens_in g ++ vs → Goal d (Wanted RParen) blank us g fs vs
     → Operand (Deep d) is_simple None (t ∷ ts) (one_branch NODE_PAREN (token t.kind t (f ⊕ g))) (es ++ fs) vs
 paren_case {d = d} {f = f} {g = g} {es = es} {fs = fs} {t = t} {ts = ts} {us = us} {vs = vs} o a s e close =
@@ -338,7 +377,7 @@ unwanted_case {d = d} {g = g} {fs = fs} {us = us} {vs = vs} t ran w o close h ds
     let all : t ∷ (ran ++ us) ≡ tokens_in run_ ++ us =
     sym (ap (λ x. x ++ us) (append-nil (t ∷ tokens_in (row_of ran)) ∙ ap (λ x. t ∷ x) (tokens_in-row_of ran))) in
     let r1 : Row (InParen d) NODE_PAREN ParenEnd (h ⊕ run_) (ds ++ e ∷ []) us =
-    row_more r all (λ a i j b deep n. wrong (Unwanted RParen) (t ∷ ran) refl refl (w, o, refl, not_continuing t.kind b s.0 s.1 s.2) refl refl end refl) refl in
+    row_more r all (λ a i j b deep n. wrong (Unwanted RParen) (t ∷ ran) refl refl (w, o, refl, not_continuing t.kind b s) refl refl end refl) refl in
     let r2 = close (h ⊕ run_) (ds ++ e ∷ []) r1 in
     (same_row (⊕-assoc h run_ g) (append_assoc ds (e ∷ []) fs) r2.0, λ n. r2.1 n.1)
 
@@ -353,11 +392,11 @@ closed_case d t ts o h ds r =
 behind_case : (t : Token) (ts : List Token) → Goal 0 Behind blank (t ∷ ts) (one_fault Extra (row_of (t ∷ ts))) (report Extra (t ∷ ts) ∷ []) []
 behind_case t ts h ds r s = (
   row_more r (sym (append-nil _ ∙ append-nil (t ∷ tokens_in (row_of ts)) ∙ ap (λ x. t ∷ x) (tokens_in-row_of ts)))
-      (λ a i j b deep n. wrong Extra (t ∷ ts) refl refl (refl, refl, not_continuing t.kind b s.0 s.1 s.2) refl refl end refl) refl,
+      (λ a i j b deep n. wrong Extra (t ∷ ts) refl refl (refl, refl, not_continuing t.kind b s) refl refl end refl) refl,
   refl,
 )
 
-whole_case : {f g : Sketch} {es fs : List Fault} {ts us vs : List Token} → Inner 0 ts f es us → Stops Sum us → Goal 0 Behind blank us g fs vs → Goal 0 Whole blank ts (f ⊕ g) (es ++ fs) vs
+whole_case : {f g : Sketch} {es fs : List Fault} {ts us vs : List Token} → Inner 0 ts f es us → Stops PipeRight us → Goal 0 Behind blank us g fs vs → Goal 0 Whole blank ts (f ⊕ g) (es ++ fs) vs
 whole_case {f = f} {g = g} {es = es} {fs = fs} {ts = ts} {us = us} a s behind =
     let start_ : Row AtRoot NODE_ROOT RootStart blank [] ts = record {
       reached = RootStart;
@@ -400,7 +439,7 @@ ended_case d End = tt
 
 -- each part that is read
 pub sounds : (p : Part) {d : ℕ} {f g : Sketch} {es : List Fault} {ts us : List Token} → Reads d p f ts g es us → Goal d p f ts g es us
-sounds _ (expression h a) = inside_case (sounds (Operands Sum) a)
+sounds _ (expression h a) = inside_case (sounds (Operands PipeRight) a)
 sounds _ (too-deep {d = d} {ts = ts} h) = deep_case d ts h
 sounds _ (operands {d = d} {l = l} a b) = operands_case l (inner_goal d l (sounds (operand_of l) a)) (sounds (More l) b)
 sounds _ (stop h) = λ ts0 ds r. same_errors (sym (append-nil ds)) r

@@ -2,7 +2,7 @@
 use Rattle.std.specs.Prelude.{◌≡◌, ℕ, suc, ◌<◌, ◌≤◌, Bool, true, false, List, [], ◌∷◌, ◌++◌, Some}
 use Rattle.rnix_kinds.specs.declared.kinds.SyntaxKind.TheVariants.{TOKEN_CUR_POS, NODE_BIN_OP, NODE_APPLY, NODE_PAREN, NODE_LITERAL, NODE_IDENT, NODE_CUR_POS}
 use Rattle.rnix_grammar.specs.declared.level.Level.{Level}
-use Rattle.rnix_grammar.specs.declared.level.Level.TheVariants.{Sum, Product, Application}
+use Rattle.rnix_grammar.specs.declared.level.Level.TheVariants.{PipeRight, Disjunction, Conjunction, Sum, Product, Application}
 use Rattle.rnix_grammar.specs.declared.begin.Begin.{Begin}
 use Rattle.rnix_grammar.specs.declared.begin.Begin.TheVariants as b
 use Rattle.rnix_grammar.specs.declared.until.Until.{Until}
@@ -26,6 +26,9 @@ pub data Part : Type 0 where
 
 -- the operands of a level
 abbrev pub operand_of : Level → Part
+operand_of PipeRight = Operands Disjunction
+operand_of Disjunction = Operands Conjunction
+operand_of Conjunction = Operands Sum
 operand_of Sum = Operands Product
 operand_of Product = Operands Application
 operand_of Application = Simple
@@ -38,7 +41,7 @@ has_operator level = true
 -- Reads d part f ts g es us: inside d expressions, with f read already, the part makes g of the items ts, reports es, and leaves us
 pub data Reads : ℕ → Part → Sketch → List Token → Sketch → List Fault → List Token → Type 0 where
   expression : {d : ℕ} {f : Sketch} {es : List Fault} {ts us : List Token}
-      → d < depth_limit → Reads (suc d) (Operands Sum) blank ts f es us → Reads d Expression blank ts f es us
+      → d < depth_limit → Reads (suc d) (Operands PipeRight) blank ts f es us → Reads d Expression blank ts f es us
   too-deep : {d : ℕ} {ts : List Token}
       → depth_limit ≤ d → Reads d Expression blank ts (one_fault TooDeep (row_of ts)) (report TooDeep ts ∷ []) []
   operands : {d : ℕ} {l : Level} {f g : Sketch} {es fs : List Fault} {ts us vs : List Token}

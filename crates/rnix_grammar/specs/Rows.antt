@@ -1,8 +1,8 @@
 -- The rows of the node kinds, as one automaton over the kinds of children; the errors of a sketch; what stands beside its error nodes.
 use Rattle.std.specs.Prelude.{◌≡◌, ◌⊎◌, ℕ, suc, ◌+◌, ◌<◌, ◌≤◌, Bool, true, false, ◌||◌, List, [], ◌∷◌, ◌++◌, Option, Some, None, length, if◌then◌else◌}
 use Rattle.rnix_kinds.specs.declared.kinds.SyntaxKind.{SyntaxKind}
-use Rattle.rnix_kinds.specs.declared.kinds.SyntaxKind.TheVariants.{TOKEN_ADD, TOKEN_MUL, TOKEN_L_PAREN, TOKEN_R_PAREN, TOKEN_INTEGER, TOKEN_IDENT, TOKEN_CUR_POS, NODE_ROOT, NODE_BIN_OP, NODE_APPLY, NODE_PAREN, NODE_LITERAL, NODE_IDENT, NODE_CUR_POS, NODE_ERROR}
-use Rattle.rnix_grammar.specs.declared.level.Level.TheVariants.{Sum, Product, Application}
+use Rattle.rnix_kinds.specs.declared.kinds.SyntaxKind.TheVariants.{TOKEN_ADD, TOKEN_SUB, TOKEN_MUL, TOKEN_DIV, TOKEN_PIPE_RIGHT, TOKEN_OR_OR, TOKEN_AND_AND, TOKEN_L_PAREN, TOKEN_R_PAREN, TOKEN_INTEGER, TOKEN_IDENT, TOKEN_CUR_POS, NODE_ROOT, NODE_BIN_OP, NODE_APPLY, NODE_PAREN, NODE_LITERAL, NODE_IDENT, NODE_CUR_POS, NODE_ERROR}
+use Rattle.rnix_grammar.specs.declared.level.Level.TheVariants.{PipeRight, Disjunction, Conjunction, Sum, Product, Application}
 use Rattle.rnix_grammar.specs.declared.until.Until.{Until}
 use Rattle.rnix_grammar.specs.declared.until.Until.TheVariants.{RParen}
 use Rattle.rnix_grammar.specs.Fault.{Fault, extra, unwanted, ended, ended_before, too_deep}
@@ -24,8 +24,13 @@ is_operand NODE_BIN_OP = true
 is_operand kind = is_simple kind
 
 abbrev pub is_infix : SyntaxKind → Bool
+is_infix TOKEN_PIPE_RIGHT = true
+is_infix TOKEN_OR_OR = true
+is_infix TOKEN_AND_AND = true
 is_infix TOKEN_ADD = true
+is_infix TOKEN_SUB = true
 is_infix TOKEN_MUL = true
+is_infix TOKEN_DIV = true
 is_infix kind = false
 
 abbrev pub is_l_paren : SyntaxKind → Bool
@@ -159,7 +164,8 @@ report TooDeep ts = too_deep
 
 -- an item of the first kind goes on with the tree of the second kind before it
 abbrev pub is_operator : SyntaxKind → Bool
-is_operator k = goes_on Sum (Some k) || goes_on Product (Some k)
+is_operator k =
+    goes_on PipeRight (Some k) || goes_on Disjunction (Some k) || goes_on Conjunction (Some k) || goes_on Sum (Some k) || goes_on Product (Some k)
 
 abbrev pub continues_kind : SyntaxKind → SyntaxKind → Bool
 continues_kind k b =

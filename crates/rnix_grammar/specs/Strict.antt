@@ -5,12 +5,15 @@ use Rattle.rnix_kinds.specs.declared.kinds.SyntaxKind.TheVariants.{TOKEN_L_PAREN
 use Rattle.rnix_kinds.specs.Lexical.Tokens.{Lexeme}
 use Rattle.rnix_tree.specs.Forest.{Forest, empty, leaf, node, join}
 use Rattle.rnix_grammar.specs.declared.level.Level.{Level}
-use Rattle.rnix_grammar.specs.declared.level.Level.TheVariants.{Sum, Product, Application}
+use Rattle.rnix_grammar.specs.declared.level.Level.TheVariants.{PipeRight, Disjunction, Conjunction, Sum, Product, Application}
 use Rattle.rnix_grammar.specs.Tables.{goes_on, is_cur_pos}
 use Rattle.rnix_grammar.specs.Reads.{has_operator}
 
 -- the level of a level's right operands; none is that of simple trees
 abbrev pub tighter : Level → Option Level
+tighter PipeRight = Some Disjunction
+tighter Disjunction = Some Conjunction
+tighter Conjunction = Some Sum
 tighter Sum = Some Product
 tighter Product = Some Application
 tighter Application = None
@@ -24,12 +27,12 @@ pub data IsStrict : Option Level → Forest → Type 0 where
   number : (t : List ℕ) → IsStrict None (node NODE_LITERAL (leaf TOKEN_INTEGER t empty) empty)
   named : (t : List ℕ) → is_cur_pos t ≡ false → IsStrict None (node NODE_IDENT (leaf TOKEN_IDENT t empty) empty)
   position : (t : List ℕ) → is_cur_pos t ≡ true → IsStrict None (node NODE_CUR_POS (leaf TOKEN_CUR_POS t empty) empty)
-  enclosed : {f : Forest} (t u : List ℕ) → IsStrict (Some Sum) f
+  enclosed : {f : Forest} (t u : List ℕ) → IsStrict (Some PipeRight) f
       → IsStrict None (node NODE_PAREN (leaf TOKEN_L_PAREN t (join f (leaf TOKEN_R_PAREN u empty))) empty)
 
 -- a whole strict expression
 abbrev pub IsExpression : Forest → Type 0
-IsExpression f = IsStrict (Some Sum) f
+IsExpression f = IsStrict (Some PipeRight) f
 
 -- the token of a leaf
 abbrev pub untold : SyntaxKind → SyntaxKind

@@ -2,12 +2,12 @@
 use Rattle.std.specs.Prelude.{ℕ, Bool, true, false, List, [], ◌∷◌, Option, Some, None, codes, if◌then◌else◌}
 use Rattle.std.specs.Str.{bytes_eq}
 use Rattle.rnix_kinds.specs.declared.kinds.SyntaxKind.{SyntaxKind}
-use Rattle.rnix_kinds.specs.declared.kinds.SyntaxKind.TheVariants.{TOKEN_ADD, TOKEN_MUL, TOKEN_L_PAREN, TOKEN_R_PAREN, TOKEN_INTEGER, TOKEN_IDENT, TOKEN_REC, TOKEN_L_BRACE, TOKEN_L_BRACK, TOKEN_STRING_START}
+use Rattle.rnix_kinds.specs.declared.kinds.SyntaxKind.TheVariants.{TOKEN_ADD, TOKEN_SUB, TOKEN_MUL, TOKEN_DIV, TOKEN_PIPE_RIGHT, TOKEN_OR_OR, TOKEN_AND_AND, TOKEN_L_PAREN, TOKEN_R_PAREN, TOKEN_INTEGER, TOKEN_IDENT, TOKEN_REC, TOKEN_L_BRACE, TOKEN_L_BRACK, TOKEN_STRING_START}
 use Rattle.rnix_kinds.specs.Lexical.Tokens.{Lexeme}
 use Rattle.rnix_grammar.specs.declared.begin.Begin.{Begin}
 use Rattle.rnix_grammar.specs.declared.begin.Begin.TheVariants.{Nothing, Paren, Literal, CurPos, Name, Stray}
 use Rattle.rnix_grammar.specs.declared.level.Level.{Level}
-use Rattle.rnix_grammar.specs.declared.level.Level.TheVariants.{Sum, Product, Application}
+use Rattle.rnix_grammar.specs.declared.level.Level.TheVariants.{PipeRight, Disjunction, Conjunction, Sum, Product, Application}
 use Rattle.rnix_grammar.specs.declared.until.Until.{Until}
 use Rattle.rnix_grammar.specs.declared.until.Until.TheVariants.{RParen, End}
 
@@ -25,8 +25,13 @@ begin_of (Some (kind, text)) = Stray
 
 -- whether a tree of the level goes on before a token of the kind
 abbrev pub goes_on : Level → Option SyntaxKind → Bool
+goes_on PipeRight (Some TOKEN_PIPE_RIGHT) = true
+goes_on Disjunction (Some TOKEN_OR_OR) = true
+goes_on Conjunction (Some TOKEN_AND_AND) = true
 goes_on Sum (Some TOKEN_ADD) = true
+goes_on Sum (Some TOKEN_SUB) = true
 goes_on Product (Some TOKEN_MUL) = true
+goes_on Product (Some TOKEN_DIV) = true
 goes_on Application (Some TOKEN_L_PAREN) = true
 goes_on Application (Some TOKEN_INTEGER) = true
 goes_on Application (Some TOKEN_IDENT) = true

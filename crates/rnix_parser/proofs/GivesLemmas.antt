@@ -9,7 +9,7 @@ use Rattle.rnix_tree.proofs.ForestLemmas.{tree_count-join}
 use Rattle.rnix_grammar.specs.declared.begin.Begin.{Begin}
 use Rattle.rnix_grammar.specs.declared.begin.Begin.TheVariants as b
 use Rattle.rnix_grammar.specs.declared.level.Level.{Level}
-use Rattle.rnix_grammar.specs.declared.level.Level.TheVariants.{Sum, Product, Application}
+use Rattle.rnix_grammar.specs.declared.level.Level.TheVariants.{PipeRight, Disjunction, Conjunction, Sum, Product, Application}
 use Rattle.rnix_grammar.specs.declared.until.Until.TheVariants.{RParen}
 use Rattle.rnix_grammar.specs.Fault.{Fault}
 use Rattle.rnix_grammar.specs.Tables.{begin_of, goes_on, depth_limit}
@@ -119,6 +119,9 @@ level_stops d l s s1 p g off = record {
 }
 
 nothing_goes : (l : Level) → goes_on l None ≡ false
+nothing_goes PipeRight = refl
+nothing_goes Disjunction = refl
+nothing_goes Conjunction = refl
 nothing_goes Sum = refl
 nothing_goes Product = refl
 nothing_goes Application = refl
@@ -153,6 +156,9 @@ argument_grows d s s1 s2 s3 p q t n on e1 g e3 =
     }
 
 node_is : (l : Level) → has_operator l ≡ true → node_of l ≡ NODE_BIN_OP
+node_is PipeRight h = refl
+node_is Disjunction h = refl
+node_is Conjunction h = refl
 node_is Sum h = refl
 node_is Product h = refl
 node_is Application h = absurd (true_is_not_false (sym h))
@@ -234,7 +240,7 @@ paren_given d t s s1 s2 s3 s4 s5 p q n on e1 place inside e2 g h e5 =
     }
 
 -- an expression inside fewer than the limit
-pub expression_given : (d : ℕ) (s s' : State) (p : ℕ) → d < depth_limit → Gives (suc d) (Operands Sum) s p s' → Gives d Expression s p s'
+pub expression_given : (d : ℕ) (s s' : State) (p : ℕ) → d < depth_limit → Gives (suc d) (Operands PipeRight) s p s' → Gives d Expression s p s'
 expression_given d s s' p h g = record {
   sketch = g.sketch;
   faults = g.faults;

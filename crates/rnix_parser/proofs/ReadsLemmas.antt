@@ -1,7 +1,7 @@
 -- What every reading of a part leaves and makes.
 use Rattle.std.proofs.Common.{◌≡◌, ◌≤◌, ◌<◌, ℕ, List, [], ◌∷◌, ◌++◌, length, ap, refl, arith, length-append}
 use Rattle.rnix_grammar.specs.declared.level.Level.{Level}
-use Rattle.rnix_grammar.specs.declared.level.Level.TheVariants.{Sum, Product, Application}
+use Rattle.rnix_grammar.specs.declared.level.Level.TheVariants.{PipeRight, Disjunction, Conjunction, Sum, Product, Application}
 use Rattle.rnix_grammar.specs.declared.until.Until.TheVariants.{RParen}
 use Rattle.rnix_grammar.specs.Fault.{Fault}
 use Rattle.rnix_grammar.specs.Sketch.{Token, Sketch, blank}
@@ -13,7 +13,7 @@ nil_is_not_cons h = cc
 
 -- no more is left than there was
 pub shrinks : (p : Part) {d : ℕ} {f g : Sketch} {es : List Fault} {ts us : List Token} → Reads d p f ts g es us → length us ≤ length ts
-shrinks _ (expression h a) = shrinks (Operands Sum) a
+shrinks _ (expression h a) = shrinks (Operands PipeRight) a
 shrinks _ (too-deep h) = omega arith
 shrinks _ (operands {l = l} a b) = omega (arith, shrinks (operand_of l) a, shrinks (More l) b)
 shrinks _ (stop h) = omega arith
@@ -46,12 +46,15 @@ IsMoved Whole ts us = Unit {0}
 IsMoved p ts us = (t : Token) (vs : List Token) → ts ≡ t ∷ vs → length us < length ts
 
 operand_moved : (l : Level) (ts us : List Token) → IsMoved (operand_of l) ts us → (t : Token) (vs : List Token) → ts ≡ t ∷ vs → length us < length ts
+operand_moved PipeRight ts us h = h
+operand_moved Disjunction ts us h = h
+operand_moved Conjunction ts us h = h
 operand_moved Sum ts us h = h
 operand_moved Product ts us h = h
 operand_moved Application ts us h = h
 
 moved : (p : Part) {d : ℕ} {f g : Sketch} {es : List Fault} {ts us : List Token} → Reads d p f ts g es us → IsMoved p ts us
-moved _ (expression h a) = moved (Operands Sum) a
+moved _ (expression h a) = moved (Operands PipeRight) a
 moved _ (too-deep {ts = ts} h) = λ t vs e. (let n : length ts ≡ length (t ∷ vs) = ap length e in omega arith)
 moved _ (operands {l = l} {ts = ts} {us = us} a b) = λ t vs e. omega (arith, operand_moved l ts us (moved (operand_of l) a) t vs e, shrinks (More l) b)
 moved _ (stop h) = tt
@@ -85,12 +88,15 @@ IsFilled Whole f ts g = Unit {0}
 IsFilled p f ts g = (t : Token) (vs : List Token) → ts ≡ t ∷ vs → IsFull g
 
 operand_filled : (l : Level) (f g : Sketch) (ts : List Token) → IsFilled (operand_of l) f ts g → (t : Token) (vs : List Token) → ts ≡ t ∷ vs → IsFull g
+operand_filled PipeRight f g ts h = h
+operand_filled Disjunction f g ts h = h
+operand_filled Conjunction f g ts h = h
 operand_filled Sum f g ts h = h
 operand_filled Product f g ts h = h
 operand_filled Application f g ts h = h
 
 filled : (p : Part) {d : ℕ} {f g : Sketch} {es : List Fault} {ts us : List Token} → Reads d p f ts g es us → IsFilled p f ts g
-filled _ (expression h a) = filled (Operands Sum) a
+filled _ (expression h a) = filled (Operands PipeRight) a
 filled _ (too-deep h) = λ t vs e. tt
 filled _ (operands {l = l} {f = f} {ts = ts} a b) = λ t vs e. filled (More l) b (operand_filled l blank f ts (filled (operand_of l) a) t vs e)
 filled _ (stop h) = λ x. x

@@ -29,7 +29,7 @@ pub(crate) fn read_expression(p: &mut Parser<'_>, depth: usize) -> Result<Checkp
     if depth >= DEPTH_LIMIT {
         return Ok(p.too_deep()?);
     }
-    Ok(read_level(p, Level::Sum, depth + 1)?)
+    Ok(read_level(p, Level::PipeRight, depth + 1)?)
 }
 
 // The operands of a level, as far as it goes.
@@ -53,6 +53,9 @@ fn read_operand(p: &mut Parser<'_>, level: Level, depth: usize) -> Result<Checkp
     ensures { IfOk result (λ place. Gives depth (operand_of level) (state p.old) place (state p.new)) }
 {
     match level {
+        Level::PipeRight => Ok(read_level(p, Level::Disjunction, depth)?),
+        Level::Disjunction => Ok(read_level(p, Level::Conjunction, depth)?),
+        Level::Conjunction => Ok(read_level(p, Level::Sum, depth)?),
         Level::Sum => Ok(read_level(p, Level::Product, depth)?),
         Level::Product => Ok(read_level(p, Level::Application, depth)?),
         Level::Application => Ok(read_simple(p, depth)?),

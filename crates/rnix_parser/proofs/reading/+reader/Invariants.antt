@@ -1,7 +1,7 @@
 use Rattle.std.proofs.Common.{◌*◌, ◌+◌, ℕ, length}
 use Rattle.rnix_parser.specs.declared.parser.Parser.{Parser}
 use Rattle.rnix_grammar.specs.declared.level.Level.{Level}
-use Rattle.rnix_grammar.specs.declared.level.Level.TheVariants.{Sum, Product, Application}
+use Rattle.rnix_grammar.specs.declared.level.Level.TheVariants.{PipeRight, Disjunction, Conjunction, Sum, Product, Application}
 use Rattle.rnix_parser.specs.State.{state, items_left}
 use Rattle.rnix_parser.specs.Gives.{Going}
 use Rattle.rnix_parser.proofs.reading.+reader.Given as goal
@@ -12,36 +12,39 @@ left p = length (items_left (state p))
 
 -- how loose a level is
 abbrev rank : Level → ℕ
+rank PipeRight = 18
+rank Disjunction = 15
+rank Conjunction = 12
 rank Sum = 9
 rank Product = 6
 rank Application = 3
 
 abbrev pub decreases-read_expression : goal.decreases-read_expression
-decreases-read_expression l = 20 * left l.p.now + 15
+decreases-read_expression l = 30 * left l.p.now + 24
 
 abbrev pub decreases-read_level : goal.decreases-read_level
-decreases-read_level l = 20 * left l.p.now + rank l.level + 3
+decreases-read_level l = 30 * left l.p.now + rank l.level + 3
 
 abbrev pub decreases-read_operand : goal.decreases-read_operand
-decreases-read_operand l = 20 * left l.p.now + rank l.level + 2
+decreases-read_operand l = 30 * left l.p.now + rank l.level + 2
 
 abbrev pub decreases-read_more : goal.decreases-read_more
-decreases-read_more l = 20 * left l.p.now + rank l.level + 2
+decreases-read_more l = 30 * left l.p.now + rank l.level + 2
 
 abbrev pub decreases-read_right : goal.decreases-read_right
-decreases-read_right l = 20 * left l.p.now + rank l.level + 1
+decreases-read_right l = 30 * left l.p.now + rank l.level + 1
 
 abbrev pub decreases-read_argument : goal.decreases-read_argument
-decreases-read_argument l = 20 * left l.p.now + 3
+decreases-read_argument l = 30 * left l.p.now + 3
 
 abbrev pub decreases-read_simple : goal.decreases-read_simple
-decreases-read_simple l = 20 * left l.p.now + 2
+decreases-read_simple l = 30 * left l.p.now + 2
 
 abbrev pub decreases-read_atom : goal.decreases-read_atom
-decreases-read_atom l = 20 * left l.p.now + 1
+decreases-read_atom l = 30 * left l.p.now + 1
 
 abbrev pub decreases-read_paren : goal.decreases-read_paren
-decreases-read_paren l = 20 * left l.p.now
+decreases-read_paren l = 30 * left l.p.now
 
 abbrev pub decreases-read_level-loop-item : goal.decreases-read_level-loop-item
 decreases-read_level-loop-item l = left l.p
