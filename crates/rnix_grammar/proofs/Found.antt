@@ -14,9 +14,10 @@ use Rattle.rnix_grammar.specs.Fault.{Fault}
 use Rattle.rnix_grammar.specs.Tables.{begin_of, goes_on, stops, is_cur_pos, depth_limit}
 use Rattle.rnix_grammar.specs.Sketch.{Token, Sketch, blank, token, ◌⊕◌, one_branch, leaf_of, forget, head_kind, head_lexeme, lexeme_of}
 use Rattle.rnix_grammar.specs.Reads.{Expression, Operands, More, Simple, Atom, Wanted, Closing, Behind, Whole, operand_of, has_operator, Reads, expression, too-deep, operands, stop, operator, argument, simple, literal, name, cur-pos, paren, wanted-now, wanted-later, closed, ended-open, nothing-behind, something-behind, document}
-use Rattle.rnix_grammar.specs.Strict.{tighter, IsStrict, tight, binary, applied, number, named, position, enclosed, untold, yield, nesting}
+use Rattle.rnix_grammar.specs.Strict.{tighter, IsStrict, tight, binary, applied, constant, named, position, enclosed, untold, yield, nesting}
 use Rattle.rnix_grammar.proofs.SketchLemmas.{⊕-blank, forget-⊕}
-use Rattle.rnix_grammar.specs.Rows.{is_infix}
+use Rattle.rnix_grammar.specs.Rows.{is_infix, is_plain_literal}
+use Rattle.rnix_grammar.proofs.LiteralLemmas.{literal_begins, literal_goes, literal_untold}
 use Rattle.rnix_grammar.proofs.Basics.{true_is_not_false}
 use Rattle.rnix_grammar.proofs.StopsLemmas.{StopsBefore, InsideBefore}
 use Rattle.rnix_grammar.proofs.Sounds.{level_infix}
@@ -214,7 +215,7 @@ pub record Begins (f : Forest) : Type 0 where
 
 -- each of the simple trees does so
 begins : {f : Forest} → IsStrict None f → Begins f
-begins (number t) = record { first = (TOKEN_INTEGER, t); others = []; yields = refl; goes = refl }
+begins (constant k t h) = record { first = (k, t); others = []; yields = ap (λ x. (x, t) ∷ []) (literal_untold k h); goes = literal_goes k h }
 begins (named t h) = record { first = (TOKEN_IDENT, t); others = []; yields = refl; goes = refl }
 begins (position t h) = record { first = (TOKEN_IDENT, t); others = []; yields = refl; goes = refl }
 begins (enclosed {f = f} t u s) = record { first = (TOKEN_L_PAREN, t); others = yield (join f (leaf TOKEN_R_PAREN u empty)) ++ []; yields = refl; goes = refl }
@@ -262,10 +263,10 @@ atom_of begin x rest {d = d} {g = g} {es = es} {ts = ts} {us = us} s h (simple {
 leaf_node : (k : SyntaxKind) (j : SyntaxKind) (t : List ℕ) (u : Token) → lexeme_of u ≡ (j, t) → forget (one_branch k (leaf_of u)) ≡ node k (leaf j t empty) empty
 leaf_node k j t u e = ap (λ (x : Lexeme). node k (leaf x.0 x.1 empty) empty) e
 
--- what is read where a number stands is the number
-number_found : {d : ℕ} {t : List ℕ} {rest : List Lexeme} {g : Sketch} {es : List Fault} {us vs : List Token} {u : Token} → lexeme_of u ≡ (TOKEN_INTEGER, t) → map lexeme_of us ≡ rest
-    → Reads d (Atom b.Literal) blank (u ∷ us) g es vs → Got (node NODE_LITERAL (leaf TOKEN_INTEGER t empty) empty) rest g es vs
-number_found {t = t} {u = u} e m (literal h) = record { forest = leaf_node NODE_LITERAL TOKEN_INTEGER t u e; none = refl; left = m }
+-- what is read where a literal stands is the literal
+literal_found : {d : ℕ} {k : SyntaxKind} {t : List ℕ} {rest : List Lexeme} {g : Sketch} {es : List Fault} {us vs : List Token} {u : Token} → lexeme_of u ≡ (k, t) → map lexeme_of us ≡ rest
+    → Reads d (Atom b.Literal) blank (u ∷ us) g es vs → Got (node NODE_LITERAL (leaf k t empty) empty) rest g es vs
+literal_found {k = k} {t = t} {u = u} e m (literal h) = record { forest = leaf_node NODE_LITERAL k t u e; none = refl; left = m }
 
 -- what is read where a name stands is the name
 name_found : {d : ℕ} {t : List ℕ} {rest : List Lexeme} {g : Sketch} {es : List Fault} {us vs : List Token} {u : Token} → lexeme_of u ≡ (TOKEN_IDENT, t) → map lexeme_of us ≡ rest
@@ -316,11 +317,11 @@ yield_paren : (f : Forest) (t u : List ℕ) (rest : List Lexeme)
     → yield (node NODE_PAREN (leaf TOKEN_L_PAREN t (join f (leaf TOKEN_R_PAREN u empty))) empty) ++ rest ≡ (TOKEN_L_PAREN, t) ∷ (yield f ++ ((TOKEN_R_PAREN, u) ∷ rest))
 yield_paren f t u rest = ap (λ x. (TOKEN_L_PAREN, t) ∷ x) (yield_node NODE_PAREN f (leaf TOKEN_R_PAREN u empty) rest)
 
--- numbers are found
-number_case : (t : List ℕ) → Claim None (node NODE_LITERAL (leaf TOKEN_INTEGER t empty) empty)
-number_case t d rest ts g es us n e r =
-    let s : Split (TOKEN_INTEGER, t) rest ts = split (TOKEN_INTEGER, t) rest ts e in
-    number_found s.first s.others (atom_of b.Literal (TOKEN_INTEGER, t) rest s refl r)
+-- literals are found
+literal_case : (k : SyntaxKind) (t : List ℕ) → is_plain_literal k ≡ true → Claim None (node NODE_LITERAL (leaf k t empty) empty)
+literal_case k t h d rest ts g es us n e r =
+    let s : Split (k, t) rest ts = split (k, t) rest ts (e ∙ ap (λ x. (x, t) ∷ rest) (literal_untold k h)) in
+    literal_found s.first s.others (atom_of b.Literal (k, t) rest s (literal_begins k t h) r)
 
 -- names are found
 name_case : (t : List ℕ) → is_cur_pos t ≡ false → Claim None (node NODE_IDENT (leaf TOKEN_IDENT t empty) empty)
@@ -346,7 +347,7 @@ strict_found : (l : Option Level) (f : Forest) → IsStrict l f → Claim l f
 strict_found _ f (tight {l = l} s) = tight_case l f (strict_found (tighter l) f s)
 strict_found _ _ (binary {l = l} {f = f} {g = g} k t w o s r) = binary_case l f g k t w o (strict_found (Some l) f s) (strict_found (tighter l) g r)
 strict_found _ _ (applied {f = f} {g = g} s r) = applied_case f g (begins r) (strict_found (Some Application) f s) (strict_found None g r)
-strict_found _ _ (number t) = number_case t
+strict_found _ _ (constant k t h) = literal_case k t h
 strict_found _ _ (named t h) = name_case t h
 strict_found _ _ (position t h) = position_case t h
 strict_found _ _ (enclosed {f = f} t u s) = enclosed_case f t u (strict_found (Some PipeRight) f s)

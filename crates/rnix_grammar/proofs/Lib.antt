@@ -1,4 +1,5 @@
 pub mod Basics
+pub mod LiteralLemmas
 pub mod SketchLemmas
 pub mod RowLemmas
 pub mod StopsLemmas

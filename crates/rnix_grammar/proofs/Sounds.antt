@@ -2,7 +2,7 @@
 use Rattle.std.proofs.Common.{◌≡◌, inl, ℕ, suc, ◌+◌, ◌<◌, ◌≤◌, Bool, true, false, List, [], ◌∷◌, ◌++◌, length, Option, Some, None, refl, ap, sym, ◌∙◌, subst, append_assoc, append-nil, arith}
 use Rattle.std.specs.Prelude.{codes, if◌then◌else◌}
 use Rattle.rnix_kinds.specs.declared.kinds.SyntaxKind.{SyntaxKind}
-use Rattle.rnix_kinds.specs.declared.kinds.SyntaxKind.TheVariants.{TOKEN_ADD, TOKEN_SUB, TOKEN_MUL, TOKEN_DIV, TOKEN_PIPE_RIGHT, TOKEN_OR_OR, TOKEN_AND_AND, TOKEN_L_PAREN, TOKEN_R_PAREN, TOKEN_INTEGER, TOKEN_IDENT, TOKEN_CUR_POS, NODE_ROOT, NODE_BIN_OP, NODE_APPLY, NODE_PAREN, NODE_LITERAL, NODE_IDENT, NODE_CUR_POS}
+use Rattle.rnix_kinds.specs.declared.kinds.SyntaxKind.TheVariants.{TOKEN_ADD, TOKEN_SUB, TOKEN_MUL, TOKEN_DIV, TOKEN_PIPE_RIGHT, TOKEN_OR_OR, TOKEN_AND_AND, TOKEN_L_PAREN, TOKEN_R_PAREN, TOKEN_FLOAT, TOKEN_INTEGER, TOKEN_URI, TOKEN_IDENT, TOKEN_CUR_POS, NODE_ROOT, NODE_BIN_OP, NODE_APPLY, NODE_PAREN, NODE_LITERAL, NODE_IDENT, NODE_CUR_POS}
 use Rattle.rnix_tree.specs.Forest.{Forest, empty, leaf, node, join}
 use Rattle.rnix_tree.proofs.ForestLemmas.{join-empty}
 use Rattle.rnix_grammar.specs.declared.level.Level.{Level}
@@ -13,15 +13,16 @@ use Rattle.rnix_grammar.specs.declared.until.Until.TheVariants.{RParen, End}
 use Rattle.rnix_grammar.specs.Fault.{Fault, ended, ended_before, too_deep}
 use Rattle.rnix_grammar.specs.Tables.{begin_of, goes_on, stops, wanted_kinds, is_cur_pos, depth_limit}
 use Rattle.rnix_grammar.specs.Sketch.{Token, Stray, Unwanted, Extra, TooDeep, Sketch, blank, token, fault, ◌⊕◌, one_token, one_branch, one_fault, leaf_of, row_of, tokens_in, told, told_as, head_kind, lexeme_of}
-use Rattle.rnix_grammar.specs.Rows.{is_error, is_simple, is_operand, is_infix, is_l_paren, is_r_paren, is_integer, is_ident, Place, RootStart, RootEnd, BinStart, BinOperator, BinEnd, ApplyStart, ApplyEnd, ParenInside, ParenEnd, Past, to, go, start, live, missing, report, AreUnwanted, end, leaf, wrong}
+use Rattle.rnix_grammar.specs.Rows.{is_error, is_simple, is_operand, is_infix, is_l_paren, is_r_paren, is_plain_literal, is_ident, Place, RootStart, RootEnd, BinStart, BinOperator, BinEnd, ApplyStart, ApplyEnd, ParenInside, ParenEnd, Past, to, go, start, live, missing, report, AreUnwanted, end, leaf, wrong}
 use Rattle.rnix_grammar.specs.Reads.{Part, Expression, Operands, More, Simple, Atom, Wanted, Closing, Behind, Whole, operand_of, has_operator, Reads, expression, too-deep, operands, stop, operator, argument, simple, nothing, literal, name, cur-pos, stray, paren, wanted-now, wanted-later, closed, ended-open, nothing-behind, something-behind, document}
 use Rattle.rnix_grammar.specs.Mended.{NoneEnded, mended}
-use Rattle.rnix_grammar.specs.Strict.{tighter, IsStrict, tight, binary, applied, number, named, position, enclosed, IsExpression}
+use Rattle.rnix_grammar.specs.Strict.{tighter, IsStrict, tight, binary, applied, constant, named, position, enclosed, IsExpression}
 use Rattle.rnix_grammar.proofs.SketchLemmas.{⊕-assoc, ⊕-blank, tokens_two, tokens_in-row_of, mended-⊕}
 use Rattle.rnix_grammar.proofs.RowLemmas.{Operand, missed, stood, Row, row_start, row_add, row_more, row_token, row_due, row_operand, row_node, operand_tokens, operand_head, operand_strict, operand_as}
 use Rattle.rnix_grammar.proofs.Lossless.{lossless}
 use Rattle.rnix_grammar.proofs.StopsLemmas.{Stops, stops_expression, not_continuing}
 use Rattle.rnix_grammar.proofs.Basics.{true_is_not_false}
+use Rattle.rnix_grammar.proofs.LiteralLemmas.{literal_kind, literal_told}
 use Rattle.rnix_grammar.proofs.Basics.{not_nil}
 
 -- inside of at least so many nodes, and behind so many items: where a part of depth d stands, and where an expression inside d others does
@@ -227,11 +228,11 @@ leaf_case d k j t ts h g n c l z =
 -- a token that begins no operand
 stray_case : (d : ℕ) (t : Token) (ts : List Token) → goes_on Application (Some t.kind) ≡ false → Operand (Deep d) is_simple None (t ∷ ts) (one_fault Stray (leaf_of t)) (report Stray (t ∷ []) ∷ []) ts
 stray_case d t ts h =
-    stood NODE_LITERAL refl (λ p a i q b deep. wrong Stray (t ∷ []) refl refl (refl, h) refl refl end refl) refl (λ n. number (codes "0"))
+    stood NODE_LITERAL refl (λ p a i q b deep. wrong Stray (t ∷ []) refl refl (refl, h) refl refl end refl) refl (λ n. constant TOKEN_INTEGER (codes "0") refl)
 
 -- a number is an expression
 a_number_alone : IsStrict (Some PipeRight) (node NODE_LITERAL (leaf TOKEN_INTEGER (codes "0") empty) empty)
-a_number_alone = tight (tight (tight (tight (tight (tight (number (codes "0")))))))
+a_number_alone = tight (tight (tight (tight (tight (tight (constant TOKEN_INTEGER (codes "0") refl))))))
 
 -- all that is left, where expressions are nested too deep
 deep_case : (d : ℕ) (ts : List Token) → depth_limit ≤ d → Inner d ts (one_fault TooDeep (row_of ts)) (report TooDeep ts ∷ []) []
@@ -273,18 +274,10 @@ paren_kind TOKEN_IDENT s h = absurd (name_is_not (is_cur_pos s) h)
     name_is_not : (x : Bool) → (if x then b.CurPos else b.Name) ≡ b.Paren → ⊥
     name_is_not true e = cc
     name_is_not false e = cc
+paren_kind TOKEN_FLOAT s h = absurd (cc)
 paren_kind TOKEN_INTEGER s h = absurd (cc)
+paren_kind TOKEN_URI s h = absurd (cc)
 paren_kind _ s h = absurd (cc)
-
-literal_kind : (k : SyntaxKind) (s : List ℕ) → begin_of (Some (k, s)) ≡ b.Literal → k ≡ TOKEN_INTEGER
-literal_kind TOKEN_INTEGER s h = refl
-literal_kind TOKEN_IDENT s h = absurd (name_is_not (is_cur_pos s) h)
-  where
-    name_is_not : (x : Bool) → (if x then b.CurPos else b.Name) ≡ b.Literal → ⊥
-    name_is_not true e = cc
-    name_is_not false e = cc
-literal_kind TOKEN_L_PAREN s h = absurd (cc)
-literal_kind _ s h = absurd (cc)
 
 name_kind : (k : SyntaxKind) (s : List ℕ) → begin_of (Some (k, s)) ≡ b.Name → (k ≡ TOKEN_IDENT) × (is_cur_pos s ≡ false)
 name_kind TOKEN_IDENT s h = (refl, name_is (is_cur_pos s) h)
@@ -292,7 +285,9 @@ name_kind TOKEN_IDENT s h = (refl, name_is (is_cur_pos s) h)
     name_is : (x : Bool) → (if x then b.CurPos else b.Name) ≡ b.Name → x ≡ false
     name_is true e = absurd (cc)
     name_is false e = refl
+name_kind TOKEN_FLOAT s h = absurd (cc)
 name_kind TOKEN_INTEGER s h = absurd (cc)
+name_kind TOKEN_URI s h = absurd (cc)
 name_kind TOKEN_L_PAREN s h = absurd (cc)
 name_kind _ s h = absurd (cc)
 
@@ -302,7 +297,9 @@ cur_pos_kind TOKEN_IDENT s h = (refl, name_is (is_cur_pos s) h)
     name_is : (x : Bool) → (if x then b.CurPos else b.Name) ≡ b.CurPos → x ≡ true
     name_is true e = refl
     name_is false e = absurd (cc)
+cur_pos_kind TOKEN_FLOAT s h = absurd (cc)
 cur_pos_kind TOKEN_INTEGER s h = absurd (cc)
+cur_pos_kind TOKEN_URI s h = absurd (cc)
 cur_pos_kind TOKEN_L_PAREN s h = absurd (cc)
 cur_pos_kind _ s h = absurd (cc)
 
@@ -312,7 +309,9 @@ stray_kind TOKEN_IDENT s h = absurd (name_is_not (is_cur_pos s) h)
     name_is_not : (x : Bool) → (if x then b.CurPos else b.Name) ≡ b.Stray → ⊥
     name_is_not true e = cc
     name_is_not false e = cc
+stray_kind TOKEN_FLOAT s h = absurd (cc)
 stray_kind TOKEN_INTEGER s h = absurd (cc)
+stray_kind TOKEN_URI s h = absurd (cc)
 stray_kind TOKEN_L_PAREN s h = absurd (cc)
 stray_kind _ s h = refl
 
@@ -322,9 +321,8 @@ closing_kind _ h = absurd (true_is_not_false (sym h))
 
 literal_case : (d : ℕ) (t : Token) (ts : List Token) → begin_of (Some (lexeme_of t)) ≡ b.Literal → Operand (Deep d) is_simple None (t ∷ ts) (one_branch NODE_LITERAL (leaf_of t)) [] ts
 literal_case d t ts h =
-    let k : t.kind ≡ TOKEN_INTEGER = literal_kind t.kind t.text h in
-    leaf_case d NODE_LITERAL t.kind t ts (ap (λ x. x) k ∙ sym (ap (λ x. told_as NODE_LITERAL t.text x) k)) (ap (λ x. to (is_integer x) Past) k) refl refl refl
-    (subst (λ (x : SyntaxKind). IsStrict None (node NODE_LITERAL (leaf x t.text empty) empty)) (sym k) (number t.text))
+    let k : is_plain_literal t.kind ≡ true = literal_kind t.kind t.text h in
+    leaf_case d NODE_LITERAL t.kind t ts (literal_told t.kind t.text k) (ap (λ x. to x Past) k) refl refl refl (constant t.kind t.text k)
 
 name_case : (d : ℕ) (t : Token) (ts : List Token) → begin_of (Some (lexeme_of t)) ≡ b.Name → Operand (Deep d) is_simple None (t ∷ ts) (one_branch NODE_IDENT (leaf_of t)) [] ts
 name_case d t ts h =

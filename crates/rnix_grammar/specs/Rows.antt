@@ -1,7 +1,7 @@
 -- The rows of the node kinds, as one automaton over the kinds of children; the errors of a sketch; what stands beside its error nodes.
 use Rattle.std.specs.Prelude.{◌≡◌, ◌⊎◌, ℕ, suc, ◌+◌, ◌<◌, ◌≤◌, Bool, true, false, ◌||◌, List, [], ◌∷◌, ◌++◌, Option, Some, None, length, if◌then◌else◌}
 use Rattle.rnix_kinds.specs.declared.kinds.SyntaxKind.{SyntaxKind}
-use Rattle.rnix_kinds.specs.declared.kinds.SyntaxKind.TheVariants.{TOKEN_ADD, TOKEN_SUB, TOKEN_MUL, TOKEN_DIV, TOKEN_PIPE_RIGHT, TOKEN_OR_OR, TOKEN_AND_AND, TOKEN_L_PAREN, TOKEN_R_PAREN, TOKEN_INTEGER, TOKEN_IDENT, TOKEN_CUR_POS, NODE_ROOT, NODE_BIN_OP, NODE_APPLY, NODE_PAREN, NODE_LITERAL, NODE_IDENT, NODE_CUR_POS, NODE_ERROR}
+use Rattle.rnix_kinds.specs.declared.kinds.SyntaxKind.TheVariants.{TOKEN_ADD, TOKEN_SUB, TOKEN_MUL, TOKEN_DIV, TOKEN_PIPE_RIGHT, TOKEN_OR_OR, TOKEN_AND_AND, TOKEN_L_PAREN, TOKEN_R_PAREN, TOKEN_FLOAT, TOKEN_INTEGER, TOKEN_URI, TOKEN_IDENT, TOKEN_CUR_POS, NODE_ROOT, NODE_BIN_OP, NODE_APPLY, NODE_PAREN, NODE_LITERAL, NODE_IDENT, NODE_CUR_POS, NODE_ERROR}
 use Rattle.rnix_grammar.specs.declared.level.Level.TheVariants.{PipeRight, Disjunction, Conjunction, Sum, Product, Application}
 use Rattle.rnix_grammar.specs.declared.until.Until.{Until}
 use Rattle.rnix_grammar.specs.declared.until.Until.TheVariants.{RParen}
@@ -41,9 +41,12 @@ abbrev pub is_r_paren : SyntaxKind → Bool
 is_r_paren TOKEN_R_PAREN = true
 is_r_paren kind = false
 
-abbrev pub is_integer : SyntaxKind → Bool
-is_integer TOKEN_INTEGER = true
-is_integer kind = false
+-- the tokens of NODE_LITERAL
+abbrev pub is_plain_literal : SyntaxKind → Bool
+is_plain_literal TOKEN_FLOAT = true
+is_plain_literal TOKEN_INTEGER = true
+is_plain_literal TOKEN_URI = true
+is_plain_literal kind = false
 
 abbrev pub is_ident : SyntaxKind → Bool
 is_ident TOKEN_IDENT = true
@@ -82,7 +85,7 @@ to false q = Nowhere
 -- the place after one more child
 abbrev pub go : Place → SyntaxKind → Place
 go RootStart k = to (is_operand k) RootEnd
-go LiteralStart k = to (is_integer k) Past
+go LiteralStart k = to (is_plain_literal k) Past
 go IdentStart k = to (is_ident k) Past
 go CurPosStart k = to (is_cur_pos_token k) Past
 go BinStart k = to (is_operand k) BinOperator

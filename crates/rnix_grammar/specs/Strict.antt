@@ -1,12 +1,13 @@
 -- The strict grammar: which trees of which level there are, without trivia and error nodes.
 use Rattle.std.specs.Prelude.{◌≡◌, ℕ, suc, max, Bool, true, false, List, [], ◌∷◌, ◌++◌, Option, Some, None}
 use Rattle.rnix_kinds.specs.declared.kinds.SyntaxKind.{SyntaxKind}
-use Rattle.rnix_kinds.specs.declared.kinds.SyntaxKind.TheVariants.{TOKEN_L_PAREN, TOKEN_R_PAREN, TOKEN_INTEGER, TOKEN_IDENT, TOKEN_CUR_POS, NODE_BIN_OP, NODE_APPLY, NODE_PAREN, NODE_LITERAL, NODE_IDENT, NODE_CUR_POS}
+use Rattle.rnix_kinds.specs.declared.kinds.SyntaxKind.TheVariants.{TOKEN_L_PAREN, TOKEN_R_PAREN, TOKEN_IDENT, TOKEN_CUR_POS, NODE_BIN_OP, NODE_APPLY, NODE_PAREN, NODE_LITERAL, NODE_IDENT, NODE_CUR_POS}
 use Rattle.rnix_kinds.specs.Lexical.Tokens.{Lexeme}
 use Rattle.rnix_tree.specs.Forest.{Forest, empty, leaf, node, join}
 use Rattle.rnix_grammar.specs.declared.level.Level.{Level}
 use Rattle.rnix_grammar.specs.declared.level.Level.TheVariants.{PipeRight, Disjunction, Conjunction, Sum, Product, Application}
 use Rattle.rnix_grammar.specs.Tables.{goes_on, is_cur_pos}
+use Rattle.rnix_grammar.specs.Rows.{is_plain_literal}
 use Rattle.rnix_grammar.specs.Reads.{has_operator}
 
 -- the level of a level's right operands; none is that of simple trees
@@ -24,7 +25,7 @@ pub data IsStrict : Option Level → Forest → Type 0 where
   binary : {l : Level} {f g : Forest} (k : SyntaxKind) (t : List ℕ) → has_operator l ≡ true → goes_on l (Some k) ≡ true → IsStrict (Some l) f → IsStrict (tighter l) g
       → IsStrict (Some l) (node NODE_BIN_OP (join f (leaf k t g)) empty)
   applied : {f g : Forest} → IsStrict (Some Application) f → IsStrict None g → IsStrict (Some Application) (node NODE_APPLY (join f g) empty)
-  number : (t : List ℕ) → IsStrict None (node NODE_LITERAL (leaf TOKEN_INTEGER t empty) empty)
+  constant : (k : SyntaxKind) (t : List ℕ) → is_plain_literal k ≡ true → IsStrict None (node NODE_LITERAL (leaf k t empty) empty)
   named : (t : List ℕ) → is_cur_pos t ≡ false → IsStrict None (node NODE_IDENT (leaf TOKEN_IDENT t empty) empty)
   position : (t : List ℕ) → is_cur_pos t ≡ true → IsStrict None (node NODE_CUR_POS (leaf TOKEN_CUR_POS t empty) empty)
   enclosed : {f : Forest} (t u : List ℕ) → IsStrict (Some PipeRight) f

@@ -11,6 +11,7 @@ pub enum Begin {
     /// The end of the text.
     Nothing,
     Paren,
+    /// A number or a URI.
     Literal,
     /// `__curPos`.
     CurPos,
@@ -26,7 +27,9 @@ pub fn begin_of(next: Option<Token<'_>>) -> Begin
     match next {
         None => Begin::Nothing,
         Some((SyntaxKind::TOKEN_L_PAREN, _)) => Begin::Paren,
+        Some((SyntaxKind::TOKEN_FLOAT, _)) => Begin::Literal,
         Some((SyntaxKind::TOKEN_INTEGER, _)) => Begin::Literal,
+        Some((SyntaxKind::TOKEN_URI, _)) => Begin::Literal,
         Some((SyntaxKind::TOKEN_IDENT, "__curPos")) => Begin::CurPos,
         Some((SyntaxKind::TOKEN_IDENT, _)) => Begin::Name,
         Some(_) => Begin::Stray,

@@ -34,7 +34,13 @@ pub fn goes_on(level: Level, next: Option<SyntaxKind>) -> bool
         Level::Product => matches!(next, Some(SyntaxKind::TOKEN_MUL | SyntaxKind::TOKEN_DIV)),
         Level::Application => matches!(
             next,
-            Some(SyntaxKind::TOKEN_L_PAREN | SyntaxKind::TOKEN_INTEGER | SyntaxKind::TOKEN_IDENT)
+            Some(
+                SyntaxKind::TOKEN_L_PAREN
+                    | SyntaxKind::TOKEN_FLOAT
+                    | SyntaxKind::TOKEN_INTEGER
+                    | SyntaxKind::TOKEN_URI
+                    | SyntaxKind::TOKEN_IDENT
+            )
         ),
     }
 }
