@@ -2,7 +2,7 @@
 use Rattle.std.proofs.Common.{◌≡◌, ℕ, suc, ◌+◌, ◌<◌, ◌≤◌, true, false, List, [], ◌∷◌, ◌++◌, map, Option, Some, None, refl, ap, sym, ◌∙◌, subst, append_assoc, append-nil, arith}
 use Rattle.std.specs.Prelude.{if◌then◌else◌}
 use Rattle.rnix_kinds.specs.declared.kinds.SyntaxKind.{SyntaxKind}
-use Rattle.rnix_kinds.specs.declared.kinds.SyntaxKind.TheVariants.{TOKEN_ADD, TOKEN_SUB, TOKEN_MUL, TOKEN_DIV, TOKEN_PIPE_RIGHT, TOKEN_OR_OR, TOKEN_AND_AND, TOKEN_L_PAREN, TOKEN_R_PAREN, TOKEN_INTEGER, TOKEN_IDENT, TOKEN_CUR_POS, NODE_BIN_OP, NODE_APPLY, NODE_PAREN, NODE_LITERAL, NODE_IDENT, NODE_CUR_POS}
+use Rattle.rnix_kinds.specs.declared.kinds.SyntaxKind.TheVariants.{TOKEN_ADD, TOKEN_SUB, TOKEN_MUL, TOKEN_DIV, TOKEN_PIPE_RIGHT, TOKEN_OR_OR, TOKEN_AND_AND, TOKEN_L_PAREN, TOKEN_R_PAREN, TOKEN_PATH_SEARCH, TOKEN_IDENT, TOKEN_CUR_POS, NODE_BIN_OP, NODE_APPLY, NODE_PAREN, NODE_LITERAL, NODE_PATH_SEARCH, NODE_IDENT, NODE_CUR_POS}
 use Rattle.rnix_kinds.specs.Lexical.Tokens.{Lexeme}
 use Rattle.rnix_tree.specs.Forest.{Forest, empty, leaf, node, join}
 use Rattle.rnix_grammar.specs.declared.level.Level.{Level}
@@ -13,8 +13,8 @@ use Rattle.rnix_grammar.specs.declared.until.Until.TheVariants.{RParen}
 use Rattle.rnix_grammar.specs.Fault.{Fault}
 use Rattle.rnix_grammar.specs.Tables.{begin_of, goes_on, stops, is_cur_pos, depth_limit}
 use Rattle.rnix_grammar.specs.Sketch.{Token, Sketch, blank, token, ◌⊕◌, one_branch, leaf_of, forget, head_kind, head_lexeme, lexeme_of}
-use Rattle.rnix_grammar.specs.Reads.{Expression, Operands, More, Simple, Atom, Wanted, Closing, Behind, Whole, operand_of, has_operator, Reads, expression, too-deep, operands, stop, operator, argument, simple, literal, name, cur-pos, paren, wanted-now, wanted-later, closed, ended-open, nothing-behind, something-behind, document}
-use Rattle.rnix_grammar.specs.Strict.{tighter, IsStrict, tight, binary, applied, constant, named, position, enclosed, untold, yield, nesting}
+use Rattle.rnix_grammar.specs.Reads.{Expression, Operands, More, Simple, Atom, Wanted, Closing, Behind, Whole, operand_of, has_operator, Reads, expression, too-deep, operands, stop, operator, argument, simple, literal, search-path, name, cur-pos, paren, wanted-now, wanted-later, closed, ended-open, nothing-behind, something-behind, document}
+use Rattle.rnix_grammar.specs.Strict.{tighter, IsStrict, tight, binary, applied, constant, looked_up, named, position, enclosed, untold, yield, nesting}
 use Rattle.rnix_grammar.proofs.SketchLemmas.{⊕-blank, forget-⊕}
 use Rattle.rnix_grammar.specs.Rows.{is_infix, is_plain_literal}
 use Rattle.rnix_grammar.proofs.LiteralLemmas.{literal_begins, literal_goes, literal_untold}
@@ -216,6 +216,7 @@ pub record Begins (f : Forest) : Type 0 where
 -- each of the simple trees does so
 begins : {f : Forest} → IsStrict None f → Begins f
 begins (constant k t h) = record { first = (k, t); others = []; yields = ap (λ x. (x, t) ∷ []) (literal_untold k h); goes = literal_goes k h }
+begins (looked_up t) = record { first = (TOKEN_PATH_SEARCH, t); others = []; yields = refl; goes = refl }
 begins (named t h) = record { first = (TOKEN_IDENT, t); others = []; yields = refl; goes = refl }
 begins (position t h) = record { first = (TOKEN_IDENT, t); others = []; yields = refl; goes = refl }
 begins (enclosed {f = f} t u s) = record { first = (TOKEN_L_PAREN, t); others = yield (join f (leaf TOKEN_R_PAREN u empty)) ++ []; yields = refl; goes = refl }
@@ -267,6 +268,11 @@ leaf_node k j t u e = ap (λ (x : Lexeme). node k (leaf x.0 x.1 empty) empty) e
 literal_found : {d : ℕ} {k : SyntaxKind} {t : List ℕ} {rest : List Lexeme} {g : Sketch} {es : List Fault} {us vs : List Token} {u : Token} → lexeme_of u ≡ (k, t) → map lexeme_of us ≡ rest
     → Reads d (Atom b.Literal) blank (u ∷ us) g es vs → Got (node NODE_LITERAL (leaf k t empty) empty) rest g es vs
 literal_found {k = k} {t = t} {u = u} e m (literal h) = record { forest = leaf_node NODE_LITERAL k t u e; none = refl; left = m }
+
+-- what is read where a search path stands is the search path
+search_path_found : {d : ℕ} {t : List ℕ} {rest : List Lexeme} {g : Sketch} {es : List Fault} {us vs : List Token} {u : Token} → lexeme_of u ≡ (TOKEN_PATH_SEARCH, t) → map lexeme_of us ≡ rest
+    → Reads d (Atom b.SearchPath) blank (u ∷ us) g es vs → Got (node NODE_PATH_SEARCH (leaf TOKEN_PATH_SEARCH t empty) empty) rest g es vs
+search_path_found {t = t} {u = u} e m (search-path h) = record { forest = leaf_node NODE_PATH_SEARCH TOKEN_PATH_SEARCH t u e; none = refl; left = m }
 
 -- what is read where a name stands is the name
 name_found : {d : ℕ} {t : List ℕ} {rest : List Lexeme} {g : Sketch} {es : List Fault} {us vs : List Token} {u : Token} → lexeme_of u ≡ (TOKEN_IDENT, t) → map lexeme_of us ≡ rest
@@ -323,6 +329,12 @@ literal_case k t h d rest ts g es us n e r =
     let s : Split (k, t) rest ts = split (k, t) rest ts (e ∙ ap (λ x. (x, t) ∷ rest) (literal_untold k h)) in
     literal_found s.first s.others (atom_of b.Literal (k, t) rest s (literal_begins k t h) r)
 
+-- search paths are found
+search_path_case : (t : List ℕ) → Claim None (node NODE_PATH_SEARCH (leaf TOKEN_PATH_SEARCH t empty) empty)
+search_path_case t d rest ts g es us n e r =
+    let s : Split (TOKEN_PATH_SEARCH, t) rest ts = split (TOKEN_PATH_SEARCH, t) rest ts e in
+    search_path_found s.first s.others (atom_of b.SearchPath (TOKEN_PATH_SEARCH, t) rest s refl r)
+
 -- names are found
 name_case : (t : List ℕ) → is_cur_pos t ≡ false → Claim None (node NODE_IDENT (leaf TOKEN_IDENT t empty) empty)
 name_case t h d rest ts g es us n e r =
@@ -348,6 +360,7 @@ strict_found _ f (tight {l = l} s) = tight_case l f (strict_found (tighter l) f 
 strict_found _ _ (binary {l = l} {f = f} {g = g} k t w o s r) = binary_case l f g k t w o (strict_found (Some l) f s) (strict_found (tighter l) g r)
 strict_found _ _ (applied {f = f} {g = g} s r) = applied_case f g (begins r) (strict_found (Some Application) f s) (strict_found None g r)
 strict_found _ _ (constant k t h) = literal_case k t h
+strict_found _ _ (looked_up t) = search_path_case t
 strict_found _ _ (named t h) = name_case t h
 strict_found _ _ (position t h) = position_case t h
 strict_found _ _ (enclosed {f = f} t u s) = enclosed_case f t u (strict_found (Some PipeRight) f s)

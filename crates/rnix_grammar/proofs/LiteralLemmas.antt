@@ -2,7 +2,7 @@
 use Rattle.std.proofs.Common.{◌≡◌, ℕ, List, Bool, true, false, Some, refl, sym}
 use Rattle.std.specs.Prelude.{if◌then◌else◌}
 use Rattle.rnix_kinds.specs.declared.kinds.SyntaxKind.{SyntaxKind}
-use Rattle.rnix_kinds.specs.declared.kinds.SyntaxKind.TheVariants.{TOKEN_FLOAT, TOKEN_INTEGER, TOKEN_URI, TOKEN_IDENT, TOKEN_L_PAREN, NODE_LITERAL}
+use Rattle.rnix_kinds.specs.declared.kinds.SyntaxKind.TheVariants.{TOKEN_FLOAT, TOKEN_INTEGER, TOKEN_URI, TOKEN_PATH_SEARCH, TOKEN_IDENT, TOKEN_L_PAREN, NODE_LITERAL}
 use Rattle.rnix_grammar.specs.declared.begin.Begin.TheVariants as b
 use Rattle.rnix_grammar.specs.declared.level.Level.TheVariants.{Application}
 use Rattle.rnix_grammar.specs.Tables.{begin_of, goes_on, is_cur_pos}
@@ -29,6 +29,7 @@ literal_kind TOKEN_IDENT s h = absurd (name_is_not (is_cur_pos s) h)
     name_is_not true e = cc
     name_is_not false e = cc
 literal_kind TOKEN_L_PAREN s h = absurd (cc)
+literal_kind TOKEN_PATH_SEARCH s h = absurd (cc)
 literal_kind _ s h = absurd (cc)
 
 -- they are arguments

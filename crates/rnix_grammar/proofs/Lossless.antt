@@ -4,7 +4,7 @@ use Rattle.rnix_grammar.specs.declared.level.Level.TheVariants.{PipeRight, Appli
 use Rattle.rnix_grammar.specs.declared.until.Until.TheVariants.{RParen}
 use Rattle.rnix_grammar.specs.Fault.{Fault}
 use Rattle.rnix_grammar.specs.Sketch.{Token, Sketch, token, ◌⊕◌, row_of, tokens_in}
-use Rattle.rnix_grammar.specs.Reads.{Part, Expression, Operands, More, Simple, Atom, Wanted, Closing, Behind, operand_of, Reads, expression, too-deep, operands, stop, operator, argument, simple, nothing, literal, name, cur-pos, stray, paren, wanted-now, wanted-later, closed, ended-open, nothing-behind, something-behind, document}
+use Rattle.rnix_grammar.specs.Reads.{Part, Expression, Operands, More, Simple, Atom, Wanted, Closing, Behind, operand_of, Reads, expression, too-deep, operands, stop, operator, argument, simple, nothing, literal, search-path, name, cur-pos, stray, paren, wanted-now, wanted-later, closed, ended-open, nothing-behind, something-behind, document}
 use Rattle.rnix_grammar.proofs.SketchLemmas.{tokens_two, tokens_in-row_of}
 
 -- the tokens inside one node, and what is left
@@ -26,6 +26,7 @@ lossless _ (argument {f = f} {g = g} {us = us} o a b) =
 lossless _ (simple {begin = begin} h a) = lossless (Atom begin) a
 lossless _ nothing = refl
 lossless _ (literal h) = refl
+lossless _ (search-path h) = refl
 lossless _ (name h) = refl
 lossless _ (cur-pos h) = refl
 lossless _ (stray h) = refl

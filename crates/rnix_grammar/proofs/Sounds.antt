@@ -2,7 +2,7 @@
 use Rattle.std.proofs.Common.{◌≡◌, inl, ℕ, suc, ◌+◌, ◌<◌, ◌≤◌, Bool, true, false, List, [], ◌∷◌, ◌++◌, length, Option, Some, None, refl, ap, sym, ◌∙◌, subst, append_assoc, append-nil, arith}
 use Rattle.std.specs.Prelude.{codes, if◌then◌else◌}
 use Rattle.rnix_kinds.specs.declared.kinds.SyntaxKind.{SyntaxKind}
-use Rattle.rnix_kinds.specs.declared.kinds.SyntaxKind.TheVariants.{TOKEN_ADD, TOKEN_SUB, TOKEN_MUL, TOKEN_DIV, TOKEN_PIPE_RIGHT, TOKEN_OR_OR, TOKEN_AND_AND, TOKEN_L_PAREN, TOKEN_R_PAREN, TOKEN_FLOAT, TOKEN_INTEGER, TOKEN_URI, TOKEN_IDENT, TOKEN_CUR_POS, NODE_ROOT, NODE_BIN_OP, NODE_APPLY, NODE_PAREN, NODE_LITERAL, NODE_IDENT, NODE_CUR_POS}
+use Rattle.rnix_kinds.specs.declared.kinds.SyntaxKind.TheVariants.{TOKEN_ADD, TOKEN_SUB, TOKEN_MUL, TOKEN_DIV, TOKEN_PIPE_RIGHT, TOKEN_OR_OR, TOKEN_AND_AND, TOKEN_L_PAREN, TOKEN_R_PAREN, TOKEN_FLOAT, TOKEN_INTEGER, TOKEN_URI, TOKEN_PATH_SEARCH, TOKEN_IDENT, TOKEN_CUR_POS, NODE_ROOT, NODE_BIN_OP, NODE_APPLY, NODE_PAREN, NODE_LITERAL, NODE_PATH_SEARCH, NODE_IDENT, NODE_CUR_POS}
 use Rattle.rnix_tree.specs.Forest.{Forest, empty, leaf, node, join}
 use Rattle.rnix_tree.proofs.ForestLemmas.{join-empty}
 use Rattle.rnix_grammar.specs.declared.level.Level.{Level}
@@ -13,10 +13,10 @@ use Rattle.rnix_grammar.specs.declared.until.Until.TheVariants.{RParen, End}
 use Rattle.rnix_grammar.specs.Fault.{Fault, ended, ended_before, too_deep}
 use Rattle.rnix_grammar.specs.Tables.{begin_of, goes_on, stops, wanted_kinds, is_cur_pos, depth_limit}
 use Rattle.rnix_grammar.specs.Sketch.{Token, Stray, Unwanted, Extra, TooDeep, Sketch, blank, token, fault, ◌⊕◌, one_token, one_branch, one_fault, leaf_of, row_of, tokens_in, told, told_as, head_kind, lexeme_of}
-use Rattle.rnix_grammar.specs.Rows.{is_error, is_simple, is_operand, is_infix, is_l_paren, is_r_paren, is_plain_literal, is_ident, Place, RootStart, RootEnd, BinStart, BinOperator, BinEnd, ApplyStart, ApplyEnd, ParenInside, ParenEnd, Past, to, go, start, live, missing, report, AreUnwanted, end, leaf, wrong}
-use Rattle.rnix_grammar.specs.Reads.{Part, Expression, Operands, More, Simple, Atom, Wanted, Closing, Behind, Whole, operand_of, has_operator, Reads, expression, too-deep, operands, stop, operator, argument, simple, nothing, literal, name, cur-pos, stray, paren, wanted-now, wanted-later, closed, ended-open, nothing-behind, something-behind, document}
+use Rattle.rnix_grammar.specs.Rows.{is_error, is_simple, is_operand, is_infix, is_l_paren, is_r_paren, is_plain_literal, is_search_path, is_ident, Place, RootStart, RootEnd, BinStart, BinOperator, BinEnd, ApplyStart, ApplyEnd, ParenInside, ParenEnd, Past, to, go, start, live, missing, report, AreUnwanted, end, leaf, wrong}
+use Rattle.rnix_grammar.specs.Reads.{Part, Expression, Operands, More, Simple, Atom, Wanted, Closing, Behind, Whole, operand_of, has_operator, Reads, expression, too-deep, operands, stop, operator, argument, simple, nothing, literal, search-path, name, cur-pos, stray, paren, wanted-now, wanted-later, closed, ended-open, nothing-behind, something-behind, document}
 use Rattle.rnix_grammar.specs.Mended.{NoneEnded, mended}
-use Rattle.rnix_grammar.specs.Strict.{tighter, IsStrict, tight, binary, applied, constant, named, position, enclosed, IsExpression}
+use Rattle.rnix_grammar.specs.Strict.{tighter, IsStrict, tight, binary, applied, constant, looked_up, named, position, enclosed, IsExpression}
 use Rattle.rnix_grammar.proofs.SketchLemmas.{⊕-assoc, ⊕-blank, tokens_two, tokens_in-row_of, mended-⊕}
 use Rattle.rnix_grammar.proofs.RowLemmas.{Operand, missed, stood, Row, row_start, row_add, row_more, row_token, row_due, row_operand, row_node, operand_tokens, operand_head, operand_strict, operand_as}
 use Rattle.rnix_grammar.proofs.Lossless.{lossless}
@@ -277,7 +277,21 @@ paren_kind TOKEN_IDENT s h = absurd (name_is_not (is_cur_pos s) h)
 paren_kind TOKEN_FLOAT s h = absurd (cc)
 paren_kind TOKEN_INTEGER s h = absurd (cc)
 paren_kind TOKEN_URI s h = absurd (cc)
+paren_kind TOKEN_PATH_SEARCH s h = absurd (cc)
 paren_kind _ s h = absurd (cc)
+
+search_path_kind : (k : SyntaxKind) (s : List ℕ) → begin_of (Some (k, s)) ≡ b.SearchPath → k ≡ TOKEN_PATH_SEARCH
+search_path_kind TOKEN_PATH_SEARCH s h = refl
+search_path_kind TOKEN_IDENT s h = absurd (name_is_not (is_cur_pos s) h)
+  where
+    name_is_not : (x : Bool) → (if x then b.CurPos else b.Name) ≡ b.SearchPath → ⊥
+    name_is_not true e = cc
+    name_is_not false e = cc
+search_path_kind TOKEN_FLOAT s h = absurd (cc)
+search_path_kind TOKEN_INTEGER s h = absurd (cc)
+search_path_kind TOKEN_URI s h = absurd (cc)
+search_path_kind TOKEN_L_PAREN s h = absurd (cc)
+search_path_kind _ s h = absurd (cc)
 
 name_kind : (k : SyntaxKind) (s : List ℕ) → begin_of (Some (k, s)) ≡ b.Name → (k ≡ TOKEN_IDENT) × (is_cur_pos s ≡ false)
 name_kind TOKEN_IDENT s h = (refl, name_is (is_cur_pos s) h)
@@ -288,6 +302,7 @@ name_kind TOKEN_IDENT s h = (refl, name_is (is_cur_pos s) h)
 name_kind TOKEN_FLOAT s h = absurd (cc)
 name_kind TOKEN_INTEGER s h = absurd (cc)
 name_kind TOKEN_URI s h = absurd (cc)
+name_kind TOKEN_PATH_SEARCH s h = absurd (cc)
 name_kind TOKEN_L_PAREN s h = absurd (cc)
 name_kind _ s h = absurd (cc)
 
@@ -300,6 +315,7 @@ cur_pos_kind TOKEN_IDENT s h = (refl, name_is (is_cur_pos s) h)
 cur_pos_kind TOKEN_FLOAT s h = absurd (cc)
 cur_pos_kind TOKEN_INTEGER s h = absurd (cc)
 cur_pos_kind TOKEN_URI s h = absurd (cc)
+cur_pos_kind TOKEN_PATH_SEARCH s h = absurd (cc)
 cur_pos_kind TOKEN_L_PAREN s h = absurd (cc)
 cur_pos_kind _ s h = absurd (cc)
 
@@ -312,6 +328,7 @@ stray_kind TOKEN_IDENT s h = absurd (name_is_not (is_cur_pos s) h)
 stray_kind TOKEN_FLOAT s h = absurd (cc)
 stray_kind TOKEN_INTEGER s h = absurd (cc)
 stray_kind TOKEN_URI s h = absurd (cc)
+stray_kind TOKEN_PATH_SEARCH s h = absurd (cc)
 stray_kind TOKEN_L_PAREN s h = absurd (cc)
 stray_kind _ s h = refl
 
@@ -323,6 +340,13 @@ literal_case : (d : ℕ) (t : Token) (ts : List Token) → begin_of (Some (lexem
 literal_case d t ts h =
     let k : is_plain_literal t.kind ≡ true = literal_kind t.kind t.text h in
     leaf_case d NODE_LITERAL t.kind t ts (literal_told t.kind t.text k) (ap (λ x. to x Past) k) refl refl refl (constant t.kind t.text k)
+
+search_path_case : (d : ℕ) (t : Token) (ts : List Token) → begin_of (Some (lexeme_of t)) ≡ b.SearchPath
+    → Operand (Deep d) is_simple None (t ∷ ts) (one_branch NODE_PATH_SEARCH (leaf_of t)) [] ts
+search_path_case d t ts h =
+    let k : t.kind ≡ TOKEN_PATH_SEARCH = search_path_kind t.kind t.text h in
+    leaf_case d NODE_PATH_SEARCH t.kind t ts (ap (λ x. x) k ∙ sym (ap (λ x. told_as NODE_PATH_SEARCH t.text x) k)) (ap (λ x. to (is_search_path x) Past) k) refl refl refl
+    (subst (λ (x : SyntaxKind). IsStrict None (node NODE_PATH_SEARCH (leaf x t.text empty) empty)) (sym k) (looked_up t.text))
 
 name_case : (d : ℕ) (t : Token) (ts : List Token) → begin_of (Some (lexeme_of t)) ≡ b.Name → Operand (Deep d) is_simple None (t ∷ ts) (one_branch NODE_IDENT (leaf_of t)) [] ts
 name_case d t ts h =
@@ -448,6 +472,7 @@ sounds _ (argument {es = es} {fs = fs} o a b) = λ ts0 ds r.
 sounds _ (simple {begin = begin} h a) = sounds (Atom begin) a
 sounds _ nothing = missed
 sounds _ (literal {d = d} {t = t} {ts = ts} h) = literal_case d t ts h
+sounds _ (search-path {d = d} {t = t} {ts = ts} h) = search_path_case d t ts h
 sounds _ (name {d = d} {t = t} {ts = ts} h) = name_case d t ts h
 sounds _ (cur-pos {d = d} {t = t} {ts = ts} h) = cur_pos_case d t ts h
 sounds _ (stray {d = d} {t = t} {ts = ts} h) = stray_case d t ts (stray_kind t.kind t.text h)

@@ -2,11 +2,11 @@
 use Rattle.std.proofs.Common.{◌≡◌, ℕ, ◌+◌, ◌≤◌, true, List, [], ◌∷◌, ◌++◌, Option, refl, ap, sym, ◌∙◌, subst, arith}
 use Rattle.std.specs.Prelude.{if◌then◌else◌}
 use Rattle.rnix_kinds.specs.declared.kinds.SyntaxKind.{SyntaxKind}
-use Rattle.rnix_kinds.specs.declared.kinds.SyntaxKind.TheVariants.{TOKEN_ADD, TOKEN_L_PAREN, TOKEN_R_PAREN, TOKEN_INTEGER, TOKEN_IDENT, TOKEN_CUR_POS, NODE_LITERAL}
+use Rattle.rnix_kinds.specs.declared.kinds.SyntaxKind.TheVariants.{TOKEN_ADD, TOKEN_L_PAREN, TOKEN_R_PAREN, TOKEN_INTEGER, TOKEN_PATH_SEARCH, TOKEN_IDENT, TOKEN_CUR_POS, NODE_LITERAL}
 use Rattle.rnix_tree.specs.Forest.{Forest}
 use Rattle.rnix_grammar.specs.Fault.{Fault}
 use Rattle.rnix_grammar.specs.Sketch.{Token, Note, Stray, Unwanted, Extra, TooDeep, Sketch, blank, token, branch, fault, forget}
-use Rattle.rnix_grammar.specs.Rows.{Place, RootStart, RootEnd, LiteralStart, IdentStart, CurPosStart, BinStart, BinOperator, BinEnd, ApplyStart, ApplyEnd, ParenStart, ParenInside, ParenEnd, Past, Nowhere, start, run, is_row, IsBeginning, live, missing, whole, patched, report, Stands, end, leaf, wrong, inner}
+use Rattle.rnix_grammar.specs.Rows.{Place, RootStart, RootEnd, LiteralStart, SearchPathStart, IdentStart, CurPosStart, BinStart, BinOperator, BinEnd, ApplyStart, ApplyEnd, ParenStart, ParenInside, ParenEnd, Past, Nowhere, start, run, is_row, IsBeginning, live, missing, whole, patched, report, Stands, end, leaf, wrong, inner}
 use Rattle.rnix_grammar.specs.Mended.{patch, mended, kinds_of, halves, AreBegun, ended_count}
 use Rattle.rnix_grammar.proofs.StandsFaults.{whole_owes_none}
 use Rattle.rnix_grammar.proofs.Basics.{true_is_not_false}
@@ -82,6 +82,7 @@ pub completed : (q : Place) → live q ≡ true → (ks : List SyntaxKind) × (w
 completed RootStart h = (NODE_LITERAL ∷ [], refl)
 completed RootEnd h = ([], refl)
 completed LiteralStart h = (TOKEN_INTEGER ∷ [], refl)
+completed SearchPathStart h = (TOKEN_PATH_SEARCH ∷ [], refl)
 completed IdentStart h = (TOKEN_IDENT ∷ [], refl)
 completed CurPosStart h = (TOKEN_CUR_POS ∷ [], refl)
 completed BinStart h = (NODE_LITERAL ∷ (TOKEN_ADD ∷ (NODE_LITERAL ∷ [])), refl)

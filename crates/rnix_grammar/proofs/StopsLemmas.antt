@@ -7,7 +7,7 @@ use Rattle.rnix_grammar.specs.Fault.{Fault}
 use Rattle.rnix_grammar.specs.Tables.{goes_on}
 use Rattle.rnix_grammar.specs.Sketch.{Token, Sketch, head_kind}
 use Rattle.rnix_grammar.specs.Rows.{is_simple, is_operand, is_operator, continues}
-use Rattle.rnix_grammar.specs.Reads.{Part, Expression, Operands, More, operand_of, Reads, expression, too-deep, operands, stop, operator, argument, simple, nothing, literal, name, cur-pos, stray, paren, wanted-now, wanted-later, closed, ended-open, nothing-behind, something-behind, document}
+use Rattle.rnix_grammar.specs.Reads.{Part, Expression, Operands, More, operand_of, Reads, expression, too-deep, operands, stop, operator, argument, simple, nothing, literal, search-path, name, cur-pos, stray, paren, wanted-now, wanted-later, closed, ended-open, nothing-behind, something-behind, document}
 use Rattle.std.specs.Prelude.{if◌then◌else◌}
 
 -- the levels inside a level, the looser first
@@ -65,6 +65,7 @@ stops_part _ (argument o a b) = λ s. stops_part (More Application) b tt
 stops_part _ (simple h a) = tt
 stops_part _ nothing = tt
 stops_part _ (literal h) = tt
+stops_part _ (search-path h) = tt
 stops_part _ (name h) = tt
 stops_part _ (cur-pos h) = tt
 stops_part _ (stray h) = tt

@@ -1,6 +1,6 @@
 -- The grammar with recovery: which sketch of items is read from a list of items, with which errors, and what is left.
 use Rattle.std.specs.Prelude.{◌≡◌, ℕ, suc, ◌<◌, ◌≤◌, Bool, true, false, List, [], ◌∷◌, ◌++◌, Some}
-use Rattle.rnix_kinds.specs.declared.kinds.SyntaxKind.TheVariants.{TOKEN_CUR_POS, NODE_BIN_OP, NODE_APPLY, NODE_PAREN, NODE_LITERAL, NODE_IDENT, NODE_CUR_POS}
+use Rattle.rnix_kinds.specs.declared.kinds.SyntaxKind.TheVariants.{TOKEN_CUR_POS, NODE_BIN_OP, NODE_APPLY, NODE_PAREN, NODE_LITERAL, NODE_PATH_SEARCH, NODE_IDENT, NODE_CUR_POS}
 use Rattle.rnix_grammar.specs.declared.level.Level.{Level}
 use Rattle.rnix_grammar.specs.declared.level.Level.TheVariants.{PipeRight, Disjunction, Conjunction, Sum, Product, Application}
 use Rattle.rnix_grammar.specs.declared.begin.Begin.{Begin}
@@ -59,6 +59,8 @@ pub data Reads : ℕ → Part → Sketch → List Token → Sketch → List Faul
   nothing : {d : ℕ} → Reads d (Atom b.Nothing) blank [] blank (ended ∷ []) []
   literal : {d : ℕ} {t : Token} {ts : List Token}
       → begin_of (Some (lexeme_of t)) ≡ b.Literal → Reads d (Atom b.Literal) blank (t ∷ ts) (one_branch NODE_LITERAL (leaf_of t)) [] ts
+  search-path : {d : ℕ} {t : Token} {ts : List Token}
+      → begin_of (Some (lexeme_of t)) ≡ b.SearchPath → Reads d (Atom b.SearchPath) blank (t ∷ ts) (one_branch NODE_PATH_SEARCH (leaf_of t)) [] ts
   name : {d : ℕ} {t : Token} {ts : List Token}
       → begin_of (Some (lexeme_of t)) ≡ b.Name → Reads d (Atom b.Name) blank (t ∷ ts) (one_branch NODE_IDENT (leaf_of t)) [] ts
   cur-pos : {d : ℕ} {t : Token} {ts : List Token}

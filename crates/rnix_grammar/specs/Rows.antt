@@ -1,7 +1,7 @@
 -- The rows of the node kinds, as one automaton over the kinds of children; the errors of a sketch; what stands beside its error nodes.
 use Rattle.std.specs.Prelude.{◌≡◌, ◌⊎◌, ℕ, suc, ◌+◌, ◌<◌, ◌≤◌, Bool, true, false, ◌||◌, List, [], ◌∷◌, ◌++◌, Option, Some, None, length, if◌then◌else◌}
 use Rattle.rnix_kinds.specs.declared.kinds.SyntaxKind.{SyntaxKind}
-use Rattle.rnix_kinds.specs.declared.kinds.SyntaxKind.TheVariants.{TOKEN_ADD, TOKEN_SUB, TOKEN_MUL, TOKEN_DIV, TOKEN_PIPE_RIGHT, TOKEN_OR_OR, TOKEN_AND_AND, TOKEN_L_PAREN, TOKEN_R_PAREN, TOKEN_FLOAT, TOKEN_INTEGER, TOKEN_URI, TOKEN_IDENT, TOKEN_CUR_POS, NODE_ROOT, NODE_BIN_OP, NODE_APPLY, NODE_PAREN, NODE_LITERAL, NODE_IDENT, NODE_CUR_POS, NODE_ERROR}
+use Rattle.rnix_kinds.specs.declared.kinds.SyntaxKind.TheVariants.{TOKEN_ADD, TOKEN_SUB, TOKEN_MUL, TOKEN_DIV, TOKEN_PIPE_RIGHT, TOKEN_OR_OR, TOKEN_AND_AND, TOKEN_L_PAREN, TOKEN_R_PAREN, TOKEN_FLOAT, TOKEN_INTEGER, TOKEN_URI, TOKEN_PATH_SEARCH, TOKEN_IDENT, TOKEN_CUR_POS, NODE_ROOT, NODE_BIN_OP, NODE_APPLY, NODE_PAREN, NODE_LITERAL, NODE_PATH_SEARCH, NODE_IDENT, NODE_CUR_POS, NODE_ERROR}
 use Rattle.rnix_grammar.specs.declared.level.Level.TheVariants.{PipeRight, Disjunction, Conjunction, Sum, Product, Application}
 use Rattle.rnix_grammar.specs.declared.until.Until.{Until}
 use Rattle.rnix_grammar.specs.declared.until.Until.TheVariants.{RParen}
@@ -13,6 +13,7 @@ use Rattle.rnix_grammar.specs.Sketch.{Token, Note, Stray, Unwanted, Extra, TooDe
 abbrev pub is_simple : SyntaxKind → Bool
 is_simple NODE_PAREN = true
 is_simple NODE_LITERAL = true
+is_simple NODE_PATH_SEARCH = true
 is_simple NODE_IDENT = true
 is_simple NODE_CUR_POS = true
 is_simple NODE_APPLY = true
@@ -48,6 +49,10 @@ is_plain_literal TOKEN_INTEGER = true
 is_plain_literal TOKEN_URI = true
 is_plain_literal kind = false
 
+abbrev pub is_search_path : SyntaxKind → Bool
+is_search_path TOKEN_PATH_SEARCH = true
+is_search_path kind = false
+
 abbrev pub is_ident : SyntaxKind → Bool
 is_ident TOKEN_IDENT = true
 is_ident kind = false
@@ -65,6 +70,7 @@ pub data Place : Type 0 where
   RootStart : Place
   RootEnd : Place
   LiteralStart : Place
+  SearchPathStart : Place
   IdentStart : Place
   CurPosStart : Place
   BinStart : Place
@@ -86,6 +92,7 @@ to false q = Nowhere
 abbrev pub go : Place → SyntaxKind → Place
 go RootStart k = to (is_operand k) RootEnd
 go LiteralStart k = to (is_plain_literal k) Past
+go SearchPathStart k = to (is_search_path k) Past
 go IdentStart k = to (is_ident k) Past
 go CurPosStart k = to (is_cur_pos_token k) Past
 go BinStart k = to (is_operand k) BinOperator
@@ -102,6 +109,7 @@ go q k = Nowhere
 abbrev pub start : SyntaxKind → Place
 start NODE_ROOT = RootStart
 start NODE_LITERAL = LiteralStart
+start NODE_PATH_SEARCH = SearchPathStart
 start NODE_IDENT = IdentStart
 start NODE_CUR_POS = CurPosStart
 start NODE_BIN_OP = BinStart

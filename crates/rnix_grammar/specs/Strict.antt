@@ -1,7 +1,7 @@
 -- The strict grammar: which trees of which level there are, without trivia and error nodes.
 use Rattle.std.specs.Prelude.{◌≡◌, ℕ, suc, max, Bool, true, false, List, [], ◌∷◌, ◌++◌, Option, Some, None}
 use Rattle.rnix_kinds.specs.declared.kinds.SyntaxKind.{SyntaxKind}
-use Rattle.rnix_kinds.specs.declared.kinds.SyntaxKind.TheVariants.{TOKEN_L_PAREN, TOKEN_R_PAREN, TOKEN_IDENT, TOKEN_CUR_POS, NODE_BIN_OP, NODE_APPLY, NODE_PAREN, NODE_LITERAL, NODE_IDENT, NODE_CUR_POS}
+use Rattle.rnix_kinds.specs.declared.kinds.SyntaxKind.TheVariants.{TOKEN_L_PAREN, TOKEN_R_PAREN, TOKEN_PATH_SEARCH, TOKEN_IDENT, TOKEN_CUR_POS, NODE_BIN_OP, NODE_APPLY, NODE_PAREN, NODE_LITERAL, NODE_PATH_SEARCH, NODE_IDENT, NODE_CUR_POS}
 use Rattle.rnix_kinds.specs.Lexical.Tokens.{Lexeme}
 use Rattle.rnix_tree.specs.Forest.{Forest, empty, leaf, node, join}
 use Rattle.rnix_grammar.specs.declared.level.Level.{Level}
@@ -26,6 +26,7 @@ pub data IsStrict : Option Level → Forest → Type 0 where
       → IsStrict (Some l) (node NODE_BIN_OP (join f (leaf k t g)) empty)
   applied : {f g : Forest} → IsStrict (Some Application) f → IsStrict None g → IsStrict (Some Application) (node NODE_APPLY (join f g) empty)
   constant : (k : SyntaxKind) (t : List ℕ) → is_plain_literal k ≡ true → IsStrict None (node NODE_LITERAL (leaf k t empty) empty)
+  looked_up : (t : List ℕ) → IsStrict None (node NODE_PATH_SEARCH (leaf TOKEN_PATH_SEARCH t empty) empty)
   named : (t : List ℕ) → is_cur_pos t ≡ false → IsStrict None (node NODE_IDENT (leaf TOKEN_IDENT t empty) empty)
   position : (t : List ℕ) → is_cur_pos t ≡ true → IsStrict None (node NODE_CUR_POS (leaf TOKEN_CUR_POS t empty) empty)
   enclosed : {f : Forest} (t u : List ℕ) → IsStrict (Some PipeRight) f

@@ -13,6 +13,7 @@ pub enum Begin {
     Paren,
     /// A number or a URI.
     Literal,
+    SearchPath,
     /// `__curPos`.
     CurPos,
     Name,
@@ -30,6 +31,7 @@ pub fn begin_of(next: Option<Token<'_>>) -> Begin
         Some((SyntaxKind::TOKEN_FLOAT, _)) => Begin::Literal,
         Some((SyntaxKind::TOKEN_INTEGER, _)) => Begin::Literal,
         Some((SyntaxKind::TOKEN_URI, _)) => Begin::Literal,
+        Some((SyntaxKind::TOKEN_PATH_SEARCH, _)) => Begin::SearchPath,
         Some((SyntaxKind::TOKEN_IDENT, "__curPos")) => Begin::CurPos,
         Some((SyntaxKind::TOKEN_IDENT, _)) => Begin::Name,
         Some(_) => Begin::Stray,

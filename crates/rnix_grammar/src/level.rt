@@ -39,6 +39,7 @@ pub fn goes_on(level: Level, next: Option<SyntaxKind>) -> bool
                     | SyntaxKind::TOKEN_FLOAT
                     | SyntaxKind::TOKEN_INTEGER
                     | SyntaxKind::TOKEN_URI
+                    | SyntaxKind::TOKEN_PATH_SEARCH
                     | SyntaxKind::TOKEN_IDENT
             )
         ),

@@ -5,7 +5,7 @@ use Rattle.rnix_grammar.specs.declared.level.Level.TheVariants.{PipeRight, Disju
 use Rattle.rnix_grammar.specs.declared.until.Until.TheVariants.{RParen}
 use Rattle.rnix_grammar.specs.Fault.{Fault}
 use Rattle.rnix_grammar.specs.Sketch.{Token, Sketch, blank}
-use Rattle.rnix_grammar.specs.Reads.{Part, Expression, Operands, More, Simple, Atom, Wanted, Closing, Behind, Whole, operand_of, Reads, expression, too-deep, operands, stop, operator, argument, simple, nothing, literal, name, cur-pos, stray, paren, wanted-now, wanted-later, closed, ended-open, nothing-behind, something-behind, document}
+use Rattle.rnix_grammar.specs.Reads.{Part, Expression, Operands, More, Simple, Atom, Wanted, Closing, Behind, Whole, operand_of, Reads, expression, too-deep, operands, stop, operator, argument, simple, nothing, literal, search-path, name, cur-pos, stray, paren, wanted-now, wanted-later, closed, ended-open, nothing-behind, something-behind, document}
 use Rattle.rnix_parser.specs.Gives.{IsFull}
 
 nil_is_not_cons : {t : Token} {ts : List Token} → [] ≡ t ∷ ts → ⊥
@@ -22,6 +22,7 @@ shrinks _ (argument o a b) = omega (arith, shrinks Simple a, shrinks (More Appli
 shrinks _ (simple {begin = begin} h a) = shrinks (Atom begin) a
 shrinks _ nothing = omega arith
 shrinks _ (literal h) = omega arith
+shrinks _ (search-path h) = omega arith
 shrinks _ (name h) = omega arith
 shrinks _ (cur-pos h) = omega arith
 shrinks _ (stray h) = omega arith
@@ -63,6 +64,7 @@ moved _ (argument o a b) = tt
 moved _ (simple {begin = begin} h a) = moved (Atom begin) a
 moved _ nothing = λ t vs e. absurd (nil_is_not_cons e)
 moved _ (literal h) = λ t vs e. omega arith
+moved _ (search-path h) = λ t vs e. omega arith
 moved _ (name h) = λ t vs e. omega arith
 moved _ (cur-pos h) = λ t vs e. omega arith
 moved _ (stray h) = λ t vs e. omega arith
@@ -105,6 +107,7 @@ filled _ (argument o a b) = λ x. filled (More Application) b tt
 filled _ (simple {begin = begin} h a) = filled (Atom begin) a
 filled _ nothing = λ t vs e. absurd (nil_is_not_cons e)
 filled _ (literal h) = λ t vs e. tt
+filled _ (search-path h) = λ t vs e. tt
 filled _ (name h) = λ t vs e. tt
 filled _ (cur-pos h) = λ t vs e. tt
 filled _ (stray h) = λ t vs e. tt

@@ -148,6 +148,7 @@ fn read_atom(
     match begin_of(Some((item.kind, item.text))) {
         Begin::Paren => Ok(read_paren(p, item, depth)?),
         Begin::Literal => Ok(p.leaf_node(SyntaxKind::NODE_LITERAL, item.kind)?),
+        Begin::SearchPath => Ok(p.leaf_node(SyntaxKind::NODE_PATH_SEARCH, item.kind)?),
         Begin::Name => Ok(p.leaf_node(SyntaxKind::NODE_IDENT, item.kind)?),
         Begin::CurPos => Ok(p.leaf_node(SyntaxKind::NODE_CUR_POS, SyntaxKind::TOKEN_CUR_POS)?),
         Begin::Stray => Ok(p.stray(item)?),

@@ -1,9 +1,9 @@
 use Rattle.std.proofs.Common.{◌∙◌, sym, ap, arith, add-one}
-use Rattle.rnix_kinds.specs.declared.kinds.SyntaxKind.TheVariants.{TOKEN_CUR_POS, NODE_LITERAL, NODE_IDENT, NODE_CUR_POS}
+use Rattle.rnix_kinds.specs.declared.kinds.SyntaxKind.TheVariants.{TOKEN_CUR_POS, NODE_LITERAL, NODE_PATH_SEARCH, NODE_IDENT, NODE_CUR_POS}
 use Rattle.rnix_grammar.specs.declared.begin.Begin.TheVariants as b
 use Rattle.rnix_grammar.specs.Tables.{begin_of, goes_on}
 use Rattle.rnix_grammar.specs.Sketch.{lexeme_in, kind_in}
-use Rattle.rnix_grammar.specs.Reads.{simple, literal, name, cur-pos}
+use Rattle.rnix_grammar.specs.Reads.{simple, literal, search-path, name, cur-pos}
 use Rattle.rnix_parser.specs.Placed.{token_of}
 use Rattle.rnix_parser.proofs.RunLemmas.{item_there, none_there}
 use Rattle.rnix_parser.proofs.GivesLemmas.{nodes_given, nodes_added, one_open, still_open, level_starts, level_steps, level_stops, level_ends, level_checkpoint, argument_grows, right_grows, simple_given, leaf_given, paren_given, expression_given, count_started_at, count_operator, count_paren}
@@ -37,6 +37,12 @@ read_atom-returns-in_ok-leaf_node-in-Literal t c =
     let on = sym c.begin_of.ensures ∙ c.in-Literal.is in
     leaf_given c.args.depth NODE_LITERAL c.args.item.kind (token_of c.args.item) _ _ _ c.requires c.in_ok-leaf_node-in-Literal.ensures.state
     c.in_ok-leaf_node-in-Literal.ensures.place c.in_ok-leaf_node-in-Literal.ensures.inside (λ us. simple on (literal on))
+
+pub read_atom-returns-in_ok-leaf_node-in-SearchPath : goal.read_atom-returns-in_ok-leaf_node-in-SearchPath
+read_atom-returns-in_ok-leaf_node-in-SearchPath t c =
+    let on = sym c.begin_of.ensures ∙ c.in-SearchPath.is in
+    leaf_given c.args.depth NODE_PATH_SEARCH c.args.item.kind (token_of c.args.item) _ _ _ c.requires c.in_ok-leaf_node-in-SearchPath.ensures.state
+    c.in_ok-leaf_node-in-SearchPath.ensures.place c.in_ok-leaf_node-in-SearchPath.ensures.inside (λ us. simple on (search-path on))
 
 pub read_atom-returns-in_ok-leaf_node-in-Name : goal.read_atom-returns-in_ok-leaf_node-in-Name
 read_atom-returns-in_ok-leaf_node-in-Name t c =
