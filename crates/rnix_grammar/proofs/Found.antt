@@ -1,26 +1,28 @@
 -- Each strict tree is what is read from its tokens, and nothing else is.
-use Rattle.std.proofs.Common.{◌≡◌, ℕ, suc, ◌+◌, ◌<◌, ◌≤◌, true, false, List, [], ◌∷◌, ◌++◌, map, Option, Some, None, refl, ap, sym, ◌∙◌, subst, append_assoc, append-nil, arith}
+use Rattle.std.proofs.Common.{◌≡◌, ℕ, suc, ◌+◌, ◌<◌, ◌≤◌, Bool, true, false, List, [], ◌∷◌, ◌++◌, map, Option, Some, None, refl, ap, sym, ◌∙◌, subst, append_assoc, append-nil, arith}
 use Rattle.std.specs.Prelude.{if◌then◌else◌}
 use Rattle.rnix_kinds.specs.declared.kinds.SyntaxKind.{SyntaxKind}
-use Rattle.rnix_kinds.specs.declared.kinds.SyntaxKind.TheVariants.{TOKEN_ADD, TOKEN_SUB, TOKEN_MUL, TOKEN_DIV, TOKEN_PIPE_RIGHT, TOKEN_OR_OR, TOKEN_AND_AND, TOKEN_L_PAREN, TOKEN_R_PAREN, TOKEN_PATH_SEARCH, TOKEN_IDENT, TOKEN_CUR_POS, NODE_BIN_OP, NODE_APPLY, NODE_PAREN, NODE_LITERAL, NODE_PATH_SEARCH, NODE_IDENT, NODE_CUR_POS}
+use Rattle.rnix_kinds.specs.declared.kinds.SyntaxKind.TheVariants.{TOKEN_ADD, TOKEN_SUB, TOKEN_MUL, TOKEN_DIV, TOKEN_PIPE_RIGHT, TOKEN_OR_OR, TOKEN_AND_AND, TOKEN_L_PAREN, TOKEN_R_PAREN, TOKEN_L_BRACK, TOKEN_R_BRACK, TOKEN_PATH_SEARCH, TOKEN_IDENT, TOKEN_CUR_POS, NODE_BIN_OP, NODE_APPLY, NODE_PAREN, NODE_LIST, NODE_LITERAL, NODE_PATH_SEARCH, NODE_IDENT, NODE_CUR_POS}
 use Rattle.rnix_kinds.specs.Lexical.Tokens.{Lexeme}
 use Rattle.rnix_tree.specs.Forest.{Forest, empty, leaf, node, join}
+use Rattle.rnix_tree.proofs.ForestLemmas.{join_assoc}
 use Rattle.rnix_grammar.specs.declared.level.Level.{Level}
 use Rattle.rnix_grammar.specs.declared.level.Level.TheVariants.{PipeRight, Disjunction, Conjunction, Sum, Product, Application}
 use Rattle.rnix_grammar.specs.declared.begin.Begin.{Begin}
 use Rattle.rnix_grammar.specs.declared.begin.Begin.TheVariants as b
 use Rattle.rnix_grammar.specs.declared.until.Until.TheVariants.{RParen}
 use Rattle.rnix_grammar.specs.Fault.{Fault}
-use Rattle.rnix_grammar.specs.Tables.{begin_of, goes_on, stops, is_cur_pos, depth_limit}
+use Rattle.rnix_grammar.specs.Tables.{begin_of, goes_on, has_more_items, stops, is_cur_pos, depth_limit}
 use Rattle.rnix_grammar.specs.Sketch.{Token, Sketch, blank, token, ◌⊕◌, one_branch, leaf_of, forget, head_kind, head_lexeme, lexeme_of}
-use Rattle.rnix_grammar.specs.Reads.{Expression, Operands, More, Simple, Atom, Wanted, Closing, Behind, Whole, operand_of, has_operator, Reads, expression, too-deep, operands, stop, operator, argument, simple, literal, search-path, name, cur-pos, paren, wanted-now, wanted-later, closed, ended-open, nothing-behind, something-behind, document}
-use Rattle.rnix_grammar.specs.Strict.{tighter, IsStrict, tight, binary, applied, constant, looked_up, named, position, enclosed, untold, yield, nesting}
+use Rattle.rnix_grammar.specs.Parts.{Expression, Item, Part, Inside, Operands, More, Simple, Atom, Items, Wanted, Closing, Behind, Whole, operand_of, has_operator}
+use Rattle.rnix_grammar.specs.Reads.{Reads, inside, too-deep, operands, stop, operator, argument, simple, literal, search-path, name, cur-pos, paren, list, items-closed, items-ended, items-more, wanted-now, wanted-later, closed, ended-open, nothing-behind, something-behind, document}
+use Rattle.rnix_grammar.specs.Strict.{IsStrict, tight, binary, applied, constant, looked_up, named, position, enclosed, listed, no_items, more_items, loosest, untold, yield, has_node, deeper, nesting}
 use Rattle.rnix_grammar.proofs.SketchLemmas.{⊕-blank, forget-⊕}
 use Rattle.rnix_grammar.specs.Rows.{is_infix, is_plain_literal}
 use Rattle.rnix_grammar.proofs.LiteralLemmas.{literal_begins, literal_goes, literal_untold}
 use Rattle.rnix_grammar.proofs.Basics.{true_is_not_false}
 use Rattle.rnix_grammar.proofs.StopsLemmas.{StopsBefore, InsideBefore}
-use Rattle.rnix_grammar.proofs.Sounds.{level_infix}
+use Rattle.rnix_grammar.proofs.LevelLemmas.{level_infix}
 
 -- the lexemes of two rows
 yield-join : (f g : Forest) → yield (join f g) ≡ yield f ++ yield g
@@ -28,9 +30,13 @@ yield-join empty g = refl
 yield-join (leaf k t f) g = ap (λ x. (untold k, t) ∷ x) (yield-join f g)
 yield-join (node k c f) g = ap (λ x. yield c ++ x) (yield-join f g) ∙ sym (append_assoc (yield c) (yield f) (yield g))
 
+-- and a rest
+yield_two : (f g : Forest) (rest : List Lexeme) → yield (join f g) ++ rest ≡ yield f ++ (yield g ++ rest)
+yield_two f g rest = ap (λ x. x ++ rest) (yield-join f g) ∙ append_assoc (yield f) (yield g) rest
+
 -- the lexemes of a node over two rows, before a rest
 yield_node : (k : SyntaxKind) (f g : Forest) (rest : List Lexeme) → yield (node k (join f g) empty) ++ rest ≡ yield f ++ (yield g ++ rest)
-yield_node k f g rest = ap (λ x. x ++ rest) (append-nil (yield (join f g)) ∙ yield-join f g) ∙ append_assoc (yield f) (yield g) rest
+yield_node k f g rest = ap (λ x. x ++ rest) (append-nil (yield (join f g))) ∙ yield_two f g rest
 
 -- the first part of a row is nested no deeper than the row
 nesting_left : (f g : Forest) → nesting f ≤ nesting (join f g)
@@ -88,14 +94,29 @@ pub record Begun (d : ℕ) (l : Level) (f : Forest) (rest : List Lexeme) (g : Sk
   pub left : map lexeme_of behind ≡ rest
   pub more : Reads d (More l) before behind g es us
 
--- what a strict tree gives, where its lexemes and a rest that does not go on stand
-abbrev pub Claim : Option Level → Forest → Type 0
-Claim None f =
-    (d : ℕ) (rest : List Lexeme) (ts : List Token) (g : Sketch) (es : List Fault) (us : List Token) → d + nesting f ≤ depth_limit → map lexeme_of ts ≡ yield f ++ rest
+-- the lexemes stand before a rest
+abbrev pub StandBefore : Forest → List Lexeme → List Token → Type 0
+StandBefore f rest ts = map lexeme_of ts ≡ yield f ++ rest
+
+-- no operator goes on, and no argument
+abbrev pub EndsExpression : List Lexeme → Type 0
+EndsExpression rest = (goes_on PipeRight (first_of rest) ≡ false) × EndsInside PipeRight rest
+
+-- what a strict tree of a part gives, where its lexemes and a rest that does not go on stand
+abbrev pub Claim : Part → Forest → Type 0
+Claim Simple f =
+    (d : ℕ) (rest : List Lexeme) (ts : List Token) (g : Sketch) (es : List Fault) (us : List Token) → d + nesting f ≤ depth_limit → StandBefore f rest ts
     → Reads d Simple blank ts g es us → Got f rest g es us
-Claim (Some l) f =
-    (d : ℕ) (rest : List Lexeme) (ts : List Token) (g : Sketch) (es : List Fault) (us : List Token) → d + nesting f ≤ depth_limit → map lexeme_of ts ≡ yield f ++ rest → EndsInside l rest
+Claim (Operands l) f =
+    (d : ℕ) (rest : List Lexeme) (ts : List Token) (g : Sketch) (es : List Fault) (us : List Token) → d + nesting f ≤ depth_limit → StandBefore f rest ts → EndsInside l rest
     → Reads d (Operands l) blank ts g es us → Begun d l f rest g es us
+Claim (Inside Expression) f =
+    (d : ℕ) (rest : List Lexeme) (ts : List Token) (g : Sketch) (es : List Fault) (us : List Token) → d + suc (nesting f) ≤ depth_limit → StandBefore f rest ts → EndsExpression rest
+    → Reads d (Inside Expression) blank ts g es us → Got f rest g es us
+Claim Items f =
+    (d : ℕ) (u : List ℕ) (rest : List Lexeme) (ts : List Token) (g : Sketch) (es : List Fault) (us : List Token) → d + deeper (has_node f) (nesting f) ≤ depth_limit
+    → StandBefore f ((TOKEN_R_BRACK, u) ∷ rest) ts → Reads d Items blank ts g es us → Got (join f (leaf TOKEN_R_BRACK u empty)) rest g es us
+Claim part f = Unit {0}
 
 -- a level that stands where it does not go on is at its end
 level_ends : (l : Level) {d : ℕ} {f : Forest} {rest : List Lexeme} {a g : Sketch} {es : List Fault} {ts us : List Token}
@@ -110,7 +131,7 @@ left_ends : (l : Level) {d : ℕ} {f : Forest} {rest : List Lexeme} {g : Sketch}
 left_ends l h w = level_ends l w.forest w.left h w.more
 
 -- the operand of a level is read whole
-operand_found : (l : Level) (f : Forest) → Claim (tighter l) f → (d : ℕ) (rest : List Lexeme) (ts : List Token) (g : Sketch) (es : List Fault) (us : List Token)
+operand_found : (l : Level) (f : Forest) → Claim (operand_of l) f → (d : ℕ) (rest : List Lexeme) (ts : List Token) (g : Sketch) (es : List Fault) (us : List Token)
     → d + nesting f ≤ depth_limit → map lexeme_of ts ≡ yield f ++ rest → EndsInside l rest → Reads d (operand_of l) blank ts g es us → Got f rest g es us
 operand_found PipeRight f claim d rest ts g es us n e h r = left_ends Disjunction h.0 (claim d rest ts g es us n e h.1 r)
 operand_found Disjunction f claim d rest ts g es us n e h r = left_ends Conjunction h.0 (claim d rest ts g es us n e h.1 r)
@@ -131,7 +152,7 @@ goes_along l {d = d} {b = b} {g = g} {fs = fs} {ts = ts} {us = us} got h m r = r
 }
 
 -- an operand alone is a tree of its level
-tight_case : (l : Level) (f : Forest) → Claim (tighter l) f → Claim (Some l) f
+tight_case : (l : Level) (f : Forest) → Claim (operand_of l) f → Claim (Operands l) f
 tight_case l f claim d rest ts g es us n e h (operands {f = a} {es = es1} {us = us1} r more) =
     let got : Got f rest a es1 us1 = operand_found l f claim d rest ts a es1 us1 n e h r in
     goes_along l got got.forest got.left more
@@ -184,7 +205,7 @@ binary_node {f = f} {g = g} {k = k} {t = t} a c u h i j =
     (forget-⊕ a (token u.kind u c) ∙ ap (λ x. join x (leaf u.kind u.text (forget c))) h ∙ ap (λ (x : Lexeme). join f (leaf x.0 x.1 (forget c))) i ∙ ap (λ x. join f (leaf k t x)) j)
 
 -- the level goes on with the operator and its right operand
-binary_goes : (l : Level) (f g : Forest) (k : SyntaxKind) (t : List ℕ) → has_operator l ≡ true → goes_on l (Some k) ≡ true → Claim (tighter l) g
+binary_goes : (l : Level) (f g : Forest) (k : SyntaxKind) (t : List ℕ) → has_operator l ≡ true → goes_on l (Some k) ≡ true → Claim (operand_of l) g
     → {d : ℕ} {rest : List Lexeme} {a h : Sketch} {es : List Fault} {ts us : List Token} → d + nesting g ≤ depth_limit → forget a ≡ f → map lexeme_of ts ≡ (k, t) ∷ (yield g ++ rest)
     → EndsInside l rest → Reads d (More l) a ts h es us → Begun d l (node NODE_BIN_OP (join f (leaf k t g)) empty) rest h es us
 binary_goes l f g k t w o claim {rest = rest} {ts = ts} n e m i (stop q) =
@@ -195,8 +216,8 @@ binary_goes l f g k t w o claim {d = d} {rest = rest} {a = a} n e m i (operator 
 binary_goes l f g k t w o claim n e m i (argument q r more) = absurd (true_is_not_false (sym w))
 
 -- a tree with an operator is found if its operands are
-binary_case : (l : Level) (f g : Forest) (k : SyntaxKind) (t : List ℕ) → has_operator l ≡ true → goes_on l (Some k) ≡ true → Claim (Some l) f → Claim (tighter l) g
-    → Claim (Some l) (node NODE_BIN_OP (join f (leaf k t g)) empty)
+binary_case : (l : Level) (f g : Forest) (k : SyntaxKind) (t : List ℕ) → has_operator l ≡ true → goes_on l (Some k) ≡ true → Claim (Operands l) f → Claim (operand_of l) g
+    → Claim (Operands l) (node NODE_BIN_OP (join f (leaf k t g)) empty)
 binary_case l f g k t w o claim_left claim_right d rest ts h es us n e i r =
     let same : yield (node NODE_BIN_OP (join f (leaf k t g)) empty) ++ rest ≡ yield f ++ ((k, t) ∷ (yield g ++ rest)) =
     yield_node NODE_BIN_OP f (leaf k t g) rest ∙ ap (λ (x : SyntaxKind). yield f ++ ((x, t) ∷ (yield g ++ rest))) (operator_untold l k w o) in
@@ -214,15 +235,16 @@ pub record Begins (f : Forest) : Type 0 where
   pub goes : goes_on Application (Some first.0) ≡ true
 
 -- each of the simple trees does so
-begins : {f : Forest} → IsStrict None f → Begins f
+begins : {f : Forest} → IsStrict Simple f → Begins f
 begins (constant k t h) = record { first = (k, t); others = []; yields = ap (λ x. (x, t) ∷ []) (literal_untold k h); goes = literal_goes k h }
 begins (looked_up t) = record { first = (TOKEN_PATH_SEARCH, t); others = []; yields = refl; goes = refl }
 begins (named t h) = record { first = (TOKEN_IDENT, t); others = []; yields = refl; goes = refl }
 begins (position t h) = record { first = (TOKEN_IDENT, t); others = []; yields = refl; goes = refl }
 begins (enclosed {f = f} t u s) = record { first = (TOKEN_L_PAREN, t); others = yield (join f (leaf TOKEN_R_PAREN u empty)) ++ []; yields = refl; goes = refl }
+begins (listed {f = f} t u s) = record { first = (TOKEN_L_BRACK, t); others = yield (join f (leaf TOKEN_R_BRACK u empty)) ++ []; yields = refl; goes = refl }
 
 -- the level goes on with the argument
-applied_goes : (f g : Forest) → Begins g → Claim None g
+applied_goes : (f g : Forest) → Begins g → Claim Simple g
     → {d : ℕ} {rest : List Lexeme} {a h : Sketch} {es : List Fault} {ts us : List Token} → d + nesting g ≤ depth_limit → forget a ≡ f → map lexeme_of ts ≡ yield g ++ rest
     → Reads d (More Application) a ts h es us → Begun d Application (node NODE_APPLY (join f g) empty) rest h es us
 applied_goes f g w claim {rest = rest} {ts = ts} n e m (stop q) =
@@ -233,7 +255,7 @@ applied_goes f g w claim {d = d} {rest = rest} {a = a} {ts = ts} n e m (argument
     goes_along Application got (ap (λ x. node NODE_APPLY x empty) (forget-⊕ a c ∙ ap (λ x. join x (forget c)) e ∙ ap (λ x. join f x) got.forest)) got.left more
 
 -- a function with an argument is found if both are
-applied_case : (f g : Forest) → Begins g → Claim (Some Application) f → Claim None g → Claim (Some Application) (node NODE_APPLY (join f g) empty)
+applied_case : (f g : Forest) → Begins g → Claim (Operands Application) f → Claim Simple g → Claim (Operands Application) (node NODE_APPLY (join f g) empty)
 applied_case f g w claim_left claim_right d rest ts h es us n e i r =
     let left_small : nesting f ≤ nesting (join f g) = nesting_left f g in
     let right_small : nesting g ≤ nesting (join f g) = nesting_right f g in
@@ -298,17 +320,16 @@ wanted_found {t = t} {rest = rest} {ts = ts} e (wanted-later {us = us1} u ran w 
     absurd (true_is_not_false (sym (ap (stops RParen) (ap head_kind (sym i) ∙ head_first ts ((TOKEN_R_PAREN, t) ∷ rest) e)) ∙ w.0))
 
 -- an expression that is not nested too deep is found
-expression_found : (f : Forest) → Claim (Some PipeRight) f → (d : ℕ) (rest : List Lexeme) (ts : List Token) (g : Sketch) (es : List Fault) (us : List Token) → d + suc (nesting f) ≤ depth_limit
-    → map lexeme_of ts ≡ yield f ++ rest → goes_on PipeRight (first_of rest) ≡ false → EndsInside PipeRight rest → Reads d Expression blank ts g es us → Got f rest g es us
-expression_found f claim d rest ts g es us n e h i (expression small r) = left_ends PipeRight h (claim (suc d) rest ts g es us (omega (arith, n)) e i r)
-expression_found f claim d rest ts g es us n e h i (too-deep large) = absurd (omega (arith, n, large))
+expression_case : (f : Forest) → Claim (Operands PipeRight) f → Claim (Inside Expression) f
+expression_case f claim d rest ts g es us n e h (inside small r) = left_ends PipeRight h.0 (claim (suc d) rest ts g es us (omega (arith, n)) e h.1 r)
+expression_case f claim d rest ts g es us n e h (too-deep large) = absurd (omega (arith, n, large))
 
 -- what is read where a parenthesis stands is the parenthesis, if the expression in it is found
-paren_found : (f : Forest) → Claim (Some PipeRight) f → (t u : List ℕ) {d : ℕ} {rest : List Lexeme} {g : Sketch} {es : List Fault} {ts us : List Token} {w : Token}
+paren_found : (f : Forest) → Claim (Inside Expression) f → (t u : List ℕ) {d : ℕ} {rest : List Lexeme} {g : Sketch} {es : List Fault} {ts us : List Token} {w : Token}
     → d + suc (nesting f) ≤ depth_limit → lexeme_of w ≡ (TOKEN_L_PAREN, t) → map lexeme_of ts ≡ yield f ++ ((TOKEN_R_PAREN, u) ∷ rest)
     → Reads d (Atom b.Paren) blank (w ∷ ts) g es us → Got (node NODE_PAREN (leaf TOKEN_L_PAREN t (join f (leaf TOKEN_R_PAREN u empty))) empty) rest g es us
 paren_found f claim t u {d = d} {rest = rest} {ts = ts} {us = us} {w = w} n e m (paren {f = a} {g = c} {es = es1} {fs = fs1} {us = us1} o r close) =
-    let got : Got f ((TOKEN_R_PAREN, u) ∷ rest) a es1 us1 = expression_found f claim d ((TOKEN_R_PAREN, u) ∷ rest) ts a es1 us1 n m refl (refl, (refl, (refl, (refl, (refl, tt))))) r in
+    let got : Got f ((TOKEN_R_PAREN, u) ∷ rest) a es1 us1 = claim d ((TOKEN_R_PAREN, u) ∷ rest) ts a es1 us1 n m (refl, (refl, (refl, (refl, (refl, (refl, tt)))))) r in
     let shut : Got (leaf TOKEN_R_PAREN u empty) rest c fs1 us = wanted_found got.left close in
     record {
       forest =
@@ -318,52 +339,154 @@ paren_found f claim t u {d = d} {rest = rest} {ts = ts} {us = us} {w = w} n e m 
       left = shut.left;
     }
 
--- the lexemes of a parenthesis, before a rest
-yield_paren : (f : Forest) (t u : List ℕ) (rest : List Lexeme)
-    → yield (node NODE_PAREN (leaf TOKEN_L_PAREN t (join f (leaf TOKEN_R_PAREN u empty))) empty) ++ rest ≡ (TOKEN_L_PAREN, t) ∷ (yield f ++ ((TOKEN_R_PAREN, u) ∷ rest))
-yield_paren f t u rest = ap (λ x. (TOKEN_L_PAREN, t) ∷ x) (yield_node NODE_PAREN f (leaf TOKEN_R_PAREN u empty) rest)
+-- the lexemes of a node between two tokens, before a rest
+yield_between : (k j i : SyntaxKind) (f : Forest) (t u : List ℕ) (rest : List Lexeme)
+    → yield (node k (leaf j t (join f (leaf i u empty))) empty) ++ rest ≡ (untold j, t) ∷ (yield f ++ ((untold i, u) ∷ rest))
+yield_between k j i f t u rest = ap (λ x. (untold j, t) ∷ x) (yield_node k f (leaf i u empty) rest)
 
 -- literals are found
-literal_case : (k : SyntaxKind) (t : List ℕ) → is_plain_literal k ≡ true → Claim None (node NODE_LITERAL (leaf k t empty) empty)
+literal_case : (k : SyntaxKind) (t : List ℕ) → is_plain_literal k ≡ true → Claim Simple (node NODE_LITERAL (leaf k t empty) empty)
 literal_case k t h d rest ts g es us n e r =
     let s : Split (k, t) rest ts = split (k, t) rest ts (e ∙ ap (λ x. (x, t) ∷ rest) (literal_untold k h)) in
     literal_found s.first s.others (atom_of b.Literal (k, t) rest s (literal_begins k t h) r)
 
 -- search paths are found
-search_path_case : (t : List ℕ) → Claim None (node NODE_PATH_SEARCH (leaf TOKEN_PATH_SEARCH t empty) empty)
+search_path_case : (t : List ℕ) → Claim Simple (node NODE_PATH_SEARCH (leaf TOKEN_PATH_SEARCH t empty) empty)
 search_path_case t d rest ts g es us n e r =
     let s : Split (TOKEN_PATH_SEARCH, t) rest ts = split (TOKEN_PATH_SEARCH, t) rest ts e in
     search_path_found s.first s.others (atom_of b.SearchPath (TOKEN_PATH_SEARCH, t) rest s refl r)
 
 -- names are found
-name_case : (t : List ℕ) → is_cur_pos t ≡ false → Claim None (node NODE_IDENT (leaf TOKEN_IDENT t empty) empty)
+name_case : (t : List ℕ) → is_cur_pos t ≡ false → Claim Simple (node NODE_IDENT (leaf TOKEN_IDENT t empty) empty)
 name_case t h d rest ts g es us n e r =
     let s : Split (TOKEN_IDENT, t) rest ts = split (TOKEN_IDENT, t) rest ts e in
     name_found s.first s.others (atom_of b.Name (TOKEN_IDENT, t) rest s (ap (λ x. if x then b.CurPos else b.Name) h) r)
 
 -- the current position is found
-position_case : (t : List ℕ) → is_cur_pos t ≡ true → Claim None (node NODE_CUR_POS (leaf TOKEN_CUR_POS t empty) empty)
+position_case : (t : List ℕ) → is_cur_pos t ≡ true → Claim Simple (node NODE_CUR_POS (leaf TOKEN_CUR_POS t empty) empty)
 position_case t h d rest ts g es us n e r =
     let s : Split (TOKEN_IDENT, t) rest ts = split (TOKEN_IDENT, t) rest ts e in
     position_found s.first s.others (atom_of b.CurPos (TOKEN_IDENT, t) rest s (ap (λ x. if x then b.CurPos else b.Name) h) r)
 
 -- a parenthesis is found if the expression in it is
-enclosed_case : (f : Forest) (t u : List ℕ) → Claim (Some PipeRight) f → Claim None (node NODE_PAREN (leaf TOKEN_L_PAREN t (join f (leaf TOKEN_R_PAREN u empty))) empty)
+enclosed_case : (f : Forest) (t u : List ℕ) → Claim (Inside Expression) f → Claim Simple (node NODE_PAREN (leaf TOKEN_L_PAREN t (join f (leaf TOKEN_R_PAREN u empty))) empty)
 enclosed_case f t u claim d rest ts g es us n e r =
-    let s : Split (TOKEN_L_PAREN, t) (yield f ++ ((TOKEN_R_PAREN, u) ∷ rest)) ts = split (TOKEN_L_PAREN, t) (yield f ++ ((TOKEN_R_PAREN, u) ∷ rest)) ts (e ∙ yield_paren f t u rest) in
+    let s : Split (TOKEN_L_PAREN, t) (yield f ++ ((TOKEN_R_PAREN, u) ∷ rest)) ts = split (TOKEN_L_PAREN, t) (yield f ++ ((TOKEN_R_PAREN, u) ∷ rest)) ts (e ∙ yield_between NODE_PAREN TOKEN_L_PAREN TOKEN_R_PAREN f t u rest) in
     let small : nesting f ≤ nesting (join f (leaf TOKEN_R_PAREN u empty)) = nesting_left f (leaf TOKEN_R_PAREN u empty) in
     paren_found f claim t u (omega (arith, n, small)) s.first s.others (atom_of b.Paren (TOKEN_L_PAREN, t) (yield f ++ ((TOKEN_R_PAREN, u) ∷ rest)) s refl r)
 
+-- no item is a closing bracket
+not_closing : (k : SyntaxKind) → goes_on Application (Some k) ≡ true → has_more_items (Some k) ≡ false → ⊥
+not_closing TOKEN_R_BRACK h o = true_is_not_false (sym h)
+not_closing _ h o = true_is_not_false o
+
+-- where a bracket closes, no item is read
+items_end : {d : ℕ} {u : List ℕ} {rest : List Lexeme} {g : Sketch} {es : List Fault} {ts us : List Token} → map lexeme_of ts ≡ (TOKEN_R_BRACK, u) ∷ rest
+    → Reads d Items blank ts g es us → Got (leaf TOKEN_R_BRACK u empty) rest g es us
+items_end e (items-closed o) = record { forest = ap (λ (x : Lexeme). leaf x.0 x.1 empty) (first_same e); none = refl; left = others_same e }
+items_end e items-ended = absurd (nil_is_not_cons e)
+items_end {u = u} {rest = rest} {ts = ts} e (items-more o a b) = absurd (true_is_not_false (sym o ∙ ap has_more_items (head_first ts ((TOKEN_R_BRACK, u) ∷ rest) e)))
+
+-- an item that is not nested too deep is found
+item_found : (f : Forest) → Claim Simple f → (d : ℕ) (rest : List Lexeme) (ts : List Token) (g : Sketch) (es : List Fault) (us : List Token) → d + suc (nesting f) ≤ depth_limit
+    → StandBefore f rest ts → Reads d (Inside Item) blank ts g es us → Got f rest g es us
+item_found f claim d rest ts g es us n e (inside small r) = claim (suc d) rest ts g es us (omega (arith, n)) e r
+item_found f claim d rest ts g es us n e (too-deep large) = absurd (omega (arith, n, large))
+
+-- what counts once is one more at most
+deeper_less : (x : Bool) (m n : ℕ) → m ≤ n → deeper x m ≤ suc n
+deeper_less true m n h = omega (arith, h)
+deeper_less false m n h = omega (arith, h)
+
+-- what is read where an item and more items stand
+items_found : (f g : Forest) → Begins f → Claim Simple f → Claim Items g → (u : List ℕ) {d : ℕ} {rest : List Lexeme} {k : Sketch} {es : List Fault} {ts us : List Token}
+    → d + suc (nesting (join f g)) ≤ depth_limit → map lexeme_of ts ≡ yield f ++ (yield g ++ ((TOKEN_R_BRACK, u) ∷ rest)) → Reads d Items blank ts k es us
+    → Got (join (join f g) (leaf TOKEN_R_BRACK u empty)) rest k es us
+items_found f g w claim_item claim_more u {rest = rest} n e (items-closed {t = t} o) =
+    let same : lexeme_of t ≡ w.first = first_same (e ∙ ap (λ x. x ++ (yield g ++ ((TOKEN_R_BRACK, u) ∷ rest))) w.yields) in
+    absurd (not_closing t.kind (ap (λ (x : Lexeme). goes_on Application (Some x.0)) same ∙ w.goes) o)
+items_found f g w claim_item claim_more u {rest = rest} n e items-ended = absurd (nil_is_not_cons (e ∙ ap (λ x. x ++ (yield g ++ ((TOKEN_R_BRACK, u) ∷ rest))) w.yields))
+items_found f g w claim_item claim_more u {d = d} {rest = rest} {ts = ts} {us = us} n e (items-more {f = a} {g = c} {es = es1} {fs = fs1} {us = us1} o one more) =
+    let left_small : nesting f ≤ nesting (join f g) = nesting_left f g in
+    let right_small : deeper (has_node g) (nesting g) ≤ suc (nesting (join f g)) = deeper_less (has_node g) (nesting g) (nesting (join f g)) (nesting_right f g) in
+    let got : Got f (yield g ++ ((TOKEN_R_BRACK, u) ∷ rest)) a es1 us1 = item_found f claim_item d (yield g ++ ((TOKEN_R_BRACK, u) ∷ rest)) ts a es1 us1 (omega (arith, n, left_small)) e one in
+    let others : Got (join g (leaf TOKEN_R_BRACK u empty)) rest c fs1 us = claim_more d u rest us1 c fs1 us (omega (arith, n, right_small)) got.left more in
+    record {
+      forest =
+          forget-⊕ a c ∙ ap (λ x. join x (forget c)) got.forest ∙ ap (λ x. join f x) others.forest ∙ sym (join_assoc f g (leaf TOKEN_R_BRACK u empty));
+      none = both_none got.none others.none;
+      left = others.left;
+    }
+
+-- a row with a node has one in front of another row
+has_node_left : (f g : Forest) → has_node f ≡ true → has_node (join f g) ≡ true
+has_node_left empty g h = absurd (true_is_not_false (sym h))
+has_node_left (leaf k t f) g h = has_node_left f g h
+has_node_left (node k c f) g h = refl
+
+-- a leaf behind a row is no node
+has_node_leaf : (f : Forest) (k : SyntaxKind) (t : List ℕ) → has_node (join f (leaf k t empty)) ≡ has_node f
+has_node_leaf empty k t = refl
+has_node_leaf (leaf j s f) k t = has_node_leaf f k t
+has_node_leaf (node j c f) k t = refl
+
+-- each simple tree is a node
+simple_node : {f : Forest} → IsStrict Simple f → has_node f ≡ true
+simple_node (constant k t h) = refl
+simple_node (looked_up t) = refl
+simple_node (named t h) = refl
+simple_node (position t h) = refl
+simple_node (enclosed t u s) = refl
+simple_node (listed t u s) = refl
+
+-- items are found if each is
+items_case : (f g : Forest) → Begins f → has_node f ≡ true → Claim Simple f → Claim Items g → Claim Items (join f g)
+items_case f g w h claim_item claim_more d u rest ts k es us n e r =
+    let some : has_node (join f g) ≡ true = has_node_left f g h in
+    items_found f g w claim_item claim_more u (subst (λ (x : Bool). d + deeper x (nesting (join f g)) ≤ depth_limit) some n) (e ∙ yield_two f g ((TOKEN_R_BRACK, u) ∷ rest)) r
+
+-- what is read where a list stands is the list, if its items are found
+list_found : (f : Forest) → Claim Items f → (t u : List ℕ) {d : ℕ} {rest : List Lexeme} {g : Sketch} {es : List Fault} {ts us : List Token} {w : Token}
+    → d + deeper (has_node f) (nesting f) ≤ depth_limit → lexeme_of w ≡ (TOKEN_L_BRACK, t) → map lexeme_of ts ≡ yield f ++ ((TOKEN_R_BRACK, u) ∷ rest)
+    → Reads d (Atom b.Bracket) blank (w ∷ ts) g es us → Got (node NODE_LIST (leaf TOKEN_L_BRACK t (join f (leaf TOKEN_R_BRACK u empty))) empty) rest g es us
+list_found f claim t u {d = d} {rest = rest} {es = es} {ts = ts} {us = us} n e m (list {f = a} o r) =
+    let got : Got (join f (leaf TOKEN_R_BRACK u empty)) rest a es us = claim d u rest ts a es us n m r in
+    record {
+      forest = ap (λ (x : Lexeme). node NODE_LIST (leaf x.0 x.1 (forget a)) empty) e ∙ ap (λ x. node NODE_LIST (leaf TOKEN_L_BRACK t x) empty) got.forest;
+      none = got.none;
+      left = got.left;
+    }
+
+-- more inside is not less deep
+same_deeper : (x : Bool) (m n : ℕ) → m ≤ n → deeper x m ≤ deeper x n
+same_deeper true m n h = omega (arith, h)
+same_deeper false m n h = h
+
+-- a list is found if its items are
+listed_case : (f : Forest) (t u : List ℕ) → Claim Items f → Claim Simple (node NODE_LIST (leaf TOKEN_L_BRACK t (join f (leaf TOKEN_R_BRACK u empty))) empty)
+listed_case f t u claim d rest ts g es us n e r =
+    let inside : Forest = join f (leaf TOKEN_R_BRACK u empty) in
+    let s : Split (TOKEN_L_BRACK, t) (yield f ++ ((TOKEN_R_BRACK, u) ∷ rest)) ts =
+    split (TOKEN_L_BRACK, t) (yield f ++ ((TOKEN_R_BRACK, u) ∷ rest)) ts (e ∙ yield_between NODE_LIST TOKEN_L_BRACK TOKEN_R_BRACK f t u rest) in
+    let small : deeper (has_node f) (nesting f) ≤ deeper (has_node inside) (nesting inside) =
+    subst (λ (x : Bool). deeper x (nesting f) ≤ deeper (has_node inside) (nesting inside)) (has_node_leaf f TOKEN_R_BRACK u)
+    (same_deeper (has_node inside) (nesting f) (nesting inside) (nesting_left f (leaf TOKEN_R_BRACK u empty))) in
+    list_found f claim t u (omega (arith, n, small)) s.first s.others (atom_of b.Bracket (TOKEN_L_BRACK, t) (yield f ++ ((TOKEN_R_BRACK, u) ∷ rest)) s refl r)
+
 -- each strict tree is found
-strict_found : (l : Option Level) (f : Forest) → IsStrict l f → Claim l f
-strict_found _ f (tight {l = l} s) = tight_case l f (strict_found (tighter l) f s)
-strict_found _ _ (binary {l = l} {f = f} {g = g} k t w o s r) = binary_case l f g k t w o (strict_found (Some l) f s) (strict_found (tighter l) g r)
-strict_found _ _ (applied {f = f} {g = g} s r) = applied_case f g (begins r) (strict_found (Some Application) f s) (strict_found None g r)
+strict_found : (part : Part) (f : Forest) → IsStrict part f → Claim part f
+strict_found _ f (tight {l = l} s) = tight_case l f (strict_found (operand_of l) f s)
+strict_found _ _ (binary {l = l} {f = f} {g = g} k t w o s r) = binary_case l f g k t w o (strict_found (Operands l) f s) (strict_found (operand_of l) g r)
+strict_found _ _ (applied {f = f} {g = g} s r) = applied_case f g (begins r) (strict_found (Operands Application) f s) (strict_found Simple g r)
 strict_found _ _ (constant k t h) = literal_case k t h
 strict_found _ _ (looked_up t) = search_path_case t
 strict_found _ _ (named t h) = name_case t h
 strict_found _ _ (position t h) = position_case t h
-strict_found _ _ (enclosed {f = f} t u s) = enclosed_case f t u (strict_found (Some PipeRight) f s)
+strict_found _ _ (enclosed {f = f} t u s) = enclosed_case f t u (strict_found (Inside Expression) f s)
+strict_found _ _ (listed {f = f} t u s) = listed_case f t u (strict_found Items f s)
+strict_found _ _ no_items = λ d u rest ts g es us n e r. items_end e r
+strict_found _ _ (more_items {f = f} {g = g} s r) = items_case f g (begins s) (simple_node s) (strict_found Simple f s) (strict_found Items g r)
+strict_found _ f (loosest s) = expression_case f (strict_found (Operands PipeRight) f s)
 
 -- where no lexemes are left nothing is read behind the expression
 behind_found : {d : ℕ} {g : Sketch} {es : List Fault} {ts us : List Token} → map lexeme_of ts ≡ [] → Reads d Behind blank ts g es us → (es ≡ []) × (g ≡ blank)
@@ -371,9 +494,9 @@ behind_found e nothing-behind = (refl, refl)
 behind_found e something-behind = absurd (nil_is_not_cons (sym e))
 
 -- a strict expression whose lexemes are all that is read is what is read, with no error
-pub whole_found : (f : Forest) → IsStrict (Some PipeRight) f → nesting f < depth_limit → {ts : List Token} → map lexeme_of ts ≡ yield f → {g : Sketch} {es : List Fault} {us : List Token}
+pub whole_found : (f : Forest) → IsStrict (Inside Expression) f → nesting f < depth_limit → {ts : List Token} → map lexeme_of ts ≡ yield f → {g : Sketch} {es : List Fault} {us : List Token}
     → Reads 0 Whole blank ts g es us → (es ≡ []) × (forget g ≡ f)
 whole_found f s n {ts = ts} e (document {f = a} {g = c} {es = es1} {us = us1} r behind) =
-    let got : Got f [] a es1 us1 = expression_found f (strict_found (Some PipeRight) f s) 0 [] ts a es1 us1 (omega (arith, n)) (e ∙ sym (append-nil (yield f))) refl (refl, (refl, (refl, (refl, (refl, tt))))) r in
+    let got : Got f [] a es1 us1 = strict_found (Inside Expression) f s 0 [] ts a es1 us1 (omega (arith, n)) (e ∙ sym (append-nil (yield f))) (refl, (refl, (refl, (refl, (refl, (refl, tt)))))) r in
     let after = behind_found got.left behind in
     (both_none got.none after.0, ap (λ x. forget (a ⊕ x)) after.1 ∙ ap forget (⊕-blank a) ∙ got.forest)

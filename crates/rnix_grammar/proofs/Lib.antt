@@ -1,5 +1,7 @@
 pub mod Basics
 pub mod LiteralLemmas
+pub mod BeginLemmas
+pub mod LevelLemmas
 pub mod SketchLemmas
 pub mod RowLemmas
 pub mod StopsLemmas

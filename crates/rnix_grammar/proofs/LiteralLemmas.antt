@@ -1,11 +1,10 @@
 -- Tokens that are literals.
-use Rattle.std.proofs.Common.{◌≡◌, ℕ, List, Bool, true, false, Some, refl, sym}
-use Rattle.std.specs.Prelude.{if◌then◌else◌}
+use Rattle.std.proofs.Common.{◌≡◌, ℕ, List, true, Some, refl, sym}
 use Rattle.rnix_kinds.specs.declared.kinds.SyntaxKind.{SyntaxKind}
-use Rattle.rnix_kinds.specs.declared.kinds.SyntaxKind.TheVariants.{TOKEN_FLOAT, TOKEN_INTEGER, TOKEN_URI, TOKEN_PATH_SEARCH, TOKEN_IDENT, TOKEN_L_PAREN, NODE_LITERAL}
+use Rattle.rnix_kinds.specs.declared.kinds.SyntaxKind.TheVariants.{TOKEN_FLOAT, TOKEN_INTEGER, TOKEN_URI, NODE_LITERAL}
 use Rattle.rnix_grammar.specs.declared.begin.Begin.TheVariants as b
 use Rattle.rnix_grammar.specs.declared.level.Level.TheVariants.{Application}
-use Rattle.rnix_grammar.specs.Tables.{begin_of, goes_on, is_cur_pos}
+use Rattle.rnix_grammar.specs.Tables.{begin_of, goes_on}
 use Rattle.rnix_grammar.specs.Sketch.{told_as}
 use Rattle.rnix_grammar.specs.Rows.{is_plain_literal}
 use Rattle.rnix_grammar.specs.Strict.{untold}
@@ -17,20 +16,6 @@ literal_begins TOKEN_FLOAT t h = refl
 literal_begins TOKEN_INTEGER t h = refl
 literal_begins TOKEN_URI t h = refl
 literal_begins _ t h = absurd (true_is_not_false (sym h))
-
--- and nothing else begins a literal
-pub literal_kind : (k : SyntaxKind) (s : List ℕ) → begin_of (Some (k, s)) ≡ b.Literal → is_plain_literal k ≡ true
-literal_kind TOKEN_FLOAT s h = refl
-literal_kind TOKEN_INTEGER s h = refl
-literal_kind TOKEN_URI s h = refl
-literal_kind TOKEN_IDENT s h = absurd (name_is_not (is_cur_pos s) h)
-  where
-    name_is_not : (x : Bool) → (if x then b.CurPos else b.Name) ≡ b.Literal → ⊥
-    name_is_not true e = cc
-    name_is_not false e = cc
-literal_kind TOKEN_L_PAREN s h = absurd (cc)
-literal_kind TOKEN_PATH_SEARCH s h = absurd (cc)
-literal_kind _ s h = absurd (cc)
 
 -- they are arguments
 pub literal_goes : (k : SyntaxKind) → is_plain_literal k ≡ true → goes_on Application (Some k) ≡ true

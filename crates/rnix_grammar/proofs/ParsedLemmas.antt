@@ -9,7 +9,8 @@ use Rattle.rnix_grammar.specs.Fault.{Fault}
 use Rattle.rnix_grammar.specs.Sketch.{Token, Sketch, blank, row_of, tokens_in, forget, clean, placed_from, told_as, AreTold}
 use Rattle.rnix_grammar.specs.Layout.{items, dressed_whole}
 use Rattle.rnix_grammar.specs.Rows.{Place, RootStart, RootEnd, whole, is_row, missing, Stands, end, leaf, wrong, inner}
-use Rattle.rnix_grammar.specs.Reads.{Behind, Whole, Reads, nothing-behind, something-behind, document}
+use Rattle.rnix_grammar.specs.Parts.{Behind, Whole}
+use Rattle.rnix_grammar.specs.Reads.{Reads, nothing-behind, something-behind, document}
 use Rattle.rnix_grammar.specs.Mended.{mended, kinds_of, halves, AreBegun, ended_count, others, AreSettled, NoneEnded}
 use Rattle.rnix_grammar.specs.Shape.{IsShaped, AreFaultsTrimmed, reports}
 use Rattle.rnix_grammar.specs.Strict.{IsExpression}

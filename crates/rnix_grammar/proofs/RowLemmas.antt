@@ -2,11 +2,11 @@
 use Rattle.std.proofs.Common.{◌≡◌, ◌⊎◌, inl, inr, ℕ, suc, ◌+◌, Bool, true, false, List, [], ◌∷◌, ◌++◌, length, Option, Some, None, refl, ap, sym, ◌∙◌, subst, append_assoc, append-nil, arith, length-append}
 use Rattle.rnix_kinds.specs.declared.kinds.SyntaxKind.{SyntaxKind}
 use Rattle.rnix_tree.specs.Forest.{Forest, empty, node}
-use Rattle.rnix_grammar.specs.declared.level.Level.{Level}
 use Rattle.rnix_grammar.specs.Fault.{Fault, ended}
 use Rattle.rnix_grammar.specs.Sketch.{Token, Sketch, blank, token, branch, fault, ◌⊕◌, one_token, one_branch, tokens_in, told}
 use Rattle.rnix_grammar.specs.Rows.{Place, go, start, whole, live, missing, Past, seen_as, is_error, Stands, end, leaf, wrong, inner}
 use Rattle.rnix_grammar.specs.Mended.{NoneEnded, mended}
+use Rattle.rnix_grammar.specs.Parts.{Part}
 use Rattle.rnix_grammar.specs.Strict.{IsStrict}
 use Rattle.rnix_grammar.proofs.SketchLemmas.{⊕-blank, tokens_two, tokens_in-row_of}
 use Rattle.rnix_grammar.proofs.Basics.{true_is_not_false}
@@ -44,13 +44,13 @@ pub record Head (ts : List Token) : Type 0 where
   pub is : ts ≡ token ∷ more
 
 -- A part that stands where one operand may stand, of a kind that the class allows, inside of so many nodes and behind so many items as
--- the condition tells; or the end of the text in its place. Mended, and without an error of the end, it is strict at the level.
-pub data Operand (Deep : ℕ → ℕ → Type 0) (class : SyntaxKind → Bool) (l : Option Level) : List Token → Sketch → List Fault → List Token → Type 0 where
-  missed : Operand Deep class l [] blank (ended ∷ []) []
+-- the condition tells; or the end of the text in its place. Mended, and without an error of the end, it is strict as the grammar's part.
+pub data Operand (Deep : ℕ → ℕ → Type 0) (class : SyntaxKind → Bool) (part : Part) : List Token → Sketch → List Fault → List Token → Type 0 where
+  missed : Operand Deep class part [] blank (ended ∷ []) []
   stood : {f : Sketch} {es : List Fault} {t : Token} {ts us : List Token} (k : SyntaxKind) → class k ≡ true
       → ((p : SyntaxKind) (a i : ℕ) (q : Place) (b : Option SyntaxKind) → Deep a i → Stands p a q (go q k) b i us f es)
-      → t ∷ ts ≡ tokens_in f ++ us → (NoneEnded es → IsStrict l (mended f))
-      → Operand Deep class l (t ∷ ts) f es us
+      → t ∷ ts ≡ tokens_in f ++ us → (NoneEnded es → IsStrict part (mended f))
+      → Operand Deep class part (t ∷ ts) f es us
 
 -- the children of a node so far; what is missing at the end counts as passed
 pub record Row (Deep : ℕ → ℕ → Type 0) (k : SyntaxKind) (q : Place) (f : Sketch) (es : List Fault) (us : List Token) : Type 0 where
@@ -125,10 +125,10 @@ row_due {Deep = Deep} {k = k} {q = q} {q' = q'} {f = f} {es = es} e r m =
     })
 
 -- an operand, or the end in its place
-pub row_operand : {Deep Deeper : ℕ → ℕ → Type 0} {class : SyntaxKind → Bool} {l : Option Level} {k : SyntaxKind} (q q' : Place) {f g : Sketch} {es ds : List Fault} {ts us : List Token}
-    → Row Deep k q f es ts → Operand Deeper class l ts g ds us → ((j : SyntaxKind) → class j ≡ true → go q j ≡ q') → live q' ≡ true → (us ≡ [] → missing q ≡ ended ∷ missing q')
+pub row_operand : {Deep Deeper : ℕ → ℕ → Type 0} {class : SyntaxKind → Bool} {part : Part} {k : SyntaxKind} (q q' : Place) {f g : Sketch} {es ds : List Fault} {ts us : List Token}
+    → Row Deep k q f es ts → Operand Deeper class part ts g ds us → ((j : SyntaxKind) → class j ≡ true → go q j ≡ q') → live q' ≡ true → (ts ≡ [] → us ≡ [] → missing q ≡ ended ∷ missing q')
     → ((a i : ℕ) → Deep a i → Deeper a (i + length (tokens_in f))) → Row Deep k q' (f ⊕ g) (es ++ ds) us
-row_operand q q' r missed h l m d = row_due ended r (m refl)
+row_operand q q' r missed h l m d = row_due ended r (m refl refl)
 row_operand {Deeper = Deeper} {k = k} q q' {g = g} {ds = ds} {us = us} r (stood j c s e z) h l m d =
     row_more r e
     (λ a i n b deep e'.
@@ -136,12 +136,12 @@ row_operand {Deeper = Deeper} {k = k} q q' {g = g} {ds = ds} {us = us} r (stood 
     l
 
 -- a node whose row is at its end
-pub row_node : {Deep Deeper : ℕ → ℕ → Type 0} (class : SyntaxKind → Bool) (l : Option Level) (k : SyntaxKind) {f : Sketch} {es : List Fault} {ts us : List Token}
+pub row_node : {Deep Deeper : ℕ → ℕ → Type 0} (class : SyntaxKind → Bool) (part : Part) (k : SyntaxKind) {f : Sketch} {es : List Fault} {ts us : List Token}
     → Row Deeper k Past f es us → is_error k ≡ false → class k ≡ true → Head ts → ts ≡ tokens_in f ++ us
-    → (NoneEnded es → IsStrict l (node k (mended f) empty)) → ((a i : ℕ) → Deep a i → Deeper (suc a) i)
-    → Operand Deep class l ts (one_branch k f) es us
-row_node {Deep = Deep} class l k {f = f} {es = es} {ts = ts} {us = us} r n c w e z d =
-    subst (λ (x : List Token). Operand Deep class l x (one_branch k f) es us) (sym w.is)
+    → (NoneEnded es → IsStrict part (node k (mended f) empty)) → ((a i : ℕ) → Deep a i → Deeper (suc a) i)
+    → Operand Deep class part ts (one_branch k f) es us
+row_node {Deep = Deep} class part k {f = f} {es = es} {ts = ts} {us = us} r n c w e z d =
+    subst (λ (x : List Token). Operand Deep class part x (one_branch k f) es us) (sym w.is)
     (stood k c
     (λ p a i q b deep. inner n refl (r.stands (suc a) i (d a i deep)) r.lives ends refl refl end errors)
     (sym w.is ∙ e ∙ ap (λ x. x ++ us) (sym (append-nil (tokens_in f)))) z)
@@ -152,23 +152,23 @@ row_node {Deep = Deep} class l k {f = f} {es = es} {ts = ts} {us = us} r n c w e
     errors : es ≡ (r.inside ++ missing r.reached) ++ []
     errors = sym (append-nil (r.inside ++ missing r.reached) ∙ ap (λ x. r.inside ++ x) (r.owes ∙ append-nil r.due) ∙ r.errors)
 
-pub operand_tokens : {Deep : ℕ → ℕ → Type 0} {class : SyntaxKind → Bool} {l : Option Level} {f : Sketch} {es : List Fault} {ts us : List Token}
-    → Operand Deep class l ts f es us → ts ≡ tokens_in f ++ us
+pub operand_tokens : {Deep : ℕ → ℕ → Type 0} {class : SyntaxKind → Bool} {part : Part} {f : Sketch} {es : List Fault} {ts us : List Token}
+    → Operand Deep class part ts f es us → ts ≡ tokens_in f ++ us
 operand_tokens missed = refl
 operand_tokens (stood k c s e z) = e
 
-pub operand_head : {Deep : ℕ → ℕ → Type 0} {class : SyntaxKind → Bool} {l : Option Level} {f : Sketch} {es : List Fault} {ts us : List Token} {t : Token}
-    → Operand Deep class l ts f es (t ∷ us) → Head ts
+pub operand_head : {Deep : ℕ → ℕ → Type 0} {class : SyntaxKind → Bool} {part : Part} {f : Sketch} {es : List Fault} {ts us : List Token} {t : Token}
+    → Operand Deep class part ts f es (t ∷ us) → Head ts
 operand_head (stood {t = t} {ts = ts} k c s e z) = record { token = t; more = ts; is = refl }
 
-pub operand_strict : {Deep : ℕ → ℕ → Type 0} {class : SyntaxKind → Bool} {l : Option Level} {f : Sketch} {es : List Fault} {ts us : List Token}
-    → Operand Deep class l ts f es us → NoneEnded es → IsStrict l (mended f)
+pub operand_strict : {Deep : ℕ → ℕ → Type 0} {class : SyntaxKind → Bool} {part : Part} {f : Sketch} {es : List Fault} {ts us : List Token}
+    → Operand Deep class part ts f es us → NoneEnded es → IsStrict part (mended f)
 operand_strict missed n = absurd (true_is_not_false n.0)
 operand_strict (stood k c s e z) n = z n
 
--- a wider class, another level, a stronger condition
-pub operand_as : {Deep Other : ℕ → ℕ → Type 0} {class other : SyntaxKind → Bool} {l n : Option Level} {f : Sketch} {es : List Fault} {ts us : List Token}
-    → ((k : SyntaxKind) → class k ≡ true → other k ≡ true) → ((g : Forest) → IsStrict l g → IsStrict n g) → ((a i : ℕ) → Other a i → Deep a i)
-    → Operand Deep class l ts f es us → Operand Other other n ts f es us
+-- a wider class, another part, a stronger condition
+pub operand_as : {Deep Other : ℕ → ℕ → Type 0} {class other : SyntaxKind → Bool} {part other_part : Part} {f : Sketch} {es : List Fault} {ts us : List Token}
+    → ((k : SyntaxKind) → class k ≡ true → other k ≡ true) → ((g : Forest) → IsStrict part g → IsStrict other_part g) → ((a i : ℕ) → Other a i → Deep a i)
+    → Operand Deep class part ts f es us → Operand Other other other_part ts f es us
 operand_as h v d missed = missed
 operand_as {f = f} h v d (stood k c s e z) = stood k (h k c) (λ p a i q b deep. s p a i q b (d a i deep)) e (λ ne. v (mended f) (z ne))

@@ -2,11 +2,11 @@
 use Rattle.std.proofs.Common.{◌≡◌, ℕ, ◌+◌, ◌≤◌, true, List, [], ◌∷◌, ◌++◌, Option, refl, ap, sym, ◌∙◌, subst, arith}
 use Rattle.std.specs.Prelude.{if◌then◌else◌}
 use Rattle.rnix_kinds.specs.declared.kinds.SyntaxKind.{SyntaxKind}
-use Rattle.rnix_kinds.specs.declared.kinds.SyntaxKind.TheVariants.{TOKEN_ADD, TOKEN_L_PAREN, TOKEN_R_PAREN, TOKEN_INTEGER, TOKEN_PATH_SEARCH, TOKEN_IDENT, TOKEN_CUR_POS, NODE_LITERAL}
+use Rattle.rnix_kinds.specs.declared.kinds.SyntaxKind.TheVariants.{TOKEN_ADD, TOKEN_L_PAREN, TOKEN_R_PAREN, TOKEN_L_BRACK, TOKEN_R_BRACK, TOKEN_INTEGER, TOKEN_PATH_SEARCH, TOKEN_IDENT, TOKEN_CUR_POS, NODE_LITERAL}
 use Rattle.rnix_tree.specs.Forest.{Forest}
 use Rattle.rnix_grammar.specs.Fault.{Fault}
 use Rattle.rnix_grammar.specs.Sketch.{Token, Note, Stray, Unwanted, Extra, TooDeep, Sketch, blank, token, branch, fault, forget}
-use Rattle.rnix_grammar.specs.Rows.{Place, RootStart, RootEnd, LiteralStart, SearchPathStart, IdentStart, CurPosStart, BinStart, BinOperator, BinEnd, ApplyStart, ApplyEnd, ParenStart, ParenInside, ParenEnd, Past, Nowhere, start, run, is_row, IsBeginning, live, missing, whole, patched, report, Stands, end, leaf, wrong, inner}
+use Rattle.rnix_grammar.specs.Rows.{Place, RootStart, RootEnd, LiteralStart, SearchPathStart, IdentStart, CurPosStart, BinStart, BinOperator, BinEnd, ApplyStart, ApplyEnd, ParenStart, ParenInside, ParenEnd, ListStart, ListInside, Past, Nowhere, start, run, is_row, IsBeginning, live, missing, whole, patched, report, Stands, end, leaf, wrong, inner}
 use Rattle.rnix_grammar.specs.Mended.{patch, mended, kinds_of, halves, AreBegun, ended_count}
 use Rattle.rnix_grammar.proofs.StandsFaults.{whole_owes_none}
 use Rattle.rnix_grammar.proofs.Basics.{true_is_not_false}
@@ -93,6 +93,8 @@ completed ApplyEnd h = (NODE_LITERAL ∷ [], refl)
 completed ParenStart h = (TOKEN_L_PAREN ∷ (NODE_LITERAL ∷ (TOKEN_R_PAREN ∷ [])), refl)
 completed ParenInside h = (NODE_LITERAL ∷ (TOKEN_R_PAREN ∷ []), refl)
 completed ParenEnd h = (TOKEN_R_PAREN ∷ [], refl)
+completed ListStart h = (TOKEN_L_BRACK ∷ (TOKEN_R_BRACK ∷ []), refl)
+completed ListInside h = (TOKEN_R_BRACK ∷ [], refl)
 completed Past h = ([], refl)
 completed Nowhere h = absurd (true_is_not_false (sym h))
 

@@ -7,7 +7,8 @@ use Rattle.rnix_grammar.specs.Fault.{Fault}
 use Rattle.rnix_grammar.specs.Tables.{goes_on}
 use Rattle.rnix_grammar.specs.Sketch.{Token, Sketch, head_kind}
 use Rattle.rnix_grammar.specs.Rows.{is_simple, is_operand, is_operator, continues}
-use Rattle.rnix_grammar.specs.Reads.{Part, Expression, Operands, More, operand_of, Reads, expression, too-deep, operands, stop, operator, argument, simple, nothing, literal, search-path, name, cur-pos, stray, paren, wanted-now, wanted-later, closed, ended-open, nothing-behind, something-behind, document}
+use Rattle.rnix_grammar.specs.Parts.{Expression, Part, Inside, Operands, More, operand_of}
+use Rattle.rnix_grammar.specs.Reads.{Reads, inside, too-deep, operands, stop, operator, argument, simple, nothing, literal, search-path, name, cur-pos, stray, paren, list, items-closed, items-ended, items-more, wanted-now, wanted-later, closed, ended-open, nothing-behind, something-behind, document}
 use Rattle.std.specs.Prelude.{if◌then◌else◌}
 
 -- the levels inside a level, the looser first
@@ -56,7 +57,7 @@ stops_inside Product ts us h = h
 stops_inside Application ts us h = tt
 
 pub stops_part : (p : Part) {d : ℕ} {f g : Sketch} {es : List Fault} {ts us : List Token} → Reads d p f ts g es us → StopsPart p ts us
-stops_part _ (expression h a) = tt
+stops_part _ (inside h a) = tt
 stops_part _ (too-deep h) = tt
 stops_part _ (operands {l = l} {ts = ts} {us = us} a b) = stops_part (More l) b (stops_inside l ts us (stops_part (operand_of l) a))
 stops_part _ (stop {l = l} {ts = ts} o) = λ s. stops_here l ts o s
@@ -70,6 +71,10 @@ stops_part _ (name h) = tt
 stops_part _ (cur-pos h) = tt
 stops_part _ (stray h) = tt
 stops_part _ (paren h a b) = tt
+stops_part _ (list h a) = tt
+stops_part _ (items-closed h) = tt
+stops_part _ items-ended = tt
+stops_part _ (items-more h a b) = tt
 stops_part _ (wanted-now h a) = tt
 stops_part _ (wanted-later t run h e o a) = tt
 stops_part _ (closed h) = tt
@@ -78,8 +83,8 @@ stops_part _ nothing-behind = tt
 stops_part _ something-behind = tt
 stops_part _ (document a b) = tt
 
-pub stops_expression : {d : ℕ} {f g : Sketch} {es : List Fault} {ts us : List Token} → Reads d Expression f ts g es us → Stops PipeRight us
-stops_expression (expression h a) = stops_part (Operands PipeRight) a
+pub stops_expression : {d : ℕ} {f g : Sketch} {es : List Fault} {ts us : List Token} → Reads d (Inside Expression) f ts g es us → Stops PipeRight us
+stops_expression (inside h a) = stops_part (Operands PipeRight) a
 stops_expression (too-deep h) = (refl, (refl, (refl, (refl, (refl, (refl, tt))))))
 
 -- such a token goes on with nothing

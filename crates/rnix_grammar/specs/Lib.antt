@@ -3,6 +3,7 @@ pub mod SameFaults
 pub mod Tables
 pub mod Sketch
 pub mod Rows
+pub mod Parts
 pub mod Layout
 pub mod Reads
 pub mod Strict

@@ -1,49 +1,24 @@
 -- The grammar with recovery: which sketch of items is read from a list of items, with which errors, and what is left.
-use Rattle.std.specs.Prelude.{◌≡◌, ℕ, suc, ◌<◌, ◌≤◌, Bool, true, false, List, [], ◌∷◌, ◌++◌, Some}
-use Rattle.rnix_kinds.specs.declared.kinds.SyntaxKind.TheVariants.{TOKEN_CUR_POS, NODE_BIN_OP, NODE_APPLY, NODE_PAREN, NODE_LITERAL, NODE_PATH_SEARCH, NODE_IDENT, NODE_CUR_POS}
+use Rattle.std.specs.Prelude.{◌≡◌, ℕ, suc, ◌<◌, ◌≤◌, true, false, List, [], ◌∷◌, ◌++◌, Some}
+use Rattle.rnix_kinds.specs.declared.kinds.SyntaxKind.TheVariants.{TOKEN_CUR_POS, NODE_BIN_OP, NODE_APPLY, NODE_PAREN, NODE_LIST, NODE_LITERAL, NODE_PATH_SEARCH, NODE_IDENT, NODE_CUR_POS}
 use Rattle.rnix_grammar.specs.declared.level.Level.{Level}
-use Rattle.rnix_grammar.specs.declared.level.Level.TheVariants.{PipeRight, Disjunction, Conjunction, Sum, Product, Application}
+use Rattle.rnix_grammar.specs.declared.level.Level.TheVariants.{Application}
 use Rattle.rnix_grammar.specs.declared.begin.Begin.{Begin}
 use Rattle.rnix_grammar.specs.declared.begin.Begin.TheVariants as b
 use Rattle.rnix_grammar.specs.declared.until.Until.{Until}
 use Rattle.rnix_grammar.specs.declared.until.Until.TheVariants.{RParen}
 use Rattle.rnix_grammar.specs.Fault.{Fault, ended, ended_before}
-use Rattle.rnix_grammar.specs.Tables.{begin_of, goes_on, stops, wanted_kinds, depth_limit}
+use Rattle.rnix_grammar.specs.Tables.{begin_of, goes_on, has_more_items, stops, wanted_kinds, depth_limit}
+use Rattle.rnix_grammar.specs.Parts.{Counted, Expression, Item, counted_part, Part, Inside, Operands, More, Simple, Atom, Items, Wanted, Closing, Behind, Whole, operand_of, has_operator}
 use Rattle.rnix_grammar.specs.Sketch.{Token, Stray, Unwanted, Extra, TooDeep, Sketch, blank, token, fault, ◌⊕◌, one_token, one_branch, one_fault, leaf_of, row_of, head_kind, head_lexeme, lexeme_of}
 use Rattle.rnix_grammar.specs.Rows.{report, AreUnwanted}
 
--- the parts of the grammar
-pub data Part : Type 0 where
-  Expression : Part
-  Operands : Level → Part
-  More : Level → Part
-  Simple : Part
-  Atom : Begin → Part
-  Wanted : Until → Part
-  Closing : Until → Part
-  Behind : Part
-  Whole : Part
-
--- the operands of a level
-abbrev pub operand_of : Level → Part
-operand_of PipeRight = Operands Disjunction
-operand_of Disjunction = Operands Conjunction
-operand_of Conjunction = Operands Sum
-operand_of Sum = Operands Product
-operand_of Product = Operands Application
-operand_of Application = Simple
-
--- the levels whose operands stand around an operator
-abbrev pub has_operator : Level → Bool
-has_operator Application = false
-has_operator level = true
-
 -- Reads d part f ts g es us: inside d expressions, with f read already, the part makes g of the items ts, reports es, and leaves us
 pub data Reads : ℕ → Part → Sketch → List Token → Sketch → List Fault → List Token → Type 0 where
-  expression : {d : ℕ} {f : Sketch} {es : List Fault} {ts us : List Token}
-      → d < depth_limit → Reads (suc d) (Operands PipeRight) blank ts f es us → Reads d Expression blank ts f es us
-  too-deep : {d : ℕ} {ts : List Token}
-      → depth_limit ≤ d → Reads d Expression blank ts (one_fault TooDeep (row_of ts)) (report TooDeep ts ∷ []) []
+  inside : {d : ℕ} {counted : Counted} {f : Sketch} {es : List Fault} {ts us : List Token}
+      → d < depth_limit → Reads (suc d) (counted_part counted) blank ts f es us → Reads d (Inside counted) blank ts f es us
+  too-deep : {d : ℕ} {counted : Counted} {ts : List Token}
+      → depth_limit ≤ d → Reads d (Inside counted) blank ts (one_fault TooDeep (row_of ts)) (report TooDeep ts ∷ []) []
   operands : {d : ℕ} {l : Level} {f g : Sketch} {es fs : List Fault} {ts us vs : List Token}
       → Reads d (operand_of l) blank ts f es us → Reads d (More l) f us g fs vs → Reads d (Operands l) blank ts g (es ++ fs) vs
   stop : {d : ℕ} {l : Level} {f : Sketch} {ts : List Token}
@@ -68,8 +43,15 @@ pub data Reads : ℕ → Part → Sketch → List Token → Sketch → List Faul
   stray : {d : ℕ} {t : Token} {ts : List Token}
       → begin_of (Some (lexeme_of t)) ≡ b.Stray → Reads d (Atom b.Stray) blank (t ∷ ts) (one_fault Stray (leaf_of t)) (report Stray (t ∷ []) ∷ []) ts
   paren : {d : ℕ} {f g : Sketch} {es fs : List Fault} {t : Token} {ts us vs : List Token}
-      → begin_of (Some (lexeme_of t)) ≡ b.Paren → Reads d Expression blank ts f es us → Reads d (Wanted RParen) blank us g fs vs
+      → begin_of (Some (lexeme_of t)) ≡ b.Paren → Reads d (Inside Expression) blank ts f es us → Reads d (Wanted RParen) blank us g fs vs
       → Reads d (Atom b.Paren) blank (t ∷ ts) (one_branch NODE_PAREN (token t.kind t (f ⊕ g))) (es ++ fs) vs
+  list : {d : ℕ} {f : Sketch} {es : List Fault} {t : Token} {ts us : List Token}
+      → begin_of (Some (lexeme_of t)) ≡ b.Bracket → Reads d Items blank ts f es us
+      → Reads d (Atom b.Bracket) blank (t ∷ ts) (one_branch NODE_LIST (token t.kind t f)) es us
+  items-closed : {d : ℕ} {t : Token} {ts : List Token} → has_more_items (Some t.kind) ≡ false → Reads d Items blank (t ∷ ts) (leaf_of t) [] ts
+  items-ended : {d : ℕ} → Reads d Items blank [] blank (ended ∷ []) []
+  items-more : {d : ℕ} {f g : Sketch} {es fs : List Fault} {ts us vs : List Token}
+      → has_more_items (head_kind ts) ≡ true → Reads d (Inside Item) blank ts f es us → Reads d Items blank us g fs vs → Reads d Items blank ts (f ⊕ g) (es ++ fs) vs
   wanted-now : {d : ℕ} {until : Until} {g : Sketch} {fs : List Fault} {ts us : List Token}
       → stops until (head_kind ts) ≡ true → Reads d (Closing until) blank ts g fs us → Reads d (Wanted until) blank ts g fs us
   wanted-later : {d : ℕ} {until : Until} {g : Sketch} {fs : List Fault} {ts us vs : List Token} (t : Token) (run : List Token)
@@ -83,4 +65,4 @@ pub data Reads : ℕ → Part → Sketch → List Token → Sketch → List Faul
   something-behind : {d : ℕ} {t : Token} {ts : List Token}
       → Reads d Behind blank (t ∷ ts) (one_fault Extra (row_of (t ∷ ts))) (report Extra (t ∷ ts) ∷ []) []
   document : {f g : Sketch} {es fs : List Fault} {ts us vs : List Token}
-      → Reads 0 Expression blank ts f es us → Reads 0 Behind blank us g fs vs → Reads 0 Whole blank ts (f ⊕ g) (es ++ fs) vs
+      → Reads 0 (Inside Expression) blank ts f es us → Reads 0 Behind blank us g fs vs → Reads 0 Whole blank ts (f ⊕ g) (es ++ fs) vs

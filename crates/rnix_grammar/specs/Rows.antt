@@ -1,7 +1,7 @@
 -- The rows of the node kinds, as one automaton over the kinds of children; the errors of a sketch; what stands beside its error nodes.
 use Rattle.std.specs.Prelude.{◌≡◌, ◌⊎◌, ℕ, suc, ◌+◌, ◌<◌, ◌≤◌, Bool, true, false, ◌||◌, List, [], ◌∷◌, ◌++◌, Option, Some, None, length, if◌then◌else◌}
 use Rattle.rnix_kinds.specs.declared.kinds.SyntaxKind.{SyntaxKind}
-use Rattle.rnix_kinds.specs.declared.kinds.SyntaxKind.TheVariants.{TOKEN_ADD, TOKEN_SUB, TOKEN_MUL, TOKEN_DIV, TOKEN_PIPE_RIGHT, TOKEN_OR_OR, TOKEN_AND_AND, TOKEN_L_PAREN, TOKEN_R_PAREN, TOKEN_FLOAT, TOKEN_INTEGER, TOKEN_URI, TOKEN_PATH_SEARCH, TOKEN_IDENT, TOKEN_CUR_POS, NODE_ROOT, NODE_BIN_OP, NODE_APPLY, NODE_PAREN, NODE_LITERAL, NODE_PATH_SEARCH, NODE_IDENT, NODE_CUR_POS, NODE_ERROR}
+use Rattle.rnix_kinds.specs.declared.kinds.SyntaxKind.TheVariants.{TOKEN_ADD, TOKEN_SUB, TOKEN_MUL, TOKEN_DIV, TOKEN_PIPE_RIGHT, TOKEN_OR_OR, TOKEN_AND_AND, TOKEN_L_PAREN, TOKEN_R_PAREN, TOKEN_L_BRACK, TOKEN_R_BRACK, TOKEN_FLOAT, TOKEN_INTEGER, TOKEN_URI, TOKEN_PATH_SEARCH, TOKEN_IDENT, TOKEN_CUR_POS, NODE_ROOT, NODE_BIN_OP, NODE_APPLY, NODE_PAREN, NODE_LIST, NODE_LITERAL, NODE_PATH_SEARCH, NODE_IDENT, NODE_CUR_POS, NODE_ERROR}
 use Rattle.rnix_grammar.specs.declared.level.Level.TheVariants.{PipeRight, Disjunction, Conjunction, Sum, Product, Application}
 use Rattle.rnix_grammar.specs.declared.until.Until.{Until}
 use Rattle.rnix_grammar.specs.declared.until.Until.TheVariants.{RParen}
@@ -12,6 +12,7 @@ use Rattle.rnix_grammar.specs.Sketch.{Token, Note, Stray, Unwanted, Extra, TooDe
 -- trees that may be called or passed as arguments
 abbrev pub is_simple : SyntaxKind → Bool
 is_simple NODE_PAREN = true
+is_simple NODE_LIST = true
 is_simple NODE_LITERAL = true
 is_simple NODE_PATH_SEARCH = true
 is_simple NODE_IDENT = true
@@ -33,6 +34,14 @@ is_infix TOKEN_SUB = true
 is_infix TOKEN_MUL = true
 is_infix TOKEN_DIV = true
 is_infix kind = false
+
+abbrev pub is_l_brack : SyntaxKind → Bool
+is_l_brack TOKEN_L_BRACK = true
+is_l_brack kind = false
+
+abbrev pub is_r_brack : SyntaxKind → Bool
+is_r_brack TOKEN_R_BRACK = true
+is_r_brack kind = false
 
 abbrev pub is_l_paren : SyntaxKind → Bool
 is_l_paren TOKEN_L_PAREN = true
@@ -81,12 +90,19 @@ pub data Place : Type 0 where
   ParenStart : Place
   ParenInside : Place
   ParenEnd : Place
+  ListStart : Place
+  ListInside : Place
   Past : Place
   Nowhere : Place
 
 abbrev pub to : Bool → Place → Place
 to true q = q
 to false q = Nowhere
+
+-- items of a list, and its end
+abbrev pub in_list : Bool → Bool → Place
+in_list true closes = ListInside
+in_list false closes = to closes Past
 
 -- the place after one more child
 abbrev pub go : Place → SyntaxKind → Place
@@ -103,6 +119,8 @@ go ApplyEnd k = to (is_simple k) Past
 go ParenStart k = to (is_l_paren k) ParenInside
 go ParenInside k = to (is_operand k) ParenEnd
 go ParenEnd k = to (is_r_paren k) Past
+go ListStart k = to (is_l_brack k) ListInside
+go ListInside k = in_list (is_simple k) (is_r_brack k)
 go q k = Nowhere
 
 -- where the row of a kind begins; an error node has none
@@ -115,6 +133,7 @@ start NODE_CUR_POS = CurPosStart
 start NODE_BIN_OP = BinStart
 start NODE_APPLY = ApplyStart
 start NODE_PAREN = ParenStart
+start NODE_LIST = ListStart
 start kind = Nowhere
 
 -- the row may end here

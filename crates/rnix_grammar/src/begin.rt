@@ -11,6 +11,7 @@ pub enum Begin {
     /// The end of the text.
     Nothing,
     Paren,
+    Bracket,
     /// A number or a URI.
     Literal,
     SearchPath,
@@ -28,6 +29,7 @@ pub fn begin_of(next: Option<Token<'_>>) -> Begin
     match next {
         None => Begin::Nothing,
         Some((SyntaxKind::TOKEN_L_PAREN, _)) => Begin::Paren,
+        Some((SyntaxKind::TOKEN_L_BRACK, _)) => Begin::Bracket,
         Some((SyntaxKind::TOKEN_FLOAT, _)) => Begin::Literal,
         Some((SyntaxKind::TOKEN_INTEGER, _)) => Begin::Literal,
         Some((SyntaxKind::TOKEN_URI, _)) => Begin::Literal,

@@ -36,6 +36,7 @@ pub fn goes_on(level: Level, next: Option<SyntaxKind>) -> bool
             next,
             Some(
                 SyntaxKind::TOKEN_L_PAREN
+                    | SyntaxKind::TOKEN_L_BRACK
                     | SyntaxKind::TOKEN_FLOAT
                     | SyntaxKind::TOKEN_INTEGER
                     | SyntaxKind::TOKEN_URI

@@ -9,4 +9,4 @@ mod until;
 pub use begin::{Begin, begin_of};
 pub use error::ParseError;
 pub use level::{Level, goes_on};
-pub use until::{Until, operand_kinds, stops, wanted_kinds};
+pub use until::{Until, has_more_items, operand_kinds, stops, wanted_kinds};

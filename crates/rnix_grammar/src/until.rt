@@ -1,7 +1,7 @@
 //! Where a run of unwanted tokens stops, and what is wanted there.
 
 ghost use Rattle.std.specs.Prelude.{◌≡◌};
-ghost use Rattle.rnix_grammar.specs.Tables.{stops, wanted_kinds, operand_kinds};
+ghost use Rattle.rnix_grammar.specs.Tables.{has_more_items, stops, wanted_kinds, operand_kinds};
 
 use rnix_kinds::SyntaxKind;
 
@@ -46,4 +46,11 @@ pub fn operand_kinds() -> &'static [SyntaxKind]
         SyntaxKind::TOKEN_STRING_START,
         SyntaxKind::TOKEN_IDENT,
     ]
+}
+
+/// Whether another item of a list stands next, by the next token that is not trivia.
+pub fn has_more_items(next: Option<SyntaxKind>) -> bool
+    ensures { result ≡ has_more_items next }
+{
+    !matches!(next, None | Some(SyntaxKind::TOKEN_R_BRACK))
 }

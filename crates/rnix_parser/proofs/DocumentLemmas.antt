@@ -9,7 +9,8 @@ use Rattle.rnix_tree.specs.Tree.{Tree, forest_of}
 use Rattle.rnix_grammar.specs.Fault.{Fault}
 use Rattle.rnix_grammar.specs.Sketch.{Token, Sketch, blank, ◌⊕◌, forget, placed_from}
 use Rattle.rnix_grammar.specs.Layout.{items, trivia_before, left_after, dressed, dressed_whole}
-use Rattle.rnix_grammar.specs.Reads.{Expression, Behind, Whole, Reads, document}
+use Rattle.rnix_grammar.specs.Parts.{Expression, Inside, Behind, Whole}
+use Rattle.rnix_grammar.specs.Reads.{Reads, document}
 use Rattle.rnix_grammar.specs.Parsed.{IsParsed}
 use Rattle.rnix_grammar.proofs.SketchLemmas.{forget-⊕}
 use Rattle.rnix_grammar.proofs.ParsedLemmas.{parsed}
@@ -38,7 +39,7 @@ rest_opened : (s : State) → items_left (started_at 0 NODE_ROOT s) ≡ items_le
 unfolding started_at
 rest_opened s = refl
 
-pub document_given : (s s1 s2 s3 s4 s5 : State) (q : ℕ) → s.trees ≡ empty → s.open_nodes ≡ [] → s.faults ≡ [] → s1 ≡ started_at 0 NODE_ROOT s → Gives 0 Expression s1 q s2 → Adds 0 Behind s2 s3
+pub document_given : (s s1 s2 s3 s4 s5 : State) (q : ℕ) → s.trees ≡ empty → s.open_nodes ≡ [] → s.faults ≡ [] → s1 ≡ started_at 0 NODE_ROOT s → Gives 0 (Inside Expression) s1 q s2 → Adds 0 Behind s2 s3
     → s4 ≡ eaten s3 → s5 ≡ ended s4 → IsDocument s.rest s5
 document_given s s1 s2 s3 s4 s5 q n o m e1 g h e4 e5 =
     let f : Sketch = g.sketch ⊕ h.sketch in

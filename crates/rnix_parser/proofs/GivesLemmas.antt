@@ -1,7 +1,7 @@
 -- What each part of the reader gives.
 use Rattle.std.proofs.Common.{◌≡◌, ◌+◌, ◌≤◌, ◌<◌, ℕ, suc, Bool, true, false, ◌&&◌, nat_le, List, [], ◌∷◌, ◌++◌, length, Some, None, refl, ap, sym, ◌∙◌, subst, append_assoc, append-nil, arith}
 use Rattle.rnix_kinds.specs.declared.kinds.SyntaxKind.{SyntaxKind}
-use Rattle.rnix_kinds.specs.declared.kinds.SyntaxKind.TheVariants.{NODE_BIN_OP, NODE_APPLY, NODE_PAREN}
+use Rattle.rnix_kinds.specs.declared.kinds.SyntaxKind.TheVariants.{NODE_BIN_OP, NODE_APPLY, NODE_PAREN, NODE_LIST}
 use Rattle.rnix_tree.specs.Forest.{join, tree_count}
 use Rattle.rnix_tree.specs.Draft.{OpenNode, is_inside}
 use Rattle.std.proofs.lemmas.Bool.Decides.{nat_tests}
@@ -12,15 +12,16 @@ use Rattle.rnix_grammar.specs.declared.level.Level.{Level}
 use Rattle.rnix_grammar.specs.declared.level.Level.TheVariants.{PipeRight, Disjunction, Conjunction, Sum, Product, Application}
 use Rattle.rnix_grammar.specs.declared.until.Until.TheVariants.{RParen}
 use Rattle.rnix_grammar.specs.Fault.{Fault}
-use Rattle.rnix_grammar.specs.Tables.{begin_of, goes_on, depth_limit}
+use Rattle.rnix_grammar.specs.Tables.{begin_of, goes_on, has_more_items, depth_limit}
 use Rattle.rnix_grammar.specs.Sketch.{Token, Sketch, blank, token, branch, fault, ◌⊕◌, one_token, one_branch, forget, head_of, head_kind, kind_in, lexeme_in, lexeme_of}
 use Rattle.rnix_grammar.specs.Layout.{items, from_item, trivia_before, dressed}
-use Rattle.rnix_grammar.specs.Reads.{Part, Expression, Operands, More, Simple, Atom, Wanted, operand_of, has_operator, Reads, expression, operands, stop, operator, argument, simple, paren}
-use Rattle.rnix_grammar.proofs.SketchLemmas.{forget-⊕}
+use Rattle.rnix_grammar.specs.Parts.{Counted, Expression, Item, counted_part, Part, Inside, Operands, More, Simple, Atom, Items, Wanted, operand_of, has_operator}
+use Rattle.rnix_grammar.specs.Reads.{Reads, inside, operands, stop, operator, argument, simple, paren, list, items-more}
+use Rattle.rnix_grammar.proofs.SketchLemmas.{⊕-assoc, forget-⊕}
 use Rattle.rnix_parser.specs.State.{State, items_left, eaten, bumped, started_at, started, ended, laid, place_of}
-use Rattle.rnix_parser.specs.Gives.{Gives, Adds, Grows, Going, IsFull, node_of}
-use Rattle.rnix_parser.proofs.LaidLemmas.{dressed-past, laid-⊕, laid-wrap, laid-node, laid-started_at, place-full}
-use Rattle.rnix_parser.proofs.ReadsLemmas.{shrinks, simple_moves, operand_full}
+use Rattle.rnix_parser.specs.Gives.{Gives, Adds, Grows, Going, Listing, IsFull, node_of}
+use Rattle.rnix_parser.proofs.LaidLemmas.{dressed-past, laid-blank, laid-⊕, laid-wrap, laid-node, laid-started_at, place-full}
+use Rattle.rnix_parser.proofs.ReadsLemmas.{shrinks, simple_moves, item_moves, operand_full}
 use Rattle.rnix_parser.proofs.RunLemmas.{left_bumped, left_started, left_ended, read_item, leaf_laid, leaf_left, place-eaten}
 use Rattle.rnix_grammar.proofs.Basics.{true_is_not_false}
 
@@ -201,20 +202,20 @@ simple_given d begin s s1 p on g = record {
 -- an operand of one token
 pub leaf_given : (d : ℕ) (k j : SyntaxKind) (t : Token) (s s' : State) (p : ℕ) → head_of (items_left s) ≡ Some t → s' ≡ ended (bumped j (started k s)) → p ≡ tree_count (eaten s).trees
     → is_inside p s.open_nodes ≡ true → ((us : List Token) → Reads d Simple blank (t ∷ us) (one_branch k (one_token j t)) [] us) → Gives d Simple s p s'
-leaf_given d k j t s s' p n h place inside reads = record {
+leaf_given d k j t s s' p n h place within reads = record {
   sketch = one_branch k (one_token j t);
   faults = [];
   reads = subst (λ (x : List Token). Reads d Simple blank x (one_branch k (one_token j t)) [] (items_left s')) (sym (leaf_left k j t s s' n h)) (reads (items_left s'));
   state = leaf_laid k j t s s' n h ∙ laid-node k (one_token j t) [] s;
   place_is = (place-eaten s p place).1 k (one_token j t);
-  inside = inside;
+  inside = within;
 }
 
 -- a parenthesis
 pub paren_given : (d : ℕ) (t : Token) (s s1 s2 s3 s4 s5 : State) (p q : ℕ) → head_of (items_left s) ≡ Some t → begin_of (Some (lexeme_of t)) ≡ b.Paren → s1 ≡ started NODE_PAREN s
-    → p ≡ tree_count (eaten s).trees → is_inside p s.open_nodes ≡ true → s2 ≡ bumped t.kind s1 → Gives d Expression s2 q s3 → Adds d (Wanted RParen) s3 s4 → s5 ≡ ended s4
+    → p ≡ tree_count (eaten s).trees → is_inside p s.open_nodes ≡ true → s2 ≡ bumped t.kind s1 → Gives d (Inside Expression) s2 q s3 → Adds d (Wanted RParen) s3 s4 → s5 ≡ ended s4
     → Gives d Simple s p s5
-paren_given d t s s1 s2 s3 s4 s5 p q n on e1 place inside e2 g h e5 =
+paren_given d t s s1 s2 s3 s4 s5 p q n on e1 place within e2 g h e5 =
     let same : items_left s1 ≡ items_left s = left_started NODE_PAREN s s1 e1 in
     let left : items_left s ≡ t ∷ items_left s2 = sym same ∙ left_bumped t.kind s1 s2 t (ap head_of same ∙ n) e2 in
     let after : items_left s5 ≡ items_left s4 = left_ended s4 s5 e5 in
@@ -236,19 +237,85 @@ paren_given d t s s1 s2 s3 s4 s5 p q n on e1 place inside e2 g h e5 =
           ∙ laid-⊕ (one_token t.kind t) f [] es (started NODE_PAREN s))
           ∙ laid-node NODE_PAREN (token t.kind t f) es s;
       place_is = (place-eaten s p place).1 NODE_PAREN (token t.kind t f);
-      inside = inside;
+      inside = within;
     }
 
--- an expression inside fewer than the limit
-pub expression_given : (d : ℕ) (s s' : State) (p : ℕ) → d < depth_limit → Gives (suc d) (Operands PipeRight) s p s' → Gives d Expression s p s'
-expression_given d s s' p h g = record {
+-- what is counted, inside fewer than the limit
+pub inside_given : (d : ℕ) (counted : Counted) (s s' : State) (p : ℕ) → d < depth_limit → Gives (suc d) (counted_part counted) s p s' → Gives d (Inside counted) s p s'
+inside_given d counted s s' p h g = record {
   sketch = g.sketch;
   faults = g.faults;
-  reads = expression h g.reads;
+  reads = inside h g.reads;
   state = g.state;
   place_is = g.place_is;
   inside = g.inside;
 }
+
+-- the items of a list so far
+pub items_start : (d : ℕ) (s : State) → Listing d s s
+items_start d s = record {
+  sketch = blank;
+  faults = [];
+  goes = λ g es us r. r;
+  state = sym (laid-blank s);
+  fewer = omega arith;
+}
+
+pub items_step : (d : ℕ) (s s1 s2 : State) (p : ℕ) → Listing d s s1 → has_more_items (head_kind (items_left s1)) ≡ true → Gives d (Inside Item) s1 p s2 → Listing d s s2
+items_step d s s1 s2 p w on x = record {
+  sketch = w.sketch ⊕ x.sketch;
+  faults = w.faults ++ x.faults;
+  goes = λ g es us r.
+      subst (λ (y : Sketch). Reads d Items blank (items_left s) y ((w.faults ++ x.faults) ++ es) us) (sym (⊕-assoc w.sketch x.sketch g))
+      (subst (λ (y : List Fault). Reads d Items blank (items_left s) (w.sketch ⊕ (x.sketch ⊕ g)) y us) (sym (append_assoc w.faults x.faults es))
+      (w.goes (x.sketch ⊕ g) (x.faults ++ es) us (items-more on x.reads r)));
+  state = x.state ∙ ap (laid x.sketch x.faults) w.state ∙ laid-⊕ w.sketch x.sketch w.faults x.faults s;
+  fewer = omega (arith, w.fewer, shrinks (Inside Item) x.reads);
+}
+
+pub items_close : (d : ℕ) (s s1 s2 : State) → Listing d s s1 → Adds d Items s1 s2 → Adds d Items s s2
+items_close d s s1 s2 w x = record {
+  sketch = w.sketch ⊕ x.sketch;
+  faults = w.faults ++ x.faults;
+  reads = w.goes x.sketch x.faults (items_left s2) x.reads;
+  state = x.state ∙ ap (laid x.sketch x.faults) w.state ∙ laid-⊕ w.sketch x.sketch w.faults x.faults s;
+}
+
+-- an item is passed where there is one
+pub items_shorter : (d : ℕ) (s s1 : State) (p : ℕ) → has_more_items (head_kind (items_left s)) ≡ true → Gives d (Inside Item) s p s1 → length (items_left s1) < length (items_left s)
+items_shorter d s s1 p on g = by (items_left s) refl
+  where
+    by : (ts : List Token) → items_left s ≡ ts → length (items_left s1) < length (items_left s)
+    by [] e = absurd (true_is_not_false (sym on ∙ ap (λ x. has_more_items (head_kind x)) e))
+    by (t ∷ ts) e = item_moves g.reads t ts e
+
+pub nodes_listed : {d : ℕ} {s s1 : State} → Listing d s s1 → s1.open_nodes ≡ s.open_nodes
+nodes_listed {s = s} {s1 = s1} w = nodes_laid w.sketch w.faults s s1 w.state
+
+-- a list
+pub list_given : (d : ℕ) (t : Token) (s s1 s2 s3 s4 : State) (p : ℕ) → head_of (items_left s) ≡ Some t → begin_of (Some (lexeme_of t)) ≡ b.Bracket → s1 ≡ started NODE_LIST s
+    → p ≡ tree_count (eaten s).trees → is_inside p s.open_nodes ≡ true → s2 ≡ bumped t.kind s1 → Adds d Items s2 s3 → s4 ≡ ended s3
+    → Gives d Simple s p s4
+list_given d t s s1 s2 s3 s4 p n on e1 place within e2 g e4 =
+    let same : items_left s1 ≡ items_left s = left_started NODE_LIST s s1 e1 in
+    let left : items_left s ≡ t ∷ items_left s2 = sym same ∙ left_bumped t.kind s1 s2 t (ap head_of same ∙ n) e2 in
+    let after : items_left s4 ≡ items_left s3 = left_ended s3 s4 e4 in
+    let over : Sketch = one_branch NODE_LIST (token t.kind t g.sketch) in
+    let r : Reads d Simple blank (t ∷ items_left s2) over g.faults (items_left s4) =
+    simple on (list on (subst (λ (x : List Token). Reads d Items blank (items_left s2) g.sketch g.faults x) (sym after) g.reads)) in
+    record {
+      sketch = over;
+      faults = g.faults;
+      reads = subst (λ (x : List Token). Reads d Simple blank x over g.faults (items_left s4)) (sym left) r;
+      state =
+          e4
+          ∙ ap ended
+          (g.state ∙ ap (laid g.sketch g.faults) (read_item t.kind s1 s2 t (ap head_of same ∙ n) e2 ∙ ap (laid (one_token t.kind t) []) e1)
+          ∙ laid-⊕ (one_token t.kind t) g.sketch [] g.faults (started NODE_LIST s))
+          ∙ laid-node NODE_LIST (token t.kind t g.sketch) g.faults s;
+      place_is = (place-eaten s p place).1 NODE_LIST (token t.kind t g.sketch);
+      inside = within;
+    }
 
 -- how many items are left behind a step
 pub count_started_at : (p : ℕ) (k : SyntaxKind) (s s' : State) → s' ≡ started_at p k s → length (items_left s') ≡ length (items_left s)

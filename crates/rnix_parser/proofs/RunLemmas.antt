@@ -11,11 +11,12 @@ use Rattle.rnix_grammar.specs.declared.begin.Begin.TheVariants.{Stray as StrayBe
 use Rattle.rnix_grammar.specs.declared.until.Until.{Until}
 use Rattle.rnix_grammar.specs.declared.until.Until.TheVariants.{RParen, End}
 use Rattle.rnix_grammar.specs.Fault.{Fault, extra, unwanted, ended as ended_fault, ended_before, too_deep}
-use Rattle.rnix_grammar.specs.Tables.{begin_of, stops, wanted_kinds, operand_kinds, depth_limit}
+use Rattle.rnix_grammar.specs.Tables.{begin_of, has_more_items, stops, wanted_kinds, operand_kinds, depth_limit}
 use Rattle.rnix_grammar.specs.Sketch.{Token, Note, Stray, Unwanted, Extra, TooDeep, Sketch, blank, token, fault, ◌⊕◌, one_token, one_branch, one_fault, leaf_of, row_of, end_from, head_of, head_kind, kind_in, lexeme_of}
 use Rattle.rnix_grammar.specs.Layout.{items, item_if, from_item, tail_of}
 use Rattle.rnix_grammar.specs.Rows.{report, AreUnwanted}
-use Rattle.rnix_grammar.specs.Reads.{Expression, Atom, Wanted, Closing, Behind, Reads, too-deep, nothing, stray, wanted-now, wanted-later, closed, ended-open, nothing-behind, something-behind}
+use Rattle.rnix_grammar.specs.Parts.{Counted, Inside, Atom, Items, Wanted, Closing, Behind}
+use Rattle.rnix_grammar.specs.Reads.{Reads, too-deep, nothing, stray, items-closed, items-ended, wanted-now, wanted-later, closed, ended-open, nothing-behind, something-behind}
 use Rattle.rnix_grammar.proofs.LayoutLemmas.{items_head, items-view, items-from_item}
 use Rattle.rnix_parser.specs.declared.cursor.PlacedToken.{PlacedToken}
 use Rattle.rnix_parser.specs.Placed.{token_of, AreInOrder}
@@ -197,6 +198,30 @@ close_end d u s s' n h =
       state = laid-fail (ended_before (wanted_kinds u)) s s' h;
     }
 
+-- the end of a list, and its lack
+pub items_now : (d : ℕ) (s s' : State) (t : Token) → has_more_items (head_kind (items_left s)) ≡ false → head_of (items_left s) ≡ Some t → s' ≡ bumped t.kind s → Adds d Items s s'
+items_now d s s' t off n h = record {
+  sketch = leaf_of t;
+  faults = [];
+  reads =
+      subst (λ (x : List Token). Reads d Items blank x (leaf_of t) [] (items_left s')) (sym (left_bumped t.kind s s' t n h))
+      (items-closed (sym (ap (λ x. has_more_items (kind_in x)) n) ∙ off));
+  state = read_item t.kind s s' t n h;
+}
+
+pub items_end : (d : ℕ) (s s' : State) → head_of (items_left s) ≡ None → s' ≡ failed ended_fault s → Adds d Items s s'
+items_end d s s' n h =
+    let none : items_left s ≡ [] = none_left (items_left s) n in
+    let after : items_left s' ≡ [] = left_failed ended_fault s s' h ∙ none in
+    record {
+      sketch = blank;
+      faults = ended_fault ∷ [];
+      reads =
+          subst (λ (x : List Token). Reads d Items blank x blank (ended_fault ∷ []) (items_left s')) (sym none)
+          (subst (λ (x : List Token). Reads d Items blank [] blank (ended_fault ∷ []) x) (sym after) items-ended);
+      state = laid-fail ended_fault s s' h;
+    }
+
 pub wants_now : (d : ℕ) (u : Until) (s s' : State) → stops u (head_kind (items_left s)) ≡ true → Adds d (Closing u) s s' → Adds d (Wanted u) s s'
 wants_now d u s s' on a = record { sketch = a.sketch; faults = a.faults; reads = wanted-now on a.reads; state = a.state }
 
@@ -300,9 +325,9 @@ nothing_given d s s' p n h place inside =
     }
 
 -- what is nested too deep
-pub deep_given : (d : ℕ) (s s1 s2 s3 s4 s5 : State) (p b to : ℕ) → depth_limit ≤ d → s1 ≡ started NODE_ERROR s → p ≡ tree_count (eaten s).trees → is_inside p s.open_nodes ≡ true
-    → Stopped End s1 b to s2 → s3 ≡ ended s2 → s4 ≡ eaten s3 → s5 ≡ failed too_deep s4 → Gives d Expression s p s5
-deep_given d s s1 s2 s3 s4 s5 p b to deep e1 place inside st e3 e4 e5 =
+pub deep_given : (d : ℕ) (counted : Counted) (s s1 s2 s3 s4 s5 : State) (p b to : ℕ) → depth_limit ≤ d → s1 ≡ started NODE_ERROR s → p ≡ tree_count (eaten s).trees → is_inside p s.open_nodes ≡ true
+    → Stopped End s1 b to s2 → s3 ≡ ended s2 → s4 ≡ eaten s3 → s5 ≡ failed too_deep s4 → Gives d (Inside counted) s p s5
+deep_given d counted s s1 s2 s3 s4 s5 p b to deep e1 place inside st e3 e4 e5 =
     let k : Skips End s1 b to s2 = st.skips in
     let none : items_left s2 ≡ [] = end_left (items_left s2) st.stops in
     let left : items_left s5 ≡ [] = left_failed too_deep s4 s5 e5 ∙ left_eaten s3 s4 e4 ∙ left_ended s2 s3 e3 ∙ none in
@@ -312,8 +337,8 @@ deep_given d s s1 s2 s3 s4 s5 p b to deep e1 place inside st e3 e4 e5 =
       sketch = over;
       faults = too_deep ∷ [];
       reads =
-          subst (λ (x : List Token). Reads d Expression blank x over (too_deep ∷ []) (items_left s5)) (sym all)
-          (subst (λ (x : List Token). Reads d Expression blank k.run over (too_deep ∷ []) x) (sym left) (too-deep deep));
+          subst (λ (x : List Token). Reads d (Inside counted) blank x over (too_deep ∷ []) (items_left s5)) (sym all)
+          (subst (λ (x : List Token). Reads d (Inside counted) blank k.run over (too_deep ∷ []) x) (sym left) (too-deep deep));
       state =
           e5 ∙ ap (failed too_deep) (e4 ∙ ap eaten (e3 ∙ ap ended (k.state ∙ ap (laid (row_of k.run) []) e1)) ∙ laid-deep (row_of k.run) [] s)
           ∙ laid-failed too_deep over [] s;

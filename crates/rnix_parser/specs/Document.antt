@@ -5,7 +5,8 @@ use Rattle.rnix_tree.specs.Forest.{empty, node}
 use Rattle.rnix_grammar.specs.Fault.{Fault}
 use Rattle.rnix_grammar.specs.Sketch.{Token, Sketch, blank, forget}
 use Rattle.rnix_grammar.specs.Layout.{items, dressed_whole}
-use Rattle.rnix_grammar.specs.Reads.{Whole, Reads}
+use Rattle.rnix_grammar.specs.Parts.{Whole}
+use Rattle.rnix_grammar.specs.Reads.{Reads}
 use Rattle.rnix_parser.specs.State.{State}
 
 -- one root stands over all tokens, as the grammar reads them

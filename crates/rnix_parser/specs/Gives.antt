@@ -11,7 +11,8 @@ use Rattle.rnix_grammar.specs.Fault.{Fault}
 use Rattle.rnix_grammar.specs.Tables.{stops}
 use Rattle.rnix_grammar.specs.Sketch.{Token, Sketch, blank, branch, ◌⊕◌, row_of, end_from, extent_of, head_kind}
 use Rattle.rnix_grammar.specs.Rows.{AreUnwanted}
-use Rattle.rnix_grammar.specs.Reads.{Part, More, Operands, Reads}
+use Rattle.rnix_grammar.specs.Parts.{Part, More, Operands, Items}
+use Rattle.rnix_grammar.specs.Reads.{Reads}
 use Rattle.rnix_parser.specs.State.{State, items_left, started, started_at, ended, laid, place_of}
 
 -- from a state to another, inside so many expressions, a part is read; its first item is at the place
@@ -59,6 +60,14 @@ pub record Going (d : ℕ) (l : Level) (s : State) (place : ℕ) (s' : State) : 
   pub place_is : place ≡ place_of sketch s
   pub inside : is_inside place s.open_nodes ≡ true
   pub full : (t : Token) (ts : List Token) → items_left s' ≡ t ∷ ts → IsFull sketch
+  pub fewer : length (items_left s') ≤ length (items_left s)
+
+-- the items of a list are read so far
+pub record Listing (d : ℕ) (s s' : State) : Type 0 where
+  pub sketch : Sketch
+  pub faults : List Fault
+  pub goes : (g : Sketch) (es : List Fault) (us : List Token) → Reads d Items blank (items_left s') g es us → Reads d Items blank (items_left s) (sketch ⊕ g) (faults ++ es) us
+  pub state : s' ≡ laid sketch faults s
   pub fewer : length (items_left s') ≤ length (items_left s)
 
 -- items are read up to one that stops a run, or the end; known is where the last one ends

@@ -4,16 +4,16 @@ ghost use Rattle.std.specs.Prelude.{◌≡◌, ◌≤◌, ◌<◌, ◌∷◌, �
 ghost use Rattle.rnix_tree.specs.Draft.{is_checkpoint_of};
 ghost use Rattle.rnix_grammar.specs.Tables.{begin_of, goes_on, depth_limit};
 ghost use Rattle.rnix_grammar.specs.Sketch.{head_of, head_kind, lexeme_of};
-ghost use Rattle.rnix_grammar.specs.Reads.{Expression, Operands, Simple, operand_of, has_operator};
-ghost use Rattle.rnix_grammar.specs.declared.begin.Begin.TheVariants.{Paren};
+ghost use Rattle.rnix_grammar.specs.Parts.{Expression, Item, Inside, Operands, Simple, Items, operand_of, has_operator};
+ghost use Rattle.rnix_grammar.specs.declared.begin.Begin.TheVariants.{Paren, Bracket};
 ghost use Rattle.rnix_grammar.specs.declared.level.Level.TheVariants.{Application};
 ghost use Rattle.rnix_parser.specs.Placed.{token_of};
 ghost use Rattle.rnix_parser.specs.State.{State, state, items_left};
-ghost use Rattle.rnix_parser.specs.Gives.{Gives, Grows};
+ghost use Rattle.rnix_parser.specs.Gives.{Gives, Adds, Grows};
 
 use crate::cursor::PlacedToken;
 use crate::parser::Parser;
-use rnix_grammar::{Begin, Level, Until, begin_of, goes_on};
+use rnix_grammar::{Begin, Level, Until, begin_of, goes_on, has_more_items};
 use rnix_kinds::SyntaxKind;
 use rnix_tree::Checkpoint;
 use std::alloc::AllocError;
@@ -24,7 +24,7 @@ const DEPTH_LIMIT: usize = 512;
 /// An expression inside so many others.
 #[cycle(reader)]
 pub(crate) fn read_expression(p: &mut Parser<'_>, depth: usize) -> Result<Checkpoint, AllocError>
-    ensures { IfOk result (λ place. Gives depth Expression (state p.old) place (state p.new)) }
+    ensures { IfOk result (λ place. Gives depth (Inside Expression) (state p.old) place (state p.new)) }
 {
     if depth >= DEPTH_LIMIT {
         return Ok(p.too_deep()?);
@@ -147,6 +147,7 @@ fn read_atom(
 {
     match begin_of(Some((item.kind, item.text))) {
         Begin::Paren => Ok(read_paren(p, item, depth)?),
+        Begin::Bracket => Ok(read_list(p, item, depth)?),
         Begin::Literal => Ok(p.leaf_node(SyntaxKind::NODE_LITERAL, item.kind)?),
         Begin::SearchPath => Ok(p.leaf_node(SyntaxKind::NODE_PATH_SEARCH, item.kind)?),
         Begin::Name => Ok(p.leaf_node(SyntaxKind::NODE_IDENT, item.kind)?),
@@ -173,4 +174,45 @@ fn read_paren(
     p.expect(Until::RParen)?;
     p.finish_node()?;
     Ok(place)
+}
+
+// A list.
+#[cycle(reader)]
+fn read_list(
+    p: &mut Parser<'_>,
+    bracket: PlacedToken<'_>,
+    depth: usize,
+) -> Result<Checkpoint, AllocError>
+    requires next { head_of (items_left (state p.old)) ≡ Some (token_of bracket) }
+    requires begins { begin_of (Some (lexeme_of (token_of bracket))) ≡ Bracket }
+    ensures { IfOk result (λ place. Gives depth Simple (state p.old) place (state p.new)) }
+{
+    let place = p.start_node(SyntaxKind::NODE_LIST)?;
+    p.bump(bracket.kind)?;
+    read_items(p, depth)?;
+    p.finish_node()?;
+    Ok(place)
+}
+
+// The items of a list, and its end.
+#[cycle(reader)]
+fn read_items(p: &mut Parser<'_>, depth: usize) -> Result<(), AllocError>
+    ensures { OnOk result (Adds depth Items (state p.old) (state p.new)) }
+{
+    while has_more_items(p.peek()) {
+        read_item(p, depth)?;
+    }
+    p.close_items()?;
+    Ok(())
+}
+
+// One item of a list.
+#[cycle(reader)]
+fn read_item(p: &mut Parser<'_>, depth: usize) -> Result<Checkpoint, AllocError>
+    ensures { IfOk result (λ place. Gives depth (Inside Item) (state p.old) place (state p.new)) }
+{
+    if depth >= DEPTH_LIMIT {
+        return Ok(p.too_deep()?);
+    }
+    Ok(read_simple(p, depth + 1)?)
 }

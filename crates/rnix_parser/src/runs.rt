@@ -1,9 +1,9 @@
 //! Runs of tokens that are not wanted, and what is wanted behind them.
 
 ghost use Rattle.std.specs.Prelude.{◌≡◌, ◌≤◌, ◌∷◌, [], ℕ, IfOk, OnOk, true, false, Some, None, option_map};
-ghost use Rattle.rnix_grammar.specs.Tables.{begin_of, stops};
+ghost use Rattle.rnix_grammar.specs.Tables.{begin_of, has_more_items, stops};
 ghost use Rattle.rnix_grammar.specs.Sketch.{head_of, head_kind, lexeme_of};
-ghost use Rattle.rnix_grammar.specs.Reads.{Wanted, Closing, Behind, Expression, Atom};
+ghost use Rattle.rnix_grammar.specs.Parts.{Counted, Inside, Wanted, Closing, Behind, Items, Atom};
 ghost use Rattle.rnix_grammar.specs.declared.begin.Begin.TheVariants.{Stray, Nothing};
 ghost use Rattle.rnix_parser.specs.Placed.{token_of};
 ghost use Rattle.rnix_parser.specs.State.{State, state, items_left, bumped, started, ended, eaten};
@@ -61,6 +61,18 @@ impl<'t> Parser<'t> {
                 let wanted = wanted_kinds(until).to_vec(*self.errors.allocator())?;
                 self.fail(ParseError::UnexpectedEOFWanted(wanted))?;
             }
+        }
+        Ok(())
+    }
+
+    /// The end of a list's items, or the error that it is missing.
+    pub(crate) fn close_items(&mut self) -> Result<(), AllocError>
+        requires { has_more_items (head_kind (items_left (state self.old))) ≡ false }
+        ensures { (d : ℕ) → OnOk result (Adds d Items (state self.old) (state self.new)) }
+    {
+        match self.item() {
+            Some(item) => self.bump(item.kind)?,
+            None => self.fail(ParseError::UnexpectedEOF)?,
         }
         Ok(())
     }
@@ -134,7 +146,7 @@ impl<'t> Parser<'t> {
 
     /// An error node over all that is left, which is nested too deep.
     pub(crate) fn too_deep(&mut self) -> Result<Checkpoint, AllocError>
-        ensures { (d : ℕ) → depth_limit ≤ d → IfOk result (λ place. Gives d Expression (state self.old) place (state self.new)) }
+        ensures { (d : ℕ) (counted : Counted) → depth_limit ≤ d → IfOk result (λ place. Gives d (Inside counted) (state self.old) place (state self.new)) }
     {
         let place = self.start_node(SyntaxKind::NODE_ERROR)?;
         self.skip(Until::End, 0)?;

@@ -1,12 +1,13 @@
 use Rattle.std.proofs.Common.{◌∙◌, sym, ap, arith, add-one}
 use Rattle.rnix_kinds.specs.declared.kinds.SyntaxKind.TheVariants.{TOKEN_CUR_POS, NODE_LITERAL, NODE_PATH_SEARCH, NODE_IDENT, NODE_CUR_POS}
 use Rattle.rnix_grammar.specs.declared.begin.Begin.TheVariants as b
-use Rattle.rnix_grammar.specs.Tables.{begin_of, goes_on}
+use Rattle.rnix_grammar.specs.Tables.{begin_of, goes_on, has_more_items}
 use Rattle.rnix_grammar.specs.Sketch.{lexeme_in, kind_in}
+use Rattle.rnix_grammar.specs.Parts.{Expression, Item}
 use Rattle.rnix_grammar.specs.Reads.{simple, literal, search-path, name, cur-pos}
 use Rattle.rnix_parser.specs.Placed.{token_of}
 use Rattle.rnix_parser.proofs.RunLemmas.{item_there, none_there}
-use Rattle.rnix_parser.proofs.GivesLemmas.{nodes_given, nodes_added, one_open, still_open, level_starts, level_steps, level_stops, level_ends, level_checkpoint, argument_grows, right_grows, simple_given, leaf_given, paren_given, expression_given, count_started_at, count_operator, count_paren}
+use Rattle.rnix_parser.proofs.GivesLemmas.{nodes_given, nodes_added, one_open, still_open, level_starts, level_steps, level_stops, level_ends, level_checkpoint, argument_grows, right_grows, simple_given, leaf_given, paren_given, inside_given, items_start, items_step, items_close, items_shorter, list_given, count_started_at, count_operator, count_paren}
 use Rattle.rnix_parser.proofs.reading.+reader.Goals as goal
 
 pub read_argument-read_simple-requires : goal.read_argument-read_simple-requires
@@ -61,7 +62,7 @@ read_atom-returns-in_ok-stray-in-Stray t c =
     simple_given c.args.depth b.Stray _ _ _ (ap (λ x. begin_of (lexeme_in x)) c.requires ∙ sym c.begin_of.ensures ∙ c.in-Stray.is) (c.in_ok-stray-in-Stray.ensures c.args.depth)
 
 pub read_expression-returns : goal.read_expression-returns
-read_expression-returns t c = expression_given c.args.depth _ _ _ (omega (arith, c.if-depth-ge-DEPTH_LIMIT.false)) (rw (add-one) at c.in_ok-read_level.ensures)
+read_expression-returns t c = inside_given c.args.depth Expression _ _ _ (omega (arith, c.if-depth-ge-DEPTH_LIMIT.false)) (rw (add-one) at c.in_ok-read_level.ensures)
 
 pub read_level-loop-item-init : goal.read_level-loop-item-init
 read_level-loop-item-init t c = level_starts c.args.depth c.args.level _ _ _ c.in_ok-place.ensures
@@ -102,3 +103,32 @@ read_level-read_more-requires t c = (
     (sym c.goes_on.ensures ∙ c.if-not-goes_on.false, level_checkpoint c.args.depth c.args.level _ _ _ c.loop-item.invariant),
   ),
 )
+
+pub read_item-returns : goal.read_item-returns
+read_item-returns t c = inside_given c.args.depth Item _ _ _ (omega (arith, c.if-depth-ge-DEPTH_LIMIT.false)) (rw (add-one) at c.in_ok-read_simple.ensures)
+
+pub read_list-read_items-requires : goal.read_list-read_items-requires
+read_list-read_items-requires t c =
+    (omega (arith, count_paren _ _ _ _ (token_of c.args.bracket) c.requires.next c.in_ok-place.ensures.state c.in_ok-bump.ensures.state), tt)
+
+pub read_list-finish_node-requires : goal.read_list-finish_node-requires
+read_list-finish_node-requires t c = still_open _ _ (nodes_added c.in_ok-read_items.ensures ∙ c.in_ok-bump.ensures.nodes) c.in_ok-place.ensures.open
+
+pub read_list-returns : goal.read_list-returns
+read_list-returns t c =
+    list_given c.args.depth (token_of c.args.bracket) _ _ _ _ _ _ c.requires.next c.requires.begins c.in_ok-place.ensures.state c.in_ok-place.ensures.place c.in_ok-place.ensures.inside
+    c.in_ok-bump.ensures.state c.in_ok-read_items.ensures c.in_ok-finish_node.ensures
+
+pub read_items-loop-p-init : goal.read_items-loop-p-init
+read_items-loop-p-init t c = items_start c.args.depth _
+
+pub read_items-loop-p-smaller : goal.read_items-loop-p-smaller
+read_items-loop-p-smaller t c =
+    items_shorter c.args.depth _ _ _ (ap has_more_items (sym c.peek.ensures) ∙ sym c.has_more_items.ensures ∙ c.loop-p-test.true) c.in_ok-read_item.ensures
+
+pub read_items-loop-p-preserved : goal.read_items-loop-p-preserved
+read_items-loop-p-preserved t c =
+    items_step c.args.depth _ _ _ _ c.loop-p.invariant (ap has_more_items (sym c.peek.ensures) ∙ sym c.has_more_items.ensures ∙ c.loop-p-test.true) c.in_ok-read_item.ensures
+
+pub read_items-returns : goal.read_items-returns
+read_items-returns t c = items_close c.args.depth _ _ _ c.loop-p.invariant (c.in_ok-close_items.ensures c.args.depth)

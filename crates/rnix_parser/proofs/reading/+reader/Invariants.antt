@@ -3,7 +3,7 @@ use Rattle.rnix_parser.specs.declared.parser.Parser.{Parser}
 use Rattle.rnix_grammar.specs.declared.level.Level.{Level}
 use Rattle.rnix_grammar.specs.declared.level.Level.TheVariants.{PipeRight, Disjunction, Conjunction, Sum, Product, Application}
 use Rattle.rnix_parser.specs.State.{state, items_left}
-use Rattle.rnix_parser.specs.Gives.{Going}
+use Rattle.rnix_parser.specs.Gives.{Going, Listing}
 use Rattle.rnix_parser.proofs.reading.+reader.Given as goal
 
 -- how many items are left
@@ -51,3 +51,18 @@ decreases-read_level-loop-item l = left l.p
 
 abbrev pub invariant-read_level-loop-item : goal.invariant-read_level-loop-item
 invariant-read_level-loop-item l = Going l.depth l.level (state l.fn.p) l.place (state l.p)
+
+abbrev pub decreases-read_list : goal.decreases-read_list
+decreases-read_list l = 30 * left l.p.now
+
+abbrev pub decreases-read_items : goal.decreases-read_items
+decreases-read_items l = 30 * left l.p.now + 5
+
+abbrev pub decreases-read_item : goal.decreases-read_item
+decreases-read_item l = 30 * left l.p.now + 3
+
+abbrev pub invariant-read_items-loop-p : goal.invariant-read_items-loop-p
+invariant-read_items-loop-p l = Listing l.depth (state l.fn.p) (state l.p)
+
+abbrev pub decreases-read_items-loop-p : goal.decreases-read_items-loop-p
+decreases-read_items-loop-p l = left l.p
