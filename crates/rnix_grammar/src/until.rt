@@ -1,4 +1,4 @@
-//! Where a run of unwanted tokens stops, and what is wanted there.
+//! Where a run of unwanted tokens stops, what is wanted there, and where a list ends.
 
 ghost use Rattle.std.specs.Prelude.{◌≡◌};
 ghost use Rattle.rnix_grammar.specs.Tables.{has_more_items, stops, wanted_kinds, operand_kinds};

@@ -18,7 +18,7 @@ use rnix_kinds::SyntaxKind;
 use rnix_tree::Checkpoint;
 use std::alloc::AllocError;
 
-// How many expressions may be nested.
+// How many expressions and items of lists may be nested.
 const DEPTH_LIMIT: usize = 512;
 
 /// An expression inside so many others.
