@@ -1,40 +1,175 @@
--- What a token is that begins an operand.
-use Rattle.std.proofs.Common.{◌≡◌, ℕ, List, Bool, true, false, Some, refl, subst}
-use Rattle.std.specs.Prelude.{if◌then◌else◌}
+-- How an operand begins: what each beginning is.
+use Rattle.std.proofs.Common.{◌≡◌, ℕ, ◌≤◌, Bool, true, false, List, [], Option, Some, None, refl, ap, sym, subst, arith}
+use Rattle.std.specs.Prelude.{if◌then◌else◌, nat_eq, nat_le}
+use Rattle.std.proofs.lemmas.Bool.Decides.{nat_tests}
 use Rattle.rnix_kinds.specs.declared.kinds.SyntaxKind.{SyntaxKind}
-use Rattle.rnix_kinds.specs.declared.kinds.SyntaxKind.TheVariants.{TOKEN_FLOAT, TOKEN_INTEGER, TOKEN_URI, TOKEN_PATH_SEARCH, TOKEN_IDENT, TOKEN_L_PAREN, TOKEN_L_BRACK}
+use Rattle.rnix_kinds.specs.declared.kinds.SyntaxKind.TheVariants.{TOKEN_L_PAREN, TOKEN_L_BRACK, TOKEN_REC, TOKEN_STRING_START, TOKEN_PATH_ABS, TOKEN_PATH_REL, TOKEN_PATH_HOME, TOKEN_PATH_SEARCH, TOKEN_FLOAT, TOKEN_INTEGER, TOKEN_URI, TOKEN_IDENT, TOKEN_CUR_POS, TOKEN_L_BRACE, TOKEN_COLON, TOKEN_AT, TOKEN_LET, TOKEN_WITH, TOKEN_ASSERT, TOKEN_IF, TOKEN_INVERT, TOKEN_SUB, NODE_PAREN, NODE_LIST, NODE_ATTR_SET, NODE_STRING, NODE_PATH_ABS, NODE_PATH_REL, NODE_PATH_HOME, NODE_IDENT, NODE_CUR_POS, NODE_LET_IN, NODE_WITH, NODE_ASSERT, NODE_IF_ELSE, NODE_UNARY_OP}
+use Rattle.rnix_kinds.specs.SyntaxKind.{is_fn_arg}
+use Rattle.rnix_grammar.specs.declared.place.Place.{Place}
+use Rattle.rnix_grammar.specs.declared.place.Place.TheVariants as p
 use Rattle.rnix_grammar.specs.declared.begin.Begin.{Begin}
-use Rattle.rnix_grammar.specs.declared.begin.Begin.TheVariants.{Nothing, Paren, Bracket, Literal, SearchPath, CurPos, Name, Stray}
-use Rattle.rnix_grammar.specs.declared.level.Level.TheVariants.{Application}
-use Rattle.rnix_grammar.specs.Tables.{begin_of, goes_on, is_cur_pos}
-use Rattle.rnix_grammar.specs.Rows.{is_plain_literal}
+use Rattle.rnix_grammar.specs.declared.begin.Begin.TheVariants as b
+use Rattle.rnix_grammar.specs.Begins.{is_pattern, begin_name, begin_let, begin_of}
+use Rattle.rnix_grammar.specs.Tables.{is_cur_pos}
+use Rattle.rnix_grammar.specs.Sketch.{Token, Sketch, one_token, one_branch, told_as}
+use Rattle.rnix_grammar.specs.Rows.{is_atom, fits, Spot, At, go, start}
+use Rattle.rnix_grammar.specs.Stands.{continues, repeats, is_formed, is_or, is_or_row, level_of}
+use Rattle.rnix_grammar.proofs.Places.{home, tight, over, IsIn, is_last, Placed, RightMost}
+use Rattle.rnix_grammar.proofs.Reading.{Bounded, Grows, Tall, is_error}
+use Rattle.rnix_grammar.proofs.OpenLevels.{atom_tall}
+use Rattle.rnix_grammar.proofs.LevelLemmas.{operates, next_left, atom_simple, simple_negated, negated_questioned, questioned_operand, atom_fits, power_max}
 
--- what the kind and the text are of a token with which an operand begins so
-abbrev pub BeginsAs : Begin → SyntaxKind → List ℕ → Type 0
-BeginsAs Nothing k s = Unit {0}
-BeginsAs Paren k s = k ≡ TOKEN_L_PAREN
-BeginsAs Bracket k s = k ≡ TOKEN_L_BRACK
-BeginsAs Literal k s = is_plain_literal k ≡ true
-BeginsAs SearchPath k s = k ≡ TOKEN_PATH_SEARCH
-BeginsAs CurPos k s = (k ≡ TOKEN_IDENT) × (is_cur_pos s ≡ true)
-BeginsAs Name k s = (k ≡ TOKEN_IDENT) × (is_cur_pos s ≡ false)
-BeginsAs Stray k s = goes_on Application (Some k) ≡ false
+-- a node over one token
+pub record LeafBegins (k : SyntaxKind) (level : ℕ) (kind : SyntaxKind) : Type 0 where
+  pub atom : is_atom k ≡ true
+  pub goes : go (start k) (told_as k kind) ≡ At p.Past
+  pub new : (b c : Sketch) → repeats k b c ≡ []
+  pub formed : (s : Spot) (c : Sketch) → is_formed s k c ≡ true
+  pub no_or : (j : SyntaxKind) (t : Token) → t.kind ≡ kind → is_or_row (one_branch k (one_token j t)) ≡ false
 
--- a name is the current position or another
-name_begins : (x : Bool) (s : List ℕ) → is_cur_pos s ≡ x → BeginsAs (if x then CurPos else Name) TOKEN_IDENT s
-name_begins true s e = (refl, e)
-name_begins false s e = (refl, e)
+-- a node that begins with a token
+pub record NodeBegins (k : SyntaxKind) (z : Place) (high level : ℕ) (kind : SyntaxKind) : Type 0 where
+  pub fit : fits level k ≡ true
+  pub bounded : Bounded k high (tight z)
+  pub grows : Grows k high
+  pub goes : go (start k) (told_as k kind) ≡ At z
+  pub home : IsIn (home z) k
+  pub last : is_last z ≡ false
+  pub placed : Placed z
+  pub most : RightMost z
+  pub sound : is_error k ≡ false
+  pub over : over z ≡ None
+  pub plain : (j : SyntaxKind) → continues j (Some (told_as k kind)) ≡ false
+  pub tall : (t : Token) → level ≤ 16 → Tall level high (level_of k (one_token (told_as k kind) t))
 
-begins_as : (k : SyntaxKind) (s : List ℕ) → BeginsAs (begin_of (Some (k, s))) k s
-begins_as TOKEN_L_PAREN s = refl
-begins_as TOKEN_L_BRACK s = refl
-begins_as TOKEN_FLOAT s = refl
-begins_as TOKEN_INTEGER s = refl
-begins_as TOKEN_URI s = refl
-begins_as TOKEN_PATH_SEARCH s = refl
-begins_as TOKEN_IDENT s = name_begins (is_cur_pos s) s refl
-begins_as _ s = refl
+abbrev pub BeginsAs : Begin → ℕ → SyntaxKind → Option SyntaxKind → Type 0
+BeginsAs (b.Leaf k) level kind second = LeafBegins k level kind
+BeginsAs (b.Node k z high) level kind second = NodeBegins k z high level kind
+BeginsAs b.LegacyLet level kind second = (kind ≡ TOKEN_LET) × (second ≡ Some TOKEN_L_BRACE) × (level ≡ 0)
+BeginsAs b.NameLambda level kind second = kind ≡ TOKEN_IDENT
+BeginsAs b.BoundLambda level kind second = (kind ≡ TOKEN_IDENT) × (second ≡ Some TOKEN_AT)
+BeginsAs b.PatternLambda level kind second = kind ≡ TOKEN_L_BRACE
+BeginsAs b.Stray level kind second = is_fn_arg kind ≡ false
+
+-- an atom may go on as it likes
+pub atom_grows : (k : SyntaxKind) (high : ℕ) → is_atom k ≡ true → Grows k high
+atom_grows k high h = record {
+  atom = λ l. h;
+  simple = λ l. atom_simple k h;
+  questioned = λ l. negated_questioned k (simple_negated k (atom_simple k h));
+  operand = λ l. questioned_operand k (negated_questioned k (simple_negated k (atom_simple k h)));
+}
+
+pub none_grows : (k : SyntaxKind) → Grows k 0
+none_grows k = record { atom = λ l. absurd (omega (arith, l)); simple = λ l. absurd (omega (arith, l)); questioned = λ l. absurd (omega (arith, l)); operand = λ l. absurd (omega (arith, l)) }
+
+-- the trees of `-` and `!`
+pub unary_grows : (high : ℕ) → high ≤ 13 → Grows NODE_UNARY_OP high
+unary_grows high l = record { atom = λ m. absurd (omega (arith, l, m)); simple = λ m. absurd (omega (arith, l, m)); questioned = λ m. refl; operand = λ m. refl }
+
+pub unary_fits : (n : ℕ) → nat_le n 14 ≡ true → fits n NODE_UNARY_OP ≡ true
+unary_fits n h = by (nat_eq n 0) (nat_le n 12) (nat_eq n 13) (nat_eq n 14) refl refl refl
+  where
+    by : (u v w x : Bool) → nat_le n 12 ≡ v → nat_eq n 13 ≡ w → nat_eq n 14 ≡ x
+        → (if u then true else (if v then true else (if w then true else (if x then true else false)))) ≡ true
+    by true v w x e f g = refl
+    by false true w x e f g = refl
+    by false false true x e f g = refl
+    by false false false true e f g = refl
+    by false false false false e f g = absurd (grind (arith, nat_tests, h, e, f, g))
+
+-- nothing goes on with a tree that stands where any expression may
+pub zero_tall : (level : ℕ) → level ≡ 0 → Tall level 0 0
+zero_tall level e = record {
+  least = omega (arith, e);
+  operator = λ j i h. absurd (omega (arith, h, (operates j i).positive));
+  questioned = λ h. absurd (omega (arith, h));
+  applied = λ h. absurd (omega (arith, h));
+}
+
+unary_tall_invert : (level : ℕ) → nat_le level 9 ≡ true → Tall level 8 9
+unary_tall_invert level e = record {
+  least = grind (arith, nat_tests, e);
+  operator = λ j i h. omega (arith, h, next_left j i);
+  questioned = λ h. absurd (omega (arith, h));
+  applied = λ h. absurd (omega (arith, h));
+}
+
+unary_tall_negate : (level : ℕ) → nat_le level 14 ≡ true → Tall level 13 14
+unary_tall_negate level e = record {
+  least = grind (arith, nat_tests, e);
+  operator = λ j i h. omega (arith, h, next_left j i);
+  questioned = λ h. omega (arith, h);
+  applied = λ h. absurd (omega (arith, h));
+}
+
+zero_is : (n : ℕ) → nat_eq n 0 ≡ true → n ≡ 0
+zero_is n h = grind (arith, nat_tests, h)
+
+name_begins : (level : ℕ) (w : Bool) (second : Option SyntaxKind) → BeginsAs (if w then b.Leaf NODE_CUR_POS else b.Leaf NODE_IDENT) level TOKEN_IDENT second
+name_begins level true second = record { atom = refl; goes = refl; new = λ b c. refl; formed = λ s c. refl; no_or = λ j t e. refl }
+name_begins level false second = record { atom = refl; goes = refl; new = λ b c. refl; formed = λ s c. refl; no_or = λ j t e. ap is_or e }
+
+name_begins_as : (level : ℕ) (text : List ℕ) (second : Option SyntaxKind) → BeginsAs (begin_name text second) level TOKEN_IDENT second
+name_begins_as level text (Some TOKEN_COLON) = refl
+name_begins_as level text (Some TOKEN_AT) = (refl, refl)
+name_begins_as level text second = name_begins level (is_cur_pos text) second
+
+brace_begins : (level : ℕ) (w : Bool) (second : Option SyntaxKind) → BeginsAs (if w then b.PatternLambda else b.Node NODE_ATTR_SET p.SetInside 16) level TOKEN_L_BRACE second
+brace_begins level true second = refl
+brace_begins level false second = record { fit = atom_fits level NODE_ATTR_SET refl; bounded = λ j c. power_max j; grows = atom_grows NODE_ATTR_SET 16 refl; goes = refl; home = refl; last = refl; placed = tt; most = tt; sound = refl; over = refl; plain = λ j. refl; tall = λ t l. atom_tall level l }
+
+invert_begins : (level : ℕ) (w : Bool) (second : Option SyntaxKind) → nat_le level 9 ≡ w → BeginsAs (if w then b.Node NODE_UNARY_OP p.Inverted 8 else b.Stray) level TOKEN_INVERT second
+invert_begins level true second e = record { fit = unary_fits level (grind (arith, nat_tests, e)); bounded = (λ j c. c, λ j c l. omega (arith, l)); grows = unary_grows 8 (omega arith); goes = refl; home = refl; last = refl; placed = tt; most = tt; sound = refl; over = refl; plain = λ j. refl; tall = λ t l. unary_tall_invert level e }
+invert_begins level false second e = refl
+
+negate_begins : (level : ℕ) (w : Bool) (second : Option SyntaxKind) → nat_le level 14 ≡ w → BeginsAs (if w then b.Node NODE_UNARY_OP p.Negated 13 else b.Stray) level TOKEN_SUB second
+negate_begins level true second e = record { fit = unary_fits level e; bounded = (λ j c. c, λ j c l. omega (arith, l)); grows = unary_grows 13 (omega arith); goes = refl; home = refl; last = refl; placed = tt; most = tt; sound = refl; over = refl; plain = λ j. refl; tall = λ t l. unary_tall_negate level e }
+negate_begins level false second e = refl
+
+let_begins : (level : ℕ) (second : Option SyntaxKind) → nat_eq level 0 ≡ true → BeginsAs (begin_let second) level TOKEN_LET second
+let_begins level (Some TOKEN_L_BRACE) e = (refl, refl, zero_is level e)
+let_begins level second e = record { fit = subst (λ n. fits n NODE_LET_IN ≡ true) (sym (zero_is level e)) refl; bounded = λ j c. absurd (cc); grows = none_grows NODE_LET_IN; goes = refl; home = refl; last = refl; placed = tt; most = tt; sound = refl; over = refl; plain = λ j. refl; tall = λ t l. zero_tall level (zero_is level e) }
+
+let_begins_if : (level : ℕ) (w : Bool) (second : Option SyntaxKind) → nat_eq level 0 ≡ w → BeginsAs (if w then begin_let second else b.Stray) level TOKEN_LET second
+let_begins_if level true second e = let_begins level second e
+let_begins_if level false second e = refl
+
+with_begins : (level : ℕ) (w : Bool) (second : Option SyntaxKind) → nat_eq level 0 ≡ w → BeginsAs (if w then b.Node NODE_WITH p.WithScope 0 else b.Stray) level TOKEN_WITH second
+with_begins level true second e = record { fit = subst (λ n. fits n NODE_WITH ≡ true) (sym (zero_is level e)) refl; bounded = λ j c. absurd (cc); grows = none_grows NODE_WITH; goes = refl; home = refl; last = refl; placed = tt; most = tt; sound = refl; over = refl; plain = λ j. refl; tall = λ t l. zero_tall level (zero_is level e) }
+with_begins level false second e = refl
+
+assert_begins : (level : ℕ) (w : Bool) (second : Option SyntaxKind) → nat_eq level 0 ≡ w → BeginsAs (if w then b.Node NODE_ASSERT p.AssertCondition 0 else b.Stray) level TOKEN_ASSERT second
+assert_begins level true second e = record { fit = subst (λ n. fits n NODE_ASSERT ≡ true) (sym (zero_is level e)) refl; bounded = λ j c. absurd (cc); grows = none_grows NODE_ASSERT; goes = refl; home = refl; last = refl; placed = tt; most = tt; sound = refl; over = refl; plain = λ j. refl; tall = λ t l. zero_tall level (zero_is level e) }
+assert_begins level false second e = refl
+
+if_begins : (level : ℕ) (w : Bool) (second : Option SyntaxKind) → nat_eq level 0 ≡ w → BeginsAs (if w then b.Node NODE_IF_ELSE p.IfCondition 0 else b.Stray) level TOKEN_IF second
+if_begins level true second e = record { fit = subst (λ n. fits n NODE_IF_ELSE ≡ true) (sym (zero_is level e)) refl; bounded = λ j c. absurd (cc); grows = none_grows NODE_IF_ELSE; goes = refl; home = refl; last = refl; placed = tt; most = tt; sound = refl; over = refl; plain = λ j. refl; tall = λ t l. zero_tall level (zero_is level e) }
+if_begins level false second e = refl
+
+begins_as : (level : ℕ) (kind : SyntaxKind) (text : List ℕ) (second third : Option SyntaxKind) → BeginsAs (begin_of level kind text second third) level kind second
+begins_as level TOKEN_L_PAREN text second third = record { fit = atom_fits level NODE_PAREN refl; bounded = λ j c. power_max j; grows = atom_grows NODE_PAREN 16 refl; goes = refl; home = refl; last = refl; placed = tt; most = tt; sound = refl; over = refl; plain = λ j. refl; tall = λ t l. atom_tall level l }
+begins_as level TOKEN_L_BRACK text second third = record { fit = atom_fits level NODE_LIST refl; bounded = λ j c. power_max j; grows = atom_grows NODE_LIST 16 refl; goes = refl; home = refl; last = refl; placed = tt; most = tt; sound = refl; over = refl; plain = λ j. refl; tall = λ t l. atom_tall level l }
+begins_as level TOKEN_REC text second third = record { fit = atom_fits level NODE_ATTR_SET refl; bounded = λ j c. power_max j; grows = atom_grows NODE_ATTR_SET 16 refl; goes = refl; home = refl; last = refl; placed = tt; most = tt; sound = refl; over = refl; plain = λ j. refl; tall = λ t l. atom_tall level l }
+begins_as level TOKEN_STRING_START text second third = record { fit = atom_fits level NODE_STRING refl; bounded = λ j c. power_max j; grows = atom_grows NODE_STRING 16 refl; goes = refl; home = refl; last = refl; placed = tt; most = tt; sound = refl; over = refl; plain = λ j. refl; tall = λ t l. atom_tall level l }
+begins_as level TOKEN_PATH_ABS text second third = record { fit = atom_fits level NODE_PATH_ABS refl; bounded = λ j c. power_max j; grows = atom_grows NODE_PATH_ABS 16 refl; goes = refl; home = refl; last = refl; placed = tt; most = tt; sound = refl; over = refl; plain = λ j. refl; tall = λ t l. atom_tall level l }
+begins_as level TOKEN_PATH_REL text second third = record { fit = atom_fits level NODE_PATH_REL refl; bounded = λ j c. power_max j; grows = atom_grows NODE_PATH_REL 16 refl; goes = refl; home = refl; last = refl; placed = tt; most = tt; sound = refl; over = refl; plain = λ j. refl; tall = λ t l. atom_tall level l }
+begins_as level TOKEN_PATH_HOME text second third = record { fit = atom_fits level NODE_PATH_HOME refl; bounded = λ j c. power_max j; grows = atom_grows NODE_PATH_HOME 16 refl; goes = refl; home = refl; last = refl; placed = tt; most = tt; sound = refl; over = refl; plain = λ j. refl; tall = λ t l. atom_tall level l }
+begins_as level TOKEN_PATH_SEARCH text second third = record { atom = refl; goes = refl; new = λ b c. refl; formed = λ s c. refl; no_or = λ j t e. refl }
+begins_as level TOKEN_FLOAT text second third = record { atom = refl; goes = refl; new = λ b c. refl; formed = λ s c. refl; no_or = λ j t e. refl }
+begins_as level TOKEN_INTEGER text second third = record { atom = refl; goes = refl; new = λ b c. refl; formed = λ s c. refl; no_or = λ j t e. refl }
+begins_as level TOKEN_URI text second third = record { atom = refl; goes = refl; new = λ b c. refl; formed = λ s c. refl; no_or = λ j t e. refl }
+begins_as level TOKEN_IDENT text second third = name_begins_as level text second
+begins_as level TOKEN_L_BRACE text second third = brace_begins level (is_pattern second third) second
+begins_as level TOKEN_INVERT text second third = invert_begins level (nat_le level 9) second refl
+begins_as level TOKEN_SUB text second third = negate_begins level (nat_le level 14) second refl
+begins_as level TOKEN_LET text second third = let_begins_if level (nat_eq level 0) second refl
+begins_as level TOKEN_WITH text second third = with_begins level (nat_eq level 0) second refl
+begins_as level TOKEN_ASSERT text second third = assert_begins level (nat_eq level 0) second refl
+begins_as level TOKEN_IF text second third = if_begins level (nat_eq level 0) second refl
+begins_as level TOKEN_CUR_POS text second third = record { atom = refl; goes = refl; new = λ b c. refl; formed = λ s c. refl; no_or = λ j t e. refl }
+begins_as level _ text second third = refl
 
 -- the table read backwards
-pub begun_as : (begin : Begin) (k : SyntaxKind) (s : List ℕ) → begin_of (Some (k, s)) ≡ begin → BeginsAs begin k s
-begun_as begin k s h = subst (λ (x : Begin). BeginsAs x k s) h (begins_as k s)
+pub begun_as : (begin : Begin) (level : ℕ) (kind : SyntaxKind) (text : List ℕ) (second third : Option SyntaxKind) → begin_of level kind text second third ≡ begin → BeginsAs begin level kind second
+begun_as begin level kind text second third h = subst (λ (x : Begin). BeginsAs x level kind second) h (begins_as level kind text second third)

@@ -1,65 +1,118 @@
 -- The errors of a row that stands as it may.
-use Rattle.std.proofs.Common.{◌≡◌, ◌⊎◌, inl, inr, ℕ, true, false, List, [], ◌∷◌, ◌++◌, Option, refl, ap, sym, ◌∙◌, subst, append-nil}
+use Rattle.std.proofs.Common.{◌≡◌, ◌⊎◌, inl, inr, ℕ, true, false, List, [], ◌∷◌, ◌++◌, Option, Some, None, refl, ap, sym, ◌∙◌, subst, append_assoc}
 use Rattle.std.specs.Prelude.{if◌then◌else◌}
 use Rattle.rnix_kinds.specs.declared.kinds.SyntaxKind.{SyntaxKind}
-use Rattle.rnix_grammar.specs.Fault.{Fault}
-use Rattle.rnix_grammar.specs.Sketch.{Token, Note, Stray, Unwanted, Extra, TooDeep, Sketch, row_of, tokens_in}
-use Rattle.rnix_grammar.specs.Rows.{Place, RootEnd, ParenInside, ParenEnd, Past, missing, whole, report, IsBeside, Stands, end, leaf, wrong, inner}
-use Rattle.rnix_grammar.specs.Mended.{is_ended, others, is_misplaced, NoneMisplaced, AreSettled}
-use Rattle.rnix_grammar.specs.Shape.{reports}
+use Rattle.rnix_kinds.specs.declared.kinds.SyntaxKind.TheVariants.{NODE_PAT_ENTRY}
+use Rattle.rnix_grammar.specs.Fault.{Fault, named_twice}
+use Rattle.rnix_grammar.specs.Sketch.{Token, Note, Stray, Unwanted, Extra, Twice, TooDeep, Sketch, blank, ◌⊕◌, one_token, one_fault, row_of, tokens_in, extent_of}
+use Rattle.rnix_grammar.specs.Reports.{report, repeated_if, entry_name, has_entry}
+use Rattle.rnix_grammar.specs.Rows.{Spot}
+use Rattle.rnix_grammar.specs.Stands.{Stands, end, leaf, lost, wrong, second, inner, repeats, IsBeside}
+use Rattle.rnix_grammar.specs.Mended.{is_ended, others, is_misplaced, NoneMisplaced, AreSettled, IsNamedList, AreNamedLists}
+use Rattle.rnix_grammar.specs.Shape.{reports_behind}
 use Rattle.rnix_grammar.proofs.SketchLemmas.{tokens_in-row_of}
-use Rattle.rnix_grammar.proofs.Basics.{true_is_not_false}
-use Rattle.rnix_grammar.proofs.Basics.{not_nil}
+use Rattle.rnix_grammar.proofs.StandsLemmas.{none_of, first_none}
+use Rattle.rnix_grammar.proofs.LackFacts.{lack_ended}
+use Rattle.rnix_grammar.proofs.Basics.{true_is_not_false, not_nil}
 
-nil_left : (xs ys : List Token) → xs ++ ys ≡ [] → xs ≡ []
-nil_left [] ys h = refl
-nil_left (x ∷ xs) ys h = absurd (not_nil h)
-
-nil_right : (xs ys : List Token) → xs ++ ys ≡ [] → ys ≡ []
-nil_right [] ys h = h
-nil_right (x ∷ xs) ys h = absurd (not_nil h)
-
+-- the others of two lists
 pub others-++ : (es fs : List Fault) → others (es ++ fs) ≡ others es ++ others fs
 others-++ [] fs = refl
 others-++ (e ∷ es) fs =
     elim (is_ended e) as (λ x. (if x then others (es ++ fs) else e ∷ others (es ++ fs)) ≡ (if x then others es else e ∷ others es) ++ others fs)
     [ true ↦ others-++ es fs | false ↦ ap (λ x. e ∷ x) (others-++ es fs) ]
 
-pub others_missing : (q : Place) → others (missing q) ≡ []
-others_missing RootEnd = refl
-others_missing Past = refl
-others_missing ParenInside = refl
-others_missing ParenEnd = refl
-others_missing _ = refl
+-- an error of the end of the text is none of the others
+others_ended : (e : Fault) (es : List Fault) → is_ended e ≡ true → others (e ∷ es) ≡ others es
+others_ended e es h = ap (λ x. if x then others es else e ∷ others es) h
 
-others_report : (n : Note) (ts : List Token) (es : List Fault) → others (report n ts ∷ es) ≡ report n ts ∷ others es
+-- the error of an error node is one of the others
+pub others_report : (n : Note) (ts : List Token) (es : List Fault) → others (report n ts ∷ es) ≡ report n ts ∷ others es
 others_report Stray ts es = refl
 others_report (Unwanted u) ts es = refl
 others_report Extra ts es = refl
+others_report Twice ts es = refl
 others_report TooDeep ts es = refl
 
-pub reports-row_of : (ts : List Token) → reports (row_of ts) ≡ []
-reports-row_of [] = refl
-reports-row_of (t ∷ ts) = reports-row_of ts
+-- so is that of a repeated entry
+others_if : (o : Option Token) (b : Sketch) → others (repeated_if o b) ≡ repeated_if o b
+others_if None b = refl
+others_if (Some t) b =
+    elim (has_entry t.text b) as
+    (λ x. others (if x then named_twice (extent_of (t ∷ [])) t.text ∷ [] else []) ≡ (if x then named_twice (extent_of (t ∷ [])) t.text ∷ [] else []))
+    [ true ↦ refl | false ↦ refl ]
 
--- the errors other than those of the end are those of the error nodes
-pub stands_reports : {p : SyntaxKind} {a : ℕ} {q q' : Place} {b : Option SyntaxKind} {i : ℕ} {us : List Token} {f : Sketch} {es : List Fault}
-    → Stands p a q q' b i us f es → others es ≡ reports f
+-- and those of a node, if it is an entry
+pub others_repeats : (k : SyntaxKind) (b c : Sketch) → others (repeats k b c) ≡ repeats k b c
+others_repeats NODE_PAT_ENTRY b c = others_if (entry_name c) b
+others_repeats _ b c = refl
+
+-- leaves alone have no errors
+pub reports-row_of : (b : Sketch) (ts : List Token) → reports_behind b (row_of ts) ≡ []
+reports-row_of b [] = refl
+reports-row_of b (t ∷ ts) = reports-row_of (b ⊕ one_token t.kind t) ts
+
+-- the errors other than those of the end of the text are those of the error nodes and of repeated entries, as these close
+pub stands_reports : {p : SyntaxKind} {a : ℕ} {q q' : Spot} {b : Sketch} {i : ℕ} {us : List Token} {f : Sketch} {es : List Fault}
+    → Stands p a q q' b i us f es → others es ≡ reports_behind b f
 stands_reports end = refl
-stands_reports (leaf h g j s) = stands_reports s
-stands_reports (wrong {c = c} {f = f} {es = es} n ts h v d g j s e) =
-    ap others e ∙ others_report n ts es ∙ ap (λ x. report n ts ∷ x) (stands_reports s)
-    ∙ ap (λ x. report n x ∷ reports f) (sym (ap tokens_in h ∙ tokens_in-row_of ts))
-    ∙ ap (λ x. x ++ (report n (tokens_in c) ∷ reports f)) (sym (ap reports h ∙ reports-row_of ts))
-stands_reports (inner {s = s} {c = c} {f = f} {ds = ds} {es = es} h v x l w g j y e) =
-    ap others e ∙ others-++ (ds ++ missing s) es ∙ ap (λ z. z ++ others es) (others-++ ds (missing s) ∙ ap (λ z. others ds ++ z) (others_missing s) ∙ append-nil (others ds))
-    ∙ ap (λ z. z ++ others es) (stands_reports x) ∙ ap (λ z. reports c ++ z) (stands_reports y)
+stands_reports (leaf {f = f} h tight g l c j s) = stands_reports s ∙ ap (λ x. reports_behind x f) c
+stands_reports (lost {x = x} {y = y} {e = e} {es = es} u n l s z) = ap others z ∙ others_ended e es (lack_ended x y e l).0 ∙ stands_reports s
+stands_reports {b = b} (wrong {c = c} {f = f} {es = es} n ts h v x d j s z) =
+    ap others z ∙ others_report n ts es ∙ ap (λ x. report n ts ∷ x) (stands_reports s ∙ ap (λ x. reports_behind x f) d)
+    ∙ ap (λ x. report n x ∷ reports_behind (b ⊕ one_fault n c) f) (sym (ap tokens_in h ∙ tokens_in-row_of ts))
+    ∙ ap (λ x. x ++ (report n (tokens_in c) ∷ reports_behind (b ⊕ one_fault n c) f)) (sym (ap (reports_behind blank) h ∙ reports-row_of blank ts))
+stands_reports {b = b} (second {c = c} {f = f} {ds = ds} {es = es} v s w p q r d j y z) =
+    ap others z ∙ others-++ (ds ++ report Twice (tokens_in c) ∷ []) es ∙ ap (λ x. x ++ others es) (others-++ ds (report Twice (tokens_in c) ∷ []))
+    ∙ append_assoc (others ds) (report Twice (tokens_in c) ∷ []) (others es) ∙ ap (λ x. x ++ (report Twice (tokens_in c) ∷ others es)) (stands_reports s)
+    ∙ ap (λ x. reports_behind blank c ++ (report Twice (tokens_in c) ∷ x)) (stands_reports y ∙ ap (λ x. reports_behind x f) d)
+stands_reports {b = b} (inner {c = c} {f = f} {ds = ds} {es = es} {k = k} v s w form tight h l d j y z) =
+    ap others z ∙ others-++ (ds ++ repeats k b c) es ∙ ap (λ x. x ++ others es) (others-++ ds (repeats k b c) ∙ ap (λ x. others ds ++ x) (others_repeats k b c))
+    ∙ append_assoc (others ds) (repeats k b c) (others es) ∙ ap (λ x. x ++ (repeats k b c ++ others es)) (stands_reports s)
+    ∙ ap (λ x. reports_behind blank c ++ (repeats k b c ++ x)) (stands_reports y ∙ ap (λ x. reports_behind x f) d)
+
+-- lists of wanted kinds in two lists of errors
+named-++ : (es fs : List Fault) → AreNamedLists es → AreNamedLists fs → AreNamedLists (es ++ fs)
+named-++ [] fs h k = k
+named-++ (e ∷ es) fs h k = (h.0, named-++ es fs h.1 k)
+
+-- the error of an error node has no list of these
+named_report : (n : Note) (ts : List Token) → IsNamedList (report n ts)
+named_report Stray ts = tt
+named_report (Unwanted u) ts = tt
+named_report Extra ts = tt
+named_report Twice ts = tt
+named_report TooDeep ts = tt
+
+-- nor has that of a repeated entry
+named_if : (o : Option Token) (b : Sketch) → AreNamedLists (repeated_if o b)
+named_if None b = tt
+named_if (Some t) b =
+    elim (has_entry t.text b) as (λ x. AreNamedLists (if x then named_twice (extent_of (t ∷ [])) t.text ∷ [] else [])) [ true ↦ (tt, tt) | false ↦ tt ]
+
+-- nor those of a node
+named_repeats : (k : SyntaxKind) (b c : Sketch) → AreNamedLists (repeats k b c)
+named_repeats NODE_PAT_ENTRY b c = named_if (entry_name c) b
+named_repeats _ b c = tt
+
+-- each list of wanted kinds is one of those that tokens are wanted by
+pub stands_named : {p : SyntaxKind} {a : ℕ} {q q' : Spot} {b : Sketch} {i : ℕ} {us : List Token} {f : Sketch} {es : List Fault}
+    → Stands p a q q' b i us f es → AreNamedLists es
+stands_named end = tt
+stands_named (leaf h tight g l c j s) = stands_named s
+stands_named (lost {x = x} {y = y} {e = e} u n l s z) = subst AreNamedLists (sym z) ((lack_ended x y e l).1, stands_named s)
+stands_named (wrong n ts h v x d j s z) = subst AreNamedLists (sym z) (named_report n ts, stands_named s)
+stands_named (second {c = c} {ds = ds} {es = es} v s w p q r d j y z) =
+    subst AreNamedLists (sym z) (named-++ (ds ++ report Twice (tokens_in c) ∷ []) es (named-++ ds (report Twice (tokens_in c) ∷ []) (stands_named s) (tt, tt)) (stands_named y))
+stands_named {b = b} (inner {c = c} {ds = ds} {es = es} {k = k} v s w form tight h l d j y z) =
+    subst AreNamedLists (sym z) (named-++ (ds ++ repeats k b c) es (named-++ ds (repeats k b c) (stands_named s) (named_repeats k b c)) (stands_named y))
 
 -- some error is of the end of the text
 abbrev pub HasEnded : List Fault → Type 0
 HasEnded [] = ⊥
 HasEnded (e ∷ es) = (is_ended e ≡ true) ⊎ HasEnded es
 
+-- in one of two lists
 has-++ : (es fs : List Fault) → HasEnded (es ++ fs) → HasEnded es ⊎ HasEnded fs
 has-++ [] fs h = inr h
 has-++ (e ∷ es) fs h = elim h [ inl x ↦ inl (inl x) | inr x ↦ further (has-++ es fs x) ]
@@ -67,88 +120,124 @@ has-++ (e ∷ es) fs h = elim h [ inl x ↦ inl (inl x) | inr x ↦ further (has
     further : HasEnded es ⊎ HasEnded fs → ((is_ended e ≡ true) ⊎ HasEnded es) ⊎ HasEnded fs
     further w = elim w [ inl y ↦ inl (inr y) | inr y ↦ inr y ]
 
+-- tokens in two lists of errors
 none-++ : (es fs : List Fault) → NoneMisplaced es → NoneMisplaced fs → NoneMisplaced (es ++ fs)
 none-++ [] fs h k = k
 none-++ (e ∷ es) fs h k = (h.0, none-++ es fs h.1 k)
 
-none_missing : (q : Place) → NoneMisplaced (missing q)
-none_missing RootEnd = tt
-none_missing Past = tt
-none_missing ParenInside = (refl, (refl, tt))
-none_missing ParenEnd = (refl, tt)
-none_missing _ = (refl, tt)
-
-settled_missing : (q : Place) → AreSettled (missing q)
-settled_missing RootEnd = tt
-settled_missing Past = tt
-settled_missing ParenInside = ((tt, λ x. tt), λ x. (refl, tt))
-settled_missing ParenEnd = (tt, λ x. tt)
-settled_missing _ = (tt, λ x. tt)
-
+-- the order of two lists
 settled-++ : (es fs : List Fault) → AreSettled es → AreSettled fs → (HasEnded es → NoneMisplaced fs) → AreSettled (es ++ fs)
 settled-++ [] fs h k r = k
 settled-++ (e ∷ es) fs h k r = (settled-++ es fs h.0 k (λ x. r (inr x)), λ x. none-++ es fs (h.1 x) (r (inl x)))
 
+-- no token is wrong by an error of the end of the text
+ended_placed : (e : Fault) → is_ended e ≡ true → is_misplaced e ≡ false
+ended_placed (Fault.unwanted k r ks) h = absurd (true_is_not_false (sym h))
+ended_placed (Fault.extra r) h = absurd (true_is_not_false (sym h))
+ended_placed _ h = refl
+
+-- the error of an error node is not of the end of the text
 report_not_ended : (n : Note) (ts : List Token) → is_ended (report n ts) ≡ true → ⊥
 report_not_ended Stray ts h = true_is_not_false (sym h)
 report_not_ended (Unwanted u) ts h = true_is_not_false (sym h)
 report_not_ended Extra ts h = true_is_not_false (sym h)
+report_not_ended Twice ts h = true_is_not_false (sym h)
 report_not_ended TooDeep ts h = true_is_not_false (sym h)
 
-pub whole_owes_none : (q : Place) → whole q ≡ true → missing q ≡ []
-whole_owes_none RootEnd h = refl
-whole_owes_none Past h = refl
-whole_owes_none _ h = absurd (true_is_not_false (sym h))
+-- neither the end of the text nor a wrong token is among the errors
+abbrev pub AreCalm : List Fault → Type 0
+AreCalm es = NoneMisplaced es × AreSettled es × (HasEnded es → ⊥)
+
+-- the error of a repeated entry is of neither kind
+none_if : (o : Option Token) (b : Sketch) → AreCalm (repeated_if o b)
+none_if None b = (tt, tt, λ h. h)
+none_if (Some t) b =
+    elim (has_entry t.text b) as (λ x. AreCalm (if x then named_twice (extent_of (t ∷ [])) t.text ∷ [] else [])) [
+      | true ↦ ((refl, tt), (tt, λ h. tt), λ h. elim h [ inl x ↦ true_is_not_false (sym x) | inr x ↦ x ])
+      | false ↦ (tt, tt, λ h. h)
+    ]
+
+-- nor are the errors of a node that repeats a name
+pub calm_repeats : (k : SyntaxKind) (b c : Sketch) → AreCalm (repeats k b c)
+calm_repeats NODE_PAT_ENTRY b c = none_if (entry_name c) b
+calm_repeats _ b c = (tt, tt, λ h. h)
 
 -- an error node with no token is nested too deep
-empty_report : (n : Note) (p : SyntaxKind) (a : ℕ) (b : Option SyntaxKind) (i : ℕ) (us : List Token) → IsBeside n p a b i [] us → is_misplaced (report n []) ≡ false
-empty_report Stray p a b i us h = absurd h
-empty_report (Unwanted u) p a b i us h = absurd h
-empty_report Extra p a b i us h = absurd h
-empty_report TooDeep p a b i us h = refl
+empty_report : (n : Note) (p : SyntaxKind) (a : ℕ) (q r : Spot) (b : Sketch) (i : ℕ) (us : List Token) → IsBeside n p a q r b i [] us → is_misplaced (report n []) ≡ false
+empty_report Stray p a q r b i us h = absurd h
+empty_report (Unwanted u) p a q r b i us h = absurd h
+empty_report Extra p a q r b i us h = absurd h
+empty_report Twice p a q r b i us h = absurd h
+empty_report TooDeep p a q r b i us h = refl
 
 -- where no token is, none is wrong
-none_empty : {p : SyntaxKind} {a : ℕ} {q q' : Place} {b : Option SyntaxKind} {i : ℕ} {us : List Token} {f : Sketch} {es : List Fault}
+pub none_empty : {p : SyntaxKind} {a : ℕ} {q q' : Spot} {b : Sketch} {i : ℕ} {us : List Token} {f : Sketch} {es : List Fault}
     → Stands p a q q' b i us f es → tokens_in f ≡ [] → NoneMisplaced es
 none_empty end n = tt
-none_empty (leaf h g j s) n = absurd (not_nil n)
-none_empty {p = p} {a = a} {b = b} {i = i} (wrong {vs = vs} {c = c} {f = f} note ts h v d g j s e) n =
-    let none : ts ≡ [] = sym (ap tokens_in h ∙ tokens_in-row_of ts) ∙ nil_left (tokens_in c) (tokens_in f) n in
-    let beside : IsBeside note p a b i [] vs = subst (λ (x : List Token). IsBeside note p a b i x vs) none d in
-    subst NoneMisplaced (sym e)
-    (ap (λ x. is_misplaced (report note x)) none ∙ empty_report note p a b i vs beside, none_empty s (nil_right (tokens_in c) (tokens_in f) n))
-none_empty (inner {s = s} {c = c} {f = f} {ds = ds} {es = es} h v x l w g j y e) n =
-    subst NoneMisplaced (sym e)
-    (none-++ (ds ++ missing s) es (none-++ ds (missing s) (none_empty x (nil_left (tokens_in c) (tokens_in f) n)) (none_missing s))
-    (none_empty y (nil_right (tokens_in c) (tokens_in f) n)))
+none_empty (leaf h tight g l c j s) n = absurd (not_nil n)
+none_empty (lost {x = x} {y = y} {e = e} u m l s z) n = subst NoneMisplaced (sym z) (ended_placed e (lack_ended x y e l).0, none_empty s n)
+none_empty {p = p} {a = a} {q = q} {b = b} {i = i} (wrong {r = r} {vs = vs} {c = c} {f = f} note ts h v x d j s z) n =
+    let none : ts ≡ [] = sym (ap tokens_in h ∙ tokens_in-row_of ts) ∙ first_none (tokens_in c) (tokens_in f) n in
+    let beside : IsBeside note p a q r b i [] vs = subst (λ (x : List Token). IsBeside note p a q r b i x vs) none x in
+    subst NoneMisplaced (sym z)
+    (ap (λ x. is_misplaced (report note x)) none ∙ empty_report note p a q r b i vs beside, none_empty s (none_of (tokens_in c) (tokens_in f) n))
+none_empty (second {c = c} {f = f} {ds = ds} {es = es} v s w p q r d j y z) n =
+    subst NoneMisplaced (sym z)
+    (none-++ (ds ++ report Twice (tokens_in c) ∷ []) es (none-++ ds (report Twice (tokens_in c) ∷ []) (none_empty s (first_none (tokens_in c) (tokens_in f) n)) (refl, tt))
+    (none_empty y (none_of (tokens_in c) (tokens_in f) n)))
+none_empty {b = b} (inner {c = c} {f = f} {ds = ds} {es = es} {k = k} v s w form tight h l d j y z) n =
+    subst NoneMisplaced (sym z)
+    (none-++ (ds ++ repeats k b c) es (none-++ ds (repeats k b c) (none_empty s (first_none (tokens_in c) (tokens_in f) n)) (calm_repeats k b c).0)
+    (none_empty y (none_of (tokens_in c) (tokens_in f) n)))
 
--- behind a node with an error of the end no item is left
-ended_inside : (s : Place) (vs : List Token) (ds : List Fault) → (HasEnded ds → vs ≡ []) → (whole s ≡ true) ⊎ (vs ≡ []) → HasEnded (ds ++ missing s) → vs ≡ []
-ended_inside s vs ds ih w h =
-    elim (has-++ ds (missing s) h) [ inl y ↦ ih y | inr y ↦ elim w [ inl z ↦ absurd (subst HasEnded (whole_owes_none s z) y) | inr z ↦ z ] ]
-
-last_ended : {p : SyntaxKind} {a : ℕ} {q q' : Place} {b : Option SyntaxKind} {i : ℕ} {us : List Token} {f : Sketch} {es : List Fault}
+-- behind an error of the end of the text no item is left
+pub last_ended : {p : SyntaxKind} {a : ℕ} {q q' : Spot} {b : Sketch} {i : ℕ} {us : List Token} {f : Sketch} {es : List Fault}
     → Stands p a q q' b i us f es → HasEnded es → us ≡ []
 last_ended end h = absurd h
-last_ended (leaf k g j s) h = last_ended s h
-last_ended (wrong n ts k v d g j s e) h =
-    elim (subst HasEnded e h) [ inl x ↦ absurd (report_not_ended n ts x) | inr x ↦ last_ended s x ]
-last_ended {us = us} (inner {s = s} {vs = vs} {f = f} {ds = ds} {es = es} k v x l w g j y e) h =
-    elim (has-++ (ds ++ missing s) es (subst HasEnded e h)) [
-      | inl z ↦ nil_right (tokens_in f) us (sym v ∙ ended_inside s vs ds (last_ended x) w z)
-      | inr z ↦ last_ended y z
+last_ended (leaf k tight g l c j s) h = last_ended s h
+last_ended (lost u n l s z) h = u
+last_ended (wrong n ts k v x d j s z) h =
+    elim (subst HasEnded z h) [ inl x ↦ absurd (report_not_ended n ts x) | inr x ↦ last_ended s x ]
+last_ended {us = us} (second {vs = vs} {c = c} {f = f} {ds = ds} {es = es} v s w p q r d j y z) h =
+    elim (has-++ (ds ++ report Twice (tokens_in c) ∷ []) es (subst HasEnded z h)) [
+      | inl m ↦
+          elim (has-++ ds (report Twice (tokens_in c) ∷ []) m) [
+            | inl o ↦ none_of (tokens_in f) us (sym v ∙ last_ended s o)
+            | inr o ↦ elim o [ inl e ↦ absurd (true_is_not_false (sym e)) | inr e ↦ absurd e ]
+          ]
+      | inr m ↦ last_ended y m
+    ]
+last_ended {b = b} {us = us} (inner {vs = vs} {c = c} {f = f} {ds = ds} {es = es} {k = k} v s w form tight g l d j y z) h =
+    elim (has-++ (ds ++ repeats k b c) es (subst HasEnded z h)) [
+      | inl m ↦
+          elim (has-++ ds (repeats k b c) m) [ inl o ↦ none_of (tokens_in f) us (sym v ∙ last_ended s o) | inr o ↦ absurd ((calm_repeats k b c).2 o) ]
+      | inr m ↦ last_ended y m
     ]
 
 -- behind an error of the end of the text no token is wrong
-pub stands_settled : {p : SyntaxKind} {a : ℕ} {q q' : Place} {b : Option SyntaxKind} {i : ℕ} {us : List Token} {f : Sketch} {es : List Fault}
+pub stands_settled : {p : SyntaxKind} {a : ℕ} {q q' : Spot} {b : Sketch} {i : ℕ} {us : List Token} {f : Sketch} {es : List Fault}
     → Stands p a q q' b i us f es → AreSettled es
 stands_settled end = tt
-stands_settled (leaf h g j s) = stands_settled s
-stands_settled (wrong n ts h v d g j s e) = subst AreSettled (sym e) (stands_settled s, λ x. absurd (report_not_ended n ts x))
-stands_settled {us = us} (inner {s = s} {vs = vs} {f = f} {ds = ds} {es = es} h v x l w g j y e) =
-    subst AreSettled (sym e)
-    (settled-++ (ds ++ missing s) es (settled-++ ds (missing s) (stands_settled x) (settled_missing s) (λ z. none_missing s)) (stands_settled y)
-    (λ z. none_empty y (nil_left (tokens_in f) us (sym v ∙ ended_inside s vs ds (last_ended x) w z))))
-
-pub whole_settled : (q : Place) (es : List Fault) → AreSettled es → AreSettled (es ++ missing q)
-whole_settled q es h = settled-++ es (missing q) h (settled_missing q) (λ z. none_missing q)
+stands_settled (leaf h tight g l c j s) = stands_settled s
+stands_settled (lost u n l s z) = subst AreSettled (sym z) (stands_settled s, λ x. none_empty s n)
+stands_settled (wrong n ts h v x d j s z) = subst AreSettled (sym z) (stands_settled s, λ x. absurd (report_not_ended n ts x))
+stands_settled {us = us} (second {vs = vs} {c = c} {f = f} {ds = ds} {es = es} v s w p q r d j y z) =
+    subst AreSettled (sym z)
+    (settled-++ (ds ++ report Twice (tokens_in c) ∷ []) es
+    (settled-++ ds (report Twice (tokens_in c) ∷ []) (stands_settled s) (tt, λ x. tt) (λ o. (refl, tt)))
+    (stands_settled y)
+    (λ m.
+    elim (has-++ ds (report Twice (tokens_in c) ∷ []) m) [
+      | inl o ↦ none_empty y (first_none (tokens_in f) us (sym v ∙ last_ended s o))
+      | inr o ↦ elim o [ inl e ↦ absurd (true_is_not_false (sym e)) | inr e ↦ absurd e ]
+    ]))
+stands_settled {b = b} {us = us} (inner {vs = vs} {c = c} {f = f} {ds = ds} {es = es} {k = k} v s w form tight g l d j y z) =
+    subst AreSettled (sym z)
+    (settled-++ (ds ++ repeats k b c) es
+    (settled-++ ds (repeats k b c) (stands_settled s) (calm_repeats k b c).1 (λ o. (calm_repeats k b c).0))
+    (stands_settled y)
+    (λ m.
+    elim (has-++ ds (repeats k b c) m) [
+      | inl o ↦ none_empty y (first_none (tokens_in f) us (sym v ∙ last_ended s o))
+      | inr o ↦ absurd ((calm_repeats k b c).2 o)
+    ]))

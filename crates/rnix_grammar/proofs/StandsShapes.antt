@@ -1,171 +1,129 @@
--- The rows of a sketch without trivia that stands as it may, and of its mended tree.
-use Rattle.std.proofs.Common.{◌≡◌, ℕ, ◌+◌, ◌≤◌, true, List, [], ◌∷◌, ◌++◌, Option, refl, ap, sym, ◌∙◌, subst, arith}
-use Rattle.std.specs.Prelude.{if◌then◌else◌}
+-- A row that stands has no error exactly if each of its nodes has its shape, and nothing in it is reported.
+use Rattle.std.proofs.Common.{◌≡◌, ◌↔◌, inl, inr, ℕ, ◌+◌, Bool, true, false, List, [], ◌∷◌, ◌++◌, refl, ap, sym, ◌∙◌, subst, arith}
+use Rattle.std.specs.Prelude.{if◌then◌else◌, ◌&&◌}
 use Rattle.rnix_kinds.specs.declared.kinds.SyntaxKind.{SyntaxKind}
-use Rattle.rnix_kinds.specs.declared.kinds.SyntaxKind.TheVariants.{TOKEN_ADD, TOKEN_L_PAREN, TOKEN_R_PAREN, TOKEN_L_BRACK, TOKEN_R_BRACK, TOKEN_INTEGER, TOKEN_PATH_SEARCH, TOKEN_IDENT, TOKEN_CUR_POS, NODE_LITERAL}
-use Rattle.rnix_tree.specs.Forest.{Forest}
+use Rattle.rnix_kinds.specs.declared.kinds.SyntaxKind.TheVariants.{NODE_ROOT, NODE_PATTERN}
+use Rattle.rnix_tree.specs.Forest.{node, leaf as leaf_in}
+use Rattle.rnix_grammar.specs.declared.place.Place.TheVariants as places
 use Rattle.rnix_grammar.specs.Fault.{Fault}
-use Rattle.rnix_grammar.specs.Sketch.{Token, Note, Stray, Unwanted, Extra, TooDeep, Sketch, blank, token, branch, fault, forget}
-use Rattle.rnix_grammar.specs.Rows.{Place, RootStart, RootEnd, LiteralStart, SearchPathStart, IdentStart, CurPosStart, BinStart, BinOperator, BinEnd, ApplyStart, ApplyEnd, ParenStart, ParenInside, ParenEnd, ListStart, ListInside, Past, Nowhere, start, run, is_row, IsBeginning, live, missing, whole, patched, report, Stands, end, leaf, wrong, inner}
-use Rattle.rnix_grammar.specs.Mended.{patch, mended, kinds_of, halves, AreBegun, ended_count}
-use Rattle.rnix_grammar.proofs.StandsFaults.{whole_owes_none}
-use Rattle.rnix_grammar.proofs.Basics.{true_is_not_false}
+use Rattle.rnix_grammar.specs.Sketch.{Token, Sketch, blank, token, branch, fault, forget}
+use Rattle.rnix_grammar.specs.Rows.{Spot, At, whole, live, run, is_row}
+use Rattle.rnix_grammar.specs.Stands.{Stands, end, leaf, lost, wrong, second, inner, repeats}
+use Rattle.rnix_grammar.specs.Reports.{report}
+use Rattle.rnix_grammar.specs.Sketch.{Twice, tokens_in}
+use Rattle.rnix_grammar.specs.Mended.{mended, kinds_of, halves, is_ended, ended_count, others}
+use Rattle.rnix_grammar.specs.Shape.{reports_behind, reports}
+use Rattle.rnix_grammar.proofs.StandsFaults.{stands_reports}
+use Rattle.rnix_grammar.proofs.StandsRows.{half, stands_counts}
+use Rattle.rnix_grammar.proofs.ImitateLemmas.{imitates_self}
+use Rattle.rnix_grammar.proofs.BindFacts.{bare_bind, Agrees, agrees_start, agrees_later, formed_bare}
 
+-- some errors are not none
 cons_is_not_nil : {e : Fault} {es : List Fault} → e ∷ es ≡ [] → ⊥
 cons_is_not_nil h = cc
 
+-- two lists of which both are empty
 pub none_left : (es fs : List Fault) → es ++ fs ≡ [] → es ≡ []
 none_left [] fs h = refl
 none_left (e ∷ es) fs h = absurd (cons_is_not_nil h)
 
+-- and the second
 pub none_right : (es fs : List Fault) → es ++ fs ≡ [] → fs ≡ []
 none_right [] fs h = h
 none_right (e ∷ es) fs h = absurd (cons_is_not_nil h)
 
-pub owes_none_whole : (q : Place) → missing q ≡ [] → whole q ≡ true
-owes_none_whole RootEnd h = refl
-owes_none_whole Past h = refl
-owes_none_whole _ h = absurd (cons_is_not_nil h)
+-- bound names are formed in a row without trivia
+abbrev pub bare_binds : Bool → Sketch → Bool
+bare_binds first blank = true
+bare_binds first (token k t f) = bare_binds false f
+bare_binds first (branch k c f) = bare_bind first k c && bare_binds false f
+bare_binds first (fault n c f) = bare_binds false f
 
--- every node has a row of its kind, and none is an error node
-abbrev pub AreRows : Sketch → Type 0
-AreRows blank = Unit {0}
-AreRows (token k t f) = AreRows f
-AreRows (branch k c f) = (is_row k (kinds_of (forget c)) ≡ true) × AreRows c × AreRows f
-AreRows (fault n c f) = ⊥
+-- without trivia, every node has a row of its kind, its bound names are formed, and none is an error node
+abbrev pub AreBareRows : Sketch → Type 0
+AreBareRows blank = Unit {0}
+AreBareRows (token k t f) = AreBareRows f
+AreBareRows (branch k c f) = (is_row k (kinds_of (forget c)) ≡ true) × (bare_binds true c ≡ true) × AreBareRows c × AreBareRows f
+AreBareRows (fault n c f) = ⊥
+
+-- a row of such nodes, from one spot to another
+pub record IsBareRow (first : Bool) (q q' : Spot) (f : Sketch) : Type 0 where
+  pub nodes : AreBareRows f
+  pub binds : bare_binds first f ≡ true
+  pub reaches : run q (kinds_of (forget f)) ≡ q'
+
+-- two tests hold
+both_true : (a b : Bool) → a ≡ true → b ≡ true → (a && b) ≡ true
+both_true a b h k = ap (λ x. x && b) h ∙ k
 
 -- without errors every node has its row
-pub stands_rows : {p : SyntaxKind} {a : ℕ} {q q' : Place} {b : Option SyntaxKind} {i : ℕ} {us : List Token} {f : Sketch} {es : List Fault}
-    → Stands p a q q' b i us f es → es ≡ [] → AreRows f × (run q (kinds_of (forget f)) ≡ q')
-stands_rows end n = (tt, refl)
-stands_rows {q' = q'} (leaf {f = f} h g j s) n =
-    let w = stands_rows s n in
-    (w.0, ap (λ x. run x (kinds_of (forget f))) g ∙ w.1)
-stands_rows (wrong note ts h v d g j s e) n = absurd (cons_is_not_nil (sym e ∙ n))
-stands_rows (inner {s = s} {c = c} {f = f} {ds = ds} {es = es} h v x l w g j y e) n =
-    let all : (ds ++ missing s) ++ es ≡ [] = sym e ∙ n in
-    let inside : ds ++ missing s ≡ [] = none_left (ds ++ missing s) es all in
-    let u = stands_rows x (none_left ds (missing s) inside) in
-    let z = stands_rows y (none_right (ds ++ missing s) es all) in
-    ((ap whole u.1 ∙ owes_none_whole s (none_right ds (missing s) inside), u.0, z.0), ap (λ r. run r (kinds_of (forget f))) g ∙ z.1)
-
--- where every node has its row there is no error
-pub rows_stand : {p : SyntaxKind} {a : ℕ} {q q' : Place} {b : Option SyntaxKind} {i : ℕ} {us : List Token} {f : Sketch} {es : List Fault}
-    → Stands p a q q' b i us f es → AreRows f → (es ≡ []) × (run q (kinds_of (forget f)) ≡ q')
-rows_stand end r = (refl, refl)
-rows_stand (leaf {f = f} h g j s) r =
-    let w = rows_stand s r in
-    (w.0, ap (λ x. run x (kinds_of (forget f))) g ∙ w.1)
-rows_stand (wrong note ts h v d g j s e) r = absurd r
-rows_stand (inner {s = s} {c = c} {f = f} {ds = ds} {es = es} h v x l w g j y e) r =
-    let u = rows_stand x r.1 in
-    let z = rows_stand y r.2 in
-    let owes : missing s ≡ [] = whole_owes_none s (ap whole (sym u.1) ∙ r.0) in
-    (e ∙ ap (λ k. k ++ es) (ap (λ k. k ++ missing s) u.0 ∙ owes) ∙ z.0, ap (λ k. run k (kinds_of (forget f))) g ∙ z.1)
-
-run_patch : (n : Note) (q : Place) (f : Forest) → run q (kinds_of (patch n f)) ≡ run (patched n q) (kinds_of f)
-run_patch Stray q f = refl
-run_patch (Unwanted u) q f = refl
-run_patch Extra q f = refl
-run_patch TooDeep q f = refl
-
--- mended, a row comes as far as it stands
-pub mended_row : {p : SyntaxKind} {a : ℕ} {q q' : Place} {b : Option SyntaxKind} {i : ℕ} {us : List Token} {f : Sketch} {es : List Fault}
-    → Stands p a q q' b i us f es → run q (kinds_of (mended f)) ≡ q'
-mended_row end = refl
-mended_row (leaf {f = f} h g j s) = ap (λ x. run x (kinds_of (mended f))) g ∙ mended_row s
-mended_row {q = q} (wrong {f = f} n ts h v d g j s e) = run_patch n q (mended f) ∙ ap (λ x. run x (kinds_of (mended f))) g ∙ mended_row s
-mended_row (inner {f = f} h v x l w g j y e) = ap (λ z. run z (kinds_of (mended f))) g ∙ mended_row y
-
--- from each live place the row can be ended
-pub completed : (q : Place) → live q ≡ true → (ks : List SyntaxKind) × (whole (run q ks) ≡ true)
-completed RootStart h = (NODE_LITERAL ∷ [], refl)
-completed RootEnd h = ([], refl)
-completed LiteralStart h = (TOKEN_INTEGER ∷ [], refl)
-completed SearchPathStart h = (TOKEN_PATH_SEARCH ∷ [], refl)
-completed IdentStart h = (TOKEN_IDENT ∷ [], refl)
-completed CurPosStart h = (TOKEN_CUR_POS ∷ [], refl)
-completed BinStart h = (NODE_LITERAL ∷ (TOKEN_ADD ∷ (NODE_LITERAL ∷ [])), refl)
-completed BinOperator h = (TOKEN_ADD ∷ (NODE_LITERAL ∷ []), refl)
-completed BinEnd h = (NODE_LITERAL ∷ [], refl)
-completed ApplyStart h = (NODE_LITERAL ∷ (NODE_LITERAL ∷ []), refl)
-completed ApplyEnd h = (NODE_LITERAL ∷ [], refl)
-completed ParenStart h = (TOKEN_L_PAREN ∷ (NODE_LITERAL ∷ (TOKEN_R_PAREN ∷ [])), refl)
-completed ParenInside h = (NODE_LITERAL ∷ (TOKEN_R_PAREN ∷ []), refl)
-completed ParenEnd h = (TOKEN_R_PAREN ∷ [], refl)
-completed ListStart h = (TOKEN_L_BRACK ∷ (TOKEN_R_BRACK ∷ []), refl)
-completed ListInside h = (TOKEN_R_BRACK ∷ [], refl)
-completed Past h = ([], refl)
-completed Nowhere h = absurd (true_is_not_false (sym h))
-
-pub beginning : (k : SyntaxKind) (ks : List SyntaxKind) (q : Place) → run (start k) ks ≡ q → live q ≡ true → IsBeginning k ks
-beginning k ks q e l = let w = completed q l in record { more = w.0; is = ap (λ x. whole (run x w.0)) e ∙ w.1 }
-
-begun_patch : (n : Note) (f : Forest) → AreBegun f → AreBegun (patch n f)
-begun_patch Stray f h = (record { more = []; is = refl }, tt, h)
-begun_patch (Unwanted u) f h = h
-begun_patch Extra f h = h
-begun_patch TooDeep f h = (record { more = []; is = refl }, tt, h)
-
-pub stands_begun : {p : SyntaxKind} {a : ℕ} {q q' : Place} {b : Option SyntaxKind} {i : ℕ} {us : List Token} {f : Sketch} {es : List Fault}
-    → Stands p a q q' b i us f es → AreBegun (mended f)
-stands_begun end = tt
-stands_begun (leaf h g j s) = stands_begun s
-stands_begun (wrong {f = f} n ts h v d g j s e) = begun_patch n (mended f) (stands_begun s)
-stands_begun (inner {s = s} {c = c} {k = k} h v x l w g j y e) = (beginning k (kinds_of (mended c)) s (mended_row x) l, stands_begun x, stands_begun y)
-
--- nodes that are not whole, and errors of the end
-pub record Counts (m n : ℕ) : Type 0 where
-  pub few : m ≤ n
-  pub none : m ≡ 0 → n ≡ 0
-
-pub ended_count-++ : (es fs : List Fault) → ended_count (es ++ fs) ≡ ended_count es + ended_count fs
-ended_count-++ [] fs = omega arith
-ended_count-++ (e ∷ es) fs = let h : ended_count (es ++ fs) ≡ ended_count es + ended_count fs = ended_count-++ es fs in omega arith
-
-report_not_counted : (n : Note) (ts : List Token) (es : List Fault) → ended_count (report n ts ∷ es) ≡ ended_count es
-report_not_counted Stray ts es = omega arith
-report_not_counted (Unwanted u) ts es = omega arith
-report_not_counted Extra ts es = omega arith
-report_not_counted TooDeep ts es = omega arith
-
-halves_patch : (n : Note) (f : Forest) → halves (patch n f) ≡ halves f
-halves_patch Stray f = omega arith
-halves_patch (Unwanted u) f = refl
-halves_patch Extra f = refl
-halves_patch TooDeep f = omega arith
-
-pub owed_count : (q : Place) → Counts (if whole q then 0 else 1) (ended_count (missing q))
-owed_count RootEnd = record { few = omega arith; none = λ h. refl }
-owed_count Past = record { few = omega arith; none = λ h. refl }
-owed_count ParenInside = record { few = omega arith; none = λ h. absurd (omega arith) }
-owed_count ParenEnd = record { few = omega arith; none = λ h. absurd (omega arith) }
-owed_count _ = record { few = omega arith; none = λ h. absurd (omega arith) }
-
-pub counts_three : {a a' b b' c c' : ℕ} → Counts a a' → Counts b b' → Counts c c' → Counts (a + b + c) ((b' + a') + c')
-counts_three {a = a} {a' = a'} {b = b} {b' = b'} {c = c} {c' = c'} x y z =
-    let f1 : a ≤ a' = x.few in
-    let f2 : b ≤ b' = y.few in
-    let f3 : c ≤ c' = z.few in
+pub stands_rows : {p : SyntaxKind} {a : ℕ} {q q' : Spot} {b : Sketch} {i : ℕ} {us : List Token} {f : Sketch} {es : List Fault} (first : Bool)
+    → Stands p a q q' b i us f es → es ≡ [] → Agrees first q → IsBareRow first q q' f
+stands_rows first end n g = record { nodes = tt; binds = refl; reaches = refl }
+stands_rows {q = q} first (leaf {f = f} {k = k} h tight g l c j s) n m =
+    let w = stands_rows false s n (subst (Agrees false) g (agrees_later q k)) in
+    record { nodes = w.nodes; binds = w.binds; reaches = ap (λ x. run x (kinds_of (forget f))) g ∙ w.reaches }
+stands_rows first (lost u x l s z) n m = absurd (cons_is_not_nil (sym z ∙ n))
+stands_rows first (wrong note ts h v x d j s z) n m = absurd (cons_is_not_nil (sym z ∙ n))
+stands_rows first (second {c = c} {ds = ds} {es = es} v s y o e r d j x z) n m =
+    absurd (cons_is_not_nil (none_right ds (report Twice (tokens_in c) ∷ []) (none_left (ds ++ report Twice (tokens_in c) ∷ []) es (sym z ∙ n))))
+stands_rows {q = q} {b = b} first (inner {c = c} {f = f} {ds = ds} {es = es} {k = k} v s y form tight g l d j x z) n m =
+    let all : (ds ++ repeats k b c) ++ es ≡ [] = sym z ∙ n in
+    let below = stands_rows true s (none_left ds (repeats k b c) (none_left (ds ++ repeats k b c) es all)) (agrees_start k) in
+    let w = stands_rows false x (none_right (ds ++ repeats k b c) es all) (subst (Agrees false) g (agrees_later q k)) in
     record {
-      few = omega arith;
-      none = λ w.
-          let g1 : a' ≡ 0 = x.none (omega arith) in
-          let g2 : b' ≡ 0 = y.none (omega arith) in
-          let g3 : c' ≡ 0 = z.none (omega arith) in
-          omega arith;
+      nodes = (ap whole below.reaches ∙ y, below.binds, below.nodes, w.nodes);
+      binds = both_true (bare_bind first k c) (bare_binds false f) (formed_bare first q k c m (ap live g ∙ l) form) w.binds;
+      reaches = ap (λ x. run x (kinds_of (forget f))) g ∙ w.reaches;
     }
 
-same_counts : {m m' n n' : ℕ} → m ≡ m' → n ≡ n' → Counts m n → Counts m' n'
-same_counts {m = m} {m' = m'} {n = n} {n' = n'} e h c = subst (λ (x : ℕ). Counts x n') e (subst (λ (x : ℕ). Counts m x) h c)
+-- where no node is an error node nothing is mended
+pub mended_none : (f : Sketch) → AreBareRows f → mended f ≡ forget f
+mended_none blank r = refl
+mended_none (token k t f) r = ap (leaf_in k t.text) (mended_none f r)
+mended_none (branch k c f) r = ap (λ x. node k x (mended f)) (mended_none c r.2) ∙ ap (node k (forget c)) (mended_none f r.3)
+mended_none (fault n c f) r = absurd r
 
-pub stands_counts : {p : SyntaxKind} {a : ℕ} {q q' : Place} {b : Option SyntaxKind} {i : ℕ} {us : List Token} {f : Sketch} {es : List Fault}
-    → Stands p a q q' b i us f es → Counts (halves (mended f)) (ended_count es)
-stands_counts end = record { few = omega arith; none = λ h. refl }
-stands_counts (leaf h g j s) = stands_counts s
-stands_counts (wrong {f = f} {es = es} n ts h v d g j s e) =
-    same_counts (sym (halves_patch n (mended f))) (sym (ap ended_count e ∙ report_not_counted n ts es)) (stands_counts s)
-stands_counts (inner {s = s} {c = c} {f = f} {ds = ds} {es = es} h v x l w g j y e) =
-    same_counts (ap (λ z. (if whole z then 0 else 1) + halves (mended c) + halves (mended f)) (sym (mended_row x)))
-    (sym (ap ended_count e ∙ ended_count-++ (ds ++ missing s) es ∙ ap (λ z. z + ended_count es) (ended_count-++ ds (missing s))))
-    (counts_three (owed_count s) (stands_counts x) (stands_counts y))
+-- where every node has its row all are whole
+pub halves_none : (f : Sketch) → AreBareRows f → halves (forget f) ≡ 0
+halves_none blank r = refl
+halves_none (token k t f) r = halves_none f r
+halves_none (branch k c f) r =
+    let one : half (is_row k (kinds_of (forget c))) ≡ 0 = ap half r.0 in
+    let below : halves (forget c) ≡ 0 = halves_none c r.2 in
+    let more : halves (forget f) ≡ 0 = halves_none f r.3 in
+    omega (arith, one, below, more)
+halves_none (fault n c f) r = absurd r
+
+-- no error of the end of the text and no other is none
+none_in_all : (es : List Fault) → ended_count es ≡ 0 → others es ≡ [] → es ≡ []
+none_in_all [] h k = refl
+none_in_all (e ∷ es) h k = by_first (is_ended e) refl
+  where
+    by_first : (x : Bool) → is_ended e ≡ x → e ∷ es ≡ []
+    by_first true i = let one : ended_count (e ∷ es) ≡ 1 + ended_count es = ap (λ x. (if x then 1 else 0) + ended_count es) i in absurd (omega (arith, h, one))
+    by_first false i = absurd (cons_is_not_nil (ap (λ x. if x then others es else e ∷ others es) (sym i) ∙ k))
+
+-- where every node has its row and nothing is reported there is no error
+pub rows_stand : {p : SyntaxKind} {a : ℕ} {q q' : Spot} {b : Sketch} {i : ℕ} {us : List Token} {f : Sketch} {es : List Fault}
+    → Stands p a q q' b i us f es → whole q' ≡ true → ((p ≡ NODE_PATTERN) → ⊥) → AreBareRows f → whole (run q (kinds_of (forget f))) ≡ true → reports_behind b f ≡ [] → es ≡ []
+rows_stand {q = q} {f = f} {es = es} s w not r h n =
+    let row : half (whole (run q (kinds_of (mended f)))) ≡ 0 = ap (λ x. half (whole (run q (kinds_of x)))) (mended_none f r) ∙ ap half h in
+    let all : halves (mended f) ≡ 0 = ap halves (mended_none f r) ∙ halves_none f r in
+    let counts = stands_counts q s w (imitates_self q) in
+    none_in_all es (elim (counts.none (omega (arith, row, all))) [ inl e ↦ e | inr e ↦ absurd (not e.0) ]) (stands_reports s ∙ n)
+
+-- a whole text without trivia: no error exactly if the root and each node below it have their rows, and nothing is reported
+pub record IsBare (f : Sketch) : Type 0 where
+  pub root : is_row NODE_ROOT (kinds_of (forget f)) ≡ true
+  pub nodes : AreBareRows f
+  pub silent : reports f ≡ []
+
+-- a whole text has no error exactly if it is so
+pub whole_rows : {a : ℕ} {i : ℕ} {us : List Token} {f : Sketch} {es : List Fault} → Stands NODE_ROOT a (At places.RootStart) (At places.RootEnd) blank i us f es → (es ≡ []) ↔ IsBare f
+whole_rows {f = f} {es = es} s = (there, λ w. rows_stand s refl (λ e. cc) w.nodes w.root w.silent)
+  where
+    there : es ≡ [] → IsBare f
+    there n =
+        let w = stands_rows true s n (agrees_start NODE_ROOT) in
+        record { root = ap whole w.reaches; nodes = w.nodes; silent = sym (stands_reports s) ∙ ap others n }

@@ -1,224 +1,306 @@
 -- The shape of a whole tree, with its trivia.
-use Rattle.std.proofs.Common.{◌≡◌, ℕ, Bool, true, false, List, [], ◌∷◌, ◌++◌, map, refl, ap, sym, ◌∙◌, subst, append_assoc, append-nil}
-use Rattle.std.specs.Prelude.{if◌then◌else◌}
+use Rattle.std.proofs.Common.{◌≡◌, ◌↔◌, ℕ, Bool, true, false, List, [], ◌∷◌, ◌++◌, Option, Some, None, refl, ap, sym, ◌∙◌, subst}
+use Rattle.std.specs.Prelude.{if◌then◌else◌, ◌&&◌, bytes_eq}
 use Rattle.rnix_kinds.specs.declared.kinds.SyntaxKind.{SyntaxKind}
-use Rattle.rnix_kinds.specs.declared.kinds.SyntaxKind.TheVariants.{TOKEN_IDENT, TOKEN_CUR_POS, NODE_ROOT, NODE_LITERAL, NODE_IDENT, NODE_CUR_POS, NODE_BIN_OP, NODE_APPLY, NODE_PAREN, NODE_ERROR}
+use Rattle.rnix_kinds.specs.declared.kinds.SyntaxKind.TheVariants.{NODE_ROOT, NODE_ERROR, NODE_IDENT, NODE_PAT_BIND, NODE_PAT_ENTRY}
 use Rattle.rnix_kinds.specs.SyntaxKind.{is_trivia}
-use Rattle.rnix_grammar.specs.Tables.{is_cur_pos}
-use Rattle.rnix_grammar.specs.Sketch.{Token, Sketch, blank, token, branch, fault, ◌⊕◌, tokens_in, forget, clean, token_if, told, told_as, told_name, AreTold}
-use Rattle.rnix_grammar.specs.Layout.{from_item, trivia_before, trivia_if, items, tail_of, left_after, dressed, dressed_whole}
-use Rattle.rnix_grammar.specs.Rows.{Nowhere, run, whole, is_row}
+use Rattle.rnix_tree.specs.Forest.{Forest}
+use Rattle.rnix_grammar.specs.declared.place.Place.TheVariants as places
+use Rattle.rnix_grammar.specs.Fault.{Fault, named_twice}
+use Rattle.rnix_grammar.specs.Sketch.{Token, Sketch, blank, token, branch, fault, ◌⊕◌, one_token, one_branch, one_fault, forget, clean, token_if, told, AreTold, tokens_in, extent_of}
+use Rattle.rnix_grammar.specs.Reports.{report, repeated_if, entry_name, only_token, is_same_name, has_entry}
+use Rattle.rnix_grammar.specs.Rows.{At, whole, is_row}
+use Rattle.rnix_grammar.specs.Stands.{Stands, repeats, begins_with_token}
 use Rattle.rnix_grammar.specs.Mended.{kinds_of}
-use Rattle.rnix_grammar.specs.Shape.{item_kinds, BeginsWithItem, EndsWithItem, leaf_kinds, AreShaped}
-use Rattle.rnix_grammar.proofs.LayoutLemmas.{IsFirst, first_item, bared, items-from_item, trivia-from_item}
-use Rattle.rnix_grammar.proofs.StandsShapes.{AreRows}
-use Rattle.rnix_grammar.proofs.EdgeLemmas.{IsSome, some, ends_behind, some_behind, token_kinds-++, kinds_in, kinds_in-⊕}
+use Rattle.rnix_grammar.specs.Trim.{AreNodesTrimmed}
+use Rattle.rnix_grammar.specs.Shape.{item_kinds, begins_with_leaf, is_bind_formed, are_binds_formed, AreRows, IsShaped, leaf_text, text_if, name_in, name_if, with_name, entry_names, is_among, AreNew, AreUnrepeated, IsUnrepeated, reports_behind}
+use Rattle.rnix_grammar.proofs.WholeEdges.{told_alike}
+use Rattle.rnix_grammar.proofs.ImitateLemmas.{nowhere}
+use Rattle.rnix_grammar.proofs.BindFacts.{bare_bind}
+use Rattle.rnix_grammar.proofs.StandsShapes.{none_left, none_right, bare_binds, AreBareRows, IsBare, whole_rows}
 use Rattle.rnix_grammar.proofs.Basics.{true_is_not_false}
 
 -- whether a leaf is trivia, its token tells
-name_is_item : (p : SyntaxKind) (s : List ℕ) → is_trivia (told_name p s) ≡ false
-name_is_item NODE_CUR_POS s = elim (is_cur_pos s) as (λ x. is_trivia (if x then TOKEN_CUR_POS else TOKEN_IDENT) ≡ false) [ true ↦ refl | false ↦ refl ]
-name_is_item _ s = refl
+leaf_trivia : (p k : SyntaxKind) (t : Token) → k ≡ told p t → is_trivia t.kind ≡ is_trivia k
+leaf_trivia p k t e = sym (ap is_trivia e ∙ told_alike p t.kind)
 
-told_trivia : (p k : SyntaxKind) (s : List ℕ) → is_trivia (told_as p s k) ≡ is_trivia k
-told_trivia p TOKEN_IDENT s = name_is_item p s
-told_trivia p _ s = refl
-
-leaf_trivia : (p k : SyntaxKind) (t : Token) → k ≡ told p t → is_trivia k ≡ is_trivia t.kind
-leaf_trivia p k t e = ap is_trivia e ∙ told_trivia p t.kind t.text
+-- what is told of a row by its first tree that is no trivia, or by all of these
+by_leaf : {A : Type 0} (x : Bool) (k : SyntaxKind) (t : Token) (f : Sketch) (h : Sketch → A) (a b : A) → h f ≡ a → h (token k t f) ≡ b → h (token_if x k t f) ≡ (if x then a else b)
+by_leaf true k t f h a b e g = e
+by_leaf false k t f h a b e g = g
 
 -- the trees of a row that are no trivia
-item_kinds_if : (x : Bool) (k : SyntaxKind) (t : Token) (f : Sketch) (ks : List SyntaxKind) → kinds_of (forget f) ≡ ks → kinds_of (forget (token_if x k t f)) ≡ (if x then ks else k ∷ ks)
-item_kinds_if true k t f ks e = e
-item_kinds_if false k t f ks e = ap (λ z. k ∷ z) e
-
 pub clean_kinds : (p : SyntaxKind) (f : Sketch) → AreTold p f → kinds_of (forget (clean f)) ≡ item_kinds (forget f)
 clean_kinds p blank h = refl
 clean_kinds p (token k t f) h =
-    item_kinds_if (is_trivia t.kind) k t (clean f) (item_kinds (forget f)) (clean_kinds p f h.1)
-    ∙ ap (λ x. if x then item_kinds (forget f) else k ∷ item_kinds (forget f)) (sym (leaf_trivia p k t h.0))
+    by_leaf (is_trivia t.kind) k t (clean f) (λ x. kinds_of (forget x)) (item_kinds (forget f)) (k ∷ item_kinds (forget f)) (clean_kinds p f h.1) (ap (λ z. k ∷ z) (clean_kinds p f h.1))
+    ∙ ap (λ x. if x then item_kinds (forget f) else k ∷ item_kinds (forget f)) (leaf_trivia p k t h.0)
 clean_kinds p (branch k c f) h = ap (λ z. k ∷ z) (clean_kinds p f h.1)
 clean_kinds p (fault n c f) h = ap (λ z. NODE_ERROR ∷ z) (clean_kinds p f h.1)
 
-map_two : (ks js : List SyntaxKind) → map is_trivia (ks ++ js) ≡ map is_trivia ks ++ map is_trivia js
-map_two [] js = refl
-map_two (k ∷ ks) js = ap (λ x. is_trivia k ∷ x) (map_two ks js)
+-- what a row begins with
+clean_begins : (p : SyntaxKind) (f : Sketch) → AreTold p f → begins_with_token (clean f) ≡ begins_with_leaf (forget f)
+clean_begins p blank h = refl
+clean_begins p (token k t f) h =
+    by_leaf (is_trivia t.kind) k t (clean f) begins_with_token (begins_with_leaf (forget f)) true (clean_begins p f h.1) refl
+    ∙ ap (λ x. if x then begins_with_leaf (forget f) else true) (leaf_trivia p k t h.0)
+clean_begins p (branch k c f) h = refl
+clean_begins p (fault n c f) h = refl
 
--- the leaves and the tokens of a row are trivia at the same places
-same_trivia : (p : SyntaxKind) (f : Sketch) → AreTold p f → map is_trivia (leaf_kinds (forget f)) ≡ map is_trivia (kinds_in f)
-same_trivia p blank h = refl
-same_trivia p (token k t f) h = ap (λ x. x ∷ map is_trivia (leaf_kinds (forget f))) (leaf_trivia p k t h.0) ∙ ap (λ x. is_trivia t.kind ∷ x) (same_trivia p f h.1)
-same_trivia p (branch k c f) h =
-    map_two (leaf_kinds (forget c)) (leaf_kinds (forget f)) ∙ ap (λ x. x ++ map is_trivia (leaf_kinds (forget f))) (same_trivia k c h.0)
-    ∙ ap (λ x. map is_trivia (kinds_in c) ++ x) (same_trivia p f h.1) ∙ sym (ap (map is_trivia) (token_kinds-++ (tokens_in c) (tokens_in f)) ∙ map_two (kinds_in c) (kinds_in f))
-same_trivia p (fault n c f) h =
-    map_two (leaf_kinds (forget c)) (leaf_kinds (forget f)) ∙ ap (λ x. x ++ map is_trivia (leaf_kinds (forget f))) (same_trivia NODE_ERROR c h.0)
-    ∙ ap (λ x. map is_trivia (kinds_in c) ++ x) (same_trivia p f h.1) ∙ sym (ap (map is_trivia) (token_kinds-++ (tokens_in c) (tokens_in f)) ∙ map_two (kinds_in c) (kinds_in f))
+-- bound names
+clean_bind : (first : Bool) (k : SyntaxKind) (c : Sketch) → AreTold k c → bare_bind first k (clean c) ≡ is_bind_formed first k (forget c)
+clean_bind true NODE_PAT_BIND c h = ap (λ x. if x then false else true) (clean_begins NODE_PAT_BIND c h)
+clean_bind false NODE_PAT_BIND c h = clean_begins NODE_PAT_BIND c h
+clean_bind true _ c h = refl
+clean_bind false _ c h = refl
 
-begins_same : (ks js : List SyntaxKind) → map is_trivia ks ≡ map is_trivia js → BeginsWithItem js → BeginsWithItem ks
-begins_same [] js e h = tt
-begins_same (k ∷ ks) [] e h = absurd (cc)
-begins_same (k ∷ ks) (j ∷ js) e h = let same : is_trivia k ≡ is_trivia j = cc in same ∙ h
+-- an error node is no bound name
+error_bind : (first : Bool) (c : Forest) (b : Bool) → (is_bind_formed first NODE_ERROR c && b) ≡ b
+error_bind true c b = refl
+error_bind false c b = refl
 
-ends_same : (ks js : List SyntaxKind) → map is_trivia ks ≡ map is_trivia js → EndsWithItem js → EndsWithItem ks
-ends_same [] js e h = tt
-ends_same (k ∷ ks) [] e h = absurd (cc)
-ends_same (k ∷ []) (j ∷ []) e h = let same : is_trivia k ≡ is_trivia j = cc in same ∙ h
-ends_same (k ∷ []) (j ∷ (m ∷ js)) e h = absurd (cc)
-ends_same (k ∷ (l ∷ ks)) (j ∷ []) e h = absurd (cc)
-ends_same (k ∷ (l ∷ ks)) (j ∷ (m ∷ js)) e h = let more : map is_trivia (l ∷ ks) ≡ map is_trivia (m ∷ js) = cc in ends_same (l ∷ ks) (m ∷ js) more h
+-- bound names in a row
+clean_binds : (p : SyntaxKind) (first : Bool) (f : Sketch) → AreTold p f → bare_binds first (clean f) ≡ are_binds_formed first (forget f)
+clean_binds p first blank h = refl
+clean_binds p first (token k t f) h =
+    by_leaf (is_trivia t.kind) k t (clean f) (bare_binds first) (are_binds_formed first (forget f)) (are_binds_formed false (forget f)) (clean_binds p first f h.1) (clean_binds p false f h.1)
+    ∙ ap (λ x. if x then are_binds_formed first (forget f) else are_binds_formed false (forget f)) (leaf_trivia p k t h.0)
+clean_binds p first (branch k c f) h =
+    ap (λ x. x && bare_binds false (clean f)) (clean_bind first k c h.0) ∙ ap (λ x. is_bind_formed first k (forget c) && x) (clean_binds p false f h.1)
+clean_binds p first (fault n c f) h = clean_binds p false f h.1 ∙ sym (error_bind first (forget c) (are_binds_formed false (forget f)))
 
--- no node of a row begins or ends with trivia
-abbrev pub AreTrimmed : Sketch → Type 0
-AreTrimmed blank = Unit {0}
-AreTrimmed (token k t f) = AreTrimmed f
-AreTrimmed (branch k c f) = BeginsWithItem (kinds_in c) × EndsWithItem (kinds_in c) × AreTrimmed c × AreTrimmed f
-AreTrimmed (fault n c f) = ⊥
-
-trimmed-⊕ : (f g : Sketch) → AreTrimmed f → AreTrimmed g → AreTrimmed (f ⊕ g)
-trimmed-⊕ blank g h k = k
-trimmed-⊕ (token j t f) g h k = trimmed-⊕ f g h k
-trimmed-⊕ (branch j c f) g h k = (h.0, h.1, h.2, trimmed-⊕ f g h.3 k)
-trimmed-⊕ (fault n c f) g h k = absurd h
-
-trimmed_trivia : (ts : List Token) → AreTrimmed (trivia_before ts)
-trimmed_trivia [] = tt
-trimmed_trivia (t ∷ ts) = elim (is_trivia t.kind) as (λ x. AreTrimmed (trivia_if x t (trivia_before ts))) [ true ↦ trimmed_trivia ts | false ↦ tt ]
-
--- no row of children is empty
-row_not_empty : (k : SyntaxKind) → is_row k [] ≡ true → ⊥
-row_not_empty NODE_ROOT h = true_is_not_false (sym h)
-row_not_empty NODE_LITERAL h = true_is_not_false (sym h)
-row_not_empty NODE_IDENT h = true_is_not_false (sym h)
-row_not_empty NODE_CUR_POS h = true_is_not_false (sym h)
-row_not_empty NODE_BIN_OP h = true_is_not_false (sym h)
-row_not_empty NODE_APPLY h = true_is_not_false (sym h)
-row_not_empty NODE_PAREN h = true_is_not_false (sym h)
-row_not_empty _ h = true_is_not_false (sym h)
-
--- a row of whole nodes with a tree in it has a token
-some_tree : (k : SyntaxKind) (f : Sketch) → is_row k (kinds_of (forget f)) ≡ true → AreRows f → (t : Token) × (ts : List Token) × (tokens_in f ≡ t ∷ ts)
-some_tree k blank h r = absurd (row_not_empty k h)
-some_tree k (token j t f) h r = (t, tokens_in f, refl)
-some_tree k (branch j c f) h r = let w = some_tree j c r.0 r.1 in (w.0, w.1 ++ tokens_in f, ap (λ x. x ++ tokens_in f) w.2)
-some_tree k (fault n c f) h r = absurd r
-
--- what a row with items and its trivia ends with
-record IsEnd (f : Sketch) : Type 0 where
-  pub ends : EndsWithItem (kinds_in f)
-  pub trimmed : AreTrimmed f
-
-behind_trivia : (ts : List Token) (f : Sketch) → IsSome (kinds_in f) → IsEnd f → IsEnd (trivia_before ts ⊕ f)
-behind_trivia ts f s h = record {
-  ends = subst EndsWithItem (sym (kinds_in-⊕ (trivia_before ts) f)) (ends_behind (kinds_in (trivia_before ts)) (kinds_in f) s h.ends);
-  trimmed = trimmed-⊕ (trivia_before ts) f (trimmed_trivia ts) h.trimmed;
-}
-
-ends_two : (xs ys : List SyntaxKind) → EndsWithItem xs → EndsWithItem ys → EndsWithItem (xs ++ ys)
-ends_two [] ys h k = k
-ends_two (x ∷ []) [] h k = h
-ends_two (x ∷ []) (y ∷ ys) h k = k
-ends_two (x ∷ (z ∷ xs)) ys h k = ends_two (z ∷ xs) ys h k
-
--- a dressed sketch with a token has it still
-pub dressed_some : (f : Sketch) (ts us : List Token) (t : Token) (more : List Token) → items ts ≡ tokens_in f ++ us → AreRows f → tokens_in f ≡ t ∷ more
-    → IsSome (kinds_in (dressed f ts))
-dressed_some blank ts us t more e r s = absurd (cc)
-dressed_some (token k u f) ts us t more e r s =
-    subst IsSome (sym (kinds_in-⊕ (trivia_before ts) (token k u (dressed f (tail_of (from_item ts))))))
-    (some_behind (kinds_in (trivia_before ts)) (u.kind ∷ kinds_in (dressed f (tail_of (from_item ts)))) (some u.kind (kinds_in (dressed f (tail_of (from_item ts))))))
-dressed_some (branch k c f) ts us t more e r s =
-    let all : items (from_item ts) ≡ tokens_in c ++ (tokens_in f ++ us) = items-from_item ts ∙ e ∙ append_assoc (tokens_in c) (tokens_in f) us in
-    let w = some_tree k c r.0 r.1 in
-    let rest = dressed f (left_after c (from_item ts)) in
-    let inside : IsSome (kinds_in (dressed c (from_item ts))) = dressed_some c (from_item ts) (tokens_in f ++ us) w.0 w.1 all r.1 w.2 in
-    subst IsSome (sym (kinds_in-⊕ (trivia_before ts) (branch k (dressed c (from_item ts)) rest)))
-    (some_behind (kinds_in (trivia_before ts)) (kinds_in (branch k (dressed c (from_item ts)) rest))
-    (subst IsSome (sym (token_kinds-++ (tokens_in (dressed c (from_item ts))) (tokens_in rest))) (some_left (kinds_in (dressed c (from_item ts))) (kinds_in rest) inside)))
-  where
-    some_left : (xs ys : List SyntaxKind) → IsSome xs → IsSome (xs ++ ys)
-    some_left _ ys (some x xs) = some x (xs ++ ys)
-dressed_some (fault n c f) ts us t more e r s = absurd r
-
--- a dressed sketch with items begins with one, where no trivia stand before it
-dressed_begins : (f : Sketch) (ts us : List Token) → items ts ≡ tokens_in f ++ us → AreRows f → trivia_before ts ≡ blank → BeginsWithItem (kinds_in (dressed f ts))
-dressed_begins blank ts us e r n = tt
-dressed_begins (token k t f) ts us e r n =
-    let w : IsFirst t (tokens_in f ++ us) ts = first_item t (tokens_in f ++ us) ts e in
-    subst (λ (z : Sketch). BeginsWithItem (kinds_in (z ⊕ token k t (dressed f (tail_of (from_item ts)))))) (sym n) w.item
-dressed_begins (branch k c f) ts us e r n =
-    let all : items (from_item ts) ≡ tokens_in c ++ (tokens_in f ++ us) = items-from_item ts ∙ e ∙ append_assoc (tokens_in c) (tokens_in f) us in
-    let w = some_tree k c r.0 r.1 in
-    let rest = dressed f (left_after c (from_item ts)) in
-    let inside : IsSome (kinds_in (dressed c (from_item ts))) = dressed_some c (from_item ts) (tokens_in f ++ us) w.0 w.1 all r.1 w.2 in
-    let begins : BeginsWithItem (kinds_in (dressed c (from_item ts))) = dressed_begins c (from_item ts) (tokens_in f ++ us) all r.1 (trivia-from_item ts) in
-    subst (λ (z : Sketch). BeginsWithItem (kinds_in (z ⊕ branch k (dressed c (from_item ts)) rest))) (sym n)
-    (subst BeginsWithItem (sym (token_kinds-++ (tokens_in (dressed c (from_item ts))) (tokens_in rest))) (begins_left (kinds_in (dressed c (from_item ts))) (kinds_in rest) inside begins))
-  where
-    begins_left : (xs ys : List SyntaxKind) → IsSome xs → BeginsWithItem xs → BeginsWithItem (xs ++ ys)
-    begins_left _ ys (some x xs) h = h
-dressed_begins (fault n c f) ts us e r k = absurd r
-
-dressed_ends : (f : Sketch) (ts us : List Token) → items ts ≡ tokens_in f ++ us → AreRows f → IsEnd (dressed f ts)
-dressed_ends blank ts us e r = record { ends = tt; trimmed = tt }
-dressed_ends (token k t f) ts us e r =
-    let w : IsFirst t (tokens_in f ++ us) ts = first_item t (tokens_in f ++ us) ts e in
-    let ih = dressed_ends f (tail_of (from_item ts)) us w.left r in
-    let rest = dressed f (tail_of (from_item ts)) in
-    behind_trivia ts (token k t rest) (some t.kind (kinds_in rest)) (record { ends = ends_two (t.kind ∷ []) (kinds_in rest) w.item ih.ends; trimmed = ih.trimmed })
-dressed_ends (branch k c f) ts us e r =
-    let all : items (from_item ts) ≡ tokens_in c ++ (tokens_in f ++ us) = items-from_item ts ∙ e ∙ append_assoc (tokens_in c) (tokens_in f) us in
-    let w = some_tree k c r.0 r.1 in
-    let bare = bared c (from_item ts) (tokens_in f ++ us) all in
-    let inside = dressed_ends c (from_item ts) (tokens_in f ++ us) all r.1 in
-    let behind = dressed_ends f (left_after c (from_item ts)) us bare.left r.2 in
-    let first : IsSome (kinds_in (dressed c (from_item ts))) = dressed_some c (from_item ts) (tokens_in f ++ us) w.0 w.1 all r.1 w.2 in
-    let begins = dressed_begins c (from_item ts) (tokens_in f ++ us) all r.1 (trivia-from_item ts) in
-    let rest = dressed f (left_after c (from_item ts)) in
-    let split = token_kinds-++ (tokens_in (dressed c (from_item ts))) (tokens_in rest) in
-    behind_trivia ts (branch k (dressed c (from_item ts)) rest)
-    (subst IsSome (sym split) (some_left (kinds_in (dressed c (from_item ts))) (kinds_in rest) first))
-    (record {
-      ends = subst EndsWithItem (sym split) (ends_two (kinds_in (dressed c (from_item ts))) (kinds_in rest) inside.ends behind.ends);
-      trimmed = (begins, inside.ends, inside.trimmed, behind.trimmed);
-    })
-  where
-    some_left : (xs ys : List SyntaxKind) → IsSome xs → IsSome (xs ++ ys)
-    some_left _ ys (some x xs) = some x (xs ++ ys)
-dressed_ends (fault n c f) ts us e r = absurd r
-
-pub whole_trimmed : (f : Sketch) (ts : List Token) → items ts ≡ tokens_in f → AreRows f → AreTrimmed (dressed_whole f ts)
-whole_trimmed f ts e r =
-    trimmed-⊕ (dressed f ts) (trivia_before (left_after f ts)) (dressed_ends f ts [] (e ∙ sym (append-nil (tokens_in f))) r).trimmed (trimmed_trivia (left_after f ts))
-
--- the shape of the whole tree, from its rows without trivia
-rows_if : (x : Bool) (k : SyntaxKind) (t : Token) (f : Sketch) → AreRows (token_if x k t f) → AreRows f
+-- the rows of the tree are those without trivia
+rows_if : (x : Bool) (k : SyntaxKind) (t : Token) (f : Sketch) → AreBareRows (token_if x k t f) → AreBareRows f
 rows_if true k t f h = h
 rows_if false k t f h = h
 
-pub tree_shaped : (p : SyntaxKind) (f : Sketch) → AreTold p f → AreTrimmed f → AreRows (clean f) → AreShaped (forget f)
-tree_shaped p blank h t r = tt
-tree_shaped p (token k t f) h s r = tree_shaped p f h.1 s (rows_if (is_trivia t.kind) k t (clean f) r)
-tree_shaped p (branch k c f) h s r = (
-  ap (is_row k) (sym (clean_kinds k c h.0)) ∙ r.0,
-  begins_same (leaf_kinds (forget c)) (kinds_in c) (same_trivia k c h.0) s.0,
-  ends_same (leaf_kinds (forget c)) (kinds_in c) (same_trivia k c h.0) s.1,
-  tree_shaped k c h.0 s.2 r.1,
-  tree_shaped p f h.1 s.3 r.2,
-)
-tree_shaped p (fault n c f) h s r = absurd r
-
--- and back
-nowhere : (ks : List SyntaxKind) → run Nowhere ks ≡ Nowhere
-nowhere [] = refl
-nowhere (k ∷ ks) = nowhere ks
-
-rows_of_if : (x : Bool) (k : SyntaxKind) (t : Token) (f : Sketch) → AreRows f → AreRows (token_if x k t f)
+-- and the other way
+rows_of_if : (x : Bool) (k : SyntaxKind) (t : Token) (f : Sketch) → AreBareRows f → AreBareRows (token_if x k t f)
 rows_of_if true k t f h = h
 rows_of_if false k t f h = h
 
-pub shaped_rows : (p : SyntaxKind) (f : Sketch) → AreTold p f → AreShaped (forget f) → AreRows (clean f)
-shaped_rows p blank h s = tt
-shaped_rows p (token k t f) h s = rows_of_if (is_trivia t.kind) k t (clean f) (shaped_rows p f h.1 s)
-shaped_rows p (branch k c f) h s = (ap (is_row k) (clean_kinds k c h.0) ∙ s.0, shaped_rows k c h.0 s.3, shaped_rows p f h.1 s.4)
-shaped_rows p (fault n c f) h s = absurd (true_is_not_false (sym s.0 ∙ ap whole (nowhere (item_kinds (forget c)))))
+-- with trivia each node has its row
+tree_rows : (p : SyntaxKind) (f : Sketch) → AreTold p f → AreBareRows (clean f) → AreRows (forget f)
+tree_rows p blank h r = tt
+tree_rows p (token k t f) h r = tree_rows p f h.1 (rows_if (is_trivia t.kind) k t (clean f) r)
+tree_rows p (branch k c f) h r =
+    (ap (is_row k) (sym (clean_kinds k c h.0)) ∙ r.0, sym (clean_binds k true c h.0) ∙ r.1, tree_rows k c h.0 r.2, tree_rows p f h.1 r.3)
+tree_rows p (fault n c f) h r = absurd r
+
+-- an error node has no row
+no_error_row : (ks : List SyntaxKind) → is_row NODE_ERROR ks ≡ true → ⊥
+no_error_row [] h = true_is_not_false (sym h)
+no_error_row (k ∷ ks) h = true_is_not_false (sym h ∙ ap whole (nowhere ks))
+
+-- without trivia each node has its row
+bare_rows : (p : SyntaxKind) (f : Sketch) → AreTold p f → AreRows (forget f) → AreBareRows (clean f)
+bare_rows p blank h r = tt
+bare_rows p (token k t f) h r = rows_of_if (is_trivia t.kind) k t (clean f) (bare_rows p f h.1 r)
+bare_rows p (branch k c f) h r =
+    (ap (is_row k) (clean_kinds k c h.0) ∙ r.0, clean_binds k true c h.0 ∙ r.1, bare_rows k c h.0 r.2, bare_rows p f h.1 r.3)
+bare_rows p (fault n c f) h r = absurd (no_error_row (item_kinds (forget c)) r.0)
+
+-- the names of entries, without trivia and with them
+abbrev pub bare_name : SyntaxKind → Sketch → Option Token
+bare_name NODE_PAT_ENTRY c = entry_name c
+bare_name k c = None
+
+-- the text of a token, if there is one
+abbrev pub text_in : Option Token → Option (List ℕ)
+text_in None = None
+text_in (Some t) = Some t.text
+
+-- the text of a name
+clean_text : (p : SyntaxKind) (c : Sketch) → AreTold p c → text_in (only_token (clean c)) ≡ leaf_text (forget c)
+clean_text p blank h = refl
+clean_text p (token k t f) h =
+    by_leaf (is_trivia t.kind) k t (clean f) (λ x. text_in (only_token x)) (leaf_text (forget f)) (Some t.text) (clean_text p f h.1) refl
+    ∙ ap (λ x. if x then leaf_text (forget f) else Some t.text) (leaf_trivia p k t h.0)
+clean_text p (branch k c f) h = refl
+clean_text p (fault n c f) h = refl
+
+-- the name of a node that may be one
+clean_ident : (k : SyntaxKind) (c f : Sketch) → AreTold k c → text_in (entry_name (branch k (clean c) f)) ≡ text_if k (forget c)
+clean_ident NODE_IDENT c f h = clean_text NODE_IDENT c h
+clean_ident _ c f h = refl
+
+-- the name that an entry begins with
+clean_entry : (p : SyntaxKind) (c : Sketch) → AreTold p c → text_in (entry_name (clean c)) ≡ name_in (forget c)
+clean_entry p blank h = refl
+clean_entry p (token k t f) h =
+    by_leaf (is_trivia t.kind) k t (clean f) (λ x. text_in (entry_name x)) (name_in (forget f)) None (clean_entry p f h.1) refl
+    ∙ ap (λ x. if x then name_in (forget f) else None) (leaf_trivia p k t h.0)
+clean_entry p (branch k c f) h = clean_ident k c (clean f) h.0
+clean_entry p (fault n c f) h = refl
+
+-- the name of a node that may be an entry
+clean_name : (k : SyntaxKind) (c : Sketch) → AreTold k c → text_in (bare_name k (clean c)) ≡ name_if k (forget c)
+clean_name NODE_PAT_ENTRY c h = clean_entry NODE_PAT_ENTRY c h
+clean_name _ c h = refl
+
+-- an entry is reported by its name
+repeats_named : (k : SyntaxKind) (b c : Sketch) → repeats k b c ≡ repeated_if (bare_name k c) b
+repeats_named NODE_PAT_ENTRY b c = refl
+repeats_named _ b c = refl
+
+-- a node may be an entry of the name
+has_branch : (name : List ℕ) (k : SyntaxKind) (c f : Sketch) → has_entry name (branch k c f) ≡ (if is_same_name name (bare_name k c) then true else has_entry name f)
+has_branch name NODE_PAT_ENTRY c f = refl
+has_branch name _ c f = refl
+
+-- an entry in two rows
+either_assoc : (x y z : Bool) → (if x then true else (if y then true else z)) ≡ (if (if x then true else y) then true else z)
+either_assoc true y z = refl
+either_assoc false y z = refl
+
+-- an entry of the name stands in one of two rows
+has-⊕ : (name : List ℕ) (b c : Sketch) → has_entry name (b ⊕ c) ≡ (if has_entry name b then true else has_entry name c)
+has-⊕ name blank c = refl
+has-⊕ name (token k t f) c = has-⊕ name f c
+has-⊕ name (branch k d f) c =
+    has_branch name k d (f ⊕ c) ∙ ap (λ x. if is_same_name name (bare_name k d) then true else x) (has-⊕ name f c)
+    ∙ either_assoc (is_same_name name (bare_name k d)) (has_entry name f) (has_entry name c)
+    ∙ ap (λ x. if x then true else has_entry name c) (sym (has_branch name k d f))
+has-⊕ name (fault n d f) c = has-⊕ name f c
+
+-- a name is in one of two lists
+among-++ : (name : List ℕ) (xs ys : List (List ℕ)) → is_among name (xs ++ ys) ≡ (if is_among name xs then true else is_among name ys)
+among-++ name [] ys = refl
+among-++ name (x ∷ xs) ys =
+    ap (λ z. if bytes_eq name x then true else z) (among-++ name xs ys) ∙ either_assoc (bytes_eq name x) (is_among name xs) (is_among name ys)
+
+-- the names of the entries in the trees before
+abbrev pub Lists : List (List ℕ) → Sketch → Type 0
+Lists names b = (name : List ℕ) → has_entry name b ≡ is_among name names
+
+-- one way or the other
+if_not : (x : Bool) → (if x then true else false) ≡ x
+if_not true = refl
+if_not false = refl
+
+-- a leaf has no name
+lists_token : (names : List (List ℕ)) (b : Sketch) (k : SyntaxKind) (t : Token) → Lists names b → Lists names (b ⊕ one_token k t)
+lists_token names b k t h = λ name. has-⊕ name b (one_token k t) ∙ if_not (has_entry name b) ∙ h name
+
+-- a name behind others, if there is one
+abbrev pub added : List (List ℕ) → Option (List ℕ) → List (List ℕ)
+added names None = names
+added names (Some name) = names ++ (name ∷ [])
+
+-- a node may have a name
+lists_branch : (names : List (List ℕ)) (b : Sketch) (k : SyntaxKind) (c : Sketch) → Lists names b → Lists (added names (text_in (bare_name k c))) (b ⊕ one_branch k c)
+lists_branch names b k c h = λ name.
+    has-⊕ name b (one_branch k c) ∙ ap (λ x. if has_entry name b then true else x) (has_branch name k c blank) ∙ by_name name (bare_name k c)
+  where
+    by_name : (name : List ℕ) (o : Option Token)
+        → (if has_entry name b then true else (if is_same_name name o then true else false)) ≡ is_among name (added names (text_in o))
+    by_name name None = if_not (has_entry name b) ∙ h name
+    by_name name (Some t) = ap (λ x. if x then true else (if bytes_eq name t.text then true else false)) (h name) ∙ sym (among-++ name names (t.text ∷ []))
+
+-- a name that is new
+abbrev pub IsNew : List (List ℕ) → Option (List ℕ) → Type 0
+IsNew names None = Unit {0}
+IsNew names (Some name) = is_among name names ≡ false
+
+-- a new name, and the names behind it
+new_all : (before : List (List ℕ)) (o : Option (List ℕ)) (names : List (List ℕ)) → IsNew before o → AreNew (added before o) names → AreNew before (with_name o names)
+new_all before None names h k = k
+new_all before (Some name) names h k = (h, k)
+
+-- and the other way
+new_first : (before : List (List ℕ)) (o : Option (List ℕ)) (names : List (List ℕ)) → AreNew before (with_name o names) → IsNew before o × AreNew (added before o) names
+new_first before None names h = (tt, h)
+new_first before (Some name) names h = (h.0, h.1)
+
+-- what is not reported is new
+repeated_new : (names : List (List ℕ)) (b : Sketch) (o : Option Token) → Lists names b → repeated_if o b ≡ [] → IsNew names (text_in o)
+repeated_new names b None h e = tt
+repeated_new names b (Some t) h e = sym (h t.text) ∙ by_entry (has_entry t.text b) e
+  where
+    by_entry : (x : Bool) → (if x then named_twice (extent_of (t ∷ [])) t.text ∷ [] else []) ≡ [] → x ≡ false
+    by_entry true e = absurd (cc)
+    by_entry false e = refl
+
+-- what is new is not reported
+new_repeated : (names : List (List ℕ)) (b : Sketch) (o : Option Token) → Lists names b → IsNew names (text_in o) → repeated_if o b ≡ []
+new_repeated names b None h e = refl
+new_repeated names b (Some t) h e = ap (λ x. if x then named_twice (extent_of (t ∷ [])) t.text ∷ [] else []) (h t.text ∙ e)
+
+-- where nothing is reported no name is repeated
+pub silent_new : (p : SyntaxKind) (g : Sketch) (b : Sketch) (names : List (List ℕ)) → AreTold p g → Lists names b → reports_behind b (clean g) ≡ []
+    → AreNew names (entry_names (forget g)) × AreUnrepeated (forget g)
+silent_new p blank b names h l e = (tt, tt)
+silent_new p (token k t f) b names h l e = by_trivia (is_trivia t.kind) e (silent_new p f b names h.1 l) (silent_new p f (b ⊕ one_token k t) names h.1 (lists_token names b k t l))
+  where
+    by_trivia : (x : Bool) → reports_behind b (token_if x k t (clean f)) ≡ [] → (reports_behind b (clean f) ≡ [] → AreNew names (entry_names (forget f)) × AreUnrepeated (forget f))
+        → (reports_behind (b ⊕ one_token k t) (clean f) ≡ [] → AreNew names (entry_names (forget f)) × AreUnrepeated (forget f))
+        → AreNew names (entry_names (forget f)) × AreUnrepeated (forget f)
+    by_trivia true e i j = i e
+    by_trivia false e i j = j e
+silent_new p (branch k c f) b names h l e =
+    let below : reports_behind blank (clean c) ≡ [] =
+    none_left (reports_behind blank (clean c)) (repeats k b (clean c) ++ reports_behind (b ⊕ one_branch k (clean c)) (clean f)) e in
+    let rest : repeats k b (clean c) ++ reports_behind (b ⊕ one_branch k (clean c)) (clean f) ≡ [] =
+    none_right (reports_behind blank (clean c)) (repeats k b (clean c) ++ reports_behind (b ⊕ one_branch k (clean c)) (clean f)) e in
+    let here : repeated_if (bare_name k (clean c)) b ≡ [] =
+    sym (repeats_named k b (clean c)) ∙ none_left (repeats k b (clean c)) (reports_behind (b ⊕ one_branch k (clean c)) (clean f)) rest in
+    let inside = silent_new k c blank [] h.0 (λ name. refl) below in
+    let more =
+    silent_new p f (b ⊕ one_branch k (clean c)) (added names (text_in (bare_name k (clean c)))) h.1 (lists_branch names b k (clean c) l)
+    (none_right (repeats k b (clean c)) (reports_behind (b ⊕ one_branch k (clean c)) (clean f)) rest) in
+    let o : text_in (bare_name k (clean c)) ≡ name_if k (forget c) = clean_name k c h.0 in (
+      subst (λ (x : Option (List ℕ)). AreNew names (with_name x (entry_names (forget f)))) o
+          (new_all names (text_in (bare_name k (clean c))) (entry_names (forget f)) (repeated_new names b (bare_name k (clean c)) l here) more.0),
+      (inside.0, inside.1, more.1),
+    )
+silent_new p (fault n c f) b names h l e =
+    absurd (cons_not_nil (none_right (reports_behind blank (clean c)) (report n (tokens_in (clean c)) ∷ reports_behind (b ⊕ one_fault n (clean c)) (clean f)) e))
+  where
+    cons_not_nil : {x : Fault} {es : List Fault} → x ∷ es ≡ [] → ⊥
+    cons_not_nil h = cc
+
+-- two empty lists
+both_none : {es fs : List Fault} → es ≡ [] → fs ≡ [] → es ++ fs ≡ []
+both_none {fs = fs} e h = ap (λ x. x ++ fs) e ∙ h
+
+-- where every node has its row and no name is repeated nothing is reported
+pub new_silent : (p : SyntaxKind) (g : Sketch) (b : Sketch) (names : List (List ℕ)) → AreTold p g → Lists names b → AreRows (forget g)
+    → AreNew names (entry_names (forget g)) → AreUnrepeated (forget g) → reports_behind b (clean g) ≡ []
+new_silent p blank b names h l r n m = refl
+new_silent p (token k t f) b names h l r n m =
+    by_trivia (is_trivia t.kind) (new_silent p f b names h.1 l r n m) (new_silent p f (b ⊕ one_token k t) names h.1 (lists_token names b k t l) r n m)
+  where
+    by_trivia : (x : Bool) → reports_behind b (clean f) ≡ [] → reports_behind (b ⊕ one_token k t) (clean f) ≡ [] → reports_behind b (token_if x k t (clean f)) ≡ []
+    by_trivia true i j = i
+    by_trivia false i j = j
+new_silent p (branch k c f) b names h l r n m =
+    let o : text_in (bare_name k (clean c)) ≡ name_if k (forget c) = clean_name k c h.0 in
+    let w =
+    new_first names (text_in (bare_name k (clean c))) (entry_names (forget f)) (subst (λ (x : Option (List ℕ)). AreNew names (with_name x (entry_names (forget f)))) (sym o) n) in
+    both_none (new_silent k c blank [] h.0 (λ name. refl) r.2 m.0 m.1)
+    (both_none (repeats_named k b (clean c) ∙ new_repeated names b (bare_name k (clean c)) l w.0)
+    (new_silent p f (b ⊕ one_branch k (clean c)) (added names (text_in (bare_name k (clean c)))) h.1 (lists_branch names b k (clean c) l) r.3 w.1 m.2))
+new_silent p (fault n c f) b names h l r i m = absurd (no_error_row (item_kinds (forget c)) r.0)
+
+-- a text has no error exactly if its tree has its shape and no name of a pattern is repeated
+pub whole_shaped : (f g : Sketch) (es : List Fault) → Stands NODE_ROOT 1 (At places.RootStart) (At places.RootEnd) blank 0 [] f es → clean g ≡ f → AreTold NODE_ROOT g
+    → (es ≡ [] → AreNodesTrimmed (forget g))
+    → (es ≡ []) ↔ (IsShaped (record { kind = NODE_ROOT; children = forget g }) × IsUnrepeated (record { kind = NODE_ROOT; children = forget g }))
+whole_shaped f g es s e h t = (there, back)
+  where
+    there : es ≡ [] → IsShaped (record { kind = NODE_ROOT; children = forget g }) × IsUnrepeated (record { kind = NODE_ROOT; children = forget g })
+    there n =
+        let w : IsBare (clean g) = subst IsBare (sym e) ((whole_rows s).0 n) in
+        let new = silent_new NODE_ROOT g blank [] h (λ name. refl) w.silent in
+        (((ap (is_row NODE_ROOT) (sym (clean_kinds NODE_ROOT g h)) ∙ w.root, tree_rows NODE_ROOT g h w.nodes, t n)), (new.0, new.1, tt))
+
+    back : IsShaped (record { kind = NODE_ROOT; children = forget g }) × IsUnrepeated (record { kind = NODE_ROOT; children = forget g }) → es ≡ []
+    back w =
+        let shape : IsShaped (record { kind = NODE_ROOT; children = forget g }) = w.0 in
+        let new : IsUnrepeated (record { kind = NODE_ROOT; children = forget g }) = w.1 in
+        let bare : IsBare (clean g) = record {
+          root = ap (is_row NODE_ROOT) (clean_kinds NODE_ROOT g h) ∙ shape.0;
+          nodes = bare_rows NODE_ROOT g h shape.1;
+          silent = new_silent NODE_ROOT g blank [] h (λ name. refl) shape.1 new.0 new.1;
+        } in
+        (whole_rows s).1 (subst IsBare e bare)

@@ -1,23 +1,39 @@
--- The tree with its faults mended, and which of its nodes are whole.
+-- The tree with its faults mended, and which of its nodes are whole; which errors are of the end of the text.
 use Rattle.std.specs.Prelude.{◌≡◌, ℕ, ◌+◌, Bool, true, false, List, [], ◌∷◌, codes, if◌then◌else◌}
 use Rattle.rnix_kinds.specs.declared.kinds.SyntaxKind.{SyntaxKind}
 use Rattle.rnix_kinds.specs.declared.kinds.SyntaxKind.TheVariants.{TOKEN_INTEGER, NODE_LITERAL}
 use Rattle.rnix_tree.specs.Forest.{Forest, empty, leaf, node}
+use Rattle.rnix_grammar.specs.declared.until.Until.{Until}
+use Rattle.rnix_grammar.specs.declared.until.Until.TheVariants.{End}
 use Rattle.rnix_grammar.specs.Fault.{Fault, extra, unwanted, ended, ended_before}
-use Rattle.rnix_grammar.specs.Sketch.{Note, Stray, TooDeep, Sketch, blank, token, branch, fault}
+use Rattle.rnix_grammar.specs.Tables.{wanted_kinds}
+use Rattle.rnix_grammar.specs.Sketch.{Token, Note, Stray, TooDeep, Sketch, blank, token, branch, fault, tokens_in}
 use Rattle.rnix_grammar.specs.Rows.{is_row, IsBeginning}
 
--- an error node in an operand's place becomes a number, others go
+-- an error node in an operand's place becomes a number, others go with all that they hold
 abbrev pub patch : Note → Forest → Forest
 patch Stray f = node NODE_LITERAL (leaf TOKEN_INTEGER (codes "0") empty) f
 patch TooDeep f = node NODE_LITERAL (leaf TOKEN_INTEGER (codes "0") empty) f
 patch n f = f
 
+-- a mended row
 abbrev pub mended : Sketch → Forest
 mended blank = empty
 mended (token k t f) = leaf k t.text (mended f)
 mended (branch k c f) = node k (mended c) (mended f)
 mended (fault n c f) = patch n (mended f)
+
+-- some tokens
+abbrev pub is_some : List Token → Bool
+is_some [] = false
+is_some (t ∷ ts) = true
+
+-- the mended trees, without those that hold no token: these stand where the text has ended
+abbrev pub held : Sketch → Forest
+held blank = empty
+held (token k t f) = leaf k t.text (held f)
+held (branch k c f) = if is_some (tokens_in c) then node k (held c) (held f) else held f
+held (fault n c f) = if is_some (tokens_in c) then patch n (held f) else held f
 
 -- the kinds of a row's trees
 abbrev pub kinds_of : Forest → List SyntaxKind
@@ -43,11 +59,12 @@ is_ended ended = true
 is_ended (ended_before kinds) = true
 is_ended e = false
 
--- how many errors are of the end of the text, and the others
+-- how many errors are of the end of the text
 abbrev pub ended_count : List Fault → ℕ
 ended_count [] = 0
 ended_count (e ∷ es) = (if is_ended e then 1 else 0) + ended_count es
 
+-- the errors that are not of the end of the text
 abbrev pub others : List Fault → List Fault
 others [] = []
 others (e ∷ es) = if is_ended e then others es else e ∷ others es
@@ -58,6 +75,7 @@ is_misplaced (unwanted kind range kinds) = true
 is_misplaced (extra range) = true
 is_misplaced e = false
 
+-- no error is of that kind
 abbrev pub NoneMisplaced : List Fault → Type 0
 NoneMisplaced [] = Unit {0}
 NoneMisplaced (e ∷ es) = (is_misplaced e ≡ false) × NoneMisplaced es
@@ -67,7 +85,12 @@ abbrev pub AreSettled : List Fault → Type 0
 AreSettled [] = Unit {0}
 AreSettled (e ∷ es) = AreSettled es × ((is_ended e ≡ true) → NoneMisplaced es)
 
--- no error is of the end of the text
-abbrev pub NoneEnded : List Fault → Type 0
-NoneEnded [] = Unit {0}
-NoneEnded (e ∷ es) = (is_ended e ≡ false) × NoneEnded es
+-- a list of wanted kinds is one of those that tokens are wanted by
+abbrev pub IsNamedList : Fault → Type 0
+IsNamedList (ended_before kinds) = (until : Until) × ((until ≡ End) → ⊥) × (kinds ≡ wanted_kinds until)
+IsNamedList e = Unit {0}
+
+-- and so in each error
+abbrev pub AreNamedLists : List Fault → Type 0
+AreNamedLists [] = Unit {0}
+AreNamedLists (e ∷ es) = IsNamedList e × AreNamedLists es

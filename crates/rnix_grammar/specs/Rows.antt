@@ -1,55 +1,90 @@
--- The rows of the node kinds, as one automaton over the kinds of children; the errors of a sketch; what stands beside its error nodes.
-use Rattle.std.specs.Prelude.{◌≡◌, ◌⊎◌, ℕ, suc, ◌+◌, ◌<◌, ◌≤◌, Bool, true, false, ◌||◌, List, [], ◌∷◌, ◌++◌, Option, Some, None, length, if◌then◌else◌}
+-- The rows of the node kinds, as one automaton over the kinds of children.
+use Rattle.std.specs.Prelude.{◌≡◌, ℕ, Bool, true, false, List, [], ◌∷◌, Option, Some, None, if◌then◌else◌, nat_eq, nat_le}
 use Rattle.rnix_kinds.specs.declared.kinds.SyntaxKind.{SyntaxKind}
-use Rattle.rnix_kinds.specs.declared.kinds.SyntaxKind.TheVariants.{TOKEN_ADD, TOKEN_SUB, TOKEN_MUL, TOKEN_DIV, TOKEN_PIPE_RIGHT, TOKEN_OR_OR, TOKEN_AND_AND, TOKEN_L_PAREN, TOKEN_R_PAREN, TOKEN_L_BRACK, TOKEN_R_BRACK, TOKEN_FLOAT, TOKEN_INTEGER, TOKEN_URI, TOKEN_PATH_SEARCH, TOKEN_IDENT, TOKEN_CUR_POS, NODE_ROOT, NODE_BIN_OP, NODE_APPLY, NODE_PAREN, NODE_LIST, NODE_LITERAL, NODE_PATH_SEARCH, NODE_IDENT, NODE_CUR_POS, NODE_ERROR}
-use Rattle.rnix_grammar.specs.declared.level.Level.TheVariants.{PipeRight, Disjunction, Conjunction, Sum, Product, Application}
+use Rattle.rnix_kinds.specs.declared.kinds.SyntaxKind.TheVariants.{TOKEN_PIPE_LEFT, TOKEN_PIPE_RIGHT, TOKEN_IMPLICATION, TOKEN_OR_OR, TOKEN_AND_AND, TOKEN_EQUAL, TOKEN_NOT_EQUAL, TOKEN_LESS, TOKEN_LESS_OR_EQ, TOKEN_MORE, TOKEN_MORE_OR_EQ, TOKEN_UPDATE, TOKEN_ADD, TOKEN_SUB, TOKEN_MUL, TOKEN_DIV, TOKEN_CONCAT, TOKEN_L_PAREN, TOKEN_L_BRACK, TOKEN_L_BRACE, TOKEN_R_BRACE, TOKEN_REC, TOKEN_LET, TOKEN_WITH, TOKEN_ASSERT, TOKEN_IF, TOKEN_INHERIT, TOKEN_STRING_START, TOKEN_STRING_CONTENT, TOKEN_STRING_END, TOKEN_INTERPOL_START, TOKEN_PATH_ABS, TOKEN_PATH_REL, TOKEN_PATH_HOME, TOKEN_PATH_SEARCH, TOKEN_FLOAT, TOKEN_INTEGER, TOKEN_URI, TOKEN_IDENT, TOKEN_CUR_POS, TOKEN_AT, TOKEN_DOT, TOKEN_QUESTION, TOKEN_COMMA, TOKEN_ELLIPSIS, TOKEN_OR, TOKEN_SEMICOLON, TOKEN_INVERT, TOKEN_SUB, NODE_APPLY, NODE_ASSERT, NODE_ATTR_SET, NODE_ATTRPATH, NODE_ATTRPATH_VALUE, NODE_BIN_OP, NODE_CUR_POS, NODE_DYNAMIC, NODE_HAS_ATTR, NODE_IDENT, NODE_IDENT_PARAM, NODE_IF_ELSE, NODE_INHERIT, NODE_INHERIT_FROM, NODE_INTERPOL, NODE_LAMBDA, NODE_LEGACY_LET, NODE_LET_IN, NODE_LIST, NODE_LITERAL, NODE_PAREN, NODE_PAT_BIND, NODE_PAT_ENTRY, NODE_PATTERN, NODE_PATH_ABS, NODE_PATH_HOME, NODE_PATH_REL, NODE_PATH_SEARCH, NODE_ROOT, NODE_SELECT, NODE_STRING, NODE_UNARY_OP, NODE_WITH}
+use Rattle.rnix_grammar.specs.declared.place.Place.{Place}
+use Rattle.rnix_grammar.specs.declared.place.Place.TheVariants as p
 use Rattle.rnix_grammar.specs.declared.until.Until.{Until}
-use Rattle.rnix_grammar.specs.declared.until.Until.TheVariants.{RParen}
-use Rattle.rnix_grammar.specs.Fault.{Fault, extra, unwanted, ended, ended_before, too_deep}
-use Rattle.rnix_grammar.specs.Tables.{goes_on, stops, wanted_kinds, operand_kinds, depth_limit}
-use Rattle.rnix_grammar.specs.Sketch.{Token, Note, Stray, Unwanted, Extra, TooDeep, Sketch, blank, token, branch, fault, row_of, tokens_in, told, extent_of, head_kind}
+use Rattle.rnix_grammar.specs.declared.until.Until.TheVariants as u
+use Rattle.rnix_grammar.specs.declared.slot.Slot.{Slot}
+use Rattle.rnix_grammar.specs.declared.slot.Slot.TheVariants as s
+use Rattle.rnix_grammar.specs.Fault.{Fault, ended, ended_before}
+use Rattle.rnix_grammar.specs.Tables.{is_wanted, closes, wanted_kinds}
+use Rattle.rnix_grammar.specs.Levels.{right_of}
+use Rattle.rnix_grammar.specs.Slots.{slot_at}
+use Rattle.rnix_grammar.specs.Actions.{is_path_piece}
 
--- trees that may be called or passed as arguments
+-- what `.` and `or` may follow
+abbrev pub is_atom : SyntaxKind → Bool
+is_atom NODE_LAMBDA = true
+is_atom NODE_PAREN = true
+is_atom NODE_ATTR_SET = true
+is_atom NODE_LIST = true
+is_atom NODE_STRING = true
+is_atom NODE_PATH_ABS = true
+is_atom NODE_PATH_REL = true
+is_atom NODE_PATH_HOME = true
+is_atom NODE_PATH_SEARCH = true
+is_atom NODE_LITERAL = true
+is_atom NODE_IDENT = true
+is_atom NODE_CUR_POS = true
+is_atom kind = false
+
+-- what may be called or passed as an argument
 abbrev pub is_simple : SyntaxKind → Bool
-is_simple NODE_PAREN = true
-is_simple NODE_LIST = true
-is_simple NODE_LITERAL = true
-is_simple NODE_PATH_SEARCH = true
-is_simple NODE_IDENT = true
-is_simple NODE_CUR_POS = true
+is_simple NODE_SELECT = true
 is_simple NODE_APPLY = true
-is_simple kind = false
+is_simple kind = is_atom kind
 
--- operands of binary operators, which all expressions are
+-- what `-` may stand before, and what `?` may follow
+abbrev pub is_negated : SyntaxKind → Bool
+is_negated NODE_UNARY_OP = true
+is_negated kind = is_simple kind
+
+abbrev pub is_questioned : SyntaxKind → Bool
+is_questioned NODE_HAS_ATTR = true
+is_questioned kind = is_negated kind
+
+-- operands of the binary operators
 abbrev pub is_operand : SyntaxKind → Bool
 is_operand NODE_BIN_OP = true
-is_operand kind = is_simple kind
+is_operand kind = is_questioned kind
 
+-- all expressions
+abbrev pub is_expression : SyntaxKind → Bool
+is_expression NODE_LEGACY_LET = true
+is_expression NODE_LET_IN = true
+is_expression NODE_WITH = true
+is_expression NODE_IF_ELSE = true
+is_expression NODE_ASSERT = true
+is_expression kind = is_operand kind
+
+-- what may stand where an operand of a level is wanted
+abbrev pub fits : ℕ → SyntaxKind → Bool
+fits level kind =
+    if nat_eq level 0 then is_expression kind
+    else (if nat_le level 12 then is_operand kind else (if nat_eq level 13 then is_questioned kind else (if nat_eq level 14 then is_negated kind else is_simple kind)))
+
+-- the binary operators
 abbrev pub is_infix : SyntaxKind → Bool
+is_infix TOKEN_PIPE_LEFT = true
 is_infix TOKEN_PIPE_RIGHT = true
+is_infix TOKEN_IMPLICATION = true
 is_infix TOKEN_OR_OR = true
 is_infix TOKEN_AND_AND = true
+is_infix TOKEN_EQUAL = true
+is_infix TOKEN_NOT_EQUAL = true
+is_infix TOKEN_LESS = true
+is_infix TOKEN_LESS_OR_EQ = true
+is_infix TOKEN_MORE = true
+is_infix TOKEN_MORE_OR_EQ = true
+is_infix TOKEN_UPDATE = true
 is_infix TOKEN_ADD = true
 is_infix TOKEN_SUB = true
 is_infix TOKEN_MUL = true
 is_infix TOKEN_DIV = true
+is_infix TOKEN_CONCAT = true
 is_infix kind = false
-
-abbrev pub is_l_brack : SyntaxKind → Bool
-is_l_brack TOKEN_L_BRACK = true
-is_l_brack kind = false
-
-abbrev pub is_r_brack : SyntaxKind → Bool
-is_r_brack TOKEN_R_BRACK = true
-is_r_brack kind = false
-
-abbrev pub is_l_paren : SyntaxKind → Bool
-is_l_paren TOKEN_L_PAREN = true
-is_l_paren kind = false
-
-abbrev pub is_r_paren : SyntaxKind → Bool
-is_r_paren TOKEN_R_PAREN = true
-is_r_paren kind = false
 
 -- the tokens of NODE_LITERAL
 abbrev pub is_plain_literal : SyntaxKind → Bool
@@ -58,190 +93,308 @@ is_plain_literal TOKEN_INTEGER = true
 is_plain_literal TOKEN_URI = true
 is_plain_literal kind = false
 
-abbrev pub is_search_path : SyntaxKind → Bool
-is_search_path TOKEN_PATH_SEARCH = true
-is_search_path kind = false
+-- parts of an attribute path
+abbrev pub is_attr : SyntaxKind → Bool
+is_attr NODE_IDENT = true
+is_attr NODE_STRING = true
+is_attr NODE_DYNAMIC = true
+is_attr kind = false
 
-abbrev pub is_ident : SyntaxKind → Bool
-is_ident TOKEN_IDENT = true
-is_ident kind = false
+-- entries of sets and lets
+abbrev pub is_entry : SyntaxKind → Bool
+is_entry NODE_INHERIT = true
+is_entry NODE_ATTRPATH_VALUE = true
+is_entry kind = false
 
-abbrev pub is_cur_pos_token : SyntaxKind → Bool
-is_cur_pos_token TOKEN_CUR_POS = true
-is_cur_pos_token kind = false
+-- how far a row has come: at its start, behind the first child of some kinds, at a place, or nowhere in a row
+pub data Spot : Type 0 where
+  Start : SyntaxKind → Spot
+  BeforeOperator : Spot
+  BeforeDot : Spot
+  BeforeQuestion : Spot
+  BeforeArgument : Spot
+  BeforeAt : Spot
+  BeforeBrace : Spot
+  SecondStart : Spot
+  At : Place → Spot
+  Nowhere : Spot
 
-abbrev pub is_error : SyntaxKind → Bool
-is_error NODE_ERROR = true
-is_error kind = false
-
--- how far a node's row has come
-pub data Place : Type 0 where
-  RootStart : Place
-  RootEnd : Place
-  LiteralStart : Place
-  SearchPathStart : Place
-  IdentStart : Place
-  CurPosStart : Place
-  BinStart : Place
-  BinOperator : Place
-  BinEnd : Place
-  ApplyStart : Place
-  ApplyEnd : Place
-  ParenStart : Place
-  ParenInside : Place
-  ParenEnd : Place
-  ListStart : Place
-  ListInside : Place
-  Past : Place
-  Nowhere : Place
-
-abbrev pub to : Bool → Place → Place
+abbrev pub to : Bool → Spot → Spot
 to true q = q
 to false q = Nowhere
 
--- items of a list, and its end
-abbrev pub in_list : Bool → Bool → Place
-in_list true closes = ListInside
-in_list false closes = to closes Past
+-- behind one more child in a place's row
+abbrev pub go_pieces : SyntaxKind → Spot
+go_pieces TOKEN_STRING_END = At p.Past
+go_pieces TOKEN_STRING_CONTENT = At p.StringInside
+go_pieces NODE_INTERPOL = At p.StringInside
+go_pieces kind = Nowhere
 
--- the place after one more child
-abbrev pub go : Place → SyntaxKind → Place
-go RootStart k = to (is_operand k) RootEnd
-go LiteralStart k = to (is_plain_literal k) Past
-go SearchPathStart k = to (is_search_path k) Past
-go IdentStart k = to (is_ident k) Past
-go CurPosStart k = to (is_cur_pos_token k) Past
-go BinStart k = to (is_operand k) BinOperator
-go BinOperator k = to (is_infix k) BinEnd
-go BinEnd k = to (is_operand k) Past
-go ApplyStart k = to (is_simple k) ApplyEnd
-go ApplyEnd k = to (is_simple k) Past
-go ParenStart k = to (is_l_paren k) ParenInside
-go ParenInside k = to (is_operand k) ParenEnd
-go ParenEnd k = to (is_r_paren k) Past
-go ListStart k = to (is_l_brack k) ListInside
-go ListInside k = in_list (is_simple k) (is_r_brack k)
-go q k = Nowhere
+abbrev pub go_first_piece : SyntaxKind → Spot
+go_first_piece NODE_INTERPOL = At p.PathMore
+go_first_piece kind = Nowhere
 
--- where the row of a kind begins; an error node has none
-abbrev pub start : SyntaxKind → Place
-start NODE_ROOT = RootStart
-start NODE_LITERAL = LiteralStart
-start NODE_PATH_SEARCH = SearchPathStart
-start NODE_IDENT = IdentStart
-start NODE_CUR_POS = CurPosStart
-start NODE_BIN_OP = BinStart
-start NODE_APPLY = ApplyStart
-start NODE_PAREN = ParenStart
-start NODE_LIST = ListStart
-start kind = Nowhere
+abbrev pub go_names : SyntaxKind → Spot
+go_names TOKEN_SEMICOLON = At p.Past
+go_names kind = to (is_attr kind) (At p.InheritNames)
 
--- the row may end here
-abbrev pub whole : Place → Bool
-whole RootEnd = true
-whole Past = true
-whole q = false
+abbrev pub go_source : SyntaxKind → Spot
+go_source NODE_INHERIT_FROM = At p.InheritNames
+go_source kind = go_names kind
+
+abbrev pub go_more_attrs : SyntaxKind → Spot
+go_more_attrs TOKEN_DOT = At p.AttrpathStart
+go_more_attrs kind = Nowhere
+
+abbrev pub go_attrpath : Place → SyntaxKind → Spot
+go_attrpath behind NODE_ATTRPATH = At behind
+go_attrpath behind kind = Nowhere
+
+abbrev pub go_name : Place → SyntaxKind → Spot
+go_name behind NODE_IDENT = At behind
+go_name behind kind = Nowhere
+
+abbrev pub go_formals : Bool → SyntaxKind → Spot
+go_formals bound TOKEN_R_BRACE = At (p.PatternEnd bound)
+go_formals bound TOKEN_ELLIPSIS = At (p.PatternClose bound)
+go_formals bound NODE_PAT_ENTRY = At (p.PatternAfter bound)
+go_formals bound kind = Nowhere
+
+abbrev pub go_comma : Bool → SyntaxKind → Spot
+go_comma bound TOKEN_COMMA = At (p.PatternInside bound)
+go_comma bound TOKEN_R_BRACE = At (p.PatternEnd bound)
+go_comma bound kind = Nowhere
+
+abbrev pub go_bind : Bool → SyntaxKind → Spot
+go_bind false NODE_PAT_BIND = At p.PatternPast
+go_bind bound kind = Nowhere
+
+abbrev pub go_default : SyntaxKind → Spot
+go_default TOKEN_QUESTION = At p.EntryDefault
+go_default kind = Nowhere
+
+abbrev pub go_or : SyntaxKind → Spot
+go_or TOKEN_OR = At p.SelectDefault
+go_or kind = Nowhere
+
+abbrev pub go_slot : Slot → Place → SyntaxKind → Spot
+go_slot (s.Token until behind) place kind = to (is_wanted until kind) (At behind)
+go_slot (s.Operand level counted behind) place kind = to (fits level kind) (At behind)
+go_slot (s.Series level closer) place kind = if closes closer kind then At p.Past else to (fits level kind) (At place)
+go_slot (s.Entries closer behind) place kind = if closes closer kind then At behind else to (is_entry kind) (At place)
+go_slot s.Pieces place kind = go_pieces kind
+go_slot s.FirstPiece place kind = go_first_piece kind
+go_slot s.MorePieces place kind = if is_path_piece kind then At p.PathMore else go_first_piece kind
+go_slot s.Source place kind = go_source kind
+go_slot s.Names place kind = go_names kind
+go_slot (s.Attr behind) place kind = to (is_attr kind) (At behind)
+go_slot s.MoreAttrs place kind = go_more_attrs kind
+go_slot (s.Attrpath behind) place kind = go_attrpath behind kind
+go_slot (s.Name behind) place kind = go_name behind kind
+go_slot (s.Braces bound) place kind = go_formals bound kind
+go_slot (s.Formals bound) place kind = go_formals bound kind
+go_slot (s.Comma bound) place kind = go_comma bound kind
+go_slot (s.Bind bound) place kind = go_bind bound kind
+go_slot s.Default place kind = go_default kind
+go_slot s.Or place kind = go_or kind
+go_slot slot place kind = Nowhere
+
+-- behind the first child
+abbrev pub first_set : SyntaxKind → Spot
+first_set TOKEN_REC = At p.SetBrace
+first_set TOKEN_L_BRACE = At p.SetInside
+first_set kind = Nowhere
+
+abbrev pub first_unary : SyntaxKind → Spot
+first_unary TOKEN_SUB = At p.Negated
+first_unary TOKEN_INVERT = At p.Inverted
+first_unary kind = Nowhere
+
+abbrev pub first_lambda : SyntaxKind → Spot
+first_lambda NODE_IDENT_PARAM = At p.LambdaColon
+first_lambda NODE_PATTERN = At p.LambdaColon
+first_lambda kind = Nowhere
+
+abbrev pub first_pattern : SyntaxKind → Spot
+first_pattern TOKEN_L_BRACE = At (p.PatternStart false)
+first_pattern NODE_PAT_BIND = At p.PatternBrace
+first_pattern kind = Nowhere
+
+abbrev pub first_bind : SyntaxKind → Spot
+first_bind NODE_IDENT = BeforeAt
+first_bind TOKEN_AT = At p.BindName
+first_bind kind = Nowhere
+
+-- the token that a kind's row begins with, and the place behind it
+abbrev pub first_token : SyntaxKind → SyntaxKind → Place → Spot
+first_token TOKEN_L_PAREN TOKEN_L_PAREN place = At place
+first_token TOKEN_L_BRACK TOKEN_L_BRACK place = At place
+first_token TOKEN_STRING_START TOKEN_STRING_START place = At place
+first_token TOKEN_INTERPOL_START TOKEN_INTERPOL_START place = At place
+first_token TOKEN_PATH_ABS TOKEN_PATH_ABS place = At place
+first_token TOKEN_PATH_REL TOKEN_PATH_REL place = At place
+first_token TOKEN_PATH_HOME TOKEN_PATH_HOME place = At place
+first_token TOKEN_PATH_SEARCH TOKEN_PATH_SEARCH place = At place
+first_token TOKEN_IDENT TOKEN_IDENT place = At place
+first_token TOKEN_CUR_POS TOKEN_CUR_POS place = At place
+first_token TOKEN_LET TOKEN_LET place = At place
+first_token TOKEN_WITH TOKEN_WITH place = At place
+first_token TOKEN_ASSERT TOKEN_ASSERT place = At place
+first_token TOKEN_IF TOKEN_IF place = At place
+first_token TOKEN_INHERIT TOKEN_INHERIT place = At place
+first_token wanted kind place = Nowhere
+
+abbrev pub first_let : SyntaxKind → Spot
+first_let TOKEN_LET = BeforeBrace
+first_let kind = Nowhere
+
+abbrev pub first_node : SyntaxKind → Place → SyntaxKind → Spot
+first_node NODE_IDENT place NODE_IDENT = At place
+first_node wanted place kind = Nowhere
+
+abbrev pub first : SyntaxKind → SyntaxKind → Spot
+first NODE_PAREN kind = first_token TOKEN_L_PAREN kind p.ParenInside
+first NODE_LIST kind = first_token TOKEN_L_BRACK kind p.ListInside
+first NODE_DYNAMIC kind = first_token TOKEN_INTERPOL_START kind p.DynamicInside
+first NODE_INTERPOL kind = first_token TOKEN_INTERPOL_START kind p.InterpolInside
+first NODE_STRING kind = first_token TOKEN_STRING_START kind p.StringInside
+first NODE_PATH_ABS kind = first_token TOKEN_PATH_ABS kind p.PathFirst
+first NODE_PATH_REL kind = first_token TOKEN_PATH_REL kind p.PathFirst
+first NODE_PATH_HOME kind = first_token TOKEN_PATH_HOME kind p.PathFirst
+first NODE_PATH_SEARCH kind = first_token TOKEN_PATH_SEARCH kind p.Past
+first NODE_LITERAL kind = to (is_plain_literal kind) (At p.Past)
+first NODE_IDENT kind = first_token TOKEN_IDENT kind p.Past
+first NODE_CUR_POS kind = first_token TOKEN_CUR_POS kind p.Past
+first NODE_ATTR_SET kind = first_set kind
+first NODE_LEGACY_LET kind = first_let kind
+first NODE_LET_IN kind = first_token TOKEN_LET kind p.LetInside
+first NODE_WITH kind = first_token TOKEN_WITH kind p.WithScope
+first NODE_ASSERT kind = first_token TOKEN_ASSERT kind p.AssertCondition
+first NODE_IF_ELSE kind = first_token TOKEN_IF kind p.IfCondition
+first NODE_INHERIT kind = first_token TOKEN_INHERIT kind p.InheritStart
+first NODE_INHERIT_FROM kind = first_token TOKEN_L_PAREN kind p.FromInside
+first NODE_LAMBDA kind = first_lambda kind
+first NODE_IDENT_PARAM kind = first_node NODE_IDENT p.Past kind
+first NODE_PATTERN kind = first_pattern kind
+first NODE_PAT_BIND kind = first_bind kind
+first NODE_PAT_ENTRY kind = first_node NODE_IDENT p.EntryMore kind
+first NODE_SELECT kind = to (is_atom kind) BeforeDot
+first NODE_HAS_ATTR kind = to (is_questioned kind) BeforeQuestion
+first NODE_APPLY kind = to (is_simple kind) BeforeArgument
+first NODE_UNARY_OP kind = first_unary kind
+first NODE_BIN_OP kind = to (is_operand kind) BeforeOperator
+first node kind = Nowhere
+
+-- behind the second child of some kinds
+abbrev pub go_dot : SyntaxKind → Spot
+go_dot TOKEN_DOT = At p.SelectPath
+go_dot kind = Nowhere
+
+abbrev pub go_question : SyntaxKind → Spot
+go_question TOKEN_QUESTION = At p.HasPath
+go_question kind = Nowhere
+
+abbrev pub go_at : SyntaxKind → Spot
+go_at TOKEN_AT = At p.Past
+go_at kind = Nowhere
+
+abbrev pub go_brace : SyntaxKind → Spot
+go_brace TOKEN_L_BRACE = At p.LegacyInside
+go_brace kind = Nowhere
+
+abbrev pub go_second : SyntaxKind → Spot
+go_second TOKEN_AT = At p.TwiceName
+go_second kind = Nowhere
+
+-- behind one more child
+abbrev pub go : Spot → SyntaxKind → Spot
+go (Start node) kind = first node kind
+go BeforeOperator kind = to (is_infix kind) (At (p.Right (right_of kind)))
+go BeforeDot kind = go_dot kind
+go BeforeQuestion kind = go_question kind
+go BeforeArgument kind = to (is_simple kind) (At p.Past)
+go BeforeAt kind = go_at kind
+go BeforeBrace kind = go_brace kind
+go SecondStart kind = go_second kind
+go (At place) kind = go_slot (slot_at place) place kind
+go Nowhere kind = Nowhere
+
+-- the row may end
+abbrev pub is_end : Slot → Bool
+is_end s.Done = true
+is_end s.EntryDone = true
+is_end s.PatternDone = true
+is_end s.TwiceDone = true
+is_end s.End = true
+is_end s.FirstPiece = true
+is_end s.MorePieces = true
+is_end s.MoreAttrs = true
+is_end (s.Bind bound) = true
+is_end s.Default = true
+is_end s.Or = true
+is_end slot = false
+
+abbrev pub whole : Spot → Bool
+whole (At place) = is_end (slot_at place)
+whole spot = false
 
 -- the children so far begin a row
-abbrev pub live : Place → Bool
+abbrev pub live : Spot → Bool
 live Nowhere = false
-live q = true
+live spot = true
 
--- the place after some children
-abbrev pub run : Place → List SyntaxKind → Place
+-- where the row of a kind begins
+abbrev pub start : SyntaxKind → Spot
+start NODE_ROOT = At p.RootStart
+start NODE_ATTRPATH = At p.AttrpathStart
+start NODE_ATTRPATH_VALUE = At p.ValuePath
+start node = Start node
+
+-- behind some children
+abbrev pub run : Spot → List SyntaxKind → Spot
 run q [] = q
-run q (k ∷ ks) = run (go q k) ks
+run q (kind ∷ kinds) = run (go q kind) kinds
 
 -- these kinds are a row of children of a node of the kind
 abbrev pub is_row : SyntaxKind → List SyntaxKind → Bool
-is_row k ks = whole (run (start k) ks)
+is_row node kinds = whole (run (start node) kinds)
 
 -- these kinds begin such a row
-pub record IsBeginning (k : SyntaxKind) (ks : List SyntaxKind) : Type 0 where
+pub record IsBeginning (node : SyntaxKind) (kinds : List SyntaxKind) : Type 0 where
   pub more : List SyntaxKind
-  pub is : whole (run (run (start k) ks) more) ≡ true
+  pub is : whole (run (run (start node) kinds) more) ≡ true
 
--- what is reported as missing, if the text ends here
-abbrev pub missing : Place → List Fault
-missing RootEnd = []
-missing Past = []
-missing ParenInside = ended ∷ (ended_before (wanted_kinds RParen) ∷ [])
-missing ParenEnd = ended_before (wanted_kinds RParen) ∷ []
-missing q = ended ∷ []
+-- what is reported where the text ends at a place, and the place behind what is missing
+abbrev pub lack_in : Slot → Option (Fault × Place)
+lack_in (s.Token until behind) = Some (ended_before (wanted_kinds until), behind)
+lack_in (s.Operand level counted behind) = Some (ended, behind)
+lack_in (s.Series level closer) = Some (ended, p.Past)
+lack_in (s.Entries closer behind) = Some (ended, behind)
+lack_in s.Pieces = Some (ended_before (wanted_kinds u.Piece), p.StringEnd)
+lack_in s.Source = Some (ended, p.InheritEnd)
+lack_in s.Names = Some (ended, p.InheritEnd)
+lack_in (s.Attr behind) = Some (ended_before (wanted_kinds u.Attr), behind)
+lack_in (s.Name behind) = Some (ended_before (wanted_kinds u.Ident), behind)
+lack_in (s.Braces bound) = Some (ended, p.PatternEnd bound)
+lack_in (s.Formals bound) = Some (ended_before (wanted_kinds u.Entry), p.PatternEnd bound)
+lack_in (s.Comma bound) = Some (ended_before (wanted_kinds u.RBrace), p.PatternEnd bound)
+lack_in slot = None
 
--- an error node in an operand's place counts as a literal; others count for nothing
-abbrev pub patched : Note → Place → Place
-patched Stray q = go q NODE_LITERAL
-patched TooDeep q = go q NODE_LITERAL
-patched n q = q
+abbrev pub lack : Place → Option (Fault × Place)
+lack place = lack_in (slot_at place)
 
-abbrev pub seen_as : Note → SyntaxKind
-seen_as Stray = NODE_LITERAL
-seen_as TooDeep = NODE_LITERAL
-seen_as n = NODE_ERROR
+-- which tokens are wanted behind a run of others at a place, and the place behind the run
+abbrev pub run_in : Slot → Place → Option (Until × Place)
+run_in (s.Token until behind) place = Some (until, place)
+run_in s.Pieces place = Some (u.Piece, place)
+run_in s.Source place = Some (u.Attr, p.InheritName)
+run_in s.Names place = Some (u.Attr, p.InheritName)
+run_in (s.Attr behind) place = Some (u.Attr, place)
+run_in (s.Name behind) place = Some (u.Ident, place)
+run_in (s.Braces bound) place = Some (u.Entry, p.PatternInside bound)
+run_in (s.Formals bound) place = Some (u.Entry, p.PatternInside bound)
+run_in (s.Comma bound) place = Some (u.RBrace, p.PatternClose bound)
+run_in slot place = None
 
--- the kind of the first token
-abbrev pub first_kind : List Token → SyntaxKind
-first_kind [] = NODE_ERROR
-first_kind (t ∷ ts) = t.kind
-
--- the error that an error node is reported by
-abbrev pub report : Note → List Token → Fault
-report Stray ts = unwanted (first_kind ts) (extent_of ts) operand_kinds
-report (Unwanted until) ts = unwanted (first_kind ts) (extent_of ts) (wanted_kinds until)
-report Extra ts = extra (extent_of ts)
-report TooDeep ts = too_deep
-
--- an item of the first kind goes on with the tree of the second kind before it
-abbrev pub is_operator : SyntaxKind → Bool
-is_operator k =
-    goes_on PipeRight (Some k) || goes_on Disjunction (Some k) || goes_on Conjunction (Some k) || goes_on Sum (Some k) || goes_on Product (Some k)
-
-abbrev pub continues_kind : SyntaxKind → SyntaxKind → Bool
-continues_kind k b =
-    if is_simple b then goes_on Application (Some k) || is_operator k
-    else (if is_operand b then is_operator k else false)
-
-abbrev pub continues : SyntaxKind → Option SyntaxKind → Bool
-continues k None = false
-continues k (Some b) = continues_kind k b
-
--- which lists are wanted below which nodes
-abbrev pub is_wanted_in : Until → SyntaxKind → Bool
-is_wanted_in RParen NODE_PAREN = true
-is_wanted_in until parent = false
-
--- none of the tokens stops the run
-abbrev pub AreUnwanted : Until → List Token → Type 0
-AreUnwanted until [] = Unit {0}
-AreUnwanted until (t ∷ ts) = (stops until (Some t.kind) ≡ false) × AreUnwanted until ts
-
--- what holds beside an error node: its parent, how many nodes it is inside of, the child before it, how many items come before it,
--- its tokens, and the items after it
-abbrev pub IsBeside : Note → SyntaxKind → ℕ → Option SyntaxKind → ℕ → List Token → List Token → Type 0
-IsBeside Stray parent depth before count [] after = ⊥
-IsBeside Stray parent depth before count (t ∷ ts) after = (ts ≡ []) × (goes_on Application (Some t.kind) ≡ false)
-IsBeside (Unwanted until) parent depth before count [] after = ⊥
-IsBeside (Unwanted until) parent depth before count (t ∷ ts) after =
-    AreUnwanted until (t ∷ ts) × (stops until (head_kind after) ≡ true) × (is_wanted_in until parent ≡ true) × (continues t.kind before ≡ false)
-IsBeside Extra parent depth before count [] after = ⊥
-IsBeside Extra parent depth before count (t ∷ ts) after = (after ≡ []) × (parent ≡ NODE_ROOT) × (continues t.kind before ≡ false)
-IsBeside TooDeep parent depth before count ts after = (after ≡ []) × (depth_limit < depth) × (depth_limit ≤ count)
-
--- A row of children without trivia, from a place in their parent's row to another, with the errors that it is reported by. Each leaf has
--- the kind of its token; each error node has its leaves alone and stands where it may; each other node is begun, and is whole or the last
--- of the text. Known are the parent's kind, how many nodes the row is inside of, the child before it, how many items come before it, and
--- the items after it.
-pub data Stands : SyntaxKind → ℕ → Place → Place → Option SyntaxKind → ℕ → List Token → Sketch → List Fault → Type 0 where
-  end : {p : SyntaxKind} {a : ℕ} {q : Place} {b : Option SyntaxKind} {i : ℕ} {us : List Token} → Stands p a q q b i us blank []
-  leaf : {p : SyntaxKind} {a : ℕ} {q r q' : Place} {b : Option SyntaxKind} {i j : ℕ} {us : List Token} {f : Sketch} {es : List Fault} {k : SyntaxKind} {t : Token}
-      → k ≡ told p t → go q k ≡ r → j ≡ suc i → Stands p a r q' (Some k) j us f es
-      → Stands p a q q' b i us (token k t f) es
-  wrong : {p : SyntaxKind} {a : ℕ} {q r q' : Place} {b : Option SyntaxKind} {i j : ℕ} {us vs : List Token} {c f : Sketch} {es fs : List Fault} (n : Note) (ts : List Token)
-      → c ≡ row_of ts → vs ≡ tokens_in f ++ us → IsBeside n p a b i ts vs → patched n q ≡ r → j ≡ i + length ts
-      → Stands p a r q' (Some (seen_as n)) j us f es → fs ≡ report n ts ∷ es
-      → Stands p a q q' b i us (fault n c f) fs
-  inner : {p : SyntaxKind} {a : ℕ} {q r s q' : Place} {b : Option SyntaxKind} {i j : ℕ} {us vs : List Token} {c f : Sketch} {ds es fs : List Fault} {k : SyntaxKind}
-      → is_error k ≡ false → vs ≡ tokens_in f ++ us → Stands k (suc a) (start k) s None i vs c ds → live s ≡ true → (whole s ≡ true) ⊎ (vs ≡ [])
-      → go q k ≡ r → j ≡ i + length (tokens_in c) → Stands p a r q' (Some k) j us f es → fs ≡ (ds ++ missing s) ++ es
-      → Stands p a q q' b i us (branch k c f) fs
+abbrev pub run_at : Place → Option (Until × Place)
+run_at place = run_in (slot_at place) place

@@ -1,12 +1,16 @@
--- The shape of a tree: each node has a row of its kind, and neither begins nor ends with trivia.
-use Rattle.std.specs.Prelude.{◌≡◌, true, false, List, [], ◌∷◌, ◌++◌, if◌then◌else◌}
+-- The shape of a tree: each node has a row of its kind, and neither begins nor ends with trivia; the names of a pattern's entries differ.
+use Rattle.std.specs.Prelude.{◌≡◌, ℕ, Bool, true, false, ◌&&◌, List, [], ◌∷◌, ◌++◌, Option, Some, None, if◌then◌else◌, bytes_eq}
 use Rattle.rnix_kinds.specs.declared.kinds.SyntaxKind.{SyntaxKind}
+use Rattle.rnix_kinds.specs.declared.kinds.SyntaxKind.TheVariants.{NODE_IDENT, NODE_PAT_BIND, NODE_PAT_ENTRY}
 use Rattle.rnix_kinds.specs.SyntaxKind.{is_trivia}
 use Rattle.rnix_tree.specs.Forest.{Forest, empty, leaf, node}
-use Rattle.rnix_tree.specs.Tree.{Tree}
+use Rattle.rnix_tree.specs.Tree.{Tree, forest_of}
 use Rattle.rnix_grammar.specs.Fault.{Fault}
-use Rattle.rnix_grammar.specs.Sketch.{Token, Sketch, blank, token, branch, fault, tokens_in}
-use Rattle.rnix_grammar.specs.Rows.{is_row, report}
+use Rattle.rnix_grammar.specs.Sketch.{Sketch, blank, token, branch, fault, ◌⊕◌, one_token, one_branch, one_fault, tokens_in, clean}
+use Rattle.rnix_grammar.specs.Reports.{report}
+use Rattle.rnix_grammar.specs.Stands.{repeats}
+use Rattle.rnix_grammar.specs.Rows.{is_row}
+use Rattle.rnix_grammar.specs.Trim.{AreNodesTrimmed}
 
 -- the kinds of a row's trees, without trivia
 abbrev pub item_kinds : Forest → List SyntaxKind
@@ -14,47 +18,101 @@ item_kinds empty = []
 item_kinds (leaf k t f) = if is_trivia k then item_kinds f else k ∷ item_kinds f
 item_kinds (node k c f) = k ∷ item_kinds f
 
--- the first kind is no trivia, and the last
-abbrev pub BeginsWithItem : List SyntaxKind → Type 0
-BeginsWithItem [] = Unit {0}
-BeginsWithItem (k ∷ ks) = is_trivia k ≡ false
+-- without trivia, a row begins with a leaf
+abbrev pub begins_with_leaf : Forest → Bool
+begins_with_leaf empty = false
+begins_with_leaf (leaf k t f) = if is_trivia k then begins_with_leaf f else true
+begins_with_leaf (node k c f) = false
 
-abbrev pub EndsWithItem : List SyntaxKind → Type 0
-EndsWithItem [] = Unit {0}
-EndsWithItem (k ∷ []) = is_trivia k ≡ false
-EndsWithItem (k ∷ (j ∷ ks)) = EndsWithItem (j ∷ ks)
+-- a name that is bound to a pattern begins with the name where it is the first child, and with `@` elsewhere
+abbrev pub is_bind_formed : Bool → SyntaxKind → Forest → Bool
+is_bind_formed true NODE_PAT_BIND c = if begins_with_leaf c then false else true
+is_bind_formed false NODE_PAT_BIND c = begins_with_leaf c
+is_bind_formed first k c = true
 
--- the kinds of a row's leaves
-abbrev pub leaf_kinds : Forest → List SyntaxKind
-leaf_kinds empty = []
-leaf_kinds (leaf k t f) = k ∷ leaf_kinds f
-leaf_kinds (node k c f) = leaf_kinds c ++ leaf_kinds f
+-- and so in a row of children, which begins with the first child or goes on behind it
+abbrev pub are_binds_formed : Bool → Forest → Bool
+are_binds_formed first empty = true
+are_binds_formed first (leaf k t f) = if is_trivia k then are_binds_formed first f else are_binds_formed false f
+are_binds_formed first (node k c f) = is_bind_formed first k c && are_binds_formed false f
 
--- each node of a row has its shape
-abbrev pub AreShaped : Forest → Type 0
-AreShaped empty = Unit {0}
-AreShaped (leaf k t f) = AreShaped f
-AreShaped (node k c f) = (is_row k (item_kinds c) ≡ true) × BeginsWithItem (leaf_kinds c) × EndsWithItem (leaf_kinds c) × AreShaped c × AreShaped f
+-- each node's children, without trivia, are a row of its kind
+abbrev pub AreRows : Forest → Type 0
+AreRows empty = Unit {0}
+AreRows (leaf k t f) = AreRows f
+AreRows (node k c f) = (is_row k (item_kinds c) ≡ true) × (are_binds_formed true c ≡ true) × AreRows c × AreRows f
 
--- the root may begin and end with trivia
+-- each node of a tree has its row, and none below the root begins or ends with trivia
 abbrev pub IsShaped : Tree → Type 0
-IsShaped tree = (is_row tree.kind (item_kinds tree.children) ≡ true) × AreShaped tree.children
+IsShaped tree = (is_row tree.kind (item_kinds tree.children) ≡ true) × AreRows tree.children × AreNodesTrimmed tree.children
 
--- the kinds of some tokens
-abbrev pub token_kinds : List Token → List SyntaxKind
-token_kinds [] = []
-token_kinds (t ∷ ts) = t.kind ∷ token_kinds ts
+-- the text of the first leaf of a row that is no trivia
+abbrev pub leaf_text : Forest → Option (List ℕ)
+leaf_text empty = None
+leaf_text (leaf k t f) = if is_trivia k then leaf_text f else Some t
+leaf_text (node k c f) = None
 
--- no error node of a row begins or ends with trivia
-abbrev pub AreFaultsTrimmed : Sketch → Type 0
-AreFaultsTrimmed blank = Unit {0}
-AreFaultsTrimmed (token k t f) = AreFaultsTrimmed f
-AreFaultsTrimmed (branch k c f) = AreFaultsTrimmed c × AreFaultsTrimmed f
-AreFaultsTrimmed (fault n c f) = BeginsWithItem (token_kinds (tokens_in c)) × EndsWithItem (token_kinds (tokens_in c)) × AreFaultsTrimmed c × AreFaultsTrimmed f
+-- the name that a node is
+abbrev pub text_if : SyntaxKind → Forest → Option (List ℕ)
+text_if NODE_IDENT c = leaf_text c
+text_if k c = None
 
--- the errors of a row's error nodes, in the order in which the nodes close
+-- the name that an entry of a pattern begins with
+abbrev pub name_in : Forest → Option (List ℕ)
+name_in empty = None
+name_in (leaf k t f) = if is_trivia k then name_in f else None
+name_in (node k c f) = text_if k c
+
+-- the name of a node that is an entry
+abbrev pub name_if : SyntaxKind → Forest → Option (List ℕ)
+name_if NODE_PAT_ENTRY c = name_in c
+name_if k c = None
+
+-- a name before others, if there is one
+abbrev pub with_name : Option (List ℕ) → List (List ℕ) → List (List ℕ)
+with_name None names = names
+with_name (Some name) names = name ∷ names
+
+-- the names of the entries in a row, in order
+abbrev pub entry_names : Forest → List (List ℕ)
+entry_names empty = []
+entry_names (leaf k t f) = entry_names f
+entry_names (node k c f) = with_name (name_if k c) (entry_names f)
+
+-- a name is among others
+abbrev pub is_among : List ℕ → List (List ℕ) → Bool
+is_among name [] = false
+is_among name (other ∷ names) = if bytes_eq name other then true else is_among name names
+
+-- none of the names is one of those before it
+abbrev pub AreNew : List (List ℕ) → List (List ℕ) → Type 0
+AreNew before [] = Unit {0}
+AreNew before (name ∷ names) = (is_among name before ≡ false) × AreNew (before ++ (name ∷ [])) names
+
+-- no entry of a pattern has the name of an entry before it
+abbrev pub AreUnrepeated : Forest → Type 0
+AreUnrepeated empty = Unit {0}
+AreUnrepeated (leaf k t f) = AreUnrepeated f
+AreUnrepeated (node k c f) = AreNew [] (entry_names c) × AreUnrepeated c × AreUnrepeated f
+
+-- and so in a tree
+abbrev pub IsUnrepeated : Tree → Type 0
+IsUnrepeated tree = AreUnrepeated (forest_of tree)
+
+-- the errors of a row's error nodes and of its repeated entries, in the order in which the nodes close; some trees stand before the row
+abbrev pub reports_behind : Sketch → Sketch → List Fault
+reports_behind b blank = []
+reports_behind b (token k t f) = reports_behind (b ⊕ one_token k t) f
+reports_behind b (branch k c f) = reports_behind blank c ++ (repeats k b c ++ reports_behind (b ⊕ one_branch k c) f)
+reports_behind b (fault n c f) = reports_behind blank c ++ (report n (tokens_in c) ∷ reports_behind (b ⊕ one_fault n c) f)
+
+-- the errors of a row before which no tree stands
 abbrev pub reports : Sketch → List Fault
-reports blank = []
-reports (token k t f) = reports f
-reports (branch k c f) = reports c ++ reports f
-reports (fault n c f) = reports c ++ (report n (tokens_in c) ∷ reports f)
+reports f = reports_behind blank f
+
+-- the same of a tree with trivia: a name is looked for in the trees without trivia, and an error node has all its tokens
+abbrev pub reports_within : Sketch → Sketch → List Fault
+reports_within b blank = []
+reports_within b (token k t f) = reports_within (b ⊕ one_token k t) f
+reports_within b (branch k c f) = reports_within blank c ++ (repeats k (clean b) (clean c) ++ reports_within (b ⊕ one_branch k c) f)
+reports_within b (fault n c f) = reports_within blank c ++ (report n (tokens_in c) ∷ reports_within (b ⊕ one_fault n c) f)

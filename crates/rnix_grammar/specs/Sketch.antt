@@ -1,13 +1,12 @@
 -- Trees as they are read: each leaf keeps the token that it stands for, and each error node says what it is.
-use Rattle.std.specs.Prelude.{◌≡◌, ℕ, ◌+◌, Bool, true, false, List, [], ◌∷◌, ◌++◌, Option, Some, None, length, if◌then◌else◌}
+use Rattle.std.specs.Prelude.{◌≡◌, ℕ, ◌+◌, Bool, true, false, List, [], ◌∷◌, ◌++◌, Option, Some, None, length}
 use Rattle.rnix_kinds.specs.declared.kinds.SyntaxKind.{SyntaxKind}
-use Rattle.rnix_kinds.specs.declared.kinds.SyntaxKind.TheVariants.{TOKEN_IDENT, TOKEN_CUR_POS, NODE_CUR_POS, NODE_ERROR}
+use Rattle.rnix_kinds.specs.declared.kinds.SyntaxKind.TheVariants.{TOKEN_IDENT, TOKEN_OR, TOKEN_CUR_POS, NODE_IDENT, NODE_CUR_POS, NODE_ERROR}
 use Rattle.rnix_kinds.specs.SyntaxKind.{is_trivia}
 use Rattle.rnix_kinds.specs.Lexical.Tokens.{Lexeme}
 use Rattle.rnix_tree.specs.Forest.{Forest, empty, leaf, node}
 use Rattle.rnix_tree.specs.Range.{Extent}
 use Rattle.rnix_grammar.specs.declared.until.Until.{Until}
-use Rattle.rnix_grammar.specs.Tables.{is_cur_pos}
 
 -- a token of a text, with the bytes that it takes
 pub record Token : Type 0 where
@@ -25,11 +24,12 @@ placed_from n [] = []
 placed_from n (l ∷ ls) = record { kind = l.0; text = l.1; start = n; end = n + length l.1 } ∷ placed_from (n + length l.1) ls
 
 -- what an error node is: a token that begins no operand, a run of tokens where others are wanted,
--- the tokens behind the root's expression, the tokens that are nested too deep
+-- the tokens behind the root's expression, a second name of a pattern, the tokens that are nested too deep
 pub data Note : Type 0 where
   Stray : Note
   Unwanted : Until → Note
   Extra : Note
+  Twice : Note
   TooDeep : Note
 
 -- a row of trees: a leaf has its kind and its token, an error node has its note
@@ -78,17 +78,16 @@ forget (token k t f) = leaf k t.text (forget f)
 forget (branch k c f) = node k (forget c) (forget f)
 forget (fault n c f) = node NODE_ERROR (forget c) (forget f)
 
--- the kind of a token's leaf below a node: `__curPos` has a kind of its own where it is the current position
-abbrev pub told_name : SyntaxKind → List ℕ → SyntaxKind
-told_name NODE_CUR_POS name = if is_cur_pos name then TOKEN_CUR_POS else TOKEN_IDENT
-told_name parent name = TOKEN_IDENT
-
-abbrev pub told_as : SyntaxKind → List ℕ → SyntaxKind → SyntaxKind
-told_as parent text TOKEN_IDENT = told_name parent text
-told_as parent text kind = kind
+-- the kind of a token's leaf below a node: the name `or` is a name like others, and `__curPos` has a kind of its own where it is the
+-- current position
+abbrev pub told_as : SyntaxKind → SyntaxKind → SyntaxKind
+told_as NODE_IDENT TOKEN_OR = TOKEN_IDENT
+told_as NODE_IDENT TOKEN_CUR_POS = TOKEN_IDENT
+told_as NODE_CUR_POS TOKEN_IDENT = TOKEN_CUR_POS
+told_as parent kind = kind
 
 abbrev pub told : SyntaxKind → Token → SyntaxKind
-told parent t = told_as parent t.text t.kind
+told parent t = told_as parent t.kind
 
 -- each leaf has the kind that its token has below its parent
 abbrev pub AreTold : SyntaxKind → Sketch → Type 0

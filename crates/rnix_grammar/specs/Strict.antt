@@ -1,66 +1,175 @@
--- The strict grammar: which trees of which part there are, without trivia and error nodes.
-use Rattle.std.specs.Prelude.{◌≡◌, ℕ, suc, max, Bool, true, false, List, [], ◌∷◌, ◌++◌, Some}
+-- The strict grammar: which trees without trivia and error nodes are expressions.
+use Rattle.std.specs.Prelude.{ℕ, suc, Bool, true, false, ◌&&◌, List, [], ◌∷◌, ◌++◌, Option, Some, None, codes, if◌then◌else◌, nat_le, nat_eq}
+use Rattle.std.specs.Str.{bytes_eq}
 use Rattle.rnix_kinds.specs.declared.kinds.SyntaxKind.{SyntaxKind}
-use Rattle.rnix_kinds.specs.declared.kinds.SyntaxKind.TheVariants.{TOKEN_L_PAREN, TOKEN_R_PAREN, TOKEN_L_BRACK, TOKEN_R_BRACK, TOKEN_PATH_SEARCH, TOKEN_IDENT, TOKEN_CUR_POS, NODE_BIN_OP, NODE_APPLY, NODE_PAREN, NODE_LIST, NODE_LITERAL, NODE_PATH_SEARCH, NODE_IDENT, NODE_CUR_POS}
+use Rattle.rnix_kinds.specs.declared.kinds.SyntaxKind.TheVariants.{TOKEN_INVERT, TOKEN_IDENT, TOKEN_OR, TOKEN_CUR_POS, NODE_APPLY, NODE_ASSERT, NODE_BIN_OP, NODE_CUR_POS, NODE_DYNAMIC, NODE_HAS_ATTR, NODE_IDENT, NODE_IDENT_PARAM, NODE_IF_ELSE, NODE_LAMBDA, NODE_LEGACY_LET, NODE_LET_IN, NODE_PAT_BIND, NODE_PAT_ENTRY, NODE_PATTERN, NODE_ROOT, NODE_SELECT, NODE_UNARY_OP, NODE_WITH}
 use Rattle.rnix_kinds.specs.Lexical.Tokens.{Lexeme}
-use Rattle.rnix_tree.specs.Forest.{Forest, empty, leaf, node, join}
-use Rattle.rnix_grammar.specs.declared.level.Level.{Level}
-use Rattle.rnix_grammar.specs.declared.level.Level.TheVariants.{PipeRight, Application}
-use Rattle.rnix_grammar.specs.Tables.{goes_on, is_cur_pos}
-use Rattle.rnix_grammar.specs.Rows.{is_plain_literal}
-use Rattle.rnix_grammar.specs.Parts.{Expression, Part, Inside, Operands, Simple, Items, operand_of, has_operator}
+use Rattle.rnix_tree.specs.Forest.{Forest, empty, leaf, node}
+use Rattle.rnix_grammar.specs.declared.slot.Slot.{Slot}
+use Rattle.rnix_grammar.specs.declared.slot.Slot.TheVariants.{Operand, Series}
+use Rattle.rnix_grammar.specs.Tables.{is_cur_pos}
+use Rattle.rnix_grammar.specs.Levels.{power, left_of}
+use Rattle.rnix_grammar.specs.Slots.{slot_at}
+use Rattle.rnix_grammar.specs.Rows.{is_atom, is_expression, Spot, BeforeArgument, At, go, live, whole, start}
 
--- the strict trees of each part
-pub data IsStrict : Part → Forest → Type 0 where
-  tight : {l : Level} {f : Forest} → IsStrict (operand_of l) f → IsStrict (Operands l) f
-  binary : {l : Level} {f g : Forest} (k : SyntaxKind) (t : List ℕ) → has_operator l ≡ true → goes_on l (Some k) ≡ true → IsStrict (Operands l) f → IsStrict (operand_of l) g
-      → IsStrict (Operands l) (node NODE_BIN_OP (join f (leaf k t g)) empty)
-  applied : {f g : Forest} → IsStrict (Operands Application) f → IsStrict Simple g → IsStrict (Operands Application) (node NODE_APPLY (join f g) empty)
-  constant : (k : SyntaxKind) (t : List ℕ) → is_plain_literal k ≡ true → IsStrict Simple (node NODE_LITERAL (leaf k t empty) empty)
-  looked_up : (t : List ℕ) → IsStrict Simple (node NODE_PATH_SEARCH (leaf TOKEN_PATH_SEARCH t empty) empty)
-  named : (t : List ℕ) → is_cur_pos t ≡ false → IsStrict Simple (node NODE_IDENT (leaf TOKEN_IDENT t empty) empty)
-  position : (t : List ℕ) → is_cur_pos t ≡ true → IsStrict Simple (node NODE_CUR_POS (leaf TOKEN_CUR_POS t empty) empty)
-  enclosed : {f : Forest} (t u : List ℕ) → IsStrict (Inside Expression) f
-      → IsStrict Simple (node NODE_PAREN (leaf TOKEN_L_PAREN t (join f (leaf TOKEN_R_PAREN u empty))) empty)
-  listed : {f : Forest} (t u : List ℕ) → IsStrict Items f
-      → IsStrict Simple (node NODE_LIST (leaf TOKEN_L_BRACK t (join f (leaf TOKEN_R_BRACK u empty))) empty)
-  no_items : IsStrict Items empty
-  more_items : {f g : Forest} → IsStrict Simple f → IsStrict Items g → IsStrict Items (join f g)
-  loosest : {f : Forest} → IsStrict (Operands PipeRight) f → IsStrict (Inside Expression) f
+-- the text of the only leaf
+abbrev pub only_text : Forest → List ℕ
+only_text (leaf k t f) = t
+only_text f = []
+
+abbrev pub is_or : List ℕ → Bool
+is_or text = bytes_eq text (codes "or")
+
+-- a name that may be an expression
+abbrev pub is_plain_name : Forest → Bool
+is_plain_name c = if is_or (only_text c) then false else (if is_cur_pos (only_text c) then false else true)
+
+-- the operator behind the first tree
+abbrev pub operator_of : Forest → SyntaxKind
+operator_of (node k c (leaf j t f)) = j
+operator_of f = NODE_ROOT
+
+-- the second tree is the name `or`
+abbrev pub is_or_name : SyntaxKind → Forest → Bool
+is_or_name NODE_IDENT c = is_or (only_text c)
+is_or_name kind c = false
+
+abbrev pub calls_or : Forest → Bool
+calls_or (node k c (node j d f)) = is_or_name j d
+calls_or f = false
+
+abbrev pub prefix_level : Forest → ℕ
+prefix_level (leaf TOKEN_INVERT t f) = 9
+prefix_level f = 14
+
+-- the tightest level at which a tree may stand; 0 is a tree that only stands where any expression may
+abbrev pub level_of : SyntaxKind → Forest → ℕ
+level_of NODE_BIN_OP c = power (operator_of c)
+level_of NODE_HAS_ATTR c = 13
+level_of NODE_UNARY_OP c = prefix_level c
+level_of NODE_APPLY c = if calls_or c then 16 else 15
+level_of NODE_LAMBDA c = 0
+level_of NODE_LEGACY_LET c = 0
+level_of NODE_LET_IN c = 0
+level_of NODE_WITH c = 0
+level_of NODE_IF_ELSE c = 0
+level_of NODE_ASSERT c = 0
+level_of kind c = 16
+
+abbrev pub is_named : SyntaxKind → Forest → Bool
+is_named NODE_IDENT c = is_plain_name c
+is_named NODE_CUR_POS c = is_cur_pos (only_text c)
+is_named kind c = true
+
+-- the tree may stand where an expression of a level is wanted
+abbrev pub stands_at : ℕ → SyntaxKind → Forest → Bool
+stands_at level k c = is_expression k && (is_named k c && nat_le level (level_of k c))
+
+-- what `.` and a lone `or` may follow
+abbrev pub is_strict_atom : SyntaxKind → Forest → Bool
+is_strict_atom NODE_LAMBDA c = false
+is_strict_atom k c = is_atom k && is_named k c
+
+-- the first tree stands at a level
+abbrev pub first_stands : ℕ → Forest → Bool
+first_stands level (node k c f) = stands_at level k c
+first_stands level f = false
+
+abbrev pub first_is_atom : Forest → Bool
+first_is_atom (node k c f) = is_strict_atom k c
+first_is_atom f = false
+
+abbrev pub first_is_no_or : Forest → Bool
+first_is_no_or (node k c f) = if is_or_name k c then false else true
+first_is_no_or f = true
+
+-- how many trees of a row are nodes
+abbrev pub node_count : Forest → ℕ
+node_count empty = 0
+node_count (leaf k t f) = node_count f
+node_count (node k c f) = suc (node_count f)
+
+abbrev pub is_one : ℕ → Bool
+is_one n = nat_eq n 1
+
+abbrev pub binds_no_or : Forest → Bool
+binds_no_or (leaf k t f) = first_is_no_or f
+binds_no_or f = first_is_no_or f
+
+-- the name that an entry of a pattern begins with
+abbrev pub entry_text : Forest → List ℕ
+entry_text (node NODE_IDENT c f) = only_text c
+entry_text f = []
+
+abbrev pub is_among : List ℕ → List (List ℕ) → Bool
+is_among name [] = false
+is_among name (n ∷ ns) = if bytes_eq name n then true else is_among name ns
+
+-- no entry of a pattern has the name of one before it
+abbrev pub are_entries_new : List (List ℕ) → Forest → Bool
+are_entries_new names empty = true
+are_entries_new names (leaf k t f) = are_entries_new names f
+are_entries_new names (node NODE_PAT_ENTRY c f) = if is_among (entry_text c) names then false else are_entries_new (entry_text c ∷ names) f
+are_entries_new names (node k c f) = are_entries_new names f
+
+-- what is asked of the trees of some nodes beside their row
+abbrev pub is_grouped : SyntaxKind → Forest → Bool
+is_grouped NODE_BIN_OP c = first_stands (left_of (operator_of c)) c
+is_grouped NODE_HAS_ATTR c = first_stands 13 c
+is_grouped NODE_SELECT c = first_is_atom c
+is_grouped NODE_APPLY c = if calls_or c then first_is_atom c else first_stands 15 c
+is_grouped NODE_DYNAMIC c = is_one (node_count c)
+is_grouped NODE_IDENT_PARAM c = first_is_no_or c
+is_grouped NODE_PAT_ENTRY c = first_is_no_or c
+is_grouped NODE_PAT_BIND c = binds_no_or c
+is_grouped NODE_PATTERN c = are_entries_new [] c
+is_grouped kind c = true
+
+-- the level of the operands that stand in a slot
+abbrev pub level_in : Slot → Option ℕ
+level_in (Operand level counted behind) = Some level
+level_in (Series level closer) = Some level
+level_in slot = None
+
+abbrev pub stands_in : Option ℕ → SyntaxKind → Forest → Bool
+stands_in None k c = true
+stands_in (Some level) k c = stands_at level k c
+
+abbrev pub begins_with_leaf : Forest → Bool
+begins_with_leaf (leaf k t f) = true
+begins_with_leaf f = false
+
+-- the name that a pattern is bound to stands before `@` where the pattern begins, and behind it where the pattern ends
+abbrev pub binds_at : Spot → Forest → Bool
+binds_at (At place) c = begins_with_leaf c
+binds_at spot c = if begins_with_leaf c then false else true
+
+-- a node may stand at a spot of a row
+abbrev pub may_stand : Spot → SyntaxKind → Forest → Bool
+may_stand (At place) NODE_PAT_BIND c = begins_with_leaf c
+may_stand spot NODE_PAT_BIND c = binds_at spot c
+may_stand (At place) k c = stands_in (level_in (slot_at place)) k c
+may_stand BeforeArgument k c = if is_or_name k c then true else stands_at 16 k c
+may_stand spot k c = true
+
+-- the rest of a row, from a spot on
+abbrev pub is_strict : Spot → Forest → Bool
+is_strict q empty = whole q
+is_strict q (leaf k t f) = live (go q k) && is_strict (go q k) f
+is_strict q (node k c f) = live (go q k) && (may_stand q k c && (is_grouped k c && (is_strict (start k) c && is_strict (go q k) f)))
 
 -- a whole strict expression
-abbrev pub IsExpression : Forest → Type 0
-IsExpression f = IsStrict (Inside Expression) f
+abbrev pub is_strict_expression : Forest → Bool
+is_strict_expression f = is_strict (start NODE_ROOT) f
 
 -- the token of a leaf
-abbrev pub untold : SyntaxKind → SyntaxKind
-untold TOKEN_CUR_POS = TOKEN_IDENT
-untold kind = kind
+abbrev pub untold : SyntaxKind → List ℕ → SyntaxKind
+untold TOKEN_IDENT text = if is_or text then TOKEN_OR else TOKEN_IDENT
+untold TOKEN_CUR_POS text = TOKEN_IDENT
+untold kind text = kind
 
 -- the tokens that a tree stands for
 abbrev pub yield : Forest → List Lexeme
 yield empty = []
-yield (leaf k t f) = (untold k, t) ∷ yield f
+yield (leaf k t f) = (untold k t, t) ∷ yield f
 yield (node k c f) = yield c ++ yield f
-
--- there is a node in a row
-abbrev pub has_node : Forest → Bool
-has_node empty = false
-has_node (leaf k t f) = has_node f
-has_node (node k c f) = true
-
--- a node with these children counts: a parenthesis, and a list with items
-abbrev pub is_counted : SyntaxKind → Forest → Bool
-is_counted NODE_PAREN c = true
-is_counted NODE_LIST c = has_node c
-is_counted kind c = false
-
-abbrev pub deeper : Bool → ℕ → ℕ
-deeper true n = suc n
-deeper false n = n
-
--- how many expressions and items of lists are inside one another, below the row itself
-abbrev pub nesting : Forest → ℕ
-nesting empty = 0
-nesting (leaf k t f) = nesting f
-nesting (node k c f) = max (deeper (is_counted k c) (nesting c)) (nesting f)

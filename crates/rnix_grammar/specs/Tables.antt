@@ -1,71 +1,77 @@
--- The tables of the grammar: what begins an operand, what goes on with a level, where a run stops.
-use Rattle.std.specs.Prelude.{ℕ, Bool, true, false, List, [], ◌∷◌, Option, Some, None, codes, if◌then◌else◌}
+-- What is wanted where: the kinds of tokens, and the limit of nesting.
+use Rattle.std.specs.Prelude.{ℕ, Bool, true, false, List, [], ◌∷◌, Option, Some, None, codes}
 use Rattle.std.specs.Str.{bytes_eq}
 use Rattle.rnix_kinds.specs.declared.kinds.SyntaxKind.{SyntaxKind}
-use Rattle.rnix_kinds.specs.declared.kinds.SyntaxKind.TheVariants.{TOKEN_ADD, TOKEN_SUB, TOKEN_MUL, TOKEN_DIV, TOKEN_PIPE_RIGHT, TOKEN_OR_OR, TOKEN_AND_AND, TOKEN_L_PAREN, TOKEN_R_PAREN, TOKEN_R_BRACK, TOKEN_FLOAT, TOKEN_INTEGER, TOKEN_URI, TOKEN_PATH_SEARCH, TOKEN_IDENT, TOKEN_REC, TOKEN_L_BRACE, TOKEN_L_BRACK, TOKEN_STRING_START}
-use Rattle.rnix_kinds.specs.Lexical.Tokens.{Lexeme}
-use Rattle.rnix_grammar.specs.declared.begin.Begin.{Begin}
-use Rattle.rnix_grammar.specs.declared.begin.Begin.TheVariants.{Nothing, Paren, Bracket, Literal, SearchPath, CurPos, Name, Stray}
-use Rattle.rnix_grammar.specs.declared.level.Level.{Level}
-use Rattle.rnix_grammar.specs.declared.level.Level.TheVariants.{PipeRight, Disjunction, Conjunction, Sum, Product, Application}
+use Rattle.rnix_kinds.specs.declared.kinds.SyntaxKind.TheVariants.{TOKEN_R_PAREN, TOKEN_L_PAREN, TOKEN_L_BRACE, TOKEN_R_BRACE, TOKEN_L_BRACK, TOKEN_R_BRACK, TOKEN_IN, TOKEN_SEMICOLON, TOKEN_ASSIGN, TOKEN_COLON, TOKEN_THEN, TOKEN_ELSE, TOKEN_INTERPOL_START, TOKEN_INTERPOL_END, TOKEN_STRING_START, TOKEN_STRING_CONTENT, TOKEN_STRING_END, TOKEN_IDENT, TOKEN_OR, TOKEN_CUR_POS, TOKEN_REC, TOKEN_ELLIPSIS}
 use Rattle.rnix_grammar.specs.declared.until.Until.{Until}
-use Rattle.rnix_grammar.specs.declared.until.Until.TheVariants.{RParen, End}
+use Rattle.rnix_grammar.specs.declared.until.Until.TheVariants.{RParen, LBrace, RBrace, Semicolon, Assign, Colon, Then, Else, InterpolEnd, StringEnd, Ident, Piece, Attr, Entry, End}
+use Rattle.rnix_grammar.specs.declared.until.Closer.{Closer}
+use Rattle.rnix_grammar.specs.declared.until.Closer.TheVariants.{RBrack, In}
+use Rattle.rnix_grammar.specs.declared.until.Closer.TheVariants as c
 
 -- the name that is read as the current position
 abbrev pub is_cur_pos : List ℕ → Bool
 is_cur_pos name = bytes_eq name (codes "__curPos")
 
--- what an operand begins with
-abbrev pub begin_of : Option Lexeme → Begin
-begin_of None = Nothing
-begin_of (Some (TOKEN_L_PAREN, text)) = Paren
-begin_of (Some (TOKEN_L_BRACK, text)) = Bracket
-begin_of (Some (TOKEN_FLOAT, text)) = Literal
-begin_of (Some (TOKEN_INTEGER, text)) = Literal
-begin_of (Some (TOKEN_URI, text)) = Literal
-begin_of (Some (TOKEN_PATH_SEARCH, text)) = SearchPath
-begin_of (Some (TOKEN_IDENT, text)) = if is_cur_pos text then CurPos else Name
-begin_of (Some (kind, text)) = Stray
-
--- whether a tree of the level goes on before a token of the kind
-abbrev pub goes_on : Level → Option SyntaxKind → Bool
-goes_on PipeRight (Some TOKEN_PIPE_RIGHT) = true
-goes_on Disjunction (Some TOKEN_OR_OR) = true
-goes_on Conjunction (Some TOKEN_AND_AND) = true
-goes_on Sum (Some TOKEN_ADD) = true
-goes_on Sum (Some TOKEN_SUB) = true
-goes_on Product (Some TOKEN_MUL) = true
-goes_on Product (Some TOKEN_DIV) = true
-goes_on Application (Some TOKEN_L_PAREN) = true
-goes_on Application (Some TOKEN_L_BRACK) = true
-goes_on Application (Some TOKEN_FLOAT) = true
-goes_on Application (Some TOKEN_INTEGER) = true
-goes_on Application (Some TOKEN_URI) = true
-goes_on Application (Some TOKEN_PATH_SEARCH) = true
-goes_on Application (Some TOKEN_IDENT) = true
-goes_on level next = false
-
--- whether another item of a list stands next
-abbrev pub has_more_items : Option SyntaxKind → Bool
-has_more_items None = false
-has_more_items (Some TOKEN_R_BRACK) = false
-has_more_items next = true
-
--- whether a run stops before a token of the kind
-abbrev pub stops : Until → Option SyntaxKind → Bool
-stops until None = true
-stops RParen (Some TOKEN_R_PAREN) = true
-stops until next = false
-
--- what is wanted where a run stops
+-- the kinds that are wanted
 abbrev pub wanted_kinds : Until → List SyntaxKind
 wanted_kinds RParen = TOKEN_R_PAREN ∷ []
+wanted_kinds LBrace = TOKEN_L_BRACE ∷ []
+wanted_kinds RBrace = TOKEN_R_BRACE ∷ []
+wanted_kinds Semicolon = TOKEN_SEMICOLON ∷ []
+wanted_kinds Assign = TOKEN_ASSIGN ∷ []
+wanted_kinds Colon = TOKEN_COLON ∷ []
+wanted_kinds Then = TOKEN_THEN ∷ []
+wanted_kinds Else = TOKEN_ELSE ∷ []
+wanted_kinds InterpolEnd = TOKEN_INTERPOL_END ∷ []
+wanted_kinds StringEnd = TOKEN_STRING_END ∷ []
+wanted_kinds Ident = TOKEN_IDENT ∷ []
+wanted_kinds Piece = TOKEN_STRING_END ∷ (TOKEN_STRING_CONTENT ∷ (TOKEN_INTERPOL_START ∷ []))
+wanted_kinds Attr = TOKEN_IDENT ∷ (TOKEN_OR ∷ (TOKEN_CUR_POS ∷ []))
+wanted_kinds Entry = TOKEN_R_BRACE ∷ (TOKEN_ELLIPSIS ∷ (TOKEN_IDENT ∷ []))
 wanted_kinds End = []
+
+-- a token of the kind is wanted
+abbrev pub is_wanted : Until → SyntaxKind → Bool
+is_wanted RParen TOKEN_R_PAREN = true
+is_wanted LBrace TOKEN_L_BRACE = true
+is_wanted RBrace TOKEN_R_BRACE = true
+is_wanted Semicolon TOKEN_SEMICOLON = true
+is_wanted Assign TOKEN_ASSIGN = true
+is_wanted Colon TOKEN_COLON = true
+is_wanted Then TOKEN_THEN = true
+is_wanted Else TOKEN_ELSE = true
+is_wanted InterpolEnd TOKEN_INTERPOL_END = true
+is_wanted StringEnd TOKEN_STRING_END = true
+is_wanted Ident TOKEN_IDENT = true
+is_wanted Piece TOKEN_STRING_END = true
+is_wanted Piece TOKEN_STRING_CONTENT = true
+is_wanted Piece TOKEN_INTERPOL_START = true
+is_wanted Attr TOKEN_IDENT = true
+is_wanted Attr TOKEN_OR = true
+is_wanted Attr TOKEN_CUR_POS = true
+is_wanted Entry TOKEN_R_BRACE = true
+is_wanted Entry TOKEN_ELLIPSIS = true
+is_wanted Entry TOKEN_IDENT = true
+is_wanted until kind = false
+
+-- a run of other tokens stops before a token of the kind, and at the end
+abbrev pub stops : Until → Option SyntaxKind → Bool
+stops until None = true
+stops until (Some kind) = is_wanted until kind
+
+-- a token of the kind closes a row of any length
+abbrev pub closes : Closer → SyntaxKind → Bool
+closes RBrack TOKEN_R_BRACK = true
+closes c.RBrace TOKEN_R_BRACE = true
+closes c.InterpolEnd TOKEN_INTERPOL_END = true
+closes In TOKEN_IN = true
+closes closer kind = false
 
 -- what is wanted where an operand should begin
 abbrev pub operand_kinds : List SyntaxKind
-operand_kinds = TOKEN_L_PAREN ∷ TOKEN_REC ∷ TOKEN_L_BRACE ∷ TOKEN_L_BRACK ∷ TOKEN_STRING_START ∷ TOKEN_IDENT ∷ []
+operand_kinds = TOKEN_L_PAREN ∷ (TOKEN_REC ∷ (TOKEN_L_BRACE ∷ (TOKEN_L_BRACK ∷ (TOKEN_STRING_START ∷ (TOKEN_IDENT ∷ [])))))
 
--- how many expressions may be nested
+-- how many counted places may be nested
 abbrev pub depth_limit : ℕ
 depth_limit = 512

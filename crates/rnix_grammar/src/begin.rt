@@ -1,41 +1,171 @@
 //! What an operand may begin with.
 
-ghost use Rattle.std.specs.Prelude.{◌≡◌, option_map};
-ghost use Rattle.rnix_grammar.specs.Tables.{begin_of};
+ghost use Rattle.std.specs.Prelude.{◌≡◌};
+ghost use Rattle.rnix_grammar.specs.Tables.{is_cur_pos};
+ghost use Rattle.rnix_grammar.specs.Begins.{is_pattern, begin_name, begin_let, begin_keyword, begin_scope, begin_prefix, begin_of};
 
+use crate::place::Place;
 use rnix_kinds::{SyntaxKind, Token};
 
-/// What stands where an operand should begin.
+/// How an operand begins.
 #[derive(Clone, Copy)]
 pub enum Begin {
-    /// The end of the text.
-    Nothing,
-    Paren,
-    Bracket,
-    /// A number or a URI.
-    Literal,
-    SearchPath,
-    /// `__curPos`.
-    CurPos,
-    Name,
+    /// A node over one token.
+    Leaf(SyntaxKind),
+    /// A node that begins with a token; the place behind the token, and the tightest level of what may follow the node.
+    Node(SyntaxKind, Place, u8),
+    /// `let {`
+    LegacyLet,
+    /// `name:`
+    NameLambda,
+    /// `name@`
+    BoundLambda,
+    /// `{` of a pattern.
+    PatternLambda,
     /// A token that begins no operand.
     Stray,
 }
 
-/// What an operand begins with, by the next token that is not trivia.
-pub fn begin_of(next: Option<Token<'_>>) -> Begin
-    ensures { result ≡ begin_of (option_map (λ t. (t.0, t.1.now)) next.entry) }
+/// Whether `{` begins a pattern, by the next two tokens that are not trivia.
+pub fn is_pattern(second: Option<SyntaxKind>, third: Option<SyntaxKind>) -> bool
+    ensures { result ≡ is_pattern second third }
 {
-    match next {
-        None => Begin::Nothing,
-        Some((SyntaxKind::TOKEN_L_PAREN, _)) => Begin::Paren,
-        Some((SyntaxKind::TOKEN_L_BRACK, _)) => Begin::Bracket,
-        Some((SyntaxKind::TOKEN_FLOAT, _)) => Begin::Literal,
-        Some((SyntaxKind::TOKEN_INTEGER, _)) => Begin::Literal,
-        Some((SyntaxKind::TOKEN_URI, _)) => Begin::Literal,
-        Some((SyntaxKind::TOKEN_PATH_SEARCH, _)) => Begin::SearchPath,
-        Some((SyntaxKind::TOKEN_IDENT, "__curPos")) => Begin::CurPos,
-        Some((SyntaxKind::TOKEN_IDENT, _)) => Begin::Name,
-        Some(_) => Begin::Stray,
+    match second {
+        Some(SyntaxKind::TOKEN_IDENT) => matches!(
+            third,
+            Some(SyntaxKind::TOKEN_COMMA | SyntaxKind::TOKEN_QUESTION | SyntaxKind::TOKEN_R_BRACE)
+        ),
+        Some(SyntaxKind::TOKEN_ELLIPSIS) => matches!(third, Some(SyntaxKind::TOKEN_R_BRACE)),
+        Some(SyntaxKind::TOKEN_R_BRACE) => {
+            matches!(third, Some(SyntaxKind::TOKEN_COLON | SyntaxKind::TOKEN_AT))
+        }
+        _ => false,
+    }
+}
+
+// Whether a name is read as the current position.
+fn is_cur_pos(name: &str) -> bool
+    ensures { result ≡ is_cur_pos name.now }
+{
+    name == "__curPos"
+}
+
+// What a name begins.
+fn begin_name(text: &str, second: Option<SyntaxKind>) -> Begin
+    ensures { result ≡ begin_name text.now second }
+{
+    match second {
+        Some(SyntaxKind::TOKEN_COLON) => Begin::NameLambda,
+        Some(SyntaxKind::TOKEN_AT) => Begin::BoundLambda,
+        _ => {
+            if is_cur_pos(text) {
+                Begin::Leaf(SyntaxKind::NODE_CUR_POS)
+            } else {
+                Begin::Leaf(SyntaxKind::NODE_IDENT)
+            }
+        }
+    }
+}
+
+// What `let` begins.
+fn begin_let(second: Option<SyntaxKind>) -> Begin
+    ensures { result ≡ begin_let second }
+{
+    match second {
+        Some(SyntaxKind::TOKEN_L_BRACE) => Begin::LegacyLet,
+        _ => Begin::Node(SyntaxKind::NODE_LET_IN, Place::LetInside, 0),
+    }
+}
+
+// What begins an expression and no operand.
+fn begin_keyword(kind: SyntaxKind, second: Option<SyntaxKind>) -> Begin
+    ensures { result ≡ begin_keyword kind second }
+{
+    match kind {
+        SyntaxKind::TOKEN_LET => begin_let(second),
+        SyntaxKind::TOKEN_WITH => Begin::Node(SyntaxKind::NODE_WITH, Place::WithScope, 0),
+        SyntaxKind::TOKEN_ASSERT => Begin::Node(SyntaxKind::NODE_ASSERT, Place::AssertCondition, 0),
+        SyntaxKind::TOKEN_IF => Begin::Node(SyntaxKind::NODE_IF_ELSE, Place::IfCondition, 0),
+        _ => Begin::Stray,
+    }
+}
+
+// What begins an expression, where one may stand.
+fn begin_scope(level: u8, kind: SyntaxKind, second: Option<SyntaxKind>) -> Begin
+    ensures { result ≡ begin_scope level kind second }
+{
+    if level == 0 {
+        begin_keyword(kind, second)
+    } else {
+        Begin::Stray
+    }
+}
+
+// What begins with a prefix.
+fn begin_prefix(level: u8, kind: SyntaxKind) -> Begin
+    ensures { result ≡ begin_prefix level kind }
+{
+    match kind {
+        SyntaxKind::TOKEN_INVERT => {
+            if level <= 9 {
+                Begin::Node(SyntaxKind::NODE_UNARY_OP, Place::Inverted, 8)
+            } else {
+                Begin::Stray
+            }
+        }
+        SyntaxKind::TOKEN_SUB => {
+            if level <= 14 {
+                Begin::Node(SyntaxKind::NODE_UNARY_OP, Place::Negated, 13)
+            } else {
+                Begin::Stray
+            }
+        }
+        _ => Begin::Stray,
+    }
+}
+
+/// How an operand of a level begins, by the next three tokens that are not trivia.
+pub fn begin_of(
+    level: u8,
+    first: Token<'_>,
+    second: Option<SyntaxKind>,
+    third: Option<SyntaxKind>,
+) -> Begin
+    ensures { result ≡ begin_of level first.entry.0 first.entry.1.now second third }
+{
+    let (kind, text) = first;
+    match kind {
+        SyntaxKind::TOKEN_L_PAREN => Begin::Node(SyntaxKind::NODE_PAREN, Place::ParenInside, 16),
+        SyntaxKind::TOKEN_L_BRACK => Begin::Node(SyntaxKind::NODE_LIST, Place::ListInside, 16),
+        SyntaxKind::TOKEN_REC => Begin::Node(SyntaxKind::NODE_ATTR_SET, Place::SetBrace, 16),
+        SyntaxKind::TOKEN_STRING_START => {
+            Begin::Node(SyntaxKind::NODE_STRING, Place::StringInside, 16)
+        }
+        SyntaxKind::TOKEN_PATH_ABS => Begin::Node(SyntaxKind::NODE_PATH_ABS, Place::PathFirst, 16),
+        SyntaxKind::TOKEN_PATH_REL => Begin::Node(SyntaxKind::NODE_PATH_REL, Place::PathFirst, 16),
+        SyntaxKind::TOKEN_PATH_HOME => Begin::Node(
+            SyntaxKind::NODE_PATH_HOME,
+            Place::PathFirst,
+            16,
+        ),
+        SyntaxKind::TOKEN_PATH_SEARCH => Begin::Leaf(SyntaxKind::NODE_PATH_SEARCH),
+        SyntaxKind::TOKEN_FLOAT | SyntaxKind::TOKEN_INTEGER | SyntaxKind::TOKEN_URI => {
+            Begin::Leaf(SyntaxKind::NODE_LITERAL)
+        }
+        SyntaxKind::TOKEN_IDENT => begin_name(text, second),
+        SyntaxKind::TOKEN_CUR_POS => Begin::Leaf(SyntaxKind::NODE_CUR_POS),
+        SyntaxKind::TOKEN_L_BRACE => {
+            if is_pattern(second, third) {
+                Begin::PatternLambda
+            } else {
+                Begin::Node(SyntaxKind::NODE_ATTR_SET, Place::SetInside, 16)
+            }
+        }
+        SyntaxKind::TOKEN_INVERT | SyntaxKind::TOKEN_SUB => begin_prefix(level, kind),
+        SyntaxKind::TOKEN_LET
+        | SyntaxKind::TOKEN_WITH
+        | SyntaxKind::TOKEN_ASSERT
+        | SyntaxKind::TOKEN_IF => begin_scope(level, kind, second),
+        _ => Begin::Stray,
     }
 }

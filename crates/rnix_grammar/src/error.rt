@@ -30,7 +30,7 @@ pub enum ParseError {
     UnexpectedEOFWanted(Vec<SyntaxKind>),
     /// A pattern names an argument twice.
     DuplicatedArgs(TextRange, String),
-    /// Expressions and items of lists are nested too deep.
+    /// Expressions are nested too deep.
     RecursionLimitExceeded,
 }
 

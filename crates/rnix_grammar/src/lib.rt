@@ -1,12 +1,16 @@
 //! What the reader of Nix decides and reports: its errors, and the tables of its grammar.
 #![tactic(auto)]
 
+mod action;
 mod begin;
 mod error;
 mod level;
+mod place;
+mod slot;
 mod until;
 
+pub use action::{Action, action_at};
 pub use begin::{Begin, begin_of};
 pub use error::ParseError;
-pub use level::{Level, goes_on};
-pub use until::{Until, has_more_items, operand_kinds, stops, wanted_kinds};
+pub use place::Place;
+pub use until::{Until, operand_kinds, stops, wanted_kinds};

@@ -1,27 +1,32 @@
-//! Where a run of unwanted tokens stops, what is wanted there, and where a list ends.
+//! Where a run of unwanted tokens stops, and what is wanted there.
 
 ghost use Rattle.std.specs.Prelude.{◌≡◌};
-ghost use Rattle.rnix_grammar.specs.Tables.{has_more_items, stops, wanted_kinds, operand_kinds};
+ghost use Rattle.rnix_grammar.specs.Tables.{stops, is_wanted, wanted_kinds, operand_kinds, closes};
 
 use rnix_kinds::SyntaxKind;
 
-/// Where a run of tokens stops that do not belong there.
+/// What is wanted, and so where a run of tokens stops that do not belong there; the end of the text stops each.
 #[derive(Clone, Copy)]
 pub enum Until {
-    /// Before `)`, or at the end of the text.
     RParen,
-    /// At the end of the text.
+    LBrace,
+    RBrace,
+    Semicolon,
+    Assign,
+    Colon,
+    Then,
+    Else,
+    InterpolEnd,
+    StringEnd,
+    Ident,
+    /// What may stand in a string.
+    Piece,
+    /// What begins a name in an attribute path.
+    Attr,
+    /// What may stand in a pattern.
+    Entry,
+    /// The end of the text alone.
     End,
-}
-
-/// Whether a run stops before the next token that is not trivia.
-pub fn stops(until: Until, next: Option<SyntaxKind>) -> bool
-    ensures { result ≡ stops until next }
-{
-    match until {
-        Until::RParen => matches!(next, None | Some(SyntaxKind::TOKEN_R_PAREN)),
-        Until::End => next.is_none(),
-    }
 }
 
 /// The kinds that are wanted where a run stops, as errors list them.
@@ -30,7 +35,76 @@ pub fn wanted_kinds(until: Until) -> &'static [SyntaxKind]
 {
     match until {
         Until::RParen => &[SyntaxKind::TOKEN_R_PAREN],
+        Until::LBrace => &[SyntaxKind::TOKEN_L_BRACE],
+        Until::RBrace => &[SyntaxKind::TOKEN_R_BRACE],
+        Until::Semicolon => &[SyntaxKind::TOKEN_SEMICOLON],
+        Until::Assign => &[SyntaxKind::TOKEN_ASSIGN],
+        Until::Colon => &[SyntaxKind::TOKEN_COLON],
+        Until::Then => &[SyntaxKind::TOKEN_THEN],
+        Until::Else => &[SyntaxKind::TOKEN_ELSE],
+        Until::InterpolEnd => &[SyntaxKind::TOKEN_INTERPOL_END],
+        Until::StringEnd => &[SyntaxKind::TOKEN_STRING_END],
+        Until::Ident => &[SyntaxKind::TOKEN_IDENT],
+        Until::Piece => &[
+            SyntaxKind::TOKEN_STRING_END,
+            SyntaxKind::TOKEN_STRING_CONTENT,
+            SyntaxKind::TOKEN_INTERPOL_START,
+        ],
+        Until::Attr => &[
+            SyntaxKind::TOKEN_IDENT,
+            SyntaxKind::TOKEN_OR,
+            SyntaxKind::TOKEN_CUR_POS,
+        ],
+        Until::Entry => &[
+            SyntaxKind::TOKEN_R_BRACE,
+            SyntaxKind::TOKEN_ELLIPSIS,
+            SyntaxKind::TOKEN_IDENT,
+        ],
         Until::End => &[],
+    }
+}
+
+/// Whether a token of the kind is wanted.
+pub fn is_wanted(until: Until, kind: SyntaxKind) -> bool
+    ensures { result ≡ is_wanted until kind }
+{
+    match until {
+        Until::RParen => matches!(kind, SyntaxKind::TOKEN_R_PAREN),
+        Until::LBrace => matches!(kind, SyntaxKind::TOKEN_L_BRACE),
+        Until::RBrace => matches!(kind, SyntaxKind::TOKEN_R_BRACE),
+        Until::Semicolon => matches!(kind, SyntaxKind::TOKEN_SEMICOLON),
+        Until::Assign => matches!(kind, SyntaxKind::TOKEN_ASSIGN),
+        Until::Colon => matches!(kind, SyntaxKind::TOKEN_COLON),
+        Until::Then => matches!(kind, SyntaxKind::TOKEN_THEN),
+        Until::Else => matches!(kind, SyntaxKind::TOKEN_ELSE),
+        Until::InterpolEnd => matches!(kind, SyntaxKind::TOKEN_INTERPOL_END),
+        Until::StringEnd => matches!(kind, SyntaxKind::TOKEN_STRING_END),
+        Until::Ident => matches!(kind, SyntaxKind::TOKEN_IDENT),
+        Until::Piece => matches!(
+            kind,
+            SyntaxKind::TOKEN_STRING_END
+                | SyntaxKind::TOKEN_STRING_CONTENT
+                | SyntaxKind::TOKEN_INTERPOL_START
+        ),
+        Until::Attr => matches!(
+            kind,
+            SyntaxKind::TOKEN_IDENT | SyntaxKind::TOKEN_OR | SyntaxKind::TOKEN_CUR_POS
+        ),
+        Until::Entry => matches!(
+            kind,
+            SyntaxKind::TOKEN_R_BRACE | SyntaxKind::TOKEN_ELLIPSIS | SyntaxKind::TOKEN_IDENT
+        ),
+        Until::End => false,
+    }
+}
+
+/// Whether a run stops before the next token that is not trivia.
+pub fn stops(until: Until, next: Option<SyntaxKind>) -> bool
+    ensures { result ≡ stops until next }
+{
+    match next {
+        None => true,
+        Some(kind) => is_wanted(until, kind),
     }
 }
 
@@ -48,9 +122,23 @@ pub fn operand_kinds() -> &'static [SyntaxKind]
     ]
 }
 
-/// Whether another item of a list stands next, by the next token that is not trivia.
-pub fn has_more_items(next: Option<SyntaxKind>) -> bool
-    ensures { result ≡ has_more_items next }
+/// The token that closes a row of any length, where no list of wanted kinds is reported.
+#[derive(Clone, Copy)]
+pub enum Closer {
+    RBrack,
+    RBrace,
+    InterpolEnd,
+    In,
+}
+
+/// Whether a token of the kind closes the row.
+pub fn closes(closer: Closer, kind: SyntaxKind) -> bool
+    ensures { result ≡ closes closer kind }
 {
-    !matches!(next, None | Some(SyntaxKind::TOKEN_R_BRACK))
+    match closer {
+        Closer::RBrack => matches!(kind, SyntaxKind::TOKEN_R_BRACK),
+        Closer::RBrace => matches!(kind, SyntaxKind::TOKEN_R_BRACE),
+        Closer::InterpolEnd => matches!(kind, SyntaxKind::TOKEN_INTERPOL_END),
+        Closer::In => matches!(kind, SyntaxKind::TOKEN_IN),
+    }
 }

@@ -5,9 +5,9 @@ use Rattle.std.specs.Option.{option_map, option_copied, is_some, IfSome}
 use Rattle.std.proofs.lemmas.List.{drop_all, length-map}
 use Rattle.rnix_kinds.specs.SyntaxKind.{is_trivia}
 use Rattle.rnix_kinds.specs.Lexical.Tokens.{Lexeme}
-use Rattle.rnix_grammar.specs.Sketch.{Token, head_of, placed_from}
-use Rattle.rnix_grammar.specs.Layout.{from_item, from_item_if, tail_of}
-use Rattle.rnix_grammar.proofs.LayoutLemmas.{from_item-from_item}
+use Rattle.rnix_grammar.specs.Sketch.{Token, head_of, head_kind, placed_from}
+use Rattle.rnix_grammar.specs.Layout.{from_item, from_item_if, items, tail_of}
+use Rattle.rnix_parser.proofs.LayoutLemmas.{from_item-from_item, items-view, items_head}
 use Rattle.rnix_parser.specs.declared.cursor.PlacedToken.{PlacedToken}
 use Rattle.rnix_parser.specs.Placed.{token_of, AreInOrder}
 
@@ -85,3 +85,28 @@ tail-drop zero [] = refl
 tail-drop zero (t ∷ ts) = refl
 tail-drop (suc i) [] = refl
 tail-drop (suc i) (t ∷ ts) = tail-drop i ts
+
+-- the kind of the first item, by the tokens from it on
+pub head_item : (ts : List Token) → head_kind (items ts) ≡ head_kind (from_item ts)
+head_item ts = ap head_kind (items-view ts) ∙ by (from_item ts)
+  where
+    by : (xs : List Token) → head_kind (items_head xs) ≡ head_kind xs
+    by [] = refl
+    by (x ∷ xs) = refl
+
+-- the items behind the first
+pub tail_items : (ts : List Token) → tail_of (items ts) ≡ items (tail_of (from_item ts))
+tail_items ts = ap tail_of (items-view ts) ∙ by (from_item ts)
+  where
+    by : (xs : List Token) → tail_of (items_head xs) ≡ items (tail_of xs)
+    by [] = refl
+    by (x ∷ xs) = refl
+
+-- where the items behind the first are
+pub behind_first_item : (ts us vs : List Token) → from_item ts ≡ us → from_item (tail_of us) ≡ vs → head_kind vs ≡ head_kind (tail_of (items ts))
+behind_first_item ts us vs a b =
+    sym (ap head_kind (tail_items ts) ∙ head_item (tail_of (from_item ts)) ∙ ap (λ x. head_kind (from_item (tail_of x))) a ∙ ap head_kind b)
+
+pub behind_second_item : (ts us vs ws : List Token) → from_item ts ≡ us → from_item (tail_of us) ≡ vs → from_item (tail_of vs) ≡ ws → head_kind ws ≡ head_kind (tail_of (tail_of (items ts)))
+behind_second_item ts us vs ws a b c =
+    behind_first_item (tail_of us) vs ws b c ∙ ap (λ x. head_kind (tail_of (items (tail_of x)))) (sym a) ∙ ap (λ x. head_kind (tail_of x)) (sym (tail_items ts))

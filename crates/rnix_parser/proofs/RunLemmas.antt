@@ -1,117 +1,120 @@
--- Runs of items, and what is wanted behind them.
-use Rattle.std.proofs.Common.{◌≡◌, ◌≤◌, ◌<◌, ℕ, true, false, List, [], ◌∷◌, ◌++◌, length, Option, Some, None, refl, ap, sym, ◌∙◌, subst, append_assoc, append-nil, arith}
+-- Runs of items.
+use Rattle.std.proofs.Common.{◌≡◌, ◌≤◌, ◌<◌, ℕ, true, false, List, [], ◌∷◌, length, Option, Some, None, refl, ap, sym, ◌∙◌, subst, arith, if◌then◌else◌}
 use Rattle.std.specs.Option.{option_map}
 use Rattle.rnix_kinds.specs.declared.kinds.SyntaxKind.{SyntaxKind}
 use Rattle.rnix_kinds.specs.declared.kinds.SyntaxKind.TheVariants.{NODE_ERROR}
 use Rattle.rnix_kinds.specs.SyntaxKind.{is_trivia}
-use Rattle.rnix_tree.specs.Forest.{tree_count}
-use Rattle.rnix_tree.specs.Draft.{is_inside}
+use Rattle.rnix_tree.specs.Forest.{empty, leaf, join}
+use Rattle.rnix_tree.proofs.ForestLemmas.{join-empty, join_assoc}
 use Rattle.rnix_tree.specs.Range.{Extent}
-use Rattle.rnix_grammar.specs.declared.begin.Begin.TheVariants.{Stray as StrayBegin, Nothing}
 use Rattle.rnix_grammar.specs.declared.until.Until.{Until}
-use Rattle.rnix_grammar.specs.declared.until.Until.TheVariants.{RParen, End}
-use Rattle.rnix_grammar.specs.Fault.{Fault, extra, unwanted, ended as ended_fault, ended_before, too_deep}
-use Rattle.rnix_grammar.specs.Tables.{begin_of, has_more_items, stops, wanted_kinds, operand_kinds, depth_limit}
-use Rattle.rnix_grammar.specs.Sketch.{Token, Note, Stray, Unwanted, Extra, TooDeep, Sketch, blank, token, fault, ◌⊕◌, one_token, one_branch, one_fault, leaf_of, row_of, end_from, head_of, head_kind, kind_in, lexeme_of}
-use Rattle.rnix_grammar.specs.Layout.{items, item_if, from_item, tail_of}
-use Rattle.rnix_grammar.specs.Rows.{report, AreUnwanted}
-use Rattle.rnix_grammar.specs.Parts.{Counted, Inside, Atom, Items, Wanted, Closing, Behind}
-use Rattle.rnix_grammar.specs.Reads.{Reads, too-deep, nothing, stray, items-closed, items-ended, wanted-now, wanted-later, closed, ended-open, nothing-behind, something-behind}
-use Rattle.rnix_grammar.proofs.LayoutLemmas.{items_head, items-view, items-from_item}
+use Rattle.rnix_grammar.specs.declared.until.Until.TheVariants.{End}
+use Rattle.rnix_grammar.specs.declared.place.Place.{Place}
+use Rattle.rnix_grammar.specs.Fault.{unwanted, extra, bound_twice}
+use Rattle.rnix_grammar.specs.Tables.{is_wanted, stops, wanted_kinds, operand_kinds}
+use Rattle.rnix_grammar.specs.Sketch.{Token, token, row_of, forget, head_of, head_kind, kind_in, end_from, extent_of, Unwanted as UnwantedNote, Extra as ExtraNote, Stray as StrayNote}
+use Rattle.rnix_grammar.specs.Layout.{items, from_item, trivia_before, tail_of, dressed, item_if}
+use Rattle.rnix_grammar.specs.Machine.{leaf_in, end_of, run_of}
+use Rattle.rnix_grammar.specs.Reports.{report}
 use Rattle.rnix_parser.specs.declared.cursor.PlacedToken.{PlacedToken}
+use Rattle.rnix_parser.specs.declared.mark.Mark.{Mark}
+use Rattle.rnix_parser.specs.Steps.{moved}
+use Rattle.rnix_parser.specs.Allowed.{is_there}
 use Rattle.rnix_parser.specs.Placed.{token_of, AreInOrder}
-use Rattle.rnix_parser.specs.State.{State, items_left, eaten, bumped, started_at, started, ended, failed, laid, place_of}
-use Rattle.rnix_parser.specs.Gives.{Gives, Adds, Skips, Stopped, Runs}
+use Rattle.rnix_parser.specs.State.{State, items_left, eaten, bumped, skipped, started, started_at, ended, failed, marked}
+use Rattle.rnix_parser.proofs.SketchLemmas.{forget-⊕}
+use Rattle.rnix_parser.proofs.LayoutLemmas.{first_item, items-from_item}
 use Rattle.rnix_parser.proofs.CursorLemmas.{in_order_from}
-use Rattle.rnix_parser.proofs.LaidLemmas.{laid-blank, laid-⊕, laid-failed, laid-fault, laid-deep, laid-leaf}
-use Rattle.rnix_parser.proofs.StateLemmas.{items-eaten}
-use Rattle.rnix_grammar.proofs.Basics.{true_is_not_false}
+use Rattle.rnix_parser.proofs.StateLemmas.{state_is}
 
--- an item that is looked up is the first that is left
+-- nothing is skipped
+pub skipped-none : (s : State) → skipped [] s ≡ s
+unfolding skipped
+skipped-none s = state_is refl (join-empty s.trees) refl refl refl refl
+
+-- one item of a run
+pub skipped-more : (t : Token) (us run : List Token) (s s' : State) → items s.rest ≡ t ∷ us → s' ≡ bumped NODE_ERROR s → skipped (t ∷ run) s ≡ skipped run s'
+unfolding skipped bumped
+skipped-more t us run s s' i e =
+    let here : from_item s.rest ≡ t ∷ tail_of (from_item s.rest) = (first_item t us s.rest i).here in
+    let more = dressed (row_of run) (tail_of (from_item s.rest)) in
+    state_is refl
+    (ap (join s.trees) (forget-⊕ (trivia_before s.rest) (token t.kind t more))
+    ∙ sym (join_assoc s.trees (forget (trivia_before s.rest)) (leaf t.kind t.text (forget more)))
+    ∙ sym (join_assoc (join s.trees (forget (trivia_before s.rest))) (leaf t.kind t.text empty) (forget more))
+    ∙ ap (λ x. join (join (join s.trees (forget (trivia_before s.rest))) (forget (leaf_in NODE_ERROR x))) (forget more)) (sym here))
+    refl refl
+    (ap (λ x. end_from (end_of s.reached x) run) (sym here)) refl
+    ∙ ap (skipped run) (sym e)
+
+-- what is left behind an item
+pub left_bumped : (k : SyntaxKind) (t : Token) (us : List Token) (s s' : State) → items s.rest ≡ t ∷ us → s' ≡ bumped k s → items s'.rest ≡ us
+unfolding bumped
+left_bumped k t us s s' i e = ap (λ x. items x.rest) e ∙ (first_item t us s.rest i).left
+
+-- where a run stops and goes on
+pub run_stops : (u : Until) (ts : List Token) → stops u (head_kind ts) ≡ true → run_of u ts ≡ []
+run_stops u [] h = refl
+run_stops u (t ∷ ts) h = ap (λ x. if x then [] else t ∷ run_of u ts) h
+
+pub run_goes : (u : Until) (t : Token) (ts : List Token) → is_wanted u t.kind ≡ false → run_of u (t ∷ ts) ≡ t ∷ run_of u ts
+run_goes u t ts h = ap (λ x. if x then [] else t ∷ run_of u ts) h
+
+pub run_all : (ts : List Token) → run_of End ts ≡ ts
+run_all [] = refl
+run_all (t ∷ ts) = ap (λ x. t ∷ x) (run_all ts)
+
+-- the items, by the first of them
 pub item_there : (ts : List Token) (r : Option PlacedToken) (t : PlacedToken) → option_map token_of r ≡ head_of ts → r ≡ Some t → head_of ts ≡ Some (token_of t)
 item_there ts r t e h = sym e ∙ ap (option_map token_of) h
 
-pub none_there : (ts : List Token) (r : Option PlacedToken) → option_map token_of r ≡ head_of ts → r ≡ None → head_of ts ≡ None
-none_there ts r e h = sym e ∙ ap (option_map token_of) h
+pub first_of : (ts : List Token) (t : Token) → head_of ts ≡ Some t → ts ≡ t ∷ tail_of ts
+first_of [] t e = absurd (none_is_not_some e)
+  where
+    none_is_not_some : None ≡ Some t → ⊥
+    none_is_not_some e = cc
+first_of (u ∷ us) t e = let same : u ≡ t = cc in ap (λ x. x ∷ us) same
 
 pub none_left : (ts : List Token) → head_of ts ≡ None → ts ≡ []
-none_left [] h = refl
-none_left (t ∷ ts) h = absurd (cc)
-
--- the first item, and the tokens behind it
-pub here_item : (ts : List Token) (t : Token) → head_of (items ts) ≡ Some t → from_item ts ≡ t ∷ tail_of (from_item ts)
-here_item ts t e = by (from_item ts) (sym (ap head_of (items-view ts)) ∙ e)
+none_left [] e = refl
+none_left (u ∷ us) e = absurd (some_is_not_none e)
   where
-    by : (xs : List Token) → head_of (items_head xs) ≡ Some t → xs ≡ t ∷ tail_of xs
-    by [] e = absurd (cc)
-    by (x ∷ xs) e = let same : x ≡ t = cc in ap (λ y. y ∷ xs) same
+    some_is_not_none : Some u ≡ None → ⊥
+    some_is_not_none e = cc
 
-pub behind_item : (ts : List Token) (t : Token) → head_of (items ts) ≡ Some t → items ts ≡ t ∷ items (tail_of (from_item ts))
-behind_item ts t e = items-view ts ∙ ap items_head (here_item ts t e)
+-- one turn of the loop that reads a run
+pub skip_turn : (u : Until) (t : Token) (s s' : State) → head_of (items s.rest) ≡ Some t → is_wanted u t.kind ≡ false → s' ≡ bumped NODE_ERROR s
+    → skipped (run_of u (items s'.rest)) s' ≡ skipped (run_of u (items s.rest)) s
+skip_turn u t s s' h off e =
+    let all : items s.rest ≡ t ∷ tail_of (items s.rest) = first_of (items s.rest) t h in
+    let left : items s'.rest ≡ tail_of (items s.rest) = left_bumped NODE_ERROR t (tail_of (items s.rest)) s s' all e in
+    ap (λ x. skipped (run_of u x) s') left
+    ∙ sym (skipped-more t (tail_of (items s.rest)) (run_of u (tail_of (items s.rest))) s s' all e)
+    ∙ ap (λ x. skipped x s) (sym (ap (run_of u) all ∙ run_goes u t (tail_of (items s.rest)) off))
 
--- what is left behind each step
-pub left_bumped : (k : SyntaxKind) (s s' : State) (t : Token) → head_of (items_left s) ≡ Some t → s' ≡ bumped k s → items_left s ≡ t ∷ items_left s'
-unfolding bumped
-left_bumped k s s' t e h = behind_item s.rest t e ∙ ap (λ x. t ∷ items x) (sym (ap (λ x. x.rest) h))
+pub skip_end : (u : Until) (s : State) → stops u (head_kind (items s.rest)) ≡ true → skipped (run_of u (items s.rest)) s ≡ s
+skip_end u s h = ap (λ x. skipped x s) (run_stops u (items s.rest) h) ∙ skipped-none s
 
-pub left_started : (k : SyntaxKind) (s s' : State) → s' ≡ started k s → items_left s' ≡ items_left s
+pub skip_none : (u : Until) (s : State) → head_of (items s.rest) ≡ None → skipped (run_of u (items s.rest)) s ≡ s
+skip_none u s h = ap (λ x. skipped (run_of u x) s) (none_left (items s.rest) h) ∙ skipped-none s
+
+pub shorter : (t : Token) (s s' : State) → head_of (items s.rest) ≡ Some t → s' ≡ bumped NODE_ERROR s → length (items s'.rest) < length (items s.rest)
+shorter t s s' h e =
+    let all = first_of (items s.rest) t h in
+    omega (arith, ap length all, ap length (left_bumped NODE_ERROR t (tail_of (items s.rest)) s s' all e))
+
+-- what is left where a node is opened
+pub left_started : (k : SyntaxKind) (s : State) → items (started k s).rest ≡ items s.rest
 unfolding started started_at eaten
-left_started k s s' h = ap (λ x. items x.rest) h ∙ items-from_item s.rest
+left_started k s = items-from_item s.rest
 
-pub left_ended : (s s' : State) → s' ≡ ended s → items_left s' ≡ items_left s
-unfolding ended
-left_ended s s' h = ap (λ x. items x.rest) h
+pub reached_started : (k : SyntaxKind) (s : State) → (started k s).reached ≡ s.reached
+unfolding started started_at eaten
+reached_started k s = refl
 
-pub left_failed : (e : Fault) (s s' : State) → s' ≡ failed e s → items_left s' ≡ items_left s
-unfolding failed
-left_failed e s s' h = ap (λ x. items x.rest) h
-
-pub left_eaten : (s s' : State) → s' ≡ eaten s → items_left s' ≡ items_left s
-left_eaten s s' h = ap (λ x. items x.rest) h ∙ items-eaten s
-
-pub read_item : (k : SyntaxKind) (s s' : State) (t : Token) → head_of (items_left s) ≡ Some t → s' ≡ bumped k s → s' ≡ laid (one_token k t) [] s
-read_item k s s' t e h = h ∙ laid-leaf k t (tail_of (from_item s.rest)) s (here_item s.rest t e)
-
--- a run, one item after another
-pub skip_starts : (u : Until) (s : State) (n : ℕ) → Skips u s n n s
-skip_starts u s n = record { run = []; unwanted = tt; all = refl; state = sym (laid-blank s); to_is = refl }
-
-row-⊕ : (ts : List Token) (t : Token) → row_of ts ⊕ one_token t.kind t ≡ row_of (ts ++ t ∷ [])
-row-⊕ [] t = refl
-row-⊕ (u ∷ ts) t = ap (token u.kind u) (row-⊕ ts t)
-
-unwanted-⊕ : (u : Until) (ts : List Token) (t : Token) → AreUnwanted u ts → stops u (Some t.kind) ≡ false → AreUnwanted u (ts ++ t ∷ [])
-unwanted-⊕ u [] t h k = (k, tt)
-unwanted-⊕ u (x ∷ ts) t h k = (h.0, unwanted-⊕ u ts t h.1 k)
-
-end-⊕ : (n : ℕ) (ts : List Token) (t : Token) → end_from n (ts ++ t ∷ []) ≡ t.end
-end-⊕ n [] t = refl
-end-⊕ n (u ∷ ts) t = end-⊕ u.end ts t
-
-pub skip_steps : (u : Until) (s s1 s2 : State) (b e : ℕ) (t : Token) → Skips u s b e s1 → head_of (items_left s1) ≡ Some t → stops u (Some t.kind) ≡ false → s2 ≡ bumped t.kind s1
-    → Skips u s b t.end s2
-skip_steps u s s1 s2 b e t k n off h = record {
-  run = k.run ++ t ∷ [];
-  unwanted = unwanted-⊕ u k.run t k.unwanted off;
-  all = k.all ∙ ap (λ x. k.run ++ x) (left_bumped t.kind s1 s2 t n h) ∙ sym (append_assoc k.run (t ∷ []) (items_left s2));
-  state =
-      read_item t.kind s1 s2 t n h ∙ ap (laid (one_token t.kind t) []) k.state ∙ laid-⊕ (row_of k.run) (one_token t.kind t) [] [] s
-      ∙ ap (λ x. laid x [] s) (row-⊕ k.run t);
-  to_is = sym (end-⊕ b k.run t);
-}
-
-pub skip_smaller : (k : SyntaxKind) (s1 s2 : State) (t : Token) → head_of (items_left s1) ≡ Some t → s2 ≡ bumped k s1 → length (items_left s2) < length (items_left s1)
-skip_smaller k s1 s2 t n h = let e : length (items_left s1) ≡ length (t ∷ items_left s2) = ap length (left_bumped k s1 s2 t n h) in omega arith
-
-pub stopped_at : (u : Until) (s s1 : State) (b e : ℕ) (t : Token) → Skips u s b e s1 → head_of (items_left s1) ≡ Some t → stops u (Some t.kind) ≡ true → Stopped u s b e s1
-stopped_at u s s1 b e t k n on = record { skips = k; stops = ap (λ x. stops u (kind_in x)) n ∙ on }
-
-pub stopped_end : (u : Until) (s s1 : State) (b e : ℕ) → Skips u s b e s1 → head_of (items_left s1) ≡ None → Stopped u s b e s1
-stopped_end u s s1 b e k n = record { skips = k; stops = ap (λ x. stops u (kind_in x)) n ∙ stops_none u }
-  where
-    stops_none : (u : Until) → stops u None ≡ true
-    stops_none RParen = refl
-    stops_none End = refl
+pub reached_run : (run : List Token) (s : State) → (ended (skipped run (started NODE_ERROR s))).reached ≡ end_from s.reached run
+unfolding ended skipped started started_at eaten
+reached_run run s = refl
 
 -- tokens in order end behind their first
 pub in_order_items : (n : ℕ) (ts : List Token) → AreInOrder n ts → AreInOrder n (items ts)
@@ -120,228 +123,115 @@ in_order_items n (t ∷ ts) o =
     let ih : AreInOrder t.end (items ts) = in_order_items t.end ts o.2 in
     elim (is_trivia t.kind) as (λ x. AreInOrder n (item_if x t (items ts))) [ true ↦ in_order_from n t.end (items ts) (omega (arith, o.0, o.1)) ih | false ↦ (o.0, o.1, ih) ]
 
-end_behind : (n : ℕ) (ts us : List Token) → AreInOrder n (ts ++ us) → n ≤ end_from n ts
-end_behind n [] us o = omega arith
-end_behind n (t ∷ ts) us o = omega (arith, o.0, o.1, end_behind t.end ts us o.2)
-
-run_in_order : (n : ℕ) (t : Token) (ts us : List Token) → AreInOrder n (t ∷ (ts ++ us)) → t.start ≤ end_from t.end ts
-run_in_order n t ts us o = omega (arith, o.1, end_behind t.end ts us o.2)
+pub run_end : (u : Until) (n : ℕ) (ts : List Token) → AreInOrder n ts → n ≤ end_from n (run_of u ts)
+run_end u n [] o = omega arith
+run_end u n (t ∷ ts) o = elim (is_wanted u t.kind) as (λ x. n ≤ end_from n (if x then [] else t ∷ run_of u ts)) [ true ↦ omega arith | false ↦ omega (arith, o.0, o.1, run_end u t.end ts o.2) ]
 
 pub item_in_order : (s : State) (t : Token) → AreInOrder 0 s.rest → head_of (items_left s) ≡ Some t → t.start ≤ t.end
-item_in_order s t o e = (subst (AreInOrder 0) (behind_item s.rest t e) (in_order_items 0 s.rest o)).1
+item_in_order s t o e = (subst (AreInOrder 0) (first_of (items s.rest) t e) (in_order_items 0 s.rest o)).1
+
+-- where a run ends, by the first of its items
+pub run_first : (u : Until) (n : ℕ) (t : Token) (ts : List Token) → head_of ts ≡ Some t → is_wanted u t.kind ≡ false → run_of u ts ≡ t ∷ run_of u (tail_of ts)
+run_first u n t ts h off = ap (run_of u) (first_of ts t h) ∙ run_goes u t (tail_of ts) off
+
+pub run_reach : (u : Until) (s s' : State) (t : Token) → AreInOrder 0 s.rest → head_of (items_left s) ≡ Some t → is_wanted u t.kind ≡ false
+    → s' ≡ ended (skipped (run_of u (items_left s)) (started NODE_ERROR s)) → t.start ≤ s'.reached
+run_reach u s s' t o h off e =
+    let all = first_of (items s.rest) t h in
+    let inside : AreInOrder 0 (t ∷ tail_of (items s.rest)) = subst (AreInOrder 0) all (in_order_items 0 s.rest o) in
+    let far : t.end ≤ end_from t.end (run_of u (tail_of (items s.rest))) = run_end u t.end (tail_of (items s.rest)) inside.2 in
+    let is : s'.reached ≡ end_from s.reached (run_of u (items s.rest)) = ap (λ x. x.reached) e ∙ reached_run (run_of u (items s.rest)) s in
+    let first : end_from s.reached (run_of u (items s.rest)) ≡ end_from t.end (run_of u (tail_of (items s.rest))) = ap (end_from s.reached) (run_first u 0 t (items s.rest) h off) in
+    omega (arith, inside.1, far, is, first)
+
+pub run_extent : (u : Until) (s s' : State) (t : Token) (range : Extent) → head_of (items_left s) ≡ Some t → is_wanted u t.kind ≡ false
+    → s' ≡ ended (skipped (run_of u (items_left s)) (started NODE_ERROR s)) → range ≡ record { start = t.start; end = s'.reached } → range ≡ extent_of (run_of u (items_left s))
+run_extent u s s' t range h off e r =
+    let run = run_of u (tail_of (items s.rest)) in
+    let is : s'.reached ≡ end_from s.reached (run_of u (items s.rest)) = ap (λ x. x.reached) e ∙ reached_run (run_of u (items s.rest)) s in
+    let first : run_of u (items s.rest) ≡ t ∷ run = run_first u 0 t (items s.rest) h off in
+    r ∙ ap (λ x. let y : Extent = record { start = t.start; end = x } in y) (is ∙ ap (end_from s.reached) first) ∙ sym (ap extent_of first)
+
+-- how a run is reported
+pub run_report : (u : Until) (ts : List Token) (t : Token) (range : Extent) (wanted : List SyntaxKind) → head_of ts ≡ Some t → is_wanted u t.kind ≡ false → range ≡ extent_of (run_of u ts) → wanted ≡ wanted_kinds u
+    → unwanted t.kind range wanted ≡ report (UnwantedNote u) (run_of u ts)
+run_report u ts t range wanted h off r w =
+    ap (λ x. unwanted t.kind x wanted) r ∙ ap (unwanted t.kind (extent_of (run_of u ts))) w
+    ∙ ap (λ x. unwanted t.kind (extent_of x) (wanted_kinds u)) (run_first u 0 t ts h off) ∙ sym (ap (report (UnwantedNote u)) (run_first u 0 t ts h off))
+
+pub stray_report : (t : Token) (range : Extent) (wanted : List SyntaxKind) → range ≡ record { start = t.start; end = t.end } → wanted ≡ operand_kinds
+    → unwanted t.kind range wanted ≡ report StrayNote (t ∷ [])
+stray_report t range wanted r w = ap (λ x. unwanted t.kind x wanted) r ∙ ap (unwanted t.kind record { start = t.start; end = t.end }) w
 
 -- an error node over a run
-run_all : (u : Until) (first : Token) (s s1 s2 s3 : State) (to : ℕ) → head_of (items_left s) ≡ Some first → s1 ≡ started NODE_ERROR s → s2 ≡ bumped first.kind s1 → (k : Skips u s2 first.end to s3)
-    → items_left s ≡ first ∷ (k.run ++ items_left s3)
-run_all u first s s1 s2 s3 to n e1 e2 k =
-    let same : items_left s1 ≡ items_left s = left_started NODE_ERROR s s1 e1 in
-    sym same ∙ left_bumped first.kind s1 s2 first (ap head_of same ∙ n) e2 ∙ ap (λ x. first ∷ x) k.all
+pub run_made : (u : Until) (s s1 s2 s3 : State) → s1 ≡ started NODE_ERROR s → s2 ≡ skipped (run_of u (items_left s1)) s1 → s3 ≡ ended s2
+    → s3 ≡ ended (skipped (run_of u (items_left s)) (started NODE_ERROR s))
+run_made u s s1 s2 s3 a b c =
+    c ∙ ap ended (b ∙ ap (λ x. skipped (run_of u (items_left x)) x) a ∙ ap (λ x. skipped (run_of u x) (started NODE_ERROR s)) (left_started NODE_ERROR s))
 
-pub run_range : (u : Until) (first : Token) (s s1 s2 s3 : State) (to : ℕ) → AreInOrder 0 s.rest → head_of (items_left s) ≡ Some first → s1 ≡ started NODE_ERROR s → s2 ≡ bumped first.kind s1
-    → Stopped u s2 first.end to s3 → first.start ≤ to
-run_range u first s s1 s2 s3 to o n e1 e2 st =
-    let k : Skips u s2 first.end to s3 = st.skips in
-    let w : first.start ≤ end_from first.end k.run =
-    run_in_order 0 first k.run (items_left s3) (subst (AreInOrder 0) (run_all u first s s1 s2 s3 to n e1 e2 k) (in_order_items 0 s.rest o)) in
-    let e : to ≡ end_from first.end k.run = k.to_is in
-    omega arith
+-- and over all items
+pub all_made : (s : State) → ended (skipped (run_of End (items_left s)) (started NODE_ERROR s)) ≡ ended (skipped (items_left s) (started NODE_ERROR s))
+all_made s = ap (λ x. ended (skipped x (started NODE_ERROR s))) (run_all (items_left s))
 
-pub run_of : (u : Until) (first : Token) (s s1 s2 s3 s4 : State) (to : ℕ) (range : Extent) → head_of (items_left s) ≡ Some first → stops u (Some first.kind) ≡ false
-    → s1 ≡ started NODE_ERROR s → s2 ≡ bumped first.kind s1 → Stopped u s2 first.end to s3 → s4 ≡ ended s3 → range ≡ record { start = first.start; end = to } → Runs u s first range s4
-run_of u first s s1 s2 s3 s4 to range n off e1 e2 st e4 r =
-    let k : Skips u s2 first.end to s3 = st.skips in
-    let same : items_left s1 ≡ items_left s = left_started NODE_ERROR s s1 e1 in
-    let after : items_left s4 ≡ items_left s3 = left_ended s3 s4 e4 in
-    record {
-      run = k.run;
-      unwanted = (off, k.unwanted);
-      all = run_all u first s s1 s2 s3 to n e1 e2 k ∙ ap (λ x. first ∷ (k.run ++ x)) (sym after);
-      state =
-          e4 ∙ ap ended
-          (k.state ∙ ap (laid (row_of k.run) []) (read_item first.kind s1 s2 first (ap head_of same ∙ n) e2 ∙ ap (laid (one_token first.kind first) []) e1)
-          ∙ laid-⊕ (one_token first.kind first) (row_of k.run) [] [] (started NODE_ERROR s));
-      range_is = r ∙ ap (λ x. let y : Extent = record { start = first.start; end = x } in y) k.to_is;
-      stops = ap (λ x. stops u (head_kind x)) after ∙ st.stops;
-    }
+pub extra_made : (s s1 s2 : State) (range : Extent) → s1 ≡ ended (skipped (run_of End (items_left s)) (started NODE_ERROR s)) → range ≡ extent_of (run_of End (items_left s)) → s2 ≡ failed (extra range) s1
+    → s2 ≡ failed (report ExtraNote (items_left s)) (ended (skipped (items_left s) (started NODE_ERROR s)))
+extra_made s s1 s2 range a r c =
+    c ∙ ap (λ x. failed (extra x) s1) (r ∙ ap extent_of (run_all (items_left s))) ∙ ap (failed (report ExtraNote (items_left s))) (a ∙ all_made s)
 
--- an error node over a run, and its error
-pub run_laid : (note : Note) (u : Until) (first : Token) (s s1 s2 : State) (range : Extent) (e : Fault) (w : Runs u s first range s1) → s2 ≡ failed e s1
-    → ((f : Sketch) (es : List Fault) (z : State) → ended (laid f es (started NODE_ERROR z)) ≡ laid (one_fault note f) es z)
-    → s2 ≡ laid (one_fault note (row_of (first ∷ w.run))) (e ∷ []) s
-run_laid note u first s s1 s2 range e w h over =
-    h ∙ ap (failed e) (w.state ∙ over (row_of (first ∷ w.run)) [] s) ∙ laid-failed e (one_fault note (row_of (first ∷ w.run))) [] s
+pub reached_ended : (s s' : State) → s' ≡ ended s → s'.reached ≡ s.reached
+unfolding ended
+reached_ended s s' e = ap (λ x. x.reached) e
 
--- closing
-pub close_now : (d : ℕ) (u : Until) (s s' : State) (t : Token) → stops u (head_kind (items_left s)) ≡ true → head_of (items_left s) ≡ Some t → s' ≡ bumped t.kind s → Adds d (Closing u) s s'
-close_now d u s s' t on n h = record {
-  sketch = leaf_of t;
-  faults = [];
-  reads =
-      subst (λ (x : List Token). Reads d (Closing u) blank x (leaf_of t) [] (items_left s')) (sym (left_bumped t.kind s s' t n h))
-      (closed (sym (ap (λ x. stops u (kind_in x)) n) ∙ on));
-  state = read_item t.kind s s' t n h;
-}
+-- a second name is told
+pub twice_made : (start : ℕ) (s s1 s2 : State) (range : Extent) → s1 ≡ ended s → range ≡ record { start = start; end = s1.reached } → s2 ≡ failed (bound_twice range) s1
+    → s2 ≡ failed (bound_twice record { start = start; end = s.reached }) (ended s)
+twice_made start s s1 s2 range a r c =
+    c ∙ ap (λ x. failed (bound_twice x) s1) (r ∙ ap (λ x. let y : Extent = record { start = start; end = x } in y) (reached_ended s s1 a))
+    ∙ ap (failed (bound_twice record { start = start; end = s.reached })) a
 
-pub laid-fail : (e : Fault) (s s' : State) → s' ≡ failed e s → s' ≡ laid blank (e ∷ []) s
-laid-fail e s s' h = h ∙ ap (failed e) (sym (laid-blank s)) ∙ laid-failed e blank [] s
+-- what is left where a mark is put
+pub left_moved : (after : Place) (m : Mark) (s : State) → items_left (moved after m s) ≡ items_left s
+unfolding marked
+left_moved after m s = refl
 
-pub close_end : (d : ℕ) (u : Until) (s s' : State) → head_of (items_left s) ≡ None → s' ≡ failed (ended_before (wanted_kinds u)) s → Adds d (Closing u) s s'
-close_end d u s s' n h =
-    let none : items_left s ≡ [] = none_left (items_left s) n in
-    let after : items_left s' ≡ [] = left_failed (ended_before (wanted_kinds u)) s s' h ∙ none in
-    record {
-      sketch = blank;
-      faults = ended_before (wanted_kinds u) ∷ [];
-      reads =
-          subst (λ (x : List Token). Reads d (Closing u) blank x blank (ended_before (wanted_kinds u) ∷ []) (items_left s')) (sym none)
-          (subst (λ (x : List Token). Reads d (Closing u) blank [] blank (ended_before (wanted_kinds u) ∷ []) x) (sym after) ended-open);
-      state = laid-fail (ended_before (wanted_kinds u)) s s' h;
-    }
+-- nothing is no item
+pub no_item : (ts : List Token) (r : Option PlacedToken) → option_map token_of r ≡ head_of ts → r ≡ None → is_there (head_kind ts) ≡ true → ⊥
+no_item ts r e h t = absurd (false_is_not_true (sym (ap (λ x. is_there (kind_in x)) (sym e ∙ ap (option_map token_of) h)) ∙ t))
+  where
+    false_is_not_true : false ≡ true → ⊥
+    false_is_not_true e = cc
 
--- the end of a list, and its lack
-pub items_now : (d : ℕ) (s s' : State) (t : Token) → has_more_items (head_kind (items_left s)) ≡ false → head_of (items_left s) ≡ Some t → s' ≡ bumped t.kind s → Adds d Items s s'
-items_now d s s' t off n h = record {
-  sketch = leaf_of t;
-  faults = [];
-  reads =
-      subst (λ (x : List Token). Reads d Items blank x (leaf_of t) [] (items_left s')) (sym (left_bumped t.kind s s' t n h))
-      (items-closed (sym (ap (λ x. has_more_items (kind_in x)) n) ∙ off));
-  state = read_item t.kind s s' t n h;
-}
+pub no_stop : (u : Until) (ts : List Token) (r : Option PlacedToken) → option_map token_of r ≡ head_of ts → r ≡ None → stops u (head_kind ts) ≡ false → ⊥
+no_stop u ts r e h t = absurd (true_is_not_false (sym (ap (λ x. stops u (kind_in x)) (sym e ∙ ap (option_map token_of) h)) ∙ t))
+  where
+    true_is_not_false : true ≡ false → ⊥
+    true_is_not_false e = cc
 
-pub items_end : (d : ℕ) (s s' : State) → head_of (items_left s) ≡ None → s' ≡ failed ended_fault s → Adds d Items s s'
-items_end d s s' n h =
-    let none : items_left s ≡ [] = none_left (items_left s) n in
-    let after : items_left s' ≡ [] = left_failed ended_fault s s' h ∙ none in
-    record {
-      sketch = blank;
-      faults = ended_fault ∷ [];
-      reads =
-          subst (λ (x : List Token). Reads d Items blank x blank (ended_fault ∷ []) (items_left s')) (sym none)
-          (subst (λ (x : List Token). Reads d Items blank [] blank (ended_fault ∷ []) x) (sym after) items-ended);
-      state = laid-fail ended_fault s s' h;
-    }
+pub wanted_still : (u : Until) (after : Place) (m : Mark) (s s1 : State) (t : Token) → stops u (head_kind (items_left s)) ≡ false → s1 ≡ moved after m s → head_of (items_left s1) ≡ Some t
+    → is_wanted u t.kind ≡ false
+wanted_still u after m s s1 t h e i =
+    ap (λ x. stops u (kind_in x)) (sym i) ∙ ap (λ x. stops u (head_kind (items_left x))) e ∙ ap (λ x. stops u (head_kind x)) (left_moved after m s) ∙ h
 
-pub wants_now : (d : ℕ) (u : Until) (s s' : State) → stops u (head_kind (items_left s)) ≡ true → Adds d (Closing u) s s' → Adds d (Wanted u) s s'
-wants_now d u s s' on a = record { sketch = a.sketch; faults = a.faults; reads = wanted-now on a.reads; state = a.state }
+pub run_moved : (u : Until) (after : Place) (m : Mark) (s s1 s2 : State) → s1 ≡ moved after m s
+    → s2 ≡ failed (report (UnwantedNote u) (run_of u (items_left s1))) (ended (skipped (run_of u (items_left s1)) (started NODE_ERROR s1)))
+    → s2 ≡ failed (report (UnwantedNote u) (run_of u (items_left s))) (ended (skipped (run_of u (items_left s)) (started NODE_ERROR (moved after m s))))
+run_moved u after m s s1 s2 e h =
+    h ∙ ap (λ x. failed (report (UnwantedNote u) (run_of u (items_left x))) (ended (skipped (run_of u (items_left x)) (started NODE_ERROR x)))) e
+    ∙ ap (λ x. failed (report (UnwantedNote u) (run_of u x)) (ended (skipped (run_of u x) (started NODE_ERROR (moved after m s))))) (left_moved after m s)
 
-pub stops_still : (u : Until) (first : Token) (s s1 s2 : State) (range : Extent) (e : Fault) → Runs u s first range s1 → s2 ≡ failed e s1 → stops u (head_kind (items_left s2)) ≡ true
-stops_still u first s s1 s2 range e w h = ap (λ x. stops u (head_kind x)) (left_failed e s1 s2 h) ∙ w.stops
+pub extra_moved : (after : Place) (m : Mark) (s s1 s2 : State) → s1 ≡ moved after m s
+    → s2 ≡ failed (report ExtraNote (items_left s1)) (ended (skipped (items_left s1) (started NODE_ERROR s1)))
+    → s2 ≡ failed (report ExtraNote (items_left s)) (ended (skipped (items_left s) (started NODE_ERROR (moved after m s))))
+extra_moved after m s s1 s2 e h =
+    h ∙ ap (λ x. failed (report ExtraNote (items_left x)) (ended (skipped (items_left x) (started NODE_ERROR x)))) e
+    ∙ ap (λ x. failed (report ExtraNote x) (ended (skipped x (started NODE_ERROR (moved after m s))))) (left_moved after m s)
 
-pub wants_later : (d : ℕ) (u : Until) (first : Token) (s s1 s2 s3 : State) (range : Extent) → Runs u s first range s1 → s2 ≡ failed (unwanted first.kind range (wanted_kinds u)) s1
-    → Adds d (Closing u) s2 s3 → Adds d (Wanted u) s s3
-wants_later d u first s s1 s2 s3 range w h a =
-    let e : Fault = unwanted first.kind range (wanted_kinds u) in
-    let named : e ≡ report (Unwanted u) (first ∷ w.run) = ap (λ x. unwanted first.kind x (wanted_kinds u)) w.range_is in
-    let left : items_left s2 ≡ items_left s1 = left_failed e s1 s2 h in
-    let over : Sketch = row_of (first ∷ w.run) in
-    record {
-      sketch = fault (Unwanted u) over a.sketch;
-      faults = report (Unwanted u) (first ∷ w.run) ∷ a.faults;
-      reads =
-          wanted-later first w.run w.unwanted (w.all ∙ ap (λ x. first ∷ (w.run ++ x)) (sym left))
-          (ap (λ x. stops u (head_kind x)) left ∙ w.stops) a.reads;
-      state =
-          a.state ∙ ap (laid a.sketch a.faults) (run_laid (Unwanted u) u first s s1 s2 range e w h (λ f es z. laid-fault (Unwanted u) f es z refl))
-          ∙ laid-⊕ (one_fault (Unwanted u) over) a.sketch (e ∷ []) a.faults s
-          ∙ ap (λ x. laid (fault (Unwanted u) over a.sketch) (x ∷ a.faults) s) named;
-    }
+pub not_stopped : (u : Until) (after : Place) (m : Mark) (s s1 : State) (r : Option PlacedToken) → stops u (head_kind (items_left s)) ≡ false → s1 ≡ moved after m s
+    → option_map token_of r ≡ head_of (items_left s1) → r ≡ None → ⊥
+not_stopped u after m s s1 r h e i n =
+    no_stop u (items_left s1) r i n (ap (λ x. stops u (head_kind (items_left x))) e ∙ ap (λ x. stops u (head_kind x)) (left_moved after m s) ∙ h)
 
--- nothing stops a run to the end but the end
-end_left : (ts : List Token) → stops End (head_kind ts) ≡ true → ts ≡ []
-end_left [] h = refl
-end_left (t ∷ ts) h = absurd (true_is_not_false (sym h))
-
-pub nothing_more : (d : ℕ) (s : State) → head_of (items_left s) ≡ None → Adds d Behind s s
-nothing_more d s n =
-    let none : items_left s ≡ [] = none_left (items_left s) n in
-    record { sketch = blank; faults = []; reads = subst (λ (x : List Token). Reads d Behind blank x blank [] x) (sym none) nothing-behind; state = sym (laid-blank s) }
-
-pub extra_more : (d : ℕ) (first : Token) (s s1 s2 : State) (range : Extent) → Runs End s first range s1 → s2 ≡ failed (extra range) s1 → Adds d Behind s s2
-extra_more d first s s1 s2 range w h =
-    let e : Fault = extra range in
-    let named : e ≡ report Extra (first ∷ w.run) = ap extra w.range_is in
-    let after : items_left s1 ≡ [] = end_left (items_left s1) w.stops in
-    let left : items_left s2 ≡ [] = left_failed e s1 s2 h ∙ after in
-    let all : items_left s ≡ first ∷ w.run = w.all ∙ ap (λ x. first ∷ (w.run ++ x)) after ∙ ap (λ x. first ∷ x) (append-nil w.run) in
-    let over : Sketch = one_fault Extra (row_of (first ∷ w.run)) in
-    record {
-      sketch = over;
-      faults = report Extra (first ∷ w.run) ∷ [];
-      reads =
-          subst (λ (x : List Token). Reads d Behind blank x over (report Extra (first ∷ w.run) ∷ []) (items_left s2)) (sym all)
-          (subst (λ (x : List Token). Reads d Behind blank (first ∷ w.run) over (report Extra (first ∷ w.run) ∷ []) x) (sym left) something-behind);
-      state =
-          run_laid Extra End first s s1 s2 range e w h (λ f es z. laid-fault Extra f es z refl) ∙ ap (λ x. laid over (x ∷ []) s) named;
-    }
-
--- a node over one item
-pub leaf_laid : (k j : SyntaxKind) (t : Token) (s s' : State) → head_of (items_left s) ≡ Some t → s' ≡ ended (bumped j (started k s)) → s' ≡ ended (laid (one_token j t) [] (started k s))
-leaf_laid k j t s s' n h =
-    h ∙ ap ended (read_item j (started k s) (bumped j (started k s)) t (ap head_of (left_started k s (started k s) refl) ∙ n) refl)
-
-pub leaf_left : (k j : SyntaxKind) (t : Token) (s s' : State) → head_of (items_left s) ≡ Some t → s' ≡ ended (bumped j (started k s)) → items_left s ≡ t ∷ items_left s'
-leaf_left k j t s s' n h =
-    let same : items_left (started k s) ≡ items_left s = left_started k s (started k s) refl in
-    sym same ∙ left_bumped j (started k s) (bumped j (started k s)) t (ap head_of same ∙ n) refl
-    ∙ ap (λ x. t ∷ x) (sym (left_ended (bumped j (started k s)) s' h))
-
-pub place-eaten : (s : State) (p : ℕ) → p ≡ tree_count (eaten s).trees → ((n : Note) (f : Sketch) → p ≡ place_of (one_fault n f) s) × ((k : SyntaxKind) (f : Sketch) → p ≡ place_of (one_branch k f) s)
-unfolding eaten place_of
-place-eaten s p h = (λ n f. h, λ k f. h)
-
--- a token that begins no operand
-pub stray_given : (d : ℕ) (t : Token) (s s1 s2 : State) (p : ℕ) → head_of (items_left s) ≡ Some t → begin_of (Some (lexeme_of t)) ≡ StrayBegin → s1 ≡ ended (bumped t.kind (started NODE_ERROR s))
-    → p ≡ tree_count (eaten s).trees → is_inside p s.open_nodes ≡ true → s2 ≡ failed (unwanted t.kind record { start = t.start; end = t.end } operand_kinds) s1 → Gives d (Atom StrayBegin) s p s2
-stray_given d t s s1 s2 p n on h place inside h2 =
-    let e : Fault = unwanted t.kind record { start = t.start; end = t.end } operand_kinds in
-    let over : Sketch = one_fault Stray (leaf_of t) in
-    let left : items_left s ≡ t ∷ items_left s2 = leaf_left NODE_ERROR t.kind t s s1 n h ∙ ap (λ x. t ∷ x) (sym (left_failed e s1 s2 h2)) in
-    record {
-      sketch = over;
-      faults = e ∷ [];
-      reads = subst (λ (x : List Token). Reads d (Atom StrayBegin) blank x over (e ∷ []) (items_left s2)) (sym left) (stray on);
-      state =
-          h2 ∙ ap (failed e) (leaf_laid NODE_ERROR t.kind t s s1 n h ∙ laid-fault Stray (leaf_of t) [] s refl) ∙ laid-failed e over [] s;
-      place_is = (place-eaten s p place).0 Stray (leaf_of t);
-      inside = inside;
-    }
-
--- the end in an operand's place
-pub nothing_given : (d : ℕ) (s s' : State) (p : ℕ) → head_of (items_left s) ≡ None → s' ≡ failed ended_fault s → p ≡ tree_count s'.trees → is_inside p s'.open_nodes ≡ true → Gives d (Atom Nothing) s p s'
-unfolding failed place_of
-nothing_given d s s' p n h place inside =
-    let none : items_left s ≡ [] = none_left (items_left s) n in
-    let left : items_left s' ≡ [] = ap (λ x. items x.rest) h ∙ none in
-    record {
-      sketch = blank;
-      faults = ended_fault ∷ [];
-      reads =
-          subst (λ (x : List Token). Reads d (Atom Nothing) blank x blank (ended_fault ∷ []) (items_left s')) (sym none)
-          (subst (λ (x : List Token). Reads d (Atom Nothing) blank [] blank (ended_fault ∷ []) x) (sym left) nothing);
-      state = laid-fail ended_fault s s' h;
-      place_is = place ∙ ap (λ x. tree_count x.trees) h;
-      inside = ap (λ x. is_inside p x.open_nodes) (sym h) ∙ inside;
-    }
-
--- what is nested too deep
-pub deep_given : (d : ℕ) (counted : Counted) (s s1 s2 s3 s4 s5 : State) (p b to : ℕ) → depth_limit ≤ d → s1 ≡ started NODE_ERROR s → p ≡ tree_count (eaten s).trees → is_inside p s.open_nodes ≡ true
-    → Stopped End s1 b to s2 → s3 ≡ ended s2 → s4 ≡ eaten s3 → s5 ≡ failed too_deep s4 → Gives d (Inside counted) s p s5
-deep_given d counted s s1 s2 s3 s4 s5 p b to deep e1 place inside st e3 e4 e5 =
-    let k : Skips End s1 b to s2 = st.skips in
-    let none : items_left s2 ≡ [] = end_left (items_left s2) st.stops in
-    let left : items_left s5 ≡ [] = left_failed too_deep s4 s5 e5 ∙ left_eaten s3 s4 e4 ∙ left_ended s2 s3 e3 ∙ none in
-    let all : items_left s ≡ k.run = sym (left_started NODE_ERROR s s1 e1) ∙ k.all ∙ ap (λ x. k.run ++ x) none ∙ append-nil k.run in
-    let over : Sketch = one_fault TooDeep (row_of k.run) in
-    record {
-      sketch = over;
-      faults = too_deep ∷ [];
-      reads =
-          subst (λ (x : List Token). Reads d (Inside counted) blank x over (too_deep ∷ []) (items_left s5)) (sym all)
-          (subst (λ (x : List Token). Reads d (Inside counted) blank k.run over (too_deep ∷ []) x) (sym left) (too-deep deep));
-      state =
-          e5 ∙ ap (failed too_deep) (e4 ∙ ap eaten (e3 ∙ ap ended (k.state ∙ ap (laid (row_of k.run) []) e1)) ∙ laid-deep (row_of k.run) [] s)
-          ∙ laid-failed too_deep over [] s;
-      place_is = (place-eaten s p place).0 TooDeep (row_of k.run);
-      inside = inside;
-    }
+pub not_none : (after : Place) (m : Mark) (s s1 : State) (r : Option PlacedToken) → is_there (head_kind (items_left s)) ≡ true → s1 ≡ moved after m s
+    → option_map token_of r ≡ head_of (items_left s1) → r ≡ None → ⊥
+not_none after m s s1 r h e i n =
+    no_item (items_left s1) r i n (ap (λ x. is_there (head_kind (items_left x))) e ∙ ap (λ x. is_there (head_kind x)) (left_moved after m s) ∙ h)

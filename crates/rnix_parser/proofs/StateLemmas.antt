@@ -1,17 +1,25 @@
 -- The steps of the reader, one token at a time.
-use Rattle.std.proofs.Common.{◌≡◌, true, false, List, [], ◌∷◌, Option, Some, None, refl, ap, sym, ◌∙◌}
+use Rattle.std.proofs.Common.{◌≡◌, ℕ, true, false, List, [], ◌∷◌, Option, Some, None, refl, ap, sym, ◌∙◌}
 use Rattle.std.specs.Option.{option_map}
 use Rattle.rnix_kinds.specs.declared.kinds.SyntaxKind.{SyntaxKind}
 use Rattle.rnix_kinds.specs.SyntaxKind.{is_trivia}
-use Rattle.rnix_tree.specs.Forest.{empty, leaf, join}
+use Rattle.rnix_tree.specs.Forest.{Forest, empty, leaf, join}
+use Rattle.rnix_tree.specs.Draft.{OpenNode}
 use Rattle.rnix_tree.proofs.ForestLemmas.{join-empty, join_assoc}
-use Rattle.rnix_grammar.specs.Sketch.{Token, forget, head_of, head_kind, kind_in}
+use Rattle.rnix_grammar.specs.Fault.{Fault}
+use Rattle.rnix_grammar.specs.Sketch.{Token, forget, head_of, head_kind, kind_in, told}
 use Rattle.rnix_grammar.specs.Layout.{items, from_item, from_item_if, trivia_before, trivia_if, tail_of}
-use Rattle.rnix_grammar.proofs.LayoutLemmas.{items_head, items-view, items-from_item}
+use Rattle.rnix_grammar.specs.Machine.{leaf_in, end_of}
+use Rattle.rnix_parser.proofs.LayoutLemmas.{items_head, items-view, items-from_item}
 use Rattle.rnix_parser.specs.declared.cursor.PlacedToken.{PlacedToken}
+use Rattle.rnix_parser.specs.declared.mark.Mark.{Mark}
 use Rattle.rnix_parser.specs.Placed.{token_of}
-use Rattle.rnix_parser.specs.State.{State, eaten, leaf_on, bumped}
-use Rattle.rnix_parser.proofs.LaidLemmas.{state_is}
+use Rattle.rnix_parser.specs.State.{State, eaten, bumped}
+
+pub state_is : {r r' : List Token} {x x' : Forest} {o o' : List OpenNode} {e e' : List Fault} {n n' : ℕ} {m m' : List Mark} → r ≡ r' → x ≡ x' → o ≡ o' → e ≡ e' → n ≡ n' → m ≡ m'
+    → (let y : State = record { rest = r; trees = x; open_nodes = o; faults = e; reached = n; marks = m } in y)
+    ≡ (let z : State = record { rest = r'; trees = x'; open_nodes = o'; faults = e'; reached = n'; marks = m' } in z)
+state_is a b c d e f = cc
 
 -- the tokens that are left, by the first of them
 pub first_there : (ts : List Token) (r : Option PlacedToken) (t : PlacedToken) → option_map token_of r ≡ head_of ts → r ≡ Some t → ts ≡ token_of t ∷ tail_of ts
@@ -44,22 +52,22 @@ pub eaten-item : (s : State) (t : Token) (more : List Token) → s.rest ≡ t �
 unfolding eaten
 eaten-item s t more e h =
     state_is (ap from_item e ∙ ap (λ b. from_item_if b t more (from_item more)) h ∙ sym e)
-    (ap (λ x. join s.trees (forget x)) (ap trivia_before e ∙ ap (λ b. trivia_if b t (trivia_before more)) h) ∙ join-empty s.trees) refl refl
+    (ap (λ x. join s.trees (forget x)) (ap trivia_before e ∙ ap (λ b. trivia_if b t (trivia_before more)) h) ∙ join-empty s.trees) refl refl refl refl
 
 pub eaten-end : (s : State) → s.rest ≡ [] → eaten s ≡ s
 unfolding eaten
-eaten-end s e = state_is (ap from_item e ∙ sym e) (ap (λ x. join s.trees (forget (trivia_before x))) e ∙ join-empty s.trees) refl refl
+eaten-end s e = state_is (ap from_item e ∙ sym e) (ap (λ x. join s.trees (forget (trivia_before x))) e ∙ join-empty s.trees) refl refl refl refl
 
 -- one trivia token is eaten
 pub eaten-trivia : (s s' : State) (t : Token) (more : List Token) → s.rest ≡ t ∷ more → is_trivia t.kind ≡ true → s'.rest ≡ more → s'.trees ≡ join s.trees (leaf t.kind t.text empty)
-    → s'.open_nodes ≡ s.open_nodes → s'.faults ≡ s.faults → eaten s' ≡ eaten s
+    → s'.open_nodes ≡ s.open_nodes → s'.faults ≡ s.faults → s'.reached ≡ s.reached → s'.marks ≡ s.marks → eaten s' ≡ eaten s
 unfolding eaten
-eaten-trivia s s' t more e h r x o f =
+eaten-trivia s s' t more e h r x o f n m =
     state_is (ap from_item r ∙ sym (ap from_item e ∙ ap (λ b. from_item_if b t more (from_item more)) h))
     (ap (λ y. join y (forget (trivia_before s'.rest))) x ∙ ap (λ y. join (join s.trees (leaf t.kind t.text empty)) (forget (trivia_before y))) r
     ∙ join_assoc s.trees (leaf t.kind t.text empty) (forget (trivia_before more))
     ∙ ap (λ y. join s.trees (forget y)) (sym (ap trivia_before e ∙ ap (λ b. trivia_if b t (trivia_before more)) h)))
-    o f
+    o f n m
 
 -- the items are left while trivia are eaten
 pub items-eaten : (s : State) → items (eaten s).rest ≡ items s.rest
@@ -68,21 +76,22 @@ items-eaten s = items-from_item s.rest
 
 -- the next item as a leaf
 pub bumped-item : (k : SyntaxKind) (s s1 s' : State) (t : Token) → s1 ≡ eaten s → s1.rest ≡ t ∷ tail_of s1.rest → s'.rest ≡ tail_of s1.rest
-    → s'.trees ≡ join s1.trees (leaf k t.text empty) → s'.open_nodes ≡ s1.open_nodes → s'.faults ≡ s1.faults → s' ≡ bumped k s
+    → s'.trees ≡ join s1.trees (leaf (told k t) t.text empty) → s'.open_nodes ≡ s1.open_nodes → s'.faults ≡ s1.faults → s'.reached ≡ t.end → s'.marks ≡ s1.marks → s' ≡ bumped k s
 unfolding bumped eaten
-bumped-item k s s1 s' t e here r x o f =
+bumped-item k s s1 s' t e here r x o f n m =
     let rest : s1.rest ≡ from_item s.rest = ap (λ y. y.rest) e in
     state_is (r ∙ ap tail_of rest)
-    (x ∙ ap (λ y. join y.trees (leaf k t.text empty)) e ∙ ap (λ y. join (join s.trees (forget (trivia_before s.rest))) (leaf_on k y)) (sym here ∙ rest))
-    (o ∙ ap (λ y. y.open_nodes) e) (f ∙ ap (λ y. y.faults) e)
+    (x ∙ ap (λ y. join y.trees (leaf (told k t) t.text empty)) e ∙ ap (λ y. join (join s.trees (forget (trivia_before s.rest))) (forget (leaf_in k y))) (sym here ∙ rest))
+    (o ∙ ap (λ y. y.open_nodes) e) (f ∙ ap (λ y. y.faults) e) (n ∙ ap (end_of s.reached) (sym here ∙ rest)) (m ∙ ap (λ y. y.marks) e)
 
 pub bumped-end : (k : SyntaxKind) (s s1 : State) → s1 ≡ eaten s → s1.rest ≡ [] → s1 ≡ bumped k s
 unfolding bumped eaten
 bumped-end k s s1 e none =
     let rest : from_item s.rest ≡ [] = sym (ap (λ y. y.rest) e) ∙ none in
     state_is (none ∙ ap tail_of (sym rest))
-    (ap (λ y. y.trees) e ∙ sym (join-empty (join s.trees (forget (trivia_before s.rest)))) ∙ ap (λ y. join (join s.trees (forget (trivia_before s.rest))) (leaf_on k y)) (sym rest))
-    (ap (λ y. y.open_nodes) e) (ap (λ y. y.faults) e)
+    (ap (λ y. y.trees) e ∙ sym (join-empty (join s.trees (forget (trivia_before s.rest))))
+    ∙ ap (λ y. join (join s.trees (forget (trivia_before s.rest))) (forget (leaf_in k y))) (sym rest))
+    (ap (λ y. y.open_nodes) e) (ap (λ y. y.faults) e) (ap (λ y. y.reached) e ∙ ap (end_of s.reached) (sym rest)) (ap (λ y. y.marks) e)
 
 -- the kind of what is looked up
 pub kind_there : (ts : List Token) (r : Option PlacedToken) (t : PlacedToken) → option_map token_of r ≡ head_of ts → r ≡ Some t → Some t.kind ≡ head_kind ts

@@ -1,20 +1,22 @@
 -- A whole text that is read.
-use Rattle.std.specs.Prelude.{◌≡◌, List, []}
+use Rattle.std.specs.Prelude.{◌≡◌, true, List, [], ◌∷◌}
 use Rattle.rnix_kinds.specs.declared.kinds.SyntaxKind.TheVariants.{NODE_ROOT}
-use Rattle.rnix_tree.specs.Forest.{empty, node}
+use Rattle.rnix_kinds.specs.Lexical.Tokens.{Lexeme}
+use Rattle.rnix_tree.specs.Tree.{Tree}
+use Rattle.rnix_grammar.specs.declared.place.Place.TheVariants as p
 use Rattle.rnix_grammar.specs.Fault.{Fault}
-use Rattle.rnix_grammar.specs.Sketch.{Token, Sketch, blank, forget}
-use Rattle.rnix_grammar.specs.Layout.{items, dressed_whole}
-use Rattle.rnix_grammar.specs.Parts.{Whole}
-use Rattle.rnix_grammar.specs.Reads.{Reads}
-use Rattle.rnix_parser.specs.State.{State}
+use Rattle.rnix_grammar.specs.Sketch.{placed_from, forget}
+use Rattle.rnix_grammar.specs.Layout.{items}
+use Rattle.rnix_grammar.specs.Machine.{Node, Frame, Machine, begins, ate, Runs}
 
--- one root stands over all tokens, as the grammar reads them
-pub record IsDocument (ts : List Token) (s : State) : Type 0 where
-  pub sketch : Sketch
-  pub faults : List Fault
-  pub left : List Token
-  pub reads : Reads 0 Whole blank (items ts) sketch faults left
-  pub trees : s.trees ≡ node NODE_ROOT (forget (dressed_whole sketch ts)) empty
-  pub nodes : s.open_nodes ≡ []
-  pub reported : s.faults ≡ faults
+-- the machine of steps reads these tokens to the end: its last frame is the root, and its row is the tree's
+pub record IsRead (lexemes : List Lexeme) (tree : Tree) (faults : List Fault) : Type 0 where
+  pub root : Frame
+  pub last : Machine
+  pub runs : Runs true (begins (placed_from 0 lexemes)) last
+  pub alone : last.frames ≡ root ∷ []
+  pub head : root.head ≡ Node NODE_ROOT
+  pub place : root.place ≡ p.RootEnd
+  pub nothing : items last.left ≡ []
+  pub tree_is : tree ≡ record { kind = NODE_ROOT; children = forget (ate true root.row last.left) }
+  pub faults_are : faults ≡ last.faults

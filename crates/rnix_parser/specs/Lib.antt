@@ -1,4 +1,9 @@
 pub mod Placed
 pub mod State
-pub mod Gives
+pub mod Names
+pub mod Flat
+pub mod Steps
+pub mod Sorts
+pub mod Allowed
+pub mod Holds
 pub mod Document

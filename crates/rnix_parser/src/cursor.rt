@@ -1,8 +1,8 @@
 //! The tokens of a text, and how far they are read.
 
 ghost use Rattle.std.specs.Prelude.{◌≡◌, ℕ, drop, map, IfOk, IsTrue, option_map};
-ghost use Rattle.rnix_grammar.specs.Sketch.{placed_from, head_of};
-ghost use Rattle.rnix_grammar.specs.Layout.{from_item, tail_of};
+ghost use Rattle.rnix_grammar.specs.Sketch.{placed_from, head_of, head_kind};
+ghost use Rattle.rnix_grammar.specs.Layout.{from_item, tail_of, items};
 ghost use Rattle.rnix_parser.specs.Placed.{token_of, AreInOrder, IsCursor};
 
 use rnix_kinds::{SyntaxKind, Tokenizer};
@@ -78,6 +78,26 @@ fn item_from(tokens: &[PlacedToken<'_>], from: usize) -> usize
     at
 }
 
+// Where the item behind an item is.
+fn behind_item(tokens: &[PlacedToken<'_>], at: usize) -> usize
+    ensures { from_item (tail_of (drop at (map token_of tokens.now))) ≡ drop result (map token_of tokens.now) }
+{
+    if at < tokens.len() {
+        return item_from(tokens, at + 1);
+    }
+    at
+}
+
+// The kind of the token at a place.
+fn kind_at(tokens: &[PlacedToken<'_>], at: usize) -> Option<SyntaxKind>
+    ensures { result ≡ head_kind (drop at (map token_of tokens.now)) }
+{
+    if at < tokens.len() {
+        return Some(tokens[at].kind);
+    }
+    None
+}
+
 impl<'t> Cursor<'t> {
     /// All tokens of a text are left.
     pub(crate) fn new(alloc: Global, tokens: Tokenizer<'t>) -> Result<Self, AllocError>
@@ -104,6 +124,21 @@ impl<'t> Cursor<'t> {
         ensures { option_map token_of result ≡ head_of (from_item self.now) }
     {
         self.tokens.get(self.next).copied()
+    }
+
+    /// The kind of the second item.
+    pub(crate) fn second(&self) -> Option<SyntaxKind>
+        ensures { result ≡ head_kind (tail_of (items self.now)) }
+    {
+        kind_at(&self.tokens, behind_item(&self.tokens, self.next))
+    }
+
+    /// The kind of the third item.
+    pub(crate) fn third(&self) -> Option<SyntaxKind>
+        ensures { result ≡ head_kind (tail_of (tail_of (items self.now))) }
+    {
+        let second = behind_item(&self.tokens, self.next);
+        kind_at(&self.tokens, behind_item(&self.tokens, second))
     }
 
     /// Passes the next token.

@@ -2,9 +2,14 @@
 #![tactic(auto)]
 
 mod cursor;
+mod mark;
+mod names;
+mod operands;
 mod parser;
 mod parsing;
 mod reading;
 mod runs;
+mod steps;
+mod told;
 
 pub use parsing::parse;

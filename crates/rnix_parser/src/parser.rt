@@ -1,26 +1,32 @@
-//! The steps of the reader: each moves a cursor over the tokens and builds the tree.
+//! The reader's state: each step moves a cursor over the tokens and builds the tree.
 
-ghost use Rattle.std.specs.Prelude.{◌≡◌, ◌<◌, ◌∷◌, ℕ, length, IfOk, OnOk, IsTrue, true, Some, option_map};
+ghost use Rattle.std.specs.Prelude.{◌≡◌, ◌<◌, ◌++◌, ◌∷◌, [], ℕ, length, map, IfOk, OnOk, IsTrue, true, Some, None, option_map};
+ghost use Rattle.std.specs.Option.{option_to_list};
 ghost use Rattle.rnix_tree.specs.Forest.{tree_count};
 ghost use Rattle.rnix_tree.specs.Draft.{is_inside, is_checkpoint_of};
 ghost use Rattle.rnix_grammar.specs.Fault.{fault_of};
-ghost use Rattle.rnix_grammar.specs.Sketch.{placed_from, head_of, head_kind, lexeme_in};
-ghost use Rattle.rnix_grammar.specs.Layout.{from_item, items};
+ghost use Rattle.rnix_grammar.specs.Sketch.{head_of, head_kind};
+ghost use Rattle.rnix_grammar.specs.Machine.{touches};
 ghost use Rattle.rnix_parser.specs.Placed.{token_of, AreInOrder};
-ghost use Rattle.rnix_parser.specs.State.{State, state, items_left, eaten, bumped, started, started_at, ended, failed};
+ghost use Rattle.rnix_parser.specs.State.{State, state, items_left, eaten, bumped, started, started_at, ended, failed, marked};
 
 use crate::cursor::{Cursor, PlacedToken};
-use rnix_grammar::ParseError;
-use rnix_kinds::{SyntaxKind, Tokenizer};
+use crate::mark::Mark;
+use crate::told::told_as;
+use rnix_grammar::{ParseError, Place};
+use rnix_kinds::SyntaxKind;
 use rnix_tree::{Checkpoint, GreenNodeBuilder};
-use std::alloc::{AllocError, Global};
+use std::alloc::AllocError;
 
-/// Reads tokens, builds the tree and keeps the errors.
+/// Reads tokens, builds the tree and keeps the errors and what is open.
 #[derive(Drop)]
 pub(crate) struct Parser<'t> {
     pub(crate) cursor: Cursor<'t>,
     pub(crate) builder: GreenNodeBuilder,
     pub(crate) errors: Vec<ParseError>,
+    /// Where the last item ended, in bytes.
+    pub(crate) reached: usize,
+    pub(crate) marks: Vec<Mark>,
 }
 
 impl<'t> Parser<'t> {
@@ -38,6 +44,16 @@ impl<'t> Parser<'t> {
         match self.item() {
             Some(item) => Some(item.kind),
             None => None,
+        }
+    }
+
+    /// Whether no trivia stand between the last item and the next.
+    pub(crate) fn touches(&self) -> bool
+        ensures { result ≡ touches (state self.now).reached (items_left (state self.now)) }
+    {
+        match self.item() {
+            Some(item) => item.start == self.reached,
+            None => false,
         }
     }
 
@@ -61,7 +77,6 @@ impl<'t> Parser<'t> {
     pub(crate) fn start_node(&mut self, kind: SyntaxKind) -> Result<Checkpoint, AllocError>
         ensures state { OnOk result (state self.new ≡ started kind (state self.old)) }
         ensures place { IfOk result (λ place. place ≡ tree_count (eaten (state self.old)).trees) }
-        ensures inside { IfOk result (λ place. is_inside place (state self.old).open_nodes ≡ true) }
         ensures open { OnOk result (0 < length self.new.builder.open_nodes) }
     {
         self.eat_trivia()?;
@@ -78,7 +93,8 @@ impl<'t> Parser<'t> {
         kind: SyntaxKind,
     ) -> Result<(), AllocError>
         requires { IsTrue (is_checkpoint_of self.old.builder place) }
-        ensures { OnOk result (state self.new ≡ started_at place kind (state self.old)) }
+        ensures state { OnOk result (state self.new ≡ started_at place kind (state self.old)) }
+        ensures open { OnOk result (0 < length self.new.builder.open_nodes) }
     {
         self.builder.start_node_at(place, kind)
     }
@@ -101,15 +117,31 @@ impl<'t> Parser<'t> {
         Ok(())
     }
 
-    /// Reads the next item as a leaf of the kind.
-    pub(crate) fn bump(&mut self, kind: SyntaxKind) -> Result<(), AllocError>
-        ensures state { OnOk result (state self.new ≡ bumped kind (state self.old)) }
+    /// Something more is open, which goes on at the place.
+    #[tactic(auto, unfolding(crate::specs::State::marked))]
+    pub(crate) fn mark(
+        &mut self,
+        place: Place,
+        depth: usize,
+        at: Checkpoint,
+    ) -> Result<(), AllocError>
+        ensures state { OnOk result (state self.new ≡ marked record { place = place; depth = depth; at = at } (state self.old)) }
+        ensures builder { OnOk result (self.new.builder ≡ self.old.builder) }
+    {
+        self.marks.push(Mark { place, depth, at })?;
+        Ok(())
+    }
+
+    /// Reads the next item as a leaf below a node of the kind.
+    pub(crate) fn bump(&mut self, parent: SyntaxKind) -> Result<(), AllocError>
+        ensures state { OnOk result (state self.new ≡ bumped parent (state self.old)) }
         ensures nodes { OnOk result (self.new.builder.open_nodes ≡ self.old.builder.open_nodes) }
     {
         self.eat_trivia()?;
         if let Some(token) = self.cursor.token() {
-            self.builder.token(kind, token.text)?;
+            self.builder.token(told_as(parent, token.kind), token.text)?;
             self.cursor.advance();
+            self.reached = token.end;
         }
         Ok(())
     }
@@ -117,7 +149,6 @@ impl<'t> Parser<'t> {
     /// The place behind what is read.
     pub(crate) fn here(&self) -> Checkpoint
         ensures place { result ≡ tree_count (state self.now).trees }
-        ensures inside { is_inside result (state self.now).open_nodes ≡ true }
     {
         self.builder.checkpoint()
     }

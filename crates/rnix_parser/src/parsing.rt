@@ -1,34 +1,17 @@
 //! From the tokens of a text to its tree and its errors.
 
-ghost use Rattle.std.specs.Prelude.{◌≡◌, [], map, IfOk, OnOk};
-ghost use Rattle.rnix_tree.specs.Forest.{empty};
+ghost use Rattle.std.specs.Prelude.{◌≡◌, map, IfOk};
 ghost use Rattle.rnix_grammar.specs.Fault.{fault_of};
 ghost use Rattle.rnix_grammar.specs.Parsed.{IsParsed};
-ghost use Rattle.rnix_parser.specs.State.{State, state};
-ghost use Rattle.rnix_parser.specs.Document.{IsDocument};
 
 use crate::cursor::Cursor;
+use crate::names::Names;
 use crate::parser::Parser;
-use crate::reading::read_expression;
-use rnix_grammar::ParseError;
+use crate::reading::read_all;
+use rnix_grammar::{ParseError, Place};
 use rnix_kinds::{SyntaxKind, Tokenizer};
 use rnix_tree::{GreenNode, GreenNodeBuilder};
 use std::alloc::{AllocError, Global};
-
-// The root, with all that is left.
-fn read_document(p: &mut Parser<'_>) -> Result<(), AllocError>
-    requires trees { (state p.old).trees ≡ empty }
-    requires nodes { (state p.old).open_nodes ≡ [] }
-    requires faults { (state p.old).faults ≡ [] }
-    ensures { OnOk result (IsDocument (state p.old).rest (state p.new)) }
-{
-    p.builder.start_node(SyntaxKind::NODE_ROOT)?;
-    read_expression(p, 0)?;
-    p.extra()?;
-    p.eat_trivia()?;
-    p.finish_node()?;
-    Ok(())
-}
 
 /// The tree of the tokens that are left, with a NODE_ROOT at its top, and the errors in the order in which they were found. Ranges are bytes
 /// from the first of these tokens on.
@@ -43,12 +26,21 @@ pub fn parse(
         cursor,
         builder: GreenNodeBuilder::new(alloc),
         errors: Vec::new(alloc),
+        reached: 0,
+        marks: Vec::new(alloc),
     };
-    read_document(&mut p)?;
+    let mut names = Names::new(alloc);
+    let at = p.here();
+    p.builder.start_node(SyntaxKind::NODE_ROOT)?;
+    p.mark(Place::RootStart, 0, at)?;
+    p.ordered();
+    read_all(&mut p, &mut names)?;
     let Parser {
         cursor: _,
         builder,
         errors,
+        reached: _,
+        marks: _,
     } = p;
     let tree = builder.finish()?;
     Ok((tree, errors))

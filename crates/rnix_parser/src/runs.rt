@@ -1,158 +1,121 @@
-//! Runs of tokens that are not wanted, and what is wanted behind them.
+//! Nodes that are read at once: over one item, and over runs of items that are not wanted.
 
-ghost use Rattle.std.specs.Prelude.{◌≡◌, ◌≤◌, ◌∷◌, [], ℕ, IfOk, OnOk, true, false, Some, None, option_map};
-ghost use Rattle.rnix_grammar.specs.Tables.{begin_of, has_more_items, stops};
-ghost use Rattle.rnix_grammar.specs.Sketch.{head_of, head_kind, lexeme_of};
-ghost use Rattle.rnix_grammar.specs.Parts.{Counted, Inside, Wanted, Closing, Behind, Items, Atom};
-ghost use Rattle.rnix_grammar.specs.declared.begin.Begin.TheVariants.{Stray, Nothing};
+ghost use Rattle.std.specs.Prelude.{◌≡◌, ◌∷◌, [], ℕ, IfOk, OnOk, true, false, Some, None};
+ghost use Rattle.rnix_kinds.specs.declared.kinds.SyntaxKind.TheVariants.{NODE_ERROR};
+ghost use Rattle.rnix_grammar.specs.Fault.{ended_before, too_deep};
+ghost use Rattle.rnix_grammar.specs.Tables.{stops, wanted_kinds, operand_kinds};
+ghost use Rattle.rnix_grammar.specs.Sketch.{head_of, extent_of};
+ghost use Rattle.rnix_grammar.specs.Machine.{run_of};
+ghost use Rattle.rnix_grammar.specs.Reports.{report};
+ghost use Rattle.rnix_grammar.specs.Sketch.{Unwanted as UnwantedNote, Extra as ExtraNote, Stray as StrayNote};
+ghost use Rattle.rnix_grammar.specs.declared.until.Until.TheVariants.{End};
 ghost use Rattle.rnix_parser.specs.Placed.{token_of};
-ghost use Rattle.rnix_parser.specs.State.{State, state, items_left, bumped, started, ended, eaten};
-ghost use Rattle.rnix_parser.specs.Gives.{Gives, Adds, Stopped, Runs};
-ghost use Rattle.rnix_tree.specs.Forest.{tree_count};
-ghost use Rattle.rnix_tree.specs.Draft.{is_inside};
-ghost use Rattle.rnix_grammar.specs.Tables.{depth_limit};
+ghost use Rattle.rnix_parser.specs.State.{State, state, items_left, bumped, skipped, started, ended, eaten, failed};
 
 use crate::cursor::PlacedToken;
 use crate::parser::Parser;
 use rnix_grammar::{ParseError, Until, operand_kinds, stops, wanted_kinds};
 use rnix_kinds::SyntaxKind;
-use rnix_tree::{Checkpoint, TextRange};
+use rnix_tree::TextRange;
 use std::alloc::AllocError;
 
 impl<'t> Parser<'t> {
-    // Reads items up to one that stops the run: where the last one ends, in bytes.
-    fn skip(&mut self, until: Until, from: usize) -> Result<usize, AllocError>
-        ensures stopped { IfOk result (λ to. Stopped until (state self.old) from to (state self.new)) }
+    /// A node over the next item.
+    pub(crate) fn leaf_node(&mut self, kind: SyntaxKind) -> Result<(), AllocError>
+        ensures state { OnOk result (state self.new ≡ ended (bumped kind (started kind (state self.old)))) }
         ensures nodes { OnOk result (self.new.builder.open_nodes ≡ self.old.builder.open_nodes) }
     {
-        let mut end = from;
+        self.start_node(kind)?;
+        self.bump(kind)?;
+        self.finish_node()?;
+        Ok(())
+    }
+
+    // Reads items up to one that stops the run.
+    fn skip(&mut self, until: Until) -> Result<(), AllocError>
+        ensures state { OnOk result (state self.new ≡ skipped (run_of until (items_left (state self.old))) (state self.old)) }
+        ensures nodes { OnOk result (self.new.builder.open_nodes ≡ self.old.builder.open_nodes) }
+    {
         while let Some(item) = self.item() {
             if stops(until, Some(item.kind)) {
-                return Ok(end);
+                return Ok(());
             }
-            self.bump(item.kind)?;
-            end = item.end;
+            self.bump(SyntaxKind::NODE_ERROR)?;
         }
-        Ok(end)
+        Ok(())
     }
 
     // An error node over a run of items that begins with the first, and its range.
     fn error_run(&mut self, until: Until, first: PlacedToken<'_>) -> Result<TextRange, AllocError>
         requires first { head_of (items_left (state self.old)) ≡ Some (token_of first) }
         requires unwanted { stops until (Some first.kind) ≡ false }
-        ensures { IfOk result (λ range. Runs until (state self.old) (token_of first.entry) range (state self.new)) }
+        ensures state { OnOk result (state self.new ≡ ended (skipped (run_of until (items_left (state self.old))) (started NODE_ERROR (state self.old)))) }
+        ensures range { IfOk result (λ range. range ≡ extent_of (run_of until (items_left (state self.old)))) }
     {
         self.ordered();
         self.start_node(SyntaxKind::NODE_ERROR)?;
-        self.bump(first.kind)?;
-        let end = self.skip(until, first.end)?;
+        self.skip(until)?;
         self.finish_node()?;
-        Ok(TextRange::new(first.start, end))
+        Ok(TextRange::new(first.start, self.reached))
     }
 
-    // What stops the run, or the error that it is missing.
-    fn close(&mut self, until: Until) -> Result<(), AllocError>
-        requires { stops until (head_kind (items_left (state self.old))) ≡ true }
-        ensures { (d : ℕ) → OnOk result (Adds d (Closing until) (state self.old) (state self.new)) }
-    {
-        match self.item() {
-            Some(item) => self.bump(item.kind)?,
-            None => {
-                let wanted = wanted_kinds(until).to_vec(*self.errors.allocator())?;
-                self.fail(ParseError::UnexpectedEOFWanted(wanted))?;
-            }
-        }
-        Ok(())
-    }
-
-    /// The end of a list's items, or the error that it is missing.
-    pub(crate) fn close_items(&mut self) -> Result<(), AllocError>
-        requires { has_more_items (head_kind (items_left (state self.old))) ≡ false }
-        ensures { (d : ℕ) → OnOk result (Adds d Items (state self.old) (state self.new)) }
-    {
-        match self.item() {
-            Some(item) => self.bump(item.kind)?,
-            None => self.fail(ParseError::UnexpectedEOF)?,
-        }
-        Ok(())
-    }
-
-    /// What is wanted here, behind a run of others.
-    pub(crate) fn expect(&mut self, until: Until) -> Result<(), AllocError>
-        ensures { (d : ℕ) → OnOk result (Adds d (Wanted until) (state self.old) (state self.new)) }
-    {
-        if stops(until, self.peek()) {
-            self.close(until)?;
-            return Ok(());
-        }
-        if let Some(first) = self.item() {
-            let range = self.error_run(until, first)?;
-            let wanted = wanted_kinds(until).to_vec(*self.errors.allocator())?;
-            self.fail(ParseError::UnexpectedWanted(first.kind, range, wanted))?;
-            self.close(until)?;
-        }
-        Ok(())
-    }
-
-    /// What is left, as one error node.
-    pub(crate) fn extra(&mut self) -> Result<(), AllocError>
-        ensures { (d : ℕ) → OnOk result (Adds d Behind (state self.old) (state self.new)) }
-    {
-        if let Some(first) = self.item() {
-            let range = self.error_run(Until::End, first)?;
-            self.fail(ParseError::UnexpectedExtra(range))?;
-        }
-        Ok(())
-    }
-
-    /// A node over the next item, as a leaf of the kind.
-    pub(crate) fn leaf_node(
+    /// An error node over a run of items, where others are wanted.
+    pub(crate) fn unwanted(
         &mut self,
-        node: SyntaxKind,
-        leaf: SyntaxKind,
-    ) -> Result<Checkpoint, AllocError>
-        ensures state { OnOk result (state self.new ≡ ended (bumped leaf (started node (state self.old)))) }
-        ensures place { IfOk result (λ place. place ≡ tree_count (eaten (state self.old)).trees) }
-        ensures inside { IfOk result (λ place. is_inside place (state self.old).open_nodes ≡ true) }
+        until: Until,
+        first: PlacedToken<'_>,
+    ) -> Result<(), AllocError>
+        requires first { head_of (items_left (state self.old)) ≡ Some (token_of first) }
+        requires unwanted { stops until (Some first.kind) ≡ false }
+        ensures { OnOk result (state self.new ≡ failed (report (UnwantedNote until) (run_of until (items_left (state self.old)))) (ended (skipped (run_of until (items_left (state self.old))) (started NODE_ERROR (state self.old))))) }
     {
-        let place = self.start_node(node)?;
-        self.bump(leaf)?;
-        self.finish_node()?;
-        Ok(place)
+        let range = self.error_run(until, first)?;
+        let wanted = wanted_kinds(until).to_vec(*self.errors.allocator())?;
+        self.fail(ParseError::UnexpectedWanted(first.kind, range, wanted))?;
+        Ok(())
+    }
+
+    /// An error node over all that is left behind the root's expression.
+    pub(crate) fn extra(&mut self, first: PlacedToken<'_>) -> Result<(), AllocError>
+        requires { head_of (items_left (state self.old)) ≡ Some (token_of first) }
+        ensures { OnOk result (state self.new ≡ failed (report ExtraNote (items_left (state self.old))) (ended (skipped (items_left (state self.old)) (started NODE_ERROR (state self.old))))) }
+    {
+        let range = self.error_run(Until::End, first)?;
+        self.fail(ParseError::UnexpectedExtra(range))?;
+        Ok(())
     }
 
     /// An error node over the next item, which begins no operand.
-    pub(crate) fn stray(&mut self, item: PlacedToken<'_>) -> Result<Checkpoint, AllocError>
-        requires first { head_of (items_left (state self.old)) ≡ Some (token_of item) }
-        requires stray { begin_of (Some (lexeme_of (token_of item))) ≡ Stray }
-        ensures { (d : ℕ) → IfOk result (λ place. Gives d (Atom Stray) (state self.old) place (state self.new)) }
+    pub(crate) fn stray(&mut self, first: PlacedToken<'_>) -> Result<(), AllocError>
+        requires { head_of (items_left (state self.old)) ≡ Some (token_of first) }
+        ensures { OnOk result (state self.new ≡ failed (report StrayNote (token_of first.entry ∷ [])) (ended (bumped NODE_ERROR (started NODE_ERROR (state self.old))))) }
     {
         self.ordered();
-        let place = self.leaf_node(SyntaxKind::NODE_ERROR, item.kind)?;
+        self.leaf_node(SyntaxKind::NODE_ERROR)?;
         let wanted = operand_kinds().to_vec(*self.errors.allocator())?;
-        let range = TextRange::new(item.start, item.end);
-        self.fail(ParseError::UnexpectedWanted(item.kind, range, wanted))?;
-        Ok(place)
+        let range = TextRange::new(first.start, first.end);
+        self.fail(ParseError::UnexpectedWanted(first.kind, range, wanted))?;
+        Ok(())
     }
 
-    /// The end of the text in an operand's place.
-    pub(crate) fn nothing(&mut self) -> Result<Checkpoint, AllocError>
-        requires { head_of (items_left (state self.old)) ≡ None }
-        ensures { (d : ℕ) → IfOk result (λ place. Gives d (Atom Nothing) (state self.old) place (state self.new)) }
+    /// The end of the text where something is wanted.
+    pub(crate) fn missing(&mut self, until: Until) -> Result<(), AllocError>
+        ensures { OnOk result (state self.new ≡ failed (ended_before (wanted_kinds until)) (state self.old)) }
     {
-        self.fail(ParseError::UnexpectedEOF)?;
-        Ok(self.here())
+        let wanted = wanted_kinds(until).to_vec(*self.errors.allocator())?;
+        self.fail(ParseError::UnexpectedEOFWanted(wanted))?;
+        Ok(())
     }
 
     /// An error node over all that is left, which is nested too deep.
-    pub(crate) fn too_deep(&mut self) -> Result<Checkpoint, AllocError>
-        ensures { (d : ℕ) (counted : Counted) → depth_limit ≤ d → IfOk result (λ place. Gives d (Inside counted) (state self.old) place (state self.new)) }
+    pub(crate) fn too_deep(&mut self) -> Result<(), AllocError>
+        ensures { OnOk result (state self.new ≡ failed too_deep (eaten (ended (skipped (items_left (state self.old)) (started NODE_ERROR (state self.old)))))) }
     {
-        let place = self.start_node(SyntaxKind::NODE_ERROR)?;
-        self.skip(Until::End, 0)?;
+        self.start_node(SyntaxKind::NODE_ERROR)?;
+        self.skip(Until::End)?;
         self.finish_node()?;
         self.eat_trivia()?;
         self.fail(ParseError::RecursionLimitExceeded)?;
-        Ok(place)
+        Ok(())
     }
 }

@@ -11,7 +11,7 @@ returns-then-not-is_trivia-clause-state c =
 pub loop-token-preserved : goal.loop-token-preserved
 loop-token-preserved c = (
   eaten-trivia (state c.loop-token.self) _ (token_of c.in-Some.token) _ (first_there _ _ _ c.token.ensures c.in-Some.is) (sym c.is_trivia.ensures ∙ c.if-not-is_trivia.false)
-      c.advance.ensures (ap (λ x. x.finished) c.in_ok-token.ensures.ok) (ap (λ x. x.open_nodes) c.in_ok-token.ensures.ok) refl
+      c.advance.ensures (ap (λ x. x.finished) c.in_ok-token.ensures.ok) (ap (λ x. x.open_nodes) c.in_ok-token.ensures.ok) refl refl refl
       ∙ c.loop-token.invariant.0,
   ap (λ x. x.open_nodes) c.in_ok-token.ensures.ok ∙ c.loop-token.invariant.1,
 )

@@ -1,24 +1,28 @@
-use Rattle.std.proofs.Common.{sym, ◌∙◌, refl}
+use Rattle.std.proofs.Common.{sym, ap, ◌∙◌}
+use Rattle.std.specs.Option.{option_map}
+use Rattle.rnix_grammar.specs.Sketch.{kind_in}
+use Rattle.rnix_grammar.specs.Tables.{stops}
 use Rattle.rnix_parser.specs.Placed.{token_of}
 use Rattle.rnix_parser.specs.State.{state}
-use Rattle.rnix_parser.proofs.RunLemmas.{item_there, none_there, skip_starts, skip_steps, skip_smaller, stopped_at, stopped_end}
+use Rattle.rnix_parser.proofs.RunLemmas.{item_there, skip_turn, skip_end, skip_none, shorter}
 use Rattle.rnix_parser.proofs.parser.Parser.skip.Goals as goal
 
-pub loop-item-init : goal.loop-item-init
-loop-item-init c = (skip_starts c.args.until (state c.args.self.now) c.args.from, refl)
+pub returns-then-stops-clause-state : goal.returns-then-stops-clause-state
+returns-then-stops-clause-state c =
+    sym (skip_end c.args.until (state c.loop-item.self)
+    (ap (λ x. stops c.args.until (kind_in x)) (item_there _ _ _ c.item.ensures c.in-Some.is) ∙ sym c.stops.ensures ∙ c.if-stops.true))
+    ∙ c.loop-item.invariant.0
 
 pub loop-item-smaller : goal.loop-item-smaller
-loop-item-smaller c = skip_smaller _ _ _ _ (item_there _ _ _ c.item.ensures c.in-Some.is) c.in_ok-bump.ensures.state
+loop-item-smaller c = shorter (token_of c.in-Some.item) (state c.loop-item.self) _ (item_there _ _ _ c.item.ensures c.in-Some.is) c.in_ok-bump.ensures.state
 
 pub loop-item-preserved : goal.loop-item-preserved
 loop-item-preserved c = (
-  skip_steps _ _ _ _ _ _ (token_of c.in-Some.item) c.loop-item.invariant.0 (item_there _ _ _ c.item.ensures c.in-Some.is) (sym c.stops.ensures ∙ c.if-stops.false) c.in_ok-bump.ensures.state,
+  skip_turn c.args.until (token_of c.in-Some.item) (state c.loop-item.self) _ (item_there _ _ _ c.item.ensures c.in-Some.is) (sym c.stops.ensures ∙ c.if-stops.false)
+      c.in_ok-bump.ensures.state
+      ∙ c.loop-item.invariant.0,
   c.in_ok-bump.ensures.nodes ∙ c.loop-item.invariant.1,
 )
 
-pub returns-then-stops-clause-stopped : goal.returns-then-stops-clause-stopped
-returns-then-stops-clause-stopped c =
-    stopped_at _ _ _ _ _ (token_of c.in-Some.item) c.loop-item.invariant.0 (item_there _ _ _ c.item.ensures c.in-Some.is) (sym c.stops.ensures ∙ c.if-stops.true)
-
-pub returns-clause-stopped : goal.returns-clause-stopped
-returns-clause-stopped c = stopped_end _ _ _ _ _ c.loop-item.invariant.0 (none_there _ _ c.item.ensures c.in_default.is)
+pub returns-clause-state : goal.returns-clause-state
+returns-clause-state c = sym (skip_none c.args.until (state c.loop-item.self) (sym c.item.ensures ∙ ap (option_map token_of) c.in_default.is)) ∙ c.loop-item.invariant.0

@@ -1,0 +1,162 @@
+-- What is known of a place by the slot that stands there.
+use Rattle.std.proofs.Common.{◌≡◌, ◌⊎◌, inl, inr, ℕ, ◌≤◌, Bool, true, false, Some, None, refl, arith}
+use Rattle.rnix_kinds.specs.declared.kinds.SyntaxKind.TheVariants.{NODE_ATTRPATH, NODE_ERROR, NODE_INHERIT, NODE_PATTERN, NODE_PAT_ENTRY, NODE_SELECT}
+use Rattle.rnix_grammar.specs.declared.place.Place.{Place}
+use Rattle.rnix_grammar.specs.declared.place.Place.TheVariants as p
+use Rattle.rnix_grammar.specs.declared.slot.Slot.{Slot}
+use Rattle.rnix_grammar.specs.declared.slot.Slot.TheVariants as s
+use Rattle.rnix_grammar.specs.declared.until.Closer.{Closer}
+use Rattle.rnix_grammar.specs.declared.until.Closer.TheVariants as c
+use Rattle.rnix_grammar.specs.Slots.{slot_at}
+use Rattle.rnix_grammar.proofs.Places.{home, over, Placed, RightMost, is_last}
+
+-- which places some slots are at
+pub done_home : (x : Place) → slot_at x ≡ s.Done → home x ≡ None
+done_home (p.Operated level) h = refl
+done_home p.Past h = refl
+done_home _ h = absurd (cc)
+
+pub entry_home : (x : Place) → slot_at x ≡ s.EntryDone → home x ≡ Some NODE_PAT_ENTRY
+entry_home p.EntryPast h = refl
+entry_home _ h = absurd (cc)
+
+pub default_home : (x : Place) → slot_at x ≡ s.Default → home x ≡ Some NODE_PAT_ENTRY
+default_home p.EntryMore h = refl
+default_home _ h = absurd (cc)
+
+pub pattern_home : (x : Place) → slot_at x ≡ s.PatternDone → home x ≡ Some NODE_PATTERN
+pattern_home p.PatternPast h = refl
+pattern_home _ h = absurd (cc)
+
+pub names_home : (x : Place) → slot_at x ≡ s.Names → home x ≡ Some NODE_INHERIT
+names_home p.InheritNames h = refl
+names_home _ h = absurd (cc)
+
+pub source_home : (x : Place) → slot_at x ≡ s.Source → home x ≡ Some NODE_INHERIT
+source_home p.InheritStart h = refl
+source_home _ h = absurd (cc)
+
+pub attrs_home : (x : Place) → slot_at x ≡ s.MoreAttrs → home x ≡ Some NODE_ATTRPATH
+attrs_home p.AttrpathMore h = refl
+attrs_home _ h = absurd (cc)
+
+pub or_home : (x : Place) → slot_at x ≡ s.Or → home x ≡ Some NODE_SELECT
+or_home p.SelectOr h = refl
+or_home _ h = absurd (cc)
+
+pub first_home : (x : Place) → slot_at x ≡ s.FirstPiece → home x ≡ None
+first_home p.PathFirst h = refl
+first_home _ h = absurd (cc)
+
+pub more_home : (x : Place) → slot_at x ≡ s.MorePieces → home x ≡ None
+more_home p.PathMore h = refl
+more_home _ h = absurd (cc)
+
+pub twice_home : (x : Place) → slot_at x ≡ s.TwiceDone → home x ≡ Some NODE_ERROR
+twice_home p.TwicePast h = refl
+twice_home _ h = absurd (cc)
+
+pub end_is : (x : Place) → slot_at x ≡ s.End → x ≡ p.RootEnd
+end_is p.RootEnd h = refl
+end_is _ h = absurd (cc)
+
+pub bind_is : (x : Place) (bound : Bool) → slot_at x ≡ s.Bind bound → x ≡ p.PatternEnd bound
+bind_is (p.PatternEnd b) bound h = cc
+bind_is _ b h = absurd (cc)
+
+level_is : (a b : ℕ) (c d : Bool) (x y : Place) → s.Operand a c x ≡ s.Operand b d y → a ≡ b
+level_is a b c d x y h = cc
+
+series_is : (a b : ℕ) (c d : Closer) → s.Series a c ≡ s.Series b d → a ≡ b
+series_is a b c d h = cc
+
+-- the last place of a string wants one token
+pub last_is : (x y : Place) → is_last x ≡ true → slot_at x ≡ s.Attr y → ⊥
+last_is p.StringEnd y l h = cc
+last_is _ y l h = cc
+
+pub operand_open : (x : Place) (level : ℕ) (counted : Bool) (y : Place) → slot_at x ≡ s.Operand level counted y → is_last x ≡ false
+operand_open p.StringEnd level counted y h = absurd (cc)
+operand_open _ level counted y h = refl
+
+pub operand_most : (x : Place) (level : ℕ) (counted : Bool) (y : Place) → slot_at x ≡ s.Operand level counted y → RightMost x → level ≤ 16
+operand_most p.RootStart level counted y h r = omega (arith, level_is 0 level true counted p.RootEnd y h)
+operand_most p.ParenInside level counted y h r = omega (arith, level_is 0 level true counted p.ParenEnd y h)
+operand_most p.InterpolInside level counted y h r = omega (arith, level_is 0 level true counted p.InterpolEnd y h)
+operand_most p.LetBody level counted y h r = omega (arith, level_is 0 level true counted p.Past y h)
+operand_most p.FromInside level counted y h r = omega (arith, level_is 0 level true counted p.FromEnd y h)
+operand_most p.ValueInside level counted y h r = omega (arith, level_is 0 level true counted p.ValueEnd y h)
+operand_most p.WithScope level counted y h r = omega (arith, level_is 0 level true counted p.WithEnd y h)
+operand_most p.WithBody level counted y h r = omega (arith, level_is 0 level true counted p.Past y h)
+operand_most p.AssertCondition level counted y h r = omega (arith, level_is 0 level true counted p.AssertEnd y h)
+operand_most p.AssertBody level counted y h r = omega (arith, level_is 0 level true counted p.Past y h)
+operand_most p.IfCondition level counted y h r = omega (arith, level_is 0 level true counted p.IfThen y h)
+operand_most p.IfConsequence level counted y h r = omega (arith, level_is 0 level true counted p.IfElse y h)
+operand_most p.IfAlternative level counted y h r = omega (arith, level_is 0 level true counted p.Past y h)
+operand_most p.LambdaBody level counted y h r = omega (arith, level_is 0 level true counted p.Past y h)
+operand_most p.EntryDefault level counted y h r = omega (arith, level_is 0 level true counted p.EntryPast y h)
+operand_most p.SelectDefault level counted y h r = omega (arith, level_is 16 level false counted p.Past y h)
+operand_most p.Negated level counted y h r = omega (arith, level_is 14 level true counted (p.Operated 14) y h)
+operand_most p.Inverted level counted y h r = omega (arith, level_is 9 level true counted (p.Operated 9) y h)
+operand_most (p.Right v) level counted y h r = omega (arith, r, level_is v level false counted (p.Operated v) y h)
+operand_most _ level counted y h r = absurd (cc)
+
+pub series_most : (x : Place) (level : ℕ) (closer : Closer) → slot_at x ≡ s.Series level closer → level ≤ 16
+series_most p.ListInside level closer h = omega (arith, series_is 16 level c.RBrack closer h)
+series_most p.DynamicInside level closer h = omega (arith, series_is 0 level c.InterpolEnd closer h)
+series_most _ level closer h = absurd (cc)
+
+pub attrpath_open : (x y : Place) → slot_at x ≡ s.Attrpath y → is_last x ≡ false
+attrpath_open p.StringEnd y h = absurd (cc)
+attrpath_open _ y h = refl
+
+pub pieces_is : (x : Place) → slot_at x ≡ s.Pieces → x ≡ p.StringInside
+pieces_is p.StringInside h = refl
+pieces_is _ h = absurd (cc)
+
+pub more_is : (x : Place) (low high : ℕ) → slot_at x ≡ s.More low high → Placed x → ⊥
+more_is (p.Behind a b) low high h v = v
+more_is _ low high h v = cc
+
+-- behind a name of an attribute path, and behind a name
+pub attr_behind : (x y : Place) → slot_at x ≡ s.Attr y → (y ≡ p.AttrpathMore) ⊎ (y ≡ p.InheritNames)
+attr_behind p.InheritName y h = inr (cc)
+attr_behind p.AttrpathStart y h = inl (cc)
+attr_behind _ y h = absurd (cc)
+
+pub name_behind : (x y : Place) → slot_at x ≡ s.Name y → (y ≡ p.Past) ⊎ (y ≡ p.TwicePast)
+name_behind p.BindName y h = inl (cc)
+name_behind p.TwiceName y h = inr (cc)
+name_behind _ y h = absurd (cc)
+
+-- what stands behind an operand: what is wanted, or the end of the row
+pub data Behind (level : ℕ) (y : Place) : Type 0 where
+  loosest : level ≡ 0 → over y ≡ None → Behind level y
+  ended : slot_at y ≡ s.Done → over y ≡ None → Behind level y
+  operated : slot_at y ≡ s.Done → over y ≡ Some level → 1 ≤ level → level ≤ 14 → Behind level y
+
+abbrev pub BehindIn : Slot → Type 0
+BehindIn (s.Operand level counted y) = Behind level y
+BehindIn slot = Unit {0}
+
+pub behind_operand : (x : Place) → Placed x → RightMost x → BehindIn (slot_at x)
+behind_operand p.RootStart h r = loosest refl refl
+behind_operand p.ParenInside h r = loosest refl refl
+behind_operand p.InterpolInside h r = loosest refl refl
+behind_operand p.LetBody h r = loosest refl refl
+behind_operand p.FromInside h r = loosest refl refl
+behind_operand p.ValueInside h r = loosest refl refl
+behind_operand p.WithScope h r = loosest refl refl
+behind_operand p.WithBody h r = loosest refl refl
+behind_operand p.AssertCondition h r = loosest refl refl
+behind_operand p.AssertBody h r = loosest refl refl
+behind_operand p.IfCondition h r = loosest refl refl
+behind_operand p.IfConsequence h r = loosest refl refl
+behind_operand p.IfAlternative h r = loosest refl refl
+behind_operand p.LambdaBody h r = loosest refl refl
+behind_operand p.EntryDefault h r = loosest refl refl
+behind_operand p.SelectDefault h r = ended refl refl
+behind_operand p.Negated h r = operated refl refl (omega arith) (omega arith)
+behind_operand p.Inverted h r = operated refl refl (omega arith) (omega arith)
+behind_operand (p.Right level) h r = operated refl refl h r
+behind_operand _ h r = tt

@@ -1,0 +1,332 @@
+-- Which node each place is in, and what stays as a row goes on.
+use Rattle.std.proofs.Common.{◌≡◌, ℕ, ◌≤◌, Bool, true, false, List, [], ◌∷◌, Option, Some, None, refl, subst}
+use Rattle.rnix_kinds.specs.declared.kinds.SyntaxKind.{SyntaxKind}
+use Rattle.rnix_kinds.specs.declared.kinds.SyntaxKind.TheVariants.{NODE_ASSERT, NODE_ATTRPATH, NODE_ATTRPATH_VALUE, NODE_ATTR_SET, NODE_BIN_OP, NODE_DYNAMIC, NODE_ERROR, NODE_HAS_ATTR, NODE_IF_ELSE, NODE_INHERIT, NODE_INHERIT_FROM, NODE_INTERPOL, NODE_LAMBDA, NODE_LEGACY_LET, NODE_LET_IN, NODE_LIST, NODE_PAREN, NODE_PATTERN, NODE_PAT_BIND, NODE_PAT_ENTRY, NODE_ROOT, NODE_SELECT, NODE_STRING, NODE_UNARY_OP, NODE_WITH}
+use Rattle.rnix_grammar.specs.declared.place.Place.{Place}
+use Rattle.rnix_grammar.specs.declared.place.Place.TheVariants as p
+use Rattle.rnix_grammar.specs.declared.slot.Slot.{Slot}
+use Rattle.rnix_grammar.specs.declared.slot.Slot.TheVariants as s
+use Rattle.rnix_grammar.specs.declared.until.Until.{Until}
+use Rattle.rnix_grammar.specs.Slots.{slot_at}
+use Rattle.rnix_grammar.specs.Fault.{Fault}
+use Rattle.rnix_grammar.specs.Rows.{run_at, lack}
+use Rattle.rnix_grammar.specs.Stands.{is_wanted_in}
+
+-- the kind of node that a place is in; some places are in many
+abbrev pub home : Place → Option SyntaxKind
+home p.RootStart = Some NODE_ROOT
+home p.RootEnd = Some NODE_ROOT
+home p.ParenInside = Some NODE_PAREN
+home p.ParenEnd = Some NODE_PAREN
+home p.ListInside = Some NODE_LIST
+home p.DynamicInside = Some NODE_DYNAMIC
+home p.InterpolInside = Some NODE_INTERPOL
+home p.InterpolEnd = Some NODE_INTERPOL
+home p.StringInside = Some NODE_STRING
+home p.StringEnd = Some NODE_STRING
+home p.SetBrace = Some NODE_ATTR_SET
+home p.SetInside = Some NODE_ATTR_SET
+home p.LegacyInside = Some NODE_LEGACY_LET
+home p.LetInside = Some NODE_LET_IN
+home p.LetBody = Some NODE_LET_IN
+home p.InheritStart = Some NODE_INHERIT
+home p.InheritNames = Some NODE_INHERIT
+home p.InheritName = Some NODE_INHERIT
+home p.InheritEnd = Some NODE_INHERIT
+home p.FromInside = Some NODE_INHERIT_FROM
+home p.FromEnd = Some NODE_INHERIT_FROM
+home p.ValuePath = Some NODE_ATTRPATH_VALUE
+home p.ValueAssign = Some NODE_ATTRPATH_VALUE
+home p.ValueInside = Some NODE_ATTRPATH_VALUE
+home p.ValueEnd = Some NODE_ATTRPATH_VALUE
+home p.AttrpathStart = Some NODE_ATTRPATH
+home p.AttrpathMore = Some NODE_ATTRPATH
+home p.WithScope = Some NODE_WITH
+home p.WithEnd = Some NODE_WITH
+home p.WithBody = Some NODE_WITH
+home p.AssertCondition = Some NODE_ASSERT
+home p.AssertEnd = Some NODE_ASSERT
+home p.AssertBody = Some NODE_ASSERT
+home p.IfCondition = Some NODE_IF_ELSE
+home p.IfThen = Some NODE_IF_ELSE
+home p.IfConsequence = Some NODE_IF_ELSE
+home p.IfElse = Some NODE_IF_ELSE
+home p.IfAlternative = Some NODE_IF_ELSE
+home p.LambdaColon = Some NODE_LAMBDA
+home p.LambdaBody = Some NODE_LAMBDA
+home p.PatternBrace = Some NODE_PATTERN
+home (p.PatternStart bound) = Some NODE_PATTERN
+home (p.PatternInside bound) = Some NODE_PATTERN
+home (p.PatternAfter bound) = Some NODE_PATTERN
+home (p.PatternClose bound) = Some NODE_PATTERN
+home (p.PatternEnd bound) = Some NODE_PATTERN
+home p.PatternPast = Some NODE_PATTERN
+home p.EntryMore = Some NODE_PAT_ENTRY
+home p.EntryDefault = Some NODE_PAT_ENTRY
+home p.EntryPast = Some NODE_PAT_ENTRY
+home p.BindName = Some NODE_PAT_BIND
+home p.TwiceName = Some NODE_ERROR
+home p.TwicePast = Some NODE_ERROR
+home p.SelectPath = Some NODE_SELECT
+home p.SelectOr = Some NODE_SELECT
+home p.SelectDefault = Some NODE_SELECT
+home p.HasPath = Some NODE_HAS_ATTR
+home p.Negated = Some NODE_UNARY_OP
+home p.Inverted = Some NODE_UNARY_OP
+home (p.Right level) = Some NODE_BIN_OP
+home place = None
+
+-- the loosest level of the operand of an operator that stands at a place, or before it
+abbrev pub tight : Place → Option ℕ
+tight (p.Right level) = Some level
+tight (p.Operated level) = Some level
+tight p.Inverted = Some 9
+tight p.Negated = Some 14
+tight place = None
+
+abbrev pub is_pat_entry : SyntaxKind → Bool
+is_pat_entry NODE_PAT_ENTRY = true
+is_pat_entry NODE_ATTRPATH = true
+is_pat_entry kind = false
+
+-- a place of many nodes, or of this one
+abbrev pub IsIn : Option SyntaxKind → SyntaxKind → Type 0
+IsIn None k = is_pat_entry k ≡ false
+IsIn (Some h) k = h ≡ k
+
+abbrev pub IsSame : Option SyntaxKind → Option SyntaxKind → Type 0
+IsSame None None = Unit {0}
+IsSame (Some j) None = is_pat_entry j ≡ false
+IsSame h (Some k) = h ≡ Some k
+
+abbrev pub is_last : Place → Bool
+is_last p.StringEnd = true
+is_last place = false
+
+-- the level of the last operand of an operator, behind it
+abbrev pub over : Place → Option ℕ
+over (p.Operated level) = Some level
+over place = None
+
+abbrev pub allowed : Slot → Option ℕ
+allowed (s.Operand level counted behind) = over behind
+allowed slot = None
+
+-- the operand of an operator is looser than nothing
+abbrev pub Placed : Place → Type 0
+Placed (p.Right level) = 1 ≤ level
+Placed (p.Behind low high) = ⊥
+Placed place = Unit {0}
+
+abbrev pub RightMost : Place → Type 0
+RightMost (p.Right level) = level ≤ 14
+RightMost place = Unit {0}
+
+-- a row of the first place may go on at the second
+pub record Leads (x y : Place) : Type 0 where
+  pub same : IsSame (home x) (home y)
+  pub tight : tight y ≡ tight x
+  pub further : is_last y ≡ false
+  pub calm : over y ≡ allowed (slot_at x)
+  pub placed : Placed y
+  pub most : RightMost y
+
+abbrev pub LeadsAll : Place → List Place → Type 0
+LeadsAll x [] = Unit {0}
+LeadsAll x (y ∷ ys) = Leads x y × LeadsAll x ys
+
+-- the places behind a slot
+abbrev pub after : Slot → Place → List Place
+after (s.Token until behind) place = place ∷ (behind ∷ [])
+after (s.Operand level counted behind) place = behind ∷ []
+after (s.Series level closer) place = place ∷ (p.Past ∷ [])
+after (s.Entries closer behind) place = place ∷ (behind ∷ [])
+after s.Pieces place = p.Past ∷ (p.StringInside ∷ [])
+after s.FirstPiece place = p.PathMore ∷ []
+after s.MorePieces place = p.PathMore ∷ []
+after s.Source place = p.InheritNames ∷ (p.InheritName ∷ (p.InheritEnd ∷ (p.Past ∷ [])))
+after s.Names place = p.InheritNames ∷ (p.InheritName ∷ (p.InheritEnd ∷ (p.Past ∷ [])))
+after (s.Attr behind) place = place ∷ (behind ∷ [])
+after s.MoreAttrs place = p.AttrpathStart ∷ []
+after (s.Attrpath behind) place = behind ∷ []
+after (s.Name behind) place = place ∷ (behind ∷ [])
+after (s.Braces bound) place = p.PatternEnd bound ∷ (p.PatternClose bound ∷ (p.PatternAfter bound ∷ (p.PatternInside bound ∷ [])))
+after (s.Formals bound) place = p.PatternEnd bound ∷ (p.PatternClose bound ∷ (p.PatternAfter bound ∷ (p.PatternInside bound ∷ [])))
+after (s.Comma bound) place = p.PatternInside bound ∷ (p.PatternClose bound ∷ (p.PatternEnd bound ∷ []))
+after (s.Bind bound) place = p.PatternPast ∷ []
+after s.Default place = p.EntryDefault ∷ []
+after s.Or place = p.SelectDefault ∷ []
+after slot place = []
+
+leads : {x y : Place} → IsSame (home x) (home y) → tight y ≡ tight x → is_last y ≡ false → over y ≡ allowed (slot_at x) → Placed y → RightMost y → Leads x y
+leads h t l c v w = record { same = h; tight = t; further = l; calm = c; placed = v; most = w }
+
+-- the places behind each place
+pub leads_on : (x : Place) → is_last x ≡ false → LeadsAll x (after (slot_at x) x)
+leads_on p.RootStart h = (leads refl refl refl refl tt tt, tt)
+leads_on p.RootEnd h = tt
+leads_on p.ParenInside h = (leads refl refl refl refl tt tt, tt)
+leads_on p.ParenEnd h = (leads refl refl refl refl tt tt, (leads refl refl refl refl tt tt, tt))
+leads_on p.ListInside h = (leads refl refl refl refl tt tt, (leads refl refl refl refl tt tt, tt))
+leads_on p.DynamicInside h = (leads refl refl refl refl tt tt, (leads refl refl refl refl tt tt, tt))
+leads_on p.InterpolInside h = (leads refl refl refl refl tt tt, tt)
+leads_on p.InterpolEnd h = (leads refl refl refl refl tt tt, (leads refl refl refl refl tt tt, tt))
+leads_on p.StringInside h = (leads refl refl refl refl tt tt, (leads refl refl refl refl tt tt, tt))
+leads_on p.StringEnd h = absurd (cc)
+leads_on p.PathFirst h = (leads tt refl refl refl tt tt, tt)
+leads_on p.PathMore h = (leads tt refl refl refl tt tt, tt)
+leads_on p.SetBrace h = (leads refl refl refl refl tt tt, (leads refl refl refl refl tt tt, tt))
+leads_on p.SetInside h = (leads refl refl refl refl tt tt, (leads refl refl refl refl tt tt, tt))
+leads_on p.LegacyInside h = (leads refl refl refl refl tt tt, (leads refl refl refl refl tt tt, tt))
+leads_on p.LetInside h = (leads refl refl refl refl tt tt, (leads refl refl refl refl tt tt, tt))
+leads_on p.LetBody h = (leads refl refl refl refl tt tt, tt)
+leads_on p.InheritStart h = (leads refl refl refl refl tt tt, (leads refl refl refl refl tt tt, (leads refl refl refl refl tt tt, (leads refl refl refl refl tt tt, tt))))
+leads_on p.InheritNames h = (leads refl refl refl refl tt tt, (leads refl refl refl refl tt tt, (leads refl refl refl refl tt tt, (leads refl refl refl refl tt tt, tt))))
+leads_on p.InheritName h = (leads refl refl refl refl tt tt, (leads refl refl refl refl tt tt, tt))
+leads_on p.InheritEnd h = (leads refl refl refl refl tt tt, (leads refl refl refl refl tt tt, tt))
+leads_on p.FromInside h = (leads refl refl refl refl tt tt, tt)
+leads_on p.FromEnd h = (leads refl refl refl refl tt tt, (leads refl refl refl refl tt tt, tt))
+leads_on p.ValuePath h = (leads refl refl refl refl tt tt, tt)
+leads_on p.ValueAssign h = (leads refl refl refl refl tt tt, (leads refl refl refl refl tt tt, tt))
+leads_on p.ValueInside h = (leads refl refl refl refl tt tt, tt)
+leads_on p.ValueEnd h = (leads refl refl refl refl tt tt, (leads refl refl refl refl tt tt, tt))
+leads_on p.AttrpathStart h = (leads refl refl refl refl tt tt, (leads refl refl refl refl tt tt, tt))
+leads_on p.AttrpathMore h = (leads refl refl refl refl tt tt, tt)
+leads_on p.WithScope h = (leads refl refl refl refl tt tt, tt)
+leads_on p.WithEnd h = (leads refl refl refl refl tt tt, (leads refl refl refl refl tt tt, tt))
+leads_on p.WithBody h = (leads refl refl refl refl tt tt, tt)
+leads_on p.AssertCondition h = (leads refl refl refl refl tt tt, tt)
+leads_on p.AssertEnd h = (leads refl refl refl refl tt tt, (leads refl refl refl refl tt tt, tt))
+leads_on p.AssertBody h = (leads refl refl refl refl tt tt, tt)
+leads_on p.IfCondition h = (leads refl refl refl refl tt tt, tt)
+leads_on p.IfThen h = (leads refl refl refl refl tt tt, (leads refl refl refl refl tt tt, tt))
+leads_on p.IfConsequence h = (leads refl refl refl refl tt tt, tt)
+leads_on p.IfElse h = (leads refl refl refl refl tt tt, (leads refl refl refl refl tt tt, tt))
+leads_on p.IfAlternative h = (leads refl refl refl refl tt tt, tt)
+leads_on p.LambdaColon h = (leads refl refl refl refl tt tt, (leads refl refl refl refl tt tt, tt))
+leads_on p.LambdaBody h = (leads refl refl refl refl tt tt, tt)
+leads_on p.PatternBrace h = (leads refl refl refl refl tt tt, (leads refl refl refl refl tt tt, tt))
+leads_on (p.PatternStart bound) h = (leads refl refl refl refl tt tt, (leads refl refl refl refl tt tt, (leads refl refl refl refl tt tt, (leads refl refl refl refl tt tt, tt))))
+leads_on (p.PatternInside bound) h = (leads refl refl refl refl tt tt, (leads refl refl refl refl tt tt, (leads refl refl refl refl tt tt, (leads refl refl refl refl tt tt, tt))))
+leads_on (p.PatternAfter bound) h = (leads refl refl refl refl tt tt, (leads refl refl refl refl tt tt, (leads refl refl refl refl tt tt, tt)))
+leads_on (p.PatternClose bound) h = (leads refl refl refl refl tt tt, (leads refl refl refl refl tt tt, tt))
+leads_on (p.PatternEnd bound) h = (leads refl refl refl refl tt tt, tt)
+leads_on p.PatternPast h = tt
+leads_on p.EntryMore h = (leads refl refl refl refl tt tt, tt)
+leads_on p.EntryDefault h = (leads refl refl refl refl tt tt, tt)
+leads_on p.EntryPast h = tt
+leads_on p.BindName h = (leads refl refl refl refl tt tt, (leads refl refl refl refl tt tt, tt))
+leads_on p.TwiceName h = (leads refl refl refl refl tt tt, (leads refl refl refl refl tt tt, tt))
+leads_on p.TwicePast h = tt
+leads_on p.SelectPath h = (leads refl refl refl refl tt tt, tt)
+leads_on p.SelectOr h = (leads refl refl refl refl tt tt, tt)
+leads_on p.SelectDefault h = (leads refl refl refl refl tt tt, tt)
+leads_on p.HasPath h = (leads refl refl refl refl tt tt, tt)
+leads_on p.Negated h = (leads refl refl refl refl tt tt, tt)
+leads_on p.Inverted h = (leads refl refl refl refl tt tt, tt)
+leads_on (p.Right level) h = (leads refl refl refl refl tt tt, tt)
+leads_on (p.Operated level) h = tt
+leads_on p.Past h = tt
+leads_on (p.Behind low high) h = tt
+
+-- a run's list is wanted in a node
+abbrev pub Wants : Option (Until × Place) → Option SyntaxKind → Type 0
+Wants None h = Unit {0}
+Wants (Some u) None = ⊥
+Wants (Some u) (Some k) = is_wanted_in u.0 k ≡ true
+
+wants : (x : Place) → is_last x ≡ false → Wants (run_at x) (home x)
+wants p.ParenEnd l = refl
+wants p.InterpolEnd l = refl
+wants p.StringInside l = refl
+wants p.StringEnd l = absurd (cc)
+wants p.SetBrace l = refl
+wants p.InheritStart l = refl
+wants p.InheritNames l = refl
+wants p.InheritName l = refl
+wants p.InheritEnd l = refl
+wants p.FromEnd l = refl
+wants p.ValueAssign l = refl
+wants p.ValueEnd l = refl
+wants p.AttrpathStart l = refl
+wants p.WithEnd l = refl
+wants p.AssertEnd l = refl
+wants p.IfThen l = refl
+wants p.IfElse l = refl
+wants p.LambdaColon l = refl
+wants p.PatternBrace l = refl
+wants (p.PatternStart bound) l = refl
+wants (p.PatternInside bound) l = refl
+wants (p.PatternAfter bound) l = refl
+wants (p.PatternClose bound) l = refl
+wants p.BindName l = refl
+wants p.TwiceName l = refl
+wants _ l = tt
+
+wants_in : (r : Option (Until × Place)) (h : Option SyntaxKind) (until : Until) (y : Place) (k : SyntaxKind) → Wants r h → r ≡ Some (until, y) → IsIn h k → is_wanted_in until k ≡ true
+wants_in r None until y k w e i = absurd (subst (λ (z : Option (Until × Place)). Wants z None) e w)
+wants_in r (Some j) until y k w e i = subst (λ (z : SyntaxKind). is_wanted_in until z ≡ true) i (subst (λ (z : Option (Until × Place)). Wants z (Some j)) e w)
+
+-- what a run may stand before, in the node that its place is in
+pub wanted_here : (x : Place) (until : Until) (y : Place) (k : SyntaxKind) → is_last x ≡ false → run_at x ≡ Some (until, y) → IsIn (home x) k → is_wanted_in until k ≡ true
+wanted_here x until y k l h i = wants_in (run_at x) (home x) until y k (wants x l) h i
+
+-- where the text ends, a row goes on in the same node
+abbrev pub LackLeads : Place → Option (Fault × Place) → Type 0
+LackLeads x None = Unit {0}
+LackLeads x (Some l) = IsSame (home x) (home l.1) × (tight l.1 ≡ tight x) × Placed l.1 × RightMost l.1
+
+lack_leads : (x : Place) → LackLeads x (lack x)
+lack_leads p.RootStart = (refl, refl, tt, tt)
+lack_leads p.ParenInside = (refl, refl, tt, tt)
+lack_leads p.ParenEnd = (refl, refl, tt, tt)
+lack_leads p.ListInside = (refl, refl, tt, tt)
+lack_leads p.DynamicInside = (refl, refl, tt, tt)
+lack_leads p.InterpolInside = (refl, refl, tt, tt)
+lack_leads p.InterpolEnd = (refl, refl, tt, tt)
+lack_leads p.StringInside = (refl, refl, tt, tt)
+lack_leads p.StringEnd = (refl, refl, tt, tt)
+lack_leads p.SetBrace = (refl, refl, tt, tt)
+lack_leads p.SetInside = (refl, refl, tt, tt)
+lack_leads p.LegacyInside = (refl, refl, tt, tt)
+lack_leads p.LetInside = (refl, refl, tt, tt)
+lack_leads p.LetBody = (refl, refl, tt, tt)
+lack_leads p.InheritStart = (refl, refl, tt, tt)
+lack_leads p.InheritNames = (refl, refl, tt, tt)
+lack_leads p.InheritName = (refl, refl, tt, tt)
+lack_leads p.InheritEnd = (refl, refl, tt, tt)
+lack_leads p.FromInside = (refl, refl, tt, tt)
+lack_leads p.FromEnd = (refl, refl, tt, tt)
+lack_leads p.ValueAssign = (refl, refl, tt, tt)
+lack_leads p.ValueInside = (refl, refl, tt, tt)
+lack_leads p.ValueEnd = (refl, refl, tt, tt)
+lack_leads p.AttrpathStart = (refl, refl, tt, tt)
+lack_leads p.WithScope = (refl, refl, tt, tt)
+lack_leads p.WithEnd = (refl, refl, tt, tt)
+lack_leads p.WithBody = (refl, refl, tt, tt)
+lack_leads p.AssertCondition = (refl, refl, tt, tt)
+lack_leads p.AssertEnd = (refl, refl, tt, tt)
+lack_leads p.AssertBody = (refl, refl, tt, tt)
+lack_leads p.IfCondition = (refl, refl, tt, tt)
+lack_leads p.IfThen = (refl, refl, tt, tt)
+lack_leads p.IfConsequence = (refl, refl, tt, tt)
+lack_leads p.IfElse = (refl, refl, tt, tt)
+lack_leads p.IfAlternative = (refl, refl, tt, tt)
+lack_leads p.LambdaColon = (refl, refl, tt, tt)
+lack_leads p.LambdaBody = (refl, refl, tt, tt)
+lack_leads p.PatternBrace = (refl, refl, tt, tt)
+lack_leads (p.PatternStart bound) = (refl, refl, tt, tt)
+lack_leads (p.PatternInside bound) = (refl, refl, tt, tt)
+lack_leads (p.PatternAfter bound) = (refl, refl, tt, tt)
+lack_leads (p.PatternClose bound) = (refl, refl, tt, tt)
+lack_leads p.EntryDefault = (refl, refl, tt, tt)
+lack_leads p.BindName = (refl, refl, tt, tt)
+lack_leads p.TwiceName = (refl, refl, tt, tt)
+lack_leads p.SelectDefault = (refl, refl, tt, tt)
+lack_leads p.Negated = (refl, refl, tt, tt)
+lack_leads p.Inverted = (refl, refl, tt, tt)
+lack_leads (p.Right level) = (refl, refl, tt, tt)
+lack_leads _ = tt
+
+pub lack_leads_on : (x y : Place) (e : Fault) → lack x ≡ Some (e, y) → IsSame (home x) (home y) × (tight y ≡ tight x) × Placed y × RightMost y
+lack_leads_on x y e h = subst (λ (z : Option (Fault × Place)). LackLeads x z) h (lack_leads x)

@@ -1,0 +1,32 @@
+-- Runs of items that are not wanted.
+use Rattle.std.proofs.Common.{◌≡◌, Bool, true, false, List, [], ◌∷◌, ◌++◌, refl, ap}
+use Rattle.std.specs.Prelude.{if◌then◌else◌}
+use Rattle.rnix_grammar.specs.declared.until.Until.{Until}
+use Rattle.rnix_grammar.specs.Tables.{is_wanted, stops}
+use Rattle.rnix_grammar.specs.Sketch.{Token, head_kind}
+use Rattle.rnix_grammar.specs.Machine.{run_of, dropped}
+use Rattle.rnix_grammar.specs.Stands.{AreUnwanted}
+
+-- what a run and the items behind it are
+pub record Parted (until : Until) (ts run : List Token) : Type 0 where
+  pub all : ts ≡ run ++ dropped run ts
+  pub unwanted : AreUnwanted until run
+  pub stops : stops until (head_kind (dropped run ts)) ≡ true
+
+parted_by : (until : Until) (t : Token) (ts : List Token) (w : Bool) → is_wanted until t.kind ≡ w → Parted until ts (run_of until ts)
+    → Parted until (t ∷ ts) (if w then [] else t ∷ run_of until ts)
+parted_by until t ts true e r = record { all = refl; unwanted = tt; stops = e }
+parted_by until t ts false e r = record { all = ap (λ x. t ∷ x) r.all; unwanted = (e, r.unwanted); stops = r.stops }
+
+pub parted : (until : Until) (ts : List Token) → Parted until ts (run_of until ts)
+parted until [] = record { all = refl; unwanted = tt; stops = refl }
+parted until (t ∷ ts) = parted_by until t ts (is_wanted until t.kind) refl (parted until ts)
+
+-- a run that begins with an item that is not wanted
+pub run_begins : (until : Until) (t : Token) (ts : List Token) → is_wanted until t.kind ≡ false → run_of until (t ∷ ts) ≡ t ∷ run_of until ts
+run_begins until t ts e = ap (λ w. if w then [] else t ∷ run_of until ts) e
+
+-- nothing is left behind all
+pub dropped_all : (ts : List Token) → dropped ts ts ≡ []
+dropped_all [] = refl
+dropped_all (t ∷ ts) = dropped_all ts

@@ -1,0 +1,239 @@
+-- Reading as steps: what is open, and what each step makes of it. With trivia, the trivia before a token or a node stay where they are met;
+-- without, only items are read.
+use Rattle.std.specs.Prelude.{ℕ, suc, Bool, true, false, List, [], ◌∷◌, ◌++◌, Option, if◌then◌else◌, nat_le, nat_eq}
+use Rattle.rnix_kinds.specs.declared.kinds.SyntaxKind.{SyntaxKind}
+use Rattle.rnix_kinds.specs.declared.kinds.SyntaxKind.TheVariants.{NODE_ERROR, NODE_IDENT, NODE_PAT_ENTRY, NODE_LAMBDA, NODE_IDENT_PARAM, NODE_PATTERN, NODE_PAT_BIND, NODE_LEGACY_LET, NODE_APPLY, NODE_ROOT}
+use Rattle.rnix_grammar.specs.declared.place.Place.{Place}
+use Rattle.rnix_grammar.specs.declared.place.Place.TheVariants as p
+use Rattle.rnix_grammar.specs.declared.until.Until.{Until}
+use Rattle.rnix_grammar.specs.declared.action.Action.{Action}
+use Rattle.rnix_grammar.specs.declared.action.Action.TheVariants as a
+use Rattle.rnix_grammar.specs.declared.begin.Begin.{Begin}
+use Rattle.rnix_grammar.specs.declared.begin.Begin.TheVariants as b
+use Rattle.rnix_grammar.specs.Fault.{Fault, ended, ended_before, too_deep}
+use Rattle.rnix_grammar.specs.Tables.{is_wanted, wanted_kinds, depth_limit}
+use Rattle.rnix_grammar.specs.Actions.{action_at}
+use Rattle.rnix_grammar.specs.Begins.{begin_of}
+use Rattle.rnix_grammar.specs.Sketch.{Token, Stray, Unwanted, Extra, Twice, TooDeep, Sketch, blank, ◌⊕◌, one_token, one_branch, one_fault, row_of, tokens_in, clean, told, end_from, head_kind}
+use Rattle.rnix_grammar.specs.Layout.{items, from_item, tail_of, trivia_before, dressed, left_after}
+use Rattle.rnix_grammar.specs.Reports.{report, repeated}
+
+-- what is open: a node, the error node of a second name, an operand that may become part of a node
+pub data Head : Type 0 where
+  Node : SyntaxKind → Head
+  Second : Head
+  Operand : Head
+
+-- with how far it is read, inside how many counted places, and the trees that it has so far
+pub record Frame : Type 0 where
+  pub head : Head
+  pub place : Place
+  pub depth : ℕ
+  pub row : Sketch
+
+-- the frames, the innermost first; the tokens that are left; where the last item ended; the errors so far
+pub record Machine : Type 0 where
+  pub frames : List Frame
+  pub left : List Token
+  pub reached : ℕ
+  pub faults : List Fault
+
+-- a frame at another place, with another row
+abbrev pub put : Place → Sketch → Frame → Frame
+put place row f = record { head = f.head; place = place; depth = f.depth; row = row }
+
+-- an open node or operand
+abbrev pub opened : Head → Place → ℕ → Sketch → Frame
+opened head place depth row = record { head = head; place = place; depth = depth; row = row }
+
+-- the items that are left; the tokens from the next item on; a row with the trivia before it
+abbrev pub seen : Bool → List Token → List Token
+seen true ts = items ts
+seen false ts = ts
+
+abbrev pub past : Bool → List Token → List Token
+past true ts = from_item ts
+past false ts = ts
+
+abbrev pub ate : Bool → Sketch → List Token → Sketch
+ate true f ts = f ⊕ trivia_before ts
+ate false f ts = f
+
+-- the tokens behind the next item, and where it ends
+abbrev pub behind : Bool → List Token → List Token
+behind raw ts = tail_of (past raw ts)
+
+abbrev pub end_of : ℕ → List Token → ℕ
+end_of n [] = n
+end_of n (t ∷ ts) = t.end
+
+abbrev pub reach : Bool → ℕ → List Token → ℕ
+reach raw n ts = end_of n (past raw ts)
+
+-- the next item as a leaf below a node
+abbrev pub leaf_in : SyntaxKind → List Token → Sketch
+leaf_in parent [] = blank
+leaf_in parent (t ∷ ts) = one_token (told parent t) t
+
+abbrev pub leaf : Bool → SyntaxKind → List Token → Sketch
+leaf raw parent ts = leaf_in parent (past raw ts)
+
+-- the items of a run
+abbrev pub run_of : Until → List Token → List Token
+run_of until [] = []
+run_of until (t ∷ ts) = if is_wanted until t.kind then [] else t ∷ run_of until ts
+
+-- the run as leaves, and what is left behind it
+abbrev pub run_row : Bool → List Token → List Token → Sketch
+run_row true run ts = dressed (row_of run) (from_item ts)
+run_row false run ts = row_of run
+
+abbrev pub dropped : List Token → List Token → List Token
+dropped [] ts = ts
+dropped (x ∷ xs) ts = dropped xs (tail_of ts)
+
+abbrev pub run_rest : Bool → List Token → List Token → List Token
+run_rest true run ts = left_after (row_of run) (from_item ts)
+run_rest false run ts = dropped run ts
+
+-- the kind of a frame's node
+abbrev pub kind_of : Head → SyntaxKind
+kind_of (Node k) = k
+kind_of Second = NODE_ERROR
+kind_of Operand = NODE_ROOT
+
+-- what a frame's row becomes as it is complete
+abbrev pub made : Head → Sketch → Sketch
+made (Node k) row = one_branch k row
+made Second row = one_fault Twice row
+made Operand row = row
+
+-- the loosest level with which an operand goes on
+abbrev pub low_of : Place → ℕ
+low_of (p.Behind low high) = low
+low_of place = 0
+
+abbrev pub machine : List Frame → List Token → ℕ → List Fault → Machine
+machine fs ts n es = record { frames = fs; left = ts; reached = n; faults = es }
+
+-- a frame is complete and goes to the one below
+abbrev pub closed : Frame → List Frame → List Token → ℕ → List Fault → Machine
+closed f [] ts n es = machine (f ∷ []) ts n es
+closed f (g ∷ fs) ts n es = machine (put g.place (g.row ⊕ made f.head f.row) g ∷ fs) ts n es
+
+-- a row without trivia
+abbrev pub cleaned : Bool → Sketch → Sketch
+cleaned true f = clean f
+cleaned false f = f
+
+-- an entry of a pattern is complete
+abbrev pub entry_closed : Bool → Frame → List Frame → List Token → ℕ → List Fault → Machine
+entry_closed raw f [] ts n es = machine (f ∷ []) ts n es
+entry_closed raw f (g ∷ fs) ts n es = closed f (g ∷ fs) ts n (es ++ repeated (cleaned raw g.row) (cleaned raw f.row))
+
+-- a node is opened with a row
+abbrev pub open_on : Bool → Head → Place → Sketch → Place → Frame → List Frame → List Token → List Frame
+open_on raw head inside row after f fs ts = opened head inside f.depth row ∷ (put after (ate raw f.row ts) f ∷ fs)
+
+-- all that is left is nested too deep
+abbrev pub limited : Bool → Frame → List Frame → List Token → ℕ → List Fault → Machine
+limited raw f fs ts n es =
+    machine (put f.place (ate raw (ate raw f.row ts ⊕ one_fault TooDeep (run_row raw (seen raw ts) ts)) (run_rest raw (seen raw ts) ts)) f ∷ fs)
+    (past raw (run_rest raw (seen raw ts) ts)) (end_from n (seen raw ts)) (es ++ too_deep ∷ [])
+
+-- the kinds of the second item and the third
+abbrev pub second_kind : List Token → Option SyntaxKind
+second_kind ts = head_kind (tail_of ts)
+
+abbrev pub third_kind : List Token → Option SyntaxKind
+third_kind ts = head_kind (tail_of (tail_of ts))
+
+-- an operand begins with the next item, inside so many counted places: f waits below
+abbrev pub begun : Bool → Begin → ℕ → ℕ → Token → Frame → List Frame → List Token → ℕ → List Fault → Machine
+begun raw (b.Leaf k) level d t f fs ts n es =
+    machine (opened Operand (p.Behind level 16) d (one_branch k (leaf raw k ts)) ∷ (put f.place (ate raw f.row ts) f ∷ fs)) (behind raw ts) (reach raw n ts) es
+begun raw (b.Node k place high) level d t f fs ts n es =
+    machine (opened (Node k) place d (leaf raw k ts) ∷ (opened Operand (p.Behind level high) d blank ∷ (put f.place (ate raw f.row ts) f ∷ fs)))
+    (behind raw ts) (reach raw n ts) es
+begun raw b.LegacyLet level d t f fs ts n es =
+    machine (opened (Node NODE_LEGACY_LET) p.LegacyInside d (ate raw (leaf raw NODE_LEGACY_LET ts) (behind raw ts) ⊕ leaf raw NODE_LEGACY_LET (behind raw ts))
+    ∷ (opened Operand (p.Behind level 0) d blank ∷ (put f.place (ate raw f.row ts) f ∷ fs)))
+    (behind raw (behind raw ts)) (reach raw (reach raw n ts) (behind raw ts)) es
+begun raw b.NameLambda level d t f fs ts n es =
+    machine (opened (Node NODE_LAMBDA) p.LambdaColon d (one_branch NODE_IDENT_PARAM (one_branch NODE_IDENT (leaf raw NODE_IDENT ts)))
+    ∷ (opened Operand (p.Behind level 16) d blank ∷ (put f.place (ate raw f.row ts) f ∷ fs))) (behind raw ts) (reach raw n ts) es
+begun raw b.BoundLambda level d t f fs ts n es =
+    machine (opened (Node NODE_PATTERN) p.PatternBrace d
+    (one_branch NODE_PAT_BIND (ate raw (one_branch NODE_IDENT (leaf raw NODE_IDENT ts)) (behind raw ts) ⊕ leaf raw NODE_PAT_BIND (behind raw ts)))
+    ∷ (opened (Node NODE_LAMBDA) p.LambdaColon d blank ∷ (opened Operand (p.Behind level 16) d blank ∷ (put f.place (ate raw f.row ts) f ∷ fs))))
+    (behind raw (behind raw ts)) (reach raw (reach raw n ts) (behind raw ts)) es
+begun raw b.PatternLambda level d t f fs ts n es =
+    machine (opened (Node NODE_PATTERN) (p.PatternStart false) d (leaf raw NODE_PATTERN ts)
+    ∷ (opened (Node NODE_LAMBDA) p.LambdaColon d blank ∷ (opened Operand (p.Behind level 16) d blank ∷ (put f.place (ate raw f.row ts) f ∷ fs))))
+    (behind raw ts) (reach raw n ts) es
+begun raw b.Stray level d t f fs ts n es =
+    machine (opened Operand (p.Behind level 16) d (one_fault Stray (leaf raw NODE_ERROR ts)) ∷ (put f.place (ate raw f.row ts) f ∷ fs))
+    (behind raw ts) (reach raw n ts) (es ++ report Stray (t ∷ []) ∷ [])
+
+-- an operand of a level, where f goes on behind it
+abbrev pub operand_on : Bool → ℕ → ℕ → Frame → List Frame → List Token → List Token → ℕ → List Fault → Machine
+operand_on raw level d f fs ts [] n es = machine (f ∷ fs) ts n (es ++ ended ∷ [])
+operand_on raw level d f fs ts (t ∷ us) n es = begun raw (begin_of level t.kind t.text (head_kind us) (second_kind us)) level d t f fs ts n es
+
+abbrev pub reading : Bool → ℕ → Bool → Frame → List Frame → List Token → ℕ → List Fault → Machine
+reading raw level true f fs ts n es = if nat_le depth_limit f.depth then limited raw f fs ts n es else operand_on raw level (suc f.depth) f fs ts (seen raw ts) n es
+reading raw level false f fs ts n es = operand_on raw level f.depth f fs ts (seen raw ts) n es
+
+-- a step at the innermost frame
+abbrev pub perform : Bool → Action → Frame → List Frame → List Token → ℕ → List Fault → Machine
+perform raw a.Close f fs ts n es = closed f fs ts n es
+perform raw a.ClosePattern f fs ts n es = closed f fs ts n es
+perform raw a.CloseEntry f fs ts n es = entry_closed raw f fs ts n es
+perform raw a.CloseTwice f fs ts n es = closed f fs ts n (es ++ report Twice (tokens_in (cleaned raw f.row)) ∷ [])
+perform raw a.Finish f fs ts n es = machine (f ∷ fs) ts n es
+perform raw a.Settle f fs ts n es = closed f fs ts n es
+perform raw a.Extra f fs ts n es =
+    machine (put f.place (ate raw f.row ts ⊕ one_fault Extra (run_row raw (seen raw ts) ts)) f ∷ fs) (run_rest raw (seen raw ts) ts) (end_from n (seen raw ts))
+    (es ++ report Extra (seen raw ts) ∷ [])
+perform raw (a.Take after) f fs ts n es = machine (put after (ate raw f.row ts ⊕ leaf raw (kind_of f.head) ts) f ∷ fs) (behind raw ts) (reach raw n ts) es
+perform raw (a.Miss after) f fs ts n es = machine (put after f.row f ∷ fs) ts n (es ++ ended ∷ [])
+perform raw (a.MissWanted until after) f fs ts n es = machine (put after f.row f ∷ fs) ts n (es ++ ended_before (wanted_kinds until) ∷ [])
+perform raw (a.Run until after) f fs ts n es =
+    machine (put after (ate raw f.row ts ⊕ one_fault (Unwanted until) (run_row raw (run_of until (seen raw ts)) ts)) f ∷ fs)
+    (run_rest raw (run_of until (seen raw ts)) ts) (end_from n (run_of until (seen raw ts))) (es ++ report (Unwanted until) (run_of until (seen raw ts)) ∷ [])
+perform raw (a.Leaf k after) f fs ts n es = machine (put after (ate raw f.row ts ⊕ one_branch k (leaf raw k ts)) f ∷ fs) (behind raw ts) (reach raw n ts) es
+perform raw (a.Open k inside after) f fs ts n es = machine (open_on raw (Node k) inside (leaf raw k ts) after f fs ts) (behind raw ts) (reach raw n ts) es
+perform raw (a.Begin k inside after) f fs ts n es = machine (open_on raw (Node k) inside blank after f fs ts) (past raw ts) n es
+perform raw (a.Entry after) f fs ts n es =
+    machine (open_on raw (Node NODE_PAT_ENTRY) p.EntryMore (one_branch NODE_IDENT (leaf raw NODE_IDENT ts)) after f fs ts) (behind raw ts) (reach raw n ts) es
+perform raw (a.Twice after) f fs ts n es = machine (open_on raw Second p.TwiceName (leaf raw NODE_ERROR ts) after f fs ts) (behind raw ts) (reach raw n ts) es
+perform raw (a.Read level counted after) f fs ts n es = reading raw level counted (put after f.row f) fs ts n es
+perform raw (a.Wrap k inside high) f fs ts n es =
+    machine (opened (Node k) inside f.depth (ate raw f.row ts ⊕ leaf raw k ts) ∷ (opened Operand (p.Behind (low_of f.place) high) f.depth blank ∷ fs))
+    (behind raw ts) (reach raw n ts) es
+perform raw a.Apply f fs ts n es =
+    reading raw 16 false (opened (Node NODE_APPLY) p.Past f.depth f.row) (opened Operand (p.Behind (low_of f.place) 15) f.depth blank ∷ fs) ts n es
+perform raw a.ApplyOr f fs ts n es =
+    machine (opened Operand (p.Behind (low_of f.place) 15) f.depth (one_branch NODE_APPLY (ate raw f.row ts ⊕ one_branch NODE_IDENT (leaf raw NODE_IDENT ts))) ∷ fs)
+    (behind raw ts) (reach raw n ts) es
+
+-- the next item touches what was read last
+abbrev pub touches : ℕ → List Token → Bool
+touches n [] = false
+touches n (t ∷ ts) = nat_eq t.start n
+
+abbrev pub step_on : Bool → List Frame → List Token → ℕ → List Fault → Machine
+step_on raw [] ts n es = machine [] ts n es
+step_on raw (f ∷ fs) ts n es = perform raw (action_at f.place (head_kind (seen raw ts)) (touches n (seen raw ts))) f fs ts n es
+
+abbrev pub step : Bool → Machine → Machine
+step raw m = step_on raw m.frames m.left m.reached m.faults
+
+-- the text is about to be read
+abbrev pub begins : List Token → Machine
+begins ts = machine (opened (Node NODE_ROOT) p.RootStart 0 blank ∷ []) ts 0 []
+
+-- some steps
+pub data Runs (raw : Bool) : Machine → Machine → Type 0 where
+  rest : {m : Machine} → Runs raw m m
+  then : {m n : Machine} → Runs raw (step raw m) n → Runs raw m n

@@ -1,0 +1,52 @@
+-- The errors that error nodes are reported by.
+use Rattle.std.specs.Prelude.{Bool, true, false, List, [], ◌∷◌, Option, Some, None, if◌then◌else◌}
+use Rattle.std.specs.Str.{bytes_eq}
+use Rattle.std.specs.Prelude.{ℕ}
+use Rattle.rnix_kinds.specs.declared.kinds.SyntaxKind.{SyntaxKind}
+use Rattle.rnix_kinds.specs.declared.kinds.SyntaxKind.TheVariants.{NODE_ERROR, NODE_IDENT, NODE_PAT_ENTRY}
+use Rattle.rnix_grammar.specs.Fault.{Fault, extra, unwanted, bound_twice, named_twice, too_deep}
+use Rattle.rnix_grammar.specs.Tables.{wanted_kinds, operand_kinds}
+use Rattle.rnix_grammar.specs.Sketch.{Token, Note, Stray, Unwanted, Extra, Twice, TooDeep, Sketch, blank, token, branch, fault, extent_of}
+
+-- the kind of the first token
+abbrev pub first_kind : List Token → SyntaxKind
+first_kind [] = NODE_ERROR
+first_kind (t ∷ ts) = t.kind
+
+-- the error that an error node over these tokens is reported by
+abbrev pub report : Note → List Token → Fault
+report Stray ts = unwanted (first_kind ts) (extent_of ts) operand_kinds
+report (Unwanted until) ts = unwanted (first_kind ts) (extent_of ts) (wanted_kinds until)
+report Extra ts = extra (extent_of ts)
+report Twice ts = bound_twice (extent_of ts)
+report TooDeep ts = too_deep
+
+-- the token of a node of one token
+abbrev pub only_token : Sketch → Option Token
+only_token (token k t f) = Some t
+only_token f = None
+
+-- the name that an entry of a pattern begins with
+abbrev pub entry_name : Sketch → Option Token
+entry_name (branch NODE_IDENT c f) = only_token c
+entry_name f = None
+
+abbrev pub is_same_name : List ℕ → Option Token → Bool
+is_same_name name None = false
+is_same_name name (Some t) = bytes_eq name t.text
+
+-- an entry of the name stands in a row
+abbrev pub has_entry : List ℕ → Sketch → Bool
+has_entry name blank = false
+has_entry name (token k t f) = has_entry name f
+has_entry name (branch NODE_PAT_ENTRY c f) = if is_same_name name (entry_name c) then true else has_entry name f
+has_entry name (branch k c f) = has_entry name f
+has_entry name (fault n c f) = has_entry name f
+
+-- an entry with this name behind these siblings is reported, if it repeats one of theirs
+abbrev pub repeated_if : Option Token → Sketch → List Fault
+repeated_if None before = []
+repeated_if (Some t) before = if has_entry t.text before then named_twice (extent_of (t ∷ [])) t.text ∷ [] else []
+
+abbrev pub repeated : Sketch → Sketch → List Fault
+repeated before entry = repeated_if (entry_name entry) before

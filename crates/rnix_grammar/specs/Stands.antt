@@ -1,0 +1,247 @@
+-- What stands in a row with its errors: the errors of a tree are those of its rows, in order.
+use Rattle.std.specs.Prelude.{◌≡◌, ℕ, suc, ◌+◌, ◌<◌, ◌≤◌, Bool, true, false, ◌||◌, List, [], ◌∷◌, ◌++◌, Option, Some, None, length, if◌then◌else◌}
+use Rattle.rnix_kinds.specs.declared.kinds.SyntaxKind.{SyntaxKind}
+use Rattle.rnix_kinds.specs.declared.kinds.SyntaxKind.TheVariants.{TOKEN_QUESTION, TOKEN_DOT, TOKEN_EQUAL, TOKEN_NOT_EQUAL, TOKEN_LESS, TOKEN_LESS_OR_EQ, TOKEN_MORE, TOKEN_MORE_OR_EQ, TOKEN_OR, TOKEN_INVERT, NODE_IDENT, NODE_BIN_OP, NODE_HAS_ATTR, NODE_UNARY_OP, NODE_APPLY, NODE_LEGACY_LET, NODE_LET_IN, NODE_ROOT, NODE_ERROR, NODE_LITERAL, NODE_ATTRPATH, NODE_PATTERN, NODE_PAT_ENTRY, NODE_INHERIT, NODE_INTERPOL, NODE_ATTR_SET, NODE_ATTRPATH_VALUE, NODE_WITH, NODE_ASSERT, NODE_INHERIT_FROM, NODE_PAREN, NODE_LAMBDA, NODE_IF_ELSE, NODE_PAT_BIND, NODE_STRING}
+use Rattle.rnix_kinds.specs.SyntaxKind.{is_fn_arg}
+use Rattle.rnix_grammar.specs.declared.place.Place.{Place}
+use Rattle.rnix_grammar.specs.declared.place.Place.TheVariants.{RootEnd, PatternEnd, PatternPast}
+use Rattle.rnix_grammar.specs.declared.until.Until.{Until}
+use Rattle.rnix_grammar.specs.declared.until.Until.TheVariants as u
+use Rattle.rnix_grammar.specs.Fault.{Fault}
+use Rattle.rnix_grammar.specs.declared.slot.Slot.{Slot}
+use Rattle.rnix_grammar.specs.declared.slot.Slot.TheVariants.{Operand, Series}
+use Rattle.rnix_grammar.specs.Slots.{slot_at}
+use Rattle.rnix_grammar.specs.Levels.{power, left_of}
+use Rattle.rnix_grammar.specs.Tables.{stops, closes, depth_limit}
+use Rattle.rnix_grammar.specs.Sketch.{Token, Note, Stray, Unwanted, Extra, Twice, TooDeep, Sketch, blank, token, branch, fault, ◌⊕◌, one_token, one_branch, one_fault, row_of, tokens_in, told, head_kind}
+use Rattle.rnix_grammar.specs.Reports.{report, repeated}
+use Rattle.rnix_grammar.specs.Rows.{is_atom, is_simple, is_operand, is_infix, Spot, BeforeOperator, BeforeQuestion, BeforeArgument, At, SecondStart, go, live, whole, start, lack, run_at}
+
+abbrev pub is_question : SyntaxKind → Bool
+is_question TOKEN_QUESTION = true
+is_question kind = false
+
+abbrev pub is_or : SyntaxKind → Bool
+is_or TOKEN_OR = true
+is_or kind = false
+
+abbrev pub is_dot : SyntaxKind → Bool
+is_dot TOKEN_DOT = true
+is_dot kind = false
+
+-- operators that do not group
+abbrev pub is_comparison : SyntaxKind → Bool
+is_comparison TOKEN_EQUAL = true
+is_comparison TOKEN_NOT_EQUAL = true
+is_comparison TOKEN_LESS = true
+is_comparison TOKEN_LESS_OR_EQ = true
+is_comparison TOKEN_MORE = true
+is_comparison TOKEN_MORE_OR_EQ = true
+is_comparison kind = false
+
+abbrev pub is_attrpath : SyntaxKind → Bool
+is_attrpath NODE_ATTRPATH = true
+is_attrpath kind = false
+
+-- an item of the first kind goes on with the tree of the second kind before it
+abbrev pub continues_kind : SyntaxKind → SyntaxKind → Bool
+continues_kind k b =
+    if is_simple b then is_fn_arg k || (is_question k || is_infix k)
+    else (if is_operand b then is_question k || (if is_comparison k then false else is_infix k) else (if is_attrpath b then is_dot k else false))
+
+abbrev pub continues : SyntaxKind → Option SyntaxKind → Bool
+continues k None = false
+continues k (Some b) = continues_kind k b
+
+-- an error node in an operand's place counts as a literal
+abbrev pub seen_as : Note → SyntaxKind
+seen_as Stray = NODE_LITERAL
+seen_as TooDeep = NODE_LITERAL
+seen_as n = NODE_ERROR
+
+-- the kind of the last tree of a row that goes on behind another
+abbrev pub last_from : Option SyntaxKind → Sketch → Option SyntaxKind
+last_from b blank = b
+last_from b (token k t f) = last_from (Some k) f
+last_from b (branch k c f) = last_from (Some k) f
+last_from b (fault n c f) = last_from (Some (seen_as n)) f
+
+abbrev pub last_kind : Sketch → Option SyntaxKind
+last_kind f = last_from None f
+
+-- a token of the kind closes the row where more operands may stand
+abbrev pub closing_in : Slot → SyntaxKind → Bool
+closing_in (Series level closer) kind = closes closer kind
+closing_in slot kind = false
+
+abbrev pub closing : Spot → SyntaxKind → Bool
+closing (At place) kind = closing_in (slot_at place) kind
+closing spot kind = false
+
+-- which lists are wanted below which nodes
+abbrev pub is_wanted_in : Until → SyntaxKind → Bool
+is_wanted_in u.InterpolEnd NODE_INTERPOL = true
+is_wanted_in u.RBrace NODE_PATTERN = true
+is_wanted_in u.LBrace NODE_ATTR_SET = true
+is_wanted_in u.LBrace NODE_PATTERN = true
+is_wanted_in u.Semicolon NODE_INHERIT = true
+is_wanted_in u.Semicolon NODE_ATTRPATH_VALUE = true
+is_wanted_in u.Semicolon NODE_WITH = true
+is_wanted_in u.Semicolon NODE_ASSERT = true
+is_wanted_in u.RParen NODE_INHERIT_FROM = true
+is_wanted_in u.RParen NODE_PAREN = true
+is_wanted_in u.Assign NODE_ATTRPATH_VALUE = true
+is_wanted_in u.Colon NODE_LAMBDA = true
+is_wanted_in u.Then NODE_IF_ELSE = true
+is_wanted_in u.Else NODE_IF_ELSE = true
+is_wanted_in u.Ident NODE_PAT_BIND = true
+is_wanted_in u.Ident NODE_ERROR = true
+is_wanted_in u.Piece NODE_STRING = true
+is_wanted_in u.Attr NODE_ATTRPATH = true
+is_wanted_in u.Attr NODE_INHERIT = true
+is_wanted_in u.Entry NODE_PATTERN = true
+is_wanted_in until parent = false
+
+abbrev pub is_inherit : SyntaxKind → Bool
+is_inherit NODE_INHERIT = true
+is_inherit kind = false
+
+-- none of the tokens stops the run
+abbrev pub AreUnwanted : Until → List Token → Type 0
+AreUnwanted until [] = Unit {0}
+AreUnwanted until (t ∷ ts) = (stops until (Some t.kind) ≡ false) × AreUnwanted until ts
+
+-- What holds beside an error node over some tokens: where its row was and where it goes on, its parent, how many nodes it is inside of, the
+-- trees before it, how many items come before it, its tokens, and the items after it.
+abbrev pub IsBeside : Note → SyntaxKind → ℕ → Spot → Spot → Sketch → ℕ → List Token → List Token → Type 0
+IsBeside Stray parent depth q r before count [] after = ⊥
+IsBeside Stray parent depth q r before count (t ∷ ts) after = (ts ≡ []) × (is_fn_arg t.kind ≡ false) × (closing q t.kind ≡ false) × (go q NODE_LITERAL ≡ r) × (live r ≡ true)
+IsBeside (Unwanted until) parent depth q r before count [] after = ⊥
+IsBeside (Unwanted until) parent depth q r before count (t ∷ ts) after =
+    AreUnwanted until (t ∷ ts) × (stops until (head_kind after) ≡ true) × (is_wanted_in until parent ≡ true)
+    × ((is_inherit parent || (if continues t.kind (last_kind before) then false else true)) ≡ true)
+    × (x : Place) × (y : Place) × (q ≡ At x) × (r ≡ At y) × (run_at x ≡ Some (until, y))
+IsBeside Extra parent depth q r before count [] after = ⊥
+IsBeside Extra parent depth q r before count (t ∷ ts) after =
+    (after ≡ []) × (parent ≡ NODE_ROOT) × (continues t.kind (last_kind before) ≡ false) × (q ≡ At RootEnd) × (r ≡ q)
+IsBeside Twice parent depth q r before count ts after = ⊥
+IsBeside TooDeep parent depth q r before count ts after =
+    (after ≡ []) × (depth_limit < depth) × (depth_limit ≤ count) × (go q NODE_LITERAL ≡ r) × (live r ≡ true)
+
+-- the error of an entry of a pattern that repeats a name of one before it
+abbrev pub repeats : SyntaxKind → Sketch → Sketch → List Fault
+repeats NODE_PAT_ENTRY before c = repeated before c
+repeats kind before c = []
+
+-- a row begins with a token
+abbrev pub begins_with_token : Sketch → Bool
+begins_with_token (token k t f) = true
+begins_with_token f = false
+
+-- the name that a pattern is bound to stands before `@` where the pattern begins, and behind it where the pattern ends
+abbrev pub is_bind_at : Spot → Sketch → Bool
+is_bind_at (At place) c = begins_with_token c
+is_bind_at spot c = if begins_with_token c then false else true
+
+abbrev pub is_formed : Spot → SyntaxKind → Sketch → Bool
+is_formed spot NODE_PAT_BIND c = is_bind_at spot c
+is_formed spot kind c = true
+
+-- the operator behind the first tree, the first token, and whether the second tree is the name `or`
+abbrev pub operator_in : Sketch → SyntaxKind
+operator_in (branch k c (token j t f)) = j
+operator_in (fault n c (token j t f)) = j
+operator_in f = NODE_ROOT
+
+abbrev pub prefix_in : Sketch → ℕ
+prefix_in blank = 0
+prefix_in (token TOKEN_INVERT t f) = 9
+prefix_in f = 14
+
+abbrev pub is_or_leaf : Sketch → Bool
+is_or_leaf (token k t f) = is_or t.kind
+is_or_leaf f = false
+
+abbrev pub is_or_row : Sketch → Bool
+is_or_row (branch NODE_IDENT c f) = is_or_leaf c
+is_or_row f = false
+
+abbrev pub calls_or : Sketch → Bool
+calls_or (branch k c f) = is_or_row f
+calls_or (fault n c f) = is_or_row f
+calls_or f = false
+
+-- the tightest level at which a tree may stand; 0 is a tree that only stands where any expression may
+abbrev pub level_of : SyntaxKind → Sketch → ℕ
+level_of NODE_BIN_OP c = power (operator_in c)
+level_of NODE_HAS_ATTR c = 13
+level_of NODE_UNARY_OP c = prefix_in c
+level_of NODE_APPLY c = if calls_or c then 16 else 15
+level_of NODE_LEGACY_LET c = 0
+level_of NODE_LET_IN c = 0
+level_of NODE_WITH c = 0
+level_of NODE_IF_ELSE c = 0
+level_of NODE_ASSERT c = 0
+level_of kind c = 16
+
+abbrev pub row_level : Sketch → ℕ
+row_level (branch k c f) = level_of k c
+row_level (fault n c f) = 16
+row_level f = 0
+
+abbrev pub is_atom_row : Sketch → Bool
+is_atom_row (branch k c f) = is_atom k
+is_atom_row (fault n c f) = true
+is_atom_row f = false
+
+-- the level of the operands that stand in a slot
+abbrev pub level_in : Slot → Option ℕ
+level_in (Operand level counted behind) = Some level
+level_in (Series level closer) = Some level
+level_in slot = None
+
+abbrev pub IsTight : Option ℕ → Sketch → Type 0
+IsTight None x = Unit {0}
+IsTight (Some level) x = level ≤ row_level x
+
+-- a tree binds as tightly as it must where it stands
+-- an argument, or the name `or` behind an atom
+abbrev pub IsArgument : Bool → Sketch → Sketch → Type 0
+IsArgument true before x = is_atom_row before ≡ true
+IsArgument false before x = (15 ≤ row_level before) × (16 ≤ row_level x)
+
+abbrev pub IsLeveled : Spot → Sketch → Sketch → Type 0
+IsLeveled (At place) before x = IsTight (level_in (slot_at place)) x
+IsLeveled BeforeArgument before x = IsArgument (is_or_row x) before x
+IsLeveled spot before x = Unit {0}
+
+-- so does the tree before an operator
+abbrev pub IsOpened : Spot → Sketch → SyntaxKind → Type 0
+IsOpened BeforeOperator before kind = left_of kind ≤ row_level before
+IsOpened BeforeQuestion before kind = 13 ≤ row_level before
+IsOpened spot before kind = Unit {0}
+
+-- A row of children without trivia, from a spot in their parent's row to another, with the errors that it is reported by. Each leaf has the
+-- kind of its token; each error node has its leaves alone and stands where it may; the parts that are missing at the end of the text are
+-- reported one by one; each other node is complete but for these. Known are the parent's kind, how many nodes the row is inside of, the
+-- trees before it, how many items come before it, and the items after it.
+pub data Stands : SyntaxKind → ℕ → Spot → Spot → Sketch → ℕ → List Token → Sketch → List Fault → Type 0 where
+  end : {p : SyntaxKind} {a : ℕ} {q : Spot} {b : Sketch} {i : ℕ} {us : List Token} → Stands p a q q b i us blank []
+  leaf : {p : SyntaxKind} {a : ℕ} {q r q' : Spot} {b c : Sketch} {i j : ℕ} {us : List Token} {f : Sketch} {es : List Fault} {k : SyntaxKind} {t : Token}
+      → k ≡ told p t → IsOpened q b k → go q k ≡ r → live r ≡ true → c ≡ b ⊕ one_token k t → j ≡ suc i → Stands p a r q' c j us f es
+      → Stands p a q q' b i us (token k t f) es
+  lost : {p : SyntaxKind} {a : ℕ} {x y : Place} {q' : Spot} {b : Sketch} {i : ℕ} {us : List Token} {f : Sketch} {e : Fault} {es fs : List Fault}
+      → us ≡ [] → tokens_in f ≡ [] → lack x ≡ Some (e, y) → Stands p a (At y) q' b i us f es → fs ≡ e ∷ es
+      → Stands p a (At x) q' b i us f fs
+  wrong : {p : SyntaxKind} {a : ℕ} {q r q' : Spot} {b d : Sketch} {i j : ℕ} {us vs : List Token} {c f : Sketch} {es fs : List Fault} (n : Note) (ts : List Token)
+      → c ≡ row_of ts → vs ≡ tokens_in f ++ us → IsBeside n p a q r b i ts vs → d ≡ b ⊕ one_fault n c → j ≡ i + length ts
+      → Stands p a r q' d j us f es → fs ≡ report n ts ∷ es
+      → Stands p a q q' b i us (fault n c f) fs
+  second : {p : SyntaxKind} {a : ℕ} {q r q' : Spot} {x : Place} {b d : Sketch} {i j : ℕ} {us vs : List Token} {c f : Sketch} {ds es fs : List Fault}
+      → vs ≡ tokens_in f ++ us → Stands NODE_ERROR (suc a) SecondStart (At x) blank i vs c ds → whole (At x) ≡ true → p ≡ NODE_PATTERN → q ≡ At (PatternEnd true) → r ≡ At PatternPast
+      → d ≡ b ⊕ one_fault Twice c → j ≡ i + length (tokens_in c) → Stands p a r q' d j us f es → fs ≡ (ds ++ report Twice (tokens_in c) ∷ []) ++ es
+      → Stands p a q q' b i us (fault Twice c f) fs
+  inner : {p : SyntaxKind} {a : ℕ} {q r q' : Spot} {x : Place} {b d : Sketch} {i j : ℕ} {us vs : List Token} {c f : Sketch} {ds es fs : List Fault} {k : SyntaxKind}
+      → vs ≡ tokens_in f ++ us → Stands k (suc a) (start k) (At x) blank i vs c ds → whole (At x) ≡ true
+      → is_formed q k c ≡ true → IsLeveled q b (one_branch k c) → go q k ≡ r → live r ≡ true → d ≡ b ⊕ one_branch k c → j ≡ i + length (tokens_in c) → Stands p a r q' d j us f es → fs ≡ (ds ++ repeats k b c) ++ es
+      → Stands p a q q' b i us (branch k c f) fs

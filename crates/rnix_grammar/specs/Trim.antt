@@ -1,0 +1,41 @@
+-- Where trivia do not stand: at the edges of nodes.
+use Rattle.std.specs.Prelude.{◌≡◌, false, List, [], ◌∷◌, ◌++◌}
+use Rattle.rnix_kinds.specs.declared.kinds.SyntaxKind.{SyntaxKind}
+use Rattle.rnix_kinds.specs.SyntaxKind.{is_trivia}
+use Rattle.rnix_tree.specs.Forest.{Forest, empty, leaf, node}
+use Rattle.rnix_grammar.specs.Sketch.{Token, Sketch, blank, token, branch, fault, tokens_in}
+
+-- the first kind is no trivia
+abbrev pub BeginsWithItem : List SyntaxKind → Type 0
+BeginsWithItem [] = Unit {0}
+BeginsWithItem (k ∷ ks) = is_trivia k ≡ false
+
+-- the last kind is no trivia
+abbrev pub EndsWithItem : List SyntaxKind → Type 0
+EndsWithItem [] = Unit {0}
+EndsWithItem (k ∷ []) = is_trivia k ≡ false
+EndsWithItem (k ∷ (j ∷ ks)) = EndsWithItem (j ∷ ks)
+
+-- the kinds of a row's leaves
+abbrev pub leaf_kinds : Forest → List SyntaxKind
+leaf_kinds empty = []
+leaf_kinds (leaf k t f) = k ∷ leaf_kinds f
+leaf_kinds (node k c f) = leaf_kinds c ++ leaf_kinds f
+
+-- the kinds of some tokens
+abbrev pub token_kinds : List Token → List SyntaxKind
+token_kinds [] = []
+token_kinds (t ∷ ts) = t.kind ∷ token_kinds ts
+
+-- no error node of a row begins or ends with trivia
+abbrev pub AreFaultsTrimmed : Sketch → Type 0
+AreFaultsTrimmed blank = Unit {0}
+AreFaultsTrimmed (token k t f) = AreFaultsTrimmed f
+AreFaultsTrimmed (branch k c f) = AreFaultsTrimmed c × AreFaultsTrimmed f
+AreFaultsTrimmed (fault n c f) = BeginsWithItem (token_kinds (tokens_in c)) × EndsWithItem (token_kinds (tokens_in c)) × AreFaultsTrimmed c × AreFaultsTrimmed f
+
+-- no node of a row begins or ends with trivia
+abbrev pub AreNodesTrimmed : Forest → Type 0
+AreNodesTrimmed empty = Unit {0}
+AreNodesTrimmed (leaf k t f) = AreNodesTrimmed f
+AreNodesTrimmed (node k c f) = BeginsWithItem (leaf_kinds c) × EndsWithItem (leaf_kinds c) × AreNodesTrimmed c × AreNodesTrimmed f

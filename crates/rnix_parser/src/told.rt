@@ -1,0 +1,18 @@
+//! The kinds of leaves.
+
+ghost use Rattle.std.specs.Prelude.{◌≡◌};
+ghost use Rattle.rnix_grammar.specs.Sketch.{told_as};
+
+use rnix_kinds::SyntaxKind;
+
+/// The kind of a token's leaf below a node: a name `or` is a name like others, and `__curPos` is no name where it is the current position.
+pub(crate) fn told_as(parent: SyntaxKind, kind: SyntaxKind) -> SyntaxKind
+    ensures { result ≡ told_as parent kind }
+{
+    match (parent, kind) {
+        (SyntaxKind::NODE_IDENT, SyntaxKind::TOKEN_OR) => SyntaxKind::TOKEN_IDENT,
+        (SyntaxKind::NODE_IDENT, SyntaxKind::TOKEN_CUR_POS) => SyntaxKind::TOKEN_IDENT,
+        (SyntaxKind::NODE_CUR_POS, SyntaxKind::TOKEN_IDENT) => SyntaxKind::TOKEN_CUR_POS,
+        _ => kind,
+    }
+}
