@@ -1,14 +1,14 @@
 //! The tokens of a text, one after another.
 
 ghost use Rattle.std.specs.Prelude.{◌≡◌, ◌↔◌, ◌<◌, ℕ, Bool, List, [], Some, length, slice_index};
-ghost use Rattle.std.specs.List.{flat_map, prefix_len};
+ghost use Rattle.std.specs.List.{prefix_len};
 ghost use Rattle.rnix_kinds.specs.Lexical.Classes.{class_test};
 ghost use Rattle.rnix_kinds.specs.Lexical.Longest.{IsLongest, IsRun, IsRow, IsFirstPair, FitsRow, IsScheme};
 ghost use Rattle.rnix_kinds.specs.Lexical.Operators.{HasRoom, operators, operator};
 ghost use Rattle.rnix_kinds.specs.Lexical.Strings.{content_len};
 ghost use Rattle.rnix_kinds.specs.Lexical.Texts.{before_pair};
 ghost use Rattle.rnix_kinds.specs.Lexical.Ahead.{IsAhead};
-ghost use Rattle.rnix_kinds.specs.Lexical.Tokens.{cut_at, tokens_under, tokens_of, CountsFit, IsPathGoingOn, IsCutOf, GivesNext, AreTokens, AreSound, Lexeme, text_of};
+ghost use Rattle.rnix_kinds.specs.Lexical.Tokens.{cut_at, tokens_under, tokens_of, CountsFit, IsPathGoingOn, IsCutOf, GivesNext, AreTokens, AreSound, Lexeme};
 ghost use Rattle.rnix_kinds.specs.declared.kinds.SyntaxKind.{SyntaxKind};
 ghost use Rattle.rnix_kinds.specs.declared.tokenizer.text.Class.TheVariants.{Scheme};
 
@@ -60,7 +60,7 @@ fn cut_at(text: &str, top: Option<Mode>, ahead: Ahead) -> (Cut, Ahead)
 
 // The tokens of a text, one after another, are the text.
 fn joined(modes: &Modes, text: &str)
-    ensures { flat_map text_of (tokens_under modes.now text.now) ≡ text.now }
+    ensures { AreSound text.now (tokens_under modes.now text.now) }
 {
     let _len = text.len();
     let _top = modes.top();
@@ -98,9 +98,9 @@ impl<'a> Tokenizer<'a> {
         }
     }
 
-    /// The text that is left.
+    /// The text that is left: its tokens are those that are left.
     pub fn rest(&self) -> &'a str
-        ensures { flat_map text_of self.now ≡ result.now }
+        ensures { AreSound result.now self.now }
     {
         joined(&self.modes, self.rest);
         self.rest

@@ -21,6 +21,7 @@ use Rattle.rnix_kinds.specs.declared.tokenizer.rule.Change.{Change}
 use Rattle.rnix_kinds.specs.declared.tokenizer.rule.Change.TheVariants.{Stay, Open, Close}
 use Rattle.rnix_kinds.specs.declared.tokenizer.text.Class.{Class}
 use Rattle.rnix_kinds.specs.declared.tokenizer.text.Class.TheVariants.{Digit, Name, Step, Scheme, Angle, Uri, Line}
+use Rattle.rnix_kinds.specs.SyntaxKind.{is_token}
 use Rattle.rnix_kinds.specs.Lexical.Texts.{stands_at, begins, run_end, before_pair, space_len, char_len}
 use Rattle.rnix_kinds.specs.Lexical.Classes.{class_test, is_path, is_uri}
 use Rattle.rnix_kinds.specs.Lexical.Plain.{plain, space, comment, block_comment, uri, word, kind_of_word}
@@ -45,18 +46,18 @@ if_good : (top : Option Mode) (text : List ℕ) (b : Bool) (x y : Cut) → (b �
 if_good top text true x y holds fails = holds refl
 if_good top text false x y holds fails = fails refl
 
--- a kind that says nothing of its text
+-- a kind of tokens that says nothing of its text
 abbrev is_free : SyntaxKind → Bool
 is_free TOKEN_CUR_POS = false
 is_free TOKEN_OR = false
 is_free TOKEN_IDENT = false
-is_free kind = true
+is_free kind = is_token kind
 
 free_named : (kind : SyntaxKind) (word : List ℕ) → is_free kind ≡ true → MayBe kind word
 free_named TOKEN_CUR_POS word e = absurd (cc)
 free_named TOKEN_OR word e = absurd (cc)
 free_named TOKEN_IDENT word e = absurd (cc)
-free_named kind word e = tt
+free_named kind word e = e
 
 free_if : (b : Bool) (k l : SyntaxKind) → is_free k ≡ true → is_free l ≡ true → is_free (cond b k l) ≡ true
 free_if true k l e f = e
@@ -127,16 +128,16 @@ differs word same e = let f = rw same at e in cc
 -- the word `or` has its own kind
 word_named : (word : List ℕ) → MayBe (kind_of_word word) word
 word_named word =
-    named_if (bytes_eq word (codes "assert")) TOKEN_ASSERT _ word (λ e. tt) (λ e.
-    named_if (bytes_eq word (codes "else")) TOKEN_ELSE _ word (λ e. tt) (λ e.
-    named_if (bytes_eq word (codes "if")) TOKEN_IF _ word (λ e. tt) (λ e.
-    named_if (bytes_eq word (codes "in")) TOKEN_IN _ word (λ e. tt) (λ e.
-    named_if (bytes_eq word (codes "inherit")) TOKEN_INHERIT _ word (λ e. tt) (λ e.
-    named_if (bytes_eq word (codes "let")) TOKEN_LET _ word (λ e. tt) (λ e.
+    named_if (bytes_eq word (codes "assert")) TOKEN_ASSERT _ word (λ e. refl) (λ e.
+    named_if (bytes_eq word (codes "else")) TOKEN_ELSE _ word (λ e. refl) (λ e.
+    named_if (bytes_eq word (codes "if")) TOKEN_IF _ word (λ e. refl) (λ e.
+    named_if (bytes_eq word (codes "in")) TOKEN_IN _ word (λ e. refl) (λ e.
+    named_if (bytes_eq word (codes "inherit")) TOKEN_INHERIT _ word (λ e. refl) (λ e.
+    named_if (bytes_eq word (codes "let")) TOKEN_LET _ word (λ e. refl) (λ e.
     named_if (bytes_eq word (codes "or")) TOKEN_OR _ word (λ e. (bytes_eq-Decides word (codes "or")).0 e) (λ no_or.
-    named_if (bytes_eq word (codes "rec")) TOKEN_REC _ word (λ e. tt) (λ e.
-    named_if (bytes_eq word (codes "then")) TOKEN_THEN _ word (λ e. tt) (λ e.
-    named_if (bytes_eq word (codes "with")) TOKEN_WITH TOKEN_IDENT word (λ e. tt) (λ e.
+    named_if (bytes_eq word (codes "rec")) TOKEN_REC _ word (λ e. refl) (λ e.
+    named_if (bytes_eq word (codes "then")) TOKEN_THEN _ word (λ e. refl) (λ e.
+    named_if (bytes_eq word (codes "with")) TOKEN_WITH TOKEN_IDENT word (λ e. refl) (λ e.
     λ same. differs word same no_or))))))))))
 
 exponent_mark : (text : List ℕ) (i : ℕ) → IsUtf8 text → (get_or text i 0 == 101 || get_or text i 0 == 69) ≡ true → IsCharBoundary text (i + 1)
@@ -168,14 +169,14 @@ block_good top text utf8 some =
 
 opening_brace_good : (top : Option Mode) (text : List ℕ) → IsCharBoundary text 1 → IsCutOf top text (opening_brace top)
 opening_brace_good None text end = good_plain None text _ 1 refl (omega arith) end
-opening_brace_good (Some (Interpolation n)) text end = record { some = omega arith; boundary = end; counted = omega arith; named = tt; opener = λ e. absurd (cc) }
+opening_brace_good (Some (Interpolation n)) text end = record { some = omega arith; boundary = end; counted = omega arith; named = refl; opener = λ e. absurd (cc) }
 opening_brace_good (Some (Quoted m)) text end = good_plain _ text _ 1 refl (omega arith) end
 opening_brace_good (Some (Path k)) text end = good_plain _ text _ 1 refl (omega arith) end
 
 closing_brace_good : (top : Option Mode) (text : List ℕ) → IsCharBoundary text 1 → IsCutOf top text (closing_brace top)
 closing_brace_good None text end = good_plain None text _ 1 refl (omega arith) end
-closing_brace_good (Some (Interpolation zero)) text end = record { some = omega arith; boundary = end; counted = tt; named = tt; opener = λ e. absurd (cc) }
-closing_brace_good (Some (Interpolation (suc n))) text end = record { some = omega arith; boundary = end; counted = omega arith; named = tt; opener = λ e. absurd (cc) }
+closing_brace_good (Some (Interpolation zero)) text end = record { some = omega arith; boundary = end; counted = tt; named = refl; opener = λ e. absurd (cc) }
+closing_brace_good (Some (Interpolation (suc n))) text end = record { some = omega arith; boundary = end; counted = omega arith; named = refl; opener = λ e. absurd (cc) }
 closing_brace_good (Some (Quoted m)) text end = good_plain _ text _ 1 refl (omega arith) end
 closing_brace_good (Some (Path k)) text end = good_plain _ text _ 1 refl (omega arith) end
 
@@ -265,8 +266,8 @@ quote_first : (text : List ℕ) → piece_len false text ≡ 0 → begins (codes
 quote_first text e t = grind (arith, nat_tests)
 
 closer_cut : (m : Bool) (top : Option Mode) (text : List ℕ) → IsUtf8 text → piece_len m text ≡ 0 → begins (codes "${") text ≡ false → IsCutOf top text (record { kind = TOKEN_STRING_END; len = cond m 2 1; change = Close })
-closer_cut true top text utf8 stop t = record { some = omega arith; boundary = byte_end text 1 39 utf8 refl (quote_second text stop t); counted = tt; named = tt; opener = λ e. absurd (cc) }
-closer_cut false top text utf8 stop t = record { some = omega arith; boundary = byte_end text 0 34 utf8 refl (quote_first text stop t); counted = tt; named = tt; opener = λ e. absurd (cc) }
+closer_cut true top text utf8 stop t = record { some = omega arith; boundary = byte_end text 1 39 utf8 refl (quote_second text stop t); counted = tt; named = refl; opener = λ e. absurd (cc) }
+closer_cut false top text utf8 stop t = record { some = omega arith; boundary = byte_end text 0 34 utf8 refl (quote_first text stop t); counted = tt; named = refl; opener = λ e. absurd (cc) }
 
 module _ (top : Option Mode) (text : List ℕ) (utf8 : IsUtf8 text) (some : 0 < length text) where
   good_begins : (kind : SyntaxKind) (bytes : List ℕ) → is_free kind ≡ true → 0 < length bytes → list_all is_plain_byte bytes ≡ true → begins bytes text ≡ true → IsCutOf top text (plain kind (length bytes))

@@ -11,6 +11,7 @@ use Rattle.rnix_kinds.specs.declared.tokenizer.rule.Mode.{Mode}
 use Rattle.rnix_kinds.specs.declared.tokenizer.rule.Mode.TheVariants.{Quoted, Interpolation, Path}
 use Rattle.rnix_kinds.specs.declared.tokenizer.rule.Change.{Change}
 use Rattle.rnix_kinds.specs.declared.tokenizer.rule.Change.TheVariants.{Stay, Open, Close, Count}
+use Rattle.rnix_kinds.specs.SyntaxKind.{is_token}
 use Rattle.rnix_kinds.specs.Lexical.Texts.{begins, char_len}
 use Rattle.rnix_kinds.specs.Lexical.Plain.{plain, space, comment, uri, word}
 use Rattle.rnix_kinds.specs.Lexical.Strings.{string_cut}
@@ -112,12 +113,12 @@ opens_path TOKEN_PATH_HOME = true
 opens_path TOKEN_PATH_REL = true
 opens_path kind = false
 
--- what a kind says of the text: `or` is its own kind, and no rule gives a current position
+-- what a kind says of the text: `or` is its own kind, and no rule gives a current position or the kind of a node
 abbrev pub MayBe : SyntaxKind → List ℕ → Type 0
 MayBe TOKEN_CUR_POS word = ⊥
 MayBe TOKEN_OR word = word ≡ codes "or"
 MayBe TOKEN_IDENT word = ¬ (word ≡ codes "or")
-MayBe kind word = Unit {0}
+MayBe kind word = is_token kind ≡ true
 
 -- the change counts at most one brace more
 abbrev pub CountsUp : Option Mode → Change → Type 0

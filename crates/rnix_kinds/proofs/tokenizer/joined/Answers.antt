@@ -2,4 +2,4 @@ use Rattle.rnix_kinds.proofs.Lexical.Laws.{AreSound-tokens_under}
 use Rattle.rnix_kinds.proofs.tokenizer.joined.Goals as goal
 
 pub returns : goal.returns
-returns c = (AreSound-tokens_under c.args.modes.now c.args.text.now c.utf8.text).joined
+returns c = AreSound-tokens_under c.args.modes.now c.args.text.now c.utf8.text

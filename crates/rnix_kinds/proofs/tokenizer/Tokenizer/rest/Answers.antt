@@ -1,7 +1,6 @@
-use Rattle.std.proofs.Common.{sym, ap, ◌∙◌, List}
-use Rattle.std.specs.List.{flat_map}
-use Rattle.rnix_kinds.specs.Lexical.Tokens.{Lexeme, text_of}
+use Rattle.std.proofs.Common.{subst, List}
+use Rattle.rnix_kinds.specs.Lexical.Tokens.{Lexeme, AreSound}
 use Rattle.rnix_kinds.proofs.tokenizer.Tokenizer.rest.Goals as goal
 
 pub returns : goal.returns
-returns c = ap (λ (tokens : List Lexeme). flat_map text_of tokens) (sym c.self.view_is) ∙ c.joined.ensures
+returns c = subst (λ (tokens : List Lexeme). AreSound c.self.inside.rest.now tokens) c.self.view_is c.joined.ensures
