@@ -1,5 +1,5 @@
 -- The nodes around an element.
-use Rattle.std.proofs.Common.{◌≡◌, ℕ, zero, suc, ◌+◌, ◌-◌, ◌≤◌, ◌<◌, nat_lt, List, [], ◌∷◌, length, Option, Some, None, Bool, true, false, cond, refl, ap, sym, ◌∙◌, arith, inl, inr}
+use Rattle.std.proofs.Common.{◌≡◌, ℕ, zero, suc, ◌+◌, ◌-◌, ◌≤◌, ◌<◌, [], ◌∷◌, length, Option, Some, None, refl, ap, sym, ◌∙◌, arith, inl, inr}
 use Rattle.std.proofs.lemmas.Bool.{cases_lt}
 use Rattle.std.proofs.lemmas.Option.{same_Some}
 use Rattle.std.specs.Prelude.{if◌then◌else◌}
@@ -7,7 +7,7 @@ use Rattle.rnix_tree.specs.Tree.{Tree, Located, items_of, item}
 use Rattle.rnix_tree.specs.Walk.{holders, ancestors_of, counted}
 use Rattle.rnix_tree.specs.Around.{ancestors_if}
 use Rattle.rnix_tree.proofs.NumberTests.{is_below, is_not_below}
-use Rattle.rnix_tree.proofs.InsideLemmas.{IsHeld, held, ends_inside, below_parent, has_parent}
+use Rattle.rnix_tree.proofs.InsideLemmas.{held, ends_inside, below_parent, has_parent}
 
 -- one number more
 pub counted_more : (n end : ℕ) → n < end → counted n (end - n) ≡ n ∷ counted (n + 1) (end - (n + 1))

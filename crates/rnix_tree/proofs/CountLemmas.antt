@@ -1,5 +1,5 @@
 -- How long the lists are that walks give.
-use Rattle.std.proofs.Common.{◌≡◌, ℕ, zero, suc, ◌+◌, ◌*◌, ◌≤◌, ◌<◌, nat_lt, List, [], ◌∷◌, ◌++◌, length, map, Bool, true, false, cond, refl, ap, ◌∙◌, arith, inl, inr, length-append}
+use Rattle.std.proofs.Common.{◌≡◌, ℕ, zero, suc, ◌+◌, ◌≤◌, ◌<◌, nat_lt, List, [], ◌∷◌, length, map, true, false, refl, ap, ◌∙◌, arith, length-append}
 use Rattle.std.proofs.lemmas.List.{length-map}
 use Rattle.std.specs.Prelude.{if◌then◌else◌}
 use Rattle.rnix_tree.specs.Forest.{Forest, empty, leaf, node, element_count}
@@ -23,6 +23,7 @@ steps_from-twice n (node k c f) =
       length-append (steps_from (n + 1) c) ((false, n) ∷ steps_from (n + 1 + element_count c) f),
     )
 
+-- no more nodes than elements
 pub nodes_in-few : (spots : List Spot) → length (nodes_in spots) ≤ length spots
 nodes_in-few [] = omega arith
 nodes_in-few (spot ∷ spots) =
@@ -31,6 +32,7 @@ nodes_in-few (spot ∷ spots) =
       | false ↦ omega (arith, nodes_in-few spots)
     ]
 
+-- no more events of nodes than events
 pub node_events-few : (events : List Event) → length (node_events events) ≤ length events
 node_events-few [] = omega arith
 node_events-few (event ∷ events) =
@@ -47,16 +49,20 @@ holders-few t n (suc k) =
       | false ↦ omega (arith, holders-few t n k)
     ]
 
+-- so many numbers
 pub counted-many : (n k : ℕ) → length (counted n k) ≡ k
 counted-many n zero = refl
 counted-many n (suc k) = ap suc (counted-many (n + 1) k)
 
+-- no more ancestors than elements up to it
 pub ancestors_of-few : (e : Located) → length (ancestors_of e) ≤ e.number + 1
 ancestors_of-few e = holders-few e.tree e.number (e.number + 1)
 
+-- an element and all that is inside it
 pub elements_of-many : (e : Located) → length (elements_of e) ≡ 1 + (item_of e).below
 elements_of-many e = length-map (counted e.number (1 + (item_of e).below)) (spot_at e.tree) ∙ counted-many e.number (1 + (item_of e).below)
 
+-- a walk enters and leaves each element
 pub preorder_of-twice : (t : Tree) (n : ℕ) → n < length (items_of t)
     → length (preorder_of record { tree = t; number = n }) ≡ (1 + (item t n).below) + (1 + (item t n).below)
 preorder_of-twice t n l =
@@ -64,6 +70,7 @@ preorder_of-twice t n l =
     let all = below_of_part t n part (part_there t n l) (one_there t n l) in
     omega (arith, length-map (steps_from n part) (event_at t), steps_from-twice n part, all)
 
+-- no more children than elements inside
 pub children_of-few : (t : Tree) (n : ℕ) → n < length (items_of t) → length (children_of record { tree = t; number = n }) ≤ (item t n).below
 children_of-few t n l = go _ (part_there t n l) (one_there t n l)
   where

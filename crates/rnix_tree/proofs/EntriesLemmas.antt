@@ -1,29 +1,26 @@
 -- How the entries of a builder make trees.
-use Rattle.std.proofs.Common.{◌≡◌, ℕ, zero, suc, ◌+◌, ◌-◌, ◌≤◌, ◌<◌, List, [], ◌∷◌, ◌++◌, length, take, drop, get_or, true, false, Bool, nat_le, ◌&&◌, refl, ap, sym, ◌∙◌, arith, append_assoc, inl, inr}
+use Rattle.std.proofs.Common.{◌≡◌, ℕ, zero, suc, ◌+◌, ◌-◌, ◌≤◌, ◌<◌, List, [], ◌∷◌, ◌++◌, length, take, drop, get_or, true, nat_le, refl, ap, sym, ◌∙◌, arith, append_assoc, inl, inr}
 use Rattle.std.proofs.lemmas.Bool.Decides.{nat_tests}
 use Rattle.std.proofs.lemmas.List.{take_all, take_more, reverse-append, length-map, length-reverse, take_at, drop_at, append-nil, length_push, length-take-le, get_or_past}
-use Rattle.std.proofs.lemmas.Bool.{cases_lt}
+use Rattle.std.proofs.lemmas.Bool.{cases_lt, and_parts}
 use Rattle.std.specs.Str.{IsUtf8}
 use Rattle.rnix_kinds.specs.declared.kinds.SyntaxKind.{SyntaxKind}
 use Rattle.rnix_tree.specs.declared.postorder.Entry.{Entry}
 use Rattle.rnix_tree.specs.declared.postorder.Entry.TheVariants.{Leaf, Node}
 use Rattle.rnix_tree.specs.declared.builder.OpenNode.{OpenNode as Pending}
-use Rattle.rnix_tree.specs.Forest.{Forest, empty, leaf, node, join, tree_count, element_count, first_trees, trees_after, text_of}
+use Rattle.rnix_tree.specs.Forest.{Forest, empty, leaf, node, join, tree_count, element_count, first_trees, trees_after, text_of, HasText}
 use Rattle.rnix_tree.specs.Draft.{Draft, with_leaf, wrapped, is_inside, closed_over, is_checkpoint_of, is_complete_of, is_nothing, is_one_node}
 use Rattle.rnix_tree.specs.Kept.{first_elements, elements_after}
-use Rattle.rnix_tree.specs.Forest.{HasText}
 use Rattle.rnix_tree.specs.Postorder.{entries_of}
 use Rattle.rnix_tree.specs.Entries.{built_onto, built, wrapped_last, starts_from, open_pairs, IsNested, IsBuilt}
-use Rattle.rnix_tree.proofs.ForestLemmas.{tree_count-join, tree_count-first, element_count-join, text_of-join, join-empty, join_assoc, join_first_after}
+use Rattle.rnix_tree.specs.ForestCode.{join_empty}
+use Rattle.rnix_tree.proofs.ForestLemmas.{tree_count-join, tree_count-first, element_count-join, text_of-join, join_assoc, join_first_after}
 use Rattle.rnix_tree.proofs.PostorderLemmas.{entries_of-join, length-post_of}
-
-and_parts : (a b : Bool) → (a && b) ≡ true → (a ≡ true) × (b ≡ true)
-and_parts true b h = (refl, h)
-and_parts false b h = absurd (cc)
 
 le_from_nat_le : (a b : ℕ) → nat_le a b ≡ true → a ≤ b
 le_from_nat_le a b h = grind (arith, nat_tests)
 
+-- the first of two rows, by its elements
 pub first_elements-join : (f g : Forest) → first_elements (element_count f) (join f g) ≡ f
 first_elements-join empty g = refl
 first_elements-join (leaf k t f) g = ap (leaf k t) (first_elements-join f g)
@@ -31,6 +28,7 @@ first_elements-join (node k c f) g =
     let same : element_count c + element_count f - element_count c ≡ element_count f = omega arith in
     ap (node k c) (ap (λ n. first_elements n (join f g)) same ∙ first_elements-join f g)
 
+-- and the second
 pub elements_after-join : (f g : Forest) → elements_after (element_count f) (join f g) ≡ g
 elements_after-join empty g = refl
 elements_after-join (leaf k t f) g = elements_after-join f g
@@ -48,7 +46,7 @@ wrapped_last-join k f c =
 -- entries of a forest make that forest
 pub built_onto-entries : (g f : Forest) (rest : List ℕ) (es : List Entry) →
     built_onto g (text_of f ++ rest) (entries_of f ++ es) ≡ built_onto (join g f) rest es
-built_onto-entries g empty rest es = ap (λ x. built_onto x rest es) (sym (join-empty g))
+built_onto-entries g empty rest es = ap (λ x. built_onto x rest es) (sym (join_empty g))
 built_onto-entries g (leaf k t f) rest es =
     ap (λ x. built_onto (with_leaf k (take (length t) x) g) (drop (length t) x) (entries_of f ++ es)) (append_assoc t (text_of f) rest)
     ∙ ap (λ x. built_onto (with_leaf k x g) (drop (length t) (t ++ (text_of f ++ rest))) (entries_of f ++ es)) (take_at t (text_of f ++ rest) (length t) refl)
@@ -63,17 +61,21 @@ built_onto-entries g (node k c f) rest es =
     ∙ built_onto-entries (join g (node k c empty)) f rest es
     ∙ ap (λ x. built_onto x rest es) (join_assoc g (node k c empty) f)
 
+-- the entries of a row make it again
 pub built-entries : (f : Forest) → built (text_of f) (entries_of f) ≡ f
 built-entries f =
     ap (λ x. built x (entries_of f)) (sym (append-nil (text_of f))) ∙ ap (λ x. built (text_of f ++ []) x) (sym (append-nil (entries_of f)))
     ∙ built_onto-entries empty f [] []
 
+-- what a builder keeps makes its trees
 pub built_is : (f : Forest) (text : List ℕ) (es : List Entry) (os : List Pending) (st : List ℕ) → IsBuilt f text es os st → built text es ≡ f
 built_is f text es os st h = rw (h.entries, h.text_is) (built-entries f)
 
+-- and so may stand for them
 pub settled : (f : Forest) (text : List ℕ) (es : List Entry) (os : List Pending) (st : List ℕ) → IsBuilt f text es os st → IsBuilt (built text es) text es os st
 settled f text es os st h = rw (built_is f text es os st h) h
 
+-- where the trees of two rows begin
 pub starts_from-join : (n : ℕ) (f g : Forest) → starts_from n (join f g) ≡ starts_from n f ++ starts_from (n + element_count f) g
 starts_from-join n empty g = ap (λ m. starts_from m g) (omega arith)
 starts_from-join n (leaf k t f) g =
@@ -81,11 +83,13 @@ starts_from-join n (leaf k t f) g =
 starts_from-join n (node k c f) g =
     ap (λ x. n ∷ x) (starts_from-join (n + 1 + element_count c) f g ∙ ap (λ m. starts_from (n + 1 + element_count c) f ++ starts_from m g) (omega arith))
 
+-- each tree begins once
 pub length-starts_from : (n : ℕ) (f : Forest) → length (starts_from n f) ≡ tree_count f
 length-starts_from n empty = refl
 length-starts_from n (leaf k t f) = ap suc (length-starts_from (n + 1) f)
 length-starts_from n (node k c f) = ap suc (length-starts_from (n + 1 + element_count c) f)
 
+-- a tree begins behind the elements of those before it
 pub start_at : (n : ℕ) (f : Forest) (p d : ℕ) → p < tree_count f → get_or (starts_from n f) p d ≡ n + element_count (first_trees p f)
 start_at n empty p d h = absurd (omega arith)
 start_at n (leaf k t f) zero d h = omega arith
@@ -93,12 +97,14 @@ start_at n (leaf k t f) (suc p) d h = omega (arith, start_at (n + 1) f p d (omeg
 start_at n (node k c f) zero d h = omega arith
 start_at n (node k c f) (suc p) d h = omega (arith, start_at (n + 1 + element_count c) f p d (omega arith))
 
+-- where the first trees begin
 pub take-starts_from : (n : ℕ) (f : Forest) (p : ℕ) → take p (starts_from n f) ≡ starts_from n (first_trees p f)
 take-starts_from n f zero = refl
 take-starts_from n empty (suc p) = refl
 take-starts_from n (leaf k t f) (suc p) = ap (λ x. n ∷ x) (take-starts_from (n + 1) f p)
 take-starts_from n (node k c f) (suc p) = ap (λ x. n ∷ x) (take-starts_from (n + 1 + element_count c) f p)
 
+-- the first trees of a short row are all of it
 pub first_trees_all : (n : ℕ) (f : Forest) → tree_count f ≤ n → first_trees n f ≡ f
 first_trees_all n empty h = elim n as (λ m. first_trees m empty ≡ empty) [ zero ↦ refl | suc m ↦ refl ]
 first_trees_all zero (leaf k t f) h = absurd (omega arith)
@@ -106,32 +112,39 @@ first_trees_all (suc n) (leaf k t f) h = ap (leaf k t) (first_trees_all n f (ome
 first_trees_all zero (node k c f) h = absurd (omega arith)
 first_trees_all (suc n) (node k c f) h = ap (node k c) (first_trees_all n f (omega arith))
 
+-- two rows with text have text
 pub HasText-join : (f g : Forest) → HasText f → HasText g → HasText (join f g)
 HasText-join empty g h i = i
 HasText-join (leaf k t f) g h i = (h.0, HasText-join f g h.1 i)
 HasText-join (node k c f) g h i = (h.0, HasText-join f g h.1 i)
 
+-- so have the first trees
 pub HasText-first : (n : ℕ) (f : Forest) → HasText f → HasText (first_trees n f)
 HasText-first zero f h = tt
 HasText-first (suc n) empty h = tt
 HasText-first (suc n) (leaf k t f) h = (h.0, HasText-first n f h.1)
 HasText-first (suc n) (node k c f) h = (h.0, HasText-first n f h.1)
 
+-- and those after them
 pub HasText-after : (n : ℕ) (f : Forest) → HasText f → HasText (trees_after n f)
 HasText-after zero f h = h
 HasText-after (suc n) empty h = tt
 HasText-after (suc n) (leaf k t f) h = HasText-after n f h.1
 HasText-after (suc n) (node k c f) h = HasText-after n f h.1
 
+-- one more leaf is one more tree
 pub tree_count-with_leaf : (k : SyntaxKind) (t : List ℕ) (f : Forest) → tree_count (with_leaf k t f) ≡ tree_count f + 1
 tree_count-with_leaf k t f = tree_count-join f (leaf k t empty)
 
+-- a node in place of the trees from a place on
 pub tree_count-wrapped : (k : SyntaxKind) (p : ℕ) (f : Forest) → p ≤ tree_count f → tree_count (wrapped k p f) ≡ p + 1
 tree_count-wrapped k p f h = omega (arith, tree_count-join (first_trees p f) (node k (trees_after p f) empty), tree_count-first p f h)
 
+-- the last of the open nodes is the innermost
 pub open_pairs-push : (os : List Pending) (o : Pending) → open_pairs (os ++ o ∷ []) ≡ (o.kind, o.place) ∷ open_pairs os
 open_pairs-push os o = rw (reverse-append os (o ∷ [])) refl
 
+-- one more open node at or behind the others
 pub IsNested-push : (n : ℕ) (os : List Pending) (o : Pending) → IsNested o.place (open_pairs os) → o.place ≤ n → IsNested n (open_pairs (os ++ o ∷ []))
 IsNested-push n os o h l = rw (open_pairs-push os o) (l, h)
 
@@ -142,6 +155,7 @@ open_pairs-last os n o l e is =
     let all : os ≡ take n os ++ o ∷ [] = sym (take_all (n + 1) os (omega arith)) ∙ take_more os n o l ∙ ap (λ x. take n os ++ x ∷ []) is in
     ap open_pairs all ∙ open_pairs-push (take n os) o
 
+-- and so with more trees
 pub IsNested-weaker : (n m : ℕ) (os : List (SyntaxKind × ℕ)) → n ≤ m → IsNested n os → IsNested m os
 IsNested-weaker n m [] l h = tt
 IsNested-weaker n m ((k, p) ∷ os) l h = (omega arith, h.1)
@@ -151,9 +165,11 @@ pub IsNested-inside : (n m : ℕ) (os : List (SyntaxKind × ℕ)) → IsNested n
 IsNested-inside n m [] h i = tt
 IsNested-inside n m ((k, p) ∷ os) h i = (le_from_nat_le p m i, h.1)
 
+-- as many as are open
 pub length-open_pairs : (os : List Pending) → length (open_pairs os) ≡ length os
 length-open_pairs os = simp (length-map, length-reverse)
 
+-- a builder with one more token
 pub built-token : (f : Forest) (text later s : List ℕ) (es more : List Entry) (os : List Pending) (st starts : List ℕ) (k : SyntaxKind) →
     IsBuilt f text es os st → IsUtf8 s → later ≡ text ++ s → more ≡ es ++ Leaf k (length s) ∷ [] → starts ≡ st ++ length es ∷ [] →
     IsBuilt (with_leaf k s f) later more os starts
@@ -168,6 +184,7 @@ built-token f text later s es more os st starts k h u le mo sta = record {
   nested = IsNested-weaker (tree_count f) (tree_count (with_leaf k s f)) (open_pairs os) (omega (arith, tree_count-with_leaf k s f)) h.nested;
 }
 
+-- a builder with one more open node
 pub built-opened : (f : Forest) (text : List ℕ) (es : List Entry) (os after : List Pending) (st : List ℕ) (o : Pending) → IsBuilt f text es os st →
     after ≡ os ++ o ∷ [] → o.place ≤ tree_count f → IsNested o.place (open_pairs os) → IsBuilt f text es after st
 built-opened f text es os after st o h e l i =
@@ -198,11 +215,13 @@ first_entry f text es os st p h =
           get_or_past st p (length es) l ∙ ap length h.entries ∙ length-post_of f ∙ ap element_count (sym (first_trees_all p f in_range))
     ]
 
+-- no open node begins behind the entries
 pub first_entry_le : (f : Forest) (text : List ℕ) (es : List Entry) (os : List Pending) (st : List ℕ) (p : ℕ) → IsBuilt f text es os st →
     get_or st p (length es) ≤ length es
 first_entry_le f text es os st p h =
     omega (arith, first_entry f text es os st p h, ap length h.entries, length-post_of f, element_count-join (first_trees p f) (trees_after p f), ap element_count (join_first_after p f))
 
+-- a builder whose innermost node is closed
 pub built-closed : (f : Forest) (text : List ℕ) (es more : List Entry) (os outer : List Pending) (st starts : List ℕ) (j first : ℕ) (o : Pending) →
     IsBuilt f text es os st → j + 1 ≡ length os → o ≡ get_or os j o → first ≡ element_count (first_trees o.place f) →
     more ≡ es ++ Node o.kind (length es - first) ∷ [] → outer ≡ take j os → starts ≡ take o.place st ++ first ∷ [] →
@@ -232,13 +251,16 @@ built-closed f text es more os outer st starts j first o h e is fi mo ou sta =
           rw ou (IsNested-weaker o.place (tree_count (wrapped o.kind o.place f)) (open_pairs (take j os)) (omega (arith, tree_count-wrapped o.kind o.place f i.0)) i.1);
     }
 
+-- a place where a node may be opened
 pub checkpoint-parts : (d : Draft) (n : ℕ) → is_checkpoint_of d n ≡ true → (n ≤ tree_count d.finished) × (is_inside n d.open_nodes ≡ true)
 checkpoint-parts d n h =
     let p = and_parts (nat_le n (tree_count d.finished)) (is_inside n d.open_nodes) h in (le_from_nat_le n (tree_count d.finished) p.0, p.1)
 
+-- a builder that is complete
 pub complete-parts : (d : Draft) → is_complete_of d ≡ true → (is_nothing d.open_nodes ≡ true) × (is_one_node d.finished ≡ true)
 complete-parts d h = and_parts (is_nothing d.open_nodes) (is_one_node d.finished) h
 
+-- the innermost open node is closed, as a draft
 pub closed_view : (f later : Forest) (os outer : List Pending) (j : ℕ) (o : Pending) → j + 1 ≡ length os → o ≡ get_or os j o → outer ≡ take j os →
     later ≡ wrapped o.kind o.place f → closed_over f (open_pairs os) ≡ record { finished = later; open_nodes = open_pairs outer }
 closed_view f later os outer j o e is ou la = rw (la, ou, open_pairs-last os j o (omega arith) e (sym is)) refl

@@ -1,5 +1,5 @@
 -- Where the elements of a tree begin to start at an offset or behind it.
-use Rattle.std.proofs.Common.{◌≡◌, ℕ, ◌+◌, ◌-◌, ◌≤◌, ◌<◌, List, length, map, get_or, take, drop, Bool, true, false, None, nat_lt, ap, sym, ◌∙◌, arith, inl, inr, length-drop, length-take-le, get_or-drop}
+use Rattle.std.proofs.Common.{◌≡◌, ℕ, ◌+◌, ◌-◌, ◌≤◌, ◌<◌, List, length, get_or, take, drop, Bool, true, false, None, nat_lt, ap, sym, ◌∙◌, arith, inl, inr, length-drop, length-take-le, get_or-drop}
 use Rattle.std.proofs.lemmas.List.{get_or-take, get_or-map, length-map}
 use Rattle.rnix_kinds.specs.declared.kinds.SyntaxKind.TheVariants.{TOKEN_ERROR}
 use Rattle.std.proofs.lemmas.Bool.{cases_lt}
@@ -8,7 +8,6 @@ use Rattle.rnix_tree.specs.declared.green.Element.{Element}
 use Rattle.rnix_tree.specs.Tree.{Tree, Item, items_of, item, no_item, forest_of}
 use Rattle.rnix_tree.specs.Kept.{IsKept, item_from}
 use Rattle.rnix_tree.proofs.NumberTests.{below_true, below_false, is_below}
-use Rattle.rnix_tree.proofs.PieceLemmas.{item_of_element}
 use Rattle.rnix_tree.proofs.StartLemmas.{in_order}
 use Rattle.rnix_tree.proofs.InsideLemmas.{elements_in_all}
 

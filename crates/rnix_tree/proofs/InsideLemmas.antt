@@ -1,14 +1,11 @@
 -- What is inside an element of a tree, and what is around it.
-use Rattle.std.proofs.Common.{◌≡◌, ℕ, zero, suc, ◌+◌, ◌-◌, ◌≤◌, ◌<◌, List, [], ◌∷◌, ◌++◌, length, get_or, Option, Some, None, Bool, true, false, refl, ap, sym, subst, ◌∙◌, arith, ◌⊎◌, inl, inr, append-nil}
-use Rattle.std.proofs.lemmas.Bool.{cases_lt}
-use Rattle.std.proofs.lemmas.Option.{same_Some}
-use Rattle.rnix_kinds.specs.declared.kinds.SyntaxKind.{SyntaxKind}
+use Rattle.std.proofs.Common.{◌≡◌, ℕ, zero, suc, ◌+◌, ◌-◌, ◌≤◌, ◌<◌, length, Option, Some, None, true, false, refl, ap, sym, ◌∙◌, arith, inl, inr}
 use Rattle.rnix_tree.specs.Forest.{Forest, empty, leaf, node, text_of, element_count}
-use Rattle.rnix_tree.specs.Tree.{Tree, Item, items_from, items_of, forest_of, no_item, item, part_at}
+use Rattle.rnix_tree.specs.Tree.{Tree, Item, items_of, forest_of, item}
 use Rattle.rnix_tree.proofs.PieceLemmas.{length-items_from}
-use Rattle.rnix_tree.proofs.SiblingLemmas.{below_fits, next_inside}
+use Rattle.rnix_tree.proofs.SiblingLemmas.{below_fits}
 use Rattle.rnix_tree.proofs.PartLemmas.{IsPart, IsOne, one_leaf, one_node, item_of_part, below_of_part, part_there, one_there}
-use Rattle.rnix_tree.proofs.NestLemmas.{at, Behind, inside, beyond, behind, first_parent, Parented, of_row, of_node, parented, next_parent, IsOver, parent_over}
+use Rattle.rnix_tree.proofs.NestLemmas.{at, inside, beyond, behind, first_parent, Parented, of_row, of_node, parented, next_parent, parent_over}
 
 -- how many elements a tree has
 pub elements_in_all : (t : Tree) → length (items_of t) ≡ element_count (forest_of t)
@@ -23,6 +20,7 @@ pub record Inner (t : Tree) (a : ℕ) : Type 0 where
   pub begins : (item t a).is_node ≡ true → (item t a).start ≡ start
   pub ends : (item t a).is_node ≡ true → (item t a).end ≡ start + length (text_of children)
 
+-- what is known of all that is inside an element
 pub inner_of : (t : Tree) (a : ℕ) → a < length (items_of t) → Inner t a
 inner_of t a l = go _ (part_there t a l) (one_there t a l)
   where
@@ -70,6 +68,7 @@ held_by : (t : Tree) (a m : ℕ) (parent : Option ℕ) → (item t m).parent ≡
 held_by t a m parent is (of_row e) = record { parent = a; is = is ∙ e; low = omega arith }
 held_by t a m parent is (of_node q e low) = record { parent = q; is = is ∙ e; low = omega arith }
 
+-- what is inside an element has its parent there
 pub held : (t : Tree) (a m : ℕ) → a < length (items_of t) → a < m → m ≤ a + (item t a).below → IsHeld t a m
 held t a m l low high =
     let inner = inner_of t a l in
@@ -95,6 +94,7 @@ pub record IsBelow (t : Tree) (q m : ℕ) : Type 0 where
   pub low : q < m
   pub high : m ≤ q + (item t q).below
 
+-- an element is inside its parent
 pub below_parent : (t : Tree) (m q : ℕ) → m < length (items_of t) → (item t m).parent ≡ Some q → IsBelow t q m
 below_parent t m q l e =
     elim (parent_over 0 0 None (forest_of t) m q (omega (arith, elements_in_all t)) e) [
@@ -121,6 +121,7 @@ sibling_behind t m p l e fits =
 pub root_holds : (t : Tree) → length (items_of t) ≡ suc (item t 0).below
 root_holds t = (let all = elements_in_all t in omega arith)
 
+-- an element other than the root has a parent
 pub has_parent : (t : Tree) (m : ℕ) → 0 < m → m < length (items_of t) → IsHeld t 0 m
 has_parent t m some l = held t 0 m (omega arith) some (omega (arith, root_holds t))
 
@@ -138,5 +139,6 @@ holds_nothing n s p (node k c f) (suc i) l e = elim (behind n s p k c f i) as (�
       ∙ holds_nothing (n + 1 + element_count c) (s + length (text_of c)) p f (i - element_count c) (omega arith) (sym (ap (λ (y : Item). y.is_node) x) ∙ e)
 ]
 
+-- nothing is inside a token
 pub leaf_holds_nothing : (t : Tree) (m : ℕ) → m < length (items_of t) → (item t m).is_node ≡ false → (item t m).below ≡ 0
 leaf_holds_nothing t m l e = holds_nothing 0 0 None (forest_of t) m (omega (arith, elements_in_all t)) e

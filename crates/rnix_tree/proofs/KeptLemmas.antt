@@ -12,7 +12,7 @@ use Rattle.std.specs.Prelude.{slice_get}
 use Rattle.rnix_tree.specs.declared.postorder.Entry.TheVariants.{Node}
 use Rattle.rnix_tree.specs.Postorder.{entries_of}
 use Rattle.rnix_tree.specs.Entries.{IsBuilt, open_pairs, is_node_last, is_node_entry}
-use Rattle.rnix_tree.proofs.ForestLemmas.{join-empty}
+use Rattle.rnix_tree.specs.ForestCode.{join_empty}
 use Rattle.rnix_tree.proofs.EntriesLemmas.{first_elements-join, elements_after-join}
 
 -- the items of a forest, whose text stands at the start s, and further items
@@ -41,17 +41,20 @@ forest_from-items whole n s p (node k c f) rest is e =
     ∙ ap (λ x. node k x (elements_after (element_count c) (join c (join f (forest_from whole is))))) (first_elements-join c (join f (forest_from whole is)))
     ∙ ap (node k c) (elements_after-join c (join f (forest_from whole is)))
 
+-- what is kept stands for the tree
 pub tree_from_kept : (t : Tree) (es : List Element) (text : List ℕ) → IsKept t es text → tree_from es text ≡ t
 tree_from_kept t es text h =
     let same : forest_from text (items_of t) ≡ forest_of t =
     ap (forest_from text) (sym (append-nil (items_of t)))
     ∙ forest_from-items text 0 0 None (forest_of t) [] [] (h.text_is ∙ sym (append-nil (text_of (forest_of t))))
-    ∙ join-empty (forest_of t) in
+    ∙ join_empty (forest_of t) in
     ap (λ is. as_tree (forest_from text is)) h.elements ∙ ap as_tree same
 
+-- and so for the tree that it stands for
 pub kept : (t : Tree) (es : List Element) (text : List ℕ) → IsKept t es text → IsKept (tree_from es text) es text
 kept t es text h = rw (tree_from_kept t es text h) h
 
+-- a row of one node is a tree
 pub one_node : (f : Forest) → is_one_node f ≡ true → forest_of (as_tree f) ≡ f
 one_node empty h = cc
 one_node (leaf k t f) h = cc
@@ -68,6 +71,7 @@ finished_kept (node k c empty) text es os st elements h o e = record { elements 
 finished_kept (node k c (leaf j t f)) text es os st elements h o e = absurd (cc)
 finished_kept (node k c (node j d f)) text es os st elements h o e = absurd (cc)
 
+-- what is kept of a row of one node stands for it
 pub finished_is : (f : Forest) (text : List ℕ) (elements : List Element) (t : Tree) → is_one_node f ≡ true → IsKept (as_tree f) elements text →
     t ≡ tree_from elements text → forest_of t ≡ f
 finished_is f text elements t o h e = ap forest_of (e ∙ tree_from_kept (as_tree f) elements text h) ∙ one_node f o
@@ -78,6 +82,7 @@ last_get [] x (suc n) h = absurd (omega arith)
 last_get (e ∷ es) x zero h = absurd (omega arith)
 last_get (e ∷ es) x (suc n) h = last_get es x n (omega arith)
 
+-- a row of one tree is a node if the last entry is
 pub one_node_test : (f : Forest) → tree_count f ≡ 1 → is_one_node f ≡ is_node_last (entries_of f)
 one_node_test empty h = absurd (omega arith)
 one_node_test (leaf k t empty) h = refl
@@ -87,6 +92,7 @@ one_node_test (node k c empty) h = ap is_node_entry (sym (last_get (entries_of c
 one_node_test (node k c (leaf j u f)) h = absurd (omega arith)
 one_node_test (node k c (node j d f)) h = absurd (omega arith)
 
+-- a builder is complete if no node is open, and one tree is there, a node
 pub complete_is : (f : Forest) (text : List ℕ) (es : List Entry) (os : List Pending) (st : List ℕ) → IsBuilt f text es os st → length os ≡ 0 → length st ≡ 1 →
     is_node_last es ≡ is_complete_of record { finished = f; open_nodes = open_pairs os }
 complete_is f text es [] st h o s = ap is_node_last h.entries ∙ sym (one_node_test f (sym h.counted ∙ s))

@@ -17,4 +17,7 @@ pub mod FirstFromLemmas
 pub mod OffsetLemmas
 pub mod SameLemmas
 pub mod CountLemmas
+pub mod WalkRows
+pub mod EnterSteps
+pub mod LeaveSteps
 pub mod PreorderLemmas

@@ -1,14 +1,12 @@
 -- How the elements of a tree lie inside one another, by their numbers.
-use Rattle.std.proofs.Common.{◌≡◌, ℕ, zero, suc, ◌+◌, ◌-◌, ◌≤◌, ◌<◌, List, [], ◌∷◌, ◌++◌, length, get_or, Option, Some, None, Bool, true, false, refl, ap, sym, subst, ◌∙◌, arith, ◌⊎◌, inl, inr, append-nil}
+use Rattle.std.proofs.Common.{◌≡◌, ℕ, zero, suc, ◌+◌, ◌-◌, ◌≤◌, ◌<◌, length, get_or, Option, Some, None, refl, ap, sym, subst, ◌∙◌, arith, ◌⊎◌, inl, inr}
 use Rattle.std.proofs.lemmas.Bool.{cases_lt}
 use Rattle.std.proofs.lemmas.Option.{same_Some}
 use Rattle.std.proofs.lemmas.List.{get_or_append_left, get_or-append_right}
 use Rattle.rnix_kinds.specs.declared.kinds.SyntaxKind.{SyntaxKind}
 use Rattle.rnix_tree.specs.Forest.{Forest, empty, leaf, node, text_of, element_count}
-use Rattle.rnix_tree.specs.Tree.{Tree, Item, items_from, items_of, forest_of, no_item, item, part_at}
+use Rattle.rnix_tree.specs.Tree.{Item, items_from, no_item}
 use Rattle.rnix_tree.proofs.PieceLemmas.{length-items_from}
-use Rattle.rnix_tree.proofs.SiblingLemmas.{below_fits, next_inside}
-use Rattle.rnix_tree.proofs.PartLemmas.{IsPart, IsOne, one_leaf, one_node, item_of_part, part_there, one_there}
 
 -- the element of an index in a row
 abbrev pub at : ℕ → ℕ → Option ℕ → Forest → ℕ → Item
@@ -19,6 +17,7 @@ pub data Behind (n s : ℕ) (p : Option ℕ) (k : SyntaxKind) (c f : Forest) (i 
   inside : i < element_count c → at n s p (node k c f) (suc i) ≡ at (n + 1) s (Some n) c i → Behind n s p k c f i
   beyond : element_count c ≤ i → at n s p (node k c f) (suc i) ≡ at (n + 1 + element_count c) (s + length (text_of c)) p f (i - element_count c) → Behind n s p k c f i
 
+-- an element after the first one, a node, stands inside it or behind it
 pub behind : (n s : ℕ) (p : Option ℕ) (k : SyntaxKind) (c f : Forest) (i : ℕ) → Behind n s p k c f i
 behind n s p k c f i =
     let xs = items_from (n + 1) s (Some n) c in
@@ -48,6 +47,7 @@ inner_parented : (n m : ℕ) (p parent : Option ℕ) → n ≤ m → Parented m 
 inner_parented n m p parent l (of_row e) = of_node n e (omega arith)
 inner_parented n m p parent l (of_node q e low) = of_node q e (omega arith)
 
+-- the parent of an element is that of the row, or a node of the row
 pub parented : (n s : ℕ) (p : Option ℕ) (f : Forest) (i : ℕ) → i < element_count f → Parented n p (at n s p f i).parent
 parented n s p empty i l = absurd (omega arith)
 parented n s p (leaf k t f) zero l = of_row refl
@@ -115,6 +115,7 @@ pub record IsOver (n i q : ℕ) (p : Option ℕ) (s : ℕ) (f : Forest) : Type 0
   pub high : q < n + i
   pub over : n + i ≤ q + (at n s p f (q - n)).below
 
+-- an element that has a parent in the row is inside it
 pub parent_over : (n s : ℕ) (p : Option ℕ) (f : Forest) (i q : ℕ) → i < element_count f → (at n s p f i).parent ≡ Some q → (p ≡ Some q) ⊎ IsOver n i q p s f
 parent_over n s p empty i q l e = absurd (omega arith)
 parent_over n s p (leaf k t f) zero q l e = inl e

@@ -1,17 +1,18 @@
 -- Which tokens stand at an offset.
-use Rattle.std.proofs.Common.{get_or, ◌≡◌, ℕ, zero, suc, ◌+◌, ◌-◌, ◌≤◌, ◌<◌, ◌⊎◌, length, Some, None, true, false, refl, ap, sym, subst, ◌∙◌, arith, inl, inr}
+use Rattle.std.proofs.Common.{get_or, ◌≡◌, ℕ, ◌+◌, ◌-◌, ◌≤◌, ◌<◌, ◌⊎◌, length, Some, None, false, ap, sym, subst, ◌∙◌, arith, inl, inr}
 use Rattle.std.proofs.lemmas.Bool.{cases_lt}
 use Rattle.rnix_tree.specs.Tree.{Tree, Item, items_from, items_of, item, no_item, forest_of}
-use Rattle.rnix_tree.specs.Relatives.{IsNodeIn, IsTokenIn, IsTokenInside}
+use Rattle.rnix_tree.specs.Relatives.{IsNodeIn, IsTokenInside}
 use Rattle.rnix_tree.specs.Offset.{IsTouched, IsHolding}
 use Rattle.rnix_tree.proofs.SiblingLemmas.{next_inside}
-use Rattle.rnix_tree.proofs.InsideLemmas.{Inner, inner_of, elements_in_all, leaf_holds_nothing}
-use Rattle.rnix_tree.proofs.StartLemmas.{in_order, in_text, HasLeft, has_left}
+use Rattle.rnix_tree.proofs.InsideLemmas.{inner_of, elements_in_all, leaf_holds_nothing}
+use Rattle.rnix_tree.proofs.StartLemmas.{in_order, in_text, has_left}
 
 -- an element before another in preorder
 order : (t : Tree) (i j : ℕ) → i < j → j < length (items_of t) → ((item t i).start ≤ (item t j).start) × (i + (item t i).below < j → (item t i).end ≤ (item t j).start)
 order t i j l h = (let o = in_order 0 0 None (forest_of t) i j l (omega (arith, elements_in_all t)) in (o.starts, o.ends))
 
+-- an element ends no earlier than it begins
 pub is_ordered : (t : Tree) (m : ℕ) → m < length (items_of t) → (item t m).start ≤ (item t m).end
 is_ordered t m l = (let b = in_text 0 0 None (forest_of t) m (omega (arith, elements_in_all t)) in b.ordered)
 

@@ -41,6 +41,7 @@ in_right n m q j xs ys e l h =
           ap (λ x. x.is_node) (get_or-append_right xs ys j (q - n) no_item e (omega (arith, h.low)) ∙ ap (λ k. get_or ys k no_item) same) ∙ h.is_node;
     }
 
+-- the parent of an element is that of the row, or a node before the element
 pub parent_of : (n s : ℕ) (p : Option ℕ) (f : Forest) (m q : ℕ) → m < element_count f → (get_or (items_from n s p f) m no_item).parent ≡ Some q →
     (p ≡ Some q) ⊎ IsNodeBefore n m q (items_from n s p f)
 parent_of n s p empty m q l e = absurd (omega arith)
@@ -75,6 +76,7 @@ parent_of n s p (node k c f) (suc m) q l e =
           ]
     ]
 
+-- a parent is a node
 pub parent_is_node : (t : Tree) (m q : ℕ) → m < length (items_of t) → (item t m).parent ≡ Some q → IsNodeAt record { tree = t; number = q }
 parent_is_node t m q l e =
     let count : length (items_of t) ≡ element_count (forest_of t) = length-items_from 0 0 None (forest_of t) in
@@ -85,6 +87,7 @@ parent_is_node t m q l e =
           record { is_there = omega (arith, h.high); is_node = ap (λ k. (get_or (items_of t) k no_item).is_node) same ∙ h.is_node }
     ]
 
+-- a parent comes before its children
 pub parent_is_before : (t : Tree) (m q : ℕ) → m < length (items_of t) → (item t m).parent ≡ Some q → q < m
 parent_is_before t m q l e =
     let count : length (items_of t) ≡ element_count (forest_of t) = length-items_from 0 0 None (forest_of t) in

@@ -39,6 +39,7 @@ later_part n j m part xs is ys e h = record {
   counted = omega (arith, length-append xs h.before, h.counted);
 }
 
+-- an element of a row is a part of it
 pub part_in : (n s : ℕ) (p : Option ℕ) (f : Forest) (m : ℕ) → n ≤ m → m < n + element_count f → IsPart n m (part_of m n f) (items_from n s p f)
 part_in n s p empty m l h = absurd (omega arith)
 part_in n s p (leaf k t f) m l h =
@@ -98,6 +99,7 @@ choice : (b : Bool) (f g : Forest) → (b ≡ true → IsOne f) → (b ≡ false
 choice true f g h k = h refl
 choice false f g h k = k refl
 
+-- and one tree
 pub part_is_one : (n : ℕ) (f : Forest) (m : ℕ) → n ≤ m → m < n + element_count f → IsOne (part_of m n f)
 part_is_one n empty m l h = absurd (omega arith)
 part_is_one n (leaf k t f) m l h =
@@ -121,11 +123,13 @@ item_of_part t r m part h l u =
     ∙ get_or-append_right h.before (xs ++ h.after) r m no_item (omega (arith, h.counted)) l
     ∙ get_or_append_left xs h.after no_item (m - r) (omega arith)
 
+-- an element of a tree is a part of it
 pub part_there : (t : Tree) (r : ℕ) → r < length (items_of t) → IsPart 0 r (part_at record { tree = t; number = r }) (items_of t)
 part_there t r l =
     let count : length (items_of t) ≡ element_count (forest_of t) = length-items_from 0 0 None (forest_of t) in
     part_in 0 0 None (forest_of t) r (omega arith) (omega arith)
 
+-- and one tree
 pub one_there : (t : Tree) (r : ℕ) → r < length (items_of t) → IsOne (part_at record { tree = t; number = r })
 one_there t r l =
     let count : length (items_of t) ≡ element_count (forest_of t) = length-items_from 0 0 None (forest_of t) in

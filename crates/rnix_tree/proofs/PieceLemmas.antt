@@ -6,10 +6,10 @@ use Rattle.std.proofs.lemmas.Str.{IsUtf8-append, IsUtf8-nil, IsCharBoundary-at_s
 use Rattle.std.specs.Str.{IsUtf8, IsCharBoundary}
 use Rattle.rnix_tree.specs.declared.green.Element.{Element}
 use Rattle.rnix_tree.specs.Kept.{item_from, IsKept}
-use Rattle.rnix_tree.specs.Forest.{Forest, empty, leaf, node, text_of, element_count}
+use Rattle.rnix_tree.specs.Forest.{Forest, empty, leaf, node, text_of, element_count, HasText}
 use Rattle.rnix_tree.specs.Tree.{Tree, Item, items_from, items_of, forest_of, no_item, item}
-use Rattle.rnix_tree.specs.Forest.{HasText}
 
+-- as many items as elements
 pub length-items_from : (n s : ℕ) (p : Option ℕ) (f : Forest) → length (items_from n s p f) ≡ element_count f
 length-items_from n s p empty = refl
 length-items_from n s p (leaf k t f) = ap suc (length-items_from (n + 1) (s + length t) p f)
@@ -18,6 +18,7 @@ length-items_from n s p (node k c f) =
     let outer = length-items_from (n + 1 + element_count c) (s + length (text_of c)) p f in
     omega (arith, inner, outer, length-append (items_from (n + 1) s (Some n) c) (items_from (n + 1 + element_count c) (s + length (text_of c)) p f))
 
+-- a text of characters
 pub text_of-IsUtf8 : (f : Forest) → HasText f → IsUtf8 (text_of f)
 text_of-IsUtf8 empty h = IsUtf8-nil
 text_of-IsUtf8 (leaf k t f) h = IsUtf8-append t (text_of f) h.0 (text_of-IsUtf8 f h.1)
@@ -61,6 +62,7 @@ piece_after s t rest i u p = record {
   after_text = p.after_text;
 }
 
+-- each element is a piece of the text
 pub piece_of : (n s : ℕ) (p : Option ℕ) (f : Forest) (m : ℕ) → HasText f → m < element_count f → Piece s (text_of f) (get_or (items_from n s p f) m no_item)
 piece_of n s p empty m h l = absurd (omega arith)
 piece_of n s p (leaf k t f) zero h l = record {
@@ -108,6 +110,7 @@ pub record IsCut (text : List ℕ) (i : Item) : Type 0 where
   pub at_start : IsCharBoundary text i.start
   pub at_end : IsCharBoundary text i.end
 
+-- a piece of a text can be cut from it
 pub cut_from_piece : (text : List ℕ) (i : Item) → Piece 0 text i → IsCut text i
 cut_from_piece text i p =
     let first : i.start ≡ length p.before = omega (arith, p.starts) in
@@ -119,6 +122,7 @@ cut_from_piece text i p =
       at_end = subst B (sym last) (IsCharBoundary-at_seam text (p.before ++ p.inside) p.after (p.parts ∙ sym (append_assoc p.before p.inside p.after)) p.after_text);
     }
 
+-- so can each element of a tree
 pub cut_of : (t : Tree) (m : ℕ) → HasText (forest_of t) → m < length (items_of t) → IsCut (text_of (forest_of t)) (item t m)
 cut_of t m h l =
     cut_from_piece (text_of (forest_of t)) (item t m)
@@ -131,6 +135,7 @@ item_of_element t es text m e h l r =
     let count : length es ≡ length (items_of t) = sym (length-map es item_from) ∙ ap length h.elements in
     ap item_from r ∙ sym (get_or-map item_from es m e no_item (omega arith)) ∙ ap (λ is. get_or is m no_item) h.elements
 
+-- and each that is kept
 pub cut_of_element : (t : Tree) (es : List Element) (text : List ℕ) (m : ℕ) (e : Element) → IsKept t es text → m < length (items_of t) →
     e ≡ get_or es m e → IsCut text (item_from e)
 cut_of_element t es text m e h l r =

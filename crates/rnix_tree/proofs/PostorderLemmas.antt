@@ -13,18 +13,21 @@ use Rattle.rnix_tree.specs.Tree.{Item, items_from}
 use Rattle.rnix_tree.specs.Postorder.{entries_of, child_number, parent_number, entries_left, text_left, frame_item, around, IsAligned, HasMore, IsReached, IsWork}
 use Rattle.rnix_tree.proofs.ForestLemmas.{text_of-join}
 
+-- as many entries as elements
 pub length-post_of : (f : Forest) → length (entries_of f) ≡ element_count f
 length-post_of empty = refl
 length-post_of (leaf k t f) = ap suc (length-post_of f)
 length-post_of (node k c f) =
     omega (arith, length-post_of c, length-post_of f, length-append (entries_of c) (Node k (element_count c) ∷ entries_of f))
 
+-- the entries of two rows
 pub entries_of-join : (f g : Forest) → entries_of (join f g) ≡ entries_of f ++ entries_of g
 entries_of-join empty g = refl
 entries_of-join (leaf k t f) g = ap (λ x. Leaf k (length t) ∷ x) (entries_of-join f g)
 entries_of-join (node k c f) g =
     ap (λ x. entries_of c ++ (Node k (element_count c) ∷ x)) (entries_of-join f g) ∙ sym (append_assoc (entries_of c) (Node k (element_count c) ∷ entries_of f) (entries_of g))
 
+-- the items of two rows
 pub items_from-join : (n s : ℕ) (p : Option ℕ) (f g : Forest) →
     items_from n s p (join f g) ≡ items_from n s p f ++ items_from (n + element_count f) (s + length (text_of f)) p g
 items_from-join n s p empty g =
@@ -66,6 +69,7 @@ after_node k d _ no_last = last_node empty k d
 after_node k d _ (last_leaf g j u) = last_leaf (node k d g) j u
 after_node k d _ (last_node g j c) = last_node (node k d g) j c
 
+-- a row is empty, or has a last tree
 pub last_of : (f : Forest) → Last f
 last_of empty = no_last
 last_of (leaf k t f) = after_leaf k t f (last_of f)
@@ -115,6 +119,7 @@ pub record IsLeafRead (forest : Forest) (before : List Entry) (offset : ℕ) (fr
   pub work : IsWork forest before (offset - n) frs
       (record { kind = k; is_node = false; start = offset - n; end = offset; parent = parent_number frs; below = 0 } ∷ done)
 
+-- a leaf is read
 pub leaf_step : (forest : Forest) (before : List Entry) (offset : ℕ) (frs : List Frame) (done : List Item) (k : SyntaxKind) (n : ℕ) →
     IsWork forest (before ++ Leaf k n ∷ []) offset frs done → HasMore frs (length before + 1) → IsLeafRead forest before offset frs done k n
 leaf_step forest before offset frs done k n w o = go w.current w.outer (last_of w.current) w.entries w.text w.aligned w.items
@@ -166,10 +171,12 @@ first_child [] (g ∷ gs) al = absurd al
 first_child (fr ∷ frs) [] al = absurd al
 first_child (fr ∷ frs) (g ∷ gs) al = omega (arith, al.1)
 
+-- a node is read: its frame is open, and what is inside it is left to do
 pub record IsNodeRead (forest : Forest) (before : List Entry) (offset : ℕ) (frs : List Frame) (done : List Item) (fr : Frame) : Type 0 where
   pub fits : fr.below ≤ length before
   pub work : fr.first ≡ length before - fr.below → fr.number ≡ fr.first + length frs → fr.end ≡ offset → IsWork forest before offset (fr ∷ frs) done
 
+-- a node is read
 pub node_step : (forest : Forest) (before : List Entry) (offset : ℕ) (frs : List Frame) (done : List Item) (fr : Frame) →
     IsWork forest (before ++ Node fr.kind fr.below ∷ []) offset frs done → HasMore frs (length before + 1) → IsNodeRead forest before offset frs done fr
 node_step forest before offset frs done fr w o = go w.current w.outer (last_of w.current) w.entries w.text w.aligned w.items
@@ -236,6 +243,7 @@ no_frame [] outer al e o = refl
 no_frame (fr ∷ frs) [] al e o = absurd al
 no_frame (fr ∷ frs) (g ∷ gs) al e o = absurd (o (al.0 ∙ e))
 
+-- all is left to do
 pub start_work : (forest : Forest) (offset : ℕ) → offset ≡ length (text_of forest) → IsWork forest (entries_of forest) offset [] []
 start_work forest offset e = record {
   current = forest;
@@ -246,6 +254,7 @@ start_work forest offset e = record {
   items = append-nil _;
 }
 
+-- where no entry is left all items are done
 pub end_work : (forest : Forest) (offset : ℕ) (frs : List Frame) (done : List Item) → IsWork forest [] offset frs done → HasMore frs 0 → done ≡ items_from 0 0 None forest
 end_work forest offset frs done w o =
     let none : length (entries_left w.outer ++ entries_of w.current) ≡ 0 = sym (ap length w.entries) in
@@ -259,6 +268,7 @@ end_work forest offset frs done w o =
         rw none at it
     go cur (g ∷ gs) en al it = absurd al
 
+-- the innermost frame, where its entries are read
 pub closing_last : (frames : List Frame) (fr : Frame) → 0 < length frames → get_or frames (length frames - 1) fr ≡ fr →
     reverse frames ≡ fr ∷ reverse (take (length frames - 1) frames)
 closing_last frames fr l is =
@@ -272,6 +282,7 @@ last_entry es left d x l z e =
     let more : left ≡ left - 1 + 1 = omega arith in
     ap (λ n. take n es) more ∙ take_more es (left - 1) d (omega arith) ∙ ap (λ y. take (left - 1) es ++ y ∷ []) e
 
+-- a leaf is read from the list
 pub leaf_at : (forest : Forest) (es : List Entry) (left offset : ℕ) (frs : List Frame) (done : List Item) (k : SyntaxKind) (n : ℕ) (d : Entry) →
     left ≤ length es → left ≢ 0 → get_or es (left - 1) d ≡ Leaf k n → HasMore frs left → IsWork forest (take left es) offset frs done →
     IsLeafRead forest (take (left - 1) es) offset frs done k n
@@ -279,6 +290,7 @@ leaf_at forest es left offset frs done k n d l z e o w =
     let same : left ≡ length (take (left - 1) es) + 1 = omega (arith, length-take-le (left - 1) es (omega arith)) in
     leaf_step forest (take (left - 1) es) offset frs done k n (rw (last_entry es left d (Leaf k n) l z e) at w) (subst (HasMore frs) same o)
 
+-- so is a node
 pub node_at : (forest : Forest) (es : List Entry) (left offset : ℕ) (frs : List Frame) (done : List Item) (fr : Frame) (d : Entry) →
     left ≤ length es → left ≢ 0 → get_or es (left - 1) d ≡ Node fr.kind fr.below → HasMore frs left → IsWork forest (take left es) offset frs done →
     IsNodeRead forest (take (left - 1) es) offset frs done fr
@@ -286,6 +298,7 @@ node_at forest es left offset frs done fr d l z e o w =
     let same : left ≡ length (take (left - 1) es) + 1 = omega (arith, length-take-le (left - 1) es (omega arith)) in
     node_step forest (take (left - 1) es) offset frs done fr (rw (last_entry es left d (Node fr.kind fr.below) l z e) at w) (subst (HasMore frs) same o)
 
+-- the innermost frame is closed
 pub close_at : (forest : Forest) (es : List Entry) (left offset : ℕ) (frames : List Frame) (done : List Item) (fr : Frame) →
     left ≤ length es → IsReached frames left fr → IsWork forest (take left es) offset (reverse frames) done →
     IsWork forest (take left es) offset (reverse (take (length frames - 1) frames))
@@ -293,6 +306,7 @@ pub close_at : (forest : Forest) (es : List Entry) (left offset : ℕ) (frames :
 close_at forest es left offset frames done fr l h w =
     close_step forest (take left es) offset fr _ done (rw h.innermost at w) (h.reached ∙ sym (length-take-le left es l))
 
+-- one more element is done
 pub done_push : (out : List Element) (e : Element) → reverse (map item_from (out ++ e ∷ [])) ≡ item_from e ∷ reverse (map item_from out)
 done_push out e = ap reverse (map-append item_from out (e ∷ [])) ∙ reverse-append (map item_from out) (item_from e ∷ [])
 
@@ -300,11 +314,13 @@ map_onto : (xs ys : List Element) → map item_from (reverse_aux xs ys) ≡ reve
 map_onto [] ys = refl
 map_onto (x ∷ xs) ys = map_onto xs (x ∷ ys)
 
+-- all elements are done
 pub done_all : (forest : Forest) (es : List Entry) (left offset : ℕ) (frs : List Frame) (out : List Element) → left ≡ 0 → HasMore frs left →
     IsWork forest (take left es) offset frs (reverse (map item_from out)) → map item_from (reverse out) ≡ items_from 0 0 None forest
 done_all forest es left offset frs out z o w =
     map_onto out [] ∙ end_work forest offset frs (reverse (map item_from out)) (rw z at w) (rw z at o)
 
+-- all is left to do of what a builder keeps
 pub init_work : (forest : Forest) (es : List Entry) (offset : ℕ) (text : List ℕ) (frames : List Frame) (out : List Element) → es ≡ entries_of forest →
     offset ≡ length text → text ≡ text_of forest → frames ≡ [] → out ≡ [] → IsWork forest (take (length es) es) offset (reverse frames) (reverse (map item_from out))
 init_work forest es offset text frames out e o t f u =

@@ -1,10 +1,10 @@
 -- What stands beside an element and inside it.
-use Rattle.std.proofs.Common.{is_some, ◌≡◌, ℕ, zero, suc, ◌+◌, ◌-◌, ◌≤◌, ◌<◌, length, Option, Some, None, Bool, true, false, refl, ap, sym, subst, ◌∙◌, arith, ◌⊎◌, inl, inr}
+use Rattle.std.proofs.Common.{is_some, ◌≡◌, ℕ, zero, suc, ◌+◌, ◌-◌, ◌≤◌, ◌<◌, length, Option, Some, None, true, false, refl, sym, subst, ◌∙◌, arith, inl, inr}
 use Rattle.std.proofs.lemmas.Bool.{cases_lt}
 use Rattle.std.proofs.lemmas.Option.{same_Some}
-use Rattle.rnix_tree.specs.Tree.{Tree, Item, items_of, item}
-use Rattle.rnix_tree.specs.Relatives.{IsThat, located, IsFirst, IsLast, IsChild, IsSibling, IsNodeIn, IsTokenIn, IsSiblingNode}
-use Rattle.rnix_tree.specs.Around.{IsThereIfAny, IsNodeIfAny, IsTokenIfAny, IsOnWayTo, FirstNodeFrom, LastNodeFrom}
+use Rattle.rnix_tree.specs.Tree.{Tree, items_of, item}
+use Rattle.rnix_tree.specs.Relatives.{IsThat, located, IsFirst, IsLast, IsChild, IsSibling, IsNodeIn, IsSiblingNode}
+use Rattle.rnix_tree.specs.Around.{IsThereIfAny, IsNodeIfAny, IsOnWayTo, FirstNodeFrom, LastNodeFrom}
 use Rattle.rnix_tree.proofs.SiblingLemmas.{next_inside}
 use Rattle.rnix_tree.proofs.ParentLemmas.{parent_is_node, parent_is_before}
 use Rattle.rnix_tree.proofs.InsideLemmas.{held, ends_inside, first_child_of, below_parent, sibling_behind, has_parent}
@@ -101,6 +101,7 @@ pub record IsClimbing (t : Tree) (p m child : ℕ) : Type 0 where
   pub low : child ≤ m
   pub high : m ≤ child + (item t child).below
 
+-- an element is where the way to it begins
 pub climb_start : (t : Tree) (p m : ℕ) → p < m → IsClimbing t p m m
 climb_start t p m l = record { above = l; low = omega arith; high = omega arith }
 
@@ -124,6 +125,7 @@ climb_step t p m child above l high h e differs =
     apart : (p q : ℕ) → p ≤ q → ¬ (q ≡ p) → p < q
     apart p q l d = elim (cases_lt p q) [ inl less ↦ less | inr more ↦ absurd (d (omega arith)) ]
 
+-- the way to an element ends at a child
 pub climb_end : (t : Tree) (p m child : ℕ) → IsClimbing t p m child → (item t child).parent ≡ Some p → IsOnWayTo t p m child
 climb_end t p m child h e = record { parent = e; above = h.above; low = h.low; high = h.high }
 
@@ -141,11 +143,13 @@ pub record Stepped (t : Tree) (n k : ℕ) : Type 0 where
   pub there : k < length (items_of t)
   pub beside : (item t k).parent ≡ (item t n).parent
 
+-- no node stands from the start up to here, among the siblings behind
 abbrev pub IsAhead : Tree → Option ℕ → Option ℕ → Type 0
 IsAhead t None next = next ≡ None
 IsAhead t (Some n) None = (n < length (items_of t)) × ((m : ℕ) → n ≤ m → ¬ IsSiblingNode record { tree = t; number = n } m)
 IsAhead t (Some n) (Some k) = Stepped t n k × (n ≤ k) × ((m : ℕ) → n ≤ m → m < k → ¬ IsSiblingNode record { tree = t; number = n } m)
 
+-- nor from the start back to here, among those before
 abbrev pub IsBack : Tree → Option ℕ → Option ℕ → Type 0
 IsBack t None next = next ≡ None
 IsBack t (Some n) None = (n < length (items_of t)) × ((m : ℕ) → m ≤ n → ¬ IsSiblingNode record { tree = t; number = n } m)
@@ -156,14 +160,17 @@ abbrev pub left_ahead : Tree → Option ℕ → ℕ
 left_ahead t None = 0
 left_ahead t (Some k) = 1 + (length (items_of t) - k)
 
+-- how far there is to go back
 abbrev pub left_back : Option ℕ → ℕ
 left_back None = 0
 left_back (Some k) = 1 + k
 
+-- the way ahead begins
 pub ahead_start : (t : Tree) (start : Option ℕ) → IsThereIfAny t start → IsAhead t start start
 ahead_start t None h = refl
 ahead_start t (Some n) h = (record { start = h; there = h; beside = refl }, omega arith, λ m low high s. omega arith)
 
+-- so does the way back
 pub back_start : (t : Tree) (start : Option ℕ) → IsThereIfAny t start → IsBack t start start
 back_start t None h = refl
 back_start t (Some n) h = (record { start = h; there = h; beside = refl }, omega arith, λ m low high s. omega arith)
@@ -171,6 +178,7 @@ back_start t (Some n) h = (record { start = h; there = h; beside = refl }, omega
 no_node_there : (t : Tree) (k : ℕ) → (item t k).is_node ≡ false → IsNodeIn t k → ⊥
 no_node_there t k e h = (let x = sym e ∙ h.is_node in cc)
 
+-- a token is passed ahead
 pub ahead_step : (t : Tree) (start : Option ℕ) (k : ℕ) (next : Option ℕ) → IsAhead t start (Some k) → (item t k).is_node ≡ false → IsFirst (IsSibling record { tree = t; number = k }) k next → IsAhead t start next
 ahead_step t None k next h token first = absurd (cc)
 ahead_step t (Some n) k None h token first = (
@@ -197,6 +205,7 @@ ahead_step t (Some n) k (Some r) h token first = (
       ],
 )
 
+-- and back
 pub back_step : (t : Tree) (start : Option ℕ) (k : ℕ) (next : Option ℕ) → IsBack t start (Some k) → (item t k).is_node ≡ false → IsLast (IsSibling record { tree = t; number = k }) k next → IsBack t start next
 back_step t None k next h token last = absurd (cc)
 back_step t (Some n) k None h token last = (
@@ -223,26 +232,32 @@ back_step t (Some n) k (Some r) h token last = (
       ],
 )
 
+-- the way ahead stays in the tree
 pub ahead_there : (t : Tree) (start : Option ℕ) (k : ℕ) → IsAhead t start (Some k) → k < length (items_of t)
 ahead_there t None k h = absurd (cc)
 ahead_there t (Some n) k h = h.0.there
 
+-- so does the way back
 pub back_there : (t : Tree) (start : Option ℕ) (k : ℕ) → IsBack t start (Some k) → k < length (items_of t)
 back_there t None k h = absurd (cc)
 back_there t (Some n) k h = h.0.there
 
+-- a node ahead is the first
 pub ahead_found : (t : Tree) (start : Option ℕ) (k : ℕ) → IsAhead t start (Some k) → (item t k).is_node ≡ true → FirstNodeFrom t start (Some k)
 ahead_found t None k h node = absurd (cc)
 ahead_found t (Some n) k h node = (h.1, (record { is_there = h.0.there; parent = h.0.beside }, record { is_there = h.0.there; is_node = node }), h.2)
 
+-- one back is the last
 pub back_found : (t : Tree) (start : Option ℕ) (k : ℕ) → IsBack t start (Some k) → (item t k).is_node ≡ true → LastNodeFrom t start (Some k)
 back_found t None k h node = absurd (cc)
 back_found t (Some n) k h node = (h.1, (record { is_there = h.0.there; parent = h.0.beside }, record { is_there = h.0.there; is_node = node }), h.2)
 
+-- where the way ahead ends there is no node
 pub ahead_none : (t : Tree) (start : Option ℕ) → IsAhead t start None → FirstNodeFrom t start None
 ahead_none t None h = h
 ahead_none t (Some n) h = h.1
 
+-- nor where the way back does
 pub back_none : (t : Tree) (start : Option ℕ) → IsBack t start None → LastNodeFrom t start None
 back_none t None h = h
 back_none t (Some n) h = h.1
@@ -308,15 +323,18 @@ pub first_is_there : (t : Tree) (Q : ℕ → Type 0) (n : ℕ) (r : Option ℕ) 
 first_is_there t Q n None there h = tt
 first_is_there t Q n (Some r) there h = there r h.1
 
+-- a last number is one of the tree's
 pub last_is_there : (t : Tree) (Q : ℕ → Type 0) (n : ℕ) (r : Option ℕ) → ((m : ℕ) → Q m → m < length (items_of t)) → IsLast Q n r → IsThereIfAny t r
 last_is_there t Q n None there h = tt
 last_is_there t Q n (Some r) there h = there r h.1
 
+-- a first node is a node
 pub first_is_node : (t : Tree) (start r : Option ℕ) → FirstNodeFrom t start r → IsNodeIfAny t r
 first_is_node t start None h = tt
 first_is_node t None (Some r) h = absurd (cc)
 first_is_node t (Some n) (Some r) h = h.1.1
 
+-- and so is a last one
 pub last_is_node : (t : Tree) (start r : Option ℕ) → LastNodeFrom t start r → IsNodeIfAny t r
 last_is_node t start None h = tt
 last_is_node t None (Some r) h = absurd (cc)

@@ -71,6 +71,7 @@ below_fits n s p (node k c f) (suc m) l =
           )
     ]
 
+-- what is inside an element is in the tree
 pub next_inside : (t : Tree) (m : ℕ) → m < length (items_of t) → m + 1 + (item t m).below ≤ length (items_of t)
 next_inside t m l =
     let count : length (items_of t) ≡ element_count (forest_of t) = length-items_from 0 0 None (forest_of t) in

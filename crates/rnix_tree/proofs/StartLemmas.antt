@@ -1,11 +1,9 @@
 -- Where the elements of a tree start: in preorder no start comes before an earlier one.
-use Rattle.std.proofs.Common.{subst, ◌≡◌, ℕ, zero, suc, ◌+◌, ◌-◌, ◌≤◌, ◌<◌, List, ◌++◌, length, Option, Some, None, Bool, true, false, refl, ap, sym, ◌∙◌, arith, inl, inr, length-append}
+use Rattle.std.proofs.Common.{subst, ◌≡◌, ℕ, zero, suc, ◌+◌, ◌-◌, ◌≤◌, ◌<◌, ◌++◌, length, Option, Some, false, refl, ap, sym, ◌∙◌, arith, inl, inr, length-append}
 use Rattle.std.proofs.lemmas.Bool.{cases_lt}
-use Rattle.rnix_kinds.specs.declared.kinds.SyntaxKind.{SyntaxKind}
 use Rattle.rnix_tree.specs.Forest.{Forest, empty, leaf, node, text_of, element_count}
-use Rattle.rnix_tree.specs.Tree.{Tree, Item, items_from, items_of, forest_of, item}
-use Rattle.rnix_tree.proofs.NestLemmas.{at, Behind, inside, beyond, behind}
-use Rattle.rnix_tree.proofs.InsideLemmas.{elements_in_all}
+use Rattle.rnix_tree.specs.Tree.{Item}
+use Rattle.rnix_tree.proofs.NestLemmas.{at, inside, beyond, behind}
 
 -- an element lies in the text of its row
 pub record IsBetween (s e : ℕ) (i : Item) : Type 0 where
@@ -13,6 +11,7 @@ pub record IsBetween (s e : ℕ) (i : Item) : Type 0 where
   pub ordered : i.start ≤ i.end
   pub high : i.end ≤ e
 
+-- an element stands inside the text of its row
 pub in_text : (n s : ℕ) (p : Option ℕ) (f : Forest) (i : ℕ) → i < element_count f → IsBetween s (s + length (text_of f)) (at n s p f i)
 in_text n s p empty i l = absurd (omega arith)
 in_text n s p (leaf k t f) zero l = record { low = omega arith; ordered = omega arith; high = omega (arith, length-append t (text_of f)) }
@@ -36,6 +35,7 @@ pub record IsBefore (i : ℕ) (a : Item) (j : ℕ) (b : Item) : Type 0 where
   pub starts : a.start ≤ b.start
   pub ends : i + a.below < j → a.end ≤ b.start
 
+-- an element begins no later than those after it, and ends before those that it does not hold
 pub in_order : (n s : ℕ) (p : Option ℕ) (f : Forest) (i j : ℕ) → i < j → j < element_count f → IsBefore i (at n s p f i) j (at n s p f j)
 in_order n s p empty i j l h = absurd (omega arith)
 in_order n s p f i zero l h = absurd (omega arith)
@@ -106,6 +106,7 @@ pub record HasLeft (n s : ℕ) (p : Option ℕ) (f : Forest) (o : ℕ) : Type 0 
   pub low : (at n s p f index).start < o
   pub high : o ≤ (at n s p f index).end
 
+-- a byte of a row's text is one of its tokens'
 pub has_left : (n s : ℕ) (p : Option ℕ) (f : Forest) (o : ℕ) → s < o → o ≤ s + length (text_of f) → HasLeft n s p f o
 has_left n s p empty o l h = absurd (omega arith)
 has_left n s p (leaf k t f) o l h = elim (cases_lt (s + length t) o) [

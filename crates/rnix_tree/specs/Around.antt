@@ -9,11 +9,12 @@ abbrev pub IsThereIfAny : Tree → Option ℕ → Type 0
 IsThereIfAny t None = Unit {0}
 IsThereIfAny t (Some n) = n < length (items_of t)
 
--- it is that of a node, or of a token
+-- it is that of a node, if there is one
 abbrev pub IsNodeIfAny : Tree → Option ℕ → Type 0
 IsNodeIfAny t None = Unit {0}
 IsNodeIfAny t (Some n) = IsNodeIn t n
 
+-- it is that of a token, if there is one
 abbrev pub IsTokenIfAny : Tree → Option ℕ → Type 0
 IsTokenIfAny t None = Unit {0}
 IsTokenIfAny t (Some n) = IsTokenIn t n
@@ -46,11 +47,12 @@ LastNodeFrom t (Some n) (Some r) =
     (r ≤ n) × IsSiblingNode record { tree = t; number = n } r
     × ((m : ℕ) → r < m → m ≤ n → ¬ IsSiblingNode record { tree = t; number = n } m)
 
--- the first and the last token among the elements from one number up to another
+-- the first token among the elements from one number up to another
 abbrev pub IsFirstTokenAmong : Tree → ℕ → ℕ → Option ℕ → Type 0
 IsFirstTokenAmong t from end None = (m : ℕ) → from ≤ m → m < end → ¬ IsTokenIn t m
 IsFirstTokenAmong t from end (Some r) = (from ≤ r) × (r < end) × IsTokenIn t r × ((m : ℕ) → from ≤ m → m < r → ¬ IsTokenIn t m)
 
+-- the last token among the elements from one number up to another
 abbrev pub IsLastTokenAmong : Tree → ℕ → ℕ → Option ℕ → Type 0
 IsLastTokenAmong t from end None = (m : ℕ) → from ≤ m → m < end → ¬ IsTokenIn t m
 IsLastTokenAmong t from end (Some r) = (from ≤ r) × (r < end) × IsTokenIn t r × ((m : ℕ) → r < m → m < end → ¬ IsTokenIn t m)

@@ -41,6 +41,7 @@ steps_left t root (Enter m) = from_enter m root (part_at record { tree = t; numb
 steps_left t root (Leave m) = from_leave m root (part_at record { tree = t; number = root })
 steps_left t root Done = []
 
+-- what is left of a walk, as events
 abbrev pub events_left : Tree → ℕ → Next → List Event
 events_left t root next = map (event_at t) (steps_left t root next)
 
@@ -50,11 +51,13 @@ pub record IsInside (t : Tree) (root m : ℕ) : Type 0 where
   pub high : m < root + 1 + (item t root).below
   pub there : m < length (items_of t)
 
+-- what is done next is inside the root
 abbrev pub IsNextWithin : Tree → ℕ → Next → Type 0
 IsNextWithin t root (Enter m) = IsInside t root m
 IsNextWithin t root (Leave m) = IsInside t root m
 IsNextWithin t root Done = Unit {0}
 
+-- a walk from a root that is there stands inside it
 pub record IsWithin (t : Tree) (root : ℕ) (next : Next) : Type 0 where
   pub root_there : root < length (items_of t)
   pub next_inside : IsNextWithin t root next
@@ -70,5 +73,6 @@ behind t root m (Some p) =
     if m == root then Done
     else (if nat_lt (m + 1 + (item t m).below) (p + 1 + (item t p).below) then Enter (m + 1 + (item t m).below) else Leave p)
 
+-- the next thing to do after an element is left
 abbrev pub after_leave : Tree → ℕ → ℕ → Next
 after_leave t root m = behind t root m (item t m).parent

@@ -5,16 +5,18 @@ use Rattle.std.specs.Coded.{Coded, code_by, coded×, coded_ℕ, coded_list}
 use Rattle.rnix_kinds.specs.declared.kinds.SyntaxKind.{SyntaxKind}
 use Rattle.rnix_kinds.specs.contracts.kinds.SyntaxKind.{the_row}
 use Rattle.rnix_tree.specs.Forest.{Forest, empty, leaf, node, join, tree_count, first_trees, trees_after}
-use Rattle.rnix_tree.specs.ForestCode.{forest_code}
+use Rattle.rnix_tree.specs.ForestCode.{forest_code, first_of_join, rest_of_join}
 
 -- a node that is open: its kind, and how many finished trees stand before its first child
 abbrev pub OpenNode : Type 0
 OpenNode = SyntaxKind × ℕ
 
+-- the finished trees and the open nodes
 pub record Draft : Type 0 where
   pub finished : Forest
   pub open_nodes : List OpenNode
 
+-- a draft as lists and numbers
 abbrev pub draft_code : Coded Draft
 draft_code =
     code_by (Forest × List OpenNode) (coded× forest_code (coded_list (coded× the_row.coded coded_ℕ)))
@@ -32,9 +34,11 @@ with_leaf k t f = join f (leaf k t empty)
 abbrev pub wrapped : SyntaxKind → ℕ → Forest → Forest
 wrapped k place f = join (first_trees place f) (node k (trees_after place f) empty)
 
+-- one more leaf
 abbrev pub leaf_added : SyntaxKind → List ℕ → Draft → Draft
 leaf_added k t d = record { finished = with_leaf k t d.finished; open_nodes = d.open_nodes }
 
+-- one more node is open from a place on
 abbrev pub node_opened : SyntaxKind → ℕ → Draft → Draft
 node_opened k place d = record { finished = d.finished; open_nodes = (k, place) ∷ d.open_nodes }
 
@@ -61,6 +65,7 @@ abbrev pub is_one_node : Forest → Bool
 is_one_node (node k c empty) = true
 is_one_node f = false
 
+-- no node is open
 abbrev pub is_nothing : List OpenNode → Bool
 is_nothing [] = true
 is_nothing (o ∷ os) = false
@@ -68,16 +73,6 @@ is_nothing (o ∷ os) = false
 -- no node is open, and there is one tree, a node
 abbrev pub is_complete_of : Draft → Bool
 is_complete_of d = is_nothing d.open_nodes && is_one_node d.finished
-
-first_of_join : (f g : Forest) → first_trees (tree_count f) (join f g) ≡ f
-first_of_join empty g = refl
-first_of_join (leaf k t f) g = ap (leaf k t) (first_of_join f g)
-first_of_join (node k c f) g = ap (node k c) (first_of_join f g)
-
-rest_of_join : (f g : Forest) → trees_after (tree_count f) (join f g) ≡ g
-rest_of_join empty g = refl
-rest_of_join (leaf k t f) g = rest_of_join f g
-rest_of_join (node k c f) g = rest_of_join f g
 
 -- the trees that were added since a place become one node
 pub wrapped-join : (k : SyntaxKind) (f g : Forest) → wrapped k (tree_count f) (join f g) ≡ join f (node k g empty)

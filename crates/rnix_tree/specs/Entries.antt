@@ -20,6 +20,7 @@ built_onto f text [] = f
 built_onto f text (Leaf k n ∷ es) = built_onto (with_leaf k (take n text) f) (drop n text) es
 built_onto f text (Node k n ∷ es) = built_onto (wrapped_last k n f) text es
 
+-- what the entries make of the text
 abbrev pub built : List ℕ → List Entry → Forest
 built text es = built_onto empty text es
 
@@ -38,6 +39,7 @@ abbrev pub IsNested : ℕ → List OpenNode → Type 0
 IsNested n [] = Unit {0}
 IsNested n ((k, place) ∷ outer) = (place ≤ n) × IsNested place outer
 
+-- the trees, the text, the entries and the open nodes are those of one builder
 pub record IsBuilt (f : Forest) (text : List ℕ) (es : List Entry) (pending : List Pending) (starts : List ℕ) : Type 0 where
   pub entries : es ≡ entries_of f
   pub text_is : text ≡ text_of f
@@ -46,6 +48,7 @@ pub record IsBuilt (f : Forest) (text : List ℕ) (es : List Entry) (pending : L
   pub counted : length starts ≡ tree_count f
   pub nested : IsNested (tree_count f) (open_pairs pending)
 
+-- an entry, if there is one, is that of a node
 abbrev pub is_node_entry : Option Entry → Bool
 is_node_entry (Some (Node k n)) = true
 is_node_entry e = false

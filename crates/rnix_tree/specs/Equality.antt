@@ -2,7 +2,7 @@
 use Rattle.std.specs.Prelude.{◌≡◌, ◌==◌, Bool, true, false}
 use Rattle.std.specs.Bool.{Decides}
 use Rattle.std.specs.Cmp.{IsEquivalence}
-use Rattle.std.proofs.Common.{ap, sym, refl, ◌∙◌}
+use Rattle.std.proofs.Common.{ap, sym, refl}
 use Rattle.std.proofs.lemmas.Bool.Decides.{Decides-eqb, Decides-like}
 use Rattle.rnix_kinds.specs.declared.kinds.SyntaxKind.{SyntaxKind}
 use Rattle.rnix_kinds.specs.SyntaxKind.{place_of}
@@ -12,9 +12,11 @@ use Rattle.rnix_kinds.proofs.SetBits.{same_place}
 abbrev pub same_kind : SyntaxKind → SyntaxKind → Bool
 same_kind a b = place_of a == place_of b
 
+-- the test decides whether two kinds are one
 pub same_kind-decides : (a b : SyntaxKind) → Decides (same_kind a b) (a ≡ b)
 same_kind-decides a b = Decides-like (same_kind a b) (same_place a b) (ap place_of) (Decides-eqb (place_of a) (place_of b))
 
+-- two tests of which each implies the other are one
 both_ways : (a b : Bool) → (a ≡ true → b ≡ true) → (b ≡ true → a ≡ true) → a ≡ b
 both_ways true b to from = sym (to refl)
 both_ways false true to from = from refl

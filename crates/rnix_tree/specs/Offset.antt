@@ -1,6 +1,6 @@
 -- The tokens at an offset.
 use Rattle.std.specs.Prelude.{◌≡◌, ◌<◌, ◌≤◌, ◌⊎◌, ℕ, Option, Some, None}
-use Rattle.rnix_tree.specs.Tree.{Tree, Located, item}
+use Rattle.rnix_tree.specs.Tree.{Located, item}
 use Rattle.rnix_tree.specs.Relatives.{IsTokenInside}
 use Rattle.rnix_tree.specs.declared.offset.TokenAtOffset.{TokenAtOffset}
 use Rattle.rnix_tree.specs.declared.offset.TokenAtOffset.TheVariants as at
@@ -26,12 +26,13 @@ pub record IsHolding (e : Located) (offset m : ℕ) : Type 0 where
   pub low : (item e.tree m).start < offset
   pub high : offset ≤ (item e.tree m).end
 
--- of two tokens the left or the right one
+-- of two tokens the left one
 abbrev pub left_of : {T : Type 0} → TokenAtOffset T → Option T
 left_of at.None = None
 left_of (at.Single a) = Some a
 left_of (at.Between a b) = Some a
 
+-- of two tokens the right one
 abbrev pub right_of : {T : Type 0} → TokenAtOffset T → Option T
 right_of at.None = None
 right_of (at.Single a) = Some a

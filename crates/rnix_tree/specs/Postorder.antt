@@ -6,29 +6,33 @@ use Rattle.rnix_tree.specs.declared.postorder.Frame.{Frame}
 use Rattle.rnix_tree.specs.Forest.{Forest, empty, leaf, node, text_of, element_count}
 use Rattle.rnix_tree.specs.Tree.{Item, items_from}
 
+-- each leaf, and each node behind its children
 abbrev pub entries_of : Forest → List Entry
 entries_of empty = []
 entries_of (leaf k t f) = Leaf k (length t) ∷ entries_of f
 entries_of (node k c f) = entries_of c ++ (Node k (element_count c) ∷ entries_of f)
 
--- the number of the first child and that of the parent, inside the innermost frame
+-- the number of the first child, inside the innermost frame
 abbrev pub child_number : List Frame → ℕ
 child_number [] = 0
 child_number (fr ∷ frs) = fr.number + 1
 
+-- the number of the parent, inside the innermost frame
 abbrev pub parent_number : List Frame → Option ℕ
 parent_number [] = None
 parent_number (fr ∷ frs) = Some fr.number
 
--- the entries, and the length of the text, of rows that stand side by side, the last one first
+-- the entries of rows that stand side by side, the last one first
 abbrev pub entries_left : List Forest → List Entry
 entries_left [] = []
 entries_left (g ∷ gs) = entries_left gs ++ entries_of g
 
+-- the length of their text
 abbrev pub text_left : List Forest → ℕ
 text_left [] = 0
 text_left (g ∷ gs) = text_left gs + length (text_of g)
 
+-- what the node of a frame shows
 abbrev pub frame_item : Frame → ℕ → Option ℕ → Item
 frame_item fr start parent = record { kind = fr.kind; is_node = true; start = start; end = fr.end; parent = parent; below = fr.below }
 

@@ -3,14 +3,14 @@ use Rattle.std.specs.Prelude.{◌≡◌, ◌==◌, ◌&&◌, ◌++◌, Bool, tru
 use Rattle.std.specs.Bool.{Decides}
 use Rattle.std.specs.Cmp.{IsEquivalence}
 use Rattle.std.specs.Hash as fed
-use Rattle.std.proofs.Common.{ap, sym, refl, ◌∙◌}
+use Rattle.std.proofs.Common.{ap, refl}
 use Rattle.std.proofs.lemmas.Bool.Decides.{Decides-eqb, Decides-like, Decides-and}
 use Rattle.std.proofs.lemmas.Slice.Eq.{bytes_eq-Decides}
 use Rattle.rnix_kinds.specs.declared.kinds.SyntaxKind.{SyntaxKind}
 use Rattle.rnix_kinds.specs.SyntaxKind.{place_of}
 use Rattle.rnix_tree.specs.Equality.{same_kind, same_kind-decides, equivalence_from}
 use Rattle.rnix_tree.specs.Forest.{Forest, empty, leaf, node}
-use Rattle.rnix_tree.specs.Tree.{Tree, Located, item_of, extent_of}
+use Rattle.rnix_tree.specs.Tree.{Located, item_of, extent_of}
 use Rattle.rnix_tree.specs.Range.{Extent}
 
 -- two rows of trees are equal
@@ -28,9 +28,11 @@ same_located a b = a.number == b.number && (same_kind a.tree.kind b.tree.kind &&
 abbrev pub hashed_at : ℕ → SyntaxKind → Extent → List (List ℕ)
 hashed_at number kind range = fed.usize number ++ (fed.usize (place_of kind) ++ (fed.usize range.start ++ fed.usize range.end))
 
+-- what is hashed of an element
 abbrev pub hashed : Located → List (List ℕ)
 hashed e = hashed_at e.number (item_of e).kind (extent_of e)
 
+-- the test decides whether two rows of trees are equal
 pub same_forest-decides : (f g : Forest) → Decides (same_forest f g) (f ≡ g)
 same_forest-decides empty empty = (λ e. refl, λ e. refl)
 same_forest-decides (leaf k t f) (leaf l u g) =
@@ -43,6 +45,7 @@ same_forest-decides (node k c f) (node l d g) =
     (Decides-and (same_forest c d) (same_forest f g) (same_forest-decides c d) (same_forest-decides f g)))
 same_forest-decides f g = (λ e. cc, λ e. cc)
 
+-- the test decides whether two elements are equal
 pub same_located-decides : (a b : Located) → Decides (same_located a b) (a ≡ b)
 same_located-decides a b =
     Decides-like (same_located a b) (λ e i. record { tree = record { kind = e.1.0 i; children = e.1.1 i }; number = e.0 i })
@@ -51,6 +54,7 @@ same_located-decides a b =
     (Decides-and (same_kind a.tree.kind b.tree.kind) (same_forest a.tree.children b.tree.children) (same_kind-decides a.tree.kind b.tree.kind)
     (same_forest-decides a.tree.children b.tree.children)))
 
+-- equality of elements is an equivalence
 pub same_is_equivalence : IsEquivalence same_located
 same_is_equivalence = equivalence_from same_located same_located-decides
 

@@ -8,10 +8,12 @@ use Rattle.rnix_tree.specs.Forest.{Forest, empty, leaf, node, text_of, element_c
 use Rattle.rnix_tree.specs.ForestCode.{forest_code}
 use Rattle.rnix_tree.specs.Range.{Extent}
 
+-- a node at the root, with its children
 pub record Tree : Type 0 where
   pub kind : SyntaxKind
   pub children : Forest
 
+-- a tree as lists and numbers
 abbrev pub tree_code : Coded Tree
 tree_code =
     code_by (SyntaxKind × Forest) (coded× the_row.coded forest_code) (λ t. (t.kind, t.children)) (λ p. record { kind = p.0; children = p.1 }) (λ _. refl)
@@ -38,9 +40,11 @@ items_from n s p (node k c f) =
     record { kind = k; is_node = true; start = s; end = s + length (text_of c); parent = p; below = element_count c }
     ∷ (items_from (n + 1) s (Some n) c ++ items_from (n + 1 + element_count c) (s + length (text_of c)) p f)
 
+-- all elements of a tree, in preorder
 abbrev pub items_of : Tree → List Item
 items_of t = items_from 0 0 None (forest_of t)
 
+-- what stands for an element that is absent
 abbrev pub no_item : Item
 no_item = record { kind = TOKEN_ERROR; is_node = false; start = 0; end = 0; parent = None; below = 0 }
 
@@ -53,9 +57,11 @@ pub record Located : Type 0 where
   pub tree : Tree
   pub number : ℕ
 
+-- an element as lists and numbers
 abbrev pub located_code : Coded Located
 located_code = code_by (Tree × ℕ) (coded× tree_code coded_ℕ) (λ e. (e.tree, e.number)) (λ p. record { tree = p.0; number = p.1 }) (λ _. refl)
 
+-- what an element shows
 abbrev pub item_of : Located → Item
 item_of e = item e.tree e.number
 

@@ -12,9 +12,11 @@ use Rattle.rnix_tree.specs.declared.element.WalkEvent.TheVariants.{Enter, Leave}
 abbrev pub Spot : Type 0
 Spot = Bool × Located
 
+-- an element of a walk as lists and numbers
 abbrev pub spot_code : Coded Spot
 spot_code = coded× coded_bool located_code
 
+-- and so for the elements of a walk
 abbrev pub spots_code : Coded (List Spot)
 spots_code = coded_list spot_code
 
@@ -27,11 +29,12 @@ abbrev pub spot_of : NodeOrToken Located Located → Spot
 spot_of (Node e) = (true, e)
 spot_of (Token e) = (false, e)
 
--- the node or the token that an element is
+-- the node that an element is
 abbrev pub node_in : {N T : Type 0} → NodeOrToken N T → Option N
 node_in (Node n) = Some n
 node_in (Token t) = None
 
+-- the token that an element is
 abbrev pub token_in : {N T : Type 0} → NodeOrToken N T → Option T
 token_in (Node n) = None
 token_in (Token t) = Some t
@@ -61,12 +64,15 @@ steps_from n empty = []
 steps_from n (leaf k t f) = (true, n) ∷ (false, n) ∷ steps_from (n + 1) f
 steps_from n (node k c f) = (true, n) ∷ (steps_from (n + 1) c ++ (false, n) ∷ steps_from (n + 1 + element_count c) f)
 
+-- an element that is entered or left, as a walk gives it
 abbrev pub Event : Type 0
 Event = Bool × Spot
 
+-- the events of a walk as lists and numbers
 abbrev pub events_code : Coded (List Event)
 events_code = coded_list (coded× coded_bool spot_code)
 
+-- the event of a step
 abbrev pub event_at : Tree → Step → Event
 event_at t step = (step.0, spot_at t step.1)
 
@@ -97,6 +103,7 @@ nodes_in (spot ∷ spots) = if spot.0 then spot.1 ∷ nodes_in spots else nodes_
 abbrev pub NodeEvent : Type 0
 NodeEvent = Bool × Located
 
+-- the events of nodes as lists and numbers
 abbrev pub node_events_code : Coded (List NodeEvent)
 node_events_code = coded_list (coded× coded_bool located_code)
 

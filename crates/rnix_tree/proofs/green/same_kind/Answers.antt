@@ -1,4 +1,4 @@
-use Rattle.std.proofs.Common.{◌≡◌, ◌∙◌, ◌==◌}
+use Rattle.std.proofs.Common.{◌∙◌, ◌==◌}
 use Rattle.rnix_kinds.proofs.SetBits.{tag_is_place}
 use Rattle.rnix_tree.proofs.green.same_kind.Goals as goal
 

@@ -1,4 +1,4 @@
-use Rattle.std.proofs.Common.{◌≡◌, ◌+◌, ap, sym, arith, subst}
+use Rattle.std.proofs.Common.{◌≡◌, ap, arith}
 use Rattle.rnix_tree.specs.Tree.{Item, item}
 use Rattle.rnix_tree.proofs.OffsetLemmas.{only_last, last_is_token}
 use Rattle.rnix_tree.proofs.offset.token_before.Goals as goal

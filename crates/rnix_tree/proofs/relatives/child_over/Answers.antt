@@ -1,8 +1,8 @@
-use Rattle.std.proofs.Common.{◌≡◌, ◌<◌, ◌≤◌, ◌+◌, ◌-◌, ◌∙◌, ℕ, Some, None, length, sym, ap, subst, arith, refl}
-use Rattle.rnix_tree.specs.Tree.{Item, items_of, item}
+use Rattle.std.proofs.Common.{◌<◌, ◌∙◌, length, sym, ap, arith}
+use Rattle.rnix_tree.specs.Tree.{Item, items_of}
 use Rattle.rnix_tree.proofs.SiblingLemmas.{next_inside}
 use Rattle.rnix_tree.proofs.ParentLemmas.{parent_is_before}
-use Rattle.rnix_tree.proofs.RelativeLemmas.{climb_step, climb_end, climb_goes}
+use Rattle.rnix_tree.proofs.RelativeLemmas.{climb_step, climb_goes}
 use Rattle.rnix_tree.proofs.relatives.child_over.Goals as goal
 
 pub element-requires : goal.element-requires

@@ -1,4 +1,3 @@
-use Rattle.std.proofs.Common.{ℕ}
 use Rattle.rnix_tree.proofs.RelativeLemmas.{IsClimbing}
 use Rattle.rnix_tree.proofs.relatives.child_over.Given as goal
 

@@ -1,5 +1,3 @@
-use Rattle.std.proofs.Common.{ℕ, ◌-◌, length, Option, Some, None}
-use Rattle.rnix_tree.specs.Tree.{items_of}
 use Rattle.rnix_tree.proofs.RelativeLemmas.{IsAhead, left_ahead}
 use Rattle.rnix_tree.proofs.relatives.first_node.Given as goal
 

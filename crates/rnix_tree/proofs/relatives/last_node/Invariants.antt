@@ -1,4 +1,3 @@
-use Rattle.std.proofs.Common.{ℕ}
 use Rattle.rnix_tree.proofs.RelativeLemmas.{IsBack, left_back}
 use Rattle.rnix_tree.proofs.relatives.last_node.Given as goal
 

@@ -1,4 +1,4 @@
-use Rattle.std.proofs.Common.{◌≡◌, ◌<◌, ◌≤◌, ◌+◌, ◌-◌, ◌∙◌, ℕ, Option, Some, None, length, sym, ap, subst, arith, refl}
+use Rattle.std.proofs.Common.{◌≡◌, ◌<◌, ◌+◌, ◌∙◌, Some, length, sym, ap, subst, arith}
 use Rattle.rnix_tree.specs.Tree.{Item, items_of, item}
 use Rattle.rnix_tree.specs.Relatives.{IsFirst, IsSibling}
 use Rattle.rnix_tree.proofs.InsideLemmas.{below_parent}

@@ -1,4 +1,4 @@
-use Rattle.std.proofs.Common.{◌≡◌, ◌<◌, ◌≤◌, ◌+◌, ◌-◌, ◌∙◌, ℕ, Option, Some, None, length, sym, ap, subst, arith, refl}
+use Rattle.std.proofs.Common.{◌≡◌, ◌<◌, ◌∙◌, Some, length, sym, ap, arith}
 use Rattle.rnix_tree.specs.Tree.{Item, items_of, item}
 use Rattle.rnix_tree.proofs.InsideLemmas.{below_parent}
 use Rattle.rnix_tree.proofs.RelativeLemmas.{no_prev_of_root, no_prev, prev_there}

@@ -1,5 +1,4 @@
-use Rattle.std.proofs.Common.{◌≡◌, ◌∙◌, ap}
-use Rattle.rnix_tree.specs.Tree.{Located}
+use Rattle.std.proofs.Common.{◌∙◌}
 use Rattle.rnix_tree.specs.Same.{same_located}
 use Rattle.rnix_tree.proofs.SameLemmas.{same_where}
 use Rattle.rnix_tree.proofs.identity.SyntaxTokenPartialEq.eq.Goals as goal

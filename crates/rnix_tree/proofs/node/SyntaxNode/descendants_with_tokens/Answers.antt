@@ -1,5 +1,4 @@
-use Rattle.std.proofs.Common.{◌≡◌, ◌∙◌, ◌<◌, ◌^◌, length, ap, sym, arith}
-use Rattle.rnix_tree.specs.Tree.{Located, Item, item_of}
+use Rattle.std.proofs.Common.{◌≡◌, length, ap, arith}
 use Rattle.std.proofs.Common.{◌+◌, ◌-◌, map}
 use Rattle.std.proofs.lemmas.List.{length-map}
 use Rattle.rnix_tree.specs.Walk.{spot_at, counted}

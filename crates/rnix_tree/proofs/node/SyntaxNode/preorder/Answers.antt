@@ -1,5 +1,4 @@
-use Rattle.std.proofs.Common.{◌≡◌, ◌∙◌, ◌<◌, ◌^◌, length, ap, sym, arith}
-use Rattle.rnix_tree.specs.Tree.{Located, Item, item_of}
+use Rattle.std.proofs.Common.{arith}
 use Rattle.rnix_tree.proofs.CountLemmas.{node_events-few}
 use Rattle.rnix_tree.proofs.node.SyntaxNode.preorder.Goals as goal
 

@@ -1,6 +1,6 @@
-use Rattle.std.proofs.Common.{refl, ◌≡◌, ◌<◌, ◌⊎◌, ap, sym, ◌∙◌, subst, arith, ℕ}
+use Rattle.std.proofs.Common.{refl, ◌≡◌, ◌⊎◌, ap, sym, ◌∙◌, subst, ℕ}
 use Rattle.rnix_tree.specs.Range.{Extent}
-use Rattle.rnix_tree.specs.Tree.{Located, item, item_of}
+use Rattle.rnix_tree.specs.Tree.{Located, item_of}
 use Rattle.rnix_tree.specs.Relatives.{IsNodeIn}
 use Rattle.rnix_tree.specs.Offset.{IsTouched}
 use Rattle.rnix_tree.proofs.OffsetLemmas.{none_touched, one_at_start, one_at_end, both_are_one, two}
