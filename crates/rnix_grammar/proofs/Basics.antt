@@ -1,11 +1,44 @@
 -- Small facts that many proofs take.
-use Rattle.std.proofs.Common.{◌≡◌, true, false, List, [], ◌∷◌}
-use Rattle.rnix_grammar.specs.Sketch.{Token}
+use Rattle.std.proofs.Common.{◌≡◌, Bool, true, false, List, [], ◌∷◌, ◌++◌, Some, refl, sym, ◌∙◌}
+use Rattle.std.specs.Prelude.{if◌then◌else◌}
 
 -- a test has one answer
 pub true_is_not_false : true ≡ false → ⊥
 true_is_not_false h = cc
 
--- a list with a first token is not empty
-pub not_nil : {t : Token} {ts : List Token} → t ∷ ts ≡ [] → ⊥
+-- a test that must fail
+pub not_if : (b : Bool) → (if b then false else true) ≡ true → b ≡ false
+not_if true h = absurd (true_is_not_false (sym h))
+not_if false h = refl
+
+-- where neither side of a choice holds, the choice does not
+pub no_way : (b x y : Bool) → x ≡ false → y ≡ false → (if b then x else y) ≡ false
+no_way true x y h k = h
+no_way false x y h k = k
+
+-- and so it cannot hold
+pub both_fail : (b x y : Bool) → x ≡ false → y ≡ false → (if b then x else y) ≡ true → ⊥
+both_fail b x y h k e = true_is_not_false (sym e ∙ no_way b x y h k)
+
+-- what is so on both sides of a choice is so of what is chosen
+pub choice : {A : Type 0} (P : A → Type 0) (b : Bool) {x y : A} → P x → P y → P (if b then x else y)
+choice P true h k = h
+choice P false h k = k
+
+-- what two equal options hold is equal
+pub some_same : {A : Type 0} (x y : A) → Some x ≡ Some y → x ≡ y
+some_same x y h = cc
+
+-- a list with a first element is not empty
+pub not_nil : {A : Type 0} {x : A} {xs : List A} → x ∷ xs ≡ [] → ⊥
 not_nil h = cc
+
+-- of two lists that are empty together the first is
+pub none_left : {A : Type 0} (xs ys : List A) → xs ++ ys ≡ [] → xs ≡ []
+none_left [] ys h = refl
+none_left (x ∷ xs) ys h = absurd (not_nil h)
+
+-- and the second
+pub none_right : {A : Type 0} (xs ys : List A) → xs ++ ys ≡ [] → ys ≡ []
+none_right [] ys h = h
+none_right (x ∷ xs) ys h = absurd (not_nil h)

@@ -1,5 +1,6 @@
 -- Where the name that a pattern is bound to may stand.
 use Rattle.std.proofs.Common.{◌≡◌, Bool, true, false, refl, sym}
+use Rattle.std.proofs.lemmas.Bool.{and_parts}
 use Rattle.std.specs.Prelude.{if◌then◌else◌}
 use Rattle.rnix_kinds.specs.declared.kinds.SyntaxKind.{SyntaxKind}
 use Rattle.rnix_kinds.specs.declared.kinds.SyntaxKind.TheVariants.{NODE_APPLY, NODE_ASSERT, NODE_ATTRPATH, NODE_ATTRPATH_VALUE, NODE_ATTR_SET, NODE_BIN_OP, NODE_CUR_POS, NODE_DYNAMIC, NODE_HAS_ATTR, NODE_IDENT, NODE_IDENT_PARAM, NODE_IF_ELSE, NODE_INHERIT, NODE_INHERIT_FROM, NODE_INTERPOL, NODE_LAMBDA, NODE_LEGACY_LET, NODE_LET_IN, NODE_LIST, NODE_LITERAL, NODE_PAREN, NODE_PATH_ABS, NODE_PATH_HOME, NODE_PATH_REL, NODE_PATH_SEARCH, NODE_PATTERN, NODE_PAT_BIND, NODE_PAT_ENTRY, NODE_ROOT, NODE_SELECT, NODE_STRING, NODE_UNARY_OP, NODE_WITH, TOKEN_ASSERT, TOKEN_AT, TOKEN_COMMA, TOKEN_CUR_POS, TOKEN_DOT, TOKEN_ELLIPSIS, TOKEN_IDENT, TOKEN_IF, TOKEN_INHERIT, TOKEN_INTERPOL_START, TOKEN_INVERT, TOKEN_LET, TOKEN_L_BRACE, TOKEN_L_BRACK, TOKEN_L_PAREN, TOKEN_OR, TOKEN_PATH_ABS, TOKEN_PATH_HOME, TOKEN_PATH_REL, TOKEN_PATH_SEARCH, TOKEN_QUESTION, TOKEN_REC, TOKEN_R_BRACE, TOKEN_SEMICOLON, TOKEN_STRING_CONTENT, TOKEN_STRING_END, TOKEN_STRING_START, TOKEN_SUB, TOKEN_WITH}
@@ -11,9 +12,9 @@ use Rattle.rnix_grammar.specs.Slots.{slot_at}
 use Rattle.rnix_grammar.specs.Levels.{right_of}
 use Rattle.rnix_grammar.specs.Tables.{is_wanted, closes}
 use Rattle.rnix_grammar.specs.Actions.{is_path_piece}
-use Rattle.rnix_grammar.specs.Sketch.{Sketch}
+use Rattle.rnix_grammar.specs.Sketch.{Sketch, tokens_in, is_some}
 use Rattle.rnix_grammar.specs.Rows.{is_infix, is_simple, is_atom, is_operand, is_questioned, is_plain_literal, is_attr, is_entry, fits, Spot, Start, BeforeOperator, BeforeDot, BeforeQuestion, BeforeArgument, BeforeAt, BeforeBrace, SecondStart, At, Nowhere, to, go_pieces, go_first_piece, go_names, go_source, go_more_attrs, go_attrpath, go_name, go_formals, go_comma, go_bind, go_default, go_or, go_slot, first_set, first_unary, first_lambda, first_pattern, first_bind, first_token, first_let, first_node, first, go_dot, go_question, go_at, go_brace, go_second, go, live, start}
-use Rattle.rnix_grammar.specs.Stands.{begins_with_token, is_formed}
+use Rattle.rnix_grammar.specs.Stands.{begins_with_token, is_bind_at, is_formed}
 use Rattle.rnix_grammar.proofs.Basics.{true_is_not_false}
 
 -- no row comes back to where it begins
@@ -322,7 +323,7 @@ bare_bind false NODE_PAT_BIND c = begins_with_token c
 bare_bind first k c = true
 
 -- a bound name is formed by its spot
-by_spot : (first : Bool) (q : Spot) (c : Sketch) → is_at q ≡ not_first first → is_formed q NODE_PAT_BIND c ≡ true → bare_bind first NODE_PAT_BIND c ≡ true
+by_spot : (first : Bool) (q : Spot) (c : Sketch) → is_at q ≡ not_first first → is_bind_at q c ≡ true → bare_bind first NODE_PAT_BIND c ≡ true
 by_spot true (At x) c a h = absurd (true_is_not_false a)
 by_spot false (At x) c a h = h
 by_spot true (Start node) c a h = h
@@ -346,6 +347,6 @@ by_spot false Nowhere c a h = absurd (true_is_not_false (sym a))
 
 -- so it is formed by whether it is the first child
 pub formed_bare : (first : Bool) (q : Spot) (k : SyntaxKind) (c : Sketch) → Agrees first q → live (go q k) ≡ true → is_formed q k c ≡ true → bare_bind first k c ≡ true
-formed_bare first q NODE_PAT_BIND c a l h = by_spot first q c (a l) h
+formed_bare first q NODE_PAT_BIND c a l h = by_spot first q c (a l) (and_parts (is_some (tokens_in c)) (is_bind_at q c) h).1
 formed_bare true q _ c a l h = refl
 formed_bare false q _ c a l h = refl

@@ -1,21 +1,24 @@
 -- Steps that complete nodes and operands.
-use Rattle.std.proofs.Common.{◌≡◌, ℕ, suc, ◌+◌, ◌≤◌, ◌<◌, Bool, true, false, List, [], ◌∷◌, ◌++◌, length, Option, Some, None, refl, ap, sym, ◌∙◌, subst, append_assoc, append-nil, arith, length-append}
+use Rattle.std.proofs.Common.{◌≡◌, ℕ, suc, ◌+◌, ◌≤◌, ◌<◌, true, false, List, [], ◌∷◌, ◌++◌, length, Option, Some, None, refl, ap, sym, ◌∙◌, subst, append_assoc, append-nil, arith, length-append}
 use Rattle.std.specs.Prelude.{if◌then◌else◌, nat_eq, nat_le}
+use Rattle.std.proofs.lemmas.Bool.{and_from}
 use Rattle.rnix_kinds.specs.declared.kinds.SyntaxKind.{SyntaxKind}
-use Rattle.rnix_kinds.specs.declared.kinds.SyntaxKind.TheVariants.{NODE_BIN_OP, NODE_PAT_ENTRY, NODE_PAT_BIND, NODE_IDENT}
+use Rattle.rnix_kinds.specs.declared.kinds.SyntaxKind.TheVariants.{NODE_ATTRPATH, NODE_BIN_OP, NODE_CUR_POS, NODE_PAT_ENTRY, NODE_PAT_BIND, NODE_IDENT}
 use Rattle.rnix_grammar.specs.declared.place.Place.{Place}
 use Rattle.rnix_grammar.specs.declared.place.Place.TheVariants as p
 use Rattle.rnix_grammar.specs.Fault.{Fault}
 use Rattle.rnix_grammar.specs.Levels.{power}
-use Rattle.rnix_grammar.specs.Sketch.{Token, Sketch, blank, ◌⊕◌, one_branch, tokens_in, head_kind}
+use Rattle.rnix_grammar.specs.Sketch.{Token, Sketch, blank, ◌⊕◌, one_branch, tokens_in, is_some, head_kind}
 use Rattle.rnix_grammar.specs.Machine.{Head, Operand, Frame, put}
 use Rattle.rnix_grammar.specs.Rows.{fits, Spot, Start, BeforeOperator, BeforeDot, BeforeQuestion, BeforeArgument, BeforeAt, BeforeBrace, Nowhere, At, SecondStart, whole, start}
-use Rattle.rnix_grammar.specs.Stands.{Stands, end, inner, continues_kind, repeats, is_attrpath, is_dot, is_formed, level_of, is_or_row}
+use Rattle.rnix_grammar.specs.Stands.{Stands, end, inner, continues_kind, repeats, is_attrpath, is_dot, suits, is_filled, level_of, is_or_row}
 use Rattle.rnix_grammar.proofs.SketchLemmas.{tokens_two, tokens_in-⊕}
 use Rattle.rnix_grammar.proofs.StandsLemmas.{stands-⊕, stands-wider}
-use Rattle.rnix_grammar.proofs.Basics.{true_is_not_false}
+use Rattle.rnix_grammar.proofs.ImitateLemmas.{start_half}
+use Rattle.rnix_grammar.proofs.StandsRows.{none_behind}
+use Rattle.rnix_grammar.proofs.Basics.{true_is_not_false, no_way, both_fail}
 use Rattle.rnix_grammar.proofs.Places.{tight, over, is_pat_entry}
-use Rattle.rnix_grammar.proofs.Reading.{a_node, AtNode, AtOperand, Reading, node, operand, Lone, Linked, LinkedTo, Bounded, Grows, QuietOver, One, Level, Waits, in_node, in_operand, Refused, IsBehind, Begun, Tall, is_error}
+use Rattle.rnix_grammar.proofs.Reading.{a_node, AtNode, AtOperand, Reading, node, operand, Lone, Linked, LinkedTo, Bounded, Grows, QuietOver, One, Level, Waits, in_node, in_operand, Refused, IsBehind, IsAhead, Begun, Tall, is_error}
 use Rattle.rnix_grammar.proofs.NodeSteps.{quiet_behind, begun-⊕, linked-⊕}
 
 -- an operand goes into the node below it
@@ -66,14 +69,6 @@ calm_by : (k : SyntaxKind) (high : ℕ) (o : Option ℕ) (j : SyntaxKind) → Bo
 calm_by k high None j b q c = b j c
 calm_by k high (Some v) j b q c = let d : continues_kind j NODE_BIN_OP ≡ true = b.0 j c in b.1 j d (q d)
 
-both_fail : (w x y : Bool) → x ≡ false → y ≡ false → (if w then x else y) ≡ true → ⊥
-both_fail true x y h k e = true_is_not_false (sym e ∙ h)
-both_fail false x y h k e = true_is_not_false (sym e ∙ k)
-
-no_way : (w x y : Bool) → x ≡ false → y ≡ false → (if w then x else y) ≡ false
-no_way true x y h k = h
-no_way false x y h k = k
-
 entry_fits : (n : ℕ) → fits n NODE_PAT_ENTRY ≡ true → ⊥
 entry_fits n h =
     both_fail (nat_eq n 0) false (if nat_le n 12 then false else (if nat_eq n 13 then false else (if nat_eq n 14 then false else false))) refl
@@ -85,6 +80,7 @@ pub fit_new : (n : ℕ) (k : SyntaxKind) (b c : Sketch) → fits n k ≡ true �
 fit_new n NODE_PAT_ENTRY b c h = absurd (entry_fits n h)
 fit_new n _ b c h = refl
 
+-- a node that is neither an entry nor an attribute path repeats no name
 pub other_new : (k : SyntaxKind) (b c : Sketch) → is_pat_entry k ≡ false → repeats k b c ≡ []
 other_new NODE_PAT_ENTRY b c h = absurd (true_is_not_false h)
 other_new _ b c h = refl
@@ -104,22 +100,37 @@ bind_fits n h =
     (no_way (nat_le n 12) false (if nat_eq n 13 then false else (if nat_eq n 14 then false else false)) refl
     (no_way (nat_eq n 13) false (if nat_eq n 14 then false else false) refl (no_way (nat_eq n 14) false false refl refl))) h
 
-pub fit_formed : (n : ℕ) (s : Spot) (k : SyntaxKind) (c : Sketch) → fits n k ≡ true → is_formed s k c ≡ true
-fit_formed n s NODE_PAT_BIND c h = absurd (bind_fits n h)
-fit_formed n s _ c h = refl
+-- what fits a level, but a name, stands as it may
+pub fit_suits : (n : ℕ) (s : Spot) (k : SyntaxKind) (c : Sketch) → is_error k ≡ false → fits n k ≡ true → suits s k c ≡ true
+fit_suits n s NODE_PAT_BIND c w h = absurd (bind_fits n h)
+fit_suits n s NODE_IDENT c w h = absurd (true_is_not_false w)
+fit_suits n s NODE_CUR_POS c w h = absurd (true_is_not_false w)
+fit_suits n s _ c w h = refl
 
-formed_at : (q : Spot) (k : SyntaxKind) (c : Sketch) → IsBehind q k → Begun k c → is_formed q k c ≡ true
-formed_at (At x) NODE_PAT_BIND c h b = b
-formed_at (Start j) NODE_PAT_BIND c h b = absurd h
-formed_at BeforeOperator NODE_PAT_BIND c h b = absurd h
-formed_at BeforeDot NODE_PAT_BIND c h b = absurd h
-formed_at BeforeQuestion NODE_PAT_BIND c h b = absurd h
-formed_at BeforeArgument NODE_PAT_BIND c h b = absurd h
-formed_at BeforeAt NODE_PAT_BIND c h b = absurd h
-formed_at BeforeBrace NODE_PAT_BIND c h b = absurd h
-formed_at SecondStart NODE_PAT_BIND c h b = absurd h
-formed_at Nowhere NODE_PAT_BIND c h b = absurd h
-formed_at q _ c h b = refl
+-- a node that is complete holds an item, if one was left where it began
+filled : {p : SyntaxKind} {a : ℕ} {q q' : Spot} {b : Sketch} {i : ℕ} {ts us : List Token} {c : Sketch} {es : List Fault} (k : SyntaxKind) → Stands p a q q' b i ts c es
+    → whole q ≡ false → whole q' ≡ true → us ≡ tokens_in c ++ ts → IsAhead k us → is_filled k c ≡ true
+filled NODE_ATTRPATH s m w e h = refl
+filled {ts = ts} {us = us} {c = c} k s m w e h = by (tokens_in c) refl
+  where
+    by : (vs : List Token) → tokens_in c ≡ vs → is_some (tokens_in c) ≡ true
+    by [] n = absurd (true_is_not_false (sym h ∙ ap is_some (e ∙ ap (λ z. z ++ ts) n ∙ none_behind s n m w)))
+    by (v ∷ vs) n = ap is_some n
+
+suits_at : (q : Spot) (k : SyntaxKind) (c : Sketch) → is_error k ≡ false → IsBehind q k → Begun k c → suits q k c ≡ true
+suits_at q NODE_IDENT c w h b = absurd (true_is_not_false w)
+suits_at q NODE_CUR_POS c w h b = absurd (true_is_not_false w)
+suits_at (At x) NODE_PAT_BIND c w h b = b
+suits_at (Start j) NODE_PAT_BIND c w h b = absurd h
+suits_at BeforeOperator NODE_PAT_BIND c w h b = absurd h
+suits_at BeforeDot NODE_PAT_BIND c w h b = absurd h
+suits_at BeforeQuestion NODE_PAT_BIND c w h b = absurd h
+suits_at BeforeArgument NODE_PAT_BIND c w h b = absurd h
+suits_at BeforeAt NODE_PAT_BIND c w h b = absurd h
+suits_at BeforeBrace NODE_PAT_BIND c w h b = absurd h
+suits_at SecondStart NODE_PAT_BIND c w h b = absurd h
+suits_at Nowhere NODE_PAT_BIND c w h b = absurd h
+suits_at q _ c w h b = refl
 
 -- a node that is complete goes into the frame below it
 pub closed_node : (f : Frame) (fs : List Frame) (ts : List Token) (gs : List Fault) (r : AtNode f fs ts gs) → whole (At f.place) ≡ true
@@ -146,7 +157,7 @@ closed_node f fs ts gs r whole dot g hs e =
           sound = s;
           stands =
               stands-⊕ w (sym inside) refl (sym ei ∙ c)
-              (inner refl (subst (λ (z : ℕ). Stands r.kind (suc z) (start r.kind) (At f.place) blank r.items ts f.row r.inside) (sym ea) r.stands) whole (formed_at q r.kind f.row n r.begun) (fr g.row f.row) (v r.kind refl) refl refl refl end
+              (inner refl (subst (λ (z : ℕ). Stands r.kind (suc z) (start r.kind) (At f.place) blank r.items ts f.row r.inside) (sym ea) r.stands) whole (and_from (is_filled r.kind f.row) (suits q r.kind f.row) (filled r.kind r.stands (start_half r.kind) whole eu n.1) (suits_at q r.kind f.row r.sound n.0 r.begun)) (fr g.row f.row) (v r.kind refl) refl refl refl end
               (sym (append-nil (r.inside ++ repeats r.kind g.row f.row)))) refl;
           home = m;
           last = λ z. absurd (true_is_not_false (sym z ∙ l));
@@ -162,7 +173,7 @@ closed_node f fs ts gs r whole dot g hs e =
               ap (λ z. z ++ repeats r.kind g.row f.row) (r.faults ∙ ap (λ z. z ++ r.inside) (sym ee ∙ b))
               ∙ append_assoc (es ++ ds) r.inside (repeats r.kind g.row f.row) ∙ append_assoc es ds (r.inside ++ repeats r.kind g.row f.row);
         })
-    by (in_operand {a = a} {i = i} {us = us} {es = es} k low high h e b fit n x w) tie ea ei eu ee ed =
+    by (in_operand {a = a} {i = i} {us = us} {es = es} k low high h e b fit ah n x w) tie ea ei eu ee ed =
         let tied : Bounded r.kind high (tight f.place) × Grows r.kind high × Tall low high (level_of r.kind f.row) = operand_linked g r.kind (tight f.place) f.row low high h e tie in
         let none : repeats r.kind g.row f.row ≡ [] = fit_new low r.kind g.row f.row fit in
         let row : g.row ⊕ one_branch r.kind f.row ≡ one_branch r.kind f.row = ap (λ z. z ⊕ one_branch r.kind f.row) b in
@@ -184,7 +195,7 @@ closed_node f fs ts gs r whole dot g hs e =
             no_or = name_is_closed r.kind f.row r.sound;
             stands = λ p c s' s b l x lev m o.
                 inner refl (stands-wider (omega (arith, l, ea)) (subst (λ (z : ℕ). Stands r.kind (suc r.above) (start r.kind) (At f.place) blank z ts f.row r.inside) (sym ei) r.stands))
-                whole (fit_formed low s' r.kind f.row fit) lev m o refl refl end
+                whole (and_from (is_filled r.kind f.row) (suits s' r.kind f.row) (filled r.kind r.stands (start_half r.kind) whole eu ah) (fit_suits low s' r.kind f.row r.sound fit)) lev m o refl refl end
                 (sym (append-nil (r.inside ++ repeats r.kind b f.row) ∙ ap (λ z. r.inside ++ z) (fit_new low r.kind b f.row fit) ∙ append-nil r.inside));
             last = λ b. refl;
             calm = λ j e. calm_by r.kind high (tight f.place) j tied.0 (subst (λ (z : Option ℕ). QuietOver z j) (over_tight f.place whole) (r.quiet j e).1);

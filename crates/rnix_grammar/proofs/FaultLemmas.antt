@@ -14,6 +14,7 @@ use Rattle.rnix_grammar.specs.Begins.{begin_of}
 use Rattle.rnix_grammar.specs.Sketch.{Token, Stray, Unwanted, Extra, Twice, blank, tokens_in, head_kind}
 use Rattle.rnix_grammar.specs.Reports.{report, repeated}
 use Rattle.rnix_grammar.specs.Machine.{Node, Operand, Frame, Machine, put, opened, seen, run_of, low_of, closed, cleaned, entry_closed, limited, second_kind, begun, operand_on, reading, perform, touches, step_on, step, Runs, rest, then as further}
+use Rattle.rnix_grammar.proofs.Basics.{none_left}
 
 -- a machine has these errors first
 abbrev pub IsGrown : List Fault → Machine → Type 0
@@ -100,11 +101,6 @@ runs_grown {raw = raw} (further {m = m} r) =
     let more = runs_grown r in
     (first.0 ++ more.0, more.1 ∙ ap (λ x. x ++ more.0) first.1 ∙ append_assoc m.faults first.0 more.0)
 
--- where no error stands none stood before
-none_before : (es ds : List Fault) → es ++ ds ≡ [] → es ≡ []
-none_before [] ds h = refl
-none_before (x ∷ es) ds h = absurd (cc)
-
 -- where a step leaves no error none stood before it
 pub none_grown : (es : List Fault) (m : Machine) → IsGrown es m → m.faults ≡ [] → es ≡ []
-none_grown es m g h = none_before es g.0 (sym g.1 ∙ h)
+none_grown es m g h = none_left es g.0 (sym g.1 ∙ h)

@@ -13,11 +13,14 @@ use Rattle.rnix_grammar.specs.declared.slot.Slot.TheVariants as s
 use Rattle.rnix_grammar.specs.Tables.{is_wanted}
 use Rattle.rnix_grammar.specs.Slots.{slot_at}
 use Rattle.rnix_grammar.specs.Sketch.{Token, Note, Stray, Unwanted, Extra, Twice, TooDeep, Sketch}
-use Rattle.rnix_grammar.specs.Rows.{fits, is_attr, Spot, Start, BeforeOperator, BeforeDot, BeforeQuestion, BeforeArgument, BeforeAt, BeforeBrace, SecondStart, At, Nowhere, to, first, go_source, go_names, go_comma, go_slot, go, whole, live, start, run, run_at}
+use Rattle.rnix_grammar.specs.Rows.{fits, is_attr, Spot, Start, BeforeOperator, BeforeDot, BeforeQuestion, BeforeArgument, BeforeAt, BeforeBrace, SecondStart, At, Nowhere, to, first, go_source, go_names, go_comma, go_slot, go, whole, live, start, run}
 use Rattle.rnix_grammar.specs.Stands.{IsBeside}
 use Rattle.rnix_grammar.specs.Mended.{patch, kinds_of}
-use Rattle.rnix_grammar.proofs.RowFacts.{IsCompletable, owing, has_row, no_wanted, no_closing, completed_at, run_inside}
-use Rattle.rnix_grammar.proofs.Basics.{true_is_not_false}
+use Rattle.rnix_grammar.specs.Missing.{run_at}
+use Rattle.rnix_grammar.proofs.Completable.{IsCompletable, completed_at, run_inside}
+use Rattle.rnix_grammar.proofs.Owing.{owing}
+use Rattle.rnix_grammar.proofs.RowKinds.{has_row, no_wanted, no_closing}
+use Rattle.rnix_grammar.proofs.Basics.{true_is_not_false, no_way}
 
 -- where the second spot goes on the first goes on as well, and they end together
 pub record Imitates (q0 q : Spot) : Type 0 where
@@ -39,21 +42,21 @@ imitates_both m n =
     record { goes = λ k l. m.goes k (ap live (n.goes k l) ∙ l) ∙ n.goes k l; ends = m.ends ∙ n.ends; owes = λ o. m.owes (n.owes o) }
 
 -- behind a run of unwanted tokens
-source_attr : (k : SyntaxKind) → live (to (is_attr k) (At p.InheritNames)) ≡ true → go_source k ≡ to (is_attr k) (At p.InheritNames)
+pub source_attr : (k : SyntaxKind) → live (to (is_attr k) (At p.InheritNames)) ≡ true → go_source k ≡ to (is_attr k) (At p.InheritNames)
 source_attr NODE_IDENT l = refl
 source_attr NODE_STRING l = refl
 source_attr NODE_DYNAMIC l = refl
 source_attr _ l = absurd (true_is_not_false (sym l))
 
 -- and where more names are inherited
-names_attr : (k : SyntaxKind) → live (to (is_attr k) (At p.InheritNames)) ≡ true → go_names k ≡ to (is_attr k) (At p.InheritNames)
+pub names_attr : (k : SyntaxKind) → live (to (is_attr k) (At p.InheritNames)) ≡ true → go_names k ≡ to (is_attr k) (At p.InheritNames)
 names_attr NODE_IDENT l = refl
 names_attr NODE_STRING l = refl
 names_attr NODE_DYNAMIC l = refl
 names_attr _ l = absurd (true_is_not_false (sym l))
 
 -- and behind an entry of a pattern
-comma_brace : (bound : Bool) (k : SyntaxKind) → live (to (is_wanted u.RBrace k) (At (p.PatternEnd bound))) ≡ true → go_comma bound k ≡ to (is_wanted u.RBrace k) (At (p.PatternEnd bound))
+pub comma_brace : (bound : Bool) (k : SyntaxKind) → live (to (is_wanted u.RBrace k) (At (p.PatternEnd bound))) ≡ true → go_comma bound k ≡ to (is_wanted u.RBrace k) (At (p.PatternEnd bound))
 comma_brace bound TOKEN_R_BRACE l = refl
 comma_brace bound _ l = absurd (true_is_not_false (sym l))
 
@@ -171,11 +174,6 @@ beside_completable Extra p a q r b i [] vs h w = absurd h
 beside_completable Extra p a q r b i (t ∷ ts) vs h w = subst IsCompletable h.4 w
 beside_completable Twice p a q r b i ts vs h w = absurd h
 beside_completable TooDeep p a q r b i ts vs h w = (NODE_LITERAL ∷ w.0, ap (λ x. whole (run x w.0)) h.3 ∙ w.1)
-
--- neither a pattern nor the name that it is bound to is an operand
-no_way : (w a b : Bool) → a ≡ false → b ≡ false → (if w then a else b) ≡ false
-no_way true a b h k = h
-no_way false a b h k = k
 
 -- what is no operand fits no level
 unfit_by : (n : ℕ) → (if nat_eq n 0 then false else (if nat_le n 12 then false else (if nat_eq n 13 then false else (if nat_eq n 14 then false else false)))) ≡ false

@@ -4,8 +4,8 @@ use Rattle.rnix_grammar.specs.declared.place.Place.{Place}
 use Rattle.rnix_grammar.specs.declared.place.Place.TheVariants as p
 use Rattle.rnix_grammar.specs.declared.until.Until.TheVariants as u
 use Rattle.rnix_grammar.specs.Fault.{Fault}
-use Rattle.rnix_grammar.specs.Rows.{lack}
 use Rattle.rnix_grammar.specs.Mended.{is_ended, IsNamedList}
+use Rattle.rnix_grammar.specs.Missing.{lack}
 
 -- an error of the end of the text, with a list of wanted kinds if any
 abbrev pub IsLack : Option (Fault × Place) → Type 0

@@ -9,9 +9,7 @@ use Rattle.rnix_grammar.specs.Rows.{At, start}
 use Rattle.rnix_grammar.specs.Stands.{Stands}
 use Rattle.rnix_grammar.proofs.Reading.{Awaited, One, Level, Bound, Waits, in_node, in_pattern, in_operand, bottom, Reading, node, operand, second}
 use Rattle.rnix_grammar.proofs.SecondSteps.{runs_stand, begins_stand}
-
-no_frames : (g : Frame) (hs : List Frame) → g ∷ hs ≡ [] → ⊥
-no_frames g hs h = cc
+use Rattle.rnix_grammar.proofs.Basics.{not_nil}
 
 -- what waits below no frame
 pub record Lowest (w : Awaited) (a i : ℕ) (es : List Fault) : Type 0 where
@@ -22,9 +20,9 @@ pub record Lowest (w : Awaited) (a i : ℕ) (es : List Fault) : Type 0 where
 
 lowest : {fs : List Frame} {w : Awaited} {a i d : ℕ} {us : List Token} {es : List Fault} → Waits fs w a i d us es → fs ≡ [] → Lowest w a i es
 lowest bottom e = record { awaited = refl; above = refl; items = refl; faults = refl }
-lowest (in_node {f = g} {fs = hs} k q h s w v m l pl mo be x n fr y o z c t u b) e = absurd (no_frames g hs e)
-lowest (in_pattern {f = g} {fs = hs} h w v l m n o c x b) e = absurd (no_frames g hs e)
-lowest (in_operand {f = g} {fs = hs} k low high h e' b fit n x w) e = absurd (no_frames g hs e)
+lowest (in_node {f = g} {fs = hs} k q h s w v m l pl mo be x n fr y o z c t u b) e = absurd (not_nil e)
+lowest (in_pattern {f = g} {fs = hs} h w v l m n o c x b) e = absurd (not_nil e)
+lowest (in_operand {f = g} {fs = hs} k low high h e' b fit ah n x w) e = absurd (not_nil e)
 
 same_kind : (j k : SyntaxKind) → One j ≡ One k → j ≡ k
 same_kind j k e = cc

@@ -15,18 +15,22 @@ atom_simple NODE_SELECT h = refl
 atom_simple NODE_APPLY h = refl
 atom_simple _ h = h
 
+-- what may be called may be negated
 pub simple_negated : (k : SyntaxKind) → is_simple k ≡ true → is_negated k ≡ true
 simple_negated NODE_UNARY_OP h = refl
 simple_negated _ h = h
 
+-- what may be negated may be asked for an attribute
 pub negated_questioned : (k : SyntaxKind) → is_negated k ≡ true → is_questioned k ≡ true
 negated_questioned NODE_HAS_ATTR h = refl
 negated_questioned _ h = h
 
+-- what may be asked for an attribute may be an operand
 pub questioned_operand : (k : SyntaxKind) → is_questioned k ≡ true → is_operand k ≡ true
 questioned_operand NODE_BIN_OP h = refl
 questioned_operand _ h = h
 
+-- an operand is an expression
 pub operand_expression : (k : SyntaxKind) → is_operand k ≡ true → is_expression k ≡ true
 operand_expression NODE_LEGACY_LET h = refl
 operand_expression NODE_LET_IN h = refl
@@ -50,6 +54,7 @@ simple_fits n k h =
     (both_ways (nat_eq n 13) (is_questioned k) (if nat_eq n 14 then is_negated k else is_simple k) (negated_questioned k (simple_negated k h))
     (both_ways (nat_eq n 14) (is_negated k) (is_simple k) (simple_negated k h) h)))
 
+-- an atom fits every level
 pub atom_fits : (n : ℕ) (k : SyntaxKind) → is_atom k ≡ true → fits n k ≡ true
 atom_fits n k h = simple_fits n k (atom_simple k h)
 
@@ -88,6 +93,7 @@ pub record Loose (j : SyntaxKind) : Type 0 where
   pub no_six : power j ≡ 6 → ⊥
   pub no_seven : power j ≡ 7 → ⊥
 
+-- what goes on with the tree of a binary operator binds loosely
 pub operand_power : (j : SyntaxKind) → continues_kind j NODE_BIN_OP ≡ true → Loose j
 operand_power TOKEN_PIPE_LEFT h = record { positive = omega arith; most = omega arith; no_six = λ e. cc; no_seven = λ e. cc }
 operand_power TOKEN_PIPE_RIGHT h = record { positive = omega arith; most = omega arith; no_six = λ e. cc; no_seven = λ e. cc }
@@ -159,6 +165,7 @@ bounded_seven j h l = by (power j) (operand_power j h).no_seven l
     by : (n : ℕ) → (n ≡ 7 → ⊥) → n < 8 → n ≤ 6
     by n x l = omega (arith, x)
 
+-- a binary operator has a level of its own
 pub operates : (k : SyntaxKind) → is_infix k ≡ true → Operates k
 operates TOKEN_PIPE_LEFT h = record { positive = omega arith; most = omega arith; bounded = λ j c l. omega (arith, l); high = omega arith; right = (omega arith, omega arith, omega arith) }
 operates TOKEN_PIPE_RIGHT h = record { positive = omega arith; most = omega arith; bounded = λ j c l. omega (arith, l); high = omega arith; right = (omega arith, omega arith, omega arith) }
@@ -189,6 +196,7 @@ pub record Sided (k : SyntaxKind) : Type 0 where
   pub high : suc (high_of k) ≡ (if is_left (power k) then suc (power k) else power k)
   pub most : left_of k ≤ 13
 
+-- and the levels of its two sides
 pub sided : (k : SyntaxKind) → is_infix k ≡ true → Sided k
 sided TOKEN_PIPE_LEFT h = record { left = refl; high = refl; most = omega arith }
 sided TOKEN_PIPE_RIGHT h = record { left = refl; high = refl; most = omega arith }
@@ -243,3 +251,24 @@ next_left j h = by (is_left (power j)) (sided j h).left
     by : (x : Bool) → left_of j ≡ (if x then power j else suc (power j)) → left_of j ≤ suc (power j)
     by true e = omega (arith, e)
     by false e = omega (arith, e)
+
+-- the level of a right operand is positive, and at most the tightest
+pub right_within : (k : SyntaxKind) → (1 ≤ right_of k) × (right_of k ≤ 16)
+right_within TOKEN_PIPE_LEFT = (omega arith, omega arith)
+right_within TOKEN_PIPE_RIGHT = (omega arith, omega arith)
+right_within TOKEN_IMPLICATION = (omega arith, omega arith)
+right_within TOKEN_OR_OR = (omega arith, omega arith)
+right_within TOKEN_AND_AND = (omega arith, omega arith)
+right_within TOKEN_EQUAL = (omega arith, omega arith)
+right_within TOKEN_NOT_EQUAL = (omega arith, omega arith)
+right_within TOKEN_LESS = (omega arith, omega arith)
+right_within TOKEN_LESS_OR_EQ = (omega arith, omega arith)
+right_within TOKEN_MORE = (omega arith, omega arith)
+right_within TOKEN_MORE_OR_EQ = (omega arith, omega arith)
+right_within TOKEN_UPDATE = (omega arith, omega arith)
+right_within TOKEN_ADD = (omega arith, omega arith)
+right_within TOKEN_SUB = (omega arith, omega arith)
+right_within TOKEN_MUL = (omega arith, omega arith)
+right_within TOKEN_DIV = (omega arith, omega arith)
+right_within TOKEN_CONCAT = (omega arith, omega arith)
+right_within _ = (omega arith, omega arith)

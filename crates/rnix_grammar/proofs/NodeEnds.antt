@@ -11,13 +11,14 @@ use Rattle.rnix_grammar.specs.declared.until.Until.TheVariants as u
 use Rattle.rnix_grammar.specs.declared.action.Action.TheVariants as a
 use Rattle.rnix_grammar.specs.Fault.{Fault, ended, ended_before}
 use Rattle.rnix_grammar.specs.Tables.{wanted_kinds}
-use Rattle.rnix_grammar.specs.Slots.{slot_at}
+use Rattle.rnix_grammar.specs.Slots.{slot_at, level_in}
 use Rattle.rnix_grammar.specs.Actions.{action_at, done_at, token_action, name_action, formals_action, braces_action, comma_action, bind_action, default_action, or_action, end_action, is_comma}
 use Rattle.rnix_grammar.specs.Sketch.{Token, Extra, blank, ◌⊕◌, one_token, one_branch, one_fault, row_of, tokens_in, told, told_as, head_kind}
 use Rattle.rnix_grammar.specs.Machine.{Node, Frame, put, perform}
 use Rattle.rnix_grammar.specs.Reports.{report}
-use Rattle.rnix_grammar.specs.Rows.{At, SecondStart, go, go_formals, whole, start, run_at}
-use Rattle.rnix_grammar.specs.Stands.{Stands, end, leaf, wrong, continues, last_kind, level_in}
+use Rattle.rnix_grammar.specs.Rows.{At, SecondStart, go, go_formals, whole, start}
+use Rattle.rnix_grammar.specs.Names.{is_or, is_name_in}
+use Rattle.rnix_grammar.specs.Stands.{Stands, end, leaf, wrong, continues, last_kind}
 use Rattle.rnix_grammar.proofs.SketchLemmas.{tokens_in-row_of}
 use Rattle.rnix_grammar.proofs.RunLemmas.{dropped_all}
 use Rattle.rnix_grammar.proofs.Basics.{true_is_not_false}
@@ -28,7 +29,7 @@ use Rattle.rnix_grammar.proofs.NodeSteps.{moved, missed, waiting, quiet_at}
 use Rattle.rnix_grammar.proofs.OpenSteps.{leafed, leaf_stands, node_on, linked_below}
 use Rattle.rnix_grammar.proofs.BeginSteps.{IsReading}
 use Rattle.rnix_grammar.proofs.NodeTable.{Steps, Slotted, slotted, going, opens, hushed, at_token, at_operand, at_series, free_at}
-use Rattle.rnix_grammar.specs.Actions.{is_comma}
+use Rattle.rnix_grammar.specs.Missing.{run_at}
 use Rattle.rnix_grammar.proofs.NodeSlots.{same_kinds, closes_entry, at_done, at_known, at_entries, took_as, runs_as, at_pieces, at_first_piece, at_more_pieces, at_attr}
 use Rattle.rnix_grammar.proofs.NodeStep.{at_names, at_source, at_more_attrs, at_attrpath}
 
@@ -43,7 +44,8 @@ at_name f fs (t ∷ ts) n gs y r e w = by t.kind refl
 
     by : (k : SyntaxKind) → t.kind ≡ k → Steps (name_action f.place y (Some k)) f fs (t ∷ ts) n gs
     by TOKEN_IDENT h =
-        node (leafed f fs t ts gs NODE_IDENT y r (ap (λ z. go (start NODE_IDENT) (told_as NODE_IDENT z)) h) (λ b c. refl) (λ s c. refl) (free_at f.place NODE_IDENT w.level f.row (one_token (told NODE_IDENT t) t)) (w.goes NODE_IDENT) (w.leads (going f fs t ts gs r)).1.0
+        node (leafed f fs t ts gs NODE_IDENT y r (ap (λ z. go (start NODE_IDENT) (told_as NODE_IDENT z)) h) (λ b c. refl)
+        (ap (λ z. is_name_in z t) e ∙ ap (λ z. if is_or z then false else true) h) (free_at f.place NODE_IDENT w.level f.row (one_token (told NODE_IDENT t) t)) (w.goes NODE_IDENT) (w.leads (going f fs t ts gs r)).1.0
         (quiet (name_behind f.place y e)))
     by k h =
         let l = w.leads (going f fs t ts gs r) in
@@ -54,10 +56,10 @@ opens_entry : (f : Frame) (fs : List Frame) (t : Token) (ts : List Token) (n : �
     → go (At f.place) NODE_PAT_ENTRY ≡ At y → Leads f.place y → over y ≡ None → level_in (slot_at f.place) ≡ None → Steps (a.Entry y) f fs (t ∷ ts) n gs
 opens_entry f fs t ts n gs y r e g l o fr =
     node (node_on (put y f.row f ∷ fs) NODE_PAT_ENTRY p.EntryMore f.depth (suc r.above) (r.items + length (tokens_in f.row)) (one_branch NODE_IDENT (one_token (told NODE_IDENT t) t)) ts gs refl
-    (leaf_stands NODE_IDENT t (ap (λ z. go (start NODE_IDENT) (told_as NODE_IDENT z)) e) (λ b c. refl) (λ s c. refl) tt refl refl) refl refl tt tt tt (λ j m. (tt, tt))
+    (leaf_stands NODE_IDENT t (ap (λ z. go (start NODE_IDENT) (told_as NODE_IDENT z)) e) (λ b c. refl) (ap (λ z. if is_or z then false else true) e) tt refl refl) refl refl tt tt tt (λ j m. (tt, tt))
     (linked_below f fs r.kind NODE_PAT_ENTRY None (one_branch NODE_IDENT (one_token (told NODE_IDENT t) t)) y r.head) (omega (arith, r.nested)) (omega (arith, r.passed))
     (waiting f fs (t ∷ ts) gs (One NODE_PAT_ENTRY) y f.depth r (λ m e. ap (go (At f.place)) e ∙ g) l
-    (λ m j e c. subst (λ (v : SyntaxKind). QuietAt y j (Some v)) (sym e) (quiet_at y j (Some NODE_PAT_ENTRY) o refl)) tt (free_at f.place NODE_PAT_ENTRY fr) (omega arith)))
+    (λ m j e c. subst (λ (v : SyntaxKind). QuietAt y j (Some v)) (sym e) (quiet_at y j (Some NODE_PAT_ENTRY) o refl)) (tt, refl) (free_at f.place NODE_PAT_ENTRY fr) (omega arith)))
 
 -- entries of a pattern
 formals_here : (f : Frame) (fs : List Frame) (t : Token) (ts : List Token) (n : ℕ) (gs : List Fault) (bound : Bool) (r : AtNode f fs (t ∷ ts) gs)
@@ -208,6 +210,7 @@ by_slot s.Default f fs ts n gs touch r e w = at_default f fs ts n gs r e w
 by_slot s.Or f fs ts n gs touch r e w = at_or f fs ts n gs r e w
 by_slot (s.More low high) f fs ts n gs touch r e w = absurd (more_is f.place low high e r.placed)
 
+-- each step at a place of a node's row leaves a text that is being read
 pub node_step : (f : Frame) (fs : List Frame) (ts : List Token) (n : ℕ) (gs : List Fault) (touch : Bool) (r : AtNode f fs ts gs)
     → IsReading (perform false (action_at f.place (head_kind ts) touch) f fs ts n gs)
 node_step f fs ts n gs touch r = by_slot (slot_at f.place) f fs ts n gs touch r refl (slotted f (slot_at f.place) refl r.placed r.most)

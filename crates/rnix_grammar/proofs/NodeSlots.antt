@@ -13,13 +13,15 @@ use Rattle.rnix_grammar.specs.declared.until.Closer.TheVariants as c
 use Rattle.rnix_grammar.specs.declared.action.Action.TheVariants as a
 use Rattle.rnix_grammar.specs.Fault.{Fault, ended, ended_before}
 use Rattle.rnix_grammar.specs.Tables.{is_wanted, closes, wanted_kinds}
-use Rattle.rnix_grammar.specs.Slots.{slot_at}
+use Rattle.rnix_grammar.specs.Slots.{slot_at, level_in}
 use Rattle.rnix_grammar.specs.Actions.{entries_action, pieces_action, first_piece_action, more_pieces_action, attr_action, is_path_piece}
 use Rattle.rnix_grammar.specs.Sketch.{Token, Sketch, ◌⊕◌, one_token, one_branch, told, told_as, head_kind}
 use Rattle.rnix_grammar.specs.Machine.{Head, Frame, put, closed, entry_closed, made}
 use Rattle.rnix_grammar.specs.Reports.{repeated}
-use Rattle.rnix_grammar.specs.Rows.{is_attr, is_entry, At, go, whole, start, to, lack, run_at}
-use Rattle.rnix_grammar.specs.Stands.{repeats, continues, is_attrpath, is_dot, is_inherit, last_kind, level_in}
+use Rattle.rnix_grammar.specs.Rows.{is_attr, is_entry, At, go, whole, start, to}
+use Rattle.rnix_grammar.specs.Names.{is_name_in}
+use Rattle.rnix_grammar.specs.Stands.{repeats, continues, is_attrpath, is_dot, is_inherit, last_kind}
+use Rattle.rnix_grammar.specs.Missing.{lack, run_at}
 use Rattle.rnix_grammar.proofs.Basics.{true_is_not_false}
 use Rattle.rnix_grammar.proofs.Places.{home, over, IsIn, is_last, is_pat_entry, Leads}
 use Rattle.rnix_grammar.proofs.PlaceTables.{done_home, last_is, attr_behind}
@@ -30,6 +32,7 @@ use Rattle.rnix_grammar.proofs.CloseSteps.{closed_node, other_new}
 use Rattle.rnix_grammar.proofs.BeginSteps.{IsReading}
 use Rattle.rnix_grammar.proofs.NodeTable.{Steps, closer_quiet, Slotted, going, took, opens, starts, runs, hushed, or_right, free_at}
 
+-- the node is of the kind whose row the place is in
 pub same_kinds : (k : SyntaxKind) (f : Frame) (fs : List Frame) (ts : List Token) (gs : List Fault) (r : AtNode f fs ts gs) (h : Option SyntaxKind) → home f.place ≡ h → h ≡ Some k → r.kind ≡ k
 same_kinds k f fs ts gs r h e m = sym (subst (λ (z : Option SyntaxKind). IsIn z r.kind) (e ∙ m) r.home)
 
@@ -51,10 +54,12 @@ closes_entry f (g ∷ fs) ts n gs r w e =
     (subst (λ (z : List Fault). Reading (put g.place (g.row ⊕ one_branch r.kind f.row) g ∷ fs) ts (gs ++ z)) (ap (λ k. repeats k g.row f.row) e)
     (closed_node f (g ∷ fs) ts gs r w (λ j h a. absurd (true_is_not_false (sym a ∙ ap is_attrpath e))) g fs refl))
 
+-- a kind that is neither of the two is no attribute path
 pub special_attrpath : (k : SyntaxKind) → is_pat_entry k ≡ false → is_attrpath k ≡ true → ⊥
 special_attrpath NODE_ATTRPATH h e = true_is_not_false h
 special_attrpath _ h e = true_is_not_false (sym e)
 
+-- a node is complete
 pub at_done : (f : Frame) (fs : List Frame) (ts : List Token) (n : ℕ) (gs : List Fault) (r : AtNode f fs ts gs) → slot_at f.place ≡ s.Done → Slotted f s.Done → Steps a.Close f fs ts n gs
 at_done f fs ts n gs r e w =
     let plain : is_pat_entry r.kind ≡ false = subst (λ (z : Option SyntaxKind). IsIn z r.kind) (done_home f.place e) r.home in
@@ -76,6 +81,7 @@ at_piece_end f fs ts n gs r w plain = closes_up f fs ts n gs r w (λ j h a. absu
 pub quiet_node : (y : Place) (j k : SyntaxKind) → over y ≡ None → continues j (Some k) ≡ false → QuietAt y j (Some k)
 quiet_node y j k o h = quiet_at y j (Some k) o h
 
+-- where entries stand
 pub at_entries : (f : Frame) (fs : List Frame) (ts : List Token) (n : ℕ) (gs : List Fault) (closer : Closer) (y : Place) (r : AtNode f fs ts gs) → Slotted f (s.Entries closer y)
     → Steps (entries_action closer f.place y (head_kind ts)) f fs ts n gs
 at_entries f fs [] n gs closer y r w = node (missed f fs gs ended y r w.lacks)
@@ -97,7 +103,7 @@ at_entries f fs (t ∷ ts) n gs closer y r w = by t.kind refl
         took f fs t ts n gs y r (w.goes t.kind ∙ ap (λ z. if z then At y else to (is_entry t.kind) (At f.place)) c) l.1.0 (w.calm y l.1.0) (λ j. closer_quiet closer t.kind j c)
     other k false e m =
         let l = w.leads (going f fs t ts gs r) in
-        starts f fs (t ∷ ts) n gs NODE_ATTRPATH_VALUE p.ValuePath f.place r refl tt refl refl refl tt tt (λ j. (tt, tt)) (entry_goes NODE_ATTRPATH_VALUE (no_closer closer).1 refl) l.0
+        starts f fs (t ∷ ts) n gs NODE_ATTRPATH_VALUE p.ValuePath f.place r refl tt refl refl refl refl tt tt (λ j. (tt, tt)) (entry_goes NODE_ATTRPATH_VALUE (no_closer closer).1 refl) l.0
         (λ j h. quiet_node f.place j NODE_ATTRPATH_VALUE (w.calm f.place l.0) refl) w.level
 
     by : (k : SyntaxKind) → t.kind ≡ k → Steps (entries_action closer f.place y (Some k)) f fs (t ∷ ts) n gs
@@ -112,17 +118,20 @@ pub took_as : (f : Frame) (fs : List Frame) (t : Token) (ts : List Token) (n : �
     → t.kind ≡ k → go (At f.place) k ≡ At y → Leads f.place y → over y ≡ None → ((j : SyntaxKind) → continues j (Some k) ≡ false) → Steps (a.Take y) f fs (t ∷ ts) n gs
 took_as f fs t ts n gs k y r e g l o q = took f fs t ts n gs y r (ap (go (At f.place)) e ∙ g) l o (λ j. ap (λ z. continues j (Some z)) e ∙ q j)
 
+-- a run of unwanted tokens
 pub runs_as : (f : Frame) (fs : List Frame) (t : Token) (ts : List Token) (n : ℕ) (gs : List Fault) (k : SyntaxKind) (until : Until) (y : Place) (r : AtNode f fs (t ∷ ts) gs)
     → t.kind ≡ k → is_wanted until k ≡ false → run_at f.place ≡ Some (until, y) → (is_inherit r.kind || (if continues t.kind (last_kind f.row) then false else true)) ≡ true
     → Leads f.place y → over y ≡ None → Steps (a.Run until y) f fs (t ∷ ts) n gs
 runs_as f fs t ts n gs k until y r e w at q l o = runs f fs t ts n gs until y r (ap (is_wanted until) e ∙ w) at q l o
 
+-- an interpolation begins
 pub opens_interpol : (f : Frame) (fs : List Frame) (t : Token) (ts : List Token) (n : ℕ) (gs : List Fault) (y : Place) (r : AtNode f fs (t ∷ ts) gs) → t.kind ≡ TOKEN_INTERPOL_START
     → go (At f.place) NODE_INTERPOL ≡ At y → Leads f.place y → over y ≡ None → level_in (slot_at f.place) ≡ None → Steps (a.Open NODE_INTERPOL p.InterpolInside y) f fs (t ∷ ts) n gs
 opens_interpol f fs t ts n gs y r e g l o fr =
     opens f fs t ts n gs NODE_INTERPOL p.InterpolInside y r refl (ap (λ k. go (start NODE_INTERPOL) (told_as NODE_INTERPOL k)) e) refl refl tt tt refl (λ j. (tt, tt)) g l
     (λ j h. quiet_node y j NODE_INTERPOL o refl) fr
 
+-- inside a string
 pub at_pieces : (f : Frame) (fs : List Frame) (ts : List Token) (n : ℕ) (gs : List Fault) (r : AtNode f fs ts gs) → f.place ≡ p.StringInside → Slotted f s.Pieces
     → Steps (pieces_action f.place (head_kind ts)) f fs ts n gs
 at_pieces f fs [] n gs r e w = node (missed f fs gs (ended_before (wanted_kinds u.Piece)) p.StringEnd r w.lacks)
@@ -152,6 +161,7 @@ at_first_piece f fs (t ∷ ts) n gs r h w = by t.kind refl
     by TOKEN_INTERPOL_START e = opens_interpol f fs t ts n gs p.PathMore r e (w.goes NODE_INTERPOL) (w.leads (going f fs t ts gs r)).0 refl w.level
     by k e = at_piece_end f fs (t ∷ ts) n gs r w.ends h
 
+-- behind a later piece of a path
 pub at_more_pieces : (f : Frame) (fs : List Frame) (ts : List Token) (n : ℕ) (gs : List Fault) (touch : Bool) (r : AtNode f fs ts gs) → is_pat_entry r.kind ≡ false → Slotted f s.MorePieces
     → Steps (more_pieces_action touch (head_kind ts)) f fs ts n gs
 at_more_pieces f fs [] n gs touch r h w = at_piece_end f fs [] n gs r w.ends h
@@ -170,13 +180,13 @@ pub attr_here : (f : Frame) (fs : List Frame) (ts : List Token) (n : ℕ) (gs : 
     → ((k : SyntaxKind) → is_attr k ≡ true → go (At f.place) k ≡ At y) → (ts ≡ [] → lack f.place ≡ Some (ended_before (wanted_kinds u.Attr), y)) → run_at f.place ≡ Some (u.Attr, again)
     → (is_last f.place ≡ false → Leads f.place again × Leads f.place y) → over again ≡ None → ((j : SyntaxKind) (b : Option SyntaxKind) → QuietAt y j b)
     → ((t : Token) (us : List Token) → ts ≡ t ∷ us → (is_inherit r.kind || (if continues t.kind (last_kind f.row) then false else true)) ≡ true) → level_in (slot_at f.place) ≡ None
-    → Steps (attr_action again y (head_kind ts)) f fs ts n gs
-attr_here f fs [] n gs again y r g m at l o q h fr = node (missed f fs gs (ended_before (wanted_kinds u.Attr)) y r (m refl))
-attr_here f fs (t ∷ ts) n gs again y r g m at l o q h fr = by t.kind refl
+    → ((t : Token) → is_name_in (slot_at f.place) t ≡ true) → Steps (attr_action again y (head_kind ts)) f fs ts n gs
+attr_here f fs [] n gs again y r g m at l o q h fr any = node (missed f fs gs (ended_before (wanted_kinds u.Attr)) y r (m refl))
+attr_here f fs (t ∷ ts) n gs again y r g m at l o q h fr any = by t.kind refl
   where
     ident : (k : SyntaxKind) → t.kind ≡ k → go (start NODE_IDENT) (told_as NODE_IDENT k) ≡ At p.Past → Steps (a.Leaf NODE_IDENT y) f fs (t ∷ ts) n gs
     ident k e d =
-        node (leafed f fs t ts gs NODE_IDENT y r (ap (λ z. go (start NODE_IDENT) (told_as NODE_IDENT z)) e ∙ d) (λ b c. refl) (λ s c. refl) (free_at f.place NODE_IDENT fr f.row (one_token (told NODE_IDENT t) t)) (g NODE_IDENT refl) (l (going f fs t ts gs r)).1
+        node (leafed f fs t ts gs NODE_IDENT y r (ap (λ z. go (start NODE_IDENT) (told_as NODE_IDENT z)) e ∙ d) (λ b c. refl) (any t) (free_at f.place NODE_IDENT fr f.row (one_token (told NODE_IDENT t) t)) (g NODE_IDENT refl) (l (going f fs t ts gs r)).1
         (λ j. q j (Some NODE_IDENT)))
 
     by : (k : SyntaxKind) → t.kind ≡ k → Steps (attr_action again y (Some k)) f fs (t ∷ ts) n gs
@@ -191,15 +201,17 @@ attr_here f fs (t ∷ ts) n gs again y r g m at l o q h fr = by t.kind refl
     by TOKEN_CUR_POS e = ident TOKEN_CUR_POS e refl
     by k e = runs_as f fs t ts n gs k u.Attr again r e refl at (h t ts refl) (l (going f fs t ts gs r)).0 o
 
+-- no operand goes on where an attribute is wanted
 pub quiet_attr : (y : Place) → (y ≡ p.AttrpathMore) ⊎ (y ≡ p.InheritNames) → (j : SyntaxKind) (b : Option SyntaxKind) → QuietAt y j b
 quiet_attr y (inl e) j b = subst (λ (z : Place). QuietAt z j b) (sym e) (tt, tt)
 quiet_attr y (inr e) j b = subst (λ (z : Place). QuietAt z j b) (sym e) (tt, tt)
 
+-- where an attribute is wanted
 pub at_attr : (f : Frame) (fs : List Frame) (ts : List Token) (n : ℕ) (gs : List Fault) (y : Place) (r : AtNode f fs ts gs) → slot_at f.place ≡ s.Attr y → Slotted f (s.Attr y)
     → Steps (attr_action f.place y (head_kind ts)) f fs ts n gs
 at_attr f fs ts n gs y r e w =
     attr_here f fs ts n gs f.place y r (λ k h. w.goes k ∙ ap (λ z. to z (At y)) h) (λ h. w.lacks) w.runs (λ l. ((w.leads l).0, (w.leads l).1.0)) (over_none (is_last f.place) refl)
-    (quiet_attr y (attr_behind f.place y e)) quiet w.level
+    (quiet_attr y (attr_behind f.place y e)) quiet w.level (λ t. ap (λ z. is_name_in z t) e)
   where
     over_none : (z : Bool) → is_last f.place ≡ z → over f.place ≡ None
     over_none false l = w.calm f.place (w.leads l).0

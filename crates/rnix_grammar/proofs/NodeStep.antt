@@ -10,19 +10,20 @@ use Rattle.rnix_grammar.specs.declared.until.Until.TheVariants as u
 use Rattle.rnix_grammar.specs.declared.action.Action.TheVariants as a
 use Rattle.rnix_grammar.specs.Fault.{Fault, ended}
 use Rattle.rnix_grammar.specs.Tables.{is_wanted}
-use Rattle.rnix_grammar.specs.Slots.{slot_at}
+use Rattle.rnix_grammar.specs.Slots.{slot_at, level_in}
 use Rattle.rnix_grammar.specs.Actions.{attr_action, names_action, source_action, more_attrs_action, is_l_paren}
 use Rattle.rnix_grammar.specs.Sketch.{Token, told_as, head_kind}
 use Rattle.rnix_grammar.specs.Machine.{Frame, closed}
-use Rattle.rnix_grammar.specs.Rows.{is_attr, At, go, start, lack, run_at}
-use Rattle.rnix_grammar.specs.Stands.{repeats, continues, is_dot, is_inherit, last_kind, level_in}
+use Rattle.rnix_grammar.specs.Rows.{is_attr, At, go, start, go_source, go_names}
+use Rattle.rnix_grammar.specs.Names.{is_name_in}
+use Rattle.rnix_grammar.specs.Stands.{repeats, continues, is_dot, is_inherit, last_kind}
 use Rattle.rnix_grammar.proofs.Places.{is_last, Leads}
 use Rattle.rnix_grammar.proofs.PlaceTables.{names_home, source_home, attrs_home}
 use Rattle.rnix_grammar.proofs.Reading.{node, AtNode}
 use Rattle.rnix_grammar.proofs.NodeSteps.{missed, quiet_at}
 use Rattle.rnix_grammar.proofs.BeginSteps.{IsReading}
 use Rattle.rnix_grammar.proofs.NodeTable.{Steps, Slotted, going, opens, starts}
-use Rattle.rnix_grammar.specs.Rows.{go_source, go_names}
+use Rattle.rnix_grammar.specs.Missing.{lack, run_at}
 use Rattle.rnix_grammar.proofs.NodeSlots.{same_kinds, closes_up, took_as, attr_here, at_attr}
 
 attr_source : (k : SyntaxKind) → is_attr k ≡ true → go_source k ≡ At p.InheritNames
@@ -41,9 +42,9 @@ attr_names _ h = absurd (cc)
 names_here : (f : Frame) (fs : List Frame) (ts : List Token) (n : ℕ) (gs : List Fault) (r : AtNode f fs ts gs) → r.kind ≡ NODE_INHERIT
     → go (At f.place) TOKEN_SEMICOLON ≡ At p.Past → ((k : SyntaxKind) → is_attr k ≡ true → go (At f.place) k ≡ At p.InheritNames) → lack f.place ≡ Some (ended, p.InheritEnd)
     → run_at f.place ≡ Some (u.Attr, p.InheritName) → (is_last f.place ≡ false → Leads f.place p.InheritNames × Leads f.place p.InheritName × Leads f.place p.Past) → level_in (slot_at f.place) ≡ None
-    → Steps (names_action (head_kind ts)) f fs ts n gs
-names_here f fs [] n gs r e g a k at l fr = node (missed f fs gs ended p.InheritEnd r k)
-names_here f fs (t ∷ ts) n gs r kind g at_attr k at l fr = by t.kind refl
+    → ((t : Token) → is_name_in (slot_at f.place) t ≡ true) → Steps (names_action (head_kind ts)) f fs ts n gs
+names_here f fs [] n gs r e g a k at l fr any = node (missed f fs gs ended p.InheritEnd r k)
+names_here f fs (t ∷ ts) n gs r kind g at_attr k at l fr any = by t.kind refl
   where
     cons_nil : t ∷ ts ≡ [] → ⊥
     cons_nil e = cc
@@ -51,18 +52,20 @@ names_here f fs (t ∷ ts) n gs r kind g at_attr k at l fr = by t.kind refl
     attrs : Steps (attr_action p.InheritName p.InheritNames (Some t.kind)) f fs (t ∷ ts) n gs
     attrs =
         attr_here f fs (t ∷ ts) n gs p.InheritName p.InheritNames r at_attr (λ h. absurd (cons_nil h)) at (λ h. ((l h).1, (l h).0)) refl (λ j b. (tt, tt))
-        (λ u us h. subst (λ (z : SyntaxKind). (is_inherit z || (if continues u.kind (last_kind f.row) then false else true)) ≡ true) (sym kind) refl) fr
+        (λ u us h. subst (λ (z : SyntaxKind). (is_inherit z || (if continues u.kind (last_kind f.row) then false else true)) ≡ true) (sym kind) refl) fr any
 
     by : (k : SyntaxKind) → t.kind ≡ k → Steps (if is_wanted u.Semicolon k then a.Take p.Past else attr_action p.InheritName p.InheritNames (Some k)) f fs (t ∷ ts) n gs
     by TOKEN_SEMICOLON e = took_as f fs t ts n gs TOKEN_SEMICOLON p.Past r e g (l (going f fs t ts gs r)).2 refl (λ j. refl)
     by k e = subst (λ (z : SyntaxKind). Steps (attr_action p.InheritName p.InheritNames (Some z)) f fs (t ∷ ts) n gs) e attrs
 
+-- among inherited names
 pub at_names : (f : Frame) (fs : List Frame) (ts : List Token) (n : ℕ) (gs : List Fault) (r : AtNode f fs ts gs) → slot_at f.place ≡ s.Names → Slotted f s.Names
     → Steps (names_action (head_kind ts)) f fs ts n gs
 at_names f fs ts n gs r e w =
     names_here f fs ts n gs r (same_kinds NODE_INHERIT f fs ts gs r (Some NODE_INHERIT) (names_home f.place e) refl) (w.goes TOKEN_SEMICOLON) (λ k h. w.goes k ∙ attr_names k h) w.lacks w.runs
-    (λ h. ((w.leads h).0, (w.leads h).1.0, (w.leads h).1.1.1.0)) w.level
+    (λ h. ((w.leads h).0, (w.leads h).1.0, (w.leads h).1.1.1.0)) w.level (λ t. ap (λ z. is_name_in z t) e)
 
+-- before inherited names
 pub at_source : (f : Frame) (fs : List Frame) (ts : List Token) (n : ℕ) (gs : List Fault) (r : AtNode f fs ts gs) → slot_at f.place ≡ s.Source → Slotted f s.Source
     → Steps (source_action (head_kind ts)) f fs ts n gs
 at_source f fs ts n gs r e w = by_items ts refl
@@ -73,7 +76,7 @@ at_source f fs ts n gs r e w = by_items ts refl
     names : Steps (names_action (head_kind ts)) f fs ts n gs
     names =
         names_here f fs ts n gs r kind (w.goes TOKEN_SEMICOLON) (λ k h. w.goes k ∙ attr_source k h) w.lacks w.runs
-        (λ h. ((w.leads h).0, (w.leads h).1.0, (w.leads h).1.1.1.0)) w.level
+        (λ h. ((w.leads h).0, (w.leads h).1.0, (w.leads h).1.1.1.0)) w.level (λ t. ap (λ z. is_name_in z t) e)
 
     paren : (t : Token) (us : List Token) → ts ≡ t ∷ us → (k : SyntaxKind) → t.kind ≡ k
         → Steps (if is_l_paren k then a.Open NODE_INHERIT_FROM p.FromInside p.InheritNames else names_action (Some k)) f fs ts n gs
@@ -91,6 +94,7 @@ at_source f fs ts n gs r e w = by_items ts refl
     by_items [] e = subst (λ (z : Option SyntaxKind). Steps (names_action z) f fs ts n gs) (ap head_kind e) names
     by_items (t ∷ us) e = paren t us e t.kind refl
 
+-- behind an attribute of a path
 pub at_more_attrs : (f : Frame) (fs : List Frame) (ts : List Token) (n : ℕ) (gs : List Fault) (r : AtNode f fs ts gs) → slot_at f.place ≡ s.MoreAttrs → Slotted f s.MoreAttrs
     → Steps (more_attrs_action (head_kind ts)) f fs ts n gs
 at_more_attrs f fs ts n gs r e w = by_items ts refl
@@ -119,8 +123,9 @@ at_more_attrs f fs ts n gs r e w = by_items ts refl
     by_items [] e = ends (λ j m. absurd (none_some (sym (ap head_kind e) ∙ m)))
     by_items (t ∷ us) e = dotted t us e t.kind refl
 
+-- before an attribute path
 pub at_attrpath : (f : Frame) (fs : List Frame) (ts : List Token) (n : ℕ) (gs : List Fault) (y : Place) (r : AtNode f fs ts gs) → Slotted f (s.Attrpath y) → is_last f.place ≡ false
     → Steps (a.Begin NODE_ATTRPATH p.AttrpathStart y) f fs ts n gs
 at_attrpath f fs ts n gs y r w l =
-    starts f fs ts n gs NODE_ATTRPATH p.AttrpathStart y r refl tt refl refl refl tt tt (λ j. (refl, tt)) (w.goes NODE_ATTRPATH) (w.leads l).0
+    starts f fs ts n gs NODE_ATTRPATH p.AttrpathStart y r refl tt tt refl refl refl tt tt (λ j. (refl, tt)) (w.goes NODE_ATTRPATH) (w.leads l).0
     (λ j h. quiet_at y j (Some NODE_ATTRPATH) (w.calm y (w.leads l).0) (h refl)) w.level

@@ -15,8 +15,9 @@ use Rattle.rnix_kinds.specs.declared.kinds.SyntaxKind.TheVariants.{TOKEN_INVERT,
 use Rattle.rnix_grammar.specs.Tables.{is_wanted}
 use Rattle.rnix_grammar.specs.Machine.{Head, Node, Second, Operand, Frame, put, kind_of, run_of, dropped}
 use Rattle.rnix_grammar.specs.Reports.{report}
-use Rattle.rnix_grammar.specs.Rows.{At, go, lack, run_at}
+use Rattle.rnix_grammar.specs.Rows.{At, go}
 use Rattle.rnix_grammar.specs.Stands.{Stands, end, leaf, lost, wrong, continues, last_from, last_kind, seen_as, is_wanted_in, is_inherit, level_of, operator_in, prefix_in, is_or_row, calls_or}
+use Rattle.rnix_grammar.specs.Missing.{lack, run_at}
 use Rattle.rnix_grammar.proofs.SketchLemmas.{⊕-blank, tokens_two, tokens_in-⊕, tokens_in-row_of}
 use Rattle.rnix_grammar.proofs.StandsLemmas.{stands-⊕}
 use Rattle.rnix_grammar.proofs.Basics.{true_is_not_false, not_nil}
@@ -30,6 +31,7 @@ same_in None None k s i = i
 same_in (Some j) None k s i = subst (λ (x : SyntaxKind). is_pat_entry x ≡ false) i s
 same_in h (Some j) k s i = subst (λ (x : Option SyntaxKind). IsIn x k) s i
 
+-- a place that leads to another is in the same node
 pub kept_in : {x y : Place} (k : SyntaxKind) → Leads x y → IsIn (home x) k → IsIn (home y) k
 kept_in {x = x} {y = y} k l i = same_in (home x) (home y) k l.same i
 
@@ -68,9 +70,11 @@ quiet_in s.Default j b h = tt
 quiet_in s.Or j b h = tt
 quiet_in (s.More low high) j b h = tt
 
+-- where no level is asked nothing goes on
 pub quiet_over : (o : Option ℕ) (j : SyntaxKind) → o ≡ None → QuietOver o j
 quiet_over o j e = subst (λ (x : Option ℕ). QuietOver x j) (sym e) tt
 
+-- where no operand stands and the last tree does not go on, the place is quiet
 pub quiet_at : (y : Place) (j : SyntaxKind) (b : Option SyntaxKind) → over y ≡ None → continues j b ≡ false → QuietAt y j b
 quiet_at y j b o h = (quiet_in (slot_at y) j b h, quiet_over (over y) j o)
 
@@ -79,6 +83,7 @@ pub quiet_behind : (y : Place) (row x : Sketch) (k : SyntaxKind) (ts : List Toke
     → ((j : SyntaxKind) → head_kind ts ≡ Some j → QuietAt y j (Some k)) → Quiet y (row ⊕ x) ts
 quiet_behind y row x k ts l h = λ j e. subst (λ (b : Option SyntaxKind). QuietAt y j b) (sym (last-⊕ None row x ∙ l (last_kind row))) (h j e)
 
+-- without tokens there is no next kind
 pub none_next : {j : SyntaxKind} (ts : List Token) → ts ≡ [] → head_kind ts ≡ Some j → ⊥
 none_next {j = j} ts e h = absurd (none_is_none (sym (ap head_kind e) ∙ h))
   where
@@ -93,6 +98,7 @@ begun-⊕ NODE_PAT_BIND (branch k c f) g h = absurd (true_is_not_false (sym h))
 begun-⊕ NODE_PAT_BIND (fault n c f) g h = absurd (true_is_not_false (sym h))
 begun-⊕ _ f g h = tt
 
+-- a node that begins with a token begins as it must
 pub begun_token : (k j : SyntaxKind) (t : Token) → Begun k (one_token j t)
 begun_token NODE_PAT_BIND j t = refl
 begun_token _ j t = tt
@@ -160,6 +166,7 @@ linked_to-⊕ k o f g Operand _ l = tt
 linked_to-⊕ k o f g (Node j) y l = tt
 linked_to-⊕ k o f g Second y l = tt
 
+-- more trees leave a row linked
 pub linked-⊕ : (k : SyntaxKind) (o : Option ℕ) (f g : Sketch) (fs : List Frame) → Linked k o f fs → Linked k o (f ⊕ g) fs
 linked-⊕ k o f g [] l = tt
 linked-⊕ k o f g (h ∷ fs) l = linked_to-⊕ k o f g h.head h.place l

@@ -17,20 +17,21 @@ use Rattle.rnix_grammar.specs.declared.action.Action.{Action}
 use Rattle.rnix_grammar.specs.declared.action.Action.TheVariants as a
 use Rattle.rnix_grammar.specs.Fault.{Fault, ended, ended_before}
 use Rattle.rnix_grammar.specs.Tables.{is_wanted, closes, wanted_kinds, depth_limit}
-use Rattle.rnix_grammar.specs.Slots.{slot_at}
+use Rattle.rnix_grammar.specs.Slots.{slot_at, level_in}
 use Rattle.rnix_grammar.specs.Actions.{token_action, series_action}
 use Rattle.rnix_grammar.specs.Begins.{begin_of}
 use Rattle.rnix_grammar.specs.Sketch.{Token, Sketch, blank, one_token, one_branch, tokens_in, told, told_as, head_kind}
 use Rattle.rnix_grammar.specs.Machine.{Frame, put, perform, reading, operand_on, limited, second_kind}
-use Rattle.rnix_grammar.specs.Rows.{is_simple, is_negated, is_questioned, is_operand, is_expression, is_infix, fits, Spot, At, go, go_slot, whole, is_end, start, to, lack, lack_in, run_at, run_in}
-use Rattle.rnix_grammar.specs.Stands.{Stands, end, leaf, continues, continues_kind, closing, closing_in, is_attrpath, is_dot, is_inherit, last_kind, is_question, is_comparison, level_in, IsTight}
-use Rattle.rnix_grammar.proofs.Basics.{true_is_not_false}
+use Rattle.rnix_grammar.specs.Rows.{is_simple, is_negated, is_questioned, is_operand, is_expression, is_infix, fits, Spot, At, go, go_slot, whole, is_end, start, to}
+use Rattle.rnix_grammar.specs.Stands.{Stands, end, leaf, continues, continues_kind, closing, closing_in, is_attrpath, is_dot, is_inherit, last_kind, is_question, is_comparison, IsTight}
+use Rattle.rnix_grammar.specs.Missing.{lack_in, lack, run_in, run_at}
+use Rattle.rnix_grammar.proofs.Basics.{true_is_not_false, both_fail, no_way}
 use Rattle.rnix_grammar.proofs.Places.{home, tight, over, IsIn, is_last, Placed, RightMost, Leads, LeadsAll, after, leads_on, wanted_here, allowed}
-use Rattle.rnix_grammar.proofs.PlaceTables.{done_home, entry_home, default_home, pattern_home, twice_home, end_is, bind_is, names_home, source_home, attrs_home, or_home, first_home, more_home, more_is, last_is, operand_open, operand_most, series_most, attrpath_open, pieces_is, attr_behind, name_behind, Behind, loosest, operated, BehindIn, behind_operand}
+use Rattle.rnix_grammar.proofs.PlaceTables.{Behind, loosest, operated, BehindIn, behind_operand}
 use Rattle.rnix_grammar.proofs.PlaceTables as places
-use Rattle.rnix_grammar.proofs.Reading.{node, AtNode, One, Level, Hushed, Waits, QuietAt, QuietIn, QuietOver, Begun, IsFree, Suits, is_error}
+use Rattle.rnix_grammar.proofs.Reading.{node, AtNode, One, Level, Hushed, Waits, QuietAt, QuietIn, QuietOver, Begun, IsAhead, IsFree, Suits, is_error}
 use Rattle.rnix_grammar.proofs.NodeSteps.{begun_token, taken, missed, ran, waiting, quiet_in, quiet_over}
-use Rattle.rnix_grammar.proofs.OpenSteps.{opened_start, node_on, stopped, linked_below}
+use Rattle.rnix_grammar.proofs.OpenSteps.{opened_start, ahead_next, node_on, stopped, linked_below}
 use Rattle.rnix_grammar.proofs.BeginLemmas.{begun_as}
 use Rattle.rnix_grammar.proofs.BeginSteps.{IsReading, begins_here}
 use Rattle.rnix_grammar.proofs.LevelLemmas.{simple_fits, questioned_operand, negated_questioned, simple_negated}
@@ -83,6 +84,7 @@ wanted_quiet u.Entry TOKEN_IDENT j h = refl
 wanted_quiet u.Entry _ j h = absurd (cc)
 wanted_quiet u.End k j h = absurd (cc)
 
+-- nothing goes on with a token that closes a row
 pub closer_quiet : (closer : Closer) (k j : SyntaxKind) → closes closer k ≡ true → continues j (Some k) ≡ false
 closer_quiet c.RBrack TOKEN_R_BRACK j h = refl
 closer_quiet c.RBrack _ j h = absurd (cc)
@@ -107,6 +109,7 @@ pub record Slotted (f : Frame) (slot : Slot) : Type 0 where
   pub level : level_in (slot_at f.place) ≡ level_in slot
   pub loud : (j : SyntaxKind) (b : Option SyntaxKind) → QuietIn slot j b → QuietIn (slot_at f.place) j b
 
+-- what is known of a place by its slot
 pub slotted : (f : Frame) (slot : Slot) → slot_at f.place ≡ slot → Placed f.place → RightMost f.place → Slotted f slot
 slotted f slot e v w = record {
   goes = λ k. ap (λ z. go_slot z f.place k) e;
@@ -144,6 +147,7 @@ took f fs t ts n gs y r g l o q =
 free_of : (o : Option ℕ) (x : Sketch) → o ≡ None → IsTight o x
 free_of o x e = subst (λ (z : Option ℕ). IsTight z x) (sym e) tt
 
+-- where no operand stands a tree binds as it likes
 pub free_at : (y : Place) (k : SyntaxKind) → level_in (slot_at y) ≡ None → IsFree (At y) k
 free_at y k e b c = free_of (level_in (slot_at y)) (one_branch k c) e
 
@@ -158,18 +162,18 @@ pub opens : (f : Frame) (fs : List Frame) (t : Token) (ts : List Token) (n : ℕ
 opens f fs t ts n gs k z y r sound goes here last pl mo loose quiet g l hush fr =
     node (node_on (put y f.row f ∷ fs) k z f.depth (suc r.above) (r.items + length (tokens_in f.row)) (one_token (told k t) t) ts gs sound (leaf refl (opened_start k (told k t) blank) goes refl refl refl end) here last pl mo (begun_token k (told k t) t)
     (λ j e. quiet j) (linked_below f fs r.kind k (tight z) (one_token (told k t) t) y r.head) (omega (arith, r.nested)) (omega (arith, r.passed))
-    (waiting f fs (t ∷ ts) gs (One k) y f.depth r (λ m e. ap (go (At f.place)) e ∙ g) l (λ m j e c. subst (λ (v : SyntaxKind). QuietAt y j (Some v)) (sym e) (hush j c)) tt (free_at f.place k fr) (omega arith)))
+    (waiting f fs (t ∷ ts) gs (One k) y f.depth r (λ m e. ap (go (At f.place)) e ∙ g) l (λ m j e c. subst (λ (v : SyntaxKind). QuietAt y j (Some v)) (sym e) (hush j c)) (tt, ahead_next k t ts) (free_at f.place k fr) (omega arith)))
 
 -- a node begins with nothing read
 pub starts : (f : Frame) (fs : List Frame) (ts : List Token) (n : ℕ) (gs : List Fault) (k : SyntaxKind) (z y : Place) (r : AtNode f fs ts gs)
-    → is_error k ≡ false → Begun k blank → start k ≡ At z → IsIn (home z) k → is_last z ≡ false → Placed z → RightMost z → ((j : SyntaxKind) → QuietAt z j None)
+    → is_error k ≡ false → Begun k blank → IsAhead k ts → start k ≡ At z → IsIn (home z) k → is_last z ≡ false → Placed z → RightMost z → ((j : SyntaxKind) → QuietAt z j None)
     → go (At f.place) k ≡ At y → Leads f.place y → ((j : SyntaxKind) → (is_attrpath k ≡ true → is_dot j ≡ false) → QuietAt y j (Some k))
     → level_in (slot_at f.place) ≡ None → Steps (a.Begin k z y) f fs ts n gs
-starts f fs ts n gs k z y r sound be goes here last pl mo quiet g l hush fr =
+starts f fs ts n gs k z y r sound be ahead goes here last pl mo quiet g l hush fr =
     node (node_on (put y f.row f ∷ fs) k z f.depth (suc r.above) (r.items + length (tokens_in f.row)) blank ts gs sound
     (subst (λ (q : Spot). Stands k (suc (suc r.above)) q (At z) blank (r.items + length (tokens_in f.row)) ts blank []) (sym goes) end) here last pl mo be
     (λ j e. quiet j) (linked_below f fs r.kind k (tight z) blank y r.head) (omega (arith, r.nested)) (omega (arith, r.passed))
-    (waiting f fs ts gs (One k) y f.depth r (λ m e. ap (go (At f.place)) e ∙ g) l (λ m j e c. subst (λ (v : SyntaxKind). QuietAt y j (Some v)) (sym e) (hush j c)) tt (free_at f.place k fr) (omega arith)))
+    (waiting f fs ts gs (One k) y f.depth r (λ m e. ap (go (At f.place)) e ∙ g) l (λ m j e c. subst (λ (v : SyntaxKind). QuietAt y j (Some v)) (sym e) (hush j c)) (tt, ahead) (free_at f.place k fr) (omega arith)))
 
 literal_fits : (level : ℕ) → fits level NODE_LITERAL ≡ true
 literal_fits level = simple_fits level NODE_LITERAL refl
@@ -198,6 +202,7 @@ reads f fs ts n gs level counted y r g l hush shut lacks at lv = by counted
     by true = limit (nat_le depth_limit f.depth) refl
     by false = begin f.depth ts refl (omega arith) (omega arith)
 
+-- an alternative holds where what its second side denies is false
 pub or_right : (x c : Bool) → c ≡ false → (x || (if c then false else true)) ≡ true
 or_right true c h = refl
 or_right false true h = absurd (true_is_not_false h)
@@ -215,6 +220,7 @@ pub hushed : (f : Frame) (fs : List Frame) (t : Token) (ts : List Token) (gs : L
     → (is_inherit r.kind || (if continues t.kind (last_kind f.row) then false else true)) ≡ true
 hushed f fs t ts gs r h = or_right (is_inherit r.kind) (continues t.kind (last_kind f.row)) h
 
+-- where a token is wanted
 pub at_token : (f : Frame) (fs : List Frame) (ts : List Token) (n : ℕ) (gs : List Fault) (until : Until) (y : Place) (r : AtNode f fs ts gs) → Slotted f (s.Token until y)
     → Steps (token_action until f.place y (head_kind ts)) f fs ts n gs
 at_token f fs [] n gs until y r w = node (missed f fs gs (ended_before (wanted_kinds until)) y r w.lacks)
@@ -270,25 +276,17 @@ hush_level level y (places.ended d o) m j f c = (done_quiet y j (Some m) d, quie
 hush_level level y (operated d o v w) m j f c =
     (done_quiet y j (Some m) d, subst (λ (z : Option ℕ). QuietOver z j) (sym o) (λ h. c (bin_continues m j (fits_operand level m v f) h)))
 
+-- where an operand is wanted
 pub at_operand : (f : Frame) (fs : List Frame) (ts : List Token) (n : ℕ) (gs : List Fault) (level : ℕ) (counted : Bool) (y : Place) (r : AtNode f fs ts gs) → Slotted f (s.Operand level counted y)
     → is_last f.place ≡ false → level ≤ 16 → Steps (a.Read level counted y) f fs ts n gs
 at_operand f fs ts n gs level counted y r w l lv =
     reads f fs ts n gs level counted y r (λ m e. w.goes m ∙ ap (λ z. to z (At y)) e) (w.leads l).0 (hush_level level y w.behind) (λ t us e. w.shut t.kind) (λ e. w.lacks) w.level lv
 
--- a test with two answers that are no
-no_way : (x y z : Bool) → y ≡ false → z ≡ false → (if x then y else z) ≡ true → ⊥
-no_way true y z h k e = true_is_not_false (sym e ∙ h)
-no_way false y z h k e = true_is_not_false (sym e ∙ k)
-
-no_if : (x y z : Bool) → y ≡ false → z ≡ false → (if x then y else z) ≡ false
-no_if true y z h k = h
-no_if false y z h k = k
-
 no_operand : (level : ℕ) (m : SyntaxKind) → is_expression m ≡ false → is_operand m ≡ false → is_questioned m ≡ false → is_negated m ≡ false → is_simple m ≡ false → fits level m ≡ true → ⊥
 no_operand level m a b c d e h =
-    no_way (nat_eq level 0) (is_expression m) (if nat_le level 12 then is_operand m else (if nat_eq level 13 then is_questioned m else (if nat_eq level 14 then is_negated m else is_simple m))) a
-    (no_if (nat_le level 12) (is_operand m) (if nat_eq level 13 then is_questioned m else (if nat_eq level 14 then is_negated m else is_simple m)) b
-    (no_if (nat_eq level 13) (is_questioned m) (if nat_eq level 14 then is_negated m else is_simple m) c (no_if (nat_eq level 14) (is_negated m) (is_simple m) d e))) h
+    both_fail (nat_eq level 0) (is_expression m) (if nat_le level 12 then is_operand m else (if nat_eq level 13 then is_questioned m else (if nat_eq level 14 then is_negated m else is_simple m))) a
+    (no_way (nat_le level 12) (is_operand m) (if nat_eq level 13 then is_questioned m else (if nat_eq level 14 then is_negated m else is_simple m)) b
+    (no_way (nat_eq level 13) (is_questioned m) (if nat_eq level 14 then is_negated m else is_simple m) c (no_way (nat_eq level 14) (is_negated m) (is_simple m) d e))) h
 
 no_fit : (closer : Closer) (level : ℕ) (m : SyntaxKind) → closes closer m ≡ true → fits level m ≡ true → ⊥
 no_fit c.RBrack level TOKEN_R_BRACK e h = no_operand level TOKEN_R_BRACK refl refl refl refl refl h
@@ -308,6 +306,7 @@ closer_fits closer level m h = by (closes closer m) refl
     by true e = absurd (no_fit closer level m e h)
     by false e = e
 
+-- where more operands may stand
 pub at_series : (f : Frame) (fs : List Frame) (ts : List Token) (n : ℕ) (gs : List Fault) (level : ℕ) (closer : Closer) (r : AtNode f fs ts gs) → Slotted f (s.Series level closer) → level ≤ 16
     → Steps (series_action level closer f.place (head_kind ts)) f fs ts n gs
 at_series f fs [] n gs level closer r w lv = node (missed f fs gs ended p.Past r w.lacks)

@@ -22,5 +22,6 @@ atom_level NODE_IF_ELSE c h = absurd (true_is_not_false (sym h))
 atom_level NODE_ASSERT c h = absurd (true_is_not_false (sym h))
 atom_level _ c h = refl
 
+-- an atom is tall enough for every level
 pub atom_tall : (low : ℕ) → low ≤ 16 → Tall low 16 16
 atom_tall low l = record { least = l; operator = λ j i h. omega (arith, (sided j i).most); questioned = λ h. omega arith; applied = λ h. omega arith }

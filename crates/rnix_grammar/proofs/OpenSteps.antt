@@ -16,7 +16,7 @@ use Rattle.rnix_grammar.proofs.SketchLemmas.{tokens_in-row_of}
 use Rattle.rnix_grammar.proofs.Basics.{true_is_not_false}
 use Rattle.rnix_grammar.proofs.RunLemmas.{dropped_all}
 use Rattle.rnix_grammar.proofs.Places.{home, tight, IsIn, is_last, Leads, Placed, RightMost}
-use Rattle.rnix_grammar.proofs.Reading.{a_node, an_error, AtNode, Begun, Tall, AtOperand, Lone, Linked, LinkedTo, Quiet, QuietAt, One, Level, Waits, in_operand, is_error}
+use Rattle.rnix_grammar.proofs.Reading.{a_node, an_error, AtNode, IsAhead, Begun, Tall, AtOperand, Lone, Linked, LinkedTo, Quiet, QuietAt, One, Level, Waits, in_operand, is_error}
 use Rattle.rnix_grammar.proofs.NodeSteps.{moved, kept_in, quiet_behind}
 use Rattle.rnix_grammar.proofs.BeginLemmas.{atom_grows}
 use Rattle.rnix_grammar.proofs.OpenLevels.{atom_level, atom_tall}
@@ -29,16 +29,26 @@ opened_start NODE_ATTRPATH j b = tt
 opened_start NODE_ATTRPATH_VALUE j b = tt
 opened_start _ j b = tt
 
+-- an item is left
+pub ahead_next : (k : SyntaxKind) (t : Token) (ts : List Token) → IsAhead k (t ∷ ts)
+ahead_next NODE_ATTRPATH t ts = tt
+ahead_next _ t ts = refl
+
+-- an item is left where one more follows
+pub ahead_behind : (k : SyntaxKind) (ts : List Token) (t : Token) (us : List Token) → IsAhead k (ts ++ (t ∷ us))
+ahead_behind k [] t us = ahead_next k t us
+ahead_behind k (v ∷ ts) t us = ahead_next k v (ts ++ (t ∷ us))
+
 -- a node of one item stands where its kind may stand
 pub leaf_stands : {parent : SyntaxKind} {a : ℕ} {q r : Spot} {b : Sketch} {i : ℕ} {us : List Token} (k : SyntaxKind) (t : Token)
-    → go (start k) (told k t) ≡ At p.Past → ((b c : Sketch) → repeats k b c ≡ []) → ((s : Spot) (c : Sketch) → is_formed s k c ≡ true) → IsLeveled q b (one_branch k (one_token (told k t) t)) → go q k ≡ r → live r ≡ true
+    → go (start k) (told k t) ≡ At p.Past → ((b c : Sketch) → repeats k b c ≡ []) → is_formed q k (one_token (told k t) t) ≡ true → IsLeveled q b (one_branch k (one_token (told k t) t)) → go q k ≡ r → live r ≡ true
     → Stands parent a q r b i us (one_branch k (one_token (told k t) t)) []
 leaf_stands {q = q} {b = b} k t g n m lev h l =
-    inner refl (leaf refl (opened_start k (told k t) blank) g refl refl refl end) refl (m q (one_token (told k t) t)) lev h l refl refl end (sym (append-nil ([] ++ repeats k b (one_token (told k t) t)) ∙ n b (one_token (told k t) t)))
+    inner refl (leaf refl (opened_start k (told k t) blank) g refl refl refl end) refl m lev h l refl refl end (sym (append-nil ([] ++ repeats k b (one_token (told k t) t)) ∙ n b (one_token (told k t) t)))
 
 -- the next item is a node
 pub leafed : (f : Frame) (fs : List Frame) (t : Token) (ts : List Token) (gs : List Fault) (k : SyntaxKind) (y : Place) (r : AtNode f fs (t ∷ ts) gs)
-    → go (start k) (told k t) ≡ At p.Past → ((b c : Sketch) → repeats k b c ≡ []) → ((s : Spot) (c : Sketch) → is_formed s k c ≡ true) → IsLeveled (At f.place) f.row (one_branch k (one_token (told k t) t)) → go (At f.place) k ≡ At y → Leads f.place y → ((j : SyntaxKind) → QuietAt y j (Some k))
+    → go (start k) (told k t) ≡ At p.Past → ((b c : Sketch) → repeats k b c ≡ []) → is_formed (At f.place) k (one_token (told k t) t) ≡ true → IsLeveled (At f.place) f.row (one_branch k (one_token (told k t) t)) → go (At f.place) k ≡ At y → Leads f.place y → ((j : SyntaxKind) → QuietAt y j (Some k))
     → AtNode (put y (f.row ⊕ one_branch k (one_token (told k t) t)) f) fs ts gs
 leafed f fs t ts gs k y r g n m lev h l q =
     moved f fs (t ∷ ts) ts gs gs (one_branch k (one_token (told k t) t)) [] y r refl (leaf_stands k t g n m lev h refl) (kept_in r.kind l r.home) l.tight l.placed l.most
@@ -74,16 +84,17 @@ node_on fs k z d a i x us gs e s h l pl mo be q n v w t = record {
 linked_node : (h : Head) (k j : SyntaxKind) (o : Option ℕ) (x : Sketch) (y : Place) → h ≡ Node k → LinkedTo j o x h y
 linked_node h k j o x y e = subst (λ (z : Head). LinkedTo j o x z y) (sym e) tt
 
+-- a tree right above a node is linked
 pub linked_below : (f : Frame) (fs : List Frame) (k j : SyntaxKind) (o : Option ℕ) (x : Sketch) (y : Place) → f.head ≡ Node k → Linked j o x (put y f.row f ∷ fs)
 linked_below f fs k j o x y e = linked_node f.head k j o x y e
 
 -- an operand is open for a node
-pub operand_waits : (fs : List Frame) (k : SyntaxKind) (low high d a i : ℕ) (us : List Token) (gs : List Fault) → fits low k ≡ true → d ≤ a → Waits fs (Level low) a i d us gs
+pub operand_waits : (fs : List Frame) (k : SyntaxKind) (low high d a i : ℕ) (us : List Token) (gs : List Fault) → fits low k ≡ true → IsAhead k us → d ≤ a → Waits fs (Level low) a i d us gs
     → Waits (opened Operand (p.Behind low high) d blank ∷ fs) (One k) a i d us gs
-operand_waits fs k low high d a i us gs h v w = in_operand k low high refl refl refl h v (omega arith) w
+operand_waits fs k low high d a i us gs h ah v w = in_operand k low high refl refl refl h ah v (omega arith) w
 
 -- an operand of one item
-pub lone_leaf : (k : SyntaxKind) (low a i : ℕ) (t : Token) (us : List Token) → is_atom k ≡ true → go (start k) (told k t) ≡ At p.Past → ((b c : Sketch) → repeats k b c ≡ []) → ((s : Spot) (c : Sketch) → is_formed s k c ≡ true)
+pub lone_leaf : (k : SyntaxKind) (low a i : ℕ) (t : Token) (us : List Token) → is_atom k ≡ true → go (start k) (told k t) ≡ At p.Past → ((b c : Sketch) → repeats k b c ≡ []) → ((s : Spot) → is_formed s k (one_token (told k t) t) ≡ true)
     → is_or_row (one_branch k (one_token (told k t) t)) ≡ false → low ≤ 16 → Lone low 16 a i us (one_branch k (one_token (told k t) t)) []
 lone_leaf k low a i t us h g n f other l = record {
   kind = k;
@@ -92,7 +103,7 @@ lone_leaf k low a i t us h g n f other l = record {
   single = a_node;
   tall = subst (λ (v : ℕ). Tall low 16 v) (sym (atom_level k (one_token (told k t) t) h)) (atom_tall low l);
   no_or = other;
-  stands = λ p c q r b l x lev m o. leaf_stands k t g n f lev m o;
+  stands = λ p c q r b l x lev m o. leaf_stands k t g n (f q) lev m o;
   last = λ b. refl;
   calm = λ j e c. power_max j;
 }
@@ -112,6 +123,7 @@ lone_stray low a i t us h l = record {
   calm = λ j e c. power_max j;
 }
 
+-- the frames below an operand that begins
 pub operand_on_frames : (fs : List Frame) (low high d a i : ℕ) (row : Sketch) (us : List Token) (gs hs es : List Fault) → Lone low high a i us row es → d ≤ a
     → d ≤ i + length (tokens_in row) → Waits fs (Level low) a i d (tokens_in row ++ us) gs → hs ≡ gs ++ es → AtOperand (opened Operand (p.Behind low high) d row) fs us hs
 operand_on_frames fs low high d a i row us gs hs es l v w t e = record {

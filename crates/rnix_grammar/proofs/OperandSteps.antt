@@ -1,6 +1,7 @@
 -- Steps at an operand: it goes on, or it is complete.
 use Rattle.std.proofs.Common.{◌≡◌, ℕ, suc, ◌+◌, ◌≤◌, ◌<◌, Bool, true, false, List, [], ◌∷◌, ◌++◌, length, Option, Some, None, refl, ap, sym, ◌∙◌, subst, append_assoc, append-nil, arith, length-append}
 use Rattle.std.specs.Prelude.{if◌then◌else◌, ◌&&◌, nat_le, nat_eq}
+use Rattle.std.proofs.lemmas.Bool.{and_from, and_parts}
 use Rattle.std.proofs.lemmas.Bool.Decides.{nat_tests}
 use Rattle.rnix_kinds.specs.declared.kinds.SyntaxKind.{SyntaxKind}
 use Rattle.rnix_kinds.specs.declared.kinds.SyntaxKind.TheVariants.{TOKEN_PIPE_LEFT, TOKEN_PIPE_RIGHT, TOKEN_IMPLICATION, TOKEN_OR_OR, TOKEN_AND_AND, TOKEN_EQUAL, TOKEN_NOT_EQUAL, TOKEN_LESS, TOKEN_LESS_OR_EQ, TOKEN_MORE, TOKEN_MORE_OR_EQ, TOKEN_UPDATE, TOKEN_ADD, TOKEN_SUB, TOKEN_MUL, TOKEN_DIV, TOKEN_CONCAT, TOKEN_QUESTION, TOKEN_DOT, TOKEN_OR, TOKEN_FLOAT, TOKEN_INTEGER, TOKEN_PATH_ABS, TOKEN_PATH_REL, TOKEN_PATH_HOME, TOKEN_PATH_SEARCH, TOKEN_URI, TOKEN_REC, TOKEN_L_BRACE, TOKEN_L_BRACK, TOKEN_L_PAREN, TOKEN_STRING_START, TOKEN_IDENT, TOKEN_CUR_POS, NODE_SELECT, NODE_APPLY, NODE_HAS_ATTR, NODE_BIN_OP, NODE_IDENT}
@@ -12,17 +13,19 @@ use Rattle.rnix_grammar.specs.Fault.{Fault}
 use Rattle.rnix_grammar.specs.Levels.{power, left_of, right_of, high_of}
 use Rattle.rnix_grammar.specs.Actions.{follow, goes_on, more_action}
 use Rattle.rnix_grammar.specs.Begins.{begin_of}
-use Rattle.rnix_grammar.specs.Sketch.{Token, Sketch, blank, ◌⊕◌, one_token, one_branch, tokens_in, told, told_as, head_kind}
+use Rattle.rnix_grammar.specs.Sketch.{Token, Sketch, blank, ◌⊕◌, one_token, one_branch, tokens_in, is_some, told, told_as, head_kind}
 use Rattle.rnix_grammar.specs.Machine.{Head, Node, Operand, Frame, put, opened, low_of, perform, second_kind, closed, made, begun}
 use Rattle.rnix_grammar.specs.Rows.{is_atom, is_simple, is_operand, is_infix, fits, Spot, Start, BeforeOperator, BeforeDot, BeforeQuestion, BeforeArgument, At, go, live, start, to}
-use Rattle.rnix_grammar.specs.Stands.{end, leaf, inner, continues_kind, closing, is_attrpath, is_dot, is_or, is_atom_row, calls_or, operator_in, level_of, row_level, last_from, IsLeveled, IsArgument, IsOpened}
+use Rattle.rnix_grammar.specs.Tables.{is_cur_pos}
+use Rattle.rnix_grammar.specs.Names.{is_or}
+use Rattle.rnix_grammar.specs.Stands.{end, leaf, inner, continues_kind, closing, is_attrpath, is_dot, is_atom_row, calls_or, operator_in, level_of, row_level, last_from, IsLeveled, IsArgument, IsOpened}
 use Rattle.rnix_grammar.proofs.SketchLemmas.{tokens_two, tokens_in-⊕}
 use Rattle.rnix_grammar.proofs.StandsLemmas.{stands-⊕}
-use Rattle.rnix_grammar.proofs.Basics.{true_is_not_false}
+use Rattle.rnix_grammar.proofs.Basics.{true_is_not_false, not_nil, some_same}
 use Rattle.rnix_grammar.proofs.Places.{home, tight, IsIn, is_last, Placed, RightMost}
 use Rattle.rnix_grammar.proofs.Reading.{Reading, node, operand, AtOperand, Bounded, Grows, One, Level, Waits, in_node, QuietAt, Begun, Tall, LinkedTo, IsSingle, a_node, an_error, is_error}
 use Rattle.rnix_grammar.proofs.LevelLemmas.{sided, left_rule, Operates, operates, operand_power, simple_power, simple_fits, questioned_operand, negated_questioned, simple_negated}
-use Rattle.rnix_grammar.proofs.OpenSteps.{operand_waits, operand_on_frames, leaf_stands}
+use Rattle.rnix_grammar.proofs.OpenSteps.{ahead_behind, operand_waits, operand_on_frames, leaf_stands}
 use Rattle.rnix_grammar.proofs.BeginLemmas.{begun_as}
 use Rattle.rnix_grammar.proofs.BeginSteps.{IsReading, begins_here}
 use Rattle.rnix_grammar.proofs.CloseSteps.{settled}
@@ -60,14 +63,9 @@ wrapped f fs t ts gs k spot x high r sound starts first lives opens second here 
       waits =
           subst (λ (n : ℕ). Waits (opened Operand (p.Behind n high) f.depth blank ∷ fs) (One k) r.above r.items f.depth (tokens_in (f.row ⊕ one_token (told k t) t) ++ ts) r.before) (sym low)
           (subst (λ (z : List Token). Waits (opened Operand (p.Behind r.low high) f.depth blank ∷ fs) (One k) r.above r.items f.depth z r.before)
-          (sym (tokens_two f.row (one_token (told k t) t) ts)) (operand_waits fs k r.low high f.depth r.above r.items (tokens_in f.row ++ (t ∷ ts)) r.before fit r.nested r.waits));
+          (sym (tokens_two f.row (one_token (told k t) t) ts)) (operand_waits fs k r.low high f.depth r.above r.items (tokens_in f.row ++ (t ∷ ts)) r.before fit (ahead_behind k (tokens_in f.row) t ts) r.nested r.waits));
       faults = r.faults;
     })
-
-and_true : (x y : Bool) → (x && y) ≡ true → (x ≡ true) × (y ≡ true)
-and_true true true h = (refl, refl)
-and_true true false h = absurd (true_is_not_false (sym h))
-and_true false y h = absurd (true_is_not_false (sym h))
 
 -- what a test of levels tells
 pub record Between (low high : ℕ) (k : SyntaxKind) : Type 0 where
@@ -77,8 +75,8 @@ pub record Between (low high : ℕ) (k : SyntaxKind) : Type 0 where
 
 between : (low high : ℕ) (k : SyntaxKind) → goes_on low high k ≡ true → Between low high k
 between low high k h =
-    let x = and_true (nat_le 1 (power k)) (nat_le low (power k) && nat_le (power k) high) h in
-    let y = and_true (nat_le low (power k)) (nat_le (power k) high) x.1 in
+    let x = and_parts (nat_le 1 (power k)) (nat_le low (power k) && nat_le (power k) high) h in
+    let y = and_parts (nat_le low (power k)) (nat_le (power k) high) x.1 in
     record { positive = grind (arith, nat_tests, x.0); least = grind (arith, nat_tests, y.0); most = grind (arith, nat_tests, y.1) }
 
 -- what does not go on, though it is loose enough, is too loose
@@ -132,6 +130,7 @@ pub data FollowsBy : SyntaxKind → Action → Type 0 where
   by_operator : {k : SyntaxKind} → is_infix k ≡ true → FollowsBy k (a.Wrap NODE_BIN_OP (p.Right (right_of k)) (high_of k))
   by_argument : {k : SyntaxKind} → power k ≡ 15 → FollowsBy k a.Apply
 
+-- what a token does behind an operand, by its level
 pub follows : (k : SyntaxKind) → 1 ≤ power k → FollowsBy k (follow k)
 follows TOKEN_DOT h = by_dot
 follows TOKEN_OR h = by_or
@@ -183,11 +182,8 @@ continues_power j b h = by (is_simple b) (is_operand b) (is_attrpath b) h
     by false false true e = dot j e
     by false false false e = absurd (true_is_not_false (sym e))
 
-no_frames : (f : Frame) (fs : List Frame) → f ∷ fs ≡ [] → ⊥
-no_frames f fs e = cc
-
 alone : {fs : List Frame} {low a i d : ℕ} {us : List Token} {es : List Fault} → Waits fs (Level low) a i d us es → fs ≡ [] → ⊥
-alone (in_node {f = f} {fs = fs} k q h s w v m l pl mo be u n fr y o x c t z b) e = no_frames f fs e
+alone (in_node {f = f} {fs = fs} k q h s w v m l pl mo be u n fr y o x c t z b) e = not_nil e
 
 -- an operand is complete
 ended : (f : Frame) (fs : List Frame) (ts : List Token) (n : ℕ) (gs : List Fault) (r : AtOperand f fs ts gs)
@@ -195,9 +191,6 @@ ended : (f : Frame) (fs : List Frame) (ts : List Token) (n : ℕ) (gs : List Fau
 ended f [] ts n gs r h = absurd (alone r.waits refl)
 ended f (g ∷ fs) ts n gs r h =
     subst (λ (x : Head). Reading (put g.place (g.row ⊕ made x f.row) g ∷ fs) ts gs) (sym r.head) (node (settled f (g ∷ fs) ts gs r h g fs refl))
-
-kinds_same : (j k : SyntaxKind) → Some j ≡ Some k → j ≡ k
-kinds_same j k e = cc
 
 -- a tree alone calls nothing, and its operator is the token behind it
 single_calls : (f : Sketch) → IsSingle f → calls_or f ≡ false
@@ -214,7 +207,7 @@ single_operator f j t an_error = refl
 
 -- an atom alone is one
 single_atom : (f : Sketch) (k : SyntaxKind) → IsSingle f → ((b : Option SyntaxKind) → last_from b f ≡ Some k) → is_atom k ≡ true → is_atom_row f ≡ true
-single_atom f k (a_node {k = j}) l a = ap is_atom (kinds_same j k (l None)) ∙ a
+single_atom f k (a_node {k = j}) l a = ap is_atom (some_same j k (l None)) ∙ a
 single_atom f k an_error l a = refl
 
 -- no operator's left operand is tighter than 13
@@ -271,10 +264,12 @@ goes k action by_or f fs t ts n gs r e x =
           inner refl
           (stands-⊕ (r.lone.stands NODE_APPLY (suc c) (start NODE_APPLY) BeforeArgument blank (omega (arith, l)) (λ u us e. refl) tt
           (ap (λ w. to w BeforeArgument) (r.lone.grows.simple (omega (arith, x.most)))) refl)
-          refl refl refl (leaf_stands NODE_IDENT t (ap (λ k. go (start NODE_IDENT) (told_as NODE_IDENT k)) e) (λ b c. refl) (λ s c. refl)
+          refl refl refl (leaf_stands NODE_IDENT t (ap (λ k. go (start NODE_IDENT) (told_as NODE_IDENT k)) e) (λ b c. refl) (ap (λ k. if is_or k then true else (if is_cur_pos t.text then false else true)) e)
           (subst (λ (w : Bool). IsArgument w f.row (one_branch NODE_IDENT (one_token (told NODE_IDENT t) t))) (sym (ap is_or e))
           (single_atom f.row r.lone.kind r.lone.single r.lone.last (r.lone.grows.atom (omega (arith, x.most))))) refl refl) (sym (append-nil r.inside)))
-          refl refl lev m o refl refl end (sym (append-nil (r.inside ++ []) ∙ append-nil r.inside));
+          refl (and_from (is_some (tokens_in (f.row ⊕ one_branch NODE_IDENT (one_token (told NODE_IDENT t) t)))) true
+          (ap is_some (tokens_in-⊕ f.row (one_branch NODE_IDENT (one_token (told NODE_IDENT t) t))) ∙ ahead_behind NODE_APPLY (tokens_in f.row) t []) refl)
+          lev m o refl refl end (sym (append-nil (r.inside ++ []) ∙ append-nil r.inside));
       last = λ b. refl;
       calm = λ j e c. (simple_power j c).1;
     }) r.nested (omega (arith, r.passed, all))
@@ -296,7 +291,7 @@ goes k action (by_argument h) f fs t ts n gs r e x =
       subst (λ (w : Bool). Tall r.low 15 (if w then 16 else 15)) (sym (single_calls f.row r.lone.single)) (call_tall r.low (omega (arith, x.least, h))),
     )
     r.nested (omega arith) refl refl
-    (operand_waits fs NODE_APPLY r.low 15 f.depth r.above r.items (tokens_in f.row ++ (t ∷ ts)) r.before (simple_fits r.low NODE_APPLY refl) r.nested r.waits) r.faults)
+    (operand_waits fs NODE_APPLY r.low 15 f.depth r.above r.items (tokens_in f.row ++ (t ∷ ts)) r.before (simple_fits r.low NODE_APPLY refl) (ahead_behind NODE_APPLY (tokens_in f.row) t ts) r.nested r.waits) r.faults)
     (omega (arith, r.nested)) (omega (arith, r.passed)) (omega arith))
 
 -- a step at an operand

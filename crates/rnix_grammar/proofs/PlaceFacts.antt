@@ -18,11 +18,7 @@ use Rattle.rnix_grammar.specs.Levels.{right_of, high_of}
 use Rattle.rnix_grammar.specs.Slots.{slot_at}
 use Rattle.rnix_grammar.specs.Actions.{token_action, series_action, entries_action, pieces_action, first_piece_action, is_path_piece, more_pieces_action, attr_action, names_action, is_l_paren, source_action, more_attrs_action, name_action, formals_action, braces_action, is_comma, comma_action, bind_action, default_action, or_action, end_action, follow, goes_on, more_action, done_at, action_at}
 use Rattle.rnix_grammar.specs.Sorts.{sort_of, is_inner, IsInner, IsLater, FitsNode, FitsSecond, FitsOperand, Fits}
-
--- one of two actions, by a test
-choice : (P : Action → Type 0) (x : Bool) {k m : Action} → P k → P m → P (if x then k else m)
-choice P true h j = h
-choice P false h j = j
+use Rattle.rnix_grammar.proofs.Basics.{choice}
 
 -- by a test that may be used
 tested : (P : Action → Type 0) (x : Bool) {k m : Action} → (x ≡ true → P k) → (x ≡ false → P m) → P (if x then k else m)

@@ -18,6 +18,7 @@ use Rattle.rnix_grammar.specs.Reports.{report, repeated}
 use Rattle.rnix_grammar.specs.Machine.{Head, Node, Second, Operand, Frame, Machine, opened, seen, low_of, closed, cleaned, entry_closed, limited, second_kind, begun, operand_on, reading, perform, touches, step_on, step, begins, Runs, rest, then as further}
 use Rattle.rnix_grammar.specs.Sorts.{Sort, Inner, Naming, Following, sort_of, is_inner, is_naming, is_start, IsInner, HasNext, FitsNode, FitsSecond, FitsOperand, Fits, Suits, Waits, Under, AreKept}
 use Rattle.rnix_grammar.proofs.PlaceFacts.{action_fits}
+use Rattle.rnix_grammar.proofs.Basics.{choice}
 
 -- what may be done by a frame
 abbrev pub FitsHead : Head → Bool → Option SyntaxKind → Action → Type 0
@@ -71,11 +72,6 @@ BeginsInner second (b.Node k place high) = IsInner place
 BeginsInner second b.LegacyLet = HasNext second
 BeginsInner second b.BoundLambda = HasNext second
 BeginsInner second begin = Unit {0}
-
--- one of two beginnings, by a test
-choice : (P : Begin → Type 0) (x : Bool) {k m : Begin} → P k → P m → P (if x then k else m)
-choice P true h j = h
-choice P false h j = j
 
 -- what a name begins
 begin_name_inner : (text : List ℕ) (second : Option SyntaxKind) → BeginsInner second (begin_name text second)

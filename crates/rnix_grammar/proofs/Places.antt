@@ -9,8 +9,8 @@ use Rattle.rnix_grammar.specs.declared.slot.Slot.TheVariants as s
 use Rattle.rnix_grammar.specs.declared.until.Until.{Until}
 use Rattle.rnix_grammar.specs.Slots.{slot_at}
 use Rattle.rnix_grammar.specs.Fault.{Fault}
-use Rattle.rnix_grammar.specs.Rows.{run_at, lack}
 use Rattle.rnix_grammar.specs.Stands.{is_wanted_in}
+use Rattle.rnix_grammar.specs.Missing.{lack, run_at}
 
 -- the kind of node that a place is in; some places are in many
 abbrev pub home : Place → Option SyntaxKind
@@ -84,6 +84,7 @@ tight p.Inverted = Some 9
 tight p.Negated = Some 14
 tight place = None
 
+-- entries of patterns, and attribute paths
 abbrev pub is_pat_entry : SyntaxKind → Bool
 is_pat_entry NODE_PAT_ENTRY = true
 is_pat_entry NODE_ATTRPATH = true
@@ -94,11 +95,13 @@ abbrev pub IsIn : Option SyntaxKind → SyntaxKind → Type 0
 IsIn None k = is_pat_entry k ≡ false
 IsIn (Some h) k = h ≡ k
 
+-- two places of one node: the second names the first's kind, or none
 abbrev pub IsSame : Option SyntaxKind → Option SyntaxKind → Type 0
 IsSame None None = Unit {0}
 IsSame (Some j) None = is_pat_entry j ≡ false
 IsSame h (Some k) = h ≡ Some k
 
+-- a string of which the end alone is missing
 abbrev pub is_last : Place → Bool
 is_last p.StringEnd = true
 is_last place = false
@@ -108,6 +111,7 @@ abbrev pub over : Place → Option ℕ
 over (p.Operated level) = Some level
 over place = None
 
+-- the level of an operator's last operand that a slot holds
 abbrev pub allowed : Slot → Option ℕ
 allowed (s.Operand level counted behind) = over behind
 allowed slot = None
@@ -118,6 +122,7 @@ Placed (p.Right level) = 1 ≤ level
 Placed (p.Behind low high) = ⊥
 Placed place = Unit {0}
 
+-- the right operand of an operator is asked for no level beyond 14
 abbrev pub RightMost : Place → Type 0
 RightMost (p.Right level) = level ≤ 14
 RightMost place = Unit {0}
@@ -131,6 +136,7 @@ pub record Leads (x y : Place) : Type 0 where
   pub placed : Placed y
   pub most : RightMost y
 
+-- a place leads to each of these
 abbrev pub LeadsAll : Place → List Place → Type 0
 LeadsAll x [] = Unit {0}
 LeadsAll x (y ∷ ys) = Leads x y × LeadsAll x ys
@@ -328,5 +334,6 @@ lack_leads p.Inverted = (refl, refl, tt, tt)
 lack_leads (p.Right level) = (refl, refl, tt, tt)
 lack_leads _ = tt
 
+-- a place leads to the one behind what is missing
 pub lack_leads_on : (x y : Place) (e : Fault) → lack x ≡ Some (e, y) → IsSame (home x) (home y) × (tight y ≡ tight x) × Placed y × RightMost y
 lack_leads_on x y e h = subst (λ (z : Option (Fault × Place)). LackLeads x z) h (lack_leads x)

@@ -1,7 +1,7 @@
 -- What holds of the frames while the items of a text are read.
 use Rattle.std.proofs.Common.{◌≡◌, ◌⊎◌, ℕ, suc, ◌+◌, ◌≤◌, ◌<◌, Bool, true, false, List, [], ◌∷◌, ◌++◌, length, Option, Some, None}
 use Rattle.rnix_kinds.specs.declared.kinds.SyntaxKind.{SyntaxKind}
-use Rattle.rnix_kinds.specs.declared.kinds.SyntaxKind.TheVariants.{NODE_ROOT, NODE_ERROR, NODE_IDENT, NODE_CUR_POS, NODE_BIN_OP, NODE_PATTERN, NODE_PAT_BIND}
+use Rattle.rnix_kinds.specs.declared.kinds.SyntaxKind.TheVariants.{NODE_ROOT, NODE_ERROR, NODE_IDENT, NODE_CUR_POS, NODE_ATTRPATH, NODE_BIN_OP, NODE_PATTERN, NODE_PAT_BIND}
 use Rattle.rnix_grammar.specs.declared.place.Place.{Place}
 use Rattle.rnix_grammar.specs.declared.place.Place.TheVariants as p
 use Rattle.rnix_grammar.specs.declared.slot.Slot.{Slot}
@@ -9,7 +9,7 @@ use Rattle.rnix_grammar.specs.declared.slot.Slot.TheVariants as s
 use Rattle.rnix_grammar.specs.Fault.{Fault}
 use Rattle.rnix_grammar.specs.Levels.{power, left_of}
 use Rattle.rnix_grammar.specs.Slots.{slot_at}
-use Rattle.rnix_grammar.specs.Sketch.{Token, Note, Sketch, blank, branch, fault, one_branch, tokens_in, head_kind}
+use Rattle.rnix_grammar.specs.Sketch.{Token, Note, Sketch, blank, branch, fault, one_branch, tokens_in, is_some, head_kind}
 use Rattle.rnix_grammar.specs.Machine.{Head, Node, Second, Operand, Frame}
 use Rattle.rnix_grammar.specs.Rows.{is_atom, is_simple, is_questioned, is_operand, is_infix, fits, Spot, SecondStart, At, go, live, start}
 use Rattle.rnix_grammar.specs.Stands.{Stands, closing, continues_kind, continues, is_attrpath, is_dot, last_from, last_kind, begins_with_token, level_of, row_level, is_or_row, IsLeveled}
@@ -28,6 +28,7 @@ pub data Awaited : Type 0 where
   Level : ℕ → Awaited
   Bound : Awaited
 
+-- a node of the kind is what is awaited
 abbrev pub Matches : Awaited → SyntaxKind → Type 0
 Matches (One k) m = m ≡ k
 Matches (Level n) m = fits n m ≡ true
@@ -54,6 +55,7 @@ pub record Tall (low high v : ℕ) : Type 0 where
   pub questioned : 13 ≤ high → 13 ≤ v
   pub applied : 15 ≤ high → 15 ≤ v
 
+-- a tree that an operand below takes up may go on as the operand may
 abbrev pub LinkedTo : SyntaxKind → Option ℕ → Sketch → Head → Place → Type 0
 LinkedTo k o row Operand (p.Behind low high) = Bounded k high o × Grows k high × Tall low high (level_of k row)
 LinkedTo k o row head place = Unit {0}
@@ -63,10 +65,12 @@ abbrev pub Linked : SyntaxKind → Option ℕ → Sketch → List Frame → Type
 Linked k o row [] = Unit {0}
 Linked k o row (f ∷ fs) = LinkedTo k o row f.head f.place
 
+-- the next item binds looser than an operator's last operand asks
 abbrev pub QuietOver : Option ℕ → SyntaxKind → Type 0
 QuietOver None j = Unit {0}
 QuietOver (Some v) j = continues_kind j NODE_BIN_OP ≡ true → power j < v
 
+-- the next item does not go on with the last tree, where a slot waits for a token or a run
 abbrev pub QuietIn : Slot → SyntaxKind → Option SyntaxKind → Type 0
 QuietIn (s.Token until behind) j b = continues j b ≡ false
 QuietIn s.Pieces j b = continues j b ≡ false
@@ -82,6 +86,7 @@ QuietIn slot j b = Unit {0}
 abbrev pub QuietAt : Place → SyntaxKind → Option SyntaxKind → Type 0
 QuietAt x j b = QuietIn (slot_at x) j b × QuietOver (over x) j
 
+-- so for the next item of some tokens
 abbrev pub Quiet : Place → Sketch → List Token → Type 0
 Quiet x row ts = (j : SyntaxKind) → head_kind ts ≡ Some j → QuietAt x j (last_kind row)
 
@@ -91,6 +96,7 @@ Closes (One k) m j = is_attrpath k ≡ true → is_dot j ≡ false
 Closes (Level n) m j = continues_kind j m ≡ true → power j < n
 Closes Bound m j = Unit {0}
 
+-- as an awaited tree is complete the next item does not go on with it
 abbrev pub Hushed : Awaited → Place → Type 0
 Hushed w y = (m j : SyntaxKind) → Matches w m → Closes w m j → QuietAt y j (Some m)
 
@@ -103,6 +109,11 @@ abbrev pub IsBehind : Spot → SyntaxKind → Type 0
 IsBehind (At x) k = Unit {0}
 IsBehind q NODE_PAT_BIND = ⊥
 IsBehind q k = Unit {0}
+
+-- an item is left where a node begins that is no attribute path
+abbrev pub IsAhead : SyntaxKind → List Token → Type 0
+IsAhead NODE_ATTRPATH ts = Unit {0}
+IsAhead k ts = is_some ts ≡ true
 
 -- such a node begins with `@`
 abbrev pub Begun : SyntaxKind → Sketch → Type 0
@@ -117,11 +128,13 @@ Suits n q b = (x : Sketch) → n ≤ row_level x → is_or_row x ≡ false → I
 abbrev pub IsFree : Spot → SyntaxKind → Type 0
 IsFree q k = (b c : Sketch) → IsLeveled q b (one_branch k c)
 
+-- what an awaited tree asks of the spot where it begins
 abbrev pub Refuses : Awaited → Spot → Sketch → List Token → Type 0
 Refuses (Level n) q b ts = Refused q ts × Suits n q b
-Refuses (One k) q b ts = IsBehind q k
+Refuses (One k) q b ts = IsBehind q k × IsAhead k ts
 Refuses Bound q b ts = ⊥
 
+-- an awaited node that is no expression asks for no level
 abbrev pub Free : Awaited → Spot → Type 0
 Free (One k) q = IsFree q k
 Free w q = Unit {0}
@@ -141,7 +154,7 @@ pub data Waits : List Frame → Awaited → ℕ → ℕ → ℕ → List Token �
       → j ≡ i + length (tokens_in f.row) → rs ≡ tokens_in f.row ++ us → Waits fs (One NODE_PATTERN) a i f.depth rs es → gs ≡ es ++ ds
       → Waits (f ∷ fs) Bound (suc a) j d us gs
   in_operand : {f : Frame} {fs : List Frame} {a i d : ℕ} {us : List Token} {es : List Fault} (k : SyntaxKind) (low high : ℕ)
-      → f.head ≡ Operand → f.place ≡ p.Behind low high → f.row ≡ blank → fits low k ≡ true → f.depth ≤ a → f.depth ≤ d → Waits fs (Level low) a i f.depth us es
+      → f.head ≡ Operand → f.place ≡ p.Behind low high → f.row ≡ blank → fits low k ≡ true → IsAhead k us → f.depth ≤ a → f.depth ≤ d → Waits fs (Level low) a i f.depth us es
       → Waits (f ∷ fs) (One k) a i d us es
 
 -- one tree
@@ -214,6 +227,7 @@ pub record AtSecond (f : Frame) (fs : List Frame) (ts : List Token) (gs : List F
   pub waits : Waits fs Bound above items f.depth (tokens_in f.row ++ ts) before
   pub faults : gs ≡ before ++ inside
 
+-- a text is being read: a node, an operand or a second name is innermost
 pub data Reading : List Frame → List Token → List Fault → Type 0 where
   node : {f : Frame} {fs : List Frame} {ts : List Token} {gs : List Fault} → AtNode f fs ts gs → Reading (f ∷ fs) ts gs
   operand : {f : Frame} {fs : List Frame} {ts : List Token} {gs : List Fault} → AtOperand f fs ts gs → Reading (f ∷ fs) ts gs

@@ -18,6 +18,7 @@ parted_by : (until : Until) (t : Token) (ts : List Token) (w : Bool) → is_want
 parted_by until t ts true e r = record { all = refl; unwanted = tt; stops = e }
 parted_by until t ts false e r = record { all = ap (λ x. t ∷ x) r.all; unwanted = (e, r.unwanted); stops = r.stops }
 
+-- a run parts some tokens
 pub parted : (until : Until) (ts : List Token) → Parted until ts (run_of until ts)
 parted until [] = record { all = refl; unwanted = tt; stops = refl }
 parted until (t ∷ ts) = parted_by until t ts (is_wanted until t.kind) refl (parted until ts)

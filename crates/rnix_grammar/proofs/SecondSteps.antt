@@ -9,28 +9,24 @@ use Rattle.rnix_grammar.specs.declared.until.Until.TheVariants as u
 use Rattle.rnix_grammar.specs.declared.action.Action.TheVariants as a
 use Rattle.rnix_grammar.specs.Fault.{Fault, ended_before}
 use Rattle.rnix_grammar.specs.Tables.{is_wanted, wanted_kinds}
-use Rattle.rnix_grammar.specs.Slots.{slot_at}
+use Rattle.rnix_grammar.specs.Slots.{slot_at, level_in}
 use Rattle.rnix_grammar.specs.Actions.{action_at, name_action}
-use Rattle.rnix_grammar.specs.Sketch.{Token, Sketch, blank, ◌⊕◌, one_token, one_branch, one_fault, row_of, tokens_in, told, told_as, head_kind}
-use Rattle.rnix_grammar.specs.Machine.{Machine, Head, Frame, put, made, touches}
+use Rattle.rnix_grammar.specs.Sketch.{Token, Sketch, blank, ◌⊕◌, one_token, one_branch, one_fault, row_of, tokens_in, told, told_as, head_kind, Twice, Unwanted}
+use Rattle.rnix_grammar.specs.Machine.{Machine, Head, Frame, put, made, touches, step_on, begins, Runs, rest, then as further, run_of, dropped}
 use Rattle.rnix_grammar.specs.Reports.{report}
-use Rattle.rnix_grammar.specs.Rows.{At, SecondStart, go, whole, start, lack, run_at}
-use Rattle.rnix_grammar.specs.Stands.{Stands, end, wrong, continues, last_kind, level_in}
-use Rattle.rnix_grammar.proofs.SketchLemmas.{tokens_in-row_of}
+use Rattle.rnix_grammar.specs.Rows.{At, SecondStart, go, whole, start}
+use Rattle.rnix_grammar.specs.Names.{is_or, is_name_in}
+use Rattle.rnix_grammar.specs.Stands.{Stands, end, wrong, continues, last_kind, lost, second as twice}
+use Rattle.rnix_grammar.proofs.SketchLemmas.{tokens_in-row_of, ⊕-blank, tokens_two, tokens_in-⊕}
 use Rattle.rnix_grammar.proofs.Basics.{true_is_not_false}
 use Rattle.rnix_grammar.proofs.Places.{home, tight, IsIn, is_last, Placed, RightMost}
-use Rattle.rnix_grammar.proofs.Reading.{Reading, node, operand, second, AtOperand, AtSecond, One, Waits, in_pattern, Linked, Quiet, QuietAt}
+use Rattle.rnix_grammar.proofs.Reading.{Reading, node, operand, second, AtOperand, AtSecond, One, Waits, in_pattern, Linked, Quiet, QuietAt, Bound, bottom, in_node}
 use Rattle.rnix_grammar.proofs.OpenSteps.{leaf_stands, node_on}
 use Rattle.rnix_grammar.proofs.BeginSteps.{IsReading}
 use Rattle.rnix_grammar.proofs.NodeTable.{Steps, free_at}
-use Rattle.rnix_grammar.specs.Machine.{step_on, begins, Runs, rest, then as further}
-use Rattle.rnix_grammar.specs.Machine.{run_of, dropped}
-use Rattle.rnix_grammar.specs.Sketch.{Twice, Unwanted}
-use Rattle.rnix_grammar.specs.Stands.{lost, second as twice}
+use Rattle.rnix_grammar.specs.Missing.{lack, run_at}
 use Rattle.rnix_grammar.proofs.StandsLemmas.{stands-⊕}
-use Rattle.rnix_grammar.proofs.SketchLemmas.{⊕-blank, tokens_two, tokens_in-⊕}
 use Rattle.rnix_grammar.proofs.RunLemmas.{Parted, parted, run_begins}
-use Rattle.rnix_grammar.proofs.Reading.{Bound, bottom, in_node}
 use Rattle.rnix_grammar.proofs.NodeSteps.{quiet_behind, linked-⊕}
 use Rattle.rnix_grammar.proofs.NodeEnds.{node_step}
 use Rattle.rnix_grammar.proofs.OperandSteps.{operand_step}
@@ -93,7 +89,8 @@ names_twice f fs (t ∷ ts) n gs r e = by t.kind refl
     by : (k : SyntaxKind) → t.kind ≡ k → Steps (name_action p.TwiceName p.TwicePast (Some k)) f fs (t ∷ ts) n gs
     by TOKEN_IDENT h =
         second (moved_second f fs (t ∷ ts) ts gs gs (one_branch NODE_IDENT (one_token (told NODE_IDENT t) t)) [] p.TwicePast r refl
-        (leaf_stands NODE_IDENT t (ap (λ z. go (start NODE_IDENT) (told_as NODE_IDENT z)) h) (λ b c. refl) (λ s c. refl) (free_at f.place NODE_IDENT (ap (λ z. level_in (slot_at z)) e) f.row (one_token (told NODE_IDENT t) t)) (ap (λ z. go (At z) NODE_IDENT) e) refl) (inr refl)
+        (leaf_stands NODE_IDENT t (ap (λ z. go (start NODE_IDENT) (told_as NODE_IDENT z)) h) (λ b c. refl)
+        (ap (λ z. is_name_in (slot_at z) t) e ∙ ap (λ z. if is_or z then false else true) h) (free_at f.place NODE_IDENT (ap (λ z. level_in (slot_at z)) e) f.row (one_token (told NODE_IDENT t) t)) (ap (λ z. go (At z) NODE_IDENT) e) refl) (inr refl)
         (λ j m. (tt, tt)) (sym (append-nil gs)))
     by k h = runs_on (ap (is_wanted u.Ident) h)
 

@@ -11,9 +11,8 @@ use Rattle.rnix_grammar.specs.Stands.{Stands, end, leaf, lost, wrong, second, in
 use Rattle.rnix_grammar.specs.Mended.{is_ended, others, is_misplaced, NoneMisplaced, AreSettled, IsNamedList, AreNamedLists}
 use Rattle.rnix_grammar.specs.Shape.{reports_behind}
 use Rattle.rnix_grammar.proofs.SketchLemmas.{tokens_in-row_of}
-use Rattle.rnix_grammar.proofs.StandsLemmas.{none_of, first_none}
 use Rattle.rnix_grammar.proofs.LackFacts.{lack_ended}
-use Rattle.rnix_grammar.proofs.Basics.{true_is_not_false, not_nil}
+use Rattle.rnix_grammar.proofs.Basics.{true_is_not_false, not_nil, none_right, none_left}
 
 -- the others of two lists
 pub others-++ : (es fs : List Fault) → others (es ++ fs) ≡ others es ++ others fs
@@ -177,18 +176,18 @@ none_empty end n = tt
 none_empty (leaf h tight g l c j s) n = absurd (not_nil n)
 none_empty (lost {x = x} {y = y} {e = e} u m l s z) n = subst NoneMisplaced (sym z) (ended_placed e (lack_ended x y e l).0, none_empty s n)
 none_empty {p = p} {a = a} {q = q} {b = b} {i = i} (wrong {r = r} {vs = vs} {c = c} {f = f} note ts h v x d j s z) n =
-    let none : ts ≡ [] = sym (ap tokens_in h ∙ tokens_in-row_of ts) ∙ first_none (tokens_in c) (tokens_in f) n in
+    let none : ts ≡ [] = sym (ap tokens_in h ∙ tokens_in-row_of ts) ∙ none_left (tokens_in c) (tokens_in f) n in
     let beside : IsBeside note p a q r b i [] vs = subst (λ (x : List Token). IsBeside note p a q r b i x vs) none x in
     subst NoneMisplaced (sym z)
-    (ap (λ x. is_misplaced (report note x)) none ∙ empty_report note p a q r b i vs beside, none_empty s (none_of (tokens_in c) (tokens_in f) n))
+    (ap (λ x. is_misplaced (report note x)) none ∙ empty_report note p a q r b i vs beside, none_empty s (none_right (tokens_in c) (tokens_in f) n))
 none_empty (second {c = c} {f = f} {ds = ds} {es = es} v s w p q r d j y z) n =
     subst NoneMisplaced (sym z)
-    (none-++ (ds ++ report Twice (tokens_in c) ∷ []) es (none-++ ds (report Twice (tokens_in c) ∷ []) (none_empty s (first_none (tokens_in c) (tokens_in f) n)) (refl, tt))
-    (none_empty y (none_of (tokens_in c) (tokens_in f) n)))
+    (none-++ (ds ++ report Twice (tokens_in c) ∷ []) es (none-++ ds (report Twice (tokens_in c) ∷ []) (none_empty s (none_left (tokens_in c) (tokens_in f) n)) (refl, tt))
+    (none_empty y (none_right (tokens_in c) (tokens_in f) n)))
 none_empty {b = b} (inner {c = c} {f = f} {ds = ds} {es = es} {k = k} v s w form tight h l d j y z) n =
     subst NoneMisplaced (sym z)
-    (none-++ (ds ++ repeats k b c) es (none-++ ds (repeats k b c) (none_empty s (first_none (tokens_in c) (tokens_in f) n)) (calm_repeats k b c).0)
-    (none_empty y (none_of (tokens_in c) (tokens_in f) n)))
+    (none-++ (ds ++ repeats k b c) es (none-++ ds (repeats k b c) (none_empty s (none_left (tokens_in c) (tokens_in f) n)) (calm_repeats k b c).0)
+    (none_empty y (none_right (tokens_in c) (tokens_in f) n)))
 
 -- behind an error of the end of the text no item is left
 pub last_ended : {p : SyntaxKind} {a : ℕ} {q q' : Spot} {b : Sketch} {i : ℕ} {us : List Token} {f : Sketch} {es : List Fault}
@@ -202,7 +201,7 @@ last_ended {us = us} (second {vs = vs} {c = c} {f = f} {ds = ds} {es = es} v s w
     elim (has-++ (ds ++ report Twice (tokens_in c) ∷ []) es (subst HasEnded z h)) [
       | inl m ↦
           elim (has-++ ds (report Twice (tokens_in c) ∷ []) m) [
-            | inl o ↦ none_of (tokens_in f) us (sym v ∙ last_ended s o)
+            | inl o ↦ none_right (tokens_in f) us (sym v ∙ last_ended s o)
             | inr o ↦ elim o [ inl e ↦ absurd (true_is_not_false (sym e)) | inr e ↦ absurd e ]
           ]
       | inr m ↦ last_ended y m
@@ -210,7 +209,7 @@ last_ended {us = us} (second {vs = vs} {c = c} {f = f} {ds = ds} {es = es} v s w
 last_ended {b = b} {us = us} (inner {vs = vs} {c = c} {f = f} {ds = ds} {es = es} {k = k} v s w form tight g l d j y z) h =
     elim (has-++ (ds ++ repeats k b c) es (subst HasEnded z h)) [
       | inl m ↦
-          elim (has-++ ds (repeats k b c) m) [ inl o ↦ none_of (tokens_in f) us (sym v ∙ last_ended s o) | inr o ↦ absurd ((calm_repeats k b c).2 o) ]
+          elim (has-++ ds (repeats k b c) m) [ inl o ↦ none_right (tokens_in f) us (sym v ∙ last_ended s o) | inr o ↦ absurd ((calm_repeats k b c).2 o) ]
       | inr m ↦ last_ended y m
     ]
 
@@ -228,7 +227,7 @@ stands_settled {us = us} (second {vs = vs} {c = c} {f = f} {ds = ds} {es = es} v
     (stands_settled y)
     (λ m.
     elim (has-++ ds (report Twice (tokens_in c) ∷ []) m) [
-      | inl o ↦ none_empty y (first_none (tokens_in f) us (sym v ∙ last_ended s o))
+      | inl o ↦ none_empty y (none_left (tokens_in f) us (sym v ∙ last_ended s o))
       | inr o ↦ elim o [ inl e ↦ absurd (true_is_not_false (sym e)) | inr e ↦ absurd e ]
     ]))
 stands_settled {b = b} {us = us} (inner {vs = vs} {c = c} {f = f} {ds = ds} {es = es} {k = k} v s w form tight g l d j y z) =
@@ -238,6 +237,6 @@ stands_settled {b = b} {us = us} (inner {vs = vs} {c = c} {f = f} {ds = ds} {es 
     (stands_settled y)
     (λ m.
     elim (has-++ ds (repeats k b c) m) [
-      | inl o ↦ none_empty y (first_none (tokens_in f) us (sym v ∙ last_ended s o))
+      | inl o ↦ none_empty y (none_left (tokens_in f) us (sym v ∙ last_ended s o))
       | inr o ↦ absurd ((calm_repeats k b c).2 o)
     ]))

@@ -7,15 +7,7 @@ use Rattle.rnix_grammar.specs.Reports.{report}
 use Rattle.rnix_grammar.specs.Rows.{Spot}
 use Rattle.rnix_grammar.specs.Stands.{Stands, end, leaf, lost, wrong, second, inner, repeats, IsBeside}
 use Rattle.rnix_grammar.proofs.SketchLemmas.{⊕-assoc, ⊕-blank, tokens_two, tokens_in-⊕, tokens_in-row_of}
-use Rattle.rnix_grammar.proofs.Basics.{not_nil}
-
-pub none_of : (ts us : List Token) → ts ++ us ≡ [] → us ≡ []
-none_of [] us h = h
-none_of (t ∷ ts) us h = absurd (not_nil h)
-
-pub first_none : (ts us : List Token) → ts ++ us ≡ [] → ts ≡ []
-first_none [] us h = refl
-first_none (t ∷ ts) us h = absurd (not_nil h)
+use Rattle.rnix_grammar.proofs.Basics.{none_right, none_left}
 
 -- one row behind another
 pub stands-⊕ : {p : SyntaxKind} {a : ℕ} {q r q' : Spot} {b d : Sketch} {i j : ℕ} {us vs : List Token} {f g : Sketch} {ds es fs : List Fault}
@@ -29,7 +21,7 @@ stands-⊕ {b = b} (leaf {f = f} {k = k} {t = t} h op w l c x s) v m n y e =
     leaf h op w l c x (stands-⊕ s v (m ∙ sym (⊕-assoc b (one_token k t) f) ∙ ap (λ z. z ⊕ f) (sym c)) (omega arith) y e)
 stands-⊕ {us = us} {g = g} {es = es} (lost {f = f} w x l s z) v m n y e =
     let none : tokens_in g ++ us ≡ [] = sym v ∙ w in
-    lost (none_of (tokens_in g) us none) (tokens_in-⊕ f g ∙ ap (λ c. c ++ tokens_in g) x ∙ first_none (tokens_in g) us none) l (stands-⊕ s v m n y refl) (e ∙ ap (λ c. c ++ es) z)
+    lost (none_right (tokens_in g) us none) (tokens_in-⊕ f g ∙ ap (λ c. c ++ tokens_in g) x ∙ none_left (tokens_in g) us none) l (stands-⊕ s v m n y refl) (e ∙ ap (λ c. c ++ es) z)
 stands-⊕ {b = b} {us = us} {g = g} {es = es} (wrong {c = c} {f = f} note ts h w x l k s z) v m n y e =
     let same : length (tokens_in c) ≡ length ts = ap length (ap tokens_in h ∙ tokens_in-row_of ts) in
     let all : length (tokens_in c ++ tokens_in f) ≡ length (tokens_in c) + length (tokens_in f) = length-append (tokens_in c) (tokens_in f) in
@@ -57,6 +49,7 @@ beside_wider parent a c q r b i Extra (t ∷ ts) vs l h = h
 beside_wider parent a c q r b i Twice ts vs l h = h
 beside_wider parent a c q r b i TooDeep ts vs l h = (h.0, omega (arith, l, h.1), h.2, h.3, h.4)
 
+-- what stands inside fewer nodes stands inside more
 pub stands-wider : {p : SyntaxKind} {a c : ℕ} {q q' : Spot} {b : Sketch} {i : ℕ} {us : List Token} {f : Sketch} {es : List Fault} → a ≤ c → Stands p a q q' b i us f es → Stands p c q q' b i us f es
 stands-wider l end = end
 stands-wider l (leaf h op w x y z s) = leaf h op w x y z (stands-wider l s)

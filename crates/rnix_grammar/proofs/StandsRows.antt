@@ -9,16 +9,19 @@ use Rattle.rnix_grammar.specs.declared.place.Place.TheVariants as places
 use Rattle.rnix_grammar.specs.Fault.{Fault, named_twice}
 use Rattle.rnix_grammar.specs.Sketch.{Token, Note, Stray, Unwanted, Extra, Twice, TooDeep, Sketch, row_of, tokens_in, extent_of}
 use Rattle.rnix_grammar.specs.Reports.{report, repeated_if, entry_name, has_entry}
-use Rattle.rnix_grammar.specs.Rows.{Spot, At, go, whole, live, start, run, lack}
+use Rattle.rnix_grammar.specs.Rows.{Spot, At, go, whole, live, start, run}
 use Rattle.rnix_grammar.specs.Stands.{Stands, end, leaf, lost, wrong, second, inner, repeats, IsBeside}
 use Rattle.rnix_grammar.specs.Mended.{patch, mended, kinds_of, halves, is_ended, ended_count}
+use Rattle.rnix_grammar.specs.Missing.{lack}
 use Rattle.rnix_grammar.proofs.SketchLemmas.{tokens_in-row_of}
-use Rattle.rnix_grammar.proofs.StandsLemmas.{none_of, first_none}
 use Rattle.rnix_grammar.proofs.LackFacts.{lack_ended}
 use Rattle.rnix_grammar.proofs.StandsFaults.{HasEnded, last_ended}
-use Rattle.rnix_grammar.proofs.RowFacts.{IsCompletable, completed_at, owes, owing, owing_half, owing_goes, is_final, lost_final, final_full, final_goes, lost_half, lost_inside, has_row, starts_row}
+use Rattle.rnix_grammar.proofs.Completable.{IsCompletable, completed_at, lost_inside}
+use Rattle.rnix_grammar.proofs.Owing.{owes, owing, owing_half, owing_goes}
+use Rattle.rnix_grammar.proofs.RowEnds.{is_final, lost_final, final_full, final_goes, lost_half}
+use Rattle.rnix_grammar.proofs.RowKinds.{has_row, starts_row}
 use Rattle.rnix_grammar.proofs.ImitateLemmas.{Imitates, imitates_self, imitates_same, imitates_both, second_imitates, patched, run_patch, beside_imitates, beside_completable, pattern_goes, start_half, start_place}
-use Rattle.rnix_grammar.proofs.Basics.{true_is_not_false, not_nil}
+use Rattle.rnix_grammar.proofs.Basics.{true_is_not_false, not_nil, none_right, none_left}
 
 -- a row with an error node begins as its kind's rows do
 beside_row : (n : Note) (p : SyntaxKind) (a : ℕ) (q r : Spot) (b : Sketch) (i : ℕ) (ts vs : List Token) (k : SyntaxKind) → IsBeside n p a q r b i ts vs → q ≡ start k → has_row k ≡ true
@@ -64,7 +67,7 @@ beside_last Twice p a q r b i ts vs e h = absurd h
 beside_last TooDeep p a q r b i ts vs e h = h.0
 
 -- the tokens of a row of leaves
-row_tokens : (c : Sketch) (ts : List Token) → c ≡ row_of ts → tokens_in c ≡ [] → ts ≡ []
+pub row_tokens : (c : Sketch) (ts : List Token) → c ≡ row_of ts → tokens_in c ≡ [] → ts ≡ []
 row_tokens c ts h n = sym (tokens_in-row_of ts) ∙ ap tokens_in (sym h) ∙ n
 
 -- behind a row with no token that comes further nothing is left
@@ -74,11 +77,11 @@ none_behind end n m w = absurd (true_is_not_false (sym w ∙ m))
 none_behind (leaf h tight g l c j s) n m w = absurd (not_nil n)
 none_behind (lost u x l s z) n m w = u
 none_behind {p = p} {a = a} {q = q} {b = b} {i = i} {us = us} (wrong {r = r} {vs = vs} {c = c} {f = f} note ts h v x d j s z) n m w =
-    none_of (tokens_in f) us (sym v ∙ beside_last note p a q r b i ts vs (row_tokens c ts h (first_none (tokens_in c) (tokens_in f) n)) x)
+    none_right (tokens_in f) us (sym v ∙ beside_last note p a q r b i ts vs (row_tokens c ts h (none_left (tokens_in c) (tokens_in f) n)) x)
 none_behind {us = us} (second {c = c} {f = f} v s y p q r d j x z) n m w =
-    none_of (tokens_in f) us (sym v ∙ none_behind s (first_none (tokens_in c) (tokens_in f) n) refl y)
+    none_right (tokens_in f) us (sym v ∙ none_behind s (none_left (tokens_in c) (tokens_in f) n) refl y)
 none_behind {us = us} (inner {c = c} {f = f} {k = k} v s y form tight g l d j x z) n m w =
-    none_of (tokens_in f) us (sym v ∙ none_behind s (first_none (tokens_in c) (tokens_in f) n) (start_half k) y)
+    none_right (tokens_in f) us (sym v ∙ none_behind s (none_left (tokens_in c) (tokens_in f) n) (start_half k) y)
 
 -- a patch pays no token
 owing_patch : (n : Note) (q : Spot) (f : Forest) → owing q ≡ true → ((r : Spot) → owing r ≡ true → owing (run r (kinds_of f)) ≡ true) → owing (run q (kinds_of (patch n f))) ≡ true
@@ -94,10 +97,10 @@ pub owing_rest : {p : SyntaxKind} {a : ℕ} {q q' : Spot} {b : Sketch} {i : ℕ}
 owing_rest end n q0 o = o
 owing_rest (leaf h tight g l c j s) n q0 o = absurd (not_nil n)
 owing_rest (lost u x l s z) n q0 o = owing_rest s n q0 o
-owing_rest (wrong {c = c} {f = f} note ts h v x d j s z) n q0 o = owing_patch note q0 (mended f) o (owing_rest s (none_of (tokens_in c) (tokens_in f) n))
-owing_rest (second {c = c} {f = f} v s y p q r d j x z) n q0 o = owing_rest x (none_of (tokens_in c) (tokens_in f) n) q0 o
+owing_rest (wrong {c = c} {f = f} note ts h v x d j s z) n q0 o = owing_patch note q0 (mended f) o (owing_rest s (none_right (tokens_in c) (tokens_in f) n))
+owing_rest (second {c = c} {f = f} v s y p q r d j x z) n q0 o = owing_rest x (none_right (tokens_in c) (tokens_in f) n) q0 o
 owing_rest (inner {c = c} {f = f} {k = k} v s y form tight g l d j x z) n q0 o =
-    owing_rest x (none_of (tokens_in c) (tokens_in f) n) (go q0 k) (owing_goes q0 k o (stands_row k s refl y))
+    owing_rest x (none_right (tokens_in c) (tokens_in f) n) (go q0 k) (owing_goes q0 k o (stands_row k s refl y))
 
 -- where nothing but a token may follow, nothing without one follows
 final_beside : (n : Note) (p : SyntaxKind) (a : ℕ) (q r : Spot) (b : Sketch) (i : ℕ) (ts vs : List Token) (y : Place) → ts ≡ [] → IsBeside n p a q r b i ts vs → q ≡ At y → is_final y ≡ true → ⊥
@@ -124,7 +127,7 @@ final_rest y (lost {x = x} u v l s z) e m n =
     let same : x ≡ y = cc in
     absurd (some_is_not_none l (ap lack same ∙ final_full y m))
 final_rest {p = p} {a = a} {q = q} {b = b} {i = i} y (wrong {r = r} {vs = vs} {c = c} {f = f} note ts h v x d j s z) e m n =
-    absurd (final_beside note p a q r b i ts vs y (row_tokens c ts h (first_none (tokens_in c) (tokens_in f) n)) x e m)
+    absurd (final_beside note p a q r b i ts vs y (row_tokens c ts h (none_left (tokens_in c) (tokens_in f) n)) x e m)
 final_rest y (second v s w p q r d j x z) e m n =
     let same : places.PatternEnd true ≡ y = let both : At (places.PatternEnd true) ≡ At y = sym q ∙ e in cc in
     absurd (true_is_not_false (sym m ∙ ap is_final (sym same)))
@@ -234,7 +237,7 @@ stands_counts {us = us} q0 (second {vs = vs} {c = c} {f = f} {ds = ds} {es = es}
       none = λ h.
           elim (ended_or ds) [
             | inl n ↦ elim (ih.none h) [ inl k ↦ inl (omega (arith, n, k)) | inr k ↦ inr k ]
-            | inr n ↦ inr (p, none_of (tokens_in f) us (sym v ∙ last_ended s n))
+            | inr n ↦ inr (p, none_right (tokens_in f) us (sym v ∙ last_ended s n))
           ];
     })
 stands_counts {q = q} {b = b} {us = us} q0 (inner {r = r} {vs = vs} {c = c} {f = f} {ds = ds} {es = es} {k = k} v s y form tight g l d j x z) w m =
@@ -249,7 +252,7 @@ stands_counts {q = q} {b = b} {us = us} q0 (inner {r = r} {vs = vs} {c = c} {f =
     let in_lambda : (k ≡ NODE_PATTERN) × (vs ≡ []) → half (whole (run (go q0 k) (kinds_of (mended f)))) ≡ 1 = λ o.
     let there : r ≡ At places.LambdaColon =
     sym g ∙ ap (go q) o.0 ∙ pattern_goes q (ap (λ t. live (go q t)) (sym o.0) ∙ ap live g ∙ l) in
-    ap half (owing_half (run (go q0 k) (kinds_of (mended f))) (owing_rest x (first_none (tokens_in f) us (sym v ∙ o.1)) (go q0 k) (ap owing (on ∙ there)))) in
+    ap half (owing_half (run (go q0 k) (kinds_of (mended f))) (owing_rest x (none_left (tokens_in f) us (sym v ∙ o.1)) (go q0 k) (ap owing (on ∙ there)))) in
     same_counts refl (sym (ap ended_count z ∙ sum)) (record {
       few = omega (arith, a1, a2);
       none = λ h.

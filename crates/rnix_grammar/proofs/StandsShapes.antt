@@ -6,31 +6,17 @@ use Rattle.rnix_kinds.specs.declared.kinds.SyntaxKind.TheVariants.{NODE_ROOT, NO
 use Rattle.rnix_tree.specs.Forest.{node, leaf as leaf_in}
 use Rattle.rnix_grammar.specs.declared.place.Place.TheVariants as places
 use Rattle.rnix_grammar.specs.Fault.{Fault}
-use Rattle.rnix_grammar.specs.Sketch.{Token, Sketch, blank, token, branch, fault, forget}
+use Rattle.rnix_grammar.specs.Sketch.{Token, Sketch, blank, token, branch, fault, forget, Twice, tokens_in}
 use Rattle.rnix_grammar.specs.Rows.{Spot, At, whole, live, run, is_row}
 use Rattle.rnix_grammar.specs.Stands.{Stands, end, leaf, lost, wrong, second, inner, repeats}
 use Rattle.rnix_grammar.specs.Reports.{report}
-use Rattle.rnix_grammar.specs.Sketch.{Twice, tokens_in}
 use Rattle.rnix_grammar.specs.Mended.{mended, kinds_of, halves, is_ended, ended_count, others}
 use Rattle.rnix_grammar.specs.Shape.{reports_behind, reports}
 use Rattle.rnix_grammar.proofs.StandsFaults.{stands_reports}
 use Rattle.rnix_grammar.proofs.StandsRows.{half, stands_counts}
 use Rattle.rnix_grammar.proofs.ImitateLemmas.{imitates_self}
 use Rattle.rnix_grammar.proofs.BindFacts.{bare_bind, Agrees, agrees_start, agrees_later, formed_bare}
-
--- some errors are not none
-cons_is_not_nil : {e : Fault} {es : List Fault} → e ∷ es ≡ [] → ⊥
-cons_is_not_nil h = cc
-
--- two lists of which both are empty
-pub none_left : (es fs : List Fault) → es ++ fs ≡ [] → es ≡ []
-none_left [] fs h = refl
-none_left (e ∷ es) fs h = absurd (cons_is_not_nil h)
-
--- and the second
-pub none_right : (es fs : List Fault) → es ++ fs ≡ [] → fs ≡ []
-none_right [] fs h = h
-none_right (e ∷ es) fs h = absurd (cons_is_not_nil h)
+use Rattle.rnix_grammar.proofs.Basics.{not_nil, none_left, none_right}
 
 -- bound names are formed in a row without trivia
 abbrev pub bare_binds : Bool → Sketch → Bool
@@ -53,7 +39,7 @@ pub record IsBareRow (first : Bool) (q q' : Spot) (f : Sketch) : Type 0 where
   pub reaches : run q (kinds_of (forget f)) ≡ q'
 
 -- two tests hold
-both_true : (a b : Bool) → a ≡ true → b ≡ true → (a && b) ≡ true
+pub both_true : (a b : Bool) → a ≡ true → b ≡ true → (a && b) ≡ true
 both_true a b h k = ap (λ x. x && b) h ∙ k
 
 -- without errors every node has its row
@@ -63,10 +49,10 @@ stands_rows first end n g = record { nodes = tt; binds = refl; reaches = refl }
 stands_rows {q = q} first (leaf {f = f} {k = k} h tight g l c j s) n m =
     let w = stands_rows false s n (subst (Agrees false) g (agrees_later q k)) in
     record { nodes = w.nodes; binds = w.binds; reaches = ap (λ x. run x (kinds_of (forget f))) g ∙ w.reaches }
-stands_rows first (lost u x l s z) n m = absurd (cons_is_not_nil (sym z ∙ n))
-stands_rows first (wrong note ts h v x d j s z) n m = absurd (cons_is_not_nil (sym z ∙ n))
+stands_rows first (lost u x l s z) n m = absurd (not_nil (sym z ∙ n))
+stands_rows first (wrong note ts h v x d j s z) n m = absurd (not_nil (sym z ∙ n))
 stands_rows first (second {c = c} {ds = ds} {es = es} v s y o e r d j x z) n m =
-    absurd (cons_is_not_nil (none_right ds (report Twice (tokens_in c) ∷ []) (none_left (ds ++ report Twice (tokens_in c) ∷ []) es (sym z ∙ n))))
+    absurd (not_nil (none_right ds (report Twice (tokens_in c) ∷ []) (none_left (ds ++ report Twice (tokens_in c) ∷ []) es (sym z ∙ n))))
 stands_rows {q = q} {b = b} first (inner {c = c} {f = f} {ds = ds} {es = es} {k = k} v s y form tight g l d j x z) n m =
     let all : (ds ++ repeats k b c) ++ es ≡ [] = sym z ∙ n in
     let below = stands_rows true s (none_left ds (repeats k b c) (none_left (ds ++ repeats k b c) es all)) (agrees_start k) in
@@ -102,7 +88,7 @@ none_in_all (e ∷ es) h k = by_first (is_ended e) refl
   where
     by_first : (x : Bool) → is_ended e ≡ x → e ∷ es ≡ []
     by_first true i = let one : ended_count (e ∷ es) ≡ 1 + ended_count es = ap (λ x. (if x then 1 else 0) + ended_count es) i in absurd (omega (arith, h, one))
-    by_first false i = absurd (cons_is_not_nil (ap (λ x. if x then others es else e ∷ others es) (sym i) ∙ k))
+    by_first false i = absurd (not_nil (ap (λ x. if x then others es else e ∷ others es) (sym i) ∙ k))
 
 -- where every node has its row and nothing is reported there is no error
 pub rows_stand : {p : SyntaxKind} {a : ℕ} {q q' : Spot} {b : Sketch} {i : ℕ} {us : List Token} {f : Sketch} {es : List Fault}

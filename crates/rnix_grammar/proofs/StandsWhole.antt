@@ -1,22 +1,18 @@
 -- What holds of a whole text that stands: its errors, and its mended tree.
-use Rattle.std.proofs.Common.{◌≡◌, ◌↔◌, inl, inr, ◌+◌, ◌≤◌, List, [], refl, arith}
+use Rattle.std.proofs.Common.{◌≡◌, ◌↔◌, inl, inr, ◌+◌, ◌≤◌, List, refl, arith}
 use Rattle.rnix_kinds.specs.declared.kinds.SyntaxKind.TheVariants.{NODE_ROOT, NODE_PATTERN}
 use Rattle.rnix_tree.specs.Forest.{empty, node}
 use Rattle.rnix_grammar.specs.declared.place.Place.TheVariants as places
 use Rattle.rnix_grammar.specs.Fault.{Fault}
-use Rattle.rnix_grammar.specs.Sketch.{Sketch, blank}
+use Rattle.rnix_grammar.specs.Sketch.{Sketch}
 use Rattle.rnix_grammar.specs.Rows.{At, run, whole}
-use Rattle.rnix_grammar.specs.Stands.{Stands}
 use Rattle.rnix_grammar.specs.Mended.{mended, held, kinds_of, halves, AreBegun, ended_count, others, AreSettled, AreNamedLists}
 use Rattle.rnix_grammar.specs.Shape.{reports}
+use Rattle.rnix_grammar.specs.Parsed.{StandsWhole}
 use Rattle.rnix_grammar.proofs.StandsFaults.{stands_reports, stands_named, stands_settled}
 use Rattle.rnix_grammar.proofs.ImitateLemmas.{imitates_self}
 use Rattle.rnix_grammar.proofs.StandsRows.{half, stands_counts}
 use Rattle.rnix_grammar.proofs.StandsBegun.{beginning, stands_begun}
-
--- the root's row, as it stands when a text is read
-abbrev pub StandsWhole : Sketch → List Fault → Type 0
-StandsWhole f es = Stands NODE_ROOT 1 (At places.RootStart) (At places.RootEnd) blank 0 [] f es
 
 -- the errors other than those of the end of the text are those of the error nodes and of repeated entries, as these close
 pub whole_paired : {f : Sketch} {es : List Fault} → StandsWhole f es → others es ≡ reports f
@@ -52,7 +48,7 @@ whole_ended {f = f} {es = es} s =
     let few : halves (node NODE_ROOT (mended f) empty) ≤ ended_count es = whole_few s in
     (whole_none s, λ h. omega (arith, few, h))
 
--- in the mended tree, without what holds no token, each node's children begin a row of its kind
+-- in the mended tree, but for numbers that stand for no token, each node's children begin a row of its kind
 pub whole_begun : {f : Sketch} {es : List Fault} → StandsWhole f es → AreBegun (node NODE_ROOT (held f) empty)
 whole_begun {f = f} s =
     let begun = stands_begun (At places.RootStart) s refl (imitates_self (At places.RootStart)) in

@@ -17,8 +17,8 @@ use Rattle.rnix_grammar.specs.Shape.{item_kinds, begins_with_leaf, is_bind_forme
 use Rattle.rnix_grammar.proofs.WholeEdges.{told_alike}
 use Rattle.rnix_grammar.proofs.ImitateLemmas.{nowhere}
 use Rattle.rnix_grammar.proofs.BindFacts.{bare_bind}
-use Rattle.rnix_grammar.proofs.StandsShapes.{none_left, none_right, bare_binds, AreBareRows, IsBare, whole_rows}
-use Rattle.rnix_grammar.proofs.Basics.{true_is_not_false}
+use Rattle.rnix_grammar.proofs.StandsShapes.{bare_binds, AreBareRows, IsBare, whole_rows}
+use Rattle.rnix_grammar.proofs.Basics.{true_is_not_false, none_left, none_right, not_nil}
 
 -- whether a leaf is trivia, its token tells
 leaf_trivia : (p k : SyntaxKind) (t : Token) → k ≡ told p t → is_trivia t.kind ≡ is_trivia k
@@ -154,7 +154,7 @@ either_assoc true y z = refl
 either_assoc false y z = refl
 
 -- an entry of the name stands in one of two rows
-has-⊕ : (name : List ℕ) (b c : Sketch) → has_entry name (b ⊕ c) ≡ (if has_entry name b then true else has_entry name c)
+pub has-⊕ : (name : List ℕ) (b c : Sketch) → has_entry name (b ⊕ c) ≡ (if has_entry name b then true else has_entry name c)
 has-⊕ name blank c = refl
 has-⊕ name (token k t f) c = has-⊕ name f c
 has-⊕ name (branch k d f) c =
@@ -174,7 +174,7 @@ abbrev pub Lists : List (List ℕ) → Sketch → Type 0
 Lists names b = (name : List ℕ) → has_entry name b ≡ is_among name names
 
 -- one way or the other
-if_not : (x : Bool) → (if x then true else false) ≡ x
+pub if_not : (x : Bool) → (if x then true else false) ≡ x
 if_not true = refl
 if_not false = refl
 
@@ -254,10 +254,7 @@ silent_new p (branch k c f) b names h l e =
       (inside.0, inside.1, more.1),
     )
 silent_new p (fault n c f) b names h l e =
-    absurd (cons_not_nil (none_right (reports_behind blank (clean c)) (report n (tokens_in (clean c)) ∷ reports_behind (b ⊕ one_fault n (clean c)) (clean f)) e))
-  where
-    cons_not_nil : {x : Fault} {es : List Fault} → x ∷ es ≡ [] → ⊥
-    cons_not_nil h = cc
+    absurd (not_nil (none_right (reports_behind blank (clean c)) (report n (tokens_in (clean c)) ∷ reports_behind (b ⊕ one_fault n (clean c)) (clean f)) e))
 
 -- two empty lists
 both_none : {es fs : List Fault} → es ≡ [] → fs ≡ [] → es ++ fs ≡ []

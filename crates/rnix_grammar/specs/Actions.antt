@@ -16,19 +16,23 @@ use Rattle.rnix_grammar.specs.Tables.{is_wanted, closes}
 use Rattle.rnix_grammar.specs.Levels.{power, right_of, high_of}
 use Rattle.rnix_grammar.specs.Slots.{slot_at}
 
+-- where a token is wanted
 abbrev pub token_action : Until → Place → Place → Option SyntaxKind → Action
 token_action until place behind None = a.MissWanted until behind
 token_action until place behind (Some kind) = if is_wanted until kind then a.Take behind else a.Run until place
 
+-- where more operands of a level may stand, or what closes the row
 abbrev pub series_action : ℕ → Closer → Place → Option SyntaxKind → Action
 series_action level closer place None = a.Miss p.Past
 series_action level closer place (Some kind) = if closes closer kind then a.Take p.Past else a.Read level true place
 
+-- where more entries of a set or of bindings may stand, or what closes the row
 abbrev pub entries_action : Closer → Place → Place → Option SyntaxKind → Action
 entries_action closer place behind None = a.Miss behind
 entries_action closer place behind (Some TOKEN_INHERIT) = a.Open NODE_INHERIT p.InheritStart place
 entries_action closer place behind (Some kind) = if closes closer kind then a.Take behind else a.Begin NODE_ATTRPATH_VALUE p.ValuePath place
 
+-- inside a string
 abbrev pub pieces_action : Place → Option SyntaxKind → Action
 pieces_action place None = a.MissWanted u.Piece p.StringEnd
 pieces_action place (Some TOKEN_STRING_END) = a.Take p.Past
@@ -36,6 +40,7 @@ pieces_action place (Some TOKEN_STRING_CONTENT) = a.Take place
 pieces_action place (Some TOKEN_INTERPOL_START) = a.Open NODE_INTERPOL p.InterpolInside place
 pieces_action place (Some kind) = a.Run u.Piece place
 
+-- behind the first token of a path
 abbrev pub first_piece_action : Option SyntaxKind → Action
 first_piece_action (Some TOKEN_INTERPOL_START) = a.Open NODE_INTERPOL p.InterpolInside p.PathMore
 first_piece_action next = a.Close
@@ -47,6 +52,7 @@ is_path_piece TOKEN_PATH_REL = true
 is_path_piece TOKEN_PATH_HOME = true
 is_path_piece kind = false
 
+-- behind a later piece of a path, by whether the next item touches it
 abbrev pub more_pieces_action : Bool → Option SyntaxKind → Action
 more_pieces_action touches None = a.Close
 more_pieces_action touches (Some kind) = if touches then (if is_path_piece kind then a.Take p.PathMore else first_piece_action (Some kind)) else a.Close
@@ -61,27 +67,33 @@ attr_action again behind (Some TOKEN_OR) = a.Leaf NODE_IDENT behind
 attr_action again behind (Some TOKEN_CUR_POS) = a.Leaf NODE_IDENT behind
 attr_action again behind (Some kind) = a.Run u.Attr again
 
+-- where more inherited names may stand, or `;`
 abbrev pub names_action : Option SyntaxKind → Action
 names_action None = a.Miss p.InheritEnd
 names_action (Some kind) = if is_wanted u.Semicolon kind then a.Take p.Past else attr_action p.InheritName p.InheritNames (Some kind)
 
+-- the token `(`
 abbrev pub is_l_paren : SyntaxKind → Bool
 is_l_paren TOKEN_L_PAREN = true
 is_l_paren kind = false
 
+-- behind `inherit`: `(`, or names
 abbrev pub source_action : Option SyntaxKind → Action
 source_action None = names_action None
 source_action (Some kind) = if is_l_paren kind then a.Open NODE_INHERIT_FROM p.FromInside p.InheritNames else names_action (Some kind)
 
+-- behind an attribute: `.`, or the end of the path
 abbrev pub more_attrs_action : Option SyntaxKind → Action
 more_attrs_action (Some TOKEN_DOT) = a.Take p.AttrpathStart
 more_attrs_action next = a.Close
 
+-- where a name is wanted
 abbrev pub name_action : Place → Place → Option SyntaxKind → Action
 name_action place behind None = a.MissWanted u.Ident behind
 name_action place behind (Some TOKEN_IDENT) = a.Leaf NODE_IDENT behind
 name_action place behind (Some kind) = a.Run u.Ident place
 
+-- inside the braces of a pattern, where an entry may stand
 abbrev pub formals_action : Bool → Option SyntaxKind → Action
 formals_action bound None = a.MissWanted u.Entry (p.PatternEnd bound)
 formals_action bound (Some TOKEN_R_BRACE) = a.Take (p.PatternEnd bound)
@@ -89,31 +101,38 @@ formals_action bound (Some TOKEN_ELLIPSIS) = a.Take (p.PatternClose bound)
 formals_action bound (Some TOKEN_IDENT) = a.Entry (p.PatternAfter bound)
 formals_action bound (Some kind) = a.Run u.Entry (p.PatternInside bound)
 
+-- behind the opening brace of a pattern
 abbrev pub braces_action : Bool → Option SyntaxKind → Action
 braces_action bound None = a.Miss (p.PatternEnd bound)
 braces_action bound next = formals_action bound next
 
+-- the token `,`
 abbrev pub is_comma : SyntaxKind → Bool
 is_comma TOKEN_COMMA = true
 is_comma kind = false
 
+-- behind an entry of a pattern: `,`, or the closing brace
 abbrev pub comma_action : Bool → Option SyntaxKind → Action
 comma_action bound None = token_action u.RBrace (p.PatternClose bound) (p.PatternEnd bound) None
 comma_action bound (Some kind) = if is_comma kind then a.Take (p.PatternInside bound) else token_action u.RBrace (p.PatternClose bound) (p.PatternEnd bound) (Some kind)
 
+-- behind the braces of a pattern: `@`, or the end of the pattern
 abbrev pub bind_action : Bool → Option SyntaxKind → Action
 bind_action true (Some TOKEN_AT) = a.Twice p.PatternPast
 bind_action false (Some TOKEN_AT) = a.Open NODE_PAT_BIND p.BindName p.PatternPast
 bind_action bound next = a.ClosePattern
 
+-- behind the name of an entry: `?`, or the end of the entry
 abbrev pub default_action : Option SyntaxKind → Action
 default_action (Some TOKEN_QUESTION) = a.Take p.EntryDefault
 default_action next = a.CloseEntry
 
+-- behind the path of a selection: `or`, or the end
 abbrev pub or_action : Option SyntaxKind → Action
 or_action (Some TOKEN_OR) = a.Take p.SelectDefault
 or_action next = a.Close
 
+-- behind the root's expression
 abbrev pub end_action : Option SyntaxKind → Action
 end_action None = a.Finish
 end_action (Some kind) = a.Extra
@@ -129,6 +148,7 @@ follow kind = if is_fn_arg kind then a.Apply else a.Wrap NODE_BIN_OP (p.Right (r
 abbrev pub goes_on : ℕ → ℕ → SyntaxKind → Bool
 goes_on low high kind = nat_le 1 (power kind) && (nat_le low (power kind) && nat_le (power kind) high)
 
+-- behind an operand: what goes on with it at a level between two, or its end
 abbrev pub more_action : ℕ → ℕ → Option SyntaxKind → Action
 more_action low high None = a.Settle
 more_action low high (Some kind) = if goes_on low high kind then follow kind else a.Settle

@@ -17,15 +17,18 @@ is_pattern (Some TOKEN_R_BRACE) (Some TOKEN_COLON) = true
 is_pattern (Some TOKEN_R_BRACE) (Some TOKEN_AT) = true
 is_pattern second third = false
 
+-- a name alone, or as the parameter of a function
 abbrev pub begin_name : List ℕ → Option SyntaxKind → Begin
 begin_name text (Some TOKEN_COLON) = b.NameLambda
 begin_name text (Some TOKEN_AT) = b.BoundLambda
 begin_name text second = if is_cur_pos text then b.Leaf NODE_CUR_POS else b.Leaf NODE_IDENT
 
+-- `let` before `{`, or before bindings
 abbrev pub begin_let : Option SyntaxKind → Begin
 begin_let (Some TOKEN_L_BRACE) = b.LegacyLet
 begin_let second = b.Node NODE_LET_IN p.LetInside 0
 
+-- the keyword of an expression that reaches as far as it can
 abbrev pub begin_keyword : SyntaxKind → Option SyntaxKind → Begin
 begin_keyword TOKEN_LET second = begin_let second
 begin_keyword TOKEN_WITH second = b.Node NODE_WITH p.WithScope 0
@@ -37,6 +40,7 @@ begin_keyword kind second = b.Stray
 abbrev pub begin_scope : ℕ → SyntaxKind → Option SyntaxKind → Begin
 begin_scope level kind second = if nat_eq level 0 then begin_keyword kind second else b.Stray
 
+-- a prefix operator, if it binds tightly enough for the level
 abbrev pub begin_prefix : ℕ → SyntaxKind → Begin
 begin_prefix level TOKEN_INVERT = if nat_le level 9 then b.Node NODE_UNARY_OP p.Inverted 8 else b.Stray
 begin_prefix level TOKEN_SUB = if nat_le level 14 then b.Node NODE_UNARY_OP p.Negated 13 else b.Stray

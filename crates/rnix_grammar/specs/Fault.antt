@@ -21,6 +21,7 @@ pub data Fault : Type 0 where
   named_twice : Extent → List ℕ → Fault
   too_deep : Fault
 
+-- the fault that an error of the program stands for
 abbrev pub fault_of : ParseError → Fault
 fault_of (Unexpected range) = untold range
 fault_of (UnexpectedExtra range) = extra range
@@ -31,10 +32,11 @@ fault_of (UnexpectedEOFWanted wanted) = ended_before wanted.items
 fault_of (DuplicatedArgs range name) = named_twice range (string_bytes name)
 fault_of RecursionLimitExceeded = too_deep
 
--- two errors are of one variant with the same fields
+-- two ranges are one
 abbrev pub same_extent : Extent → Extent → Bool
 same_extent a b = a.start == b.start && a.end == b.end
 
+-- two faults are of one variant with the same fields
 abbrev pub same_fault : Fault → Fault → Bool
 same_fault (untold a) (untold b) = same_extent a b
 same_fault (extra a) (extra b) = same_extent a b
@@ -46,17 +48,19 @@ same_fault (named_twice a name) (named_twice b other) = same_extent a b && bytes
 same_fault too_deep too_deep = true
 same_fault _ _ = false
 
--- a range in decimal, and what is said of it
+-- a range in decimal
 abbrev pub place_text : Extent → List ℕ
 place_text range = decimal range.start ++ codes ".." ++ decimal range.end
 
+-- what is said of a range, and the range
 abbrev pub range_text : List ℕ → Extent → List ℕ
 range_text what range = what ++ codes " at " ++ place_text range
 
--- kinds in brackets, with commas
+-- kinds behind the first, each behind a comma
 abbrev pub more_kinds_text : List SyntaxKind → List ℕ
 more_kinds_text kinds = flat_map (λ kind. codes ", " ++ name_of kind) kinds
 
+-- some kinds in brackets, or empty brackets
 abbrev pub kinds_text : List SyntaxKind → List ℕ
 kinds_text [] = codes "[]"
 kinds_text (kind ∷ kinds) = codes "[" ++ name_of kind ++ more_kinds_text kinds ++ codes "]"

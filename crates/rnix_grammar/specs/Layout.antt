@@ -8,6 +8,7 @@ abbrev pub from_item_if : Bool → Token → List Token → List Token → List 
 from_item_if true t ts later = later
 from_item_if false t ts later = t ∷ ts
 
+-- the tokens from the first item on
 abbrev pub from_item : List Token → List Token
 from_item [] = []
 from_item (t ∷ ts) = from_item_if (is_trivia t.kind) t ts (from_item ts)
@@ -17,6 +18,7 @@ abbrev pub trivia_if : Bool → Token → Sketch → Sketch
 trivia_if true t more = token t.kind t more
 trivia_if false t more = blank
 
+-- the trivia before the first item, as a row of leaves
 abbrev pub trivia_before : List Token → Sketch
 trivia_before [] = blank
 trivia_before (t ∷ ts) = trivia_if (is_trivia t.kind) t (trivia_before ts)
@@ -26,10 +28,12 @@ abbrev pub item_if : Bool → Token → List Token → List Token
 item_if true t more = more
 item_if false t more = t ∷ more
 
+-- the tokens that are no trivia
 abbrev pub items : List Token → List Token
 items [] = []
 items (t ∷ ts) = item_if (is_trivia t.kind) t (items ts)
 
+-- the tokens behind the first
 abbrev pub tail_of : List Token → List Token
 tail_of [] = []
 tail_of (t ∷ ts) = ts
@@ -39,10 +43,12 @@ abbrev pub is_last : Note → Bool
 is_last TooDeep = true
 is_last n = false
 
+-- the trivia that follow a node, if they stand beside it
 abbrev pub trivia_after : Bool → List Token → Sketch
 trivia_after true ts = trivia_before ts
 trivia_after false ts = blank
 
+-- the tokens behind such trivia
 abbrev pub rest_after : Bool → List Token → List Token
 rest_after true ts = from_item ts
 rest_after false ts = ts

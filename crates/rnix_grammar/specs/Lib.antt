@@ -10,8 +10,10 @@ pub mod Layout
 pub mod Reports
 pub mod Machine
 pub mod Rows
+pub mod Missing
 pub mod Stands
 pub mod Strict
+pub mod Grammar
 pub mod Clean
 pub mod Sorts
 pub mod Trim
@@ -19,3 +21,11 @@ pub mod Mended
 pub mod Shape
 pub mod Seams
 pub mod Parsed
+pub mod Corners
+pub mod BehindErrors
+pub mod Named
+pub mod Names
+pub mod Plain
+pub mod Derivation
+pub mod Nesting
+pub mod Unfinished

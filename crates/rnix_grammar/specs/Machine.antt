@@ -46,27 +46,31 @@ put place row f = record { head = f.head; place = place; depth = f.depth; row = 
 abbrev pub opened : Head → Place → ℕ → Sketch → Frame
 opened head place depth row = record { head = head; place = place; depth = depth; row = row }
 
--- the items that are left; the tokens from the next item on; a row with the trivia before it
+-- the items that are left, where trivia are read
 abbrev pub seen : Bool → List Token → List Token
 seen true ts = items ts
 seen false ts = ts
 
+-- the tokens from the next item on, where trivia are read
 abbrev pub past : Bool → List Token → List Token
 past true ts = from_item ts
 past false ts = ts
 
+-- a row with the trivia before the next item, where trivia are read
 abbrev pub ate : Bool → Sketch → List Token → Sketch
 ate true f ts = f ⊕ trivia_before ts
 ate false f ts = f
 
--- the tokens behind the next item, and where it ends
+-- the tokens behind the next item
 abbrev pub behind : Bool → List Token → List Token
 behind raw ts = tail_of (past raw ts)
 
+-- where the first of some tokens ends
 abbrev pub end_of : ℕ → List Token → ℕ
 end_of n [] = n
 end_of n (t ∷ ts) = t.end
 
+-- where the next item ends
 abbrev pub reach : Bool → ℕ → List Token → ℕ
 reach raw n ts = end_of n (past raw ts)
 
@@ -75,6 +79,7 @@ abbrev pub leaf_in : SyntaxKind → List Token → Sketch
 leaf_in parent [] = blank
 leaf_in parent (t ∷ ts) = one_token (told parent t) t
 
+-- the next item as a leaf below a node, where trivia may come first
 abbrev pub leaf : Bool → SyntaxKind → List Token → Sketch
 leaf raw parent ts = leaf_in parent (past raw ts)
 
@@ -83,15 +88,17 @@ abbrev pub run_of : Until → List Token → List Token
 run_of until [] = []
 run_of until (t ∷ ts) = if is_wanted until t.kind then [] else t ∷ run_of until ts
 
--- the run as leaves, and what is left behind it
+-- the run as leaves, with its trivia where they are read
 abbrev pub run_row : Bool → List Token → List Token → Sketch
 run_row true run ts = dressed (row_of run) (from_item ts)
 run_row false run ts = row_of run
 
+-- the tokens behind as many others
 abbrev pub dropped : List Token → List Token → List Token
 dropped [] ts = ts
 dropped (x ∷ xs) ts = dropped xs (tail_of ts)
 
+-- the tokens that are left behind a run
 abbrev pub run_rest : Bool → List Token → List Token → List Token
 run_rest true run ts = left_after (row_of run) (from_item ts)
 run_rest false run ts = dropped run ts
@@ -113,6 +120,7 @@ abbrev pub low_of : Place → ℕ
 low_of (p.Behind low high) = low
 low_of place = 0
 
+-- a machine with these frames, tokens, reach and errors
 abbrev pub machine : List Frame → List Token → ℕ → List Fault → Machine
 machine fs ts n es = record { frames = fs; left = ts; reached = n; faults = es }
 
@@ -141,10 +149,11 @@ limited raw f fs ts n es =
     machine (put f.place (ate raw (ate raw f.row ts ⊕ one_fault TooDeep (run_row raw (seen raw ts) ts)) (run_rest raw (seen raw ts) ts)) f ∷ fs)
     (past raw (run_rest raw (seen raw ts) ts)) (end_from n (seen raw ts)) (es ++ too_deep ∷ [])
 
--- the kinds of the second item and the third
+-- the kind of the second item
 abbrev pub second_kind : List Token → Option SyntaxKind
 second_kind ts = head_kind (tail_of ts)
 
+-- the kind of the third item
 abbrev pub third_kind : List Token → Option SyntaxKind
 third_kind ts = head_kind (tail_of (tail_of ts))
 
@@ -180,6 +189,7 @@ abbrev pub operand_on : Bool → ℕ → ℕ → Frame → List Frame → List T
 operand_on raw level d f fs ts [] n es = machine (f ∷ fs) ts n (es ++ ended ∷ [])
 operand_on raw level d f fs ts (t ∷ us) n es = begun raw (begin_of level t.kind t.text (head_kind us) (second_kind us)) level d t f fs ts n es
 
+-- an operand of a level, counted or not: a counted one only as deep as the limit
 abbrev pub reading : Bool → ℕ → Bool → Frame → List Frame → List Token → ℕ → List Fault → Machine
 reading raw level true f fs ts n es = if nat_le depth_limit f.depth then limited raw f fs ts n es else operand_on raw level (suc f.depth) f fs ts (seen raw ts) n es
 reading raw level false f fs ts n es = operand_on raw level f.depth f fs ts (seen raw ts) n es
@@ -222,10 +232,12 @@ abbrev pub touches : ℕ → List Token → Bool
 touches n [] = false
 touches n (t ∷ ts) = nat_eq t.start n
 
+-- one step at the innermost frame, if there is one
 abbrev pub step_on : Bool → List Frame → List Token → ℕ → List Fault → Machine
 step_on raw [] ts n es = machine [] ts n es
 step_on raw (f ∷ fs) ts n es = perform raw (action_at f.place (head_kind (seen raw ts)) (touches n (seen raw ts))) f fs ts n es
 
+-- one step of a machine
 abbrev pub step : Bool → Machine → Machine
 step raw m = step_on raw m.frames m.left m.reached m.faults
 

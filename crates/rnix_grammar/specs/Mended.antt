@@ -7,7 +7,7 @@ use Rattle.rnix_grammar.specs.declared.until.Until.{Until}
 use Rattle.rnix_grammar.specs.declared.until.Until.TheVariants.{End}
 use Rattle.rnix_grammar.specs.Fault.{Fault, extra, unwanted, ended, ended_before}
 use Rattle.rnix_grammar.specs.Tables.{wanted_kinds}
-use Rattle.rnix_grammar.specs.Sketch.{Token, Note, Stray, TooDeep, Sketch, blank, token, branch, fault, tokens_in}
+use Rattle.rnix_grammar.specs.Sketch.{Note, Stray, TooDeep, Sketch, blank, token, branch, fault, tokens_in, is_some}
 use Rattle.rnix_grammar.specs.Rows.{is_row, IsBeginning}
 
 -- an error node in an operand's place becomes a number, others go with all that they hold
@@ -23,16 +23,11 @@ mended (token k t f) = leaf k t.text (mended f)
 mended (branch k c f) = node k (mended c) (mended f)
 mended (fault n c f) = patch n (mended f)
 
--- some tokens
-abbrev pub is_some : List Token → Bool
-is_some [] = false
-is_some (t ∷ ts) = true
-
--- the mended trees, without those that hold no token: these stand where the text has ended
+-- the mended trees, but for numbers that stand for no token: what is nested too deep, where the text has ended
 abbrev pub held : Sketch → Forest
 held blank = empty
 held (token k t f) = leaf k t.text (held f)
-held (branch k c f) = if is_some (tokens_in c) then node k (held c) (held f) else held f
+held (branch k c f) = node k (held c) (held f)
 held (fault n c f) = if is_some (tokens_in c) then patch n (held f) else held f
 
 -- the kinds of a row's trees

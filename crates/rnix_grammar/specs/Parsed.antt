@@ -1,23 +1,33 @@
 -- What holds of the tokens of a text, its tree and its errors.
-use Rattle.std.specs.Prelude.{◌≡◌, ◌↔◌, ◌≤◌, List, []}
+use Rattle.std.specs.Prelude.{◌≡◌, ◌↔◌, ◌≤◌, true, List, []}
 use Rattle.rnix_kinds.specs.declared.kinds.SyntaxKind.TheVariants.{NODE_ROOT}
 use Rattle.rnix_kinds.specs.Lexical.Tokens.{Lexeme}
-use Rattle.rnix_tree.specs.Forest.{empty, node}
+use Rattle.rnix_tree.specs.Forest.{Forest, empty, node}
 use Rattle.rnix_tree.specs.Tree.{Tree}
 use Rattle.rnix_grammar.specs.declared.place.Place.TheVariants.{RootStart, RootEnd}
 use Rattle.rnix_grammar.specs.Fault.{Fault}
+use Rattle.rnix_grammar.specs.Tables.{depth_limit}
 use Rattle.rnix_grammar.specs.Sketch.{Sketch, blank, forget, tokens_in, clean, placed_from, AreTold}
 use Rattle.rnix_grammar.specs.Rows.{At}
 use Rattle.rnix_grammar.specs.Stands.{Stands}
 use Rattle.rnix_grammar.specs.Mended.{mended, held, halves, AreBegun, ended_count, others, AreSettled, AreNamedLists}
+use Rattle.rnix_grammar.specs.Unfinished.{AreHalvesLast}
 use Rattle.rnix_grammar.specs.Shape.{IsShaped, IsUnrepeated, reports_within}
 use Rattle.rnix_grammar.specs.Trim.{AreFaultsTrimmed}
 use Rattle.rnix_grammar.specs.Seams.{AreTriviaBetween}
+use Rattle.rnix_grammar.specs.Named.{is_repeated, Lacks}
+use Rattle.rnix_grammar.specs.Corners.{has_no_corner}
+use Rattle.rnix_grammar.specs.Plain.{nesting, ArePaths}
+use Rattle.rnix_grammar.specs.Nesting.{depth_of, AreLimited}
+use Rattle.rnix_grammar.specs.Grammar.{IsExpression}
+use Rattle.rnix_grammar.specs.Derivation.{IsDerivation}
+use Rattle.rnix_grammar.specs.Layout.{items}
 
 -- the trees below the root, without trivia, stand as they may, and the errors are theirs
 abbrev pub StandsWhole : Sketch → List Fault → Type 0
 StandsWhole f faults = Stands NODE_ROOT 1 (At RootStart) (At RootEnd) blank 0 [] f faults
 
+-- what is true of the tree and the errors that a text is read as
 pub record IsParsed (tokens : List Lexeme) (tree : Tree) (faults : List Fault) : Type 0 where
   -- the tree with its tokens, and with what each error node is
   pub sketch : Sketch
@@ -36,7 +46,21 @@ pub record IsParsed (tokens : List Lexeme) (tree : Tree) (faults : List Fault) :
   -- errors of the end of the text: exactly if a node is not whole, and at least as many
   pub few_halves : halves (node NODE_ROOT (mended (clean sketch)) empty) ≤ ended_count faults
   pub no_halves : (halves (node NODE_ROOT (mended (clean sketch)) empty) ≡ 0) ↔ (ended_count faults ≡ 0)
+  -- in the mended tree, but for numbers that stand for no token, each node's children begin a row of its kind
   pub begun : AreBegun (node NODE_ROOT (held (clean sketch)) empty)
+  -- behind a node that is not whole no item stands, and behind an error of the end of the text no token is reported as wrong
+  pub last_halves : AreHalvesLast (clean sketch) []
   pub settled : AreSettled faults
   -- without errors, trivia between two tokens stand in the smallest node that holds both
   pub between : faults ≡ [] → AreTriviaBetween tree
+  -- error nodes aside, no more counted places are inside one another than the limit; without errors so it is in the tree; and what is
+  -- nested too deep is inside as many as the limit
+  pub shallow : depth_of (At RootStart) (clean sketch) ≤ depth_limit
+  pub nested : faults ≡ [] → nesting (At RootStart) (forget (clean sketch)) ≤ depth_limit
+  pub limited : AreLimited 0 (At RootStart) (clean sketch)
+  -- an expression of the strict grammar that the items have, nested no deeper than the limit, is found: there are no errors, and the tree without trivia is it
+  pub found : (derivation : Forest) → IsDerivation derivation (items (placed_from 0 tokens)) → (faults ≡ []) × (forget (clean sketch) ≡ derivation)
+  -- without errors of the end of the text and without repeated names, the mended tree is an expression of the strict grammar if it has no corner
+  pub converse : ended_count faults ≡ 0 → Lacks is_repeated faults → has_no_corner NODE_ROOT (mended (clean sketch)) ≡ true → IsExpression (mended (clean sketch))
+  -- where the pieces of its paths touch, a text is read without errors and corners exactly if its items have a derivation
+  pub exactly : ArePaths (clean sketch) [] → ((faults ≡ []) × (has_no_corner NODE_ROOT (forget (clean sketch)) ≡ true)) ↔ ((derivation : Forest) × IsDerivation derivation (items (placed_from 0 tokens)))

@@ -1,7 +1,6 @@
 -- The errors that error nodes are reported by.
-use Rattle.std.specs.Prelude.{Bool, true, false, List, [], ◌∷◌, Option, Some, None, if◌then◌else◌}
+use Rattle.std.specs.Prelude.{Bool, true, false, List, [], ◌∷◌, Option, Some, None, if◌then◌else◌, ℕ}
 use Rattle.std.specs.Str.{bytes_eq}
-use Rattle.std.specs.Prelude.{ℕ}
 use Rattle.rnix_kinds.specs.declared.kinds.SyntaxKind.{SyntaxKind}
 use Rattle.rnix_kinds.specs.declared.kinds.SyntaxKind.TheVariants.{NODE_ERROR, NODE_IDENT, NODE_PAT_ENTRY}
 use Rattle.rnix_grammar.specs.Fault.{Fault, extra, unwanted, bound_twice, named_twice, too_deep}
@@ -31,6 +30,7 @@ abbrev pub entry_name : Sketch → Option Token
 entry_name (branch NODE_IDENT c f) = only_token c
 entry_name f = None
 
+-- a token, if there is one, has the text
 abbrev pub is_same_name : List ℕ → Option Token → Bool
 is_same_name name None = false
 is_same_name name (Some t) = bytes_eq name t.text
@@ -48,5 +48,6 @@ abbrev pub repeated_if : Option Token → Sketch → List Fault
 repeated_if None before = []
 repeated_if (Some t) before = if has_entry t.text before then named_twice (extent_of (t ∷ [])) t.text ∷ [] else []
 
+-- the error of an entry that repeats a name of its siblings
 abbrev pub repeated : Sketch → Sketch → List Fault
 repeated before entry = repeated_if (entry_name entry) before

@@ -1,15 +1,12 @@
 -- The rows of the node kinds, as one automaton over the kinds of children.
-use Rattle.std.specs.Prelude.{◌≡◌, ℕ, Bool, true, false, List, [], ◌∷◌, Option, Some, None, if◌then◌else◌, nat_eq, nat_le}
+use Rattle.std.specs.Prelude.{◌≡◌, ℕ, Bool, true, false, List, [], ◌∷◌, if◌then◌else◌, nat_eq, nat_le}
 use Rattle.rnix_kinds.specs.declared.kinds.SyntaxKind.{SyntaxKind}
 use Rattle.rnix_kinds.specs.declared.kinds.SyntaxKind.TheVariants.{TOKEN_PIPE_LEFT, TOKEN_PIPE_RIGHT, TOKEN_IMPLICATION, TOKEN_OR_OR, TOKEN_AND_AND, TOKEN_EQUAL, TOKEN_NOT_EQUAL, TOKEN_LESS, TOKEN_LESS_OR_EQ, TOKEN_MORE, TOKEN_MORE_OR_EQ, TOKEN_UPDATE, TOKEN_ADD, TOKEN_SUB, TOKEN_MUL, TOKEN_DIV, TOKEN_CONCAT, TOKEN_L_PAREN, TOKEN_L_BRACK, TOKEN_L_BRACE, TOKEN_R_BRACE, TOKEN_REC, TOKEN_LET, TOKEN_WITH, TOKEN_ASSERT, TOKEN_IF, TOKEN_INHERIT, TOKEN_STRING_START, TOKEN_STRING_CONTENT, TOKEN_STRING_END, TOKEN_INTERPOL_START, TOKEN_PATH_ABS, TOKEN_PATH_REL, TOKEN_PATH_HOME, TOKEN_PATH_SEARCH, TOKEN_FLOAT, TOKEN_INTEGER, TOKEN_URI, TOKEN_IDENT, TOKEN_CUR_POS, TOKEN_AT, TOKEN_DOT, TOKEN_QUESTION, TOKEN_COMMA, TOKEN_ELLIPSIS, TOKEN_OR, TOKEN_SEMICOLON, TOKEN_INVERT, TOKEN_SUB, NODE_APPLY, NODE_ASSERT, NODE_ATTR_SET, NODE_ATTRPATH, NODE_ATTRPATH_VALUE, NODE_BIN_OP, NODE_CUR_POS, NODE_DYNAMIC, NODE_HAS_ATTR, NODE_IDENT, NODE_IDENT_PARAM, NODE_IF_ELSE, NODE_INHERIT, NODE_INHERIT_FROM, NODE_INTERPOL, NODE_LAMBDA, NODE_LEGACY_LET, NODE_LET_IN, NODE_LIST, NODE_LITERAL, NODE_PAREN, NODE_PAT_BIND, NODE_PAT_ENTRY, NODE_PATTERN, NODE_PATH_ABS, NODE_PATH_HOME, NODE_PATH_REL, NODE_PATH_SEARCH, NODE_ROOT, NODE_SELECT, NODE_STRING, NODE_UNARY_OP, NODE_WITH}
 use Rattle.rnix_grammar.specs.declared.place.Place.{Place}
 use Rattle.rnix_grammar.specs.declared.place.Place.TheVariants as p
-use Rattle.rnix_grammar.specs.declared.until.Until.{Until}
-use Rattle.rnix_grammar.specs.declared.until.Until.TheVariants as u
 use Rattle.rnix_grammar.specs.declared.slot.Slot.{Slot}
 use Rattle.rnix_grammar.specs.declared.slot.Slot.TheVariants as s
-use Rattle.rnix_grammar.specs.Fault.{Fault, ended, ended_before}
-use Rattle.rnix_grammar.specs.Tables.{is_wanted, closes, wanted_kinds}
+use Rattle.rnix_grammar.specs.Tables.{is_wanted, closes}
 use Rattle.rnix_grammar.specs.Levels.{right_of}
 use Rattle.rnix_grammar.specs.Slots.{slot_at}
 use Rattle.rnix_grammar.specs.Actions.{is_path_piece}
@@ -36,11 +33,12 @@ is_simple NODE_SELECT = true
 is_simple NODE_APPLY = true
 is_simple kind = is_atom kind
 
--- what `-` may stand before, and what `?` may follow
+-- what `-` may stand before
 abbrev pub is_negated : SyntaxKind → Bool
 is_negated NODE_UNARY_OP = true
 is_negated kind = is_simple kind
 
+-- what `?` may follow
 abbrev pub is_questioned : SyntaxKind → Bool
 is_questioned NODE_HAS_ATTR = true
 is_questioned kind = is_negated kind
@@ -119,64 +117,77 @@ pub data Spot : Type 0 where
   At : Place → Spot
   Nowhere : Spot
 
+-- the spot, if a test holds
 abbrev pub to : Bool → Spot → Spot
 to true q = q
 to false q = Nowhere
 
--- behind one more child in a place's row
+-- inside a string
 abbrev pub go_pieces : SyntaxKind → Spot
 go_pieces TOKEN_STRING_END = At p.Past
 go_pieces TOKEN_STRING_CONTENT = At p.StringInside
 go_pieces NODE_INTERPOL = At p.StringInside
 go_pieces kind = Nowhere
 
+-- behind the first token of a path
 abbrev pub go_first_piece : SyntaxKind → Spot
 go_first_piece NODE_INTERPOL = At p.PathMore
 go_first_piece kind = Nowhere
 
+-- among inherited names
 abbrev pub go_names : SyntaxKind → Spot
 go_names TOKEN_SEMICOLON = At p.Past
 go_names kind = to (is_attr kind) (At p.InheritNames)
 
+-- before inherited names
 abbrev pub go_source : SyntaxKind → Spot
 go_source NODE_INHERIT_FROM = At p.InheritNames
 go_source kind = go_names kind
 
+-- behind an attribute of a path
 abbrev pub go_more_attrs : SyntaxKind → Spot
 go_more_attrs TOKEN_DOT = At p.AttrpathStart
 go_more_attrs kind = Nowhere
 
+-- before an attribute path
 abbrev pub go_attrpath : Place → SyntaxKind → Spot
 go_attrpath behind NODE_ATTRPATH = At behind
 go_attrpath behind kind = Nowhere
 
+-- before a name
 abbrev pub go_name : Place → SyntaxKind → Spot
 go_name behind NODE_IDENT = At behind
 go_name behind kind = Nowhere
 
+-- inside the braces of a pattern
 abbrev pub go_formals : Bool → SyntaxKind → Spot
 go_formals bound TOKEN_R_BRACE = At (p.PatternEnd bound)
 go_formals bound TOKEN_ELLIPSIS = At (p.PatternClose bound)
 go_formals bound NODE_PAT_ENTRY = At (p.PatternAfter bound)
 go_formals bound kind = Nowhere
 
+-- behind an entry of a pattern
 abbrev pub go_comma : Bool → SyntaxKind → Spot
 go_comma bound TOKEN_COMMA = At (p.PatternInside bound)
 go_comma bound TOKEN_R_BRACE = At (p.PatternEnd bound)
 go_comma bound kind = Nowhere
 
+-- behind the braces of a pattern, unless it has a name already
 abbrev pub go_bind : Bool → SyntaxKind → Spot
 go_bind false NODE_PAT_BIND = At p.PatternPast
 go_bind bound kind = Nowhere
 
+-- behind the name of an entry
 abbrev pub go_default : SyntaxKind → Spot
 go_default TOKEN_QUESTION = At p.EntryDefault
 go_default kind = Nowhere
 
+-- behind the path of a selection
 abbrev pub go_or : SyntaxKind → Spot
 go_or TOKEN_OR = At p.SelectDefault
 go_or kind = Nowhere
 
+-- behind one more child of a row, by what stands at its place
 abbrev pub go_slot : Slot → Place → SyntaxKind → Spot
 go_slot (s.Token until behind) place kind = to (is_wanted until kind) (At behind)
 go_slot (s.Operand level counted behind) place kind = to (fits level kind) (At behind)
@@ -199,27 +210,31 @@ go_slot s.Default place kind = go_default kind
 go_slot s.Or place kind = go_or kind
 go_slot slot place kind = Nowhere
 
--- behind the first child
+-- behind the first child of a set
 abbrev pub first_set : SyntaxKind → Spot
 first_set TOKEN_REC = At p.SetBrace
 first_set TOKEN_L_BRACE = At p.SetInside
 first_set kind = Nowhere
 
+-- of a prefix operator's node
 abbrev pub first_unary : SyntaxKind → Spot
 first_unary TOKEN_SUB = At p.Negated
 first_unary TOKEN_INVERT = At p.Inverted
 first_unary kind = Nowhere
 
+-- of a function
 abbrev pub first_lambda : SyntaxKind → Spot
 first_lambda NODE_IDENT_PARAM = At p.LambdaColon
 first_lambda NODE_PATTERN = At p.LambdaColon
 first_lambda kind = Nowhere
 
+-- of a pattern
 abbrev pub first_pattern : SyntaxKind → Spot
 first_pattern TOKEN_L_BRACE = At (p.PatternStart false)
 first_pattern NODE_PAT_BIND = At p.PatternBrace
 first_pattern kind = Nowhere
 
+-- of the name that a pattern is bound to
 abbrev pub first_bind : SyntaxKind → Spot
 first_bind NODE_IDENT = BeforeAt
 first_bind TOKEN_AT = At p.BindName
@@ -244,14 +259,17 @@ first_token TOKEN_IF TOKEN_IF place = At place
 first_token TOKEN_INHERIT TOKEN_INHERIT place = At place
 first_token wanted kind place = Nowhere
 
+-- of an old `let`
 abbrev pub first_let : SyntaxKind → Spot
 first_let TOKEN_LET = BeforeBrace
 first_let kind = Nowhere
 
+-- the node that a kind's row begins with, and the place behind it
 abbrev pub first_node : SyntaxKind → Place → SyntaxKind → Spot
 first_node NODE_IDENT place NODE_IDENT = At place
 first_node wanted place kind = Nowhere
 
+-- behind the first child of a node of a kind
 abbrev pub first : SyntaxKind → SyntaxKind → Spot
 first NODE_PAREN kind = first_token TOKEN_L_PAREN kind p.ParenInside
 first NODE_LIST kind = first_token TOKEN_L_BRACK kind p.ListInside
@@ -285,23 +303,27 @@ first NODE_UNARY_OP kind = first_unary kind
 first NODE_BIN_OP kind = to (is_operand kind) BeforeOperator
 first node kind = Nowhere
 
--- behind the second child of some kinds
+-- `.` behind what is selected from
 abbrev pub go_dot : SyntaxKind → Spot
 go_dot TOKEN_DOT = At p.SelectPath
 go_dot kind = Nowhere
 
+-- `?` behind what is asked
 abbrev pub go_question : SyntaxKind → Spot
 go_question TOKEN_QUESTION = At p.HasPath
 go_question kind = Nowhere
 
+-- `@` behind the name of a pattern
 abbrev pub go_at : SyntaxKind → Spot
 go_at TOKEN_AT = At p.Past
 go_at kind = Nowhere
 
+-- `{` behind an old `let`
 abbrev pub go_brace : SyntaxKind → Spot
 go_brace TOKEN_L_BRACE = At p.LegacyInside
 go_brace kind = Nowhere
 
+-- `@` of a second name of a pattern
 abbrev pub go_second : SyntaxKind → Spot
 go_second TOKEN_AT = At p.TwiceName
 go_second kind = Nowhere
@@ -334,6 +356,7 @@ is_end s.Default = true
 is_end s.Or = true
 is_end slot = false
 
+-- the row may end at a spot
 abbrev pub whole : Spot → Bool
 whole (At place) = is_end (slot_at place)
 whole spot = false
@@ -363,38 +386,3 @@ is_row node kinds = whole (run (start node) kinds)
 pub record IsBeginning (node : SyntaxKind) (kinds : List SyntaxKind) : Type 0 where
   pub more : List SyntaxKind
   pub is : whole (run (run (start node) kinds) more) ≡ true
-
--- what is reported where the text ends at a place, and the place behind what is missing
-abbrev pub lack_in : Slot → Option (Fault × Place)
-lack_in (s.Token until behind) = Some (ended_before (wanted_kinds until), behind)
-lack_in (s.Operand level counted behind) = Some (ended, behind)
-lack_in (s.Series level closer) = Some (ended, p.Past)
-lack_in (s.Entries closer behind) = Some (ended, behind)
-lack_in s.Pieces = Some (ended_before (wanted_kinds u.Piece), p.StringEnd)
-lack_in s.Source = Some (ended, p.InheritEnd)
-lack_in s.Names = Some (ended, p.InheritEnd)
-lack_in (s.Attr behind) = Some (ended_before (wanted_kinds u.Attr), behind)
-lack_in (s.Name behind) = Some (ended_before (wanted_kinds u.Ident), behind)
-lack_in (s.Braces bound) = Some (ended, p.PatternEnd bound)
-lack_in (s.Formals bound) = Some (ended_before (wanted_kinds u.Entry), p.PatternEnd bound)
-lack_in (s.Comma bound) = Some (ended_before (wanted_kinds u.RBrace), p.PatternEnd bound)
-lack_in slot = None
-
-abbrev pub lack : Place → Option (Fault × Place)
-lack place = lack_in (slot_at place)
-
--- which tokens are wanted behind a run of others at a place, and the place behind the run
-abbrev pub run_in : Slot → Place → Option (Until × Place)
-run_in (s.Token until behind) place = Some (until, place)
-run_in s.Pieces place = Some (u.Piece, place)
-run_in s.Source place = Some (u.Attr, p.InheritName)
-run_in s.Names place = Some (u.Attr, p.InheritName)
-run_in (s.Attr behind) place = Some (u.Attr, place)
-run_in (s.Name behind) place = Some (u.Ident, place)
-run_in (s.Braces bound) place = Some (u.Entry, p.PatternInside bound)
-run_in (s.Formals bound) place = Some (u.Entry, p.PatternInside bound)
-run_in (s.Comma bound) place = Some (u.RBrace, p.PatternClose bound)
-run_in slot place = None
-
-abbrev pub run_at : Place → Option (Until × Place)
-run_at place = run_in (slot_at place) place

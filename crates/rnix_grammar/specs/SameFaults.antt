@@ -1,8 +1,7 @@
 -- Equality of errors: the test on faults says that they are one.
 use Rattle.std.proofs.Common.{bytes_eq, ◌≡◌, ◌&&◌, ◌==◌, List, ap, refl}
 use Rattle.std.specs.Bool.{Decides}
-use Rattle.std.specs.Cmp.{IsPartialEquivalence, partial_equiv_from_equiv}
-use Rattle.std.specs.Cmp.{on_per}
+use Rattle.std.specs.Cmp.{IsPartialEquivalence, partial_equiv_from_equiv, on_per}
 use Rattle.std.specs.Cmp.Lexicographic.{pointwise}
 use Rattle.std.proofs.lemmas.Bool.Decides.{Decides-eqb, Decides-like, Decides-and}
 use Rattle.std.proofs.lemmas.Slice.Eq.{slice_eq-Decides, bytes_eq-Decides}

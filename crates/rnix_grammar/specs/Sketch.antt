@@ -15,6 +15,7 @@ pub record Token : Type 0 where
   pub start : ℕ
   pub end : ℕ
 
+-- a token without its place
 abbrev pub lexeme_of : Token → Lexeme
 lexeme_of t = (t.kind, t.text)
 
@@ -39,6 +40,7 @@ pub data Sketch : Type 0 where
   branch : SyntaxKind → Sketch → Sketch → Sketch
   fault : Note → Sketch → Sketch → Sketch
 
+-- one row behind another
 infixl 20 ◌⊕◌
 abbrev pub ◌⊕◌ : Sketch → Sketch → Sketch
 blank ⊕ g = g
@@ -50,9 +52,11 @@ blank ⊕ g = g
 abbrev pub one_token : SyntaxKind → Token → Sketch
 one_token k t = token k t blank
 
+-- a row of one node
 abbrev pub one_branch : SyntaxKind → Sketch → Sketch
 one_branch k c = branch k c blank
 
+-- a row of one error node
 abbrev pub one_fault : Note → Sketch → Sketch
 one_fault n c = fault n c blank
 
@@ -60,6 +64,7 @@ one_fault n c = fault n c blank
 abbrev pub leaf_of : Token → Sketch
 leaf_of t = one_token t.kind t
 
+-- tokens as a row of leaves of their own kinds
 abbrev pub row_of : List Token → Sketch
 row_of [] = blank
 row_of (t ∷ ts) = token t.kind t (row_of ts)
@@ -70,6 +75,11 @@ tokens_in blank = []
 tokens_in (token k t f) = t ∷ tokens_in f
 tokens_in (branch k c f) = tokens_in c ++ tokens_in f
 tokens_in (fault n c f) = tokens_in c ++ tokens_in f
+
+-- some tokens
+abbrev pub is_some : List Token → Bool
+is_some [] = false
+is_some (t ∷ ts) = true
 
 -- the trees alone
 abbrev pub forget : Sketch → Forest
@@ -86,6 +96,7 @@ told_as NODE_IDENT TOKEN_CUR_POS = TOKEN_IDENT
 told_as NODE_CUR_POS TOKEN_IDENT = TOKEN_CUR_POS
 told_as parent kind = kind
 
+-- the kind of a token's leaf below a node of the kind
 abbrev pub told : SyntaxKind → Token → SyntaxKind
 told parent t = told_as parent t.kind
 
@@ -101,6 +112,7 @@ abbrev pub token_if : Bool → SyntaxKind → Token → Sketch → Sketch
 token_if true k t f = f
 token_if false k t f = token k t f
 
+-- the trees without trivia
 abbrev pub clean : Sketch → Sketch
 clean blank = blank
 clean (token k t f) = token_if (is_trivia t.kind) k t (clean f)
@@ -122,16 +134,20 @@ abbrev pub head_of : List Token → Option Token
 head_of [] = None
 head_of (t ∷ ts) = Some t
 
+-- the kind of a token that may be absent
 abbrev pub kind_in : Option Token → Option SyntaxKind
 kind_in None = None
 kind_in (Some t) = Some t.kind
 
+-- such a token without its place
 abbrev pub lexeme_in : Option Token → Option Lexeme
 lexeme_in None = None
 lexeme_in (Some t) = Some (lexeme_of t)
 
+-- the kind of the next token
 abbrev pub head_kind : List Token → Option SyntaxKind
 head_kind ts = kind_in (head_of ts)
 
+-- the next token without its place
 abbrev pub head_lexeme : List Token → Option Lexeme
 head_lexeme ts = lexeme_in (head_of ts)

@@ -1,5 +1,5 @@
 -- The grammar: what stands at each place of a node's row.
-use Rattle.std.specs.Prelude.{true, false}
+use Rattle.std.specs.Prelude.{ℕ, true, false, Option, Some, None}
 use Rattle.rnix_grammar.specs.declared.place.Place.{Place}
 use Rattle.rnix_grammar.specs.declared.place.Place.TheVariants as p
 use Rattle.rnix_grammar.specs.declared.until.Until.TheVariants as u
@@ -74,3 +74,9 @@ slot_at (p.Right level) = s.Operand level false (p.Operated level)
 slot_at (p.Operated level) = s.Done
 slot_at p.Past = s.Done
 slot_at (p.Behind low high) = s.More low high
+
+-- the level of the operands that stand in a slot
+abbrev pub level_in : Slot → Option ℕ
+level_in (s.Operand level counted behind) = Some level
+level_in (s.Series level closer) = Some level
+level_in slot = None

@@ -1,7 +1,7 @@
 -- What stands in a row with its errors: the errors of a tree are those of its rows, in order.
-use Rattle.std.specs.Prelude.{◌≡◌, ℕ, suc, ◌+◌, ◌<◌, ◌≤◌, Bool, true, false, ◌||◌, List, [], ◌∷◌, ◌++◌, Option, Some, None, length, if◌then◌else◌}
+use Rattle.std.specs.Prelude.{◌≡◌, ℕ, suc, ◌+◌, ◌<◌, ◌≤◌, Bool, true, false, ◌||◌, ◌&&◌, List, [], ◌∷◌, ◌++◌, Option, Some, None, length, if◌then◌else◌}
 use Rattle.rnix_kinds.specs.declared.kinds.SyntaxKind.{SyntaxKind}
-use Rattle.rnix_kinds.specs.declared.kinds.SyntaxKind.TheVariants.{TOKEN_QUESTION, TOKEN_DOT, TOKEN_EQUAL, TOKEN_NOT_EQUAL, TOKEN_LESS, TOKEN_LESS_OR_EQ, TOKEN_MORE, TOKEN_MORE_OR_EQ, TOKEN_OR, TOKEN_INVERT, NODE_IDENT, NODE_BIN_OP, NODE_HAS_ATTR, NODE_UNARY_OP, NODE_APPLY, NODE_LEGACY_LET, NODE_LET_IN, NODE_ROOT, NODE_ERROR, NODE_LITERAL, NODE_ATTRPATH, NODE_PATTERN, NODE_PAT_ENTRY, NODE_INHERIT, NODE_INTERPOL, NODE_ATTR_SET, NODE_ATTRPATH_VALUE, NODE_WITH, NODE_ASSERT, NODE_INHERIT_FROM, NODE_PAREN, NODE_LAMBDA, NODE_IF_ELSE, NODE_PAT_BIND, NODE_STRING}
+use Rattle.rnix_kinds.specs.declared.kinds.SyntaxKind.TheVariants.{TOKEN_QUESTION, TOKEN_DOT, TOKEN_EQUAL, TOKEN_NOT_EQUAL, TOKEN_LESS, TOKEN_LESS_OR_EQ, TOKEN_MORE, TOKEN_MORE_OR_EQ, TOKEN_INVERT, NODE_IDENT, NODE_CUR_POS, NODE_BIN_OP, NODE_HAS_ATTR, NODE_UNARY_OP, NODE_APPLY, NODE_LEGACY_LET, NODE_LET_IN, NODE_ROOT, NODE_ERROR, NODE_LITERAL, NODE_ATTRPATH, NODE_PATTERN, NODE_PAT_ENTRY, NODE_INHERIT, NODE_INTERPOL, NODE_ATTR_SET, NODE_ATTRPATH_VALUE, NODE_WITH, NODE_ASSERT, NODE_INHERIT_FROM, NODE_PAREN, NODE_LAMBDA, NODE_IF_ELSE, NODE_PAT_BIND, NODE_STRING}
 use Rattle.rnix_kinds.specs.SyntaxKind.{is_fn_arg}
 use Rattle.rnix_grammar.specs.declared.place.Place.{Place}
 use Rattle.rnix_grammar.specs.declared.place.Place.TheVariants.{RootEnd, PatternEnd, PatternPast}
@@ -9,22 +9,22 @@ use Rattle.rnix_grammar.specs.declared.until.Until.{Until}
 use Rattle.rnix_grammar.specs.declared.until.Until.TheVariants as u
 use Rattle.rnix_grammar.specs.Fault.{Fault}
 use Rattle.rnix_grammar.specs.declared.slot.Slot.{Slot}
-use Rattle.rnix_grammar.specs.declared.slot.Slot.TheVariants.{Operand, Series}
-use Rattle.rnix_grammar.specs.Slots.{slot_at}
+use Rattle.rnix_grammar.specs.declared.slot.Slot.TheVariants.{Series}
+use Rattle.rnix_grammar.specs.Slots.{slot_at, level_in}
 use Rattle.rnix_grammar.specs.Levels.{power, left_of}
 use Rattle.rnix_grammar.specs.Tables.{stops, closes, depth_limit}
-use Rattle.rnix_grammar.specs.Sketch.{Token, Note, Stray, Unwanted, Extra, Twice, TooDeep, Sketch, blank, token, branch, fault, ◌⊕◌, one_token, one_branch, one_fault, row_of, tokens_in, told, head_kind}
+use Rattle.rnix_grammar.specs.Sketch.{Token, Note, Stray, Unwanted, Extra, Twice, TooDeep, Sketch, blank, token, branch, fault, ◌⊕◌, one_token, one_branch, one_fault, row_of, tokens_in, is_some, told, head_kind}
 use Rattle.rnix_grammar.specs.Reports.{report, repeated}
-use Rattle.rnix_grammar.specs.Rows.{is_atom, is_simple, is_operand, is_infix, Spot, BeforeOperator, BeforeQuestion, BeforeArgument, At, SecondStart, go, live, whole, start, lack, run_at}
+use Rattle.rnix_grammar.specs.Names.{is_or, is_named}
+use Rattle.rnix_grammar.specs.Rows.{is_atom, is_simple, is_operand, is_infix, Spot, BeforeOperator, BeforeQuestion, BeforeArgument, At, SecondStart, go, live, whole, start}
+use Rattle.rnix_grammar.specs.Missing.{lack, run_at}
 
+-- the token `?`
 abbrev pub is_question : SyntaxKind → Bool
 is_question TOKEN_QUESTION = true
 is_question kind = false
 
-abbrev pub is_or : SyntaxKind → Bool
-is_or TOKEN_OR = true
-is_or kind = false
-
+-- the token `.`
 abbrev pub is_dot : SyntaxKind → Bool
 is_dot TOKEN_DOT = true
 is_dot kind = false
@@ -39,6 +39,7 @@ is_comparison TOKEN_MORE = true
 is_comparison TOKEN_MORE_OR_EQ = true
 is_comparison kind = false
 
+-- the kind of attribute paths
 abbrev pub is_attrpath : SyntaxKind → Bool
 is_attrpath NODE_ATTRPATH = true
 is_attrpath kind = false
@@ -49,6 +50,7 @@ continues_kind k b =
     if is_simple b then is_fn_arg k || (is_question k || is_infix k)
     else (if is_operand b then is_question k || (if is_comparison k then false else is_infix k) else (if is_attrpath b then is_dot k else false))
 
+-- so behind the last tree of a row, if there is one
 abbrev pub continues : SyntaxKind → Option SyntaxKind → Bool
 continues k None = false
 continues k (Some b) = continues_kind k b
@@ -66,6 +68,7 @@ last_from b (token k t f) = last_from (Some k) f
 last_from b (branch k c f) = last_from (Some k) f
 last_from b (fault n c f) = last_from (Some (seen_as n)) f
 
+-- the kind of the last tree of a row
 abbrev pub last_kind : Sketch → Option SyntaxKind
 last_kind f = last_from None f
 
@@ -74,6 +77,7 @@ abbrev pub closing_in : Slot → SyntaxKind → Bool
 closing_in (Series level closer) kind = closes closer kind
 closing_in slot kind = false
 
+-- so at a spot
 abbrev pub closing : Spot → SyntaxKind → Bool
 closing (At place) kind = closing_in (slot_at place) kind
 closing spot kind = false
@@ -102,6 +106,7 @@ is_wanted_in u.Attr NODE_INHERIT = true
 is_wanted_in u.Entry NODE_PATTERN = true
 is_wanted_in until parent = false
 
+-- the kind of inherited names
 abbrev pub is_inherit : SyntaxKind → Bool
 is_inherit NODE_INHERIT = true
 is_inherit kind = false
@@ -143,35 +148,52 @@ abbrev pub is_bind_at : Spot → Sketch → Bool
 is_bind_at (At place) c = begins_with_token c
 is_bind_at spot c = if begins_with_token c then false else true
 
-abbrev pub is_formed : Spot → SyntaxKind → Sketch → Bool
-is_formed spot NODE_PAT_BIND c = is_bind_at spot c
-is_formed spot kind c = true
+-- such a name stands where it may, and so do other names and the current position
+abbrev pub suits : Spot → SyntaxKind → Sketch → Bool
+suits spot NODE_PAT_BIND c = is_bind_at spot c
+suits spot NODE_IDENT c = is_named spot NODE_IDENT c
+suits spot NODE_CUR_POS c = is_named spot NODE_CUR_POS c
+suits spot kind c = true
 
--- the operator behind the first tree, the first token, and whether the second tree is the name `or`
+-- a node without tokens is an attribute path
+abbrev pub is_filled : SyntaxKind → Sketch → Bool
+is_filled NODE_ATTRPATH c = true
+is_filled kind c = is_some (tokens_in c)
+
+-- a node that may stand at a spot
+abbrev pub is_formed : Spot → SyntaxKind → Sketch → Bool
+is_formed spot kind c = is_filled kind c && suits spot kind c
+
+-- the operator behind the first tree
 abbrev pub operator_in : Sketch → SyntaxKind
 operator_in (branch k c (token j t f)) = j
 operator_in (fault n c (token j t f)) = j
 operator_in f = NODE_ROOT
 
+-- the level of a prefix operator's node, by its operator
 abbrev pub prefix_in : Sketch → ℕ
 prefix_in blank = 0
 prefix_in (token TOKEN_INVERT t f) = 9
 prefix_in f = 14
 
+-- a row begins with the token `or`
 abbrev pub is_or_leaf : Sketch → Bool
 is_or_leaf (token k t f) = is_or t.kind
 is_or_leaf f = false
 
+-- a row begins with the name `or`
 abbrev pub is_or_row : Sketch → Bool
 is_or_row (branch NODE_IDENT c f) = is_or_leaf c
 is_or_row f = false
 
+-- the second tree of a row is the name `or`
 abbrev pub calls_or : Sketch → Bool
 calls_or (branch k c f) = is_or_row f
 calls_or (fault n c f) = is_or_row f
 calls_or f = false
 
--- the tightest level at which a tree may stand; 0 is a tree that only stands where any expression may
+-- the tightest level at which a tree of a row may stand, with its error nodes; 0 is a tree that only stands where any expression may (specs/Strict
+-- says the same of trees without them, where a lambda is as loose)
 abbrev pub level_of : SyntaxKind → Sketch → ℕ
 level_of NODE_BIN_OP c = power (operator_in c)
 level_of NODE_HAS_ATTR c = 13
@@ -184,32 +206,29 @@ level_of NODE_IF_ELSE c = 0
 level_of NODE_ASSERT c = 0
 level_of kind c = 16
 
+-- the level of the first tree of a row; an error node counts as a literal
 abbrev pub row_level : Sketch → ℕ
 row_level (branch k c f) = level_of k c
 row_level (fault n c f) = 16
 row_level f = 0
 
+-- a row begins with an atom, or with an error node
 abbrev pub is_atom_row : Sketch → Bool
 is_atom_row (branch k c f) = is_atom k
 is_atom_row (fault n c f) = true
 is_atom_row f = false
 
--- the level of the operands that stand in a slot
-abbrev pub level_in : Slot → Option ℕ
-level_in (Operand level counted behind) = Some level
-level_in (Series level closer) = Some level
-level_in slot = None
-
+-- a tree binds as tightly as a level asks, if one does
 abbrev pub IsTight : Option ℕ → Sketch → Type 0
 IsTight None x = Unit {0}
 IsTight (Some level) x = level ≤ row_level x
 
--- a tree binds as tightly as it must where it stands
 -- an argument, or the name `or` behind an atom
 abbrev pub IsArgument : Bool → Sketch → Sketch → Type 0
 IsArgument true before x = is_atom_row before ≡ true
 IsArgument false before x = (15 ≤ row_level before) × (16 ≤ row_level x)
 
+-- a tree binds as tightly as it must where it stands
 abbrev pub IsLeveled : Spot → Sketch → Sketch → Type 0
 IsLeveled (At place) before x = IsTight (level_in (slot_at place)) x
 IsLeveled BeforeArgument before x = IsArgument (is_or_row x) before x

@@ -1,15 +1,13 @@
--- The strict grammar: which trees without trivia and error nodes are expressions.
+-- A test of the strict grammar along the rows: which trees without trivia and error nodes are expressions. The grammar is defined in Grammar; the test says the same.
 use Rattle.std.specs.Prelude.{ℕ, suc, Bool, true, false, ◌&&◌, List, [], ◌∷◌, ◌++◌, Option, Some, None, codes, if◌then◌else◌, nat_le, nat_eq}
 use Rattle.std.specs.Str.{bytes_eq}
 use Rattle.rnix_kinds.specs.declared.kinds.SyntaxKind.{SyntaxKind}
 use Rattle.rnix_kinds.specs.declared.kinds.SyntaxKind.TheVariants.{TOKEN_INVERT, TOKEN_IDENT, TOKEN_OR, TOKEN_CUR_POS, NODE_APPLY, NODE_ASSERT, NODE_BIN_OP, NODE_CUR_POS, NODE_DYNAMIC, NODE_HAS_ATTR, NODE_IDENT, NODE_IDENT_PARAM, NODE_IF_ELSE, NODE_LAMBDA, NODE_LEGACY_LET, NODE_LET_IN, NODE_PAT_BIND, NODE_PAT_ENTRY, NODE_PATTERN, NODE_ROOT, NODE_SELECT, NODE_UNARY_OP, NODE_WITH}
 use Rattle.rnix_kinds.specs.Lexical.Tokens.{Lexeme}
 use Rattle.rnix_tree.specs.Forest.{Forest, empty, leaf, node}
-use Rattle.rnix_grammar.specs.declared.slot.Slot.{Slot}
-use Rattle.rnix_grammar.specs.declared.slot.Slot.TheVariants.{Operand, Series}
 use Rattle.rnix_grammar.specs.Tables.{is_cur_pos}
 use Rattle.rnix_grammar.specs.Levels.{power, left_of}
-use Rattle.rnix_grammar.specs.Slots.{slot_at}
+use Rattle.rnix_grammar.specs.Slots.{slot_at, level_in}
 use Rattle.rnix_grammar.specs.Rows.{is_atom, is_expression, Spot, BeforeArgument, At, go, live, whole, start}
 
 -- the text of the only leaf
@@ -17,6 +15,7 @@ abbrev pub only_text : Forest → List ℕ
 only_text (leaf k t f) = t
 only_text f = []
 
+-- the text is the word `or` (specs/Names asks the kind of a token instead)
 abbrev pub is_or : List ℕ → Bool
 is_or text = bytes_eq text (codes "or")
 
@@ -34,10 +33,12 @@ abbrev pub is_or_name : SyntaxKind → Forest → Bool
 is_or_name NODE_IDENT c = is_or (only_text c)
 is_or_name kind c = false
 
+-- a call calls the name `or`
 abbrev pub calls_or : Forest → Bool
 calls_or (node k c (node j d f)) = is_or_name j d
 calls_or f = false
 
+-- the level of a prefix operator's node, by its operator
 abbrev pub prefix_level : Forest → ℕ
 prefix_level (leaf TOKEN_INVERT t f) = 9
 prefix_level f = 14
@@ -56,6 +57,7 @@ level_of NODE_IF_ELSE c = 0
 level_of NODE_ASSERT c = 0
 level_of kind c = 16
 
+-- a tree is a name or the current position only where its text may be one (specs/Names asks it of a token at a spot)
 abbrev pub is_named : SyntaxKind → Forest → Bool
 is_named NODE_IDENT c = is_plain_name c
 is_named NODE_CUR_POS c = is_cur_pos (only_text c)
@@ -75,10 +77,12 @@ abbrev pub first_stands : ℕ → Forest → Bool
 first_stands level (node k c f) = stands_at level k c
 first_stands level f = false
 
+-- the first tree is what `.` and a lone `or` may follow
 abbrev pub first_is_atom : Forest → Bool
 first_is_atom (node k c f) = is_strict_atom k c
 first_is_atom f = false
 
+-- the first tree is not the name `or`
 abbrev pub first_is_no_or : Forest → Bool
 first_is_no_or (node k c f) = if is_or_name k c then false else true
 first_is_no_or f = true
@@ -89,9 +93,11 @@ node_count empty = 0
 node_count (leaf k t f) = node_count f
 node_count (node k c f) = suc (node_count f)
 
+-- the number one
 abbrev pub is_one : ℕ → Bool
 is_one n = nat_eq n 1
 
+-- the name that a pattern is bound to is not `or`
 abbrev pub binds_no_or : Forest → Bool
 binds_no_or (leaf k t f) = first_is_no_or f
 binds_no_or f = first_is_no_or f
@@ -101,6 +107,7 @@ abbrev pub entry_text : Forest → List ℕ
 entry_text (node NODE_IDENT c f) = only_text c
 entry_text f = []
 
+-- the name is one of these
 abbrev pub is_among : List ℕ → List (List ℕ) → Bool
 is_among name [] = false
 is_among name (n ∷ ns) = if bytes_eq name n then true else is_among name ns
@@ -125,16 +132,12 @@ is_grouped NODE_PAT_BIND c = binds_no_or c
 is_grouped NODE_PATTERN c = are_entries_new [] c
 is_grouped kind c = true
 
--- the level of the operands that stand in a slot
-abbrev pub level_in : Slot → Option ℕ
-level_in (Operand level counted behind) = Some level
-level_in (Series level closer) = Some level
-level_in slot = None
-
+-- the tree may stand where operands of a level stand, if any do
 abbrev pub stands_in : Option ℕ → SyntaxKind → Forest → Bool
 stands_in None k c = true
 stands_in (Some level) k c = stands_at level k c
 
+-- a row begins with a leaf
 abbrev pub begins_with_leaf : Forest → Bool
 begins_with_leaf (leaf k t f) = true
 begins_with_leaf f = false

@@ -1,10 +1,9 @@
 //! What the reader does at each place, by the next token that is not trivia.
 
 ghost use Rattle.std.specs.Prelude.{◌≡◌};
-ghost use Rattle.rnix_grammar.specs.Levels.{power};
-ghost use Rattle.rnix_grammar.specs.Actions.{token_action, series_action, entries_action, pieces_action, first_piece_action, is_path_piece, more_pieces_action, attr_action, names_action, is_l_paren, source_action, more_attrs_action, name_action, formals_action, braces_action, is_comma, comma_action, bind_action, default_action, or_action, end_action, follow, more_action, action_at};
+ghost use Rattle.rnix_grammar.specs.Actions.{token_action, series_action, entries_action, pieces_action, first_piece_action, is_path_piece, more_pieces_action, attr_action, names_action, is_l_paren, source_action, more_attrs_action, name_action, formals_action, braces_action, is_comma, comma_action, bind_action, default_action, or_action, end_action, action_at};
 
-use crate::level::{high_of, power, right_of};
+use crate::operand::more_action;
 use crate::place::Place;
 use crate::slot::{Slot, slot_at};
 use crate::until::{Closer, Until, closes, is_wanted};
@@ -325,44 +324,6 @@ fn end_action(next: Option<SyntaxKind>) -> Action
     match next {
         None => Action::Finish,
         Some(_) => Action::Extra,
-    }
-}
-
-// What goes on with an operand.
-fn follow(kind: SyntaxKind) -> Action
-    ensures { result ≡ follow kind }
-{
-    match kind {
-        SyntaxKind::TOKEN_DOT => Action::Wrap(SyntaxKind::NODE_SELECT, Place::SelectPath, 15),
-        SyntaxKind::TOKEN_OR => Action::ApplyOr,
-        SyntaxKind::TOKEN_QUESTION => Action::Wrap(SyntaxKind::NODE_HAS_ATTR, Place::HasPath, 13),
-        _ => {
-            if kind.is_fn_arg() {
-                Action::Apply
-            } else {
-                Action::Wrap(
-                    SyntaxKind::NODE_BIN_OP,
-                    Place::Right(right_of(kind)),
-                    high_of(kind),
-                )
-            }
-        }
-    }
-}
-
-fn more_action(low: u8, high: u8, next: Option<SyntaxKind>) -> Action
-    ensures { result ≡ more_action low high next }
-{
-    match next {
-        None => Action::Settle,
-        Some(kind) => {
-            let level = power(kind);
-            if level != 0 && low <= level && level <= high {
-                follow(kind)
-            } else {
-                Action::Settle
-            }
-        }
     }
 }
 

@@ -3,14 +3,17 @@
 
 mod action;
 mod begin;
+mod derivation;
 mod error;
 mod level;
+mod operand;
 mod place;
 mod slot;
 mod until;
 
 pub use action::{Action, action_at};
 pub use begin::{Begin, begin_of};
+pub use derivation::one_derivation;
 pub use error::ParseError;
 pub use place::Place;
 pub use until::{Until, operand_kinds, stops, wanted_kinds};

@@ -13,11 +13,11 @@ use Rattle.rnix_grammar.specs.Sketch.{Token, Stray, TooDeep, Sketch, head_of, en
 use Rattle.rnix_grammar.specs.Layout.{items, from_item, tail_of}
 use Rattle.rnix_grammar.specs.Reports.{report}
 use Rattle.rnix_grammar.specs.Machine.{Head, Node, Operand, Frame, put, opened, ate, leaf, leaf_in, behind, reach, end_of, machine, begun, operand_on, reading, limited, run_row, run_rest, past}
+use Rattle.rnix_grammar.proofs.LayoutLemmas.{trivia-from_item, from_item-from_item, items-from_item}
 use Rattle.rnix_parser.specs.declared.mark.Mark.{Mark}
 use Rattle.rnix_parser.specs.State.{State, items_left, eaten, bumped, skipped, started, ended, failed, marked}
 use Rattle.rnix_parser.specs.Flat.{flat, flat_with}
 use Rattle.rnix_parser.specs.Steps.{noded, operand_begun}
-use Rattle.rnix_parser.proofs.LayoutLemmas.{trivia-from_item, from_item-from_item, items-from_item}
 use Rattle.rnix_parser.proofs.RunLemmas.{none_left}
 use Rattle.rnix_parser.proofs.FlatLemmas.{flat-eaten, flat-run, flat-bumped, flat-started, flat-leaf, flat-closed, flat-opened, flat-operand, flat-failed}
 
@@ -52,6 +52,7 @@ read_on level depth f fs ts n es d h =
     ap (λ x. flat (operand_on true level (suc x) f fs ts (items ts) n es)) (sym d)
     ∙ ap (λ x. flat (if x then limited true f fs ts n es else operand_on true level (suc f.depth) f fs ts (items ts) n es)) (sym (ap (nat_le depth_limit) d ∙ h))
 
+-- an operand that is not counted is begun as deep as its frame
 pub read_plain : (level depth : ℕ) (f : Frame) (fs : List Frame) (ts : List Token) (n : ℕ) (es : List Fault) → f.depth ≡ depth
     → flat (operand_on true level depth f fs ts (items ts) n es) ≡ flat (reading true level false f fs ts n es)
 read_plain level depth f fs ts n es d = ap (λ x. flat (operand_on true level x f fs ts (items ts) n es)) (sym d)
@@ -199,6 +200,7 @@ module _ (f : Frame) (fs : List Frame) (ts : List Token) (n : ℕ) (es : List Fa
 pub deep_from : (depth : ℕ) → 512 ≤ depth → nat_le depth_limit depth ≡ true
 deep_from depth h = le-leb 512 depth h
 
+-- a depth below the limit is not too deep
 pub not_deep_from : (depth : ℕ) → depth < 512 → nat_le depth_limit depth ≡ false
 not_deep_from depth h = by (nat_le depth_limit depth) refl
   where

@@ -7,7 +7,7 @@ use Rattle.rnix_kinds.specs.SyntaxKind.{is_trivia}
 use Rattle.rnix_kinds.specs.Lexical.Tokens.{Lexeme}
 use Rattle.rnix_grammar.specs.Sketch.{Token, head_of, head_kind, placed_from}
 use Rattle.rnix_grammar.specs.Layout.{from_item, from_item_if, items, tail_of}
-use Rattle.rnix_parser.proofs.LayoutLemmas.{from_item-from_item, items-view, items_head}
+use Rattle.rnix_grammar.proofs.LayoutLemmas.{from_item-from_item, items-view, items_head}
 use Rattle.rnix_parser.specs.declared.cursor.PlacedToken.{PlacedToken}
 use Rattle.rnix_parser.specs.Placed.{token_of, AreInOrder}
 
@@ -37,6 +37,7 @@ looked_up ts i (Some x) copy e h c = ap (option_map token_of) c ∙ sym (ap head
 pub from_trivia : (ts : List Token) (t : Token) (more : List Token) → ts ≡ t ∷ more → is_trivia t.kind ≡ true → from_item ts ≡ from_item more
 from_trivia ts t more e h = ap from_item e ∙ ap (λ x. from_item_if x t more (from_item more)) h
 
+-- tokens that begin with an item are those from the first item on
 pub at_item : (ts : List Token) (t : Token) (more : List Token) → ts ≡ t ∷ more → is_trivia t.kind ≡ false → from_item ts ≡ ts
 at_item ts t more e h = ap from_item e ∙ ap (λ x. from_item_if x t more (from_item more)) h ∙ sym e
 
@@ -49,6 +50,7 @@ behind_first ts at next t more h d f n false e =
     let lengths : length (drop at ts) ≡ length (drop next ts) = ap length same in
     absurd (omega (arith, length-drop at ts, length-drop next ts))
 
+-- where the next item stands, by the places in the list
 pub next_item : (ts : List PlacedToken) (at next : ℕ) → at < length ts → from_item (drop at (map token_of ts)) ≡ drop next (map token_of ts)
     → from_item (drop (max next (suc at)) (map token_of ts)) ≡ from_item (drop (suc at) (map token_of ts))
 next_item ts at next h f = by (ltb at next) refl
@@ -70,10 +72,12 @@ pub placed_in_order : (n : ℕ) (ls : List Lexeme) → AreInOrder n (placed_from
 placed_in_order n [] = tt
 placed_in_order n (l ∷ ls) = (omega arith, omega arith, placed_in_order (n + length l.1) ls)
 
+-- tokens in order from a place are so from a place before it
 pub in_order_from : (m n : ℕ) (ts : List Token) → m ≤ n → AreInOrder n ts → AreInOrder m ts
 in_order_from m n [] h o = tt
 in_order_from m n (t ∷ ts) h o = (omega (arith, o.0), o.1, o.2)
 
+-- and so are the later ones
 pub in_order_drop : (n i : ℕ) (ts : List Token) → AreInOrder n ts → AreInOrder n (drop i ts)
 in_order_drop n zero ts o = o
 in_order_drop n (suc i) [] o = o
@@ -107,6 +111,7 @@ pub behind_first_item : (ts us vs : List Token) → from_item ts ≡ us → from
 behind_first_item ts us vs a b =
     sym (ap head_kind (tail_items ts) ∙ head_item (tail_of (from_item ts)) ∙ ap (λ x. head_kind (from_item (tail_of x))) a ∙ ap head_kind b)
 
+-- the kinds of the second item and the third, found one by one
 pub behind_second_item : (ts us vs ws : List Token) → from_item ts ≡ us → from_item (tail_of us) ≡ vs → from_item (tail_of vs) ≡ ws → head_kind ws ≡ head_kind (tail_of (tail_of (items ts)))
 behind_second_item ts us vs ws a b c =
     behind_first_item (tail_of us) vs ws b c ∙ ap (λ x. head_kind (tail_of (items (tail_of x)))) (sym a) ∙ ap (λ x. head_kind (tail_of x)) (sym (tail_items ts))

@@ -24,6 +24,7 @@ abbrev is_entry : Sort → Bool
 is_entry Entry = true
 is_entry s = false
 
+-- at a place of an entry an entry is open
 pub head_entry : (h : Head) → sort_of_head h ≡ Entry → h ≡ Node NODE_PAT_ENTRY
 head_entry (Node NODE_PAT_ENTRY) e = refl
 head_entry (Node k) e = absurd (true_is_not_false (sym (ap is_entry e)))
@@ -34,6 +35,7 @@ abbrev is_pattern : Sort → Bool
 is_pattern Pattern = true
 is_pattern s = false
 
+-- at a place of a pattern a pattern is open
 pub head_pattern : (h : Head) → sort_of_head h ≡ Pattern → h ≡ Node NODE_PATTERN
 head_pattern (Node NODE_PATTERN) e = refl
 head_pattern (Node k) e = absurd (true_is_not_false (sym (ap is_pattern e)))
@@ -50,6 +52,7 @@ holds_entry Loose e = absurd (true_is_not_false (sym e))
 holds_entry Name e = absurd (true_is_not_false (sym e))
 holds_entry Plain e = absurd (true_is_not_false (sym e))
 
+-- the innermost of frames that fit does
 pub fit_first : (g : Frame) (fs : List Frame) → AreFit g fs → IsFit g
 fit_first g [] w = w.0
 fit_first g (f ∷ fs) w = w.0
@@ -60,12 +63,15 @@ told_once : (b : Bool) (e : Fault) (f g : Frame) (fs : List Frame) (ts : List To
 told_once true e f g fs ts n es = flat-failed _ e (put g.place (g.row ⊕ made f.head f.row) g ∷ fs) ts n es
 told_once false e f g fs ts n es = ap (λ x. flat (closed f (g ∷ fs) ts n x)) (sym (append-nil es))
 
+-- an entry has no set of its own
 pub known_entry : (h : Head) (row : Sketch) (sets : List NameSet) (More : List NameSet → Type 0) → h ≡ Node NODE_PAT_ENTRY → KnownOn h row sets More → More sets
 known_entry h row sets More e k = subst (λ x. KnownOn x row sets More) e k
 
+-- a pattern has the last of the sets
 pub known_pattern : (h : Head) (row : Sketch) (sets : List NameSet) (More : List NameSet → Type 0) → h ≡ Node NODE_PATTERN → KnownOn h row sets More → Tops sets row More
 known_pattern h row sets More e k = subst (λ x. KnownOn x row sets More) e k
 
+-- an entry is complete
 pub done_entry : (f : Frame) (fs : List Frame) (ts : List Token) (n : ℕ) (m : Machine) (mark : Mark) (s : State) (names names' : Names) (s' : State) → Holding f fs ts n m mark s names
     → sort_of f.place ≡ Entry → EntryTold s names s' names' → s' ≡ flat (perform true a.CloseEntry f fs ts n m.faults)
 done_entry f [] ts n m mark s names names' s' h e told = absurd (true_is_not_false (sym (ap is_root h.well.fit.1) ∙ ap is_root e))

@@ -1,5 +1,5 @@
 -- The end of the text: the root is complete.
-use Rattle.std.proofs.Common.{◌≡◌, ◌<◌, ℕ, length, true, false, List, [], ◌∷◌, Some, None, refl, ap, sym, ◌∙◌, subst}
+use Rattle.std.proofs.Common.{◌≡◌, ◌<◌, ℕ, length, true, false, List, [], ◌∷◌, None, refl, ap, sym, ◌∙◌, subst}
 use Rattle.rnix_kinds.specs.declared.kinds.SyntaxKind.TheVariants.{NODE_ROOT}
 use Rattle.rnix_tree.specs.Forest.{empty, node}
 use Rattle.rnix_tree.specs.Draft.{wrapped-join}
@@ -18,6 +18,7 @@ use Rattle.rnix_parser.specs.Holds.{AreFit, Holding, IsReadTo}
 use Rattle.rnix_parser.proofs.FlatLemmas.{flat-eaten}
 use Rattle.rnix_parser.proofs.StateLemmas.{state_is}
 use Rattle.rnix_parser.proofs.StepLemmas.{stands_of, open_there, is_node, is_root}
+use Rattle.rnix_parser.proofs.RunLemmas.{no_items}
 
 true_is_not_false : true ≡ false → ⊥
 true_is_not_false e = cc
@@ -51,17 +52,12 @@ root_ended h place d row ms ts n es e =
     subst (λ x. ended (flat_with ms (machine (opened x place d row ∷ []) ts n es)) ≡ (let y : State = record { rest = ts; trees = node NODE_ROOT (forget row) empty; open_nodes = []; faults = es; reached = n; marks = ms } in y))
     (sym e) (state_is refl (wrapped-join NODE_ROOT empty (forget row)) refl refl refl refl)
 
-none_left : (ts : List Token) → head_kind ts ≡ None → ts ≡ []
-none_left [] e = refl
-none_left (t ∷ ts) e = absurd (some_is_not_none e)
-  where
-    some_is_not_none : Some t.kind ≡ None → ⊥
-    some_is_not_none e = cc
-
+-- where the text is read the root alone is open
 pub root_open : (f : Frame) (fs : List Frame) (ts : List Token) (n : ℕ) (m : Machine) (mark : Mark) (s : State) (names : Names) → Holding f fs ts n m mark s names
     → f.place ≡ p.RootEnd → 0 < length s.open_nodes
 root_open f fs ts n m mark s names h e = open_there f fs ts n m.faults mark s (stands_of f fs ts n m mark s names h) (ap (λ x. is_node (sort_of x)) e)
 
+-- a whole text is read
 pub finished : (f : Frame) (fs : List Frame) (ts : List Token) (n : ℕ) (m : Machine) (mark : Mark) (s : State) (names : Names) → Holding f fs ts n m mark s names
     → (f.place ≡ p.RootEnd) × (head_kind (items ts) ≡ None) → (start : List Token) → Runs true (begins start) m → (s2 : State) → s2 ≡ ended (eaten s) → IsReadTo start s2
 finished f fs ts n m mark s names h al start runs s2 e =
@@ -81,7 +77,7 @@ finished f fs ts n m mark s names h al start runs s2 e =
       alone = ap (λ x. x.frames) h.machine_is ∙ ap (λ x. f ∷ x) none;
       head = head;
       place = al.0;
-      nothing = ap items left ∙ none_left (items ts) al.1;
+      nothing = ap items left ∙ no_items (items ts) al.1;
       trees = ap (λ x. x.trees) state ∙ ap (λ x. node NODE_ROOT (forget (ate true f.row x)) empty) (sym left);
       nodes = ap (λ x. x.open_nodes) state;
       faults = ap (λ x. x.faults) state;

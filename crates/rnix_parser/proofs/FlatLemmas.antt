@@ -4,17 +4,18 @@ use Rattle.rnix_kinds.specs.declared.kinds.SyntaxKind.{SyntaxKind}
 use Rattle.rnix_kinds.specs.declared.kinds.SyntaxKind.TheVariants.{NODE_ERROR}
 use Rattle.rnix_tree.specs.Forest.{Forest, empty, node, join, tree_count}
 use Rattle.rnix_tree.specs.Draft.{wrapped, wrapped-join}
-use Rattle.rnix_tree.proofs.ForestLemmas.{join-empty, join_assoc}
+use Rattle.rnix_tree.specs.ForestCode.{join_empty}
+use Rattle.rnix_tree.proofs.ForestLemmas.{join_assoc}
 use Rattle.rnix_grammar.specs.declared.place.Place.{Place}
 use Rattle.rnix_grammar.specs.Fault.{Fault}
 use Rattle.rnix_grammar.specs.Sketch.{Token, Note, Twice, Sketch, blank, ◌⊕◌, one_branch, one_fault, row_of, forget, end_from}
 use Rattle.rnix_grammar.specs.Layout.{from_item, trivia_before, tail_of, dressed}
 use Rattle.rnix_grammar.specs.Machine.{Node, Second, Operand, Frame, put, opened, ate, leaf, leaf_in, behind, reach, end_of, run_row, run_rest, machine, closed}
+use Rattle.rnix_grammar.proofs.LayoutLemmas.{trivia-from_item, from_item-from_item}
+use Rattle.rnix_grammar.proofs.SketchLemmas.{forget-⊕}
 use Rattle.rnix_parser.specs.declared.mark.Mark.{Mark}
 use Rattle.rnix_parser.specs.State.{eaten, bumped, skipped, started, started_at, ended, failed, marked}
 use Rattle.rnix_parser.specs.Flat.{trees_of, nodes_of, marks_of, mark_at, flat, flat_with, popped, opened_on}
-use Rattle.rnix_parser.proofs.SketchLemmas.{forget-⊕}
-use Rattle.rnix_parser.proofs.LayoutLemmas.{trivia-from_item, from_item-from_item}
 use Rattle.rnix_parser.proofs.StateLemmas.{state_is}
 
 -- more in a row
@@ -28,16 +29,19 @@ grown_twice t a b c = ap (λ x. join x (forget c)) (grown t a b) ∙ grown t (a 
 noded : (k : SyntaxKind) (w : Forest) (t : Forest) (a : Sketch) → wrapped k (tree_count (join t (forget a))) (join (join t (forget a)) w) ≡ join (join t (forget a)) (node k w empty)
 noded k w t a = wrapped-join k (join t (forget a)) w
 
+-- the trivia before the next item go to the innermost frame
 pub flat-eaten : (ms : List Mark) (f : Frame) (fs : List Frame) (ts : List Token) (n : ℕ) (es : List Fault)
     → eaten (flat_with ms (machine (f ∷ fs) ts n es)) ≡ flat_with ms (machine (put f.place (ate true f.row ts) f ∷ fs) (from_item ts) n es)
 unfolding eaten
 flat-eaten ms f fs ts n es = state_is refl (grown (trees_of fs) f.row (trivia_before ts)) refl refl refl refl
 
+-- and so does the next item
 pub flat-bumped : (ms : List Mark) (k : SyntaxKind) (f : Frame) (fs : List Frame) (ts : List Token) (n : ℕ) (es : List Fault)
     → bumped k (flat_with ms (machine (f ∷ fs) ts n es)) ≡ flat_with ms (machine (put f.place (ate true f.row ts ⊕ leaf true k ts) f ∷ fs) (behind true ts) (reach true n ts) es)
 unfolding bumped
 flat-bumped ms k f fs ts n es = state_is refl (grown_twice (trees_of fs) f.row (trivia_before ts) (leaf_in k (from_item ts))) refl refl refl refl
 
+-- an error is the last of all
 pub flat-failed : (ms : List Mark) (e : Fault) (fs : List Frame) (ts : List Token) (n : ℕ) (es : List Fault) → failed e (flat_with ms (machine fs ts n es)) ≡ flat_with ms (machine fs ts n (es ++ e ∷ []))
 unfolding failed
 flat-failed ms e fs ts n es = refl
@@ -57,7 +61,7 @@ unfolding marked started started_at eaten
 flat-opened k inside d f fs ts n es at e =
     let g = grown (trees_of fs) f.row (trivia_before ts) in
     let here : tree_count (join (join (trees_of fs) (forget f.row)) (forget (trivia_before ts))) ≡ tree_count (join (trees_of fs) (forget (f.row ⊕ trivia_before ts))) = ap tree_count g in
-    state_is refl (g ∙ sym (join-empty (join (trees_of fs) (forget (f.row ⊕ trivia_before ts))))) (ap (λ x. (k, x) ∷ nodes_of (f ∷ fs)) here) refl refl
+    state_is refl (g ∙ sym (join_empty (join (trees_of fs) (forget (f.row ⊕ trivia_before ts))))) (ap (λ x. (k, x) ∷ nodes_of (f ∷ fs)) here) refl refl
     (ap (λ x. marks_of (f ∷ fs) ++ mark_at inside d x ∷ []) (e ∙ here))
 
 -- the error node of a second name
@@ -74,7 +78,7 @@ unfolding marked eaten
 flat-operand inside d f fs ts n es at e =
     let g = grown (trees_of fs) f.row (trivia_before ts) in
     let here : tree_count (join (join (trees_of fs) (forget f.row)) (forget (trivia_before ts))) ≡ tree_count (join (trees_of fs) (forget (f.row ⊕ trivia_before ts))) = ap tree_count g in
-    state_is refl (g ∙ sym (join-empty (join (trees_of fs) (forget (f.row ⊕ trivia_before ts))))) refl refl refl
+    state_is refl (g ∙ sym (join_empty (join (trees_of fs) (forget (f.row ⊕ trivia_before ts))))) refl refl refl
     (ap (λ x. marks_of (f ∷ fs) ++ mark_at inside d x ∷ []) (e ∙ here))
 
 -- a node is opened inside the innermost frame
@@ -85,7 +89,7 @@ unfolding started started_at eaten
 flat-started ms k inside d f fs ts n es =
     let g = grown (trees_of fs) f.row (trivia_before ts) in
     let here : tree_count (join (join (trees_of fs) (forget f.row)) (forget (trivia_before ts))) ≡ tree_count (join (trees_of fs) (forget (f.row ⊕ trivia_before ts))) = ap tree_count g in
-    state_is refl (g ∙ sym (join-empty (join (trees_of fs) (forget (f.row ⊕ trivia_before ts))))) (ap (λ x. (k, x) ∷ nodes_of (f ∷ fs)) here) refl refl refl
+    state_is refl (g ∙ sym (join_empty (join (trees_of fs) (forget (f.row ⊕ trivia_before ts))))) (ap (λ x. (k, x) ∷ nodes_of (f ∷ fs)) here) refl refl refl
 
 -- a node over the next item
 pub flat-leaf : (ms : List Mark) (k : SyntaxKind) (c : Sketch) (f : Frame) (fs : List Frame) (ts : List Token) (n : ℕ) (es : List Fault) → forget c ≡ node k (forget (leaf true k ts)) empty
@@ -97,7 +101,7 @@ flat-leaf ms k c f fs ts n es h =
     let again : from_item (from_item ts) ≡ from_item ts = from_item-from_item ts in
     let g = grown t f.row (trivia_before ts) in
     let here : Forest = join (join t (forget f.row)) (forget (trivia_before ts)) in
-    let none : join here (forget (trivia_before (from_item ts))) ≡ here = ap (λ x. join here (forget x)) (trivia-from_item ts) ∙ join-empty here in
+    let none : join here (forget (trivia_before (from_item ts))) ≡ here = ap (λ x. join here (forget x)) (trivia-from_item ts) ∙ join_empty here in
     let inside : join (join here (forget (trivia_before (from_item ts)))) (forget (leaf_in k (from_item (from_item ts)))) ≡ join here (forget (leaf true k ts)) =
     ap (λ x. join x (forget (leaf_in k (from_item (from_item ts))))) none ∙ ap (λ x. join here (forget (leaf_in k x))) again in
     state_is (ap tail_of again)
@@ -126,6 +130,7 @@ flat-closed ms k f g fs ts n es h =
     subst (λ x. ended (flat_with ms (machine (opened x f.place f.depth f.row ∷ (g ∷ fs)) ts n es)) ≡ flat_with ms (closed (opened x f.place f.depth f.row) (g ∷ fs) ts n es)) (sym h)
     (state_is refl (noded k (forget f.row) (trees_of fs) g.row ∙ grown (trees_of fs) g.row (one_branch k f.row)) refl refl refl refl)
 
+-- a second name is complete
 pub flat-twice : (ms : List Mark) (f g : Frame) (fs : List Frame) (ts : List Token) (n : ℕ) (es : List Fault) → f.head ≡ Second
     → ended (flat_with ms (machine (f ∷ (g ∷ fs)) ts n es)) ≡ flat_with ms (closed f (g ∷ fs) ts n es)
 unfolding ended
@@ -133,6 +138,7 @@ flat-twice ms f g fs ts n es h =
     subst (λ x. ended (flat_with ms (machine (opened x f.place f.depth f.row ∷ (g ∷ fs)) ts n es)) ≡ flat_with ms (closed (opened x f.place f.depth f.row) (g ∷ fs) ts n es)) (sym h)
     (state_is refl (noded NODE_ERROR (forget f.row) (trees_of fs) g.row ∙ grown (trees_of fs) g.row (one_fault Twice f.row)) refl refl refl refl)
 
+-- an operand is complete
 pub flat-settled : (f g : Frame) (fs : List Frame) (ts : List Token) (n : ℕ) (es : List Fault) → f.head ≡ Operand
     → popped (machine (f ∷ (g ∷ fs)) ts n es) ≡ flat (closed f (g ∷ fs) ts n es)
 flat-settled f g fs ts n es h =
@@ -145,7 +151,7 @@ pub flat-wrapped : (k : SyntaxKind) (inside over : Place) (f : Frame) (fs : List
     ≡ flat (machine (opened (Node k) inside f.depth f.row ∷ (opened Operand over f.depth blank ∷ fs)) ts n es)
 unfolding marked started_at
 flat-wrapped k inside over f fs ts n es h =
-    let none : join (trees_of fs) empty ≡ trees_of fs = join-empty (trees_of fs) in
+    let none : join (trees_of fs) empty ≡ trees_of fs = join_empty (trees_of fs) in
     let mark : List Mark = marks_of fs ++ mark_at over f.depth (tree_count (trees_of fs)) ∷ [] in
     state_is refl (ap (λ x. join x (forget f.row)) (sym none))
     (ap (λ x. (k, tree_count (trees_of fs)) ∷ opened_on x (tree_count (trees_of fs)) (nodes_of fs)) h
@@ -158,7 +164,7 @@ pub flat-started_at : (ms : List Mark) (k : SyntaxKind) (inside over : Place) (f
     ≡ flat_with ms (machine (opened (Node k) inside f.depth f.row ∷ (opened Operand over f.depth blank ∷ fs)) ts n es)
 unfolding started_at
 flat-started_at ms k inside over f fs ts n es h =
-    let none : join (trees_of fs) empty ≡ trees_of fs = join-empty (trees_of fs) in
+    let none : join (trees_of fs) empty ≡ trees_of fs = join_empty (trees_of fs) in
     state_is refl (ap (λ x. join x (forget f.row)) (sym none))
     (ap (λ x. (k, tree_count (trees_of fs)) ∷ opened_on x (tree_count (trees_of fs)) (nodes_of fs)) h
     ∙ ap (λ x. (k, tree_count x) ∷ nodes_of fs) (sym none)) refl refl refl

@@ -11,6 +11,7 @@ use Rattle.rnix_grammar.specs.Begins.{is_pattern, begin_name, begin_let, begin_o
 use Rattle.rnix_grammar.specs.Sketch.{Token, Stray, TooDeep, Sketch, blank, ◌⊕◌, one_branch, one_fault, head_kind, end_from}
 use Rattle.rnix_grammar.specs.Layout.{items, from_item}
 use Rattle.rnix_grammar.specs.Machine.{Head, Node, Second, Operand, Frame, Machine, put, opened, ate, leaf, behind, reach, run_row, run_rest, made, machine, closed, limited, second_kind, begun, operand_on, reading}
+use Rattle.rnix_grammar.proofs.Basics.{choice}
 use Rattle.rnix_parser.specs.declared.names.Names.{Names}
 use Rattle.rnix_parser.specs.Placed.{AreInOrder}
 use Rattle.rnix_parser.specs.Sorts.{Sort, Root, Pattern, Entry, Again, Loose, Name, Plain, sort_of, sort_of_head, sort_of_node, may_hold}
@@ -32,6 +33,7 @@ pub record Goes (m : Machine) (names : Names) : Type 0 where
   pub well : IsWell top under m.left m.reached
   pub named : AreNamed names top under
 
+-- a machine goes on whose frames are kept
 pub goes : (f : Frame) (fs : List Frame) (ts : List Token) (n : ℕ) (es : List Fault) (names : Names) → Kept f fs names → EndsAt n f.head f.row → BeginsAt names.second f.head f.row
     → AreInOrder n ts → Goes (machine (f ∷ fs) ts n es) names
 goes f fs ts n es names w e i o = record {
@@ -53,6 +55,7 @@ open_begins n (Node k) row e = tt
 open_begins n Second row e = absurd (true_is_not_false (sym e))
 open_begins n Operand row e = tt
 
+-- and so where no second name is innermost
 pub goes_open : (f : Frame) (fs : List Frame) (ts : List Token) (n : ℕ) (es : List Fault) (names : Names) → is_open (sort_of f.place) ≡ true → Kept f fs names → AreInOrder n ts
     → Goes (machine (f ∷ fs) ts n es) names
 goes_open f fs ts n es names e w o =
@@ -74,6 +77,7 @@ open_holds Loose e = refl
 open_holds Name e = refl
 open_holds Plain e = refl
 
+-- a frame without names is complete
 pub closed_goes : (f g : Frame) (fs : List Frame) (ts : List Token) (n : ℕ) (es : List Fault) (names : Names) → is_bare (sort_of f.place) ≡ true → Kept f (g ∷ fs) names → AreInOrder n ts
     → Goes (closed f (g ∷ fs) ts n es) names
 closed_goes f g fs ts n es names b w o =
@@ -83,10 +87,6 @@ closed_goes f g fs ts n es names b w o =
 abbrev BeginFits : Begin → Type 0
 BeginFits (b.Node k place high) = (sort_of_node k ≡ Plain) × (sort_of place ≡ Plain)
 BeginFits begin = Unit {0}
-
-choice : (P : Begin → Type 0) (x : Bool) {k m : Begin} → P k → P m → P (if x then k else m)
-choice P true h j = h
-choice P false h j = j
 
 name_fits : (text : List ℕ) (second : Option SyntaxKind) → BeginFits (begin_name text second)
 name_fits text None = choice BeginFits (is_cur_pos text) tt tt
@@ -117,6 +117,7 @@ begin_fits level TOKEN_ASSERT text second third = choice BeginFits (nat_eq level
 begin_fits level TOKEN_IF text second third = choice BeginFits (nat_eq level 0) (refl, refl) tt
 begin_fits level kind text second third = tt
 
+-- equal names serve as well
 pub same_names : (m : Machine) (names names' : Names) → names' ≡ names → Goes m names → Goes m names'
 same_names m names names' e w = subst (Goes m) (sym e) w
 
@@ -200,6 +201,7 @@ limited_goes f fs ts n es names w m o =
     (grow_trivia g fs names f.place left refl (grow_behind f fs names f.place ts fault refl (λ q. no_entry_fault TooDeep (run_row true (items ts) ts)) w))
     (order_from (end_from n (items ts)) left all.0)
 
+-- an operand of a level is read
 pub reading_goes : (level : ℕ) (counted : Bool) (f : Frame) (fs : List Frame) (ts : List Token) (n : ℕ) (es : List Fault) (names names' : Names)
     → Kept f fs names → may_hold (sort_of f.place) Loose ≡ true → AreInOrder n ts
     → NamesFor (if counted && nat_le depth_limit f.depth then false else opens_on level (items ts)) names names'

@@ -69,10 +69,12 @@ moved_on f fs names after e w =
       ranges = w.ranges;
     }
 
+-- a row grows by trivia
 pub grow_trivia : (f : Frame) (fs : List Frame) (names : Names) (after : Place) (ts : List Token) → sort_of after ≡ sort_of f.place → Kept f fs names
     → Kept (put after (ate true f.row ts) f) fs names
 grow_trivia f fs names after ts e w = grow f fs names after (trivia_before ts) e (λ q. no_entry_trivia ts) w
 
+-- and by more behind them
 pub grow_behind : (f : Frame) (fs : List Frame) (names : Names) (after : Place) (ts : List Token) (g : Sketch) → sort_of after ≡ sort_of f.place
     → (is_pattern_sort (sort_of_head f.head) ≡ true → HasNoEntry g) → Kept f fs names → Kept (put after (ate true f.row ts ⊕ g) f) fs names
 grow_behind f fs names after ts g e q w =
@@ -116,19 +118,23 @@ push f fs names h place d row s b m i w = record {
   ranges = w.ranges ∙ sym (append-nil (ranges_of (f ∷ fs))) ∙ ap (λ x. ranges_of (f ∷ fs) ++ range_of x) (sym (bare_name h row b));
 }
 
+-- a node is opened above a frame
 pub push_node : (f : Frame) (fs : List Frame) (names : Names) (k : SyntaxKind) (place : Place) (d : ℕ) (row : Sketch) → sort_of_node k ≡ Plain → sort_of place ≡ Plain
     → may_hold (sort_of f.place) Plain ≡ true → Kept f fs names → Kept (opened (Node k) place d row) (f ∷ fs) names
 push_node f fs names k place d row s e m w =
     push f fs names (Node k) place d row (s ∙ sym e) (ap is_bare s) (ap (may_hold (sort_of f.place)) e ∙ m) (node_begun k row (ap is_bare s)) w
 
+-- an operand is opened
 pub push_operand : (f : Frame) (fs : List Frame) (names : Names) (low high d : ℕ) (row : Sketch) → may_hold (sort_of f.place) Loose ≡ true → Kept f fs names
     → Kept (opened Operand (p.Behind low high) d row) (f ∷ fs) names
 push_operand f fs names low high d row m w = push f fs names Operand (p.Behind low high) d row refl refl m tt w
 
+-- a second name is opened
 pub push_second : (f : Frame) (fs : List Frame) (names : Names) (d : ℕ) (row : Sketch) → may_hold (sort_of f.place) Again ≡ true → IsBegun Second row → Kept f fs names
     → Kept (opened Second p.TwiceName d row) (f ∷ fs) names
 push_second f fs names d row m i w = push f fs names Second p.TwiceName d row refl refl m i w
 
+-- a pattern is opened, with a new set
 pub push_pattern : (f : Frame) (fs : List Frame) (names names' : Names) (place : Place) (d : ℕ) (row : Sketch) → sort_of place ≡ Pattern → may_hold (sort_of f.place) Pattern ≡ true
     → HasNoEntry row → PatternOpened names names' → Kept f fs names → Kept (opened (Node NODE_PATTERN) place d row) (f ∷ fs) names'
 push_pattern f fs names names' place d row e m none o w = record {
@@ -138,6 +144,7 @@ push_pattern f fs names names' place d row e m none o w = record {
   ranges = o.ranges ∙ w.ranges ∙ sym (append-nil (ranges_of (f ∷ fs)));
 }
 
+-- an entry is opened, with its name
 pub push_entry : (f : Frame) (fs : List Frame) (names names' : Names) (d : ℕ) (row : Sketch) (t : Token) → may_hold (sort_of f.place) Entry ≡ true
     → entry_name (clean row) ≡ Some t → EntryOpened t.text record { start = t.start; end = t.end } names names' → Kept f fs names
     → Kept (opened (Node NODE_PAT_ENTRY) p.EntryMore d row) (f ∷ fs) names'
@@ -187,6 +194,7 @@ pop f g fs names b w =
     grow g fs names g.place (made f.head f.row) refl
     (λ q. made_quiet f.head f.row (sort_of g.place) bare (ap (may_hold (sort_of g.place)) sort ∙ w.fit.1) (ap is_pattern_sort (sym below) ∙ q)) kept
 
+-- a pattern is complete, and its set is dropped
 pub pop_pattern : (f g : Frame) (fs : List Frame) (names names' : Names) → f.head ≡ Node NODE_PATTERN → PatternClosed names names' → Kept f (g ∷ fs) names
     → Kept (put g.place (g.row ⊕ made f.head f.row) g) fs names'
 pop_pattern f g fs names names' e c w =
@@ -200,6 +208,7 @@ pop_pattern f g fs names names' e c w =
     } in
     grow g fs names' g.place (made f.head f.row) refl (λ q. subst (λ h. HasNoEntry (made h f.row)) (sym e) (λ name. refl)) kept
 
+-- an entry is complete, and its name is in the set
 pub pop_entry : (f g : Frame) (fs : List Frame) (names names' : Names) (again : Option Fault) → f.head ≡ Node NODE_PAT_ENTRY → g.head ≡ Node NODE_PATTERN → EntryClosed again names names'
     → Kept f (g ∷ fs) names → Kept (put g.place (g.row ⊕ made f.head f.row) g) fs names'
 pop_entry f g fs names names' again entry pattern c w =

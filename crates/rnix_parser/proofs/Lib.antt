@@ -1,5 +1,3 @@
-pub mod SketchLemmas
-pub mod LayoutLemmas
 pub mod CursorLemmas
 pub mod StateLemmas
 pub mod RunLemmas

@@ -7,6 +7,7 @@ use Rattle.rnix_grammar.specs.declared.action.Action.TheVariants as a
 use Rattle.rnix_grammar.specs.Sketch.{Token, blank, head_kind}
 use Rattle.rnix_grammar.specs.Layout.{items}
 use Rattle.rnix_grammar.specs.Machine.{Node, Frame, Machine, opened, machine, begins, perform, step, Runs, rest, then}
+use Rattle.rnix_grammar.proofs.Basics.{not_nil}
 use Rattle.rnix_parser.specs.declared.mark.Mark.{Mark}
 use Rattle.rnix_parser.specs.declared.names.Names.{Names}
 use Rattle.rnix_parser.specs.Placed.{AreInOrder}
@@ -38,14 +39,12 @@ starts s names e o k t r = record {
   named = record { sets = k; texts = t; ranges = r; second = tt };
 }
 
--- the last of a list
-some_is_not_none : {A : Type 0} {x : A} {xs : List A} → x ∷ xs ≡ [] → ⊥
-some_is_not_none e = cc
-
+-- a list with a last element is not empty
 longer : {A : Type 0} (xs : List A) (y : A) → xs ++ y ∷ [] ≡ [] → ⊥
-longer [] y e = some_is_not_none e
-longer (x ∷ xs) y e = some_is_not_none e
+longer [] y e = not_nil e
+longer (x ∷ xs) y e = not_nil e
 
+-- equal lists have the same last element
 pub last_same : {A : Type 0} (xs ys : List A) (x y : A) → xs ++ x ∷ [] ≡ ys ++ y ∷ [] → (xs ≡ ys) × (x ≡ y)
 last_same [] [] x y e = (refl, cc)
 last_same [] (b ∷ ys) x y e = absurd (longer ys y (cc))
@@ -60,6 +59,7 @@ last_same (a ∷ xs) (b ∷ ys) x y e =
 abbrev pub with_marks : List Mark → State → State
 with_marks ms s = record { rest = s.rest; trees = s.trees; open_nodes = s.open_nodes; faults = s.faults; reached = s.reached; marks = ms }
 
+-- the innermost mark is taken
 pub takes : (m : Machine) (s s' : State) (names : Names) (mark : Mark) → Holds m s names → s.marks ≡ s'.marks ++ mark ∷ [] → s' ≡ with_marks s'.marks s → IsHolding m mark s' names
 takes m s s' names mark h e k =
     let whole : m ≡ machine (h.top ∷ h.under) m.left m.reached m.faults = ap (λ x. machine x m.left m.reached m.faults) h.frames in
@@ -112,6 +112,7 @@ less m mark s s' s'' names action h e k a g f =
         let before : work s ≡ cost_of (machine (x ∷ xs) ts n m.faults) = ap work (h.state ∙ ap flat w.machine_is) ∙ work_is (machine (x ∷ xs) ts n m.faults) in
         omega (arith, after, before, perform_less action x xs ts n m.faults w.well.fit al g)
 
+-- another action does not end the text
 pub not_finish : (action : Action) → (action ≡ a.Finish → ⊥) → is_finish action ≡ false
 not_finish a.Finish h = absurd (h refl)
 not_finish action h = refl

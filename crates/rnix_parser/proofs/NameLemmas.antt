@@ -29,6 +29,7 @@ by_name f g bs here other cs = by (bytes_eq bs cs) (bytes_eq-Decides bs cs).0 (o
     by true y n = subst (λ l. g l ≡ true) (y refl) here
     by false y n = n refl
 
+-- a set has one more name
 pub names_updated : (bs : List ℕ) (s n : BTreeSet (Bor (List ℕ))) → sorted.UpdatesBy (λ x y. slice_cmp nat_cmp x.now y.now) (λ k. slice_cmp nat_cmp bs k.now) s n true
     → (cs : List ℕ) → sorted.contains_by (λ k. slice_cmp nat_cmp cs k.now) n ≡ cond (bytes_eq bs cs) true (sorted.contains_by (λ k. slice_cmp nat_cmp cs k.now) s)
 names_updated bs s n h =

@@ -6,10 +6,11 @@ use Rattle.rnix_grammar.specs.Sketch.{Token, row_of, end_from}
 use Rattle.rnix_grammar.specs.Layout.{items, from_item, from_item_if, tail_of, left_after}
 use Rattle.rnix_grammar.specs.Machine.{behind, reach, end_of, run_of, run_rest, dropped}
 use Rattle.rnix_grammar.proofs.CleanLemmas.{run_prefix, all_prefix}
+use Rattle.rnix_grammar.proofs.LayoutLemmas.{IsFirst, first_item, items-from_item}
 use Rattle.rnix_parser.specs.Placed.{AreInOrder}
 use Rattle.rnix_parser.proofs.CursorLemmas.{in_order_from}
-use Rattle.rnix_parser.proofs.LayoutLemmas.{IsFirst, first_item, items-from_item}
 
+-- from the first item on tokens are in order
 pub order_from : (n : ℕ) (ts : List Token) → AreInOrder n ts → AreInOrder n (from_item ts)
 order_from n [] o = tt
 order_from n (t ∷ ts) o =
@@ -28,6 +29,7 @@ end_least n (t ∷ ts) o = omega (arith, o.0, o.1)
 pub order_behind : (n : ℕ) (ts : List Token) → AreInOrder n ts → AreInOrder (reach true n ts) (behind true ts)
 order_behind n ts o = order_tail n (from_item ts) (order_from n ts o)
 
+-- the next item ends no earlier than the last
 pub reach_least : (n : ℕ) (ts : List Token) → AreInOrder n ts → n ≤ reach true n ts
 reach_least n ts o = end_least n (from_item ts) (order_from n ts o)
 
@@ -44,6 +46,7 @@ passed n (t ∷ run) us ts e o =
     let ih = passed t.end run us (tail_of (from_item ts)) first.left (subst (λ x. AreInOrder x (behind true ts)) ends (order_behind n ts o)) in
     record { order = ih.order; least = omega (arith, ih.least, reach_least n ts o, ends) }
 
+-- behind a run tokens are in order
 pub order_run : (until : Until) (n : ℕ) (ts : List Token) → AreInOrder n ts
     → AreInOrder (end_from n (run_of until (items ts))) (run_rest true (run_of until (items ts)) ts) × (n ≤ end_from n (run_of until (items ts)))
 order_run until n ts o =
@@ -51,6 +54,7 @@ order_run until n ts o =
     let w = passed n run (dropped run (items ts)) (from_item ts) (items-from_item ts ∙ run_prefix until (items ts)) (order_from n ts o) in
     (w.order, w.least)
 
+-- and behind all of them
 pub order_all : (n : ℕ) (ts : List Token) → AreInOrder n ts
     → AreInOrder (end_from n (items ts)) (run_rest true (items ts) ts) × (n ≤ end_from n (items ts))
 order_all n ts o =

@@ -10,6 +10,7 @@ use Rattle.rnix_grammar.specs.declared.place.Place.TheVariants as p
 use Rattle.rnix_grammar.specs.Fault.{Fault, fault_of}
 use Rattle.rnix_grammar.specs.Parsed.{IsParsed}
 use Rattle.rnix_grammar.proofs.ParsedLemmas.{parsed}
+use Rattle.rnix_grammar.proofs.SpelledLemmas.{AreRuled}
 use Rattle.rnix_grammar.specs.Sketch.{Token, placed_from, forget}
 use Rattle.rnix_grammar.specs.Machine.{begins, ate, Runs}
 use Rattle.rnix_parser.specs.declared.mark.Mark.{Mark}
@@ -38,6 +39,7 @@ tree_is_node t f e =
     let trees : t.children ≡ f = cc in
     ap (λ x. let y : Tree = record { kind = x; children = t.children } in y) kinds ∙ ap (λ x. let y : Tree = record { kind = NODE_ROOT; children = x } in y) trees
 
+-- the tree of a whole text that is read is as promised
 pub read_made : (ls : List Lexeme) (ts : List Token) (s : State) (tree : Tree) → ts ≡ placed_from 0 ls → IsReadTo ts s → forest_of tree ≡ s.trees → IsRead ls tree s.faults
 read_made ls ts s tree e r t = record {
   root = r.root;
@@ -52,12 +54,13 @@ read_made ls ts s tree e r t = record {
 }
 
 -- all that holds of it
-pub read_parsed : (ls : List Lexeme) (tree : Tree) (faults : List Fault) → IsRead ls tree faults → IsParsed ls tree faults
-read_parsed ls tree faults r =
+pub read_parsed : (ls : List Lexeme) (tree : Tree) (faults : List Fault) → IsRead ls tree faults → AreRuled ls → IsParsed ls tree faults
+read_parsed ls tree faults r ruled =
     subst (λ (t : Tree). IsParsed ls t faults) (sym r.tree_is)
     (subst (λ (es : List Fault). IsParsed ls (record { kind = NODE_ROOT; children = forget (ate true r.root.row r.last.left) }) es) (sym r.faults_are)
-    (parsed ls r.root r.last r.runs r.alone r.place r.nothing))
+    (parsed ls r.root r.last r.runs r.alone r.place r.nothing ruled))
 
+-- one more mark leaves the tokens
 pub rest_marked : (m : Mark) (s s' : State) → s' ≡ marked m s → s'.rest ≡ s.rest
 unfolding marked
 rest_marked m s s' e = ap (λ x. x.rest) e

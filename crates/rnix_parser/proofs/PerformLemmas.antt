@@ -13,6 +13,7 @@ use Rattle.rnix_grammar.specs.Reports.{only_token}
 use Rattle.rnix_grammar.specs.Machine.{Head, Node, Second, Operand, Frame, put, opened, ate, leaf, leaf_in, kind_of, low_of, behind, reach, end_of, run_of, run_row, run_rest, dropped, made, machine, closed, perform}
 use Rattle.rnix_grammar.proofs.SketchLemmas.{tokens_in-row_of}
 use Rattle.rnix_grammar.proofs.CleanLemmas.{leaf_clean, reach_items, run_prefix, run_bared}
+use Rattle.rnix_grammar.proofs.LayoutLemmas.{first_item, clean-trivia}
 use Rattle.rnix_parser.specs.declared.names.Names.{Names}
 use Rattle.rnix_parser.specs.Names.{PatternClosed, EntryClosed, EntryOpened}
 use Rattle.rnix_parser.specs.Placed.{AreInOrder}
@@ -20,7 +21,6 @@ use Rattle.rnix_parser.specs.Flat.{mark_of, popped}
 use Rattle.rnix_parser.specs.Sorts.{Pattern, Entry, Again, Loose, sort_of, may_hold}
 use Rattle.rnix_parser.specs.Allowed.{Allowed, IsNext, is_there, is_open}
 use Rattle.rnix_parser.specs.Holds.{IsBegun, BeginsAt, EndsAt, NamesAfter, TwiceOpened, is_finish}
-use Rattle.rnix_parser.proofs.LayoutLemmas.{first_item, clean-trivia}
 use Rattle.rnix_parser.proofs.StepLemmas.{head_loose, is_root}
 use Rattle.rnix_parser.proofs.EntryLemmas.{fit_first, head_entry, head_pattern, holds_entry}
 use Rattle.rnix_parser.proofs.OrderLemmas.{order_from, order_behind, reach_least, order_run, order_all}
@@ -121,6 +121,7 @@ twice_goes after f fs ts (t ∷ us) n es names names' w o e h same sort does =
     (end ∙ sym (ap (λ x. (extent_of x).end) tokens), omega (arith, ordered.1, end, ap (λ x. (extent_of x).start) tokens))
     (new.second ∙ sym (ap (λ x. (extent_of x).start) tokens)) (order_behind n ts o)
 
+-- each action leaves a machine that goes on
 pub perform_goes : (action : Action) (f : Frame) (fs : List Frame) (ts : List Token) (n : ℕ) (es : List Fault) (names names' : Names) → Kept f fs names → EndsAt n f.head f.row
     → BeginsAt names.second f.head f.row → AreInOrder n ts → Allowed f.place (head_kind (items ts)) action → is_finish action ≡ false
     → NamesAfter action (mark_of f fs) (popped (machine (f ∷ fs) ts n es)) names names' → Goes (perform true action f fs ts n es) names'

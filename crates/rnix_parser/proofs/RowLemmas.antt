@@ -10,7 +10,8 @@ use Rattle.rnix_grammar.specs.Reports.{entry_name, is_same_name, has_entry}
 use Rattle.rnix_grammar.specs.Machine.{Head, Node, Second, Operand, leaf, leaf_in}
 use Rattle.rnix_grammar.proofs.SketchLemmas.{tokens_in-⊕}
 use Rattle.rnix_grammar.proofs.CleanLemmas.{leaf_clean}
-use Rattle.rnix_parser.proofs.LayoutLemmas.{clean-⊕, clean-trivia}
+use Rattle.rnix_grammar.proofs.LayoutLemmas.{clean-⊕, clean-trivia}
+use Rattle.rnix_grammar.proofs.PlainOpens.{end_behind}
 use Rattle.rnix_parser.specs.declared.names.NameSet.{NameSet}
 use Rattle.rnix_parser.specs.Names.{has_name}
 use Rattle.rnix_parser.specs.Sorts.{Sort, Pattern, Entry, sort_of_head}
@@ -37,12 +38,15 @@ has_entry-⊕ name (fault n c f) g h = has_entry-⊕ name f g h
 pub no_entry_behind : (ts : List Token) (g : Sketch) → HasNoEntry g → HasNoEntry (trivia_before ts ⊕ g)
 no_entry_behind ts g h name = ap (has_entry name) (clean-⊕ (trivia_before ts) g ∙ ap (λ x. x ⊕ clean g) (clean-trivia ts)) ∙ h name
 
+-- trivia hold no entry
 pub no_entry_trivia : (ts : List Token) → HasNoEntry (trivia_before ts)
 no_entry_trivia ts name = ap (has_entry name) (clean-trivia ts)
 
+-- nor does an error node
 pub no_entry_fault : (n : Note) (c : Sketch) → HasNoEntry (one_fault n c)
 no_entry_fault n c name = refl
 
+-- nor does a leaf
 pub no_entry_leaf : (k : SyntaxKind) (ts : List Token) → HasNoEntry (leaf true k ts)
 no_entry_leaf k ts name = ap (has_entry name) (leaf_clean k ts) ∙ by (items ts)
   where
@@ -62,6 +66,7 @@ one_more true false c = refl
 one_more false true c = refl
 one_more false false c = refl
 
+-- one more entry adds its name
 pub has_entry-more : (name : List ℕ) (f c : Sketch) → has_entry name (f ⊕ one_branch NODE_PAT_ENTRY c) ≡ (if is_same_name name (entry_name c) then true else has_entry name f)
 has_entry-more name blank c = refl
 has_entry-more name (token k t f) c = has_entry-more name f c
@@ -71,6 +76,7 @@ has_entry-more name (branch NODE_PAT_ENTRY d f) c =
 has_entry-more name (branch k d f) c = has_entry-more name f c
 has_entry-more name (fault n d f) c = has_entry-more name f c
 
+-- texts are compared either way
 pub same_text : (xs ys : List ℕ) → bytes_eq xs ys ≡ bytes_eq ys xs
 same_text xs ys = nat_list_eq_equiv.symm xs ys
 
@@ -85,22 +91,26 @@ entry_name-⊕ (fault n c f) g t e = absurd (none_is_not_some e)
 tokens_more : (f g : Sketch) → tokens_in (clean (f ⊕ g)) ≡ tokens_in (clean f) ++ tokens_in (clean g)
 tokens_more f g = ap tokens_in (clean-⊕ f g) ∙ tokens_in-⊕ (clean f) (clean g)
 
+-- a row that is begun stays so
 pub begun_more : (h : Head) (f g : Sketch) → IsBegun h f → IsBegun h (f ⊕ g)
 begun_more (Node NODE_PAT_ENTRY) f g w = (w.0, ap entry_name (clean-⊕ f g) ∙ entry_name-⊕ (clean f) (clean g) w.0 w.1)
 begun_more (Node k) f g w = tt
 begun_more Second f g w = (w.0, w.1 ++ tokens_in (clean g), tokens_more f g ∙ ap (λ x. x ++ tokens_in (clean g)) w.2)
 begun_more Operand f g w = tt
 
+-- the name of an entry stays
 pub name_more : (h : Head) (f g : Sketch) → IsBegun h f → name_of h (f ⊕ g) ≡ name_of h f
 name_more (Node NODE_PAT_ENTRY) f g w = ap entry_name (clean-⊕ f g) ∙ entry_name-⊕ (clean f) (clean g) w.0 w.1 ∙ sym w.1
 name_more (Node k) f g w = refl
 name_more Second f g w = refl
 name_more Operand f g w = refl
 
+-- a place of a pattern
 abbrev pub is_pattern_sort : Sort → Bool
 is_pattern_sort Pattern = true
 is_pattern_sort s = false
 
+-- a row without more entries has the same names
 pub known_more : (h : Head) (f g : Sketch) (sets : List NameSet) (More : List NameSet → Type 0) → (is_pattern_sort (sort_of_head h) ≡ true → HasNoEntry g)
     → KnownOn h f sets More → KnownOn h (f ⊕ g) sets More
 known_more (Node NODE_PATTERN) f g sets More q w = record {
@@ -133,17 +143,14 @@ known_entry (Node k) f c t below s sets More q e a m is = absurd (true_is_not_fa
 known_entry Second f c t below s sets More q e a m is = absurd (true_is_not_false (sym q))
 known_entry Operand f c t below s sets More q e a m is = absurd (true_is_not_false (sym q))
 
--- a second name stays where it begins, and ends where the items behind it end
-end_from-++ : (n : ℕ) (xs ys : List Token) → end_from n (xs ++ ys) ≡ end_from (end_from n xs) ys
-end_from-++ n [] ys = refl
-end_from-++ n (x ∷ xs) ys = end_from-++ x.end xs ys
-
+-- a second name stays where it begins
 pub begins_more : (n : ℕ) (h : Head) (f g : Sketch) → IsBegun h f → BeginsAt n h f → BeginsAt n h (f ⊕ g)
 begins_more n (Node k) f g w e = tt
 begins_more n Second f g w e =
     e ∙ ap (λ x. (extent_of x).start) w.2 ∙ sym (ap (λ x. (extent_of x).start) (tokens_more f g ∙ ap (λ x. x ++ tokens_in (clean g)) w.2))
 begins_more n Operand f g w e = tt
 
+-- and ends where the items behind it end
 pub ends_more : (n m : ℕ) (h : Head) (f g : Sketch) (us : List Token) → IsBegun h f → EndsAt n h f → tokens_in (clean g) ≡ us → m ≡ end_from n us → n ≤ m → EndsAt m h (f ⊕ g)
 ends_more n m (Node k) f g us w e i r l = tt
 ends_more n m Second f g us w e i r l =
@@ -151,6 +158,6 @@ ends_more n m Second f g us w e i r l =
     let new : tokens_in (clean (f ⊕ g)) ≡ w.0 ∷ (w.1 ++ us) = tokens_more f g ∙ ap (λ x. x ++ tokens_in (clean g)) old ∙ ap (λ x. w.0 ∷ (w.1 ++ x)) i in
     let last : n ≡ end_from w.0.end w.1 = e.0 ∙ ap (λ x. (extent_of x).end) old in
     let end : m ≡ (extent_of (tokens_in (clean (f ⊕ g)))).end =
-    r ∙ ap (λ x. end_from x us) last ∙ sym (end_from-++ w.0.end w.1 us) ∙ sym (ap (λ x. (extent_of x).end) new) in
+    r ∙ ap (λ x. end_from x us) last ∙ sym (end_behind w.0.end w.1 us) ∙ sym (ap (λ x. (extent_of x).end) new) in
     (end, omega (arith, e.1, ap (λ x. (extent_of x).start) old, ap (λ x. (extent_of x).start) new, l))
 ends_more n m Operand f g us w e i r l = tt

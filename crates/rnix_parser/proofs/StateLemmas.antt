@@ -5,17 +5,19 @@ use Rattle.rnix_kinds.specs.declared.kinds.SyntaxKind.{SyntaxKind}
 use Rattle.rnix_kinds.specs.SyntaxKind.{is_trivia}
 use Rattle.rnix_tree.specs.Forest.{Forest, empty, leaf, join}
 use Rattle.rnix_tree.specs.Draft.{OpenNode}
-use Rattle.rnix_tree.proofs.ForestLemmas.{join-empty, join_assoc}
+use Rattle.rnix_tree.specs.ForestCode.{join_empty}
+use Rattle.rnix_tree.proofs.ForestLemmas.{join_assoc}
 use Rattle.rnix_grammar.specs.Fault.{Fault}
 use Rattle.rnix_grammar.specs.Sketch.{Token, forget, head_of, head_kind, kind_in, told}
 use Rattle.rnix_grammar.specs.Layout.{items, from_item, from_item_if, trivia_before, trivia_if, tail_of}
 use Rattle.rnix_grammar.specs.Machine.{leaf_in, end_of}
-use Rattle.rnix_parser.proofs.LayoutLemmas.{items_head, items-view, items-from_item}
+use Rattle.rnix_grammar.proofs.LayoutLemmas.{items_head, items-view, items-from_item}
 use Rattle.rnix_parser.specs.declared.cursor.PlacedToken.{PlacedToken}
 use Rattle.rnix_parser.specs.declared.mark.Mark.{Mark}
 use Rattle.rnix_parser.specs.Placed.{token_of}
 use Rattle.rnix_parser.specs.State.{State, eaten, bumped}
 
+-- states with the same parts are one
 pub state_is : {r r' : List Token} {x x' : Forest} {o o' : List OpenNode} {e e' : List Fault} {n n' : ℕ} {m m' : List Mark} → r ≡ r' → x ≡ x' → o ≡ o' → e ≡ e' → n ≡ n' → m ≡ m'
     → (let y : State = record { rest = r; trees = x; open_nodes = o; faults = e; reached = n; marks = m } in y)
     ≡ (let z : State = record { rest = r'; trees = x'; open_nodes = o'; faults = e'; reached = n'; marks = m' } in z)
@@ -32,6 +34,7 @@ first_there (u ∷ us) r t e h =
     let one : u ≡ token_of t = cc in
     ap (λ x. x ∷ us) one
 
+-- where no token comes next none is left
 pub none_there : (ts : List Token) (r : Option PlacedToken) → option_map token_of r ≡ head_of ts → r ≡ None → ts ≡ []
 none_there [] r e h = refl
 none_there (u ∷ us) r e h = absurd (none_is_not_some (sym (ap (option_map token_of) h) ∙ e))
@@ -52,11 +55,12 @@ pub eaten-item : (s : State) (t : Token) (more : List Token) → s.rest ≡ t �
 unfolding eaten
 eaten-item s t more e h =
     state_is (ap from_item e ∙ ap (λ b. from_item_if b t more (from_item more)) h ∙ sym e)
-    (ap (λ x. join s.trees (forget x)) (ap trivia_before e ∙ ap (λ b. trivia_if b t (trivia_before more)) h) ∙ join-empty s.trees) refl refl refl refl
+    (ap (λ x. join s.trees (forget x)) (ap trivia_before e ∙ ap (λ b. trivia_if b t (trivia_before more)) h) ∙ join_empty s.trees) refl refl refl refl
 
+-- where no token is left no trivia are
 pub eaten-end : (s : State) → s.rest ≡ [] → eaten s ≡ s
 unfolding eaten
-eaten-end s e = state_is (ap from_item e ∙ sym e) (ap (λ x. join s.trees (forget (trivia_before x))) e ∙ join-empty s.trees) refl refl refl refl
+eaten-end s e = state_is (ap from_item e ∙ sym e) (ap (λ x. join s.trees (forget (trivia_before x))) e ∙ join_empty s.trees) refl refl refl refl
 
 -- one trivia token is eaten
 pub eaten-trivia : (s s' : State) (t : Token) (more : List Token) → s.rest ≡ t ∷ more → is_trivia t.kind ≡ true → s'.rest ≡ more → s'.trees ≡ join s.trees (leaf t.kind t.text empty)
@@ -84,12 +88,13 @@ bumped-item k s s1 s' t e here r x o f n m =
     (x ∙ ap (λ y. join y.trees (leaf (told k t) t.text empty)) e ∙ ap (λ y. join (join s.trees (forget (trivia_before s.rest))) (forget (leaf_in k y))) (sym here ∙ rest))
     (o ∙ ap (λ y. y.open_nodes) e) (f ∙ ap (λ y. y.faults) e) (n ∙ ap (end_of s.reached) (sym here ∙ rest)) (m ∙ ap (λ y. y.marks) e)
 
+-- nor is an item
 pub bumped-end : (k : SyntaxKind) (s s1 : State) → s1 ≡ eaten s → s1.rest ≡ [] → s1 ≡ bumped k s
 unfolding bumped eaten
 bumped-end k s s1 e none =
     let rest : from_item s.rest ≡ [] = sym (ap (λ y. y.rest) e) ∙ none in
     state_is (none ∙ ap tail_of (sym rest))
-    (ap (λ y. y.trees) e ∙ sym (join-empty (join s.trees (forget (trivia_before s.rest))))
+    (ap (λ y. y.trees) e ∙ sym (join_empty (join s.trees (forget (trivia_before s.rest))))
     ∙ ap (λ y. join (join s.trees (forget (trivia_before s.rest))) (forget (leaf_in k y))) (sym rest))
     (ap (λ y. y.open_nodes) e) (ap (λ y. y.faults) e) (ap (λ y. y.reached) e ∙ ap (end_of s.reached) (sym rest)) (ap (λ y. y.marks) e)
 
@@ -97,5 +102,6 @@ bumped-end k s s1 e none =
 pub kind_there : (ts : List Token) (r : Option PlacedToken) (t : PlacedToken) → option_map token_of r ≡ head_of ts → r ≡ Some t → Some t.kind ≡ head_kind ts
 kind_there ts r t e h = ap kind_in (sym (ap (option_map token_of) h) ∙ e)
 
+-- nor is there a next kind
 pub kind_none : (ts : List Token) (r : Option PlacedToken) → option_map token_of r ≡ head_of ts → r ≡ None → None ≡ head_kind ts
 kind_none ts r e h = ap kind_in (sym (ap (option_map token_of) h) ∙ e)

@@ -180,6 +180,7 @@ same_action : (f : Frame) (fs : List Frame) (ts : List Token) (n : ℕ) (es : Li
 same_action f fs ts n es mark s h =
     ap (λ x. action_of x s) h.mark_is ∙ ap (action_of (mark_of f fs)) h.state
 
+-- the step of a machine is the action at its mark
 pub step_is : (f : Frame) (fs : List Frame) (ts : List Token) (n : ℕ) (m : Machine) (mark : Mark) (s : State) (names : Names) (action : Action) → Holding f fs ts n m mark s names
     → action ≡ action_of mark s → step true m ≡ perform true action f fs ts n m.faults
 step_is f fs ts n m mark s names action h a =
@@ -220,6 +221,7 @@ node_loose : (k : SyntaxKind) → is_loose (sort_of_node k) ≡ false
 node_loose NODE_ROOT = refl
 node_loose k = refl
 
+-- at a place behind an operand an operand is open
 pub head_loose : (h : Head) → sort_of_head h ≡ Loose → h ≡ Operand
 head_loose (Node k) e = absurd (true_is_not_false (sym (ap is_loose e) ∙ node_loose k))
 head_loose Second e = absurd (true_is_not_false (sym (ap is_loose e)))
@@ -233,11 +235,13 @@ node_again : (k : SyntaxKind) → is_again (sort_of_node k) ≡ false
 node_again NODE_ROOT = refl
 node_again k = refl
 
+-- at a place of a second name a second name is open
 pub head_again : (h : Head) → sort_of_head h ≡ Again → h ≡ Second
 head_again (Node k) e = absurd (true_is_not_false (sym (ap is_again e) ∙ node_again k))
 head_again Second e = refl
 head_again Operand e = absurd (true_is_not_false (sym (ap is_again e)))
 
+-- the root's places
 abbrev pub is_root : Sort → Bool
 is_root Root = true
 is_root s = false
@@ -250,6 +254,7 @@ done_node f (g ∷ fs) ts n es mark s h w e r =
     let k = head_node f.head (ap is_node h.sort ∙ e) in
     step-close f g fs ts n es mark s h k.0 k.1
 
+-- an operand is complete
 pub done_loose : (f : Frame) (fs : List Frame) (ts : List Token) (n : ℕ) (es : List Fault) (mark : Mark) (s : State) → Stands f fs ts n es mark s → AreFit f fs
     → sort_of f.place ≡ Loose → s ≡ flat (closed f fs ts n es)
 done_loose f [] ts n es mark s h w e = absurd (true_is_not_false (sym (ap is_root w.1) ∙ ap is_root e))
@@ -275,12 +280,14 @@ node_open h k n os e = subst (λ x. 0 < length (opened_on x n os)) (sym e) (omeg
 twice_open : (h : Head) (n : ℕ) (os : List OpenNode) → h ≡ Second → 0 < length (opened_on h n os)
 twice_open h n os e = subst (λ x. 0 < length (opened_on x n os)) (sym e) (omega arith)
 
+-- at a place of a node a node is open
 pub open_there : (f : Frame) (fs : List Frame) (ts : List Token) (n : ℕ) (es : List Fault) (mark : Mark) (s : State) → Stands f fs ts n es mark s
     → is_node (sort_of f.place) ≡ true → 0 < length s.open_nodes
 open_there f fs ts n es mark s h e =
     let k = head_node f.head (ap is_node h.sort ∙ e) in
     subst (λ x. 0 < length x) (sym (ap (λ x. x.open_nodes) h.state)) (node_open f.head k.0 (tree_count (trees_of fs)) (nodes_of fs) k.1)
 
+-- and at a place of a second name
 pub twice_there : (f : Frame) (fs : List Frame) (ts : List Token) (n : ℕ) (es : List Fault) (mark : Mark) (s : State) → Stands f fs ts n es mark s
     → sort_of f.place ≡ Again → 0 < length s.open_nodes
 twice_there f fs ts n es mark s h e =
@@ -298,6 +305,7 @@ inside (f ∷ fs) n l =
     let all = tree_count-join (trees_of fs) (forget f.row) in
     inside_head f.head (tree_count (trees_of fs)) n (nodes_of fs) (omega (arith, l, all)) (inside fs n (omega (arith, l, all)))
 
+-- a node may be opened where an operand began
 pub checkpoint_there : (f : Frame) (fs : List Frame) (ts : List Token) (n : ℕ) (es : List Fault) (mark : Mark) (s : State) → Stands f fs ts n es mark s
     → sort_of f.place ≡ Loose → (d : Draft) → d ≡ record { finished = s.trees; open_nodes = s.open_nodes } → is_checkpoint_of d mark.at ≡ true
 checkpoint_there f fs ts n es mark s h e d same =
@@ -315,6 +323,7 @@ second_start : (x n : ℕ) (h : Head) (row : Sketch) → h ≡ Second → Begins
     → (x ≡ (extent_of (tokens_in (clean row))).start) × ((n ≡ (extent_of (tokens_in (clean row))).end) × ((extent_of (tokens_in (clean row))).start ≤ n))
 second_start x n h row e b w = (subst (λ y. BeginsAt x y row) e b, subst (λ y. EndsAt n y row) e w)
 
+-- a second name ends no earlier than it begins
 pub twice_order : (f : Frame) (fs : List Frame) (ts : List Token) (n : ℕ) (m : Machine) (mark : Mark) (s : State) (names : Names) → Holding f fs ts n m mark s names
     → sort_of f.place ≡ Again → names.second ≤ s.reached
 twice_order f fs ts n m mark s names h e =
@@ -323,6 +332,7 @@ twice_order f fs ts n m mark s names h e =
     let reached : s.reached ≡ n = ap (λ x. x.reached) st.state in
     omega (arith, r.0, r.1.1, reached)
 
+-- a second name is complete
 pub done_twice : (f : Frame) (fs : List Frame) (ts : List Token) (n : ℕ) (m : Machine) (mark : Mark) (s : State) (names : Names) → Holding f fs ts n m mark s names
     → sort_of f.place ≡ Again
     → failed (bound_twice record { start = names.second; end = s.reached }) (ended s) ≡ flat (perform true a.CloseTwice f fs ts n m.faults)
@@ -348,6 +358,7 @@ over_there f fs ts n es mark s h k inside low high l e =
     ∙ ap (λ x. marked (mark_at inside x.depth x.at) (started_at mark.at k (moved (p.Behind (low_of f.place) high) mark s))) h.mark_is
     ∙ step-over f fs ts n es mark s h k inside (p.Behind (low_of f.place) high) (head_loose f.head (h.sort ∙ e))
 
+-- an operand before `or` is called with it
 pub applied_there : (f : Frame) (fs : List Frame) (ts : List Token) (n : ℕ) (es : List Fault) (mark : Mark) (s : State) (h : Stands f fs ts n es mark s)
     (low : ℕ) → low ≡ low_of mark.place → sort_of f.place ≡ Loose
     → ended (ended (bumped NODE_IDENT (started NODE_IDENT (started_at mark.at NODE_APPLY (moved (p.Behind low 15) mark s))))) ≡ flat (perform true a.ApplyOr f fs ts n es)
@@ -355,9 +366,11 @@ applied_there f fs ts n es mark s h low l e =
     ap (λ x. ended (ended (bumped NODE_IDENT (started NODE_IDENT (started_at mark.at NODE_APPLY (moved (p.Behind x 15) mark s)))))) (l ∙ ap (λ x. low_of x.place) h.mark_is)
     ∙ step-apply_or f fs ts n es mark s h (head_loose f.head (h.sort ∙ e))
 
+-- a node around an operand leaves the tokens
 pub left_wrapped : (k : SyntaxKind) (inside over : Place) (mark : Mark) (s s' : State) → s' ≡ marked (mark_at inside mark.depth mark.at) (started_at mark.at k (moved over mark s)) → items s'.rest ≡ items s.rest
 unfolding marked started_at
 left_wrapped k inside over mark s s' e = ap (λ x. items x.rest) e
 
+-- the action that ends the text does
 pub no_finish : (action : Action) → action ≡ a.Finish → is_finish action ≡ false → ⊥
 no_finish action e g = true_is_not_false (sym (ap is_finish e) ∙ g)

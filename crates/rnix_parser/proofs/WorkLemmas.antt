@@ -17,14 +17,14 @@ use Rattle.rnix_grammar.specs.Layout.{items, from_item, tail_of}
 use Rattle.rnix_grammar.specs.Machine.{Node, Operand, Frame, Machine, put, opened, behind, closed, limited, low_of, run_of, run_rest, dropped, second_kind, begun, operand_on, reading, perform}
 use Rattle.rnix_grammar.proofs.LayoutLemmas.{items-from_item}
 use Rattle.rnix_grammar.proofs.CleanLemmas.{items_behind, run_prefix, all_prefix, run_bared}
-use Rattle.rnix_grammar.proofs.RunLemmas.{dropped_all}
+use Rattle.rnix_grammar.proofs.RunLemmas.{dropped_all, run_begins}
 use Rattle.rnix_parser.specs.declared.mark.Mark.{Mark}
 use Rattle.rnix_parser.specs.Sorts.{Sort, Plain, sort_of, weight, bonus}
 use Rattle.rnix_parser.specs.Allowed.{Allowed, IsNext, is_there}
 use Rattle.rnix_parser.specs.Flat.{marks_of, mark_of, flat}
 use Rattle.rnix_parser.specs.Holds.{AreFit, is_finish, weights, bonus_on, work}
-use Rattle.rnix_parser.proofs.RunLemmas.{run_goes}
 use Rattle.rnix_parser.proofs.StepLemmas.{is_root}
+use Rattle.rnix_parser.proofs.RunLemmas.{no_items}
 
 true_is_not_false : true ≡ false → ⊥
 true_is_not_false e = cc
@@ -66,17 +66,21 @@ abbrev pub weight_of : List Frame → ℕ
 weight_of [] = 0
 weight_of (f ∷ fs) = weight f.place + weight_of fs
 
+-- what is added at a place where a node may begin without an item
 abbrev pub bonus_at : List Token → Place → ℕ
 bonus_at [] place = 0
 bonus_at (t ∷ ts) place = bonus place
 
+-- and at that of the innermost frame
 abbrev pub bonus_of : List Token → List Frame → ℕ
 bonus_of us [] = 0
 bonus_of us (f ∷ fs) = bonus_at us f.place
 
+-- what is left to do, by the tokens and the frames
 abbrev pub cost : List Token → List Frame → ℕ
 cost us fs = 100 * length us + weight_of fs + bonus_of us fs
 
+-- what is left to do of a machine
 abbrev pub cost_of : Machine → ℕ
 cost_of m = cost (items m.left) m.frames
 
@@ -103,6 +107,7 @@ bonus_marks [] [] = refl
 bonus_marks (t ∷ us) [] = refl
 bonus_marks us (f ∷ fs) = bonus_last us (marks_of fs) (mark_of f fs)
 
+-- the reader has as much to do as the machine
 pub work_is : (m : Machine) → work (flat m) ≡ cost_of m
 work_is m = omega (arith, weights_marks m.frames, bonus_marks (items m.left) m.frames)
 
@@ -129,7 +134,7 @@ dropped_less (x ∷ run) us = omega (arith, dropped_less run (tail_of us), tail_
 run_less : (until : Until) (us : List Token) → stops until (head_kind us) ≡ false → suc (length (dropped (run_of until us) us)) ≤ length us
 run_less until [] e = absurd (true_is_not_false e)
 run_less until (t ∷ us) e =
-    omega (arith, dropped_less (run_of until us) us, ap (λ x. length (dropped x (t ∷ us))) (run_goes until t us e))
+    omega (arith, dropped_less (run_of until us) us, ap (λ x. length (dropped x (t ∷ us))) (run_begins until t us e))
 
 left_run : (until : Until) (ts : List Token) → items (run_rest true (run_of until (items ts)) ts) ≡ dropped (run_of until (items ts)) (items ts)
 left_run until ts = (run_bared (run_of until (items ts)) ts (dropped (run_of until (items ts)) (items ts)) (run_prefix until (items ts))).left
@@ -145,11 +150,6 @@ close_less : (us : List Token) (place below : Place) (z : ℕ) → bonus place �
     → 100 * length us + (weight below + z) + bonus_at us below < 100 * length us + (weight place + (weight below + z)) + bonus_at us place
 close_less [] place below z e = omega (arith, weight_some place)
 close_less (t ∷ us) place below z e = omega (arith, e, weight_some place, bonus_most below)
-
--- the text has ended, or an item is there
-none_there : (us : List Token) → head_kind us ≡ None → us ≡ []
-none_there [] e = refl
-none_there (t ∷ us) e = absurd (cc)
 
 ended_less : (us : List Token) (place after : Place) (z : ℕ) → us ≡ [] → weight after < weight place
     → 100 * length us + (weight after + z) + bonus_at us after < 100 * length us + (weight place + z) + bonus_at us place
@@ -231,10 +231,10 @@ perform_less (a.Take after) f fs ts n es w al g =
     item_less (length (items ts)) (length (items (behind true ts))) (weight after) (weight f.place) (bonus_at (items (behind true ts)) after) (bonus_at (items ts) f.place) (weight_of fs)
     (omega (arith, there (items ts) al.0, left_behind ts)) (omega (arith, weight_most after)) (bonus_small (items (behind true ts)) after)
 perform_less (a.Miss after) f fs ts n es w al g =
-    let none = none_there (items ts) al.0 in
+    let none = no_items (items ts) al.0 in
     ended_less (items ts) f.place after (weight_of fs) none (next_less (items ts) f.place after al.1 none)
 perform_less (a.MissWanted until after) f fs ts n es w al g =
-    let none = none_there (items ts) al.0 in
+    let none = no_items (items ts) al.0 in
     ended_less (items ts) f.place after (weight_of fs) none (next_less (items ts) f.place after al.1 none)
 perform_less (a.Run until after) f fs ts n es w al g =
     let us : List Token = run_rest true (run_of until (items ts)) ts in

@@ -24,6 +24,7 @@ abbrev pub is_open : Sort → Bool
 is_open Again = false
 is_open s = true
 
+-- what an action needs: the sort of its place, an item or none, and where it leads
 abbrev pub Allowed : Place → Option SyntaxKind → Action → Type 0
 Allowed place next a.Close = (sort_of place ≡ Plain) × (bonus place ≡ 30)
 Allowed place next a.CloseEntry = sort_of place ≡ Entry

@@ -46,28 +46,33 @@ abbrev pub EndsAt : ℕ → Head → Sketch → Type 0
 EndsAt n Second row = (n ≡ (extent_of (tokens_in (clean row))).end) × ((extent_of (tokens_in (clean row))).start ≤ n)
 EndsAt n head row = Unit {0}
 
+-- the frames fit, a second name ends where it should, and the tokens are in order
 pub record IsWell (f : Frame) (fs : List Frame) (ts : List Token) (n : ℕ) : Type 0 where
   pub fit : AreFit f fs
   pub ends : EndsAt n f.head f.row
   pub order : AreInOrder n ts
 
--- the names of open entries, and their ranges
+-- the name of an entry, which may be absent
 abbrev pub text_of : Option Token → List (List ℕ)
 text_of None = []
 text_of (Some t) = t.text ∷ []
 
+-- the range of a name that may be absent
 abbrev pub range_of : Option Token → List Extent
 range_of None = []
 range_of (Some t) = extent_of (t ∷ []) ∷ []
 
+-- the name of an open entry
 abbrev pub name_of : Head → Sketch → Option Token
 name_of (Node NODE_PAT_ENTRY) row = entry_name (clean row)
 name_of head row = None
 
+-- the names of all open entries, the innermost last
 abbrev pub entries_of : List Frame → List (List ℕ)
 entries_of [] = []
 entries_of (f ∷ fs) = entries_of fs ++ text_of (name_of f.head f.row)
 
+-- their ranges
 abbrev pub ranges_of : List Frame → List Extent
 ranges_of [] = []
 ranges_of (f ∷ fs) = ranges_of fs ++ range_of (name_of f.head f.row)
@@ -76,6 +81,7 @@ ranges_of (f ∷ fs) = ranges_of fs ++ range_of (name_of f.head f.row)
 abbrev pub IsOf : NameSet → Sketch → Type 0
 IsOf s row = (name : List ℕ) → has_name name s ≡ has_entry name (clean row)
 
+-- the last of some sets is that of a pattern, and more holds of those below
 pub record Tops (sets : List NameSet) (row : Sketch) (More : List NameSet → Type 0) : Type 0 where
   pub below : List NameSet
   pub set : NameSet
@@ -83,18 +89,22 @@ pub record Tops (sets : List NameSet) (row : Sketch) (More : List NameSet → Ty
   pub is : IsOf set row
   pub more : More below
 
+-- the sets that are open above others, by what is open
 abbrev pub KnownOn : Head → Sketch → List NameSet → (List NameSet → Type 0) → Type 0
 KnownOn (Node NODE_PATTERN) row sets More = Tops sets row More
 KnownOn head row sets More = More sets
 
+-- the sets of names are those of the open patterns
 abbrev pub Known : List Frame → List NameSet → Type 0
 Known [] sets = sets ≡ []
 Known (f ∷ fs) sets = KnownOn f.head f.row sets (Known fs)
 
+-- a second name begins at a place
 abbrev pub BeginsAt : ℕ → Head → Sketch → Type 0
 BeginsAt n Second row = n ≡ (extent_of (tokens_in (clean row))).start
 BeginsAt n head row = Unit {0}
 
+-- the names that the reader keeps are those of the open patterns and entries
 pub record AreNamed (names : Names) (f : Frame) (fs : List Frame) : Type 0 where
   pub sets : Known (f ∷ fs) names.sets.items
   pub texts : texts_of names ≡ entries_of (f ∷ fs)
@@ -118,6 +128,7 @@ pub record Holding (top : Frame) (under : List Frame) (ts : List Token) (n : ℕ
   pub well : IsWell top under ts n
   pub named : AreNamed names top under
 
+-- so it is for some innermost frame
 abbrev pub IsHolding : Machine → Mark → State → Names → Type 0
 IsHolding m mark s names = (top : Frame) × (under : List Frame) × (ts : List Token) × (n : ℕ) × Holding top under ts n m mark s names
 
@@ -125,6 +136,7 @@ IsHolding m mark s names = (top : Frame) × (under : List Frame) × (ts : List T
 abbrev pub action_of : Mark → State → Action
 action_of mark s = action_at mark.place (head_kind (items s.rest)) (touches s.reached (items s.rest))
 
+-- the text is read
 abbrev pub is_finish : Action → Bool
 is_finish a.Finish = true
 is_finish action = false
@@ -135,10 +147,12 @@ opens_pattern b.BoundLambda = true
 opens_pattern b.PatternLambda = true
 opens_pattern begin = false
 
+-- the next items begin with a pattern
 abbrev pub opens_on : ℕ → List Token → Bool
 opens_on level [] = false
 opens_on level (t ∷ us) = opens_pattern (begin_of level t.kind t.text (head_kind us) (second_kind us))
 
+-- a set of names is opened, or the names stay
 abbrev pub NamesFor : Bool → Names → Names → Type 0
 NamesFor true n n' = PatternOpened n n'
 NamesFor false n n' = n' ≡ n
@@ -156,16 +170,17 @@ pub record IsReadTo (ts : List Token) (s : State) : Type 0 where
   pub nodes : s.open_nodes ≡ []
   pub faults : s.faults ≡ last.faults
 
--- how much there is still to do
+-- the weights of all that is open
 abbrev pub weights : List Mark → ℕ
 weights [] = 0
 weights (m ∷ ms) = weight m.place + weights ms
 
--- an entry is complete, and told if it repeats a name
+-- an error is told, if there is one
 abbrev pub told_of : Option Fault → State → State
 told_of None s = s
 told_of (Some e) s = failed e s
 
+-- the entry's name is kept, and its node is closed
 pub record EntryTold (s : State) (n : Names) (s' : State) (n' : Names) : Type 0 where
   pub again : Option Fault
   pub closed : EntryClosed again n n'
@@ -188,12 +203,14 @@ NamesAfter (a.Read level counted after) mark s n n' = NamesFor (if counted && na
 NamesAfter a.Apply mark s n n' = NamesFor (opens_on 16 (items s.rest)) n n'
 NamesAfter action mark s n n' = n' ≡ n
 
+-- what is added where a node may begin without an item
 abbrev pub bonus_on : List Token → List Mark → ℕ
 bonus_on [] ms = 0
 bonus_on (t ∷ ts) [] = 0
 bonus_on (t ∷ ts) (m ∷ []) = bonus m.place
 bonus_on (t ∷ ts) (m ∷ ms) = bonus_on (t ∷ ts) ms
 
+-- how much there is still to do
 abbrev pub work : State → ℕ
 work s = 100 * length (items s.rest) + weights s.marks + bonus_on (items s.rest) s.marks
 

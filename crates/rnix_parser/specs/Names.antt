@@ -13,7 +13,7 @@ use Rattle.rnix_parser.specs.declared.names.Names.{Names}
 abbrev pub has_name : List ℕ → NameSet → Bool
 has_name name s = contains_by (λ x. slice_cmp nat_cmp name x.now) s.names
 
--- the names and ranges of entries
+-- the names of open entries
 abbrev pub texts_of : Names → List (List ℕ)
 texts_of n = map (λ x. x.now) n.entries.items
 
@@ -46,6 +46,7 @@ pub record Entered (text : List ℕ) (below : List NameSet) (s : NameSet) (n' : 
   pub has : (other : List ℕ) → has_name other set ≡ (if bytes_eq text other then true else has_name other s)
   pub sets : n'.sets.items ≡ below ++ set ∷ []
 
+-- an entry is complete, and an error is told if it repeats a name
 pub record EntryClosed (again : Option Fault) (n n' : Names) : Type 0 where
   pub entered : (texts : List (List ℕ)) (text : List ℕ) (ranges : List Extent) (range : Extent) (below : List NameSet) (s : NameSet)
       → texts_of n ≡ texts ++ text ∷ [] → n.ranges.items ≡ ranges ++ range ∷ [] → n.sets.items ≡ below ++ s ∷ []

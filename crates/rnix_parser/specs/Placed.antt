@@ -7,9 +7,11 @@ use Rattle.rnix_grammar.specs.Sketch.{Token}
 use Rattle.rnix_grammar.specs.Layout.{from_item}
 use Rattle.rnix_parser.specs.declared.cursor.PlacedToken.{PlacedToken}
 
+-- the token that the reader keeps
 abbrev pub token_of : PlacedToken → Token
 token_of t = record { kind = t.kind; text = t.text.now; start = t.start; end = t.end }
 
+-- tokens as numbers and lists
 abbrev pub tokens_code : Coded (List Token)
 tokens_code =
     coded_list

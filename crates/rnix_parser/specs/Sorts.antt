@@ -16,6 +16,7 @@ pub data Sort : Type 0 where
   Name : Sort
   Plain : Sort
 
+-- the sort of a node's places, by its kind
 abbrev pub sort_of_node : SyntaxKind → Sort
 sort_of_node NODE_ROOT = Root
 sort_of_node NODE_PATTERN = Pattern
@@ -24,11 +25,13 @@ sort_of_node NODE_IDENT = Name
 sort_of_node NODE_CUR_POS = Name
 sort_of_node k = Plain
 
+-- the sort of the places of what is open
 abbrev pub sort_of_head : Head → Sort
 sort_of_head (Node k) = sort_of_node k
 sort_of_head Second = Again
 sort_of_head Operand = Loose
 
+-- the sort of a place
 abbrev pub sort_of : Place → Sort
 sort_of p.RootStart = Root
 sort_of p.RootEnd = Root

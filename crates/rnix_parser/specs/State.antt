@@ -11,6 +11,7 @@ use Rattle.rnix_grammar.specs.Machine.{leaf_in, end_of}
 use Rattle.rnix_parser.specs.declared.mark.Mark.{Mark}
 use Rattle.rnix_parser.specs.declared.parser.Parser.{Parser}
 
+-- what the reader holds, as one value
 pub record State : Type 0 where
   pub rest : List Token
   pub trees : Forest
@@ -19,6 +20,7 @@ pub record State : Type 0 where
   pub reached : ℕ
   pub marks : List Mark
 
+-- what a reader holds
 abbrev pub state : Parser → State
 state p = record {
   rest = p.cursor;
@@ -81,10 +83,11 @@ started_at place k s = record {
 unfoldable pub started : SyntaxKind → State → State
 started k s = started_at (tree_count (eaten s).trees) k (eaten s)
 
--- the innermost node is closed
+-- a draft in place of the trees and the open nodes
 abbrev pub closed_on : Draft → State → State
 closed_on d s = record { rest = s.rest; trees = d.finished; open_nodes = d.open_nodes; faults = s.faults; reached = s.reached; marks = s.marks }
 
+-- the innermost node is closed
 unfoldable pub ended : State → State
 ended s = closed_on (node_closed record { finished = s.trees; open_nodes = s.open_nodes }) s
 

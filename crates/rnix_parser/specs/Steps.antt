@@ -27,6 +27,7 @@ looks_behind TOKEN_L_BRACE = true
 looks_behind TOKEN_LET = true
 looks_behind kind = false
 
+-- the token `{`
 abbrev pub is_brace : SyntaxKind → Bool
 is_brace TOKEN_L_BRACE = true
 is_brace kind = false

@@ -21,6 +21,7 @@ pub fn parse(
 ) -> Result<(GreenNode, Vec<ParseError>), AllocError>
     ensures { IfOk result (λ parsed. IsParsed tokens.entry parsed.0 (map fault_of parsed.1.items)) }
 {
+    let _text = tokens.rest();
     let cursor = Cursor::new(alloc, tokens)?;
     let mut p = Parser {
         cursor,

@@ -12,4 +12,4 @@ pub returns : goal.returns
 returns c =
     read_parsed c.args.tokens c.in_ok-tree.tree _
     (read_made c.args.tokens (state c.mark.new.self).rest (state c.read_all.new.p) c.in_ok-tree.tree
-    (rest_marked _ _ _ c.in_ok-mark.ensures.state ∙ c.in_ok-cursor.ensures) c.in_ok-read_all.ensures c.in_ok-tree.ensures)
+    (rest_marked _ _ _ c.in_ok-mark.ensures.state ∙ c.in_ok-cursor.ensures) c.in_ok-read_all.ensures c.in_ok-tree.ensures) c.rest-text.ensures.named

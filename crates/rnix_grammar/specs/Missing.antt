@@ -1,0 +1,48 @@
+-- What is reported where the text ends at a place, and which runs of tokens may stand at one.
+use Rattle.std.specs.Prelude.{Option, Some, None}
+use Rattle.rnix_grammar.specs.declared.place.Place.{Place}
+use Rattle.rnix_grammar.specs.declared.place.Place.TheVariants as p
+use Rattle.rnix_grammar.specs.declared.until.Until.{Until}
+use Rattle.rnix_grammar.specs.declared.until.Until.TheVariants as u
+use Rattle.rnix_grammar.specs.declared.slot.Slot.{Slot}
+use Rattle.rnix_grammar.specs.declared.slot.Slot.TheVariants as s
+use Rattle.rnix_grammar.specs.Fault.{Fault, ended, ended_before}
+use Rattle.rnix_grammar.specs.Tables.{wanted_kinds}
+use Rattle.rnix_grammar.specs.Slots.{slot_at}
+
+-- what is reported where the text ends at a place, and the place behind what is missing
+abbrev pub lack_in : Slot → Option (Fault × Place)
+lack_in (s.Token until behind) = Some (ended_before (wanted_kinds until), behind)
+lack_in (s.Operand level counted behind) = Some (ended, behind)
+lack_in (s.Series level closer) = Some (ended, p.Past)
+lack_in (s.Entries closer behind) = Some (ended, behind)
+lack_in s.Pieces = Some (ended_before (wanted_kinds u.Piece), p.StringEnd)
+lack_in s.Source = Some (ended, p.InheritEnd)
+lack_in s.Names = Some (ended, p.InheritEnd)
+lack_in (s.Attr behind) = Some (ended_before (wanted_kinds u.Attr), behind)
+lack_in (s.Name behind) = Some (ended_before (wanted_kinds u.Ident), behind)
+lack_in (s.Braces bound) = Some (ended, p.PatternEnd bound)
+lack_in (s.Formals bound) = Some (ended_before (wanted_kinds u.Entry), p.PatternEnd bound)
+lack_in (s.Comma bound) = Some (ended_before (wanted_kinds u.RBrace), p.PatternEnd bound)
+lack_in slot = None
+
+-- so at a place
+abbrev pub lack : Place → Option (Fault × Place)
+lack place = lack_in (slot_at place)
+
+-- which tokens are wanted behind a run of others at a place, and the place behind the run
+abbrev pub run_in : Slot → Place → Option (Until × Place)
+run_in (s.Token until behind) place = Some (until, place)
+run_in s.Pieces place = Some (u.Piece, place)
+run_in s.Source place = Some (u.Attr, p.InheritName)
+run_in s.Names place = Some (u.Attr, p.InheritName)
+run_in (s.Attr behind) place = Some (u.Attr, place)
+run_in (s.Name behind) place = Some (u.Ident, place)
+run_in (s.Braces bound) place = Some (u.Entry, p.PatternInside bound)
+run_in (s.Formals bound) place = Some (u.Entry, p.PatternInside bound)
+run_in (s.Comma bound) place = Some (u.RBrace, p.PatternClose bound)
+run_in slot place = None
+
+-- so at a place
+abbrev pub run_at : Place → Option (Until × Place)
+run_at place = run_in (slot_at place) place

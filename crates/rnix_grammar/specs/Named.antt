@@ -1,0 +1,40 @@
+-- Rows whose names stand where they may, and which errors a text lacks.
+use Rattle.std.specs.Prelude.{◌≡◌, ℕ, Bool, true, false, List, [], ◌∷◌, if◌then◌else◌}
+use Rattle.rnix_kinds.specs.declared.kinds.SyntaxKind.{SyntaxKind}
+use Rattle.rnix_kinds.specs.SyntaxKind.{is_token}
+use Rattle.rnix_kinds.specs.declared.kinds.SyntaxKind.TheVariants.{TOKEN_IDENT, TOKEN_OR, TOKEN_CUR_POS}
+use Rattle.rnix_grammar.specs.Fault.{Fault, named_twice}
+use Rattle.rnix_grammar.specs.Sketch.{Token, Sketch, blank, token, branch, fault}
+use Rattle.rnix_grammar.specs.Rows.{Spot, go, start}
+use Rattle.rnix_grammar.specs.Names.{is_named}
+use Rattle.rnix_grammar.specs.Strict as strict
+use Rattle.rnix_grammar.specs.BehindErrors.{go_error}
+
+-- a name is TOKEN_OR exactly if it is `or`; no token is TOKEN_CUR_POS, or has the kind of a node
+abbrev pub is_spelled : SyntaxKind → List ℕ → Bool
+is_spelled TOKEN_OR text = strict.is_or text
+is_spelled TOKEN_IDENT text = if strict.is_or text then false else true
+is_spelled TOKEN_CUR_POS text = false
+is_spelled kind text = is_token kind
+
+-- each token is spelled as its kind says
+abbrev pub AreSpelled : List Token → Type 0
+AreSpelled [] = Unit {0}
+AreSpelled (t ∷ ts) = (is_spelled t.kind t.text ≡ true) × AreSpelled ts
+
+-- and so each node of a row from a spot on
+abbrev pub AreNamed : Spot → Sketch → Type 0
+AreNamed q blank = Unit {0}
+AreNamed q (token k t f) = AreNamed (go q k) f
+AreNamed q (branch k c f) = (is_named q k c ≡ true) × AreNamed (start k) c × AreNamed (go q k) f
+AreNamed q (fault n c f) = AreNamed (go_error q n) f
+
+-- a name is repeated
+abbrev pub is_repeated : Fault → Bool
+is_repeated (named_twice range name) = true
+is_repeated e = false
+
+-- no error meets the test
+abbrev pub Lacks : (Fault → Bool) → List Fault → Type 0
+Lacks test [] = Unit {0}
+Lacks test (e ∷ es) = (test e ≡ false) × Lacks test es

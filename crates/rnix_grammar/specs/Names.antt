@@ -1,0 +1,70 @@
+-- Where which names may stand.
+use Rattle.std.specs.Prelude.{ℕ, Bool, true, false, List, Option, Some, None, if◌then◌else◌}
+use Rattle.rnix_kinds.specs.declared.kinds.SyntaxKind.{SyntaxKind}
+use Rattle.rnix_kinds.specs.declared.kinds.SyntaxKind.TheVariants.{TOKEN_OR, TOKEN_CUR_POS, NODE_CUR_POS, NODE_IDENT, NODE_IDENT_PARAM, NODE_PAT_BIND, NODE_PAT_ENTRY}
+use Rattle.rnix_grammar.specs.declared.slot.Slot.{Slot}
+use Rattle.rnix_grammar.specs.declared.slot.Slot.TheVariants.{Source, Names, Attr, Name}
+use Rattle.rnix_grammar.specs.Tables.{is_cur_pos}
+use Rattle.rnix_grammar.specs.Slots.{slot_at}
+use Rattle.rnix_grammar.specs.Sketch.{Token, Sketch}
+use Rattle.rnix_grammar.specs.Reports.{only_token}
+use Rattle.rnix_grammar.specs.Rows.{Spot, Start, BeforeArgument, At}
+
+-- the name `or`
+abbrev pub is_or : SyntaxKind → Bool
+is_or TOKEN_OR = true
+is_or kind = false
+
+-- a name that is not `or`
+abbrev pub is_no_or : Token → Bool
+is_no_or t = if is_or t.kind then false else true
+
+-- a name that is neither `or` nor `__curPos`
+abbrev pub is_plain : Token → Bool
+is_plain t = if is_or t.kind then false else (if is_cur_pos t.text then false else true)
+
+-- a token that is the current position
+abbrev pub is_position : SyntaxKind → List ℕ → Bool
+is_position TOKEN_CUR_POS text = true
+is_position kind text = is_cur_pos text
+
+-- an argument, or the name `or` behind an atom
+abbrev pub is_called : Token → Bool
+is_called t = if is_or t.kind then true else (if is_cur_pos t.text then false else true)
+
+-- the name may stand in a slot
+abbrev pub is_name_in : Slot → Token → Bool
+is_name_in Source t = true
+is_name_in Names t = true
+is_name_in (Attr behind) t = true
+is_name_in (Name behind) t = is_no_or t
+is_name_in slot t = is_plain t
+
+-- the name may stand as the first child of a node
+abbrev pub is_name_of : SyntaxKind → Token → Bool
+is_name_of NODE_IDENT_PARAM t = is_no_or t
+is_name_of NODE_PAT_ENTRY t = is_no_or t
+is_name_of NODE_PAT_BIND t = is_no_or t
+is_name_of kind t = is_plain t
+
+-- the name may stand at a spot
+abbrev pub is_name_at : Spot → Token → Bool
+is_name_at (At place) t = is_name_in (slot_at place) t
+is_name_at (Start kind) t = is_name_of kind t
+is_name_at BeforeArgument t = is_called t
+is_name_at spot t = is_plain t
+
+-- a token may be that of a name or of the current position at a spot
+abbrev pub is_named_by : Spot → SyntaxKind → Token → Bool
+is_named_by spot NODE_IDENT t = is_name_at spot t
+is_named_by spot NODE_CUR_POS t = is_position t.kind t.text
+is_named_by spot kind t = true
+
+-- and so for a token that may be absent
+abbrev pub is_named_in : Spot → SyntaxKind → Option Token → Bool
+is_named_in spot kind None = true
+is_named_in spot kind (Some t) = is_named_by spot kind t
+
+-- a node at a spot is a name or the current position only where its token may be one
+abbrev pub is_named : Spot → SyntaxKind → Sketch → Bool
+is_named spot kind c = is_named_in spot kind (only_token c)

@@ -1,0 +1,84 @@
+-- What is asked of a strict tree, beside its shape, to be read as it is.
+use Rattle.std.specs.Prelude.{◌≡◌, ℕ, suc, max, Bool, true, false, ◌&&◌, List, [], ◌∷◌, ◌++◌, if◌then◌else◌, nat_eq}
+use Rattle.rnix_kinds.specs.declared.kinds.SyntaxKind.{SyntaxKind}
+use Rattle.rnix_kinds.specs.declared.kinds.SyntaxKind.TheVariants.{TOKEN_INTERPOL_START, NODE_PATH_ABS, NODE_PATH_HOME, NODE_PATH_REL}
+use Rattle.rnix_kinds.specs.SyntaxKind.{is_token}
+use Rattle.rnix_tree.specs.Forest.{Forest, empty, leaf, node}
+use Rattle.rnix_grammar.specs.declared.slot.Slot.{Slot}
+use Rattle.rnix_grammar.specs.declared.slot.Slot.TheVariants.{Operand, Series}
+use Rattle.rnix_grammar.specs.Slots.{slot_at}
+use Rattle.rnix_grammar.specs.Actions.{is_path_piece}
+use Rattle.rnix_grammar.specs.Sketch.{Token, Sketch, blank, token, branch, fault, tokens_in, end_from}
+use Rattle.rnix_grammar.specs.Machine.{touches}
+use Rattle.rnix_grammar.specs.Rows.{Spot, At, go, start}
+use Rattle.rnix_grammar.specs.Strict.{untold}
+
+-- the kinds of nodes
+abbrev pub is_node : SyntaxKind → Bool
+is_node kind = if is_token kind then false else true
+
+-- the token of each leaf has the kind that the leaf's kind and text say, and no tree is an error node
+abbrev pub AreUntold : Sketch → Type 0
+AreUntold blank = Unit {0}
+AreUntold (token k t f) = (is_node k ≡ false) × (t.kind ≡ untold k t.text) × AreUntold f
+AreUntold (branch k c f) = AreUntold c × AreUntold f
+AreUntold (fault n c f) = ⊥
+
+-- an operand that stands here is inside one more counted place
+abbrev pub is_counted : Slot → Bool
+is_counted (Operand level counted behind) = counted
+is_counted (Series level closer) = true
+is_counted slot = false
+
+-- so it is at a spot
+abbrev pub counts : Spot → Bool
+counts (At place) = is_counted (slot_at place)
+counts spot = false
+
+-- how many counted places are inside one another, in a row from a spot on
+abbrev pub nesting : Spot → Forest → ℕ
+nesting q empty = 0
+nesting q (leaf k t f) = nesting (go q k) f
+nesting q (node k c f) = max (if counts q then suc (nesting (start k) c) else nesting (start k) c) (nesting (go q k) f)
+
+-- the next item would go on with an interpolated path that it touches
+abbrev pub is_piece_start : SyntaxKind → Bool
+is_piece_start TOKEN_INTERPOL_START = true
+is_piece_start kind = is_path_piece kind
+
+-- the next item touches what ends here and would go on with the path
+abbrev pub goes_on_path : ℕ → List Token → Bool
+goes_on_path n [] = false
+goes_on_path n (t ∷ ts) = nat_eq t.start n && is_piece_start t.kind
+
+-- the pieces of a path, behind a place, touch one another, and what follows does not go on with them
+abbrev pub joins : ℕ → Sketch → List Token → Bool
+joins n blank rest = if goes_on_path n rest then false else true
+joins n (token k t f) rest = nat_eq t.start n && joins t.end f rest
+joins n (branch k c f) rest = touches n (tokens_in c ++ (tokens_in f ++ rest)) && joins (end_from n (tokens_in c)) f rest
+joins n (fault m c f) rest = false
+
+-- a path without interpolations is one token
+abbrev pub joins_first : ℕ → Sketch → List Token → Bool
+joins_first n blank rest = true
+joins_first n f rest = joins n f rest
+
+-- the row of a path touches so, behind its first token
+abbrev pub is_joined : Sketch → List Token → Bool
+is_joined (token k t f) rest = joins_first t.end f rest
+is_joined f rest = true
+
+-- the kinds of paths that may be interpolated
+abbrev pub is_path : SyntaxKind → Bool
+is_path NODE_PATH_ABS = true
+is_path NODE_PATH_REL = true
+is_path NODE_PATH_HOME = true
+is_path kind = false
+
+-- so it is for each path in a row, before these items
+abbrev pub ArePaths : Sketch → List Token → Type 0
+ArePaths blank rest = Unit {0}
+ArePaths (token k t f) rest = ArePaths f rest
+ArePaths (branch k c f) rest =
+    ((if is_path k then is_joined c (tokens_in f ++ rest) else true) ≡ true) × ArePaths c (tokens_in f ++ rest) × ArePaths f rest
+ArePaths (fault n c f) rest = ⊥
