@@ -1,0 +1,3 @@
+pub mod SameParts
+mod Seen
+mod WholeLemmas

@@ -1,32 +1,17 @@
 //! The tree of a text, with its errors.
 
-ghost use Rattle.std.specs.Prelude.{◌≡◌, map, IfOk};
+ghost use Rattle.std.specs.Prelude.{◌≡◌, map, slice_get, [], Some, IfOk, IfErr};
 ghost use Rattle.rnix_kinds.specs.Lexical.Tokens.{tokens_of};
 ghost use Rattle.rnix_grammar.specs.Fault.{fault_of};
 ghost use Rattle.rnix_grammar.specs.Parsed.{IsParsed};
 
+use crate::ast::Root;
 use rnix_grammar::ParseError;
 use rnix_kinds::tokenize;
 use rnix_parser::parse;
 use rnix_tree::{GreenNode, SyntaxNode};
 use std::alloc::{AllocError, Global};
 use std::marker::Model;
-
-/// The root of a tree.
-#[derive(Clone, Drop)]
-pub struct Root<'t> {
-    syntax: SyntaxNode<'t>,
-}
-
-impl<'t> Model for Root<'t> {
-    ghost use Rattle.rnix_tree.specs.Tree.{Located, located_code};
-
-    ghost Value = { Located };
-
-    ghost coded = { located_code };
-
-    ghost view = { λ r. r.syntax };
-}
 
 /// The tree of a text, and its errors in the order in which they were found. A text always has a tree.
 #[derive(Drop)]
@@ -36,10 +21,11 @@ pub struct Parse {
 }
 
 impl Model for Parse {
-    ghost use Rattle.std.specs.Prelude.{map};
+    ghost use Rattle.std.specs.Prelude.{◌≡◌, map};
     ghost use Rattle.rnix_grammar.specs.Fault.{fault_of};
     ghost use Rattle.std.specs.Coded.{codes};
     ghost use Rattle.rnix_kinds.specs.contracts.kinds.SyntaxKind as kinds;
+    ghost use Rattle.rnix_kinds.specs.declared.kinds.SyntaxKind.TheVariants as k;
     ghost use Rattle.rnix_tree.specs.Tree.{tree_code};
     ghost use Rattle.rnix.specs.Reading.{Reading};
 
@@ -48,6 +34,8 @@ impl Model for Parse {
     ghost coded = { Prim.hlevel (codes, tree_code, kinds.the_row.coded) };
 
     ghost view = { λ p. record { tree = p.green; faults = map fault_of p.errors.items } };
+
+    ghost invariant = { λ p. p.green.kind ≡ k.NODE_ROOT };
 }
 
 impl<'t> Root<'t> {
@@ -57,13 +45,6 @@ impl<'t> Root<'t> {
     {
         let (green, errors) = parse(alloc, tokenize(alloc, text))?;
         Ok(Parse { green, errors })
-    }
-
-    /// The node.
-    pub fn syntax(&self) -> &SyntaxNode<'t>
-        ensures { result.now ≡ self.now }
-    {
-        &self.syntax
     }
 }
 
@@ -100,6 +81,17 @@ impl Parse {
         ensures { map fault_of result.now ≡ self.now.faults }
     {
         &self.errors
+    }
+
+    /// The root, exactly if there is no error, and else the first error.
+    pub fn ok(&self) -> Result<Root<'_>, &ParseError>
+        ensures root { IfOk result (λ root. (self.now.faults ≡ []) × (root ≡ record { tree = self.now.tree; number = 0 })) }
+        ensures error { IfErr result (λ error. slice_get self.now.faults 0 ≡ Some (fault_of error.now)) }
+    {
+        match self.errors.first() {
+            Some(error) => Err(error),
+            None => Ok(self.tree()),
+        }
     }
 
     /// A copy of the tree and the errors.

@@ -1,0 +1,290 @@
+-- The nodes of a tree without errors have their parts.
+use Rattle.std.proofs.Common.{◌≡◌, ℕ, suc, ◌≤◌, Bool, true, false, cond, List, [], ◌∷◌, Option, Some, None, refl, ap, sym, ◌∙◌, subst, arith}
+use Rattle.std.specs.Prelude.{◌&&◌, not, is_some, IsSome, nat_le, slice_get, filter, find, option_map}
+use Rattle.std.proofs.lemmas.Bool.Decides.{nat_tests}
+use Rattle.std.proofs.lemmas.Bool.{and_parts}
+use Rattle.rnix_kinds.specs.declared.kinds.SyntaxKind.{SyntaxKind}
+use Rattle.rnix_kinds.specs.declared.kinds.SyntaxKind.TheVariants as k
+use Rattle.rnix_kinds.specs.SyntaxKind.{is_token, is_trivia}
+use Rattle.rnix_kinds.specs.Lexical.Tokens.{Lexeme}
+use Rattle.rnix_tree.specs.Equality.{same_kind, same_kind-decides}
+use Rattle.rnix_tree.specs.Tree.{Located, IsNodeAt, item_of, forest_of}
+use Rattle.rnix_tree.specs.Walk.{children_of}
+use Rattle.rnix_base.specs.Kinds.{is_path_token}
+use Rattle.rnix_base.specs.Select.{has_kind, tokens_in, child_of, token_of}
+use Rattle.rnix_base.specs.Operators.{or_else, first_operator, binary_operator, unary_operator}
+use Rattle.rnix_base.specs.Literal.{first_literal}
+use Rattle.rnix_base.specs.declared.literal.LiteralKind.TheVariants as literal
+use Rattle.rnix_grammar.specs.Rows.{is_expression, is_infix, is_row}
+use Rattle.rnix_grammar.specs.Shape.{item_kinds}
+use Rattle.rnix_grammar.specs.Parsed.{IsParsed}
+use Rattle.rnix_grammar.proofs.Basics.{true_is_not_false}
+use Rattle.rnix_grammar.proofs.SpelledLemmas.{AreRuled}
+use Rattle.rnix_grammar.proofs.PartRows.{HasRows, HasTokens, shaped_rows, parsed_tokens}
+use Rattle.rnix_grammar.proofs.RowParts.{Exactly, Expression, Parameter, Prefix, Infix, is_prefix, is_parameter}
+use Rattle.rnix_grammar.proofs.RowTable.{parts_of, IsSelection, bare, with_default, selection_is, IsFormal, name_alone, defaulted, formal_is, IsOneLiteral, float, integer, uri, literal_is}
+use Rattle.rnix_grammar.proofs.RowCounts.{count_of, row_first, row_nth}
+use Rattle.rnix.specs.NodeKinds.{is_expr, is_param}
+use Rattle.rnix.specs.Whole.{HasToken, HasNode, HasExpr, AreTogether, HasParts}
+use Rattle.rnix.proofs.Seen.{AreItems, AreNodes, exact_items, exact_nodes, none_if, node_in, Sees, sees}
+
+-- a test of numbers
+at_most : (m n : ℕ) → nat_le m n ≡ true → m ≤ n
+at_most m n h = grind (arith, nat_tests, h)
+
+-- expressions are expressions in both senses
+expression_expr : (kind : SyntaxKind) → is_expression kind ≡ true → is_expr kind ≡ true
+expression_expr k.NODE_LAMBDA h = refl
+expression_expr k.NODE_PAREN h = refl
+expression_expr k.NODE_ATTR_SET h = refl
+expression_expr k.NODE_LIST h = refl
+expression_expr k.NODE_STRING h = refl
+expression_expr k.NODE_PATH_ABS h = refl
+expression_expr k.NODE_PATH_REL h = refl
+expression_expr k.NODE_PATH_HOME h = refl
+expression_expr k.NODE_PATH_SEARCH h = refl
+expression_expr k.NODE_LITERAL h = refl
+expression_expr k.NODE_IDENT h = refl
+expression_expr k.NODE_CUR_POS h = refl
+expression_expr k.NODE_SELECT h = refl
+expression_expr k.NODE_APPLY h = refl
+expression_expr k.NODE_UNARY_OP h = refl
+expression_expr k.NODE_HAS_ATTR h = refl
+expression_expr k.NODE_BIN_OP h = refl
+expression_expr k.NODE_LEGACY_LET h = refl
+expression_expr k.NODE_LET_IN h = refl
+expression_expr k.NODE_WITH h = refl
+expression_expr k.NODE_IF_ELSE h = refl
+expression_expr k.NODE_ASSERT h = refl
+expression_expr _ h = absurd (cc)
+
+expr_nodes : AreNodes is_expr
+expr_nodes k.NODE_APPLY h = refl
+expr_nodes k.NODE_ASSERT h = refl
+expr_nodes k.NODE_ERROR h = refl
+expr_nodes k.NODE_IF_ELSE h = refl
+expr_nodes k.NODE_SELECT h = refl
+expr_nodes k.NODE_STRING h = refl
+expr_nodes k.NODE_PATH_ABS h = refl
+expr_nodes k.NODE_PATH_REL h = refl
+expr_nodes k.NODE_PATH_HOME h = refl
+expr_nodes k.NODE_PATH_SEARCH h = refl
+expr_nodes k.NODE_LITERAL h = refl
+expr_nodes k.NODE_LAMBDA h = refl
+expr_nodes k.NODE_LEGACY_LET h = refl
+expr_nodes k.NODE_LET_IN h = refl
+expr_nodes k.NODE_LIST h = refl
+expr_nodes k.NODE_BIN_OP h = refl
+expr_nodes k.NODE_PAREN h = refl
+expr_nodes k.NODE_ROOT h = refl
+expr_nodes k.NODE_ATTR_SET h = refl
+expr_nodes k.NODE_UNARY_OP h = refl
+expr_nodes k.NODE_IDENT h = refl
+expr_nodes k.NODE_WITH h = refl
+expr_nodes k.NODE_HAS_ATTR h = refl
+expr_nodes k.NODE_CUR_POS h = refl
+expr_nodes _ h = absurd (cc)
+
+parameter_param : (kind : SyntaxKind) → is_parameter kind ≡ true → is_param kind ≡ true
+parameter_param k.NODE_IDENT_PARAM h = refl
+parameter_param k.NODE_PATTERN h = refl
+parameter_param _ h = absurd (cc)
+
+param_nodes : AreNodes is_param
+param_nodes k.NODE_IDENT_PARAM h = refl
+param_nodes k.NODE_PATTERN h = refl
+param_nodes _ h = absurd (cc)
+
+-- operators are tokens, and stand for an operator
+infix_token : (kind : SyntaxKind) → is_infix kind ≡ true → (is_token kind ≡ true) × (is_trivia kind ≡ false) × (is_some (binary_operator kind) ≡ true)
+infix_token k.TOKEN_PIPE_LEFT h = (refl, refl, refl)
+infix_token k.TOKEN_PIPE_RIGHT h = (refl, refl, refl)
+infix_token k.TOKEN_IMPLICATION h = (refl, refl, refl)
+infix_token k.TOKEN_OR_OR h = (refl, refl, refl)
+infix_token k.TOKEN_AND_AND h = (refl, refl, refl)
+infix_token k.TOKEN_EQUAL h = (refl, refl, refl)
+infix_token k.TOKEN_NOT_EQUAL h = (refl, refl, refl)
+infix_token k.TOKEN_LESS h = (refl, refl, refl)
+infix_token k.TOKEN_LESS_OR_EQ h = (refl, refl, refl)
+infix_token k.TOKEN_MORE h = (refl, refl, refl)
+infix_token k.TOKEN_MORE_OR_EQ h = (refl, refl, refl)
+infix_token k.TOKEN_UPDATE h = (refl, refl, refl)
+infix_token k.TOKEN_ADD h = (refl, refl, refl)
+infix_token k.TOKEN_SUB h = (refl, refl, refl)
+infix_token k.TOKEN_MUL h = (refl, refl, refl)
+infix_token k.TOKEN_DIV h = (refl, refl, refl)
+infix_token k.TOKEN_CONCAT h = (refl, refl, refl)
+infix_token _ h = absurd (cc)
+
+infix_items : AreItems is_infix
+infix_items = record { token = λ kind h. (infix_token kind h).0; item = λ kind h. (infix_token kind h).1 }
+
+prefix_token : (kind : SyntaxKind) → is_prefix kind ≡ true → (is_token kind ≡ true) × (is_trivia kind ≡ false) × (is_some (unary_operator kind) ≡ true)
+prefix_token k.TOKEN_SUB h = (refl, refl, refl)
+prefix_token k.TOKEN_INVERT h = (refl, refl, refl)
+prefix_token _ h = absurd (cc)
+
+prefix_items : AreItems is_prefix
+prefix_items = record { token = λ kind h. (prefix_token kind h).0; item = λ kind h. (prefix_token kind h).1 }
+
+path_token : (kind : SyntaxKind) → is_path_token kind ≡ true → (is_token kind ≡ true) × (is_trivia kind ≡ false)
+path_token k.TOKEN_PATH_ABS h = (refl, refl)
+path_token k.TOKEN_PATH_REL h = (refl, refl)
+path_token k.TOKEN_PATH_HOME h = (refl, refl)
+path_token k.TOKEN_PATH_SEARCH h = (refl, refl)
+path_token _ h = absurd (cc)
+
+path_items : AreItems is_path_token
+path_items = record { token = λ kind h. (path_token kind h).0; item = λ kind h. (path_token kind h).1 }
+
+-- a token that stands for an operator is found as one
+first_or : {A : Type 0} (w : Bool) (o x : Option A) → (w ≡ true → is_some o ≡ true) → (w ≡ false → is_some x ≡ true) → is_some (or_else o x) ≡ true
+first_or w (Some a) x h g = refl
+first_or true None x h g = absurd (true_is_not_false (sym (h refl)))
+first_or false None x h g = g refl
+
+operator_found : {A : Type 0} (operator : SyntaxKind → Option A) (test : SyntaxKind → Bool) → ((kind : SyntaxKind) → test kind ≡ true → is_some (operator kind) ≡ true) → (ts : List Located)
+    → is_some (find (has_kind test) ts) ≡ true → is_some (first_operator operator ts) ≡ true
+operator_found operator test m [] h = absurd (true_is_not_false (sym h))
+operator_found operator test m (t ∷ ts) h =
+    first_or (test (item_of t).kind) (operator (item_of t).kind) (first_operator operator ts) (m (item_of t).kind)
+    (λ e. operator_found operator test m ts (sym (ap (λ w. is_some (cond w (Some t) (find (has_kind test) ts))) e) ∙ h))
+
+-- a literal's token is found
+some_left : {A : Type 0} (x y : Option A) → is_some x ≡ true → is_some (or_else x y) ≡ true
+some_left (Some a) y h = refl
+some_left None y h = absurd (true_is_not_false (sym h))
+
+some_right : {A : Type 0} (x y : Option A) → is_some y ≡ true → is_some (or_else x y) ≡ true
+some_right (Some a) y h = refl
+some_right None y h = h
+
+some_mapped : {A B : Type 0} (f : A → B) (x : Option A) → is_some (option_map f x) ≡ is_some x
+some_mapped f (Some a) = refl
+some_mapped f None = refl
+
+literal_found : (ks : List SyntaxKind) → IsOneLiteral ks → (a b c : Option Located)
+    → is_some a ≡ is_some (find (same_kind k.TOKEN_FLOAT) ks) → is_some b ≡ is_some (find (same_kind k.TOKEN_INTEGER) ks) → is_some c ≡ is_some (find (same_kind k.TOKEN_URI) ks)
+    → is_some (or_else (option_map literal.Float a) (or_else (option_map literal.Integer b) (option_map literal.Uri c))) ≡ true
+literal_found _ float a b c x y z = some_left (option_map literal.Float a) (or_else (option_map literal.Integer b) (option_map literal.Uri c)) (some_mapped literal.Float a ∙ x)
+literal_found _ integer a b c x y z =
+    some_right (option_map literal.Float a) (or_else (option_map literal.Integer b) (option_map literal.Uri c))
+    (some_left (option_map literal.Integer b) (option_map literal.Uri c) (some_mapped literal.Integer b ∙ y))
+literal_found _ uri a b c x y z =
+    some_right (option_map literal.Float a) (or_else (option_map literal.Integer b) (option_map literal.Uri c))
+    (some_right (option_map literal.Integer b) (option_map literal.Uri c) (some_mapped literal.Uri c ∙ z))
+
+-- a default stands behind its sign, and only there
+no_or : (kind : SyntaxKind) → is_expression kind ≡ true → same_kind k.TOKEN_OR kind ≡ false
+no_or kind e = none_if (same_kind k.TOKEN_OR) kind (λ h. true_is_not_false (sym ((exact_items k.TOKEN_OR refl refl).token kind h) ∙ expr_nodes kind (expression_expr kind e)))
+
+selection_pair : (ks : List SyntaxKind) → IsSelection ks → is_some (find (same_kind k.TOKEN_OR) ks) ≡ is_some (slice_get (filter is_expr ks) 1)
+selection_pair _ (bare j e) =
+    ap (λ w. is_some (cond w (Some j) None)) (no_or j e) ∙ sym (ap (λ w. is_some (slice_get (cond w (j ∷ []) []) 1)) (expression_expr j e))
+selection_pair _ (with_default j l e f) =
+    ap (λ w. is_some (cond w (Some j) (Some k.TOKEN_OR))) (no_or j e)
+    ∙ sym (ap (λ w. is_some (slice_get (cond w (j ∷ cond (is_expr l) (l ∷ []) []) (cond (is_expr l) (l ∷ []) [])) 1)) (expression_expr j e)
+    ∙ ap (λ w. is_some (slice_get (j ∷ cond w (l ∷ []) []) 1)) (expression_expr l f))
+
+formal_pair : (ks : List SyntaxKind) → IsFormal ks → is_some (find (same_kind k.TOKEN_QUESTION) ks) ≡ is_some (slice_get (filter is_expr ks) 1)
+formal_pair _ name_alone = refl
+formal_pair _ (defaulted l f) = sym (ap (λ w. is_some (slice_get (k.NODE_IDENT ∷ cond w (l ∷ []) []) 1)) (expression_expr l f))
+
+-- a row asks for a token, for a node, for an expression of a number
+abbrev asks_token : SyntaxKind → SyntaxKind → Bool
+asks_token kind x = is_token x && (not (is_trivia x) && nat_le 1 (count_of (Exactly x) (parts_of kind)))
+
+abbrev asks_node : SyntaxKind → SyntaxKind → Bool
+asks_node kind x = not (is_token x) && nat_le 1 (count_of (Exactly x) (parts_of kind))
+
+not_true : (w : Bool) → not w ≡ true → w ≡ false
+not_true false h = refl
+not_true true h = absurd (true_is_not_false (sym h))
+
+-- each part that a node's kind asks for is there
+module _ (n : Located) (ks : List SyntaxKind) (s : Sees n ks) where
+  token : (kind x : SyntaxKind) → is_row kind ks ≡ true → asks_token kind x ≡ true → HasToken x n
+  token kind x r h =
+      let a = and_parts (is_token x) (not (is_trivia x) && nat_le 1 (count_of (Exactly x) (parts_of kind))) h in
+      let b = and_parts (not (is_trivia x)) (nat_le 1 (count_of (Exactly x) (parts_of kind))) a.1 in
+      s.tokens (same_kind x) (exact_items x a.0 (not_true (is_trivia x) b.0)) ∙ row_first kind ks (Exactly x) (same_kind x) (λ j e. e) r (at_most 1 (count_of (Exactly x) (parts_of kind)) b.1)
+
+  expr : (kind : SyntaxKind) (number : ℕ) → is_row kind ks ≡ true → nat_le (suc number) (count_of Expression (parts_of kind)) ≡ true → HasExpr number n
+  expr kind number r h =
+      s.nodes is_expr expr_nodes number
+      ∙ row_nth kind ks Expression is_expr number expression_expr r (at_most (suc number) (count_of Expression (parts_of kind)) h)
+
+  child : (kind x : SyntaxKind) → is_row kind ks ≡ true → asks_node kind x ≡ true → HasNode x n
+  child kind x r h =
+      let a = and_parts (not (is_token x)) (nat_le 1 (count_of (Exactly x) (parts_of kind))) h in
+      s.nodes (same_kind x) (exact_nodes x (not_true (is_token x) a.0)) 0
+      ∙ row_nth kind ks (Exactly x) (same_kind x) 0 (λ j e. e) r (at_most 1 (count_of (Exactly x) (parts_of kind)) a.1)
+
+  param : is_row k.NODE_LAMBDA ks ≡ true → IsSome (child_of is_param 0 n)
+  param r = s.nodes is_param param_nodes 0 ∙ row_nth k.NODE_LAMBDA ks Parameter is_param 0 parameter_param r (omega arith)
+
+  binary : is_row k.NODE_BIN_OP ks ≡ true → IsSome (first_operator binary_operator (tokens_in (children_of n)))
+  binary r =
+      operator_found binary_operator is_infix (λ kind h. (infix_token kind h).2) (tokens_in (children_of n))
+      (s.tokens is_infix infix_items ∙ row_first k.NODE_BIN_OP ks Infix is_infix (λ j e. e) r (omega arith))
+
+  unary : is_row k.NODE_UNARY_OP ks ≡ true → IsSome (first_operator unary_operator (tokens_in (children_of n)))
+  unary r =
+      operator_found unary_operator is_prefix (λ kind h. (prefix_token kind h).2) (tokens_in (children_of n))
+      (s.tokens is_prefix prefix_items ∙ row_first k.NODE_UNARY_OP ks Prefix is_prefix (λ j e. e) r (omega arith))
+
+  path : is_row k.NODE_PATH_SEARCH ks ≡ true → IsSome (token_of is_path_token n)
+  path r =
+      s.tokens is_path_token path_items
+      ∙ row_first k.NODE_PATH_SEARCH ks (Exactly k.TOKEN_PATH_SEARCH) is_path_token
+      (λ j e. ap is_path_token (sym ((same_kind-decides k.TOKEN_PATH_SEARCH j).0 e))) r (omega arith)
+
+  plain : is_row k.NODE_LITERAL ks ≡ true → IsSome (first_literal n)
+  plain r =
+      literal_found ks (literal_is ks r) (token_of (same_kind k.TOKEN_FLOAT) n) (token_of (same_kind k.TOKEN_INTEGER) n) (token_of (same_kind k.TOKEN_URI) n)
+      (s.tokens (same_kind k.TOKEN_FLOAT) (exact_items k.TOKEN_FLOAT refl refl)) (s.tokens (same_kind k.TOKEN_INTEGER) (exact_items k.TOKEN_INTEGER refl refl))
+      (s.tokens (same_kind k.TOKEN_URI) (exact_items k.TOKEN_URI refl refl))
+
+  default : (x : SyntaxKind) → is_token x ≡ true → is_trivia x ≡ false → is_some (find (same_kind x) ks) ≡ is_some (slice_get (filter is_expr ks) 1)
+      → AreTogether (token_of (same_kind x) n) (child_of is_expr 1 n)
+  default x t i e = s.tokens (same_kind x) (exact_items x t i) ∙ e ∙ sym (s.nodes is_expr expr_nodes 1)
+
+  parts : (kind : SyntaxKind) → is_row kind ks ≡ true → HasParts kind n
+  parts k.NODE_ROOT r = expr k.NODE_ROOT 0 r refl
+  parts k.NODE_IDENT r = token k.NODE_IDENT k.TOKEN_IDENT r refl
+  parts k.NODE_CUR_POS r = token k.NODE_CUR_POS k.TOKEN_CUR_POS r refl
+  parts k.NODE_LITERAL r = plain r
+  parts k.NODE_PATH_SEARCH r = path r
+  parts k.NODE_INTERPOL r = expr k.NODE_INTERPOL 0 r refl
+  parts k.NODE_DYNAMIC r = (token k.NODE_DYNAMIC k.TOKEN_INTERPOL_START r refl, token k.NODE_DYNAMIC k.TOKEN_INTERPOL_END r refl)
+  parts k.NODE_PAREN r = (token k.NODE_PAREN k.TOKEN_L_PAREN r refl, expr k.NODE_PAREN 0 r refl, token k.NODE_PAREN k.TOKEN_R_PAREN r refl)
+  parts k.NODE_LIST r = (token k.NODE_LIST k.TOKEN_L_BRACK r refl, token k.NODE_LIST k.TOKEN_R_BRACK r refl)
+  parts k.NODE_ATTR_SET r = (token k.NODE_ATTR_SET k.TOKEN_L_BRACE r refl, token k.NODE_ATTR_SET k.TOKEN_R_BRACE r refl)
+  parts k.NODE_ATTRPATH_VALUE r = (child k.NODE_ATTRPATH_VALUE k.NODE_ATTRPATH r refl, token k.NODE_ATTRPATH_VALUE k.TOKEN_ASSIGN r refl, expr k.NODE_ATTRPATH_VALUE 0 r refl)
+  parts k.NODE_INHERIT r = token k.NODE_INHERIT k.TOKEN_INHERIT r refl
+  parts k.NODE_INHERIT_FROM r = (token k.NODE_INHERIT_FROM k.TOKEN_L_PAREN r refl, expr k.NODE_INHERIT_FROM 0 r refl, token k.NODE_INHERIT_FROM k.TOKEN_R_PAREN r refl)
+  parts k.NODE_LEGACY_LET r = (token k.NODE_LEGACY_LET k.TOKEN_LET r refl, token k.NODE_LEGACY_LET k.TOKEN_L_BRACE r refl, token k.NODE_LEGACY_LET k.TOKEN_R_BRACE r refl)
+  parts k.NODE_LET_IN r = (token k.NODE_LET_IN k.TOKEN_LET r refl, token k.NODE_LET_IN k.TOKEN_IN r refl, expr k.NODE_LET_IN 0 r refl)
+  parts k.NODE_WITH r = (token k.NODE_WITH k.TOKEN_WITH r refl, expr k.NODE_WITH 0 r refl, token k.NODE_WITH k.TOKEN_SEMICOLON r refl, expr k.NODE_WITH 1 r refl)
+  parts k.NODE_ASSERT r = (token k.NODE_ASSERT k.TOKEN_ASSERT r refl, expr k.NODE_ASSERT 0 r refl, expr k.NODE_ASSERT 1 r refl)
+  parts k.NODE_IF_ELSE r = (token k.NODE_IF_ELSE k.TOKEN_IF r refl, expr k.NODE_IF_ELSE 0 r refl, token k.NODE_IF_ELSE k.TOKEN_THEN r refl, expr k.NODE_IF_ELSE 1 r refl, token k.NODE_IF_ELSE k.TOKEN_ELSE r refl, expr k.NODE_IF_ELSE 2 r refl)
+  parts k.NODE_LAMBDA r = (param r, token k.NODE_LAMBDA k.TOKEN_COLON r refl, expr k.NODE_LAMBDA 0 r refl)
+  parts k.NODE_IDENT_PARAM r = child k.NODE_IDENT_PARAM k.NODE_IDENT r refl
+  parts k.NODE_PAT_BIND r = child k.NODE_PAT_BIND k.NODE_IDENT r refl
+  parts k.NODE_PAT_ENTRY r = (child k.NODE_PAT_ENTRY k.NODE_IDENT r refl, default k.TOKEN_QUESTION refl refl (formal_pair ks (formal_is ks r)))
+  parts k.NODE_SELECT r = (expr k.NODE_SELECT 0 r refl, token k.NODE_SELECT k.TOKEN_DOT r refl, child k.NODE_SELECT k.NODE_ATTRPATH r refl, default k.TOKEN_OR refl refl (selection_pair ks (selection_is ks r)))
+  parts k.NODE_HAS_ATTR r = (expr k.NODE_HAS_ATTR 0 r refl, token k.NODE_HAS_ATTR k.TOKEN_QUESTION r refl, child k.NODE_HAS_ATTR k.NODE_ATTRPATH r refl)
+  parts k.NODE_APPLY r = (expr k.NODE_APPLY 0 r refl, expr k.NODE_APPLY 1 r refl)
+  parts k.NODE_UNARY_OP r = (unary r, expr k.NODE_UNARY_OP 0 r refl)
+  parts k.NODE_BIN_OP r = (expr k.NODE_BIN_OP 0 r refl, binary r, expr k.NODE_BIN_OP 1 r refl)
+  parts _ r = tt
+
+-- a node of a tree whose nodes have their rows
+pub node_parts : (n : Located) → HasRows (forest_of n.tree) → HasTokens (forest_of n.tree) → IsNodeAt n → HasParts (item_of n).kind n
+node_parts n r w there =
+    let h = node_in n r w there in
+    subst (λ (kind : SyntaxKind). HasParts kind n) (sym h.is) (parts n (item_kinds h.children) (sees n h) h.kind h.row)
+
+-- a node of a tree that was read without errors
+pub read_parts : (tokens : List Lexeme) → AreRuled tokens → (n : Located) → IsParsed tokens n.tree [] → IsNodeAt n → HasParts (item_of n).kind n
+read_parts tokens ruled n h there = node_parts n (shaped_rows n.tree (h.shaped.0 refl).0) (parsed_tokens tokens n.tree [] ruled h) there

@@ -1,0 +1,94 @@
+//! The parts of paths.
+
+ghost use Rattle.std.specs.Prelude.{◌≡◌, IfOk, not};
+ghost use Rattle.rnix_base.specs.Kinds.{is_path_token};
+ghost use Rattle.rnix_base.specs.Select.{token_of};
+ghost use Rattle.rnix.specs.Strings.{path_parts, parts_of_path, is_search};
+
+use crate::ast::attributes::Path;
+use crate::ast::paths::{PathAbs, PathHome, PathRel, PathSearch};
+use crate::ast::string_parts::InterpolPart;
+use crate::ast::strings::Interpol;
+use rnix_base::{PathContent, all_parts, child_token};
+use rnix_tree::SyntaxNode;
+use std::alloc::{AllocError, Global};
+
+// The contents and the interpolations of a path.
+fn parts_of_node<'t>(
+    alloc: Global,
+    syntax: &SyntaxNode<'t>,
+) -> Result<Vec<InterpolPart<'t, PathContent<'t>>>, AllocError>
+    ensures { IfOk result (λ parts. parts.items ≡ path_parts syntax.now) }
+{
+    all_parts::<PathContent<'t>, Interpol<'t>>(alloc, syntax)
+}
+
+impl<'t> PathAbs<'t> {
+    /// The contents and the interpolations of the path, in order. Other children are left out.
+    pub fn parts(&self, alloc: Global) -> Result<Vec<InterpolPart<'t, PathContent<'t>>>, AllocError>
+        ensures { IfOk result (λ parts. parts.items ≡ path_parts self.now) }
+    {
+        parts_of_node(alloc, &self.syntax)
+    }
+}
+
+impl<'t> PathRel<'t> {
+    /// The contents and the interpolations of the path, in order. Other children are left out.
+    pub fn parts(&self, alloc: Global) -> Result<Vec<InterpolPart<'t, PathContent<'t>>>, AllocError>
+        ensures { IfOk result (λ parts. parts.items ≡ path_parts self.now) }
+    {
+        parts_of_node(alloc, &self.syntax)
+    }
+}
+
+impl<'t> PathHome<'t> {
+    /// The contents and the interpolations of the path, in order. Other children are left out.
+    pub fn parts(&self, alloc: Global) -> Result<Vec<InterpolPart<'t, PathContent<'t>>>, AllocError>
+        ensures { IfOk result (λ parts. parts.items ≡ path_parts self.now) }
+    {
+        parts_of_node(alloc, &self.syntax)
+    }
+}
+
+impl<'t> PathSearch<'t> {
+    /// What the path says, as it is written.
+    pub fn content(&self) -> Option<PathContent<'t>>
+        ensures { result ≡ token_of is_path_token self.now }
+    {
+        child_token::<PathContent<'t>>(&self.syntax)
+    }
+}
+
+impl<'t> Path<'t> {
+    /// The parts of the path; of one that is searched for, its content alone.
+    pub fn parts(&self, alloc: Global) -> Result<Vec<InterpolPart<'t, PathContent<'t>>>, AllocError>
+        ensures { IfOk result (λ parts. parts.items ≡ parts_of_path self.now) }
+    {
+        match self {
+            Path::PathAbs(path) => path.parts(alloc),
+            Path::PathRel(path) => path.parts(alloc),
+            Path::PathHome(path) => path.parts(alloc),
+            Path::PathSearch(path) => {
+                let mut parts = Vec::new(alloc);
+                if let Some(content) = path.content() {
+                    parts.push(InterpolPart::Literal(content))?;
+                }
+                Ok(parts)
+            }
+        }
+    }
+
+    /// Whether the path is searched for, as `<a>`.
+    pub fn is_search(&self) -> bool
+        ensures { result ≡ is_search self.now }
+    {
+        matches!(self, Path::PathSearch(_))
+    }
+
+    /// Whether the path may have interpolations.
+    pub fn is_interpolatable(&self) -> bool
+        ensures { result ≡ not (is_search self.now) }
+    {
+        !self.is_search()
+    }
+}

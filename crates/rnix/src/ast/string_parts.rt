@@ -1,0 +1,45 @@
+//! The parts of strings.
+
+ghost use Rattle.std.specs.Prelude.{◌≡◌, ◌<◌, ◌^◌, length, map, IfOk, string_bytes};
+ghost use Rattle.rnix_kinds.specs.declared.kinds.SyntaxKind.TheVariants as k;
+ghost use Rattle.rnix_tree.specs.Equality.{same_kind};
+ghost use Rattle.rnix_base.specs.Parts.{parts_of};
+ghost use Rattle.rnix_base.specs.Normal.{with_text};
+ghost use Rattle.rnix.specs.Strings.{string_parts, normalized_parts};
+
+use crate::ast::strings::{Interpol, Str};
+use rnix_base::{
+    InterpolParts, StrContent, indented_parts, is_indented, parts_in, quoted_parts, text_parts,
+};
+use std::alloc::{AllocError, Global};
+
+/// A part of a string or of a path.
+pub type InterpolPart<'t, T> = rnix_base::InterpolPart<T, Interpol<'t>>;
+
+/// The parts of a string, in order.
+pub type StrParts<'t> = InterpolParts<'t, StrContent<'t>, Interpol<'t>>;
+
+impl<'t> Str<'t> {
+    /// The contents and the interpolations of the string, in order. Other children are left out.
+    pub fn parts(&self) -> StrParts<'t>
+        ensures parts { parts_of (same_kind k.TOKEN_STRING_CONTENT) (same_kind k.NODE_INTERPOL) result ≡ string_parts self.now }
+        ensures fits { length result < 2 ^ 64 }
+    {
+        parts_in::<StrContent<'t>, Interpol<'t>>(&self.syntax)
+    }
+
+    /// The parts as they are meant: without the indentation of a string in `''`, and with what their escapes stand for.
+    pub fn normalized_parts(
+        &self,
+        alloc: Global,
+    ) -> Result<Vec<InterpolPart<'t, String>>, AllocError>
+        ensures { IfOk result (λ parts. map (with_text string_bytes) parts.items ≡ normalized_parts self.now) }
+    {
+        let texts = text_parts::<StrContent<'t>, Interpol<'t>>(alloc, &self.syntax)?;
+        if is_indented(&self.syntax) {
+            indented_parts(alloc, texts)
+        } else {
+            quoted_parts(alloc, texts)
+        }
+    }
+}

@@ -1,0 +1,207 @@
+-- The first piece of a text.
+use Rattle.std.proofs.Common.{◌≡◌, ◌≢◌, ◌+◌, ◌-◌, ◌<◌, ◌≤◌, ◌++◌, ◌∙◌, ℕ, zero, suc, Bool, true, false, ◌==◌, List, [], ◌∷◌, Option, Some, None, refl, sym, ap, inl, inr, length, drop, get_or, codes, nat_lt, arith, length-append, add-one}
+use Rattle.std.specs.Prelude.{encode_utf8, slice_index}
+use Rattle.std.specs.List.{list_all}
+use Rattle.std.specs.Char.{len_utf8}
+use Rattle.std.specs.Option.{MatchOption}
+use Rattle.std.specs.Str.Pattern.{StripsPrefix, FindsTextPrefix, LacksTextAt, HasPrefixMatch}
+use denote.Ref.{Bor}
+use Rattle.std.proofs.lemmas.Bool.{and_parts, cases_lt}
+use Rattle.std.proofs.lemmas.List.{drop_more, get_or_past, append-nil, nil_from_length}
+use Rattle.std.proofs.lemmas.Bool.Decides.{nat_tests}
+use Rattle.std.proofs.lemmas.Str.{inside_one, length-encode, len_utf8_ascii, len_utf8_bounds}
+use Rattle.rnix_kinds.specs.Lexical.Texts.{stands_at, begins}
+use Rattle.rnix_base.specs.Escapes.{Piece, escaped, itself, first_piece, values, unescaped, Begins, Escapes}
+
+-- the bytes of a character: a first byte, and none below 128 behind it
+pub record IsCharacter (bytes : List ℕ) : Type 0 where
+  pub first : ℕ
+  pub more : List ℕ
+  pub split : bytes ≡ first ∷ more
+  pub high : (k : ℕ) → k < length more → 128 ≤ get_or more k 0
+  pub alone : first < 128 → more ≡ []
+
+ascii_alone : (c : ℕ) (first : ℕ) (more : List ℕ) (k : ℕ) → encode_utf8 c ≡ first ∷ more → k < suc (length more) → get_or (first ∷ more) k 0 < 128 → length more ≡ 0
+ascii_alone c first more k e h low =
+    let same : c ≡ get_or (first ∷ more) k 0 = inside_one c [] (first ∷ more) k (sym e ∙ sym (append-nil (encode_utf8 c))) (rw e h) low in
+    let one : len_utf8 c ≡ 1 = len_utf8_ascii c (omega arith) in
+    omega (arith, length-encode c, ap length e)
+
+high_behind : (c : ℕ) (first : ℕ) (more : List ℕ) (k : ℕ) → encode_utf8 c ≡ first ∷ more → k < length more → 128 ≤ get_or more k 0
+high_behind c first more k e h =
+    elim (cases_lt (get_or more k 0) 128) [
+      | inl low ↦ absurd (omega (arith, ascii_alone c first more (suc k) e (omega arith) low))
+      | inr high ↦ high
+    ]
+
+character_of : (c : ℕ) (bytes : List ℕ) → encode_utf8 c ≡ bytes → IsCharacter bytes
+character_of c [] e = absurd (omega (arith, length-encode c, (len_utf8_bounds c).0, ap length e))
+character_of c (first ∷ more) e = record {
+  first = first;
+  more = more;
+  split = refl;
+  high = λ k h. high_behind c first more k e h;
+  alone = λ low. nil_from_length more (ascii_alone c first more 0 e (omega arith) low);
+}
+
+-- each character has such bytes
+pub is_character : (c : ℕ) (bytes : List ℕ) → bytes ≡ encode_utf8 c → IsCharacter bytes
+is_character c bytes e = character_of c bytes (sym e)
+
+unescaped-nil : (m : Bool) → unescaped m [] ≡ []
+unfolding values
+unescaped-nil m = refl
+
+-- where no piece fits
+pub unescaped_ends : (m : Bool) (text : List ℕ) → first_piece m text ≡ None → unescaped m text ≡ []
+unfolding values
+unescaped_ends m [] e = refl
+unescaped_ends m (b ∷ text) e = rw (e, values)
+
+values_step : (m : Bool) (b : ℕ) (text : List ℕ) (p : Piece) → first_piece m (b ∷ text) ≡ Some p → unescaped m (b ∷ text) ≡ p.value ++ values m (p.len - 1) text
+unfolding values
+values_step m b text p e = rw (e, values)
+
+values_inside : (m : Bool) (n : ℕ) (text : List ℕ) → values m n text ≡ unescaped m (drop n text)
+unfolding values
+values_inside m zero text = refl
+values_inside m (suc n) [] = refl
+values_inside m (suc n) (b ∷ text) = values_inside m n text
+
+-- behind a piece
+pub unescaped_step : (m : Bool) (b : ℕ) (text : List ℕ) (p : Piece) → first_piece m (b ∷ text) ≡ Some p → unescaped m (b ∷ text) ≡ p.value ++ unescaped m (drop (p.len - 1) text)
+unescaped_step m b text p e = values_step m b text p e ∙ ap (λ t. p.value ++ t) (values_inside m (p.len - 1) text)
+
+-- a byte of 128 or above stands for itself
+high_piece : (m : Bool) (b : ℕ) (text : List ℕ) → 128 ≤ b → first_piece m (b ∷ text) ≡ Some record { len = 1; value = b ∷ [] }
+high_piece true b text h = grind (arith, nat_tests)
+high_piece false b text h = grind (arith, nat_tests)
+
+unescaped_high : (m : Bool) (bytes text : List ℕ) → ((k : ℕ) → k < length bytes → 128 ≤ get_or bytes k 0) → unescaped m (bytes ++ text) ≡ bytes ++ unescaped m text
+unescaped_high m [] text h = refl
+unescaped_high m (b ∷ bytes) text h = unescaped_step m b (bytes ++ text) _ (high_piece m b (bytes ++ text) (h 0 (omega arith))) ∙ ap (λ t. b ∷ t) (unescaped_high m bytes text (λ k i. h (suc k) (omega arith)))
+
+first_stands : (m : Bool) (first : ℕ) (more rest : List ℕ) → ((k : ℕ) → k < length more → 128 ≤ get_or more k 0) → first_piece m (first ∷ (more ++ rest)) ≡ Some record { len = 1; value = first ∷ [] } → unescaped m (first ∷ (more ++ rest)) ≡ first ∷ (more ++ unescaped m rest)
+first_stands m first more rest high e = unescaped_step m first (more ++ rest) _ e ∙ ap (λ t. first ∷ t) (unescaped_high m more rest high)
+
+-- a character stands for itself where its first byte does
+pub character_begins : (m : Bool) (text value rest : List ℕ) → IsCharacter value → text ≡ value ++ rest → first_piece m text ≡ itself text → Begins m text value rest
+character_begins m text value rest one e free =
+    let whole : text ≡ one.first ∷ (one.more ++ rest) = e ∙ ap (λ t. t ++ rest) one.split in
+    record {
+      split = rw (whole, one.split) (first_stands m one.first one.more rest one.high (rw whole at free));
+      shorter = omega (arith, ap length whole, length-append one.more rest);
+    }
+
+-- behind a backslash a character stands for itself, unless it is one of three letters
+pub character_escapes : (text value rest : List ℕ) → IsCharacter value → text ≡ value ++ rest → value ≢ codes "n" → value ≢ codes "r" → value ≢ codes "t" → Escapes text value rest
+character_escapes text value rest one e n r t =
+    let whole : text ≡ one.first ∷ (one.more ++ rest) = e ∙ ap (λ t. t ++ rest) one.split in
+    let none : (b : ℕ) → b < 128 → value ≢ b ∷ [] → one.first ≢ b = λ b low other same. other (one.split ∙ ap (λ more. one.first ∷ more) (one.alone (omega arith)) ∙ ap (λ x. x ∷ []) same) in
+    let same : escaped one.first ≡ one.first = grind (arith, nat_tests, none 110 (omega arith) n, none 114 (omega arith) r, none 116 (omega arith) t) in
+    record {
+      split = λ m. rw (whole, one.split, same) (ap (λ t. one.first ∷ t) (unescaped_high m one.more rest one.high));
+      shorter = omega (arith, ap length whole, length-append one.more rest);
+    }
+
+-- a letter that stands for a control character behind a backslash
+pub letter_escapes : (b : ℕ) (text value rest : List ℕ) → text ≡ b ∷ rest → value ≡ escaped b ∷ [] → Escapes text value rest
+letter_escapes b text value rest e v = record {
+  split = λ m. rw (e, v) refl;
+  shorter = omega (arith, ap length e);
+}
+
+at_byte : (b i : ℕ) (text : List ℕ) → 0 < b → slice_index text i == b ≡ true → drop i text ≡ b ∷ drop (i + 1) text
+at_byte b i text some e =
+    let same : get_or text i 0 ≡ b = grind (arith, nat_tests) in
+    elim (cases_lt i (length text)) [
+      | inl within ↦ drop_more text i 0 within ∙ ap (λ x. x ∷ drop (i + 1) text) same
+      | inr past ↦ absurd (omega (arith, get_or_past text i 0 past, same))
+    ]
+
+suc-both : (i n : ℕ) → suc i + suc n ≡ i + suc (suc n)
+suc-both i n = omega arith
+
+-- bytes that stand in a text are a part of it
+stands_splits : (bytes : List ℕ) (i : ℕ) (text : List ℕ) → list_all (nat_lt 0) bytes ≡ true → stands_at bytes i text ≡ true → drop i text ≡ bytes ++ drop (i + length bytes) text
+stands_splits [] i text some e = ap (λ k. drop k text) (omega arith)
+stands_splits (b ∷ []) i text some e = at_byte b i text (grind (arith, nat_tests)) e
+stands_splits (b ∷ c ∷ bytes) i text some e =
+    at_byte b i text (grind (arith, nat_tests)) (and_parts _ _ e).0
+    ∙ ap (λ t. b ∷ t) (ap (λ k. drop k text) (add-one i) ∙ stands_splits (c ∷ bytes) (suc i) text (and_parts _ _ some).1 (and_parts _ _ e).1
+    ∙ ap (λ k. (c ∷ bytes) ++ drop k text) (suc-both i (length bytes)))
+
+-- a text that does not begin with these bytes
+pub not_begun : (bytes text : List ℕ) → list_all (nat_lt 0) bytes ≡ true → ((rest : List ℕ) → text ≢ bytes ++ rest) → begins bytes text ≡ false
+not_begun bytes text some none =
+    elim (begins bytes text) as (λ b. begins bytes text ≡ b → begins bytes text ≡ false) [
+      | true ↦ λ e. absurd (none (drop (0 + length bytes) text) (stands_splits bytes 0 text some e))
+      | false ↦ λ e. e
+    ] refl
+
+-- what a text that begins with these bytes has behind them
+pub strip_gives : (bytes text rest : List ℕ) → StripsPrefix (FindsTextPrefix bytes) text rest → text ≡ bytes ++ rest
+strip_gives bytes text rest h = h.1.1 ∙ ap (λ t. bytes ++ t) (sym h.2)
+
+-- behind two primes
+pub primes_begin : (text rest : List ℕ) → text ≡ codes "'''" ++ rest → Begins true text (codes "''") rest
+primes_begin text rest e = record {
+  split = rw e (unescaped_step true 39 (39 ∷ 39 ∷ rest) _ refl);
+  shorter = omega (arith, ap length e);
+}
+
+pub dollar_begins : (text rest : List ℕ) → text ≡ codes "''$" ++ rest → Begins true text (codes "$") rest
+dollar_begins text rest e = record {
+  split = rw e (unescaped_step true 39 (39 ∷ 36 ∷ rest) _ refl);
+  shorter = omega (arith, ap length e);
+}
+
+-- a backslash and what follows it, in either form
+abbrev pub opener : Bool → List ℕ
+opener true = codes "''\\"
+opener false = codes "\\"
+
+escape_piece : (m : Bool) (b : ℕ) (rest : List ℕ) → unescaped m (opener m ++ b ∷ rest) ≡ escaped b ∷ unescaped m rest
+escape_piece true b rest = unescaped_step true 39 (39 ∷ 92 ∷ b ∷ rest) record { len = 4; value = escaped b ∷ [] } (grind (arith, nat_tests))
+escape_piece false b rest = unescaped_step false 92 (b ∷ rest) record { len = 2; value = escaped b ∷ [] } (grind (arith, nat_tests))
+
+escape_ends : (m : Bool) → unescaped m (opener m) ≡ []
+escape_ends true = unescaped_ends true _ refl
+escape_ends false = unescaped_ends false _ refl
+
+escape_opens : (m : Bool) (text more value rest : List ℕ) → text ≡ opener m ++ more → Escapes more value rest → Begins m text value rest
+escape_opens m text [] value rest e h = absurd (omega (arith, h.shorter))
+escape_opens m text (b ∷ more) value rest e h = record {
+  split = rw e (escape_piece m b more ∙ h.split m);
+  shorter = omega (arith, ap length e, h.shorter, length-append (opener m) (b ∷ more));
+}
+
+pub escape_begins : (m : Bool) (text more : List ℕ) (r : Option (Bor (List ℕ) × Bor (List ℕ))) → text ≡ opener m ++ more → MatchOption r (more ≡ []) (λ p. Escapes more p.0.now p.1.now)
+    → MatchOption r (unescaped m text ≡ []) (λ p. Begins m text p.0.now p.1.now)
+escape_begins m text more None e h = rw (e, h) (ap (unescaped m) (append-nil (opener m)) ∙ escape_ends m)
+escape_begins m text more (Some p) e h = escape_opens m text more p.0.now p.1.now e h
+
+-- where no escape begins, a character stands for itself
+pub char_begins : (m : Bool) (text : List ℕ) (r : Option (Bor (List ℕ) × Bor (List ℕ))) → first_piece m text ≡ itself text
+    → MatchOption r (text ≡ []) (λ p. (c : ℕ) × (p.0.now ≡ encode_utf8 c) × (text ≡ p.0.now ++ p.1.now))
+    → MatchOption r (unescaped m text ≡ []) (λ p. Begins m text p.0.now p.1.now)
+char_begins m text None free h = rw h (unescaped-nil m)
+char_begins m text (Some p) free h = character_begins m text p.0.now p.1.now (is_character h.0 p.0.now h.1) h.2 free
+
+-- what the tests of a text between `''` tell
+pub primes_end : (text : List ℕ) → LacksTextAt (codes "'''") text 0 → LacksTextAt (codes "''$") text 0 → LacksTextAt (codes "''\\") text 0 → HasPrefixMatch (FindsTextPrefix (codes "''")) text → unescaped true text ≡ []
+primes_end text a b c h =
+    let two : begins (codes "''") text ≡ true = rw h.1.1 refl in
+    unescaped_ends true text (rw (not_begun _ text refl a, not_begun _ text refl b, not_begun _ text refl c, two) refl)
+
+pub primes_free : (text : List ℕ) → LacksTextAt (codes "'''") text 0 → LacksTextAt (codes "''$") text 0 → LacksTextAt (codes "''\\") text 0 → LacksTextAt (codes "''") text 0 → first_piece true text ≡ itself text
+primes_free text a b c d = rw (not_begun _ text refl a, not_begun _ text refl b, not_begun _ text refl c, not_begun _ text refl d) refl
+
+-- and of one between `"`
+pub quote_end : (text : List ℕ) → HasPrefixMatch (FindsTextPrefix (codes "\"")) text → unescaped false text ≡ []
+quote_end text h =
+    let one : begins (codes "\"") text ≡ true = rw h.1.1 refl in
+    unescaped_ends false text (rw one refl)
+
+pub quote_free : (text : List ℕ) → LacksTextAt (codes "\"") text 0 → LacksTextAt (codes "\\") text 0 → first_piece false text ≡ itself text
+quote_free text a b = rw (not_begun _ text refl a, not_begun _ text refl b) refl

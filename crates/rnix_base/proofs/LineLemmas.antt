@@ -1,0 +1,120 @@
+-- The lines of a row, symbol by symbol.
+use Rattle.std.proofs.Common.{◌≡◌, ◌+◌, ◌-◌, ◌++◌, ◌∙◌, ℕ, zero, suc, min, Bool, true, false, cond, ◌&&◌, nat_lt, List, [], ◌∷◌, Option, Some, None, refl, sym, ap, drop, arith}
+use Rattle.std.specs.Prelude.{if◌then◌else◌}
+use Rattle.std.specs.List.{flat_map}
+use Rattle.std.proofs.lemmas.Bool.Decides.{nat_tests}
+use Rattle.rnix_base.specs.Normal.{Symbol, is_byte, is_gap, is_feed, before_line, lines, indentation, shortened}
+use Rattle.rnix_base.specs.Indent.{is_lost, left_after}
+
+-- what stays of a row, where its first line loses up to `left` spaces and each other line up to n
+unfoldable pub shortened_from : ℕ → ℕ → List (List Symbol) → List Symbol
+shortened_from n left [] = []
+shortened_from n left (line ∷ lines) = shortened left line ++ flat_map (shortened n) lines
+
+-- the same, symbol by symbol
+unfoldable pub row_kept : ℕ → ℕ → List Symbol → List Symbol
+row_kept n left [] = []
+row_kept n left (s ∷ row) = (if is_lost left s.byte then [] else s ∷ []) ++ row_kept n (left_after n left s.byte) row
+
+from_start : (n : ℕ) (ls : List (List Symbol)) → shortened_from n n ls ≡ flat_map (shortened n) ls
+unfolding shortened_from
+from_start n [] = refl
+from_start n (line ∷ ls) = refl
+
+pub feed_is_no_gap : (s : Symbol) → is_feed s ≡ true → is_gap s ≡ false
+feed_is_no_gap s e = option_case s.byte e where
+  option_case : (b : Option ℕ) → is_byte 10 b ≡ true → is_byte 32 b ≡ false
+  option_case None e = refl
+  option_case (Some b) e = grind (arith, nat_tests)
+
+shortened_gap : (l : ℕ) (s : Symbol) (line : List Symbol) → is_gap s ≡ true → shortened (suc l) (s ∷ line) ≡ shortened l line
+shortened_gap l s line e = ap (λ g. drop (min (suc l) (cond g (1 + indentation line) 0)) (s ∷ line)) e ∙ ap (λ k. drop k (s ∷ line)) (min_suc l (indentation line)) where
+  min_suc : (a b : ℕ) → min (suc a) (1 + b) ≡ suc (min a b)
+  min_suc a b = omega arith
+
+shortened_none : (l : ℕ) (s : Symbol) (line : List Symbol) → is_gap s ≡ false → shortened l (s ∷ line) ≡ s ∷ line
+shortened_none l s line e = ap (λ g. drop (min l (cond g (1 + indentation line) 0)) (s ∷ line)) e ∙ ap (λ k. drop k (s ∷ line)) (min_zero l) where
+  min_zero : (a : ℕ) → min a 0 ≡ 0
+  min_zero a = omega arith
+
+shortened_zero : (line : List Symbol) → shortened 0 line ≡ line
+shortened_zero line = ap (λ k. drop k line) (zero_min (indentation line)) where
+  zero_min : (a : ℕ) → min 0 a ≡ 0
+  zero_min a = omega arith
+
+drop_none : (k : ℕ) → drop {A = Symbol} k [] ≡ []
+drop_none zero = refl
+drop_none (suc k) = refl
+
+-- a space that is lost
+from_gap : (n l : ℕ) (s : Symbol) (ls : List (List Symbol)) → is_gap s ≡ true → shortened_from n (suc l) (before_line s ls) ≡ shortened_from n l ls
+unfolding shortened_from
+from_gap n l s [] e = ap (λ t. t ++ []) (shortened_gap l s [] e) ∙ ap (λ t. t ++ []) (drop_none (min l 0))
+from_gap n l s (line ∷ ls) e = ap (λ t. t ++ flat_map (shortened n) ls) (shortened_gap l s line e)
+
+-- a symbol that stays, and ends no line
+from_stays : (n l : ℕ) (s : Symbol) (ls : List (List Symbol)) → ((line : List Symbol) → shortened l (s ∷ line) ≡ s ∷ line) → shortened_from n l (before_line s ls) ≡ s ∷ shortened_from n 0 ls
+unfolding shortened_from
+from_stays n l s [] e = ap (λ t. t ++ []) (e [])
+from_stays n l s (line ∷ ls) e = ap (λ t. t ++ flat_map (shortened n) ls) (e line ∙ ap (λ t. s ∷ t) (sym (shortened_zero line)))
+
+from_feed : (n l : ℕ) (s : Symbol) (ls : List (List Symbol)) → is_gap s ≡ false → shortened_from n l ((s ∷ []) ∷ ls) ≡ s ∷ shortened_from n n ls
+unfolding shortened_from
+from_feed n l s ls e = ap (λ t. t ++ flat_map (shortened n) ls) (shortened_none l s [] e) ∙ ap (λ t. s ∷ t) (sym (from_start n ls))
+
+pub lines_feed : (s : Symbol) (row : List Symbol) → is_feed s ≡ true → lines (s ∷ row) ≡ (s ∷ []) ∷ lines row
+unfolding lines
+lines_feed s row e = ap (λ f. if f then (s ∷ []) ∷ lines row else before_line s (lines row)) e
+
+pub lines_more : (s : Symbol) (row : List Symbol) → is_feed s ≡ false → lines (s ∷ row) ≡ before_line s (lines row)
+unfolding lines
+lines_more s row e = ap (λ f. if f then (s ∷ []) ∷ lines row else before_line s (lines row)) e
+
+-- what one symbol does
+pub kept_step : (n left next : ℕ) (s : Symbol) (row : List Symbol) → is_lost left s.byte ≡ false → left_after n left s.byte ≡ next → row_kept n left (s ∷ row) ≡ s ∷ row_kept n next row
+unfolding row_kept
+kept_step n left next s row lost after = ap (λ b. (if b then [] else s ∷ []) ++ row_kept n (left_after n left s.byte) row) lost ∙ ap (λ l. s ∷ row_kept n l row) after
+
+lost_step : (n left : ℕ) (s : Symbol) (row : List Symbol) → is_lost left s.byte ≡ true → row_kept n left (s ∷ row) ≡ row_kept n (left - 1) row
+unfolding row_kept
+lost_step n left s row lost =
+    ap (λ b. (if b then [] else s ∷ []) ++ row_kept n (left_after n left s.byte) row) lost
+    ∙ ap (λ b. row_kept n (if b then left - 1 else (if is_feed s then n else 0)) row) lost
+
+stays_after : (n left : ℕ) (s : Symbol) (feed : Bool) → is_lost left s.byte ≡ false → is_feed s ≡ feed → left_after n left s.byte ≡ (if feed then n else 0)
+stays_after n left s feed lost e = ap (λ b. if b then left - 1 else (if is_feed s then n else 0)) lost ∙ ap (λ f. if f then n else 0) e
+
+not_lost : (left : ℕ) (s : Symbol) → is_gap s ≡ false → is_lost left s.byte ≡ false
+not_lost left s e = ap (λ g. g && nat_lt 0 left) e
+
+lines_step : (n left : ℕ) (s : Symbol) (row : List Symbol) (feed gap : Bool) → is_feed s ≡ feed → is_gap s ≡ gap
+    → ((l : ℕ) → row_kept n l row ≡ shortened_from n l (lines row)) → row_kept n left (s ∷ row) ≡ shortened_from n left (lines (s ∷ row))
+lines_step n left s row true gap f g more =
+    let none = feed_is_no_gap s f in
+    kept_step n left n s row (not_lost left s none) (stays_after n left s true (not_lost left s none) f)
+    ∙ ap (λ t. s ∷ t) (more n) ∙ sym (from_feed n left s (lines row) none) ∙ ap (shortened_from n left) (sym (lines_feed s row f))
+lines_step n left s row false false f g more =
+    kept_step n left 0 s row (not_lost left s g) (stays_after n left s false (not_lost left s g) f)
+    ∙ ap (λ t. s ∷ t) (more 0) ∙ sym (from_stays n left s (lines row) (λ line. shortened_none left s line g)) ∙ ap (shortened_from n left) (sym (lines_more s row f))
+lines_step n zero s row false true f g more =
+    let lost : is_lost 0 s.byte ≡ false = ap (λ b. b && nat_lt 0 0) g in
+    kept_step n 0 0 s row lost (stays_after n 0 s false lost f)
+    ∙ ap (λ t. s ∷ t) (more 0) ∙ sym (from_stays n 0 s (lines row) (λ line. shortened_zero (s ∷ line))) ∙ ap (shortened_from n 0) (sym (lines_more s row f))
+lines_step n (suc left) s row false true f g more =
+    lost_step n (suc left) s row (ap (λ b. b && nat_lt 0 (suc left)) g ∙ positive left)
+    ∙ ap (λ l. row_kept n l row) (suc_minus left) ∙ more left ∙ sym (from_gap n left s (lines row) g) ∙ ap (shortened_from n (suc left)) (sym (lines_more s row f))
+  where
+    positive : (k : ℕ) → nat_lt 0 (suc k) ≡ true
+    positive k = grind (arith, nat_tests)
+
+    suc_minus : (k : ℕ) → suc k - 1 ≡ k
+    suc_minus k = omega arith
+
+row_is_shortened : (n left : ℕ) (row : List Symbol) → row_kept n left row ≡ shortened_from n left (lines row)
+unfolding row_kept shortened_from lines
+row_is_shortened n left [] = refl
+row_is_shortened n left (s ∷ row) = lines_step n left s row (is_feed s) (is_gap s) refl refl (λ l. row_is_shortened n l row)
+
+-- the lines of a row are shortened symbol by symbol
+pub row_kept-lines : (n : ℕ) (row : List Symbol) → flat_map (shortened n) (lines row) ≡ row_kept n n row
+row_kept-lines n row = sym (row_is_shortened n n row ∙ from_start n (lines row))

@@ -1,0 +1,64 @@
+-- What the text inside a string stands for: its pieces, each with its value, up to the first place where no piece fits.
+use Rattle.std.specs.Prelude.{ℕ, zero, suc, ◌≡◌, ◌<◌, ◌+◌, ◌-◌, Bool, ◌==◌, if◌then◌else◌, nat_lt, List, [], ◌∷◌, ◌++◌, drop, length, codes, slice_index, Option, Some, None}
+use Rattle.rnix_kinds.specs.Lexical.Texts.{begins}
+
+-- a piece of a text: how many bytes it has, and what they stand for
+pub record Piece : Type 0 where
+  pub len : ℕ
+  pub value : List ℕ
+
+-- what a byte behind a backslash stands for: `n`, `r` and `t` for a line feed, a carriage return and a tab
+abbrev pub escaped : ℕ → ℕ
+escaped b = if b == 110 then 10 else (if b == 114 then 13 else (if b == 116 then 9 else b))
+
+-- a byte that stands for itself, as each byte of a longer character does
+abbrev pub itself : List ℕ → Option Piece
+itself text = Some record { len = 1; value = slice_index text 0 ∷ [] }
+
+-- a backslash behind `before` bytes, with the byte that follows it; no piece, if the text ends there
+abbrev pub backslash : ℕ → List ℕ → Option Piece
+backslash before text =
+    if nat_lt (before + 1) (length text)
+    then Some record { len = before + 2; value = escaped (slice_index text (before + 1)) ∷ [] }
+    else None
+
+-- the piece that begins a text between `"`
+abbrev pub quoted_piece : List ℕ → Option Piece
+quoted_piece text =
+    if begins (codes "\"") text then None
+    else (if begins (codes "\\") text then backslash 0 text
+    else itself text)
+
+-- the piece that begins a text between `''`
+abbrev pub indented_piece : List ℕ → Option Piece
+indented_piece text =
+    if begins (codes "'''") text then Some record { len = 3; value = codes "''" }
+    else (if begins (codes "''$") text then Some record { len = 3; value = codes "$" }
+    else (if begins (codes "''\\") text then backslash 2 text
+    else (if begins (codes "''") text then None
+    else itself text)))
+
+-- the piece that begins a text that is not empty
+abbrev pub first_piece : Bool → List ℕ → Option Piece
+first_piece multiline text = if multiline then indented_piece text else quoted_piece text
+
+-- the values of the pieces; the first `inside` bytes belong to a piece that was read
+unfoldable pub values : Bool → ℕ → List ℕ → List ℕ
+values multiline inside [] = []
+values multiline (suc inside) (b ∷ text) = values multiline inside text
+values multiline zero (b ∷ text) =
+    elim (first_piece multiline (b ∷ text)) [ None ↦ [] | Some piece ↦ piece.value ++ values multiline (piece.len - 1) text ]
+
+-- what a text stands for
+abbrev pub unescaped : Bool → List ℕ → List ℕ
+unescaped multiline text = values multiline 0 text
+
+-- a text begins with a piece of this value, and this follows it
+pub record Begins (multiline : Bool) (text value rest : List ℕ) : Type 0 where
+  pub split : unescaped multiline text ≡ value ++ unescaped multiline rest
+  pub shorter : length rest < length text
+
+-- a text begins with a character that stands for this value behind a backslash, and this follows it
+pub record Escapes (text value rest : List ℕ) : Type 0 where
+  pub split : (multiline : Bool) → escaped (slice_index text 0) ∷ unescaped multiline (drop 1 text) ≡ value ++ unescaped multiline rest
+  pub shorter : length rest < length text

@@ -1,0 +1,54 @@
+-- The lines of a string, symbol by symbol.
+use Rattle.std.specs.Prelude.{ℕ, ◌+◌, ◌-◌, min, Bool, ◌&&◌, if◌then◌else◌, nat_lt, List, [], ◌∷◌, ◌++◌, Option, Some, None}
+use Rattle.std.specs.List.{fold}
+use Rattle.rnix_base.specs.declared.indent.Indent.{Indent}
+use Rattle.rnix_base.specs.declared.parts.InterpolPart.{InterpolPart}
+use Rattle.rnix_base.specs.declared.parts.InterpolPart.TheVariants.{Literal, Interpolation}
+use Rattle.rnix_base.specs.Normal.{Parts, is_byte}
+
+-- the smallest indentation so far, and how many spaces the line has, as long as it has nothing else, after one more symbol
+abbrev pub indent_after : Indent → Option ℕ → Indent
+indent_after indent symbol =
+    if is_byte 10 symbol then record { least = indent.least; spaces = Some 0 }
+    else elim indent.spaces [
+      | None ↦ indent
+      | Some n ↦ if is_byte 32 symbol
+          then record { least = indent.least; spaces = Some (if nat_lt n 1000000 then n + 1 else n) }
+          else record { least = min indent.least n; spaces = None }
+    ]
+
+-- after the bytes of a text
+abbrev pub indent_behind : Indent → List ℕ → Indent
+indent_behind = fold (λ indent b. indent_after indent (Some b))
+
+-- after a part
+abbrev pub indent_after_part : {I : Type 0} → Indent → InterpolPart (List ℕ) I → Indent
+indent_after_part indent (Literal text) = indent_behind indent text
+indent_after_part indent (Interpolation i) = indent_after indent None
+
+-- after the symbols of all parts
+abbrev pub indent_of : {I : Type 0} → Indent → Parts I → Indent
+indent_of = fold indent_after_part
+
+-- before the first symbol
+abbrev pub no_indent : Indent
+no_indent = record { least = 1000000; spaces = Some 0 }
+
+-- a symbol is one of the `left` spaces that the line still loses
+abbrev pub is_lost : ℕ → Option ℕ → Bool
+is_lost left symbol = is_byte 32 symbol && nat_lt 0 left
+
+-- how many spaces the line still loses after one more symbol, where each line loses up to `least`
+abbrev pub left_after : ℕ → ℕ → Option ℕ → ℕ
+left_after least left symbol = if is_lost left symbol then left - 1 else (if is_byte 10 symbol then least else 0)
+
+-- what the lines of a text do not lose
+unfoldable pub kept : ℕ → ℕ → List ℕ → List ℕ
+kept least left [] = []
+kept least left (b ∷ text) =
+    (if is_lost left (Some b) then [] else b ∷ []) ++ kept least (left_after least left (Some b)) text
+
+-- how many spaces the last line of a text still loses
+unfoldable pub left_behind : ℕ → ℕ → List ℕ → ℕ
+left_behind least left [] = left
+left_behind least left (b ∷ text) = left_behind least (left_after least left (Some b)) text

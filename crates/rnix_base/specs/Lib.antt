@@ -1,0 +1,9 @@
+pub mod Comment
+pub mod Escapes
+pub mod Indent
+pub mod Kinds
+pub mod Literal
+pub mod Normal
+pub mod Operators
+pub mod Parts
+pub mod Select

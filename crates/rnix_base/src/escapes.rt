@@ -1,0 +1,85 @@
+//! What the text inside a string stands for.
+
+ghost use Rattle.std.specs.Prelude.{◌≡◌, ◌++◌, [], ℕ, IfOk, MatchOption, encode_utf8, string_bytes, true, false};
+ghost use Rattle.rnix_base.specs.Escapes.{unescaped, Begins, Escapes};
+
+use std::alloc::{AllocError, Global};
+
+// The first character, and what is behind it.
+fn first_char(text: &str) -> Option<(&str, &str)>
+    ensures { MatchOption result (text.now ≡ []) (λ p. (c : ℕ) × (p.0.now ≡ encode_utf8 c) × (text.now ≡ p.0.now ++ p.1.now)) }
+{
+    let mut chars = text.chars();
+    let c = chars.next()?;
+    Some(text.split_at(c.len_utf8()))
+}
+
+// What the first character stands for behind a backslash, and what is behind it.
+fn escape(text: &str) -> Option<(&str, &str)>
+    ensures { MatchOption result (text.now ≡ []) (λ p. Escapes text.now p.0.now p.1.now) }
+{
+    let (c, rest) = first_char(text)?;
+    let value = match c {
+        "n" => "\n",
+        "r" => "\r",
+        "t" => "\t",
+        _ => c,
+    };
+    Some((value, rest))
+}
+
+// The value of the first piece between `"`, and what is behind it. None where no piece fits.
+fn quoted_piece(text: &str) -> Option<(&str, &str)>
+    ensures { MatchOption result (unescaped false text.now ≡ []) (λ p. Begins false text.now p.0.now p.1.now) }
+{
+    if text.starts_with("\"") {
+        return None;
+    }
+    match text.strip_prefix("\\") {
+        Some(rest) => escape(rest),
+        None => first_char(text),
+    }
+}
+
+// The value of the first piece between `''`, and what is behind it. None where no piece fits.
+fn indented_piece(text: &str) -> Option<(&str, &str)>
+    ensures { MatchOption result (unescaped true text.now ≡ []) (λ p. Begins true text.now p.0.now p.1.now) }
+{
+    if let Some(rest) = text.strip_prefix("'''") {
+        return Some(("''", rest));
+    }
+    if let Some(rest) = text.strip_prefix("''$") {
+        return Some(("$", rest));
+    }
+    if let Some(rest) = text.strip_prefix("''\\") {
+        return escape(rest);
+    }
+    if text.starts_with("''") {
+        return None;
+    }
+    first_char(text)
+}
+
+// The value of the first piece, and what is behind it. None where no piece fits.
+fn first_piece(text: &str, multiline: bool) -> Option<(&str, &str)>
+    ensures { MatchOption result (unescaped multiline text.now ≡ []) (λ p. Begins multiline text.now p.0.now p.1.now) }
+{
+    if multiline {
+        indented_piece(text)
+    } else {
+        quoted_piece(text)
+    }
+}
+
+/// What the text inside a string stands for: of one in `''`, if it is multiline, else of one in `"`.
+pub fn unescape(alloc: Global, text: &str, multiline: bool) -> Result<String, AllocError>
+    ensures { IfOk result (λ value. string_bytes value ≡ unescaped multiline text.now) }
+{
+    let mut value = String::new(alloc);
+    let mut rest = text;
+    while let Some((piece, more)) = first_piece(rest, multiline) {
+        value.push_str(piece)?;
+        rest = more;
+    }
+    Ok(value)
+}

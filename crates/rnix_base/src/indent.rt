@@ -1,0 +1,141 @@
+//! The indentation of a string.
+
+ghost use Rattle.std.specs.Prelude.{◌≡◌, ◌≤◌, ◌+◌, length, map, drop, suc, IfOk, MatchOption, string_bytes, true, false};
+ghost use Rattle.std.specs.List.{suffix_len};
+ghost use Rattle.rnix_base.specs.Normal.{with_text, is_space, spaces, opens_blank, without_last_spaces};
+ghost use Rattle.rnix_base.specs.Indent.{indent_after, indent_behind, indent_of, no_indent, kept, left_behind};
+
+use crate::parts::InterpolPart;
+use std::alloc::{AllocError, Global};
+
+// The largest indentation that lines lose.
+const LIMIT: usize = 1_000_000;
+
+/// What is known of the lines so far.
+#[derive(Clone, Copy)]
+pub(crate) struct Indent {
+    // The smallest indentation.
+    least: usize,
+    // How many spaces the line has, as long as it has nothing else.
+    spaces: Option<usize>,
+}
+
+impl Indent {
+    // After one more symbol: a byte, or an interpolation.
+    fn after(self, symbol: Option<u8>) -> Indent
+        ensures { result ≡ indent_after self symbol }
+    {
+        match (symbol, self.spaces) {
+            (Some(b'\n'), _) => Indent {
+                least: self.least,
+                spaces: Some(0),
+            },
+            (Some(b' '), Some(spaces)) => Indent {
+                least: self.least,
+                spaces: Some(if spaces < LIMIT { spaces + 1 } else { spaces }),
+            },
+            (_, Some(spaces)) => Indent {
+                least: self.least.min(spaces),
+                spaces: None,
+            },
+            (_, None) => self,
+        }
+    }
+
+    // After the bytes of a text.
+    fn behind(self, bytes: &[u8]) -> Indent
+        ensures { result ≡ indent_behind self bytes.now }
+    {
+        let mut indent = self;
+        for b in bytes {
+            indent = indent.after(Some(*b));
+        }
+        indent
+    }
+}
+
+/// The smallest indentation of a line that has text.
+pub(crate) fn least_indentation<I>(parts: &[InterpolPart<&str, I>]) -> usize
+    ensures { result ≡ (indent_of no_indent (map (with_text (λ text. text.now)) parts.now)).least }
+{
+    let mut indent = Indent {
+        least: LIMIT,
+        spaces: Some(0),
+    };
+    for part in parts {
+        indent = match part {
+            InterpolPart::Literal(text) => indent.behind(text.as_bytes()),
+            InterpolPart::Interpolation(_) => indent.after(None),
+        };
+    }
+    indent.least
+}
+
+/// What the lines of a text do not lose, and how many spaces its last line still loses. Each line loses up to `least`, the first one `left`.
+pub(crate) fn unindented(
+    alloc: Global,
+    text: &str,
+    least: usize,
+    left: usize,
+) -> Result<(String, usize), AllocError>
+    ensures kept { IfOk result (λ r. string_bytes r.0 ≡ kept least left text.now) }
+    ensures left { IfOk result (λ r. r.1 ≡ left_behind least left text.now) }
+{
+    let mut kept = String::new(alloc);
+    let mut left = left;
+    let mut rest = text.chars();
+    while let Some(c) = rest.next() {
+        if c == ' ' && left > 0 {
+            left -= 1;
+        } else {
+            kept.push(c)?;
+            left = if c == '\n' { least } else { 0 };
+        }
+    }
+    Ok((kept, left))
+}
+
+// How many of these bytes come first.
+fn spaces_before(bytes: &[u8]) -> usize
+    ensures { result ≡ spaces bytes.now }
+{
+    bytes.iter().take_while(|b| **b == b' ').count()
+}
+
+/// What follows a first line feed, if nothing but spaces stands before it.
+pub(crate) fn behind_blank(text: &str) -> Option<&str>
+    ensures { MatchOption result (opens_blank text.now ≡ false) (λ rest. (opens_blank text.now ≡ true) × (rest.now ≡ drop (suc (spaces text.now)) text.now)) }
+{
+    let bytes = text.as_bytes();
+    let spaces = spaces_before(bytes);
+    if spaces < bytes.len() && bytes[spaces] == b'\n' {
+        Some(&text[spaces + 1..])
+    } else {
+        None
+    }
+}
+
+// How long the bytes are without the spaces that they end with.
+fn trimmed_len(bytes: &[u8]) -> usize
+    ensures value { result + suffix_len is_space bytes.now ≡ length bytes.now }
+    ensures within { result ≤ length bytes.now }
+{
+    let mut end = bytes.len();
+    while end > 0 && bytes[end - 1] == b' ' {
+        end -= 1;
+    }
+    end
+}
+
+/// A text without the spaces behind its last line feed, if there is nothing else.
+pub(crate) fn without_last_spaces(text: &str) -> &str
+    ensures { result.now ≡ without_last_spaces text.now }
+{
+    let bytes = text.as_bytes();
+    let end = trimmed_len(bytes);
+    if end > 0 && bytes[end - 1] == b'\n' {
+        &text[..end]
+    } else {
+        text
+    }
+}

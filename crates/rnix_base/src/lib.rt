@@ -1,0 +1,27 @@
+//! Typed nodes and tokens: their traits, the children that they select, the tokens with a meaning of their own, and the operators.
+#![tactic(auto)]
+
+mod accessors;
+mod ast_children;
+mod escapes;
+mod indent;
+mod literal;
+mod node;
+mod normal;
+mod operators;
+mod parts;
+mod path_content;
+mod token;
+mod tokens;
+
+pub use accessors::{child_at, child_token, children, first_child, first_token};
+pub use ast_children::AstChildren;
+pub use escapes::unescape;
+pub use literal::{Float, Integer, LiteralKind, Uri, first_literal};
+pub use node::AstNode;
+pub use normal::{indented_parts, quoted_parts};
+pub use operators::{BinOpKind, UnaryOpKind, first_binary, first_unary};
+pub use parts::{InterpolPart, InterpolParts, all_parts, is_indented, parts_in, text_parts};
+pub use path_content::PathContent;
+pub use token::AstToken;
+pub use tokens::{Comment, StrContent, Whitespace};

@@ -1,0 +1,81 @@
+//! The parts of a string, normalized.
+
+ghost use Rattle.std.specs.Prelude.{◌≡◌, map, IfOk, string_bytes};
+ghost use Rattle.rnix_base.specs.Normal.{with_text, opened, indented_parts, quoted_parts};
+
+use crate::escapes::unescape;
+use crate::indent::{behind_blank, least_indentation, unindented, without_last_spaces};
+use crate::parts::InterpolPart;
+use std::alloc::{AllocError, Global};
+
+// The parts without the spaces and the line feed that the first one begins with.
+fn opened<'t, I: Drop>(parts: Vec<InterpolPart<&'t str, I>>) -> Vec<InterpolPart<&'t str, I>>
+    ensures { map (with_text (λ text. text.now)) result.items ≡ opened (map (with_text (λ text. text.now)) parts.entry.items) }
+{
+    let mut parts = parts;
+    if let Some(InterpolPart::Literal(text)) = parts.first() {
+        if let Some(rest) = behind_blank(text) {
+            if rest.is_empty() {
+                parts.remove(0);
+            } else {
+                parts[0] = InterpolPart::Literal(rest);
+            }
+        }
+    }
+    parts
+}
+
+/// The parts of a string between `''`: without indentation, and with what their escapes stand for.
+pub fn indented_parts<'t, I: Drop>(
+    alloc: Global,
+    parts: Vec<InterpolPart<&'t str, I>>,
+) -> Result<Vec<InterpolPart<String, I>>, AllocError>
+    ensures { IfOk result (λ normal. map (with_text string_bytes) normal.items ≡ indented_parts (map (with_text (λ text. text.now)) parts.entry.items)) }
+{
+    let parts = opened(parts);
+    let least = least_indentation(&parts);
+    let mut left = least;
+    let mut rest = parts.into_iter();
+    let mut normal = Vec::new(alloc);
+    while let Some(part) = rest.next() {
+        match part {
+            InterpolPart::Literal(text) => {
+                let (text, after) = unindented(alloc, text, least, left)?;
+                left = after;
+                let text = if rest.len() == 0 {
+                    without_last_spaces(text.as_str())
+                } else {
+                    text.as_str()
+                };
+                normal.push(InterpolPart::Literal(unescape(alloc, text, true)?))?;
+            }
+            InterpolPart::Interpolation(interpolation) => {
+                left = 0;
+                normal.push(InterpolPart::Interpolation(interpolation))?;
+            }
+        }
+    }
+    Ok(normal)
+}
+
+/// The parts of a string between `"`, with what their escapes stand for.
+pub fn quoted_parts<'t, I: Drop>(
+    alloc: Global,
+    parts: Vec<InterpolPart<&'t str, I>>,
+) -> Result<Vec<InterpolPart<String, I>>, AllocError>
+    ensures { IfOk result (λ normal. map (with_text string_bytes) normal.items ≡ quoted_parts (map (with_text (λ text. text.now)) parts.entry.items)) }
+{
+    let mut rest = parts.into_iter();
+    let mut normal = Vec::new(alloc);
+    while let Some(part) = rest.next() {
+        match part {
+            InterpolPart::Literal(text) => {
+                normal.push(InterpolPart::Literal(unescape(alloc, text, false)?))?;
+            }
+            InterpolPart::Interpolation(interpolation) => {
+                normal.push(InterpolPart::Interpolation(interpolation))?;
+            }
+        }
+    }
+    Ok(normal)
+}

@@ -1,0 +1,109 @@
+//! Tokens of paths.
+
+ghost use Rattle.std.specs.Prelude.{◌≡◌, true};
+ghost use Rattle.rnix_kinds.specs.declared.kinds.SyntaxKind.TheVariants as k;
+ghost use Rattle.rnix_tree.specs.Equality.{same_kind};
+ghost use Rattle.rnix_tree.specs.Tree.{item_of, text_at};
+ghost use Rattle.rnix_base.specs.Kinds.{is_path_token};
+
+use crate::token::AstToken;
+use rnix_kinds::SyntaxKind;
+use rnix_tree::SyntaxToken;
+use std::marker::Model;
+
+/// What a path says between its interpolations, as `./so` or `<so>`.
+#[derive(Clone, Debug, PartialEq, Eq, Hash, Drop)]
+pub struct PathContent<'t> {
+    syntax: SyntaxToken<'t>,
+}
+
+impl<'t> Model for PathContent<'t> {
+    ghost use Rattle.std.specs.Prelude.{◌≡◌, true};
+    ghost use Rattle.rnix_base.specs.Kinds.{is_path_token};
+    ghost use Rattle.rnix_tree.specs.Tree.{Located, located_code, item_of};
+
+    ghost Value = { Located };
+
+    ghost coded = { located_code };
+
+    ghost view = { λ t. t.syntax };
+
+    ghost inverse = { λ e. record { syntax = e } };
+
+    ghost invariant = { λ t. is_path_token (item_of t.syntax).kind ≡ true };
+}
+
+impl<'t> AstToken<'t> for PathContent<'t> {
+    ghost kinds = { is_path_token };
+
+    ghost token = { λ t. t };
+
+    fn can_cast(kind: SyntaxKind) -> bool
+        ensures { result ≡ is_path_token kind }
+    {
+        matches!(
+            kind,
+            SyntaxKind::TOKEN_PATH_ABS
+                | SyntaxKind::TOKEN_PATH_REL
+                | SyntaxKind::TOKEN_PATH_HOME
+                | SyntaxKind::TOKEN_PATH_SEARCH
+        )
+    }
+
+    fn cast(syntax: SyntaxToken<'t>) -> Option<Self> {
+        if Self::can_cast(syntax.kind()) {
+            Some(PathContent { syntax })
+        } else {
+            None
+        }
+    }
+
+    fn syntax(&self) -> &SyntaxToken<'t> {
+        &self.syntax
+    }
+}
+
+impl<'t> PathContent<'t> {
+    /// The text, as it is written.
+    pub fn text(&self) -> &'t str
+        ensures { result.now ≡ text_at self.now }
+    {
+        self.syntax.text()
+    }
+
+    /// Which of the four kinds of path token it is.
+    pub fn path_kind(&self) -> SyntaxKind
+        ensures kind { result ≡ (item_of self.now).kind }
+        ensures path { is_path_token result ≡ true }
+    {
+        self.syntax.kind()
+    }
+
+    /// Whether the path begins at the root, as `/so`.
+    pub fn is_absolute(&self) -> bool
+        ensures { result ≡ same_kind k.TOKEN_PATH_ABS (item_of self.now).kind }
+    {
+        self.path_kind() == SyntaxKind::TOKEN_PATH_ABS
+    }
+
+    /// Whether the path begins at the file's own directory, as `./so`.
+    pub fn is_relative(&self) -> bool
+        ensures { result ≡ same_kind k.TOKEN_PATH_REL (item_of self.now).kind }
+    {
+        self.path_kind() == SyntaxKind::TOKEN_PATH_REL
+    }
+
+    /// Whether the path begins at the user's directory, as `~/so`.
+    pub fn is_home(&self) -> bool
+        ensures { result ≡ same_kind k.TOKEN_PATH_HOME (item_of self.now).kind }
+    {
+        self.path_kind() == SyntaxKind::TOKEN_PATH_HOME
+    }
+
+    /// Whether the path is searched for, as `<so>`.
+    pub fn is_search(&self) -> bool
+        ensures { result ≡ same_kind k.TOKEN_PATH_SEARCH (item_of self.now).kind }
+    {
+        self.path_kind() == SyntaxKind::TOKEN_PATH_SEARCH
+    }
+}
