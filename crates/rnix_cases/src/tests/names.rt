@@ -1,5 +1,6 @@
 //! Each public name by the path that a user writes.
 
+use rnix::ast::AstNode;
 use std::test::Fail;
 
 // The kinds of what stands right below the root.

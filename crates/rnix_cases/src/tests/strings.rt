@@ -1,0 +1,204 @@
+//! The parts of strings, and what their texts stand for.
+
+use rnix::ast::{AstNode, AstToken, Expr, InterpolPart, Str, unescape};
+use rnix::{GreenNode, GreenNodeBuilder, Root, SyntaxKind, SyntaxNode};
+use std::alloc::{AllocError, Global};
+use std::test::Fail;
+
+// Normalized parts one behind another: texts in parentheses, interpolations as they are written.
+fn written(alloc: Global, string: &Str<'_>) -> Result<String, AllocError> {
+    let parts = string.normalized_parts(alloc)?;
+    let mut said = String::new(alloc);
+    for part in &parts {
+        match part {
+            InterpolPart::Literal(text) => {
+                said.push('(')?;
+                said.push_str(text.as_str())?;
+                said.push(')')?;
+            }
+            InterpolPart::Interpolation(node) => said.push_str(node.syntax().text())?,
+        }
+    }
+    Ok(said)
+}
+
+// The normalized parts of the string that a text is.
+fn normalized(alloc: Global, text: &str) -> Result<String, AllocError> {
+    let read = Root::parse(alloc, text)?;
+    match read.tree().expr() {
+        Some(Expr::Str(string)) => written(alloc, &string),
+        _ => String::from_str(alloc, "no string"),
+    }
+}
+
+// The same, asked for once more if it was refused.
+fn normalized_again(alloc: Global, text: &str) -> Result<String, AllocError> {
+    match normalized(alloc, text) {
+        Ok(said) => Ok(said),
+        Err(_refused) => normalized(alloc, text),
+    }
+}
+
+#[test]
+fn indented_strings(rt: HostRuntime) -> Result<(), Fail> {
+    let alloc = rt.alloc();
+    assert_eq!(rt; normalized_again(alloc, "''\n''")?.as_str(), "");
+    assert_eq!(rt; normalized_again(alloc, "''\n  ''")?.as_str(), "()");
+    assert_eq!(rt;
+        normalized_again(alloc, "''\n  hello\n  world''")?.as_str(),
+        "(hello\nworld)"
+    );
+    assert_eq!(rt; normalized_again(alloc, "''hello ''")?.as_str(), "(hello )");
+    assert_eq!(rt;
+        normalized_again(alloc, "''hello\n ''")?.as_str(),
+        "(hello\n)"
+    );
+    assert_eq!(rt;
+        normalized_again(alloc, "''\n    a\n\n  b''")?.as_str(),
+        "(  a\n\nb)"
+    );
+    Ok(())
+}
+
+#[test]
+fn strings_with_interpolations(rt: HostRuntime) -> Result<(), Fail> {
+    let alloc = rt.alloc();
+    assert_eq!(rt;
+        normalized_again(alloc, "''\n  ${x}\n   y''")?.as_str(),
+        "()${x}(\n y)"
+    );
+    assert_eq!(rt;
+        normalized_again(alloc, "\"a${b}c\"")?.as_str(),
+        "(a)${b}(c)"
+    );
+    let text = "''\n\n    v ${a}, b:\n\n      c\n    ${d e}.\n\n    f\n  ''";
+    assert_eq!(rt;
+        normalized_again(alloc, text)?.as_str(),
+        "(\nv )${a}(, b:\n\n  c\n)${d e}(.\n\nf\n)"
+    );
+    Ok(())
+}
+
+// A NODE_STRING over one content, between the signs of an indented string.
+fn around(alloc: Global, content: &str) -> Result<GreenNode, AllocError> {
+    let mut builder = GreenNodeBuilder::new(alloc);
+    builder.start_node(SyntaxKind::NODE_STRING)?;
+    builder.token(SyntaxKind::TOKEN_STRING_START, "''")?;
+    builder.token(SyntaxKind::TOKEN_STRING_CONTENT, content)?;
+    builder.token(SyntaxKind::TOKEN_STRING_END, "''")?;
+    builder.finish_node()?;
+    builder.finish()
+}
+
+// Lines, each behind a number of spaces.
+fn lines(alloc: Global, rows: &[(usize, &str)]) -> Result<String, AllocError> {
+    let mut text = String::new(alloc);
+    for (number, row) in rows.iter().enumerate() {
+        if number > 0 {
+            text.push('\n')?;
+        }
+        for _ in 0..row.0 {
+            text.push(' ')?;
+        }
+        text.push_str(row.1)?;
+    }
+    Ok(text)
+}
+
+#[test]
+fn a_string_that_was_built_by_hand(rt: HostRuntime) -> Result<(), Fail> {
+    let alloc = rt.alloc();
+    let content = [
+        (0, ""),
+        (24, ""),
+        (30, ""),
+        (20, "This is a multiline string :D"),
+        (22, "indented by two"),
+        (20, "\\'\\'\\'\\'\\"),
+        (20, "''${ interpolation was escaped }"),
+        (20, "two single quotes: '''"),
+        (20, "three single quotes: ''''"),
+        (16, ""),
+    ];
+    let wanted = [
+        (4, ""),
+        (10, ""),
+        (0, "This is a multiline string :D"),
+        (2, "indented by two"),
+        (0, "\\'\\'\\'\\'\\"),
+        (0, "${ interpolation was escaped }"),
+        (0, "two single quotes: ''"),
+        (0, "three single quotes: '''"),
+        (0, ""),
+    ];
+    let tree = around(alloc, lines(alloc, &content)?.as_str())?;
+    let Some(string) = Str::cast(SyntaxNode::new_root(&tree)) else {
+        assert!(rt; false);
+        return Ok(());
+    };
+    let mut said = String::from_str(alloc, "(")?;
+    said.push_str(lines(alloc, &wanted)?.as_str())?;
+    said.push(')')?;
+    assert_eq!(rt; written(alloc, &string)?.as_str(), said.as_str());
+    Ok(())
+}
+
+// A NODE_STRING over `"`, an empty NODE_ERROR and a content.
+fn broken(alloc: Global) -> Result<GreenNode, AllocError> {
+    let mut builder = GreenNodeBuilder::new(alloc);
+    builder.start_node(SyntaxKind::NODE_STRING)?;
+    builder.token(SyntaxKind::TOKEN_STRING_START, "\"")?;
+    builder.start_node(SyntaxKind::NODE_ERROR)?;
+    builder.finish_node()?;
+    builder.token(SyntaxKind::TOKEN_STRING_CONTENT, "a")?;
+    builder.finish_node()?;
+    builder.finish()
+}
+
+#[test]
+fn other_children_are_left_out(rt: HostRuntime) -> Result<(), Fail> {
+    let tree = broken(rt.alloc())?;
+    let Some(string) = Str::cast(SyntaxNode::new_root(&tree)) else {
+        assert!(rt; false);
+        return Ok(());
+    };
+    let mut parts = string.parts();
+    let first = parts.next();
+    assert!(rt;
+        matches!(first, Some(InterpolPart::Literal(content)) if content.syntax().text() == "a")
+    );
+    assert!(rt; parts.next().is_none());
+    let mut builder = GreenNodeBuilder::new(rt.alloc());
+    builder.start_node(SyntaxKind::NODE_STRING)?;
+    builder.finish_node()?;
+    let empty = builder.finish()?;
+    if let Some(string) = Str::cast(SyntaxNode::new_root(&empty)) {
+        assert!(rt; string.parts().next().is_none());
+        assert_eq!(rt; string.normalized_parts(rt.alloc())?.len(), 0);
+    }
+    Ok(())
+}
+
+// What a text stands for, asked for once more if it was refused.
+fn meant(alloc: Global, text: &str, multiline: bool) -> Result<String, AllocError> {
+    match unescape(alloc, text, multiline) {
+        Ok(said) => Ok(said),
+        Err(_refused) => unescape(alloc, text, multiline),
+    }
+}
+
+#[test]
+fn texts_stand_for_others(rt: HostRuntime) -> Result<(), Fail> {
+    let alloc = rt.alloc();
+    assert_eq!(rt; meant(alloc, "\\\"Hello\\\"", false)?.as_str(), "\"Hello\"");
+    assert_eq!(rt;
+        meant(alloc, "Hello\\n\\\"World\\\" :D", false)?.as_str(),
+        "Hello\n\"World\" :D"
+    );
+    assert_eq!(rt;
+        meant(alloc, "Hello''\\n'''World''' :D", true)?.as_str(),
+        "Hello\n''World'' :D"
+    );
+    assert_eq!(rt; meant(alloc, "\"Hello\"", true)?.as_str(), "\"Hello\"");
+    Ok(())
+}
