@@ -76,7 +76,7 @@ impl Parse {
         }
     }
 
-    /// The errors. There are none exactly if each node has the shape of its kind.
+    /// The errors. There are none exactly if each node has the shape of its kind, and no pattern names an argument twice.
     pub fn errors(&self) -> &[ParseError]
         ensures { map fault_of result.now ≡ self.now.faults }
     {
