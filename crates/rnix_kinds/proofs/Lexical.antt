@@ -1,5 +1,6 @@
 -- Lemmas on the lexical rules.
 pub mod CutLemmas
+pub mod CutParts
 pub mod Laws
 pub mod LongestLemmas
 pub mod ModesLemmas
