@@ -1,3 +1,5 @@
+mod AnyParts
 pub mod SameParts
+mod SameTree
 mod Seen
 mod WholeLemmas

@@ -6,7 +6,6 @@ use Rattle.std.proofs.lemmas.Bool.{and_parts}
 use Rattle.rnix_kinds.specs.declared.kinds.SyntaxKind.{SyntaxKind}
 use Rattle.rnix_kinds.specs.declared.kinds.SyntaxKind.TheVariants as k
 use Rattle.rnix_kinds.specs.SyntaxKind.{is_token, is_trivia}
-use Rattle.rnix_kinds.specs.Lexical.Tokens.{Lexeme}
 use Rattle.rnix_tree.specs.Equality.{same_kind, same_kind-decides}
 use Rattle.rnix_tree.specs.Tree.{Located, IsNodeAt, item_of, forest_of}
 use Rattle.rnix_tree.specs.Walk.{children_of}
@@ -17,10 +16,8 @@ use Rattle.rnix_base.specs.Literal.{first_literal}
 use Rattle.rnix_base.specs.declared.literal.LiteralKind.TheVariants as literal
 use Rattle.rnix_grammar.specs.Rows.{is_expression, is_infix, is_row}
 use Rattle.rnix_grammar.specs.Shape.{item_kinds}
-use Rattle.rnix_grammar.specs.Parsed.{IsParsed}
 use Rattle.rnix_grammar.proofs.Basics.{true_is_not_false}
-use Rattle.rnix_grammar.proofs.SpelledLemmas.{AreRuled}
-use Rattle.rnix_grammar.proofs.PartRows.{HasRows, HasTokens, shaped_rows, parsed_tokens}
+use Rattle.rnix_grammar.proofs.PartRows.{HasRows, HasTokens}
 use Rattle.rnix_grammar.proofs.RowParts.{Exactly, Expression, Parameter, Prefix, Infix, is_prefix, is_parameter}
 use Rattle.rnix_grammar.proofs.RowTable.{parts_of, IsSelection, bare, with_default, selection_is, IsFormal, name_alone, defaulted, formal_is, IsOneLiteral, float, integer, uri, literal_is}
 use Rattle.rnix_grammar.proofs.RowCounts.{count_of, row_first, row_nth}
@@ -284,7 +281,3 @@ pub node_parts : (n : Located) → HasRows (forest_of n.tree) → HasTokens (for
 node_parts n r w there =
     let h = node_in n r w there in
     subst (λ (kind : SyntaxKind). HasParts kind n) (sym h.is) (parts n (item_kinds h.children) (sees n h) h.kind h.row)
-
--- a node of a tree that was read without errors
-pub read_parts : (tokens : List Lexeme) → AreRuled tokens → (n : Located) → IsParsed tokens n.tree [] → IsNodeAt n → HasParts (item_of n).kind n
-read_parts tokens ruled n h there = node_parts n (shaped_rows n.tree (h.shaped.0 refl).0) (parsed_tokens tokens n.tree [] ruled h) there

@@ -4,7 +4,7 @@ use Rattle.rnix_kinds.specs.declared.kinds.SyntaxKind.TheVariants as k
 use Rattle.rnix_tree.specs.Equality.{same_kind}
 use Rattle.rnix_tree.specs.Tree.{Located, text_at}
 use Rattle.rnix_base.specs.declared.parts.InterpolPart.{InterpolPart}
-use Rattle.rnix_base.specs.declared.parts.InterpolPart.TheVariants.{Literal, Interpolation}
+use Rattle.rnix_base.specs.declared.parts.InterpolPart.TheVariants.{Literal}
 use Rattle.rnix_base.specs.Kinds.{is_path_token}
 use Rattle.rnix_base.specs.Select.{token_of}
 use Rattle.rnix_base.specs.Parts.{parts_below, is_indented}

@@ -1,3 +1,4 @@
+pub mod SelectLemmas
 mod OperatorLemmas
 pub mod EscapeRows
 pub mod EscapeLemmas

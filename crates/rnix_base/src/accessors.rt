@@ -12,9 +12,10 @@ use rnix_tree::{NodeOrToken, SyntaxNode, SyntaxToken};
 use std::marker::PhantomData;
 
 /// The nodes right below this one that cast to `T`, in order.
+#[tactic(auto, using(crate::proofs::SelectLemmas::those_fit))]
 pub fn children<'t, T: AstNode<'t>>(parent: &SyntaxNode<'t>) -> AstChildren<'t, T>
     ensures children { those_of T.kinds result ≡ nodes_of T.kinds parent.now }
-    ensures fits { length result < 2 ^ 64 }
+    ensures fits { length (those_of T.kinds result) < 2 ^ 64 }
 {
     AstChildren {
         nodes: parent.children(),

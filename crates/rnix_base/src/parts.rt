@@ -69,11 +69,12 @@ impl<'t, T: AstToken<'t>, I: AstNode<'t>> Iterator for InterpolParts<'t, T, I> {
 }
 
 /// The tokens right below this node that cast to `T`, and the nodes that cast to `I`, in order.
+#[tactic(auto, using(crate::proofs::SelectLemmas::parts_fit))]
 pub fn parts_in<'t, T: AstToken<'t>, I: AstNode<'t>>(
     parent: &SyntaxNode<'t>,
 ) -> InterpolParts<'t, T, I>
     ensures parts { parts_of T.kinds I.kinds result ≡ parts_below T.kinds I.kinds parent.now }
-    ensures fits { length result < 2 ^ 64 }
+    ensures fits { length (parts_of T.kinds I.kinds result) < 2 ^ 64 }
 {
     InterpolParts {
         elements: parent.children_with_tokens(),

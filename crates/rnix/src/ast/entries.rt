@@ -16,17 +16,17 @@ pub trait HasEntry<'t>: AstNode<'t> {
     /// The entries, in order.
     fn entries(&self) -> AstChildren<'t, Entry<'t>>
         ensures children { those_of is_entry result ≡ nodes_of is_entry (Self.node self.now) }
-        ensures fits { length result < 2 ^ 64 };
+        ensures fits { length (those_of is_entry result) < 2 ^ 64 };
 
     /// The entries with a value, in order.
     fn attrpath_values(&self) -> AstChildren<'t, AttrpathValue<'t>>
         ensures children { those_of (same_kind k.NODE_ATTRPATH_VALUE) result ≡ nodes_of (same_kind k.NODE_ATTRPATH_VALUE) (Self.node self.now) }
-        ensures fits { length result < 2 ^ 64 };
+        ensures fits { length (those_of (same_kind k.NODE_ATTRPATH_VALUE) result) < 2 ^ 64 };
 
     /// The entries that are taken from elsewhere, in order.
     fn inherits(&self) -> AstChildren<'t, Inherit<'t>>
         ensures children { those_of (same_kind k.NODE_INHERIT) result ≡ nodes_of (same_kind k.NODE_INHERIT) (Self.node self.now) }
-        ensures fits { length result < 2 ^ 64 };
+        ensures fits { length (those_of (same_kind k.NODE_INHERIT) result) < 2 ^ 64 };
 }
 
 impl<'t> HasEntry<'t> for AttrSet<'t> {

@@ -168,7 +168,7 @@ impl<'t> List<'t> {
     /// The items, in order.
     pub fn items(&self) -> AstChildren<'t, Expr<'t>>
         ensures children { those_of is_expr result ≡ nodes_of is_expr self.now }
-        ensures fits { length result < 2 ^ 64 }
+        ensures fits { length (those_of is_expr result) < 2 ^ 64 }
     {
         children(&self.syntax)
     }

@@ -148,7 +148,7 @@ impl<'t> Attrpath<'t> {
     /// The names, in order.
     pub fn attrs(&self) -> AstChildren<'t, Attr<'t>>
         ensures children { those_of is_attr result ≡ nodes_of is_attr self.now }
-        ensures fits { length result < 2 ^ 64 }
+        ensures fits { length (those_of is_attr result) < 2 ^ 64 }
     {
         children(&self.syntax)
     }

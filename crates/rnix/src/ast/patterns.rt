@@ -86,7 +86,7 @@ impl<'t> Pattern<'t> {
     /// The entries, in order.
     pub fn pat_entries(&self) -> AstChildren<'t, PatEntry<'t>>
         ensures children { those_of (same_kind k.NODE_PAT_ENTRY) result ≡ nodes_of (same_kind k.NODE_PAT_ENTRY) self.now }
-        ensures fits { length result < 2 ^ 64 }
+        ensures fits { length (those_of (same_kind k.NODE_PAT_ENTRY) result) < 2 ^ 64 }
     {
         children(&self.syntax)
     }

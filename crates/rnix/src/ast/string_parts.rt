@@ -23,7 +23,7 @@ impl<'t> Str<'t> {
     /// The contents and the interpolations of the string, in order. Other children are left out.
     pub fn parts(&self) -> StrParts<'t>
         ensures parts { parts_of (same_kind k.TOKEN_STRING_CONTENT) (same_kind k.NODE_INTERPOL) result ≡ string_parts self.now }
-        ensures fits { length result < 2 ^ 64 }
+        ensures fits { length (parts_of (same_kind k.TOKEN_STRING_CONTENT) (same_kind k.NODE_INTERPOL) result) < 2 ^ 64 }
     {
         parts_in::<StrContent<'t>, Interpol<'t>>(&self.syntax)
     }

@@ -1,0 +1,90 @@
+-- Each element of a tree without errors: what is no node has the kind of a token, of which no parts are wanted.
+use Rattle.std.proofs.Common.{◌≡◌, ℕ, ◌+◌, ◌<◌, Bool, true, false, ◌||◌, List, [], Option, Some, None, refl, ap, sym, ◌∙◌, subst, inl, inr, length}
+use Rattle.std.specs.List.{list_all}
+use Rattle.std.proofs.lemmas.Bool.{and_parts, cases_lt}
+use Rattle.std.proofs.lemmas.List.{get_or_past}
+use Rattle.std.proofs.lemmas.List.Folds.{list_all-append}
+use Rattle.std.proofs.lemmas.List.Sums.{AllPass-from_list_all}
+use Rattle.rnix_kinds.specs.declared.kinds.SyntaxKind.{SyntaxKind}
+use Rattle.rnix_kinds.specs.declared.kinds.SyntaxKind.TheVariants as k
+use Rattle.rnix_kinds.specs.SyntaxKind.{is_token}
+use Rattle.rnix_kinds.specs.Lexical.Tokens.{Lexeme}
+use Rattle.rnix_tree.specs.Equality.{same_kind-decides}
+use Rattle.rnix_tree.specs.Forest.{Forest, empty, leaf, node, text_of, element_count}
+use Rattle.rnix_tree.specs.Tree.{Item, Located, items_from, items_of, no_item, item_of, forest_of}
+use Rattle.rnix_base.specs.Select.{HasKind}
+use Rattle.rnix_grammar.specs.Derivation.{has_tokens_alone}
+use Rattle.rnix_grammar.specs.Parsed.{IsParsed}
+use Rattle.rnix_grammar.proofs.SpelledLemmas.{AreRuled}
+use Rattle.rnix_grammar.proofs.StandsShapes.{both_true}
+use Rattle.rnix_grammar.proofs.PartRows.{HasRows, HasTokens, shaped_rows, parsed_tokens}
+use Rattle.rnix.specs.Whole.{HasParts}
+use Rattle.rnix.proofs.WholeLemmas.{node_parts}
+
+-- an element is a node, or has the kind of a token
+abbrev is_sound : Item → Bool
+is_sound i = i.is_node || is_token i.kind
+
+items_sound : (n s : ℕ) (p : Option ℕ) (f : Forest) → HasTokens f → list_all is_sound (items_from n s p f) ≡ true
+items_sound n s p empty h = refl
+items_sound n s p (leaf k t f) h =
+    let both = and_parts (is_token k) (has_tokens_alone f) h in
+    both_true (is_token k) _ both.0 (items_sound (n + 1) (s + length t) p f both.1)
+items_sound n s p (node k c f) h =
+    let both = and_parts (has_tokens_alone c) (has_tokens_alone f) h in
+    list_all-append is_sound (items_from (n + 1) s (Some n) c) (items_from (n + 1 + element_count c) (s + length (text_of c)) p f)
+    ∙ both_true _ _ (items_sound (n + 1) s (Some n) c both.0) (items_sound (n + 1 + element_count c) (s + length (text_of c)) p f both.1)
+
+-- no parts are wanted of a token
+token_parts : (kind : SyntaxKind) (n : Located) → is_token kind ≡ true → HasParts kind n
+token_parts k.NODE_ROOT n e = absurd (cc)
+token_parts k.NODE_IDENT n e = absurd (cc)
+token_parts k.NODE_CUR_POS n e = absurd (cc)
+token_parts k.NODE_LITERAL n e = absurd (cc)
+token_parts k.NODE_PATH_SEARCH n e = absurd (cc)
+token_parts k.NODE_INTERPOL n e = absurd (cc)
+token_parts k.NODE_DYNAMIC n e = absurd (cc)
+token_parts k.NODE_PAREN n e = absurd (cc)
+token_parts k.NODE_LIST n e = absurd (cc)
+token_parts k.NODE_ATTR_SET n e = absurd (cc)
+token_parts k.NODE_ATTRPATH_VALUE n e = absurd (cc)
+token_parts k.NODE_INHERIT n e = absurd (cc)
+token_parts k.NODE_INHERIT_FROM n e = absurd (cc)
+token_parts k.NODE_LEGACY_LET n e = absurd (cc)
+token_parts k.NODE_LET_IN n e = absurd (cc)
+token_parts k.NODE_WITH n e = absurd (cc)
+token_parts k.NODE_ASSERT n e = absurd (cc)
+token_parts k.NODE_IF_ELSE n e = absurd (cc)
+token_parts k.NODE_LAMBDA n e = absurd (cc)
+token_parts k.NODE_IDENT_PARAM n e = absurd (cc)
+token_parts k.NODE_PAT_BIND n e = absurd (cc)
+token_parts k.NODE_PAT_ENTRY n e = absurd (cc)
+token_parts k.NODE_SELECT n e = absurd (cc)
+token_parts k.NODE_HAS_ATTR n e = absurd (cc)
+token_parts k.NODE_APPLY n e = absurd (cc)
+token_parts k.NODE_UNARY_OP n e = absurd (cc)
+token_parts k.NODE_BIN_OP n e = absurd (cc)
+token_parts _ n e = tt
+
+absent_parts : (n : Located) → item_of n ≡ no_item → HasParts (item_of n).kind n
+absent_parts n e = subst (λ (i : Item). HasParts i.kind n) (sym e) tt
+
+present_parts : (n : Located) (b : Bool) → (item_of n).is_node ≡ b → HasRows (forest_of n.tree) → HasTokens (forest_of n.tree) → n.number < length (items_of n.tree) → is_sound (item_of n) ≡ true → HasParts (item_of n).kind n
+present_parts n true e r w there sound = node_parts n r w (record { is_there = there; is_node = e })
+present_parts n false e r w there sound = token_parts (item_of n).kind n (sym (ap (λ b. b || is_token (item_of n).kind) e) ∙ sound)
+
+-- any element of a tree whose nodes have their rows
+any_parts : (n : Located) → HasRows (forest_of n.tree) → HasTokens (forest_of n.tree) → HasParts (item_of n).kind n
+any_parts n r w =
+    elim (cases_lt n.number (length (items_of n.tree))) [
+      | inl there ↦ present_parts n (item_of n).is_node refl r w there (AllPass-from_list_all is_sound (items_of n.tree) (items_sound 0 0 None (forest_of n.tree) w) n.number no_item there)
+      | inr past ↦ absent_parts n (get_or_past (items_of n.tree) n.number no_item past)
+    ]
+
+-- an element of a kind
+pub kind_parts : (kind : SyntaxKind) (n : Located) → HasRows (forest_of n.tree) → HasTokens (forest_of n.tree) → HasKind kind n → HasParts kind n
+kind_parts kind n r w is = subst (λ (j : SyntaxKind). HasParts j n) (sym ((same_kind-decides kind (item_of n).kind).0 is)) (any_parts n r w)
+
+-- and in a tree that was read without errors
+pub read_parts : (tokens : List Lexeme) → AreRuled tokens → (kind : SyntaxKind) (n : Located) → IsParsed tokens n.tree [] → HasKind kind n → HasParts kind n
+read_parts tokens ruled kind n h is = kind_parts kind n (shaped_rows n.tree (h.shaped.0 refl).0) (parsed_tokens tokens n.tree [] ruled h) is
