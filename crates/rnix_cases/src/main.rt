@@ -54,7 +54,9 @@ fn replay(rt: &HostRuntime, list: List) -> io::Result<u64> {
 }
 
 fn main(rt: HostRuntime) -> io::Result<ExitCode> {
-    let mut differences = replay(&rt, List::Tokens)?;
-    differences = differences.saturating_add(replay(&rt, List::Trees)?);
+    let mut differences: u64 = 0;
+    for list in List::ALL {
+        differences = differences.saturating_add(replay(&rt, list)?);
+    }
     Ok(ExitCode::from(if differences == 0 { 0 } else { 1 }))
 }

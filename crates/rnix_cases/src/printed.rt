@@ -1,6 +1,7 @@
 //! What the cases of each list are compared with.
 
-use rnix::tokenize;
+use rnix::ast::{AstNode, Expr, InterpolPart};
+use rnix::{Root, tokenize};
 use rnix_print::run;
 use std::alloc::Global;
 use std::io;
@@ -11,14 +12,19 @@ use std::io::Write;
 pub enum List {
     Tokens,
     Trees,
+    Strings,
 }
 
 impl List {
+    /// All of them, in the order in which they are replayed.
+    pub const ALL: [List; 3] = [List::Tokens, List::Trees, List::Strings];
+
     /// The file that holds it.
     pub fn name(self) -> &'static str {
         match self {
             List::Tokens => "tokens",
             List::Trees => "trees",
+            List::Strings => "strings",
         }
     }
 }
@@ -45,12 +51,35 @@ fn print_tree(alloc: Global, text: &str, out: &mut Vec<u8>) -> io::Result<()> {
     }
 }
 
+// A line with what a part is and the bytes of its text, and then the text.
+fn print_part(part: &InterpolPart<'_, String>, out: &mut Vec<u8>) -> io::Result<()> {
+    let (name, text) = match part {
+        InterpolPart::Literal(text) => ("literal", text.as_str()),
+        InterpolPart::Interpolation(node) => ("interpolation", node.syntax().text()),
+    };
+    let len = text.len();
+    write!(out, "{name} {len}\n{text}\n")
+}
+
+// The normalized parts of the string that a text is.
+fn print_string(alloc: Global, text: &str, out: &mut Vec<u8>) -> io::Result<()> {
+    let read = Root::parse(alloc, text)?;
+    let Some(Expr::Str(string)) = read.tree().expr() else {
+        return write!(out, "no string\n");
+    };
+    for part in &string.normalized_parts(alloc)? {
+        print_part(part, out)?;
+    }
+    Ok(())
+}
+
 /// What a text prints.
 pub fn printed(alloc: Global, list: List, text: &str) -> io::Result<Vec<u8>> {
     let mut out = Vec::new(alloc);
     match list {
         List::Tokens => print_tokens(alloc, text, &mut out)?,
         List::Trees => print_tree(alloc, text, &mut out)?,
+        List::Strings => print_string(alloc, text, &mut out)?,
     }
     Ok(out)
 }

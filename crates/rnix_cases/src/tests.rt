@@ -1,5 +1,6 @@
 //! What a user sees, across the crates.
 
+mod accessors;
 mod built;
 mod errors;
 mod identity;
@@ -8,7 +9,11 @@ mod names;
 mod paths;
 mod runs;
 mod strings;
+mod sums;
 mod tokens;
 mod trees;
 mod typed;
+mod unusual;
+mod uses;
 mod walks;
+mod whole;

@@ -173,7 +173,7 @@ fn other_children_are_left_out(rt: HostRuntime) -> Result<(), Fail> {
     builder.finish_node()?;
     let empty = builder.finish()?;
     if let Some(string) = Str::cast(SyntaxNode::new_root(&empty)) {
-        assert!(rt; string.parts().next().is_none());
+        assert_eq!(rt; string.parts().count(), 0);
         assert_eq!(rt; string.normalized_parts(rt.alloc())?.len(), 0);
     }
     Ok(())

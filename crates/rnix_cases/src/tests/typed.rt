@@ -64,12 +64,9 @@ fn entries_are_inherited(rt: HostRuntime) -> Result<(), Fail> {
     let read = Root::parse(rt.alloc(), "{ inherit (set) z a; b = c; }")?;
     assert!(rt; inherited(&read) == Some(("set", "z", "a")));
     if let Some(set) = first_of::<AttrSet<'_>>(&read) {
-        let (mut entries, mut inherits) = (set.entries(), set.inherits());
-        assert!(rt;
-            entries.next().is_some() && entries.next().is_some() && entries.next().is_none()
-        );
-        assert!(rt; inherits.next().is_some() && inherits.next().is_none());
-        assert!(rt; set.attrpath_values().next().is_some());
+        assert_eq!(rt; set.entries().count(), 2);
+        assert_eq!(rt; set.inherits().count(), 1);
+        assert_eq!(rt; set.attrpath_values().count(), 1);
         assert!(rt; set.rec_token().is_none() && set.l_curly_token().is_some());
     }
     assert!(rt; first_of::<Entry<'_>>(&read).is_some());
