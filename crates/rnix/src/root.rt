@@ -76,7 +76,8 @@ impl Parse {
         }
     }
 
-    /// The errors. There are none exactly if each node has the shape of its kind, and no pattern names an argument twice.
+    /// The errors, in the order in which they were found. Of what `Root::parse` gave there are none exactly if each node has the shape of its
+    /// kind, and no pattern names an argument twice.
     pub fn errors(&self) -> &[ParseError]
         ensures { map fault_of result.now ≡ self.now.faults }
     {

@@ -79,28 +79,29 @@ impl<'t> PathContent<'t> {
         self.syntax.kind()
     }
 
-    /// Whether the path begins at the root, as `/so`.
+    /// Whether the token is a TOKEN_PATH_ABS, as `/so`.
     pub fn is_absolute(&self) -> bool
         ensures { result ≡ same_kind k.TOKEN_PATH_ABS (item_of self.now).kind }
     {
         self.path_kind() == SyntaxKind::TOKEN_PATH_ABS
     }
 
-    /// Whether the path begins at the file's own directory, as `./so`.
+    /// Whether the token is a TOKEN_PATH_REL, as `./so`.
     pub fn is_relative(&self) -> bool
         ensures { result ≡ same_kind k.TOKEN_PATH_REL (item_of self.now).kind }
     {
         self.path_kind() == SyntaxKind::TOKEN_PATH_REL
     }
 
-    /// Whether the path begins at the user's directory, as `~/so`.
+    /// Whether the token is a TOKEN_PATH_HOME, as `~/so`. Behind an interpolation a token may be of another kind than its path, as `~/b` in
+    /// `./a${x}~/b`.
     pub fn is_home(&self) -> bool
         ensures { result ≡ same_kind k.TOKEN_PATH_HOME (item_of self.now).kind }
     {
         self.path_kind() == SyntaxKind::TOKEN_PATH_HOME
     }
 
-    /// Whether the path is searched for, as `<so>`.
+    /// Whether the token is a TOKEN_PATH_SEARCH, as `<so>`.
     pub fn is_search(&self) -> bool
         ensures { result ≡ same_kind k.TOKEN_PATH_SEARCH (item_of self.now).kind }
     {

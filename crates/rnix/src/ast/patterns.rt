@@ -76,7 +76,7 @@ impl<'t> Pattern<'t> {
     /// The kind of these nodes.
     pub const KIND: SyntaxKind = SyntaxKind::NODE_PATTERN;
 
-    /// The sign `@`.
+    /// The sign `@`, if it stands right below. In a tree that is read it stands in the `PatBind`.
     pub fn at_token(&self) -> Option<SyntaxToken<'t>>
         ensures { result ≡ token_of (same_kind k.TOKEN_AT) self.now }
     {
