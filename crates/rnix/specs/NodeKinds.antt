@@ -1,4 +1,4 @@
--- Which kinds of nodes the types of several kinds have.
+-- Which kinds of nodes the types have that have several.
 use Rattle.std.specs.Prelude.{Bool, true, false}
 use Rattle.rnix_kinds.specs.declared.kinds.SyntaxKind.{SyntaxKind}
 use Rattle.rnix_kinds.specs.declared.kinds.SyntaxKind.TheVariants as k
@@ -31,7 +31,7 @@ is_expr k.NODE_HAS_ATTR = true
 is_expr k.NODE_CUR_POS = true
 is_expr _ = false
 
--- names in sets
+-- names, in sets and in what selects from sets
 abbrev pub is_attr : SyntaxKind → Bool
 is_attr k.NODE_IDENT = true
 is_attr k.NODE_DYNAMIC = true

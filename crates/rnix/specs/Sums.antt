@@ -1,4 +1,4 @@
--- The nodes of types of several kinds.
+-- The nodes of the types that have nodes of several kinds.
 use Rattle.std.specs.Prelude.{Result, MatchResult}
 use Rattle.rnix_tree.specs.Tree.{Located}
 use Rattle.rnix.specs.declared.ast.expression.Expr.{Expr}
@@ -62,6 +62,6 @@ abbrev pub entry_node : Entry → Located
 entry_node (entry.Inherit n) = n
 entry_node (entry.AttrpathValue n) = n
 
--- the answer is what P says of a value, or it is refused and P says so of none
+-- the answer is a value of which P holds, or a refusal, and then P holds of no value
 abbrev pub IsCase : {T : Type 0} → Result T (Unit {0}) → (T → Type 0) → Type 0
 IsCase {T} answer P = MatchResult answer P (λ _. (value : T) → P value → ⊥)

@@ -7,7 +7,7 @@ pub record Piece : Type 0 where
   pub len : ℕ
   pub value : List ℕ
 
--- what a byte behind a backslash stands for: `n`, `r` and `t` for a line feed, a carriage return and a tab
+-- what a byte behind a backslash stands for: `n`, `r` and `t` for a line feed, a carriage return and a tab, any other for itself
 abbrev pub escaped : ℕ → ℕ
 escaped b = if b == 110 then 10 else (if b == 114 then 13 else (if b == 116 then 9 else b))
 
@@ -15,7 +15,7 @@ escaped b = if b == 110 then 10 else (if b == 114 then 13 else (if b == 116 then
 abbrev pub itself : List ℕ → Option Piece
 itself text = Some record { len = 1; value = slice_index text 0 ∷ [] }
 
--- a backslash behind `before` bytes, with the byte that follows it; no piece, if the text ends there
+-- a backslash behind `before` bytes, with the byte that follows it, which may be the first of a longer character; no piece, if the text ends there
 abbrev pub backslash : ℕ → List ℕ → Option Piece
 backslash before text =
     if nat_lt (before + 1) (length text)
@@ -42,7 +42,7 @@ indented_piece text =
 abbrev pub first_piece : Bool → List ℕ → Option Piece
 first_piece multiline text = if multiline then indented_piece text else quoted_piece text
 
--- the values of the pieces; the first `inside` bytes belong to a piece that was read
+-- what a text stands for behind its first `inside` bytes, which belong to a piece that was read
 unfoldable pub values : Bool → ℕ → List ℕ → List ℕ
 values multiline inside [] = []
 values multiline (suc inside) (b ∷ text) = values multiline inside text
@@ -53,12 +53,12 @@ values multiline zero (b ∷ text) =
 abbrev pub unescaped : Bool → List ℕ → List ℕ
 unescaped multiline text = values multiline 0 text
 
--- a text begins with a piece of this value, and this follows it
+-- a text stands for this value and then for what this shorter rest stands for
 pub record Begins (multiline : Bool) (text value rest : List ℕ) : Type 0 where
   pub split : unescaped multiline text ≡ value ++ unescaped multiline rest
   pub shorter : length rest < length text
 
--- a text begins with a character that stands for this value behind a backslash, and this follows it
+-- behind a backslash, a text stands for this value and then for what this shorter rest stands for
 pub record Escapes (text value rest : List ℕ) : Type 0 where
   pub split : (multiline : Bool) → escaped (slice_index text 0) ∷ unescaped multiline (drop 1 text) ≡ value ++ unescaped multiline rest
   pub shorter : length rest < length text

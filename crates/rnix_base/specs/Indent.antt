@@ -1,4 +1,4 @@
--- The lines of a string, symbol by symbol.
+-- What is known of a string's lines while it is read symbol by symbol. `Normal` says what it means; lemmas say that both agree.
 use Rattle.std.specs.Prelude.{ℕ, ◌+◌, ◌-◌, min, Bool, ◌&&◌, if◌then◌else◌, nat_lt, List, [], ◌∷◌, ◌++◌, Option, Some, None}
 use Rattle.std.specs.List.{fold}
 use Rattle.rnix_base.specs.declared.indent.Indent.{Indent}

@@ -1,4 +1,4 @@
--- How the parts of an indented string are normalized.
+-- How the parts of a string are normalized.
 use Rattle.std.specs.Prelude.{ℕ, suc, ◌-◌, min, Bool, true, false, not, ◌==◌, ◌||◌, if◌then◌else◌, List, [], ◌∷◌, ◌++◌, take, drop, map, length, slice_index, Option, Some, None, option_to_list}
 use Rattle.std.specs.List.{flat_map, prefix_len, suffix_len, list_any}
 use Rattle.rnix_base.specs.declared.parts.InterpolPart.{InterpolPart}
@@ -57,7 +57,7 @@ indentation = prefix_len is_gap
 abbrev pub has_text : List Symbol → Bool
 has_text = list_any (λ s. not (is_gap s || is_feed s))
 
--- the smallest indentation of a line that has text, at most 1,000,000
+-- the smallest indentation of a line that has text; 1,000,000 at most, and where no line has text
 unfoldable pub least_indentation : List (List Symbol) → ℕ
 least_indentation [] = 1000000
 least_indentation (line ∷ lines) =
@@ -71,7 +71,7 @@ shortened n line = drop (min n (indentation line)) line
 abbrev pub unindented : List Symbol → List Symbol
 unindented row = flat_map (shortened (least_indentation (lines row))) (lines row)
 
--- the bytes of the part of a number
+-- the bytes of a row that belong to the part of this number
 unfoldable pub text_of : ℕ → List Symbol → List ℕ
 text_of n [] = []
 text_of n (s ∷ row) = (if s.part == n then option_to_list s.byte else []) ++ text_of n row
@@ -86,7 +86,7 @@ with_texts row n (Interpolation i ∷ parts) = Interpolation i ∷ with_texts ro
 abbrev pub spaces : List ℕ → ℕ
 spaces = prefix_len is_space
 
--- a text has nothing but spaces before its first line feed
+-- a text begins with a line feed, or with spaces and a line feed
 abbrev pub opens_blank : List ℕ → Bool
 opens_blank text = slice_index text (spaces text) == 10
 
@@ -106,11 +106,11 @@ opened (Interpolation i ∷ parts) = Interpolation i ∷ parts
 abbrev pub trimmed : List ℕ → List ℕ
 trimmed text = take (length text - suffix_len is_space text) text
 
--- a text without the spaces behind its last line feed, if there is nothing else
+-- a text without the spaces behind its last line feed, if nothing else stands there
 abbrev pub without_last_spaces : List ℕ → List ℕ
 without_last_spaces text = if slice_index (trimmed text) (length (trimmed text) - 1) == 10 then trimmed text else text
 
--- the parts without the spaces behind the last line feed of the last one
+-- the parts; the last, if it is a literal, without the spaces behind its last line feed, if nothing else stands there
 unfoldable pub closed : {I : Type 0} → Parts I → Parts I
 closed [] = []
 closed (Literal text ∷ []) = Literal (without_last_spaces text) ∷ []
