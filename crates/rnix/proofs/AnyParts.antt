@@ -15,9 +15,9 @@ use Rattle.rnix_tree.specs.Tree.{Item, Located, items_from, items_of, no_item, i
 use Rattle.rnix_base.specs.Select.{HasKind}
 use Rattle.rnix_grammar.specs.Derivation.{has_tokens_alone}
 use Rattle.rnix_grammar.specs.Parsed.{IsParsed}
-use Rattle.rnix_grammar.proofs.SpelledLemmas.{AreRuled}
-use Rattle.rnix_grammar.proofs.StandsShapes.{both_true}
-use Rattle.rnix_grammar.proofs.PartRows.{HasRows, HasTokens, shaped_rows, parsed_tokens}
+use Rattle.rnix_lemmas.proofs.SpelledLemmas.{AreRuled}
+use Rattle.rnix_lemmas.proofs.EntryNames.{both_true}
+use Rattle.rnix_rows.proofs.PartRows.{HasRows, HasTokens, shaped_rows, parsed_tokens}
 use Rattle.rnix.specs.Whole.{HasParts}
 use Rattle.rnix.proofs.WholeLemmas.{node_parts}
 
@@ -38,33 +38,7 @@ items_sound n s p (node k c f) h =
 -- no parts are wanted of a token
 token_parts : (kind : SyntaxKind) (n : Located) → is_token kind ≡ true → HasParts kind n
 token_parts k.NODE_ROOT n e = absurd (cc)
-token_parts k.NODE_IDENT n e = absurd (cc)
-token_parts k.NODE_CUR_POS n e = absurd (cc)
-token_parts k.NODE_LITERAL n e = absurd (cc)
-token_parts k.NODE_PATH_SEARCH n e = absurd (cc)
-token_parts k.NODE_INTERPOL n e = absurd (cc)
-token_parts k.NODE_DYNAMIC n e = absurd (cc)
-token_parts k.NODE_PAREN n e = absurd (cc)
-token_parts k.NODE_LIST n e = absurd (cc)
-token_parts k.NODE_ATTR_SET n e = absurd (cc)
-token_parts k.NODE_ATTRPATH_VALUE n e = absurd (cc)
-token_parts k.NODE_INHERIT n e = absurd (cc)
-token_parts k.NODE_INHERIT_FROM n e = absurd (cc)
-token_parts k.NODE_LEGACY_LET n e = absurd (cc)
-token_parts k.NODE_LET_IN n e = absurd (cc)
-token_parts k.NODE_WITH n e = absurd (cc)
-token_parts k.NODE_ASSERT n e = absurd (cc)
-token_parts k.NODE_IF_ELSE n e = absurd (cc)
-token_parts k.NODE_LAMBDA n e = absurd (cc)
-token_parts k.NODE_IDENT_PARAM n e = absurd (cc)
-token_parts k.NODE_PAT_BIND n e = absurd (cc)
-token_parts k.NODE_PAT_ENTRY n e = absurd (cc)
-token_parts k.NODE_SELECT n e = absurd (cc)
-token_parts k.NODE_HAS_ATTR n e = absurd (cc)
-token_parts k.NODE_APPLY n e = absurd (cc)
-token_parts k.NODE_UNARY_OP n e = absurd (cc)
-token_parts k.NODE_BIN_OP n e = absurd (cc)
-token_parts _ n e = tt
+token_parts _ n e = first_of (assumption, cc)
 
 absent_parts : (n : Located) → item_of n ≡ no_item → HasParts (item_of n).kind n
 absent_parts n e = subst (λ (i : Item). HasParts i.kind n) (sym e) tt

@@ -15,8 +15,8 @@ use Rattle.rnix_base.specs.Select.{has_kind, tokens_in, child_of, token_of}
 use Rattle.rnix_grammar.specs.Rows.{is_row}
 use Rattle.rnix_grammar.specs.Shape.{item_kinds}
 use Rattle.rnix_grammar.specs.Derivation.{has_tokens_alone}
-use Rattle.rnix_grammar.proofs.Basics.{true_is_not_false}
-use Rattle.rnix_grammar.proofs.PartRows.{HasRows, HasTokens, rows_part, tokens_part, row_of_node}
+use Rattle.rnix_lemmas.proofs.Basics.{true_is_not_false}
+use Rattle.rnix_rows.proofs.PartRows.{HasRows, HasTokens, rows_part, tokens_part, row_of_node}
 
 -- whether an element is a node, and its kind
 abbrev pub Sight : Type 0

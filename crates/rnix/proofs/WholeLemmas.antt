@@ -16,11 +16,12 @@ use Rattle.rnix_base.specs.Literal.{first_literal}
 use Rattle.rnix_base.specs.declared.literal.LiteralKind.TheVariants as literal
 use Rattle.rnix_grammar.specs.Rows.{is_expression, is_infix, is_row}
 use Rattle.rnix_grammar.specs.Shape.{item_kinds}
-use Rattle.rnix_grammar.proofs.Basics.{true_is_not_false}
-use Rattle.rnix_grammar.proofs.PartRows.{HasRows, HasTokens}
-use Rattle.rnix_grammar.proofs.RowParts.{Exactly, Expression, Parameter, Prefix, Infix, is_prefix, is_parameter}
-use Rattle.rnix_grammar.proofs.RowTable.{parts_of, IsSelection, bare, with_default, selection_is, IsFormal, name_alone, defaulted, formal_is, IsOneLiteral, float, integer, uri, literal_is}
-use Rattle.rnix_grammar.proofs.RowCounts.{count_of, row_first, row_nth}
+use Rattle.rnix_kinds.proofs.AllKinds.{implied}
+use Rattle.rnix_lemmas.proofs.Basics.{true_is_not_false}
+use Rattle.rnix_rows.proofs.PartRows.{HasRows, HasTokens}
+use Rattle.rnix_rows.proofs.RowParts.{Exactly, Expression, Parameter, Prefix, Infix, is_prefix, is_parameter}
+use Rattle.rnix_rows.proofs.RowTable.{parts_of, IsSelection, bare, with_default, selection_is, IsFormal, name_alone, defaulted, formal_is, IsOneLiteral, float, integer, uri, literal_is}
+use Rattle.rnix_rows.proofs.RowCounts.{count_of, row_first, row_nth}
 use Rattle.rnix.specs.NodeKinds.{is_expr, is_param}
 use Rattle.rnix.specs.Whole.{HasToken, HasNode, HasExpr, AreTogether, HasParts}
 use Rattle.rnix.proofs.Seen.{AreItems, AreNodes, exact_items, exact_nodes, none_if, node_in, Sees, sees}
@@ -31,105 +32,37 @@ at_most m n h = grind (arith, nat_tests, h)
 
 -- expressions are expressions in both senses
 expression_expr : (kind : SyntaxKind) → is_expression kind ≡ true → is_expr kind ≡ true
-expression_expr k.NODE_LAMBDA h = refl
-expression_expr k.NODE_PAREN h = refl
-expression_expr k.NODE_ATTR_SET h = refl
-expression_expr k.NODE_LIST h = refl
-expression_expr k.NODE_STRING h = refl
-expression_expr k.NODE_PATH_ABS h = refl
-expression_expr k.NODE_PATH_REL h = refl
-expression_expr k.NODE_PATH_HOME h = refl
-expression_expr k.NODE_PATH_SEARCH h = refl
-expression_expr k.NODE_LITERAL h = refl
-expression_expr k.NODE_IDENT h = refl
-expression_expr k.NODE_CUR_POS h = refl
-expression_expr k.NODE_SELECT h = refl
-expression_expr k.NODE_APPLY h = refl
-expression_expr k.NODE_UNARY_OP h = refl
-expression_expr k.NODE_HAS_ATTR h = refl
-expression_expr k.NODE_BIN_OP h = refl
-expression_expr k.NODE_LEGACY_LET h = refl
-expression_expr k.NODE_LET_IN h = refl
-expression_expr k.NODE_WITH h = refl
-expression_expr k.NODE_IF_ELSE h = refl
-expression_expr k.NODE_ASSERT h = refl
-expression_expr _ h = absurd (cc)
+expression_expr = implied is_expression is_expr refl
 
 expr_nodes : AreNodes is_expr
 expr_nodes k.NODE_APPLY h = refl
-expr_nodes k.NODE_ASSERT h = refl
-expr_nodes k.NODE_ERROR h = refl
-expr_nodes k.NODE_IF_ELSE h = refl
-expr_nodes k.NODE_SELECT h = refl
-expr_nodes k.NODE_STRING h = refl
-expr_nodes k.NODE_PATH_ABS h = refl
-expr_nodes k.NODE_PATH_REL h = refl
-expr_nodes k.NODE_PATH_HOME h = refl
-expr_nodes k.NODE_PATH_SEARCH h = refl
-expr_nodes k.NODE_LITERAL h = refl
-expr_nodes k.NODE_LAMBDA h = refl
-expr_nodes k.NODE_LEGACY_LET h = refl
-expr_nodes k.NODE_LET_IN h = refl
-expr_nodes k.NODE_LIST h = refl
-expr_nodes k.NODE_BIN_OP h = refl
-expr_nodes k.NODE_PAREN h = refl
-expr_nodes k.NODE_ROOT h = refl
-expr_nodes k.NODE_ATTR_SET h = refl
-expr_nodes k.NODE_UNARY_OP h = refl
-expr_nodes k.NODE_IDENT h = refl
-expr_nodes k.NODE_WITH h = refl
-expr_nodes k.NODE_HAS_ATTR h = refl
-expr_nodes k.NODE_CUR_POS h = refl
-expr_nodes _ h = absurd (cc)
+expr_nodes _ h = cc
 
 parameter_param : (kind : SyntaxKind) → is_parameter kind ≡ true → is_param kind ≡ true
-parameter_param k.NODE_IDENT_PARAM h = refl
-parameter_param k.NODE_PATTERN h = refl
-parameter_param _ h = absurd (cc)
+parameter_param = implied is_parameter is_param refl
 
 param_nodes : AreNodes is_param
-param_nodes k.NODE_IDENT_PARAM h = refl
 param_nodes k.NODE_PATTERN h = refl
-param_nodes _ h = absurd (cc)
+param_nodes _ h = cc
 
 -- operators are tokens, and stand for an operator
 infix_token : (kind : SyntaxKind) → is_infix kind ≡ true → (is_token kind ≡ true) × (is_trivia kind ≡ false) × (is_some (binary_operator kind) ≡ true)
-infix_token k.TOKEN_PIPE_LEFT h = (refl, refl, refl)
-infix_token k.TOKEN_PIPE_RIGHT h = (refl, refl, refl)
-infix_token k.TOKEN_IMPLICATION h = (refl, refl, refl)
-infix_token k.TOKEN_OR_OR h = (refl, refl, refl)
-infix_token k.TOKEN_AND_AND h = (refl, refl, refl)
-infix_token k.TOKEN_EQUAL h = (refl, refl, refl)
-infix_token k.TOKEN_NOT_EQUAL h = (refl, refl, refl)
-infix_token k.TOKEN_LESS h = (refl, refl, refl)
-infix_token k.TOKEN_LESS_OR_EQ h = (refl, refl, refl)
-infix_token k.TOKEN_MORE h = (refl, refl, refl)
-infix_token k.TOKEN_MORE_OR_EQ h = (refl, refl, refl)
-infix_token k.TOKEN_UPDATE h = (refl, refl, refl)
-infix_token k.TOKEN_ADD h = (refl, refl, refl)
-infix_token k.TOKEN_SUB h = (refl, refl, refl)
-infix_token k.TOKEN_MUL h = (refl, refl, refl)
-infix_token k.TOKEN_DIV h = (refl, refl, refl)
 infix_token k.TOKEN_CONCAT h = (refl, refl, refl)
-infix_token _ h = absurd (cc)
+infix_token _ h = first_of (assumption, cc)
 
 infix_items : AreItems is_infix
 infix_items = record { token = λ kind h. (infix_token kind h).0; item = λ kind h. (infix_token kind h).1 }
 
 prefix_token : (kind : SyntaxKind) → is_prefix kind ≡ true → (is_token kind ≡ true) × (is_trivia kind ≡ false) × (is_some (unary_operator kind) ≡ true)
 prefix_token k.TOKEN_SUB h = (refl, refl, refl)
-prefix_token k.TOKEN_INVERT h = (refl, refl, refl)
-prefix_token _ h = absurd (cc)
+prefix_token _ h = first_of (assumption, cc)
 
 prefix_items : AreItems is_prefix
 prefix_items = record { token = λ kind h. (prefix_token kind h).0; item = λ kind h. (prefix_token kind h).1 }
 
 path_token : (kind : SyntaxKind) → is_path_token kind ≡ true → (is_token kind ≡ true) × (is_trivia kind ≡ false)
 path_token k.TOKEN_PATH_ABS h = (refl, refl)
-path_token k.TOKEN_PATH_REL h = (refl, refl)
-path_token k.TOKEN_PATH_HOME h = (refl, refl)
-path_token k.TOKEN_PATH_SEARCH h = (refl, refl)
-path_token _ h = absurd (cc)
+path_token _ h = first_of (assumption, cc)
 
 path_items : AreItems is_path_token
 path_items = record { token = λ kind h. (path_token kind h).0; item = λ kind h. (path_token kind h).1 }

@@ -45,23 +45,7 @@ one_kind operator kind back k l a p q = sym (back k a p) ∙ ap (kind_in kind) (
 
 binary_back : (k : SyntaxKind) (a : BinOpKind) → binary_operator k ≡ Some a → kind_in binary_kind (binary_operator k) ≡ k
 binary_back k.TOKEN_CONCAT a p = refl
-binary_back k.TOKEN_UPDATE a p = refl
-binary_back k.TOKEN_ADD a p = refl
-binary_back k.TOKEN_SUB a p = refl
-binary_back k.TOKEN_MUL a p = refl
-binary_back k.TOKEN_DIV a p = refl
-binary_back k.TOKEN_AND_AND a p = refl
-binary_back k.TOKEN_EQUAL a p = refl
-binary_back k.TOKEN_IMPLICATION a p = refl
-binary_back k.TOKEN_LESS a p = refl
-binary_back k.TOKEN_LESS_OR_EQ a p = refl
-binary_back k.TOKEN_MORE a p = refl
-binary_back k.TOKEN_MORE_OR_EQ a p = refl
-binary_back k.TOKEN_NOT_EQUAL a p = refl
-binary_back k.TOKEN_OR_OR a p = refl
-binary_back k.TOKEN_PIPE_RIGHT a p = refl
-binary_back k.TOKEN_PIPE_LEFT a p = refl
-binary_back _ a p = absurd (cc)
+binary_back _ a p = cc
 
 unary_back : (k : SyntaxKind) (a : UnaryOpKind) → unary_operator k ≡ Some a → kind_in unary_kind (unary_operator k) ≡ k
 unary_back k.TOKEN_INVERT a p = refl

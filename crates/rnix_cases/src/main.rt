@@ -4,8 +4,6 @@
 
 mod list;
 mod printed;
-#[cfg(test)]
-mod tests;
 
 use self::list::{Case, first_case};
 use self::printed::{List, printed};

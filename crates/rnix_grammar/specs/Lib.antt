@@ -29,3 +29,4 @@ pub mod Plain
 pub mod Derivation
 pub mod Nesting
 pub mod Unfinished
+pub mod Document

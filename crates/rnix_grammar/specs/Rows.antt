@@ -7,7 +7,8 @@ use Rattle.rnix_grammar.specs.declared.place.Place.TheVariants as p
 use Rattle.rnix_grammar.specs.declared.slot.Slot.{Slot}
 use Rattle.rnix_grammar.specs.declared.slot.Slot.TheVariants as s
 use Rattle.rnix_grammar.specs.Tables.{is_wanted, closes}
-use Rattle.rnix_grammar.specs.Levels.{right_of}
+use Rattle.std.specs.Option.{is_some}
+use Rattle.rnix_grammar.specs.Levels.{operator, right_of}
 use Rattle.rnix_grammar.specs.Slots.{slot_at}
 use Rattle.rnix_grammar.specs.Actions.{is_path_piece}
 
@@ -65,24 +66,7 @@ fits level kind =
 
 -- the binary operators
 abbrev pub is_infix : SyntaxKind → Bool
-is_infix TOKEN_PIPE_LEFT = true
-is_infix TOKEN_PIPE_RIGHT = true
-is_infix TOKEN_IMPLICATION = true
-is_infix TOKEN_OR_OR = true
-is_infix TOKEN_AND_AND = true
-is_infix TOKEN_EQUAL = true
-is_infix TOKEN_NOT_EQUAL = true
-is_infix TOKEN_LESS = true
-is_infix TOKEN_LESS_OR_EQ = true
-is_infix TOKEN_MORE = true
-is_infix TOKEN_MORE_OR_EQ = true
-is_infix TOKEN_UPDATE = true
-is_infix TOKEN_ADD = true
-is_infix TOKEN_SUB = true
-is_infix TOKEN_MUL = true
-is_infix TOKEN_DIV = true
-is_infix TOKEN_CONCAT = true
-is_infix kind = false
+is_infix kind = is_some (operator kind)
 
 -- the tokens of NODE_LITERAL
 abbrev pub is_plain_literal : SyntaxKind → Bool

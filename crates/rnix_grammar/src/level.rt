@@ -1,32 +1,60 @@
 //! The levels of precedence, by numbers: the loosest operators have level 1, an application 15, `.` and `or` 16.
 
-ghost use Rattle.std.specs.Prelude.{◌≡◌};
-ghost use Rattle.rnix_grammar.specs.Levels.{power, right_of, high_of};
+ghost use Rattle.std.specs.Prelude.{◌≡◌, ◌≤◌, IfSome};
+ghost use Rattle.rnix_grammar.specs.Levels.{operator, plain_power, power, right_of, high_of};
 
 use rnix_kinds::SyntaxKind;
+
+/// Which way operators of one level group. `Neither`: one may not be an operand of another.
+#[derive(Clone, Copy)]
+pub enum Associativity {
+    Left,
+    Right,
+    Neither,
+}
+
+/// The level of a binary operator, and which way it groups.
+pub fn operator(kind: SyntaxKind) -> Option<(u8, Associativity)>
+    ensures table { result ≡ operator kind }
+    ensures within { IfSome result (λ found. (1 ≤ found.0) × (found.0 ≤ 12)) }
+{
+    match kind {
+        SyntaxKind::TOKEN_PIPE_LEFT => Some((1, Associativity::Right)),
+        SyntaxKind::TOKEN_PIPE_RIGHT => Some((2, Associativity::Left)),
+        SyntaxKind::TOKEN_IMPLICATION => Some((3, Associativity::Right)),
+        SyntaxKind::TOKEN_OR_OR => Some((4, Associativity::Left)),
+        SyntaxKind::TOKEN_AND_AND => Some((5, Associativity::Left)),
+        SyntaxKind::TOKEN_EQUAL | SyntaxKind::TOKEN_NOT_EQUAL => Some((6, Associativity::Neither)),
+        SyntaxKind::TOKEN_LESS
+        | SyntaxKind::TOKEN_LESS_OR_EQ
+        | SyntaxKind::TOKEN_MORE
+        | SyntaxKind::TOKEN_MORE_OR_EQ => Some((7, Associativity::Neither)),
+        SyntaxKind::TOKEN_UPDATE => Some((8, Associativity::Right)),
+        SyntaxKind::TOKEN_ADD | SyntaxKind::TOKEN_SUB => Some((10, Associativity::Left)),
+        SyntaxKind::TOKEN_MUL | SyntaxKind::TOKEN_DIV => Some((11, Associativity::Left)),
+        SyntaxKind::TOKEN_CONCAT => Some((12, Associativity::Right)),
+        _ => None,
+    }
+}
+
+// How tightly a token that is no binary operator binds what stands before it.
+fn plain_power(kind: SyntaxKind) -> u8
+    ensures { result ≡ plain_power kind }
+{
+    match kind {
+        SyntaxKind::TOKEN_QUESTION => 13,
+        SyntaxKind::TOKEN_DOT | SyntaxKind::TOKEN_OR => 16,
+        _ => { if kind.is_fn_arg() { 15 } else { 0 } }
+    }
+}
 
 /// How tightly a token binds what stands before it: its level, and 0 for one that ends an expression.
 pub fn power(kind: SyntaxKind) -> u8
     ensures { result ≡ power kind }
 {
-    match kind {
-        SyntaxKind::TOKEN_PIPE_LEFT => 1,
-        SyntaxKind::TOKEN_PIPE_RIGHT => 2,
-        SyntaxKind::TOKEN_IMPLICATION => 3,
-        SyntaxKind::TOKEN_OR_OR => 4,
-        SyntaxKind::TOKEN_AND_AND => 5,
-        SyntaxKind::TOKEN_EQUAL | SyntaxKind::TOKEN_NOT_EQUAL => 6,
-        SyntaxKind::TOKEN_LESS
-        | SyntaxKind::TOKEN_LESS_OR_EQ
-        | SyntaxKind::TOKEN_MORE
-        | SyntaxKind::TOKEN_MORE_OR_EQ => 7,
-        SyntaxKind::TOKEN_UPDATE => 8,
-        SyntaxKind::TOKEN_ADD | SyntaxKind::TOKEN_SUB => 10,
-        SyntaxKind::TOKEN_MUL | SyntaxKind::TOKEN_DIV => 11,
-        SyntaxKind::TOKEN_CONCAT => 12,
-        SyntaxKind::TOKEN_QUESTION => 13,
-        SyntaxKind::TOKEN_DOT | SyntaxKind::TOKEN_OR => 16,
-        _ => { if kind.is_fn_arg() { 15 } else { 0 } }
+    match operator(kind) {
+        Some((level, _)) => level,
+        None => plain_power(kind),
     }
 }
 
@@ -34,20 +62,10 @@ pub fn power(kind: SyntaxKind) -> u8
 pub fn right_of(kind: SyntaxKind) -> u8
     ensures { result ≡ right_of kind }
 {
-    match kind {
-        SyntaxKind::TOKEN_PIPE_LEFT => 1,
-        SyntaxKind::TOKEN_PIPE_RIGHT | SyntaxKind::TOKEN_IMPLICATION => 3,
-        SyntaxKind::TOKEN_OR_OR => 5,
-        SyntaxKind::TOKEN_AND_AND => 6,
-        SyntaxKind::TOKEN_EQUAL | SyntaxKind::TOKEN_NOT_EQUAL => 7,
-        SyntaxKind::TOKEN_LESS
-        | SyntaxKind::TOKEN_LESS_OR_EQ
-        | SyntaxKind::TOKEN_MORE
-        | SyntaxKind::TOKEN_MORE_OR_EQ
-        | SyntaxKind::TOKEN_UPDATE => 8,
-        SyntaxKind::TOKEN_ADD | SyntaxKind::TOKEN_SUB => 11,
-        SyntaxKind::TOKEN_MUL | SyntaxKind::TOKEN_DIV | SyntaxKind::TOKEN_CONCAT => 12,
-        _ => 16,
+    match operator(kind) {
+        Some((level, Associativity::Right)) => level,
+        Some((level, _)) => level + 1,
+        None => 16,
     }
 }
 
@@ -55,18 +73,9 @@ pub fn right_of(kind: SyntaxKind) -> u8
 pub fn high_of(kind: SyntaxKind) -> u8
     ensures { result ≡ high_of kind }
 {
-    match kind {
-        SyntaxKind::TOKEN_PIPE_LEFT => 0,
-        SyntaxKind::TOKEN_PIPE_RIGHT | SyntaxKind::TOKEN_IMPLICATION => 2,
-        SyntaxKind::TOKEN_OR_OR => 4,
-        SyntaxKind::TOKEN_AND_AND | SyntaxKind::TOKEN_EQUAL | SyntaxKind::TOKEN_NOT_EQUAL => 5,
-        SyntaxKind::TOKEN_LESS
-        | SyntaxKind::TOKEN_LESS_OR_EQ
-        | SyntaxKind::TOKEN_MORE
-        | SyntaxKind::TOKEN_MORE_OR_EQ => 6,
-        SyntaxKind::TOKEN_UPDATE => 7,
-        SyntaxKind::TOKEN_ADD | SyntaxKind::TOKEN_SUB => 10,
-        SyntaxKind::TOKEN_MUL | SyntaxKind::TOKEN_DIV | SyntaxKind::TOKEN_CONCAT => 11,
-        _ => 15,
+    match operator(kind) {
+        Some((level, Associativity::Left)) => level,
+        Some((level, _)) => level - 1,
+        None => 15,
     }
 }

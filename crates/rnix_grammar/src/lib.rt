@@ -3,7 +3,6 @@
 
 mod action;
 mod begin;
-mod derivation;
 mod error;
 mod level;
 mod operand;
@@ -13,7 +12,6 @@ mod until;
 
 pub use action::{Action, action_at};
 pub use begin::{Begin, begin_of};
-pub use derivation::one_derivation;
 pub use error::ParseError;
 pub use place::Place;
 pub use until::{Until, operand_kinds, stops, wanted_kinds};

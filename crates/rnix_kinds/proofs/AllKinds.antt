@@ -1,107 +1,30 @@
--- Every kind stands in the list of all.
-use Rattle.std.proofs.Common.{◌≡◌, ◌<◌, ℕ, List, refl, ap, ◌∙◌, get_or, arith}
-use Rattle.std.specs.List.{All}
+-- Every kind stands in the list of all, so what holds of all kinds is shown by one computation.
+use Rattle.std.proofs.Common.{◌≡◌, ◌<◌, ℕ, zero, suc, Bool, true, List, [], ◌∷◌, refl, ap, sym, ◌∙◌, get_or, arith}
+use Rattle.std.specs.Prelude.{if◌then◌else◌, nat_lt}
+use Rattle.std.specs.List.{All, list_all}
+use Rattle.std.proofs.lemmas.Bool.Decides.{nat_tests}
+use Rattle.std.proofs.lemmas.Bool.{and_parts}
 use Rattle.rnix_kinds.specs.declared.kinds.SyntaxKind.{SyntaxKind}
 use Rattle.rnix_kinds.specs.declared.kinds.SyntaxKind.TheVariants.{TOKEN_ADD, TOKEN_AND_AND, TOKEN_ASSIGN, TOKEN_ASSERT, TOKEN_AT, TOKEN_COLON, TOKEN_COMMA, TOKEN_COMMENT, TOKEN_CONCAT, TOKEN_CUR_POS, TOKEN_DIV, TOKEN_DOT, TOKEN_ELLIPSIS, TOKEN_ELSE, TOKEN_EQUAL, TOKEN_ERROR, TOKEN_FLOAT, TOKEN_IDENT, TOKEN_IF, TOKEN_IMPLICATION, TOKEN_IN, TOKEN_INHERIT, TOKEN_INTEGER, TOKEN_INTERPOL_END, TOKEN_INTERPOL_START, TOKEN_INVERT, TOKEN_L_BRACE, TOKEN_L_BRACK, TOKEN_L_PAREN, TOKEN_LESS, TOKEN_LESS_OR_EQ, TOKEN_LET, TOKEN_MORE, TOKEN_MORE_OR_EQ, TOKEN_MUL, TOKEN_NOT_EQUAL, TOKEN_OR, TOKEN_OR_OR, TOKEN_PATH_ABS, TOKEN_PATH_HOME, TOKEN_PATH_REL, TOKEN_PATH_SEARCH, TOKEN_PIPE_LEFT, TOKEN_PIPE_RIGHT, TOKEN_QUESTION, TOKEN_R_BRACE, TOKEN_R_BRACK, TOKEN_R_PAREN, TOKEN_REC, TOKEN_SEMICOLON, TOKEN_STRING_CONTENT, TOKEN_STRING_END, TOKEN_STRING_START, TOKEN_SUB, TOKEN_THEN, TOKEN_UPDATE, TOKEN_URI, TOKEN_WHITESPACE, TOKEN_WITH, NODE_APPLY, NODE_ASSERT, NODE_ATTR_SET, NODE_ATTRPATH, NODE_ATTRPATH_VALUE, NODE_BIN_OP, NODE_CUR_POS, NODE_DYNAMIC, NODE_ERROR, NODE_HAS_ATTR, NODE_IDENT, NODE_IDENT_PARAM, NODE_IF_ELSE, NODE_INHERIT, NODE_INHERIT_FROM, NODE_INTERPOL, NODE_LAMBDA, NODE_LEGACY_LET, NODE_LET_IN, NODE_LIST, NODE_LITERAL, NODE_PAREN, NODE_PAT_BIND, NODE_PAT_ENTRY, NODE_PATTERN, NODE_PATH_ABS, NODE_PATH_HOME, NODE_PATH_REL, NODE_PATH_SEARCH, NODE_ROOT, NODE_SELECT, NODE_STRING, NODE_UNARY_OP, NODE_WITH}
 use Rattle.rnix_kinds.specs.declared.kinds.TheConstants.{ALL}
 use Rattle.rnix_kinds.specs.SyntaxKind.{name_of, place_of}
 
-pub place_in_range : (k : SyntaxKind) → place_of k < 93
-place_in_range TOKEN_ADD = omega arith
-place_in_range TOKEN_AND_AND = omega arith
-place_in_range TOKEN_ASSIGN = omega arith
-place_in_range TOKEN_ASSERT = omega arith
-place_in_range TOKEN_AT = omega arith
-place_in_range TOKEN_COLON = omega arith
-place_in_range TOKEN_COMMA = omega arith
-place_in_range TOKEN_COMMENT = omega arith
-place_in_range TOKEN_CONCAT = omega arith
-place_in_range TOKEN_CUR_POS = omega arith
-place_in_range TOKEN_DIV = omega arith
-place_in_range TOKEN_DOT = omega arith
-place_in_range TOKEN_ELLIPSIS = omega arith
-place_in_range TOKEN_ELSE = omega arith
-place_in_range TOKEN_EQUAL = omega arith
-place_in_range TOKEN_ERROR = omega arith
-place_in_range TOKEN_FLOAT = omega arith
-place_in_range TOKEN_IDENT = omega arith
-place_in_range TOKEN_IF = omega arith
-place_in_range TOKEN_IMPLICATION = omega arith
-place_in_range TOKEN_IN = omega arith
-place_in_range TOKEN_INHERIT = omega arith
-place_in_range TOKEN_INTEGER = omega arith
-place_in_range TOKEN_INTERPOL_END = omega arith
-place_in_range TOKEN_INTERPOL_START = omega arith
-place_in_range TOKEN_INVERT = omega arith
-place_in_range TOKEN_L_BRACE = omega arith
-place_in_range TOKEN_L_BRACK = omega arith
-place_in_range TOKEN_L_PAREN = omega arith
-place_in_range TOKEN_LESS = omega arith
-place_in_range TOKEN_LESS_OR_EQ = omega arith
-place_in_range TOKEN_LET = omega arith
-place_in_range TOKEN_MORE = omega arith
-place_in_range TOKEN_MORE_OR_EQ = omega arith
-place_in_range TOKEN_MUL = omega arith
-place_in_range TOKEN_NOT_EQUAL = omega arith
-place_in_range TOKEN_OR = omega arith
-place_in_range TOKEN_OR_OR = omega arith
-place_in_range TOKEN_PATH_ABS = omega arith
-place_in_range TOKEN_PATH_HOME = omega arith
-place_in_range TOKEN_PATH_REL = omega arith
-place_in_range TOKEN_PATH_SEARCH = omega arith
-place_in_range TOKEN_PIPE_LEFT = omega arith
-place_in_range TOKEN_PIPE_RIGHT = omega arith
-place_in_range TOKEN_QUESTION = omega arith
-place_in_range TOKEN_R_BRACE = omega arith
-place_in_range TOKEN_R_BRACK = omega arith
-place_in_range TOKEN_R_PAREN = omega arith
-place_in_range TOKEN_REC = omega arith
-place_in_range TOKEN_SEMICOLON = omega arith
-place_in_range TOKEN_STRING_CONTENT = omega arith
-place_in_range TOKEN_STRING_END = omega arith
-place_in_range TOKEN_STRING_START = omega arith
-place_in_range TOKEN_SUB = omega arith
-place_in_range TOKEN_THEN = omega arith
-place_in_range TOKEN_UPDATE = omega arith
-place_in_range TOKEN_URI = omega arith
-place_in_range TOKEN_WHITESPACE = omega arith
-place_in_range TOKEN_WITH = omega arith
-place_in_range NODE_APPLY = omega arith
-place_in_range NODE_ASSERT = omega arith
-place_in_range NODE_ATTR_SET = omega arith
-place_in_range NODE_ATTRPATH = omega arith
-place_in_range NODE_ATTRPATH_VALUE = omega arith
-place_in_range NODE_BIN_OP = omega arith
-place_in_range NODE_CUR_POS = omega arith
-place_in_range NODE_DYNAMIC = omega arith
-place_in_range NODE_ERROR = omega arith
-place_in_range NODE_HAS_ATTR = omega arith
-place_in_range NODE_IDENT = omega arith
-place_in_range NODE_IDENT_PARAM = omega arith
-place_in_range NODE_IF_ELSE = omega arith
-place_in_range NODE_INHERIT = omega arith
-place_in_range NODE_INHERIT_FROM = omega arith
-place_in_range NODE_INTERPOL = omega arith
-place_in_range NODE_LAMBDA = omega arith
-place_in_range NODE_LEGACY_LET = omega arith
-place_in_range NODE_LET_IN = omega arith
-place_in_range NODE_LIST = omega arith
-place_in_range NODE_LITERAL = omega arith
-place_in_range NODE_PAREN = omega arith
-place_in_range NODE_PAT_BIND = omega arith
-place_in_range NODE_PAT_ENTRY = omega arith
-place_in_range NODE_PATTERN = omega arith
-place_in_range NODE_PATH_ABS = omega arith
-place_in_range NODE_PATH_HOME = omega arith
-place_in_range NODE_PATH_REL = omega arith
-place_in_range NODE_PATH_SEARCH = omega arith
-place_in_range NODE_ROOT = omega arith
-place_in_range NODE_SELECT = omega arith
-place_in_range NODE_STRING = omega arith
-place_in_range NODE_UNARY_OP = omega arith
-place_in_range NODE_WITH = omega arith
+-- all kinds, in the order of their declaration
+abbrev pub all_kinds : List SyntaxKind
+all_kinds =
+    TOKEN_ADD ∷ TOKEN_AND_AND ∷ TOKEN_ASSIGN ∷ TOKEN_ASSERT ∷ TOKEN_AT ∷ TOKEN_COLON ∷ TOKEN_COMMA ∷ TOKEN_COMMENT ∷ TOKEN_CONCAT ∷ TOKEN_CUR_POS ∷
+    TOKEN_DIV ∷ TOKEN_DOT ∷ TOKEN_ELLIPSIS ∷ TOKEN_ELSE ∷ TOKEN_EQUAL ∷ TOKEN_ERROR ∷ TOKEN_FLOAT ∷ TOKEN_IDENT ∷ TOKEN_IF ∷ TOKEN_IMPLICATION ∷
+    TOKEN_IN ∷ TOKEN_INHERIT ∷ TOKEN_INTEGER ∷ TOKEN_INTERPOL_END ∷ TOKEN_INTERPOL_START ∷ TOKEN_INVERT ∷ TOKEN_L_BRACE ∷ TOKEN_L_BRACK ∷
+    TOKEN_L_PAREN ∷ TOKEN_LESS ∷ TOKEN_LESS_OR_EQ ∷ TOKEN_LET ∷ TOKEN_MORE ∷ TOKEN_MORE_OR_EQ ∷ TOKEN_MUL ∷ TOKEN_NOT_EQUAL ∷ TOKEN_OR ∷ TOKEN_OR_OR ∷
+    TOKEN_PATH_ABS ∷ TOKEN_PATH_HOME ∷ TOKEN_PATH_REL ∷ TOKEN_PATH_SEARCH ∷ TOKEN_PIPE_LEFT ∷ TOKEN_PIPE_RIGHT ∷ TOKEN_QUESTION ∷ TOKEN_R_BRACE ∷
+    TOKEN_R_BRACK ∷ TOKEN_R_PAREN ∷ TOKEN_REC ∷ TOKEN_SEMICOLON ∷ TOKEN_STRING_CONTENT ∷ TOKEN_STRING_END ∷ TOKEN_STRING_START ∷ TOKEN_SUB ∷
+    TOKEN_THEN ∷ TOKEN_UPDATE ∷ TOKEN_URI ∷ TOKEN_WHITESPACE ∷ TOKEN_WITH ∷ NODE_APPLY ∷ NODE_ASSERT ∷ NODE_ATTR_SET ∷ NODE_ATTRPATH ∷
+    NODE_ATTRPATH_VALUE ∷ NODE_BIN_OP ∷ NODE_CUR_POS ∷ NODE_DYNAMIC ∷ NODE_ERROR ∷ NODE_HAS_ATTR ∷ NODE_IDENT ∷ NODE_IDENT_PARAM ∷ NODE_IF_ELSE ∷
+    NODE_INHERIT ∷ NODE_INHERIT_FROM ∷ NODE_INTERPOL ∷ NODE_LAMBDA ∷ NODE_LEGACY_LET ∷ NODE_LET_IN ∷ NODE_LIST ∷ NODE_LITERAL ∷ NODE_PAREN ∷
+    NODE_PAT_BIND ∷ NODE_PAT_ENTRY ∷ NODE_PATTERN ∷ NODE_PATH_ABS ∷ NODE_PATH_HOME ∷ NODE_PATH_REL ∷ NODE_PATH_SEARCH ∷ NODE_ROOT ∷ NODE_SELECT ∷
+    NODE_STRING ∷ NODE_UNARY_OP ∷ NODE_WITH ∷ []
 
-pub kind_at_place : (k d : SyntaxKind) → get_or ALL (place_of k) d ≡ k
+pub kind_at_place : (k d : SyntaxKind) → get_or all_kinds (place_of k) d ≡ k
 kind_at_place TOKEN_ADD d = refl
 kind_at_place TOKEN_AND_AND d = refl
 kind_at_place TOKEN_ASSIGN d = refl
@@ -195,6 +118,23 @@ kind_at_place NODE_SELECT d = refl
 kind_at_place NODE_STRING d = refl
 kind_at_place NODE_UNARY_OP d = refl
 kind_at_place NODE_WITH d = refl
+
+-- what holds of all elements, and of the one in their place, holds at each number
+all_at : {A : Type 0} (test : A → Bool) (xs : List A) (i : ℕ) (d : A) → list_all test xs ≡ true → test d ≡ true → test (get_or xs i d) ≡ true
+all_at test [] i d h e = e
+all_at test (x ∷ xs) zero d h e = (and_parts (test x) (list_all test xs) h).0
+all_at test (x ∷ xs) (suc i) d h e = all_at test xs i d (and_parts (test x) (list_all test xs) h).1 e
+
+-- a test that each kind in the list passes is passed by every kind
+pub every : (test : SyntaxKind → Bool) → list_all test all_kinds ≡ true → (k : SyntaxKind) → test k ≡ true
+every test h k = ap test (sym (kind_at_place k TOKEN_ADD)) ∙ all_at test all_kinds (place_of k) TOKEN_ADD h (and_parts (test TOKEN_ADD) _ h).0
+
+-- so one test follows from another
+pub implied : (first second : SyntaxKind → Bool) → list_all (λ k. if first k then second k else true) all_kinds ≡ true → (k : SyntaxKind) → first k ≡ true → second k ≡ true
+implied first second h k e = sym (ap (λ w. if w then second k else true) e) ∙ every (λ k. if first k then second k else true) h k
+
+pub place_in_range : (k : SyntaxKind) → place_of k < 93
+place_in_range k = grind (arith, nat_tests, every (λ k. nat_lt (place_of k) 93) refl k)
 
 -- where no listed kind has the name, no kind has it
 pub none_named : (name : List ℕ) → All (λ (kind : SyntaxKind). ¬ (name_of kind ≡ name)) ALL → (kind : SyntaxKind) → ¬ (name_of kind ≡ name)

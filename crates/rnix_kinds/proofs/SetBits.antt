@@ -1,5 +1,7 @@
 -- Which kinds a set of bits holds.
-use Rattle.std.proofs.Common.{◌≡◌, ◌≢◌, ◌↔◌, ◌⊎◌, inl, inr, ℕ, zero, suc, ◌+◌, ◌*◌, ◌^◌, ◌%◌, ◌<◌, max, refl, ap, sym, ◌∙◌, subst, arith, bit_and, bit_or, get_or, List, length}
+use Rattle.std.proofs.Common.{true, ◌≡◌, ◌≢◌, ◌↔◌, ◌⊎◌, inl, inr, ℕ, zero, suc, ◌+◌, ◌*◌, ◌^◌, ◌%◌, ◌<◌, max, refl, ap, sym, ◌∙◌, subst, arith, bit_and, bit_or, get_or, List, length}
+use Rattle.std.specs.Prelude.{nat_eq}
+use Rattle.std.proofs.lemmas.Bool.Decides.{nat_tests}
 use Rattle.std.specs.List.{Contains}
 use Rattle.std.specs.Int.{IsBitSet, bit_at}
 use Rattle.std.proofs.lemmas.Nat.{pow_pos}
@@ -8,13 +10,11 @@ use Rattle.std.proofs.lemmas.Bool.{cases_lt}
 use Rattle.std.proofs.lemmas.List.{get_or_default}
 use Rattle.std.proofs.lemmas.Nat.Bits.{and_pow, bit_at-lt, bit_at_or, bit_at-pow_same, bit_at-pow_other}
 use Rattle.rnix_kinds.specs.declared.kinds.SyntaxKind.{SyntaxKind}
-use Rattle.rnix_kinds.specs.declared.kinds.SyntaxKind.TheVariants.{TOKEN_ADD, TOKEN_AND_AND, TOKEN_ASSIGN, TOKEN_ASSERT, TOKEN_AT, TOKEN_COLON, TOKEN_COMMA, TOKEN_COMMENT, TOKEN_CONCAT, TOKEN_CUR_POS, TOKEN_DIV, TOKEN_DOT, TOKEN_ELLIPSIS, TOKEN_ELSE, TOKEN_EQUAL, TOKEN_ERROR, TOKEN_FLOAT, TOKEN_IDENT, TOKEN_IF, TOKEN_IMPLICATION, TOKEN_IN, TOKEN_INHERIT, TOKEN_INTEGER, TOKEN_INTERPOL_END, TOKEN_INTERPOL_START, TOKEN_INVERT, TOKEN_L_BRACE, TOKEN_L_BRACK, TOKEN_L_PAREN, TOKEN_LESS, TOKEN_LESS_OR_EQ, TOKEN_LET, TOKEN_MORE, TOKEN_MORE_OR_EQ, TOKEN_MUL, TOKEN_NOT_EQUAL, TOKEN_OR, TOKEN_OR_OR, TOKEN_PATH_ABS, TOKEN_PATH_HOME, TOKEN_PATH_REL, TOKEN_PATH_SEARCH, TOKEN_PIPE_LEFT, TOKEN_PIPE_RIGHT, TOKEN_QUESTION, TOKEN_R_BRACE, TOKEN_R_BRACK, TOKEN_R_PAREN, TOKEN_REC, TOKEN_SEMICOLON, TOKEN_STRING_CONTENT, TOKEN_STRING_END, TOKEN_STRING_START, TOKEN_SUB, TOKEN_THEN, TOKEN_UPDATE, TOKEN_URI, TOKEN_WHITESPACE, TOKEN_WITH, NODE_APPLY, NODE_ASSERT, NODE_ATTR_SET, NODE_ATTRPATH, NODE_ATTRPATH_VALUE, NODE_BIN_OP, NODE_CUR_POS, NODE_DYNAMIC, NODE_ERROR, NODE_HAS_ATTR, NODE_IDENT, NODE_IDENT_PARAM, NODE_IF_ELSE, NODE_INHERIT, NODE_INHERIT_FROM, NODE_INTERPOL, NODE_LAMBDA, NODE_LEGACY_LET, NODE_LET_IN, NODE_LIST, NODE_LITERAL, NODE_PAREN, NODE_PAT_BIND, NODE_PAT_ENTRY, NODE_PATTERN, NODE_PATH_ABS, NODE_PATH_HOME, NODE_PATH_REL, NODE_PATH_SEARCH, NODE_ROOT, NODE_SELECT, NODE_STRING, NODE_UNARY_OP, NODE_WITH}
 use Rattle.rnix_kinds.specs.contracts.kinds.SyntaxKind.{the_type}
 use denote.Enum.Declared.{tag_of}
-use Rattle.rnix_kinds.specs.declared.kinds.TheConstants.{ALL}
 use Rattle.rnix_kinds.specs.SyntaxKind.{place_of}
 use Rattle.rnix_kinds.specs.TokenSet.{Holds, HoldsOnly, IsUnion}
-use Rattle.rnix_kinds.proofs.AllKinds.{place_in_range, kind_at_place}
+use Rattle.rnix_kinds.proofs.AllKinds.{all_kinds, every, place_in_range, kind_at_place}
 
 -- a set bit is a 1
 bit_from_set : (n k : ℕ) → IsBitSet n k → bit_at n k ≡ 1
@@ -63,105 +63,16 @@ power_bits p k = (forth, λ e. subst (λ (n : ℕ). IsBitSet (2 ^ p) n) (sym e) 
         same_or_not (suc a) zero = inr (λ e. omega arith)
         same_or_not (suc a) (suc b) = elim (same_or_not a b) [ inl e ↦ inl (ap suc e) | inr d ↦ inr (λ e. d (omega arith)) ]
 
+same_number : (m n : ℕ) → nat_eq m n ≡ true → m ≡ n
+same_number m n h = grind (arith, nat_tests, h)
+
 -- the number that code sees of a kind
 pub tag_is_place : (k : SyntaxKind) → tag_of the_type k ≡ place_of k
-tag_is_place TOKEN_ADD = refl
-tag_is_place TOKEN_AND_AND = refl
-tag_is_place TOKEN_ASSIGN = refl
-tag_is_place TOKEN_ASSERT = refl
-tag_is_place TOKEN_AT = refl
-tag_is_place TOKEN_COLON = refl
-tag_is_place TOKEN_COMMA = refl
-tag_is_place TOKEN_COMMENT = refl
-tag_is_place TOKEN_CONCAT = refl
-tag_is_place TOKEN_CUR_POS = refl
-tag_is_place TOKEN_DIV = refl
-tag_is_place TOKEN_DOT = refl
-tag_is_place TOKEN_ELLIPSIS = refl
-tag_is_place TOKEN_ELSE = refl
-tag_is_place TOKEN_EQUAL = refl
-tag_is_place TOKEN_ERROR = refl
-tag_is_place TOKEN_FLOAT = refl
-tag_is_place TOKEN_IDENT = refl
-tag_is_place TOKEN_IF = refl
-tag_is_place TOKEN_IMPLICATION = refl
-tag_is_place TOKEN_IN = refl
-tag_is_place TOKEN_INHERIT = refl
-tag_is_place TOKEN_INTEGER = refl
-tag_is_place TOKEN_INTERPOL_END = refl
-tag_is_place TOKEN_INTERPOL_START = refl
-tag_is_place TOKEN_INVERT = refl
-tag_is_place TOKEN_L_BRACE = refl
-tag_is_place TOKEN_L_BRACK = refl
-tag_is_place TOKEN_L_PAREN = refl
-tag_is_place TOKEN_LESS = refl
-tag_is_place TOKEN_LESS_OR_EQ = refl
-tag_is_place TOKEN_LET = refl
-tag_is_place TOKEN_MORE = refl
-tag_is_place TOKEN_MORE_OR_EQ = refl
-tag_is_place TOKEN_MUL = refl
-tag_is_place TOKEN_NOT_EQUAL = refl
-tag_is_place TOKEN_OR = refl
-tag_is_place TOKEN_OR_OR = refl
-tag_is_place TOKEN_PATH_ABS = refl
-tag_is_place TOKEN_PATH_HOME = refl
-tag_is_place TOKEN_PATH_REL = refl
-tag_is_place TOKEN_PATH_SEARCH = refl
-tag_is_place TOKEN_PIPE_LEFT = refl
-tag_is_place TOKEN_PIPE_RIGHT = refl
-tag_is_place TOKEN_QUESTION = refl
-tag_is_place TOKEN_R_BRACE = refl
-tag_is_place TOKEN_R_BRACK = refl
-tag_is_place TOKEN_R_PAREN = refl
-tag_is_place TOKEN_REC = refl
-tag_is_place TOKEN_SEMICOLON = refl
-tag_is_place TOKEN_STRING_CONTENT = refl
-tag_is_place TOKEN_STRING_END = refl
-tag_is_place TOKEN_STRING_START = refl
-tag_is_place TOKEN_SUB = refl
-tag_is_place TOKEN_THEN = refl
-tag_is_place TOKEN_UPDATE = refl
-tag_is_place TOKEN_URI = refl
-tag_is_place TOKEN_WHITESPACE = refl
-tag_is_place TOKEN_WITH = refl
-tag_is_place NODE_APPLY = refl
-tag_is_place NODE_ASSERT = refl
-tag_is_place NODE_ATTR_SET = refl
-tag_is_place NODE_ATTRPATH = refl
-tag_is_place NODE_ATTRPATH_VALUE = refl
-tag_is_place NODE_BIN_OP = refl
-tag_is_place NODE_CUR_POS = refl
-tag_is_place NODE_DYNAMIC = refl
-tag_is_place NODE_ERROR = refl
-tag_is_place NODE_HAS_ATTR = refl
-tag_is_place NODE_IDENT = refl
-tag_is_place NODE_IDENT_PARAM = refl
-tag_is_place NODE_IF_ELSE = refl
-tag_is_place NODE_INHERIT = refl
-tag_is_place NODE_INHERIT_FROM = refl
-tag_is_place NODE_INTERPOL = refl
-tag_is_place NODE_LAMBDA = refl
-tag_is_place NODE_LEGACY_LET = refl
-tag_is_place NODE_LET_IN = refl
-tag_is_place NODE_LIST = refl
-tag_is_place NODE_LITERAL = refl
-tag_is_place NODE_PAREN = refl
-tag_is_place NODE_PAT_BIND = refl
-tag_is_place NODE_PAT_ENTRY = refl
-tag_is_place NODE_PATTERN = refl
-tag_is_place NODE_PATH_ABS = refl
-tag_is_place NODE_PATH_HOME = refl
-tag_is_place NODE_PATH_REL = refl
-tag_is_place NODE_PATH_SEARCH = refl
-tag_is_place NODE_ROOT = refl
-tag_is_place NODE_SELECT = refl
-tag_is_place NODE_STRING = refl
-tag_is_place NODE_UNARY_OP = refl
-tag_is_place NODE_WITH = refl
+tag_is_place k = same_number (tag_of the_type k) (place_of k) (every (λ k. nat_eq (tag_of the_type k) (place_of k)) refl k)
 
 -- two kinds in one place are one
 pub same_place : (a b : SyntaxKind) → place_of a ≡ place_of b → a ≡ b
-same_place a b e = sym (kind_at_place a a) ∙ ap (λ n. get_or ALL n a) e ∙ kind_at_place b a
+same_place a b e = sym (kind_at_place a a) ∙ ap (λ n. get_or all_kinds n a) e ∙ kind_at_place b a
 
 -- the bit of one kind
 pub holds_only_bit : (only : SyntaxKind) → HoldsOnly (1 * 2 ^ tag_of the_type only % 2 ^ 128) only

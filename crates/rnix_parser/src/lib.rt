@@ -1,15 +1,8 @@
-//! The reader: from the tokens of a text to its tree and its errors.
+//! From the tokens of a text to its tree and its errors, with all that is promised of them.
 #![tactic(auto)]
 
-mod cursor;
-mod mark;
-mod names;
-mod operands;
-mod parser;
+mod derivation;
 mod parsing;
-mod reading;
-mod runs;
-mod steps;
-mod told;
 
+pub use derivation::one_derivation;
 pub use parsing::parse;

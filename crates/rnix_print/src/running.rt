@@ -1,7 +1,8 @@
 //! A text in, its printed tree out.
 
-ghost use Rattle.std.specs.Prelude.{◌≡◌, ◌++◌, OnOk, IfOk, IfErr, IfSome, Err, IsUtf8};
+ghost use Rattle.std.specs.Prelude.{◌≡◌, ◌++◌, map, OnOk, IfOk, IfErr, IfSome, Err, IsUtf8};
 ghost use Rattle.std.specs.Io.KnownBytes.{Appends};
+ghost use Rattle.rnix_grammar.specs.Fault.{fault_of};
 ghost use Rattle.rnix_print.specs.declared.outcome.RunError.TheVariants as refused;
 ghost use Rattle.rnix_print.specs.Lines.{error_lines, lines_of};
 ghost use Rattle.rnix_print.specs.Ran.{HasRun};
@@ -9,18 +10,21 @@ ghost use Rattle.rnix_print.specs.Ran.{HasRun};
 use crate::outcome::RunError;
 use crate::printing::{dump, write_errors};
 use crate::reading::read_all;
-use rnix::{Parse, Root};
+use rnix_grammar::ParseError;
+use rnix_kinds::tokenize;
+use rnix_parser::parse;
+use rnix_tree::{GreenNode, SyntaxNode};
 use std::alloc::Global;
 use std::io;
 use std::io::{Read, Write};
 
 // The errors, and then the tree.
-fn print<W: Write>(read: &Parse, out: &mut W) -> io::Result<()>
+fn print<W: Write>(tree: &GreenNode, errors: &[ParseError], out: &mut W) -> io::Result<()>
     ensures { OnOk result (Appends (W.contents out.old) (W.contents out.new)
-        (error_lines read.now.faults ++ lines_of record { tree = read.now.tree; number = 0 })) }
+        (error_lines (map fault_of errors.now) ++ lines_of record { tree = tree.now; number = 0 })) }
 {
-    write_errors(read.errors(), out)?;
-    dump(&read.syntax(), out)?;
+    write_errors(errors, out)?;
+    dump(&SyntaxNode::new_root(tree), out)?;
     Ok(())
 }
 
@@ -33,11 +37,11 @@ pub fn run<R: Read, W: Write>(alloc: Global, input: &mut R, out: &mut W) -> Resu
     ensures memory { result ≡ Err refused.Memory → out.new ≡ out.old }
 {
     let text = read_all(alloc, input)?;
-    let Ok(read) = Root::parse(alloc, text.as_str()) else {
+    let Ok((tree, errors)) = parse(alloc, tokenize(alloc, text.as_str())) else {
         return Err(RunError::Memory);
     };
-    if print(&read, out).is_err() {
+    if print(&tree, &errors, out).is_err() {
         return Err(RunError::Write);
     }
-    Ok(read.errors().is_empty())
+    Ok(errors.is_empty())
 }

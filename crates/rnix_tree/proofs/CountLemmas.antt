@@ -1,10 +1,10 @@
 -- How long the lists are that walks give.
-use Rattle.std.proofs.Common.{◌≡◌, ℕ, zero, suc, ◌+◌, ◌≤◌, ◌<◌, nat_lt, List, [], ◌∷◌, length, map, true, false, refl, ap, ◌∙◌, arith, length-append}
+use Rattle.std.proofs.Common.{◌≡◌, ℕ, zero, suc, ◌+◌, ◌≤◌, ◌<◌, nat_lt, List, [], ◌∷◌, length, map, true, false, refl, ap, arith, length-append}
 use Rattle.std.proofs.lemmas.List.{length-map}
 use Rattle.std.specs.Prelude.{if◌then◌else◌}
 use Rattle.rnix_tree.specs.Forest.{Forest, empty, leaf, node, element_count}
-use Rattle.rnix_tree.specs.Tree.{Tree, Located, items_of, item, item_of, part_at, children_in}
-use Rattle.rnix_tree.specs.Walk.{Spot, Event, spot_at, event_at, tree_numbers, children_of, steps_from, preorder_of, counted, elements_of, nodes_in, node_events, holders, ancestors_of}
+use Rattle.rnix_tree.specs.Tree.{Tree, Located, items_of, item, part_at, children_in}
+use Rattle.rnix_tree.specs.Walk.{Spot, Event, spot_at, event_at, tree_numbers, children_of, steps_from, preorder_of, counted, nodes_in, node_events, holders, ancestors_of}
 use Rattle.rnix_tree.proofs.PartLemmas.{IsPart, IsOne, one_leaf, one_node, below_of_part, part_there, one_there}
 
 tree_numbers-few : (n : ℕ) (f : Forest) → length (tree_numbers n f) ≤ element_count f
@@ -57,10 +57,6 @@ counted-many n (suc k) = ap suc (counted-many (n + 1) k)
 -- no more ancestors than elements up to it
 pub ancestors_of-few : (e : Located) → length (ancestors_of e) ≤ e.number + 1
 ancestors_of-few e = holders-few e.tree e.number (e.number + 1)
-
--- an element and all that is inside it
-pub elements_of-many : (e : Located) → length (elements_of e) ≡ 1 + (item_of e).below
-elements_of-many e = length-map (counted e.number (1 + (item_of e).below)) (spot_at e.tree) ∙ counted-many e.number (1 + (item_of e).below)
 
 -- a walk enters and leaves each element
 pub preorder_of-twice : (t : Tree) (n : ℕ) → n < length (items_of t)

@@ -1,6 +1,5 @@
 -- How the entries of a builder make trees.
-use Rattle.std.proofs.Common.{◌≡◌, ℕ, zero, suc, ◌+◌, ◌-◌, ◌≤◌, ◌<◌, List, [], ◌∷◌, ◌++◌, length, take, drop, get_or, true, nat_le, refl, ap, sym, ◌∙◌, arith, append_assoc, inl, inr}
-use Rattle.std.proofs.lemmas.Bool.Decides.{nat_tests}
+use Rattle.std.proofs.Common.{◌≡◌, ℕ, zero, suc, ◌+◌, ◌-◌, ◌≤◌, ◌<◌, List, [], ◌∷◌, ◌++◌, length, take, drop, get_or, true, refl, ap, sym, ◌∙◌, arith, append_assoc, inl, inr}
 use Rattle.std.proofs.lemmas.List.{take_all, take_more, reverse-append, length-map, length-reverse, take_at, drop_at, append-nil, length_push, length-take-le, get_or_past}
 use Rattle.std.proofs.lemmas.Bool.{cases_lt, and_parts}
 use Rattle.std.specs.Str.{IsUtf8}
@@ -9,16 +8,13 @@ use Rattle.rnix_tree.specs.declared.postorder.Entry.{Entry}
 use Rattle.rnix_tree.specs.declared.postorder.Entry.TheVariants.{Leaf, Node}
 use Rattle.rnix_tree.specs.declared.builder.OpenNode.{OpenNode as Pending}
 use Rattle.rnix_tree.specs.Forest.{Forest, empty, leaf, node, join, tree_count, element_count, first_trees, trees_after, text_of, HasText}
-use Rattle.rnix_tree.specs.Draft.{Draft, with_leaf, wrapped, is_inside, closed_over, is_checkpoint_of, is_complete_of, is_nothing, is_one_node}
+use Rattle.rnix_tree.specs.Draft.{Draft, with_leaf, wrapped, closed_over, is_complete_of, is_nothing, is_one_node}
 use Rattle.rnix_tree.specs.Kept.{first_elements, elements_after}
 use Rattle.rnix_tree.specs.Postorder.{entries_of}
 use Rattle.rnix_tree.specs.Entries.{built_onto, built, wrapped_last, starts_from, open_pairs, IsNested, IsBuilt}
 use Rattle.rnix_tree.specs.ForestCode.{join_empty}
 use Rattle.rnix_tree.proofs.ForestLemmas.{tree_count-join, tree_count-first, element_count-join, text_of-join, join_assoc, join_first_after}
 use Rattle.rnix_tree.proofs.PostorderLemmas.{entries_of-join, length-post_of}
-
-le_from_nat_le : (a b : ℕ) → nat_le a b ≡ true → a ≤ b
-le_from_nat_le a b h = grind (arith, nat_tests)
 
 -- the first of two rows, by its elements
 pub first_elements-join : (f g : Forest) → first_elements (element_count f) (join f g) ≡ f
@@ -83,12 +79,6 @@ starts_from-join n (leaf k t f) g =
 starts_from-join n (node k c f) g =
     ap (λ x. n ∷ x) (starts_from-join (n + 1 + element_count c) f g ∙ ap (λ m. starts_from (n + 1 + element_count c) f ++ starts_from m g) (omega arith))
 
--- each tree begins once
-pub length-starts_from : (n : ℕ) (f : Forest) → length (starts_from n f) ≡ tree_count f
-length-starts_from n empty = refl
-length-starts_from n (leaf k t f) = ap suc (length-starts_from (n + 1) f)
-length-starts_from n (node k c f) = ap suc (length-starts_from (n + 1 + element_count c) f)
-
 -- a tree begins behind the elements of those before it
 pub start_at : (n : ℕ) (f : Forest) (p d : ℕ) → p < tree_count f → get_or (starts_from n f) p d ≡ n + element_count (first_trees p f)
 start_at n empty p d h = absurd (omega arith)
@@ -144,10 +134,6 @@ tree_count-wrapped k p f h = omega (arith, tree_count-join (first_trees p f) (no
 pub open_pairs-push : (os : List Pending) (o : Pending) → open_pairs (os ++ o ∷ []) ≡ (o.kind, o.place) ∷ open_pairs os
 open_pairs-push os o = rw (reverse-append os (o ∷ [])) refl
 
--- one more open node at or behind the others
-pub IsNested-push : (n : ℕ) (os : List Pending) (o : Pending) → IsNested o.place (open_pairs os) → o.place ≤ n → IsNested n (open_pairs (os ++ o ∷ []))
-IsNested-push n os o h l = rw (open_pairs-push os o) (l, h)
-
 -- the last node is the innermost
 pub open_pairs-last : (os : List Pending) (n : ℕ) (o : Pending) → n < length os → n + 1 ≡ length os → get_or os n o ≡ o →
     open_pairs os ≡ (o.kind, o.place) ∷ open_pairs (take n os)
@@ -159,11 +145,6 @@ open_pairs-last os n o l e is =
 pub IsNested-weaker : (n m : ℕ) (os : List (SyntaxKind × ℕ)) → n ≤ m → IsNested n os → IsNested m os
 IsNested-weaker n m [] l h = tt
 IsNested-weaker n m ((k, p) ∷ os) l h = (omega arith, h.1)
-
--- a valid checkpoint is above the places of the open nodes
-pub IsNested-inside : (n m : ℕ) (os : List (SyntaxKind × ℕ)) → IsNested n os → is_inside m os ≡ true → IsNested m os
-IsNested-inside n m [] h i = tt
-IsNested-inside n m ((k, p) ∷ os) h i = (le_from_nat_le p m i, h.1)
 
 -- as many as are open
 pub length-open_pairs : (os : List Pending) → length (open_pairs os) ≡ length os
@@ -183,19 +164,6 @@ built-token f text later s es more os st starts k h u le mo sta = record {
   counted = omega (arith, ap length sta, length_push st (length es), h.counted, tree_count-with_leaf k s f);
   nested = IsNested-weaker (tree_count f) (tree_count (with_leaf k s f)) (open_pairs os) (omega (arith, tree_count-with_leaf k s f)) h.nested;
 }
-
--- a builder with one more open node
-pub built-opened : (f : Forest) (text : List ℕ) (es : List Entry) (os after : List Pending) (st : List ℕ) (o : Pending) → IsBuilt f text es os st →
-    after ≡ os ++ o ∷ [] → o.place ≤ tree_count f → IsNested o.place (open_pairs os) → IsBuilt f text es after st
-built-opened f text es os after st o h e l i =
-    rw e record {
-      entries = h.entries;
-      text_is = h.text_is;
-      characters = h.characters;
-      starts_are = h.starts_are;
-      counted = h.counted;
-      nested = IsNested-push (tree_count f) os o i l;
-    }
 
 -- the innermost open node, the last of the list
 pub innermost : (f : Forest) (text : List ℕ) (es : List Entry) (os : List Pending) (st : List ℕ) (j : ℕ) (o : Pending) → IsBuilt f text es os st →
@@ -250,11 +218,6 @@ built-closed f text es more os outer st starts j first o h e is fi mo ou sta =
       nested =
           rw ou (IsNested-weaker o.place (tree_count (wrapped o.kind o.place f)) (open_pairs (take j os)) (omega (arith, tree_count-wrapped o.kind o.place f i.0)) i.1);
     }
-
--- a place where a node may be opened
-pub checkpoint-parts : (d : Draft) (n : ℕ) → is_checkpoint_of d n ≡ true → (n ≤ tree_count d.finished) × (is_inside n d.open_nodes ≡ true)
-checkpoint-parts d n h =
-    let p = and_parts (nat_le n (tree_count d.finished)) (is_inside n d.open_nodes) h in (le_from_nat_le n (tree_count d.finished) p.0, p.1)
 
 -- a builder that is complete
 pub complete-parts : (d : Draft) → is_complete_of d ≡ true → (is_nothing d.open_nodes ≡ true) × (is_one_node d.finished ≡ true)

@@ -12,10 +12,6 @@ use Rattle.rnix_tree.proofs.StartLemmas.{in_order, in_text, has_left}
 order : (t : Tree) (i j : ℕ) → i < j → j < length (items_of t) → ((item t i).start ≤ (item t j).start) × (i + (item t i).below < j → (item t i).end ≤ (item t j).start)
 order t i j l h = (let o = in_order 0 0 None (forest_of t) i j l (omega (arith, elements_in_all t)) in (o.starts, o.ends))
 
--- an element ends no earlier than it begins
-pub is_ordered : (t : Tree) (m : ℕ) → m < length (items_of t) → (item t m).start ≤ (item t m).end
-is_ordered t m l = (let b = in_text 0 0 None (forest_of t) m (omega (arith, elements_in_all t)) in b.ordered)
-
 -- a token that ends behind the start of a later element is not before it
 token_last : (t : Tree) (m k : ℕ) → m < k → k < length (items_of t) → (item t m).is_node ≡ false → (item t m).end ≤ (item t k).start
 token_last t m k l h token =

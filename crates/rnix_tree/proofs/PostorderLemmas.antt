@@ -268,14 +268,6 @@ end_work forest offset frs done w o =
         rw none at it
     go cur (g ∷ gs) en al it = absurd al
 
--- the innermost frame, where its entries are read
-pub closing_last : (frames : List Frame) (fr : Frame) → 0 < length frames → get_or frames (length frames - 1) fr ≡ fr →
-    reverse frames ≡ fr ∷ reverse (take (length frames - 1) frames)
-closing_last frames fr l is =
-    let n = length frames - 1 in
-    let all : frames ≡ take n frames ++ fr ∷ [] = sym (take_all (n + 1) frames (omega arith)) ∙ take_more frames n fr (omega arith) ∙ ap (λ x. take n frames ++ x ∷ []) is in
-    ap reverse all ∙ reverse-append (take n frames) (fr ∷ [])
-
 -- the list without its last entry that is not read
 last_entry : (es : List Entry) (left : ℕ) (d x : Entry) → left ≤ length es → left ≢ 0 → get_or es (left - 1) d ≡ x → take left es ≡ take (left - 1) es ++ x ∷ []
 last_entry es left d x l z e =

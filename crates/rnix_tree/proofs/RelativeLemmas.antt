@@ -1,10 +1,10 @@
 -- What stands beside an element and inside it.
-use Rattle.std.proofs.Common.{is_some, ◌≡◌, ℕ, zero, suc, ◌+◌, ◌-◌, ◌≤◌, ◌<◌, length, Option, Some, None, true, false, refl, sym, subst, ◌∙◌, arith, inl, inr}
+use Rattle.std.proofs.Common.{is_some, ◌≡◌, ℕ, zero, suc, ◌+◌, ◌-◌, ◌≤◌, ◌<◌, length, Option, Some, None, true, false, refl, sym, ◌∙◌, arith, inl, inr}
 use Rattle.std.proofs.lemmas.Bool.{cases_lt}
 use Rattle.std.proofs.lemmas.Option.{same_Some}
 use Rattle.rnix_tree.specs.Tree.{Tree, items_of, item}
-use Rattle.rnix_tree.specs.Relatives.{IsThat, located, IsFirst, IsLast, IsChild, IsSibling, IsNodeIn, IsSiblingNode}
-use Rattle.rnix_tree.specs.Around.{IsThereIfAny, IsNodeIfAny, IsOnWayTo, FirstNodeFrom, LastNodeFrom}
+use Rattle.rnix_tree.specs.Relatives.{located, IsFirst, IsLast, IsChild, IsSibling, IsNodeIn, IsSiblingNode}
+use Rattle.rnix_tree.specs.Around.{IsNodeIfAny, IsOnWayTo, FirstNodeFrom, LastNodeFrom}
 use Rattle.rnix_tree.proofs.SiblingLemmas.{next_inside}
 use Rattle.rnix_tree.proofs.ParentLemmas.{parent_is_node, parent_is_before}
 use Rattle.rnix_tree.proofs.InsideLemmas.{held, ends_inside, first_child_of, below_parent, sibling_behind, has_parent}
@@ -101,10 +101,6 @@ pub record IsClimbing (t : Tree) (p m child : ℕ) : Type 0 where
   pub low : child ≤ m
   pub high : m ≤ child + (item t child).below
 
--- an element is where the way to it begins
-pub climb_start : (t : Tree) (p m : ℕ) → p < m → IsClimbing t p m m
-climb_start t p m l = record { above = l; low = omega arith; high = omega arith }
-
 -- the element is inside p, so its parent is p or inside p
 pub climb_step : (t : Tree) (p m child above : ℕ) → p < length (items_of t) → m ≤ p + (item t p).below → IsClimbing t p m child → (item t child).parent ≡ Some above → ¬ (above ≡ p)
     → IsClimbing t p m above
@@ -124,10 +120,6 @@ climb_step t p m child above l high h e differs =
   where
     apart : (p q : ℕ) → p ≤ q → ¬ (q ≡ p) → p < q
     apart p q l d = elim (cases_lt p q) [ inl less ↦ less | inr more ↦ absurd (d (omega arith)) ]
-
--- the way to an element ends at a child
-pub climb_end : (t : Tree) (p m child : ℕ) → IsClimbing t p m child → (item t child).parent ≡ Some p → IsOnWayTo t p m child
-climb_end t p m child h e = record { parent = e; above = h.above; low = h.low; high = h.high }
 
 -- an element inside p has a parent
 pub climb_goes : (t : Tree) (p m child : ℕ) → p < length (items_of t) → m ≤ p + (item t p).below → IsClimbing t p m child → (item t child).parent ≡ None → ⊥
@@ -164,108 +156,6 @@ left_ahead t (Some k) = 1 + (length (items_of t) - k)
 abbrev pub left_back : Option ℕ → ℕ
 left_back None = 0
 left_back (Some k) = 1 + k
-
--- the way ahead begins
-pub ahead_start : (t : Tree) (start : Option ℕ) → IsThereIfAny t start → IsAhead t start start
-ahead_start t None h = refl
-ahead_start t (Some n) h = (record { start = h; there = h; beside = refl }, omega arith, λ m low high s. omega arith)
-
--- so does the way back
-pub back_start : (t : Tree) (start : Option ℕ) → IsThereIfAny t start → IsBack t start start
-back_start t None h = refl
-back_start t (Some n) h = (record { start = h; there = h; beside = refl }, omega arith, λ m low high s. omega arith)
-
-no_node_there : (t : Tree) (k : ℕ) → (item t k).is_node ≡ false → IsNodeIn t k → ⊥
-no_node_there t k e h = (let x = sym e ∙ h.is_node in cc)
-
--- a token is passed ahead
-pub ahead_step : (t : Tree) (start : Option ℕ) (k : ℕ) (next : Option ℕ) → IsAhead t start (Some k) → (item t k).is_node ≡ false → IsFirst (IsSibling record { tree = t; number = k }) k next → IsAhead t start next
-ahead_step t None k next h token first = absurd (cc)
-ahead_step t (Some n) k None h token first = (
-  h.0.start,
-  λ m low s.
-      elim (cases_lt m k) [
-        | inl before ↦ h.2 m low before s
-        | inr not_before ↦ elim (cases_lt k m) [
-          | inl behind ↦ first m behind (record { is_there = s.0.is_there; parent = s.0.parent ∙ sym h.0.beside })
-          | inr not_behind ↦ no_node_there t m (let same : k ≡ m = omega arith in subst (λ x. (item t x).is_node ≡ false) same token) s.1
-        ]
-      ],
-)
-ahead_step t (Some n) k (Some r) h token first = (
-  record { start = h.0.start; there = first.1.is_there; beside = first.1.parent ∙ h.0.beside },
-  omega (arith, h.1, first.0),
-  λ m low high s.
-      elim (cases_lt m k) [
-        | inl before ↦ h.2 m low before s
-        | inr not_before ↦ elim (cases_lt k m) [
-          | inl behind ↦ first.2 m behind high (record { is_there = s.0.is_there; parent = s.0.parent ∙ sym h.0.beside })
-          | inr not_behind ↦ no_node_there t m (let same : k ≡ m = omega arith in subst (λ x. (item t x).is_node ≡ false) same token) s.1
-        ]
-      ],
-)
-
--- and back
-pub back_step : (t : Tree) (start : Option ℕ) (k : ℕ) (next : Option ℕ) → IsBack t start (Some k) → (item t k).is_node ≡ false → IsLast (IsSibling record { tree = t; number = k }) k next → IsBack t start next
-back_step t None k next h token last = absurd (cc)
-back_step t (Some n) k None h token last = (
-  h.0.start,
-  λ m low s.
-      elim (cases_lt k m) [
-        | inl behind ↦ h.2 m behind low s
-        | inr not_behind ↦ elim (cases_lt m k) [
-          | inl before ↦ last m before (record { is_there = s.0.is_there; parent = s.0.parent ∙ sym h.0.beside })
-          | inr not_before ↦ no_node_there t m (let same : k ≡ m = omega arith in subst (λ x. (item t x).is_node ≡ false) same token) s.1
-        ]
-      ],
-)
-back_step t (Some n) k (Some r) h token last = (
-  record { start = h.0.start; there = last.1.is_there; beside = last.1.parent ∙ h.0.beside },
-  omega (arith, h.1, last.0),
-  λ m low high s.
-      elim (cases_lt k m) [
-        | inl behind ↦ h.2 m behind high s
-        | inr not_behind ↦ elim (cases_lt m k) [
-          | inl before ↦ last.2 m low before (record { is_there = s.0.is_there; parent = s.0.parent ∙ sym h.0.beside })
-          | inr not_before ↦ no_node_there t m (let same : k ≡ m = omega arith in subst (λ x. (item t x).is_node ≡ false) same token) s.1
-        ]
-      ],
-)
-
--- the way ahead stays in the tree
-pub ahead_there : (t : Tree) (start : Option ℕ) (k : ℕ) → IsAhead t start (Some k) → k < length (items_of t)
-ahead_there t None k h = absurd (cc)
-ahead_there t (Some n) k h = h.0.there
-
--- so does the way back
-pub back_there : (t : Tree) (start : Option ℕ) (k : ℕ) → IsBack t start (Some k) → k < length (items_of t)
-back_there t None k h = absurd (cc)
-back_there t (Some n) k h = h.0.there
-
--- a node ahead is the first
-pub ahead_found : (t : Tree) (start : Option ℕ) (k : ℕ) → IsAhead t start (Some k) → (item t k).is_node ≡ true → FirstNodeFrom t start (Some k)
-ahead_found t None k h node = absurd (cc)
-ahead_found t (Some n) k h node = (h.1, (record { is_there = h.0.there; parent = h.0.beside }, record { is_there = h.0.there; is_node = node }), h.2)
-
--- one back is the last
-pub back_found : (t : Tree) (start : Option ℕ) (k : ℕ) → IsBack t start (Some k) → (item t k).is_node ≡ true → LastNodeFrom t start (Some k)
-back_found t None k h node = absurd (cc)
-back_found t (Some n) k h node = (h.1, (record { is_there = h.0.there; parent = h.0.beside }, record { is_there = h.0.there; is_node = node }), h.2)
-
--- where the way ahead ends there is no node
-pub ahead_none : (t : Tree) (start : Option ℕ) → IsAhead t start None → FirstNodeFrom t start None
-ahead_none t None h = h
-ahead_none t (Some n) h = h.1
-
--- nor where the way back does
-pub back_none : (t : Tree) (start : Option ℕ) → IsBack t start None → LastNodeFrom t start None
-back_none t None h = h
-back_none t (Some n) h = h.1
-
--- a number tells the element
-pub located_that : (t : Tree) (P : Option ℕ → Type 0) (o : Option ℕ) → P o → IsThat t P (located t o)
-located_that t P None h = h
-located_that t P (Some n) h = (refl, h)
 
 -- nodes among siblings, where Q tells who is a sibling
 module _ (t : Tree) (Q : ℕ → Type 0) (beside : (c m : ℕ) → Q c → Q m → IsSibling record { tree = t; number = c } m)
@@ -317,28 +207,6 @@ module _ (t : Tree) (n : ℕ) where
 
   pub sibling_back : (c m : ℕ) → IsSibling record { tree = t; number = n } c → IsSibling record { tree = t; number = c } m → IsSibling record { tree = t; number = n } m
   sibling_back c m h k = record { is_there = k.is_there; parent = k.parent ∙ h.parent }
-
--- what was found is there
-pub first_is_there : (t : Tree) (Q : ℕ → Type 0) (n : ℕ) (r : Option ℕ) → ((m : ℕ) → Q m → m < length (items_of t)) → IsFirst Q n r → IsThereIfAny t r
-first_is_there t Q n None there h = tt
-first_is_there t Q n (Some r) there h = there r h.1
-
--- a last number is one of the tree's
-pub last_is_there : (t : Tree) (Q : ℕ → Type 0) (n : ℕ) (r : Option ℕ) → ((m : ℕ) → Q m → m < length (items_of t)) → IsLast Q n r → IsThereIfAny t r
-last_is_there t Q n None there h = tt
-last_is_there t Q n (Some r) there h = there r h.1
-
--- a first node is a node
-pub first_is_node : (t : Tree) (start r : Option ℕ) → FirstNodeFrom t start r → IsNodeIfAny t r
-first_is_node t start None h = tt
-first_is_node t None (Some r) h = absurd (cc)
-first_is_node t (Some n) (Some r) h = h.1.1
-
--- and so is a last one
-pub last_is_node : (t : Tree) (start r : Option ℕ) → LastNodeFrom t start r → IsNodeIfAny t r
-last_is_node t start None h = tt
-last_is_node t None (Some r) h = absurd (cc)
-last_is_node t (Some n) (Some r) h = h.1.1
 
 -- the parent of an element is a node
 pub parent_if_any : (t : Tree) (n : ℕ) (parent : Option ℕ) → n < length (items_of t) → (item t n).parent ≡ parent → IsNodeIfAny t parent

@@ -1,0 +1,177 @@
+//! The parts of nodes that were built by hand: without children, and with tokens that no text puts there.
+
+use crate::told::told_of;
+use rnix::{GreenNodeBuilder, SyntaxKind, SyntaxNode};
+use std::alloc::{AllocError, Global};
+use std::process::Abort;
+use std::test::Fail;
+
+// What the accessors of expressions without children answer.
+const EXPRESSIONS: [(SyntaxKind, &str); 24] = [
+    (SyntaxKind::NODE_APPLY, "lambda=-; argument=-;"),
+    (
+        SyntaxKind::NODE_ASSERT,
+        "assert_token=-; condition=-; body=-;",
+    ),
+    (SyntaxKind::NODE_ERROR, "syntax=;"),
+    (
+        SyntaxKind::NODE_IF_ELSE,
+        "if_token=-; condition=-; then_token=-; body=-; else_token=-; else_body=-;",
+    ),
+    (
+        SyntaxKind::NODE_SELECT,
+        "expr=-; dot_token=-; attrpath=-; or_token=-; default_expr=-;",
+    ),
+    (SyntaxKind::NODE_STRING, "parts=-;"),
+    (SyntaxKind::NODE_PATH_ABS, "parts=-;"),
+    (SyntaxKind::NODE_PATH_REL, "parts=-;"),
+    (SyntaxKind::NODE_PATH_HOME, "parts=-;"),
+    (SyntaxKind::NODE_PATH_SEARCH, "content=-;"),
+    (SyntaxKind::NODE_LITERAL, "kind=-;"),
+    (SyntaxKind::NODE_LAMBDA, "param=-; token_colon=-; body=-;"),
+    (
+        SyntaxKind::NODE_LEGACY_LET,
+        "let_token=-; curly_open_token=-; entries=-; attrpath_values=-; inherits=-; curly_close_token=-;",
+    ),
+    (
+        SyntaxKind::NODE_LET_IN,
+        "let_token=-; entries=-; attrpath_values=-; inherits=-; in_token=-; body=-;",
+    ),
+    (
+        SyntaxKind::NODE_LIST,
+        "l_brack_token=-; items=-; r_brack_token=-;",
+    ),
+    (SyntaxKind::NODE_BIN_OP, "lhs=-; operator=-; rhs=-;"),
+    (
+        SyntaxKind::NODE_PAREN,
+        "l_paren_token=-; expr=-; r_paren_token=-;",
+    ),
+    (SyntaxKind::NODE_ROOT, "expr=-;"),
+    (
+        SyntaxKind::NODE_ATTR_SET,
+        "rec_token=-; l_curly_token=-; entries=-; attrpath_values=-; inherits=-; r_curly_token=-;",
+    ),
+    (SyntaxKind::NODE_UNARY_OP, "operator=-; expr=-;"),
+    (SyntaxKind::NODE_IDENT, "ident_token=-;"),
+    (
+        SyntaxKind::NODE_WITH,
+        "with_token=-; namespace=-; semicolon_token=-; body=-;",
+    ),
+    (
+        SyntaxKind::NODE_HAS_ATTR,
+        "expr=-; question_token=-; attrpath=-;",
+    ),
+    (SyntaxKind::NODE_CUR_POS, "cur_pos_token=-;"),
+];
+
+// What the accessors of the other nodes answer, if they have no children.
+const OTHERS: [(SyntaxKind, &str); 10] = [
+    (SyntaxKind::NODE_ATTRPATH, "attrs=-;"),
+    (
+        SyntaxKind::NODE_ATTRPATH_VALUE,
+        "attrpath=-; assign_token=-; value=-;",
+    ),
+    (
+        SyntaxKind::NODE_DYNAMIC,
+        "interpol_start_token=-; expr=-; interpol_end_token=-;",
+    ),
+    (SyntaxKind::NODE_IDENT_PARAM, "ident=-;"),
+    (
+        SyntaxKind::NODE_INHERIT,
+        "inherit_token=-; from=-; attrs=-;",
+    ),
+    (
+        SyntaxKind::NODE_INHERIT_FROM,
+        "l_paren_token=-; expr=-; r_paren_token=-;",
+    ),
+    (SyntaxKind::NODE_INTERPOL, "expr=-;"),
+    (SyntaxKind::NODE_PAT_BIND, "ident=-;"),
+    (
+        SyntaxKind::NODE_PAT_ENTRY,
+        "ident=-; question_token=-; default=-;",
+    ),
+    (
+        SyntaxKind::NODE_PATTERN,
+        "at_token=-; pat_entries=-; ellipsis_token=-; pat_bind=-;",
+    ),
+];
+
+// What the accessors of a node without children answer.
+fn told_of_empty(alloc: Global, kind: SyntaxKind) -> Result<String, AllocError> {
+    let mut builder = GreenNodeBuilder::new(alloc);
+    builder.start_node(kind)?;
+    builder.finish_node()?;
+    let tree = builder.finish()?;
+    told_of(alloc, SyntaxNode::new_root(&tree))
+}
+
+// Asserts what the accessors of nodes without children answer, row by row.
+fn assert_told_of_empty(
+    rt: &impl Abort,
+    alloc: Global,
+    rows: &[(SyntaxKind, &str)],
+) -> Result<(), Fail> {
+    for (kind, wanted) in rows {
+        let name = kind.name();
+        assert_eq!(rt; told_of_empty(alloc, *kind)?.as_str(), *wanted, "of {name}");
+    }
+    Ok(())
+}
+
+#[test]
+fn nodes_without_children_have_no_parts(rt: HostRuntime) -> Result<(), Fail> {
+    assert_told_of_empty(&rt, rt.alloc(), &EXPRESSIONS)
+}
+
+#[test]
+fn parts_without_children_have_no_parts(rt: HostRuntime) -> Result<(), Fail> {
+    assert_told_of_empty(&rt, rt.alloc(), &OTHERS)
+}
+
+// What the accessors of a node over three tokens answer.
+fn told_over(
+    alloc: Global,
+    kind: SyntaxKind,
+    tokens: [(SyntaxKind, &str); 3],
+) -> Result<String, AllocError> {
+    let [first, second, third] = tokens;
+    let mut builder = GreenNodeBuilder::new(alloc);
+    builder.start_node(kind)?;
+    builder.token(first.0, first.1)?;
+    builder.token(second.0, second.1)?;
+    builder.token(third.0, third.1)?;
+    builder.finish_node()?;
+    let tree = builder.finish()?;
+    told_of(alloc, SyntaxNode::new_root(&tree))
+}
+
+#[test]
+fn a_pattern_has_a_sign_of_its_own(rt: HostRuntime) -> Result<(), Fail> {
+    let tokens = [
+        (SyntaxKind::TOKEN_WHITESPACE, " "),
+        (SyntaxKind::TOKEN_AT, "@"),
+        (SyntaxKind::TOKEN_ELLIPSIS, "..."),
+    ];
+    assert_eq!(rt;
+        told_over(rt.alloc(), SyntaxKind::NODE_PATTERN, tokens)?.as_str(),
+        "at_token=@; pat_entries=-; ellipsis_token=...; pat_bind=-;"
+    );
+    Ok(())
+}
+
+#[test]
+fn a_literal_of_several_tokens(rt: HostRuntime) -> Result<(), Fail> {
+    let (uri, one) = (
+        (SyntaxKind::TOKEN_URI, "x:y"),
+        (SyntaxKind::TOKEN_INTEGER, "1"),
+    );
+    let rows = [
+        ((SyntaxKind::TOKEN_FLOAT, "1.5"), "float=1.5;"),
+        ((SyntaxKind::TOKEN_INTEGER, "2"), "integer=1;"),
+    ];
+    for (last, wanted) in rows {
+        let found = told_over(rt.alloc(), SyntaxKind::NODE_LITERAL, [uri, one, last])?;
+        assert_eq!(rt; found.as_str(), wanted);
+    }
+    Ok(())
+}

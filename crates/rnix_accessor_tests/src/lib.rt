@@ -1,0 +1,15 @@
+//! Tests of what each accessor answers: on texts that have the parts, and on nodes that were built by hand.
+#![tactic(auto)]
+
+#[cfg(test)]
+mod answers;
+#[cfg(test)]
+mod built;
+#[cfg(test)]
+mod expressions;
+#[cfg(test)]
+mod forms;
+#[cfg(test)]
+mod parts;
+#[cfg(test)]
+mod told;

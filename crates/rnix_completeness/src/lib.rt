@@ -1,0 +1,2 @@
+//! Strict rows are read as they are.
+#![tactic(auto)]

@@ -1,0 +1,41 @@
+-- The names of the entries of a pattern, in rows.
+use Rattle.std.proofs.Common.{◌≡◌, ℕ, Bool, true, false, List, Option, None, refl, ap, sym, ◌∙◌}
+use Rattle.std.specs.Prelude.{if◌then◌else◌, ◌&&◌}
+use Rattle.rnix_kinds.specs.declared.kinds.SyntaxKind.{SyntaxKind}
+use Rattle.rnix_kinds.specs.declared.kinds.SyntaxKind.TheVariants.{NODE_PAT_ENTRY}
+use Rattle.rnix_grammar.specs.Sketch.{Token, Sketch, blank, token, branch, fault, ◌⊕◌}
+use Rattle.rnix_grammar.specs.Reports.{entry_name, is_same_name, has_entry}
+
+-- the names of entries, without trivia and with them
+abbrev pub bare_name : SyntaxKind → Sketch → Option Token
+bare_name NODE_PAT_ENTRY c = entry_name c
+bare_name k c = None
+
+-- a node may be an entry of the name
+pub has_branch : (name : List ℕ) (k : SyntaxKind) (c f : Sketch) → has_entry name (branch k c f) ≡ (if is_same_name name (bare_name k c) then true else has_entry name f)
+has_branch name NODE_PAT_ENTRY c f = refl
+has_branch name _ c f = refl
+
+-- an entry in two rows
+pub either_assoc : (x y z : Bool) → (if x then true else (if y then true else z)) ≡ (if (if x then true else y) then true else z)
+either_assoc true y z = refl
+either_assoc false y z = refl
+
+-- an entry of the name stands in one of two rows
+pub has-⊕ : (name : List ℕ) (b c : Sketch) → has_entry name (b ⊕ c) ≡ (if has_entry name b then true else has_entry name c)
+has-⊕ name blank c = refl
+has-⊕ name (token k t f) c = has-⊕ name f c
+has-⊕ name (branch k d f) c =
+    has_branch name k d (f ⊕ c) ∙ ap (λ x. if is_same_name name (bare_name k d) then true else x) (has-⊕ name f c)
+    ∙ either_assoc (is_same_name name (bare_name k d)) (has_entry name f) (has_entry name c)
+    ∙ ap (λ x. if x then true else has_entry name c) (sym (has_branch name k d f))
+has-⊕ name (fault n d f) c = has-⊕ name f c
+
+-- one way or the other
+pub if_not : (x : Bool) → (if x then true else false) ≡ x
+if_not true = refl
+if_not false = refl
+
+-- two tests hold
+pub both_true : (a b : Bool) → a ≡ true → b ≡ true → (a && b) ≡ true
+both_true a b h k = ap (λ x. x && b) h ∙ k

@@ -1,0 +1,200 @@
+-- How a mended row comes as far as the row that is read: a run of unwanted tokens may leave the row at another place, where the same goes on.
+use Rattle.std.proofs.Common.{◌≡◌, ℕ, Bool, true, false, List, [], ◌∷◌, Option, Some, None, refl, ap, sym, ◌∙◌, subst}
+use Rattle.std.specs.Prelude.{if◌then◌else◌, nat_eq, nat_le}
+use Rattle.rnix_kinds.specs.declared.kinds.SyntaxKind.{SyntaxKind}
+use Rattle.rnix_kinds.specs.declared.kinds.SyntaxKind.TheVariants.{TOKEN_R_BRACE, NODE_IDENT, NODE_LITERAL, NODE_LAMBDA, NODE_PATTERN, NODE_ROOT}
+use Rattle.rnix_tree.specs.Forest.{Forest}
+use Rattle.rnix_grammar.specs.declared.place.Place.{Place}
+use Rattle.rnix_grammar.specs.declared.place.Place.TheVariants as p
+use Rattle.rnix_grammar.specs.declared.until.Until.{Until}
+use Rattle.rnix_grammar.specs.declared.until.Until.TheVariants as u
+use Rattle.rnix_grammar.specs.declared.slot.Slot.{Slot}
+use Rattle.rnix_grammar.specs.declared.slot.Slot.TheVariants as s
+use Rattle.rnix_grammar.specs.Tables.{is_wanted}
+use Rattle.rnix_grammar.specs.Slots.{slot_at}
+use Rattle.rnix_grammar.specs.Sketch.{Token, Note, Stray, Unwanted, Extra, Twice, TooDeep, Sketch}
+use Rattle.rnix_grammar.specs.Rows.{fits, is_attr, Spot, Start, At, Nowhere, to, first, go_source, go_names, go_comma, go_slot, go, whole, live, start, run}
+use Rattle.rnix_grammar.specs.Stands.{IsBeside}
+use Rattle.rnix_grammar.specs.Mended.{patch, kinds_of}
+use Rattle.rnix_grammar.specs.Missing.{run_at}
+use Rattle.rnix_lemmas.proofs.Completable.{IsCompletable, completed_at, run_inside}
+use Rattle.rnix_lemmas.proofs.Owing.{owing}
+use Rattle.rnix_lemmas.proofs.RowKinds.{has_row, no_wanted, no_closing}
+use Rattle.rnix_lemmas.proofs.Basics.{true_is_not_false, no_way}
+
+-- where the second spot goes on the first goes on as well, and they end together
+pub record Imitates (q0 q : Spot) : Type 0 where
+  pub goes : (k : SyntaxKind) → live (go q k) ≡ true → go q0 k ≡ go q k
+  pub ends : whole q0 ≡ whole q
+  pub owes : owing q ≡ true → owing q0 ≡ true
+
+-- a spot imitates itself
+pub imitates_self : (q : Spot) → Imitates q q
+imitates_self q = record { goes = λ k l. refl; ends = refl; owes = λ o. o }
+
+-- so does an equal one
+pub imitates_same : (q0 q : Spot) → q0 ≡ q → Imitates q0 q
+imitates_same q0 q e = subst (λ (x : Spot). Imitates q0 x) e (imitates_self q0)
+
+-- one imitates what another does
+pub imitates_both : {q0 q r : Spot} → Imitates q0 q → Imitates q r → Imitates q0 r
+imitates_both m n =
+    record { goes = λ k l. m.goes k (ap live (n.goes k l) ∙ l) ∙ n.goes k l; ends = m.ends ∙ n.ends; owes = λ o. m.owes (n.owes o) }
+
+-- behind a run of unwanted tokens
+pub source_attr : (k : SyntaxKind) → live (to (is_attr k) (At p.InheritNames)) ≡ true → go_source k ≡ to (is_attr k) (At p.InheritNames)
+source_attr NODE_IDENT l = refl
+source_attr _ l = cc
+
+-- and where more names are inherited
+pub names_attr : (k : SyntaxKind) → live (to (is_attr k) (At p.InheritNames)) ≡ true → go_names k ≡ to (is_attr k) (At p.InheritNames)
+names_attr NODE_IDENT l = refl
+names_attr _ l = cc
+
+-- and behind an entry of a pattern
+pub comma_brace : (bound : Bool) (k : SyntaxKind) → live (to (is_wanted u.RBrace k) (At (p.PatternEnd bound))) ≡ true → go_comma bound k ≡ to (is_wanted u.RBrace k) (At (p.PatternEnd bound))
+comma_brace bound TOKEN_R_BRACE l = refl
+comma_brace bound _ l = absurd (true_is_not_false (sym l))
+
+-- the place of a run, if there is one
+abbrev place_in : Place → Option (Until × Place) → Place
+place_in x None = x
+place_in x (Some w) = w.1
+
+-- equal runs lead to one place
+same_place : {a b : Until} {x y : Place} → ◌≡◌ {A = Option (Until × Place)} (Some (a, x)) (Some (b, y)) → x ≡ y
+same_place {x = x} h = ap (place_in x) h
+
+-- where a run stands the same goes on as behind it
+pub run_imitates : (x y : Place) (until : Until) → run_at x ≡ Some (until, y) → Imitates (At x) (At y)
+run_imitates p.ParenEnd y until h = imitates_same (At p.ParenEnd) (At y) (ap At (same_place h))
+run_imitates p.InterpolEnd y until h = imitates_same (At p.InterpolEnd) (At y) (ap At (same_place h))
+run_imitates p.StringInside y until h = imitates_same (At p.StringInside) (At y) (ap At (same_place h))
+run_imitates p.StringEnd y until h = imitates_same (At p.StringEnd) (At y) (ap At (same_place h))
+run_imitates p.SetBrace y until h = imitates_same (At p.SetBrace) (At y) (ap At (same_place h))
+run_imitates p.InheritStart y until h =
+    subst (λ (z : Place). Imitates (At p.InheritStart) (At z)) (same_place h) (record { goes = source_attr; ends = refl; owes = λ o. refl })
+run_imitates p.InheritNames y until h =
+    subst (λ (z : Place). Imitates (At p.InheritNames) (At z)) (same_place h) (record { goes = names_attr; ends = refl; owes = λ o. refl })
+run_imitates p.InheritName y until h = imitates_same (At p.InheritName) (At y) (ap At (same_place h))
+run_imitates p.InheritEnd y until h = imitates_same (At p.InheritEnd) (At y) (ap At (same_place h))
+run_imitates p.FromEnd y until h = imitates_same (At p.FromEnd) (At y) (ap At (same_place h))
+run_imitates p.ValueAssign y until h = imitates_same (At p.ValueAssign) (At y) (ap At (same_place h))
+run_imitates p.ValueEnd y until h = imitates_same (At p.ValueEnd) (At y) (ap At (same_place h))
+run_imitates p.AttrpathStart y until h = imitates_same (At p.AttrpathStart) (At y) (ap At (same_place h))
+run_imitates p.WithEnd y until h = imitates_same (At p.WithEnd) (At y) (ap At (same_place h))
+run_imitates p.AssertEnd y until h = imitates_same (At p.AssertEnd) (At y) (ap At (same_place h))
+run_imitates p.IfThen y until h = imitates_same (At p.IfThen) (At y) (ap At (same_place h))
+run_imitates p.IfElse y until h = imitates_same (At p.IfElse) (At y) (ap At (same_place h))
+run_imitates p.LambdaColon y until h = imitates_same (At p.LambdaColon) (At y) (ap At (same_place h))
+run_imitates p.PatternBrace y until h = imitates_same (At p.PatternBrace) (At y) (ap At (same_place h))
+run_imitates (p.PatternStart bound) y until h =
+    subst (λ (z : Place). Imitates (At (p.PatternStart bound)) (At z)) (same_place h) (record { goes = λ k l. refl; ends = refl; owes = λ o. refl })
+run_imitates (p.PatternInside bound) y until h = imitates_same (At (p.PatternInside bound)) (At y) (ap At (same_place h))
+run_imitates (p.PatternAfter bound) y until h =
+    subst (λ (z : Place). Imitates (At (p.PatternAfter bound)) (At z)) (same_place h) (record { goes = comma_brace bound; ends = refl; owes = λ o. refl })
+run_imitates (p.PatternClose bound) y until h = imitates_same (At (p.PatternClose bound)) (At y) (ap At (same_place h))
+run_imitates p.BindName y until h = imitates_same (At p.BindName) (At y) (ap At (same_place h))
+run_imitates p.TwiceName y until h = imitates_same (At p.TwiceName) (At y) (ap At (same_place h))
+run_imitates _ y until h = absurd (cc)
+
+-- behind a second name
+pub second_imitates : Imitates (At (p.PatternEnd true)) (At p.PatternPast)
+second_imitates = record { goes = λ k l. absurd (true_is_not_false (sym l)); ends = refl; owes = λ o. absurd (true_is_not_false (sym o)) }
+
+-- behind an error node, and its patch
+abbrev pub patched : Note → Spot → Spot
+patched Stray q = go q NODE_LITERAL
+patched TooDeep q = go q NODE_LITERAL
+patched n q = q
+
+-- a row goes on behind a patch
+pub run_patch : (n : Note) (q : Spot) (f : Forest) → run q (kinds_of (patch n f)) ≡ run (patched n q) (kinds_of f)
+run_patch Stray q f = refl
+run_patch _ q f = cc
+
+-- a number stands where an error node does
+literal_imitates : {q0 q r : Spot} → Imitates q0 q → go q NODE_LITERAL ≡ r → live r ≡ true → Imitates (go q0 NODE_LITERAL) r
+literal_imitates {q0 = q0} {r = r} m g l = imitates_same (go q0 NODE_LITERAL) r (m.goes NODE_LITERAL (ap live g ∙ l) ∙ g)
+
+-- behind the patch of an error node the same goes on as behind the error node
+pub beside_imitates : (n : Note) (p : SyntaxKind) (a : ℕ) (q0 q r : Spot) (b : Sketch) (i : ℕ) (ts vs : List Token) → IsBeside n p a q r b i ts vs → Imitates q0 q → Imitates (patched n q0) r
+beside_imitates Stray p a q0 q r b i [] vs h m = absurd h
+beside_imitates Stray p a q0 q r b i (t ∷ ts) vs h m = literal_imitates m h.3 h.4
+beside_imitates (Unwanted until) p a q0 q r b i [] vs h m = absurd h
+beside_imitates (Unwanted until) p a q0 q r b i (t ∷ ts) vs h m =
+    let on : Imitates q0 (At h.4) = subst (Imitates q0) h.6 m in
+    subst (Imitates q0) (sym h.7) (imitates_both on (run_imitates h.4 h.5 until h.8))
+beside_imitates Extra p a q0 q r b i [] vs h m = absurd h
+beside_imitates Extra p a q0 q r b i (t ∷ ts) vs h m = subst (Imitates q0) (sym h.4) m
+beside_imitates Twice p a q0 q r b i ts vs h m = absurd h
+beside_imitates TooDeep p a q0 q r b i ts vs h m = literal_imitates m h.3 h.4
+
+-- behind a dead spot nothing goes on
+pub nowhere : (ks : List SyntaxKind) → run Nowhere ks ≡ Nowhere
+nowhere [] = refl
+nowhere (k ∷ ks) = nowhere ks
+
+-- what may end is alive
+pub run_live : (r : Spot) (ks : List SyntaxKind) → whole (run r ks) ≡ true → live r ≡ true
+run_live Nowhere ks h = absurd (true_is_not_false (sym h ∙ ap whole (nowhere ks)))
+run_live _ ks h = cc
+
+-- what completes a row completes each that imitates it
+imitates_run : {q0 q : Spot} → Imitates q0 q → (ks : List SyntaxKind) → whole (run q ks) ≡ true → whole (run q0 ks) ≡ true
+imitates_run m [] h = m.ends ∙ h
+imitates_run {q = q} m (k ∷ ks) h = ap (λ z. whole (run z ks)) (m.goes k (run_live (go q k) ks h)) ∙ h
+
+-- so it can be completed
+pub imitates_completable : {q0 q : Spot} → Imitates q0 q → IsCompletable q → IsCompletable q0
+imitates_completable m w = (w.0, imitates_run m w.0 w.1)
+
+-- what an error node stands in can be completed where what follows can
+pub beside_completable : (n : Note) (p : SyntaxKind) (a : ℕ) (q r : Spot) (b : Sketch) (i : ℕ) (ts vs : List Token) → IsBeside n p a q r b i ts vs → IsCompletable r → IsCompletable q
+beside_completable Stray p a q r b i [] vs h w = absurd h
+beside_completable Stray p a q r b i (t ∷ ts) vs h w = (NODE_LITERAL ∷ w.0, ap (λ x. whole (run x w.0)) h.3 ∙ w.1)
+beside_completable (Unwanted until) p a q r b i [] vs h w = absurd h
+beside_completable (Unwanted until) p a q r b i (t ∷ ts) vs h w = subst IsCompletable (sym h.6) (completed_at h.4 (run_inside h.4 h.5 until h.8))
+beside_completable Extra p a q r b i [] vs h w = absurd h
+beside_completable Extra p a q r b i (t ∷ ts) vs h w = subst IsCompletable h.4 w
+beside_completable Twice p a q r b i ts vs h w = absurd h
+beside_completable TooDeep p a q r b i ts vs h w = (NODE_LITERAL ∷ w.0, ap (λ x. whole (run x w.0)) h.3 ∙ w.1)
+
+-- what is no operand fits no level
+unfit_by : (n : ℕ) → (if nat_eq n 0 then false else (if nat_le n 12 then false else (if nat_eq n 13 then false else (if nat_eq n 14 then false else false)))) ≡ false
+unfit_by n =
+    no_way (nat_eq n 0) false (if nat_le n 12 then false else (if nat_eq n 13 then false else (if nat_eq n 14 then false else false))) refl
+    (no_way (nat_le n 12) false (if nat_eq n 13 then false else (if nat_eq n 14 then false else false)) refl
+    (no_way (nat_eq n 13) false (if nat_eq n 14 then false else false) refl (no_way (nat_eq n 14) false false refl refl)))
+
+-- a pattern stands in a lambda alone
+pattern_slot : (slot : Slot) (x : Place) → live (go_slot slot x NODE_PATTERN) ≡ false
+pattern_slot (s.Token until y) x = ap (λ z. live (to z (At y))) (no_wanted until NODE_PATTERN refl)
+pattern_slot (s.Operand level counted y) x = ap (λ z. live (to z (At y))) (unfit_by level)
+pattern_slot (s.Series level closer) x =
+    ap (λ z. live (if z then At p.Past else to (fits level NODE_PATTERN) (At x))) (no_closing closer NODE_PATTERN refl) ∙ ap (λ z. live (to z (At x))) (unfit_by level)
+pattern_slot (s.Entries closer y) x = ap (λ z. live (if z then At y else Nowhere)) (no_closing closer NODE_PATTERN refl)
+pattern_slot (s.Bind true) x = refl
+pattern_slot (s.Bind false) x = refl
+pattern_slot _ x = refl
+
+-- where a pattern comes first
+first_pattern_node : (node : SyntaxKind) → live (first node NODE_PATTERN) ≡ true → first node NODE_PATTERN ≡ At p.LambdaColon
+first_pattern_node NODE_LAMBDA h = refl
+first_pattern_node _ h = absurd (true_is_not_false (sym h))
+
+-- so a colon is wanted behind it
+pub pattern_goes : (q : Spot) → live (go q NODE_PATTERN) ≡ true → go q NODE_PATTERN ≡ At p.LambdaColon
+pattern_goes (Start node) h = first_pattern_node node h
+pattern_goes (At x) h = absurd (true_is_not_false (sym h ∙ pattern_slot (slot_at x) x))
+pattern_goes _ h = cc
+
+-- no row is whole where it begins
+pub start_half : (k : SyntaxKind) → whole (start k) ≡ false
+start_half NODE_ROOT = refl
+start_half _ = cc
+
+-- a row that begins at a place is one of three
+pub start_place : (k : SyntaxKind) (x : Place) → At x ≡ start k → has_row k ≡ true
+start_place NODE_ROOT x e = refl
+start_place _ x e = cc

@@ -1,0 +1,47 @@
+-- What kinds of nodes are: those whose leaves keep their kinds, expressions, attributes and entries.
+use Rattle.std.proofs.Common.{◌≡◌, ℕ, Bool, true, false, refl, sym, ◌∙◌}
+use Rattle.rnix_kinds.specs.declared.kinds.SyntaxKind.{SyntaxKind}
+use Rattle.rnix_kinds.specs.declared.kinds.SyntaxKind.TheVariants.{NODE_ERROR, NODE_IDENT, NODE_CUR_POS}
+use Rattle.rnix_kinds.proofs.AllKinds.{implied}
+use Rattle.rnix_grammar.specs.Sketch.{told_as}
+use Rattle.rnix_grammar.specs.Rows.{is_simple, is_questioned, is_operand, fits, is_negated, is_expression, is_attr, is_entry}
+use Rattle.std.specs.Prelude.{if◌then◌else◌, nat_le, nat_eq}
+use Rattle.rnix_lemmas.proofs.Basics.{true_is_not_false}
+use Rattle.rnix_grammar.specs.Plain.{is_node}
+
+-- no such node is open: error nodes are made at once or are second names, names are one item
+abbrev pub is_error : SyntaxKind → Bool
+is_error NODE_ERROR = true
+is_error NODE_IDENT = true
+is_error NODE_CUR_POS = true
+is_error kind = false
+
+-- no name is open, so tokens keep their kinds
+pub told_plain : (k kind : SyntaxKind) → is_error k ≡ false → told_as k kind ≡ kind
+told_plain NODE_IDENT kind h = absurd (true_is_not_false h)
+told_plain _ kind h = cc
+
+-- expressions are nodes
+pub expression_node : (k : SyntaxKind) → is_expression k ≡ true → is_node k ≡ true
+expression_node = implied is_expression is_node refl
+
+pub attr_node : (k : SyntaxKind) → is_attr k ≡ true → is_node k ≡ true
+attr_node = implied is_attr is_node refl
+
+pub entry_node : (k : SyntaxKind) → is_entry k ≡ true → is_node k ≡ true
+entry_node = implied is_entry is_node refl
+
+-- what fits an operand's place is an expression
+pub fits_expression : (n : ℕ) (k : SyntaxKind) → fits n k ≡ true → is_expression k ≡ true
+fits_expression n k h = by (nat_eq n 0) (nat_le n 12) (nat_eq n 13) (nat_eq n 14) h
+  where
+    by : (t u v w : Bool) → (if t then is_expression k else (if u then is_operand k else (if v then is_questioned k else (if w then is_negated k else is_simple k)))) ≡ true → is_expression k ≡ true
+    by true u v w h = h
+    by false true v w h = implied is_operand is_expression refl k h
+    by false false true w h = implied is_questioned is_expression refl k h
+    by false false false true h = implied is_negated is_expression refl k h
+    by false false false false h = implied is_simple is_expression refl k h
+
+-- a kind is of a token or of a node
+pub not_both : (k : SyntaxKind) → is_node k ≡ false → is_node k ≡ true → ⊥
+not_both k h j = true_is_not_false (sym j ∙ h)

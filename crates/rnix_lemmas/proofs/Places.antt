@@ -1,0 +1,201 @@
+-- Which node each place is in, and what stays as a row goes on.
+use Rattle.std.proofs.Common.{◌≡◌, ℕ, ◌≤◌, Bool, true, false, List, [], ◌∷◌, Option, Some, None, refl, subst}
+use Rattle.rnix_kinds.specs.declared.kinds.SyntaxKind.{SyntaxKind}
+use Rattle.rnix_kinds.specs.declared.kinds.SyntaxKind.TheVariants.{NODE_ASSERT, NODE_ATTRPATH, NODE_ATTRPATH_VALUE, NODE_ATTR_SET, NODE_BIN_OP, NODE_DYNAMIC, NODE_ERROR, NODE_HAS_ATTR, NODE_IF_ELSE, NODE_INHERIT, NODE_INHERIT_FROM, NODE_INTERPOL, NODE_LAMBDA, NODE_LEGACY_LET, NODE_LET_IN, NODE_LIST, NODE_PAREN, NODE_PATTERN, NODE_PAT_BIND, NODE_PAT_ENTRY, NODE_ROOT, NODE_SELECT, NODE_STRING, NODE_UNARY_OP, NODE_WITH}
+use Rattle.rnix_grammar.specs.declared.place.Place.{Place}
+use Rattle.rnix_grammar.specs.declared.place.Place.TheVariants as p
+use Rattle.rnix_grammar.specs.declared.slot.Slot.{Slot}
+use Rattle.rnix_grammar.specs.declared.slot.Slot.TheVariants as s
+use Rattle.rnix_grammar.specs.declared.until.Until.{Until}
+use Rattle.rnix_grammar.specs.Slots.{slot_at}
+use Rattle.rnix_grammar.specs.Fault.{Fault}
+use Rattle.rnix_grammar.specs.Stands.{is_wanted_in}
+use Rattle.rnix_grammar.specs.Missing.{lack, run_at}
+
+-- the kind of node that a place is in; some places are in many
+abbrev pub home : Place → Option SyntaxKind
+home p.RootStart = Some NODE_ROOT
+home p.RootEnd = Some NODE_ROOT
+home p.ParenInside = Some NODE_PAREN
+home p.ParenEnd = Some NODE_PAREN
+home p.ListInside = Some NODE_LIST
+home p.DynamicInside = Some NODE_DYNAMIC
+home p.InterpolInside = Some NODE_INTERPOL
+home p.InterpolEnd = Some NODE_INTERPOL
+home p.StringInside = Some NODE_STRING
+home p.StringEnd = Some NODE_STRING
+home p.SetBrace = Some NODE_ATTR_SET
+home p.SetInside = Some NODE_ATTR_SET
+home p.LegacyInside = Some NODE_LEGACY_LET
+home p.LetInside = Some NODE_LET_IN
+home p.LetBody = Some NODE_LET_IN
+home p.InheritStart = Some NODE_INHERIT
+home p.InheritNames = Some NODE_INHERIT
+home p.InheritName = Some NODE_INHERIT
+home p.InheritEnd = Some NODE_INHERIT
+home p.FromInside = Some NODE_INHERIT_FROM
+home p.FromEnd = Some NODE_INHERIT_FROM
+home p.ValuePath = Some NODE_ATTRPATH_VALUE
+home p.ValueAssign = Some NODE_ATTRPATH_VALUE
+home p.ValueInside = Some NODE_ATTRPATH_VALUE
+home p.ValueEnd = Some NODE_ATTRPATH_VALUE
+home p.AttrpathStart = Some NODE_ATTRPATH
+home p.AttrpathMore = Some NODE_ATTRPATH
+home p.WithScope = Some NODE_WITH
+home p.WithEnd = Some NODE_WITH
+home p.WithBody = Some NODE_WITH
+home p.AssertCondition = Some NODE_ASSERT
+home p.AssertEnd = Some NODE_ASSERT
+home p.AssertBody = Some NODE_ASSERT
+home p.IfCondition = Some NODE_IF_ELSE
+home p.IfThen = Some NODE_IF_ELSE
+home p.IfConsequence = Some NODE_IF_ELSE
+home p.IfElse = Some NODE_IF_ELSE
+home p.IfAlternative = Some NODE_IF_ELSE
+home p.LambdaColon = Some NODE_LAMBDA
+home p.LambdaBody = Some NODE_LAMBDA
+home p.PatternBrace = Some NODE_PATTERN
+home (p.PatternStart bound) = Some NODE_PATTERN
+home (p.PatternInside bound) = Some NODE_PATTERN
+home (p.PatternAfter bound) = Some NODE_PATTERN
+home (p.PatternClose bound) = Some NODE_PATTERN
+home (p.PatternEnd bound) = Some NODE_PATTERN
+home p.PatternPast = Some NODE_PATTERN
+home p.EntryMore = Some NODE_PAT_ENTRY
+home p.EntryDefault = Some NODE_PAT_ENTRY
+home p.EntryPast = Some NODE_PAT_ENTRY
+home p.BindName = Some NODE_PAT_BIND
+home p.TwiceName = Some NODE_ERROR
+home p.TwicePast = Some NODE_ERROR
+home p.SelectPath = Some NODE_SELECT
+home p.SelectOr = Some NODE_SELECT
+home p.SelectDefault = Some NODE_SELECT
+home p.HasPath = Some NODE_HAS_ATTR
+home p.Negated = Some NODE_UNARY_OP
+home p.Inverted = Some NODE_UNARY_OP
+home (p.Right level) = Some NODE_BIN_OP
+home place = None
+
+-- the loosest level of the operand of an operator that stands at a place, or before it
+abbrev pub tight : Place → Option ℕ
+tight (p.Right level) = Some level
+tight (p.Operated level) = Some level
+tight p.Inverted = Some 9
+tight p.Negated = Some 14
+tight place = None
+
+-- entries of patterns, and attribute paths
+abbrev pub is_pat_entry : SyntaxKind → Bool
+is_pat_entry NODE_PAT_ENTRY = true
+is_pat_entry NODE_ATTRPATH = true
+is_pat_entry kind = false
+
+-- a place of many nodes, or of this one
+abbrev pub IsIn : Option SyntaxKind → SyntaxKind → Type 0
+IsIn None k = is_pat_entry k ≡ false
+IsIn (Some h) k = h ≡ k
+
+-- two places of one node: the second names the first's kind, or none
+abbrev pub IsSame : Option SyntaxKind → Option SyntaxKind → Type 0
+IsSame None None = Unit {0}
+IsSame (Some j) None = is_pat_entry j ≡ false
+IsSame h (Some k) = h ≡ Some k
+
+-- a string of which the end alone is missing
+abbrev pub is_last : Place → Bool
+is_last p.StringEnd = true
+is_last place = false
+
+-- the level of the last operand of an operator, behind it
+abbrev pub over : Place → Option ℕ
+over (p.Operated level) = Some level
+over place = None
+
+-- the level of an operator's last operand that a slot holds
+abbrev pub allowed : Slot → Option ℕ
+allowed (s.Operand level counted behind) = over behind
+allowed slot = None
+
+-- the operand of an operator is looser than nothing
+abbrev pub Placed : Place → Type 0
+Placed (p.Right level) = 1 ≤ level
+Placed (p.Behind low high) = ⊥
+Placed place = Unit {0}
+
+-- the right operand of an operator is asked for no level beyond 14
+abbrev pub RightMost : Place → Type 0
+RightMost (p.Right level) = level ≤ 14
+RightMost place = Unit {0}
+
+-- a row of the first place may go on at the second
+pub record Leads (x y : Place) : Type 0 where
+  pub same : IsSame (home x) (home y)
+  pub tight : tight y ≡ tight x
+  pub further : is_last y ≡ false
+  pub calm : over y ≡ allowed (slot_at x)
+  pub placed : Placed y
+  pub most : RightMost y
+
+-- a place leads to each of these
+abbrev pub LeadsAll : Place → List Place → Type 0
+LeadsAll x [] = Unit {0}
+LeadsAll x (y ∷ ys) = Leads x y × LeadsAll x ys
+
+-- the places behind a slot
+abbrev pub after : Slot → Place → List Place
+after (s.Token until behind) place = place ∷ (behind ∷ [])
+after (s.Operand level counted behind) place = behind ∷ []
+after (s.Series level closer) place = place ∷ (p.Past ∷ [])
+after (s.Entries closer behind) place = place ∷ (behind ∷ [])
+after s.Pieces place = p.Past ∷ (p.StringInside ∷ [])
+after s.FirstPiece place = p.PathMore ∷ []
+after s.MorePieces place = p.PathMore ∷ []
+after s.Source place = p.InheritNames ∷ (p.InheritName ∷ (p.InheritEnd ∷ (p.Past ∷ [])))
+after s.Names place = p.InheritNames ∷ (p.InheritName ∷ (p.InheritEnd ∷ (p.Past ∷ [])))
+after (s.Attr behind) place = place ∷ (behind ∷ [])
+after s.MoreAttrs place = p.AttrpathStart ∷ []
+after (s.Attrpath behind) place = behind ∷ []
+after (s.Name behind) place = place ∷ (behind ∷ [])
+after (s.Braces bound) place = p.PatternEnd bound ∷ (p.PatternClose bound ∷ (p.PatternAfter bound ∷ (p.PatternInside bound ∷ [])))
+after (s.Formals bound) place = p.PatternEnd bound ∷ (p.PatternClose bound ∷ (p.PatternAfter bound ∷ (p.PatternInside bound ∷ [])))
+after (s.Comma bound) place = p.PatternInside bound ∷ (p.PatternClose bound ∷ (p.PatternEnd bound ∷ []))
+after (s.Bind bound) place = p.PatternPast ∷ []
+after s.Default place = p.EntryDefault ∷ []
+after s.Or place = p.SelectDefault ∷ []
+after slot place = []
+
+-- the places behind each place
+pub leads_on : (x : Place) → is_last x ≡ false → LeadsAll x (after (slot_at x) x)
+leads_on p.StringEnd h = absurd (cc)
+leads_on _ h = assumption
+
+-- a run's list is wanted in a node
+abbrev pub Wants : Option (Until × Place) → Option SyntaxKind → Type 0
+Wants None h = Unit {0}
+Wants (Some u) None = ⊥
+Wants (Some u) (Some k) = is_wanted_in u.0 k ≡ true
+
+wants : (x : Place) → is_last x ≡ false → Wants (run_at x) (home x)
+wants p.StringEnd l = absurd (cc)
+wants _ l = assumption
+
+wants_in : (r : Option (Until × Place)) (h : Option SyntaxKind) (until : Until) (y : Place) (k : SyntaxKind) → Wants r h → r ≡ Some (until, y) → IsIn h k → is_wanted_in until k ≡ true
+wants_in r None until y k w e i = absurd (subst (λ (z : Option (Until × Place)). Wants z None) e w)
+wants_in r (Some j) until y k w e i = subst (λ (z : SyntaxKind). is_wanted_in until z ≡ true) i (subst (λ (z : Option (Until × Place)). Wants z (Some j)) e w)
+
+-- what a run may stand before, in the node that its place is in
+pub wanted_here : (x : Place) (until : Until) (y : Place) (k : SyntaxKind) → is_last x ≡ false → run_at x ≡ Some (until, y) → IsIn (home x) k → is_wanted_in until k ≡ true
+wanted_here x until y k l h i = wants_in (run_at x) (home x) until y k (wants x l) h i
+
+-- where the text ends, a row goes on in the same node
+abbrev pub LackLeads : Place → Option (Fault × Place) → Type 0
+LackLeads x None = Unit {0}
+LackLeads x (Some l) = IsSame (home x) (home l.1) × (tight l.1 ≡ tight x) × Placed l.1 × RightMost l.1
+
+lack_leads : (x : Place) → LackLeads x (lack x)
+lack_leads p.RootStart = (refl, refl, tt, tt)
+lack_leads _ = assumption
+
+-- a place leads to the one behind what is missing
+pub lack_leads_on : (x y : Place) (e : Fault) → lack x ≡ Some (e, y) → IsSame (home x) (home y) × (tight y ≡ tight x) × Placed y × RightMost y
+lack_leads_on x y e h = subst (λ (z : Option (Fault × Place)). LackLeads x z) h (lack_leads x)

@@ -1,0 +1,41 @@
+-- What is trimmed is reported as its items are.
+use Rattle.std.proofs.Common.{◌≡◌, ℕ, Bool, true, false, List, [], ◌∷◌, ◌++◌, refl, ap, sym, ◌∙◌}
+use Rattle.rnix_kinds.specs.declared.kinds.SyntaxKind.{SyntaxKind}
+use Rattle.rnix_kinds.specs.SyntaxKind.{is_trivia}
+use Rattle.rnix_grammar.specs.Sketch.{Token, Note, Stray, Sketch, blank, token, branch, fault, tokens_in, clean, token_if, end_from}
+use Rattle.rnix_grammar.specs.Layout.{item_if, items}
+use Rattle.rnix_grammar.specs.Reports.{report}
+use Rattle.rnix_grammar.specs.Trim.{BeginsWithItem, EndsWithItem, token_kinds}
+use Rattle.rnix_lemmas.proofs.LayoutLemmas.{items-++}
+
+-- a leaf goes where its token is no item
+onto_items : (x : Bool) (k : SyntaxKind) (t : Token) (f : Sketch) (us : List Token) → tokens_in f ≡ us → tokens_in (token_if x k t f) ≡ item_if x t us
+onto_items true k t f us e = e
+onto_items false k t f us e = ap (λ z. t ∷ z) e
+
+-- the tokens of a clean row are the items of the row's
+pub clean_tokens : (f : Sketch) → tokens_in (clean f) ≡ items (tokens_in f)
+clean_tokens blank = refl
+clean_tokens (token k t f) = onto_items (is_trivia t.kind) k t (clean f) (items (tokens_in f)) (clean_tokens f)
+clean_tokens (branch k c f) = ap (λ x. x ++ tokens_in (clean f)) (clean_tokens c) ∙ ap (λ x. items (tokens_in c) ++ x) (clean_tokens f) ∙ sym (items-++ (tokens_in c) (tokens_in f))
+clean_tokens (fault n c f) = ap (λ x. x ++ tokens_in (clean f)) (clean_tokens c) ∙ ap (λ x. items (tokens_in c) ++ x) (clean_tokens f) ∙ sym (items-++ (tokens_in c) (tokens_in f))
+
+-- trimmed tokens end where their items do
+pub same_end : (n : ℕ) (ts : List Token) → EndsWithItem (token_kinds ts) → end_from n (items ts) ≡ end_from n ts
+same_end n [] h = refl
+same_end n (t ∷ []) h = ap (λ x. end_from n (item_if x t [])) h
+same_end n (t ∷ (u ∷ ts)) h =
+    elim (is_trivia t.kind) as (λ x. end_from n (item_if x t (items (u ∷ ts))) ≡ end_from n (t ∷ (u ∷ ts)))
+    [ true ↦ same_end n (u ∷ ts) h ∙ refl | false ↦ same_end t.end (u ∷ ts) h ]
+
+-- trimmed tokens are reported as their items
+pub same_report : (n : Note) (ts : List Token) → BeginsWithItem (token_kinds ts) → EndsWithItem (token_kinds ts) → report n (items ts) ≡ report n ts
+same_report n [] b e = refl
+same_report n (t ∷ ts) b e =
+    let first : items (t ∷ ts) ≡ t ∷ items ts = ap (λ x. item_if x t (items ts)) b in
+    let ends : end_from t.end (items ts) ≡ end_from t.end ts = sym (ap (end_from 0) first) ∙ same_end 0 (t ∷ ts) e in
+    ap (report n) first ∙ by_note n ends
+  where
+    by_note : (n : Note) → end_from t.end (items ts) ≡ end_from t.end ts → report n (t ∷ items ts) ≡ report n (t ∷ ts)
+    by_note Stray e = cc
+    by_note _ e = cc

@@ -1,0 +1,76 @@
+-- What may follow where something is missing from a row.
+use Rattle.std.proofs.Common.{◌≡◌, Bool, true, false, Option, Some, None, refl, sym, subst}
+use Rattle.rnix_kinds.specs.declared.kinds.SyntaxKind.{SyntaxKind}
+use Rattle.rnix_kinds.specs.declared.kinds.SyntaxKind.TheVariants.{TOKEN_DOT}
+use Rattle.rnix_grammar.specs.declared.place.Place.{Place}
+use Rattle.rnix_grammar.specs.declared.place.Place.TheVariants as p
+use Rattle.rnix_grammar.specs.declared.slot.Slot.{Slot}
+use Rattle.rnix_grammar.specs.declared.slot.Slot.TheVariants as s
+use Rattle.rnix_grammar.specs.Fault.{Fault}
+use Rattle.rnix_grammar.specs.Slots.{slot_at}
+use Rattle.rnix_grammar.specs.Rows.{At, go_more_attrs, go, is_end, whole, live}
+use Rattle.rnix_grammar.specs.Missing.{lack_in, lack}
+use Rattle.rnix_lemmas.proofs.Basics.{true_is_not_false}
+use Rattle.rnix_lemmas.proofs.Owing.{owes}
+use Rattle.rnix_lemmas.proofs.RowKinds.{has_row}
+
+-- nothing but a token may follow
+abbrev pub is_final : Place → Bool
+is_final p.RootEnd = true
+is_final p.AttrpathMore = true
+is_final p.PatternPast = true
+is_final p.EntryPast = true
+is_final p.TwicePast = true
+is_final (p.Operated level) = true
+is_final p.Past = true
+is_final place = false
+
+-- behind what is missing a token is owed, or nothing may follow
+abbrev pub IsLeft : Bool → Option (Fault × Place) → Type 0
+IsLeft true lost = Unit {0}
+IsLeft false None = Unit {0}
+IsLeft false (Some w) = is_final w.1 ≡ true
+
+-- so it is at each place
+left_at : (x : Place) → IsLeft (owes x) (lack x)
+left_at p.RootStart = refl
+left_at _ = cc
+
+-- where no token is owed nothing may follow what is missing
+pub lost_final : (x y : Place) (e : Fault) → lack x ≡ Some (e, y) → owes x ≡ false → is_final y ≡ true
+lost_final x y e h n = subst (λ (z : Option (Fault × Place)). IsLeft false z) h (subst (λ (z : Bool). IsLeft z (lack x)) n (left_at x))
+
+-- nothing is missing at such a place
+pub final_full : (x : Place) → is_final x ≡ true → lack x ≡ None
+final_full p.RootEnd h = refl
+final_full _ h = cc
+
+-- where something is missing the row is not whole
+abbrev pub IsHalf : Bool → Option (Fault × Place) → Type 0
+IsHalf ends None = Unit {0}
+IsHalf ends (Some w) = ends ≡ false
+
+-- so it is by each slot
+half_in : (slot : Slot) → IsHalf (is_end slot) (lack_in slot)
+half_in (s.Token until y) = refl
+half_in _ = cc
+
+-- so no whole row misses anything
+pub lost_half : (x y : Place) (e : Fault) → lack x ≡ Some (e, y) → whole (At x) ≡ false
+lost_half x y e h = subst (λ (z : Option (Fault × Place)). IsHalf (whole (At x)) z) h (half_in (slot_at x))
+
+-- a node is no dot
+no_dot : (k : SyntaxKind) → has_row k ≡ true → live (go_more_attrs k) ≡ false
+no_dot TOKEN_DOT h = absurd (true_is_not_false (sym h))
+no_dot _ h = refl
+
+-- no node goes on where nothing but a token may follow
+pub final_goes : (x : Place) (k : SyntaxKind) → is_final x ≡ true → has_row k ≡ true → live (go (At x) k) ≡ false
+final_goes p.RootEnd k h r = refl
+final_goes p.AttrpathMore k h r = no_dot k r
+final_goes p.PatternPast k h r = refl
+final_goes p.EntryPast k h r = refl
+final_goes p.TwicePast k h r = refl
+final_goes (p.Operated level) k h r = refl
+final_goes p.Past k h r = refl
+final_goes _ k h r = absurd (true_is_not_false (sym h))

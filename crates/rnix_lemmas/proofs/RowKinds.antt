@@ -1,0 +1,41 @@
+-- The kinds of nodes that have rows: none is a token that is wanted, or that closes a row.
+use Rattle.std.proofs.Common.{◌≡◌, Bool, true, false, refl}
+use Rattle.rnix_kinds.specs.declared.kinds.SyntaxKind.{SyntaxKind}
+use Rattle.rnix_kinds.specs.declared.kinds.SyntaxKind.TheVariants.{NODE_ROOT, NODE_ERROR}
+use Rattle.rnix_kinds.specs.SyntaxKind.{is_token}
+use Rattle.rnix_kinds.proofs.AllKinds.{all_kinds, implied}
+use Rattle.std.specs.Prelude.{if◌then◌else◌}
+use Rattle.std.specs.List.{list_all}
+use Rattle.rnix_grammar.specs.declared.until.Until.{Until}
+use Rattle.rnix_grammar.specs.declared.until.Until.TheVariants as u
+use Rattle.rnix_grammar.specs.declared.until.Closer.{Closer}
+use Rattle.rnix_grammar.specs.declared.until.Closer.TheVariants as c
+use Rattle.rnix_grammar.specs.Tables.{is_wanted, closes}
+use Rattle.rnix_grammar.specs.Rows.{go, live, start}
+use Rattle.rnix_lemmas.proofs.Basics.{not_if}
+
+-- the kinds of nodes that have rows
+abbrev pub has_row : SyntaxKind → Bool
+has_row NODE_ERROR = false
+has_row kind = if is_token kind then false else true
+
+-- a kind whose row begins with some kind has rows
+pub starts_row : (k j : SyntaxKind) → live (go (start k) j) ≡ true → has_row k ≡ true
+starts_row NODE_ROOT j h = refl
+starts_row _ j h = cc
+
+-- a kind with rows is no token that is wanted, or that closes a row
+pub no_wanted : (until : Until) (k : SyntaxKind) → has_row k ≡ true → is_wanted until k ≡ false
+no_wanted until k h = not_if (is_wanted until k) (implied has_row (λ k. if is_wanted until k then false else true) (by until) k h)
+  where
+    by : (until : Until) → list_all (λ k. if has_row k then (if is_wanted until k then false else true) else true) all_kinds ≡ true
+    by u.RParen = refl
+    by _ = refl
+
+-- nor one that closes a row of any length
+pub no_closing : (closer : Closer) (k : SyntaxKind) → has_row k ≡ true → closes closer k ≡ false
+no_closing closer k h = not_if (closes closer k) (implied has_row (λ k. if closes closer k then false else true) (by closer) k h)
+  where
+    by : (closer : Closer) → list_all (λ k. if has_row k then (if closes closer k then false else true) else true) all_kinds ≡ true
+    by c.RBrack = refl
+    by _ = refl

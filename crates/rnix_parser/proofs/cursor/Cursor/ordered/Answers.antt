@@ -1,7 +1,0 @@
-use Rattle.std.proofs.Common.{subst}
-use Rattle.rnix_parser.specs.Placed.{AreInOrder}
-use Rattle.rnix_parser.proofs.CursorLemmas.{in_order_drop}
-use Rattle.rnix_parser.proofs.cursor.Cursor.ordered.Goals as goal
-
-pub returns : goal.returns
-returns c = subst (AreInOrder 0) c.self.view_is (in_order_drop 0 c.self.inside.at _ c.self.invariant.ordered)

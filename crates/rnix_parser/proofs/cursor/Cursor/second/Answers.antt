@@ -1,9 +1,0 @@
-use Rattle.std.proofs.Common.{sym, ap, ◌∙◌}
-use Rattle.rnix_grammar.specs.Layout.{from_item}
-use Rattle.rnix_parser.proofs.CursorLemmas.{behind_first_item}
-use Rattle.rnix_parser.proofs.cursor.Cursor.second.Goals as goal
-
-pub returns : goal.returns
-returns c =
-    (rw (c.deref.ensures.value) at c.kind_at.ensures)
-    ∙ behind_first_item c.args.self.now _ _ (ap from_item (sym c.self.view_is) ∙ c.self.invariant.item) (rw (c.deref-2.ensures.value) at c.behind_item.ensures)

@@ -1,6 +1,0 @@
-use Rattle.rnix_parser.specs.State.{state}
-use Rattle.rnix_parser.proofs.RunLemmas.{extra_made}
-use Rattle.rnix_parser.proofs.parser.Parser.extra.Goals as goal
-
-pub returns : goal.returns
-returns c = extra_made (state c.args.self.now) _ _ _ c.in_ok-range.ensures.state c.in_ok-range.ensures.range c.in_ok-fail.ensures

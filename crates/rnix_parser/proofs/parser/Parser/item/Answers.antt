@@ -1,6 +1,0 @@
-use Rattle.std.proofs.Common.{◌∙◌}
-use Rattle.rnix_parser.proofs.StateLemmas.{head_items}
-use Rattle.rnix_parser.proofs.parser.Parser.item.Goals as goal
-
-pub returns : goal.returns
-returns c = c.item.ensures ∙ head_items c.args.self.now.cursor

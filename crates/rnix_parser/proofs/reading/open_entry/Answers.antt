@@ -1,7 +1,0 @@
-use Rattle.rnix_parser.specs.Placed.{token_of}
-use Rattle.rnix_parser.specs.State.{state}
-use Rattle.rnix_parser.proofs.RunLemmas.{item_in_order, item_there}
-use Rattle.rnix_parser.proofs.reading.open_entry.Goals as goal
-
-pub new-requires : goal.new-requires
-new-requires c = item_in_order (state c.args.p.now) (token_of c.in-Some.name) c.ordered.ensures (item_there _ _ _ c.item.ensures c.in-Some.is)

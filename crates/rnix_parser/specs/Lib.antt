@@ -1,9 +1,0 @@
-pub mod Placed
-pub mod State
-pub mod Names
-pub mod Flat
-pub mod Steps
-pub mod Sorts
-pub mod Allowed
-pub mod Holds
-pub mod Document

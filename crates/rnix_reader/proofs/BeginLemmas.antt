@@ -1,0 +1,18 @@
+-- How operands begin.
+use Rattle.std.proofs.Common.{◌≡◌, ℕ, List, Option, None, refl, ap, if◌then◌else◌}
+use Rattle.rnix_kinds.specs.declared.kinds.SyntaxKind.{SyntaxKind}
+use Rattle.rnix_kinds.specs.declared.kinds.SyntaxKind.TheVariants.{TOKEN_IDENT}
+use Rattle.rnix_grammar.specs.Begins.{begin_of}
+use Rattle.rnix_reader.specs.State.{State, eaten, bumped, started, started_at, ended}
+use Rattle.rnix_reader.specs.Steps.{looks_behind, is_brace}
+
+-- a leaf's node leaves what is open
+pub leaf_nodes : (k : SyntaxKind) (s s' : State) → s' ≡ ended (bumped k (started k s)) → s'.open_nodes ≡ s.open_nodes
+unfolding ended bumped started started_at eaten
+leaf_nodes k s s' e = ap (λ x. x.open_nodes) e
+
+-- what is not looked at does not matter
+pub begin_alone : (level : ℕ) (k : SyntaxKind) (text : List ℕ) (a b : Option SyntaxKind)
+    → begin_of level k text (if looks_behind k then a else None) (if is_brace k then b else None) ≡ begin_of level k text a b
+begin_alone level TOKEN_IDENT text a b = refl
+begin_alone level _ text a b = cc

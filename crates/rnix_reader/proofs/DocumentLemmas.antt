@@ -1,0 +1,56 @@
+-- A whole text.
+use Rattle.std.proofs.Common.{◌≡◌, ℕ, true, List, [], ◌∷◌, ◌++◌, map, refl, ap, sym, ◌∙◌, subst}
+use Rattle.rnix_kinds.specs.declared.kinds.SyntaxKind.TheVariants.{NODE_ROOT}
+use Rattle.rnix_kinds.specs.Lexical.Tokens.{Lexeme}
+use Rattle.rnix_tree.specs.Forest.{Forest, empty, node, tree_count}
+use Rattle.rnix_tree.specs.Draft.{Draft, blank, node_opened}
+use Rattle.rnix_tree.specs.Tree.{Tree, forest_of}
+use Rattle.rnix_grammar.specs.declared.error.ParseError.{ParseError}
+use Rattle.rnix_grammar.specs.declared.place.Place.TheVariants as p
+use Rattle.rnix_grammar.specs.Fault.{fault_of}
+use Rattle.rnix_grammar.specs.Sketch.{Token, placed_from, forget}
+use Rattle.rnix_grammar.specs.Machine.{begins, ate, Runs}
+use Rattle.rnix_reader.specs.declared.mark.Mark.{Mark}
+use Rattle.rnix_reader.specs.State.{State, marked}
+use Rattle.rnix_reader.specs.Flat.{flat, mark_at}
+use Rattle.rnix_reader.specs.Holds.{IsReadTo}
+use Rattle.rnix_grammar.specs.Document.{IsRead}
+use Rattle.rnix_reader.proofs.StateLemmas.{state_is}
+
+-- the root is open, and nothing is read
+pub opened_root : (r : List Token) (b b0 : Draft) (errors : List ParseError) (marks : List Mark) (at : ℕ) (s : State) → b0 ≡ blank → b ≡ node_opened NODE_ROOT (tree_count b0.finished) b0
+    → errors ≡ [] → marks ≡ [] → at ≡ tree_count b0.finished
+    → s ≡ marked (mark_at p.RootStart 0 at) record { rest = r; trees = b.finished; open_nodes = b.open_nodes; faults = map fault_of errors; reached = 0; marks = marks }
+    → s ≡ flat (begins s.rest)
+unfolding marked
+opened_root r b b0 errors marks at s e0 e1 e2 e3 e4 e =
+    let builder : b ≡ node_opened NODE_ROOT 0 blank = e1 ∙ ap (λ x. node_opened NODE_ROOT (tree_count x.finished) x) e0 in
+    let first : s ≡ flat (begins r) =
+    e ∙ state_is refl (ap (λ x. x.finished) builder) (ap (λ x. x.open_nodes) builder) (ap (map fault_of) e2) refl
+    (ap (λ x. x ++ mark_at p.RootStart 0 at ∷ []) e3 ∙ ap (λ x. mark_at p.RootStart 0 x ∷ []) (e4 ∙ ap (λ x. tree_count x.finished) e0)) in
+    first ∙ ap (λ x. flat (begins x)) (sym (ap (λ x. x.rest) first))
+
+tree_is_node : (t : Tree) (f : Forest) → forest_of t ≡ node NODE_ROOT f empty → t ≡ record { kind = NODE_ROOT; children = f }
+tree_is_node t f e =
+    let kinds : t.kind ≡ NODE_ROOT = cc in
+    let trees : t.children ≡ f = cc in
+    ap (λ x. let y : Tree = record { kind = x; children = t.children } in y) kinds ∙ ap (λ x. let y : Tree = record { kind = NODE_ROOT; children = x } in y) trees
+
+-- the tree of a whole text that is read is as promised
+pub read_made : (ls : List Lexeme) (ts : List Token) (s : State) (tree : Tree) → ts ≡ placed_from 0 ls → IsReadTo ts s → forest_of tree ≡ s.trees → IsRead ls tree s.faults
+read_made ls ts s tree e r t = record {
+  root = r.root;
+  last = r.last;
+  runs = subst (λ x. Runs true (begins x) r.last) e r.runs;
+  alone = r.alone;
+  head = r.head;
+  place = r.place;
+  nothing = r.nothing;
+  tree_is = tree_is_node tree (forget (ate true r.root.row r.last.left)) (t ∙ r.trees);
+  faults_are = r.faults;
+}
+
+-- one more mark leaves the tokens
+pub rest_marked : (m : Mark) (s s' : State) → s' ≡ marked m s → s'.rest ≡ s.rest
+unfolding marked
+rest_marked m s s' e = ap (λ x. x.rest) e

@@ -1,0 +1,79 @@
+-- The end of the text: the root is complete.
+use Rattle.std.proofs.Common.{◌≡◌, ◌<◌, ℕ, length, true, false, List, [], ◌∷◌, None, refl, ap, sym, ◌∙◌, subst}
+use Rattle.rnix_kinds.specs.declared.kinds.SyntaxKind.TheVariants.{NODE_ROOT}
+use Rattle.rnix_tree.specs.Forest.{empty, node}
+use Rattle.rnix_tree.specs.Draft.{wrapped-join}
+use Rattle.rnix_grammar.specs.declared.place.Place.{Place}
+use Rattle.rnix_grammar.specs.declared.place.Place.TheVariants as p
+use Rattle.rnix_grammar.specs.Fault.{Fault}
+use Rattle.rnix_grammar.specs.Sketch.{Token, Sketch, forget, head_kind}
+use Rattle.rnix_grammar.specs.Layout.{items, from_item}
+use Rattle.rnix_grammar.specs.Machine.{Head, Node, Second, Operand, Frame, Machine, machine, begins, opened, ate, Runs}
+use Rattle.rnix_reader.specs.declared.mark.Mark.{Mark}
+use Rattle.rnix_reader.specs.declared.names.Names.{Names}
+use Rattle.rnix_reader.specs.State.{State, eaten, ended}
+use Rattle.rnix_reader.specs.Flat.{flat_with, popped}
+use Rattle.rnix_reader.specs.Sorts.{Sort, Root, sort_of, sort_of_head, may_hold}
+use Rattle.rnix_reader.specs.Holds.{AreFit, Holding, IsReadTo}
+use Rattle.rnix_reader.proofs.FlatLemmas.{flat-eaten}
+use Rattle.rnix_reader.proofs.StateLemmas.{state_is}
+use Rattle.rnix_reader.proofs.StepLemmas.{stands_of, open_there, is_node, is_root}
+use Rattle.rnix_reader.proofs.RunLemmas.{no_items}
+
+true_is_not_false : true ≡ false → ⊥
+true_is_not_false e = cc
+
+head_root : (h : Head) → sort_of_head h ≡ Root → h ≡ Node NODE_ROOT
+head_root (Node NODE_ROOT) e = refl
+head_root (Node k) e = absurd (true_is_not_false (sym (ap is_root e)))
+head_root Second e = absurd (true_is_not_false (sym (ap is_root e)))
+head_root Operand e = absurd (true_is_not_false (sym (ap is_root e)))
+
+-- nothing holds the root
+no_holder : (s : Sort) → may_hold s Root ≡ false
+no_holder Root = refl
+no_holder _ = cc
+
+alone : (f : Frame) (fs : List Frame) → AreFit f fs → sort_of f.place ≡ Root → fs ≡ []
+alone f [] w e = refl
+alone f (g ∷ fs) w e = absurd (true_is_not_false (sym w.1 ∙ ap (may_hold (sort_of g.place)) e ∙ no_holder (sort_of g.place)))
+
+-- the root over all trees
+root_ended : (h : Head) (place : Place) (d : ℕ) (row : Sketch) (ms : List Mark) (ts : List Token) (n : ℕ) (es : List Fault) → h ≡ Node NODE_ROOT
+    → ended (flat_with ms (machine (opened h place d row ∷ []) ts n es))
+    ≡ (let y : State = record { rest = ts; trees = node NODE_ROOT (forget row) empty; open_nodes = []; faults = es; reached = n; marks = ms } in y)
+unfolding ended
+root_ended h place d row ms ts n es e =
+    subst (λ x. ended (flat_with ms (machine (opened x place d row ∷ []) ts n es)) ≡ (let y : State = record { rest = ts; trees = node NODE_ROOT (forget row) empty; open_nodes = []; faults = es; reached = n; marks = ms } in y))
+    (sym e) (state_is refl (wrapped-join NODE_ROOT empty (forget row)) refl refl refl refl)
+
+-- where the text is read the root alone is open
+pub root_open : (f : Frame) (fs : List Frame) (ts : List Token) (n : ℕ) (m : Machine) (mark : Mark) (s : State) (names : Names) → Holding f fs ts n m mark s names
+    → f.place ≡ p.RootEnd → 0 < length s.open_nodes
+root_open f fs ts n m mark s names h e = open_there f fs ts n m.faults mark s (stands_of f fs ts n m mark s names h) (ap (λ x. is_node (sort_of x)) e)
+
+-- a whole text is read
+pub finished : (f : Frame) (fs : List Frame) (ts : List Token) (n : ℕ) (m : Machine) (mark : Mark) (s : State) (names : Names) → Holding f fs ts n m mark s names
+    → (f.place ≡ p.RootEnd) × (head_kind (items ts) ≡ None) → (start : List Token) → Runs true (begins start) m → (s2 : State) → s2 ≡ ended (eaten s) → IsReadTo start s2
+finished f fs ts n m mark s names h al start runs s2 e =
+    let st = stands_of f fs ts n m mark s names h in
+    let root : sort_of f.place ≡ Root = ap sort_of al.0 in
+    let none : fs ≡ [] = alone f fs h.well.fit root in
+    let head : f.head ≡ Node NODE_ROOT = head_root f.head (st.sort ∙ root) in
+    let left : m.left ≡ ts = ap (λ x. x.left) h.machine_is in
+    let row : Sketch = ate true f.row ts in
+    let whole : s ≡ flat_with [] (machine (f ∷ []) ts n m.faults) = st.state ∙ ap (λ x. popped (machine (f ∷ x) ts n m.faults)) none in
+    let state : s2 ≡ (let y : State = record { rest = from_item ts; trees = node NODE_ROOT (forget row) empty; open_nodes = []; faults = m.faults; reached = n; marks = [] } in y) =
+    e ∙ ap (λ x. ended (eaten x)) whole ∙ ap ended (flat-eaten [] f [] ts n m.faults) ∙ root_ended f.head f.place f.depth row [] (from_item ts) n m.faults head in
+    record {
+      root = f;
+      last = m;
+      runs = runs;
+      alone = ap (λ x. x.frames) h.machine_is ∙ ap (λ x. f ∷ x) none;
+      head = head;
+      place = al.0;
+      nothing = ap items left ∙ no_items (items ts) al.1;
+      trees = ap (λ x. x.trees) state ∙ ap (λ x. node NODE_ROOT (forget (ate true f.row x)) empty) (sym left);
+      nodes = ap (λ x. x.open_nodes) state;
+      faults = ap (λ x. x.faults) state;
+    }

@@ -1,0 +1,203 @@
+-- Each step of the machine keeps its frames fit, its tokens in order and the names known.
+use Rattle.std.proofs.Common.{◌≡◌, ℕ, suc, Bool, true, false, List, [], ◌∷◌, ◌++◌, Option, Some, None, refl, ap, sym, ◌∙◌, subst, if◌then◌else◌, ◌&&◌, nat_le, nat_eq}
+use Rattle.rnix_kinds.specs.declared.kinds.SyntaxKind.{SyntaxKind}
+use Rattle.rnix_kinds.specs.declared.kinds.SyntaxKind.TheVariants.{TOKEN_COLON, TOKEN_AT, TOKEN_IDENT, TOKEN_L_BRACE, TOKEN_INVERT, TOKEN_SUB, TOKEN_LET, TOKEN_WITH, TOKEN_ASSERT, TOKEN_IF, NODE_ERROR, NODE_IDENT, NODE_LAMBDA, NODE_PATTERN, NODE_PAT_BIND, NODE_IDENT_PARAM, NODE_LEGACY_LET}
+use Rattle.rnix_grammar.specs.declared.place.Place.TheVariants as p
+use Rattle.rnix_grammar.specs.declared.begin.Begin.{Begin}
+use Rattle.rnix_grammar.specs.declared.begin.Begin.TheVariants as b
+use Rattle.rnix_grammar.specs.Fault.{Fault, too_deep}
+use Rattle.rnix_grammar.specs.Tables.{is_cur_pos, depth_limit}
+use Rattle.rnix_grammar.specs.Begins.{is_pattern, begin_name, begin_let, begin_of}
+use Rattle.rnix_grammar.specs.Sketch.{Token, Stray, TooDeep, Sketch, blank, ◌⊕◌, one_branch, one_fault, head_kind, end_from}
+use Rattle.rnix_grammar.specs.Layout.{items, from_item}
+use Rattle.rnix_grammar.specs.Machine.{Head, Node, Second, Operand, Frame, Machine, put, opened, ate, leaf, behind, reach, run_row, run_rest, made, machine, closed, limited, second_kind, begun, operand_on, reading}
+use Rattle.rnix_lemmas.proofs.Basics.{choice}
+use Rattle.rnix_reader.specs.declared.names.Names.{Names}
+use Rattle.rnix_reader.specs.Placed.{AreInOrder}
+use Rattle.rnix_reader.specs.Sorts.{Sort, Again, Loose, Plain, sort_of, sort_of_head, sort_of_node, may_hold}
+use Rattle.rnix_reader.specs.Allowed.{is_open}
+use Rattle.rnix_reader.specs.Holds.{BeginsAt, EndsAt, IsWell, AreNamed, NamesFor, opens_pattern, opens_on}
+use Rattle.rnix_reader.proofs.EntryLemmas.{fit_first}
+use Rattle.rnix_reader.proofs.OrderLemmas.{order_from, order_behind, order_all}
+use Rattle.rnix_reader.proofs.RowLemmas.{no_entry_leaf, no_entry_fault}
+use Rattle.rnix_reader.proofs.KeptLemmas.{Kept, grow_trivia, grow_behind, push_node, push_operand, push_pattern, pop, is_bare}
+
+true_is_not_false : true ≡ false → ⊥
+true_is_not_false e = cc
+
+-- the machine goes on
+pub record Goes (m : Machine) (names : Names) : Type 0 where
+  pub top : Frame
+  pub under : List Frame
+  pub frames : m.frames ≡ top ∷ under
+  pub well : IsWell top under m.left m.reached
+  pub named : AreNamed names top under
+
+-- a machine goes on whose frames are kept
+pub goes : (f : Frame) (fs : List Frame) (ts : List Token) (n : ℕ) (es : List Fault) (names : Names) → Kept f fs names → EndsAt n f.head f.row → BeginsAt names.second f.head f.row
+    → AreInOrder n ts → Goes (machine (f ∷ fs) ts n es) names
+goes f fs ts n es names w e i o = record {
+  top = f;
+  under = fs;
+  frames = refl;
+  well = record { fit = w.fit; ends = e; order = o };
+  named = record { sets = w.sets; texts = w.texts; ranges = w.ranges; second = i };
+}
+
+-- what is no second name
+open_ends : (n : ℕ) (h : Head) (row : Sketch) → is_open (sort_of_head h) ≡ true → EndsAt n h row
+open_ends n (Node k) row e = tt
+open_ends n Second row e = absurd (true_is_not_false (sym e))
+open_ends n Operand row e = tt
+
+open_begins : (n : ℕ) (h : Head) (row : Sketch) → is_open (sort_of_head h) ≡ true → BeginsAt n h row
+open_begins n (Node k) row e = tt
+open_begins n Second row e = absurd (true_is_not_false (sym e))
+open_begins n Operand row e = tt
+
+-- and so where no second name is innermost
+pub goes_open : (f : Frame) (fs : List Frame) (ts : List Token) (n : ℕ) (es : List Fault) (names : Names) → is_open (sort_of f.place) ≡ true → Kept f fs names → AreInOrder n ts
+    → Goes (machine (f ∷ fs) ts n es) names
+goes_open f fs ts n es names e w o =
+    let free : is_open (sort_of_head f.head) ≡ true = ap is_open (fit_first f fs w.fit).sort ∙ e in
+    goes f fs ts n es names w (open_ends n f.head f.row free) (open_begins names.second f.head f.row free) o
+
+-- what holds something is no second name
+pub holds_open : (s t : Sort) → may_hold s t ≡ true → is_open s ≡ true
+holds_open Again t e = absurd (true_is_not_false (sym e))
+holds_open s t e = refl
+
+-- what holds an operand is no pattern, and may hold a node
+pub open_holds : (s : Sort) → is_open s ≡ true → may_hold s Plain ≡ true
+open_holds Again e = absurd (true_is_not_false (sym e))
+open_holds _ e = cc
+
+-- a frame without names is complete
+pub closed_goes : (f g : Frame) (fs : List Frame) (ts : List Token) (n : ℕ) (es : List Fault) (names : Names) → is_bare (sort_of f.place) ≡ true → Kept f (g ∷ fs) names → AreInOrder n ts
+    → Goes (closed f (g ∷ fs) ts n es) names
+closed_goes f g fs ts n es names b w o =
+    goes_open (put g.place (g.row ⊕ made f.head f.row) g) fs ts n es names (holds_open (sort_of g.place) (sort_of f.place) w.fit.1) (pop f g fs names b w) o
+
+-- nodes that begin with an operand are plain
+abbrev BeginFits : Begin → Type 0
+BeginFits (b.Node k place high) = (sort_of_node k ≡ Plain) × (sort_of place ≡ Plain)
+BeginFits begin = Unit {0}
+
+name_fits : (text : List ℕ) (second : Option SyntaxKind) → BeginFits (begin_name text second)
+name_fits text None = choice BeginFits (is_cur_pos text) tt tt
+name_fits text (Some TOKEN_COLON) = tt
+name_fits text (Some TOKEN_AT) = tt
+name_fits text (Some kind) = choice BeginFits (is_cur_pos text) tt tt
+
+let_fits : (second : Option SyntaxKind) → BeginFits (begin_let second)
+let_fits None = (refl, refl)
+let_fits (Some TOKEN_L_BRACE) = tt
+let_fits (Some kind) = (refl, refl)
+
+begin_fits : (level : ℕ) (kind : SyntaxKind) (text : List ℕ) (second third : Option SyntaxKind) → BeginFits (begin_of level kind text second third)
+begin_fits level TOKEN_IDENT text second third = name_fits text second
+begin_fits level TOKEN_L_BRACE text second third = choice BeginFits (is_pattern second third) tt (refl, refl)
+begin_fits level TOKEN_INVERT text second third = choice BeginFits (nat_le level 9) (refl, refl) tt
+begin_fits level TOKEN_SUB text second third = choice BeginFits (nat_le level 14) (refl, refl) tt
+begin_fits level TOKEN_LET text second third = choice BeginFits (nat_eq level 0) (let_fits second) tt
+begin_fits level TOKEN_WITH text second third = choice BeginFits (nat_eq level 0) (refl, refl) tt
+begin_fits level TOKEN_ASSERT text second third = choice BeginFits (nat_eq level 0) (refl, refl) tt
+begin_fits level TOKEN_IF text second third = choice BeginFits (nat_eq level 0) (refl, refl) tt
+begin_fits level _ text second third = assumption
+
+-- equal names serve as well
+pub same_names : (m : Machine) (names names' : Names) → names' ≡ names → Goes m names → Goes m names'
+same_names m names names' e w = subst (Goes m) (sym e) w
+
+-- an operand begins
+begun_goes : (begin : Begin) (level d : ℕ) (t : Token) (f : Frame) (fs : List Frame) (ts : List Token) (n : ℕ) (es : List Fault) (names names' : Names)
+    → BeginFits begin → Kept f fs names → may_hold (sort_of f.place) Loose ≡ true → AreInOrder n ts → NamesFor (opens_pattern begin) names names'
+    → Goes (begun true begin level d t f fs ts n es) names'
+begun_goes (b.Leaf k) level d t f fs ts n es names names' fit w m o e =
+    let g : Frame = put f.place (ate true f.row ts) f in
+    let waits : Kept g fs names = grow_trivia f fs names f.place ts refl w in
+    same_names (begun true (b.Leaf k) level d t f fs ts n es) names names' e
+    (goes_open (opened Operand (p.Behind level 16) d (one_branch k (leaf true k ts))) (g ∷ fs) (behind true ts) (reach true n ts) es names refl
+    (push_operand g fs names level 16 d (one_branch k (leaf true k ts)) m waits) (order_behind n ts o))
+begun_goes (b.Node k place high) level d t f fs ts n es names names' fit w m o e =
+    let g : Frame = put f.place (ate true f.row ts) f in
+    let waits : Kept g fs names = grow_trivia f fs names f.place ts refl w in
+    let over : Frame = opened Operand (p.Behind level high) d blank in
+    same_names (begun true (b.Node k place high) level d t f fs ts n es) names names' e
+    (goes_open (opened (Node k) place d (leaf true k ts)) (over ∷ (g ∷ fs)) (behind true ts) (reach true n ts) es names (ap is_open fit.1)
+    (push_node over (g ∷ fs) names k place d (leaf true k ts) fit.0 fit.1 refl (push_operand g fs names level high d blank m waits)) (order_behind n ts o))
+begun_goes b.LegacyLet level d t f fs ts n es names names' fit w m o e =
+    let g : Frame = put f.place (ate true f.row ts) f in
+    let waits : Kept g fs names = grow_trivia f fs names f.place ts refl w in
+    let over : Frame = opened Operand (p.Behind level 0) d blank in
+    let row : Sketch = ate true (leaf true NODE_LEGACY_LET ts) (behind true ts) ⊕ leaf true NODE_LEGACY_LET (behind true ts) in
+    same_names (begun true b.LegacyLet level d t f fs ts n es) names names' e
+    (goes_open (opened (Node NODE_LEGACY_LET) p.LegacyInside d row) (over ∷ (g ∷ fs)) (behind true (behind true ts)) (reach true (reach true n ts) (behind true ts)) es names refl
+    (push_node over (g ∷ fs) names NODE_LEGACY_LET p.LegacyInside d row refl refl refl (push_operand g fs names level 0 d blank m waits))
+    (order_behind (reach true n ts) (behind true ts) (order_behind n ts o)))
+begun_goes b.NameLambda level d t f fs ts n es names names' fit w m o e =
+    let g : Frame = put f.place (ate true f.row ts) f in
+    let waits : Kept g fs names = grow_trivia f fs names f.place ts refl w in
+    let over : Frame = opened Operand (p.Behind level 16) d blank in
+    let row : Sketch = one_branch NODE_IDENT_PARAM (one_branch NODE_IDENT (leaf true NODE_IDENT ts)) in
+    same_names (begun true b.NameLambda level d t f fs ts n es) names names' e
+    (goes_open (opened (Node NODE_LAMBDA) p.LambdaColon d row) (over ∷ (g ∷ fs)) (behind true ts) (reach true n ts) es names refl
+    (push_node over (g ∷ fs) names NODE_LAMBDA p.LambdaColon d row refl refl refl (push_operand g fs names level 16 d blank m waits)) (order_behind n ts o))
+begun_goes b.BoundLambda level d t f fs ts n es names names' fit w m o e =
+    let g : Frame = put f.place (ate true f.row ts) f in
+    let waits : Kept g fs names = grow_trivia f fs names f.place ts refl w in
+    let over : Frame = opened Operand (p.Behind level 16) d blank in
+    let function : Frame = opened (Node NODE_LAMBDA) p.LambdaColon d blank in
+    let row : Sketch = one_branch NODE_PAT_BIND (ate true (one_branch NODE_IDENT (leaf true NODE_IDENT ts)) (behind true ts) ⊕ leaf true NODE_PAT_BIND (behind true ts)) in
+    goes_open (opened (Node NODE_PATTERN) p.PatternBrace d row) (function ∷ (over ∷ (g ∷ fs))) (behind true (behind true ts)) (reach true (reach true n ts) (behind true ts)) es names' refl
+    (push_pattern function (over ∷ (g ∷ fs)) names names' p.PatternBrace d row refl refl (λ name. refl) e
+    (push_node over (g ∷ fs) names NODE_LAMBDA p.LambdaColon d blank refl refl refl (push_operand g fs names level 16 d blank m waits)))
+    (order_behind (reach true n ts) (behind true ts) (order_behind n ts o))
+begun_goes b.PatternLambda level d t f fs ts n es names names' fit w m o e =
+    let g : Frame = put f.place (ate true f.row ts) f in
+    let waits : Kept g fs names = grow_trivia f fs names f.place ts refl w in
+    let over : Frame = opened Operand (p.Behind level 16) d blank in
+    let function : Frame = opened (Node NODE_LAMBDA) p.LambdaColon d blank in
+    goes_open (opened (Node NODE_PATTERN) (p.PatternStart false) d (leaf true NODE_PATTERN ts)) (function ∷ (over ∷ (g ∷ fs))) (behind true ts) (reach true n ts) es names' refl
+    (push_pattern function (over ∷ (g ∷ fs)) names names' (p.PatternStart false) d (leaf true NODE_PATTERN ts) refl refl (no_entry_leaf NODE_PATTERN ts) e
+    (push_node over (g ∷ fs) names NODE_LAMBDA p.LambdaColon d blank refl refl refl (push_operand g fs names level 16 d blank m waits)))
+    (order_behind n ts o)
+begun_goes b.Stray level d t f fs ts n es names names' fit w m o e =
+    let g : Frame = put f.place (ate true f.row ts) f in
+    let waits : Kept g fs names = grow_trivia f fs names f.place ts refl w in
+    same_names (begun true b.Stray level d t f fs ts n es) names names' e
+    (goes_open (opened Operand (p.Behind level 16) d (one_fault Stray (leaf true NODE_ERROR ts))) (g ∷ fs) (behind true ts) (reach true n ts) _ names refl
+    (push_operand g fs names level 16 d (one_fault Stray (leaf true NODE_ERROR ts)) m waits) (order_behind n ts o))
+
+operand_goes : (level d : ℕ) (f : Frame) (fs : List Frame) (ts us : List Token) (n : ℕ) (es : List Fault) (names names' : Names)
+    → Kept f fs names → may_hold (sort_of f.place) Loose ≡ true → AreInOrder n ts → NamesFor (opens_on level us) names names'
+    → Goes (operand_on true level d f fs ts us n es) names'
+operand_goes level d f fs ts [] n es names names' w m o e =
+    same_names (operand_on true level d f fs ts [] n es) names names' e (goes_open f fs ts n _ names (holds_open (sort_of f.place) Loose m) w o)
+operand_goes level d f fs ts (t ∷ us) n es names names' w m o e =
+    begun_goes (begin_of level t.kind t.text (head_kind us) (second_kind us)) level d t f fs ts n es names names' (begin_fits level t.kind t.text (head_kind us) (second_kind us)) w m o e
+
+-- what is nested too deep
+limited_goes : (f : Frame) (fs : List Frame) (ts : List Token) (n : ℕ) (es : List Fault) (names : Names) → Kept f fs names → may_hold (sort_of f.place) Loose ≡ true → AreInOrder n ts
+    → Goes (limited true f fs ts n es) names
+limited_goes f fs ts n es names w m o =
+    let left : List Token = run_rest true (items ts) ts in
+    let fault : Sketch = one_fault TooDeep (run_row true (items ts) ts) in
+    let g : Frame = put f.place (ate true f.row ts ⊕ fault) f in
+    let all = order_all n ts o in
+    goes_open (put f.place (ate true g.row left) f) fs (from_item left) (end_from n (items ts)) (es ++ too_deep ∷ []) names (holds_open (sort_of f.place) Loose m)
+    (grow_trivia g fs names f.place left refl (grow_behind f fs names f.place ts fault refl (λ q. no_entry_fault TooDeep (run_row true (items ts) ts)) w))
+    (order_from (end_from n (items ts)) left all.0)
+
+-- an operand of a level is read
+pub reading_goes : (level : ℕ) (counted : Bool) (f : Frame) (fs : List Frame) (ts : List Token) (n : ℕ) (es : List Fault) (names names' : Names)
+    → Kept f fs names → may_hold (sort_of f.place) Loose ≡ true → AreInOrder n ts
+    → NamesFor (if counted && nat_le depth_limit f.depth then false else opens_on level (items ts)) names names'
+    → Goes (reading true level counted f fs ts n es) names'
+reading_goes level true f fs ts n es names names' w m o e = by (nat_le depth_limit f.depth) e
+  where
+    by : (x : Bool) → NamesFor (if x then false else opens_on level (items ts)) names names'
+        → Goes (if x then limited true f fs ts n es else operand_on true level (suc f.depth) f fs ts (items ts) n es) names'
+    by true e = same_names (limited true f fs ts n es) names names' e (limited_goes f fs ts n es names w m o)
+    by false e = operand_goes level (suc f.depth) f fs ts (items ts) n es names names' w m o e
+reading_goes level false f fs ts n es names names' w m o e = operand_goes level f.depth f fs ts (items ts) n es names names' w m o e

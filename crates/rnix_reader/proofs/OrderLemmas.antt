@@ -1,0 +1,63 @@
+-- Tokens that are left stay in order.
+use Rattle.std.proofs.Common.{◌≡◌, ◌≤◌, ℕ, List, [], ◌∷◌, ◌++◌, true, false, ap, ◌∙◌, subst, arith}
+use Rattle.rnix_kinds.specs.SyntaxKind.{is_trivia}
+use Rattle.rnix_grammar.specs.declared.until.Until.{Until}
+use Rattle.rnix_grammar.specs.Sketch.{Token, row_of, end_from}
+use Rattle.rnix_grammar.specs.Layout.{items, from_item, from_item_if, tail_of, left_after}
+use Rattle.rnix_grammar.specs.Machine.{behind, reach, end_of, run_of, run_rest, dropped}
+use Rattle.rnix_lemmas.proofs.CleanLemmas.{run_prefix, all_prefix}
+use Rattle.rnix_lemmas.proofs.LayoutLemmas.{IsFirst, first_item, items-from_item}
+use Rattle.rnix_reader.specs.Placed.{AreInOrder}
+use Rattle.rnix_reader.proofs.CursorLemmas.{in_order_from}
+
+-- from the first item on tokens are in order
+pub order_from : (n : ℕ) (ts : List Token) → AreInOrder n ts → AreInOrder n (from_item ts)
+order_from n [] o = tt
+order_from n (t ∷ ts) o =
+    elim (is_trivia t.kind) as (λ x. AreInOrder n (from_item_if x t ts (from_item ts)))
+    [ true ↦ in_order_from n t.end (from_item ts) (omega (arith, o.0, o.1)) (order_from t.end ts o.2) | false ↦ o ]
+
+order_tail : (n : ℕ) (ts : List Token) → AreInOrder n ts → AreInOrder (end_of n ts) (tail_of ts)
+order_tail n [] o = tt
+order_tail n (t ∷ ts) o = o.2
+
+end_least : (n : ℕ) (ts : List Token) → AreInOrder n ts → n ≤ end_of n ts
+end_least n [] o = omega arith
+end_least n (t ∷ ts) o = omega (arith, o.0, o.1)
+
+-- behind the next item
+pub order_behind : (n : ℕ) (ts : List Token) → AreInOrder n ts → AreInOrder (reach true n ts) (behind true ts)
+order_behind n ts o = order_tail n (from_item ts) (order_from n ts o)
+
+-- the next item ends no earlier than the last
+pub reach_least : (n : ℕ) (ts : List Token) → AreInOrder n ts → n ≤ reach true n ts
+reach_least n ts o = end_least n (from_item ts) (order_from n ts o)
+
+-- behind a run of items
+record Passed (n : ℕ) (run ts : List Token) : Type 0 where
+  order : AreInOrder (end_from n run) (left_after (row_of run) ts)
+  least : n ≤ end_from n run
+
+passed : (n : ℕ) (run us ts : List Token) → items ts ≡ run ++ us → AreInOrder n ts → Passed n run ts
+passed n [] us ts e o = record { order = o; least = omega arith }
+passed n (t ∷ run) us ts e o =
+    let first : IsFirst t (run ++ us) ts = first_item t (run ++ us) ts e in
+    let ends : reach true n ts ≡ t.end = ap (end_of n) first.here in
+    let ih = passed t.end run us (tail_of (from_item ts)) first.left (subst (λ x. AreInOrder x (behind true ts)) ends (order_behind n ts o)) in
+    record { order = ih.order; least = omega (arith, ih.least, reach_least n ts o, ends) }
+
+-- behind a run tokens are in order
+pub order_run : (until : Until) (n : ℕ) (ts : List Token) → AreInOrder n ts
+    → AreInOrder (end_from n (run_of until (items ts))) (run_rest true (run_of until (items ts)) ts) × (n ≤ end_from n (run_of until (items ts)))
+order_run until n ts o =
+    let run : List Token = run_of until (items ts) in
+    let w = passed n run (dropped run (items ts)) (from_item ts) (items-from_item ts ∙ run_prefix until (items ts)) (order_from n ts o) in
+    (w.order, w.least)
+
+-- and behind all of them
+pub order_all : (n : ℕ) (ts : List Token) → AreInOrder n ts
+    → AreInOrder (end_from n (items ts)) (run_rest true (items ts) ts) × (n ≤ end_from n (items ts))
+order_all n ts o =
+    let run : List Token = items ts in
+    let w = passed n run (dropped run run) (from_item ts) (items-from_item ts ∙ all_prefix run) (order_from n ts o) in
+    (w.order, w.least)

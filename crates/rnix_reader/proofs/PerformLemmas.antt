@@ -1,0 +1,207 @@
+-- What each action makes of the frames.
+use Rattle.std.proofs.Common.{◌≡◌, ◌≤◌, ℕ, true, false, List, [], ◌∷◌, ◌++◌, Option, Some, None, refl, ap, sym, ◌∙◌, subst, arith, append-nil}
+use Rattle.rnix_kinds.specs.declared.kinds.SyntaxKind.{SyntaxKind}
+use Rattle.rnix_kinds.specs.declared.kinds.SyntaxKind.TheVariants.{NODE_ERROR, NODE_IDENT, NODE_PAT_ENTRY, NODE_APPLY}
+use Rattle.rnix_grammar.specs.declared.place.Place.{Place}
+use Rattle.rnix_grammar.specs.declared.place.Place.TheVariants as p
+use Rattle.rnix_grammar.specs.declared.action.Action.{Action}
+use Rattle.rnix_grammar.specs.declared.action.Action.TheVariants as a
+use Rattle.rnix_grammar.specs.Fault.{Fault}
+use Rattle.rnix_grammar.specs.Sketch.{Token, Note, Unwanted, Extra, Sketch, blank, ◌⊕◌, one_branch, one_fault, tokens_in, clean, head_of, head_kind, end_from, extent_of}
+use Rattle.rnix_grammar.specs.Layout.{items, from_item, trivia_before, tail_of}
+use Rattle.rnix_grammar.specs.Reports.{only_token}
+use Rattle.rnix_grammar.specs.Machine.{Head, Node, Second, Operand, Frame, put, opened, ate, leaf, leaf_in, kind_of, low_of, behind, reach, end_of, run_of, run_row, run_rest, dropped, made, machine, closed, perform}
+use Rattle.rnix_lemmas.proofs.SketchLemmas.{tokens_in-row_of}
+use Rattle.rnix_lemmas.proofs.CleanLemmas.{leaf_clean, reach_items, run_prefix, run_bared}
+use Rattle.rnix_lemmas.proofs.LayoutLemmas.{first_item, clean-trivia}
+use Rattle.rnix_reader.specs.declared.names.Names.{Names}
+use Rattle.rnix_reader.specs.Names.{PatternClosed, EntryClosed, EntryOpened}
+use Rattle.rnix_reader.specs.Placed.{AreInOrder}
+use Rattle.rnix_reader.specs.Flat.{mark_of, popped}
+use Rattle.rnix_reader.specs.Sorts.{Pattern, Entry, Again, Loose, sort_of, may_hold}
+use Rattle.rnix_reader.specs.Allowed.{Allowed, IsNext, is_there, is_open}
+use Rattle.rnix_reader.specs.Holds.{IsBegun, BeginsAt, EndsAt, NamesAfter, TwiceOpened, is_finish}
+use Rattle.rnix_reader.proofs.StepLemmas.{head_loose, is_root}
+use Rattle.rnix_reader.proofs.EntryLemmas.{fit_first, head_entry, head_pattern, holds_entry}
+use Rattle.rnix_reader.proofs.OrderLemmas.{order_from, order_behind, reach_least, order_run, order_all}
+use Rattle.rnix_reader.proofs.RowLemmas.{HasNoEntry, no_entry_leaf, no_entry_fault, begun_more, begins_more, ends_more}
+use Rattle.rnix_reader.proofs.KeptLemmas.{Kept, is_bare, moved_on, grow_trivia, grow_behind, push_node, push_second, push_entry, renamed, instead, pop_pattern, pop_entry}
+use Rattle.rnix_reader.proofs.GoesLemmas.{Goes, goes, goes_open, holds_open, open_holds, closed_goes, same_names, reading_goes}
+
+true_is_not_false : true ≡ false → ⊥
+true_is_not_false e = cc
+
+-- the next place is of the same sort
+same_sort : (place after : Place) (next : Option SyntaxKind) → IsNext place next after → sort_of after ≡ sort_of place
+same_sort place after None h = h.0
+same_sort place after (Some kind) h = h
+
+-- a frame is complete
+closing : (f : Frame) (fs : List Frame) (ts : List Token) (n : ℕ) (es : List Fault) (names : Names) → is_bare (sort_of f.place) ≡ true → is_root (sort_of f.place) ≡ false
+    → Kept f fs names → AreInOrder n ts → Goes (closed f fs ts n es) names
+closing f [] ts n es names b r w o = absurd (true_is_not_false (sym (ap is_root w.fit.1) ∙ r))
+closing f (g ∷ fs) ts n es names b r w o = closed_goes f g fs ts n es names b w o
+
+closing_pattern : (f : Frame) (fs : List Frame) (ts : List Token) (n : ℕ) (es : List Fault) (names names' : Names) → sort_of f.place ≡ Pattern → PatternClosed names names'
+    → Kept f fs names → AreInOrder n ts → Goes (closed f fs ts n es) names'
+closing_pattern f [] ts n es names names' e c w o = absurd (true_is_not_false (sym (ap is_root w.fit.1) ∙ ap is_root e))
+closing_pattern f (g ∷ fs) ts n es names names' e c w o =
+    goes_open (put g.place (g.row ⊕ made f.head f.row) g) fs ts n es names' (holds_open (sort_of g.place) (sort_of f.place) w.fit.1)
+    (pop_pattern f g fs names names' (head_pattern f.head (w.fit.0.sort ∙ e)) c w) o
+
+closing_entry : (f g : Frame) (fs : List Frame) (ts : List Token) (n : ℕ) (es : List Fault) (names names' : Names) (again : Option Fault) → sort_of f.place ≡ Entry → EntryClosed again names names'
+    → Kept f (g ∷ fs) names → AreInOrder n ts → Goes (closed f (g ∷ fs) ts n es) names'
+closing_entry f g fs ts n es names names' again e c w o =
+    let below : sort_of g.place ≡ Pattern = holds_entry (sort_of g.place) (ap (may_hold (sort_of g.place)) (sym e) ∙ w.fit.1) in
+    goes_open (put g.place (g.row ⊕ made f.head f.row) g) fs ts n es names' (ap is_open below)
+    (pop_entry f g fs names names' again (head_entry f.head (w.fit.0.sort ∙ e)) (head_pattern g.head ((fit_first g fs w.fit.2).sort ∙ below)) c w) o
+
+-- a row that may be a second name's grows
+ends_behind : (n m : ℕ) (h : Head) (row : Sketch) (ts : List Token) (g : Sketch) (us : List Token) → IsBegun h row → EndsAt n h row → tokens_in (clean g) ≡ us → m ≡ end_from n us → n ≤ m
+    → EndsAt m h (ate true row ts ⊕ g)
+ends_behind n m h row ts g us i e k r l =
+    ends_more n m h (ate true row ts) g us (begun_more h row (trivia_before ts) i)
+    (ends_more n n h row (trivia_before ts) [] i e (ap tokens_in (clean-trivia ts)) refl (omega arith)) k r l
+
+begins_behind : (n : ℕ) (h : Head) (row : Sketch) (ts : List Token) (g : Sketch) → IsBegun h row → BeginsAt n h row → BeginsAt n h (ate true row ts ⊕ g)
+begins_behind n h row ts g i e = begins_more n h (ate true row ts) g (begun_more h row (trivia_before ts) i) (begins_more n h row (trivia_before ts) i e)
+
+-- the first of some items
+abbrev firsts : List Token → List Token
+firsts [] = []
+firsts (t ∷ ts) = t ∷ []
+
+leaf_tokens : (k : SyntaxKind) (ts : List Token) → tokens_in (clean (leaf true k ts)) ≡ firsts (items ts)
+leaf_tokens k ts = ap tokens_in (leaf_clean k ts) ∙ by (items ts)
+  where
+    by : (us : List Token) → tokens_in (leaf_in k us) ≡ firsts us
+    by [] = refl
+    by (t ∷ us) = refl
+
+leaf_end : (n : ℕ) (ts : List Token) → reach true n ts ≡ end_from n (firsts (items ts))
+leaf_end n ts = reach_items n ts ∙ by (items ts)
+  where
+    by : (us : List Token) → end_of n us ≡ end_from n (firsts us)
+    by [] = refl
+    by (t ∷ us) = refl
+
+run_tokens : (note : Note) (run us ts : List Token) → items ts ≡ run ++ us → tokens_in (clean (one_fault note (run_row true run ts))) ≡ run
+run_tokens note run us ts e =
+    append-nil (tokens_in (clean (run_row true run ts))) ∙ ap tokens_in (run_bared run ts us e).same ∙ tokens_in-row_of run
+
+-- an entry of a pattern begins
+entry_goes : (after : Place) (f : Frame) (fs : List Frame) (ts us : List Token) (n : ℕ) (es : List Fault) (names names' : Names) → Kept f fs names → AreInOrder n ts → items ts ≡ us
+    → is_there (head_kind us) ≡ true → sort_of after ≡ sort_of f.place → sort_of f.place ≡ Pattern
+    → ((t : Token) → head_of (items ts) ≡ Some t → EntryOpened t.text record { start = t.start; end = t.end } names names')
+    → Goes (perform true (a.Entry after) f fs ts n es) names'
+entry_goes after f fs ts [] n es names names' w o e h same sort does = absurd (true_is_not_false (sym h))
+entry_goes after f fs ts (t ∷ us) n es names names' w o e h same sort does =
+    let g : Frame = put after (ate true f.row ts) f in
+    let row : Sketch = one_branch NODE_IDENT (leaf true NODE_IDENT ts) in
+    goes_open (opened (Node NODE_PAT_ENTRY) p.EntryMore f.depth row) (g ∷ fs) (behind true ts) (reach true n ts) es names' refl
+    (push_entry g fs names names' f.depth row t (ap (λ x. may_hold x Entry) (same ∙ sort)) (ap only_token (leaf_clean NODE_IDENT ts ∙ ap (leaf_in NODE_IDENT) e)) (does t (ap head_of e))
+    (grow_trivia f fs names after ts same w)) (order_behind n ts o)
+
+-- a second name begins
+twice_goes : (after : Place) (f : Frame) (fs : List Frame) (ts us : List Token) (n : ℕ) (es : List Fault) (names names' : Names) → Kept f fs names → AreInOrder n ts → items ts ≡ us
+    → is_there (head_kind us) ≡ true → sort_of after ≡ sort_of f.place → sort_of f.place ≡ Pattern
+    → ((t : Token) → head_of (items ts) ≡ Some t → TwiceOpened t.start names names')
+    → Goes (perform true (a.Twice after) f fs ts n es) names'
+twice_goes after f fs ts [] n es names names' w o e h same sort does = absurd (true_is_not_false (sym h))
+twice_goes after f fs ts (t ∷ us) n es names names' w o e h same sort does =
+    let g : Frame = put after (ate true f.row ts) f in
+    let row : Sketch = leaf true NODE_ERROR ts in
+    let tokens : tokens_in (clean row) ≡ t ∷ [] = leaf_tokens NODE_ERROR ts ∙ ap firsts e in
+    let end : reach true n ts ≡ t.end = leaf_end n ts ∙ ap (λ x. end_from n (firsts x)) e in
+    let ordered : AreInOrder n (t ∷ tail_of (from_item ts)) = subst (AreInOrder n) (first_item t us ts e).here (order_from n ts o) in
+    let new = does t (ap head_of e) in
+    goes (opened Second p.TwiceName f.depth row) (g ∷ fs) (behind true ts) (reach true n ts) es names'
+    (renamed (opened Second p.TwiceName f.depth row) (g ∷ fs) names names' new.sets new.texts new.ranges
+    (push_second g fs names f.depth row (ap (λ x. may_hold x Again) (same ∙ sort)) (t, [], tokens) (grow_trivia f fs names after ts same w)))
+    (end ∙ sym (ap (λ x. (extent_of x).end) tokens), omega (arith, ordered.1, end, ap (λ x. (extent_of x).start) tokens))
+    (new.second ∙ sym (ap (λ x. (extent_of x).start) tokens)) (order_behind n ts o)
+
+-- each action leaves a machine that goes on
+pub perform_goes : (action : Action) (f : Frame) (fs : List Frame) (ts : List Token) (n : ℕ) (es : List Fault) (names names' : Names) → Kept f fs names → EndsAt n f.head f.row
+    → BeginsAt names.second f.head f.row → AreInOrder n ts → Allowed f.place (head_kind (items ts)) action → is_finish action ≡ false
+    → NamesAfter action (mark_of f fs) (popped (machine (f ∷ fs) ts n es)) names names' → Goes (perform true action f fs ts n es) names'
+perform_goes a.Close f fs ts n es names names' w e i o al g k =
+    same_names (closed f fs ts n es) names names' k (closing f fs ts n es names (ap is_bare al.0) (ap is_root al.0) w o)
+perform_goes a.ClosePattern f fs ts n es names names' w e i o al g k = closing_pattern f fs ts n es names names' al k w o
+perform_goes a.CloseEntry f [] ts n es names names' w e i o al g k = absurd (true_is_not_false (sym (ap is_root w.fit.1) ∙ ap is_root al))
+perform_goes a.CloseEntry f (g' ∷ fs) ts n es names names' w e i o al g k = closing_entry f g' fs ts n _ names names' k.0 al k.1 w o
+perform_goes a.CloseTwice f fs ts n es names names' w e i o al g k =
+    same_names (perform true a.CloseTwice f fs ts n es) names names' k (closing f fs ts n _ names (ap is_bare al) (ap is_root al) w o)
+perform_goes a.Finish f fs ts n es names names' w e i o al g k = absurd (true_is_not_false g)
+perform_goes a.Settle f fs ts n es names names' w e i o al g k =
+    same_names (closed f fs ts n es) names names' k (closing f fs ts n es names (ap is_bare al) (ap is_root al) w o)
+perform_goes a.Extra f fs ts n es names names' w e i o al g k =
+    let fault : Sketch = one_fault Extra (run_row true (items ts) ts) in
+    same_names (perform true a.Extra f fs ts n es) names names' k
+    (goes_open (put f.place (ate true f.row ts ⊕ fault) f) fs (run_rest true (items ts) ts) (end_from n (items ts)) _ names (ap is_open al.1)
+    (grow_behind f fs names f.place ts fault refl (λ q. no_entry_fault Extra (run_row true (items ts) ts)) w) (order_all n ts o).0)
+perform_goes (a.Take after) f fs ts n es names names' w e i o al g k =
+    let same = same_sort f.place after (head_kind (items ts)) al.1 in
+    same_names (perform true (a.Take after) f fs ts n es) names names' k
+    (goes_open (put after (ate true f.row ts ⊕ leaf true (kind_of f.head) ts) f) fs (behind true ts) (reach true n ts) es names (ap is_open same ∙ al.2)
+    (grow_behind f fs names after ts (leaf true (kind_of f.head) ts) same (λ q. no_entry_leaf (kind_of f.head) ts) w) (order_behind n ts o))
+perform_goes (a.Miss after) f fs ts n es names names' w e i o al g k =
+    same_names (perform true (a.Miss after) f fs ts n es) names names' k
+    (goes (put after f.row f) fs ts n _ names (moved_on f fs names after (same_sort f.place after (head_kind (items ts)) al.1) w) e i o)
+perform_goes (a.MissWanted until after) f fs ts n es names names' w e i o al g k =
+    same_names (perform true (a.MissWanted until after) f fs ts n es) names names' k
+    (goes (put after f.row f) fs ts n _ names (moved_on f fs names after (same_sort f.place after (head_kind (items ts)) al.1) w) e i o)
+perform_goes (a.Run until after) f fs ts n es names names' w e i o al g k =
+    let run : List Token = run_of until (items ts) in
+    let fault : Sketch = one_fault (Unwanted until) (run_row true run ts) in
+    let all = order_run until n ts o in
+    let begun : IsBegun f.head f.row = (fit_first f fs w.fit).begun in
+    same_names (perform true (a.Run until after) f fs ts n es) names names' k
+    (goes (put after (ate true f.row ts ⊕ fault) f) fs (run_rest true run ts) (end_from n run) _ names
+    (grow_behind f fs names after ts fault (same_sort f.place after (head_kind (items ts)) al.1) (λ q. no_entry_fault (Unwanted until) (run_row true run ts)) w)
+    (ends_behind n (end_from n run) f.head f.row ts fault run begun e (run_tokens (Unwanted until) run (dropped run (items ts)) ts (run_prefix until (items ts))) refl all.1)
+    (begins_behind names.second f.head f.row ts fault begun i) all.0)
+perform_goes (a.Leaf j after) f fs ts n es names names' w e i o al g k =
+    let row : Sketch = one_branch j (leaf true j ts) in
+    let begun : IsBegun f.head f.row = (fit_first f fs w.fit).begun in
+    same_names (perform true (a.Leaf j after) f fs ts n es) names names' k
+    (goes (put after (ate true f.row ts ⊕ row) f) fs (behind true ts) (reach true n ts) es names
+    (grow_behind f fs names after ts row (same_sort f.place after (head_kind (items ts)) al.1)
+    (λ q. subst (λ x. HasNoEntry (one_branch x (leaf true x ts))) (sym al.2) (λ name. refl)) w)
+    (ends_behind n (reach true n ts) f.head f.row ts row (firsts (items ts)) begun e (append-nil (tokens_in (clean (leaf true j ts))) ∙ leaf_tokens j ts) (leaf_end n ts) (reach_least n ts o))
+    (begins_behind names.second f.head f.row ts row begun i) (order_behind n ts o))
+perform_goes (a.Open j inside after) f fs ts n es names names' w e i o al g k =
+    let same = same_sort f.place after (head_kind (items ts)) al.1 in
+    let h : Frame = put after (ate true f.row ts) f in
+    same_names (perform true (a.Open j inside after) f fs ts n es) names names' k
+    (goes_open (opened (Node j) inside f.depth (leaf true j ts)) (h ∷ fs) (behind true ts) (reach true n ts) es names (ap is_open al.3)
+    (push_node h fs names j inside f.depth (leaf true j ts) al.2 al.3 (open_holds (sort_of after) (ap is_open same ∙ al.4)) (grow_trivia f fs names after ts same w)) (order_behind n ts o))
+perform_goes (a.Begin j inside after) f fs ts n es names names' w e i o al g k =
+    let h : Frame = put after (ate true f.row ts) f in
+    same_names (perform true (a.Begin j inside after) f fs ts n es) names names' k
+    (goes_open (opened (Node j) inside f.depth blank) (h ∷ fs) (from_item ts) n es names (ap is_open al.2)
+    (push_node h fs names j inside f.depth blank al.1 al.2 (open_holds (sort_of after) (ap is_open al.0 ∙ al.3)) (grow_trivia f fs names after ts al.0 w)) (order_from n ts o))
+perform_goes (a.Entry after) f fs ts n es names names' w e i o al g k =
+    entry_goes after f fs ts (items ts) n es names names' w o refl (ap is_there al.0) (same_sort f.place after (head_kind (items ts)) al.1) al.2 k
+perform_goes (a.Twice after) f fs ts n es names names' w e i o al g k =
+    twice_goes after f fs ts (items ts) n es names names' w o refl al.0 (same_sort f.place after (head_kind (items ts)) al.1) al.2 k
+perform_goes (a.Read level counted after) f fs ts n es names names' w e i o al g k =
+    let same = same_sort f.place after (head_kind (items ts)) al.0 in
+    reading_goes level counted (put after f.row f) fs ts n es names names' (moved_on f fs names after same w) (ap (λ x. may_hold x Loose) same ∙ al.1) o k
+perform_goes (a.Wrap j inside high) f fs ts n es names names' w e i o al g k =
+    let over : Frame = opened Operand (p.Behind (low_of f.place) high) f.depth blank in
+    let loose = head_loose f.head ((fit_first f fs w.fit).sort ∙ al.1) in
+    same_names (perform true (a.Wrap j inside high) f fs ts n es) names names' k
+    (goes_open (opened (Node j) inside f.depth (ate true f.row ts ⊕ leaf true j ts)) (over ∷ fs) (behind true ts) (reach true n ts) es names (ap is_open al.3)
+    (push_node over fs names j inside f.depth (ate true f.row ts ⊕ leaf true j ts) al.2 al.3 refl (instead f fs names (low_of f.place) high f.depth blank loose al.1 w)) (order_behind n ts o))
+perform_goes a.Apply f fs ts n es names names' w e i o al g k =
+    let over : Frame = opened Operand (p.Behind (low_of f.place) 15) f.depth blank in
+    let loose = head_loose f.head ((fit_first f fs w.fit).sort ∙ al.1) in
+    reading_goes 16 false (opened (Node NODE_APPLY) p.Past f.depth f.row) (over ∷ fs) ts n es names names'
+    (push_node over fs names NODE_APPLY p.Past f.depth f.row refl refl refl (instead f fs names (low_of f.place) 15 f.depth blank loose al.1 w)) refl o k
+perform_goes a.ApplyOr f fs ts n es names names' w e i o al g k =
+    let row : Sketch = one_branch NODE_APPLY (ate true f.row ts ⊕ one_branch NODE_IDENT (leaf true NODE_IDENT ts)) in
+    let loose = head_loose f.head ((fit_first f fs w.fit).sort ∙ al.1) in
+    same_names (perform true a.ApplyOr f fs ts n es) names names' k
+    (goes_open (opened Operand (p.Behind (low_of f.place) 15) f.depth row) fs (behind true ts) (reach true n ts) es names refl
+    (instead f fs names (low_of f.place) 15 f.depth row loose al.1 w) (order_behind n ts o))

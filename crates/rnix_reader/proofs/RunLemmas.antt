@@ -1,0 +1,257 @@
+-- Runs of items.
+use Rattle.std.proofs.Common.{◌≡◌, ◌≤◌, ◌<◌, ℕ, true, false, List, [], ◌∷◌, length, Option, Some, None, refl, ap, sym, ◌∙◌, subst, arith, if◌then◌else◌}
+use Rattle.std.specs.Option.{option_map}
+use Rattle.rnix_kinds.specs.declared.kinds.SyntaxKind.{SyntaxKind}
+use Rattle.rnix_kinds.specs.declared.kinds.SyntaxKind.TheVariants.{NODE_ERROR}
+use Rattle.rnix_kinds.specs.SyntaxKind.{is_trivia}
+use Rattle.rnix_tree.specs.Forest.{empty, leaf, join}
+use Rattle.rnix_tree.proofs.ForestLemmas.{join_assoc}
+use Rattle.rnix_tree.specs.Range.{Extent}
+use Rattle.rnix_tree.specs.ForestCode.{join_empty}
+use Rattle.rnix_grammar.specs.declared.until.Until.{Until}
+use Rattle.rnix_grammar.specs.declared.until.Until.TheVariants.{End}
+use Rattle.rnix_grammar.specs.declared.place.Place.{Place}
+use Rattle.rnix_grammar.specs.Fault.{unwanted, extra, bound_twice}
+use Rattle.rnix_grammar.specs.Tables.{is_wanted, stops, wanted_kinds, operand_kinds}
+use Rattle.rnix_grammar.specs.Sketch.{Token, token, row_of, forget, head_of, head_kind, kind_in, end_from, extent_of, Unwanted as UnwantedNote, Extra as ExtraNote, Stray as StrayNote}
+use Rattle.rnix_grammar.specs.Layout.{items, from_item, trivia_before, tail_of, dressed, item_if}
+use Rattle.rnix_grammar.specs.Machine.{leaf_in, end_of, run_of}
+use Rattle.rnix_grammar.specs.Reports.{report}
+use Rattle.rnix_lemmas.proofs.LayoutLemmas.{first_item, items-from_item}
+use Rattle.rnix_lemmas.proofs.SketchLemmas.{forget-⊕}
+use Rattle.rnix_lemmas.proofs.RunLemmas.{run_begins}
+use Rattle.rnix_reader.specs.declared.cursor.PlacedToken.{PlacedToken}
+use Rattle.rnix_reader.specs.declared.mark.Mark.{Mark}
+use Rattle.rnix_reader.specs.Steps.{moved}
+use Rattle.rnix_reader.specs.Allowed.{is_there}
+use Rattle.rnix_reader.specs.Placed.{token_of, AreInOrder}
+use Rattle.rnix_reader.specs.State.{State, items_left, eaten, bumped, skipped, started, started_at, ended, failed, marked}
+use Rattle.rnix_reader.proofs.CursorLemmas.{in_order_from}
+use Rattle.rnix_reader.proofs.StateLemmas.{state_is}
+
+-- nothing is skipped
+pub skipped-none : (s : State) → skipped [] s ≡ s
+unfolding skipped
+skipped-none s = state_is refl (join_empty s.trees) refl refl refl refl
+
+-- one item of a run
+pub skipped-more : (t : Token) (us run : List Token) (s s' : State) → items s.rest ≡ t ∷ us → s' ≡ bumped NODE_ERROR s → skipped (t ∷ run) s ≡ skipped run s'
+unfolding skipped bumped
+skipped-more t us run s s' i e =
+    let here : from_item s.rest ≡ t ∷ tail_of (from_item s.rest) = (first_item t us s.rest i).here in
+    let more = dressed (row_of run) (tail_of (from_item s.rest)) in
+    state_is refl
+    (ap (join s.trees) (forget-⊕ (trivia_before s.rest) (token t.kind t more))
+    ∙ sym (join_assoc s.trees (forget (trivia_before s.rest)) (leaf t.kind t.text (forget more)))
+    ∙ sym (join_assoc (join s.trees (forget (trivia_before s.rest))) (leaf t.kind t.text empty) (forget more))
+    ∙ ap (λ x. join (join (join s.trees (forget (trivia_before s.rest))) (forget (leaf_in NODE_ERROR x))) (forget more)) (sym here))
+    refl refl
+    (ap (λ x. end_from (end_of s.reached x) run) (sym here)) refl
+    ∙ ap (skipped run) (sym e)
+
+-- what is left behind an item
+pub left_bumped : (k : SyntaxKind) (t : Token) (us : List Token) (s s' : State) → items s.rest ≡ t ∷ us → s' ≡ bumped k s → items s'.rest ≡ us
+unfolding bumped
+left_bumped k t us s s' i e = ap (λ x. items x.rest) e ∙ (first_item t us s.rest i).left
+
+-- where a run stops and goes on
+pub run_stops : (u : Until) (ts : List Token) → stops u (head_kind ts) ≡ true → run_of u ts ≡ []
+run_stops u [] h = refl
+run_stops u (t ∷ ts) h = ap (λ x. if x then [] else t ∷ run_of u ts) h
+
+-- a run that nothing stops is all there is
+pub run_all : (ts : List Token) → run_of End ts ≡ ts
+run_all [] = refl
+run_all (t ∷ ts) = ap (λ x. t ∷ x) (run_all ts)
+
+-- the items, by the first of them
+pub item_there : (ts : List Token) (r : Option PlacedToken) (t : PlacedToken) → option_map token_of r ≡ head_of ts → r ≡ Some t → head_of ts ≡ Some (token_of t)
+item_there ts r t e h = sym e ∙ ap (option_map token_of) h
+
+-- tokens with a first are that and those behind it
+pub first_of : (ts : List Token) (t : Token) → head_of ts ≡ Some t → ts ≡ t ∷ tail_of ts
+first_of [] t e = absurd (none_is_not_some e)
+  where
+    none_is_not_some : None ≡ Some t → ⊥
+    none_is_not_some e = cc
+first_of (u ∷ us) t e = let same : u ≡ t = cc in ap (λ x. x ∷ us) same
+
+-- where no kind comes next no token is left
+pub no_items : (ts : List Token) → head_kind ts ≡ None → ts ≡ []
+no_items [] e = refl
+no_items (t ∷ ts) e = absurd (cc)
+
+-- where no token comes next none is left
+pub none_left : (ts : List Token) → head_of ts ≡ None → ts ≡ []
+none_left [] e = refl
+none_left (u ∷ us) e = absurd (some_is_not_none e)
+  where
+    some_is_not_none : Some u ≡ None → ⊥
+    some_is_not_none e = cc
+
+-- one turn of the loop that reads a run
+pub skip_turn : (u : Until) (t : Token) (s s' : State) → head_of (items s.rest) ≡ Some t → is_wanted u t.kind ≡ false → s' ≡ bumped NODE_ERROR s
+    → skipped (run_of u (items s'.rest)) s' ≡ skipped (run_of u (items s.rest)) s
+skip_turn u t s s' h off e =
+    let all : items s.rest ≡ t ∷ tail_of (items s.rest) = first_of (items s.rest) t h in
+    let left : items s'.rest ≡ tail_of (items s.rest) = left_bumped NODE_ERROR t (tail_of (items s.rest)) s s' all e in
+    ap (λ x. skipped (run_of u x) s') left
+    ∙ sym (skipped-more t (tail_of (items s.rest)) (run_of u (tail_of (items s.rest))) s s' all e)
+    ∙ ap (λ x. skipped x s) (sym (ap (run_of u) all ∙ run_begins u t (tail_of (items s.rest)) off))
+
+-- an empty run leaves all as it is
+pub skip_end : (u : Until) (s : State) → stops u (head_kind (items s.rest)) ≡ true → skipped (run_of u (items s.rest)) s ≡ s
+skip_end u s h = ap (λ x. skipped x s) (run_stops u (items s.rest) h) ∙ skipped-none s
+
+-- so does one where no item is left
+pub skip_none : (u : Until) (s : State) → head_of (items s.rest) ≡ None → skipped (run_of u (items s.rest)) s ≡ s
+skip_none u s h = ap (λ x. skipped (run_of u x) s) (none_left (items s.rest) h) ∙ skipped-none s
+
+-- with one item read fewer are left
+pub shorter : (t : Token) (s s' : State) → head_of (items s.rest) ≡ Some t → s' ≡ bumped NODE_ERROR s → length (items s'.rest) < length (items s.rest)
+shorter t s s' h e =
+    let all = first_of (items s.rest) t h in
+    omega (arith, ap length all, ap length (left_bumped NODE_ERROR t (tail_of (items s.rest)) s s' all e))
+
+-- what is left where a node is opened
+pub left_started : (k : SyntaxKind) (s : State) → items (started k s).rest ≡ items s.rest
+unfolding started started_at eaten
+left_started k s = items-from_item s.rest
+
+-- a run as a node reaches as far as its tokens
+pub reached_run : (run : List Token) (s : State) → (ended (skipped run (started NODE_ERROR s))).reached ≡ end_from s.reached run
+unfolding ended skipped started started_at eaten
+reached_run run s = refl
+
+-- tokens in order end behind their first
+pub in_order_items : (n : ℕ) (ts : List Token) → AreInOrder n ts → AreInOrder n (items ts)
+in_order_items n [] o = tt
+in_order_items n (t ∷ ts) o =
+    let ih : AreInOrder t.end (items ts) = in_order_items t.end ts o.2 in
+    elim (is_trivia t.kind) as (λ x. AreInOrder n (item_if x t (items ts))) [ true ↦ in_order_from n t.end (items ts) (omega (arith, o.0, o.1)) ih | false ↦ (o.0, o.1, ih) ]
+
+-- a run ends no earlier than it begins
+pub run_end : (u : Until) (n : ℕ) (ts : List Token) → AreInOrder n ts → n ≤ end_from n (run_of u ts)
+run_end u n [] o = omega arith
+run_end u n (t ∷ ts) o = elim (is_wanted u t.kind) as (λ x. n ≤ end_from n (if x then [] else t ∷ run_of u ts)) [ true ↦ omega arith | false ↦ omega (arith, o.0, o.1, run_end u t.end ts o.2) ]
+
+-- an item ends no earlier than it begins
+pub item_in_order : (s : State) (t : Token) → AreInOrder 0 s.rest → head_of (items_left s) ≡ Some t → t.start ≤ t.end
+item_in_order s t o e = (subst (AreInOrder 0) (first_of (items s.rest) t e) (in_order_items 0 s.rest o)).1
+
+-- where a run ends, by the first of its items
+pub run_first : (u : Until) (n : ℕ) (t : Token) (ts : List Token) → head_of ts ≡ Some t → is_wanted u t.kind ≡ false → run_of u ts ≡ t ∷ run_of u (tail_of ts)
+run_first u n t ts h off = ap (run_of u) (first_of ts t h) ∙ run_begins u t (tail_of ts) off
+
+-- a run reaches at least as far as its first item begins
+pub run_reach : (u : Until) (s s' : State) (t : Token) → AreInOrder 0 s.rest → head_of (items_left s) ≡ Some t → is_wanted u t.kind ≡ false
+    → s' ≡ ended (skipped (run_of u (items_left s)) (started NODE_ERROR s)) → t.start ≤ s'.reached
+run_reach u s s' t o h off e =
+    let all = first_of (items s.rest) t h in
+    let inside : AreInOrder 0 (t ∷ tail_of (items s.rest)) = subst (AreInOrder 0) all (in_order_items 0 s.rest o) in
+    let far : t.end ≤ end_from t.end (run_of u (tail_of (items s.rest))) = run_end u t.end (tail_of (items s.rest)) inside.2 in
+    let is : s'.reached ≡ end_from s.reached (run_of u (items s.rest)) = ap (λ x. x.reached) e ∙ reached_run (run_of u (items s.rest)) s in
+    let first : end_from s.reached (run_of u (items s.rest)) ≡ end_from t.end (run_of u (tail_of (items s.rest))) = ap (end_from s.reached) (run_first u 0 t (items s.rest) h off) in
+    omega (arith, inside.1, far, is, first)
+
+-- the range of a run is that of its tokens
+pub run_extent : (u : Until) (s s' : State) (t : Token) (range : Extent) → head_of (items_left s) ≡ Some t → is_wanted u t.kind ≡ false
+    → s' ≡ ended (skipped (run_of u (items_left s)) (started NODE_ERROR s)) → range ≡ record { start = t.start; end = s'.reached } → range ≡ extent_of (run_of u (items_left s))
+run_extent u s s' t range h off e r =
+    let run = run_of u (tail_of (items s.rest)) in
+    let is : s'.reached ≡ end_from s.reached (run_of u (items s.rest)) = ap (λ x. x.reached) e ∙ reached_run (run_of u (items s.rest)) s in
+    let first : run_of u (items s.rest) ≡ t ∷ run = run_first u 0 t (items s.rest) h off in
+    r ∙ ap (λ x. let y : Extent = record { start = t.start; end = x } in y) (is ∙ ap (end_from s.reached) first) ∙ sym (ap extent_of first)
+
+-- how a run is reported
+pub run_report : (u : Until) (ts : List Token) (t : Token) (range : Extent) (wanted : List SyntaxKind) → head_of ts ≡ Some t → is_wanted u t.kind ≡ false → range ≡ extent_of (run_of u ts) → wanted ≡ wanted_kinds u
+    → unwanted t.kind range wanted ≡ report (UnwantedNote u) (run_of u ts)
+run_report u ts t range wanted h off r w =
+    ap (λ x. unwanted t.kind x wanted) r ∙ ap (unwanted t.kind (extent_of (run_of u ts))) w
+    ∙ ap (λ x. unwanted t.kind (extent_of x) (wanted_kinds u)) (run_first u 0 t ts h off) ∙ sym (ap (report (UnwantedNote u)) (run_first u 0 t ts h off))
+
+-- what is told of a token that begins no operand
+pub stray_report : (t : Token) (range : Extent) (wanted : List SyntaxKind) → range ≡ record { start = t.start; end = t.end } → wanted ≡ operand_kinds
+    → unwanted t.kind range wanted ≡ report StrayNote (t ∷ [])
+stray_report t range wanted r w = ap (λ x. unwanted t.kind x wanted) r ∙ ap (unwanted t.kind record { start = t.start; end = t.end }) w
+
+-- an error node over a run
+pub run_made : (u : Until) (s s1 s2 s3 : State) → s1 ≡ started NODE_ERROR s → s2 ≡ skipped (run_of u (items_left s1)) s1 → s3 ≡ ended s2
+    → s3 ≡ ended (skipped (run_of u (items_left s)) (started NODE_ERROR s))
+run_made u s s1 s2 s3 a b c =
+    c ∙ ap ended (b ∙ ap (λ x. skipped (run_of u (items_left x)) x) a ∙ ap (λ x. skipped (run_of u x) (started NODE_ERROR s)) (left_started NODE_ERROR s))
+
+-- and over all items
+pub all_made : (s : State) → ended (skipped (run_of End (items_left s)) (started NODE_ERROR s)) ≡ ended (skipped (items_left s) (started NODE_ERROR s))
+all_made s = ap (λ x. ended (skipped x (started NODE_ERROR s))) (run_all (items_left s))
+
+-- what is told of the tokens behind the root's expression
+pub extra_made : (s s1 s2 : State) (range : Extent) → s1 ≡ ended (skipped (run_of End (items_left s)) (started NODE_ERROR s)) → range ≡ extent_of (run_of End (items_left s)) → s2 ≡ failed (extra range) s1
+    → s2 ≡ failed (report ExtraNote (items_left s)) (ended (skipped (items_left s) (started NODE_ERROR s)))
+extra_made s s1 s2 range a r c =
+    c ∙ ap (λ x. failed (extra x) s1) (r ∙ ap extent_of (run_all (items_left s))) ∙ ap (failed (report ExtraNote (items_left s))) (a ∙ all_made s)
+
+-- a node that is closed ends no item
+pub reached_ended : (s s' : State) → s' ≡ ended s → s'.reached ≡ s.reached
+unfolding ended
+reached_ended s s' e = ap (λ x. x.reached) e
+
+-- a second name is told
+pub twice_made : (start : ℕ) (s s1 s2 : State) (range : Extent) → s1 ≡ ended s → range ≡ record { start = start; end = s1.reached } → s2 ≡ failed (bound_twice range) s1
+    → s2 ≡ failed (bound_twice record { start = start; end = s.reached }) (ended s)
+twice_made start s s1 s2 range a r c =
+    c ∙ ap (λ x. failed (bound_twice x) s1) (r ∙ ap (λ x. let y : Extent = record { start = start; end = x } in y) (reached_ended s s1 a))
+    ∙ ap (failed (bound_twice record { start = start; end = s.reached })) a
+
+-- what is left where a mark is put
+pub left_moved : (after : Place) (m : Mark) (s : State) → items_left (moved after m s) ≡ items_left s
+unfolding marked
+left_moved after m s = refl
+
+-- nothing is no item
+pub no_item : (ts : List Token) (r : Option PlacedToken) → option_map token_of r ≡ head_of ts → r ≡ None → is_there (head_kind ts) ≡ true → ⊥
+no_item ts r e h t = absurd (false_is_not_true (sym (ap (λ x. is_there (kind_in x)) (sym e ∙ ap (option_map token_of) h)) ∙ t))
+  where
+    false_is_not_true : false ≡ true → ⊥
+    false_is_not_true e = cc
+
+-- a run that nothing stops has an item
+pub no_stop : (u : Until) (ts : List Token) (r : Option PlacedToken) → option_map token_of r ≡ head_of ts → r ≡ None → stops u (head_kind ts) ≡ false → ⊥
+no_stop u ts r e h t = absurd (true_is_not_false (sym (ap (λ x. stops u (kind_in x)) (sym e ∙ ap (option_map token_of) h)) ∙ t))
+  where
+    true_is_not_false : true ≡ false → ⊥
+    true_is_not_false e = cc
+
+-- what was unwanted stays so as the place moves
+pub wanted_still : (u : Until) (after : Place) (m : Mark) (s s1 : State) (t : Token) → stops u (head_kind (items_left s)) ≡ false → s1 ≡ moved after m s → head_of (items_left s1) ≡ Some t
+    → is_wanted u t.kind ≡ false
+wanted_still u after m s s1 t h e i =
+    ap (λ x. stops u (kind_in x)) (sym i) ∙ ap (λ x. stops u (head_kind (items_left x))) e ∙ ap (λ x. stops u (head_kind x)) (left_moved after m s) ∙ h
+
+-- a run that is read from a moved place
+pub run_moved : (u : Until) (after : Place) (m : Mark) (s s1 s2 : State) → s1 ≡ moved after m s
+    → s2 ≡ failed (report (UnwantedNote u) (run_of u (items_left s1))) (ended (skipped (run_of u (items_left s1)) (started NODE_ERROR s1)))
+    → s2 ≡ failed (report (UnwantedNote u) (run_of u (items_left s))) (ended (skipped (run_of u (items_left s)) (started NODE_ERROR (moved after m s))))
+run_moved u after m s s1 s2 e h =
+    h ∙ ap (λ x. failed (report (UnwantedNote u) (run_of u (items_left x))) (ended (skipped (run_of u (items_left x)) (started NODE_ERROR x)))) e
+    ∙ ap (λ x. failed (report (UnwantedNote u) (run_of u x)) (ended (skipped (run_of u x) (started NODE_ERROR (moved after m s))))) (left_moved after m s)
+
+-- so with the tokens behind the root's expression
+pub extra_moved : (after : Place) (m : Mark) (s s1 s2 : State) → s1 ≡ moved after m s
+    → s2 ≡ failed (report ExtraNote (items_left s1)) (ended (skipped (items_left s1) (started NODE_ERROR s1)))
+    → s2 ≡ failed (report ExtraNote (items_left s)) (ended (skipped (items_left s) (started NODE_ERROR (moved after m s))))
+extra_moved after m s s1 s2 e h =
+    h ∙ ap (λ x. failed (report ExtraNote (items_left x)) (ended (skipped (items_left x) (started NODE_ERROR x)))) e
+    ∙ ap (λ x. failed (report ExtraNote x) (ended (skipped x (started NODE_ERROR (moved after m s))))) (left_moved after m s)
+
+-- an item is there where nothing stops a run, as the place moves
+pub not_stopped : (u : Until) (after : Place) (m : Mark) (s s1 : State) (r : Option PlacedToken) → stops u (head_kind (items_left s)) ≡ false → s1 ≡ moved after m s
+    → option_map token_of r ≡ head_of (items_left s1) → r ≡ None → ⊥
+not_stopped u after m s s1 r h e i n =
+    no_stop u (items_left s1) r i n (ap (λ x. stops u (head_kind (items_left x))) e ∙ ap (λ x. stops u (head_kind x)) (left_moved after m s) ∙ h)
+
+-- an item stays there as the place moves
+pub not_none : (after : Place) (m : Mark) (s s1 : State) (r : Option PlacedToken) → is_there (head_kind (items_left s)) ≡ true → s1 ≡ moved after m s
+    → option_map token_of r ≡ head_of (items_left s1) → r ≡ None → ⊥
+not_none after m s s1 r h e i n =
+    no_item (items_left s1) r i n (ap (λ x. is_there (head_kind (items_left x))) e ∙ ap (λ x. is_there (head_kind x)) (left_moved after m s) ∙ h)

@@ -1,0 +1,94 @@
+-- The steps of the reader, one token at a time.
+use Rattle.std.proofs.Common.{◌≡◌, ℕ, true, false, List, [], ◌∷◌, Option, Some, None, refl, ap, sym, ◌∙◌}
+use Rattle.std.specs.Option.{option_map}
+use Rattle.rnix_kinds.specs.declared.kinds.SyntaxKind.{SyntaxKind}
+use Rattle.rnix_kinds.specs.SyntaxKind.{is_trivia}
+use Rattle.rnix_tree.specs.Forest.{Forest, empty, leaf, join}
+use Rattle.rnix_tree.specs.Draft.{OpenNode}
+use Rattle.rnix_tree.specs.ForestCode.{join_empty}
+use Rattle.rnix_tree.proofs.ForestLemmas.{join_assoc}
+use Rattle.rnix_grammar.specs.Fault.{Fault}
+use Rattle.rnix_grammar.specs.Sketch.{Token, forget, head_of, told}
+use Rattle.rnix_grammar.specs.Layout.{items, from_item, from_item_if, trivia_before, trivia_if, tail_of}
+use Rattle.rnix_grammar.specs.Machine.{leaf_in, end_of}
+use Rattle.rnix_lemmas.proofs.LayoutLemmas.{items_head, items-view}
+use Rattle.rnix_reader.specs.declared.cursor.PlacedToken.{PlacedToken}
+use Rattle.rnix_reader.specs.declared.mark.Mark.{Mark}
+use Rattle.rnix_reader.specs.Placed.{token_of}
+use Rattle.rnix_reader.specs.State.{State, eaten, bumped}
+
+-- states with the same parts are one
+pub state_is : {r r' : List Token} {x x' : Forest} {o o' : List OpenNode} {e e' : List Fault} {n n' : ℕ} {m m' : List Mark} → r ≡ r' → x ≡ x' → o ≡ o' → e ≡ e' → n ≡ n' → m ≡ m'
+    → (let y : State = record { rest = r; trees = x; open_nodes = o; faults = e; reached = n; marks = m } in y)
+    ≡ (let z : State = record { rest = r'; trees = x'; open_nodes = o'; faults = e'; reached = n'; marks = m' } in z)
+state_is a b c d e f = cc
+
+-- the tokens that are left, by the first of them
+pub first_there : (ts : List Token) (r : Option PlacedToken) (t : PlacedToken) → option_map token_of r ≡ head_of ts → r ≡ Some t → ts ≡ token_of t ∷ tail_of ts
+first_there [] r t e h = absurd (some_is_not_none (sym (ap (option_map token_of) h) ∙ e))
+  where
+    some_is_not_none : Some (token_of t) ≡ None → ⊥
+    some_is_not_none e = cc
+first_there (u ∷ us) r t e h =
+    let same : Some (token_of t) ≡ Some u = sym (ap (option_map token_of) h) ∙ e in
+    let one : u ≡ token_of t = cc in
+    ap (λ x. x ∷ us) one
+
+-- where no token comes next none is left
+pub none_there : (ts : List Token) (r : Option PlacedToken) → option_map token_of r ≡ head_of ts → r ≡ None → ts ≡ []
+none_there [] r e h = refl
+none_there (u ∷ us) r e h = absurd (none_is_not_some (sym (ap (option_map token_of) h) ∙ e))
+  where
+    none_is_not_some : None ≡ Some u → ⊥
+    none_is_not_some e = cc
+
+-- the first item is the first from the first item on
+pub head_items : (ts : List Token) → head_of (from_item ts) ≡ head_of (items ts)
+head_items ts = by (from_item ts) ∙ sym (ap head_of (items-view ts))
+  where
+    by : (xs : List Token) → head_of xs ≡ head_of (items_head xs)
+    by [] = refl
+    by (x ∷ xs) = refl
+
+-- where no trivia are left nothing is eaten
+pub eaten-item : (s : State) (t : Token) (more : List Token) → s.rest ≡ t ∷ more → is_trivia t.kind ≡ false → eaten s ≡ s
+unfolding eaten
+eaten-item s t more e h =
+    state_is (ap from_item e ∙ ap (λ b. from_item_if b t more (from_item more)) h ∙ sym e)
+    (ap (λ x. join s.trees (forget x)) (ap trivia_before e ∙ ap (λ b. trivia_if b t (trivia_before more)) h) ∙ join_empty s.trees) refl refl refl refl
+
+-- where no token is left no trivia are
+pub eaten-end : (s : State) → s.rest ≡ [] → eaten s ≡ s
+unfolding eaten
+eaten-end s e = state_is (ap from_item e ∙ sym e) (ap (λ x. join s.trees (forget (trivia_before x))) e ∙ join_empty s.trees) refl refl refl refl
+
+-- one trivia token is eaten
+pub eaten-trivia : (s s' : State) (t : Token) (more : List Token) → s.rest ≡ t ∷ more → is_trivia t.kind ≡ true → s'.rest ≡ more → s'.trees ≡ join s.trees (leaf t.kind t.text empty)
+    → s'.open_nodes ≡ s.open_nodes → s'.faults ≡ s.faults → s'.reached ≡ s.reached → s'.marks ≡ s.marks → eaten s' ≡ eaten s
+unfolding eaten
+eaten-trivia s s' t more e h r x o f n m =
+    state_is (ap from_item r ∙ sym (ap from_item e ∙ ap (λ b. from_item_if b t more (from_item more)) h))
+    (ap (λ y. join y (forget (trivia_before s'.rest))) x ∙ ap (λ y. join (join s.trees (leaf t.kind t.text empty)) (forget (trivia_before y))) r
+    ∙ join_assoc s.trees (leaf t.kind t.text empty) (forget (trivia_before more))
+    ∙ ap (λ y. join s.trees (forget y)) (sym (ap trivia_before e ∙ ap (λ b. trivia_if b t (trivia_before more)) h)))
+    o f n m
+
+-- the next item as a leaf
+pub bumped-item : (k : SyntaxKind) (s s1 s' : State) (t : Token) → s1 ≡ eaten s → s1.rest ≡ t ∷ tail_of s1.rest → s'.rest ≡ tail_of s1.rest
+    → s'.trees ≡ join s1.trees (leaf (told k t) t.text empty) → s'.open_nodes ≡ s1.open_nodes → s'.faults ≡ s1.faults → s'.reached ≡ t.end → s'.marks ≡ s1.marks → s' ≡ bumped k s
+unfolding bumped eaten
+bumped-item k s s1 s' t e here r x o f n m =
+    let rest : s1.rest ≡ from_item s.rest = ap (λ y. y.rest) e in
+    state_is (r ∙ ap tail_of rest)
+    (x ∙ ap (λ y. join y.trees (leaf (told k t) t.text empty)) e ∙ ap (λ y. join (join s.trees (forget (trivia_before s.rest))) (forget (leaf_in k y))) (sym here ∙ rest))
+    (o ∙ ap (λ y. y.open_nodes) e) (f ∙ ap (λ y. y.faults) e) (n ∙ ap (end_of s.reached) (sym here ∙ rest)) (m ∙ ap (λ y. y.marks) e)
+
+-- nor is an item
+pub bumped-end : (k : SyntaxKind) (s s1 : State) → s1 ≡ eaten s → s1.rest ≡ [] → s1 ≡ bumped k s
+unfolding bumped eaten
+bumped-end k s s1 e none =
+    let rest : from_item s.rest ≡ [] = sym (ap (λ y. y.rest) e) ∙ none in
+    state_is (none ∙ ap tail_of (sym rest))
+    (ap (λ y. y.trees) e ∙ sym (join_empty (join s.trees (forget (trivia_before s.rest))))
+    ∙ ap (λ y. join (join s.trees (forget (trivia_before s.rest))) (forget (leaf_in k y))) (sym rest))
+    (ap (λ y. y.open_nodes) e) (ap (λ y. y.faults) e) (ap (λ y. y.reached) e ∙ ap (end_of s.reached) (sym rest)) (ap (λ y. y.marks) e)

@@ -1,0 +1,6 @@
+use Rattle.rnix_reader.specs.State.{state}
+use Rattle.rnix_reader.proofs.RunLemmas.{extra_made}
+use Rattle.rnix_reader.proofs.parser.Parser.extra.Goals as goal
+
+pub returns : goal.returns
+returns c = extra_made (state c.args.self.now) _ _ _ c.in_ok-range.ensures.state c.in_ok-range.ensures.range c.in_ok-fail.ensures

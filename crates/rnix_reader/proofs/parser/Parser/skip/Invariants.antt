@@ -1,0 +1,12 @@
+use Rattle.std.proofs.Common.{◌≡◌, length}
+use Rattle.rnix_grammar.specs.Machine.{run_of}
+use Rattle.rnix_reader.specs.State.{state, items_left, skipped}
+use Rattle.rnix_reader.proofs.parser.Parser.skip.Given as goal
+
+abbrev pub invariant-loop-item : goal.invariant-loop-item
+invariant-loop-item l =
+    (skipped (run_of l.fn.until (items_left (state l.self))) (state l.self) ≡ skipped (run_of l.fn.until (items_left (state l.initial.self))) (state l.initial.self))
+    × (l.self.builder.open_nodes ≡ l.initial.self.builder.open_nodes)
+
+abbrev pub decreases-loop-item : goal.decreases-loop-item
+decreases-loop-item l = length (items_left (state l.self))

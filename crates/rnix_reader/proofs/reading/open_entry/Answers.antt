@@ -1,0 +1,7 @@
+use Rattle.rnix_reader.specs.Placed.{token_of}
+use Rattle.rnix_reader.specs.State.{state}
+use Rattle.rnix_reader.proofs.RunLemmas.{item_in_order, item_there}
+use Rattle.rnix_reader.proofs.reading.open_entry.Goals as goal
+
+pub new-requires : goal.new-requires
+new-requires c = item_in_order (state c.args.p.now) (token_of c.in-Some.name) c.ordered.ensures (item_there _ _ _ c.item.ensures c.in-Some.is)

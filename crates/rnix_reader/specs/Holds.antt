@@ -1,0 +1,219 @@
+-- What the reader holds at each step of the machine.
+use Rattle.std.specs.Prelude.{◌≡◌, ◌≤◌, ◌+◌, ◌*◌, ℕ, Bool, true, false, List, [], ◌∷◌, ◌++◌, Option, Some, None, length, ◌&&◌, nat_le, if◌then◌else◌}
+use Rattle.rnix_kinds.specs.declared.kinds.SyntaxKind.TheVariants.{NODE_ROOT, NODE_PATTERN, NODE_PAT_ENTRY}
+use Rattle.rnix_tree.specs.Forest.{empty, node}
+use Rattle.rnix_tree.specs.Range.{Extent}
+use Rattle.rnix_grammar.specs.declared.action.Action.{Action}
+use Rattle.rnix_grammar.specs.declared.action.Action.TheVariants as a
+use Rattle.rnix_grammar.specs.declared.begin.Begin.{Begin}
+use Rattle.rnix_grammar.specs.declared.begin.Begin.TheVariants as b
+use Rattle.rnix_grammar.specs.declared.place.Place.TheVariants as p
+use Rattle.rnix_grammar.specs.Actions.{action_at}
+use Rattle.rnix_grammar.specs.Begins.{begin_of}
+use Rattle.rnix_grammar.specs.Sketch.{Token, Sketch, tokens_in, clean, forget, extent_of, head_of, head_kind}
+use Rattle.rnix_grammar.specs.Layout.{items}
+use Rattle.rnix_grammar.specs.Machine.{Head, Node, Second, Frame, Machine, machine, begins, ate, touches, second_kind, Runs}
+use Rattle.rnix_grammar.specs.Reports.{entry_name, has_entry}
+use Rattle.rnix_reader.specs.declared.mark.Mark.{Mark}
+use Rattle.rnix_reader.specs.declared.names.NameSet.{NameSet}
+use Rattle.rnix_reader.specs.declared.names.Names.{Names}
+use Rattle.rnix_grammar.specs.Tables.{depth_limit}
+use Rattle.rnix_grammar.specs.Fault.{Fault}
+use Rattle.rnix_reader.specs.Placed.{AreInOrder}
+use Rattle.rnix_reader.specs.Names.{has_name, texts_of, PatternOpened, PatternClosed, EntryOpened, EntryClosed}
+use Rattle.rnix_reader.specs.State.{State, ended, failed}
+use Rattle.rnix_reader.specs.Flat.{flat, popped, mark_of}
+use Rattle.rnix_reader.specs.Sorts.{sort_of, sort_of_head, may_hold, weight, bonus, Root}
+
+-- an entry begins with its name, and a second name with a token
+abbrev pub IsBegun : Head → Sketch → Type 0
+IsBegun (Node NODE_PAT_ENTRY) row = (t : Token) × (entry_name (clean row) ≡ Some t)
+IsBegun Second row = (t : Token) × (us : List Token) × (tokens_in (clean row) ≡ t ∷ us)
+IsBegun head row = Unit {0}
+
+-- a frame whose head stands at its place
+pub record IsFit (f : Frame) : Type 0 where
+  pub sort : sort_of_head f.head ≡ sort_of f.place
+  pub begun : IsBegun f.head f.row
+
+-- each frame may stand inside the one below, and the root is the last
+abbrev pub AreFit : Frame → List Frame → Type 0
+AreFit f [] = IsFit f × (sort_of f.place ≡ Root)
+AreFit f (g ∷ fs) = IsFit f × (may_hold (sort_of g.place) (sort_of f.place) ≡ true) × AreFit g fs
+
+-- a second name ends where the last item ended
+abbrev pub EndsAt : ℕ → Head → Sketch → Type 0
+EndsAt n Second row = (n ≡ (extent_of (tokens_in (clean row))).end) × ((extent_of (tokens_in (clean row))).start ≤ n)
+EndsAt n head row = Unit {0}
+
+-- the frames fit, a second name ends where it should, and the tokens are in order
+pub record IsWell (f : Frame) (fs : List Frame) (ts : List Token) (n : ℕ) : Type 0 where
+  pub fit : AreFit f fs
+  pub ends : EndsAt n f.head f.row
+  pub order : AreInOrder n ts
+
+-- the name of an entry, which may be absent
+abbrev pub text_of : Option Token → List (List ℕ)
+text_of None = []
+text_of (Some t) = t.text ∷ []
+
+-- the range of a name that may be absent
+abbrev pub range_of : Option Token → List Extent
+range_of None = []
+range_of (Some t) = extent_of (t ∷ []) ∷ []
+
+-- the name of an open entry
+abbrev pub name_of : Head → Sketch → Option Token
+name_of (Node NODE_PAT_ENTRY) row = entry_name (clean row)
+name_of head row = None
+
+-- the names of all open entries, the innermost last
+abbrev pub entries_of : List Frame → List (List ℕ)
+entries_of [] = []
+entries_of (f ∷ fs) = entries_of fs ++ text_of (name_of f.head f.row)
+
+-- their ranges
+abbrev pub ranges_of : List Frame → List Extent
+ranges_of [] = []
+ranges_of (f ∷ fs) = ranges_of fs ++ range_of (name_of f.head f.row)
+
+-- a set has the names of a pattern's entries
+abbrev pub IsOf : NameSet → Sketch → Type 0
+IsOf s row = (name : List ℕ) → has_name name s ≡ has_entry name (clean row)
+
+-- the last of some sets is that of a pattern, and more holds of those below
+pub record Tops (sets : List NameSet) (row : Sketch) (More : List NameSet → Type 0) : Type 0 where
+  pub below : List NameSet
+  pub set : NameSet
+  pub all : sets ≡ below ++ set ∷ []
+  pub is : IsOf set row
+  pub more : More below
+
+-- the sets that are open above others, by what is open
+abbrev pub KnownOn : Head → Sketch → List NameSet → (List NameSet → Type 0) → Type 0
+KnownOn (Node NODE_PATTERN) row sets More = Tops sets row More
+KnownOn head row sets More = More sets
+
+-- the sets of names are those of the open patterns
+abbrev pub Known : List Frame → List NameSet → Type 0
+Known [] sets = sets ≡ []
+Known (f ∷ fs) sets = KnownOn f.head f.row sets (Known fs)
+
+-- a second name begins at a place
+abbrev pub BeginsAt : ℕ → Head → Sketch → Type 0
+BeginsAt n Second row = n ≡ (extent_of (tokens_in (clean row))).start
+BeginsAt n head row = Unit {0}
+
+-- the names that the reader keeps are those of the open patterns and entries
+pub record AreNamed (names : Names) (f : Frame) (fs : List Frame) : Type 0 where
+  pub sets : Known (f ∷ fs) names.sets.items
+  pub texts : texts_of names ≡ entries_of (f ∷ fs)
+  pub ranges : names.ranges.items ≡ ranges_of (f ∷ fs)
+  pub second : BeginsAt names.second f.head f.row
+
+-- the reader stands where the machine does
+pub record Holds (m : Machine) (s : State) (names : Names) : Type 0 where
+  pub top : Frame
+  pub under : List Frame
+  pub frames : m.frames ≡ top ∷ under
+  pub state : s ≡ flat m
+  pub well : IsWell top under m.left m.reached
+  pub named : AreNamed names top under
+
+-- and the innermost mark is taken
+pub record Holding (top : Frame) (under : List Frame) (ts : List Token) (n : ℕ) (m : Machine) (mark : Mark) (s : State) (names : Names) : Type 0 where
+  pub machine_is : m ≡ machine (top ∷ under) ts n m.faults
+  pub mark_is : mark ≡ mark_of top under
+  pub state : s ≡ popped m
+  pub well : IsWell top under ts n
+  pub named : AreNamed names top under
+
+-- so it is for some innermost frame
+abbrev pub IsHolding : Machine → Mark → State → Names → Type 0
+IsHolding m mark s names = (top : Frame) × (under : List Frame) × (ts : List Token) × (n : ℕ) × Holding top under ts n m mark s names
+
+-- the action there
+abbrev pub action_of : Mark → State → Action
+action_of mark s = action_at mark.place (head_kind (items s.rest)) (touches s.reached (items s.rest))
+
+-- the text is read
+abbrev pub is_finish : Action → Bool
+is_finish a.Finish = true
+is_finish action = false
+
+-- an operand that begins with a pattern opens a set of names
+abbrev pub opens_pattern : Begin → Bool
+opens_pattern b.BoundLambda = true
+opens_pattern b.PatternLambda = true
+opens_pattern begin = false
+
+-- the next items begin with a pattern
+abbrev pub opens_on : ℕ → List Token → Bool
+opens_on level [] = false
+opens_on level (t ∷ us) = opens_pattern (begin_of level t.kind t.text (head_kind us) (second_kind us))
+
+-- a set of names is opened, or the names stay
+abbrev pub NamesFor : Bool → Names → Names → Type 0
+NamesFor true n n' = PatternOpened n n'
+NamesFor false n n' = n' ≡ n
+
+-- a whole text is read
+pub record IsReadTo (ts : List Token) (s : State) : Type 0 where
+  pub root : Frame
+  pub last : Machine
+  pub runs : Runs true (begins ts) last
+  pub alone : last.frames ≡ root ∷ []
+  pub head : root.head ≡ Node NODE_ROOT
+  pub place : root.place ≡ p.RootEnd
+  pub nothing : items last.left ≡ []
+  pub trees : s.trees ≡ node NODE_ROOT (forget (ate true root.row last.left)) empty
+  pub nodes : s.open_nodes ≡ []
+  pub faults : s.faults ≡ last.faults
+
+-- the weights of all that is open
+abbrev pub weights : List Mark → ℕ
+weights [] = 0
+weights (m ∷ ms) = weight m.place + weights ms
+
+-- an error is told, if there is one
+abbrev pub told_of : Option Fault → State → State
+told_of None s = s
+told_of (Some e) s = failed e s
+
+-- the entry's name is kept, and its node is closed
+pub record EntryTold (s : State) (n : Names) (s' : State) (n' : Names) : Type 0 where
+  pub again : Option Fault
+  pub closed : EntryClosed again n n'
+  pub state : s' ≡ told_of again (ended s)
+
+-- a second name is open
+pub record TwiceOpened (start : ℕ) (n n' : Names) : Type 0 where
+  pub sets : n'.sets.items ≡ n.sets.items
+  pub texts : texts_of n' ≡ texts_of n
+  pub ranges : n'.ranges.items ≡ n.ranges.items
+  pub second : n'.second ≡ start
+
+-- what a step makes of the names
+abbrev pub NamesAfter : Action → Mark → State → Names → Names → Type 0
+NamesAfter a.ClosePattern mark s n n' = PatternClosed n n'
+NamesAfter a.CloseEntry mark s n n' = (again : Option Fault) × EntryClosed again n n'
+NamesAfter (a.Entry after) mark s n n' = (t : Token) → head_of (items s.rest) ≡ Some t → EntryOpened t.text record { start = t.start; end = t.end } n n'
+NamesAfter (a.Twice after) mark s n n' = (t : Token) → head_of (items s.rest) ≡ Some t → TwiceOpened t.start n n'
+NamesAfter (a.Read level counted after) mark s n n' = NamesFor (if counted && nat_le depth_limit mark.depth then false else opens_on level (items s.rest)) n n'
+NamesAfter a.Apply mark s n n' = NamesFor (opens_on 16 (items s.rest)) n n'
+NamesAfter action mark s n n' = n' ≡ n
+
+-- what is added where a node may begin without an item
+abbrev pub bonus_on : List Token → List Mark → ℕ
+bonus_on [] ms = 0
+bonus_on (t ∷ ts) [] = 0
+bonus_on (t ∷ ts) (m ∷ []) = bonus m.place
+bonus_on (t ∷ ts) (m ∷ ms) = bonus_on (t ∷ ts) ms
+
+-- how much there is still to do
+abbrev pub work : State → ℕ
+work s = 100 * length (items s.rest) + weights s.marks + bonus_on (items s.rest) s.marks
+
+-- the machine has come as far as the reader
+abbrev pub IsGoing : List Token → State → Names → Type 0
+IsGoing ts s names = (m : Machine) × Runs true (begins ts) m × Holds m s names

@@ -1,0 +1,54 @@
+-- The names of a pattern's entries.
+use Rattle.std.specs.Prelude.{◌≡◌, ℕ, Bool, true, false, List, [], ◌∷◌, ◌++◌, map, Option, Some, None, if◌then◌else◌}
+use Rattle.std.specs.BTreeSet.{contains_by}
+use Rattle.std.specs.Cmp.Lexicographic.{slice_cmp}
+use Rattle.std.specs.Ordering.{nat_cmp}
+use Rattle.std.specs.Str.{bytes_eq}
+use Rattle.rnix_tree.specs.Range.{Extent}
+use Rattle.rnix_reader.specs.declared.names.NameSet.{NameSet}
+use Rattle.rnix_grammar.specs.Fault.{Fault, named_twice}
+use Rattle.rnix_reader.specs.declared.names.Names.{Names}
+
+-- a set has the name
+abbrev pub has_name : List ℕ → NameSet → Bool
+has_name name s = contains_by (λ x. slice_cmp nat_cmp name x.now) s.names
+
+-- the names of open entries
+abbrev pub texts_of : Names → List (List ℕ)
+texts_of n = map (λ x. x.now) n.entries.items
+
+-- a pattern is open, with no names
+pub record PatternOpened (n n' : Names) : Type 0 where
+  pub set : NameSet
+  pub none : (name : List ℕ) → has_name name set ≡ false
+  pub sets : n'.sets.items ≡ n.sets.items ++ set ∷ []
+  pub entries : texts_of n' ≡ texts_of n
+  pub ranges : n'.ranges.items ≡ n.ranges.items
+  pub second : n'.second ≡ n.second
+
+-- the innermost pattern is complete
+pub record PatternClosed (n n' : Names) : Type 0 where
+  pub sets : (below : List NameSet) (s : NameSet) → n.sets.items ≡ below ++ s ∷ [] → n'.sets.items ≡ below
+  pub entries : texts_of n' ≡ texts_of n
+  pub ranges : n'.ranges.items ≡ n.ranges.items
+  pub second : n'.second ≡ n.second
+
+-- an entry is open
+pub record EntryOpened (text : List ℕ) (range : Extent) (n n' : Names) : Type 0 where
+  pub sets : n'.sets.items ≡ n.sets.items
+  pub entries : texts_of n' ≡ texts_of n ++ text ∷ []
+  pub ranges : n'.ranges.items ≡ n.ranges.items ++ range ∷ []
+  pub second : n'.second ≡ n.second
+
+-- it is complete: the pattern has one more name
+pub record Entered (text : List ℕ) (below : List NameSet) (s : NameSet) (n' : Names) : Type 0 where
+  pub set : NameSet
+  pub has : (other : List ℕ) → has_name other set ≡ (if bytes_eq text other then true else has_name other s)
+  pub sets : n'.sets.items ≡ below ++ set ∷ []
+
+-- an entry is complete, and an error is told if it repeats a name
+pub record EntryClosed (again : Option Fault) (n n' : Names) : Type 0 where
+  pub entered : (texts : List (List ℕ)) (text : List ℕ) (ranges : List Extent) (range : Extent) (below : List NameSet) (s : NameSet)
+      → texts_of n ≡ texts ++ text ∷ [] → n.ranges.items ≡ ranges ++ range ∷ [] → n.sets.items ≡ below ++ s ∷ []
+      → Entered text below s n' × (texts_of n' ≡ texts) × (n'.ranges.items ≡ ranges) × (again ≡ (if has_name text s then Some (named_twice range text) else None))
+  pub second : n'.second ≡ n.second

@@ -1,0 +1,100 @@
+-- What the reader holds, as values: the tokens that are left, the trees so far, the open nodes, the errors, where the last item ended, and
+-- the marks of all that is open; and its single steps.
+use Rattle.std.specs.Prelude.{ℕ, List, [], ◌∷◌, ◌++◌, map}
+use Rattle.rnix_kinds.specs.declared.kinds.SyntaxKind.{SyntaxKind}
+use Rattle.rnix_tree.specs.Forest.{Forest, join, tree_count}
+use Rattle.rnix_tree.specs.Draft.{Draft, OpenNode, node_closed}
+use Rattle.rnix_grammar.specs.Fault.{Fault, fault_of}
+use Rattle.rnix_grammar.specs.Sketch.{Token, row_of, forget, end_from}
+use Rattle.rnix_grammar.specs.Layout.{items, from_item, trivia_before, tail_of, left_after, dressed}
+use Rattle.rnix_grammar.specs.Machine.{leaf_in, end_of}
+use Rattle.rnix_reader.specs.declared.mark.Mark.{Mark}
+use Rattle.rnix_reader.specs.declared.parser.Parser.{Parser}
+
+-- what the reader holds, as one value
+pub record State : Type 0 where
+  pub rest : List Token
+  pub trees : Forest
+  pub open_nodes : List OpenNode
+  pub faults : List Fault
+  pub reached : ℕ
+  pub marks : List Mark
+
+-- what a reader holds
+abbrev pub state : Parser → State
+state p = record {
+  rest = p.cursor;
+  trees = p.builder.finished;
+  open_nodes = p.builder.open_nodes;
+  faults = map fault_of p.errors.items;
+  reached = p.reached;
+  marks = p.marks.items;
+}
+
+-- the tokens that are left and are no trivia
+abbrev pub items_left : State → List Token
+items_left s = items s.rest
+
+-- the trivia before the next item are read
+unfoldable pub eaten : State → State
+eaten s = record {
+  rest = from_item s.rest;
+  trees = join s.trees (forget (trivia_before s.rest));
+  open_nodes = s.open_nodes;
+  faults = s.faults;
+  reached = s.reached;
+  marks = s.marks;
+}
+
+-- and the next item, as a leaf below a node of the kind
+unfoldable pub bumped : SyntaxKind → State → State
+bumped k s = record {
+  rest = tail_of (from_item s.rest);
+  trees = join (join s.trees (forget (trivia_before s.rest))) (forget (leaf_in k (from_item s.rest)));
+  open_nodes = s.open_nodes;
+  faults = s.faults;
+  reached = end_of s.reached (from_item s.rest);
+  marks = s.marks;
+}
+
+-- and a run of items, as leaves of their own kinds
+unfoldable pub skipped : List Token → State → State
+skipped run s = record {
+  rest = left_after (row_of run) s.rest;
+  trees = join s.trees (forget (dressed (row_of run) s.rest));
+  open_nodes = s.open_nodes;
+  faults = s.faults;
+  reached = end_from s.reached run;
+  marks = s.marks;
+}
+
+-- a node is opened at a place
+unfoldable pub started_at : ℕ → SyntaxKind → State → State
+started_at place k s = record {
+  rest = s.rest;
+  trees = s.trees;
+  open_nodes = (k, place) ∷ s.open_nodes;
+  faults = s.faults;
+  reached = s.reached;
+  marks = s.marks;
+}
+
+-- a node is opened at the next item
+unfoldable pub started : SyntaxKind → State → State
+started k s = started_at (tree_count (eaten s).trees) k (eaten s)
+
+-- a draft in place of the trees and the open nodes
+abbrev pub closed_on : Draft → State → State
+closed_on d s = record { rest = s.rest; trees = d.finished; open_nodes = d.open_nodes; faults = s.faults; reached = s.reached; marks = s.marks }
+
+-- the innermost node is closed
+unfoldable pub ended : State → State
+ended s = closed_on (node_closed record { finished = s.trees; open_nodes = s.open_nodes }) s
+
+-- an error is reported
+unfoldable pub failed : Fault → State → State
+failed e s = record { rest = s.rest; trees = s.trees; open_nodes = s.open_nodes; faults = s.faults ++ e ∷ []; reached = s.reached; marks = s.marks }
+
+-- something more is open
+unfoldable pub marked : Mark → State → State
+marked m s = record { rest = s.rest; trees = s.trees; open_nodes = s.open_nodes; faults = s.faults; reached = s.reached; marks = s.marks ++ m ∷ [] }

@@ -1,0 +1,15 @@
+//! The reader: it goes over the tokens of a text step by step, and builds the tree.
+#![tactic(auto)]
+
+mod cursor;
+mod document;
+mod mark;
+mod names;
+mod operands;
+mod parser;
+mod reading;
+mod runs;
+mod steps;
+mod told;
+
+pub use document::read_tokens;

@@ -1,0 +1,119 @@
+//! The names of the patterns that are being read.
+
+ghost use Rattle.std.specs.Prelude.{◌≡◌, ◌++◌, ◌∷◌, [], ℕ, List, IfOk, OnOk, option_map, false, true, ◌||◌, if◌then◌else◌};
+ghost use Rattle.std.specs.Str.{bytes_eq};
+ghost use Rattle.rnix_grammar.specs.Fault.{fault_of};
+ghost use Rattle.rnix_reader.specs.Names.{has_name, PatternOpened, PatternClosed, EntryOpened, EntryClosed};
+
+use rnix_grammar::ParseError;
+use rnix_tree::TextRange;
+use std::alloc::{AllocError, Global};
+use std::collections::BTreeSet;
+
+/// The names of a pattern's entries.
+#[derive(Drop)]
+pub(crate) struct NameSet<'t> {
+    pub(crate) names: BTreeSet<&'t str>,
+}
+
+impl<'t> NameSet<'t> {
+    /// No names.
+    pub(crate) fn new(alloc: Global) -> Self
+        ensures { (name : List ℕ) → has_name name result ≡ false }
+    {
+        NameSet {
+            names: BTreeSet::new(alloc),
+        }
+    }
+
+    /// Whether it has the name.
+    pub(crate) fn contains(&self, name: &'t str) -> bool
+        ensures { result ≡ has_name name.now self.now }
+    {
+        self.names.contains(name)
+    }
+
+    /// One more name.
+    pub(crate) fn insert(&mut self, name: &'t str) -> Result<(), AllocError>
+        ensures { (other : List ℕ) → OnOk result (has_name other self.new ≡ (if bytes_eq name.now other then true else has_name other self.old)) }
+    {
+        self.names.insert(name)?;
+        Ok(())
+    }
+}
+
+/// The names that are known of what is open.
+#[derive(Drop)]
+pub(crate) struct Names<'t> {
+    /// Of each open pattern.
+    pub(crate) sets: Vec<NameSet<'t>>,
+    /// Of each open entry of a pattern, and where it stands.
+    pub(crate) entries: Vec<&'t str>,
+    pub(crate) ranges: Vec<TextRange>,
+    /// Where the second name of a pattern begins, while it is open.
+    pub(crate) second: usize,
+}
+
+impl<'t> Names<'t> {
+    /// Nothing is open.
+    pub(crate) fn new(alloc: Global) -> Self
+        ensures sets { result.sets.items ≡ [] }
+        ensures entries { result.entries.items ≡ [] }
+        ensures ranges { result.ranges.items ≡ [] }
+    {
+        Names {
+            sets: Vec::new(alloc),
+            entries: Vec::new(alloc),
+            ranges: Vec::new(alloc),
+            second: 0,
+        }
+    }
+
+    /// A pattern is open.
+    pub(crate) fn open_pattern(&mut self) -> Result<(), AllocError>
+        ensures { OnOk result (PatternOpened self.old self.new) }
+    {
+        let set = NameSet::new(*self.sets.allocator());
+        self.sets.push(set)?;
+        Ok(())
+    }
+
+    /// A pattern is complete.
+    pub(crate) fn close_pattern(&mut self)
+        ensures { PatternClosed self.old self.new }
+    {
+        self.sets.pop();
+    }
+
+    /// An entry is open.
+    pub(crate) fn open_entry(&mut self, text: &'t str, range: TextRange) -> Result<(), AllocError>
+        ensures { OnOk result (EntryOpened text.now range self.old self.new) }
+    {
+        self.entries.push(text)?;
+        self.ranges.push(range)?;
+        Ok(())
+    }
+
+    /// An entry is complete: the error, if an earlier entry has its name.
+    pub(crate) fn close_entry(&mut self) -> Result<Option<ParseError>, AllocError>
+        ensures { IfOk result (λ again. EntryClosed (option_map fault_of again) self.old self.new) }
+    {
+        let Some(text) = self.entries.pop() else {
+            return Ok(None);
+        };
+        let Some(range) = self.ranges.pop() else {
+            return Ok(None);
+        };
+        let Some(mut set) = self.sets.pop() else {
+            return Ok(None);
+        };
+        let repeats = set.contains(text);
+        set.insert(text)?;
+        self.sets.push(set)?;
+        if repeats {
+            let name = String::from_str(*self.sets.allocator(), text)?;
+            return Ok(Some(ParseError::DuplicatedArgs(range, name)));
+        }
+        Ok(None)
+    }
+}

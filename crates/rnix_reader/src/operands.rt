@@ -1,0 +1,128 @@
+//! Operands: what they begin with.
+
+ghost use Rattle.std.specs.Prelude.{◌≡◌, ◌∷◌, [], ℕ, OnOk, true, false, Some, None, if◌then◌else◌};
+ghost use Rattle.rnix_kinds.specs.declared.kinds.SyntaxKind.TheVariants.{NODE_ROOT, NODE_ERROR, NODE_IDENT, NODE_IDENT_PARAM, NODE_LAMBDA, NODE_PATTERN, NODE_PAT_BIND};
+ghost use Rattle.rnix_grammar.specs.declared.place.Place.TheVariants.{LambdaColon, PatternBrace};
+ghost use Rattle.rnix_grammar.specs.Begins.{begin_of};
+ghost use Rattle.rnix_grammar.specs.Sketch.{head_of, head_kind};
+ghost use Rattle.rnix_grammar.specs.Layout.{tail_of};
+ghost use Rattle.rnix_grammar.specs.Machine.{second_kind};
+ghost use Rattle.rnix_reader.specs.Placed.{token_of};
+ghost use Rattle.rnix_reader.specs.State.{State, state, items_left, bumped, started, ended};
+ghost use Rattle.rnix_reader.specs.Steps.{noded, operand_begun, looks_behind, is_brace};
+
+use crate::cursor::PlacedToken;
+use crate::parser::Parser;
+use rnix_grammar::{Begin, Place, begin_of};
+use rnix_kinds::SyntaxKind;
+use std::alloc::AllocError;
+
+// Whether it matters to an operand what stands behind its first item.
+fn looks_behind(kind: SyntaxKind) -> bool
+    ensures { result ≡ looks_behind kind }
+{
+    matches!(
+        kind,
+        SyntaxKind::TOKEN_IDENT | SyntaxKind::TOKEN_L_BRACE | SyntaxKind::TOKEN_LET
+    )
+}
+
+// Whether the third item matters too.
+fn is_brace(kind: SyntaxKind) -> bool
+    ensures { result ≡ is_brace kind }
+{
+    matches!(kind, SyntaxKind::TOKEN_L_BRACE)
+}
+
+impl<'t> Parser<'t> {
+    // The kind of the second item, where it matters to an operand that begins with a token of the kind.
+    fn second_of(&self, kind: SyntaxKind) -> Option<SyntaxKind>
+        ensures { result ≡ (if looks_behind kind then head_kind (tail_of (items_left (state self.now))) else None) }
+    {
+        if looks_behind(kind) {
+            return self.cursor.second();
+        }
+        None
+    }
+
+    // The kind of the third item, where it matters.
+    fn third_of(&self, kind: SyntaxKind) -> Option<SyntaxKind>
+        ensures { result ≡ (if is_brace kind then second_kind (tail_of (items_left (state self.now))) else None) }
+    {
+        if is_brace(kind) {
+            return self.cursor.third();
+        }
+        None
+    }
+
+    /// How an operand begins with the next item.
+    pub(crate) fn beginning(&self, level: u8, first: PlacedToken<'_>) -> Begin
+        requires { head_of (items_left (state self.now)) ≡ Some (token_of first) }
+        ensures { result ≡ begin_of level first.entry.kind first.entry.text.now (head_kind (tail_of (items_left (state self.now)))) (second_kind (tail_of (items_left (state self.now)))) }
+    {
+        let kind = first.kind;
+        let second = self.second_of(kind);
+        let third = self.third_of(kind);
+        begin_of(level, (kind, first.text), second, third)
+    }
+
+    /// The parameter of a function.
+    pub(crate) fn parameter(&mut self) -> Result<(), AllocError>
+        ensures { OnOk result (state self.new ≡ ended (ended (bumped NODE_IDENT (started NODE_IDENT (started NODE_IDENT_PARAM (state self.old)))))) }
+    {
+        self.start_node(SyntaxKind::NODE_IDENT_PARAM)?;
+        self.leaf_node(SyntaxKind::NODE_IDENT)?;
+        self.finish_node()?;
+        Ok(())
+    }
+
+    /// A name that is bound to a pattern, and `@`.
+    pub(crate) fn binding(&mut self) -> Result<(), AllocError>
+        ensures { OnOk result (state self.new ≡ ended (bumped NODE_PAT_BIND (ended (bumped NODE_IDENT (started NODE_IDENT (started NODE_PAT_BIND (state self.old))))))) }
+    {
+        self.start_node(SyntaxKind::NODE_PAT_BIND)?;
+        self.leaf_node(SyntaxKind::NODE_IDENT)?;
+        self.bump(SyntaxKind::NODE_PAT_BIND)?;
+        self.finish_node()?;
+        Ok(())
+    }
+
+    /// An operand that is a node over the next item.
+    pub(crate) fn leaf_operand(
+        &mut self,
+        kind: SyntaxKind,
+        over: Place,
+        depth: usize,
+    ) -> Result<(), AllocError>
+        ensures { OnOk result (state self.new ≡ ended (bumped kind (started kind (operand_begun over depth (state self.old))))) }
+    {
+        self.open_operand(over, depth)?;
+        self.leaf_node(kind)?;
+        Ok(())
+    }
+
+    /// An operand that is a node, which begins with the next item.
+    pub(crate) fn node_operand(
+        &mut self,
+        kind: SyntaxKind,
+        inside: Place,
+        over: Place,
+        depth: usize,
+    ) -> Result<(), AllocError>
+        ensures { OnOk result (state self.new ≡ bumped kind (noded kind inside depth (operand_begun over depth (state self.old)))) }
+    {
+        self.open_operand(over, depth)?;
+        self.open_node(kind, inside, depth)?;
+        self.bump(kind)?;
+        Ok(())
+    }
+
+    /// An operand that is a function, before its parameter.
+    pub(crate) fn lambda(&mut self, over: Place, depth: usize) -> Result<(), AllocError>
+        ensures { OnOk result (state self.new ≡ noded NODE_LAMBDA LambdaColon depth (operand_begun over depth (state self.old))) }
+    {
+        self.open_operand(over, depth)?;
+        self.open_node(SyntaxKind::NODE_LAMBDA, Place::LambdaColon, depth)?;
+        Ok(())
+    }
+}

@@ -1,0 +1,162 @@
+//! The reader's state: each step moves a cursor over the tokens and builds the tree.
+
+ghost use Rattle.std.specs.Prelude.{◌≡◌, ◌<◌, ◌++◌, ◌∷◌, [], ℕ, length, map, IfOk, OnOk, IsTrue, true, Some, None, option_map};
+ghost use Rattle.std.specs.Option.{option_to_list};
+ghost use Rattle.rnix_tree.specs.Forest.{tree_count};
+ghost use Rattle.rnix_tree.specs.Draft.{is_inside, is_checkpoint_of};
+ghost use Rattle.rnix_grammar.specs.Fault.{fault_of};
+ghost use Rattle.rnix_grammar.specs.Sketch.{head_of, head_kind};
+ghost use Rattle.rnix_grammar.specs.Machine.{touches};
+ghost use Rattle.rnix_reader.specs.Placed.{token_of, AreInOrder};
+ghost use Rattle.rnix_reader.specs.State.{State, state, items_left, eaten, bumped, started, started_at, ended, failed, marked};
+
+use crate::cursor::{Cursor, PlacedToken};
+use crate::mark::Mark;
+use crate::told::told_as;
+use rnix_grammar::{ParseError, Place};
+use rnix_kinds::SyntaxKind;
+use rnix_tree::{Checkpoint, GreenNodeBuilder};
+use std::alloc::AllocError;
+
+/// Reads tokens, builds the tree and keeps the errors and what is open.
+#[derive(Drop)]
+pub(crate) struct Parser<'t> {
+    pub(crate) cursor: Cursor<'t>,
+    pub(crate) builder: GreenNodeBuilder,
+    pub(crate) errors: Vec<ParseError>,
+    /// Where the last item ended, in bytes.
+    pub(crate) reached: usize,
+    pub(crate) marks: Vec<Mark>,
+}
+
+impl<'t> Parser<'t> {
+    /// The next token that is not trivia.
+    pub(crate) fn item(&self) -> Option<PlacedToken<'t>>
+        ensures { option_map token_of result ≡ head_of (items_left (state self.now)) }
+    {
+        self.cursor.item()
+    }
+
+    /// The kind of the next token that is not trivia.
+    pub(crate) fn peek(&self) -> Option<SyntaxKind>
+        ensures { result ≡ head_kind (items_left (state self.now)) }
+    {
+        match self.item() {
+            Some(item) => Some(item.kind),
+            None => None,
+        }
+    }
+
+    /// Whether no trivia stand between the last item and the next.
+    pub(crate) fn touches(&self) -> bool
+        ensures { result ≡ touches (state self.now).reached (items_left (state self.now)) }
+    {
+        match self.item() {
+            Some(item) => item.start == self.reached,
+            None => false,
+        }
+    }
+
+    /// Reads the trivia before the next item.
+    pub(crate) fn eat_trivia(&mut self) -> Result<(), AllocError>
+        ensures state { OnOk result (state self.new ≡ eaten (state self.old)) }
+        ensures nodes { OnOk result (self.new.builder.open_nodes ≡ self.old.builder.open_nodes) }
+    {
+        while let Some(token) = self.cursor.token() {
+            if !token.kind.is_trivia() {
+                return Ok(());
+            }
+            self.builder.token(token.kind, token.text)?;
+            self.cursor.advance();
+        }
+        Ok(())
+    }
+
+    /// Opens a node at the next item.
+    #[tactic(auto, unfolding(crate::specs::State::started, crate::specs::State::started_at, crate::specs::State::eaten))]
+    pub(crate) fn start_node(&mut self, kind: SyntaxKind) -> Result<Checkpoint, AllocError>
+        ensures state { OnOk result (state self.new ≡ started kind (state self.old)) }
+        ensures place { IfOk result (λ place. place ≡ tree_count (eaten (state self.old)).trees) }
+        ensures open { OnOk result (0 < length self.new.builder.open_nodes) }
+    {
+        self.eat_trivia()?;
+        let place = self.builder.checkpoint();
+        self.builder.start_node(kind)?;
+        Ok(place)
+    }
+
+    /// Opens a node before what is read from a place on.
+    #[tactic(auto, unfolding(crate::specs::State::started_at))]
+    pub(crate) fn start_node_at(
+        &mut self,
+        place: Checkpoint,
+        kind: SyntaxKind,
+    ) -> Result<(), AllocError>
+        requires { IsTrue (is_checkpoint_of self.old.builder place) }
+        ensures state { OnOk result (state self.new ≡ started_at place kind (state self.old)) }
+        ensures open { OnOk result (0 < length self.new.builder.open_nodes) }
+    {
+        self.builder.start_node_at(place, kind)
+    }
+
+    /// Closes the innermost node.
+    #[tactic(auto, unfolding(crate::specs::State::ended))]
+    pub(crate) fn finish_node(&mut self) -> Result<(), AllocError>
+        requires { 0 < length self.old.builder.open_nodes }
+        ensures { OnOk result (state self.new ≡ ended (state self.old)) }
+    {
+        self.builder.finish_node()
+    }
+
+    /// Reports an error.
+    #[tactic(auto, unfolding(crate::specs::State::failed))]
+    pub(crate) fn fail(&mut self, error: ParseError) -> Result<(), AllocError>
+        ensures { OnOk result (state self.new ≡ failed (fault_of error) (state self.old)) }
+    {
+        self.errors.push(error)?;
+        Ok(())
+    }
+
+    /// Something more is open, which goes on at the place.
+    #[tactic(auto, unfolding(crate::specs::State::marked))]
+    pub(crate) fn mark(
+        &mut self,
+        place: Place,
+        depth: usize,
+        at: Checkpoint,
+    ) -> Result<(), AllocError>
+        ensures state { OnOk result (state self.new ≡ marked record { place = place; depth = depth; at = at } (state self.old)) }
+        ensures builder { OnOk result (self.new.builder ≡ self.old.builder) }
+    {
+        self.marks.push(Mark { place, depth, at })?;
+        Ok(())
+    }
+
+    /// Reads the next item as a leaf below a node of the kind.
+    pub(crate) fn bump(&mut self, parent: SyntaxKind) -> Result<(), AllocError>
+        ensures state { OnOk result (state self.new ≡ bumped parent (state self.old)) }
+        ensures nodes { OnOk result (self.new.builder.open_nodes ≡ self.old.builder.open_nodes) }
+    {
+        self.eat_trivia()?;
+        if let Some(token) = self.cursor.token() {
+            self.builder.token(told_as(parent, token.kind), token.text)?;
+            self.cursor.advance();
+            self.reached = token.end;
+        }
+        Ok(())
+    }
+
+    /// The place behind what is read.
+    pub(crate) fn here(&self) -> Checkpoint
+        ensures place { result ≡ tree_count (state self.now).trees }
+    {
+        self.builder.checkpoint()
+    }
+
+    /// No token ends before it begins, or begins before the one before it ends.
+    pub(crate) fn ordered(&self)
+        ensures { AreInOrder 0 (state self.now).rest }
+    {
+        self.cursor.ordered();
+    }
+}

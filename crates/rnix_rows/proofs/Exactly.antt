@@ -1,0 +1,88 @@
+-- What is read without an error and a corner is a derivation of its items.
+use Rattle.std.proofs.Common.{◌≡◌, ◌≤◌, ℕ, Bool, true, false, List, [], ◌∷◌, ◌++◌, refl, ap, sym, ◌∙◌, subst, append-nil, append_assoc}
+use Rattle.std.specs.Prelude.{map, if◌then◌else◌}
+use Rattle.rnix_kinds.specs.declared.kinds.SyntaxKind.{SyntaxKind}
+use Rattle.rnix_kinds.specs.declared.kinds.SyntaxKind.TheVariants.{TOKEN_CUR_POS, TOKEN_IDENT, TOKEN_OR, NODE_CUR_POS, NODE_IDENT, NODE_ROOT}
+use Rattle.rnix_grammar.specs.Sketch.{Token, lexeme_of, Sketch, blank, token, branch, fault, tokens_in, forget, told_as, AreTold}
+use Rattle.rnix_grammar.specs.Named.{is_spelled, AreSpelled}
+use Rattle.rnix_grammar.specs.Strict.{untold, yield, is_or}
+use Rattle.rnix_grammar.specs.Grammar.{IsExpression}
+use Rattle.rnix_grammar.specs.Derivation.{beyond, laid, IsDerivation}
+use Rattle.rnix_grammar.specs.declared.place.Place.TheVariants.{RootStart}
+use Rattle.rnix_grammar.specs.Tables.{depth_limit}
+use Rattle.rnix_grammar.specs.Rows.{At}
+use Rattle.rnix_grammar.specs.Plain.{nesting, ArePaths}
+use Rattle.rnix_lemmas.proofs.Basics.{true_is_not_false}
+use Rattle.rnix_lemmas.proofs.OpeningRows.{spelled_first, spelled_rest}
+use Rattle.rnix_rows.proofs.StandsShapes.{AreBareRows}
+
+-- the trees of a row without error nodes, over its tokens, are the row
+pub beyond_row : (f : Sketch) (us : List Token) → AreBareRows f → beyond (forget f) (tokens_in f ++ us) ≡ us
+beyond_row blank us h = refl
+beyond_row (token k t f) us h = beyond_row f us h
+beyond_row (branch k c f) us h =
+    ap (λ x. beyond (forget f) (beyond (forget c) x)) (append_assoc (tokens_in c) (tokens_in f) us)
+    ∙ ap (beyond (forget f)) (beyond_row c (tokens_in f ++ us) h.2) ∙ beyond_row f us h.3
+beyond_row (fault n c f) us h = absurd h
+
+-- a row of bare trees, laid over its own tokens, is itself
+pub laid_row_same : (f : Sketch) (us : List Token) → AreBareRows f → laid (forget f) (tokens_in f ++ us) ≡ f
+laid_row_same blank us h = refl
+laid_row_same (token k t f) us h = ap (token k t) (laid_row_same f us h)
+laid_row_same (branch k c f) us h =
+    ap (λ x. branch k (laid (forget c) x) (laid (forget f) (beyond (forget c) x))) (append_assoc (tokens_in c) (tokens_in f) us)
+    ∙ ap (λ x. branch k x (laid (forget f) (beyond (forget c) (tokens_in c ++ (tokens_in f ++ us))))) (laid_row_same c (tokens_in f ++ us) h.2)
+    ∙ ap (λ x. branch k c (laid (forget f) x)) (beyond_row c (tokens_in f ++ us) h.2) ∙ ap (branch k c) (laid_row_same f us h.3)
+laid_row_same (fault n c f) us h = absurd h
+
+-- and so where no more tokens follow
+pub laid_same : (f : Sketch) → AreBareRows f → laid (forget f) (tokens_in f) ≡ f
+laid_same f h = ap (laid (forget f)) (sym (append-nil (tokens_in f))) ∙ laid_row_same f [] h
+
+-- each leaf stands for its token
+name_back : (text : List ℕ) → is_or text ≡ true → untold TOKEN_IDENT text ≡ TOKEN_OR
+name_back text h = ap (λ w. if w then TOKEN_OR else TOKEN_IDENT) h
+
+plain_back : (text : List ℕ) → (w : Bool) → is_or text ≡ w → (if w then false else true) ≡ true → untold TOKEN_IDENT text ≡ TOKEN_IDENT
+plain_back text true e h = absurd (true_is_not_false (sym h))
+plain_back text false e h = ap (λ v. if v then TOKEN_OR else TOKEN_IDENT) e
+
+kept_back : (k : SyntaxKind) (text : List ℕ) → is_spelled k text ≡ true → untold k text ≡ k
+kept_back TOKEN_IDENT text h = plain_back text (is_or text) refl h
+kept_back TOKEN_CUR_POS text h = absurd (true_is_not_false (sym h))
+kept_back _ text h = refl
+
+ident_back : (k : SyntaxKind) (text : List ℕ) → is_spelled k text ≡ true → untold (told_as NODE_IDENT k) text ≡ k
+ident_back TOKEN_OR text h = name_back text h
+ident_back TOKEN_CUR_POS text h = absurd (true_is_not_false (sym h))
+ident_back k text h = kept_back k text h
+
+told_back : (p k : SyntaxKind) (text : List ℕ) → is_spelled k text ≡ true → untold (told_as p k) text ≡ k
+told_back NODE_IDENT k text h = ident_back k text h
+told_back NODE_CUR_POS TOKEN_IDENT text h = refl
+told_back NODE_CUR_POS k text h = kept_back k text h
+told_back _ k text h = kept_back k text h
+
+map-++ : (ts us : List Token) → map lexeme_of ts ++ map lexeme_of us ≡ map lexeme_of (ts ++ us)
+map-++ [] us = refl
+map-++ (t ∷ ts) us = ap (λ x. lexeme_of t ∷ x) (map-++ ts us)
+
+-- so the trees stand for the tokens
+pub yields_same : (p : SyntaxKind) (f : Sketch) → AreBareRows f → AreTold p f → AreSpelled (tokens_in f) → yield (forget f) ≡ map lexeme_of (tokens_in f)
+yields_same p blank h t s = refl
+yields_same p (token k x f) h t s =
+    ap (λ z. (z, x.text) ∷ yield (forget f)) (ap (λ z. untold z x.text) t.0 ∙ told_back p x.kind x.text s.0) ∙ ap (λ z. lexeme_of x ∷ z) (yields_same p f h t.1 s.1)
+yields_same p (branch k c f) h t s =
+    ap (λ z. z ++ yield (forget f)) (yields_same k c h.2 t.0 (spelled_first (tokens_in c) (tokens_in f) s))
+    ∙ ap (λ z. map lexeme_of (tokens_in c) ++ z) (yields_same p f h.3 t.1 (spelled_rest (tokens_in c) (tokens_in f) s)) ∙ map-++ (tokens_in c) (tokens_in f)
+yields_same p (fault n c f) h t s = absurd h
+
+-- where the pieces of its paths touch, such a row is a derivation of its tokens
+pub derived : (f : Sketch) → AreBareRows f → AreTold NODE_ROOT f → AreSpelled (tokens_in f) → IsExpression (forget f) → nesting (At RootStart) (forget f) ≤ depth_limit → ArePaths f []
+    → IsDerivation (forget f) (tokens_in f)
+derived f h t s strict shallow paths = record {
+  strict = strict;
+  shallow = shallow;
+  yields = yields_same NODE_ROOT f h t s;
+  joined = subst (λ x. ArePaths x []) (sym (laid_same f h)) paths;
+}

@@ -1,0 +1,228 @@
+-- The rows of a sketch without trivia that stands as it may, and of its mended tree.
+use Rattle.std.proofs.Common.{◌≡◌, ◌⊎◌, inl, inr, ℕ, ◌+◌, ◌≤◌, Bool, true, false, List, [], ◌∷◌, ◌++◌, Option, Some, None, refl, ap, sym, ◌∙◌, subst, arith}
+use Rattle.std.specs.Prelude.{if◌then◌else◌}
+use Rattle.rnix_kinds.specs.declared.kinds.SyntaxKind.{SyntaxKind}
+use Rattle.rnix_kinds.specs.declared.kinds.SyntaxKind.TheVariants.{NODE_LITERAL, NODE_PATTERN, NODE_PAT_ENTRY}
+use Rattle.rnix_tree.specs.Forest.{Forest}
+use Rattle.rnix_grammar.specs.declared.place.Place.{Place}
+use Rattle.rnix_grammar.specs.declared.place.Place.TheVariants as places
+use Rattle.rnix_grammar.specs.Fault.{Fault, named_twice}
+use Rattle.rnix_grammar.specs.Sketch.{Token, Note, Stray, Unwanted, Extra, Twice, TooDeep, Sketch, tokens_in, extent_of}
+use Rattle.rnix_grammar.specs.Reports.{report, repeated_if, entry_name, has_entry}
+use Rattle.rnix_grammar.specs.Rows.{Spot, At, go, whole, live, start, run}
+use Rattle.rnix_grammar.specs.Stands.{Stands, end, leaf, lost, wrong, second, inner, repeats, IsBeside}
+use Rattle.rnix_grammar.specs.Mended.{patch, mended, kinds_of, halves, is_ended, ended_count}
+use Rattle.rnix_grammar.specs.Missing.{lack}
+use Rattle.rnix_lemmas.proofs.LackFacts.{lack_ended}
+use Rattle.rnix_rows.proofs.StandsFaults.{HasEnded, last_ended}
+use Rattle.rnix_lemmas.proofs.Completable.{IsCompletable, completed_at, lost_inside}
+use Rattle.rnix_lemmas.proofs.Owing.{owes, owing, owing_half, owing_goes}
+use Rattle.rnix_lemmas.proofs.RowEnds.{is_final, lost_final, final_full, final_goes, lost_half}
+use Rattle.rnix_lemmas.proofs.RowKinds.{has_row, starts_row}
+use Rattle.rnix_lemmas.proofs.ImitateLemmas.{Imitates, imitates_self, imitates_same, imitates_both, second_imitates, patched, run_patch, beside_imitates, beside_completable, pattern_goes, start_half, start_place}
+use Rattle.rnix_lemmas.proofs.Basics.{true_is_not_false, not_nil, none_right, none_left}
+use Rattle.rnix_lemmas.proofs.RowEndings.{row_tokens}
+
+-- a row with an error node begins as its kind's rows do
+beside_row : (n : Note) (p : SyntaxKind) (a : ℕ) (q r : Spot) (b : Sketch) (i : ℕ) (ts vs : List Token) (k : SyntaxKind) → IsBeside n p a q r b i ts vs → q ≡ start k → has_row k ≡ true
+beside_row Stray p a q r b i [] vs k h e = absurd h
+beside_row Stray p a q r b i (t ∷ ts) vs k h e = starts_row k NODE_LITERAL (ap (λ x. live (go x NODE_LITERAL)) (sym e) ∙ ap live h.3 ∙ h.4)
+beside_row (Unwanted until) p a q r b i [] vs k h e = absurd h
+beside_row (Unwanted until) p a q r b i (t ∷ ts) vs k h e = start_place k h.4 (sym h.6 ∙ e)
+beside_row Extra p a q r b i [] vs k h e = absurd h
+beside_row Extra p a q r b i (t ∷ ts) vs k h e = start_place k places.RootEnd (sym h.3 ∙ e)
+beside_row Twice p a q r b i ts vs k h e = absurd h
+beside_row TooDeep p a q r b i ts vs k h e = starts_row k NODE_LITERAL (ap (λ x. live (go x NODE_LITERAL)) (sym e) ∙ ap live h.3 ∙ h.4)
+
+-- a node that is complete is of a kind with rows
+pub stands_row : {p : SyntaxKind} {a : ℕ} {q q' : Spot} {b : Sketch} {i : ℕ} {us : List Token} {f : Sketch} {es : List Fault} (k : SyntaxKind)
+    → Stands p a q q' b i us f es → q ≡ start k → whole q' ≡ true → has_row k ≡ true
+stands_row k end e w = absurd (true_is_not_false (sym w ∙ ap whole e ∙ start_half k))
+stands_row k (leaf {k = j} h tight g l c m s) e w = starts_row k j (ap (λ x. live (go x j)) (sym e) ∙ ap live g ∙ l)
+stands_row k (lost {x = x} u n l s z) e w = start_place k x e
+stands_row {p = p} {a = a} {q = q} {b = b} {i = i} k (wrong {r = r} {vs = vs} n ts h v x d j s z) e w = beside_row n p a q r b i ts vs k x e
+stands_row k (second v s y p q r d j x z) e w = start_place k (places.PatternEnd true) (sym q ∙ e)
+stands_row k (inner {k = j} v s y form tight g l d m x z) e w = starts_row k j (ap (λ x. live (go x j)) (sym e) ∙ ap live g ∙ l)
+
+-- a row that ends whole can be completed from where it begins
+pub stands_completable : {p : SyntaxKind} {a : ℕ} {q q' : Spot} {b : Sketch} {i : ℕ} {us : List Token} {f : Sketch} {es : List Fault}
+    → Stands p a q q' b i us f es → whole q' ≡ true → IsCompletable q
+stands_completable end w = ([], w)
+stands_completable (leaf {k = k} h tight g l c j s) w = let m = stands_completable s w in (k ∷ m.0, ap (λ x. whole (run x m.0)) g ∙ m.1)
+stands_completable (lost {x = x} {y = y} {e = e} u n l s z) w = completed_at x (lost_inside x y e l)
+stands_completable {p = p} {a = a} {q = q} {b = b} {i = i} (wrong {r = r} {vs = vs} n ts h v x d j s z) w =
+    beside_completable n p a q r b i ts vs x (stands_completable s w)
+stands_completable (second v s y p q r d j x z) w = subst IsCompletable (sym q) (completed_at (places.PatternEnd true) refl)
+stands_completable (inner {k = k} v s y form tight g l d j x z) w = let m = stands_completable x w in (k ∷ m.0, ap (λ x. whole (run x m.0)) g ∙ m.1)
+
+-- a patch pays no token
+owing_patch : (n : Note) (q : Spot) (f : Forest) → owing q ≡ true → ((r : Spot) → owing r ≡ true → owing (run r (kinds_of f)) ≡ true) → owing (run q (kinds_of (patch n f))) ≡ true
+owing_patch Stray q f o h = h (go q NODE_LITERAL) (owing_goes q NODE_LITERAL o refl)
+owing_patch (Unwanted u) q f o h = h q o
+owing_patch Extra q f o h = h q o
+owing_patch Twice q f o h = h q o
+owing_patch TooDeep q f o h = h (go q NODE_LITERAL) (owing_goes q NODE_LITERAL o refl)
+
+-- what holds no token pays none
+pub owing_rest : {p : SyntaxKind} {a : ℕ} {q q' : Spot} {b : Sketch} {i : ℕ} {us : List Token} {f : Sketch} {es : List Fault}
+    → Stands p a q q' b i us f es → tokens_in f ≡ [] → (q0 : Spot) → owing q0 ≡ true → owing (run q0 (kinds_of (mended f))) ≡ true
+owing_rest end n q0 o = o
+owing_rest (leaf h tight g l c j s) n q0 o = absurd (not_nil n)
+owing_rest (lost u x l s z) n q0 o = owing_rest s n q0 o
+owing_rest (wrong {c = c} {f = f} note ts h v x d j s z) n q0 o = owing_patch note q0 (mended f) o (owing_rest s (none_right (tokens_in c) (tokens_in f) n))
+owing_rest (second {c = c} {f = f} v s y p q r d j x z) n q0 o = owing_rest x (none_right (tokens_in c) (tokens_in f) n) q0 o
+owing_rest (inner {c = c} {f = f} {k = k} v s y form tight g l d j x z) n q0 o =
+    owing_rest x (none_right (tokens_in c) (tokens_in f) n) (go q0 k) (owing_goes q0 k o (stands_row k s refl y))
+
+-- where nothing but a token may follow, nothing without one follows
+final_beside : (n : Note) (p : SyntaxKind) (a : ℕ) (q r : Spot) (b : Sketch) (i : ℕ) (ts vs : List Token) (y : Place) → ts ≡ [] → IsBeside n p a q r b i ts vs → q ≡ At y → is_final y ≡ true → ⊥
+final_beside Stray p a q r b i [] vs y n h e m = h
+final_beside Stray p a q r b i (t ∷ ts) vs y n h e m = not_nil n
+final_beside (Unwanted until) p a q r b i [] vs y n h e m = h
+final_beside (Unwanted until) p a q r b i (t ∷ ts) vs y n h e m = not_nil n
+final_beside Extra p a q r b i [] vs y n h e m = h
+final_beside Extra p a q r b i (t ∷ ts) vs y n h e m = not_nil n
+final_beside Twice p a q r b i ts vs y n h e m = h
+final_beside TooDeep p a q r b i ts vs y n h e m =
+    true_is_not_false (sym h.4 ∙ ap live (sym h.3) ∙ ap (λ x. live (go x NODE_LITERAL)) e ∙ final_goes y NODE_LITERAL m refl)
+
+-- something is missing or nothing
+some_is_not_none : {e : Fault} {y : Place} {o : Option (Fault × Place)} → o ≡ Some (e, y) → o ≡ None → ⊥
+some_is_not_none h k = cc
+
+-- so a row without tokens is empty there, when it is mended
+final_rest : {p : SyntaxKind} {a : ℕ} {q q' : Spot} {b : Sketch} {i : ℕ} {us : List Token} {f : Sketch} {es : List Fault} (y : Place)
+    → Stands p a q q' b i us f es → q ≡ At y → is_final y ≡ true → tokens_in f ≡ [] → kinds_of (mended f) ≡ []
+final_rest y end e m n = refl
+final_rest y (leaf h tight g l c j s) e m n = absurd (not_nil n)
+final_rest y (lost {x = x} u v l s z) e m n =
+    let same : x ≡ y = cc in
+    absurd (some_is_not_none l (ap lack same ∙ final_full y m))
+final_rest {p = p} {a = a} {q = q} {b = b} {i = i} y (wrong {r = r} {vs = vs} {c = c} {f = f} note ts h v x d j s z) e m n =
+    absurd (final_beside note p a q r b i ts vs y (row_tokens c ts h (none_left (tokens_in c) (tokens_in f) n)) x e m)
+final_rest y (second v s w p q r d j x z) e m n =
+    let same : places.PatternEnd true ≡ y = let both : At (places.PatternEnd true) ≡ At y = sym q ∙ e in cc in
+    absurd (true_is_not_false (sym m ∙ ap is_final (sym same)))
+final_rest y (inner {k = k} v s w form tight g l d j x z) e m n =
+    absurd (true_is_not_false (sym l ∙ ap live (sym g) ∙ ap (λ x. live (go x k)) e ∙ final_goes y k m (stands_row k s refl w)))
+
+-- a row with a part that is missing is not whole, however it is mended
+lost_by : {p : SyntaxKind} {a : ℕ} {x y : Place} {q0 q' : Spot} {b : Sketch} {i : ℕ} {us : List Token} {f : Sketch} {es : List Fault} {e : Fault} (o : Bool)
+    → owes x ≡ o → Imitates q0 (At x) → lack x ≡ Some (e, y) → tokens_in f ≡ [] → Stands p a (At y) q' b i us f es → whole (run q0 (kinds_of (mended f))) ≡ false
+lost_by {q0 = q0} {f = f} true h m l n s = owing_half (run q0 (kinds_of (mended f))) (owing_rest s n q0 (m.owes h))
+lost_by {x = x} {y = y} {q0 = q0} {e = e} false h m l n s =
+    ap (λ ks. whole (run q0 ks)) (final_rest y s refl (lost_final x y e l h) n) ∙ m.ends ∙ lost_half x y e l
+
+-- nodes that are not whole, and errors of the end; in a pattern the last name may miss an end that the node around the pattern misses too
+pub record Counts (m n : ℕ) (Loose : Type 0) : Type 0 where
+  pub few : m ≤ n
+  pub none : m ≡ 0 → (n ≡ 0) ⊎ Loose
+
+-- the errors of the end in two lists
+pub ended_count-++ : (es fs : List Fault) → ended_count (es ++ fs) ≡ ended_count es + ended_count fs
+ended_count-++ [] fs = omega arith
+ended_count-++ (e ∷ es) fs = let h : ended_count (es ++ fs) ≡ ended_count es + ended_count fs = ended_count-++ es fs in omega arith
+
+-- the error of an error node is none of them
+report_not_counted : (n : Note) (ts : List Token) (es : List Fault) → ended_count (report n ts ∷ es) ≡ ended_count es
+report_not_counted Stray ts es = omega arith
+report_not_counted _ ts es = first_of (omega arith, assumption, cc)
+
+-- nor is that of a repeated entry
+repeats_if_not_counted : (o : Option Token) (b : Sketch) → ended_count (repeated_if o b) ≡ 0
+repeats_if_not_counted None b = refl
+repeats_if_not_counted (Some t) b =
+    elim (has_entry t.text b) as (λ x. ended_count (if x then named_twice (extent_of (t ∷ [])) t.text ∷ [] else []) ≡ 0) [ true ↦ omega arith | false ↦ refl ]
+
+-- nor are those of a node
+repeats_not_counted : (k : SyntaxKind) (b c : Sketch) → ended_count (repeats k b c) ≡ 0
+repeats_not_counted NODE_PAT_ENTRY b c = repeats_if_not_counted (entry_name c) b
+repeats_not_counted _ b c = refl
+
+-- what is missing is one of them
+lost_counted : (e : Fault) (es : List Fault) → is_ended e ≡ true → ended_count (e ∷ es) ≡ 1 + ended_count es
+lost_counted e es h = ap (λ x. (if x then 1 else 0) + ended_count es) h
+
+-- a patch is whole
+halves_patch : (n : Note) (f : Forest) → halves (patch n f) ≡ halves f
+halves_patch Stray f = omega arith
+halves_patch _ f = first_of (omega arith, assumption, cc)
+
+-- no error of the end, or one
+ended_or : (es : List Fault) → (ended_count es ≡ 0) ⊎ HasEnded es
+ended_or [] = inl refl
+ended_or (e ∷ es) = by_first (is_ended e) refl (ended_or es)
+  where
+    by_first : (x : Bool) → is_ended e ≡ x → (ended_count es ≡ 0) ⊎ HasEnded es → (ended_count (e ∷ es) ≡ 0) ⊎ HasEnded (e ∷ es)
+    by_first true h w = inr (inl h)
+    by_first false h w = elim w [ inl n ↦ inl (ap (λ x. (if x then 1 else 0) + ended_count es) h ∙ omega (arith, n)) | inr n ↦ inr (inr n) ]
+
+-- how far a mended row is from whole
+abbrev pub half : Bool → ℕ
+half w = if w then 0 else 1
+
+-- equal numbers
+same_counts : {m m' n n' : ℕ} {L : Type 0} → m ≡ m' → n ≡ n' → Counts m n L → Counts m' n' L
+same_counts {m = m} {m' = m'} {n = n} {n' = n'} {L = L} e h c = subst (λ (x : ℕ). Counts x n' L) e (subst (λ (x : ℕ). Counts m x L) h c)
+
+-- the nodes that are not whole are no more than the errors of the end, and are some where these are
+pub stands_counts : {p : SyntaxKind} {a : ℕ} {q q' : Spot} {b : Sketch} {i : ℕ} {us : List Token} {f : Sketch} {es : List Fault} (q0 : Spot)
+    → Stands p a q q' b i us f es → whole q' ≡ true → Imitates q0 q
+    → Counts (half (whole (run q0 (kinds_of (mended f)))) + halves (mended f)) (ended_count es) ((p ≡ NODE_PATTERN) × (us ≡ []))
+stands_counts q0 end w m =
+    let all : half (whole q0) ≡ 0 = ap half (m.ends ∙ w) in
+    record { few = omega (arith, all); none = λ h. inl refl }
+stands_counts {p = p} {us = us} q0 (leaf {r = r} {f = f} {es = es} {k = k} h tight g l c j s) w m =
+    let on : go q0 k ≡ r = m.goes k (ap live g ∙ l) ∙ g in
+    stands_counts (go q0 k) s w (imitates_same (go q0 k) r on)
+stands_counts q0 (lost {x = x} {y = y} {f = f} {e = e} {es = es} u n l s z) w m =
+    let not : whole (run q0 (kinds_of (mended f))) ≡ false = lost_by (owes x) refl m l n s in
+    let one : half (whole (run q0 (kinds_of (mended f)))) ≡ 1 = ap half not in
+    let all = ap ended_count z ∙ lost_counted e es (lack_ended x y e l).0 in
+    let ih = stands_counts (At y) s w (imitates_self (At y)) in
+    let fewer : half (whole (run (At y) (kinds_of (mended f)))) + halves (mended f) ≤ ended_count es = ih.few in
+    same_counts refl (sym all) (record { few = omega (arith, one, fewer); none = λ h. absurd (omega (arith, one, h)) })
+stands_counts {p = p} {a = a} {q = q} {b = b} {i = i} q0 (wrong {r = r} {vs = vs} {f = f} {es = es} n ts h v x d j s z) w m =
+    let ih = stands_counts (patched n q0) s w (beside_imitates n p a q0 q r b i ts vs x m) in
+    same_counts (ap (λ o. half (whole o) + halves (mended f)) (sym (run_patch n q0 (mended f))) ∙ ap (λ o. half (whole (run q0 (kinds_of (patch n (mended f))))) + o) (sym (halves_patch n (mended f))))
+    (sym (ap ended_count z ∙ report_not_counted n ts es)) ih
+stands_counts {us = us} q0 (second {vs = vs} {c = c} {f = f} {ds = ds} {es = es} v s y p q r d j x z) w m =
+    let on : Imitates q0 (At places.PatternPast) = imitates_both (subst (Imitates q0) q m) second_imitates in
+    let ih = stands_counts q0 x w (subst (Imitates q0) (sym r) on) in
+    let one : ended_count (report Twice (tokens_in c) ∷ []) ≡ 0 = report_not_counted Twice (tokens_in c) [] in
+    let sum : ended_count ((ds ++ report Twice (tokens_in c) ∷ []) ++ es) ≡ ended_count ds + ended_count es =
+    ended_count-++ (ds ++ report Twice (tokens_in c) ∷ []) es ∙ ap (λ k. k + ended_count es) (ended_count-++ ds (report Twice (tokens_in c) ∷ []) ∙ ap (λ k. ended_count ds + k) one ∙ omega arith) in
+    let fewer : half (whole (run q0 (kinds_of (mended f)))) + halves (mended f) ≤ ended_count es = ih.few in
+    same_counts refl (sym (ap ended_count z ∙ sum)) (record {
+      few = omega (arith, fewer);
+      none = λ h.
+          elim (ended_or ds) [
+            | inl n ↦ elim (ih.none h) [ inl k ↦ inl (omega (arith, n, k)) | inr k ↦ inr k ]
+            | inr n ↦ inr (p, none_right (tokens_in f) us (sym v ∙ last_ended s n))
+          ];
+    })
+stands_counts {q = q} {b = b} {us = us} q0 (inner {r = r} {vs = vs} {c = c} {f = f} {ds = ds} {es = es} {k = k} v s y form tight g l d j x z) w m =
+    let on : go q0 k ≡ r = m.goes k (ap live g ∙ l) ∙ g in
+    let here = stands_counts (go q0 k) x w (imitates_same (go q0 k) r on) in
+    let below = stands_counts (start k) s y (imitates_self (start k)) in
+    let none : ended_count (repeats k b c) ≡ 0 = repeats_not_counted k b c in
+    let sum : ended_count ((ds ++ repeats k b c) ++ es) ≡ ended_count ds + ended_count es =
+    ended_count-++ (ds ++ repeats k b c) es ∙ ap (λ o. o + ended_count es) (ended_count-++ ds (repeats k b c) ∙ ap (λ o. ended_count ds + o) none ∙ omega arith) in
+    let a1 : half (whole (run (go q0 k) (kinds_of (mended f)))) + halves (mended f) ≤ ended_count es = here.few in
+    let a2 : half (whole (run (start k) (kinds_of (mended c)))) + halves (mended c) ≤ ended_count ds = below.few in
+    let in_lambda : (k ≡ NODE_PATTERN) × (vs ≡ []) → half (whole (run (go q0 k) (kinds_of (mended f)))) ≡ 1 = λ o.
+    let there : r ≡ At places.LambdaColon =
+    sym g ∙ ap (go q) o.0 ∙ pattern_goes q (ap (λ t. live (go q t)) (sym o.0) ∙ ap live g ∙ l) in
+    ap half (owing_half (run (go q0 k) (kinds_of (mended f))) (owing_rest x (none_left (tokens_in f) us (sym v ∙ o.1)) (go q0 k) (ap owing (on ∙ there)))) in
+    same_counts refl (sym (ap ended_count z ∙ sum)) (record {
+      few = omega (arith, a1, a2);
+      none = λ h.
+          elim (here.none (omega (arith, h))) [
+            | inl n ↦
+                elim (below.none (omega (arith, h))) [
+                  | inl o ↦ inl (omega (arith, n, o))
+                  | inr o ↦ let one : half (whole (run (go q0 k) (kinds_of (mended f)))) ≡ 1 = in_lambda o in absurd (omega (arith, h, one))
+                ]
+            | inr n ↦ inr n
+          ];
+    })

@@ -1,0 +1,2 @@
+//! What follows of a row of children that stands.
+#![tactic(auto)]

@@ -1,0 +1,98 @@
+//! What errors say, and which are equal.
+
+use rnix::{ParseError, Root, SyntaxKind, TextRange};
+use std::alloc::{AllocError, Global};
+use std::test::Fail;
+
+// A list of one kind.
+fn only(alloc: Global, kind: SyntaxKind) -> Result<Vec<SyntaxKind>, Fail> {
+    let mut kinds = Vec::new(alloc);
+    kinds.push(kind)?;
+    Ok(kinds)
+}
+
+#[test]
+fn errors_say_what_they_are(rt: HostRuntime) -> Result<(), Fail> {
+    let alloc = rt.alloc();
+    let range = TextRange::new(3, 5);
+    let wanted = only(alloc, SyntaxKind::TOKEN_R_PAREN)?;
+    let name = String::from_str(alloc, "a")?;
+    let rows = [
+        (ParseError::Unexpected(range), "error node at 3..5"),
+        (
+            ParseError::UnexpectedExtra(range),
+            "unexpected token at 3..5",
+        ),
+        (
+            ParseError::UnexpectedWanted(SyntaxKind::TOKEN_ADD, range, wanted),
+            "unexpected TOKEN_ADD at 3..5, wanted any of [TOKEN_R_PAREN]",
+        ),
+        (
+            ParseError::UnexpectedDoubleBind(range),
+            "unexpected double bind at 3..5",
+        ),
+        (ParseError::UnexpectedEOF, "unexpected end of file"),
+        (
+            ParseError::UnexpectedEOFWanted(Vec::new(alloc)),
+            "unexpected end of file, wanted any of []",
+        ),
+        (
+            ParseError::DuplicatedArgs(range, name),
+            "argument `a` is duplicated in 3..5",
+        ),
+        (
+            ParseError::RecursionLimitExceeded,
+            "recursion limit exceeded",
+        ),
+    ];
+    for (error, want) in rows {
+        let text = format!(in alloc; "{error}")?;
+        assert_eq!(rt; text.as_str(), want);
+    }
+    Ok(())
+}
+
+#[test]
+fn errors_differ_by_variant_and_fields(rt: HostRuntime) -> Result<(), Fail> {
+    let alloc = rt.alloc();
+    let range = TextRange::new(3, 5);
+    let error = ParseError::UnexpectedWanted(
+        SyntaxKind::TOKEN_ADD,
+        range,
+        only(alloc, SyntaxKind::TOKEN_R_PAREN)?,
+    );
+    assert!(rt; error == error.try_clone()?);
+    let other_list = ParseError::UnexpectedWanted(
+        SyntaxKind::TOKEN_ADD,
+        range,
+        only(alloc, SyntaxKind::TOKEN_R_BRACK)?,
+    );
+    assert!(rt; error != other_list);
+    assert!(rt; ParseError::Unexpected(range) != ParseError::UnexpectedExtra(range));
+    assert!(rt; ParseError::Unexpected(range) != ParseError::Unexpected(TextRange::new(3, 6)));
+    Ok(())
+}
+
+// Whether the copy of an error is equal to it.
+fn is_copied(error: &ParseError) -> Result<bool, AllocError> {
+    Ok(error.try_clone()? == *error)
+}
+
+#[test]
+fn errors_of_an_empty_parenthesis_are_copied(rt: HostRuntime) -> Result<(), Fail> {
+    let read = Root::parse(rt.alloc(), "()")?;
+    assert_eq!(rt; read.errors().len(), 2);
+    for error in read.errors() {
+        assert!(rt; is_copied(error)?);
+    }
+    Ok(())
+}
+
+#[test]
+fn what_was_read_is_copied_with_its_errors(rt: HostRuntime) -> Result<(), Fail> {
+    let read = Root::parse(rt.alloc(), "()")?;
+    let copy = read.try_clone()?;
+    assert!(rt; copy.errors() == read.errors());
+    assert_eq!(rt; copy.syntax().text(), "()");
+    Ok(())
+}

@@ -1,0 +1,204 @@
+//! Trees: built by hand and read from a text.
+
+use rnix::{
+    Checkpoint, GreenNode, GreenNodeBuilder, NodeOrToken, Parse, ParseError, Root, SyntaxKind,
+    SyntaxNode, TextRange, TokenSet, WalkEvent,
+};
+use rnix_print::dump;
+use std::alloc::{AllocError, Global};
+use std::process::Abort;
+use std::test::Fail;
+
+// What is printed of a node.
+fn dumped(alloc: Global, node: &SyntaxNode<'_>) -> Result<Vec<u8>, Fail> {
+    let mut out = Vec::new(alloc);
+    dump(node, &mut out)?;
+    Ok(out)
+}
+
+// `turns` times `part`.
+fn repeated(text: &mut String, part: &str, turns: usize) -> Result<(), Fail> {
+    for _turn in 0..turns {
+        text.push_str(part)?;
+    }
+    Ok(())
+}
+
+// So many parentheses around `1`.
+fn nested(alloc: Global, turns: usize) -> Result<String, Fail> {
+    let mut text = String::new(alloc);
+    repeated(&mut text, "(", turns)?;
+    text.push_str("1")?;
+    repeated(&mut text, ")", turns)?;
+    Ok(text)
+}
+
+// A ROOT over one leaf.
+fn small(alloc: Global) -> Result<GreenNode, Fail> {
+    let mut builder = GreenNodeBuilder::new(alloc);
+    builder.start_node(SyntaxKind::NODE_ROOT)?;
+    builder.token(SyntaxKind::TOKEN_IDENT, "a")?;
+    builder.finish_node()?;
+    Ok(builder.finish()?)
+}
+
+#[test]
+fn a_copied_tree_prints_the_same(rt: HostRuntime) -> Result<(), Fail> {
+    let tree = small(rt.alloc())?;
+    let copy = tree.try_clone()?;
+    let want = "NODE_ROOT@0..1\n  TOKEN_IDENT@0..1\n";
+    let printed = dumped(rt.alloc(), &SyntaxNode::new_root(&copy))?;
+    assert_eq!(rt; printed.as_slice(), want.as_bytes());
+    Ok(())
+}
+
+// The literal that starts at an offset.
+fn literal_at(read: &Parse, start: usize) -> Option<SyntaxNode<'_>> {
+    for event in read.syntax().preorder_with_tokens() {
+        if let WalkEvent::Enter(NodeOrToken::Node(node)) = event {
+            if node.kind() == SyntaxKind::NODE_LITERAL && node.text_range().start() == start {
+                return Some(node);
+            }
+        }
+    }
+    None
+}
+
+#[test]
+fn a_node_inside_prints_from_its_place(rt: HostRuntime) -> Result<(), Fail> {
+    let read = Root::parse(rt.alloc(), "1 + 2 * 3")?;
+    let two = literal_at(&read, 4);
+    assert!(rt; two.is_some());
+    if let Some(two) = two {
+        let printed = dumped(rt.alloc(), &two)?;
+        let want = "NODE_LITERAL@4..5\n  TOKEN_INTEGER@4..5\n";
+        assert_eq!(rt; printed.as_slice(), want.as_bytes());
+    }
+    Ok(())
+}
+
+#[test]
+fn operators_are_found(rt: HostRuntime) -> Result<(), Fail> {
+    let read = Root::parse(rt.alloc(), "f (1 + x)")?;
+    let operators: TokenSet = SyntaxKind::TOKEN_ADD | SyntaxKind::TOKEN_MUL;
+    let mut found: u8 = 0;
+    for event in read.syntax().preorder_with_tokens() {
+        if let WalkEvent::Enter(element) = event {
+            if operators.contains(element.kind()) {
+                found = found.saturating_add(1);
+            }
+        }
+    }
+    assert_eq!(rt; found, 1);
+    Ok(())
+}
+
+#[test]
+fn parentheses_nest_up_to_the_limit(rt: HostRuntime) -> Result<(), Fail> {
+    let text = nested(rt.alloc(), 511)?;
+    let read = Root::parse(rt.alloc(), text.as_str())?;
+    assert!(rt; read.errors().is_empty());
+    Ok(())
+}
+
+// Asserts that a text of 512 open parentheses nests too deep: that is the first of its 513 errors.
+fn assert_too_deep(rt: &impl Abort, read: &Parse) {
+    assert!(rt; read.errors().first() == Some(&ParseError::RecursionLimitExceeded));
+    assert_eq!(rt; read.errors().len(), 513);
+}
+
+#[test]
+fn parentheses_past_the_limit_are_errors(rt: HostRuntime) -> Result<(), Fail> {
+    let text = nested(rt.alloc(), 512)?;
+    let read = Root::parse(rt.alloc(), text.as_str())?;
+    assert_too_deep(&rt, &read);
+    assert_eq!(rt; read.syntax().text(), text.as_str());
+    Ok(())
+}
+
+#[test]
+fn open_parentheses_end_with_the_text(rt: HostRuntime) -> Result<(), Fail> {
+    let mut text = String::new(rt.alloc());
+    repeated(&mut text, "(", 512)?;
+    let read = Root::parse(rt.alloc(), text.as_str())?;
+    assert_too_deep(&rt, &read);
+    assert!(rt; read.syntax().text_range() == TextRange::new(0, 512));
+    Ok(())
+}
+
+// A NODE_IDENT over a leaf, where each refused call is made again.
+fn name_again(builder: &mut GreenNodeBuilder, text: &str) -> Result<(), AllocError> {
+    if builder.start_node(SyntaxKind::NODE_IDENT).is_err() {
+        builder.start_node(SyntaxKind::NODE_IDENT)?;
+    }
+    if builder.token(SyntaxKind::TOKEN_IDENT, text).is_err() {
+        builder.token(SyntaxKind::TOKEN_IDENT, text)?;
+    }
+    if builder.open_nodes() > 0 && builder.finish_node().is_err() {
+        builder.finish_node()?;
+    }
+    Ok(())
+}
+
+// A NODE_ROOT over the trees from the checkpoint on, where each refused call is made again.
+fn root_again(builder: &mut GreenNodeBuilder, start: Checkpoint) -> Result<(), AllocError> {
+    if !builder.is_valid_checkpoint(start) {
+        return Ok(());
+    }
+    if builder.start_node_at(start, SyntaxKind::NODE_ROOT).is_err() {
+        builder.start_node_at(start, SyntaxKind::NODE_ROOT)?;
+    }
+    if builder.open_nodes() > 0 && builder.finish_node().is_err() {
+        builder.finish_node()?;
+    }
+    Ok(())
+}
+
+// Four names, where each refused call is made again.
+fn names_again(builder: &mut GreenNodeBuilder) -> Result<(), AllocError> {
+    name_again(builder, "a")?;
+    name_again(builder, "b")?;
+    name_again(builder, "or")?;
+    name_again(builder, "c")
+}
+
+// The tree of `a b or c` without trivia; None if what was built is no tree.
+fn built_again(alloc: Global) -> Result<Option<GreenNode>, AllocError> {
+    let mut builder = GreenNodeBuilder::new(alloc);
+    let start = builder.checkpoint();
+    names_again(&mut builder)?;
+    root_again(&mut builder, start)?;
+    if !builder.is_complete() {
+        return Ok(None);
+    }
+    Ok(Some(builder.finish()?))
+}
+
+// Whether the children of a node are names, one right behind another from the start on.
+fn are_names_in_a_row(root: &SyntaxNode<'_>) -> bool {
+    let mut places: usize = 0;
+    for child in root.children_with_tokens() {
+        let range = child.text_range();
+        if child.kind() != SyntaxKind::NODE_IDENT || range.start() != places {
+            return false;
+        }
+        places = range.end();
+    }
+    true
+}
+
+#[test]
+fn a_tree_is_built_in_spite_of_refusals(rt: HostRuntime) -> Result<(), Fail> {
+    // A refused `finish` takes the builder with it, so all is built again.
+    let built = match built_again(rt.alloc()) {
+        Ok(built) => built,
+        Err(_refused) => built_again(rt.alloc())?,
+    };
+    assert!(rt; built.is_some());
+    if let Some(tree) = built {
+        let root = SyntaxNode::new_root(&tree);
+        assert!(rt; are_names_in_a_row(&root));
+        assert_eq!(rt; root.text(), "aborc");
+    }
+    Ok(())
+}

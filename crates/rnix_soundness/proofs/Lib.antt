@@ -1,0 +1,11 @@
+pub mod SimilarSpots
+pub mod HomeSpots
+pub mod FirstTrees
+pub mod MendedLevels
+pub mod MendedNames
+pub mod MendedStands
+pub mod MendedGroups
+pub mod Converse
+pub mod ConverseNames
+pub mod HardSpots
+pub mod StrictCorners

@@ -1,0 +1,120 @@
+-- A tree binds as tightly where its errors are mended.
+use Rattle.std.proofs.Common.{◌≡◌, Bool, true, false, refl, ap, sym, ◌∙◌}
+use Rattle.std.specs.Prelude.{codes, if◌then◌else◌}
+use Rattle.rnix_kinds.specs.declared.kinds.SyntaxKind.{SyntaxKind}
+use Rattle.rnix_kinds.specs.declared.kinds.SyntaxKind.TheVariants.{TOKEN_INTEGER, TOKEN_INVERT, NODE_APPLY, NODE_BIN_OP, NODE_IDENT, NODE_LAMBDA, NODE_LITERAL, NODE_UNARY_OP}
+use Rattle.rnix_tree.specs.Forest.{Forest, empty, leaf, node}
+use Rattle.rnix_grammar.specs.Levels.{power}
+use Rattle.rnix_grammar.specs.Sketch.{Note, Stray, Unwanted, Extra, Twice, TooDeep, Sketch, blank, token, branch, fault, one_branch, tokens_in}
+use Rattle.rnix_grammar.specs.Rows.{is_simple, is_operand, Start, BeforeOperator, BeforeArgument, start}
+use Rattle.rnix_grammar.specs.Stands.{is_or_leaf, is_or_row, calls_or, operator_in, prefix_in, level_of, is_atom_row, IsArgument}
+use Rattle.rnix_grammar.specs.Strict as strict
+use Rattle.rnix_grammar.specs.Mended.{mended, patch}
+use Rattle.rnix_grammar.specs.Named.{AreSpelled}
+use Rattle.rnix_lemmas.proofs.Basics.{true_is_not_false}
+use Rattle.rnix_lemmas.proofs.OpeningRows.{spelled_first, spelled_rest, HasRow, is_number, Opening, by_token, by_branch, by_fault, opened, to_live, row_behind}
+use Rattle.rnix_soundness.proofs.FirstTrees.{Operated, operator, operated, IsName, name, named, IsOne, one, prefixed}
+
+-- a call calls `or` in both trees
+same_or_row : (k : SyntaxKind) {c : Sketch} (f : Sketch) → HasRow k (start k) blank c → AreSpelled (tokens_in c) → strict.is_or_name k (mended c) ≡ is_or_row (branch k c f)
+same_or_row NODE_IDENT f h w = by (named h w)
+  where
+    by : {g : Sketch} → IsName g → strict.is_or_name NODE_IDENT (mended g) ≡ is_or_leaf g
+    by (name e) = e
+same_or_row _ f h w = refl
+
+-- a tree is the name `or` in both
+pub same_or : (k : SyntaxKind) {c : Sketch} → HasRow k (start k) blank c → AreSpelled (tokens_in c) → strict.is_or_name k (mended c) ≡ is_or_row (one_branch k c)
+same_or k h w = same_or_row k blank h w
+
+-- the first of the later trees is the name `or`
+abbrev pub second_or : Forest → Bool
+second_or (node k c f) = strict.is_or_name k c
+second_or f = false
+
+second_same : {b f : Sketch} → HasRow NODE_APPLY BeforeArgument b f → AreSpelled (tokens_in f) → second_or (mended f) ≡ is_or_row f
+second_same {b = b} h = by (opened h refl)
+  where
+    by : {g : Sketch} → Opening NODE_APPLY BeforeArgument b g → AreSpelled (tokens_in g) → second_or (mended g) ≡ is_or_row g
+    by (by_token e op l) w = refl
+    by (by_branch {k = k} {c = c} {f = f} r lev l s) w = same_or_row k f r (spelled_first (tokens_in c) (tokens_in f) w)
+    by (by_fault {n = Stray} n l r) w = refl
+    by (by_fault {n = TooDeep} n l r) w = refl
+    by (by_fault {n = Unwanted until} n l r) w = absurd (true_is_not_false (sym n))
+    by (by_fault {n = Extra} n l r) w = absurd (true_is_not_false (sym n))
+    by (by_fault {n = Twice} n l r) w = absurd (true_is_not_false (sym n))
+
+-- what a call calls stands behind its first tree
+pub calls_behind : (k : SyntaxKind) (c f : Forest) → strict.calls_or (node k c f) ≡ second_or f
+calls_behind k c empty = refl
+calls_behind k c _ = assumption
+
+-- a call calls `or` in both trees
+pub same_calls : {c : Sketch} → HasRow NODE_APPLY (Start NODE_APPLY) blank c → AreSpelled (tokens_in c) → strict.calls_or (mended c) ≡ calls_or c
+same_calls h = by (opened h refl)
+  where
+    by : {g : Sketch} → Opening NODE_APPLY (Start NODE_APPLY) blank g → AreSpelled (tokens_in g) → strict.calls_or (mended g) ≡ calls_or g
+    by (by_token e op l) w = refl
+    by (by_branch {k = k} {c = c} {f = f} r lev l s) w =
+        calls_behind k (mended c) (mended f) ∙ second_same (row_behind (to_live (is_simple k) BeforeArgument l) s) (spelled_rest (tokens_in c) (tokens_in f) w)
+    by (by_fault {n = Stray} {c = c} {f = f} n l r) w = calls_behind NODE_LITERAL (leaf TOKEN_INTEGER (codes "0") empty) (mended f) ∙ second_same r (spelled_rest (tokens_in c) (tokens_in f) w)
+    by (by_fault {n = TooDeep} {c = c} {f = f} n l r) w = calls_behind NODE_LITERAL (leaf TOKEN_INTEGER (codes "0") empty) (mended f) ∙ second_same r (spelled_rest (tokens_in c) (tokens_in f) w)
+    by (by_fault {n = Unwanted until} n l r) w = absurd (true_is_not_false (sym n))
+    by (by_fault {n = Extra} n l r) w = absurd (true_is_not_false (sym n))
+    by (by_fault {n = Twice} n l r) w = absurd (true_is_not_false (sym n))
+
+-- an operator's tree has its operator in both
+pub same_operator : {c : Sketch} → HasRow NODE_BIN_OP (Start NODE_BIN_OP) blank c → AreSpelled (tokens_in c) → strict.operator_of (mended c) ≡ operator_in c
+same_operator h = by (opened h refl)
+  where
+    behind : (k : SyntaxKind) {d : Sketch} (c : Sketch) {f : Sketch} → Operated d f → strict.operator_of (node k (mended c) (mended f)) ≡ operator_in (branch k c f)
+    behind k c (operator l) = refl
+
+    number : (n : Note) {d : Sketch} (c : Sketch) {f : Sketch} → is_number n ≡ true → Operated d f → strict.operator_of (patch n (mended f)) ≡ operator_in (fault n c f)
+    number Stray c e (operator l) = refl
+    number TooDeep c e (operator l) = refl
+    number (Unwanted until) c e o = absurd (true_is_not_false (sym e))
+    number Extra c e o = absurd (true_is_not_false (sym e))
+    number Twice c e o = absurd (true_is_not_false (sym e))
+
+    by : {g : Sketch} → Opening NODE_BIN_OP (Start NODE_BIN_OP) blank g → AreSpelled (tokens_in g) → strict.operator_of (mended g) ≡ operator_in g
+    by (by_token e op l) w = refl
+    by (by_branch {k = k} {c = c} {f = f} r lev l s) w = behind k c (operated (row_behind (to_live (is_operand k) BeforeOperator l) s))
+    by (by_fault {n = n} {c = c} e l r) w = number n c e (operated r)
+
+prefix_same : {c : Sketch} → IsOne c → strict.prefix_level (mended c) ≡ prefix_in c
+prefix_same (one {k = k} {t = t} {f = f}) = by k
+  where
+    by : (j : SyntaxKind) → strict.prefix_level (leaf j t.text (mended f)) ≡ prefix_in (token j t f)
+    by TOKEN_INVERT = refl
+    by _ = refl
+
+-- a tree that is no lambda binds as tightly in both
+abbrev pub is_lambda : SyntaxKind → Bool
+is_lambda NODE_LAMBDA = true
+is_lambda kind = false
+
+-- a tree that is no lambda binds as tightly in both
+pub same_level : (k : SyntaxKind) {c : Sketch} → HasRow k (start k) blank c → AreSpelled (tokens_in c) → is_lambda k ≡ false → strict.level_of k (mended c) ≡ level_of k c
+same_level NODE_BIN_OP h w n = ap power (same_operator h w)
+same_level NODE_UNARY_OP h w n = prefix_same (prefixed h)
+same_level NODE_APPLY h w n = ap (λ z. if z then 16 else 15) (same_calls h w)
+same_level _ h w n = cc
+
+-- a call of `or` calls an atom
+pub second_atom : {b f : Sketch} → HasRow NODE_APPLY BeforeArgument b f → AreSpelled (tokens_in f) → second_or (mended f) ≡ true → is_atom_row b ≡ true
+second_atom {b = b} h = by (opened h refl)
+  where
+    argument : (w : Bool) (x : Sketch) → w ≡ true → IsArgument w b x → is_atom_row b ≡ true
+    argument true x e l = l
+    argument false x e l = absurd (true_is_not_false (sym e))
+
+    by : {g : Sketch} → Opening NODE_APPLY BeforeArgument b g → AreSpelled (tokens_in g) → second_or (mended g) ≡ true → is_atom_row b ≡ true
+    by (by_token e op l) w o = absurd (true_is_not_false (sym o))
+    by (by_branch {k = k} {c = c} {f = f} r lev l s) w o =
+        argument (is_or_row (one_branch k c)) (one_branch k c) (sym (same_or k r (spelled_first (tokens_in c) (tokens_in f) w)) ∙ o) lev
+    by (by_fault {n = Stray} n l r) w o = absurd (true_is_not_false (sym o))
+    by (by_fault {n = TooDeep} n l r) w o = absurd (true_is_not_false (sym o))
+    by (by_fault {n = Unwanted until} n l r) w o = absurd (true_is_not_false (sym n))
+    by (by_fault {n = Extra} n l r) w o = absurd (true_is_not_false (sym n))
+    by (by_fault {n = Twice} n l r) w o = absurd (true_is_not_false (sym n))

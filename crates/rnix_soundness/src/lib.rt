@@ -1,0 +1,2 @@
+//! What is read without errors is strict, but for its corners.
+#![tactic(auto)]

@@ -1,0 +1,139 @@
+-- Parameters and patterns that pass the strict test are those of the grammar.
+use Rattle.std.proofs.Common.{◌≡◌, ℕ, Bool, true, false, List, [], ◌∷◌, refl, sym}
+use Rattle.std.specs.Prelude.{if◌then◌else◌}
+use Rattle.rnix_kinds.specs.declared.kinds.SyntaxKind.{SyntaxKind}
+use Rattle.rnix_kinds.specs.declared.kinds.SyntaxKind.TheVariants.{TOKEN_AT, TOKEN_COMMA, TOKEN_ELLIPSIS, TOKEN_IDENT, TOKEN_L_BRACE, TOKEN_QUESTION, TOKEN_R_BRACE, NODE_IDENT, NODE_IDENT_PARAM, NODE_PAT_BIND, NODE_PAT_ENTRY, NODE_PATTERN}
+use Rattle.rnix_tree.specs.Forest.{Forest, empty, leaf, node}
+use Rattle.rnix_grammar.specs.declared.place.Place.TheVariants as p
+use Rattle.rnix_grammar.specs.declared.until.Until.TheVariants as u
+use Rattle.rnix_grammar.specs.Rows.{Spot, BeforeAt, At, go_formals, go, live, start}
+use Rattle.rnix_grammar.specs.Strict.{is_or, first_is_no_or, binds_no_or, entry_text, is_among, are_entries_new, begins_with_leaf, may_stand}
+use Rattle.rnix_kinds.specs.SyntaxKind.{is_token}
+use Rattle.rnix_grammar.specs.Plain.{is_node}
+use Rattle.rnix_grammar.specs.Grammar.{PatternEnd, pattern_end, bound_behind, Parameter, parameter, pattern, bound_pattern, Formals, formals_end, ellipsis, last_entry, entry_comma, Formal, entry, default_entry}
+use Rattle.rnix_lemmas.proofs.Basics.{true_is_not_false}
+use Rattle.rnix_lemmas.proofs.EveryKind.{only, never, not_together}
+use Rattle.rnix_strict.proofs.GrammarViews.{Leads, leads, Holds, holds, Ends, ends, Optional, left_out, given, Held, Child, child, at_optional, at_leaf, at_child, at_end, at_past, at_operand, at_token, IsBind, binds_before, binds_behind}
+use Rattle.rnix_strict.proofs.GrammarForms.{leaf_rest, node_rest, node_means}
+
+-- names that are not `or`
+other_name : (t : List ℕ) → (if is_or t then false else true) ≡ true → is_or t ≡ false
+other_name t h = by (is_or t) h
+  where
+    by : (w : Bool) → (if w then false else true) ≡ true → w ≡ false
+    by true e = absurd (true_is_not_false (sym e))
+    by false e = refl
+
+pub parameter_form : (f : Forest) → Held (start NODE_IDENT_PARAM) f → first_is_no_or f ≡ true → Parameter NODE_IDENT_PARAM f
+parameter_form f h o = by (at_child (start NODE_IDENT_PARAM) (At p.Past) NODE_IDENT refl (only _ NODE_IDENT refl) refl refl at_past f h) o
+  where
+    by : {g : Forest} → Child NODE_IDENT Ends g → first_is_no_or g ≡ true → Parameter NODE_IDENT_PARAM g
+    by (child (leads {t = t} ends) ends) o = parameter (other_name t o)
+
+pub entry_form : (f : Forest) → Held (start NODE_PAT_ENTRY) f → first_is_no_or f ≡ true → Formal (entry_text f) f
+entry_form f h o =
+    by
+    (at_child (start NODE_PAT_ENTRY) (At p.EntryMore) NODE_IDENT refl (only _ NODE_IDENT refl) refl refl
+    (at_optional (At p.EntryMore) (At p.EntryDefault) TOKEN_QUESTION (only _ TOKEN_QUESTION refl) refl refl (at_operand p.EntryDefault p.EntryPast 0 true refl (at_end (At p.EntryPast) (λ k. refl)))) f h) o
+  where
+    by : {g : Forest} → Child NODE_IDENT (Optional (Leads TOKEN_QUESTION (Holds 0 Ends))) g → first_is_no_or g ≡ true → Formal (entry_text g) g
+    by (child (leads {t = t} ends) left_out) o = entry (other_name t o)
+    by (child (leads {t = t} ends) (given (leads (holds e ends)))) o = default_entry (other_name t o) e
+
+-- a name before `@` or behind it
+before : {d f : Forest} → Leads TOKEN_IDENT Ends d → Leads TOKEN_AT Ends f → binds_no_or (node NODE_IDENT d f) ≡ true → IsBind (node NODE_IDENT d f)
+before (leads {t = t} ends) (leads ends) o = binds_before (other_name t o)
+
+behind_at : {w : List ℕ} {f : Forest} → Child NODE_IDENT Ends f → binds_no_or (leaf TOKEN_AT w f) ≡ true → IsBind (leaf TOKEN_AT w f)
+behind_at (child (leads {t = t} ends) ends) o = binds_behind (other_name t o)
+
+pub bind_form : (f : Forest) → Held (start NODE_PAT_BIND) f → binds_no_or f ≡ true → IsBind f
+bind_form empty h o = absurd (true_is_not_false (sym h))
+bind_form (leaf TOKEN_AT t f) h o = behind_at (at_child (At p.BindName) (At p.Past) NODE_IDENT refl (only _ NODE_IDENT refl) refl refl at_past f (leaf_rest (start NODE_PAT_BIND) TOKEN_AT t f h)) o
+bind_form (leaf _ t f) h o = absurd (not_together refl h.0 h.1)
+bind_form (node NODE_IDENT d f) h o =
+    before (node_means (start NODE_PAT_BIND) NODE_IDENT d f h) (at_leaf BeforeAt (At p.Past) TOKEN_AT refl (only _ TOKEN_AT refl) refl refl at_past f (node_rest (start NODE_PAT_BIND) NODE_IDENT d f h)) o
+bind_form (node _ d f) h o = absurd (not_together refl h.0 h.1)
+
+-- behind the `}` of a pattern
+last_bind : {d f : Forest} → IsBind d → begins_with_leaf d ≡ true → Ends f → PatternEnd false (node NODE_PAT_BIND d f)
+last_bind (binds_before o) e ends = absurd (true_is_not_false (sym e))
+last_bind (binds_behind o) e ends = bound_behind o
+
+pattern_past : (f : Forest) → Held (At p.PatternPast) f → Ends f
+pattern_past f h = at_end (At p.PatternPast) (λ k. refl) f h
+
+node_may : (q : Spot) (k : SyntaxKind) (d f : Forest) → Held q (node k d f) → may_stand q k d ≡ true
+node_may q k d f h = h.2
+
+end_form : (bound : Bool) (f : Forest) → Held (At (p.PatternEnd bound)) f → PatternEnd bound f
+end_form bound empty h = pattern_end
+end_form true (leaf k t f) h = absurd (true_is_not_false (sym h.1))
+end_form false (leaf k t f) h = absurd (never is_token (λ j. live (go (At (p.PatternEnd false)) j)) refl k h.0 h.1)
+end_form true (node k d f) h = absurd (true_is_not_false (sym h.1))
+end_form false (node NODE_PAT_BIND d f) h =
+    last_bind (node_means (At (p.PatternEnd false)) NODE_PAT_BIND d f h) (node_may (At (p.PatternEnd false)) NODE_PAT_BIND d f h)
+    (pattern_past f (node_rest (At (p.PatternEnd false)) NODE_PAT_BIND d f h))
+end_form false (node _ d f) h = absurd (not_together refl h.0 h.1)
+
+dots_form : {bound : Bool} {names : List (List ℕ)} {t : List ℕ} {f : Forest} → Leads TOKEN_R_BRACE (PatternEnd bound) f → Formals bound names (leaf TOKEN_ELLIPSIS t f)
+dots_form (leads e) = ellipsis e
+
+-- an entry is new
+new_name : (x : List ℕ) (names : List (List ℕ)) (f : Forest) → (if is_among x names then false else are_entries_new (x ∷ names) f) ≡ true
+    → (is_among x names ≡ false) × (are_entries_new (x ∷ names) f ≡ true)
+new_name x names f h = by (is_among x names) h
+  where
+    by : (w : Bool) → (if w then false else are_entries_new (x ∷ names) f) ≡ true → (w ≡ false) × (are_entries_new (x ∷ names) f ≡ true)
+    by true e = absurd (true_is_not_false (sym e))
+    by false e = (refl, e)
+
+-- what stands behind an entry
+entry_leaf : (bound : Bool) (names : List (List ℕ)) (d : Forest) (k : SyntaxKind) (t : List ℕ) (f : Forest) → Formal (entry_text d) d → is_among (entry_text d) names ≡ false
+    → are_entries_new (entry_text d ∷ names) f ≡ true → Held (At (p.PatternAfter bound)) (leaf k t f)
+    → (Held (At (p.PatternInside bound)) f → are_entries_new (entry_text d ∷ names) f ≡ true → Formals bound (entry_text d ∷ names) f) → Formals bound names (node NODE_PAT_ENTRY d (leaf k t f))
+entry_leaf bound names d TOKEN_R_BRACE t f m e n h ih = last_entry e m (end_form bound f (leaf_rest (At (p.PatternAfter bound)) TOKEN_R_BRACE t f h))
+entry_leaf bound names d TOKEN_COMMA t f m e n h ih = entry_comma e m (ih (leaf_rest (At (p.PatternAfter bound)) TOKEN_COMMA t f h) n)
+entry_leaf bound names d _ t f m e n h ih = absurd (not_together refl h.0 h.1)
+
+entry_node : (bound : Bool) (k : SyntaxKind) (d f : Forest) → Held (At (p.PatternAfter bound)) (node k d f) → ⊥
+entry_node bound k d f h = never is_node (λ j. live (go (At (p.PatternAfter bound)) j)) refl k h.0 h.1
+
+formals_form : (bound : Bool) (names : List (List ℕ)) (f : Forest) → Held (At (p.PatternInside bound)) f → are_entries_new names f ≡ true → Formals bound names f
+formals_form bound names empty h n = absurd (true_is_not_false (sym h))
+formals_form bound names (leaf TOKEN_R_BRACE t f) h n = formals_end (end_form bound f (leaf_rest (At (p.PatternInside bound)) TOKEN_R_BRACE t f h))
+formals_form bound names (leaf TOKEN_ELLIPSIS t f) h n =
+    dots_form (at_token (p.PatternClose bound) (p.PatternEnd bound) u.RBrace TOKEN_R_BRACE refl (only _ TOKEN_R_BRACE refl) refl refl (end_form bound) f (leaf_rest (At (p.PatternInside bound)) TOKEN_ELLIPSIS t f h))
+formals_form bound names (leaf _ t f) h n = absurd (not_together refl h.0 h.1)
+formals_form bound names (node NODE_PAT_ENTRY d empty) h n = absurd (true_is_not_false (sym (node_rest (At (p.PatternInside bound)) NODE_PAT_ENTRY d empty h)))
+formals_form bound names (node NODE_PAT_ENTRY d (leaf k t f)) h n =
+    let w = new_name (entry_text d) names f n in
+    entry_leaf bound names d k t f (node_means (At (p.PatternInside bound)) NODE_PAT_ENTRY d (leaf k t f) h) w.0 w.1 (node_rest (At (p.PatternInside bound)) NODE_PAT_ENTRY d (leaf k t f) h)
+    (λ r v. formals_form bound (entry_text d ∷ names) f r v)
+formals_form bound names (node NODE_PAT_ENTRY d (node k e f)) h n = absurd (entry_node bound k e f (node_rest (At (p.PatternInside bound)) NODE_PAT_ENTRY d (node k e f) h))
+formals_form bound names (node _ d f) h n = absurd (not_together refl h.0 h.1)
+
+-- where a pattern begins the same may stand as inside it
+entry_may : (bound : Bool) (k : SyntaxKind) (d : Forest) → is_node k ≡ true → live (go_formals bound k) ≡ true → may_stand (At (p.PatternInside bound)) k d ≡ true
+entry_may bound NODE_PAT_ENTRY d i h = refl
+entry_may bound _ d i h = absurd (not_together refl i h)
+
+first_inside : (bound : Bool) (f : Forest) → Held (At (p.PatternStart bound)) f → Held (At (p.PatternInside bound)) f
+first_inside bound empty h = h
+first_inside bound (leaf k t f) h = h
+first_inside bound (node k d f) h = (h.0, h.1, entry_may bound k d h.0 h.1, h.3, h.4)
+
+bound_first : {d f : Forest} → IsBind d → (if begins_with_leaf d then false else true) ≡ true → Leads TOKEN_L_BRACE (Held (At (p.PatternStart true))) f → are_entries_new [] f ≡ true
+    → Parameter NODE_PATTERN (node NODE_PAT_BIND d f)
+bound_first (binds_before o) e (leads {f = f} r) n = bound_pattern o (formals_form true [] f (first_inside true f r) n)
+bound_first (binds_behind o) e r n = absurd (true_is_not_false (sym e))
+
+pub pattern_form : (f : Forest) → Held (start NODE_PATTERN) f → are_entries_new [] f ≡ true → Parameter NODE_PATTERN f
+pattern_form empty h n = absurd (true_is_not_false (sym h))
+pattern_form (leaf TOKEN_L_BRACE t f) h n = pattern (formals_form false [] f (first_inside false f (leaf_rest (start NODE_PATTERN) TOKEN_L_BRACE t f h)) n)
+pattern_form (leaf _ t f) h n = absurd (not_together refl h.0 h.1)
+pattern_form (node NODE_PAT_BIND d f) h n =
+    bound_first (node_means (start NODE_PATTERN) NODE_PAT_BIND d f h) (node_may (start NODE_PATTERN) NODE_PAT_BIND d f h)
+    (at_token p.PatternBrace (p.PatternStart true) u.LBrace TOKEN_L_BRACE {Q = Held (At (p.PatternStart true))} refl (only _ TOKEN_L_BRACE refl) refl refl (λ g r. r) f
+    (node_rest (start NODE_PATTERN) NODE_PAT_BIND d f h)) n
+pattern_form (node _ d f) h n = absurd (not_together refl h.0 h.1)

@@ -1,0 +1,226 @@
+-- Rows that pass the strict test, seen from their beginning on.
+use Rattle.rnix_kinds.proofs.AllKinds.{every, all_kinds}
+use Rattle.std.proofs.Common.{◌≡◌, ℕ, Bool, true, false, List, refl, ap, sym, ◌∙◌, subst}
+use Rattle.std.specs.List.{list_all}
+use Rattle.std.specs.Prelude.{Some, nat_eq, if◌then◌else◌}
+use Rattle.rnix_kinds.specs.declared.kinds.SyntaxKind.{SyntaxKind}
+use Rattle.rnix_kinds.specs.declared.kinds.SyntaxKind.TheVariants.{TOKEN_AT, TOKEN_CUR_POS, TOKEN_IDENT, TOKEN_STRING_START, NODE_ATTR_SET, NODE_ATTRPATH, NODE_ATTRPATH_VALUE, NODE_CUR_POS, NODE_DYNAMIC, NODE_IDENT, NODE_IDENT_PARAM, NODE_INHERIT, NODE_INHERIT_FROM, NODE_INTERPOL, NODE_LIST, NODE_LITERAL, NODE_PAREN, NODE_PAT_BIND, NODE_PAT_ENTRY, NODE_PATTERN, NODE_PATH_ABS, NODE_PATH_HOME, NODE_PATH_REL, NODE_PATH_SEARCH, NODE_STRING}
+use Rattle.rnix_kinds.specs.SyntaxKind.{is_token, place_of}
+use Rattle.rnix_tree.specs.Forest.{Forest, empty, leaf, node}
+use Rattle.rnix_grammar.specs.declared.place.Place.{Place}
+use Rattle.rnix_grammar.specs.declared.place.Place.TheVariants as p
+use Rattle.rnix_grammar.specs.declared.until.Until.{Until}
+use Rattle.rnix_grammar.specs.declared.slot.Slot.TheVariants as s
+use Rattle.rnix_grammar.specs.Tables.{is_cur_pos, is_wanted}
+use Rattle.rnix_grammar.specs.Slots.{slot_at, level_in}
+use Rattle.rnix_grammar.specs.Rows.{is_expression, fits, Spot, At, go_slot, go, first_token, to, live, is_end, whole, start}
+use Rattle.rnix_grammar.specs.Strict.{is_or, is_named, is_strict_atom, entry_text, level_of, stands_at, stands_in, may_stand}
+use Rattle.rnix_grammar.specs.Plain.{is_node}
+use Rattle.rnix_grammar.specs.Grammar.{name, Strict, looser, atom, Atom, string, named, current_position, Pieces, Interpol, Attr, Attrpath, Binding, Inherit, Source, Parameter, Formal}
+use Rattle.rnix_grammar.specs.Strict.{is_plain_name}
+use Rattle.rnix_lemmas.proofs.Basics.{true_is_not_false}
+use Rattle.rnix_lemmas.proofs.EveryKind.{only, never}
+use Rattle.rnix_lemmas.proofs.NodeKinds.{fits_expression}
+use Rattle.rnix_lemmas.proofs.StrictParts.{standing}
+
+-- rows that begin with a leaf of a kind, a node of a kind, an expression of a level; rows that are empty, or not
+pub data Leads (w : SyntaxKind) (Q : Forest → Type 0) : Forest → Type 0 where
+  leads : {t : List ℕ} {f : Forest} → Q f → Leads w Q (leaf w t f)
+
+pub data Holds (level : ℕ) (Q : Forest → Type 0) : Forest → Type 0 where
+  holds : {k : SyntaxKind} {c f : Forest} → Strict level k c → Q f → Holds level Q (node k c f)
+
+pub data Ends : Forest → Type 0 where
+  ends : Ends empty
+
+pub data Optional (Q : Forest → Type 0) : Forest → Type 0 where
+  left_out : Optional Q empty
+  given : {f : Forest} → Q f → Optional Q f
+
+-- a name that a pattern is bound to, before `@` or behind it
+pub data IsBind : Forest → Type 0 where
+  binds_before : {s t : List ℕ} → is_or t ≡ false → IsBind (name t (leaf TOKEN_AT s empty))
+  binds_behind : {s t : List ℕ} → is_or t ≡ false → IsBind (leaf TOKEN_AT s (name t empty))
+
+-- what the children of a node of a kind are in the grammar
+abbrev pub Means : SyntaxKind → Forest → Type 0
+Means NODE_IDENT c = Leads TOKEN_IDENT Ends c
+Means NODE_CUR_POS c = Leads TOKEN_CUR_POS Ends c
+Means NODE_STRING c = Leads TOKEN_STRING_START Pieces c
+Means NODE_PAREN c = Atom NODE_PAREN c
+Means NODE_ATTR_SET c = Atom NODE_ATTR_SET c
+Means NODE_LIST c = Atom NODE_LIST c
+Means NODE_PATH_ABS c = Atom NODE_PATH_ABS c
+Means NODE_PATH_REL c = Atom NODE_PATH_REL c
+Means NODE_PATH_HOME c = Atom NODE_PATH_HOME c
+Means NODE_PATH_SEARCH c = Atom NODE_PATH_SEARCH c
+Means NODE_LITERAL c = Atom NODE_LITERAL c
+Means NODE_DYNAMIC c = Attr NODE_DYNAMIC c
+Means NODE_INTERPOL c = Interpol c
+Means NODE_ATTRPATH c = Attrpath c
+Means NODE_ATTRPATH_VALUE c = Binding c
+Means NODE_INHERIT c = Inherit c
+Means NODE_INHERIT_FROM c = Source c
+Means NODE_IDENT_PARAM c = Parameter NODE_IDENT_PARAM c
+Means NODE_PATTERN c = Parameter NODE_PATTERN c
+Means NODE_PAT_BIND c = IsBind c
+Means NODE_PAT_ENTRY c = Formal (entry_text c) c
+Means k c = is_expression k ≡ true → Strict (level_of k c) k c
+
+-- a row from a spot on, whose nodes are what they are in the grammar
+abbrev pub Held : Spot → Forest → Type 0
+Held q empty = whole q ≡ true
+Held q (leaf k t f) = (is_token k ≡ true) × (live (go q k) ≡ true) × Held (go q k) f
+Held q (node k c f) = (is_node k ≡ true) × (live (go q k) ≡ true) × (may_stand q k c ≡ true) × Means k c × Held (go q k) f
+
+pub data Child (w : SyntaxKind) (Q : Forest → Type 0) : Forest → Type 0 where
+  child : {c f : Forest} → Means w c → Q f → Child w Q (node w c f)
+
+-- an atom's name stands for a value
+value_name : (t : List ℕ) → is_plain_name (leaf TOKEN_IDENT t empty) ≡ true → (is_or t ≡ false) × (is_cur_pos t ≡ false)
+value_name t h = by (is_or t) (is_cur_pos t) refl refl h
+  where
+    by : (v w : Bool) → is_or t ≡ v → is_cur_pos t ≡ w → (if v then false else (if w then false else true)) ≡ true → (is_or t ≡ false) × (is_cur_pos t ≡ false)
+    by true w e d h = absurd (true_is_not_false (sym h))
+    by false true e d h = absurd (true_is_not_false (sym h))
+    by false false e d h = (e, d)
+
+name_atom : {c : Forest} → Leads TOKEN_IDENT Ends c → is_plain_name c ≡ true → Atom NODE_IDENT c
+name_atom (leads {t = t} ends) h = let v = value_name t h in named v.0 v.1
+
+position_atom : {c : Forest} → Leads TOKEN_CUR_POS Ends c → is_named NODE_CUR_POS c ≡ true → Atom NODE_CUR_POS c
+position_atom (leads ends) h = current_position h
+
+string_atom : {c : Forest} → Leads TOKEN_STRING_START Pieces c → Atom NODE_STRING c
+string_atom (leads h) = string h
+
+-- what `.` may follow is an atom
+pub atom_of : (k : SyntaxKind) (c : Forest) → Means k c → is_strict_atom k c ≡ true → Atom k c
+atom_of NODE_IDENT c m h = name_atom m h
+atom_of NODE_CUR_POS c m h = position_atom m h
+atom_of NODE_STRING c m h = string_atom m
+atom_of NODE_PAREN c m h = m
+atom_of NODE_ATTR_SET c m h = m
+atom_of NODE_LIST c m h = m
+atom_of NODE_PATH_ABS c m h = m
+atom_of NODE_PATH_REL c m h = m
+atom_of NODE_PATH_HOME c m h = m
+atom_of NODE_PATH_SEARCH c m h = m
+atom_of NODE_LITERAL c m h = m
+atom_of _ c m h = absurd (true_is_not_false (sym h))
+
+level_strict : (k : SyntaxKind) (c : Forest) → Means k c → is_expression k ≡ true → is_named k c ≡ true → Strict (level_of k c) k c
+level_strict NODE_IDENT c m e h = atom (name_atom m h)
+level_strict NODE_CUR_POS c m e h = atom (position_atom m h)
+level_strict NODE_STRING c m e h = atom (string_atom m)
+level_strict NODE_PAREN c m e h = atom m
+level_strict NODE_ATTR_SET c m e h = atom m
+level_strict NODE_LIST c m e h = atom m
+level_strict NODE_PATH_ABS c m e h = atom m
+level_strict NODE_PATH_REL c m e h = atom m
+level_strict NODE_PATH_HOME c m e h = atom m
+level_strict NODE_PATH_SEARCH c m e h = atom m
+level_strict NODE_LITERAL c m e h = atom m
+level_strict NODE_DYNAMIC c m e h = absurd (true_is_not_false (sym e))
+level_strict NODE_INTERPOL c m e h = absurd (true_is_not_false (sym e))
+level_strict NODE_ATTRPATH c m e h = absurd (true_is_not_false (sym e))
+level_strict NODE_ATTRPATH_VALUE c m e h = absurd (true_is_not_false (sym e))
+level_strict NODE_INHERIT c m e h = absurd (true_is_not_false (sym e))
+level_strict NODE_INHERIT_FROM c m e h = absurd (true_is_not_false (sym e))
+level_strict NODE_IDENT_PARAM c m e h = absurd (true_is_not_false (sym e))
+level_strict NODE_PATTERN c m e h = absurd (true_is_not_false (sym e))
+level_strict NODE_PAT_BIND c m e h = absurd (true_is_not_false (sym e))
+level_strict NODE_PAT_ENTRY c m e h = absurd (true_is_not_false (sym e))
+level_strict _ c m e h = m e
+
+-- what stands at a level is an expression of the grammar there
+pub strict_of : (n : ℕ) (k : SyntaxKind) (c : Forest) → Means k c → stands_at n k c ≡ true → Strict n k c
+strict_of n k c m h = let w = standing n k c h in looser w.low (level_strict k c m w.expression w.named)
+
+-- a leaf is no node, and none is an expression
+pub no_token : (k : SyntaxKind) → is_token k ≡ true → is_node k ≡ true → ⊥
+no_token k h i = by (is_token k) h i
+  where
+    by : (w : Bool) → w ≡ true → (if w then false else true) ≡ true → ⊥
+    by true h i = true_is_not_false (sym i)
+    by false h i = true_is_not_false (sym h)
+
+pub no_expression : (k : SyntaxKind) → is_token k ≡ true → is_expression k ≡ true → ⊥
+no_expression = never is_token is_expression refl
+
+pub to_live : (w : Bool) (q : Spot) → live (to w q) ≡ true → w ≡ true
+to_live true q h = refl
+to_live false q h = absurd (true_is_not_false (sym h))
+
+-- a row that may be empty, or begins with a leaf of a kind
+pub at_optional : (q r : Spot) (w : SyntaxKind) {Q : Forest → Type 0} → ((k : SyntaxKind) → live (go q k) ≡ true → k ≡ w) → is_token w ≡ true → go q w ≡ r → ((f : Forest) → Held r f → Q f)
+    → (f : Forest) → Held q f → Optional (Leads w Q) f
+at_optional q r w o i e n empty h = left_out
+at_optional q r w {Q = Q} o i e n (leaf k t f) h =
+    let same : k ≡ w = o k h.1 in
+    subst (λ j. Optional (Leads w Q) (leaf j t f)) (sym same) (given (leads (n f (subst (λ x. Held x f) (ap (go q) same ∙ e) h.2))))
+at_optional q r w o i e n (node k c f) h = absurd (no_token w i (subst (λ j. is_node j ≡ true) (o k h.1) h.0))
+
+-- a row that begins with a leaf of a kind
+pub at_leaf : (q r : Spot) (w : SyntaxKind) {Q : Forest → Type 0} → whole q ≡ false → ((k : SyntaxKind) → live (go q k) ≡ true → k ≡ w) → is_token w ≡ true → go q w ≡ r
+    → ((f : Forest) → Held r f → Q f)
+    → (f : Forest) → Held q f → Leads w Q f
+at_leaf q r w d o i e n empty h = absurd (true_is_not_false (sym h ∙ d))
+at_leaf q r w {Q = Q} d o i e n (leaf k t f) h =
+    let same : k ≡ w = o k h.1 in
+    subst (λ j. Leads w Q (leaf j t f)) (sym same) (leads (n f (subst (λ x. Held x f) (ap (go q) same ∙ e) h.2)))
+at_leaf q r w d o i e n (node k c f) h = absurd (no_token w i (subst (λ j. is_node j ≡ true) (o k h.1) h.0))
+
+-- a row that begins with a node of a kind
+pub at_child : (q r : Spot) (w : SyntaxKind) {Q : Forest → Type 0} → whole q ≡ false → ((k : SyntaxKind) → live (go q k) ≡ true → k ≡ w) → is_token w ≡ false → go q w ≡ r
+    → ((f : Forest) → Held r f → Q f)
+    → (f : Forest) → Held q f → Child w Q f
+at_child q r w d o i e n empty h = absurd (true_is_not_false (sym h ∙ d))
+at_child q r w d o i e n (leaf k t f) h = absurd (true_is_not_false (sym (subst (λ j. is_token j ≡ true) (o k h.1) h.0) ∙ i))
+at_child q r w {Q = Q} d o i e n (node k c f) h =
+    let same : k ≡ w = o k h.1 in
+    subst (λ j. Child w Q (node j c f)) (sym same) (child (subst (λ j. Means j c) same h.3) (n f (subst (λ x. Held x f) (ap (go q) same ∙ e) h.4)))
+
+-- a row that is over
+pub at_end : (q : Spot) → ((k : SyntaxKind) → live (go q k) ≡ false) → (f : Forest) → Held q f → Ends f
+at_end q d empty h = ends
+at_end q d (leaf k t f) h = absurd (true_is_not_false (sym h.1 ∙ d k))
+at_end q d (node k c f) h = absurd (true_is_not_false (sym h.1 ∙ d k))
+
+pub at_past : (f : Forest) → Held (At p.Past) f → Ends f
+at_past f h = at_end (At p.Past) (λ k. refl) f h
+
+-- what stands where an operand may is one
+pub operand_stands : (x : Place) (level : ℕ) (k : SyntaxKind) (c : Forest) → level_in (slot_at x) ≡ Some level → is_expression k ≡ true → may_stand (At x) k c ≡ true
+    → stands_at level k c ≡ true
+operand_stands x level NODE_PAT_BIND c e i h = absurd (true_is_not_false (sym i))
+operand_stands x level k c e i h = ap (λ o. stands_in o k c) (sym e) ∙ h
+
+-- a row that begins with an operand
+pub at_operand : (x behind : Place) (level : ℕ) (counted : Bool) {Q : Forest → Type 0} → slot_at x ≡ s.Operand level counted behind → ((f : Forest) → Held (At behind) f → Q f)
+    → (f : Forest) → Held (At x) f → Holds level Q f
+at_operand x behind level counted e n empty h = absurd (true_is_not_false (sym h ∙ ap is_end e))
+at_operand x behind level counted e n (leaf k t f) h =
+    let fit : fits level k ≡ true = to_live (fits level k) (At behind) (ap (λ z. live (go_slot z x k)) (sym e) ∙ h.1) in
+    absurd (no_expression k h.0 (fits_expression level k fit))
+at_operand x behind level counted e n (node k c f) h =
+    let fit : fits level k ≡ true = to_live (fits level k) (At behind) (ap (λ z. live (go_slot z x k)) (sym e) ∙ h.1) in
+    holds (strict_of level k c h.3 (operand_stands x level k c (ap level_in e) (fits_expression level k fit) h.2))
+    (n f (subst (λ q. Held q f) (ap (λ z. go_slot z x k) e ∙ ap (λ z. to z (At behind)) fit) h.4))
+
+-- a row that begins with a wanted token
+pub at_token : (x behind : Place) (until : Until) (w : SyntaxKind) {Q : Forest → Type 0} → slot_at x ≡ s.Token until behind → ((k : SyntaxKind) → is_wanted until k ≡ true → k ≡ w)
+    → is_token w ≡ true
+    → is_wanted until w ≡ true → ((f : Forest) → Held (At behind) f → Q f) → (f : Forest) → Held (At x) f → Leads w Q f
+at_token x behind until w e o i g n f h =
+    at_leaf (At x) (At behind) w (ap is_end e) (λ k l. o k (to_live (is_wanted until k) (At behind) (ap (λ z. live (go_slot z x k)) (sym e) ∙ l))) i
+    (ap (λ z. go_slot z x w) e ∙ ap (λ z. to z (At behind)) g) n f h
+
+-- the token that a row begins with
+pub only_first : (w : SyntaxKind) (x : Place) (k : SyntaxKind) → live (first_token w k x) ≡ true → k ≡ w
+only_first w x k h = only (λ j. live (first_token w j x)) w (every (λ v. list_all (λ j. if live (first_token v j x) then nat_eq (place_of j) (place_of v) else true) all_kinds) refl w) k h
+
+-- such a row of a kind
+pub at_first : (parent w : SyntaxKind) (x : Place) {Q : Forest → Type 0} → ((k : SyntaxKind) → go (start parent) k ≡ first_token w k x) → whole (start parent) ≡ false → is_token w ≡ true
+    → first_token w w x ≡ At x → ((f : Forest) → Held (At x) f → Q f) → (f : Forest) → Held (start parent) f → Leads w Q f
+at_first parent w x e d i g n f h = at_leaf (start parent) (At x) w d (λ k l. only_first w x k (ap live (sym (e k)) ∙ l)) i (e w ∙ g) n f h

@@ -1,0 +1,10 @@
+pub mod StrictExamples
+pub mod GrammarFacts
+pub mod GrammarRows
+pub mod GrammarStrict
+pub mod GrammarViews
+pub mod GrammarForms
+pub mod GrammarEntries
+pub mod GrammarOperators
+pub mod GrammarPatterns
+pub mod GrammarTrees

@@ -1,0 +1,2 @@
+//! The test along the rows and the strict grammar say the same.
+#![tactic(auto)]

@@ -1,0 +1,159 @@
+//! Trees that were built by hand, with empty nodes and empty leaves.
+
+use rnix_kinds::SyntaxKind;
+use rnix_tree::{GreenNode, GreenNodeBuilder, SyntaxNode, TextRange, TokenAtOffset, WalkEvent};
+use std::alloc::{AllocError, Global};
+use std::test::Fail;
+
+// A ROOT over an empty LIST, the name `a`, an empty LIST and the name `b`.
+fn lists(alloc: Global) -> Result<GreenNode, AllocError> {
+    let mut builder = GreenNodeBuilder::new(alloc);
+    builder.start_node(SyntaxKind::NODE_ROOT)?;
+    builder.start_node(SyntaxKind::NODE_LIST)?;
+    builder.finish_node()?;
+    builder.token(SyntaxKind::TOKEN_IDENT, "a")?;
+    builder.start_node(SyntaxKind::NODE_LIST)?;
+    builder.finish_node()?;
+    builder.token(SyntaxKind::TOKEN_IDENT, "b")?;
+    builder.finish_node()?;
+    builder.finish()
+}
+
+// A ROOT over an empty leaf, `a` and an empty leaf.
+fn leaves(alloc: Global) -> Result<GreenNode, Fail> {
+    let mut builder = GreenNodeBuilder::new(alloc);
+    builder.start_node(SyntaxKind::NODE_ROOT)?;
+    builder.token(SyntaxKind::TOKEN_ERROR, "")?;
+    builder.token(SyntaxKind::TOKEN_IDENT, "a")?;
+    builder.token(SyntaxKind::TOKEN_ERROR, "")?;
+    builder.finish_node()?;
+    Ok(builder.finish()?)
+}
+
+#[test]
+fn tokens_are_found_past_empty_nodes(rt: HostRuntime) -> Result<(), Fail> {
+    let tree = lists(rt.alloc())?;
+    let root = SyntaxNode::new_root(&tree);
+    let Some(a) = root.first_token() else {
+        assert!(rt; false);
+        return Ok(());
+    };
+    assert_eq!(rt; a.text(), "a");
+    assert!(rt; a.next_token().is_some_and(|token| token.text() == "b"));
+    assert!(rt; a.prev_token().is_none());
+    assert!(rt;
+        root.first_child()
+            .is_some_and(|list| list.first_token().is_none())
+    );
+    assert!(rt;
+        root.last_child()
+            .is_some_and(|list| list.last_token().is_none())
+    );
+    Ok(())
+}
+
+#[test]
+fn empty_leaves_stand_at_no_offset(rt: HostRuntime) -> Result<(), Fail> {
+    let tree = leaves(rt.alloc())?;
+    let root = SyntaxNode::new_root(&tree);
+    assert!(rt;
+        root.first_token()
+            .is_some_and(|token| token.text().is_empty())
+    );
+    if root.text_range() == TextRange::new(0, 1) {
+        for offset in 0..2usize {
+            if let TokenAtOffset::Single(token) = root.token_at_offset(offset) {
+                assert_eq!(rt; token.text(), "a");
+            } else {
+                assert!(rt; false);
+            }
+        }
+    }
+    Ok(())
+}
+
+#[test]
+fn a_checkpoint_behind_an_open_node(rt: HostRuntime) -> Result<(), Fail> {
+    let mut builder = GreenNodeBuilder::new(rt.alloc());
+    let start = builder.checkpoint();
+    builder.token(SyntaxKind::TOKEN_IDENT, "a")?;
+    assert!(rt; !builder.is_complete());
+    builder.start_node(SyntaxKind::NODE_LIST)?;
+    assert!(rt; !builder.is_valid_checkpoint(start));
+    builder.finish_node()?;
+    assert!(rt; builder.is_valid_checkpoint(start));
+    Ok(())
+}
+
+#[test]
+fn a_checkpoint_behind_leaves_that_a_node_closes_over(rt: HostRuntime) -> Result<(), Fail> {
+    let mut builder = GreenNodeBuilder::new(rt.alloc());
+    builder.start_node(SyntaxKind::NODE_ROOT)?;
+    builder.token(SyntaxKind::TOKEN_IDENT, "a")?;
+    builder.token(SyntaxKind::TOKEN_IDENT, "b")?;
+    let behind = builder.checkpoint();
+    builder.finish_node()?;
+    assert!(rt; !builder.is_valid_checkpoint(behind));
+    Ok(())
+}
+
+#[test]
+fn deep_lists_are_walked(rt: HostRuntime) -> Result<(), Fail> {
+    let mut builder = GreenNodeBuilder::new(rt.alloc());
+    for _level in 0..100_000u32 {
+        builder.start_node(SyntaxKind::NODE_LIST)?;
+    }
+    for _level in 0..100_000u32 {
+        if builder.open_nodes() > 0 {
+            builder.finish_node()?;
+        }
+    }
+    if !builder.is_complete() {
+        assert!(rt; false);
+        return Ok(());
+    }
+    let tree = builder.finish()?;
+    let root = SyntaxNode::new_root(&tree);
+    assert_eq!(rt; root.preorder_with_tokens().count(), 200_000);
+    let mut left: u32 = 0;
+    for event in root.preorder() {
+        if let WalkEvent::Leave(_) = event {
+            left = left.saturating_add(1);
+        }
+    }
+    assert_eq!(rt; left, 100_000);
+    let copy = tree.try_clone()?;
+    assert!(rt; SyntaxNode::new_root(&copy) == root);
+    Ok(())
+}
+
+#[test]
+fn a_copy_is_made_in_spite_of_a_refusal(rt: HostRuntime) -> Result<(), Fail> {
+    // The tree is built again if it was its own memory that was refused.
+    let tree = match lists(rt.alloc()) {
+        Ok(tree) => tree,
+        Err(_refused) => lists(rt.alloc())?,
+    };
+    let copy = match tree.try_clone() {
+        Ok(copy) => copy,
+        Err(_refused) => tree.try_clone()?,
+    };
+    assert!(rt; SyntaxNode::new_root(&copy) == SyntaxNode::new_root(&tree));
+    Ok(())
+}
+
+#[test]
+fn any_kind_stands_on_leaves_and_nodes(rt: HostRuntime) -> Result<(), Fail> {
+    let mut builder = GreenNodeBuilder::new(rt.alloc());
+    builder.start_node(SyntaxKind::TOKEN_ADD)?;
+    builder.token(SyntaxKind::NODE_LIST, "x")?;
+    builder.finish_node()?;
+    let tree = builder.finish()?;
+    let root = SyntaxNode::new_root(&tree);
+    assert!(rt; root.kind() == SyntaxKind::TOKEN_ADD);
+    assert!(rt;
+        root.first_token()
+            .is_some_and(|leaf| leaf.kind() == SyntaxKind::NODE_LIST)
+    );
+    Ok(())
+}

@@ -1,0 +1,75 @@
+//! Kinds and sets of kinds.
+
+use rnix_kinds::{SyntaxKind, TokenSet};
+use std::test::Fail;
+
+// The names of all kinds, a space between two.
+const NAMES: &str = "\
+    TOKEN_ADD TOKEN_AND_AND TOKEN_ASSIGN TOKEN_ASSERT TOKEN_AT TOKEN_COLON TOKEN_COMMA \
+    TOKEN_COMMENT TOKEN_CONCAT TOKEN_CUR_POS TOKEN_DIV TOKEN_DOT TOKEN_ELLIPSIS TOKEN_ELSE \
+    TOKEN_EQUAL TOKEN_ERROR TOKEN_FLOAT TOKEN_IDENT TOKEN_IF TOKEN_IMPLICATION TOKEN_IN \
+    TOKEN_INHERIT TOKEN_INTEGER TOKEN_INTERPOL_END TOKEN_INTERPOL_START TOKEN_INVERT \
+    TOKEN_L_BRACE TOKEN_L_BRACK TOKEN_L_PAREN TOKEN_LESS TOKEN_LESS_OR_EQ TOKEN_LET TOKEN_MORE \
+    TOKEN_MORE_OR_EQ TOKEN_MUL TOKEN_NOT_EQUAL TOKEN_OR TOKEN_OR_OR TOKEN_PATH_ABS \
+    TOKEN_PATH_HOME TOKEN_PATH_REL TOKEN_PATH_SEARCH TOKEN_PIPE_LEFT TOKEN_PIPE_RIGHT \
+    TOKEN_QUESTION TOKEN_R_BRACE TOKEN_R_BRACK TOKEN_R_PAREN TOKEN_REC TOKEN_SEMICOLON \
+    TOKEN_STRING_CONTENT TOKEN_STRING_END TOKEN_STRING_START TOKEN_SUB TOKEN_THEN TOKEN_UPDATE \
+    TOKEN_URI TOKEN_WHITESPACE TOKEN_WITH NODE_APPLY NODE_ASSERT NODE_ATTR_SET NODE_ATTRPATH \
+    NODE_ATTRPATH_VALUE NODE_BIN_OP NODE_CUR_POS NODE_DYNAMIC NODE_ERROR NODE_HAS_ATTR \
+    NODE_IDENT NODE_IDENT_PARAM NODE_IF_ELSE NODE_INHERIT NODE_INHERIT_FROM NODE_INTERPOL \
+    NODE_LAMBDA NODE_LEGACY_LET NODE_LET_IN NODE_LIST NODE_LITERAL NODE_PAREN NODE_PAT_BIND \
+    NODE_PAT_ENTRY NODE_PATTERN NODE_PATH_ABS NODE_PATH_HOME NODE_PATH_REL NODE_PATH_SEARCH \
+    NODE_ROOT NODE_SELECT NODE_STRING NODE_UNARY_OP NODE_WITH";
+
+// Whether the set holds the kinds of these names and no other kind.
+fn holds_only(set: TokenSet, names: &[&str]) -> bool {
+    for name in NAMES.split(' ') {
+        let Ok(kind) = name.parse::<SyntaxKind>() else {
+            return false;
+        };
+        if set.contains(kind) != names.contains(&name) {
+            return false;
+        }
+    }
+    true
+}
+
+#[test]
+fn names_of_kinds_are_read(rt: HostRuntime) {
+    assert!(rt; "TOKEN_COMMENT".parse() == Ok(SyntaxKind::TOKEN_COMMENT));
+    assert!(rt; "NODE_ROOT".parse() == Ok(SyntaxKind::NODE_ROOT));
+    assert!(rt; "NODE_HAS_ATTR".parse() == Ok(SyntaxKind::NODE_HAS_ATTR));
+    for text in ["INVALID", "token_comment", ""] {
+        assert!(rt; text.parse::<SyntaxKind>().is_err());
+    }
+}
+
+#[test]
+fn what_is_no_name_says_so(rt: HostRuntime) -> Result<(), Fail> {
+    if let Err(error) = "INVALID".parse::<SyntaxKind>() {
+        let text = format!(in rt.alloc(); "{error}")?;
+        assert_eq!(rt; text.as_str(), "invalid SyntaxKind");
+    }
+    Ok(())
+}
+
+#[test]
+fn sets_hold_what_was_joined(rt: HostRuntime) {
+    assert_eq!(rt; NAMES.split(' ').count(), 93);
+    let both = SyntaxKind::TOKEN_ADD | SyntaxKind::TOKEN_SUB;
+    assert!(rt; holds_only(both, &["TOKEN_ADD", "TOKEN_SUB"]));
+    assert!(rt; holds_only(() | SyntaxKind::TOKEN_MUL, &["TOKEN_MUL"]));
+    assert!(rt; holds_only(SyntaxKind::TOKEN_MUL | (), &["TOKEN_MUL"]));
+    let three = ["TOKEN_ADD", "TOKEN_MUL", "TOKEN_SUB"];
+    assert!(rt; holds_only(both | SyntaxKind::TOKEN_MUL, &three));
+    assert!(rt; holds_only(SyntaxKind::TOKEN_MUL | both, &three));
+    assert!(rt; holds_only(both | TokenSet::new(SyntaxKind::TOKEN_MUL), &three));
+    assert!(rt; holds_only(TokenSet::EMPTY, &[]));
+}
+
+#[test]
+fn classes_of_kinds(rt: HostRuntime) {
+    assert!(rt; SyntaxKind::TOKEN_URI.is_literal() && SyntaxKind::TOKEN_URI.is_fn_arg());
+    assert!(rt; SyntaxKind::TOKEN_REC.is_fn_arg() && !SyntaxKind::TOKEN_REC.is_literal());
+    assert!(rt; SyntaxKind::TOKEN_COMMENT.is_trivia() && !SyntaxKind::TOKEN_OR.is_trivia());
+}

@@ -1,0 +1,9 @@
+//! Tests of walks over trees that were read, of their nodes, and of the names that a user writes.
+#![tactic(auto)]
+
+#[cfg(test)]
+mod identity;
+#[cfg(test)]
+mod names;
+#[cfg(test)]
+mod walks;
