@@ -5,7 +5,7 @@ ghost use Rattle.rnix_grammar.specs.Levels.{operator, plain_power, power, right_
 
 use rnix_kinds::SyntaxKind;
 
-/// Which way operators of one level group. `Neither`: one may not be an operand of another.
+/// Which way operators of one level group. `Neither`: one is an operand of another only in parentheses.
 #[derive(Clone, Copy)]
 pub enum Associativity {
     Left,
