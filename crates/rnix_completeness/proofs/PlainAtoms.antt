@@ -10,7 +10,8 @@ use Rattle.rnix_grammar.specs.Fault.{Fault}
 use Rattle.rnix_grammar.specs.Tables.{is_cur_pos}
 use Rattle.rnix_grammar.specs.Begins.{begin_of}
 use Rattle.rnix_grammar.specs.Sketch.{Token, Sketch, blank, token, branch, fault, one_token, told_as, head_kind, forget}
-use Rattle.rnix_grammar.specs.Machine.{second_kind, Frame}
+use Rattle.rnix_grammar.specs.Machine.{Frame}
+use Rattle.rnix_grammar.specs.Begins.{second_kind}
 use Rattle.rnix_grammar.specs.Rows.{Spot, At, go, live, whole, start}
 use Rattle.rnix_grammar.specs.Strict.{is_strict}
 use Rattle.rnix_grammar.specs.Plain.{is_node, AreUntold}

@@ -9,7 +9,9 @@ use Rattle.rnix_kinds.specs.declared.kinds.SyntaxKind.TheVariants.{TOKEN_IDENT, 
 use Rattle.rnix_kinds.specs.SyntaxKind.{is_fn_arg, is_token}
 use Rattle.rnix_grammar.specs.Sketch.{Sketch, blank, token, branch, fault, one_token, forget}
 use Rattle.rnix_grammar.specs.Rows.{go, live, whole, start, is_atom}
-use Rattle.rnix_grammar.specs.Strict.{untold, is_or, is_plain_name, is_named, is_strict_atom, first_is_atom, first_stands, calls_or, stands_at, is_grouped, is_strict}
+use Rattle.rnix_grammar.specs.Strict.{is_plain_name, is_named, is_strict_atom, first_is_atom, first_stands, calls_or, stands_at, is_grouped, is_strict}
+use Rattle.rnix_grammar.specs.Yield.{untold}
+use Rattle.rnix_grammar.specs.Tables.{is_or}
 use Rattle.rnix_grammar.specs.Tables.{is_cur_pos}
 use Rattle.rnix_grammar.specs.Plain.{is_node, AreUntold}
 use Rattle.rnix_lemmas.proofs.EveryKind.{only, whenever_two}

@@ -14,7 +14,9 @@ use Rattle.rnix_grammar.specs.Sketch.{Token, Sketch, blank, token, branch, fault
 use Rattle.rnix_grammar.specs.Machine.{Frame}
 use Rattle.rnix_grammar.specs.Rows.{Spot, At, go, live, whole, start}
 use Rattle.rnix_grammar.specs.Strict.{is_strict}
-use Rattle.rnix_grammar.specs.Plain.{is_node, AreUntold, nesting, counts}
+use Rattle.rnix_grammar.specs.Plain.{is_node, AreUntold}
+use Rattle.rnix_grammar.specs.Rows.{counts}
+use Rattle.rnix_lemmas.proofs.RowNesting.{nesting}
 use Rattle.rnix_lemmas.proofs.Basics.{true_is_not_false}
 use Rattle.rnix_lemmas.proofs.NodeKinds.{is_error}
 use Rattle.rnix_lemmas.proofs.NodeKinds.{told_plain}

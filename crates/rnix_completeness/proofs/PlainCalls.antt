@@ -15,8 +15,11 @@ use Rattle.rnix_grammar.specs.Actions.{more_action, follow}
 use Rattle.rnix_grammar.specs.Sketch.{Token, Sketch, blank, token, branch, fault, one_token, one_branch, tokens_in, told_as, head_kind, forget, end_from}
 use Rattle.rnix_grammar.specs.Machine.{machine, Node, Operand, Frame, opened, perform, operand_on, Runs, rest as here}
 use Rattle.rnix_grammar.specs.Rows.{BeforeArgument, At, go, live, whole, start, to, is_simple}
-use Rattle.rnix_grammar.specs.Strict.{is_or, is_or_name, is_strict_atom, stands_at, is_strict, may_stand}
-use Rattle.rnix_grammar.specs.Plain.{is_node, AreUntold, ArePaths, nesting, counts}
+use Rattle.rnix_grammar.specs.Strict.{is_or_name, is_strict_atom, stands_at, is_strict, may_stand}
+use Rattle.rnix_grammar.specs.Tables.{is_or}
+use Rattle.rnix_grammar.specs.Plain.{is_node, AreUntold, ArePaths}
+use Rattle.rnix_grammar.specs.Rows.{counts}
+use Rattle.rnix_lemmas.proofs.RowNesting.{nesting}
 use Rattle.rnix_lemmas.proofs.Basics.{true_is_not_false}
 use Rattle.rnix_lemmas.proofs.LevelLemmas.{simple_negated, negated_questioned, questioned_operand, operand_expression}
 use Rattle.rnix_lemmas.proofs.PlainTables.{is_bound, loose, high_in}

@@ -14,10 +14,16 @@ use Rattle.rnix_grammar.specs.Fault.{Fault}
 use Rattle.rnix_grammar.specs.Tables.{depth_limit}
 use Rattle.rnix_grammar.specs.Actions.{action_at}
 use Rattle.rnix_grammar.specs.Sketch.{Token, Sketch, blank, token, branch, fault, one_token, tokens_in, told_as, head_kind, forget}
-use Rattle.rnix_grammar.specs.Machine.{Frame, touches}
+use Rattle.rnix_grammar.specs.Machine.{Frame}
+use Rattle.rnix_grammar.specs.Sketch.{touches}
 use Rattle.rnix_grammar.specs.Rows.{Spot, At, go, live, whole, start, is_attr}
-use Rattle.rnix_grammar.specs.Strict.{is_strict, is_grouped, node_count, untold, is_or, is_or_name}
-use Rattle.rnix_grammar.specs.Plain.{is_node, AreUntold, nesting, counts}
+use Rattle.rnix_grammar.specs.Strict.{is_strict, is_grouped, is_or_name}
+use Rattle.rnix_grammar.specs.Corners.{node_count}
+use Rattle.rnix_grammar.specs.Yield.{untold}
+use Rattle.rnix_grammar.specs.Tables.{is_or}
+use Rattle.rnix_grammar.specs.Plain.{is_node, AreUntold}
+use Rattle.rnix_grammar.specs.Rows.{counts}
+use Rattle.rnix_lemmas.proofs.RowNesting.{nesting}
 use Rattle.rnix_lemmas.proofs.EveryKind.{only, whenever_two}
 use Rattle.rnix_lemmas.proofs.Basics.{true_is_not_false, not_if}
 use Rattle.rnix_lemmas.proofs.NodeKinds.{is_error}

@@ -9,7 +9,8 @@ use Rattle.rnix_grammar.specs.Fault.{named_twice}
 use Rattle.rnix_grammar.specs.Sketch.{Token, Sketch, blank, token, branch, fault, ◌⊕◌, one_token, one_branch, extent_of, forget}
 use Rattle.rnix_grammar.specs.Reports.{entry_name, is_same_name, has_entry, repeated}
 use Rattle.rnix_grammar.specs.Rows.{Spot, go, live, whole, start}
-use Rattle.rnix_grammar.specs.Strict.{is_or_name, begins_with_leaf, first_is_no_or, entry_text, is_among, are_entries_new, is_strict}
+use Rattle.rnix_grammar.specs.Strict.{is_or_name, begins_with_leaf, first_is_no_or, entry_text, are_entries_new, is_strict}
+use Rattle.rnix_grammar.specs.Tables.{is_among}
 use Rattle.rnix_grammar.specs.Plain.{is_node, AreUntold}
 use Rattle.rnix_lemmas.proofs.Basics.{true_is_not_false}
 use Rattle.rnix_lemmas.proofs.EntryNames.{has-⊕}

@@ -18,8 +18,11 @@ use Rattle.rnix_grammar.specs.Actions.{done_at, entries_action}
 use Rattle.rnix_grammar.specs.Slots.{slot_at}
 use Rattle.rnix_grammar.specs.Sketch.{Token, Sketch, blank, token, branch, fault, one_token, tokens_in, head_kind, forget}
 use Rattle.rnix_grammar.specs.Rows.{Spot, At, go, live, whole, start, is_attr}
-use Rattle.rnix_grammar.specs.Strict.{is_strict, untold}
-use Rattle.rnix_grammar.specs.Plain.{is_node, AreUntold, nesting, counts}
+use Rattle.rnix_grammar.specs.Strict.{is_strict}
+use Rattle.rnix_grammar.specs.Yield.{untold}
+use Rattle.rnix_grammar.specs.Plain.{is_node, AreUntold}
+use Rattle.rnix_grammar.specs.Rows.{counts}
+use Rattle.rnix_lemmas.proofs.RowNesting.{nesting}
 use Rattle.rnix_lemmas.proofs.EveryKind.{tokens_alone}
 use Rattle.rnix_lemmas.proofs.Basics.{true_is_not_false}
 use Rattle.rnix_lemmas.proofs.NodeKinds.{is_error}

@@ -12,10 +12,12 @@ use Rattle.rnix_grammar.specs.Fault.{Fault}
 use Rattle.rnix_grammar.specs.Tables.{depth_limit}
 use Rattle.rnix_grammar.specs.Begins.{is_pattern, begin_of, begin_name}
 use Rattle.rnix_grammar.specs.Sketch.{Token, Sketch, blank, token, branch, fault, ◌⊕◌, one_token, one_branch, tokens_in, told_as, head_kind, forget, end_from}
-use Rattle.rnix_grammar.specs.Machine.{begun, second_kind, Machine, machine, Node, Operand, Frame, opened, operand_on, Runs}
+use Rattle.rnix_grammar.specs.Machine.{begun, Machine, machine, Node, Operand, Frame, opened, operand_on, Runs}
+use Rattle.rnix_grammar.specs.Begins.{second_kind}
 use Rattle.rnix_grammar.specs.Rows.{Spot, BeforeAt, At, go, live, start}
 use Rattle.rnix_grammar.specs.Strict.{is_strict, begins_with_leaf, binds_no_or, first_is_no_or}
-use Rattle.rnix_grammar.specs.Plain.{is_node, AreUntold, ArePaths, nesting}
+use Rattle.rnix_grammar.specs.Plain.{is_node, AreUntold, ArePaths}
+use Rattle.rnix_lemmas.proofs.RowNesting.{nesting}
 use Rattle.rnix_lemmas.proofs.EveryKind.{only, only_both, tokens_alone}
 use Rattle.rnix_lemmas.proofs.Basics.{true_is_not_false, not_if}
 use Rattle.rnix_lemmas.proofs.PlainTables.{is_no_at, heeds, is_in_entry, is_in_path, is_in_dynamic}

@@ -8,8 +8,10 @@ use Rattle.rnix_lemmas.proofs.Basics.{true_is_not_false}
 use Rattle.rnix_grammar.specs.declared.place.Place.TheVariants as p
 use Rattle.rnix_grammar.specs.Fault.{Fault}
 use Rattle.rnix_grammar.specs.Sketch.{Token, Sketch, one_token, one_branch, told_as, head_kind, forget}
-use Rattle.rnix_grammar.specs.Machine.{begun, second_kind, machine, Operand, Frame, opened, rest as here}
-use Rattle.rnix_grammar.specs.Strict.{is_named, is_or}
+use Rattle.rnix_grammar.specs.Machine.{begun, machine, Operand, Frame, opened, rest as here}
+use Rattle.rnix_grammar.specs.Begins.{second_kind}
+use Rattle.rnix_grammar.specs.Strict.{is_named}
+use Rattle.rnix_grammar.specs.Tables.{is_or}
 use Rattle.rnix_lemmas.proofs.PlainTables.{loose, high_in}
 use Rattle.rnix_completeness.proofs.PlainChildren.{IsName, only_name}
 use Rattle.rnix_completeness.proofs.PlainSlots.{Able, Raised, Tree}

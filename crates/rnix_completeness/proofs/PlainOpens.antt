@@ -9,11 +9,14 @@ use Rattle.rnix_grammar.specs.Fault.{Fault}
 use Rattle.rnix_grammar.specs.Tables.{depth_limit}
 use Rattle.rnix_grammar.specs.Actions.{action_at}
 use Rattle.rnix_grammar.specs.Sketch.{Token, Sketch, blank, token, branch, ◌⊕◌, one_token, one_branch, tokens_in, told_as, head_kind, forget, end_from}
-use Rattle.rnix_grammar.specs.Machine.{machine, Node, Frame, put, opened, perform, touches, Runs, rest as here}
+use Rattle.rnix_grammar.specs.Machine.{machine, Node, Frame, put, opened, perform, Runs, rest as here}
+use Rattle.rnix_grammar.specs.Sketch.{touches}
 use Rattle.rnix_grammar.specs.Reports.{repeated}
 use Rattle.rnix_grammar.specs.Rows.{Spot, At, go, start}
 use Rattle.rnix_grammar.specs.Strict.{is_strict}
-use Rattle.rnix_grammar.specs.Plain.{nesting, counts, joins}
+use Rattle.rnix_grammar.specs.Plain.{joins}
+use Rattle.rnix_grammar.specs.Rows.{counts}
+use Rattle.rnix_lemmas.proofs.RowNesting.{nesting}
 use Rattle.rnix_lemmas.proofs.SketchLemmas.{⊕-assoc}
 use Rattle.rnix_completeness.proofs.PlainPlaces.{Onward, Reaches, reaches}
 use Rattle.rnix_completeness.proofs.PlainSteps.{runs_on, runs_to, step_to}

@@ -16,7 +16,9 @@ use Rattle.rnix_grammar.specs.Sketch.{Token, Sketch, blank, token, branch, fault
 use Rattle.rnix_grammar.specs.Machine.{machine, Node, Frame, opened, perform, rest as here}
 use Rattle.rnix_grammar.specs.Rows.{Spot, Start, At, go, go_slot, live, start}
 use Rattle.rnix_grammar.specs.Strict.{is_strict, first_is_no_or, binds_no_or, begins_with_leaf}
-use Rattle.rnix_grammar.specs.Plain.{is_node, AreUntold, nesting, counts}
+use Rattle.rnix_grammar.specs.Plain.{is_node, AreUntold}
+use Rattle.rnix_grammar.specs.Rows.{counts}
+use Rattle.rnix_lemmas.proofs.RowNesting.{nesting}
 use Rattle.rnix_lemmas.proofs.EveryKind.{not_together, not_alone}
 use Rattle.rnix_lemmas.proofs.Basics.{true_is_not_false}
 use Rattle.rnix_lemmas.proofs.PlainTables.{loose, heeds, is_in_pattern}

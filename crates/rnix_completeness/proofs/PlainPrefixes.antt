@@ -9,7 +9,8 @@ use Rattle.rnix_grammar.specs.declared.begin.Begin.TheVariants as b
 use Rattle.rnix_grammar.specs.Fault.{Fault}
 use Rattle.rnix_grammar.specs.Begins.{begin_of}
 use Rattle.rnix_grammar.specs.Sketch.{Token, Sketch, blank, token, branch, fault, tokens_in, told_as, head_kind, forget}
-use Rattle.rnix_grammar.specs.Machine.{second_kind, Frame}
+use Rattle.rnix_grammar.specs.Machine.{Frame}
+use Rattle.rnix_grammar.specs.Begins.{second_kind}
 use Rattle.rnix_grammar.specs.Rows.{At, go, live, start}
 use Rattle.rnix_lemmas.proofs.EveryKind.{tokens_alone}
 use Rattle.rnix_lemmas.proofs.Basics.{true_is_not_false}

@@ -19,7 +19,8 @@ use Rattle.rnix_lemmas.proofs.EveryKind.{not_together}
 use Rattle.rnix_lemmas.proofs.PlaceTables.{pieces_is}
 use Rattle.rnix_grammar.specs.Slots.{slot_at}
 use Rattle.rnix_grammar.specs.Sketch.{Token, Sketch, blank, token, branch, fault, tokens_in, head_kind, forget, end_from}
-use Rattle.rnix_grammar.specs.Machine.{Frame, touches}
+use Rattle.rnix_grammar.specs.Machine.{Frame}
+use Rattle.rnix_grammar.specs.Sketch.{touches}
 use Rattle.rnix_grammar.specs.Rows.{Spot, At, go_slot, live, to, is_attr, is_entry, fits}
 use Rattle.rnix_grammar.specs.Strict.{is_strict}
 use Rattle.rnix_grammar.specs.Plain.{is_node, joins}

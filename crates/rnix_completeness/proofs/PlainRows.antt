@@ -10,12 +10,15 @@ use Rattle.rnix_grammar.specs.Fault.{Fault}
 use Rattle.rnix_grammar.specs.Tables.{depth_limit}
 use Rattle.rnix_grammar.specs.Actions.{action_at, more_pieces_action}
 use Rattle.rnix_grammar.specs.Sketch.{Token, Sketch, blank, token, branch, fault, ◌⊕◌, one_token, one_branch, tokens_in, head_kind, forget, end_from}
-use Rattle.rnix_grammar.specs.Machine.{machine, Node, Frame, put, opened, perform, touches, Runs, rest as here}
+use Rattle.rnix_grammar.specs.Machine.{machine, Node, Frame, put, opened, perform, Runs, rest as here}
+use Rattle.rnix_grammar.specs.Sketch.{touches}
 use Rattle.rnix_grammar.specs.Reports.{repeated}
 use Rattle.rnix_grammar.specs.Rows.{Spot, At, go, live}
-use Rattle.rnix_grammar.specs.Stands.{repeats}
-use Rattle.rnix_grammar.specs.Strict.{is_strict, node_count}
-use Rattle.rnix_grammar.specs.Plain.{AreUntold, ArePaths, nesting, joins, joins_first}
+use Rattle.rnix_grammar.specs.Reports.{repeats}
+use Rattle.rnix_grammar.specs.Strict.{is_strict}
+use Rattle.rnix_grammar.specs.Corners.{node_count}
+use Rattle.rnix_grammar.specs.Plain.{AreUntold, ArePaths, joins, joins_first}
+use Rattle.rnix_lemmas.proofs.RowNesting.{nesting}
 use Rattle.rnix_lemmas.proofs.SketchLemmas.{⊕-assoc, ⊕-blank}
 use Rattle.rnix_lemmas.proofs.NodeKinds.{is_error}
 use Rattle.rnix_lemmas.proofs.NodeKinds.{told_plain}

@@ -17,10 +17,12 @@ use Rattle.rnix_grammar.specs.Tables.{closes}
 use Rattle.rnix_grammar.specs.Actions.{done_at, series_action}
 use Rattle.rnix_grammar.specs.Slots.{slot_at, level_in}
 use Rattle.rnix_grammar.specs.Sketch.{Token, Sketch, blank, token, branch, fault, tokens_in, head_kind, forget}
-use Rattle.rnix_grammar.specs.Machine.{touches}
+use Rattle.rnix_grammar.specs.Sketch.{touches}
 use Rattle.rnix_grammar.specs.Rows.{Spot, At, go, go_slot, live, to, is_expression, fits}
-use Rattle.rnix_grammar.specs.Strict.{stands_at, stands_in, is_strict, node_count}
-use Rattle.rnix_grammar.specs.Plain.{is_node, is_counted, AreUntold}
+use Rattle.rnix_grammar.specs.Strict.{stands_at, stands_in, is_strict}
+use Rattle.rnix_grammar.specs.Corners.{node_count}
+use Rattle.rnix_grammar.specs.Plain.{is_node, AreUntold}
+use Rattle.rnix_grammar.specs.Slots.{is_counted}
 use Rattle.rnix_lemmas.proofs.PlainTables.{loose, below, is_in_dynamic}
 use Rattle.rnix_completeness.proofs.PlainSteps.{spelled_kind, to_test}
 use Rattle.rnix_lemmas.proofs.NodeKinds.{expression_node, fits_expression, not_both}

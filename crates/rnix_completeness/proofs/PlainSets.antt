@@ -9,7 +9,8 @@ use Rattle.rnix_grammar.specs.declared.place.Place.TheVariants as p
 use Rattle.rnix_grammar.specs.declared.begin.Begin.TheVariants as b
 use Rattle.rnix_grammar.specs.Begins.{is_pattern, begin_of, begin_let}
 use Rattle.rnix_grammar.specs.Sketch.{Token, Sketch, blank, token, branch, fault, one_token, tokens_in, told_as, head_kind, forget}
-use Rattle.rnix_grammar.specs.Machine.{begun, second_kind, machine, Node, Operand, Frame, opened}
+use Rattle.rnix_grammar.specs.Machine.{begun, machine, Node, Operand, Frame, opened}
+use Rattle.rnix_grammar.specs.Begins.{second_kind}
 use Rattle.rnix_grammar.specs.Rows.{Spot, BeforeBrace, At, go, live, start, to, is_attr}
 use Rattle.rnix_grammar.specs.Strict.{is_strict}
 use Rattle.rnix_grammar.specs.Plain.{is_node, AreUntold}

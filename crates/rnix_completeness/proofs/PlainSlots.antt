@@ -25,7 +25,8 @@ use Rattle.rnix_grammar.specs.Sketch.{Token, Sketch, blank, token, branch, fault
 use Rattle.rnix_grammar.specs.Machine.{machine, Operand, Frame, opened, operand_on, Runs}
 use Rattle.rnix_grammar.specs.Rows.{At, go, go_slot, live, whole, start, is_expression}
 use Rattle.rnix_grammar.specs.Strict.{calls_or, stands_at, level_of, is_named, operator_of, prefix_level, is_strict, is_grouped}
-use Rattle.rnix_grammar.specs.Plain.{is_node, AreUntold, ArePaths, nesting, is_path, is_joined}
+use Rattle.rnix_grammar.specs.Plain.{is_node, AreUntold, ArePaths, is_path, is_joined}
+use Rattle.rnix_lemmas.proofs.RowNesting.{nesting}
 use Rattle.rnix_lemmas.proofs.PlainTables.{loose, below, is_bound, high_in, operator_high, prefix_high, heeds}
 use Rattle.rnix_lemmas.proofs.StrictParts.{Parts, parts}
 use Rattle.rnix_completeness.proofs.PlainChildren.{strict_node}

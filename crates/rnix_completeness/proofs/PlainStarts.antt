@@ -10,7 +10,8 @@ use Rattle.rnix_kinds.specs.SyntaxKind.{is_fn_arg, is_token}
 use Rattle.rnix_grammar.specs.Levels.{left_of}
 use Rattle.rnix_grammar.specs.Sketch.{Sketch, blank, token, branch, fault, forget}
 use Rattle.rnix_grammar.specs.Rows.{Start, go, live, whole, start}
-use Rattle.rnix_grammar.specs.Strict.{is_strict, is_grouped, is_named, is_strict_atom, calls_or, operator_of, stands_at, first_is_no_or, binds_no_or, begins_with_leaf, untold}
+use Rattle.rnix_grammar.specs.Strict.{is_strict, is_grouped, is_named, is_strict_atom, calls_or, operator_of, stands_at, first_is_no_or, binds_no_or, begins_with_leaf}
+use Rattle.rnix_grammar.specs.Yield.{untold}
 use Rattle.rnix_grammar.specs.Plain.{is_node, AreUntold}
 use Rattle.rnix_lemmas.proofs.EveryKind.{whenever_two, not_alone}
 use Rattle.rnix_lemmas.proofs.Basics.{true_is_not_false, not_if}

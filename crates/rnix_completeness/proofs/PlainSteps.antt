@@ -15,13 +15,16 @@ use Rattle.rnix_grammar.specs.declared.action.Action.TheVariants as a
 use Rattle.rnix_grammar.specs.Fault.{Fault}
 use Rattle.rnix_grammar.specs.Tables.{is_wanted, closes}
 use Rattle.rnix_grammar.specs.Slots.{slot_at}
-use Rattle.rnix_grammar.specs.Actions.{action_at, done_at, token_action, series_action, entries_action, names_action, is_path_piece, or_action, more_attrs_action, first_piece_action, more_pieces_action, default_action, bind_action}
+use Rattle.rnix_grammar.specs.Actions.{action_at, done_at, token_action, series_action, entries_action, names_action, or_action, more_attrs_action, first_piece_action, more_pieces_action, default_action, bind_action}
+use Rattle.rnix_grammar.specs.TokenKinds.{is_path_piece}
 use Rattle.rnix_grammar.specs.Sketch.{Token, Sketch, ◌⊕◌, one_branch, told_as, head_kind}
-use Rattle.rnix_grammar.specs.Machine.{Machine, machine, Node, Frame, put, opened, perform, step, touches, Runs, rest as here, then as further}
+use Rattle.rnix_grammar.specs.Machine.{Machine, machine, Node, Frame, put, opened, perform, step, Runs, rest as here, then as further}
+use Rattle.rnix_grammar.specs.Sketch.{touches}
 use Rattle.rnix_grammar.specs.Reports.{repeated}
 use Rattle.rnix_grammar.specs.Rows.{is_attr, is_entry, fits, At, Nowhere, go, go_slot, go_names, live, whole, to}
-use Rattle.rnix_grammar.specs.Strict.{untold}
-use Rattle.rnix_grammar.specs.Plain.{is_node, goes_on_path, is_piece_start}
+use Rattle.rnix_grammar.specs.Yield.{untold}
+use Rattle.rnix_grammar.specs.Plain.{is_node, goes_on_path}
+use Rattle.rnix_grammar.specs.TokenKinds.{is_piece_start}
 use Rattle.rnix_lemmas.proofs.EveryKind.{not_alone}
 use Rattle.rnix_lemmas.proofs.Basics.{true_is_not_false}
 use Rattle.rnix_lemmas.proofs.PlaceTables.{pieces_is}

@@ -15,10 +15,13 @@ use Rattle.rnix_grammar.specs.declared.action.Action.TheVariants as a
 use Rattle.rnix_grammar.specs.Actions.{action_at, done_at}
 use Rattle.rnix_grammar.specs.Slots.{slot_at, level_in}
 use Rattle.rnix_grammar.specs.Sketch.{Token, Sketch, branch, ◌⊕◌, one_branch, tokens_in, head_kind, forget, end_from}
-use Rattle.rnix_grammar.specs.Machine.{machine, Node, Operand, Frame, opened, perform, limited, operand_on, touches, Runs, rest as here}
+use Rattle.rnix_grammar.specs.Machine.{machine, Node, Operand, Frame, opened, perform, limited, operand_on, Runs, rest as here}
+use Rattle.rnix_grammar.specs.Sketch.{touches}
 use Rattle.rnix_grammar.specs.Rows.{Spot, At, go, go_slot, start, is_expression, fits}
 use Rattle.rnix_grammar.specs.Strict.{stands_at, stands_in, is_strict, may_stand}
-use Rattle.rnix_grammar.specs.Plain.{is_counted, nesting, counts}
+use Rattle.rnix_grammar.specs.Slots.{is_counted}
+use Rattle.rnix_grammar.specs.Rows.{counts}
+use Rattle.rnix_lemmas.proofs.RowNesting.{nesting}
 use Rattle.rnix_lemmas.proofs.PlainTables.{loose, below, high_in, heeds}
 use Rattle.rnix_completeness.proofs.PlainSteps.{runs_on, step_to, to_test}
 use Rattle.rnix_lemmas.proofs.NodeKinds.{fits_expression}

@@ -10,10 +10,13 @@ use Rattle.rnix_grammar.specs.declared.place.Place.TheVariants as p
 use Rattle.rnix_grammar.specs.Fault.{Fault}
 use Rattle.rnix_grammar.specs.Tables.{depth_limit}
 use Rattle.rnix_grammar.specs.Sketch.{Token, Sketch, blank, token, branch, fault, one_token, one_branch, tokens_in, told_as, head_kind, forget, end_from}
-use Rattle.rnix_grammar.specs.Machine.{begun, second_kind, begins, Machine, machine, Node, Operand, Frame, opened, operand_on, Runs, rest as here, then as further}
+use Rattle.rnix_grammar.specs.Machine.{begun, begins, Machine, machine, Node, Operand, Frame, opened, operand_on, Runs, rest as here, then as further}
+use Rattle.rnix_grammar.specs.Begins.{second_kind}
 use Rattle.rnix_grammar.specs.Rows.{Spot, At, go, live, whole, start}
-use Rattle.rnix_grammar.specs.Strict.{is_strict, untold}
-use Rattle.rnix_grammar.specs.Plain.{is_node, nesting, is_path, is_joined}
+use Rattle.rnix_grammar.specs.Strict.{is_strict}
+use Rattle.rnix_grammar.specs.Yield.{untold}
+use Rattle.rnix_grammar.specs.Plain.{is_node, is_path, is_joined}
+use Rattle.rnix_lemmas.proofs.RowNesting.{nesting}
 use Rattle.rnix_lemmas.proofs.EveryKind.{only}
 use Rattle.rnix_lemmas.proofs.Basics.{true_is_not_false}
 use Rattle.rnix_lemmas.proofs.NodeKinds.{is_error}

@@ -14,7 +14,8 @@ use Rattle.rnix_grammar.specs.Machine.{Node, Frame, Machine, machine, opened, be
 use Rattle.rnix_grammar.specs.Rows.{Spot, At, go, live, to, fits}
 use Rattle.rnix_lemmas.proofs.Basics.{true_is_not_false}
 use Rattle.rnix_grammar.specs.Strict.{is_strict, is_strict_expression}
-use Rattle.rnix_grammar.specs.Plain.{is_node, AreUntold, ArePaths, nesting}
+use Rattle.rnix_grammar.specs.Plain.{is_node, AreUntold, ArePaths}
+use Rattle.rnix_lemmas.proofs.RowNesting.{nesting}
 use Rattle.rnix_lemmas.proofs.StrictParts.{Parts, parts}
 use Rattle.rnix_completeness.proofs.PlainSteps.{runs_to}
 use Rattle.rnix_lemmas.proofs.NodeKinds.{expression_node, fits_expression}

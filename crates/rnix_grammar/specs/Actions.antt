@@ -15,6 +15,7 @@ use Rattle.rnix_grammar.specs.declared.action.Action.TheVariants as a
 use Rattle.rnix_grammar.specs.Tables.{is_wanted, closes}
 use Rattle.rnix_grammar.specs.Levels.{power, right_of, high_of}
 use Rattle.rnix_grammar.specs.Slots.{slot_at}
+use Rattle.rnix_grammar.specs.TokenKinds.{is_l_paren, is_comma, is_path_piece}
 
 -- where a token is wanted
 abbrev pub token_action : Until → Place → Place → Option SyntaxKind → Action
@@ -45,13 +46,6 @@ abbrev pub first_piece_action : Option SyntaxKind → Action
 first_piece_action (Some TOKEN_INTERPOL_START) = a.Open NODE_INTERPOL p.InterpolInside p.PathMore
 first_piece_action next = a.Close
 
--- the tokens of a path that may be interpolated
-abbrev pub is_path_piece : SyntaxKind → Bool
-is_path_piece TOKEN_PATH_ABS = true
-is_path_piece TOKEN_PATH_REL = true
-is_path_piece TOKEN_PATH_HOME = true
-is_path_piece kind = false
-
 -- behind a later piece of a path, by whether the next item touches it
 abbrev pub more_pieces_action : Bool → Option SyntaxKind → Action
 more_pieces_action touches None = a.Close
@@ -71,11 +65,6 @@ attr_action again behind (Some kind) = a.Run u.Attr again
 abbrev pub names_action : Option SyntaxKind → Action
 names_action None = a.Miss p.InheritEnd
 names_action (Some kind) = if is_wanted u.Semicolon kind then a.Take p.Past else attr_action p.InheritName p.InheritNames (Some kind)
-
--- the token `(`
-abbrev pub is_l_paren : SyntaxKind → Bool
-is_l_paren TOKEN_L_PAREN = true
-is_l_paren kind = false
 
 -- behind `inherit`: `(`, or names
 abbrev pub source_action : Option SyntaxKind → Action
@@ -105,11 +94,6 @@ formals_action bound (Some kind) = a.Run u.Entry (p.PatternInside bound)
 abbrev pub braces_action : Bool → Option SyntaxKind → Action
 braces_action bound None = a.Miss (p.PatternEnd bound)
 braces_action bound next = formals_action bound next
-
--- the token `,`
-abbrev pub is_comma : SyntaxKind → Bool
-is_comma TOKEN_COMMA = true
-is_comma kind = false
 
 -- behind an entry of a pattern: `,`, or the closing brace
 abbrev pub comma_action : Bool → Option SyntaxKind → Action

@@ -6,6 +6,8 @@ use Rattle.rnix_grammar.specs.declared.place.Place.TheVariants as p
 use Rattle.rnix_grammar.specs.declared.begin.Begin.{Begin}
 use Rattle.rnix_grammar.specs.declared.begin.Begin.TheVariants as b
 use Rattle.rnix_grammar.specs.Tables.{is_cur_pos}
+use Rattle.rnix_grammar.specs.Sketch.{Token, head_kind}
+use Rattle.rnix_grammar.specs.Layout.{tail_of}
 
 -- `{` begins a pattern
 abbrev pub is_pattern : Option SyntaxKind → Option SyntaxKind → Bool
@@ -69,3 +71,11 @@ begin_of level TOKEN_WITH text second third = begin_scope level TOKEN_WITH secon
 begin_of level TOKEN_ASSERT text second third = begin_scope level TOKEN_ASSERT second
 begin_of level TOKEN_IF text second third = begin_scope level TOKEN_IF second
 begin_of level kind text second third = b.Stray
+
+-- the kind of the second item
+abbrev pub second_kind : List Token → Option SyntaxKind
+second_kind ts = head_kind (tail_of ts)
+
+-- the kind of the third item
+abbrev pub third_kind : List Token → Option SyntaxKind
+third_kind ts = head_kind (tail_of (tail_of ts))

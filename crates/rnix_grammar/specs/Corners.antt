@@ -1,9 +1,18 @@
 -- The corners of the grammar: what is read without an error and is not strict.
-use Rattle.std.specs.Prelude.{Bool, true, false, ◌&&◌, if◌then◌else◌}
+use Rattle.std.specs.Prelude.{ℕ, suc, Bool, true, false, ◌&&◌, if◌then◌else◌, nat_eq}
 use Rattle.rnix_kinds.specs.declared.kinds.SyntaxKind.{SyntaxKind}
 use Rattle.rnix_kinds.specs.declared.kinds.SyntaxKind.TheVariants.{NODE_APPLY, NODE_BIN_OP, NODE_DYNAMIC, NODE_HAS_ATTR, NODE_LAMBDA, NODE_LIST, NODE_SELECT, NODE_UNARY_OP}
 use Rattle.rnix_tree.specs.Forest.{Forest, empty, leaf, node}
-use Rattle.rnix_grammar.specs.Strict.{node_count, is_one}
+
+-- how many trees of a row are nodes
+abbrev pub node_count : Forest → ℕ
+node_count empty = 0
+node_count (leaf k t f) = node_count f
+node_count (node k c f) = suc (node_count f)
+
+-- the number one
+abbrev pub is_one : ℕ → Bool
+is_one n = nat_eq n 1
 
 -- the nodes whose operands are no lambdas
 abbrev pub holds_no_lambda : SyntaxKind → Bool

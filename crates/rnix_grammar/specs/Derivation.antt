@@ -1,14 +1,15 @@
 -- Which expressions of the strict grammar some items have: derivations. The test of strict trees is a means: it says the same as the grammar.
 use Rattle.std.specs.Prelude.{◌≡◌, ◌≤◌, Bool, true, ◌&&◌, List, [], ◌∷◌, map}
+use Rattle.rnix_kinds.specs.declared.kinds.SyntaxKind.TheVariants.{NODE_ROOT}
 use Rattle.rnix_kinds.specs.SyntaxKind.{is_token}
 use Rattle.rnix_tree.specs.Forest.{Forest, empty, leaf, node}
-use Rattle.rnix_grammar.specs.declared.place.Place.TheVariants.{RootStart}
 use Rattle.rnix_grammar.specs.Tables.{depth_limit}
 use Rattle.rnix_grammar.specs.Sketch.{Token, lexeme_of, Sketch, blank, token, branch}
 use Rattle.rnix_grammar.specs.Layout.{tail_of}
-use Rattle.rnix_grammar.specs.Rows.{At}
-use Rattle.rnix_grammar.specs.Strict.{yield, is_strict_expression}
-use Rattle.rnix_grammar.specs.Plain.{nesting, ArePaths}
+use Rattle.rnix_grammar.specs.Strict.{is_strict_expression}
+use Rattle.rnix_grammar.specs.Yield.{yield}
+use Rattle.rnix_grammar.specs.Plain.{ArePaths}
+use Rattle.rnix_grammar.specs.Nest.{nest}
 use Rattle.rnix_grammar.specs.Grammar.{IsExpression}
 
 -- the items behind those of a row
@@ -34,9 +35,9 @@ has_tokens_alone (node k c f) = has_tokens_alone c && has_tokens_alone f
 abbrev pub is_strict_tree : Forest → Bool
 is_strict_tree f = has_tokens_alone f && is_strict_expression f
 
--- A tree is an expression of the strict grammar, nests no more than 512 counted places, has the items as its leaves, one by one, and the pieces of its paths touch.
+-- A tree is an expression of the strict grammar, nests no more than 512 expressions that count, has the items as its leaves, one by one, and the pieces of its paths touch.
 pub record IsDerivation (tree : Forest) (ts : List Token) : Type 0 where
   pub strict : IsExpression tree
-  pub shallow : nesting (At RootStart) tree ≤ depth_limit
+  pub shallow : nest NODE_ROOT tree ≤ depth_limit
   pub yields : yield tree ≡ map lexeme_of ts
   pub joined : ArePaths (laid tree ts) []

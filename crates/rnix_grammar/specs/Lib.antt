@@ -27,6 +27,15 @@ pub mod Named
 pub mod Names
 pub mod Plain
 pub mod Derivation
+pub mod Nest
 pub mod Nesting
 pub mod Unfinished
 pub mod Document
+pub mod OwnItems
+pub mod Operands
+pub mod Reads
+pub mod Reading
+pub mod Ranges
+pub mod TokenKinds
+pub mod TreeLevels
+pub mod Yield

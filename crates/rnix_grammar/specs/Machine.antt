@@ -17,6 +17,9 @@ use Rattle.rnix_grammar.specs.Begins.{begin_of}
 use Rattle.rnix_grammar.specs.Sketch.{Token, Stray, Unwanted, Extra, Twice, TooDeep, Sketch, blank, ◌⊕◌, one_token, one_branch, one_fault, row_of, tokens_in, clean, told, end_from, head_kind}
 use Rattle.rnix_grammar.specs.Layout.{items, from_item, tail_of, trivia_before, dressed, left_after}
 use Rattle.rnix_grammar.specs.Reports.{report, repeated}
+use Rattle.rnix_grammar.specs.Missing.{run_of}
+use Rattle.rnix_grammar.specs.Begins.{second_kind}
+use Rattle.rnix_grammar.specs.Sketch.{touches}
 
 -- what is open: a node, the error node of a second name, an operand that may become part of a node
 pub data Head : Type 0 where
@@ -83,11 +86,6 @@ leaf_in parent (t ∷ ts) = one_token (told parent t) t
 abbrev pub leaf : Bool → SyntaxKind → List Token → Sketch
 leaf raw parent ts = leaf_in parent (past raw ts)
 
--- the items of a run
-abbrev pub run_of : Until → List Token → List Token
-run_of until [] = []
-run_of until (t ∷ ts) = if is_wanted until t.kind then [] else t ∷ run_of until ts
-
 -- the run as leaves, with its trivia where they are read
 abbrev pub run_row : Bool → List Token → List Token → Sketch
 run_row true run ts = dressed (row_of run) (from_item ts)
@@ -148,14 +146,6 @@ abbrev pub limited : Bool → Frame → List Frame → List Token → ℕ → Li
 limited raw f fs ts n es =
     machine (put f.place (ate raw (ate raw f.row ts ⊕ one_fault TooDeep (run_row raw (seen raw ts) ts)) (run_rest raw (seen raw ts) ts)) f ∷ fs)
     (past raw (run_rest raw (seen raw ts) ts)) (end_from n (seen raw ts)) (es ++ too_deep ∷ [])
-
--- the kind of the second item
-abbrev pub second_kind : List Token → Option SyntaxKind
-second_kind ts = head_kind (tail_of ts)
-
--- the kind of the third item
-abbrev pub third_kind : List Token → Option SyntaxKind
-third_kind ts = head_kind (tail_of (tail_of ts))
 
 -- an operand begins with the next item, inside so many counted places: f waits below
 abbrev pub begun : Bool → Begin → ℕ → ℕ → Token → Frame → List Frame → List Token → ℕ → List Fault → Machine
@@ -226,11 +216,6 @@ perform raw a.Apply f fs ts n es =
 perform raw a.ApplyOr f fs ts n es =
     machine (opened Operand (p.Behind (low_of f.place) 15) f.depth (one_branch NODE_APPLY (ate raw f.row ts ⊕ one_branch NODE_IDENT (leaf raw NODE_IDENT ts))) ∷ fs)
     (behind raw ts) (reach raw n ts) es
-
--- the next item touches what was read last
-abbrev pub touches : ℕ → List Token → Bool
-touches n [] = false
-touches n (t ∷ ts) = nat_eq t.start n
 
 -- one step at the innermost frame, if there is one
 abbrev pub step_on : Bool → List Frame → List Token → ℕ → List Fault → Machine

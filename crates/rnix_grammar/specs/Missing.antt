@@ -1,5 +1,5 @@
 -- What is reported where the text ends at a place, and which runs of tokens may stand at one.
-use Rattle.std.specs.Prelude.{Option, Some, None}
+use Rattle.std.specs.Prelude.{List, [], ◌∷◌, Option, Some, None, if◌then◌else◌}
 use Rattle.rnix_grammar.specs.declared.place.Place.{Place}
 use Rattle.rnix_grammar.specs.declared.place.Place.TheVariants as p
 use Rattle.rnix_grammar.specs.declared.until.Until.{Until}
@@ -7,8 +7,9 @@ use Rattle.rnix_grammar.specs.declared.until.Until.TheVariants as u
 use Rattle.rnix_grammar.specs.declared.slot.Slot.{Slot}
 use Rattle.rnix_grammar.specs.declared.slot.Slot.TheVariants as s
 use Rattle.rnix_grammar.specs.Fault.{Fault, ended, ended_before}
-use Rattle.rnix_grammar.specs.Tables.{wanted_kinds}
+use Rattle.rnix_grammar.specs.Tables.{is_wanted, wanted_kinds}
 use Rattle.rnix_grammar.specs.Slots.{slot_at}
+use Rattle.rnix_grammar.specs.Sketch.{Token}
 
 -- what is reported where the text ends at a place, and the place behind what is missing
 abbrev pub lack_in : Slot → Option (Fault × Place)
@@ -46,3 +47,8 @@ run_in slot place = None
 -- so at a place
 abbrev pub run_at : Place → Option (Until × Place)
 run_at place = run_in (slot_at place) place
+
+-- the items of a run
+abbrev pub run_of : Until → List Token → List Token
+run_of until [] = []
+run_of until (t ∷ ts) = if is_wanted until t.kind then [] else t ∷ run_of until ts

@@ -7,13 +7,13 @@ use Rattle.rnix_grammar.specs.Fault.{Fault, named_twice}
 use Rattle.rnix_grammar.specs.Sketch.{Token, Sketch, blank, token, branch, fault}
 use Rattle.rnix_grammar.specs.Rows.{Spot, go, start}
 use Rattle.rnix_grammar.specs.Names.{is_named}
-use Rattle.rnix_grammar.specs.Strict as strict
+use Rattle.rnix_grammar.specs.Tables.{is_or}
 use Rattle.rnix_grammar.specs.BehindErrors.{go_error}
 
 -- a name is TOKEN_OR exactly if it is `or`; no token is TOKEN_CUR_POS, or has the kind of a node
 abbrev pub is_spelled : SyntaxKind → List ℕ → Bool
-is_spelled TOKEN_OR text = strict.is_or text
-is_spelled TOKEN_IDENT text = if strict.is_or text then false else true
+is_spelled TOKEN_OR text = is_or text
+is_spelled TOKEN_IDENT text = if is_or text then false else true
 is_spelled TOKEN_CUR_POS text = false
 is_spelled kind text = is_token kind
 

@@ -9,11 +9,7 @@ use Rattle.rnix_grammar.specs.Slots.{slot_at}
 use Rattle.rnix_grammar.specs.Sketch.{Token, Sketch}
 use Rattle.rnix_grammar.specs.Reports.{only_token}
 use Rattle.rnix_grammar.specs.Rows.{Spot, Start, BeforeArgument, At}
-
--- the name `or`
-abbrev pub is_or : SyntaxKind → Bool
-is_or TOKEN_OR = true
-is_or kind = false
+use Rattle.rnix_grammar.specs.TokenKinds.{is_or}
 
 -- a name that is not `or`
 abbrev pub is_no_or : Token → Bool

@@ -4,63 +4,53 @@ use Rattle.rnix_kinds.specs.declared.kinds.SyntaxKind.TheVariants.{NODE_ROOT}
 use Rattle.rnix_kinds.specs.Lexical.Tokens.{Lexeme}
 use Rattle.rnix_tree.specs.Forest.{Forest, empty, node}
 use Rattle.rnix_tree.specs.Tree.{Tree}
-use Rattle.rnix_grammar.specs.declared.place.Place.TheVariants.{RootStart, RootEnd}
 use Rattle.rnix_grammar.specs.Fault.{Fault}
 use Rattle.rnix_grammar.specs.Tables.{depth_limit}
 use Rattle.rnix_grammar.specs.Sketch.{Sketch, blank, forget, tokens_in, clean, placed_from, AreTold}
-use Rattle.rnix_grammar.specs.Rows.{At}
-use Rattle.rnix_grammar.specs.Stands.{Stands}
+use Rattle.rnix_grammar.specs.Reading.{IsReading}
 use Rattle.rnix_grammar.specs.Mended.{mended, held, halves, AreBegun, ended_count, others, AreSettled, AreNamedLists}
 use Rattle.rnix_grammar.specs.Unfinished.{AreHalvesLast}
 use Rattle.rnix_grammar.specs.Shape.{IsShaped, IsUnrepeated, reports_within}
-use Rattle.rnix_grammar.specs.Trim.{AreFaultsTrimmed}
+use Rattle.rnix_grammar.specs.Trim.{AreFaultsTrimmed, AreNamesBare}
 use Rattle.rnix_grammar.specs.Seams.{AreTriviaBetween}
 use Rattle.rnix_grammar.specs.Named.{is_repeated, Lacks}
 use Rattle.rnix_grammar.specs.Corners.{has_no_corner}
-use Rattle.rnix_grammar.specs.Plain.{nesting, ArePaths}
-use Rattle.rnix_grammar.specs.Nesting.{depth_of, AreLimited}
+use Rattle.rnix_grammar.specs.Plain.{ArePaths}
+use Rattle.rnix_grammar.specs.Nest.{nest}
 use Rattle.rnix_grammar.specs.Grammar.{IsExpression}
 use Rattle.rnix_grammar.specs.Derivation.{IsDerivation}
 use Rattle.rnix_grammar.specs.Layout.{items}
 
--- the trees below the root, without trivia, stand as they may, and the errors are theirs
-abbrev pub StandsWhole : Sketch → List Fault → Type 0
-StandsWhole f faults = Stands NODE_ROOT 1 (At RootStart) (At RootEnd) blank 0 [] f faults
-
--- what is true of the tree and the errors that a text is read as
+-- The tree and the errors of some tokens are their reading, with what follows.
 pub record IsParsed (tokens : List Lexeme) (tree : Tree) (faults : List Fault) : Type 0 where
-  -- the tree with its tokens, and with what each error node is
-  pub sketch : Sketch
-  pub tree_is : tree ≡ record { kind = NODE_ROOT; children = forget sketch }
-  -- the leaves are the tokens, one by one, each of its kind; the name `or` and the current position have kinds of their own
-  pub leaves : tokens_in sketch ≡ placed_from 0 tokens
-  pub told : AreTold NODE_ROOT sketch
+  pub reading : IsReading tokens tree faults
+  -- what is below follows from it
+  -- each leaf is of its token's kind; the name `or` and the current position have kinds of their own
+  pub told : AreTold NODE_ROOT reading.sketch
   -- no error node begins or ends with trivia
-  pub trimmed : AreFaultsTrimmed sketch
+  pub trimmed : AreFaultsTrimmed reading.sketch
+  -- the node of a name holds its token, and nothing else
+  pub bare : AreNamesBare reading.sketch
   -- the errors other than those of the end of the text are those of the error nodes and of repeated entries, in the order in which these close
-  pub paired : others faults ≡ reports_within blank sketch
-  pub stands : StandsWhole (clean sketch) faults
+  pub paired : others faults ≡ reports_within blank reading.sketch
   pub named : AreNamedLists faults
   -- without errors exactly if each node has its shape and no entry is repeated
   pub shaped : (faults ≡ []) ↔ (IsShaped tree × IsUnrepeated tree)
   -- errors of the end of the text: exactly if a node is not whole, and at least as many
-  pub few_halves : halves (node NODE_ROOT (mended (clean sketch)) empty) ≤ ended_count faults
-  pub no_halves : (halves (node NODE_ROOT (mended (clean sketch)) empty) ≡ 0) ↔ (ended_count faults ≡ 0)
+  pub few_halves : halves (node NODE_ROOT (mended (clean reading.sketch)) empty) ≤ ended_count faults
+  pub no_halves : (halves (node NODE_ROOT (mended (clean reading.sketch)) empty) ≡ 0) ↔ (ended_count faults ≡ 0)
   -- in the mended tree, but for numbers that stand for no token, each node's children begin a row of its kind
-  pub begun : AreBegun (node NODE_ROOT (held (clean sketch)) empty)
+  pub begun : AreBegun (node NODE_ROOT (held (clean reading.sketch)) empty)
   -- behind a node that is not whole no item stands, and behind an error of the end of the text no token is reported as wrong
-  pub last_halves : AreHalvesLast (clean sketch) []
+  pub last_halves : AreHalvesLast (clean reading.sketch) []
   pub settled : AreSettled faults
   -- without errors, trivia between two tokens stand in the smallest node that holds both
   pub between : faults ≡ [] → AreTriviaBetween tree
-  -- error nodes aside, no more counted places are inside one another than the limit; without errors so it is in the tree; and what is
-  -- nested too deep is inside as many as the limit
-  pub shallow : depth_of (At RootStart) (clean sketch) ≤ depth_limit
-  pub nested : faults ≡ [] → nesting (At RootStart) (forget (clean sketch)) ≤ depth_limit
-  pub limited : AreLimited 0 (At RootStart) (clean sketch)
+  -- without errors, no more expressions that count are inside one another than the limit
+  pub nested : faults ≡ [] → nest NODE_ROOT (forget (clean reading.sketch)) ≤ depth_limit
   -- an expression of the strict grammar that the items have, nested no deeper than the limit, is found: there are no errors, and the tree without trivia is it
-  pub found : (derivation : Forest) → IsDerivation derivation (items (placed_from 0 tokens)) → (faults ≡ []) × (forget (clean sketch) ≡ derivation)
+  pub found : (derivation : Forest) → IsDerivation derivation (items (placed_from 0 tokens)) → (faults ≡ []) × (forget (clean reading.sketch) ≡ derivation)
   -- without errors of the end of the text and without repeated names, the mended tree is an expression of the strict grammar if it has no corner
-  pub converse : ended_count faults ≡ 0 → Lacks is_repeated faults → has_no_corner NODE_ROOT (mended (clean sketch)) ≡ true → IsExpression (mended (clean sketch))
+  pub converse : ended_count faults ≡ 0 → Lacks is_repeated faults → has_no_corner NODE_ROOT (mended (clean reading.sketch)) ≡ true → IsExpression (mended (clean reading.sketch))
   -- where the pieces of its paths touch, a text is read without errors and corners exactly if its items have a derivation
-  pub exactly : ArePaths (clean sketch) [] → ((faults ≡ []) × (has_no_corner NODE_ROOT (forget (clean sketch)) ≡ true)) ↔ ((derivation : Forest) × IsDerivation derivation (items (placed_from 0 tokens)))
+  pub exactly : ArePaths (clean reading.sketch) [] → ((faults ≡ []) × (has_no_corner NODE_ROOT (forget (clean reading.sketch)) ≡ true)) ↔ ((derivation : Forest) × IsDerivation derivation (items (placed_from 0 tokens)))

@@ -1,17 +1,17 @@
 -- What is asked of a strict tree, beside its shape, to be read as it is.
-use Rattle.std.specs.Prelude.{◌≡◌, ℕ, suc, max, Bool, true, false, ◌&&◌, List, [], ◌∷◌, ◌++◌, if◌then◌else◌, nat_eq}
+use Rattle.std.specs.Prelude.{◌≡◌, ℕ, Bool, true, false, ◌&&◌, List, [], ◌∷◌, ◌++◌, if◌then◌else◌, nat_eq}
 use Rattle.rnix_kinds.specs.declared.kinds.SyntaxKind.{SyntaxKind}
 use Rattle.rnix_kinds.specs.declared.kinds.SyntaxKind.TheVariants.{TOKEN_INTERPOL_START, NODE_PATH_ABS, NODE_PATH_HOME, NODE_PATH_REL}
 use Rattle.rnix_kinds.specs.SyntaxKind.{is_token}
-use Rattle.rnix_tree.specs.Forest.{Forest, empty, leaf, node}
 use Rattle.rnix_grammar.specs.declared.slot.Slot.{Slot}
 use Rattle.rnix_grammar.specs.declared.slot.Slot.TheVariants.{Operand, Series}
 use Rattle.rnix_grammar.specs.Slots.{slot_at}
-use Rattle.rnix_grammar.specs.Actions.{is_path_piece}
+use Rattle.rnix_grammar.specs.TokenKinds.{is_path_piece}
 use Rattle.rnix_grammar.specs.Sketch.{Token, Sketch, blank, token, branch, fault, tokens_in, end_from}
-use Rattle.rnix_grammar.specs.Machine.{touches}
-use Rattle.rnix_grammar.specs.Rows.{Spot, At, go, start}
-use Rattle.rnix_grammar.specs.Strict.{untold}
+use Rattle.rnix_grammar.specs.Sketch.{touches}
+use Rattle.rnix_grammar.specs.Rows.{Spot, At}
+use Rattle.rnix_grammar.specs.Yield.{untold}
+use Rattle.rnix_grammar.specs.TokenKinds.{is_piece_start}
 
 -- the kinds of nodes
 abbrev pub is_node : SyntaxKind → Bool
@@ -23,28 +23,6 @@ AreUntold blank = Unit {0}
 AreUntold (token k t f) = (is_node k ≡ false) × (t.kind ≡ untold k t.text) × AreUntold f
 AreUntold (branch k c f) = AreUntold c × AreUntold f
 AreUntold (fault n c f) = ⊥
-
--- an operand that stands here is inside one more counted place
-abbrev pub is_counted : Slot → Bool
-is_counted (Operand level counted behind) = counted
-is_counted (Series level closer) = true
-is_counted slot = false
-
--- so it is at a spot
-abbrev pub counts : Spot → Bool
-counts (At place) = is_counted (slot_at place)
-counts spot = false
-
--- how many counted places are inside one another, in a row from a spot on
-abbrev pub nesting : Spot → Forest → ℕ
-nesting q empty = 0
-nesting q (leaf k t f) = nesting (go q k) f
-nesting q (node k c f) = max (if counts q then suc (nesting (start k) c) else nesting (start k) c) (nesting (go q k) f)
-
--- the next item would go on with an interpolated path that it touches
-abbrev pub is_piece_start : SyntaxKind → Bool
-is_piece_start TOKEN_INTERPOL_START = true
-is_piece_start kind = is_path_piece kind
 
 -- the next item touches what ends here and would go on with the path
 abbrev pub goes_on_path : ℕ → List Token → Bool

@@ -51,3 +51,8 @@ repeated_if (Some t) before = if has_entry t.text before then named_twice (exten
 -- the error of an entry that repeats a name of its siblings
 abbrev pub repeated : Sketch → Sketch → List Fault
 repeated before entry = repeated_if (entry_name entry) before
+
+-- the error of an entry of a pattern that repeats a name of one before it
+abbrev pub repeats : SyntaxKind → Sketch → Sketch → List Fault
+repeats NODE_PAT_ENTRY before c = repeated before c
+repeats kind before c = []

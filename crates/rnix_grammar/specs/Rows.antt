@@ -9,8 +9,8 @@ use Rattle.rnix_grammar.specs.declared.slot.Slot.TheVariants as s
 use Rattle.rnix_grammar.specs.Tables.{is_wanted, closes}
 use Rattle.std.specs.Option.{is_some}
 use Rattle.rnix_grammar.specs.Levels.{operator, right_of}
-use Rattle.rnix_grammar.specs.Slots.{slot_at}
-use Rattle.rnix_grammar.specs.Actions.{is_path_piece}
+use Rattle.rnix_grammar.specs.Slots.{slot_at, is_counted}
+use Rattle.rnix_grammar.specs.TokenKinds.{is_path_piece}
 
 -- what `.` and `or` may follow
 abbrev pub is_atom : SyntaxKind → Bool
@@ -370,3 +370,8 @@ is_row node kinds = whole (run (start node) kinds)
 pub record IsBeginning (node : SyntaxKind) (kinds : List SyntaxKind) : Type 0 where
   pub more : List SyntaxKind
   pub is : whole (run (run (start node) kinds) more) ≡ true
+
+-- so it is at a spot
+abbrev pub counts : Spot → Bool
+counts (At place) = is_counted (slot_at place)
+counts spot = false

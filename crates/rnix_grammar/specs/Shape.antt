@@ -8,9 +8,10 @@ use Rattle.rnix_tree.specs.Tree.{Tree, forest_of}
 use Rattle.rnix_grammar.specs.Fault.{Fault}
 use Rattle.rnix_grammar.specs.Sketch.{Sketch, blank, token, branch, fault, ◌⊕◌, one_token, one_branch, one_fault, tokens_in, clean}
 use Rattle.rnix_grammar.specs.Reports.{report}
-use Rattle.rnix_grammar.specs.Stands.{repeats}
+use Rattle.rnix_grammar.specs.Reports.{repeats}
 use Rattle.rnix_grammar.specs.Rows.{is_row}
 use Rattle.rnix_grammar.specs.Trim.{AreNodesTrimmed}
+use Rattle.rnix_grammar.specs.Tables.{is_among}
 
 -- the kinds of a row's trees, without trivia
 abbrev pub item_kinds : Forest → List SyntaxKind
@@ -78,11 +79,6 @@ abbrev pub entry_names : Forest → List (List ℕ)
 entry_names empty = []
 entry_names (leaf k t f) = entry_names f
 entry_names (node k c f) = with_name (name_if k c) (entry_names f)
-
--- a name is among others
-abbrev pub is_among : List ℕ → List (List ℕ) → Bool
-is_among name [] = false
-is_among name (other ∷ names) = if bytes_eq name other then true else is_among name names
 
 -- none of the names is one of those before it
 abbrev pub AreNew : List (List ℕ) → List (List ℕ) → Type 0

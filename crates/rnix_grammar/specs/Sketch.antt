@@ -1,5 +1,5 @@
 -- Trees as they are read: each leaf keeps the token that it stands for, and each error node says what it is.
-use Rattle.std.specs.Prelude.{◌≡◌, ℕ, ◌+◌, Bool, true, false, List, [], ◌∷◌, ◌++◌, Option, Some, None, length}
+use Rattle.std.specs.Prelude.{◌≡◌, ℕ, ◌+◌, Bool, true, false, List, [], ◌∷◌, ◌++◌, Option, Some, None, length, nat_eq}
 use Rattle.rnix_kinds.specs.declared.kinds.SyntaxKind.{SyntaxKind}
 use Rattle.rnix_kinds.specs.declared.kinds.SyntaxKind.TheVariants.{TOKEN_IDENT, TOKEN_OR, TOKEN_CUR_POS, NODE_IDENT, NODE_CUR_POS, NODE_ERROR}
 use Rattle.rnix_kinds.specs.SyntaxKind.{is_trivia}
@@ -151,3 +151,8 @@ head_kind ts = kind_in (head_of ts)
 -- the next token without its place
 abbrev pub head_lexeme : List Token → Option Lexeme
 head_lexeme ts = lexeme_in (head_of ts)
+
+-- the next item touches what was read last
+abbrev pub touches : ℕ → List Token → Bool
+touches n [] = false
+touches n (t ∷ ts) = nat_eq t.start n

@@ -1,5 +1,5 @@
 -- The grammar: what stands at each place of a node's row.
-use Rattle.std.specs.Prelude.{ℕ, true, false, Option, Some, None}
+use Rattle.std.specs.Prelude.{ℕ, Bool, true, false, Option, Some, None}
 use Rattle.rnix_grammar.specs.declared.place.Place.{Place}
 use Rattle.rnix_grammar.specs.declared.place.Place.TheVariants as p
 use Rattle.rnix_grammar.specs.declared.until.Until.TheVariants as u
@@ -80,3 +80,9 @@ abbrev pub level_in : Slot → Option ℕ
 level_in (s.Operand level counted behind) = Some level
 level_in (s.Series level closer) = Some level
 level_in slot = None
+
+-- an operand that stands here is inside one more counted place
+abbrev pub is_counted : Slot → Bool
+is_counted (s.Operand level counted behind) = counted
+is_counted (s.Series level closer) = true
+is_counted slot = false

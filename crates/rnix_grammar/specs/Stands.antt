@@ -4,7 +4,7 @@ use Rattle.rnix_kinds.specs.declared.kinds.SyntaxKind.{SyntaxKind}
 use Rattle.rnix_kinds.specs.declared.kinds.SyntaxKind.TheVariants.{TOKEN_QUESTION, TOKEN_DOT, TOKEN_EQUAL, TOKEN_NOT_EQUAL, TOKEN_LESS, TOKEN_LESS_OR_EQ, TOKEN_MORE, TOKEN_MORE_OR_EQ, TOKEN_INVERT, NODE_IDENT, NODE_CUR_POS, NODE_BIN_OP, NODE_HAS_ATTR, NODE_UNARY_OP, NODE_APPLY, NODE_LEGACY_LET, NODE_LET_IN, NODE_ROOT, NODE_ERROR, NODE_LITERAL, NODE_ATTRPATH, NODE_PATTERN, NODE_PAT_ENTRY, NODE_INHERIT, NODE_INTERPOL, NODE_ATTR_SET, NODE_ATTRPATH_VALUE, NODE_WITH, NODE_ASSERT, NODE_INHERIT_FROM, NODE_PAREN, NODE_LAMBDA, NODE_IF_ELSE, NODE_PAT_BIND, NODE_STRING}
 use Rattle.rnix_kinds.specs.SyntaxKind.{is_fn_arg}
 use Rattle.rnix_grammar.specs.declared.place.Place.{Place}
-use Rattle.rnix_grammar.specs.declared.place.Place.TheVariants.{RootEnd, PatternEnd, PatternPast}
+use Rattle.rnix_grammar.specs.declared.place.Place.TheVariants.{RootStart, RootEnd, PatternEnd, PatternPast}
 use Rattle.rnix_grammar.specs.declared.until.Until.{Until}
 use Rattle.rnix_grammar.specs.declared.until.Until.TheVariants as u
 use Rattle.rnix_grammar.specs.Fault.{Fault}
@@ -15,19 +15,13 @@ use Rattle.rnix_grammar.specs.Levels.{power, left_of}
 use Rattle.rnix_grammar.specs.Tables.{stops, closes, depth_limit}
 use Rattle.rnix_grammar.specs.Sketch.{Token, Note, Stray, Unwanted, Extra, Twice, TooDeep, Sketch, blank, token, branch, fault, ◌⊕◌, one_token, one_branch, one_fault, row_of, tokens_in, is_some, told, head_kind}
 use Rattle.rnix_grammar.specs.Reports.{report, repeated}
-use Rattle.rnix_grammar.specs.Names.{is_or, is_named}
+use Rattle.rnix_grammar.specs.Names.{is_named}
+use Rattle.rnix_grammar.specs.TokenKinds.{is_or}
 use Rattle.rnix_grammar.specs.Rows.{is_atom, is_simple, is_operand, is_infix, Spot, BeforeOperator, BeforeQuestion, BeforeArgument, At, SecondStart, go, live, whole, start}
 use Rattle.rnix_grammar.specs.Missing.{lack, run_at}
-
--- the token `?`
-abbrev pub is_question : SyntaxKind → Bool
-is_question TOKEN_QUESTION = true
-is_question kind = false
-
--- the token `.`
-abbrev pub is_dot : SyntaxKind → Bool
-is_dot TOKEN_DOT = true
-is_dot kind = false
+use Rattle.rnix_grammar.specs.TokenKinds.{is_question, is_dot}
+use Rattle.rnix_grammar.specs.TreeLevels.{is_or_row, row_level, is_atom_row}
+use Rattle.rnix_grammar.specs.Reports.{repeats}
 
 -- operators that do not group
 abbrev pub is_comparison : SyntaxKind → Bool
@@ -133,11 +127,6 @@ IsBeside Twice parent depth q r before count ts after = ⊥
 IsBeside TooDeep parent depth q r before count ts after =
     (after ≡ []) × (depth_limit < depth) × (depth_limit ≤ count) × (go q NODE_LITERAL ≡ r) × (live r ≡ true)
 
--- the error of an entry of a pattern that repeats a name of one before it
-abbrev pub repeats : SyntaxKind → Sketch → Sketch → List Fault
-repeats NODE_PAT_ENTRY before c = repeated before c
-repeats kind before c = []
-
 -- a row begins with a token
 abbrev pub begins_with_token : Sketch → Bool
 begins_with_token (token k t f) = true
@@ -163,60 +152,6 @@ is_filled kind c = is_some (tokens_in c)
 -- a node that may stand at a spot
 abbrev pub is_formed : Spot → SyntaxKind → Sketch → Bool
 is_formed spot kind c = is_filled kind c && suits spot kind c
-
--- the operator behind the first tree
-abbrev pub operator_in : Sketch → SyntaxKind
-operator_in (branch k c (token j t f)) = j
-operator_in (fault n c (token j t f)) = j
-operator_in f = NODE_ROOT
-
--- the level of a prefix operator's node, by its operator
-abbrev pub prefix_in : Sketch → ℕ
-prefix_in blank = 0
-prefix_in (token TOKEN_INVERT t f) = 9
-prefix_in f = 14
-
--- a row begins with the token `or`
-abbrev pub is_or_leaf : Sketch → Bool
-is_or_leaf (token k t f) = is_or t.kind
-is_or_leaf f = false
-
--- a row begins with the name `or`
-abbrev pub is_or_row : Sketch → Bool
-is_or_row (branch NODE_IDENT c f) = is_or_leaf c
-is_or_row f = false
-
--- the second tree of a row is the name `or`
-abbrev pub calls_or : Sketch → Bool
-calls_or (branch k c f) = is_or_row f
-calls_or (fault n c f) = is_or_row f
-calls_or f = false
-
--- the tightest level at which a tree of a row may stand, with its error nodes; 0 is a tree that only stands where any expression may (specs/Strict
--- says the same of trees without them, where a lambda is as loose)
-abbrev pub level_of : SyntaxKind → Sketch → ℕ
-level_of NODE_BIN_OP c = power (operator_in c)
-level_of NODE_HAS_ATTR c = 13
-level_of NODE_UNARY_OP c = prefix_in c
-level_of NODE_APPLY c = if calls_or c then 16 else 15
-level_of NODE_LEGACY_LET c = 0
-level_of NODE_LET_IN c = 0
-level_of NODE_WITH c = 0
-level_of NODE_IF_ELSE c = 0
-level_of NODE_ASSERT c = 0
-level_of kind c = 16
-
--- the level of the first tree of a row; an error node counts as a literal
-abbrev pub row_level : Sketch → ℕ
-row_level (branch k c f) = level_of k c
-row_level (fault n c f) = 16
-row_level f = 0
-
--- a row begins with an atom, or with an error node
-abbrev pub is_atom_row : Sketch → Bool
-is_atom_row (branch k c f) = is_atom k
-is_atom_row (fault n c f) = true
-is_atom_row f = false
 
 -- a tree binds as tightly as a level asks, if one does
 abbrev pub IsTight : Option ℕ → Sketch → Type 0
@@ -264,3 +199,7 @@ pub data Stands : SyntaxKind → ℕ → Spot → Spot → Sketch → ℕ → Li
       → vs ≡ tokens_in f ++ us → Stands k (suc a) (start k) (At x) blank i vs c ds → whole (At x) ≡ true
       → is_formed q k c ≡ true → IsLeveled q b (one_branch k c) → go q k ≡ r → live r ≡ true → d ≡ b ⊕ one_branch k c → j ≡ i + length (tokens_in c) → Stands p a r q' d j us f es → fs ≡ (ds ++ repeats k b c) ++ es
       → Stands p a q q' b i us (branch k c f) fs
+
+-- the trees below the root, without trivia, stand as they may, and the errors are theirs
+abbrev pub StandsWhole : Sketch → List Fault → Type 0
+StandsWhole f faults = Stands NODE_ROOT 1 (At RootStart) (At RootEnd) blank 0 [] f faults

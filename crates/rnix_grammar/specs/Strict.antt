@@ -9,15 +9,13 @@ use Rattle.rnix_grammar.specs.Tables.{is_cur_pos}
 use Rattle.rnix_grammar.specs.Levels.{power, left_of}
 use Rattle.rnix_grammar.specs.Slots.{slot_at, level_in}
 use Rattle.rnix_grammar.specs.Rows.{is_atom, is_expression, Spot, BeforeArgument, At, go, live, whole, start}
+use Rattle.rnix_grammar.specs.Tables.{is_or, is_among}
+use Rattle.rnix_grammar.specs.Corners.{node_count, is_one}
 
 -- the text of the only leaf
 abbrev pub only_text : Forest → List ℕ
 only_text (leaf k t f) = t
 only_text f = []
-
--- the text is the word `or` (specs/Names asks the kind of a token instead)
-abbrev pub is_or : List ℕ → Bool
-is_or text = bytes_eq text (codes "or")
 
 -- a name that may be an expression
 abbrev pub is_plain_name : Forest → Bool
@@ -87,16 +85,6 @@ abbrev pub first_is_no_or : Forest → Bool
 first_is_no_or (node k c f) = if is_or_name k c then false else true
 first_is_no_or f = true
 
--- how many trees of a row are nodes
-abbrev pub node_count : Forest → ℕ
-node_count empty = 0
-node_count (leaf k t f) = node_count f
-node_count (node k c f) = suc (node_count f)
-
--- the number one
-abbrev pub is_one : ℕ → Bool
-is_one n = nat_eq n 1
-
 -- the name that a pattern is bound to is not `or`
 abbrev pub binds_no_or : Forest → Bool
 binds_no_or (leaf k t f) = first_is_no_or f
@@ -106,11 +94,6 @@ binds_no_or f = first_is_no_or f
 abbrev pub entry_text : Forest → List ℕ
 entry_text (node NODE_IDENT c f) = only_text c
 entry_text f = []
-
--- the name is one of these
-abbrev pub is_among : List ℕ → List (List ℕ) → Bool
-is_among name [] = false
-is_among name (n ∷ ns) = if bytes_eq name n then true else is_among name ns
 
 -- no entry of a pattern has the name of one before it
 abbrev pub are_entries_new : List (List ℕ) → Forest → Bool
@@ -165,14 +148,3 @@ is_strict q (node k c f) = live (go q k) && (may_stand q k c && (is_grouped k c 
 abbrev pub is_strict_expression : Forest → Bool
 is_strict_expression f = is_strict (start NODE_ROOT) f
 
--- the token of a leaf
-abbrev pub untold : SyntaxKind → List ℕ → SyntaxKind
-untold TOKEN_IDENT text = if is_or text then TOKEN_OR else TOKEN_IDENT
-untold TOKEN_CUR_POS text = TOKEN_IDENT
-untold kind text = kind
-
--- the tokens that a tree stands for
-abbrev pub yield : Forest → List Lexeme
-yield empty = []
-yield (leaf k t f) = (untold k t, t) ∷ yield f
-yield (node k c f) = yield c ++ yield f

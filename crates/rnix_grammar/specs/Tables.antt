@@ -1,5 +1,5 @@
 -- What is wanted where: the kinds of tokens, and the limit of nesting.
-use Rattle.std.specs.Prelude.{ℕ, Bool, true, false, List, [], ◌∷◌, Option, Some, None, codes}
+use Rattle.std.specs.Prelude.{ℕ, Bool, true, false, List, [], ◌∷◌, Option, Some, None, codes, if◌then◌else◌}
 use Rattle.std.specs.Str.{bytes_eq}
 use Rattle.rnix_kinds.specs.declared.kinds.SyntaxKind.{SyntaxKind}
 use Rattle.rnix_kinds.specs.declared.kinds.SyntaxKind.TheVariants.{TOKEN_R_PAREN, TOKEN_L_PAREN, TOKEN_L_BRACE, TOKEN_R_BRACE, TOKEN_L_BRACK, TOKEN_R_BRACK, TOKEN_IN, TOKEN_SEMICOLON, TOKEN_ASSIGN, TOKEN_COLON, TOKEN_THEN, TOKEN_ELSE, TOKEN_INTERPOL_START, TOKEN_INTERPOL_END, TOKEN_STRING_START, TOKEN_STRING_CONTENT, TOKEN_STRING_END, TOKEN_IDENT, TOKEN_OR, TOKEN_CUR_POS, TOKEN_REC, TOKEN_ELLIPSIS}
@@ -75,3 +75,12 @@ operand_kinds = TOKEN_L_PAREN ∷ (TOKEN_REC ∷ (TOKEN_L_BRACE ∷ (TOKEN_L_BRA
 -- how many counted places may be nested
 abbrev pub depth_limit : ℕ
 depth_limit = 512
+
+-- the text is the word `or` (specs/Names asks the kind of a token instead)
+abbrev pub is_or : List ℕ → Bool
+is_or text = bytes_eq text (codes "or")
+
+-- the name is one of these
+abbrev pub is_among : List ℕ → List (List ℕ) → Bool
+is_among name [] = false
+is_among name (n ∷ ns) = if bytes_eq name n then true else is_among name ns

@@ -1,6 +1,7 @@
--- Where trivia do not stand: at the edges of nodes.
-use Rattle.std.specs.Prelude.{◌≡◌, false, List, [], ◌∷◌, ◌++◌}
+-- Where trivia do not stand: at the edges of nodes, and inside names.
+use Rattle.std.specs.Prelude.{◌≡◌, Bool, true, false, List, [], ◌∷◌, ◌++◌}
 use Rattle.rnix_kinds.specs.declared.kinds.SyntaxKind.{SyntaxKind}
+use Rattle.rnix_kinds.specs.declared.kinds.SyntaxKind.TheVariants.{NODE_IDENT}
 use Rattle.rnix_kinds.specs.SyntaxKind.{is_trivia}
 use Rattle.rnix_tree.specs.Forest.{Forest, empty, leaf, node}
 use Rattle.rnix_grammar.specs.Sketch.{Token, Sketch, blank, token, branch, fault, tokens_in}
@@ -39,3 +40,20 @@ abbrev pub AreNodesTrimmed : Forest → Type 0
 AreNodesTrimmed empty = Unit {0}
 AreNodesTrimmed (leaf k t f) = AreNodesTrimmed f
 AreNodesTrimmed (node k c f) = BeginsWithItem (leaf_kinds c) × EndsWithItem (leaf_kinds c) × AreNodesTrimmed c × AreNodesTrimmed f
+
+-- a row has no more than one token
+abbrev pub is_bare : Sketch → Bool
+is_bare blank = true
+is_bare (token k t blank) = true
+is_bare f = false
+
+-- the node of a name holds nothing but a token
+abbrev pub HasBareName : SyntaxKind → Sketch → Type 0
+HasBareName kind c = kind ≡ NODE_IDENT → is_bare c ≡ true
+
+-- and so each name of a row
+abbrev pub AreNamesBare : Sketch → Type 0
+AreNamesBare blank = Unit {0}
+AreNamesBare (token k t f) = AreNamesBare f
+AreNamesBare (branch k c f) = HasBareName k c × AreNamesBare c × AreNamesBare f
+AreNamesBare (fault n c f) = AreNamesBare c × AreNamesBare f

@@ -1,7 +1,8 @@
 //! What the reader does at each place, by the next token that is not trivia.
 
 ghost use Rattle.std.specs.Prelude.{◌≡◌};
-ghost use Rattle.rnix_grammar.specs.Actions.{token_action, series_action, entries_action, pieces_action, first_piece_action, is_path_piece, more_pieces_action, attr_action, names_action, is_l_paren, source_action, more_attrs_action, name_action, formals_action, braces_action, is_comma, comma_action, bind_action, default_action, or_action, end_action, action_at};
+ghost use Rattle.rnix_grammar.specs.Actions.{token_action, series_action, entries_action, pieces_action, first_piece_action, more_pieces_action, attr_action, names_action, source_action, more_attrs_action, name_action, formals_action, braces_action, comma_action, bind_action, default_action, or_action, end_action, action_at};
+ghost use Rattle.rnix_grammar.specs.TokenKinds.{is_path_piece, is_l_paren, is_comma};
 
 use crate::operand::more_action;
 use crate::place::Place;

@@ -16,8 +16,11 @@ use Rattle.rnix_grammar.specs.Tables.{is_cur_pos}
 use Rattle.rnix_grammar.specs.Slots.{slot_at}
 use Rattle.rnix_grammar.specs.Sketch.{Token, Sketch, one_token, one_branch, told_as}
 use Rattle.rnix_grammar.specs.Rows.{is_atom, fits, Spot, Start, BeforeArgument, At, go, start}
-use Rattle.rnix_grammar.specs.Names.{is_or, is_position, is_name_of, is_name_in, is_name_at}
-use Rattle.rnix_grammar.specs.Stands.{continues, repeats, is_formed, is_or_row, level_of}
+use Rattle.rnix_grammar.specs.Names.{is_position, is_name_of, is_name_in, is_name_at}
+use Rattle.rnix_grammar.specs.TokenKinds.{is_or}
+use Rattle.rnix_grammar.specs.Stands.{continues, is_formed}
+use Rattle.rnix_grammar.specs.Reports.{repeats}
+use Rattle.rnix_grammar.specs.TreeLevels.{is_or_row, level_of}
 use Rattle.rnix_lemmas.proofs.Places.{home, tight, over, IsIn, is_last, Placed, RightMost}
 use Rattle.rnix_invariants.proofs.Reading.{Bounded, Grows, Tall}
 use Rattle.rnix_lemmas.proofs.NodeKinds.{is_error}

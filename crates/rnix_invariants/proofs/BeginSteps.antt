@@ -11,7 +11,7 @@ use Rattle.rnix_grammar.specs.Sketch.{Token, is_some, blank, ◌⊕◌, one_toke
 use Rattle.rnix_grammar.specs.Machine.{Machine, Node, Operand, Frame, put, opened, begun}
 use Rattle.rnix_grammar.specs.Reports.{report}
 use Rattle.rnix_grammar.specs.Rows.{fits, BeforeAt, BeforeBrace, go, start}
-use Rattle.rnix_grammar.specs.Names.{is_or}
+use Rattle.rnix_grammar.specs.TokenKinds.{is_or}
 use Rattle.rnix_grammar.specs.Stands.{end, leaf, inner, continues}
 use Rattle.rnix_invariants.proofs.Reading.{Reading, node, operand, One, Level, Waits, in_node}
 use Rattle.rnix_invariants.proofs.NodeSteps.{quiet_at, begun_token}

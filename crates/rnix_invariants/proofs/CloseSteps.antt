@@ -11,7 +11,10 @@ use Rattle.rnix_grammar.specs.Levels.{power}
 use Rattle.rnix_grammar.specs.Sketch.{Token, Sketch, blank, ◌⊕◌, one_branch, tokens_in, is_some, head_kind}
 use Rattle.rnix_grammar.specs.Machine.{Head, Operand, Frame, put}
 use Rattle.rnix_grammar.specs.Rows.{fits, Spot, At, whole, start}
-use Rattle.rnix_grammar.specs.Stands.{Stands, end, inner, continues_kind, repeats, is_attrpath, is_dot, suits, is_filled, level_of, is_or_row}
+use Rattle.rnix_grammar.specs.Stands.{Stands, end, inner, continues_kind, is_attrpath, suits, is_filled}
+use Rattle.rnix_grammar.specs.Reports.{repeats}
+use Rattle.rnix_grammar.specs.TokenKinds.{is_dot}
+use Rattle.rnix_grammar.specs.TreeLevels.{level_of, is_or_row}
 use Rattle.rnix_lemmas.proofs.SketchLemmas.{tokens_two, tokens_in-⊕}
 use Rattle.rnix_lemmas.proofs.StandsLemmas.{stands-⊕, stands-wider}
 use Rattle.rnix_lemmas.proofs.ImitateLemmas.{start_half}

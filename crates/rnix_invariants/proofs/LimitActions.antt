@@ -14,7 +14,7 @@ use Rattle.rnix_grammar.specs.Tables.{is_wanted, closes}
 use Rattle.rnix_grammar.specs.Actions.{token_action, entries_action, more_pieces_action, bind_action, follow, goes_on, more_action, done_at}
 use Rattle.rnix_lemmas.proofs.EachKind.{each_kind, each_next}
 use Rattle.rnix_grammar.specs.Sorts.{LacksNext}
-use Rattle.rnix_grammar.specs.Plain.{is_counted}
+use Rattle.rnix_grammar.specs.Slots.{is_counted}
 
 -- an operand that counts is read
 abbrev pub is_counting : Action → Bool

@@ -6,7 +6,7 @@ use Rattle.rnix_grammar.specs.Fault.{Fault}
 use Rattle.rnix_grammar.specs.Sketch.{Token, Note, TooDeep, Sketch, blank, token, branch, fault, ◌⊕◌}
 use Rattle.rnix_grammar.specs.Machine.{Head, Node, Second, Operand, Frame, leaf_in, made, closed}
 use Rattle.rnix_grammar.specs.Rows.{Spot, Nowhere, go, start}
-use Rattle.rnix_grammar.specs.Plain.{counts}
+use Rattle.rnix_grammar.specs.Rows.{counts}
 use Rattle.rnix_grammar.specs.Nesting.{IsLimited, AreLimited}
 use Rattle.rnix_grammar.specs.BehindErrors.{go_error}
 use Rattle.rnix_invariants.proofs.Reading.{IsSingle, a_node, an_error}

@@ -8,10 +8,11 @@ use Rattle.rnix_grammar.specs.Tables.{depth_limit}
 use Rattle.rnix_grammar.specs.Actions.{action_at}
 use Rattle.rnix_grammar.specs.Slots.{slot_at}
 use Rattle.rnix_grammar.specs.Sketch.{Token, Sketch, blank, head_kind}
-use Rattle.rnix_grammar.specs.Machine.{Head, Node, Second, Operand, Frame, Machine, opened, perform, touches, step_on, begins, Runs, rest, then as further}
+use Rattle.rnix_grammar.specs.Machine.{Head, Node, Second, Operand, Frame, Machine, opened, perform, step_on, begins, Runs, rest, then as further}
+use Rattle.rnix_grammar.specs.Sketch.{touches}
 use Rattle.rnix_grammar.specs.Rows.{Spot, At, start}
 use Rattle.rnix_grammar.specs.Sorts.{sort_of, is_start, Suits, AreKept}
-use Rattle.rnix_grammar.specs.Plain.{counts}
+use Rattle.rnix_grammar.specs.Rows.{counts}
 use Rattle.rnix_grammar.specs.Nesting.{depth_of, AreLimited}
 use Rattle.rnix_lemmas.proofs.PlaceLemmas.{head_fits, step_kept, runs_kept, begins_kept}
 use Rattle.rnix_invariants.proofs.Reading.{Reading}

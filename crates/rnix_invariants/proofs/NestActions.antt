@@ -15,7 +15,8 @@ use Rattle.rnix_grammar.specs.Levels.{right_of, high_of}
 use Rattle.rnix_grammar.specs.Actions.{follow, goes_on, more_action, done_at}
 use Rattle.rnix_grammar.specs.Rows.{start}
 use Rattle.rnix_grammar.specs.Sorts.{LacksNext}
-use Rattle.rnix_grammar.specs.Plain.{is_counted, counts}
+use Rattle.rnix_grammar.specs.Slots.{is_counted}
+use Rattle.rnix_grammar.specs.Rows.{counts}
 use Rattle.rnix_lemmas.proofs.NestSpots.{is_pathless}
 use Rattle.rnix_lemmas.proofs.Basics.{choice}
 

@@ -8,7 +8,7 @@ use Rattle.rnix_grammar.specs.Tables.{depth_limit}
 use Rattle.rnix_grammar.specs.Sketch.{Token, Stray, Unwanted, Extra, Twice, TooDeep, Sketch, blank, token, branch, fault, ◌⊕◌}
 use Rattle.rnix_grammar.specs.Machine.{Head, Node, Second, Operand, Frame, leaf_in, made, closed}
 use Rattle.rnix_grammar.specs.Rows.{is_simple, Spot, BeforeArgument, Nowhere, to, go, start}
-use Rattle.rnix_grammar.specs.Plain.{counts}
+use Rattle.rnix_grammar.specs.Rows.{counts}
 use Rattle.rnix_grammar.specs.Nesting.{depth_of}
 use Rattle.rnix_grammar.specs.BehindErrors.{go_error}
 use Rattle.rnix_invariants.proofs.Reading.{IsSingle, a_node, an_error}

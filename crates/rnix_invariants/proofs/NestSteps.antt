@@ -15,10 +15,12 @@ use Rattle.rnix_grammar.specs.Tables.{depth_limit}
 use Rattle.rnix_grammar.specs.Begins.{begin_of}
 use Rattle.rnix_grammar.specs.Sketch.{Token, Unwanted, Extra, Twice, TooDeep, Sketch, blank, ◌⊕◌, one_branch, one_fault, tokens_in, head_kind}
 use Rattle.rnix_grammar.specs.Reports.{report, repeated}
-use Rattle.rnix_grammar.specs.Machine.{Node, Second, Operand, Frame, opened, behind, leaf, run_of, run_row, low_of, limited, second_kind, begun, operand_on, reading, perform}
+use Rattle.rnix_grammar.specs.Machine.{Node, Second, Operand, Frame, opened, behind, leaf, run_row, low_of, limited, begun, operand_on, reading, perform}
+use Rattle.rnix_grammar.specs.Missing.{run_of}
+use Rattle.rnix_grammar.specs.Begins.{second_kind}
 use Rattle.rnix_grammar.specs.Rows.{Nowhere, start}
 use Rattle.rnix_grammar.specs.Sorts.{FitsNode, FitsSecond, FitsOperand}
-use Rattle.rnix_grammar.specs.Plain.{counts}
+use Rattle.rnix_grammar.specs.Rows.{counts}
 use Rattle.rnix_grammar.specs.Nesting.{depth_of}
 use Rattle.rnix_invariants.proofs.Reading.{IsSingle}
 use Rattle.rnix_lemmas.proofs.NestSpots.{spot_behind}

@@ -9,11 +9,13 @@ use Rattle.rnix_grammar.specs.Tables.{depth_limit}
 use Rattle.rnix_grammar.specs.Actions.{action_at}
 use Rattle.rnix_grammar.specs.Slots.{slot_at}
 use Rattle.rnix_grammar.specs.Sketch.{Token, Sketch, blank, forget, head_kind}
-use Rattle.rnix_grammar.specs.Machine.{Head, Node, Second, Operand, Frame, Machine, opened, perform, touches, step_on, begins, Runs, rest, then as further}
+use Rattle.rnix_grammar.specs.Machine.{Head, Node, Second, Operand, Frame, Machine, opened, perform, step_on, begins, Runs, rest, then as further}
+use Rattle.rnix_grammar.specs.Sketch.{touches}
 use Rattle.rnix_grammar.specs.Rows.{Spot, At, go, start}
 use Rattle.rnix_grammar.specs.Sorts.{sort_of, is_start, Suits, AreKept}
 use Rattle.rnix_grammar.specs.Stands.{Stands, end, leaf, lost, wrong, second as second_stands, inner}
-use Rattle.rnix_grammar.specs.Plain.{counts, nesting}
+use Rattle.rnix_grammar.specs.Rows.{counts}
+use Rattle.rnix_lemmas.proofs.RowNesting.{nesting}
 use Rattle.rnix_grammar.specs.Nesting.{depth_of}
 use Rattle.rnix_lemmas.proofs.PlaceLemmas.{head_fits, step_kept, runs_kept, begins_kept}
 use Rattle.rnix_invariants.proofs.Reading.{IsSingle, Reading, node, operand, second}

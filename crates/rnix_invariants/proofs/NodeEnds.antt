@@ -12,12 +12,14 @@ use Rattle.rnix_grammar.specs.declared.action.Action.TheVariants as a
 use Rattle.rnix_grammar.specs.Fault.{Fault, ended, ended_before}
 use Rattle.rnix_grammar.specs.Tables.{wanted_kinds}
 use Rattle.rnix_grammar.specs.Slots.{slot_at, level_in}
-use Rattle.rnix_grammar.specs.Actions.{action_at, done_at, token_action, name_action, formals_action, braces_action, comma_action, bind_action, default_action, or_action, end_action, is_comma}
+use Rattle.rnix_grammar.specs.Actions.{action_at, done_at, token_action, name_action, formals_action, braces_action, comma_action, bind_action, default_action, or_action, end_action}
+use Rattle.rnix_grammar.specs.TokenKinds.{is_comma}
 use Rattle.rnix_grammar.specs.Sketch.{Token, Extra, blank, ◌⊕◌, one_token, one_branch, one_fault, row_of, tokens_in, told, told_as, head_kind}
 use Rattle.rnix_grammar.specs.Machine.{Node, Frame, put, perform}
 use Rattle.rnix_grammar.specs.Reports.{report}
 use Rattle.rnix_grammar.specs.Rows.{At, SecondStart, go, go_formals, whole, start}
-use Rattle.rnix_grammar.specs.Names.{is_or, is_name_in}
+use Rattle.rnix_grammar.specs.Names.{is_name_in}
+use Rattle.rnix_grammar.specs.TokenKinds.{is_or}
 use Rattle.rnix_grammar.specs.Stands.{Stands, end, leaf, wrong, continues, last_kind}
 use Rattle.rnix_lemmas.proofs.SketchLemmas.{tokens_in-row_of}
 use Rattle.rnix_lemmas.proofs.RunLemmas.{dropped_all}

@@ -14,13 +14,16 @@ use Rattle.rnix_grammar.specs.declared.action.Action.TheVariants as a
 use Rattle.rnix_grammar.specs.Fault.{Fault, ended, ended_before}
 use Rattle.rnix_grammar.specs.Tables.{is_wanted, closes, wanted_kinds}
 use Rattle.rnix_grammar.specs.Slots.{slot_at, level_in}
-use Rattle.rnix_grammar.specs.Actions.{entries_action, pieces_action, first_piece_action, more_pieces_action, attr_action, is_path_piece}
+use Rattle.rnix_grammar.specs.Actions.{entries_action, pieces_action, first_piece_action, more_pieces_action, attr_action}
+use Rattle.rnix_grammar.specs.TokenKinds.{is_path_piece}
 use Rattle.rnix_grammar.specs.Sketch.{Token, Sketch, ◌⊕◌, one_token, one_branch, told, told_as, head_kind}
 use Rattle.rnix_grammar.specs.Machine.{Head, Frame, put, closed, entry_closed, made}
 use Rattle.rnix_grammar.specs.Reports.{repeated}
 use Rattle.rnix_grammar.specs.Rows.{is_attr, is_entry, At, go, whole, start, to}
 use Rattle.rnix_grammar.specs.Names.{is_name_in}
-use Rattle.rnix_grammar.specs.Stands.{repeats, continues, is_attrpath, is_dot, is_inherit, last_kind}
+use Rattle.rnix_grammar.specs.Stands.{continues, is_attrpath, is_inherit, last_kind}
+use Rattle.rnix_grammar.specs.Reports.{repeats}
+use Rattle.rnix_grammar.specs.TokenKinds.{is_dot}
 use Rattle.rnix_grammar.specs.Missing.{lack, run_at}
 use Rattle.rnix_lemmas.proofs.Basics.{true_is_not_false}
 use Rattle.rnix_lemmas.proofs.Places.{home, over, IsIn, is_last, is_pat_entry, Leads}

@@ -11,12 +11,15 @@ use Rattle.rnix_grammar.specs.declared.action.Action.TheVariants as a
 use Rattle.rnix_grammar.specs.Fault.{Fault, ended}
 use Rattle.rnix_grammar.specs.Tables.{is_wanted}
 use Rattle.rnix_grammar.specs.Slots.{slot_at, level_in}
-use Rattle.rnix_grammar.specs.Actions.{attr_action, names_action, source_action, more_attrs_action, is_l_paren}
+use Rattle.rnix_grammar.specs.Actions.{attr_action, names_action, source_action, more_attrs_action}
+use Rattle.rnix_grammar.specs.TokenKinds.{is_l_paren}
 use Rattle.rnix_grammar.specs.Sketch.{Token, told_as, head_kind}
 use Rattle.rnix_grammar.specs.Machine.{Frame, closed}
 use Rattle.rnix_grammar.specs.Rows.{is_attr, At, go, start, go_source, go_names}
 use Rattle.rnix_grammar.specs.Names.{is_name_in}
-use Rattle.rnix_grammar.specs.Stands.{repeats, continues, is_dot, is_inherit, last_kind}
+use Rattle.rnix_grammar.specs.Stands.{continues, is_inherit, last_kind}
+use Rattle.rnix_grammar.specs.Reports.{repeats}
+use Rattle.rnix_grammar.specs.TokenKinds.{is_dot}
 use Rattle.rnix_lemmas.proofs.Places.{is_last, Leads}
 use Rattle.rnix_lemmas.proofs.PlaceTables.{names_home, source_home, attrs_home}
 use Rattle.rnix_invariants.proofs.Reading.{node, AtNode}

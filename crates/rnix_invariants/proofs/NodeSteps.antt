@@ -13,10 +13,12 @@ use Rattle.rnix_grammar.specs.Sketch.{Token, Unwanted, Sketch, blank, token, bra
 use Rattle.std.specs.Prelude.{◌||◌, if◌then◌else◌}
 use Rattle.rnix_kinds.specs.declared.kinds.SyntaxKind.TheVariants.{TOKEN_INVERT, NODE_ERROR, NODE_PAT_BIND, NODE_BIN_OP, NODE_UNARY_OP, NODE_APPLY, NODE_IDENT}
 use Rattle.rnix_grammar.specs.Tables.{is_wanted}
-use Rattle.rnix_grammar.specs.Machine.{Head, Node, Second, Operand, Frame, put, kind_of, run_of, dropped}
+use Rattle.rnix_grammar.specs.Machine.{Head, Node, Second, Operand, Frame, put, kind_of, dropped}
+use Rattle.rnix_grammar.specs.Missing.{run_of}
 use Rattle.rnix_grammar.specs.Reports.{report}
 use Rattle.rnix_grammar.specs.Rows.{At, go}
-use Rattle.rnix_grammar.specs.Stands.{Stands, end, leaf, lost, wrong, continues, last_from, last_kind, seen_as, is_wanted_in, is_inherit, level_of, operator_in, prefix_in, is_or_row, calls_or}
+use Rattle.rnix_grammar.specs.Stands.{Stands, end, leaf, lost, wrong, continues, last_from, last_kind, seen_as, is_wanted_in, is_inherit}
+use Rattle.rnix_grammar.specs.TreeLevels.{level_of, operator_in, prefix_in, is_or_row, calls_or}
 use Rattle.rnix_grammar.specs.Missing.{lack, run_at}
 use Rattle.rnix_lemmas.proofs.SketchLemmas.{⊕-blank, tokens_two, tokens_in-⊕, tokens_in-row_of}
 use Rattle.rnix_lemmas.proofs.StandsLemmas.{stands-⊕}

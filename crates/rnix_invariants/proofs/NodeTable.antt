@@ -23,9 +23,11 @@ use Rattle.rnix_grammar.specs.Slots.{slot_at, level_in}
 use Rattle.rnix_grammar.specs.Actions.{token_action, series_action}
 use Rattle.rnix_grammar.specs.Begins.{begin_of}
 use Rattle.rnix_grammar.specs.Sketch.{Token, Sketch, blank, one_token, one_branch, tokens_in, told, head_kind}
-use Rattle.rnix_grammar.specs.Machine.{Frame, put, perform, reading, operand_on, limited, second_kind}
+use Rattle.rnix_grammar.specs.Machine.{Frame, put, perform, reading, operand_on, limited}
+use Rattle.rnix_grammar.specs.Begins.{second_kind}
 use Rattle.rnix_grammar.specs.Rows.{is_simple, is_negated, is_questioned, is_operand, is_expression, is_infix, fits, Spot, At, go, go_slot, whole, is_end, start, to}
-use Rattle.rnix_grammar.specs.Stands.{Stands, end, leaf, continues, continues_kind, closing, closing_in, is_attrpath, is_dot, is_inherit, last_kind, is_question, is_comparison, IsTight}
+use Rattle.rnix_grammar.specs.Stands.{Stands, end, leaf, continues, continues_kind, closing, closing_in, is_attrpath, is_inherit, last_kind, is_comparison, IsTight}
+use Rattle.rnix_grammar.specs.TokenKinds.{is_dot, is_question}
 use Rattle.rnix_grammar.specs.Missing.{lack_in, lack, run_in, run_at}
 use Rattle.rnix_lemmas.proofs.Basics.{true_is_not_false, not_if}
 use Rattle.rnix_lemmas.proofs.Places.{home, tight, over, IsIn, is_last, Placed, RightMost, Leads, LeadsAll, after, leads_on, wanted_here, allowed}

@@ -4,7 +4,7 @@ use Rattle.rnix_kinds.specs.declared.kinds.SyntaxKind.{SyntaxKind}
 use Rattle.rnix_kinds.specs.declared.kinds.SyntaxKind.TheVariants.{NODE_BIN_OP}
 use Rattle.rnix_grammar.specs.Sketch.{Sketch}
 use Rattle.rnix_grammar.specs.Rows.{is_atom}
-use Rattle.rnix_grammar.specs.Stands.{level_of}
+use Rattle.rnix_grammar.specs.TreeLevels.{level_of}
 use Rattle.rnix_lemmas.proofs.Basics.{true_is_not_false}
 use Rattle.rnix_invariants.proofs.Reading.{Tall}
 use Rattle.rnix_lemmas.proofs.LevelLemmas.{sided}

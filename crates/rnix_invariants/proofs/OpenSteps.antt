@@ -11,7 +11,9 @@ use Rattle.rnix_grammar.specs.Sketch.{Token, Stray, TooDeep, Sketch, blank, â—Œâ
 use Rattle.rnix_grammar.specs.Machine.{Head, Node, Operand, Frame, put, opened, dropped}
 use Rattle.rnix_grammar.specs.Reports.{report}
 use Rattle.rnix_grammar.specs.Rows.{is_atom, fits, Spot, At, go, live, start}
-use Rattle.rnix_grammar.specs.Stands.{Stands, end, leaf, wrong, inner, repeats, is_formed, is_or_row, IsLeveled, IsOpened}
+use Rattle.rnix_grammar.specs.Stands.{Stands, end, leaf, wrong, inner, is_formed, IsLeveled, IsOpened}
+use Rattle.rnix_grammar.specs.Reports.{repeats}
+use Rattle.rnix_grammar.specs.TreeLevels.{is_or_row}
 use Rattle.rnix_lemmas.proofs.SketchLemmas.{tokens_in-row_of}
 use Rattle.rnix_lemmas.proofs.Basics.{true_is_not_false}
 use Rattle.rnix_lemmas.proofs.RunLemmas.{dropped_all}

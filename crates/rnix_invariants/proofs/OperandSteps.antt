@@ -14,11 +14,14 @@ use Rattle.rnix_grammar.specs.Levels.{power, left_of, right_of, high_of}
 use Rattle.rnix_grammar.specs.Actions.{follow, goes_on, more_action}
 use Rattle.rnix_grammar.specs.Begins.{begin_of}
 use Rattle.rnix_grammar.specs.Sketch.{Token, Sketch, blank, ◌⊕◌, one_token, one_branch, tokens_in, is_some, told, told_as, head_kind}
-use Rattle.rnix_grammar.specs.Machine.{Head, Node, Operand, Frame, put, opened, low_of, perform, second_kind, closed, made, begun}
+use Rattle.rnix_grammar.specs.Machine.{Head, Node, Operand, Frame, put, opened, low_of, perform, closed, made, begun}
+use Rattle.rnix_grammar.specs.Begins.{second_kind}
 use Rattle.rnix_grammar.specs.Rows.{is_atom, is_simple, is_operand, is_infix, fits, Spot, Start, BeforeOperator, BeforeDot, BeforeQuestion, BeforeArgument, At, go, live, start, to}
 use Rattle.rnix_grammar.specs.Tables.{is_cur_pos}
-use Rattle.rnix_grammar.specs.Names.{is_or}
-use Rattle.rnix_grammar.specs.Stands.{end, leaf, inner, continues_kind, closing, is_attrpath, is_dot, is_atom_row, calls_or, operator_in, level_of, row_level, last_from, IsLeveled, IsArgument, IsOpened}
+use Rattle.rnix_grammar.specs.TokenKinds.{is_or}
+use Rattle.rnix_grammar.specs.Stands.{end, leaf, inner, continues_kind, closing, is_attrpath, last_from, IsLeveled, IsArgument, IsOpened}
+use Rattle.rnix_grammar.specs.TokenKinds.{is_dot}
+use Rattle.rnix_grammar.specs.TreeLevels.{is_atom_row, calls_or, operator_in, level_of, row_level}
 use Rattle.rnix_lemmas.proofs.SketchLemmas.{tokens_two, tokens_in-⊕}
 use Rattle.rnix_lemmas.proofs.StandsLemmas.{stands-⊕}
 use Rattle.rnix_lemmas.proofs.Basics.{true_is_not_false, not_nil, some_same}

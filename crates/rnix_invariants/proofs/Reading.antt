@@ -12,7 +12,9 @@ use Rattle.rnix_grammar.specs.Slots.{slot_at}
 use Rattle.rnix_grammar.specs.Sketch.{Token, Note, Sketch, blank, branch, fault, one_branch, tokens_in, is_some, head_kind}
 use Rattle.rnix_grammar.specs.Machine.{Head, Node, Second, Operand, Frame}
 use Rattle.rnix_grammar.specs.Rows.{is_atom, is_simple, is_questioned, is_operand, is_infix, fits, Spot, SecondStart, At, go, live, start}
-use Rattle.rnix_grammar.specs.Stands.{Stands, closing, continues_kind, continues, is_attrpath, is_dot, last_from, last_kind, begins_with_token, level_of, row_level, is_or_row, IsLeveled}
+use Rattle.rnix_grammar.specs.Stands.{Stands, closing, continues_kind, continues, is_attrpath, last_from, last_kind, begins_with_token, IsLeveled}
+use Rattle.rnix_grammar.specs.TokenKinds.{is_dot}
+use Rattle.rnix_grammar.specs.TreeLevels.{level_of, row_level, is_or_row}
 use Rattle.rnix_lemmas.proofs.Places.{home, tight, over, IsIn, is_last, Placed, RightMost}
 use Rattle.rnix_lemmas.proofs.NodeKinds.{is_error}
 

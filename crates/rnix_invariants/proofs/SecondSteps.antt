@@ -12,10 +12,13 @@ use Rattle.rnix_grammar.specs.Tables.{is_wanted, wanted_kinds}
 use Rattle.rnix_grammar.specs.Slots.{slot_at, level_in}
 use Rattle.rnix_grammar.specs.Actions.{action_at, name_action}
 use Rattle.rnix_grammar.specs.Sketch.{Token, Sketch, blank, ◌⊕◌, one_token, one_branch, one_fault, row_of, tokens_in, told, told_as, head_kind, Twice, Unwanted}
-use Rattle.rnix_grammar.specs.Machine.{Machine, Head, Frame, put, made, touches, step_on, begins, Runs, rest, then as further, run_of, dropped}
+use Rattle.rnix_grammar.specs.Machine.{Machine, Head, Frame, put, made, step_on, begins, Runs, rest, then as further, dropped}
+use Rattle.rnix_grammar.specs.Sketch.{touches}
+use Rattle.rnix_grammar.specs.Missing.{run_of}
 use Rattle.rnix_grammar.specs.Reports.{report}
 use Rattle.rnix_grammar.specs.Rows.{At, SecondStart, go, whole, start}
-use Rattle.rnix_grammar.specs.Names.{is_or, is_name_in}
+use Rattle.rnix_grammar.specs.Names.{is_name_in}
+use Rattle.rnix_grammar.specs.TokenKinds.{is_or}
 use Rattle.rnix_grammar.specs.Stands.{Stands, end, wrong, continues, last_kind, lost, second as twice}
 use Rattle.rnix_lemmas.proofs.SketchLemmas.{tokens_in-row_of, ⊕-blank, tokens_two, tokens_in-⊕}
 use Rattle.rnix_lemmas.proofs.Basics.{true_is_not_false}

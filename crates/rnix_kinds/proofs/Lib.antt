@@ -1,3 +1,4 @@
 pub mod AllKinds
 pub mod SetBits
+pub mod KindSets
 pub mod Lexical

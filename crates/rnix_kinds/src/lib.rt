@@ -6,5 +6,5 @@ mod token_set;
 mod tokenizer;
 
 pub use kinds::{ParseSyntaxKindError, SyntaxKind};
-pub use token_set::TokenSet;
+pub use token_set::{TokenSet, same_sets};
 pub use tokenizer::{Token, Tokenizer, longest, one_list, tokenize};

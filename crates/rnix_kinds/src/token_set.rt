@@ -1,27 +1,37 @@
 //! Sets of kinds.
 
-ghost use Rattle.std.specs.Prelude.{◌≡◌, ◌⊎◌, ◌↔◌, ℕ, ◌<◌, ◌^◌, IsTrue, Contains};
+ghost use Rattle.std.specs.Prelude.{◌≡◌, [], ◌∷◌, Contains};
+ghost use Rattle.std.specs.Bool.{Decides};
+ghost use Rattle.std.specs.FinSet.{contains, insert, union};
 ghost use Rattle.rnix_kinds.specs.declared.kinds.SyntaxKind.{SyntaxKind};
-ghost use Rattle.rnix_kinds.specs.TokenSet.{Holds, IsUnion, HoldsOnly};
+ghost use Rattle.rnix_kinds.specs.TokenSet.{set_of};
 
 use crate::kinds::SyntaxKind;
 use std::marker::Model;
 use std::ops::BitOr;
 
 /// A set of kinds. `a | b` is the union of two sets or kinds, where `()` is the empty set.
-#[derive(Clone, Copy, Debug, PartialEq, Eq)]
+#[derive(Clone, Copy, Debug)]
 pub struct TokenSet {
     bits: u128,
 }
 
 impl Model for TokenSet {
-    ghost use Rattle.std.specs.Prelude.{ℕ};
+    ghost use Rattle.std.specs.Prelude.{◌<◌, ◌^◌};
+    ghost use Rattle.rnix_kinds.specs.TokenSet.{KindSet, set_code, kinds_of, number_of};
+    ghost use Rattle.rnix_kinds.specs.KindNumbers.{number_of-kinds_of};
 
-    ghost Value = { ℕ };
+    ghost Value = { KindSet };
 
-    ghost view = { λ s. s.bits };
+    ghost coded = { set_code };
 
-    ghost inverse = { λ n. record { bits = n } };
+    ghost view = { λ s. kinds_of s.bits };
+
+    ghost invariant = { λ s. s.bits < 2 ^ 93 };
+
+    ghost inverse = { λ kinds. record { bits = number_of kinds } };
+
+    ghost inverse_ok = { λ s low i. record { bits = number_of-kinds_of s.bits low i } };
 }
 
 impl TokenSet {
@@ -30,7 +40,7 @@ impl TokenSet {
 
     /// The set of one kind.
     pub const fn new(kind: SyntaxKind) -> TokenSet
-        ensures { HoldsOnly result kind }
+        ensures { result ≡ set_of (kind ∷ []) }
     {
         TokenSet {
             bits: 1 << (kind as u32),
@@ -39,7 +49,8 @@ impl TokenSet {
 
     /// The set of the kinds in a slice.
     pub fn from_slice(kinds: &[SyntaxKind]) -> TokenSet
-        ensures { (kind : SyntaxKind) → Holds result kind ↔ Contains kinds.now kind }
+        ensures set { result ≡ set_of kinds.now }
+        ensures kinds { (kind : SyntaxKind) → Decides (contains result kind) (Contains kinds.now kind) }
     {
         let mut set = TokenSet::EMPTY;
         for kind in kinds {
@@ -50,7 +61,7 @@ impl TokenSet {
 
     /// The kinds that are in either set.
     pub const fn union(self, other: TokenSet) -> TokenSet
-        ensures { IsUnion self other result }
+        ensures { result ≡ union self other }
     {
         TokenSet {
             bits: self.bits | other.bits,
@@ -59,16 +70,43 @@ impl TokenSet {
 
     /// Whether the kind is in the set.
     pub const fn contains(&self, kind: SyntaxKind) -> bool
-        ensures { IsTrue result ↔ Holds self.now kind }
+        ensures { result ≡ contains self.now kind }
     {
         self.bits & (1 << (kind as u32)) != 0
     }
 }
 
+impl PartialEq for TokenSet {
+    ghost use Rattle.std.specs.Cmp.{partial_equiv_from_equiv};
+    ghost use Rattle.rnix_kinds.specs.TokenSet.{same_number, same_number_laws};
+
+    ghost eq = { same_number };
+
+    ghost laws = { partial_equiv_from_equiv same_number_laws };
+
+    fn eq(&self, other: &TokenSet) -> bool {
+        self.bits == other.bits
+    }
+}
+
+impl Eq for TokenSet {
+    ghost use Rattle.rnix_kinds.specs.TokenSet.{same_number_laws};
+
+    ghost laws = { same_number_laws };
+}
+
+/// Whether two sets hold the same kinds. They do exactly if they are equal.
+pub fn same_sets(a: TokenSet, b: TokenSet) -> bool
+    ensures equal { Decides result (a ≡ b) }
+    ensures kinds { Decides result ((kind : SyntaxKind) → contains a kind ≡ contains b kind) }
+{
+    a == b
+}
+
 impl BitOr<SyntaxKind> for SyntaxKind {
     type Output = TokenSet;
 
-    ghost bitor_gives = { λ a b r. (kind : SyntaxKind) → Holds r kind ↔ ((kind ≡ a) ⊎ (kind ≡ b)) };
+    ghost bitor_gives = { λ a b r. r ≡ set_of (a ∷ b ∷ []) };
 
     fn bitor(self, rhs: SyntaxKind) -> TokenSet {
         TokenSet::new(self).union(TokenSet::new(rhs))
@@ -78,7 +116,7 @@ impl BitOr<SyntaxKind> for SyntaxKind {
 impl BitOr<SyntaxKind> for TokenSet {
     type Output = TokenSet;
 
-    ghost bitor_gives = { λ a b r. (kind : SyntaxKind) → Holds r kind ↔ (Holds a kind ⊎ (kind ≡ b)) };
+    ghost bitor_gives = { λ a b r. r ≡ insert a b };
 
     fn bitor(self, rhs: SyntaxKind) -> TokenSet {
         self.union(TokenSet::new(rhs))
@@ -88,7 +126,7 @@ impl BitOr<SyntaxKind> for TokenSet {
 impl BitOr<TokenSet> for SyntaxKind {
     type Output = TokenSet;
 
-    ghost bitor_gives = { λ a b r. (kind : SyntaxKind) → Holds r kind ↔ ((kind ≡ a) ⊎ Holds b kind) };
+    ghost bitor_gives = { λ a b r. r ≡ insert b a };
 
     fn bitor(self, rhs: TokenSet) -> TokenSet {
         TokenSet::new(self).union(rhs)
@@ -98,7 +136,7 @@ impl BitOr<TokenSet> for SyntaxKind {
 impl BitOr<TokenSet> for TokenSet {
     type Output = TokenSet;
 
-    ghost bitor_gives = { λ a b r. IsUnion a b r };
+    ghost bitor_gives = { λ a b r. r ≡ union a b };
 
     fn bitor(self, rhs: TokenSet) -> TokenSet {
         self.union(rhs)
@@ -108,7 +146,7 @@ impl BitOr<TokenSet> for TokenSet {
 impl BitOr<SyntaxKind> for () {
     type Output = TokenSet;
 
-    ghost bitor_gives = { λ _ b r. HoldsOnly r b };
+    ghost bitor_gives = { λ _ b r. r ≡ set_of (b ∷ []) };
 
     fn bitor(self, rhs: SyntaxKind) -> TokenSet {
         TokenSet::new(rhs)
@@ -118,7 +156,7 @@ impl BitOr<SyntaxKind> for () {
 impl BitOr<()> for SyntaxKind {
     type Output = TokenSet;
 
-    ghost bitor_gives = { λ a _ r. HoldsOnly r a };
+    ghost bitor_gives = { λ a _ r. r ≡ set_of (a ∷ []) };
 
     fn bitor(self, _rhs: ()) -> TokenSet {
         TokenSet::new(self)

@@ -5,7 +5,8 @@ use Rattle.rnix_kinds.specs.SyntaxKind.{is_trivia}
 use Rattle.rnix_grammar.specs.declared.until.Until.{Until}
 use Rattle.rnix_grammar.specs.Sketch.{Token, Note, Sketch, blank, token, branch, fault, ◌⊕◌, one_branch, one_fault, row_of, tokens_in, head_kind}
 use Rattle.rnix_grammar.specs.Layout.{from_item, trivia_before, trivia_if, items, tail_of, dressed}
-use Rattle.rnix_grammar.specs.Machine.{ate, leaf_in, leaf, run_of, run_row, dropped}
+use Rattle.rnix_grammar.specs.Machine.{ate, leaf_in, leaf, run_row, dropped}
+use Rattle.rnix_grammar.specs.Missing.{run_of}
 use Rattle.rnix_grammar.specs.Sorts.{HasNext, HasUnwanted}
 use Rattle.rnix_grammar.specs.Trim.{BeginsWithItem, EndsWithItem, token_kinds, AreFaultsTrimmed}
 use Rattle.rnix_lemmas.proofs.SketchLemmas.{tokens_in-⊕}

@@ -30,3 +30,7 @@ pub mod SpelledLemmas
 pub mod PlainTables
 pub mod LaidLemmas
 pub mod NestSpots
+pub mod RowNesting
+pub mod NestPlaces
+pub mod NestKinds
+pub mod NestTrees

@@ -4,7 +4,8 @@ use Rattle.std.specs.Prelude.{if◌then◌else◌}
 use Rattle.rnix_grammar.specs.declared.until.Until.{Until}
 use Rattle.rnix_grammar.specs.Tables.{is_wanted, stops}
 use Rattle.rnix_grammar.specs.Sketch.{Token, head_kind}
-use Rattle.rnix_grammar.specs.Machine.{run_of, dropped}
+use Rattle.rnix_grammar.specs.Machine.{dropped}
+use Rattle.rnix_grammar.specs.Missing.{run_of}
 use Rattle.rnix_grammar.specs.Stands.{AreUnwanted}
 
 -- what a run and the items behind it are

@@ -9,18 +9,18 @@ use Rattle.rnix_kinds.specs.declared.kinds.SyntaxKind.TheVariants.{TOKEN_CUR_POS
 use Rattle.rnix_kinds.specs.SyntaxKind.{is_trivia}
 use Rattle.rnix_kinds.specs.Lexical.Tokens.{Lexeme, MayBe}
 use Rattle.rnix_grammar.specs.Sketch.{Token, Sketch, blank, token, branch, fault, token_if, tokens_in, clean, placed_from}
-use Rattle.rnix_grammar.specs.Strict as strict
+use Rattle.rnix_grammar.specs.Tables as tables
 use Rattle.rnix_grammar.specs.Named.{is_spelled, AreSpelled}
 use Rattle.rnix_lemmas.proofs.OpeningRows.{spelled_first, spelled_rest}
 
 -- the word `or` is found
-or_is : (text : List ℕ) → text ≡ codes "or" → strict.is_or text ≡ true
+or_is : (text : List ℕ) → text ≡ codes "or" → tables.is_or text ≡ true
 or_is text e = (bytes_eq-Decides text (codes "or")).1 e
 
-or_is_not : (text : List ℕ) → (text ≡ codes "or" → ⊥) → (if strict.is_or text then false else true) ≡ true
-or_is_not text h = by (strict.is_or text) refl
+or_is_not : (text : List ℕ) → (text ≡ codes "or" → ⊥) → (if tables.is_or text then false else true) ≡ true
+or_is_not text h = by (tables.is_or text) refl
   where
-    by : (w : Bool) → strict.is_or text ≡ w → (if strict.is_or text then false else true) ≡ true
+    by : (w : Bool) → tables.is_or text ≡ w → (if tables.is_or text then false else true) ≡ true
     by true e = absurd (h ((bytes_eq-Decides text (codes "or")).0 e))
     by false e = ap (λ w. if w then false else true) e
 

@@ -1,4 +1,4 @@
-//! Three uses of typed nodes, as the README shows them.
+//! Three uses of typed nodes, as docs/uses.md shows them.
 
 use rnix::Root;
 use rnix::ast::{

@@ -10,6 +10,7 @@ use Rattle.rnix_grammar.specs.Clean.{clean_machine, clean_frame, clean_frames}
 use Rattle.rnix_grammar.specs.Strict.{is_strict_expression}
 use Rattle.rnix_grammar.specs.Derivation.{laid, has_tokens_alone, IsDerivation}
 use Rattle.rnix_lemmas.proofs.LaidLemmas.{IsLaidWhole, laid_whole}
+use Rattle.rnix_lemmas.proofs.NestTrees.{strict_nest}
 use Rattle.rnix_completeness.proofs.PlainWhole.{AreRead, whole_read, ended_with, ended_stays, row_in, ended_once}
 use Rattle.rnix_strict.proofs.GrammarStrict.{expression_strict}
 use Rattle.rnix_lemmas.proofs.CleanLemmas.{runs_clean, ate_clean}
@@ -24,7 +25,7 @@ derivation_read trees t ts d =
     let l = laid_over t ts d in
     let strict : is_strict_expression t ≡ true = (and_both (has_tokens_alone t) (is_strict_expression t) (expression_strict t d.strict)).1 in
     subst (λ us. Runs false (begins us) (ended_with (laid t ts) (end_from 0 us) [])) l.tokens
-    (whole_read (laid t ts) (trees (laid t ts)) (ap is_strict_expression l.forest ∙ strict) l.spelled d.joined (rw l.forest d.shallow))
+    (whole_read (laid t ts) (trees (laid t ts)) (ap is_strict_expression l.forest ∙ strict) l.spelled d.joined (rw (l.forest, sym (strict_nest t strict)) d.shallow))
 
 -- what is read to its end from the items of a derivation is the derivation, without errors
 pub derivation_found : ((f : Sketch) → AreRead f) → (t : Forest) (ts : List Token) → IsDerivation t ts → (m : Machine) → Runs false (begins ts) m → step false m ≡ m

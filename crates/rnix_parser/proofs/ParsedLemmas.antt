@@ -10,7 +10,8 @@ use Rattle.rnix_grammar.specs.declared.place.Place.TheVariants.{RootStart, RootE
 use Rattle.rnix_grammar.specs.Tables.{depth_limit}
 use Rattle.rnix_grammar.specs.Sketch.{Token, Sketch, blank, token, branch, fault, ◌⊕◌, forget, tokens_in, clean, placed_from, AreTold}
 use Rattle.rnix_grammar.specs.Layout.{items, from_item, trivia_before, trivia_if}
-use Rattle.rnix_grammar.specs.Machine.{Frame, Machine, begins, ate, Runs}
+use Rattle.rnix_grammar.specs.Reads.{ReadsWhole}
+use Rattle.rnix_grammar.specs.Machine.{Node, Frame, Machine, begins, ate, Runs}
 use Rattle.rnix_grammar.specs.Clean.{clean_machine, clean_frame, clean_frames, tokens_of}
 use Rattle.rnix_grammar.specs.Rows.{At}
 use Rattle.rnix_grammar.specs.Stands.{Stands}
@@ -19,20 +20,23 @@ use Rattle.rnix_grammar.specs.Named.{AreSpelled, is_repeated, Lacks}
 use Rattle.rnix_grammar.specs.Mended.{mended, ended_count}
 use Rattle.rnix_grammar.specs.Corners.{has_no_corner}
 use Rattle.rnix_grammar.specs.Fault.{Fault}
-use Rattle.rnix_grammar.specs.Plain.{nesting, ArePaths}
+use Rattle.rnix_grammar.specs.Plain.{ArePaths}
+use Rattle.rnix_grammar.specs.Nest.{nest}
 use Rattle.rnix_grammar.specs.Strict.{is_strict_expression}
 use Rattle.rnix_grammar.specs.Grammar.{IsExpression}
 use Rattle.rnix_grammar.specs.Derivation.{has_tokens_alone, IsDerivation}
-use Rattle.rnix_grammar.specs.Nesting.{depth_of, AreLimited}
+use Rattle.rnix_grammar.specs.Nesting.{depth_of}
 use Rattle.rnix_grammar.specs.Document.{IsRead}
 use Rattle.rnix_tree.specs.Tree.{Tree}
-use Rattle.rnix_grammar.specs.Parsed.{IsParsed, StandsWhole}
+use Rattle.rnix_grammar.specs.Stands.{StandsWhole}
+use Rattle.rnix_grammar.specs.Parsed.{IsParsed}
 use Rattle.rnix_lemmas.proofs.SketchLemmas.{tokens_in-⊕, forget-⊕}
 use Rattle.rnix_lemmas.proofs.LayoutLemmas.{items-view, trivia_tokens, nothing_from}
 use Rattle.rnix_lemmas.proofs.CleanLemmas.{runs_clean, ate_clean}
 use Rattle.rnix_rows.proofs.TokenLemmas.{runs_tokens}
 use Rattle.rnix_rows.proofs.ToldLemmas.{whole_told, told_ate}
 use Rattle.rnix_rows.proofs.TrimLemmas.{whole_trimmed}
+use Rattle.rnix_rows.proofs.BareNames.{bare-⊕, bare_trivia, whole_bare}
 use Rattle.rnix_lemmas.proofs.EdgeLemmas.{faults_trimmed_trivia}
 use Rattle.rnix_rows.proofs.WholeEdges.{whole_nodes_trimmed}
 use Rattle.rnix_invariants.proofs.LastStep.{last_stands}
@@ -44,14 +48,15 @@ use Rattle.rnix_rows.proofs.SeamLemmas.{trivia_between}
 use Rattle.rnix_soundness.proofs.ConverseNames.{converse}
 use Rattle.rnix_lemmas.proofs.SpelledLemmas.{AreRuled, spelled_from, clean_spelled}
 use Rattle.rnix_invariants.proofs.NestWhole.{whole_nested, nests_alike}
-use Rattle.rnix_invariants.proofs.LimitWhole.{whole_limited}
+use Rattle.rnix_existence.proofs.WholeReads.{whole_reads}
+use Rattle.rnix_rows.proofs.Dressed.{whole_dressed}
 use Rattle.rnix_parser.proofs.AllTrees.{found}
 use Rattle.rnix_rows.proofs.StrictTokens.{mended_tokens, clean_told}
 use Rattle.rnix_rows.proofs.StandsShapes.{AreBareRows, mended_none, whole_rows}
 use Rattle.rnix_lemmas.proofs.EntryNames.{both_true}
 use Rattle.rnix_soundness.proofs.StrictCorners.{strict_no_corner}
 use Rattle.rnix_lemmas.proofs.ReportLemmas.{clean_tokens}
-use Rattle.rnix_rows.proofs.Exactly.{derived}
+use Rattle.rnix_rows.proofs.Exactly.{bare_nest, derived}
 use Rattle.rnix_strict.proofs.GrammarStrict.{expression_strict}
 use Rattle.rnix_strict.proofs.GrammarTrees.{strict_expression}
 
@@ -87,7 +92,7 @@ pub record IsFit (f : Sketch) (ts : List Token) (es : List Fault) : Type 0 where
   pub bare : es ≡ [] → AreBareRows f
   pub told : AreTold NODE_ROOT f
   pub spelled : AreSpelled (tokens_in f)
-  pub nested : es ≡ [] → nesting (At RootStart) (forget f) ≤ depth_limit
+  pub nested : es ≡ [] → nest NODE_ROOT (forget f) ≤ depth_limit
   pub strict : es ≡ [] → has_no_corner NODE_ROOT (mended f) ≡ true → IsExpression (mended f)
   pub found : (t : Forest) → IsDerivation t ts → (es ≡ []) × (forget f ≡ t)
 
@@ -106,9 +111,9 @@ exact f ts es w paths = (there, back)
         (r.0, ap (has_no_corner NODE_ROOT) r.1 ∙ strict_no_corner h.0 (and_both (has_tokens_alone h.0) (is_strict_expression h.0) (expression_strict h.0 h.1.strict)).1)
 
 -- what a machine of steps has read, with the last trivia in the root
-pub parsed : (tokens : List Lexeme) (root : Frame) (last : Machine) → Runs true (begins (placed_from 0 tokens)) last → last.frames ≡ root ∷ [] → root.place ≡ RootEnd → items last.left ≡ []
+pub parsed : (tokens : List Lexeme) (root : Frame) (last : Machine) → Runs true (begins (placed_from 0 tokens)) last → last.frames ≡ root ∷ [] → root.head ≡ Node NODE_ROOT → root.place ≡ RootEnd → items last.left ≡ []
     → AreRuled tokens → IsParsed tokens (record { kind = NODE_ROOT; children = forget (ate true root.row last.left) }) last.faults
-parsed tokens root last runs alone place nothing ruled =
+parsed tokens root last runs alone head place nothing ruled =
     let ts : List Token = placed_from 0 tokens in
     let g : Sketch = ate true root.row last.left in
     let all : tokens_of (root ∷ []) ++ last.left ≡ ts = subst (λ (x : List Frame). tokens_of x ++ last.left ≡ ts) alone (runs_tokens runs) in
@@ -119,6 +124,9 @@ parsed tokens root last runs alone place nothing ruled =
     subst (λ (us : List Token). Stands NODE_ROOT 1 (At RootStart) (At RootEnd) blank 0 us (clean root.row) last.faults) nothing
     (subst (λ (x : Place). Stands NODE_ROOT 1 (At RootStart) (At x) blank 0 (items last.left) (clean root.row) last.faults) place cleaned) in
     let stands : StandsWhole (clean g) last.faults = subst (λ (x : Sketch). StandsWhole x last.faults) (sym bare) here in
+    let reads : ReadsWhole (clean g) last.faults =
+    subst (λ (x : Sketch). ReadsWhole x last.faults) (sym bare)
+    (whole_reads (items ts) (clean_machine last) (clean_frame root) (runs_clean runs) (ap clean_frames alone) head place nothing) in
     let told : AreTold NODE_ROOT g = told_ate true NODE_ROOT root.row last.left (whole_told ts root runs alone) in
     let trimmed : AreFaultsTrimmed g = faults_trimmed-⊕ root.row (trivia_before last.left) (whole_trimmed ts root runs alone) (faults_trimmed_trivia last.left) in
     let nodes : last.faults ≡ [] → AreNodesTrimmed (forget g) = λ h.
@@ -129,21 +137,19 @@ parsed tokens root last runs alone place nothing ruled =
     subst (λ (x : Sketch). depth_of (At RootStart) x ≤ depth_limit) (sym bare)
     (whole_nested (items ts) (clean_frame root) (clean_machine last) (runs_clean runs) (ap clean_frames alone)) in
     let spelled : AreSpelled (tokens_in (clean g)) = clean_spelled g (subst AreSpelled (sym leaves) (spelled_from 0 tokens ruled)) in
-    let nested : last.faults ≡ [] → nesting (At RootStart) (forget (clean g)) ≤ depth_limit = λ h.
-    subst (λ (x : ℕ). x ≤ depth_limit) (sym (nests_alike stands h (At RootStart))) shallow in
+    let nested : last.faults ≡ [] → nest NODE_ROOT (forget (clean g)) ≤ depth_limit = λ h.
+    subst (λ (x : ℕ). x ≤ depth_limit) (sym (bare_nest (clean g) ((whole_rows stands).0 h) ∙ nests_alike stands h (At RootStart))) shallow in
     let strict : ended_count last.faults ≡ 0 → Lacks is_repeated last.faults → has_no_corner NODE_ROOT (mended (clean g)) ≡ true → IsExpression (mended (clean g)) = λ n r o.
     strict_expression (mended (clean g))
     (both_true (has_tokens_alone (mended (clean g))) (is_strict_expression (mended (clean g)))
     (mended_tokens NODE_ROOT (clean g) (clean_told NODE_ROOT g told) spelled) (converse (clean g) last.faults stands spelled n r o)) in
     let met : (t : Forest) → IsDerivation t (items ts) → (last.faults ≡ []) × (forget (clean g) ≡ t) = found ts root last runs alone place nothing in
     record {
-      sketch = g;
-      tree_is = refl;
-      leaves = leaves;
+      reading = record { sketch = g; tree_is = refl; leaves = leaves; laid = whole_dressed ts last root runs alone nothing; reads = reads };
       told = told;
       trimmed = trimmed;
+      bare = bare-⊕ root.row (trivia_before last.left) (whole_bare ts root runs alone) (bare_trivia last.left);
       paired = whole_paired stands ∙ clean_reports blank g trimmed;
-      stands = stands;
       named = whole_named stands;
       shaped = whole_shaped (clean g) g last.faults stands refl told nodes;
       few_halves = whole_few stands;
@@ -152,11 +158,7 @@ parsed tokens root last runs alone place nothing ruled =
       last_halves = halves_last stands;
       settled = whole_settled stands;
       between = λ h. trivia_between (record { kind = NODE_ROOT; children = forget g }) (nodes h);
-      shallow = shallow;
       nested = nested;
-      limited =
-          subst (λ (x : Sketch). AreLimited 0 (At RootStart) x) (sym bare)
-          (whole_limited (items ts) (clean_frame root) (clean_machine last) (runs_clean runs) (ap clean_frames alone));
       found = met;
       converse = strict;
       exactly = exact (clean g) (items ts) last.faults
@@ -176,4 +178,4 @@ pub read_parsed : (ls : List Lexeme) (tree : Tree) (faults : List Fault) → IsR
 read_parsed ls tree faults r ruled =
     subst (λ (t : Tree). IsParsed ls t faults) (sym r.tree_is)
     (subst (λ (es : List Fault). IsParsed ls (record { kind = NODE_ROOT; children = forget (ate true r.root.row r.last.left) }) es) (sym r.faults_are)
-    (parsed ls r.root r.last r.runs r.alone r.place r.nothing ruled))
+    (parsed ls r.root r.last r.runs r.alone r.head r.place r.nothing ruled))

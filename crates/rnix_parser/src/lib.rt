@@ -3,6 +3,10 @@
 
 mod derivation;
 mod parsing;
+mod ranges;
+mod readings;
 
 pub use derivation::one_derivation;
 pub use parsing::parse;
+pub use ranges::ranges_of_errors;
+pub use readings::{all_follows, error_forms, one_reading, one_text};

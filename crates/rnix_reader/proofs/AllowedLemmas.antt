@@ -13,7 +13,8 @@ use Rattle.rnix_grammar.specs.declared.action.Action.{Action}
 use Rattle.rnix_grammar.specs.declared.action.Action.TheVariants as a
 use Rattle.rnix_grammar.specs.Tables.{is_wanted, closes}
 use Rattle.rnix_grammar.specs.Levels.{right_of, high_of}
-use Rattle.rnix_grammar.specs.Actions.{token_action, series_action, entries_action, pieces_action, first_piece_action, is_path_piece, more_pieces_action, attr_action, names_action, is_l_paren, source_action, more_attrs_action, name_action, formals_action, braces_action, is_comma, comma_action, bind_action, default_action, or_action, end_action, goes_on, follow, more_action, action_at}
+use Rattle.rnix_grammar.specs.Actions.{token_action, series_action, entries_action, pieces_action, first_piece_action, more_pieces_action, attr_action, names_action, source_action, more_attrs_action, name_action, formals_action, braces_action, comma_action, bind_action, default_action, or_action, end_action, goes_on, follow, more_action, action_at}
+use Rattle.rnix_grammar.specs.TokenKinds.{is_path_piece, is_l_paren, is_comma}
 use Rattle.rnix_reader.specs.Sorts.{Pattern, Loose, Plain, sort_of, may_hold, weight, bonus}
 use Rattle.rnix_reader.specs.Allowed.{Allowed, is_open}
 

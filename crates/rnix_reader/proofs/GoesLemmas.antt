@@ -10,7 +10,8 @@ use Rattle.rnix_grammar.specs.Tables.{is_cur_pos, depth_limit}
 use Rattle.rnix_grammar.specs.Begins.{is_pattern, begin_name, begin_let, begin_of}
 use Rattle.rnix_grammar.specs.Sketch.{Token, Stray, TooDeep, Sketch, blank, ◌⊕◌, one_branch, one_fault, head_kind, end_from}
 use Rattle.rnix_grammar.specs.Layout.{items, from_item}
-use Rattle.rnix_grammar.specs.Machine.{Head, Node, Second, Operand, Frame, Machine, put, opened, ate, leaf, behind, reach, run_row, run_rest, made, machine, closed, limited, second_kind, begun, operand_on, reading}
+use Rattle.rnix_grammar.specs.Machine.{Head, Node, Second, Operand, Frame, Machine, put, opened, ate, leaf, behind, reach, run_row, run_rest, made, machine, closed, limited, begun, operand_on, reading}
+use Rattle.rnix_grammar.specs.Begins.{second_kind}
 use Rattle.rnix_lemmas.proofs.Basics.{choice}
 use Rattle.rnix_reader.specs.declared.names.Names.{Names}
 use Rattle.rnix_reader.specs.Placed.{AreInOrder}

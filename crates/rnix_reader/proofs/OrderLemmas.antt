@@ -4,7 +4,8 @@ use Rattle.rnix_kinds.specs.SyntaxKind.{is_trivia}
 use Rattle.rnix_grammar.specs.declared.until.Until.{Until}
 use Rattle.rnix_grammar.specs.Sketch.{Token, row_of, end_from}
 use Rattle.rnix_grammar.specs.Layout.{items, from_item, from_item_if, tail_of, left_after}
-use Rattle.rnix_grammar.specs.Machine.{behind, reach, end_of, run_of, run_rest, dropped}
+use Rattle.rnix_grammar.specs.Machine.{behind, reach, end_of, run_rest, dropped}
+use Rattle.rnix_grammar.specs.Missing.{run_of}
 use Rattle.rnix_lemmas.proofs.CleanLemmas.{run_prefix, all_prefix}
 use Rattle.rnix_lemmas.proofs.LayoutLemmas.{IsFirst, first_item, items-from_item}
 use Rattle.rnix_reader.specs.Placed.{AreInOrder}

@@ -10,7 +10,8 @@ use Rattle.rnix_grammar.specs.Fault.{Fault}
 use Rattle.rnix_grammar.specs.Sketch.{Token, Note, Unwanted, Extra, Sketch, blank, ◌⊕◌, one_branch, one_fault, tokens_in, clean, head_of, head_kind, end_from, extent_of}
 use Rattle.rnix_grammar.specs.Layout.{items, from_item, trivia_before, tail_of}
 use Rattle.rnix_grammar.specs.Reports.{only_token}
-use Rattle.rnix_grammar.specs.Machine.{Head, Node, Second, Operand, Frame, put, opened, ate, leaf, leaf_in, kind_of, low_of, behind, reach, end_of, run_of, run_row, run_rest, dropped, made, machine, closed, perform}
+use Rattle.rnix_grammar.specs.Machine.{Head, Node, Second, Operand, Frame, put, opened, ate, leaf, leaf_in, kind_of, low_of, behind, reach, end_of, run_row, run_rest, dropped, made, machine, closed, perform}
+use Rattle.rnix_grammar.specs.Missing.{run_of}
 use Rattle.rnix_lemmas.proofs.SketchLemmas.{tokens_in-row_of}
 use Rattle.rnix_lemmas.proofs.CleanLemmas.{leaf_clean, reach_items, run_prefix, run_bared}
 use Rattle.rnix_lemmas.proofs.LayoutLemmas.{first_item, clean-trivia}

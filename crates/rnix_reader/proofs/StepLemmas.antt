@@ -18,7 +18,9 @@ use Rattle.rnix_grammar.specs.Fault.{Fault, ended as ended_fault, ended_before, 
 use Rattle.rnix_grammar.specs.Sketch.{Token, token, Unwanted, Extra, Twice, forget, clean, tokens_in, extent_of, Sketch, blank, ◌⊕◌, one_branch, one_fault, told, told_as, head_kind, end_from}
 use Rattle.rnix_grammar.specs.Layout.{items, from_item}
 use Rattle.rnix_grammar.specs.Reports.{report}
-use Rattle.rnix_grammar.specs.Machine.{Head, Node, Second, Operand, Frame, Machine, put, opened, ate, leaf, leaf_in, behind, reach, machine, closed, perform, step, touches, kind_of, run_of, run_row, run_rest, low_of, made}
+use Rattle.rnix_grammar.specs.Machine.{Head, Node, Second, Operand, Frame, Machine, put, opened, ate, leaf, leaf_in, behind, reach, machine, closed, perform, step, kind_of, run_row, run_rest, low_of, made}
+use Rattle.rnix_grammar.specs.Sketch.{touches}
+use Rattle.rnix_grammar.specs.Missing.{run_of}
 use Rattle.rnix_reader.specs.declared.mark.Mark.{Mark}
 use Rattle.rnix_reader.specs.State.{State, bumped, skipped, started, started_at, ended, failed, marked}
 use Rattle.rnix_reader.specs.Steps.{moved, noded}

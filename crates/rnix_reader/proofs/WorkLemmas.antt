@@ -14,7 +14,9 @@ use Rattle.rnix_grammar.specs.Tables.{stops, depth_limit}
 use Rattle.rnix_grammar.specs.Begins.{begin_of}
 use Rattle.rnix_grammar.specs.Sketch.{Token, blank, head_kind}
 use Rattle.rnix_grammar.specs.Layout.{items, from_item, tail_of}
-use Rattle.rnix_grammar.specs.Machine.{Node, Operand, Frame, Machine, put, opened, behind, closed, limited, low_of, run_of, run_rest, dropped, second_kind, begun, operand_on, reading, perform}
+use Rattle.rnix_grammar.specs.Machine.{Node, Operand, Frame, Machine, put, opened, behind, closed, limited, low_of, run_rest, dropped, begun, operand_on, reading, perform}
+use Rattle.rnix_grammar.specs.Missing.{run_of}
+use Rattle.rnix_grammar.specs.Begins.{second_kind}
 use Rattle.rnix_lemmas.proofs.LayoutLemmas.{items-from_item}
 use Rattle.rnix_lemmas.proofs.CleanLemmas.{items_behind, run_prefix, all_prefix, run_bared}
 use Rattle.rnix_lemmas.proofs.RunLemmas.{dropped_all, run_begins}

@@ -12,7 +12,9 @@ use Rattle.rnix_grammar.specs.Actions.{action_at}
 use Rattle.rnix_grammar.specs.Begins.{begin_of}
 use Rattle.rnix_grammar.specs.Sketch.{Token, Sketch, tokens_in, clean, forget, extent_of, head_of, head_kind}
 use Rattle.rnix_grammar.specs.Layout.{items}
-use Rattle.rnix_grammar.specs.Machine.{Head, Node, Second, Frame, Machine, machine, begins, ate, touches, second_kind, Runs}
+use Rattle.rnix_grammar.specs.Machine.{Head, Node, Second, Frame, Machine, machine, begins, ate, Runs}
+use Rattle.rnix_grammar.specs.Sketch.{touches}
+use Rattle.rnix_grammar.specs.Begins.{second_kind}
 use Rattle.rnix_grammar.specs.Reports.{entry_name, has_entry}
 use Rattle.rnix_reader.specs.declared.mark.Mark.{Mark}
 use Rattle.rnix_reader.specs.declared.names.NameSet.{NameSet}

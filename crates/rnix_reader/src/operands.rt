@@ -6,7 +6,7 @@ ghost use Rattle.rnix_grammar.specs.declared.place.Place.TheVariants.{LambdaColo
 ghost use Rattle.rnix_grammar.specs.Begins.{begin_of};
 ghost use Rattle.rnix_grammar.specs.Sketch.{head_of, head_kind};
 ghost use Rattle.rnix_grammar.specs.Layout.{tail_of};
-ghost use Rattle.rnix_grammar.specs.Machine.{second_kind};
+ghost use Rattle.rnix_grammar.specs.Begins.{second_kind};
 ghost use Rattle.rnix_reader.specs.Placed.{token_of};
 ghost use Rattle.rnix_reader.specs.State.{State, state, items_left, bumped, started, ended};
 ghost use Rattle.rnix_reader.specs.Steps.{noded, operand_begun, looks_behind, is_brace};

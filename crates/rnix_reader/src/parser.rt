@@ -6,7 +6,7 @@ ghost use Rattle.rnix_tree.specs.Forest.{tree_count};
 ghost use Rattle.rnix_tree.specs.Draft.{is_inside, is_checkpoint_of};
 ghost use Rattle.rnix_grammar.specs.Fault.{fault_of};
 ghost use Rattle.rnix_grammar.specs.Sketch.{head_of, head_kind};
-ghost use Rattle.rnix_grammar.specs.Machine.{touches};
+ghost use Rattle.rnix_grammar.specs.Sketch.{touches};
 ghost use Rattle.rnix_reader.specs.Placed.{token_of, AreInOrder};
 ghost use Rattle.rnix_reader.specs.State.{State, state, items_left, eaten, bumped, started, started_at, ended, failed, marked};
 

@@ -5,7 +5,7 @@ ghost use Rattle.rnix_kinds.specs.declared.kinds.SyntaxKind.TheVariants.{NODE_ER
 ghost use Rattle.rnix_grammar.specs.Fault.{ended_before, too_deep};
 ghost use Rattle.rnix_grammar.specs.Tables.{stops, wanted_kinds, operand_kinds};
 ghost use Rattle.rnix_grammar.specs.Sketch.{head_of, extent_of};
-ghost use Rattle.rnix_grammar.specs.Machine.{run_of};
+ghost use Rattle.rnix_grammar.specs.Missing.{run_of};
 ghost use Rattle.rnix_grammar.specs.Reports.{report};
 ghost use Rattle.rnix_grammar.specs.Sketch.{Unwanted as UnwantedNote, Extra as ExtraNote, Stray as StrayNote};
 ghost use Rattle.rnix_grammar.specs.declared.until.Until.TheVariants.{End};

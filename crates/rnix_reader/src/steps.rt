@@ -7,7 +7,7 @@ ghost use Rattle.rnix_grammar.specs.declared.place.Place.TheVariants.{EntryMore,
 ghost use Rattle.rnix_grammar.specs.Fault.{ended as ended_fault, ended_before};
 ghost use Rattle.rnix_grammar.specs.Tables.{stops, wanted_kinds};
 ghost use Rattle.rnix_grammar.specs.Sketch.{head_of, Unwanted, Extra};
-ghost use Rattle.rnix_grammar.specs.Machine.{run_of};
+ghost use Rattle.rnix_grammar.specs.Missing.{run_of};
 ghost use Rattle.rnix_grammar.specs.Reports.{report};
 ghost use Rattle.rnix_reader.specs.Placed.{token_of};
 ghost use Rattle.rnix_reader.specs.Flat.{mark_at};

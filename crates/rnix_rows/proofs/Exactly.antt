@@ -5,16 +5,20 @@ use Rattle.rnix_kinds.specs.declared.kinds.SyntaxKind.{SyntaxKind}
 use Rattle.rnix_kinds.specs.declared.kinds.SyntaxKind.TheVariants.{TOKEN_CUR_POS, TOKEN_IDENT, TOKEN_OR, NODE_CUR_POS, NODE_IDENT, NODE_ROOT}
 use Rattle.rnix_grammar.specs.Sketch.{Token, lexeme_of, Sketch, blank, token, branch, fault, tokens_in, forget, told_as, AreTold}
 use Rattle.rnix_grammar.specs.Named.{is_spelled, AreSpelled}
-use Rattle.rnix_grammar.specs.Strict.{untold, yield, is_or}
+use Rattle.rnix_grammar.specs.Yield.{untold, yield}
+use Rattle.rnix_grammar.specs.Tables.{is_or}
 use Rattle.rnix_grammar.specs.Grammar.{IsExpression}
 use Rattle.rnix_grammar.specs.Derivation.{beyond, laid, IsDerivation}
 use Rattle.rnix_grammar.specs.declared.place.Place.TheVariants.{RootStart}
 use Rattle.rnix_grammar.specs.Tables.{depth_limit}
 use Rattle.rnix_grammar.specs.Rows.{At}
-use Rattle.rnix_grammar.specs.Plain.{nesting, ArePaths}
+use Rattle.rnix_grammar.specs.Plain.{ArePaths}
+use Rattle.rnix_lemmas.proofs.RowNesting.{nesting}
+use Rattle.rnix_grammar.specs.Nest.{nest}
 use Rattle.rnix_lemmas.proofs.Basics.{true_is_not_false}
 use Rattle.rnix_lemmas.proofs.OpeningRows.{spelled_first, spelled_rest}
-use Rattle.rnix_rows.proofs.StandsShapes.{AreBareRows}
+use Rattle.rnix_lemmas.proofs.NestTrees.{HaveRows, rows_nest}
+use Rattle.rnix_rows.proofs.StandsShapes.{AreBareRows, IsBare}
 
 -- the trees of a row without error nodes, over its tokens, are the row
 pub beyond_row : (f : Sketch) (us : List Token) → AreBareRows f → beyond (forget f) (tokens_in f ++ us) ≡ us
@@ -77,8 +81,19 @@ yields_same p (branch k c f) h t s =
     ∙ ap (λ z. map lexeme_of (tokens_in c) ++ z) (yields_same p f h.3 t.1 (spelled_rest (tokens_in c) (tokens_in f) s)) ∙ map-++ (tokens_in c) (tokens_in f)
 yields_same p (fault n c f) h t s = absurd h
 
+-- the trees of such a row have rows of their kinds
+have_rows : (f : Sketch) → AreBareRows f → HaveRows (forget f)
+have_rows blank h = tt
+have_rows (token k t f) h = have_rows f h
+have_rows (branch k c f) h = (h.0, have_rows c h.2, have_rows f h.3)
+have_rows (fault n c f) h = absurd h
+
+-- so the trees of a whole text nest by their kinds as they do along the rows
+pub bare_nest : (f : Sketch) → IsBare f → nest NODE_ROOT (forget f) ≡ nesting (At RootStart) (forget f)
+bare_nest f h = rows_nest (forget f) h.root (have_rows f h.nodes)
+
 -- where the pieces of its paths touch, such a row is a derivation of its tokens
-pub derived : (f : Sketch) → AreBareRows f → AreTold NODE_ROOT f → AreSpelled (tokens_in f) → IsExpression (forget f) → nesting (At RootStart) (forget f) ≤ depth_limit → ArePaths f []
+pub derived : (f : Sketch) → AreBareRows f → AreTold NODE_ROOT f → AreSpelled (tokens_in f) → IsExpression (forget f) → nest NODE_ROOT (forget f) ≤ depth_limit → ArePaths f []
     → IsDerivation (forget f) (tokens_in f)
 derived f h t s strict shallow paths = record {
   strict = strict;

@@ -3,6 +3,9 @@ pub mod ToldLemmas
 pub mod TrimLemmas
 pub mod ItemEdges
 pub mod WholeEdges
+pub mod DressLemmas
+pub mod Dressed
+pub mod DressedWhole
 pub mod StandsFaults
 pub mod StandsRows
 pub mod BareFacts
@@ -20,3 +23,13 @@ pub mod RowTable
 pub mod RowCounts
 pub mod PartRows
 pub mod StandsLast
+pub mod StandsMarks
+pub mod PlacedTokens
+pub mod RowsIn
+pub mod ErrorElements
+pub mod WalkErrors
+pub mod OpenKinds
+pub mod BareNames
+pub mod NameRanges
+pub mod OrderedErrors
+pub mod ParsedRanges

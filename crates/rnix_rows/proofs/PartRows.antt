@@ -85,9 +85,9 @@ forgotten_tokens p (fault n c f) t h =
 -- so it is in a tree that was read from tokens of such kinds
 pub parsed_tokens : (tokens : List Lexeme) (tree : Tree) (faults : List Fault) → AreRuled tokens → IsParsed tokens tree faults → HasTokens (forest_of tree)
 parsed_tokens tokens tree faults ruled h =
-    ap (λ (t : Tree). has_tokens_alone (forest_of t)) h.tree_is
-    ∙ both_true (has_tokens_alone (forget h.sketch)) true
-    (forgotten_tokens NODE_ROOT h.sketch h.told (subst AreSpelled (sym h.leaves) (spelled_from 0 tokens ruled))) refl
+    ap (λ (t : Tree). has_tokens_alone (forest_of t)) h.reading.tree_is
+    ∙ both_true (has_tokens_alone (forget h.reading.sketch)) true
+    (forgotten_tokens NODE_ROOT h.reading.sketch h.told (subst AreSpelled (sym h.reading.leaves) (spelled_from 0 tokens ruled))) refl
 
 -- a kind that has rows is that of a node
 pub row_of_node : (k : SyntaxKind) (ks : List SyntaxKind) → is_row k ks ≡ true → is_token k ≡ false

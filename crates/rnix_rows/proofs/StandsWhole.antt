@@ -8,7 +8,7 @@ use Rattle.rnix_grammar.specs.Sketch.{Sketch}
 use Rattle.rnix_grammar.specs.Rows.{At, run, whole}
 use Rattle.rnix_grammar.specs.Mended.{mended, held, kinds_of, halves, AreBegun, ended_count, others, AreSettled, AreNamedLists}
 use Rattle.rnix_grammar.specs.Shape.{reports}
-use Rattle.rnix_grammar.specs.Parsed.{StandsWhole}
+use Rattle.rnix_grammar.specs.Stands.{StandsWhole}
 use Rattle.rnix_rows.proofs.StandsFaults.{stands_reports, stands_named, stands_settled}
 use Rattle.rnix_lemmas.proofs.ImitateLemmas.{imitates_self}
 use Rattle.rnix_rows.proofs.StandsRows.{half, stands_counts}

@@ -16,7 +16,10 @@ use Rattle.rnix_grammar.specs.Begins.{begin_of}
 use Rattle.rnix_grammar.specs.Sketch.{Token, Unwanted, Extra, TooDeep, Twice, Sketch, blank, token, branch, fault, ◌⊕◌, one_branch, one_fault, row_of, tokens_in, AreTold, head_kind}
 use Rattle.rnix_grammar.specs.Layout.{from_item, trivia_before}
 use Rattle.rnix_grammar.specs.Reports.{report, repeated}
-use Rattle.rnix_grammar.specs.Machine.{Head, Node, Second, Operand, Frame, Machine, opened, seen, past, ate, behind, leaf_in, leaf, run_of, run_row, run_rest, made, low_of, closed, cleaned, entry_closed, limited, second_kind, begun, operand_on, reading, perform, touches, step_on, step, begins, Runs, rest, then as further}
+use Rattle.rnix_grammar.specs.Machine.{Head, Node, Second, Operand, Frame, Machine, opened, seen, past, ate, behind, leaf_in, leaf, run_row, run_rest, made, low_of, closed, cleaned, entry_closed, limited, begun, operand_on, reading, perform, step_on, step, begins, Runs, rest, then as further}
+use Rattle.rnix_grammar.specs.Missing.{run_of}
+use Rattle.rnix_grammar.specs.Begins.{second_kind}
+use Rattle.rnix_grammar.specs.Sketch.{touches}
 use Rattle.rnix_grammar.specs.Sorts.{sort_of, is_start, FitsNode, FitsSecond, FitsOperand, AreKept}
 use Rattle.rnix_lemmas.proofs.LayoutLemmas.{told-⊕, told_trivia, told_dressed}
 use Rattle.rnix_lemmas.proofs.PlaceLemmas.{FitsHead, head_fits, step_kept, runs_kept, begins_kept}

@@ -10,10 +10,12 @@ use Rattle.rnix_grammar.specs.Fault.{Fault, named_twice}
 use Rattle.rnix_grammar.specs.Sketch.{Token, Sketch, blank, token, branch, fault, ◌⊕◌, one_token, one_branch, one_fault, forget, clean, token_if, told, AreTold, tokens_in, extent_of}
 use Rattle.rnix_grammar.specs.Reports.{report, repeated_if, entry_name, only_token, is_same_name, has_entry}
 use Rattle.rnix_grammar.specs.Rows.{At, whole, is_row}
-use Rattle.rnix_grammar.specs.Stands.{Stands, repeats, begins_with_token}
+use Rattle.rnix_grammar.specs.Stands.{Stands, begins_with_token}
+use Rattle.rnix_grammar.specs.Reports.{repeats}
 use Rattle.rnix_grammar.specs.Mended.{kinds_of}
 use Rattle.rnix_grammar.specs.Trim.{AreNodesTrimmed}
-use Rattle.rnix_grammar.specs.Shape.{item_kinds, begins_with_leaf, is_bind_formed, are_binds_formed, AreRows, IsShaped, leaf_text, text_if, name_in, name_if, with_name, entry_names, is_among, AreNew, AreUnrepeated, IsUnrepeated, reports_behind}
+use Rattle.rnix_grammar.specs.Shape.{item_kinds, begins_with_leaf, is_bind_formed, are_binds_formed, AreRows, IsShaped, leaf_text, text_if, name_in, name_if, with_name, entry_names, AreNew, AreUnrepeated, IsUnrepeated, reports_behind}
+use Rattle.rnix_grammar.specs.Tables.{is_among}
 use Rattle.rnix_rows.proofs.WholeEdges.{told_alike}
 use Rattle.rnix_lemmas.proofs.ImitateLemmas.{nowhere}
 use Rattle.rnix_rows.proofs.BindFacts.{bare_bind}
@@ -125,12 +127,12 @@ clean_entry p (branch k c f) h = clean_ident k c (clean f) h.0
 clean_entry p _ h = assumption
 
 -- the name of a node that may be an entry
-clean_name : (k : SyntaxKind) (c : Sketch) → AreTold k c → text_in (bare_name k (clean c)) ≡ name_if k (forget c)
+pub clean_name : (k : SyntaxKind) (c : Sketch) → AreTold k c → text_in (bare_name k (clean c)) ≡ name_if k (forget c)
 clean_name NODE_PAT_ENTRY c h = clean_entry NODE_PAT_ENTRY c h
 clean_name _ c h = refl
 
 -- an entry is reported by its name
-repeats_named : (k : SyntaxKind) (b c : Sketch) → repeats k b c ≡ repeated_if (bare_name k c) b
+pub repeats_named : (k : SyntaxKind) (b c : Sketch) → repeats k b c ≡ repeated_if (bare_name k c) b
 repeats_named NODE_PAT_ENTRY b c = refl
 repeats_named _ b c = refl
 

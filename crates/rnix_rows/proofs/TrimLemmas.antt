@@ -16,7 +16,10 @@ use Rattle.rnix_grammar.specs.Begins.{begin_of}
 use Rattle.rnix_grammar.specs.Sketch.{Token, Note, Unwanted, Extra, TooDeep, Twice, Sketch, blank, ◌⊕◌, one_branch, one_fault, tokens_in, clean, head_kind}
 use Rattle.rnix_grammar.specs.Layout.{from_item, trivia_before, items}
 use Rattle.rnix_grammar.specs.Reports.{report, repeated}
-use Rattle.rnix_grammar.specs.Machine.{Head, Node, Second, Operand, Frame, Machine, opened, ate, behind, leaf_in, leaf, run_of, run_row, dropped, run_rest, made, low_of, closed, entry_closed, limited, second_kind, begun, operand_on, reading, perform, touches, step_on, step, begins, Runs, rest, then as further}
+use Rattle.rnix_grammar.specs.Machine.{Head, Node, Second, Operand, Frame, Machine, opened, ate, behind, leaf_in, leaf, run_row, dropped, run_rest, made, low_of, closed, entry_closed, limited, begun, operand_on, reading, perform, step_on, step, begins, Runs, rest, then as further}
+use Rattle.rnix_grammar.specs.Missing.{run_of}
+use Rattle.rnix_grammar.specs.Begins.{second_kind}
+use Rattle.rnix_grammar.specs.Sketch.{touches}
 use Rattle.rnix_grammar.specs.Sorts.{Sort, sort_of, is_start, HasNext, FitsNode, FitsSecond, FitsOperand, Waits, AreWaiting, AreKept}
 use Rattle.rnix_grammar.specs.Trim.{AreFaultsTrimmed}
 use Rattle.rnix_lemmas.proofs.CleanLemmas.{run_prefix, all_prefix}

@@ -13,8 +13,10 @@ use Rattle.rnix_grammar.specs.Fault.{Fault, named_twice}
 use Rattle.rnix_grammar.specs.Sketch.{Token, Note, Stray, Unwanted, Extra, Twice, TooDeep, Sketch, blank, branch, ◌⊕◌, one_token, one_branch, one_fault, tokens_in, told, extent_of}
 use Rattle.rnix_grammar.specs.Reports.{report, repeated, repeated_if, entry_name, is_same_name, has_entry}
 use Rattle.rnix_grammar.specs.Rows.{is_expression, Spot, Start, At, go, first, first_bind, live, whole, start}
-use Rattle.rnix_grammar.specs.Stands.{Stands, end, leaf as leafed, lost, wrong, second, inner, IsBeside, repeats}
-use Rattle.rnix_grammar.specs.Strict.{may_stand, is_grouped, is_strict, is_among, entry_text, are_entries_new, first_is_no_or, binds_no_or}
+use Rattle.rnix_grammar.specs.Stands.{Stands, end, leaf as leafed, lost, wrong, second, inner, IsBeside}
+use Rattle.rnix_grammar.specs.Reports.{repeats}
+use Rattle.rnix_grammar.specs.Strict.{may_stand, is_grouped, is_strict, entry_text, are_entries_new, first_is_no_or, binds_no_or}
+use Rattle.rnix_grammar.specs.Tables.{is_among}
 use Rattle.rnix_grammar.specs.Mended.{mended, patch, is_ended}
 use Rattle.rnix_grammar.specs.Corners.{is_corner, has_no_corner}
 use Rattle.rnix_grammar.specs.Names.{is_name_at}

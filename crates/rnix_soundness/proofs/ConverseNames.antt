@@ -9,7 +9,8 @@ use Rattle.rnix_grammar.specs.Fault.{Fault}
 use Rattle.rnix_grammar.specs.Sketch.{Token, Twice, Sketch, blank, tokens_in, is_some}
 use Rattle.rnix_grammar.specs.Reports.{report, only_token}
 use Rattle.rnix_grammar.specs.Rows.{Spot, At}
-use Rattle.rnix_grammar.specs.Stands.{Stands, end, leaf, lost, wrong, second, inner, is_formed, repeats}
+use Rattle.rnix_grammar.specs.Stands.{Stands, end, leaf, lost, wrong, second, inner, is_formed}
+use Rattle.rnix_grammar.specs.Reports.{repeats}
 use Rattle.rnix_grammar.specs.Names.{is_named_in, is_named}
 use Rattle.rnix_grammar.specs.Named.{AreSpelled, AreNamed, is_repeated, Lacks}
 use Rattle.rnix_grammar.specs.Mended.{mended, is_ended, ended_count}

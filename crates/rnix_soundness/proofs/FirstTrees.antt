@@ -7,9 +7,10 @@ use Rattle.rnix_grammar.specs.Tables.{is_cur_pos}
 use Rattle.rnix_grammar.specs.Levels.{left_of}
 use Rattle.rnix_grammar.specs.Sketch.{Token, Sketch, blank, token, tokens_in, told_as}
 use Rattle.rnix_grammar.specs.Rows.{is_expression, is_infix, Spot, Start, BeforeOperator, BeforeQuestion, to, go, first, live}
-use Rattle.rnix_grammar.specs.Stands.{row_level}
-use Rattle.rnix_grammar.specs.Strict as strict
-use Rattle.rnix_grammar.specs.Names.{is_or, is_position}
+use Rattle.rnix_grammar.specs.TreeLevels.{row_level}
+use Rattle.rnix_grammar.specs.Tables as tables
+use Rattle.rnix_grammar.specs.Names.{is_position}
+use Rattle.rnix_grammar.specs.TokenKinds.{is_or}
 use Rattle.rnix_kinds.specs.SyntaxKind.{is_token}
 use Rattle.rnix_grammar.specs.Named.{is_spelled, AreSpelled}
 use Rattle.rnix_lemmas.proofs.NodeKinds.{expression_node}
@@ -55,10 +56,10 @@ questioned {p = p} {b = b} h = by (opened h refl)
 
 -- a name is one token, and it is `or` exactly if its token is
 pub data IsName : Sketch → Type 0 where
-  name : {k : SyntaxKind} {t : Token} {f : Sketch} → strict.is_or t.text ≡ is_or t.kind → IsName (token k t f)
+  name : {k : SyntaxKind} {t : Token} {f : Sketch} → tables.is_or t.text ≡ is_or t.kind → IsName (token k t f)
 
-name_spelled : (kind : SyntaxKind) (text : List ℕ) → live (first NODE_IDENT (told_as NODE_IDENT kind)) ≡ true → is_spelled kind text ≡ true → strict.is_or text ≡ is_or kind
-name_spelled TOKEN_IDENT text l h = not_if (strict.is_or text) h
+name_spelled : (kind : SyntaxKind) (text : List ℕ) → live (first NODE_IDENT (told_as NODE_IDENT kind)) ≡ true → is_spelled kind text ≡ true → tables.is_or text ≡ is_or kind
+name_spelled TOKEN_IDENT text l h = not_if (tables.is_or text) h
 name_spelled _ text l h = cc
 
 -- a name begins with what has no row

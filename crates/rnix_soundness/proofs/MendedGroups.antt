@@ -8,8 +8,9 @@ use Rattle.rnix_tree.specs.Forest.{Forest, empty, leaf, node}
 use Rattle.rnix_grammar.specs.Levels.{left_of}
 use Rattle.rnix_grammar.specs.Sketch.{Token, Note, Stray, Unwanted, Extra, Twice, TooDeep, Sketch, blank, branch, fault, one_branch, tokens_in, told}
 use Rattle.rnix_grammar.specs.Rows.{is_atom, is_simple, is_questioned, is_operand, is_expression, Start, BeforeOperator, BeforeDot, BeforeQuestion, BeforeArgument, start}
-use Rattle.rnix_grammar.specs.Stands.{level_of, calls_or}
+use Rattle.rnix_grammar.specs.TreeLevels.{level_of, calls_or}
 use Rattle.rnix_grammar.specs.Strict as strict
+use Rattle.rnix_grammar.specs.Corners as corners
 use Rattle.rnix_grammar.specs.Strict.{stands_at, is_strict_atom, is_grouped, first_stands, first_is_atom, first_is_no_or, are_entries_new}
 use Rattle.rnix_grammar.specs.Mended.{mended, patch}
 use Rattle.rnix_grammar.specs.Corners.{holds_no_lambda, is_corner, has_no_corner}
@@ -166,7 +167,7 @@ grouped parent NODE_BIN_OP c h w n o q e b = operator_first c h w (first_is NODE
 grouped parent NODE_HAS_ATTR c h w n o q e b = question_first c h w (first_is NODE_HAS_ATTR c n o)
 grouped parent NODE_SELECT c h w n o q e b = select_first c h w (first_is NODE_SELECT c n o)
 grouped parent NODE_APPLY c h w n o q e b = apply_first c h w (first_is NODE_APPLY c n o)
-grouped parent NODE_DYNAMIC c h w n o q e b = one_tree (strict.is_one (strict.node_count (mended c))) q
+grouped parent NODE_DYNAMIC c h w n o q e b = one_tree (corners.is_one (corners.node_count (mended c))) q
 grouped parent NODE_IDENT_PARAM c h w n o q e b = name_first NODE_IDENT_PARAM c h w (first_is NODE_IDENT_PARAM c n o) (λ t x. x)
 grouped parent NODE_PAT_ENTRY c h w n o q e b = name_first NODE_PAT_ENTRY c h w (first_is NODE_PAT_ENTRY c n o) (λ t x. x)
 grouped parent NODE_PAT_BIND c h w n o q e b = b refl

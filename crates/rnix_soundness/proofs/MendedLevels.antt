@@ -7,7 +7,8 @@ use Rattle.rnix_tree.specs.Forest.{Forest, empty, leaf, node}
 use Rattle.rnix_grammar.specs.Levels.{power}
 use Rattle.rnix_grammar.specs.Sketch.{Note, Stray, Unwanted, Extra, Twice, TooDeep, Sketch, blank, token, branch, fault, one_branch, tokens_in}
 use Rattle.rnix_grammar.specs.Rows.{is_simple, is_operand, Start, BeforeOperator, BeforeArgument, start}
-use Rattle.rnix_grammar.specs.Stands.{is_or_leaf, is_or_row, calls_or, operator_in, prefix_in, level_of, is_atom_row, IsArgument}
+use Rattle.rnix_grammar.specs.Stands.{IsArgument}
+use Rattle.rnix_grammar.specs.TreeLevels.{is_or_leaf, is_or_row, calls_or, operator_in, prefix_in, level_of, is_atom_row}
 use Rattle.rnix_grammar.specs.Strict as strict
 use Rattle.rnix_grammar.specs.Mended.{mended, patch}
 use Rattle.rnix_grammar.specs.Named.{AreSpelled}

@@ -9,7 +9,7 @@ use Rattle.rnix_tree.specs.Forest.{Forest}
 use Rattle.rnix_grammar.specs.Tables.{is_cur_pos}
 use Rattle.rnix_grammar.specs.Sketch.{Token, Sketch, blank, one_branch, tokens_in}
 use Rattle.rnix_grammar.specs.Rows.{is_simple, is_expression, Spot, BeforeArgument, start}
-use Rattle.rnix_grammar.specs.Stands.{is_or_row, is_or_leaf, level_of}
+use Rattle.rnix_grammar.specs.TreeLevels.{is_or_row, is_or_leaf, level_of}
 use Rattle.rnix_grammar.specs.Strict as strict
 use Rattle.rnix_grammar.specs.Strict.{stands_at, is_or_name}
 use Rattle.rnix_grammar.specs.Mended.{mended}

@@ -12,7 +12,8 @@ use Rattle.rnix_grammar.specs.declared.slot.Slot.TheVariants as s
 use Rattle.rnix_grammar.specs.Slots.{slot_at, level_in}
 use Rattle.rnix_grammar.specs.Sketch.{Stray, Unwanted, Extra, Twice, TooDeep, Sketch, blank, one_branch, tokens_in, is_some}
 use Rattle.rnix_grammar.specs.Rows.{is_simple, fits, Spot, Start, BeforeOperator, BeforeDot, BeforeQuestion, BeforeArgument, BeforeAt, BeforeBrace, SecondStart, At, Nowhere, to, go, go_slot, live, start}
-use Rattle.rnix_grammar.specs.Stands.{is_or_row, IsTight, IsArgument, IsLeveled, begins_with_token, is_bind_at, is_formed}
+use Rattle.rnix_grammar.specs.Stands.{IsTight, IsArgument, IsLeveled, begins_with_token, is_bind_at, is_formed}
+use Rattle.rnix_grammar.specs.TreeLevels.{is_or_row}
 use Rattle.rnix_grammar.specs.Strict.{may_stand, stands_at, stands_in, begins_with_leaf, is_or_name}
 use Rattle.rnix_grammar.specs.Mended.{mended}
 use Rattle.rnix_grammar.specs.Corners.{holds_no_lambda, is_corner}

@@ -10,10 +10,11 @@ use Rattle.rnix_lemmas.proofs.Basics.{true_is_not_false}
 use Rattle.rnix_grammar.specs.declared.place.Place.{Place}
 use Rattle.rnix_grammar.specs.declared.slot.Slot.TheVariants as s
 use Rattle.rnix_grammar.specs.Tables.{is_cur_pos}
-use Rattle.rnix_grammar.specs.Actions.{is_path_piece}
+use Rattle.rnix_grammar.specs.TokenKinds.{is_path_piece}
 use Rattle.rnix_grammar.specs.Slots.{slot_at, level_in}
 use Rattle.rnix_grammar.specs.Rows.{is_simple, is_negated, is_questioned, is_operand, is_expression, is_infix, is_plain_literal, is_attr, fits, Spot, Start, BeforeArgument, At, go_slot, go, to, live, whole, start}
-use Rattle.rnix_grammar.specs.Strict.{is_or, only_text, is_or_name, stands_at, stands_in, may_stand, is_grouped, is_strict}
+use Rattle.rnix_grammar.specs.Strict.{only_text, is_or_name, stands_at, stands_in, may_stand, is_grouped, is_strict}
+use Rattle.rnix_grammar.specs.Tables.{is_or}
 use Rattle.rnix_grammar.specs.Derivation.{has_tokens_alone}
 use Rattle.rnix_lemmas.proofs.LevelLemmas.{simple_negated, negated_questioned, questioned_operand}
 use Rattle.rnix_lemmas.proofs.NodeKinds.{fits_expression}

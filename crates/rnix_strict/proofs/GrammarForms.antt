@@ -13,7 +13,7 @@ use Rattle.rnix_grammar.specs.declared.until.Closer.{Closer}
 use Rattle.rnix_grammar.specs.declared.until.Closer.TheVariants as c
 use Rattle.rnix_grammar.specs.Tables.{closes}
 use Rattle.rnix_grammar.specs.Rows.{is_plain_literal, first_token, fits, Spot, At, go, to, live, whole, start}
-use Rattle.rnix_grammar.specs.Strict.{node_count, is_one}
+use Rattle.rnix_grammar.specs.Corners.{node_count, is_one}
 use Rattle.rnix_grammar.specs.Plain.{is_node}
 use Rattle.rnix_grammar.specs.Grammar.{Strict, with_scope, assertion, if_else, Atom, paren, list, path_abs, path_rel, path_home, path_search, literal, Items, list_end, item, Pieces, string_end, content, interpolated, PathEnd, path_end, path_on, PathPieces, pieces_end, piece, piece_on, Interpol, interpol, Attr, dynamic_attr, Source, source}
 use Rattle.rnix_lemmas.proofs.NodeKinds.{fits_expression}

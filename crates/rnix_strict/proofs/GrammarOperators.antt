@@ -9,7 +9,8 @@ use Rattle.rnix_grammar.specs.declared.place.Place.TheVariants as p
 use Rattle.rnix_grammar.specs.declared.until.Until.TheVariants as u
 use Rattle.rnix_grammar.specs.Levels.{power, left_of, right_of}
 use Rattle.rnix_grammar.specs.Rows.{is_atom, is_simple, is_questioned, is_operand, is_infix, BeforeOperator, BeforeDot, BeforeQuestion, BeforeArgument, At, go, to, live, start}
-use Rattle.rnix_grammar.specs.Strict.{only_text, is_or, operator_of, is_or_name, level_of, stands_at, is_strict_atom, first_stands, first_is_atom, is_grouped, may_stand}
+use Rattle.rnix_grammar.specs.Strict.{only_text, operator_of, is_or_name, level_of, stands_at, is_strict_atom, first_stands, first_is_atom, is_grouped, may_stand}
+use Rattle.rnix_grammar.specs.Tables.{is_or}
 use Rattle.rnix_grammar.specs.Plain.{is_node}
 use Rattle.rnix_grammar.specs.Grammar.{Strict, select, select_or, apply_or, apply, negate, has_attr, binary, invert, lambda, Atom, Parameter}
 use Rattle.rnix_lemmas.proofs.Basics.{true_is_not_false}

@@ -7,7 +7,8 @@ use Rattle.rnix_tree.specs.Forest.{Forest, empty, leaf, node}
 use Rattle.rnix_grammar.specs.declared.place.Place.TheVariants as p
 use Rattle.rnix_grammar.specs.declared.until.Until.TheVariants as u
 use Rattle.rnix_grammar.specs.Rows.{Spot, BeforeAt, At, go_formals, go, live, start}
-use Rattle.rnix_grammar.specs.Strict.{is_or, first_is_no_or, binds_no_or, entry_text, is_among, are_entries_new, begins_with_leaf, may_stand}
+use Rattle.rnix_grammar.specs.Strict.{first_is_no_or, binds_no_or, entry_text, are_entries_new, begins_with_leaf, may_stand}
+use Rattle.rnix_grammar.specs.Tables.{is_or, is_among}
 use Rattle.rnix_kinds.specs.SyntaxKind.{is_token}
 use Rattle.rnix_grammar.specs.Plain.{is_node}
 use Rattle.rnix_grammar.specs.Grammar.{PatternEnd, pattern_end, bound_behind, Parameter, parameter, pattern, bound_pattern, Formals, formals_end, ellipsis, last_entry, entry_comma, Formal, entry, default_entry}

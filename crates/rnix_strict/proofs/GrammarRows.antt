@@ -15,7 +15,8 @@ use Rattle.rnix_grammar.specs.Tables.{is_cur_pos}
 use Rattle.rnix_grammar.specs.Levels.{power, left_of, right_of}
 use Rattle.rnix_grammar.specs.Slots.{slot_at}
 use Rattle.rnix_grammar.specs.Rows.{is_atom, is_simple, is_expression, is_infix, is_attr, fits, Spot, BeforeOperator, BeforeDot, BeforeQuestion, BeforeArgument, At, go, to, start}
-use Rattle.rnix_grammar.specs.Strict.{is_named, first_stands, is_or, is_or_name, is_strict_atom, entry_text, is_among, are_entries_new, may_stand, stands_at}
+use Rattle.rnix_grammar.specs.Strict.{is_named, first_stands, is_or_name, is_strict_atom, entry_text, are_entries_new, may_stand, stands_at}
+use Rattle.rnix_grammar.specs.Tables.{is_or, is_among}
 use Rattle.rnix_grammar.specs.Grammar.{name, PatternEnd, pattern_end, bound_behind}
 use Rattle.rnix_lemmas.proofs.LevelLemmas.{atom_simple, atom_fits, operates}
 use Rattle.rnix_lemmas.proofs.NodeKinds.{fits_expression}

@@ -14,7 +14,8 @@ use Rattle.rnix_grammar.specs.declared.slot.Slot.TheVariants as s
 use Rattle.rnix_grammar.specs.Tables.{is_cur_pos, is_wanted}
 use Rattle.rnix_grammar.specs.Slots.{slot_at, level_in}
 use Rattle.rnix_grammar.specs.Rows.{is_expression, fits, Spot, At, go_slot, go, first_token, to, live, is_end, whole, start}
-use Rattle.rnix_grammar.specs.Strict.{is_or, is_named, is_strict_atom, entry_text, level_of, stands_at, stands_in, may_stand}
+use Rattle.rnix_grammar.specs.Strict.{is_named, is_strict_atom, entry_text, level_of, stands_at, stands_in, may_stand}
+use Rattle.rnix_grammar.specs.Tables.{is_or}
 use Rattle.rnix_grammar.specs.Plain.{is_node}
 use Rattle.rnix_grammar.specs.Grammar.{name, Strict, looser, atom, Atom, string, named, current_position, Pieces, Interpol, Attr, Attrpath, Binding, Inherit, Source, Parameter, Formal}
 use Rattle.rnix_grammar.specs.Strict.{is_plain_name}

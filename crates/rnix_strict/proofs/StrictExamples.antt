@@ -2,13 +2,14 @@
 use Rattle.std.proofs.Common.{◌≡◌, ℕ, true, false, List, refl}
 use Rattle.std.specs.Prelude.{codes}
 use Rattle.rnix_kinds.specs.declared.kinds.SyntaxKind.{SyntaxKind}
-use Rattle.rnix_kinds.specs.declared.kinds.SyntaxKind.TheVariants.{TOKEN_IDENT, TOKEN_CUR_POS, TOKEN_INTEGER, TOKEN_ADD, TOKEN_SUB, TOKEN_MUL, TOKEN_EQUAL, TOKEN_INVERT, TOKEN_COLON, TOKEN_COMMA, TOKEN_QUESTION, TOKEN_AT, TOKEN_DOT, TOKEN_OR, TOKEN_L_BRACE, TOKEN_R_BRACE, TOKEN_L_BRACK, TOKEN_R_BRACK, TOKEN_L_PAREN, TOKEN_R_PAREN, TOKEN_INTERPOL_START, TOKEN_INTERPOL_END, TOKEN_CONCAT, NODE_APPLY, NODE_ATTRPATH, NODE_BIN_OP, NODE_CUR_POS, NODE_DYNAMIC, NODE_HAS_ATTR, NODE_IDENT, NODE_IDENT_PARAM, NODE_LAMBDA, NODE_LIST, NODE_LITERAL, NODE_PAREN, NODE_PATTERN, NODE_PAT_BIND, NODE_PAT_ENTRY, NODE_SELECT, NODE_UNARY_OP, TOKEN_LESS, TOKEN_IMPLICATION}
+use Rattle.rnix_kinds.specs.declared.kinds.SyntaxKind.TheVariants.{TOKEN_IDENT, TOKEN_CUR_POS, TOKEN_INTEGER, TOKEN_ADD, TOKEN_SUB, TOKEN_MUL, TOKEN_EQUAL, TOKEN_INVERT, TOKEN_COLON, TOKEN_COMMA, TOKEN_QUESTION, TOKEN_AT, TOKEN_DOT, TOKEN_OR, TOKEN_L_BRACE, TOKEN_R_BRACE, TOKEN_L_BRACK, TOKEN_R_BRACK, TOKEN_L_PAREN, TOKEN_R_PAREN, TOKEN_INTERPOL_START, TOKEN_INTERPOL_END, TOKEN_CONCAT, NODE_APPLY, NODE_ATTRPATH, NODE_BIN_OP, NODE_CUR_POS, NODE_DYNAMIC, NODE_HAS_ATTR, NODE_IDENT, NODE_IDENT_PARAM, NODE_LAMBDA, NODE_LIST, NODE_LITERAL, NODE_PAREN, NODE_PATTERN, NODE_PAT_BIND, NODE_PAT_ENTRY, NODE_ROOT, NODE_SELECT, NODE_UNARY_OP, TOKEN_LESS, TOKEN_IMPLICATION}
 use Rattle.rnix_tree.specs.Forest.{Forest, empty, leaf, node}
 use Rattle.rnix_grammar.specs.declared.place.Place.TheVariants.{RootStart, AttrpathStart, InheritName, BindName}
 use Rattle.rnix_grammar.specs.Sketch.{Token, Sketch, Stray, Extra, one_token, one_fault}
 use Rattle.rnix_grammar.specs.Rows.{Start, BeforeArgument, At}
 use Rattle.rnix_grammar.specs.Strict.{is_strict_expression}
 use Rattle.rnix_grammar.specs.Mended.{mended}
+use Rattle.rnix_grammar.specs.Nest.{nest}
 use Rattle.rnix_grammar.specs.Names.{is_named}
 
 -- a number, a name, an operator's tree
@@ -287,3 +288,19 @@ stray_mended = refl
 
 extra_mended : mended (one_fault Extra (one_token TOKEN_OR or_token)) ≡ empty
 extra_mended = refl
+
+-- how many expressions that count are inside one another: in `1 + 1 * 1`, `-((1 + 1) 1)`, `a: [1 (1)]`, `a.${1}` and `{b ? 1}: a`
+nested_sum : nest NODE_ROOT (binary TOKEN_ADD number (binary TOKEN_MUL number number) empty) ≡ 1
+nested_sum = refl
+
+nested_call : nest NODE_ROOT (minus (parens (applied (parens (binary TOKEN_ADD number number)) number)) empty) ≡ 4
+nested_call = refl
+
+nested_list : nest NODE_ROOT (lambda (λ f. node NODE_LIST (leaf TOKEN_L_BRACK (codes "[") (number (parens number (leaf TOKEN_R_BRACK (codes "]") empty)))) f) empty) ≡ 4
+nested_list = refl
+
+nested_dynamic : nest NODE_ROOT (dynamic (number (leaf TOKEN_INTERPOL_END (codes "}") empty))) ≡ 2
+nested_dynamic = refl
+
+nested_default : nest NODE_ROOT (patterned (leaf TOKEN_L_BRACE (codes "{") (a_default (leaf TOKEN_R_BRACE (codes "}") empty)))) ≡ 2
+nested_default = refl

@@ -1,6 +1,6 @@
 //! Kinds and sets of kinds.
 
-use rnix_kinds::{SyntaxKind, TokenSet};
+use rnix_kinds::{SyntaxKind, TokenSet, same_sets};
 use std::test::Fail;
 
 // The names of all kinds, a space between two.
@@ -65,6 +65,17 @@ fn sets_hold_what_was_joined(rt: HostRuntime) {
     assert!(rt; holds_only(SyntaxKind::TOKEN_MUL | both, &three));
     assert!(rt; holds_only(both | TokenSet::new(SyntaxKind::TOKEN_MUL), &three));
     assert!(rt; holds_only(TokenSet::EMPTY, &[]));
+}
+
+#[test]
+fn sets_of_the_same_kinds_are_equal(rt: HostRuntime) {
+    let (first, last) = (SyntaxKind::TOKEN_ADD, SyntaxKind::NODE_WITH);
+    let both = first | last;
+    assert!(rt; last | first == both && both | first == both && last | both == both);
+    assert!(rt; TokenSet::from_slice(&[last, first, last]) == both);
+    assert!(rt; TokenSet::EMPTY | both == both && TokenSet::from_slice(&[]) == TokenSet::EMPTY);
+    assert!(rt; both != TokenSet::new(first) && first | () != () | last);
+    assert!(rt; same_sets(both, last | first) && !same_sets(both, TokenSet::EMPTY));
 }
 
 #[test]

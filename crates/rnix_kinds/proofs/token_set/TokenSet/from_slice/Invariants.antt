@@ -1,8 +1,6 @@
-use Rattle.std.proofs.Common.{◌≡◌, ◌↔◌, ◌<◌, ℕ, slice_index_or}
-use Rattle.rnix_kinds.specs.declared.kinds.SyntaxKind.{SyntaxKind}
-use Rattle.rnix_kinds.specs.TokenSet.{Holds}
+use Rattle.std.proofs.Common.{◌≡◌, take}
+use Rattle.rnix_kinds.specs.TokenSet.{set_of}
 use Rattle.rnix_kinds.proofs.token_set.TokenSet.from_slice.Given as goal
 
 abbrev pub invariant-loop-kind : goal.invariant-loop-kind
-invariant-loop-kind l =
-    (kind : SyntaxKind) → Holds l.set kind ↔ ((i : ℕ) × (i < l.kind-index) × (slice_index_or l.kinds i kind ≡ kind))
+invariant-loop-kind l = l.set ≡ set_of (take l.kind-index l.kinds)

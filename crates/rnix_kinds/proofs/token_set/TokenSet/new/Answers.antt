@@ -1,5 +1,5 @@
-use Rattle.rnix_kinds.proofs.SetBits.{holds_only_bit}
+use Rattle.rnix_kinds.proofs.KindSets.{kinds_of-one}
 use Rattle.rnix_kinds.proofs.token_set.TokenSet.new.Goals as goal
 
 pub returns : goal.returns
-returns c = holds_only_bit c.args.kind
+returns c = kinds_of-one c.args.kind

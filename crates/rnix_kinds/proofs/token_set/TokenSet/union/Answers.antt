@@ -1,6 +1,11 @@
-use Rattle.rnix_kinds.specs.SyntaxKind.{place_of}
-use Rattle.rnix_kinds.proofs.SetBits.{union_bits}
+use Rattle.std.proofs.Common.{◌∙◌}
+use Rattle.std.proofs.lemmas.Nat.{or_lt}
+use Rattle.std.specs.FinSet.{union}
+use Rattle.rnix_kinds.proofs.KindSets.{kinds_of-or}
 use Rattle.rnix_kinds.proofs.token_set.TokenSet.union.Goals as goal
 
+pub invariant_of-result : goal.invariant_of-result
+invariant_of-result c = or_lt 93 c.self.inside.bits c.other.inside.bits c.self.invariant c.other.invariant
+
 pub returns : goal.returns
-returns c = rw (← c.self.view_is, ← c.other.view_is) (λ kind. union_bits _ _ (place_of kind))
+returns c = kinds_of-or c.self.inside.bits c.other.inside.bits ∙ (λ i. union (c.self.view_is i) (c.other.view_is i))

@@ -1,5 +1,5 @@
 use Rattle.std.proofs.Common.{◌≡◌, length}
-use Rattle.rnix_grammar.specs.Machine.{run_of}
+use Rattle.rnix_grammar.specs.Missing.{run_of}
 use Rattle.rnix_reader.specs.State.{state, items_left, skipped}
 use Rattle.rnix_reader.proofs.parser.Parser.skip.Given as goal
 

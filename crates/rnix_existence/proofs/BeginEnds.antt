@@ -1,0 +1,85 @@
+-- What is still to come where an operand has begun: the whole operand, and what comes behind it.
+use Rattle.std.proofs.Common.{◌≡◌, ℕ, true, false, List, [], ◌∷◌, ◌++◌, Some, refl, ap, sym, ◌∙◌, subst, append_assoc}
+use Rattle.rnix_kinds.specs.declared.kinds.SyntaxKind.{SyntaxKind}
+use Rattle.rnix_grammar.specs.declared.place.Place.TheVariants as p
+use Rattle.rnix_grammar.specs.Fault.{Fault}
+use Rattle.rnix_grammar.specs.Sketch.{Token, Sketch, blank, token, ◌⊕◌, one_token, one_branch, tokens_in, told, end_from}
+use Rattle.rnix_grammar.specs.Machine.{Operand, Frame, put, opened}
+use Rattle.rnix_grammar.specs.Rows.{fits, Spot, Start, At, go, live, start}
+use Rattle.rnix_grammar.specs.TreeLevels.{is_or_row}
+use Rattle.rnix_grammar.specs.OwnItems.{IsOwned}
+use Rattle.rnix_grammar.specs.Operands.{first_tree, IsFollowed, IsBegun, IsOperand}
+use Rattle.rnix_grammar.specs.Reads.{Reads, end, leaf}
+use Rattle.rnix_existence.proofs.Ends.{seen_kind, Lone, a_node, Stops, Ends}
+use Rattle.rnix_existence.proofs.OperandTrees.{past_over}
+use Rattle.rnix_existence.proofs.OperandEnds.{OperandEnds, operand_ends}
+
+-- A whole operand of a level above a frame that waits for it, inside so many counted places, and what comes behind it: gs are the errors before
+-- it, and hs all errors.
+pub record BeginEnds (level d : ℕ) (g : Frame) (fs : List Frame) (ts : List Token) (n : ℕ) (row : Sketch) (gs hs : List Fault) : Type 0 where
+  pub left : List Token
+  pub reached : ℕ
+  pub tree : Sketch
+  pub inside : List Fault
+  pub behind : List Fault
+  pub lone : Lone d n tree left inside
+  pub fit : fits level (seen_kind tree) ≡ true
+  pub no_or : is_or_row tree ≡ false
+  pub operand : IsOperand (Some level) tree left
+  pub items : ts ≡ tokens_in tree ++ left
+  pub reach : reached ≡ end_from n (tokens_in tree)
+  pub ends : Ends (put g.place (g.row ⊕ tree) g ∷ fs) left reached row behind
+  pub faults : gs ++ (inside ++ behind) ≡ hs
+
+-- trees with one first tree begin alike
+pub begun_same : (level : ℕ) (x y : Sketch) (ts : List Token) → first_tree y ≡ first_tree x → IsBegun level x ts → IsBegun level y ts
+begun_same level x y [] e h = h
+begun_same level x y (t ∷ ts) e h = h ∙ sym e
+
+top_same : {f g : Frame} {fs gs : List Frame} → f ∷ fs ≡ g ∷ gs → f ≡ g
+top_same e = cc
+
+under_same : {f g : Frame} {fs gs : List Frame} → f ∷ fs ≡ g ∷ gs → fs ≡ gs
+under_same e = cc
+
+-- the first tree of an operand goes on to the whole operand
+pub tree_ends : (level high d : ℕ) (g : Frame) (fs : List Frame) (ts us : List Token) (n m : ℕ) (row x : Sketch) (cs es gs hs : List Fault) → Stops high x
+    → ts ≡ tokens_in x ++ us → m ≡ end_from n (tokens_in x) → IsBegun level x ts → Lone d n x us cs
+    → Ends (opened Operand (p.Behind level high) d x ∷ (put g.place g.row g ∷ fs)) us m row es → gs ++ (cs ++ es) ≡ hs → BeginEnds level d g fs ts n row gs hs
+tree_ends level high d g fs ts us n m row x cs es gs hs stops items reach begun lone ends faults = record {
+  left = o.left;
+  reached = o.reached;
+  tree = o.tree;
+  inside = cs ++ o.inside;
+  behind = o.behind;
+  lone = o.grows.lone n cs reach stops lone;
+  fit = o.grows.fit;
+  no_or = o.grows.no_or;
+  operand = (
+    o.grows.least,
+    subst (IsBegun level o.tree) all (begun_same level x o.tree ts o.grows.first begun),
+    o.grows.calm stops,
+  );
+  items = all;
+  reach = o.grows.reach n reach;
+  ends =
+      subst (λ (z : List Frame). Ends (put g.place (g.row ⊕ o.tree) g ∷ z) o.left o.reached row o.behind) (sym (under_same o.stack))
+      (subst (λ (z : Frame). Ends (put z.place (z.row ⊕ o.tree) z ∷ o.frames) o.left o.reached row o.behind) (sym (top_same o.stack)) o.ends);
+  faults = ap (λ z. gs ++ z) (append_assoc cs o.inside o.behind ∙ ap (λ z. cs ++ z) (sym o.faults)) ∙ faults;
+}
+  where
+    o : OperandEnds level high (opened Operand (p.Behind level high) d x) (put g.place g.row g ∷ fs) us m row es
+    o = operand_ends level high (opened Operand (p.Behind level high) d x) (put g.place g.row g ∷ fs) us m row es refl refl ends
+
+    all : ts ≡ tokens_in o.tree ++ o.left
+    all = items ∙ o.grows.items
+
+-- an item where the row of a node begins
+pub first_leaf : {d n : ℕ} {q s : Spot} {us : List Token} {f : Sketch} {es : List Fault} (k : SyntaxKind) (t : Token) → start k ≡ Start k → go (start k) (told k t) ≡ q → live q ≡ true
+    → Reads k d t.end q s (one_token (told k t) t) us f es → Reads k d n (start k) s blank us (token (told k t) t f) es
+first_leaf {n = n} {us = us} {f = f} k t e g l z =
+    leaf refl refl (subst (λ (y : Spot). IsOwned y n (t ∷ (tokens_in f ++ us)) true) (sym e) tt) (subst (λ (y : Spot). IsFollowed y blank (Some (told k t))) (sym e) tt) g l refl refl z
+
+-- a node of one item
+pub leaf_node : {d n : ℕ} {us : List Token} (k : SyntaxKind) (t : Token) → start k ≡ Start k → go (start k) (told k t) ≡ At p.Past → Lone d n (one_branch k (one_token (told k t) t)) us []
+leaf_node {us = us} k t e g = a_node (first_leaf k t e g refl end) refl (past_over t.end us)

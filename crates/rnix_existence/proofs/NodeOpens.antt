@@ -1,0 +1,127 @@
+-- What ends behind a step that opens or closes a node or a second name ends before it.
+use Rattle.std.proofs.Common.{◌≡◌, ℕ, suc, Bool, true, false, List, [], ◌∷◌, ◌++◌, Option, None, refl, ap, sym, ◌∙◌, subst, append_assoc, append-nil}
+use Rattle.std.specs.Prelude.{if◌then◌else◌}
+use Rattle.rnix_kinds.specs.declared.kinds.SyntaxKind.{SyntaxKind}
+use Rattle.rnix_kinds.specs.declared.kinds.SyntaxKind.TheVariants.{NODE_IDENT, NODE_PAT_ENTRY, TOKEN_AT, TOKEN_IDENT}
+use Rattle.rnix_grammar.specs.declared.place.Place.{Place}
+use Rattle.rnix_grammar.specs.declared.place.Place.TheVariants as p
+use Rattle.rnix_grammar.specs.declared.action.Action.TheVariants as a
+use Rattle.rnix_grammar.specs.Fault.{Fault}
+use Rattle.rnix_grammar.specs.Slots.{slot_at, level_in}
+use Rattle.rnix_grammar.specs.Sketch.{Token, Twice, Sketch, blank, token, ◌⊕◌, one_token, one_branch, one_fault, tokens_in, told, told_as, end_from}
+use Rattle.rnix_grammar.specs.Reports.{report, repeated}
+use Rattle.rnix_grammar.specs.Machine.{Head, Node, Second, Frame, opened, put, made, closed}
+use Rattle.rnix_grammar.specs.Rows.{Spot, Start, SecondStart, At, go, first, start}
+use Rattle.rnix_grammar.specs.Rows.{counts}
+use Rattle.rnix_grammar.specs.Reports.{repeats}
+use Rattle.rnix_grammar.specs.Operands.{IsOperand}
+use Rattle.rnix_grammar.specs.OwnItems.{owns, stands_owned_in}
+use Rattle.rnix_grammar.specs.Reads.{Reads, IsOver, end, leaf, second, inner}
+use Rattle.rnix_lemmas.proofs.Basics.{true_is_not_false}
+use Rattle.rnix_lemmas.proofs.SketchLemmas.{⊕-blank, tokens_two}
+use Rattle.rnix_existence.proofs.Ends.{is_open, closing, Ends, open_frame, EndsBy}
+use Rattle.rnix_existence.proofs.Prepended.{end_two, prepended}
+use Rattle.rnix_existence.proofs.OperandEnds.{OpenEnds, open_ends}
+use Rattle.rnix_existence.proofs.RowSteps.{past_over}
+
+-- a node that begins at a place for it
+pub opens_by : (f : Frame) (fs : List Frame) (ts us : List Token) (n m : ℕ) (row : Sketch) (es : List Fault) (k : SyntaxKind) (z y : Place) (x : Sketch)
+    → is_open f.head ≡ true → ts ≡ tokens_in x ++ us → m ≡ end_from n (tokens_in x)
+    → ((vs : List Token) (s : Spot) (r : Sketch) (cs : List Fault) → us ≡ tokens_in r ++ vs → Reads k f.depth m (At z) s x vs r cs → Reads k f.depth n (start k) s blank vs (x ⊕ r) cs)
+    → counts (At f.place) ≡ false → level_in (slot_at f.place) ≡ None → owns f.place n ts ≡ stands_owned_in (slot_at f.place) k → go (At f.place) k ≡ At y
+    → Ends (opened (Node k) z f.depth x ∷ (put y f.row f ∷ fs)) us m row es → Ends (f ∷ fs) ts n row es
+opens_by f fs ts us n m row es k z y x o e l reads c v w g ends = by (open_ends (opened (Node k) z f.depth x) (put y f.row f) fs us m row es refl ends)
+  where
+    by : OpenEnds (opened (Node k) z f.depth x) (put y f.row f) fs us m row es → Ends (f ∷ fs) ts n row es
+    by q =
+        let all : ts ≡ tokens_in (x ⊕ q.rest) ++ q.left = e ∙ ap (λ z. tokens_in x ++ z) q.items ∙ sym (tokens_two x q.rest q.left) in
+        let reach : q.reached ≡ end_from n (tokens_in (x ⊕ q.rest)) = q.reach ∙ ap (λ z. end_from z (tokens_in q.rest)) l ∙ sym (end_two n x q.rest) in
+        let faults : es ≡ (q.inside ++ repeats k f.row (x ⊕ q.rest)) ++ q.behind = q.faults ∙ sym (append_assoc q.inside (repeats k f.row (x ⊕ q.rest)) q.behind) in
+        subst (λ (z : List Fault). Ends (f ∷ fs) ts n row z) (sym faults)
+        (prepended f fs ts q.left n q.reached row (q.inside ++ repeats k f.row (x ⊕ q.rest)) q.behind y (one_branch k (x ⊕ q.rest)) o
+        (all ∙ ap (λ z. z ++ q.left) (sym (append-nil (tokens_in (x ⊕ q.rest))))) (reach ∙ ap (end_from n) (sym (append-nil (tokens_in (x ⊕ q.rest)))))
+        (λ vs s r cs h i. inner h all
+        (subst (λ (z : Bool). Reads k (if z then suc f.depth else f.depth) n (start k) q.spot blank q.left (x ⊕ q.rest) q.inside) (sym c) (reads q.left q.spot q.rest q.inside q.items q.reads))
+        reach q.over w (λ x. absurd (true_is_not_false (sym x ∙ c))) tt (subst (λ (z : Option ℕ). IsOperand z (one_branch k (x ⊕ q.rest)) q.left) (sym v) tt) g refl refl i refl) q.ends)
+
+-- a node opens with the next item
+pub opens : (f : Frame) (fs : List Frame) (t : Token) (ts : List Token) (n : ℕ) (gs : List Fault) (k : SyntaxKind) (z y : Place)
+    → is_open f.head ≡ true → start k ≡ Start k → go (Start k) (told k t) ≡ At z → counts (At f.place) ≡ false → level_in (slot_at f.place) ≡ None
+    → owns f.place n (t ∷ ts) ≡ stands_owned_in (slot_at f.place) k → go (At f.place) k ≡ At y → EndsBy (a.Open k z y) f fs (t ∷ ts) n gs
+opens f fs t ts n gs k z y o e i c v w g row es ends =
+    (es, (opens_by f fs (t ∷ ts) ts n t.end row es k z y (one_token (told k t) t) o refl refl
+    (λ vs s r cs h q. subst (λ (x : Spot). Reads k f.depth n x s blank vs (token (told k t) t r) cs) (sym e) (leaf refl h tt tt i refl refl refl q)) c v w g ends, refl))
+
+-- a node begins with nothing read
+pub begins_node : (f : Frame) (fs : List Frame) (ts : List Token) (n : ℕ) (gs : List Fault) (k : SyntaxKind) (z y : Place)
+    → is_open f.head ≡ true → start k ≡ At z → counts (At f.place) ≡ false → level_in (slot_at f.place) ≡ None
+    → owns f.place n ts ≡ stands_owned_in (slot_at f.place) k → go (At f.place) k ≡ At y → EndsBy (a.Begin k z y) f fs ts n gs
+begins_node f fs ts n gs k z y o i c v w g row es ends =
+    (es, (opens_by f fs ts ts n n row es k z y blank o refl refl
+    (λ vs s r cs h q. subst (λ (x : Spot). Reads k f.depth n x s blank vs r cs) (sym i) q) c v w g ends, refl))
+
+-- an entry of a pattern begins with its name
+pub begins_entry : (f : Frame) (fs : List Frame) (t : Token) (ts : List Token) (n : ℕ) (gs : List Fault) (y : Place)
+    → is_open f.head ≡ true → t.kind ≡ TOKEN_IDENT → counts (At f.place) ≡ false → level_in (slot_at f.place) ≡ None
+    → owns f.place n (t ∷ ts) ≡ stands_owned_in (slot_at f.place) NODE_PAT_ENTRY → go (At f.place) NODE_PAT_ENTRY ≡ At y → EndsBy (a.Entry y) f fs (t ∷ ts) n gs
+begins_entry f fs t ts n gs y o i c v w g row es ends =
+    let x : Sketch = one_branch NODE_IDENT (one_token (told NODE_IDENT t) t) in
+    (es, (opens_by f fs (t ∷ ts) ts n t.end row es NODE_PAT_ENTRY p.EntryMore y x o refl refl
+    (λ vs s r cs h q. inner h refl (leaf refl refl tt tt (ap (λ z. first NODE_IDENT (told_as NODE_IDENT z)) i) refl refl refl end) refl (refl, past_over t.end ts) tt
+    (λ z. absurd (true_is_not_false (sym z))) tt tt refl refl refl q refl) c v w g ends, refl))
+
+-- a second name begins with `@`
+pub begins_second : (f : Frame) (fs : List Frame) (t : Token) (ts : List Token) (n : ℕ) (gs : List Fault)
+    → is_open f.head ≡ true → f.place ≡ p.PatternEnd true → t.kind ≡ TOKEN_AT → EndsBy (a.Twice p.PatternPast) f fs (t ∷ ts) n gs
+begins_second f fs t ts n gs o i j row es ends =
+    (es, (by (open_ends (opened Second p.TwiceName f.depth x) (put p.PatternPast f.row f) fs ts t.end row es refl ends), refl))
+  where
+    x : Sketch
+    x = one_token t.kind t
+
+    by : OpenEnds (opened Second p.TwiceName f.depth x) (put p.PatternPast f.row f) fs ts t.end row es → Ends (f ∷ fs) (t ∷ ts) n row es
+    by q =
+        let found : List Fault = q.inside ++ report Twice (t ∷ tokens_in q.rest) ∷ [] in
+        let all : t ∷ ts ≡ t ∷ (tokens_in q.rest ++ q.left) = ap (λ z. t ∷ z) q.items in
+        let same : t ∷ tokens_in q.rest ≡ tokens_in (one_fault Twice (x ⊕ q.rest)) = sym (append-nil (t ∷ tokens_in q.rest)) in
+        subst (λ (z : List Fault). Ends (f ∷ fs) (t ∷ ts) n row z) (sym (q.faults ∙ sym (append_assoc q.inside (report Twice (t ∷ tokens_in q.rest) ∷ []) q.behind)))
+        (prepended f fs (t ∷ ts) q.left n q.reached row found q.behind p.PatternPast (one_fault Twice (x ⊕ q.rest)) o
+        (all ∙ ap (λ z. z ++ q.left) same) (q.reach ∙ ap (end_from n) same)
+        (λ vs s r cs h w. second h (leaf refl q.items tt tt (ap (λ z. go SecondStart z) j) refl refl refl q.reads) q.reach q.over (ap At i) refl refl w refl) q.ends)
+
+-- a row that is complete goes to the frame below
+pub closes_by : (f g : Frame) (fs : List Frame) (ts : List Token) (n : ℕ) (row : Sketch) (es : List Fault)
+    → is_open f.head ≡ true → IsOver (At f.place) n ts → Ends (put g.place (g.row ⊕ made f.head f.row) g ∷ fs) ts n row es
+    → Ends (f ∷ (g ∷ fs)) ts n row (closing f.head g.row f.row ++ es)
+closes_by f g fs ts n row es o w ends =
+    open_frame o end refl refl w (subst (λ (z : Sketch). Ends (put g.place (g.row ⊕ made f.head z) g ∷ fs) ts n row es) (sym (⊕-blank f.row)) ends)
+    (ap (λ z. closing f.head g.row z ++ es) (sym (⊕-blank f.row)))
+
+-- a node is complete that repeats no name
+pub closes : (f : Frame) (fs : List Frame) (ts : List Token) (n : ℕ) (gs : List Fault)
+    → is_open f.head ≡ true → IsOver (At f.place) n ts → ((b c : Sketch) → closing f.head b c ≡ []) → (row : Sketch) (es : List Fault)
+    → Ends (closed f fs ts n gs).frames (closed f fs ts n gs).left (closed f fs ts n gs).reached row es
+    → (ds : List Fault) × (Ends (f ∷ fs) ts n row ds × (gs ++ ds ≡ (closed f fs ts n gs).faults ++ es))
+closes f [] ts n gs o w e row es ends = (es, (ends, refl))
+closes f (g ∷ fs) ts n gs o w e row es ends =
+    (es, (subst (λ (z : List Fault). Ends (f ∷ (g ∷ fs)) ts n row (z ++ es)) (e g.row f.row) (closes_by f g fs ts n row es o w ends), refl))
+
+-- an entry of a pattern is complete
+pub closes_entry : (f : Frame) (fs : List Frame) (ts : List Token) (n : ℕ) (gs : List Fault)
+    → f.head ≡ Node NODE_PAT_ENTRY → IsOver (At f.place) n ts → EndsBy a.CloseEntry f fs ts n gs
+closes_entry f [] ts n gs h w row es ends = (es, (ends, refl))
+closes_entry f (g ∷ fs) ts n gs h w row es ends =
+    (repeated g.row f.row ++ es, (subst (λ (z : Head). Ends (f ∷ (g ∷ fs)) ts n row (closing z g.row f.row ++ es)) h (closes_by f g fs ts n row es (ap is_open h) w ends),
+    sym (append_assoc gs (repeated g.row f.row) es)))
+
+-- a second name is complete
+pub closes_twice : (f g : Frame) (fs : List Frame) (ts : List Token) (n : ℕ) (gs : List Fault)
+    → f.head ≡ Second → IsOver (At f.place) n ts → EndsBy a.CloseTwice f (g ∷ fs) ts n gs
+closes_twice f g fs ts n gs h w row es ends =
+    (report Twice (tokens_in f.row) ∷ es,
+    (subst (λ (z : Head). Ends (f ∷ (g ∷ fs)) ts n row (closing z g.row f.row ++ es)) h (closes_by f g fs ts n row es (ap is_open h) w ends),
+    sym (append_assoc gs (report Twice (tokens_in f.row) ∷ []) es)))
+
+-- nothing is done
+pub stays : (f : Frame) (fs : List Frame) (ts : List Token) (n : ℕ) (gs : List Fault) → EndsBy a.Finish f fs ts n gs
+stays f fs ts n gs row es ends = (es, (ends, refl))

@@ -1,0 +1,122 @@
+-- Steps at an operand: what ends behind each of them ends before it.
+use Rattle.std.proofs.Common.{◌≡◌, ℕ, true, false, List, [], ◌∷◌, ◌++◌, Some, None, refl, ap, sym, ◌∙◌, subst, append_assoc}
+use Rattle.std.specs.Prelude.{◌||◌, ◌&&◌, if◌then◌else◌}
+use Rattle.rnix_kinds.specs.declared.kinds.SyntaxKind.{SyntaxKind}
+use Rattle.rnix_kinds.specs.declared.kinds.SyntaxKind.TheVariants.{TOKEN_OR, NODE_APPLY, NODE_IDENT}
+use Rattle.rnix_kinds.specs.SyntaxKind.{is_fn_arg}
+use Rattle.rnix_grammar.specs.declared.place.Place.{Place}
+use Rattle.rnix_grammar.specs.declared.place.Place.TheVariants as p
+use Rattle.rnix_grammar.specs.declared.action.Action.TheVariants as a
+use Rattle.rnix_grammar.specs.Fault.{Fault}
+use Rattle.rnix_grammar.specs.Actions.{goes_on}
+use Rattle.rnix_grammar.specs.TokenKinds.{is_or}
+use Rattle.rnix_grammar.specs.Sketch.{Token, Sketch, blank, token, ◌⊕◌, one_token, one_branch, tokens_in, told, told_as, head_kind, end_from}
+use Rattle.rnix_grammar.specs.Machine.{Head, Node, Operand, Frame, put, opened, made, low_of, operand_on}
+use Rattle.rnix_grammar.specs.Rows.{Spot, Start, BeforeArgument, At, to, go, live, start}
+use Rattle.rnix_grammar.specs.Reports.{repeats}
+use Rattle.rnix_grammar.specs.OwnItems.{IsOwned}
+use Rattle.rnix_grammar.specs.Operands.{first_tree, follows, IsFollowed, IsOperand}
+use Rattle.rnix_grammar.specs.Reads.{end, leaf, inner}
+use Rattle.rnix_lemmas.proofs.Basics.{true_is_not_false, not_nil}
+use Rattle.rnix_lemmas.proofs.SketchLemmas.{⊕-assoc, tokens_two}
+use Rattle.rnix_invariants.proofs.Reading.{AtOperand, Waits, in_node, Level}
+use Rattle.rnix_existence.proofs.Ends.{seen_kind, Stops, Ends, operand_frame, EndsBy}
+use Rattle.rnix_existence.proofs.Prepended.{end_two}
+use Rattle.rnix_existence.proofs.OperandLevels.{stops_simple}
+use Rattle.rnix_existence.proofs.OperandTrees.{past_over, Takes, placed}
+use Rattle.rnix_existence.proofs.OperandEnds.{OpenEnds, open_ends}
+use Rattle.rnix_existence.proofs.OperandWraps.{wrapped_ends}
+use Rattle.rnix_existence.proofs.OperandFollows.{grown_none, seen_fits}
+use Rattle.rnix_existence.proofs.BeginEnds.{BeginEnds, first_leaf}
+use Rattle.rnix_existence.proofs.BeginReads.{begin_ends}
+
+alone : {fs : List Frame} {low x i d : ℕ} {us : List Token} {es : List Fault} → Waits fs (Level low) x i d us es → fs ≡ [] → ⊥
+alone (in_node k q h s w v m l pl mo be u n fr y o x c t z b) e = not_nil e
+
+-- the operand is complete
+pub settle_ends : (f : Frame) (fs : List Frame) (ts : List Token) (n : ℕ) (gs : List Fault) (r : AtOperand f fs ts gs)
+    → ((j : SyntaxKind) → head_kind ts ≡ Some j → goes_on r.low r.high j ≡ false) → EndsBy a.Settle f fs ts n gs
+settle_ends f [] ts n gs r h row es ends = absurd (alone r.waits refl)
+settle_ends f (g ∷ fs) ts n gs r h row es ends = (
+  es,
+  (
+    operand_frame r.low r.high r.head r.place
+        (grown_none r.low r.high f.depth f.row ts n r.lone.tall.least (seen_fits r.low f.row r.lone.kind r.lone.single r.lone.last r.lone.fit) r.lone.no_or h)
+        (subst (λ (z : Head). Ends (put g.place (g.row ⊕ made z f.row) g ∷ fs) ts n row es) r.head ends) refl,
+    refl,
+  ),
+)
+
+-- the operand becomes the first tree of a node that the next item goes on with
+pub wrap_ends : (f : Frame) (fs : List Frame) (t : Token) (ts : List Token) (n : ℕ) (gs : List Fault) (k : SyntaxKind) (spot : Spot) (x : Place) (other : ℕ) (r : AtOperand f fs (t ∷ ts) gs)
+    → start k ≡ Start k → go (Start k) (seen_kind f.row) ≡ spot → live spot ≡ true → ((us : List Token) → IsOwned spot n us true) → IsFollowed spot f.row (Some (told k t)) → go spot (told k t) ≡ At x
+    → ((c : Sketch) → first_tree (one_branch k c) ≡ first_tree c) → ((rest : Sketch) → Stops other (one_branch k (f.row ⊕ token (told k t) t rest))) → ((b c : Sketch) → repeats k b c ≡ [])
+    → EndsBy (a.Wrap k x other) f fs (t ∷ ts) n gs
+wrap_ends f fs t ts n gs k spot x other r st g l own fo h first stops none row es ends = (es, (subst (Ends (f ∷ fs) (t ∷ ts) n row) (sym all) whole, refl))
+  where
+    o : OpenEnds (opened (Node k) x f.depth (f.row ⊕ one_token (told k t) t)) (opened Operand (p.Behind r.low other) f.depth blank) fs ts t.end row es
+    o =
+        open_ends (opened (Node k) x f.depth (f.row ⊕ one_token (told k t) t)) (opened Operand (p.Behind r.low other) f.depth blank) fs ts t.end row es refl
+        (subst (λ (m : ℕ). Ends (opened (Node k) x f.depth (f.row ⊕ one_token (told k t) t) ∷ (opened Operand (p.Behind m other) f.depth blank ∷ fs)) ts t.end row es) (ap low_of r.place) ends)
+
+    all : es ≡ o.inside ++ o.behind
+    all = o.faults ∙ ap (λ z. o.inside ++ (z ++ o.behind)) (none blank ((f.row ⊕ one_token (told k t) t) ⊕ o.rest))
+
+    whole : Ends (f ∷ fs) (t ∷ ts) n row (o.inside ++ o.behind)
+    whole =
+        wrapped_ends f fs (t ∷ ts) n row o.behind r.low r.high other k spot o.spot (token (told k t) t o.rest) o.left o.reached o.inside r.head r.place r.lone.single
+        (seen_fits r.low f.row r.lone.kind r.lone.single r.lone.last r.lone.fit) st g l (first (f.row ⊕ token (told k t) t o.rest)) (stops o.rest) (ap (λ z. t ∷ z) o.items) o.reach o.over
+        (leaf refl refl (own (t ∷ (tokens_in o.rest ++ o.left))) fo h refl refl refl o.reads)
+        (subst (λ (z : Sketch). Ends (opened Operand (p.Behind r.low other) f.depth (one_branch k z) ∷ fs) o.left o.reached row o.behind) (⊕-assoc f.row (one_token (told k t) t) o.rest) o.ends)
+
+-- an argument stands behind what is called
+argument_takes : Takes BeforeArgument 16 (At p.Past)
+argument_takes = record { leveled = λ x h. ap (λ w. if w then None else Some 16) h; owned = λ k c h. h; goes = λ k h. ap (λ w. to w (At p.Past)) h; live = refl }
+
+-- the operand is called
+pub apply_ends : (f : Frame) (fs : List Frame) (t : Token) (ts : List Token) (n : ℕ) (gs : List Fault) (r : AtOperand f fs (t ∷ ts) gs) → go (Start NODE_APPLY) (seen_kind f.row) ≡ BeforeArgument
+    → is_or t.kind ≡ false → is_fn_arg t.kind ≡ true → follows t.kind f.row ≡ true → EndsBy a.Apply f fs (t ∷ ts) n gs
+apply_ends f fs t ts n gs r g nor arg fo row es ends = ((b.inside ++ o.inside) ++ o.behind, (whole, faults))
+  where
+    node : Frame
+    node = opened (Node NODE_APPLY) p.Past f.depth f.row
+
+    below : Frame
+    below = opened Operand (p.Behind (low_of f.place) 15) f.depth blank
+
+    b : BeginEnds 16 f.depth node (below ∷ fs) (t ∷ ts) n row gs ((operand_on false 16 f.depth node (below ∷ fs) (t ∷ ts) (t ∷ ts) n gs).faults ++ es)
+    b = begin_ends 16 f.depth t ts node (below ∷ fs) n gs row es ends
+
+    o : OpenEnds (opened (Node NODE_APPLY) p.Past f.depth (f.row ⊕ b.tree)) below fs b.left b.reached row b.behind
+    o = open_ends (opened (Node NODE_APPLY) p.Past f.depth (f.row ⊕ b.tree)) below fs b.left b.reached row b.behind refl b.ends
+
+    faults : gs ++ ((b.inside ++ o.inside) ++ o.behind) ≡ (operand_on false 16 f.depth node (below ∷ fs) (t ∷ ts) (t ∷ ts) n gs).faults ++ es
+    faults = ap (λ z. gs ++ z) (append_assoc b.inside o.inside o.behind ∙ ap (λ z. b.inside ++ z) (sym o.faults)) ∙ b.faults
+
+    followed : IsFollowed BeforeArgument f.row (Some t.kind)
+    followed = ap (λ w. (w || is_or t.kind) && follows t.kind f.row) arg ∙ fo
+
+    whole : Ends (f ∷ fs) (t ∷ ts) n row ((b.inside ++ o.inside) ++ o.behind)
+    whole =
+        wrapped_ends f fs (t ∷ ts) n row o.behind r.low r.high 15 NODE_APPLY BeforeArgument o.spot (b.tree ⊕ o.rest) o.left o.reached (b.inside ++ o.inside) r.head r.place r.lone.single
+        (seen_fits r.low f.row r.lone.kind r.lone.single r.lone.last r.lone.fit) refl g refl refl (stops_simple (one_branch NODE_APPLY (f.row ⊕ (b.tree ⊕ o.rest))) refl)
+        (b.items ∙ ap (λ z. tokens_in b.tree ++ z) o.items ∙ sym (tokens_two b.tree o.rest o.left)) (o.reach ∙ ap (λ j. end_from j (tokens_in o.rest)) b.reach ∙ sym (end_two n b.tree o.rest)) o.over
+        (placed argument_takes b.lone b.fit b.no_or b.operand o.items b.items b.reach nor (λ e. absurd (true_is_not_false (sym e))) followed o.reads)
+        (subst (λ (m : ℕ). Ends (opened Operand (p.Behind m 15) f.depth (one_branch NODE_APPLY (f.row ⊕ (b.tree ⊕ o.rest))) ∷ fs) o.left o.reached row o.behind) (ap low_of r.place)
+        (subst (λ (z : Sketch). Ends (opened Operand (p.Behind (low_of f.place) 15) f.depth (one_branch NODE_APPLY z) ∷ fs) o.left o.reached row o.behind) (⊕-assoc f.row b.tree o.rest) o.ends))
+
+-- the operand is called with the name `or`
+pub apply_or_ends : (f : Frame) (fs : List Frame) (t : Token) (ts : List Token) (n : ℕ) (gs : List Fault) (r : AtOperand f fs (t ∷ ts) gs) → go (Start NODE_APPLY) (seen_kind f.row) ≡ BeforeArgument
+    → t.kind ≡ TOKEN_OR → follows TOKEN_OR f.row ≡ true → EndsBy a.ApplyOr f fs (t ∷ ts) n gs
+apply_or_ends f fs t ts n gs r g e fo row es ends = (es, (whole, refl))
+  where
+    whole : Ends (f ∷ fs) (t ∷ ts) n row es
+    whole =
+        wrapped_ends f fs (t ∷ ts) n row es r.low r.high 15 NODE_APPLY BeforeArgument (At p.Past) (one_branch NODE_IDENT (one_token (told NODE_IDENT t) t)) ts t.end [] r.head r.place r.lone.single
+        (seen_fits r.low f.row r.lone.kind r.lone.single r.lone.last r.lone.fit) refl g refl refl (stops_simple (one_branch NODE_APPLY (f.row ⊕ one_branch NODE_IDENT (one_token (told NODE_IDENT t) t))) refl)
+        refl refl (past_over t.end ts)
+        (inner refl refl (first_leaf NODE_IDENT t refl (ap (λ k. go (Start NODE_IDENT) (told_as NODE_IDENT k)) e) refl end) refl (past_over t.end ts) refl
+        (λ v. absurd (true_is_not_false (sym v))) (subst (λ (k : SyntaxKind). IsFollowed BeforeArgument f.row (Some k)) (sym e) fo)
+        (subst (λ (k : SyntaxKind). IsOperand (if is_or k then None else Some 16) (one_branch NODE_IDENT (one_token (told NODE_IDENT t) t)) ts) (sym e) tt)
+        refl refl refl end refl)
+        (subst (λ (m : ℕ). Ends (opened Operand (p.Behind m 15) f.depth (one_branch NODE_APPLY (f.row ⊕ one_branch NODE_IDENT (one_token (told NODE_IDENT t) t))) ∷ fs) ts t.end row es) (ap low_of r.place) ends)

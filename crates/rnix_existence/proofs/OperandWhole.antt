@@ -1,0 +1,93 @@
+-- Each step at an operand: what ends behind it ends before it.
+use Rattle.std.proofs.Common.{◌≡◌, ℕ, Bool, true, false, List, [], ◌∷◌, Some, None, refl, ap, sym, ◌∙◌, subst, arith}
+use Rattle.std.specs.Prelude.{if◌then◌else◌, nat_eq}
+use Rattle.std.proofs.lemmas.Bool.Decides.{nat_tests}
+use Rattle.rnix_kinds.proofs.AllKinds.{implied}
+use Rattle.rnix_kinds.specs.declared.kinds.SyntaxKind.{SyntaxKind}
+use Rattle.rnix_kinds.specs.SyntaxKind.{is_fn_arg}
+use Rattle.rnix_kinds.specs.declared.kinds.SyntaxKind.TheVariants.{NODE_SELECT, NODE_HAS_ATTR, NODE_BIN_OP}
+use Rattle.rnix_grammar.specs.declared.place.Place.{Place}
+use Rattle.rnix_grammar.specs.declared.place.Place.TheVariants as p
+use Rattle.rnix_grammar.specs.declared.action.Action.{Action}
+use Rattle.rnix_grammar.specs.declared.action.Action.TheVariants as a
+use Rattle.rnix_grammar.specs.Fault.{Fault}
+use Rattle.rnix_grammar.specs.Levels.{power, right_of, high_of}
+use Rattle.rnix_grammar.specs.Actions.{follow, goes_on, more_action, action_at}
+use Rattle.rnix_grammar.specs.TokenKinds.{is_or}
+use Rattle.rnix_grammar.specs.Sketch.{Token, Sketch, token, ◌⊕◌, one_branch, told, told_as, head_kind}
+use Rattle.rnix_grammar.specs.Machine.{Operand, Frame}
+use Rattle.rnix_grammar.specs.Sketch.{touches}
+use Rattle.rnix_grammar.specs.Rows.{is_atom, is_simple, is_questioned, is_operand, BeforeOperator, BeforeDot, BeforeQuestion, BeforeArgument, At, to, go}
+use Rattle.rnix_grammar.specs.TreeLevels.{operator_in}
+use Rattle.rnix_grammar.specs.Operands.{follows}
+use Rattle.rnix_lemmas.proofs.Basics.{true_is_not_false, not_if, some_same}
+use Rattle.rnix_invariants.proofs.Reading.{Reading, node, operand, second, AtNode, AtOperand, AtSecond, IsSingle}
+use Rattle.rnix_invariants.proofs.Reading as i
+use Rattle.rnix_invariants.proofs.OperandSteps.{FollowsBy, by_dot, by_or, by_question, by_operator, by_argument}
+use Rattle.rnix_invariants.proofs.OperandSteps as o
+use Rattle.rnix_existence.proofs.Ends.{is_open, EndsBy}
+use Rattle.rnix_existence.proofs.OperandLevels.{stops_simple, stops_questioned, stops_operator}
+use Rattle.rnix_existence.proofs.OperandWraps.{seen_any}
+use Rattle.rnix_existence.proofs.OperandFollows.{Between, between, single_atom, operator_follows, question_follows, argument_is, argument_follows}
+use Rattle.rnix_existence.proofs.OperandSteps.{settle_ends, wrap_ends, apply_ends, apply_or_ends}
+
+-- the operator behind one tree
+single_operator : (x : Sketch) (j : SyntaxKind) (t : Token) (rest : Sketch) → IsSingle x → operator_in (x ⊕ token j t rest) ≡ j
+single_operator x j t rest i.a_node = refl
+single_operator x j t rest i.an_error = refl
+
+-- a token that begins an argument is not the name `or`
+argument_no_or : (k : SyntaxKind) → power k ≡ 15 → is_or k ≡ false
+argument_no_or k h = not_if (is_or k) (implied (λ o. nat_eq (power o) 15) (λ o. if is_or o then false else true) refl k (grind (arith, nat_tests, h)))
+
+-- an operand goes on with a token
+goes : (k : SyntaxKind) (action : Action) → FollowsBy k action → (f : Frame) (fs : List Frame) (t : Token) (ts : List Token) (n : ℕ) (gs : List Fault) (r : AtOperand f fs (t ∷ ts) gs)
+    → t.kind ≡ k → Between r.low r.high k → EndsBy action f fs (t ∷ ts) n gs
+goes k action by_dot f fs t ts n gs r e x =
+    let at : is_atom r.lone.kind ≡ true = r.lone.grows.atom (omega (arith, x.most)) in
+    wrap_ends f fs t ts n gs NODE_SELECT BeforeDot p.SelectPath 15 r refl (ap (λ w. to w BeforeDot) (seen_any is_atom f.row r.lone.kind r.lone.single r.lone.last refl at)) refl (λ us. tt)
+    (subst (λ (j : SyntaxKind). follows j f.row ≡ true) (sym e) (single_atom f.row r.lone.kind r.lone.single r.lone.last at))
+    (ap (λ j. go BeforeDot (told_as NODE_SELECT j)) e) (λ c. refl) (λ rest. stops_simple (one_branch NODE_SELECT (f.row ⊕ token (told NODE_SELECT t) t rest)) refl) (λ b c. refl)
+goes k action by_question f fs t ts n gs r e x =
+    wrap_ends f fs t ts n gs NODE_HAS_ATTR BeforeQuestion p.HasPath 13 r refl
+    (ap (λ w. to w BeforeQuestion) (seen_any is_questioned f.row r.lone.kind r.lone.single r.lone.last refl (r.lone.grows.questioned (omega (arith, x.most))))) refl (λ us. tt)
+    (subst (λ (j : SyntaxKind). follows j f.row ≡ true) (sym e) (question_follows f.row (r.lone.tall.questioned (omega (arith, x.most)))))
+    (ap (λ j. go BeforeQuestion (told_as NODE_HAS_ATTR j)) e) (λ c. refl)
+    (λ rest. stops_questioned (one_branch NODE_HAS_ATTR (f.row ⊕ token (told NODE_HAS_ATTR t) t rest)) refl (omega arith)) (λ b c. refl)
+goes k action (by_operator h) f fs t ts n gs r e x =
+    wrap_ends f fs t ts n gs NODE_BIN_OP BeforeOperator (p.Right (right_of k)) (high_of k) r refl
+    (ap (λ w. to w BeforeOperator) (seen_any is_operand f.row r.lone.kind r.lone.single r.lone.last refl (r.lone.grows.operand (omega (arith, x.most, x.positive))))) refl (λ us. tt)
+    (subst (λ (j : SyntaxKind). follows j f.row ≡ true) (sym e) (operator_follows k f.row h (r.lone.tall.operator k h x.most)))
+    (ap (λ j. go BeforeOperator (told_as NODE_BIN_OP j)) e ∙ ap (λ w. to w (At (p.Right (right_of k)))) h) (λ c. refl)
+    (λ rest. stops_operator k (one_branch NODE_BIN_OP (f.row ⊕ token (told NODE_BIN_OP t) t rest)) h refl (ap power (single_operator f.row (told NODE_BIN_OP t) t rest r.lone.single ∙ e))) (λ b c. refl)
+goes k action by_or f fs t ts n gs r e x =
+    let at : is_atom r.lone.kind ≡ true = r.lone.grows.atom (omega (arith, x.most)) in
+    apply_or_ends f fs t ts n gs r (ap (λ w. to w BeforeArgument) (seen_any is_simple f.row r.lone.kind r.lone.single r.lone.last refl (r.lone.grows.simple (omega (arith, x.most))))) e
+    (single_atom f.row r.lone.kind r.lone.single r.lone.last at)
+goes k action (by_argument h) f fs t ts n gs r e x =
+    apply_ends f fs t ts n gs r (ap (λ w. to w BeforeArgument) (seen_any is_simple f.row r.lone.kind r.lone.single r.lone.last refl (r.lone.grows.simple (omega (arith, x.most, h)))))
+    (ap is_or e ∙ argument_no_or k h) (ap is_fn_arg e ∙ argument_is k h)
+    (subst (λ (j : SyntaxKind). follows j f.row ≡ true) (sym e) (argument_follows k f.row h (r.lone.tall.applied (omega (arith, x.most, h)))))
+
+-- a step at an operand
+pub more_ends : (f : Frame) (fs : List Frame) (ts : List Token) (n : ℕ) (gs : List Fault) (r : AtOperand f fs ts gs) → EndsBy (more_action r.low r.high (head_kind ts)) f fs ts n gs
+more_ends f fs [] n gs r = settle_ends f fs [] n gs r (λ j e. absurd (none_some e))
+  where
+    none_some : {j : SyntaxKind} → None ≡ Some j → ⊥
+    none_some e = cc
+more_ends f fs (t ∷ ts) n gs r = by (goes_on r.low r.high t.kind) refl
+  where
+    by : (w : Bool) → goes_on r.low r.high t.kind ≡ w → EndsBy (if w then follow t.kind else a.Settle) f fs (t ∷ ts) n gs
+    by true e = let x : Between r.low r.high t.kind = between r.low r.high t.kind e in goes t.kind (follow t.kind) (o.follows t.kind x.positive) f fs t ts n gs r refl x
+    by false e = settle_ends f fs (t ∷ ts) n gs r (λ j h. subst (λ (k : SyntaxKind). goes_on r.low r.high k ≡ false) (some_same t.kind j h) e)
+
+-- what the machine does at an operand
+pub operand_step : (f : Frame) (fs : List Frame) (ts : List Token) (n : ℕ) (gs : List Fault) → AtOperand f fs ts gs → EndsBy (action_at f.place (head_kind ts) (touches n ts)) f fs ts n gs
+operand_step f fs ts n gs r =
+    subst (λ (x : Place). EndsBy (action_at x (head_kind ts) (touches n ts)) f fs ts n gs) (sym r.place) (more_ends f fs ts n gs r)
+
+-- so it is wherever an operand is innermost
+pub innermost_operand : (f : Frame) (fs : List Frame) (ts : List Token) (n : ℕ) (gs : List Fault) → f.head ≡ Operand → Reading (f ∷ fs) ts gs → EndsBy (action_at f.place (head_kind ts) (touches n ts)) f fs ts n gs
+innermost_operand f fs ts n gs e (node r) = absurd (true_is_not_false (sym (ap is_open r.head) ∙ ap is_open e))
+innermost_operand f fs ts n gs e (operand r) = operand_step f fs ts n gs r
+innermost_operand f fs ts n gs e (second r) = absurd (true_is_not_false (sym (ap is_open r.head) ∙ ap is_open e))

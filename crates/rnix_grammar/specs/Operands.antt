@@ -1,0 +1,72 @@
+-- How an operand of a level begins and where it ends: it begins as its first three items say, and no item follows that could go on with it.
+use Rattle.std.specs.Prelude.{◌≡◌, ℕ, ◌≤◌, Bool, true, false, ◌||◌, ◌&&◌, List, [], ◌∷◌, ◌++◌, Option, Some, None, if◌then◌else◌, nat_le}
+use Rattle.rnix_kinds.specs.declared.kinds.SyntaxKind.{SyntaxKind}
+use Rattle.rnix_kinds.specs.declared.kinds.SyntaxKind.TheVariants.{NODE_IDENT_PARAM, NODE_PATTERN, NODE_BIN_OP, NODE_HAS_ATTR, NODE_APPLY, NODE_SELECT, NODE_LEGACY_LET, NODE_LAMBDA, NODE_ERROR}
+use Rattle.rnix_kinds.specs.SyntaxKind.{is_fn_arg}
+use Rattle.rnix_grammar.specs.declared.begin.Begin.{Begin}
+use Rattle.rnix_grammar.specs.declared.begin.Begin.TheVariants as b
+use Rattle.rnix_grammar.specs.Slots.{slot_at, level_in}
+use Rattle.rnix_grammar.specs.Levels.{power, left_of}
+use Rattle.rnix_grammar.specs.Sketch.{Token, Sketch, blank, token, branch, fault, tokens_in, head_kind}
+use Rattle.rnix_grammar.specs.TokenKinds.{is_or}
+use Rattle.rnix_grammar.specs.Rows.{is_infix, Spot, BeforeOperator, BeforeDot, BeforeQuestion, BeforeArgument, At}
+use Rattle.rnix_grammar.specs.Begins.{begin_of}
+use Rattle.rnix_grammar.specs.Begins.{second_kind}
+use Rattle.rnix_grammar.specs.TokenKinds.{is_question, is_dot}
+use Rattle.rnix_grammar.specs.TreeLevels.{row_level, is_atom_row, is_or_row}
+
+-- the kind of the first tree of an operand, down the first trees of operators, calls and selections; a function is known by its parameter
+abbrev pub first_tree : Sketch → SyntaxKind
+first_tree (branch NODE_BIN_OP c f) = first_tree c
+first_tree (branch NODE_HAS_ATTR c f) = first_tree c
+first_tree (branch NODE_APPLY c f) = first_tree c
+first_tree (branch NODE_SELECT c f) = first_tree c
+first_tree (branch NODE_LAMBDA (branch k c g) f) = k
+first_tree (branch k c f) = k
+first_tree f = NODE_ERROR
+
+-- the kind of the first tree of what begins so
+abbrev pub kind_of : Begin → SyntaxKind
+kind_of (b.Leaf k) = k
+kind_of (b.Node k place high) = k
+kind_of b.LegacyLet = NODE_LEGACY_LET
+kind_of b.NameLambda = NODE_IDENT_PARAM
+kind_of b.BoundLambda = NODE_PATTERN
+kind_of b.PatternLambda = NODE_PATTERN
+kind_of b.Stray = NODE_ERROR
+
+-- an operand of a level begins as its first three items say
+abbrev pub IsBegun : ℕ → Sketch → List Token → Type 0
+IsBegun level x [] = ⊥
+IsBegun level x (t ∷ ts) = kind_of (begin_of level t.kind t.text (head_kind ts) (second_kind ts)) ≡ first_tree x
+
+-- an item of the kind may go on with the tree before it
+abbrev pub follows : SyntaxKind → Sketch → Bool
+follows kind x =
+    if is_infix kind then nat_le (left_of kind) (row_level x)
+    else (if is_question kind then nat_le 13 (row_level x)
+    else (if is_fn_arg kind then nat_le 15 (row_level x) else ((is_dot kind || is_or kind) && is_atom_row x)))
+
+-- the next item would go on with an operand of a level
+abbrev pub goes_on : ℕ → Sketch → List Token → Bool
+goes_on level x [] = false
+goes_on level x (t ∷ ts) = follows t.kind x && nat_le level (power t.kind)
+
+-- the first tree of an operator, a call or a selection stands before an item that goes on with it
+abbrev pub IsFollowed : Spot → Sketch → Option SyntaxKind → Type 0
+IsFollowed BeforeOperator x (Some kind) = follows kind x ≡ true
+IsFollowed BeforeDot x (Some kind) = follows kind x ≡ true
+IsFollowed BeforeQuestion x (Some kind) = follows kind x ≡ true
+IsFollowed BeforeArgument x (Some kind) = ((is_fn_arg kind || is_or kind) && follows kind x) ≡ true
+IsFollowed spot x next = Unit {0}
+
+-- An operand of a level before some items binds as tightly as the level asks, begins as its items say, and the next item does not go on with it.
+abbrev pub IsOperand : Option ℕ → Sketch → List Token → Type 0
+IsOperand None x after = Unit {0}
+IsOperand (Some level) x after = (level ≤ row_level x) × IsBegun level x (tokens_in x ++ after) × (goes_on level x after ≡ false)
+
+-- the level of the operands at a spot; the name `or` is called as no operand
+abbrev pub level_at : Spot → Sketch → Option ℕ
+level_at (At place) x = level_in (slot_at place)
+level_at BeforeArgument x = if is_or_row x then None else Some 16
+level_at spot x = None

@@ -1,0 +1,101 @@
+-- Which elements of a tree the errors are of, and the ranges of both.
+use Rattle.std.specs.Prelude.{◌≡◌, ◌<◌, ℕ, ◌+◌, Bool, true, false, ◌||◌, List, [], ◌∷◌, ◌++◌, Option, Some, None, if◌then◌else◌}
+use Rattle.rnix_kinds.specs.declared.kinds.SyntaxKind.{SyntaxKind}
+use Rattle.rnix_kinds.specs.declared.kinds.SyntaxKind.TheVariants.{NODE_ERROR, NODE_IDENT, NODE_PAT_ENTRY}
+use Rattle.rnix_kinds.specs.SyntaxKind.{is_trivia}
+use Rattle.rnix_tree.specs.Forest.{Forest, empty, leaf, node, element_count}
+use Rattle.rnix_tree.specs.Range.{Extent}
+use Rattle.rnix_tree.specs.Tree.{Tree, Located, forest_of, item, item_of, extent_of, text_at}
+use Rattle.rnix_tree.specs.Walk.{Event, preorder_of}
+use Rattle.rnix_tree.specs.Relatives.{IsNodeIn}
+use Rattle.rnix_grammar.specs.Fault.{Fault, untold, extra, unwanted, bound_twice, ended, ended_before, named_twice}
+use Rattle.rnix_grammar.specs.Shape.{name_if, with_name}
+use Rattle.rnix_grammar.specs.Tables.{is_among}
+
+-- the error is that of an error node: not of the end of the text, and not of a repeated name
+abbrev pub is_of_node : Fault → Bool
+is_of_node ended = false
+is_of_node (ended_before kinds) = false
+is_of_node (named_twice range name) = false
+is_of_node e = true
+
+-- the errors that are those of error nodes
+abbrev pub of_nodes : List Fault → List Fault
+of_nodes [] = []
+of_nodes (e ∷ es) = if is_of_node e then e ∷ of_nodes es else of_nodes es
+
+-- the kind of error nodes
+abbrev pub is_error_node : SyntaxKind → Bool
+is_error_node NODE_ERROR = true
+is_error_node kind = false
+
+-- an error node is left
+abbrev pub leaves_error : Event → Bool
+leaves_error event = if event.0 then false else (if event.1.0 then is_error_node (item_of event.1.1).kind else false)
+
+-- the numbers of the error nodes that a walk leaves, in order
+abbrev pub errors_left : List Event → List ℕ
+errors_left [] = []
+errors_left (event ∷ events) = if leaves_error event then event.1.1.number ∷ errors_left events else errors_left events
+
+-- the numbers of a tree's error nodes, in the order in which they close
+abbrev pub error_nodes : Tree → List ℕ
+error_nodes tree = errors_left (preorder_of record { tree = tree; number = 0 })
+
+-- the range of an error, if it has one
+abbrev pub range_in : Fault → Option Extent
+range_in (untold range) = Some range
+range_in (extra range) = Some range
+range_in (unwanted kind range kinds) = Some range
+range_in (bound_twice range) = Some range
+range_in (named_twice range name) = Some range
+range_in e = None
+
+-- a range, if there is one, is that of the element
+abbrev pub IsRangeOf : Option Extent → Located → Type 0
+IsRangeOf None e = Unit {0}
+IsRangeOf (Some range) e = range ≡ extent_of e
+
+-- a node with the range and the text is the name that an entry of a pattern begins with: before it, the entry has trivia alone
+pub record IsEntryName (tree : Tree) (entry : ℕ) (range : Extent) (name : List ℕ) : Type 0 where
+  pub entry_is : (item tree entry).kind ≡ NODE_PAT_ENTRY
+  pub ident : ℕ
+  pub ident_is : (item tree ident).kind ≡ NODE_IDENT
+  pub node : IsNodeIn tree ident
+  pub parent : (item tree ident).parent ≡ Some entry
+  pub begins : (m : ℕ) → entry < m → m < ident → is_trivia (item tree m).kind ≡ true
+  pub range_is : range ≡ extent_of record { tree = tree; number = ident }
+  pub name_is : name ≡ text_at record { tree = tree; number = ident }
+
+-- a name, if there is one, is among others
+abbrev pub is_among_if : Option (List ℕ) → List (List ℕ) → Bool
+is_among_if None names = false
+is_among_if (Some name) names = is_among name names
+
+-- a node is an error node, or an entry with one of these names
+abbrev pub is_at_fault : SyntaxKind → Forest → List (List ℕ) → Bool
+is_at_fault k c names = is_error_node k || is_among_if (name_if k c) names
+
+-- the numbers of a row's error nodes and of its entries that have the name of an entry before them, in the order in which they close; the first
+-- element has the number n, and entries of these names stand before the row
+abbrev pub at_fault_from : ℕ → List (List ℕ) → Forest → List ℕ
+at_fault_from n names empty = []
+at_fault_from n names (leaf k t f) = at_fault_from (n + 1) names f
+at_fault_from n names (node k c f) =
+    at_fault_from (n + 1) [] c
+    ++ ((if is_at_fault k c names then n ∷ [] else []) ++ at_fault_from (n + 1 + element_count c) (with_name (name_if k c) names) f)
+
+-- and so in a tree
+abbrev pub at_fault : Tree → List ℕ
+at_fault tree = at_fault_from 0 [] (forest_of tree)
+
+-- an error is that of the element: of an entry, for a repeated name, and else of an error node with its range
+abbrev pub IsErrorOf : Tree → Fault → ℕ → Type 0
+IsErrorOf tree (named_twice range name) m = IsEntryName tree m range name
+IsErrorOf tree e m = ((item tree m).kind ≡ NODE_ERROR) × IsRangeOf (range_in e) record { tree = tree; number = m }
+
+-- as many errors as elements, each of its element
+abbrev pub AreErrorsOf : Tree → List Fault → List ℕ → Type 0
+AreErrorsOf tree [] [] = Unit {0}
+AreErrorsOf tree (e ∷ es) (m ∷ ms) = IsErrorOf tree e m × AreErrorsOf tree es ms
+AreErrorsOf tree es ms = ⊥

@@ -1,0 +1,22 @@
+-- Which tree and which errors are the reading of a text. Each text has one.
+use Rattle.std.specs.Prelude.{◌≡◌, List}
+use Rattle.rnix_kinds.specs.declared.kinds.SyntaxKind.TheVariants.{NODE_ROOT}
+use Rattle.rnix_kinds.specs.Lexical.Tokens.{Lexeme}
+use Rattle.rnix_tree.specs.Tree.{Tree}
+use Rattle.rnix_grammar.specs.Fault.{Fault}
+use Rattle.rnix_grammar.specs.Sketch.{Sketch, forget, tokens_in, clean, placed_from}
+use Rattle.rnix_grammar.specs.Layout.{dressed_whole}
+use Rattle.rnix_grammar.specs.Reads.{ReadsWhole}
+
+-- a tree and errors as the reading of some tokens
+pub record IsReading (tokens : List Lexeme) (tree : Tree) (faults : List Fault) : Type 0 where
+  -- the tree with its tokens, and with what each error node is
+  pub sketch : Sketch
+  pub tree_is : tree ≡ record { kind = NODE_ROOT; children = forget sketch }
+  -- the leaves are the tokens, one by one
+  pub leaves : tokens_in sketch ≡ placed_from 0 tokens
+  -- trivia stand where the tree without them puts them: before a token or a node in the row that holds it
+  pub laid : sketch ≡ dressed_whole (clean sketch) (placed_from 0 tokens)
+  -- at each place of a row the next items decide what stands there; the errors are those of the error nodes, of what is missing at the end of
+  -- the text, and of repeated entries, in the order in which these are met
+  pub reads : ReadsWhole (clean sketch) faults

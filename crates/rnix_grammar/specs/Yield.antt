@@ -1,0 +1,19 @@
+-- The tokens that a strict tree stands for.
+use Rattle.std.specs.Prelude.{ℕ, List, [], ◌∷◌, ◌++◌, if◌then◌else◌}
+use Rattle.rnix_kinds.specs.declared.kinds.SyntaxKind.{SyntaxKind}
+use Rattle.rnix_kinds.specs.declared.kinds.SyntaxKind.TheVariants.{TOKEN_IDENT, TOKEN_OR, TOKEN_CUR_POS}
+use Rattle.rnix_kinds.specs.Lexical.Tokens.{Lexeme}
+use Rattle.rnix_tree.specs.Forest.{Forest, empty, leaf, node}
+use Rattle.rnix_grammar.specs.Tables.{is_or}
+
+-- the token of a leaf
+abbrev pub untold : SyntaxKind → List ℕ → SyntaxKind
+untold TOKEN_IDENT text = if is_or text then TOKEN_OR else TOKEN_IDENT
+untold TOKEN_CUR_POS text = TOKEN_IDENT
+untold kind text = kind
+
+-- the tokens that a tree stands for
+abbrev pub yield : Forest → List Lexeme
+yield empty = []
+yield (leaf k t f) = (untold k t, t) ∷ yield f
+yield (node k c f) = yield c ++ yield f

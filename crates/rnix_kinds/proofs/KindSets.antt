@@ -1,0 +1,158 @@
+-- Sets of kinds, and the numbers that they are kept as.
+use Rattle.std.proofs.Common.{true, false, Bool, ◌≡◌, inl, inr, ℕ, zero, suc, ◌*◌, ◌^◌, ◌%◌, ◌<◌, max, refl, ap, sym, ◌∙◌, arith, bit_and, bit_or, List, [], ◌∷◌, ◌++◌}
+use Rattle.std.specs.Prelude.{nat_eq, not, ◌==◌, ◌||◌, ◌&&◌}
+use Rattle.std.specs.Int.{bit_at}
+use Rattle.std.specs.Bool.{Decides}
+use Rattle.std.specs.List.{Contains, list_any}
+use Rattle.std.specs.Ordering.{eq_by_cmp}
+use Rattle.std.specs.Cmp.{unsigned_tied, eq_by_cmp_equiv}
+use Rattle.std.specs.FinSet.{contains, union, insert, empty, IsAntisymmetric, nat_cmp-IsAntisymmetric, same_set, contains-from_list, contains-insert, contains-union, contains-empty, from_list_push}
+use Rattle.std.proofs.lemmas.Map.Views.{Contains-from_any, list_any-from_Contains}
+use Rattle.std.proofs.lemmas.Nat.{pow_pos}
+use Rattle.std.proofs.Math.Pow.{pow-lt}
+use Rattle.std.proofs.lemmas.Nat.Bits.{and_pow, bit_at-lt, bit_at_or, bit_at-zero, bit_at-pow_same, bit_at-pow_other}
+use Rattle.std.proofs.lemmas.Bool.Decides.{eqb_tells, Decides-eqb, Decides-like}
+use Rattle.rnix_kinds.specs.declared.kinds.SyntaxKind.{SyntaxKind}
+use Rattle.rnix_kinds.specs.declared.kinds.TheConstants.{ALL}
+use Rattle.rnix_kinds.specs.contracts.kinds.SyntaxKind.{the_type}
+use denote.Enum.Declared.{tag_of}
+use Rattle.rnix_kinds.specs.SyntaxKind.{place_of}
+use Rattle.rnix_kinds.specs.TokenSet.{kind_cmp, KindSet, set_of, kinds_of, number_of, same_number}
+use Rattle.rnix_kinds.specs.KindNumbers.{kind_cmp_total, contains-kinds_of, as_bit, number_from-bit}
+use Rattle.rnix_kinds.proofs.AllKinds.{every, place_in_range, kind_at_place}
+use Rattle.rnix_kinds.proofs.SetBits.{tag_is_place, same_place}
+
+-- two kinds that tie are one
+pub kind_cmp_same : IsAntisymmetric kind_cmp
+kind_cmp_same a b e = same_place a b (nat_cmp-IsAntisymmetric (place_of a) (place_of b) e)
+
+-- sets with the same members are equal
+pub same_members : (a b : KindSet) → ((kind : SyntaxKind) → contains a kind ≡ contains b kind) → a ≡ b
+same_members = same_set kind_cmp_total kind_cmp_same
+
+-- a kind is in the set of some kinds exactly if it is one of them
+pub contains-decides : (kinds : List SyntaxKind) (kind : SyntaxKind) → Decides (contains (set_of kinds) kind) (Contains kinds kind)
+contains-decides kinds kind = (
+  λ e. Contains-from_any same_tied kind kinds (sym (contains-from_list kind_cmp_total kinds kind) ∙ e),
+  λ c. contains-from_list kind_cmp_total kinds kind ∙ list_any-from_Contains (eq_by_cmp_equiv kind_cmp_total) kind kinds c,
+)
+  where
+    same_tied : (a b : SyntaxKind) → eq_by_cmp kind_cmp a b ≡ true → a ≡ b
+    same_tied a b e = same_place a b ((Decides-eqb (place_of a) (place_of b)).0 (sym (unsigned_tied (place_of a) (place_of b)) ∙ e))
+
+-- each kind is among all
+pub among_all : (kind : SyntaxKind) → contains (set_of ALL) kind ≡ true
+among_all kind = contains-from_list kind_cmp_total ALL kind ∙ every (λ k. list_any (eq_by_cmp kind_cmp k) ALL) refl kind
+
+-- a kind is among those of a number exactly if its bit is set
+pub has_bit : (n : ℕ) (kind : SyntaxKind) → contains (kinds_of n) kind ≡ (bit_at n (place_of kind) == 1)
+has_bit n kind = contains-kinds_of n kind ∙ ap (λ b. b && bit_at n (place_of kind) == 1) (among_all kind)
+
+-- the larger of two bits is set if one of them is
+either_bit : (x y : ℕ) → x < 2 → y < 2 → (max x y == 1) ≡ (x == 1 || y == 1)
+either_bit zero zero l m = refl
+either_bit zero (suc zero) l m = refl
+either_bit (suc zero) zero l m = refl
+either_bit (suc zero) (suc zero) l m = refl
+either_bit (suc (suc x)) y l m = absurd (omega arith)
+either_bit x (suc (suc y)) l m = absurd (omega arith)
+
+-- the kinds of two numbers together
+pub kinds_of-or : (a b : ℕ) → kinds_of (bit_or a b) ≡ union (kinds_of a) (kinds_of b)
+kinds_of-or a b = same_members _ _ (λ kind.
+    has_bit (bit_or a b) kind
+    ∙ ap (λ n. n == 1) (bit_at_or a b (place_of kind))
+    ∙ either_bit (bit_at a (place_of kind)) (bit_at b (place_of kind)) (bit_at-lt a (place_of kind)) (bit_at-lt b (place_of kind))
+    ∙ (λ i. sym (has_bit a kind) i || sym (has_bit b kind) i)
+    ∙ sym (contains-union kind_cmp_total (kinds_of a) (kinds_of b) kind))
+
+-- no bit, no kind
+pub kinds_of-zero : kinds_of 0 ≡ empty
+kinds_of-zero = same_members _ _ (λ kind. has_bit 0 kind ∙ ap (λ n. n == 1) (bit_at-zero (place_of kind)) ∙ sym (contains-empty kind_cmp kind))
+
+-- a power of two has one bit
+power_bit : (p k : ℕ) → (bit_at (2 ^ p) k == 1) ≡ ((k == p) || false)
+power_bit p k = elim (eqb_tells k p) [
+  | inl (t, e) ↦ ap (λ n. bit_at (2 ^ p) n == 1) e ∙ ap (λ n. n == 1) (bit_at-pow_same p) ∙ sym (ap (λ b. b || false) t)
+  | inr (t, d) ↦ ap (λ n. n == 1) (bit_at-pow_other p k d) ∙ sym (ap (λ b. b || false) t)
+]
+
+-- the number that code makes for a kind
+kind_bit : (kind : SyntaxKind) → 1 * 2 ^ tag_of the_type kind % 2 ^ 128 ≡ 2 ^ place_of kind
+kind_bit kind =
+    let low : place_of kind < 93 = place_in_range kind in
+    let fits : 2 ^ place_of kind < 2 ^ 128 = pow-lt {i = place_of kind} {j = 128} (omega arith) in
+    ap (λ n. 1 * 2 ^ n % 2 ^ 128) (tag_is_place kind) ∙ (omega arith)
+
+-- the number with one kind's bit is that of this kind alone
+pub kinds_of-one : (only : SyntaxKind) → kinds_of (1 * 2 ^ tag_of the_type only % 2 ^ 128) ≡ set_of (only ∷ [])
+kinds_of-one only = ap kinds_of (kind_bit only) ∙ same_members _ _ (λ kind.
+    has_bit (2 ^ place_of only) kind
+    ∙ power_bit (place_of only) (place_of kind)
+    ∙ ap (λ b. b || false) (sym (unsigned_tied (place_of kind) (place_of only)))
+    ∙ sym (contains-from_list kind_cmp_total (only ∷ []) kind))
+
+-- a bit with any weight tells whether it is set
+masked : (b m : ℕ) → b < 2 → 0 < m → not (nat_eq (b * m) 0) ≡ (b == 1)
+masked zero m l p = ap (λ n. not (nat_eq n 0)) (let z : zero * m ≡ 0 = omega arith in z)
+masked (suc zero) m l p = elim (eqb_tells (1 * m) 0) [ inl (t, e) ↦ absurd (omega arith) | inr (t, d) ↦ ap not t ]
+masked (suc (suc b)) m l p = absurd (omega arith)
+
+-- the test of a kind's bit tells whether the kind is among those of the number
+pub tests_bit : (n : ℕ) (kind : SyntaxKind) → not (nat_eq (bit_and n (1 * 2 ^ tag_of the_type kind % 2 ^ 128)) 0) ≡ contains (kinds_of n) kind
+tests_bit n kind =
+    ap (λ m. not (nat_eq (bit_and n m) 0)) (kind_bit kind)
+    ∙ ap (λ m. not (nat_eq m 0)) (and_pow n (place_of kind))
+    ∙ masked (bit_at n (place_of kind)) (2 ^ place_of kind) (bit_at-lt n (place_of kind)) (pow_pos (place_of kind))
+    ∙ sym (has_bit n kind)
+
+joined_test : (a b : Bool) → (a || (b || false)) ≡ (b || a)
+joined_test true true = refl
+joined_test true false = refl
+joined_test false true = refl
+joined_test false false = refl
+
+one_test : (a b : Bool) → ((a || false) || b) ≡ (a || b)
+one_test true b = refl
+one_test false b = refl
+
+-- a union with one kind adds it
+pub union-one : (set : KindSet) (only : SyntaxKind) → union set (set_of (only ∷ [])) ≡ insert set only
+union-one set only = same_members _ _ (λ kind.
+    contains-union kind_cmp_total set (set_of (only ∷ [])) kind
+    ∙ ap (λ b. contains set kind || b) (contains-from_list kind_cmp_total (only ∷ []) kind)
+    ∙ joined_test (contains set kind) (eq_by_cmp kind_cmp kind only)
+    ∙ sym (contains-insert kind_cmp_total set only kind))
+
+-- and so does a union of one kind with a set
+pub one-union : (only : SyntaxKind) (set : KindSet) → union (set_of (only ∷ [])) set ≡ insert set only
+one-union only set = same_members _ _ (λ kind.
+    contains-union kind_cmp_total (set_of (only ∷ [])) set kind
+    ∙ ap (λ b. b || contains set kind) (contains-from_list kind_cmp_total (only ∷ []) kind)
+    ∙ one_test (eq_by_cmp kind_cmp kind only) (contains set kind)
+    ∙ sym (contains-insert kind_cmp_total set only kind))
+
+-- the set of some kinds with one more adds it
+pub set_of_more : (kinds : List SyntaxKind) (kind : SyntaxKind) → set_of (kinds ++ kind ∷ []) ≡ insert (set_of kinds) kind
+set_of_more = from_list_push kind_cmp_total kind_cmp_same
+
+as_bit_test : (b : Bool) → (as_bit b == 1) ≡ b
+as_bit_test true = refl
+as_bit_test false = refl
+
+number_of-bit : (set : KindSet) (kind : SyntaxKind) → bit_at (number_of set) (place_of kind) ≡ as_bit (contains set kind)
+unfolding number_of
+number_of-bit set kind = number_from-bit (contains set) ALL (place_of kind) kind (place_in_range kind) ∙ ap (λ k. as_bit (contains set k)) (kind_at_place kind kind)
+
+-- the kinds of a set's number are those of the set
+pub kinds_of-number_of : (set : KindSet) → kinds_of (number_of set) ≡ set
+kinds_of-number_of set = same_members _ _ (λ kind. has_bit (number_of set) kind ∙ ap (λ n. n == 1) (number_of-bit set kind) ∙ as_bit_test (contains set kind))
+
+-- sets are equal exactly if they have one number
+pub same_number-decides : (a b : KindSet) → Decides (same_number a b) (a ≡ b)
+same_number-decides a b = Decides-like (same_number a b) (λ e. sym (kinds_of-number_of a) ∙ ap kinds_of e ∙ kinds_of-number_of b) (ap number_of) (Decides-eqb (number_of a) (number_of b))
+
+-- sets have one number exactly if they have the same members
+pub same_number-members : (a b : KindSet) → Decides (same_number a b) ((kind : SyntaxKind) → contains a kind ≡ contains b kind)
+same_number-members a b =
+    (λ e kind. ap (λ s. contains s kind) ((same_number-decides a b).0 e), λ same. (same_number-decides a b).1 (same_members a b same))

@@ -1,0 +1,10 @@
+use Rattle.std.proofs.Common.{sym, ◌∙◌}
+use Rattle.std.specs.Prelude.{◌==◌}
+use Rattle.rnix_kinds.specs.TokenSet.{same_number}
+use Rattle.rnix_kinds.specs.KindNumbers.{number_of-kinds_of}
+use Rattle.rnix_kinds.proofs.token_set.TokenSetPartialEq.eq.Goals as goal
+
+pub returns : goal.returns
+returns c =
+    sym (λ i. number_of-kinds_of c.self.inside.bits c.self.invariant i == number_of-kinds_of c.other.inside.bits c.other.invariant i)
+    ∙ (λ i. same_number (c.self.view_is i) (c.other.view_is i))

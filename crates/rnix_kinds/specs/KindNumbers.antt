@@ -1,0 +1,94 @@
+-- The numbers that sets of kinds are kept as.
+use Rattle.std.specs.Prelude.{ℕ, ◌≡◌, ◌<◌, ◌^◌, ◌+◌, ◌*◌, ◌/◌, ◌==◌, ◌&&◌, Bool, true, false, List, [], ◌∷◌, length, if◌then◌else◌, refl}
+use Rattle.std.proofs.Common.{zero, suc, ap, sym, ◌∙◌, arith, get_or}
+use Rattle.std.specs.Int.{bit_at}
+use Rattle.std.specs.List.{list_all, list_any}
+use Rattle.std.specs.Ordering.{eq_by_cmp}
+use Rattle.std.specs.declared.cmp.Ordering.TheVariants.{Equal}
+use Rattle.std.specs.Cmp.{IsTotalOrder, on_total, nat_cmp_total}
+use Rattle.std.specs.FinSet as set
+use Rattle.std.specs.FinSet.{nat_cmp-IsAntisymmetric, contains-retain, contains-from_list}
+use Rattle.std.proofs.lemmas.Bool.{and_parts}
+use Rattle.std.proofs.lemmas.Bool.Decides.{Decides-eqb}
+use Rattle.std.proofs.Math.Nat.{pow-succ'}
+use Rattle.std.proofs.lemmas.Nat.Bits.{bit_at-lt, bit_at_lowest, bit_at-suc, same_from_bits_below}
+use Rattle.rnix_kinds.specs.declared.kinds.SyntaxKind.{SyntaxKind}
+use Rattle.rnix_kinds.specs.declared.kinds.SyntaxKind.TheVariants.{TOKEN_ADD}
+use Rattle.rnix_kinds.specs.declared.kinds.TheConstants.{ALL}
+use Rattle.rnix_kinds.specs.SyntaxKind.{place_of}
+use Rattle.rnix_kinds.specs.TokenSet.{kind_cmp, set_of, kinds_of, number_from, number_of}
+
+-- the order of kinds is total
+pub kind_cmp_total : IsTotalOrder kind_cmp
+kind_cmp_total = on_total place_of nat_cmp_total
+
+-- a bit that is 1 or not
+abbrev pub as_bit : Bool → ℕ
+as_bit b = if b then 1 else 0
+
+as_bit_back : (n : ℕ) → n < 2 → as_bit (n == 1) ≡ n
+as_bit_back zero low = refl
+as_bit_back (suc zero) low = refl
+as_bit_back (suc (suc n)) low = absurd (omega arith)
+
+as_bit-lt : (b : Bool) → as_bit b < 2
+as_bit-lt true = omega arith
+as_bit-lt false = omega arith
+
+-- the bits of a number that is made of some kinds
+pub number_from-bit : (passes : SyntaxKind → Bool) (kinds : List SyntaxKind) (i : ℕ) (d : SyntaxKind) → i < length kinds
+    → bit_at (number_from passes kinds) i ≡ as_bit (passes (get_or kinds i d))
+number_from-bit passes [] i d l = absurd (omega arith)
+number_from-bit passes (k ∷ ks) zero d l =
+    let low : as_bit (passes k) < 2 = as_bit-lt (passes k) in
+    bit_at_lowest (number_from passes (k ∷ ks)) ∙ (omega arith)
+number_from-bit passes (k ∷ ks) (suc i) d l =
+    let low : as_bit (passes k) < 2 = as_bit-lt (passes k) in
+    let half : number_from passes (k ∷ ks) / 2 ≡ number_from passes ks = omega arith in
+    bit_at-suc (number_from passes (k ∷ ks)) i ∙ ap (λ n. bit_at n i) half ∙ number_from-bit passes ks i d (omega arith)
+
+number_from-lt : (passes : SyntaxKind → Bool) (kinds : List SyntaxKind) → number_from passes kinds < 2 ^ length kinds
+number_from-lt passes [] = omega arith
+number_from-lt passes (k ∷ ks) =
+    let low : as_bit (passes k) < 2 = as_bit-lt (passes k) in
+    let more : number_from passes ks < 2 ^ length ks = number_from-lt passes ks in
+    let power : 2 ^ suc (length ks) ≡ 2 * 2 ^ length ks = pow-succ' 2 (length ks) in
+    omega (arith, power)
+
+-- the kinds of a list stand in the places from n on
+abbrev are_placed : ℕ → List SyntaxKind → Bool
+are_placed n [] = true
+are_placed n (k ∷ ks) = place_of k == n && are_placed (suc n) ks
+
+place_at : (n i : ℕ) (kinds : List SyntaxKind) (d : SyntaxKind) → are_placed n kinds ≡ true → i < length kinds → place_of (get_or kinds i d) ≡ n + i
+place_at n i [] d h l = absurd (omega arith)
+place_at n zero (k ∷ ks) d h l = (Decides-eqb (place_of k) n).0 (and_parts (place_of k == n) _ h).0 ∙ (omega arith)
+place_at n (suc i) (k ∷ ks) d h l = place_at (suc n) i ks d (and_parts (place_of k == n) _ h).1 (omega arith) ∙ (omega arith)
+
+all_at : (test : SyntaxKind → Bool) (kinds : List SyntaxKind) (i : ℕ) (d : SyntaxKind) → list_all test kinds ≡ true → i < length kinds → test (get_or kinds i d) ≡ true
+all_at test [] i d h l = absurd (omega arith)
+all_at test (k ∷ ks) zero d h l = (and_parts (test k) (list_all test ks) h).0
+all_at test (k ∷ ks) (suc i) d h l = all_at test ks i d (and_parts (test k) (list_all test ks) h).1 (omega arith)
+
+-- kinds in one place pass alike
+same_bit : (n : ℕ) (a b : SyntaxKind) → kind_cmp a b ≡ Equal → (bit_at n (place_of b) == 1) ≡ (bit_at n (place_of a) == 1)
+same_bit n a b e = ap (λ p. bit_at n p == 1) (sym (nat_cmp-IsAntisymmetric (place_of a) (place_of b) e))
+
+-- the kinds of a number are those of all whose bits are set in it
+pub contains-kinds_of : (n : ℕ) (kind : SyntaxKind) → set.contains (kinds_of n) kind ≡ (set.contains (set_of ALL) kind && bit_at n (place_of kind) == 1)
+unfolding kinds_of
+contains-kinds_of n kind = contains-retain (set_of ALL) (λ k. bit_at n (place_of k) == 1) kind (same_bit n kind)
+
+-- a number with no other bits is that of the kinds whose bits are set in it
+pub number_of-kinds_of : (n : ℕ) → n < 2 ^ 93 → number_of (kinds_of n) ≡ n
+unfolding number_of
+number_of-kinds_of n low = same_from_bits_below 93 (number_of (kinds_of n)) n (number_from-lt (set.contains (kinds_of n)) ALL) low bits
+  where
+    bits : (i : ℕ) → i < 93 → bit_at (number_of (kinds_of n)) i ≡ bit_at n i
+    bits i l =
+        let kind : SyntaxKind = get_or ALL i TOKEN_ADD in
+        let place : place_of kind ≡ i = place_at 0 i ALL TOKEN_ADD refl l ∙ (omega arith) in
+        let all : set.contains (set_of ALL) kind ≡ true = contains-from_list kind_cmp_total ALL kind ∙ all_at (λ k. list_any (eq_by_cmp kind_cmp k) ALL) ALL i TOKEN_ADD refl l in
+        number_from-bit (set.contains (kinds_of n)) ALL i TOKEN_ADD l
+        ∙ ap as_bit (contains-kinds_of n kind ∙ ap (λ b. b && bit_at n (place_of kind) == 1) all ∙ ap (λ p. bit_at n p == 1) place)
+        ∙ as_bit_back (bit_at n i) (bit_at-lt n i)

@@ -1,0 +1,7 @@
+use Rattle.std.proofs.Common.{[]}
+use Rattle.rnix_kinds.proofs.Lexical.Laws.{AreSound-tokens_under}
+use Rattle.rnix_parser.proofs.OneReading.{one_text}
+use Rattle.rnix_parser.proofs.readings.one_text.Goals as goal
+
+pub returns : goal.returns
+returns c = λ t ds es. one_text c.args.first.now c.args.second.now t ds es (AreSound-tokens_under [] c.args.first.now c.utf8.first) (AreSound-tokens_under [] c.args.second.now c.utf8.second)

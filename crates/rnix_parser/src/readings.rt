@@ -1,0 +1,43 @@
+//! Each text has one reading.
+
+ghost use Rattle.std.specs.Prelude.{◌≡◌, ◌≤◌, List};
+ghost use Rattle.rnix_kinds.specs.Lexical.Tokens.{Lexeme, tokens_of};
+ghost use Rattle.rnix_tree.specs.Tree.{Tree};
+ghost use Rattle.rnix_grammar.specs.declared.place.Place.TheVariants.{RootStart};
+ghost use Rattle.rnix_grammar.specs.Fault.{Fault};
+ghost use Rattle.rnix_grammar.specs.Tables.{depth_limit};
+ghost use Rattle.rnix_grammar.specs.Sketch.{clean};
+ghost use Rattle.rnix_grammar.specs.Rows.{At};
+ghost use Rattle.rnix_grammar.specs.Stands.{StandsWhole};
+ghost use Rattle.rnix_grammar.specs.Nesting.{depth_of, AreLimited};
+ghost use Rattle.rnix_grammar.specs.Reading.{IsReading};
+ghost use Rattle.rnix_grammar.specs.Parsed.{IsParsed};
+
+/// Tokens have one reading: two trees with their errors that are readings of one list of tokens are equal.
+pub fn one_reading()
+    ensures { (tokens : List Lexeme) (t u : Tree) (ds es : List Fault) → IsReading tokens t ds → IsReading tokens u es → (t ≡ u) × (ds ≡ es) }
+{
+}
+
+/// Two texts of which one tree is read are one text, with one list of errors.
+pub fn one_text(first: &str, second: &str)
+    ensures { (t : Tree) (ds es : List Fault) → IsReading (tokens_of first.now) t ds → IsReading (tokens_of second.now) t es → (first.now ≡ second.now) × (ds ≡ es) }
+{
+    let _len = first.len().min(second.len());
+}
+
+/// All that is promised of the tree and the errors of a text follows from their being its reading.
+pub fn all_follows(text: &str)
+    ensures { (tree : Tree) (faults : List Fault) → IsReading (tokens_of text.now) tree faults → IsParsed (tokens_of text.now) tree faults }
+{
+    let _len = text.len();
+}
+
+/// What holds beside each error node of a reading: in which row it may stand, what it does not begin with, and what is around it; no more
+/// counted places are inside one another than the limit, and what is nested too deep is inside as many.
+pub fn error_forms()
+    ensures stands { (tokens : List Lexeme) (tree : Tree) (faults : List Fault) (r : IsReading tokens tree faults) → StandsWhole (clean r.sketch) faults }
+    ensures shallow { (tokens : List Lexeme) (tree : Tree) (faults : List Fault) (r : IsReading tokens tree faults) → depth_of (At RootStart) (clean r.sketch) ≤ depth_limit }
+    ensures limited { (tokens : List Lexeme) (tree : Tree) (faults : List Fault) (r : IsReading tokens tree faults) → AreLimited 0 (At RootStart) (clean r.sketch) }
+{
+}

@@ -1,0 +1,184 @@
+-- Rows with their trivia, as the items of the rows and the tokens make them.
+use Rattle.std.proofs.Common.{◌≡◌, true, false, List, [], ◌∷◌, ◌++◌, refl, ap, sym, ◌∙◌, subst}
+use Rattle.rnix_kinds.specs.declared.kinds.SyntaxKind.{SyntaxKind}
+use Rattle.rnix_kinds.specs.SyntaxKind.{is_trivia}
+use Rattle.rnix_grammar.specs.Sketch.{Token, Note, TooDeep, Sketch, blank, token, branch, fault, ◌⊕◌, one_branch, one_fault, clean, token_if, told, head_kind}
+use Rattle.rnix_grammar.specs.Layout.{from_item, from_item_if, trivia_if, trivia_before, items, tail_of, is_last, trivia_after, rest_after, left_after, dressed}
+use Rattle.rnix_grammar.specs.Machine.{ate, behind, leaf_in, leaf, run_row, run_rest}
+use Rattle.rnix_grammar.specs.Sorts.{HasNext}
+use Rattle.rnix_lemmas.proofs.SketchLemmas.{⊕-assoc, ⊕-blank}
+use Rattle.rnix_lemmas.proofs.LayoutLemmas.{trivia-from_item, from_item-from_item, items_head, items-view, from_item_item}
+use Rattle.rnix_lemmas.proofs.CleanLemmas.{ate_clean, added_clean, run_bared}
+
+-- what is left behind two rows
+pub left_after-⊕ : (f g : Sketch) (ts : List Token) → left_after (f ⊕ g) ts ≡ left_after g (left_after f ts)
+left_after-⊕ blank g ts = refl
+left_after-⊕ (token k t f) g ts = left_after-⊕ f g (tail_of (from_item ts))
+left_after-⊕ (branch k c f) g ts = left_after-⊕ f g (left_after c (from_item ts))
+left_after-⊕ (fault n c f) g ts = left_after-⊕ f g (rest_after (is_last n) (left_after c (from_item ts)))
+
+-- two rows with their trivia, the second from where the first ends
+pub dressed-⊕ : (f g : Sketch) (ts : List Token) → dressed (f ⊕ g) ts ≡ dressed f ts ⊕ dressed g (left_after f ts)
+dressed-⊕ blank g ts = refl
+dressed-⊕ (token k t f) g ts =
+    let rest = tail_of (from_item ts) in
+    ap (λ x. trivia_before ts ⊕ token k t x) (dressed-⊕ f g rest) ∙ sym (⊕-assoc (trivia_before ts) (token k t (dressed f rest)) (dressed g (left_after f rest)))
+dressed-⊕ (branch k c f) g ts =
+    let rest = left_after c (from_item ts) in
+    ap (λ x. trivia_before ts ⊕ branch k (dressed c (from_item ts)) x) (dressed-⊕ f g rest)
+    ∙ sym (⊕-assoc (trivia_before ts) (branch k (dressed c (from_item ts)) (dressed f rest)) (dressed g (left_after f rest)))
+dressed-⊕ (fault n c f) g ts =
+    let rest = left_after c (from_item ts) in
+    let later = rest_after (is_last n) rest in
+    let own = trivia_after (is_last n) rest in
+    ap (λ x. trivia_before ts ⊕ fault n (dressed c (from_item ts)) x)
+    (ap (λ x. own ⊕ x) (dressed-⊕ f g later) ∙ sym (⊕-assoc own (dressed f later) (dressed g (left_after f later))))
+    ∙ sym (⊕-assoc (trivia_before ts) (fault n (dressed c (from_item ts)) (own ⊕ dressed f later)) (dressed g (left_after f later)))
+
+-- some tree stands in a row
+abbrev pub HasTree : Sketch → Type 0
+HasTree blank = ⊥
+HasTree (token k t f) = Unit {0}
+HasTree (branch k c f) = Unit {0}
+HasTree (fault n c f) = Unit {0}
+
+-- a tree behind a row stands in both
+pub tree_behind : (f g : Sketch) → HasTree g → HasTree (f ⊕ g)
+tree_behind blank g h = h
+tree_behind (token k t f) g h = tt
+tree_behind (branch k c f) g h = tt
+tree_behind (fault n c f) g h = tt
+
+-- no trivia come first
+abbrev pub IsBare : List Token → Type 0
+IsBare ts = from_item ts ≡ ts
+
+-- from the first item on no trivia come first
+pub bare_from : (ts : List Token) → IsBare (from_item ts)
+bare_from ts = from_item-from_item ts
+
+-- and so none are before it
+pub bare_trivia : (ts : List Token) → IsBare ts → trivia_before ts ≡ blank
+bare_trivia ts h = ap trivia_before (sym h) ∙ trivia-from_item ts
+
+-- a row is what its items and the tokens make of it, and these tokens are left behind it
+pub record IsDressed (row : Sketch) (ts us : List Token) : Type 0 where
+  pub same : dressed (clean row) ts ≡ row
+  pub left : left_after (clean row) ts ≡ us
+
+-- nothing is read yet
+pub dressed_blank : (ts : List Token) → IsDressed blank ts ts
+dressed_blank ts = record { same = refl; left = refl }
+
+-- what some items make of the tokens, by what they make of those from the first item on
+record IsAhead (c : Sketch) (ts : List Token) : Type 0 where
+  pub same : dressed c ts ≡ trivia_before ts ⊕ dressed c (from_item ts)
+  pub left : left_after c ts ≡ left_after c (from_item ts)
+
+-- trivia come before the first tree
+ahead : (c : Sketch) (ts : List Token) → HasTree c → IsAhead c ts
+ahead blank ts h = absurd h
+ahead (token k t f) ts h =
+    let e = from_item-from_item ts in
+    record {
+      same = ap (λ x. trivia_before ts ⊕ x) (ap (λ x. token k t (dressed f (tail_of x))) (sym e) ∙ ap (λ x. x ⊕ token k t (dressed f (tail_of (from_item (from_item ts))))) (sym (trivia-from_item ts)));
+      left = ap (λ x. left_after f (tail_of x)) (sym e);
+    }
+ahead (branch k c f) ts h =
+    let e = from_item-from_item ts in
+    let node : List Token → Sketch = λ x. branch k (dressed c x) (dressed f (left_after c x)) in
+    record {
+      same = ap (λ x. trivia_before ts ⊕ x) (ap node (sym e) ∙ ap (λ x. x ⊕ node (from_item (from_item ts))) (sym (trivia-from_item ts)));
+      left = ap (λ x. left_after f (left_after c x)) (sym e);
+    }
+ahead (fault n c f) ts h =
+    let e = from_item-from_item ts in
+    let node : List Token → Sketch = λ x. fault n (dressed c x) (trivia_after (is_last n) (left_after c x) ⊕ dressed f (rest_after (is_last n) (left_after c x))) in
+    record {
+      same = ap (λ x. trivia_before ts ⊕ x) (ap node (sym e) ∙ ap (λ x. x ⊕ node (from_item (from_item ts))) (sym (trivia-from_item ts)));
+      left = ap (λ x. left_after f (rest_after (is_last n) (left_after c x))) (sym e);
+    }
+
+-- a row with trivia and trees behind it
+pub dressed_added : (row g : Sketch) (ts us vs : List Token) → IsDressed row ts us → IsDressed g (from_item us) vs → HasTree (clean g) → IsDressed (ate true row us ⊕ g) ts vs
+dressed_added row g ts us vs h j t =
+    let parts : clean (ate true row us ⊕ g) ≡ clean row ⊕ clean g = added_clean row us g refl in
+    let a : IsAhead (clean g) us = ahead (clean g) us t in
+    record {
+      same =
+          ap (λ x. dressed x ts) parts ∙ dressed-⊕ (clean row) (clean g) ts ∙ ap (λ x. x ⊕ dressed (clean g) (left_after (clean row) ts)) h.same
+          ∙ ap (λ x. row ⊕ dressed (clean g) x) h.left ∙ ap (λ x. row ⊕ x) (a.same ∙ ap (λ x. trivia_before us ⊕ x) j.same) ∙ sym (⊕-assoc row (trivia_before us) g);
+      left = ap (λ x. left_after x ts) parts ∙ left_after-⊕ (clean row) (clean g) ts ∙ ap (left_after (clean g)) h.left ∙ a.left ∙ j.left;
+    }
+
+-- a tree is in a row with trivia and trees behind it
+pub tree_added : (row : Sketch) (us : List Token) (g : Sketch) → HasTree (clean g) → HasTree (clean (ate true row us ⊕ g))
+tree_added row us g h = subst HasTree (sym (added_clean row us g refl)) (tree_behind (clean row) (clean g) h)
+
+-- a node over a row
+pub dressed_branch : (k : SyntaxKind) (row : Sketch) (ts us : List Token) → IsBare ts → IsDressed row ts us → IsDressed (one_branch k row) ts us
+dressed_branch k row ts us b h =
+    record {
+      same =
+          ap (λ x. x ⊕ branch k (dressed (clean row) (from_item ts)) blank) (bare_trivia ts b) ∙ ap (λ x. branch k (dressed (clean row) x) blank) b ∙ ap (λ x. branch k x blank) h.same;
+      left = ap (left_after (clean row)) b ∙ h.left;
+    }
+
+-- an error node over a row, behind which trivia need not stand
+pub dressed_fault : (n : Note) (row : Sketch) (ts us : List Token) → is_last n ≡ false → IsBare ts → IsDressed row ts us → IsDressed (one_fault n row) ts us
+dressed_fault n row ts us e b h =
+    let rest : List Token → List Token = left_after (clean row) in
+    record {
+      same =
+          ap (λ x. x ⊕ fault n (dressed (clean row) (from_item ts)) (trivia_after (is_last n) (rest (from_item ts)) ⊕ blank)) (bare_trivia ts b)
+          ∙ ap (λ x. fault n (dressed (clean row) (from_item ts)) (trivia_after x (rest (from_item ts)) ⊕ blank)) e
+          ∙ ap (λ x. fault n (dressed (clean row) x) blank) b ∙ ap (λ x. fault n x blank) h.same;
+      left = ap (λ x. rest_after x (rest (from_item ts))) e ∙ ap rest b ∙ h.left;
+    }
+
+-- the node of what is too deep, with the trivia behind it
+pub dressed_last : (row : Sketch) (ts us : List Token) → IsBare ts → IsDressed row ts us → IsDressed (ate true (one_fault TooDeep row) us) ts (from_item us)
+dressed_last row ts us b h =
+    let bare : clean (ate true (one_fault TooDeep row) us) ≡ one_fault TooDeep (clean row) = ate_clean (one_fault TooDeep row) us in
+    let rest : List Token → List Token = left_after (clean row) in
+    record {
+      same =
+          ap (λ x. dressed x ts) bare
+          ∙ ap (λ x. x ⊕ fault TooDeep (dressed (clean row) (from_item ts)) (trivia_before (rest (from_item ts)) ⊕ blank)) (bare_trivia ts b)
+          ∙ ap (λ x. fault TooDeep (dressed (clean row) x) (trivia_before (rest x) ⊕ blank)) b
+          ∙ ap (λ x. fault TooDeep x (trivia_before (rest ts) ⊕ blank)) h.same
+          ∙ ap (fault TooDeep row) (⊕-blank (trivia_before (rest ts)) ∙ ap trivia_before h.left);
+      left = ap (λ x. left_after x ts) bare ∙ ap (λ x. from_item (rest x)) b ∙ ap from_item h.left;
+    }
+
+-- the next item as a leaf
+pub dressed_leaf : (k : SyntaxKind) (ts : List Token) → IsDressed (leaf true k ts) (from_item ts) (behind true ts)
+dressed_leaf k ts = by_head (from_item ts) refl
+  where
+    by_item : (x : Token) (xs : List Token) → is_trivia x.kind ≡ false → IsDressed (token (told k x) x blank) (x ∷ xs) xs
+    by_item x xs e =
+        let bare : clean (token (told k x) x blank) ≡ token (told k x) x blank = ap (λ y. token_if y (told k x) x blank) e in
+        let here : from_item (x ∷ xs) ≡ x ∷ xs = ap (λ y. from_item_if y x xs (from_item xs)) e in
+        record {
+          same =
+              ap (λ y. dressed y (x ∷ xs)) bare ∙ ap (λ y. trivia_if y x (trivia_before xs) ⊕ token (told k x) x blank) e;
+          left = ap (λ y. left_after y (x ∷ xs)) bare ∙ ap tail_of here;
+        }
+
+    by_head : (xs : List Token) → from_item ts ≡ xs → IsDressed (leaf_in k xs) xs (tail_of xs)
+    by_head [] e = dressed_blank []
+    by_head (x ∷ xs) e = by_item x xs (from_item_item ts x xs e)
+
+-- there is one where an item is left
+pub tree_leaf : (k : SyntaxKind) (ts : List Token) → HasNext (head_kind (items ts)) → HasTree (clean (leaf true k ts))
+tree_leaf k ts h = by_head (from_item ts) refl (subst (λ (x : List Token). HasNext (head_kind x)) (items-view ts) h)
+  where
+    by_head : (xs : List Token) → from_item ts ≡ xs → HasNext (head_kind (items_head xs)) → HasTree (clean (leaf_in k xs))
+    by_head [] e h = absurd h
+    by_head (x ∷ xs) e h = rw (from_item_item ts x xs e) tt
+
+-- the first items as leaves
+pub dressed_run : (run ts us : List Token) → items ts ≡ run ++ us → IsDressed (run_row true run ts) (from_item ts) (run_rest true run ts)
+dressed_run run ts us e =
+    let w = run_bared run ts us e in
+    record { same = ap (λ x. dressed x (from_item ts)) w.same; left = ap (λ x. left_after x (from_item ts)) w.same }

@@ -1,0 +1,61 @@
+-- What is so of a whole text's trees, where their items and the tokens tell where the trivia stand.
+use Rattle.std.proofs.Common.{◌≡◌, true, List, [], ◌++◌, ap, sym, ◌∙◌, append-nil}
+use Rattle.rnix_kinds.specs.declared.kinds.SyntaxKind.{SyntaxKind}
+use Rattle.rnix_kinds.specs.declared.kinds.SyntaxKind.TheVariants.{NODE_ROOT}
+use Rattle.rnix_kinds.specs.Lexical.Tokens.{Lexeme}
+use Rattle.rnix_tree.specs.Tree.{Tree}
+use Rattle.rnix_grammar.specs.Fault.{Fault}
+use Rattle.rnix_grammar.specs.Sketch.{Token, Sketch, tokens_in, forget, clean, placed_from, AreTold}
+use Rattle.rnix_grammar.specs.Layout.{trivia_before, from_item, items, left_after, dressed, dressed_whole}
+use Rattle.rnix_grammar.specs.Machine.{ate}
+use Rattle.rnix_grammar.specs.Document.{IsRead}
+use Rattle.rnix_lemmas.proofs.SketchLemmas.{tokens_in-⊕}
+use Rattle.rnix_lemmas.proofs.LayoutLemmas.{items-view, IsBared, bared, dressed_tokens, trivia_tokens, nothing_from, told-⊕, told_trivia, told_dressed}
+use Rattle.rnix_lemmas.proofs.CleanLemmas.{ate_clean}
+use Rattle.rnix_lemmas.proofs.ReportLemmas.{clean_tokens}
+use Rattle.rnix_rows.proofs.Dressed.{whole_dressed}
+
+-- all items, with nothing behind them
+all_items : (f : Sketch) (ts : List Token) → items ts ≡ tokens_in f → items ts ≡ tokens_in f ++ []
+all_items f ts e = e ∙ sym (append-nil (tokens_in f))
+
+-- trees over all items, with the trivia of the tokens, have all the tokens
+pub dressed_whole_tokens : (f : Sketch) (ts : List Token) → items ts ≡ tokens_in f → tokens_in (dressed_whole f ts) ≡ ts
+dressed_whole_tokens f ts e =
+    let us : List Token = left_after f ts in
+    let w : IsBared f ts [] = bared f ts [] (all_items f ts e) in
+    let none : from_item us ≡ [] = nothing_from (from_item us) (sym (items-view us) ∙ w.left) in
+    let rest : tokens_in (trivia_before us) ≡ us = sym (append-nil (tokens_in (trivia_before us))) ∙ ap (λ x. tokens_in (trivia_before us) ++ x) (sym none) ∙ trivia_tokens us in
+    tokens_in-⊕ (dressed f ts) (trivia_before us) ∙ ap (λ x. tokens_in (dressed f ts) ++ x) rest ∙ dressed_tokens f ts [] (all_items f ts e)
+
+-- without the trivia they are the trees over the items
+pub dressed_whole_clean : (f : Sketch) (ts : List Token) → items ts ≡ tokens_in f → clean (dressed_whole f ts) ≡ f
+dressed_whole_clean f ts e =
+    let w : IsBared f ts [] = bared f ts [] (all_items f ts e) in
+    ate_clean (dressed f ts) (left_after f ts) ∙ w.same
+
+-- their leaves have the kinds that their tokens have below their parents
+pub dressed_whole_told : (p : SyntaxKind) (f : Sketch) (ts : List Token) → AreTold p f → AreTold p (dressed_whole f ts)
+dressed_whole_told p f ts h = told-⊕ p (dressed f ts) (trivia_before (left_after f ts)) (told_dressed p f ts h) (told_trivia p (left_after f ts))
+
+-- rows over the same tokens, each with its trivia where its items and the tokens tell it, are the same where they have the same items
+pub dressed_same : (f g : Sketch) (ts : List Token) → f ≡ dressed_whole (clean f) ts → g ≡ dressed_whole (clean g) ts → clean f ≡ clean g → f ≡ g
+dressed_same f g ts d e h = d ∙ ap (λ x. dressed_whole x ts) h ∙ sym e
+
+-- a row over some tokens has their items, without its trivia
+pub clean_items : (f : Sketch) (ts : List Token) → tokens_in f ≡ ts → items ts ≡ tokens_in (clean f)
+clean_items f ts e = ap items (sym e) ∙ sym (clean_tokens f)
+
+-- the trees of a text that is read are what their items and its tokens make of them
+pub read_dressed : (ls : List Lexeme) (tree : Tree) (faults : List Fault) (r : IsRead ls tree faults)
+    → ate true r.root.row r.last.left ≡ dressed_whole (clean (ate true r.root.row r.last.left)) (placed_from 0 ls)
+read_dressed ls tree faults r = whole_dressed (placed_from 0 ls) r.last r.root r.runs r.alone r.nothing
+
+-- so its tree with trivia is told by the tree without them, and by the tokens
+pub read_tree_dressed : (ls : List Lexeme) (tree : Tree) (faults : List Fault) (r : IsRead ls tree faults)
+    → tree ≡ record { kind = NODE_ROOT; children = forget (dressed_whole (clean r.root.row) (placed_from 0 ls)) }
+read_tree_dressed ls tree faults r =
+    let row : Sketch = r.root.row in
+    r.tree_is
+    ∙ ap (λ x. record { kind = NODE_ROOT; children = forget x })
+    (read_dressed ls tree faults r ∙ ap (λ x. dressed_whole x (placed_from 0 ls)) (ate_clean row r.last.left))

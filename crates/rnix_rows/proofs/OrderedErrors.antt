@@ -1,0 +1,124 @@
+-- The errors of a row are, one by one, those of its error nodes and of its entries that repeat a name, as these close.
+use Rattle.std.proofs.Common.{◌≡◌, ℕ, ◌+◌, ◌<◌, Bool, true, false, List, [], ◌∷◌, ◌++◌, length, Option, Some, None, refl, ap, sym, ◌∙◌, arith, subst}
+use Rattle.std.specs.Prelude.{if◌then◌else◌, bytes_eq, ◌||◌}
+use Rattle.rnix_kinds.specs.declared.kinds.SyntaxKind.{SyntaxKind}
+use Rattle.rnix_kinds.specs.declared.kinds.SyntaxKind.TheVariants.{NODE_ERROR, NODE_PAT_ENTRY}
+use Rattle.rnix_kinds.specs.SyntaxKind.{is_trivia}
+use Rattle.rnix_tree.specs.Forest.{Forest, text_of, element_count}
+use Rattle.rnix_tree.specs.Tree.{Tree, Item, item}
+use Rattle.rnix_grammar.specs.Fault.{Fault, named_twice}
+use Rattle.rnix_grammar.specs.Sketch.{Token, Note, Sketch, blank, token, branch, fault, ◌⊕◌, one_token, one_branch, one_fault, tokens_in, forget, clean, token_if, AreTold, extent_of as place_of}
+use Rattle.rnix_grammar.specs.Reports.{entry_name, is_same_name, has_entry, repeated_if}
+use Rattle.rnix_grammar.specs.Reports.{repeats}
+use Rattle.rnix_grammar.specs.Shape.{reports_within, name_if, with_name}
+use Rattle.rnix_grammar.specs.Tables.{is_among}
+use Rattle.rnix_grammar.specs.Trim.{AreNamesBare}
+use Rattle.rnix_grammar.specs.Ranges.{is_error_node, IsEntryName, is_among_if, is_at_fault, at_fault_from, AreErrorsOf}
+use Rattle.rnix_lemmas.proofs.Basics.{true_is_not_false}
+use Rattle.rnix_lemmas.proofs.LayoutLemmas.{clean-⊕}
+use Rattle.rnix_lemmas.proofs.EntryNames.{bare_name, has_branch, has-⊕, if_not}
+use Rattle.rnix_rows.proofs.TreeShapes.{Lists, clean_name, repeats_named, text_in as name_of}
+use Rattle.rnix_rows.proofs.StandsMarks.{AreMarked}
+use Rattle.rnix_rows.proofs.PlacedTokens.{ArePlaced, text_in, placed_first, placed_rest, forget-length}
+use Rattle.rnix_rows.proofs.RowsIn.{IsRowIn, row_first, row_inside, row_behind_leaf, row_behind_node}
+use Rattle.rnix_rows.proofs.ErrorElements.{errors-++, report_error}
+use Rattle.rnix_rows.proofs.NameRanges.{row_name, none_some}
+
+-- one or the other
+swapped : (x y : Bool) → (if x then true else (if y then true else false)) ≡ (if y then true else x)
+swapped true true = refl
+swapped true false = refl
+swapped false true = refl
+swapped false false = refl
+
+-- the names before a row, with that of one more node
+lists_node : (names : List (List ℕ)) (b : Sketch) (k : SyntaxKind) (c : Sketch) → Lists names b → Lists (with_name (name_of (bare_name k c)) names) (b ⊕ one_branch k c)
+lists_node names b k c h = λ name. has-⊕ name b (one_branch k c) ∙ ap (λ x. if has_entry name b then true else x) (has_branch name k c blank) ∙ by_name name (bare_name k c)
+  where
+    by_name : (name : List ℕ) (o : Option Token) → (if has_entry name b then true else (if is_same_name name o then true else false)) ≡ is_among name (with_name (name_of o) names)
+    by_name name None = if_not (has_entry name b) ∙ h name
+    by_name name (Some x) = swapped (has_entry name b) (bytes_eq name x.text) ∙ ap (λ z. if bytes_eq name x.text then true else z) (h name)
+
+-- so with trivia
+lists_branch : (names : List (List ℕ)) (b : Sketch) (k : SyntaxKind) (c : Sketch) → AreTold k c → Lists names (clean b) → Lists (with_name (name_if k (forget c)) names) (clean (b ⊕ one_branch k c))
+lists_branch names b k c o h =
+    subst (λ z. Lists (with_name z names) (clean (b ⊕ one_branch k c))) (clean_name k c o)
+    (subst (Lists (with_name (name_of (bare_name k (clean c))) names)) (sym (clean-⊕ b (one_branch k c))) (lists_node names (clean b) k (clean c) h))
+
+-- a leaf is no entry
+lists_token : (names : List (List ℕ)) (b : Sketch) (k : SyntaxKind) (x : Token) → Lists names (clean b) → Lists names (clean (b ⊕ one_token k x))
+lists_token names b k x h = λ name. ap (has_entry name) (clean-⊕ b (one_token k x)) ∙ has-⊕ name (clean b) (token_if (is_trivia x.kind) k x blank) ∙ by name (is_trivia x.kind)
+  where
+    by : (name : List ℕ) (i : Bool) → (if has_entry name (clean b) then true else has_entry name (token_if i k x blank)) ≡ is_among name names
+    by name true = if_not (has_entry name (clean b)) ∙ h name
+    by name false = if_not (has_entry name (clean b)) ∙ h name
+
+-- nor is an error node
+lists_fault : (names : List (List ℕ)) (b : Sketch) (n : Note) (c : Sketch) → Lists names (clean b) → Lists names (clean (b ⊕ one_fault n c))
+lists_fault names b n c h = λ name. ap (has_entry name) (clean-⊕ b (one_fault n c)) ∙ has-⊕ name (clean b) (one_fault n (clean c)) ∙ if_not (has_entry name (clean b)) ∙ h name
+
+-- what has a name is an entry
+named_entry : (k : SyntaxKind) (c : Sketch) (x : Token) → bare_name k c ≡ Some x → (k ≡ NODE_PAT_ENTRY) × (entry_name c ≡ Some x)
+named_entry NODE_PAT_ENTRY c x h = (refl, h)
+named_entry _ c x h = none_some x h
+
+-- an entry is reported exactly if its name is one of those before it
+entry_error : (t : Tree) (n : ℕ) (names : List (List ℕ)) (b : Sketch) (o : Option Token) → Lists names b → ((x : Token) → o ≡ Some x → IsEntryName t n (place_of (x ∷ [])) x.text)
+    → AreErrorsOf t (repeated_if o b) (if is_among_if (name_of o) names then n ∷ [] else [])
+entry_error t n names b None l h = tt
+entry_error t n names b (Some x) l h =
+    subst (λ z. AreErrorsOf t (if has_entry x.text b then named_twice (place_of (x ∷ [])) x.text ∷ [] else []) (if z then n ∷ [] else [])) (l x.text)
+    (elim (has_entry x.text b) as (λ z. AreErrorsOf t (if z then named_twice (place_of (x ∷ [])) x.text ∷ [] else []) (if z then n ∷ [] else [])) [ true ↦ (h x refl, tt) | false ↦ tt ])
+
+-- so is a node
+node_error : (t : Tree) (n : ℕ) (names : List (List ℕ)) (b : Sketch) (k : SyntaxKind) (c : Sketch) → is_error_node k ≡ false → AreTold k c → Lists names b
+    → ((x : Token) → k ≡ NODE_PAT_ENTRY → entry_name (clean c) ≡ Some x → IsEntryName t n (place_of (x ∷ [])) x.text)
+    → AreErrorsOf t (repeats k b (clean c)) (if is_at_fault k (forget c) names then n ∷ [] else [])
+node_error t n names b k c e o l h =
+    let same : is_among_if (name_of (bare_name k (clean c))) names ≡ is_at_fault k (forget c) names =
+    ap (λ z. is_among_if z names) (clean_name k c o) ∙ sym (ap (λ z. z || is_among_if (name_if k (forget c)) names) e) in
+    subst (λ z. AreErrorsOf t (repeats k b (clean c)) (if z then n ∷ [] else [])) same
+    (subst (λ z. AreErrorsOf t z (if is_among_if (name_of (bare_name k (clean c))) names then n ∷ [] else [])) (sym (repeats_named k b (clean c)))
+    (entry_error t n names b (bare_name k (clean c)) l (λ x g. (let w = named_entry k (clean c) x g in h x w.0 w.1))))
+
+-- what holds of a row in a tree with its tokens
+pub record IsSound (q : SyntaxKind) (s : ℕ) (f : Sketch) : Type 0 where
+  pub placed : ArePlaced s (tokens_in f)
+  pub told : AreTold q f
+  pub bare : AreNamesBare f
+  pub marked : AreMarked f
+
+-- the errors of a row are those of its elements
+pub row_errors : (t : Tree) (q : SyntaxKind) (n s : ℕ) (p : Option ℕ) (b : Sketch) (names : List (List ℕ)) (f : Sketch) → IsRowIn t n s p (forget f) → IsSound q s f → Lists names (clean b)
+    → AreErrorsOf t (reports_within b f) (at_fault_from n names (forget f))
+row_errors t q n s p b names blank h a l = tt
+row_errors t q n s p b names (token k x f) h a l =
+    row_errors t q (n + 1) (s + length x.text) p (b ⊕ one_token k x) names f (row_behind_leaf t n s p k x.text (forget f) h)
+    (record { placed = a.placed.2; told = a.told.1; bare = a.bare; marked = a.marked }) (lists_token names b k x l)
+row_errors t q n s p b names (branch k c f) h a l =
+    let first : item t n ≡ _ = row_first t n s p (forget (branch k c f)) h (omega arith) in
+    let size : s + length (text_in (tokens_in c)) ≡ s + length (text_of (forget c)) = omega (arith, forget-length c) in
+    let inside : IsRowIn t (n + 1) s (Some n) (forget c) = row_inside t n s p k (forget c) (forget f) h in
+    let placed : ArePlaced s (tokens_in c) = placed_first s (tokens_in c) (tokens_in f) a.placed in
+    errors-++ t (reports_within blank c) _ (at_fault_from (n + 1) [] (forget c)) _
+    (row_errors t k (n + 1) s (Some n) blank [] c inside (record { placed = placed; told = a.told.0; bare = a.bare.1; marked = a.marked.1 }) (λ name. refl))
+    (errors-++ t (repeats k (clean b) (clean c)) _ (if is_at_fault k (forget c) names then n ∷ [] else []) _
+    (node_error t n names (clean b) k c a.marked.0 a.told.0 l
+    (λ x e g. row_name t k n (n + 1) s c x (ap (λ (i : Item). i.kind) first ∙ e) inside placed a.told.0 a.bare.1 (λ m low high. absurd (omega arith)) g))
+    (row_errors t q (n + 1 + element_count (forget c)) (s + length (text_of (forget c))) p (b ⊕ one_branch k c) (with_name (name_if k (forget c)) names) f
+    (row_behind_node t n s p k (forget c) (forget f) h)
+    (record { placed = placed_rest s (s + length (text_of (forget c))) (tokens_in c) (tokens_in f) size a.placed; told = a.told.1; bare = a.bare.2; marked = a.marked.2 })
+    (lists_branch names b k c a.told.0 l)))
+row_errors t q n s p b names (fault m c f) h a l =
+    let first : item t n ≡ _ = row_first t n s p (forget (fault m c f)) h (omega arith) in
+    let size : s + length (text_in (tokens_in c)) ≡ s + length (text_of (forget c)) = omega (arith, forget-length c) in
+    let placed : ArePlaced s (tokens_in c) = placed_first s (tokens_in c) (tokens_in f) a.placed in
+    errors-++ t (reports_within blank c) _ (at_fault_from (n + 1) [] (forget c)) _
+    (row_errors t NODE_ERROR (n + 1) s (Some n) blank [] c (row_inside t n s p NODE_ERROR (forget c) (forget f) h)
+    (record { placed = placed; told = a.told.0; bare = a.bare.0; marked = a.marked.1 }) (λ name. refl))
+    (
+      report_error t n s m c a.marked.0 placed (ap (λ (i : Item). i.kind) first) (ap (λ (i : Item). i.start) first) (ap (λ (i : Item). i.end) first),
+      row_errors t q (n + 1 + element_count (forget c)) (s + length (text_of (forget c))) p (b ⊕ one_fault m c) names f (row_behind_node t n s p NODE_ERROR (forget c) (forget f) h)
+          (record { placed = placed_rest s (s + length (text_of (forget c))) (tokens_in c) (tokens_in f) size a.placed; told = a.told.1; bare = a.bare.1; marked = a.marked.2 })
+          (lists_fault names b m c l),
+    )

@@ -1,0 +1,104 @@
+-- A row from a place is read, if smaller rows and trees are.
+use Rattle.std.proofs.Common.{◌≡◌, ℕ, suc, ◌+◌, ◌≤◌, true, false, List, [], ◌∷◌, ◌++◌, refl, ap, sym, ◌∙◌, subst, arith}
+use Rattle.rnix_kinds.specs.declared.kinds.SyntaxKind.{SyntaxKind}
+use Rattle.rnix_kinds.specs.declared.kinds.SyntaxKind.TheVariants.{TOKEN_AT, NODE_ERROR}
+use Rattle.rnix_grammar.specs.declared.place.Place.{Place}
+use Rattle.rnix_grammar.specs.declared.place.Place.TheVariants as p
+use Rattle.rnix_grammar.specs.Fault.{Fault}
+use Rattle.rnix_grammar.specs.Slots.{slot_at, level_in}
+use Rattle.rnix_grammar.specs.Sketch.{Token, Twice, Sketch, blank, token, branch, fault, ◌⊕◌, one_token, one_branch, one_fault, row_of, tokens_in, end_from}
+use Rattle.rnix_grammar.specs.Reports.{report}
+use Rattle.rnix_grammar.specs.Rows.{Spot, At, SecondStart, go, live, start}
+use Rattle.rnix_grammar.specs.Reports.{repeats}
+use Rattle.rnix_grammar.specs.OwnItems.{owns, stands_owned_in}
+use Rattle.rnix_grammar.specs.Operands.{IsOperand}
+use Rattle.rnix_grammar.specs.Reads.{Reads, end, leaf, lost, wrong, second, inner, deeper, IsOver, IsWrong}
+use Rattle.rnix_lemmas.proofs.SketchLemmas.{tokens_in-row_of}
+use Rattle.rnix_completeness.proofs.PlainSteps.{same_place}
+use Rattle.rnix_completeness.proofs.PlainPlaces.{Reaches, reaches}
+use Rattle.rnix_uniqueness.proofs.Simulated.{ReadsRow}
+use Rattle.rnix_uniqueness.proofs.Heights.{height, Short, Trees}
+use Rattle.rnix_uniqueness.proofs.Ways.{way_at}
+use Rattle.rnix_uniqueness.proofs.RowSteps.{ReadsOne, row_end, row_on, row_lost, one_leaf}
+use Rattle.rnix_uniqueness.proofs.NodeSteps.{one_second}
+use Rattle.rnix_uniqueness.proofs.FirstRows.{fronted, Opened, second_by}
+use Rattle.rnix_uniqueness.proofs.InnerReads.{AllRows, ReadOn, read_on, inner_one}
+use Rattle.rnix_uniqueness.proofs.WrongReads.{WrongOne, wrong_one}
+
+less : (a m : ℕ) → suc a ≤ suc m → a ≤ m
+less a m h = omega (arith, h)
+
+less_left : (a b m : ℕ) → suc (a + b) ≤ suc m → a ≤ m
+less_left a b m h = omega (arith, h)
+
+less_right : (a b m : ℕ) → suc (a + b) ≤ suc m → b ≤ m
+less_right a b m h = omega (arith, h)
+
+-- the rest of a row behind a place
+shift : (m : ℕ) {p : SyntaxKind} {d n e : ℕ} {q s : Spot} {x : Place} {b c : Sketch} {us : List Token} {f : Sketch} {es : List Fault} (r : Reads p d n q s b us f es) → height r ≤ m → q ≡ At x → b ≡ c → n ≡ e
+    → Short m p d e (At x) s c us f es
+shift m {p = p} {d = d} {n = n} {e = e} {q = q} {s = s} {x = x} {b = b} {c = c} {us = us} {f = f} {es = es} r h u v w =
+    subst (λ (z : Spot). Short m p d e z s c us f es) u
+    (subst (λ (z : Sketch). Short m p d e q s z us f es) v (subst (λ (z : ℕ). Short m p d z q s b us f es) w (record { reads = r; short = h })))
+
+second_one : (m : ℕ) → AllRows m → (q : SyntaxKind) (d n : ℕ) (b c : Sketch) (vs : List Token) (ds : List Fault) (s : Spot) → Short m NODE_ERROR d n SecondStart s blank vs c ds
+    → IsOver s (end_from n (tokens_in c)) vs → ReadsOne q d n (p.PatternEnd true) p.PatternPast b (tokens_in c) vs (one_fault Twice c) (ds ++ report Twice (tokens_in c) ∷ [])
+second_one m rows q d n b c vs ds s short over = by (second_by m d n s vs over.0 (fronted m NODE_ERROR d n SecondStart s vs c ds short refl over.0))
+  where
+    by : Opened m NODE_ERROR TOKEN_AT p.TwiceName d n s vs c ds → ReadsOne q d n (p.PatternEnd true) p.PatternPast b (tokens_in c) vs (one_fault Twice c) (ds ++ report Twice (tokens_in c) ∷ [])
+    by o =
+        subst (λ (v : Sketch). ReadsOne q d n (p.PatternEnd true) p.PatternPast b (tokens_in v) vs (one_fault Twice v) (ds ++ report Twice (tokens_in v) ∷ [])) (sym o.is)
+        (on (read_on m rows NODE_ERROR d o.item.end p.TwiceName s (one_token TOKEN_AT o.item) vs o.more ds (end_from o.item.end (tokens_in o.more)) o.rest
+        (subst (λ (v : Sketch). IsOver s (end_from n (tokens_in v)) vs) o.is over)))
+      where
+        on : ReadOn NODE_ERROR d o.item.end p.TwiceName (one_token TOKEN_AT o.item) vs o.more ds (end_from o.item.end (tokens_in o.more))
+            → ReadsOne q d n (p.PatternEnd true) p.PatternPast b (o.item ∷ tokens_in o.more) vs (one_fault Twice (token TOKEN_AT o.item o.more)) (ds ++ report Twice (o.item ∷ tokens_in o.more) ∷ [])
+        on r = one_second q d n r.place b TOKEN_AT o.item o.more vs ds (sym o.told) o.told r.row r.home r.over
+
+-- a row that is at most one higher is read
+pub row_next : (m : ℕ) → AllRows m → Trees m → {k : SyntaxKind} {d n : ℕ} {x y : Place} {b : Sketch} {us : List Token} {f : Sketch} {es : List Fault}
+    (r : Reads k d n (At x) (At y) b us f es) → height r ≤ suc m → ReadsRow k d n x y b us f es
+row_next m rows trees {k = k} {d = d} {n = n} {x = x} {b = b} {us = us} end h = row_end k d n x b us
+row_next m rows trees {k = q} {d = d} {n = n} {x = x} {y = y} {b = b} {us = us} (leaf {f = f} {es = es} {k = k} {t = t} w v o fo g l c e r) h = on (reaches x k (ap live g ∙ l))
+  where
+    on : Reaches x (go (At x) k) → ReadsRow q d n x y b us (token k t f) es
+    on z =
+        row_on q d n x z.place y b (t ∷ []) us (one_token k t) f [] es
+        (one_leaf q d n x z.place b t (tokens_in f ++ us) k w (subst (λ (vs : List Token). owns x n (t ∷ vs) ≡ true) v o) z.is)
+        (rows q d t.end z.place y (b ⊕ one_token k t) us f es (shift m r (less (height r) m h) (sym g ∙ z.is) c e)) refl
+row_next m rows trees {k = q} {d = d} {n = n} {x = x} {y = y} {b = b} {us = us} {f = f} (lost {y = z} {e = e} {es = es} u v l room r i) h =
+    subst (λ (fs : List Fault). ReadsRow q d n x y b us f fs) (sym i)
+    (row_lost q d n x z y b us f e es u v l room (rows q d n z y b us f es (record { reads = r; short = less (height r) m h })))
+row_next m rows trees {k = q} {d = d} {n = n} {x = x} {y = y} {b = b} {us = us} {es = gs} (wrong {r = s} {c = c} {f = f} {es = es} note ts hc hv o fo w hg he r i) h =
+    on (wrong_one q d n x s b note ts (tokens_in f ++ us) (subst (λ (vs : List Token). owns x n (ts ++ vs) ≡ false) hv o) (subst (λ (vs : List Token). IsWrong note d (At x) s ts vs) hv w))
+  where
+    on : WrongOne q d n x s b note ts (tokens_in f ++ us) → ReadsRow q d n x y b us (fault note c f) gs
+    on z =
+        subst (λ (fs : List Fault). ReadsRow q d n x y b us (fault note c f) fs) (sym i)
+        (subst (λ (v : Sketch). ReadsRow q d n x y b us (fault note v f) (report note ts ∷ es)) (sym hc)
+        (row_on q d n x z.place y b ts us (one_fault note (row_of ts)) f (report note ts ∷ []) es z.one
+        (rows q d (end_from n ts) z.place y (b ⊕ one_fault note (row_of ts)) us f es
+        (shift m r (less (height r) m h) z.is (hg ∙ ap (λ v. b ⊕ one_fault note v) hc) he))
+        (ap (λ v. v ++ tokens_in f) (tokens_in-row_of ts))))
+row_next m rows trees {k = q} {d = d} {n = n} {x = x} {y = y} {b = b} {us = us} {es = gs} (second {m = e'} {s = s} {vs = vs} {c = c} {f = f} {ds = ds} {es = es} v r e over hq hr hg r' i) h =
+    subst (λ (fs : List Fault). ReadsRow q d n x y b us (fault Twice c f) fs) (sym i)
+    (subst (λ (z : Place). ReadsRow q d n z y b us (fault Twice c f) ((ds ++ report Twice (tokens_in c) ∷ []) ++ es)) (sym (same_place x (p.PatternEnd true) hq))
+    (row_on q d n (p.PatternEnd true) p.PatternPast y b (tokens_in c) us (one_fault Twice c) f (ds ++ report Twice (tokens_in c) ∷ []) es
+    (second_one m rows q d n b c (tokens_in f ++ us) ds s
+    (subst (λ (w : List Token). Short m NODE_ERROR d n SecondStart s blank w c ds) v (record { reads = r; short = less_left (height r) (height r') m h }))
+    (subst (λ (w : List Token). IsOver s (end_from n (tokens_in c)) w) v (subst (λ (w : ℕ). IsOver s w vs) e over)))
+    (rows q d (end_from n (tokens_in c)) p.PatternPast y (b ⊕ one_fault Twice c) us f es (shift m r' (less_right (height r) (height r') m h) hr hg e)) refl))
+row_next m rows trees {k = q} {d = d} {n = n} {x = x} {y = y} {b = b} {us = us} {es = gs} (inner {m = e'} {s = s} {vs = vs} {c = c} {f = f} {ds = ds} {es = es} {k = k} v u r e over o room fo op g l hg r' i) h =
+    on (reaches x k (ap live g ∙ l))
+  where
+    on : Reaches x (go (At x) k) → ReadsRow q d n x y b us (branch k c f) gs
+    on z =
+        subst (λ (fs : List Fault). ReadsRow q d n x y b us (branch k c f) fs) (sym i)
+        (row_on q d n x z.place y b (tokens_in c) us (one_branch k c) f (ds ++ repeats k b c) es
+        (inner_one m rows trees q d n x z.place b k c (tokens_in f ++ us) ds s
+        (subst (λ (w : List Token). Short m k (deeper (At x) d) n (start k) s blank w c ds) v (record { reads = r; short = less_left (height r) (height r') m h }))
+        (subst (λ (w : List Token). IsOver s (end_from n (tokens_in c)) w) v (subst (λ (w : ℕ). IsOver s w vs) e over))
+        room (subst (λ (w : List Token). IsOperand (level_in (slot_at x)) (one_branch k c) w) v op)
+        (way_at x z.place n (tokens_in c ++ (tokens_in f ++ us)) k z.is
+        (subst (λ (w : List Token). owns x n (tokens_in c ++ w) ≡ stands_owned_in (slot_at x) k) v (subst (λ (w : List Token). owns x n w ≡ stands_owned_in (slot_at x) k) u o))))
+        (rows q d (end_from n (tokens_in c)) z.place y (b ⊕ one_branch k c) us f es (shift m r' (less_right (height r) (height r') m h) (sym g ∙ z.is) hg e)) refl)
