@@ -77,7 +77,7 @@ impl Parse {
     }
 
     /// The errors, in the order in which they were found. Of what `Root::parse` gave there are none exactly if each node has the shape of its
-    /// kind, and no pattern names an argument twice.
+    /// kind, and no two entries of a pattern have one name.
     pub fn errors(&self) -> &[ParseError]
         ensures { map fault_of result.now ≡ self.now.faults }
     {

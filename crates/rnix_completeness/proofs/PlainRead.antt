@@ -55,7 +55,8 @@ in_path : (x : Place) → slot_at x ≡ s.MorePieces → is_in_path x ≡ true
 in_path p.PathMore e = refl
 in_path _ e = absurd (cc)
 
-inherit_entry : (closer : Closer) (x z : Place) → entries_action closer x z (Some TOKEN_INHERIT) ≡ a.Open NODE_INHERIT p.InheritStart x
+-- `inherit` begins an entry
+pub inherit_entry : (closer : Closer) (x z : Place) → entries_action closer x z (Some TOKEN_INHERIT) ≡ a.Open NODE_INHERIT p.InheritStart x
 inherit_entry c.In x z = refl
 inherit_entry _ x z = refl
 

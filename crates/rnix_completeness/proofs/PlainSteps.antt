@@ -74,7 +74,8 @@ take_closer closer level x y k n h = by (closes closer k) h
     by true e = ap (λ w. a.Take w) (same_place p.Past y e)
     by false e = absurd (not_both k n (expression_node k (fits_expression level k (to_test (fits level k) x y e).0)))
 
-end_entries : (closer : Closer) (x z : Place) (k : SyntaxKind) → closes closer k ≡ true → entries_action closer x z (Some k) ≡ a.Take z
+-- a token that closes is taken behind the entries
+pub end_entries : (closer : Closer) (x z : Place) (k : SyntaxKind) → closes closer k ≡ true → entries_action closer x z (Some k) ≡ a.Take z
 end_entries c.RBrack x z TOKEN_INHERIT h = absurd (true_is_not_false (sym h))
 end_entries c.RBrace x z TOKEN_INHERIT h = absurd (true_is_not_false (sym h))
 end_entries c.InterpolEnd x z TOKEN_INHERIT h = absurd (true_is_not_false (sym h))
@@ -166,7 +167,8 @@ untold_plain TOKEN_IDENT text h = absurd (true_is_not_false h)
 untold_plain TOKEN_CUR_POS text h = absurd (true_is_not_false h)
 untold_plain _ text h = refl
 
-fits_none : (n : ℕ) (k : SyntaxKind) → is_node k ≡ false → fits n k ≡ false
+-- what is no node fits no level
+pub fits_none : (n : ℕ) (k : SyntaxKind) → is_node k ≡ false → fits n k ≡ false
 fits_none n k h = by (fits n k) refl
   where
     by : (w : Bool) → fits n k ≡ w → fits n k ≡ false
@@ -174,7 +176,7 @@ fits_none n k h = by (fits n k) refl
     by false e = e
 
 -- no name stands behind the beginning of a row
-no_names : (x : Place) → (go (At x) TOKEN_IDENT ≡ Nowhere) × (go (At x) TOKEN_CUR_POS ≡ Nowhere)
+pub no_names : (x : Place) → (go (At x) TOKEN_IDENT ≡ Nowhere) × (go (At x) TOKEN_CUR_POS ≡ Nowhere)
 no_names (p.Right level) = (ap (λ w. to w (At (p.Operated level))) (fits_none level TOKEN_IDENT refl), ap (λ w. to w (At (p.Operated level))) (fits_none level TOKEN_CUR_POS refl))
 no_names (p.PatternEnd true) = (refl, refl)
 no_names (p.PatternEnd false) = (refl, refl)
@@ -248,7 +250,7 @@ shut_to x action pattern k d n g F fs rest es r = refl
 shut_to x action (entry e) k d n g F fs rest es r = ap (λ z. machine (put F.place (F.row ⊕ one_branch k g) F ∷ fs) rest n z) (ap (λ z. es ++ z) (r e) ∙ append-nil es)
 
 -- a path's pieces end
-no_piece : (k : SyntaxKind) → is_piece_start k ≡ false → (if is_path_piece k then a.Take p.PathMore else first_piece_action (Some k)) ≡ a.Close
+pub no_piece : (k : SyntaxKind) → is_piece_start k ≡ false → (if is_path_piece k then a.Take p.PathMore else first_piece_action (Some k)) ≡ a.Close
 no_piece TOKEN_INTERPOL_START h = absurd (true_is_not_false h)
 no_piece TOKEN_PATH_ABS h = absurd (true_is_not_false h)
 no_piece TOKEN_PATH_REL h = absurd (true_is_not_false h)

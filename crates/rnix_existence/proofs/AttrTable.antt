@@ -11,16 +11,16 @@ use Rattle.rnix_grammar.specs.declared.until.Until.TheVariants as u
 use Rattle.rnix_grammar.specs.declared.action.Action.TheVariants as a
 use Rattle.rnix_grammar.specs.Fault.{Fault}
 use Rattle.rnix_grammar.specs.Tables.{is_wanted}
-use Rattle.rnix_grammar.specs.Slots.{level_in}
+use Rattle.rnix_grammar.specs.Slots.{level_in, is_counted}
 use Rattle.rnix_grammar.specs.Actions.{attr_action, names_action, source_action, more_attrs_action, name_action}
 use Rattle.rnix_grammar.specs.TokenKinds.{is_l_paren}
 use Rattle.rnix_grammar.specs.Sketch.{Token, Sketch, head_kind}
 use Rattle.rnix_grammar.specs.Machine.{Frame}
 use Rattle.rnix_grammar.specs.Missing.{run_in}
-use Rattle.rnix_grammar.specs.Slots.{is_counted}
-use Rattle.rnix_grammar.specs.Rows.{At, is_attr, go_names, go_source, go_slot, start, to}
+use Rattle.rnix_grammar.specs.Rows.{At, is_attr, go_slot, to}
 use Rattle.rnix_grammar.specs.OwnItems.{owns, owns_in, owns_end, stands_owned_in, begins_attr}
-use Rattle.rnix_existence.proofs.Ends.{closing, EndsBy}
+use Rattle.rnix_invariants.proofs.NodeStep.{attr_source, attr_names}
+use Rattle.rnix_existence.proofs.OpenFrames.{closing, EndsBy}
 use Rattle.rnix_existence.proofs.NodeOpens as opening
 use Rattle.rnix_existence.proofs.SlotSteps.{Known, takes, misses, misses_wanted, runs, names, opens, begins, over, over_end}
 
@@ -64,14 +64,6 @@ at_attr f fs (t ∷ ts) n gs y w =
       goes = λ k h. ap (λ z. to z (At y)) h;
       runs = refl;
     }) refl
-
-attr_names : (k : SyntaxKind) → is_attr k ≡ true → go_names k ≡ At p.InheritNames
-attr_names NODE_IDENT h = refl
-attr_names _ h = cc
-
-attr_source : (k : SyntaxKind) → is_attr k ≡ true → go_source k ≡ At p.InheritNames
-attr_source NODE_IDENT h = refl
-attr_source _ h = cc
 
 or_true : (b : Bool) → (b || true) ≡ true
 or_true true = refl

@@ -1,5 +1,5 @@
 -- Each way in which an operand begins leads to a whole operand.
-use Rattle.std.proofs.Common.{◌≡◌, ℕ, true, false, List, [], ◌∷◌, ◌++◌, Some, None, refl, ap, sym, ◌∙◌, subst, append_assoc, append-nil}
+use Rattle.std.proofs.Common.{◌≡◌, ℕ, true, false, List, [], ◌∷◌, ◌++◌, refl, ap, sym, ◌∙◌, subst, append_assoc, append-nil}
 use Rattle.rnix_kinds.specs.declared.kinds.SyntaxKind.{SyntaxKind}
 use Rattle.rnix_kinds.specs.declared.kinds.SyntaxKind.TheVariants.{TOKEN_LET, TOKEN_L_BRACE, TOKEN_IDENT, TOKEN_AT, NODE_IDENT, NODE_IDENT_PARAM, NODE_LAMBDA, NODE_LEGACY_LET, NODE_PATTERN, NODE_PAT_BIND}
 use Rattle.rnix_grammar.specs.declared.place.Place.{Place}
@@ -7,10 +7,9 @@ use Rattle.rnix_grammar.specs.declared.place.Place.TheVariants as p
 use Rattle.rnix_grammar.specs.declared.begin.Begin.{Begin}
 use Rattle.rnix_grammar.specs.declared.begin.Begin.TheVariants as b
 use Rattle.rnix_grammar.specs.Fault.{Fault}
-use Rattle.rnix_grammar.specs.Begins.{begin_of}
+use Rattle.rnix_grammar.specs.Begins.{begin_of, second_kind}
 use Rattle.rnix_grammar.specs.Sketch.{Token, Stray, Sketch, blank, ◌⊕◌, one_token, one_branch, one_fault, tokens_in, told, told_as, head_kind, end_from}
 use Rattle.rnix_grammar.specs.Machine.{Node, Operand, Frame, put, opened, begun}
-use Rattle.rnix_grammar.specs.Begins.{second_kind}
 use Rattle.rnix_grammar.specs.Reports.{report}
 use Rattle.rnix_grammar.specs.Rows.{fits, Spot, Start, BeforeAt, BeforeBrace, At, go, start}
 use Rattle.rnix_grammar.specs.Operands.{kind_of, IsBegun}
@@ -18,11 +17,12 @@ use Rattle.rnix_grammar.specs.Reads.{Reads, end, leaf, inner}
 use Rattle.rnix_lemmas.proofs.Basics.{true_is_not_false, some_same}
 use Rattle.rnix_lemmas.proofs.SketchLemmas.{tokens_two}
 use Rattle.rnix_lemmas.proofs.LevelLemmas.{atom_fits}
+use Rattle.rnix_lemmas.proofs.FollowLemmas.{Stops, stops_all, stops_at, followed_loose}
 use Rattle.rnix_invariants.proofs.BeginLemmas.{BeginsAs}
 use Rattle.rnix_invariants.proofs.CloseSteps.{fit_new}
-use Rattle.rnix_existence.proofs.Ends.{a_node, an_error, Stops, Ends}
-use Rattle.rnix_existence.proofs.Prepended.{end_two}
-use Rattle.rnix_existence.proofs.OperandLevels.{stops_all, stops_none}
+use Rattle.rnix_invariants.proofs.BeginSteps.{none_some}
+use Rattle.rnix_existence.proofs.OpenFrames.{a_node, an_error, Ends}
+use Rattle.rnix_existence.proofs.RowFronts.{end_two}
 use Rattle.rnix_existence.proofs.OperandTrees.{past_over}
 use Rattle.rnix_existence.proofs.OperandEnds.{OpenEnds, open_ends}
 use Rattle.rnix_existence.proofs.OperandWraps.{alone_tokens}
@@ -70,9 +70,6 @@ pattern_ends level d z x g fs ts us n m row es gs items reach reads begun ends =
     last : o.reached ≡ end_from n (tokens_in (x ⊕ o.rest))
     last = o.reach ∙ ap (λ j. end_from j (tokens_in o.rest)) reach ∙ sym (end_two n x o.rest)
 
-none_some : {k : SyntaxKind} → None ≡ Some k → ⊥
-none_some e = cc
-
 -- `let {`
 legacy : (level d : ℕ) (t u : Token) (us : List Token) (g : Frame) (fs : List Frame) (n : ℕ) (gs : List Fault) (row : Sketch) (es : List Fault) → t.kind ≡ TOKEN_LET → u.kind ≡ TOKEN_L_BRACE → level ≡ 0
     → ((x : Sketch) → IsBegun level (one_branch NODE_LEGACY_LET x) (t ∷ (u ∷ us)))
@@ -82,7 +79,7 @@ legacy level d t u us g fs n gs row es e h l w ends =
     (subst (λ (v : ℕ). fits v NODE_LEGACY_LET ≡ true) (sym l) refl) refl refl
     (λ left s rest ds v z. first_leaf NODE_LEGACY_LET t refl (ap (λ k. go (Start NODE_LEGACY_LET) (told_as NODE_LEGACY_LET k)) e) refl
     (leaf refl refl tt tt (ap (λ k. go BeforeBrace (told_as NODE_LEGACY_LET k)) h) refl refl refl z))
-    (λ rest. stops_none (one_branch NODE_LEGACY_LET ((one_token (told NODE_LEGACY_LET t) t ⊕ one_token (told NODE_LEGACY_LET u) u) ⊕ rest)) refl refl)
+    (λ rest. stops_at 0 (one_branch NODE_LEGACY_LET ((one_token (told NODE_LEGACY_LET t) t ⊕ one_token (told NODE_LEGACY_LET u) u) ⊕ rest)) (followed_loose (one_branch NODE_LEGACY_LET ((one_token (told NODE_LEGACY_LET t) t ⊕ one_token (told NODE_LEGACY_LET u) u) ⊕ rest)) refl refl))
     (λ rest. w ((one_token (told NODE_LEGACY_LET t) t ⊕ one_token (told NODE_LEGACY_LET u) u) ⊕ rest)) ends refl
 
 -- `name:`

@@ -10,12 +10,12 @@ use Rattle.rnix_grammar.specs.TreeLevels.{is_or_row}
 use Rattle.rnix_grammar.specs.OwnItems.{IsOwned}
 use Rattle.rnix_grammar.specs.Operands.{first_tree, IsFollowed, IsBegun, IsOperand}
 use Rattle.rnix_grammar.specs.Reads.{Reads, end, leaf}
-use Rattle.rnix_existence.proofs.Ends.{seen_kind, Lone, a_node, Stops, Ends}
+use Rattle.rnix_lemmas.proofs.FollowLemmas.{Stops}
+use Rattle.rnix_existence.proofs.OpenFrames.{seen_kind, Lone, a_node, Ends}
 use Rattle.rnix_existence.proofs.OperandTrees.{past_over}
 use Rattle.rnix_existence.proofs.OperandEnds.{OperandEnds, operand_ends}
 
--- A whole operand of a level above a frame that waits for it, inside so many counted places, and what comes behind it: gs are the errors before
--- it, and hs all errors.
+-- a whole operand of a level above a frame that waits for it, and what comes behind it: gs are the errors before it, and hs all errors
 pub record BeginEnds (level d : ℕ) (g : Frame) (fs : List Frame) (ts : List Token) (n : ℕ) (row : Sketch) (gs hs : List Fault) : Type 0 where
   pub left : List Token
   pub reached : ℕ

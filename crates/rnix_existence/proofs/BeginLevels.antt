@@ -1,5 +1,5 @@
 -- How an operand begins: its first tree, and what may go on with it.
-use Rattle.std.proofs.Common.{◌≡◌, ℕ, Bool, true, false, List, Option, Some, refl, sym, subst, arith}
+use Rattle.std.proofs.Common.{◌≡◌, ℕ, Bool, true, false, List, Option, Some, refl, sym, subst}
 use Rattle.std.specs.Prelude.{if◌then◌else◌, nat_eq, nat_le}
 use Rattle.rnix_kinds.specs.declared.kinds.SyntaxKind.{SyntaxKind}
 use Rattle.rnix_kinds.specs.declared.kinds.SyntaxKind.TheVariants.{TOKEN_L_PAREN, TOKEN_L_BRACK, TOKEN_REC, TOKEN_STRING_START, TOKEN_PATH_ABS, TOKEN_PATH_REL, TOKEN_PATH_HOME, TOKEN_PATH_SEARCH, TOKEN_FLOAT, TOKEN_INTEGER, TOKEN_URI, TOKEN_IDENT, TOKEN_CUR_POS, TOKEN_L_BRACE, TOKEN_COLON, TOKEN_AT, TOKEN_LET, TOKEN_WITH, TOKEN_ASSERT, TOKEN_IF, TOKEN_INVERT, TOKEN_SUB, NODE_ATTR_SET, NODE_IDENT, NODE_CUR_POS, NODE_LET_IN, NODE_WITH, NODE_ASSERT, NODE_IF_ELSE, NODE_UNARY_OP, NODE_ROOT, NODE_ATTRPATH, NODE_ATTRPATH_VALUE}
@@ -9,23 +9,11 @@ use Rattle.rnix_grammar.specs.declared.begin.Begin.TheVariants as b
 use Rattle.rnix_grammar.specs.Begins.{is_pattern, begin_name, begin_let, begin_of}
 use Rattle.rnix_grammar.specs.Tables.{is_cur_pos}
 use Rattle.rnix_grammar.specs.Sketch.{Token, Sketch, token, one_branch, told_as}
-use Rattle.rnix_grammar.specs.Rows.{is_negated, is_simple, is_questioned, is_operand, is_expression, fits, Start, start}
+use Rattle.rnix_grammar.specs.Rows.{is_expression, fits, Start, start}
 use Rattle.rnix_grammar.specs.Operands.{first_tree}
 use Rattle.rnix_lemmas.proofs.Basics.{true_is_not_false}
-use Rattle.rnix_lemmas.proofs.LevelLemmas.{operand_expression, questioned_operand, negated_questioned, simple_negated}
-use Rattle.rnix_existence.proofs.Ends.{Stops}
-use Rattle.rnix_existence.proofs.OperandLevels.{stops_all, stops_questioned, stops_inverted, stops_none}
-
--- what may stand as an operand of a level is an expression
-pub fits_expression : (n : ℕ) (k : SyntaxKind) → fits n k ≡ true → is_expression k ≡ true
-fits_expression n k h = by (nat_eq n 0) (nat_le n 12) (nat_eq n 13) (nat_eq n 14) h
-  where
-    by : (u v w x : Bool) → (if u then is_expression k else (if v then is_operand k else (if w then is_questioned k else (if x then is_negated k else is_simple k)))) ≡ true → is_expression k ≡ true
-    by true v w x e = e
-    by false true w x e = operand_expression k e
-    by false false true x e = operand_expression k (questioned_operand k e)
-    by false false false true e = operand_expression k (questioned_operand k (negated_questioned k e))
-    by false false false false e = operand_expression k (questioned_operand k (negated_questioned k (simple_negated k e)))
+use Rattle.rnix_lemmas.proofs.FollowLemmas.{Stops, stops_all, stops_at, followed_negated, followed_inverted, followed_loose}
+use Rattle.rnix_lemmas.proofs.NodeKinds.{fits_expression}
 
 expression_starts : (k : SyntaxKind) → is_expression k ≡ true → start k ≡ Start k
 expression_starts NODE_ROOT h = absurd (true_is_not_false (sym h))
@@ -66,31 +54,31 @@ brace_begins true = tt
 brace_begins false = atom NODE_ATTR_SET TOKEN_L_BRACE (λ j t r. refl)
 
 invert_begins : (w : Bool) → BeginsTree (if w then b.Node NODE_UNARY_OP p.Inverted 8 else b.Stray) TOKEN_INVERT
-invert_begins true = record { first = λ j t r. refl; stops = λ t r. stops_inverted (one_branch NODE_UNARY_OP (token TOKEN_INVERT t r)) refl refl }
+invert_begins true = record { first = λ j t r. refl; stops = λ t r. stops_at 8 (one_branch NODE_UNARY_OP (token TOKEN_INVERT t r)) (followed_inverted (one_branch NODE_UNARY_OP (token TOKEN_INVERT t r)) refl refl) }
 invert_begins false = tt
 
 negate_begins : (w : Bool) → BeginsTree (if w then b.Node NODE_UNARY_OP p.Negated 13 else b.Stray) TOKEN_SUB
-negate_begins true = record { first = λ j t r. refl; stops = λ t r. stops_questioned (one_branch NODE_UNARY_OP (token TOKEN_SUB t r)) refl (omega arith) }
+negate_begins true = record { first = λ j t r. refl; stops = λ t r. stops_at 13 (one_branch NODE_UNARY_OP (token TOKEN_SUB t r)) (followed_negated (one_branch NODE_UNARY_OP (token TOKEN_SUB t r)) refl refl) }
 negate_begins false = tt
 
 let_begins : (second : Option SyntaxKind) → BeginsTree (begin_let second) TOKEN_LET
 let_begins (Some TOKEN_L_BRACE) = tt
-let_begins second = record { first = λ j t r. refl; stops = λ t r. stops_none (one_branch NODE_LET_IN (token TOKEN_LET t r)) refl refl }
+let_begins second = record { first = λ j t r. refl; stops = λ t r. stops_at 0 (one_branch NODE_LET_IN (token TOKEN_LET t r)) (followed_loose (one_branch NODE_LET_IN (token TOKEN_LET t r)) refl refl) }
 
 let_begins_if : (w : Bool) (second : Option SyntaxKind) → BeginsTree (if w then begin_let second else b.Stray) TOKEN_LET
 let_begins_if true second = let_begins second
 let_begins_if false second = tt
 
 with_begins : (w : Bool) → BeginsTree (if w then b.Node NODE_WITH p.WithScope 0 else b.Stray) TOKEN_WITH
-with_begins true = record { first = λ j t r. refl; stops = λ t r. stops_none (one_branch NODE_WITH (token TOKEN_WITH t r)) refl refl }
+with_begins true = record { first = λ j t r. refl; stops = λ t r. stops_at 0 (one_branch NODE_WITH (token TOKEN_WITH t r)) (followed_loose (one_branch NODE_WITH (token TOKEN_WITH t r)) refl refl) }
 with_begins false = tt
 
 assert_begins : (w : Bool) → BeginsTree (if w then b.Node NODE_ASSERT p.AssertCondition 0 else b.Stray) TOKEN_ASSERT
-assert_begins true = record { first = λ j t r. refl; stops = λ t r. stops_none (one_branch NODE_ASSERT (token TOKEN_ASSERT t r)) refl refl }
+assert_begins true = record { first = λ j t r. refl; stops = λ t r. stops_at 0 (one_branch NODE_ASSERT (token TOKEN_ASSERT t r)) (followed_loose (one_branch NODE_ASSERT (token TOKEN_ASSERT t r)) refl refl) }
 assert_begins false = tt
 
 if_begins : (w : Bool) → BeginsTree (if w then b.Node NODE_IF_ELSE p.IfCondition 0 else b.Stray) TOKEN_IF
-if_begins true = record { first = λ j t r. refl; stops = λ t r. stops_none (one_branch NODE_IF_ELSE (token TOKEN_IF t r)) refl refl }
+if_begins true = record { first = λ j t r. refl; stops = λ t r. stops_at 0 (one_branch NODE_IF_ELSE (token TOKEN_IF t r)) (followed_loose (one_branch NODE_IF_ELSE (token TOKEN_IF t r)) refl refl) }
 if_begins false = tt
 
 begins_tree : (level : ℕ) (kind : SyntaxKind) (text : List ℕ) (second third : Option SyntaxKind) → BeginsTree (begin_of level kind text second third) kind

@@ -12,27 +12,26 @@ use Rattle.rnix_grammar.specs.declared.until.Closer.TheVariants as c
 use Rattle.rnix_grammar.specs.declared.slot.Slot.TheVariants as s
 use Rattle.rnix_grammar.specs.declared.action.Action.TheVariants as a
 use Rattle.rnix_grammar.specs.Fault.{Fault, ended, too_deep}
-use Rattle.rnix_grammar.specs.Slots.{slot_at, level_in}
+use Rattle.rnix_grammar.specs.Slots.{slot_at, level_in, is_counted}
 use Rattle.rnix_grammar.specs.Tables.{closes, depth_limit}
-use Rattle.rnix_grammar.specs.Begins.{begin_of}
+use Rattle.rnix_grammar.specs.Begins.{begin_of, second_kind}
 use Rattle.rnix_grammar.specs.Sketch.{Token, TooDeep, Sketch, blank, ◌⊕◌, one_fault, row_of, tokens_in, head_kind, end_from}
 use Rattle.rnix_grammar.specs.Machine.{Machine, Frame, kind_of, put, operand_on, limited}
-use Rattle.rnix_grammar.specs.Begins.{second_kind}
-use Rattle.rnix_grammar.specs.Rows.{is_expression, fits, At, to, go_slot}
+use Rattle.rnix_grammar.specs.Rows.{is_expression, fits, At, to, go_slot, counts}
 use Rattle.rnix_grammar.specs.Missing.{lack, lack_in}
-use Rattle.rnix_grammar.specs.Rows.{counts}
-use Rattle.rnix_grammar.specs.Slots.{is_counted}
 use Rattle.rnix_grammar.specs.OwnItems.{owns, owns_in, owns_end, stands_owned_in}
 use Rattle.rnix_grammar.specs.Reads.{Reads, lost, wrong, IsRoom, deeper}
 use Rattle.rnix_lemmas.proofs.Basics.{true_is_not_false, not_nil, not_if, none_left, none_right}
 use Rattle.rnix_lemmas.proofs.SketchLemmas.{⊕-blank, tokens_in-row_of}
 use Rattle.rnix_lemmas.proofs.LevelLemmas.{atom_fits}
 use Rattle.rnix_lemmas.proofs.RunLemmas.{dropped_all}
+use Rattle.rnix_lemmas.proofs.NodeKinds.{fits_expression}
+use Rattle.rnix_lemmas.proofs.OpenHeads.{is_open}
 use Rattle.rnix_invariants.proofs.BeginLemmas.{begun_as}
-use Rattle.rnix_existence.proofs.Ends.{Lone, is_open, Ends, EndsBy}
-use Rattle.rnix_existence.proofs.Prepended.{prepended}
+use Rattle.rnix_existence.proofs.OpenFrames.{Lone, Ends, EndsBy}
+use Rattle.rnix_existence.proofs.RowFronts.{prepended}
 use Rattle.rnix_existence.proofs.OperandTrees.{Takes, placed}
-use Rattle.rnix_existence.proofs.BeginLevels.{fits_expression, begun_tree}
+use Rattle.rnix_existence.proofs.BeginLevels.{begun_tree}
 use Rattle.rnix_existence.proofs.BeginEnds.{BeginEnds}
 use Rattle.rnix_existence.proofs.BeginCases.{begun_ends}
 

@@ -7,21 +7,21 @@ use Rattle.rnix_grammar.specs.declared.slot.Slot.{Slot}
 use Rattle.rnix_grammar.specs.declared.slot.Slot.TheVariants as s
 use Rattle.rnix_grammar.specs.declared.action.Action.TheVariants as a
 use Rattle.rnix_grammar.specs.Fault.{Fault}
-use Rattle.rnix_grammar.specs.Tables.{closes, depth_limit}
+use Rattle.rnix_grammar.specs.Tables.{depth_limit}
 use Rattle.rnix_grammar.specs.Slots.{slot_at}
 use Rattle.rnix_grammar.specs.Actions.{action_at, done_at}
-use Rattle.rnix_grammar.specs.Sketch.{Token, Sketch, told, head_kind}
+use Rattle.rnix_grammar.specs.Sketch.{Token, Sketch, told, head_kind, touches}
 use Rattle.rnix_grammar.specs.Machine.{Node, Second, Frame, kind_of}
-use Rattle.rnix_grammar.specs.Sketch.{touches}
 use Rattle.rnix_grammar.specs.Reports.{repeats}
 use Rattle.rnix_lemmas.proofs.Basics.{true_is_not_false}
 use Rattle.rnix_lemmas.proofs.NodeKinds.{is_error}
 use Rattle.rnix_lemmas.proofs.Places.{home, IsIn}
 use Rattle.rnix_lemmas.proofs.PlaceTables.{done_home, entry_home, default_home, pattern_home, attrs_home, or_home, first_home, more_home, twice_home, bind_is, more_is}
+use Rattle.rnix_lemmas.proofs.OpenHeads.{is_open}
 use Rattle.rnix_invariants.proofs.Reading.{AtNode, AtSecond}
 use Rattle.rnix_invariants.proofs.CloseSteps.{other_new}
 use Rattle.rnix_invariants.proofs.NodeSlots.{same_kinds}
-use Rattle.rnix_existence.proofs.Ends.{is_open, closing, Ends, root_frame, EndsBy}
+use Rattle.rnix_existence.proofs.OpenFrames.{closing, Ends, root_frame, EndsBy}
 use Rattle.rnix_existence.proofs.BeginReads.{read_ends, series_ends}
 use Rattle.rnix_existence.proofs.NodeOpens as opening
 use Rattle.rnix_existence.proofs.SlotSteps.{Known, known_node, over_all, silent}

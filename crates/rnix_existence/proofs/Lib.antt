@@ -1,12 +1,11 @@
-pub mod Ends
-pub mod Prepended
+pub mod OpenFrames
+pub mod RowFronts
 pub mod RowSteps
 pub mod NodeOpens
 pub mod SlotSteps
 pub mod SlotTable
 pub mod AttrTable
 pub mod PatternTable
-pub mod OperandLevels
 pub mod OperandTrees
 pub mod OperandEnds
 pub mod OperandWraps

@@ -9,18 +9,17 @@ use Rattle.rnix_grammar.specs.declared.action.Action.TheVariants as a
 use Rattle.rnix_grammar.specs.Fault.{Fault}
 use Rattle.rnix_grammar.specs.Slots.{slot_at, level_in}
 use Rattle.rnix_grammar.specs.Sketch.{Token, Twice, Sketch, blank, token, ◌⊕◌, one_token, one_branch, one_fault, tokens_in, told, told_as, end_from}
-use Rattle.rnix_grammar.specs.Reports.{report, repeated}
+use Rattle.rnix_grammar.specs.Reports.{report, repeated, repeats}
 use Rattle.rnix_grammar.specs.Machine.{Head, Node, Second, Frame, opened, put, made, closed}
-use Rattle.rnix_grammar.specs.Rows.{Spot, Start, SecondStart, At, go, first, start}
-use Rattle.rnix_grammar.specs.Rows.{counts}
-use Rattle.rnix_grammar.specs.Reports.{repeats}
+use Rattle.rnix_grammar.specs.Rows.{Spot, Start, SecondStart, At, go, first, start, counts}
 use Rattle.rnix_grammar.specs.Operands.{IsOperand}
 use Rattle.rnix_grammar.specs.OwnItems.{owns, stands_owned_in}
 use Rattle.rnix_grammar.specs.Reads.{Reads, IsOver, end, leaf, second, inner}
 use Rattle.rnix_lemmas.proofs.Basics.{true_is_not_false}
 use Rattle.rnix_lemmas.proofs.SketchLemmas.{⊕-blank, tokens_two}
-use Rattle.rnix_existence.proofs.Ends.{is_open, closing, Ends, open_frame, EndsBy}
-use Rattle.rnix_existence.proofs.Prepended.{end_two, prepended}
+use Rattle.rnix_lemmas.proofs.OpenHeads.{is_open}
+use Rattle.rnix_existence.proofs.OpenFrames.{closing, Ends, open_frame, EndsBy}
+use Rattle.rnix_existence.proofs.RowFronts.{end_two, prepended}
 use Rattle.rnix_existence.proofs.OperandEnds.{OpenEnds, open_ends}
 use Rattle.rnix_existence.proofs.RowSteps.{past_over}
 
@@ -48,27 +47,42 @@ opens_by f fs ts us n m row es k z y x o e l reads c v w g ends = by (open_ends 
 pub opens : (f : Frame) (fs : List Frame) (t : Token) (ts : List Token) (n : ℕ) (gs : List Fault) (k : SyntaxKind) (z y : Place)
     → is_open f.head ≡ true → start k ≡ Start k → go (Start k) (told k t) ≡ At z → counts (At f.place) ≡ false → level_in (slot_at f.place) ≡ None
     → owns f.place n (t ∷ ts) ≡ stands_owned_in (slot_at f.place) k → go (At f.place) k ≡ At y → EndsBy (a.Open k z y) f fs (t ∷ ts) n gs
-opens f fs t ts n gs k z y o e i c v w g row es ends =
-    (es, (opens_by f fs (t ∷ ts) ts n t.end row es k z y (one_token (told k t) t) o refl refl
-    (λ vs s r cs h q. subst (λ (x : Spot). Reads k f.depth n x s blank vs (token (told k t) t r) cs) (sym e) (leaf refl h tt tt i refl refl refl q)) c v w g ends, refl))
+opens f fs t ts n gs k z y o e i c v w g row es ends = (
+  es,
+  (
+    opens_by f fs (t ∷ ts) ts n t.end row es k z y (one_token (told k t) t) o refl refl
+        (λ vs s r cs h q. subst (λ (x : Spot). Reads k f.depth n x s blank vs (token (told k t) t r) cs) (sym e) (leaf refl h tt tt i refl refl refl q)) c v w g ends,
+    refl,
+  ),
+)
 
 -- a node begins with nothing read
 pub begins_node : (f : Frame) (fs : List Frame) (ts : List Token) (n : ℕ) (gs : List Fault) (k : SyntaxKind) (z y : Place)
     → is_open f.head ≡ true → start k ≡ At z → counts (At f.place) ≡ false → level_in (slot_at f.place) ≡ None
     → owns f.place n ts ≡ stands_owned_in (slot_at f.place) k → go (At f.place) k ≡ At y → EndsBy (a.Begin k z y) f fs ts n gs
-begins_node f fs ts n gs k z y o i c v w g row es ends =
-    (es, (opens_by f fs ts ts n n row es k z y blank o refl refl
-    (λ vs s r cs h q. subst (λ (x : Spot). Reads k f.depth n x s blank vs r cs) (sym i) q) c v w g ends, refl))
+begins_node f fs ts n gs k z y o i c v w g row es ends = (
+  es,
+  (
+    opens_by f fs ts ts n n row es k z y blank o refl refl
+        (λ vs s r cs h q. subst (λ (x : Spot). Reads k f.depth n x s blank vs r cs) (sym i) q) c v w g ends,
+    refl,
+  ),
+)
 
 -- an entry of a pattern begins with its name
 pub begins_entry : (f : Frame) (fs : List Frame) (t : Token) (ts : List Token) (n : ℕ) (gs : List Fault) (y : Place)
     → is_open f.head ≡ true → t.kind ≡ TOKEN_IDENT → counts (At f.place) ≡ false → level_in (slot_at f.place) ≡ None
     → owns f.place n (t ∷ ts) ≡ stands_owned_in (slot_at f.place) NODE_PAT_ENTRY → go (At f.place) NODE_PAT_ENTRY ≡ At y → EndsBy (a.Entry y) f fs (t ∷ ts) n gs
 begins_entry f fs t ts n gs y o i c v w g row es ends =
-    let x : Sketch = one_branch NODE_IDENT (one_token (told NODE_IDENT t) t) in
-    (es, (opens_by f fs (t ∷ ts) ts n t.end row es NODE_PAT_ENTRY p.EntryMore y x o refl refl
-    (λ vs s r cs h q. inner h refl (leaf refl refl tt tt (ap (λ z. first NODE_IDENT (told_as NODE_IDENT z)) i) refl refl refl end) refl (refl, past_over t.end ts) tt
-    (λ z. absurd (true_is_not_false (sym z))) tt tt refl refl refl q refl) c v w g ends, refl))
+    let x : Sketch = one_branch NODE_IDENT (one_token (told NODE_IDENT t) t) in (
+      es,
+      (
+        opens_by f fs (t ∷ ts) ts n t.end row es NODE_PAT_ENTRY p.EntryMore y x o refl refl
+            (λ vs s r cs h q. inner h refl (leaf refl refl tt tt (ap (λ z. first NODE_IDENT (told_as NODE_IDENT z)) i) refl refl refl end) refl (refl, past_over t.end ts) tt
+            (λ z. absurd (true_is_not_false (sym z))) tt tt refl refl refl q refl) c v w g ends,
+        refl,
+      ),
+    )
 
 -- a second name begins with `@`
 pub begins_second : (f : Frame) (fs : List Frame) (t : Token) (ts : List Token) (n : ℕ) (gs : List Fault)
@@ -110,17 +124,24 @@ closes f (g ∷ fs) ts n gs o w e row es ends =
 pub closes_entry : (f : Frame) (fs : List Frame) (ts : List Token) (n : ℕ) (gs : List Fault)
     → f.head ≡ Node NODE_PAT_ENTRY → IsOver (At f.place) n ts → EndsBy a.CloseEntry f fs ts n gs
 closes_entry f [] ts n gs h w row es ends = (es, (ends, refl))
-closes_entry f (g ∷ fs) ts n gs h w row es ends =
-    (repeated g.row f.row ++ es, (subst (λ (z : Head). Ends (f ∷ (g ∷ fs)) ts n row (closing z g.row f.row ++ es)) h (closes_by f g fs ts n row es (ap is_open h) w ends),
-    sym (append_assoc gs (repeated g.row f.row) es)))
+closes_entry f (g ∷ fs) ts n gs h w row es ends = (
+  repeated g.row f.row ++ es,
+  (
+    subst (λ (z : Head). Ends (f ∷ (g ∷ fs)) ts n row (closing z g.row f.row ++ es)) h (closes_by f g fs ts n row es (ap is_open h) w ends),
+    sym (append_assoc gs (repeated g.row f.row) es),
+  ),
+)
 
 -- a second name is complete
 pub closes_twice : (f g : Frame) (fs : List Frame) (ts : List Token) (n : ℕ) (gs : List Fault)
     → f.head ≡ Second → IsOver (At f.place) n ts → EndsBy a.CloseTwice f (g ∷ fs) ts n gs
-closes_twice f g fs ts n gs h w row es ends =
-    (report Twice (tokens_in f.row) ∷ es,
-    (subst (λ (z : Head). Ends (f ∷ (g ∷ fs)) ts n row (closing z g.row f.row ++ es)) h (closes_by f g fs ts n row es (ap is_open h) w ends),
-    sym (append_assoc gs (report Twice (tokens_in f.row) ∷ []) es)))
+closes_twice f g fs ts n gs h w row es ends = (
+  report Twice (tokens_in f.row) ∷ es,
+  (
+    subst (λ (z : Head). Ends (f ∷ (g ∷ fs)) ts n row (closing z g.row f.row ++ es)) h (closes_by f g fs ts n row es (ap is_open h) w ends),
+    sym (append_assoc gs (report Twice (tokens_in f.row) ∷ []) es),
+  ),
+)
 
 -- nothing is done
 pub stays : (f : Frame) (fs : List Frame) (ts : List Token) (n : ℕ) (gs : List Fault) → EndsBy a.Finish f fs ts n gs

@@ -8,7 +8,9 @@ use Rattle.rnix_grammar.specs.Rows.{Spot, At}
 use Rattle.rnix_grammar.specs.Operands.{first_tree}
 use Rattle.rnix_grammar.specs.Reads.{Reads, IsOver}
 use Rattle.rnix_lemmas.proofs.Basics.{true_is_not_false}
-use Rattle.rnix_existence.proofs.Ends.{Lone, Stops, Grows, is_open, closing, Ends, root_frame, open_frame, operand_frame}
+use Rattle.rnix_lemmas.proofs.FollowLemmas.{Stops}
+use Rattle.rnix_lemmas.proofs.OpenHeads.{is_open}
+use Rattle.rnix_existence.proofs.OpenFrames.{Lone, Grows, closing, Ends, root_frame, open_frame, operand_frame}
 
 -- what is still to come of an open frame above another
 pub record OpenEnds (f g : Frame) (fs : List Frame) (ts : List Token) (n : ℕ) (row : Sketch) (gs : List Fault) : Type 0 where

@@ -1,7 +1,6 @@
 -- What goes on with an operand follows its tree, and where nothing does the operand is whole.
-use Rattle.std.proofs.Common.{◌≡◌, ℕ, ◌≤◌, Bool, true, false, List, [], ◌∷◌, Option, Some, None, refl, ap, sym, ◌∙◌, subst, append-nil, arith}
+use Rattle.std.proofs.Common.{◌≡◌, ℕ, ◌≤◌, Bool, true, false, List, [], ◌∷◌, Option, Some, refl, ap, sym, ◌∙◌, subst, append-nil, arith}
 use Rattle.std.specs.Prelude.{◌||◌, ◌&&◌, if◌then◌else◌, nat_eq, nat_le}
-use Rattle.std.proofs.lemmas.Bool.{and_parts}
 use Rattle.std.proofs.lemmas.Bool.Decides.{nat_tests}
 use Rattle.rnix_kinds.proofs.AllKinds.{implied}
 use Rattle.rnix_kinds.specs.declared.kinds.SyntaxKind.{SyntaxKind}
@@ -9,47 +8,24 @@ use Rattle.rnix_kinds.specs.declared.kinds.SyntaxKind.TheVariants.{TOKEN_DOT, TO
 use Rattle.rnix_kinds.specs.SyntaxKind.{is_fn_arg}
 use Rattle.rnix_grammar.specs.Levels.{power, left_of}
 use Rattle.rnix_grammar.specs.Actions as a
-use Rattle.rnix_grammar.specs.TokenKinds.{is_or}
+use Rattle.rnix_grammar.specs.TokenKinds.{is_or, is_question, is_dot}
 use Rattle.rnix_grammar.specs.Sketch.{Token, Sketch, head_kind}
-use Rattle.rnix_grammar.specs.Rows.{is_atom, is_infix, fits}
+use Rattle.rnix_grammar.specs.Rows.{is_infix, fits}
 use Rattle.rnix_grammar.specs.Stands.{last_from}
-use Rattle.rnix_grammar.specs.TokenKinds.{is_question, is_dot}
 use Rattle.rnix_grammar.specs.TreeLevels.{row_level, is_or_row, is_atom_row}
 use Rattle.rnix_grammar.specs.Operands.{follows, goes_on}
-use Rattle.rnix_lemmas.proofs.Basics.{true_is_not_false, some_same}
-use Rattle.rnix_lemmas.proofs.LevelLemmas.{atom_fits}
-use Rattle.rnix_invariants.proofs.Reading.{IsSingle}
-use Rattle.rnix_invariants.proofs.Reading as i
-use Rattle.rnix_existence.proofs.Ends.{seen_kind, Lone, Stops, Grows}
-use Rattle.rnix_existence.proofs.OperandLevels.{follows_power}
+use Rattle.rnix_lemmas.proofs.Basics.{true_is_not_false}
+use Rattle.rnix_lemmas.proofs.LevelLemmas.{atom_fits, at_most_true}
+use Rattle.rnix_lemmas.proofs.FollowLemmas.{Stops, follows_power}
+use Rattle.rnix_lemmas.proofs.FirstTrees.{IsSingle}
+use Rattle.rnix_existence.proofs.OpenFrames.{seen_kind, Lone, Grows}
 use Rattle.rnix_existence.proofs.OperandWraps.{seen_any}
-
--- what a test of levels tells
-pub record Between (low high : ℕ) (k : SyntaxKind) : Type 0 where
-  pub positive : 1 ≤ power k
-  pub least : low ≤ power k
-  pub most : power k ≤ high
-
--- what goes on between two levels has a level between them
-pub between : (low high : ℕ) (k : SyntaxKind) → a.goes_on low high k ≡ true → Between low high k
-between low high k h =
-    let x = and_parts (nat_le 1 (power k)) (nat_le low (power k) && nat_le (power k) high) h in
-    let y = and_parts (nat_le low (power k)) (nat_le (power k) high) x.1 in
-    record { positive = grind (arith, nat_tests, x.0); least = grind (arith, nat_tests, y.0); most = grind (arith, nat_tests, y.1) }
-
--- an atom alone is one
-pub single_atom : (x : Sketch) (k : SyntaxKind) → IsSingle x → ((b : Option SyntaxKind) → last_from b x ≡ Some k) → is_atom k ≡ true → is_atom_row x ≡ true
-single_atom x k (i.a_node {k = j}) l h = ap is_atom (some_same j k (l None)) ∙ h
-single_atom x k i.an_error l h = refl
-
-reached : (m n : ℕ) → m ≤ n → nat_le m n ≡ true
-reached m n h = grind (arith, nat_tests, h)
 
 -- an operator follows what may be its left operand
 pub operator_follows : (k : SyntaxKind) (x : Sketch) → is_infix k ≡ true → left_of k ≤ row_level x → follows k x ≡ true
 operator_follows k x h l =
     ap (λ w. if w then nat_le (left_of k) (row_level x) else (if is_question k then nat_le 13 (row_level x) else (if is_fn_arg k then nat_le 15 (row_level x) else ((is_dot k || is_or k) && is_atom_row x)))) h
-    ∙ reached (left_of k) (row_level x) l
+    ∙ at_most_true (left_of k) (row_level x) l
 
 -- behind an atom `.` follows
 pub dot_follows : (x : Sketch) → is_atom_row x ≡ true → follows TOKEN_DOT x ≡ true
@@ -61,7 +37,7 @@ or_follows x h = h
 
 -- `?` follows what binds as tightly
 pub question_follows : (x : Sketch) → 13 ≤ row_level x → follows TOKEN_QUESTION x ≡ true
-question_follows x h = reached 13 (row_level x) h
+question_follows x h = at_most_true 13 (row_level x) h
 
 -- a token of level 15 begins an argument
 pub argument_is : (k : SyntaxKind) → power k ≡ 15 → is_fn_arg k ≡ true
@@ -74,7 +50,7 @@ argument_follows k x h l =
     (not_so (is_infix k) (implied (λ o. nat_eq (power o) 15) (λ o. if is_infix o then false else true) refl k e))
     ∙ ap (λ w. if w then nat_le 13 (row_level x) else (if is_fn_arg k then nat_le 15 (row_level x) else ((is_dot k || is_or k) && is_atom_row x)))
     (not_so (is_question k) (implied (λ o. nat_eq (power o) 15) (λ o. if is_question o then false else true) refl k e))
-    ∙ ap (λ w. if w then nat_le 15 (row_level x) else ((is_dot k || is_or k) && is_atom_row x)) (argument_is k h) ∙ reached 15 (row_level x) l
+    ∙ ap (λ w. if w then nat_le 15 (row_level x) else ((is_dot k || is_or k) && is_atom_row x)) (argument_is k h) ∙ at_most_true 15 (row_level x) l
   where
     e : nat_eq (power k) 15 ≡ true
     e = grind (arith, nat_tests, h)
@@ -92,8 +68,8 @@ calm_behind low high x (t ∷ ts) h s = by (follows t.kind x) (nat_le low (power
     by false w e f = refl
     by true false e f = refl
     by true true e f =
-        absurd (true_is_not_false (sym (all (nat_le 1 (power t.kind)) (nat_le low (power t.kind)) (nat_le (power t.kind) high) (reached 1 (power t.kind) (follows_power t.kind x e)) f
-        (reached (power t.kind) high (s t.kind e))) ∙ h t.kind refl))
+        absurd (true_is_not_false (sym (all (nat_le 1 (power t.kind)) (nat_le low (power t.kind)) (nat_le (power t.kind) high) (at_most_true 1 (power t.kind) (follows_power t.kind x e)) f
+        (at_most_true (power t.kind) high (s t.kind e))) ∙ h t.kind refl))
       where
         all : (u v w : Bool) → u ≡ true → v ≡ true → w ≡ true → (u && (v && w)) ≡ true
         all true true true a b c = refl

@@ -17,21 +17,19 @@ use Rattle.rnix_grammar.specs.Reports.{repeats}
 use Rattle.rnix_grammar.specs.OwnItems.{IsOwned}
 use Rattle.rnix_grammar.specs.Operands.{first_tree, follows, IsFollowed, IsOperand}
 use Rattle.rnix_grammar.specs.Reads.{end, leaf, inner}
-use Rattle.rnix_lemmas.proofs.Basics.{true_is_not_false, not_nil}
+use Rattle.rnix_lemmas.proofs.Basics.{true_is_not_false}
 use Rattle.rnix_lemmas.proofs.SketchLemmas.{⊕-assoc, tokens_two}
-use Rattle.rnix_invariants.proofs.Reading.{AtOperand, Waits, in_node, Level}
-use Rattle.rnix_existence.proofs.Ends.{seen_kind, Stops, Ends, operand_frame, EndsBy}
-use Rattle.rnix_existence.proofs.Prepended.{end_two}
-use Rattle.rnix_existence.proofs.OperandLevels.{stops_simple}
+use Rattle.rnix_lemmas.proofs.FollowLemmas.{Stops, stops_simple}
+use Rattle.rnix_invariants.proofs.Reading.{AtOperand}
+use Rattle.rnix_invariants.proofs.OperandSteps.{alone}
+use Rattle.rnix_existence.proofs.OpenFrames.{seen_kind, Ends, operand_frame, EndsBy}
+use Rattle.rnix_existence.proofs.RowFronts.{end_two}
 use Rattle.rnix_existence.proofs.OperandTrees.{past_over, Takes, placed}
 use Rattle.rnix_existence.proofs.OperandEnds.{OpenEnds, open_ends}
 use Rattle.rnix_existence.proofs.OperandWraps.{wrapped_ends}
 use Rattle.rnix_existence.proofs.OperandFollows.{grown_none, seen_fits}
 use Rattle.rnix_existence.proofs.BeginEnds.{BeginEnds, first_leaf}
 use Rattle.rnix_existence.proofs.BeginReads.{begin_ends}
-
-alone : {fs : List Frame} {low x i d : ℕ} {us : List Token} {es : List Fault} → Waits fs (Level low) x i d us es → fs ≡ [] → ⊥
-alone (in_node k q h s w v m l pl mo be u n fr y o x c t z b) e = not_nil e
 
 -- the operand is complete
 pub settle_ends : (f : Frame) (fs : List Frame) (ts : List Token) (n : ℕ) (gs : List Fault) (r : AtOperand f fs ts gs)

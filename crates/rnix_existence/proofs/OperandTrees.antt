@@ -1,34 +1,19 @@
 -- One tree that is an operand, as a part of a row.
 use Rattle.std.proofs.Common.{◌≡◌, ℕ, Bool, true, false, List, [], ◌∷◌, ◌++◌, Option, Some, refl, ap, sym, ◌∙◌, subst, append-nil}
 use Rattle.rnix_kinds.specs.declared.kinds.SyntaxKind.{SyntaxKind}
-use Rattle.rnix_kinds.specs.declared.kinds.SyntaxKind.TheVariants.{NODE_LITERAL, NODE_LAMBDA}
+use Rattle.rnix_kinds.specs.declared.kinds.SyntaxKind.TheVariants.{NODE_LITERAL}
 use Rattle.rnix_grammar.specs.declared.place.Place.TheVariants as p
 use Rattle.rnix_grammar.specs.Fault.{Fault}
-use Rattle.rnix_grammar.specs.Sketch.{Token, Stray, Sketch, blank, token, branch, fault, ◌⊕◌, one_branch, one_fault, row_of, tokens_in, head_kind, end_from}
+use Rattle.rnix_grammar.specs.Sketch.{Token, Stray, Sketch, blank, ◌⊕◌, one_branch, one_fault, row_of, tokens_in, head_kind, end_from}
 use Rattle.rnix_grammar.specs.Rows.{fits, Spot, Start, At, go, live}
 use Rattle.rnix_grammar.specs.Reports.{repeats}
 use Rattle.rnix_grammar.specs.TreeLevels.{is_or_row}
 use Rattle.rnix_grammar.specs.OwnItems.{IsOwned, stands_owned}
-use Rattle.rnix_grammar.specs.Operands.{first_tree, IsFollowed, IsOperand, level_at}
+use Rattle.rnix_grammar.specs.Operands.{IsFollowed, IsOperand, level_at}
 use Rattle.rnix_grammar.specs.Reads.{Reads, wrong, inner, IsRoom, IsOver, deeper}
 use Rattle.rnix_lemmas.proofs.Basics.{true_is_not_false}
-use Rattle.rnix_invariants.proofs.Reading.{IsSingle}
-use Rattle.rnix_invariants.proofs.Reading as i
 use Rattle.rnix_invariants.proofs.CloseSteps.{fit_new}
-use Rattle.rnix_existence.proofs.Ends.{seen_kind, Lone, a_node, an_error}
-
--- the first tree of a row is that of its first node
-first_any : (k : SyntaxKind) (c f g : Sketch) → first_tree (branch k c f) ≡ first_tree (branch k c g)
-first_any NODE_LAMBDA blank f g = refl
-first_any NODE_LAMBDA (token k t c) f g = refl
-first_any NODE_LAMBDA (branch k c h) f g = refl
-first_any NODE_LAMBDA (fault n c h) f g = refl
-first_any _ c f g = refl
-
--- a row that begins with one tree has that tree's first tree
-pub first_in : (x r : Sketch) → IsSingle x → first_tree (x ⊕ r) ≡ first_tree x
-first_in x r (i.a_node {k = k} {c = c}) = first_any k c r blank
-first_in x r i.an_error = refl
+use Rattle.rnix_existence.proofs.OpenFrames.{seen_kind, Lone, a_node, an_error}
 
 -- behind its last place a row may end
 pub past_over : (m : ℕ) (us : List Token) → IsOver (At p.Past) m us

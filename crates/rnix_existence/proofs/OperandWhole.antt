@@ -1,5 +1,5 @@
 -- Each step at an operand: what ends behind it ends before it.
-use Rattle.std.proofs.Common.{◌≡◌, ℕ, Bool, true, false, List, [], ◌∷◌, Some, None, refl, ap, sym, ◌∙◌, subst, arith}
+use Rattle.std.proofs.Common.{◌≡◌, ℕ, Bool, true, false, List, [], ◌∷◌, refl, ap, sym, ◌∙◌, subst, arith}
 use Rattle.std.specs.Prelude.{if◌then◌else◌, nat_eq}
 use Rattle.std.proofs.lemmas.Bool.Decides.{nat_tests}
 use Rattle.rnix_kinds.proofs.AllKinds.{implied}
@@ -14,27 +14,22 @@ use Rattle.rnix_grammar.specs.Fault.{Fault}
 use Rattle.rnix_grammar.specs.Levels.{power, right_of, high_of}
 use Rattle.rnix_grammar.specs.Actions.{follow, goes_on, more_action, action_at}
 use Rattle.rnix_grammar.specs.TokenKinds.{is_or}
-use Rattle.rnix_grammar.specs.Sketch.{Token, Sketch, token, ◌⊕◌, one_branch, told, told_as, head_kind}
+use Rattle.rnix_grammar.specs.Sketch.{Token, token, ◌⊕◌, one_branch, told, told_as, head_kind, touches}
 use Rattle.rnix_grammar.specs.Machine.{Operand, Frame}
-use Rattle.rnix_grammar.specs.Sketch.{touches}
 use Rattle.rnix_grammar.specs.Rows.{is_atom, is_simple, is_questioned, is_operand, BeforeOperator, BeforeDot, BeforeQuestion, BeforeArgument, At, to, go}
-use Rattle.rnix_grammar.specs.TreeLevels.{operator_in}
 use Rattle.rnix_grammar.specs.Operands.{follows}
 use Rattle.rnix_lemmas.proofs.Basics.{true_is_not_false, not_if, some_same}
-use Rattle.rnix_invariants.proofs.Reading.{Reading, node, operand, second, AtNode, AtOperand, AtSecond, IsSingle}
-use Rattle.rnix_invariants.proofs.Reading as i
-use Rattle.rnix_invariants.proofs.OperandSteps.{FollowsBy, by_dot, by_or, by_question, by_operator, by_argument}
+use Rattle.rnix_lemmas.proofs.FollowLemmas.{stops_simple, stops_at, followed_question, followed_infix}
+use Rattle.rnix_lemmas.proofs.FirstTrees.{single_operator, single_atom}
+use Rattle.rnix_lemmas.proofs.OpenHeads.{is_open}
+use Rattle.rnix_invariants.proofs.Reading.{Reading, node, operand, second, AtOperand}
+use Rattle.rnix_invariants.proofs.OperandSteps.{FollowsBy, by_dot, by_or, by_question, by_operator, by_argument, Between, between}
 use Rattle.rnix_invariants.proofs.OperandSteps as o
-use Rattle.rnix_existence.proofs.Ends.{is_open, EndsBy}
-use Rattle.rnix_existence.proofs.OperandLevels.{stops_simple, stops_questioned, stops_operator}
+use Rattle.rnix_invariants.proofs.BeginSteps.{none_some}
+use Rattle.rnix_existence.proofs.OpenFrames.{EndsBy}
 use Rattle.rnix_existence.proofs.OperandWraps.{seen_any}
-use Rattle.rnix_existence.proofs.OperandFollows.{Between, between, single_atom, operator_follows, question_follows, argument_is, argument_follows}
+use Rattle.rnix_existence.proofs.OperandFollows.{operator_follows, question_follows, argument_is, argument_follows}
 use Rattle.rnix_existence.proofs.OperandSteps.{settle_ends, wrap_ends, apply_ends, apply_or_ends}
-
--- the operator behind one tree
-single_operator : (x : Sketch) (j : SyntaxKind) (t : Token) (rest : Sketch) → IsSingle x → operator_in (x ⊕ token j t rest) ≡ j
-single_operator x j t rest i.a_node = refl
-single_operator x j t rest i.an_error = refl
 
 -- a token that begins an argument is not the name `or`
 argument_no_or : (k : SyntaxKind) → power k ≡ 15 → is_or k ≡ false
@@ -53,13 +48,14 @@ goes k action by_question f fs t ts n gs r e x =
     (ap (λ w. to w BeforeQuestion) (seen_any is_questioned f.row r.lone.kind r.lone.single r.lone.last refl (r.lone.grows.questioned (omega (arith, x.most))))) refl (λ us. tt)
     (subst (λ (j : SyntaxKind). follows j f.row ≡ true) (sym e) (question_follows f.row (r.lone.tall.questioned (omega (arith, x.most)))))
     (ap (λ j. go BeforeQuestion (told_as NODE_HAS_ATTR j)) e) (λ c. refl)
-    (λ rest. stops_questioned (one_branch NODE_HAS_ATTR (f.row ⊕ token (told NODE_HAS_ATTR t) t rest)) refl (omega arith)) (λ b c. refl)
+    (λ rest. stops_at 13 (one_branch NODE_HAS_ATTR (f.row ⊕ token (told NODE_HAS_ATTR t) t rest)) (followed_question (one_branch NODE_HAS_ATTR (f.row ⊕ token (told NODE_HAS_ATTR t) t rest)) refl refl)) (λ b c. refl)
 goes k action (by_operator h) f fs t ts n gs r e x =
     wrap_ends f fs t ts n gs NODE_BIN_OP BeforeOperator (p.Right (right_of k)) (high_of k) r refl
     (ap (λ w. to w BeforeOperator) (seen_any is_operand f.row r.lone.kind r.lone.single r.lone.last refl (r.lone.grows.operand (omega (arith, x.most, x.positive))))) refl (λ us. tt)
     (subst (λ (j : SyntaxKind). follows j f.row ≡ true) (sym e) (operator_follows k f.row h (r.lone.tall.operator k h x.most)))
     (ap (λ j. go BeforeOperator (told_as NODE_BIN_OP j)) e ∙ ap (λ w. to w (At (p.Right (right_of k)))) h) (λ c. refl)
-    (λ rest. stops_operator k (one_branch NODE_BIN_OP (f.row ⊕ token (told NODE_BIN_OP t) t rest)) h refl (ap power (single_operator f.row (told NODE_BIN_OP t) t rest r.lone.single ∙ e))) (λ b c. refl)
+    (λ rest. stops_at (high_of k) (one_branch NODE_BIN_OP (f.row ⊕ token (told NODE_BIN_OP t) t rest))
+    (followed_infix k h (one_branch NODE_BIN_OP (f.row ⊕ token (told NODE_BIN_OP t) t rest)) (ap power (single_operator f.row rest (told NODE_BIN_OP t) t r.lone.single ∙ e)) refl)) (λ b c. refl)
 goes k action by_or f fs t ts n gs r e x =
     let at : is_atom r.lone.kind ≡ true = r.lone.grows.atom (omega (arith, x.most)) in
     apply_or_ends f fs t ts n gs r (ap (λ w. to w BeforeArgument) (seen_any is_simple f.row r.lone.kind r.lone.single r.lone.last refl (r.lone.grows.simple (omega (arith, x.most))))) e
@@ -72,9 +68,6 @@ goes k action (by_argument h) f fs t ts n gs r e x =
 -- a step at an operand
 pub more_ends : (f : Frame) (fs : List Frame) (ts : List Token) (n : ℕ) (gs : List Fault) (r : AtOperand f fs ts gs) → EndsBy (more_action r.low r.high (head_kind ts)) f fs ts n gs
 more_ends f fs [] n gs r = settle_ends f fs [] n gs r (λ j e. absurd (none_some e))
-  where
-    none_some : {j : SyntaxKind} → None ≡ Some j → ⊥
-    none_some e = cc
 more_ends f fs (t ∷ ts) n gs r = by (goes_on r.low r.high t.kind) refl
   where
     by : (w : Bool) → goes_on r.low r.high t.kind ≡ w → EndsBy (if w then follow t.kind else a.Settle) f fs (t ∷ ts) n gs

@@ -12,11 +12,12 @@ use Rattle.rnix_grammar.specs.Operands.{first_tree}
 use Rattle.rnix_grammar.specs.Reads.{Reads, IsOver}
 use Rattle.rnix_lemmas.proofs.Basics.{some_same}
 use Rattle.rnix_lemmas.proofs.SketchLemmas.{tokens_two}
-use Rattle.rnix_invariants.proofs.Reading.{IsSingle}
-use Rattle.rnix_invariants.proofs.Reading as i
-use Rattle.rnix_existence.proofs.Ends.{seen_kind, Lone, a_node, Stops, Ends}
-use Rattle.rnix_existence.proofs.Prepended.{end_two}
-use Rattle.rnix_existence.proofs.OperandTrees.{first_in, first_placed}
+use Rattle.rnix_lemmas.proofs.FollowLemmas.{Stops}
+use Rattle.rnix_lemmas.proofs.FirstTrees as i
+use Rattle.rnix_lemmas.proofs.FirstTrees.{IsSingle, first_in}
+use Rattle.rnix_existence.proofs.OpenFrames.{seen_kind, Lone, a_node, Ends}
+use Rattle.rnix_existence.proofs.RowFronts.{end_two}
+use Rattle.rnix_existence.proofs.OperandTrees.{first_placed}
 use Rattle.rnix_existence.proofs.OperandEnds.{OperandEnds, operand_ends, regrown, grown_ends}
 
 -- what holds of an operand's kind holds of the kind by which a row goes on behind it

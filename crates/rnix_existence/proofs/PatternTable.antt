@@ -11,17 +11,16 @@ use Rattle.rnix_grammar.specs.declared.until.Until.TheVariants as u
 use Rattle.rnix_grammar.specs.declared.action.Action.TheVariants as a
 use Rattle.rnix_grammar.specs.Fault.{Fault}
 use Rattle.rnix_grammar.specs.Tables.{is_wanted}
-use Rattle.rnix_grammar.specs.Slots.{level_in}
+use Rattle.rnix_grammar.specs.Slots.{level_in, is_counted}
 use Rattle.rnix_grammar.specs.Actions.{token_action, formals_action, braces_action, comma_action, bind_action, default_action, or_action, end_action}
 use Rattle.rnix_grammar.specs.TokenKinds.{is_comma}
 use Rattle.rnix_grammar.specs.Sketch.{Token, Sketch, head_kind}
 use Rattle.rnix_grammar.specs.Machine.{Frame, Node}
 use Rattle.rnix_grammar.specs.Missing.{run_in}
-use Rattle.rnix_grammar.specs.Slots.{is_counted}
 use Rattle.rnix_grammar.specs.Rows.{go_formals, go_slot}
 use Rattle.rnix_grammar.specs.OwnItems.{owns_in, stands_owned_in}
 use Rattle.rnix_lemmas.proofs.PlaceTables.{bind_is, end_is}
-use Rattle.rnix_existence.proofs.Ends.{closing, EndsBy}
+use Rattle.rnix_existence.proofs.OpenFrames.{closing, EndsBy}
 use Rattle.rnix_existence.proofs.RowSteps as row
 use Rattle.rnix_existence.proofs.NodeOpens as opening
 use Rattle.rnix_existence.proofs.SlotSteps.{Known, takes, misses, misses_wanted, runs, opens, begins_entry, over, over_end}

@@ -11,18 +11,17 @@ use Rattle.rnix_grammar.specs.Slots.{slot_at, level_in}
 use Rattle.rnix_grammar.specs.Sketch.{Token, Note, Unwanted, Extra, Sketch, blank, ◌⊕◌, one_token, one_branch, one_fault, row_of, tokens_in, is_some, told, end_from}
 use Rattle.rnix_grammar.specs.Reports.{report}
 use Rattle.rnix_grammar.specs.Machine.{Frame, put, kind_of, dropped}
-use Rattle.rnix_grammar.specs.Missing.{run_of}
-use Rattle.rnix_grammar.specs.Rows.{At, go, start}
-use Rattle.rnix_grammar.specs.Missing.{lack, run_at}
-use Rattle.rnix_grammar.specs.Rows.{counts}
+use Rattle.rnix_grammar.specs.Missing.{run_of, lack, run_at}
+use Rattle.rnix_grammar.specs.Rows.{At, go, start, counts}
 use Rattle.rnix_grammar.specs.Operands.{IsOperand}
 use Rattle.rnix_grammar.specs.OwnItems.{owns, owns_end, stands_owned_in}
 use Rattle.rnix_grammar.specs.Reads.{Reads, IsRoom, IsWrong, end, leaf, lost, wrong, inner}
 use Rattle.rnix_lemmas.proofs.Basics.{true_is_not_false, none_left, none_right}
 use Rattle.rnix_lemmas.proofs.SketchLemmas.{⊕-blank, tokens_in-row_of}
 use Rattle.rnix_lemmas.proofs.RunLemmas.{parted, run_begins, dropped_all}
-use Rattle.rnix_existence.proofs.Ends.{is_open, Ends, EndsBy}
-use Rattle.rnix_existence.proofs.Prepended.{prepended}
+use Rattle.rnix_lemmas.proofs.OpenHeads.{is_open}
+use Rattle.rnix_existence.proofs.OpenFrames.{Ends, EndsBy}
+use Rattle.rnix_existence.proofs.RowFronts.{prepended}
 
 -- the next item as a leaf
 pub takes : (f : Frame) (fs : List Frame) (t : Token) (ts : List Token) (n : ℕ) (gs : List Fault) (y : Place)
@@ -52,9 +51,13 @@ misses_part f fs n gs y o l w row es ends = (ended ∷ es, (misses f fs n row es
 -- one of some tokens is missing
 pub misses_wanted : (f : Frame) (fs : List Frame) (n : ℕ) (gs : List Fault) (until : Until) (y : Place)
     → is_open f.head ≡ true → lack f.place ≡ Some (ended_before (wanted_kinds until), y) → owns_end (slot_at f.place) ≡ true → EndsBy (a.MissWanted until y) f fs [] n gs
-misses_wanted f fs n gs until y o l w row es ends =
-    (ended_before (wanted_kinds until) ∷ es, (misses f fs n row es (ended_before (wanted_kinds until)) y o l (owned_end f.place f.depth w) ends,
-    sym (append_assoc gs (ended_before (wanted_kinds until) ∷ []) es)))
+misses_wanted f fs n gs until y o l w row es ends = (
+  ended_before (wanted_kinds until) ∷ es,
+  (
+    misses f fs n row es (ended_before (wanted_kinds until)) y o l (owned_end f.place f.depth w) ends,
+    sym (append_assoc gs (ended_before (wanted_kinds until) ∷ []) es),
+  ),
+)
 
 one_row : (ts : List Token) → tokens_in (row_of ts) ++ [] ≡ ts
 one_row ts = append-nil (tokens_in (row_of ts)) ∙ tokens_in-row_of ts
@@ -73,20 +76,26 @@ pub runs_by : (f : Frame) (fs : List Frame) (t : Token) (ts : List Token) (n : �
     → is_open f.head ≡ true → owns f.place n (t ∷ ts) ≡ false → is_wanted until t.kind ≡ false → run_at f.place ≡ Some (until, y) → EndsBy (a.Run until y) f fs (t ∷ ts) n gs
 runs_by f fs t ts n gs until y o w u at row es ends =
     let run : List Token = run_of until (t ∷ ts) in
-    let all : t ∷ ts ≡ run ++ dropped run (t ∷ ts) = (parted until (t ∷ ts)).all in
-    (report (Unwanted until) run ∷ es,
-    (wrong_by f fs (t ∷ ts) (dropped run (t ∷ ts)) run n row es y (Unwanted until) o all w
-    (ap is_some (run_begins until t ts u), ap (run_of until) all, f.place, y, refl, refl, at) ends,
-    sym (append_assoc gs (report (Unwanted until) run ∷ []) es)))
+    let all : t ∷ ts ≡ run ++ dropped run (t ∷ ts) = (parted until (t ∷ ts)).all in (
+      report (Unwanted until) run ∷ es,
+      (
+        wrong_by f fs (t ∷ ts) (dropped run (t ∷ ts)) run n row es y (Unwanted until) o all w
+            (ap is_some (run_begins until t ts u), ap (run_of until) all, f.place, y, refl, refl, at) ends,
+        sym (append_assoc gs (report (Unwanted until) run ∷ []) es),
+      ),
+    )
 
 -- all that is left behind the root's expression
 pub left_over : (f : Frame) (fs : List Frame) (t : Token) (ts : List Token) (n : ℕ) (gs : List Fault)
     → is_open f.head ≡ true → f.place ≡ p.RootEnd → EndsBy a.Extra f fs (t ∷ ts) n gs
-left_over f fs t ts n gs o e row es ends =
-    (report Extra (t ∷ ts) ∷ es,
-    (wrong_by f fs (t ∷ ts) (dropped (t ∷ ts) (t ∷ ts)) (t ∷ ts) n row es f.place Extra o
-    (sym (ap (λ z. (t ∷ ts) ++ z) (dropped_all (t ∷ ts)) ∙ append-nil (t ∷ ts))) (ap (λ z. owns z n (t ∷ ts)) e) (refl, dropped_all (t ∷ ts), ap At e, refl) ends,
-    sym (append_assoc gs (report Extra (t ∷ ts) ∷ []) es)))
+left_over f fs t ts n gs o e row es ends = (
+  report Extra (t ∷ ts) ∷ es,
+  (
+    wrong_by f fs (t ∷ ts) (dropped (t ∷ ts) (t ∷ ts)) (t ∷ ts) n row es f.place Extra o
+        (sym (ap (λ z. (t ∷ ts) ++ z) (dropped_all (t ∷ ts)) ∙ append-nil (t ∷ ts))) (ap (λ z. owns z n (t ∷ ts)) e) (refl, dropped_all (t ∷ ts), ap At e, refl) ends,
+    sym (append_assoc gs (report Extra (t ∷ ts) ∷ []) es),
+  ),
+)
 
 -- no item is the own one of a row that is complete
 pub past_over : (n : ℕ) (ts : List Token) → owns p.Past n ts ≡ false
@@ -97,7 +106,12 @@ past_over n (t ∷ ts) = refl
 pub names : (f : Frame) (fs : List Frame) (t : Token) (ts : List Token) (n : ℕ) (gs : List Fault) (y : Place)
     → is_open f.head ≡ true → owns f.place n (t ∷ ts) ≡ stands_owned_in (slot_at f.place) NODE_IDENT → counts (At f.place) ≡ false → level_in (slot_at f.place) ≡ None
     → go (start NODE_IDENT) (told NODE_IDENT t) ≡ At p.Past → go (At f.place) NODE_IDENT ≡ At y → EndsBy (a.Leaf NODE_IDENT y) f fs (t ∷ ts) n gs
-names f fs t ts n gs y o w c v k g row es ends =
-    (es, (prepended f fs (t ∷ ts) ts n t.end row [] es y (one_branch NODE_IDENT (one_token (told NODE_IDENT t) t)) o refl refl
-    (λ vs s r cs h z. inner h refl (leaf refl refl tt tt k refl refl refl end) refl (refl, past_over t.end ts) w (λ x. absurd (true_is_not_false (sym x ∙ c))) tt
-    (subst (λ (z : Option ℕ). IsOperand z (one_branch NODE_IDENT (one_token (told NODE_IDENT t) t)) ts) (sym v) tt) g refl refl z refl) ends, refl))
+names f fs t ts n gs y o w c v k g row es ends = (
+  es,
+  (
+    prepended f fs (t ∷ ts) ts n t.end row [] es y (one_branch NODE_IDENT (one_token (told NODE_IDENT t) t)) o refl refl
+        (λ vs s r cs h z. inner h refl (leaf refl refl tt tt k refl refl refl end) refl (refl, past_over t.end ts) w (λ x. absurd (true_is_not_false (sym x ∙ c))) tt
+        (subst (λ (z : Option ℕ). IsOperand z (one_branch NODE_IDENT (one_token (told NODE_IDENT t) t)) ts) (sym v) tt) g refl refl z refl) ends,
+    refl,
+  ),
+)

@@ -10,18 +10,18 @@ use Rattle.rnix_grammar.specs.declared.until.Until.{Until}
 use Rattle.rnix_grammar.specs.declared.action.Action.TheVariants as a
 use Rattle.rnix_grammar.specs.Fault.{Fault, ended, ended_before}
 use Rattle.rnix_grammar.specs.Tables.{is_wanted, wanted_kinds}
-use Rattle.rnix_grammar.specs.Slots.{slot_at, level_in}
+use Rattle.rnix_grammar.specs.Slots.{slot_at, level_in, is_counted}
 use Rattle.rnix_grammar.specs.Sketch.{Token, Sketch, told, told_as}
 use Rattle.rnix_grammar.specs.Machine.{Frame, kind_of}
 use Rattle.rnix_grammar.specs.Missing.{lack_in, run_in}
 use Rattle.rnix_grammar.specs.Rows.{Start, At, go, go_slot, is_end, start}
-use Rattle.rnix_grammar.specs.Slots.{is_counted}
 use Rattle.rnix_grammar.specs.OwnItems.{owns, owns_in, owns_end, stands_owned_in}
 use Rattle.rnix_grammar.specs.Reports.{repeats}
 use Rattle.rnix_grammar.specs.Reads.{IsOver}
 use Rattle.rnix_lemmas.proofs.NodeKinds.{told_plain}
+use Rattle.rnix_lemmas.proofs.OpenHeads.{is_open}
 use Rattle.rnix_invariants.proofs.Reading.{AtNode}
-use Rattle.rnix_existence.proofs.Ends.{is_open, closing, EndsBy}
+use Rattle.rnix_existence.proofs.OpenFrames.{closing, EndsBy}
 use Rattle.rnix_existence.proofs.RowSteps as row
 use Rattle.rnix_existence.proofs.NodeOpens as opening
 

@@ -14,15 +14,13 @@ use Rattle.rnix_grammar.specs.declared.action.Action.TheVariants as a
 use Rattle.rnix_grammar.specs.Fault.{Fault}
 use Rattle.rnix_grammar.specs.Tables.{is_wanted, closes}
 use Rattle.rnix_grammar.specs.Actions.{token_action, series_action, entries_action, pieces_action, first_piece_action, more_pieces_action}
-use Rattle.rnix_grammar.specs.Sketch.{Token, Sketch, head_kind}
+use Rattle.rnix_grammar.specs.Sketch.{Token, Sketch, head_kind, touches}
 use Rattle.rnix_grammar.specs.Machine.{Frame}
-use Rattle.rnix_grammar.specs.Sketch.{touches}
-use Rattle.rnix_grammar.specs.TokenKinds.{is_piece_start}
-use Rattle.rnix_grammar.specs.Rows.{At, is_entry, go_slot, start, to}
+use Rattle.rnix_grammar.specs.TokenKinds.{is_piece_start, is_inherit_token}
+use Rattle.rnix_grammar.specs.Rows.{At, is_entry, go_slot, to}
 use Rattle.rnix_grammar.specs.OwnItems.{owns_in}
-use Rattle.rnix_grammar.specs.TokenKinds.{is_inherit_token}
 use Rattle.rnix_lemmas.proofs.PlaceTables.{pieces_is}
-use Rattle.rnix_existence.proofs.Ends.{closing, EndsBy}
+use Rattle.rnix_existence.proofs.OpenFrames.{closing, EndsBy}
 use Rattle.rnix_existence.proofs.NodeOpens as opening
 use Rattle.rnix_existence.proofs.SlotSteps.{Known, takes, misses, misses_wanted, runs, opens, begins, over, over_end}
 

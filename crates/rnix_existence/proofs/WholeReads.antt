@@ -4,7 +4,7 @@ use Rattle.rnix_kinds.specs.declared.kinds.SyntaxKind.TheVariants.{NODE_ROOT}
 use Rattle.rnix_grammar.specs.declared.place.Place.{Place}
 use Rattle.rnix_grammar.specs.declared.place.Place.TheVariants as p
 use Rattle.rnix_grammar.specs.Fault.{Fault}
-use Rattle.rnix_grammar.specs.Sketch.{Token, Sketch, blank, ◌⊕◌}
+use Rattle.rnix_grammar.specs.Sketch.{Token, Sketch, blank}
 use Rattle.rnix_grammar.specs.Tables.{depth_limit}
 use Rattle.rnix_grammar.specs.Machine.{Machine, Head, Node, Frame, opened, step_on, begins, Runs, rest, then as further}
 use Rattle.rnix_grammar.specs.Rows.{At, start}
@@ -18,7 +18,7 @@ use Rattle.rnix_invariants.proofs.BeginSteps.{IsReading}
 use Rattle.rnix_invariants.proofs.SecondSteps.{runs_stand, begins_stand}
 use Rattle.rnix_invariants.proofs.NestLemmas.{HasRoom, AreNested}
 use Rattle.rnix_invariants.proofs.NestWhole.{step_nested}
-use Rattle.rnix_existence.proofs.Ends.{Ends, root_frame}
+use Rattle.rnix_existence.proofs.OpenFrames.{Ends, root_frame}
 use Rattle.rnix_existence.proofs.OperandWhole.{operand_step}
 use Rattle.rnix_existence.proofs.FrameEnds.{node_ends, second_ends}
 

@@ -1,4 +1,4 @@
--- Which expressions of the strict grammar some items have: derivations. The test of strict trees is a means: it says the same as the grammar.
+-- Which expressions of the strict grammar some items have: derivations.
 use Rattle.std.specs.Prelude.{◌≡◌, ◌≤◌, Bool, true, ◌&&◌, List, [], ◌∷◌, map}
 use Rattle.rnix_kinds.specs.declared.kinds.SyntaxKind.TheVariants.{NODE_ROOT}
 use Rattle.rnix_kinds.specs.SyntaxKind.{is_token}
@@ -35,7 +35,8 @@ has_tokens_alone (node k c f) = has_tokens_alone c && has_tokens_alone f
 abbrev pub is_strict_tree : Forest → Bool
 is_strict_tree f = has_tokens_alone f && is_strict_expression f
 
--- A tree is an expression of the strict grammar, nests no more than 512 expressions that count, has the items as its leaves, one by one, and the pieces of its paths touch.
+-- A tree is an expression of the strict grammar, nests no more than 512 expressions that count, and has the items as its leaves, one by one; the
+-- pieces of its paths touch, and no item that touches a path would go on with it.
 pub record IsDerivation (tree : Forest) (ts : List Token) : Type 0 where
   pub strict : IsExpression tree
   pub shallow : nest NODE_ROOT tree ≤ depth_limit

@@ -1,5 +1,5 @@
 -- The items that a place of a row has for itself. Where the next item is one of them, what stands there begins with it. Where it is not, there
--- stands an operand, a path or a binding, if the place is for one; else the row ends, or a run of items that are not wanted stands there.
+-- stands an operand, an attribute path or a binding, if the place is for one; else the row ends, or a run of items that are not wanted stands there.
 use Rattle.std.specs.Prelude.{◌≡◌, ℕ, Bool, true, false, ◌||◌, ◌&&◌, List, [], ◌∷◌, Option, Some, None, nat_eq}
 use Rattle.rnix_kinds.specs.declared.kinds.SyntaxKind.{SyntaxKind}
 use Rattle.rnix_kinds.specs.declared.kinds.SyntaxKind.TheVariants.{TOKEN_QUESTION, TOKEN_DOT, TOKEN_AT, TOKEN_INHERIT, TOKEN_INTERPOL_START, TOKEN_STRING_START, NODE_INHERIT}
@@ -69,7 +69,7 @@ IsOwned BeforeArgument n [] own = ⊥
 IsOwned BeforeArgument n (t ∷ ts) own = is_or t.kind ≡ own
 IsOwned spot n ts own = Unit {0}
 
--- a node of the kind stands where the next item is the place's own; operands, paths and bindings stand where it is not
+-- a node of the kind stands where the next item is the place's own; operands, attribute paths and bindings stand where it is not
 abbrev pub stands_owned_in : Slot → SyntaxKind → Bool
 stands_owned_in (s.Operand level counted behind) kind = false
 stands_owned_in (s.Series level closer) kind = false

@@ -29,7 +29,7 @@ pub record IsParsed (tokens : List Lexeme) (tree : Tree) (faults : List Fault) :
   pub told : AreTold NODE_ROOT reading.sketch
   -- no error node begins or ends with trivia
   pub trimmed : AreFaultsTrimmed reading.sketch
-  -- the node of a name holds its token, and nothing else
+  -- the node of a name holds at most a token, and nothing else, and an entry of a pattern begins with its name
   pub bare : AreNamesBare reading.sketch
   -- the errors other than those of the end of the text are those of the error nodes and of repeated entries, in the order in which these close
   pub paired : others faults ≡ reports_within blank reading.sketch

@@ -1,13 +1,12 @@
 -- Which elements of a tree the errors are of, and the ranges of both.
-use Rattle.std.specs.Prelude.{◌≡◌, ◌<◌, ℕ, ◌+◌, Bool, true, false, ◌||◌, List, [], ◌∷◌, ◌++◌, Option, Some, None, if◌then◌else◌}
+use Rattle.std.specs.Prelude.{◌≡◌, ℕ, ◌+◌, Bool, true, false, ◌||◌, List, [], ◌∷◌, ◌++◌, Option, Some, None, if◌then◌else◌}
 use Rattle.rnix_kinds.specs.declared.kinds.SyntaxKind.{SyntaxKind}
 use Rattle.rnix_kinds.specs.declared.kinds.SyntaxKind.TheVariants.{NODE_ERROR, NODE_IDENT, NODE_PAT_ENTRY}
-use Rattle.rnix_kinds.specs.SyntaxKind.{is_trivia}
 use Rattle.rnix_tree.specs.Forest.{Forest, empty, leaf, node, element_count}
 use Rattle.rnix_tree.specs.Range.{Extent}
 use Rattle.rnix_tree.specs.Tree.{Tree, Located, forest_of, item, item_of, extent_of, text_at}
 use Rattle.rnix_tree.specs.Walk.{Event, preorder_of}
-use Rattle.rnix_tree.specs.Relatives.{IsNodeIn}
+use Rattle.rnix_tree.specs.Relatives.{IsNodeIn, IsTokenIn}
 use Rattle.rnix_grammar.specs.Fault.{Fault, untold, extra, unwanted, bound_twice, ended, ended_before, named_twice}
 use Rattle.rnix_grammar.specs.Shape.{name_if, with_name}
 use Rattle.rnix_grammar.specs.Tables.{is_among}
@@ -56,16 +55,14 @@ abbrev pub IsRangeOf : Option Extent → Located → Type 0
 IsRangeOf None e = Unit {0}
 IsRangeOf (Some range) e = range ≡ extent_of e
 
--- a node with the range and the text is the name that an entry of a pattern begins with: before it, the entry has trivia alone
+-- an entry of a pattern begins with a name that has the range and the text
 pub record IsEntryName (tree : Tree) (entry : ℕ) (range : Extent) (name : List ℕ) : Type 0 where
   pub entry_is : (item tree entry).kind ≡ NODE_PAT_ENTRY
-  pub ident : ℕ
-  pub ident_is : (item tree ident).kind ≡ NODE_IDENT
-  pub node : IsNodeIn tree ident
-  pub parent : (item tree ident).parent ≡ Some entry
-  pub begins : (m : ℕ) → entry < m → m < ident → is_trivia (item tree m).kind ≡ true
-  pub range_is : range ≡ extent_of record { tree = tree; number = ident }
-  pub name_is : name ≡ text_at record { tree = tree; number = ident }
+  pub node : IsNodeIn tree (entry + 1)
+  pub parent : (item tree (entry + 1)).parent ≡ Some entry
+  pub node_is : (item tree (entry + 1)).kind ≡ NODE_IDENT
+  pub range_is : range ≡ extent_of record { tree = tree; number = entry + 1 }
+  pub name_is : name ≡ text_at record { tree = tree; number = entry + 1 }
 
 -- a name, if there is one, is among others
 abbrev pub is_among_if : Option (List ℕ) → List (List ℕ) → Bool
@@ -89,10 +86,21 @@ at_fault_from n names (node k c f) =
 abbrev pub at_fault : Tree → List ℕ
 at_fault tree = at_fault_from 0 [] (forest_of tree)
 
--- an error is that of the element: of an entry, for a repeated name, and else of an error node with its range
+-- the element begins with a token of the kind
+pub record BeginsWith (tree : Tree) (m : ℕ) (kind : SyntaxKind) : Type 0 where
+  pub token : IsTokenIn tree (m + 1)
+  pub parent : (item tree (m + 1)).parent ≡ Some m
+  pub kind_is : (item tree (m + 1)).kind ≡ kind
+
+-- an error that tells the kind of a token tells that of the element's first one
+abbrev pub IsKindOf : Tree → Fault → ℕ → Type 0
+IsKindOf tree (unwanted kind range kinds) m = BeginsWith tree m kind
+IsKindOf tree e m = Unit {0}
+
+-- an error is that of the element: of an entry, for a repeated name, and else of an error node, with its range and the kind of its first token
 abbrev pub IsErrorOf : Tree → Fault → ℕ → Type 0
 IsErrorOf tree (named_twice range name) m = IsEntryName tree m range name
-IsErrorOf tree e m = ((item tree m).kind ≡ NODE_ERROR) × IsRangeOf (range_in e) record { tree = tree; number = m }
+IsErrorOf tree e m = ((item tree m).kind ≡ NODE_ERROR) × IsRangeOf (range_in e) record { tree = tree; number = m } × IsKindOf tree e m
 
 -- as many errors as elements, each of its element
 abbrev pub AreErrorsOf : Tree → List Fault → List ℕ → Type 0

@@ -1,4 +1,4 @@
--- Which tree and which errors are the reading of a text. Each text has one.
+-- Which tree and which errors are the reading of a text. There is no other.
 use Rattle.std.specs.Prelude.{◌≡◌, List}
 use Rattle.rnix_kinds.specs.declared.kinds.SyntaxKind.TheVariants.{NODE_ROOT}
 use Rattle.rnix_kinds.specs.Lexical.Tokens.{Lexeme}
@@ -15,7 +15,7 @@ pub record IsReading (tokens : List Lexeme) (tree : Tree) (faults : List Fault) 
   pub tree_is : tree ≡ record { kind = NODE_ROOT; children = forget sketch }
   -- the leaves are the tokens, one by one
   pub leaves : tokens_in sketch ≡ placed_from 0 tokens
-  -- trivia stand where the tree without them puts them: before a token or a node in the row that holds it
+  -- trivia stand before the token or the node in whose row they are met
   pub laid : sketch ≡ dressed_whole (clean sketch) (placed_from 0 tokens)
   -- at each place of a row the next items decide what stands there; the errors are those of the error nodes, of what is missing at the end of
   -- the text, and of repeated entries, in the order in which these are met

@@ -1,4 +1,4 @@
--- How the items of a text are read: at each place of a row the next items decide what stands there. Each list of items has one reading.
+-- How the items of a text are read: at each place of a row the next items decide what stands there, so no list of items has two readings.
 use Rattle.std.specs.Prelude.{◌≡◌, ℕ, suc, ◌<◌, Bool, true, false, List, [], ◌∷◌, ◌++◌, Option, Some, None, length, if◌then◌else◌}
 use Rattle.rnix_kinds.specs.declared.kinds.SyntaxKind.{SyntaxKind}
 use Rattle.rnix_kinds.specs.declared.kinds.SyntaxKind.TheVariants.{NODE_ROOT, NODE_ERROR, NODE_LITERAL}

@@ -129,7 +129,7 @@ abbrev pub extent_of : List Token → Extent
 extent_of [] = record { start = 0; end = 0 }
 extent_of (t ∷ ts) = record { start = t.start; end = end_from t.end ts }
 
--- the kind of the next token
+-- the next token, if there is one
 abbrev pub head_of : List Token → Option Token
 head_of [] = None
 head_of (t ∷ ts) = Some t

@@ -176,7 +176,7 @@ IsOpened BeforeQuestion before kind = 13 ≤ row_level before
 IsOpened spot before kind = Unit {0}
 
 -- A row of children without trivia, from a spot in their parent's row to another, with the errors that it is reported by. Each leaf has the
--- kind of its token; each error node has its leaves alone and stands where it may; the parts that are missing at the end of the text are
+-- kind of its token; each error node but that of a second name has leaves alone and stands where it may; the parts that are missing at the end of the text are
 -- reported one by one; each other node is complete but for these. Known are the parent's kind, how many nodes the row is inside of, the
 -- trees before it, how many items come before it, and the items after it.
 pub data Stands : SyntaxKind → ℕ → Spot → Spot → Sketch → ℕ → List Token → Sketch → List Fault → Type 0 where

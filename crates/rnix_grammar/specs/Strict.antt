@@ -147,4 +147,3 @@ is_strict q (node k c f) = live (go q k) && (may_stand q k c && (is_grouped k c 
 -- a whole strict expression
 abbrev pub is_strict_expression : Forest → Bool
 is_strict_expression f = is_strict (start NODE_ROOT) f
-

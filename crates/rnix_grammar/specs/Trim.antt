@@ -1,7 +1,7 @@
--- Where trivia do not stand: at the edges of nodes, and inside names.
+-- Where trivia do not stand: at the edges of nodes, inside names, and before the name of an entry.
 use Rattle.std.specs.Prelude.{◌≡◌, Bool, true, false, List, [], ◌∷◌, ◌++◌}
 use Rattle.rnix_kinds.specs.declared.kinds.SyntaxKind.{SyntaxKind}
-use Rattle.rnix_kinds.specs.declared.kinds.SyntaxKind.TheVariants.{NODE_IDENT}
+use Rattle.rnix_kinds.specs.declared.kinds.SyntaxKind.TheVariants.{NODE_IDENT, NODE_PAT_ENTRY}
 use Rattle.rnix_kinds.specs.SyntaxKind.{is_trivia}
 use Rattle.rnix_tree.specs.Forest.{Forest, empty, leaf, node}
 use Rattle.rnix_grammar.specs.Sketch.{Token, Sketch, blank, token, branch, fault, tokens_in}
@@ -47,11 +47,16 @@ is_bare blank = true
 is_bare (token k t blank) = true
 is_bare f = false
 
--- the node of a name holds nothing but a token
-abbrev pub HasBareName : SyntaxKind → Sketch → Type 0
-HasBareName kind c = kind ≡ NODE_IDENT → is_bare c ≡ true
+-- a row begins with a node
+abbrev pub begins_with_node : Sketch → Bool
+begins_with_node (branch k c f) = true
+begins_with_node f = false
 
--- and so each name of a row
+-- the node of a name holds nothing but a token, and before the name of an entry of a pattern nothing stands in it
+abbrev pub HasBareName : SyntaxKind → Sketch → Type 0
+HasBareName kind c = (kind ≡ NODE_IDENT → is_bare c ≡ true) × (kind ≡ NODE_PAT_ENTRY → begins_with_node c ≡ true)
+
+-- and so each node of a row
 abbrev pub AreNamesBare : Sketch → Type 0
 AreNamesBare blank = Unit {0}
 AreNamesBare (token k t f) = AreNamesBare f

@@ -13,7 +13,7 @@ use std::alloc::AllocError;
 use std::error::Error;
 use std::fmt;
 
-/// An error of a text. Its range is that of its node in the tree, in bytes.
+/// An error of a text. Its range, in bytes, is that of its error node in the tree, or of the repeated name.
 #[derive(Debug, Drop)]
 pub enum ParseError {
     /// No cause is told. The reader never makes it.
@@ -28,7 +28,7 @@ pub enum ParseError {
     UnexpectedEOF,
     /// The text ends where one of the listed kinds is wanted.
     UnexpectedEOFWanted(Vec<SyntaxKind>),
-    /// A pattern names an argument twice.
+    /// Two entries of a pattern have one name.
     DuplicatedArgs(TextRange, String),
     /// Expressions are nested too deep.
     RecursionLimitExceeded,

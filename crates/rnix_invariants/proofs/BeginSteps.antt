@@ -83,7 +83,8 @@ bound level d a i t u us g fs n gs e h w v x lv =
     refl refl tt refl refl refl refl end refl) refl refl tt tt tt
     (λ j m. (refl, tt)) tt (omega (arith, v)) (omega (arith, x)) (lambda_waits level d a i (t ∷ (u ∷ us)) g fs gs refl w v lv))
 
-none_some : {k : SyntaxKind} → None ≡ Some k → ⊥
+-- no kind is none
+pub none_some : {k : SyntaxKind} → None ≡ Some k → ⊥
 none_some e = cc
 
 -- an operand that begins so

@@ -21,8 +21,9 @@ use Rattle.rnix_lemmas.proofs.ImitateLemmas.{start_half}
 use Rattle.rnix_lemmas.proofs.RowEndings.{none_behind}
 use Rattle.rnix_lemmas.proofs.Basics.{true_is_not_false, no_way, both_fail}
 use Rattle.rnix_lemmas.proofs.Places.{tight, over, is_pat_entry}
-use Rattle.rnix_invariants.proofs.Reading.{a_node, AtNode, AtOperand, Reading, node, operand, Lone, Linked, LinkedTo, Bounded, Grows, QuietOver, One, Level, Waits, in_node, in_operand, Refused, IsBehind, IsAhead, Begun, Tall}
+use Rattle.rnix_invariants.proofs.Reading.{AtNode, AtOperand, Reading, node, operand, Lone, Linked, LinkedTo, Bounded, Grows, QuietOver, One, Level, Waits, in_node, in_operand, Refused, IsBehind, IsAhead, Begun, Tall}
 use Rattle.rnix_lemmas.proofs.NodeKinds.{is_error}
+use Rattle.rnix_lemmas.proofs.FirstTrees.{a_node}
 use Rattle.rnix_invariants.proofs.NodeSteps.{quiet_behind, begun-⊕, linked-⊕}
 
 -- an operand goes into the node below it

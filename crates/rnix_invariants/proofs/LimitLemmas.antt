@@ -9,8 +9,8 @@ use Rattle.rnix_grammar.specs.Rows.{Spot, Nowhere, go, start}
 use Rattle.rnix_grammar.specs.Rows.{counts}
 use Rattle.rnix_grammar.specs.Nesting.{IsLimited, AreLimited}
 use Rattle.rnix_grammar.specs.BehindErrors.{go_error}
-use Rattle.rnix_invariants.proofs.Reading.{IsSingle, a_node, an_error}
 use Rattle.rnix_lemmas.proofs.NestSpots.{spot_behind}
+use Rattle.rnix_lemmas.proofs.FirstTrees.{IsSingle, a_node, an_error}
 use Rattle.rnix_invariants.proofs.NestLemmas.{start_of, one_if, IsOne}
 
 -- an error node over what is nested too deep

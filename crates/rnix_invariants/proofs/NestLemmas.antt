@@ -11,8 +11,8 @@ use Rattle.rnix_grammar.specs.Rows.{is_simple, Spot, BeforeArgument, Nowhere, to
 use Rattle.rnix_grammar.specs.Rows.{counts}
 use Rattle.rnix_grammar.specs.Nesting.{depth_of}
 use Rattle.rnix_grammar.specs.BehindErrors.{go_error}
-use Rattle.rnix_invariants.proofs.Reading.{IsSingle, a_node, an_error}
 use Rattle.rnix_lemmas.proofs.NestSpots.{spot_behind}
+use Rattle.rnix_lemmas.proofs.FirstTrees.{IsSingle, a_node, an_error}
 
 -- where the row of a frame begins
 abbrev pub start_of : Head → Spot

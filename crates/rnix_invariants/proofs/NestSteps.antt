@@ -22,8 +22,8 @@ use Rattle.rnix_grammar.specs.Rows.{Nowhere, start}
 use Rattle.rnix_grammar.specs.Sorts.{FitsNode, FitsSecond, FitsOperand}
 use Rattle.rnix_grammar.specs.Rows.{counts}
 use Rattle.rnix_grammar.specs.Nesting.{depth_of}
-use Rattle.rnix_invariants.proofs.Reading.{IsSingle}
 use Rattle.rnix_lemmas.proofs.NestSpots.{spot_behind}
+use Rattle.rnix_lemmas.proofs.FirstTrees.{IsSingle}
 use Rattle.rnix_invariants.proofs.NestActions.{IsEven, IsWrapped}
 use Rattle.rnix_invariants.proofs.NestLemmas.{one_if, HasRoom, AreNested, room_none, leaf_none, branch_none, closed_nested, even, first_room, argument_even}
 

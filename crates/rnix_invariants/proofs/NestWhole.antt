@@ -18,7 +18,7 @@ use Rattle.rnix_grammar.specs.Rows.{counts}
 use Rattle.rnix_lemmas.proofs.RowNesting.{nesting}
 use Rattle.rnix_grammar.specs.Nesting.{depth_of}
 use Rattle.rnix_lemmas.proofs.PlaceLemmas.{head_fits, step_kept, runs_kept, begins_kept}
-use Rattle.rnix_invariants.proofs.Reading.{IsSingle, Reading, node, operand, second}
+use Rattle.rnix_invariants.proofs.Reading.{Reading, node, operand, second}
 use Rattle.rnix_invariants.proofs.BeginSteps.{IsReading}
 use Rattle.rnix_invariants.proofs.SecondSteps.{runs_stand, begins_stand}
 use Rattle.rnix_lemmas.proofs.NestSpots.{spot_behind, pathless, Comes, stands_comes}
@@ -26,6 +26,7 @@ use Rattle.rnix_invariants.proofs.NestActions.{IsEven, slot_even, ended_even, Is
 use Rattle.rnix_invariants.proofs.NestLemmas.{HasRoom, AreNested}
 use Rattle.rnix_invariants.proofs.NestSteps.{node_nested, second_nested, operand_does}
 use Rattle.rnix_lemmas.proofs.Basics.{not_nil, none_left, none_right}
+use Rattle.rnix_lemmas.proofs.FirstTrees.{IsSingle}
 
 -- what is known of the innermost frame: where a node's row has come to, and that an operand is one tree
 abbrev pub IsKnown : Head → Place → Sketch → List Token → Type 0

@@ -29,11 +29,13 @@ use Rattle.rnix_invariants.proofs.NodeTable.{Steps, Slotted, going, opens, start
 use Rattle.rnix_grammar.specs.Missing.{lack, run_at}
 use Rattle.rnix_invariants.proofs.NodeSlots.{same_kinds, closes_up, took_as, attr_here, at_attr}
 
-attr_source : (k : SyntaxKind) → is_attr k ≡ true → go_source k ≡ At p.InheritNames
+-- behind an attribute before inherited names, such names stand
+pub attr_source : (k : SyntaxKind) → is_attr k ≡ true → go_source k ≡ At p.InheritNames
 attr_source NODE_IDENT h = refl
 attr_source _ h = cc
 
-attr_names : (k : SyntaxKind) → is_attr k ≡ true → go_names k ≡ At p.InheritNames
+-- so they do behind one among them
+pub attr_names : (k : SyntaxKind) → is_attr k ≡ true → go_names k ≡ At p.InheritNames
 attr_names NODE_IDENT h = refl
 attr_names _ h = cc
 

@@ -18,12 +18,14 @@ use Rattle.rnix_lemmas.proofs.SketchLemmas.{tokens_in-row_of}
 use Rattle.rnix_lemmas.proofs.Basics.{true_is_not_false}
 use Rattle.rnix_lemmas.proofs.RunLemmas.{dropped_all}
 use Rattle.rnix_lemmas.proofs.Places.{home, tight, IsIn, is_last, Leads, Placed, RightMost}
-use Rattle.rnix_invariants.proofs.Reading.{a_node, an_error, AtNode, IsAhead, Begun, Tall, AtOperand, Lone, Linked, LinkedTo, Quiet, QuietAt, One, Level, Waits, in_operand}
+use Rattle.rnix_invariants.proofs.Reading.{AtNode, IsAhead, Begun, Tall, AtOperand, Lone, Linked, LinkedTo, Quiet, QuietAt, One, Level, Waits, in_operand}
 use Rattle.rnix_lemmas.proofs.NodeKinds.{is_error}
 use Rattle.rnix_invariants.proofs.NodeSteps.{moved, kept_in, quiet_behind}
 use Rattle.rnix_invariants.proofs.BeginLemmas.{atom_grows}
-use Rattle.rnix_invariants.proofs.OpenLevels.{atom_level, atom_tall}
+use Rattle.rnix_invariants.proofs.OpenLevels.{atom_tall}
 use Rattle.rnix_lemmas.proofs.LevelLemmas.{atom_fits, power_max}
+use Rattle.rnix_lemmas.proofs.FirstTrees.{a_node, an_error}
+use Rattle.rnix_lemmas.proofs.FollowLemmas.{atom_tight}
 
 -- no operator stands where a row begins
 pub opened_start : (k j : SyntaxKind) (b : Sketch) → IsOpened (start k) b j
@@ -102,7 +104,7 @@ lone_leaf k low a i t us h g n f other l = record {
   fit = atom_fits low k h;
   grows = atom_grows k 16 h;
   single = a_node;
-  tall = subst (λ (v : ℕ). Tall low 16 v) (sym (atom_level k (one_token (told k t) t) h)) (atom_tall low l);
+  tall = subst (λ (v : ℕ). Tall low 16 v) (sym (atom_tight k (one_token (told k t) t) h)) (atom_tall low l);
   no_or = other;
   stands = λ p c q r b l x lev m o. leaf_stands k t g n (f q) lev m o;
   last = λ b. refl;

@@ -16,19 +16,20 @@ use Rattle.rnix_grammar.specs.Begins.{begin_of}
 use Rattle.rnix_grammar.specs.Sketch.{Token, Sketch, blank, ◌⊕◌, one_token, one_branch, tokens_in, is_some, told, told_as, head_kind}
 use Rattle.rnix_grammar.specs.Machine.{Head, Node, Operand, Frame, put, opened, low_of, perform, closed, made, begun}
 use Rattle.rnix_grammar.specs.Begins.{second_kind}
-use Rattle.rnix_grammar.specs.Rows.{is_atom, is_simple, is_operand, is_infix, fits, Spot, Start, BeforeOperator, BeforeDot, BeforeQuestion, BeforeArgument, At, go, live, start, to}
+use Rattle.rnix_grammar.specs.Rows.{is_simple, is_operand, is_infix, fits, Spot, Start, BeforeOperator, BeforeDot, BeforeQuestion, BeforeArgument, At, go, live, start, to}
 use Rattle.rnix_grammar.specs.Tables.{is_cur_pos}
 use Rattle.rnix_grammar.specs.TokenKinds.{is_or}
-use Rattle.rnix_grammar.specs.Stands.{end, leaf, inner, continues_kind, closing, is_attrpath, last_from, IsLeveled, IsArgument, IsOpened}
+use Rattle.rnix_grammar.specs.Stands.{end, leaf, inner, continues_kind, closing, is_attrpath, IsLeveled, IsArgument, IsOpened}
 use Rattle.rnix_grammar.specs.TokenKinds.{is_dot}
-use Rattle.rnix_grammar.specs.TreeLevels.{is_atom_row, calls_or, operator_in, level_of, row_level}
+use Rattle.rnix_grammar.specs.TreeLevels.{calls_or, level_of, row_level}
 use Rattle.rnix_lemmas.proofs.SketchLemmas.{tokens_two, tokens_in-⊕}
 use Rattle.rnix_lemmas.proofs.StandsLemmas.{stands-⊕}
-use Rattle.rnix_lemmas.proofs.Basics.{true_is_not_false, not_nil, some_same}
+use Rattle.rnix_lemmas.proofs.Basics.{true_is_not_false, not_nil}
 use Rattle.rnix_lemmas.proofs.Places.{home, tight, IsIn, is_last, Placed, RightMost}
-use Rattle.rnix_invariants.proofs.Reading.{Reading, node, operand, AtOperand, Bounded, Grows, One, Level, Waits, in_node, QuietAt, Begun, Tall, LinkedTo, IsSingle, a_node, an_error}
+use Rattle.rnix_invariants.proofs.Reading.{Reading, node, operand, AtOperand, Bounded, Grows, One, Level, Waits, in_node, QuietAt, Begun, Tall, LinkedTo}
 use Rattle.rnix_lemmas.proofs.NodeKinds.{is_error}
 use Rattle.rnix_lemmas.proofs.LevelLemmas.{sided, left_rule, Operates, operates, operand_power, simple_power, simple_fits, questioned_operand, negated_questioned, simple_negated}
+use Rattle.rnix_lemmas.proofs.FirstTrees.{IsSingle, a_node, an_error, single_operator, single_atom}
 use Rattle.rnix_invariants.proofs.OpenSteps.{ahead_behind, operand_waits, operand_on_frames, leaf_stands}
 use Rattle.rnix_invariants.proofs.BeginLemmas.{begun_as}
 use Rattle.rnix_invariants.proofs.BeginSteps.{IsReading, begins_here}
@@ -77,7 +78,8 @@ pub record Between (low high : ℕ) (k : SyntaxKind) : Type 0 where
   pub least : low ≤ power k
   pub most : power k ≤ high
 
-between : (low high : ℕ) (k : SyntaxKind) → goes_on low high k ≡ true → Between low high k
+-- what goes on between two levels has a level between them
+pub between : (low high : ℕ) (k : SyntaxKind) → goes_on low high k ≡ true → Between low high k
 between low high k h =
     let x = and_parts (nat_le 1 (power k)) (nat_le low (power k) && nat_le (power k) high) h in
     let y = and_parts (nat_le low (power k)) (nat_le (power k) high) x.1 in
@@ -186,7 +188,8 @@ continues_power j b h = by (is_simple b) (is_operand b) (is_attrpath b) h
     by false false true e = dot j e
     by false false false e = absurd (true_is_not_false (sym e))
 
-alone : {fs : List Frame} {low a i d : ℕ} {us : List Token} {es : List Fault} → Waits fs (Level low) a i d us es → fs ≡ [] → ⊥
+-- an operand waits in some frame
+pub alone : {fs : List Frame} {low a i d : ℕ} {us : List Token} {es : List Fault} → Waits fs (Level low) a i d us es → fs ≡ [] → ⊥
 alone (in_node {f = f} {fs = fs} k q h s w v m l pl mo be u n fr y o x c t z b) e = not_nil e
 
 -- an operand is complete
@@ -204,15 +207,6 @@ single_calls f an_error = refl
 single_or : (f : Sketch) (j : SyntaxKind) (t : Token) → IsSingle f → calls_or (f ⊕ one_branch NODE_IDENT (one_token j t)) ≡ is_or t.kind
 single_or f j t a_node = refl
 single_or f j t an_error = refl
-
-single_operator : (f : Sketch) (j : SyntaxKind) (t : Token) → IsSingle f → operator_in (f ⊕ one_token j t) ≡ j
-single_operator f j t a_node = refl
-single_operator f j t an_error = refl
-
--- an atom alone is one
-single_atom : (f : Sketch) (k : SyntaxKind) → IsSingle f → ((b : Option SyntaxKind) → last_from b f ≡ Some k) → is_atom k ≡ true → is_atom_row f ≡ true
-single_atom f k (a_node {k = j}) l a = ap is_atom (some_same j k (l None)) ∙ a
-single_atom f k an_error l a = refl
 
 -- no operator's left operand is tighter than 13
 call_tall : (low : ℕ) → low ≤ 15 → Tall low 15 15
@@ -250,7 +244,7 @@ goes k action (by_operator h) f fs t ts n gs r e x =
     (subst (λ (j : SyntaxKind). left_of j ≤ row_level f.row) (sym e) (r.lone.tall.operator k h x.most))
     (ap (λ j. go BeforeOperator (told_as NODE_BIN_OP j)) e ∙ ap (λ w. to w (At (p.Right (right_of k)))) h) refl refl o.right.2 (omega (arith, o.right.1)) tt (λ j b. (tt, tt)) (λ j c. c, o.bounded)
     (bin_tree (high_of k) (omega (arith, o.high, o.most)))
-    (subst (λ (v : ℕ). Tall r.low (high_of k) v) (sym (ap power (single_operator f.row (told NODE_BIN_OP t) t r.lone.single ∙ e))) (operator_tall r.low k h x.least)) (bin_fits r.low (omega (arith, x.least, o.most))))
+    (subst (λ (v : ℕ). Tall r.low (high_of k) v) (sym (ap power (single_operator f.row blank (told NODE_BIN_OP t) t r.lone.single ∙ e))) (operator_tall r.low k h x.least)) (bin_fits r.low (omega (arith, x.least, o.most))))
 goes k action by_or f fs t ts n gs r e x =
     let low : low_of f.place ≡ r.low = ap low_of r.place in
     let row : Sketch = one_branch NODE_APPLY (f.row ⊕ one_branch NODE_IDENT (one_token (told NODE_IDENT t) t)) in

@@ -9,7 +9,7 @@ use Rattle.rnix_grammar.specs.declared.slot.Slot.TheVariants as s
 use Rattle.rnix_grammar.specs.Fault.{Fault}
 use Rattle.rnix_grammar.specs.Levels.{power, left_of}
 use Rattle.rnix_grammar.specs.Slots.{slot_at}
-use Rattle.rnix_grammar.specs.Sketch.{Token, Note, Sketch, blank, branch, fault, one_branch, tokens_in, is_some, head_kind}
+use Rattle.rnix_grammar.specs.Sketch.{Token, Sketch, blank, one_branch, tokens_in, is_some, head_kind}
 use Rattle.rnix_grammar.specs.Machine.{Head, Node, Second, Operand, Frame}
 use Rattle.rnix_grammar.specs.Rows.{is_atom, is_simple, is_questioned, is_operand, is_infix, fits, Spot, SecondStart, At, go, live, start}
 use Rattle.rnix_grammar.specs.Stands.{Stands, closing, continues_kind, continues, is_attrpath, last_from, last_kind, begins_with_token, IsLeveled}
@@ -17,6 +17,7 @@ use Rattle.rnix_grammar.specs.TokenKinds.{is_dot}
 use Rattle.rnix_grammar.specs.TreeLevels.{level_of, row_level, is_or_row}
 use Rattle.rnix_lemmas.proofs.Places.{home, tight, over, IsIn, is_last, Placed, RightMost}
 use Rattle.rnix_lemmas.proofs.NodeKinds.{is_error}
+use Rattle.rnix_lemmas.proofs.FirstTrees.{IsSingle}
 
 -- what a frame waits for: a node of a kind, an operand of a level, a second name
 pub data Awaited : Type 0 where
@@ -152,11 +153,6 @@ pub data Waits : List Frame → Awaited → ℕ → ℕ → ℕ → List Token �
   in_operand : {f : Frame} {fs : List Frame} {a i d : ℕ} {us : List Token} {es : List Fault} (k : SyntaxKind) (low high : ℕ)
       → f.head ≡ Operand → f.place ≡ p.Behind low high → f.row ≡ blank → fits low k ≡ true → IsAhead k us → f.depth ≤ a → f.depth ≤ d → Waits fs (Level low) a i f.depth us es
       → Waits (f ∷ fs) (One k) a i d us es
-
--- one tree
-pub data IsSingle : Sketch → Type 0 where
-  a_node : {k : SyntaxKind} {c : Sketch} → IsSingle (branch k c blank)
-  an_error : {n : Note} {c : Sketch} → IsSingle (fault n c blank)
 
 -- a tree that is an operand, so far
 pub record Lone (low high a i : ℕ) (us : List Token) (row : Sketch) (es : List Fault) : Type 0 where

@@ -5,7 +5,7 @@ use Rattle.std.specs.Int.{bit_at}
 use Rattle.std.specs.Bool.{Decides}
 use Rattle.std.specs.List.{Contains, list_any}
 use Rattle.std.specs.Ordering.{eq_by_cmp}
-use Rattle.std.specs.Cmp.{unsigned_tied, eq_by_cmp_equiv}
+use Rattle.std.specs.Cmp.{eq_by_cmp_equiv}
 use Rattle.std.specs.FinSet.{contains, union, insert, empty, IsAntisymmetric, nat_cmp-IsAntisymmetric, same_set, contains-from_list, contains-insert, contains-union, contains-empty, from_list_push}
 use Rattle.std.proofs.lemmas.Map.Views.{Contains-from_any, list_any-from_Contains}
 use Rattle.std.proofs.lemmas.Nat.{pow_pos}
@@ -17,13 +17,14 @@ use Rattle.rnix_kinds.specs.declared.kinds.TheConstants.{ALL}
 use Rattle.rnix_kinds.specs.contracts.kinds.SyntaxKind.{the_type}
 use denote.Enum.Declared.{tag_of}
 use Rattle.rnix_kinds.specs.SyntaxKind.{place_of}
-use Rattle.rnix_kinds.specs.TokenSet.{kind_cmp, KindSet, set_of, kinds_of, number_of, same_number}
-use Rattle.rnix_kinds.specs.KindNumbers.{kind_cmp_total, contains-kinds_of, as_bit, number_from-bit}
+use Rattle.rnix_kinds.specs.TokenSet.{kind_cmp, KindSet, set_of}
+use Rattle.rnix_kinds.specs.KindNumbers.{as_bit, kinds_of, number_of, same_number, kind_cmp_total, tied_in_place, contains-set_of, contains-kinds_of, bit_at-number_of}
 use Rattle.rnix_kinds.proofs.AllKinds.{every, place_in_range, kind_at_place}
 use Rattle.rnix_kinds.proofs.SetBits.{tag_is_place, same_place}
 
 -- two kinds that tie are one
 pub kind_cmp_same : IsAntisymmetric kind_cmp
+unfolding kind_cmp
 kind_cmp_same a b e = same_place a b (nat_cmp-IsAntisymmetric (place_of a) (place_of b) e)
 
 -- sets with the same members are equal
@@ -38,11 +39,11 @@ contains-decides kinds kind = (
 )
   where
     same_tied : (a b : SyntaxKind) → eq_by_cmp kind_cmp a b ≡ true → a ≡ b
-    same_tied a b e = same_place a b ((Decides-eqb (place_of a) (place_of b)).0 (sym (unsigned_tied (place_of a) (place_of b)) ∙ e))
+    same_tied a b e = same_place a b ((Decides-eqb (place_of a) (place_of b)).0 (sym (tied_in_place a b) ∙ e))
 
 -- each kind is among all
 pub among_all : (kind : SyntaxKind) → contains (set_of ALL) kind ≡ true
-among_all kind = contains-from_list kind_cmp_total ALL kind ∙ every (λ k. list_any (eq_by_cmp kind_cmp k) ALL) refl kind
+among_all kind = contains-set_of ALL kind ∙ every (λ k. list_any (λ a. place_of k == place_of a) ALL) refl kind
 
 -- a kind is among those of a number exactly if its bit is set
 pub has_bit : (n : ℕ) (kind : SyntaxKind) → contains (kinds_of n) kind ≡ (bit_at n (place_of kind) == 1)
@@ -89,8 +90,7 @@ pub kinds_of-one : (only : SyntaxKind) → kinds_of (1 * 2 ^ tag_of the_type onl
 kinds_of-one only = ap kinds_of (kind_bit only) ∙ same_members _ _ (λ kind.
     has_bit (2 ^ place_of only) kind
     ∙ power_bit (place_of only) (place_of kind)
-    ∙ ap (λ b. b || false) (sym (unsigned_tied (place_of kind) (place_of only)))
-    ∙ sym (contains-from_list kind_cmp_total (only ∷ []) kind))
+    ∙ sym (contains-set_of (only ∷ []) kind))
 
 -- a bit with any weight tells whether it is set
 masked : (b m : ℕ) → b < 2 → 0 < m → not (nat_eq (b * m) 0) ≡ (b == 1)
@@ -141,8 +141,7 @@ as_bit_test true = refl
 as_bit_test false = refl
 
 number_of-bit : (set : KindSet) (kind : SyntaxKind) → bit_at (number_of set) (place_of kind) ≡ as_bit (contains set kind)
-unfolding number_of
-number_of-bit set kind = number_from-bit (contains set) ALL (place_of kind) kind (place_in_range kind) ∙ ap (λ k. as_bit (contains set k)) (kind_at_place kind kind)
+number_of-bit set kind = bit_at-number_of set (place_of kind) kind (place_in_range kind) ∙ ap (λ k. as_bit (contains set k)) (kind_at_place kind kind)
 
 -- the kinds of a set's number are those of the set
 pub kinds_of-number_of : (set : KindSet) → kinds_of (number_of set) ≡ set

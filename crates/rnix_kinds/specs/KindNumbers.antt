@@ -1,11 +1,11 @@
 -- The numbers that sets of kinds are kept as.
-use Rattle.std.specs.Prelude.{ℕ, ◌≡◌, ◌<◌, ◌^◌, ◌+◌, ◌*◌, ◌/◌, ◌==◌, ◌&&◌, Bool, true, false, List, [], ◌∷◌, length, if◌then◌else◌, refl}
+use Rattle.std.specs.Prelude.{ℕ, ◌≡◌, ◌<◌, ◌^◌, ◌+◌, ◌*◌, ◌/◌, ◌==◌, ◌&&◌, ◌||◌, Bool, true, false, List, [], ◌∷◌, length, if◌then◌else◌, refl}
 use Rattle.std.proofs.Common.{zero, suc, ap, sym, ◌∙◌, arith, get_or}
 use Rattle.std.specs.Int.{bit_at}
 use Rattle.std.specs.List.{list_all, list_any}
 use Rattle.std.specs.Ordering.{eq_by_cmp}
 use Rattle.std.specs.declared.cmp.Ordering.TheVariants.{Equal}
-use Rattle.std.specs.Cmp.{IsTotalOrder, on_total, nat_cmp_total}
+use Rattle.std.specs.Cmp.{IsEquivalence, IsTotalOrder, nat_eq_equiv, on_equiv, on_total, nat_cmp_total, unsigned_tied}
 use Rattle.std.specs.FinSet as set
 use Rattle.std.specs.FinSet.{nat_cmp-IsAntisymmetric, contains-retain, contains-from_list}
 use Rattle.std.proofs.lemmas.Bool.{and_parts}
@@ -16,15 +16,50 @@ use Rattle.rnix_kinds.specs.declared.kinds.SyntaxKind.{SyntaxKind}
 use Rattle.rnix_kinds.specs.declared.kinds.SyntaxKind.TheVariants.{TOKEN_ADD}
 use Rattle.rnix_kinds.specs.declared.kinds.TheConstants.{ALL}
 use Rattle.rnix_kinds.specs.SyntaxKind.{place_of}
-use Rattle.rnix_kinds.specs.TokenSet.{kind_cmp, set_of, kinds_of, number_from, number_of}
+use Rattle.rnix_kinds.specs.TokenSet.{kind_cmp, KindSet, set_of}
+
+-- a bit that is set or not
+abbrev pub as_bit : Bool → ℕ
+as_bit b = if b then 1 else 0
+
+-- the kinds whose bits are set in a number
+pub kinds_of : ℕ → KindSet
+kinds_of number = set.retain (set_of ALL) (λ kind. bit_at number (place_of kind) == 1)
+
+-- the number with a bit for each kind of a list that passes, the first kind's bit the lowest
+abbrev number_from : (SyntaxKind → Bool) → List SyntaxKind → ℕ
+number_from passes [] = 0
+number_from passes (kind ∷ kinds) = as_bit (passes kind) + 2 * number_from passes kinds
+
+-- the number with a bit for each kind in the set
+pub number_of : KindSet → ℕ
+number_of kinds = number_from (set.contains kinds) ALL
+
+-- two sets have one number
+abbrev pub same_number : KindSet → KindSet → Bool
+same_number a b = number_of a == number_of b
+
+-- to have one number is an equivalence
+pub same_number_laws : IsEquivalence same_number
+same_number_laws = on_equiv number_of nat_eq_equiv
 
 -- the order of kinds is total
 pub kind_cmp_total : IsTotalOrder kind_cmp
+unfolding kind_cmp
 kind_cmp_total = on_total place_of nat_cmp_total
 
--- a bit that is 1 or not
-abbrev pub as_bit : Bool → ℕ
-as_bit b = if b then 1 else 0
+-- kinds tie exactly if they stand in one place
+pub tied_in_place : (a b : SyntaxKind) → eq_by_cmp kind_cmp a b ≡ (place_of a == place_of b)
+unfolding kind_cmp
+tied_in_place a b = unsigned_tied (place_of a) (place_of b)
+
+-- which kinds are in the set of some kinds
+pub contains-set_of : (kinds : List SyntaxKind) (kind : SyntaxKind) → set.contains (set_of kinds) kind ≡ list_any (λ k. place_of kind == place_of k) kinds
+contains-set_of kinds kind = contains-from_list kind_cmp_total kinds kind ∙ by kinds
+  where
+    by : (ks : List SyntaxKind) → list_any (eq_by_cmp kind_cmp kind) ks ≡ list_any (λ k. place_of kind == place_of k) ks
+    by [] = refl
+    by (k ∷ ks) = λ i. tied_in_place kind k i || by ks i
 
 as_bit_back : (n : ℕ) → n < 2 → as_bit (n == 1) ≡ n
 as_bit_back zero low = refl
@@ -36,7 +71,7 @@ as_bit-lt true = omega arith
 as_bit-lt false = omega arith
 
 -- the bits of a number that is made of some kinds
-pub number_from-bit : (passes : SyntaxKind → Bool) (kinds : List SyntaxKind) (i : ℕ) (d : SyntaxKind) → i < length kinds
+number_from-bit : (passes : SyntaxKind → Bool) (kinds : List SyntaxKind) (i : ℕ) (d : SyntaxKind) → i < length kinds
     → bit_at (number_from passes kinds) i ≡ as_bit (passes (get_or kinds i d))
 number_from-bit passes [] i d l = absurd (omega arith)
 number_from-bit passes (k ∷ ks) zero d l =
@@ -72,6 +107,7 @@ all_at test (k ∷ ks) (suc i) d h l = all_at test ks i d (and_parts (test k) (l
 
 -- kinds in one place pass alike
 same_bit : (n : ℕ) (a b : SyntaxKind) → kind_cmp a b ≡ Equal → (bit_at n (place_of b) == 1) ≡ (bit_at n (place_of a) == 1)
+unfolding kind_cmp
 same_bit n a b e = ap (λ p. bit_at n p == 1) (sym (nat_cmp-IsAntisymmetric (place_of a) (place_of b) e))
 
 -- the kinds of a number are those of all whose bits are set in it
@@ -79,16 +115,24 @@ pub contains-kinds_of : (n : ℕ) (kind : SyntaxKind) → set.contains (kinds_of
 unfolding kinds_of
 contains-kinds_of n kind = contains-retain (set_of ALL) (λ k. bit_at n (place_of k) == 1) kind (same_bit n kind)
 
+-- the bits of a set's number are set for its kinds
+pub bit_at-number_of : (kinds : KindSet) (i : ℕ) (d : SyntaxKind) → i < 93 → bit_at (number_of kinds) i ≡ as_bit (set.contains kinds (get_or ALL i d))
+unfolding number_of
+bit_at-number_of kinds i d l = number_from-bit (set.contains kinds) ALL i d l
+
+number_of-lt : (kinds : KindSet) → number_of kinds < 2 ^ 93
+unfolding number_of
+number_of-lt kinds = number_from-lt (set.contains kinds) ALL
+
 -- a number with no other bits is that of the kinds whose bits are set in it
 pub number_of-kinds_of : (n : ℕ) → n < 2 ^ 93 → number_of (kinds_of n) ≡ n
-unfolding number_of
-number_of-kinds_of n low = same_from_bits_below 93 (number_of (kinds_of n)) n (number_from-lt (set.contains (kinds_of n)) ALL) low bits
+number_of-kinds_of n low = same_from_bits_below 93 (number_of (kinds_of n)) n (number_of-lt (kinds_of n)) low bits
   where
     bits : (i : ℕ) → i < 93 → bit_at (number_of (kinds_of n)) i ≡ bit_at n i
     bits i l =
         let kind : SyntaxKind = get_or ALL i TOKEN_ADD in
         let place : place_of kind ≡ i = place_at 0 i ALL TOKEN_ADD refl l ∙ (omega arith) in
-        let all : set.contains (set_of ALL) kind ≡ true = contains-from_list kind_cmp_total ALL kind ∙ all_at (λ k. list_any (eq_by_cmp kind_cmp k) ALL) ALL i TOKEN_ADD refl l in
-        number_from-bit (set.contains (kinds_of n)) ALL i TOKEN_ADD l
+        let all : set.contains (set_of ALL) kind ≡ true = contains-set_of ALL kind ∙ all_at (λ k. list_any (λ a. place_of k == place_of a) ALL) ALL i TOKEN_ADD refl l in
+        bit_at-number_of (kinds_of n) i TOKEN_ADD l
         ∙ ap as_bit (contains-kinds_of n kind ∙ ap (λ b. b && bit_at n (place_of kind) == 1) all ∙ ap (λ p. bit_at n p == 1) place)
         ∙ as_bit_back (bit_at n i) (bit_at-lt n i)

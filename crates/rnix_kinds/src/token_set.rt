@@ -10,7 +10,7 @@ use crate::kinds::SyntaxKind;
 use std::marker::Model;
 use std::ops::BitOr;
 
-/// A set of kinds. `a | b` is the union of two sets or kinds, where `()` is the empty set.
+/// A set of kinds. `a | b` is the union of two sets or kinds; `() | kind` is the set of one kind.
 #[derive(Clone, Copy, Debug)]
 pub struct TokenSet {
     bits: u128,
@@ -18,8 +18,8 @@ pub struct TokenSet {
 
 impl Model for TokenSet {
     ghost use Rattle.std.specs.Prelude.{◌<◌, ◌^◌};
-    ghost use Rattle.rnix_kinds.specs.TokenSet.{KindSet, set_code, kinds_of, number_of};
-    ghost use Rattle.rnix_kinds.specs.KindNumbers.{number_of-kinds_of};
+    ghost use Rattle.rnix_kinds.specs.TokenSet.{KindSet, set_code};
+    ghost use Rattle.rnix_kinds.specs.KindNumbers.{kinds_of, number_of, number_of-kinds_of};
 
     ghost Value = { KindSet };
 
@@ -78,7 +78,7 @@ impl TokenSet {
 
 impl PartialEq for TokenSet {
     ghost use Rattle.std.specs.Cmp.{partial_equiv_from_equiv};
-    ghost use Rattle.rnix_kinds.specs.TokenSet.{same_number, same_number_laws};
+    ghost use Rattle.rnix_kinds.specs.KindNumbers.{same_number, same_number_laws};
 
     ghost eq = { same_number };
 
@@ -90,7 +90,7 @@ impl PartialEq for TokenSet {
 }
 
 impl Eq for TokenSet {
-    ghost use Rattle.rnix_kinds.specs.TokenSet.{same_number_laws};
+    ghost use Rattle.rnix_kinds.specs.KindNumbers.{same_number_laws};
 
     ghost laws = { same_number_laws };
 }

@@ -13,14 +13,12 @@ use Rattle.rnix_grammar.specs.declared.begin.Begin.TheVariants as b
 use Rattle.rnix_grammar.specs.Fault.{Fault}
 use Rattle.rnix_grammar.specs.Tables.{is_wanted, depth_limit}
 use Rattle.rnix_grammar.specs.Actions.{action_at}
-use Rattle.rnix_grammar.specs.Begins.{begin_of}
-use Rattle.rnix_grammar.specs.Sketch.{Token, Stray, Unwanted, Extra, Twice, TooDeep, Sketch, blank, ◌⊕◌, one_branch, one_fault, row_of, tokens_in, clean, token_if, told, head_kind}
+use Rattle.rnix_grammar.specs.Begins.{begin_of, second_kind}
+use Rattle.rnix_grammar.specs.Sketch.{Token, Stray, Unwanted, Extra, Twice, TooDeep, Sketch, blank, ◌⊕◌, one_branch, one_fault, row_of, tokens_in, clean, token_if, told, head_kind, touches}
 use Rattle.rnix_grammar.specs.Layout.{items, from_item, tail_of, trivia_before}
 use Rattle.rnix_grammar.specs.Reports.{report, repeated}
 use Rattle.rnix_grammar.specs.Machine.{Head, Node, Second, Operand, Frame, Machine, put, opened, ate, behind, end_of, reach, leaf_in, leaf, run_row, dropped, run_rest, kind_of, made, low_of, machine, closed, entry_closed, limited, begun, operand_on, reading, perform, step_on, step, Runs, rest, then as further}
 use Rattle.rnix_grammar.specs.Missing.{run_of}
-use Rattle.rnix_grammar.specs.Begins.{second_kind}
-use Rattle.rnix_grammar.specs.Sketch.{touches}
 use Rattle.rnix_grammar.specs.Clean.{clean_frame, clean_frames, clean_machine}
 use Rattle.rnix_lemmas.proofs.SketchLemmas.{⊕-blank, tokens_in-row_of}
 use Rattle.rnix_lemmas.proofs.LayoutLemmas.{items_head, items-view, items-from_item, from_item_item, clean-⊕, clean-trivia, IsBared, bared}

@@ -10,13 +10,11 @@ use Rattle.rnix_grammar.specs.declared.begin.Begin.TheVariants as b
 use Rattle.rnix_grammar.specs.Fault.{Fault, ended, ended_before, too_deep}
 use Rattle.rnix_grammar.specs.Tables.{wanted_kinds, depth_limit}
 use Rattle.rnix_grammar.specs.Actions.{action_at}
-use Rattle.rnix_grammar.specs.Begins.{begin_of}
-use Rattle.rnix_grammar.specs.Sketch.{Token, Stray, Unwanted, Extra, Twice, blank, tokens_in, head_kind}
+use Rattle.rnix_grammar.specs.Begins.{begin_of, second_kind}
+use Rattle.rnix_grammar.specs.Sketch.{Token, Stray, Unwanted, Extra, Twice, blank, tokens_in, head_kind, touches}
 use Rattle.rnix_grammar.specs.Reports.{report, repeated}
 use Rattle.rnix_grammar.specs.Machine.{Node, Operand, Frame, Machine, put, opened, seen, low_of, closed, cleaned, entry_closed, limited, begun, operand_on, reading, perform, step_on, step}
 use Rattle.rnix_grammar.specs.Missing.{run_of}
-use Rattle.rnix_grammar.specs.Begins.{second_kind}
-use Rattle.rnix_grammar.specs.Sketch.{touches}
 use Rattle.rnix_lemmas.proofs.Basics.{none_left}
 
 -- a machine has these errors first

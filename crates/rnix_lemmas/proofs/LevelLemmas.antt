@@ -62,11 +62,16 @@ pub atom_fits : (n : ℕ) (k : SyntaxKind) → is_atom k ≡ true → fits n k �
 atom_fits n k h = simple_fits n k (atom_simple k h)
 
 -- what a test of two numbers says
-at_most : (m n : ℕ) → nat_le m n ≡ true → m ≤ n
+pub at_most : (m n : ℕ) → nat_le m n ≡ true → m ≤ n
 at_most m n h = grind (arith, nat_tests, h)
 
-same_number : (m n : ℕ) → nat_eq m n ≡ true → m ≡ n
+-- what a test of equal numbers says
+pub same_number : (m n : ℕ) → nat_eq m n ≡ true → m ≡ n
 same_number m n h = grind (arith, nat_tests, h)
+
+-- and what it answers
+pub at_most_true : (m n : ℕ) → m ≤ n → nat_le m n ≡ true
+at_most_true m n h = grind (arith, nat_tests, h)
 
 within : (l m n : ℕ) → (nat_le l m && nat_le m n) ≡ true → (l ≤ m) × (m ≤ n)
 within l m n h = let q = and_parts (nat_le l m) (nat_le m n) h in (at_most l m q.0, at_most m n q.1)

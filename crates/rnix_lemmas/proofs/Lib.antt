@@ -2,6 +2,9 @@ pub mod RowEndings
 pub mod EntryNames
 pub mod EveryKind
 pub mod StrictParts
+pub mod FollowLemmas
+pub mod FirstTrees
+pub mod OpenHeads
 pub mod NodeKinds
 pub mod Basics
 pub mod SketchLemmas
@@ -32,5 +35,6 @@ pub mod LaidLemmas
 pub mod NestSpots
 pub mod RowNesting
 pub mod NestPlaces
+pub mod LaterSpots
 pub mod NestKinds
 pub mod NestTrees

@@ -10,10 +10,8 @@ use Rattle.rnix_grammar.specs.declared.place.Place.TheVariants as p
 use Rattle.rnix_grammar.specs.declared.slot.Slot.{Slot}
 use Rattle.rnix_grammar.specs.declared.slot.Slot.TheVariants as s
 use Rattle.rnix_grammar.specs.Tables.{is_wanted, closes}
-use Rattle.rnix_grammar.specs.Slots.{slot_at}
-use Rattle.rnix_grammar.specs.Rows.{Spot, Start, BeforeOperator, BeforeDot, BeforeQuestion, BeforeArgument, BeforeAt, BeforeBrace, SecondStart, At, Nowhere, to, first, go, go_slot, is_entry, is_expression, fits, live}
-use Rattle.rnix_grammar.specs.Slots.{is_counted}
-use Rattle.rnix_grammar.specs.Rows.{counts}
+use Rattle.rnix_grammar.specs.Slots.{slot_at, is_counted}
+use Rattle.rnix_grammar.specs.Rows.{Spot, Start, BeforeOperator, BeforeDot, BeforeQuestion, BeforeArgument, BeforeAt, BeforeBrace, SecondStart, At, Nowhere, to, first, go, go_slot, is_entry, is_expression, fits, live, counts}
 use Rattle.rnix_grammar.specs.Nest.{is_flat, nests}
 use Rattle.rnix_lemmas.proofs.Basics.{true_is_not_false, not_if, choice}
 use Rattle.rnix_lemmas.proofs.EveryKind.{whenever_both, whenever_two, never}

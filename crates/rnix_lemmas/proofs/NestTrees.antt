@@ -1,31 +1,26 @@
 -- Nesting by the kinds of nodes is nesting along the rows, for trees whose nodes have rows of their kinds.
 use Rattle.std.proofs.Common.{◌≡◌, ℕ, suc, Bool, true, false, List, [], ◌∷◌, refl, ap, sym, ◌∙◌, subst, arith}
 use Rattle.std.proofs.lemmas.Bool.{and_parts}
-use Rattle.std.specs.List.{list_all}
 use Rattle.std.specs.Prelude.{◌&&◌, if◌then◌else◌, max}
-use Rattle.rnix_kinds.proofs.AllKinds.{all_kinds, every, implied}
+use Rattle.rnix_kinds.proofs.AllKinds.{implied}
 use Rattle.rnix_kinds.specs.declared.kinds.SyntaxKind.{SyntaxKind}
 use Rattle.rnix_kinds.specs.declared.kinds.SyntaxKind.TheVariants.{NODE_IDENT, NODE_PAT_ENTRY, NODE_ROOT, TOKEN_IDENT}
 use Rattle.rnix_tree.specs.Forest.{Forest, empty, leaf, node}
 use Rattle.rnix_grammar.specs.declared.place.Place.TheVariants as p
-use Rattle.rnix_grammar.specs.declared.slot.Slot.{Slot}
-use Rattle.rnix_grammar.specs.declared.slot.Slot.TheVariants as s
-use Rattle.rnix_grammar.specs.Slots.{slot_at}
-use Rattle.rnix_grammar.specs.Rows.{Spot, Start, At, Nowhere, first, first_token, go, live, whole, start, run, is_row}
+use Rattle.rnix_grammar.specs.Rows.{Spot, Start, At, Nowhere, first, first_token, go, live, whole, start, run, is_row, counts}
 use Rattle.rnix_grammar.specs.Mended.{kinds_of}
 use Rattle.rnix_grammar.specs.Strict.{is_strict, is_strict_expression}
-use Rattle.rnix_grammar.specs.Rows.{counts}
 use Rattle.rnix_lemmas.proofs.RowNesting.{nesting}
 use Rattle.rnix_grammar.specs.Nest.{is_flat, nests, nest}
-use Rattle.rnix_lemmas.proofs.Basics.{true_is_not_false, not_if, choice}
+use Rattle.rnix_lemmas.proofs.Basics.{true_is_not_false, choice}
 use Rattle.rnix_lemmas.proofs.EachKind.{each_kind}
 use Rattle.rnix_lemmas.proofs.EveryKind.{only, never}
 use Rattle.rnix_lemmas.proofs.ImitateLemmas.{run_live}
 use Rattle.rnix_lemmas.proofs.RowKinds.{has_row, starts_row}
-use Rattle.rnix_lemmas.proofs.SpotCases.{Usual, Next, case_slot}
 use Rattle.rnix_lemmas.proofs.StrictParts.{parts}
 use Rattle.rnix_lemmas.proofs.NestPlaces.{IsOwned, start_owned, go_owned}
 use Rattle.rnix_lemmas.proofs.NestKinds.{is_formal_start, counts_nests}
+use Rattle.rnix_lemmas.proofs.LaterSpots.{is_start, go_later}
 
 -- each node in a row from a spot on goes on with the row, and has a row of its kind
 abbrev pub Goes : Spot → Forest → Type 0
@@ -33,23 +28,14 @@ Goes q empty = Unit {0}
 Goes q (leaf k t f) = Goes (go q k) f
 Goes q (node k c f) = (live (go q k) ≡ true) × (has_row k ≡ true) × Goes (start k) c × Goes (go q k) f
 
+-- where no row begins no entry's does
+no_formal : (q : Spot) → is_start q ≡ false → is_formal_start q ≡ false
+no_formal (Start k) h = absurd (true_is_not_false h)
+no_formal _ h = refl
+
 -- the row of an entry of a pattern begins nowhere but at its beginning
-abbrev IsLater : Spot → Type 0
-IsLater q = is_formal_start q ≡ false
-
-usual : Usual IsLater
-usual = assumption
-
-later_next : (slot : Slot) → Next IsLater slot
-later_next (s.Token until y) = refl
-later_next _ = cc
-
-go_later : (q : Spot) (k : SyntaxKind) → is_formal_start (go q k) ≡ false
-go_later (Start n) k =
-    not_if (is_formal_start (first n k))
-    (every (λ k. if is_formal_start (first n k) then false else true) (every (λ n. list_all (λ k. if is_formal_start (first n k) then false else true) all_kinds) refl n) k)
-go_later (At x) k = case_slot usual (slot_at x) x k refl (later_next (slot_at x))
-go_later q k = each_kind (λ k. IsLater (go q k)) (assumption) k
+formal_later : (q : Spot) (k : SyntaxKind) → is_formal_start (go q k) ≡ false
+formal_later q k = no_formal (go q k) (go_later q k)
 
 -- nothing is inside a name
 nowhere_none : (f : Forest) → Goes Nowhere f → nesting Nowhere f ≡ 0
@@ -125,18 +111,18 @@ never_both (node k c f) w h = h
 -- so a row nests by its kind as it does from a spot on
 nest_from : (k : SyntaxKind) (q : Spot) (f : Forest) → IsOwned k q → has_row k ≡ true → (begins_with_node f && is_formal_start q) ≡ false → Goes q f → nest k f ≡ nesting q f
 nest_from k q empty o r n g = refl
-nest_from k q (leaf j t f) o r n g = nest_from k (go q j) f (go_owned k q j o) r (never_both f (is_formal_start (go q j)) (go_later q j)) g
+nest_from k q (leaf j t f) o r n g = nest_from k (go q j) f (go_owned k q j o) r (never_both f (is_formal_start (go q j)) (formal_later q j)) g
 nest_from k q (node j empty f) o r n g =
     other_nests k q j empty f refl (counts_nests k q j o n r g.1 g.0) refl
-    (nest_from k (go q j) f (go_owned k q j o) r (never_both f (is_formal_start (go q j)) (go_later q j)) g.3)
+    (nest_from k (go q j) f (go_owned k q j o) r (never_both f (is_formal_start (go q j)) (formal_later q j)) g.3)
 nest_from k q (node j (leaf i t e) f) o r n g =
     other_nests k q j (leaf i t e) f refl (counts_nests k q j o n r g.1 g.0) (nest_from j (start j) (leaf i t e) (start_owned j) g.1 refl g.2)
-    (nest_from k (go q j) f (go_owned k q j o) r (never_both f (is_formal_start (go q j)) (go_later q j)) g.3)
+    (nest_from k (go q j) f (go_owned k q j o) r (never_both f (is_formal_start (go q j)) (formal_later q j)) g.3)
 nest_from k q (node j (node i d e) f) o r n g =
     let w : counts q ≡ nests k j = counts_nests k q j o n r g.1 g.0 in
-    let later : nest k f ≡ nesting (go q j) f = nest_from k (go q j) f (go_owned k q j o) r (never_both f (is_formal_start (go q j)) (go_later q j)) g.3 in
+    let later : nest k f ≡ nesting (go q j) f = nest_from k (go q j) f (go_owned k q j o) r (never_both f (is_formal_start (go q j)) (formal_later q j)) g.3 in
     let behind : nest j e ≡ nesting (go (start j) i) e =
-    nest_from j (go (start j) i) e (go_owned j (start j) i (start_owned j)) g.1 (never_both e (is_formal_start (go (start j) i)) (go_later (start j) i)) g.2.3 in
+    nest_from j (go (start j) i) e (go_owned j (start j) i (start_owned j)) g.1 (never_both e (is_formal_start (go (start j) i)) (formal_later (start j) i)) g.2.3 in
     let inside : is_formal j ≡ false → nest j (node i d e) ≡ nesting (start j) (node i d e) = λ h. nest_from j (start j) (node i d e) (start_owned j) g.1 (formal_same j ∙ h) g.2 in
     by (is_formal j) refl w later behind inside
   where

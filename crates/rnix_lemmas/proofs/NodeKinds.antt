@@ -25,9 +25,11 @@ told_plain _ kind h = cc
 pub expression_node : (k : SyntaxKind) → is_expression k ≡ true → is_node k ≡ true
 expression_node = implied is_expression is_node refl
 
+-- attributes are nodes
 pub attr_node : (k : SyntaxKind) → is_attr k ≡ true → is_node k ≡ true
 attr_node = implied is_attr is_node refl
 
+-- so are entries
 pub entry_node : (k : SyntaxKind) → is_entry k ≡ true → is_node k ≡ true
 entry_node = implied is_entry is_node refl
 

@@ -12,12 +12,10 @@ use Rattle.rnix_grammar.specs.declared.begin.Begin.TheVariants as b
 use Rattle.rnix_grammar.specs.Fault.{Fault}
 use Rattle.rnix_grammar.specs.Tables.{is_cur_pos, depth_limit}
 use Rattle.rnix_grammar.specs.Actions.{action_at}
-use Rattle.rnix_grammar.specs.Begins.{is_pattern, begin_name, begin_let, begin_keyword, begin_scope, begin_of}
-use Rattle.rnix_grammar.specs.Sketch.{Token, Twice, Sketch, blank, tokens_in, head_kind}
+use Rattle.rnix_grammar.specs.Begins.{is_pattern, begin_name, begin_let, begin_keyword, begin_scope, begin_of, second_kind}
+use Rattle.rnix_grammar.specs.Sketch.{Token, Twice, Sketch, blank, tokens_in, head_kind, touches}
 use Rattle.rnix_grammar.specs.Reports.{report, repeated}
 use Rattle.rnix_grammar.specs.Machine.{Head, Node, Second, Operand, Frame, Machine, opened, seen, low_of, closed, cleaned, entry_closed, limited, begun, operand_on, reading, perform, step_on, step, begins, Runs, rest, then as further}
-use Rattle.rnix_grammar.specs.Begins.{second_kind}
-use Rattle.rnix_grammar.specs.Sketch.{touches}
 use Rattle.rnix_grammar.specs.Sorts.{Sort, Inner, Naming, Following, sort_of, is_inner, is_naming, is_start, IsInner, HasNext, FitsNode, FitsSecond, FitsOperand, Fits, Suits, Waits, Under, AreKept}
 use Rattle.rnix_lemmas.proofs.PlaceFacts.{action_fits}
 use Rattle.rnix_lemmas.proofs.Basics.{choice}

@@ -98,6 +98,7 @@ most_at : (x : Place) → RightMost x → IsMost (slot_at x)
 most_at (p.Right level) r = omega (arith, r)
 most_at _ r = omega arith
 
+-- an operand at a place at whose right the tree may end is of no tighter level than 16
 pub operand_most : (x : Place) (level : ℕ) (counted : Bool) (y : Place) → slot_at x ≡ s.Operand level counted y → RightMost x → level ≤ 16
 operand_most x level counted y h r = subst IsMost h (most_at x r)
 

@@ -1,8 +1,7 @@
 -- How deep a tree nests along the rows that the reader goes by.
 use Rattle.std.specs.Prelude.{ℕ, suc, max, if◌then◌else◌}
 use Rattle.rnix_tree.specs.Forest.{Forest, empty, leaf, node}
-use Rattle.rnix_grammar.specs.Rows.{Spot, go, start}
-use Rattle.rnix_grammar.specs.Rows.{counts}
+use Rattle.rnix_grammar.specs.Rows.{Spot, go, start, counts}
 
 -- how many counted places are inside one another, in a row from a spot on
 abbrev pub nesting : Spot → Forest → ℕ

@@ -3,10 +3,9 @@ use Rattle.std.proofs.Common.{◌≡◌, ℕ, ◌+◌, ◌≤◌, List, [], ◌�
 use Rattle.rnix_kinds.specs.declared.kinds.SyntaxKind.{SyntaxKind}
 use Rattle.rnix_grammar.specs.Fault.{Fault}
 use Rattle.rnix_grammar.specs.Sketch.{Token, Sketch, ◌⊕◌, one_token, one_branch, one_fault, Note, Stray, Unwanted, Extra, Twice, TooDeep, tokens_in}
-use Rattle.rnix_grammar.specs.Reports.{report}
+use Rattle.rnix_grammar.specs.Reports.{report, repeats}
 use Rattle.rnix_grammar.specs.Rows.{Spot}
 use Rattle.rnix_grammar.specs.Stands.{Stands, end, leaf, lost, wrong, second, inner, IsBeside}
-use Rattle.rnix_grammar.specs.Reports.{repeats}
 use Rattle.rnix_lemmas.proofs.SketchLemmas.{⊕-assoc, ⊕-blank, tokens_two, tokens_in-⊕, tokens_in-row_of}
 use Rattle.rnix_lemmas.proofs.Basics.{none_right, none_left}
 

@@ -84,6 +84,7 @@ atom_level NODE_IDENT c h = (refl, λ b. refl, refl)
 atom_level NODE_CUR_POS c h = (refl, λ b. refl, refl)
 atom_level _ c h = absurd (cc)
 
+-- a strict atom is named as its kind is
 pub atom_named : (k : SyntaxKind) (c : Forest) → is_strict_atom k c ≡ true → is_named k c ≡ true
 atom_named NODE_LAMBDA c h = absurd (cc)
 atom_named k c h = (and_parts (is_atom k) (is_named k c) h).1

@@ -1,10 +1,10 @@
 -- A text has one reading, and all that is promised follows from it.
-use Rattle.std.proofs.Common.{◌≡◌, ℕ, ◌+◌, ◌≤◌, true, false, List, [], ◌∷◌, ◌++◌, length, refl, ap, sym, ◌∙◌, subst, append-nil, append_assoc}
+use Rattle.std.proofs.Common.{◌≡◌, ℕ, ◌+◌, ◌≤◌, true, false, List, [], ◌∷◌, ◌++◌, length, refl, ap, sym, ◌∙◌, subst, append_assoc}
 use Rattle.std.specs.Prelude.{flat_map}
 use Rattle.rnix_kinds.specs.declared.kinds.SyntaxKind.TheVariants.{NODE_ROOT}
 use Rattle.rnix_kinds.specs.Lexical.Tokens.{Lexeme, text_of as lexeme_text, AreSound, tokens_of}
 use Rattle.rnix_tree.specs.Forest.{text_of}
-use Rattle.rnix_tree.specs.Tree.{Tree, forest_of}
+use Rattle.rnix_tree.specs.Tree.{Tree}
 use Rattle.rnix_grammar.specs.declared.place.Place.TheVariants.{RootStart, RootEnd}
 use Rattle.rnix_grammar.specs.Fault.{Fault}
 use Rattle.rnix_grammar.specs.Tables.{depth_limit}

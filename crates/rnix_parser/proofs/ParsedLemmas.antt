@@ -8,7 +8,7 @@ use Rattle.rnix_tree.specs.Forest.{Forest, empty, leaf, node, join}
 use Rattle.rnix_grammar.specs.declared.place.Place.{Place}
 use Rattle.rnix_grammar.specs.declared.place.Place.TheVariants.{RootStart, RootEnd}
 use Rattle.rnix_grammar.specs.Tables.{depth_limit}
-use Rattle.rnix_grammar.specs.Sketch.{Token, Sketch, blank, token, branch, fault, ◌⊕◌, forget, tokens_in, clean, placed_from, AreTold}
+use Rattle.rnix_grammar.specs.Sketch.{Token, Sketch, blank, forget, tokens_in, clean, placed_from, AreTold}
 use Rattle.rnix_grammar.specs.Layout.{items, from_item, trivia_before, trivia_if}
 use Rattle.rnix_grammar.specs.Reads.{ReadsWhole}
 use Rattle.rnix_grammar.specs.Machine.{Node, Frame, Machine, begins, ate, Runs}
@@ -37,7 +37,7 @@ use Rattle.rnix_rows.proofs.TokenLemmas.{runs_tokens}
 use Rattle.rnix_rows.proofs.ToldLemmas.{whole_told, told_ate}
 use Rattle.rnix_rows.proofs.TrimLemmas.{whole_trimmed}
 use Rattle.rnix_rows.proofs.BareNames.{bare-⊕, bare_trivia, whole_bare}
-use Rattle.rnix_lemmas.proofs.EdgeLemmas.{faults_trimmed_trivia}
+use Rattle.rnix_lemmas.proofs.EdgeLemmas.{faults_trimmed_trivia, faults_trimmed-⊕}
 use Rattle.rnix_rows.proofs.WholeEdges.{whole_nodes_trimmed}
 use Rattle.rnix_invariants.proofs.LastStep.{last_stands}
 use Rattle.rnix_rows.proofs.StandsWhole.{whole_paired, whole_named, whole_settled, whole_few, whole_ended, whole_begun}
@@ -79,12 +79,6 @@ trimmed_if false t f h = tt
 trimmed_trivia : (ts : List Token) → AreNodesTrimmed (forget (trivia_before ts))
 trimmed_trivia [] = tt
 trimmed_trivia (t ∷ ts) = trimmed_if (is_trivia t.kind) t (trivia_before ts) (trimmed_trivia ts)
-
-faults_trimmed-⊕ : (f g : Sketch) → AreFaultsTrimmed f → AreFaultsTrimmed g → AreFaultsTrimmed (f ⊕ g)
-faults_trimmed-⊕ blank g h k = k
-faults_trimmed-⊕ (token j t f) g h k = faults_trimmed-⊕ f g h k
-faults_trimmed-⊕ (branch j c f) g h k = (h.0, faults_trimmed-⊕ f g h.1 k)
-faults_trimmed-⊕ (fault n c f) g h k = (h.0, h.1, h.2, faults_trimmed-⊕ f g h.3 k)
 
 -- a tree without trivia, and its errors, as they must be to be a derivation
 pub record IsFit (f : Sketch) (ts : List Token) (es : List Fault) : Type 0 where

@@ -7,7 +7,8 @@ ghost use Rattle.rnix_grammar.specs.Sketch.{placed_from};
 ghost use Rattle.rnix_grammar.specs.Layout.{items};
 ghost use Rattle.rnix_grammar.specs.Derivation.{IsDerivation};
 
-/// A text has one derivation at most: two strict trees of its items, neither nested deeper than the limit, are equal.
+/// A text has one derivation at most: two strict trees of its items, neither nested deeper than the limit, each path with all the pieces that
+/// touch it, are equal.
 pub fn one_derivation(text: &str)
     ensures { (t u : Forest) → IsDerivation t (items (placed_from 0 (tokens_of text.now))) → IsDerivation u (items (placed_from 0 (tokens_of text.now))) → t ≡ u }
 {

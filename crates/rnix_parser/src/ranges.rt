@@ -10,7 +10,8 @@ ghost use Rattle.rnix_grammar.specs.Ranges.{of_nodes, error_nodes, at_fault, Are
 
 /// The errors other than those of the end of the text are, one by one, those of the NODE_ERROR elements of the tree and of the NODE_PAT_ENTRY
 /// elements that have the name of one before them, in the order in which these close. An error that has a range has that of its NODE_ERROR, or
-/// that of the NODE_IDENT with which its NODE_PAT_ENTRY begins. NODE_ERROR elements alone close in the order in which a walk leaves them.
+/// that of the NODE_IDENT with which its NODE_PAT_ENTRY begins, and if it tells the kind of a token, its NODE_ERROR begins with one of that
+/// kind. The errors of error nodes alone are those of the NODE_ERROR elements, in the order in which a walk leaves these.
 pub fn ranges_of_errors(text: &str)
     ensures order { (tree : Tree) (faults : List Fault) → IsParsed (tokens_of text.now) tree faults → AreErrorsOf tree (others faults) (at_fault tree) }
     ensures nodes { (tree : Tree) (faults : List Fault) → IsParsed (tokens_of text.now) tree faults → AreErrorsOf tree (of_nodes faults) (error_nodes tree) }

@@ -1,4 +1,4 @@
-//! Each text has one reading.
+//! A text has one reading at most, and what follows from it.
 
 ghost use Rattle.std.specs.Prelude.{◌≡◌, ◌≤◌, List};
 ghost use Rattle.rnix_kinds.specs.Lexical.Tokens.{Lexeme, tokens_of};
@@ -13,11 +13,10 @@ ghost use Rattle.rnix_grammar.specs.Nesting.{depth_of, AreLimited};
 ghost use Rattle.rnix_grammar.specs.Reading.{IsReading};
 ghost use Rattle.rnix_grammar.specs.Parsed.{IsParsed};
 
-/// Tokens have one reading: two trees with their errors that are readings of one list of tokens are equal.
+/// Tokens have one reading at most: two trees with their errors that are readings of one list of tokens are equal.
 pub fn one_reading()
     ensures { (tokens : List Lexeme) (t u : Tree) (ds es : List Fault) → IsReading tokens t ds → IsReading tokens u es → (t ≡ u) × (ds ≡ es) }
-{
-}
+{}
 
 /// Two texts of which one tree is read are one text, with one list of errors.
 pub fn one_text(first: &str, second: &str)
@@ -33,11 +32,10 @@ pub fn all_follows(text: &str)
     let _len = text.len();
 }
 
-/// What holds beside each error node of a reading: in which row it may stand, what it does not begin with, and what is around it; no more
-/// counted places are inside one another than the limit, and what is nested too deep is inside as many.
+/// Where each error node of a reading may stand and what it may not begin with, and how tightly operands bind; at most 512 counted places are
+/// inside one another, error nodes aside, and what is nested too deep is inside exactly 512.
 pub fn error_forms()
     ensures stands { (tokens : List Lexeme) (tree : Tree) (faults : List Fault) (r : IsReading tokens tree faults) → StandsWhole (clean r.sketch) faults }
     ensures shallow { (tokens : List Lexeme) (tree : Tree) (faults : List Fault) (r : IsReading tokens tree faults) → depth_of (At RootStart) (clean r.sketch) ≤ depth_limit }
     ensures limited { (tokens : List Lexeme) (tree : Tree) (faults : List Fault) (r : IsReading tokens tree faults) → AreLimited 0 (At RootStart) (clean r.sketch) }
-{
-}
+{}

@@ -5,21 +5,15 @@ use Rattle.rnix_kinds.specs.declared.kinds.SyntaxKind.{SyntaxKind}
 use Rattle.rnix_kinds.specs.declared.kinds.SyntaxKind.TheVariants.{NODE_ATTRPATH, NODE_LITERAL, NODE_PAREN}
 use Rattle.rnix_grammar.specs.declared.place.Place.{Place}
 use Rattle.rnix_grammar.specs.declared.place.Place.TheVariants as p
-use Rattle.rnix_grammar.specs.declared.slot.Slot.{Slot}
-use Rattle.rnix_grammar.specs.declared.slot.Slot.TheVariants.{Attrpath}
 use Rattle.rnix_grammar.specs.Fault.{Fault}
 use Rattle.rnix_grammar.specs.Slots.{slot_at}
 use Rattle.rnix_grammar.specs.Rows.{fits, Spot, Start, At, go, first, live, to}
 use Rattle.rnix_grammar.specs.Missing.{lack}
+use Rattle.rnix_lemmas.proofs.NestSpots.{is_pathless}
 
--- no attribute path stands in a slot, or at a spot
-abbrev pub is_bare_slot : Slot → Bool
-is_bare_slot (Attrpath behind) = false
-is_bare_slot slot = true
-
--- so at a spot
+-- no attribute path stands at a spot
 abbrev pub is_bare : Spot → Bool
-is_bare (At y) = is_bare_slot (slot_at y)
+is_bare (At y) = is_pathless (slot_at y)
 is_bare q = true
 
 -- what is missing leads to no such place

@@ -1,10 +1,9 @@
--- The node of a name holds nothing but a token, with errors too.
+-- The node of a name holds nothing but a token, and an entry of a pattern begins with its name, with errors too.
 use Rattle.std.proofs.Common.{◌≡◌, ℕ, suc, Bool, true, false, List, [], ◌∷◌, ◌++◌, Option, refl, sym, ap, ◌∙◌, subst}
 use Rattle.std.specs.Prelude.{if◌then◌else◌, nat_le}
 use Rattle.rnix_kinds.specs.declared.kinds.SyntaxKind.{SyntaxKind}
-use Rattle.rnix_kinds.specs.declared.kinds.SyntaxKind.TheVariants.{NODE_ERROR, NODE_IDENT, NODE_IDENT_PARAM, NODE_APPLY, NODE_LEGACY_LET, NODE_LAMBDA, NODE_PATTERN, NODE_PAT_BIND, NODE_PAT_ENTRY, NODE_ROOT}
+use Rattle.rnix_kinds.specs.declared.kinds.SyntaxKind.TheVariants.{NODE_ERROR, NODE_IDENT, NODE_IDENT_PARAM, NODE_APPLY, NODE_LEGACY_LET, NODE_PATTERN, NODE_PAT_BIND, NODE_LAMBDA, NODE_PAT_ENTRY, NODE_ROOT}
 use Rattle.rnix_kinds.specs.SyntaxKind.{is_trivia}
-use Rattle.rnix_grammar.specs.declared.place.Place.{Place}
 use Rattle.rnix_grammar.specs.declared.place.Place.TheVariants as p
 use Rattle.rnix_grammar.specs.declared.action.Action.{Action}
 use Rattle.rnix_grammar.specs.declared.action.Action.TheVariants as a
@@ -21,14 +20,17 @@ use Rattle.rnix_grammar.specs.Machine.{Head, Node, Second, Operand, Frame, Machi
 use Rattle.rnix_grammar.specs.Missing.{run_of}
 use Rattle.rnix_grammar.specs.Begins.{second_kind}
 use Rattle.rnix_grammar.specs.Sketch.{touches}
-use Rattle.rnix_grammar.specs.Trim.{is_bare, HasBareName, AreNamesBare}
+use Rattle.rnix_grammar.specs.Trim.{is_bare, begins_with_node, HasBareName, AreNamesBare}
 use Rattle.rnix_lemmas.proofs.Basics.{true_is_not_false}
-use Rattle.rnix_lemmas.proofs.NodeKinds.{is_error}
-use Rattle.rnix_rows.proofs.OpenKinds.{OpensNode, BeginsNode, action_opens, begin_opens}
+use Rattle.rnix_rows.proofs.OpenKinds.{is_apart, is_pattern_entry, OpensNode, BeginsNode, action_opens, begin_opens}
+
+-- an open node is no name, and an open entry has its name
+abbrev pub IsOpened : SyntaxKind → Sketch → Type 0
+IsOpened k row = (k ≡ NODE_IDENT → ⊥) × (k ≡ NODE_PAT_ENTRY → begins_with_node row ≡ true)
 
 -- the names of a frame's row are bare, and its node is none
 abbrev pub BareIn : Head → Sketch → Type 0
-BareIn (Node k) row = (is_error k ≡ false) × AreNamesBare row
+BareIn (Node k) row = IsOpened k row × AreNamesBare row
 BareIn head row = AreNamesBare row
 
 -- and so in each frame
@@ -57,20 +59,39 @@ bare_leaf k ts = by_head (from_item ts)
     by_head (x ∷ xs) = tt
 
 -- a leaf alone is one token at most
-bare_one : (k j : SyntaxKind) (ts : List Token) → HasBareName j (leaf true k ts)
-bare_one k j ts e = by_head (from_item ts)
+bare_one : (k : SyntaxKind) (ts : List Token) → is_bare (leaf true k ts) ≡ true
+bare_one k ts = by_head (from_item ts)
   where
     by_head : (xs : List Token) → is_bare (leaf_in k xs) ≡ true
     by_head [] = refl
     by_head (x ∷ xs) = refl
 
 -- a node with a leaf alone
-bare_node : (j : SyntaxKind) (ts : List Token) → AreNamesBare (one_branch j (leaf true j ts))
-bare_node j ts = (bare_one j j ts, bare_leaf j ts, tt)
+bare_node : (j : SyntaxKind) (ts : List Token) → is_pattern_entry j ≡ false → AreNamesBare (one_branch j (leaf true j ts))
+bare_node j ts h = ((λ e. bare_one j ts, λ e. absurd (true_is_not_false (sym (ap is_pattern_entry e) ∙ h))), bare_leaf j ts, tt)
 
--- a node that is no name
-bare_other : (k : SyntaxKind) (c : Sketch) → is_error k ≡ false → HasBareName k c
-bare_other k c h e = absurd (true_is_not_false (sym (ap is_error e) ∙ h))
+-- a node of another kind
+bare_other : (k : SyntaxKind) (c : Sketch) → is_apart k ≡ false → HasBareName k c
+bare_other k c h = (λ e. absurd (true_is_not_false (sym (ap is_apart e) ∙ h)), λ e. absurd (true_is_not_false (sym (ap is_apart e) ∙ h)))
+
+-- an open one
+opened_other : (k : SyntaxKind) (c : Sketch) → is_apart k ≡ false → IsOpened k c
+opened_other k c h = (λ e. true_is_not_false (sym (ap is_apart e) ∙ h), λ e. absurd (true_is_not_false (sym (ap is_apart e) ∙ h)))
+
+-- an open entry
+opened_entry : (c f : Sketch) → IsOpened NODE_PAT_ENTRY (branch NODE_IDENT c f)
+opened_entry c f = (λ e. absurd (cc), λ e. refl)
+
+-- what begins with a node does so with more behind it
+node_first : (f g : Sketch) → begins_with_node f ≡ true → begins_with_node (f ⊕ g) ≡ true
+node_first (branch k c f) g h = refl
+node_first blank g h = absurd (true_is_not_false (sym h))
+node_first (token k t f) g h = absurd (true_is_not_false (sym h))
+node_first (fault n c f) g h = absurd (true_is_not_false (sym h))
+
+-- an open node with more in it
+opened_more : (k : SyntaxKind) (f g : Sketch) → IsOpened k f → IsOpened k (f ⊕ g)
+opened_more k f g h = (h.0, λ e. node_first f g (h.1 e))
 
 -- a row with trivia behind it
 bare_ate : (f : Sketch) (ts : List Token) → AreNamesBare f → AreNamesBare (ate true f ts)
@@ -88,13 +109,13 @@ bare_dressed (x ∷ xs) ts =
 
 -- what is made of a row
 made_bare : (h : Head) (row : Sketch) → BareIn h row → AreNamesBare (made h row)
-made_bare (Node k) row t = (bare_other k row t.0, t.1, tt)
+made_bare (Node k) row t = ((λ e. absurd (t.0.0 e), t.0.1), t.1, tt)
 made_bare Second row t = (t, tt)
 made_bare Operand row t = t
 
 -- and behind the row of the frame below
 made_in : (g h : Head) (f row : Sketch) → BareIn g f → BareIn h row → BareIn g (f ⊕ made h row)
-made_in (Node k) h f row s t = (s.0, bare-⊕ f (made h row) s.1 (made_bare h row t))
+made_in (Node k) h f row s t = (opened_more k f (made h row) s.0, bare-⊕ f (made h row) s.1 (made_bare h row t))
 made_in Second h f row s t = bare-⊕ f (made h row) s (made_bare h row t)
 made_in Operand h f row s t = bare-⊕ f (made h row) s (made_bare h row t)
 
@@ -110,13 +131,13 @@ entry_bare f (g ∷ fs) ts n es h = closed_bare f (g ∷ fs) ts n (es ++ repeate
 
 -- trivia and trees behind the row of a frame
 bare_in : (h : Head) (f : Sketch) (ts : List Token) (g : Sketch) → BareIn h f → AreNamesBare g → BareIn h (ate true f ts ⊕ g)
-bare_in (Node k) f ts g s j = (s.0, bare_added f ts g s.1 j)
+bare_in (Node k) f ts g s j = (opened_more k (ate true f ts) g (opened_more k f (trivia_before ts) s.0), bare_added f ts g s.1 j)
 bare_in Second f ts g s j = bare_added f ts g s j
 bare_in Operand f ts g s j = bare_added f ts g s j
 
 -- trivia alone
 bare_waits : (h : Head) (f : Sketch) (ts : List Token) → BareIn h f → BareIn h (ate true f ts)
-bare_waits (Node k) f ts s = (s.0, bare_ate f ts s.1)
+bare_waits (Node k) f ts s = (opened_more k f (trivia_before ts) s.0, bare_ate f ts s.1)
 bare_waits Second f ts s = bare_ate f ts s
 bare_waits Operand f ts s = bare_ate f ts s
 
@@ -129,29 +150,29 @@ bare_of Operand f s = s
 -- an operand begins
 begun_bare : (begin : Begin) (level d : ℕ) (t : Token) (f : Frame) (fs : List Frame) (ts : List Token) (n : ℕ) (es : List Fault)
     → BeginsNode begin → AreBareFrames (f ∷ fs) → AreBareFrames (begun true begin level d t f fs ts n es).frames
-begun_bare (b.Leaf j) level d t f fs ts n es o h = (bare_node j ts, (bare_waits f.head f.row ts h.0, h.1))
-begun_bare (b.Node j place high) level d t f fs ts n es o h = ((o, bare_leaf j ts), (tt, (bare_waits f.head f.row ts h.0, h.1)))
+begun_bare (b.Leaf j) level d t f fs ts n es o h = (bare_node j ts o, (bare_waits f.head f.row ts h.0, h.1))
+begun_bare (b.Node j place high) level d t f fs ts n es o h = ((opened_other j (leaf true j ts) o, bare_leaf j ts), (tt, (bare_waits f.head f.row ts h.0, h.1)))
 begun_bare b.LegacyLet level d t f fs ts n es o h = (
-  (refl, bare_added (leaf true NODE_LEGACY_LET ts) (behind true ts) (leaf true NODE_LEGACY_LET (behind true ts)) (bare_leaf NODE_LEGACY_LET ts) (bare_leaf NODE_LEGACY_LET (behind true ts))),
+  (opened_other NODE_LEGACY_LET (ate true (leaf true NODE_LEGACY_LET ts) (behind true ts) ⊕ leaf true NODE_LEGACY_LET (behind true ts)) refl, bare_added (leaf true NODE_LEGACY_LET ts) (behind true ts) (leaf true NODE_LEGACY_LET (behind true ts)) (bare_leaf NODE_LEGACY_LET ts) (bare_leaf NODE_LEGACY_LET (behind true ts))),
   (tt, (bare_waits f.head f.row ts h.0, h.1)),
 )
 begun_bare b.NameLambda level d t f fs ts n es o h = (
-  (refl, (bare_other NODE_IDENT_PARAM (one_branch NODE_IDENT (leaf true NODE_IDENT ts)) refl, bare_node NODE_IDENT ts, tt)),
+  (opened_other NODE_LAMBDA (one_branch NODE_IDENT_PARAM (one_branch NODE_IDENT (leaf true NODE_IDENT ts))) refl, (bare_other NODE_IDENT_PARAM (one_branch NODE_IDENT (leaf true NODE_IDENT ts)) refl, bare_node NODE_IDENT ts refl, tt)),
   (tt, (bare_waits f.head f.row ts h.0, h.1)),
 )
 begun_bare b.BoundLambda level d t f fs ts n es o h =
     let row : Sketch = ate true (one_branch NODE_IDENT (leaf true NODE_IDENT ts)) (behind true ts) ⊕ leaf true NODE_PAT_BIND (behind true ts) in (
       (
-        refl,
+        opened_other NODE_PATTERN (one_branch NODE_PAT_BIND row) refl,
         (
           bare_other NODE_PAT_BIND row refl,
-          bare_added (one_branch NODE_IDENT (leaf true NODE_IDENT ts)) (behind true ts) (leaf true NODE_PAT_BIND (behind true ts)) (bare_node NODE_IDENT ts) (bare_leaf NODE_PAT_BIND (behind true ts)),
+          bare_added (one_branch NODE_IDENT (leaf true NODE_IDENT ts)) (behind true ts) (leaf true NODE_PAT_BIND (behind true ts)) (bare_node NODE_IDENT ts refl) (bare_leaf NODE_PAT_BIND (behind true ts)),
           tt,
         ),
       ),
-      ((refl, tt), (tt, (bare_waits f.head f.row ts h.0, h.1))),
+      ((opened_other NODE_LAMBDA blank refl, tt), (tt, (bare_waits f.head f.row ts h.0, h.1))),
     )
-begun_bare b.PatternLambda level d t f fs ts n es o h = ((refl, bare_leaf NODE_PATTERN ts), ((refl, tt), (tt, (bare_waits f.head f.row ts h.0, h.1))))
+begun_bare b.PatternLambda level d t f fs ts n es o h = ((opened_other NODE_PATTERN (leaf true NODE_PATTERN ts) refl, bare_leaf NODE_PATTERN ts), ((opened_other NODE_LAMBDA blank refl, tt), (tt, (bare_waits f.head f.row ts h.0, h.1))))
 begun_bare b.Stray level d t f fs ts n es o h = ((bare_leaf NODE_ERROR ts, tt), (bare_waits f.head f.row ts h.0, h.1))
 
 -- an operand of a level, or the end of the text
@@ -192,18 +213,18 @@ perform_bare (a.MissWanted until after) f fs ts n es o h = h
 perform_bare (a.Run until after) f fs ts n es o h =
     let run : List Token = run_of until (items ts) in
     (bare_in f.head f.row ts (one_fault (Unwanted until) (run_row true run ts)) h.0 (bare_dressed run (from_item ts), tt), h.1)
-perform_bare (a.Leaf j after) f fs ts n es o h = (bare_in f.head f.row ts (one_branch j (leaf true j ts)) h.0 (bare_node j ts), h.1)
-perform_bare (a.Open j inside after) f fs ts n es o h = ((o, bare_leaf j ts), (bare_waits f.head f.row ts h.0, h.1))
-perform_bare (a.Begin j inside after) f fs ts n es o h = ((o, tt), (bare_waits f.head f.row ts h.0, h.1))
-perform_bare (a.Entry after) f fs ts n es o h = ((refl, bare_node NODE_IDENT ts), (bare_waits f.head f.row ts h.0, h.1))
+perform_bare (a.Leaf j after) f fs ts n es o h = (bare_in f.head f.row ts (one_branch j (leaf true j ts)) h.0 (bare_node j ts o), h.1)
+perform_bare (a.Open j inside after) f fs ts n es o h = ((opened_other j (leaf true j ts) o, bare_leaf j ts), (bare_waits f.head f.row ts h.0, h.1))
+perform_bare (a.Begin j inside after) f fs ts n es o h = ((opened_other j blank o, tt), (bare_waits f.head f.row ts h.0, h.1))
+perform_bare (a.Entry after) f fs ts n es o h = ((opened_entry (leaf true NODE_IDENT ts) blank, bare_node NODE_IDENT ts refl), (bare_waits f.head f.row ts h.0, h.1))
 perform_bare (a.Twice after) f fs ts n es o h = (bare_leaf NODE_ERROR ts, (bare_waits f.head f.row ts h.0, h.1))
 perform_bare (a.Read level counted after) f fs ts n es o h = reading_bare level counted (opened f.head after f.depth f.row) fs ts n es h
-perform_bare (a.Wrap j inside high) f fs ts n es o h = ((o, bare_added f.row ts (leaf true j ts) (bare_of f.head f.row h.0) (bare_leaf j ts)), (tt, h.1))
+perform_bare (a.Wrap j inside high) f fs ts n es o h = ((opened_other j (ate true f.row ts ⊕ leaf true j ts) o, bare_added f.row ts (leaf true j ts) (bare_of f.head f.row h.0) (bare_leaf j ts)), (tt, h.1))
 perform_bare a.Apply f fs ts n es o h =
-    reading_bare 16 false (opened (Node NODE_APPLY) p.Past f.depth f.row) (opened Operand (p.Behind (low_of f.place) 15) f.depth blank ∷ fs) ts n es ((refl, bare_of f.head f.row h.0), (tt, h.1))
+    reading_bare 16 false (opened (Node NODE_APPLY) p.Past f.depth f.row) (opened Operand (p.Behind (low_of f.place) 15) f.depth blank ∷ fs) ts n es ((opened_other NODE_APPLY f.row refl, bare_of f.head f.row h.0), (tt, h.1))
 perform_bare a.ApplyOr f fs ts n es o h =
     let row : Sketch = ate true f.row ts ⊕ one_branch NODE_IDENT (leaf true NODE_IDENT ts) in
-    ((bare_other NODE_APPLY row refl, bare_added f.row ts (one_branch NODE_IDENT (leaf true NODE_IDENT ts)) (bare_of f.head f.row h.0) (bare_node NODE_IDENT ts), tt), h.1)
+    ((bare_other NODE_APPLY row refl, bare_added f.row ts (one_branch NODE_IDENT (leaf true NODE_IDENT ts)) (bare_of f.head f.row h.0) (bare_node NODE_IDENT ts refl), tt), h.1)
 
 -- names are bare after each step
 pub step_bare : (m : Machine) → AreBareFrames m.frames → AreBareFrames (step true m).frames
@@ -224,5 +245,5 @@ runs_bare (further {m = m} r) h = runs_bare r (step_bare m h)
 -- the names of a whole text are bare
 pub whole_bare : (ts : List Token) {n : Machine} (f : Frame) → Runs true (begins ts) n → n.frames ≡ f ∷ [] → AreNamesBare f.row
 whole_bare ts f r e =
-    let all : AreBareFrames (f ∷ []) = subst AreBareFrames e (runs_bare r ((refl, tt), tt)) in
+    let all : AreBareFrames (f ∷ []) = subst AreBareFrames e (runs_bare r ((opened_other NODE_ROOT blank refl, tt), tt)) in
     bare_of f.head f.row all.0

@@ -2,43 +2,13 @@
 use Rattle.std.proofs.Common.{◌≡◌, Bool, true, false, refl, sym}
 use Rattle.std.proofs.lemmas.Bool.{and_parts}
 use Rattle.std.specs.Prelude.{if◌then◌else◌}
-use Rattle.std.specs.List.{list_all}
-use Rattle.rnix_kinds.proofs.AllKinds.{all_kinds, every}
-use Rattle.rnix_lemmas.proofs.EachKind.{each_kind}
-use Rattle.rnix_lemmas.proofs.SpotCases.{Usual, Next, case_slot}
 use Rattle.rnix_kinds.specs.declared.kinds.SyntaxKind.{SyntaxKind}
 use Rattle.rnix_kinds.specs.declared.kinds.SyntaxKind.TheVariants.{NODE_PAT_BIND, NODE_ROOT}
-use Rattle.rnix_grammar.specs.declared.slot.Slot.{Slot}
-use Rattle.rnix_grammar.specs.declared.slot.Slot.TheVariants as s
-use Rattle.rnix_grammar.specs.Slots.{slot_at}
 use Rattle.rnix_grammar.specs.Sketch.{Sketch, tokens_in, is_some}
 use Rattle.rnix_grammar.specs.Rows.{Spot, Start, At, first, go, live, start}
 use Rattle.rnix_grammar.specs.Stands.{begins_with_token, is_bind_at, is_formed}
-use Rattle.rnix_lemmas.proofs.Basics.{true_is_not_false, not_if}
-
--- no row comes back to where it begins
-abbrev pub is_start : Spot → Bool
-is_start (Start node) = true
-is_start spot = false
-
--- no spot that a row begins at
-abbrev IsLater : Spot → Type 0
-IsLater q = is_start q ≡ false
-
-later : Usual IsLater
-later = assumption
-
-later_next : (slot : Slot) → Next IsLater slot
-later_next (s.Token until y) = refl
-later_next _ = cc
-
--- so no step leads to the beginning of a row
-pub go_later : (q : Spot) (k : SyntaxKind) → is_start (go q k) ≡ false
-go_later (Start node) k =
-    not_if (is_start (first node k))
-    (every (λ k. if is_start (first node k) then false else true) (every (λ node. list_all (λ k. if is_start (first node k) then false else true) all_kinds) refl node) k)
-go_later (At x) k = case_slot later (slot_at x) x k refl (later_next (slot_at x))
-go_later q k = each_kind (λ k. IsLater (go q k)) (assumption) k
+use Rattle.rnix_lemmas.proofs.Basics.{true_is_not_false}
+use Rattle.rnix_lemmas.proofs.LaterSpots.{is_start, go_later}
 
 -- a bound name stands first where a row begins, and behind the first child at a place
 abbrev pub is_at : Spot → Bool

@@ -13,14 +13,12 @@ use Rattle.rnix_grammar.specs.declared.begin.Begin.TheVariants as b
 use Rattle.rnix_grammar.specs.Fault.{Fault}
 use Rattle.rnix_grammar.specs.Tables.{depth_limit}
 use Rattle.rnix_grammar.specs.Actions.{action_at}
-use Rattle.rnix_grammar.specs.Begins.{begin_of}
-use Rattle.rnix_grammar.specs.Sketch.{Token, Stray, Unwanted, Extra, Twice, TooDeep, Sketch, blank, ◌⊕◌, one_branch, one_fault, tokens_in, clean, head_kind}
+use Rattle.rnix_grammar.specs.Begins.{begin_of, second_kind}
+use Rattle.rnix_grammar.specs.Sketch.{Token, Stray, Unwanted, Extra, Twice, TooDeep, Sketch, blank, ◌⊕◌, one_branch, one_fault, tokens_in, clean, head_kind, touches}
 use Rattle.rnix_grammar.specs.Layout.{from_item, tail_of, trivia_before, items, left_after, dressed_whole}
 use Rattle.rnix_grammar.specs.Reports.{report, repeated}
 use Rattle.rnix_grammar.specs.Machine.{Head, Node, Second, Operand, Frame, Machine, put, opened, ate, behind, leaf, run_row, dropped, run_rest, made, low_of, closed, entry_closed, limited, begun, operand_on, reading, perform, step_on, step, begins, Runs, rest, then as further}
 use Rattle.rnix_grammar.specs.Missing.{run_of}
-use Rattle.rnix_grammar.specs.Begins.{second_kind}
-use Rattle.rnix_grammar.specs.Sketch.{touches}
 use Rattle.rnix_grammar.specs.Sorts.{sort_of, is_start, HasNext, FitsNode, FitsSecond, FitsOperand, IsBottom, AreKept}
 use Rattle.rnix_lemmas.proofs.SketchLemmas.{⊕-assoc}
 use Rattle.rnix_lemmas.proofs.LayoutLemmas.{clean-⊕}

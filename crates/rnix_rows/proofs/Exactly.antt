@@ -6,11 +6,10 @@ use Rattle.rnix_kinds.specs.declared.kinds.SyntaxKind.TheVariants.{TOKEN_CUR_POS
 use Rattle.rnix_grammar.specs.Sketch.{Token, lexeme_of, Sketch, blank, token, branch, fault, tokens_in, forget, told_as, AreTold}
 use Rattle.rnix_grammar.specs.Named.{is_spelled, AreSpelled}
 use Rattle.rnix_grammar.specs.Yield.{untold, yield}
-use Rattle.rnix_grammar.specs.Tables.{is_or}
+use Rattle.rnix_grammar.specs.Tables.{is_or, depth_limit}
 use Rattle.rnix_grammar.specs.Grammar.{IsExpression}
 use Rattle.rnix_grammar.specs.Derivation.{beyond, laid, IsDerivation}
 use Rattle.rnix_grammar.specs.declared.place.Place.TheVariants.{RootStart}
-use Rattle.rnix_grammar.specs.Tables.{depth_limit}
 use Rattle.rnix_grammar.specs.Rows.{At}
 use Rattle.rnix_grammar.specs.Plain.{ArePaths}
 use Rattle.rnix_lemmas.proofs.RowNesting.{nesting}

@@ -13,14 +13,12 @@ use Rattle.rnix_grammar.specs.declared.begin.Begin.TheVariants as b
 use Rattle.rnix_grammar.specs.Fault.{Fault, ended, ended_before, too_deep}
 use Rattle.rnix_grammar.specs.Tables.{wanted_kinds, depth_limit}
 use Rattle.rnix_grammar.specs.Actions.{action_at}
-use Rattle.rnix_grammar.specs.Begins.{begin_of}
-use Rattle.rnix_grammar.specs.Sketch.{Token, Stray, Unwanted, Extra, Twice, Sketch, blank, token, branch, fault, ◌⊕◌, one_branch, tokens_in, clean, head_kind}
+use Rattle.rnix_grammar.specs.Begins.{begin_of, second_kind}
+use Rattle.rnix_grammar.specs.Sketch.{Token, Stray, Unwanted, Extra, Twice, Sketch, blank, token, branch, fault, ◌⊕◌, one_branch, tokens_in, clean, head_kind, touches}
 use Rattle.rnix_grammar.specs.Layout.{from_item, trivia_if, trivia_before, items, tail_of}
 use Rattle.rnix_grammar.specs.Reports.{report, repeated}
 use Rattle.rnix_grammar.specs.Machine.{Head, Node, Second, Operand, Frame, Machine, put, opened, ate, behind, leaf_in, leaf, made, low_of, closed, entry_closed, limited, begun, operand_on, reading, perform, step_on, step, Runs, rest, then as further}
 use Rattle.rnix_grammar.specs.Missing.{run_of}
-use Rattle.rnix_grammar.specs.Begins.{second_kind}
-use Rattle.rnix_grammar.specs.Sketch.{touches}
 use Rattle.rnix_grammar.specs.Sorts.{Sort, Inner, sort_of, is_start, IsLater, HasNext, FitsNode, FitsSecond, FitsOperand, Suits, IsBottom, AreKept}
 use Rattle.rnix_lemmas.proofs.LayoutLemmas.{trivia-from_item}
 use Rattle.rnix_lemmas.proofs.CleanLemmas.{items_behind}

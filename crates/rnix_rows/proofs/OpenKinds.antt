@@ -1,8 +1,8 @@
--- Nodes that are open are neither names nor error nodes.
+-- Which nodes are opened by what is done at a place: no names, no error nodes and no entries of patterns.
 use Rattle.std.proofs.Common.{◌≡◌, ℕ, Bool, true, false, List, Option, Some, None, refl}
-use Rattle.std.specs.Prelude.{if◌then◌else◌, nat_le, nat_eq}
+use Rattle.std.specs.Prelude.{nat_le, nat_eq}
 use Rattle.rnix_kinds.specs.declared.kinds.SyntaxKind.{SyntaxKind}
-use Rattle.rnix_kinds.specs.declared.kinds.SyntaxKind.TheVariants.{TOKEN_INHERIT, TOKEN_COLON, TOKEN_AT, TOKEN_IDENT, TOKEN_L_BRACE, TOKEN_INVERT, TOKEN_SUB, TOKEN_LET, TOKEN_WITH, TOKEN_ASSERT, TOKEN_IF}
+use Rattle.rnix_kinds.specs.declared.kinds.SyntaxKind.TheVariants.{TOKEN_INHERIT, TOKEN_COLON, TOKEN_AT, TOKEN_IDENT, TOKEN_L_BRACE, TOKEN_INVERT, TOKEN_SUB, TOKEN_LET, TOKEN_WITH, TOKEN_ASSERT, TOKEN_IF, NODE_ERROR, NODE_IDENT, NODE_PAT_ENTRY}
 use Rattle.rnix_grammar.specs.declared.place.Place.{Place}
 use Rattle.rnix_grammar.specs.declared.until.Until.{Until}
 use Rattle.rnix_grammar.specs.declared.until.Closer.{Closer}
@@ -18,18 +18,31 @@ use Rattle.rnix_grammar.specs.Actions.{token_action, series_action, entries_acti
 use Rattle.rnix_grammar.specs.Begins.{is_pattern, begin_name, begin_let, begin_keyword, begin_scope, begin_of}
 use Rattle.rnix_lemmas.proofs.Basics.{choice}
 use Rattle.rnix_lemmas.proofs.EachKind.{each_kind, each_next}
-use Rattle.rnix_lemmas.proofs.NodeKinds.{is_error}
 
--- an action opens no name and no error node
+-- nodes of these kinds are made in their own ways: error nodes, names, entries of patterns
+abbrev pub is_apart : SyntaxKind → Bool
+is_apart NODE_ERROR = true
+is_apart NODE_IDENT = true
+is_apart NODE_PAT_ENTRY = true
+is_apart kind = false
+
+-- an entry of a pattern
+abbrev pub is_pattern_entry : SyntaxKind → Bool
+is_pattern_entry NODE_PAT_ENTRY = true
+is_pattern_entry kind = false
+
+-- an action opens no such node, and makes no entry of a leaf
 abbrev pub OpensNode : Action → Type 0
-OpensNode (a.Open k inside after) = is_error k ≡ false
-OpensNode (a.Begin k inside after) = is_error k ≡ false
-OpensNode (a.Wrap k inside high) = is_error k ≡ false
+OpensNode (a.Open k inside after) = is_apart k ≡ false
+OpensNode (a.Begin k inside after) = is_apart k ≡ false
+OpensNode (a.Wrap k inside high) = is_apart k ≡ false
+OpensNode (a.Leaf k after) = is_pattern_entry k ≡ false
 OpensNode action = Unit {0}
 
--- an operand begins with no such node that stays open
+-- and so where an operand begins
 abbrev pub BeginsNode : Begin → Type 0
-BeginsNode (b.Node k place high) = is_error k ≡ false
+BeginsNode (b.Node k place high) = is_apart k ≡ false
+BeginsNode (b.Leaf k) = is_pattern_entry k ≡ false
 BeginsNode begin = Unit {0}
 
 token_opens : (until : Until) (place behind : Place) (next : Option SyntaxKind) → OpensNode (token_action until place behind next)
@@ -60,15 +73,15 @@ done_opens (s.Bind true) place next touches = each_next (λ n. OpensNode (bind_a
 done_opens (s.Bind false) place next touches = each_next (λ n. OpensNode (bind_action false n)) (assumption) (assumption) next
 done_opens slot place next touches = each_next (λ n. OpensNode (done_at slot place n touches)) (assumption) (assumption) next
 
--- what is done at a place opens no name and no error node
+-- so it is with what is done at a place
 pub action_opens : (place : Place) (next : Option SyntaxKind) (touches : Bool) → OpensNode (action_at place next touches)
 action_opens place next touches = done_opens (slot_at place) place next touches
 
 name_begins : (text : List ℕ) (second : Option SyntaxKind) → BeginsNode (begin_name text second)
-name_begins text None = choice BeginsNode (is_cur_pos text) tt tt
+name_begins text None = choice BeginsNode (is_cur_pos text) refl refl
 name_begins text (Some TOKEN_COLON) = tt
 name_begins text (Some TOKEN_AT) = tt
-name_begins text (Some kind) = choice BeginsNode (is_cur_pos text) tt tt
+name_begins text (Some kind) = choice BeginsNode (is_cur_pos text) refl refl
 
 let_begins : (second : Option SyntaxKind) → BeginsNode (begin_let second)
 let_begins None = refl
@@ -78,7 +91,7 @@ let_begins (Some _) = refl
 scope_begins : (level : ℕ) (kind : SyntaxKind) (second : Option SyntaxKind) → BeginsNode (begin_keyword kind second) → BeginsNode (begin_scope level kind second)
 scope_begins level kind second h = choice BeginsNode (nat_eq level 0) h tt
 
--- nor does an operand
+-- and with each operand
 pub begin_opens : (level : ℕ) (kind : SyntaxKind) (text : List ℕ) (second third : Option SyntaxKind) → BeginsNode (begin_of level kind text second third)
 begin_opens level TOKEN_IDENT text second third = name_begins text second
 begin_opens level TOKEN_L_BRACE text second third = choice BeginsNode (is_pattern second third) tt refl

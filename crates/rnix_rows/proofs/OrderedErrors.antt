@@ -1,27 +1,24 @@
 -- The errors of a row are, one by one, those of its error nodes and of its entries that repeat a name, as these close.
-use Rattle.std.proofs.Common.{◌≡◌, ℕ, ◌+◌, ◌<◌, Bool, true, false, List, [], ◌∷◌, ◌++◌, length, Option, Some, None, refl, ap, sym, ◌∙◌, arith, subst}
+use Rattle.std.proofs.Common.{◌≡◌, ℕ, ◌+◌, Bool, true, false, List, [], ◌∷◌, length, Option, Some, None, refl, ap, sym, ◌∙◌, arith, subst}
 use Rattle.std.specs.Prelude.{if◌then◌else◌, bytes_eq, ◌||◌}
 use Rattle.rnix_kinds.specs.declared.kinds.SyntaxKind.{SyntaxKind}
 use Rattle.rnix_kinds.specs.declared.kinds.SyntaxKind.TheVariants.{NODE_ERROR, NODE_PAT_ENTRY}
 use Rattle.rnix_kinds.specs.SyntaxKind.{is_trivia}
-use Rattle.rnix_tree.specs.Forest.{Forest, text_of, element_count}
+use Rattle.rnix_tree.specs.Forest.{text_of, element_count}
 use Rattle.rnix_tree.specs.Tree.{Tree, Item, item}
-use Rattle.rnix_grammar.specs.Fault.{Fault, named_twice}
+use Rattle.rnix_grammar.specs.Fault.{named_twice}
 use Rattle.rnix_grammar.specs.Sketch.{Token, Note, Sketch, blank, token, branch, fault, ◌⊕◌, one_token, one_branch, one_fault, tokens_in, forget, clean, token_if, AreTold, extent_of as place_of}
 use Rattle.rnix_grammar.specs.Reports.{entry_name, is_same_name, has_entry, repeated_if}
 use Rattle.rnix_grammar.specs.Reports.{repeats}
 use Rattle.rnix_grammar.specs.Shape.{reports_within, name_if, with_name}
 use Rattle.rnix_grammar.specs.Tables.{is_among}
-use Rattle.rnix_grammar.specs.Trim.{AreNamesBare}
 use Rattle.rnix_grammar.specs.Ranges.{is_error_node, IsEntryName, is_among_if, is_at_fault, at_fault_from, AreErrorsOf}
-use Rattle.rnix_lemmas.proofs.Basics.{true_is_not_false}
 use Rattle.rnix_lemmas.proofs.LayoutLemmas.{clean-⊕}
 use Rattle.rnix_lemmas.proofs.EntryNames.{bare_name, has_branch, has-⊕, if_not}
 use Rattle.rnix_rows.proofs.TreeShapes.{Lists, clean_name, repeats_named, text_in as name_of}
-use Rattle.rnix_rows.proofs.StandsMarks.{AreMarked}
 use Rattle.rnix_rows.proofs.PlacedTokens.{ArePlaced, text_in, placed_first, placed_rest, forget-length}
 use Rattle.rnix_rows.proofs.RowsIn.{IsRowIn, row_first, row_inside, row_behind_leaf, row_behind_node}
-use Rattle.rnix_rows.proofs.ErrorElements.{errors-++, report_error}
+use Rattle.rnix_rows.proofs.ErrorElements.{errors-++, IsSound, report_error}
 use Rattle.rnix_rows.proofs.NameRanges.{row_name, none_some}
 
 -- one or the other
@@ -81,13 +78,6 @@ node_error t n names b k c e o l h =
     (subst (λ z. AreErrorsOf t z (if is_among_if (name_of (bare_name k (clean c))) names then n ∷ [] else [])) (sym (repeats_named k b (clean c)))
     (entry_error t n names b (bare_name k (clean c)) l (λ x g. (let w = named_entry k (clean c) x g in h x w.0 w.1))))
 
--- what holds of a row in a tree with its tokens
-pub record IsSound (q : SyntaxKind) (s : ℕ) (f : Sketch) : Type 0 where
-  pub placed : ArePlaced s (tokens_in f)
-  pub told : AreTold q f
-  pub bare : AreNamesBare f
-  pub marked : AreMarked f
-
 -- the errors of a row are those of its elements
 pub row_errors : (t : Tree) (q : SyntaxKind) (n s : ℕ) (p : Option ℕ) (b : Sketch) (names : List (List ℕ)) (f : Sketch) → IsRowIn t n s p (forget f) → IsSound q s f → Lists names (clean b)
     → AreErrorsOf t (reports_within b f) (at_fault_from n names (forget f))
@@ -104,7 +94,7 @@ row_errors t q n s p b names (branch k c f) h a l =
     (row_errors t k (n + 1) s (Some n) blank [] c inside (record { placed = placed; told = a.told.0; bare = a.bare.1; marked = a.marked.1 }) (λ name. refl))
     (errors-++ t (repeats k (clean b) (clean c)) _ (if is_at_fault k (forget c) names then n ∷ [] else []) _
     (node_error t n names (clean b) k c a.marked.0 a.told.0 l
-    (λ x e g. row_name t k n (n + 1) s c x (ap (λ (i : Item). i.kind) first ∙ e) inside placed a.told.0 a.bare.1 (λ m low high. absurd (omega arith)) g))
+    (λ x e g. row_name t n s c x (ap (λ (i : Item). i.kind) first ∙ e) inside placed a.bare.1 (a.bare.0.1 e) g))
     (row_errors t q (n + 1 + element_count (forget c)) (s + length (text_of (forget c))) p (b ⊕ one_branch k c) (with_name (name_if k (forget c)) names) f
     (row_behind_node t n s p k (forget c) (forget f) h)
     (record { placed = placed_rest s (s + length (text_of (forget c))) (tokens_in c) (tokens_in f) size a.placed; told = a.told.1; bare = a.bare.2; marked = a.marked.2 })
@@ -112,12 +102,11 @@ row_errors t q n s p b names (branch k c f) h a l =
 row_errors t q n s p b names (fault m c f) h a l =
     let first : item t n ≡ _ = row_first t n s p (forget (fault m c f)) h (omega arith) in
     let size : s + length (text_in (tokens_in c)) ≡ s + length (text_of (forget c)) = omega (arith, forget-length c) in
-    let placed : ArePlaced s (tokens_in c) = placed_first s (tokens_in c) (tokens_in f) a.placed in
+    let inside : IsRowIn t (n + 1) s (Some n) (forget c) = row_inside t n s p NODE_ERROR (forget c) (forget f) h in
+    let sound : IsSound NODE_ERROR s c = record { placed = placed_first s (tokens_in c) (tokens_in f) a.placed; told = a.told.0; bare = a.bare.0; marked = a.marked.1 } in
     errors-++ t (reports_within blank c) _ (at_fault_from (n + 1) [] (forget c)) _
-    (row_errors t NODE_ERROR (n + 1) s (Some n) blank [] c (row_inside t n s p NODE_ERROR (forget c) (forget f) h)
-    (record { placed = placed; told = a.told.0; bare = a.bare.0; marked = a.marked.1 }) (λ name. refl))
-    (
-      report_error t n s m c a.marked.0 placed (ap (λ (i : Item). i.kind) first) (ap (λ (i : Item). i.start) first) (ap (λ (i : Item). i.end) first),
+    (row_errors t NODE_ERROR (n + 1) s (Some n) blank [] c inside sound (λ name. refl)) (
+      report_error t n s m c a.marked.0 inside sound (ap (λ (i : Item). i.kind) first) (ap (λ (i : Item). i.start) first) (ap (λ (i : Item). i.end) first),
       row_errors t q (n + 1 + element_count (forget c)) (s + length (text_of (forget c))) p (b ⊕ one_fault m c) names f (row_behind_node t n s p NODE_ERROR (forget c) (forget f) h)
           (record { placed = placed_rest s (s + length (text_of (forget c))) (tokens_in c) (tokens_in f) size a.placed; told = a.told.1; bare = a.bare.1; marked = a.marked.2 })
           (lists_fault names b m c l),

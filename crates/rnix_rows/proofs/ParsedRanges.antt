@@ -1,12 +1,12 @@
 -- The errors of a whole text, and the elements of its tree that they are of.
-use Rattle.std.proofs.Common.{◌≡◌, ℕ, ◌+◌, false, List, [], ◌∷◌, ◌++◌, None, Some, refl, ap, sym, ◌∙◌, arith, subst, append-nil}
+use Rattle.std.proofs.Common.{◌≡◌, false, List, [], ◌∷◌, ◌++◌, None, Some, refl, ap, sym, ◌∙◌, subst, append-nil}
 use Rattle.rnix_kinds.specs.declared.kinds.SyntaxKind.TheVariants.{NODE_ROOT}
 use Rattle.rnix_kinds.specs.Lexical.Tokens.{Lexeme}
 use Rattle.rnix_tree.specs.Forest.{empty}
 use Rattle.rnix_tree.specs.Tree.{Tree}
 use Rattle.rnix_tree.specs.Walk.{Step, steps_from}
 use Rattle.rnix_grammar.specs.Fault.{Fault}
-use Rattle.rnix_grammar.specs.Sketch.{Sketch, blank, tokens_in, forget, clean}
+use Rattle.rnix_grammar.specs.Sketch.{Sketch, blank, forget, clean}
 use Rattle.rnix_grammar.specs.Mended.{others}
 use Rattle.rnix_grammar.specs.Shape.{reports_within}
 use Rattle.rnix_grammar.specs.Stands.{StandsWhole}
@@ -15,8 +15,9 @@ use Rattle.rnix_grammar.specs.Ranges.{of_nodes, error_nodes, at_fault_from, at_f
 use Rattle.rnix_rows.proofs.StandsMarks.{stands_marked, marked_clean}
 use Rattle.rnix_rows.proofs.PlacedTokens.{ArePlaced, placed_all}
 use Rattle.rnix_rows.proofs.RowsIn.{IsRowIn, row_whole, row_inside}
+use Rattle.rnix_rows.proofs.ErrorElements.{IsSound}
 use Rattle.rnix_rows.proofs.WalkErrors.{of_nodes-others, errors_at, errors_at-++, node_left, walk_errors}
-use Rattle.rnix_rows.proofs.OrderedErrors.{IsSound, row_errors}
+use Rattle.rnix_rows.proofs.OrderedErrors.{row_errors}
 
 -- the tree of a sketch
 abbrev pub tree_of : Sketch → Tree
@@ -49,12 +50,11 @@ fault_below f = append-nil (at_fault_from 1 [] (forget f))
 pub parsed_nodes : {tokens : List Lexeme} {tree : Tree} {faults : List Fault} → (h : IsParsed tokens tree faults) → StandsWhole (clean h.reading.sketch) faults → AreErrorsOf tree (of_nodes faults) (error_nodes tree)
 parsed_nodes {tree = tree} {faults = faults} h stands =
     let f : Sketch = h.reading.sketch in
-    let sound = sound_whole h stands in
     let same : of_nodes faults ≡ of_nodes (reports_within blank f) = of_nodes-others faults ∙ ap of_nodes h.paired in
     subst (λ z. AreErrorsOf z (of_nodes faults) (error_nodes z)) (sym h.reading.tree_is)
     (subst (AreErrorsOf (tree_of f) (of_nodes faults)) (sym (nodes_below f))
     (subst (λ z. AreErrorsOf (tree_of f) z (errors_at (tree_of f) (steps_from 1 (forget f)))) (sym same)
-    (walk_errors (tree_of f) 1 0 (Some 0) blank f (row_below f) sound.placed sound.marked)))
+    (walk_errors (tree_of f) NODE_ROOT 1 0 (Some 0) blank f (row_below f) (sound_whole h stands))))
 
 -- all errors but those of the end of the text are, one by one, of the error nodes and of the entries that repeat a name, as these close
 pub parsed_order : {tokens : List Lexeme} {tree : Tree} {faults : List Fault} → (h : IsParsed tokens tree faults) → StandsWhole (clean h.reading.sketch) faults → AreErrorsOf tree (others faults) (at_fault tree)

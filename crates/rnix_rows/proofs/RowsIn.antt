@@ -1,8 +1,8 @@
 -- Rows of a tree: where their elements stand in it, and where their text is.
-use Rattle.std.proofs.Common.{◌≡◌, ℕ, zero, suc, ◌+◌, ◌-◌, ◌<◌, ◌≤◌, List, [], ◌∷◌, ◌++◌, length, take, drop, Option, Some, None, refl, ap, sym, ◌∙◌, arith, length-append, append_assoc, append-nil, subst}
+use Rattle.std.proofs.Common.{◌≡◌, ℕ, suc, ◌+◌, ◌-◌, ◌<◌, ◌≤◌, List, [], ◌++◌, length, take, drop, Option, Some, None, refl, ap, sym, ◌∙◌, arith, length-append, append_assoc, append-nil}
 use Rattle.std.proofs.lemmas.List.{take_at, drop_at}
 use Rattle.rnix_kinds.specs.declared.kinds.SyntaxKind.{SyntaxKind}
-use Rattle.rnix_tree.specs.Forest.{Forest, empty, leaf, node, text_of, element_count}
+use Rattle.rnix_tree.specs.Forest.{Forest, leaf, node, text_of, element_count}
 use Rattle.rnix_tree.specs.Tree.{Tree, Item, items_of, forest_of, item, text_at}
 use Rattle.rnix_tree.proofs.NestLemmas.{at, inside, beyond, behind}
 use Rattle.rnix_tree.proofs.PieceLemmas.{length-items_from}

@@ -5,10 +5,9 @@ use Rattle.rnix_kinds.specs.declared.kinds.SyntaxKind.{SyntaxKind}
 use Rattle.rnix_kinds.specs.declared.kinds.SyntaxKind.TheVariants.{NODE_PAT_ENTRY}
 use Rattle.rnix_grammar.specs.Fault.{Fault, named_twice}
 use Rattle.rnix_grammar.specs.Sketch.{Token, Note, Stray, Unwanted, Extra, Twice, TooDeep, Sketch, blank, ◌⊕◌, one_token, one_fault, row_of, tokens_in, extent_of}
-use Rattle.rnix_grammar.specs.Reports.{report, repeated_if, entry_name, has_entry}
+use Rattle.rnix_grammar.specs.Reports.{report, repeated_if, entry_name, has_entry, repeats}
 use Rattle.rnix_grammar.specs.Rows.{Spot}
 use Rattle.rnix_grammar.specs.Stands.{Stands, end, leaf, lost, wrong, second, inner, IsBeside}
-use Rattle.rnix_grammar.specs.Reports.{repeats}
 use Rattle.rnix_grammar.specs.Mended.{is_ended, others, is_misplaced, NoneMisplaced, AreSettled, IsNamedList, AreNamedLists}
 use Rattle.rnix_grammar.specs.Shape.{reports_behind}
 use Rattle.rnix_lemmas.proofs.SketchLemmas.{tokens_in-row_of}

@@ -1,31 +1,32 @@
 -- Which error nodes of a row that stands have tokens, and that no other node is one.
-use Rattle.std.proofs.Common.{◌≡◌, ℕ, Bool, true, false, List, [], ◌∷◌, ◌++◌, Option, Some, refl, ap, sym, ◌∙◌, subst}
+use Rattle.std.proofs.Common.{◌≡◌, ℕ, Bool, true, false, List, [], ◌∷◌, ◌++◌, refl, ap, sym, ◌∙◌, subst}
 use Rattle.std.specs.Prelude.{◌&&◌}
 use Rattle.rnix_kinds.specs.declared.kinds.SyntaxKind.{SyntaxKind}
-use Rattle.rnix_kinds.specs.declared.kinds.SyntaxKind.TheVariants.{TOKEN_AT, NODE_ERROR, NODE_ATTRPATH, NODE_LITERAL, NODE_PAT_BIND, NODE_IDENT, NODE_CUR_POS}
+use Rattle.rnix_kinds.specs.declared.kinds.SyntaxKind.TheVariants.{TOKEN_AT, NODE_ERROR, NODE_LITERAL}
 use Rattle.rnix_kinds.specs.SyntaxKind.{is_trivia}
 use Rattle.rnix_grammar.specs.declared.place.Place.{Place}
 use Rattle.rnix_grammar.specs.Fault.{Fault}
 use Rattle.rnix_grammar.specs.Sketch.{Token, Note, Stray, Unwanted, Extra, Twice, TooDeep, Sketch, blank, token, branch, fault, row_of, tokens_in, is_some, clean, token_if}
-use Rattle.rnix_grammar.specs.Layout.{items, item_if}
+use Rattle.rnix_grammar.specs.Layout.{items}
 use Rattle.rnix_grammar.specs.Ranges.{is_error_node}
 use Rattle.rnix_grammar.specs.Rows.{Spot, Start, SecondStart, At, go, go_second, live, start}
-use Rattle.rnix_grammar.specs.Stands.{Stands, end, leaf, lost, wrong, second, inner, IsBeside, is_formed, is_filled, suits}
-use Rattle.rnix_lemmas.proofs.SketchLemmas.{tokens_in-row_of}
+use Rattle.rnix_grammar.specs.Stands.{begins_with_token, Stands, end, leaf, lost, wrong, second, inner, IsBeside, is_filled, suits}
 use Rattle.rnix_lemmas.proofs.ReportLemmas.{clean_tokens}
 use Rattle.rnix_lemmas.proofs.Basics.{true_is_not_false}
 
--- an error node has tokens, unless it is what is too deep
-abbrev pub HasTokens : Note → List Token → Type 0
-HasTokens TooDeep ts = Unit {0}
-HasTokens n ts = is_some ts ≡ true
+-- an error node begins with a token, or at least has some, unless it is what is too deep
+abbrev pub HasTokens : Note → Sketch → Type 0
+HasTokens Stray c = begins_with_token c ≡ true
+HasTokens (Unwanted until) c = begins_with_token c ≡ true
+HasTokens TooDeep c = Unit {0}
+HasTokens n c = is_some (tokens_in c) ≡ true
 
 -- each error node of a row has tokens, but for what is too deep, and nodes without a note are no error nodes
 abbrev pub AreMarked : Sketch → Type 0
 AreMarked blank = Unit {0}
 AreMarked (token k t f) = AreMarked f
 AreMarked (branch k c f) = (is_error_node k ≡ false) × AreMarked c × AreMarked f
-AreMarked (fault n c f) = HasTokens n (tokens_in c) × AreMarked c × AreMarked f
+AreMarked (fault n c f) = HasTokens n c × AreMarked c × AreMarked f
 
 -- tokens before others
 some_before : (ts us : List Token) → is_some ts ≡ true → is_some (ts ++ us) ≡ true
@@ -38,7 +39,7 @@ first_true true c h = refl
 first_true false c h = absurd (true_is_not_false (sym h))
 
 -- what is beside an error node
-beside_some : (p : SyntaxKind) (a : ℕ) (q r : Spot) (b : Sketch) (i : ℕ) (n : Note) (ts us : List Token) → IsBeside n p a q r b i ts us → HasTokens n ts
+beside_some : (p : SyntaxKind) (a : ℕ) (q r : Spot) (b : Sketch) (i : ℕ) (n : Note) (ts us : List Token) → IsBeside n p a q r b i ts us → HasTokens n (row_of ts)
 beside_some p a q r b i TooDeep ts us h = tt
 beside_some p a q r b i Twice ts us h = absurd h
 beside_some p a q r b i Stray [] us h = absurd h
@@ -115,7 +116,7 @@ stands_marked end = tt
 stands_marked (leaf h tight g l c j s) = stands_marked s
 stands_marked (lost u n l s z) = stands_marked s
 stands_marked {p = p} {a = a} {q = q} {b = b} {i = i} (wrong {r = r} {vs = vs} n ts h v w d j s z) = (
-  subst (HasTokens n) (sym (ap tokens_in h ∙ tokens_in-row_of ts)) (beside_some p a q r b i n ts vs w),
+  subst (HasTokens n) (sym h) (beside_some p a q r b i n ts vs w),
   subst AreMarked (sym h) (marked-row_of ts),
   stands_marked s,
 )
@@ -127,11 +128,18 @@ some_tokens : (ts : List Token) → is_some (items ts) ≡ true → is_some ts �
 some_tokens [] h = h
 some_tokens (t ∷ ts) h = refl
 
+-- what begins with a token without its trivia does so with them
+begins_clean : (c : Sketch) → begins_with_token (clean c) ≡ true → begins_with_token c ≡ true
+begins_clean blank h = h
+begins_clean (token k t f) h = refl
+begins_clean (branch k c f) h = h
+begins_clean (fault n c f) h = h
+
 -- what has items has tokens
-marked_tokens : (n : Note) (c : Sketch) → HasTokens n (tokens_in (clean c)) → HasTokens n (tokens_in c)
+marked_tokens : (n : Note) (c : Sketch) → HasTokens n (clean c) → HasTokens n c
 marked_tokens TooDeep c h = tt
-marked_tokens Stray c h = some_tokens (tokens_in c) (sym (ap is_some (clean_tokens c)) ∙ h)
-marked_tokens (Unwanted until) c h = some_tokens (tokens_in c) (sym (ap is_some (clean_tokens c)) ∙ h)
+marked_tokens Stray c h = begins_clean c h
+marked_tokens (Unwanted until) c h = begins_clean c h
 marked_tokens Extra c h = some_tokens (tokens_in c) (sym (ap is_some (clean_tokens c)) ∙ h)
 marked_tokens Twice c h = some_tokens (tokens_in c) (sym (ap is_some (clean_tokens c)) ∙ h)
 

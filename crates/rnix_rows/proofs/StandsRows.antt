@@ -8,10 +8,9 @@ use Rattle.rnix_grammar.specs.declared.place.Place.{Place}
 use Rattle.rnix_grammar.specs.declared.place.Place.TheVariants as places
 use Rattle.rnix_grammar.specs.Fault.{Fault, named_twice}
 use Rattle.rnix_grammar.specs.Sketch.{Token, Note, Stray, Unwanted, Extra, Twice, TooDeep, Sketch, tokens_in, extent_of}
-use Rattle.rnix_grammar.specs.Reports.{report, repeated_if, entry_name, has_entry}
+use Rattle.rnix_grammar.specs.Reports.{report, repeated_if, entry_name, has_entry, repeats}
 use Rattle.rnix_grammar.specs.Rows.{Spot, At, go, whole, live, start, run}
 use Rattle.rnix_grammar.specs.Stands.{Stands, end, leaf, lost, wrong, second, inner, IsBeside}
-use Rattle.rnix_grammar.specs.Reports.{repeats}
 use Rattle.rnix_grammar.specs.Mended.{patch, mended, kinds_of, halves, is_ended, ended_count}
 use Rattle.rnix_grammar.specs.Missing.{lack}
 use Rattle.rnix_lemmas.proofs.LackFacts.{lack_ended}

@@ -9,8 +9,7 @@ use Rattle.rnix_grammar.specs.Fault.{Fault}
 use Rattle.rnix_grammar.specs.Sketch.{Token, Sketch, blank, token, branch, fault, forget, Twice, tokens_in}
 use Rattle.rnix_grammar.specs.Rows.{Spot, At, whole, live, run, is_row}
 use Rattle.rnix_grammar.specs.Stands.{Stands, end, leaf, lost, wrong, second, inner}
-use Rattle.rnix_grammar.specs.Reports.{repeats}
-use Rattle.rnix_grammar.specs.Reports.{report}
+use Rattle.rnix_grammar.specs.Reports.{repeats, report}
 use Rattle.rnix_grammar.specs.Mended.{mended, kinds_of, halves, is_ended, ended_count, others}
 use Rattle.rnix_grammar.specs.Shape.{reports_behind, reports}
 use Rattle.rnix_rows.proofs.StandsFaults.{stands_reports}

@@ -11,14 +11,12 @@ use Rattle.rnix_grammar.specs.declared.begin.Begin.TheVariants as b
 use Rattle.rnix_grammar.specs.Fault.{Fault}
 use Rattle.rnix_grammar.specs.Tables.{depth_limit}
 use Rattle.rnix_grammar.specs.Actions.{action_at}
-use Rattle.rnix_grammar.specs.Begins.{begin_of}
+use Rattle.rnix_grammar.specs.Begins.{begin_of, second_kind}
 use Rattle.rnix_grammar.specs.Reports.{report, repeated}
-use Rattle.rnix_grammar.specs.Sketch.{Token, Unwanted, Extra, Twice, TooDeep, Sketch, blank, token, branch, fault, ◌⊕◌, one_fault, row_of, tokens_in, head_kind}
+use Rattle.rnix_grammar.specs.Sketch.{Token, Unwanted, Extra, Twice, TooDeep, Sketch, blank, token, branch, fault, ◌⊕◌, one_fault, row_of, tokens_in, head_kind, touches}
 use Rattle.rnix_grammar.specs.Layout.{from_item, tail_of, trivia_before, dressed, left_after}
 use Rattle.rnix_grammar.specs.Machine.{Head, Node, Operand, Frame, Machine, put, opened, seen, past, ate, behind, leaf_in, leaf, run_row, dropped, run_rest, kind_of, made, low_of, closed, cleaned, entry_closed, limited, begun, operand_on, reading, perform, step_on, step, Runs, rest, then as further}
 use Rattle.rnix_grammar.specs.Missing.{run_of}
-use Rattle.rnix_grammar.specs.Begins.{second_kind}
-use Rattle.rnix_grammar.specs.Sketch.{touches}
 use Rattle.rnix_grammar.specs.Clean.{tokens_of}
 use Rattle.rnix_lemmas.proofs.SketchLemmas.{tokens_in-row_of}
 use Rattle.rnix_lemmas.proofs.LayoutLemmas.{items-from_item, trivia_tokens, dressed_tokens}

@@ -12,14 +12,12 @@ use Rattle.rnix_grammar.specs.declared.begin.Begin.TheVariants as b
 use Rattle.rnix_grammar.specs.Fault.{Fault}
 use Rattle.rnix_grammar.specs.Tables.{depth_limit}
 use Rattle.rnix_grammar.specs.Actions.{action_at}
-use Rattle.rnix_grammar.specs.Begins.{begin_of}
-use Rattle.rnix_grammar.specs.Sketch.{Token, Unwanted, Extra, TooDeep, Twice, Sketch, blank, token, branch, fault, ◌⊕◌, one_branch, one_fault, row_of, tokens_in, AreTold, head_kind}
+use Rattle.rnix_grammar.specs.Begins.{begin_of, second_kind}
+use Rattle.rnix_grammar.specs.Sketch.{Token, Unwanted, Extra, TooDeep, Twice, Sketch, blank, token, branch, fault, ◌⊕◌, one_branch, one_fault, row_of, tokens_in, AreTold, head_kind, touches}
 use Rattle.rnix_grammar.specs.Layout.{from_item, trivia_before}
 use Rattle.rnix_grammar.specs.Reports.{report, repeated}
 use Rattle.rnix_grammar.specs.Machine.{Head, Node, Second, Operand, Frame, Machine, opened, seen, past, ate, behind, leaf_in, leaf, run_row, run_rest, made, low_of, closed, cleaned, entry_closed, limited, begun, operand_on, reading, perform, step_on, step, begins, Runs, rest, then as further}
 use Rattle.rnix_grammar.specs.Missing.{run_of}
-use Rattle.rnix_grammar.specs.Begins.{second_kind}
-use Rattle.rnix_grammar.specs.Sketch.{touches}
 use Rattle.rnix_grammar.specs.Sorts.{sort_of, is_start, FitsNode, FitsSecond, FitsOperand, AreKept}
 use Rattle.rnix_lemmas.proofs.LayoutLemmas.{told-⊕, told_trivia, told_dressed}
 use Rattle.rnix_lemmas.proofs.PlaceLemmas.{FitsHead, head_fits, step_kept, runs_kept, begins_kept}

@@ -8,10 +8,9 @@ use Rattle.rnix_tree.specs.Forest.{Forest}
 use Rattle.rnix_grammar.specs.declared.place.Place.TheVariants as places
 use Rattle.rnix_grammar.specs.Fault.{Fault, named_twice}
 use Rattle.rnix_grammar.specs.Sketch.{Token, Sketch, blank, token, branch, fault, ◌⊕◌, one_token, one_branch, one_fault, forget, clean, token_if, told, AreTold, tokens_in, extent_of}
-use Rattle.rnix_grammar.specs.Reports.{report, repeated_if, entry_name, only_token, is_same_name, has_entry}
+use Rattle.rnix_grammar.specs.Reports.{report, repeated_if, entry_name, only_token, is_same_name, has_entry, repeats}
 use Rattle.rnix_grammar.specs.Rows.{At, whole, is_row}
 use Rattle.rnix_grammar.specs.Stands.{Stands, begins_with_token}
-use Rattle.rnix_grammar.specs.Reports.{repeats}
 use Rattle.rnix_grammar.specs.Mended.{kinds_of}
 use Rattle.rnix_grammar.specs.Trim.{AreNodesTrimmed}
 use Rattle.rnix_grammar.specs.Shape.{item_kinds, begins_with_leaf, is_bind_formed, are_binds_formed, AreRows, IsShaped, leaf_text, text_if, name_in, name_if, with_name, entry_names, AreNew, AreUnrepeated, IsUnrepeated, reports_behind}

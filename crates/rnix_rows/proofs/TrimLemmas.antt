@@ -12,14 +12,12 @@ use Rattle.rnix_grammar.specs.declared.begin.Begin.TheVariants as b
 use Rattle.rnix_grammar.specs.Fault.{Fault}
 use Rattle.rnix_grammar.specs.Tables.{depth_limit}
 use Rattle.rnix_grammar.specs.Actions.{action_at}
-use Rattle.rnix_grammar.specs.Begins.{begin_of}
-use Rattle.rnix_grammar.specs.Sketch.{Token, Note, Unwanted, Extra, TooDeep, Twice, Sketch, blank, ◌⊕◌, one_branch, one_fault, tokens_in, clean, head_kind}
+use Rattle.rnix_grammar.specs.Begins.{begin_of, second_kind}
+use Rattle.rnix_grammar.specs.Sketch.{Token, Note, Unwanted, Extra, TooDeep, Twice, Sketch, blank, ◌⊕◌, one_branch, one_fault, tokens_in, clean, head_kind, touches}
 use Rattle.rnix_grammar.specs.Layout.{from_item, trivia_before, items}
 use Rattle.rnix_grammar.specs.Reports.{report, repeated}
 use Rattle.rnix_grammar.specs.Machine.{Head, Node, Second, Operand, Frame, Machine, opened, ate, behind, leaf_in, leaf, run_row, dropped, run_rest, made, low_of, closed, entry_closed, limited, begun, operand_on, reading, perform, step_on, step, begins, Runs, rest, then as further}
 use Rattle.rnix_grammar.specs.Missing.{run_of}
-use Rattle.rnix_grammar.specs.Begins.{second_kind}
-use Rattle.rnix_grammar.specs.Sketch.{touches}
 use Rattle.rnix_grammar.specs.Sorts.{Sort, sort_of, is_start, HasNext, FitsNode, FitsSecond, FitsOperand, Waits, AreWaiting, AreKept}
 use Rattle.rnix_grammar.specs.Trim.{AreFaultsTrimmed}
 use Rattle.rnix_lemmas.proofs.CleanLemmas.{run_prefix, all_prefix}

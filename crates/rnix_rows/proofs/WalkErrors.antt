@@ -15,10 +15,9 @@ use Rattle.rnix_grammar.specs.Mended.{is_ended, others}
 use Rattle.rnix_grammar.specs.Shape.{reports_within}
 use Rattle.rnix_grammar.specs.Ranges.{is_of_node, of_nodes, is_error_node, leaves_error, errors_left, AreErrorsOf}
 use Rattle.rnix_lemmas.proofs.Basics.{true_is_not_false}
-use Rattle.rnix_rows.proofs.StandsMarks.{AreMarked}
-use Rattle.rnix_rows.proofs.PlacedTokens.{ArePlaced, text_in, placed_first, placed_rest, forget-length}
+use Rattle.rnix_rows.proofs.PlacedTokens.{text_in, placed_first, placed_rest, forget-length}
 use Rattle.rnix_rows.proofs.RowsIn.{IsRowIn, row_first, row_inside, row_behind_leaf, row_behind_node}
-use Rattle.rnix_rows.proofs.ErrorElements.{errors-++, report_error}
+use Rattle.rnix_rows.proofs.ErrorElements.{errors-++, IsSound, report_error}
 
 -- the errors of error nodes in two lists
 pub of_nodes-++ : (es fs : List Fault) → of_nodes (es ++ fs) ≡ of_nodes es ++ of_nodes fs
@@ -72,6 +71,7 @@ errors_left-++ (x ∷ xs) ys =
 abbrev pub errors_at : Tree → List Step → List ℕ
 errors_at t xs = errors_left (map (event_at t) xs)
 
+-- those of steps behind others
 pub errors_at-++ : (t : Tree) (xs ys : List Step) → errors_at t (xs ++ ys) ≡ errors_at t xs ++ errors_at t ys
 errors_at-++ t xs ys = ap errors_left (map-append (event_at t) xs ys) ∙ errors_left-++ (map (event_at t) xs) (map (event_at t) ys)
 
@@ -92,14 +92,15 @@ node_left t n xs h =
     ∙ elim (item t n).is_node as (λ b. (if (if b then false else false) then n ∷ errors_at t xs else errors_at t xs) ≡ errors_at t xs) [ true ↦ refl | false ↦ refl ]
 
 -- the errors of the error nodes of a row are of these, one by one, as a walk leaves them
-pub walk_errors : (t : Tree) (n s : ℕ) (p : Option ℕ) (b f : Sketch) → IsRowIn t n s p (forget f) → ArePlaced s (tokens_in f) → AreMarked f
+pub walk_errors : (t : Tree) (q : SyntaxKind) (n s : ℕ) (p : Option ℕ) (b f : Sketch) → IsRowIn t n s p (forget f) → IsSound q s f
     → AreErrorsOf t (of_nodes (reports_within b f)) (errors_at t (steps_from n (forget f)))
-walk_errors t n s p b blank h a m = tt
-walk_errors t n s p b (token k x f) h a m =
+walk_errors t q n s p b blank h a = tt
+walk_errors t q n s p b (token k x f) h a =
     let first : item t n ≡ _ = row_first t n s p (forget (token k x f)) h (omega arith) in
     subst (AreErrorsOf t (of_nodes (reports_within (b ⊕ one_token k x) f))) (sym (token_left t n (steps_from (n + 1) (forget f)) (ap (λ (i : Item). i.is_node) first)))
-    (walk_errors t (n + 1) (s + length x.text) p (b ⊕ one_token k x) f (row_behind_leaf t n s p k x.text (forget f) h) a.2 m)
-walk_errors t n s p b (branch k c f) h a m =
+    (walk_errors t q (n + 1) (s + length x.text) p (b ⊕ one_token k x) f (row_behind_leaf t n s p k x.text (forget f) h)
+    (record { placed = a.placed.2; told = a.told.1; bare = a.bare; marked = a.marked }))
+walk_errors t q n s p b (branch k c f) h a =
     let first : item t n ≡ _ = row_first t n s p (forget (branch k c f)) h (omega arith) in
     let own : List Fault = reports_within blank c in
     let repeated : List Fault = repeats k (clean b) (clean c) in
@@ -109,15 +110,16 @@ walk_errors t n s p b (branch k c f) h a m =
     let errors : of_nodes (own ++ (repeated ++ more)) ≡ of_nodes own ++ of_nodes more =
     of_nodes-++ own (repeated ++ more) ∙ ap (λ z. of_nodes own ++ z) (of_nodes-++ repeated more ∙ ap (λ z. z ++ of_nodes more) (none_repeats k (clean b) (clean c))) in
     let elements : errors_at t (inner ++ (false, n) ∷ outer) ≡ errors_at t inner ++ errors_at t outer =
-    errors_at-++ t inner ((false, n) ∷ outer) ∙ ap (λ z. errors_at t inner ++ z) (node_left t n outer (ap (λ (i : Item). is_error_node i.kind) first ∙ m.0)) in
+    errors_at-++ t inner ((false, n) ∷ outer) ∙ ap (λ z. errors_at t inner ++ z) (node_left t n outer (ap (λ (i : Item). is_error_node i.kind) first ∙ a.marked.0)) in
     let size : s + length (text_in (tokens_in c)) ≡ s + length (text_of (forget c)) = omega (arith, forget-length c) in
     subst (AreErrorsOf t (of_nodes (own ++ (repeated ++ more)))) (sym elements)
     (subst (λ z. AreErrorsOf t z (errors_at t inner ++ errors_at t outer)) (sym errors)
     (errors-++ t (of_nodes own) (of_nodes more) (errors_at t inner) (errors_at t outer)
-    (walk_errors t (n + 1) s (Some n) blank c (row_inside t n s p k (forget c) (forget f) h) (placed_first s (tokens_in c) (tokens_in f) a) m.1)
-    (walk_errors t (n + 1 + element_count (forget c)) (s + length (text_of (forget c))) p (b ⊕ one_branch k c) f (row_behind_node t n s p k (forget c) (forget f) h)
-    (placed_rest s (s + length (text_of (forget c))) (tokens_in c) (tokens_in f) size a) m.2)))
-walk_errors t n s p b (fault note c f) h a m =
+    (walk_errors t k (n + 1) s (Some n) blank c (row_inside t n s p k (forget c) (forget f) h)
+    (record { placed = placed_first s (tokens_in c) (tokens_in f) a.placed; told = a.told.0; bare = a.bare.1; marked = a.marked.1 }))
+    (walk_errors t q (n + 1 + element_count (forget c)) (s + length (text_of (forget c))) p (b ⊕ one_branch k c) f (row_behind_node t n s p k (forget c) (forget f) h)
+    (record { placed = placed_rest s (s + length (text_of (forget c))) (tokens_in c) (tokens_in f) size a.placed; told = a.told.1; bare = a.bare.2; marked = a.marked.2 }))))
+walk_errors t q n s p b (fault note c f) h a =
     let first : item t n ≡ _ = row_first t n s p (forget (fault note c f)) h (omega arith) in
     let own : List Fault = reports_within blank c in
     let error : Fault = report note (tokens_in c) in
@@ -130,11 +132,13 @@ walk_errors t n s p b (fault note c f) h a m =
     errors_at-++ t inner ((false, n) ∷ outer)
     ∙ ap (λ z. errors_at t inner ++ z) (error_left t n outer (ap (λ (i : Item). i.is_node) first) (ap (λ (i : Item). i.kind) first)) in
     let size : s + length (text_in (tokens_in c)) ≡ s + length (text_of (forget c)) = omega (arith, forget-length c) in
-    let placed : ArePlaced s (tokens_in c) = placed_first s (tokens_in c) (tokens_in f) a in
+    let inside : IsRowIn t (n + 1) s (Some n) (forget c) = row_inside t n s p NODE_ERROR (forget c) (forget f) h in
+    let sound : IsSound NODE_ERROR s c = record { placed = placed_first s (tokens_in c) (tokens_in f) a.placed; told = a.told.0; bare = a.bare.0; marked = a.marked.1 } in
     subst (AreErrorsOf t (of_nodes (own ++ (error ∷ more)))) (sym elements)
     (subst (λ z. AreErrorsOf t z (errors_at t inner ++ (n ∷ errors_at t outer))) (sym errors)
     (errors-++ t (of_nodes own) (error ∷ of_nodes more) (errors_at t inner) (n ∷ errors_at t outer)
-    (walk_errors t (n + 1) s (Some n) blank c (row_inside t n s p NODE_ERROR (forget c) (forget f) h) placed m.1)
-    (report_error t n s note c m.0 placed (ap (λ (i : Item). i.kind) first) (ap (λ (i : Item). i.start) first) (ap (λ (i : Item). i.end) first),
-    walk_errors t (n + 1 + element_count (forget c)) (s + length (text_of (forget c))) p (b ⊕ one_fault note c) f (row_behind_node t n s p NODE_ERROR (forget c) (forget f) h)
-    (placed_rest s (s + length (text_of (forget c))) (tokens_in c) (tokens_in f) size a) m.2)))
+    (walk_errors t NODE_ERROR (n + 1) s (Some n) blank c inside sound) (
+      report_error t n s note c a.marked.0 inside sound (ap (λ (i : Item). i.kind) first) (ap (λ (i : Item). i.start) first) (ap (λ (i : Item). i.end) first),
+      walk_errors t q (n + 1 + element_count (forget c)) (s + length (text_of (forget c))) p (b ⊕ one_fault note c) f (row_behind_node t n s p NODE_ERROR (forget c) (forget f) h)
+          (record { placed = placed_rest s (s + length (text_of (forget c))) (tokens_in c) (tokens_in f) size a.placed; told = a.told.1; bare = a.bare.1; marked = a.marked.2 }),
+    )))

@@ -10,10 +10,10 @@ use Rattle.rnix_grammar.specs.Machine.{Node, machine, opened, begins, Runs}
 use Rattle.rnix_grammar.specs.Rows.{At}
 use Rattle.rnix_grammar.specs.Reads.{Reads, end, leaf, lost, wrong, second, inner, ReadsWhole}
 use Rattle.rnix_completeness.proofs.PlainWhole.{ended_with, ended_once}
-use Rattle.rnix_uniqueness.proofs.Simulated.{ReadsRow}
-use Rattle.rnix_uniqueness.proofs.Heights.{height, Trees}
-use Rattle.rnix_uniqueness.proofs.TreeRuns.{tree_runs, no_tree}
-use Rattle.rnix_uniqueness.proofs.RowSteps.{row_end}
+use Rattle.rnix_uniqueness.proofs.StepReads.{ReadsRow}
+use Rattle.rnix_uniqueness.proofs.ReadingHeights.{height, Trees}
+use Rattle.rnix_uniqueness.proofs.TreeReads.{tree_runs, no_tree}
+use Rattle.rnix_uniqueness.proofs.RowTrees.{row_end}
 use Rattle.rnix_uniqueness.proofs.InnerReads.{AllRows}
 use Rattle.rnix_uniqueness.proofs.RowReads.{row_next}
 

@@ -65,9 +65,10 @@ abbrev old_let : Case
 old_let = record {
   text = codes "let {";
   right = (node NODE_LEGACY_LET (run 2) done, ended ∷ []);
-  others =
-      (node NODE_LET_IN (item (binding (wrong_path Attr 1) done done)) done,
-      instead Attr TOKEN_L_BRACE 4 5 ∷ missing Attr ∷ missing Assign ∷ ended ∷ missing Semicolon ∷ ended ∷ ended ∷ [])
+  others = (
+    node NODE_LET_IN (item (binding (wrong_path Attr 1) done done)) done,
+    instead Attr TOKEN_L_BRACE 4 5 ∷ missing Attr ∷ missing Assign ∷ ended ∷ missing Semicolon ∷ ended ∷ ended ∷ [],
+  )
       ∷ (call stray (set done) done, no_operand TOKEN_LET 0 3 ∷ ended ∷ [])
       ∷ [];
 }

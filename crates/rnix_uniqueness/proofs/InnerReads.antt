@@ -10,60 +10,49 @@ use Rattle.rnix_grammar.specs.declared.action.Action.{Action}
 use Rattle.rnix_grammar.specs.declared.action.Action.TheVariants as a
 use Rattle.rnix_grammar.specs.Fault.{Fault}
 use Rattle.rnix_grammar.specs.Tables.{is_wanted}
-use Rattle.rnix_grammar.specs.Slots.{slot_at, level_in}
+use Rattle.rnix_grammar.specs.Slots.{slot_at, level_in, is_counted}
 use Rattle.rnix_grammar.specs.Actions.{done_at}
-use Rattle.rnix_grammar.specs.Sketch.{Token, Sketch, blank, token, branch, one_token, one_branch, tokens_in, head_kind, end_from}
-use Rattle.rnix_grammar.specs.Sketch.{touches}
-use Rattle.rnix_grammar.specs.Rows.{Spot, At, Start, fits, is_expression, start, whole}
+use Rattle.rnix_grammar.specs.Sketch.{Token, Sketch, blank, token, branch, one_token, one_branch, tokens_in, head_kind, end_from, touches}
+use Rattle.rnix_grammar.specs.Rows.{Spot, At, Start, fits, is_expression, start}
 use Rattle.rnix_grammar.specs.Plain.{is_node}
-use Rattle.rnix_grammar.specs.Slots.{is_counted}
 use Rattle.rnix_grammar.specs.Reports.{repeats}
 use Rattle.rnix_grammar.specs.Operands.{IsOperand}
 use Rattle.rnix_grammar.specs.Reads.{IsRoom, deeper, IsOver}
 use Rattle.rnix_lemmas.proofs.Basics.{true_is_not_false, some_same}
 use Rattle.rnix_lemmas.proofs.NodeKinds.{is_error, told_plain, fits_expression}
-use Rattle.rnix_uniqueness.proofs.Simulated.{ReadsRow}
-use Rattle.rnix_uniqueness.proofs.Heights.{Short, Trees}
-use Rattle.rnix_uniqueness.proofs.Ways.{opener, Way, none, operand, path, binding, opens, name, binds, entry}
-use Rattle.rnix_uniqueness.proofs.Realms.{realm}
-use Rattle.rnix_uniqueness.proofs.RealmRows.{IsRealm, realm_reads}
-use Rattle.rnix_uniqueness.proofs.OwnEnds.{realm_of}
-use Rattle.rnix_uniqueness.proofs.RowSteps.{ReadsOne, one_operand}
-use Rattle.rnix_uniqueness.proofs.NodeSteps.{one_begun, one_opened, one_named, one_entry}
-use Rattle.rnix_uniqueness.proofs.FirstRows.{fronted, no_token_row, Opened, opened_by, Named, named_by, Entered, entered_by, bound_by, no_opener}
+use Rattle.rnix_uniqueness.proofs.StepReads.{ReadsRow}
+use Rattle.rnix_uniqueness.proofs.ReadingHeights.{Short, Trees}
+use Rattle.rnix_uniqueness.proofs.PlacedNodes.{opener, NodeRead, none, operand, path, binding, opens, name, binds, entry}
+use Rattle.rnix_uniqueness.proofs.RowClasses.{row_class}
+use Rattle.rnix_uniqueness.proofs.RowClassReads.{IsInClass, class_reads}
+use Rattle.rnix_uniqueness.proofs.RowEnds.{class_of_kind}
+use Rattle.rnix_uniqueness.proofs.RowTrees.{ReadsOne, one_operand}
+use Rattle.rnix_uniqueness.proofs.RowNodes.{one_begun, one_opened, one_named, one_entry}
+use Rattle.rnix_uniqueness.proofs.FirstItems.{fronted, no_token_row, Opened, opened_by, Named, named_by, Entered, entered_by, bound_by, no_opener}
+use Rattle.rnix_uniqueness.proofs.RowCloses.{EndsAt, whole_at}
 
 -- the steps read each row from a place to a place that is at most so high
 abbrev pub AllRows : ℕ → Type 0
 AllRows m =
     (k : SyntaxKind) (d n : ℕ) (x y : Place) (b : Sketch) (us : List Token) (f : Sketch) (es : List Fault) → Short m k d n (At x) (At y) b us f es → ReadsRow k d n x y b us f es
 
--- the place where a whole row ends
-pub record EndPlace (s : Spot) : Type 0 where
-  pub place : Place
-  pub is : s ≡ At place
-
--- a whole row ends at a place
-pub end_place : (s : Spot) → whole s ≡ true → EndPlace s
-end_place (At x) h = record { place = x; is = refl }
-end_place _ h = absurd (true_is_not_false (sym h))
-
 -- a smaller row from a place is read, and ends where it is
 pub record ReadOn (k : SyntaxKind) (d n : ℕ) (x : Place) (b : Sketch) (us : List Token) (f : Sketch) (es : List Fault) (m : ℕ) : Type 0 where
   pub place : Place
   pub row : ReadsRow k d n x place b us f es
-  pub home : realm place ≡ realm x
+  pub home : row_class place ≡ row_class x
   pub over : IsOver (At place) m us
 
 -- so it is with each
 pub read_on : (m : ℕ) → AllRows m → (k : SyntaxKind) (d n : ℕ) (x : Place) (s : Spot) (b : Sketch) (us : List Token) (f : Sketch) (es : List Fault) (e : ℕ) → Short m k d n (At x) s b us f es → IsOver s e us
     → ReadOn k d n x b us f es e
-read_on m rows k d n x s b us f es e h o = by (end_place s o.0)
+read_on m rows k d n x s b us f es e h o = by (whole_at s o.0)
   where
-    by : EndPlace s → ReadOn k d n x b us f es e
+    by : EndsAt s → ReadOn k d n x b us f es e
     by w = record {
       place = w.place;
       row = rows k d n x w.place b us f es (subst (λ (v : Spot). Short m k d n (At x) v b us f es) w.is h);
-      home = subst (λ (v : Spot). IsRealm (realm x) v) w.is (realm_reads (realm x) h.reads refl);
+      home = subst (λ (v : Spot). IsInClass (row_class x) v) w.is (class_reads (row_class x) h.reads refl);
       over = subst (λ (v : Spot). IsOver v e us) w.is o;
     }
 
@@ -83,10 +72,10 @@ opener_plain NODE_DYNAMIC i z o = refl
 opener_plain NODE_STRING i z o = refl
 opener_plain _ i z o = no_opener i z o
 
-opener_at : (v i : SyntaxKind) (w z : Place) → ◌≡◌ {A = Option (SyntaxKind × Place)} (Some (v, w)) (Some (i, z)) → realm z ≡ realm w
-opener_at v i w z o = ap (λ (r : SyntaxKind × Place). realm r.1) (sym (some_same {A = SyntaxKind × Place} (v, w) (i, z) o))
+opener_at : (v i : SyntaxKind) (w z : Place) → ◌≡◌ {A = Option (SyntaxKind × Place)} (Some (v, w)) (Some (i, z)) → row_class z ≡ row_class w
+opener_at v i w z o = ap (λ (r : SyntaxKind × Place). row_class r.1) (sym (some_same {A = SyntaxKind × Place} (v, w) (i, z) o))
 
-opener_realm : (k i : SyntaxKind) (z : Place) → ◌≡◌ {A = Option (SyntaxKind × Place)} (opener k) (Some (i, z)) → realm z ≡ realm_of k
+opener_realm : (k i : SyntaxKind) (z : Place) → ◌≡◌ {A = Option (SyntaxKind × Place)} (opener k) (Some (i, z)) → row_class z ≡ class_of_kind k
 opener_realm NODE_INHERIT i z o = opener_at _ i _ z o
 opener_realm NODE_INHERIT_FROM i z o = opener_at _ i _ z o
 opener_realm NODE_INTERPOL i z o = opener_at _ i _ z o
@@ -103,7 +92,7 @@ abbrev DoneBefore : Place → ℕ → List Token → Action → Sketch → Type 
 DoneBefore x n vs act c = done_at (slot_at x) x (head_kind (tokens_in c ++ vs)) (touches n (tokens_in c ++ vs)) ≡ act
 
 inner_from : (m : ℕ) → AllRows m → (q : SyntaxKind) (d n : ℕ) (x z w : Place) (b : Sketch) (k i : SyntaxKind) (c : Sketch) (vs : List Token) (ds : List Fault) (s : Spot)
-    → Opened m k i w d n s vs c ds → IsOver s (end_from n (tokens_in c)) vs → is_error k ≡ false → realm w ≡ realm_of k
+    → Opened m k i w d n s vs c ds → IsOver s (end_from n (tokens_in c)) vs → is_error k ≡ false → row_class w ≡ class_of_kind k
     → ((t : Token) → t.kind ≡ i → (f : Sketch) → c ≡ token i t f → DoneBefore x n vs (a.Open k w z) (token i t f)) → InnerOne q d n x z b vs k ds c
 inner_from m rows q d n x z w b k i c vs ds s o over plain home act =
     subst (λ (v : Sketch). InnerOne q d n x z b vs k ds v) (sym o.is)
@@ -136,7 +125,7 @@ inner_binds m rows q d n x z b c vs ds s short over act =
     (λ t e f j. (subst (λ (v : Sketch). (j : SyntaxKind) → head_kind (tokens_in v ++ vs) ≡ Some j → (j ≡ TOKEN_AT) × DoneBefore x n vs (a.Open NODE_PAT_BIND p.BindName z) v) j act t.kind refl).1)
 
 inner_begins : (m : ℕ) → AllRows m → (q : SyntaxKind) (d n : ℕ) (x z w : Place) (b : Sketch) (k : SyntaxKind) (c : Sketch) (vs : List Token) (ds : List Fault) (s : Spot)
-    → Short m k d n (At w) s blank vs c ds → IsOver s (end_from n (tokens_in c)) vs → realm w ≡ realm_of k → DoneBefore x n vs (a.Begin k w z) c → InnerOne q d n x z b vs k ds c
+    → Short m k d n (At w) s blank vs c ds → IsOver s (end_from n (tokens_in c)) vs → row_class w ≡ class_of_kind k → DoneBefore x n vs (a.Begin k w z) c → InnerOne q d n x z b vs k ds c
 inner_begins m rows q d n x z w b k c vs ds s short over home act = by (read_on m rows k d n w s blank vs c ds (end_from n (tokens_in c)) short over)
   where
     by : ReadOn k d n w blank vs c ds (end_from n (tokens_in c)) → InnerOne q d n x z b vs k ds c
@@ -191,13 +180,13 @@ inner_operand m trees q d n level x z b k c vs ds s short over fit act room op =
 -- a node that stands at a place is read there
 pub inner_one : (m : ℕ) → AllRows m → Trees m → (q : SyntaxKind) (d n : ℕ) (x z : Place) (b : Sketch) (k : SyntaxKind) (c : Sketch) (vs : List Token) (ds : List Fault) (s : Spot)
     → Short m k (deeper (At x) d) n (start k) s blank vs c ds → IsOver s (end_from n (tokens_in c)) vs → IsRoom (At x) d → IsOperand (level_in (slot_at x)) (one_branch k c) vs
-    → Way (slot_at x) x z (touches n (tokens_in c ++ vs)) (head_kind (tokens_in c ++ vs)) k → ReadsOne q d n x z b (tokens_in c) vs (one_branch k c) (ds ++ repeats k b c)
+    → NodeRead (slot_at x) x z (touches n (tokens_in c ++ vs)) (head_kind (tokens_in c ++ vs)) k → ReadsOne q d n x z b (tokens_in c) vs (one_branch k c) (ds ++ repeats k b c)
 inner_one m rows trees q d n x z b k c vs ds s short over room op way = by way short op
   where
     flat : (j : SyntaxKind) → is_counted (slot_at x) ≡ false → Short m j (deeper (At x) d) n (start j) s blank vs c ds → Short m j d n (start j) s blank vs c ds
     flat j e h = subst (λ (v : ℕ). Short m j v n (start j) s blank vs c ds) (ap (λ w. if w then suc d else d) e) h
 
-    by : {j : SyntaxKind} → Way (slot_at x) x z (touches n (tokens_in c ++ vs)) (head_kind (tokens_in c ++ vs)) j → Short m j (deeper (At x) d) n (start j) s blank vs c ds
+    by : {j : SyntaxKind} → NodeRead (slot_at x) x z (touches n (tokens_in c ++ vs)) (head_kind (tokens_in c ++ vs)) j → Short m j (deeper (At x) d) n (start j) s blank vs c ds
         → IsOperand (level_in (slot_at x)) (one_branch j c) vs → InnerOne q d n x z b vs j ds c
     by {j = j} (none e) h o = absurd (no_token_row m j (deeper (At x) d) n s vs c ds e h over.0)
     by {j = j} (operand level e fit act) h o =

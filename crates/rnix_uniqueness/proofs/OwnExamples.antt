@@ -29,9 +29,10 @@ abbrev dynamic : Case
 dynamic = record {
   text = codes "{ ${";
   right = (set (binding (path_of (node NODE_DYNAMIC (item done) done)) done done) done, ended ∷ missing Assign ∷ ended ∷ missing Semicolon ∷ ended ∷ []);
-  others =
-      (set (binding (wrong_path Attr 1) done done) done,
-      instead Attr TOKEN_INTERPOL_START 2 4 ∷ missing Attr ∷ missing Assign ∷ ended ∷ missing Semicolon ∷ ended ∷ [])
+  others = (
+    set (binding (wrong_path Attr 1) done done) done,
+    instead Attr TOKEN_INTERPOL_START 2 4 ∷ missing Attr ∷ missing Assign ∷ ended ∷ missing Semicolon ∷ ended ∷ [],
+  )
       ∷ [];
 }
 
@@ -147,9 +148,10 @@ far_path_told = is_told far_path 60 refl refl
 abbrev second_name : Case
 second_name = record {
   text = codes "a @ { } @ b";
-  right =
-      (function_of (node NODE_PAT_BIND (name (item done)) (item (item (wrong Twice (item (name done)) done)))) done done,
-      bound_twice (within 8 11) ∷ missing Colon ∷ ended ∷ []);
+  right = (
+    function_of (node NODE_PAT_BIND (name (item done)) (item (item (wrong Twice (item (name done)) done)))) done done,
+    bound_twice (within 8 11) ∷ missing Colon ∷ ended ∷ [],
+  );
   others =
       (function_of (node NODE_PAT_BIND (name (item done)) (run 2)) (unwanteds Colon 2 done) done, instead Colon TOKEN_AT 8 11 ∷ missing Colon ∷ ended ∷ [])
       ∷ [];

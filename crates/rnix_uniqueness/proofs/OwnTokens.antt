@@ -2,35 +2,24 @@
 use Rattle.std.proofs.Common.{◌≡◌, ℕ, Bool, true, false, Some, refl, ap, sym, ◌∙◌}
 use Rattle.std.specs.Prelude.{◌&&◌, ◌||◌, if◌then◌else◌}
 use Rattle.rnix_kinds.specs.declared.kinds.SyntaxKind.{SyntaxKind}
-use Rattle.rnix_kinds.specs.declared.kinds.SyntaxKind.TheVariants.{TOKEN_AT, TOKEN_COMMA, TOKEN_CUR_POS, TOKEN_DOT, TOKEN_ELLIPSIS, TOKEN_IDENT, TOKEN_INHERIT, TOKEN_INTERPOL_START, TOKEN_L_PAREN, TOKEN_OR, TOKEN_PATH_ABS, TOKEN_PATH_HOME, TOKEN_PATH_REL, TOKEN_QUESTION, TOKEN_R_BRACE, TOKEN_SEMICOLON, TOKEN_STRING_CONTENT, TOKEN_STRING_END, TOKEN_STRING_START, NODE_ATTRPATH_VALUE, NODE_CUR_POS, NODE_IDENT}
+use Rattle.rnix_kinds.specs.declared.kinds.SyntaxKind.TheVariants.{TOKEN_AT, TOKEN_COMMA, TOKEN_CUR_POS, TOKEN_DOT, TOKEN_ELLIPSIS, TOKEN_IDENT, TOKEN_INHERIT, TOKEN_INTERPOL_START, TOKEN_L_PAREN, TOKEN_OR, TOKEN_PATH_ABS, TOKEN_PATH_HOME, TOKEN_PATH_REL, TOKEN_QUESTION, TOKEN_R_BRACE, TOKEN_SEMICOLON, TOKEN_STRING_CONTENT, TOKEN_STRING_END, TOKEN_STRING_START, NODE_CUR_POS, NODE_IDENT}
 use Rattle.rnix_grammar.specs.declared.place.Place.{Place}
 use Rattle.rnix_grammar.specs.declared.place.Place.TheVariants as p
 use Rattle.rnix_grammar.specs.declared.slot.Slot.{Slot}
 use Rattle.rnix_grammar.specs.declared.slot.Slot.TheVariants as s
 use Rattle.rnix_grammar.specs.declared.until.Until.{Until}
 use Rattle.rnix_grammar.specs.declared.until.Closer.{Closer}
-use Rattle.rnix_grammar.specs.declared.until.Closer.TheVariants as c
 use Rattle.rnix_grammar.specs.declared.action.Action.TheVariants as a
 use Rattle.rnix_grammar.specs.Tables.{is_wanted, closes}
 use Rattle.rnix_grammar.specs.Slots.{slot_at}
 use Rattle.rnix_grammar.specs.Actions.{action_at, done_at, token_action, series_action, entries_action}
 use Rattle.rnix_grammar.specs.Sketch.{told_as}
-use Rattle.rnix_grammar.specs.Rows.{is_entry, fits, At, Nowhere, go, go_slot, to}
-use Rattle.rnix_grammar.specs.Plain.{is_node}
+use Rattle.rnix_grammar.specs.Rows.{is_entry, fits, At, go, go_slot, to}
 use Rattle.rnix_grammar.specs.OwnItems.{owns_in}
 use Rattle.rnix_grammar.specs.TokenKinds.{is_inherit_token}
 use Rattle.rnix_lemmas.proofs.Basics.{true_is_not_false}
 use Rattle.rnix_lemmas.proofs.PlaceTables.{pieces_is}
-use Rattle.rnix_lemmas.proofs.NodeKinds.{expression_node, fits_expression, not_both}
-use Rattle.rnix_completeness.proofs.PlainSteps.{same_place, no_place, to_test}
-
--- where a token closes, the entries end
-entries_end : (closer : Closer) (x z : Place) (k : SyntaxKind) → closes closer k ≡ true → entries_action closer x z (Some k) ≡ a.Take z
-entries_end c.RBrack x z TOKEN_INHERIT h = absurd (true_is_not_false (sym h))
-entries_end c.RBrace x z TOKEN_INHERIT h = absurd (true_is_not_false (sym h))
-entries_end c.InterpolEnd x z TOKEN_INHERIT h = absurd (true_is_not_false (sym h))
-entries_end c.In x z TOKEN_INHERIT h = absurd (true_is_not_false (sym h))
-entries_end closer x z k h = ap (λ w. if w then a.Take z else a.Begin NODE_ATTRPATH_VALUE p.ValuePath x) h
+use Rattle.rnix_completeness.proofs.PlainSteps.{same_place, no_place, to_test, end_entries, no_names}
 
 no_entry_token : (k : SyntaxKind) → is_inherit_token k ≡ true → is_entry k ≡ false
 no_entry_token TOKEN_INHERIT h = refl
@@ -38,7 +27,7 @@ no_entry_token _ h = absurd (true_is_not_false (sym h))
 
 entries_own : (closer : Closer) (x z y : Place) (k : SyntaxKind) (w : Bool) → closes closer k ≡ w → (w || is_inherit_token k) ≡ true
     → (if w then At z else to (is_entry k) (At x)) ≡ At y → entries_action closer x z (Some k) ≡ a.Take y
-entries_own closer x z y k true e o h = entries_end closer x z k e ∙ ap (λ w. a.Take w) (same_place z y h)
+entries_own closer x z y k true e o h = end_entries closer x z k e ∙ ap (λ w. a.Take w) (same_place z y h)
 entries_own closer x z y k false e o h = absurd (no_place y (sym (ap (λ w. to w (At x)) (no_entry_token k o)) ∙ h))
 
 series_own : (level : ℕ) (closer : Closer) (x y : Place) (k : SyntaxKind) → closes closer k ≡ true → (if closes closer k then At p.Past else to (fits level k) (At x)) ≡ At y
@@ -125,20 +114,6 @@ takes_own s.PatternDone x y k touch o h v = absurd (no_place y h)
 takes_own s.TwiceDone x y k touch o h v = absurd (no_place y h)
 takes_own s.End x y k touch o h v = absurd (no_place y h)
 takes_own (s.More low high) x y k touch o h v = absurd (no_place y h)
-
-fits_none : (n : ℕ) (k : SyntaxKind) → is_node k ≡ false → fits n k ≡ false
-fits_none n k h = by (fits n k) refl
-  where
-    by : (w : Bool) → fits n k ≡ w → fits n k ≡ false
-    by true e = absurd (not_both k h (expression_node k (fits_expression n k e)))
-    by false e = e
-
--- no name stands behind the beginning of a row
-no_names : (x : Place) → (go (At x) TOKEN_IDENT ≡ Nowhere) × (go (At x) TOKEN_CUR_POS ≡ Nowhere)
-no_names (p.Right level) = (ap (λ w. to w (At (p.Operated level))) (fits_none level TOKEN_IDENT refl), ap (λ w. to w (At (p.Operated level))) (fits_none level TOKEN_CUR_POS refl))
-no_names (p.PatternEnd true) = (refl, refl)
-no_names (p.PatternEnd false) = (refl, refl)
-no_names _ = (refl, refl)
 
 -- a leaf that a row goes on with at a place has the kind of its token
 pub told_there : (x y : Place) (parent k : SyntaxKind) → go (At x) (told_as parent k) ≡ At y → told_as parent k ≡ k

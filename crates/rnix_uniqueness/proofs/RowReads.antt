@@ -1,5 +1,5 @@
 -- A row from a place is read, if smaller rows and trees are.
-use Rattle.std.proofs.Common.{◌≡◌, ℕ, suc, ◌+◌, ◌≤◌, true, false, List, [], ◌∷◌, ◌++◌, refl, ap, sym, ◌∙◌, subst, arith}
+use Rattle.std.proofs.Common.{◌≡◌, ℕ, suc, ◌≤◌, true, false, List, [], ◌∷◌, ◌++◌, refl, ap, sym, ◌∙◌, subst}
 use Rattle.rnix_kinds.specs.declared.kinds.SyntaxKind.{SyntaxKind}
 use Rattle.rnix_kinds.specs.declared.kinds.SyntaxKind.TheVariants.{TOKEN_AT, NODE_ERROR}
 use Rattle.rnix_grammar.specs.declared.place.Place.{Place}
@@ -7,32 +7,22 @@ use Rattle.rnix_grammar.specs.declared.place.Place.TheVariants as p
 use Rattle.rnix_grammar.specs.Fault.{Fault}
 use Rattle.rnix_grammar.specs.Slots.{slot_at, level_in}
 use Rattle.rnix_grammar.specs.Sketch.{Token, Twice, Sketch, blank, token, branch, fault, ◌⊕◌, one_token, one_branch, one_fault, row_of, tokens_in, end_from}
-use Rattle.rnix_grammar.specs.Reports.{report}
+use Rattle.rnix_grammar.specs.Reports.{report, repeats}
 use Rattle.rnix_grammar.specs.Rows.{Spot, At, SecondStart, go, live, start}
-use Rattle.rnix_grammar.specs.Reports.{repeats}
 use Rattle.rnix_grammar.specs.OwnItems.{owns, stands_owned_in}
 use Rattle.rnix_grammar.specs.Operands.{IsOperand}
 use Rattle.rnix_grammar.specs.Reads.{Reads, end, leaf, lost, wrong, second, inner, deeper, IsOver, IsWrong}
 use Rattle.rnix_lemmas.proofs.SketchLemmas.{tokens_in-row_of}
 use Rattle.rnix_completeness.proofs.PlainSteps.{same_place}
 use Rattle.rnix_completeness.proofs.PlainPlaces.{Reaches, reaches}
-use Rattle.rnix_uniqueness.proofs.Simulated.{ReadsRow}
-use Rattle.rnix_uniqueness.proofs.Heights.{height, Short, Trees}
-use Rattle.rnix_uniqueness.proofs.Ways.{way_at}
-use Rattle.rnix_uniqueness.proofs.RowSteps.{ReadsOne, row_end, row_on, row_lost, one_leaf}
-use Rattle.rnix_uniqueness.proofs.NodeSteps.{one_second}
-use Rattle.rnix_uniqueness.proofs.FirstRows.{fronted, Opened, second_by}
+use Rattle.rnix_uniqueness.proofs.StepReads.{ReadsRow}
+use Rattle.rnix_uniqueness.proofs.ReadingHeights.{height, Short, Trees, less, less_left, less_right}
+use Rattle.rnix_uniqueness.proofs.PlacedNodes.{node_read_at}
+use Rattle.rnix_uniqueness.proofs.RowTrees.{ReadsOne, row_end, row_on, row_lost, one_leaf}
+use Rattle.rnix_uniqueness.proofs.RowNodes.{one_second}
+use Rattle.rnix_uniqueness.proofs.FirstItems.{fronted, Opened, second_by}
 use Rattle.rnix_uniqueness.proofs.InnerReads.{AllRows, ReadOn, read_on, inner_one}
 use Rattle.rnix_uniqueness.proofs.WrongReads.{WrongOne, wrong_one}
-
-less : (a m : ℕ) → suc a ≤ suc m → a ≤ m
-less a m h = omega (arith, h)
-
-less_left : (a b m : ℕ) → suc (a + b) ≤ suc m → a ≤ m
-less_left a b m h = omega (arith, h)
-
-less_right : (a b m : ℕ) → suc (a + b) ≤ suc m → b ≤ m
-less_right a b m h = omega (arith, h)
 
 -- the rest of a row behind a place
 shift : (m : ℕ) {p : SyntaxKind} {d n e : ℕ} {q s : Spot} {x : Place} {b c : Sketch} {us : List Token} {f : Sketch} {es : List Fault} (r : Reads p d n q s b us f es) → height r ≤ m → q ≡ At x → b ≡ c → n ≡ e
@@ -99,6 +89,6 @@ row_next m rows trees {k = q} {d = d} {n = n} {x = x} {y = y} {b = b} {us = us} 
         (subst (λ (w : List Token). Short m k (deeper (At x) d) n (start k) s blank w c ds) v (record { reads = r; short = less_left (height r) (height r') m h }))
         (subst (λ (w : List Token). IsOver s (end_from n (tokens_in c)) w) v (subst (λ (w : ℕ). IsOver s w vs) e over))
         room (subst (λ (w : List Token). IsOperand (level_in (slot_at x)) (one_branch k c) w) v op)
-        (way_at x z.place n (tokens_in c ++ (tokens_in f ++ us)) k z.is
+        (node_read_at x z.place n (tokens_in c ++ (tokens_in f ++ us)) k z.is
         (subst (λ (w : List Token). owns x n (tokens_in c ++ w) ≡ stands_owned_in (slot_at x) k) v (subst (λ (w : List Token). owns x n w ≡ stands_owned_in (slot_at x) k) u o))))
         (rows q d (end_from n (tokens_in c)) z.place y (b ⊕ one_branch k c) us f es (shift m r' (less_right (height r) (height r') m h) (sym g ∙ z.is) hg e)) refl)

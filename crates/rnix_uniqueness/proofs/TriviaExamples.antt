@@ -51,7 +51,7 @@ is_spaced c dressed same h = record {
 
 -- ` a)`: the space stands before the name's node, and not inside
 abbrev before_name : Spaced
-before_name = record { text = codes " a)"; right = item (name (extras 1)); other = node NODE_IDENT (run 2) (extras 1); }
+before_name = record { text = codes " a)"; right = item (name (extras 1)); other = node NODE_IDENT (run 2) (extras 1) }
 
 before_name_spaced : IsSpaced before_name
 unfolding chars encode_utf8 tokens_behind normal_cut cut_at space_len begins_space char_len
@@ -59,7 +59,7 @@ before_name_spaced = is_spaced before_name refl refl refl
 
 -- `a )`: the space stands before the error node, and not inside
 abbrev before_extra : Spaced
-before_extra = record { text = codes "a )"; right = name (item (extras 1)); other = name (wrong Extra (run 2) done); }
+before_extra = record { text = codes "a )"; right = name (item (extras 1)); other = name (wrong Extra (run 2) done) }
 
 before_extra_spaced : IsSpaced before_extra
 unfolding chars encode_utf8 tokens_behind normal_cut cut_at space_len begins_space char_len
@@ -67,7 +67,7 @@ before_extra_spaced = is_spaced before_extra refl refl refl
 
 -- `a ) `: the last space stands behind the error node, and not inside
 abbrev behind_extra : Spaced
-behind_extra = record { text = codes "a ) "; right = name (item (wrong Extra (run 1) (item done))); other = name (item (wrong Extra (run 2) done)); }
+behind_extra = record { text = codes "a ) "; right = name (item (wrong Extra (run 1) (item done))); other = name (item (wrong Extra (run 2) done)) }
 
 behind_extra_spaced : IsSpaced behind_extra
 unfolding chars encode_utf8 tokens_behind normal_cut cut_at space_len begins_space char_len

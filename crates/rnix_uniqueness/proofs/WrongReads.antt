@@ -1,5 +1,5 @@
 -- An error node that stands at a place of a row is read there.
-use Rattle.std.proofs.Common.{◌≡◌, ℕ, Bool, true, false, List, [], ◌∷◌, ◌++◌, Option, Some, None, length, refl, ap, sym, ◌∙◌, subst, append-nil, arith}
+use Rattle.std.proofs.Common.{◌≡◌, ℕ, Bool, true, false, List, [], ◌∷◌, ◌++◌, Option, Some, None, length, refl, ap, sym, ◌∙◌, subst, append-nil}
 use Rattle.std.specs.Prelude.{if◌then◌else◌}
 use Rattle.rnix_kinds.specs.declared.kinds.SyntaxKind.{SyntaxKind}
 use Rattle.rnix_kinds.specs.declared.kinds.SyntaxKind.TheVariants.{NODE_LITERAL}
@@ -11,16 +11,13 @@ use Rattle.rnix_grammar.specs.declared.until.Until.{Until}
 use Rattle.rnix_grammar.specs.declared.until.Closer.{Closer}
 use Rattle.rnix_grammar.specs.declared.action.Action.TheVariants as a
 use Rattle.rnix_grammar.specs.Tables.{is_wanted, closes, depth_limit}
-use Rattle.rnix_grammar.specs.Slots.{slot_at, level_in}
+use Rattle.rnix_grammar.specs.Slots.{slot_at, level_in, is_counted}
 use Rattle.rnix_grammar.specs.Actions.{done_at}
-use Rattle.rnix_grammar.specs.Missing.{run_at}
-use Rattle.rnix_grammar.specs.Missing.{run_of}
-use Rattle.rnix_grammar.specs.Sketch.{touches}
-use Rattle.rnix_grammar.specs.Sketch.{Token, Note, Stray, Unwanted, Extra, Twice, TooDeep, Sketch, one_fault, row_of, is_some, head_kind}
+use Rattle.rnix_grammar.specs.Missing.{run_at, run_of}
+use Rattle.rnix_grammar.specs.Sketch.{touches, Token, Note, Stray, Unwanted, Extra, Twice, TooDeep, Sketch, one_fault, row_of, is_some, head_kind}
 use Rattle.rnix_grammar.specs.Reports.{report}
 use Rattle.rnix_grammar.specs.Rows.{Spot, At, Nowhere, fits, go, go_slot, live, to}
 use Rattle.rnix_grammar.specs.Plain.{is_node}
-use Rattle.rnix_grammar.specs.Slots.{is_counted}
 use Rattle.rnix_grammar.specs.OwnItems.{owns}
 use Rattle.rnix_grammar.specs.Operands.{IsOperand}
 use Rattle.rnix_grammar.specs.Reads.{deeper, IsRoom, IsWrong}
@@ -28,10 +25,11 @@ use Rattle.rnix_lemmas.proofs.Basics.{true_is_not_false}
 use Rattle.rnix_completeness.proofs.PlainSteps.{same_place, to_test, no_place}
 use Rattle.rnix_completeness.proofs.PlainPlaces.{Reaches, reaches}
 use Rattle.rnix_completeness.proofs.PlainFirsts.{closer_leaf, wanted_leaf}
-use Rattle.rnix_uniqueness.proofs.Opened.{tree_stray}
-use Rattle.rnix_uniqueness.proofs.Ways.{own_next, own_at}
-use Rattle.rnix_uniqueness.proofs.RowSteps.{ReadsOne, one_operand}
-use Rattle.rnix_uniqueness.proofs.NodeSteps.{one_unwanted, one_extra, one_deep}
+use Rattle.rnix_uniqueness.proofs.ItemOperands.{tree_stray}
+use Rattle.rnix_uniqueness.proofs.PlacedNodes.{own_next, own_at}
+use Rattle.rnix_uniqueness.proofs.RowTrees.{ReadsOne, one_operand}
+use Rattle.rnix_uniqueness.proofs.RowNodes.{one_unwanted, one_extra, one_deep}
+use Rattle.rnix_uniqueness.proofs.ReadingHeights.{lone_token}
 
 -- where an operand stands in a slot, it is read
 record Operands (slot : Slot) (x y : Place) (touch : Bool) (next : Option SyntaxKind) : Type 0 where
@@ -66,11 +64,6 @@ literal_in _ x y touch next h o = absurd (no_place y h)
 
 literal_at : (x y : Place) (n : ℕ) (ts : List Token) → go (At x) NODE_LITERAL ≡ At y → owns x n ts ≡ false → Operands (slot_at x) x y (touches n ts) (head_kind ts)
 literal_at x y n ts h o = literal_in (slot_at x) x y (touches n ts) (head_kind ts) h (sym (own_at x n ts) ∙ o)
-
-lone_token : (ts : List Token) → length ts ≡ 1 → (t : Token) × (ts ≡ t ∷ [])
-lone_token [] h = absurd (cc)
-lone_token (t ∷ []) h = (t, refl)
-lone_token (t ∷ (u ∷ us)) h = absurd (omega (arith, h))
 
 stray_one : (q : SyntaxKind) (d n : ℕ) (x z : Place) (b : Sketch) (ts vs : List Token) → length ts ≡ 1 → owns x n (ts ++ vs) ≡ false → IsRoom (At x) d
     → IsOperand (level_in (slot_at x)) (one_fault Stray (row_of ts)) vs → go (At x) NODE_LITERAL ≡ At z → ReadsOne q d n x z b ts vs (one_fault Stray (row_of ts)) (report Stray ts ∷ [])

@@ -1,7 +1,6 @@
 use Rattle.std.proofs.Common.{sym, ◌∙◌}
 use Rattle.std.specs.Prelude.{◌==◌}
-use Rattle.rnix_kinds.specs.TokenSet.{same_number}
-use Rattle.rnix_kinds.specs.KindNumbers.{number_of-kinds_of}
+use Rattle.rnix_kinds.specs.KindNumbers.{same_number, number_of-kinds_of}
 use Rattle.rnix_kinds.proofs.token_set.TokenSetPartialEq.eq.Goals as goal
 
 pub returns : goal.returns

@@ -17,15 +17,15 @@ use Rattle.rnix_completeness.proofs.PlainPlaces.{nexts}
 use Rattle.rnix_completeness.proofs.PlainSteps.{same_place, no_place, to_test}
 
 -- where a place is: in an entry of a pattern, in a second name, in the root, or elsewhere
-abbrev pub realm : Place → ℕ
-realm p.EntryMore = 1
-realm p.EntryDefault = 1
-realm p.EntryPast = 1
-realm p.TwiceName = 2
-realm p.TwicePast = 2
-realm p.RootStart = 3
-realm p.RootEnd = 3
-realm place = 0
+abbrev pub row_class : Place → ℕ
+row_class p.EntryMore = 1
+row_class p.EntryDefault = 1
+row_class p.EntryPast = 1
+row_class p.TwiceName = 2
+row_class p.TwicePast = 2
+row_class p.RootStart = 3
+row_class p.RootEnd = 3
+row_class place = 0
 
 -- one of some places
 abbrev IsAmong : Place → List Place → Type 0
@@ -95,41 +95,41 @@ among (s.More low high) x y k h = absurd (no_place y h)
 -- all of these are where the first place is
 abbrev AreNear : Place → List Place → Type 0
 AreNear x [] = Unit {0}
-AreNear x (y ∷ ys) = (realm y ≡ realm x) × AreNear x ys
+AreNear x (y ∷ ys) = (row_class y ≡ row_class x) × AreNear x ys
 
 near : (x : Place) → AreNear x (nexts (slot_at x) x)
 near (p.Right level) = (refl, tt)
 near _ = assumption (refl)
 
-near_one : (x y : Place) (zs : List Place) → IsAmong y zs → AreNear x zs → realm y ≡ realm x
+near_one : (x y : Place) (zs : List Place) → IsAmong y zs → AreNear x zs → row_class y ≡ row_class x
 near_one x y [] h n = absurd h
-near_one x y (z ∷ zs) (inl h) n = ap realm (sym h) ∙ n.0
+near_one x y (z ∷ zs) (inl h) n = ap row_class (sym h) ∙ n.0
 near_one x y (z ∷ zs) (inr h) n = near_one x y zs h n.1
 
 -- one more child leads to where the row is
-pub realm_go : (x y : Place) (k : SyntaxKind) → go (At x) k ≡ At y → realm y ≡ realm x
-realm_go x y k h = near_one x y (nexts (slot_at x) x) (among (slot_at x) x y k h) (near x)
+pub class_go : (x y : Place) (k : SyntaxKind) → go (At x) k ≡ At y → row_class y ≡ row_class x
+class_go x y k h = near_one x y (nexts (slot_at x) x) (among (slot_at x) x y k h) (near x)
 
 abbrev RunNear : Place → Option (Until × Place) → Type 0
 RunNear x None = Unit {0}
-RunNear x (Some w) = realm w.1 ≡ realm x
+RunNear x (Some w) = row_class w.1 ≡ row_class x
 
 run_near : (x : Place) → RunNear x (run_at x)
 run_near p.RootStart = tt
 run_near _ = assumption (refl)
 
 -- so does a run
-pub realm_run : (x y : Place) (until : Until) → run_at x ≡ Some (until, y) → realm y ≡ realm x
-realm_run x y until h = subst (λ (z : Option (Until × Place)). RunNear x z) h (run_near x)
+pub class_run : (x y : Place) (until : Until) → run_at x ≡ Some (until, y) → row_class y ≡ row_class x
+class_run x y until h = subst (λ (z : Option (Until × Place)). RunNear x z) h (run_near x)
 
 abbrev LackNear : Place → Option (Fault × Place) → Type 0
 LackNear x None = Unit {0}
-LackNear x (Some w) = realm w.1 ≡ realm x
+LackNear x (Some w) = row_class w.1 ≡ row_class x
 
 lack_near : (x : Place) → LackNear x (lack x)
 lack_near p.RootStart = refl
 lack_near _ = assumption (refl)
 
 -- and what is missing
-pub realm_lack : (x y : Place) (e : Fault) → lack x ≡ Some (e, y) → realm y ≡ realm x
-realm_lack x y e h = subst (λ (z : Option (Fault × Place)). LackNear x z) h (lack_near x)
+pub class_lack : (x y : Place) (e : Fault) → lack x ≡ Some (e, y) → row_class y ≡ row_class x
+class_lack x y e h = subst (λ (z : Option (Fault × Place)). LackNear x z) h (lack_near x)

@@ -1,20 +1,20 @@
 -- Expressions are read as operands, if the rows and the expressions in them are read.
-use Rattle.std.proofs.Common.{◌≡◌, ℕ, zero, suc, ◌≤◌, Bool, true, false, List, [], ◌∷◌, ◌++◌, refl, ap, sym, ◌∙◌, subst, arith}
+use Rattle.std.proofs.Common.{◌≡◌, ℕ, suc, ◌≤◌, true, false, List, refl, sym, ◌∙◌, arith}
 use Rattle.rnix_kinds.specs.declared.kinds.SyntaxKind.{SyntaxKind}
 use Rattle.rnix_kinds.specs.declared.kinds.SyntaxKind.TheVariants.{NODE_APPLY, NODE_ASSERT, NODE_ATTR_SET, NODE_BIN_OP, NODE_CUR_POS, NODE_HAS_ATTR, NODE_IDENT, NODE_IF_ELSE, NODE_LAMBDA, NODE_LEGACY_LET, NODE_LET_IN, NODE_LIST, NODE_LITERAL, NODE_PAREN, NODE_PATH_ABS, NODE_PATH_HOME, NODE_PATH_REL, NODE_PATH_SEARCH, NODE_SELECT, NODE_STRING, NODE_UNARY_OP, NODE_WITH}
 use Rattle.rnix_grammar.specs.Fault.{Fault}
 use Rattle.rnix_grammar.specs.Sketch.{Token, Sketch, blank, one_branch, tokens_in, end_from}
-use Rattle.rnix_grammar.specs.Rows.{Spot, Start, fits, start, whole}
+use Rattle.rnix_grammar.specs.Rows.{Spot, Start, fits, whole}
 use Rattle.rnix_grammar.specs.Reads.{Reads, end, leaf, lost, wrong, second, inner, IsOver}
 use Rattle.rnix_lemmas.proofs.Basics.{true_is_not_false}
 use Rattle.rnix_lemmas.proofs.ImitateLemmas.{start_half}
-use Rattle.rnix_uniqueness.proofs.Simulated.{ReadsTree}
-use Rattle.rnix_uniqueness.proofs.Heights.{height, Short, Rows, Trees, Front, front}
-use Rattle.rnix_uniqueness.proofs.Parts.{short_from, expression_start}
-use Rattle.rnix_uniqueness.proofs.Leads.{leafed_reads, opened_reads, legacy_reads}
-use Rattle.rnix_uniqueness.proofs.Goings.{binary_reads, question_reads, selected_reads}
-use Rattle.rnix_uniqueness.proofs.Callings.{called_reads}
-use Rattle.rnix_uniqueness.proofs.Lambdas.{lambda_reads}
+use Rattle.rnix_uniqueness.proofs.StepReads.{ReadsTree}
+use Rattle.rnix_uniqueness.proofs.ReadingHeights.{height, Short, Rows, Trees, Front, front}
+use Rattle.rnix_uniqueness.proofs.NodeRows.{short_from, expression_start}
+use Rattle.rnix_uniqueness.proofs.ItemRows.{leafed_reads, opened_reads, legacy_reads}
+use Rattle.rnix_uniqueness.proofs.OperatorRows.{binary_reads, question_reads, selected_reads}
+use Rattle.rnix_uniqueness.proofs.CallRows.{called_reads}
+use Rattle.rnix_uniqueness.proofs.FunctionRows.{lambda_reads}
 
 -- an expression of each kind is read
 kind_reads : (m : ℕ) → Rows m → Trees m → (k : SyntaxKind) (d n : ℕ) (s : Spot) (us : List Token) (c : Sketch) (es : List Fault) → fits 0 k ≡ true → Front m k d n (Start k) s blank us c es

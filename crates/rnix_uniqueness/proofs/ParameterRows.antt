@@ -1,15 +1,13 @@
 -- Functions, by how their rows and those of their parameters are read.
-use Rattle.std.proofs.Common.{◌≡◌, ◌⊎◌, inl, inr, ℕ, Bool, true, false, List, [], ◌∷◌, ◌++◌, refl, ap, sym, ◌∙◌, subst, append-nil}
+use Rattle.std.proofs.Common.{◌≡◌, ◌⊎◌, inl, inr, ℕ, true, false, List, [], ◌∷◌, ◌++◌, refl, ap, sym, ◌∙◌, subst}
 use Rattle.rnix_kinds.specs.declared.kinds.SyntaxKind.{SyntaxKind}
 use Rattle.rnix_kinds.specs.declared.kinds.SyntaxKind.TheVariants.{TOKEN_AT, TOKEN_IDENT, TOKEN_L_BRACE, NODE_IDENT, NODE_IDENT_PARAM, NODE_LAMBDA, NODE_PATTERN, NODE_PAT_BIND}
-use Rattle.rnix_grammar.specs.declared.place.Place.{Place}
 use Rattle.rnix_grammar.specs.declared.place.Place.TheVariants as p
 use Rattle.rnix_grammar.specs.declared.begin.Begin.{Begin}
 use Rattle.rnix_grammar.specs.declared.begin.Begin.TheVariants as b
 use Rattle.rnix_grammar.specs.Fault.{Fault}
-use Rattle.rnix_grammar.specs.Begins.{begin_of}
-use Rattle.rnix_grammar.specs.Sketch.{Token, Sketch, blank, token, branch, ◌⊕◌, one_token, one_branch, tokens_in, told, told_as, head_kind, end_from}
-use Rattle.rnix_grammar.specs.Begins.{second_kind}
+use Rattle.rnix_grammar.specs.Begins.{begin_of, second_kind}
+use Rattle.rnix_grammar.specs.Sketch.{Token, Sketch, blank, token, branch, one_token, one_branch, tokens_in, told, told_as, head_kind, end_from}
 use Rattle.rnix_grammar.specs.Rows.{Spot, Start, BeforeAt, At, first, go, live, whole, start}
 use Rattle.rnix_grammar.specs.Reports.{repeats}
 use Rattle.rnix_grammar.specs.Operands.{kind_of}
@@ -18,12 +16,11 @@ use Rattle.rnix_lemmas.proofs.Basics.{true_is_not_false}
 use Rattle.rnix_lemmas.proofs.EveryKind.{only}
 use Rattle.rnix_lemmas.proofs.NodeKinds.{told_plain}
 use Rattle.rnix_lemmas.proofs.RowKinds.{has_row}
-use Rattle.rnix_lemmas.proofs.StrictParts.{end_behind}
-use Rattle.rnix_uniqueness.proofs.Simulated.{ReadsTree}
-use Rattle.rnix_uniqueness.proofs.Heights.{Short, Rows, Front, by_leaf, by_stray, by_node}
-use Rattle.rnix_uniqueness.proofs.Beginnings.{is_leafed, is_opened, BegunBy, begins_by, reads_items, one_items}
-use Rattle.rnix_uniqueness.proofs.Functions.{Patterns, by_brace, by_name, patterns, parameters, tree_named, tree_pattern, tree_bound}
-use Rattle.rnix_uniqueness.proofs.Parts.{front_of, short_from, no_row, Ended, past_ends, Onward, onward, IsItem, is_item}
+use Rattle.rnix_uniqueness.proofs.StepReads.{ReadsTree}
+use Rattle.rnix_uniqueness.proofs.ReadingHeights.{Short, Rows, Front, by_leaf, by_stray, by_node}
+use Rattle.rnix_uniqueness.proofs.OperandBegins.{is_leafed, is_opened, BegunBy, begins_by, reads_items, one_items}
+use Rattle.rnix_uniqueness.proofs.FunctionOperands.{Patterns, by_brace, by_name, patterns, parameters, tree_named}
+use Rattle.rnix_uniqueness.proofs.NodeRows.{front_of, no_row, Ended, past_ends, Onward, onward, IsItem, is_item}
 
 -- no operand begins with a function
 no_lambda : (i : SyntaxKind) (bg : Begin) → kind_of bg ≡ NODE_LAMBDA → BegunBy i bg → ⊥

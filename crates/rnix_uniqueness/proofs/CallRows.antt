@@ -1,5 +1,5 @@
 -- Calls, by how their rows are read.
-use Rattle.std.proofs.Common.{◌≡◌, ℕ, ◌≤◌, Bool, true, false, List, [], ◌∷◌, ◌++◌, Option, Some, None, refl, ap, sym, ◌∙◌, subst, append-nil}
+use Rattle.std.proofs.Common.{◌≡◌, ℕ, Bool, true, false, List, [], ◌∷◌, ◌++◌, Some, None, refl, ap, sym, ◌∙◌, subst, append-nil}
 use Rattle.std.specs.Prelude.{◌||◌, ◌&&◌, if◌then◌else◌}
 use Rattle.std.proofs.lemmas.Bool.{and_parts}
 use Rattle.rnix_kinds.specs.declared.kinds.SyntaxKind.{SyntaxKind}
@@ -8,10 +8,9 @@ use Rattle.rnix_kinds.specs.SyntaxKind.{is_fn_arg}
 use Rattle.rnix_grammar.specs.declared.place.Place.TheVariants as p
 use Rattle.rnix_grammar.specs.Fault.{Fault}
 use Rattle.rnix_grammar.specs.TokenKinds.{is_or}
-use Rattle.rnix_grammar.specs.Sketch.{Token, Stray, Sketch, blank, token, branch, fault, ◌⊕◌, one_token, one_branch, one_fault, row_of, tokens_in, told, head_kind, end_from}
-use Rattle.rnix_grammar.specs.Reports.{report}
-use Rattle.rnix_grammar.specs.Rows.{Spot, Start, BeforeArgument, At, is_simple, fits, go, live, start, to, whole}
-use Rattle.rnix_grammar.specs.Reports.{repeats}
+use Rattle.rnix_grammar.specs.Sketch.{Token, Stray, Sketch, blank, branch, fault, ◌⊕◌, one_token, one_branch, one_fault, row_of, tokens_in, told, head_kind, end_from}
+use Rattle.rnix_grammar.specs.Reports.{report, repeats}
+use Rattle.rnix_grammar.specs.Rows.{Spot, Start, BeforeArgument, At, is_simple, start, to, whole}
 use Rattle.rnix_grammar.specs.TreeLevels.{is_or_row}
 use Rattle.rnix_grammar.specs.OwnItems.{IsOwned}
 use Rattle.rnix_grammar.specs.Operands.{follows, IsFollowed, IsOperand}
@@ -20,14 +19,15 @@ use Rattle.rnix_lemmas.proofs.Basics.{true_is_not_false}
 use Rattle.rnix_lemmas.proofs.EveryKind.{never, only}
 use Rattle.rnix_lemmas.proofs.LevelLemmas.{simple_fits}
 use Rattle.rnix_lemmas.proofs.OpeningRows.{live_to}
-use Rattle.rnix_uniqueness.proofs.Simulated.{ReadsTree}
-use Rattle.rnix_uniqueness.proofs.Heights.{Short, Trees, Front, by_leaf, by_stray, by_node}
-use Rattle.rnix_uniqueness.proofs.Beginnings.{one_items}
-use Rattle.rnix_uniqueness.proofs.Opened.{tree_stray}
-use Rattle.rnix_uniqueness.proofs.Firsts.{One, follows_token}
-use Rattle.rnix_uniqueness.proofs.Called.{tree_called, tree_called_or}
-use Rattle.rnix_uniqueness.proofs.Parts.{front_of, short_from, Ended, past_ends, IsItem, is_item}
-use Rattle.rnix_uniqueness.proofs.Goings.{Led, led}
+use Rattle.rnix_lemmas.proofs.FirstTrees.{IsSingle}
+use Rattle.rnix_lemmas.proofs.FollowLemmas.{follows_token}
+use Rattle.rnix_uniqueness.proofs.StepReads.{ReadsTree}
+use Rattle.rnix_uniqueness.proofs.ReadingHeights.{Short, Trees, Front, by_leaf, by_stray, by_node}
+use Rattle.rnix_uniqueness.proofs.OperandBegins.{one_items}
+use Rattle.rnix_uniqueness.proofs.ItemOperands.{tree_stray}
+use Rattle.rnix_uniqueness.proofs.CallOperands.{tree_called, tree_called_or}
+use Rattle.rnix_uniqueness.proofs.NodeRows.{front_of, short_from, Ended, past_ends, IsItem, is_item}
+use Rattle.rnix_uniqueness.proofs.OperatorRows.{Led, led}
 
 -- what goes on with a tree as an argument, by the first item
 followed : (i : SyntaxKind) (x : Sketch) → ((is_fn_arg i || is_or i) && follows i x) ≡ true → ((is_fn_arg i || is_or i) ≡ true) × (follows i x ≡ true)
@@ -65,7 +65,7 @@ no_lone m d s us o j t f fs r = by f fs (front_of r refl o)
         also (v ∷ vs) y w = follows_token v.kind j t blank (followed v.kind (one_token j t) w).1
 
 -- a tree, read, and its argument
-argument_stray : (d n : ℕ) (x : Sketch) (t : Token) (us : List Token) (ds : List Fault) → One x → ReadsTree d n x (t ∷ us) ds → is_or t.kind ≡ false
+argument_stray : (d n : ℕ) (x : Sketch) (t : Token) (us : List Token) (ds : List Fault) → IsSingle x → ReadsTree d n x (t ∷ us) ds → is_or t.kind ≡ false
     → ((is_fn_arg t.kind || is_or t.kind) && follows t.kind x) ≡ true → IsOperand (Some 16) (one_fault Stray (row_of (t ∷ []))) us
     → ReadsTree d n (one_branch NODE_APPLY (x ⊕ one_fault Stray (row_of (t ∷ [])))) us (ds ++ (report Stray (t ∷ []) ∷ []))
 argument_stray d n x t us ds one reads o w q =
@@ -73,7 +73,7 @@ argument_stray d n x t us ds one reads o w q =
     let f = followed t.kind x w in
     tree_called x v t.kind d n us ds (report Stray (t ∷ []) ∷ []) one refl (plainly t.kind f.0 o) f.1 reads (tree_stray t d (end_from n (tokens_in x)) us) refl q.0 q.1 q.2
 
-argument_node : (d n : ℕ) (x : Sketch) (j : SyntaxKind) (e : Sketch) (us : List Token) (ds fs : List Fault) → One x → ReadsTree d n x (tokens_in e ++ us) ds
+argument_node : (d n : ℕ) (x : Sketch) (j : SyntaxKind) (e : Sketch) (us : List Token) (ds fs : List Fault) → IsSingle x → ReadsTree d n x (tokens_in e ++ us) ds
     → IsOwned BeforeArgument (end_from n (tokens_in x)) (tokens_in e ++ us) false → IsFollowed BeforeArgument x (head_kind (tokens_in e ++ us))
     → is_or_row (one_branch j e) ≡ false → IsOperand (Some 16) (one_branch j e) us → ReadsTree d (end_from n (tokens_in x)) (one_branch j e) us fs
     → ReadsTree d n (one_branch NODE_APPLY (x ⊕ one_branch j e)) us (ds ++ fs)
@@ -88,7 +88,7 @@ argument_node d n x j e us ds fs one reads o w plain q tree = by (tokens_in e ++
         (subst (λ (z : List Token). ReadsTree d n x (z ++ us) ds) (one_items j e) reads) tree plain q.0 q.1 q.2
 
 -- an argument is read
-argument : (m : ℕ) → Trees m → (d n : ℕ) (s : Spot) (x : Sketch) (us : List Token) (f : Sketch) (ds es : List Fault) → One x → ReadsTree d n x (tokens_in f ++ us) ds
+argument : (m : ℕ) → Trees m → (d n : ℕ) (s : Spot) (x : Sketch) (us : List Token) (f : Sketch) (ds es : List Fault) → IsSingle x → ReadsTree d n x (tokens_in f ++ us) ds
     → Front m NODE_APPLY d (end_from n (tokens_in x)) BeforeArgument s x us f es → ReadsTree d n (one_branch NODE_APPLY (x ⊕ f)) us (ds ++ es)
 argument m trees d n s x us _ ds _ one reads (by_leaf {k = i} e o w l r) =
     absurd (never is_simple (λ j. is_fn_arg j || is_or j) refl i (live_to (is_simple i) (At p.Past) l) (followed i x w).0)

@@ -1,30 +1,26 @@
 -- Where the rows of nodes end, and that they are closed there.
-use Rattle.std.proofs.Common.{◌≡◌, ℕ, Bool, true, false, List, [], ◌∷◌, ◌++◌, Option, Some, None, refl, ap, sym, ◌∙◌, subst, append-nil}
-use Rattle.std.specs.Prelude.{◌&&◌, if◌then◌else◌, nat_eq}
+use Rattle.std.proofs.Common.{◌≡◌, ℕ, Bool, true, false, List, [], ◌∷◌, Option, Some, None, refl, ap, sym, subst}
+use Rattle.std.specs.Prelude.{if◌then◌else◌}
 use Rattle.rnix_kinds.specs.declared.kinds.SyntaxKind.{SyntaxKind}
 use Rattle.rnix_kinds.specs.declared.kinds.SyntaxKind.TheVariants.{TOKEN_AT, TOKEN_DOT, TOKEN_INTERPOL_START, TOKEN_OR, TOKEN_QUESTION, NODE_LITERAL, NODE_PAT_ENTRY}
 use Rattle.rnix_grammar.specs.declared.place.Place.{Place}
 use Rattle.rnix_grammar.specs.declared.place.Place.TheVariants as p
 use Rattle.rnix_grammar.specs.declared.action.Action.{Action}
-use Rattle.rnix_grammar.specs.declared.slot.Slot.{Slot}
 use Rattle.rnix_grammar.specs.declared.until.Until.{Until}
 use Rattle.rnix_grammar.specs.Fault.{Fault}
 use Rattle.rnix_grammar.specs.Slots.{slot_at}
 use Rattle.rnix_grammar.specs.Missing.{lack, run_at}
 use Rattle.rnix_grammar.specs.Actions.{action_at, first_piece_action, more_attrs_action, bind_action, default_action, or_action}
-use Rattle.rnix_grammar.specs.Sketch.{Token, Note, Stray, Unwanted, Extra, Twice, TooDeep, Sketch, blank, ◌⊕◌, one_branch, head_kind, tokens_in}
-use Rattle.rnix_grammar.specs.Reports.{repeated, repeated_if, entry_name}
-use Rattle.rnix_grammar.specs.Machine.{Head, Node, Operand, Frame, machine, opened, Runs, rest as here}
-use Rattle.rnix_grammar.specs.Sketch.{touches}
+use Rattle.rnix_grammar.specs.Sketch.{Token, Note, Stray, Unwanted, Extra, Twice, TooDeep, Sketch, blank, one_branch, head_kind, touches}
+use Rattle.rnix_grammar.specs.Reports.{repeated, repeated_if, entry_name, repeats}
+use Rattle.rnix_grammar.specs.Machine.{Head, Node, Frame, machine, opened, Runs, rest as here}
 use Rattle.rnix_grammar.specs.Rows.{Spot, At, Nowhere, go, whole}
 use Rattle.rnix_grammar.specs.Plain.{goes_on_path}
-use Rattle.rnix_grammar.specs.Reports.{repeats}
 use Rattle.rnix_grammar.specs.OwnItems.{owns}
 use Rattle.rnix_grammar.specs.Reads.{Reads, end, leaf, lost, wrong, second, inner, IsOver, IsWrong}
 use Rattle.rnix_lemmas.proofs.Basics.{true_is_not_false}
 use Rattle.rnix_lemmas.proofs.SpotCases.{Usual, Next, case_slot}
 use Rattle.rnix_completeness.proofs.PlainSteps.{step_to, Shuts, plainly, pattern, entry, shut_to, path_ends}
-use Rattle.rnix_uniqueness.proofs.Heights.{Short}
 
 -- a place of a node that may stand below another node
 abbrev pub is_common : Place → Bool

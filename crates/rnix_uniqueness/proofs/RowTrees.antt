@@ -1,35 +1,34 @@
 -- How the steps read one more tree of a row, and the rest of the row behind it.
 use Rattle.std.proofs.Common.{◌≡◌, ℕ, suc, ◌<◌, Bool, true, false, List, [], ◌∷◌, ◌++◌, Some, refl, ap, sym, ◌∙◌, subst, append-nil, append_assoc, arith}
 use Rattle.std.proofs.lemmas.Bool.Decides.{nat_tests}
-use Rattle.std.specs.Prelude.{◌&&◌, if◌then◌else◌, nat_le}
+use Rattle.std.specs.Prelude.{if◌then◌else◌, nat_le}
 use Rattle.rnix_kinds.specs.declared.kinds.SyntaxKind.{SyntaxKind}
 use Rattle.rnix_grammar.specs.declared.place.Place.{Place}
 use Rattle.rnix_grammar.specs.declared.place.Place.TheVariants as p
 use Rattle.rnix_grammar.specs.declared.action.Action.TheVariants as a
 use Rattle.rnix_grammar.specs.Fault.{Fault}
 use Rattle.rnix_grammar.specs.Tables.{depth_limit}
-use Rattle.rnix_grammar.specs.Slots.{slot_at}
-use Rattle.rnix_grammar.specs.Levels.{power}
-use Rattle.rnix_grammar.specs.Actions.{action_at, more_action, follow}
-use Rattle.rnix_grammar.specs.Sketch.{Token, Sketch, blank, ◌⊕◌, one_token, one_branch, tokens_in, told, head_kind, end_from}
+use Rattle.rnix_grammar.specs.Slots.{slot_at, is_counted}
+use Rattle.rnix_grammar.specs.Actions.{action_at}
+use Rattle.rnix_grammar.specs.Sketch.{Token, Sketch, blank, ◌⊕◌, one_token, one_branch, tokens_in, told, head_kind, end_from, touches}
 use Rattle.rnix_grammar.specs.Machine.{Head, Node, Operand, Frame, machine, opened, kind_of, limited, operand_on, perform, Runs, rest as here}
-use Rattle.rnix_grammar.specs.Sketch.{touches}
 use Rattle.rnix_grammar.specs.Missing.{lack}
 use Rattle.rnix_grammar.specs.Rows.{At, go}
-use Rattle.rnix_grammar.specs.Slots.{is_counted}
 use Rattle.rnix_grammar.specs.Reports.{repeats}
 use Rattle.rnix_grammar.specs.OwnItems.{owns, owns_end}
-use Rattle.rnix_grammar.specs.Operands.{IsOperand, follows, goes_on}
+use Rattle.rnix_grammar.specs.Operands.{IsOperand, goes_on}
 use Rattle.rnix_grammar.specs.Reads.{IsRoom, deeper, IsOver}
 use Rattle.rnix_lemmas.proofs.SketchLemmas.{⊕-assoc, ⊕-blank}
 use Rattle.rnix_lemmas.proofs.StrictParts.{end_behind}
-use Rattle.rnix_lemmas.proofs.Basics.{true_is_not_false}
+use Rattle.rnix_lemmas.proofs.OpenHeads.{is_open}
+use Rattle.rnix_lemmas.proofs.FollowLemmas.{FollowedTo}
 use Rattle.rnix_completeness.proofs.PlainSteps.{runs_on, runs_to, step_to}
-use Rattle.rnix_uniqueness.proofs.Simulated.{is_open, ReadsRow, ReadsTree, IsRead, Bridged}
+use Rattle.rnix_uniqueness.proofs.StepReads.{ReadsRow, ReadsTree, IsOperandRead}
 use Rattle.rnix_uniqueness.proofs.OwnTokens.{takes_at}
-use Rattle.rnix_uniqueness.proofs.OwnSlots.{lacks_in}
-use Rattle.rnix_uniqueness.proofs.Realms.{realm}
-use Rattle.rnix_uniqueness.proofs.OwnEnds.{realm_of, closes_node}
+use Rattle.rnix_uniqueness.proofs.MissingSteps.{lacks_in}
+use Rattle.rnix_uniqueness.proofs.RowClasses.{row_class}
+use Rattle.rnix_uniqueness.proofs.RowEnds.{class_of_kind, closes_node}
+use Rattle.rnix_uniqueness.proofs.OperandGoesOn.{settles}
 
 -- The steps read a tree of some items on, from a place of a row to another.
 abbrev pub ReadsOne : SyntaxKind → ℕ → ℕ → Place → Place → Sketch → List Token → List Token → Sketch → List Fault → Type 0
@@ -74,28 +73,10 @@ row_lost k d n x z y b us f e es u v l r row h fs gs o w =
     (subst (λ (q : List Token). Runs false (machine (opened h x d b ∷ fs) q n gs) (machine (opened h z d b ∷ fs) q n (gs ++ e ∷ []))) (sym none) (lost_step d n x z b e h fs gs l r))
     (runs_to (ap (λ q. machine (opened h y d (b ⊕ f) ∷ fs) us (end_from n (tokens_in f)) q) (append_assoc gs (e ∷ []) es)) (row h fs (gs ++ e ∷ []) o w))
 
-not_over : (level high : ℕ) (j : SyntaxKind) (x : Sketch) → Bridged high x → (follows j x && nat_le level (power j)) ≡ false → more_action level high (Some j) ≡ a.Settle
-not_over level high j x b h = by (nat_le 1 (power j)) (nat_le level (power j)) (nat_le (power j) high) refl refl refl
-  where
-    clash : (follows j x ≡ true) → nat_le level (power j) ≡ true → ⊥
-    clash f v = true_is_not_false (sym (ap (λ z. z && nat_le level (power j)) f ∙ v) ∙ h)
-
-    by : (u v w : Bool) → nat_le 1 (power j) ≡ u → nat_le level (power j) ≡ v → nat_le (power j) high ≡ w → (if (u && (v && w)) then follow j else a.Settle) ≡ a.Settle
-    by true true true e f g = absurd (clash ((b j).0 (grind (arith, nat_tests, e)) (grind (arith, nat_tests, g))) f)
-    by true true false e f g = refl
-    by true false w e f g = refl
-    by false v w e f g = refl
-
--- an operand that does not go on is settled
-pub settles : (level high n : ℕ) (x : Sketch) (after : List Token) → Bridged high x → goes_on level x after ≡ false
-    → action_at (p.Behind level high) (head_kind after) (touches n after) ≡ a.Settle
-settles level high n x [] b h = refl
-settles level high n x (t ∷ ts) b h = not_over level high t.kind x b h
-
-settled : (level d m : ℕ) (x b w : Sketch) (after : List Token) (high : ℕ) (h : Head) (y : Place) (e : ℕ) (fs : List Frame) (gs : List Fault) → Bridged high w → goes_on level w after ≡ false
+settled : (level d m : ℕ) (x b w : Sketch) (after : List Token) (high : ℕ) (h : Head) (y : Place) (e : ℕ) (fs : List Frame) (gs : List Fault) → FollowedTo high w → goes_on level w after ≡ false
     → Runs false (machine (opened Operand (p.Behind level high) d w ∷ (opened h y e b ∷ fs)) after m gs) (machine (opened h y e (b ⊕ w) ∷ fs) after m gs)
 settled level d m x b w after high h y e fs gs v g =
-    step_to (ap (λ z. perform false z (opened Operand (p.Behind level high) d w) (opened h y e b ∷ fs) after m gs) (settles level high m w after v g)) here
+    step_to (ap (λ z. perform false z (opened Operand (p.Behind level high) d w) (opened h y e b ∷ fs) after m gs) (settles level high w after v g)) here
 
 reads_counted : (level : ℕ) (counted : Bool) (x y : Place) (d n : ℕ) (b : Sketch) (h : Head) (fs : List Frame) (ts : List Token) (gs : List Fault) → (counted ≡ true → d < depth_limit)
     → perform false (a.Read level counted y) (opened h x d b) fs ts n gs ≡ operand_on false level (if counted then suc d else d) (opened h y d b) fs ts ts n gs
@@ -112,12 +93,12 @@ pub one_operand : (q : SyntaxKind) (d n level : ℕ) (x y : Place) (b w : Sketch
     → action_at x (head_kind (tokens_in w ++ vs)) (touches n (tokens_in w ++ vs)) ≡ a.Read level (is_counted (slot_at x)) y → IsRoom (At x) d → IsOperand (Some level) w vs
     → ReadsTree (deeper (At x) d) n w vs ds → ReadsOne q d n x y b (tokens_in w) vs w ds
 one_operand q d n level x y b w vs ds act room op tree h fs gs oh e =
-    let r : IsRead level (deeper (At x) d) n w vs ds (opened h y d b) fs gs = tree level (opened h y d b) fs gs op.0 op.1 in
+    let r : IsOperandRead level (deeper (At x) d) n w vs ds (opened h y d b) fs gs = tree level (opened h y d b) fs gs op.0 op.1 in
     step_to (ap (λ z. perform false z (opened h x d b) fs (tokens_in w ++ vs) n gs) act ∙ reads_counted level (is_counted (slot_at x)) x y d n b h fs (tokens_in w ++ vs) gs room)
-    (runs_on r.runs (settled level (deeper (At x) d) (end_from n (tokens_in w)) w b w vs r.high h y d fs (gs ++ ds) r.bridged op.2))
+    (runs_on r.runs (settled level (deeper (At x) d) (end_from n (tokens_in w)) w b w vs r.high h y d fs (gs ++ ds) r.followed op.2))
 
 -- a node that is open, to its end
-pub node_on : (k : SyntaxKind) (d m : ℕ) (x z : Place) (g : Sketch) (vs : List Token) (f : Sketch) (ds : List Fault) → ReadsRow k d m x z g vs f ds → realm z ≡ realm_of k
+pub node_on : (k : SyntaxKind) (d m : ℕ) (x z : Place) (g : Sketch) (vs : List Token) (f : Sketch) (ds : List Fault) → ReadsRow k d m x z g vs f ds → row_class z ≡ class_of_kind k
     → IsOver (At z) (end_from m (tokens_in f)) vs → (h : Head) (y : Place) (e : ℕ) (b : Sketch) (fs : List Frame) (gs : List Fault)
     → Runs false (machine (opened (Node k) x d g ∷ (opened h y e b ∷ fs)) (tokens_in f ++ vs) m gs)
     (machine (opened h y e (b ⊕ one_branch k (g ⊕ f)) ∷ fs) vs (end_from m (tokens_in f)) (gs ++ (ds ++ repeats k b (g ⊕ f))))

@@ -1,10 +1,10 @@
 -- Functions of patterns, by how their rows are read, and functions of each sort.
-use Rattle.std.proofs.Common.{◌≡◌, ◌⊎◌, inl, inr, ℕ, Bool, true, false, List, [], ◌∷◌, ◌++◌, refl, ap, sym, ◌∙◌, subst, append-nil}
+use Rattle.std.proofs.Common.{◌≡◌, ◌⊎◌, inl, inr, ℕ, true, false, List, [], ◌++◌, refl, ap, sym, ◌∙◌, subst, append-nil}
 use Rattle.rnix_kinds.specs.declared.kinds.SyntaxKind.{SyntaxKind}
 use Rattle.rnix_kinds.specs.declared.kinds.SyntaxKind.TheVariants.{TOKEN_IDENT, TOKEN_L_BRACE, NODE_IDENT, NODE_IDENT_PARAM, NODE_LAMBDA, NODE_PATTERN, NODE_PAT_BIND}
 use Rattle.rnix_grammar.specs.declared.place.Place.TheVariants as p
 use Rattle.rnix_grammar.specs.Fault.{Fault}
-use Rattle.rnix_grammar.specs.Sketch.{Token, Sketch, blank, token, branch, ◌⊕◌, one_token, one_branch, tokens_in, told, end_from}
+use Rattle.rnix_grammar.specs.Sketch.{Token, Sketch, blank, token, branch, one_token, one_branch, tokens_in, told, end_from}
 use Rattle.rnix_grammar.specs.Rows.{Spot, Start, At, first, live, start}
 use Rattle.rnix_grammar.specs.Reports.{repeats}
 use Rattle.rnix_grammar.specs.Reads.{IsOver}
@@ -12,11 +12,11 @@ use Rattle.rnix_lemmas.proofs.Basics.{true_is_not_false}
 use Rattle.rnix_lemmas.proofs.NodeKinds.{told_plain}
 use Rattle.rnix_lemmas.proofs.RowKinds.{has_row}
 use Rattle.rnix_lemmas.proofs.StrictParts.{end_behind}
-use Rattle.rnix_uniqueness.proofs.Simulated.{ReadsTree}
-use Rattle.rnix_uniqueness.proofs.Heights.{Short, Rows, Front, by_leaf, by_stray, by_node}
-use Rattle.rnix_uniqueness.proofs.Functions.{tree_pattern, tree_bound}
-use Rattle.rnix_uniqueness.proofs.Parts.{front_of, no_row, Onward, onward}
-use Rattle.rnix_uniqueness.proofs.Patterned.{lone_reads, other_pattern, named, named_reads, Bound, bound, strange, bound_row}
+use Rattle.rnix_uniqueness.proofs.StepReads.{ReadsTree}
+use Rattle.rnix_uniqueness.proofs.ReadingHeights.{Short, Rows, Front, by_leaf, by_stray, by_node}
+use Rattle.rnix_uniqueness.proofs.FunctionOperands.{tree_pattern, tree_bound}
+use Rattle.rnix_uniqueness.proofs.NodeRows.{front_of, no_row, Onward, onward}
+use Rattle.rnix_uniqueness.proofs.ParameterRows.{lone_reads, other_pattern, named, named_reads, Bound, bound, strange, bound_row}
 
 pattern_first : (i : SyntaxKind) → live (first NODE_PATTERN i) ≡ true → (i ≡ TOKEN_L_BRACE) ⊎ (i ≡ NODE_PAT_BIND)
 pattern_first TOKEN_L_BRACE h = inl refl

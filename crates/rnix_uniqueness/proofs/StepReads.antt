@@ -1,20 +1,15 @@
 -- What it means that the steps make a row, or an operand, of some items.
-use Rattle.std.proofs.Common.{◌≡◌, ℕ, ◌≤◌, Bool, true, false, List, [], ◌∷◌, ◌++◌}
+use Rattle.std.proofs.Common.{◌≡◌, ℕ, ◌≤◌, true, false, List, ◌∷◌, ◌++◌}
 use Rattle.rnix_kinds.specs.declared.kinds.SyntaxKind.{SyntaxKind}
 use Rattle.rnix_grammar.specs.declared.place.Place.{Place}
 use Rattle.rnix_grammar.specs.declared.place.Place.TheVariants as p
 use Rattle.rnix_grammar.specs.Fault.{Fault}
-use Rattle.rnix_grammar.specs.Levels.{power}
 use Rattle.rnix_grammar.specs.Sketch.{Token, Sketch, ◌⊕◌, tokens_in, end_from}
-use Rattle.rnix_grammar.specs.Machine.{Head, Node, Second, Operand, Frame, Machine, machine, opened, kind_of, operand_on, Runs}
+use Rattle.rnix_grammar.specs.Machine.{Head, Operand, Frame, machine, opened, kind_of, operand_on, Runs}
 use Rattle.rnix_grammar.specs.TreeLevels.{row_level}
-use Rattle.rnix_grammar.specs.Operands.{IsBegun, follows}
-
--- an open node or second name
-abbrev pub is_open : Head → Bool
-is_open (Node k) = true
-is_open Second = true
-is_open Operand = false
+use Rattle.rnix_grammar.specs.Operands.{IsBegun}
+use Rattle.rnix_lemmas.proofs.OpenHeads.{is_open}
+use Rattle.rnix_lemmas.proofs.FollowLemmas.{FollowedTo}
 
 -- The steps read a row on from a place to another, in any open frame whose node has the kind.
 abbrev pub ReadsRow : SyntaxKind → ℕ → ℕ → Place → Place → Sketch → List Token → Sketch → List Fault → Type 0
@@ -22,18 +17,14 @@ ReadsRow k d n x y b us f es =
     (h : Head) (fs : List Frame) (gs : List Fault) → is_open h ≡ true → kind_of h ≡ k
     → Runs false (machine (opened h x d b ∷ fs) (tokens_in f ++ us) n gs) (machine (opened h y d (b ⊕ f) ∷ fs) us (end_from n (tokens_in f)) (gs ++ es))
 
--- What goes on with a tree is what binds no tighter than the level.
-abbrev pub Bridged : ℕ → Sketch → Type 0
-Bridged high x = (j : SyntaxKind) → ((1 ≤ power j → power j ≤ high → follows j x ≡ true) × (follows j x ≡ true → (1 ≤ power j) × (power j ≤ high)))
-
 -- The steps have read a tree as an operand, from its first item on.
-pub record IsRead (level d n : ℕ) (x : Sketch) (after : List Token) (ds : List Fault) (f : Frame) (fs : List Frame) (gs : List Fault) : Type 0 where
+pub record IsOperandRead (level d n : ℕ) (x : Sketch) (after : List Token) (ds : List Fault) (f : Frame) (fs : List Frame) (gs : List Fault) : Type 0 where
   pub high : ℕ
-  pub bridged : Bridged high x
+  pub followed : FollowedTo high x
   pub runs : Runs false (operand_on false level d f fs (tokens_in x ++ after) (tokens_in x ++ after) n gs)
       (machine (opened Operand (p.Behind level high) d x ∷ (f ∷ fs)) after (end_from n (tokens_in x)) (gs ++ ds))
 
 -- So it is at each level that the tree is tight enough for and begins at, whatever waits for the operand.
 abbrev pub ReadsTree : ℕ → ℕ → Sketch → List Token → List Fault → Type 0
 ReadsTree d n x after ds =
-    (level : ℕ) (f : Frame) (fs : List Frame) (gs : List Fault) → level ≤ row_level x → IsBegun level x (tokens_in x ++ after) → IsRead level d n x after ds f fs gs
+    (level : ℕ) (f : Frame) (fs : List Frame) (gs : List Fault) → level ≤ row_level x → IsBegun level x (tokens_in x ++ after) → IsOperandRead level d n x after ds f fs gs

@@ -1,4 +1,4 @@
--- What is done at a place where the text ends, where the next item is not the place's own, and where a row ends.
+-- What is done at a place where the text ends, and where the next item is not the place's own.
 use Rattle.std.proofs.Common.{◌≡◌, ℕ, ◌<◌, Bool, true, false, List, [], ◌∷◌, ◌++◌, Option, Some, None, refl, ap, ◌∙◌, arith}
 use Rattle.std.proofs.lemmas.Bool.Decides.{nat_tests}
 use Rattle.std.specs.Prelude.{◌||◌, if◌then◌else◌, nat_le}

@@ -12,34 +12,31 @@ use Rattle.rnix_grammar.specs.Fault.{Fault, too_deep}
 use Rattle.rnix_grammar.specs.Tables.{depth_limit}
 use Rattle.rnix_grammar.specs.Slots.{slot_at}
 use Rattle.rnix_grammar.specs.Actions.{action_at}
-use Rattle.rnix_grammar.specs.Sketch.{Token, Unwanted, Extra, Twice, TooDeep, Sketch, blank, branch, token, ◌⊕◌, one_token, one_branch, one_fault, row_of, tokens_in, told, head_kind, end_from}
-use Rattle.rnix_grammar.specs.Reports.{report}
+use Rattle.rnix_grammar.specs.Sketch.{Token, Unwanted, Extra, Twice, TooDeep, Sketch, blank, branch, token, ◌⊕◌, one_token, one_branch, one_fault, row_of, tokens_in, told, head_kind, end_from, touches}
+use Rattle.rnix_grammar.specs.Reports.{report, repeats}
 use Rattle.rnix_grammar.specs.Machine.{Head, Node, Second, Frame, machine, opened, limited, operand_on, perform, dropped, Runs, rest as here}
-use Rattle.rnix_grammar.specs.Missing.{run_of}
-use Rattle.rnix_grammar.specs.Sketch.{touches}
-use Rattle.rnix_grammar.specs.Missing.{run_at}
+use Rattle.rnix_grammar.specs.Missing.{run_of, run_at}
 use Rattle.rnix_grammar.specs.Rows.{At}
-use Rattle.rnix_grammar.specs.Reports.{repeats}
 use Rattle.rnix_grammar.specs.OwnItems.{owns}
 use Rattle.rnix_grammar.specs.Reads.{IsOver}
 use Rattle.rnix_lemmas.proofs.RunLemmas.{dropped_all}
 use Rattle.rnix_completeness.proofs.PlainSteps.{runs_on, runs_to, step_to}
-use Rattle.rnix_uniqueness.proofs.Simulated.{ReadsRow}
-use Rattle.rnix_uniqueness.proofs.OwnSlots.{runs_in}
-use Rattle.rnix_uniqueness.proofs.Realms.{realm}
-use Rattle.rnix_uniqueness.proofs.OwnEnds.{realm_of, closes_second}
-use Rattle.rnix_uniqueness.proofs.RowSteps.{ReadsOne, node_on}
+use Rattle.rnix_uniqueness.proofs.StepReads.{ReadsRow}
+use Rattle.rnix_uniqueness.proofs.MissingSteps.{runs_in}
+use Rattle.rnix_uniqueness.proofs.RowClasses.{row_class}
+use Rattle.rnix_uniqueness.proofs.RowEnds.{class_of_kind, closes_second}
+use Rattle.rnix_uniqueness.proofs.RowTrees.{ReadsOne, node_on}
 
 -- a node that begins with nothing read
 pub one_begun : (q : SyntaxKind) (d n : ℕ) (x y z w : Place) (b : Sketch) (k : SyntaxKind) (c : Sketch) (vs : List Token) (ds : List Fault)
-    → action_at x (head_kind (tokens_in c ++ vs)) (touches n (tokens_in c ++ vs)) ≡ a.Begin k z y → ReadsRow k d n z w blank vs c ds → realm w ≡ realm_of k
+    → action_at x (head_kind (tokens_in c ++ vs)) (touches n (tokens_in c ++ vs)) ≡ a.Begin k z y → ReadsRow k d n z w blank vs c ds → row_class w ≡ class_of_kind k
     → IsOver (At w) (end_from n (tokens_in c)) vs → ReadsOne q d n x y b (tokens_in c) vs (one_branch k c) (ds ++ repeats k b c)
 one_begun q d n x y z w b k c vs ds act row r over h fs gs oh e =
     step_to (ap (λ v. perform false v (opened h x d b) fs (tokens_in c ++ vs) n gs) act) (node_on k d n z w blank vs c ds row r over h y d b fs gs)
 
 -- a node that its first item opens
 pub one_opened : (q : SyntaxKind) (d n : ℕ) (x y z w : Place) (b : Sketch) (k i : SyntaxKind) (t : Token) (f : Sketch) (vs : List Token) (ds : List Fault)
-    → action_at x (Some t.kind) (touches n (t ∷ (tokens_in f ++ vs))) ≡ a.Open k z y → i ≡ told k t → ReadsRow k d t.end z w (one_token i t) vs f ds → realm w ≡ realm_of k
+    → action_at x (Some t.kind) (touches n (t ∷ (tokens_in f ++ vs))) ≡ a.Open k z y → i ≡ told k t → ReadsRow k d t.end z w (one_token i t) vs f ds → row_class w ≡ class_of_kind k
     → IsOver (At w) (end_from t.end (tokens_in f)) vs → ReadsOne q d n x y b (t ∷ tokens_in f) vs (one_branch k (token i t f)) (ds ++ repeats k b (token i t f))
 one_opened q d n x y z w b k i t f vs ds act j row r over h fs gs oh e =
     step_to
@@ -58,7 +55,7 @@ one_named q d n x y b i t vs act j h fs gs oh e =
 -- an entry of a pattern
 pub one_entry : (q : SyntaxKind) (d n : ℕ) (x y w : Place) (b : Sketch) (i : SyntaxKind) (t : Token) (f : Sketch) (vs : List Token) (ds : List Fault)
     → action_at x (Some t.kind) (touches n (t ∷ (tokens_in f ++ vs))) ≡ a.Entry y → i ≡ told NODE_IDENT t
-    → ReadsRow NODE_PAT_ENTRY d t.end p.EntryMore w (one_branch NODE_IDENT (one_token i t)) vs f ds → realm w ≡ 1 → IsOver (At w) (end_from t.end (tokens_in f)) vs
+    → ReadsRow NODE_PAT_ENTRY d t.end p.EntryMore w (one_branch NODE_IDENT (one_token i t)) vs f ds → row_class w ≡ 1 → IsOver (At w) (end_from t.end (tokens_in f)) vs
     → ReadsOne q d n x y b (t ∷ tokens_in f) vs (one_branch NODE_PAT_ENTRY (branch NODE_IDENT (one_token i t) f)) (ds ++ repeats NODE_PAT_ENTRY b (branch NODE_IDENT (one_token i t) f))
 one_entry q d n x y w b i t f vs ds act j row r over h fs gs oh e =
     step_to
@@ -68,7 +65,7 @@ one_entry q d n x y w b i t f vs ds act j row r over h fs gs oh e =
 
 -- a second name of a pattern
 pub one_second : (q : SyntaxKind) (d n : ℕ) (w : Place) (b : Sketch) (i : SyntaxKind) (t : Token) (f : Sketch) (vs : List Token) (ds : List Fault) → t.kind ≡ TOKEN_AT → i ≡ told NODE_ERROR t
-    → ReadsRow NODE_ERROR d t.end p.TwiceName w (one_token i t) vs f ds → realm w ≡ 2 → IsOver (At w) (end_from t.end (tokens_in f)) vs
+    → ReadsRow NODE_ERROR d t.end p.TwiceName w (one_token i t) vs f ds → row_class w ≡ 2 → IsOver (At w) (end_from t.end (tokens_in f)) vs
     → ReadsOne q d n (p.PatternEnd true) p.PatternPast b (t ∷ tokens_in f) vs (one_fault Twice (token i t f)) (ds ++ report Twice (t ∷ tokens_in f) ∷ [])
 one_second q d n w b i t f vs ds k j row r over h fs gs oh e =
     step_to

@@ -1,42 +1,37 @@
 -- Where a row ends, its node is complete and goes to the frame below.
 use Rattle.std.proofs.Common.{◌≡◌, ℕ, suc, Bool, true, false, List, [], ◌∷◌, ◌++◌, Some, None, refl, ap, sym, ◌∙◌, subst, append-nil}
-use Rattle.std.specs.Prelude.{◌&&◌, if◌then◌else◌, nat_eq}
+use Rattle.std.specs.Prelude.{◌&&◌, nat_eq}
 use Rattle.rnix_kinds.specs.declared.kinds.SyntaxKind.{SyntaxKind}
-use Rattle.rnix_kinds.specs.declared.kinds.SyntaxKind.TheVariants.{TOKEN_AT, TOKEN_DOT, TOKEN_INTERPOL_START, TOKEN_OR, TOKEN_PATH_ABS, TOKEN_PATH_HOME, TOKEN_PATH_REL, TOKEN_QUESTION, NODE_PAT_ENTRY}
+use Rattle.rnix_kinds.specs.declared.kinds.SyntaxKind.TheVariants.{TOKEN_AT, TOKEN_DOT, TOKEN_INTERPOL_START, TOKEN_OR, TOKEN_QUESTION, NODE_PAT_ENTRY}
 use Rattle.rnix_grammar.specs.declared.place.Place.{Place}
 use Rattle.rnix_grammar.specs.declared.place.Place.TheVariants as p
 use Rattle.rnix_grammar.specs.declared.action.Action.{Action}
 use Rattle.rnix_grammar.specs.declared.action.Action.TheVariants as a
 use Rattle.rnix_grammar.specs.Fault.{Fault}
 use Rattle.rnix_grammar.specs.Actions.{action_at, first_piece_action, more_pieces_action, more_attrs_action, bind_action, default_action, or_action}
-use Rattle.rnix_grammar.specs.TokenKinds.{is_path_piece}
-use Rattle.rnix_grammar.specs.Sketch.{Token, Twice, Sketch, ◌⊕◌, one_branch, one_fault, tokens_in, head_kind}
+use Rattle.rnix_grammar.specs.TokenKinds.{is_dot, is_question, is_piece_start, is_or, is_interpol_start, is_at}
+use Rattle.rnix_grammar.specs.Sketch.{Token, Twice, Sketch, ◌⊕◌, one_branch, one_fault, tokens_in, head_kind, touches}
 use Rattle.rnix_grammar.specs.Machine.{Node, Second, Frame, machine, put, opened, perform, step}
-use Rattle.rnix_grammar.specs.Sketch.{touches}
-use Rattle.rnix_grammar.specs.Reports.{report, repeated}
+use Rattle.rnix_grammar.specs.Reports.{report, repeated, repeats}
 use Rattle.rnix_grammar.specs.Rows.{At, whole}
-use Rattle.rnix_grammar.specs.Reports.{repeats}
-use Rattle.rnix_grammar.specs.TokenKinds.{is_dot, is_question}
-use Rattle.rnix_grammar.specs.TokenKinds.{is_piece_start}
-use Rattle.rnix_grammar.specs.TokenKinds.{is_or}
 use Rattle.rnix_grammar.specs.OwnItems.{owns}
-use Rattle.rnix_grammar.specs.TokenKinds.{is_interpol_start, is_at}
 use Rattle.rnix_grammar.specs.Reads.{IsOver}
 use Rattle.rnix_lemmas.proofs.Basics.{true_is_not_false}
-use Rattle.rnix_uniqueness.proofs.Realms.{realm}
+use Rattle.rnix_completeness.proofs.PlainSteps.{no_piece}
+use Rattle.rnix_uniqueness.proofs.RowClasses.{row_class}
 
--- the places of a kind's row: those of an entry, or others
-abbrev pub realm_of : SyntaxKind → ℕ
-realm_of NODE_PAT_ENTRY = 1
-realm_of kind = 0
+-- the class of a kind's row: that of entries, or of others
+abbrev pub class_of_kind : SyntaxKind → ℕ
+class_of_kind NODE_PAT_ENTRY = 1
+class_of_kind kind = 0
 
 -- how a row ends at a place
 pub data Ends (x : Place) : Action → Type 0 where
-  plainly : realm x ≡ 0 → Ends x a.Close
-  pattern : realm x ≡ 0 → Ends x a.ClosePattern
-  entry : realm x ≡ 1 → Ends x a.CloseEntry
-  second : realm x ≡ 2 → Ends x a.CloseTwice
-  last : realm x ≡ 3 → {act : Action} → Ends x act
+  plainly : row_class x ≡ 0 → Ends x a.Close
+  pattern : row_class x ≡ 0 → Ends x a.ClosePattern
+  entry : row_class x ≡ 1 → Ends x a.CloseEntry
+  second : row_class x ≡ 2 → Ends x a.CloseTwice
+  last : row_class x ≡ 3 → {act : Action} → Ends x act
 
 end_first : (t : Token) (ts : List Token) (n : ℕ) → is_interpol_start t.kind ≡ false → Ends p.PathFirst (action_at p.PathFirst (Some t.kind) (nat_eq t.start n))
 end_first t ts n h = by t.kind h
@@ -44,13 +39,6 @@ end_first t ts n h = by t.kind h
     by : (k : SyntaxKind) → is_interpol_start k ≡ false → Ends p.PathFirst (first_piece_action (Some k))
     by TOKEN_INTERPOL_START h = absurd (true_is_not_false h)
     by _ h = plainly refl
-
-no_piece : (k : SyntaxKind) → is_piece_start k ≡ false → (if is_path_piece k then a.Take p.PathMore else first_piece_action (Some k)) ≡ a.Close
-no_piece TOKEN_INTERPOL_START h = absurd (true_is_not_false h)
-no_piece TOKEN_PATH_ABS h = absurd (true_is_not_false h)
-no_piece TOKEN_PATH_REL h = absurd (true_is_not_false h)
-no_piece TOKEN_PATH_HOME h = absurd (true_is_not_false h)
-no_piece _ h = refl
 
 end_more : (k : SyntaxKind) (touch : Bool) → (touch && is_piece_start k) ≡ false → Ends p.PathMore (more_pieces_action touch (Some k))
 end_more k true h = subst (λ (z : Action). Ends p.PathMore z) (sym (no_piece k h)) (plainly refl)
@@ -112,19 +100,19 @@ pub ends_at : (x : Place) (n : ℕ) (ts : List Token) → IsOver (At x) n ts →
 ends_at x n [] o = ends_none x false o.0
 ends_at x n (t ∷ ts) o = ends_some x t ts n o.0 o.1
 
-no_realm : {A : Type 0} (k : SyntaxKind) (v : ℕ) (x : Place) → realm x ≡ suc (suc v) → realm x ≡ realm_of k → A
+no_realm : {A : Type 0} (k : SyntaxKind) (v : ℕ) (x : Place) → row_class x ≡ suc (suc v) → row_class x ≡ class_of_kind k → A
 no_realm NODE_PAT_ENTRY v x h e = absurd (cc)
 no_realm _ v x h e = absurd (cc)
 
-quiet : (k : SyntaxKind) (x : Place) (b c : Sketch) → realm x ≡ 0 → realm x ≡ realm_of k → repeats k b c ≡ []
+quiet : (k : SyntaxKind) (x : Place) (b c : Sketch) → row_class x ≡ 0 → row_class x ≡ class_of_kind k → repeats k b c ≡ []
 quiet NODE_PAT_ENTRY x b c h e = absurd (cc)
 quiet _ x b c h e = refl
 
-loud : (k : SyntaxKind) (x : Place) (b c : Sketch) → realm x ≡ 1 → realm x ≡ realm_of k → repeats k b c ≡ repeated b c
+loud : (k : SyntaxKind) (x : Place) (b c : Sketch) → row_class x ≡ 1 → row_class x ≡ class_of_kind k → repeats k b c ≡ repeated b c
 loud NODE_PAT_ENTRY x b c h e = refl
 loud _ x b c h e = absurd (cc)
 
-closes_by : (x : Place) (act : Action) → Ends x act → (k : SyntaxKind) (d n : ℕ) (b c : Sketch) (F : Frame) (fs : List Frame) (ts : List Token) (gs : List Fault) → realm x ≡ realm_of k
+closes_by : (x : Place) (act : Action) → Ends x act → (k : SyntaxKind) (d n : ℕ) (b c : Sketch) (F : Frame) (fs : List Frame) (ts : List Token) (gs : List Fault) → row_class x ≡ class_of_kind k
     → perform false act (opened (Node k) x d c) (F ∷ fs) ts n gs ≡ machine (put F.place (F.row ⊕ one_branch k c) F ∷ fs) ts n (gs ++ repeats k F.row c)
 closes_by x act (plainly r) k d n b c F fs ts gs e =
     ap (λ z. machine (put F.place (F.row ⊕ one_branch k c) F ∷ fs) ts n z) (sym (append-nil gs) ∙ ap (λ z. gs ++ z) (sym (quiet k x F.row c r e)))
@@ -136,11 +124,11 @@ closes_by x act (second r) k d n b c F fs ts gs e = no_realm k 0 x r e
 closes_by x act (last r) k d n b c F fs ts gs e = no_realm k 1 x r e
 
 -- then its node is complete
-pub closes_node : (k : SyntaxKind) (x : Place) (d n : ℕ) (c : Sketch) (F : Frame) (fs : List Frame) (ts : List Token) (gs : List Fault) → IsOver (At x) n ts → realm x ≡ realm_of k
+pub closes_node : (k : SyntaxKind) (x : Place) (d n : ℕ) (c : Sketch) (F : Frame) (fs : List Frame) (ts : List Token) (gs : List Fault) → IsOver (At x) n ts → row_class x ≡ class_of_kind k
     → step false (machine (opened (Node k) x d c ∷ (F ∷ fs)) ts n gs) ≡ machine (put F.place (F.row ⊕ one_branch k c) F ∷ fs) ts n (gs ++ repeats k F.row c)
 closes_node k x d n c F fs ts gs o e = closes_by x (action_at x (head_kind ts) (touches n ts)) (ends_at x n ts o) k d n c c F fs ts gs e
 
-twice_by : (x : Place) (act : Action) → Ends x act → (d n : ℕ) (c : Sketch) (F : Frame) (fs : List Frame) (ts : List Token) (gs : List Fault) → realm x ≡ 2
+twice_by : (x : Place) (act : Action) → Ends x act → (d n : ℕ) (c : Sketch) (F : Frame) (fs : List Frame) (ts : List Token) (gs : List Fault) → row_class x ≡ 2
     → perform false act (opened Second x d c) (F ∷ fs) ts n gs ≡ machine (put F.place (F.row ⊕ one_fault Twice c) F ∷ fs) ts n (gs ++ report Twice (tokens_in c) ∷ [])
 twice_by x act (plainly r) d n c F fs ts gs e = absurd (cc)
 twice_by x act (pattern r) d n c F fs ts gs e = absurd (cc)
@@ -149,6 +137,6 @@ twice_by x act (second r) d n c F fs ts gs e = refl
 twice_by x act (last r) d n c F fs ts gs e = absurd (cc)
 
 -- or a second name is
-pub closes_second : (x : Place) (d n : ℕ) (c : Sketch) (F : Frame) (fs : List Frame) (ts : List Token) (gs : List Fault) → IsOver (At x) n ts → realm x ≡ 2
+pub closes_second : (x : Place) (d n : ℕ) (c : Sketch) (F : Frame) (fs : List Frame) (ts : List Token) (gs : List Fault) → IsOver (At x) n ts → row_class x ≡ 2
     → step false (machine (opened Second x d c ∷ (F ∷ fs)) ts n gs) ≡ machine (put F.place (F.row ⊕ one_fault Twice c) F ∷ fs) ts n (gs ++ report Twice (tokens_in c) ∷ [])
 closes_second x d n c F fs ts gs o e = twice_by x (action_at x (head_kind ts) (touches n ts)) (ends_at x n ts o) d n c F fs ts gs e

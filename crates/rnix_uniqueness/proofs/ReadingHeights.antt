@@ -5,16 +5,14 @@ use Rattle.rnix_kinds.specs.declared.kinds.SyntaxKind.TheVariants.{NODE_LITERAL}
 use Rattle.rnix_grammar.specs.declared.place.Place.{Place}
 use Rattle.rnix_grammar.specs.Fault.{Fault}
 use Rattle.rnix_grammar.specs.Sketch.{Token, Note, Stray, Unwanted, Extra, Twice, TooDeep, Sketch, blank, token, branch, fault, ◌⊕◌, one_token, one_branch, one_fault, row_of, tokens_in, told, head_kind, end_from}
-use Rattle.rnix_grammar.specs.Reports.{report}
-use Rattle.rnix_grammar.specs.Rows.{Spot, At, fits, go, live, whole, start}
-use Rattle.rnix_grammar.specs.Rows.{counts}
-use Rattle.rnix_grammar.specs.Reports.{repeats}
+use Rattle.rnix_grammar.specs.Reports.{report, repeats}
+use Rattle.rnix_grammar.specs.Rows.{Spot, At, fits, go, live, whole, start, counts}
 use Rattle.rnix_grammar.specs.OwnItems.{IsOwned, stands_owned}
 use Rattle.rnix_grammar.specs.Operands.{IsFollowed, IsOperand, level_at}
 use Rattle.rnix_grammar.specs.Reads.{Reads, end, leaf, lost, wrong, second, inner, deeper, IsOver, IsWrong}
 use Rattle.rnix_lemmas.proofs.Basics.{true_is_not_false}
 use Rattle.rnix_lemmas.proofs.NodeKinds.{is_error}
-use Rattle.rnix_uniqueness.proofs.Simulated.{ReadsRow, ReadsTree}
+use Rattle.rnix_uniqueness.proofs.StepReads.{ReadsRow, ReadsTree}
 
 -- how many steps a reading takes to say
 abbrev pub height : {p : SyntaxKind} {d n : ℕ} {q s : Spot} {b : Sketch} {us : List Token} {f : Sketch} {es : List Fault} → Reads p d n q s b us f es → ℕ
@@ -79,18 +77,22 @@ short_to : {m n n' : ℕ} {p : SyntaxKind} {d : ℕ} {q r s : Spot} {b c : Sketc
 short_to {m = m} {n = n} {n' = n'} {p = p} {d = d} {q = q} {r = r} {s = s} {b = b} {c = c} {us = us} {f = f} {es = es} u v w h =
     subst (λ (x : ℕ). Short m p d x q s b us f es) w (subst (λ (x : Sketch). Short m p d n q s x us f es) v (subst (λ (x : Spot). Short m p d n x s c us f es) u h))
 
-lone_token : (ts : List Token) → length ts ≡ 1 → (t : Token) × (ts ≡ t ∷ [])
+-- a list of length one is one item
+pub lone_token : (ts : List Token) → length ts ≡ 1 → (t : Token) × (ts ≡ t ∷ [])
 lone_token [] h = absurd (cc)
 lone_token (t ∷ []) h = (t, refl)
 lone_token (t ∷ (u ∷ us)) h = absurd (omega (arith, h))
 
-less : (a m : ℕ) → suc a ≤ suc m → a ≤ m
+-- what is below a successor is no more
+pub less : (a m : ℕ) → suc a ≤ suc m → a ≤ m
 less a m h = omega (arith, h)
 
-less_left : (a b m : ℕ) → suc (a + b) ≤ suc m → a ≤ m
+-- so is the first of two numbers whose sum is
+pub less_left : (a b m : ℕ) → suc (a + b) ≤ suc m → a ≤ m
 less_left a b m h = omega (arith, h)
 
-less_right : (a b m : ℕ) → suc (a + b) ≤ suc m → b ≤ m
+-- and the second
+pub less_right : (a b m : ℕ) → suc (a + b) ≤ suc m → b ≤ m
 less_right a b m h = omega (arith, h)
 
 front_wrong : (m : ℕ) (p : SyntaxKind) (d n : ℕ) (q s r : Spot) (b : Sketch) (us vs : List Token) (c f g : Sketch) (e : ℕ) (es fs : List Fault) (note : Note) (ts : List Token) → c ≡ row_of ts → vs ≡ tokens_in f ++ us

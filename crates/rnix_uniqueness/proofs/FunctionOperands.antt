@@ -1,5 +1,5 @@
 -- Functions are read as operands.
-use Rattle.std.proofs.Common.{◌≡◌, ℕ, ◌≤◌, Bool, true, false, List, [], ◌∷◌, ◌++◌, refl, ap, sym, ◌∙◌, subst, append_assoc}
+use Rattle.std.proofs.Common.{◌≡◌, ℕ, true, false, List, ◌∷◌, ◌++◌, refl, ap, sym, ◌∙◌, append_assoc}
 use Rattle.rnix_kinds.specs.declared.kinds.SyntaxKind.{SyntaxKind}
 use Rattle.rnix_kinds.specs.declared.kinds.SyntaxKind.TheVariants.{TOKEN_L_BRACE, TOKEN_IDENT, NODE_IDENT, NODE_IDENT_PARAM, NODE_LAMBDA, NODE_PATTERN, NODE_PAT_BIND}
 use Rattle.rnix_grammar.specs.declared.place.Place.{Place}
@@ -7,21 +7,20 @@ use Rattle.rnix_grammar.specs.declared.place.Place.TheVariants as p
 use Rattle.rnix_grammar.specs.declared.begin.Begin.{Begin}
 use Rattle.rnix_grammar.specs.declared.begin.Begin.TheVariants as b
 use Rattle.rnix_grammar.specs.Fault.{Fault}
-use Rattle.rnix_grammar.specs.Begins.{begin_of}
-use Rattle.rnix_grammar.specs.Sketch.{Token, Sketch, blank, token, branch, ◌⊕◌, one_token, one_branch, tokens_in, told, told_as, head_kind, end_from}
+use Rattle.rnix_grammar.specs.Begins.{begin_of, second_kind}
+use Rattle.rnix_grammar.specs.Sketch.{Token, Sketch, blank, token, branch, ◌⊕◌, one_token, one_branch, tokens_in, told, head_kind, end_from}
 use Rattle.rnix_grammar.specs.Machine.{Node, Operand, Frame, machine, opened, begun, Runs}
-use Rattle.rnix_grammar.specs.Begins.{second_kind}
 use Rattle.rnix_grammar.specs.Rows.{At}
 use Rattle.rnix_grammar.specs.Operands.{kind_of}
 use Rattle.rnix_grammar.specs.Reads.{IsOver}
 use Rattle.rnix_lemmas.proofs.Basics.{true_is_not_false}
 use Rattle.rnix_lemmas.proofs.StrictParts.{end_behind}
+use Rattle.rnix_lemmas.proofs.FollowLemmas.{followed_atom}
 use Rattle.rnix_completeness.proofs.PlainSteps.{runs_on, runs_to}
 use Rattle.rnix_completeness.proofs.PlainTrees.{runs_from}
-use Rattle.rnix_uniqueness.proofs.Simulated.{ReadsRow, ReadsTree}
-use Rattle.rnix_uniqueness.proofs.Bridges.{bridged_atom}
-use Rattle.rnix_uniqueness.proofs.Closings.{is_common, closes_into}
-use Rattle.rnix_uniqueness.proofs.Beginnings.{is_leafed, is_opened, BegunBy, begins_by, Reading, ReadsItems, reads_items, one_items}
+use Rattle.rnix_uniqueness.proofs.StepReads.{ReadsRow, ReadsTree}
+use Rattle.rnix_uniqueness.proofs.RowCloses.{is_common, closes_into}
+use Rattle.rnix_uniqueness.proofs.OperandBegins.{is_leafed, is_opened, BegunBy, begins_by, AreItemsRead, ReadsItems, reads_items, one_items}
 
 -- what begins a function of a name
 pub parameters : (i : SyntaxKind) (bg : Begin) → kind_of bg ≡ NODE_IDENT_PARAM → BegunBy i bg → bg ≡ b.NameLambda
@@ -69,7 +68,7 @@ tree_named t f d n us es y row c o = reads_items d n (t ∷ tokens_in f) x us es
         let below : Frame = opened Operand (p.Behind level 16) d blank in
         record {
           high = 16;
-          bridged = bridged_atom x refl refl;
+          followed = followed_atom x refl refl;
           runs =
               runs_from
               (ap (λ z. begun false z level d t F fs (t ∷ ts) n gs)
@@ -120,10 +119,10 @@ tree_pattern t c f d n us es ds w y row cw ow more cy oy kind = reads_items d n 
         below : Frame
         below = opened Operand (p.Behind level 16) d blank
 
-        by : Patterns t.kind bg → Reading level d n (t ∷ (tokens_in c ++ tokens_in f)) x us (es ++ ds) F fs gs
+        by : Patterns t.kind bg → AreItemsRead level d n (t ∷ (tokens_in c ++ tokens_in f)) x us (es ++ ds) F fs gs
         by (by_brace e k) = record {
           high = 16;
-          bridged = bridged_atom x refl refl;
+          followed = followed_atom x refl refl;
           runs =
               runs_from
               (ap (λ z. begun false z level d t F fs (t ∷ ts) n gs) e
@@ -165,10 +164,10 @@ tree_bound t v c f d n us es ds w y row cw ow more cy oy unbraced =
         below : Frame
         below = opened Operand (p.Behind level 16) d blank
 
-        by : Patterns t.kind bg → Reading level d n (t ∷ (v ∷ (tokens_in c ++ tokens_in f))) x us (es ++ ds) F fs gs
+        by : Patterns t.kind bg → AreItemsRead level d n (t ∷ (v ∷ (tokens_in c ++ tokens_in f))) x us (es ++ ds) F fs gs
         by (by_name e k) = record {
           high = 16;
-          bridged = bridged_atom x refl refl;
+          followed = followed_atom x refl refl;
           runs =
               runs_from
               (ap (λ z. begun false z level d t F fs (t ∷ ts) n gs) e

@@ -1,21 +1,19 @@
 -- What is still to come of each open frame, seen from where the text is read to its end.
-use Rattle.std.proofs.Common.{◌≡◌, ℕ, ◌≤◌, ◌<◌, Bool, true, false, List, [], ◌∷◌, ◌++◌, Option, Some, None, refl, ap, sym, ◌∙◌, subst, append_assoc}
+use Rattle.std.proofs.Common.{◌≡◌, ℕ, ◌≤◌, true, false, List, [], ◌∷◌, ◌++◌}
 use Rattle.rnix_kinds.specs.declared.kinds.SyntaxKind.{SyntaxKind}
 use Rattle.rnix_kinds.specs.declared.kinds.SyntaxKind.TheVariants.{NODE_ROOT, NODE_LITERAL}
-use Rattle.rnix_grammar.specs.declared.place.Place.{Place}
 use Rattle.rnix_grammar.specs.declared.place.Place.TheVariants as p
 use Rattle.rnix_grammar.specs.declared.action.Action.{Action}
 use Rattle.rnix_grammar.specs.Fault.{Fault}
-use Rattle.rnix_grammar.specs.Levels.{power}
-use Rattle.rnix_grammar.specs.Sketch.{Token, Stray, Twice, Sketch, blank, token, branch, fault, ◌⊕◌, one_branch, one_fault, row_of, tokens_in, end_from}
-use Rattle.rnix_grammar.specs.Reports.{report}
+use Rattle.rnix_grammar.specs.Sketch.{Token, Stray, Twice, Sketch, blank, branch, ◌⊕◌, one_branch, one_fault, row_of, tokens_in, end_from}
+use Rattle.rnix_grammar.specs.Reports.{report, repeats}
 use Rattle.rnix_grammar.specs.Machine.{Head, Node, Second, Operand, Frame, put, kind_of, made, perform}
 use Rattle.rnix_grammar.specs.Rows.{fits, Spot, At, start}
-use Rattle.rnix_grammar.specs.Reports.{repeats}
 use Rattle.rnix_grammar.specs.TreeLevels.{row_level, is_or_row}
-use Rattle.rnix_grammar.specs.Operands.{first_tree, follows, goes_on}
+use Rattle.rnix_grammar.specs.Operands.{first_tree, goes_on}
 use Rattle.rnix_grammar.specs.Reads.{Reads, IsOver}
-use Rattle.rnix_lemmas.proofs.SketchLemmas.{⊕-assoc}
+use Rattle.rnix_lemmas.proofs.FollowLemmas.{Stops}
+use Rattle.rnix_lemmas.proofs.OpenHeads.{is_open}
 
 -- the kind by which a row goes on behind a tree: an error node counts as a literal
 abbrev pub seen_kind : Sketch → SyntaxKind
@@ -28,10 +26,6 @@ pub data Lone (d n : ℕ) : Sketch → List Token → List Fault → Type 0 wher
       → Reads k d n (start k) s blank after c ds → m ≡ end_from n (tokens_in c) → IsOver s m after → Lone d n (one_branch k c) after ds
   an_error : {t : Token} {after : List Token} → Lone d n (one_fault Stray (row_of (t ∷ []))) after (report Stray (t ∷ []) ∷ [])
 
--- what goes on with a tree binds no tighter than the level
-abbrev pub Stops : ℕ → Sketch → Type 0
-Stops high x = (j : SyntaxKind) → follows j x ≡ true → power j ≤ high
-
 -- An operand goes on from one tree x to another y, over items from ts to us, and reaches from n to m, with these errors.
 pub record Grows (low high d : ℕ) (x y : Sketch) (ts us : List Token) (n m : ℕ) (ds : List Fault) : Type 0 where
   pub items : tokens_in x ++ ts ≡ tokens_in y ++ us
@@ -42,12 +36,6 @@ pub record Grows (low high d : ℕ) (x y : Sketch) (ts us : List Token) (n m : �
   pub no_or : is_or_row y ≡ false
   pub calm : Stops high x → goes_on low y us ≡ false
   pub lone : (l : ℕ) (cs : List Fault) → n ≡ end_from l (tokens_in x) → Stops high x → Lone d l x ts cs → Lone d l y us (cs ++ ds)
-
--- an open node or second name
-abbrev pub is_open : Head → Bool
-is_open (Node k) = true
-is_open Second = true
-is_open Operand = false
 
 -- the errors that are reported as such a frame is complete, behind the trees before it
 abbrev pub closing : Head → Sketch → Sketch → List Fault

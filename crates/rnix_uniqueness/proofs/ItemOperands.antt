@@ -1,5 +1,5 @@
 -- Expressions that are one item, or begin with one and go on at a place, are read as operands.
-use Rattle.std.proofs.Common.{◌≡◌, ℕ, ◌≤◌, Bool, true, false, List, [], ◌∷◌, ◌++◌, refl, ap, sym, ◌∙◌, subst, append-nil}
+use Rattle.std.proofs.Common.{◌≡◌, ℕ, true, false, List, [], ◌∷◌, ◌++◌, refl, ap, sym, ◌∙◌, append-nil}
 use Rattle.rnix_kinds.specs.declared.kinds.SyntaxKind.{SyntaxKind}
 use Rattle.rnix_kinds.specs.declared.kinds.SyntaxKind.TheVariants.{NODE_ERROR, NODE_CUR_POS, NODE_IDENT, NODE_LEGACY_LET}
 use Rattle.rnix_grammar.specs.declared.place.Place.{Place}
@@ -7,24 +7,22 @@ use Rattle.rnix_grammar.specs.declared.place.Place.TheVariants as p
 use Rattle.rnix_grammar.specs.declared.begin.Begin.{Begin}
 use Rattle.rnix_grammar.specs.declared.begin.Begin.TheVariants as b
 use Rattle.rnix_grammar.specs.Fault.{Fault}
-use Rattle.rnix_grammar.specs.Begins.{begin_of}
-use Rattle.rnix_grammar.specs.Sketch.{Token, Stray, Sketch, blank, token, ◌⊕◌, one_token, one_branch, one_fault, row_of, tokens_in, told, told_as, head_kind, end_from}
+use Rattle.rnix_grammar.specs.Begins.{begin_of, second_kind}
+use Rattle.rnix_grammar.specs.Sketch.{Token, Stray, Sketch, blank, token, one_token, one_branch, one_fault, row_of, tokens_in, told, head_kind, end_from}
 use Rattle.rnix_grammar.specs.Reports.{report}
-use Rattle.rnix_grammar.specs.Machine.{Node, Operand, Frame, machine, opened, begun, Runs, rest as here}
-use Rattle.rnix_grammar.specs.Begins.{second_kind}
+use Rattle.rnix_grammar.specs.Machine.{Node, Operand, Frame, machine, opened, begun, rest as here}
 use Rattle.rnix_grammar.specs.Rows.{Start, At, go}
-use Rattle.rnix_grammar.specs.Operands.{kind_of, first_tree, IsBegun}
-use Rattle.rnix_grammar.specs.TreeLevels.{row_level}
+use Rattle.rnix_grammar.specs.Operands.{kind_of}
 use Rattle.rnix_grammar.specs.Reads.{IsOver}
 use Rattle.rnix_lemmas.proofs.Basics.{true_is_not_false}
 use Rattle.rnix_lemmas.proofs.EveryKind.{never}
 use Rattle.rnix_lemmas.proofs.NodeKinds.{is_error, told_plain}
+use Rattle.rnix_lemmas.proofs.FollowLemmas.{followed_atom, followed_loose}
 use Rattle.rnix_completeness.proofs.PlainSteps.{runs_on, runs_to}
 use Rattle.rnix_completeness.proofs.PlainTrees.{runs_from}
-use Rattle.rnix_uniqueness.proofs.Simulated.{ReadsRow, ReadsTree}
-use Rattle.rnix_uniqueness.proofs.Bridges.{bridged_atom, bridged_loose}
-use Rattle.rnix_uniqueness.proofs.Closings.{is_common, closes_into}
-use Rattle.rnix_uniqueness.proofs.Beginnings.{is_leafed, is_opened, high_at, BegunBy, begins_by, bridged_opened, bridged_leafed, first_opened, first_leafed, Reading, ReadsItems, reads_items, one_items}
+use Rattle.rnix_uniqueness.proofs.StepReads.{ReadsRow, ReadsTree}
+use Rattle.rnix_uniqueness.proofs.RowCloses.{is_common, closes_into}
+use Rattle.rnix_uniqueness.proofs.OperandBegins.{is_leafed, is_opened, high_at, BegunBy, begins_by, followed_opened, followed_leafed, first_opened, first_leafed, AreItemsRead, ReadsItems, reads_items, one_items}
 
 not_opened : (j k : SyntaxKind) → is_opened k ≡ true → j ≡ k → is_opened j ≡ false → ⊥
 not_opened j k h e f = true_is_not_false (sym h ∙ ap is_opened (sym e) ∙ f)
@@ -76,12 +74,12 @@ tree_opened k t f d n us es y h row c o = reads_items d n (t ∷ tokens_in f) x 
         bg : Begin
         bg = begin_of level t.kind t.text (head_kind ts) (second_kind ts)
 
-        by : Opens k t.kind bg → Reading level d n (t ∷ tokens_in f) x us es F fs gs
+        by : Opens k t.kind bg → AreItemsRead level d n (t ∷ tokens_in f) x us es F fs gs
         by w =
             let below : Frame = opened Operand (p.Behind level (high_at k t.kind)) d blank in
             record {
               high = high_at k t.kind;
-              bridged = bridged_opened k t.kind t f h;
+              followed = followed_opened k t.kind t f h;
               runs =
                   runs_from
                   (ap (λ z. begun false z level d t F fs (t ∷ ts) n gs) w.is
@@ -110,7 +108,7 @@ tree_leafed k t d n us h = reads_items d n (t ∷ []) x us [] refl read
     read : ReadsItems d n (t ∷ []) x us []
     read level F fs gs low begins = record {
       high = 16;
-      bridged = bridged_leafed k (one_token (told k t) t) h;
+      followed = followed_leafed k (one_token (told k t) t) h;
       runs =
           runs_from
           (ap (λ z. begun false z level d t F fs (t ∷ us) n gs)
@@ -138,7 +136,7 @@ tree_stray t d n us = reads_items d n (t ∷ []) x us (report Stray (t ∷ []) �
     read : ReadsItems d n (t ∷ []) x us (report Stray (t ∷ []) ∷ [])
     read level F fs gs low begins = record {
       high = 16;
-      bridged = bridged_atom x refl refl;
+      followed = followed_atom x refl refl;
       runs =
           runs_from
           (ap (λ z. begun false z level d t F fs (t ∷ us) n gs)
@@ -171,7 +169,7 @@ tree_legacy t v f d n us es y row c o = reads_items d n (t ∷ (v ∷ tokens_in 
         let below : Frame = opened Operand (p.Behind level 0) d blank in
         record {
           high = 0;
-          bridged = bridged_loose x refl refl;
+          followed = followed_loose x refl refl;
           runs =
               runs_from
               (ap (λ z. begun false z level d t F fs (t ∷ ts) n gs)

@@ -1,5 +1,5 @@
 -- What is read in the row of an open frame, in front of what is still to come of it.
-use Rattle.std.proofs.Common.{◌≡◌, ℕ, true, List, [], ◌∷◌, ◌++◌, refl, ap, sym, ◌∙◌, subst, append_assoc, append-nil}
+use Rattle.std.proofs.Common.{◌≡◌, ℕ, true, List, [], ◌∷◌, ◌++◌, ap, sym, ◌∙◌, subst, append_assoc, append-nil}
 use Rattle.rnix_kinds.specs.declared.kinds.SyntaxKind.{SyntaxKind}
 use Rattle.rnix_grammar.specs.declared.place.Place.{Place}
 use Rattle.rnix_grammar.specs.declared.place.Place.TheVariants as p
@@ -10,22 +10,19 @@ use Rattle.rnix_grammar.specs.Rows.{Spot, At}
 use Rattle.rnix_grammar.specs.Reads.{Reads}
 use Rattle.rnix_lemmas.proofs.Basics.{true_is_not_false}
 use Rattle.rnix_lemmas.proofs.SketchLemmas.{⊕-assoc, tokens_two, tokens_in-⊕}
-use Rattle.rnix_existence.proofs.Ends.{is_open, closing, Ends, root_frame, open_frame, operand_frame}
-
--- where two lists of tokens end, one behind the other
-pub end_from-++ : (n : ℕ) (ts us : List Token) → end_from n (ts ++ us) ≡ end_from (end_from n ts) us
-end_from-++ n [] us = refl
-end_from-++ n (t ∷ ts) us = end_from-++ t.end ts us
+use Rattle.rnix_lemmas.proofs.StrictParts.{end_behind}
+use Rattle.rnix_lemmas.proofs.OpenHeads.{is_open}
+use Rattle.rnix_existence.proofs.OpenFrames.{closing, Ends, root_frame, open_frame, operand_frame}
 
 -- where two rows end, one behind the other
 pub end_two : (n : ℕ) (f g : Sketch) → end_from n (tokens_in (f ⊕ g)) ≡ end_from (end_from n (tokens_in f)) (tokens_in g)
-end_two n f g = ap (end_from n) (tokens_in-⊕ f g) ∙ end_from-++ n (tokens_in f) (tokens_in g)
+end_two n f g = ap (end_from n) (tokens_in-⊕ f g) ∙ end_behind n (tokens_in f) (tokens_in g)
 
 -- what may stand in front of the rest of a row stands there
 pub prepended : (f : Frame) (fs : List Frame) (ts us : List Token) (n m : ℕ) (row : Sketch) (ds es : List Fault) (y : Place) (g : Sketch)
     → is_open f.head ≡ true → ts ≡ tokens_in g ++ us → m ≡ end_from n (tokens_in g)
     → ((vs : List Token) (s : Spot) (r : Sketch) (cs : List Fault) → us ≡ tokens_in r ++ vs → Reads (kind_of f.head) f.depth m (At y) s (f.row ⊕ g) vs r cs
-        → Reads (kind_of f.head) f.depth n (At f.place) s f.row vs (g ⊕ r) (ds ++ cs))
+    → Reads (kind_of f.head) f.depth n (At f.place) s f.row vs (g ⊕ r) (ds ++ cs))
     → Ends (put y (f.row ⊕ g) f ∷ fs) us m row es → Ends (f ∷ fs) ts n row (ds ++ es)
 prepended f fs ts us n m row ds es y g o e l reads (root_frame {r = r} a b c d) =
     let all : us ≡ tokens_in r ++ [] = c ∙ sym (append-nil (tokens_in r)) in

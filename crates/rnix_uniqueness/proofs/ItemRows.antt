@@ -1,23 +1,21 @@
 -- Expressions that begin with an item, by how their rows are read.
-use Rattle.std.proofs.Common.{◌≡◌, ℕ, Bool, true, false, List, [], ◌∷◌, ◌++◌, refl, ap, sym, ◌∙◌, subst}
+use Rattle.std.proofs.Common.{◌≡◌, ℕ, true, false, List, [], ◌++◌, refl, sym, ◌∙◌, subst}
 use Rattle.rnix_kinds.specs.declared.kinds.SyntaxKind.{SyntaxKind}
-use Rattle.rnix_kinds.specs.declared.kinds.SyntaxKind.TheVariants.{TOKEN_LET, TOKEN_L_BRACE, NODE_LEGACY_LET, NODE_LITERAL}
-use Rattle.rnix_grammar.specs.declared.place.Place.{Place}
+use Rattle.rnix_kinds.specs.declared.kinds.SyntaxKind.TheVariants.{TOKEN_LET, TOKEN_L_BRACE, NODE_LEGACY_LET}
 use Rattle.rnix_grammar.specs.declared.place.Place.TheVariants as p
 use Rattle.rnix_grammar.specs.Fault.{Fault}
-use Rattle.rnix_grammar.specs.Sketch.{Token, Sketch, blank, token, one_token, one_branch, tokens_in, told, end_from}
-use Rattle.rnix_grammar.specs.Rows.{Spot, Start, BeforeBrace, At, first, go, live, start}
+use Rattle.rnix_grammar.specs.Sketch.{Token, Sketch, blank, token, one_token, one_branch, tokens_in, end_from}
+use Rattle.rnix_grammar.specs.Rows.{Spot, Start, BeforeBrace, At, first, go, live}
 use Rattle.rnix_grammar.specs.Reads.{IsOver}
 use Rattle.rnix_lemmas.proofs.Basics.{true_is_not_false}
-use Rattle.rnix_lemmas.proofs.EveryKind.{only, never}
 use Rattle.rnix_lemmas.proofs.NodeKinds.{told_plain}
 use Rattle.rnix_lemmas.proofs.RowKinds.{has_row}
-use Rattle.rnix_uniqueness.proofs.Simulated.{ReadsTree}
-use Rattle.rnix_uniqueness.proofs.Heights.{Short, Rows, Front, by_leaf, by_stray, by_node}
-use Rattle.rnix_uniqueness.proofs.Closings.{IsCommon, ends_common, EndsAt, whole_at}
-use Rattle.rnix_uniqueness.proofs.Beginnings.{is_leafed, is_opened}
-use Rattle.rnix_uniqueness.proofs.Opened.{opened_sound, tree_opened, tree_leafed, tree_legacy}
-use Rattle.rnix_uniqueness.proofs.Parts.{front_of, short_from, no_row, Onward, onward, led_first, led_stray, opened_common, leafed_led, opened_led, IsItem, is_item}
+use Rattle.rnix_uniqueness.proofs.StepReads.{ReadsTree}
+use Rattle.rnix_uniqueness.proofs.ReadingHeights.{Short, Rows, Front, by_leaf, by_stray, by_node}
+use Rattle.rnix_uniqueness.proofs.RowCloses.{IsCommon, ends_common, EndsAt, whole_at}
+use Rattle.rnix_uniqueness.proofs.OperandBegins.{is_leafed, is_opened}
+use Rattle.rnix_uniqueness.proofs.ItemOperands.{opened_sound, tree_opened, tree_leafed, tree_legacy}
+use Rattle.rnix_uniqueness.proofs.NodeRows.{front_of, short_from, no_row, Onward, onward, led_first, led_stray, opened_common, opened_led, IsItem, is_item}
 
 -- a node of one item is read
 pub leafed_reads : (m : ℕ) (k : SyntaxKind) (d n : ℕ) (s : Spot) (us : List Token) (c : Sketch) (es : List Fault) → is_leafed k ≡ true → Front m k d n (Start k) s blank us c es → ReadsTree d n (one_branch k c) us es

@@ -13,9 +13,9 @@ use Rattle.rnix_grammar.specs.Plain.{is_node}
 use Rattle.rnix_grammar.specs.Reports.{repeats}
 use Rattle.rnix_lemmas.proofs.Basics.{true_is_not_false, some_same}
 use Rattle.rnix_lemmas.proofs.NodeKinds.{not_both}
-use Rattle.rnix_uniqueness.proofs.Heights.{Short, Front, by_leaf, by_stray, by_node, front, is_place}
-use Rattle.rnix_uniqueness.proofs.Ways.{opener}
-use Rattle.rnix_uniqueness.proofs.RealmRows.{past_blank}
+use Rattle.rnix_uniqueness.proofs.ReadingHeights.{Short, Front, by_leaf, by_stray, by_node, front, is_place}
+use Rattle.rnix_uniqueness.proofs.PlacedNodes.{opener}
+use Rattle.rnix_uniqueness.proofs.NodeRows.{Ended, past_ends}
 
 -- only nodes have rows
 alive : (k j : SyntaxKind) → live (first k j) ≡ true → is_node k ≡ true
@@ -164,13 +164,13 @@ wanted_name _ h = ap (λ z. is_wanted u.Attr z) (sym h)
 pub named_by : (m d n : ℕ) (s : Spot) (us : List Token) {c : Sketch} {ds : List Fault} → whole s ≡ true → Front m NODE_IDENT d n (Start NODE_IDENT) s blank us c ds → Named n c ds
 named_by m d n s us w (by_leaf {k = j} {t = t} {f = f} {es = es} e x y l r) =
     let q = ident_first j p.Past l in
-    let b = past_blank r.reads q.1 in
+    let b : Ended s f es = past_ends r.reads q.1 in
     record {
       item = t;
-      is = ap (λ v. token v t f) q.0 ∙ ap (λ v. token TOKEN_IDENT t v) b.0;
+      is = ap (λ v. token v t f) q.0 ∙ ap (λ v. token TOKEN_IDENT t v) b.row;
       told = sym q.0 ∙ e;
       wanted = wanted_name t.kind (sym q.0 ∙ e);
-      none = b.1;
+      none = b.faults;
     }
 named_by m d n s us w (by_stray x y v l r) = absurd (true_is_not_false (sym l))
 named_by m d n s us w (by_node {k = j} {c = c} {f = f} {z = y} {ds = ds} r v x a b l r') =

@@ -1,5 +1,5 @@
 -- What the parts of a node's row are: where it begins, what it is behind its first items, and where it ends.
-use Rattle.std.proofs.Common.{◌≡◌, ℕ, suc, ◌+◌, ◌≤◌, Bool, true, false, List, [], ◌∷◌, ◌++◌, Some, refl, ap, sym, ◌∙◌, subst, append-nil, arith}
+use Rattle.std.proofs.Common.{◌≡◌, ℕ, Bool, true, false, List, [], ◌++◌, Some, refl, ap, sym, ◌∙◌, subst, arith}
 use Rattle.std.specs.Prelude.{◌&&◌, if◌then◌else◌}
 use Rattle.std.specs.Cmp.Derive.{both_true}
 use Rattle.rnix_kinds.proofs.AllKinds.{implied}
@@ -9,8 +9,8 @@ use Rattle.rnix_grammar.specs.declared.place.Place.{Place}
 use Rattle.rnix_grammar.specs.declared.place.Place.TheVariants as p
 use Rattle.rnix_grammar.specs.Fault.{Fault}
 use Rattle.rnix_grammar.specs.Missing.{lack, run_at}
-use Rattle.rnix_grammar.specs.Sketch.{Token, Note, Stray, Unwanted, Extra, Twice, TooDeep, Sketch, blank, token, ◌⊕◌, one_token, tokens_in, told, end_from}
-use Rattle.rnix_grammar.specs.Rows.{Spot, Start, At, is_plain_literal, is_expression, fits, first, first_token, go, live, start, to, whole}
+use Rattle.rnix_grammar.specs.Sketch.{Token, Note, Stray, Unwanted, Extra, Twice, TooDeep, Sketch, blank, token, one_token, tokens_in, told, end_from}
+use Rattle.rnix_grammar.specs.Rows.{Spot, Start, At, is_plain_literal, fits, first, first_token, go, live, start, to, whole}
 use Rattle.rnix_grammar.specs.Reads.{Reads, end, leaf, lost, wrong, second, inner, IsOver, IsWrong}
 use Rattle.rnix_lemmas.proofs.Basics.{true_is_not_false, not_if}
 use Rattle.rnix_lemmas.proofs.EachKind.{each_kind}
@@ -18,10 +18,10 @@ use Rattle.rnix_lemmas.proofs.EveryKind.{whenever_two}
 use Rattle.rnix_lemmas.proofs.ImitateLemmas.{start_half}
 use Rattle.rnix_lemmas.proofs.NodeKinds.{is_error}
 use Rattle.rnix_lemmas.proofs.RowKinds.{has_row, starts_row}
-use Rattle.rnix_uniqueness.proofs.Simulated.{ReadsRow}
-use Rattle.rnix_uniqueness.proofs.Heights.{height, Short, Rows, Front, by_leaf, by_stray, by_node, front, is_place}
-use Rattle.rnix_uniqueness.proofs.Closings.{is_common, IsCommon, ends_common, EndsAt, whole_at}
-use Rattle.rnix_uniqueness.proofs.Beginnings.{is_leafed, is_opened}
+use Rattle.rnix_uniqueness.proofs.StepReads.{ReadsRow}
+use Rattle.rnix_uniqueness.proofs.ReadingHeights.{Short, Rows, Front, by_leaf, by_stray, by_node, front, is_place}
+use Rattle.rnix_uniqueness.proofs.RowCloses.{is_common, IsCommon, ends_common, EndsAt, whole_at}
+use Rattle.rnix_uniqueness.proofs.OperandBegins.{is_leafed, is_opened}
 
 -- a row that is not so high goes on so behind a spot that is no place
 pub front_of : {m : ℕ} {p : SyntaxKind} {d n : ℕ} {q s : Spot} {b : Sketch} {us : List Token} {f : Sketch} {es : List Fault}

@@ -1,6 +1,6 @@
 -- What the first items of an operand begin.
-use Rattle.std.proofs.Common.{◌≡◌, ℕ, ◌≤◌, Bool, true, false, List, [], ◌∷◌, ◌++◌, Option, Some, None, refl, ap, sym, ◌∙◌, subst, append-nil}
-use Rattle.std.specs.Prelude.{if◌then◌else◌, nat_eq, nat_le}
+use Rattle.std.proofs.Common.{◌≡◌, ℕ, ◌≤◌, Bool, true, false, List, ◌∷◌, ◌++◌, Option, Some, None, refl, sym, subst, append-nil}
+use Rattle.std.specs.Prelude.{nat_eq, nat_le}
 use Rattle.rnix_kinds.specs.declared.kinds.SyntaxKind.{SyntaxKind}
 use Rattle.rnix_kinds.specs.declared.kinds.SyntaxKind.TheVariants.{TOKEN_ASSERT, TOKEN_AT, TOKEN_COLON, TOKEN_CUR_POS, TOKEN_FLOAT, TOKEN_IDENT, TOKEN_IF, TOKEN_INTEGER, TOKEN_INVERT, TOKEN_L_BRACE, TOKEN_L_BRACK, TOKEN_L_PAREN, TOKEN_LET, TOKEN_PATH_ABS, TOKEN_PATH_HOME, TOKEN_PATH_REL, TOKEN_PATH_SEARCH, TOKEN_REC, TOKEN_STRING_START, TOKEN_SUB, TOKEN_URI, TOKEN_WITH, NODE_ASSERT, NODE_ATTR_SET, NODE_APPLY, NODE_BIN_OP, NODE_CUR_POS, NODE_HAS_ATTR, NODE_IDENT, NODE_IF_ELSE, NODE_LAMBDA, NODE_LET_IN, NODE_LIST, NODE_LITERAL, NODE_PAREN, NODE_PATH_ABS, NODE_PATH_HOME, NODE_PATH_REL, NODE_PATH_SEARCH, NODE_SELECT, NODE_STRING, NODE_UNARY_OP, NODE_WITH}
 use Rattle.rnix_grammar.specs.declared.place.Place.TheVariants as p
@@ -8,15 +8,15 @@ use Rattle.rnix_grammar.specs.declared.begin.Begin.{Begin}
 use Rattle.rnix_grammar.specs.declared.begin.Begin.TheVariants as b
 use Rattle.rnix_grammar.specs.Fault.{Fault}
 use Rattle.rnix_grammar.specs.Tables.{is_cur_pos}
-use Rattle.rnix_grammar.specs.Begins.{begin_of, begin_name, begin_let, begin_scope, is_pattern}
-use Rattle.rnix_grammar.specs.Sketch.{Token, Sketch, blank, token, branch, fault, one_branch, tokens_in, end_from}
+use Rattle.rnix_grammar.specs.Begins.{begin_of, begin_name, begin_let, is_pattern}
+use Rattle.rnix_grammar.specs.Sketch.{Token, Sketch, token, branch, one_branch, tokens_in, end_from}
 use Rattle.rnix_grammar.specs.Machine.{Operand, Frame, machine, opened, operand_on, Runs}
 use Rattle.rnix_grammar.specs.Rows.{Start, At, go}
-use Rattle.rnix_grammar.specs.TreeLevels.{row_level, prefix_in}
+use Rattle.rnix_grammar.specs.TreeLevels.{row_level}
 use Rattle.rnix_grammar.specs.Operands.{IsBegun, first_tree}
 use Rattle.rnix_lemmas.proofs.Basics.{true_is_not_false, choice}
-use Rattle.rnix_uniqueness.proofs.Simulated.{Bridged, IsRead, ReadsTree}
-use Rattle.rnix_uniqueness.proofs.Bridges.{bridged_atom, bridged_negated, bridged_inverted, bridged_loose}
+use Rattle.rnix_lemmas.proofs.FollowLemmas.{FollowedTo, followed_atom, followed_negated, followed_inverted, followed_loose}
+use Rattle.rnix_uniqueness.proofs.StepReads.{ReadsTree}
 
 -- the kinds of expressions that are one item
 abbrev pub is_leafed : SyntaxKind → Bool
@@ -101,33 +101,33 @@ begins_by level TOKEN_ASSERT text second third = choice (BegunBy TOKEN_ASSERT) (
 begins_by level TOKEN_IF text second third = choice (BegunBy TOKEN_IF) (nat_eq level 0) (refl, refl, refl) tt
 begins_by level _ text second third = tt
 
-bridged_prefix : (i : SyntaxKind) (t : Token) (f : Sketch) → Bridged (prefix_high i) (one_branch NODE_UNARY_OP (token i t f))
-bridged_prefix TOKEN_INVERT t f = bridged_inverted (one_branch NODE_UNARY_OP (token TOKEN_INVERT t f)) refl refl
-bridged_prefix i t f = bridged_negated (one_branch NODE_UNARY_OP (token i t f)) refl refl
+followed_prefix : (i : SyntaxKind) (t : Token) (f : Sketch) → FollowedTo (prefix_high i) (one_branch NODE_UNARY_OP (token i t f))
+followed_prefix TOKEN_INVERT t f = followed_inverted (one_branch NODE_UNARY_OP (token TOKEN_INVERT t f)) refl refl
+followed_prefix i t f = followed_negated (one_branch NODE_UNARY_OP (token i t f)) refl refl
 
 -- what goes on with a node that begins with one item and goes on at a place
-pub bridged_opened : (k i : SyntaxKind) (t : Token) (f : Sketch) → is_opened k ≡ true → Bridged (high_at k i) (one_branch k (token i t f))
-bridged_opened NODE_UNARY_OP i t f h = bridged_prefix i t f
-bridged_opened NODE_LET_IN i t f h = bridged_loose (one_branch NODE_LET_IN (token i t f)) refl refl
-bridged_opened NODE_WITH i t f h = bridged_loose (one_branch NODE_WITH (token i t f)) refl refl
-bridged_opened NODE_ASSERT i t f h = bridged_loose (one_branch NODE_ASSERT (token i t f)) refl refl
-bridged_opened NODE_IF_ELSE i t f h = bridged_loose (one_branch NODE_IF_ELSE (token i t f)) refl refl
-bridged_opened NODE_PAREN i t f h = bridged_atom (one_branch NODE_PAREN (token i t f)) refl refl
-bridged_opened NODE_LIST i t f h = bridged_atom (one_branch NODE_LIST (token i t f)) refl refl
-bridged_opened NODE_STRING i t f h = bridged_atom (one_branch NODE_STRING (token i t f)) refl refl
-bridged_opened NODE_PATH_ABS i t f h = bridged_atom (one_branch NODE_PATH_ABS (token i t f)) refl refl
-bridged_opened NODE_PATH_REL i t f h = bridged_atom (one_branch NODE_PATH_REL (token i t f)) refl refl
-bridged_opened NODE_PATH_HOME i t f h = bridged_atom (one_branch NODE_PATH_HOME (token i t f)) refl refl
-bridged_opened NODE_ATTR_SET i t f h = bridged_atom (one_branch NODE_ATTR_SET (token i t f)) refl refl
-bridged_opened _ i t f h = absurd (true_is_not_false (sym h))
+pub followed_opened : (k i : SyntaxKind) (t : Token) (f : Sketch) → is_opened k ≡ true → FollowedTo (high_at k i) (one_branch k (token i t f))
+followed_opened NODE_UNARY_OP i t f h = followed_prefix i t f
+followed_opened NODE_LET_IN i t f h = followed_loose (one_branch NODE_LET_IN (token i t f)) refl refl
+followed_opened NODE_WITH i t f h = followed_loose (one_branch NODE_WITH (token i t f)) refl refl
+followed_opened NODE_ASSERT i t f h = followed_loose (one_branch NODE_ASSERT (token i t f)) refl refl
+followed_opened NODE_IF_ELSE i t f h = followed_loose (one_branch NODE_IF_ELSE (token i t f)) refl refl
+followed_opened NODE_PAREN i t f h = followed_atom (one_branch NODE_PAREN (token i t f)) refl refl
+followed_opened NODE_LIST i t f h = followed_atom (one_branch NODE_LIST (token i t f)) refl refl
+followed_opened NODE_STRING i t f h = followed_atom (one_branch NODE_STRING (token i t f)) refl refl
+followed_opened NODE_PATH_ABS i t f h = followed_atom (one_branch NODE_PATH_ABS (token i t f)) refl refl
+followed_opened NODE_PATH_REL i t f h = followed_atom (one_branch NODE_PATH_REL (token i t f)) refl refl
+followed_opened NODE_PATH_HOME i t f h = followed_atom (one_branch NODE_PATH_HOME (token i t f)) refl refl
+followed_opened NODE_ATTR_SET i t f h = followed_atom (one_branch NODE_ATTR_SET (token i t f)) refl refl
+followed_opened _ i t f h = absurd (true_is_not_false (sym h))
 
 -- what goes on with a node that is one item
-pub bridged_leafed : (k : SyntaxKind) (c : Sketch) → is_leafed k ≡ true → Bridged 16 (one_branch k c)
-bridged_leafed NODE_LITERAL c h = bridged_atom (one_branch NODE_LITERAL c) refl refl
-bridged_leafed NODE_PATH_SEARCH c h = bridged_atom (one_branch NODE_PATH_SEARCH c) refl refl
-bridged_leafed NODE_IDENT c h = bridged_atom (one_branch NODE_IDENT c) refl refl
-bridged_leafed NODE_CUR_POS c h = bridged_atom (one_branch NODE_CUR_POS c) refl refl
-bridged_leafed _ c h = absurd (true_is_not_false (sym h))
+pub followed_leafed : (k : SyntaxKind) (c : Sketch) → is_leafed k ≡ true → FollowedTo 16 (one_branch k c)
+followed_leafed NODE_LITERAL c h = followed_atom (one_branch NODE_LITERAL c) refl refl
+followed_leafed NODE_PATH_SEARCH c h = followed_atom (one_branch NODE_PATH_SEARCH c) refl refl
+followed_leafed NODE_IDENT c h = followed_atom (one_branch NODE_IDENT c) refl refl
+followed_leafed NODE_CUR_POS c h = followed_atom (one_branch NODE_CUR_POS c) refl refl
+followed_leafed _ c h = absurd (true_is_not_false (sym h))
 
 -- such a node is its own first tree
 pub first_opened : (k : SyntaxKind) (c f : Sketch) → is_opened k ≡ true → first_tree (branch k c f) ≡ k
@@ -148,22 +148,22 @@ first_leafed NODE_LAMBDA c f h = absurd (true_is_not_false (sym h))
 first_leafed _ c f h = refl
 
 -- the steps have read a tree of these items as an operand
-pub record Reading (level d n : ℕ) (zs : List Token) (x : Sketch) (us : List Token) (es : List Fault) (f : Frame) (fs : List Frame) (gs : List Fault) : Type 0 where
+pub record AreItemsRead (level d n : ℕ) (zs : List Token) (x : Sketch) (us : List Token) (es : List Fault) (f : Frame) (fs : List Frame) (gs : List Fault) : Type 0 where
   pub high : ℕ
-  pub bridged : Bridged high x
+  pub followed : FollowedTo high x
   pub runs : Runs false (operand_on false level d f fs (zs ++ us) (zs ++ us) n gs)
       (machine (opened Operand (p.Behind level high) d x ∷ (f ∷ fs)) us (end_from n zs) (gs ++ es))
 
 -- so it is at each level that the tree is tight enough for and begins at
 abbrev pub ReadsItems : ℕ → ℕ → List Token → Sketch → List Token → List Fault → Type 0
 ReadsItems d n zs x us es =
-    (level : ℕ) (f : Frame) (fs : List Frame) (gs : List Fault) → level ≤ row_level x → IsBegun level x (zs ++ us) → Reading level d n zs x us es f fs gs
+    (level : ℕ) (f : Frame) (fs : List Frame) (gs : List Fault) → level ≤ row_level x → IsBegun level x (zs ++ us) → AreItemsRead level d n zs x us es f fs gs
 
 -- a tree is read with the items that it has
 pub reads_items : (d n : ℕ) (zs : List Token) (x : Sketch) (us : List Token) (es : List Fault) → zs ≡ tokens_in x → ReadsItems d n zs x us es → ReadsTree d n x us es
 reads_items d n zs x us es e h level f fs gs low begun =
-    let r : Reading level d n (tokens_in x) x us es f fs gs = subst (λ (z : List Token). ReadsItems d n z x us es) e h level f fs gs low begun in
-    record { high = r.high; bridged = r.bridged; runs = r.runs }
+    let r : AreItemsRead level d n (tokens_in x) x us es f fs gs = subst (λ (z : List Token). ReadsItems d n z x us es) e h level f fs gs low begun in
+    record { high = r.high; followed = r.followed; runs = r.runs }
 
 -- a row of one node has the node's items
 pub one_items : (k : SyntaxKind) (c : Sketch) → tokens_in c ≡ tokens_in (one_branch k c)

@@ -1,0 +1,43 @@
+-- Rows that begin with one tree.
+use Rattle.std.proofs.Common.{◌≡◌, true, Option, Some, None, refl, ap, ◌∙◌}
+use Rattle.rnix_kinds.specs.declared.kinds.SyntaxKind.{SyntaxKind}
+use Rattle.rnix_kinds.specs.declared.kinds.SyntaxKind.TheVariants.{NODE_LAMBDA}
+use Rattle.rnix_grammar.specs.Sketch.{Token, Note, Sketch, blank, token, branch, fault, ◌⊕◌}
+use Rattle.rnix_grammar.specs.Rows.{is_atom}
+use Rattle.rnix_grammar.specs.Stands.{last_from}
+use Rattle.rnix_grammar.specs.TreeLevels.{is_atom_row, operator_in, calls_or, is_or_row}
+use Rattle.rnix_grammar.specs.Operands.{first_tree}
+use Rattle.rnix_lemmas.proofs.Basics.{some_same}
+
+-- one tree
+pub data IsSingle : Sketch → Type 0 where
+  a_node : {k : SyntaxKind} {c : Sketch} → IsSingle (branch k c blank)
+  an_error : {n : Note} {c : Sketch} → IsSingle (fault n c blank)
+
+-- what is behind the first tree does not change which kind it has
+first_rest : (k : SyntaxKind) (c f g : Sketch) → first_tree (branch k c f) ≡ first_tree (branch k c g)
+first_rest NODE_LAMBDA blank f g = refl
+first_rest NODE_LAMBDA (token i t h) f g = refl
+first_rest NODE_LAMBDA (branch i e h) f g = refl
+first_rest NODE_LAMBDA (fault i e h) f g = refl
+first_rest _ c f g = refl
+
+-- a row that begins with one tree has that tree's first tree
+pub first_in : (x g : Sketch) → IsSingle x → first_tree (x ⊕ g) ≡ first_tree x
+first_in _ g (a_node {k = k} {c = c}) = first_rest k c g blank
+first_in _ g an_error = refl
+
+-- the operator behind one tree
+pub single_operator : (x f : Sketch) (j : SyntaxKind) (t : Token) → IsSingle x → operator_in (x ⊕ token j t f) ≡ j
+single_operator _ f j t a_node = refl
+single_operator _ f j t an_error = refl
+
+-- the argument behind one tree
+pub single_calls : (x g : Sketch) → IsSingle x → calls_or (x ⊕ g) ≡ is_or_row g
+single_calls _ g a_node = refl
+single_calls _ g an_error = refl
+
+-- an atom alone is one
+pub single_atom : (f : Sketch) (k : SyntaxKind) → IsSingle f → ((b : Option SyntaxKind) → last_from b f ≡ Some k) → is_atom k ≡ true → is_atom_row f ≡ true
+single_atom f k (a_node {k = j}) l a = ap is_atom (some_same j k (l None)) ∙ a
+single_atom f k an_error l a = refl
