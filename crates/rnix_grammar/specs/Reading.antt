@@ -1,4 +1,4 @@
--- Which tree and which errors are the reading of a text. There is no other.
+-- Which tree and which errors are the reading of a text. Each text has one.
 use Rattle.std.specs.Prelude.{◌≡◌, List}
 use Rattle.rnix_kinds.specs.declared.kinds.SyntaxKind.TheVariants.{NODE_ROOT}
 use Rattle.rnix_kinds.specs.Lexical.Tokens.{Lexeme}

@@ -1,4 +1,4 @@
--- A text has one reading, and all that is promised follows from it.
+-- Each text has one reading, and all that is promised follows from it.
 use Rattle.std.proofs.Common.{◌≡◌, ℕ, ◌+◌, ◌≤◌, true, false, List, [], ◌∷◌, ◌++◌, length, refl, ap, sym, ◌∙◌, subst, append_assoc}
 use Rattle.std.specs.Prelude.{flat_map}
 use Rattle.rnix_kinds.specs.declared.kinds.SyntaxKind.TheVariants.{NODE_ROOT}
@@ -25,7 +25,8 @@ use Rattle.rnix_invariants.proofs.LastStep.{last_stands}
 use Rattle.rnix_invariants.proofs.NestWhole.{whole_nested}
 use Rattle.rnix_invariants.proofs.LimitWhole.{whole_limited}
 use Rattle.rnix_uniqueness.proofs.AllReads.{reads_runs, one_row}
-use Rattle.rnix_parser.proofs.ParsedLemmas.{parsed}
+use Rattle.rnix_reader.proofs.EachText.{each_read}
+use Rattle.rnix_parser.proofs.ParsedLemmas.{parsed, read_parsed}
 
 -- the items of a reading are those of the tokens
 reading_items : {ls : List Lexeme} {tree : Tree} {faults : List Fault} (r : IsReading ls tree faults) → tokens_in (clean r.sketch) ≡ items (placed_from 0 ls)
@@ -127,3 +128,9 @@ all_follows ls tree faults ruled r = by (raw_runs (reads_runs (clean r.sketch) f
         let read : IsParsed ls tree_read x.0.faults = parsed ls one.frame x.0 x.1.0 one.alone (ap (λ (f : Frame). f.head) one.clean) (ap (λ (f : Frame). f.place) one.clean) (ap (λ (m : Machine). m.left) x.1.1) ruled in
         let same : (tree_read ≡ tree) × (x.0.faults ≡ faults) = one_reading ls tree_read tree x.0.faults faults read.reading r in
         subst (λ (t : Tree). IsParsed ls t faults) same.0 (subst (λ (es : List Fault). IsParsed ls tree_read es) same.1 read)
+
+-- the tokens of a text have a reading
+pub has_reading : (ls : List Lexeme) → AreRuled ls → (tree : Tree) × ((faults : List Fault) × IsReading ls tree faults)
+has_reading ls ruled =
+    let r = each_read ls in
+    (r.0, (r.1.0, (read_parsed ls r.0 r.1.0 r.1.1 ruled).reading))

@@ -1,4 +1,4 @@
-//! A text has one reading at most, and what follows from it.
+//! Each text has one reading, and what follows from it.
 
 ghost use Rattle.std.specs.Prelude.{◌≡◌, ◌≤◌, List};
 ghost use Rattle.rnix_kinds.specs.Lexical.Tokens.{Lexeme, tokens_of};
@@ -17,6 +17,13 @@ ghost use Rattle.rnix_grammar.specs.Parsed.{IsParsed};
 pub fn one_reading()
     ensures { (tokens : List Lexeme) (t u : Tree) (ds es : List Fault) → IsReading tokens t ds → IsReading tokens u es → (t ≡ u) × (ds ≡ es) }
 {}
+
+/// Each text has a reading, whether memory is found for it or not.
+pub fn has_reading(text: &str)
+    ensures { (tree : Tree) × ((faults : List Fault) × IsReading (tokens_of text.now) tree faults) }
+{
+    let _len = text.len();
+}
 
 /// Two texts of which one tree is read are one text, with one list of errors.
 pub fn one_text(first: &str, second: &str)

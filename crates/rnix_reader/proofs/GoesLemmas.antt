@@ -80,7 +80,7 @@ closed_goes f g fs ts n es names b w o =
     goes_open (put g.place (g.row ⊕ made f.head f.row) g) fs ts n es names (holds_open (sort_of g.place) (sort_of f.place) w.fit.1) (pop f g fs names b w) o
 
 -- nodes that begin with an operand are plain
-abbrev BeginFits : Begin → Type 0
+abbrev pub BeginFits : Begin → Type 0
 BeginFits (b.Node k place high) = (sort_of_node k ≡ Plain) × (sort_of place ≡ Plain)
 BeginFits begin = Unit {0}
 
@@ -95,7 +95,7 @@ let_fits None = (refl, refl)
 let_fits (Some TOKEN_L_BRACE) = tt
 let_fits (Some kind) = (refl, refl)
 
-begin_fits : (level : ℕ) (kind : SyntaxKind) (text : List ℕ) (second third : Option SyntaxKind) → BeginFits (begin_of level kind text second third)
+pub begin_fits : (level : ℕ) (kind : SyntaxKind) (text : List ℕ) (second third : Option SyntaxKind) → BeginFits (begin_of level kind text second third)
 begin_fits level TOKEN_IDENT text second third = name_fits text second
 begin_fits level TOKEN_L_BRACE text second third = choice BeginFits (is_pattern second third) tt (refl, refl)
 begin_fits level TOKEN_INVERT text second third = choice BeginFits (nat_le level 9) (refl, refl) tt

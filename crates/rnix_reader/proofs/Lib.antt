@@ -17,3 +17,5 @@ pub mod LoopLemmas
 pub mod FinishLemmas
 pub mod DocumentLemmas
 pub mod BeginLemmas
+pub mod RootedFrames
+pub mod EachText

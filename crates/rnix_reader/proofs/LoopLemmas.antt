@@ -20,7 +20,7 @@ use Rattle.rnix_reader.proofs.StepLemmas.{given, step_is}
 use Rattle.rnix_reader.proofs.KeptLemmas.{Kept}
 use Rattle.rnix_reader.proofs.GoesLemmas.{Goes}
 use Rattle.rnix_reader.proofs.PerformLemmas.{perform_goes}
-use Rattle.rnix_reader.proofs.WorkLemmas.{cost_of, work_is, perform_less}
+use Rattle.rnix_reader.proofs.WorkLemmas.{cost_of, work_is, perform_less, fit_bottom}
 
 -- one more step
 pub runs_on : (raw : Bool) (a m : Machine) → Runs raw a m → Runs raw a (step raw m)
@@ -103,7 +103,7 @@ less m mark s s' s'' names action h e k a g f =
     by x xs ts n w al =
         let after : work s'' ≡ cost_of (perform true action x xs ts n m.faults) = ap work (f ∙ ap flat (step_is x xs ts n m mark s' names action w a)) ∙ work_is (perform true action x xs ts n m.faults) in
         let before : work s ≡ cost_of (machine (x ∷ xs) ts n m.faults) = ap work (h.state ∙ ap flat w.machine_is) ∙ work_is (machine (x ∷ xs) ts n m.faults) in
-        omega (arith, after, before, perform_less action x xs ts n m.faults w.well.fit al g)
+        omega (arith, after, before, perform_less action x xs ts n m.faults (fit_bottom x xs w.well.fit) al g)
 
 -- another action does not end the text
 pub not_finish : (action : Action) → (action ≡ a.Finish → ⊥) → is_finish action ≡ false

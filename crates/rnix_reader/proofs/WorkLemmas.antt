@@ -163,9 +163,9 @@ next_less [] place after h e = h.1
 next_less (t ∷ us) place after h e = absurd (cc)
 
 -- a node is complete
-closed_less : (f : Frame) (fs : List Frame) (ts : List Token) (n : ℕ) (es : List Fault) → AreFit f fs → is_root (sort_of f.place) ≡ false → bonus f.place ≡ 30
+closed_less : (f : Frame) (fs : List Frame) (ts : List Token) (n : ℕ) (es : List Fault) → (fs ≡ [] → is_root (sort_of f.place) ≡ true) → is_root (sort_of f.place) ≡ false → bonus f.place ≡ 30
     → cost_of (closed f fs ts n es) < cost (items ts) (f ∷ fs)
-closed_less f [] ts n es w r e = absurd (true_is_not_false (sym (ap is_root w.1) ∙ r))
+closed_less f [] ts n es w r e = absurd (true_is_not_false (sym (w refl) ∙ r))
 closed_less f (g ∷ fs) ts n es w r e = close_less (items ts) f.place g.place (weight_of fs) e
 
 -- an operand begins
@@ -217,12 +217,12 @@ nothing_there : (us : List Token) → us ≡ [] → is_there (head_kind us) ≡ 
 nothing_there [] e h = true_is_not_false (sym h)
 nothing_there (t ∷ us) e h = cc
 
--- each action
-pub perform_less : (action : Action) (f : Frame) (fs : List Frame) (ts : List Token) (n : ℕ) (es : List Fault) → AreFit f fs → Allowed f.place (head_kind (items ts)) action
+-- each action, where the lowest frame stands at a place of the root
+pub perform_less : (action : Action) (f : Frame) (fs : List Frame) (ts : List Token) (n : ℕ) (es : List Fault) → (fs ≡ [] → is_root (sort_of f.place) ≡ true) → Allowed f.place (head_kind (items ts)) action
     → is_finish action ≡ false → cost_of (perform true action f fs ts n es) < cost (items ts) (f ∷ fs)
 perform_less a.Close f fs ts n es w al g = closed_less f fs ts n es w (ap is_root al.0) al.1
 perform_less a.ClosePattern f fs ts n es w al g = closed_less f fs ts n es w (ap is_root al) (bonus_full f.place (ap is_plain al))
-perform_less a.CloseEntry f [] ts n es w al g = absurd (true_is_not_false (sym (ap is_root w.1) ∙ ap is_root al))
+perform_less a.CloseEntry f [] ts n es w al g = absurd (true_is_not_false (sym (w refl) ∙ ap is_root al))
 perform_less a.CloseEntry f (g' ∷ fs) ts n es w al g = closed_less f (g' ∷ fs) ts n es w (ap is_root al) (bonus_full f.place (ap is_plain al))
 perform_less a.CloseTwice f fs ts n es w al g = closed_less f fs ts n _ w (ap is_root al) (bonus_full f.place (ap is_plain al))
 perform_less a.Finish f fs ts n es w al g = absurd (true_is_not_false g)
@@ -270,3 +270,8 @@ perform_less a.Apply f fs ts n es w al g =
     }
 perform_less a.ApplyOr f fs ts n es w al g =
     omega (arith, there (items ts) al.0, left_behind ts, bonus_small (items (behind true ts)) (p.Behind (low_of f.place) 15))
+
+-- frames that fit stand on the root
+pub fit_bottom : (f : Frame) (fs : List Frame) → AreFit f fs → fs ≡ [] → is_root (sort_of f.place) ≡ true
+fit_bottom f [] w e = ap is_root w.1
+fit_bottom f (g ∷ fs) w e = absurd (cc)

@@ -3,14 +3,14 @@ use Rattle.std.proofs.Common.{[], ◌∷◌, refl}
 use Rattle.std.specs.Prelude.{codes}
 use Rattle.std.specs.Str.{chars}
 use Rattle.std.specs.Char.{encode_utf8}
-use Rattle.rnix_kinds.specs.declared.kinds.SyntaxKind.TheVariants.{NODE_IDENT_PARAM, NODE_IF_ELSE, NODE_LAMBDA, NODE_LEGACY_LET, NODE_LET_IN, NODE_UNARY_OP, TOKEN_DOT, TOKEN_IF, TOKEN_LET, TOKEN_L_BRACE, TOKEN_L_PAREN, TOKEN_R_PAREN, TOKEN_SUB}
+use Rattle.rnix_kinds.specs.declared.kinds.SyntaxKind.TheVariants.{NODE_IDENT_PARAM, NODE_IF_ELSE, NODE_LAMBDA, NODE_LEGACY_LET, NODE_LET_IN, NODE_UNARY_OP, NODE_WITH, TOKEN_COLON, TOKEN_COMMA, TOKEN_DOT, TOKEN_IF, TOKEN_LET, TOKEN_L_BRACE, TOKEN_L_PAREN, TOKEN_R_PAREN, TOKEN_SUB, TOKEN_WITH}
 use Rattle.rnix_kinds.specs.Lexical.Tokens.{normal_cut, cut_at, tokens_behind}
 use Rattle.rnix_kinds.specs.Lexical.Texts.{space_len, begins_space, char_len}
-use Rattle.rnix_grammar.specs.declared.until.Until.TheVariants.{RParen, Semicolon, Assign, Colon, Then, Else, Attr}
+use Rattle.rnix_grammar.specs.declared.until.Until.TheVariants.{RParen, RBrace, Semicolon, Assign, Colon, Then, Else, Attr, Entry}
 use Rattle.rnix_grammar.specs.Fault.{ended, named_twice, too_deep}
 use Rattle.rnix_grammar.specs.Sketch.{TooDeep}
 use Rattle.rnix_uniqueness.proofs.Refused.{done, item, node, wrong, Case, IsTold, is_told}
-use Rattle.rnix_uniqueness.proofs.ExampleWords.{nothing, paren, run, name, path, no_path, wrong_path, call, select, binary, function, function_of, entry, set, binding, no_list, stray, unwanteds, extras, within, is_extra, no_operand, instead, missing}
+use Rattle.rnix_uniqueness.proofs.ExampleWords.{nothing, paren, run, name, path, path_of, no_path, wrong_path, call, select, binary, function, function_of, entry, set, binding, no_list, stray, unwanteds, extras, within, is_extra, no_operand, instead, missing}
 
 -- `if[]`: not a call of a stray `if`
 abbrev condition : Case
@@ -228,3 +228,34 @@ shallow = record {
 shallow_told : IsTold shallow
 unfolding chars encode_utf8 tokens_behind normal_cut cut_at space_len begins_space char_len
 shallow_told = is_told shallow 60 refl refl
+
+-- `{,a`: a set, and not a function of a pattern
+abbrev comma : Case
+comma = record {
+  text = codes "{,a";
+  right = (
+    set (binding (path_of (unwanteds Attr 1 (name done))) done done) done,
+    instead Attr TOKEN_COMMA 1 2 ∷ missing Assign ∷ ended ∷ missing Semicolon ∷ ended ∷ [],
+  );
+  others = (
+    function_of (item (unwanteds Entry 1 (entry done))) done done,
+    instead Entry TOKEN_COMMA 1 2 ∷ missing RBrace ∷ missing Colon ∷ ended ∷ [],
+  )
+      ∷ [];
+}
+
+comma_told : IsTold comma
+unfolding chars encode_utf8 tokens_behind normal_cut cut_at space_len begins_space char_len
+comma_told = is_told comma 60 refl refl
+
+-- `with :`: not a stray `with`
+abbrev scope : Case
+scope = record {
+  text = codes "with :";
+  right = (node NODE_WITH (item (stray done)) done, no_operand TOKEN_COLON 5 6 ∷ missing Semicolon ∷ ended ∷ []);
+  others = (stray (extras 1), no_operand TOKEN_WITH 0 4 ∷ is_extra 5 6 ∷ []) ∷ [];
+}
+
+scope_told : IsTold scope
+unfolding chars encode_utf8 tokens_behind normal_cut cut_at space_len begins_space char_len
+scope_told = is_told scope 60 refl refl
