@@ -11,17 +11,15 @@ use Rattle.rnix_grammar.specs.Sketch.{Sketch, blank, token, branch, fault, one_t
 use Rattle.rnix_grammar.specs.Rows.{go, live, whole, start, is_atom}
 use Rattle.rnix_grammar.specs.Strict.{is_plain_name, is_named, is_strict_atom, first_is_atom, first_stands, calls_or, stands_at, is_grouped, is_strict}
 use Rattle.rnix_grammar.specs.Yield.{untold}
-use Rattle.rnix_grammar.specs.Tables.{is_or}
-use Rattle.rnix_grammar.specs.Tables.{is_cur_pos}
+use Rattle.rnix_grammar.specs.Tables.{is_or, is_cur_pos}
 use Rattle.rnix_grammar.specs.Plain.{is_node, AreUntold}
 use Rattle.rnix_lemmas.proofs.EveryKind.{only, whenever_two}
 use Rattle.rnix_lemmas.proofs.Basics.{true_is_not_false, not_if}
-use Rattle.rnix_lemmas.proofs.StrictParts.{Parts, parts}
-use Rattle.rnix_completeness.proofs.PlainChildren.{IsName, only_name, strict_node}
+use Rattle.rnix_lemmas.proofs.StrictParts.{Parts, parts, standing}
+use Rattle.rnix_lemmas.proofs.NodeKinds.{not_both}
+use Rattle.rnix_completeness.proofs.PlainNames.{IsName, only_name, strict_node}
 use Rattle.rnix_completeness.proofs.PlainFirsts.{Begins, begins_on}
 use Rattle.rnix_completeness.proofs.PlainLevels.{operator_most, prefix_most}
-use Rattle.rnix_lemmas.proofs.StrictParts.{standing}
-use Rattle.rnix_lemmas.proofs.NodeKinds.{not_both}
 
 -- a row that begins with a token that passes a test
 pub begins_leaf : (test : SyntaxKind → Bool) (j : SyntaxKind) → whole (start j) ≡ false

@@ -2,21 +2,27 @@
 use Rattle.std.proofs.Common.{◌≡◌, ℕ, Bool, true, false, List, [], ◌∷◌, refl, ap, sym, ◌∙◌, subst}
 use Rattle.std.proofs.lemmas.Bool.{and_parts}
 use Rattle.std.specs.Prelude.{if◌then◌else◌}
-use Rattle.std.specs.Str.{bytes_eq}
 use Rattle.rnix_kinds.specs.declared.kinds.SyntaxKind.{SyntaxKind}
-use Rattle.rnix_kinds.specs.declared.kinds.SyntaxKind.TheVariants.{TOKEN_IDENT, NODE_IDENT, NODE_PAT_ENTRY}
 use Rattle.rnix_grammar.specs.Fault.{named_twice}
-use Rattle.rnix_grammar.specs.Sketch.{Token, Sketch, blank, token, branch, fault, ◌⊕◌, one_token, one_branch, extent_of, forget}
-use Rattle.rnix_grammar.specs.Reports.{entry_name, is_same_name, has_entry, repeated}
-use Rattle.rnix_grammar.specs.Rows.{Spot, go, live, whole, start}
-use Rattle.rnix_grammar.specs.Strict.{is_or_name, begins_with_leaf, first_is_no_or, entry_text, are_entries_new, is_strict}
 use Rattle.rnix_grammar.specs.Tables.{is_among}
-use Rattle.rnix_grammar.specs.Plain.{is_node, AreUntold}
+use Rattle.rnix_grammar.specs.Sketch.{Token, Sketch, blank, token, branch, fault, ◌⊕◌, one_token, one_branch, forget, extent_of}
+use Rattle.rnix_grammar.specs.Reports.{repeated, repeats, entry_name, is_same_name, has_entry}
+use Rattle.rnix_grammar.specs.Rows.{Spot, go, live, whole, start}
+use Rattle.rnix_grammar.specs.Strict.{is_strict, is_or_name, begins_with_leaf, first_is_no_or, entry_text, are_entries_new}
+use Rattle.rnix_grammar.specs.Plain.{AreUntold, is_node}
+use Rattle.std.specs.Str.{bytes_eq}
+use Rattle.rnix_kinds.specs.declared.kinds.SyntaxKind.TheVariants.{TOKEN_IDENT, NODE_IDENT, NODE_PAT_ENTRY}
 use Rattle.rnix_lemmas.proofs.Basics.{true_is_not_false}
 use Rattle.rnix_lemmas.proofs.EntryNames.{has-⊕}
 use Rattle.rnix_lemmas.proofs.StrictParts.{Parts, parts}
-use Rattle.rnix_completeness.proofs.PlainRows.{AreNew}
-use Rattle.rnix_completeness.proofs.PlainChildren.{strict_node, IsIdent, only_ident}
+use Rattle.rnix_completeness.proofs.PlainNames.{strict_node, IsIdent, only_ident}
+
+-- no entry of a pattern repeats a name of one before it
+abbrev pub AreNew : Sketch → Sketch → Type 0
+AreNew g blank = Unit {0}
+AreNew g (token k t f) = AreNew (g ⊕ one_token k t) f
+AreNew g (branch k c f) = (repeats k g c ≡ []) × AreNew (g ⊕ one_branch k c) f
+AreNew g (fault n c f) = ⊥
 
 -- names that are not among these are of no entry so far
 abbrev pub Covers : List (List ℕ) → Sketch → Type 0

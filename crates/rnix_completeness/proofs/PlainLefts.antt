@@ -1,23 +1,35 @@
 -- An operator may follow a tree that may be its left operand.
-use Rattle.std.specs.Prelude.{nat_le}
+use Rattle.std.proofs.Common.{◌≡◌, ℕ, suc, ◌≤◌, Bool, true, false, refl, ap, sym, ◌∙◌, arith}
+use Rattle.std.specs.Prelude.{if◌then◌else◌, nat_le}
 use Rattle.std.proofs.lemmas.Bool.Decides.{nat_tests}
-use Rattle.std.proofs.Common.{◌≡◌, ◌≤◌, Bool, true, false, refl, arith, sym}
-use Rattle.std.proofs.lemmas.Bool.{and_parts}
 use Rattle.rnix_kinds.specs.declared.kinds.SyntaxKind.{SyntaxKind}
+use Rattle.rnix_grammar.specs.declared.place.Place.TheVariants as p
+use Rattle.rnix_grammar.specs.Levels.{power, high_of, left_of, right_of}
+use Rattle.rnix_grammar.specs.Sketch.{Sketch, blank, token, branch, fault, forget}
+use Rattle.rnix_lemmas.proofs.Basics.{true_is_not_false}
+use Rattle.rnix_lemmas.proofs.PlainTables.{high_in, operator_high, prefix_high}
+use Rattle.rnix_lemmas.proofs.StrictParts.{parts, left_least}
+use Rattle.rnix_grammar.specs.Rows.{is_infix, BeforeOperator, At, go, live, start, to, is_operand}
+use Rattle.rnix_lemmas.proofs.LevelLemmas.{is_left, sided, operates}
+use Rattle.std.proofs.lemmas.Bool.{and_parts}
 use Rattle.rnix_kinds.specs.declared.kinds.SyntaxKind.TheVariants.{TOKEN_INVERT, NODE_ASSERT, NODE_BIN_OP, NODE_IF_ELSE, NODE_LAMBDA, NODE_LEGACY_LET, NODE_LET_IN, NODE_UNARY_OP, NODE_WITH}
 use Rattle.rnix_lemmas.proofs.EveryKind.{whenever_both}
-use Rattle.rnix_lemmas.proofs.Basics.{true_is_not_false}
-use Rattle.rnix_grammar.specs.declared.place.Place.TheVariants as p
-use Rattle.rnix_grammar.specs.Levels.{power, left_of, right_of}
-use Rattle.rnix_grammar.specs.Sketch.{Sketch, blank, token, branch, fault, forget}
-use Rattle.rnix_grammar.specs.Rows.{BeforeOperator, At, go, live, start, to, is_infix, is_operand}
 use Rattle.rnix_grammar.specs.Strict.{is_strict, level_of, operator_of, prefix_level}
 use Rattle.rnix_grammar.specs.Plain.{AreUntold}
-use Rattle.rnix_lemmas.proofs.LevelLemmas.{operates}
-use Rattle.rnix_lemmas.proofs.PlainTables.{high_in, operator_high, prefix_high}
-use Rattle.rnix_lemmas.proofs.StrictParts.{parts}
-use Rattle.rnix_completeness.proofs.PlainWraps.{high_rule}
-use Rattle.rnix_lemmas.proofs.StrictParts.{left_least}
+
+-- levels that group otherwise differ
+levels_apart : (m n : ℕ) → is_left m ≡ true → is_left n ≡ false → m ≡ n → ⊥
+levels_apart m n e f h = true_is_not_false (sym e ∙ ap is_left h ∙ f)
+
+-- an operator whose left operand another has made may follow it
+pub high_rule : (j k : SyntaxKind) → is_infix j ≡ true → is_infix k ≡ true → left_of j ≤ power k → power j ≤ high_of k
+high_rule j k h i l = by (is_left (power j)) (is_left (power k)) refl refl (sided j h).left (sided k i).high
+  where
+    by : (x y : Bool) → is_left (power j) ≡ x → is_left (power k) ≡ y → left_of j ≡ (if x then power j else suc (power j)) → suc (high_of k) ≡ (if y then suc (power k) else power k) → power j ≤ high_of k
+    by true true e f u v = omega (arith, u, v, l)
+    by false true e f u v = omega (arith, u, v, l)
+    by false false e f u v = omega (arith, u, v, l)
+    by true false e f u v = omega (arith, u, v, l, levels_apart (power j) (power k) e f)
 
 -- the operator of a strict tree
 pub operator_infix : (l j : SyntaxKind) → live (go (to (is_operand l) BeforeOperator) j) ≡ true → is_infix j ≡ true

@@ -1,50 +1,41 @@
--- The items of series are read where they stand.
+-- What stands behind the items of series.
 use Rattle.rnix_kinds.proofs.AllKinds.{implied}
-use Rattle.std.proofs.Common.{◌≡◌, ℕ, ◌≤◌, Bool, true, false, List, ◌++◌, Option, Some, refl, ap, sym, ◌∙◌, subst, arith}
+use Rattle.std.proofs.Common.{◌≡◌, ℕ, ◌≤◌, true, false, List, ◌++◌, Option, Some, refl, ap, sym, ◌∙◌, subst, arith}
 use Rattle.std.proofs.lemmas.Bool.{and_parts}
-use Rattle.std.specs.Prelude.{if◌then◌else◌}
 use Rattle.rnix_kinds.specs.declared.kinds.SyntaxKind.{SyntaxKind}
-use Rattle.rnix_kinds.specs.declared.kinds.SyntaxKind.TheVariants.{TOKEN_INTERPOL_END, TOKEN_R_BRACK}
+use Rattle.rnix_kinds.specs.declared.kinds.SyntaxKind.TheVariants.{TOKEN_INTERPOL_END, TOKEN_R_BRACK, NODE_PAT_BIND}
 use Rattle.rnix_kinds.specs.SyntaxKind.{is_fn_arg}
-use Rattle.rnix_lemmas.proofs.Basics.{true_is_not_false, not_if}
+use Rattle.rnix_lemmas.proofs.Basics.{true_is_not_false}
 use Rattle.rnix_grammar.specs.declared.place.Place.{Place}
 use Rattle.rnix_grammar.specs.declared.place.Place.TheVariants as p
 use Rattle.rnix_grammar.specs.declared.slot.Slot.TheVariants as s
 use Rattle.rnix_grammar.specs.declared.until.Closer.{Closer}
 use Rattle.rnix_grammar.specs.declared.until.Closer.TheVariants as c
-use Rattle.rnix_grammar.specs.declared.action.Action.TheVariants as a
-use Rattle.rnix_grammar.specs.Tables.{closes}
-use Rattle.rnix_grammar.specs.Actions.{done_at, series_action}
 use Rattle.rnix_grammar.specs.Slots.{slot_at, level_in}
 use Rattle.rnix_grammar.specs.Sketch.{Token, Sketch, blank, token, branch, fault, tokens_in, head_kind, forget}
-use Rattle.rnix_grammar.specs.Sketch.{touches}
-use Rattle.rnix_grammar.specs.Rows.{Spot, At, go, go_slot, live, to, is_expression, fits}
-use Rattle.rnix_grammar.specs.Strict.{stands_at, stands_in, is_strict}
+use Rattle.rnix_grammar.specs.Rows.{At, go, live, is_expression, fits}
+use Rattle.rnix_grammar.specs.Strict.{stands_at, stands_in, is_strict, may_stand}
 use Rattle.rnix_grammar.specs.Corners.{node_count}
 use Rattle.rnix_grammar.specs.Plain.{is_node, AreUntold}
-use Rattle.rnix_grammar.specs.Slots.{is_counted}
-use Rattle.rnix_lemmas.proofs.PlainTables.{loose, below, is_in_dynamic}
-use Rattle.rnix_completeness.proofs.PlainSteps.{spelled_kind, to_test}
+use Rattle.rnix_lemmas.proofs.PlainTables.{loose, below}
+use Rattle.rnix_completeness.proofs.RowAsks.{in_dynamic}
 use Rattle.rnix_lemmas.proofs.NodeKinds.{expression_node, fits_expression, not_both}
 use Rattle.rnix_lemmas.proofs.StrictParts.{Parts, parts}
-use Rattle.rnix_completeness.proofs.PlainRows.{Child}
-use Rattle.rnix_completeness.proofs.PlainChildren.{strict_node}
-use Rattle.rnix_completeness.proofs.PlainStood.{may_operand, wanted_child}
-use Rattle.rnix_completeness.proofs.PlainFirsts.{closer_leaf, Begins, begins_on}
-use Rattle.rnix_completeness.proofs.PlainBegins.{first_argument}
-use Rattle.rnix_completeness.proofs.PlainStarts.{is_expression_start, first_expression}
-use Rattle.rnix_completeness.proofs.PlainRead.{InSlot}
 use Rattle.rnix_lemmas.proofs.OpeningRows.{live_to}
 use Rattle.rnix_lemmas.proofs.PlaceTables.{series_is}
-
--- no token that begins an expression closes a series
-no_closer : (closer : Closer) (i : SyntaxKind) → is_expression_start i ≡ true → closes closer i ≡ false
-no_closer c.In i h = not_if (closes c.In i) (implied is_expression_start (λ k. if closes c.In k then false else true) refl i h)
-no_closer closer i h = not_if (closes closer i) (implied is_expression_start (λ k. if closes closer k then false else true) refl i h)
+use Rattle.rnix_tree.specs.Forest.{Forest}
+use Rattle.rnix_completeness.proofs.PlainNames.{unnamed, strict_node}
+use Rattle.rnix_completeness.proofs.PlainFirsts.{Begins, begins_on}
+use Rattle.rnix_completeness.proofs.PlainBegins.{first_argument}
 
 -- a token that begins an argument is looser than `.`
 pub argument_loose : (i : SyntaxKind) → is_fn_arg i ≡ true → loose 15 (Some i) ≡ true
 argument_loose = implied is_fn_arg (λ k. loose 15 (Some k)) refl
+
+-- an expression may stand where its level may
+pub may_operand : (j : SyntaxKind) (x : Place) (c : Forest) → is_expression j ≡ true → may_stand (At x) j c ≡ stands_in (level_in (slot_at x)) j c
+may_operand NODE_PAT_BIND x c h = absurd (cc)
+may_operand _ x c h = refl
 
 -- what stands where a level is wanted
 stands_there : (x : Place) (level : ℕ) (j : SyntaxKind) (b f : Sketch) → level_in (slot_at x) ≡ Some level → is_expression j ≡ true → Parts (At x) j (forget b) (forget f) → stands_at level j (forget b) ≡ true
@@ -63,7 +54,7 @@ list_next : (f : Sketch) (us : List Token) → is_strict (At p.ListInside) (forg
 list_next blank us h v = absurd (true_is_not_false (sym h))
 list_next (token i t f) us h v =
     let l = and_parts (live (go (At p.ListInside) i)) (is_strict (go (At p.ListInside) i) (forget f)) h in
-    ap (λ (k : SyntaxKind). loose 15 (Some k)) (spelled_kind p.ListInside i t l.0 v.1) ∙ list_leaf i v.0 l.0
+    ap (λ (k : SyntaxKind). loose 15 (Some k)) (unnamed (At p.ListInside) i t refl l.0 v.1) ∙ list_leaf i v.0 l.0
 list_next (branch i b f) us h v =
     let m : Parts (At p.ListInside) i (forget b) (forget f) = parts (At p.ListInside) i (forget b) (forget f) h in
     let e : is_expression i ≡ true = list_node i (strict_node i b v.0 m.inner) m.live in
@@ -80,32 +71,13 @@ dynamic_next : (f : Sketch) (us : List Token) → is_strict (At p.DynamicInside)
 dynamic_next blank us h v l = absurd (true_is_not_false (sym h))
 dynamic_next (token i t f) us h v l =
     let q = and_parts (live (go (At p.DynamicInside) i)) (is_strict (go (At p.DynamicInside) i) (forget f)) h in
-    ap (λ (k : SyntaxKind). loose 0 (Some k)) (spelled_kind p.DynamicInside i t q.0 v.1) ∙ dynamic_leaf i v.0 q.0
+    ap (λ (k : SyntaxKind). loose 0 (Some k)) (unnamed (At p.DynamicInside) i t refl q.0 v.1) ∙ dynamic_leaf i v.0 q.0
 dynamic_next (branch i b f) us h v l = absurd (omega (arith, l))
 dynamic_next (fault n b f) us h v l = absurd v
 
-series_next : (x : Place) (level : ℕ) (closer : Closer) → slot_at x ≡ s.Series level closer → (f : Sketch) (us : List Token) → is_strict (At x) (forget f) ≡ true → AreUntold f
-    → (is_in_dynamic x ≡ true → node_count (forget f) ≤ 0) → loose (below level) (head_kind (tokens_in f ++ us)) ≡ true
+-- what may follow an item of a series stands behind it
+pub series_next : (x : Place) (level : ℕ) (closer : Closer) → slot_at x ≡ s.Series level closer → (f : Sketch) (us : List Token) → is_strict (At x) (forget f) ≡ true → AreUntold f
+    → (in_dynamic (At x) ≡ true → node_count (forget f) ≤ 0) → loose (below level) (head_kind (tokens_in f ++ us)) ≡ true
 series_next p.ListInside level closer e f us h v l = subst (λ m. loose (below m) (head_kind (tokens_in f ++ us)) ≡ true) (series_is 16 level c.RBrack closer e) (list_next f us h v)
 series_next p.DynamicInside level closer e f us h v l = subst (λ m. loose (below m) (head_kind (tokens_in f ++ us)) ≡ true) (series_is 0 level c.InterpolEnd closer e) (dynamic_next f us h v (l refl))
 series_next _ level closer e f us h v l = absurd (cc)
-
--- an item of a series is read
-pub in_series : (level : ℕ) (closer : Closer) → InSlot (s.Series level closer)
-in_series level closer j c f tree deep row k x y d n g F fs us es w e h v = by (closes closer j) refl h
-  where
-    q : Parts (At x) j (forget c) (forget f)
-    q = parts (At x) j (forget c) (forget f) w.strict
-
-    item : fits level j ≡ true → x ≡ y → Child k x y d n g j c F fs (tokens_in f ++ us) es
-    item u o =
-        let stands : stands_at level j (forget c) ≡ true = stands_there x level j c f (ap level_in e) (fits_expression level j u) q in
-        let b : Begins is_expression_start c = first_expression c level j stands q.grouped q.inner w.spelled.0 in
-        wanted_child j c f tree k x y level true d n g F fs us es w (ap is_counted e) stands
-        (series_next x level closer e f us (subst (λ (r : Spot). is_strict r (forget f) ≡ true) (ap (λ r. go_slot r x j) e ∙ h ∙ ap (λ r. At r) (sym o)) q.more) w.spelled.1 (λ m. omega (arith, w.lone m)))
-        (ap (λ r. done_at r x (head_kind (tokens_in c ++ (tokens_in f ++ us))) (touches n (tokens_in c ++ (tokens_in f ++ us)))) e
-        ∙ ap (λ r. series_action level closer x r) (b.is (tokens_in f ++ us)) ∙ ap (λ r. if r then a.Take p.Past else a.Read level true x) (no_closer closer b.kind b.passes) ∙ ap (λ r. a.Read level true r) o)
-
-    by : (r : Bool) → closes closer j ≡ r → (if r then At p.Past else to (fits level j) (At x)) ≡ At y → Child k x y d n g j c F fs (tokens_in f ++ us) es
-    by true u o = absurd (not_both j (closer_leaf closer j u) v)
-    by false u o = let r = to_test (fits level j) x y o in item r.0 r.1

@@ -1,34 +1,26 @@
--- Sets and lets are read as operands.
+-- Before the rest of a strict set `{` begins no pattern, and the rest of a strict `let` begins with no brace.
 use Rattle.rnix_kinds.proofs.AllKinds.{implied}
-use Rattle.std.proofs.Common.{◌≡◌, inl, inr, Bool, true, false, List, ◌∷◌, ◌++◌, Option, Some, None, refl, ap, sym, ◌∙◌, subst, append_assoc, arith}
+use Rattle.std.proofs.Common.{◌≡◌, inl, inr, Bool, true, false, List, ◌∷◌, ◌++◌, Option, Some, None, refl, ap, sym, ◌∙◌, subst, append_assoc}
 use Rattle.std.proofs.lemmas.Bool.{and_parts}
-use Rattle.std.specs.Prelude.{if◌then◌else◌}
 use Rattle.rnix_kinds.specs.declared.kinds.SyntaxKind.{SyntaxKind}
-use Rattle.rnix_kinds.specs.declared.kinds.SyntaxKind.TheVariants.{TOKEN_ASSIGN, TOKEN_AT, TOKEN_COLON, TOKEN_DOT, TOKEN_ELLIPSIS, TOKEN_IDENT, TOKEN_IN, TOKEN_INHERIT, TOKEN_INTERPOL_START, TOKEN_L_BRACE, TOKEN_LET, TOKEN_OR, TOKEN_R_BRACE, TOKEN_REC, TOKEN_STRING_START, NODE_ATTRPATH, NODE_ATTRPATH_VALUE, NODE_ATTR_SET, NODE_DYNAMIC, NODE_IDENT, NODE_INHERIT, NODE_LEGACY_LET, NODE_LET_IN, NODE_STRING}
+use Rattle.rnix_kinds.specs.declared.kinds.SyntaxKind.TheVariants.{TOKEN_ASSIGN, TOKEN_AT, TOKEN_COLON, TOKEN_DOT, TOKEN_ELLIPSIS, TOKEN_IDENT, TOKEN_IN, TOKEN_INHERIT, TOKEN_INTERPOL_START, TOKEN_L_BRACE, TOKEN_OR, TOKEN_R_BRACE, TOKEN_STRING_START, NODE_ATTRPATH, NODE_ATTRPATH_VALUE, NODE_DYNAMIC, NODE_IDENT, NODE_INHERIT, NODE_LET_IN, NODE_STRING}
 use Rattle.rnix_grammar.specs.declared.place.Place.TheVariants as p
 use Rattle.rnix_grammar.specs.declared.begin.Begin.TheVariants as b
-use Rattle.rnix_grammar.specs.Begins.{is_pattern, begin_of, begin_let}
-use Rattle.rnix_grammar.specs.Sketch.{Token, Sketch, blank, token, branch, fault, one_token, tokens_in, told_as, head_kind, forget}
-use Rattle.rnix_grammar.specs.Machine.{begun, machine, Node, Operand, Frame, opened}
-use Rattle.rnix_grammar.specs.Begins.{second_kind}
-use Rattle.rnix_grammar.specs.Rows.{Spot, BeforeBrace, At, go, live, start, to, is_attr}
+use Rattle.rnix_grammar.specs.Begins.{is_pattern, begin_let, second_kind}
+use Rattle.rnix_grammar.specs.Sketch.{Token, Sketch, blank, token, branch, fault, tokens_in, head_kind, forget}
+use Rattle.rnix_grammar.specs.Rows.{Spot, At, go, live, start, to, is_attr}
 use Rattle.rnix_grammar.specs.Strict.{is_strict}
 use Rattle.rnix_grammar.specs.Plain.{is_node, AreUntold}
-use Rattle.rnix_lemmas.proofs.EveryKind.{tokens_alone, not_alone}
+use Rattle.rnix_lemmas.proofs.EveryKind.{not_alone}
 use Rattle.rnix_lemmas.proofs.Basics.{true_is_not_false}
 use Rattle.rnix_lemmas.proofs.PlainTables.{loose}
 use Rattle.rnix_lemmas.proofs.StrictParts.{Parts, parts}
-use Rattle.rnix_completeness.proofs.PlainChildren.{Deeper, IsName, only_name, strict_node, opening_inherit, opening_string, opening_dynamic}
-use Rattle.rnix_completeness.proofs.PlainSlots.{Tree, follows}
-use Rattle.rnix_completeness.proofs.PlainFirsts.{is_attr_start, Begins, first_opened, attr_leaf, first_value, begins_on}
-use Rattle.rnix_completeness.proofs.PlainAtoms.{past_blank}
-use Rattle.rnix_completeness.proofs.PlainTrees.{Deepest, runs_from, opened_fit, opened_raised, loosest}
 use Rattle.rnix_lemmas.proofs.NodeKinds.{not_both}
 use Rattle.rnix_lemmas.proofs.OpeningRows.{live_to}
-
--- `{` begins a pattern before these items
-abbrev pub opens_pattern : List Token → Bool
-opens_pattern ts = is_pattern (head_kind ts) (second_kind ts)
+use Rattle.rnix_completeness.proofs.PlainNames.{IsName, only_name, strict_node, past_blank}
+use Rattle.rnix_completeness.proofs.PlainFirsts.{opening_inherit, opening_string, opening_dynamic, is_attr_start, Begins, first_opened, attr_leaf, first_value, begins_on}
+use Rattle.rnix_completeness.proofs.PlainFollows.{follows}
+use Rattle.rnix_completeness.proofs.PlainPatterns.{opens_pattern}
 
 -- with these it begins none, whatever comes next
 abbrev pub is_no_formal : SyntaxKind → Bool
@@ -72,8 +64,8 @@ first_opens k ts e h = ap (λ z. is_pattern z (second_kind ts)) e ∙ no_formal 
 attr_opens : (j : SyntaxKind) (c : Sketch) (vs : List Token) → is_attr j ≡ true → is_strict (start j) (forget c) ≡ true → AreUntold c → is_pattern (Some TOKEN_IDENT) (head_kind vs) ≡ false
     → opens_pattern (tokens_in c ++ vs) ≡ false
 attr_opens NODE_IDENT c vs a h v e = name_opens c vs (only_name c h v) e
-attr_opens NODE_STRING c vs a h v e = first_opens TOKEN_STRING_START (tokens_in c ++ vs) (first_opened NODE_STRING TOKEN_STRING_START p.StringInside opening_string c h v vs) refl
-attr_opens NODE_DYNAMIC c vs a h v e = first_opens TOKEN_INTERPOL_START (tokens_in c ++ vs) (first_opened NODE_DYNAMIC TOKEN_INTERPOL_START p.DynamicInside opening_dynamic c h v vs) refl
+attr_opens NODE_STRING c vs a h v e = first_opens TOKEN_STRING_START (tokens_in c ++ vs) (first_opened NODE_STRING TOKEN_STRING_START opening_string c h v vs) refl
+attr_opens NODE_DYNAMIC c vs a h v e = first_opens TOKEN_INTERPOL_START (tokens_in c ++ vs) (first_opened NODE_DYNAMIC TOKEN_INTERPOL_START opening_dynamic c h v vs) refl
 attr_opens _ c vs a h v e = absurd (true_is_not_false (sym a))
 
 path_opens : (c : Sketch) (vs : List Token) → is_strict (At p.AttrpathStart) (forget c) ≡ true → AreUntold c → is_pattern (Some TOKEN_IDENT) (head_kind vs) ≡ false
@@ -109,7 +101,7 @@ set_opens (token _ t f) us h v l = absurd (not_alone refl v.0 h)
 set_opens (branch NODE_INHERIT c f) us h v l =
     ap opens_pattern (append_assoc (tokens_in c) (tokens_in f) us)
     ∙ first_opens TOKEN_INHERIT (tokens_in c ++ (tokens_in f ++ us))
-    (first_opened NODE_INHERIT TOKEN_INHERIT p.InheritStart opening_inherit c (parts (At p.SetInside) NODE_INHERIT (forget c) (forget f) h).inner v.0 (tokens_in f ++ us)) refl
+    (first_opened NODE_INHERIT TOKEN_INHERIT opening_inherit c (parts (At p.SetInside) NODE_INHERIT (forget c) (forget f) h).inner v.0 (tokens_in f ++ us)) refl
 set_opens (branch NODE_ATTRPATH_VALUE c f) us h v l =
     ap opens_pattern (append_assoc (tokens_in c) (tokens_in f) us)
     ∙ value_opens c (tokens_in f ++ us) (parts (At p.SetInside) NODE_ATTRPATH_VALUE (forget c) (forget f) h).inner v.0
@@ -117,29 +109,13 @@ set_opens (branch TOKEN_R_BRACE c f) us h v l = absurd (not_both TOKEN_R_BRACE r
 set_opens (branch _ c f) us h v l = absurd (true_is_not_false (sym h))
 set_opens (fault n c f) us h v l = absurd v
 
--- sets are read
-pub tree_attr_set : (c : Sketch) → Deeper c → Tree NODE_ATTR_SET c
-tree_attr_set blank r level d n F fs us es v = absurd (true_is_not_false (sym v.inner))
-tree_attr_set (token TOKEN_REC t c) r level d n F fs us es v =
-    opened_raised NODE_ATTR_SET TOKEN_REC p.SetBrace 16 t c r level d n F fs us es (ap (λ s. begin_of level s t.text (head_kind (tokens_in c ++ us)) (second_kind (tokens_in c ++ us))) v.spelled.1)
-    (ap (λ s. told_as NODE_ATTR_SET s) v.spelled.1) (omega arith) (opened_fit NODE_ATTR_SET TOKEN_REC p.SetBrace t c level d us v refl refl (λ y. absurd (true_is_not_false (sym y))) refl refl refl refl)
-tree_attr_set (token TOKEN_L_BRACE t c) r level d n F fs us es v =
-    opened_raised NODE_ATTR_SET TOKEN_L_BRACE p.SetInside 16 t c r level d n F fs us es
-    (ap (λ s. begin_of level s t.text (head_kind (tokens_in c ++ us)) (second_kind (tokens_in c ++ us))) v.spelled.1
-    ∙ ap (λ w. if w then b.PatternLambda else b.Node NODE_ATTR_SET p.SetInside 16) (set_opens c us v.inner v.spelled.2 v.calm))
-    (ap (λ s. told_as NODE_ATTR_SET s) v.spelled.1) (omega arith) (opened_fit NODE_ATTR_SET TOKEN_L_BRACE p.SetInside t c level d us v refl refl (λ y. absurd (true_is_not_false (sym y))) refl refl refl refl)
-tree_attr_set (token _ t c) r level d n F fs us es v = absurd (true_is_not_false (sym v.inner))
-tree_attr_set (branch i c f) r level d n F fs us es v =
-    let m : Parts (start NODE_ATTR_SET) i (forget c) (forget f) = parts (start NODE_ATTR_SET) i (forget c) (forget f) v.inner in
-    absurd (not_both i (tokens_alone (λ j. live (go (start NODE_ATTR_SET) j)) refl i m.live) (strict_node i c v.spelled.0 m.inner))
-tree_attr_set (fault i c f) r level d n F fs us es v = absurd v.spelled
-
 -- behind `let` that is no brace
 abbrev pub is_no_brace : SyntaxKind → Bool
 is_no_brace TOKEN_L_BRACE = false
 is_no_brace kind = true
 
-new_let : (k : SyntaxKind) → is_no_brace k ≡ true → begin_let (Some k) ≡ b.Node NODE_LET_IN p.LetInside 0
+-- where no brace follows, a `let` has bindings
+pub new_let : (k : SyntaxKind) → is_no_brace k ≡ true → begin_let (Some k) ≡ b.Node NODE_LET_IN p.LetInside 0
 new_let TOKEN_L_BRACE h = absurd (true_is_not_false (sym h))
 new_let _ h = refl
 
@@ -147,14 +123,14 @@ attr_no_brace : (k : SyntaxKind) → is_attr_start k ≡ true → is_no_brace k 
 attr_no_brace = implied is_attr_start is_no_brace refl
 
 -- the rest of a new let begins with no brace
-let_begins : (c : Sketch) → is_strict (At p.LetInside) (forget c) ≡ true → AreUntold c → Begins is_no_brace c
+pub let_begins : (c : Sketch) → is_strict (At p.LetInside) (forget c) ≡ true → AreUntold c → Begins is_no_brace c
 let_begins blank h v = absurd (true_is_not_false (sym h))
 let_begins (token TOKEN_IN t f) h v = record { kind = TOKEN_IN; is = λ us. ap (λ (s : SyntaxKind). Some s) v.1; passes = refl }
 let_begins (token _ t f) h v = absurd (not_alone refl v.0 h)
 let_begins (branch NODE_INHERIT c f) h v =
     begins_on is_no_brace NODE_INHERIT c f (record {
       kind = TOKEN_INHERIT;
-      is = first_opened NODE_INHERIT TOKEN_INHERIT p.InheritStart opening_inherit c (parts (At p.LetInside) NODE_INHERIT (forget c) (forget f) h).inner v.0;
+      is = first_opened NODE_INHERIT TOKEN_INHERIT opening_inherit c (parts (At p.LetInside) NODE_INHERIT (forget c) (forget f) h).inner v.0;
       passes = refl;
     })
 let_begins (branch NODE_ATTRPATH_VALUE c f) h v =
@@ -163,61 +139,3 @@ let_begins (branch NODE_ATTRPATH_VALUE c f) h v =
 let_begins (branch TOKEN_IN c f) h v = absurd (not_both TOKEN_IN refl (strict_node TOKEN_IN c v.0 (parts (At p.LetInside) TOKEN_IN (forget c) (forget f) h).inner))
 let_begins (branch _ c f) h v = absurd (true_is_not_false (sym h))
 let_begins (fault n c f) h v = absurd v
-
--- lets are read
-pub tree_let_in : (c : Sketch) → Deeper c → Tree NODE_LET_IN c
-tree_let_in blank r level d n F fs us es v = absurd (true_is_not_false (sym v.inner))
-tree_let_in (token TOKEN_LET t c) r level d n F fs us es v =
-    let m : Begins is_no_brace c = let_begins c v.inner v.spelled.2 in
-    opened_raised NODE_LET_IN TOKEN_LET p.LetInside 0 t c r level d n F fs us es
-    (ap (λ s. begin_of level s t.text (head_kind (tokens_in c ++ us)) (second_kind (tokens_in c ++ us))) v.spelled.1
-    ∙ ap (λ w. if w then begin_let (head_kind (tokens_in c ++ us)) else b.Stray) (loosest level v.stands) ∙ ap begin_let (m.is us) ∙ new_let m.kind m.passes)
-    (ap (λ s. told_as NODE_LET_IN s) v.spelled.1) (omega arith) (opened_fit NODE_LET_IN TOKEN_LET p.LetInside t c level d us v refl refl (λ y. absurd (true_is_not_false (sym y))) refl refl refl v.calm)
-tree_let_in (token _ t c) r level d n F fs us es v = absurd (true_is_not_false (sym v.inner))
-tree_let_in (branch i c f) r level d n F fs us es v =
-    let m : Parts (start NODE_LET_IN) i (forget c) (forget f) = parts (start NODE_LET_IN) i (forget c) (forget f) v.inner in
-    absurd (not_both i (tokens_alone (λ j. live (go (start NODE_LET_IN) j)) refl i m.live) (strict_node i c v.spelled.0 m.inner))
-tree_let_in (fault i c f) r level d n F fs us es v = absurd v.spelled
-
--- lets of the old form are read
-pub tree_legacy_let : (c : Sketch) → Deepest c → Tree NODE_LEGACY_LET c
-tree_legacy_let blank r level d n F fs us es v = absurd (true_is_not_false (sym v.inner))
-tree_legacy_let (token TOKEN_LET t blank) r level d n F fs us es v = absurd (true_is_not_false (sym v.inner))
-tree_legacy_let (token TOKEN_LET t (token TOKEN_L_BRACE u f)) r level d n F fs us es v =
-    let w : AreUntold (token TOKEN_L_BRACE u f) = v.spelled.2 in
-    let ts : List Token = tokens_in f ++ us in
-    let row : Sketch = token TOKEN_LET t (one_token TOKEN_L_BRACE u) in
-    let below : Frame = opened Operand (p.Behind level 0) d blank in
-    record {
-      high = 0;
-      least = omega arith;
-      runs =
-          runs_from
-          (ap (λ s. begun false (begin_of level s t.text (Some u.kind) (head_kind ts)) level d t F fs (t ∷ (u ∷ ts)) n es) v.spelled.1
-          ∙ ap (λ s. begun false (begin_of level TOKEN_LET t.text (Some s) (head_kind ts)) level d t F fs (t ∷ (u ∷ ts)) n es) w.1
-          ∙ ap (λ s. begun false (if s then b.LegacyLet else b.Stray) level d t F fs (t ∷ (u ∷ ts)) n es) (loosest level v.stands)
-          ∙ ap (λ s. machine (opened (Node NODE_LEGACY_LET) p.LegacyInside d (token (told_as NODE_LEGACY_LET s) t (one_token (told_as NODE_LEGACY_LET u.kind) u)) ∷ (below ∷ (F ∷ fs))) ts u.end es) v.spelled.1
-          ∙ ap (λ s. machine (opened (Node NODE_LEGACY_LET) p.LegacyInside d (token TOKEN_LET t (one_token (told_as NODE_LEGACY_LET s) u)) ∷ (below ∷ (F ∷ fs))) ts u.end es) w.1)
-          (r NODE_LEGACY_LET p.LegacyInside d u.end row below (F ∷ fs) us es (record {
-            sound = refl;
-            strict = v.inner;
-            spelled = w.2;
-            paths = v.paths;
-            joined = λ y. absurd (true_is_not_false (sym y));
-            room = v.room;
-            lone = λ y. absurd (true_is_not_false (sym y));
-            new = λ y. absurd (true_is_not_false (sym y));
-            entry = λ y. absurd (true_is_not_false (sym y));
-            heeds = refl;
-          }));
-    }
-tree_legacy_let (token TOKEN_LET t (token _ u f)) r level d n F fs us es v = absurd (true_is_not_false (sym v.inner))
-tree_legacy_let (token TOKEN_LET t (branch i c f)) r level d n F fs us es v =
-    let m : Parts BeforeBrace i (forget c) (forget f) = parts BeforeBrace i (forget c) (forget f) v.inner in
-    absurd (not_both i (tokens_alone (λ j. live (go (BeforeBrace) j)) refl i m.live) (strict_node i c v.spelled.2.0 m.inner))
-tree_legacy_let (token TOKEN_LET t (fault i c f)) r level d n F fs us es v = absurd v.spelled.2
-tree_legacy_let (token _ t f) r level d n F fs us es v = absurd (true_is_not_false (sym v.inner))
-tree_legacy_let (branch i c f) r level d n F fs us es v =
-    let m : Parts (start NODE_LEGACY_LET) i (forget c) (forget f) = parts (start NODE_LEGACY_LET) i (forget c) (forget f) v.inner in
-    absurd (not_both i (tokens_alone (λ j. live (go (start NODE_LEGACY_LET) j)) refl i m.live) (strict_node i c v.spelled.0 m.inner))
-tree_legacy_let (fault i c f) r level d n F fs us es v = absurd v.spelled

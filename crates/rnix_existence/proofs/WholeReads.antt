@@ -1,10 +1,10 @@
 -- What the machine of steps makes of a list of items satisfies the rules of readings.
-use Rattle.std.proofs.Common.{◌≡◌, ℕ, ◌+◌, ◌≤◌, false, List, [], ◌∷◌, ◌++◌, sym, ◌∙◌, subst, append-nil, arith}
+use Rattle.std.proofs.Common.{◌≡◌, ℕ, ◌+◌, ◌≤◌, false, List, [], ◌∷◌, ◌++◌, ap, sym, ◌∙◌, subst, append-nil, arith}
 use Rattle.rnix_kinds.specs.declared.kinds.SyntaxKind.TheVariants.{NODE_ROOT}
 use Rattle.rnix_grammar.specs.declared.place.Place.{Place}
 use Rattle.rnix_grammar.specs.declared.place.Place.TheVariants as p
 use Rattle.rnix_grammar.specs.Fault.{Fault}
-use Rattle.rnix_grammar.specs.Sketch.{Token, Sketch, blank}
+use Rattle.rnix_grammar.specs.Sketch.{Token, Sketch, blank, tokens_in}
 use Rattle.rnix_grammar.specs.Tables.{depth_limit}
 use Rattle.rnix_grammar.specs.Machine.{Machine, Head, Node, Frame, opened, step_on, begins, Runs, rest, then as further}
 use Rattle.rnix_grammar.specs.Rows.{At, start}
@@ -50,9 +50,9 @@ runs_end row all (further {m = m} s) r k d w =
     step_ends m.reached row all r d
     (runs_end row all s (runs_stand (further rest) r) (step_kept false m k) (step_nested m.frames m.left m.reached m.faults r k d) w)
 
--- what is read when the root's frame ends at its end is what is read of all items
+-- what is read when the root's frame ends at its end is what is read of all items, and has them all
 pub whole_reads : (ts : List Token) (m : Machine) (f : Frame) → Runs false (begins ts) m → m.frames ≡ f ∷ [] → f.head ≡ Node NODE_ROOT → f.place ≡ p.RootEnd → m.left ≡ []
-    → ReadsWhole f.row m.faults
+    → (ts ≡ tokens_in f.row) × ReadsWhole f.row m.faults
 whole_reads ts m f s e h x l = by (runs_end f.row m.faults s (begins_stand ts) (begins_kept ts) (none, (tt, tt)) ended)
   where
     none : 0 + depth_of (At p.RootStart) blank ≤ depth_limit
@@ -67,8 +67,8 @@ whole_reads ts m f s e h x l = by (runs_end f.row m.faults s (begins_stand ts) (
       faults = append-nil m.faults;
     }
 
-    root : (row : Sketch) (zs : List Fault) → Ends (opened (Node NODE_ROOT) p.RootStart 0 blank ∷ []) ts 0 row zs → ReadsWhole row zs
-    root row zs (root_frame {r = r} a b c d) = subst (λ (z : Sketch). ReadsWhole z zs) (sym d) b
+    root : (row : Sketch) (zs : List Fault) → Ends (opened (Node NODE_ROOT) p.RootStart 0 blank ∷ []) ts 0 row zs → (ts ≡ tokens_in row) × ReadsWhole row zs
+    root row zs (root_frame {r = r} a b c d) = (c ∙ ap tokens_in (sym d), subst (λ (z : Sketch). ReadsWhole z zs) (sym d) b)
 
-    by : EndsWith (begins ts) f.row m.faults → ReadsWhole f.row m.faults
-    by w = subst (λ (z : List Fault). ReadsWhole f.row z) w.faults (root f.row w.coming w.ends)
+    by : EndsWith (begins ts) f.row m.faults → (ts ≡ tokens_in f.row) × ReadsWhole f.row m.faults
+    by w = let r = root f.row w.coming w.ends in (r.0, subst (λ (z : List Fault). ReadsWhole f.row z) w.faults r.1)

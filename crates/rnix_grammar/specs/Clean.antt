@@ -1,6 +1,6 @@
--- A machine without trivia, and the tokens that it holds.
-use Rattle.std.specs.Prelude.{List, [], ◌∷◌, ◌++◌}
-use Rattle.rnix_grammar.specs.Sketch.{Token, tokens_in, clean}
+-- A machine without trivia.
+use Rattle.std.specs.Prelude.{List, [], ◌∷◌}
+use Rattle.rnix_grammar.specs.Sketch.{clean}
 use Rattle.rnix_grammar.specs.Layout.{items}
 use Rattle.rnix_grammar.specs.Machine.{Frame, Machine, put, machine}
 
@@ -16,8 +16,3 @@ clean_frames (f ∷ fs) = clean_frame f ∷ clean_frames fs
 -- a machine that has read the items alone
 abbrev pub clean_machine : Machine → Machine
 clean_machine m = machine (clean_frames m.frames) (items m.left) m.reached m.faults
-
--- the tokens of the open rows, the outermost first
-abbrev pub tokens_of : List Frame → List Token
-tokens_of [] = []
-tokens_of (f ∷ fs) = tokens_of fs ++ tokens_in f.row

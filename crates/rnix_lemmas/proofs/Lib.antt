@@ -19,7 +19,6 @@ pub mod PlaceFacts
 pub mod PlaceLemmas
 pub mod EachKind
 pub mod EdgeLemmas
-pub mod FaultLemmas
 pub mod ReportLemmas
 pub mod LackFacts
 pub mod Completable
@@ -38,3 +37,5 @@ pub mod NestPlaces
 pub mod LaterSpots
 pub mod NestKinds
 pub mod NestTrees
+pub mod PlainPlaces
+pub mod PlaceTests

@@ -1,10 +1,8 @@
--- What may follow where a row ends, and what stays as a row goes on.
+-- What may follow a tree of each kind.
 use Rattle.std.proofs.Common.{ℕ, zero, suc, Bool, true, false, Option, Some, None}
 use Rattle.std.specs.Prelude.{if◌then◌else◌, nat_le}
 use Rattle.rnix_kinds.specs.declared.kinds.SyntaxKind.{SyntaxKind}
 use Rattle.rnix_kinds.specs.declared.kinds.SyntaxKind.TheVariants.{TOKEN_AT, TOKEN_COLON, TOKEN_DOT, TOKEN_INTERPOL_START, TOKEN_INVERT, NODE_APPLY, NODE_ASSERT, NODE_BIN_OP, NODE_HAS_ATTR, NODE_IF_ELSE, NODE_LAMBDA, NODE_LEGACY_LET, NODE_LET_IN, NODE_SELECT, NODE_UNARY_OP, NODE_WITH}
-use Rattle.rnix_grammar.specs.declared.place.Place.{Place}
-use Rattle.rnix_grammar.specs.declared.place.Place.TheVariants as p
 use Rattle.rnix_grammar.specs.Levels.{power, high_of}
 use Rattle.rnix_grammar.specs.Sketch.{Sketch, token, branch}
 
@@ -40,50 +38,6 @@ abbrev pub below : ℕ → ℕ
 below zero = 0
 below (suc n) = n
 
--- what may follow a row that has come to a place, for its last tree and its node to be complete: nothing where a row is read otherwise
-abbrev pub heeds : Place → Option SyntaxKind → Bool
-heeds p.RootStart next = false
-heeds p.RootEnd next = false
-heeds p.BindName next = false
-heeds p.TwiceName next = false
-heeds p.TwicePast next = false
-heeds (p.Behind low high) next = false
-heeds p.LetInside next = loose 0 next
-heeds p.LetBody next = loose 0 next
-heeds p.WithScope next = loose 0 next
-heeds p.WithEnd next = loose 0 next
-heeds p.WithBody next = loose 0 next
-heeds p.AssertCondition next = loose 0 next
-heeds p.AssertEnd next = loose 0 next
-heeds p.AssertBody next = loose 0 next
-heeds p.IfCondition next = loose 0 next
-heeds p.IfThen next = loose 0 next
-heeds p.IfConsequence next = loose 0 next
-heeds p.IfElse next = loose 0 next
-heeds p.IfAlternative next = loose 0 next
-heeds p.LambdaColon next = loose 0 next
-heeds p.LambdaBody next = loose 0 next
-heeds p.EntryMore next = loose 0 next
-heeds p.EntryDefault next = loose 0 next
-heeds p.EntryPast next = loose 0 next
-heeds p.SelectPath next = loose 15 next
-heeds p.SelectOr next = loose 15 next
-heeds p.SelectDefault next = loose 15 next
-heeds p.HasPath next = loose 13 next
-heeds p.Negated next = loose 13 next
-heeds p.Inverted next = loose 8 next
-heeds (p.Right level) next = loose (below level) next
-heeds p.AttrpathStart next = is_no_dot next
-heeds p.AttrpathMore next = is_no_dot next
-heeds p.PatternBrace next = is_no_at next
-heeds (p.PatternStart bound) next = is_no_at next
-heeds (p.PatternInside bound) next = is_no_at next
-heeds (p.PatternAfter bound) next = is_no_at next
-heeds (p.PatternClose bound) next = is_no_at next
-heeds (p.PatternEnd bound) next = is_no_at next
-heeds p.PathFirst next = is_no_interpol next
-heeds place next = true
-
 -- the tightest operator that may follow a tree
 abbrev pub prefix_high : Sketch → ℕ
 prefix_high (token TOKEN_INVERT t f) = 8
@@ -108,32 +62,3 @@ high_in NODE_WITH c = 0
 high_in NODE_IF_ELSE c = 0
 high_in NODE_ASSERT c = 0
 high_in kind c = 16
-
--- the places of an entry of a pattern
-abbrev pub is_in_entry : Place → Bool
-is_in_entry p.EntryMore = true
-is_in_entry p.EntryDefault = true
-is_in_entry p.EntryPast = true
-is_in_entry place = false
-
--- the places of a pattern
-abbrev pub is_in_pattern : Place → Bool
-is_in_pattern p.PatternBrace = true
-is_in_pattern (p.PatternStart bound) = true
-is_in_pattern (p.PatternInside bound) = true
-is_in_pattern (p.PatternAfter bound) = true
-is_in_pattern (p.PatternClose bound) = true
-is_in_pattern (p.PatternEnd bound) = true
-is_in_pattern p.PatternPast = true
-is_in_pattern place = false
-
--- the places of a path
-abbrev pub is_in_path : Place → Bool
-is_in_path p.PathFirst = true
-is_in_path p.PathMore = true
-is_in_path place = false
-
--- the place of an interpolation as an attribute
-abbrev pub is_in_dynamic : Place → Bool
-is_in_dynamic p.DynamicInside = true
-is_in_dynamic place = false

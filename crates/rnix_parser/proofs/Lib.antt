@@ -1,4 +1,3 @@
 pub mod ParsedLemmas
 pub mod Found
-pub mod AllTrees
 pub mod OneReading

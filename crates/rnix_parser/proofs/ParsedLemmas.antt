@@ -1,18 +1,17 @@
 -- All that holds of a text that is read.
-use Rattle.std.proofs.Common.{◌≡◌, ◌↔◌, ℕ, ◌≤◌, Bool, true, false, List, [], ◌∷◌, ◌++◌, refl, ap, sym, ◌∙◌, subst, append-nil}
+use Rattle.std.proofs.Common.{◌≡◌, ◌↔◌, ℕ, ◌≤◌, true, List, [], ◌∷◌, refl, ap, sym, ◌∙◌, subst}
 use Rattle.std.proofs.lemmas.Bool.{and_parts as and_both}
 use Rattle.rnix_kinds.specs.declared.kinds.SyntaxKind.TheVariants.{NODE_ROOT}
-use Rattle.rnix_kinds.specs.SyntaxKind.{is_trivia}
 use Rattle.rnix_kinds.specs.Lexical.Tokens.{Lexeme}
-use Rattle.rnix_tree.specs.Forest.{Forest, empty, leaf, node, join}
+use Rattle.rnix_tree.specs.Forest.{Forest}
 use Rattle.rnix_grammar.specs.declared.place.Place.{Place}
 use Rattle.rnix_grammar.specs.declared.place.Place.TheVariants.{RootStart, RootEnd}
 use Rattle.rnix_grammar.specs.Tables.{depth_limit}
 use Rattle.rnix_grammar.specs.Sketch.{Token, Sketch, blank, forget, tokens_in, clean, placed_from, AreTold}
-use Rattle.rnix_grammar.specs.Layout.{items, from_item, trivia_before, trivia_if}
+use Rattle.rnix_grammar.specs.Layout.{items, dressed_whole}
 use Rattle.rnix_grammar.specs.Reads.{ReadsWhole}
 use Rattle.rnix_grammar.specs.Machine.{Node, Frame, Machine, begins, ate, Runs}
-use Rattle.rnix_grammar.specs.Clean.{clean_machine, clean_frame, clean_frames, tokens_of}
+use Rattle.rnix_grammar.specs.Clean.{clean_machine, clean_frame, clean_frames}
 use Rattle.rnix_grammar.specs.Rows.{At}
 use Rattle.rnix_grammar.specs.Stands.{Stands}
 use Rattle.rnix_grammar.specs.Trim.{AreFaultsTrimmed, AreNodesTrimmed}
@@ -30,15 +29,7 @@ use Rattle.rnix_grammar.specs.Document.{IsRead}
 use Rattle.rnix_tree.specs.Tree.{Tree}
 use Rattle.rnix_grammar.specs.Stands.{StandsWhole}
 use Rattle.rnix_grammar.specs.Parsed.{IsParsed}
-use Rattle.rnix_lemmas.proofs.SketchLemmas.{tokens_in-⊕, forget-⊕}
-use Rattle.rnix_lemmas.proofs.LayoutLemmas.{items-view, trivia_tokens, nothing_from}
 use Rattle.rnix_lemmas.proofs.CleanLemmas.{runs_clean, ate_clean}
-use Rattle.rnix_rows.proofs.TokenLemmas.{runs_tokens}
-use Rattle.rnix_rows.proofs.ToldLemmas.{whole_told, told_ate}
-use Rattle.rnix_rows.proofs.TrimLemmas.{whole_trimmed}
-use Rattle.rnix_rows.proofs.BareNames.{bare-⊕, bare_trivia, whole_bare}
-use Rattle.rnix_lemmas.proofs.EdgeLemmas.{faults_trimmed_trivia, faults_trimmed-⊕}
-use Rattle.rnix_rows.proofs.WholeEdges.{whole_nodes_trimmed}
 use Rattle.rnix_invariants.proofs.LastStep.{last_stands}
 use Rattle.rnix_rows.proofs.StandsWhole.{whole_paired, whole_named, whole_settled, whole_few, whole_ended, whole_begun}
 use Rattle.rnix_rows.proofs.StandsLast.{halves_last}
@@ -50,8 +41,10 @@ use Rattle.rnix_lemmas.proofs.SpelledLemmas.{AreRuled, spelled_from, clean_spell
 use Rattle.rnix_invariants.proofs.NestWhole.{whole_nested, nests_alike}
 use Rattle.rnix_existence.proofs.WholeReads.{whole_reads}
 use Rattle.rnix_rows.proofs.Dressed.{whole_dressed}
-use Rattle.rnix_parser.proofs.AllTrees.{found}
-use Rattle.rnix_rows.proofs.StrictTokens.{mended_tokens, clean_told}
+use Rattle.rnix_rows.proofs.DressedWhole.{dressed_whole_tokens}
+use Rattle.rnix_rows.proofs.StandsTold.{stands_told}
+use Rattle.rnix_rows.proofs.StandsDressed.{laid_told, laid_trimmed, laid_bare, laid_nodes}
+use Rattle.rnix_rows.proofs.StrictTokens.{mended_tokens}
 use Rattle.rnix_rows.proofs.StandsShapes.{AreBareRows, mended_none, whole_rows}
 use Rattle.rnix_lemmas.proofs.EntryNames.{both_true}
 use Rattle.rnix_soundness.proofs.StrictCorners.{strict_no_corner}
@@ -59,26 +52,7 @@ use Rattle.rnix_lemmas.proofs.ReportLemmas.{clean_tokens}
 use Rattle.rnix_rows.proofs.Exactly.{bare_nest, derived}
 use Rattle.rnix_strict.proofs.GrammarStrict.{expression_strict}
 use Rattle.rnix_strict.proofs.GrammarTrees.{strict_expression}
-
--- trivia alone are all tokens, where no item is left
-trivia_alone : (ts : List Token) → items ts ≡ [] → tokens_in (trivia_before ts) ≡ ts
-trivia_alone ts h =
-    let none : from_item ts ≡ [] = nothing_from (from_item ts) (sym (items-view ts) ∙ h) in
-    sym (append-nil (tokens_in (trivia_before ts))) ∙ ap (λ x. tokens_in (trivia_before ts) ++ x) (sym none) ∙ trivia_tokens ts
-
--- trivia behind a row change nothing of its nodes
-trimmed_join : (f g : Forest) → AreNodesTrimmed f → AreNodesTrimmed g → AreNodesTrimmed (join f g)
-trimmed_join empty g h k = k
-trimmed_join (leaf j t f) g h k = trimmed_join f g h k
-trimmed_join (node j c f) g h k = (h.0, h.1, h.2, trimmed_join f g h.3 k)
-
-trimmed_if : (w : Bool) (t : Token) (f : Sketch) → AreNodesTrimmed (forget f) → AreNodesTrimmed (forget (trivia_if w t f))
-trimmed_if true t f h = h
-trimmed_if false t f h = tt
-
-trimmed_trivia : (ts : List Token) → AreNodesTrimmed (forget (trivia_before ts))
-trimmed_trivia [] = tt
-trimmed_trivia (t ∷ ts) = trimmed_if (is_trivia t.kind) t (trivia_before ts) (trimmed_trivia ts)
+use Rattle.rnix_parser.proofs.Found.{derivation_found}
 
 -- a tree without trivia, and its errors, as they must be to be a derivation
 pub record IsFit (f : Sketch) (ts : List Token) (es : List Fault) : Type 0 where
@@ -110,7 +84,6 @@ pub parsed : (tokens : List Lexeme) (root : Frame) (last : Machine) → Runs tru
 parsed tokens root last runs alone head place nothing ruled =
     let ts : List Token = placed_from 0 tokens in
     let g : Sketch = ate true root.row last.left in
-    let all : tokens_of (root ∷ []) ++ last.left ≡ ts = subst (λ (x : List Frame). tokens_of x ++ last.left ≡ ts) alone (runs_tokens runs) in
     let bare : clean g ≡ clean root.row = ate_clean root.row last.left in
     let cleaned : Stands NODE_ROOT 1 (At RootStart) (At root.place) blank 0 (items last.left) (clean root.row) last.faults =
     last_stands (items ts) (clean_frame root) (clean_machine last) (runs_clean runs) (ap clean_frames alone) in
@@ -118,15 +91,15 @@ parsed tokens root last runs alone head place nothing ruled =
     subst (λ (us : List Token). Stands NODE_ROOT 1 (At RootStart) (At RootEnd) blank 0 us (clean root.row) last.faults) nothing
     (subst (λ (x : Place). Stands NODE_ROOT 1 (At RootStart) (At x) blank 0 (items last.left) (clean root.row) last.faults) place cleaned) in
     let stands : StandsWhole (clean g) last.faults = subst (λ (x : Sketch). StandsWhole x last.faults) (sym bare) here in
-    let reads : ReadsWhole (clean g) last.faults =
-    subst (λ (x : Sketch). ReadsWhole x last.faults) (sym bare)
-    (whole_reads (items ts) (clean_machine last) (clean_frame root) (runs_clean runs) (ap clean_frames alone) head place nothing) in
-    let told : AreTold NODE_ROOT g = told_ate true NODE_ROOT root.row last.left (whole_told ts root runs alone) in
-    let trimmed : AreFaultsTrimmed g = faults_trimmed-⊕ root.row (trivia_before last.left) (whole_trimmed ts root runs alone) (faults_trimmed_trivia last.left) in
-    let nodes : last.faults ≡ [] → AreNodesTrimmed (forget g) = λ h.
-    subst AreNodesTrimmed (sym (forget-⊕ root.row (trivia_before last.left)))
-    (trimmed_join (forget root.row) (forget (trivia_before last.left)) (whole_nodes_trimmed ts root runs alone h) (trimmed_trivia last.left)) in
-    let leaves : tokens_in g ≡ ts = tokens_in-⊕ root.row (trivia_before last.left) ∙ ap (λ x. tokens_in root.row ++ x) (trivia_alone last.left nothing) ∙ all in
+    let read : (items ts ≡ tokens_in (clean root.row)) × ReadsWhole (clean root.row) last.faults =
+    whole_reads (items ts) (clean_machine last) (clean_frame root) (runs_clean runs) (ap clean_frames alone) head place nothing in
+    let reads : ReadsWhole (clean g) last.faults = subst (λ (x : Sketch). ReadsWhole x last.faults) (sym bare) read.1 in
+    let own : items ts ≡ tokens_in (clean g) = read.0 ∙ ap tokens_in (sym bare) in
+    let laid : g ≡ dressed_whole (clean g) ts = whole_dressed ts last root runs alone nothing in
+    let leaves : tokens_in g ≡ ts = ap tokens_in laid ∙ dressed_whole_tokens (clean g) ts own in
+    let told : AreTold NODE_ROOT g = laid_told (clean g) g ts last.faults laid stands in
+    let trimmed : AreFaultsTrimmed g = laid_trimmed (clean g) g ts last.faults laid own stands in
+    let nodes : last.faults ≡ [] → AreNodesTrimmed (forget g) = laid_nodes (clean g) g ts last.faults laid own stands in
     let shallow : depth_of (At RootStart) (clean g) ≤ depth_limit =
     subst (λ (x : Sketch). depth_of (At RootStart) x ≤ depth_limit) (sym bare)
     (whole_nested (items ts) (clean_frame root) (clean_machine last) (runs_clean runs) (ap clean_frames alone)) in
@@ -136,13 +109,13 @@ parsed tokens root last runs alone head place nothing ruled =
     let strict : ended_count last.faults ≡ 0 → Lacks is_repeated last.faults → has_no_corner NODE_ROOT (mended (clean g)) ≡ true → IsExpression (mended (clean g)) = λ n r o.
     strict_expression (mended (clean g))
     (both_true (has_tokens_alone (mended (clean g))) (is_strict_expression (mended (clean g)))
-    (mended_tokens NODE_ROOT (clean g) (clean_told NODE_ROOT g told) spelled) (converse (clean g) last.faults stands spelled n r o)) in
-    let met : (t : Forest) → IsDerivation t (items ts) → (last.faults ≡ []) × (forget (clean g) ≡ t) = found ts root last runs alone place nothing in
+    (mended_tokens NODE_ROOT (clean g) (stands_told stands) spelled) (converse (clean g) last.faults stands spelled n r o)) in
+    let met : (t : Forest) → IsDerivation t (items ts) → (last.faults ≡ []) × (forget (clean g) ≡ t) = derivation_found (clean g) (items ts) last.faults reads (clean_tokens g ∙ ap items leaves) in
     record {
-      reading = record { sketch = g; tree_is = refl; leaves = leaves; laid = whole_dressed ts last root runs alone nothing; reads = reads };
+      reading = record { sketch = g; tree_is = refl; leaves = leaves; laid = laid; reads = reads };
       told = told;
       trimmed = trimmed;
-      bare = bare-⊕ root.row (trivia_before last.left) (whole_bare ts root runs alone) (bare_trivia last.left);
+      bare = laid_bare (clean g) g ts last.faults laid spelled stands;
       paired = whole_paired stands ∙ clean_reports blank g trimmed;
       named = whole_named stands;
       shaped = whole_shaped (clean g) g last.faults stands refl told nodes;
@@ -159,7 +132,7 @@ parsed tokens root last runs alone head place nothing ruled =
           (record {
             tokens = clean_tokens g ∙ ap items leaves;
             bare = λ h. ((whole_rows stands).0 h).nodes;
-            told = clean_told NODE_ROOT g told;
+            told = stands_told stands;
             spelled = spelled;
             nested = nested;
             strict = λ h o. strict (ap ended_count h) (subst (Lacks is_repeated) (sym h) tt) o;

@@ -16,7 +16,7 @@ use Rattle.rnix_lemmas.proofs.ReportLemmas.{clean_tokens}
 use Rattle.rnix_rows.proofs.Dressed.{whole_dressed}
 
 -- all items, with nothing behind them
-all_items : (f : Sketch) (ts : List Token) → items ts ≡ tokens_in f → items ts ≡ tokens_in f ++ []
+pub all_items : (f : Sketch) (ts : List Token) → items ts ≡ tokens_in f → items ts ≡ tokens_in f ++ []
 all_items f ts e = e ∙ sym (append-nil (tokens_in f))
 
 -- trees over all items, with the trivia of the tokens, have all the tokens

@@ -1,8 +1,3 @@
-pub mod TokenLemmas
-pub mod ToldLemmas
-pub mod TrimLemmas
-pub mod ItemEdges
-pub mod WholeEdges
 pub mod DressLemmas
 pub mod Dressed
 pub mod DressedWhole
@@ -12,11 +7,17 @@ pub mod BareFacts
 pub mod StandsBegun
 pub mod BindFacts
 pub mod StandsShapes
+pub mod StandsFilled
+pub mod DressedEdges
+pub mod DressedNames
+pub mod WholeEdges
 pub mod TreeShapes
 pub mod StandsWhole
 pub mod SeamLemmas
 pub mod CleanReports
 pub mod StrictTokens
+pub mod StandsTold
+pub mod StandsDressed
 pub mod Exactly
 pub mod RowParts
 pub mod RowTable
@@ -28,8 +29,6 @@ pub mod PlacedTokens
 pub mod RowsIn
 pub mod ErrorElements
 pub mod WalkErrors
-pub mod OpenKinds
-pub mod BareNames
 pub mod NameRanges
 pub mod OrderedErrors
 pub mod ParsedRanges

@@ -1,9 +1,9 @@
 -- The leaves of a mended tree have the kinds of tokens.
-use Rattle.std.proofs.Common.{◌≡◌, ℕ, Bool, true, false, List, refl, ap, ◌∙◌}
+use Rattle.std.proofs.Common.{◌≡◌, ℕ, true, List, refl, ap, ◌∙◌}
 use Rattle.rnix_kinds.specs.declared.kinds.SyntaxKind.{SyntaxKind}
-use Rattle.rnix_kinds.specs.declared.kinds.SyntaxKind.TheVariants.{TOKEN_CUR_POS, TOKEN_IDENT, TOKEN_OR, NODE_CUR_POS, NODE_ERROR, NODE_IDENT}
-use Rattle.rnix_kinds.specs.SyntaxKind.{is_token, is_trivia}
-use Rattle.rnix_grammar.specs.Sketch.{Token, Note, Stray, Sketch, blank, token, branch, fault, token_if, tokens_in, clean, told, told_as, AreTold}
+use Rattle.rnix_kinds.specs.declared.kinds.SyntaxKind.TheVariants.{TOKEN_CUR_POS, TOKEN_IDENT, TOKEN_OR, NODE_CUR_POS, NODE_IDENT}
+use Rattle.rnix_kinds.specs.SyntaxKind.{is_token}
+use Rattle.rnix_grammar.specs.Sketch.{Note, Stray, Sketch, blank, token, branch, fault, tokens_in, told_as, AreTold}
 use Rattle.rnix_grammar.specs.Mended.{mended, patch}
 use Rattle.rnix_grammar.specs.Named.{is_spelled, AreSpelled}
 use Rattle.rnix_grammar.specs.Derivation.{has_tokens_alone}
@@ -36,15 +36,3 @@ mended_tokens p (branch k c f) t h =
     both_true (has_tokens_alone (mended c)) (has_tokens_alone (mended f)) (mended_tokens k c t.0 (spelled_first (tokens_in c) (tokens_in f) h))
     (mended_tokens p f t.1 (spelled_rest (tokens_in c) (tokens_in f) h))
 mended_tokens p (fault n c f) t h = patched n f (mended_tokens p f t.1 (spelled_rest (tokens_in c) (tokens_in f) h))
-
--- without trivia, each leaf still has the kind that its token has
-told_if : (w : Bool) (p k : SyntaxKind) (x : Token) (f : Sketch) → k ≡ told p x → AreTold p f → AreTold p (token_if w k x f)
-told_if true p k x f e t = t
-told_if false p k x f e t = (e, t)
-
--- a row without trivia is told as it was
-pub clean_told : (p : SyntaxKind) (f : Sketch) → AreTold p f → AreTold p (clean f)
-clean_told p blank t = tt
-clean_told p (token k x f) t = told_if (is_trivia x.kind) p k x (clean f) t.0 (clean_told p f t.1)
-clean_told p (branch k c f) t = (clean_told k c t.0, clean_told p f t.1)
-clean_told p (fault n c f) t = (clean_told NODE_ERROR c t.0, clean_told p f t.1)

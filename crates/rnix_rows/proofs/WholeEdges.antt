@@ -1,15 +1,12 @@
--- Without errors no node of a whole text begins or ends with trivia.
-use Rattle.std.proofs.Common.{◌≡◌, true, List, [], ◌∷◌, ◌++◌, refl, sym, ap, ◌∙◌, subst}
+-- Where each node begins and ends with items as a row of tokens, it does so as a tree.
+use Rattle.std.proofs.Common.{◌≡◌, List, [], ◌∷◌, ◌++◌, refl, sym, ap, ◌∙◌, subst}
 use Rattle.rnix_kinds.specs.declared.kinds.SyntaxKind.{SyntaxKind}
-use Rattle.rnix_kinds.specs.declared.kinds.SyntaxKind.TheVariants.{TOKEN_IDENT, TOKEN_OR, NODE_IDENT, NODE_CUR_POS, NODE_ERROR, NODE_ROOT}
+use Rattle.rnix_kinds.specs.declared.kinds.SyntaxKind.TheVariants.{TOKEN_IDENT, TOKEN_OR, NODE_IDENT, NODE_CUR_POS, NODE_ERROR}
 use Rattle.rnix_kinds.specs.SyntaxKind.{is_trivia}
-use Rattle.rnix_grammar.specs.Sketch.{Token, Sketch, blank, token, branch, fault, tokens_in, forget, told_as, AreTold}
-use Rattle.rnix_grammar.specs.Machine.{Frame, Machine, begins, Runs}
+use Rattle.rnix_grammar.specs.Sketch.{Sketch, blank, token, branch, fault, tokens_in, forget, told_as, AreTold}
 use Rattle.rnix_grammar.specs.Trim.{BeginsWithItem, EndsWithItem, leaf_kinds, token_kinds, AreNodesTrimmed}
 use Rattle.rnix_lemmas.proofs.EdgeLemmas.{token_kinds-++}
-use Rattle.rnix_lemmas.proofs.PlaceLemmas.{begins_kept}
-use Rattle.rnix_rows.proofs.ToldLemmas.{whole_told}
-use Rattle.rnix_rows.proofs.ItemEdges.{AreEdged, AreOpen, Opens, runs_open}
+use Rattle.rnix_rows.proofs.DressedEdges.{AreEdged}
 
 -- kinds that are trivia at the same places
 abbrev pub AreAlike : List SyntaxKind → List SyntaxKind → Type 0
@@ -84,15 +81,3 @@ nodes_trimmed p (fault n c f) h e =
       nodes_trimmed NODE_ERROR c h.0 e.1,
       nodes_trimmed p f h.1 e.2,
     )
-
--- each node of a whole text without errors has tokens, and begins and ends with an item
-pub whole_edged : (ts : List Token) {n : Machine} (f : Frame) → Runs true (begins ts) n → n.frames ≡ f ∷ [] → n.faults ≡ [] → AreEdged f.row
-whole_edged ts {n = n} f r e z =
-    let begun : Opens (begins ts) = λ y. (tt, (tt, tt)) in
-    let open_ : AreOpen n.frames n.left = runs_open r (begins_kept ts) begun z in
-    let all : AreOpen (f ∷ []) n.left = subst (λ (x : List Frame). AreOpen x n.left) e open_ in
-    all.0
-
--- none of its nodes begins or ends with trivia
-pub whole_nodes_trimmed : (ts : List Token) {n : Machine} (f : Frame) → Runs true (begins ts) n → n.frames ≡ f ∷ [] → n.faults ≡ [] → AreNodesTrimmed (forget f.row)
-whole_nodes_trimmed ts f r e z = nodes_trimmed NODE_ROOT f.row (whole_told ts f r e) (whole_edged ts f r e z)

@@ -9,7 +9,7 @@ use Rattle.rnix_grammar.specs.Sketch.{Token, Sketch, blank, tokens_in, end_from}
 use Rattle.rnix_grammar.specs.Machine.{Node, machine, opened, begins, Runs}
 use Rattle.rnix_grammar.specs.Rows.{At}
 use Rattle.rnix_grammar.specs.Reads.{Reads, end, leaf, lost, wrong, second, inner, ReadsWhole}
-use Rattle.rnix_completeness.proofs.PlainWhole.{ended_with, ended_once}
+use Rattle.rnix_uniqueness.proofs.Ended.{ended_with, ended_once}
 use Rattle.rnix_uniqueness.proofs.StepReads.{ReadsRow}
 use Rattle.rnix_uniqueness.proofs.ReadingHeights.{height, Trees}
 use Rattle.rnix_uniqueness.proofs.TreeReads.{tree_runs, no_tree}

@@ -18,8 +18,8 @@ use Rattle.rnix_lemmas.proofs.SketchLemmas.{tokens_in-⊕}
 use Rattle.rnix_lemmas.proofs.StrictParts.{end_behind}
 use Rattle.rnix_lemmas.proofs.FirstTrees.{IsSingle, first_in, single_calls}
 use Rattle.rnix_lemmas.proofs.FollowLemmas.{followed_call, followed_tight, follows_level}
-use Rattle.rnix_completeness.proofs.PlainSteps.{runs_on, step_to}
-use Rattle.rnix_completeness.proofs.PlainTrees.{runs_from}
+use Rattle.rnix_uniqueness.proofs.Runs.{runs_on, step_to}
+use Rattle.rnix_uniqueness.proofs.Runs.{runs_from}
 use Rattle.rnix_uniqueness.proofs.StepReads.{IsOperandRead, ReadsTree}
 use Rattle.rnix_uniqueness.proofs.OperandBegins.{AreItemsRead, ReadsItems, reads_items, one_items}
 use Rattle.rnix_uniqueness.proofs.OperandGoesOn.{goes, settles, begun_same}

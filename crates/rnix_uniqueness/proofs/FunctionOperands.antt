@@ -16,8 +16,8 @@ use Rattle.rnix_grammar.specs.Reads.{IsOver}
 use Rattle.rnix_lemmas.proofs.Basics.{true_is_not_false}
 use Rattle.rnix_lemmas.proofs.StrictParts.{end_behind}
 use Rattle.rnix_lemmas.proofs.FollowLemmas.{followed_atom}
-use Rattle.rnix_completeness.proofs.PlainSteps.{runs_on, runs_to}
-use Rattle.rnix_completeness.proofs.PlainTrees.{runs_from}
+use Rattle.rnix_uniqueness.proofs.Runs.{runs_on, runs_to}
+use Rattle.rnix_uniqueness.proofs.Runs.{runs_from}
 use Rattle.rnix_uniqueness.proofs.StepReads.{ReadsRow, ReadsTree}
 use Rattle.rnix_uniqueness.proofs.RowCloses.{is_common, closes_into}
 use Rattle.rnix_uniqueness.proofs.OperandBegins.{is_leafed, is_opened, BegunBy, begins_by, AreItemsRead, ReadsItems, reads_items, one_items}

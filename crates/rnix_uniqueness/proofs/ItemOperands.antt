@@ -18,8 +18,8 @@ use Rattle.rnix_lemmas.proofs.Basics.{true_is_not_false}
 use Rattle.rnix_lemmas.proofs.EveryKind.{never}
 use Rattle.rnix_lemmas.proofs.NodeKinds.{is_error, told_plain}
 use Rattle.rnix_lemmas.proofs.FollowLemmas.{followed_atom, followed_loose}
-use Rattle.rnix_completeness.proofs.PlainSteps.{runs_on, runs_to}
-use Rattle.rnix_completeness.proofs.PlainTrees.{runs_from}
+use Rattle.rnix_uniqueness.proofs.Runs.{runs_on, runs_to}
+use Rattle.rnix_uniqueness.proofs.Runs.{runs_from}
 use Rattle.rnix_uniqueness.proofs.StepReads.{ReadsRow, ReadsTree}
 use Rattle.rnix_uniqueness.proofs.RowCloses.{is_common, closes_into}
 use Rattle.rnix_uniqueness.proofs.OperandBegins.{is_leafed, is_opened, high_at, BegunBy, begins_by, followed_opened, followed_leafed, first_opened, first_leafed, AreItemsRead, ReadsItems, reads_items, one_items}

@@ -33,3 +33,6 @@ pub mod Examples
 pub mod OwnExamples
 pub mod TriviaExamples
 pub mod Readings
+pub mod Runs
+pub mod Ended
+pub mod PlaceActions

@@ -20,8 +20,8 @@ use Rattle.rnix_lemmas.proofs.SketchLemmas.{⊕-assoc, tokens_in-⊕}
 use Rattle.rnix_lemmas.proofs.StrictParts.{end_behind}
 use Rattle.rnix_lemmas.proofs.FirstTrees.{IsSingle, first_in, single_operator}
 use Rattle.rnix_lemmas.proofs.FollowLemmas.{FollowedTo, followed_infix, followed_question, followed_tight, follows_level}
-use Rattle.rnix_completeness.proofs.PlainSteps.{runs_on, runs_to, step_to}
-use Rattle.rnix_completeness.proofs.PlainTrees.{runs_from}
+use Rattle.rnix_uniqueness.proofs.Runs.{runs_on, runs_to, step_to}
+use Rattle.rnix_uniqueness.proofs.Runs.{runs_from}
 use Rattle.rnix_uniqueness.proofs.StepReads.{IsOperandRead, ReadsRow, ReadsTree}
 use Rattle.rnix_uniqueness.proofs.RowCloses.{is_common, closes_into}
 use Rattle.rnix_uniqueness.proofs.OperandBegins.{AreItemsRead, ReadsItems, reads_items, one_items}

@@ -19,7 +19,9 @@ use Rattle.rnix_grammar.specs.OwnItems.{owns_in}
 use Rattle.rnix_grammar.specs.TokenKinds.{is_inherit_token}
 use Rattle.rnix_lemmas.proofs.Basics.{true_is_not_false}
 use Rattle.rnix_lemmas.proofs.PlaceTables.{pieces_is}
-use Rattle.rnix_completeness.proofs.PlainSteps.{same_place, no_place, to_test, end_entries, no_names}
+use Rattle.rnix_lemmas.proofs.PlaceTests.{same_place}
+use Rattle.rnix_lemmas.proofs.PlaceTests.{no_place, to_test}
+use Rattle.rnix_uniqueness.proofs.PlaceActions.{end_entries, no_names}
 
 no_entry_token : (k : SyntaxKind) → is_inherit_token k ≡ true → is_entry k ≡ false
 no_entry_token TOKEN_INHERIT h = refl

@@ -21,10 +21,11 @@ use Rattle.rnix_grammar.specs.TokenKinds.{is_piece_start, is_at, is_inherit_toke
 use Rattle.rnix_grammar.specs.OwnItems.{owns_in, owns_end, owns, stands_owned_in}
 use Rattle.rnix_lemmas.proofs.Basics.{true_is_not_false}
 use Rattle.rnix_lemmas.proofs.PlaceTables.{pieces_is}
-use Rattle.rnix_completeness.proofs.PlainSteps.{same_place, no_place, to_test}
+use Rattle.rnix_lemmas.proofs.PlaceTests.{same_place}
+use Rattle.rnix_lemmas.proofs.PlaceTests.{no_place, to_test}
 use Rattle.rnix_uniqueness.proofs.MissingSteps.{or_parts}
-use Rattle.rnix_completeness.proofs.PlainFirsts.{closer_leaf, wanted_leaf}
-use Rattle.rnix_completeness.proofs.PlainRead.{inherit_entry}
+use Rattle.rnix_lemmas.proofs.PlaceTests.{closer_leaf, wanted_leaf}
+use Rattle.rnix_uniqueness.proofs.PlaceActions.{inherit_entry}
 
 -- the next item, or the end of the text, is a slot's own
 abbrev pub own_next : Slot → Bool → Option SyntaxKind → Bool

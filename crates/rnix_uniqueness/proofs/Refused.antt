@@ -15,7 +15,7 @@ use Rattle.rnix_grammar.specs.Layout.{items, tail_of}
 use Rattle.rnix_grammar.specs.Machine.{Machine, begins, step, Runs, rest as here, then as further}
 use Rattle.rnix_grammar.specs.Reads.{ReadsWhole}
 use Rattle.rnix_lemmas.proofs.Basics.{true_is_not_false, not_if}
-use Rattle.rnix_completeness.proofs.PlainWhole.{ended_with, ended_once}
+use Rattle.rnix_uniqueness.proofs.Ended.{ended_with, ended_once}
 use Rattle.rnix_uniqueness.proofs.AllReads.{reads_runs}
 
 -- a row of trees without its items: each leaf takes the next one

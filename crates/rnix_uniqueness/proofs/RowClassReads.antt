@@ -8,7 +8,7 @@ use Rattle.rnix_grammar.specs.Sketch.{Token, Note, Stray, Unwanted, Extra, Twice
 use Rattle.rnix_grammar.specs.Rows.{Spot, At, Nowhere, go, live}
 use Rattle.rnix_grammar.specs.Reads.{Reads, end, leaf, lost, wrong, second, inner, IsWrong}
 use Rattle.rnix_lemmas.proofs.Basics.{true_is_not_false}
-use Rattle.rnix_completeness.proofs.PlainPlaces.{Reaches, reaches}
+use Rattle.rnix_lemmas.proofs.PlainPlaces.{Reaches, reaches}
 use Rattle.rnix_uniqueness.proofs.RowClasses.{row_class, class_go, class_run, class_lack}
 
 nowhere_dead : (q : Spot) → live q ≡ false → q ≡ Nowhere

@@ -1,8 +1,7 @@
 -- Where the rows of nodes end, and that they are closed there.
-use Rattle.std.proofs.Common.{◌≡◌, ℕ, Bool, true, false, List, [], ◌∷◌, Option, Some, None, refl, ap, sym, subst}
-use Rattle.std.specs.Prelude.{if◌then◌else◌}
+use Rattle.std.proofs.Common.{◌≡◌, ℕ, suc, Bool, true, false, List, [], ◌∷◌, ◌++◌, Option, Some, None, refl, ap, sym, ◌∙◌, subst, append-nil}
 use Rattle.rnix_kinds.specs.declared.kinds.SyntaxKind.{SyntaxKind}
-use Rattle.rnix_kinds.specs.declared.kinds.SyntaxKind.TheVariants.{TOKEN_AT, TOKEN_DOT, TOKEN_INTERPOL_START, TOKEN_OR, TOKEN_QUESTION, NODE_LITERAL, NODE_PAT_ENTRY}
+use Rattle.rnix_kinds.specs.declared.kinds.SyntaxKind.TheVariants.{NODE_LITERAL, NODE_PAT_ENTRY}
 use Rattle.rnix_grammar.specs.declared.place.Place.{Place}
 use Rattle.rnix_grammar.specs.declared.place.Place.TheVariants as p
 use Rattle.rnix_grammar.specs.declared.action.Action.{Action}
@@ -10,17 +9,19 @@ use Rattle.rnix_grammar.specs.declared.until.Until.{Until}
 use Rattle.rnix_grammar.specs.Fault.{Fault}
 use Rattle.rnix_grammar.specs.Slots.{slot_at}
 use Rattle.rnix_grammar.specs.Missing.{lack, run_at}
-use Rattle.rnix_grammar.specs.Actions.{action_at, first_piece_action, more_attrs_action, bind_action, default_action, or_action}
-use Rattle.rnix_grammar.specs.Sketch.{Token, Note, Stray, Unwanted, Extra, Twice, TooDeep, Sketch, blank, one_branch, head_kind, touches}
-use Rattle.rnix_grammar.specs.Reports.{repeated, repeated_if, entry_name, repeats}
-use Rattle.rnix_grammar.specs.Machine.{Head, Node, Frame, machine, opened, Runs, rest as here}
+use Rattle.rnix_grammar.specs.Actions.{action_at}
+use Rattle.rnix_grammar.specs.Sketch.{Token, Note, Stray, Unwanted, Extra, Twice, TooDeep, Sketch, blank, one_branch, head_kind}
+use Rattle.rnix_grammar.specs.Reports.{repeated, repeated_if, entry_name}
+use Rattle.rnix_grammar.specs.Machine.{Head, Node, Frame, machine, opened, perform, Runs, rest as here}
+use Rattle.rnix_grammar.specs.Sketch.{touches}
 use Rattle.rnix_grammar.specs.Rows.{Spot, At, Nowhere, go, whole}
-use Rattle.rnix_grammar.specs.Plain.{goes_on_path}
-use Rattle.rnix_grammar.specs.OwnItems.{owns}
+use Rattle.rnix_grammar.specs.Reports.{repeats}
 use Rattle.rnix_grammar.specs.Reads.{Reads, end, leaf, lost, wrong, second, inner, IsOver, IsWrong}
 use Rattle.rnix_lemmas.proofs.Basics.{true_is_not_false}
 use Rattle.rnix_lemmas.proofs.SpotCases.{Usual, Next, case_slot}
-use Rattle.rnix_completeness.proofs.PlainSteps.{step_to, Shuts, plainly, pattern, entry, shut_to, path_ends}
+use Rattle.rnix_uniqueness.proofs.Runs.{step_to}
+use Rattle.rnix_uniqueness.proofs.RowEnds.{Ends, plainly, pattern, entry, second, last, ends_at}
+use Rattle.rnix_uniqueness.proofs.RowClasses.{row_class}
 
 -- a place of a node that may stand below another node
 abbrev pub is_common : Place → Bool
@@ -107,75 +108,24 @@ pub none_repeats : (k : SyntaxKind) (c : Sketch) → repeats k blank c ≡ []
 none_repeats NODE_PAT_ENTRY c = none_repeated c
 none_repeats _ c = refl
 
-shut_first : (n : ℕ) (ts : List Token) → owns p.PathFirst n ts ≡ false → Shuts p.PathFirst (first_piece_action (head_kind ts))
-shut_first n [] h = plainly
-shut_first n (t ∷ ts) h = by t.kind h
-  where
-    by : (k : SyntaxKind) → owns p.PathFirst n (record { kind = k; text = t.text; start = t.start; end = t.end } ∷ ts) ≡ false → Shuts p.PathFirst (first_piece_action (Some k))
-    by TOKEN_INTERPOL_START e = absurd (true_is_not_false e)
-    by _ e = plainly
+common_realm : {A : Type 0} (x : Place) (v : ℕ) → is_common x ≡ true → row_class x ≡ suc (suc v) → A
+common_realm p.RootStart v c h = absurd (true_is_not_false (sym c))
+common_realm p.RootEnd v c h = absurd (true_is_not_false (sym c))
+common_realm p.TwiceName v c h = absurd (true_is_not_false (sym c))
+common_realm p.TwicePast v c h = absurd (true_is_not_false (sym c))
+common_realm _ v c h = absurd (cc)
 
-shut_attrs : (n : ℕ) (ts : List Token) → owns p.AttrpathMore n ts ≡ false → Shuts p.AttrpathMore (more_attrs_action (head_kind ts))
-shut_attrs n [] h = plainly
-shut_attrs n (t ∷ ts) h = by t.kind h
-  where
-    by : (k : SyntaxKind) → owns p.AttrpathMore n (record { kind = k; text = t.text; start = t.start; end = t.end } ∷ ts) ≡ false → Shuts p.AttrpathMore (more_attrs_action (Some k))
-    by TOKEN_DOT e = absurd (true_is_not_false e)
-    by _ e = plainly
-
-shut_bind : (bound : Bool) (n : ℕ) (ts : List Token) → owns (p.PatternEnd bound) n ts ≡ false → Shuts (p.PatternEnd bound) (bind_action bound (head_kind ts))
-shut_bind true n [] h = pattern
-shut_bind false n [] h = pattern
-shut_bind bound n (t ∷ ts) h = by bound t.kind h
-  where
-    by : (b : Bool) (k : SyntaxKind) → owns (p.PatternEnd b) n (record { kind = k; text = t.text; start = t.start; end = t.end } ∷ ts) ≡ false → Shuts (p.PatternEnd b) (bind_action b (Some k))
-    by true TOKEN_AT e = absurd (true_is_not_false e)
-    by true _ e = pattern
-    by false TOKEN_AT e = absurd (true_is_not_false e)
-    by false _ e = pattern
-
-shut_entry : (n : ℕ) (ts : List Token) → owns p.EntryMore n ts ≡ false → Shuts p.EntryMore (default_action (head_kind ts))
-shut_entry n [] h = entry refl
-shut_entry n (t ∷ ts) h = by t.kind h
-  where
-    by : (k : SyntaxKind) → owns p.EntryMore n (record { kind = k; text = t.text; start = t.start; end = t.end } ∷ ts) ≡ false → Shuts p.EntryMore (default_action (Some k))
-    by TOKEN_QUESTION e = absurd (true_is_not_false e)
-    by _ e = entry refl
-
-shut_or : (n : ℕ) (ts : List Token) → owns p.SelectOr n ts ≡ false → Shuts p.SelectOr (or_action (head_kind ts))
-shut_or n [] h = plainly
-shut_or n (t ∷ ts) h = by t.kind h
-  where
-    by : (k : SyntaxKind) → owns p.SelectOr n (record { kind = k; text = t.text; start = t.start; end = t.end } ∷ ts) ≡ false → Shuts p.SelectOr (or_action (Some k))
-    by TOKEN_OR e = absurd (true_is_not_false e)
-    by _ e = plainly
-
-path_goes : (n : ℕ) (ts : List Token) → owns p.PathMore n ts ≡ false → (if goes_on_path n ts then false else true) ≡ true
-path_goes n [] h = refl
-path_goes n (t ∷ ts) h = ap (λ w. if w then false else true) h
-
-shut_path : (n : ℕ) (ts : List Token) → owns p.PathMore n ts ≡ false → Shuts p.PathMore (action_at p.PathMore (head_kind ts) (touches n ts))
-shut_path n ts h = subst (λ (z : Action). Shuts p.PathMore z) (sym (path_ends n ts (path_goes n ts h))) plainly
-
--- where a row may end and the next item is not its own, its node is closed
-pub shut : (y : Place) (n : ℕ) (ts : List Token) → is_common y ≡ true → whole (At y) ≡ true → owns y n ts ≡ false → Shuts y (action_at y (head_kind ts) (touches n ts))
-shut p.RootEnd n ts c w h = absurd (true_is_not_false (sym c))
-shut p.TwicePast n ts c w h = absurd (true_is_not_false (sym c))
-shut p.PathFirst n ts c w h = shut_first n ts h
-shut p.PathMore n ts c w h = shut_path n ts h
-shut p.AttrpathMore n ts c w h = shut_attrs n ts h
-shut (p.PatternEnd bound) n ts c w h = shut_bind bound n ts h
-shut p.PatternPast n ts c w h = pattern
-shut p.EntryMore n ts c w h = shut_entry n ts h
-shut p.EntryPast n ts c w h = entry refl
-shut p.SelectOr n ts c w h = shut_or n ts h
-shut (p.Operated level) n ts c w h = plainly
-shut p.Past n ts c w h = plainly
-shut _ n ts c w h = absurd (true_is_not_false (sym w))
+closed : (y : Place) (act : Action) → Ends y act → (k : SyntaxKind) (d n : ℕ) (row : Sketch) (h : Head) (x : Place) (e : ℕ) (fs : List Frame) (ts : List Token) (es : List Fault) → is_common y ≡ true
+    → perform false act (opened (Node k) y d row) (opened h x e blank ∷ fs) ts n es ≡ machine (opened h x e (one_branch k row) ∷ fs) ts n es
+closed y act (plainly r) k d n row h x e fs ts es c = refl
+closed y act (pattern r) k d n row h x e fs ts es c = refl
+closed y act (entry r) k d n row h x e fs ts es c = ap (λ z. machine (opened h x e (one_branch k row) ∷ fs) ts n z) (ap (λ z. es ++ z) (none_repeated row) ∙ append-nil es)
+closed y act (second r) k d n row h x e fs ts es c = common_realm y 0 c r
+closed y act (last r) k d n row h x e fs ts es c = common_realm y 1 c r
 
 -- a node is closed into a frame that has no trees yet
 pub closes_into : (y : Place) (k : SyntaxKind) (d n : ℕ) (row : Sketch) (h : Head) (x : Place) (e : ℕ) (fs : List Frame) (ts : List Token) (es : List Fault)
     → is_common y ≡ true → IsOver (At y) n ts
     → Runs false (machine (opened (Node k) y d row ∷ (opened h x e blank ∷ fs)) ts n es) (machine (opened h x e (one_branch k row) ∷ fs) ts n es)
 closes_into y k d n row h x e fs ts es c o =
-    step_to (shut_to y (action_at y (head_kind ts) (touches n ts)) (shut y n ts c o.0 o.1) k d n row (opened h x e blank) fs ts es (λ i. none_repeated row)) here
+    step_to (closed y (action_at y (head_kind ts) (touches n ts)) (ends_at y n ts o) k d n row h x e fs ts es c) here

@@ -17,8 +17,8 @@ use Rattle.rnix_grammar.specs.Rows.{At, whole}
 use Rattle.rnix_grammar.specs.OwnItems.{owns}
 use Rattle.rnix_grammar.specs.Reads.{IsOver}
 use Rattle.rnix_lemmas.proofs.Basics.{true_is_not_false}
-use Rattle.rnix_completeness.proofs.PlainSteps.{no_piece}
 use Rattle.rnix_uniqueness.proofs.RowClasses.{row_class}
+use Rattle.rnix_uniqueness.proofs.PlaceActions.{no_piece}
 
 -- the class of a kind's row: that of entries, or of others
 abbrev pub class_of_kind : SyntaxKind → ℕ

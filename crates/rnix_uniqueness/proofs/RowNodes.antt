@@ -20,7 +20,7 @@ use Rattle.rnix_grammar.specs.Rows.{At}
 use Rattle.rnix_grammar.specs.OwnItems.{owns}
 use Rattle.rnix_grammar.specs.Reads.{IsOver}
 use Rattle.rnix_lemmas.proofs.RunLemmas.{dropped_all}
-use Rattle.rnix_completeness.proofs.PlainSteps.{runs_on, runs_to, step_to}
+use Rattle.rnix_uniqueness.proofs.Runs.{runs_on, runs_to, step_to}
 use Rattle.rnix_uniqueness.proofs.StepReads.{ReadsRow}
 use Rattle.rnix_uniqueness.proofs.MissingSteps.{runs_in}
 use Rattle.rnix_uniqueness.proofs.RowClasses.{row_class}

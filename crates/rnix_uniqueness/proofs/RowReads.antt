@@ -13,8 +13,8 @@ use Rattle.rnix_grammar.specs.OwnItems.{owns, stands_owned_in}
 use Rattle.rnix_grammar.specs.Operands.{IsOperand}
 use Rattle.rnix_grammar.specs.Reads.{Reads, end, leaf, lost, wrong, second, inner, deeper, IsOver, IsWrong}
 use Rattle.rnix_lemmas.proofs.SketchLemmas.{tokens_in-row_of}
-use Rattle.rnix_completeness.proofs.PlainSteps.{same_place}
-use Rattle.rnix_completeness.proofs.PlainPlaces.{Reaches, reaches}
+use Rattle.rnix_lemmas.proofs.PlaceTests.{same_place}
+use Rattle.rnix_lemmas.proofs.PlainPlaces.{Reaches, reaches}
 use Rattle.rnix_uniqueness.proofs.StepReads.{ReadsRow}
 use Rattle.rnix_uniqueness.proofs.ReadingHeights.{height, Short, Trees, less, less_left, less_right}
 use Rattle.rnix_uniqueness.proofs.PlacedNodes.{node_read_at}

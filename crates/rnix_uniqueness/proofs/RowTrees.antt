@@ -22,7 +22,7 @@ use Rattle.rnix_lemmas.proofs.SketchLemmas.{⊕-assoc, ⊕-blank}
 use Rattle.rnix_lemmas.proofs.StrictParts.{end_behind}
 use Rattle.rnix_lemmas.proofs.OpenHeads.{is_open}
 use Rattle.rnix_lemmas.proofs.FollowLemmas.{FollowedTo}
-use Rattle.rnix_completeness.proofs.PlainSteps.{runs_on, runs_to, step_to}
+use Rattle.rnix_uniqueness.proofs.Runs.{runs_on, runs_to, step_to}
 use Rattle.rnix_uniqueness.proofs.StepReads.{ReadsRow, ReadsTree, IsOperandRead}
 use Rattle.rnix_uniqueness.proofs.OwnTokens.{takes_at}
 use Rattle.rnix_uniqueness.proofs.MissingSteps.{lacks_in}

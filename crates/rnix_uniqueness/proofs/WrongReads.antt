@@ -22,9 +22,10 @@ use Rattle.rnix_grammar.specs.OwnItems.{owns}
 use Rattle.rnix_grammar.specs.Operands.{IsOperand}
 use Rattle.rnix_grammar.specs.Reads.{deeper, IsRoom, IsWrong}
 use Rattle.rnix_lemmas.proofs.Basics.{true_is_not_false}
-use Rattle.rnix_completeness.proofs.PlainSteps.{same_place, to_test, no_place}
-use Rattle.rnix_completeness.proofs.PlainPlaces.{Reaches, reaches}
-use Rattle.rnix_completeness.proofs.PlainFirsts.{closer_leaf, wanted_leaf}
+use Rattle.rnix_lemmas.proofs.PlaceTests.{same_place}
+use Rattle.rnix_lemmas.proofs.PlaceTests.{to_test, no_place}
+use Rattle.rnix_lemmas.proofs.PlainPlaces.{Reaches, reaches}
+use Rattle.rnix_lemmas.proofs.PlaceTests.{closer_leaf, wanted_leaf}
 use Rattle.rnix_uniqueness.proofs.ItemOperands.{tree_stray}
 use Rattle.rnix_uniqueness.proofs.PlacedNodes.{own_next, own_at}
 use Rattle.rnix_uniqueness.proofs.RowTrees.{ReadsOne, one_operand}

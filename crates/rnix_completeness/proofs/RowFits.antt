@@ -1,0 +1,178 @@
+-- What is known of a strict row from a spot on, and how it goes on behind each of its trees.
+use Rattle.std.proofs.Common.{◌≡◌, ℕ, suc, ◌+◌, ◌≤◌, true, false, List, ◌++◌, ap, sym, ◌∙◌, subst, arith, Bool, [], refl}
+use Rattle.std.proofs.lemmas.Bool.{and_parts}
+use Rattle.std.specs.Prelude.{if◌then◌else◌, nat_eq, max}
+use Rattle.rnix_kinds.specs.declared.kinds.SyntaxKind.{SyntaxKind}
+use Rattle.rnix_grammar.specs.Tables.{depth_limit}
+use Rattle.rnix_grammar.specs.Sketch.{Token, Sketch, blank, token, branch, ◌⊕◌, one_token, one_branch, tokens_in, head_kind, forget, end_from, touches}
+use Rattle.rnix_grammar.specs.Rows.{Spot, At, go, start, counts, Start, first, live}
+use Rattle.rnix_grammar.specs.Strict.{is_strict, is_grouped}
+use Rattle.rnix_grammar.specs.Plain.{joins, is_node, is_path, is_joined, AreUntold, ArePaths, joins_first}
+use Rattle.rnix_lemmas.proofs.RowNesting.{nesting}
+use Rattle.rnix_lemmas.proofs.StrictParts.{parts, Parts}
+use Rattle.std.proofs.lemmas.Bool.Decides.{nat_tests}
+use Rattle.rnix_kinds.proofs.AllKinds.{implied}
+use Rattle.rnix_kinds.specs.declared.kinds.SyntaxKind.TheVariants.{TOKEN_PATH_ABS, TOKEN_PATH_HOME, TOKEN_PATH_REL, NODE_ATTRPATH, NODE_ATTRPATH_VALUE, NODE_CUR_POS, NODE_DYNAMIC, NODE_ERROR, NODE_IDENT, NODE_PATH_ABS, NODE_PATH_HOME, NODE_PATH_REL, NODE_PATTERN, NODE_ROOT}
+use Rattle.rnix_grammar.specs.Reads.{deeper}
+use Rattle.rnix_grammar.specs.Corners.{node_count}
+use Rattle.rnix_lemmas.proofs.Basics.{true_is_not_false}
+use Rattle.rnix_lemmas.proofs.EveryKind.{only, whenever_two, tokens_alone}
+use Rattle.rnix_lemmas.proofs.NodeKinds.{is_error}
+use Rattle.rnix_lemmas.proofs.PlainPlaces.{reaches}
+use Rattle.rnix_completeness.proofs.PlainPieces.{joins_branch, joins_there, joins_at, joins_plain}
+use Rattle.rnix_completeness.proofs.PlainNames.{strict_node, is_sound, unnamed}
+use Rattle.rnix_completeness.proofs.PlainEntries.{AreNew, entries_new}
+use Rattle.rnix_completeness.proofs.RowAsks.{heed, heed_on, by_token, by_branch, in_pattern, in_dynamic, in_path, stays}
+use Rattle.rnix_completeness.proofs.RowGroups.{Grouped, branch_grouped, leaf_grouped}
+
+-- what is nested in a row's trees is nested in the row
+pub max_right : (d m n l : ℕ) → d + max m n ≤ l → d + n ≤ l
+max_right d m n l h = omega (arith, h)
+
+-- the pieces of a path, from a spot of its row on, touch one another, and what follows does not go on with them
+abbrev pub joins_on : Spot → ℕ → Sketch → List Token → Bool
+joins_on (Start j) n f us = is_joined f us
+joins_on (At x) n f us = joins_at x n f us
+joins_on q n f us = true
+
+-- What is known of the rest of a strict row: its parent's kind, its spot, inside how many counted places it is, where the last item ended, the
+-- trees so far, the rest of the row, and the items behind it.
+pub record Fit (k : SyntaxKind) (q : Spot) (d n : ℕ) (g f : Sketch) (us : List Token) : Type 0 where
+  pub sound : is_error k ≡ false
+  pub started : is_sound q ≡ true
+  pub strict : is_strict q (forget f) ≡ true
+  pub spelled : AreUntold f
+  pub paths : ArePaths f us
+  pub joined : in_path q ≡ true → joins_on q n f us ≡ true
+  pub room : d + nesting q (forget f) ≤ depth_limit
+  pub lone : in_dynamic q ≡ true → node_count (forget f) ≤ 1
+  pub new : in_pattern q ≡ true → AreNew g f
+  pub heeds : heed q f (head_kind us) ≡ true
+  pub grouped : Grouped q g f
+
+-- no spot behind a tree is the start of a row
+pub sound_on : (q : Spot) (k : SyntaxKind) → live (go q k) ≡ true → is_sound (go q k) ≡ true
+sound_on (Start j) k l = whenever_two (λ i v. live (first i v)) (λ i v. is_sound (first i v)) refl j k l
+sound_on (At x) k l = ap is_sound (reaches x k l).is
+sound_on q k l = implied (λ i. live (go q i)) (λ i. is_sound (go q i)) refl k l
+
+-- the token of a leaf has its kind
+pub leaf_kind : {p : SyntaxKind} {q : Spot} {d n : ℕ} {g : Sketch} {us : List Token} (k : SyntaxKind) (t : Token) (f : Sketch) → Fit p q d n g (token k t f) us → live (go q k) ≡ true → t.kind ≡ k
+leaf_kind {q = q} k t f w l = unnamed q k t w.started l w.spelled.1
+
+path_first : (j k : SyntaxKind) (n : ℕ) (f : Sketch) (us : List Token) → is_path j ≡ true → live (first j k) ≡ true → joins_first n f us ≡ true → joins_on (first j k) n f us ≡ true
+path_first NODE_PATH_ABS k n f us e l h = subst (λ z. joins_on (first NODE_PATH_ABS z) n f us ≡ true) (sym (only (λ i. live (first NODE_PATH_ABS i)) TOKEN_PATH_ABS refl k l)) h
+path_first NODE_PATH_REL k n f us e l h = subst (λ z. joins_on (first NODE_PATH_REL z) n f us ≡ true) (sym (only (λ i. live (first NODE_PATH_REL i)) TOKEN_PATH_REL refl k l)) h
+path_first NODE_PATH_HOME k n f us e l h = subst (λ z. joins_on (first NODE_PATH_HOME z) n f us ≡ true) (sym (only (λ i. live (first NODE_PATH_HOME i)) TOKEN_PATH_HOME refl k l)) h
+path_first _ k n f us e l h = absurd (true_is_not_false (sym e))
+
+joined_leaf : (q : Spot) (n : ℕ) (k : SyntaxKind) (t : Token) (f : Sketch) (us : List Token) → live (go q k) ≡ true → (in_path q ≡ true → joins_on q n (token k t f) us ≡ true) → in_path (go q k) ≡ true → joins_on (go q k) t.end f us ≡ true
+joined_leaf (Start j) n k t f us l h e = let o = (stays (Start j) k l).path e in path_first j k t.end f us o l (h o)
+joined_leaf (At x) n k t f us l h e =
+    let r = reaches x k l in
+    subst (λ z. joins_on z t.end f us ≡ true) (sym r.is) (joins_there r.place t.end f us (and_parts (nat_eq t.start n) (joins t.end f us) (joins_plain x n k t f us (h ((stays (At x) k l).path e)))).1)
+joined_leaf q n k t f us l h e = absurd (true_is_not_false (sym ((stays q k l).path e)))
+
+joined_branch : (q : Spot) (n : ℕ) (k : SyntaxKind) (c f : Sketch) (us : List Token) → live (go q k) ≡ true → is_node k ≡ true → (in_path q ≡ true → joins_on q n (branch k c f) us ≡ true) → in_path (go q k) ≡ true
+    → joins_on (go q k) (end_from n (tokens_in c)) f us ≡ true
+joined_branch (Start j) n k c f us l v h e = absurd (true_is_not_false (sym v ∙ path_token j k ((stays (Start j) k l).path e) l))
+  where
+    path_token : (j k : SyntaxKind) → is_path j ≡ true → live (first j k) ≡ true → is_node k ≡ false
+    path_token NODE_PATH_ABS k e l = tokens_alone (λ i. live (first NODE_PATH_ABS i)) refl k l
+    path_token NODE_PATH_REL k e l = tokens_alone (λ i. live (first NODE_PATH_REL i)) refl k l
+    path_token NODE_PATH_HOME k e l = tokens_alone (λ i. live (first NODE_PATH_HOME i)) refl k l
+    path_token _ k e l = absurd (true_is_not_false (sym e))
+joined_branch (At x) n k c f us l v h e =
+    let r = reaches x k l in
+    subst (λ z. joins_on z (end_from n (tokens_in c)) f us ≡ true) (sym r.is)
+    (joins_there r.place (end_from n (tokens_in c)) f us (and_parts (touches n (tokens_in c ++ (tokens_in f ++ us))) (joins (end_from n (tokens_in c)) f us) (joins_branch x n k c f us (h ((stays (At x) k l).path e)))).1)
+joined_branch q n k c f us l v h e = absurd (true_is_not_false (sym ((stays q k l).path e)))
+
+-- how a row goes on behind a token
+pub leaf_fit : {p : SyntaxKind} {q : Spot} {d n : ℕ} {g : Sketch} {us : List Token} (k : SyntaxKind) (t : Token) (f : Sketch) → Fit p q d n g (token k t f) us → live (go q k) ≡ true
+    → Fit p (go q k) d t.end (g ⊕ one_token k t) f us
+leaf_fit {q = q} {n = n} {g = g} {us = us} k t f w l = record {
+  sound = w.sound;
+  started = sound_on q k l;
+  strict = (and_parts (live (go q k)) (is_strict (go q k) (forget f)) w.strict).1;
+  spelled = w.spelled.2;
+  paths = w.paths;
+  joined = joined_leaf q n k t f us l w.joined;
+  room = w.room;
+  lone = λ h. w.lone ((stays q k l).dynamic h);
+  new = λ h. w.new ((stays q k l).pattern h);
+  heeds = heed_on q k (head_kind us) by_token l w.heeds;
+  grouped = leaf_grouped q k t g f w.grouped w.spelled.0 l;
+}
+
+-- and behind a node
+pub branch_fit : {p : SyntaxKind} {q : Spot} {d n : ℕ} {g : Sketch} {us : List Token} (k : SyntaxKind) (c f : Sketch) → Fit p q d n g (branch k c f) us → live (go q k) ≡ true
+    → Fit p (go q k) d (end_from n (tokens_in c)) (g ⊕ one_branch k c) f us
+branch_fit {q = q} {d = d} {n = n} {g = g} {us = us} k c f w l =
+    let m : Parts q k (forget c) (forget f) = parts q k (forget c) (forget f) w.strict in
+    let v : is_node k ≡ true = strict_node k c w.spelled.0 m.inner in
+    record {
+      sound = w.sound;
+      started = sound_on q k l;
+      strict = m.more;
+      spelled = w.spelled.1;
+      paths = w.paths.2;
+      joined = joined_branch q n k c f us l v w.joined;
+      room = max_right d (if counts q then suc (nesting (start k) (forget c)) else nesting (start k) (forget c)) (nesting (go q k) (forget f)) depth_limit w.room;
+      lone = λ h. let o = w.lone ((stays q k l).dynamic h) in omega (arith, o);
+      new = λ h. (w.new ((stays q k l).pattern h)).1;
+      heeds = heed_on q k (head_kind us) (by_branch v) l w.heeds;
+      grouped = branch_grouped q k g c f w.grouped w.spelled w.strict v;
+    }
+
+start_sound : (k : SyntaxKind) → is_error k ≡ false → is_sound (start k) ≡ true
+start_sound NODE_ERROR h = absurd (true_is_not_false h)
+start_sound NODE_IDENT h = absurd (true_is_not_false h)
+start_sound NODE_CUR_POS h = absurd (true_is_not_false h)
+start_sound _ h = refl
+
+start_joined : (k : SyntaxKind) (n : ℕ) (c : Sketch) (vs : List Token) → (if is_path k then is_joined c vs else true) ≡ true → in_path (start k) ≡ true → joins_on (start k) n c vs ≡ true
+start_joined NODE_PATH_ABS n c vs h e = h
+start_joined NODE_PATH_REL n c vs h e = h
+start_joined NODE_PATH_HOME n c vs h e = h
+start_joined _ n c vs h e = absurd (true_is_not_false (sym e))
+
+one_at_most : (n : ℕ) → nat_eq n 1 ≡ true → n ≤ 1
+one_at_most n h = grind (arith, nat_tests, h)
+
+start_lone : (k : SyntaxKind) (c : Sketch) → is_grouped k (forget c) ≡ true → in_dynamic (start k) ≡ true → node_count (forget c) ≤ 1
+start_lone NODE_DYNAMIC c h e = one_at_most (node_count (forget c)) h
+start_lone _ c h e = absurd (true_is_not_false (sym e))
+
+start_new : (k : SyntaxKind) (c : Sketch) → AreUntold c → is_grouped k (forget c) ≡ true → in_pattern (start k) ≡ true → AreNew blank c
+start_new NODE_PATTERN c v h e = entries_new [] blank c (λ x n. refl) v h
+start_new _ c v h e = absurd (true_is_not_false (sym e))
+
+start_grouped : (k : SyntaxKind) (c : Sketch) → is_grouped k (forget c) ≡ true → Grouped (start k) blank c
+start_grouped NODE_ROOT c h = tt
+start_grouped NODE_ATTRPATH c h = tt
+start_grouped NODE_ATTRPATH_VALUE c h = tt
+start_grouped _ c h = (refl, h)
+
+start_room : (w : Bool) (d m r l : ℕ) → d + max (if w then suc m else m) r ≤ l → (if w then suc d else d) + m ≤ l
+start_room true d m r l h = omega (arith, h)
+start_room false d m r l h = omega (arith, h)
+
+-- what is known of the row of a node
+pub inner_fit : {p : SyntaxKind} {q : Spot} {d n : ℕ} {g : Sketch} {us : List Token} (k : SyntaxKind) (c f : Sketch) → Fit p q d n g (branch k c f) us → is_error k ≡ false
+    → heed (start k) c (head_kind (tokens_in f ++ us)) ≡ true → Fit k (start k) (deeper q d) n blank c (tokens_in f ++ us)
+inner_fit {q = q} {d = d} {n = n} {g = g} {us = us} k c f w e h =
+    let m : Parts q k (forget c) (forget f) = parts q k (forget c) (forget f) w.strict in
+    record {
+      sound = e;
+      started = start_sound k e;
+      strict = m.inner;
+      spelled = w.spelled.0;
+      paths = w.paths.1;
+      joined = start_joined k n c (tokens_in f ++ us) w.paths.0;
+      room = start_room (counts q) d (nesting (start k) (forget c)) (nesting (go q k) (forget f)) depth_limit w.room;
+      lone = start_lone k c m.grouped;
+      new = start_new k c w.spelled.0 m.grouped;
+      heeds = h;
+      grouped = start_grouped k c m.grouped;
+    }

@@ -1,0 +1,240 @@
+-- The first tree of a strict operator, call or selection stands before an item that follows it.
+use Rattle.std.proofs.Common.{◌≡◌, ℕ, ◌≤◌, Bool, true, false, List, ◌++◌, Some, refl, ap, sym, ◌∙◌, subst, arith}
+use Rattle.std.proofs.lemmas.Bool.Decides.{nat_tests}
+use Rattle.std.proofs.lemmas.Bool.{and_parts}
+use Rattle.std.specs.Prelude.{◌&&◌, ◌||◌, if◌then◌else◌, nat_le}
+use Rattle.rnix_kinds.specs.declared.kinds.SyntaxKind.{SyntaxKind}
+use Rattle.rnix_kinds.specs.declared.kinds.SyntaxKind.TheVariants.{TOKEN_AT, TOKEN_DOT, TOKEN_IDENT, TOKEN_INVERT, TOKEN_OR, TOKEN_QUESTION, NODE_APPLY, NODE_ASSERT, NODE_BIN_OP, NODE_HAS_ATTR, NODE_IDENT, NODE_IF_ELSE, NODE_LAMBDA, NODE_LEGACY_LET, NODE_LET_IN, NODE_PAT_BIND, NODE_SELECT, NODE_UNARY_OP, NODE_WITH}
+use Rattle.rnix_kinds.specs.SyntaxKind.{is_fn_arg}
+use Rattle.rnix_tree.specs.Forest.{Forest}
+use Rattle.rnix_grammar.specs.declared.place.Place.TheVariants as p
+use Rattle.rnix_grammar.specs.Levels.{power, left_of, right_of}
+use Rattle.rnix_grammar.specs.Tables as t
+use Rattle.rnix_grammar.specs.TokenKinds.{is_or, is_dot, is_question}
+use Rattle.rnix_grammar.specs.Sketch.{Token, Sketch, blank, token, branch, fault, ◌⊕◌, one_token, one_branch, tokens_in, head_kind, forget}
+use Rattle.rnix_grammar.specs.Rows.{Spot, Start, BeforeOperator, BeforeDot, BeforeQuestion, BeforeArgument, SecondStart, At, first, go, is_atom, is_infix, is_operand, is_questioned, is_simple, live, start, to, fits}
+use Rattle.rnix_grammar.specs.Strict.{is_or_name, is_grouped, is_strict, is_strict_atom, first_is_no_or, operator_of, stands_at, prefix_level}
+use Rattle.rnix_grammar.specs.Strict as st
+use Rattle.rnix_grammar.specs.TreeLevels.{operator_in, prefix_in, is_or_row, is_or_leaf, calls_or, level_of, row_level, is_atom_row}
+use Rattle.rnix_grammar.specs.Operands.{follows, IsFollowed}
+use Rattle.rnix_grammar.specs.Plain.{is_node, AreUntold}
+use Rattle.rnix_lemmas.proofs.Basics.{true_is_not_false, not_if}
+use Rattle.rnix_lemmas.proofs.EveryKind.{only, whenever_two, tokens_alone}
+use Rattle.rnix_kinds.proofs.AllKinds.{implied}
+use Rattle.std.specs.Cmp.Derive.{both_true}
+use Rattle.rnix_lemmas.proofs.NodeKinds.{not_both}
+use Rattle.rnix_lemmas.proofs.OpeningRows.{live_to, to_live}
+use Rattle.rnix_lemmas.proofs.StrictParts.{standing, parts}
+use Rattle.rnix_completeness.proofs.PlainFirsts.{Begins}
+use Rattle.rnix_completeness.proofs.PlainNames.{IsName, only_name}
+use Rattle.rnix_completeness.proofs.RowOwns.{simple_node, is_leaf}
+
+or_kind : (w : Bool) (k : SyntaxKind) → k ≡ (if w then TOKEN_OR else TOKEN_IDENT) → w ≡ is_or k
+or_kind true k e = sym (ap is_or e)
+or_kind false k e = sym (ap is_or e)
+
+-- a tree is the name `or` where its token is
+pub or_same : (j : SyntaxKind) (d f : Sketch) → AreUntold d → is_strict (start j) (forget d) ≡ true → is_or_name j (forget d) ≡ is_or_row (branch j d f)
+or_same NODE_IDENT d f v h = by (only_name d h v)
+  where
+    by : IsName d → t.is_or (st.only_text (forget d)) ≡ is_or_leaf d
+    by w =
+        ap (λ z. t.is_or (st.only_text (forget z))) w.is
+        ∙ or_kind (t.is_or w.token.text) w.token.kind (subst (λ (z : Sketch). AreUntold z) w.is v).1
+        ∙ ap is_or_leaf (sym w.is)
+or_same _ d f v h = refl
+
+operator_same : (c : Sketch) → operator_of (forget c) ≡ operator_in c
+operator_same blank = refl
+operator_same (token k t f) = refl
+operator_same (branch k c blank) = refl
+operator_same (branch k c (token j t f)) = refl
+operator_same (branch k c (branch j d f)) = refl
+operator_same (branch k c (fault n d f)) = refl
+operator_same (fault k c blank) = refl
+operator_same (fault k c (token j t f)) = refl
+operator_same (fault k c (branch j d f)) = refl
+operator_same (fault k c (fault n d f)) = refl
+
+prefix_same : (c : Sketch) → is_strict (start NODE_UNARY_OP) (forget c) ≡ true → prefix_level (forget c) ≤ prefix_in c
+prefix_same blank h = absurd (true_is_not_false (sym h))
+prefix_same (token TOKEN_INVERT t f) h = omega arith
+prefix_same (token _ t f) h = omega arith
+prefix_same (branch k c f) h = omega arith
+prefix_same (fault n c f) h = omega arith
+
+more_row : (k : SyntaxKind) (q : Bool) (c f : Sketch) → AreUntold f → is_strict (to q BeforeArgument) (forget f) ≡ true → st.calls_or (forget (branch k c f)) ≡ is_or_row f
+more_row k q c blank v h = refl
+more_row k q c (token j t f) v h = refl
+more_row k true c (branch j d f) v h = or_same j d f v.0 (parts BeforeArgument j (forget d) (forget f) h).inner
+more_row k false c (branch j d f) v h = absurd (true_is_not_false (sym h))
+more_row k q c (fault n d f) v h = absurd v
+
+-- a call calls the name `or` where its second token is it
+pub calls_same : (c : Sketch) → AreUntold c → is_strict (start NODE_APPLY) (forget c) ≡ true → st.calls_or (forget c) ≡ calls_or c
+calls_same blank v h = refl
+calls_same (token k t f) v h = refl
+calls_same (branch k c f) v h = more_row k (is_simple k) c f v.1 (parts (start NODE_APPLY) k (forget c) (forget f) h).more
+calls_same (fault n c f) v h = absurd v
+
+-- a strict tree binds at least as tightly as the strict grammar says
+pub level_more : (k : SyntaxKind) (c : Sketch) → AreUntold c → is_strict (start k) (forget c) ≡ true → st.level_of k (forget c) ≤ level_of k c
+level_more NODE_BIN_OP c v h = let e = ap power (operator_same c) in omega (arith, e)
+level_more NODE_UNARY_OP c v h = prefix_same c h
+level_more NODE_APPLY c v h = let e = ap {B = ℕ} (λ w. if w then 16 else 15) (calls_same c v h) in omega (arith, e)
+level_more NODE_HAS_ATTR c v h = omega arith
+level_more NODE_LAMBDA c v h = omega arith
+level_more NODE_LEGACY_LET c v h = omega arith
+level_more NODE_LET_IN c v h = omega arith
+level_more NODE_WITH c v h = omega arith
+level_more NODE_IF_ELSE c v h = omega arith
+level_more NODE_ASSERT c v h = omega arith
+level_more _ c v h = omega arith
+
+-- what is known of the trees of a row before a spot and behind
+abbrev pub Grouped : Spot → Sketch → Sketch → Type 0
+Grouped (Start j) g f = (g ≡ blank) × (is_grouped j (forget f) ≡ true)
+Grouped BeforeOperator g (token k t f) = nat_le (left_of k) (row_level g) ≡ true
+Grouped BeforeDot g f = is_atom_row g ≡ true
+Grouped BeforeQuestion g f = nat_le 13 (row_level g) ≡ true
+Grouped BeforeArgument g f = (if is_or_row f then is_atom_row g else nat_le 15 (row_level g)) ≡ true
+Grouped (At p.BindName) g f = first_is_no_or (forget f) ≡ true
+Grouped (At p.TwiceName) g f = ⊥
+Grouped SecondStart g f = ⊥
+Grouped q g f = Unit {0}
+
+tight : (m : ℕ) (k : SyntaxKind) (c : Sketch) → stands_at m k (forget c) ≡ true → AreUntold c → is_strict (start k) (forget c) ≡ true → nat_le m (level_of k c) ≡ true
+tight m k c s v h = by (nat_le m (level_of k c)) refl
+  where
+    by : (w : Bool) → nat_le m (level_of k c) ≡ w → w ≡ true
+    by true e = refl
+    by false e = absurd (grind (arith, nat_tests, e, (standing m k (forget c) s).low, level_more k c v h))
+
+-- what `.` may follow is an atom
+pub atom_is : (k : SyntaxKind) (c : Forest) → is_strict_atom k c ≡ true → is_atom k ≡ true
+atom_is NODE_LAMBDA c h = refl
+atom_is k c h = (and_parts (is_atom k) (st.is_named k c) h).0
+
+binary_grouped : (k : SyntaxKind) (c f : Sketch) → is_grouped NODE_BIN_OP (forget (branch k c f)) ≡ true → AreUntold c → is_strict (start k) (forget c) ≡ true → Grouped BeforeOperator (one_branch k c) f
+binary_grouped k c blank s v h = tt
+binary_grouped k c (token j t f) s v h = tight (left_of j) k c s v h
+binary_grouped k c (branch j d f) s v h = tt
+binary_grouped k c (fault j d f) s v h = tt
+
+apply_grouped : (k : SyntaxKind) (c f : Sketch) → is_grouped NODE_APPLY (forget (branch k c f)) ≡ true → AreUntold (branch k c f) → is_strict (start NODE_APPLY) (forget (branch k c f)) ≡ true
+    → Grouped BeforeArgument (one_branch k c) f
+apply_grouped k c f s v h = by (st.calls_or (forget (branch k c f))) (is_or_row f) (calls_same (branch k c f) v h) s
+  where
+    by : (w u : Bool) → w ≡ u → (if w then is_strict_atom k (forget c) else stands_at 15 k (forget c)) ≡ true → (if u then is_atom k else nat_le 15 (level_of k c)) ≡ true
+    by true true e s = atom_is k (forget c) s
+    by false false e s = tight 15 k c s v.0 (parts (start NODE_APPLY) k (forget c) (forget f) h).inner
+    by true false e s = absurd (true_is_not_false e)
+    by false true e s = absurd (true_is_not_false (sym e))
+
+-- the spots at which more is known of a row
+abbrev is_grouping : Spot → Bool
+is_grouping (Start j) = true
+is_grouping BeforeOperator = true
+is_grouping BeforeDot = true
+is_grouping BeforeQuestion = true
+is_grouping BeforeArgument = true
+is_grouping (At p.BindName) = true
+is_grouping (At p.TwiceName) = true
+is_grouping SecondStart = true
+is_grouping q = false
+
+plain : (q : Spot) (g f : Sketch) → is_grouping q ≡ false → Grouped q g f
+plain (Start j) g f h = absurd (true_is_not_false h)
+plain BeforeOperator g f h = absurd (true_is_not_false h)
+plain BeforeDot g f h = absurd (true_is_not_false h)
+plain BeforeQuestion g f h = absurd (true_is_not_false h)
+plain BeforeArgument g f h = absurd (true_is_not_false h)
+plain (At p.BindName) g f h = absurd (true_is_not_false h)
+plain (At p.TwiceName) g f h = absurd (true_is_not_false h)
+plain SecondStart g f h = absurd (true_is_not_false h)
+plain _ g f h = tt
+
+-- the kinds whose rows do not begin with an operand
+abbrev is_closed : SyntaxKind → Bool
+is_closed NODE_BIN_OP = false
+is_closed NODE_HAS_ATTR = false
+is_closed NODE_SELECT = false
+is_closed NODE_APPLY = false
+is_closed kind = true
+
+abbrev is_no_bind : SyntaxKind → Bool
+is_no_bind NODE_PAT_BIND = false
+is_no_bind kind = true
+
+closed_plain : (j k : SyntaxKind) → is_closed j ≡ true → is_node k ≡ true → is_grouping (first j k) ≡ false
+closed_plain j k o n = not_if (is_grouping (first j k)) (whenever_two (λ i u. is_closed i && is_node u) (λ i u. if is_grouping (first i u) then false else true) refl j k (both_true o n))
+
+leaf_plain : (j k : SyntaxKind) → is_no_bind j ≡ true → is_leaf k ≡ true → live (first j k) ≡ true → is_grouping (first j k) ≡ false
+leaf_plain j k o n l =
+    not_if (is_grouping (first j k))
+    (whenever_two (λ i u. is_no_bind i && (is_leaf u && live (first i u))) (λ i u. if is_grouping (first i u) then false else true) refl j k (both_true o (both_true n l)))
+
+-- what is known behind the first tree, if it is a node
+first_grouped : (j k : SyntaxKind) (c f : Sketch) → is_grouped j (forget (branch k c f)) ≡ true → AreUntold (branch k c f) → is_strict (Start j) (forget (branch k c f)) ≡ true → is_node k ≡ true
+    → Grouped (first j k) (one_branch k c) f
+first_grouped NODE_BIN_OP k c f s v h n = let m = parts (start NODE_BIN_OP) k (forget c) (forget f) h in subst (λ z. Grouped z (one_branch k c) f) (sym (to_live (is_operand k) BeforeOperator m.live)) (binary_grouped k c f s v.0 m.inner)
+first_grouped NODE_HAS_ATTR k c f s v h n = let m = parts (start NODE_HAS_ATTR) k (forget c) (forget f) h in subst (λ z. Grouped z (one_branch k c) f) (sym (to_live (is_questioned k) BeforeQuestion m.live)) (tight 13 k c s v.0 m.inner)
+first_grouped NODE_SELECT k c f s v h n = let m = parts (start NODE_SELECT) k (forget c) (forget f) h in subst (λ z. Grouped z (one_branch k c) f) (sym (to_live (is_atom k) BeforeDot m.live)) (atom_is k (forget c) s)
+first_grouped NODE_APPLY k c f s v h n = let m = parts (start NODE_APPLY) k (forget c) (forget f) h in subst (λ z. Grouped z (one_branch k c) f) (sym (to_live (is_simple k) BeforeArgument m.live)) (apply_grouped k c f s v h)
+first_grouped j k c f s v h n = plain (first j k) (one_branch k c) f (closed_plain j k refl n)
+
+-- and if it is a token
+token_grouped : (j k : SyntaxKind) (t : Token) (f : Sketch) → is_grouped j (forget (token k t f)) ≡ true → is_node k ≡ false → live (first j k) ≡ true → Grouped (first j k) (one_token k t) f
+token_grouped NODE_PAT_BIND TOKEN_AT t f s n l = s
+token_grouped NODE_PAT_BIND NODE_IDENT t f s n l = absurd (true_is_not_false n)
+token_grouped NODE_PAT_BIND _ t f s n l = absurd (true_is_not_false (sym l))
+token_grouped j k t f s n l = plain (first j k) (one_token k t) f (leaf_plain j k refl (ap (λ w. if w then false else true) n) l)
+
+-- behind each other spot nothing more is known
+rest_grouped : (q : Spot) (k : SyntaxKind) (g h e : Sketch) (z : Sketch) → live (go q k) ≡ true → Grouped q g e → ((j : SyntaxKind) → q ≡ Start j → Grouped (go q k) h z) → Grouped (go q k) h z
+rest_grouped (Start j) k g h e z l u s = s j refl
+rest_grouped SecondStart k g h e z l u s = absurd u
+rest_grouped (At (p.Right level)) k g h e z l u s = subst (λ v. Grouped v h z) (sym (to_live (fits level k) (At (p.Operated level)) l)) tt
+rest_grouped (At (p.PatternEnd true)) k g h e z l u s = absurd (true_is_not_false (sym l))
+rest_grouped q k g h e z l u s = plain (go q k) h z (not_if (is_grouping (go q k)) (implied (λ i. live (go q i)) (λ i. if is_grouping (go q i) then false else true) refl k l))
+
+-- what is known of a row stays known behind a node
+pub branch_grouped : (q : Spot) (k : SyntaxKind) (g c f : Sketch) → Grouped q g (branch k c f) → AreUntold (branch k c f) → is_strict q (forget (branch k c f)) ≡ true → is_node k ≡ true → Grouped (go q k) (g ⊕ one_branch k c) f
+branch_grouped (Start j) k g c f u v h n = subst (λ z. Grouped (go (Start j) k) (z ⊕ one_branch k c) f) (sym u.0) (first_grouped j k c f u.1 v h n)
+branch_grouped q k g c f u v h n = rest_grouped q k g (g ⊕ one_branch k c) (branch k c f) f (parts q k (forget c) (forget f) h).live u (λ j e. absurd (cc))
+
+-- and behind a token
+pub leaf_grouped : (q : Spot) (k : SyntaxKind) (t : Token) (g f : Sketch) → Grouped q g (token k t f) → is_node k ≡ false → live (go q k) ≡ true → Grouped (go q k) (g ⊕ one_token k t) f
+leaf_grouped (Start j) k t g f u n l = subst (λ z. Grouped (go (Start j) k) (z ⊕ one_token k t) f) (sym u.0) (token_grouped j k t f u.1 n l)
+leaf_grouped q k t g f u n l = rest_grouped q k g (g ⊕ one_token k t) (token k t f) f l u (λ j e. absurd (cc))
+
+-- the first tree of a row stands before a token that follows it
+pub followed_leaf : (q : Spot) (k : SyntaxKind) (t : Token) (g f : Sketch) → Grouped q g (token k t f) → is_node k ≡ false → live (go q k) ≡ true → IsFollowed q g (Some k)
+followed_leaf BeforeOperator k t g f u n l = ap (λ w. if w then nat_le (left_of k) (row_level g) else (if is_question k then nat_le 13 (row_level g) else (if is_fn_arg k then nat_le 15 (row_level g) else ((is_dot k || is_or k) && is_atom_row g)))) (live_to (is_infix k) (At (p.Right (right_of k))) l) ∙ u
+followed_leaf BeforeDot k t g f u n l = subst (λ z. follows z g ≡ true) (sym (only (λ i. live (go BeforeDot i)) TOKEN_DOT refl k l)) u
+followed_leaf BeforeQuestion k t g f u n l = subst (λ z. follows z g ≡ true) (sym (only (λ i. live (go BeforeQuestion i)) TOKEN_QUESTION refl k l)) u
+followed_leaf BeforeArgument k t g f u n l = absurd (not_both k n (simple_node k (live_to (is_simple k) (At p.Past) l)))
+followed_leaf _ k t g f u n l = tt
+
+-- what an argument, or the name `or`, begins with
+abbrev pub calls_with : Bool → SyntaxKind → Bool
+calls_with true k = is_or k
+calls_with false k = is_fn_arg k
+
+call_followed : (g : Sketch) (w : Bool) (i : SyntaxKind) → calls_with w i ≡ true → (if w then is_atom_row g else nat_le 15 (row_level g)) ≡ true → ((is_fn_arg i || is_or i) && follows i g) ≡ true
+call_followed g true i b h = subst (λ z. ((is_fn_arg z || is_or z) && follows z g) ≡ true) (sym (only is_or TOKEN_OR refl i b)) h
+call_followed g false i b h =
+    let x : is_infix i ≡ false = not_if (is_infix i) (implied is_fn_arg (λ k. if is_infix k then false else true) refl i b) in
+    let y : is_question i ≡ false = not_if (is_question i) (implied is_fn_arg (λ k. if is_question k then false else true) refl i b) in
+    ap (λ z. (z || is_or i) && (if is_infix i then nat_le (left_of i) (row_level g) else (if is_question i then nat_le 13 (row_level g) else (if z then nat_le 15 (row_level g) else ((is_dot i || is_or i) && is_atom_row g))))) b
+    ∙ ap (λ z. if z then nat_le (left_of i) (row_level g) else (if is_question i then nat_le 13 (row_level g) else nat_le 15 (row_level g))) x
+    ∙ ap (λ z. if z then nat_le 13 (row_level g) else nat_le 15 (row_level g)) y ∙ h
+
+-- so before a node
+pub followed_branch : (q : Spot) (k : SyntaxKind) (g c f : Sketch) (us : List Token) → Grouped q g (branch k c f) → is_node k ≡ true → live (go q k) ≡ true
+    → (q ≡ BeforeArgument → Begins (calls_with (is_or_row (branch k c f))) c) → IsFollowed q g (head_kind (tokens_in c ++ us))
+followed_branch BeforeOperator k g c f us u n l b = absurd (not_both k (tokens_alone (λ i. live (go BeforeOperator i)) refl k l) n)
+followed_branch BeforeDot k g c f us u n l b = absurd (not_both k (tokens_alone (λ i. live (go BeforeDot i)) refl k l) n)
+followed_branch BeforeQuestion k g c f us u n l b = absurd (not_both k (tokens_alone (λ i. live (go BeforeQuestion i)) refl k l) n)
+followed_branch BeforeArgument k g c f us u n l b = let s = b refl in subst (λ o. IsFollowed BeforeArgument g o) (sym (s.is us)) (call_followed g (is_or_row (branch k c f)) s.kind s.passes u)
+followed_branch _ k g c f us u n l b = tt

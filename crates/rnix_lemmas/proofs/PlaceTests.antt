@@ -1,0 +1,36 @@
+-- Where a test leads to a place, and what tests of places pass.
+use Rattle.std.proofs.Common.{◌≡◌, Bool, true, false, refl, sym}
+use Rattle.rnix_kinds.specs.declared.kinds.SyntaxKind.{SyntaxKind}
+use Rattle.rnix_grammar.specs.declared.place.Place.{Place}
+use Rattle.rnix_grammar.specs.declared.until.Until.{Until}
+use Rattle.rnix_grammar.specs.declared.until.Closer.{Closer}
+use Rattle.rnix_grammar.specs.declared.until.Closer.TheVariants as c
+use Rattle.rnix_grammar.specs.Tables.{is_wanted, closes}
+use Rattle.rnix_grammar.specs.Rows.{At, Nowhere, to}
+use Rattle.rnix_grammar.specs.Plain.{is_node}
+use Rattle.rnix_lemmas.proofs.EveryKind.{tokens_alone}
+use Rattle.rnix_lemmas.proofs.Basics.{true_is_not_false}
+use Rattle.rnix_grammar.specs.declared.until.Until.TheVariants as u
+
+-- equal spots stand at one place
+pub same_place : (x y : Place) → At x ≡ At y → x ≡ y
+same_place x y h = cc
+
+-- nowhere is no place
+pub no_place : (y : Place) → Nowhere ≡ At y → ⊥
+no_place y h = cc
+
+-- where a test comes to a place, it holds
+pub to_test : (w : Bool) (z y : Place) → to w (At z) ≡ At y → (w ≡ true) × (z ≡ y)
+to_test true z y h = (refl, same_place z y h)
+to_test false z y h = absurd (no_place y h)
+
+-- what closes a row is a token
+pub closer_leaf : (closer : Closer) (j : SyntaxKind) → closes closer j ≡ true → is_node j ≡ false
+closer_leaf c.In j h = tokens_alone (closes c.In) refl j h
+closer_leaf closer j h = tokens_alone (closes closer) refl j h
+
+-- what is wanted is a token
+pub wanted_leaf : (until : Until) (j : SyntaxKind) → is_wanted until j ≡ true → is_node j ≡ false
+wanted_leaf u.End j h = absurd (true_is_not_false (sym h))
+wanted_leaf until j h = tokens_alone (is_wanted until) refl j h

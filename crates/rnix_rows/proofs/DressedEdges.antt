@@ -1,0 +1,151 @@
+-- What is dressed from an item on begins and ends with items.
+use Rattle.std.proofs.Common.{◌≡◌, Bool, true, false, List, [], ◌∷◌, ◌++◌, refl, ap, sym, ◌∙◌, subst, append_assoc}
+use Rattle.rnix_kinds.specs.declared.kinds.SyntaxKind.{SyntaxKind}
+use Rattle.rnix_kinds.specs.SyntaxKind.{is_trivia}
+use Rattle.rnix_grammar.specs.Sketch.{Token, Sketch, blank, token, branch, fault, ◌⊕◌, one_token, one_branch, one_fault, tokens_in}
+use Rattle.rnix_grammar.specs.Layout.{from_item, tail_of, items, trivia_if, trivia_before, is_last, trivia_after, rest_after, left_after, dressed}
+use Rattle.rnix_grammar.specs.Machine.{ate}
+use Rattle.rnix_grammar.specs.Trim.{BeginsWithItem, EndsWithItem, token_kinds, AreFaultsTrimmed}
+use Rattle.rnix_lemmas.proofs.SketchLemmas.{⊕-assoc, ⊕-blank}
+use Rattle.rnix_lemmas.proofs.LayoutLemmas.{IsFirst, first_item, IsBared, bared, items-from_item, items-rest_after}
+use Rattle.rnix_lemmas.proofs.EdgeLemmas.{some, IsEdged, edged_led, edged_added, edged_branch, edged_fault, faults_trimmed-⊕, faults_trimmed_trivia}
+use Rattle.rnix_rows.proofs.DressLemmas.{HasTree, IsBare, bare_from, bare_trivia}
+use Rattle.rnix_rows.proofs.StandsFilled.{AreFilled, AreFaultsFilled}
+
+-- each node of a row has tokens, and begins and ends with an item
+abbrev pub AreEdged : Sketch → Type 0
+AreEdged blank = Unit {0}
+AreEdged (token k t f) = AreEdged f
+AreEdged (branch k c f) = IsEdged c × AreEdged c × AreEdged f
+AreEdged (fault n c f) = IsEdged c × AreEdged c × AreEdged f
+
+-- a row that goes on with trees before some tokens: it begins and ends with items, or nothing is in it and an item comes next
+pub data IsReady (g f : Sketch) (ts : List Token) : Type 0 where
+  read : IsEdged g → IsReady g f ts
+  unread : g ≡ blank → IsBare ts → HasTree f → IsReady g f ts
+
+-- the next tree, with the trivia before it
+ready_next : (g x : Sketch) {f : Sketch} (ts : List Token) → IsReady g f ts → IsEdged x → IsEdged (ate true g ts ⊕ x)
+ready_next g x ts (read e) h = edged_added g ts x (edged_led g e) h
+ready_next g x ts (unread e b t) h = subst (λ (z : Sketch). IsEdged (z ⊕ x)) (sym (ap (λ z. z ⊕ trivia_before ts) e ∙ bare_trivia ts b)) h
+
+-- a row goes on with a tree and more behind it
+next_more : (g x f : Sketch) (ts : List Token) → ate true g ts ⊕ (x ⊕ f) ≡ (ate true g ts ⊕ x) ⊕ f
+next_more g x f ts = sym (⊕-assoc (ate true g ts) x f)
+
+-- a row with trees behind it
+more : (g h : Sketch) (ts : List Token) → ate true g ts ⊕ h ≡ g ⊕ (trivia_before ts ⊕ h)
+more g h ts = ⊕-assoc g (trivia_before ts) h
+
+-- a leaf that is an item
+edged_item : (k : SyntaxKind) (t : Token) → is_trivia t.kind ≡ false → IsEdged (one_token k t)
+edged_item k t e = record { some = some t.kind []; begins = e; ends = e }
+
+-- the items of the children of a node, and those behind it
+inside : (c f : Sketch) (ts us : List Token) → items ts ≡ (tokens_in c ++ tokens_in f) ++ us → IsBared c (from_item ts) (tokens_in f ++ us)
+inside c f ts us e = bared c (from_item ts) (tokens_in f ++ us) (items-from_item ts ∙ e ∙ append_assoc (tokens_in c) (tokens_in f) us)
+
+-- trees with their trivia, behind others
+pub edged_trees : (g f : Sketch) (ts us : List Token) → items ts ≡ tokens_in f ++ us → AreFilled f → IsReady g f ts → IsEdged (g ⊕ dressed f ts)
+edged_trees g blank ts us e h (read r) = subst IsEdged (sym (⊕-blank g)) r
+edged_trees g blank ts us e h (unread r b t) = absurd t
+edged_trees g (token k x f) ts us e h r =
+    let w : IsFirst x (tokens_in f ++ us) ts = first_item x (tokens_in f ++ us) ts e in
+    let rest : List Token = tail_of (from_item ts) in
+    let one : IsEdged (ate true g ts ⊕ one_token k x) = ready_next g (one_token k x) ts r (edged_item k x w.item) in
+    subst IsEdged (sym (next_more g (one_token k x) (dressed f rest) ts) ∙ more g (token k x (dressed f rest)) ts)
+    (edged_trees (ate true g ts ⊕ one_token k x) f rest us w.left h (read one))
+edged_trees g (branch k c f) ts us e h r =
+    let w : IsBared c (from_item ts) (tokens_in f ++ us) = inside c f ts us e in
+    let rest : List Token = left_after c (from_item ts) in
+    let below : IsEdged (dressed c (from_item ts)) =
+    edged_trees blank c (from_item ts) (tokens_in f ++ us) (items-from_item ts ∙ e ∙ append_assoc (tokens_in c) (tokens_in f) us) h.1 (unread refl (bare_from ts) h.0) in
+    let x : Sketch = one_branch k (dressed c (from_item ts)) in
+    let one : IsEdged (ate true g ts ⊕ x) = ready_next g x ts r (edged_branch k (dressed c (from_item ts)) below) in
+    subst IsEdged (sym (next_more g x (dressed f rest) ts) ∙ more g (branch k (dressed c (from_item ts)) (dressed f rest)) ts)
+    (edged_trees (ate true g ts ⊕ x) f rest us w.left h.2 (read one))
+edged_trees g (fault n c f) ts us e h r =
+    let w : IsBared c (from_item ts) (tokens_in f ++ us) = inside c f ts us e in
+    let rest : List Token = left_after c (from_item ts) in
+    let below : IsEdged (dressed c (from_item ts)) =
+    edged_trees blank c (from_item ts) (tokens_in f ++ us) (items-from_item ts ∙ e ∙ append_assoc (tokens_in c) (tokens_in f) us) h.2 (unread refl (bare_from ts) h.1) in
+    let x : Sketch = one_fault n (dressed c (from_item ts)) in
+    let one : IsEdged (ate true g ts ⊕ x) = ready_next g x ts r (edged_fault n (dressed c (from_item ts)) below) in
+    subst (λ (z : Bool). IsEdged (g ⊕ (trivia_before ts ⊕ fault n (dressed c (from_item ts)) (trivia_after z rest ⊕ dressed f (rest_after z rest))))) (sym h.0)
+    (subst IsEdged (sym (next_more g x (dressed f rest) ts) ∙ more g (fault n (dressed c (from_item ts)) (dressed f rest)) ts)
+    (edged_trees (ate true g ts ⊕ x) f rest us w.left h.3 (read one)))
+
+-- what is dressed from an item on begins and ends with items
+edged_from : (f : Sketch) (ts us : List Token) → items ts ≡ tokens_in f ++ us → AreFilled f → HasTree f → IsEdged (dressed f (from_item ts))
+edged_from f ts us e h t = edged_trees blank f (from_item ts) us (items-from_item ts ∙ e) h (unread refl (bare_from ts) t)
+
+-- two rows
+pub edged-⊕ : (f g : Sketch) → AreEdged f → AreEdged g → AreEdged (f ⊕ g)
+edged-⊕ blank g h j = j
+edged-⊕ (token k t f) g h j = edged-⊕ f g h j
+edged-⊕ (branch k c f) g h j = (h.0, h.1, edged-⊕ f g h.2 j)
+edged-⊕ (fault n c f) g h j = (h.0, h.1, edged-⊕ f g h.2 j)
+
+-- trivia have no nodes
+pub edged_trivia : (ts : List Token) → AreEdged (trivia_before ts)
+edged_trivia [] = tt
+edged_trivia (t ∷ ts) = elim (is_trivia t.kind) as (λ x. AreEdged (trivia_if x t (trivia_before ts))) [ true ↦ edged_trivia ts | false ↦ tt ]
+
+-- where each node has trees each begins and ends with items
+pub dressed_edged : (f : Sketch) (ts us : List Token) → items ts ≡ tokens_in f ++ us → AreFilled f → AreEdged (dressed f ts)
+dressed_edged blank ts us e h = tt
+dressed_edged (token k x f) ts us e h =
+    let rest : List Token = tail_of (from_item ts) in
+    edged-⊕ (trivia_before ts) (token k x (dressed f rest)) (edged_trivia ts) (dressed_edged f rest us (first_item x (tokens_in f ++ us) ts e).left h)
+dressed_edged (branch k c f) ts us e h =
+    let all : items ts ≡ tokens_in c ++ (tokens_in f ++ us) = e ∙ append_assoc (tokens_in c) (tokens_in f) us in
+    let rest : List Token = left_after c (from_item ts) in
+    edged-⊕ (trivia_before ts) (branch k (dressed c (from_item ts)) (dressed f rest)) (edged_trivia ts) (
+      edged_from c ts (tokens_in f ++ us) all h.1 h.0,
+      dressed_edged c (from_item ts) (tokens_in f ++ us) (items-from_item ts ∙ all) h.1,
+      dressed_edged f rest us (inside c f ts us e).left h.2,
+    )
+dressed_edged (fault n c f) ts us e h =
+    let all : items ts ≡ tokens_in c ++ (tokens_in f ++ us) = e ∙ append_assoc (tokens_in c) (tokens_in f) us in
+    let rest : List Token = left_after c (from_item ts) in
+    subst (λ (z : Bool). AreEdged (trivia_before ts ⊕ fault n (dressed c (from_item ts)) (trivia_after z rest ⊕ dressed f (rest_after z rest)))) (sym h.0)
+    (edged-⊕ (trivia_before ts) (fault n (dressed c (from_item ts)) (dressed f rest)) (edged_trivia ts) (
+      edged_from c ts (tokens_in f ++ us) all h.2 h.1,
+      dressed_edged c (from_item ts) (tokens_in f ++ us) (items-from_item ts ∙ all) h.2,
+      dressed_edged f rest us (inside c f ts us e).left h.3,
+    ))
+
+-- an error node begins and ends with items, or is empty
+fault_edges : (c : Sketch) (ts us : List Token) → items ts ≡ tokens_in c ++ us → AreFilled c
+    → BeginsWithItem (token_kinds (tokens_in (dressed c (from_item ts)))) × EndsWithItem (token_kinds (tokens_in (dressed c (from_item ts))))
+fault_edges blank ts us e h = (tt, tt)
+fault_edges c ts us e h = let w = edged_from c ts us e h tt in (w.begins, w.ends)
+
+-- trivia behind the node of what is too deep
+trimmed_after : (z : Bool) (ts : List Token) → AreFaultsTrimmed (trivia_after z ts)
+trimmed_after true ts = faults_trimmed_trivia ts
+trimmed_after false ts = tt
+
+-- no error node begins or ends with trivia
+pub dressed_trimmed : (f : Sketch) (ts us : List Token) → items ts ≡ tokens_in f ++ us → AreFaultsFilled f → AreFaultsTrimmed (dressed f ts)
+dressed_trimmed blank ts us e h = tt
+dressed_trimmed (token k x f) ts us e h =
+    let rest : List Token = tail_of (from_item ts) in
+    faults_trimmed-⊕ (trivia_before ts) (token k x (dressed f rest)) (faults_trimmed_trivia ts) (dressed_trimmed f rest us (first_item x (tokens_in f ++ us) ts e).left h)
+dressed_trimmed (branch k c f) ts us e h =
+    let all : items ts ≡ tokens_in c ++ (tokens_in f ++ us) = e ∙ append_assoc (tokens_in c) (tokens_in f) us in
+    let rest : List Token = left_after c (from_item ts) in
+    faults_trimmed-⊕ (trivia_before ts) (branch k (dressed c (from_item ts)) (dressed f rest)) (faults_trimmed_trivia ts)
+    (dressed_trimmed c (from_item ts) (tokens_in f ++ us) (items-from_item ts ∙ all) h.0, dressed_trimmed f rest us (inside c f ts us e).left h.1)
+dressed_trimmed (fault n c f) ts us e h =
+    let all : items ts ≡ tokens_in c ++ (tokens_in f ++ us) = e ∙ append_assoc (tokens_in c) (tokens_in f) us in
+    let rest : List Token = left_after c (from_item ts) in
+    let later : List Token = rest_after (is_last n) rest in
+    let edges = fault_edges c ts (tokens_in f ++ us) all h.0 in
+    faults_trimmed-⊕ (trivia_before ts) (fault n (dressed c (from_item ts)) (trivia_after (is_last n) rest ⊕ dressed f later)) (faults_trimmed_trivia ts) (
+      edges.0,
+      edges.1,
+      dressed_trimmed c (from_item ts) (tokens_in f ++ us) (items-from_item ts ∙ all) h.1,
+      faults_trimmed-⊕ (trivia_after (is_last n) rest) (dressed f later) (trimmed_after (is_last n) rest)
+          (dressed_trimmed f later us (items-rest_after (is_last n) rest ∙ (inside c f ts us e).left) h.2),
+    )
