@@ -1,20 +1,16 @@
 //! Errors, and the elements of a tree that they are of.
 
-ghost use Rattle.std.specs.Prelude.{List};
-ghost use Rattle.rnix_kinds.specs.Lexical.Tokens.{tokens_of};
-ghost use Rattle.rnix_tree.specs.Tree.{Tree};
-ghost use Rattle.rnix_grammar.specs.Fault.{Fault};
 ghost use Rattle.rnix_grammar.specs.Mended.{others};
-ghost use Rattle.rnix_grammar.specs.Parsed.{IsParsed};
 ghost use Rattle.rnix_grammar.specs.Ranges.{of_nodes, error_nodes, at_fault, AreErrorsOf};
+ghost use Rattle.rnix_parser.specs.Laws.{OfParsed};
 
 /// The errors other than those of the end of the text are, one by one, those of the NODE_ERROR elements of the tree and of the NODE_PAT_ENTRY
 /// elements that have the name of one before them, in the order in which these close. An error that has a range has that of its NODE_ERROR, or
 /// that of the NODE_IDENT with which its NODE_PAT_ENTRY begins, and if it tells the kind of a token, its NODE_ERROR begins with one of that
 /// kind. The errors of error nodes alone are those of the NODE_ERROR elements, in the order in which a walk leaves these.
 pub fn ranges_of_errors(text: &str)
-    ensures order { (tree : Tree) (faults : List Fault) → IsParsed (tokens_of text.now) tree faults → AreErrorsOf tree (others faults) (at_fault tree) }
-    ensures nodes { (tree : Tree) (faults : List Fault) → IsParsed (tokens_of text.now) tree faults → AreErrorsOf tree (of_nodes faults) (error_nodes tree) }
+    ensures order { OfParsed text.now (λ tree faults. AreErrorsOf tree (others faults) (at_fault tree)) }
+    ensures nodes { OfParsed text.now (λ tree faults. AreErrorsOf tree (of_nodes faults) (error_nodes tree)) }
 {
     let _len = text.len();
 }

@@ -1,21 +1,21 @@
 //! Each text has one reading, and what follows from it.
 
-ghost use Rattle.std.specs.Prelude.{◌≡◌, ◌≤◌, List};
+ghost use Rattle.std.specs.Prelude.{◌≤◌, List};
 ghost use Rattle.rnix_kinds.specs.Lexical.Tokens.{Lexeme, tokens_of};
 ghost use Rattle.rnix_tree.specs.Tree.{Tree};
 ghost use Rattle.rnix_grammar.specs.declared.place.Place.TheVariants.{RootStart};
 ghost use Rattle.rnix_grammar.specs.Fault.{Fault};
 ghost use Rattle.rnix_grammar.specs.Tables.{depth_limit};
-ghost use Rattle.rnix_grammar.specs.Sketch.{clean};
 ghost use Rattle.rnix_grammar.specs.Rows.{At};
 ghost use Rattle.rnix_grammar.specs.Stands.{StandsWhole};
 ghost use Rattle.rnix_grammar.specs.Nesting.{depth_of, AreLimited};
 ghost use Rattle.rnix_grammar.specs.Reading.{IsReading};
 ghost use Rattle.rnix_grammar.specs.Parsed.{IsParsed};
+ghost use Rattle.rnix_parser.specs.Laws.{OfReadings, HaveOneReading, AreOneText};
 
 /// Tokens have one reading at most: two trees with their errors that are readings of one list of tokens are equal.
 pub fn one_reading()
-    ensures { (tokens : List Lexeme) (t u : Tree) (ds es : List Fault) → IsReading tokens t ds → IsReading tokens u es → (t ≡ u) × (ds ≡ es) }
+    ensures { (tokens : List Lexeme) → HaveOneReading tokens }
 {}
 
 /// Each text has a reading, whether memory is found for it or not.
@@ -27,7 +27,7 @@ pub fn has_reading(text: &str)
 
 /// Two texts of which one tree is read are one text, with one list of errors.
 pub fn one_text(first: &str, second: &str)
-    ensures { (t : Tree) (ds es : List Fault) → IsReading (tokens_of first.now) t ds → IsReading (tokens_of second.now) t es → (first.now ≡ second.now) × (ds ≡ es) }
+    ensures { AreOneText first.now second.now }
 {
     let _len = first.len().min(second.len());
 }
@@ -42,7 +42,7 @@ pub fn all_follows(text: &str)
 /// Where each error node of a reading may stand and what it may not begin with, and how tightly operands bind; at most 512 counted places are
 /// inside one another, error nodes aside, and what is nested too deep is inside exactly 512.
 pub fn error_forms()
-    ensures stands { (tokens : List Lexeme) (tree : Tree) (faults : List Fault) (r : IsReading tokens tree faults) → StandsWhole (clean r.sketch) faults }
-    ensures shallow { (tokens : List Lexeme) (tree : Tree) (faults : List Fault) (r : IsReading tokens tree faults) → depth_of (At RootStart) (clean r.sketch) ≤ depth_limit }
-    ensures limited { (tokens : List Lexeme) (tree : Tree) (faults : List Fault) (r : IsReading tokens tree faults) → AreLimited 0 (At RootStart) (clean r.sketch) }
+    ensures stands { OfReadings (λ sketch faults. StandsWhole sketch faults) }
+    ensures shallow { OfReadings (λ sketch faults. depth_of (At RootStart) sketch ≤ depth_limit) }
+    ensures limited { OfReadings (λ sketch faults. AreLimited 0 (At RootStart) sketch) }
 {}

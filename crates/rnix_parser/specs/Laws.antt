@@ -1,0 +1,24 @@
+-- What the laws say: of each reading, and of each tree with its errors of which all that is promised holds.
+use Rattle.std.specs.Prelude.{◌≡◌, ℕ, List}
+use Rattle.rnix_kinds.specs.Lexical.Tokens.{Lexeme, tokens_of}
+use Rattle.rnix_tree.specs.Tree.{Tree}
+use Rattle.rnix_grammar.specs.Fault.{Fault}
+use Rattle.rnix_grammar.specs.Sketch.{Sketch, clean}
+use Rattle.rnix_grammar.specs.Reading.{IsReading}
+use Rattle.rnix_grammar.specs.Parsed.{IsParsed}
+
+-- so it is with each tree and its errors that are parsed from a text
+abbrev pub OfParsed : List ℕ → (Tree → List Fault → Type 0) → Type 0
+OfParsed text P = (tree : Tree) (faults : List Fault) → IsParsed (tokens_of text) tree faults → P tree faults
+
+-- so it is with the items and the errors of each reading
+abbrev pub OfReadings : (Sketch → List Fault → Type 0) → Type 0
+OfReadings P = (tokens : List Lexeme) (tree : Tree) (faults : List Fault) (r : IsReading tokens tree faults) → P (clean r.sketch) faults
+
+-- two readings of some tokens are one
+abbrev pub HaveOneReading : List Lexeme → Type 0
+HaveOneReading tokens = (t u : Tree) (ds es : List Fault) → IsReading tokens t ds → IsReading tokens u es → (t ≡ u) × (ds ≡ es)
+
+-- two texts of which one tree is read are one, with the same errors
+abbrev pub AreOneText : List ℕ → List ℕ → Type 0
+AreOneText x y = (t : Tree) (ds es : List Fault) → IsReading (tokens_of x) t ds → IsReading (tokens_of y) t es → (x ≡ y) × (ds ≡ es)
