@@ -19,8 +19,7 @@ use denote.Enum.Declared.{tag_of}
 use Rattle.rnix_kinds.specs.SyntaxKind.{place_of}
 use Rattle.rnix_kinds.specs.TokenSet.{kind_cmp, KindSet, set_of}
 use Rattle.rnix_kinds.specs.KindNumbers.{as_bit, kinds_of, number_of, same_number, kind_cmp_total, tied_in_place, contains-set_of, contains-kinds_of, bit_at-number_of}
-use Rattle.rnix_kinds.proofs.AllKinds.{every, place_in_range, kind_at_place}
-use Rattle.rnix_kinds.proofs.SetBits.{tag_is_place, same_place}
+use Rattle.rnix_kinds.proofs.AllKinds.{every, place_in_range, kind_at_place, same_place}
 
 -- two kinds that tie are one
 pub kind_cmp_same : IsAntisymmetric kind_cmp
@@ -83,7 +82,7 @@ kind_bit : (kind : SyntaxKind) → 1 * 2 ^ tag_of the_type kind % 2 ^ 128 ≡ 2 
 kind_bit kind =
     let low : place_of kind < 93 = place_in_range kind in
     let fits : 2 ^ place_of kind < 2 ^ 128 = pow-lt {i = place_of kind} {j = 128} (omega arith) in
-    ap (λ n. 1 * 2 ^ n % 2 ^ 128) (tag_is_place kind) ∙ (omega arith)
+    omega arith
 
 -- the number with one kind's bit is that of this kind alone
 pub kinds_of-one : (only : SyntaxKind) → kinds_of (1 * 2 ^ tag_of the_type only % 2 ^ 128) ≡ set_of (only ∷ [])

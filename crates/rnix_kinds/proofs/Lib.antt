@@ -1,4 +1,3 @@
 pub mod AllKinds
-pub mod SetBits
 pub mod KindSets
 pub mod Lexical

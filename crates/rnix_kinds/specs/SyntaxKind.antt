@@ -2,6 +2,8 @@
 use Rattle.std.specs.Prelude.{◌≡◌, ℕ, Bool, true, false, List, codes, nat_lt, Result, MatchResult}
 use Rattle.rnix_kinds.specs.declared.kinds.SyntaxKind.{SyntaxKind}
 use Rattle.rnix_kinds.specs.declared.kinds.SyntaxKind.TheVariants.{TOKEN_ADD, TOKEN_AND_AND, TOKEN_ASSIGN, TOKEN_ASSERT, TOKEN_AT, TOKEN_COLON, TOKEN_COMMA, TOKEN_COMMENT, TOKEN_CONCAT, TOKEN_CUR_POS, TOKEN_DIV, TOKEN_DOT, TOKEN_ELLIPSIS, TOKEN_ELSE, TOKEN_EQUAL, TOKEN_ERROR, TOKEN_FLOAT, TOKEN_IDENT, TOKEN_IF, TOKEN_IMPLICATION, TOKEN_IN, TOKEN_INHERIT, TOKEN_INTEGER, TOKEN_INTERPOL_END, TOKEN_INTERPOL_START, TOKEN_INVERT, TOKEN_L_BRACE, TOKEN_L_BRACK, TOKEN_L_PAREN, TOKEN_LESS, TOKEN_LESS_OR_EQ, TOKEN_LET, TOKEN_MORE, TOKEN_MORE_OR_EQ, TOKEN_MUL, TOKEN_NOT_EQUAL, TOKEN_OR, TOKEN_OR_OR, TOKEN_PATH_ABS, TOKEN_PATH_HOME, TOKEN_PATH_REL, TOKEN_PATH_SEARCH, TOKEN_PIPE_LEFT, TOKEN_PIPE_RIGHT, TOKEN_QUESTION, TOKEN_R_BRACE, TOKEN_R_BRACK, TOKEN_R_PAREN, TOKEN_REC, TOKEN_SEMICOLON, TOKEN_STRING_CONTENT, TOKEN_STRING_END, TOKEN_STRING_START, TOKEN_SUB, TOKEN_THEN, TOKEN_UPDATE, TOKEN_URI, TOKEN_WHITESPACE, TOKEN_WITH, NODE_APPLY, NODE_ASSERT, NODE_ATTR_SET, NODE_ATTRPATH, NODE_ATTRPATH_VALUE, NODE_BIN_OP, NODE_CUR_POS, NODE_DYNAMIC, NODE_ERROR, NODE_HAS_ATTR, NODE_IDENT, NODE_IDENT_PARAM, NODE_IF_ELSE, NODE_INHERIT, NODE_INHERIT_FROM, NODE_INTERPOL, NODE_LAMBDA, NODE_LEGACY_LET, NODE_LET_IN, NODE_LIST, NODE_LITERAL, NODE_PAREN, NODE_PAT_BIND, NODE_PAT_ENTRY, NODE_PATTERN, NODE_PATH_ABS, NODE_PATH_HOME, NODE_PATH_REL, NODE_PATH_SEARCH, NODE_ROOT, NODE_SELECT, NODE_STRING, NODE_UNARY_OP, NODE_WITH}
+use Rattle.rnix_kinds.specs.contracts.kinds.SyntaxKind.{the_type}
+use denote.Enum.Declared.{tag_of}
 use Rattle.rnix_kinds.specs.declared.kinds.ParseSyntaxKindError.{ParseSyntaxKindError}
 
 -- a kind's own name
@@ -102,99 +104,7 @@ name_of NODE_WITH = codes "NODE_WITH"
 
 -- a kind's place in the list
 abbrev pub place_of : SyntaxKind → ℕ
-place_of TOKEN_ADD = 0
-place_of TOKEN_AND_AND = 1
-place_of TOKEN_ASSIGN = 2
-place_of TOKEN_ASSERT = 3
-place_of TOKEN_AT = 4
-place_of TOKEN_COLON = 5
-place_of TOKEN_COMMA = 6
-place_of TOKEN_COMMENT = 7
-place_of TOKEN_CONCAT = 8
-place_of TOKEN_CUR_POS = 9
-place_of TOKEN_DIV = 10
-place_of TOKEN_DOT = 11
-place_of TOKEN_ELLIPSIS = 12
-place_of TOKEN_ELSE = 13
-place_of TOKEN_EQUAL = 14
-place_of TOKEN_ERROR = 15
-place_of TOKEN_FLOAT = 16
-place_of TOKEN_IDENT = 17
-place_of TOKEN_IF = 18
-place_of TOKEN_IMPLICATION = 19
-place_of TOKEN_IN = 20
-place_of TOKEN_INHERIT = 21
-place_of TOKEN_INTEGER = 22
-place_of TOKEN_INTERPOL_END = 23
-place_of TOKEN_INTERPOL_START = 24
-place_of TOKEN_INVERT = 25
-place_of TOKEN_L_BRACE = 26
-place_of TOKEN_L_BRACK = 27
-place_of TOKEN_L_PAREN = 28
-place_of TOKEN_LESS = 29
-place_of TOKEN_LESS_OR_EQ = 30
-place_of TOKEN_LET = 31
-place_of TOKEN_MORE = 32
-place_of TOKEN_MORE_OR_EQ = 33
-place_of TOKEN_MUL = 34
-place_of TOKEN_NOT_EQUAL = 35
-place_of TOKEN_OR = 36
-place_of TOKEN_OR_OR = 37
-place_of TOKEN_PATH_ABS = 38
-place_of TOKEN_PATH_HOME = 39
-place_of TOKEN_PATH_REL = 40
-place_of TOKEN_PATH_SEARCH = 41
-place_of TOKEN_PIPE_LEFT = 42
-place_of TOKEN_PIPE_RIGHT = 43
-place_of TOKEN_QUESTION = 44
-place_of TOKEN_R_BRACE = 45
-place_of TOKEN_R_BRACK = 46
-place_of TOKEN_R_PAREN = 47
-place_of TOKEN_REC = 48
-place_of TOKEN_SEMICOLON = 49
-place_of TOKEN_STRING_CONTENT = 50
-place_of TOKEN_STRING_END = 51
-place_of TOKEN_STRING_START = 52
-place_of TOKEN_SUB = 53
-place_of TOKEN_THEN = 54
-place_of TOKEN_UPDATE = 55
-place_of TOKEN_URI = 56
-place_of TOKEN_WHITESPACE = 57
-place_of TOKEN_WITH = 58
-place_of NODE_APPLY = 59
-place_of NODE_ASSERT = 60
-place_of NODE_ATTR_SET = 61
-place_of NODE_ATTRPATH = 62
-place_of NODE_ATTRPATH_VALUE = 63
-place_of NODE_BIN_OP = 64
-place_of NODE_CUR_POS = 65
-place_of NODE_DYNAMIC = 66
-place_of NODE_ERROR = 67
-place_of NODE_HAS_ATTR = 68
-place_of NODE_IDENT = 69
-place_of NODE_IDENT_PARAM = 70
-place_of NODE_IF_ELSE = 71
-place_of NODE_INHERIT = 72
-place_of NODE_INHERIT_FROM = 73
-place_of NODE_INTERPOL = 74
-place_of NODE_LAMBDA = 75
-place_of NODE_LEGACY_LET = 76
-place_of NODE_LET_IN = 77
-place_of NODE_LIST = 78
-place_of NODE_LITERAL = 79
-place_of NODE_PAREN = 80
-place_of NODE_PAT_BIND = 81
-place_of NODE_PAT_ENTRY = 82
-place_of NODE_PATTERN = 83
-place_of NODE_PATH_ABS = 84
-place_of NODE_PATH_HOME = 85
-place_of NODE_PATH_REL = 86
-place_of NODE_PATH_SEARCH = 87
-place_of NODE_ROOT = 88
-place_of NODE_SELECT = 89
-place_of NODE_STRING = 90
-place_of NODE_UNARY_OP = 91
-place_of NODE_WITH = 92
+place_of = tag_of the_type
 
 -- the kinds of tokens come before those of nodes
 abbrev pub is_token : SyntaxKind → Bool

@@ -3,7 +3,7 @@
 ghost use Rattle.std.specs.Prelude.{◌≡◌, ◌↔◌, ◌<◌, ℕ, Bool, List, [], Some, length, slice_index};
 ghost use Rattle.std.specs.List.{prefix_len};
 ghost use Rattle.rnix_kinds.specs.Lexical.Classes.{class_test};
-ghost use Rattle.rnix_kinds.specs.Lexical.Longest.{IsLongest, IsRun, IsRow, IsFirstPair, FitsRow, IsScheme};
+ghost use Rattle.rnix_kinds.specs.Lexical.Longest.{IsLongest, IsRun, IsFirstPair, FitsRow, IsScheme, IsLongestContent};
 ghost use Rattle.rnix_kinds.specs.Lexical.Operators.{HasRoom, operators, operator};
 ghost use Rattle.rnix_kinds.specs.Lexical.Strings.{content_len};
 ghost use Rattle.rnix_kinds.specs.Lexical.Texts.{before_pair};
@@ -145,7 +145,7 @@ pub fn one_list(text: &str)
 /// The words on lengths mean what they are called.
 pub fn longest(text: &str, multiline: bool)
     ensures run { (test : ℕ → Bool) → IsLongest (IsRun test text.now) (prefix_len test text.now) }
-    ensures content { content_len multiline text.now < length text.now → IsLongest (λ n. IsRow multiline n text.now) (content_len multiline text.now) }
+    ensures content { IsLongestContent multiline text.now (content_len multiline text.now) }
     ensures comment { IsFirstPair 42 47 text.now (before_pair 42 47 text.now) }
     ensures operator { (cut : Cut) → operator text.now ≡ Some cut → IsLongest (FitsRow operators text.now) cut.len }
     ensures scheme { (slice_index text.now (prefix_len (class_test Scheme) text.now) ≡ 58) ↔ IsScheme text.now }

@@ -6,7 +6,7 @@ use Rattle.std.proofs.Common.{ap, sym, refl}
 use Rattle.std.proofs.lemmas.Bool.Decides.{Decides-eqb, Decides-like}
 use Rattle.rnix_kinds.specs.declared.kinds.SyntaxKind.{SyntaxKind}
 use Rattle.rnix_kinds.specs.SyntaxKind.{place_of}
-use Rattle.rnix_kinds.proofs.SetBits.{same_place}
+use Rattle.rnix_kinds.proofs.AllKinds.{same_place}
 
 -- two kinds are one
 abbrev pub same_kind : SyntaxKind → SyntaxKind → Bool

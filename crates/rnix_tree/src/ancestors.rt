@@ -1,7 +1,5 @@
 //! From a node outwards.
 
-ghost use Rattle.std.specs.Prelude.{◌≡◌};
-
 use crate::green::GreenNode;
 use crate::node::SyntaxNode;
 use std::marker::Model;

@@ -1,6 +1,6 @@
 //! Building a tree from left to right.
 
-ghost use Rattle.std.specs.Prelude.{◌≡◌, ◌<◌, [], length, IsTrue, IfOk, OnOk, OnErr, slice_index_or};
+ghost use Rattle.std.specs.Prelude.{◌≡◌, ◌<◌, length, IsTrue, IfOk, OnOk, OnErr, slice_index_or};
 ghost use Rattle.rnix_tree.specs.Forest.{tree_count};
 ghost use Rattle.rnix_tree.specs.Draft.{blank, leaf_added, node_opened, node_closed, is_checkpoint_of, is_complete_of};
 ghost use Rattle.rnix_tree.specs.Tree.{forest_of};

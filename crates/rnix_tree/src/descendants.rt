@@ -1,7 +1,5 @@
 //! An element and all that is inside it, in preorder.
 
-ghost use Rattle.std.specs.Prelude.{◌≡◌};
-
 use crate::element::{NodeOrToken, SyntaxElement, element_at};
 use crate::green::GreenNode;
 use crate::node::SyntaxNode;

@@ -92,9 +92,8 @@ fn same_elements(a: &[Element], b: &[Element]) -> bool
 }
 
 impl GreenNode {
-    ghost use Rattle.std.specs.Prelude.{◌≡◌, ◌<◌, ◌≤◌, ◌+◌, ◌-◌, ◌^◌, ℕ, length, take, drop, IfOk, string_bytes};
-    ghost use Rattle.rnix_tree.specs.Tree.{item, items_of, forest_of};
-    ghost use Rattle.rnix_tree.specs.Forest.{text_of};
+    ghost use Rattle.std.specs.Prelude.{◌≡◌, ◌<◌, ◌≤◌, ◌+◌, ◌^◌, ℕ, length, IfOk, string_bytes};
+    ghost use Rattle.rnix_tree.specs.Tree.{item, items_of, text_at};
     ghost use Rattle.rnix_tree.specs.Kept.{item_from, tree_from, IsKept};
 
     pub(crate) fn from_parts(elements: Vec<Element>, text: String) -> Self
@@ -151,7 +150,7 @@ impl GreenNode {
 
     pub(crate) fn text_at(&self, number: usize) -> &str
         requires { number < length (items_of self.now) }
-        ensures { let i = item self.now number in result.now ≡ take (i.end - i.start) (drop i.start (text_of (forest_of self.now))) }
+        ensures { result.now ≡ text_at record { tree = self.now; number = number } }
     {
         let element = self.elements[number];
         &self.text.as_str()[element.start..element.end]

@@ -1,7 +1,6 @@
 //! From an element to those around it, beside it and inside it.
 
 ghost use Rattle.std.specs.Prelude.{◌≡◌, option_map, is_some, true};
-ghost use Rattle.rnix_tree.specs.Tree.{items_of};
 ghost use Rattle.rnix_tree.specs.Walk.{place_of};
 ghost use Rattle.rnix_tree.specs.Relatives.{located, parent_of, IsFirstChild, IsLastChild, IsFirstChildNode, IsLastChildNode, IsNextSibling, IsPrevSibling, IsNextSiblingNode, IsPrevSiblingNode, IsFirstToken, IsLastToken, IsNextToken, IsPrevToken};
 ghost use Rattle.rnix_tree.specs.Around.{IsThereIfAny, IsNodeIfAny, IsTokenIfAny};

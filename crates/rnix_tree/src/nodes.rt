@@ -1,7 +1,5 @@
 //! Walks that give nodes alone.
 
-ghost use Rattle.std.specs.Prelude.{◌≡◌};
-
 use crate::element::{NodeOrToken, WalkEvent};
 use crate::node::SyntaxNode;
 use crate::walk::{PreorderWithTokens, SyntaxElementChildren};

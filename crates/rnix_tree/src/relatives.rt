@@ -1,8 +1,8 @@
 //! What stands beside an element and inside it, by numbers.
 
-ghost use Rattle.std.specs.Prelude.{◌≡◌, ◌≤◌, ◌<◌, ◌+◌, length, true};
+ghost use Rattle.std.specs.Prelude.{◌≤◌, ◌<◌, ◌+◌, length};
 ghost use Rattle.rnix_tree.specs.Tree.{items_of, item};
-ghost use Rattle.rnix_tree.specs.Relatives.{IsFirst, IsLast, IsChild, IsSibling, IsTokenIn, IsTokenInside};
+ghost use Rattle.rnix_tree.specs.Relatives.{IsFirst, IsLast, IsChild, IsSibling};
 ghost use Rattle.rnix_tree.specs.Around.{IsThereIfAny, IsOnWayTo, FirstNodeFrom, LastNodeFrom, IsFirstTokenAmong, IsLastTokenAmong};
 
 use crate::green::GreenNode;

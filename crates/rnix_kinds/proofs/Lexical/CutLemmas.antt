@@ -1,6 +1,6 @@
 -- Every rule cuts off a text that is not empty, at a character's end.
 use Rattle.std.proofs.Common.{◌≡◌, ℕ, ◌+◌, ◌<◌, Bool, true, false, not, cond, ◌&&◌, ◌||◌, ◌==◌, nat_lt, List, [], ◌∷◌, length, get_or, take, drop, IsUtf8, Option, Some, None, refl, sym, subst, inl, inr, arith, zero-add, eqb-true, false-eqb}
-use Rattle.std.specs.Prelude.{codes}
+use Rattle.std.specs.Prelude.{if◌then◌else◌, codes}
 use Rattle.std.proofs.lemmas.Bool.{and_parts}
 use Rattle.std.proofs.lemmas.Bool.Decides.{nat_tests}
 use Rattle.std.proofs.lemmas.List.Sums.{prefix_len_passes}
@@ -133,8 +133,8 @@ module _ (top : Option Mode) (text : List ℕ) (utf8 : IsUtf8 text) (some : 0 < 
       let end : IsCharBoundary text (run_end is_path from text) = run_boundary (Rattle.rnix_kinds.specs.declared.tokenizer.text.Class.TheVariants.Path) from text utf8 begins_at in
       let more : 0 < prefix_len is_path (drop from text) = path_some text from first in
       if_good top text (stands_at (codes "${") (run_end is_path from text) text) _ _
-      (λ e. record { some = omega arith; boundary = end; counted = go; named = free_named _ _ (free_path start); opener = λ opened. inr (path_opens start, starts opened, interpolation_next (run_end is_path from text) text e) })
-      (λ e. record { some = omega arith; boundary = end; counted = stop; named = free_named _ _ (free_if (is_broken (take (run_end is_path from text) text)) TOKEN_ERROR (kind_of_path start) refl (free_path start)); opener = λ e. absurd (ends e) })
+      (λ e. record { some = omega arith; boundary = end; counted = go; named = free_named (kind_of_path start) _ (free_path start); opener = λ opened. inr (path_opens start, starts opened, interpolation_next (run_end is_path from text) text e) })
+      (λ e. record { some = omega arith; boundary = end; counted = stop; named = free_named (if is_broken (take (run_end is_path from text) text) then TOKEN_ERROR else kind_of_path start) _ (free_if (is_broken (take (run_end is_path from text) text)) TOKEN_ERROR (kind_of_path start) refl (free_path start)); opener = λ e. absurd (ends e) })
 
   first_segment_good : (start : PathStart) (from : ℕ) → IsCharBoundary text from → is_path (get_or text from 0) ≡ true → IsCutOf top text (first_segment start from text)
   first_segment_good start from begins_at first = segment_good start (Open (Path start)) Stay from refl tt (λ e. tt) (λ e. cc) begins_at first

@@ -22,6 +22,10 @@ pub data IsRow (multiline : Bool) : ℕ → List ℕ → Type 0 where
   piece : (n : ℕ) (text : List ℕ) → 0 < piece_len multiline text → piece_len multiline text ≤ length text
       → IsRow multiline n (drop (piece_len multiline text) text) → IsRow multiline (piece_len multiline text + n) text
 
+-- n is the largest number of first bytes that are pieces of a string, if the text goes on behind them
+abbrev pub IsLongestContent : Bool → List ℕ → ℕ → Type 0
+IsLongestContent multiline text n = n < length text → IsLongest (λ m. IsRow multiline m text) n
+
 -- a then b stand at the place k
 abbrev pub IsPair : ℕ → ℕ → List ℕ → ℕ → Type 0
 IsPair a b text k = (k + 1 < length text) × (slice_index text k ≡ a) × (slice_index text (k + 1) ≡ b)

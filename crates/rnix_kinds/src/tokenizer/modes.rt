@@ -1,6 +1,6 @@
 //! The stack of modes.
 
-ghost use Rattle.std.specs.Prelude.{◌≡◌, ◌∷◌, [], List, drop, reverse, length, true, OnOk, OnErr};
+ghost use Rattle.std.specs.Prelude.{◌≡◌, [], List, drop, reverse, true, OnOk, OnErr};
 ghost use Rattle.rnix_kinds.specs.Lexical.Tokens.{top, without_ended_paths, changed, opens};
 ghost use Rattle.rnix_kinds.specs.declared.tokenizer.rule.Mode.{Mode};
 

@@ -1,6 +1,6 @@
 //! Operators and brackets.
 
-ghost use Rattle.std.specs.Prelude.{◌≡◌, ◌<◌};
+ghost use Rattle.std.specs.Prelude.{◌≡◌};
 ghost use Rattle.rnix_kinds.specs.Lexical.Operators.{ellipsis, opener, brace, operator, HasRoom};
 
 use super::rule::{Change, Cut, Mode, plain};

@@ -1,6 +1,6 @@
 //! The inside of a string.
 
-ghost use Rattle.std.specs.Prelude.{◌≡◌, ◌<◌, ◌≤◌, length};
+ghost use Rattle.std.specs.Prelude.{◌≡◌, ◌≤◌, length};
 ghost use Rattle.rnix_kinds.specs.Lexical.Strings.{piece_len, content_len, string_cut};
 
 use super::rule::{Change, Cut, Mode, plain};
