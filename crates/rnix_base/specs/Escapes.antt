@@ -1,5 +1,5 @@
 -- What the text inside a string stands for: its pieces, each with its value, up to the first place where no piece fits.
-use Rattle.std.specs.Prelude.{ℕ, zero, suc, ◌≡◌, ◌<◌, ◌+◌, ◌-◌, Bool, ◌==◌, if◌then◌else◌, nat_lt, List, [], ◌∷◌, ◌++◌, drop, length, codes, slice_index, Option, Some, None}
+use Rattle.std.specs.Prelude.{ℕ, zero, suc, ◌≡◌, ◌<◌, ◌+◌, ◌-◌, Bool, ◌==◌, if◌then◌else◌, nat_lt, List, [], ◌∷◌, ◌++◌, drop, length, codes, slice_index, encode_utf8, Option, Some, None}
 use Rattle.rnix_kinds.specs.Lexical.Texts.{begins}
 
 -- a piece of a text: how many bytes it has, and what they stand for
@@ -52,6 +52,10 @@ values multiline zero (b ∷ text) =
 -- what a text stands for
 abbrev pub unescaped : Bool → List ℕ → List ℕ
 unescaped multiline text = values multiline 0 text
+
+-- a text is a first character and a rest
+abbrev pub IsFirstChar : List ℕ → List ℕ → List ℕ → Type 0
+IsFirstChar text first rest = (c : ℕ) × (first ≡ encode_utf8 c) × (text ≡ first ++ rest)
 
 -- a text stands for this value and then for what this shorter rest stands for
 pub record Begins (multiline : Bool) (text value rest : List ℕ) : Type 0 where

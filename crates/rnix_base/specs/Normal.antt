@@ -1,6 +1,7 @@
 -- How the parts of a string are normalized.
-use Rattle.std.specs.Prelude.{ℕ, suc, ◌-◌, min, Bool, true, false, not, ◌==◌, ◌||◌, if◌then◌else◌, List, [], ◌∷◌, ◌++◌, take, drop, map, length, slice_index, Option, Some, None, option_to_list}
+use Rattle.std.specs.Prelude.{◌≡◌, ℕ, suc, ◌-◌, min, Bool, true, false, not, ◌==◌, ◌||◌, if◌then◌else◌, List, [], ◌∷◌, ◌++◌, take, drop, map, length, slice_index, Option, Some, None, option_to_list, String, string_bytes}
 use Rattle.std.specs.List.{flat_map, prefix_len, suffix_len, list_any}
+use denote.Ref.{Bor}
 use Rattle.rnix_base.specs.declared.parts.InterpolPart.{InterpolPart}
 use Rattle.rnix_base.specs.declared.parts.InterpolPart.TheVariants.{Literal, Interpolation}
 use Rattle.rnix_base.specs.Escapes.{unescaped}
@@ -13,6 +14,14 @@ Parts I = List (InterpolPart (List ℕ) I)
 -- a part with another text
 abbrev pub with_text : {S T I : Type 0} → (S → T) → InterpolPart S I → InterpolPart T I
 with_text text = part_of text (λ i. i)
+
+-- the parts of borrowed texts
+abbrev pub borrowed : {I : Type 0} → List (InterpolPart (Bor (List ℕ)) I) → Parts I
+borrowed = map (with_text (λ text. text.now))
+
+-- the parts of owned texts
+abbrev pub owned : {I Z : Type 0} → List (InterpolPart (String Z) I) → Parts I
+owned = map (with_text string_bytes)
 
 abbrev pub is_space : ℕ → Bool
 is_space b = b == 32
@@ -90,6 +99,14 @@ spaces = prefix_len is_space
 abbrev pub opens_blank : List ℕ → Bool
 opens_blank text = slice_index text (spaces text) == 10
 
+-- what stands behind the first line feed of a text, where nothing but spaces stands before it
+abbrev pub behind_blank : List ℕ → List ℕ
+behind_blank text = drop (suc (spaces text)) text
+
+-- a text begins so, and this stands behind it
+abbrev pub IsBehindBlank : List ℕ → List ℕ → Type 0
+IsBehindBlank text rest = (opens_blank text ≡ true) × (rest ≡ behind_blank text)
+
 -- a literal, or no part where its text is empty
 abbrev pub literal_if_some : {I : Type 0} → List ℕ → Parts I
 literal_if_some [] = []
@@ -99,7 +116,7 @@ literal_if_some (b ∷ text) = Literal (b ∷ text) ∷ []
 abbrev pub opened : {I : Type 0} → Parts I → Parts I
 opened [] = []
 opened (Literal text ∷ parts) =
-    if opens_blank text then literal_if_some (drop (suc (spaces text)) text) ++ parts else Literal text ∷ parts
+    if opens_blank text then literal_if_some (behind_blank text) ++ parts else Literal text ∷ parts
 opened (Interpolation i ∷ parts) = Interpolation i ∷ parts
 
 -- a text without the spaces that it ends with

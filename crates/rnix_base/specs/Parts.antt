@@ -1,5 +1,5 @@
 -- The parts of a string or of a path, selected among the children of its node.
-use Rattle.std.specs.Prelude.{Bool, false, if◌then◌else◌, bytes_eq, codes, List, [], ◌∷◌}
+use Rattle.std.specs.Prelude.{ℕ, Bool, false, if◌then◌else◌, bytes_eq, codes, List, [], ◌∷◌, map}
 use Rattle.rnix_kinds.specs.declared.kinds.SyntaxKind.{SyntaxKind}
 use Rattle.rnix_tree.specs.Tree.{Located, text_at}
 use Rattle.rnix_tree.specs.Walk.{Spot, children_of}
@@ -23,6 +23,10 @@ parts_of literals interpolations (spot ∷ spots) =
 -- the parts right below a node, in order
 abbrev pub parts_below : (SyntaxKind → Bool) → (SyntaxKind → Bool) → Located → List (InterpolPart Located Located)
 parts_below literals interpolations parent = parts_of literals interpolations (children_of parent)
+
+-- the same parts, with the texts of the tokens
+abbrev pub texts_below : (SyntaxKind → Bool) → (SyntaxKind → Bool) → Located → List (InterpolPart (List ℕ) Located)
+texts_below literals interpolations parent = map (part_of text_at (λ i. i)) (parts_below literals interpolations parent)
 
 -- whether the first of these tokens is `''`
 abbrev pub opens_indented : List Located → Bool

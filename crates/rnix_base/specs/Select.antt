@@ -26,6 +26,10 @@ tokens_in (spot ∷ spots) = if spot.0 then tokens_in spots else spot.1 ∷ toke
 abbrev pub nodes_of : (SyntaxKind → Bool) → Located → List Located
 nodes_of kinds parent = those_of kinds (nodes_in (children_of parent))
 
+-- among these elements, those that have one of the kinds are the nodes right below a node that have one
+abbrev pub AreChildren : (SyntaxKind → Bool) → List Located → Located → Type 0
+AreChildren kinds elements parent = those_of kinds elements ≡ nodes_of kinds parent
+
 -- the node of a number, from 0, among those right below a node that have one of the kinds
 abbrev pub child_of : (SyntaxKind → Bool) → ℕ → Located → Option Located
 child_of kinds number parent = slice_get (nodes_of kinds parent) number

@@ -1,6 +1,6 @@
 //! The children of a node, selected by their types and kinds.
 
-ghost use Rattle.std.specs.Prelude.{◌≡◌, ◌<◌, ◌^◌, length, option_map, find};
+ghost use Rattle.std.specs.Prelude.{◌≡◌, ◌<◌, ◌^◌, length, option_map};
 ghost use Rattle.rnix_tree.specs.Equality.{same_kind};
 ghost use Rattle.rnix_base.specs.Select.{those_of, nodes_of, child_of, token_of};
 
@@ -45,7 +45,7 @@ pub fn first_child<'t, T: AstNode<'t>>(parent: &SyntaxNode<'t>) -> Option<T>
     children::<T>(parent).next()
 }
 
-// Whether the kinds are one.
+// Whether the kinds are equal.
 fn same_kind(a: SyntaxKind, b: SyntaxKind) -> bool
     ensures { result ≡ same_kind a b }
 {

@@ -1,14 +1,14 @@
 //! The indentation of a string.
 
-ghost use Rattle.std.specs.Prelude.{◌≡◌, ◌≤◌, ◌+◌, length, map, drop, suc, IfOk, MatchOption, string_bytes, true, false};
+ghost use Rattle.std.specs.Prelude.{◌≡◌, ◌≤◌, ◌+◌, length, IfOk, MatchOption, string_bytes, false};
 ghost use Rattle.std.specs.List.{suffix_len};
-ghost use Rattle.rnix_base.specs.Normal.{with_text, is_space, spaces, opens_blank, without_last_spaces};
+ghost use Rattle.rnix_base.specs.Normal.{is_space, spaces, opens_blank, without_last_spaces, IsBehindBlank, borrowed};
 ghost use Rattle.rnix_base.specs.Indent.{indent_after, indent_behind, indent_of, no_indent, kept, left_behind};
 
 use crate::parts::InterpolPart;
 use std::alloc::{AllocError, Global};
 
-// The largest indentation that lines lose.
+// The largest indentation that is removed from lines.
 const LIMIT: usize = 1_000_000;
 
 /// What is known of the lines so far.
@@ -16,7 +16,7 @@ const LIMIT: usize = 1_000_000;
 pub(crate) struct Indent {
     // The smallest indentation.
     least: usize,
-    // How many spaces the line has, as long as it has nothing else.
+    // How many spaces the current line has, as long as it has nothing else.
     spaces: Option<usize>,
 }
 
@@ -56,7 +56,7 @@ impl Indent {
 
 /// The smallest indentation of a line that has text.
 pub(crate) fn least_indentation<I>(parts: &[InterpolPart<&str, I>]) -> usize
-    ensures { result ≡ (indent_of no_indent (map (with_text (λ text. text.now)) parts.now)).least }
+    ensures { result ≡ (indent_of no_indent (borrowed parts.now)).least }
 {
     let mut indent = Indent {
         least: LIMIT,
@@ -71,7 +71,7 @@ pub(crate) fn least_indentation<I>(parts: &[InterpolPart<&str, I>]) -> usize
     indent.least
 }
 
-/// What the lines of a text do not lose, and how many spaces its last line still loses. Each line loses up to `least`, the first one `left`.
+/// What is left of the lines of a text, and how many spaces its last line still loses. Each line loses up to `least`, the first one `left`.
 pub(crate) fn unindented(
     alloc: Global,
     text: &str,
@@ -95,16 +95,16 @@ pub(crate) fn unindented(
     Ok((kept, left))
 }
 
-// How many of these bytes come first.
+// How many spaces the bytes begin with.
 fn spaces_before(bytes: &[u8]) -> usize
     ensures { result ≡ spaces bytes.now }
 {
     bytes.iter().take_while(|b| **b == b' ').count()
 }
 
-/// What follows a first line feed, if nothing but spaces stands before it.
+/// What follows the first line feed, if nothing but spaces comes before it.
 pub(crate) fn behind_blank(text: &str) -> Option<&str>
-    ensures { MatchOption result (opens_blank text.now ≡ false) (λ rest. (opens_blank text.now ≡ true) × (rest.now ≡ drop (suc (spaces text.now)) text.now)) }
+    ensures { MatchOption result (opens_blank text.now ≡ false) (λ rest. IsBehindBlank text.now rest.now) }
 {
     let bytes = text.as_bytes();
     let spaces = spaces_before(bytes);
@@ -115,7 +115,7 @@ pub(crate) fn behind_blank(text: &str) -> Option<&str>
     }
 }
 
-// How long the bytes are without the spaces that they end with.
+// The length of the bytes without the spaces at their end.
 fn trimmed_len(bytes: &[u8]) -> usize
     ensures value { result + suffix_len is_space bytes.now ≡ length bytes.now }
     ensures within { result ≤ length bytes.now }
@@ -127,7 +127,7 @@ fn trimmed_len(bytes: &[u8]) -> usize
     end
 }
 
-/// A text without the spaces behind its last line feed, if there is nothing else.
+/// A text without the spaces after its last line feed, if nothing else follows it.
 pub(crate) fn without_last_spaces(text: &str) -> &str
     ensures { result.now ≡ without_last_spaces text.now }
 {

@@ -140,7 +140,7 @@ impl<'t> fmt::Display for Integer<'t> {
 }
 
 impl<'t> Integer<'t> {
-    /// The number, as Rust reads its text.
+    /// The number, as Rust parses its text.
     pub fn value(&self) -> Result<i64, ParseIntError>
         ensures { ⟦<i64 as FromStr>⟧.from_str_gives (text_at self.now) result }
     {

@@ -1,7 +1,7 @@
 //! The parts of a string, normalized.
 
-ghost use Rattle.std.specs.Prelude.{◌≡◌, map, IfOk, string_bytes};
-ghost use Rattle.rnix_base.specs.Normal.{with_text, opened, indented_parts, quoted_parts};
+ghost use Rattle.std.specs.Prelude.{◌≡◌, IfOk};
+ghost use Rattle.rnix_base.specs.Normal.{opened, indented_parts, quoted_parts, borrowed, owned};
 
 use crate::escapes::unescape;
 use crate::indent::{behind_blank, least_indentation, unindented, without_last_spaces};
@@ -10,7 +10,7 @@ use std::alloc::{AllocError, Global};
 
 // The parts without the spaces and the line feed that the first one begins with.
 fn opened<'t, I: Drop>(parts: Vec<InterpolPart<&'t str, I>>) -> Vec<InterpolPart<&'t str, I>>
-    ensures { map (with_text (λ text. text.now)) result.items ≡ opened (map (with_text (λ text. text.now)) parts.entry.items) }
+    ensures { borrowed result.items ≡ opened (borrowed parts.entry.items) }
 {
     let mut parts = parts;
     if let Some(InterpolPart::Literal(text)) = parts.first() {
@@ -25,12 +25,12 @@ fn opened<'t, I: Drop>(parts: Vec<InterpolPart<&'t str, I>>) -> Vec<InterpolPart
     parts
 }
 
-/// The parts of a string between `''`: without indentation, and with what their escapes stand for.
+/// The parts of a string in `''`: without indentation, and with what their escapes stand for.
 pub fn indented_parts<'t, I: Drop>(
     alloc: Global,
     parts: Vec<InterpolPart<&'t str, I>>,
 ) -> Result<Vec<InterpolPart<String, I>>, AllocError>
-    ensures { IfOk result (λ normal. map (with_text string_bytes) normal.items ≡ indented_parts (map (with_text (λ text. text.now)) parts.entry.items)) }
+    ensures { IfOk result (λ normal. owned normal.items ≡ indented_parts (borrowed parts.entry.items)) }
 {
     let parts = opened(parts);
     let least = least_indentation(&parts);
@@ -58,12 +58,12 @@ pub fn indented_parts<'t, I: Drop>(
     Ok(normal)
 }
 
-/// The parts of a string between `"`, with what their escapes stand for.
+/// The parts of a string in `"`, with what their escapes stand for.
 pub fn quoted_parts<'t, I: Drop>(
     alloc: Global,
     parts: Vec<InterpolPart<&'t str, I>>,
 ) -> Result<Vec<InterpolPart<String, I>>, AllocError>
-    ensures { IfOk result (λ normal. map (with_text string_bytes) normal.items ≡ quoted_parts (map (with_text (λ text. text.now)) parts.entry.items)) }
+    ensures { IfOk result (λ normal. owned normal.items ≡ quoted_parts (borrowed parts.entry.items)) }
 {
     let mut rest = parts.into_iter();
     let mut normal = Vec::new(alloc);

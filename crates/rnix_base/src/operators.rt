@@ -38,7 +38,7 @@ pub enum UnaryOpKind {
 }
 
 impl BinOpKind {
-    /// The operator that tokens of the kind stand for, if they do for one. No operator is that of two kinds.
+    /// The operator that tokens of the kind stand for, if any. No two kinds stand for one operator.
     #[tactic(auto, using(crate::proofs::OperatorLemmas::binary_has_one_kind))]
     pub fn from_kind(kind: SyntaxKind) -> Option<Self>
         ensures operator { result ≡ binary_operator kind }
@@ -68,7 +68,7 @@ impl BinOpKind {
 }
 
 impl UnaryOpKind {
-    /// The operator that tokens of the kind stand for, if they do for one. No operator is that of two kinds.
+    /// The operator that tokens of the kind stand for, if any. No two kinds stand for one operator.
     #[tactic(auto, using(crate::proofs::OperatorLemmas::unary_has_one_kind))]
     pub fn from_kind(kind: SyntaxKind) -> Option<Self>
         ensures operator { result ≡ unary_operator kind }

@@ -1,9 +1,7 @@
 //! The parts of a string or of a path: texts, and interpolations between them.
 
 ghost use Rattle.std.specs.Prelude.{◌≡◌, ◌<◌, ◌^◌, length, map, IfOk};
-ghost use Rattle.rnix_tree.specs.Tree.{text_at};
-ghost use Rattle.rnix_tree.specs.Walk.{children_of};
-ghost use Rattle.rnix_base.specs.Parts.{part_of, parts_of, parts_below, is_indented};
+ghost use Rattle.rnix_base.specs.Parts.{part_of, parts_of, parts_below, is_indented, texts_below};
 
 use crate::node::AstNode;
 use crate::token::AstToken;
@@ -14,7 +12,7 @@ use std::marker::{Model, PhantomData};
 /// A part of a string or of a path.
 #[derive(Clone, Debug, PartialEq, Eq, Hash, Drop)]
 pub enum InterpolPart<T, I> {
-    /// What stands there.
+    /// A text.
     Literal(T),
     /// An expression between `${` and `}`.
     Interpolation(I),
@@ -103,7 +101,7 @@ pub fn text_parts<'t, T: AstToken<'t>, I: AstNode<'t>>(
     alloc: Global,
     parent: &SyntaxNode<'t>,
 ) -> Result<Vec<InterpolPart<&'t str, I>>, AllocError>
-    ensures { IfOk result (λ all. map (part_of (λ text. text.now) I.node) all.items ≡ map (part_of text_at (λ i. i)) (parts_below T.kinds I.kinds parent.now)) }
+    ensures { IfOk result (λ all. map (part_of (λ t. t.now) I.node) all.items ≡ texts_below T.kinds I.kinds parent.now) }
 {
     let mut parts = parts_in::<T, I>(parent);
     let mut all = Vec::new(alloc);

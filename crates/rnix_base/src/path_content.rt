@@ -93,7 +93,7 @@ impl<'t> PathContent<'t> {
         self.path_kind() == SyntaxKind::TOKEN_PATH_REL
     }
 
-    /// Whether the token is a TOKEN_PATH_HOME, as `~/so`. Behind an interpolation a token may be of another kind than its path, as `~/b` in
+    /// Whether the token is a TOKEN_PATH_HOME, as `~/so`. After an interpolation a token may be of another kind than its path, as `~/b` in
     /// `./a${x}~/b`.
     pub fn is_home(&self) -> bool
         ensures { result ≡ same_kind k.TOKEN_PATH_HOME (item_of self.now).kind }

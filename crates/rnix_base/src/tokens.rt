@@ -128,7 +128,7 @@ impl<'t> fmt::Display for Comment<'t> {
     }
 }
 
-// What stands between the signs of a block comment, if the text is one.
+// What stands between `/*` and `*/` of a block comment, if the text is one.
 fn inside_block(text: &str) -> Option<&str>
     ensures { MatchOption result ((said : List ℕ) → ¬ IsBlock text.now said) (λ said. IsBlock text.now said.now) }
 {
@@ -149,7 +149,7 @@ fn said(text: &str) -> &str
 }
 
 impl<'t> Comment<'t> {
-    /// What the comment says: what stands behind `#`, or between `/*` and `*/`. A text that is neither is given whole.
+    /// What the comment says: the text after `#`, or between `/*` and `*/`. A text that is neither is given whole.
     pub fn text(&self) -> &'t str
         ensures { Says (text_at self.now) result.now }
     {
@@ -157,7 +157,7 @@ impl<'t> Comment<'t> {
     }
 }
 
-/// What a string says between its signs and interpolations, as it is written.
+/// The text of a string between its quotes and interpolations, as it is written.
 #[derive(Clone, Debug, PartialEq, Eq, Hash, Drop)]
 pub struct StrContent<'t> {
     syntax: SyntaxToken<'t>,

@@ -1,7 +1,7 @@
 -- What is done at each place, by the next token that is not trivia.
 use Rattle.std.specs.Prelude.{ℕ, Bool, true, false, ◌&&◌, Option, Some, None, if◌then◌else◌, nat_le}
 use Rattle.rnix_kinds.specs.declared.kinds.SyntaxKind.{SyntaxKind}
-use Rattle.rnix_kinds.specs.declared.kinds.SyntaxKind.TheVariants.{TOKEN_INHERIT, TOKEN_STRING_START, TOKEN_STRING_CONTENT, TOKEN_STRING_END, TOKEN_INTERPOL_START, TOKEN_PATH_ABS, TOKEN_PATH_REL, TOKEN_PATH_HOME, TOKEN_IDENT, TOKEN_OR, TOKEN_CUR_POS, TOKEN_L_PAREN, TOKEN_DOT, TOKEN_R_BRACE, TOKEN_ELLIPSIS, TOKEN_COMMA, TOKEN_AT, TOKEN_QUESTION, NODE_INHERIT, NODE_ATTRPATH_VALUE, NODE_ATTRPATH, NODE_INTERPOL, NODE_DYNAMIC, NODE_STRING, NODE_IDENT, NODE_INHERIT_FROM, NODE_PAT_BIND, NODE_SELECT, NODE_HAS_ATTR, NODE_BIN_OP}
+use Rattle.rnix_kinds.specs.declared.kinds.SyntaxKind.TheVariants.{TOKEN_INHERIT, TOKEN_STRING_START, TOKEN_STRING_CONTENT, TOKEN_STRING_END, TOKEN_INTERPOL_START, TOKEN_IDENT, TOKEN_OR, TOKEN_CUR_POS, TOKEN_DOT, TOKEN_R_BRACE, TOKEN_ELLIPSIS, TOKEN_AT, TOKEN_QUESTION, NODE_INHERIT, NODE_ATTRPATH_VALUE, NODE_ATTRPATH, NODE_INTERPOL, NODE_DYNAMIC, NODE_STRING, NODE_IDENT, NODE_INHERIT_FROM, NODE_PAT_BIND, NODE_SELECT, NODE_HAS_ATTR, NODE_BIN_OP}
 use Rattle.rnix_kinds.specs.SyntaxKind.{is_fn_arg}
 use Rattle.rnix_grammar.specs.declared.place.Place.{Place}
 use Rattle.rnix_grammar.specs.declared.place.Place.TheVariants as p
@@ -13,7 +13,7 @@ use Rattle.rnix_grammar.specs.declared.slot.Slot.TheVariants as s
 use Rattle.rnix_grammar.specs.declared.action.Action.{Action}
 use Rattle.rnix_grammar.specs.declared.action.Action.TheVariants as a
 use Rattle.rnix_grammar.specs.Tables.{is_wanted, closes}
-use Rattle.rnix_grammar.specs.Levels.{power, right_of, high_of}
+use Rattle.rnix_grammar.specs.Levels.{has_attr_level, application_level, power, right_of, high_of}
 use Rattle.rnix_grammar.specs.Slots.{slot_at}
 use Rattle.rnix_grammar.specs.TokenKinds.{is_l_paren, is_comma, is_path_piece}
 
@@ -123,9 +123,9 @@ end_action (Some kind) = a.Extra
 
 -- what goes on with an operand
 abbrev pub follow : SyntaxKind → Action
-follow TOKEN_DOT = a.Wrap NODE_SELECT p.SelectPath 15
+follow TOKEN_DOT = a.Wrap NODE_SELECT p.SelectPath application_level
 follow TOKEN_OR = a.ApplyOr
-follow TOKEN_QUESTION = a.Wrap NODE_HAS_ATTR p.HasPath 13
+follow TOKEN_QUESTION = a.Wrap NODE_HAS_ATTR p.HasPath has_attr_level
 follow kind = if is_fn_arg kind then a.Apply else a.Wrap NODE_BIN_OP (p.Right (right_of kind)) (high_of kind)
 
 -- an operator goes on whose level is between these

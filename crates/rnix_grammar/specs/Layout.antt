@@ -3,7 +3,7 @@ use Rattle.std.specs.Prelude.{Bool, true, false, List, [], ◌∷◌}
 use Rattle.rnix_kinds.specs.SyntaxKind.{is_trivia}
 use Rattle.rnix_grammar.specs.Sketch.{Token, Note, TooDeep, Sketch, blank, token, branch, fault, ◌⊕◌}
 
--- the tokens from the first item on
+-- the tokens from a token on if it is an item, else those from a later one on
 abbrev pub from_item_if : Bool → Token → List Token → List Token → List Token
 from_item_if true t ts later = later
 from_item_if false t ts later = t ∷ ts
@@ -13,7 +13,7 @@ abbrev pub from_item : List Token → List Token
 from_item [] = []
 from_item (t ∷ ts) = from_item_if (is_trivia t.kind) t ts (from_item ts)
 
--- the trivia before the first item, as leaves
+-- a token that is trivia, as a leaf before others; nothing for an item
 abbrev pub trivia_if : Bool → Token → Sketch → Sketch
 trivia_if true t more = token t.kind t more
 trivia_if false t more = blank
@@ -23,7 +23,7 @@ abbrev pub trivia_before : List Token → Sketch
 trivia_before [] = blank
 trivia_before (t ∷ ts) = trivia_if (is_trivia t.kind) t (trivia_before ts)
 
--- the tokens that are no trivia
+-- a token before others, unless it is trivia
 abbrev pub item_if : Bool → Token → List Token → List Token
 item_if true t more = more
 item_if false t more = t ∷ more

@@ -1,10 +1,42 @@
--- The levels of precedence: `<|` has level 1, `*` 11, `?` 13, an application 15, `.` and `or` 16.
+-- The levels of precedence: the binary operators have 1 to 12, the other forms of expressions those below.
 use Rattle.std.specs.Prelude.{ℕ, suc, ◌-◌, Option, Some, None, if◌then◌else◌}
 use Rattle.rnix_kinds.specs.declared.kinds.SyntaxKind.{SyntaxKind}
 use Rattle.rnix_kinds.specs.declared.kinds.SyntaxKind.TheVariants.{TOKEN_PIPE_LEFT, TOKEN_PIPE_RIGHT, TOKEN_IMPLICATION, TOKEN_OR_OR, TOKEN_AND_AND, TOKEN_EQUAL, TOKEN_NOT_EQUAL, TOKEN_LESS, TOKEN_LESS_OR_EQ, TOKEN_MORE, TOKEN_MORE_OR_EQ, TOKEN_UPDATE, TOKEN_ADD, TOKEN_SUB, TOKEN_MUL, TOKEN_DIV, TOKEN_CONCAT, TOKEN_QUESTION, TOKEN_DOT, TOKEN_OR}
 use Rattle.rnix_kinds.specs.SyntaxKind.{is_fn_arg}
 use Rattle.rnix_grammar.specs.declared.level.Associativity.{Associativity}
 use Rattle.rnix_grammar.specs.declared.level.Associativity.TheVariants.{Left, Right, Neither}
+
+-- any expression may stand at this level
+abbrev pub expression_level : ℕ
+expression_level = 0
+
+-- no operator has this level: it is the power of tokens that end an expression, and bounds what follows one that reaches as far as it can
+abbrev pub no_level : ℕ
+no_level = 0
+
+-- the prefix `!`
+abbrev pub inversion_level : ℕ
+inversion_level = 9
+
+-- `++`, the tightest of the binary operators
+abbrev pub concatenation_level : ℕ
+concatenation_level = 12
+
+-- `?`
+abbrev pub has_attr_level : ℕ
+has_attr_level = 13
+
+-- the prefix `-`
+abbrev pub negation_level : ℕ
+negation_level = 14
+
+-- a function and its argument
+abbrev pub application_level : ℕ
+application_level = 15
+
+-- a selection with `.`, and atoms
+abbrev pub selection_level : ℕ
+selection_level = 16
 
 -- the level of a binary operator, and which way it groups
 abbrev pub operator : SyntaxKind → Option (ℕ × Associativity)
@@ -24,22 +56,22 @@ operator TOKEN_ADD = Some (10, Left)
 operator TOKEN_SUB = Some (10, Left)
 operator TOKEN_MUL = Some (11, Left)
 operator TOKEN_DIV = Some (11, Left)
-operator TOKEN_CONCAT = Some (12, Right)
+operator TOKEN_CONCAT = Some (concatenation_level, Right)
 operator kind = None
 
 -- how tightly a token that is no binary operator binds what stands before it
 abbrev pub plain_power : SyntaxKind → ℕ
-plain_power TOKEN_QUESTION = 13
-plain_power TOKEN_DOT = 16
-plain_power TOKEN_OR = 16
-plain_power kind = if is_fn_arg kind then 15 else 0
+plain_power TOKEN_QUESTION = has_attr_level
+plain_power TOKEN_DOT = selection_level
+plain_power TOKEN_OR = selection_level
+plain_power kind = if is_fn_arg kind then application_level else no_level
 
 -- an operator's level, or another number where there is none
 abbrev pub level_or : ℕ → Option (ℕ × Associativity) → ℕ
 level_or n (Some o) = o.0
 level_or n None = n
 
--- how tightly a token binds what stands before it; 0 is a token that ends an expression
+-- how tightly a token binds what stands before it; no level is that of a token that ends an expression
 abbrev pub power : SyntaxKind → ℕ
 power kind = level_or (plain_power kind) (operator kind)
 
@@ -65,12 +97,12 @@ side_of side n None = n
 
 -- the loosest level of an operator's right operand
 abbrev pub right_of : SyntaxKind → ℕ
-right_of kind = side_of right_level 16 (operator kind)
+right_of kind = side_of right_level selection_level (operator kind)
 
 -- the loosest level of an operator's left operand
 abbrev pub left_of : SyntaxKind → ℕ
-left_of kind = side_of left_level 16 (operator kind)
+left_of kind = side_of left_level selection_level (operator kind)
 
 -- the tightest level of an operator behind what an operator has made
 abbrev pub high_of : SyntaxKind → ℕ
-high_of kind = side_of high_level 15 (operator kind)
+high_of kind = side_of high_level application_level (operator kind)

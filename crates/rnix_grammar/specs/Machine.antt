@@ -1,25 +1,23 @@
 -- Reading as steps: what is open, and what each step makes of it. With trivia, the trivia before a token or a node stay where they are met;
 -- without, only items are read.
-use Rattle.std.specs.Prelude.{ℕ, suc, Bool, true, false, List, [], ◌∷◌, ◌++◌, Option, if◌then◌else◌, nat_le, nat_eq}
+use Rattle.std.specs.Prelude.{ℕ, suc, Bool, true, false, List, [], ◌∷◌, ◌++◌, if◌then◌else◌, nat_le}
 use Rattle.rnix_kinds.specs.declared.kinds.SyntaxKind.{SyntaxKind}
 use Rattle.rnix_kinds.specs.declared.kinds.SyntaxKind.TheVariants.{NODE_ERROR, NODE_IDENT, NODE_PAT_ENTRY, NODE_LAMBDA, NODE_IDENT_PARAM, NODE_PATTERN, NODE_PAT_BIND, NODE_LEGACY_LET, NODE_APPLY, NODE_ROOT}
 use Rattle.rnix_grammar.specs.declared.place.Place.{Place}
 use Rattle.rnix_grammar.specs.declared.place.Place.TheVariants as p
-use Rattle.rnix_grammar.specs.declared.until.Until.{Until}
 use Rattle.rnix_grammar.specs.declared.action.Action.{Action}
 use Rattle.rnix_grammar.specs.declared.action.Action.TheVariants as a
 use Rattle.rnix_grammar.specs.declared.begin.Begin.{Begin}
 use Rattle.rnix_grammar.specs.declared.begin.Begin.TheVariants as b
 use Rattle.rnix_grammar.specs.Fault.{Fault, ended, ended_before, too_deep}
-use Rattle.rnix_grammar.specs.Tables.{is_wanted, wanted_kinds, depth_limit}
+use Rattle.rnix_grammar.specs.Tables.{wanted_kinds, depth_limit}
 use Rattle.rnix_grammar.specs.Actions.{action_at}
-use Rattle.rnix_grammar.specs.Begins.{begin_of}
-use Rattle.rnix_grammar.specs.Sketch.{Token, Stray, Unwanted, Extra, Twice, TooDeep, Sketch, blank, ◌⊕◌, one_token, one_branch, one_fault, row_of, tokens_in, clean, told, end_from, head_kind}
+use Rattle.rnix_grammar.specs.Begins.{begin_of, second_kind}
+use Rattle.rnix_grammar.specs.Sketch.{Token, Stray, Unwanted, Extra, Twice, TooDeep, Sketch, blank, ◌⊕◌, one_token, one_branch, one_fault, row_of, tokens_in, clean, told, end_from, head_kind, touches}
 use Rattle.rnix_grammar.specs.Layout.{items, from_item, tail_of, trivia_before, dressed, left_after}
 use Rattle.rnix_grammar.specs.Reports.{report, repeated}
 use Rattle.rnix_grammar.specs.Missing.{run_of}
-use Rattle.rnix_grammar.specs.Begins.{second_kind}
-use Rattle.rnix_grammar.specs.Sketch.{touches}
+use Rattle.rnix_grammar.specs.Levels.{expression_level, no_level, application_level, selection_level}
 
 -- what is open: a node, the error node of a second name, an operand that may become part of a node
 pub data Head : Type 0 where
@@ -116,7 +114,7 @@ made Operand row = row
 -- the loosest level with which an operand goes on
 abbrev pub low_of : Place → ℕ
 low_of (p.Behind low high) = low
-low_of place = 0
+low_of place = expression_level
 
 -- a machine with these frames, tokens, reach and errors
 abbrev pub machine : List Frame → List Token → ℕ → List Fault → Machine
@@ -150,28 +148,28 @@ limited raw f fs ts n es =
 -- an operand begins with the next item, inside so many counted places: f waits below
 abbrev pub begun : Bool → Begin → ℕ → ℕ → Token → Frame → List Frame → List Token → ℕ → List Fault → Machine
 begun raw (b.Leaf k) level d t f fs ts n es =
-    machine (opened Operand (p.Behind level 16) d (one_branch k (leaf raw k ts)) ∷ (put f.place (ate raw f.row ts) f ∷ fs)) (behind raw ts) (reach raw n ts) es
+    machine (opened Operand (p.Behind level selection_level) d (one_branch k (leaf raw k ts)) ∷ (put f.place (ate raw f.row ts) f ∷ fs)) (behind raw ts) (reach raw n ts) es
 begun raw (b.Node k place high) level d t f fs ts n es =
     machine (opened (Node k) place d (leaf raw k ts) ∷ (opened Operand (p.Behind level high) d blank ∷ (put f.place (ate raw f.row ts) f ∷ fs)))
     (behind raw ts) (reach raw n ts) es
 begun raw b.LegacyLet level d t f fs ts n es =
     machine (opened (Node NODE_LEGACY_LET) p.LegacyInside d (ate raw (leaf raw NODE_LEGACY_LET ts) (behind raw ts) ⊕ leaf raw NODE_LEGACY_LET (behind raw ts))
-    ∷ (opened Operand (p.Behind level 0) d blank ∷ (put f.place (ate raw f.row ts) f ∷ fs)))
+    ∷ (opened Operand (p.Behind level no_level) d blank ∷ (put f.place (ate raw f.row ts) f ∷ fs)))
     (behind raw (behind raw ts)) (reach raw (reach raw n ts) (behind raw ts)) es
 begun raw b.NameLambda level d t f fs ts n es =
     machine (opened (Node NODE_LAMBDA) p.LambdaColon d (one_branch NODE_IDENT_PARAM (one_branch NODE_IDENT (leaf raw NODE_IDENT ts)))
-    ∷ (opened Operand (p.Behind level 16) d blank ∷ (put f.place (ate raw f.row ts) f ∷ fs))) (behind raw ts) (reach raw n ts) es
+    ∷ (opened Operand (p.Behind level selection_level) d blank ∷ (put f.place (ate raw f.row ts) f ∷ fs))) (behind raw ts) (reach raw n ts) es
 begun raw b.BoundLambda level d t f fs ts n es =
     machine (opened (Node NODE_PATTERN) p.PatternBrace d
     (one_branch NODE_PAT_BIND (ate raw (one_branch NODE_IDENT (leaf raw NODE_IDENT ts)) (behind raw ts) ⊕ leaf raw NODE_PAT_BIND (behind raw ts)))
-    ∷ (opened (Node NODE_LAMBDA) p.LambdaColon d blank ∷ (opened Operand (p.Behind level 16) d blank ∷ (put f.place (ate raw f.row ts) f ∷ fs))))
+    ∷ (opened (Node NODE_LAMBDA) p.LambdaColon d blank ∷ (opened Operand (p.Behind level selection_level) d blank ∷ (put f.place (ate raw f.row ts) f ∷ fs))))
     (behind raw (behind raw ts)) (reach raw (reach raw n ts) (behind raw ts)) es
 begun raw b.PatternLambda level d t f fs ts n es =
     machine (opened (Node NODE_PATTERN) (p.PatternStart false) d (leaf raw NODE_PATTERN ts)
-    ∷ (opened (Node NODE_LAMBDA) p.LambdaColon d blank ∷ (opened Operand (p.Behind level 16) d blank ∷ (put f.place (ate raw f.row ts) f ∷ fs))))
+    ∷ (opened (Node NODE_LAMBDA) p.LambdaColon d blank ∷ (opened Operand (p.Behind level selection_level) d blank ∷ (put f.place (ate raw f.row ts) f ∷ fs))))
     (behind raw ts) (reach raw n ts) es
 begun raw b.Stray level d t f fs ts n es =
-    machine (opened Operand (p.Behind level 16) d (one_fault Stray (leaf raw NODE_ERROR ts)) ∷ (put f.place (ate raw f.row ts) f ∷ fs))
+    machine (opened Operand (p.Behind level selection_level) d (one_fault Stray (leaf raw NODE_ERROR ts)) ∷ (put f.place (ate raw f.row ts) f ∷ fs))
     (behind raw ts) (reach raw n ts) (es ++ report Stray (t ∷ []) ∷ [])
 
 -- an operand of a level, where f goes on behind it
@@ -212,9 +210,9 @@ perform raw (a.Wrap k inside high) f fs ts n es =
     machine (opened (Node k) inside f.depth (ate raw f.row ts ⊕ leaf raw k ts) ∷ (opened Operand (p.Behind (low_of f.place) high) f.depth blank ∷ fs))
     (behind raw ts) (reach raw n ts) es
 perform raw a.Apply f fs ts n es =
-    reading raw 16 false (opened (Node NODE_APPLY) p.Past f.depth f.row) (opened Operand (p.Behind (low_of f.place) 15) f.depth blank ∷ fs) ts n es
+    reading raw selection_level false (opened (Node NODE_APPLY) p.Past f.depth f.row) (opened Operand (p.Behind (low_of f.place) application_level) f.depth blank ∷ fs) ts n es
 perform raw a.ApplyOr f fs ts n es =
-    machine (opened Operand (p.Behind (low_of f.place) 15) f.depth (one_branch NODE_APPLY (ate raw f.row ts ⊕ one_branch NODE_IDENT (leaf raw NODE_IDENT ts))) ∷ fs)
+    machine (opened Operand (p.Behind (low_of f.place) application_level) f.depth (one_branch NODE_APPLY (ate raw f.row ts ⊕ one_branch NODE_IDENT (leaf raw NODE_IDENT ts))) ∷ fs)
     (behind raw ts) (reach raw n ts) es
 
 -- one step at the innermost frame, if there is one

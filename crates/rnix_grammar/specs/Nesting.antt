@@ -2,8 +2,7 @@
 use Rattle.std.specs.Prelude.{◌≡◌, ℕ, suc, max, if◌then◌else◌}
 use Rattle.rnix_grammar.specs.Tables.{depth_limit}
 use Rattle.rnix_grammar.specs.Sketch.{Note, TooDeep, Sketch, blank, token, branch, fault}
-use Rattle.rnix_grammar.specs.Rows.{Spot, go, start}
-use Rattle.rnix_grammar.specs.Rows.{counts}
+use Rattle.rnix_grammar.specs.Rows.{Spot, go, start, counts}
 use Rattle.rnix_grammar.specs.BehindErrors.{go_error}
 
 -- how many counted places are inside one another, in a row from a spot on; an error node counts none

@@ -6,13 +6,11 @@ use Rattle.rnix_kinds.specs.SyntaxKind.{is_fn_arg}
 use Rattle.rnix_grammar.specs.declared.begin.Begin.{Begin}
 use Rattle.rnix_grammar.specs.declared.begin.Begin.TheVariants as b
 use Rattle.rnix_grammar.specs.Slots.{slot_at, level_in}
-use Rattle.rnix_grammar.specs.Levels.{power, left_of}
-use Rattle.rnix_grammar.specs.Sketch.{Token, Sketch, blank, token, branch, fault, tokens_in, head_kind}
-use Rattle.rnix_grammar.specs.TokenKinds.{is_or}
+use Rattle.rnix_grammar.specs.Levels.{has_attr_level, application_level, selection_level, power, left_of}
+use Rattle.rnix_grammar.specs.Sketch.{Token, Sketch, branch, tokens_in, head_kind}
+use Rattle.rnix_grammar.specs.TokenKinds.{is_or, is_question, is_dot}
 use Rattle.rnix_grammar.specs.Rows.{is_infix, Spot, BeforeOperator, BeforeDot, BeforeQuestion, BeforeArgument, At}
-use Rattle.rnix_grammar.specs.Begins.{begin_of}
-use Rattle.rnix_grammar.specs.Begins.{second_kind}
-use Rattle.rnix_grammar.specs.TokenKinds.{is_question, is_dot}
+use Rattle.rnix_grammar.specs.Begins.{begin_of, second_kind}
 use Rattle.rnix_grammar.specs.TreeLevels.{row_level, is_atom_row, is_or_row}
 
 -- the kind of the first tree of an operand, down the first trees of operators, calls and selections; a function is known by its parameter
@@ -44,8 +42,8 @@ IsBegun level x (t ∷ ts) = kind_of (begin_of level t.kind t.text (head_kind ts
 abbrev pub follows : SyntaxKind → Sketch → Bool
 follows kind x =
     if is_infix kind then nat_le (left_of kind) (row_level x)
-    else (if is_question kind then nat_le 13 (row_level x)
-    else (if is_fn_arg kind then nat_le 15 (row_level x) else ((is_dot kind || is_or kind) && is_atom_row x)))
+    else (if is_question kind then nat_le has_attr_level (row_level x)
+    else (if is_fn_arg kind then nat_le application_level (row_level x) else ((is_dot kind || is_or kind) && is_atom_row x)))
 
 -- the next item would go on with an operand of a level
 abbrev pub goes_on : ℕ → Sketch → List Token → Bool
@@ -68,5 +66,5 @@ IsOperand (Some level) x after = (level ≤ row_level x) × IsBegun level x (tok
 -- the level of the operands at a spot; the name `or` is called as no operand
 abbrev pub level_at : Spot → Sketch → Option ℕ
 level_at (At place) x = level_in (slot_at place)
-level_at BeforeArgument x = if is_or_row x then None else Some 16
+level_at BeforeArgument x = if is_or_row x then None else Some selection_level
 level_at spot x = None

@@ -2,7 +2,7 @@
 -- stands an operand, an attribute path or a binding, if the place is for one; else the row ends, or a run of items that are not wanted stands there.
 use Rattle.std.specs.Prelude.{◌≡◌, ℕ, Bool, true, false, ◌||◌, ◌&&◌, List, [], ◌∷◌, Option, Some, None, nat_eq}
 use Rattle.rnix_kinds.specs.declared.kinds.SyntaxKind.{SyntaxKind}
-use Rattle.rnix_kinds.specs.declared.kinds.SyntaxKind.TheVariants.{TOKEN_QUESTION, TOKEN_DOT, TOKEN_AT, TOKEN_INHERIT, TOKEN_INTERPOL_START, TOKEN_STRING_START, NODE_INHERIT}
+use Rattle.rnix_kinds.specs.declared.kinds.SyntaxKind.TheVariants.{TOKEN_INTERPOL_START, TOKEN_STRING_START, NODE_INHERIT}
 use Rattle.rnix_grammar.specs.declared.place.Place.{Place}
 use Rattle.rnix_grammar.specs.declared.until.Until.TheVariants as u
 use Rattle.rnix_grammar.specs.declared.slot.Slot.{Slot}
@@ -11,14 +11,10 @@ use Rattle.rnix_grammar.specs.Fault.{Fault}
 use Rattle.rnix_grammar.specs.Slots.{slot_at}
 use Rattle.rnix_grammar.specs.Tables.{is_wanted, closes}
 use Rattle.rnix_grammar.specs.Sketch.{Token, Sketch, one_branch}
-use Rattle.rnix_grammar.specs.TokenKinds.{is_or}
+use Rattle.rnix_grammar.specs.TokenKinds.{is_or, is_l_paren, is_comma, is_piece_start, is_question, is_dot, is_at, is_interpol_start, is_inherit_token}
 use Rattle.rnix_grammar.specs.Rows.{Spot, BeforeArgument, At}
 use Rattle.rnix_grammar.specs.Missing.{lack_in}
-use Rattle.rnix_grammar.specs.TokenKinds.{is_l_paren, is_comma}
-use Rattle.rnix_grammar.specs.TokenKinds.{is_piece_start}
-use Rattle.rnix_grammar.specs.TokenKinds.{is_question, is_dot}
 use Rattle.rnix_grammar.specs.TreeLevels.{is_or_row}
-use Rattle.rnix_grammar.specs.TokenKinds.{is_at, is_interpol_start, is_inherit_token}
 
 -- the tokens that an attribute begins with
 abbrev pub begins_attr : SyntaxKind → Bool

@@ -6,7 +6,7 @@ use Rattle.rnix_tree.specs.Forest.{Forest, empty, node}
 use Rattle.rnix_tree.specs.Tree.{Tree}
 use Rattle.rnix_grammar.specs.Fault.{Fault}
 use Rattle.rnix_grammar.specs.Tables.{depth_limit}
-use Rattle.rnix_grammar.specs.Sketch.{Sketch, blank, forget, tokens_in, clean, placed_from, AreTold}
+use Rattle.rnix_grammar.specs.Sketch.{blank, forget, clean, placed_from, AreTold}
 use Rattle.rnix_grammar.specs.Reading.{IsReading}
 use Rattle.rnix_grammar.specs.Mended.{mended, held, halves, AreBegun, ended_count, others, AreSettled, AreNamedLists}
 use Rattle.rnix_grammar.specs.Unfinished.{AreHalvesLast}

@@ -1,15 +1,9 @@
 -- What is asked of a strict tree, beside its shape, to be read as it is.
 use Rattle.std.specs.Prelude.{◌≡◌, ℕ, Bool, true, false, ◌&&◌, List, [], ◌∷◌, ◌++◌, if◌then◌else◌, nat_eq}
 use Rattle.rnix_kinds.specs.declared.kinds.SyntaxKind.{SyntaxKind}
-use Rattle.rnix_kinds.specs.declared.kinds.SyntaxKind.TheVariants.{TOKEN_INTERPOL_START, NODE_PATH_ABS, NODE_PATH_HOME, NODE_PATH_REL}
+use Rattle.rnix_kinds.specs.declared.kinds.SyntaxKind.TheVariants.{NODE_PATH_ABS, NODE_PATH_HOME, NODE_PATH_REL}
 use Rattle.rnix_kinds.specs.SyntaxKind.{is_token}
-use Rattle.rnix_grammar.specs.declared.slot.Slot.{Slot}
-use Rattle.rnix_grammar.specs.declared.slot.Slot.TheVariants.{Operand, Series}
-use Rattle.rnix_grammar.specs.Slots.{slot_at}
-use Rattle.rnix_grammar.specs.TokenKinds.{is_path_piece}
-use Rattle.rnix_grammar.specs.Sketch.{Token, Sketch, blank, token, branch, fault, tokens_in, end_from}
-use Rattle.rnix_grammar.specs.Sketch.{touches}
-use Rattle.rnix_grammar.specs.Rows.{Spot, At}
+use Rattle.rnix_grammar.specs.Sketch.{Token, Sketch, blank, token, branch, fault, tokens_in, end_from, touches}
 use Rattle.rnix_grammar.specs.Yield.{untold}
 use Rattle.rnix_grammar.specs.TokenKinds.{is_piece_start}
 

@@ -1,5 +1,5 @@
 -- How the items of a text are read: at each place of a row the next items decide what stands there, so no list of items has two readings.
-use Rattle.std.specs.Prelude.{◌≡◌, ℕ, suc, ◌<◌, Bool, true, false, List, [], ◌∷◌, ◌++◌, Option, Some, None, length, if◌then◌else◌}
+use Rattle.std.specs.Prelude.{◌≡◌, ℕ, suc, ◌<◌, true, false, List, [], ◌∷◌, ◌++◌, Some, length, if◌then◌else◌}
 use Rattle.rnix_kinds.specs.declared.kinds.SyntaxKind.{SyntaxKind}
 use Rattle.rnix_kinds.specs.declared.kinds.SyntaxKind.TheVariants.{NODE_ROOT, NODE_ERROR, NODE_LITERAL}
 use Rattle.rnix_grammar.specs.declared.place.Place.{Place}
@@ -8,12 +8,9 @@ use Rattle.rnix_grammar.specs.Fault.{Fault}
 use Rattle.rnix_grammar.specs.Slots.{slot_at}
 use Rattle.rnix_grammar.specs.Tables.{depth_limit}
 use Rattle.rnix_grammar.specs.Sketch.{Token, Note, Stray, Unwanted, Extra, Twice, TooDeep, Sketch, blank, token, branch, fault, ◌⊕◌, one_token, one_branch, one_fault, row_of, tokens_in, is_some, told, head_kind, end_from}
-use Rattle.rnix_grammar.specs.Reports.{report}
-use Rattle.rnix_grammar.specs.Rows.{Spot, At, SecondStart, go, live, whole, start}
-use Rattle.rnix_grammar.specs.Missing.{lack, run_at}
-use Rattle.rnix_grammar.specs.Missing.{run_of}
-use Rattle.rnix_grammar.specs.Rows.{counts}
-use Rattle.rnix_grammar.specs.Reports.{repeats}
+use Rattle.rnix_grammar.specs.Reports.{report, repeats}
+use Rattle.rnix_grammar.specs.Rows.{Spot, At, SecondStart, go, live, whole, start, counts}
+use Rattle.rnix_grammar.specs.Missing.{lack, run_at, run_of}
 use Rattle.rnix_grammar.specs.OwnItems.{owns_end, IsOwned, stands_owned}
 use Rattle.rnix_grammar.specs.Operands.{IsFollowed, IsOperand, level_at}
 

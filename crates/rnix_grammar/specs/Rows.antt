@@ -1,14 +1,14 @@
 -- The rows of the node kinds, as one automaton over the kinds of children.
 use Rattle.std.specs.Prelude.{◌≡◌, ℕ, Bool, true, false, List, [], ◌∷◌, if◌then◌else◌, nat_eq, nat_le}
 use Rattle.rnix_kinds.specs.declared.kinds.SyntaxKind.{SyntaxKind}
-use Rattle.rnix_kinds.specs.declared.kinds.SyntaxKind.TheVariants.{TOKEN_PIPE_LEFT, TOKEN_PIPE_RIGHT, TOKEN_IMPLICATION, TOKEN_OR_OR, TOKEN_AND_AND, TOKEN_EQUAL, TOKEN_NOT_EQUAL, TOKEN_LESS, TOKEN_LESS_OR_EQ, TOKEN_MORE, TOKEN_MORE_OR_EQ, TOKEN_UPDATE, TOKEN_ADD, TOKEN_SUB, TOKEN_MUL, TOKEN_DIV, TOKEN_CONCAT, TOKEN_L_PAREN, TOKEN_L_BRACK, TOKEN_L_BRACE, TOKEN_R_BRACE, TOKEN_REC, TOKEN_LET, TOKEN_WITH, TOKEN_ASSERT, TOKEN_IF, TOKEN_INHERIT, TOKEN_STRING_START, TOKEN_STRING_CONTENT, TOKEN_STRING_END, TOKEN_INTERPOL_START, TOKEN_PATH_ABS, TOKEN_PATH_REL, TOKEN_PATH_HOME, TOKEN_PATH_SEARCH, TOKEN_FLOAT, TOKEN_INTEGER, TOKEN_URI, TOKEN_IDENT, TOKEN_CUR_POS, TOKEN_AT, TOKEN_DOT, TOKEN_QUESTION, TOKEN_COMMA, TOKEN_ELLIPSIS, TOKEN_OR, TOKEN_SEMICOLON, TOKEN_INVERT, TOKEN_SUB, NODE_APPLY, NODE_ASSERT, NODE_ATTR_SET, NODE_ATTRPATH, NODE_ATTRPATH_VALUE, NODE_BIN_OP, NODE_CUR_POS, NODE_DYNAMIC, NODE_HAS_ATTR, NODE_IDENT, NODE_IDENT_PARAM, NODE_IF_ELSE, NODE_INHERIT, NODE_INHERIT_FROM, NODE_INTERPOL, NODE_LAMBDA, NODE_LEGACY_LET, NODE_LET_IN, NODE_LIST, NODE_LITERAL, NODE_PAREN, NODE_PAT_BIND, NODE_PAT_ENTRY, NODE_PATTERN, NODE_PATH_ABS, NODE_PATH_HOME, NODE_PATH_REL, NODE_PATH_SEARCH, NODE_ROOT, NODE_SELECT, NODE_STRING, NODE_UNARY_OP, NODE_WITH}
+use Rattle.rnix_kinds.specs.declared.kinds.SyntaxKind.TheVariants.{TOKEN_SUB, TOKEN_L_PAREN, TOKEN_L_BRACK, TOKEN_L_BRACE, TOKEN_R_BRACE, TOKEN_REC, TOKEN_LET, TOKEN_WITH, TOKEN_ASSERT, TOKEN_IF, TOKEN_INHERIT, TOKEN_STRING_START, TOKEN_STRING_CONTENT, TOKEN_STRING_END, TOKEN_INTERPOL_START, TOKEN_PATH_ABS, TOKEN_PATH_REL, TOKEN_PATH_HOME, TOKEN_PATH_SEARCH, TOKEN_FLOAT, TOKEN_INTEGER, TOKEN_URI, TOKEN_IDENT, TOKEN_CUR_POS, TOKEN_AT, TOKEN_DOT, TOKEN_QUESTION, TOKEN_COMMA, TOKEN_ELLIPSIS, TOKEN_OR, TOKEN_SEMICOLON, TOKEN_INVERT, TOKEN_SUB, NODE_APPLY, NODE_ASSERT, NODE_ATTR_SET, NODE_ATTRPATH, NODE_ATTRPATH_VALUE, NODE_BIN_OP, NODE_CUR_POS, NODE_DYNAMIC, NODE_HAS_ATTR, NODE_IDENT, NODE_IDENT_PARAM, NODE_IF_ELSE, NODE_INHERIT, NODE_INHERIT_FROM, NODE_INTERPOL, NODE_LAMBDA, NODE_LEGACY_LET, NODE_LET_IN, NODE_LIST, NODE_LITERAL, NODE_PAREN, NODE_PAT_BIND, NODE_PAT_ENTRY, NODE_PATTERN, NODE_PATH_ABS, NODE_PATH_HOME, NODE_PATH_REL, NODE_PATH_SEARCH, NODE_ROOT, NODE_SELECT, NODE_STRING, NODE_UNARY_OP, NODE_WITH}
 use Rattle.rnix_grammar.specs.declared.place.Place.{Place}
 use Rattle.rnix_grammar.specs.declared.place.Place.TheVariants as p
 use Rattle.rnix_grammar.specs.declared.slot.Slot.{Slot}
 use Rattle.rnix_grammar.specs.declared.slot.Slot.TheVariants as s
 use Rattle.rnix_grammar.specs.Tables.{is_wanted, closes}
 use Rattle.std.specs.Option.{is_some}
-use Rattle.rnix_grammar.specs.Levels.{operator, right_of}
+use Rattle.rnix_grammar.specs.Levels.{expression_level, concatenation_level, has_attr_level, negation_level, operator, right_of}
 use Rattle.rnix_grammar.specs.Slots.{slot_at, is_counted}
 use Rattle.rnix_grammar.specs.TokenKinds.{is_path_piece}
 
@@ -61,8 +61,10 @@ is_expression kind = is_operand kind
 -- what may stand where an operand of a level is wanted
 abbrev pub fits : ℕ → SyntaxKind → Bool
 fits level kind =
-    if nat_eq level 0 then is_expression kind
-    else (if nat_le level 12 then is_operand kind else (if nat_eq level 13 then is_questioned kind else (if nat_eq level 14 then is_negated kind else is_simple kind)))
+    if nat_eq level expression_level then is_expression kind
+    else (if nat_le level concatenation_level then is_operand kind
+    else (if nat_eq level has_attr_level then is_questioned kind
+    else (if nat_eq level negation_level then is_negated kind else is_simple kind)))
 
 -- the binary operators
 abbrev pub is_infix : SyntaxKind → Bool

@@ -1,5 +1,5 @@
 -- The shape of a tree: each node has a row of its kind, and neither begins nor ends with trivia; the names of a pattern's entries differ.
-use Rattle.std.specs.Prelude.{◌≡◌, ℕ, Bool, true, false, ◌&&◌, List, [], ◌∷◌, ◌++◌, Option, Some, None, if◌then◌else◌, bytes_eq}
+use Rattle.std.specs.Prelude.{◌≡◌, ℕ, Bool, true, false, ◌&&◌, List, [], ◌∷◌, ◌++◌, Option, Some, None, if◌then◌else◌}
 use Rattle.rnix_kinds.specs.declared.kinds.SyntaxKind.{SyntaxKind}
 use Rattle.rnix_kinds.specs.declared.kinds.SyntaxKind.TheVariants.{NODE_IDENT, NODE_PAT_BIND, NODE_PAT_ENTRY}
 use Rattle.rnix_kinds.specs.SyntaxKind.{is_trivia}
@@ -7,8 +7,7 @@ use Rattle.rnix_tree.specs.Forest.{Forest, empty, leaf, node}
 use Rattle.rnix_tree.specs.Tree.{Tree, forest_of}
 use Rattle.rnix_grammar.specs.Fault.{Fault}
 use Rattle.rnix_grammar.specs.Sketch.{Sketch, blank, token, branch, fault, ◌⊕◌, one_token, one_branch, one_fault, tokens_in, clean}
-use Rattle.rnix_grammar.specs.Reports.{report}
-use Rattle.rnix_grammar.specs.Reports.{repeats}
+use Rattle.rnix_grammar.specs.Reports.{report, repeats}
 use Rattle.rnix_grammar.specs.Rows.{is_row}
 use Rattle.rnix_grammar.specs.Trim.{AreNodesTrimmed}
 use Rattle.rnix_grammar.specs.Tables.{is_among}

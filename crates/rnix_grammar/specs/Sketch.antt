@@ -107,7 +107,7 @@ AreTold parent (token k t f) = (k ≡ told parent t) × AreTold parent f
 AreTold parent (branch k c f) = AreTold k c × AreTold parent f
 AreTold parent (fault n c f) = AreTold NODE_ERROR c × AreTold parent f
 
--- the trees without trivia
+-- a token before a row, unless it is trivia
 abbrev pub token_if : Bool → SyntaxKind → Token → Sketch → Sketch
 token_if true k t f = f
 token_if false k t f = token k t f
@@ -139,18 +139,9 @@ abbrev pub kind_in : Option Token → Option SyntaxKind
 kind_in None = None
 kind_in (Some t) = Some t.kind
 
--- such a token without its place
-abbrev pub lexeme_in : Option Token → Option Lexeme
-lexeme_in None = None
-lexeme_in (Some t) = Some (lexeme_of t)
-
 -- the kind of the next token
 abbrev pub head_kind : List Token → Option SyntaxKind
 head_kind ts = kind_in (head_of ts)
-
--- the next token without its place
-abbrev pub head_lexeme : List Token → Option Lexeme
-head_lexeme ts = lexeme_in (head_of ts)
 
 -- the next item touches what was read last
 abbrev pub touches : ℕ → List Token → Bool

@@ -1,7 +1,7 @@
 -- What stands in a row with its errors: the errors of a tree are those of its rows, in order.
 use Rattle.std.specs.Prelude.{◌≡◌, ℕ, suc, ◌+◌, ◌<◌, ◌≤◌, Bool, true, false, ◌||◌, ◌&&◌, List, [], ◌∷◌, ◌++◌, Option, Some, None, length, if◌then◌else◌}
 use Rattle.rnix_kinds.specs.declared.kinds.SyntaxKind.{SyntaxKind}
-use Rattle.rnix_kinds.specs.declared.kinds.SyntaxKind.TheVariants.{TOKEN_QUESTION, TOKEN_DOT, TOKEN_EQUAL, TOKEN_NOT_EQUAL, TOKEN_LESS, TOKEN_LESS_OR_EQ, TOKEN_MORE, TOKEN_MORE_OR_EQ, TOKEN_INVERT, NODE_IDENT, NODE_CUR_POS, NODE_BIN_OP, NODE_HAS_ATTR, NODE_UNARY_OP, NODE_APPLY, NODE_LEGACY_LET, NODE_LET_IN, NODE_ROOT, NODE_ERROR, NODE_LITERAL, NODE_ATTRPATH, NODE_PATTERN, NODE_PAT_ENTRY, NODE_INHERIT, NODE_INTERPOL, NODE_ATTR_SET, NODE_ATTRPATH_VALUE, NODE_WITH, NODE_ASSERT, NODE_INHERIT_FROM, NODE_PAREN, NODE_LAMBDA, NODE_IF_ELSE, NODE_PAT_BIND, NODE_STRING}
+use Rattle.rnix_kinds.specs.declared.kinds.SyntaxKind.TheVariants.{TOKEN_EQUAL, TOKEN_NOT_EQUAL, TOKEN_LESS, TOKEN_LESS_OR_EQ, TOKEN_MORE, TOKEN_MORE_OR_EQ, NODE_IDENT, NODE_CUR_POS, NODE_ROOT, NODE_ERROR, NODE_LITERAL, NODE_ATTRPATH, NODE_PATTERN, NODE_INHERIT, NODE_INTERPOL, NODE_ATTR_SET, NODE_ATTRPATH_VALUE, NODE_WITH, NODE_ASSERT, NODE_INHERIT_FROM, NODE_PAREN, NODE_LAMBDA, NODE_IF_ELSE, NODE_PAT_BIND, NODE_STRING}
 use Rattle.rnix_kinds.specs.SyntaxKind.{is_fn_arg}
 use Rattle.rnix_grammar.specs.declared.place.Place.{Place}
 use Rattle.rnix_grammar.specs.declared.place.Place.TheVariants.{RootStart, RootEnd, PatternEnd, PatternPast}
@@ -11,17 +11,15 @@ use Rattle.rnix_grammar.specs.Fault.{Fault}
 use Rattle.rnix_grammar.specs.declared.slot.Slot.{Slot}
 use Rattle.rnix_grammar.specs.declared.slot.Slot.TheVariants.{Series}
 use Rattle.rnix_grammar.specs.Slots.{slot_at, level_in}
-use Rattle.rnix_grammar.specs.Levels.{power, left_of}
+use Rattle.rnix_grammar.specs.Levels.{has_attr_level, application_level, selection_level, left_of}
 use Rattle.rnix_grammar.specs.Tables.{stops, closes, depth_limit}
 use Rattle.rnix_grammar.specs.Sketch.{Token, Note, Stray, Unwanted, Extra, Twice, TooDeep, Sketch, blank, token, branch, fault, ◌⊕◌, one_token, one_branch, one_fault, row_of, tokens_in, is_some, told, head_kind}
-use Rattle.rnix_grammar.specs.Reports.{report, repeated}
+use Rattle.rnix_grammar.specs.Reports.{report, repeats}
 use Rattle.rnix_grammar.specs.Names.{is_named}
-use Rattle.rnix_grammar.specs.TokenKinds.{is_or}
-use Rattle.rnix_grammar.specs.Rows.{is_atom, is_simple, is_operand, is_infix, Spot, BeforeOperator, BeforeQuestion, BeforeArgument, At, SecondStart, go, live, whole, start}
+use Rattle.rnix_grammar.specs.Rows.{is_simple, is_operand, is_infix, Spot, BeforeOperator, BeforeQuestion, BeforeArgument, At, SecondStart, go, live, whole, start}
 use Rattle.rnix_grammar.specs.Missing.{lack, run_at}
 use Rattle.rnix_grammar.specs.TokenKinds.{is_question, is_dot}
 use Rattle.rnix_grammar.specs.TreeLevels.{is_or_row, row_level, is_atom_row}
-use Rattle.rnix_grammar.specs.Reports.{repeats}
 
 -- operators that do not group
 abbrev pub is_comparison : SyntaxKind → Bool
@@ -161,7 +159,7 @@ IsTight (Some level) x = level ≤ row_level x
 -- an argument, or the name `or` behind an atom
 abbrev pub IsArgument : Bool → Sketch → Sketch → Type 0
 IsArgument true before x = is_atom_row before ≡ true
-IsArgument false before x = (15 ≤ row_level before) × (16 ≤ row_level x)
+IsArgument false before x = (application_level ≤ row_level before) × (selection_level ≤ row_level x)
 
 -- a tree binds as tightly as it must where it stands
 abbrev pub IsLeveled : Spot → Sketch → Sketch → Type 0
@@ -172,7 +170,7 @@ IsLeveled spot before x = Unit {0}
 -- so does the tree before an operator
 abbrev pub IsOpened : Spot → Sketch → SyntaxKind → Type 0
 IsOpened BeforeOperator before kind = left_of kind ≤ row_level before
-IsOpened BeforeQuestion before kind = 13 ≤ row_level before
+IsOpened BeforeQuestion before kind = has_attr_level ≤ row_level before
 IsOpened spot before kind = Unit {0}
 
 -- A row of children without trivia, from a spot in their parent's row to another, with the errors that it is reported by. Each leaf has the

@@ -1,15 +1,12 @@
 -- A test of the strict grammar along the rows: which trees without trivia and error nodes are expressions. The grammar is defined in Grammar; the test says the same.
-use Rattle.std.specs.Prelude.{ℕ, suc, Bool, true, false, ◌&&◌, List, [], ◌∷◌, ◌++◌, Option, Some, None, codes, if◌then◌else◌, nat_le, nat_eq}
-use Rattle.std.specs.Str.{bytes_eq}
+use Rattle.std.specs.Prelude.{ℕ, Bool, true, false, ◌&&◌, List, [], ◌∷◌, Option, Some, None, if◌then◌else◌, nat_le}
 use Rattle.rnix_kinds.specs.declared.kinds.SyntaxKind.{SyntaxKind}
-use Rattle.rnix_kinds.specs.declared.kinds.SyntaxKind.TheVariants.{TOKEN_INVERT, TOKEN_IDENT, TOKEN_OR, TOKEN_CUR_POS, NODE_APPLY, NODE_ASSERT, NODE_BIN_OP, NODE_CUR_POS, NODE_DYNAMIC, NODE_HAS_ATTR, NODE_IDENT, NODE_IDENT_PARAM, NODE_IF_ELSE, NODE_LAMBDA, NODE_LEGACY_LET, NODE_LET_IN, NODE_PAT_BIND, NODE_PAT_ENTRY, NODE_PATTERN, NODE_ROOT, NODE_SELECT, NODE_UNARY_OP, NODE_WITH}
-use Rattle.rnix_kinds.specs.Lexical.Tokens.{Lexeme}
+use Rattle.rnix_kinds.specs.declared.kinds.SyntaxKind.TheVariants.{TOKEN_INVERT, NODE_APPLY, NODE_ASSERT, NODE_BIN_OP, NODE_CUR_POS, NODE_DYNAMIC, NODE_HAS_ATTR, NODE_IDENT, NODE_IDENT_PARAM, NODE_IF_ELSE, NODE_LAMBDA, NODE_LEGACY_LET, NODE_LET_IN, NODE_PAT_BIND, NODE_PAT_ENTRY, NODE_PATTERN, NODE_ROOT, NODE_SELECT, NODE_UNARY_OP, NODE_WITH}
 use Rattle.rnix_tree.specs.Forest.{Forest, empty, leaf, node}
-use Rattle.rnix_grammar.specs.Tables.{is_cur_pos}
-use Rattle.rnix_grammar.specs.Levels.{power, left_of}
+use Rattle.rnix_grammar.specs.Tables.{is_cur_pos, is_or, is_among}
+use Rattle.rnix_grammar.specs.Levels.{expression_level, inversion_level, has_attr_level, negation_level, application_level, selection_level, power, left_of}
 use Rattle.rnix_grammar.specs.Slots.{slot_at, level_in}
 use Rattle.rnix_grammar.specs.Rows.{is_atom, is_expression, Spot, BeforeArgument, At, go, live, whole, start}
-use Rattle.rnix_grammar.specs.Tables.{is_or, is_among}
 use Rattle.rnix_grammar.specs.Corners.{node_count, is_one}
 
 -- the text of the only leaf
@@ -38,22 +35,22 @@ calls_or f = false
 
 -- the level of a prefix operator's node, by its operator
 abbrev pub prefix_level : Forest → ℕ
-prefix_level (leaf TOKEN_INVERT t f) = 9
-prefix_level f = 14
+prefix_level (leaf TOKEN_INVERT t f) = inversion_level
+prefix_level f = negation_level
 
 -- the tightest level at which a tree may stand; 0 is a tree that only stands where any expression may
 abbrev pub level_of : SyntaxKind → Forest → ℕ
 level_of NODE_BIN_OP c = power (operator_of c)
-level_of NODE_HAS_ATTR c = 13
+level_of NODE_HAS_ATTR c = has_attr_level
 level_of NODE_UNARY_OP c = prefix_level c
-level_of NODE_APPLY c = if calls_or c then 16 else 15
-level_of NODE_LAMBDA c = 0
-level_of NODE_LEGACY_LET c = 0
-level_of NODE_LET_IN c = 0
-level_of NODE_WITH c = 0
-level_of NODE_IF_ELSE c = 0
-level_of NODE_ASSERT c = 0
-level_of kind c = 16
+level_of NODE_APPLY c = if calls_or c then selection_level else application_level
+level_of NODE_LAMBDA c = expression_level
+level_of NODE_LEGACY_LET c = expression_level
+level_of NODE_LET_IN c = expression_level
+level_of NODE_WITH c = expression_level
+level_of NODE_IF_ELSE c = expression_level
+level_of NODE_ASSERT c = expression_level
+level_of kind c = selection_level
 
 -- a tree is a name or the current position only where its text may be one (specs/Names asks it of a token at a spot)
 abbrev pub is_named : SyntaxKind → Forest → Bool
@@ -105,9 +102,9 @@ are_entries_new names (node k c f) = are_entries_new names f
 -- what is asked of the trees of some nodes beside their row
 abbrev pub is_grouped : SyntaxKind → Forest → Bool
 is_grouped NODE_BIN_OP c = first_stands (left_of (operator_of c)) c
-is_grouped NODE_HAS_ATTR c = first_stands 13 c
+is_grouped NODE_HAS_ATTR c = first_stands has_attr_level c
 is_grouped NODE_SELECT c = first_is_atom c
-is_grouped NODE_APPLY c = if calls_or c then first_is_atom c else first_stands 15 c
+is_grouped NODE_APPLY c = if calls_or c then first_is_atom c else first_stands application_level c
 is_grouped NODE_DYNAMIC c = is_one (node_count c)
 is_grouped NODE_IDENT_PARAM c = first_is_no_or c
 is_grouped NODE_PAT_ENTRY c = first_is_no_or c
@@ -135,7 +132,7 @@ abbrev pub may_stand : Spot → SyntaxKind → Forest → Bool
 may_stand (At place) NODE_PAT_BIND c = begins_with_leaf c
 may_stand spot NODE_PAT_BIND c = binds_at spot c
 may_stand (At place) k c = stands_in (level_in (slot_at place)) k c
-may_stand BeforeArgument k c = if is_or_name k c then true else stands_at 16 k c
+may_stand BeforeArgument k c = if is_or_name k c then true else stands_at selection_level k c
 may_stand spot k c = true
 
 -- the rest of a row, from a spot on

@@ -30,7 +30,7 @@ is_path_piece TOKEN_PATH_REL = true
 is_path_piece TOKEN_PATH_HOME = true
 is_path_piece kind = false
 
--- the next item would go on with an interpolated path that it touches
+-- the tokens that go on with an interpolated path that they touch
 abbrev pub is_piece_start : SyntaxKind → Bool
 is_piece_start TOKEN_INTERPOL_START = true
 is_piece_start kind = is_path_piece kind

@@ -2,7 +2,7 @@
 use Rattle.std.specs.Prelude.{ℕ, Bool, true, false, if◌then◌else◌}
 use Rattle.rnix_kinds.specs.declared.kinds.SyntaxKind.{SyntaxKind}
 use Rattle.rnix_kinds.specs.declared.kinds.SyntaxKind.TheVariants.{TOKEN_INVERT, NODE_IDENT, NODE_BIN_OP, NODE_HAS_ATTR, NODE_UNARY_OP, NODE_APPLY, NODE_LEGACY_LET, NODE_LET_IN, NODE_WITH, NODE_IF_ELSE, NODE_ASSERT, NODE_ROOT}
-use Rattle.rnix_grammar.specs.Levels.{power}
+use Rattle.rnix_grammar.specs.Levels.{expression_level, no_level, inversion_level, has_attr_level, negation_level, application_level, selection_level, power}
 use Rattle.rnix_grammar.specs.Sketch.{Sketch, blank, token, branch, fault}
 use Rattle.rnix_grammar.specs.TokenKinds.{is_or}
 use Rattle.rnix_grammar.specs.Rows.{is_atom}
@@ -15,9 +15,9 @@ operator_in f = NODE_ROOT
 
 -- the level of a prefix operator's node, by its operator
 abbrev pub prefix_in : Sketch → ℕ
-prefix_in blank = 0
-prefix_in (token TOKEN_INVERT t f) = 9
-prefix_in f = 14
+prefix_in blank = no_level
+prefix_in (token TOKEN_INVERT t f) = inversion_level
+prefix_in f = negation_level
 
 -- a row begins with the token `or`
 abbrev pub is_or_leaf : Sketch → Bool
@@ -39,21 +39,21 @@ calls_or f = false
 -- says the same of trees without them, where a lambda is as loose)
 abbrev pub level_of : SyntaxKind → Sketch → ℕ
 level_of NODE_BIN_OP c = power (operator_in c)
-level_of NODE_HAS_ATTR c = 13
+level_of NODE_HAS_ATTR c = has_attr_level
 level_of NODE_UNARY_OP c = prefix_in c
-level_of NODE_APPLY c = if calls_or c then 16 else 15
-level_of NODE_LEGACY_LET c = 0
-level_of NODE_LET_IN c = 0
-level_of NODE_WITH c = 0
-level_of NODE_IF_ELSE c = 0
-level_of NODE_ASSERT c = 0
-level_of kind c = 16
+level_of NODE_APPLY c = if calls_or c then selection_level else application_level
+level_of NODE_LEGACY_LET c = expression_level
+level_of NODE_LET_IN c = expression_level
+level_of NODE_WITH c = expression_level
+level_of NODE_IF_ELSE c = expression_level
+level_of NODE_ASSERT c = expression_level
+level_of kind c = selection_level
 
 -- the level of the first tree of a row; an error node counts as a literal
 abbrev pub row_level : Sketch → ℕ
 row_level (branch k c f) = level_of k c
-row_level (fault n c f) = 16
-row_level f = 0
+row_level (fault n c f) = selection_level
+row_level f = no_level
 
 -- a row begins with an atom, or with an error node
 abbrev pub is_atom_row : Sketch → Bool

@@ -10,7 +10,7 @@ use crate::slot::{Slot, slot_at};
 use crate::until::{Closer, Until, closes, is_wanted};
 use rnix_kinds::SyntaxKind;
 
-/// One step of the reader; the last place is where the row goes on behind it.
+/// One step of the reader. The last place is where the row goes on after it.
 #[derive(Clone, Copy)]
 pub enum Action {
     /// The node is complete.
@@ -25,29 +25,29 @@ pub enum Action {
     Finish,
     /// The operand is complete.
     Settle,
-    /// What is left is too much.
+    /// Items are left after the root's expression.
     Extra,
     /// The next token is a leaf.
     Take(Place),
-    /// The text ends where something stands.
+    /// The text ends where more is wanted.
     Miss(Place),
-    /// The text ends where these are wanted.
+    /// The text ends where certain kinds are wanted.
     MissWanted(Until, Place),
-    /// Tokens up to those that are wanted are an error.
+    /// The tokens before those that are wanted are an error.
     Run(Until, Place),
-    /// The next token is a node.
+    /// The next token is a node of its own.
     Leaf(SyntaxKind, Place),
     /// The next token begins a node, which goes on at the first place.
     Open(SyntaxKind, Place, Place),
-    /// A node begins, with nothing read.
+    /// A node begins before anything of it is read.
     Begin(SyntaxKind, Place, Place),
     /// A name begins an entry of a pattern.
     Entry(Place),
     /// The next token begins a second name of a pattern.
     Twice(Place),
-    /// An operand of a level, counted or not.
+    /// An operand of a level, which the limit of nesting counts or not.
     Read(u8, bool, Place),
-    /// The next token makes a node with the operand before it, which goes on at the place; then the operand goes on up to a level.
+    /// The next token makes a node with the operand before it, which goes on at the place; what follows the node is of at most the level.
     Wrap(SyntaxKind, Place, u8),
     /// An argument makes a node with the operand before it.
     Apply,
@@ -160,7 +160,7 @@ fn more_pieces_action(touches: bool, next: Option<SyntaxKind>) -> Action
     }
 }
 
-// A name, a string or an interpolation; behind a run, at another place.
+// A name, a string or an interpolation; after a run of unwanted tokens, at another place.
 fn attr_action(again: Place, behind: Place, next: Option<SyntaxKind>) -> Action
     ensures { result ≡ attr_action again behind next }
 {

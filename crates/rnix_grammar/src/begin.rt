@@ -4,6 +4,7 @@ ghost use Rattle.std.specs.Prelude.{◌≡◌};
 ghost use Rattle.rnix_grammar.specs.Tables.{is_cur_pos};
 ghost use Rattle.rnix_grammar.specs.Begins.{is_pattern, begin_name, begin_let, begin_keyword, begin_scope, begin_prefix, begin_of};
 
+use crate::level::{EXPRESSION_LEVEL, INVERSION_LEVEL, NEGATION_LEVEL, NO_LEVEL, SELECTION_LEVEL};
 use crate::place::Place;
 use rnix_kinds::{SyntaxKind, Token};
 
@@ -12,7 +13,7 @@ use rnix_kinds::{SyntaxKind, Token};
 pub enum Begin {
     /// A node over one token.
     Leaf(SyntaxKind),
-    /// A node that begins with a token; the place behind the token, and the tightest level of what may follow the node.
+    /// A node that begins with a token; the place after the token, and the tightest level of an operator that may follow the node.
     Node(SyntaxKind, Place, u8),
     /// `let {`
     LegacyLet,
@@ -73,49 +74,61 @@ fn begin_let(second: Option<SyntaxKind>) -> Begin
 {
     match second {
         Some(SyntaxKind::TOKEN_L_BRACE) => Begin::LegacyLet,
-        _ => Begin::Node(SyntaxKind::NODE_LET_IN, Place::LetInside, 0),
+        _ => Begin::Node(SyntaxKind::NODE_LET_IN, Place::LetInside, NO_LEVEL),
     }
 }
 
-// What begins an expression and no operand.
+// What a keyword begins: an expression that is not an operand of operators.
 fn begin_keyword(kind: SyntaxKind, second: Option<SyntaxKind>) -> Begin
     ensures { result ≡ begin_keyword kind second }
 {
     match kind {
         SyntaxKind::TOKEN_LET => begin_let(second),
-        SyntaxKind::TOKEN_WITH => Begin::Node(SyntaxKind::NODE_WITH, Place::WithScope, 0),
-        SyntaxKind::TOKEN_ASSERT => Begin::Node(SyntaxKind::NODE_ASSERT, Place::AssertCondition, 0),
-        SyntaxKind::TOKEN_IF => Begin::Node(SyntaxKind::NODE_IF_ELSE, Place::IfCondition, 0),
+        SyntaxKind::TOKEN_WITH => Begin::Node(SyntaxKind::NODE_WITH, Place::WithScope, NO_LEVEL),
+        SyntaxKind::TOKEN_ASSERT => Begin::Node(
+            SyntaxKind::NODE_ASSERT,
+            Place::AssertCondition,
+            NO_LEVEL,
+        ),
+        SyntaxKind::TOKEN_IF => Begin::Node(SyntaxKind::NODE_IF_ELSE, Place::IfCondition, NO_LEVEL),
         _ => Begin::Stray,
     }
 }
 
-// What begins an expression, where one may stand.
+// What a keyword begins, where any expression may stand.
 fn begin_scope(level: u8, kind: SyntaxKind, second: Option<SyntaxKind>) -> Begin
     ensures { result ≡ begin_scope level kind second }
 {
-    if level == 0 {
+    if level == EXPRESSION_LEVEL {
         begin_keyword(kind, second)
     } else {
         Begin::Stray
     }
 }
 
-// What begins with a prefix.
+// What a prefix operator begins.
 fn begin_prefix(level: u8, kind: SyntaxKind) -> Begin
     ensures { result ≡ begin_prefix level kind }
 {
     match kind {
         SyntaxKind::TOKEN_INVERT => {
-            if level <= 9 {
-                Begin::Node(SyntaxKind::NODE_UNARY_OP, Place::Inverted, 8)
+            if level <= INVERSION_LEVEL {
+                Begin::Node(
+                    SyntaxKind::NODE_UNARY_OP,
+                    Place::Inverted,
+                    INVERSION_LEVEL - 1,
+                )
             } else {
                 Begin::Stray
             }
         }
         SyntaxKind::TOKEN_SUB => {
-            if level <= 14 {
-                Begin::Node(SyntaxKind::NODE_UNARY_OP, Place::Negated, 13)
+            if level <= NEGATION_LEVEL {
+                Begin::Node(
+                    SyntaxKind::NODE_UNARY_OP,
+                    Place::Negated,
+                    NEGATION_LEVEL - 1,
+                )
             } else {
                 Begin::Stray
             }
@@ -135,18 +148,42 @@ pub fn begin_of(
 {
     let (kind, text) = first;
     match kind {
-        SyntaxKind::TOKEN_L_PAREN => Begin::Node(SyntaxKind::NODE_PAREN, Place::ParenInside, 16),
-        SyntaxKind::TOKEN_L_BRACK => Begin::Node(SyntaxKind::NODE_LIST, Place::ListInside, 16),
-        SyntaxKind::TOKEN_REC => Begin::Node(SyntaxKind::NODE_ATTR_SET, Place::SetBrace, 16),
+        SyntaxKind::TOKEN_L_PAREN => Begin::Node(
+            SyntaxKind::NODE_PAREN,
+            Place::ParenInside,
+            SELECTION_LEVEL,
+        ),
+        SyntaxKind::TOKEN_L_BRACK => Begin::Node(
+            SyntaxKind::NODE_LIST,
+            Place::ListInside,
+            SELECTION_LEVEL,
+        ),
+        SyntaxKind::TOKEN_REC => Begin::Node(
+            SyntaxKind::NODE_ATTR_SET,
+            Place::SetBrace,
+            SELECTION_LEVEL,
+        ),
         SyntaxKind::TOKEN_STRING_START => {
-            Begin::Node(SyntaxKind::NODE_STRING, Place::StringInside, 16)
+            Begin::Node(
+                SyntaxKind::NODE_STRING,
+                Place::StringInside,
+                SELECTION_LEVEL,
+            )
         }
-        SyntaxKind::TOKEN_PATH_ABS => Begin::Node(SyntaxKind::NODE_PATH_ABS, Place::PathFirst, 16),
-        SyntaxKind::TOKEN_PATH_REL => Begin::Node(SyntaxKind::NODE_PATH_REL, Place::PathFirst, 16),
+        SyntaxKind::TOKEN_PATH_ABS => Begin::Node(
+            SyntaxKind::NODE_PATH_ABS,
+            Place::PathFirst,
+            SELECTION_LEVEL,
+        ),
+        SyntaxKind::TOKEN_PATH_REL => Begin::Node(
+            SyntaxKind::NODE_PATH_REL,
+            Place::PathFirst,
+            SELECTION_LEVEL,
+        ),
         SyntaxKind::TOKEN_PATH_HOME => Begin::Node(
             SyntaxKind::NODE_PATH_HOME,
             Place::PathFirst,
-            16,
+            SELECTION_LEVEL,
         ),
         SyntaxKind::TOKEN_PATH_SEARCH => Begin::Leaf(SyntaxKind::NODE_PATH_SEARCH),
         SyntaxKind::TOKEN_FLOAT | SyntaxKind::TOKEN_INTEGER | SyntaxKind::TOKEN_URI => {
@@ -158,7 +195,7 @@ pub fn begin_of(
             if is_pattern(second, third) {
                 Begin::PatternLambda
             } else {
-                Begin::Node(SyntaxKind::NODE_ATTR_SET, Place::SetInside, 16)
+                Begin::Node(SyntaxKind::NODE_ATTR_SET, Place::SetInside, SELECTION_LEVEL)
             }
         }
         SyntaxKind::TOKEN_INVERT | SyntaxKind::TOKEN_SUB => begin_prefix(level, kind),

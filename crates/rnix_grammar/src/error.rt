@@ -18,7 +18,7 @@ use std::fmt;
 pub enum ParseError {
     /// No cause is told. The reader never makes it.
     Unexpected(TextRange),
-    /// Tokens stand behind the expression.
+    /// Tokens follow the expression.
     UnexpectedExtra(TextRange),
     /// A token of the first kind stands where one of the listed kinds is wanted.
     UnexpectedWanted(SyntaxKind, TextRange, Vec<SyntaxKind>),

@@ -1,11 +1,35 @@
-//! The levels of precedence, by numbers: the loosest operators have level 1, an application 15, `.` and `or` 16.
+//! The levels of precedence, by numbers: the binary operators have 1 to 12, from the loosest to the tightest.
 
 ghost use Rattle.std.specs.Prelude.{◌≡◌, ◌≤◌, IfSome};
-ghost use Rattle.rnix_grammar.specs.Levels.{operator, plain_power, power, right_of, high_of};
+ghost use Rattle.rnix_grammar.specs.Levels.{concatenation_level, operator, plain_power, power, right_of, high_of};
 
 use rnix_kinds::SyntaxKind;
 
-/// Which way operators of one level group. `Neither`: one is an operand of another only in parentheses.
+/// Any expression may stand at this level.
+pub const EXPRESSION_LEVEL: u8 = 0;
+
+/// No operator has this level: it is the power of tokens that end an expression, and bounds what follows one that reaches as far as it can.
+pub const NO_LEVEL: u8 = 0;
+
+/// The prefix `!`.
+pub const INVERSION_LEVEL: u8 = 9;
+
+/// `++`, the tightest of the binary operators.
+pub const CONCATENATION_LEVEL: u8 = 12;
+
+/// `?`
+pub const HAS_ATTR_LEVEL: u8 = 13;
+
+/// The prefix `-`.
+pub const NEGATION_LEVEL: u8 = 14;
+
+/// A function and its argument.
+pub const APPLICATION_LEVEL: u8 = 15;
+
+/// A selection with `.`, and atoms.
+pub const SELECTION_LEVEL: u8 = 16;
+
+/// Which way operators of one level group. With `Neither`, one is an operand of another only in parentheses.
 #[derive(Clone, Copy)]
 pub enum Associativity {
     Left,
@@ -16,7 +40,7 @@ pub enum Associativity {
 /// The level of a binary operator, and which way it groups.
 pub fn operator(kind: SyntaxKind) -> Option<(u8, Associativity)>
     ensures table { result ≡ operator kind }
-    ensures within { IfSome result (λ found. (1 ≤ found.0) × (found.0 ≤ 12)) }
+    ensures within { IfSome result (λ found. (1 ≤ found.0) × (found.0 ≤ concatenation_level)) }
 {
     match kind {
         SyntaxKind::TOKEN_PIPE_LEFT => Some((1, Associativity::Right)),
@@ -32,7 +56,7 @@ pub fn operator(kind: SyntaxKind) -> Option<(u8, Associativity)>
         SyntaxKind::TOKEN_UPDATE => Some((8, Associativity::Right)),
         SyntaxKind::TOKEN_ADD | SyntaxKind::TOKEN_SUB => Some((10, Associativity::Left)),
         SyntaxKind::TOKEN_MUL | SyntaxKind::TOKEN_DIV => Some((11, Associativity::Left)),
-        SyntaxKind::TOKEN_CONCAT => Some((12, Associativity::Right)),
+        SyntaxKind::TOKEN_CONCAT => Some((CONCATENATION_LEVEL, Associativity::Right)),
         _ => None,
     }
 }
@@ -42,13 +66,19 @@ fn plain_power(kind: SyntaxKind) -> u8
     ensures { result ≡ plain_power kind }
 {
     match kind {
-        SyntaxKind::TOKEN_QUESTION => 13,
-        SyntaxKind::TOKEN_DOT | SyntaxKind::TOKEN_OR => 16,
-        _ => { if kind.is_fn_arg() { 15 } else { 0 } }
+        SyntaxKind::TOKEN_QUESTION => HAS_ATTR_LEVEL,
+        SyntaxKind::TOKEN_DOT | SyntaxKind::TOKEN_OR => SELECTION_LEVEL,
+        _ => {
+            if kind.is_fn_arg() {
+                APPLICATION_LEVEL
+            } else {
+                NO_LEVEL
+            }
+        }
     }
 }
 
-/// How tightly a token binds what stands before it: its level, and 0 for one that ends an expression.
+/// How tightly a token binds what stands before it: its level, and no level for one that ends an expression.
 pub fn power(kind: SyntaxKind) -> u8
     ensures { result ≡ power kind }
 {
@@ -65,17 +95,17 @@ pub fn right_of(kind: SyntaxKind) -> u8
     match operator(kind) {
         Some((level, Associativity::Right)) => level,
         Some((level, _)) => level + 1,
-        None => 16,
+        None => SELECTION_LEVEL,
     }
 }
 
-/// The tightest level of an operator behind what an operator has made.
+/// The tightest level of an operator that may follow the node of an operator.
 pub fn high_of(kind: SyntaxKind) -> u8
     ensures { result ≡ high_of kind }
 {
     match operator(kind) {
         Some((level, Associativity::Left)) => level,
         Some((level, _)) => level - 1,
-        None => 15,
+        None => APPLICATION_LEVEL,
     }
 }

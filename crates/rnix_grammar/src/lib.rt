@@ -13,5 +13,6 @@ mod until;
 pub use action::{Action, action_at};
 pub use begin::{Begin, begin_of};
 pub use error::ParseError;
+pub use level::{APPLICATION_LEVEL, EXPRESSION_LEVEL, NO_LEVEL, SELECTION_LEVEL};
 pub use place::Place;
 pub use until::{Until, operand_kinds, stops, wanted_kinds};

@@ -1,22 +1,30 @@
-//! What the reader does behind an operand.
+//! What the reader does after an operand.
 
 ghost use Rattle.std.specs.Prelude.{◌≡◌};
 ghost use Rattle.rnix_grammar.specs.Levels.{power};
 ghost use Rattle.rnix_grammar.specs.Actions.{follow, more_action};
 
 use crate::action::Action;
-use crate::level::{high_of, power, right_of};
+use crate::level::{APPLICATION_LEVEL, HAS_ATTR_LEVEL, NO_LEVEL, high_of, power, right_of};
 use crate::place::Place;
 use rnix_kinds::SyntaxKind;
 
-// What a token does that goes on with an operand.
+// What is done with a token that continues an operand.
 fn follow(kind: SyntaxKind) -> Action
     ensures { result ≡ follow kind }
 {
     match kind {
-        SyntaxKind::TOKEN_DOT => Action::Wrap(SyntaxKind::NODE_SELECT, Place::SelectPath, 15),
+        SyntaxKind::TOKEN_DOT => Action::Wrap(
+            SyntaxKind::NODE_SELECT,
+            Place::SelectPath,
+            APPLICATION_LEVEL,
+        ),
         SyntaxKind::TOKEN_OR => Action::ApplyOr,
-        SyntaxKind::TOKEN_QUESTION => Action::Wrap(SyntaxKind::NODE_HAS_ATTR, Place::HasPath, 13),
+        SyntaxKind::TOKEN_QUESTION => Action::Wrap(
+            SyntaxKind::NODE_HAS_ATTR,
+            Place::HasPath,
+            HAS_ATTR_LEVEL,
+        ),
         _ => {
             if kind.is_fn_arg() {
                 Action::Apply
@@ -31,7 +39,7 @@ fn follow(kind: SyntaxKind) -> Action
     }
 }
 
-/// What the reader does behind an operand, which goes on at the levels from the first to the second.
+/// What the reader does after an operand, which operators of the levels from the first to the second continue.
 pub fn more_action(low: u8, high: u8, next: Option<SyntaxKind>) -> Action
     ensures { result ≡ more_action low high next }
 {
@@ -39,7 +47,7 @@ pub fn more_action(low: u8, high: u8, next: Option<SyntaxKind>) -> Action
         None => Action::Settle,
         Some(kind) => {
             let level = power(kind);
-            if level != 0 && low <= level && level <= high {
+            if level != NO_LEVEL && low <= level && level <= high {
                 follow(kind)
             } else {
                 Action::Settle

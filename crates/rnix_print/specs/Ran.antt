@@ -1,11 +1,15 @@
 -- What a run that was not refused has done.
-use Rattle.std.specs.Prelude.{◌≡◌, ◌↔◌, ℕ, Bool, true, List, [], ◌++◌, Option, IfSome, IsUtf8}
+use Rattle.std.specs.Prelude.{◌≡◌, ◌↔◌, ℕ, Bool, true, List, [], Option, IfSome, IsUtf8}
 use Rattle.std.specs.Io.KnownBytes.{Appends}
 use Rattle.rnix_kinds.specs.Lexical.Tokens.{tokens_of}
 use Rattle.rnix_tree.specs.Tree.{Tree}
 use Rattle.rnix_grammar.specs.Fault.{Fault}
 use Rattle.rnix_grammar.specs.Parsed.{IsParsed}
-use Rattle.rnix_print.specs.Lines.{error_lines, lines_of}
+use Rattle.rnix_print.specs.Lines.{output}
+
+-- the bytes that were left, where they are known, are not UTF-8
+abbrev pub IsNotUtf8 : Option (List ℕ) → Type 0
+IsNotUtf8 left = IfSome left (λ all. ¬ IsUtf8 all)
 
 -- the text that was left is read, and the lines of its errors and of its tree are printed
 pub record HasRun (left : Option (List ℕ)) (good : Bool) (old new : Option (List ℕ)) : Type 0 where
@@ -15,5 +19,5 @@ pub record HasRun (left : Option (List ℕ)) (good : Bool) (old new : Option (Li
   pub tree : Tree
   pub faults : List Fault
   pub parsed : IsParsed (tokens_of text) tree faults
-  pub printed : Appends old new (error_lines faults ++ lines_of record { tree = tree; number = 0 })
+  pub printed : Appends old new (output tree faults)
   pub good_is : (good ≡ true) ↔ (faults ≡ [])

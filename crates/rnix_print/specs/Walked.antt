@@ -1,12 +1,11 @@
 -- What a walk prints, as its events come.
 use Rattle.std.specs.Prelude.{◌≡◌, ◌<◌, false, ℕ, ◌+◌, ◌-◌, List, [], ◌∷◌, ◌++◌, if◌then◌else◌}
-use Rattle.rnix_tree.specs.Tree.{item_of, extent_of}
 use Rattle.rnix_tree.specs.Walk.{Event}
-use Rattle.rnix_print.specs.Lines.{line_of}
+use Rattle.rnix_print.specs.Lines.{element_line}
 
 -- the line that an event prints at a depth: one where an element is entered, none where it is left
 abbrev pub event_line : ℕ → Event → List ℕ
-event_line depth e = if e.0 then line_of depth (item_of e.1.1).kind (extent_of e.1.1) else []
+event_line depth e = if e.0 then element_line depth e.1.1 else []
 
 -- the depth behind an event
 abbrev pub depth_after : ℕ → Event → ℕ

@@ -27,7 +27,7 @@ pub fn status(outcome: &Result<bool, RunError>) -> u8
     }
 }
 
-/// The line that the program says of a run that was refused.
+/// The line that the program prints of a run that was refused.
 pub fn complaint(error: &RunError) -> &'static str
     ensures { result.now ≡ complaint_of error.now }
 {

@@ -1,18 +1,17 @@
 //! What is printed of a tree and of the errors of a text.
 
-ghost use Rattle.std.specs.Prelude.{◌≡◌, OnOk, map};
+ghost use Rattle.std.specs.Prelude.{OnOk, map};
 ghost use Rattle.std.specs.Io.KnownBytes.{Appends};
-ghost use Rattle.rnix_tree.specs.Tree.{item_of, extent_of};
 ghost use Rattle.rnix_tree.specs.Walk.{place_of};
 ghost use Rattle.rnix_grammar.specs.Fault.{fault_of};
-ghost use Rattle.rnix_print.specs.Lines.{indent, line_of, lines_of, error_lines};
+ghost use Rattle.rnix_print.specs.Lines.{indent, lines_of, error_lines, element_line};
 
 use rnix_grammar::ParseError;
 use rnix_tree::{SyntaxElement, SyntaxNode, WalkEvent};
 use std::io;
 use std::io::Write;
 
-// Two spaces for each level.
+// Prints two spaces for each level.
 #[tactic(auto, using(crate::proofs::LineLemmas::indent_then))]
 fn write_indent<W: Write>(depth: usize, out: &mut W) -> io::Result<()>
     ensures { OnOk result (Appends (W.contents out.old) (W.contents out.new) (indent depth)) }
@@ -23,10 +22,9 @@ fn write_indent<W: Write>(depth: usize, out: &mut W) -> io::Result<()>
     Ok(())
 }
 
-// The line of an element.
+// Prints the line of an element.
 fn write_line<W: Write>(element: &SyntaxElement<'_>, depth: usize, out: &mut W) -> io::Result<()>
-    ensures { OnOk result (Appends (W.contents out.old) (W.contents out.new)
-        (line_of depth (item_of (place_of element.now)).kind (extent_of (place_of element.now)))) }
+    ensures { OnOk result (Appends (W.contents out.old) (W.contents out.new) (element_line depth (place_of element.now))) }
 {
     write_indent(depth, out)?;
     let range = element.text_range();
@@ -34,7 +32,7 @@ fn write_line<W: Write>(element: &SyntaxElement<'_>, depth: usize, out: &mut W) 
     write!(out, "{name}@{start}..{end}\n")
 }
 
-/// Prints each element of the node, in preorder, one line each.
+/// Prints the node and all that is inside it, in preorder, one line for each element.
 pub fn dump<W: Write>(node: &SyntaxNode<'_>, out: &mut W) -> io::Result<()>
     ensures { OnOk result (Appends (W.contents out.old) (W.contents out.new) (lines_of node.now)) }
 {
@@ -51,7 +49,7 @@ pub fn dump<W: Write>(node: &SyntaxNode<'_>, out: &mut W) -> io::Result<()>
     Ok(())
 }
 
-/// Prints each error, one line each.
+/// Prints the errors, one line for each.
 pub(crate) fn write_errors<W: Write>(errors: &[ParseError], out: &mut W) -> io::Result<()>
     ensures { OnOk result (Appends (W.contents out.old) (W.contents out.new) (error_lines (map fault_of errors.now))) }
 {

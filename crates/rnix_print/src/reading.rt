@@ -1,9 +1,10 @@
 //! Reading the input.
 
-ghost use Rattle.std.specs.Prelude.{◌≡◌, ◌≢◌, ◌⊎◌, IfOk, OnOk, IfErr, IfSome, IsTrue, Err, string_bytes, IsUtf8};
-ghost use Rattle.std.specs.Io.KnownBytes.{Consumes, IsAtEnd};
+ghost use Rattle.std.specs.Prelude.{◌≡◌, ◌≢◌, ◌⊎◌, IfOk, OnOk, IfErr, IfSome, IsTrue, Err, string_bytes};
+ghost use Rattle.std.specs.Io.KnownBytes.{IsAtEnd};
 ghost use Rattle.rnix_print.specs.declared.outcome.RunError.TheVariants as refused;
 ghost use Rattle.rnix_print.specs.Moved.{HasMoved};
+ghost use Rattle.rnix_print.specs.Ran.{IsNotUtf8};
 
 use crate::outcome::RunError;
 use std::alloc::Global;
@@ -12,7 +13,7 @@ use std::io::{ErrorKind, Read};
 // How many bytes one read asks for.
 const CHUNK: usize = 4096;
 
-// One read, whose bytes go behind the others. It answers whether the input has ended, and an interrupted read answers that it has not.
+// Reads once, and appends the bytes. It answers whether the input has ended; an interrupted read answers that it has not.
 fn read_more<R: Read>(input: &mut R, bytes: &mut Vec<u8>) -> Result<bool, RunError>
     ensures moved { OnOk result (HasMoved (R.remaining input.old) (R.remaining input.new) bytes.old.items bytes.new.items) }
     ensures ended { IfOk result (λ ended. IsTrue ended → IsAtEnd (R.remaining input.new)) }
@@ -51,11 +52,11 @@ fn read_bytes<R: Read>(alloc: Global, input: &mut R) -> Result<Vec<u8>, RunError
     Err(RunError::Read)
 }
 
-/// Reads all of the input, as text. An interrupted read is made again, and `u64::MAX` reads without an end are a fault of the input.
+/// Reads all of the input, as text. An interrupted read is repeated, and an input that has not ended after `u64::MAX` reads is refused.
 pub(crate) fn read_all<R: Read>(alloc: Global, input: &mut R) -> Result<String, RunError>
     ensures text { IfOk result (λ text. IfSome (R.remaining input.old) (λ all. string_bytes text ≡ all)) }
     ensures end { OnOk result (IsAtEnd (R.remaining input.new)) }
-    ensures not_utf8 { result ≡ Err refused.NotUtf8 → IfSome (R.remaining input.old) (λ all. ¬ IsUtf8 all) }
+    ensures not_utf8 { result ≡ Err refused.NotUtf8 → IsNotUtf8 (R.remaining input.old) }
     ensures not_write { result ≢ Err refused.Write }
 {
     let bytes = read_bytes(alloc, input)?;

@@ -1,11 +1,11 @@
 //! A text in, its printed tree out.
 
-ghost use Rattle.std.specs.Prelude.{◌≡◌, ◌++◌, map, OnOk, IfOk, IfErr, IfSome, Err, IsUtf8};
+ghost use Rattle.std.specs.Prelude.{◌≡◌, map, OnOk, IfOk, Err};
 ghost use Rattle.std.specs.Io.KnownBytes.{Appends};
 ghost use Rattle.rnix_grammar.specs.Fault.{fault_of};
 ghost use Rattle.rnix_print.specs.declared.outcome.RunError.TheVariants as refused;
-ghost use Rattle.rnix_print.specs.Lines.{error_lines, lines_of};
-ghost use Rattle.rnix_print.specs.Ran.{HasRun};
+ghost use Rattle.rnix_print.specs.Ran.{HasRun, IsNotUtf8};
+ghost use Rattle.rnix_print.specs.Lines.{output};
 
 use crate::outcome::RunError;
 use crate::printing::{dump, write_errors};
@@ -18,10 +18,9 @@ use std::alloc::Global;
 use std::io;
 use std::io::{Read, Write};
 
-// The errors, and then the tree.
+// Prints the errors, and then the tree.
 fn print<W: Write>(tree: &GreenNode, errors: &[ParseError], out: &mut W) -> io::Result<()>
-    ensures { OnOk result (Appends (W.contents out.old) (W.contents out.new)
-        (error_lines (map fault_of errors.now) ++ lines_of record { tree = tree.now; number = 0 })) }
+    ensures { OnOk result (Appends (W.contents out.old) (W.contents out.new) (output tree.now (map fault_of errors.now))) }
 {
     write_errors(errors, out)?;
     dump(&SyntaxNode::new_root(tree), out)?;
@@ -33,7 +32,7 @@ fn print<W: Write>(tree: &GreenNode, errors: &[ParseError], out: &mut W) -> io::
 pub fn run<R: Read, W: Write>(alloc: Global, input: &mut R, out: &mut W) -> Result<bool, RunError>
     ensures ran { IfOk result (λ good. HasRun (R.remaining input.old) good (W.contents out.old) (W.contents out.new)) }
     ensures read { result ≡ Err refused.Read → out.new ≡ out.old }
-    ensures not_utf8 { result ≡ Err refused.NotUtf8 → (out.new ≡ out.old) × IfSome (R.remaining input.old) (λ all. ¬ IsUtf8 all) }
+    ensures not_utf8 { result ≡ Err refused.NotUtf8 → (out.new ≡ out.old) × IsNotUtf8 (R.remaining input.old) }
     ensures memory { result ≡ Err refused.Memory → out.new ≡ out.old }
 {
     let text = read_all(alloc, input)?;

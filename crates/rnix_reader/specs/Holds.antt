@@ -9,21 +9,20 @@ use Rattle.rnix_grammar.specs.declared.begin.Begin.{Begin}
 use Rattle.rnix_grammar.specs.declared.begin.Begin.TheVariants as b
 use Rattle.rnix_grammar.specs.declared.place.Place.TheVariants as p
 use Rattle.rnix_grammar.specs.Actions.{action_at}
-use Rattle.rnix_grammar.specs.Begins.{begin_of}
-use Rattle.rnix_grammar.specs.Sketch.{Token, Sketch, tokens_in, clean, forget, extent_of, head_of, head_kind}
+use Rattle.rnix_grammar.specs.Sketch.{Token, Sketch, tokens_in, clean, forget, extent_of, head_kind, touches}
 use Rattle.rnix_grammar.specs.Layout.{items}
 use Rattle.rnix_grammar.specs.Machine.{Head, Node, Second, Frame, Machine, machine, begins, ate, Runs}
-use Rattle.rnix_grammar.specs.Sketch.{touches}
-use Rattle.rnix_grammar.specs.Begins.{second_kind}
 use Rattle.rnix_grammar.specs.Reports.{entry_name, has_entry}
+use Rattle.rnix_grammar.specs.Levels.{selection_level}
+use Rattle.rnix_grammar.specs.Tables.{depth_limit}
+use Rattle.rnix_grammar.specs.Fault.{Fault}
 use Rattle.rnix_reader.specs.declared.mark.Mark.{Mark}
 use Rattle.rnix_reader.specs.declared.names.NameSet.{NameSet}
 use Rattle.rnix_reader.specs.declared.names.Names.{Names}
-use Rattle.rnix_grammar.specs.Tables.{depth_limit}
-use Rattle.rnix_grammar.specs.Fault.{Fault}
 use Rattle.rnix_reader.specs.Placed.{AreInOrder}
-use Rattle.rnix_reader.specs.Names.{has_name, texts_of, PatternOpened, PatternClosed, EntryOpened, EntryClosed}
-use Rattle.rnix_reader.specs.State.{State, ended, failed}
+use Rattle.rnix_reader.specs.Names.{has_name, texts_of, PatternOpened, PatternClosed, EntryNamed, EntryClosed}
+use Rattle.rnix_reader.specs.State.{State, items_left, IsNextItem, ended, failed}
+use Rattle.rnix_reader.specs.Steps.{begins_with}
 use Rattle.rnix_reader.specs.Flat.{flat, popped, mark_of}
 use Rattle.rnix_reader.specs.Sorts.{sort_of, sort_of_head, may_hold, weight, bonus, Root}
 
@@ -136,7 +135,7 @@ IsHolding m mark s names = (top : Frame) × (under : List Frame) × (ts : List T
 
 -- the action there
 abbrev pub action_of : Mark → State → Action
-action_of mark s = action_at mark.place (head_kind (items s.rest)) (touches s.reached (items s.rest))
+action_of mark s = action_at mark.place (head_kind (items_left s)) (touches s.reached (items_left s))
 
 -- the text is read
 abbrev pub is_finish : Action → Bool
@@ -152,7 +151,11 @@ opens_pattern begin = false
 -- the next items begin with a pattern
 abbrev pub opens_on : ℕ → List Token → Bool
 opens_on level [] = false
-opens_on level (t ∷ us) = opens_pattern (begin_of level t.kind t.text (head_kind us) (second_kind us))
+opens_on level (t ∷ us) = opens_pattern (begins_with level t us)
+
+-- and an operand, counted by the limit or not, may begin with it inside so many counted places
+abbrev pub opens_at : ℕ → Bool → ℕ → List Token → Bool
+opens_at depth counted level ts = if counted && nat_le depth_limit depth then false else opens_on level ts
 
 -- a set of names is opened, or the names stay
 abbrev pub NamesFor : Bool → Names → Names → Type 0
@@ -195,14 +198,14 @@ pub record TwiceOpened (start : ℕ) (n n' : Names) : Type 0 where
   pub ranges : n'.ranges.items ≡ n.ranges.items
   pub second : n'.second ≡ start
 
--- what a step makes of the names
+-- what a step makes of the names, by the state before it
 abbrev pub NamesAfter : Action → Mark → State → Names → Names → Type 0
 NamesAfter a.ClosePattern mark s n n' = PatternClosed n n'
 NamesAfter a.CloseEntry mark s n n' = (again : Option Fault) × EntryClosed again n n'
-NamesAfter (a.Entry after) mark s n n' = (t : Token) → head_of (items s.rest) ≡ Some t → EntryOpened t.text record { start = t.start; end = t.end } n n'
-NamesAfter (a.Twice after) mark s n n' = (t : Token) → head_of (items s.rest) ≡ Some t → TwiceOpened t.start n n'
-NamesAfter (a.Read level counted after) mark s n n' = NamesFor (if counted && nat_le depth_limit mark.depth then false else opens_on level (items s.rest)) n n'
-NamesAfter a.Apply mark s n n' = NamesFor (opens_on 16 (items s.rest)) n n'
+NamesAfter (a.Entry after) mark s n n' = (t : Token) → IsNextItem t s → EntryNamed t n n'
+NamesAfter (a.Twice after) mark s n n' = (t : Token) → IsNextItem t s → TwiceOpened t.start n n'
+NamesAfter (a.Read level counted after) mark s n n' = NamesFor (opens_at mark.depth counted level (items_left s)) n n'
+NamesAfter a.Apply mark s n n' = NamesFor (opens_on selection_level (items_left s)) n n'
 NamesAfter action mark s n n' = n' ≡ n
 
 -- what is added where a node may begin without an item
@@ -214,7 +217,7 @@ bonus_on (t ∷ ts) (m ∷ ms) = bonus_on (t ∷ ts) ms
 
 -- how much there is still to do
 abbrev pub work : State → ℕ
-work s = 100 * length (items s.rest) + weights s.marks + bonus_on (items s.rest) s.marks
+work s = 100 * length (items_left s) + weights s.marks + bonus_on (items_left s) s.marks
 
 -- the machine has come as far as the reader
 abbrev pub IsGoing : List Token → State → Names → Type 0

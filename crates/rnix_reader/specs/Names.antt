@@ -5,13 +5,18 @@ use Rattle.std.specs.Cmp.Lexicographic.{slice_cmp}
 use Rattle.std.specs.Ordering.{nat_cmp}
 use Rattle.std.specs.Str.{bytes_eq}
 use Rattle.rnix_tree.specs.Range.{Extent}
-use Rattle.rnix_reader.specs.declared.names.NameSet.{NameSet}
 use Rattle.rnix_grammar.specs.Fault.{Fault, named_twice}
+use Rattle.rnix_grammar.specs.Sketch.{Token}
+use Rattle.rnix_reader.specs.declared.names.NameSet.{NameSet}
 use Rattle.rnix_reader.specs.declared.names.Names.{Names}
 
 -- a set has the name
 abbrev pub has_name : List ℕ → NameSet → Bool
 has_name name s = contains_by (λ x. slice_cmp nat_cmp name x.now) s.names
+
+-- a set has a name, or the name is the one that is added
+abbrev pub has_with : List ℕ → List ℕ → NameSet → Bool
+has_with other text s = if bytes_eq text other then true else has_name other s
 
 -- the names of open entries
 abbrev pub texts_of : Names → List (List ℕ)
@@ -40,10 +45,14 @@ pub record EntryOpened (text : List ℕ) (range : Extent) (n n' : Names) : Type 
   pub ranges : n'.ranges.items ≡ n.ranges.items ++ range ∷ []
   pub second : n'.second ≡ n.second
 
+-- the entry that begins with this token is open
+abbrev pub EntryNamed : Token → Names → Names → Type 0
+EntryNamed t n n' = EntryOpened t.text record { start = t.start; end = t.end } n n'
+
 -- it is complete: the pattern has one more name
 pub record Entered (text : List ℕ) (below : List NameSet) (s : NameSet) (n' : Names) : Type 0 where
   pub set : NameSet
-  pub has : (other : List ℕ) → has_name other set ≡ (if bytes_eq text other then true else has_name other s)
+  pub has : (other : List ℕ) → has_name other set ≡ has_with other text s
   pub sets : n'.sets.items ≡ below ++ set ∷ []
 
 -- an entry is complete, and an error is told if it repeats a name

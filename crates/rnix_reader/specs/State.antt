@@ -1,11 +1,11 @@
 -- What the reader holds, as values: the tokens that are left, the trees so far, the open nodes, the errors, where the last item ended, and
 -- the marks of all that is open; and its single steps.
-use Rattle.std.specs.Prelude.{ℕ, List, [], ◌∷◌, ◌++◌, map}
+use Rattle.std.specs.Prelude.{◌≡◌, ℕ, List, [], ◌∷◌, ◌++◌, map, Some}
 use Rattle.rnix_kinds.specs.declared.kinds.SyntaxKind.{SyntaxKind}
 use Rattle.rnix_tree.specs.Forest.{Forest, join, tree_count}
 use Rattle.rnix_tree.specs.Draft.{Draft, OpenNode, node_closed}
 use Rattle.rnix_grammar.specs.Fault.{Fault, fault_of}
-use Rattle.rnix_grammar.specs.Sketch.{Token, row_of, forget, end_from}
+use Rattle.rnix_grammar.specs.Sketch.{Token, row_of, forget, end_from, head_of}
 use Rattle.rnix_grammar.specs.Layout.{items, from_item, trivia_before, tail_of, left_after, dressed}
 use Rattle.rnix_grammar.specs.Machine.{leaf_in, end_of}
 use Rattle.rnix_reader.specs.declared.mark.Mark.{Mark}
@@ -34,6 +34,10 @@ state p = record {
 -- the tokens that are left and are no trivia
 abbrev pub items_left : State → List Token
 items_left s = items s.rest
+
+-- this item is the next
+abbrev pub IsNextItem : Token → State → Type 0
+IsNextItem t s = head_of (items_left s) ≡ Some t
 
 -- the trivia before the next item are read
 unfoldable pub eaten : State → State

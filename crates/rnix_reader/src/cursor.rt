@@ -1,6 +1,6 @@
 //! The tokens of a text, and how far they are read.
 
-ghost use Rattle.std.specs.Prelude.{◌≡◌, ℕ, drop, map, IfOk, IsTrue, option_map};
+ghost use Rattle.std.specs.Prelude.{◌≡◌, drop, map, IfOk, option_map};
 ghost use Rattle.rnix_grammar.specs.Sketch.{placed_from, head_of, head_kind};
 ghost use Rattle.rnix_grammar.specs.Layout.{from_item, tail_of, items};
 ghost use Rattle.rnix_reader.specs.Placed.{token_of, AreInOrder, IsCursor};
@@ -23,7 +23,7 @@ pub(crate) struct PlacedToken<'t> {
 pub(crate) struct Cursor<'t> {
     tokens: Vec<PlacedToken<'t>>,
     at: usize,
-    // Where the next item is, so that no look at it passes over trivia.
+    // Where the next item is, so that looking at it does not go over trivia again.
     next: usize,
 }
 
@@ -78,7 +78,7 @@ fn item_from(tokens: &[PlacedToken<'_>], from: usize) -> usize
     at
 }
 
-// Where the item behind an item is.
+// Where the item after an item is.
 fn behind_item(tokens: &[PlacedToken<'_>], at: usize) -> usize
     ensures { from_item (tail_of (drop at (map token_of tokens.now))) ≡ drop result (map token_of tokens.now) }
 {
@@ -99,7 +99,7 @@ fn kind_at(tokens: &[PlacedToken<'_>], at: usize) -> Option<SyntaxKind>
 }
 
 impl<'t> Cursor<'t> {
-    /// All tokens of a text are left.
+    /// A cursor before the first token.
     pub(crate) fn new(alloc: Global, tokens: Tokenizer<'t>) -> Result<Self, AllocError>
         ensures { IfOk result (λ cursor. cursor ≡ placed_from 0 tokens.entry) }
     {
@@ -141,7 +141,7 @@ impl<'t> Cursor<'t> {
         kind_at(&self.tokens, behind_item(&self.tokens, second))
     }
 
-    /// Passes the next token.
+    /// Moves past the next token.
     pub(crate) fn advance(&mut self)
         ensures { self.new ≡ tail_of self.old }
     {
@@ -151,7 +151,7 @@ impl<'t> Cursor<'t> {
         }
     }
 
-    /// No token ends before it begins, or begins before the one before it ends.
+    /// The tokens are in order: none ends before it begins, or begins before the previous one ends.
     pub(crate) fn ordered(&self)
         ensures { AreInOrder 0 self.now }
     {

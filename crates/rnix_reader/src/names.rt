@@ -1,9 +1,8 @@
 //! The names of the patterns that are being read.
 
-ghost use Rattle.std.specs.Prelude.{◌≡◌, ◌++◌, ◌∷◌, [], ℕ, List, IfOk, OnOk, option_map, false, true, ◌||◌, if◌then◌else◌};
-ghost use Rattle.std.specs.Str.{bytes_eq};
+ghost use Rattle.std.specs.Prelude.{◌≡◌, [], ℕ, List, IfOk, OnOk, option_map, false};
 ghost use Rattle.rnix_grammar.specs.Fault.{fault_of};
-ghost use Rattle.rnix_reader.specs.Names.{has_name, PatternOpened, PatternClosed, EntryOpened, EntryClosed};
+ghost use Rattle.rnix_reader.specs.Names.{has_name, has_with, PatternOpened, PatternClosed, EntryOpened, EntryClosed};
 
 use rnix_grammar::ParseError;
 use rnix_tree::TextRange;
@@ -33,21 +32,21 @@ impl<'t> NameSet<'t> {
         self.names.contains(name)
     }
 
-    /// One more name.
+    /// Adds a name.
     pub(crate) fn insert(&mut self, name: &'t str) -> Result<(), AllocError>
-        ensures { (other : List ℕ) → OnOk result (has_name other self.new ≡ (if bytes_eq name.now other then true else has_name other self.old)) }
+        ensures { (other : List ℕ) → OnOk result (has_name other self.new ≡ has_with other name.now self.old) }
     {
         self.names.insert(name)?;
         Ok(())
     }
 }
 
-/// The names that are known of what is open.
+/// The names of open patterns and entries.
 #[derive(Drop)]
 pub(crate) struct Names<'t> {
-    /// Of each open pattern.
+    /// The names so far of each open pattern.
     pub(crate) sets: Vec<NameSet<'t>>,
-    /// Of each open entry of a pattern, and where it stands.
+    /// The name of each open entry of a pattern, and its range in `ranges`.
     pub(crate) entries: Vec<&'t str>,
     pub(crate) ranges: Vec<TextRange>,
     /// Where the second name of a pattern begins, while it is open.
@@ -55,7 +54,7 @@ pub(crate) struct Names<'t> {
 }
 
 impl<'t> Names<'t> {
-    /// Nothing is open.
+    /// No pattern and no entry is open.
     pub(crate) fn new(alloc: Global) -> Self
         ensures sets { result.sets.items ≡ [] }
         ensures entries { result.entries.items ≡ [] }
@@ -69,7 +68,7 @@ impl<'t> Names<'t> {
         }
     }
 
-    /// A pattern is open.
+    /// Opens a pattern.
     pub(crate) fn open_pattern(&mut self) -> Result<(), AllocError>
         ensures { OnOk result (PatternOpened self.old self.new) }
     {
@@ -78,14 +77,14 @@ impl<'t> Names<'t> {
         Ok(())
     }
 
-    /// A pattern is complete.
+    /// Closes the innermost pattern.
     pub(crate) fn close_pattern(&mut self)
         ensures { PatternClosed self.old self.new }
     {
         self.sets.pop();
     }
 
-    /// An entry is open.
+    /// Opens an entry.
     pub(crate) fn open_entry(&mut self, text: &'t str, range: TextRange) -> Result<(), AllocError>
         ensures { OnOk result (EntryOpened text.now range self.old self.new) }
     {
@@ -94,7 +93,7 @@ impl<'t> Names<'t> {
         Ok(())
     }
 
-    /// An entry is complete: the error, if an earlier entry has its name.
+    /// Closes the innermost entry; the error, if an earlier entry has its name.
     pub(crate) fn close_entry(&mut self) -> Result<Option<ParseError>, AllocError>
         ensures { IfOk result (λ again. EntryClosed (option_map fault_of again) self.old self.new) }
     {

@@ -1,15 +1,12 @@
-//! Operands: what they begin with.
+//! How operands begin.
 
-ghost use Rattle.std.specs.Prelude.{◌≡◌, ◌∷◌, [], ℕ, OnOk, true, false, Some, None, if◌then◌else◌};
-ghost use Rattle.rnix_kinds.specs.declared.kinds.SyntaxKind.TheVariants.{NODE_ROOT, NODE_ERROR, NODE_IDENT, NODE_IDENT_PARAM, NODE_LAMBDA, NODE_PATTERN, NODE_PAT_BIND};
-ghost use Rattle.rnix_grammar.specs.declared.place.Place.TheVariants.{LambdaColon, PatternBrace};
-ghost use Rattle.rnix_grammar.specs.Begins.{begin_of};
-ghost use Rattle.rnix_grammar.specs.Sketch.{head_of, head_kind};
-ghost use Rattle.rnix_grammar.specs.Layout.{tail_of};
+ghost use Rattle.std.specs.Prelude.{◌≡◌, OnOk, None, if◌then◌else◌};
 ghost use Rattle.rnix_grammar.specs.Begins.{second_kind};
+ghost use Rattle.rnix_grammar.specs.Sketch.{head_kind};
+ghost use Rattle.rnix_grammar.specs.Layout.{tail_of};
 ghost use Rattle.rnix_reader.specs.Placed.{token_of};
-ghost use Rattle.rnix_reader.specs.State.{State, state, items_left, bumped, started, ended};
-ghost use Rattle.rnix_reader.specs.Steps.{noded, operand_begun, looks_behind, is_brace};
+ghost use Rattle.rnix_reader.specs.State.{state, items_left, IsNextItem};
+ghost use Rattle.rnix_reader.specs.Steps.{operand_begun, looks_behind, is_brace, begins_with, binding_read, lambda_begun, leafed, node_begun, parameter_read};
 
 use crate::cursor::PlacedToken;
 use crate::parser::Parser;
@@ -17,7 +14,7 @@ use rnix_grammar::{Begin, Place, begin_of};
 use rnix_kinds::SyntaxKind;
 use std::alloc::AllocError;
 
-// Whether it matters to an operand what stands behind its first item.
+// Whether the second item matters to an operand that begins with a token of the kind.
 fn looks_behind(kind: SyntaxKind) -> bool
     ensures { result ≡ looks_behind kind }
 {
@@ -55,10 +52,10 @@ impl<'t> Parser<'t> {
         None
     }
 
-    /// How an operand begins with the next item.
+    /// How an operand begins, by the next item.
     pub(crate) fn beginning(&self, level: u8, first: PlacedToken<'_>) -> Begin
-        requires { head_of (items_left (state self.now)) ≡ Some (token_of first) }
-        ensures { result ≡ begin_of level first.entry.kind first.entry.text.now (head_kind (tail_of (items_left (state self.now)))) (second_kind (tail_of (items_left (state self.now)))) }
+        requires { IsNextItem (token_of first) (state self.now) }
+        ensures { result ≡ begins_with level (token_of first.entry) (tail_of (items_left (state self.now))) }
     {
         let kind = first.kind;
         let second = self.second_of(kind);
@@ -66,9 +63,9 @@ impl<'t> Parser<'t> {
         begin_of(level, (kind, first.text), second, third)
     }
 
-    /// The parameter of a function.
+    /// Reads the parameter of a function.
     pub(crate) fn parameter(&mut self) -> Result<(), AllocError>
-        ensures { OnOk result (state self.new ≡ ended (ended (bumped NODE_IDENT (started NODE_IDENT (started NODE_IDENT_PARAM (state self.old)))))) }
+        ensures { OnOk result (state self.new ≡ parameter_read (state self.old)) }
     {
         self.start_node(SyntaxKind::NODE_IDENT_PARAM)?;
         self.leaf_node(SyntaxKind::NODE_IDENT)?;
@@ -76,9 +73,9 @@ impl<'t> Parser<'t> {
         Ok(())
     }
 
-    /// A name that is bound to a pattern, and `@`.
+    /// Reads a name that is bound to a pattern, and `@`.
     pub(crate) fn binding(&mut self) -> Result<(), AllocError>
-        ensures { OnOk result (state self.new ≡ ended (bumped NODE_PAT_BIND (ended (bumped NODE_IDENT (started NODE_IDENT (started NODE_PAT_BIND (state self.old))))))) }
+        ensures { OnOk result (state self.new ≡ binding_read (state self.old)) }
     {
         self.start_node(SyntaxKind::NODE_PAT_BIND)?;
         self.leaf_node(SyntaxKind::NODE_IDENT)?;
@@ -87,21 +84,21 @@ impl<'t> Parser<'t> {
         Ok(())
     }
 
-    /// An operand that is a node over the next item.
+    /// Reads an operand that is a node of the next item alone.
     pub(crate) fn leaf_operand(
         &mut self,
         kind: SyntaxKind,
         over: Place,
         depth: usize,
     ) -> Result<(), AllocError>
-        ensures { OnOk result (state self.new ≡ ended (bumped kind (started kind (operand_begun over depth (state self.old))))) }
+        ensures { OnOk result (state self.new ≡ leafed kind (operand_begun over depth (state self.old))) }
     {
         self.open_operand(over, depth)?;
         self.leaf_node(kind)?;
         Ok(())
     }
 
-    /// An operand that is a node, which begins with the next item.
+    /// Begins an operand that is a node, whose first leaf is the next item.
     pub(crate) fn node_operand(
         &mut self,
         kind: SyntaxKind,
@@ -109,7 +106,7 @@ impl<'t> Parser<'t> {
         over: Place,
         depth: usize,
     ) -> Result<(), AllocError>
-        ensures { OnOk result (state self.new ≡ bumped kind (noded kind inside depth (operand_begun over depth (state self.old)))) }
+        ensures { OnOk result (state self.new ≡ node_begun kind inside depth (operand_begun over depth (state self.old))) }
     {
         self.open_operand(over, depth)?;
         self.open_node(kind, inside, depth)?;
@@ -117,9 +114,9 @@ impl<'t> Parser<'t> {
         Ok(())
     }
 
-    /// An operand that is a function, before its parameter.
+    /// Begins an operand that is a function, before its parameter.
     pub(crate) fn lambda(&mut self, over: Place, depth: usize) -> Result<(), AllocError>
-        ensures { OnOk result (state self.new ≡ noded NODE_LAMBDA LambdaColon depth (operand_begun over depth (state self.old))) }
+        ensures { OnOk result (state self.new ≡ lambda_begun over depth (state self.old)) }
     {
         self.open_operand(over, depth)?;
         self.open_node(SyntaxKind::NODE_LAMBDA, Place::LambdaColon, depth)?;

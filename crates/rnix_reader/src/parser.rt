@@ -1,14 +1,13 @@
 //! The reader's state: each step moves a cursor over the tokens and builds the tree.
 
-ghost use Rattle.std.specs.Prelude.{◌≡◌, ◌<◌, ◌++◌, ◌∷◌, [], ℕ, length, map, IfOk, OnOk, IsTrue, true, Some, None, option_map};
-ghost use Rattle.std.specs.Option.{option_to_list};
+ghost use Rattle.std.specs.Prelude.{◌≡◌, ◌<◌, length, IfOk, OnOk, IsTrue, option_map};
 ghost use Rattle.rnix_tree.specs.Forest.{tree_count};
-ghost use Rattle.rnix_tree.specs.Draft.{is_inside, is_checkpoint_of};
+ghost use Rattle.rnix_tree.specs.Draft.{is_checkpoint_of};
 ghost use Rattle.rnix_grammar.specs.Fault.{fault_of};
-ghost use Rattle.rnix_grammar.specs.Sketch.{head_of, head_kind};
-ghost use Rattle.rnix_grammar.specs.Sketch.{touches};
+ghost use Rattle.rnix_grammar.specs.Sketch.{head_of, head_kind, touches};
 ghost use Rattle.rnix_reader.specs.Placed.{token_of, AreInOrder};
 ghost use Rattle.rnix_reader.specs.State.{State, state, items_left, eaten, bumped, started, started_at, ended, failed, marked};
+ghost use Rattle.rnix_reader.specs.Flat.{mark_at};
 
 use crate::cursor::{Cursor, PlacedToken};
 use crate::mark::Mark;
@@ -85,7 +84,7 @@ impl<'t> Parser<'t> {
         Ok(place)
     }
 
-    /// Opens a node before what is read from a place on.
+    /// Opens a node before the trees that were read from a place on.
     #[tactic(auto, unfolding(crate::specs::State::started_at))]
     pub(crate) fn start_node_at(
         &mut self,
@@ -117,7 +116,7 @@ impl<'t> Parser<'t> {
         Ok(())
     }
 
-    /// Something more is open, which goes on at the place.
+    /// Pushes the mark of a node or an operand, to be continued at the place.
     #[tactic(auto, unfolding(crate::specs::State::marked))]
     pub(crate) fn mark(
         &mut self,
@@ -125,7 +124,7 @@ impl<'t> Parser<'t> {
         depth: usize,
         at: Checkpoint,
     ) -> Result<(), AllocError>
-        ensures state { OnOk result (state self.new ≡ marked record { place = place; depth = depth; at = at } (state self.old)) }
+        ensures state { OnOk result (state self.new ≡ marked (mark_at place depth at) (state self.old)) }
         ensures builder { OnOk result (self.new.builder ≡ self.old.builder) }
     {
         self.marks.push(Mark { place, depth, at })?;
@@ -146,14 +145,14 @@ impl<'t> Parser<'t> {
         Ok(())
     }
 
-    /// The place behind what is read.
+    /// The place after the trees that were read so far.
     pub(crate) fn here(&self) -> Checkpoint
         ensures place { result ≡ tree_count (state self.now).trees }
     {
         self.builder.checkpoint()
     }
 
-    /// No token ends before it begins, or begins before the one before it ends.
+    /// The tokens are in order: none ends before it begins, or begins before the previous one ends.
     pub(crate) fn ordered(&self)
         ensures { AreInOrder 0 (state self.now).rest }
     {

@@ -1,36 +1,35 @@
-//! Reading by the grammar's table: one step after another, until all that was open is complete.
+//! Reading by the grammar's table: one step after another, until the root is complete.
 
-ghost use Rattle.std.specs.Prelude.{◌≡◌, ◌∷◌, ◌≤◌, ◌<◌, ◌&&◌, [], ℕ, List, length, OnOk, true, false, Some, if◌then◌else◌, nat_le};
-ghost use Rattle.rnix_kinds.specs.declared.kinds.SyntaxKind.TheVariants.{NODE_ERROR, NODE_IDENT, NODE_PAT_ENTRY};
-ghost use Rattle.rnix_grammar.specs.declared.place.Place.TheVariants.{EntryMore, TwiceName};
-ghost use Rattle.rnix_grammar.specs.Fault.{Fault, bound_twice};
-ghost use Rattle.rnix_grammar.specs.Tables.{depth_limit, stops};
-ghost use Rattle.rnix_grammar.specs.Sketch.{Token, Unwanted, Extra, head_of, head_kind};
-ghost use Rattle.rnix_grammar.specs.Layout.{items};
-ghost use Rattle.rnix_grammar.specs.Reports.{report};
-ghost use Rattle.rnix_grammar.specs.Machine.{Frame, Machine, machine, begins, begun, operand_on, reading, step, low_of};
-ghost use Rattle.rnix_grammar.specs.Missing.{run_of};
+ghost use Rattle.std.specs.Prelude.{◌≡◌, ◌≤◌, ◌<◌, [], length, OnOk, true, false};
+ghost use Rattle.rnix_grammar.specs.Tables.{stops};
+ghost use Rattle.rnix_grammar.specs.Sketch.{Token, Extra, head_kind};
+ghost use Rattle.rnix_grammar.specs.Machine.{Machine, begins, begun, reading, low_of};
 ghost use Rattle.rnix_reader.specs.Placed.{token_of, AreInOrder};
-ghost use Rattle.rnix_reader.specs.State.{state, items_left, bumped, skipped, started, ended, failed};
-ghost use Rattle.rnix_reader.specs.Steps.{moved, noded};
+ghost use Rattle.rnix_reader.specs.State.{state, items_left, IsNextItem};
+ghost use Rattle.rnix_reader.specs.Steps.{moved, entry_begun, second_begun};
 ghost use Rattle.rnix_reader.specs.Flat.{flat};
-ghost use Rattle.rnix_reader.specs.Names.{texts_of, EntryOpened};
+ghost use Rattle.rnix_reader.specs.Names.{texts_of, EntryNamed};
 ghost use Rattle.rnix_reader.specs.Allowed.{is_there};
-ghost use Rattle.rnix_reader.specs.Holds.{IsHolding, NamesAfter, IsReadTo, EntryTold, TwiceOpened, action_of, is_finish, opens_pattern, opens_on, NamesFor};
+ghost use Rattle.rnix_reader.specs.Holds.{IsHolding, NamesAfter, IsReadTo, EntryTold, TwiceOpened, action_of, is_finish, opens_pattern, opens_on, NamesFor, opens_at};
+ghost use Rattle.rnix_reader.specs.Simulates.{Simulates, SimulatesAt, SimulatesStep, operand_next};
+ghost use Rattle.rnix_reader.specs.Reported.{reported, run_reported, second_reported};
 
 use crate::cursor::PlacedToken;
 use crate::mark::Mark;
 use crate::names::Names;
 use crate::parser::Parser;
-use rnix_grammar::{Action, Begin, ParseError, Place, Until, action_at};
+use rnix_grammar::{
+    APPLICATION_LEVEL, Action, Begin, EXPRESSION_LEVEL, NO_LEVEL, ParseError, Place,
+    SELECTION_LEVEL, Until, action_at,
+};
 use rnix_kinds::SyntaxKind;
 use rnix_tree::TextRange;
 use std::alloc::AllocError;
 
-// How many expressions, items and prefixed operands may be nested.
+// How many expressions, list items and operands of prefix operators may be nested.
 const DEPTH_LIMIT: usize = 512;
 
-// An operand that begins with the item.
+// Begins an operand with its first item.
 fn begin<'t>(
     p: &mut Parser<'t>,
     names: &mut Names<'t>,
@@ -39,11 +38,11 @@ fn begin<'t>(
     depth: usize,
     first: PlacedToken<'t>,
 ) -> Result<(), AllocError>
-    requires { head_of (items_left (state p.old)) ≡ Some (token_of first) }
-    ensures state { (f : Frame) (fs : List Frame) (ts : List Token) (n : ℕ) (es : List Fault) → state p.old ≡ flat (machine (f ∷ fs) ts n es) → OnOk result (state p.new ≡ flat (begun true how level depth (token_of first.entry) f fs ts n es)) }
+    requires { IsNextItem (token_of first) (state p.old) }
+    ensures state { Simulates result (begun true how level depth (token_of first.entry)) (state p.old) (state p.new) }
     ensures names { OnOk result (NamesFor (opens_pattern how) names.old names.new) }
 {
-    let over = Place::Behind(level, 16);
+    let over = Place::Behind(level, SELECTION_LEVEL);
     match how {
         Begin::Leaf(kind) => p.leaf_operand(kind, over, depth)?,
         Begin::Node(kind, place, high) => {
@@ -51,7 +50,12 @@ fn begin<'t>(
         }
         Begin::LegacyLet => {
             let kind = SyntaxKind::NODE_LEGACY_LET;
-            p.node_operand(kind, Place::LegacyInside, Place::Behind(level, 0), depth)?;
+            p.node_operand(
+                kind,
+                Place::LegacyInside,
+                Place::Behind(level, NO_LEVEL),
+                depth,
+            )?;
             p.bump(kind)?;
         }
         Begin::NameLambda => {
@@ -78,14 +82,14 @@ fn begin<'t>(
     Ok(())
 }
 
-// An operand of a level.
+// Begins an operand of a level.
 fn operand<'t>(
     p: &mut Parser<'t>,
     names: &mut Names<'t>,
     level: u8,
     depth: usize,
 ) -> Result<(), AllocError>
-    ensures state { (f : Frame) (fs : List Frame) (ts : List Token) (n : ℕ) (es : List Fault) → state p.old ≡ flat (machine (f ∷ fs) ts n es) → OnOk result (state p.new ≡ flat (operand_on true level depth f fs ts (items ts) n es)) }
+    ensures state { Simulates result (operand_next level depth) (state p.old) (state p.new) }
     ensures names { OnOk result (NamesFor (opens_on level (items_left (state p.old))) names.old names.new) }
 {
     match p.item() {
@@ -98,7 +102,7 @@ fn operand<'t>(
     Ok(())
 }
 
-// An operand of a level, counted by the limit or not, inside so many counted places.
+// Begins an operand of a level, which the limit of nesting counts or not, at a depth.
 fn read<'t>(
     p: &mut Parser<'t>,
     names: &mut Names<'t>,
@@ -106,8 +110,8 @@ fn read<'t>(
     counted: bool,
     depth: usize,
 ) -> Result<(), AllocError>
-    ensures state { (f : Frame) (fs : List Frame) (ts : List Token) (n : ℕ) (es : List Fault) → state p.old ≡ flat (machine (f ∷ fs) ts n es) → f.depth ≡ depth → OnOk result (state p.new ≡ flat (reading true level counted f fs ts n es)) }
-    ensures names { OnOk result (NamesFor (if counted && nat_le depth_limit depth then false else opens_on level (items_left (state p.old))) names.old names.new) }
+    ensures state { SimulatesAt depth result (reading true level counted) (state p.old) (state p.new) }
+    ensures names { OnOk result (NamesFor (opens_at depth counted level (items_left (state p.old))) names.old names.new) }
 {
     if !counted {
         return Ok(operand(p, names, level, depth)?);
@@ -118,7 +122,7 @@ fn read<'t>(
     Ok(operand(p, names, level, depth + 1)?)
 }
 
-// An entry of a pattern is complete.
+// Completes an entry of a pattern.
 fn close_entry<'t>(p: &mut Parser<'t>, names: &mut Names<'t>) -> Result<(), AllocError>
     requires { 0 < length p.old.builder.open_nodes }
     ensures { OnOk result (EntryTold (state p.old) names.old (state p.new) names.new) }
@@ -130,26 +134,26 @@ fn close_entry<'t>(p: &mut Parser<'t>, names: &mut Names<'t>) -> Result<(), Allo
     Ok(())
 }
 
-// A second name of a pattern is complete.
+// Completes the second name of a pattern.
 fn close_twice(p: &mut Parser<'_>, start: usize) -> Result<(), AllocError>
     requires open { 0 < length p.old.builder.open_nodes }
     requires order { start ≤ (state p.old).reached }
-    ensures { OnOk result (state p.new ≡ failed (bound_twice record { start = start; end = (state p.old).reached }) (ended (state p.old))) }
+    ensures { OnOk result (state p.new ≡ second_reported start (state p.old)) }
 {
     p.finish_node()?;
     p.fail(ParseError::UnexpectedDoubleBind(TextRange::new(start, p.reached)))?;
     Ok(())
 }
 
-// A name begins an entry of a pattern.
+// Opens an entry of a pattern, with its name.
 fn open_entry<'t>(
     p: &mut Parser<'t>,
     names: &mut Names<'t>,
     mark: Mark,
     after: Place,
 ) -> Result<(), AllocError>
-    ensures state { OnOk result (state p.new ≡ ended (bumped NODE_IDENT (started NODE_IDENT (noded NODE_PAT_ENTRY EntryMore mark.depth (moved after mark (state p.old)))))) }
-    ensures names { (t : Token) → head_of (items_left (state p.old)) ≡ Some t → OnOk result (EntryOpened t.text record { start = t.start; end = t.end } names.old names.new) }
+    ensures state { OnOk result (state p.new ≡ entry_begun after mark (state p.old)) }
+    ensures names { (t : Token) → IsNextItem t (state p.old) → OnOk result (EntryNamed t names.old names.new) }
 {
     if let Some(name) = p.item() {
         p.ordered();
@@ -159,15 +163,15 @@ fn open_entry<'t>(
     Ok(())
 }
 
-// A token begins a second name of a pattern.
+// Opens the second name of a pattern, with its first token.
 fn open_twice<'t>(
     p: &mut Parser<'t>,
     names: &mut Names<'t>,
     mark: Mark,
     after: Place,
 ) -> Result<(), AllocError>
-    ensures state { OnOk result (state p.new ≡ bumped NODE_ERROR (noded NODE_ERROR TwiceName mark.depth (moved after mark (state p.old)))) }
-    ensures names { (t : Token) → head_of (items_left (state p.old)) ≡ Some t → OnOk result (TwiceOpened t.start names.old names.new) }
+    ensures state { OnOk result (state p.new ≡ second_begun after mark (state p.old)) }
+    ensures names { (t : Token) → IsNextItem t (state p.old) → OnOk result (TwiceOpened t.start names.old names.new) }
 {
     if let Some(first) = p.item() {
         names.second = first.start;
@@ -176,10 +180,10 @@ fn open_twice<'t>(
     Ok(())
 }
 
-// A run of items, where others are wanted.
+// Reads a run of items where others are wanted.
 fn run(p: &mut Parser<'_>, mark: Mark, until: Until, after: Place) -> Result<(), AllocError>
     requires { stops until (head_kind (items_left (state p.old))) ≡ false }
-    ensures { OnOk result (state p.new ≡ failed (report (Unwanted until) (run_of until (items_left (state p.old)))) (ended (skipped (run_of until (items_left (state p.old))) (started NODE_ERROR (moved after mark (state p.old)))))) }
+    ensures { OnOk result (state p.new ≡ run_reported until after mark (state p.old)) }
 {
     p.go_on(mark, after)?;
     if let Some(first) = p.item() {
@@ -188,10 +192,10 @@ fn run(p: &mut Parser<'_>, mark: Mark, until: Until, after: Place) -> Result<(),
     Ok(())
 }
 
-// What is left behind the root's expression.
+// Reads what is left after the root's expression.
 fn extra(p: &mut Parser<'_>, mark: Mark) -> Result<(), AllocError>
     requires { is_there (head_kind (items_left (state p.old))) ≡ true }
-    ensures { OnOk result (state p.new ≡ failed (report Extra (items_left (state p.old))) (ended (skipped (items_left (state p.old)) (started NODE_ERROR (moved mark.place mark (state p.old)))))) }
+    ensures { OnOk result (state p.new ≡ reported Extra (items_left (state p.old)) (moved mark.place mark (state p.old))) }
 {
     p.go_on(mark, mark.place)?;
     if let Some(first) = p.item() {
@@ -200,17 +204,17 @@ fn extra(p: &mut Parser<'_>, mark: Mark) -> Result<(), AllocError>
     Ok(())
 }
 
-// The loosest level with which an operand goes on.
+// The loosest level of an operator that may continue an operand.
 fn low_of(place: Place) -> u8
     ensures { result ≡ low_of place }
 {
     match place {
         Place::Behind(low, _) => low,
-        _ => 0,
+        _ => EXPRESSION_LEVEL,
     }
 }
 
-// One step at the innermost of what is open.
+// Takes one step in the innermost node or operand.
 fn step<'t>(
     p: &mut Parser<'t>,
     names: &mut Names<'t>,
@@ -220,7 +224,7 @@ fn step<'t>(
     requires holding { (m : Machine) × IsHolding m mark (state p.old) names.old }
     requires action { action ≡ action_of mark (state p.old) }
     requires going { is_finish action ≡ false }
-    ensures state { (m : Machine) → IsHolding m mark (state p.old) names.old → OnOk result (state p.new ≡ flat (step true m)) }
+    ensures state { SimulatesStep result mark names.old (state p.old) (state p.new) }
     ensures names { OnOk result (NamesAfter action mark (state p.old) names.old names.new) }
 {
     let low = low_of(mark.place);
@@ -257,13 +261,13 @@ fn step<'t>(
             let depth = mark.depth;
             p.wrap(
                 mark,
-                Place::Behind(low, 15),
+                Place::Behind(low, APPLICATION_LEVEL),
                 SyntaxKind::NODE_APPLY,
                 Place::Past,
             )?;
-            read(p, names, 16, false, depth)?;
+            read(p, names, SELECTION_LEVEL, false, depth)?;
         }
-        Action::ApplyOr => p.apply_or(mark, Place::Behind(low, 15))?,
+        Action::ApplyOr => p.apply_or(mark, Place::Behind(low, APPLICATION_LEVEL))?,
     }
     Ok(())
 }

@@ -1,16 +1,12 @@
 //! Nodes that are read at once: over one item, and over runs of items that are not wanted.
 
-ghost use Rattle.std.specs.Prelude.{◌≡◌, ◌∷◌, [], ℕ, IfOk, OnOk, true, false, Some, None};
-ghost use Rattle.rnix_kinds.specs.declared.kinds.SyntaxKind.TheVariants.{NODE_ERROR};
-ghost use Rattle.rnix_grammar.specs.Fault.{ended_before, too_deep};
-ghost use Rattle.rnix_grammar.specs.Tables.{stops, wanted_kinds, operand_kinds};
-ghost use Rattle.rnix_grammar.specs.Sketch.{head_of, extent_of};
-ghost use Rattle.rnix_grammar.specs.Missing.{run_of};
-ghost use Rattle.rnix_grammar.specs.Reports.{report};
-ghost use Rattle.rnix_grammar.specs.Sketch.{Unwanted as UnwantedNote, Extra as ExtraNote, Stray as StrayNote};
-ghost use Rattle.rnix_grammar.specs.declared.until.Until.TheVariants.{End};
+ghost use Rattle.std.specs.Prelude.{◌≡◌, IfOk, OnOk, false, Some};
+ghost use Rattle.rnix_grammar.specs.Tables.{stops};
+ghost use Rattle.rnix_grammar.specs.Sketch.{Unwanted, Extra, extent_of};
 ghost use Rattle.rnix_reader.specs.Placed.{token_of};
-ghost use Rattle.rnix_reader.specs.State.{State, state, items_left, bumped, skipped, started, ended, eaten, failed};
+ghost use Rattle.rnix_reader.specs.State.{state, items_left, skipped, IsNextItem};
+ghost use Rattle.rnix_reader.specs.Reported.{end_reported, error_over, limit_reported, next_run, reported, stray_reported};
+ghost use Rattle.rnix_reader.specs.Steps.{leafed};
 
 use crate::cursor::PlacedToken;
 use crate::parser::Parser;
@@ -20,9 +16,9 @@ use rnix_tree::TextRange;
 use std::alloc::AllocError;
 
 impl<'t> Parser<'t> {
-    /// A node over the next item.
+    /// Makes a node of the next item.
     pub(crate) fn leaf_node(&mut self, kind: SyntaxKind) -> Result<(), AllocError>
-        ensures state { OnOk result (state self.new ≡ ended (bumped kind (started kind (state self.old)))) }
+        ensures state { OnOk result (state self.new ≡ leafed kind (state self.old)) }
         ensures nodes { OnOk result (self.new.builder.open_nodes ≡ self.old.builder.open_nodes) }
     {
         self.start_node(kind)?;
@@ -33,7 +29,7 @@ impl<'t> Parser<'t> {
 
     // Reads items up to one that stops the run.
     fn skip(&mut self, until: Until) -> Result<(), AllocError>
-        ensures state { OnOk result (state self.new ≡ skipped (run_of until (items_left (state self.old))) (state self.old)) }
+        ensures state { OnOk result (state self.new ≡ skipped (next_run until (state self.old)) (state self.old)) }
         ensures nodes { OnOk result (self.new.builder.open_nodes ≡ self.old.builder.open_nodes) }
     {
         while let Some(item) = self.item() {
@@ -45,12 +41,12 @@ impl<'t> Parser<'t> {
         Ok(())
     }
 
-    // An error node over a run of items that begins with the first, and its range.
+    // Makes an error node of a run of items, the first of which is given, and returns its range.
     fn error_run(&mut self, until: Until, first: PlacedToken<'_>) -> Result<TextRange, AllocError>
-        requires first { head_of (items_left (state self.old)) ≡ Some (token_of first) }
+        requires first { IsNextItem (token_of first) (state self.old) }
         requires unwanted { stops until (Some first.kind) ≡ false }
-        ensures state { OnOk result (state self.new ≡ ended (skipped (run_of until (items_left (state self.old))) (started NODE_ERROR (state self.old)))) }
-        ensures range { IfOk result (λ range. range ≡ extent_of (run_of until (items_left (state self.old)))) }
+        ensures state { OnOk result (state self.new ≡ error_over (next_run until (state self.old)) (state self.old)) }
+        ensures range { IfOk result (λ range. range ≡ extent_of (next_run until (state self.old))) }
     {
         self.ordered();
         self.start_node(SyntaxKind::NODE_ERROR)?;
@@ -59,15 +55,15 @@ impl<'t> Parser<'t> {
         Ok(TextRange::new(first.start, self.reached))
     }
 
-    /// An error node over a run of items, where others are wanted.
+    /// Makes an error node of a run of items where others are wanted, and reports it.
     pub(crate) fn unwanted(
         &mut self,
         until: Until,
         first: PlacedToken<'_>,
     ) -> Result<(), AllocError>
-        requires first { head_of (items_left (state self.old)) ≡ Some (token_of first) }
+        requires first { IsNextItem (token_of first) (state self.old) }
         requires unwanted { stops until (Some first.kind) ≡ false }
-        ensures { OnOk result (state self.new ≡ failed (report (UnwantedNote until) (run_of until (items_left (state self.old)))) (ended (skipped (run_of until (items_left (state self.old))) (started NODE_ERROR (state self.old))))) }
+        ensures { OnOk result (state self.new ≡ reported (Unwanted until) (next_run until (state self.old)) (state self.old)) }
     {
         let range = self.error_run(until, first)?;
         let wanted = wanted_kinds(until).to_vec(*self.errors.allocator())?;
@@ -75,20 +71,20 @@ impl<'t> Parser<'t> {
         Ok(())
     }
 
-    /// An error node over all that is left behind the root's expression.
+    /// Makes an error node of all that is left after the root's expression, and reports it.
     pub(crate) fn extra(&mut self, first: PlacedToken<'_>) -> Result<(), AllocError>
-        requires { head_of (items_left (state self.old)) ≡ Some (token_of first) }
-        ensures { OnOk result (state self.new ≡ failed (report ExtraNote (items_left (state self.old))) (ended (skipped (items_left (state self.old)) (started NODE_ERROR (state self.old))))) }
+        requires { IsNextItem (token_of first) (state self.old) }
+        ensures { OnOk result (state self.new ≡ reported Extra (items_left (state self.old)) (state self.old)) }
     {
         let range = self.error_run(Until::End, first)?;
         self.fail(ParseError::UnexpectedExtra(range))?;
         Ok(())
     }
 
-    /// An error node over the next item, which begins no operand.
+    /// Makes an error node of the next item, which cannot begin an operand, and reports it.
     pub(crate) fn stray(&mut self, first: PlacedToken<'_>) -> Result<(), AllocError>
-        requires { head_of (items_left (state self.old)) ≡ Some (token_of first) }
-        ensures { OnOk result (state self.new ≡ failed (report StrayNote (token_of first.entry ∷ [])) (ended (bumped NODE_ERROR (started NODE_ERROR (state self.old))))) }
+        requires { IsNextItem (token_of first) (state self.old) }
+        ensures { OnOk result (state self.new ≡ stray_reported (token_of first.entry) (state self.old)) }
     {
         self.ordered();
         self.leaf_node(SyntaxKind::NODE_ERROR)?;
@@ -98,18 +94,18 @@ impl<'t> Parser<'t> {
         Ok(())
     }
 
-    /// The end of the text where something is wanted.
+    /// Reports that the text ends where certain kinds are wanted.
     pub(crate) fn missing(&mut self, until: Until) -> Result<(), AllocError>
-        ensures { OnOk result (state self.new ≡ failed (ended_before (wanted_kinds until)) (state self.old)) }
+        ensures { OnOk result (state self.new ≡ end_reported until (state self.old)) }
     {
         let wanted = wanted_kinds(until).to_vec(*self.errors.allocator())?;
         self.fail(ParseError::UnexpectedEOFWanted(wanted))?;
         Ok(())
     }
 
-    /// An error node over all that is left, which is nested too deep.
+    /// Makes an error node of all that is left, which is nested too deep, and reports it.
     pub(crate) fn too_deep(&mut self) -> Result<(), AllocError>
-        ensures { OnOk result (state self.new ≡ failed too_deep (eaten (ended (skipped (items_left (state self.old)) (started NODE_ERROR (state self.old)))))) }
+        ensures { OnOk result (state self.new ≡ limit_reported (state self.old)) }
     {
         self.start_node(SyntaxKind::NODE_ERROR)?;
         self.skip(Until::End)?;

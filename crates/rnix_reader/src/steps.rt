@@ -1,18 +1,12 @@
-//! The steps of the reader inside a node's row. Each goes on with the innermost of what is open, whose mark is taken from the others.
+//! The reader's steps inside a node's row. Each continues the innermost node or operand, whose mark was popped from the stack.
 
-ghost use Rattle.std.specs.Prelude.{◌≡◌, ◌∷◌, ◌<◌, [], ℕ, length, OnOk, IsTrue, true, false, Some, None};
-ghost use Rattle.rnix_kinds.specs.declared.kinds.SyntaxKind.TheVariants.{NODE_ROOT, NODE_ERROR, NODE_IDENT, NODE_PAT_ENTRY, NODE_APPLY};
+ghost use Rattle.std.specs.Prelude.{◌≡◌, ◌<◌, length, OnOk, IsTrue};
+ghost use Rattle.rnix_kinds.specs.declared.kinds.SyntaxKind.TheVariants.{NODE_ROOT};
 ghost use Rattle.rnix_tree.specs.Draft.{is_checkpoint_of};
-ghost use Rattle.rnix_grammar.specs.declared.place.Place.TheVariants.{EntryMore, Behind};
-ghost use Rattle.rnix_grammar.specs.Fault.{ended as ended_fault, ended_before};
-ghost use Rattle.rnix_grammar.specs.Tables.{stops, wanted_kinds};
-ghost use Rattle.rnix_grammar.specs.Sketch.{head_of, Unwanted, Extra};
-ghost use Rattle.rnix_grammar.specs.Missing.{run_of};
-ghost use Rattle.rnix_grammar.specs.Reports.{report};
-ghost use Rattle.rnix_reader.specs.Placed.{token_of};
-ghost use Rattle.rnix_reader.specs.Flat.{mark_at};
-ghost use Rattle.rnix_reader.specs.State.{State, state, items_left, eaten, bumped, skipped, started, started_at, ended, failed, marked};
-ghost use Rattle.rnix_reader.specs.Steps.{moved, noded, operand_begun};
+ghost use Rattle.rnix_grammar.specs.Fault.{ended as ended_fault};
+ghost use Rattle.rnix_reader.specs.State.{state, bumped, failed};
+ghost use Rattle.rnix_reader.specs.Steps.{moved, noded, operand_begun, entry_begun, leafed, node_begun, or_applied, node_wrapped};
+ghost use Rattle.rnix_reader.specs.Reported.{end_reported};
 
 use crate::cursor::PlacedToken;
 use crate::mark::Mark;
@@ -22,7 +16,7 @@ use rnix_kinds::SyntaxKind;
 use std::alloc::AllocError;
 
 impl<'t> Parser<'t> {
-    /// What the mark stands for goes on at another place.
+    /// Continues what the mark stands for at another place.
     pub(crate) fn go_on(&mut self, mark: Mark, after: Place) -> Result<(), AllocError>
         ensures state { OnOk result (state self.new ≡ moved after mark (state self.old)) }
         ensures builder { OnOk result (self.new.builder ≡ self.old.builder) }
@@ -30,7 +24,7 @@ impl<'t> Parser<'t> {
         self.mark(after, mark.depth, mark.at)
     }
 
-    /// Opens a node at the next item, which goes on at the place.
+    /// Opens a node at the next item, to be continued at the place.
     pub(crate) fn open_node(
         &mut self,
         kind: SyntaxKind,
@@ -45,7 +39,7 @@ impl<'t> Parser<'t> {
         Ok(())
     }
 
-    /// An operand begins at the next item, and goes on at the place.
+    /// Begins an operand at the next item, to be continued at the place.
     pub(crate) fn open_operand(&mut self, inside: Place, depth: usize) -> Result<(), AllocError>
         ensures { OnOk result (state self.new ≡ operand_begun inside depth (state self.old)) }
     {
@@ -55,7 +49,7 @@ impl<'t> Parser<'t> {
         Ok(())
     }
 
-    /// The next item is a leaf.
+    /// Takes the next item as a leaf.
     pub(crate) fn take(&mut self, mark: Mark, after: Place) -> Result<(), AllocError>
         ensures { OnOk result (state self.new ≡ bumped NODE_ROOT (moved after mark (state self.old))) }
     {
@@ -64,7 +58,7 @@ impl<'t> Parser<'t> {
         Ok(())
     }
 
-    /// The text ends where something stands.
+    /// Reports that the text ends where more is wanted.
     pub(crate) fn miss(&mut self, mark: Mark, after: Place) -> Result<(), AllocError>
         ensures { OnOk result (state self.new ≡ failed ended_fault (moved after mark (state self.old))) }
     {
@@ -73,35 +67,35 @@ impl<'t> Parser<'t> {
         Ok(())
     }
 
-    /// The text ends where some kinds are wanted.
+    /// Reports that the text ends where certain kinds are wanted.
     pub(crate) fn miss_wanted(
         &mut self,
         mark: Mark,
         until: Until,
         after: Place,
     ) -> Result<(), AllocError>
-        ensures { OnOk result (state self.new ≡ failed (ended_before (wanted_kinds until)) (moved after mark (state self.old))) }
+        ensures { OnOk result (state self.new ≡ end_reported until (moved after mark (state self.old))) }
     {
         self.go_on(mark, after)?;
         self.missing(until)?;
         Ok(())
     }
 
-    /// The next item is a node.
+    /// Makes a node of the next item.
     pub(crate) fn leaf(
         &mut self,
         mark: Mark,
         kind: SyntaxKind,
         after: Place,
     ) -> Result<(), AllocError>
-        ensures { OnOk result (state self.new ≡ ended (bumped kind (started kind (moved after mark (state self.old))))) }
+        ensures { OnOk result (state self.new ≡ leafed kind (moved after mark (state self.old))) }
     {
         self.go_on(mark, after)?;
         self.leaf_node(kind)?;
         Ok(())
     }
 
-    /// A node begins, with nothing read.
+    /// Opens a node before reading anything of it.
     pub(crate) fn begin(
         &mut self,
         mark: Mark,
@@ -117,7 +111,7 @@ impl<'t> Parser<'t> {
         Ok(())
     }
 
-    /// The next item begins a node.
+    /// Opens a node whose first leaf is the next item.
     pub(crate) fn open(
         &mut self,
         mark: Mark,
@@ -125,23 +119,23 @@ impl<'t> Parser<'t> {
         inside: Place,
         after: Place,
     ) -> Result<(), AllocError>
-        ensures { OnOk result (state self.new ≡ bumped kind (noded kind inside mark.depth (moved after mark (state self.old)))) }
+        ensures { OnOk result (state self.new ≡ node_begun kind inside mark.depth (moved after mark (state self.old))) }
     {
         self.begin(mark, kind, inside, after)?;
         self.bump(kind)?;
         Ok(())
     }
 
-    /// A name begins an entry of a pattern.
+    /// Opens an entry of a pattern, with its name.
     pub(crate) fn entry(&mut self, mark: Mark, after: Place) -> Result<(), AllocError>
-        ensures { OnOk result (state self.new ≡ ended (bumped NODE_IDENT (started NODE_IDENT (noded NODE_PAT_ENTRY EntryMore mark.depth (moved after mark (state self.old)))))) }
+        ensures { OnOk result (state self.new ≡ entry_begun after mark (state self.old)) }
     {
         self.begin(mark, SyntaxKind::NODE_PAT_ENTRY, Place::EntryMore, after)?;
         self.leaf_node(SyntaxKind::NODE_IDENT)?;
         Ok(())
     }
 
-    /// A node is open from the beginning of the operand before it.
+    /// Opens a node that begins where the operand before it began.
     pub(crate) fn wrap(
         &mut self,
         mark: Mark,
@@ -150,7 +144,7 @@ impl<'t> Parser<'t> {
         inside: Place,
     ) -> Result<(), AllocError>
         requires { IsTrue (is_checkpoint_of self.old.builder mark.at) }
-        ensures state { OnOk result (state self.new ≡ marked (mark_at inside mark.depth mark.at) (started_at mark.at kind (moved over mark (state self.old)))) }
+        ensures state { OnOk result (state self.new ≡ node_wrapped kind inside over mark (state self.old)) }
     {
         let depth = mark.depth;
         let at = mark.at;
@@ -160,10 +154,10 @@ impl<'t> Parser<'t> {
         Ok(())
     }
 
-    /// `or` makes a node with the operand before it.
+    /// Applies the operand before it to the name `or`.
     pub(crate) fn apply_or(&mut self, mark: Mark, over: Place) -> Result<(), AllocError>
         requires { IsTrue (is_checkpoint_of self.old.builder mark.at) }
-        ensures { OnOk result (state self.new ≡ ended (ended (bumped NODE_IDENT (started NODE_IDENT (started_at mark.at NODE_APPLY (moved over mark (state self.old))))))) }
+        ensures { OnOk result (state self.new ≡ or_applied over mark (state self.old)) }
     {
         let at = mark.at;
         self.go_on(mark, over)?;

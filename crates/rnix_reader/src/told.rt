@@ -5,7 +5,7 @@ ghost use Rattle.rnix_grammar.specs.Sketch.{told_as};
 
 use rnix_kinds::SyntaxKind;
 
-/// The kind of a token's leaf below a node: a name `or` is a name like others, and `__curPos` is no name where it is the current position.
+/// The kind of a token's leaf below a node: the name `or` is a name like any other, and `__curPos` is not a name where it is the current position.
 pub(crate) fn told_as(parent: SyntaxKind, kind: SyntaxKind) -> SyntaxKind
     ensures { result ≡ told_as parent kind }
 {

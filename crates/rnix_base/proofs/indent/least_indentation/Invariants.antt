@@ -1,7 +1,7 @@
-use Rattle.std.proofs.Common.{◌≡◌, take, map}
-use Rattle.rnix_base.specs.Normal.{with_text}
+use Rattle.std.proofs.Common.{◌≡◌, take}
+use Rattle.rnix_base.specs.Normal.{borrowed}
 use Rattle.rnix_base.specs.Indent.{indent_of, no_indent}
 use Rattle.rnix_base.proofs.indent.least_indentation.Given as goal
 
 abbrev pub invariant-loop-part : goal.invariant-loop-part
-invariant-loop-part g l = l.indent ≡ indent_of no_indent (map (with_text (λ text. text.now)) (take l.part-index l.parts))
+invariant-loop-part g l = l.indent ≡ indent_of no_indent (borrowed (take l.part-index l.parts))

@@ -1,13 +1,13 @@
-use Rattle.std.proofs.Common.{◌≡◌, ◌++◌, length, map, string_bytes}
+use Rattle.std.proofs.Common.{◌≡◌, ◌++◌, length}
 use Rattle.std.specs.Vec.Iter.{into_iter_items, into_iter_len}
-use Rattle.rnix_base.specs.Normal.{with_text}
+use Rattle.rnix_base.specs.Normal.{borrowed, owned}
 use Rattle.rnix_base.proofs.PartLemmas.{indented_from}
 use Rattle.rnix_base.proofs.normal.indented_parts.Given as goal
 
 abbrev pub invariant-loop-part : goal.invariant-loop-part
 invariant-loop-part g l = record {
   length : into_iter_len l.rest ≡ length (into_iter_items l.rest);
-  so_far : indented_from l.least l.least (map (with_text (λ text. text.now)) (into_iter_items l.initial.rest)) ≡ map (with_text string_bytes) l.normal.items ++ indented_from l.least l.left (map (with_text (λ text. text.now)) (into_iter_items l.rest));
+  so_far : indented_from l.least l.least (borrowed (into_iter_items l.initial.rest)) ≡ owned l.normal.items ++ indented_from l.least l.left (borrowed (into_iter_items l.rest));
 }
 
 abbrev pub decreases-loop-part : goal.decreases-loop-part

@@ -1,11 +1,11 @@
 use Rattle.std.proofs.Common.{◌≡◌, ◌++◌, length, map}
 use Rattle.rnix_tree.specs.Tree.{text_at}
-use Rattle.rnix_base.specs.Parts.{part_of, parts_of, parts_below}
+use Rattle.rnix_base.specs.Parts.{part_of, parts_of, texts_below}
 use Rattle.rnix_base.proofs.parts.text_parts.Given as goal
 
 abbrev pub invariant-loop-part : goal.invariant-loop-part
 invariant-loop-part g l =
-    map (part_of text_at (λ i. i)) (parts_below g.T.AstToken.kinds g.I.AstNode.kinds l.parent)
+    texts_below g.T.AstToken.kinds g.I.AstNode.kinds l.parent
     ≡ map (part_of (λ text. text.now) g.I.AstNode.node) l.all.items ++ map (part_of text_at (λ i. i)) (parts_of g.T.AstToken.kinds g.I.AstNode.kinds l.parts)
 
 abbrev pub decreases-loop-part : goal.decreases-loop-part

@@ -1,5 +1,4 @@
-use Rattle.std.proofs.Common.{◌∙◌, ◌==◌, ◌&&◌, sym, ap}
-use Rattle.rnix_kinds.proofs.SetBits.{tag_is_place}
+use Rattle.std.proofs.Common.{◌∙◌, ◌&&◌, sym, ap}
 use Rattle.rnix_grammar.specs.Fault.{same_extent}
 use Rattle.rnix_grammar.proofs.error.same_token.Goals as goal
 
@@ -7,4 +6,4 @@ pub returns-then-eq : goal.returns-then-eq
 returns-then-eq c =
     c.eq-then-eq.ensures
     ∙ ap (λ b. b && same_extent c.args.range c.args.place)
-    (sym c.if-eq.true ∙ c.eq.ensures ∙ (λ i. tag_is_place c.args.kind i == tag_is_place c.args.other i))
+    (sym c.if-eq.true ∙ c.eq.ensures)

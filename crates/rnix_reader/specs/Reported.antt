@@ -1,0 +1,45 @@
+-- The errors that the reader's steps report, and the error nodes that they are of.
+use Rattle.std.specs.Prelude.{ℕ, List, [], ◌∷◌}
+use Rattle.rnix_kinds.specs.declared.kinds.SyntaxKind.TheVariants.{NODE_ERROR}
+use Rattle.rnix_grammar.specs.declared.place.Place.{Place}
+use Rattle.rnix_grammar.specs.declared.until.Until.{Until}
+use Rattle.rnix_grammar.specs.Fault.{ended_before, bound_twice, too_deep}
+use Rattle.rnix_grammar.specs.Tables.{wanted_kinds}
+use Rattle.rnix_grammar.specs.Sketch.{Token, Note, Stray, Unwanted}
+use Rattle.rnix_grammar.specs.Missing.{run_of}
+use Rattle.rnix_grammar.specs.Reports.{report}
+use Rattle.rnix_reader.specs.declared.mark.Mark.{Mark}
+use Rattle.rnix_reader.specs.State.{State, items_left, eaten, skipped, started, ended, failed}
+use Rattle.rnix_reader.specs.Steps.{moved, leafed}
+
+-- the items that come next, up to one that stops a run
+abbrev pub next_run : Until → State → List Token
+next_run until s = run_of until (items_left s)
+
+-- an error node over a run of items
+abbrev pub error_over : List Token → State → State
+error_over run s = ended (skipped run (started NODE_ERROR s))
+
+-- an error node over a run of items, and its error
+abbrev pub reported : Note → List Token → State → State
+reported note run s = failed (report note run) (error_over run s)
+
+-- an error node over the items that come next where others are wanted, and its error; what is open goes on behind it
+abbrev pub run_reported : Until → Place → Mark → State → State
+run_reported until after m s = reported (Unwanted until) (next_run until s) (moved after m s)
+
+-- an error node over an item that begins no operand, and its error
+abbrev pub stray_reported : Token → State → State
+stray_reported t s = failed (report Stray (t ∷ [])) (leafed NODE_ERROR s)
+
+-- an error node over all that is left, which is nested too deep, and its error
+abbrev pub limit_reported : State → State
+limit_reported s = failed too_deep (eaten (error_over (items_left s) s))
+
+-- the text ends where some kinds are wanted
+abbrev pub end_reported : Until → State → State
+end_reported until s = failed (ended_before (wanted_kinds until)) s
+
+-- the second name of a pattern, which begins at a byte, is complete and is reported
+abbrev pub second_reported : ℕ → State → State
+second_reported start s = failed (bound_twice record { start = start; end = s.reached }) (ended s)
