@@ -1,15 +1,11 @@
 pub mod PlainNames
-pub mod PlainFirsts
-pub mod PlainLefts
+pub mod FirstTokens
+pub mod LevelBounds
 pub mod PlainBegins
-pub mod PlainLevels
-pub mod PlainFollows
-pub mod PlainSeries
 pub mod PlainEntries
 pub mod PlainPieces
 pub mod PlainPatterns
 pub mod PlainSets
-pub mod RowWanted
 pub mod RowBehind
 pub mod RowFits
 pub mod RowAsks

@@ -1,99 +1,107 @@
--- What the trees that may be arguments begin with.
-use Rattle.rnix_kinds.proofs.AllKinds.{implied}
+-- What the trees that may be arguments begin with, and at which levels first operands stand.
+use Rattle.std.proofs.Common.{◌≡◌, ℕ, ◌≤◌, Bool, true, false, List, refl, ap, sym, ◌∙◌, subst, arith}
 use Rattle.std.specs.Cmp.Derive.{both_true}
-use Rattle.std.proofs.Common.{◌≡◌, ℕ, ◌≤◌, Bool, true, false, List, [], refl, ap, sym, ◌∙◌, subst, arith}
+use Rattle.std.specs.Prelude.{◌&&◌, if◌then◌else◌, nat_le}
 use Rattle.std.proofs.lemmas.Bool.{and_parts}
-use Rattle.std.specs.Prelude.{◌&&◌, if◌then◌else◌}
 use Rattle.rnix_kinds.specs.declared.kinds.SyntaxKind.{SyntaxKind}
-use Rattle.rnix_kinds.specs.declared.kinds.SyntaxKind.TheVariants.{TOKEN_IDENT, TOKEN_OR, NODE_APPLY, NODE_ASSERT, NODE_BIN_OP, NODE_HAS_ATTR, NODE_IDENT, NODE_IF_ELSE, NODE_LAMBDA, NODE_LEGACY_LET, NODE_LET_IN, NODE_SELECT, NODE_UNARY_OP, NODE_WITH}
-use Rattle.rnix_kinds.specs.SyntaxKind.{is_fn_arg, is_token}
-use Rattle.rnix_grammar.specs.Sketch.{Sketch, blank, token, branch, fault, one_token, forget}
-use Rattle.rnix_grammar.specs.Rows.{go, live, whole, start, is_atom}
-use Rattle.rnix_grammar.specs.Strict.{is_plain_name, is_named, is_strict_atom, first_is_atom, first_stands, calls_or, stands_at, is_grouped, is_strict}
-use Rattle.rnix_grammar.specs.Yield.{untold}
+use Rattle.rnix_kinds.specs.declared.kinds.SyntaxKind.TheVariants.{TOKEN_IDENT, TOKEN_OR, NODE_APPLY, NODE_BIN_OP, NODE_HAS_ATTR, NODE_IDENT, NODE_SELECT}
+use Rattle.rnix_kinds.specs.SyntaxKind.{is_fn_arg}
+use Rattle.rnix_tree.specs.Forest.{Forest, leaf, node}
+use Rattle.rnix_grammar.specs.Levels.{power, left_of}
+use Rattle.rnix_grammar.specs.Sketch.{Token, Sketch, blank, token, branch, fault, forget}
+use Rattle.rnix_grammar.specs.Rows.{go, is_expression, live, start, whole}
+use Rattle.rnix_grammar.specs.Strict.{calls_or, is_grouped, is_named, is_strict, is_strict_atom, level_of, operator_of, stands_at}
 use Rattle.rnix_grammar.specs.Tables.{is_or, is_cur_pos}
+use Rattle.rnix_grammar.specs.Yield.{untold}
 use Rattle.rnix_grammar.specs.Plain.{is_node, AreUntold}
-use Rattle.rnix_lemmas.proofs.EveryKind.{only, whenever_two}
-use Rattle.rnix_lemmas.proofs.Basics.{true_is_not_false, not_if}
-use Rattle.rnix_lemmas.proofs.StrictParts.{Parts, parts, standing}
-use Rattle.rnix_lemmas.proofs.NodeKinds.{not_both}
-use Rattle.rnix_completeness.proofs.PlainNames.{IsName, only_name, strict_node}
-use Rattle.rnix_completeness.proofs.PlainFirsts.{Begins, begins_on}
-use Rattle.rnix_completeness.proofs.PlainLevels.{operator_most, prefix_most}
+use Rattle.rnix_lemmas.proofs.Basics.{true_is_not_false}
+use Rattle.rnix_lemmas.proofs.EveryKind.{at_most, no_kind, only_both, whenever_two}
+use Rattle.rnix_lemmas.proofs.LevelLemmas.{at_most_true}
+use Rattle.rnix_lemmas.proofs.StrictParts.{Parts, parts, Standing, standing, stands_so, atom_stands}
+use Rattle.rnix_completeness.proofs.PlainNames.{strict_node}
+use Rattle.rnix_completeness.proofs.FirstTokens.{Begins, begins_on, leaf_passes, told_passes}
 
--- a row that begins with a token that passes a test
-pub begins_leaf : (test : SyntaxKind → Bool) (j : SyntaxKind) → whole (start j) ≡ false
-    → ((i : SyntaxKind) → live (go (start j) i) ≡ true → (text : List ℕ) → (test (untold i text) ≡ true) × (is_node i ≡ false)) → (c : Sketch) → is_strict (start j) (forget c) ≡ true → AreUntold c
-    → Begins test c
-begins_leaf test j none only blank h v = absurd (true_is_not_false (sym h ∙ none))
-begins_leaf test j none only (token i t f) h v =
-    record { kind = t.kind; is = λ us. refl; passes = ap test v.1 ∙ (only i (and_parts (live (go (start j) i)) (is_strict (go (start j) i) (forget f)) h).0 t.text).0 }
-begins_leaf test j none only (branch i c f) h v =
-    let m : Parts (start j) i (forget c) (forget f) = parts (start j) i (forget c) (forget f) h in absurd (not_both i (only i m.live []).1 (strict_node i c v.0 m.inner))
-begins_leaf test j none only (fault n c f) h v = absurd v
+-- the kinds whose rows begin with an operand
+abbrev pub is_wrapper : SyntaxKind → Bool
+is_wrapper NODE_BIN_OP = true
+is_wrapper NODE_HAS_ATTR = true
+is_wrapper NODE_SELECT = true
+is_wrapper NODE_APPLY = true
+is_wrapper kind = false
 
--- the atoms that are no names
-abbrev is_plain : SyntaxKind → Bool
-is_plain NODE_LAMBDA = false
-is_plain NODE_IDENT = false
-is_plain kind = is_atom kind
+looser : (m n : ℕ) (k : SyntaxKind) (c : Forest) → m ≤ n → stands_at n k c ≡ true → stands_at m k c ≡ true
+looser m n k c l s = let x : Standing n k c = standing n k c s in stands_so m k c (record { expression = x.expression; named = x.named; low = omega (arith, l, x.low) })
 
-plain_none : (j : SyntaxKind) → is_plain j ≡ true → whole (start j) ≡ false
-plain_none j h = not_if (whole (start j)) (implied is_plain (λ k. if whole (start k) then false else true) refl j h)
+left_power : (i : SyntaxKind) → power i ≤ left_of i
+left_power i = at_most (λ k. true) power left_of refl i refl
 
-plain_first : (j : SyntaxKind) → is_plain j ≡ true → (i : SyntaxKind) → live (go (start j) i) ≡ true → (text : List ℕ) → (is_fn_arg (untold i text) ≡ true) × (is_node i ≡ false)
-plain_first j h i l text =
-    let m = and_parts (is_fn_arg (untold i text)) (is_token i) (whenever_two (λ k l. is_plain k && live (go (start k) l)) (λ k l. is_fn_arg (untold l text) && is_token l) refl j i (both_true h l)) in
-    (m.0, ap (λ w. if w then false else true) m.1)
-
-no_or : (v w : Bool) → (if v then false else (if w then false else true)) ≡ true → v ≡ false
-no_or true w h = absurd (true_is_not_false (sym h))
-no_or false w h = refl
-
-name_first : (c : Sketch) → is_plain_name (forget c) ≡ true → is_strict (start NODE_IDENT) (forget c) ≡ true → AreUntold c → Begins is_fn_arg c
-name_first c h q v = by (only_name c q v)
+-- the first operand of a tree stands where the tree does
+pub wrapped_stands : (level : ℕ) (k j : SyntaxKind) (c f : Sketch) → is_wrapper k ≡ true → stands_at level k (forget (branch j c f)) ≡ true
+    → is_grouped k (forget (branch j c f)) ≡ true → stands_at level j (forget c) ≡ true
+wrapped_stands level NODE_BIN_OP j c f o s g =
+    let i : SyntaxKind = operator_of (forget (branch j c f)) in
+    looser level (left_of i) j (forget c) (omega (arith, (standing level NODE_BIN_OP (forget (branch j c f)) s).low, left_power i)) g
+wrapped_stands level NODE_HAS_ATTR j c f o s g = looser level 13 j (forget c) (standing level NODE_HAS_ATTR (forget (branch j c f)) s).low g
+wrapped_stands level NODE_SELECT j c f o s g = stands_so level j (forget c) (atom_stands level j (forget c) (standing level NODE_SELECT (forget (branch j c f)) s).low g)
+wrapped_stands level NODE_APPLY j c f o s g = by (calls_or (forget (branch j c f))) (standing level NODE_APPLY (forget (branch j c f)) s).low g
   where
-    by : IsName c → Begins is_fn_arg c
-    by w =
-        subst (λ (z : Sketch). Begins is_fn_arg z) (sym w.is)
-        (read (subst (λ (z : Sketch). is_plain_name (forget z) ≡ true) w.is h) (subst (λ (z : Sketch). AreUntold z) w.is v))
-      where
-        read : is_plain_name (forget (one_token TOKEN_IDENT w.token)) ≡ true → AreUntold (one_token TOKEN_IDENT w.token) → Begins is_fn_arg (one_token TOKEN_IDENT w.token)
-        read e s =
-            let kind : w.token.kind ≡ TOKEN_IDENT = s.1 ∙ ap (λ z. if z then TOKEN_OR else TOKEN_IDENT) (no_or (is_or w.token.text) (is_cur_pos w.token.text) e) in
-            record { kind = w.token.kind; is = λ us. refl; passes = ap is_fn_arg kind }
+    by : (w : Bool) → level ≤ (if w then 16 else 15) → (if w then is_strict_atom j (forget c) else stands_at 15 j (forget c)) ≡ true → stands_at level j (forget c) ≡ true
+    by true l g = stands_so level j (forget c) (atom_stands level j (forget c) l g)
+    by false l g = looser level 15 j (forget c) l g
+wrapped_stands level _ j c f o s g = absurd (true_is_not_false (sym o))
 
--- the first token of an atom
-pub first_atom : (j : SyntaxKind) (c : Sketch) → is_strict_atom j (forget c) ≡ true → is_strict (start j) (forget c) ≡ true → AreUntold c → Begins is_fn_arg c
-first_atom NODE_LAMBDA c h q v = absurd (true_is_not_false (sym h))
-first_atom NODE_IDENT c h q v = name_first c h q v
-first_atom j c h q v = let a : is_plain j ≡ true = (and_parts (is_atom j) (is_named j (forget c)) h).0 in begins_leaf is_fn_arg j (plain_none j a) (plain_first j a) c q v
+not_or : (v w : Bool) → (if v then false else (if w then false else true)) ≡ true → (v ≡ false) × (w ≡ false)
+not_or true w h = absurd (true_is_not_false (sym h))
+not_or false true h = absurd (true_is_not_false (sym h))
+not_or false false h = (refl, refl)
 
--- the first token of what begins with an atom
-first_in : (k : SyntaxKind) (c : Sketch) → first_is_atom (forget c) ≡ true → is_strict (start k) (forget c) ≡ true → AreUntold c → Begins is_fn_arg c
-first_in k blank h q v = absurd (true_is_not_false (sym h))
-first_in k (token i t f) h q v = absurd (true_is_not_false (sym h))
-first_in k (branch j c f) h q v =
-    let m : Parts (start k) j (forget c) (forget f) = parts (start k) j (forget c) (forget f) q in begins_on is_fn_arg j c f (first_atom j c h m.inner v.0)
-first_in k (fault n c f) h q v = absurd v
+-- the token of a name that may be an expression is a name, and its text is not that of the current position
+pub name_leaf : (i : SyntaxKind) (t : Token) (f : Forest) → is_named NODE_IDENT (leaf i t.text f) ≡ true → live (go (start NODE_IDENT) i) ≡ true → t.kind ≡ untold i t.text
+    → (t.kind ≡ TOKEN_IDENT) × (is_cur_pos t.text ≡ false)
+name_leaf TOKEN_IDENT t f s l e = let o = not_or (is_or t.text) (is_cur_pos t.text) s in (e ∙ ap (λ z. if z then TOKEN_OR else TOKEN_IDENT) o.0, o.1)
+name_leaf _ t f s l e = absurd (true_is_not_false (sym l))
+
+-- the expressions that begin with a token, but for names
+abbrev is_plain : SyntaxKind → Bool
+is_plain NODE_IDENT = false
+is_plain kind = is_expression kind
+
+argument_leaf : (text : List ℕ) (f : Forest) (j i : SyntaxKind) → is_plain j ≡ true → is_node i ≡ false → nat_le 16 (level_of j (leaf i text f)) ≡ true → live (go (start j) i) ≡ true
+    → leaf_passes is_fn_arg i ≡ true
+argument_leaf text f j i e n o l =
+    whenever_two (λ k u. is_plain k && ((if is_node u then false else true) && (nat_le 16 (level_of k (leaf u text f)) && live (go (start k) u)))) (λ k u. leaf_passes is_fn_arg u) refl j i (both_true e (both_true (ap (λ w. if w then false else true) n) (both_true o l)))
+
+-- no expression as tight as an argument begins with a node but those that begin with an operand
+argument_node : (c f : Forest) (j i : SyntaxKind) → is_expression j ≡ true → is_wrapper j ≡ false → nat_le 16 (level_of j (node i c f)) ≡ true → is_node i ≡ true → live (go (start j) i) ≡ true → ⊥
+argument_node c f j i e w o n l =
+    true_is_not_false (sym (whenever_two (λ k u. is_expression k && ((if is_wrapper k then false else true) && (nat_le 16 (level_of k (node u c f)) && (is_node u && live (go (start k) u))))) (λ k u. false) refl j i
+    (both_true e (both_true (ap (λ w. if w then false else true) w) (both_true o (both_true n l))))))
 
 -- a tree that may be an argument begins with a token that an argument may begin with
-pub first_argument : (j : SyntaxKind) (c : Sketch) → stands_at 16 j (forget c) ≡ true → is_grouped j (forget c) ≡ true → is_strict (start j) (forget c) ≡ true → AreUntold c → Begins is_fn_arg c
-first_argument NODE_SELECT c s g q v = first_in NODE_SELECT c g q v
-first_argument NODE_APPLY c s g q v = by (calls_or (forget c)) refl (standing 16 NODE_APPLY (forget c) s).low g
+pub first_argument : (c : Sketch) (j : SyntaxKind) → stands_at 16 j (forget c) ≡ true → is_grouped j (forget c) ≡ true → is_strict (start j) (forget c) ≡ true → AreUntold c
+    → Begins is_fn_arg c
+first_argument blank j s g q v = absurd (true_is_not_false (sym q ∙ no_kind (λ k. whole (start k)) refl j))
+first_argument (token i t f) j s g q v = record { kind = t.kind; is = λ us. refl; passes = by (is_plain j) refl }
   where
-    by : (w : Bool) → calls_or (forget c) ≡ w → 16 ≤ (if w then 16 else 15) → is_grouped NODE_APPLY (forget c) ≡ true → Begins is_fn_arg c
-    by true e l g = first_in NODE_APPLY c (subst (λ (z : Bool). (if z then first_is_atom (forget c) else first_stands 15 (forget c)) ≡ true) e g) q v
-    by false e l g = absurd (omega (arith, l))
-first_argument NODE_BIN_OP c s g q v = absurd (omega (arith, (standing 16 NODE_BIN_OP (forget c) s).low, operator_most c v q))
-first_argument NODE_UNARY_OP c s g q v = absurd (omega (arith, (standing 16 NODE_UNARY_OP (forget c) s).low, prefix_most c v))
-first_argument NODE_HAS_ATTR c s g q v = absurd (true_is_not_false (sym s))
-first_argument NODE_LAMBDA c s g q v = absurd (true_is_not_false (sym s))
-first_argument NODE_LEGACY_LET c s g q v = absurd (true_is_not_false (sym s))
-first_argument NODE_LET_IN c s g q v = absurd (true_is_not_false (sym s))
-first_argument NODE_WITH c s g q v = absurd (true_is_not_false (sym s))
-first_argument NODE_IF_ELSE c s g q v = absurd (true_is_not_false (sym s))
-first_argument NODE_ASSERT c s g q v = absurd (true_is_not_false (sym s))
-first_argument NODE_IDENT c s g q v = first_atom NODE_IDENT c (standing 16 NODE_IDENT (forget c) s).named q v
-first_argument j c s g q v =
-    first_atom j c (ap (λ w. w && is_named j (forget c)) (standing 16 j (forget c) s).expression ∙ (standing 16 j (forget c) s).named) q v
+    x : Standing 16 j (forget (token i t f))
+    x = standing 16 j (forget (token i t f)) s
+
+    l : live (go (start j) i) ≡ true
+    l = (and_parts (live (go (start j) i)) (is_strict (go (start j) i) (forget f)) q).0
+
+    name : j ≡ NODE_IDENT → is_fn_arg t.kind ≡ true
+    name e = ap is_fn_arg (name_leaf i t (forget f) (subst (λ z. is_named z (forget (token i t f)) ≡ true) e x.named) (subst (λ z. live (go (start z) i) ≡ true) e l) v.1).0
+
+    by : (w : Bool) → is_plain j ≡ w → is_fn_arg t.kind ≡ true
+    by true e = ap is_fn_arg v.1 ∙ told_passes is_fn_arg i t.text (argument_leaf t.text (forget f) j i e v.0 (at_most_true 16 _ x.low) l)
+    by false e = name (only_both is_expression (λ k. if is_plain k then false else true) NODE_IDENT refl j x.expression (ap (λ w. if w then false else true) e))
+first_argument (branch i c f) j s g q v =
+    let m : Parts (start j) i (forget c) (forget f) = parts (start j) i (forget c) (forget f) q in
+    by (λ x. begins_on is_fn_arg i c f (first_argument c i x m.grouped m.inner v.0)) (is_wrapper j) refl (strict_node i c v.0 m.inner) m.live
+  where
+    by : (stands_at 16 i (forget c) ≡ true → Begins is_fn_arg (branch i c f)) → (w : Bool) → is_wrapper j ≡ w → is_node i ≡ true → live (go (start j) i) ≡ true → Begins is_fn_arg (branch i c f)
+    by deep true e n l = deep (wrapped_stands 16 j i c f e s g)
+    by deep false e n l =
+        let x : Standing 16 j (forget (branch i c f)) = standing 16 j (forget (branch i c f)) s in
+        absurd (argument_node (forget c) (forget f) j i x.expression e (at_most_true 16 _ x.low) n l)
+first_argument (fault n c f) j s g q v = absurd v

@@ -25,29 +25,19 @@ AreNew g (branch k c f) = (repeats k g c ≡ []) × AreNew (g ⊕ one_branch k c
 AreNew g (fault n c f) = ⊥
 
 -- names that are not among these are of no entry so far
-abbrev pub Covers : List (List ℕ) → Sketch → Type 0
+abbrev Covers : List (List ℕ) → Sketch → Type 0
 Covers names g = (n : List ℕ) → is_among n names ≡ false → has_entry n g ≡ false
 
 -- an entry is named by its first tree, if it is a name
 same_text : (n : List ℕ) (c : Sketch) → bytes_eq n (entry_text (forget c)) ≡ false → is_same_name n (entry_name c) ≡ false
-same_text n blank h = refl
-same_text n (token k t f) h = refl
-same_text n (branch NODE_IDENT blank f) h = refl
 same_text n (branch NODE_IDENT (token k t e) f) h = h
-same_text n (branch NODE_IDENT (branch k d e) f) h = refl
-same_text n (branch NODE_IDENT (fault m d e) f) h = refl
-same_text n (branch _ c f) h = refl
-same_text n (fault m c f) h = refl
+same_text n blank h = refl
+same_text n _ h = refl
 
 new_text : (g c : Sketch) → has_entry (entry_text (forget c)) g ≡ false → repeated g c ≡ []
-new_text g blank h = refl
-new_text g (token k t f) h = refl
-new_text g (branch NODE_IDENT blank f) h = refl
 new_text g (branch NODE_IDENT (token k t e) f) h = ap (λ x. if x then named_twice (extent_of (t ∷ [])) t.text ∷ [] else []) h
-new_text g (branch NODE_IDENT (branch k d e) f) h = refl
-new_text g (branch NODE_IDENT (fault m d e) f) h = refl
-new_text g (branch _ c f) h = refl
-new_text g (fault m c f) h = refl
+new_text g blank h = refl
+new_text g _ h = refl
 
 neither : (v w : Bool) → (if v then true else w) ≡ false → (v ≡ false) × (w ≡ false)
 neither true w h = absurd (true_is_not_false h)

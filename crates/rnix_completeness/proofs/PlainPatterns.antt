@@ -1,63 +1,43 @@
 -- Before the rest of a strict pattern `{` begins one.
 use Rattle.rnix_kinds.proofs.AllKinds.{implied}
-use Rattle.std.proofs.Common.{◌≡◌, Bool, true, false, List, ◌++◌, Some, refl, ap, sym, ◌∙◌, append_assoc}
+use Rattle.std.proofs.Common.{◌≡◌, Bool, true, false, List, ◌++◌, Some, refl, ap, sym, ◌∙◌, subst, append_assoc}
 use Rattle.rnix_kinds.specs.declared.kinds.SyntaxKind.{SyntaxKind}
-use Rattle.rnix_kinds.specs.declared.kinds.SyntaxKind.TheVariants.{TOKEN_AT, TOKEN_COLON, TOKEN_ELLIPSIS, TOKEN_IDENT, TOKEN_R_BRACE, NODE_IDENT, TOKEN_COMMA, TOKEN_QUESTION, NODE_LAMBDA, NODE_PAT_BIND, NODE_PAT_ENTRY}
+use Rattle.rnix_kinds.specs.declared.kinds.SyntaxKind.TheVariants.{TOKEN_AT, TOKEN_ELLIPSIS, TOKEN_IDENT, TOKEN_R_BRACE, NODE_IDENT, NODE_LAMBDA, NODE_PAT_BIND, NODE_PAT_ENTRY}
 use Rattle.rnix_grammar.specs.declared.place.Place.TheVariants as p
 use Rattle.rnix_grammar.specs.Begins.{is_pattern, second_kind}
 use Rattle.rnix_grammar.specs.Sketch.{Token, Sketch, blank, token, branch, fault, tokens_in, head_kind, forget}
 use Rattle.rnix_grammar.specs.Rows.{At, go, live, start}
-use Rattle.rnix_grammar.specs.Strict.{is_strict, begins_with_leaf, binds_no_or, first_is_no_or}
+use Rattle.rnix_grammar.specs.Strict.{is_grouped, is_strict, begins_with_leaf, binds_no_or, first_is_no_or}
 use Rattle.rnix_grammar.specs.Plain.{is_node, AreUntold}
-use Rattle.rnix_lemmas.proofs.EveryKind.{only}
+use Rattle.rnix_lemmas.proofs.EveryKind.{only, only_both}
 use Rattle.rnix_lemmas.proofs.Basics.{true_is_not_false}
 use Rattle.rnix_lemmas.proofs.StrictParts.{Parts, parts}
-use Rattle.rnix_lemmas.proofs.NodeKinds.{not_both}
 use Rattle.rnix_completeness.proofs.PlainNames.{strict_node}
-use Rattle.rnix_completeness.proofs.PlainFollows.{follows}
+use Rattle.rnix_completeness.proofs.FirstTokens.{next_at}
 use Rattle.rnix_completeness.proofs.PlainEntries.{IsNamed, named_row}
 
 -- `{` begins a pattern before these items
 abbrev pub opens_pattern : List Token → Bool
 opens_pattern ts = is_pattern (head_kind ts) (second_kind ts)
 
--- what follows a parameter
-colon_next : (i : SyntaxKind) → live (go (At p.LambdaColon) i) ≡ true → (is_node i ≡ false) × (Some i ≡ Some TOKEN_COLON)
-colon_next TOKEN_COLON h = (refl, refl)
-colon_next _ h = absurd (true_is_not_false (sym h))
+-- a name that a pattern is bound to begins with `@` behind the pattern
+pub bind_begins : (c : Sketch) (vs : List Token) → begins_with_leaf (forget c) ≡ true → is_strict (start NODE_PAT_BIND) (forget c) ≡ true → AreUntold c → head_kind (tokens_in c ++ vs) ≡ Some TOKEN_AT
+bind_begins (token TOKEN_AT t f) vs b h v = ap (λ i. Some i) v.1
+bind_begins (token NODE_IDENT t f) vs b h v = absurd (true_is_not_false v.0)
+bind_begins (token _ t f) vs b h v = absurd (true_is_not_false (sym h))
+bind_begins blank vs b h v = absurd (true_is_not_false (sym h))
+bind_begins (branch k c f) vs b h v = absurd (true_is_not_false (sym b))
+bind_begins (fault n c f) vs b h v = absurd v
 
--- what follows a pattern's name, its `...` and its entries
-mark_next : (i : SyntaxKind) → live (go (At (p.PatternClose false)) i) ≡ true → (is_node i ≡ false) × (is_pattern (Some TOKEN_ELLIPSIS) (Some i) ≡ true)
-mark_next TOKEN_R_BRACE h = (refl, refl)
-mark_next _ h = absurd (true_is_not_false (sym h))
-
-more_next : (i : SyntaxKind) → live (go (At p.EntryMore) i) ≡ true → (is_node i ≡ false) × (is_pattern (Some TOKEN_IDENT) (Some i) ≡ true)
-more_next TOKEN_QUESTION h = (refl, refl)
-more_next _ h = absurd (true_is_not_false (sym h))
-
-comma_next : (i : SyntaxKind) → live (go (At (p.PatternAfter false)) i) ≡ true → (is_node i ≡ false) × (is_pattern (Some TOKEN_IDENT) (Some i) ≡ true)
-comma_next TOKEN_COMMA h = (refl, refl)
-comma_next TOKEN_R_BRACE h = (refl, refl)
-comma_next _ h = absurd (true_is_not_false (sym h))
-
--- behind the braces of a pattern is `:` or `@`
-bind_opens : (c : Sketch) (vs : List Token) → begins_with_leaf (forget c) ≡ true → is_strict (start NODE_PAT_BIND) (forget c) ≡ true → AreUntold c
-    → is_pattern (Some TOKEN_R_BRACE) (head_kind (tokens_in c ++ vs)) ≡ true
-bind_opens blank vs b h v = absurd (true_is_not_false (sym h))
-bind_opens (token TOKEN_AT t f) vs b h v = ap (λ z. is_pattern (Some TOKEN_R_BRACE) (Some z)) v.1
-bind_opens (token NODE_IDENT t f) vs b h v = absurd (true_is_not_false v.0)
-bind_opens (token _ t f) vs b h v = absurd (true_is_not_false (sym h))
-bind_opens (branch k c f) vs b h v = absurd (true_is_not_false (sym b))
-bind_opens (fault n c f) vs b h v = absurd v
-
-end_opens : (f : Sketch) (vs : List Token) → is_strict (At (p.PatternEnd false)) (forget f) ≡ true → AreUntold f → head_kind vs ≡ Some TOKEN_COLON
+end_opens : (f : Sketch) (vs : List Token) → is_strict (At (p.PatternEnd false)) (forget f) ≡ true → AreUntold f → is_pattern (Some TOKEN_R_BRACE) (head_kind vs) ≡ true
     → is_pattern (Some TOKEN_R_BRACE) (head_kind (tokens_in f ++ vs)) ≡ true
-end_opens blank vs h v e = ap (λ z. is_pattern (Some TOKEN_R_BRACE) z) e
+end_opens blank vs h v e = e
 end_opens (token NODE_PAT_BIND t f) vs h v e = absurd (true_is_not_false v.0)
 end_opens (token _ t f) vs h v e = absurd (true_is_not_false (sym h))
 end_opens (branch NODE_PAT_BIND c f) vs h v e =
     let m : Parts (At (p.PatternEnd false)) NODE_PAT_BIND (forget c) (forget f) = parts (At (p.PatternEnd false)) NODE_PAT_BIND (forget c) (forget f) h in
-    ap (λ z. is_pattern (Some TOKEN_R_BRACE) (head_kind z)) (append_assoc (tokens_in c) (tokens_in f) vs) ∙ bind_opens c (tokens_in f ++ vs) m.may m.inner v.0
+    ap (λ z. is_pattern (Some TOKEN_R_BRACE) (head_kind z)) (append_assoc (tokens_in c) (tokens_in f) vs)
+    ∙ ap (λ o. is_pattern (Some TOKEN_R_BRACE) o) (bind_begins c (tokens_in f ++ vs) m.may m.inner v.0)
 end_opens (branch _ c f) vs h v e = absurd (true_is_not_false (sym h))
 end_opens (fault n c f) vs h v e = absurd v
 
@@ -67,30 +47,28 @@ entry_opens c f vs w h v =
     ap (λ z. opens_pattern (tokens_in (branch NODE_PAT_ENTRY z f) ++ vs)) w.is
     ∙ ap (λ z. is_pattern (Some w.name.kind) (head_kind z)) (append_assoc (tokens_in w.more) (tokens_in f) vs)
     ∙ ap (λ z. is_pattern (Some z) (head_kind (tokens_in w.more ++ (tokens_in f ++ vs)))) w.kind
-    ∙ follows p.EntryMore w.more (tokens_in f ++ vs) (λ o. is_pattern (Some TOKEN_IDENT) o ≡ true) w.strict w.spelled more_next
-    (λ l. follows (p.PatternAfter false) f vs (λ o. is_pattern (Some TOKEN_IDENT) o ≡ true) h v comma_next (λ m. absurd (true_is_not_false (sym m))))
+    ∙ next_at (λ o. is_pattern (Some TOKEN_IDENT) o) (At p.EntryMore) refl w.more (tokens_in f ++ vs) w.strict w.spelled
+    (λ l. next_at (λ o. is_pattern (Some TOKEN_IDENT) o) (At (p.PatternAfter false)) refl f vs h v (λ m. absurd (true_is_not_false (sym m))))
 
 -- before the rest of a pattern `{` begins one
-pub pattern_opens : (c : Sketch) (vs : List Token) → is_strict (At (p.PatternStart false)) (forget c) ≡ true → AreUntold c → head_kind vs ≡ Some TOKEN_COLON
+pub pattern_opens : (c : Sketch) (vs : List Token) → is_strict (At (p.PatternStart false)) (forget c) ≡ true → AreUntold c → is_pattern (Some TOKEN_R_BRACE) (head_kind vs) ≡ true
     → opens_pattern (tokens_in c ++ vs) ≡ true
 pattern_opens blank vs h v e = absurd (true_is_not_false (sym h))
 pattern_opens (token TOKEN_R_BRACE t f) vs h v e = ap (λ z. is_pattern (Some z) (head_kind (tokens_in f ++ vs))) v.1 ∙ end_opens f vs h v.2 e
 pattern_opens (token TOKEN_ELLIPSIS t f) vs h v e =
     ap (λ z. is_pattern (Some z) (head_kind (tokens_in f ++ vs))) v.1
-    ∙ follows (p.PatternClose false) f vs (λ o. is_pattern (Some TOKEN_ELLIPSIS) o ≡ true) h v.2 mark_next (λ m. absurd (true_is_not_false (sym m)))
+    ∙ next_at (λ o. is_pattern (Some TOKEN_ELLIPSIS) o) (At (p.PatternClose false)) refl f vs h v.2 (λ m. absurd (true_is_not_false (sym m)))
 pattern_opens (token NODE_PAT_ENTRY t f) vs h v e = absurd (true_is_not_false v.0)
 pattern_opens (token _ t f) vs h v e = absurd (true_is_not_false (sym h))
-pattern_opens (branch NODE_PAT_ENTRY c f) vs h v e =
-    let m : Parts (At (p.PatternStart false)) NODE_PAT_ENTRY (forget c) (forget f) = parts (At (p.PatternStart false)) NODE_PAT_ENTRY (forget c) (forget f) h in
-    entry_opens c f vs (named_row NODE_PAT_ENTRY refl (only _ NODE_IDENT refl) c m.inner v.0 m.grouped) m.more v.1
-pattern_opens (branch TOKEN_R_BRACE c f) vs h v e =
-    absurd (not_both TOKEN_R_BRACE refl (strict_node TOKEN_R_BRACE c v.0 (parts (At (p.PatternStart false)) TOKEN_R_BRACE (forget c) (forget f) h).inner))
-pattern_opens (branch TOKEN_ELLIPSIS c f) vs h v e =
-    absurd (not_both TOKEN_ELLIPSIS refl (strict_node TOKEN_ELLIPSIS c v.0 (parts (At (p.PatternStart false)) TOKEN_ELLIPSIS (forget c) (forget f) h).inner))
-pattern_opens (branch _ c f) vs h v e = absurd (true_is_not_false (sym h))
+pattern_opens (branch k c f) vs h v e =
+    let m : Parts (At (p.PatternStart false)) k (forget c) (forget f) = parts (At (p.PatternStart false)) k (forget c) (forget f) h in
+    let e = only_both (λ i. live (go (At (p.PatternStart false)) i)) is_node NODE_PAT_ENTRY refl k m.live (strict_node k c v.0 m.inner) in
+    subst (λ z. opens_pattern (tokens_in (branch z c f) ++ vs) ≡ true) (sym e)
+    (entry_opens c f vs
+    (named_row NODE_PAT_ENTRY refl (only _ NODE_IDENT refl) c (subst (λ z. is_strict (start z) (forget c) ≡ true) e m.inner) v.0 (subst (λ z. is_grouped z (forget c) ≡ true) e m.grouped))
+    (subst (λ z. is_strict (go (At (p.PatternStart false)) z) (forget f) ≡ true) e m.more) v.1)
 pattern_opens (fault n c f) vs h v e = absurd v
 
--- such a bind begins with a name other than `or`
 -- such a name is no `or`
 pub bind_no_or : (c : Sketch) → begins_with_leaf (forget c) ≡ false → binds_no_or (forget c) ≡ true → first_is_no_or (forget c) ≡ true
 bind_no_or blank b h = refl

@@ -1,213 +1,175 @@
--- A strict expression that begins with a token of its own begins as its first three items say.
-use Rattle.std.proofs.Common.{◌≡◌, ℕ, ◌≤◌, Bool, true, false, List, ◌∷◌, ◌++◌, Option, Some, refl, ap, sym, ◌∙◌, subst, get_or, arith}
+-- A strict expression that begins with no operand begins as its first three items say.
+use Rattle.std.proofs.Common.{◌≡◌, ℕ, ◌≤◌, Bool, true, false, List, ◌++◌, refl, ap, sym, ◌∙◌, subst, arith}
 use Rattle.std.proofs.lemmas.Bool.{and_parts}
-use Rattle.std.proofs.lemmas.Bool.Decides.{nat_tests}
 use Rattle.std.specs.Cmp.Derive.{both_true}
 use Rattle.std.specs.Prelude.{◌&&◌, if◌then◌else◌, nat_eq}
-use Rattle.rnix_kinds.proofs.AllKinds.{all_kinds, kind_at_place}
 use Rattle.rnix_kinds.specs.SyntaxKind.{place_of}
 use Rattle.rnix_kinds.specs.declared.kinds.SyntaxKind.{SyntaxKind}
-use Rattle.rnix_kinds.specs.declared.kinds.SyntaxKind.TheVariants.{TOKEN_CUR_POS, TOKEN_IDENT, TOKEN_INVERT, TOKEN_LET, TOKEN_L_BRACE, TOKEN_OR, TOKEN_REC, TOKEN_SUB, NODE_ASSERT, NODE_ATTR_SET, NODE_CUR_POS, NODE_IDENT, NODE_IF_ELSE, NODE_LAMBDA, NODE_LEGACY_LET, NODE_LET_IN, NODE_LIST, NODE_LITERAL, NODE_PAREN, NODE_PATH_ABS, NODE_PATH_HOME, NODE_PATH_REL, NODE_PATH_SEARCH, NODE_STRING, NODE_UNARY_OP, NODE_WITH}
+use Rattle.rnix_kinds.specs.declared.kinds.SyntaxKind.TheVariants.{TOKEN_CUR_POS, TOKEN_IDENT, TOKEN_INVERT, TOKEN_LET, TOKEN_L_BRACE, TOKEN_REC, TOKEN_SUB, NODE_ATTR_SET, NODE_CUR_POS, NODE_IDENT, NODE_LAMBDA, NODE_LEGACY_LET, NODE_LET_IN, NODE_PAREN, NODE_UNARY_OP}
+use Rattle.rnix_tree.specs.Forest.{Forest, leaf}
 use Rattle.rnix_grammar.specs.declared.place.Place.TheVariants as p
 use Rattle.rnix_grammar.specs.declared.begin.Begin.TheVariants as b
 use Rattle.rnix_grammar.specs.Begins.{begin_of, begin_let, second_kind}
 use Rattle.rnix_grammar.specs.Operands.{first_tree, kind_of, IsBegun}
-use Rattle.rnix_grammar.specs.Sketch.{Token, Sketch, blank, token, branch, fault, one_token, tokens_in, head_kind, forget}
-use Rattle.rnix_grammar.specs.Rows.{Start, BeforeBrace, first, go, live, start, whole}
-use Rattle.rnix_grammar.specs.Strict.{is_named, is_strict, only_text, stands_at}
-use Rattle.rnix_grammar.specs.Tables.{is_or, is_cur_pos}
+use Rattle.rnix_grammar.specs.Sketch.{Token, Sketch, blank, token, branch, fault, tokens_in, head_kind, forget}
+use Rattle.rnix_grammar.specs.Rows.{BeforeBrace, At, first, go, is_expression, is_operand, live, start, whole}
+use Rattle.rnix_grammar.specs.Strict.{is_named, is_strict, level_of, stands_at}
+use Rattle.rnix_grammar.specs.Yield.{untold}
 use Rattle.rnix_grammar.specs.Plain.{is_node, AreUntold}
 use Rattle.rnix_lemmas.proofs.Basics.{true_is_not_false, not_if}
-use Rattle.rnix_lemmas.proofs.EveryKind.{tokens_alone, whenever_two}
+use Rattle.rnix_lemmas.proofs.EveryKind.{same, no_kind, whenever_two}
 use Rattle.rnix_lemmas.proofs.NodeKinds.{not_both}
 use Rattle.rnix_lemmas.proofs.PlainTables.{loose}
-use Rattle.rnix_lemmas.proofs.StrictParts.{Parts, parts, standing}
-use Rattle.rnix_completeness.proofs.PlainNames.{past_blank, strict_node, IsName, only_name, plain_name, is_name, untold_plain}
-use Rattle.rnix_completeness.proofs.PlainFirsts.{Begins}
-use Rattle.rnix_completeness.proofs.PlainSets.{is_no_brace, let_begins, new_let, set_opens}
-use Rattle.rnix_completeness.proofs.RowOwns.{is_leaf}
+use Rattle.rnix_lemmas.proofs.StrictParts.{Parts, parts, Standing, standing}
+use Rattle.rnix_completeness.proofs.FirstTokens.{next_at, next_kind}
+use Rattle.rnix_completeness.proofs.PlainBegins.{is_wrapper, name_leaf}
+use Rattle.rnix_completeness.proofs.PlainNames.{strict_node, plain_name, is_name, untold_plain}
+use Rattle.rnix_completeness.proofs.PlainPatterns.{param_node}
+use Rattle.rnix_completeness.proofs.PlainSets.{set_opens}
 use Rattle.rnix_completeness.proofs.RowFunctions.{lambda_row}
-use Rattle.rnix_completeness.proofs.PlainFollows.{follows_at}
 
-same_kind : (k w : SyntaxKind) → nat_eq (place_of k) (place_of w) ≡ true → k ≡ w
-same_kind k w h =
-    let e : place_of k ≡ place_of w = grind (arith, nat_tests, h) in
-    sym (kind_at_place k w) ∙ ap (λ i. get_or all_kinds i w) e ∙ kind_at_place w w
+-- an operand of a level that begins with a token before these items begins a tree of the kind
+abbrev Tells : SyntaxKind → ℕ → Token → List Token → Type 0
+Tells k level t ts = kind_of (begin_of level t.kind t.text (head_kind ts) (second_kind ts)) ≡ k
 
--- a tree that begins with a token of a kind
-token_begun : (level : ℕ) (k i : SyntaxKind) (t : Token) (e f : Sketch) (us : List Token) → t.kind ≡ i
-    → kind_of (begin_of level i t.text (head_kind (tokens_in e ++ us)) (second_kind (tokens_in e ++ us))) ≡ first_tree (branch k (token i t e) f) → IsBegun level (branch k (token i t e) f) (tokens_in (token i t e) ++ us)
-token_begun level k i t e f us h w = ap (λ z. kind_of (begin_of level z t.text (head_kind (tokens_in e ++ us)) (second_kind (tokens_in e ++ us)))) h ∙ w
+tells_by : (k : SyntaxKind) (level : ℕ) (t : Token) (ts : List Token) (i : SyntaxKind) → t.kind ≡ i → kind_of (begin_of level i t.text (head_kind ts) (second_kind ts)) ≡ k → Tells k level t ts
+tells_by k level t ts i e h = ap (λ z. kind_of (begin_of level z t.text (head_kind ts) (second_kind ts))) e ∙ h
 
--- the kinds that their first token tells
-abbrev is_telling : SyntaxKind → Bool
-is_telling NODE_PAREN = true
-is_telling NODE_LIST = true
-is_telling NODE_STRING = true
-is_telling NODE_PATH_ABS = true
-is_telling NODE_PATH_REL = true
-is_telling NODE_PATH_HOME = true
-is_telling NODE_PATH_SEARCH = true
-is_telling NODE_LITERAL = true
-is_telling kind = false
+prefix_tells : (i : SyntaxKind) (t : Token) (f : Forest) (level : ℕ) (ts : List Token) → stands_at level NODE_UNARY_OP (leaf i t.text f) ≡ true → live (first NODE_UNARY_OP i) ≡ true
+    → t.kind ≡ untold i t.text → Tells NODE_UNARY_OP level t ts
+prefix_tells TOKEN_SUB t f level ts s l e = tells_by _ level t ts TOKEN_SUB e (ap (λ w. kind_of (if w then b.Node NODE_UNARY_OP p.Negated 13 else b.Stray)) s)
+prefix_tells TOKEN_INVERT t f level ts s l e = tells_by _ level t ts TOKEN_INVERT e (ap (λ w. kind_of (if w then b.Node NODE_UNARY_OP p.Inverted 8 else b.Stray)) s)
+prefix_tells _ t f level ts s l e = absurd (true_is_not_false (sym l))
 
--- and those that it tells where any expression may stand
-abbrev is_keyword : SyntaxKind → Bool
-is_keyword NODE_WITH = true
-is_keyword NODE_ASSERT = true
-is_keyword NODE_IF_ELSE = true
-is_keyword kind = is_telling kind
+name_tells : (i : SyntaxKind) (t : Token) (f : Forest) (level : ℕ) (ts : List Token) → is_named NODE_IDENT (leaf i t.text f) ≡ true → live (first NODE_IDENT i) ≡ true → t.kind ≡ untold i t.text
+    → loose 16 (head_kind ts) ≡ true → Tells NODE_IDENT level t ts
+name_tells i t f level ts s l e n =
+    let o = name_leaf i t f s l e in
+    tells_by _ level t ts TOKEN_IDENT o.0 (ap kind_of (plain_name t.text (head_kind ts) n) ∙ ap (λ z. kind_of (if z then b.Leaf NODE_CUR_POS else b.Leaf NODE_IDENT)) o.1)
 
-tells : (level : ℕ) (text : List ℕ) (second third : Option SyntaxKind) (k i : SyntaxKind) → is_telling k ≡ true → live (first k i) ≡ true → kind_of (begin_of level i text second third) ≡ k
-tells level text second third k i e l =
-    same_kind (kind_of (begin_of level i text second third)) k
-    (whenever_two (λ j v. is_telling j && live (first j v)) (λ j v. nat_eq (place_of (kind_of (begin_of level v text second third))) (place_of j)) refl k i (both_true e l))
+position_tells : (i : SyntaxKind) (t : Token) (f : Forest) (level : ℕ) (ts : List Token) → is_named NODE_CUR_POS (leaf i t.text f) ≡ true → live (first NODE_CUR_POS i) ≡ true
+    → t.kind ≡ untold i t.text → loose 16 (head_kind ts) ≡ true → Tells NODE_CUR_POS level t ts
+position_tells TOKEN_CUR_POS t f level ts s l e n =
+    tells_by _ level t ts TOKEN_IDENT e (ap kind_of (plain_name t.text (head_kind ts) n) ∙ ap (λ z. kind_of (if z then b.Leaf NODE_CUR_POS else b.Leaf NODE_IDENT)) s)
+position_tells _ t f level ts s l e n = absurd (true_is_not_false (sym l))
 
-tells_any : (text : List ℕ) (second third : Option SyntaxKind) (k i : SyntaxKind) → is_keyword k ≡ true → live (first k i) ≡ true → kind_of (begin_of 0 i text second third) ≡ k
-tells_any text second third k i e l =
-    same_kind (kind_of (begin_of 0 i text second third)) k
-    (whenever_two (λ j v. is_keyword j && live (first j v)) (λ j v. nat_eq (place_of (kind_of (begin_of 0 v text second third))) (place_of j)) refl k i (both_true e l))
+set_tells : (i : SyntaxKind) (t : Token) (d : Sketch) (level : ℕ) (us : List Token) → is_strict (start NODE_ATTR_SET) (forget (token i t d)) ≡ true → t.kind ≡ untold i t.text → AreUntold d
+    → loose 16 (head_kind us) ≡ true → Tells NODE_ATTR_SET level t (tokens_in d ++ us)
+set_tells TOKEN_REC t d level us h e v n = tells_by _ level t (tokens_in d ++ us) TOKEN_REC e refl
+set_tells TOKEN_L_BRACE t d level us h e v n =
+    tells_by _ level t (tokens_in d ++ us) TOKEN_L_BRACE e (ap (λ w. kind_of (if w then b.PatternLambda else b.Node NODE_ATTR_SET p.SetInside 16)) (set_opens d us h v n))
+set_tells _ t d level us h e v n = absurd (true_is_not_false (sym h))
 
-token_first : (k i : SyntaxKind) → is_keyword k ≡ true → live (first k i) ≡ true → is_leaf i && (if is_name i then false else true) ≡ true
-token_first k i e l = whenever_two (λ j v. is_keyword j && live (first j v)) (λ j v. is_leaf v && (if is_name v then false else true)) refl k i (both_true e l)
+let_tells : (i : SyntaxKind) (t : Token) (d : Sketch) (us : List Token) → is_strict (start NODE_LET_IN) (forget (token i t d)) ≡ true → t.kind ≡ untold i t.text → AreUntold d
+    → Tells NODE_LET_IN 0 t (tokens_in d ++ us)
+let_tells TOKEN_LET t d us h e v = tells_by _ 0 t (tokens_in d ++ us) TOKEN_LET e (next_kind (λ o. kind_of (begin_let o)) NODE_LET_IN (At p.LetInside) refl refl d us h v)
+let_tells _ t d us h e v = absurd (true_is_not_false (sym h))
 
-told_first : (k : SyntaxKind) (c f : Sketch) → is_keyword k ≡ true → (first_tree (branch k c f) ≡ k) × (whole (start k) ≡ false)
-told_first NODE_PAREN c f h = (refl, refl)
-told_first NODE_LIST c f h = (refl, refl)
-told_first NODE_STRING c f h = (refl, refl)
-told_first NODE_PATH_ABS c f h = (refl, refl)
-told_first NODE_PATH_REL c f h = (refl, refl)
-told_first NODE_PATH_HOME c f h = (refl, refl)
-told_first NODE_PATH_SEARCH c f h = (refl, refl)
-told_first NODE_LITERAL c f h = (refl, refl)
-told_first NODE_WITH c f h = (refl, refl)
-told_first NODE_ASSERT c f h = (refl, refl)
-told_first NODE_IF_ELSE c f h = (refl, refl)
-told_first _ c f h = absurd (true_is_not_false (sym h))
+old_let_tells : (i : SyntaxKind) (t : Token) (d : Sketch) (us : List Token) → is_strict (start NODE_LEGACY_LET) (forget (token i t d)) ≡ true → t.kind ≡ untold i t.text → AreUntold d
+    → Tells NODE_LEGACY_LET 0 t (tokens_in d ++ us)
+old_let_tells TOKEN_LET t d us h e v = tells_by _ 0 t (tokens_in d ++ us) TOKEN_LET e (next_kind (λ o. kind_of (begin_let o)) NODE_LEGACY_LET BeforeBrace refl refl d us h v)
+old_let_tells _ t d us h e v = absurd (true_is_not_false (sym h))
 
--- an expression that its first token tells begins so
-told_row : (k : SyntaxKind) (c f : Sketch) (level : ℕ) (us : List Token) → is_keyword k ≡ true → ((i : SyntaxKind) (text : List ℕ) (second third : Option SyntaxKind) → live (first k i) ≡ true → kind_of (begin_of level i text second third) ≡ k)
-    → start k ≡ Start k → is_strict (Start k) (forget c) ≡ true → AreUntold c → IsBegun level (branch k c f) (tokens_in c ++ us)
-told_row k blank f level us e w s h v = absurd (true_is_not_false (sym h))
-told_row k (token i t c) f level us e w s h v =
-    let l = (and_parts (live (first k i)) (is_strict (first k i) (forget c)) h).0 in
-    let o = and_parts (is_leaf i) (if is_name i then false else true) (token_first k i e l) in
-    token_begun level k i t c f us (v.1 ∙ untold_plain i t.text (not_if (is_name i) o.1)) (w i t.text (head_kind (tokens_in c ++ us)) (second_kind (tokens_in c ++ us)) l ∙ sym (told_first k (token i t c) f e).0)
-told_row k (branch i c d) f level us e w s h v =
-    let m : Parts (Start k) i (forget c) (forget d) = parts (Start k) i (forget c) (forget d) h in
-    absurd (not_both i (not_if (is_node i) (and_parts (is_leaf i) (if is_name i then false else true) (token_first k i e m.live)).0) (strict_node i c v.0 m.inner))
-told_row k (fault i c d) f level us e w s h v = absurd v
+-- the expressions of one token that is a name
+abbrev is_name_node : SyntaxKind → Bool
+is_name_node NODE_IDENT = true
+is_name_node NODE_CUR_POS = true
+is_name_node kind = false
 
-prefix_row : (c f : Sketch) (level : ℕ) (us : List Token) → stands_at level NODE_UNARY_OP (forget c) ≡ true → is_strict (start NODE_UNARY_OP) (forget c) ≡ true → AreUntold c → IsBegun level (branch NODE_UNARY_OP c f) (tokens_in c ++ us)
-prefix_row blank f level us s h v = absurd (true_is_not_false (sym h))
-prefix_row (token TOKEN_SUB t c) f level us s h v = token_begun level NODE_UNARY_OP TOKEN_SUB t c f us v.1 (ap (λ w. kind_of (if w then b.Node NODE_UNARY_OP p.Negated 13 else b.Stray)) s)
-prefix_row (token TOKEN_INVERT t c) f level us s h v = token_begun level NODE_UNARY_OP TOKEN_INVERT t c f us v.1 (ap (λ w. kind_of (if w then b.Node NODE_UNARY_OP p.Inverted 8 else b.Stray)) s)
-prefix_row (token _ t c) f level us s h v = absurd (true_is_not_false (sym h))
-prefix_row (branch i c d) f level us s h v =
-    let m = parts (start NODE_UNARY_OP) i (forget c) (forget d) h in absurd (not_both i (tokens_alone (λ j. live (first NODE_UNARY_OP j)) refl i m.live) (strict_node i c v.0 m.inner))
-prefix_row (fault i c d) f level us s h v = absurd v
+-- the expressions whose first token does not tell them, or not at each level where they may stand
+abbrev is_special : SyntaxKind → Bool
+is_special NODE_UNARY_OP = true
+is_special NODE_IDENT = true
+is_special NODE_CUR_POS = true
+is_special NODE_ATTR_SET = true
+is_special NODE_LET_IN = true
+is_special NODE_LEGACY_LET = true
+is_special NODE_LAMBDA = true
+is_special kind = is_wrapper kind
 
-not_or : (v w : Bool) → (if v then false else (if w then false else true)) ≡ true → (v ≡ false) × (w ≡ false)
-not_or true w h = absurd (true_is_not_false (sym h))
-not_or false true h = absurd (true_is_not_false (sym h))
-not_or false false h = (refl, refl)
+-- an expression of another kind that begins with a token
+abbrev is_told_by : SyntaxKind → SyntaxKind → Bool
+is_told_by k i = is_expression k && ((if is_special k then false else true) && ((if is_node i then false else true) && live (go (start k) i)))
 
-name_row : (c f : Sketch) (level : ℕ) (us : List Token) → is_named NODE_IDENT (forget c) ≡ true → is_strict (start NODE_IDENT) (forget c) ≡ true → AreUntold c → loose 16 (head_kind us) ≡ true
-    → IsBegun level (branch NODE_IDENT c f) (tokens_in c ++ us)
-name_row c f level us s h v n = by (only_name c h v)
+token_tells : (w : Bool) (k i : SyntaxKind) (t : Token) (level : ℕ) (ts : List Token) → is_operand k ≡ w → (w ≡ false → level ≡ 0) → is_told_by k i ≡ true → t.kind ≡ i → Tells k level t ts
+token_tells true k i t level ts o z h e =
+    tells_by k level t ts i e
+    (same _ k (whenever_two (λ j u. is_operand j && is_told_by j u) (λ j u. nat_eq (place_of (kind_of (begin_of level u t.text (head_kind ts) (second_kind ts)))) (place_of j)) refl k i (both_true o h)))
+token_tells false k i t level ts o z h e =
+    subst (λ n. Tells k n t ts) (sym (z refl))
+    (tells_by k 0 t ts i e (same _ k (whenever_two is_told_by (λ j u. nat_eq (place_of (kind_of (begin_of 0 u t.text (head_kind ts) (second_kind ts)))) (place_of j)) refl k i h)))
+
+-- an expression that is no operand stands where any may
+loosest : (k : SyntaxKind) (c : Forest) (level : ℕ) → is_expression k ≡ true → is_operand k ≡ false → level ≤ level_of k c → level ≡ 0
+loosest NODE_LET_IN c level e o l = omega (arith, l)
+loosest _ c level e o l = first_of (omega (arith, l), cc)
+
+told_tells : (k i : SyntaxKind) (t : Token) (f : Forest) (level : ℕ) (ts : List Token) → is_special k ≡ false → is_node i ≡ false → stands_at level k (leaf i t.text f) ≡ true
+    → live (go (start k) i) ≡ true → t.kind ≡ untold i t.text → Tells k level t ts
+told_tells k i t f level ts p n s l e =
+    let x : Standing level k (leaf i t.text f) = standing level k (leaf i t.text f) s in
+    let h : is_told_by k i ≡ true = both_true x.expression (both_true (ap (λ w. if w then false else true) p) (both_true (ap (λ w. if w then false else true) n) l)) in
+    token_tells (is_operand k) k i t level ts refl (λ o. loosest k (leaf i t.text f) level x.expression o x.low) h
+    (e ∙ untold_plain i t.text (not_if (is_name i) (whenever_two is_told_by (λ j u. if is_name u then false else true) refl k i h)))
+
+-- behind the token of a name is what follows the name
+name_end : (k i : SyntaxKind) (t : Token) (d : Sketch) (us : List Token) → is_name_node k ≡ true → is_strict (start k) (forget (token i t d)) ≡ true → AreUntold (token i t d)
+    → loose 16 (head_kind us) ≡ true → loose 16 (head_kind (tokens_in d ++ us)) ≡ true
+name_end k i t d us e h v n =
+    let m = and_parts (live (go (start k) i)) (is_strict (go (start k) i) (forget d)) h in
+    next_at (λ o. loose 16 o) (At p.Past) refl d us (subst (λ q. is_strict q (forget d) ≡ true) (ends k i e m.0) m.1) v.2 (λ x. n)
   where
-    by : IsName c → IsBegun level (branch NODE_IDENT c f) (tokens_in c ++ us)
-    by w =
-        subst (λ (z : Sketch). IsBegun level (branch NODE_IDENT z f) (tokens_in z ++ us)) (sym w.is)
-        (read (subst (λ (z : Sketch). is_named NODE_IDENT (forget z) ≡ true) w.is s) (subst (λ (z : Sketch). AreUntold z) w.is v))
-      where
-        read : is_named NODE_IDENT (forget (one_token TOKEN_IDENT w.token)) ≡ true → AreUntold (one_token TOKEN_IDENT w.token) → IsBegun level (branch NODE_IDENT (one_token TOKEN_IDENT w.token) f) (w.token ∷ us)
-        read m u =
-            let o = not_or (is_or w.token.text) (is_cur_pos w.token.text) m in
-            token_begun level NODE_IDENT TOKEN_IDENT w.token blank f us (u.1 ∙ ap (λ z. if z then TOKEN_OR else TOKEN_IDENT) o.0)
-            (ap kind_of (plain_name w.token.text (head_kind us) n) ∙ ap (λ z. kind_of (if z then b.Leaf NODE_CUR_POS else b.Leaf NODE_IDENT)) o.1)
+    ends : (k i : SyntaxKind) → is_name_node k ≡ true → live (go (start k) i) ≡ true → go (start k) i ≡ At p.Past
+    ends NODE_IDENT TOKEN_IDENT e l = refl
+    ends NODE_CUR_POS TOKEN_CUR_POS e l = refl
+    ends NODE_IDENT _ e l = cc
+    ends NODE_CUR_POS _ e l = cc
+    ends _ i e l = cc
 
-position_row : (c f : Sketch) (level : ℕ) (us : List Token) → is_named NODE_CUR_POS (forget c) ≡ true → is_strict (start NODE_CUR_POS) (forget c) ≡ true → AreUntold c → loose 16 (head_kind us) ≡ true
-    → IsBegun level (branch NODE_CUR_POS c f) (tokens_in c ++ us)
-position_row blank f level us s h v n = absurd (true_is_not_false (sym h))
-position_row (token TOKEN_CUR_POS t c) f level us s h v n =
-    subst (λ (z : Sketch). IsBegun level (branch NODE_CUR_POS (token TOKEN_CUR_POS t z) f) (t ∷ (tokens_in z ++ us))) (sym (past_blank c h v.2))
-    (token_begun level NODE_CUR_POS TOKEN_IDENT t blank f us v.1
-    (ap kind_of (plain_name t.text (head_kind us) n) ∙ ap (λ z. kind_of (if z then b.Leaf NODE_CUR_POS else b.Leaf NODE_IDENT)) (subst (λ (z : Sketch). is_cur_pos (only_text (forget (token TOKEN_CUR_POS t z))) ≡ true) (past_blank c h v.2) s)))
-position_row (token _ t c) f level us s h v n = absurd (true_is_not_false (sym h))
-position_row (branch i c d) f level us s h v n =
-    let m = parts (start NODE_CUR_POS) i (forget c) (forget d) h in absurd (not_both i (tokens_alone (λ j. live (first NODE_CUR_POS j)) refl i m.live) (strict_node i c v.0 m.inner))
-position_row (fault i c d) f level us s h v n = absurd v
+-- an expression that begins with a token begins as its items say
+leaf_tells : (k i : SyntaxKind) (t : Token) (d : Sketch) (level : ℕ) (us : List Token) → is_wrapper k ≡ false → stands_at level k (forget (token i t d)) ≡ true
+    → is_strict (start k) (forget (token i t d)) ≡ true → AreUntold (token i t d) → loose 16 (head_kind us) ≡ true → Tells k level t (tokens_in d ++ us)
+leaf_tells NODE_UNARY_OP i t d level us w s h v n = prefix_tells i t (forget d) level (tokens_in d ++ us) s (and_parts (live (first NODE_UNARY_OP i)) _ h).0 v.1
+leaf_tells NODE_IDENT i t d level us w s h v n =
+    name_tells i t (forget d) level (tokens_in d ++ us) (standing level NODE_IDENT (forget (token i t d)) s).named (and_parts (live (first NODE_IDENT i)) _ h).0 v.1 (name_end NODE_IDENT i t d us refl h v n)
+leaf_tells NODE_CUR_POS i t d level us w s h v n =
+    position_tells i t (forget d) level (tokens_in d ++ us) (standing level NODE_CUR_POS (forget (token i t d)) s).named (and_parts (live (first NODE_CUR_POS i)) _ h).0 v.1
+    (name_end NODE_CUR_POS i t d us refl h v n)
+leaf_tells NODE_ATTR_SET i t d level us w s h v n = set_tells i t d level us h v.1 v.2 n
+leaf_tells NODE_LET_IN i t d level us w s h v n =
+    subst (λ z. Tells NODE_LET_IN z t (tokens_in d ++ us)) (sym (loosest NODE_LET_IN (forget (token i t d)) level refl refl (standing level NODE_LET_IN (forget (token i t d)) s).low)) (let_tells i t d us h v.1 v.2)
+leaf_tells NODE_LEGACY_LET i t d level us w s h v n =
+    subst (λ z. Tells NODE_LEGACY_LET z t (tokens_in d ++ us)) (sym (loosest NODE_LEGACY_LET (forget (token i t d)) level refl refl (standing level NODE_LEGACY_LET (forget (token i t d)) s).low))
+    (old_let_tells i t d us h v.1 v.2)
+leaf_tells NODE_LAMBDA i t d level us w s h v n = absurd (not_both i v.0 (param_node i (and_parts (live (first NODE_LAMBDA i)) _ h).0))
+leaf_tells k i t d level us w s h v n = told_tells k i t (forget d) level (tokens_in d ++ us) w v.0 s (and_parts (live (go (start k) i)) (is_strict (go (start k) i) (forget d)) h).0 v.1
 
-set_row : (c f : Sketch) (level : ℕ) (us : List Token) → is_strict (start NODE_ATTR_SET) (forget c) ≡ true → AreUntold c → loose 16 (head_kind us) ≡ true → IsBegun level (branch NODE_ATTR_SET c f) (tokens_in c ++ us)
-set_row blank f level us h v n = absurd (true_is_not_false (sym h))
-set_row (token TOKEN_REC t c) f level us h v n = token_begun level NODE_ATTR_SET TOKEN_REC t c f us v.1 refl
-set_row (token TOKEN_L_BRACE t c) f level us h v n = token_begun level NODE_ATTR_SET TOKEN_L_BRACE t c f us v.1 (ap (λ w. kind_of (if w then b.PatternLambda else b.Node NODE_ATTR_SET p.SetInside 16)) (set_opens c us h v.2 n))
-set_row (token _ t c) f level us h v n = absurd (true_is_not_false (sym h))
-set_row (branch i c d) f level us h v n =
-    let m = parts (start NODE_ATTR_SET) i (forget c) (forget d) h in absurd (not_both i (tokens_alone (λ j. live (first NODE_ATTR_SET j)) refl i m.live) (strict_node i c v.0 m.inner))
-set_row (fault i c d) f level us h v n = absurd v
+leaf_first : (k i : SyntaxKind) (t : Token) (d f : Sketch) → is_wrapper k ≡ false → first_tree (branch k (token i t d) f) ≡ k
+leaf_first NODE_PAREN i t d f w = refl
+leaf_first _ i t d f w = cc
 
-let_row : (c f : Sketch) (us : List Token) → is_strict (start NODE_LET_IN) (forget c) ≡ true → AreUntold c → IsBegun 0 (branch NODE_LET_IN c f) (tokens_in c ++ us)
-let_row blank f us h v = absurd (true_is_not_false (sym h))
-let_row (token TOKEN_LET t c) f us h v =
-    let m : Begins is_no_brace c = let_begins c h v.2 in token_begun 0 NODE_LET_IN TOKEN_LET t c f us v.1 (ap (λ z. kind_of (begin_let z)) (m.is us) ∙ ap kind_of (new_let m.kind m.passes))
-let_row (token _ t c) f us h v = absurd (true_is_not_false (sym h))
-let_row (branch i c d) f us h v =
-    let m = parts (start NODE_LET_IN) i (forget c) (forget d) h in absurd (not_both i (tokens_alone (λ j. live (first NODE_LET_IN j)) refl i m.live) (strict_node i c v.0 m.inner))
-let_row (fault i c d) f us h v = absurd v
+lambda_alone : (k i : SyntaxKind) → is_expression k ≡ true → is_wrapper k ≡ false → is_node i ≡ true → live (go (start k) i) ≡ true → k ≡ NODE_LAMBDA
+lambda_alone k i e w n l =
+    same k NODE_LAMBDA (whenever_two (λ j u. is_expression j && ((if is_wrapper j then false else true) && (is_node u && live (go (start j) u)))) (λ j u. nat_eq (place_of j) (place_of NODE_LAMBDA)) refl k i
+    (both_true e (both_true (ap (λ z. if z then false else true) w) (both_true n l))))
 
-brace_next : (i : SyntaxKind) → live (go BeforeBrace i) ≡ true → (is_node i ≡ false) × (◌≡◌ {A = Option SyntaxKind} (Some i) (Some TOKEN_L_BRACE))
-brace_next TOKEN_L_BRACE h = (refl, refl)
-brace_next _ h = absurd (true_is_not_false (sym h))
+lambda_begun : (c f : Sketch) (level : ℕ) (us : List Token) → stands_at level NODE_LAMBDA (forget c) ≡ true → is_strict (start NODE_LAMBDA) (forget c) ≡ true → AreUntold c
+    → IsBegun level (branch NODE_LAMBDA c f) (tokens_in c ++ us)
+lambda_begun c f level us s h v =
+    let l = (standing level NODE_LAMBDA (forget c) s).low in
+    let e : level ≡ 0 = omega (arith, l) in subst (λ z. IsBegun z (branch NODE_LAMBDA c f) (tokens_in c ++ us)) (sym e) (lambda_row c f us h v)
 
-old_let_row : (c f : Sketch) (us : List Token) → is_strict (start NODE_LEGACY_LET) (forget c) ≡ true → AreUntold c → IsBegun 0 (branch NODE_LEGACY_LET c f) (tokens_in c ++ us)
-old_let_row blank f us h v = absurd (true_is_not_false (sym h))
-old_let_row (token TOKEN_LET t c) f us h v = token_begun 0 NODE_LEGACY_LET TOKEN_LET t c f us v.1 (ap (λ z. kind_of (begin_let z)) (follows_at BeforeBrace c us (λ o. o ≡ Some TOKEN_L_BRACE) refl h v.2 refl brace_next))
-old_let_row (token _ t c) f us h v = absurd (true_is_not_false (sym h))
-old_let_row (branch i c d) f us h v =
-    let m = parts (start NODE_LEGACY_LET) i (forget c) (forget d) h in absurd (not_both i (tokens_alone (λ j. live (first NODE_LEGACY_LET j)) refl i m.live) (strict_node i c v.0 m.inner))
-old_let_row (fault i c d) f us h v = absurd v
-
--- the expressions that do not begin with an operand
-abbrev pub is_led : SyntaxKind → Bool
-is_led NODE_UNARY_OP = true
-is_led NODE_IDENT = true
-is_led NODE_CUR_POS = true
-is_led NODE_ATTR_SET = true
-is_led NODE_LET_IN = true
-is_led NODE_LEGACY_LET = true
-is_led NODE_LAMBDA = true
-is_led kind = is_keyword kind
-
-loosest : (level : ℕ) → level ≤ 0 → level ≡ 0
-loosest level h = omega (arith, h)
-
-keyword_row : (k : SyntaxKind) (c f : Sketch) (level : ℕ) (us : List Token) → is_keyword k ≡ true → start k ≡ Start k → level ≡ 0 → is_strict (Start k) (forget c) ≡ true → AreUntold c → IsBegun level (branch k c f) (tokens_in c ++ us)
-keyword_row k c f level us e s l h v = subst (λ z. IsBegun z (branch k c f) (tokens_in c ++ us)) (sym l) (told_row k c f 0 us e (λ i text x y r. tells_any text x y k i e r) s h v)
-
-telling_row : (k : SyntaxKind) (c f : Sketch) (level : ℕ) (us : List Token) → is_telling k ≡ true → is_keyword k ≡ true → start k ≡ Start k → is_strict (Start k) (forget c) ≡ true → AreUntold c → IsBegun level (branch k c f) (tokens_in c ++ us)
-telling_row k c f level us e o s h v = told_row k c f level us o (λ i text x y r. tells level text x y k i e r) s h v
-
--- they begin as their items say
-pub led_begun : (k : SyntaxKind) (c f : Sketch) (level : ℕ) (us : List Token) → is_led k ≡ true → stands_at level k (forget c) ≡ true → is_strict (start k) (forget c) ≡ true → AreUntold c → loose 16 (head_kind us) ≡ true
-    → IsBegun level (branch k c f) (tokens_in c ++ us)
-led_begun NODE_UNARY_OP c f level us e s h v n = prefix_row c f level us s h v
-led_begun NODE_IDENT c f level us e s h v n = name_row c f level us (standing level NODE_IDENT (forget c) s).named h v n
-led_begun NODE_CUR_POS c f level us e s h v n = position_row c f level us (standing level NODE_CUR_POS (forget c) s).named h v n
-led_begun NODE_ATTR_SET c f level us e s h v n = set_row c f level us h v n
-led_begun NODE_LET_IN c f level us e s h v n = subst (λ z. IsBegun z (branch NODE_LET_IN c f) (tokens_in c ++ us)) (sym (loosest level (standing level NODE_LET_IN (forget c) s).low)) (let_row c f us h v)
-led_begun NODE_LEGACY_LET c f level us e s h v n = subst (λ z. IsBegun z (branch NODE_LEGACY_LET c f) (tokens_in c ++ us)) (sym (loosest level (standing level NODE_LEGACY_LET (forget c) s).low)) (old_let_row c f us h v)
-led_begun NODE_LAMBDA c f level us e s h v n = subst (λ z. IsBegun z (branch NODE_LAMBDA c f) (tokens_in c ++ us)) (sym (loosest level (standing level NODE_LAMBDA (forget c) s).low)) (lambda_row c f us h v)
-led_begun NODE_WITH c f level us e s h v n = keyword_row NODE_WITH c f level us refl refl (loosest level (standing level NODE_WITH (forget c) s).low) h v
-led_begun NODE_ASSERT c f level us e s h v n = keyword_row NODE_ASSERT c f level us refl refl (loosest level (standing level NODE_ASSERT (forget c) s).low) h v
-led_begun NODE_IF_ELSE c f level us e s h v n = keyword_row NODE_IF_ELSE c f level us refl refl (loosest level (standing level NODE_IF_ELSE (forget c) s).low) h v
-led_begun NODE_PAREN c f level us e s h v n = telling_row NODE_PAREN c f level us refl refl refl h v
-led_begun NODE_LIST c f level us e s h v n = telling_row NODE_LIST c f level us refl refl refl h v
-led_begun NODE_STRING c f level us e s h v n = telling_row NODE_STRING c f level us refl refl refl h v
-led_begun NODE_PATH_ABS c f level us e s h v n = telling_row NODE_PATH_ABS c f level us refl refl refl h v
-led_begun NODE_PATH_REL c f level us e s h v n = telling_row NODE_PATH_REL c f level us refl refl refl h v
-led_begun NODE_PATH_HOME c f level us e s h v n = telling_row NODE_PATH_HOME c f level us refl refl refl h v
-led_begun NODE_PATH_SEARCH c f level us e s h v n = telling_row NODE_PATH_SEARCH c f level us refl refl refl h v
-led_begun NODE_LITERAL c f level us e s h v n = telling_row NODE_LITERAL c f level us refl refl refl h v
-led_begun _ c f level us e s h v n = absurd (true_is_not_false (sym e))
+-- an expression that begins with no operand begins as its items say
+pub led_begun : (k : SyntaxKind) (c f : Sketch) (level : ℕ) (us : List Token) → is_wrapper k ≡ false → stands_at level k (forget c) ≡ true → is_strict (start k) (forget c) ≡ true → AreUntold c
+    → loose 16 (head_kind us) ≡ true → IsBegun level (branch k c f) (tokens_in c ++ us)
+led_begun k blank f level us w s h v n = absurd (true_is_not_false (sym h ∙ no_kind (λ j. whole (start j)) refl k))
+led_begun k (token i t d) f level us w s h v n = leaf_tells k i t d level us w s h v n ∙ sym (leaf_first k i t d f w)
+led_begun k (branch i c d) f level us w s h v n =
+    let m : Parts (start k) i (forget c) (forget d) = parts (start k) i (forget c) (forget d) h in
+    by (lambda_alone k i (standing level k (forget (branch i c d)) s).expression w (strict_node i c v.0 m.inner) m.live)
+  where
+    by : k ≡ NODE_LAMBDA → IsBegun level (branch k (branch i c d) f) (tokens_in (branch i c d) ++ us)
+    by e =
+        subst (λ z. IsBegun level (branch z (branch i c d) f) (tokens_in (branch i c d) ++ us)) (sym e)
+        (lambda_begun (branch i c d) f level us (subst (λ z. stands_at level z (forget (branch i c d)) ≡ true) e s) (subst (λ z. is_strict (start z) (forget (branch i c d)) ≡ true) e h) v)
+led_begun k (fault i c d) f level us w s h v n = absurd v

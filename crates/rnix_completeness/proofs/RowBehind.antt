@@ -5,41 +5,160 @@ use Rattle.std.specs.Cmp.Derive.{both_true}
 use Rattle.std.specs.Prelude.{◌&&◌, if◌then◌else◌}
 use Rattle.rnix_kinds.proofs.AllKinds.{implied}
 use Rattle.rnix_kinds.specs.declared.kinds.SyntaxKind.{SyntaxKind}
-use Rattle.rnix_kinds.specs.declared.kinds.SyntaxKind.TheVariants.{TOKEN_ASSIGN, TOKEN_COLON, TOKEN_COMMA, TOKEN_DOT, TOKEN_ELLIPSIS, TOKEN_OR, TOKEN_QUESTION, TOKEN_R_BRACE, NODE_APPLY, NODE_ATTRPATH, NODE_ATTRPATH_VALUE, NODE_BIN_OP, NODE_DYNAMIC, NODE_HAS_ATTR, NODE_IDENT, NODE_IDENT_PARAM, NODE_INHERIT, NODE_INHERIT_FROM, NODE_INTERPOL, NODE_LAMBDA, NODE_PATTERN, NODE_PAT_BIND, NODE_PAT_ENTRY, NODE_SELECT, NODE_STRING}
+use Rattle.rnix_kinds.specs.declared.kinds.SyntaxKind.TheVariants.{TOKEN_OR, NODE_APPLY, NODE_BIN_OP, NODE_HAS_ATTR, NODE_IDENT, NODE_PATH_ABS, NODE_PATH_HOME, NODE_PATH_REL, NODE_PAT_BIND, NODE_SELECT, NODE_UNARY_OP}
 use Rattle.rnix_kinds.specs.SyntaxKind.{is_fn_arg}
+use Rattle.rnix_tree.specs.Forest.{Forest}
 use Rattle.rnix_grammar.specs.declared.place.Place.{Place}
 use Rattle.rnix_grammar.specs.declared.place.Place.TheVariants as p
 use Rattle.rnix_grammar.specs.declared.slot.Slot.{Slot}
 use Rattle.rnix_grammar.specs.declared.slot.Slot.TheVariants as s
 use Rattle.rnix_grammar.specs.declared.until.Closer.{Closer}
+use Rattle.rnix_grammar.specs.declared.until.Closer.TheVariants as c
+use Rattle.rnix_grammar.specs.Corners.{node_count}
 use Rattle.rnix_grammar.specs.Levels.{left_of}
-use Rattle.rnix_grammar.specs.Slots.{slot_at}
-use Rattle.rnix_grammar.specs.Tables.{closes, is_wanted}
+use Rattle.rnix_grammar.specs.Operands.{level_at}
+use Rattle.rnix_grammar.specs.Slots.{slot_at, level_in}
+use Rattle.rnix_grammar.specs.Tables.{closes}
 use Rattle.rnix_grammar.specs.Sketch.{Token, Sketch, blank, token, branch, fault, one_branch, tokens_in, head_kind, forget}
 use Rattle.rnix_grammar.specs.TokenKinds.{is_or}
 use Rattle.rnix_grammar.specs.TreeLevels.{is_or_row, is_or_leaf}
-use Rattle.rnix_grammar.specs.Rows.{Spot, Start, BeforeOperator, BeforeDot, BeforeQuestion, BeforeArgument, At, first, go, go_formals, go_slot, is_entry, is_expression, is_atom, is_infix, is_operand, is_questioned, is_simple, live, start, to, whole}
-use Rattle.rnix_grammar.specs.Strict.{is_grouped, is_strict, is_strict_atom, stands_at}
+use Rattle.rnix_grammar.specs.Rows.{Spot, Start, BeforeOperator, BeforeDot, BeforeQuestion, BeforeArgument, At, first, fits, go, go_slot, is_expression, is_atom, is_infix, is_operand, is_questioned, is_simple, live, start, to, whole}
+use Rattle.rnix_grammar.specs.Strict.{is_grouped, is_or_name, is_strict, is_strict_atom, may_stand, stands_at, stands_in}
 use Rattle.rnix_grammar.specs.Plain.{is_node, AreUntold}
-use Rattle.rnix_lemmas.proofs.Basics.{true_is_not_false, not_if}
+use Rattle.rnix_grammar.specs.Yield.{untold}
+use Rattle.rnix_lemmas.proofs.Basics.{true_is_not_false, not_if, some_same}
 use Rattle.rnix_lemmas.proofs.EveryKind.{tokens_alone, whenever_two, whenever_both}
-use Rattle.rnix_lemmas.proofs.NodeKinds.{not_both}
+use Rattle.rnix_lemmas.proofs.LevelLemmas.{at_most_true}
+use Rattle.rnix_lemmas.proofs.NodeKinds.{not_both, fits_expression}
 use Rattle.rnix_lemmas.proofs.OpeningRows.{live_to, to_live}
-use Rattle.rnix_lemmas.proofs.PlainTables.{loose, is_bound, is_no_at, is_no_dot, high_in}
+use Rattle.rnix_lemmas.proofs.PlaceTests.{closer_leaf}
+use Rattle.rnix_lemmas.proofs.PlainTables.{loose, below, is_bound, high_in}
 use Rattle.rnix_lemmas.proofs.StrictParts.{Parts, parts, Standing, standing, atom_level}
-use Rattle.rnix_completeness.proofs.PlainBegins.{first_argument}
-use Rattle.rnix_completeness.proofs.PlainFollows.{loose_one, loose_more, follows, follows_at}
-use Rattle.rnix_completeness.proofs.PlainNames.{strict_node, IsName, only_name, unnamed}
-use Rattle.rnix_completeness.proofs.PlainFirsts.{Begins}
-use Rattle.rnix_lemmas.proofs.PlaceTests.{closer_leaf, wanted_leaf}
-use Rattle.rnix_completeness.proofs.PlainLefts.{left_high}
-use Rattle.rnix_completeness.proofs.PlainLevels.{tight_high}
-use Rattle.rnix_completeness.proofs.PlainSeries.{argument_loose}
-use Rattle.rnix_completeness.proofs.RowAsks.{asks, heed}
-use Rattle.rnix_completeness.proofs.RowOwns.{simple_node, simple_expression}
-use Rattle.rnix_completeness.proofs.RowGroups.{calls_with, or_same, calls_same}
+use Rattle.rnix_completeness.proofs.FirstTokens.{Begins, begins_on, leaf_passes, next_at, next_passes, told_passes}
+use Rattle.rnix_completeness.proofs.LevelBounds.{below_high, bounds, loose_one, loose_more}
+use Rattle.rnix_completeness.proofs.PlainBegins.{first_argument, is_wrapper}
+use Rattle.rnix_completeness.proofs.PlainNames.{past_blank, strict_node, IsName, only_name, unnamed}
+use Rattle.rnix_completeness.proofs.RowAsks.{Ask, any, no_at, loosest, ask, ask_of, heed, heeds, holds, is_told, loose_no_interpol, weaker, weaker_so, in_dynamic}
 use Rattle.rnix_completeness.proofs.RowFits.{Fit}
-use Rattle.rnix_completeness.proofs.RowWanted.{argument_stands, calm_start, slot_wanted, wanted, wanted_calm}
+use Rattle.rnix_completeness.proofs.RowGroups.{calls_with, or_same, calls_same}
+use Rattle.rnix_completeness.proofs.RowOwns.{is_leaf, simple_node, simple_expression}
+
+-- a token that begins an argument is looser than `.`
+argument_loose : (i : SyntaxKind) → is_fn_arg i ≡ true → loose 15 (Some i) ≡ true
+argument_loose = implied is_fn_arg (λ k. loose 15 (Some k)) refl
+
+-- what is asked behind a node of a row: by the level of an operand, or by its kind
+abbrev ask_behind : Option ℕ → SyntaxKind → Ask
+ask_behind (Some level) k = loosest (below level)
+ask_behind None k = if is_told (Start k) then loosest 0 else ask_of k blank
+
+-- what may be next at a spot is as it is asked, and where the row may end so is what is asked behind the row
+abbrev is_calm : Ask → Ask → Spot → Bool
+is_calm a b r = next_passes (λ i. heeds b (Some i)) r && (if whole r then weaker a b else true)
+
+behind : (a b : Ask) (r : Spot) (f : Sketch) (us : List Token) → is_calm a b r ≡ true → is_strict r (forget f) ≡ true → AreUntold f → heeds a (head_kind us) ≡ true
+    → heeds b (head_kind (tokens_in f ++ us)) ≡ true
+behind a b r f us e h v w =
+    let m = and_parts (next_passes (λ i. heeds b (Some i)) r) (if whole r then weaker a b else true) e in
+    next_at (λ o. heeds b o) r m.0 f us h v (λ x. weaker_so a b (head_kind us) (holds (whole r) (weaker a b) m.1 x) w)
+
+-- operands stand here in any number
+abbrev is_series : Slot → Bool
+is_series (s.Series level closer) = true
+is_series slot = false
+
+calm_place : (x : Place) (k : SyntaxKind) → is_series (slot_at x) ≡ false → is_node k ≡ true → live (go (At x) k) ≡ true
+    → is_calm (ask x) (ask_behind (level_in (slot_at x)) k) (go (At x) k) ≡ true
+calm_place (p.Right level) k e n l =
+    ap (λ r. is_calm (loosest (below level)) (loosest (below level)) r) (to_live (fits level k) (At (p.Operated level)) l) ∙ at_most_true (below level) (below level) (omega arith)
+calm_place (p.PatternEnd true) k e n l = absurd (true_is_not_false (sym l))
+calm_place (p.PatternEnd false) k e n l =
+    whenever_both is_node (λ i. live (go (At (p.PatternEnd false)) i)) (λ i. is_calm no_at (ask_behind None i) (go (At (p.PatternEnd false)) i)) refl k n l
+calm_place p.ListInside k e n l = absurd (true_is_not_false e)
+calm_place p.DynamicInside k e n l = absurd (true_is_not_false e)
+calm_place x k e n l = whenever_both is_node (λ i. live (go (At x) i)) (λ i. is_calm (ask x) (ask_behind (level_in (slot_at x)) i) (go (At x) i)) refl k n l
+
+calm_first : (j k : SyntaxKind) → is_wrapper j ≡ false → is_node k ≡ true → live (first j k) ≡ true → is_calm any (ask_behind None k) (first j k) ≡ true
+calm_first j k e n l =
+    whenever_two (λ i u. (if is_wrapper i then false else true) && (is_node u && live (first i u))) (λ i u. is_calm any (ask_behind None u) (first i u)) refl j k
+    (both_true (ap (λ w. if w then false else true) e) (both_true n l))
+
+-- what is asked behind a kind is asked behind its row
+start_heed : (k : SyntaxKind) (c : Sketch) (next : Option SyntaxKind) → heeds (ask_behind None k) next ≡ true → heed (start k) c next ≡ true
+start_heed NODE_BIN_OP c next h = loose_more 0 _ next (omega arith) h
+start_heed NODE_UNARY_OP c next h = loose_more 0 _ next (omega arith) h
+start_heed _ c next h = h
+
+-- what may follow an expression may follow its row
+calm_start : (k : SyntaxKind) (c : Sketch) (next : Option SyntaxKind) → is_expression k ≡ true → loose (high_in k c) next ≡ true → heed (start k) c next ≡ true
+calm_start NODE_BIN_OP c next e h = h
+calm_start NODE_PATH_ABS c next e h = loose_no_interpol 16 next h
+calm_start NODE_PATH_REL c next e h = loose_no_interpol 16 next h
+calm_start NODE_PATH_HOME c next e h = loose_no_interpol 16 next h
+calm_start _ c next e h = first_of (assumption, cc)
+
+-- an expression may stand where its level may
+may_operand : (j : SyntaxKind) (x : Place) (c : Forest) → is_expression j ≡ true → may_stand (At x) j c ≡ stands_in (level_in (slot_at x)) j c
+may_operand NODE_PAT_BIND x c h = absurd (cc)
+may_operand _ x c h = refl
+
+-- behind an item of a series its row goes on at the same place, and the item is an expression
+series_on : (level : ℕ) (closer : Closer) (x : Place) (k : SyntaxKind) → is_node k ≡ true → live (if closes closer k then At p.Past else to (fits level k) (At x)) ≡ true
+    → ((if closes closer k then At p.Past else to (fits level k) (At x)) ≡ At x) × (is_expression k ≡ true)
+series_on level closer x k n l = by (closes closer k) refl l
+  where
+    by : (w : Bool) → closes closer k ≡ w → live (if w then At p.Past else to (fits level k) (At x)) ≡ true → ((if w then At p.Past else to (fits level k) (At x)) ≡ At x) × (is_expression k ≡ true)
+    by true e l = absurd (not_both k (closer_leaf closer k e) n)
+    by false e l = (to_live (fits level k) (At x) l, fits_expression level k (live_to (fits level k) (At x) l))
+
+level_expression : (slot : Slot) (x : Place) (k : SyntaxKind) (level : ℕ) → is_node k ≡ true → live (go_slot slot x k) ≡ true → level_in slot ≡ Some level → is_expression k ≡ true
+level_expression (s.Operand low counted z) x k level n l e = fits_expression low k (live_to (fits low k) (At z) l)
+level_expression (s.Series low closer) x k level n l e = (series_on low closer x k n l).1
+level_expression _ x k level n l e = absurd (no_level e)
+  where
+    no_level : {n : ℕ} → ◌≡◌ {A = Option ℕ} None (Some n) → ⊥
+    no_level e = cc
+
+leaf_loose : (h : ℕ) (x : Place) (i : SyntaxKind) (t : Token) → (is_leaf i ≡ true → live (go (At x) i) ≡ true → leaf_passes (λ k. loose h (Some k)) i ≡ true) → is_node i ≡ false → t.kind ≡ untold i t.text
+    → live (go (At x) i) ≡ true → loose h (Some t.kind) ≡ true
+leaf_loose h x i t r n e l = ap (λ k. loose h (Some k)) e ∙ told_passes (λ k. loose h (Some k)) i t.text (r (ap (λ w. if w then false else true) n) l)
+
+list_next : (f : Sketch) (us : List Token) → is_strict (At p.ListInside) (forget f) ≡ true → AreUntold f → loose 15 (head_kind (tokens_in f ++ us)) ≡ true
+list_next blank us h v = absurd (true_is_not_false (sym h))
+list_next (token i t f) us h v =
+    leaf_loose 15 p.ListInside i t (whenever_both is_leaf (λ u. live (go (At p.ListInside) u)) (λ u. leaf_passes (λ k. loose 15 (Some k)) u) refl i) v.0 v.1
+    (and_parts (live (go (At p.ListInside) i)) (is_strict (go (At p.ListInside) i) (forget f)) h).0
+list_next (branch i b f) us h v =
+    let m : Parts (At p.ListInside) i (forget b) (forget f) = parts (At p.ListInside) i (forget b) (forget f) h in
+    let e = (series_on 16 c.RBrack p.ListInside i (strict_node i b v.0 m.inner) m.live).1 in
+    let n : Begins is_fn_arg (branch i b f) = begins_on is_fn_arg i b f (first_argument b i (sym (may_operand i p.ListInside (forget b) e) ∙ m.may) m.grouped m.inner v.0) in
+    ap (λ o. loose 15 o) (n.is us) ∙ argument_loose n.kind n.passes
+list_next (fault n b f) us h v = absurd v
+
+dynamic_next : (f : Sketch) (us : List Token) → is_strict (At p.DynamicInside) (forget f) ≡ true → AreUntold f → node_count (forget f) ≤ 0 → loose 0 (head_kind (tokens_in f ++ us)) ≡ true
+dynamic_next blank us h v l = absurd (true_is_not_false (sym h))
+dynamic_next (token i t f) us h v l =
+    leaf_loose 0 p.DynamicInside i t (whenever_both is_leaf (λ u. live (go (At p.DynamicInside) u)) (λ u. leaf_passes (λ k. loose 0 (Some k)) u) refl i) v.0 v.1
+    (and_parts (live (go (At p.DynamicInside) i)) (is_strict (go (At p.DynamicInside) i) (forget f)) h).0
+dynamic_next (branch i b f) us h v l = absurd (omega (arith, l))
+dynamic_next (fault n b f) us h v l = absurd v
+
+-- what may follow an item of a series stands behind it
+series_next : (x : Place) (k : SyntaxKind) (level : ℕ) (f : Sketch) (us : List Token) → is_series (slot_at x) ≡ true → level_in (slot_at x) ≡ Some level → is_node k ≡ true → live (go (At x) k) ≡ true
+    → is_strict (go (At x) k) (forget f) ≡ true → AreUntold f → (in_dynamic (At x) ≡ true → node_count (forget f) ≤ 0) → loose (below level) (head_kind (tokens_in f ++ us)) ≡ true
+series_next p.ListInside k level f us s e n l h v o =
+    subst (λ m. loose (below m) (head_kind (tokens_in f ++ us)) ≡ true) (some_same 16 level e)
+    (list_next f us (subst (λ q. is_strict q (forget f) ≡ true) (series_on 16 c.RBrack p.ListInside k n l).0 h) v)
+series_next p.DynamicInside k level f us s e n l h v o =
+    subst (λ m. loose (below m) (head_kind (tokens_in f ++ us)) ≡ true) (some_same 0 level e)
+    (dynamic_next f us (subst (λ q. is_strict q (forget f) ≡ true) (series_on 0 c.InterpolEnd p.DynamicInside k n l).0 h) v (o refl))
+series_next _ k level f us s e n l h v o = absurd (true_is_not_false (sym s))
+
+-- an argument stands at the tightest level, but for the name `or`
+argument_stands : (j : SyntaxKind) (e : Forest) → is_simple j ≡ true → may_stand BeforeArgument j e ≡ true → is_or_name j e ≡ false → stands_at 16 j e ≡ true
+argument_stands NODE_PAT_BIND e s m o = absurd (true_is_not_false (sym s))
+argument_stands NODE_IDENT e s m o = subst (λ (z : Bool). (if z then true else stands_at 16 NODE_IDENT e) ≡ true) o m
+argument_stands j e s m o = m
 
 -- behind the first operand of an operator
 operator_next : (k : SyntaxKind) (c f : Sketch) (us : List Token) → AreUntold c → is_strict (start k) (forget c) ≡ true → is_grouped NODE_BIN_OP (forget (branch k c f)) ≡ true → is_strict BeforeOperator (forget f) ≡ true → AreUntold f
@@ -49,7 +168,7 @@ operator_next k c (token i t f) us u h s r v =
     let l = (and_parts (live (go BeforeOperator i)) (is_strict (go BeforeOperator i) (forget f)) r).0 in
     let o : is_infix i ≡ true = live_to (is_infix i) _ l in
     ap (λ z. loose (high_in k c) (Some z)) (unnamed BeforeOperator i t refl l v.1)
-    ∙ loose_one (high_in k c) i (not_if (is_bound i) (implied is_infix (λ z. if is_bound z then false else true) refl i o)) (left_high i o k c u h (standing (left_of i) k (forget c) s).low)
+    ∙ loose_one (high_in k c) i (not_if (is_bound i) (implied is_infix (λ z. if is_bound z then false else true) refl i o)) ((bounds k c u h).left i o (standing (left_of i) k (forget c) s).low)
 operator_next k c (branch i d f) us u h s r v =
     let m : Parts BeforeOperator i (forget d) (forget f) = parts BeforeOperator i (forget d) (forget f) r in absurd (not_both i (tokens_alone (λ j. live (go BeforeOperator j)) refl i m.live) (strict_node i d v.0 m.inner))
 operator_next k c (fault i d f) us u h s r v = absurd v
@@ -67,7 +186,7 @@ argument_begins k c f h v = by (is_or_row (branch k c f)) refl
 
     by : (w : Bool) → is_or_row (branch k c f) ≡ w → Begins (calls_with w) c
     by true o = or_begins k m.inner o
-    by false o = first_argument k c (argument_stands k (forget c) (live_to (is_simple k) (At p.Past) m.live) m.may (or_same k c f v m.inner ∙ o)) m.grouped m.inner v
+    by false o = first_argument c k (argument_stands k (forget c) (live_to (is_simple k) (At p.Past) m.live) m.may (or_same k c f v m.inner ∙ o)) m.grouped m.inner v
 
 or_loose : (h : ℕ) (i : SyntaxKind) → 16 ≤ h → is_or i ≡ true → loose h (Some i) ≡ true
 or_loose h TOKEN_OR l b = loose_one h TOKEN_OR refl l
@@ -80,7 +199,7 @@ atom_high : (k : SyntaxKind) (c : Sketch) → is_strict_atom k (forget c) ≡ tr
 atom_high k c s = omega (arith, (atom_level k (forget c) s).1 c)
 
 call_high : (k : SyntaxKind) (c : Sketch) → AreUntold c → is_strict (start k) (forget c) ≡ true → stands_at 15 k (forget c) ≡ true → 15 ≤ high_in k c
-call_high k c v h s = tight_high 15 k c (omega arith) (λ e. cc) (omega arith) v h (standing 15 k (forget c) s).low
+call_high k c v h s = (bounds k c v h).call (standing 15 k (forget c) s).low
 
 call_loose : (w : Bool) (k : SyntaxKind) (c : Sketch) (i : SyntaxKind) → (w ≡ true → 16 ≤ high_in k c) → (w ≡ false → 15 ≤ high_in k c) → calls_with w i ≡ true → loose (high_in k c) (Some i) ≡ true
 call_loose true k c i x y b = or_loose (high_in k c) i (x refl) b
@@ -100,68 +219,6 @@ call_next k c (branch i d f) us v h s r =
     chosen e = subst (λ z. (if z then is_strict_atom k (forget c) else stands_at 15 k (forget c)) ≡ true) (calls_same (branch k c (branch i d f)) v h ∙ e) s
 call_next k c (fault i d f) us v h s r = absurd v.1
 
-question_next : (h : ℕ) → 13 ≤ h → (i : SyntaxKind) → live (go BeforeQuestion i) ≡ true → (is_node i ≡ false) × (loose h (Some i) ≡ true)
-question_next h l TOKEN_QUESTION e = (refl, loose_one h TOKEN_QUESTION refl l)
-question_next h l _ e = absurd (true_is_not_false (sym e))
-
-dot_next : (h : ℕ) → 16 ≤ h → (i : SyntaxKind) → live (go BeforeDot i) ≡ true → (is_node i ≡ false) × (loose h (Some i) ≡ true)
-dot_next h l TOKEN_DOT e = (refl, loose_one h TOKEN_DOT refl l)
-dot_next h l _ e = absurd (true_is_not_false (sym e))
-
-colon_next : (i : SyntaxKind) → live (go (At p.LambdaColon) i) ≡ true → (is_node i ≡ false) × (is_no_at (Some i) ≡ true)
-colon_next TOKEN_COLON h = (refl, refl)
-colon_next _ h = absurd (true_is_not_false (sym h))
-
-comma_next : (bound : Bool) (i : SyntaxKind) → live (go (At (p.PatternAfter bound)) i) ≡ true → (is_node i ≡ false) × (loose 0 (Some i) ≡ true)
-comma_next bound TOKEN_COMMA h = (refl, refl)
-comma_next bound TOKEN_R_BRACE h = (refl, refl)
-comma_next bound _ h = absurd (true_is_not_false (sym h))
-
--- the nodes whose rows ask for nothing
-abbrev is_calm : SyntaxKind → Bool
-is_calm NODE_INTERPOL = true
-is_calm NODE_INHERIT = true
-is_calm NODE_ATTRPATH_VALUE = true
-is_calm NODE_INHERIT_FROM = true
-is_calm NODE_STRING = true
-is_calm NODE_DYNAMIC = true
-is_calm NODE_IDENT = true
-is_calm NODE_PAT_BIND = true
-is_calm NODE_IDENT_PARAM = true
-is_calm kind = false
-
-calm_heed : (k : SyntaxKind) (c : Sketch) (next : Option SyntaxKind) → is_calm k ≡ true → heed (start k) c next ≡ true
-calm_heed NODE_INTERPOL c next h = refl
-calm_heed NODE_INHERIT c next h = refl
-calm_heed NODE_ATTRPATH_VALUE c next h = refl
-calm_heed NODE_INHERIT_FROM c next h = refl
-calm_heed NODE_STRING c next h = refl
-calm_heed NODE_DYNAMIC c next h = refl
-calm_heed NODE_IDENT c next h = refl
-calm_heed NODE_PAT_BIND c next h = refl
-calm_heed NODE_IDENT_PARAM c next h = refl
-calm_heed _ c next h = absurd (true_is_not_false (sym h))
-
--- the kinds whose rows begin with a node that asks for something
-abbrev is_closed : SyntaxKind → Bool
-is_closed NODE_BIN_OP = false
-is_closed NODE_HAS_ATTR = false
-is_closed NODE_SELECT = false
-is_closed NODE_APPLY = false
-is_closed NODE_LAMBDA = false
-is_closed kind = true
-
-closed_calm : (j k : SyntaxKind) → is_closed j ≡ true → is_node k ≡ true → live (first j k) ≡ true → is_calm k ≡ true
-closed_calm j k o n l = whenever_two (λ i u. is_closed i && (is_node u && live (first i u))) (λ i u. is_calm u) refl j k (both_true o (both_true n l))
-
--- the kinds whose rows begin with an operand
-abbrev pub is_wrapper : SyntaxKind → Bool
-is_wrapper NODE_BIN_OP = true
-is_wrapper NODE_HAS_ATTR = true
-is_wrapper NODE_SELECT = true
-is_wrapper NODE_APPLY = true
-is_wrapper kind = false
-
 -- what stands behind such an operand
 pub wrapped_next : (j k : SyntaxKind) (c f : Sketch) (us : List Token) → is_wrapper j ≡ true → AreUntold (branch k c f) → is_grouped j (forget (branch k c f)) ≡ true → is_strict (Start j) (forget (branch k c f)) ≡ true
     → (is_expression k ≡ true) × (loose (high_in k c) (head_kind (tokens_in f ++ us)) ≡ true)
@@ -172,107 +229,97 @@ wrapped_next NODE_HAS_ATTR k c f us o v s h =
     let m = parts (start NODE_HAS_ATTR) k (forget c) (forget f) h in
     let x : Standing 13 k (forget c) = standing 13 k (forget c) s in (
       x.expression,
-      follows_at BeforeQuestion f us (λ o. loose (high_in k c) o ≡ true) refl (subst (λ z. is_strict z (forget f) ≡ true) (to_live (is_questioned k) BeforeQuestion m.live) m.more) v.1 refl
-          (question_next (high_in k c) (tight_high 13 k c (omega arith) (λ e. cc) (omega arith) v.0 m.inner x.low)),
+      loose_more 13 (high_in k c) (head_kind (tokens_in f ++ us)) ((bounds k c v.0 m.inner).question x.low)
+          (next_at (λ o. loose 13 o) BeforeQuestion refl f us (subst (λ z. is_strict z (forget f) ≡ true) (to_live (is_questioned k) BeforeQuestion m.live) m.more) v.1 (λ e. absurd (true_is_not_false (sym e)))),
     )
 wrapped_next NODE_SELECT k c f us o v s h =
     let m = parts (start NODE_SELECT) k (forget c) (forget f) h in
-    let x = atom_level k (forget c) s in
-    (x.2, follows_at BeforeDot f us (λ o. loose (high_in k c) o ≡ true) refl (subst (λ z. is_strict z (forget f) ≡ true) (to_live (is_atom k) BeforeDot m.live) m.more) v.1 refl (dot_next (high_in k c) (omega (arith, x.1 c))))
+    let x = atom_level k (forget c) s in (
+      x.2,
+      loose_more 16 (high_in k c) (head_kind (tokens_in f ++ us)) (omega (arith, x.1 c))
+          (next_at (λ o. loose 16 o) BeforeDot refl f us (subst (λ z. is_strict z (forget f) ≡ true) (to_live (is_atom k) BeforeDot m.live) m.more) v.1 (λ e. absurd (true_is_not_false (sym e)))),
+    )
 wrapped_next NODE_APPLY k c f us o v s h =
     let m = parts (start NODE_APPLY) k (forget c) (forget f) h in
     (simple_expression k (live_to (is_simple k) BeforeArgument m.live), call_next k c f us v h s (subst (λ z. is_strict z (forget f) ≡ true) (to_live (is_simple k) BeforeArgument m.live) m.more))
 wrapped_next _ k c f us o v s h = absurd (true_is_not_false (sym o))
 
-wrapped_calm : (j k : SyntaxKind) (c f : Sketch) (us : List Token) → is_wrapper j ≡ true → AreUntold (branch k c f) → is_grouped j (forget (branch k c f)) ≡ true → is_strict (Start j) (forget (branch k c f)) ≡ true
-    → heed (start k) c (head_kind (tokens_in f ++ us)) ≡ true
-wrapped_calm j k c f us o v s h = let r = wrapped_next j k c f us o v s h in calm_start k c (head_kind (tokens_in f ++ us)) r.0 r.1
+-- what an operand of a level is before some items
+pub record Wanted (level : ℕ) (k : SyntaxKind) (c : Sketch) (o : Option SyntaxKind) : Type 0 where
+  pub stands : stands_at level k (forget c) ≡ true
+  pub next : loose (below level) o ≡ true
 
--- what stands behind the first tree of a row may follow it
-first_calm : (j k : SyntaxKind) (c f : Sketch) (us : List Token) → AreUntold (branch k c f) → is_grouped j (forget (branch k c f)) ≡ true → is_strict (Start j) (forget (branch k c f)) ≡ true → is_node k ≡ true
-    → heed (start k) c (head_kind (tokens_in f ++ us)) ≡ true
-first_calm NODE_BIN_OP k c f us v s h n = wrapped_calm NODE_BIN_OP k c f us refl v s h
-first_calm NODE_HAS_ATTR k c f us v s h n = wrapped_calm NODE_HAS_ATTR k c f us refl v s h
-first_calm NODE_SELECT k c f us v s h n = wrapped_calm NODE_SELECT k c f us refl v s h
-first_calm NODE_APPLY k c f us v s h n = wrapped_calm NODE_APPLY k c f us refl v s h
-first_calm NODE_LAMBDA NODE_PATTERN c f us v s h n =
-    follows_at (At p.LambdaColon) f us (λ o. is_no_at o ≡ true) refl (parts (start NODE_LAMBDA) NODE_PATTERN (forget c) (forget f) h).more v.1 refl colon_next
-first_calm NODE_LAMBDA NODE_IDENT_PARAM c f us v s h n = refl
-first_calm NODE_LAMBDA _ c f us v s h n = absurd (true_is_not_false (sym h))
-first_calm j k c f us v s h n = calm_heed k c (head_kind (tokens_in f ++ us)) (closed_calm j k refl n (parts (Start j) k (forget c) (forget f) h).live)
-
-entries_calm : (closer : Closer) (x z : Place) (k : SyntaxKind) → is_node k ≡ true → live (if closes closer k then At z else to (is_entry k) (At x)) ≡ true → is_calm k ≡ true
-entries_calm closer x z k n l = by (closes closer k) refl l
+-- what an operand at a spot is
+pub wanted : {p : SyntaxKind} {q : Spot} {d n : ℕ} {g : Sketch} {us : List Token} (k : SyntaxKind) (c f : Sketch) → Fit p q d n g (branch k c f) us → is_node k ≡ true → live (go q k) ≡ true
+    → (level : ℕ) → level_at q (one_branch k c) ≡ Some level → Wanted level k c (head_kind (tokens_in f ++ us))
+wanted {q = At x} {us = us} k c f w v l level e = record {
+  stands = ap (λ (o : Option ℕ). stands_in o k (forget c)) (sym e) ∙ sym (may_operand k x (forget c) (level_expression (slot_at x) x k level v l e)) ∙ m.may;
+  next = by (is_series (slot_at x)) refl;
+}
   where
-    entry : (k : SyntaxKind) → is_entry k ≡ true → is_calm k ≡ true
-    entry = implied is_entry is_calm refl
+    m : Parts (At x) k (forget c) (forget f)
+    m = parts (At x) k (forget c) (forget f) w.strict
 
-    by : (w : Bool) → closes closer k ≡ w → live (if w then At z else to (is_entry k) (At x)) ≡ true → is_calm k ≡ true
-    by true e l = absurd (not_both k (closer_leaf closer k e) n)
-    by false e l = entry k (live_to (is_entry k) (At x) l)
+    by : (o : Bool) → is_series (slot_at x) ≡ o → loose (below level) (head_kind (tokens_in f ++ us)) ≡ true
+    by true s = series_next x k level f us s e v l m.more w.spelled.1 (λ r. omega (arith, w.lone r))
+    by false s =
+        subst (λ o. heeds (ask_behind o k) (head_kind (tokens_in f ++ us)) ≡ true) e
+        (behind (ask x) (ask_behind (level_in (slot_at x)) k) (go (At x) k) f us (calm_place x k s v l) m.more w.spelled.1 w.heeds)
+wanted {q = BeforeArgument} {us = us} k c f w v l level e = by (is_or_row (one_branch k c)) refl e
+  where
+    m : Parts BeforeArgument k (forget c) (forget f)
+    m = parts BeforeArgument k (forget c) (forget f) w.strict
 
--- no `.` follows the attribute path of a slot
-abbrev AttrsBehind : Place → Slot → Type 0
-AttrsBehind x (s.Attrpath y) = ((i : SyntaxKind) → live (go (At y) i) ≡ true → (is_node i ≡ false) × (is_no_dot (Some i) ≡ true)) × (whole (At y) ≡ true → (next : Option SyntaxKind) → asks x next ≡ true → is_no_dot next ≡ true)
-AttrsBehind x slot = Unit {0}
+    h : is_simple k ≡ true
+    h = live_to (is_simple k) (At p.Past) l
 
-loose_no_dot : (next : Option SyntaxKind) → loose 15 next ≡ true → is_no_dot next ≡ true
-loose_no_dot None h = refl
-loose_no_dot (Some TOKEN_DOT) h = absurd (true_is_not_false (sym h))
-loose_no_dot (Some _) h = refl
+    by : (o : Bool) → is_or_row (one_branch k c) ≡ o → (if o then None else Some 16) ≡ Some level → Wanted level k c (head_kind (tokens_in f ++ us))
+    by true o r = absurd (cc)
+    by false o r =
+        subst (λ i. Wanted i k c (head_kind (tokens_in f ++ us))) (some_same 16 level r)
+        (record {
+          stands = argument_stands k (forget c) h m.may (or_same k c blank w.spelled.0 m.inner ∙ o);
+          next = subst (λ z. loose 15 (head_kind (tokens_in z ++ us)) ≡ true) (sym (past_blank f (subst (λ z. is_strict z (forget f) ≡ true) (to_live (is_simple k) (At p.Past) l) m.more) w.spelled.1)) w.heeds;
+        })
+wanted k c f w v l level e = absurd (cc)
 
-assign_next : (i : SyntaxKind) → live (go (At p.ValueAssign) i) ≡ true → (is_node i ≡ false) × (is_no_dot (Some i) ≡ true)
-assign_next TOKEN_ASSIGN h = (refl, refl)
-assign_next _ h = absurd (true_is_not_false (sym h))
+-- what an operand is before may follow its row
+wanted_calm : {level : ℕ} {k : SyntaxKind} {c : Sketch} {next : Option SyntaxKind} → Wanted level k c next → AreUntold c → is_strict (start k) (forget c) ≡ true → heed (start k) c next ≡ true
+wanted_calm {level = level} {k = k} {c = c} {next = next} w v h =
+    calm_start k c next (standing level k (forget c) w.stands).expression (loose_more (below level) (high_in k c) next (below_high level k c v h w.stands) w.next)
 
-or_next : (i : SyntaxKind) → live (go (At p.SelectOr) i) ≡ true → (is_node i ≡ false) × (is_no_dot (Some i) ≡ true)
-or_next TOKEN_OR h = (refl, refl)
-or_next _ h = absurd (true_is_not_false (sym h))
-
-attrs_behind : (x : Place) → AttrsBehind x (slot_at x)
-attrs_behind p.ValuePath = (assign_next, λ w n h. absurd (true_is_not_false (sym w)))
-attrs_behind p.SelectPath = (or_next, λ w n h. loose_no_dot n h)
-attrs_behind p.HasPath = (λ i h. absurd (true_is_not_false (sym h)), λ w n h. loose_no_dot n (loose_more 13 15 n (omega arith) h))
-attrs_behind _ = tt
-
-formals_calm : {p : SyntaxKind} {x : Place} {d n : ℕ} {g : Sketch} {us : List Token} (bound : Bool) (k : SyntaxKind) (c f : Sketch) → Fit p (At x) d n g (branch k c f) us → is_node k ≡ true
-    → go (At x) k ≡ go_formals bound k → live (go_formals bound k) ≡ true → heed (start k) c (head_kind (tokens_in f ++ us)) ≡ true
-formals_calm {x = x} {us = us} bound NODE_PAT_ENTRY c f w n e l =
-    follows_at (At (p.PatternAfter bound)) f us (λ o. loose 0 o ≡ true) refl (subst (λ z. is_strict z (forget f) ≡ true) e (parts (At x) NODE_PAT_ENTRY (forget c) (forget f) w.strict).more) w.spelled.1 refl (comma_next bound)
-formals_calm bound TOKEN_R_BRACE c f w n e l = absurd (true_is_not_false (sym n))
-formals_calm bound TOKEN_ELLIPSIS c f w n e l = absurd (true_is_not_false (sym n))
-formals_calm bound _ c f w n e l = absurd (true_is_not_false (sym l))
-
-slot_calm : {p : SyntaxKind} {x : Place} {d n : ℕ} {g : Sketch} {us : List Token} (slot : Slot) (k : SyntaxKind) (c f : Sketch) → Fit p (At x) d n g (branch k c f) us → slot_at x ≡ slot → is_node k ≡ true
-    → live (go_slot slot x k) ≡ true → heed (start k) c (head_kind (tokens_in f ++ us)) ≡ true
-slot_calm (s.Token until behind) k c f w e v l = absurd (not_both k (wanted_leaf until k (live_to (is_wanted until k) (At behind) l)) v)
-slot_calm (s.Operand level counted behind) k c f w e v l = wanted_calm (slot_wanted (s.Operand level counted behind) k c f w e v l level refl) w.spelled.0
-slot_calm (s.Series level closer) k c f w e v l = wanted_calm (slot_wanted (s.Series level closer) k c f w e v l level refl) w.spelled.0
-slot_calm {x = x} {us = us} (s.Entries closer behind) k c f w e v l = calm_heed k c (head_kind (tokens_in f ++ us)) (entries_calm closer x behind k v l)
-slot_calm {x = x} {us = us} (s.Attrpath behind) NODE_ATTRPATH c f w e v l =
-    let calm : AttrsBehind x (s.Attrpath behind) = subst (λ (r : Slot). AttrsBehind x r) e (attrs_behind x) in
-    follows behind f us (λ o. is_no_dot o ≡ true)
-    (subst (λ (q : Spot). is_strict q (forget f) ≡ true) (ap (λ q. go_slot q x NODE_ATTRPATH) e) (parts (At x) NODE_ATTRPATH (forget c) (forget f) w.strict).more) w.spelled.1
-    calm.0 (λ q. calm.1 q (head_kind us) w.heeds)
-slot_calm (s.Attrpath behind) _ c f w e v l = absurd (true_is_not_false (sym l))
-slot_calm {x = x} (s.Braces bound) k c f w e v l = formals_calm bound k c f w v (ap (λ r. go_slot r x k) e) l
-slot_calm {x = x} (s.Formals bound) k c f w e v l = formals_calm bound k c f w v (ap (λ r. go_slot r x k) e) l
-slot_calm (s.Bind true) k c f w e v l = absurd (true_is_not_false (sym l))
-slot_calm {x = x} {us = us} (s.Bind false) k c f w e v l = calm_heed k c (head_kind (tokens_in f ++ us)) (whenever_both is_node (λ i. live (go_slot (s.Bind false) x i)) is_calm refl k v l)
-slot_calm {x = x} {us = us} slot k c f w e v l = calm_heed k c (head_kind (tokens_in f ++ us)) (whenever_both is_node (λ i. live (go_slot slot x i)) is_calm refl k v l)
+no_series : (slot : Slot) → level_in slot ≡ None → is_series slot ≡ false
+no_series (s.Series level closer) e = absurd (cc)
+no_series _ e = refl
 
 -- what stands behind a node may follow it
 pub calm : {p : SyntaxKind} {q : Spot} {d n : ℕ} {g : Sketch} {us : List Token} (k : SyntaxKind) (c f : Sketch) → Fit p q d n g (branch k c f) us → is_node k ≡ true → live (go q k) ≡ true
     → heed (start k) c (head_kind (tokens_in f ++ us)) ≡ true
-calm {q = At x} k c f w v l = slot_calm (slot_at x) k c f w refl v l
+calm {q = At x} {us = us} k c f w v l = by (level_in (slot_at x)) refl
+  where
+    m : Parts (At x) k (forget c) (forget f)
+    m = parts (At x) k (forget c) (forget f) w.strict
+
+    by : (o : Option ℕ) → level_in (slot_at x) ≡ o → heed (start k) c (head_kind (tokens_in f ++ us)) ≡ true
+    by (Some level) e = wanted_calm (wanted k c f w v l level e) w.spelled.0 m.inner
+    by None e =
+        start_heed k c (head_kind (tokens_in f ++ us))
+        (subst (λ o. heeds (ask_behind o k) (head_kind (tokens_in f ++ us)) ≡ true) e
+        (behind (ask x) (ask_behind (level_in (slot_at x)) k) (go (At x) k) f us (calm_place x k (no_series (slot_at x) e) v l) m.more w.spelled.1 w.heeds))
 calm {q = BeforeArgument} {us = us} k c f w v l = by (is_or_row (one_branch k c)) refl
   where
+    or_calm : (k : SyntaxKind) → is_or_row (one_branch k c) ≡ true → heed (start k) c (head_kind (tokens_in f ++ us)) ≡ true
+    or_calm NODE_IDENT o = refl
+    or_calm _ o = absurd (true_is_not_false (sym o))
+
     by : (o : Bool) → is_or_row (one_branch k c) ≡ o → heed (start k) c (head_kind (tokens_in f ++ us)) ≡ true
-    by true o = calm_heed k c (head_kind (tokens_in f ++ us)) (or_calm k o)
-      where
-        or_calm : (k : SyntaxKind) → is_or_row (one_branch k c) ≡ true → is_calm k ≡ true
-        or_calm NODE_IDENT o = refl
-        or_calm _ o = absurd (true_is_not_false (sym o))
-    by false o = wanted_calm (wanted k c f w v l 16 (ap (λ z. if z then None else Some 16) o)) w.spelled.0
-calm {q = Start j} {us = us} k c f w v l = first_calm j k c f us w.spelled w.grouped.1 w.strict v
+    by true o = or_calm k o
+    by false o = wanted_calm (wanted k c f w v l 16 (ap (λ z. if z then None else Some 16) o)) w.spelled.0 (parts BeforeArgument k (forget c) (forget f) w.strict).inner
+calm {q = Start j} {us = us} k c f w v l = by (is_wrapper j) refl
+  where
+    by : (o : Bool) → is_wrapper j ≡ o → heed (start k) c (head_kind (tokens_in f ++ us)) ≡ true
+    by true o = let r = wrapped_next j k c f us o w.spelled w.grouped.1 w.strict in calm_start k c (head_kind (tokens_in f ++ us)) r.0 r.1
+    by false o =
+        start_heed k c (head_kind (tokens_in f ++ us))
+        (behind any (ask_behind None k) (first j k) f us (calm_first j k o v l) (parts (Start j) k (forget c) (forget f) w.strict).more w.spelled.1 refl)
 calm {q = q} k c f w v l = absurd (not_both k (tokens_alone (λ i. live (go q i)) refl k l) v)

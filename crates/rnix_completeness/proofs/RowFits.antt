@@ -12,11 +12,13 @@ use Rattle.rnix_lemmas.proofs.RowNesting.{nesting}
 use Rattle.rnix_lemmas.proofs.StrictParts.{parts, Parts}
 use Rattle.std.proofs.lemmas.Bool.Decides.{nat_tests}
 use Rattle.rnix_kinds.proofs.AllKinds.{implied}
-use Rattle.rnix_kinds.specs.declared.kinds.SyntaxKind.TheVariants.{TOKEN_PATH_ABS, TOKEN_PATH_HOME, TOKEN_PATH_REL, NODE_ATTRPATH, NODE_ATTRPATH_VALUE, NODE_CUR_POS, NODE_DYNAMIC, NODE_ERROR, NODE_IDENT, NODE_PATH_ABS, NODE_PATH_HOME, NODE_PATH_REL, NODE_PATTERN, NODE_ROOT}
+use Rattle.rnix_kinds.specs.declared.kinds.SyntaxKind.TheVariants.{TOKEN_PATH_ABS, TOKEN_PATH_HOME, TOKEN_PATH_REL, NODE_ATTRPATH, NODE_ATTRPATH_VALUE, NODE_DYNAMIC, NODE_PATH_ABS, NODE_PATH_HOME, NODE_PATH_REL, NODE_PATTERN, NODE_ROOT}
 use Rattle.rnix_grammar.specs.Reads.{deeper}
 use Rattle.rnix_grammar.specs.Corners.{node_count}
-use Rattle.rnix_lemmas.proofs.Basics.{true_is_not_false}
-use Rattle.rnix_lemmas.proofs.EveryKind.{only, whenever_two, tokens_alone}
+use Rattle.std.specs.Cmp.Derive.{both_true}
+use Rattle.std.specs.Prelude.{◌&&◌}
+use Rattle.rnix_lemmas.proofs.Basics.{true_is_not_false, not_if}
+use Rattle.rnix_lemmas.proofs.EveryKind.{only, whenever_two}
 use Rattle.rnix_lemmas.proofs.NodeKinds.{is_error}
 use Rattle.rnix_lemmas.proofs.PlainPlaces.{reaches}
 use Rattle.rnix_completeness.proofs.PlainPieces.{joins_branch, joins_there, joins_at, joins_plain}
@@ -26,7 +28,7 @@ use Rattle.rnix_completeness.proofs.RowAsks.{heed, heed_on, by_token, by_branch,
 use Rattle.rnix_completeness.proofs.RowGroups.{Grouped, branch_grouped, leaf_grouped}
 
 -- what is nested in a row's trees is nested in the row
-pub max_right : (d m n l : ℕ) → d + max m n ≤ l → d + n ≤ l
+max_right : (d m n l : ℕ) → d + max m n ≤ l → d + n ≤ l
 max_right d m n l h = omega (arith, h)
 
 -- the pieces of a path, from a spot of its row on, touch one another, and what follows does not go on with them
@@ -51,7 +53,7 @@ pub record Fit (k : SyntaxKind) (q : Spot) (d n : ℕ) (g f : Sketch) (us : List
   pub grouped : Grouped q g f
 
 -- no spot behind a tree is the start of a row
-pub sound_on : (q : Spot) (k : SyntaxKind) → live (go q k) ≡ true → is_sound (go q k) ≡ true
+sound_on : (q : Spot) (k : SyntaxKind) → live (go q k) ≡ true → is_sound (go q k) ≡ true
 sound_on (Start j) k l = whenever_two (λ i v. live (first i v)) (λ i v. is_sound (first i v)) refl j k l
 sound_on (At x) k l = ap is_sound (reaches x k l).is
 sound_on q k l = implied (λ i. live (go q i)) (λ i. is_sound (go q i)) refl k l
@@ -78,10 +80,7 @@ joined_branch : (q : Spot) (n : ℕ) (k : SyntaxKind) (c f : Sketch) (us : List 
 joined_branch (Start j) n k c f us l v h e = absurd (true_is_not_false (sym v ∙ path_token j k ((stays (Start j) k l).path e) l))
   where
     path_token : (j k : SyntaxKind) → is_path j ≡ true → live (first j k) ≡ true → is_node k ≡ false
-    path_token NODE_PATH_ABS k e l = tokens_alone (λ i. live (first NODE_PATH_ABS i)) refl k l
-    path_token NODE_PATH_REL k e l = tokens_alone (λ i. live (first NODE_PATH_REL i)) refl k l
-    path_token NODE_PATH_HOME k e l = tokens_alone (λ i. live (first NODE_PATH_HOME i)) refl k l
-    path_token _ k e l = absurd (true_is_not_false (sym e))
+    path_token j k e l = not_if (is_node k) (whenever_two (λ i u. is_path i && live (first i u)) (λ i u. if is_node u then false else true) refl j k (both_true e l))
 joined_branch (At x) n k c f us l v h e =
     let r = reaches x k l in
     subst (λ z. joins_on z (end_from n (tokens_in c)) f us ≡ true) (sym r.is)
@@ -126,10 +125,8 @@ branch_fit {q = q} {d = d} {n = n} {g = g} {us = us} k c f w l =
     }
 
 start_sound : (k : SyntaxKind) → is_error k ≡ false → is_sound (start k) ≡ true
-start_sound NODE_ERROR h = absurd (true_is_not_false h)
-start_sound NODE_IDENT h = absurd (true_is_not_false h)
-start_sound NODE_CUR_POS h = absurd (true_is_not_false h)
-start_sound _ h = refl
+start_sound NODE_ROOT h = refl
+start_sound _ h = cc
 
 start_joined : (k : SyntaxKind) (n : ℕ) (c : Sketch) (vs : List Token) → (if is_path k then is_joined c vs else true) ≡ true → in_path (start k) ≡ true → joins_on (start k) n c vs ≡ true
 start_joined NODE_PATH_ABS n c vs h e = h

@@ -1,17 +1,16 @@
 -- A strict function begins as its first three items say.
-use Rattle.std.proofs.Common.{◌≡◌, true, false, List, ◌∷◌, ◌++◌, Option, Some, refl, ap, sym, ◌∙◌, subst, append_assoc}
+use Rattle.std.proofs.Common.{◌≡◌, true, false, List, ◌∷◌, ◌++◌, Some, refl, ap, sym, ◌∙◌, subst, append_assoc}
 use Rattle.std.proofs.lemmas.Bool.{and_parts}
 use Rattle.std.specs.Prelude.{if◌then◌else◌}
-use Rattle.rnix_kinds.specs.declared.kinds.SyntaxKind.{SyntaxKind}
-use Rattle.rnix_kinds.specs.declared.kinds.SyntaxKind.TheVariants.{TOKEN_AT, TOKEN_COLON, TOKEN_IDENT, TOKEN_L_BRACE, NODE_ATTR_SET, NODE_IDENT, NODE_IDENT_PARAM, NODE_LAMBDA, NODE_PATTERN, NODE_PAT_BIND}
+use Rattle.rnix_kinds.specs.declared.kinds.SyntaxKind.TheVariants.{TOKEN_IDENT, TOKEN_L_BRACE, TOKEN_R_BRACE, NODE_ATTR_SET, NODE_IDENT, NODE_IDENT_PARAM, NODE_LAMBDA, NODE_PATTERN, NODE_PAT_BIND}
 use Rattle.rnix_grammar.specs.declared.place.Place.TheVariants as p
 use Rattle.rnix_grammar.specs.declared.begin.Begin.TheVariants as b
-use Rattle.rnix_grammar.specs.Begins.{begin_of, begin_name, second_kind}
+use Rattle.rnix_grammar.specs.Begins.{begin_of, begin_name, is_pattern, second_kind}
 use Rattle.rnix_grammar.specs.Operands.{kind_of, IsBegun}
 use Rattle.rnix_grammar.specs.Sketch.{Token, Sketch, blank, token, branch, fault, one_token, one_branch, tokens_in, head_kind, forget}
 use Rattle.rnix_grammar.specs.Rows.{BeforeAt, At, go, live, start}
 use Rattle.rnix_grammar.specs.Strict.{begins_with_leaf, is_strict}
-use Rattle.rnix_grammar.specs.Plain.{is_node, AreUntold}
+use Rattle.rnix_grammar.specs.Plain.{AreUntold}
 use Rattle.rnix_lemmas.proofs.Basics.{true_is_not_false, not_if}
 use Rattle.rnix_lemmas.proofs.EveryKind.{only, only_both}
 use Rattle.rnix_lemmas.proofs.NodeKinds.{not_both}
@@ -19,22 +18,14 @@ use Rattle.rnix_lemmas.proofs.StrictParts.{Parts, parts}
 use Rattle.rnix_completeness.proofs.PlainNames.{past_blank, strict_node}
 use Rattle.rnix_completeness.proofs.PlainEntries.{IsNamed, named_first, named_row}
 use Rattle.rnix_completeness.proofs.PlainPatterns.{bind_no_or, param_node, pattern_opens}
-use Rattle.rnix_completeness.proofs.PlainFollows.{follows_at}
-
-colon_next : (i : SyntaxKind) → live (go (At p.LambdaColon) i) ≡ true → (is_node i ≡ false) × (◌≡◌ {A = Option SyntaxKind} (Some i) (Some TOKEN_COLON))
-colon_next TOKEN_COLON h = (refl, refl)
-colon_next _ h = absurd (true_is_not_false (sym h))
-
-at_next : (i : SyntaxKind) → live (go BeforeAt i) ≡ true → (is_node i ≡ false) × (◌≡◌ {A = Option SyntaxKind} (Some i) (Some TOKEN_AT))
-at_next TOKEN_AT h = (refl, refl)
-at_next _ h = absurd (true_is_not_false (sym h))
+use Rattle.rnix_completeness.proofs.FirstTokens.{next_at, next_kind}
 
 -- a function of a name
 param_row : (c f g : Sketch) (us : List Token) → IsNamed (At p.Past) c → is_strict (At p.LambdaColon) (forget f) ≡ true → AreUntold f → IsBegun 0 (branch NODE_LAMBDA (branch NODE_IDENT_PARAM c f) g) (tokens_in (branch NODE_IDENT_PARAM c f) ++ us)
 param_row c f g us w h v =
     subst (λ (z : Sketch). IsBegun 0 (branch NODE_LAMBDA (branch NODE_IDENT_PARAM z f) g) (tokens_in (branch NODE_IDENT_PARAM z f) ++ us)) (sym same)
     (ap (λ i. kind_of (begin_of 0 i w.name.text (head_kind (tokens_in f ++ us)) (second_kind (tokens_in f ++ us)))) w.kind
-    ∙ ap (λ o. kind_of (begin_name w.name.text o)) (follows_at (At p.LambdaColon) f us (λ o. o ≡ Some TOKEN_COLON) refl h v refl colon_next))
+    ∙ next_kind (λ o. kind_of (begin_name w.name.text o)) NODE_IDENT_PARAM (At p.LambdaColon) refl refl f us h v)
   where
     same : c ≡ one_branch NODE_IDENT (one_token TOKEN_IDENT w.name)
     same = w.is ∙ ap (λ z. branch NODE_IDENT (one_token TOKEN_IDENT w.name) z) (past_blank w.more w.strict w.spelled)
@@ -46,7 +37,7 @@ pattern_row t c f g us e h v i u =
     let vs : List Token = tokens_in f ++ us in
     subst (λ (ts : List Token). IsBegun 0 (branch NODE_LAMBDA (branch NODE_PATTERN (token TOKEN_L_BRACE t c) f) g) ts) (sym (append_assoc (t ∷ tokens_in c) (tokens_in f) us))
     (ap (λ z. kind_of (begin_of 0 z t.text (head_kind (tokens_in c ++ vs)) (second_kind (tokens_in c ++ vs)))) e
-    ∙ ap (λ w. kind_of (if w then b.PatternLambda else b.Node NODE_ATTR_SET p.SetInside 16)) (pattern_opens c vs h v (follows_at (At p.LambdaColon) f us (λ o. o ≡ Some TOKEN_COLON) refl i u refl colon_next)))
+    ∙ ap (λ w. kind_of (if w then b.PatternLambda else b.Node NODE_ATTR_SET p.SetInside 16)) (pattern_opens c vs h v (next_at (λ o. is_pattern (Some TOKEN_R_BRACE) o) (At p.LambdaColon) refl f us i u (λ z. absurd (true_is_not_false (sym z))))))
 
 -- a function of a pattern that has a name before it
 bound_row : (a c f g : Sketch) (us : List Token) → IsNamed BeforeAt a → IsBegun 0 (branch NODE_LAMBDA (branch NODE_PATTERN (branch NODE_PAT_BIND a c) f) g) (tokens_in (branch NODE_PATTERN (branch NODE_PAT_BIND a c) f) ++ us)
@@ -56,7 +47,7 @@ bound_row a c f g us w =
     (subst (λ (ts : List Token). IsBegun 0 (branch NODE_LAMBDA (branch NODE_PATTERN (branch NODE_PAT_BIND (branch NODE_IDENT (one_token TOKEN_IDENT w.name) w.more) c) f) g) ts)
     (sym (append_assoc (w.name ∷ (tokens_in w.more ++ tokens_in c)) (tokens_in f) us ∙ append_assoc (w.name ∷ tokens_in w.more) (tokens_in c) (tokens_in f ++ us)))
     (ap (λ z. kind_of (begin_of 0 z w.name.text (head_kind (tokens_in w.more ++ vs)) (second_kind (tokens_in w.more ++ vs)))) w.kind
-    ∙ ap (λ o. kind_of (begin_name w.name.text o)) (follows_at BeforeAt w.more vs (λ o. o ≡ Some TOKEN_AT) refl w.strict w.spelled refl at_next)))
+    ∙ next_kind (λ o. kind_of (begin_name w.name.text o)) NODE_PATTERN BeforeAt refl refl w.more vs w.strict w.spelled))
 
 -- a function begins as its items say
 pub lambda_row : (c g : Sketch) (us : List Token) → is_strict (start NODE_LAMBDA) (forget c) ≡ true → AreUntold c → IsBegun 0 (branch NODE_LAMBDA c g) (tokens_in c ++ us)
@@ -65,16 +56,16 @@ lambda_row (token i t f) g us h v = absurd (not_both i v.0 (param_node i (and_pa
 lambda_row (branch NODE_IDENT_PARAM c f) g us h v =
     let m : Parts (start NODE_LAMBDA) NODE_IDENT_PARAM (forget c) (forget f) = parts (start NODE_LAMBDA) NODE_IDENT_PARAM (forget c) (forget f) h in
     param_row c f g us (named_row NODE_IDENT_PARAM refl (only _ NODE_IDENT refl) c m.inner v.0 m.grouped) m.more v.1
-lambda_row (branch NODE_PATTERN blank f) g us h v = absurd (true_is_not_false (sym (parts (start NODE_LAMBDA) NODE_PATTERN (forget blank) (forget f) h).inner))
 lambda_row (branch NODE_PATTERN (token TOKEN_L_BRACE t c) f) g us h v =
     let m = parts (start NODE_LAMBDA) NODE_PATTERN (forget (token TOKEN_L_BRACE t c)) (forget f) h in pattern_row t c f g us v.0.1 m.inner v.0.2 m.more v.1
-lambda_row (branch NODE_PATTERN (token NODE_PAT_BIND t c) f) g us h v = absurd (true_is_not_false v.0.0)
-lambda_row (branch NODE_PATTERN (token i t c) f) g us h v = absurd (true_is_not_false (sym (parts (start NODE_LAMBDA) NODE_PATTERN (forget (token i t c)) (forget f) h).inner))
 lambda_row (branch NODE_PATTERN (branch NODE_PAT_BIND a c) f) g us h v =
     let m = parts (start NODE_LAMBDA) NODE_PATTERN (forget (branch NODE_PAT_BIND a c)) (forget f) h in
     let o : Parts (start NODE_PATTERN) NODE_PAT_BIND (forget a) (forget c) = parts (start NODE_PATTERN) NODE_PAT_BIND (forget a) (forget c) m.inner in
     let last : begins_with_leaf (forget a) ≡ false = not_if (begins_with_leaf (forget a)) o.may in
     bound_row a c f g us (named_first NODE_PAT_BIND refl (only_both _ _ NODE_IDENT refl) a last o.inner v.0.0 (bind_no_or a last o.grouped))
+lambda_row (branch NODE_PATTERN blank f) g us h v = absurd (true_is_not_false (sym (parts (start NODE_LAMBDA) NODE_PATTERN (forget blank) (forget f) h).inner))
+lambda_row (branch NODE_PATTERN (token NODE_PAT_BIND a c) f) g us h v = absurd (true_is_not_false v.0.0)
+lambda_row (branch NODE_PATTERN (token i a c) f) g us h v = absurd (true_is_not_false (sym (parts (start NODE_LAMBDA) NODE_PATTERN (forget (token i a c)) (forget f) h).inner))
 lambda_row (branch NODE_PATTERN (branch TOKEN_L_BRACE a c) f) g us h v =
     let m = parts (start NODE_LAMBDA) NODE_PATTERN (forget (branch TOKEN_L_BRACE a c)) (forget f) h in
     absurd (not_both TOKEN_L_BRACE refl (strict_node TOKEN_L_BRACE a v.0.0 (parts (start NODE_PATTERN) TOKEN_L_BRACE (forget a) (forget c) m.inner).inner))

@@ -1,10 +1,9 @@
 -- The first tree of a strict operator, call or selection stands before an item that follows it.
 use Rattle.std.proofs.Common.{◌≡◌, ℕ, ◌≤◌, Bool, true, false, List, ◌++◌, Some, refl, ap, sym, ◌∙◌, subst, arith}
-use Rattle.std.proofs.lemmas.Bool.Decides.{nat_tests}
 use Rattle.std.proofs.lemmas.Bool.{and_parts}
 use Rattle.std.specs.Prelude.{◌&&◌, ◌||◌, if◌then◌else◌, nat_le}
 use Rattle.rnix_kinds.specs.declared.kinds.SyntaxKind.{SyntaxKind}
-use Rattle.rnix_kinds.specs.declared.kinds.SyntaxKind.TheVariants.{TOKEN_AT, TOKEN_DOT, TOKEN_IDENT, TOKEN_INVERT, TOKEN_OR, TOKEN_QUESTION, NODE_APPLY, NODE_ASSERT, NODE_BIN_OP, NODE_HAS_ATTR, NODE_IDENT, NODE_IF_ELSE, NODE_LAMBDA, NODE_LEGACY_LET, NODE_LET_IN, NODE_PAT_BIND, NODE_SELECT, NODE_UNARY_OP, NODE_WITH}
+use Rattle.rnix_kinds.specs.declared.kinds.SyntaxKind.TheVariants.{TOKEN_AT, TOKEN_DOT, TOKEN_IDENT, TOKEN_INVERT, TOKEN_OR, TOKEN_QUESTION, NODE_APPLY, NODE_BIN_OP, NODE_HAS_ATTR, NODE_IDENT, NODE_LAMBDA, NODE_PAT_BIND, NODE_SELECT, NODE_UNARY_OP}
 use Rattle.rnix_kinds.specs.SyntaxKind.{is_fn_arg}
 use Rattle.rnix_tree.specs.Forest.{Forest}
 use Rattle.rnix_grammar.specs.declared.place.Place.TheVariants as p
@@ -22,11 +21,13 @@ use Rattle.rnix_lemmas.proofs.Basics.{true_is_not_false, not_if}
 use Rattle.rnix_lemmas.proofs.EveryKind.{only, whenever_two, tokens_alone}
 use Rattle.rnix_kinds.proofs.AllKinds.{implied}
 use Rattle.std.specs.Cmp.Derive.{both_true}
+use Rattle.rnix_lemmas.proofs.LevelLemmas.{at_most_true}
 use Rattle.rnix_lemmas.proofs.NodeKinds.{not_both}
 use Rattle.rnix_lemmas.proofs.OpeningRows.{live_to, to_live}
 use Rattle.rnix_lemmas.proofs.StrictParts.{standing, parts}
-use Rattle.rnix_completeness.proofs.PlainFirsts.{Begins}
+use Rattle.rnix_completeness.proofs.FirstTokens.{Begins}
 use Rattle.rnix_completeness.proofs.PlainNames.{IsName, only_name}
+use Rattle.rnix_completeness.proofs.PlainBegins.{is_wrapper}
 use Rattle.rnix_completeness.proofs.RowOwns.{simple_node, is_leaf}
 
 or_kind : (w : Bool) (k : SyntaxKind) → k ≡ (if w then TOKEN_OR else TOKEN_IDENT) → w ≡ is_or k
@@ -45,23 +46,14 @@ or_same NODE_IDENT d f v h = by (only_name d h v)
 or_same _ d f v h = refl
 
 operator_same : (c : Sketch) → operator_of (forget c) ≡ operator_in c
-operator_same blank = refl
-operator_same (token k t f) = refl
-operator_same (branch k c blank) = refl
 operator_same (branch k c (token j t f)) = refl
-operator_same (branch k c (branch j d f)) = refl
-operator_same (branch k c (fault n d f)) = refl
-operator_same (fault k c blank) = refl
 operator_same (fault k c (token j t f)) = refl
-operator_same (fault k c (branch j d f)) = refl
-operator_same (fault k c (fault n d f)) = refl
+operator_same _ = refl
 
 prefix_same : (c : Sketch) → is_strict (start NODE_UNARY_OP) (forget c) ≡ true → prefix_level (forget c) ≤ prefix_in c
 prefix_same blank h = absurd (true_is_not_false (sym h))
 prefix_same (token TOKEN_INVERT t f) h = omega arith
-prefix_same (token _ t f) h = omega arith
-prefix_same (branch k c f) h = omega arith
-prefix_same (fault n c f) h = omega arith
+prefix_same _ h = omega arith
 
 more_row : (k : SyntaxKind) (q : Bool) (c f : Sketch) → AreUntold f → is_strict (to q BeforeArgument) (forget f) ≡ true → st.calls_or (forget (branch k c f)) ≡ is_or_row f
 more_row k q c blank v h = refl
@@ -82,13 +74,6 @@ pub level_more : (k : SyntaxKind) (c : Sketch) → AreUntold c → is_strict (st
 level_more NODE_BIN_OP c v h = let e = ap power (operator_same c) in omega (arith, e)
 level_more NODE_UNARY_OP c v h = prefix_same c h
 level_more NODE_APPLY c v h = let e = ap {B = ℕ} (λ w. if w then 16 else 15) (calls_same c v h) in omega (arith, e)
-level_more NODE_HAS_ATTR c v h = omega arith
-level_more NODE_LAMBDA c v h = omega arith
-level_more NODE_LEGACY_LET c v h = omega arith
-level_more NODE_LET_IN c v h = omega arith
-level_more NODE_WITH c v h = omega arith
-level_more NODE_IF_ELSE c v h = omega arith
-level_more NODE_ASSERT c v h = omega arith
 level_more _ c v h = omega arith
 
 -- what is known of the trees of a row before a spot and behind
@@ -104,14 +89,10 @@ Grouped SecondStart g f = ⊥
 Grouped q g f = Unit {0}
 
 tight : (m : ℕ) (k : SyntaxKind) (c : Sketch) → stands_at m k (forget c) ≡ true → AreUntold c → is_strict (start k) (forget c) ≡ true → nat_le m (level_of k c) ≡ true
-tight m k c s v h = by (nat_le m (level_of k c)) refl
-  where
-    by : (w : Bool) → nat_le m (level_of k c) ≡ w → w ≡ true
-    by true e = refl
-    by false e = absurd (grind (arith, nat_tests, e, (standing m k (forget c) s).low, level_more k c v h))
+tight m k c s v h = let l = level_more k c v h in let o = (standing m k (forget c) s).low in at_most_true m (level_of k c) (omega (arith, l, o))
 
 -- what `.` may follow is an atom
-pub atom_is : (k : SyntaxKind) (c : Forest) → is_strict_atom k c ≡ true → is_atom k ≡ true
+atom_is : (k : SyntaxKind) (c : Forest) → is_strict_atom k c ≡ true → is_atom k ≡ true
 atom_is NODE_LAMBDA c h = refl
 atom_is k c h = (and_parts (is_atom k) (st.is_named k c) h).0
 
@@ -154,20 +135,13 @@ plain (At p.TwiceName) g f h = absurd (true_is_not_false h)
 plain SecondStart g f h = absurd (true_is_not_false h)
 plain _ g f h = tt
 
--- the kinds whose rows do not begin with an operand
-abbrev is_closed : SyntaxKind → Bool
-is_closed NODE_BIN_OP = false
-is_closed NODE_HAS_ATTR = false
-is_closed NODE_SELECT = false
-is_closed NODE_APPLY = false
-is_closed kind = true
-
 abbrev is_no_bind : SyntaxKind → Bool
 is_no_bind NODE_PAT_BIND = false
 is_no_bind kind = true
 
-closed_plain : (j k : SyntaxKind) → is_closed j ≡ true → is_node k ≡ true → is_grouping (first j k) ≡ false
-closed_plain j k o n = not_if (is_grouping (first j k)) (whenever_two (λ i u. is_closed i && is_node u) (λ i u. if is_grouping (first i u) then false else true) refl j k (both_true o n))
+closed_plain : (j k : SyntaxKind) → is_wrapper j ≡ false → is_node k ≡ true → is_grouping (first j k) ≡ false
+closed_plain j k o n = not_if (is_grouping (first j k)) (whenever_two (λ i u. (if is_wrapper i then false else true) && is_node u) (λ i u. if is_grouping (first i u) then false else true) refl j k
+    (both_true (ap (λ w. if w then false else true) o) n))
 
 leaf_plain : (j k : SyntaxKind) → is_no_bind j ≡ true → is_leaf k ≡ true → live (first j k) ≡ true → is_grouping (first j k) ≡ false
 leaf_plain j k o n l =
@@ -223,12 +197,11 @@ calls_with false k = is_fn_arg k
 
 call_followed : (g : Sketch) (w : Bool) (i : SyntaxKind) → calls_with w i ≡ true → (if w then is_atom_row g else nat_le 15 (row_level g)) ≡ true → ((is_fn_arg i || is_or i) && follows i g) ≡ true
 call_followed g true i b h = subst (λ z. ((is_fn_arg z || is_or z) && follows z g) ≡ true) (sym (only is_or TOKEN_OR refl i b)) h
-call_followed g false i b h =
-    let x : is_infix i ≡ false = not_if (is_infix i) (implied is_fn_arg (λ k. if is_infix k then false else true) refl i b) in
-    let y : is_question i ≡ false = not_if (is_question i) (implied is_fn_arg (λ k. if is_question k then false else true) refl i b) in
-    ap (λ z. (z || is_or i) && (if is_infix i then nat_le (left_of i) (row_level g) else (if is_question i then nat_le 13 (row_level g) else (if z then nat_le 15 (row_level g) else ((is_dot i || is_or i) && is_atom_row g))))) b
-    ∙ ap (λ z. if z then nat_le (left_of i) (row_level g) else (if is_question i then nat_le 13 (row_level g) else nat_le 15 (row_level g))) x
-    ∙ ap (λ z. if z then nat_le 13 (row_level g) else nat_le 15 (row_level g)) y ∙ h
+call_followed g false i b h = argued i b h
+  where
+    argued : (i : SyntaxKind) → is_fn_arg i ≡ true → nat_le 15 (row_level g) ≡ true → ((is_fn_arg i || is_or i) && follows i g) ≡ true
+    argued TOKEN_IDENT b h = h
+    argued _ b h = first_of (assumption, cc)
 
 -- so before a node
 pub followed_branch : (q : Spot) (k : SyntaxKind) (g c f : Sketch) (us : List Token) → Grouped q g (branch k c f) → is_node k ≡ true → live (go q k) ≡ true

@@ -1,8 +1,9 @@
 -- A leaf of a strict row stands where it is the place's own, and where the row ends the next item is not.
 use Rattle.std.proofs.Common.{◌≡◌, ℕ, Bool, true, false, List, [], ◌∷◌, Some, refl, ap, sym, ◌∙◌}
 use Rattle.std.specs.Prelude.{◌||◌, if◌then◌else◌, nat_eq}
+use Rattle.std.specs.List.{list_all}
+use Rattle.rnix_kinds.proofs.AllKinds.{all_kinds}
 use Rattle.rnix_kinds.specs.declared.kinds.SyntaxKind.{SyntaxKind}
-use Rattle.rnix_kinds.specs.declared.kinds.SyntaxKind.TheVariants.{TOKEN_AT, TOKEN_DOT, TOKEN_INTERPOL_START, TOKEN_OR, TOKEN_QUESTION}
 use Rattle.rnix_grammar.specs.declared.place.Place.{Place}
 use Rattle.rnix_grammar.specs.declared.place.Place.TheVariants as p
 use Rattle.rnix_grammar.specs.declared.slot.Slot.{Slot}
@@ -13,14 +14,13 @@ use Rattle.rnix_grammar.specs.Sketch.{Token, blank, head_kind}
 use Rattle.rnix_grammar.specs.Rows.{Spot, BeforeArgument, At, fits, go, go_slot, is_entry, is_expression, is_simple, live, to, whole}
 use Rattle.rnix_grammar.specs.Plain.{is_node, goes_on_path}
 use Rattle.rnix_grammar.specs.OwnItems.{owns, owns_in, IsOwned}
-use Rattle.rnix_grammar.specs.TokenKinds.{is_inherit_token, is_interpol_start, is_dot, is_at, is_question, is_or}
+use Rattle.rnix_grammar.specs.TokenKinds.{is_inherit_token}
 use Rattle.rnix_lemmas.proofs.Basics.{true_is_not_false}
-use Rattle.rnix_lemmas.proofs.EveryKind.{whenever_both}
+use Rattle.rnix_lemmas.proofs.EveryKind.{never, whenever_both}
 use Rattle.rnix_lemmas.proofs.LevelLemmas.{simple_negated, negated_questioned, questioned_operand, operand_expression}
 use Rattle.rnix_lemmas.proofs.NodeKinds.{expression_node, fits_expression, entry_node, not_both}
 use Rattle.rnix_lemmas.proofs.OpeningRows.{live_to}
-use Rattle.rnix_lemmas.proofs.PlainTables.{loose, is_no_interpol, is_no_dot, is_no_at}
-use Rattle.rnix_completeness.proofs.RowAsks.{heed}
+use Rattle.rnix_completeness.proofs.RowAsks.{ask, heed, heeds, holds}
 
 -- what may be called is an expression
 pub simple_expression : (k : SyntaxKind) → is_simple k ≡ true → is_expression k ≡ true
@@ -67,55 +67,29 @@ owned_leaf (At x) n k t vs e v l w = ap (λ i. owns_in (slot_at x) (nat_eq t.sta
 owned_leaf BeforeArgument n k t vs e v l w = absurd (not_both k v (simple_node k (live_to (is_simple k) (At p.Past) l)))
 owned_leaf _ n k t vs e v l w = tt
 
-no_interpol : (k : SyntaxKind) → is_no_interpol (Some k) ≡ true → is_interpol_start k ≡ false
-no_interpol TOKEN_INTERPOL_START h = absurd (true_is_not_false (sym h))
-no_interpol _ h = refl
-
-no_dot : (k : SyntaxKind) → is_no_dot (Some k) ≡ true → is_dot k ≡ false
-no_dot TOKEN_DOT h = absurd (true_is_not_false (sym h))
-no_dot _ h = refl
-
-no_at : (k : SyntaxKind) → is_no_at (Some k) ≡ true → is_at k ≡ false
-no_at TOKEN_AT h = absurd (true_is_not_false (sym h))
-no_at _ h = refl
-
-no_question : (k : SyntaxKind) → loose 0 (Some k) ≡ true → is_question k ≡ false
-no_question TOKEN_QUESTION h = absurd (true_is_not_false (sym h))
-no_question _ h = refl
-
-no_or : (k : SyntaxKind) → loose 15 (Some k) ≡ true → is_or k ≡ false
-no_or TOKEN_OR h = absurd (true_is_not_false (sym h))
-no_or _ h = refl
-
 over_none : (x : Place) (n : ℕ) → whole (At x) ≡ true → owns x n [] ≡ false
 over_none p.RootEnd n w = refl
-over_none p.TwicePast n w = refl
-over_none p.PathFirst n w = refl
-over_none p.PathMore n w = refl
-over_none p.AttrpathMore n w = refl
-over_none (p.PatternEnd bound) n w = refl
-over_none p.PatternPast n w = refl
-over_none p.EntryMore n w = refl
-over_none p.EntryPast n w = refl
-over_none p.SelectOr n w = refl
-over_none (p.Operated level) n w = refl
-over_none p.Past n w = refl
-over_none _ n w = absurd (true_is_not_false (sym w))
+over_none _ n w = cc
+
+-- what follows a row that may end at a place is not the place's own
+abbrev is_over : Place → Bool → Bool
+is_over x touch = if whole (At x) then list_all (λ i. if owns_in (slot_at x) touch i then (if heeds (ask x) (Some i) then false else true) else true) all_kinds else true
+
+over_test : (x : Place) (touch : Bool) → (x ≡ p.PathMore → ⊥) → is_over x touch ≡ true
+over_test p.PathMore touch e = absurd (e refl)
+over_test p.RootEnd touch e = refl
+over_test _ touch e = refl
+
+over_next : (x : Place) (touch : Bool) (k : SyntaxKind) → (x ≡ p.PathMore → ⊥) → whole (At x) ≡ true → heeds (ask x) (Some k) ≡ true → owns_in (slot_at x) touch k ≡ false
+over_next x touch k e w h = by (owns_in (slot_at x) touch k) refl
+  where
+    by : (v : Bool) → owns_in (slot_at x) touch k ≡ v → v ≡ false
+    by true o = absurd (never (owns_in (slot_at x) touch) (λ i. heeds (ask x) (Some i)) (holds (whole (At x)) _ (over_test x touch e) w) k o h)
+    by false o = refl
 
 over_some : (x : Place) (n : ℕ) (t : Token) (ts : List Token) → whole (At x) ≡ true → heed (At x) blank (Some t.kind) ≡ true → (x ≡ p.PathMore → goes_on_path n (t ∷ ts) ≡ false) → owns x n (t ∷ ts) ≡ false
-over_some p.RootEnd n t ts w h j = refl
-over_some p.TwicePast n t ts w h j = refl
-over_some p.PathFirst n t ts w h j = no_interpol t.kind h
 over_some p.PathMore n t ts w h j = j refl
-over_some p.AttrpathMore n t ts w h j = no_dot t.kind h
-over_some (p.PatternEnd bound) n t ts w h j = no_at t.kind h
-over_some p.PatternPast n t ts w h j = refl
-over_some p.EntryMore n t ts w h j = no_question t.kind h
-over_some p.EntryPast n t ts w h j = refl
-over_some p.SelectOr n t ts w h j = no_or t.kind h
-over_some (p.Operated level) n t ts w h j = refl
-over_some p.Past n t ts w h j = refl
-over_some _ n t ts w h j = absurd (true_is_not_false (sym w))
+over_some x n t ts w h j = over_next x (nat_eq t.start n) t.kind (λ e. cc) w h
 
 -- where a row may end and what is next does not go on with it, it is over
 pub over_blank : (q : Spot) (n : ℕ) (us : List Token) → whole q ≡ true → heed q blank (head_kind us) ≡ true → (q ≡ At p.PathMore → goes_on_path n us ≡ false) → IsOwned q n us false

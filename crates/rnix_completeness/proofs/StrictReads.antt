@@ -61,11 +61,10 @@ room_for false d m r l h e = absurd (true_is_not_false (sym e))
 
 entry_place : (x : Place) → live (go (At x) NODE_PAT_ENTRY) ≡ true → in_pattern (At x) ≡ true
 entry_place (p.PatternStart bound) h = refl
-entry_place (p.PatternInside bound) h = refl
-entry_place (p.PatternEnd true) h = absurd (true_is_not_false (sym h))
-entry_place (p.PatternEnd false) h = absurd (true_is_not_false (sym h))
+entry_place (p.PatternEnd true) h = cc
+entry_place (p.PatternEnd false) h = cc
 entry_place (p.Right level) h = absurd (true_is_not_false (sym (fits_expression level NODE_PAT_ENTRY (live_to (fits level NODE_PAT_ENTRY) (At (p.Operated level)) h))))
-entry_place _ h = absurd (true_is_not_false (sym h))
+entry_place _ h = cc
 
 -- entries stand in patterns alone
 entry_there : (q : Spot) → live (go q NODE_PAT_ENTRY) ≡ true → in_pattern q ≡ true
@@ -117,9 +116,7 @@ position_read d n (fault i c e) vs h v = absurd v
 
 no_error : (c : Sketch) → is_strict (start NODE_ERROR) (forget c) ≡ true → ⊥
 no_error blank h = true_is_not_false (sym h)
-no_error (token k t f) h = true_is_not_false (sym h)
-no_error (branch k c f) h = true_is_not_false (sym h)
-no_error (fault n c f) h = true_is_not_false (sym h)
+no_error _ h = true_is_not_false (sym h)
 
 inner_read : (k : SyntaxKind) (d n : ℕ) (c : Sketch) (vs : List Token) → is_strict (start k) (forget c) ≡ true → AreUntold c → (is_error k ≡ false → IsRead k d n (start k) blank c vs) → IsRead k d n (start k) blank c vs
 inner_read NODE_IDENT d n c vs h v r = name_read d n c vs h v
@@ -128,7 +125,7 @@ inner_read NODE_ERROR d n c vs h v r = absurd (no_error c h)
 inner_read _ d n c vs h v r = r refl
 
 -- a strict row is read as it is
-pub strict_row : (f : Sketch) (p : SyntaxKind) (q : Spot) (d n : ℕ) (g : Sketch) (us : List Token) → Fit p q d n g f us → IsRead p d n q g f us
+strict_row : (f : Sketch) (p : SyntaxKind) (q : Spot) (d n : ℕ) (g : Sketch) (us : List Token) → Fit p q d n g f us → IsRead p d n q g f us
 strict_row blank p q d n g us w = (end, (w.strict, over_blank q n us w.strict w.heeds (path_over n us q w.joined)))
 strict_row (token k t f) p q d n g us w =
     let l = (and_parts (live (go q k)) (is_strict (go q k) (forget f)) w.strict).0 in

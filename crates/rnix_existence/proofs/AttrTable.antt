@@ -17,9 +17,8 @@ use Rattle.rnix_grammar.specs.TokenKinds.{is_l_paren}
 use Rattle.rnix_grammar.specs.Sketch.{Token, Sketch, head_kind}
 use Rattle.rnix_grammar.specs.Machine.{Frame}
 use Rattle.rnix_grammar.specs.Missing.{run_in}
-use Rattle.rnix_grammar.specs.Rows.{At, is_attr, go_slot, to}
+use Rattle.rnix_grammar.specs.Rows.{At, is_attr, go_slot, go_source, go_names, to}
 use Rattle.rnix_grammar.specs.OwnItems.{owns, owns_in, owns_end, stands_owned_in, begins_attr}
-use Rattle.rnix_invariants.proofs.NodeStep.{attr_source, attr_names}
 use Rattle.rnix_existence.proofs.OpenFrames.{closing, EndsBy}
 use Rattle.rnix_existence.proofs.NodeOpens as opening
 use Rattle.rnix_existence.proofs.SlotSteps.{Known, takes, misses, misses_wanted, runs, names, opens, begins, over, over_end}
@@ -68,6 +67,16 @@ at_attr f fs (t ∷ ts) n gs y w =
 or_true : (b : Bool) → (b || true) ≡ true
 or_true true = refl
 or_true false = refl
+
+-- behind an attribute among inherited names such names stand
+attr_names : (k : SyntaxKind) → is_attr k ≡ true → go_names k ≡ At p.InheritNames
+attr_names NODE_IDENT h = refl
+attr_names _ h = cc
+
+-- so they do behind one before them
+attr_source : (k : SyntaxKind) → is_attr k ≡ true → go_source k ≡ At p.InheritNames
+attr_source NODE_IDENT h = refl
+attr_source _ h = cc
 
 -- among inherited names
 pub at_names : (f : Frame) (fs : List Frame) (ts : List Token) (n : ℕ) (gs : List Fault) → Known f s.Names → EndsBy (names_action (head_kind ts)) f fs ts n gs

@@ -18,15 +18,13 @@ use Rattle.rnix_lemmas.proofs.Basics.{true_is_not_false, some_same}
 use Rattle.rnix_lemmas.proofs.SketchLemmas.{tokens_two}
 use Rattle.rnix_lemmas.proofs.LevelLemmas.{atom_fits}
 use Rattle.rnix_lemmas.proofs.FollowLemmas.{Stops, stops_all, stops_at, followed_loose}
-use Rattle.rnix_invariants.proofs.BeginLemmas.{BeginsAs}
-use Rattle.rnix_invariants.proofs.CloseSteps.{fit_new}
-use Rattle.rnix_invariants.proofs.BeginSteps.{none_some}
 use Rattle.rnix_existence.proofs.OpenFrames.{a_node, an_error, Ends}
 use Rattle.rnix_existence.proofs.RowFronts.{end_two}
-use Rattle.rnix_existence.proofs.OperandTrees.{past_over}
+use Rattle.rnix_existence.proofs.OperandTrees.{past_over, fit_new}
 use Rattle.rnix_existence.proofs.OperandEnds.{OpenEnds, open_ends}
 use Rattle.rnix_existence.proofs.OperandWraps.{alone_tokens}
 use Rattle.rnix_existence.proofs.BeginLevels.{fits_starts, BeginsTree}
+use Rattle.rnix_existence.proofs.OperandKept.{none_some}
 use Rattle.rnix_existence.proofs.BeginEnds.{BeginEnds, tree_ends, first_leaf, leaf_node}
 
 -- a node that begins with some trees, whose row goes on, is the first tree of an operand
@@ -120,24 +118,24 @@ patterned level d t us g fs n gs row es e w ends =
 
 -- an operand that has begun becomes a whole one
 pub begun_ends : (begin : Begin) (level d : ℕ) (t : Token) (us : List Token) (g : Frame) (fs : List Frame) (n : ℕ) (gs : List Fault) (row : Sketch) (es : List Fault)
-    → begin_of level t.kind t.text (head_kind us) (second_kind us) ≡ begin → BeginsAs begin level t.kind t.text (head_kind us) → BeginsTree begin t.kind
+    → begin_of level t.kind t.text (head_kind us) (second_kind us) ≡ begin → BeginsTree begin level t.kind (head_kind us)
     → Ends (begun false begin level d t g fs (t ∷ us) n gs).frames (begun false begin level d t g fs (t ∷ us) n gs).left (begun false begin level d t g fs (t ∷ us) n gs).reached row es
     → BeginEnds level d g fs (t ∷ us) n row gs ((begun false begin level d t g fs (t ∷ us) n gs).faults ++ es)
-begun_ends (b.Leaf k) level d t us g fs n gs row es e h w ends =
+begun_ends (b.Leaf k) level d t us g fs n gs row es e h ends =
     tree_ends level 16 d g fs (t ∷ us) us n t.end row (one_branch k (one_token (told k t) t)) [] es gs (gs ++ es) (stops_all (one_branch k (one_token (told k t) t))) refl refl
-    (ap kind_of e ∙ sym (w.first (told k t) t blank)) (leaf_node k t st h.goes) ends refl
+    (ap kind_of e ∙ sym (h.first (told k t) t blank)) (leaf_node k t st h.goes) ends refl
   where
     st : start k ≡ Start k
     st = fits_starts 0 k (atom_fits 0 k h.atom)
-begun_ends (b.Node k z high) level d t us g fs n gs row es e h w ends =
+begun_ends (b.Node k z high) level d t us g fs n gs row es e h ends =
     node_ends level high d k z (one_token (told k t) t) g fs (t ∷ us) us n t.end row [] es gs (gs ++ es) h.fit refl refl
-    (λ left s rest ds v y. first_leaf k t (fits_starts level k h.fit) h.goes refl y) (λ rest. w.stops t rest) (λ rest. ap kind_of e ∙ sym (w.first (told k t) t rest)) ends refl
-begun_ends b.LegacyLet level d t [] g fs n gs row es e h w ends = absurd (none_some h.1)
-begun_ends b.LegacyLet level d t (u ∷ us) g fs n gs row es e h w ends = legacy level d t u us g fs n gs row es h.0 (some_same u.kind TOKEN_L_BRACE h.1) h.2 (λ x. ap kind_of e) ends
-begun_ends b.NameLambda level d t us g fs n gs row es e h w ends = named level d t us g fs n gs row es h (λ c rest. ap kind_of e) ends
-begun_ends b.BoundLambda level d t [] g fs n gs row es e h w ends = absurd (none_some h.1)
-begun_ends b.BoundLambda level d t (u ∷ us) g fs n gs row es e h w ends = bound level d t u us g fs n gs row es h.0 (some_same u.kind TOKEN_AT h.1) (λ c rest. ap kind_of e) ends
-begun_ends b.PatternLambda level d t us g fs n gs row es e h w ends = patterned level d t us g fs n gs row es h (λ c rest. ap kind_of e) ends
-begun_ends b.Stray level d t us g fs n gs row es e h w ends =
+    (λ left s rest ds v y. first_leaf k t (fits_starts level k h.fit) h.goes refl y) (λ rest. h.stops t rest) (λ rest. ap kind_of e ∙ sym (h.first (told k t) t rest)) ends refl
+begun_ends b.LegacyLet level d t [] g fs n gs row es e h ends = absurd (none_some h.1)
+begun_ends b.LegacyLet level d t (u ∷ us) g fs n gs row es e h ends = legacy level d t u us g fs n gs row es h.0 (some_same u.kind TOKEN_L_BRACE h.1) h.2 (λ x. ap kind_of e) ends
+begun_ends b.NameLambda level d t us g fs n gs row es e h ends = named level d t us g fs n gs row es h (λ c rest. ap kind_of e) ends
+begun_ends b.BoundLambda level d t [] g fs n gs row es e h ends = absurd (none_some h.1)
+begun_ends b.BoundLambda level d t (u ∷ us) g fs n gs row es e h ends = bound level d t u us g fs n gs row es h.0 (some_same u.kind TOKEN_AT h.1) (λ c rest. ap kind_of e) ends
+begun_ends b.PatternLambda level d t us g fs n gs row es e h ends = patterned level d t us g fs n gs row es h (λ c rest. ap kind_of e) ends
+begun_ends b.Stray level d t us g fs n gs row es e h ends =
     tree_ends level 16 d g fs (t ∷ us) us n t.end row (one_fault Stray (one_token t.kind t)) (report Stray (t ∷ []) ∷ []) es gs ((gs ++ report Stray (t ∷ []) ∷ []) ++ es)
     (stops_all (one_fault Stray (one_token t.kind t))) refl refl (ap kind_of e) an_error ends (sym (append_assoc gs (report Stray (t ∷ []) ∷ []) es))

@@ -1,19 +1,27 @@
 -- How an operand begins: its first tree, and what may go on with it.
-use Rattle.std.proofs.Common.{◌≡◌, ℕ, Bool, true, false, List, Option, Some, refl, sym, subst}
+use Rattle.std.proofs.Common.{◌≡◌, ℕ, ◌≤◌, Bool, true, false, List, Option, Some, refl, ap, sym, subst, arith}
 use Rattle.std.specs.Prelude.{if◌then◌else◌, nat_eq, nat_le}
+use Rattle.std.proofs.lemmas.Bool.Decides.{nat_tests}
 use Rattle.rnix_kinds.specs.declared.kinds.SyntaxKind.{SyntaxKind}
-use Rattle.rnix_kinds.specs.declared.kinds.SyntaxKind.TheVariants.{TOKEN_L_PAREN, TOKEN_L_BRACK, TOKEN_REC, TOKEN_STRING_START, TOKEN_PATH_ABS, TOKEN_PATH_REL, TOKEN_PATH_HOME, TOKEN_PATH_SEARCH, TOKEN_FLOAT, TOKEN_INTEGER, TOKEN_URI, TOKEN_IDENT, TOKEN_CUR_POS, TOKEN_L_BRACE, TOKEN_COLON, TOKEN_AT, TOKEN_LET, TOKEN_WITH, TOKEN_ASSERT, TOKEN_IF, TOKEN_INVERT, TOKEN_SUB, NODE_ATTR_SET, NODE_IDENT, NODE_CUR_POS, NODE_LET_IN, NODE_WITH, NODE_ASSERT, NODE_IF_ELSE, NODE_UNARY_OP, NODE_ROOT, NODE_ATTRPATH, NODE_ATTRPATH_VALUE}
+use Rattle.rnix_kinds.specs.declared.kinds.SyntaxKind.TheVariants.{TOKEN_L_PAREN, TOKEN_L_BRACK, TOKEN_REC, TOKEN_STRING_START, TOKEN_PATH_ABS, TOKEN_PATH_REL, TOKEN_PATH_HOME, TOKEN_PATH_SEARCH, TOKEN_FLOAT, TOKEN_INTEGER, TOKEN_URI, TOKEN_IDENT, TOKEN_CUR_POS, TOKEN_L_BRACE, TOKEN_COLON, TOKEN_AT, TOKEN_LET, TOKEN_WITH, TOKEN_ASSERT, TOKEN_IF, TOKEN_INVERT, TOKEN_SUB, NODE_ASSERT, NODE_ATTR_SET, NODE_CUR_POS, NODE_IDENT, NODE_IF_ELSE, NODE_UNARY_OP, NODE_WITH, NODE_ROOT, NODE_ATTRPATH, NODE_ATTRPATH_VALUE}
+use Rattle.rnix_grammar.specs.declared.place.Place.{Place}
 use Rattle.rnix_grammar.specs.declared.place.Place.TheVariants as p
 use Rattle.rnix_grammar.specs.declared.begin.Begin.{Begin}
 use Rattle.rnix_grammar.specs.declared.begin.Begin.TheVariants as b
 use Rattle.rnix_grammar.specs.Begins.{is_pattern, begin_name, begin_let, begin_of}
 use Rattle.rnix_grammar.specs.Tables.{is_cur_pos}
-use Rattle.rnix_grammar.specs.Sketch.{Token, Sketch, token, one_branch, told_as}
-use Rattle.rnix_grammar.specs.Rows.{is_expression, fits, Start, start}
+use Rattle.rnix_grammar.specs.Sketch.{Token, Sketch, blank, token, one_token, one_branch, told_as}
+use Rattle.rnix_grammar.specs.Rows.{is_atom, is_expression, fits, Start, At, go, start}
+use Rattle.rnix_grammar.specs.TokenKinds.{is_or}
+use Rattle.rnix_grammar.specs.TreeLevels.{is_or_row, level_of}
 use Rattle.rnix_grammar.specs.Operands.{first_tree}
 use Rattle.rnix_lemmas.proofs.Basics.{true_is_not_false}
-use Rattle.rnix_lemmas.proofs.FollowLemmas.{Stops, stops_all, stops_at, followed_negated, followed_inverted, followed_loose}
-use Rattle.rnix_lemmas.proofs.NodeKinds.{fits_expression}
+use Rattle.rnix_lemmas.proofs.LevelLemmas.{atom_fits, at_most, same_number}
+use Rattle.rnix_lemmas.proofs.FollowLemmas.{Stops, stops_all, stops_at, atom_tight, followed_negated, followed_inverted, followed_loose}
+use Rattle.rnix_lemmas.proofs.NodeKinds.{is_error, fits_expression}
+use Rattle.rnix_lemmas.proofs.NestTrees.{is_formal}
+use Rattle.rnix_existence.proofs.Frames.{row_at, MayGrow}
+use Rattle.rnix_existence.proofs.Growing.{no_name, atom_grows, loose_grows, prefix_fits, prefix_grows}
 
 expression_starts : (k : SyntaxKind) → is_expression k ≡ true → start k ≡ Start k
 expression_starts NODE_ROOT h = absurd (true_is_not_false (sym h))
@@ -25,85 +33,150 @@ expression_starts _ h = refl
 pub fits_starts : (n : ℕ) (k : SyntaxKind) → fits n k ≡ true → start k ≡ Start k
 fits_starts n k h = expression_starts k (fits_expression n k h)
 
--- a node that begins with a token: it is its own first tree, and what goes on with it binds no tighter than the level
-pub record BeginsNode (k : SyntaxKind) (high : ℕ) (kind : SyntaxKind) : Type 0 where
+-- a node of one token, and no name `or`
+pub record BeginsLeaf (k kind : SyntaxKind) : Type 0 where
+  pub atom : is_atom k ≡ true
+  pub goes : go (start k) (told_as k kind) ≡ At p.Past
+  pub first : (j : SyntaxKind) (t : Token) (r : Sketch) → first_tree (one_branch k (token j t r)) ≡ k
+  pub no_or : (j : SyntaxKind) (t : Token) → t.kind ≡ kind → is_or_row (one_branch k (one_token j t)) ≡ false
+
+-- a node that begins with a token: it is its own first tree, what goes on with it binds no tighter than the level, and it may grow so far
+pub record BeginsNode (k : SyntaxKind) (z : Place) (high level : ℕ) (kind : SyntaxKind) : Type 0 where
+  pub goes : go (start k) (told_as k kind) ≡ At z
+  pub sound : is_error k ≡ false
+  pub home : row_at z ≡ Some (is_formal k)
+  pub fit : fits level k ≡ true
   pub first : (j : SyntaxKind) (t : Token) (r : Sketch) → first_tree (one_branch k (token j t r)) ≡ k
   pub stops : (t : Token) (r : Sketch) → Stops high (one_branch k (token (told_as k kind) t r))
+  pub grows : level ≤ 16 → (t : Token) (r : Sketch) → MayGrow level high (one_branch k (token (told_as k kind) t r))
 
--- what is known of the tree that begins so
-abbrev pub BeginsTree : Begin → SyntaxKind → Type 0
-BeginsTree (b.Leaf k) kind = BeginsNode k 16 kind
-BeginsTree (b.Node k place high) kind = BeginsNode k high kind
-BeginsTree begin kind = Unit {0}
+-- what is known of the first items, and of the tree that begins so
+abbrev pub BeginsTree : Begin → ℕ → SyntaxKind → Option SyntaxKind → Type 0
+BeginsTree (b.Leaf k) level kind second = BeginsLeaf k kind
+BeginsTree (b.Node k z high) level kind second = BeginsNode k z high level kind
+BeginsTree b.LegacyLet level kind second = (kind ≡ TOKEN_LET) × (second ≡ Some TOKEN_L_BRACE) × (level ≡ 0)
+BeginsTree b.NameLambda level kind second = kind ≡ TOKEN_IDENT
+BeginsTree b.BoundLambda level kind second = (kind ≡ TOKEN_IDENT) × (second ≡ Some TOKEN_AT)
+BeginsTree b.PatternLambda level kind second = kind ≡ TOKEN_L_BRACE
+BeginsTree b.Stray level kind second = Unit {0}
 
 -- an atom
-atom : (k kind : SyntaxKind) → ((j : SyntaxKind) (t : Token) (r : Sketch) → first_tree (one_branch k (token j t r)) ≡ k) → BeginsNode k 16 kind
-atom k kind h = record { first = h; stops = λ t r. stops_all (one_branch k (token (told_as k kind) t r)) }
+atom : (k : SyntaxKind) (z : Place) (level : ℕ) (kind : SyntaxKind) → is_atom k ≡ true → is_error k ≡ false → row_at z ≡ Some (is_formal k)
+    → go (start k) (told_as k kind) ≡ At z → ((j : SyntaxKind) (t : Token) (r : Sketch) → first_tree (one_branch k (token j t r)) ≡ k)
+    → BeginsNode k z 16 level kind
+atom k z level kind h sound home goes first = record {
+  goes = goes;
+  sound = sound;
+  home = home;
+  fit = atom_fits level k h;
+  first = first;
+  stops = λ t r. stops_all (one_branch k (token (told_as k kind) t r));
+  grows = λ l t r. let c : Sketch = token (told_as k kind) t r in atom_grows level (one_branch k c) h (atom_tight k c h) (no_name k c sound) l;
+}
 
-name_tree : (text : List ℕ) (w : Bool) → BeginsTree (if w then b.Leaf NODE_CUR_POS else b.Leaf NODE_IDENT) TOKEN_IDENT
-name_tree text true = atom NODE_CUR_POS TOKEN_IDENT (λ j t r. refl)
-name_tree text false = atom NODE_IDENT TOKEN_IDENT (λ j t r. refl)
+-- what reaches as far as it can
+loose : (k : SyntaxKind) (z : Place) (level : ℕ) (kind : SyntaxKind) → is_expression k ≡ true → is_atom k ≡ false
+    → ((c : Sketch) → level_of k c ≡ 0) → is_error k ≡ false
+    → row_at z ≡ Some (is_formal k) → go (start k) (told_as k kind) ≡ At z
+    → ((j : SyntaxKind) (t : Token) (r : Sketch) → first_tree (one_branch k (token j t r)) ≡ k)
+    → level ≡ 0 → BeginsNode k z 0 level kind
+loose k z level kind h a v sound home goes first e = record {
+  goes = goes;
+  sound = sound;
+  home = home;
+  fit = (loose_grows level (one_branch k blank) e h (no_name k blank sound)).fit;
+  first = first;
+  stops = λ t r. let c : Sketch = token (told_as k kind) t r in stops_at 0 (one_branch k c) (followed_loose (one_branch k c) (v c) a);
+  grows = λ l t r. loose_grows level (one_branch k (token (told_as k kind) t r)) e h (no_name k (token (told_as k kind) t r) sound);
+}
 
-name_begins : (text : List ℕ) (second : Option SyntaxKind) → BeginsTree (begin_name text second) TOKEN_IDENT
-name_begins text (Some TOKEN_COLON) = tt
-name_begins text (Some TOKEN_AT) = tt
-name_begins text second = name_tree text (is_cur_pos text)
+name_tree : (level : ℕ) (w : Bool) (second : Option SyntaxKind)
+    → BeginsTree (if w then b.Leaf NODE_CUR_POS else b.Leaf NODE_IDENT) level TOKEN_IDENT second
+name_tree level true second = record { atom = refl; goes = refl; first = λ j t r. refl; no_or = λ j t e. refl }
+name_tree level false second = record { atom = refl; goes = refl; first = λ j t r. refl; no_or = λ j t e. ap is_or e }
 
-brace_begins : (w : Bool) → BeginsTree (if w then b.PatternLambda else b.Node NODE_ATTR_SET p.SetInside 16) TOKEN_L_BRACE
-brace_begins true = tt
-brace_begins false = atom NODE_ATTR_SET TOKEN_L_BRACE (λ j t r. refl)
+name_begins : (level : ℕ) (text : List ℕ) (second : Option SyntaxKind) → BeginsTree (begin_name text second) level TOKEN_IDENT second
+name_begins level text (Some TOKEN_COLON) = refl
+name_begins level text (Some TOKEN_AT) = (refl, refl)
+name_begins level text second = name_tree level (is_cur_pos text) second
 
-invert_begins : (w : Bool) → BeginsTree (if w then b.Node NODE_UNARY_OP p.Inverted 8 else b.Stray) TOKEN_INVERT
-invert_begins true = record { first = λ j t r. refl; stops = λ t r. stops_at 8 (one_branch NODE_UNARY_OP (token TOKEN_INVERT t r)) (followed_inverted (one_branch NODE_UNARY_OP (token TOKEN_INVERT t r)) refl refl) }
-invert_begins false = tt
+brace_begins : (level : ℕ) (w : Bool) (second : Option SyntaxKind)
+    → BeginsTree (if w then b.PatternLambda else b.Node NODE_ATTR_SET p.SetInside 16) level TOKEN_L_BRACE second
+brace_begins level true second = refl
+brace_begins level false second = atom _ _ _ _ refl refl refl refl (λ j t r. refl)
 
-negate_begins : (w : Bool) → BeginsTree (if w then b.Node NODE_UNARY_OP p.Negated 13 else b.Stray) TOKEN_SUB
-negate_begins true = record { first = λ j t r. refl; stops = λ t r. stops_at 13 (one_branch NODE_UNARY_OP (token TOKEN_SUB t r)) (followed_negated (one_branch NODE_UNARY_OP (token TOKEN_SUB t r)) refl refl) }
-negate_begins false = tt
+invert_begins : (level : ℕ) (w : Bool) (second : Option SyntaxKind) → nat_le level 9 ≡ w
+    → BeginsTree (if w then b.Node NODE_UNARY_OP p.Inverted 8 else b.Stray) level TOKEN_INVERT second
+invert_begins level true second e =
+    let fit : fits level NODE_UNARY_OP ≡ true = prefix_fits level (grind (arith, nat_tests, e)) in
+    record {
+      goes = refl;
+      sound = refl;
+      home = refl;
+      fit = fit;
+      first = λ j t r. refl;
+      stops = λ t r. let x : Sketch = one_branch NODE_UNARY_OP (token TOKEN_INVERT t r) in stops_at 8 x (followed_inverted x refl refl);
+      grows = λ l t r. prefix_grows level 8 (one_branch NODE_UNARY_OP (token TOKEN_INVERT t r)) fit refl refl (at_most level 9 e) (omega arith) refl;
+    }
+invert_begins level false second e = tt
 
-let_begins : (second : Option SyntaxKind) → BeginsTree (begin_let second) TOKEN_LET
-let_begins (Some TOKEN_L_BRACE) = tt
-let_begins second = record { first = λ j t r. refl; stops = λ t r. stops_at 0 (one_branch NODE_LET_IN (token TOKEN_LET t r)) (followed_loose (one_branch NODE_LET_IN (token TOKEN_LET t r)) refl refl) }
+negate_begins : (level : ℕ) (w : Bool) (second : Option SyntaxKind) → nat_le level 14 ≡ w
+    → BeginsTree (if w then b.Node NODE_UNARY_OP p.Negated 13 else b.Stray) level TOKEN_SUB second
+negate_begins level true second e = record {
+  goes = refl;
+  sound = refl;
+  home = refl;
+  fit = prefix_fits level e;
+  first = λ j t r. refl;
+  stops = λ t r. let x : Sketch = one_branch NODE_UNARY_OP (token TOKEN_SUB t r) in stops_at 13 x (followed_negated x refl refl);
+  grows =
+      λ l t r. prefix_grows level 13 (one_branch NODE_UNARY_OP (token TOKEN_SUB t r)) (prefix_fits level e) refl refl (at_most level 14 e) (omega arith) refl;
+}
+negate_begins level false second e = tt
 
-let_begins_if : (w : Bool) (second : Option SyntaxKind) → BeginsTree (if w then begin_let second else b.Stray) TOKEN_LET
-let_begins_if true second = let_begins second
-let_begins_if false second = tt
+let_begins : (level : ℕ) (second : Option SyntaxKind) → level ≡ 0 → BeginsTree (begin_let second) level TOKEN_LET second
+let_begins level (Some TOKEN_L_BRACE) e = (refl, refl, e)
+let_begins level second e = loose _ _ _ _ refl refl (λ c. refl) refl refl refl (λ j t r. refl) e
 
-with_begins : (w : Bool) → BeginsTree (if w then b.Node NODE_WITH p.WithScope 0 else b.Stray) TOKEN_WITH
-with_begins true = record { first = λ j t r. refl; stops = λ t r. stops_at 0 (one_branch NODE_WITH (token TOKEN_WITH t r)) (followed_loose (one_branch NODE_WITH (token TOKEN_WITH t r)) refl refl) }
-with_begins false = tt
+-- where an expression may stand
+scope_begins : (level : ℕ) (begin : Begin) (kind : SyntaxKind) (second : Option SyntaxKind) (w : Bool) → nat_eq level 0 ≡ w
+    → (level ≡ 0 → BeginsTree begin level kind second)
+    → BeginsTree (if w then begin else b.Stray) level kind second
+scope_begins level begin kind second true e h = h (same_number level 0 e)
+scope_begins level begin kind second false e h = tt
 
-assert_begins : (w : Bool) → BeginsTree (if w then b.Node NODE_ASSERT p.AssertCondition 0 else b.Stray) TOKEN_ASSERT
-assert_begins true = record { first = λ j t r. refl; stops = λ t r. stops_at 0 (one_branch NODE_ASSERT (token TOKEN_ASSERT t r)) (followed_loose (one_branch NODE_ASSERT (token TOKEN_ASSERT t r)) refl refl) }
-assert_begins false = tt
-
-if_begins : (w : Bool) → BeginsTree (if w then b.Node NODE_IF_ELSE p.IfCondition 0 else b.Stray) TOKEN_IF
-if_begins true = record { first = λ j t r. refl; stops = λ t r. stops_at 0 (one_branch NODE_IF_ELSE (token TOKEN_IF t r)) (followed_loose (one_branch NODE_IF_ELSE (token TOKEN_IF t r)) refl refl) }
-if_begins false = tt
-
-begins_tree : (level : ℕ) (kind : SyntaxKind) (text : List ℕ) (second third : Option SyntaxKind) → BeginsTree (begin_of level kind text second third) kind
-begins_tree level TOKEN_L_PAREN text second third = atom _ _ (λ j t r. refl)
-begins_tree level TOKEN_L_BRACK text second third = atom _ _ (λ j t r. refl)
-begins_tree level TOKEN_REC text second third = atom _ _ (λ j t r. refl)
-begins_tree level TOKEN_STRING_START text second third = atom _ _ (λ j t r. refl)
-begins_tree level TOKEN_PATH_ABS text second third = atom _ _ (λ j t r. refl)
-begins_tree level TOKEN_PATH_REL text second third = atom _ _ (λ j t r. refl)
-begins_tree level TOKEN_PATH_HOME text second third = atom _ _ (λ j t r. refl)
-begins_tree level TOKEN_PATH_SEARCH text second third = atom _ _ (λ j t r. refl)
-begins_tree level TOKEN_FLOAT text second third = atom _ _ (λ j t r. refl)
-begins_tree level TOKEN_INTEGER text second third = atom _ _ (λ j t r. refl)
-begins_tree level TOKEN_URI text second third = atom _ _ (λ j t r. refl)
-begins_tree level TOKEN_IDENT text second third = name_begins text second
-begins_tree level TOKEN_CUR_POS text second third = atom _ _ (λ j t r. refl)
-begins_tree level TOKEN_L_BRACE text second third = brace_begins (is_pattern second third)
-begins_tree level TOKEN_INVERT text second third = invert_begins (nat_le level 9)
-begins_tree level TOKEN_SUB text second third = negate_begins (nat_le level 14)
-begins_tree level TOKEN_LET text second third = let_begins_if (nat_eq level 0) second
-begins_tree level TOKEN_WITH text second third = with_begins (nat_eq level 0)
-begins_tree level TOKEN_ASSERT text second third = assert_begins (nat_eq level 0)
-begins_tree level TOKEN_IF text second third = if_begins (nat_eq level 0)
+begins_tree : (level : ℕ) (kind : SyntaxKind) (text : List ℕ) (second third : Option SyntaxKind)
+    → BeginsTree (begin_of level kind text second third) level kind second
+begins_tree level TOKEN_L_PAREN text second third = atom _ _ _ _ refl refl refl refl (λ j t r. refl)
+begins_tree level TOKEN_L_BRACK text second third = atom _ _ _ _ refl refl refl refl (λ j t r. refl)
+begins_tree level TOKEN_REC text second third = atom _ _ _ _ refl refl refl refl (λ j t r. refl)
+begins_tree level TOKEN_STRING_START text second third = atom _ _ _ _ refl refl refl refl (λ j t r. refl)
+begins_tree level TOKEN_PATH_ABS text second third = atom _ _ _ _ refl refl refl refl (λ j t r. refl)
+begins_tree level TOKEN_PATH_REL text second third = atom _ _ _ _ refl refl refl refl (λ j t r. refl)
+begins_tree level TOKEN_PATH_HOME text second third = atom _ _ _ _ refl refl refl refl (λ j t r. refl)
+begins_tree level TOKEN_PATH_SEARCH text second third = record { atom = refl; goes = refl; first = λ j t r. refl; no_or = λ j t e. refl }
+begins_tree level TOKEN_FLOAT text second third = record { atom = refl; goes = refl; first = λ j t r. refl; no_or = λ j t e. refl }
+begins_tree level TOKEN_INTEGER text second third = record { atom = refl; goes = refl; first = λ j t r. refl; no_or = λ j t e. refl }
+begins_tree level TOKEN_URI text second third = record { atom = refl; goes = refl; first = λ j t r. refl; no_or = λ j t e. refl }
+begins_tree level TOKEN_CUR_POS text second third = record { atom = refl; goes = refl; first = λ j t r. refl; no_or = λ j t e. refl }
+begins_tree level TOKEN_IDENT text second third = name_begins level text second
+begins_tree level TOKEN_L_BRACE text second third = brace_begins level (is_pattern second third) second
+begins_tree level TOKEN_INVERT text second third = invert_begins level (nat_le level 9) second refl
+begins_tree level TOKEN_SUB text second third = negate_begins level (nat_le level 14) second refl
+begins_tree level TOKEN_LET text second third =
+    scope_begins level (begin_let second) TOKEN_LET second (nat_eq level 0) refl (let_begins level second)
+begins_tree level TOKEN_WITH text second third =
+    scope_begins level (b.Node NODE_WITH p.WithScope 0) TOKEN_WITH second (nat_eq level 0) refl
+    (loose _ _ _ _ refl refl (λ c. refl) refl refl refl (λ j t r. refl))
+begins_tree level TOKEN_ASSERT text second third =
+    scope_begins level (b.Node NODE_ASSERT p.AssertCondition 0) TOKEN_ASSERT second (nat_eq level 0) refl
+    (loose _ _ _ _ refl refl (λ c. refl) refl refl refl (λ j t r. refl))
+begins_tree level TOKEN_IF text second third =
+    scope_begins level (b.Node NODE_IF_ELSE p.IfCondition 0) TOKEN_IF second (nat_eq level 0) refl
+    (loose _ _ _ _ refl refl (λ c. refl) refl refl refl (λ j t r. refl))
 begins_tree level _ text second third = tt
 
 -- the table read backwards
-pub begun_tree : (begin : Begin) (level : ℕ) (kind : SyntaxKind) (text : List ℕ) (second third : Option SyntaxKind) → begin_of level kind text second third ≡ begin → BeginsTree begin kind
-begun_tree begin level kind text second third h = subst (λ (x : Begin). BeginsTree x kind) h (begins_tree level kind text second third)
+pub begun_tree : (begin : Begin) (level : ℕ) (kind : SyntaxKind) (text : List ℕ) (second third : Option SyntaxKind)
+    → begin_of level kind text second third ≡ begin → BeginsTree begin level kind second
+begun_tree begin level kind text second third h = subst (λ (x : Begin). BeginsTree x level kind second) h (begins_tree level kind text second third)

@@ -1,5 +1,5 @@
 -- Steps that read an operand in the row of an open frame.
-use Rattle.std.proofs.Common.{◌≡◌, ℕ, suc, ◌≤◌, ◌<◌, Bool, true, false, List, [], ◌∷◌, ◌++◌, Some, refl, ap, sym, ◌∙◌, subst, append_assoc, append-nil, arith}
+use Rattle.std.proofs.Common.{◌≡◌, ℕ, suc, ◌≤◌, Bool, true, false, List, [], ◌∷◌, ◌++◌, Some, refl, ap, sym, ◌∙◌, subst, append_assoc, append-nil, arith}
 use Rattle.std.specs.Prelude.{if◌then◌else◌, nat_le, nat_eq}
 use Rattle.std.proofs.lemmas.Bool.Decides.{nat_tests}
 use Rattle.rnix_kinds.proofs.AllKinds.{implied}
@@ -27,11 +27,11 @@ use Rattle.rnix_lemmas.proofs.LevelLemmas.{atom_fits}
 use Rattle.rnix_lemmas.proofs.RunLemmas.{dropped_all}
 use Rattle.rnix_lemmas.proofs.NodeKinds.{fits_expression}
 use Rattle.rnix_lemmas.proofs.OpenHeads.{is_open}
-use Rattle.rnix_invariants.proofs.BeginLemmas.{begun_as}
 use Rattle.rnix_existence.proofs.OpenFrames.{Lone, Ends, EndsBy}
 use Rattle.rnix_existence.proofs.RowFronts.{prepended}
 use Rattle.rnix_existence.proofs.OperandTrees.{Takes, placed}
 use Rattle.rnix_existence.proofs.BeginLevels.{begun_tree}
+use Rattle.rnix_existence.proofs.BeginKept.{below_limit}
 use Rattle.rnix_existence.proofs.BeginEnds.{BeginEnds}
 use Rattle.rnix_existence.proofs.BeginCases.{begun_ends}
 
@@ -42,7 +42,6 @@ pub begin_ends : (level d : ℕ) (t : Token) (us : List Token) (g : Frame) (fs :
     → BeginEnds level d g fs (t ∷ us) n row gs ((operand_on false level d g fs (t ∷ us) (t ∷ us) n gs).faults ++ es)
 begin_ends level d t us g fs n gs row es ends =
     begun_ends (begin_of level t.kind t.text (head_kind us) (second_kind us)) level d t us g fs n gs row es refl
-    (begun_as (begin_of level t.kind t.text (head_kind us) (second_kind us)) level t.kind t.text (head_kind us) (second_kind us) refl)
     (begun_tree (begin_of level t.kind t.text (head_kind us) (second_kind us)) level t.kind t.text (head_kind us) (second_kind us) refl) ends
 
 -- what ends behind some machine ends before it, with the errors in between
@@ -114,9 +113,6 @@ too_deep_at f fs ts n gs level y o takes counted e own row es ends = (too_deep �
 
 at_limit : (d : ℕ) → nat_le depth_limit d ≡ true → d ≤ depth_limit → d ≡ depth_limit
 at_limit d h j = grind (arith, nat_tests, h, j)
-
-below_limit : (d : ℕ) → nat_le depth_limit d ≡ false → d < depth_limit
-below_limit d h = grind (arith, nat_tests, h)
 
 -- an operand of a level is read where one may stand
 pub reading_ends : (f : Frame) (fs : List Frame) (ts : List Token) (n : ℕ) (gs : List Fault) (level : ℕ) (counted : Bool) (y : Place) → is_open f.head ≡ true → f.depth ≤ depth_limit

@@ -1,4 +1,12 @@
 pub mod OpenFrames
+pub mod Frames
+pub mod Growing
+pub mod PlaceRows
+pub mod BeginLevels
+pub mod BelowKept
+pub mod BeginKept
+pub mod NodeKept
+pub mod OperandKept
 pub mod RowFronts
 pub mod RowSteps
 pub mod NodeOpens
@@ -9,7 +17,6 @@ pub mod PatternTable
 pub mod OperandTrees
 pub mod OperandEnds
 pub mod OperandWraps
-pub mod BeginLevels
 pub mod BeginEnds
 pub mod BeginCases
 pub mod BeginReads

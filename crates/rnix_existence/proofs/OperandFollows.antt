@@ -1,39 +1,28 @@
 -- What goes on with an operand follows its tree, and where nothing does the operand is whole.
-use Rattle.std.proofs.Common.{◌≡◌, ℕ, ◌≤◌, Bool, true, false, List, [], ◌∷◌, Option, Some, refl, ap, sym, ◌∙◌, subst, append-nil, arith}
+use Rattle.std.proofs.Common.{◌≡◌, ℕ, ◌≤◌, Bool, true, false, List, [], ◌∷◌, Some, refl, ap, sym, ◌∙◌, subst, append-nil, arith}
 use Rattle.std.specs.Prelude.{◌||◌, ◌&&◌, if◌then◌else◌, nat_eq, nat_le}
 use Rattle.std.proofs.lemmas.Bool.Decides.{nat_tests}
 use Rattle.rnix_kinds.proofs.AllKinds.{implied}
 use Rattle.rnix_kinds.specs.declared.kinds.SyntaxKind.{SyntaxKind}
-use Rattle.rnix_kinds.specs.declared.kinds.SyntaxKind.TheVariants.{TOKEN_DOT, TOKEN_OR, TOKEN_QUESTION, NODE_LITERAL}
+use Rattle.rnix_kinds.specs.declared.kinds.SyntaxKind.TheVariants.{TOKEN_QUESTION}
 use Rattle.rnix_kinds.specs.SyntaxKind.{is_fn_arg}
 use Rattle.rnix_grammar.specs.Levels.{power, left_of}
 use Rattle.rnix_grammar.specs.Actions as a
 use Rattle.rnix_grammar.specs.TokenKinds.{is_or, is_question, is_dot}
 use Rattle.rnix_grammar.specs.Sketch.{Token, Sketch, head_kind}
 use Rattle.rnix_grammar.specs.Rows.{is_infix, fits}
-use Rattle.rnix_grammar.specs.Stands.{last_from}
 use Rattle.rnix_grammar.specs.TreeLevels.{row_level, is_or_row, is_atom_row}
 use Rattle.rnix_grammar.specs.Operands.{follows, goes_on}
-use Rattle.rnix_lemmas.proofs.Basics.{true_is_not_false}
-use Rattle.rnix_lemmas.proofs.LevelLemmas.{atom_fits, at_most_true}
+use Rattle.rnix_lemmas.proofs.Basics.{true_is_not_false, not_if}
+use Rattle.rnix_lemmas.proofs.LevelLemmas.{at_most_true}
 use Rattle.rnix_lemmas.proofs.FollowLemmas.{Stops, follows_power}
-use Rattle.rnix_lemmas.proofs.FirstTrees.{IsSingle}
 use Rattle.rnix_existence.proofs.OpenFrames.{seen_kind, Lone, Grows}
-use Rattle.rnix_existence.proofs.OperandWraps.{seen_any}
 
 -- an operator follows what may be its left operand
 pub operator_follows : (k : SyntaxKind) (x : Sketch) → is_infix k ≡ true → left_of k ≤ row_level x → follows k x ≡ true
 operator_follows k x h l =
     ap (λ w. if w then nat_le (left_of k) (row_level x) else (if is_question k then nat_le 13 (row_level x) else (if is_fn_arg k then nat_le 15 (row_level x) else ((is_dot k || is_or k) && is_atom_row x)))) h
     ∙ at_most_true (left_of k) (row_level x) l
-
--- behind an atom `.` follows
-pub dot_follows : (x : Sketch) → is_atom_row x ≡ true → follows TOKEN_DOT x ≡ true
-dot_follows x h = h
-
--- and so does `or`
-pub or_follows : (x : Sketch) → is_atom_row x ≡ true → follows TOKEN_OR x ≡ true
-or_follows x h = h
 
 -- `?` follows what binds as tightly
 pub question_follows : (x : Sketch) → 13 ≤ row_level x → follows TOKEN_QUESTION x ≡ true
@@ -47,17 +36,13 @@ argument_is k h = implied (λ o. nat_eq (power o) 15) is_fn_arg refl k (grind (a
 pub argument_follows : (k : SyntaxKind) (x : Sketch) → power k ≡ 15 → 15 ≤ row_level x → follows k x ≡ true
 argument_follows k x h l =
     ap (λ w. if w then nat_le (left_of k) (row_level x) else (if is_question k then nat_le 13 (row_level x) else (if is_fn_arg k then nat_le 15 (row_level x) else ((is_dot k || is_or k) && is_atom_row x))))
-    (not_so (is_infix k) (implied (λ o. nat_eq (power o) 15) (λ o. if is_infix o then false else true) refl k e))
+    (not_if (is_infix k) (implied (λ o. nat_eq (power o) 15) (λ o. if is_infix o then false else true) refl k e))
     ∙ ap (λ w. if w then nat_le 13 (row_level x) else (if is_fn_arg k then nat_le 15 (row_level x) else ((is_dot k || is_or k) && is_atom_row x)))
-    (not_so (is_question k) (implied (λ o. nat_eq (power o) 15) (λ o. if is_question o then false else true) refl k e))
+    (not_if (is_question k) (implied (λ o. nat_eq (power o) 15) (λ o. if is_question o then false else true) refl k e))
     ∙ ap (λ w. if w then nat_le 15 (row_level x) else ((is_dot k || is_or k) && is_atom_row x)) (argument_is k h) ∙ at_most_true 15 (row_level x) l
   where
     e : nat_eq (power k) 15 ≡ true
     e = grind (arith, nat_tests, h)
-
-    not_so : (w : Bool) → (if w then false else true) ≡ true → w ≡ false
-    not_so true q = absurd (true_is_not_false (sym q))
-    not_so false q = refl
 
 -- what does not go on between two levels does not go on with a tree, if nothing tighter follows that
 pub calm_behind : (low high : ℕ) (x : Sketch) (ts : List Token) → ((j : SyntaxKind) → head_kind ts ≡ Some j → a.goes_on low high j ≡ false) → Stops high x → goes_on low x ts ≡ false
@@ -90,7 +75,3 @@ grown_none low high d x ts n l h o calm = record {
   calm = λ s. calm_behind low high x ts calm s;
   lone = λ i cs e s z. subst (Lone d i x ts) (sym (append-nil cs)) z;
 }
-
--- the kind by which a row goes on behind an operand may stand where the operand may
-pub seen_fits : (low : ℕ) (x : Sketch) (k : SyntaxKind) → IsSingle x → ((b : Option SyntaxKind) → last_from b x ≡ Some k) → fits low k ≡ true → fits low (seen_kind x) ≡ true
-seen_fits low x k s l h = seen_any (fits low) x k s l (atom_fits low NODE_LITERAL refl) h

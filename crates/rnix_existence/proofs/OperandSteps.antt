@@ -20,33 +20,33 @@ use Rattle.rnix_grammar.specs.Reads.{end, leaf, inner}
 use Rattle.rnix_lemmas.proofs.Basics.{true_is_not_false}
 use Rattle.rnix_lemmas.proofs.SketchLemmas.{⊕-assoc, tokens_two}
 use Rattle.rnix_lemmas.proofs.FollowLemmas.{Stops, stops_simple}
-use Rattle.rnix_invariants.proofs.Reading.{AtOperand}
-use Rattle.rnix_invariants.proofs.OperandSteps.{alone}
 use Rattle.rnix_existence.proofs.OpenFrames.{seen_kind, Ends, operand_frame, EndsBy}
+use Rattle.rnix_existence.proofs.Frames.{AtOperand}
+use Rattle.rnix_existence.proofs.BelowKept.{alone}
 use Rattle.rnix_existence.proofs.RowFronts.{end_two}
 use Rattle.rnix_existence.proofs.OperandTrees.{past_over, Takes, placed}
 use Rattle.rnix_existence.proofs.OperandEnds.{OpenEnds, open_ends}
 use Rattle.rnix_existence.proofs.OperandWraps.{wrapped_ends}
-use Rattle.rnix_existence.proofs.OperandFollows.{grown_none, seen_fits}
+use Rattle.rnix_existence.proofs.OperandFollows.{grown_none}
 use Rattle.rnix_existence.proofs.BeginEnds.{BeginEnds, first_leaf}
 use Rattle.rnix_existence.proofs.BeginReads.{begin_ends}
 
 -- the operand is complete
-pub settle_ends : (f : Frame) (fs : List Frame) (ts : List Token) (n : ℕ) (gs : List Fault) (r : AtOperand f fs ts gs)
+pub settle_ends : (f : Frame) (fs : List Frame) (ts : List Token) (n : ℕ) (gs : List Fault) (r : AtOperand f fs)
     → ((j : SyntaxKind) → head_kind ts ≡ Some j → goes_on r.low r.high j ≡ false) → EndsBy a.Settle f fs ts n gs
-settle_ends f [] ts n gs r h row es ends = absurd (alone r.waits refl)
+settle_ends f [] ts n gs r h row es ends = absurd (alone r.below)
 settle_ends f (g ∷ fs) ts n gs r h row es ends = (
   es,
   (
     operand_frame r.low r.high r.head r.place
-        (grown_none r.low r.high f.depth f.row ts n r.lone.tall.least (seen_fits r.low f.row r.lone.kind r.lone.single r.lone.last r.lone.fit) r.lone.no_or h)
+        (grown_none r.low r.high f.depth f.row ts n r.grows.least r.grows.fit r.grows.no_or h)
         (subst (λ (z : Head). Ends (put g.place (g.row ⊕ made z f.row) g ∷ fs) ts n row es) r.head ends) refl,
     refl,
   ),
 )
 
 -- the operand becomes the first tree of a node that the next item goes on with
-pub wrap_ends : (f : Frame) (fs : List Frame) (t : Token) (ts : List Token) (n : ℕ) (gs : List Fault) (k : SyntaxKind) (spot : Spot) (x : Place) (other : ℕ) (r : AtOperand f fs (t ∷ ts) gs)
+pub wrap_ends : (f : Frame) (fs : List Frame) (t : Token) (ts : List Token) (n : ℕ) (gs : List Fault) (k : SyntaxKind) (spot : Spot) (x : Place) (other : ℕ) (r : AtOperand f fs)
     → start k ≡ Start k → go (Start k) (seen_kind f.row) ≡ spot → live spot ≡ true → ((us : List Token) → IsOwned spot n us true) → IsFollowed spot f.row (Some (told k t)) → go spot (told k t) ≡ At x
     → ((c : Sketch) → first_tree (one_branch k c) ≡ first_tree c) → ((rest : Sketch) → Stops other (one_branch k (f.row ⊕ token (told k t) t rest))) → ((b c : Sketch) → repeats k b c ≡ [])
     → EndsBy (a.Wrap k x other) f fs (t ∷ ts) n gs
@@ -62,8 +62,8 @@ wrap_ends f fs t ts n gs k spot x other r st g l own fo h first stops none row e
 
     whole : Ends (f ∷ fs) (t ∷ ts) n row (o.inside ++ o.behind)
     whole =
-        wrapped_ends f fs (t ∷ ts) n row o.behind r.low r.high other k spot o.spot (token (told k t) t o.rest) o.left o.reached o.inside r.head r.place r.lone.single
-        (seen_fits r.low f.row r.lone.kind r.lone.single r.lone.last r.lone.fit) st g l (first (f.row ⊕ token (told k t) t o.rest)) (stops o.rest) (ap (λ z. t ∷ z) o.items) o.reach o.over
+        wrapped_ends f fs (t ∷ ts) n row o.behind r.low r.high other k spot o.spot (token (told k t) t o.rest) o.left o.reached o.inside r.head r.place r.single
+        r.grows.fit st g l (first (f.row ⊕ token (told k t) t o.rest)) (stops o.rest) (ap (λ z. t ∷ z) o.items) o.reach o.over
         (leaf refl refl (own (t ∷ (tokens_in o.rest ++ o.left))) fo h refl refl refl o.reads)
         (subst (λ (z : Sketch). Ends (opened Operand (p.Behind r.low other) f.depth (one_branch k z) ∷ fs) o.left o.reached row o.behind) (⊕-assoc f.row (one_token (told k t) t) o.rest) o.ends)
 
@@ -72,7 +72,7 @@ argument_takes : Takes BeforeArgument 16 (At p.Past)
 argument_takes = record { leveled = λ x h. ap (λ w. if w then None else Some 16) h; owned = λ k c h. h; goes = λ k h. ap (λ w. to w (At p.Past)) h; live = refl }
 
 -- the operand is called
-pub apply_ends : (f : Frame) (fs : List Frame) (t : Token) (ts : List Token) (n : ℕ) (gs : List Fault) (r : AtOperand f fs (t ∷ ts) gs) → go (Start NODE_APPLY) (seen_kind f.row) ≡ BeforeArgument
+pub apply_ends : (f : Frame) (fs : List Frame) (t : Token) (ts : List Token) (n : ℕ) (gs : List Fault) (r : AtOperand f fs) → go (Start NODE_APPLY) (seen_kind f.row) ≡ BeforeArgument
     → is_or t.kind ≡ false → is_fn_arg t.kind ≡ true → follows t.kind f.row ≡ true → EndsBy a.Apply f fs (t ∷ ts) n gs
 apply_ends f fs t ts n gs r g nor arg fo row es ends = ((b.inside ++ o.inside) ++ o.behind, (whole, faults))
   where
@@ -96,22 +96,22 @@ apply_ends f fs t ts n gs r g nor arg fo row es ends = ((b.inside ++ o.inside) +
 
     whole : Ends (f ∷ fs) (t ∷ ts) n row ((b.inside ++ o.inside) ++ o.behind)
     whole =
-        wrapped_ends f fs (t ∷ ts) n row o.behind r.low r.high 15 NODE_APPLY BeforeArgument o.spot (b.tree ⊕ o.rest) o.left o.reached (b.inside ++ o.inside) r.head r.place r.lone.single
-        (seen_fits r.low f.row r.lone.kind r.lone.single r.lone.last r.lone.fit) refl g refl refl (stops_simple (one_branch NODE_APPLY (f.row ⊕ (b.tree ⊕ o.rest))) refl)
+        wrapped_ends f fs (t ∷ ts) n row o.behind r.low r.high 15 NODE_APPLY BeforeArgument o.spot (b.tree ⊕ o.rest) o.left o.reached (b.inside ++ o.inside) r.head r.place r.single
+        r.grows.fit refl g refl refl (stops_simple (one_branch NODE_APPLY (f.row ⊕ (b.tree ⊕ o.rest))) refl)
         (b.items ∙ ap (λ z. tokens_in b.tree ++ z) o.items ∙ sym (tokens_two b.tree o.rest o.left)) (o.reach ∙ ap (λ j. end_from j (tokens_in o.rest)) b.reach ∙ sym (end_two n b.tree o.rest)) o.over
         (placed argument_takes b.lone b.fit b.no_or b.operand o.items b.items b.reach nor (λ e. absurd (true_is_not_false (sym e))) followed o.reads)
         (subst (λ (m : ℕ). Ends (opened Operand (p.Behind m 15) f.depth (one_branch NODE_APPLY (f.row ⊕ (b.tree ⊕ o.rest))) ∷ fs) o.left o.reached row o.behind) (ap low_of r.place)
         (subst (λ (z : Sketch). Ends (opened Operand (p.Behind (low_of f.place) 15) f.depth (one_branch NODE_APPLY z) ∷ fs) o.left o.reached row o.behind) (⊕-assoc f.row b.tree o.rest) o.ends))
 
 -- the operand is called with the name `or`
-pub apply_or_ends : (f : Frame) (fs : List Frame) (t : Token) (ts : List Token) (n : ℕ) (gs : List Fault) (r : AtOperand f fs (t ∷ ts) gs) → go (Start NODE_APPLY) (seen_kind f.row) ≡ BeforeArgument
+pub apply_or_ends : (f : Frame) (fs : List Frame) (t : Token) (ts : List Token) (n : ℕ) (gs : List Fault) (r : AtOperand f fs) → go (Start NODE_APPLY) (seen_kind f.row) ≡ BeforeArgument
     → t.kind ≡ TOKEN_OR → follows TOKEN_OR f.row ≡ true → EndsBy a.ApplyOr f fs (t ∷ ts) n gs
 apply_or_ends f fs t ts n gs r g e fo row es ends = (es, (whole, refl))
   where
     whole : Ends (f ∷ fs) (t ∷ ts) n row es
     whole =
-        wrapped_ends f fs (t ∷ ts) n row es r.low r.high 15 NODE_APPLY BeforeArgument (At p.Past) (one_branch NODE_IDENT (one_token (told NODE_IDENT t) t)) ts t.end [] r.head r.place r.lone.single
-        (seen_fits r.low f.row r.lone.kind r.lone.single r.lone.last r.lone.fit) refl g refl refl (stops_simple (one_branch NODE_APPLY (f.row ⊕ one_branch NODE_IDENT (one_token (told NODE_IDENT t) t))) refl)
+        wrapped_ends f fs (t ∷ ts) n row es r.low r.high 15 NODE_APPLY BeforeArgument (At p.Past) (one_branch NODE_IDENT (one_token (told NODE_IDENT t) t)) ts t.end [] r.head r.place r.single
+        r.grows.fit refl g refl refl (stops_simple (one_branch NODE_APPLY (f.row ⊕ one_branch NODE_IDENT (one_token (told NODE_IDENT t) t))) refl)
         refl refl (past_over t.end ts)
         (inner refl refl (first_leaf NODE_IDENT t refl (ap (λ k. go (Start NODE_IDENT) (told_as NODE_IDENT k)) e) refl end) refl (past_over t.end ts) refl
         (λ v. absurd (true_is_not_false (sym v))) (subst (λ (k : SyntaxKind). IsFollowed BeforeArgument f.row (Some k)) (sym e) fo)

@@ -1,18 +1,18 @@
 -- One tree that is an operand, as a part of a row.
 use Rattle.std.proofs.Common.{◌≡◌, ℕ, Bool, true, false, List, [], ◌∷◌, ◌++◌, Option, Some, refl, ap, sym, ◌∙◌, subst, append-nil}
 use Rattle.rnix_kinds.specs.declared.kinds.SyntaxKind.{SyntaxKind}
-use Rattle.rnix_kinds.specs.declared.kinds.SyntaxKind.TheVariants.{NODE_LITERAL}
+use Rattle.rnix_kinds.specs.declared.kinds.SyntaxKind.TheVariants.{NODE_LITERAL, NODE_PAT_ENTRY}
 use Rattle.rnix_grammar.specs.declared.place.Place.TheVariants as p
 use Rattle.rnix_grammar.specs.Fault.{Fault}
 use Rattle.rnix_grammar.specs.Sketch.{Token, Stray, Sketch, blank, ◌⊕◌, one_branch, one_fault, row_of, tokens_in, head_kind, end_from}
-use Rattle.rnix_grammar.specs.Rows.{fits, Spot, Start, At, go, live}
+use Rattle.rnix_grammar.specs.Rows.{is_expression, fits, Spot, Start, At, go, live}
 use Rattle.rnix_grammar.specs.Reports.{repeats}
 use Rattle.rnix_grammar.specs.TreeLevels.{is_or_row}
 use Rattle.rnix_grammar.specs.OwnItems.{IsOwned, stands_owned}
 use Rattle.rnix_grammar.specs.Operands.{IsFollowed, IsOperand, level_at}
 use Rattle.rnix_grammar.specs.Reads.{Reads, wrong, inner, IsRoom, IsOver, deeper}
 use Rattle.rnix_lemmas.proofs.Basics.{true_is_not_false}
-use Rattle.rnix_invariants.proofs.CloseSteps.{fit_new}
+use Rattle.rnix_lemmas.proofs.NodeKinds.{fits_expression}
 use Rattle.rnix_existence.proofs.OpenFrames.{seen_kind, Lone, a_node, an_error}
 
 -- behind its last place a row may end
@@ -23,6 +23,14 @@ past_over m (t ∷ us) = (refl, refl)
 -- a tree's last item, without the empty row behind the tree
 alone_end : (m n : ℕ) (c : Sketch) → m ≡ end_from n (tokens_in (one_branch NODE_LITERAL c)) → m ≡ end_from n (tokens_in c)
 alone_end m n c e = e ∙ ap (end_from n) (append-nil (tokens_in c))
+
+expression_new : (k : SyntaxKind) (b c : Sketch) → is_expression k ≡ true → repeats k b c ≡ []
+expression_new NODE_PAT_ENTRY b c h = absurd (true_is_not_false (sym h))
+expression_new _ b c h = refl
+
+-- no operand is an entry of a pattern
+pub fit_new : (n : ℕ) (k : SyntaxKind) (b c : Sketch) → fits n k ≡ true → repeats k b c ≡ []
+fit_new n k b c h = expression_new k b c (fits_expression n k h)
 
 -- an operand repeats no name
 none_repeated : (level : ℕ) (k : SyntaxKind) (b c : Sketch) (ds : List Fault) → fits level k ≡ true → ds ++ repeats k b c ≡ ds

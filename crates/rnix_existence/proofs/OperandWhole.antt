@@ -15,19 +15,16 @@ use Rattle.rnix_grammar.specs.Levels.{power, right_of, high_of}
 use Rattle.rnix_grammar.specs.Actions.{follow, goes_on, more_action, action_at}
 use Rattle.rnix_grammar.specs.TokenKinds.{is_or}
 use Rattle.rnix_grammar.specs.Sketch.{Token, token, ◌⊕◌, one_branch, told, told_as, head_kind, touches}
-use Rattle.rnix_grammar.specs.Machine.{Operand, Frame}
-use Rattle.rnix_grammar.specs.Rows.{is_atom, is_simple, is_questioned, is_operand, BeforeOperator, BeforeDot, BeforeQuestion, BeforeArgument, At, to, go}
+use Rattle.rnix_grammar.specs.Machine.{Frame}
+use Rattle.rnix_grammar.specs.Rows.{is_atom, BeforeOperator, BeforeDot, BeforeQuestion, BeforeArgument, At, to, go}
 use Rattle.rnix_grammar.specs.Operands.{follows}
-use Rattle.rnix_lemmas.proofs.Basics.{true_is_not_false, not_if, some_same}
+use Rattle.rnix_lemmas.proofs.Basics.{not_if, some_same}
 use Rattle.rnix_lemmas.proofs.FollowLemmas.{stops_simple, stops_at, followed_question, followed_infix}
-use Rattle.rnix_lemmas.proofs.FirstTrees.{single_operator, single_atom}
-use Rattle.rnix_lemmas.proofs.OpenHeads.{is_open}
-use Rattle.rnix_invariants.proofs.Reading.{Reading, node, operand, second, AtOperand}
-use Rattle.rnix_invariants.proofs.OperandSteps.{FollowsBy, by_dot, by_or, by_question, by_operator, by_argument, Between, between}
-use Rattle.rnix_invariants.proofs.OperandSteps as o
-use Rattle.rnix_invariants.proofs.BeginSteps.{none_some}
-use Rattle.rnix_existence.proofs.OpenFrames.{EndsBy}
-use Rattle.rnix_existence.proofs.OperandWraps.{seen_any}
+use Rattle.rnix_lemmas.proofs.FirstTrees.{single_operator}
+use Rattle.rnix_existence.proofs.OpenFrames.{seen_kind, EndsBy}
+use Rattle.rnix_existence.proofs.Frames.{AtOperand}
+use Rattle.rnix_existence.proofs.OperandKept.{FollowsBy, by_dot, by_or, by_question, by_operator, by_argument, Between, between, none_some, atom_row}
+use Rattle.rnix_existence.proofs.OperandKept as o
 use Rattle.rnix_existence.proofs.OperandFollows.{operator_follows, question_follows, argument_is, argument_follows}
 use Rattle.rnix_existence.proofs.OperandSteps.{settle_ends, wrap_ends, apply_ends, apply_or_ends}
 
@@ -36,37 +33,37 @@ argument_no_or : (k : SyntaxKind) → power k ≡ 15 → is_or k ≡ false
 argument_no_or k h = not_if (is_or k) (implied (λ o. nat_eq (power o) 15) (λ o. if is_or o then false else true) refl k (grind (arith, nat_tests, h)))
 
 -- an operand goes on with a token
-goes : (k : SyntaxKind) (action : Action) → FollowsBy k action → (f : Frame) (fs : List Frame) (t : Token) (ts : List Token) (n : ℕ) (gs : List Fault) (r : AtOperand f fs (t ∷ ts) gs)
+goes : (k : SyntaxKind) (action : Action) → FollowsBy k action → (f : Frame) (fs : List Frame) (t : Token) (ts : List Token) (n : ℕ) (gs : List Fault) (r : AtOperand f fs)
     → t.kind ≡ k → Between r.low r.high k → EndsBy action f fs (t ∷ ts) n gs
 goes k action by_dot f fs t ts n gs r e x =
-    let at : is_atom r.lone.kind ≡ true = r.lone.grows.atom (omega (arith, x.most)) in
-    wrap_ends f fs t ts n gs NODE_SELECT BeforeDot p.SelectPath 15 r refl (ap (λ w. to w BeforeDot) (seen_any is_atom f.row r.lone.kind r.lone.single r.lone.last refl at)) refl (λ us. tt)
-    (subst (λ (j : SyntaxKind). follows j f.row ≡ true) (sym e) (single_atom f.row r.lone.kind r.lone.single r.lone.last at))
+    let at : is_atom (seen_kind f.row) ≡ true = r.grows.atom (omega (arith, x.most)) in
+    wrap_ends f fs t ts n gs NODE_SELECT BeforeDot p.SelectPath 15 r refl (ap (λ w. to w BeforeDot) at) refl (λ us. tt)
+    (subst (λ (j : SyntaxKind). follows j f.row ≡ true) (sym e) (atom_row f.row r.single at))
     (ap (λ j. go BeforeDot (told_as NODE_SELECT j)) e) (λ c. refl) (λ rest. stops_simple (one_branch NODE_SELECT (f.row ⊕ token (told NODE_SELECT t) t rest)) refl) (λ b c. refl)
 goes k action by_question f fs t ts n gs r e x =
     wrap_ends f fs t ts n gs NODE_HAS_ATTR BeforeQuestion p.HasPath 13 r refl
-    (ap (λ w. to w BeforeQuestion) (seen_any is_questioned f.row r.lone.kind r.lone.single r.lone.last refl (r.lone.grows.questioned (omega (arith, x.most))))) refl (λ us. tt)
-    (subst (λ (j : SyntaxKind). follows j f.row ≡ true) (sym e) (question_follows f.row (r.lone.tall.questioned (omega (arith, x.most)))))
+    (ap (λ w. to w BeforeQuestion) (r.grows.questioned (omega (arith, x.most)))) refl (λ us. tt)
+    (subst (λ (j : SyntaxKind). follows j f.row ≡ true) (sym e) (question_follows f.row (r.grows.asked (omega (arith, x.most)))))
     (ap (λ j. go BeforeQuestion (told_as NODE_HAS_ATTR j)) e) (λ c. refl)
     (λ rest. stops_at 13 (one_branch NODE_HAS_ATTR (f.row ⊕ token (told NODE_HAS_ATTR t) t rest)) (followed_question (one_branch NODE_HAS_ATTR (f.row ⊕ token (told NODE_HAS_ATTR t) t rest)) refl refl)) (λ b c. refl)
 goes k action (by_operator h) f fs t ts n gs r e x =
     wrap_ends f fs t ts n gs NODE_BIN_OP BeforeOperator (p.Right (right_of k)) (high_of k) r refl
-    (ap (λ w. to w BeforeOperator) (seen_any is_operand f.row r.lone.kind r.lone.single r.lone.last refl (r.lone.grows.operand (omega (arith, x.most, x.positive))))) refl (λ us. tt)
-    (subst (λ (j : SyntaxKind). follows j f.row ≡ true) (sym e) (operator_follows k f.row h (r.lone.tall.operator k h x.most)))
+    (ap (λ w. to w BeforeOperator) (r.grows.operand (omega (arith, x.most, x.positive)))) refl (λ us. tt)
+    (subst (λ (j : SyntaxKind). follows j f.row ≡ true) (sym e) (operator_follows k f.row h (r.grows.left k h x.most)))
     (ap (λ j. go BeforeOperator (told_as NODE_BIN_OP j)) e ∙ ap (λ w. to w (At (p.Right (right_of k)))) h) (λ c. refl)
     (λ rest. stops_at (high_of k) (one_branch NODE_BIN_OP (f.row ⊕ token (told NODE_BIN_OP t) t rest))
-    (followed_infix k h (one_branch NODE_BIN_OP (f.row ⊕ token (told NODE_BIN_OP t) t rest)) (ap power (single_operator f.row rest (told NODE_BIN_OP t) t r.lone.single ∙ e)) refl)) (λ b c. refl)
+    (followed_infix k h (one_branch NODE_BIN_OP (f.row ⊕ token (told NODE_BIN_OP t) t rest)) (ap power (single_operator f.row rest (told NODE_BIN_OP t) t r.single ∙ e)) refl)) (λ b c. refl)
 goes k action by_or f fs t ts n gs r e x =
-    let at : is_atom r.lone.kind ≡ true = r.lone.grows.atom (omega (arith, x.most)) in
-    apply_or_ends f fs t ts n gs r (ap (λ w. to w BeforeArgument) (seen_any is_simple f.row r.lone.kind r.lone.single r.lone.last refl (r.lone.grows.simple (omega (arith, x.most))))) e
-    (single_atom f.row r.lone.kind r.lone.single r.lone.last at)
+    let at : is_atom (seen_kind f.row) ≡ true = r.grows.atom (omega (arith, x.most)) in
+    apply_or_ends f fs t ts n gs r (ap (λ w. to w BeforeArgument) (r.grows.simple (omega (arith, x.most)))) e
+    (atom_row f.row r.single at)
 goes k action (by_argument h) f fs t ts n gs r e x =
-    apply_ends f fs t ts n gs r (ap (λ w. to w BeforeArgument) (seen_any is_simple f.row r.lone.kind r.lone.single r.lone.last refl (r.lone.grows.simple (omega (arith, x.most, h)))))
+    apply_ends f fs t ts n gs r (ap (λ w. to w BeforeArgument) (r.grows.simple (omega (arith, x.most, h))))
     (ap is_or e ∙ argument_no_or k h) (ap is_fn_arg e ∙ argument_is k h)
-    (subst (λ (j : SyntaxKind). follows j f.row ≡ true) (sym e) (argument_follows k f.row h (r.lone.tall.applied (omega (arith, x.most, h)))))
+    (subst (λ (j : SyntaxKind). follows j f.row ≡ true) (sym e) (argument_follows k f.row h (r.grows.called (omega (arith, x.most, h)))))
 
 -- a step at an operand
-pub more_ends : (f : Frame) (fs : List Frame) (ts : List Token) (n : ℕ) (gs : List Fault) (r : AtOperand f fs ts gs) → EndsBy (more_action r.low r.high (head_kind ts)) f fs ts n gs
+pub more_ends : (f : Frame) (fs : List Frame) (ts : List Token) (n : ℕ) (gs : List Fault) (r : AtOperand f fs) → EndsBy (more_action r.low r.high (head_kind ts)) f fs ts n gs
 more_ends f fs [] n gs r = settle_ends f fs [] n gs r (λ j e. absurd (none_some e))
 more_ends f fs (t ∷ ts) n gs r = by (goes_on r.low r.high t.kind) refl
   where
@@ -75,12 +72,6 @@ more_ends f fs (t ∷ ts) n gs r = by (goes_on r.low r.high t.kind) refl
     by false e = settle_ends f fs (t ∷ ts) n gs r (λ j h. subst (λ (k : SyntaxKind). goes_on r.low r.high k ≡ false) (some_same t.kind j h) e)
 
 -- what the machine does at an operand
-pub operand_step : (f : Frame) (fs : List Frame) (ts : List Token) (n : ℕ) (gs : List Fault) → AtOperand f fs ts gs → EndsBy (action_at f.place (head_kind ts) (touches n ts)) f fs ts n gs
+pub operand_step : (f : Frame) (fs : List Frame) (ts : List Token) (n : ℕ) (gs : List Fault) → AtOperand f fs → EndsBy (action_at f.place (head_kind ts) (touches n ts)) f fs ts n gs
 operand_step f fs ts n gs r =
     subst (λ (x : Place). EndsBy (action_at x (head_kind ts) (touches n ts)) f fs ts n gs) (sym r.place) (more_ends f fs ts n gs r)
-
--- so it is wherever an operand is innermost
-pub innermost_operand : (f : Frame) (fs : List Frame) (ts : List Token) (n : ℕ) (gs : List Fault) → f.head ≡ Operand → Reading (f ∷ fs) ts gs → EndsBy (action_at f.place (head_kind ts) (touches n ts)) f fs ts n gs
-innermost_operand f fs ts n gs e (node r) = absurd (true_is_not_false (sym (ap is_open r.head) ∙ ap is_open e))
-innermost_operand f fs ts n gs e (operand r) = operand_step f fs ts n gs r
-innermost_operand f fs ts n gs e (second r) = absurd (true_is_not_false (sym (ap is_open r.head) ∙ ap is_open e))

@@ -1,29 +1,20 @@
 -- A node whose first tree was an operand is itself one.
-use Rattle.std.proofs.Common.{◌≡◌, ℕ, Bool, true, List, ◌∷◌, ◌++◌, Option, Some, None, refl, ap, sym, ◌∙◌, subst, append-nil}
+use Rattle.std.proofs.Common.{◌≡◌, ℕ, true, List, ◌∷◌, ◌++◌, refl, ap, sym, ◌∙◌, subst, append-nil}
 use Rattle.rnix_kinds.specs.declared.kinds.SyntaxKind.{SyntaxKind}
-use Rattle.rnix_kinds.specs.declared.kinds.SyntaxKind.TheVariants.{NODE_LITERAL}
 use Rattle.rnix_grammar.specs.declared.place.Place.TheVariants as p
 use Rattle.rnix_grammar.specs.Fault.{Fault}
 use Rattle.rnix_grammar.specs.Sketch.{Token, Sketch, blank, ◌⊕◌, one_branch, tokens_in, end_from}
 use Rattle.rnix_grammar.specs.Machine.{Operand, Frame, opened}
 use Rattle.rnix_grammar.specs.Rows.{fits, Spot, Start, go, live, start}
-use Rattle.rnix_grammar.specs.Stands.{last_from}
 use Rattle.rnix_grammar.specs.Operands.{first_tree}
 use Rattle.rnix_grammar.specs.Reads.{Reads, IsOver}
-use Rattle.rnix_lemmas.proofs.Basics.{some_same}
 use Rattle.rnix_lemmas.proofs.SketchLemmas.{tokens_two}
 use Rattle.rnix_lemmas.proofs.FollowLemmas.{Stops}
-use Rattle.rnix_lemmas.proofs.FirstTrees as i
 use Rattle.rnix_lemmas.proofs.FirstTrees.{IsSingle, first_in}
 use Rattle.rnix_existence.proofs.OpenFrames.{seen_kind, Lone, a_node, Ends}
 use Rattle.rnix_existence.proofs.RowFronts.{end_two}
 use Rattle.rnix_existence.proofs.OperandTrees.{first_placed}
 use Rattle.rnix_existence.proofs.OperandEnds.{OperandEnds, operand_ends, regrown, grown_ends}
-
--- what holds of an operand's kind holds of the kind by which a row goes on behind it
-pub seen_any : (P : SyntaxKind → Bool) (x : Sketch) (k : SyntaxKind) → IsSingle x → ((b : Option SyntaxKind) → last_from b x ≡ Some k) → P NODE_LITERAL ≡ true → P k ≡ true → P (seen_kind x) ≡ true
-seen_any P x k (i.a_node {k = j}) l n h = ap P (some_same j k (l None)) ∙ h
-seen_any P x k i.an_error l n h = n
 
 -- a tree without the empty row behind it
 pub alone_tokens : (k : SyntaxKind) (c : Sketch) → tokens_in (one_branch k c) ≡ tokens_in c

@@ -12,16 +12,19 @@ use Rattle.rnix_grammar.specs.Fault.{Fault, ended, ended_before}
 use Rattle.rnix_grammar.specs.Tables.{is_wanted, wanted_kinds}
 use Rattle.rnix_grammar.specs.Slots.{slot_at, level_in, is_counted}
 use Rattle.rnix_grammar.specs.Sketch.{Token, Sketch, told, told_as}
-use Rattle.rnix_grammar.specs.Machine.{Frame, kind_of}
+use Rattle.rnix_grammar.specs.Machine.{Node, Frame, kind_of}
 use Rattle.rnix_grammar.specs.Missing.{lack_in, run_in}
 use Rattle.rnix_grammar.specs.Rows.{Start, At, go, go_slot, is_end, start}
 use Rattle.rnix_grammar.specs.OwnItems.{owns, owns_in, owns_end, stands_owned_in}
 use Rattle.rnix_grammar.specs.Reports.{repeats}
 use Rattle.rnix_grammar.specs.Reads.{IsOver}
+use Rattle.rnix_lemmas.proofs.Basics.{true_is_not_false, some_same}
+use Rattle.rnix_lemmas.proofs.EveryKind.{only}
 use Rattle.rnix_lemmas.proofs.NodeKinds.{told_plain}
+use Rattle.rnix_lemmas.proofs.NestTrees.{is_formal}
 use Rattle.rnix_lemmas.proofs.OpenHeads.{is_open}
-use Rattle.rnix_invariants.proofs.Reading.{AtNode}
 use Rattle.rnix_existence.proofs.OpenFrames.{closing, EndsBy}
+use Rattle.rnix_existence.proofs.Frames.{row_at, AtNode}
 use Rattle.rnix_existence.proofs.RowSteps as row
 use Rattle.rnix_existence.proofs.NodeOpens as opening
 
@@ -32,10 +35,10 @@ pub record Known (f : Frame) (slot : Slot) : Type 0 where
   pub here : slot_at f.place ≡ slot
 
 -- a node is such a frame
-pub known_node : (f : Frame) (fs : List Frame) (ts : List Token) (gs : List Fault) (slot : Slot) → AtNode f fs ts gs → slot_at f.place ≡ slot → Known f slot
-known_node f fs ts gs slot r e = record {
-  wide = ap is_open r.head;
-  plain = λ t. ap (λ h. told (kind_of h) t) r.head ∙ told_plain r.kind t.kind r.sound;
+pub known_node : (f : Frame) (fs : List Frame) (slot : Slot) → AtNode f fs → slot_at f.place ≡ slot → Known f slot
+known_node f fs slot r e = record {
+  wide = ap is_open r.node.is;
+  plain = λ t. ap (λ h. told (kind_of h) t) r.node.is ∙ told_plain r.kind t.kind r.node.sound;
   here = e;
 }
 
@@ -119,6 +122,14 @@ pub over_all : (f : Frame) (slot : Slot) (ts : List Token) (n : ℕ) → slot_at
 over_all f slot [] n e w own none = over_end f slot n e w own
 over_all f slot (t ∷ ts) n e w own none = over f slot t ts n t.kind e refl w (none (nat_eq t.start n) t.kind)
 
--- a node of a kind that repeats no name reports nothing as it is complete
-pub silent : (f : Frame) (fs : List Frame) (ts : List Token) (gs : List Fault) (r : AtNode f fs ts gs) → ((b c : Sketch) → repeats r.kind b c ≡ []) → (b c : Sketch) → closing f.head b c ≡ []
-silent f fs ts gs r e b c = ap (λ h. closing h b c) r.head ∙ e b c
+not_formal : (k : SyntaxKind) (b c : Sketch) → is_formal k ≡ false → repeats k b c ≡ []
+not_formal NODE_PAT_ENTRY b c h = absurd (true_is_not_false h)
+not_formal _ b c h = refl
+
+-- a node that is no entry of a pattern reports nothing as it is complete
+pub silent : (f : Frame) (fs : List Frame) (r : AtNode f fs) → row_at f.place ≡ Some false → (b c : Sketch) → closing f.head b c ≡ []
+silent f fs r h b c = ap (λ h. closing h b c) r.node.is ∙ not_formal r.kind b c (some_same (is_formal r.kind) false (sym r.node.home ∙ h))
+
+-- an entry of a pattern
+pub formal : (f : Frame) (fs : List Frame) (r : AtNode f fs) → row_at f.place ≡ Some true → f.head ≡ Node NODE_PAT_ENTRY
+formal f fs r h = r.node.is ∙ ap Node (only is_formal NODE_PAT_ENTRY refl r.kind (some_same (is_formal r.kind) true (sym r.node.home ∙ h)))

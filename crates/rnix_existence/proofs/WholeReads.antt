@@ -1,24 +1,18 @@
 -- What the machine of steps makes of a list of items satisfies the rules of readings.
-use Rattle.std.proofs.Common.{◌≡◌, ℕ, ◌+◌, ◌≤◌, false, List, [], ◌∷◌, ◌++◌, ap, sym, ◌∙◌, subst, append-nil, arith}
+use Rattle.std.proofs.Common.{◌≡◌, ℕ, false, List, [], ◌∷◌, ◌++◌, refl, ap, sym, ◌∙◌, subst, append-nil, arith}
 use Rattle.rnix_kinds.specs.declared.kinds.SyntaxKind.TheVariants.{NODE_ROOT}
 use Rattle.rnix_grammar.specs.declared.place.Place.{Place}
 use Rattle.rnix_grammar.specs.declared.place.Place.TheVariants as p
 use Rattle.rnix_grammar.specs.Fault.{Fault}
-use Rattle.rnix_grammar.specs.Sketch.{Token, Sketch, blank, tokens_in}
-use Rattle.rnix_grammar.specs.Tables.{depth_limit}
-use Rattle.rnix_grammar.specs.Machine.{Machine, Head, Node, Frame, opened, step_on, begins, Runs, rest, then as further}
-use Rattle.rnix_grammar.specs.Rows.{At, start}
-use Rattle.rnix_grammar.specs.Sorts.{AreKept}
-use Rattle.rnix_grammar.specs.Nesting.{depth_of}
+use Rattle.rnix_grammar.specs.Sketch.{Token, Sketch, blank, tokens_in, touches}
+use Rattle.rnix_grammar.specs.Machine.{Machine, Node, Frame, opened, step_on, begins, Runs, rest, then as further}
+use Rattle.rnix_grammar.specs.Rows.{At}
 use Rattle.rnix_grammar.specs.Reads.{Reads, end, ReadsWhole}
 use Rattle.rnix_lemmas.proofs.SketchLemmas.{⊕-blank}
-use Rattle.rnix_lemmas.proofs.PlaceLemmas.{step_kept, begins_kept}
-use Rattle.rnix_invariants.proofs.Reading.{Reading, node, operand, second}
-use Rattle.rnix_invariants.proofs.BeginSteps.{IsReading}
-use Rattle.rnix_invariants.proofs.SecondSteps.{runs_stand, begins_stand}
-use Rattle.rnix_invariants.proofs.NestLemmas.{HasRoom, AreNested}
-use Rattle.rnix_invariants.proofs.NestWhole.{step_nested}
 use Rattle.rnix_existence.proofs.OpenFrames.{Ends, root_frame}
+use Rattle.rnix_existence.proofs.Frames.{no_frame, Reading, node, operand, second}
+use Rattle.rnix_existence.proofs.NodeKept.{node_kept, second_kept}
+use Rattle.rnix_existence.proofs.OperandKept.{operand_kept}
 use Rattle.rnix_existence.proofs.OperandWhole.{operand_step}
 use Rattle.rnix_existence.proofs.FrameEnds.{node_ends, second_ends}
 
@@ -28,36 +22,39 @@ pub record EndsWith (m : Machine) (row : Sketch) (all : List Fault) : Type 0 whe
   pub ends : Ends m.frames m.left m.reached row coming
   pub faults : m.faults ++ coming ≡ all
 
-shallow : (d m : ℕ) → d + m ≤ depth_limit → d ≤ depth_limit
-shallow d m h = omega (arith, h)
+-- a step keeps what is known of the frames
+step_kept : {fs : List Frame} (ts : List Token) (n : ℕ) (gs : List Fault) → Reading fs → Reading (step_on false fs ts n gs).frames
+step_kept ts n gs (node {f = f} {fs = fs} r) = node_kept f fs ts n gs (touches n ts) r
+step_kept ts n gs (operand {f = f} {fs = fs} r) = operand_kept f fs ts n gs (touches n ts) r
+step_kept ts n gs (second {f = f} {fs = fs} r) = second_kept f fs ts n gs (touches n ts) r
 
-step_ends : {fs : List Frame} {ts : List Token} {gs : List Fault} (n : ℕ) (row : Sketch) (all : List Fault) → Reading fs ts gs → AreNested fs
-    → EndsWith (step_on false fs ts n gs) row all → EndsWith (record { frames = fs; left = ts; reached = n; faults = gs }) row all
-step_ends n row all (node {f = f} {fs = fs} {ts = ts} {gs = gs} r) d w =
-    let q = node_ends f fs ts n gs r (shallow f.depth (depth_of (start r.kind) f.row) (subst (λ (h : Head). HasRoom h f.depth f.row) r.head d.0)) row w.coming w.ends in
-    record { coming = q.0; ends = q.1.0; faults = q.1.1 ∙ w.faults }
-step_ends n row all (operand {f = f} {fs = fs} {ts = ts} {gs = gs} r) d w =
-    let q = operand_step f fs ts n gs r row w.coming w.ends in
-    record { coming = q.0; ends = q.1.0; faults = q.1.1 ∙ w.faults }
-step_ends n row all (second {f = f} {fs = fs} {ts = ts} {gs = gs} r) d w =
-    let q = second_ends f fs ts n gs r row w.coming w.ends in
-    record { coming = q.0; ends = q.1.0; faults = q.1.1 ∙ w.faults }
+-- what ends behind a step ends before it
+step_ends : {fs : List Frame} (ts : List Token) (n : ℕ) (gs : List Fault) (row : Sketch) (all : List Fault) → Reading fs
+    → EndsWith (step_on false fs ts n gs) row all
+    → EndsWith (record { frames = fs; left = ts; reached = n; faults = gs }) row all
+step_ends ts n gs row all (node {f = f} {fs = fs} r) w =
+    let q = node_ends f fs ts n gs r row w.coming w.ends in record { coming = q.0; ends = q.1.0; faults = q.1.1 ∙ w.faults }
+step_ends ts n gs row all (operand {f = f} {fs = fs} r) w =
+    let q = operand_step f fs ts n gs r row w.coming w.ends in record { coming = q.0; ends = q.1.0; faults = q.1.1 ∙ w.faults }
+step_ends ts n gs row all (second {f = f} {fs = fs} r) w =
+    let q = second_ends f fs ts n gs r row w.coming w.ends in record { coming = q.0; ends = q.1.0; faults = q.1.1 ∙ w.faults }
 
 -- what ends behind some steps ends before them
-pub runs_end : {m n : Machine} (row : Sketch) (all : List Fault) → Runs false m n → IsReading m → AreKept m.frames → AreNested m.frames → EndsWith n row all → EndsWith m row all
-runs_end row all rest r k d w = w
-runs_end row all (further {m = m} s) r k d w =
-    step_ends m.reached row all r d
-    (runs_end row all s (runs_stand (further rest) r) (step_kept false m k) (step_nested m.frames m.left m.reached m.faults r k d) w)
+runs_end : {m n : Machine} (row : Sketch) (all : List Fault) → Runs false m n → Reading m.frames → EndsWith n row all → EndsWith m row all
+runs_end row all rest r w = w
+runs_end row all (further {m = m} s) r w =
+    step_ends m.left m.reached m.faults row all r (runs_end row all s (step_kept m.left m.reached m.faults r) w)
+
+-- as a text begins the root's frame is open
+begun : (ts : List Token) → Reading (begins ts).frames
+begun ts = node (record { kind = NODE_ROOT; node = record { is = refl; sound = refl; home = refl; shallow = omega arith }; below = no_frame })
 
 -- what is read when the root's frame ends at its end is what is read of all items, and has them all
-pub whole_reads : (ts : List Token) (m : Machine) (f : Frame) → Runs false (begins ts) m → m.frames ≡ f ∷ [] → f.head ≡ Node NODE_ROOT → f.place ≡ p.RootEnd → m.left ≡ []
+pub whole_reads : (ts : List Token) (m : Machine) (f : Frame) → Runs false (begins ts) m → m.frames ≡ f ∷ [] → f.head ≡ Node NODE_ROOT
+    → f.place ≡ p.RootEnd → m.left ≡ []
     → (ts ≡ tokens_in f.row) × ReadsWhole f.row m.faults
-whole_reads ts m f s e h x l = by (runs_end f.row m.faults s (begins_stand ts) (begins_kept ts) (none, (tt, tt)) ended)
+whole_reads ts m f s e h x l = by (runs_end f.row m.faults s (begun ts) ended)
   where
-    none : 0 + depth_of (At p.RootStart) blank ≤ depth_limit
-    none = omega arith
-
     ended : EndsWith m f.row m.faults
     ended = record {
       coming = [];
@@ -67,7 +64,8 @@ whole_reads ts m f s e h x l = by (runs_end f.row m.faults s (begins_stand ts) (
       faults = append-nil m.faults;
     }
 
-    root : (row : Sketch) (zs : List Fault) → Ends (opened (Node NODE_ROOT) p.RootStart 0 blank ∷ []) ts 0 row zs → (ts ≡ tokens_in row) × ReadsWhole row zs
+    root : (row : Sketch) (zs : List Fault) → Ends (opened (Node NODE_ROOT) p.RootStart 0 blank ∷ []) ts 0 row zs
+        → (ts ≡ tokens_in row) × ReadsWhole row zs
     root row zs (root_frame {r = r} a b c d) = (c ∙ ap tokens_in (sym d), subst (λ (z : Sketch). ReadsWhole z zs) (sym d) b)
 
     by : EndsWith (begins ts) f.row m.faults → (ts ≡ tokens_in f.row) × ReadsWhole f.row m.faults

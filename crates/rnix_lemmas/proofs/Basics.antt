@@ -1,5 +1,5 @@
 -- Small facts that many proofs take.
-use Rattle.std.proofs.Common.{◌≡◌, Bool, true, false, List, [], ◌∷◌, ◌++◌, Some, refl, sym, ◌∙◌}
+use Rattle.std.proofs.Common.{◌∙◌, ◌≡◌, Bool, true, false, List, [], ◌∷◌, ◌++◌, Some, refl, sym}
 use Rattle.std.specs.Prelude.{if◌then◌else◌}
 
 -- a test has one answer
@@ -15,10 +15,6 @@ not_if false h = refl
 pub no_way : (b x y : Bool) → x ≡ false → y ≡ false → (if b then x else y) ≡ false
 no_way true x y h k = h
 no_way false x y h k = k
-
--- and so it cannot hold
-pub both_fail : (b x y : Bool) → x ≡ false → y ≡ false → (if b then x else y) ≡ true → ⊥
-both_fail b x y h k e = true_is_not_false (sym e ∙ no_way b x y h k)
 
 -- what is so on both sides of a choice is so of what is chosen
 pub choice : {A : Type 0} (P : A → Type 0) (b : Bool) {x y : A} → P x → P y → P (if b then x else y)
@@ -42,3 +38,7 @@ none_left (x ∷ xs) ys h = absurd (not_nil h)
 pub none_right : {A : Type 0} (xs ys : List A) → xs ++ ys ≡ [] → ys ≡ []
 none_right [] ys h = h
 none_right (x ∷ xs) ys h = absurd (not_nil h)
+
+-- and so it cannot hold
+pub both_fail : (b x y : Bool) → x ≡ false → y ≡ false → (if b then x else y) ≡ true → ⊥
+both_fail b x y h k e = true_is_not_false (sym e ∙ no_way b x y h k)

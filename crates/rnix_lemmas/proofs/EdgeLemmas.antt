@@ -18,12 +18,7 @@ ends_behind [] ys s h = h
 ends_behind (x ∷ []) _ (some k ks) h = h
 ends_behind (x ∷ (z ∷ xs)) ys s h = ends_behind (z ∷ xs) ys s h
 
--- kinds with some behind them are some
-pub some_behind : (xs ys : List SyntaxKind) → IsSome ys → IsSome (xs ++ ys)
-some_behind [] ys s = s
-some_behind (x ∷ xs) ys s = some x (xs ++ ys)
-
--- and so with some before them
+-- kinds with some before them are some
 pub some_before : (xs ys : List SyntaxKind) → IsSome xs → IsSome (xs ++ ys)
 some_before _ ys (some k ks) = some k (ks ++ ys)
 

@@ -1,11 +1,11 @@
 -- What a test of all kinds says of each kind.
-use Rattle.std.proofs.Common.{◌≡◌, ◌≤◌, ℕ, Bool, true, false, ap, sym, ◌∙◌, get_or, arith}
+use Rattle.std.proofs.Common.{◌≡◌, ◌≤◌, ℕ, Bool, true, false, ap, sym, ◌∙◌, arith}
 use Rattle.std.proofs.lemmas.Bool.Decides.{nat_tests}
 use Rattle.std.specs.List.{list_all}
 use Rattle.std.specs.Prelude.{◌&&◌, if◌then◌else◌, nat_eq, nat_le}
 use Rattle.rnix_kinds.specs.SyntaxKind.{is_token, place_of}
 use Rattle.rnix_kinds.specs.declared.kinds.SyntaxKind.{SyntaxKind}
-use Rattle.rnix_kinds.proofs.AllKinds.{kind_at_place, every, all_kinds, implied}
+use Rattle.rnix_kinds.proofs.AllKinds.{same_place, every, all_kinds, implied}
 use Rattle.rnix_grammar.specs.Plain.{is_node}
 use Rattle.rnix_lemmas.proofs.Basics.{true_is_not_false, not_if}
 
@@ -20,11 +20,13 @@ not_alone {v = true} h e f = true_is_not_false e
 not_alone {v = false} {w = true} h e f = true_is_not_false (sym h)
 not_alone {v = false} {w = false} h e f = true_is_not_false (sym f)
 
+-- numbers that are tested as equal are equal
+equal : (m n : ℕ) → nat_eq m n ≡ true → m ≡ n
+equal m n h = grind (arith, nat_tests, h)
+
 -- kinds at the same place of the list are the same
-same : (k w : SyntaxKind) → nat_eq (place_of k) (place_of w) ≡ true → k ≡ w
-same k w h =
-    let e : place_of k ≡ place_of w = grind (arith, nat_tests, h) in
-    sym (kind_at_place k w) ∙ ap (λ i. get_or all_kinds i w) e ∙ kind_at_place w w
+pub same : (k w : SyntaxKind) → nat_eq (place_of k) (place_of w) ≡ true → k ≡ w
+same k w h = same_place k w (equal (place_of k) (place_of w) h)
 
 -- so one kind alone passes a test
 pub only : (a : SyntaxKind → Bool) (w : SyntaxKind) → list_all (λ k. if a k then nat_eq (place_of k) (place_of w) else true) all_kinds ≡ true → (k : SyntaxKind) → a k ≡ true → k ≡ w

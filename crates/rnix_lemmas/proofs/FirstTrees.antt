@@ -1,13 +1,10 @@
 -- Rows that begin with one tree.
-use Rattle.std.proofs.Common.{◌≡◌, true, Option, Some, None, refl, ap, ◌∙◌}
+use Rattle.std.proofs.Common.{◌≡◌, refl}
 use Rattle.rnix_kinds.specs.declared.kinds.SyntaxKind.{SyntaxKind}
 use Rattle.rnix_kinds.specs.declared.kinds.SyntaxKind.TheVariants.{NODE_LAMBDA}
 use Rattle.rnix_grammar.specs.Sketch.{Token, Note, Sketch, blank, token, branch, fault, ◌⊕◌}
-use Rattle.rnix_grammar.specs.Rows.{is_atom}
-use Rattle.rnix_grammar.specs.Stands.{last_from}
-use Rattle.rnix_grammar.specs.TreeLevels.{is_atom_row, operator_in, calls_or, is_or_row}
+use Rattle.rnix_grammar.specs.TreeLevels.{operator_in, calls_or, is_or_row}
 use Rattle.rnix_grammar.specs.Operands.{first_tree}
-use Rattle.rnix_lemmas.proofs.Basics.{some_same}
 
 -- one tree
 pub data IsSingle : Sketch → Type 0 where
@@ -36,8 +33,3 @@ single_operator _ f j t an_error = refl
 pub single_calls : (x g : Sketch) → IsSingle x → calls_or (x ⊕ g) ≡ is_or_row g
 single_calls _ g a_node = refl
 single_calls _ g an_error = refl
-
--- an atom alone is one
-pub single_atom : (f : Sketch) (k : SyntaxKind) → IsSingle f → ((b : Option SyntaxKind) → last_from b f ≡ Some k) → is_atom k ≡ true → is_atom_row f ≡ true
-single_atom f k (a_node {k = j}) l a = ap is_atom (some_same j k (l None)) ∙ a
-single_atom f k an_error l a = refl

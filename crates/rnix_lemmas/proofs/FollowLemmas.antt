@@ -1,11 +1,12 @@
 -- Which items go on with a tree, by the tree's level.
 use Rattle.rnix_kinds.proofs.AllKinds.{all_kinds, every, implied}
 use Rattle.std.specs.List.{list_all}
-use Rattle.std.proofs.lemmas.Bool.{and_parts}
-use Rattle.std.proofs.Common.{◌≡◌, ℕ, ◌≤◌, Bool, true, false, refl, ap, sym, ◌∙◌, subst, arith}
+use Rattle.std.proofs.lemmas.Bool.{and_from}
+use Rattle.rnix_lemmas.proofs.EntryNames.{if_not}
+use Rattle.std.proofs.Common.{◌≡◌, ℕ, ◌≤◌, Bool, true, false, refl, sym, ◌∙◌, subst, arith}
 use Rattle.std.specs.Prelude.{◌||◌, ◌&&◌, if◌then◌else◌, nat_eq, nat_le}
 use Rattle.rnix_kinds.specs.declared.kinds.SyntaxKind.{SyntaxKind}
-use Rattle.rnix_kinds.specs.declared.kinds.SyntaxKind.TheVariants.{NODE_APPLY, NODE_ASSERT, NODE_BIN_OP, NODE_HAS_ATTR, NODE_IF_ELSE, NODE_LEGACY_LET, NODE_LET_IN, NODE_UNARY_OP, NODE_WITH}
+use Rattle.rnix_kinds.specs.declared.kinds.SyntaxKind.TheVariants.{NODE_PAREN}
 use Rattle.rnix_kinds.specs.SyntaxKind.{is_fn_arg}
 use Rattle.rnix_grammar.specs.Levels.{power, left_of, high_of}
 use Rattle.rnix_grammar.specs.TokenKinds.{is_or, is_question, is_dot}
@@ -14,7 +15,7 @@ use Rattle.rnix_grammar.specs.Sketch.{Token, Sketch, blank, token, branch, fault
 use Rattle.rnix_grammar.specs.TreeLevels.{row_level, level_of, is_atom_row}
 use Rattle.rnix_grammar.specs.Operands.{follows}
 use Rattle.rnix_lemmas.proofs.Basics.{true_is_not_false, not_if}
-use Rattle.rnix_lemmas.proofs.LevelLemmas.{at_most, same_number, at_most_true, power_max, operates}
+use Rattle.rnix_lemmas.proofs.LevelLemmas.{within, at_most, same_number, at_most_true, power_max, operates}
 use Rattle.rnix_lemmas.proofs.StrictParts.{left_least}
 
 -- how an item goes on with a tree of a level that is an atom or not: as an operator, by `?`, as an argument, or by `.` or `or`
@@ -49,16 +50,8 @@ follows_power j x h = by (follows_by j x h)
 
 -- an atom is as tight as any operator wants
 pub atom_tight : (k : SyntaxKind) (c : Sketch) → is_atom k ≡ true → level_of k c ≡ 16
-atom_tight NODE_BIN_OP c h = absurd (true_is_not_false (sym h))
-atom_tight NODE_HAS_ATTR c h = absurd (true_is_not_false (sym h))
-atom_tight NODE_UNARY_OP c h = absurd (true_is_not_false (sym h))
-atom_tight NODE_APPLY c h = absurd (true_is_not_false (sym h))
-atom_tight NODE_LEGACY_LET c h = absurd (true_is_not_false (sym h))
-atom_tight NODE_LET_IN c h = absurd (true_is_not_false (sym h))
-atom_tight NODE_WITH c h = absurd (true_is_not_false (sym h))
-atom_tight NODE_IF_ELSE c h = absurd (true_is_not_false (sym h))
-atom_tight NODE_ASSERT c h = absurd (true_is_not_false (sym h))
-atom_tight _ c h = refl
+atom_tight NODE_PAREN c h = refl
+atom_tight _ c h = cc
 
 -- so is a row of one atom
 pub atom_level : (x : Sketch) → is_atom_row x ≡ true → row_level x ≡ 16
@@ -114,21 +107,13 @@ abbrev pub is_followed : ℕ → Bool → ℕ → SyntaxKind → Bool
 is_followed level atom high j =
     if nat_le 1 (power j) && nat_le (power j) high then goes_after j level atom else (if goes_after j level atom then false else true)
 
-both_hold : (p high : ℕ) → 1 ≤ p → p ≤ high → (nat_le 1 p && nat_le p high) ≡ true
-both_hold p high u v = ap (λ w. w && nat_le p high) (at_most_true 1 p u) ∙ at_most_true p high v
-
-both_say : (p high : ℕ) → (nat_le 1 p && nat_le p high) ≡ true → (1 ≤ p) × (p ≤ high)
-both_say p high h = let q = and_parts (nat_le 1 p) (nat_le p high) h in (at_most 1 p q.0, at_most p high q.1)
-
-chosen_true : (c : Bool) → (if c then true else false) ≡ true → c ≡ true
-chosen_true true h = refl
-chosen_true false h = h
-
 both_ways : (p high : ℕ) (w : Bool) → (if nat_le 1 p && nat_le p high then w else (if w then false else true)) ≡ true
     → (1 ≤ p → p ≤ high → w ≡ true) × (w ≡ true → (1 ≤ p) × (p ≤ high))
-both_ways p high true h = (λ a b. refl, λ e. both_say p high (chosen_true (nat_le 1 p && nat_le p high) h))
-both_ways p high false h =
-    (λ a b. absurd (true_is_not_false (sym (both_hold p high a b) ∙ not_if (nat_le 1 p && nat_le p high) h)), λ e. absurd (true_is_not_false (sym e)))
+both_ways p high true h = (λ a b. refl, λ e. within 1 p high (sym (if_not (nat_le 1 p && nat_le p high)) ∙ h))
+both_ways p high false h = (
+  λ a b. absurd (true_is_not_false (sym (and_from _ _ (at_most_true 1 p a) (at_most_true p high b)) ∙ not_if (nat_le 1 p && nat_le p high) h)),
+  λ e. absurd (true_is_not_false (sym e)),
+)
 
 -- what is so of all kinds says what goes on with a tree of the level
 pub followed_by : (level : ℕ) (atom : Bool) (high : ℕ) → list_all (is_followed level atom high) all_kinds ≡ true → (x : Sketch) → row_level x ≡ level → is_atom_row x ≡ atom → FollowedTo high x

@@ -56,47 +56,21 @@ pub comma_brace : (bound : Bool) (k : SyntaxKind) → live (to (is_wanted u.RBra
 comma_brace bound TOKEN_R_BRACE l = refl
 comma_brace bound _ l = absurd (true_is_not_false (sym l))
 
--- the place of a run, if there is one
-abbrev place_in : Place → Option (Until × Place) → Place
-place_in x None = x
-place_in x (Some w) = w.1
+-- where a run stands at a place the same goes on as behind it
+abbrev ImitatesRun : Place → Option (Until × Place) → Type 0
+ImitatesRun x None = Unit {0}
+ImitatesRun x (Some w) = Imitates (At x) (At w.1)
 
--- equal runs lead to one place
-same_place : {a b : Until} {x y : Place} → ◌≡◌ {A = Option (Until × Place)} (Some (a, x)) (Some (b, y)) → x ≡ y
-same_place {x = x} h = ap (place_in x) h
+imitated : (x : Place) → ImitatesRun x (run_at x)
+imitated p.InheritStart = record { goes = source_attr; ends = refl; owes = λ o. refl }
+imitated p.InheritNames = record { goes = names_attr; ends = refl; owes = λ o. refl }
+imitated (p.PatternStart bound) = record { goes = λ k l. refl; ends = refl; owes = λ o. refl }
+imitated (p.PatternAfter bound) = record { goes = comma_brace bound; ends = refl; owes = λ o. refl }
+imitated x = assumption (imitates_self (At x))
 
--- where a run stands the same goes on as behind it
+-- so it is where one stands
 pub run_imitates : (x y : Place) (until : Until) → run_at x ≡ Some (until, y) → Imitates (At x) (At y)
-run_imitates p.ParenEnd y until h = imitates_same (At p.ParenEnd) (At y) (ap At (same_place h))
-run_imitates p.InterpolEnd y until h = imitates_same (At p.InterpolEnd) (At y) (ap At (same_place h))
-run_imitates p.StringInside y until h = imitates_same (At p.StringInside) (At y) (ap At (same_place h))
-run_imitates p.StringEnd y until h = imitates_same (At p.StringEnd) (At y) (ap At (same_place h))
-run_imitates p.SetBrace y until h = imitates_same (At p.SetBrace) (At y) (ap At (same_place h))
-run_imitates p.InheritStart y until h =
-    subst (λ (z : Place). Imitates (At p.InheritStart) (At z)) (same_place h) (record { goes = source_attr; ends = refl; owes = λ o. refl })
-run_imitates p.InheritNames y until h =
-    subst (λ (z : Place). Imitates (At p.InheritNames) (At z)) (same_place h) (record { goes = names_attr; ends = refl; owes = λ o. refl })
-run_imitates p.InheritName y until h = imitates_same (At p.InheritName) (At y) (ap At (same_place h))
-run_imitates p.InheritEnd y until h = imitates_same (At p.InheritEnd) (At y) (ap At (same_place h))
-run_imitates p.FromEnd y until h = imitates_same (At p.FromEnd) (At y) (ap At (same_place h))
-run_imitates p.ValueAssign y until h = imitates_same (At p.ValueAssign) (At y) (ap At (same_place h))
-run_imitates p.ValueEnd y until h = imitates_same (At p.ValueEnd) (At y) (ap At (same_place h))
-run_imitates p.AttrpathStart y until h = imitates_same (At p.AttrpathStart) (At y) (ap At (same_place h))
-run_imitates p.WithEnd y until h = imitates_same (At p.WithEnd) (At y) (ap At (same_place h))
-run_imitates p.AssertEnd y until h = imitates_same (At p.AssertEnd) (At y) (ap At (same_place h))
-run_imitates p.IfThen y until h = imitates_same (At p.IfThen) (At y) (ap At (same_place h))
-run_imitates p.IfElse y until h = imitates_same (At p.IfElse) (At y) (ap At (same_place h))
-run_imitates p.LambdaColon y until h = imitates_same (At p.LambdaColon) (At y) (ap At (same_place h))
-run_imitates p.PatternBrace y until h = imitates_same (At p.PatternBrace) (At y) (ap At (same_place h))
-run_imitates (p.PatternStart bound) y until h =
-    subst (λ (z : Place). Imitates (At (p.PatternStart bound)) (At z)) (same_place h) (record { goes = λ k l. refl; ends = refl; owes = λ o. refl })
-run_imitates (p.PatternInside bound) y until h = imitates_same (At (p.PatternInside bound)) (At y) (ap At (same_place h))
-run_imitates (p.PatternAfter bound) y until h =
-    subst (λ (z : Place). Imitates (At (p.PatternAfter bound)) (At z)) (same_place h) (record { goes = comma_brace bound; ends = refl; owes = λ o. refl })
-run_imitates (p.PatternClose bound) y until h = imitates_same (At (p.PatternClose bound)) (At y) (ap At (same_place h))
-run_imitates p.BindName y until h = imitates_same (At p.BindName) (At y) (ap At (same_place h))
-run_imitates p.TwiceName y until h = imitates_same (At p.TwiceName) (At y) (ap At (same_place h))
-run_imitates _ y until h = absurd (cc)
+run_imitates x y until h = subst (ImitatesRun x) h (imitated x)
 
 -- behind a second name
 pub second_imitates : Imitates (At (p.PatternEnd true)) (At p.PatternPast)

@@ -1,61 +1,71 @@
 -- Kinds of operands and powers of tokens.
 use Rattle.rnix_kinds.proofs.AllKinds.{all_kinds, every, implied}
 use Rattle.std.specs.List.{list_all}
-use Rattle.std.proofs.lemmas.Bool.{and_parts}
+use Rattle.std.proofs.lemmas.Bool.{and_parts, and_from, cases_lt, agree_below_at}
 use Rattle.std.proofs.lemmas.Bool.Decides.{nat_tests}
-use Rattle.std.proofs.Common.{◌≡◌, ℕ, suc, ◌≤◌, ◌<◌, Bool, true, false, refl, ap, sym, ◌∙◌, arith}
+use Rattle.std.proofs.Common.{◌≡◌, ◌⊎◌, inl, inr, ℕ, zero, suc, ◌+◌, ◌≤◌, ◌<◌, Bool, true, false, refl, ap, sym, ◌∙◌, arith}
 use Rattle.std.specs.Prelude.{◌||◌, ◌&&◌, if◌then◌else◌, nat_eq, nat_le, nat_lt}
 use Rattle.rnix_kinds.specs.declared.kinds.SyntaxKind.{SyntaxKind}
-use Rattle.rnix_kinds.specs.declared.kinds.SyntaxKind.TheVariants.{NODE_SELECT, NODE_SELECT, NODE_APPLY, NODE_UNARY_OP, NODE_HAS_ATTR, NODE_BIN_OP, NODE_LEGACY_LET, NODE_LET_IN, NODE_WITH, NODE_IF_ELSE, NODE_ASSERT}
-use Rattle.rnix_lemmas.proofs.Basics.{true_is_not_false}
+use Rattle.rnix_kinds.specs.declared.kinds.SyntaxKind.TheVariants.{NODE_BIN_OP}
+use Rattle.rnix_lemmas.proofs.EveryKind.{whenever_two}
+use Rattle.rnix_lemmas.proofs.EveryKind as every
 use Rattle.rnix_grammar.specs.Levels.{power, left_of, right_of, high_of}
 use Rattle.rnix_grammar.specs.Rows.{is_atom, is_simple, is_negated, is_questioned, is_operand, is_expression, fits, is_infix}
 use Rattle.rnix_grammar.specs.Stands.{continues_kind}
 
 -- each class is in the next
 pub atom_simple : (k : SyntaxKind) → is_atom k ≡ true → is_simple k ≡ true
-atom_simple NODE_SELECT h = refl
-atom_simple NODE_APPLY h = refl
-atom_simple _ h = h
+atom_simple = implied is_atom is_simple refl
 
 -- what may be called may be negated
 pub simple_negated : (k : SyntaxKind) → is_simple k ≡ true → is_negated k ≡ true
-simple_negated NODE_UNARY_OP h = refl
-simple_negated _ h = h
+simple_negated = implied is_simple is_negated refl
 
 -- what may be negated may be asked for an attribute
 pub negated_questioned : (k : SyntaxKind) → is_negated k ≡ true → is_questioned k ≡ true
-negated_questioned NODE_HAS_ATTR h = refl
-negated_questioned _ h = h
+negated_questioned = implied is_negated is_questioned refl
 
 -- what may be asked for an attribute may be an operand
 pub questioned_operand : (k : SyntaxKind) → is_questioned k ≡ true → is_operand k ≡ true
-questioned_operand NODE_BIN_OP h = refl
-questioned_operand _ h = h
+questioned_operand = implied is_questioned is_operand refl
 
 -- an operand is an expression
 pub operand_expression : (k : SyntaxKind) → is_operand k ≡ true → is_expression k ≡ true
-operand_expression NODE_LEGACY_LET h = refl
-operand_expression NODE_LET_IN h = refl
-operand_expression NODE_WITH h = refl
-operand_expression NODE_IF_ELSE h = refl
-operand_expression NODE_ASSERT h = refl
-operand_expression _ h = h
+operand_expression = implied is_operand is_expression refl
 
--- a test chooses between two that hold
-both_ways : (w a b : Bool) → a ≡ true → b ≡ true → (if w then a else b) ≡ true
-both_ways true a b h k = h
-both_ways false a b h k = k
+-- from level 15 on what fits may be an argument
+fits_tight : (n : ℕ) (k : SyntaxKind) → 15 ≤ n → fits n k ≡ is_simple k
+fits_tight n k l = by (nat_eq n 0) (nat_le n 12) (nat_eq n 13) (nat_eq n 14) (grind (arith, nat_tests, l)) (grind (arith, nat_tests, l))
+    (grind (arith, nat_tests, l)) (grind (arith, nat_tests, l))
+  where
+    by : (x y z w : Bool) → x ≡ false → y ≡ false → z ≡ false → w ≡ false
+        → (if x then is_expression k else (if y then is_operand k else
+        (if z then is_questioned k else (if w then is_negated k else is_simple k)))) ≡ is_simple k
+    by false false false false a b c d = refl
+    by _ _ _ _ a b c d = absurd (cc)
+
+-- what fits at a level fits at the level before
+fits_before : (n : ℕ) (k : SyntaxKind) → fits (suc n) k ≡ true → fits n k ≡ true
+fits_before n k h = by (cases_lt n 15)
+  where
+    by : (n < 15) ⊎ (15 ≤ n) → fits n k ≡ true
+    by (inl l) = implied (fits (suc n)) (fits n) (agree_below_at (λ m. list_all (λ k. if fits (suc m) k then fits m k else true) all_kinds)
+        (λ m. true) 15 n refl l) k h
+    by (inr l) = fits_tight n k l ∙ sym (fits_tight (suc n) k (omega (arith, l))) ∙ h
+
+-- and so at each looser one
+pub fits_looser : (n m : ℕ) (k : SyntaxKind) → n ≤ m → fits m k ≡ true → fits n k ≡ true
+fits_looser zero zero k l h = h
+fits_looser (suc n) zero k l h = absurd (omega (arith, l))
+fits_looser n (suc m) k l h = by (cases_lt n (suc m)) (λ o. fits_looser n m k o (fits_before m k h))
+  where
+    by : (n < suc m) ⊎ (suc m ≤ n) → (n ≤ m → fits n k ≡ true) → fits n k ≡ true
+    by (inl o) more = more (omega (arith, o))
+    by (inr o) more = let e : n ≡ suc m = omega (arith, l, o) in ap (λ i. fits i k) e ∙ h
 
 -- what may be an argument may stand anywhere
 pub simple_fits : (n : ℕ) (k : SyntaxKind) → is_simple k ≡ true → fits n k ≡ true
-simple_fits n k h =
-    let o : is_operand k ≡ true = questioned_operand k (negated_questioned k (simple_negated k h)) in
-    both_ways (nat_eq n 0) (is_expression k)
-    (if nat_le n 12 then is_operand k else (if nat_eq n 13 then is_questioned k else (if nat_eq n 14 then is_negated k else is_simple k))) (operand_expression k o)
-    (both_ways (nat_le n 12) (is_operand k) (if nat_eq n 13 then is_questioned k else (if nat_eq n 14 then is_negated k else is_simple k)) o
-    (both_ways (nat_eq n 13) (is_questioned k) (if nat_eq n 14 then is_negated k else is_simple k) (negated_questioned k (simple_negated k h))
-    (both_ways (nat_eq n 14) (is_negated k) (is_simple k) (simple_negated k h) h)))
+simple_fits n k h = fits_looser n (15 + n) k (omega arith) (fits_tight (15 + n) k (omega arith) ∙ h)
 
 -- an atom fits every level
 pub atom_fits : (n : ℕ) (k : SyntaxKind) → is_atom k ≡ true → fits n k ≡ true
@@ -73,7 +83,8 @@ same_number m n h = grind (arith, nat_tests, h)
 pub at_most_true : (m n : ℕ) → m ≤ n → nat_le m n ≡ true
 at_most_true m n h = grind (arith, nat_tests, h)
 
-within : (l m n : ℕ) → (nat_le l m && nat_le m n) ≡ true → (l ≤ m) × (m ≤ n)
+-- what two tests of three numbers say
+pub within : (l m n : ℕ) → (nat_le l m && nat_le m n) ≡ true → (l ≤ m) × (m ≤ n)
 within l m n h = let q = and_parts (nat_le l m) (nat_le m n) h in (at_most l m q.0, at_most m n q.1)
 
 -- no power is above 16
@@ -90,10 +101,6 @@ pub operand_power : (j : SyntaxKind) → continues_kind j NODE_BIN_OP ≡ true �
 operand_power j h =
     let q = within 1 (power j) 13 (implied (λ k. continues_kind k NODE_BIN_OP) (λ k. nat_le 1 (power k) && nat_le (power k) 13) refl j h) in record { positive = q.0; most = q.1 }
 
--- the power of what goes on with an argument
-pub simple_power : (j : SyntaxKind) → continues_kind j NODE_SELECT ≡ true → (1 ≤ power j) × (power j ≤ 15)
-simple_power j h = within 1 (power j) 15 (implied (λ k. continues_kind k NODE_SELECT) (λ k. nat_le 1 (power k) && nat_le (power k) 15) refl j h)
-
 -- what goes on behind an operator and its right operand
 pub record Operates (k : SyntaxKind) : Type 0 where
   pub positive : 1 ≤ power k
@@ -103,17 +110,12 @@ pub record Operates (k : SyntaxKind) : Type 0 where
   pub right : (power k ≤ right_of k) × (right_of k ≤ 12) × (1 ≤ right_of k)
 
 -- of what goes on with an operator's tree, what is looser than its right operand may follow it
-is_bounded : SyntaxKind → SyntaxKind → Bool
-is_bounded k j = if continues_kind j NODE_BIN_OP then (if nat_lt (power j) (right_of k) then nat_le (power j) (high_of k) else true) else true
-
 bounded_all : (k j : SyntaxKind) → is_infix k ≡ true → continues_kind j NODE_BIN_OP ≡ true → power j < right_of k → power j ≤ high_of k
-unfolding is_bounded
 bounded_all k j h c l =
-    by (continues_kind j NODE_BIN_OP) (power j) (right_of k) (high_of k) c l
-    (every (is_bounded k) (implied is_infix (λ o. list_all (is_bounded o) all_kinds) refl k h) j)
-  where
-    by : (w : Bool) (m r n : ℕ) → w ≡ true → m < r → (if w then (if nat_lt m r then nat_le m n else true) else true) ≡ true → m ≤ n
-    by w m r n e l h = grind (arith, nat_tests, e, l, h)
+    let w : nat_lt (power j) (right_of k) ≡ true = grind (arith, nat_tests, l) in
+    at_most (power j) (high_of k)
+    (whenever_two (λ k j. is_infix k && (continues_kind j NODE_BIN_OP && nat_lt (power j) (right_of k))) (λ k j. nat_le (power j) (high_of k)) refl k j
+    (and_from _ _ h (and_from _ _ c w)))
 
 -- a binary operator has a level of its own
 pub operates : (k : SyntaxKind) → is_infix k ≡ true → Operates k
@@ -146,41 +148,17 @@ sided k h = record {
   most = at_most (left_of k) 13 (implied is_infix (λ o. nat_le (left_of o) 13) refl k h);
 }
 
--- levels that group otherwise differ
-apart : (m n : ℕ) → is_left m ≡ false → is_left n ≡ true → m ≡ n → ⊥
-apart m n e f h = true_is_not_false (sym f ∙ ap is_left (sym h) ∙ e)
-
 -- an operator that may follow what another has made takes it as its left operand
 pub left_rule : (j k : SyntaxKind) → is_infix j ≡ true → is_infix k ≡ true → power j ≤ high_of k → left_of j ≤ power k
-left_rule j k h i l = by (is_left (power j)) (is_left (power k)) refl refl (sided j h).left (sided k i).high
-  where
-    by : (x y : Bool) → is_left (power j) ≡ x → is_left (power k) ≡ y → left_of j ≡ (if is_left (power j) then power j else suc (power j))
-        → suc (high_of k) ≡ (if is_left (power k) then suc (power k) else power k) → left_of j ≤ power k
-    by true true e f u v =
-        let a : left_of j ≡ power j = u ∙ ap (λ w. if w then power j else suc (power j)) e in
-        let b : suc (high_of k) ≡ suc (power k) = v ∙ ap (λ w. if w then suc (power k) else power k) f in
-        omega (arith, a, b, l)
-    by true false e f u v =
-        let a : left_of j ≡ power j = u ∙ ap (λ w. if w then power j else suc (power j)) e in
-        let b : suc (high_of k) ≡ power k = v ∙ ap (λ w. if w then suc (power k) else power k) f in
-        omega (arith, a, b, l)
-    by false false e f u v =
-        let a : left_of j ≡ suc (power j) = u ∙ ap (λ w. if w then power j else suc (power j)) e in
-        let b : suc (high_of k) ≡ power k = v ∙ ap (λ w. if w then suc (power k) else power k) f in
-        omega (arith, a, b, l)
-    by false true e f u v =
-        let a : left_of j ≡ suc (power j) = u ∙ ap (λ w. if w then power j else suc (power j)) e in
-        let b : suc (high_of k) ≡ suc (power k) = v ∙ ap (λ w. if w then suc (power k) else power k) f in
-        omega (arith, a, b, l, apart (power j) (power k) e f)
+left_rule j k h i l =
+    at_most (left_of j) (power k)
+    (whenever_two (λ j k. is_infix j && (is_infix k && nat_le (power j) (high_of k))) (λ j k. nat_le (left_of j) (power k)) refl j k
+    (and_from _ _ h (and_from _ _ i (at_most_true (power j) (high_of k) l))))
 
 -- a left operand is tighter than the operator by one level at most
 pub next_left : (j : SyntaxKind) → is_infix j ≡ true → left_of j ≤ suc (power j)
-next_left j h = by (is_left (power j)) (sided j h).left
-  where
-    by : (x : Bool) → left_of j ≡ (if x then power j else suc (power j)) → left_of j ≤ suc (power j)
-    by true e = omega (arith, e)
-    by false e = omega (arith, e)
+next_left = every.at_most is_infix left_of (λ j. suc (power j)) refl
 
--- the level of a right operand is positive, and at most the tightest
+-- the loosest level of a right operand lies between these
 pub right_within : (k : SyntaxKind) → (1 ≤ right_of k) × (right_of k ≤ 16)
 right_within k = within 1 (right_of k) 16 (every (λ o. nat_le 1 (right_of o) && nat_le (right_of o) 16) refl k)

@@ -8,7 +8,6 @@ pub mod OpenHeads
 pub mod NodeKinds
 pub mod Basics
 pub mod SketchLemmas
-pub mod StandsLemmas
 pub mod Places
 pub mod PlaceTables
 pub mod RunLemmas

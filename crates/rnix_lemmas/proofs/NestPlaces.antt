@@ -7,15 +7,12 @@ use Rattle.rnix_kinds.specs.declared.kinds.SyntaxKind.TheVariants.{NODE_APPLY, N
 use Rattle.rnix_tree.specs.Equality.{same_kind, same_kind-decides}
 use Rattle.rnix_grammar.specs.declared.place.Place.{Place}
 use Rattle.rnix_grammar.specs.declared.place.Place.TheVariants as p
-use Rattle.rnix_grammar.specs.declared.slot.Slot.{Slot}
-use Rattle.rnix_grammar.specs.declared.slot.Slot.TheVariants as s
-use Rattle.rnix_grammar.specs.Tables.{is_wanted, closes}
 use Rattle.rnix_grammar.specs.Levels.{right_of}
 use Rattle.rnix_grammar.specs.Slots.{slot_at}
-use Rattle.rnix_grammar.specs.Rows.{Spot, Start, BeforeOperator, BeforeDot, BeforeQuestion, BeforeArgument, BeforeAt, BeforeBrace, SecondStart, At, Nowhere, to, first, go, go_slot, is_entry, is_infix, fits, start}
+use Rattle.rnix_grammar.specs.Rows.{Spot, Start, BeforeOperator, BeforeDot, BeforeQuestion, BeforeArgument, BeforeAt, BeforeBrace, SecondStart, At, Nowhere, first, go, is_infix, start}
 use Rattle.rnix_lemmas.proofs.EachKind.{each_kind}
 use Rattle.rnix_lemmas.proofs.Places.{home}
-use Rattle.rnix_lemmas.proofs.SpotCases.{case_to, case_if}
+use Rattle.rnix_lemmas.proofs.SpotCases.{case_to, Leads, case_leads}
 
 -- the kind of node in whose row a spot is; some spots are in those of many
 abbrev pub owner : Spot → Option SyntaxKind
@@ -42,37 +39,6 @@ IsOwned kind q = is_owned (owner q) kind ≡ true
 -- where the row of a kind begins is in its row
 pub start_owned : (k : SyntaxKind) → IsOwned k (start k)
 start_owned = every (λ k. is_owned (owner (start k)) k) refl
-
--- it is so at the places that a slot leads to, but for the end of the row
-abbrev pub Leads : (Spot → Type 0) → Slot → Type 0
-Leads A (s.Token until behind) = A (At behind)
-Leads A (s.Operand level counted behind) = A (At behind)
-Leads A (s.Entries closer behind) = A (At behind)
-Leads A s.Pieces = A (At p.StringInside)
-Leads A s.FirstPiece = A (At p.PathMore)
-Leads A s.MorePieces = A (At p.PathMore)
-Leads A s.Source = A (At p.InheritNames)
-Leads A s.Names = A (At p.InheritNames)
-Leads A (s.Attr behind) = A (At behind)
-Leads A s.MoreAttrs = A (At p.AttrpathStart)
-Leads A (s.Attrpath behind) = A (At behind)
-Leads A (s.Name behind) = A (At behind)
-Leads A (s.Braces bound) = A (At (p.PatternEnd bound)) × A (At (p.PatternClose bound)) × A (At (p.PatternAfter bound))
-Leads A (s.Formals bound) = A (At (p.PatternEnd bound)) × A (At (p.PatternClose bound)) × A (At (p.PatternAfter bound))
-Leads A (s.Comma bound) = A (At (p.PatternInside bound)) × A (At (p.PatternEnd bound))
-Leads A (s.Bind bound) = A (At p.PatternPast)
-Leads A s.Default = A (At p.EntryDefault)
-Leads A s.Or = A (At p.SelectDefault)
-Leads A slot = Unit {0}
-
--- so it is behind one more child
-case_leads : (A : Spot → Type 0) → A Nowhere → A (At p.Past) → (slot : Slot) (x : Place) (j : SyntaxKind) → A (At x) → Leads A slot → A (go_slot slot x j)
-case_leads A n e (s.Token until behind) x j h l = case_to A n (is_wanted until j) (At behind) l
-case_leads A n e (s.Operand level counted behind) x j h l = case_to A n (fits level j) (At behind) l
-case_leads A n e (s.Series level closer) x j h l = case_if A (closes closer j) (At p.Past) (to (fits level j) (At x)) e (case_to A n (fits level j) (At x) h)
-case_leads A n e (s.Entries closer behind) x j h l = case_if A (closes closer j) (At behind) (to (is_entry j) (At x)) l (case_to A n (is_entry j) (At x) h)
-case_leads A n e (s.Bind true) x j h l = n
-case_leads A n e slot x j h l = each_kind (λ j. A (go_slot slot x j)) (assumption (n, e, l)) j
 
 -- each place leads to places of the same kind
 leads_owned : (k : SyntaxKind) (x : Place) → IsOwned k (At x) → Leads (IsOwned k) (slot_at x)

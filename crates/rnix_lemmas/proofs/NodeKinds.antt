@@ -1,15 +1,15 @@
 -- What kinds of nodes are: those whose leaves keep their kinds, expressions, attributes and entries.
-use Rattle.std.proofs.Common.{◌≡◌, ℕ, Bool, true, false, refl, sym, ◌∙◌}
+use Rattle.std.proofs.Common.{◌≡◌, ℕ, Bool, true, false, refl, sym, ◌∙◌, arith}
 use Rattle.rnix_kinds.specs.declared.kinds.SyntaxKind.{SyntaxKind}
 use Rattle.rnix_kinds.specs.declared.kinds.SyntaxKind.TheVariants.{NODE_ERROR, NODE_IDENT, NODE_CUR_POS}
 use Rattle.rnix_kinds.proofs.AllKinds.{implied}
 use Rattle.rnix_grammar.specs.Sketch.{told_as}
-use Rattle.rnix_grammar.specs.Rows.{is_simple, is_questioned, is_operand, fits, is_negated, is_expression, is_attr, is_entry}
-use Rattle.std.specs.Prelude.{if◌then◌else◌, nat_le, nat_eq}
+use Rattle.rnix_grammar.specs.Rows.{fits, is_expression, is_attr, is_entry}
 use Rattle.rnix_lemmas.proofs.Basics.{true_is_not_false}
+use Rattle.rnix_lemmas.proofs.LevelLemmas.{fits_looser}
 use Rattle.rnix_grammar.specs.Plain.{is_node}
 
--- no such node is open: error nodes are made at once or are second names, names are one item
+-- error nodes, and nodes of one name, whose leaf may have another kind than its token
 abbrev pub is_error : SyntaxKind → Bool
 is_error NODE_ERROR = true
 is_error NODE_IDENT = true
@@ -35,14 +35,7 @@ entry_node = implied is_entry is_node refl
 
 -- what fits an operand's place is an expression
 pub fits_expression : (n : ℕ) (k : SyntaxKind) → fits n k ≡ true → is_expression k ≡ true
-fits_expression n k h = by (nat_eq n 0) (nat_le n 12) (nat_eq n 13) (nat_eq n 14) h
-  where
-    by : (t u v w : Bool) → (if t then is_expression k else (if u then is_operand k else (if v then is_questioned k else (if w then is_negated k else is_simple k)))) ≡ true → is_expression k ≡ true
-    by true u v w h = h
-    by false true v w h = implied is_operand is_expression refl k h
-    by false false true w h = implied is_questioned is_expression refl k h
-    by false false false true h = implied is_negated is_expression refl k h
-    by false false false false h = implied is_simple is_expression refl k h
+fits_expression n k h = fits_looser 0 n k (omega arith) h
 
 -- a kind is of a token or of a node
 pub not_both : (k : SyntaxKind) → is_node k ≡ false → is_node k ≡ true → ⊥

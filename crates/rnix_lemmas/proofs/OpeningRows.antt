@@ -1,14 +1,15 @@
 -- How a row goes on where no run of tokens may stand, and which kinds begin no row.
 use Rattle.std.proofs.Common.{◌≡◌, ℕ, suc, Bool, true, false, List, [], ◌∷◌, ◌++◌, refl, ap, sym, ◌∙◌, subst}
 use Rattle.rnix_kinds.specs.declared.kinds.SyntaxKind.{SyntaxKind}
-use Rattle.rnix_kinds.specs.declared.kinds.SyntaxKind.TheVariants.{TOKEN_R_BRACE, TOKEN_R_BRACK, TOKEN_IN, TOKEN_INTERPOL_END, TOKEN_IDENT, TOKEN_CUR_POS, TOKEN_QUESTION, TOKEN_INVERT, TOKEN_AT, NODE_LITERAL}
+use Rattle.rnix_kinds.specs.declared.kinds.SyntaxKind.TheVariants.{TOKEN_IDENT, NODE_LITERAL}
+use Rattle.rnix_kinds.specs.SyntaxKind.{is_token}
 use Rattle.rnix_grammar.specs.declared.place.Place.{Place}
 use Rattle.rnix_grammar.specs.declared.until.Closer.{Closer}
 use Rattle.rnix_grammar.specs.declared.until.Closer.TheVariants as c
 use Rattle.rnix_grammar.specs.Fault.{Fault}
 use Rattle.rnix_grammar.specs.Tables.{closes}
 use Rattle.rnix_grammar.specs.Sketch.{Token, Note, Stray, Unwanted, Extra, Twice, TooDeep, Sketch, blank, token, branch, fault, ◌⊕◌, one_branch, one_fault, told}
-use Rattle.rnix_grammar.specs.Rows.{is_infix, Spot, Start, At, to, go, first, live, start}
+use Rattle.rnix_grammar.specs.Rows.{Spot, Start, At, to, go, first, live, start}
 use Rattle.rnix_grammar.specs.Stands.{Stands, end, leaf as leafed, lost, wrong, second, inner, IsBeside, IsLeveled, IsOpened}
 use Rattle.std.specs.Prelude.{if◌then◌else◌}
 use Rattle.std.specs.List.{list_all}
@@ -102,18 +103,9 @@ opening {p = p} {a = a} {q = q} {q' = q'} {b = b} (inner {x = y} {d = d} {i = i}
 pub opened : {k : SyntaxKind} {q : Spot} {b f : Sketch} → HasRow k q b f → is_place q ≡ false → Opening k q b f
 opened h n = opening h.stands h.last refl n
 
--- the kinds of tokens that stand where nodes may not
+-- no token has a row
 abbrev pub is_rowless : SyntaxKind → Bool
-is_rowless TOKEN_QUESTION = true
-is_rowless TOKEN_INVERT = true
-is_rowless TOKEN_IDENT = true
-is_rowless TOKEN_CUR_POS = true
-is_rowless TOKEN_AT = true
-is_rowless TOKEN_R_BRACE = true
-is_rowless TOKEN_R_BRACK = true
-is_rowless TOKEN_IN = true
-is_rowless TOKEN_INTERPOL_END = true
-is_rowless kind = is_infix kind
+is_rowless kind = is_token kind
 
 -- a row has a first child
 dead_row : {k : SyntaxKind} {b f : Sketch} → ((j : SyntaxKind) → live (first k j) ≡ false) → HasRow k (Start k) b f → ⊥
@@ -129,16 +121,12 @@ pub no_row : (k : SyntaxKind) {b f : Sketch} → is_rowless k ≡ true → HasRo
 no_row k {b = b} {f = f} e h = dead_row (λ j. dead k j e) (subst (λ q. HasRow k q b f) (from k e) h)
   where
     dead : (k j : SyntaxKind) → is_rowless k ≡ true → live (first k j) ≡ false
-    dead TOKEN_AT j e = refl
+    dead TOKEN_IDENT j e = refl
     dead _ j e = cc
 
     from : (k : SyntaxKind) → is_rowless k ≡ true → start k ≡ Start k
-    from TOKEN_AT e = refl
+    from TOKEN_IDENT e = refl
     from _ e = cc
-
--- no binary operator has a row
-pub infix_rowless : (k : SyntaxKind) → is_infix k ≡ true → is_rowless k ≡ true
-infix_rowless = implied is_infix is_rowless refl
 
 closing_rowless : (closer : Closer) (k : SyntaxKind) → closes closer k ≡ true → is_rowless k ≡ true
 closing_rowless closer = implied (closes closer) is_rowless (by closer)

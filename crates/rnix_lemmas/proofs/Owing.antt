@@ -15,45 +15,22 @@ use Rattle.rnix_grammar.specs.Slots.{slot_at}
 use Rattle.rnix_grammar.specs.Rows.{fits, is_attr, is_entry, Spot, At, Nowhere, to, go_pieces, go_names, go_source, go_attrpath, go_formals, go_comma, go_slot, go, is_end, whole}
 use Rattle.rnix_lemmas.proofs.RowKinds.{has_row, no_wanted, no_closing}
 
+-- the row goes on
+abbrev goes_further : Slot → Bool
+goes_further slot = if is_end slot then false else true
+
+-- a token must come in a slot, or behind the node that stands there
+abbrev owes_in : Slot → Bool
+owes_in (s.Operand level counted behind) = goes_further (slot_at behind)
+owes_in (s.Attr behind) = goes_further (slot_at behind)
+owes_in (s.Attrpath behind) = goes_further (slot_at behind)
+owes_in (s.Name behind) = goes_further (slot_at behind)
+owes_in (s.More low high) = false
+owes_in slot = goes_further slot
+
 -- a token must come before the row can end
 abbrev pub owes : Place → Bool
-owes p.ParenInside = true
-owes p.ParenEnd = true
-owes p.ListInside = true
-owes p.DynamicInside = true
-owes p.InterpolInside = true
-owes p.InterpolEnd = true
-owes p.StringInside = true
-owes p.StringEnd = true
-owes p.SetBrace = true
-owes p.SetInside = true
-owes p.LegacyInside = true
-owes p.LetInside = true
-owes p.InheritStart = true
-owes p.InheritNames = true
-owes p.InheritName = true
-owes p.InheritEnd = true
-owes p.FromInside = true
-owes p.FromEnd = true
-owes p.ValuePath = true
-owes p.ValueAssign = true
-owes p.ValueInside = true
-owes p.ValueEnd = true
-owes p.WithScope = true
-owes p.WithEnd = true
-owes p.AssertCondition = true
-owes p.AssertEnd = true
-owes p.IfCondition = true
-owes p.IfThen = true
-owes p.IfConsequence = true
-owes p.IfElse = true
-owes p.LambdaColon = true
-owes p.PatternBrace = true
-owes (p.PatternStart bound) = true
-owes (p.PatternInside bound) = true
-owes (p.PatternAfter bound) = true
-owes (p.PatternClose bound) = true
-owes place = false
+owes place = owes_in (slot_at place)
 
 -- a spot whose row does not end without a token
 abbrev pub owing : Spot → Bool
@@ -94,8 +71,7 @@ owed (s.Operand level counted y) = owes y
 owed (s.Attr y) = owes y
 owed (s.Attrpath y) = owes y
 owed (s.Name y) = false
-owed s.MorePieces = false
-owed slot = if is_end slot then false else true
+owed slot = goes_further slot
 
 owed_at : (x : Place) → owes x ≡ true → owed (slot_at x) ≡ true
 owed_at p.ParenInside o = refl

@@ -12,8 +12,8 @@ use Rattle.rnix_grammar.specs.declared.slot.Slot.TheVariants as s
 use Rattle.rnix_grammar.specs.declared.action.Action.{Action}
 use Rattle.rnix_grammar.specs.Tables.{is_wanted, closes}
 use Rattle.rnix_grammar.specs.Slots.{slot_at}
-use Rattle.rnix_grammar.specs.Actions.{token_action, series_action, entries_action, first_piece_action, more_pieces_action, more_attrs_action, name_action, bind_action, default_action, or_action, follow, goes_on, more_action, done_at, action_at}
-use Rattle.rnix_grammar.specs.Sorts.{sort_of, is_inner, IsInner, IsLater, FitsNode, FitsSecond, FitsOperand, Fits}
+use Rattle.rnix_grammar.specs.Actions.{token_action, series_action, entries_action, more_pieces_action, name_action, bind_action, follow, goes_on, more_action, done_at, action_at}
+use Rattle.rnix_grammar.specs.Sorts.{sort_of, is_inner, IsInner, FitsNode, FitsSecond, FitsOperand, Fits}
 use Rattle.rnix_lemmas.proofs.Basics.{choice}
 use Rattle.rnix_lemmas.proofs.EachKind.{each_kind, each_next}
 
@@ -51,63 +51,37 @@ more_fits : (low high : ℕ) (next : Option SyntaxKind) → FitsOperand next (mo
 more_fits low high None = tt
 more_fits low high (Some kind) = choice (FitsOperand (Some kind)) (goes_on low high kind) (follow_fits kind) tt
 
--- what must hold of a slot in a node's row
-abbrev pub is_later : Bool → Bool
-is_later true = false
-is_later false = true
+-- where each slot stands in a node's row, and what stands behind it as well
+abbrev pub stands_in : Slot → Bool
+stands_in s.TwiceDone = false
+stands_in (s.Token until behind) = is_inner (sort_of behind)
+stands_in (s.Operand level counted behind) = is_inner (sort_of behind)
+stands_in (s.Entries closer behind) = is_inner (sort_of behind)
+stands_in (s.Attr behind) = is_inner (sort_of behind)
+stands_in (s.Attrpath behind) = is_inner (sort_of behind)
+stands_in (s.Name behind) = is_inner (sort_of behind)
+stands_in (s.More low high) = false
+stands_in slot = true
 
--- the test of a place where something has been read
-later : (start : Bool) → is_later start ≡ true → IsLater start
-later false h = refl
-later true h = absurd (cc)
-
--- where each slot may stand, and that what stands behind it is in a node's row
-abbrev pub stands_in : Bool → Slot → Bool
-stands_in start s.Done = is_later start
-stands_in start s.EntryDone = is_later start
-stands_in start s.PatternDone = is_later start
-stands_in start s.TwiceDone = false
-stands_in start (s.Token until behind) = is_inner (sort_of behind)
-stands_in start (s.Operand level counted behind) = is_inner (sort_of behind)
-stands_in start (s.Entries closer behind) = is_inner (sort_of behind)
-stands_in start s.FirstPiece = is_later start
-stands_in start s.MorePieces = is_later start
-stands_in start (s.Attr behind) = is_inner (sort_of behind)
-stands_in start s.MoreAttrs = is_later start
-stands_in start (s.Attrpath behind) = is_inner (sort_of behind)
-stands_in start (s.Name behind) = is_inner (sort_of behind)
-stands_in start (s.Bind bound) = is_later start
-stands_in start s.Default = is_later start
-stands_in start s.Or = is_later start
-stands_in start (s.More low high) = false
-stands_in start slot = true
-
--- what is done at a place of a node's row may be done there
-done_fits : (start : Bool) (slot : Slot) (place : Place) (next : Option SyntaxKind) (touches : Bool) → IsInner place → stands_in start slot ≡ true
-    → FitsNode start next (done_at slot place next touches)
-done_fits start s.Done place next touches i h = later start h
-done_fits start s.EntryDone place next touches i h = later start h
-done_fits start s.PatternDone place next touches i h = later start h
-done_fits start s.TwiceDone place next touches i h = absurd (cc)
-done_fits start (s.More low high) place next touches i h = absurd (cc)
-done_fits start (s.Token until behind) place next touches i h = token_fits start until place behind next i h
-done_fits start (s.Series level closer) place next touches i h = series_fits start level closer place next i
-done_fits start (s.Entries closer behind) place next touches i h = entries_fits start closer place behind next i h
-done_fits start s.FirstPiece place next touches i h = let l : IsLater start = later start h in each_next (λ n. FitsNode start n (first_piece_action n)) (assumption) (assumption) next
-done_fits start s.MorePieces place next true i h = let l : IsLater start = later start h in each_next (λ n. FitsNode start n (more_pieces_action true n)) (assumption) (assumption) next
-done_fits start s.MorePieces place next false i h = let l : IsLater start = later start h in each_next (λ n. FitsNode start n (more_pieces_action false n)) (assumption) (assumption) next
-done_fits start s.MoreAttrs place next touches i h = let l : IsLater start = later start h in each_next (λ n. FitsNode start n (more_attrs_action n)) (assumption) (assumption) next
-done_fits start (s.Bind true) place next touches i h = let l : IsLater start = later start h in each_next (λ n. FitsNode start n (bind_action true n)) (assumption) (assumption) next
-done_fits start (s.Bind false) place next touches i h = let l : IsLater start = later start h in each_next (λ n. FitsNode start n (bind_action false n)) (assumption) (assumption) next
-done_fits start s.Default place next touches i h = let l : IsLater start = later start h in each_next (λ n. FitsNode start n (default_action n)) (assumption) (assumption) next
-done_fits start s.Or place next touches i h = let l : IsLater start = later start h in each_next (λ n. FitsNode start n (or_action n)) (assumption) (assumption) next
-done_fits start slot place next touches i h = each_next (λ n. FitsNode start n (done_at slot place n touches)) (assumption) (assumption) next
+-- what is done at a place of a node's row where something has been read may be done there
+done_fits : (slot : Slot) (place : Place) (next : Option SyntaxKind) (touches : Bool) → IsInner place → stands_in slot ≡ true
+    → FitsNode false next (done_at slot place next touches)
+done_fits s.TwiceDone place next touches i h = absurd (cc)
+done_fits (s.More low high) place next touches i h = absurd (cc)
+done_fits (s.Token until behind) place next touches i h = token_fits false until place behind next i h
+done_fits (s.Series level closer) place next touches i h = series_fits false level closer place next i
+done_fits (s.Entries closer behind) place next touches i h = entries_fits false closer place behind next i h
+done_fits s.MorePieces place next true i h = each_next (λ n. FitsNode false n (more_pieces_action true n)) (assumption) (assumption) next
+done_fits s.MorePieces place next false i h = each_next (λ n. FitsNode false n (more_pieces_action false n)) (assumption) (assumption) next
+done_fits (s.Bind true) place next touches i h = each_next (λ n. FitsNode false n (bind_action true n)) (assumption) (assumption) next
+done_fits (s.Bind false) place next touches i h = each_next (λ n. FitsNode false n (bind_action false n)) (assumption) (assumption) next
+done_fits slot place next touches i h = each_next (λ n. FitsNode false n (done_at slot place n touches)) (assumption) (assumption) next
 
 -- what is done at a place may be done there
 pub action_fits : (place : Place) (next : Option SyntaxKind) (touches : Bool) → Fits (sort_of place) next (action_at place next touches)
 action_fits p.TwiceName next touches = second_fits next
 action_fits p.TwicePast next touches = tt
 action_fits (p.Behind low high) next touches = more_fits low high next
-action_fits p.ValuePath next touches = done_fits true (slot_at p.ValuePath) p.ValuePath next touches refl refl
-action_fits p.AttrpathStart next touches = done_fits true (slot_at p.AttrpathStart) p.AttrpathStart next touches refl refl
-action_fits place next touches = done_fits false (slot_at place) place next touches refl refl
+action_fits p.ValuePath next touches = each_next (λ n. FitsNode true n (action_at p.ValuePath n touches)) (assumption) (assumption) next
+action_fits p.AttrpathStart next touches = each_next (λ n. FitsNode true n (action_at p.AttrpathStart n touches)) (assumption) (assumption) next
+action_fits place next touches = done_fits (slot_at place) place next touches refl refl

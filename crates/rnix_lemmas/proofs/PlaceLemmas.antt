@@ -15,7 +15,7 @@ use Rattle.rnix_grammar.specs.Actions.{action_at}
 use Rattle.rnix_grammar.specs.Begins.{is_pattern, begin_name, begin_let, begin_keyword, begin_scope, begin_of, second_kind}
 use Rattle.rnix_grammar.specs.Sketch.{Token, Twice, Sketch, blank, tokens_in, head_kind, touches}
 use Rattle.rnix_grammar.specs.Reports.{report, repeated}
-use Rattle.rnix_grammar.specs.Machine.{Head, Node, Second, Operand, Frame, Machine, opened, seen, low_of, closed, cleaned, entry_closed, limited, begun, operand_on, reading, perform, step_on, step, begins, Runs, rest, then as further}
+use Rattle.rnix_grammar.specs.Machine.{Head, Node, Second, Operand, Frame, Machine, opened, seen, low_of, closed, cleaned, entry_closed, limited, begun, operand_on, reading, perform, step_on, step, begins}
 use Rattle.rnix_grammar.specs.Sorts.{Sort, Inner, Naming, Following, sort_of, is_inner, is_naming, is_start, IsInner, HasNext, FitsNode, FitsSecond, FitsOperand, Fits, Suits, Waits, Under, AreKept}
 use Rattle.rnix_lemmas.proofs.PlaceFacts.{action_fits}
 use Rattle.rnix_lemmas.proofs.Basics.{choice}
@@ -138,9 +138,7 @@ node_kept : (raw : Bool) (action : Action) (start : Bool) (next : Option SyntaxK
 node_kept raw a.Close start next k q e row fs ts n es h s w = closed_kept (opened (Node k) q e row) fs ts n es (s, w)
 node_kept raw a.ClosePattern start next k q e row fs ts n es h s w = closed_kept (opened (Node k) q e row) fs ts n es (s, w)
 node_kept raw a.CloseEntry start next k q e row fs ts n es h s w = entry_kept raw (opened (Node k) q e row) fs ts n es (s, w)
-node_kept raw a.CloseTwice start next k q e row fs ts n es h s w = absurd h
 node_kept raw a.Finish start next k q e row fs ts n es h s w = (s, w)
-node_kept raw a.Settle start next k q e row fs ts n es h s w = absurd h
 node_kept raw a.Extra start next k q e row fs ts n es h s w = (s, w)
 node_kept raw (a.Take after) start next k q e row fs ts n es h s w = (inner_suits k (sort_of after) h.1, w)
 node_kept raw (a.Miss after) start next k q e row fs ts n es h s w = (inner_suits k (sort_of after) h.1, w)
@@ -153,9 +151,7 @@ node_kept raw (a.Begin j inside after) start next k q e row fs ts n es h s w =
 node_kept raw (a.Entry after) start next k q e row fs ts n es h s w = (tt, (tt, (inner_suits k (sort_of after) h.1, w)))
 node_kept raw (a.Twice after) start next k q e row fs ts n es h s w = (tt, (tt, (inner_suits k (sort_of after) h.1, w)))
 node_kept raw (a.Read level counted after) start next k q e row fs ts n es h s w = reading_kept raw level counted k after e row fs ts n es h w
-node_kept raw (a.Wrap j inside high) start next k q e row fs ts n es h s w = absurd h
-node_kept raw a.Apply start next k q e row fs ts n es h s w = absurd h
-node_kept raw a.ApplyOr start next k q e row fs ts n es h s w = absurd h
+node_kept raw _ start next k q e row fs ts n es h s w = absurd h
 
 -- what a second name does
 second_kept : (raw : Bool) (action : Action) (next : Option SyntaxKind) (q : Place) (e : ℕ) (row : Sketch) (fs : List Frame) (ts : List Token) (n : ℕ) (es : List Fault)
@@ -195,11 +191,6 @@ step_kept raw m h = by_frames m.frames h
         perform_kept raw (action_at f.place next near) (is_start (sort_of f.place)) next f.head f.place f.depth f.row fs m.left m.reached m.faults
         (head_fits f.head f.place next near h.0) h.0 h.1
 
--- frames stand at places of their sorts after many steps
-pub runs_kept : {raw : Bool} {m n : Machine} → Runs raw m n → AreKept m.frames → AreKept n.frames
-runs_kept rest h = h
-runs_kept {raw = raw} (further {m = m} r) h = runs_kept r (step_kept raw m h)
-
--- and where the text is about to be read
+-- so they do where the text is about to be read
 pub begins_kept : (ts : List Token) → AreKept (begins ts).frames
 begins_kept ts = (tt, (refl, tt))

@@ -1,13 +1,10 @@
--- Which node each place is in, and what stays as a row goes on.
-use Rattle.std.proofs.Common.{◌≡◌, ℕ, ◌≤◌, Bool, true, false, List, [], ◌∷◌, Option, Some, None, refl, subst}
+-- Which node each place is in, and what is wanted and missing there.
+use Rattle.std.proofs.Common.{◌≡◌, ℕ, Bool, true, false, Option, Some, None, refl, subst}
 use Rattle.rnix_kinds.specs.declared.kinds.SyntaxKind.{SyntaxKind}
 use Rattle.rnix_kinds.specs.declared.kinds.SyntaxKind.TheVariants.{NODE_ASSERT, NODE_ATTRPATH, NODE_ATTRPATH_VALUE, NODE_ATTR_SET, NODE_BIN_OP, NODE_DYNAMIC, NODE_ERROR, NODE_HAS_ATTR, NODE_IF_ELSE, NODE_INHERIT, NODE_INHERIT_FROM, NODE_INTERPOL, NODE_LAMBDA, NODE_LEGACY_LET, NODE_LET_IN, NODE_LIST, NODE_PAREN, NODE_PATTERN, NODE_PAT_BIND, NODE_PAT_ENTRY, NODE_ROOT, NODE_SELECT, NODE_STRING, NODE_UNARY_OP, NODE_WITH}
 use Rattle.rnix_grammar.specs.declared.place.Place.{Place}
 use Rattle.rnix_grammar.specs.declared.place.Place.TheVariants as p
-use Rattle.rnix_grammar.specs.declared.slot.Slot.{Slot}
-use Rattle.rnix_grammar.specs.declared.slot.Slot.TheVariants as s
 use Rattle.rnix_grammar.specs.declared.until.Until.{Until}
-use Rattle.rnix_grammar.specs.Slots.{slot_at}
 use Rattle.rnix_grammar.specs.Fault.{Fault}
 use Rattle.rnix_grammar.specs.Stands.{is_wanted_in}
 use Rattle.rnix_grammar.specs.Missing.{lack, run_at}
@@ -106,69 +103,6 @@ abbrev pub is_last : Place → Bool
 is_last p.StringEnd = true
 is_last place = false
 
--- the level of the last operand of an operator, behind it
-abbrev pub over : Place → Option ℕ
-over (p.Operated level) = Some level
-over place = None
-
--- the level of an operator's last operand that a slot holds
-abbrev pub allowed : Slot → Option ℕ
-allowed (s.Operand level counted behind) = over behind
-allowed slot = None
-
--- the operand of an operator is looser than nothing
-abbrev pub Placed : Place → Type 0
-Placed (p.Right level) = 1 ≤ level
-Placed (p.Behind low high) = ⊥
-Placed place = Unit {0}
-
--- the right operand of an operator is asked for no level beyond 14
-abbrev pub RightMost : Place → Type 0
-RightMost (p.Right level) = level ≤ 14
-RightMost place = Unit {0}
-
--- a row of the first place may go on at the second
-pub record Leads (x y : Place) : Type 0 where
-  pub same : IsSame (home x) (home y)
-  pub tight : tight y ≡ tight x
-  pub further : is_last y ≡ false
-  pub calm : over y ≡ allowed (slot_at x)
-  pub placed : Placed y
-  pub most : RightMost y
-
--- a place leads to each of these
-abbrev pub LeadsAll : Place → List Place → Type 0
-LeadsAll x [] = Unit {0}
-LeadsAll x (y ∷ ys) = Leads x y × LeadsAll x ys
-
--- the places behind a slot
-abbrev pub after : Slot → Place → List Place
-after (s.Token until behind) place = place ∷ (behind ∷ [])
-after (s.Operand level counted behind) place = behind ∷ []
-after (s.Series level closer) place = place ∷ (p.Past ∷ [])
-after (s.Entries closer behind) place = place ∷ (behind ∷ [])
-after s.Pieces place = p.Past ∷ (p.StringInside ∷ [])
-after s.FirstPiece place = p.PathMore ∷ []
-after s.MorePieces place = p.PathMore ∷ []
-after s.Source place = p.InheritNames ∷ (p.InheritName ∷ (p.InheritEnd ∷ (p.Past ∷ [])))
-after s.Names place = p.InheritNames ∷ (p.InheritName ∷ (p.InheritEnd ∷ (p.Past ∷ [])))
-after (s.Attr behind) place = place ∷ (behind ∷ [])
-after s.MoreAttrs place = p.AttrpathStart ∷ []
-after (s.Attrpath behind) place = behind ∷ []
-after (s.Name behind) place = place ∷ (behind ∷ [])
-after (s.Braces bound) place = p.PatternEnd bound ∷ (p.PatternClose bound ∷ (p.PatternAfter bound ∷ (p.PatternInside bound ∷ [])))
-after (s.Formals bound) place = p.PatternEnd bound ∷ (p.PatternClose bound ∷ (p.PatternAfter bound ∷ (p.PatternInside bound ∷ [])))
-after (s.Comma bound) place = p.PatternInside bound ∷ (p.PatternClose bound ∷ (p.PatternEnd bound ∷ []))
-after (s.Bind bound) place = p.PatternPast ∷ []
-after s.Default place = p.EntryDefault ∷ []
-after s.Or place = p.SelectDefault ∷ []
-after slot place = []
-
--- the places behind each place
-pub leads_on : (x : Place) → is_last x ≡ false → LeadsAll x (after (slot_at x) x)
-leads_on p.StringEnd h = absurd (cc)
-leads_on _ h = assumption
-
 -- a run's list is wanted in a node
 abbrev pub Wants : Option (Until × Place) → Option SyntaxKind → Type 0
 Wants None h = Unit {0}
@@ -190,12 +124,12 @@ wanted_here x until y k l h i = wants_in (run_at x) (home x) until y k (wants x 
 -- where the text ends, a row goes on in the same node
 abbrev pub LackLeads : Place → Option (Fault × Place) → Type 0
 LackLeads x None = Unit {0}
-LackLeads x (Some l) = IsSame (home x) (home l.1) × (tight l.1 ≡ tight x) × Placed l.1 × RightMost l.1
+LackLeads x (Some l) = IsSame (home x) (home l.1)
 
 lack_leads : (x : Place) → LackLeads x (lack x)
-lack_leads p.RootStart = (refl, refl, tt, tt)
+lack_leads p.RootStart = refl
 lack_leads _ = assumption
 
 -- a place leads to the one behind what is missing
-pub lack_leads_on : (x y : Place) (e : Fault) → lack x ≡ Some (e, y) → IsSame (home x) (home y) × (tight y ≡ tight x) × Placed y × RightMost y
+pub lack_leads_on : (x y : Place) (e : Fault) → lack x ≡ Some (e, y) → IsSame (home x) (home y)
 lack_leads_on x y e h = subst (λ (z : Option (Fault × Place)). LackLeads x z) h (lack_leads x)

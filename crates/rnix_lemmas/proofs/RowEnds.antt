@@ -1,7 +1,6 @@
 -- What may follow where something is missing from a row.
-use Rattle.std.proofs.Common.{◌≡◌, Bool, true, false, Option, Some, None, refl, sym, subst}
+use Rattle.std.proofs.Common.{◌≡◌, Bool, true, false, Option, Some, None, refl, subst}
 use Rattle.rnix_kinds.specs.declared.kinds.SyntaxKind.{SyntaxKind}
-use Rattle.rnix_kinds.specs.declared.kinds.SyntaxKind.TheVariants.{TOKEN_DOT}
 use Rattle.rnix_grammar.specs.declared.place.Place.{Place}
 use Rattle.rnix_grammar.specs.declared.place.Place.TheVariants as p
 use Rattle.rnix_grammar.specs.declared.slot.Slot.{Slot}
@@ -10,7 +9,9 @@ use Rattle.rnix_grammar.specs.Fault.{Fault}
 use Rattle.rnix_grammar.specs.Slots.{slot_at}
 use Rattle.rnix_grammar.specs.Rows.{At, go_more_attrs, go, is_end, whole, live}
 use Rattle.rnix_grammar.specs.Missing.{lack_in, lack}
-use Rattle.rnix_lemmas.proofs.Basics.{true_is_not_false}
+use Rattle.rnix_lemmas.proofs.Basics.{not_if}
+use Rattle.rnix_kinds.proofs.AllKinds.{implied}
+use Rattle.std.specs.Prelude.{if◌then◌else◌}
 use Rattle.rnix_lemmas.proofs.Owing.{owes}
 use Rattle.rnix_lemmas.proofs.RowKinds.{has_row}
 
@@ -61,16 +62,10 @@ lost_half x y e h = subst (λ (z : Option (Fault × Place)). IsHalf (whole (At x
 
 -- a node is no dot
 no_dot : (k : SyntaxKind) → has_row k ≡ true → live (go_more_attrs k) ≡ false
-no_dot TOKEN_DOT h = absurd (true_is_not_false (sym h))
-no_dot _ h = refl
+no_dot k h = not_if (live (go_more_attrs k)) (implied has_row (λ k. if live (go_more_attrs k) then false else true) refl k h)
 
 -- no node goes on where nothing but a token may follow
 pub final_goes : (x : Place) (k : SyntaxKind) → is_final x ≡ true → has_row k ≡ true → live (go (At x) k) ≡ false
 final_goes p.RootEnd k h r = refl
 final_goes p.AttrpathMore k h r = no_dot k r
-final_goes p.PatternPast k h r = refl
-final_goes p.EntryPast k h r = refl
-final_goes p.TwicePast k h r = refl
-final_goes (p.Operated level) k h r = refl
-final_goes p.Past k h r = refl
-final_goes _ k h r = absurd (true_is_not_false (sym h))
+final_goes _ k h r = cc

@@ -1,15 +1,16 @@
 -- The parts of strict rows, and the levels at which strict trees stand.
-use Rattle.std.proofs.Common.{◌≡◌, ℕ, suc, ◌+◌, ◌≤◌, true, false, List, [], ◌∷◌, ◌++◌, refl, ap, ◌∙◌, arith, Bool}
-use Rattle.std.proofs.lemmas.Bool.{and_parts}
-use Rattle.std.specs.Prelude.{◌&&◌, if◌then◌else◌, max, nat_le}
+use Rattle.std.proofs.Common.{◌≡◌, ℕ, ◌≤◌, true, List, [], ◌∷◌, ◌++◌, refl, arith}
+use Rattle.std.proofs.lemmas.Bool.{and_parts, and_from}
+use Rattle.rnix_lemmas.proofs.LevelLemmas.{at_most_true}
+use Rattle.std.specs.Prelude.{◌&&◌, nat_le}
 use Rattle.rnix_kinds.specs.declared.kinds.SyntaxKind.{SyntaxKind}
 use Rattle.rnix_tree.specs.Forest.{Forest, node}
 use Rattle.rnix_grammar.specs.Sketch.{Token, Sketch, end_from}
 use Rattle.rnix_grammar.specs.Rows.{Spot, go, live, start, is_infix, is_atom, is_expression}
 use Rattle.rnix_grammar.specs.Strict.{is_strict, may_stand, is_grouped, level_of, is_named, is_strict_atom, stands_at}
-use Rattle.rnix_kinds.specs.declared.kinds.SyntaxKind.TheVariants.{NODE_LAMBDA, NODE_ATTR_SET, NODE_CUR_POS, NODE_IDENT, NODE_LIST, NODE_LITERAL, NODE_PAREN, NODE_PATH_ABS, NODE_PATH_HOME, NODE_PATH_REL, NODE_PATH_SEARCH, NODE_STRING}
+use Rattle.rnix_kinds.specs.declared.kinds.SyntaxKind.TheVariants.{NODE_LAMBDA, NODE_PAREN}
 use Rattle.rnix_grammar.specs.Levels.{power, left_of}
-use Rattle.rnix_lemmas.proofs.LevelLemmas.{sided, is_left}
+use Rattle.rnix_lemmas.proofs.EveryKind.{at_most}
 use Rattle.rnix_lemmas.proofs.PlainTables.{high_in}
 use Rattle.std.proofs.lemmas.Bool.Decides.{nat_tests}
 
@@ -30,10 +31,6 @@ parts q j c f h =
     let v = and_parts (is_strict (start j) c) (is_strict (go q j) f) u.1 in
     record { live = s.0; may = t.0; grouped = u.0; inner = v.0; more = v.1 }
 
--- the first of two depths is within the limit
-pub max_left : (d m n l : ℕ) → d + max m n ≤ l → d + m ≤ l
-max_left d m n l h = omega (arith, h)
-
 -- where two lists of tokens end
 pub end_behind : (n : ℕ) (ts us : List Token) → end_from n (ts ++ us) ≡ end_from (end_from n ts) us
 end_behind n [] us = refl
@@ -41,11 +38,7 @@ end_behind n (t ∷ ts) us = end_behind t.end ts us
 
 -- no left operand is looser than its operator
 pub left_least : (i : SyntaxKind) → is_infix i ≡ true → power i ≤ left_of i
-left_least i h = by (is_left (power i)) (sided i h).left
-  where
-    by : (x : Bool) → left_of i ≡ (if x then power i else suc (power i)) → power i ≤ left_of i
-    by true e = omega (arith, e)
-    by false e = omega (arith, e)
+left_least = at_most is_infix power left_of refl
 
 -- what it is to stand at a level
 pub record Standing (level : ℕ) (k : SyntaxKind) (c : Forest) : Type 0 where
@@ -62,27 +55,23 @@ standing level k c h =
 
 -- and such a tree stands there
 pub stands_so : (level : ℕ) (k : SyntaxKind) (c : Forest) → Standing level k c → stands_at level k c ≡ true
-stands_so level k c s =
-    ap (λ w. w && (is_named k c && nat_le level (level_of k c))) s.expression ∙ ap (λ w. w && nat_le level (level_of k c)) s.named ∙ tests (nat_le level (level_of k c)) refl
-  where
-    tests : (w : Bool) → nat_le level (level_of k c) ≡ w → w ≡ true
-    tests true e = refl
-    tests false e = absurd (grind (arith, nat_tests, e, s.low))
+stands_so level k c s = and_from _ _ s.expression (and_from _ _ s.named (at_most_true level (level_of k c) s.low))
+
+strict_level : (k : SyntaxKind) (c : Forest) → is_strict_atom k c ≡ true → level_of k c ≡ 16
+strict_level NODE_PAREN c h = refl
+strict_level _ c h = cc
+
+strict_expression : (k : SyntaxKind) (c : Forest) → is_strict_atom k c ≡ true → is_expression k ≡ true
+strict_expression NODE_PAREN c h = refl
+strict_expression _ c h = cc
+
+atom_high : (k : SyntaxKind) (c : Forest) (b : Sketch) → is_strict_atom k c ≡ true → high_in k b ≡ 16
+atom_high NODE_PAREN c b h = refl
+atom_high _ c b h = cc
 
 -- what `.` and a lone `or` follow stands at the tightest level, and anything may follow it
 pub atom_level : (k : SyntaxKind) (c : Forest) → is_strict_atom k c ≡ true → (level_of k c ≡ 16) × ((b : Sketch) → high_in k b ≡ 16) × (is_expression k ≡ true)
-atom_level NODE_PAREN c h = (refl, λ b. refl, refl)
-atom_level NODE_ATTR_SET c h = (refl, λ b. refl, refl)
-atom_level NODE_LIST c h = (refl, λ b. refl, refl)
-atom_level NODE_STRING c h = (refl, λ b. refl, refl)
-atom_level NODE_PATH_ABS c h = (refl, λ b. refl, refl)
-atom_level NODE_PATH_REL c h = (refl, λ b. refl, refl)
-atom_level NODE_PATH_HOME c h = (refl, λ b. refl, refl)
-atom_level NODE_PATH_SEARCH c h = (refl, λ b. refl, refl)
-atom_level NODE_LITERAL c h = (refl, λ b. refl, refl)
-atom_level NODE_IDENT c h = (refl, λ b. refl, refl)
-atom_level NODE_CUR_POS c h = (refl, λ b. refl, refl)
-atom_level _ c h = absurd (cc)
+atom_level k c h = (strict_level k c h, λ b. atom_high k c b h, strict_expression k c h)
 
 -- a strict atom is named as its kind is
 pub atom_named : (k : SyntaxKind) (c : Forest) → is_strict_atom k c ≡ true → is_named k c ≡ true

@@ -1,15 +1,21 @@
 -- What the laws say: of each reading, and of each tree with its errors of which all that is promised holds.
 use Rattle.std.specs.Prelude.{◌≡◌, ℕ, List}
 use Rattle.rnix_kinds.specs.Lexical.Tokens.{Lexeme, tokens_of}
+use Rattle.rnix_tree.specs.Forest.{Forest}
 use Rattle.rnix_tree.specs.Tree.{Tree}
 use Rattle.rnix_grammar.specs.Fault.{Fault}
-use Rattle.rnix_grammar.specs.Sketch.{Sketch, clean}
+use Rattle.rnix_grammar.specs.Sketch.{Token, Sketch, clean}
+use Rattle.rnix_grammar.specs.Derivation.{IsDerivation}
 use Rattle.rnix_grammar.specs.Reading.{IsReading}
 use Rattle.rnix_grammar.specs.Parsed.{IsParsed}
 
 -- so it is with each tree and its errors that are parsed from a text
 abbrev pub OfParsed : List ℕ → (Tree → List Fault → Type 0) → Type 0
 OfParsed text P = (tree : Tree) (faults : List Fault) → IsParsed (tokens_of text) tree faults → P tree faults
+
+-- so it is with each tree and its errors that are a reading of a text
+abbrev pub OfRead : List ℕ → (Tree → List Fault → Type 0) → Type 0
+OfRead text P = (tree : Tree) (faults : List Fault) → IsReading (tokens_of text) tree faults → P tree faults
 
 -- so it is with the items and the errors of each reading
 abbrev pub OfReadings : (Sketch → List Fault → Type 0) → Type 0
@@ -18,6 +24,10 @@ OfReadings P = (tokens : List Lexeme) (tree : Tree) (faults : List Fault) (r : I
 -- two readings of some tokens are one
 abbrev pub HaveOneReading : List Lexeme → Type 0
 HaveOneReading tokens = (t u : Tree) (ds es : List Fault) → IsReading tokens t ds → IsReading tokens u es → (t ≡ u) × (ds ≡ es)
+
+-- two derivations of some items are one
+abbrev pub HaveOneDerivation : List Token → Type 0
+HaveOneDerivation items = (t u : Forest) → IsDerivation t items → IsDerivation u items → t ≡ u
 
 -- two texts of which one tree is read are one, with the same errors
 abbrev pub AreOneText : List ℕ → List ℕ → Type 0

@@ -1,6 +1,6 @@
 //! From the tokens of a text to its tree and its errors.
 
-ghost use Rattle.std.specs.Prelude.{◌≡◌, map, IfOk};
+ghost use Rattle.std.specs.Prelude.{map, IfOk};
 ghost use Rattle.rnix_grammar.specs.Fault.{fault_of};
 ghost use Rattle.rnix_grammar.specs.Parsed.{IsParsed};
 

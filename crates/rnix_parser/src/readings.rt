@@ -11,7 +11,7 @@ ghost use Rattle.rnix_grammar.specs.Stands.{StandsWhole};
 ghost use Rattle.rnix_grammar.specs.Nesting.{depth_of, AreLimited};
 ghost use Rattle.rnix_grammar.specs.Reading.{IsReading};
 ghost use Rattle.rnix_grammar.specs.Parsed.{IsParsed};
-ghost use Rattle.rnix_parser.specs.Laws.{OfReadings, HaveOneReading, AreOneText};
+ghost use Rattle.rnix_parser.specs.Laws.{OfRead, OfReadings, HaveOneReading, AreOneText};
 
 /// Tokens have one reading at most: two trees with their errors that are readings of one list of tokens are equal.
 pub fn one_reading()
@@ -34,7 +34,7 @@ pub fn one_text(first: &str, second: &str)
 
 /// All that is promised of the tree and the errors of a text follows from their being its reading.
 pub fn all_follows(text: &str)
-    ensures { (tree : Tree) (faults : List Fault) → IsReading (tokens_of text.now) tree faults → IsParsed (tokens_of text.now) tree faults }
+    ensures { OfRead text.now (λ tree faults. IsParsed (tokens_of text.now) tree faults) }
 {
     let _len = text.len();
 }

@@ -1,17 +1,15 @@
 -- What is so of a whole text's trees, where their items and the tokens tell where the trivia stand.
 use Rattle.std.proofs.Common.{◌≡◌, true, List, [], ◌++◌, ap, sym, ◌∙◌, append-nil}
 use Rattle.rnix_kinds.specs.declared.kinds.SyntaxKind.{SyntaxKind}
-use Rattle.rnix_kinds.specs.declared.kinds.SyntaxKind.TheVariants.{NODE_ROOT}
 use Rattle.rnix_kinds.specs.Lexical.Tokens.{Lexeme}
 use Rattle.rnix_tree.specs.Tree.{Tree}
 use Rattle.rnix_grammar.specs.Fault.{Fault}
-use Rattle.rnix_grammar.specs.Sketch.{Token, Sketch, tokens_in, forget, clean, placed_from, AreTold}
+use Rattle.rnix_grammar.specs.Sketch.{Token, Sketch, tokens_in, clean, placed_from, AreTold}
 use Rattle.rnix_grammar.specs.Layout.{trivia_before, from_item, items, left_after, dressed, dressed_whole}
 use Rattle.rnix_grammar.specs.Machine.{ate}
 use Rattle.rnix_grammar.specs.Document.{IsRead}
 use Rattle.rnix_lemmas.proofs.SketchLemmas.{tokens_in-⊕}
 use Rattle.rnix_lemmas.proofs.LayoutLemmas.{items-view, IsBared, bared, dressed_tokens, trivia_tokens, nothing_from, told-⊕, told_trivia, told_dressed}
-use Rattle.rnix_lemmas.proofs.CleanLemmas.{ate_clean}
 use Rattle.rnix_lemmas.proofs.ReportLemmas.{clean_tokens}
 use Rattle.rnix_rows.proofs.Dressed.{whole_dressed}
 
@@ -27,12 +25,6 @@ dressed_whole_tokens f ts e =
     let none : from_item us ≡ [] = nothing_from (from_item us) (sym (items-view us) ∙ w.left) in
     let rest : tokens_in (trivia_before us) ≡ us = sym (append-nil (tokens_in (trivia_before us))) ∙ ap (λ x. tokens_in (trivia_before us) ++ x) (sym none) ∙ trivia_tokens us in
     tokens_in-⊕ (dressed f ts) (trivia_before us) ∙ ap (λ x. tokens_in (dressed f ts) ++ x) rest ∙ dressed_tokens f ts [] (all_items f ts e)
-
--- without the trivia they are the trees over the items
-pub dressed_whole_clean : (f : Sketch) (ts : List Token) → items ts ≡ tokens_in f → clean (dressed_whole f ts) ≡ f
-dressed_whole_clean f ts e =
-    let w : IsBared f ts [] = bared f ts [] (all_items f ts e) in
-    ate_clean (dressed f ts) (left_after f ts) ∙ w.same
 
 -- their leaves have the kinds that their tokens have below their parents
 pub dressed_whole_told : (p : SyntaxKind) (f : Sketch) (ts : List Token) → AreTold p f → AreTold p (dressed_whole f ts)
@@ -50,12 +42,3 @@ clean_items f ts e = ap items (sym e) ∙ sym (clean_tokens f)
 pub read_dressed : (ls : List Lexeme) (tree : Tree) (faults : List Fault) (r : IsRead ls tree faults)
     → ate true r.root.row r.last.left ≡ dressed_whole (clean (ate true r.root.row r.last.left)) (placed_from 0 ls)
 read_dressed ls tree faults r = whole_dressed (placed_from 0 ls) r.last r.root r.runs r.alone r.nothing
-
--- so its tree with trivia is told by the tree without them, and by the tokens
-pub read_tree_dressed : (ls : List Lexeme) (tree : Tree) (faults : List Fault) (r : IsRead ls tree faults)
-    → tree ≡ record { kind = NODE_ROOT; children = forget (dressed_whole (clean r.root.row) (placed_from 0 ls)) }
-read_tree_dressed ls tree faults r =
-    let row : Sketch = r.root.row in
-    r.tree_is
-    ∙ ap (λ x. record { kind = NODE_ROOT; children = forget x })
-    (read_dressed ls tree faults r ∙ ap (λ x. dressed_whole x (placed_from 0 ls)) (ate_clean row r.last.left))

@@ -32,3 +32,12 @@ pub mod WalkErrors
 pub mod NameRanges
 pub mod OrderedErrors
 pub mod ParsedRanges
+pub mod ReadsNest
+pub mod WantingSpots
+pub mod GoingOn
+pub mod BegunTrees
+pub mod QuietRows
+pub mod NodeForms
+pub mod KeptRows
+pub mod BesideErrors
+pub mod ReadsStand

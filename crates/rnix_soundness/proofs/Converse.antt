@@ -2,7 +2,8 @@
 use Rattle.std.proofs.Common.{◌≡◌, ℕ, suc, Bool, true, false, List, [], ◌∷◌, ◌++◌, Some, refl, ap, sym, ◌∙◌, subst}
 use Rattle.std.specs.Prelude.{codes, if◌then◌else◌, ◌&&◌}
 use Rattle.std.specs.Str.{bytes_eq}
-use Rattle.std.proofs.lemmas.Bool.{and_from, and_parts}
+use Rattle.std.proofs.lemmas.Bool.{and_from, and_parts, false_from_ne_true}
+use Rattle.rnix_kinds.proofs.AllKinds.{implied}
 use Rattle.rnix_kinds.specs.declared.kinds.SyntaxKind.{SyntaxKind}
 use Rattle.rnix_kinds.specs.declared.kinds.SyntaxKind.TheVariants.{TOKEN_AT, NODE_IDENT, NODE_LITERAL, NODE_PAT_BIND, NODE_PAT_ENTRY, TOKEN_INTEGER}
 use Rattle.rnix_tree.specs.Forest.{Forest, empty, leaf, node}
@@ -25,9 +26,9 @@ use Rattle.rnix_grammar.specs.BehindErrors.{go_run, go_error}
 use Rattle.rnix_grammar.specs.Missing.{lack}
 use Rattle.rnix_lemmas.proofs.Basics.{true_is_not_false}
 use Rattle.rnix_soundness.proofs.SimilarSpots.{Similar, similar_same, similar_two, similar_run, similar_past}
-use Rattle.rnix_soundness.proofs.HomeSpots.{IsHome, IsHomeAt, home_go, home_start, home_run}
-use Rattle.rnix_lemmas.proofs.OpeningRows.{HasRow, Opening, by_token, by_branch, by_fault, opened, is_place, no_row, spelled_first, spelled_rest}
-use Rattle.rnix_soundness.proofs.FirstTrees.{IsOne, one, no_operand, name_rowless}
+use Rattle.rnix_soundness.proofs.HomeSpots.{IsHome, home_go, home_start, home_run, home_past}
+use Rattle.rnix_lemmas.proofs.OpeningRows.{HasRow, Opening, by_token, by_branch, by_fault, opened, is_place, spelled_first, spelled_rest}
+use Rattle.rnix_soundness.proofs.FirstTrees.{IsLed, led, token_first, no_operand}
 use Rattle.rnix_soundness.proofs.MendedNames.{named_no_or}
 use Rattle.rnix_soundness.proofs.MendedStands.{IsThere, stands_there, number_stands}
 use Rattle.rnix_soundness.proofs.MendedGroups.{grouped}
@@ -57,23 +58,14 @@ record IsEntry (c : Sketch) : Type 0 where
   said : entry_name c ≡ Some name
   same : entry_text (mended c) ≡ name.text
 
-one_name : {c : Sketch} → HasRow NODE_IDENT (Start NODE_IDENT) blank c → IsOne c
-one_name h = by (opened h refl)
-  where
-    by : {g : Sketch} → Opening NODE_IDENT (Start NODE_IDENT) blank g → IsOne g
-    by (by_token e op l) = one
-    by (by_branch {k = k} c lev l r) = absurd (no_row k (name_rowless k l) c)
-    by (by_fault n l r) = absurd (true_is_not_false (sym l))
-
 entry_live : (k : SyntaxKind) → live (first NODE_PAT_ENTRY k) ≡ true → is_expression k ≡ true
-entry_live NODE_IDENT h = refl
-entry_live _ h = absurd (true_is_not_false (sym h))
+entry_live = implied (λ k. live (first NODE_PAT_ENTRY k)) is_expression refl
 
 entry_of : (k : SyntaxKind) {c : Sketch} (f : Sketch) → live (first NODE_PAT_ENTRY k) ≡ true → HasRow k (start k) blank c → IsEntry (branch k c f)
-entry_of NODE_IDENT f l h = by (one_name h)
+entry_of NODE_IDENT f l h = by (token_first refl refl h)
   where
-    by : {g : Sketch} → IsOne g → IsEntry (branch NODE_IDENT g f)
-    by (one {t = t}) = record { name = t; said = refl; same = refl }
+    by : {g : Sketch} → IsLed NODE_IDENT (Start NODE_IDENT) blank g → IsEntry (branch NODE_IDENT g f)
+    by (led {t = t} z op v) = record { name = t; said = refl; same = refl }
 entry_of _ f l h = absurd (true_is_not_false (sym l))
 
 entry : {c : Sketch} → HasRow NODE_PAT_ENTRY (Start NODE_PAT_ENTRY) blank c → AreSpelled (tokens_in c) → IsEntry c
@@ -182,11 +174,7 @@ bind_kind TOKEN_AT l n = refl
 bind_kind _ l n = cc
 
 no_expression : (parent k : SyntaxKind) (t : Token) → k ≡ told parent t → is_spelled t.kind t.text ≡ true → is_expression k ≡ false
-no_expression parent k t e w = by (is_expression k) refl
-  where
-    by : (v : Bool) → is_expression k ≡ v → is_expression k ≡ false
-    by true h = absurd (no_operand parent t.kind t.text w (subst (λ z. is_expression z ≡ true) e h))
-    by false h = h
+no_expression parent k t e w = false_from_ne_true (is_expression k) (λ h. no_operand parent t.kind t.text w (subst (λ z. is_expression z ≡ true) e h))
 
 binds : {k : SyntaxKind} {a : ℕ} {q q' : Spot} {b : Sketch} {i : ℕ} {us : List Token} {f : Sketch} {es : List Fault} → Stands k a q q' b i us f es
     → q ≡ Start NODE_PAT_BIND → AreSpelled (tokens_in f) → AreNamed q f → Lacks is_ended es → binds_no_or (mended f) ≡ true
@@ -218,7 +206,7 @@ binds {a = a} {q = q} (inner {x = x} {i = i} {vs = vs} {c = c} {f = f} {ds = ds}
 strict_node : (s q : Spot) (k : SyntaxKind) (c f : Forest) → Similar s q → live (go q k) ≡ true → may_stand q k c ≡ true → is_grouped k c ≡ true → is_strict (start k) c ≡ true
     → is_strict (go q k) f ≡ true → is_strict s (node k c f) ≡ true
 strict_node s q k c f sim l m g i r =
-    let same : go s k ≡ go q k = sim.goes k l in
+    let same : go s k ≡ go q k = sim.like.goes k l in
     and_from (live (go s k)) (may_stand s k c && (is_grouped k c && (is_strict (start k) c && is_strict (go s k) f))) (ap live same ∙ l)
     (and_from (may_stand s k c) (is_grouped k c && (is_strict (start k) c && is_strict (go s k) f)) (sim.stands k c l m)
     (and_from (is_grouped k c) (is_strict (start k) c && is_strict (go s k) f) g
@@ -226,7 +214,7 @@ strict_node s q k c f sim l m g i r =
 
 strict_leaf : (s q : Spot) (k : SyntaxKind) (t : List ℕ) (f : Forest) → Similar s q → live (go q k) ≡ true → is_strict (go q k) f ≡ true → is_strict s (leaf k t f) ≡ true
 strict_leaf s q k t f sim l r =
-    let same : go s k ≡ go q k = sim.goes k l in
+    let same : go s k ≡ go q k = sim.like.goes k l in
     and_from (live (go s k)) (is_strict (go s k) f) (ap live same ∙ l) (ap (λ z. is_strict z f) same ∙ r)
 
 -- behind an error node the row goes on
@@ -239,7 +227,7 @@ strict_fault Stray k a s q r b i (t ∷ ts) vs f h sim home rest =
 strict_fault (Unwanted until) k a s q r b i [] vs f h sim home rest = absurd h
 strict_fault (Unwanted until) k a s q r b i (t ∷ ts) vs f h sim home rest =
     let from : Similar s (At h.4) = subst (Similar s) h.6 sim in
-    let here : IsHomeAt k h.4 = subst (IsHome k) h.6 home in
+    let here : IsHome k (At h.4) = subst (IsHome k) h.6 home in
     rest s (subst (Similar s) (sym h.7) (similar_two from (similar_run h.4 h.5 until h.8))) (subst (IsHome k) (sym h.7) (home_run k h.4 h.5 until h.8 here))
 strict_fault Extra k a s q r b i [] vs f h sim home rest = absurd h
 strict_fault Extra k a s q r b i (t ∷ ts) vs f h sim home rest = rest s (subst (Similar s) (sym h.4) sim) (subst (IsHome k) (sym h.4) home)
@@ -256,7 +244,7 @@ corners_behind _ k f h = assumption
 -- a row whose errors are mended is strict
 pub row : {k : SyntaxKind} {a : ℕ} {q q' : Spot} {b : Sketch} {i : ℕ} {us : List Token} {f : Sketch} {es : List Fault} → Stands k a q q' b i us f es → (s : Spot) → Similar s q → whole q' ≡ true
     → IsHome k q → AreSpelled (tokens_in f) → AreNamed q f → has_no_corner k (mended f) ≡ true → Lacks is_ended es → Lacks is_repeated es → is_strict s (mended f) ≡ true
-row end s sim done home w n o l m = sim.ends done
+row end s sim done home w n o l m = sim.like.ends ∙ done
 row {k = k₀} {q = q} (leafed {r = r} {f = f} {k = k} {t = t} h op g v c j y) s sim done home w n o l m =
     strict_leaf s q k t.text (mended f) sim (ap live g ∙ v)
     (ap (λ z. is_strict z (mended f)) g ∙ row y r (similar_same r) done (subst (IsHome k₀) g (home_go k₀ q k home)) w.1 (subst (λ z. AreNamed z f) g n) o l m)
@@ -266,8 +254,8 @@ row {k = k} {a = a} {q = q} {b = b} {i = i} (wrong {r = r} {vs = vs} {c = c} {f 
     (λ u like there. row y u like done there (spelled_rest (tokens_in c) (tokens_in f) w) (subst (λ e. AreNamed e f) (beside_goes note k a q r b i ts vs beside) n)
     (corners_behind note k (mended f) o) (lacks_rest is_ended (report note ts ∷ []) es (subst (Lacks is_ended) z l))
     (lacks_rest is_repeated (report note ts ∷ []) es (subst (Lacks is_repeated) z m)))
-row {k = k} (second {c = c} {f = f} {ds = ds} {es = es} v y x par q r d j g z) s sim done home w n o l m =
-    row g s (subst (Similar s) (sym r) (similar_past s (subst (Similar s) q sim))) done (subst (IsHome k) (sym r) tt)
+row {k = k} {q = q₁} (second {c = c} {f = f} {ds = ds} {es = es} v y x par q r d j g z) s sim done home w n o l m =
+    row g s (subst (Similar s) (sym r) (similar_past s (subst (Similar s) q sim))) done (subst (IsHome k) (sym r) (home_past k q₁ q home))
     (spelled_rest (tokens_in c) (tokens_in f) w) (subst (λ u. AreNamed u f) (sym r) n) o
     (lacks_rest is_ended (ds ++ report Twice (tokens_in c) ∷ []) es (subst (Lacks is_ended) z l)) (lacks_rest is_repeated (ds ++ report Twice (tokens_in c) ∷ []) es (subst (Lacks is_repeated) z m))
 row {k = k₀} {a = a} {q = q} {b = b} (inner {r = r} {x = x} {i = i} {vs = vs} {c = c} {f = f} {ds = ds} {es = es} {k = k} v y whole_there form lev g alive d j rest z) s sim done home w n o l m =

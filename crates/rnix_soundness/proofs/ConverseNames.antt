@@ -18,6 +18,7 @@ use Rattle.rnix_grammar.specs.Corners.{has_no_corner}
 use Rattle.rnix_grammar.specs.Strict.{is_strict_expression}
 use Rattle.rnix_soundness.proofs.Converse.{none_lost, lacks_first, lacks_rest, row}
 use Rattle.rnix_soundness.proofs.SimilarSpots.{similar_same}
+use Rattle.rnix_soundness.proofs.HomeSpots.{home_start}
 use Rattle.rnix_lemmas.proofs.NestSpots.{beside_goes}
 
 -- a node that is formed is named
@@ -56,4 +57,4 @@ pub converse : (f : Sketch) (faults : List Fault) → Stands NODE_ROOT 1 (At p.R
     → Lacks is_repeated faults → has_no_corner NODE_ROOT (mended f) ≡ true → is_strict_expression (mended f) ≡ true
 converse f faults h w e m o =
     let l : Lacks is_ended faults = none_counted faults e in
-    row h (At p.RootStart) (similar_same (At p.RootStart)) refl tt w (are_named h l) o l m
+    row h (At p.RootStart) (similar_same (At p.RootStart)) refl (home_start NODE_ROOT) w (are_named h l) o l m

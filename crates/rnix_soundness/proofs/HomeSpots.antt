@@ -1,73 +1,61 @@
--- The rows of operands' nodes have no lambda as an operand, wherever they stand.
-use Rattle.std.proofs.Common.{◌≡◌, ◌≤◌, true, Some, ap, subst}
+-- Each row is at a spot of its kind, and no right operand at a level beyond the tightest.
+use Rattle.std.proofs.Common.{◌≡◌, Bool, true, Some, refl, ap, subst}
+use Rattle.std.specs.Prelude.{◌&&◌, nat_le}
+use Rattle.std.specs.List.{list_all}
+use Rattle.rnix_kinds.proofs.AllKinds.{all_kinds, every}
 use Rattle.rnix_kinds.specs.declared.kinds.SyntaxKind.{SyntaxKind}
-use Rattle.rnix_kinds.specs.declared.kinds.SyntaxKind.TheVariants.{NODE_ROOT}
 use Rattle.rnix_grammar.specs.declared.place.Place.{Place}
 use Rattle.rnix_grammar.specs.declared.place.Place.TheVariants as p
 use Rattle.rnix_grammar.specs.declared.until.Until.{Until}
-use Rattle.rnix_grammar.specs.declared.slot.Slot.{Slot}
-use Rattle.rnix_grammar.specs.declared.slot.Slot.TheVariants as s
-use Rattle.rnix_grammar.specs.Levels.{right_of}
 use Rattle.rnix_grammar.specs.Slots.{slot_at}
-use Rattle.rnix_grammar.specs.Rows.{is_infix, Spot, Start, BeforeOperator, BeforeDot, BeforeArgument, At, go, first, live, start}
-use Rattle.rnix_grammar.specs.Corners.{holds_no_lambda}
+use Rattle.rnix_grammar.specs.Rows.{Spot, Start, At, first, go, start}
 use Rattle.rnix_grammar.specs.BehindErrors.{go_run}
-use Rattle.rnix_grammar.specs.Missing.{run_in, run_at}
-use Rattle.rnix_lemmas.proofs.EachKind.{each_kind}
-use Rattle.rnix_lemmas.proofs.SpotCases.{case_to, Usual, Next, case_slot}
-use Rattle.rnix_lemmas.proofs.LevelLemmas.{right_within}
+use Rattle.rnix_grammar.specs.Missing.{run_at}
+use Rattle.rnix_lemmas.proofs.NestPlaces.{IsOwned, start_owned, go_owned}
+use Rattle.rnix_lemmas.proofs.SpotCases.{Usual, Next, case_slot}
 
--- the row of an operand's node has no lambda as an operand
-abbrev pub IsHomeAt : SyntaxKind → Place → Type 0
-IsHomeAt k p.ListInside = holds_no_lambda k ≡ true
-IsHomeAt k p.SelectPath = holds_no_lambda k ≡ true
-IsHomeAt k p.SelectOr = holds_no_lambda k ≡ true
-IsHomeAt k p.SelectDefault = holds_no_lambda k ≡ true
-IsHomeAt k p.Negated = holds_no_lambda k ≡ true
-IsHomeAt k p.Inverted = holds_no_lambda k ≡ true
-IsHomeAt k (p.Right level) = (holds_no_lambda k ≡ true) × (level ≤ 16)
-IsHomeAt k place = Unit {0}
+-- the level of a right operand is positive, and at most the tightest
+abbrev pub is_bounded : Spot → Bool
+is_bounded (At (p.Right level)) = nat_le 1 level && nat_le level 16
+is_bounded spot = true
 
--- so it is at a spot
-abbrev pub IsHome : SyntaxKind → Spot → Type 0
-IsHome k (Start node) = k ≡ node
-IsHome k BeforeOperator = holds_no_lambda k ≡ true
-IsHome k BeforeDot = holds_no_lambda k ≡ true
-IsHome k BeforeArgument = holds_no_lambda k ≡ true
-IsHome k (At place) = IsHomeAt k place
-IsHome k spot = Unit {0}
+abbrev IsBounded : Spot → Type 0
+IsBounded q = is_bounded q ≡ true
 
--- and so at the usual spots
-usual_home : (k : SyntaxKind) → Usual (IsHome k)
-usual_home k = assumption
+usual_bounded : Usual IsBounded
+usual_bounded = assumption
 
-next_home : (k : SyntaxKind) (x : Place) → IsHomeAt k x → Next (IsHome k) (slot_at x)
-next_home k p.SelectPath h = h
-next_home k _ h = assumption
+next_bounded : (x : Place) → Next IsBounded (slot_at x)
+next_bounded p.LetInside = refl
+next_bounded _ = cc
 
-home_first : (k j : SyntaxKind) → IsHome k (first k j)
-home_first NODE_ROOT j = tt
-home_first k j = each_kind (λ j. IsHome k (first k j)) (assumption) j
+go_bounded : (q : Spot) (j : SyntaxKind) → is_bounded q ≡ true → is_bounded (go q j) ≡ true
+go_bounded (Start k) j h = every (λ j. is_bounded (first k j)) (every (λ k. list_all (λ j. is_bounded (first k j)) all_kinds) refl k) j
+go_bounded (At x) j h = case_slot usual_bounded (slot_at x) x j h (next_bounded x)
+go_bounded q j h = every (λ j. is_bounded (go q j)) refl j
 
--- and stays so behind one more child
+-- a spot in a row of the kind
+pub record IsHome (k : SyntaxKind) (q : Spot) : Type 0 where
+  pub owned : IsOwned k q
+  pub bounded : is_bounded q ≡ true
+
+-- so it stays behind one more child
 pub home_go : (k : SyntaxKind) (q : Spot) (j : SyntaxKind) → IsHome k q → IsHome k (go q j)
-home_go k (Start node) j h = subst (λ z. IsHome k (first z j)) h (home_first k j)
-home_go k BeforeOperator j h = case_to (IsHome k) tt (is_infix j) (At (p.Right (right_of j))) (h, (right_within j).1)
-home_go k (At x) j h = case_slot (usual_home k) (slot_at x) x j h (next_home k x h)
-home_go k q j h = each_kind (λ j. IsHome k (go q j)) (assumption) j
+home_go k q j h = record { owned = go_owned k q j h.owned; bounded = go_bounded q j h.bounded }
 
--- and is so where a row begins
+-- and it is so where a row begins
 pub home_start : (k : SyntaxKind) → IsHome k (start k)
-home_start NODE_ROOT = tt
-home_start _ = cc
+home_start k = record { owned = start_owned k; bounded = every (λ k. is_bounded (start k)) refl k }
 
 -- behind a run
-home_in : (k : SyntaxKind) (slot : Slot) (x : Place) → IsHomeAt k x → live (go_run (run_in slot x)) ≡ true → IsHome k (go_run (run_in slot x))
-home_in k (s.Token until behind) x h l = h
-home_in k _ x h l = assumption
+home_in : (k : SyntaxKind) (x : Place) → IsOwned k (At x) → IsOwned k (go_run (run_at x)) × (is_bounded (go_run (run_at x)) ≡ true)
+home_in k p.ParenEnd h = (h, refl)
+home_in k _ h = (assumption, refl)
 
 -- and behind a run of unwanted tokens
-pub home_run : (k : SyntaxKind) (x y : Place) (until : Until) → run_at x ≡ Some (until, y) → IsHomeAt k x → IsHomeAt k y
-home_run k x y until e h =
-    let w : go_run (run_at x) ≡ At y = ap go_run e in
-    subst (λ z. IsHome k z) w (home_in k (slot_at x) x h (ap live w))
+pub home_run : (k : SyntaxKind) (x y : Place) (until : Until) → run_at x ≡ Some (until, y) → IsHome k (At x) → IsHome k (At y)
+home_run k x y until e h = let r = home_in k x h.owned in subst (IsHome k) (ap go_run e) (record { owned = r.0; bounded = r.1 })
+
+-- and behind a second name of a pattern
+pub home_past : (k : SyntaxKind) (q : Spot) → q ≡ At (p.PatternEnd true) → IsHome k q → IsHome k (At p.PatternPast)
+home_past k q e h = record { owned = subst (IsOwned k) e h.owned; bounded = refl }

@@ -7,5 +7,4 @@ pub mod MendedStands
 pub mod MendedGroups
 pub mod Converse
 pub mod ConverseNames
-pub mod HardSpots
 pub mod StrictCorners

@@ -1,12 +1,12 @@
 -- The first tree of a node whose errors are mended stands where it may.
-use Rattle.std.proofs.Common.{◌≡◌, ℕ, ◌≤◌, Bool, true, false, [], refl, sym, ◌∙◌, subst, arith}
-use Rattle.std.specs.Prelude.{codes, if◌then◌else◌, ◌&&◌}
+use Rattle.std.proofs.Common.{◌≡◌, ℕ, ◌≤◌, Bool, true, false, [], refl, ap, sym, ◌∙◌, subst, arith}
+use Rattle.std.specs.Prelude.{if◌then◌else◌, ◌&&◌}
 use Rattle.std.proofs.lemmas.Bool.{and_from, and_parts}
 use Rattle.rnix_kinds.specs.declared.kinds.SyntaxKind.{SyntaxKind}
-use Rattle.rnix_kinds.specs.declared.kinds.SyntaxKind.TheVariants.{NODE_APPLY, NODE_BIN_OP, NODE_DYNAMIC, NODE_HAS_ATTR, NODE_IDENT_PARAM, NODE_LAMBDA, NODE_LITERAL, NODE_PAT_BIND, NODE_PAT_ENTRY, NODE_SELECT, TOKEN_INTEGER}
-use Rattle.rnix_tree.specs.Forest.{Forest, empty, leaf, node}
+use Rattle.rnix_kinds.specs.declared.kinds.SyntaxKind.TheVariants.{NODE_APPLY, NODE_BIN_OP, NODE_DYNAMIC, NODE_HAS_ATTR, NODE_IDENT_PARAM, NODE_LAMBDA, NODE_PAT_BIND, NODE_PAT_ENTRY, NODE_SELECT}
+use Rattle.rnix_tree.specs.Forest.{Forest, leaf, node}
 use Rattle.rnix_grammar.specs.Levels.{left_of}
-use Rattle.rnix_grammar.specs.Sketch.{Token, Note, Stray, Unwanted, Extra, Twice, TooDeep, Sketch, blank, branch, fault, one_branch, tokens_in, told}
+use Rattle.rnix_grammar.specs.Sketch.{Token, Note, Sketch, blank, branch, fault, one_branch, tokens_in, told}
 use Rattle.rnix_grammar.specs.Rows.{is_atom, is_simple, is_questioned, is_operand, is_expression, Start, BeforeOperator, BeforeDot, BeforeQuestion, BeforeArgument, start}
 use Rattle.rnix_grammar.specs.TreeLevels.{level_of, calls_or}
 use Rattle.rnix_grammar.specs.Strict as strict
@@ -16,12 +16,13 @@ use Rattle.rnix_grammar.specs.Mended.{mended, patch}
 use Rattle.rnix_grammar.specs.Corners.{holds_no_lambda, is_corner, has_no_corner}
 use Rattle.rnix_grammar.specs.Names.{is_plain, is_no_or, is_named, is_name_at}
 use Rattle.rnix_grammar.specs.Named.{is_spelled, AreSpelled, AreNamed}
-use Rattle.rnix_lemmas.proofs.Basics.{true_is_not_false}
-use Rattle.rnix_lemmas.proofs.LevelLemmas.{atom_simple, questioned_operand, operand_expression}
+use Rattle.rnix_kinds.proofs.AllKinds.{implied}
+use Rattle.rnix_lemmas.proofs.Basics.{true_is_not_false, choice}
+use Rattle.rnix_lemmas.proofs.LevelLemmas.{at_most_true, questioned_operand, operand_expression}
 use Rattle.rnix_lemmas.proofs.OpeningRows.{HasRow, Opening, by_token, by_branch, by_fault, opened, is_number, to_live, live_to, row_behind, spelled_first, spelled_rest}
-use Rattle.rnix_soundness.proofs.FirstTrees.{Operated, operator, operated, Questioned, question, questioned, no_operand}
+use Rattle.rnix_soundness.proofs.FirstTrees.{IsLed, led, token_first, no_operand, numbered, patch_number}
 use Rattle.rnix_soundness.proofs.MendedLevels.{is_lambda, second_atom, calls_behind}
-use Rattle.rnix_soundness.proofs.MendedNames.{le_true, simple_expression, named_plain, named_no_or, no_lambda, same_least, stands_level}
+use Rattle.rnix_soundness.proofs.MendedNames.{simple_expression, named_plain, named_no_or, no_lambda, same_least, stands_level}
 
 -- the first tree of some nodes
 strict_atom : (k : SyntaxKind) (c : Forest) → is_lambda k ≡ false → is_atom k ≡ true → strict.is_named k c ≡ true → is_strict_atom k c ≡ true
@@ -29,11 +30,7 @@ strict_atom NODE_LAMBDA c n a h = absurd (true_is_not_false n)
 strict_atom k c n a h = and_from (is_atom k) (strict.is_named k c) a h
 
 simple_level : (k : SyntaxKind) (c : Sketch) → is_simple k ≡ true → 15 ≤ level_of k c
-simple_level NODE_APPLY c h = by (calls_or c)
-  where
-    by : (w : Bool) → 15 ≤ (if w then 16 else 15)
-    by true = omega arith
-    by false = omega arith
+simple_level NODE_APPLY c h = choice (λ n. 15 ≤ n) (calls_or c) (omega arith) (omega arith)
 simple_level _ c h = first_of (omega arith, assumption, cc)
 
 -- no first tree is a corner or a wrong name
@@ -51,75 +48,60 @@ first_at : (parent k : SyntaxKind) (level : ℕ) (c : Sketch) → HasRow k (star
 first_at parent k level c r w tight plain f e l =
     stands_level level k (mended c) e (named_plain (Start parent) k r w plain f.1) (same_least k level r w (no_lambda parent k (mended c) tight f.0) l)
 
-token_first : (parent k : SyntaxKind) (t : Token) → k ≡ told parent t → is_spelled t.kind t.text ≡ true → is_expression k ≡ true → ⊥
-token_first parent k t e w h = no_operand parent t.kind t.text w (subst (λ z. is_expression z ≡ true) e h)
+told_first : (parent k : SyntaxKind) (t : Token) → k ≡ told parent t → is_spelled t.kind t.text ≡ true → is_expression k ≡ true → ⊥
+told_first parent k t e w h = no_operand parent t.kind t.text w (subst (λ z. is_expression z ≡ true) e h)
 
 operator_first : (c : Sketch) → HasRow NODE_BIN_OP (Start NODE_BIN_OP) blank c → AreSpelled (tokens_in c) → FirstIs NODE_BIN_OP c → is_grouped NODE_BIN_OP (mended c) ≡ true
 operator_first c h w n = by (opened h refl) w n
   where
     behind : (k : SyntaxKind) (d : Sketch) {f : Sketch} → HasRow k (start k) blank d → AreSpelled (tokens_in d) → FirstIs NODE_BIN_OP (branch k d blank) → is_operand k ≡ true
-        → Operated (one_branch k d) f → is_grouped NODE_BIN_OP (node k (mended d) (mended f)) ≡ true
-    behind k d r w n o (operator {k = j} l) = first_at NODE_BIN_OP k (left_of j) d r w refl (λ t e. e) n (operand_expression k o) l
+        → IsLed NODE_BIN_OP BeforeOperator (one_branch k d) f → is_grouped NODE_BIN_OP (node k (mended d) (mended f)) ≡ true
+    behind k d r w n o (led {k = j} z l y) = first_at NODE_BIN_OP k (left_of j) d r w refl (λ t e. e) n (operand_expression k o) l
 
-    number : (m : Note) (d : Sketch) {f : Sketch} → is_number m ≡ true → Operated (fault m d blank) f → is_grouped NODE_BIN_OP (patch m (mended f)) ≡ true
-    number Stray d e (operator {k = j} l) = le_true (left_of j) 16 l
-    number TooDeep d e (operator {k = j} l) = le_true (left_of j) 16 l
-    number (Unwanted until) d e o = absurd (true_is_not_false (sym e))
-    number Extra d e o = absurd (true_is_not_false (sym e))
-    number Twice d e o = absurd (true_is_not_false (sym e))
+    number : (m : Note) (d : Sketch) {f : Sketch} → is_number m ≡ true → IsLed NODE_BIN_OP BeforeOperator (fault m d blank) f
+        → is_grouped NODE_BIN_OP (patch m (mended f)) ≡ true
+    number m d e (led {k = j} {t = t} {f = f} z l y) = ap (is_grouped NODE_BIN_OP) (patch_number m (leaf j t.text (mended f)) e) ∙ at_most_true (left_of j) 16 l
 
     by : {g : Sketch} → Opening NODE_BIN_OP (Start NODE_BIN_OP) blank g → AreSpelled (tokens_in g) → FirstIs NODE_BIN_OP g → is_grouped NODE_BIN_OP (mended g) ≡ true
-    by (by_token {k = k} {t = t} e op l) w n = absurd (token_first NODE_BIN_OP k t e w.0 (operand_expression k (live_to (is_operand k) BeforeOperator l)))
+    by (by_token {k = k} {t = t} e op l) w n = absurd (told_first NODE_BIN_OP k t e w.0 (operand_expression k (live_to (is_operand k) BeforeOperator l)))
     by (by_branch {k = k} {c = d} {f = f} r lev l s) w n =
-        behind k d r (spelled_first (tokens_in d) (tokens_in f) w) n (live_to (is_operand k) BeforeOperator l) (operated (row_behind (to_live (is_operand k) BeforeOperator l) s))
-    by (by_fault {n = m} {c = d} e l r) w n = number m d e (operated r)
+        behind k d r (spelled_first (tokens_in d) (tokens_in f) w) n (live_to (is_operand k) BeforeOperator l)
+        (token_first refl refl (row_behind (to_live (is_operand k) BeforeOperator l) s))
+    by (by_fault {n = m} {c = d} e l r) w n = number m d e (token_first refl refl r)
 
 question_first : (c : Sketch) → HasRow NODE_HAS_ATTR (Start NODE_HAS_ATTR) blank c → AreSpelled (tokens_in c) → FirstIs NODE_HAS_ATTR c → is_grouped NODE_HAS_ATTR (mended c) ≡ true
 question_first c h w n = by (opened h refl) w n
   where
     behind : (k : SyntaxKind) (d : Sketch) {f : Sketch} → HasRow k (start k) blank d → AreSpelled (tokens_in d) → FirstIs NODE_HAS_ATTR (branch k d blank) → is_questioned k ≡ true
-        → Questioned (one_branch k d) f → is_grouped NODE_HAS_ATTR (node k (mended d) (mended f)) ≡ true
-    behind k d r w n o (question l) = first_at NODE_HAS_ATTR k 13 d r w refl (λ t e. e) n (operand_expression k (questioned_operand k o)) l
-
-    number : (m : Note) (f : Forest) → is_number m ≡ true → is_grouped NODE_HAS_ATTR (patch m f) ≡ true
-    number Stray f e = refl
-    number _ f e = cc
+        → IsLed NODE_HAS_ATTR BeforeQuestion (one_branch k d) f → is_grouped NODE_HAS_ATTR (node k (mended d) (mended f)) ≡ true
+    behind k d r w n o (led z l y) = first_at NODE_HAS_ATTR k 13 d r w refl (λ t e. e) n (operand_expression k (questioned_operand k o)) l
 
     by : {g : Sketch} → Opening NODE_HAS_ATTR (Start NODE_HAS_ATTR) blank g → AreSpelled (tokens_in g) → FirstIs NODE_HAS_ATTR g → is_grouped NODE_HAS_ATTR (mended g) ≡ true
-    by (by_token {k = k} {t = t} e op l) w n = absurd (token_first NODE_HAS_ATTR k t e w.0 (operand_expression k (questioned_operand k (live_to (is_questioned k) BeforeQuestion l))))
+    by (by_token {k = k} {t = t} e op l) w n = absurd (told_first NODE_HAS_ATTR k t e w.0
+        (operand_expression k (questioned_operand k (live_to (is_questioned k) BeforeQuestion l))))
     by (by_branch {k = k} {c = d} {f = f} r lev l s) w n =
-        behind k d r (spelled_first (tokens_in d) (tokens_in f) w) n (live_to (is_questioned k) BeforeQuestion l) (questioned (row_behind (to_live (is_questioned k) BeforeQuestion l) s))
-    by (by_fault {n = m} {f = f} e l r) w n = number m (mended f) e
+        behind k d r (spelled_first (tokens_in d) (tokens_in f) w) n (live_to (is_questioned k) BeforeQuestion l)
+        (token_first refl refl (row_behind (to_live (is_questioned k) BeforeQuestion l) s))
+    by (by_fault {n = m} {f = f} e l r) w n = ap (is_grouped NODE_HAS_ATTR) (patch_number m (mended f) e)
 
 atom_expression : (k : SyntaxKind) → is_atom k ≡ true → is_expression k ≡ true
-atom_expression k a = simple_expression k (atom_simple k a)
+atom_expression = implied is_atom is_expression refl
 
 select_first : (c : Sketch) → HasRow NODE_SELECT (Start NODE_SELECT) blank c → AreSpelled (tokens_in c) → FirstIs NODE_SELECT c → is_grouped NODE_SELECT (mended c) ≡ true
 select_first c h w n = by (opened h refl) w n
   where
-    number : (m : Note) (f : Forest) → is_number m ≡ true → is_grouped NODE_SELECT (patch m f) ≡ true
-    number Stray f e = refl
-    number _ f e = cc
-
     by : {g : Sketch} → Opening NODE_SELECT (Start NODE_SELECT) blank g → AreSpelled (tokens_in g) → FirstIs NODE_SELECT g → is_grouped NODE_SELECT (mended g) ≡ true
-    by (by_token {k = k} {t = t} e op l) w n = absurd (token_first NODE_SELECT k t e w.0 (atom_expression k (live_to (is_atom k) BeforeDot l)))
+    by (by_token {k = k} {t = t} e op l) w n = absurd (told_first NODE_SELECT k t e w.0 (atom_expression k (live_to (is_atom k) BeforeDot l)))
     by (by_branch {k = k} {c = d} {f = f} r lev l s) w n =
         strict_atom k (mended d) (no_lambda NODE_SELECT k (mended d) refl n.0) (live_to (is_atom k) BeforeDot l)
         (named_plain (Start NODE_SELECT) k r (spelled_first (tokens_in d) (tokens_in f) w) (λ t e. e) n.1)
-    by (by_fault {n = m} {f = f} e l r) w n = number m (mended f) e
+    by (by_fault {n = m} {f = f} e l r) w n = ap (is_grouped NODE_SELECT) (patch_number m (mended f) e)
 
 apply_first : (c : Sketch) → HasRow NODE_APPLY (Start NODE_APPLY) blank c → AreSpelled (tokens_in c) → FirstIs NODE_APPLY c → is_grouped NODE_APPLY (mended c) ≡ true
 apply_first c h w n = by (opened h refl) w n
   where
-    number : (f : Forest) → is_grouped NODE_APPLY (node NODE_LITERAL (leaf TOKEN_INTEGER (codes "0") empty) f) ≡ true
-    number f = both (strict.calls_or (node NODE_LITERAL (leaf TOKEN_INTEGER (codes "0") empty) f))
-      where
-        both : (w : Bool) → (if w then true else true) ≡ true
-        both true = refl
-        both false = refl
-
     by : {g : Sketch} → Opening NODE_APPLY (Start NODE_APPLY) blank g → AreSpelled (tokens_in g) → FirstIs NODE_APPLY g → is_grouped NODE_APPLY (mended g) ≡ true
-    by (by_token {k = k} {t = t} e op l) w n = absurd (token_first NODE_APPLY k t e w.0 (simple_expression k (live_to (is_simple k) BeforeArgument l)))
+    by (by_token {k = k} {t = t} e op l) w n = absurd (told_first NODE_APPLY k t e w.0 (simple_expression k (live_to (is_simple k) BeforeArgument l)))
     by (by_branch {k = k} {c = d} {f = f} r lev l s) w n = by_call (strict.calls_or (node k (mended d) (mended f))) refl
       where
         simple : is_simple k ≡ true
@@ -135,25 +117,18 @@ apply_first c h w n = by (opened h refl) w n
             (second_atom (row_behind (to_live (is_simple k) BeforeArgument l) s) (spelled_rest (tokens_in d) (tokens_in f) w) (sym (calls_behind k (mended d) (mended f)) ∙ e))
             (named_plain (Start NODE_APPLY) k r inside (λ t e. e) n.1)
         by_call false e = first_at NODE_APPLY k 15 d r inside refl (λ t e. e) n (simple_expression k simple) (simple_level k d simple)
-    by (by_fault {n = Stray} {f = f} e l r) w n = number (mended f)
-    by (by_fault {n = TooDeep} {f = f} e l r) w n = number (mended f)
-    by (by_fault {n = Unwanted until} e l r) w n = absurd (true_is_not_false (sym e))
-    by (by_fault {n = Extra} e l r) w n = absurd (true_is_not_false (sym e))
-    by (by_fault {n = Twice} e l r) w n = absurd (true_is_not_false (sym e))
+    by (by_fault {n = m} {f = f} e l r) w n =
+        ap (is_grouped NODE_APPLY) (patch_number m (mended f) e) ∙ choice (λ z. z ≡ true) (strict.calls_or (numbered (mended f))) refl refl
 
 -- the name that a parameter or an entry is
 name_first : (parent : SyntaxKind) (c : Sketch) → HasRow parent (Start parent) blank c → AreSpelled (tokens_in c) → FirstIs parent c
     → ((t : Token) → is_name_at (Start parent) t ≡ true → is_no_or t ≡ true) → first_is_no_or (mended c) ≡ true
 name_first parent c h w n plain = by (opened h refl) w n
   where
-    number : (m : Note) (f : Forest) → is_number m ≡ true → first_is_no_or (patch m f) ≡ true
-    number Stray f e = refl
-    number _ f e = cc
-
     by : {g : Sketch} → Opening parent (Start parent) blank g → AreSpelled (tokens_in g) → FirstIs parent g → first_is_no_or (mended g) ≡ true
     by (by_token e op l) w n = refl
     by (by_branch {k = k} {c = d} {f = f} r lev l s) w n = named_no_or (Start parent) k r (spelled_first (tokens_in d) (tokens_in f) w) plain n.1
-    by (by_fault {n = m} {f = f} e l r) w n = number m (mended f) e
+    by (by_fault {n = m} {f = f} e l r) w n = ap first_is_no_or (patch_number m (mended f) e)
 
 -- an interpolation as an attribute holds one tree
 one_tree : (w : Bool) → (if (if w then false else true) then false else true) ≡ true → w ≡ true

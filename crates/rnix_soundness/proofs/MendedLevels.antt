@@ -5,7 +5,7 @@ use Rattle.rnix_kinds.specs.declared.kinds.SyntaxKind.{SyntaxKind}
 use Rattle.rnix_kinds.specs.declared.kinds.SyntaxKind.TheVariants.{TOKEN_INTEGER, TOKEN_INVERT, NODE_APPLY, NODE_BIN_OP, NODE_IDENT, NODE_LAMBDA, NODE_LITERAL, NODE_UNARY_OP}
 use Rattle.rnix_tree.specs.Forest.{Forest, empty, leaf, node}
 use Rattle.rnix_grammar.specs.Levels.{power}
-use Rattle.rnix_grammar.specs.Sketch.{Note, Stray, Unwanted, Extra, Twice, TooDeep, Sketch, blank, token, branch, fault, one_branch, tokens_in}
+use Rattle.rnix_grammar.specs.Sketch.{Note, Sketch, blank, token, branch, fault, one_branch, tokens_in}
 use Rattle.rnix_grammar.specs.Rows.{is_simple, is_operand, Start, BeforeOperator, BeforeArgument, start}
 use Rattle.rnix_grammar.specs.Stands.{IsArgument}
 use Rattle.rnix_grammar.specs.TreeLevels.{is_or_leaf, is_or_row, calls_or, operator_in, prefix_in, level_of, is_atom_row}
@@ -14,7 +14,7 @@ use Rattle.rnix_grammar.specs.Mended.{mended, patch}
 use Rattle.rnix_grammar.specs.Named.{AreSpelled}
 use Rattle.rnix_lemmas.proofs.Basics.{true_is_not_false}
 use Rattle.rnix_lemmas.proofs.OpeningRows.{spelled_first, spelled_rest, HasRow, is_number, Opening, by_token, by_branch, by_fault, opened, to_live, row_behind}
-use Rattle.rnix_soundness.proofs.FirstTrees.{Operated, operator, operated, IsName, name, named, IsOne, one, prefixed}
+use Rattle.rnix_soundness.proofs.FirstTrees.{IsLed, led, token_first, IsName, name, named, patch_number}
 
 -- a call calls `or` in both trees
 same_or_row : (k : SyntaxKind) {c : Sketch} (f : Sketch) → HasRow k (start k) blank c → AreSpelled (tokens_in c) → strict.is_or_name k (mended c) ≡ is_or_row (branch k c f)
@@ -39,11 +39,7 @@ second_same {b = b} h = by (opened h refl)
     by : {g : Sketch} → Opening NODE_APPLY BeforeArgument b g → AreSpelled (tokens_in g) → second_or (mended g) ≡ is_or_row g
     by (by_token e op l) w = refl
     by (by_branch {k = k} {c = c} {f = f} r lev l s) w = same_or_row k f r (spelled_first (tokens_in c) (tokens_in f) w)
-    by (by_fault {n = Stray} n l r) w = refl
-    by (by_fault {n = TooDeep} n l r) w = refl
-    by (by_fault {n = Unwanted until} n l r) w = absurd (true_is_not_false (sym n))
-    by (by_fault {n = Extra} n l r) w = absurd (true_is_not_false (sym n))
-    by (by_fault {n = Twice} n l r) w = absurd (true_is_not_false (sym n))
+    by (by_fault {n = n} {f = f} e l r) w = ap second_or (patch_number n (mended f) e)
 
 -- what a call calls stands behind its first tree
 pub calls_behind : (k : SyntaxKind) (c f : Forest) → strict.calls_or (node k c f) ≡ second_or f
@@ -58,39 +54,35 @@ same_calls h = by (opened h refl)
     by (by_token e op l) w = refl
     by (by_branch {k = k} {c = c} {f = f} r lev l s) w =
         calls_behind k (mended c) (mended f) ∙ second_same (row_behind (to_live (is_simple k) BeforeArgument l) s) (spelled_rest (tokens_in c) (tokens_in f) w)
-    by (by_fault {n = Stray} {c = c} {f = f} n l r) w = calls_behind NODE_LITERAL (leaf TOKEN_INTEGER (codes "0") empty) (mended f) ∙ second_same r (spelled_rest (tokens_in c) (tokens_in f) w)
-    by (by_fault {n = TooDeep} {c = c} {f = f} n l r) w = calls_behind NODE_LITERAL (leaf TOKEN_INTEGER (codes "0") empty) (mended f) ∙ second_same r (spelled_rest (tokens_in c) (tokens_in f) w)
-    by (by_fault {n = Unwanted until} n l r) w = absurd (true_is_not_false (sym n))
-    by (by_fault {n = Extra} n l r) w = absurd (true_is_not_false (sym n))
-    by (by_fault {n = Twice} n l r) w = absurd (true_is_not_false (sym n))
+    by (by_fault {n = n} {c = c} {f = f} e l r) w =
+        ap strict.calls_or (patch_number n (mended f) e) ∙ calls_behind NODE_LITERAL (leaf TOKEN_INTEGER (codes "0") empty) (mended f)
+        ∙ second_same r (spelled_rest (tokens_in c) (tokens_in f) w)
 
 -- an operator's tree has its operator in both
 pub same_operator : {c : Sketch} → HasRow NODE_BIN_OP (Start NODE_BIN_OP) blank c → AreSpelled (tokens_in c) → strict.operator_of (mended c) ≡ operator_in c
 same_operator h = by (opened h refl)
   where
-    behind : (k : SyntaxKind) {d : Sketch} (c : Sketch) {f : Sketch} → Operated d f → strict.operator_of (node k (mended c) (mended f)) ≡ operator_in (branch k c f)
-    behind k c (operator l) = refl
+    behind : (k : SyntaxKind) {d : Sketch} (c : Sketch) {f : Sketch} → IsLed NODE_BIN_OP BeforeOperator d f
+        → strict.operator_of (node k (mended c) (mended f)) ≡ operator_in (branch k c f)
+    behind k c (led e op l) = refl
 
-    number : (n : Note) {d : Sketch} (c : Sketch) {f : Sketch} → is_number n ≡ true → Operated d f → strict.operator_of (patch n (mended f)) ≡ operator_in (fault n c f)
-    number Stray c e (operator l) = refl
-    number TooDeep c e (operator l) = refl
-    number (Unwanted until) c e o = absurd (true_is_not_false (sym e))
-    number Extra c e o = absurd (true_is_not_false (sym e))
-    number Twice c e o = absurd (true_is_not_false (sym e))
+    number : (n : Note) {d : Sketch} (c : Sketch) {f : Sketch} → is_number n ≡ true → IsLed NODE_BIN_OP BeforeOperator d f
+        → strict.operator_of (patch n (mended f)) ≡ operator_in (fault n c f)
+    number n c i (led {k = k} {t = t} {f = f} e op l) = ap strict.operator_of (patch_number n (leaf k t.text (mended f)) i)
 
     by : {g : Sketch} → Opening NODE_BIN_OP (Start NODE_BIN_OP) blank g → AreSpelled (tokens_in g) → strict.operator_of (mended g) ≡ operator_in g
     by (by_token e op l) w = refl
-    by (by_branch {k = k} {c = c} {f = f} r lev l s) w = behind k c (operated (row_behind (to_live (is_operand k) BeforeOperator l) s))
-    by (by_fault {n = n} {c = c} e l r) w = number n c e (operated r)
+    by (by_branch {k = k} {c = c} {f = f} r lev l s) w = behind k c (token_first refl refl (row_behind (to_live (is_operand k) BeforeOperator l) s))
+    by (by_fault {n = n} {c = c} e l r) w = number n c e (token_first refl refl r)
 
-prefix_same : {c : Sketch} → IsOne c → strict.prefix_level (mended c) ≡ prefix_in c
-prefix_same (one {k = k} {t = t} {f = f}) = by k
+prefix_same : {c : Sketch} → IsLed NODE_UNARY_OP (Start NODE_UNARY_OP) blank c → strict.prefix_level (mended c) ≡ prefix_in c
+prefix_same (led {k = k} {t = t} {f = f} e op l) = by k
   where
     by : (j : SyntaxKind) → strict.prefix_level (leaf j t.text (mended f)) ≡ prefix_in (token j t f)
     by TOKEN_INVERT = refl
     by _ = refl
 
--- a tree that is no lambda binds as tightly in both
+-- the kind of lambdas
 abbrev pub is_lambda : SyntaxKind → Bool
 is_lambda NODE_LAMBDA = true
 is_lambda kind = false
@@ -98,7 +90,7 @@ is_lambda kind = false
 -- a tree that is no lambda binds as tightly in both
 pub same_level : (k : SyntaxKind) {c : Sketch} → HasRow k (start k) blank c → AreSpelled (tokens_in c) → is_lambda k ≡ false → strict.level_of k (mended c) ≡ level_of k c
 same_level NODE_BIN_OP h w n = ap power (same_operator h w)
-same_level NODE_UNARY_OP h w n = prefix_same (prefixed h)
+same_level NODE_UNARY_OP h w n = prefix_same (token_first refl refl h)
 same_level NODE_APPLY h w n = ap (λ z. if z then 16 else 15) (same_calls h w)
 same_level _ h w n = cc
 
@@ -114,8 +106,4 @@ second_atom {b = b} h = by (opened h refl)
     by (by_token e op l) w o = absurd (true_is_not_false (sym o))
     by (by_branch {k = k} {c = c} {f = f} r lev l s) w o =
         argument (is_or_row (one_branch k c)) (one_branch k c) (sym (same_or k r (spelled_first (tokens_in c) (tokens_in f) w)) ∙ o) lev
-    by (by_fault {n = Stray} n l r) w o = absurd (true_is_not_false (sym o))
-    by (by_fault {n = TooDeep} n l r) w o = absurd (true_is_not_false (sym o))
-    by (by_fault {n = Unwanted until} n l r) w o = absurd (true_is_not_false (sym n))
-    by (by_fault {n = Extra} n l r) w o = absurd (true_is_not_false (sym n))
-    by (by_fault {n = Twice} n l r) w o = absurd (true_is_not_false (sym n))
+    by (by_fault {n = n} {f = f} e l r) w o = absurd (true_is_not_false (sym o ∙ ap second_or (patch_number n (mended f) e)))

@@ -1,14 +1,14 @@
 -- Names, levels and corners of trees whose errors are mended.
-use Rattle.std.proofs.Common.{◌≡◌, ◌⊎◌, inl, inr, ℕ, ◌≤◌, Bool, true, false, refl, ap, sym, ◌∙◌, subst, arith}
-use Rattle.std.specs.Prelude.{if◌then◌else◌, ◌&&◌, nat_le}
-use Rattle.std.proofs.lemmas.Bool.{and_from}
+use Rattle.std.proofs.Common.{◌≡◌, ◌⊎◌, inl, inr, ℕ, ◌≤◌, true, false, refl, ap, sym, ◌∙◌, subst, arith}
+use Rattle.std.specs.Prelude.{if◌then◌else◌, ◌&&◌, ◌||◌, nat_eq, nat_le}
+use Rattle.std.proofs.lemmas.Bool.{and_from, or_cases}
 use Rattle.std.proofs.lemmas.Bool.Decides.{nat_tests}
 use Rattle.rnix_kinds.specs.declared.kinds.SyntaxKind.{SyntaxKind}
 use Rattle.rnix_kinds.specs.declared.kinds.SyntaxKind.TheVariants.{NODE_CUR_POS, NODE_IDENT, NODE_LAMBDA}
 use Rattle.rnix_tree.specs.Forest.{Forest}
 use Rattle.rnix_grammar.specs.Tables.{is_cur_pos}
 use Rattle.rnix_grammar.specs.Sketch.{Token, Sketch, blank, one_branch, tokens_in}
-use Rattle.rnix_grammar.specs.Rows.{is_simple, is_expression, Spot, BeforeArgument, start}
+use Rattle.rnix_grammar.specs.Rows.{is_simple, is_expression, Spot, Start, BeforeArgument, start}
 use Rattle.rnix_grammar.specs.TreeLevels.{is_or_row, is_or_leaf, level_of}
 use Rattle.rnix_grammar.specs.Strict as strict
 use Rattle.rnix_grammar.specs.Strict.{stands_at, is_or_name}
@@ -17,22 +17,15 @@ use Rattle.rnix_grammar.specs.Corners.{holds_no_lambda, is_corner}
 use Rattle.rnix_grammar.specs.Names.{is_plain, is_no_or, is_named, is_name_at}
 use Rattle.rnix_grammar.specs.Named.{AreSpelled}
 use Rattle.rnix_lemmas.proofs.Basics.{true_is_not_false, not_if}
-use Rattle.rnix_lemmas.proofs.LevelLemmas.{simple_negated, negated_questioned, questioned_operand, operand_expression}
+use Rattle.rnix_kinds.proofs.AllKinds.{implied}
+use Rattle.rnix_lemmas.proofs.LevelLemmas.{at_most_true}
 use Rattle.rnix_lemmas.proofs.OpeningRows.{HasRow}
-use Rattle.rnix_soundness.proofs.FirstTrees.{IsName, name, named, IsOne, one, positioned, position_spelled}
+use Rattle.rnix_soundness.proofs.FirstTrees.{IsLed, led, token_first, IsName, name, named, position_spelled}
 use Rattle.rnix_soundness.proofs.MendedLevels.{is_lambda, same_level}
-
--- the test of an order holds
-pub le_true : (a b : ℕ) → a ≤ b → nat_le a b ≡ true
-le_true a b h = by (nat_le a b) refl
-  where
-    by : (w : Bool) → nat_le a b ≡ w → nat_le a b ≡ true
-    by true e = e
-    by false e = absurd (grind (arith, nat_tests, h, e))
 
 -- what may be called is an expression
 pub simple_expression : (k : SyntaxKind) → is_simple k ≡ true → is_expression k ≡ true
-simple_expression k e = operand_expression k (questioned_operand k (negated_questioned k (simple_negated k e)))
+simple_expression = implied is_simple is_expression refl
 
 -- a name that stands where an operand does
 pub named_plain : (q : Spot) (k : SyntaxKind) {c : Sketch} → HasRow k (start k) blank c → AreSpelled (tokens_in c) → ((t : Token) → is_name_at q t ≡ true → is_plain t ≡ true)
@@ -41,10 +34,11 @@ named_plain q NODE_IDENT h w plain n = by (named h w) n
   where
     by : {g : Sketch} → IsName g → is_named q NODE_IDENT g ≡ true → strict.is_named NODE_IDENT (mended g) ≡ true
     by (name {t = t} e) n = ap (λ z. if z then false else (if is_cur_pos t.text then false else true)) e ∙ plain t n
-named_plain q NODE_CUR_POS h w plain n = by (positioned h) w n
+named_plain q NODE_CUR_POS h w plain n = by (token_first refl refl h) w n
   where
-    by : {g : Sketch} → IsOne g → AreSpelled (tokens_in g) → is_named q NODE_CUR_POS g ≡ true → strict.is_named NODE_CUR_POS (mended g) ≡ true
-    by (one {t = t}) w n = position_spelled t.kind t.text w.0 n
+    by : {g : Sketch} → IsLed NODE_CUR_POS (Start NODE_CUR_POS) blank g → AreSpelled (tokens_in g) → is_named q NODE_CUR_POS g ≡ true
+        → strict.is_named NODE_CUR_POS (mended g) ≡ true
+    by (led {t = t} e op l) w n = position_spelled t.kind t.text w.0 n
 named_plain q _ h w plain n = refl
 
 -- a name that is an argument and not `or`
@@ -56,10 +50,11 @@ named_called NODE_IDENT h w o n = by (named h w) o n
     by (name {t = t} e) o n =
         ap (λ z. if z then false else (if is_cur_pos t.text then false else true)) (e ∙ o)
         ∙ sym (ap (λ z. if z then true else (if is_cur_pos t.text then false else true)) o) ∙ n
-named_called NODE_CUR_POS h w o n = by (positioned h) w n
+named_called NODE_CUR_POS h w o n = by (token_first refl refl h) w n
   where
-    by : {g : Sketch} → IsOne g → AreSpelled (tokens_in g) → is_named BeforeArgument NODE_CUR_POS g ≡ true → strict.is_named NODE_CUR_POS (mended g) ≡ true
-    by (one {t = t}) w n = position_spelled t.kind t.text w.0 n
+    by : {g : Sketch} → IsLed NODE_CUR_POS (Start NODE_CUR_POS) blank g → AreSpelled (tokens_in g) → is_named BeforeArgument NODE_CUR_POS g ≡ true
+        → strict.is_named NODE_CUR_POS (mended g) ≡ true
+    by (led {t = t} e op l) w n = position_spelled t.kind t.text w.0 n
 named_called _ h w o n = refl
 
 -- a name that is not `or`
@@ -81,13 +76,17 @@ pub same_least : (k : SyntaxKind) {c : Sketch} (level : ℕ) → HasRow k (start
 same_least k level h w n l = subst (λ z. level ≤ z) (sym (same_level k h w n)) l
 
 -- a tree stands at a level, if it is no lambda or any tree may stand there
-pub least_in : (parent k : SyntaxKind) {c : Sketch} (level : ℕ) → HasRow k (start k) blank c → AreSpelled (tokens_in c) → (level ≡ 0) ⊎ (holds_no_lambda parent ≡ true)
+pub least_in : (parent k : SyntaxKind) {c : Sketch} (level : ℕ) → HasRow k (start k) blank c → AreSpelled (tokens_in c)
+    → (nat_eq level 0 || holds_no_lambda parent) ≡ true
     → (if is_corner parent k (mended c) then false else true) ≡ true → level ≤ level_of k c → level ≤ strict.level_of k (mended c)
-least_in parent k {c = c} level h w (inl e) n l = omega (arith, e)
-least_in parent k {c = c} level h w (inr e) n l = same_least k level h w (no_lambda parent k (mended c) e n) l
+least_in parent k {c = c} level h w b n l = by (or_cases (nat_eq level 0) (holds_no_lambda parent) b)
+  where
+    by : (nat_eq level 0 ≡ true) ⊎ (holds_no_lambda parent ≡ true) → level ≤ strict.level_of k (mended c)
+    by (inl e) = grind (arith, nat_tests, e)
+    by (inr e) = same_least k level h w (no_lambda parent k (mended c) e n) l
 
 -- an expression with a name that may be one stands at each level that it binds at
 pub stands_level : (level : ℕ) (k : SyntaxKind) (c : Forest) → is_expression k ≡ true → strict.is_named k c ≡ true → level ≤ strict.level_of k c → stands_at level k c ≡ true
 stands_level level k c e n l =
     and_from (is_expression k) (strict.is_named k c && nat_le level (strict.level_of k c)) e
-    (and_from (strict.is_named k c) (nat_le level (strict.level_of k c)) n (le_true level (strict.level_of k c) l))
+    (and_from (strict.is_named k c) (nat_le level (strict.level_of k c)) n (at_most_true level (strict.level_of k c) l))

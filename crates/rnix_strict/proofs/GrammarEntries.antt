@@ -6,16 +6,14 @@ use Rattle.rnix_kinds.specs.SyntaxKind.{is_token}
 use Rattle.rnix_tree.specs.Forest.{Forest, empty, leaf, node}
 use Rattle.rnix_grammar.specs.declared.place.Place.{Place}
 use Rattle.rnix_grammar.specs.declared.place.Place.TheVariants as p
-use Rattle.rnix_grammar.specs.declared.until.Until.TheVariants as u
-use Rattle.rnix_grammar.specs.declared.slot.Slot.TheVariants as s
-use Rattle.rnix_grammar.specs.Slots.{slot_at}
-use Rattle.rnix_grammar.specs.Rows.{is_attr, is_entry, Spot, BeforeBrace, At, go_names, go_attrpath, go_slot, is_end, go, to, live, whole, start}
+use Rattle.rnix_grammar.specs.Rows.{is_attr, is_entry, Spot, BeforeBrace, At, go_names, go, to, live, whole, start}
 use Rattle.rnix_grammar.specs.Plain.{is_node}
 use Rattle.rnix_grammar.specs.Grammar.{Strict, legacy_let, let_in, Atom, set, rec_set, Pieces, Attr, named_attr, string_attr, Attrpath, last_attr, attr_dot, Entries, entries_end, inheriting, binding, Binding, bind, Inherit, inherit_names, inherit_from, Names, names_end, inherited}
 use Rattle.rnix_lemmas.proofs.Basics.{true_is_not_false}
+use Rattle.rnix_lemmas.proofs.OpeningRows.{live_to}
 use Rattle.rnix_lemmas.proofs.EveryKind.{only, only_both, never, whenever_both, not_together}
 use Rattle.rnix_strict.proofs.GrammarRows.{Gathers, in_set, in_legacy, in_let, names_go}
-use Rattle.rnix_strict.proofs.GrammarViews.{Leads, leads, Holds, holds, Ends, ends, Means, Held, Child, child, no_token, to_live, at_leaf, at_child, at_past, at_operand, at_token, at_first}
+use Rattle.rnix_strict.proofs.GrammarViews.{Leads, leads, Ends, ends, Means, Held, no_token, at_past, of_leaf, of_child, of_operand, of_past}
 use Rattle.rnix_strict.proofs.GrammarForms.{leaf_rest, node_rest, node_means}
 
 -- names of attributes
@@ -37,7 +35,7 @@ attr_of _ d h m = absurd (true_is_not_false (sym h))
 -- what stands behind the name of an attribute
 attr_rest : (k : SyntaxKind) (d f : Forest) → Held (At p.AttrpathStart) (node k d f) → (is_attr k ≡ true) × Held (At p.AttrpathMore) f
 attr_rest k d f h =
-    let e : is_attr k ≡ true = to_live (is_attr k) (At p.AttrpathMore) h.1 in
+    let e : is_attr k ≡ true = live_to (is_attr k) (At p.AttrpathMore) h.1 in
     (e, subst (λ q. Held q f) (ap (λ w. to w (At p.AttrpathMore)) e) h.4)
 
 dot_rest : (j : SyntaxKind) (t : List ℕ) (f : Forest) → Held (At p.AttrpathMore) (leaf j t f) → (j ≡ TOKEN_DOT) × Held (At p.AttrpathStart) f
@@ -48,7 +46,7 @@ no_dot j d f h = no_token TOKEN_DOT refl (subst (λ i. is_node i ≡ true) (only
 
 pub attrpath_form : (f : Forest) → Held (At p.AttrpathStart) f → Attrpath f
 attrpath_form empty h = absurd (true_is_not_false (sym h))
-attrpath_form (leaf k t f) h = absurd (attr_token k h.0 (to_live (is_attr k) (At p.AttrpathMore) h.1))
+attrpath_form (leaf k t f) h = absurd (attr_token k h.0 (live_to (is_attr k) (At p.AttrpathMore) h.1))
 attrpath_form (node k d empty) h = last_attr (attr_of k d (attr_rest k d empty h).0 (node_means (At p.AttrpathStart) k d empty h))
 attrpath_form (node k d (leaf j t f)) h =
     let a = attr_rest k d (leaf j t f) h in
@@ -56,20 +54,11 @@ attrpath_form (node k d (leaf j t f)) h =
     subst (λ i. Attrpath (node k d (leaf i t f))) (sym r.0) (attr_dot (attr_of k d a.0 (node_means (At p.AttrpathStart) k d (leaf j t f) h)) (attrpath_form f r.1))
 attrpath_form (node k d (node j e f)) h = absurd (no_dot j e f (attr_rest k d (node j e f) h).1)
 
--- a row that begins with a path of attributes
-pub at_path : (x behind : Place) {Q : Forest → Type 0} → slot_at x ≡ s.Attrpath behind → ((f : Forest) → Held (At behind) f → Q f) → (f : Forest) → Held (At x) f → Child NODE_ATTRPATH Q f
-at_path x behind e n f h =
-    at_child (At x) (At behind) NODE_ATTRPATH (ap is_end e) (λ k l. only (λ j. live (go_attrpath behind j)) NODE_ATTRPATH refl k (ap (λ z. live (go_slot z x k)) (sym e) ∙ l)) refl (ap (λ z. go_slot z x NODE_ATTRPATH) e) n f h
-
 pub binding_form : (f : Forest) → Held (start NODE_ATTRPATH_VALUE) f → Binding f
-binding_form f h =
-    by
-    (at_path p.ValuePath p.ValueAssign refl
-    (at_token p.ValueAssign p.ValueInside u.Assign TOKEN_ASSIGN refl (only _ TOKEN_ASSIGN refl) refl refl
-    (at_operand p.ValueInside p.ValueEnd 0 true refl (at_token p.ValueEnd p.Past u.Semicolon TOKEN_SEMICOLON refl (only _ TOKEN_SEMICOLON refl) refl refl at_past))) f h)
-  where
-    by : {g : Forest} → Child NODE_ATTRPATH (Leads TOKEN_ASSIGN (Holds 0 (Leads TOKEN_SEMICOLON Ends))) g → Binding g
-    by (child a (leads (holds e (leads ends)))) = bind a e
+binding_form =
+    of_child (start NODE_ATTRPATH_VALUE) NODE_ATTRPATH _ refl refl refl
+    (λ c a. of_leaf (At p.ValueAssign) TOKEN_ASSIGN _ refl refl refl
+    (λ s. of_operand p.ValueInside _ refl (λ k d e. of_leaf (At p.ValueEnd) TOKEN_SEMICOLON _ refl refl refl (λ t. of_past _ (bind a e)))))
 
 -- names that are inherited
 names_attr : (k : SyntaxKind) → is_node k ≡ true → live (go_names k) ≡ true → is_attr k ≡ true
@@ -99,10 +88,7 @@ source_row t (node NODE_DYNAMIC d f) h = inherit_names (inherited (node_means (A
 source_row t (node _ d f) h = absurd (not_together refl h.0 h.1)
 
 pub inherit_form : (f : Forest) → Held (start NODE_INHERIT) f → Inherit f
-inherit_form f h = by (at_first NODE_INHERIT TOKEN_INHERIT p.InheritStart {Q = Held (At p.InheritStart)} (λ k. refl) refl refl refl (λ g r. r) f h)
-  where
-    by : {g : Forest} → Leads TOKEN_INHERIT (Held (At p.InheritStart)) g → Inherit g
-    by (leads {t = t} {f = g} r) = source_row t g r
+inherit_form = of_leaf (start NODE_INHERIT) TOKEN_INHERIT _ refl refl refl source_row
 
 -- entries, and what stands behind them
 pub data Gathered (Q : Forest → Type 0) : Forest → Type 0 where
@@ -135,6 +121,15 @@ at_entries x w q {Q = Q} o n (leaf k t f) h =
     subst (λ i. Gathered (Leads w Q) (leaf i t f)) (sym e) (gathered entries_end (leads (n f (subst (λ z. Held z f) (ap (go (At x)) e ∙ o.goes) h.2))))
 at_entries x w q o n (node k d f) h = one_entry x k d f o.stays (o.entry k h.0 h.1) h.3 h.4 (at_entries x w q o n f)
 
+-- what holds of entries with such a token behind them holds of each row there
+of_entries : (x : Place) {w : SyntaxKind} {q : Spot} (P : Forest → Type 0) → Gathering x w q → ((t : List ℕ) (g : Forest) → Held q g → (f : Forest)
+    → Entries f (leaf w t g) → P f)
+    → (f : Forest) → Held (At x) f → P f
+of_entries x {w = w} {q = q} P o n f h = by (at_entries x w q {Q = Held q} o (λ g r. r) f h)
+  where
+    by : {g : Forest} → Gathered (Leads w (Held q)) g → P g
+    by (gathered {f = f} r (leads {t = t} {f = g} i)) = n t g i f r
+
 gathers_set : Gathering p.SetInside TOKEN_R_BRACE (At p.Past)
 gathers_set = record { stays = in_set; ends = refl; token = only_both _ _ TOKEN_R_BRACE refl; goes = refl; entry = whenever_both _ _ _ refl }
 
@@ -144,36 +139,24 @@ gathers_legacy = record { stays = in_legacy; ends = refl; token = only_both _ _ 
 gathers_let : Gathering p.LetInside TOKEN_IN (At p.LetBody)
 gathers_let = record { stays = in_let; ends = refl; token = only_both _ _ TOKEN_IN refl; goes = refl; entry = whenever_both _ _ _ refl }
 
-at_set : (f : Forest) → Held (At p.SetInside) f → Gathered (Leads TOKEN_R_BRACE Ends) f
-at_set f h = at_entries p.SetInside TOKEN_R_BRACE (At p.Past) gathers_set at_past f h
-
-plain_set : {t : List ℕ} {f : Forest} → Gathered (Leads TOKEN_R_BRACE Ends) f → Atom NODE_ATTR_SET (leaf TOKEN_L_BRACE t f)
-plain_set (gathered r (leads ends)) = set r
-
-recursive_set : {t : List ℕ} {f : Forest} → Leads TOKEN_L_BRACE (Gathered (Leads TOKEN_R_BRACE Ends)) f → Atom NODE_ATTR_SET (leaf TOKEN_REC t f)
-recursive_set (leads (gathered r (leads ends))) = rec_set r
-
 pub set_form : (f : Forest) → Held (start NODE_ATTR_SET) f → Atom NODE_ATTR_SET f
 set_form empty h = absurd (true_is_not_false (sym h))
-set_form (leaf TOKEN_L_BRACE t f) h = plain_set (at_set f (leaf_rest (start NODE_ATTR_SET) TOKEN_L_BRACE t f h))
+set_form (leaf TOKEN_L_BRACE t f) h =
+    of_entries p.SetInside (λ g. Atom NODE_ATTR_SET (leaf TOKEN_L_BRACE t g)) gathers_set (λ u. of_past _ (λ g r. set r)) f
+    (leaf_rest (start NODE_ATTR_SET) TOKEN_L_BRACE t f h)
 set_form (leaf TOKEN_REC t f) h =
-    recursive_set (at_token p.SetBrace p.SetInside u.LBrace TOKEN_L_BRACE refl (only _ TOKEN_L_BRACE refl) refl refl at_set f (leaf_rest (start NODE_ATTR_SET) TOKEN_REC t f h))
+    of_leaf (At p.SetBrace) TOKEN_L_BRACE (λ g. Atom NODE_ATTR_SET (leaf TOKEN_REC t g)) refl refl refl
+    (λ s. of_entries p.SetInside _ gathers_set (λ u. of_past _ (λ g r. rec_set r))) f
+    (leaf_rest (start NODE_ATTR_SET) TOKEN_REC t f h)
 set_form (leaf _ t f) h = absurd (not_together refl h.0 h.1)
 set_form (node k d f) h = absurd (never is_node (λ j. live (go (start NODE_ATTR_SET) j)) refl k h.0 h.1)
 
 pub legacy_form : (f : Forest) → Held (start NODE_LEGACY_LET) f → Strict 0 NODE_LEGACY_LET f
-legacy_form f h =
-    by
-    (at_leaf (start NODE_LEGACY_LET) BeforeBrace TOKEN_LET refl (only _ TOKEN_LET refl) refl refl
-    (at_leaf BeforeBrace (At p.LegacyInside) TOKEN_L_BRACE refl (only _ TOKEN_L_BRACE refl) refl refl (at_entries p.LegacyInside TOKEN_R_BRACE (At p.Past) gathers_legacy at_past)) f h)
-  where
-    by : {g : Forest} → Leads TOKEN_LET (Leads TOKEN_L_BRACE (Gathered (Leads TOKEN_R_BRACE Ends))) g → Strict 0 NODE_LEGACY_LET g
-    by (leads (leads (gathered r (leads ends)))) = legacy_let r
+legacy_form =
+    of_leaf (start NODE_LEGACY_LET) TOKEN_LET _ refl refl refl
+    (λ s. of_leaf BeforeBrace TOKEN_L_BRACE _ refl refl refl (λ t. of_entries p.LegacyInside _ gathers_legacy (λ u. of_past _ (λ g r. legacy_let r))))
 
 pub let_form : (f : Forest) → Held (start NODE_LET_IN) f → Strict 0 NODE_LET_IN f
-let_form f h =
-    by
-    (at_first NODE_LET_IN TOKEN_LET p.LetInside (λ k. refl) refl refl refl (at_entries p.LetInside TOKEN_IN (At p.LetBody) gathers_let (at_operand p.LetBody p.Past 0 true refl at_past)) f h)
-  where
-    by : {g : Forest} → Leads TOKEN_LET (Gathered (Leads TOKEN_IN (Holds 0 Ends))) g → Strict 0 NODE_LET_IN g
-    by (leads (gathered r (leads (holds e ends)))) = let_in r e
+let_form =
+    of_leaf (start NODE_LET_IN) TOKEN_LET _ refl refl refl
+    (λ s. of_entries p.LetInside _ gathers_let (λ t. of_operand p.LetBody _ refl (λ k c e. of_past _ (λ g r. let_in r e))))

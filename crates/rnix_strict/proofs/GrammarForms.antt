@@ -1,25 +1,26 @@
 -- Rows that pass the strict test are forms of the grammar: what is no operator's tree and no pattern.
-use Rattle.std.proofs.Common.{◌≡◌, ℕ, Bool, true, false, List, refl, ap, subst, arith, sym}
+use Rattle.std.proofs.Common.{◌≡◌, ℕ, Bool, true, false, List, refl, ap, subst, arith, sym, ◌∙◌}
 use Rattle.std.proofs.lemmas.Bool.Decides.{nat_tests}
 use Rattle.std.specs.Prelude.{suc, if◌then◌else◌}
 use Rattle.rnix_kinds.specs.declared.kinds.SyntaxKind.{SyntaxKind}
-use Rattle.rnix_kinds.specs.declared.kinds.SyntaxKind.TheVariants.{TOKEN_ASSERT, TOKEN_CUR_POS, TOKEN_ELSE, TOKEN_IDENT, TOKEN_IF, TOKEN_IN, TOKEN_INTERPOL_END, TOKEN_INTERPOL_START, TOKEN_L_BRACK, TOKEN_L_PAREN, TOKEN_PATH_ABS, TOKEN_PATH_HOME, TOKEN_PATH_REL, TOKEN_PATH_SEARCH, TOKEN_R_BRACE, TOKEN_R_BRACK, TOKEN_R_PAREN, TOKEN_SEMICOLON, TOKEN_STRING_CONTENT, TOKEN_STRING_END, TOKEN_STRING_START, TOKEN_THEN, TOKEN_WITH, NODE_ASSERT, NODE_CUR_POS, NODE_DYNAMIC, NODE_IDENT, NODE_IF_ELSE, NODE_INHERIT_FROM, NODE_INTERPOL, NODE_LIST, NODE_LITERAL, NODE_PAREN, NODE_PATH_ABS, NODE_PATH_HOME, NODE_PATH_REL, NODE_PATH_SEARCH, NODE_STRING, NODE_WITH}
+use Rattle.rnix_kinds.specs.declared.kinds.SyntaxKind.TheVariants.{TOKEN_ASSERT, TOKEN_CUR_POS, TOKEN_ELSE, TOKEN_IDENT, TOKEN_IF, TOKEN_INTERPOL_END, TOKEN_INTERPOL_START, TOKEN_L_BRACK, TOKEN_L_PAREN, TOKEN_PATH_ABS, TOKEN_PATH_HOME, TOKEN_PATH_REL, TOKEN_PATH_SEARCH, TOKEN_R_BRACK, TOKEN_R_PAREN, TOKEN_SEMICOLON, TOKEN_STRING_CONTENT, TOKEN_STRING_END, TOKEN_STRING_START, TOKEN_THEN, TOKEN_WITH, NODE_ASSERT, NODE_CUR_POS, NODE_DYNAMIC, NODE_IDENT, NODE_IF_ELSE, NODE_INHERIT_FROM, NODE_INTERPOL, NODE_LIST, NODE_LITERAL, NODE_PAREN, NODE_PATH_ABS, NODE_PATH_HOME, NODE_PATH_REL, NODE_PATH_SEARCH, NODE_STRING, NODE_WITH}
 use Rattle.rnix_kinds.specs.SyntaxKind.{is_token}
 use Rattle.rnix_tree.specs.Forest.{Forest, empty, leaf, node}
 use Rattle.rnix_lemmas.proofs.Basics.{true_is_not_false}
+use Rattle.rnix_lemmas.proofs.OpeningRows.{live_to}
 use Rattle.rnix_grammar.specs.declared.place.Place.TheVariants as p
-use Rattle.rnix_grammar.specs.declared.until.Until.TheVariants as u
 use Rattle.rnix_grammar.specs.declared.until.Closer.{Closer}
 use Rattle.rnix_grammar.specs.declared.until.Closer.TheVariants as c
 use Rattle.rnix_grammar.specs.Tables.{closes}
-use Rattle.rnix_grammar.specs.Rows.{is_plain_literal, first_token, fits, Spot, At, go, to, live, whole, start}
+use Rattle.rnix_grammar.specs.Rows.{is_plain_literal, fits, Spot, At, go, to, live, start}
 use Rattle.rnix_grammar.specs.Corners.{node_count, is_one}
 use Rattle.rnix_grammar.specs.Plain.{is_node}
 use Rattle.rnix_grammar.specs.Grammar.{Strict, with_scope, assertion, if_else, Atom, paren, list, path_abs, path_rel, path_home, path_search, literal, Items, list_end, item, Pieces, string_end, content, interpolated, PathEnd, path_end, path_on, PathPieces, pieces_end, piece, piece_on, Interpol, interpol, Attr, dynamic_attr, Source, source}
 use Rattle.rnix_lemmas.proofs.NodeKinds.{fits_expression}
-use Rattle.rnix_lemmas.proofs.EveryKind.{only, never, not_together}
+use Rattle.rnix_lemmas.proofs.PlaceTests.{closer_leaf}
+use Rattle.rnix_lemmas.proofs.EveryKind.{never, not_together}
 use Rattle.rnix_strict.proofs.GrammarRows.{item_stays, dynamic_stays}
-use Rattle.rnix_strict.proofs.GrammarViews.{Leads, leads, Holds, holds, Ends, ends, Means, Held, strict_of, to_live, at_past, operand_stands, at_operand, at_token, at_first}
+use Rattle.rnix_strict.proofs.GrammarViews.{Leads, leads, Ends, ends, Means, Held, strict_of, at_past, operand_stands, of_leaf, of_operand, of_past}
 
 pub leaf_rest : (q : Spot) (k : SyntaxKind) (t : List ℕ) (f : Forest) → Held q (leaf k t f) → Held (go q k) f
 leaf_rest q k t f h = h.2
@@ -32,79 +33,50 @@ node_means q k c f h = h.3
 
 -- one expression between two tokens
 pub paren_form : (f : Forest) → Held (start NODE_PAREN) f → Atom NODE_PAREN f
-paren_form f h =
-    by
-    (at_first NODE_PAREN TOKEN_L_PAREN p.ParenInside (λ k. refl) refl refl refl
-    (at_operand p.ParenInside p.ParenEnd 0 true refl (at_token p.ParenEnd p.Past u.RParen TOKEN_R_PAREN refl (only _ TOKEN_R_PAREN refl) refl refl at_past)) f h)
-  where
-    by : {g : Forest} → Leads TOKEN_L_PAREN (Holds 0 (Leads TOKEN_R_PAREN Ends)) g → Atom NODE_PAREN g
-    by (leads (holds e (leads ends))) = paren e
+paren_form =
+    of_leaf (start NODE_PAREN) TOKEN_L_PAREN _ refl refl refl
+    (λ s. of_operand p.ParenInside _ refl (λ k c e. of_leaf (At p.ParenEnd) TOKEN_R_PAREN _ refl refl refl (λ t. of_past _ (paren e))))
 
 pub source_form : (f : Forest) → Held (start NODE_INHERIT_FROM) f → Source f
-source_form f h =
-    by
-    (at_first NODE_INHERIT_FROM TOKEN_L_PAREN p.FromInside (λ k. refl) refl refl refl
-    (at_operand p.FromInside p.FromEnd 0 true refl (at_token p.FromEnd p.Past u.RParen TOKEN_R_PAREN refl (only _ TOKEN_R_PAREN refl) refl refl at_past)) f h)
-  where
-    by : {g : Forest} → Leads TOKEN_L_PAREN (Holds 0 (Leads TOKEN_R_PAREN Ends)) g → Source g
-    by (leads (holds e (leads ends))) = source e
+source_form =
+    of_leaf (start NODE_INHERIT_FROM) TOKEN_L_PAREN _ refl refl refl
+    (λ s. of_operand p.FromInside _ refl (λ k c e. of_leaf (At p.FromEnd) TOKEN_R_PAREN _ refl refl refl (λ t. of_past _ (source e))))
 
 pub interpol_form : (f : Forest) → Held (start NODE_INTERPOL) f → Interpol f
-interpol_form f h =
-    by
-    (at_first NODE_INTERPOL TOKEN_INTERPOL_START p.InterpolInside (λ k. refl) refl refl refl
-    (at_operand p.InterpolInside p.InterpolEnd 0 true refl (at_token p.InterpolEnd p.Past u.InterpolEnd TOKEN_INTERPOL_END refl (only _ TOKEN_INTERPOL_END refl) refl refl at_past)) f h)
-  where
-    by : {g : Forest} → Leads TOKEN_INTERPOL_START (Holds 0 (Leads TOKEN_INTERPOL_END Ends)) g → Interpol g
-    by (leads (holds e (leads ends))) = interpol e
+interpol_form =
+    of_leaf (start NODE_INTERPOL) TOKEN_INTERPOL_START _ refl refl refl
+    (λ s. of_operand p.InterpolInside _ refl (λ k c e. of_leaf (At p.InterpolEnd) TOKEN_INTERPOL_END _ refl refl refl (λ t. of_past _ (interpol e))))
 
 -- what begins with a token of its own and ends with an expression
 pub with_form : (f : Forest) → Held (start NODE_WITH) f → Strict 0 NODE_WITH f
-with_form f h =
-    by
-    (at_first NODE_WITH TOKEN_WITH p.WithScope (λ k. refl) refl refl refl
-    (at_operand p.WithScope p.WithEnd 0 true refl (at_token p.WithEnd p.WithBody u.Semicolon TOKEN_SEMICOLON refl (only _ TOKEN_SEMICOLON refl) refl refl (at_operand p.WithBody p.Past 0 true refl at_past))) f h)
-  where
-    by : {g : Forest} → Leads TOKEN_WITH (Holds 0 (Leads TOKEN_SEMICOLON (Holds 0 Ends))) g → Strict 0 NODE_WITH g
-    by (leads (holds d (leads (holds e ends)))) = with_scope d e
+with_form =
+    of_leaf (start NODE_WITH) TOKEN_WITH _ refl refl refl
+    (λ s. of_operand p.WithScope _ refl
+    (λ i c d. of_leaf (At p.WithEnd) TOKEN_SEMICOLON _ refl refl refl (λ t. of_operand p.WithBody _ refl (λ j c e. of_past _ (with_scope d e)))))
 
 pub assert_form : (f : Forest) → Held (start NODE_ASSERT) f → Strict 0 NODE_ASSERT f
-assert_form f h =
-    by
-    (at_first NODE_ASSERT TOKEN_ASSERT p.AssertCondition (λ k. refl) refl refl refl
-    (at_operand p.AssertCondition p.AssertEnd 0 true refl
-    (at_token p.AssertEnd p.AssertBody u.Semicolon TOKEN_SEMICOLON refl (only _ TOKEN_SEMICOLON refl) refl refl (at_operand p.AssertBody p.Past 0 true refl at_past))) f h)
-  where
-    by : {g : Forest} → Leads TOKEN_ASSERT (Holds 0 (Leads TOKEN_SEMICOLON (Holds 0 Ends))) g → Strict 0 NODE_ASSERT g
-    by (leads (holds d (leads (holds e ends)))) = assertion d e
+assert_form =
+    of_leaf (start NODE_ASSERT) TOKEN_ASSERT _ refl refl refl
+    (λ s. of_operand p.AssertCondition _ refl
+    (λ i c d. of_leaf (At p.AssertEnd) TOKEN_SEMICOLON _ refl refl refl (λ t. of_operand p.AssertBody _ refl (λ j c e. of_past _ (assertion d e)))))
 
 pub if_form : (f : Forest) → Held (start NODE_IF_ELSE) f → Strict 0 NODE_IF_ELSE f
-if_form f h =
-    by
-    (at_first NODE_IF_ELSE TOKEN_IF p.IfCondition (λ k. refl) refl refl refl
-    (at_operand p.IfCondition p.IfThen 0 true refl
-    (at_token p.IfThen p.IfConsequence u.Then TOKEN_THEN refl (only _ TOKEN_THEN refl) refl refl
-    (at_operand p.IfConsequence p.IfElse 0 true refl (at_token p.IfElse p.IfAlternative u.Else TOKEN_ELSE refl (only _ TOKEN_ELSE refl) refl refl (at_operand p.IfAlternative p.Past 0 true refl at_past))))) f h)
-  where
-    by : {g : Forest} → Leads TOKEN_IF (Holds 0 (Leads TOKEN_THEN (Holds 0 (Leads TOKEN_ELSE (Holds 0 Ends))))) g → Strict 0 NODE_IF_ELSE g
-    by (leads (holds b (leads (holds d (leads (holds e ends)))))) = if_else b d e
+if_form =
+    of_leaf (start NODE_IF_ELSE) TOKEN_IF _ refl refl refl
+    (λ s. of_operand p.IfCondition _ refl
+    (λ i c b. of_leaf (At p.IfThen) TOKEN_THEN _ refl refl refl
+    (λ t. of_operand p.IfConsequence _ refl
+    (λ j c d. of_leaf (At p.IfElse) TOKEN_ELSE _ refl refl refl (λ u. of_operand p.IfAlternative _ refl (λ k c e. of_past _ (if_else b d e)))))))
 
 -- one token
-one_leaf : (parent w : SyntaxKind) → ((k : SyntaxKind) → go (start parent) k ≡ first_token w k p.Past) → whole (start parent) ≡ false → is_token w ≡ true → first_token w w p.Past ≡ At p.Past
-    → (f : Forest) → Held (start parent) f → Leads w Ends f
-one_leaf parent w e d i g f h = at_first parent w p.Past e d i g at_past f h
-
 pub name_form : (f : Forest) → Held (start NODE_IDENT) f → Leads TOKEN_IDENT Ends f
-name_form f h = one_leaf NODE_IDENT TOKEN_IDENT (λ k. refl) refl refl refl f h
+name_form = of_leaf (start NODE_IDENT) TOKEN_IDENT _ refl refl refl (λ t. of_past _ (leads ends))
 
 pub position_form : (f : Forest) → Held (start NODE_CUR_POS) f → Leads TOKEN_CUR_POS Ends f
-position_form f h = one_leaf NODE_CUR_POS TOKEN_CUR_POS (λ k. refl) refl refl refl f h
+position_form = of_leaf (start NODE_CUR_POS) TOKEN_CUR_POS _ refl refl refl (λ t. of_past _ (leads ends))
 
 pub search_form : (f : Forest) → Held (start NODE_PATH_SEARCH) f → Atom NODE_PATH_SEARCH f
-search_form f h = by (one_leaf NODE_PATH_SEARCH TOKEN_PATH_SEARCH (λ k. refl) refl refl refl f h)
-  where
-    by : {g : Forest} → Leads TOKEN_PATH_SEARCH Ends g → Atom NODE_PATH_SEARCH g
-    by (leads ends) = path_search
+search_form = of_leaf (start NODE_PATH_SEARCH) TOKEN_PATH_SEARCH _ refl refl refl (λ t. of_past _ path_search)
 
 literal_node : (k : SyntaxKind) → is_node k ≡ true → is_plain_literal k ≡ true → ⊥
 literal_node = never is_node is_plain_literal refl
@@ -112,27 +84,22 @@ literal_node = never is_node is_plain_literal refl
 pub literal_form : (f : Forest) → Held (start NODE_LITERAL) f → Atom NODE_LITERAL f
 literal_form empty h = absurd (true_is_not_false (sym h))
 literal_form (leaf k t f) h =
-    let e : is_plain_literal k ≡ true = to_live (is_plain_literal k) (At p.Past) h.1 in
-    by (at_past f (subst (λ q. Held q f) (ap (λ w. to w (At p.Past)) e) h.2)) e
-  where
-    by : {g : Forest} → Ends g → is_plain_literal k ≡ true → Atom NODE_LITERAL (leaf k t g)
-    by ends e = literal e
-literal_form (node k d f) h = absurd (literal_node k h.0 (to_live (is_plain_literal k) (At p.Past) h.1))
+    let e : is_plain_literal k ≡ true = live_to (is_plain_literal k) (At p.Past) h.1 in
+    of_past (λ g. Atom NODE_LITERAL (leaf k t g)) (literal e) f (subst (λ q. Held q f) (ap (λ w. to w (At p.Past)) e) h.2)
+literal_form (node k d f) h = absurd (literal_node k h.0 (live_to (is_plain_literal k) (At p.Past) h.1))
 
 -- the rest of a string
 pub pieces_form : (f : Forest) → Held (At p.StringInside) f → Pieces f
 pieces_form empty h = absurd (true_is_not_false (sym h))
-pieces_form (leaf TOKEN_STRING_END t f) h = by (at_past f (leaf_rest (At p.StringInside) TOKEN_STRING_END t f h))
-  where
-    by : {g : Forest} → Ends g → Pieces (leaf TOKEN_STRING_END t g)
-    by ends = string_end
+pieces_form (leaf TOKEN_STRING_END t f) h = of_past (λ g. Pieces (leaf TOKEN_STRING_END t g)) string_end f
+    (leaf_rest (At p.StringInside) TOKEN_STRING_END t f h)
 pieces_form (leaf TOKEN_STRING_CONTENT t f) h = content (pieces_form f (leaf_rest (At p.StringInside) TOKEN_STRING_CONTENT t f h))
 pieces_form (leaf _ t f) h = absurd (not_together refl h.0 h.1)
 pieces_form (node NODE_INTERPOL d f) h = interpolated (node_means (At p.StringInside) NODE_INTERPOL d f h) (pieces_form f (node_rest (At p.StringInside) NODE_INTERPOL d f h))
 pieces_form (node _ d f) h = absurd (not_together refl h.0 h.1)
 
 pub string_form : (f : Forest) → Held (start NODE_STRING) f → Leads TOKEN_STRING_START Pieces f
-string_form f h = at_first NODE_STRING TOKEN_STRING_START p.StringInside (λ k. refl) refl refl refl pieces_form f h
+string_form = of_leaf (start NODE_STRING) TOKEN_STRING_START _ refl refl refl (λ t f h. leads (pieces_form f h))
 
 -- the rest of a path
 path_pieces_form : (f : Forest) → Held (At p.PathMore) f → PathPieces f
@@ -151,58 +118,33 @@ path_end_form (node NODE_INTERPOL d f) h = path_on (node_means (At p.PathFirst) 
 path_end_form (node _ d f) h = absurd (not_together refl h.0 h.1)
 
 pub abs_form : (f : Forest) → Held (start NODE_PATH_ABS) f → Atom NODE_PATH_ABS f
-abs_form f h = by (at_first NODE_PATH_ABS TOKEN_PATH_ABS p.PathFirst (λ k. refl) refl refl refl path_end_form f h)
-  where
-    by : {g : Forest} → Leads TOKEN_PATH_ABS PathEnd g → Atom NODE_PATH_ABS g
-    by (leads e) = path_abs e
+abs_form = of_leaf (start NODE_PATH_ABS) TOKEN_PATH_ABS _ refl refl refl (λ t f h. path_abs (path_end_form f h))
 
 pub rel_form : (f : Forest) → Held (start NODE_PATH_REL) f → Atom NODE_PATH_REL f
-rel_form f h = by (at_first NODE_PATH_REL TOKEN_PATH_REL p.PathFirst (λ k. refl) refl refl refl path_end_form f h)
-  where
-    by : {g : Forest} → Leads TOKEN_PATH_REL PathEnd g → Atom NODE_PATH_REL g
-    by (leads e) = path_rel e
+rel_form = of_leaf (start NODE_PATH_REL) TOKEN_PATH_REL _ refl refl refl (λ t f h. path_rel (path_end_form f h))
 
 pub home_form : (f : Forest) → Held (start NODE_PATH_HOME) f → Atom NODE_PATH_HOME f
-home_form f h = by (at_first NODE_PATH_HOME TOKEN_PATH_HOME p.PathFirst (λ k. refl) refl refl refl path_end_form f h)
-  where
-    by : {g : Forest} → Leads TOKEN_PATH_HOME PathEnd g → Atom NODE_PATH_HOME g
-    by (leads e) = path_home e
+home_form = of_leaf (start NODE_PATH_HOME) TOKEN_PATH_HOME _ refl refl refl (λ t f h. path_home (path_end_form f h))
 
 -- a node in a series of operands is one
-closer_token : (closer : Closer) (k : SyntaxKind) → is_node k ≡ true → closes closer k ≡ true → ⊥
-closer_token c.RBrack TOKEN_R_BRACK h i = true_is_not_false (sym h)
-closer_token c.RBrack _ h i = true_is_not_false (sym i)
-closer_token c.RBrace TOKEN_R_BRACE h i = true_is_not_false (sym h)
-closer_token c.RBrace _ h i = true_is_not_false (sym i)
-closer_token c.InterpolEnd TOKEN_INTERPOL_END h i = true_is_not_false (sym h)
-closer_token c.InterpolEnd _ h i = true_is_not_false (sym i)
-closer_token c.In TOKEN_IN h i = true_is_not_false (sym h)
-closer_token c.In _ h i = true_is_not_false (sym i)
-
 series_fits : (closer : Closer) (k : SyntaxKind) (w : Bool) (q r : Spot) → is_node k ≡ true → live (if closes closer k then q else to w r) ≡ true → w ≡ true
 series_fits closer k w q r i h = by (closes closer k) refl h
   where
     by : (v : Bool) → closes closer k ≡ v → live (if v then q else to w r) ≡ true → w ≡ true
-    by true e h = absurd (closer_token closer k i e)
-    by false e h = to_live w r h
+    by true e h = absurd (true_is_not_false (sym i ∙ closer_leaf closer k e))
+    by false e h = live_to w r h
 
 -- the rest of a list
 pub items_form : (f : Forest) → Held (At p.ListInside) f → Items f
 items_form empty h = absurd (true_is_not_false (sym h))
-items_form (leaf TOKEN_R_BRACK t f) h = by (at_past f (leaf_rest (At p.ListInside) TOKEN_R_BRACK t f h))
-  where
-    by : {g : Forest} → Ends g → Items (leaf TOKEN_R_BRACK t g)
-    by ends = list_end
+items_form (leaf TOKEN_R_BRACK t f) h = of_past (λ g. Items (leaf TOKEN_R_BRACK t g)) list_end f (leaf_rest (At p.ListInside) TOKEN_R_BRACK t f h)
 items_form (leaf _ t f) h = absurd (not_together refl h.0 h.1)
 items_form (node k d f) h =
     let e : fits 16 k ≡ true = series_fits c.RBrack k (fits 16 k) (At p.Past) (At p.ListInside) h.0 h.1 in
     item (strict_of 16 k d h.3 (operand_stands p.ListInside 16 k d refl (fits_expression 16 k e) h.2)) (items_form f (subst (λ q. Held q f) (item_stays k e) h.4))
 
 pub list_form : (f : Forest) → Held (start NODE_LIST) f → Atom NODE_LIST f
-list_form f h = by (at_first NODE_LIST TOKEN_L_BRACK p.ListInside (λ k. refl) refl refl refl items_form f h)
-  where
-    by : {g : Forest} → Leads TOKEN_L_BRACK Items g → Atom NODE_LIST g
-    by (leads e) = list e
+list_form = of_leaf (start NODE_LIST) TOKEN_L_BRACK _ refl refl refl (λ t f h. list (items_form f h))
 
 two_inside : (n : ℕ) → is_one (suc (suc n)) ≡ true → ⊥
 two_inside n o = grind (arith, nat_tests, o)
@@ -229,7 +171,5 @@ dynamic_row t (node k d f) o h =
     by (leads ends) e = dynamic_attr e
 
 pub dynamic_form : (f : Forest) → Held (start NODE_DYNAMIC) f → is_one (node_count f) ≡ true → Attr NODE_DYNAMIC f
-dynamic_form f h o = by (at_first NODE_DYNAMIC TOKEN_INTERPOL_START p.DynamicInside {Q = Held (At p.DynamicInside)} (λ k. refl) refl refl refl (λ g r. r) f h) o
-  where
-    by : {g : Forest} → Leads TOKEN_INTERPOL_START (Held (At p.DynamicInside)) g → is_one (node_count g) ≡ true → Attr NODE_DYNAMIC g
-    by (leads {t = t} {f = g} r) o = dynamic_row t g o r
+dynamic_form f h = of_leaf (start NODE_DYNAMIC) TOKEN_INTERPOL_START (λ g. is_one (node_count g) ≡ true → Attr NODE_DYNAMIC g) refl refl refl
+    (λ t g r o. dynamic_row t g o r) f h

@@ -1,12 +1,11 @@
 -- Trees that operators make, applications and functions that pass the strict test are those of the grammar.
-use Rattle.std.proofs.Common.{◌≡◌, ℕ, Bool, true, false, List, refl, ap, sym, ◌∙◌, subst}
+use Rattle.std.proofs.Common.{◌≡◌, Bool, true, false, refl, ap, sym, ◌∙◌, subst}
 use Rattle.std.specs.Prelude.{if◌then◌else◌}
 use Rattle.rnix_kinds.specs.declared.kinds.SyntaxKind.{SyntaxKind}
 use Rattle.rnix_kinds.specs.declared.kinds.SyntaxKind.TheVariants.{TOKEN_COLON, TOKEN_DOT, TOKEN_IDENT, TOKEN_INVERT, TOKEN_OR, TOKEN_QUESTION, TOKEN_SUB, NODE_APPLY, NODE_ATTRPATH, NODE_BIN_OP, NODE_HAS_ATTR, NODE_IDENT, NODE_IDENT_PARAM, NODE_LAMBDA, NODE_PAT_BIND, NODE_PATTERN, NODE_SELECT, NODE_UNARY_OP}
 use Rattle.rnix_kinds.specs.SyntaxKind.{is_token}
 use Rattle.rnix_tree.specs.Forest.{Forest, empty, leaf, node}
 use Rattle.rnix_grammar.specs.declared.place.Place.TheVariants as p
-use Rattle.rnix_grammar.specs.declared.until.Until.TheVariants as u
 use Rattle.rnix_grammar.specs.Levels.{power, left_of, right_of}
 use Rattle.rnix_grammar.specs.Rows.{is_atom, is_simple, is_questioned, is_operand, is_infix, BeforeOperator, BeforeDot, BeforeQuestion, BeforeArgument, At, go, to, live, start}
 use Rattle.rnix_grammar.specs.Strict.{only_text, operator_of, is_or_name, level_of, stands_at, is_strict_atom, first_stands, first_is_atom, is_grouped, may_stand}
@@ -14,59 +13,52 @@ use Rattle.rnix_grammar.specs.Tables.{is_or}
 use Rattle.rnix_grammar.specs.Plain.{is_node}
 use Rattle.rnix_grammar.specs.Grammar.{Strict, select, select_or, apply_or, apply, negate, has_attr, binary, invert, lambda, Atom, Parameter}
 use Rattle.rnix_lemmas.proofs.Basics.{true_is_not_false}
-use Rattle.rnix_lemmas.proofs.EveryKind.{only, never, not_together}
+use Rattle.rnix_lemmas.proofs.OpeningRows.{live_to}
+use Rattle.rnix_lemmas.proofs.EveryKind.{never, not_together}
 use Rattle.rnix_strict.proofs.GrammarFacts.{infix_token}
-use Rattle.rnix_strict.proofs.GrammarViews.{Leads, leads, Holds, holds, Ends, ends, Optional, left_out, given, Means, Held, Child, child, strict_of, no_token, to_live, at_optional, at_leaf, at_end, at_past, at_operand, at_token, atom_of}
+use Rattle.rnix_strict.proofs.GrammarViews.{Leads, leads, Ends, ends, Means, Held, strict_of, no_token, at_past, of_optional, of_leaf, of_child, of_operand, of_end, of_past, atom_of}
 use Rattle.rnix_strict.proofs.GrammarForms.{leaf_rest, node_rest, node_means}
-use Rattle.rnix_strict.proofs.GrammarEntries.{at_path}
 
 -- a tree of two, with `.`, `?` or an operator between, stands as the grammar says
-selected : {k : SyntaxKind} {a f : Forest} → Atom k a → Leads TOKEN_DOT (Child NODE_ATTRPATH (Optional (Leads TOKEN_OR (Holds 16 Ends)))) f → Strict 16 NODE_SELECT (node k a f)
-selected e (leads (child q left_out)) = select e q
-selected e (leads (child q (given (leads (holds d ends))))) = select_or e q d
-
 pub select_form : (f : Forest) → Held (start NODE_SELECT) f → first_is_atom f ≡ true → Strict 16 NODE_SELECT f
 select_form empty h g = absurd (true_is_not_false (sym h))
 select_form (leaf k t f) h g = absurd (true_is_not_false (sym g))
 select_form (node k a f) h g =
-    let e : is_atom k ≡ true = to_live (is_atom k) BeforeDot h.1 in
-    selected (atom_of k a h.3 g)
-    (at_leaf BeforeDot (At p.SelectPath) TOKEN_DOT refl (only _ TOKEN_DOT refl) refl refl
-    (at_path p.SelectPath p.SelectOr refl (at_optional (At p.SelectOr) (At p.SelectDefault) TOKEN_OR (only _ TOKEN_OR refl) refl refl (at_operand p.SelectDefault p.Past 16 false refl at_past))) f
-    (subst (λ q. Held q f) (ap (λ w. to w BeforeDot) e) h.4))
-
-asked : {k : SyntaxKind} {a f : Forest} → Strict 13 k a → Leads TOKEN_QUESTION (Child NODE_ATTRPATH Ends) f → Strict 13 NODE_HAS_ATTR (node k a f)
-asked e (leads (child q ends)) = has_attr e q
+    let e : is_atom k ≡ true = live_to (is_atom k) BeforeDot h.1 in
+    let m : Atom k a = atom_of k a h.3 g in
+    of_leaf BeforeDot TOKEN_DOT (λ r. Strict 16 NODE_SELECT (node k a r)) refl refl refl
+    (λ s. of_child (At p.SelectPath) NODE_ATTRPATH _ refl refl refl
+    (λ c q. of_optional (At p.SelectOr) TOKEN_OR _ refl refl (λ z. select m q)
+    (λ t. of_operand p.SelectDefault _ refl (λ i d u. of_past _ (select_or m q u))))) f
+    (subst (λ q. Held q f) (ap (λ w. to w BeforeDot) e) h.4)
 
 pub has_form : (f : Forest) → Held (start NODE_HAS_ATTR) f → first_stands 13 f ≡ true → Strict 13 NODE_HAS_ATTR f
 has_form empty h g = absurd (true_is_not_false (sym h))
 has_form (leaf k t f) h g = absurd (true_is_not_false (sym g))
 has_form (node k a f) h g =
-    let e : is_questioned k ≡ true = to_live (is_questioned k) BeforeQuestion h.1 in
-    asked (strict_of 13 k a h.3 g)
-    (at_leaf BeforeQuestion (At p.HasPath) TOKEN_QUESTION refl (only _ TOKEN_QUESTION refl) refl refl (at_path p.HasPath p.Past refl at_past) f (subst (λ q. Held q f) (ap (λ w. to w BeforeQuestion) e) h.4))
+    let e : is_questioned k ≡ true = live_to (is_questioned k) BeforeQuestion h.1 in
+    of_leaf BeforeQuestion TOKEN_QUESTION (λ r. Strict 13 NODE_HAS_ATTR (node k a r)) refl refl refl
+    (λ s. of_child (At p.HasPath) NODE_ATTRPATH _ refl refl refl (λ c q. of_past _ (has_attr (strict_of 13 k a h.3 g) q))) f
+    (subst (λ q. Held q f) (ap (λ w. to w BeforeQuestion) e) h.4)
 
 infix_node : (o : SyntaxKind) → is_node o ≡ true → is_infix o ≡ true → ⊥
 infix_node o h i = no_token o (infix_token o i) h
-
-operated : {o j : SyntaxKind} {a f : Forest} {t : List ℕ} → is_infix o ≡ true → Strict (left_of o) j a → Holds (right_of o) Ends f → Strict (power o) NODE_BIN_OP (node j a (leaf o t f))
-operated i e (holds d ends) = binary i e d
 
 binary_row : (j : SyntaxKind) (a f : Forest) → Means j a → Held BeforeOperator f → stands_at (left_of (operator_of (node j a f))) j a ≡ true
     → Strict (power (operator_of (node j a f))) NODE_BIN_OP (node j a f)
 binary_row j a empty m h g = absurd (true_is_not_false (sym h))
 binary_row j a (leaf o t f) m h g =
-    let i : is_infix o ≡ true = to_live (is_infix o) (At (p.Right (right_of o))) h.1 in
-    operated i (strict_of (left_of o) j a m g)
-    (at_operand (p.Right (right_of o)) (p.Operated (right_of o)) (right_of o) false refl (at_end (At (p.Operated (right_of o))) (λ k. refl)) f
-    (subst (λ q. Held q f) (ap (λ w. to w (At (p.Right (right_of o)))) i) h.2))
-binary_row j a (node o d f) m h g = absurd (infix_node o h.0 (to_live (is_infix o) (At (p.Right (right_of o))) h.1))
+    let i : is_infix o ≡ true = live_to (is_infix o) (At (p.Right (right_of o))) h.1 in
+    of_operand (p.Right (right_of o)) (λ r. Strict (power o) NODE_BIN_OP (node j a (leaf o t r))) refl
+    (λ k d u. of_end (At (p.Operated (right_of o))) _ (λ k. refl) (binary i (strict_of (left_of o) j a m g) u)) f
+    (subst (λ q. Held q f) (ap (λ w. to w (At (p.Right (right_of o)))) i) h.2)
+binary_row j a (node o d f) m h g = absurd (infix_node o h.0 (live_to (is_infix o) (At (p.Right (right_of o))) h.1))
 
 pub binary_form : (f : Forest) → Held (start NODE_BIN_OP) f → first_stands (left_of (operator_of f)) f ≡ true → Strict (level_of NODE_BIN_OP f) NODE_BIN_OP f
 binary_form empty h g = absurd (true_is_not_false (sym h))
 binary_form (leaf k t f) h g = absurd (true_is_not_false (sym g))
 binary_form (node j a f) h g =
-    let e : is_operand j ≡ true = to_live (is_operand j) BeforeOperator h.1 in
+    let e : is_operand j ≡ true = live_to (is_operand j) BeforeOperator h.1 in
     binary_row j a f h.3 (subst (λ q. Held q f) (ap (λ w. to w BeforeOperator) e) h.4) g
 
 -- applications
@@ -97,44 +89,41 @@ simple_token = never is_token is_simple refl
 apply_row : (j : SyntaxKind) (a f : Forest) → Means j a → Held BeforeArgument f → is_grouped NODE_APPLY (node j a f) ≡ true
     → Strict (level_of NODE_APPLY (node j a f)) NODE_APPLY (node j a f)
 apply_row j a empty m h g = absurd (true_is_not_false (sym h))
-apply_row j a (leaf k t f) m h g = absurd (simple_token k h.0 (to_live (is_simple k) (At p.Past) h.1))
+apply_row j a (leaf k t f) m h g = absurd (simple_token k h.0 (live_to (is_simple k) (At p.Past) h.1))
 apply_row j a (node k b f) m h g =
-    let s : is_simple k ≡ true = to_live (is_simple k) (At p.Past) h.1 in
+    let s : is_simple k ≡ true = live_to (is_simple k) (At p.Past) h.1 in
     apply_last j k a b (at_past f (subst (λ q. Held q f) (ap (λ w. to w (At p.Past)) s) h.4)) m h.3 s h.2 g
 
 pub apply_form : (f : Forest) → Held (start NODE_APPLY) f → is_grouped NODE_APPLY f ≡ true → Strict (level_of NODE_APPLY f) NODE_APPLY f
 apply_form empty h g = absurd (true_is_not_false (sym h))
-apply_form (leaf k t f) h g = absurd (simple_token k h.0 (to_live (is_simple k) BeforeArgument h.1))
+apply_form (leaf k t f) h g = absurd (simple_token k h.0 (live_to (is_simple k) BeforeArgument h.1))
 apply_form (node j a f) h g =
-    let e : is_simple j ≡ true = to_live (is_simple j) BeforeArgument h.1 in
+    let e : is_simple j ≡ true = live_to (is_simple j) BeforeArgument h.1 in
     apply_row j a f h.3 (subst (λ q. Held q f) (ap (λ w. to w BeforeArgument) e) h.4) g
 
 -- prefixes
-negated : {t : List ℕ} {f : Forest} → Holds 14 Ends f → Strict 14 NODE_UNARY_OP (leaf TOKEN_SUB t f)
-negated (holds e ends) = negate e
-
-inverted : {t : List ℕ} {f : Forest} → Holds 9 Ends f → Strict 9 NODE_UNARY_OP (leaf TOKEN_INVERT t f)
-inverted (holds e ends) = invert e
-
 pub prefix_form : (f : Forest) → Held (start NODE_UNARY_OP) f → Strict (level_of NODE_UNARY_OP f) NODE_UNARY_OP f
 prefix_form empty h = absurd (true_is_not_false (sym h))
 prefix_form (leaf TOKEN_SUB t f) h =
-    negated (at_operand p.Negated (p.Operated 14) 14 true refl (at_end (At (p.Operated 14)) (λ k. refl)) f (leaf_rest (start NODE_UNARY_OP) TOKEN_SUB t f h))
+    of_operand p.Negated (λ r. Strict 14 NODE_UNARY_OP (leaf TOKEN_SUB t r)) refl (λ k c e. of_end (At (p.Operated 14)) _ (λ k. refl) (negate e)) f
+    (leaf_rest (start NODE_UNARY_OP) TOKEN_SUB t f h)
 prefix_form (leaf TOKEN_INVERT t f) h =
-    inverted (at_operand p.Inverted (p.Operated 9) 9 true refl (at_end (At (p.Operated 9)) (λ k. refl)) f (leaf_rest (start NODE_UNARY_OP) TOKEN_INVERT t f h))
+    of_operand p.Inverted (λ r. Strict 9 NODE_UNARY_OP (leaf TOKEN_INVERT t r)) refl (λ k c e. of_end (At (p.Operated 9)) _ (λ k. refl) (invert e)) f
+    (leaf_rest (start NODE_UNARY_OP) TOKEN_INVERT t f h)
 prefix_form (leaf _ t f) h = absurd (not_together refl h.0 h.1)
 prefix_form (node k d f) h = absurd (never is_node (λ j. live (go (start NODE_UNARY_OP) j)) refl k h.0 h.1)
 
 -- functions
-applied : {j : SyntaxKind} {a f : Forest} → Parameter j a → Leads TOKEN_COLON (Holds 0 Ends) f → Strict 0 NODE_LAMBDA (node j a f)
-applied q (leads (holds e ends)) = lambda q e
-
-body_form : (f : Forest) → Held (At p.LambdaColon) f → Leads TOKEN_COLON (Holds 0 Ends) f
-body_form f h = at_token p.LambdaColon p.LambdaBody u.Colon TOKEN_COLON refl (only _ TOKEN_COLON refl) refl refl (at_operand p.LambdaBody p.Past 0 true refl at_past) f h
+applied : (j : SyntaxKind) (a f : Forest) → Parameter j a → Held (At p.LambdaColon) f → Strict 0 NODE_LAMBDA (node j a f)
+applied j a f q h =
+    of_leaf (At p.LambdaColon) TOKEN_COLON (λ r. Strict 0 NODE_LAMBDA (node j a r)) refl refl refl
+    (λ s. of_operand p.LambdaBody _ refl (λ k c e. of_past _ (lambda q e))) f h
 
 pub lambda_form : (f : Forest) → Held (start NODE_LAMBDA) f → Strict 0 NODE_LAMBDA f
 lambda_form empty h = absurd (true_is_not_false (sym h))
 lambda_form (leaf k t f) h = absurd (never is_token (λ j. live (go (start NODE_LAMBDA) j)) refl k h.0 h.1)
-lambda_form (node NODE_IDENT_PARAM a f) h = applied (node_means (start NODE_LAMBDA) NODE_IDENT_PARAM a f h) (body_form f (node_rest (start NODE_LAMBDA) NODE_IDENT_PARAM a f h))
-lambda_form (node NODE_PATTERN a f) h = applied (node_means (start NODE_LAMBDA) NODE_PATTERN a f h) (body_form f (node_rest (start NODE_LAMBDA) NODE_PATTERN a f h))
+lambda_form (node NODE_IDENT_PARAM a f) h = applied NODE_IDENT_PARAM a f (node_means (start NODE_LAMBDA) NODE_IDENT_PARAM a f h)
+    (node_rest (start NODE_LAMBDA) NODE_IDENT_PARAM a f h)
+lambda_form (node NODE_PATTERN a f) h = applied NODE_PATTERN a f (node_means (start NODE_LAMBDA) NODE_PATTERN a f h)
+    (node_rest (start NODE_LAMBDA) NODE_PATTERN a f h)
 lambda_form (node _ a f) h = absurd (not_together refl h.0 h.1)

@@ -5,16 +5,15 @@ use Rattle.rnix_kinds.specs.declared.kinds.SyntaxKind.{SyntaxKind}
 use Rattle.rnix_kinds.specs.declared.kinds.SyntaxKind.TheVariants.{TOKEN_AT, TOKEN_COMMA, TOKEN_ELLIPSIS, TOKEN_IDENT, TOKEN_L_BRACE, TOKEN_QUESTION, TOKEN_R_BRACE, NODE_IDENT, NODE_IDENT_PARAM, NODE_PAT_BIND, NODE_PAT_ENTRY, NODE_PATTERN}
 use Rattle.rnix_tree.specs.Forest.{Forest, empty, leaf, node}
 use Rattle.rnix_grammar.specs.declared.place.Place.TheVariants as p
-use Rattle.rnix_grammar.specs.declared.until.Until.TheVariants as u
 use Rattle.rnix_grammar.specs.Rows.{Spot, BeforeAt, At, go_formals, go, live, start}
-use Rattle.rnix_grammar.specs.Strict.{first_is_no_or, binds_no_or, entry_text, are_entries_new, begins_with_leaf, may_stand}
+use Rattle.rnix_grammar.specs.Strict.{only_text, first_is_no_or, binds_no_or, entry_text, are_entries_new, begins_with_leaf, may_stand}
 use Rattle.rnix_grammar.specs.Tables.{is_or, is_among}
 use Rattle.rnix_kinds.specs.SyntaxKind.{is_token}
 use Rattle.rnix_grammar.specs.Plain.{is_node}
 use Rattle.rnix_grammar.specs.Grammar.{PatternEnd, pattern_end, bound_behind, Parameter, parameter, pattern, bound_pattern, Formals, formals_end, ellipsis, last_entry, entry_comma, Formal, entry, default_entry}
 use Rattle.rnix_lemmas.proofs.Basics.{true_is_not_false}
-use Rattle.rnix_lemmas.proofs.EveryKind.{only, never, not_together}
-use Rattle.rnix_strict.proofs.GrammarViews.{Leads, leads, Holds, holds, Ends, ends, Optional, left_out, given, Held, Child, child, at_optional, at_leaf, at_child, at_end, at_past, at_operand, at_token, IsBind, binds_before, binds_behind}
+use Rattle.rnix_lemmas.proofs.EveryKind.{never, not_together}
+use Rattle.rnix_strict.proofs.GrammarViews.{Leads, leads, Ends, ends, Held, of_optional, of_leaf, of_child, of_operand, of_end, of_past, IsBind, binds_before, binds_behind}
 use Rattle.rnix_strict.proofs.GrammarForms.{leaf_rest, node_rest, node_means}
 
 -- names that are not `or`
@@ -25,35 +24,40 @@ other_name t h = by (is_or t) h
     by true e = absurd (true_is_not_false (sym e))
     by false e = refl
 
+-- a name alone, which is not `or`
+text_of : {d : Forest} (P : Forest → Type 0) → ((t : List ℕ) → is_or t ≡ false → P (leaf TOKEN_IDENT t empty)) → Leads TOKEN_IDENT Ends d
+    → (if is_or (only_text d) then false else true) ≡ true → P d
+text_of P n (leads {t = t} ends) o = n t (other_name t o)
+
 pub parameter_form : (f : Forest) → Held (start NODE_IDENT_PARAM) f → first_is_no_or f ≡ true → Parameter NODE_IDENT_PARAM f
-parameter_form f h o = by (at_child (start NODE_IDENT_PARAM) (At p.Past) NODE_IDENT refl (only _ NODE_IDENT refl) refl refl at_past f h) o
-  where
-    by : {g : Forest} → Child NODE_IDENT Ends g → first_is_no_or g ≡ true → Parameter NODE_IDENT_PARAM g
-    by (child (leads {t = t} ends) ends) o = parameter (other_name t o)
+parameter_form f h =
+    of_child (start NODE_IDENT_PARAM) NODE_IDENT (λ g. first_is_no_or g ≡ true → Parameter NODE_IDENT_PARAM g) refl refl refl
+    (λ c m. of_past _ (λ o. text_of (λ d. Parameter NODE_IDENT_PARAM (node NODE_IDENT d empty)) (λ t u. parameter u) m o)) f h
 
 pub entry_form : (f : Forest) → Held (start NODE_PAT_ENTRY) f → first_is_no_or f ≡ true → Formal (entry_text f) f
-entry_form f h o =
-    by
-    (at_child (start NODE_PAT_ENTRY) (At p.EntryMore) NODE_IDENT refl (only _ NODE_IDENT refl) refl refl
-    (at_optional (At p.EntryMore) (At p.EntryDefault) TOKEN_QUESTION (only _ TOKEN_QUESTION refl) refl refl (at_operand p.EntryDefault p.EntryPast 0 true refl (at_end (At p.EntryPast) (λ k. refl)))) f h) o
-  where
-    by : {g : Forest} → Child NODE_IDENT (Optional (Leads TOKEN_QUESTION (Holds 0 Ends))) g → first_is_no_or g ≡ true → Formal (entry_text g) g
-    by (child (leads {t = t} ends) left_out) o = entry (other_name t o)
-    by (child (leads {t = t} ends) (given (leads (holds e ends)))) o = default_entry (other_name t o) e
+entry_form f h =
+    of_child (start NODE_PAT_ENTRY) NODE_IDENT (λ g. first_is_no_or g ≡ true → Formal (entry_text g) g) refl refl refl
+    (λ c m. of_optional (At p.EntryMore) TOKEN_QUESTION _ refl refl (λ z o. text_of (λ d. Formal (only_text d) (node NODE_IDENT d empty)) (λ t u. entry u) m o)
+    (λ s. of_operand p.EntryDefault _ refl
+    (λ k d e. of_end (At p.EntryPast) _ (λ k. refl)
+    (λ o. text_of (λ b. Formal (only_text b) (node NODE_IDENT b (leaf TOKEN_QUESTION s (node k d empty)))) (λ t u. default_entry u e) m o)))) f h
 
 -- a name before `@` or behind it
-before : {d f : Forest} → Leads TOKEN_IDENT Ends d → Leads TOKEN_AT Ends f → binds_no_or (node NODE_IDENT d f) ≡ true → IsBind (node NODE_IDENT d f)
-before (leads {t = t} ends) (leads ends) o = binds_before (other_name t o)
+before : (d f : Forest) → Leads TOKEN_IDENT Ends d → Held BeforeAt f → binds_no_or (node NODE_IDENT d f) ≡ true → IsBind (node NODE_IDENT d f)
+before d f m h o =
+    of_leaf BeforeAt TOKEN_AT (λ g. IsBind (node NODE_IDENT d g)) refl refl refl
+    (λ s. of_past _ (text_of (λ b. IsBind (node NODE_IDENT b (leaf TOKEN_AT s empty))) (λ t u. binds_before u) m o)) f h
 
-behind_at : {w : List ℕ} {f : Forest} → Child NODE_IDENT Ends f → binds_no_or (leaf TOKEN_AT w f) ≡ true → IsBind (leaf TOKEN_AT w f)
-behind_at (child (leads {t = t} ends) ends) o = binds_behind (other_name t o)
+behind_at : (w : List ℕ) (f : Forest) → Held (At p.BindName) f → binds_no_or (leaf TOKEN_AT w f) ≡ true → IsBind (leaf TOKEN_AT w f)
+behind_at w f h =
+    of_child (At p.BindName) NODE_IDENT (λ g. first_is_no_or g ≡ true → IsBind (leaf TOKEN_AT w g)) refl refl refl
+    (λ c m. of_past _ (λ o. text_of (λ b. IsBind (leaf TOKEN_AT w (node NODE_IDENT b empty))) (λ t u. binds_behind u) m o)) f h
 
 pub bind_form : (f : Forest) → Held (start NODE_PAT_BIND) f → binds_no_or f ≡ true → IsBind f
 bind_form empty h o = absurd (true_is_not_false (sym h))
-bind_form (leaf TOKEN_AT t f) h o = behind_at (at_child (At p.BindName) (At p.Past) NODE_IDENT refl (only _ NODE_IDENT refl) refl refl at_past f (leaf_rest (start NODE_PAT_BIND) TOKEN_AT t f h)) o
+bind_form (leaf TOKEN_AT t f) h o = behind_at t f (leaf_rest (start NODE_PAT_BIND) TOKEN_AT t f h) o
 bind_form (leaf _ t f) h o = absurd (not_together refl h.0 h.1)
-bind_form (node NODE_IDENT d f) h o =
-    before (node_means (start NODE_PAT_BIND) NODE_IDENT d f h) (at_leaf BeforeAt (At p.Past) TOKEN_AT refl (only _ TOKEN_AT refl) refl refl at_past f (node_rest (start NODE_PAT_BIND) NODE_IDENT d f h)) o
+bind_form (node NODE_IDENT d f) h o = before d f (node_means (start NODE_PAT_BIND) NODE_IDENT d f h) (node_rest (start NODE_PAT_BIND) NODE_IDENT d f h) o
 bind_form (node _ d f) h o = absurd (not_together refl h.0 h.1)
 
 -- behind the `}` of a pattern
@@ -62,7 +66,7 @@ last_bind (binds_before o) e ends = absurd (true_is_not_false (sym e))
 last_bind (binds_behind o) e ends = bound_behind o
 
 pattern_past : (f : Forest) → Held (At p.PatternPast) f → Ends f
-pattern_past f h = at_end (At p.PatternPast) (λ k. refl) f h
+pattern_past = of_end (At p.PatternPast) Ends (λ k. refl) ends
 
 node_may : (q : Spot) (k : SyntaxKind) (d f : Forest) → Held q (node k d f) → may_stand q k d ≡ true
 node_may q k d f h = h.2
@@ -76,9 +80,6 @@ end_form false (node NODE_PAT_BIND d f) h =
     last_bind (node_means (At (p.PatternEnd false)) NODE_PAT_BIND d f h) (node_may (At (p.PatternEnd false)) NODE_PAT_BIND d f h)
     (pattern_past f (node_rest (At (p.PatternEnd false)) NODE_PAT_BIND d f h))
 end_form false (node _ d f) h = absurd (not_together refl h.0 h.1)
-
-dots_form : {bound : Bool} {names : List (List ℕ)} {t : List ℕ} {f : Forest} → Leads TOKEN_R_BRACE (PatternEnd bound) f → Formals bound names (leaf TOKEN_ELLIPSIS t f)
-dots_form (leads e) = ellipsis e
 
 -- an entry is new
 new_name : (x : List ℕ) (names : List (List ℕ)) (f : Forest) → (if is_among x names then false else are_entries_new (x ∷ names) f) ≡ true
@@ -104,7 +105,9 @@ formals_form : (bound : Bool) (names : List (List ℕ)) (f : Forest) → Held (A
 formals_form bound names empty h n = absurd (true_is_not_false (sym h))
 formals_form bound names (leaf TOKEN_R_BRACE t f) h n = formals_end (end_form bound f (leaf_rest (At (p.PatternInside bound)) TOKEN_R_BRACE t f h))
 formals_form bound names (leaf TOKEN_ELLIPSIS t f) h n =
-    dots_form (at_token (p.PatternClose bound) (p.PatternEnd bound) u.RBrace TOKEN_R_BRACE refl (only _ TOKEN_R_BRACE refl) refl refl (end_form bound) f (leaf_rest (At (p.PatternInside bound)) TOKEN_ELLIPSIS t f h))
+    of_leaf (At (p.PatternClose bound)) TOKEN_R_BRACE (λ g. Formals bound names (leaf TOKEN_ELLIPSIS t g)) refl refl refl
+    (λ s g i. ellipsis (end_form bound g i)) f
+    (leaf_rest (At (p.PatternInside bound)) TOKEN_ELLIPSIS t f h)
 formals_form bound names (leaf _ t f) h n = absurd (not_together refl h.0 h.1)
 formals_form bound names (node NODE_PAT_ENTRY d empty) h n = absurd (true_is_not_false (sym (node_rest (At (p.PatternInside bound)) NODE_PAT_ENTRY d empty h)))
 formals_form bound names (node NODE_PAT_ENTRY d (leaf k t f)) h n =
@@ -135,6 +138,6 @@ pattern_form (leaf TOKEN_L_BRACE t f) h n = pattern (formals_form false [] f (fi
 pattern_form (leaf _ t f) h n = absurd (not_together refl h.0 h.1)
 pattern_form (node NODE_PAT_BIND d f) h n =
     bound_first (node_means (start NODE_PATTERN) NODE_PAT_BIND d f h) (node_may (start NODE_PATTERN) NODE_PAT_BIND d f h)
-    (at_token p.PatternBrace (p.PatternStart true) u.LBrace TOKEN_L_BRACE {Q = Held (At (p.PatternStart true))} refl (only _ TOKEN_L_BRACE refl) refl refl (λ g r. r) f
+    (of_leaf (At p.PatternBrace) TOKEN_L_BRACE (Leads TOKEN_L_BRACE (Held (At (p.PatternStart true)))) refl refl refl (λ t g r. leads r) f
     (node_rest (start NODE_PATTERN) NODE_PAT_BIND d f h)) n
 pattern_form (node _ d f) h n = absurd (not_together refl h.0 h.1)

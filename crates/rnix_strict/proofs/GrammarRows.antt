@@ -1,33 +1,33 @@
 -- Rows of the strict grammar that pass the test, form by form.
 use Rattle.std.proofs.Common.{◌≡◌, ℕ, Bool, true, false, List, ◌∷◌, refl, ap, ◌∙◌, arith, sym}
 use Rattle.std.specs.Prelude.{if◌then◌else◌, nat_le}
-use Rattle.std.proofs.lemmas.Bool.Decides.{nat_tests}
 use Rattle.std.proofs.lemmas.Bool.{and_parts}
 use Rattle.rnix_kinds.specs.declared.kinds.SyntaxKind.{SyntaxKind}
-use Rattle.rnix_kinds.specs.declared.kinds.SyntaxKind.TheVariants.{TOKEN_AT, TOKEN_IDENT, TOKEN_INTERPOL_END, TOKEN_R_BRACK, NODE_APPLY, NODE_ATTRPATH, NODE_ATTRPATH_VALUE, NODE_BIN_OP, NODE_DYNAMIC, NODE_HAS_ATTR, NODE_IDENT, NODE_INHERIT, NODE_LAMBDA, NODE_PAT_BIND, NODE_PAT_ENTRY, NODE_SELECT, NODE_STRING}
-use Rattle.rnix_kinds.specs.SyntaxKind.{is_token}
+use Rattle.rnix_kinds.specs.declared.kinds.SyntaxKind.TheVariants.{TOKEN_IDENT, TOKEN_INTERPOL_END, TOKEN_R_BRACK, NODE_APPLY, NODE_ATTRPATH, NODE_ATTRPATH_VALUE, NODE_BIN_OP, NODE_HAS_ATTR, NODE_IDENT, NODE_INHERIT, NODE_LAMBDA, NODE_PAT_ENTRY, NODE_SELECT}
 use Rattle.rnix_tree.specs.Forest.{Forest, empty, leaf, node}
-use Rattle.rnix_lemmas.proofs.Basics.{true_is_not_false}
+use Rattle.rnix_lemmas.proofs.Basics.{true_is_not_false, choice}
 use Rattle.rnix_grammar.specs.declared.place.Place.{Place}
 use Rattle.rnix_grammar.specs.declared.place.Place.TheVariants as p
-use Rattle.rnix_grammar.specs.declared.slot.Slot.TheVariants as s
 use Rattle.rnix_grammar.specs.Tables.{is_cur_pos}
 use Rattle.rnix_grammar.specs.Levels.{power, left_of, right_of}
-use Rattle.rnix_grammar.specs.Slots.{slot_at}
-use Rattle.rnix_grammar.specs.Rows.{is_atom, is_simple, is_expression, is_infix, is_attr, fits, Spot, BeforeOperator, BeforeDot, BeforeQuestion, BeforeArgument, At, go, to, start}
-use Rattle.rnix_grammar.specs.Strict.{is_named, first_stands, is_or_name, is_strict_atom, entry_text, are_entries_new, may_stand, stands_at}
+use Rattle.rnix_grammar.specs.Rows.{is_atom, is_simple, is_expression, is_infix, is_attr, fits, BeforeOperator, BeforeDot, BeforeQuestion, BeforeArgument, At, go, to, start}
+use Rattle.rnix_grammar.specs.Strict.{is_named, first_stands, is_or_name, is_strict_atom, is_grouped, entry_text, are_entries_new, may_stand, stands_at}
 use Rattle.rnix_grammar.specs.Tables.{is_or, is_among}
 use Rattle.rnix_grammar.specs.Grammar.{name, PatternEnd, pattern_end, bound_behind}
-use Rattle.rnix_lemmas.proofs.LevelLemmas.{atom_simple, atom_fits, operates}
+use Rattle.rnix_lemmas.proofs.LevelLemmas.{atom_simple, atom_fits, operates, at_most_true, fits_looser}
 use Rattle.rnix_lemmas.proofs.NodeKinds.{fits_expression}
 use Rattle.rnix_lemmas.proofs.StrictParts.{left_least}
 use Rattle.rnix_lemmas.proofs.StrictParts.{atom_level, atom_stands, stands_so}
-use Rattle.rnix_strict.proofs.GrammarFacts.{fits_operand, fits_questioned, fits_simple, binary_fits, infix_token, stands_no_or, may_start, may_argument, Passes, Good, StandsAt, passes_end, passes_leaf_to, passes_leaf, passes_node_to, passes_node, passes_operand}
+use Rattle.rnix_strict.proofs.GrammarFacts.{infix_token, stands_no_or, may_start, may_argument, Passes, Good, StandsAt, good, stands, passes_end, passes_leaf_to, passes_leaf, passes_node_to, passes_node, passes_operand}
 
 -- what an atom, an attribute, a parameter, an entry and the rest of a pattern are to the test
 pub record PassesAtom (k : SyntaxKind) (c : Forest) : Type 0 where
   pub atom : is_strict_atom k c ≡ true
   pub good : Good k c
+
+-- a node whose row passes, and which is an atom
+pub atom_row : {k : SyntaxKind} {c : Forest} → is_strict_atom k c ≡ true → is_grouped k c ≡ true → Passes (start k) c → PassesAtom k c
+atom_row a g h = record { atom = a; good = good g h }
 
 pub record PassesAttr (k : SyntaxKind) (c : Forest) : Type 0 where
   pub attr : is_attr k ≡ true
@@ -67,16 +67,8 @@ in_legacy = record { inherit_stays = refl; bind_stays = refl; inherit_may = λ c
 pub in_let : Gathers p.LetInside
 in_let = record { inherit_stays = refl; bind_stays = refl; inherit_may = λ c. refl; bind_may = λ c. refl }
 
--- one leaf that ends a row
-pub last_leaf : (q : Spot) (k : SyntaxKind) {t : List ℕ} → go q k ≡ At p.Past → is_token k ≡ true → Passes q (leaf k t empty)
-last_leaf q k e i = passes_leaf_to q (At p.Past) k e refl i (passes_end (At p.Past) refl)
-
--- `..` and a last operand
-pub past : Passes (At p.Past) empty
-past = passes_end (At p.Past) refl
-
 pub name_good : {t : List ℕ} → Good NODE_IDENT (leaf TOKEN_IDENT t empty)
-name_good = record { grouped = refl; row = passes_leaf (start NODE_IDENT) TOKEN_IDENT refl refl past }
+name_good = good refl (passes_leaf refl refl (passes_end refl))
 
 pub no_or : (t : List ℕ) → is_or t ≡ false → (if is_or t then false else true) ≡ true
 no_or t h = ap (λ w. if w then false else true) h
@@ -95,15 +87,11 @@ dynamic_stays k h = ap (λ w. to w (At p.DynamicInside)) h
 
 pub names_go : (k : SyntaxKind) → is_attr k ≡ true → go (At p.InheritNames) k ≡ At p.InheritNames
 names_go NODE_IDENT h = refl
-names_go NODE_STRING h = refl
-names_go NODE_DYNAMIC h = refl
-names_go _ h = absurd (true_is_not_false (sym h))
+names_go _ h = cc
 
 pub source_goes : (k : SyntaxKind) → is_attr k ≡ true → go (At p.InheritStart) k ≡ At p.InheritNames
 source_goes NODE_IDENT h = refl
-source_goes NODE_STRING h = refl
-source_goes NODE_DYNAMIC h = refl
-source_goes _ h = absurd (true_is_not_false (sym h))
+source_goes _ h = cc
 
 -- what an atom's kind is
 pub atom_kind : (k : SyntaxKind) (c : Forest) → is_strict_atom k c ≡ true → is_atom k ≡ true
@@ -125,10 +113,10 @@ pub called_first : {k : SyntaxKind} {a f : Forest} → is_simple k ≡ true → 
 called_first {k = k} {a = a} s e g r = passes_node_to (start NODE_APPLY) BeforeArgument k (ap (λ w. to w BeforeArgument) s) refl (may_start NODE_APPLY k a e) g r
 
 pub select_good : {k : SyntaxKind} {a f : Forest} → PassesAtom k a → Passes BeforeDot f → StandsAt 16 NODE_SELECT (node k a f)
-select_good h r = record { fit = refl; stands = refl; good = record { grouped = h.atom; row = atom_first h r } }
+select_good h r = stands refl refl h.atom (atom_first h r)
 
 pub attr_good : {f : Forest} → Passes (start NODE_ATTRPATH) f → Good NODE_ATTRPATH f
-attr_good h = record { grouped = refl; row = h }
+attr_good h = good refl h
 
 pub apply_or_good : {k : SyntaxKind} {a : Forest} {t : List ℕ} → PassesAtom k a → is_or t ≡ true → StandsAt 16 NODE_APPLY (node k a (name t empty))
 apply_or_good {k = k} {a = a} {t = t} h e = record {
@@ -137,24 +125,20 @@ apply_or_good {k = k} {a = a} {t = t} h e = record {
   good = record {
     grouped = ap (λ w. if w then is_strict_atom k a else first_stands 15 (node k a (name t empty))) e ∙ h.atom;
     row = called_first (atom_simple k (atom_kind k a h.atom)) (atom_level k a h.atom).2 h.good
-        (passes_node BeforeArgument NODE_IDENT refl (ap (λ w. if w then true else stands_at 16 NODE_IDENT (leaf TOKEN_IDENT t empty)) e) name_good past);
+        (passes_node refl (ap (λ w. if w then true else stands_at 16 NODE_IDENT (leaf TOKEN_IDENT t empty)) e) name_good (passes_end refl));
   };
 }
 
 pub apply_good : {j k : SyntaxKind} {a b : Forest} → StandsAt 15 j a → StandsAt 16 k b → StandsAt 15 NODE_APPLY (node j a (node k b empty))
 apply_good {j = j} {k = k} {a = a} {b = b} h i = record {
   fit = refl;
-  stands = by (is_or_name k b);
+  stands = choice (λ n. nat_le 15 n ≡ true) (is_or_name k b) refl refl;
   good = record {
     grouped = ap (λ w. if w then is_strict_atom j a else stands_at 15 j a) (stands_no_or 16 k b i.stands) ∙ h.stands;
-    row = called_first (fits_simple 15 j (omega arith) h.fit) (stands_expression h) h.good
-        (passes_node_to BeforeArgument (At p.Past) k (ap (λ w. to w (At p.Past)) (fits_simple 16 k (omega arith) i.fit)) refl (may_argument k b i.stands) i.good past);
+    row = called_first h.fit (stands_expression h) h.good
+        (passes_node_to BeforeArgument (At p.Past) k (ap (λ w. to w (At p.Past)) i.fit) refl (may_argument k b i.stands) i.good (passes_end refl));
   };
 }
-  where
-    by : (w : Bool) → nat_le 15 (if w then 16 else 15) ≡ true
-    by true = refl
-    by false = refl
 
 pub has_good : {k : SyntaxKind} {a f : Forest} → StandsAt 13 k a → Passes BeforeQuestion f → StandsAt 13 NODE_HAS_ATTR (node k a f)
 has_good {k = k} {a = a} h r = record {
@@ -162,47 +146,30 @@ has_good {k = k} {a = a} h r = record {
   stands = refl;
   good = record {
     grouped = h.stands;
-    row = passes_node_to (start NODE_HAS_ATTR) BeforeQuestion k (ap (λ w. to w BeforeQuestion) (fits_questioned 13 k (omega arith) h.fit)) refl
+    row = passes_node_to (start NODE_HAS_ATTR) BeforeQuestion k (ap (λ w. to w BeforeQuestion) h.fit) refl
         (may_start NODE_HAS_ATTR k a (stands_expression h)) h.good r;
   };
 }
 
-pub same_level : (n : ℕ) → nat_le n n ≡ true
-same_level n = by (nat_le n n) refl
-  where
-    by : (w : Bool) → nat_le n n ≡ w → w ≡ true
-    by true e = refl
-    by false e = absurd (grind (arith, nat_tests, e))
-
 pub binary_good : {o j k : SyntaxKind} {a b : Forest} {t : List ℕ} → is_infix o ≡ true → StandsAt (left_of o) j a → StandsAt (right_of o) k b
     → StandsAt (power o) NODE_BIN_OP (node j a (leaf o t (node k b empty)))
 binary_good {o = o} {j = j} {a = a} h l r = record {
-  fit = binary_fits (power o) (operates o h).most;
-  stands = same_level (power o);
+  fit = fits_looser (power o) 12 NODE_BIN_OP (operates o h).most refl;
+  stands = at_most_true (power o) (power o) (omega arith);
   good = record {
     grouped = l.stands;
     row = passes_node_to (start NODE_BIN_OP) BeforeOperator j
-        (ap (λ w. to w BeforeOperator) (fits_operand (left_of o) j (omega (arith, left_least o h, (operates o h).positive)) l.fit)) refl (may_start NODE_BIN_OP j a (stands_expression l)) l.good
+        (ap (λ w. to w BeforeOperator) (fits_looser 1 (left_of o) j (omega (arith, left_least o h, (operates o h).positive)) l.fit)) refl
+        (may_start NODE_BIN_OP j a (stands_expression l)) l.good
         (passes_leaf_to BeforeOperator (At (p.Right (right_of o))) o (ap (λ w. to w (At (p.Right (right_of o)))) h) refl (infix_token o h)
-        (passes_operand (p.Right (right_of o)) (p.Operated (right_of o)) (right_of o) false refl r (passes_end (At (p.Operated (right_of o))) refl)));
+        (passes_operand refl r (passes_end refl)));
   };
 }
 
--- one expression between two leaves
-pub closed : (x y : Place) (w : SyntaxKind) {k : SyntaxKind} {c : Forest} {t : List ℕ} → slot_at x ≡ s.Operand 0 true y → go (At y) w ≡ At p.Past → is_token w ≡ true → StandsAt 0 k c
-    → Passes (At x) (node k c (leaf w t empty))
-closed x y w e g i h = passes_operand x y 0 true e h (last_leaf (At y) w g i)
-
--- a last expression
-pub body : (x : Place) {k : SyntaxKind} {c : Forest} → slot_at x ≡ s.Operand 0 true p.Past → StandsAt 0 k c → Passes (At x) (node k c empty)
-body x e h = passes_operand x p.Past 0 true e h past
-
 pub pattern_end_passes : {bound : Bool} {f : Forest} → PatternEnd bound f → Passes (At (p.PatternEnd bound)) f
-pattern_end_passes (pattern_end {bound = bound}) = passes_end (At (p.PatternEnd bound)) refl
+pattern_end_passes pattern_end = passes_end refl
 pattern_end_passes (bound_behind {t = t} h) =
-    passes_node (At (p.PatternEnd false)) NODE_PAT_BIND refl refl
-    (record { grouped = no_or t h; row = passes_leaf (start NODE_PAT_BIND) TOKEN_AT refl refl (passes_node (At p.BindName) NODE_IDENT refl refl name_good past) })
-    (passes_end (At p.PatternPast) refl)
+    passes_node refl refl (good (no_or t h) (passes_leaf refl refl (passes_node refl refl name_good (passes_end refl)))) (passes_end refl)
 
 pub end_new : {bound : Bool} {f : Forest} (names : List (List ℕ)) → PatternEnd bound f → are_entries_new names f ≡ true
 end_new names pattern_end = refl

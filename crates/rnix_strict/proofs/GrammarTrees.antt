@@ -14,7 +14,7 @@ use Rattle.rnix_grammar.specs.Plain.{is_node}
 use Rattle.rnix_grammar.specs.Grammar.{IsExpression, expression}
 use Rattle.rnix_lemmas.proofs.StrictParts.{Parts, parts}
 use Rattle.rnix_strict.proofs.GrammarStrict.{expression_strict}
-use Rattle.rnix_strict.proofs.GrammarViews.{Holds, holds, Ends, ends, Means, Held, at_end, at_operand}
+use Rattle.rnix_strict.proofs.GrammarViews.{Means, Held, of_end, of_operand}
 use Rattle.rnix_strict.proofs.GrammarForms.{paren_form, source_form, interpol_form, with_form, assert_form, if_form, name_form, position_form, search_form, literal_form, string_form, abs_form, rel_form, home_form, list_form, dynamic_form}
 use Rattle.rnix_strict.proofs.GrammarEntries.{attrpath_form, binding_form, inherit_form, set_form, legacy_form, let_form}
 use Rattle.rnix_strict.proofs.GrammarOperators.{select_form, has_form, binary_form, apply_form, prefix_form, lambda_form}
@@ -79,10 +79,7 @@ held q (node k d f) h t =
 pub strict_expression : (f : Forest) → is_strict_tree f ≡ true → IsExpression f
 strict_expression f h =
     let a = and_parts (has_tokens_alone f) (is_strict_expression f) h in
-    by (at_operand p.RootStart p.RootEnd 0 true refl (at_end (At p.RootEnd) (λ k. refl)) f (held (At p.RootStart) f a.1 a.0))
-  where
-    by : {g : Forest} → Holds 0 Ends g → IsExpression g
-    by (holds e ends) = expression e
+    of_operand p.RootStart IsExpression refl (λ k c e. of_end (At p.RootEnd) _ (λ k. refl) (expression e)) f (held (At p.RootStart) f a.1 a.0)
 
 -- the grammar and the test say the same
 pub expression_exactly : (f : Forest) → IsExpression f ↔ (is_strict_tree f ≡ true)

@@ -1,5 +1,5 @@
 -- Rows that pass the strict test, seen from their beginning on.
-use Rattle.rnix_kinds.proofs.AllKinds.{every, all_kinds}
+use Rattle.rnix_kinds.proofs.AllKinds.{all_kinds}
 use Rattle.std.proofs.Common.{◌≡◌, ℕ, Bool, true, false, List, refl, ap, sym, ◌∙◌, subst}
 use Rattle.std.specs.List.{list_all}
 use Rattle.std.specs.Prelude.{Some, nat_eq, if◌then◌else◌}
@@ -9,11 +9,10 @@ use Rattle.rnix_kinds.specs.SyntaxKind.{is_token, place_of}
 use Rattle.rnix_tree.specs.Forest.{Forest, empty, leaf, node}
 use Rattle.rnix_grammar.specs.declared.place.Place.{Place}
 use Rattle.rnix_grammar.specs.declared.place.Place.TheVariants as p
-use Rattle.rnix_grammar.specs.declared.until.Until.{Until}
 use Rattle.rnix_grammar.specs.declared.slot.Slot.TheVariants as s
-use Rattle.rnix_grammar.specs.Tables.{is_cur_pos, is_wanted}
+use Rattle.rnix_grammar.specs.Tables.{is_cur_pos}
 use Rattle.rnix_grammar.specs.Slots.{slot_at, level_in}
-use Rattle.rnix_grammar.specs.Rows.{is_expression, fits, Spot, At, go_slot, go, first_token, to, live, is_end, whole, start}
+use Rattle.rnix_grammar.specs.Rows.{is_expression, fits, Spot, At, go_slot, go, to, live, is_end, whole}
 use Rattle.rnix_grammar.specs.Strict.{is_named, is_strict_atom, entry_text, level_of, stands_at, stands_in, may_stand}
 use Rattle.rnix_grammar.specs.Tables.{is_or}
 use Rattle.rnix_grammar.specs.Plain.{is_node}
@@ -23,20 +22,14 @@ use Rattle.rnix_lemmas.proofs.Basics.{true_is_not_false}
 use Rattle.rnix_lemmas.proofs.EveryKind.{only, never}
 use Rattle.rnix_lemmas.proofs.NodeKinds.{fits_expression}
 use Rattle.rnix_lemmas.proofs.StrictParts.{standing}
+use Rattle.rnix_lemmas.proofs.OpeningRows.{live_to}
 
--- rows that begin with a leaf of a kind, a node of a kind, an expression of a level; rows that are empty, or not
+-- rows that begin with a leaf of a kind; rows that are empty
 pub data Leads (w : SyntaxKind) (Q : Forest → Type 0) : Forest → Type 0 where
   leads : {t : List ℕ} {f : Forest} → Q f → Leads w Q (leaf w t f)
 
-pub data Holds (level : ℕ) (Q : Forest → Type 0) : Forest → Type 0 where
-  holds : {k : SyntaxKind} {c f : Forest} → Strict level k c → Q f → Holds level Q (node k c f)
-
 pub data Ends : Forest → Type 0 where
   ends : Ends empty
-
-pub data Optional (Q : Forest → Type 0) : Forest → Type 0 where
-  left_out : Optional Q empty
-  given : {f : Forest} → Q f → Optional Q f
 
 -- a name that a pattern is bound to, before `@` or behind it
 pub data IsBind : Forest → Type 0 where
@@ -73,9 +66,6 @@ abbrev pub Held : Spot → Forest → Type 0
 Held q empty = whole q ≡ true
 Held q (leaf k t f) = (is_token k ≡ true) × (live (go q k) ≡ true) × Held (go q k) f
 Held q (node k c f) = (is_node k ≡ true) × (live (go q k) ≡ true) × (may_stand q k c ≡ true) × Means k c × Held (go q k) f
-
-pub data Child (w : SyntaxKind) (Q : Forest → Type 0) : Forest → Type 0 where
-  child : {c f : Forest} → Means w c → Q f → Child w Q (node w c f)
 
 -- an atom's name stands for a value
 value_name : (t : List ℕ) → is_plain_name (leaf TOKEN_IDENT t empty) ≡ true → (is_or t ≡ false) × (is_cur_pos t ≡ false)
@@ -140,56 +130,55 @@ strict_of n k c m h = let w = standing n k c h in looser w.low (level_strict k c
 
 -- a leaf is no node, and none is an expression
 pub no_token : (k : SyntaxKind) → is_token k ≡ true → is_node k ≡ true → ⊥
-no_token k h i = by (is_token k) h i
-  where
-    by : (w : Bool) → w ≡ true → (if w then false else true) ≡ true → ⊥
-    by true h i = true_is_not_false (sym i)
-    by false h i = true_is_not_false (sym h)
+no_token = never is_token is_node refl
 
 pub no_expression : (k : SyntaxKind) → is_token k ≡ true → is_expression k ≡ true → ⊥
 no_expression = never is_token is_expression refl
 
-pub to_live : (w : Bool) (q : Spot) → live (to w q) ≡ true → w ≡ true
-to_live true q h = refl
-to_live false q h = absurd (true_is_not_false (sym h))
+-- one kind alone goes on from a spot
+abbrev pub GoesOn : Spot → SyntaxKind → Type 0
+GoesOn q w = list_all (λ k. if live (go q k) then nat_eq (place_of k) (place_of w) else true) all_kinds ≡ true
 
--- a row that may be empty, or begins with a leaf of a kind
-pub at_optional : (q r : Spot) (w : SyntaxKind) {Q : Forest → Type 0} → ((k : SyntaxKind) → live (go q k) ≡ true → k ≡ w) → is_token w ≡ true → go q w ≡ r → ((f : Forest) → Held r f → Q f)
-    → (f : Forest) → Held q f → Optional (Leads w Q) f
-at_optional q r w o i e n empty h = left_out
-at_optional q r w {Q = Q} o i e n (leaf k t f) h =
-    let same : k ≡ w = o k h.1 in
-    subst (λ j. Optional (Leads w Q) (leaf j t f)) (sym same) (given (leads (n f (subst (λ x. Held x f) (ap (go q) same ∙ e) h.2))))
-at_optional q r w o i e n (node k c f) h = absurd (no_token w i (subst (λ j. is_node j ≡ true) (o k h.1) h.0))
+alone : (q : Spot) (w : SyntaxKind) → GoesOn q w → (k : SyntaxKind) → live (go q k) ≡ true → k ≡ w
+alone q w = only (λ k. live (go q k)) w
 
--- a row that begins with a leaf of a kind
-pub at_leaf : (q r : Spot) (w : SyntaxKind) {Q : Forest → Type 0} → whole q ≡ false → ((k : SyntaxKind) → live (go q k) ≡ true → k ≡ w) → is_token w ≡ true → go q w ≡ r
-    → ((f : Forest) → Held r f → Q f)
-    → (f : Forest) → Held q f → Leads w Q f
-at_leaf q r w d o i e n empty h = absurd (true_is_not_false (sym h ∙ d))
-at_leaf q r w {Q = Q} d o i e n (leaf k t f) h =
-    let same : k ≡ w = o k h.1 in
-    subst (λ j. Leads w Q (leaf j t f)) (sym same) (leads (n f (subst (λ x. Held x f) (ap (go q) same ∙ e) h.2)))
-at_leaf q r w d o i e n (node k c f) h = absurd (no_token w i (subst (λ j. is_node j ≡ true) (o k h.1) h.0))
+-- what holds of the empty row, and of a leaf of the kind with any row behind it, holds of each row where that kind alone goes on
+pub of_optional : (q : Spot) (w : SyntaxKind) (P : Forest → Type 0) → GoesOn q w → is_token w ≡ true → (whole q ≡ true → P empty)
+    → ((t : List ℕ) (f : Forest) → Held (go q w) f → P (leaf w t f))
+    → (f : Forest) → Held q f → P f
+of_optional q w P o i z n empty h = z h
+of_optional q w P o i z n (leaf k t f) h =
+    let same : k ≡ w = alone q w o k h.1 in
+    subst (λ j. P (leaf j t f)) (sym same) (n t f (subst (λ x. Held x f) (ap (go q) same) h.2))
+of_optional q w P o i z n (node k c f) h = absurd (no_token w i (subst (λ j. is_node j ≡ true) (alone q w o k h.1) h.0))
 
--- a row that begins with a node of a kind
-pub at_child : (q r : Spot) (w : SyntaxKind) {Q : Forest → Type 0} → whole q ≡ false → ((k : SyntaxKind) → live (go q k) ≡ true → k ≡ w) → is_token w ≡ false → go q w ≡ r
-    → ((f : Forest) → Held r f → Q f)
-    → (f : Forest) → Held q f → Child w Q f
-at_child q r w d o i e n empty h = absurd (true_is_not_false (sym h ∙ d))
-at_child q r w d o i e n (leaf k t f) h = absurd (true_is_not_false (sym (subst (λ j. is_token j ≡ true) (o k h.1) h.0) ∙ i))
-at_child q r w {Q = Q} d o i e n (node k c f) h =
-    let same : k ≡ w = o k h.1 in
-    subst (λ j. Child w Q (node j c f)) (sym same) (child (subst (λ j. Means j c) same h.3) (n f (subst (λ x. Held x f) (ap (go q) same ∙ e) h.4)))
+-- so where the row may not end
+pub of_leaf : (q : Spot) (w : SyntaxKind) (P : Forest → Type 0) → whole q ≡ false → GoesOn q w → is_token w ≡ true → ((t : List ℕ) (f : Forest)
+    → Held (go q w) f → P (leaf w t f))
+    → (f : Forest) → Held q f → P f
+of_leaf q w P d o i n = of_optional q w P o i (λ h. absurd (true_is_not_false (sym h ∙ d))) n
 
--- a row that is over
-pub at_end : (q : Spot) → ((k : SyntaxKind) → live (go q k) ≡ false) → (f : Forest) → Held q f → Ends f
-at_end q d empty h = ends
-at_end q d (leaf k t f) h = absurd (true_is_not_false (sym h.1 ∙ d k))
-at_end q d (node k c f) h = absurd (true_is_not_false (sym h.1 ∙ d k))
+-- so with a node of a kind
+pub of_child : (q : Spot) (w : SyntaxKind) (P : Forest → Type 0) → whole q ≡ false → GoesOn q w → is_token w ≡ false
+    → ((c : Forest) → Means w c → (f : Forest) → Held (go q w) f → P (node w c f)) → (f : Forest) → Held q f → P f
+of_child q w P d o i n empty h = absurd (true_is_not_false (sym h ∙ d))
+of_child q w P d o i n (leaf k t f) h = absurd (true_is_not_false (sym (subst (λ j. is_token j ≡ true) (alone q w o k h.1) h.0) ∙ i))
+of_child q w P d o i n (node k c f) h =
+    let same : k ≡ w = alone q w o k h.1 in
+    subst (λ j. P (node j c f)) (sym same) (n c (subst (λ j. Means j c) same h.3) f (subst (λ x. Held x f) (ap (go q) same) h.4))
+
+-- so where the row is over
+pub of_end : (q : Spot) (P : Forest → Type 0) → ((k : SyntaxKind) → live (go q k) ≡ false) → P empty → (f : Forest) → Held q f → P f
+of_end q P d n empty h = n
+of_end q P d n (leaf k t f) h = absurd (true_is_not_false (sym h.1 ∙ d k))
+of_end q P d n (node k c f) h = absurd (true_is_not_false (sym h.1 ∙ d k))
+
+-- so behind the last child
+pub of_past : (P : Forest → Type 0) → P empty → (f : Forest) → Held (At p.Past) f → P f
+of_past P n = of_end (At p.Past) P (λ k. refl) n
 
 pub at_past : (f : Forest) → Held (At p.Past) f → Ends f
-at_past f h = at_end (At p.Past) (λ k. refl) f h
+at_past = of_past Ends ends
 
 -- what stands where an operand may is one
 pub operand_stands : (x : Place) (level : ℕ) (k : SyntaxKind) (c : Forest) → level_in (slot_at x) ≡ Some level → is_expression k ≡ true → may_stand (At x) k c ≡ true
@@ -197,31 +186,14 @@ pub operand_stands : (x : Place) (level : ℕ) (k : SyntaxKind) (c : Forest) →
 operand_stands x level NODE_PAT_BIND c e i h = absurd (true_is_not_false (sym i))
 operand_stands x level k c e i h = ap (λ o. stands_in o k c) (sym e) ∙ h
 
--- a row that begins with an operand
-pub at_operand : (x behind : Place) (level : ℕ) (counted : Bool) {Q : Forest → Type 0} → slot_at x ≡ s.Operand level counted behind → ((f : Forest) → Held (At behind) f → Q f)
-    → (f : Forest) → Held (At x) f → Holds level Q f
-at_operand x behind level counted e n empty h = absurd (true_is_not_false (sym h ∙ ap is_end e))
-at_operand x behind level counted e n (leaf k t f) h =
-    let fit : fits level k ≡ true = to_live (fits level k) (At behind) (ap (λ z. live (go_slot z x k)) (sym e) ∙ h.1) in
+-- so with an expression of a level
+pub of_operand : (x : Place) {behind : Place} {level : ℕ} {counted : Bool} (P : Forest → Type 0) → slot_at x ≡ s.Operand level counted behind
+    → ((k : SyntaxKind) (c : Forest) → Strict level k c → (f : Forest) → Held (At behind) f → P (node k c f)) → (f : Forest) → Held (At x) f → P f
+of_operand x P e n empty h = absurd (true_is_not_false (sym h ∙ ap is_end e))
+of_operand x {behind = behind} {level = level} P e n (leaf k t f) h =
+    let fit : fits level k ≡ true = live_to (fits level k) (At behind) (ap (λ z. live (go_slot z x k)) (sym e) ∙ h.1) in
     absurd (no_expression k h.0 (fits_expression level k fit))
-at_operand x behind level counted e n (node k c f) h =
-    let fit : fits level k ≡ true = to_live (fits level k) (At behind) (ap (λ z. live (go_slot z x k)) (sym e) ∙ h.1) in
-    holds (strict_of level k c h.3 (operand_stands x level k c (ap level_in e) (fits_expression level k fit) h.2))
-    (n f (subst (λ q. Held q f) (ap (λ z. go_slot z x k) e ∙ ap (λ z. to z (At behind)) fit) h.4))
-
--- a row that begins with a wanted token
-pub at_token : (x behind : Place) (until : Until) (w : SyntaxKind) {Q : Forest → Type 0} → slot_at x ≡ s.Token until behind → ((k : SyntaxKind) → is_wanted until k ≡ true → k ≡ w)
-    → is_token w ≡ true
-    → is_wanted until w ≡ true → ((f : Forest) → Held (At behind) f → Q f) → (f : Forest) → Held (At x) f → Leads w Q f
-at_token x behind until w e o i g n f h =
-    at_leaf (At x) (At behind) w (ap is_end e) (λ k l. o k (to_live (is_wanted until k) (At behind) (ap (λ z. live (go_slot z x k)) (sym e) ∙ l))) i
-    (ap (λ z. go_slot z x w) e ∙ ap (λ z. to z (At behind)) g) n f h
-
--- the token that a row begins with
-pub only_first : (w : SyntaxKind) (x : Place) (k : SyntaxKind) → live (first_token w k x) ≡ true → k ≡ w
-only_first w x k h = only (λ j. live (first_token w j x)) w (every (λ v. list_all (λ j. if live (first_token v j x) then nat_eq (place_of j) (place_of v) else true) all_kinds) refl w) k h
-
--- such a row of a kind
-pub at_first : (parent w : SyntaxKind) (x : Place) {Q : Forest → Type 0} → ((k : SyntaxKind) → go (start parent) k ≡ first_token w k x) → whole (start parent) ≡ false → is_token w ≡ true
-    → first_token w w x ≡ At x → ((f : Forest) → Held (At x) f → Q f) → (f : Forest) → Held (start parent) f → Leads w Q f
-at_first parent w x e d i g n f h = at_leaf (start parent) (At x) w d (λ k l. only_first w x k (ap live (sym (e k)) ∙ l)) i (e w ∙ g) n f h
+of_operand x {behind = behind} {level = level} P e n (node k c f) h =
+    let fit : fits level k ≡ true = live_to (fits level k) (At behind) (ap (λ z. live (go_slot z x k)) (sym e) ∙ h.1) in
+    n k c (strict_of level k c h.3 (operand_stands x level k c (ap level_in e) (fits_expression level k fit) h.2)) f
+    (subst (λ q. Held q f) (ap (λ z. go_slot z x k) e ∙ ap (λ z. to z (At behind)) fit) h.4)

@@ -11,15 +11,16 @@ use Rattle.rnix_grammar.specs.Rows.{At}
 use Rattle.rnix_grammar.specs.Reads.{Reads, end, leaf, lost, wrong, second, inner, ReadsWhole}
 use Rattle.rnix_uniqueness.proofs.Ended.{ended_with, ended_once}
 use Rattle.rnix_uniqueness.proofs.StepReads.{ReadsRow}
-use Rattle.rnix_uniqueness.proofs.ReadingHeights.{height, Trees}
+use Rattle.rnix_uniqueness.proofs.ReadingHeights.{height, AllRows, Trees}
 use Rattle.rnix_uniqueness.proofs.TreeReads.{tree_runs, no_tree}
 use Rattle.rnix_uniqueness.proofs.RowTrees.{row_end}
-use Rattle.rnix_uniqueness.proofs.InnerReads.{AllRows}
 use Rattle.rnix_uniqueness.proofs.RowReads.{row_next}
 
+-- no reading is lower than none
 above : (a : ℕ) → suc a ≤ 0 → ⊥
 above a h = omega (arith, h)
 
+-- a reading of no height is read
 first_row : {k : SyntaxKind} {d n : ℕ} {x y : Place} {b : Sketch} {us : List Token} {f : Sketch} {es : List Fault} (r : Reads k d n (At x) (At y) b us f es) → height r ≤ 0 → ReadsRow k d n x y b us f es
 first_row {k = k} {d = d} {n = n} {x = x} {b = b} {us = us} end h = row_end k d n x b us
 first_row (leaf w v o fo g l c e r) h = absurd (above (height r) h)
@@ -34,7 +35,7 @@ all_read zero = (λ k d n x y b us f es h. first_row h.reads h.short, no_tree)
 all_read (suc m) = by (all_read m)
   where
     by : AllRows m × Trees m → AllRows (suc m) × Trees (suc m)
-    by w = (λ k d n x y b us f es h. row_next m w.0 w.1 h.reads h.short, tree_runs m (λ k d n x y b us f es h e. w.0 k d n x y b us f es h) w.1)
+    by w = (λ k d n x y b us f es h. row_next m w.0 w.1 h.reads h.short, tree_runs m w.0 w.1)
 
 -- a reading of some items is what the steps make of them
 pub reads_runs : (f : Sketch) (faults : List Fault) → ReadsWhole f faults

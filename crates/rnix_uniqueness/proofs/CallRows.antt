@@ -1,161 +1,258 @@
--- Calls, by how their rows are read.
-use Rattle.std.proofs.Common.{◌≡◌, ℕ, Bool, true, false, List, [], ◌∷◌, ◌++◌, Some, None, refl, ap, sym, ◌∙◌, subst, append-nil}
+-- Calls are read as operands, of a tree with an argument and with the name `or`, if smaller trees are read.
+use Rattle.std.proofs.Common.{◌≡◌, ℕ, ◌≤◌, Bool, true, false, List, [], ◌∷◌, ◌++◌, Some, None, refl, ap, sym, ◌∙◌, subst, append_assoc, append-nil, arith}
 use Rattle.std.specs.Prelude.{◌||◌, ◌&&◌, if◌then◌else◌}
 use Rattle.std.proofs.lemmas.Bool.{and_parts}
+use Rattle.rnix_kinds.proofs.AllKinds.{implied}
 use Rattle.rnix_kinds.specs.declared.kinds.SyntaxKind.{SyntaxKind}
-use Rattle.rnix_kinds.specs.declared.kinds.SyntaxKind.TheVariants.{TOKEN_OR, NODE_APPLY, NODE_IDENT, NODE_PAT_ENTRY}
+use Rattle.rnix_kinds.specs.declared.kinds.SyntaxKind.TheVariants.{TOKEN_FLOAT, TOKEN_OR, NODE_APPLY, NODE_IDENT}
 use Rattle.rnix_kinds.specs.SyntaxKind.{is_fn_arg}
 use Rattle.rnix_grammar.specs.declared.place.Place.TheVariants as p
+use Rattle.rnix_grammar.specs.declared.action.Action.TheVariants as a
 use Rattle.rnix_grammar.specs.Fault.{Fault}
+use Rattle.rnix_grammar.specs.Actions.{follow as follow_of, more_action}
+use Rattle.rnix_grammar.specs.Levels.{power}
 use Rattle.rnix_grammar.specs.TokenKinds.{is_or}
 use Rattle.rnix_grammar.specs.Sketch.{Token, Stray, Sketch, blank, branch, fault, ◌⊕◌, one_token, one_branch, one_fault, row_of, tokens_in, told, head_kind, end_from}
 use Rattle.rnix_grammar.specs.Reports.{report, repeats}
-use Rattle.rnix_grammar.specs.Rows.{Spot, Start, BeforeArgument, At, is_simple, start, to, whole}
-use Rattle.rnix_grammar.specs.TreeLevels.{is_or_row}
+use Rattle.rnix_grammar.specs.Machine.{Node, Operand, Frame, machine, opened, perform, operand_on, rest as here}
+use Rattle.rnix_grammar.specs.Rows.{Spot, Start, BeforeArgument, At, is_simple, is_expression, start, to, whole}
+use Rattle.rnix_grammar.specs.TreeLevels.{row_level, is_or_row}
 use Rattle.rnix_grammar.specs.OwnItems.{IsOwned}
-use Rattle.rnix_grammar.specs.Operands.{follows, IsFollowed, IsOperand}
+use Rattle.rnix_grammar.specs.Operands.{follows, IsBegun, IsFollowed, IsOperand, goes_on}
 use Rattle.rnix_grammar.specs.Reads.{IsOver}
 use Rattle.rnix_lemmas.proofs.Basics.{true_is_not_false}
-use Rattle.rnix_lemmas.proofs.EveryKind.{never, only}
-use Rattle.rnix_lemmas.proofs.LevelLemmas.{simple_fits}
+use Rattle.rnix_lemmas.proofs.EveryKind.{alike, never, only}
 use Rattle.rnix_lemmas.proofs.OpeningRows.{live_to}
-use Rattle.rnix_lemmas.proofs.FirstTrees.{IsSingle}
-use Rattle.rnix_lemmas.proofs.FollowLemmas.{follows_token}
-use Rattle.rnix_uniqueness.proofs.StepReads.{ReadsTree}
-use Rattle.rnix_uniqueness.proofs.ReadingHeights.{Short, Trees, Front, by_leaf, by_stray, by_node}
-use Rattle.rnix_uniqueness.proofs.OperandBegins.{one_items}
-use Rattle.rnix_uniqueness.proofs.ItemOperands.{tree_stray}
-use Rattle.rnix_uniqueness.proofs.CallOperands.{tree_called, tree_called_or}
-use Rattle.rnix_uniqueness.proofs.NodeRows.{front_of, short_from, Ended, past_ends, IsItem, is_item}
-use Rattle.rnix_uniqueness.proofs.OperatorRows.{Led, led}
+use Rattle.rnix_lemmas.proofs.StrictParts.{end_behind}
+use Rattle.rnix_lemmas.proofs.FirstTrees.{IsSingle, first_in, single_calls}
+use Rattle.rnix_lemmas.proofs.FollowLemmas.{followed_call, followed_tight, follows_level, follows_token}
+use Rattle.rnix_uniqueness.proofs.Runs.{runs_on, runs_from, step_to}
+use Rattle.rnix_uniqueness.proofs.StepReads.{IsOperandRead, ReadsTree}
+use Rattle.rnix_uniqueness.proofs.ReadingHeights.{Short, Trees, Front, by_leaf, by_stray, by_node, front_of}
+use Rattle.rnix_uniqueness.proofs.FirstItems.{Ended, past_ends, name_item}
+use Rattle.rnix_uniqueness.proofs.OperandGoesOn.{goes, settles, begun_same}
+use Rattle.rnix_uniqueness.proofs.ItemRows.{stray_reads}
+use Rattle.rnix_uniqueness.proofs.OperatorRows.{Leading, leading, leading_reads, unreported}
+
+-- how the first item of an argument goes on with a tree
+passes : (i : SyntaxKind) → is_fn_arg i ≡ true → follow_of i ≡ a.Apply
+passes TOKEN_FLOAT h = refl
+passes _ h = cc
+
+-- the level of a call
+call_level : (x v : Sketch) (w : Bool) → IsSingle x → is_or_row v ≡ w → row_level (one_branch NODE_APPLY (x ⊕ v)) ≡ (if w then 16 else 15)
+call_level x v w one h = ap (λ z. if z then 16 else 15) (single_calls x v one ∙ h)
+
+-- a tree and its argument
+called : (zs xs : List Token) (x v : Sketch) (i : SyntaxKind) (d n : ℕ) (us : List Token) (es ds : List Fault) → IsSingle x
+    → head_kind (xs ++ us) ≡ Some i → is_fn_arg i ≡ true → follows i x ≡ true
+    → ReadsTree d n zs x (xs ++ us) es → ReadsTree d (end_from n zs) xs v us ds
+    → is_or_row v ≡ false → 16 ≤ row_level v → IsBegun 16 v (xs ++ us) → goes_on 16 v us ≡ false
+    → ReadsTree d n (zs ++ xs) (one_branch NODE_APPLY (x ⊕ v)) us (es ++ ds)
+called zs xs x v i d n us es ds one next arg follow tree passed plain tight begun over level F fs gs low begins = by (tree level F fs gs (omega (arith, least, follows_level i x follow)) first)
+  where
+    z : Sketch
+    z = one_branch NODE_APPLY (x ⊕ v)
+
+    ts : List Token
+    ts = xs ++ us
+
+    m : ℕ
+    m = end_from n zs
+
+    least : level ≤ power i
+    least = omega (arith, low, call_level x v false one plain, alike is_fn_arg power (λ j. 15) refl i arg)
+
+    first : IsBegun level x (zs ++ ts)
+    first = begun_same level z x (zs ++ ts) (first_in x v one) (subst (λ (w : List Token). IsBegun level z w) (append_assoc zs xs us) begins)
+
+    G : Frame
+    G = opened (Node NODE_APPLY) p.Past d x
+
+    H : Frame
+    H = opened Operand (p.Behind level 15) d blank
+
+    by : IsOperandRead level d n zs x ts es F fs gs → IsOperandRead level d n (zs ++ xs) z us (es ++ ds) F fs gs
+    by r = also (passed 16 G (H ∷ (F ∷ fs)) (gs ++ es) tight begun)
+      where
+        also : IsOperandRead 16 d m xs v us ds G (H ∷ (F ∷ fs)) (gs ++ es) → IsOperandRead level d n (zs ++ xs) z us (es ++ ds) F fs gs
+        also q = record {
+          high = 15;
+          followed = followed_call z (call_level x v false one plain) refl;
+          runs =
+              runs_from (ap (λ w. operand_on false level d F fs w w n gs) (append_assoc zs xs us))
+              (runs_on r.runs
+              (step_to
+              (ap (λ w. perform false w (opened Operand (p.Behind level r.high) d x) (F ∷ fs) ts m (gs ++ es))
+              (ap (λ w. more_action level r.high w) next ∙ goes level r.high i x r.followed follow least ∙ passes i arg))
+              (runs_on q.runs
+              (step_to
+              (ap (λ w. perform false w (opened Operand (p.Behind 16 q.high) d v) (G ∷ (H ∷ (F ∷ fs))) us (end_from m xs) ((gs ++ es) ++ ds)) (settles 16 q.high v us q.followed over))
+              (step_to
+              (ap (λ w. machine (opened Operand (p.Behind level 15) d z ∷ (F ∷ fs)) us (end_from m xs) w) (append_assoc gs es ds)
+              ∙ ap (λ w. machine (opened Operand (p.Behind level 15) d z ∷ (F ∷ fs)) us w (gs ++ (es ++ ds))) (sym (end_behind n zs xs))) here)))));
+        }
+
+-- a tree and the name `or`
+called_or : (zs : List Token) (x : Sketch) (t : Token) (d n : ℕ) (us : List Token) (es : List Fault) → IsSingle x → t.kind ≡ TOKEN_OR → follows t.kind x ≡ true
+    → is_or_row (one_branch NODE_IDENT (one_token (told NODE_IDENT t) t)) ≡ true → ReadsTree d n zs x (t ∷ us) es
+    → ReadsTree d n (zs ++ (t ∷ [])) (one_branch NODE_APPLY (x ⊕ one_branch NODE_IDENT (one_token (told NODE_IDENT t) t))) us (es ++ [])
+called_or zs x t d n us es one kind follow named tree level F fs gs low begins = by (tree level F fs gs (omega (arith, least, follows_level t.kind x follow)) first)
+  where
+    v : Sketch
+    v = one_branch NODE_IDENT (one_token (told NODE_IDENT t) t)
+
+    z : Sketch
+    z = one_branch NODE_APPLY (x ⊕ v)
+
+    least : level ≤ power t.kind
+    least = omega (arith, low, call_level x v true one named, ap power kind)
+
+    first : IsBegun level x (zs ++ (t ∷ us))
+    first = begun_same level z x (zs ++ (t ∷ us)) (first_in x v one) (subst (λ (w : List Token). IsBegun level z w) (append_assoc zs (t ∷ []) us) begins)
+
+    by : IsOperandRead level d n zs x (t ∷ us) es F fs gs → IsOperandRead level d n (zs ++ (t ∷ [])) z us (es ++ []) F fs gs
+    by r = record {
+      high = 15;
+      followed = followed_tight z (call_level x v true one named) refl;
+      runs =
+          runs_from (ap (λ w. operand_on false level d F fs w w n gs) (append_assoc zs (t ∷ []) us))
+          (runs_on r.runs
+          (step_to
+          (ap (λ w. perform false w (opened Operand (p.Behind level r.high) d x) (F ∷ fs) (t ∷ us) (end_from n zs) (gs ++ es)) (goes level r.high t.kind x r.followed follow least ∙ ap follow_of kind)
+          ∙ ap (λ w. machine (opened Operand (p.Behind level 15) d z ∷ (F ∷ fs)) us t.end (gs ++ w)) (sym (append-nil es))
+          ∙ ap (λ w. machine (opened Operand (p.Behind level 15) d z ∷ (F ∷ fs)) us w (gs ++ (es ++ []))) (sym (end_behind n zs (t ∷ [])))) here));
+    }
 
 -- what goes on with a tree as an argument, by the first item
 followed : (i : SyntaxKind) (x : Sketch) → ((is_fn_arg i || is_or i) && follows i x) ≡ true → ((is_fn_arg i || is_or i) ≡ true) × (follows i x ≡ true)
 followed i x h = and_parts (is_fn_arg i || is_or i) (follows i x) h
 
-plainly : (i : SyntaxKind) → (is_fn_arg i || is_or i) ≡ true → is_or i ≡ false → is_fn_arg i ≡ true
-plainly i h o = by (is_fn_arg i) (is_or i) h o
-  where
-    by : (v w : Bool) → (v || w) ≡ true → w ≡ false → v ≡ true
-    by true w h o = refl
-    by false w h o = absurd (true_is_not_false (sym h ∙ o))
+-- of two tests of which one is passed the other fails
+plainly : (v w : Bool) → (v || w) ≡ true → w ≡ false → v ≡ true
+plainly true w h o = refl
+plainly false w h o = absurd (true_is_not_false (sym h ∙ o))
 
+-- the name `or` is a name
 named_or : (j : SyntaxKind) (e : Sketch) → is_or_row (one_branch j e) ≡ true → j ≡ NODE_IDENT
 named_or NODE_IDENT e h = refl
 named_or _ e h = absurd (true_is_not_false (sym h))
 
-simple_repeats : (j : SyntaxKind) (b c : Sketch) → is_simple j ≡ true → repeats j b c ≡ []
-simple_repeats NODE_PAT_ENTRY b c h = absurd (true_is_not_false (sym h))
-simple_repeats _ b c h = refl
-
-or_token : (t : Token) → is_or_row (one_branch NODE_IDENT (one_token (told NODE_IDENT t) t)) ≡ true → t.kind ≡ TOKEN_OR
-or_token t h = only is_or TOKEN_OR refl t.kind h
-
 -- no lone token is called
-no_lone : (m d : ℕ) (s : Spot) (us : List Token) → whole s ≡ true → (j : SyntaxKind) (t : Token) (f : Sketch) (fs : List Fault) → Short m NODE_APPLY d t.end BeforeArgument s (one_token j t) us f fs → ⊥
-no_lone m d s us o j t f fs r = by f fs (front_of r refl o)
+no_lone : {m d n : ℕ} {s : Spot} {us : List Token} (j : SyntaxKind) (t : Token) {f : Sketch} {fs : List Fault}
+    → Front m NODE_APPLY d n BeforeArgument s (one_token j t) us f fs → ⊥
+no_lone j t (by_leaf {k = i} e w l q) = follows_token i j t blank (followed i (one_token j t) w).1
+no_lone j t (by_stray {t = v} o w x l q) = follows_token v.kind j t blank (followed v.kind (one_token j t) w).1
+no_lone {n = n} {us = us} j t (by_node {k = i} {c = c} {f = g} r o y w x l q) = by (tokens_in c ++ (tokens_in g ++ us)) y w
   where
-    by : (f : Sketch) (fs : List Fault) → Front m NODE_APPLY d t.end BeforeArgument s (one_token j t) us f fs → ⊥
-    by _ _ (by_leaf {k = i} e o w l q) = follows_token i j t blank (followed i (one_token j t) w).1
-    by _ _ (by_stray {t = v} o w x l q) = follows_token v.kind j t blank (followed v.kind (one_token j t) w).1
-    by _ _ (by_node {k = i} {c = c} {f = g} r o y w x l q) = also (tokens_in c ++ (tokens_in g ++ us)) y w
-      where
-        also : (ts : List Token) → IsOwned BeforeArgument t.end ts (is_or_row (one_branch i c)) → IsFollowed BeforeArgument (one_token j t) (head_kind ts) → ⊥
-        also [] y w = y
-        also (v ∷ vs) y w = follows_token v.kind j t blank (followed v.kind (one_token j t) w).1
+    by : (ts : List Token) → IsOwned BeforeArgument n ts (is_or_row (one_branch i c)) → IsFollowed BeforeArgument (one_token j t) (head_kind ts) → ⊥
+    by [] y w = y
+    by (v ∷ vs) y w = follows_token v.kind j t blank (followed v.kind (one_token j t) w).1
 
--- a tree, read, and its argument
-argument_stray : (d n : ℕ) (x : Sketch) (t : Token) (us : List Token) (ds : List Fault) → IsSingle x → ReadsTree d n x (t ∷ us) ds → is_or t.kind ≡ false
-    → ((is_fn_arg t.kind || is_or t.kind) && follows t.kind x) ≡ true → IsOperand (Some 16) (one_fault Stray (row_of (t ∷ []))) us
-    → ReadsTree d n (one_branch NODE_APPLY (x ⊕ one_fault Stray (row_of (t ∷ [])))) us (ds ++ (report Stray (t ∷ []) ∷ []))
-argument_stray d n x t us ds one reads o w q =
-    let v : Sketch = one_fault Stray (row_of (t ∷ [])) in
-    let f = followed t.kind x w in
-    tree_called x v t.kind d n us ds (report Stray (t ∷ []) ∷ []) one refl (plainly t.kind f.0 o) f.1 reads (tree_stray t d (end_from n (tokens_in x)) us) refl q.0 q.1 q.2
+-- a tree, read, and what is called with it
+abbrev Called : ℕ → ℕ → List Token → Sketch → List Token → List Fault → List Token → Sketch → List Fault → Type 0
+Called d n zs x us es xs v ds = ReadsTree d n (zs ++ xs) (one_branch NODE_APPLY (x ⊕ v)) us (es ++ ds)
 
-argument_node : (d n : ℕ) (x : Sketch) (j : SyntaxKind) (e : Sketch) (us : List Token) (ds fs : List Fault) → IsSingle x → ReadsTree d n x (tokens_in e ++ us) ds
-    → IsOwned BeforeArgument (end_from n (tokens_in x)) (tokens_in e ++ us) false → IsFollowed BeforeArgument x (head_kind (tokens_in e ++ us))
-    → is_or_row (one_branch j e) ≡ false → IsOperand (Some 16) (one_branch j e) us → ReadsTree d (end_from n (tokens_in x)) (one_branch j e) us fs
-    → ReadsTree d n (one_branch NODE_APPLY (x ⊕ one_branch j e)) us (ds ++ fs)
-argument_node d n x j e us ds fs one reads o w plain q tree = by (tokens_in e ++ us) refl o w
+-- an argument that is no name `or`
+argument : (d n : ℕ) (zs xs : List Token) (x v : Sketch) (us : List Token) (es ds : List Fault) → IsSingle x → ReadsTree d n zs x (xs ++ us) es
+    → IsOwned BeforeArgument (end_from n zs) (xs ++ us) false
+    → IsFollowed BeforeArgument x (head_kind (xs ++ us)) → is_or_row v ≡ false → 16 ≤ row_level v → IsBegun 16 v (xs ++ us)
+    → goes_on 16 v us ≡ false → ReadsTree d (end_from n zs) xs v us ds
+    → Called d n zs x us es xs v ds
+argument d n zs xs x v us es ds one reads o w plain tight begun over tree = by (xs ++ us) refl o w
   where
-    by : (ts : List Token) → tokens_in e ++ us ≡ ts → IsOwned BeforeArgument (end_from n (tokens_in x)) ts false → IsFollowed BeforeArgument x (head_kind ts)
-        → ReadsTree d n (one_branch NODE_APPLY (x ⊕ one_branch j e)) us (ds ++ fs)
+    by : (ts : List Token) → xs ++ us ≡ ts → IsOwned BeforeArgument (end_from n zs) ts false → IsFollowed BeforeArgument x (head_kind ts)
+        → Called d n zs x us es xs v ds
     by [] h o w = absurd o
     by (t ∷ ts) h o w =
-        let f = followed t.kind x w in
-        tree_called x (one_branch j e) t.kind d n us ds fs one (ap (λ z. head_kind (z ++ us)) (sym (one_items j e)) ∙ ap head_kind h) (plainly t.kind f.0 o) f.1
-        (subst (λ (z : List Token). ReadsTree d n x (z ++ us) ds) (one_items j e) reads) tree plain q.0 q.1 q.2
+        let f = followed t.kind x w in called zs xs x v t.kind d n us es ds one (ap head_kind h) (plainly (is_fn_arg t.kind) (is_or t.kind) f.0 o) f.1 reads tree plain tight begun over
 
--- an argument is read
-argument : (m : ℕ) → Trees m → (d n : ℕ) (s : Spot) (x : Sketch) (us : List Token) (f : Sketch) (ds es : List Fault) → IsSingle x → ReadsTree d n x (tokens_in f ++ us) ds
-    → Front m NODE_APPLY d (end_from n (tokens_in x)) BeforeArgument s x us f es → ReadsTree d n (one_branch NODE_APPLY (x ⊕ f)) us (ds ++ es)
-argument m trees d n s x us _ ds _ one reads (by_leaf {k = i} e o w l r) =
-    absurd (never is_simple (λ j. is_fn_arg j || is_or j) refl i (live_to (is_simple i) (At p.Past) l) (followed i x w).0)
-argument m trees d n s x us _ ds _ one reads (by_stray {t = t} {f = f} {es = es} o w q l r) = by f es (past_ends r.reads refl) reads q
+-- the name `or` as an argument
+name_or : (m d n : ℕ) (zs : List Token) (x : Sketch) (j : SyntaxKind) (c : Sketch) (z : Spot) (us : List Token) (es ds : List Fault) → IsSingle x
+    → ReadsTree d n zs x (tokens_in c ++ us) es
+    → Short m j d (end_from n zs) (start j) z blank us c ds → whole z ≡ true → IsFollowed BeforeArgument x (head_kind (tokens_in c ++ us))
+    → is_or_row (one_branch j c) ≡ true
+    → Called d n zs x us es (tokens_in c) (one_branch j c) ds
+name_or m d n zs x j c z us es ds one reads r o w h =
+    subst (λ (i : SyntaxKind). Short m i d (end_from n zs) (start i) z blank us c ds → is_or_row (one_branch i c) ≡ true
+    → Called d n zs x us es (tokens_in c) (one_branch i c) ds) (sym (named_or j c h)) by r h
   where
-    by : (f : Sketch) (es : List Fault) → Ended s f es → ReadsTree d n x (t ∷ (tokens_in f ++ us)) ds → IsOperand (Some 16) (one_fault Stray (row_of (t ∷ []))) (tokens_in f ++ us)
-        → ReadsTree d n (one_branch NODE_APPLY (x ⊕ fault Stray (row_of (t ∷ [])) f)) us (ds ++ (report Stray (t ∷ []) ∷ es))
-    by f es v reads q =
-        subst (λ (z : List Fault). ReadsTree d n (one_branch NODE_APPLY (x ⊕ fault Stray (row_of (t ∷ [])) f)) us (ds ++ (report Stray (t ∷ []) ∷ z))) (sym v.faults)
-        (subst (λ (z : Sketch). ReadsTree d n (one_branch NODE_APPLY (x ⊕ fault Stray (row_of (t ∷ [])) z)) us (ds ++ (report Stray (t ∷ []) ∷ []))) (sym v.row)
-        (argument_stray d n x t us ds one (subst (λ (z : Sketch). ReadsTree d n x (t ∷ (tokens_in z ++ us)) ds) v.row reads) o w
-        (subst (λ (z : Sketch). IsOperand (Some 16) (one_fault Stray (row_of (t ∷ []))) (tokens_in z ++ us)) v.row q)))
-argument m trees d n s x us _ ds _ one reads (by_node {k = j} {c = e} {f = f} {z = z} {ds = fs} {es = es} r over y w q l r') =
-    by f es (past_ends (short_from (ap (λ v. to v (At p.Past)) simple) r').reads refl) reads r over y w q (is_or_row (one_branch j e)) refl
+    by : Short m NODE_IDENT d (end_from n zs) (Start NODE_IDENT) z blank us c ds → is_or_row (one_branch NODE_IDENT c) ≡ true
+        → Called d n zs x us es (tokens_in c) (one_branch NODE_IDENT c) ds
+    by r h =
+        let v = name_item r o in
+        subst (λ (q : List Fault). Called d n zs x us es (tokens_in c) (one_branch NODE_IDENT c) q) (sym v.3)
+        (subst
+        (λ (g : Sketch). ReadsTree d n zs x (tokens_in g ++ us) es → IsFollowed BeforeArgument x (head_kind (tokens_in g ++ us))
+        → is_or_row (one_branch NODE_IDENT g) ≡ true
+        → Called d n zs x us es (tokens_in g) (one_branch NODE_IDENT g) []) (sym v.1)
+        (λ reads w h. called_or zs x v.0 d n us es one (only is_or TOKEN_OR refl v.0.kind h) (followed v.0.kind x w).1 h reads) reads w h)
+
+-- what is called with a tree is the last of its row
+last_reads : (m : ℕ) → Trees m → (d n : ℕ) (zs : List Token) (s : Spot) (x : Sketch) (us : List Token) (f : Sketch) (es ds : List Fault)
+    → IsSingle x → ReadsTree d n zs x (tokens_in f ++ us) es
+    → Front m NODE_APPLY d (end_from n zs) BeforeArgument s x us f ds → Called d n zs x us es (tokens_in f) f ds
+last_reads m trees d n zs s x us _ es _ one reads (by_leaf {k = i} e w l r) =
+    absurd (never is_simple (λ j. is_fn_arg j || is_or j) refl i (live_to (is_simple i) (At p.Past) l) (followed i x w).0)
+last_reads m trees d n zs s x us _ es _ one reads (by_stray {t = t} {f = f} {es = ds} o w q l r) =
+    let v = past_ends r.reads refl in
+    let g : Sketch = one_fault Stray (row_of (t ∷ [])) in
+    subst (λ (z : List Fault). Called d n zs x us es (t ∷ tokens_in f) (fault Stray (row_of (t ∷ [])) f) (report Stray (t ∷ []) ∷ z)) (sym v.faults)
+    (subst
+    (λ (z : Sketch). ReadsTree d n zs x (t ∷ (tokens_in z ++ us)) es → IsOperand (Some 16) g (tokens_in z ++ us)
+    → Called d n zs x us es (t ∷ tokens_in z) (fault Stray (row_of (t ∷ [])) z) (report Stray (t ∷ []) ∷ [])) (sym v.row)
+    (λ reads q. argument d n zs (t ∷ []) x g us es (report Stray (t ∷ []) ∷ []) one reads o w refl q.0 q.1 q.2 (stray_reads t d (end_from n zs) us)) reads q)
+last_reads m trees d n zs s x us _ es _ one reads (by_node {k = j} {c = c} {f = f} {z = z} {ds = ds} {es = fs} r over y w q l r') = by (is_or_row (one_branch j c)) refl y q
   where
     simple : is_simple j ≡ true
     simple = live_to (is_simple j) (At p.Past) l
 
+    fits : is_expression j ≡ true
+    fits = implied is_simple is_expression refl j simple
+
     at : ℕ
-    at = end_from n (tokens_in x)
+    at = end_from n zs
 
-    faults_are : (es : List Fault) → es ≡ [] → (fs ++ repeats j x e) ++ es ≡ fs
-    faults_are es h = ap (λ v. (fs ++ repeats j x e) ++ v) h ∙ append-nil (fs ++ repeats j x e) ∙ ap (λ v. fs ++ v) (simple_repeats j x e simple) ∙ append-nil fs
+    end : Ended f fs
+    end = past_ends r'.reads (ap (λ v. to v (At p.Past)) simple)
 
-    item_reads : Short m j d at (start j) z blank us e fs → IsOver z (end_from at (tokens_in e)) us → IsFollowed BeforeArgument x (head_kind (tokens_in e ++ us))
-        → ReadsTree d n x (tokens_in e ++ us) ds → is_or_row (one_branch j e) ≡ true → ReadsTree d n (one_branch NODE_APPLY (x ⊕ one_branch j e)) us (ds ++ fs)
-    item_reads r over w reads h =
-        subst (λ (i : SyntaxKind). Short m i d at (start i) z blank us e fs → is_or_row (one_branch i e) ≡ true → ReadsTree d n (one_branch NODE_APPLY (x ⊕ one_branch i e)) us (ds ++ fs)) (sym (named_or j e h))
-        (λ r h. also (is_item m NODE_IDENT d at z us e fs refl (front_of r refl over.0)) h) r h
-      where
-        also : IsItem NODE_IDENT e fs → is_or_row (one_branch NODE_IDENT e) ≡ true → ReadsTree d n (one_branch NODE_APPLY (x ⊕ one_branch NODE_IDENT e)) us (ds ++ fs)
-        also i h =
-            let kind : i.item.kind ≡ TOKEN_OR = or_token i.item (subst (λ (v : Sketch). is_or_row (one_branch NODE_IDENT v) ≡ true) i.is h) in
-            subst (λ (v : List Fault). ReadsTree d n (one_branch NODE_APPLY (x ⊕ one_branch NODE_IDENT e)) us (ds ++ v)) (sym i.faults)
-            (subst (λ (v : Sketch). ReadsTree d n (one_branch NODE_APPLY (x ⊕ one_branch NODE_IDENT v)) us (ds ++ [])) (sym i.is)
-            (tree_called_or x i.item d n us ds one kind (followed i.item.kind x (subst (λ (v : Sketch). IsFollowed BeforeArgument x (head_kind (tokens_in v ++ us))) i.is w)).1
-            (subst (λ (v : Sketch). ReadsTree d n x (tokens_in v ++ us) ds) i.is reads)))
+    none : (ds ++ repeats j x c) ++ fs ≡ ds
+    none = ap (λ v. (ds ++ repeats j x c) ++ v) end.faults ∙ append-nil (ds ++ repeats j x c) ∙ ap (λ v. ds ++ v) (unreported j x c fits) ∙ append-nil ds
 
-    operand_reads : Short m j d at (start j) z blank us e fs → IsOver z (end_from at (tokens_in e)) us → IsOwned BeforeArgument at (tokens_in e ++ us) (is_or_row (one_branch j e))
-        → IsFollowed BeforeArgument x (head_kind (tokens_in e ++ us)) → IsOperand (if is_or_row (one_branch j e) then None else Some 16) (one_branch j e) us → ReadsTree d n x (tokens_in e ++ us) ds
-        → (v : Bool) → is_or_row (one_branch j e) ≡ v → ReadsTree d n (one_branch NODE_APPLY (x ⊕ one_branch j e)) us (ds ++ fs)
-    operand_reads r over y w q reads true h = item_reads r over w reads h
-    operand_reads r over y w q reads false h =
-        argument_node d n x j e us ds fs one reads (subst (λ (b : Bool). IsOwned BeforeArgument at (tokens_in e ++ us) b) h y) w h
-        (subst (λ (b : Bool). IsOperand (if b then None else Some 16) (one_branch j e) us) h q) (trees j d at z us e fs r over (simple_fits 0 j simple))
-
-    by : (f : Sketch) (es : List Fault) → Ended s f es → ReadsTree d n x ((tokens_in e ++ tokens_in f) ++ us) ds → Short m j d at (start j) z blank (tokens_in f ++ us) e fs
-        → IsOver z (end_from at (tokens_in e)) (tokens_in f ++ us) → IsOwned BeforeArgument at (tokens_in e ++ (tokens_in f ++ us)) (is_or_row (one_branch j e))
-        → IsFollowed BeforeArgument x (head_kind (tokens_in e ++ (tokens_in f ++ us))) → IsOperand (if is_or_row (one_branch j e) then None else Some 16) (one_branch j e) (tokens_in f ++ us)
-        → (v : Bool) → is_or_row (one_branch j e) ≡ v → ReadsTree d n (one_branch NODE_APPLY (x ⊕ branch j e f)) us (ds ++ ((fs ++ repeats j x e) ++ es))
-    by f es v reads r over y w q b h =
-        subst (λ (u : List Fault). ReadsTree d n (one_branch NODE_APPLY (x ⊕ branch j e f)) us (ds ++ u)) (sym (faults_are es v.faults))
+    by : (b : Bool) → is_or_row (one_branch j c) ≡ b → IsOwned BeforeArgument at (tokens_in c ++ (tokens_in f ++ us)) (is_or_row (one_branch j c))
+        → IsOperand (if is_or_row (one_branch j c) then None else Some 16) (one_branch j c) (tokens_in f ++ us)
+        → Called d n zs x us es (tokens_in c ++ tokens_in f) (branch j c f) ((ds ++ repeats j x c) ++ fs)
+    by b h y q =
+        subst (λ (u : List Fault). Called d n zs x us es (tokens_in c ++ tokens_in f) (branch j c f) u) (sym none)
         (subst
-        (λ (g : Sketch). ReadsTree d n x ((tokens_in e ++ tokens_in g) ++ us) ds → Short m j d at (start j) z blank (tokens_in g ++ us) e fs
-        → IsOver z (end_from at (tokens_in e)) (tokens_in g ++ us) → IsOwned BeforeArgument at (tokens_in e ++ (tokens_in g ++ us)) (is_or_row (one_branch j e))
-        → IsFollowed BeforeArgument x (head_kind (tokens_in e ++ (tokens_in g ++ us))) → IsOperand (if is_or_row (one_branch j e) then None else Some 16) (one_branch j e) (tokens_in g ++ us)
-        → ReadsTree d n (one_branch NODE_APPLY (x ⊕ branch j e g)) us (ds ++ fs)) (sym v.row)
-        (λ reads r over y w q. operand_reads r over y w q (subst (λ (u : List Token). ReadsTree d n x (u ++ us) ds) (append-nil (tokens_in e)) reads) b h) reads r over y w q)
+        (λ (g : Sketch). ReadsTree d n zs x ((tokens_in c ++ tokens_in g) ++ us) es → Short m j d at (start j) z blank (tokens_in g ++ us) c ds
+        → IsOver z (end_from at (tokens_in c)) (tokens_in g ++ us)
+        → IsOwned BeforeArgument at (tokens_in c ++ (tokens_in g ++ us)) b → IsFollowed BeforeArgument x (head_kind (tokens_in c ++ (tokens_in g ++ us)))
+        → IsOperand (if b then None else Some 16) (one_branch j c) (tokens_in g ++ us)
+        → Called d n zs x us es (tokens_in c ++ tokens_in g) (branch j c g) ds) (sym end.row)
+        (λ reads r over y w q.
+        subst (λ (u : List Token). Called d n zs x us es u (one_branch j c) ds) (sym (append-nil (tokens_in c)))
+        (on b h (subst (λ (u : List Token). ReadsTree d n zs x (u ++ us) es) (append-nil (tokens_in c)) reads) r over y w q))
+        reads r over (subst (λ (v : Bool). IsOwned BeforeArgument at (tokens_in c ++ (tokens_in f ++ us)) v) h y) w
+        (subst (λ (v : Bool). IsOperand (if v then None else Some 16) (one_branch j c) (tokens_in f ++ us)) h q))
+      where
+        on : (b : Bool) → is_or_row (one_branch j c) ≡ b → ReadsTree d n zs x (tokens_in c ++ us) es → Short m j d at (start j) z blank us c ds
+            → IsOver z (end_from at (tokens_in c)) us
+            → IsOwned BeforeArgument at (tokens_in c ++ us) b → IsFollowed BeforeArgument x (head_kind (tokens_in c ++ us))
+            → IsOperand (if b then None else Some 16) (one_branch j c) us
+            → Called d n zs x us es (tokens_in c) (one_branch j c) ds
+        on true h reads r over y w q = name_or m d n zs x j c z us es ds one reads r over.0 w h
+        on false h reads r over y w q =
+            argument d n zs (tokens_in c) x (one_branch j c) us es ds one reads y w h q.0 (subst (λ (u : List Token). IsBegun 16 (one_branch j c) (u ++ us)) (append-nil (tokens_in c)) q.1) q.2
+            (trees j d at z us c ds r over fits)
 
 -- a call is read
-pub called_reads : (m : ℕ) → Trees m → (d n : ℕ) (s : Spot) (us : List Token) (c : Sketch) (es : List Fault) → Front m NODE_APPLY d n (Start NODE_APPLY) s blank us c es
-    → IsOver s (end_from n (tokens_in c)) us → ReadsTree d n (one_branch NODE_APPLY c) us es
+pub called_reads : (m : ℕ) → Trees m → (d n : ℕ) (s : Spot) (us : List Token) (c : Sketch) (es : List Fault)
+    → Front m NODE_APPLY d n (Start NODE_APPLY) s blank us c es
+    → IsOver s (end_from n (tokens_in c)) us → ReadsTree d n (tokens_in c) (one_branch NODE_APPLY c) us es
 called_reads m trees d n s us c es r over =
-    by (led m trees NODE_APPLY d n BeforeArgument s us c es is_simple (record { goes = λ j. refl; fitting = λ j h. simple_fits 0 j h }) (no_lone m d s us over.0) r)
+    by (leading m trees NODE_APPLY d n BeforeArgument s us c es is_simple (record { goes = λ j. refl; fitting = implied is_simple is_expression refl })
+    (λ j t f fs r. no_lone j t (front_of refl r refl over.0)) r)
   where
-    by : Led m NODE_APPLY d n BeforeArgument s us c es → ReadsTree d n (one_branch NODE_APPLY c) us es
-    by l =
-        subst (λ (z : List Fault). ReadsTree d n (one_branch NODE_APPLY c) us z) (sym l.faults)
-        (subst (λ (z : Sketch). ReadsTree d n (one_branch NODE_APPLY z) us (l.before ++ l.later)) (sym l.is)
-        (argument m trees d n s l.tree us l.row l.before l.later l.one l.reads (front_of l.rest refl over.0)))
+    by : Leading m NODE_APPLY d n BeforeArgument s us c es → ReadsTree d n (tokens_in c) (one_branch NODE_APPLY c) us es
+    by l = leading_reads l (last_reads m trees d n l.items s l.tree us l.row l.before l.later l.one l.reads (front_of refl l.rest refl over.0))

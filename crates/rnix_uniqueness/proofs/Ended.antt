@@ -11,6 +11,7 @@ leads_back : {a b c : Machine} → Runs false c b → c ≡ a → step false a �
 leads_back here e h = sym e
 leads_back (further r) e h = leads_back r (ap (step false) e ∙ h) h
 
+-- from where no step changes anything, steps lead nowhere else
 stays : {a b : Machine} → step false a ≡ a → Runs false a b → a ≡ b
 stays h r = leads_back r refl h
 
@@ -34,7 +35,8 @@ row_in [] = blank
 row_in (f ∷ fs) = f.row
 
 -- so what is read of some items to their end is one tree, with the same errors
-pub ended_once : (ts : List Token) (f : Sketch) (n : ℕ) (es : List Fault) (m : Machine) → Runs false (begins ts) (ended_with f n es) → Runs false (begins ts) m → step false m ≡ m
+pub ended_once : (ts : List Token) (f : Sketch) (n : ℕ) (es : List Fault) (m : Machine) → Runs false (begins ts) (ended_with f n es)
+    → Runs false (begins ts) m → step false m ≡ m
     → (row_in m.frames ≡ f) × (m.faults ≡ es)
 ended_once ts f n es m r q h =
     let e = same_end q r h refl in

@@ -2,7 +2,7 @@
 use Rattle.std.proofs.Common.{◌≡◌, ℕ, suc, true, false, List, [], ◌++◌, Option, Some, refl, ap, sym, ◌∙◌, subst, append-nil}
 use Rattle.std.specs.Prelude.{if◌then◌else◌}
 use Rattle.rnix_kinds.specs.declared.kinds.SyntaxKind.{SyntaxKind}
-use Rattle.rnix_kinds.specs.declared.kinds.SyntaxKind.TheVariants.{TOKEN_AT, TOKEN_IDENT, NODE_ATTRPATH, NODE_ATTRPATH_VALUE, NODE_DYNAMIC, NODE_IDENT, NODE_INHERIT, NODE_INHERIT_FROM, NODE_INTERPOL, NODE_PAT_BIND, NODE_PAT_ENTRY, NODE_STRING}
+use Rattle.rnix_kinds.specs.declared.kinds.SyntaxKind.TheVariants.{TOKEN_AT, TOKEN_IDENT, NODE_IDENT, NODE_PAT_BIND, NODE_PAT_ENTRY}
 use Rattle.rnix_grammar.specs.declared.place.Place.{Place}
 use Rattle.rnix_grammar.specs.declared.place.Place.TheVariants as p
 use Rattle.rnix_grammar.specs.declared.until.Until.TheVariants as u
@@ -12,76 +12,22 @@ use Rattle.rnix_grammar.specs.Fault.{Fault}
 use Rattle.rnix_grammar.specs.Tables.{is_wanted}
 use Rattle.rnix_grammar.specs.Slots.{slot_at, level_in, is_counted}
 use Rattle.rnix_grammar.specs.Actions.{done_at}
-use Rattle.rnix_grammar.specs.Sketch.{Token, Sketch, blank, token, branch, one_token, one_branch, tokens_in, head_kind, end_from, touches}
-use Rattle.rnix_grammar.specs.Rows.{Spot, At, Start, fits, is_expression, start}
-use Rattle.rnix_grammar.specs.Plain.{is_node}
+use Rattle.rnix_grammar.specs.Sketch.{Token, Sketch, blank, token, one_token, one_branch, tokens_in, told, told_as, head_kind, end_from, touches}
+use Rattle.rnix_grammar.specs.Rows.{Spot, At, Start, first, fits, is_expression, live, start, whole}
 use Rattle.rnix_grammar.specs.Reports.{repeats}
-use Rattle.rnix_grammar.specs.Operands.{IsOperand}
+use Rattle.rnix_grammar.specs.Operands.{IsBegun, IsOperand}
 use Rattle.rnix_grammar.specs.Reads.{IsRoom, deeper, IsOver}
-use Rattle.rnix_lemmas.proofs.Basics.{true_is_not_false, some_same}
-use Rattle.rnix_lemmas.proofs.NodeKinds.{is_error, told_plain, fits_expression}
-use Rattle.rnix_uniqueness.proofs.StepReads.{ReadsRow}
-use Rattle.rnix_uniqueness.proofs.ReadingHeights.{Short, Trees}
-use Rattle.rnix_uniqueness.proofs.PlacedNodes.{opener, NodeRead, none, operand, path, binding, opens, name, binds, entry}
-use Rattle.rnix_uniqueness.proofs.RowClasses.{row_class}
-use Rattle.rnix_uniqueness.proofs.RowClassReads.{IsInClass, class_reads}
-use Rattle.rnix_uniqueness.proofs.RowEnds.{class_of_kind}
-use Rattle.rnix_uniqueness.proofs.RowTrees.{ReadsOne, one_operand}
-use Rattle.rnix_uniqueness.proofs.RowNodes.{one_begun, one_opened, one_named, one_entry}
-use Rattle.rnix_uniqueness.proofs.FirstItems.{fronted, no_token_row, Opened, opened_by, Named, named_by, Entered, entered_by, bound_by, no_opener}
-use Rattle.rnix_uniqueness.proofs.RowCloses.{EndsAt, whole_at}
-
--- the steps read each row from a place to a place that is at most so high
-abbrev pub AllRows : ℕ → Type 0
-AllRows m =
-    (k : SyntaxKind) (d n : ℕ) (x y : Place) (b : Sketch) (us : List Token) (f : Sketch) (es : List Fault) → Short m k d n (At x) (At y) b us f es → ReadsRow k d n x y b us f es
-
--- a smaller row from a place is read, and ends where it is
-pub record ReadOn (k : SyntaxKind) (d n : ℕ) (x : Place) (b : Sketch) (us : List Token) (f : Sketch) (es : List Fault) (m : ℕ) : Type 0 where
-  pub place : Place
-  pub row : ReadsRow k d n x place b us f es
-  pub home : row_class place ≡ row_class x
-  pub over : IsOver (At place) m us
-
--- so it is with each
-pub read_on : (m : ℕ) → AllRows m → (k : SyntaxKind) (d n : ℕ) (x : Place) (s : Spot) (b : Sketch) (us : List Token) (f : Sketch) (es : List Fault) (e : ℕ) → Short m k d n (At x) s b us f es → IsOver s e us
-    → ReadOn k d n x b us f es e
-read_on m rows k d n x s b us f es e h o = by (whole_at s o.0)
-  where
-    by : EndsAt s → ReadOn k d n x b us f es e
-    by w = record {
-      place = w.place;
-      row = rows k d n x w.place b us f es (subst (λ (v : Spot). Short m k d n (At x) v b us f es) w.is h);
-      home = subst (λ (v : Spot). IsInClass (row_class x) v) w.is (class_reads (row_class x) h.reads refl);
-      over = subst (λ (v : Spot). IsOver v e us) w.is o;
-    }
-
-opener_start : (k i : SyntaxKind) (z : Place) → ◌≡◌ {A = Option (SyntaxKind × Place)} (opener k) (Some (i, z)) → start k ≡ Start k
-opener_start NODE_INHERIT i z o = refl
-opener_start NODE_INHERIT_FROM i z o = refl
-opener_start NODE_INTERPOL i z o = refl
-opener_start NODE_DYNAMIC i z o = refl
-opener_start NODE_STRING i z o = refl
-opener_start _ i z o = no_opener i z o
-
-opener_plain : (k i : SyntaxKind) (z : Place) → ◌≡◌ {A = Option (SyntaxKind × Place)} (opener k) (Some (i, z)) → is_error k ≡ false
-opener_plain NODE_INHERIT i z o = refl
-opener_plain NODE_INHERIT_FROM i z o = refl
-opener_plain NODE_INTERPOL i z o = refl
-opener_plain NODE_DYNAMIC i z o = refl
-opener_plain NODE_STRING i z o = refl
-opener_plain _ i z o = no_opener i z o
-
-opener_at : (v i : SyntaxKind) (w z : Place) → ◌≡◌ {A = Option (SyntaxKind × Place)} (Some (v, w)) (Some (i, z)) → row_class z ≡ row_class w
-opener_at v i w z o = ap (λ (r : SyntaxKind × Place). row_class r.1) (sym (some_same {A = SyntaxKind × Place} (v, w) (i, z) o))
-
-opener_realm : (k i : SyntaxKind) (z : Place) → ◌≡◌ {A = Option (SyntaxKind × Place)} (opener k) (Some (i, z)) → row_class z ≡ class_of_kind k
-opener_realm NODE_INHERIT i z o = opener_at _ i _ z o
-opener_realm NODE_INHERIT_FROM i z o = opener_at _ i _ z o
-opener_realm NODE_INTERPOL i z o = opener_at _ i _ z o
-opener_realm NODE_DYNAMIC i z o = opener_at _ i _ z o
-opener_realm NODE_STRING i z o = opener_at _ i _ z o
-opener_realm _ i z o = no_opener i z o
+use Rattle.rnix_lemmas.proofs.Basics.{true_is_not_false}
+use Rattle.rnix_lemmas.proofs.EveryKind.{only, only_both}
+use Rattle.rnix_lemmas.proofs.NodeKinds.{told_plain, fits_expression}
+use Rattle.rnix_lemmas.proofs.RowKinds.{has_row}
+use Rattle.rnix_uniqueness.proofs.ReadingHeights.{Short, AllRows, Trees, Front, by_leaf, by_stray, by_node, front_of, short_to}
+use Rattle.rnix_uniqueness.proofs.RowClasses.{class_of, row_class, read_on}
+use Rattle.rnix_uniqueness.proofs.RowEnds.{is_inner}
+use Rattle.rnix_uniqueness.proofs.FirstItems.{row_of_kind, item_next, name_item, name_next}
+use Rattle.rnix_uniqueness.proofs.OperatorRows.{unreported}
+use Rattle.rnix_uniqueness.proofs.PlacedNodes.{IsOpener, NodeRead, operand, begins, opens, name, binds, entry}
+use Rattle.rnix_uniqueness.proofs.RowTrees.{ReadsOne, one_operand, one_begun, one_opened, one_named, one_entry}
 
 -- what is to be shown of a node at a place
 abbrev InnerOne : SyntaxKind → ℕ → ℕ → Place → Place → Sketch → List Token → SyntaxKind → List Fault → Sketch → Type 0
@@ -91,109 +37,114 @@ InnerOne q d n x z b vs k ds c = ReadsOne q d n x z b (tokens_in c) vs (one_bran
 abbrev DoneBefore : Place → ℕ → List Token → Action → Sketch → Type 0
 DoneBefore x n vs act c = done_at (slot_at x) x (head_kind (tokens_in c ++ vs)) (touches n (tokens_in c ++ vs)) ≡ act
 
-inner_from : (m : ℕ) → AllRows m → (q : SyntaxKind) (d n : ℕ) (x z w : Place) (b : Sketch) (k i : SyntaxKind) (c : Sketch) (vs : List Token) (ds : List Fault) (s : Spot)
-    → Opened m k i w d n s vs c ds → IsOver s (end_from n (tokens_in c)) vs → is_error k ≡ false → row_class w ≡ class_of_kind k
-    → ((t : Token) → t.kind ≡ i → (f : Sketch) → c ≡ token i t f → DoneBefore x n vs (a.Open k w z) (token i t f)) → InnerOne q d n x z b vs k ds c
-inner_from m rows q d n x z w b k i c vs ds s o over plain home act =
-    subst (λ (v : Sketch). InnerOne q d n x z b vs k ds v) (sym o.is)
-    (by (read_on m rows k d o.item.end w s (one_token i o.item) vs o.more ds (end_from o.item.end (tokens_in o.more)) o.rest
-    (subst (λ (v : Sketch). IsOver s (end_from n (tokens_in v)) vs) o.is over)))
-  where
-    same : o.item.kind ≡ i
-    same = sym (told_plain k o.item.kind plain) ∙ sym o.told
+-- what is done before a node's items, by the first
+abbrev DoneBy : Place → ℕ → List Token → (SyntaxKind → Type 0) → Action → Sketch → Type 0
+DoneBy x n vs P act c = (j : SyntaxKind) → head_kind (tokens_in c ++ vs) ≡ Some j → P j → DoneBefore x n vs act c
 
-    by : ReadOn k d o.item.end w (one_token i o.item) vs o.more ds (end_from o.item.end (tokens_in o.more)) → InnerOne q d n x z b vs k ds (token i o.item o.more)
-    by r = one_opened q d n x z w r.place b k i o.item o.more vs ds (act o.item same o.more o.is) o.told r.row (r.home ∙ home) r.over
+-- a node that begins with an item and goes on at a place
+inner_item : (m : ℕ) → AllRows m → (q : SyntaxKind) (d n : ℕ) (x y z : Place) (b : Sketch) (k : SyntaxKind) (t : Token) (f : Sketch) (vs : List Token) (ds : List Fault) (s : Spot)
+    → Short m k d t.end (At z) s (one_token (told k t) t) vs f ds → IsOver s (end_from t.end (tokens_in f)) vs → row_class z ≡ class_of (Some k)
+    → is_inner k ≡ true
+    → DoneBefore x n vs (a.Open k z y) (token (told k t) t f) → InnerOne q d n x y b vs k ds (token (told k t) t f)
+inner_item m rows q d n x y z b k t f vs ds s r over c i act =
+    one_opened q d n x y z b k t f vs ds act (read_on m rows k d t.end z s (one_token (told k t) t) vs f ds r over) c i
 
-inner_opens : (m : ℕ) → AllRows m → (q : SyntaxKind) (d n : ℕ) (x z w : Place) (b : Sketch) (k i : SyntaxKind) (c : Sketch) (vs : List Token) (ds : List Fault) (s : Spot)
-    → ◌≡◌ {A = Option (SyntaxKind × Place)} (opener k) (Some (i, w)) → Short m k d n (start k) s blank vs c ds → IsOver s (end_from n (tokens_in c)) vs
-    → (head_kind (tokens_in c ++ vs) ≡ Some i → DoneBefore x n vs (a.Open k w z) c) → InnerOne q d n x z b vs k ds c
-inner_opens m rows q d n x z w b k i c vs ds s o short over act =
-    inner_from m rows q d n x z w b k i c vs ds s
-    (opened_by m k i w d n s vs o over.0
-    (fronted m k d n (Start k) s vs c ds (subst (λ (v : Spot). Short m k d n v s blank vs c ds) (opener_start k i w o) short) refl over.0))
-    over (opener_plain k i w o) (opener_realm k i w o)
-    (λ t e f j. subst (λ (v : Sketch). head_kind (tokens_in v ++ vs) ≡ Some i → DoneBefore x n vs (a.Open k w z) v) j act (ap (λ v. Some v) e))
+-- a node that one token opens
+inner_opens : (m : ℕ) → AllRows m → (q : SyntaxKind) (d n : ℕ) (x y z : Place) (b : Sketch) (k i : SyntaxKind) (c : Sketch) (vs : List Token) (ds : List Fault) (s : Spot) → IsOpener k i z
+    → Short m k d n (start k) s blank vs c ds → IsOver s (end_from n (tokens_in c)) vs → (head_kind (tokens_in c ++ vs) ≡ Some i
+    → DoneBefore x n vs (a.Open k z y) c) → InnerOne q d n x y b vs k ds c
+inner_opens m rows q d n x y z b k i c vs ds s h r over act =
+    let w = item_next h.1 (front_of h.0 r refl over.0) in
+    let e : told k w.item ≡ i = only (λ j. live (first k j)) i h.2 (told k w.item) w.alive in
+    subst (λ (v : Sketch). IsOver s (end_from n (tokens_in v)) vs → (head_kind (tokens_in v ++ vs) ≡ Some i → DoneBefore x n vs (a.Open k z y) v)
+    → InnerOne q d n x y b vs k ds v) (sym w.is)
+    (λ over act. inner_item m rows q d n x y z b k w.item w.more vs ds s (short_to (ap (first k) e ∙ h.3) refl refl w.rest) over h.4 h.5
+    (act (ap (λ j. Some j) (sym (told_plain k w.item.kind h.6) ∙ e)))) over act
 
-inner_binds : (m : ℕ) → AllRows m → (q : SyntaxKind) (d n : ℕ) (x z : Place) (b c : Sketch) (vs : List Token) (ds : List Fault) (s : Spot)
-    → Short m NODE_PAT_BIND d n (Start NODE_PAT_BIND) s blank vs c ds → IsOver s (end_from n (tokens_in c)) vs
-    → ((j : SyntaxKind) → head_kind (tokens_in c ++ vs) ≡ Some j → (j ≡ TOKEN_AT) × DoneBefore x n vs (a.Open NODE_PAT_BIND p.BindName z) c) → InnerOne q d n x z b vs NODE_PAT_BIND ds c
-inner_binds m rows q d n x z b c vs ds s short over act =
-    inner_from m rows q d n x z p.BindName b NODE_PAT_BIND TOKEN_AT c vs ds s
-    (bound_by m d n s vs over.0 (λ j e. (act j e).0) (fronted m NODE_PAT_BIND d n (Start NODE_PAT_BIND) s vs c ds short refl over.0))
-    over refl refl
-    (λ t e f j. (subst (λ (v : Sketch). (j : SyntaxKind) → head_kind (tokens_in v ++ vs) ≡ Some j → (j ≡ TOKEN_AT) × DoneBefore x n vs (a.Open NODE_PAT_BIND p.BindName z) v) j act t.kind refl).1)
+-- a kind that a name has is told as one
+wanted_name : (k : SyntaxKind) → told_as NODE_IDENT k ≡ TOKEN_IDENT → is_wanted u.Attr k ≡ true
+wanted_name TOKEN_IDENT h = refl
+wanted_name _ h = cc
 
-inner_begins : (m : ℕ) → AllRows m → (q : SyntaxKind) (d n : ℕ) (x z w : Place) (b : Sketch) (k : SyntaxKind) (c : Sketch) (vs : List Token) (ds : List Fault) (s : Spot)
-    → Short m k d n (At w) s blank vs c ds → IsOver s (end_from n (tokens_in c)) vs → row_class w ≡ class_of_kind k → DoneBefore x n vs (a.Begin k w z) c → InnerOne q d n x z b vs k ds c
-inner_begins m rows q d n x z w b k c vs ds s short over home act = by (read_on m rows k d n w s blank vs c ds (end_from n (tokens_in c)) short over)
-  where
-    by : ReadOn k d n w blank vs c ds (end_from n (tokens_in c)) → InnerOne q d n x z b vs k ds c
-    by r = one_begun q d n x z w r.place b k c vs ds act r.row (r.home ∙ home) r.over
+-- a name is no `@`
+clash : (k : SyntaxKind) → told_as NODE_IDENT k ≡ TOKEN_IDENT → k ≡ TOKEN_AT → ⊥
+clash TOKEN_AT h e = cc
+clash _ h e = cc
 
-inner_name : (m : ℕ) (q : SyntaxKind) (d n : ℕ) (x z : Place) (b c : Sketch) (vs : List Token) (ds : List Fault) (s : Spot)
-    → Short m NODE_IDENT d n (Start NODE_IDENT) s blank vs c ds → IsOver s (end_from n (tokens_in c)) vs
-    → ((j : SyntaxKind) → head_kind (tokens_in c ++ vs) ≡ Some j → is_wanted u.Attr j ≡ true → DoneBefore x n vs (a.Leaf NODE_IDENT z) c) → InnerOne q d n x z b vs NODE_IDENT ds c
-inner_name m q d n x z b c vs ds s short over act = by (named_by m d n s vs over.0 (fronted m NODE_IDENT d n (Start NODE_IDENT) s vs c ds short refl over.0))
-  where
-    by : Named n c ds → InnerOne q d n x z b vs NODE_IDENT ds c
-    by o =
-        subst (λ (v : List Fault). InnerOne q d n x z b vs NODE_IDENT v c) (sym o.none)
-        (subst (λ (v : Sketch). InnerOne q d n x z b vs NODE_IDENT [] v) (sym o.is)
-        (one_named q d n x z b TOKEN_IDENT o.item vs
-        (subst (λ (v : Sketch). (j : SyntaxKind) → head_kind (tokens_in v ++ vs) ≡ Some j → is_wanted u.Attr j ≡ true → DoneBefore x n vs (a.Leaf NODE_IDENT z) v) o.is act o.item.kind refl o.wanted) o.told))
+-- the name that a pattern is bound to behind it
+inner_binds : (m : ℕ) → AllRows m → (q : SyntaxKind) (d n : ℕ) (x y : Place) (b : Sketch) (vs : List Token) (s : Spot) {c : Sketch} {ds : List Fault}
+    → Front m NODE_PAT_BIND d n (Start NODE_PAT_BIND) s blank vs c ds → IsOver s (end_from n (tokens_in c)) vs
+    → ((j : SyntaxKind) → head_kind (tokens_in c ++ vs) ≡ Some j → (j ≡ TOKEN_AT) × DoneBefore x n vs (a.Open NODE_PAT_BIND p.BindName y) c)
+    → InnerOne q d n x y b vs NODE_PAT_BIND ds c
+inner_binds m rows q d n x y b vs s (by_leaf {k = j} {t = t} {f = f} {es = es} e w l r) over act =
+    let v = act t.kind refl in
+    subst (λ (i : SyntaxKind). Short m NODE_PAT_BIND d t.end (first NODE_PAT_BIND i) s (one_token i t) vs f es
+    → InnerOne q d n x y b vs NODE_PAT_BIND es (token i t f)) (sym e)
+    (λ r. inner_item m rows q d n x y p.BindName b NODE_PAT_BIND t f vs es s (short_to (ap (first NODE_PAT_BIND) v.0) refl refl r) over refl refl v.1) r
+inner_binds m rows q d n x y b vs s (by_stray o w v l r) over act = absurd (true_is_not_false (sym l))
+inner_binds m rows q d n x y b vs s (by_node {k = j} {c = c} {f = f} r v o w i l r') over act =
+    let w = name_next {q = Start NODE_PAT_BIND} {b = blank} j (only_both (λ i. live (first NODE_PAT_BIND i)) has_row NODE_IDENT refl j l (row_of_kind r v.0)) r v.0 r' in
+    absurd (clash w.item.kind w.kind (act w.item.kind (ap (λ g. head_kind (tokens_in g ++ vs)) w.is)).0)
 
-inner_entry : (m : ℕ) → AllRows m → (q : SyntaxKind) (d n : ℕ) (x z : Place) (b c : Sketch) (vs : List Token) (ds : List Fault) (s : Spot)
-    → Short m NODE_PAT_ENTRY d n (Start NODE_PAT_ENTRY) s blank vs c ds → IsOver s (end_from n (tokens_in c)) vs
-    → ((j : SyntaxKind) → head_kind (tokens_in c ++ vs) ≡ Some j → is_node j ≡ false)
-    → ((j : SyntaxKind) → head_kind (tokens_in c ++ vs) ≡ Some j → is_wanted u.Attr j ≡ true → DoneBefore x n vs (a.Entry z) c) → InnerOne q d n x z b vs NODE_PAT_ENTRY ds c
-inner_entry m rows q d n x z b c vs ds s short over leaf act = by (entered_by m d n s vs over.0 leaf (fronted m NODE_PAT_ENTRY d n (Start NODE_PAT_ENTRY) s vs c ds short refl over.0))
-  where
-    by : Entered m d n s vs c ds → InnerOne q d n x z b vs NODE_PAT_ENTRY ds c
-    by o =
-        subst (λ (v : Sketch). InnerOne q d n x z b vs NODE_PAT_ENTRY ds v) (sym o.is)
-        (on (read_on m rows NODE_PAT_ENTRY d o.item.end p.EntryMore s (one_branch NODE_IDENT (one_token TOKEN_IDENT o.item)) vs o.more ds (end_from o.item.end (tokens_in o.more)) o.rest
-        (subst (λ (v : Sketch). IsOver s (end_from n (tokens_in v)) vs) o.is over)))
-      where
-        on : ReadOn NODE_PAT_ENTRY d o.item.end p.EntryMore (one_branch NODE_IDENT (one_token TOKEN_IDENT o.item)) vs o.more ds (end_from o.item.end (tokens_in o.more))
-            → InnerOne q d n x z b vs NODE_PAT_ENTRY ds (branch NODE_IDENT (one_token TOKEN_IDENT o.item) o.more)
-        on r =
-            one_entry q d n x z r.place b TOKEN_IDENT o.item o.more vs ds
-            (subst (λ (v : Sketch). (j : SyntaxKind) → head_kind (tokens_in v ++ vs) ≡ Some j → is_wanted u.Attr j ≡ true → DoneBefore x n vs (a.Entry z) v) o.is act o.item.kind refl o.wanted)
-            o.told r.row r.home r.over
+-- a node that begins at a place
+inner_begins : (m : ℕ) → AllRows m → (q : SyntaxKind) (d n : ℕ) (x y z : Place) (b : Sketch) (k : SyntaxKind) (c : Sketch) (vs : List Token) (ds : List Fault) (s : Spot)
+    → Short m k d n (At z) s blank vs c ds → IsOver s (end_from n (tokens_in c)) vs → row_class z ≡ class_of (Some k) → is_inner k ≡ true
+    → DoneBefore x n vs (a.Begin k z y) c → InnerOne q d n x y b vs k ds c
+inner_begins m rows q d n x y z b k c vs ds s r over h i act = one_begun q d n x y z b k c vs ds act (read_on m rows k d n z s blank vs c ds r over) h i
 
-no_repeats : (k : SyntaxKind) (b c : Sketch) → is_expression k ≡ true → repeats k b c ≡ []
-no_repeats NODE_PAT_ENTRY b c h = absurd (true_is_not_false (sym h))
-no_repeats _ b c h = refl
+-- a name
+inner_name : (m : ℕ) (q : SyntaxKind) (d n : ℕ) (x y : Place) (b c : Sketch) (vs : List Token) (ds : List Fault) (s : Spot)
+    → Short m NODE_IDENT d n (Start NODE_IDENT) s blank vs c ds → whole s ≡ true
+    → DoneBy x n vs (λ j. is_wanted u.Attr j ≡ true) (a.Leaf NODE_IDENT y) c → InnerOne q d n x y b vs NODE_IDENT ds c
+inner_name m q d n x y b c vs ds s r o act =
+    let w = name_item r o in
+    subst (λ (v : List Fault). InnerOne q d n x y b vs NODE_IDENT v c) (sym w.3)
+    (subst (λ (v : Sketch). DoneBy x n vs (λ j. is_wanted u.Attr j ≡ true) (a.Leaf NODE_IDENT y) v → InnerOne q d n x y b vs NODE_IDENT [] v) (sym w.1)
+    (λ act. one_named q d n x y b w.0 vs (act w.0.kind refl (wanted_name w.0.kind w.2))) act)
 
-inner_operand : (m : ℕ) → Trees m → (q : SyntaxKind) (d n level : ℕ) (x z : Place) (b : Sketch) (k : SyntaxKind) (c : Sketch) (vs : List Token) (ds : List Fault) (s : Spot)
-    → Short m k (deeper (At x) d) n (start k) s blank vs c ds → IsOver s (end_from n (tokens_in c)) vs → fits level k ≡ true → DoneBefore x n vs (a.Read level (is_counted (slot_at x)) z) c
-    → IsRoom (At x) d → IsOperand (Some level) (one_branch k c) vs → InnerOne q d n x z b vs k ds c
-inner_operand m trees q d n level x z b k c vs ds s short over fit act room op =
-    let fits_all : is_expression k ≡ true = fits_expression level k fit in
-    subst (λ (v : List Fault). ReadsOne q d n x z b (tokens_in c) vs (one_branch k c) v) (sym (ap (λ v. ds ++ v) (no_repeats k b c fits_all) ∙ append-nil ds))
-    (subst (λ (v : List Token). ReadsOne q d n x z b v vs (one_branch k c) ds) (append-nil (tokens_in c))
-    (one_operand q d n level x z b (one_branch k c) vs ds
-    (subst (λ (v : List Token). done_at (slot_at x) x (head_kind (v ++ vs)) (touches n (v ++ vs)) ≡ a.Read level (is_counted (slot_at x)) z) (sym (append-nil (tokens_in c))) act)
-    room op (trees k (deeper (At x) d) n s vs c ds short over fits_all)))
+-- an entry of a pattern
+inner_entry : (m : ℕ) → AllRows m → (q : SyntaxKind) (d n : ℕ) (x y : Place) (b : Sketch) (vs : List Token) (s : Spot) {c : Sketch} {ds : List Fault}
+    → Front m NODE_PAT_ENTRY d n (Start NODE_PAT_ENTRY) s blank vs c ds → IsOver s (end_from n (tokens_in c)) vs
+    → ((j : SyntaxKind) → head_kind (tokens_in c ++ vs) ≡ Some j → is_wanted u.Entry j ≡ true)
+    → DoneBy x n vs (λ j. is_wanted u.Attr j ≡ true) (a.Entry y) c → InnerOne q d n x y b vs NODE_PAT_ENTRY ds c
+inner_entry m rows q d n x y b vs s (by_leaf {k = j} {t = t} e w l r) over own act =
+    absurd (true_is_not_false (sym (own t.kind refl) ∙ ap (is_wanted u.Entry) (sym e ∙ only (λ i. live (first NODE_PAT_ENTRY i)) NODE_IDENT refl j l)))
+inner_entry m rows q d n x y b vs s (by_stray o w v l r) over own act = absurd (true_is_not_false (sym l))
+inner_entry m rows q d n x y b vs s {ds = fs} (by_node {k = j} {c = c} {f = f} r v o w i l r') over own act =
+    let t = name_next {q = Start NODE_PAT_ENTRY} j (only (λ i. live (first NODE_PAT_ENTRY i)) NODE_IDENT refl j l) r v.0 r' in
+    subst (λ (g : Sketch). IsOver s (end_from n (tokens_in g)) vs → DoneBy x n vs (λ j. is_wanted u.Attr j ≡ true) (a.Entry y) g
+    → InnerOne q d n x y b vs NODE_PAT_ENTRY fs g) (sym t.is)
+    (λ over act. one_entry q d n x y b t.item t.more vs fs (act t.item.kind refl (wanted_name t.item.kind t.kind))
+    (read_on m rows NODE_PAT_ENTRY d t.item.end p.EntryMore s (one_branch NODE_IDENT (one_token (told NODE_IDENT t.item) t.item)) vs t.more fs t.rest over)) over act
+
+-- an operand
+inner_operand : (m : ℕ) → Trees m → (q : SyntaxKind) (d n level : ℕ) (x y : Place) (b : Sketch) (k : SyntaxKind) (c : Sketch) (vs : List Token) (ds : List Fault) (s : Spot)
+    → Short m k (deeper (At x) d) n (start k) s blank vs c ds → IsOver s (end_from n (tokens_in c)) vs → fits level k ≡ true
+    → DoneBefore x n vs (a.Read level (is_counted (slot_at x)) y) c
+    → IsRoom (At x) d → IsOperand (Some level) (one_branch k c) vs → InnerOne q d n x y b vs k ds c
+inner_operand m trees q d n level x y b k c vs ds s r over fit act room op =
+    let e : is_expression k ≡ true = fits_expression level k fit in
+    subst (λ (v : List Fault). ReadsOne q d n x y b (tokens_in c) vs (one_branch k c) v) (sym (ap (λ v. ds ++ v) (unreported k b c e) ∙ append-nil ds))
+    (one_operand q d n level x y b (tokens_in c) (one_branch k c) vs ds act room op.0 (subst (λ (v : List Token). IsBegun level (one_branch k c) (v ++ vs)) (append-nil (tokens_in c)) op.1) op.2
+    (trees k (deeper (At x) d) n s vs c ds r over e))
 
 -- a node that stands at a place is read there
-pub inner_one : (m : ℕ) → AllRows m → Trees m → (q : SyntaxKind) (d n : ℕ) (x z : Place) (b : Sketch) (k : SyntaxKind) (c : Sketch) (vs : List Token) (ds : List Fault) (s : Spot)
-    → Short m k (deeper (At x) d) n (start k) s blank vs c ds → IsOver s (end_from n (tokens_in c)) vs → IsRoom (At x) d → IsOperand (level_in (slot_at x)) (one_branch k c) vs
-    → NodeRead (slot_at x) x z (touches n (tokens_in c ++ vs)) (head_kind (tokens_in c ++ vs)) k → ReadsOne q d n x z b (tokens_in c) vs (one_branch k c) (ds ++ repeats k b c)
-inner_one m rows trees q d n x z b k c vs ds s short over room op way = by way short op
+pub inner_one : (m : ℕ) → AllRows m → Trees m → (q : SyntaxKind) (d n : ℕ) (x y : Place) (b : Sketch) (k : SyntaxKind) (c : Sketch) (vs : List Token) (ds : List Fault) (s : Spot)
+    → Short m k (deeper (At x) d) n (start k) s blank vs c ds → IsOver s (end_from n (tokens_in c)) vs → IsRoom (At x) d
+    → IsOperand (level_in (slot_at x)) (one_branch k c) vs
+    → NodeRead (slot_at x) x y (touches n (tokens_in c ++ vs)) (head_kind (tokens_in c ++ vs)) k
+    → ReadsOne q d n x y b (tokens_in c) vs (one_branch k c) (ds ++ repeats k b c)
+inner_one m rows trees q d n x y b k c vs ds s short over room op way = by way short op
   where
     flat : (j : SyntaxKind) → is_counted (slot_at x) ≡ false → Short m j (deeper (At x) d) n (start j) s blank vs c ds → Short m j d n (start j) s blank vs c ds
     flat j e h = subst (λ (v : ℕ). Short m j v n (start j) s blank vs c ds) (ap (λ w. if w then suc d else d) e) h
 
-    by : {j : SyntaxKind} → NodeRead (slot_at x) x z (touches n (tokens_in c ++ vs)) (head_kind (tokens_in c ++ vs)) j → Short m j (deeper (At x) d) n (start j) s blank vs c ds
-        → IsOperand (level_in (slot_at x)) (one_branch j c) vs → InnerOne q d n x z b vs j ds c
-    by {j = j} (none e) h o = absurd (no_token_row m j (deeper (At x) d) n s vs c ds e h over.0)
-    by {j = j} (operand level e fit act) h o =
-        inner_operand m trees q d n level x z b j c vs ds s h over fit act room (subst (λ (v : Option ℕ). IsOperand v (one_branch j c) vs) e o)
-    by (path e act) h o = inner_begins m rows q d n x z p.AttrpathStart b NODE_ATTRPATH c vs ds s (flat NODE_ATTRPATH e h) over refl act
-    by (binding e act) h o = inner_begins m rows q d n x z p.ValuePath b NODE_ATTRPATH_VALUE c vs ds s (flat NODE_ATTRPATH_VALUE e h) over refl act
-    by {j = j} (opens i w g e act) h o = inner_opens m rows q d n x z w b j i c vs ds s g (flat j e h) over act
-    by (name e act) h o = inner_name m q d n x z b c vs ds s (flat NODE_IDENT e h) over act
-    by (binds e act) h o = inner_binds m rows q d n x z b c vs ds s (flat NODE_PAT_BIND e h) over act
-    by (entry e leaf act) h o = inner_entry m rows q d n x z b c vs ds s (flat NODE_PAT_ENTRY e h) over leaf act
+    by : {j : SyntaxKind} → NodeRead (slot_at x) x y (touches n (tokens_in c ++ vs)) (head_kind (tokens_in c ++ vs)) j
+        → Short m j (deeper (At x) d) n (start j) s blank vs c ds
+        → IsOperand (level_in (slot_at x)) (one_branch j c) vs → InnerOne q d n x y b vs j ds c
+    by {j = j} (operand w) h o = inner_operand m trees q d n w.level x y b j c vs ds s h over w.fit w.act room (subst (λ (v : Option ℕ). IsOperand v (one_branch j c) vs) w.is o)
+    by {j = j} (begins z g r i e act) h o = inner_begins m rows q d n x y z b j c vs ds s (short_to g refl refl (flat j e h)) over r i act
+    by {j = j} (opens i z g e act) h o = inner_opens m rows q d n x y z b j i c vs ds s g (flat j e h) over act
+    by (name e act) h o = inner_name m q d n x y b c vs ds s (flat NODE_IDENT e h) over.0 act
+    by (binds e act) h o = inner_binds m rows q d n x y b vs s (front_of refl (flat NODE_PAT_BIND e h) refl over.0) over act
+    by (entry e own act) h o = inner_entry m rows q d n x y b vs s (front_of refl (flat NODE_PAT_ENTRY e h) refl over.0) over own act

@@ -1,85 +1,111 @@
--- Expressions that begin with an item, by how their rows are read.
-use Rattle.std.proofs.Common.{◌≡◌, ℕ, true, false, List, [], ◌++◌, refl, sym, ◌∙◌, subst}
+-- Expressions that begin with an item are read as operands, if smaller rows are read.
+use Rattle.std.proofs.Common.{◌≡◌, ℕ, true, false, List, [], ◌∷◌, ◌++◌, Some, refl, ap, sym, ◌∙◌, subst, append-nil}
+use Rattle.rnix_kinds.proofs.AllKinds.{implied}
 use Rattle.rnix_kinds.specs.declared.kinds.SyntaxKind.{SyntaxKind}
-use Rattle.rnix_kinds.specs.declared.kinds.SyntaxKind.TheVariants.{TOKEN_LET, TOKEN_L_BRACE, NODE_LEGACY_LET}
+use Rattle.rnix_kinds.specs.declared.kinds.SyntaxKind.TheVariants.{TOKEN_L_BRACE, TOKEN_LET, NODE_ERROR, NODE_LEGACY_LET}
 use Rattle.rnix_grammar.specs.declared.place.Place.TheVariants as p
 use Rattle.rnix_grammar.specs.Fault.{Fault}
-use Rattle.rnix_grammar.specs.Sketch.{Token, Sketch, blank, token, one_token, one_branch, tokens_in, end_from}
+use Rattle.rnix_grammar.specs.Begins.{begin_of, second_kind}
+use Rattle.rnix_grammar.specs.Sketch.{Token, Stray, Sketch, blank, token, ◌⊕◌, one_token, one_branch, one_fault, row_of, tokens_in, told, head_kind, end_from}
+use Rattle.rnix_grammar.specs.Reports.{report}
+use Rattle.rnix_grammar.specs.Machine.{Operand, Frame, machine, opened, begun, rest as here}
 use Rattle.rnix_grammar.specs.Rows.{Spot, Start, BeforeBrace, At, first, go, live}
 use Rattle.rnix_grammar.specs.Reads.{IsOver}
-use Rattle.rnix_lemmas.proofs.Basics.{true_is_not_false}
-use Rattle.rnix_lemmas.proofs.NodeKinds.{told_plain}
-use Rattle.rnix_lemmas.proofs.RowKinds.{has_row}
-use Rattle.rnix_uniqueness.proofs.StepReads.{ReadsTree}
-use Rattle.rnix_uniqueness.proofs.ReadingHeights.{Short, Rows, Front, by_leaf, by_stray, by_node}
-use Rattle.rnix_uniqueness.proofs.RowCloses.{IsCommon, ends_common, EndsAt, whole_at}
-use Rattle.rnix_uniqueness.proofs.OperandBegins.{is_leafed, is_opened}
-use Rattle.rnix_uniqueness.proofs.ItemOperands.{opened_sound, tree_opened, tree_leafed, tree_legacy}
-use Rattle.rnix_uniqueness.proofs.NodeRows.{front_of, short_from, no_row, Onward, onward, led_first, led_stray, opened_common, opened_led, IsItem, is_item}
+use Rattle.rnix_lemmas.proofs.EveryKind.{alike, only}
+use Rattle.rnix_lemmas.proofs.FollowLemmas.{FollowedTo, atom_tight, followed_atom, followed_loose}
+use Rattle.rnix_uniqueness.proofs.Runs.{runs_to, runs_from}
+use Rattle.rnix_uniqueness.proofs.StepReads.{IsOperandRead, ReadsTree}
+use Rattle.rnix_uniqueness.proofs.ReadingHeights.{Short, AllRows, Front, front_of, short_to}
+use Rattle.rnix_uniqueness.proofs.RowClasses.{class_of, read_on}
+use Rattle.rnix_uniqueness.proofs.RowEnds.{operand_read}
+use Rattle.rnix_uniqueness.proofs.FirstItems.{is_bare, item_next, past_ends}
+use Rattle.rnix_uniqueness.proofs.OperandBegins.{is_led, LedBy, by_leaf, by_node, begins_led, begins_special, followed_led}
 
--- a node of one item is read
-pub leafed_reads : (m : ℕ) (k : SyntaxKind) (d n : ℕ) (s : Spot) (us : List Token) (c : Sketch) (es : List Fault) → is_leafed k ≡ true → Front m k d n (Start k) s blank us c es → ReadsTree d n (one_branch k c) us es
-leafed_reads m k d n s us c es h r = by (is_item m k d n s us c es h r)
+-- an item that begins no operand
+pub stray_reads : (t : Token) (d n : ℕ) (us : List Token) → ReadsTree d n (t ∷ []) (one_fault Stray (row_of (t ∷ []))) us (report Stray (t ∷ []) ∷ [])
+stray_reads t d n us level F fs gs low begins = record {
+  high = 16;
+  followed = followed_atom (one_fault Stray (row_of (t ∷ []))) refl refl;
+  runs = runs_from (ap (λ z. begun false z level d t F fs (t ∷ us) n gs) (begins_special NODE_ERROR refl level t us begins).0) here;
+}
+
+-- an expression that begins with an item
+led_item : (m : ℕ) → AllRows m → (k : SyntaxKind) (d n : ℕ) (s : Spot) (us : List Token) (t : Token) (f : Sketch) (es : List Fault)
+    → is_led k ≡ true → class_of (Some k) ≡ 0
+    → Short m k d t.end (first k (told k t)) s (one_token (told k t) t) us f es → IsOver s (end_from t.end (tokens_in f)) us
+    → ReadsTree d n (t ∷ tokens_in f) (one_branch k (token (told k t) t f)) us es
+led_item m rows k d n s us t f es h q r o level F fs gs low begins = by (begins_led k h level t ts (token (told k t) t f) begins)
   where
-    by : IsItem k c es → ReadsTree d n (one_branch k c) us es
-    by w = subst (λ (z : List Fault). ReadsTree d n (one_branch k c) us z) (sym w.faults) (subst (λ (z : Sketch). ReadsTree d n (one_branch k z) us []) (sym w.is) (tree_leafed k w.item d n us h))
+    ts : List Token
+    ts = tokens_in f ++ us
 
--- so is one that begins with an item and goes on at a place
-pub opened_reads : (m : ℕ) → Rows m → (k : SyntaxKind) (d n : ℕ) (s : Spot) (us : List Token) (c : Sketch) (es : List Fault) → is_opened k ≡ true → Front m k d n (Start k) s blank us c es
-    → IsOver s (end_from n (tokens_in c)) us → ReadsTree d n (one_branch k c) us es
-opened_reads m rows k d n s us _ _ h (by_leaf {k = j} {t = t} {f = f} {es = es} e o w l r) over =
-    subst (λ (i : SyntaxKind). Short m k d t.end (first k i) s (one_token i t) us f es → ReadsTree d n (one_branch k (token i t f)) us es) (sym (e ∙ told_plain k t.kind (opened_sound k h))) by r
-  where
-    by : Short m k d t.end (first k t.kind) s (one_token t.kind t) us f es → ReadsTree d n (one_branch k (token t.kind t f)) us es
-    by q = also (whole_at s over.0)
-      where
-        also : EndsAt s → ReadsTree d n (one_branch k (token t.kind t f)) us es
-        also x =
-            tree_opened k t f d n us es x.place h
-            (λ z g. rows k d t.end z x.place (one_token t.kind t) us f es
-            (subst (λ (v : Spot). Short m k d t.end v (At x.place) (one_token t.kind t) us f es) g (subst (λ (v : Spot). Short m k d t.end (first k t.kind) v (one_token t.kind t) us f es) x.is q)) (opened_sound k h))
-            (subst IsCommon x.is (ends_common q.reads (opened_common k t.kind h)))
-            (subst (λ (v : Spot). IsOver v (end_from t.end (tokens_in f)) us) x.is over)
-opened_reads m rows k d n s us _ _ h (by_stray o w x l r) over = absurd (true_is_not_false (sym l ∙ led_stray k (opened_led k h)))
-opened_reads m rows k d n s us _ _ h (by_node {k = j} {c = c} {f = f} {z = z} {ds = ds} r o y w x l r') over =
-    absurd (no_row m j d n z (tokens_in f ++ us) c ds (end_from n (tokens_in c)) (tokens_in f ++ us) (led_first k j (opened_led k h) l) r o)
+    row : Sketch → Frame
+    row g = opened Operand (p.Behind level 16) d (one_branch k (token (told k t) t g))
 
-let_first : (i : SyntaxKind) → live (first NODE_LEGACY_LET i) ≡ true → first NODE_LEGACY_LET i ≡ BeforeBrace
-let_first TOKEN_LET h = refl
-let_first _ h = absurd (true_is_not_false (sym h))
+    by : LedBy k t.kind (begin_of level t.kind t.text (head_kind ts) (second_kind ts))
+        → IsOperandRead level d n (t ∷ tokens_in f) (one_branch k (token (told k t) t f)) us es F fs gs
+    by (by_leaf e g a) =
+        let v = past_ends r.reads g in
+        record {
+          high = 16;
+          followed = followed_atom (one_branch k (token (told k t) t f)) (atom_tight k (token (told k t) t f) a) a;
+          runs =
+              runs_from (ap (λ z. begun false z level d t F fs (t ∷ ts) n gs) e)
+              (runs_to
+              (ap (λ z. machine (row blank ∷ (F ∷ fs)) (tokens_in z ++ us) t.end gs) v.row
+              ∙ ap (λ z. machine (row z ∷ (F ∷ fs)) us (end_from t.end (tokens_in z)) gs) (sym v.row)
+              ∙ ap (λ z. machine (row f ∷ (F ∷ fs)) us (end_from t.end (tokens_in f)) z) (sym (append-nil gs) ∙ ap (λ z. gs ++ z) (sym v.faults)))
+              here);
+        }
+    by (by_node z high e g c l) = record {
+      high = high;
+      followed = subst (λ (v : ℕ). FollowedTo v (one_branch k (token (told k t) t f))) l (followed_led k t.kind t f h);
+      runs =
+          runs_from (ap (λ v. begun false v level d t F fs (t ∷ ts) n gs) e)
+          (operand_read k d t.end z (one_token (told k t) t) us f es (read_on m rows k d t.end z s (one_token (told k t) t) us f es (short_to g refl refl r) o) c q
+          (p.Behind level high) d (F ∷ fs) gs);
+    }
 
-brace_next : (i : SyntaxKind) → live (go BeforeBrace i) ≡ true → go BeforeBrace i ≡ At p.LegacyInside
-brace_next TOKEN_L_BRACE h = refl
-brace_next _ h = absurd (true_is_not_false (sym h))
+-- no node is first in such an expression
+led_bare : (k : SyntaxKind) → is_led k ≡ true → is_bare (Start k) ≡ true
+led_bare = implied is_led (λ k. is_bare (Start k)) refl
 
-brace_row : (j : SyntaxKind) → live (go BeforeBrace j) ≡ true → has_row j ≡ false
-brace_row TOKEN_L_BRACE h = refl
-brace_row _ h = absurd (true_is_not_false (sym h))
+-- no such expression is an entry, a second name or the root
+led_class : (k : SyntaxKind) → is_led k ≡ true → class_of (Some k) ≡ 0
+led_class = alike is_led (λ k. class_of (Some k)) (λ k. 0) refl
 
--- behind `let` the row of an old `let` goes on with a brace
-brace_reads : (m : ℕ) → Rows m → (d n : ℕ) (t : Token) (s : Spot) (us : List Token) (f : Sketch) (es : List Fault) → Front m NODE_LEGACY_LET d t.end BeforeBrace s (one_token t.kind t) us f es
-    → IsOver s (end_from t.end (tokens_in f)) us → ReadsTree d n (one_branch NODE_LEGACY_LET (token t.kind t f)) us es
-brace_reads m rows d n t s us _ _ (by_leaf {k = j} {t = v} {f = f} {es = es} e o w l r) over =
-    subst (λ (i : SyntaxKind). Short m NODE_LEGACY_LET d v.end (go BeforeBrace i) s (token t.kind t (one_token i v)) us f es → live (go BeforeBrace i) ≡ true → ReadsTree d n (one_branch NODE_LEGACY_LET (token t.kind t (token i v f))) us es)
-    (sym (e ∙ told_plain NODE_LEGACY_LET v.kind refl)) by r l
-  where
-    by : Short m NODE_LEGACY_LET d v.end (go BeforeBrace v.kind) s (token t.kind t (one_token v.kind v)) us f es → live (go BeforeBrace v.kind) ≡ true
-        → ReadsTree d n (one_branch NODE_LEGACY_LET (token t.kind t (token v.kind v f))) us es
-    by q a = also (onward m rows NODE_LEGACY_LET d v.end (go BeforeBrace v.kind) s (token t.kind t (one_token v.kind v)) us f es p.LegacyInside (end_from v.end (tokens_in f)) refl q (brace_next v.kind a) refl over refl)
-      where
-        also : Onward NODE_LEGACY_LET d v.end p.LegacyInside (token t.kind t (one_token v.kind v)) us f es → ReadsTree d n (one_branch NODE_LEGACY_LET (token t.kind t (token v.kind v f))) us es
-        also x = tree_legacy t v f d n us es x.last x.row x.common x.over
-brace_reads m rows d n t s us _ _ (by_stray o w x l r) over = absurd (true_is_not_false (sym l))
-brace_reads m rows d n t s us _ _ (by_node {k = j} {c = c} {f = f} {z = z} {ds = ds} r o y w x l r') over =
-    absurd (no_row m j d t.end z (tokens_in f ++ us) c ds (end_from t.end (tokens_in c)) (tokens_in f ++ us) (brace_row j l) r o)
+-- so each is read
+pub led_reads : (m : ℕ) → AllRows m → (k : SyntaxKind) (d n : ℕ) (s : Spot) (us : List Token) (c : Sketch) (es : List Fault) → is_led k ≡ true
+    → Front m k d n (Start k) s blank us c es
+    → IsOver s (end_from n (tokens_in c)) us → ReadsTree d n (tokens_in c) (one_branch k c) us es
+led_reads m rows k d n s us c es h r o =
+    let w = item_next (led_bare k h) r in
+    subst (λ (z : Sketch). ReadsTree d n (tokens_in z) (one_branch k z) us es) (sym w.is)
+    (led_item m rows k d n s us w.item w.more es h (led_class k h) w.rest (subst (λ (z : Sketch). IsOver s (end_from n (tokens_in z)) us) w.is o))
 
 -- an old `let` is read
-pub legacy_reads : (m : ℕ) → Rows m → (d n : ℕ) (s : Spot) (us : List Token) (c : Sketch) (es : List Fault) → Front m NODE_LEGACY_LET d n (Start NODE_LEGACY_LET) s blank us c es
-    → IsOver s (end_from n (tokens_in c)) us → ReadsTree d n (one_branch NODE_LEGACY_LET c) us es
-legacy_reads m rows d n s us _ _ (by_leaf {k = j} {t = t} {f = f} {es = es} e o w l r) over =
-    subst (λ (i : SyntaxKind). Short m NODE_LEGACY_LET d t.end (first NODE_LEGACY_LET i) s (one_token i t) us f es → live (first NODE_LEGACY_LET i) ≡ true → ReadsTree d n (one_branch NODE_LEGACY_LET (token i t f)) us es)
-    (sym (e ∙ told_plain NODE_LEGACY_LET t.kind refl))
-    (λ q a. brace_reads m rows d n t s us f es (front_of (short_from (let_first t.kind a) q) refl over.0) over) r l
-legacy_reads m rows d n s us _ _ (by_stray o w x l r) over = absurd (true_is_not_false (sym l))
-legacy_reads m rows d n s us _ _ (by_node {k = j} {c = c} {f = f} {z = z} {ds = ds} r o y w x l r') over =
-    absurd (no_row m j d n z (tokens_in f ++ us) c ds (end_from n (tokens_in c)) (tokens_in f ++ us) (led_first NODE_LEGACY_LET j refl l) r o)
+legacy_item : (m : ℕ) → AllRows m → (d n : ℕ) (s : Spot) (us : List Token) (t v : Token) (f : Sketch) (es : List Fault)
+    → Short m NODE_LEGACY_LET d v.end (At p.LegacyInside) s (token t.kind t (one_token v.kind v)) us f es → IsOver s (end_from v.end (tokens_in f)) us
+    → ReadsTree d n (t ∷ (v ∷ tokens_in f)) (one_branch NODE_LEGACY_LET (token t.kind t (token v.kind v f))) us es
+legacy_item m rows d n s us t v f es r o level F fs gs low begins =
+    let ts : List Token = v ∷ (tokens_in f ++ us) in
+    let g : Sketch = token t.kind t (one_token v.kind v) in
+    record {
+      high = 0;
+      followed = followed_loose (one_branch NODE_LEGACY_LET (g ⊕ f)) refl refl;
+      runs =
+          runs_from (ap (λ z. begun false z level d t F fs (t ∷ ts) n gs) (begins_special NODE_LEGACY_LET refl level t ts begins).0)
+          (operand_read NODE_LEGACY_LET d v.end p.LegacyInside g us f es (read_on m rows NODE_LEGACY_LET d v.end p.LegacyInside s g us f es r o) refl refl (p.Behind level 0) d (F ∷ fs) gs);
+    }
+
+-- so it is by its row
+pub legacy_reads : (m : ℕ) → AllRows m → (d n : ℕ) (s : Spot) (us : List Token) (c : Sketch) (es : List Fault)
+    → Front m NODE_LEGACY_LET d n (Start NODE_LEGACY_LET) s blank us c es
+    → IsOver s (end_from n (tokens_in c)) us → ReadsTree d n (tokens_in c) (one_branch NODE_LEGACY_LET c) us es
+legacy_reads m rows d n s us c es r o =
+    let w = item_next refl r in
+    let v = item_next refl (front_of (ap (first NODE_LEGACY_LET) (only (λ j. live (first NODE_LEGACY_LET j)) TOKEN_LET refl w.item.kind w.alive)) w.rest refl o.0) in
+    let e : c ≡ token w.item.kind w.item (token v.item.kind v.item v.more) = w.is ∙ ap (λ z. token w.item.kind w.item z) v.is in
+    subst (λ (z : Sketch). ReadsTree d n (tokens_in z) (one_branch NODE_LEGACY_LET z) us es) (sym e)
+    (legacy_item m rows d n s us w.item v.item v.more es (short_to (ap (go BeforeBrace) (only (λ j. live (go BeforeBrace j)) TOKEN_L_BRACE refl v.item.kind v.alive)) refl refl v.rest)
+    (subst (λ (z : Sketch). IsOver s (end_from n (tokens_in z)) us) e o))

@@ -3,7 +3,7 @@ use Rattle.std.proofs.Common.{◌≡◌, ℕ, ◌<◌, Bool, true, false, List, 
 use Rattle.std.proofs.lemmas.Bool.Decides.{nat_tests}
 use Rattle.std.specs.Prelude.{◌||◌, if◌then◌else◌, nat_le}
 use Rattle.rnix_kinds.specs.declared.kinds.SyntaxKind.{SyntaxKind}
-use Rattle.rnix_kinds.specs.declared.kinds.SyntaxKind.TheVariants.{TOKEN_CUR_POS, TOKEN_ELLIPSIS, TOKEN_IDENT, TOKEN_INTERPOL_START, TOKEN_OR, TOKEN_R_BRACE, TOKEN_STRING_CONTENT, TOKEN_STRING_END, TOKEN_STRING_START, NODE_INHERIT_FROM}
+use Rattle.rnix_kinds.specs.declared.kinds.SyntaxKind.TheVariants.{TOKEN_IDENT, TOKEN_OR, TOKEN_STRING_END, NODE_INHERIT_FROM}
 use Rattle.rnix_grammar.specs.declared.place.Place.{Place}
 use Rattle.rnix_grammar.specs.declared.place.Place.TheVariants as p
 use Rattle.rnix_grammar.specs.declared.slot.Slot.{Slot}
@@ -23,12 +23,10 @@ use Rattle.rnix_grammar.specs.OwnItems.{begins_attr, owns_in, owns_end}
 use Rattle.rnix_lemmas.proofs.Basics.{true_is_not_false, some_same}
 
 -- what is missing is reported once
-lacks_one : (d e : Fault) (z y : Place) (x : Head) (n m : ℕ) (b : Sketch) (fs : List Frame) (gs : List Fault) → ◌≡◌ {A = Option (Fault × Place)} (Some (d, z)) (Some (e, y))
+lacks_one : (d e : Fault) (z y : Place) (x : Head) (n m : ℕ) (b : Sketch) (fs : List Frame) (gs : List Fault)
+    → ◌≡◌ {A = Option (Fault × Place)} (Some (d, z)) (Some (e, y))
     → machine (opened x z n b ∷ fs) [] m (gs ++ d ∷ []) ≡ machine (opened x y n b ∷ fs) [] m (gs ++ e ∷ [])
 lacks_one d e z y x n m b fs gs h = ap (λ (w : Fault × Place). machine (opened x w.1 n b ∷ fs) [] m (gs ++ w.0 ∷ [])) (some_same {A = Fault × Place} (d, z) (e, y) h)
-
-no_lack : {A : Type 0} (e : Fault) (y : Place) → ◌≡◌ {A = Option (Fault × Place)} None (Some (e, y)) → A
-no_lack e y h = absurd (cc)
 
 -- an operand of which nothing is left
 reads_none : (level : ℕ) (z : Place) (h : Head) (d n : ℕ) (b : Sketch) (fs : List Frame) (gs : List Fault) (w : Bool) → nat_le depth_limit d ≡ w → d < depth_limit
@@ -37,66 +35,57 @@ reads_none level z h d n b fs gs true e l = absurd (grind (arith, nat_tests, e, 
 reads_none level z h d n b fs gs false e l = refl
 
 -- where the text ends at a place, what is missing is reported
-pub lacks_in : (slot : Slot) (x y : Place) (e : Fault) (h : Head) (d n : ℕ) (b : Sketch) (fs : List Frame) (gs : List Fault) (touch : Bool) → lack_in slot ≡ Some (e, y)
+pub lacks_in : (slot : Slot) (x y : Place) (e : Fault) (h : Head) (d n : ℕ) (b : Sketch) (fs : List Frame) (gs : List Fault) (touch : Bool)
+    → lack_in slot ≡ Some (e, y)
     → (owns_end slot ≡ false → is_counted slot ≡ true → d < depth_limit)
     → perform false (done_at slot x None touch) (opened h x d b) fs [] n gs ≡ machine (opened h y d b ∷ fs) [] n (gs ++ e ∷ [])
-lacks_in (s.Token until z) x y e h d n b fs gs touch l r = lacks_one _ e z y h d n b fs gs l
-lacks_in (s.Operand level true z) x y e h d n b fs gs touch l r = reads_none level z h d n b fs gs (nat_le depth_limit d) refl (r refl refl) ∙ lacks_one _ e z y h d n b fs gs l
-lacks_in (s.Operand level false z) x y e h d n b fs gs touch l r = lacks_one _ e z y h d n b fs gs l
-lacks_in (s.Series level closer) x y e h d n b fs gs touch l r = lacks_one _ e _ y h d n b fs gs l
-lacks_in (s.Entries closer z) x y e h d n b fs gs touch l r = lacks_one _ e z y h d n b fs gs l
-lacks_in s.Pieces x y e h d n b fs gs touch l r = lacks_one _ e _ y h d n b fs gs l
-lacks_in s.Source x y e h d n b fs gs touch l r = lacks_one _ e _ y h d n b fs gs l
-lacks_in s.Names x y e h d n b fs gs touch l r = lacks_one _ e _ y h d n b fs gs l
-lacks_in (s.Attr z) x y e h d n b fs gs touch l r = lacks_one _ e z y h d n b fs gs l
-lacks_in (s.Name z) x y e h d n b fs gs touch l r = lacks_one _ e z y h d n b fs gs l
-lacks_in (s.Braces bound) x y e h d n b fs gs touch l r = lacks_one _ e _ y h d n b fs gs l
-lacks_in (s.Formals bound) x y e h d n b fs gs touch l r = lacks_one _ e _ y h d n b fs gs l
-lacks_in (s.Comma bound) x y e h d n b fs gs touch l r = lacks_one _ e _ y h d n b fs gs l
-lacks_in _ x y e h d n b fs gs touch l r = no_lack e y l
+lacks_in (s.Operand level true z) x y e h d n b fs gs touch l r = reads_none level z h d n b fs gs (nat_le depth_limit d) refl (r refl refl)
+    ∙ lacks_one _ e z y h d n b fs gs l
+lacks_in _ x y e h d n b fs gs touch l r = first_of (search, search lacks_one)
 
 -- a run is as the place says
 runs_one : (v w : Until) (z y : Place) → ◌≡◌ {A = Option (Until × Place)} (Some (v, z)) (Some (w, y)) → a.Run v z ≡ a.Run w y
 runs_one v w z y h = ap (λ (q : Until × Place). a.Run q.0 q.1) (some_same {A = Until × Place} (v, z) (w, y) h)
 
+-- where no run may stand there is none
 no_run : {A : Type 0} (e : Until) (y : Place) → ◌≡◌ {A = Option (Until × Place)} None (Some (e, y)) → A
 no_run e y h = absurd (cc)
 
+-- where an attribute is wanted, other tokens are a run
 attr_run : (x z : Place) (k : SyntaxKind) → begins_attr k ≡ false → attr_action x z (Some k) ≡ a.Run u.Attr x
-attr_run x z TOKEN_INTERPOL_START h = absurd (true_is_not_false h)
-attr_run x z TOKEN_STRING_START h = absurd (true_is_not_false h)
-attr_run x z TOKEN_IDENT h = absurd (true_is_not_false h)
 attr_run x z TOKEN_OR h = absurd (true_is_not_false h)
-attr_run x z TOKEN_CUR_POS h = absurd (true_is_not_false h)
-attr_run x z _ h = refl
+attr_run x z _ h = cc
 
+-- so where a name is
 name_run : (x z : Place) (k : SyntaxKind) → is_wanted u.Ident k ≡ false → name_action x z (Some k) ≡ a.Run u.Ident x
 name_run x z TOKEN_IDENT h = absurd (true_is_not_false h)
-name_run x z _ h = refl
+name_run x z _ h = cc
 
+-- so where an entry of a pattern is
 formals_run : (bound : Bool) (k : SyntaxKind) → is_wanted u.Entry k ≡ false → formals_action bound (Some k) ≡ a.Run u.Entry (p.PatternInside bound)
-formals_run bound TOKEN_R_BRACE h = absurd (true_is_not_false h)
-formals_run bound TOKEN_ELLIPSIS h = absurd (true_is_not_false h)
 formals_run bound TOKEN_IDENT h = absurd (true_is_not_false h)
-formals_run bound _ h = refl
+formals_run bound _ h = cc
 
+-- so in a string
 pieces_run : (x : Place) (k : SyntaxKind) → is_wanted u.Piece k ≡ false → pieces_action x (Some k) ≡ a.Run u.Piece x
 pieces_run x TOKEN_STRING_END h = absurd (true_is_not_false h)
-pieces_run x TOKEN_STRING_CONTENT h = absurd (true_is_not_false h)
-pieces_run x TOKEN_INTERPOL_START h = absurd (true_is_not_false h)
-pieces_run x _ h = refl
+pieces_run x _ h = cc
 
 -- a choice of two tests fails where both do
 pub or_parts : (v w : Bool) → (v || w) ≡ false → (v ≡ false) × (w ≡ false)
 or_parts true w h = absurd (true_is_not_false h)
 or_parts false w h = (refl, h)
 
-names_run : (x z : Place) (k : SyntaxKind) → (is_wanted u.Semicolon k || begins_attr k) ≡ false → (if is_wanted u.Semicolon k then a.Take p.Past else attr_action x z (Some k)) ≡ a.Run u.Attr x
+-- so among inherited names
+names_run : (x z : Place) (k : SyntaxKind) → (is_wanted u.Semicolon k || begins_attr k) ≡ false
+    → (if is_wanted u.Semicolon k then a.Take p.Past else attr_action x z (Some k)) ≡ a.Run u.Attr x
 names_run x z k h =
     let o = or_parts (is_wanted u.Semicolon k) (begins_attr k) h in
     ap (λ w. if w then a.Take p.Past else attr_action x z (Some k)) o.0 ∙ attr_run x z k o.1
 
-source_run : (k : SyntaxKind) → (is_l_paren k || (is_wanted u.Semicolon k || begins_attr k)) ≡ false → done_at s.Source p.InheritStart (Some k) false ≡ a.Run u.Attr p.InheritName
+-- so before them
+source_run : (k : SyntaxKind) → (is_l_paren k || (is_wanted u.Semicolon k || begins_attr k)) ≡ false
+    → done_at s.Source p.InheritStart (Some k) false ≡ a.Run u.Attr p.InheritName
 source_run k h =
     let o = or_parts (is_l_paren k) (is_wanted u.Semicolon k || begins_attr k) h in
     ap (λ w. if w then a.Open NODE_INHERIT_FROM p.FromInside p.InheritNames else (if is_wanted u.Semicolon k then a.Take p.Past else attr_action p.InheritName p.InheritNames (Some k))) o.0

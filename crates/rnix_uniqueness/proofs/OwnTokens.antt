@@ -1,124 +1,107 @@
 -- A token that is a place's own and goes on with its row is a leaf of it.
 use Rattle.std.proofs.Common.{◌≡◌, ℕ, Bool, true, false, Some, refl, ap, sym, ◌∙◌}
-use Rattle.std.specs.Prelude.{◌&&◌, ◌||◌, if◌then◌else◌}
+use Rattle.std.specs.Prelude.{if◌then◌else◌, ◌||◌}
 use Rattle.rnix_kinds.specs.declared.kinds.SyntaxKind.{SyntaxKind}
-use Rattle.rnix_kinds.specs.declared.kinds.SyntaxKind.TheVariants.{TOKEN_AT, TOKEN_COMMA, TOKEN_CUR_POS, TOKEN_DOT, TOKEN_ELLIPSIS, TOKEN_IDENT, TOKEN_INHERIT, TOKEN_INTERPOL_START, TOKEN_L_PAREN, TOKEN_OR, TOKEN_PATH_ABS, TOKEN_PATH_HOME, TOKEN_PATH_REL, TOKEN_QUESTION, TOKEN_R_BRACE, TOKEN_SEMICOLON, TOKEN_STRING_CONTENT, TOKEN_STRING_END, TOKEN_STRING_START, NODE_CUR_POS, NODE_IDENT}
+use Rattle.rnix_kinds.specs.declared.kinds.SyntaxKind.TheVariants.{NODE_INHERIT, TOKEN_CUR_POS, TOKEN_IDENT, TOKEN_INHERIT, TOKEN_PATH_ABS, NODE_ATTRPATH_VALUE, TOKEN_ADD, TOKEN_OR, TOKEN_STRING_CONTENT, NODE_CUR_POS, NODE_IDENT}
 use Rattle.rnix_grammar.specs.declared.place.Place.{Place}
 use Rattle.rnix_grammar.specs.declared.place.Place.TheVariants as p
+use Rattle.rnix_grammar.specs.declared.until.Closer.{Closer}
+use Rattle.rnix_grammar.specs.declared.until.Closer.TheVariants as c
+use Rattle.rnix_grammar.specs.declared.action.Action.TheVariants as a
+use Rattle.rnix_grammar.specs.Tables.{closes, is_wanted}
+use Rattle.rnix_grammar.specs.Actions.{entries_action, action_at, done_at, token_action, series_action}
+use Rattle.rnix_grammar.specs.TokenKinds.{is_inherit_token}
+use Rattle.rnix_grammar.specs.Rows.{fits, At, Nowhere, go, to, is_entry, go_slot}
+use Rattle.rnix_grammar.specs.Plain.{is_node}
 use Rattle.rnix_grammar.specs.declared.slot.Slot.{Slot}
 use Rattle.rnix_grammar.specs.declared.slot.Slot.TheVariants as s
 use Rattle.rnix_grammar.specs.declared.until.Until.{Until}
-use Rattle.rnix_grammar.specs.declared.until.Closer.{Closer}
-use Rattle.rnix_grammar.specs.declared.action.Action.TheVariants as a
-use Rattle.rnix_grammar.specs.Tables.{is_wanted, closes}
 use Rattle.rnix_grammar.specs.Slots.{slot_at}
-use Rattle.rnix_grammar.specs.Actions.{action_at, done_at, token_action, series_action, entries_action}
 use Rattle.rnix_grammar.specs.Sketch.{told_as}
-use Rattle.rnix_grammar.specs.Rows.{is_entry, fits, At, go, go_slot, to}
 use Rattle.rnix_grammar.specs.OwnItems.{owns_in}
-use Rattle.rnix_grammar.specs.TokenKinds.{is_inherit_token}
 use Rattle.rnix_lemmas.proofs.Basics.{true_is_not_false}
+use Rattle.rnix_lemmas.proofs.NodeKinds.{expression_node, fits_expression, not_both}
 use Rattle.rnix_lemmas.proofs.PlaceTables.{pieces_is}
-use Rattle.rnix_lemmas.proofs.PlaceTests.{same_place}
-use Rattle.rnix_lemmas.proofs.PlaceTests.{no_place, to_test}
-use Rattle.rnix_uniqueness.proofs.PlaceActions.{end_entries, no_names}
+use Rattle.rnix_lemmas.proofs.PlaceTests.{same_place, no_place, to_test}
 
+-- what is no node fits no level
+fits_none : (n : ℕ) (k : SyntaxKind) → is_node k ≡ false → fits n k ≡ false
+fits_none n k h = by (fits n k) refl
+  where
+    by : (w : Bool) → fits n k ≡ w → fits n k ≡ false
+    by true e = absurd (not_both k h (expression_node k (fits_expression n k e)))
+    by false e = e
+
+-- no name stands behind the beginning of a row
+no_names : (x : Place) → (go (At x) TOKEN_IDENT ≡ Nowhere) × (go (At x) TOKEN_CUR_POS ≡ Nowhere)
+no_names (p.Right level) = (ap (λ w. to w (At (p.Operated level))) (fits_none level TOKEN_IDENT refl), ap (λ w. to w (At (p.Operated level))) (fits_none level TOKEN_CUR_POS refl))
+no_names (p.PatternEnd true) = (refl, refl)
+no_names (p.PatternEnd false) = (refl, refl)
+no_names _ = (refl, refl)
+
+-- a token that closes is taken behind the entries
+end_entries : (closer : Closer) (x z : Place) (k : SyntaxKind) → closes closer k ≡ true → entries_action closer x z (Some k) ≡ a.Take z
+end_entries c.RBrack x z TOKEN_INHERIT h = absurd (true_is_not_false (sym h))
+end_entries _ x z TOKEN_INHERIT h = absurd (true_is_not_false (sym h))
+end_entries closer x z k h = ap (λ w. if w then a.Take z else a.Begin NODE_ATTRPATH_VALUE p.ValuePath x) h
+
+-- `inherit` begins an entry
+pub inherit_entry : (closer : Closer) (x z : Place) → entries_action closer x z (Some TOKEN_INHERIT) ≡ a.Open NODE_INHERIT p.InheritStart x
+inherit_entry c.In x z = refl
+inherit_entry _ x z = refl
+
+-- the token `inherit` is no entry
 no_entry_token : (k : SyntaxKind) → is_inherit_token k ≡ true → is_entry k ≡ false
 no_entry_token TOKEN_INHERIT h = refl
 no_entry_token _ h = absurd (true_is_not_false (sym h))
 
+-- an own token of a row of bindings
 entries_own : (closer : Closer) (x z y : Place) (k : SyntaxKind) (w : Bool) → closes closer k ≡ w → (w || is_inherit_token k) ≡ true
     → (if w then At z else to (is_entry k) (At x)) ≡ At y → entries_action closer x z (Some k) ≡ a.Take y
 entries_own closer x z y k true e o h = end_entries closer x z k e ∙ ap (λ w. a.Take w) (same_place z y h)
 entries_own closer x z y k false e o h = absurd (no_place y (sym (ap (λ w. to w (At x)) (no_entry_token k o)) ∙ h))
 
-series_own : (level : ℕ) (closer : Closer) (x y : Place) (k : SyntaxKind) → closes closer k ≡ true → (if closes closer k then At p.Past else to (fits level k) (At x)) ≡ At y
+-- of a row of operands
+series_own : (level : ℕ) (closer : Closer) (x y : Place) (k : SyntaxKind) → closes closer k ≡ true
+    → (if closes closer k then At p.Past else to (fits level k) (At x)) ≡ At y
     → series_action level closer x (Some k) ≡ a.Take y
 series_own level closer x y k e h =
     ap (λ w. if w then a.Take p.Past else a.Read level true x) e ∙ ap (λ w. a.Take w) (same_place p.Past y (sym (ap (λ w. if w then At p.Past else to (fits level k) (At x)) e) ∙ h))
 
-token_own : (until : Until) (x z y : Place) (k : SyntaxKind) → is_wanted until k ≡ true → to (is_wanted until k) (At z) ≡ At y → token_action until x z (Some k) ≡ a.Take y
+-- a token that is wanted
+token_own : (until : Until) (x z y : Place) (k : SyntaxKind) → is_wanted until k ≡ true → to (is_wanted until k) (At z) ≡ At y
+    → token_action until x z (Some k) ≡ a.Take y
 token_own until x z y k e h = ap (λ w. if w then a.Take z else a.Run until x) e ∙ ap (λ w. a.Take w) (to_test (is_wanted until k) z y h).1
 
-piece_own : (touch : Bool) (y : Place) → (touch && true) ≡ true → At p.PathMore ≡ At y → (if touch then a.Take p.PathMore else a.Close) ≡ a.Take y
-piece_own true y e h = ap (λ w. a.Take w) (same_place p.PathMore y h)
-piece_own false y e h = absurd (true_is_not_false (sym e))
-
-no_own_piece : (touch : Bool) → (touch && false) ≡ true → ⊥
-no_own_piece true e = true_is_not_false (sym e)
-no_own_piece false e = true_is_not_false (sym e)
-
 -- an own token that a row goes on with is a leaf of it
-pub takes_own : (slot : Slot) (x y : Place) (k : SyntaxKind) (touch : Bool) → owns_in slot touch k ≡ true → go_slot slot x k ≡ At y → (slot ≡ s.Pieces → x ≡ p.StringInside)
+takes_own : (slot : Slot) (x y : Place) (k : SyntaxKind) (touch : Bool) → owns_in slot touch k ≡ true → go_slot slot x k ≡ At y → (slot ≡ s.Pieces
+    → x ≡ p.StringInside)
     → done_at slot x (Some k) touch ≡ a.Take y
 takes_own (s.Token until z) x y k touch o h v = token_own until x z y k o h
 takes_own (s.Operand level counted z) x y k touch o h v = absurd (true_is_not_false (sym o))
 takes_own (s.Series level closer) x y k touch o h v = series_own level closer x y k o h
 takes_own (s.Entries closer z) x y k touch o h v = entries_own closer x z y k (closes closer k) refl o h
-takes_own s.Pieces x y TOKEN_STRING_END touch o h v = ap (λ z. a.Take z) (same_place p.Past y h)
 takes_own s.Pieces x y TOKEN_STRING_CONTENT touch o h v = ap (λ z. a.Take z) (v refl ∙ same_place p.StringInside y h)
-takes_own s.Pieces x y TOKEN_INTERPOL_START touch o h v = absurd (no_place y h)
-takes_own s.Pieces x y _ touch o h v = absurd (true_is_not_false (sym o))
-takes_own s.FirstPiece x y TOKEN_INTERPOL_START touch o h v = absurd (no_place y h)
-takes_own s.FirstPiece x y _ touch o h v = absurd (true_is_not_false (sym o))
-takes_own s.MorePieces x y TOKEN_PATH_ABS touch o h v = piece_own touch y o h
-takes_own s.MorePieces x y TOKEN_PATH_REL touch o h v = piece_own touch y o h
-takes_own s.MorePieces x y TOKEN_PATH_HOME touch o h v = piece_own touch y o h
-takes_own s.MorePieces x y TOKEN_INTERPOL_START touch o h v = absurd (no_place y h)
-takes_own s.MorePieces x y _ touch o h v = absurd (no_own_piece touch o)
-takes_own s.Source x y TOKEN_SEMICOLON touch o h v = ap (λ z. a.Take z) (same_place p.Past y h)
-takes_own s.Source x y TOKEN_L_PAREN touch o h v = absurd (no_place y h)
-takes_own s.Source x y TOKEN_INTERPOL_START touch o h v = absurd (no_place y h)
-takes_own s.Source x y TOKEN_STRING_START touch o h v = absurd (no_place y h)
-takes_own s.Source x y TOKEN_IDENT touch o h v = absurd (no_place y h)
-takes_own s.Source x y TOKEN_OR touch o h v = absurd (no_place y h)
-takes_own s.Source x y TOKEN_CUR_POS touch o h v = absurd (no_place y h)
-takes_own s.Source x y _ touch o h v = absurd (true_is_not_false (sym o))
-takes_own s.Names x y TOKEN_SEMICOLON touch o h v = ap (λ z. a.Take z) (same_place p.Past y h)
-takes_own s.Names x y TOKEN_INTERPOL_START touch o h v = absurd (no_place y h)
-takes_own s.Names x y TOKEN_STRING_START touch o h v = absurd (no_place y h)
-takes_own s.Names x y TOKEN_IDENT touch o h v = absurd (no_place y h)
-takes_own s.Names x y TOKEN_OR touch o h v = absurd (no_place y h)
-takes_own s.Names x y TOKEN_CUR_POS touch o h v = absurd (no_place y h)
-takes_own s.Names x y _ touch o h v = absurd (true_is_not_false (sym o))
-takes_own (s.Attr z) x y TOKEN_INTERPOL_START touch o h v = absurd (no_place y h)
-takes_own (s.Attr z) x y TOKEN_STRING_START touch o h v = absurd (no_place y h)
-takes_own (s.Attr z) x y TOKEN_IDENT touch o h v = absurd (no_place y h)
-takes_own (s.Attr z) x y TOKEN_OR touch o h v = absurd (no_place y h)
-takes_own (s.Attr z) x y TOKEN_CUR_POS touch o h v = absurd (no_place y h)
-takes_own (s.Attr z) x y _ touch o h v = absurd (true_is_not_false (sym o))
-takes_own s.MoreAttrs x y TOKEN_DOT touch o h v = ap (λ z. a.Take z) (same_place p.AttrpathStart y h)
-takes_own s.MoreAttrs x y _ touch o h v = absurd (true_is_not_false (sym o))
-takes_own (s.Attrpath z) x y k touch o h v = absurd (true_is_not_false (sym o))
-takes_own (s.Name z) x y TOKEN_IDENT touch o h v = absurd (no_place y h)
-takes_own (s.Name z) x y _ touch o h v = absurd (true_is_not_false (sym o))
-takes_own (s.Braces bound) x y TOKEN_R_BRACE touch o h v = ap (λ z. a.Take z) (same_place (p.PatternEnd bound) y h)
-takes_own (s.Braces bound) x y TOKEN_ELLIPSIS touch o h v = ap (λ z. a.Take z) (same_place (p.PatternClose bound) y h)
-takes_own (s.Braces bound) x y TOKEN_IDENT touch o h v = absurd (no_place y h)
-takes_own (s.Braces bound) x y _ touch o h v = absurd (true_is_not_false (sym o))
-takes_own (s.Formals bound) x y TOKEN_R_BRACE touch o h v = ap (λ z. a.Take z) (same_place (p.PatternEnd bound) y h)
-takes_own (s.Formals bound) x y TOKEN_ELLIPSIS touch o h v = ap (λ z. a.Take z) (same_place (p.PatternClose bound) y h)
-takes_own (s.Formals bound) x y TOKEN_IDENT touch o h v = absurd (no_place y h)
-takes_own (s.Formals bound) x y _ touch o h v = absurd (true_is_not_false (sym o))
-takes_own (s.Comma bound) x y TOKEN_COMMA touch o h v = ap (λ z. a.Take z) (same_place (p.PatternInside bound) y h)
-takes_own (s.Comma bound) x y TOKEN_R_BRACE touch o h v = ap (λ z. a.Take z) (same_place (p.PatternEnd bound) y h)
-takes_own (s.Comma bound) x y _ touch o h v = absurd (true_is_not_false (sym o))
+takes_own s.MorePieces x y k false o h v = absurd (true_is_not_false (sym o))
+takes_own s.MorePieces x y TOKEN_PATH_ABS true o h v = ap (λ z. a.Take z) (same_place p.PathMore y h)
 takes_own (s.Bind true) x y k touch o h v = absurd (no_place y h)
-takes_own (s.Bind false) x y TOKEN_AT touch o h v = absurd (no_place y h)
-takes_own (s.Bind false) x y _ touch o h v = absurd (true_is_not_false (sym o))
-takes_own s.Default x y TOKEN_QUESTION touch o h v = ap (λ z. a.Take z) (same_place p.EntryDefault y h)
-takes_own s.Default x y _ touch o h v = absurd (true_is_not_false (sym o))
-takes_own s.Or x y TOKEN_OR touch o h v = ap (λ z. a.Take z) (same_place p.SelectDefault y h)
-takes_own s.Or x y _ touch o h v = absurd (true_is_not_false (sym o))
-takes_own s.Done x y k touch o h v = absurd (no_place y h)
-takes_own s.EntryDone x y k touch o h v = absurd (no_place y h)
-takes_own s.PatternDone x y k touch o h v = absurd (no_place y h)
-takes_own s.TwiceDone x y k touch o h v = absurd (no_place y h)
-takes_own s.End x y k touch o h v = absurd (no_place y h)
-takes_own (s.More low high) x y k touch o h v = absurd (no_place y h)
+takes_own s.FirstPiece x y TOKEN_ADD touch o h v = absurd (no_place y h)
+takes_own s.Names x y TOKEN_ADD touch o h v = absurd (no_place y h)
+takes_own s.Source x y TOKEN_ADD touch o h v = absurd (no_place y h)
+takes_own (s.Attr z) x y TOKEN_ADD touch o h v = absurd (no_place y h)
+takes_own s.MoreAttrs x y TOKEN_ADD touch o h v = absurd (no_place y h)
+takes_own (s.Attrpath z) x y TOKEN_ADD touch o h v = absurd (no_place y h)
+takes_own (s.Name z) x y TOKEN_ADD touch o h v = absurd (no_place y h)
+takes_own (s.Braces bound) x y TOKEN_ADD touch o h v = absurd (no_place y h)
+takes_own (s.Formals bound) x y TOKEN_ADD touch o h v = absurd (no_place y h)
+takes_own (s.Comma bound) x y TOKEN_ADD touch o h v = absurd (no_place y h)
+takes_own (s.Bind false) x y TOKEN_ADD touch o h v = absurd (no_place y h)
+takes_own s.Default x y TOKEN_ADD touch o h v = absurd (no_place y h)
+takes_own s.Or x y TOKEN_ADD touch o h v = absurd (no_place y h)
+takes_own _ x y _ touch o h v = cc
 
 -- a leaf that a row goes on with at a place has the kind of its token
-pub told_there : (x y : Place) (parent k : SyntaxKind) → go (At x) (told_as parent k) ≡ At y → told_as parent k ≡ k
+told_there : (x y : Place) (parent k : SyntaxKind) → go (At x) (told_as parent k) ≡ At y → told_as parent k ≡ k
 told_there x y NODE_IDENT TOKEN_OR h = absurd (no_place y (sym (no_names x).0 ∙ h))
 told_there x y NODE_IDENT TOKEN_CUR_POS h = absurd (no_place y (sym (no_names x).0 ∙ h))
 told_there x y NODE_CUR_POS TOKEN_IDENT h = absurd (no_place y (sym (no_names x).1 ∙ h))
@@ -127,5 +110,6 @@ told_there x y NODE_CUR_POS _ h = refl
 told_there x y _ k h = refl
 
 -- so at a place
-pub takes_at : (x y : Place) (parent k : SyntaxKind) (touch : Bool) → owns_in (slot_at x) touch k ≡ true → go (At x) (told_as parent k) ≡ At y → action_at x (Some k) touch ≡ a.Take y
+pub takes_at : (x y : Place) (parent k : SyntaxKind) (touch : Bool) → owns_in (slot_at x) touch k ≡ true → go (At x) (told_as parent k) ≡ At y
+    → action_at x (Some k) touch ≡ a.Take y
 takes_at x y parent k touch o h = takes_own (slot_at x) x y k touch o (ap (λ z. go (At x) z) (sym (told_there x y parent k h)) ∙ h) (pieces_is x)

@@ -1,5 +1,5 @@
 -- Readings by how high their derivations are, and how a row goes on behind a spot that is no place.
-use Rattle.std.proofs.Common.{◌≡◌, ℕ, suc, ◌+◌, ◌≤◌, Bool, true, false, List, [], ◌∷◌, ◌++◌, Some, length, refl, ap, sym, ◌∙◌, subst, arith}
+use Rattle.std.proofs.Common.{◌≡◌, ℕ, suc, ◌+◌, ◌≤◌, true, false, List, [], ◌∷◌, ◌++◌, Some, length, refl, ap, sym, ◌∙◌, subst, arith}
 use Rattle.rnix_kinds.specs.declared.kinds.SyntaxKind.{SyntaxKind}
 use Rattle.rnix_kinds.specs.declared.kinds.SyntaxKind.TheVariants.{NODE_LITERAL}
 use Rattle.rnix_grammar.specs.declared.place.Place.{Place}
@@ -11,7 +11,7 @@ use Rattle.rnix_grammar.specs.OwnItems.{IsOwned, stands_owned}
 use Rattle.rnix_grammar.specs.Operands.{IsFollowed, IsOperand, level_at}
 use Rattle.rnix_grammar.specs.Reads.{Reads, end, leaf, lost, wrong, second, inner, deeper, IsOver, IsWrong}
 use Rattle.rnix_lemmas.proofs.Basics.{true_is_not_false}
-use Rattle.rnix_lemmas.proofs.NodeKinds.{is_error}
+use Rattle.rnix_lemmas.proofs.OpeningRows.{is_place}
 use Rattle.rnix_uniqueness.proofs.StepReads.{ReadsRow, ReadsTree}
 
 -- how many steps a reading takes to say
@@ -28,22 +28,22 @@ pub record Short (m : ℕ) (p : SyntaxKind) (d n : ℕ) (q s : Spot) (b : Sketch
   pub reads : Reads p d n q s b us f es
   pub short : height reads ≤ m
 
--- the steps read each row that is at most so high
-abbrev pub Rows : ℕ → Type 0
-Rows m =
-    (p : SyntaxKind) (d n : ℕ) (x y : Place) (b : Sketch) (us : List Token) (f : Sketch) (es : List Fault)
-    → Short m p d n (At x) (At y) b us f es → is_error p ≡ false → ReadsRow p d n x y b us f es
+-- the steps read each row from a place to a place that is at most so high
+abbrev pub AllRows : ℕ → Type 0
+AllRows m =
+    (k : SyntaxKind) (d n : ℕ) (x y : Place) (b : Sketch) (us : List Token) (f : Sketch) (es : List Fault) → Short m k d n (At x) (At y) b us f es
+    → ReadsRow k d n x y b us f es
 
 -- the steps read each expression that is at most so high
 abbrev pub Trees : ℕ → Type 0
 Trees m =
     (k : SyntaxKind) (d n : ℕ) (s : Spot) (us : List Token) (c : Sketch) (ds : List Fault)
-    → Short m k d n (start k) s blank us c ds → IsOver s (end_from n (tokens_in c)) us → fits 0 k ≡ true → ReadsTree d n (one_branch k c) us ds
+    → Short m k d n (start k) s blank us c ds → IsOver s (end_from n (tokens_in c)) us → fits 0 k ≡ true → ReadsTree d n (tokens_in c) (one_branch k c) us ds
 
 -- how a row goes on behind a spot that is no place
 pub data Front (m : ℕ) (p : SyntaxKind) (d n : ℕ) (q s : Spot) (b : Sketch) (us : List Token) : Sketch → List Fault → Type 0 where
   by_leaf : {k : SyntaxKind} {t : Token} {f : Sketch} {es : List Fault}
-      → k ≡ told p t → IsOwned q n (t ∷ (tokens_in f ++ us)) true → IsFollowed q b (Some k) → live (go q k) ≡ true
+      → k ≡ told p t → IsFollowed q b (Some k) → live (go q k) ≡ true
       → Short m p d t.end (go q k) s (b ⊕ one_token k t) us f es
       → Front m p d n q s b us (token k t f) es
   by_stray : {t : Token} {f : Sketch} {es : List Fault}
@@ -58,21 +58,18 @@ pub data Front (m : ℕ) (p : SyntaxKind) (d n : ℕ) (q s : Spot) (b : Sketch) 
       → Short m p d (end_from n (tokens_in c)) (go q k) s (b ⊕ one_branch k c) us f es
       → Front m p d n q s b us (branch k c f) ((ds ++ repeats k b c) ++ es)
 
--- a spot that is a place
-abbrev pub is_place : Spot → Bool
-is_place (At x) = true
-is_place q = false
-
+-- a row ends at a place
 place_whole : (q : Spot) → is_place q ≡ false → whole q ≡ true → ⊥
 place_whole (At x) h w = true_is_not_false h
 place_whole _ h w = true_is_not_false (sym w)
 
+-- a counted operand stands at a place
 place_counts : (q : Spot) → is_place q ≡ false → counts q ≡ true → ⊥
 place_counts (At x) h w = true_is_not_false h
 place_counts _ h w = true_is_not_false (sym w)
 
 -- an equal row behind equal spots
-short_to : {m n n' : ℕ} {p : SyntaxKind} {d : ℕ} {q r s : Spot} {b c : Sketch} {us : List Token} {f : Sketch} {es : List Fault}
+pub short_to : {m n n' : ℕ} {p : SyntaxKind} {d : ℕ} {q r s : Spot} {b c : Sketch} {us : List Token} {f : Sketch} {es : List Fault}
     → r ≡ q → c ≡ b → n ≡ n' → Short m p d n r s c us f es → Short m p d n' q s b us f es
 short_to {m = m} {n = n} {n' = n'} {p = p} {d = d} {q = q} {r = r} {s = s} {b = b} {c = c} {us = us} {f = f} {es = es} u v w h =
     subst (λ (x : ℕ). Short m p d x q s b us f es) w (subst (λ (x : Sketch). Short m p d n q s x us f es) v (subst (λ (x : Spot). Short m p d n x s c us f es) u h))
@@ -95,8 +92,10 @@ less_left a b m h = omega (arith, h)
 pub less_right : (a b m : ℕ) → suc (a + b) ≤ suc m → b ≤ m
 less_right a b m h = omega (arith, h)
 
+-- a row that begins with an error node
 front_wrong : (m : ℕ) (p : SyntaxKind) (d n : ℕ) (q s r : Spot) (b : Sketch) (us vs : List Token) (c f g : Sketch) (e : ℕ) (es fs : List Fault) (note : Note) (ts : List Token) → c ≡ row_of ts → vs ≡ tokens_in f ++ us
-    → IsOwned q n (ts ++ vs) false → IsFollowed q b (head_kind ts) → IsWrong note d q r ts vs → g ≡ b ⊕ one_fault note c → e ≡ end_from n ts → Short m p d e r s g us f es → fs ≡ report note ts ∷ es
+    → IsOwned q n (ts ++ vs) false → IsFollowed q b (head_kind ts) → IsWrong note d q r ts vs → g ≡ b ⊕ one_fault note c → e ≡ end_from n ts
+    → Short m p d e r s g us f es → fs ≡ report note ts ∷ es
     → is_place q ≡ false → Front m p d n q s b us (fault note c f) fs
 front_wrong m p d n q s r b us vs c f g e es fs Stray ts hc hv o w x hg he h hf a =
     let l = lone_token ts x.0 in
@@ -120,8 +119,7 @@ front_wrong m p d n q s r b us vs c f g e es fs TooDeep ts hc hv o w x hg he h h
 pub front : (m : ℕ) {p : SyntaxKind} {d n : ℕ} {q s : Spot} {b : Sketch} {us : List Token} {f : Sketch} {es : List Fault} (r : Reads p d n q s b us f es)
     → height r ≤ suc m → is_place q ≡ false → whole s ≡ true → Front m p d n q s b us f es
 front m {q = q} end h a w = absurd (place_whole q a w)
-front m {p = p} {d = d} {n = n} {q = q} {us = us} (leaf {f = f} {k = k} {t = t} e v o x g l c i r) h a w =
-    by_leaf e (subst (λ (z : List Token). IsOwned q n (t ∷ z) true) v o) x (ap live g ∙ l) (short_to (sym g) c i (record { reads = r; short = less (height r) m h }))
+front m (leaf e v o x g l c i r) h a w = by_leaf e x (ap live g ∙ l) (short_to (sym g) c i (record { reads = r; short = less (height r) m h }))
 front m (lost u f l x r z) h a w = absurd (true_is_not_false a)
 front m {p = p} {d = d} {n = n} {q = q} {s = s} {b = b} {us = us} {es = fs} (wrong {m = e} {r = r} {g = g} {vs = vs} {c = c} {f = f} {es = es} note ts hc hv o x y hg he t hf) h a w =
     front_wrong m p d n q s r b us vs c f g e es fs note ts hc hv o x y hg he (record { reads = t; short = less (height t) m h }) hf a
@@ -136,3 +134,11 @@ front m {p = p} {d = d} {n = n} {q = q} {s = s} {b = b} {us = us} (inner {m = e}
     (subst (λ (z' : List Token). IsOperand (level_at q (one_branch k c)) (one_branch k c) z') v t)
     (ap live g ∙ l)
     (short_to (sym g) hg i (record { reads = r'; short = less_right (height r) (height r') m h })))
+
+-- so does one of parts that are not so high
+pub front_of : {m : ℕ} {p : SyntaxKind} {d n : ℕ} {q r s : Spot} {b : Sketch} {us : List Token} {f : Sketch} {es : List Fault}
+    → q ≡ r → Short m p d n q s b us f es → is_place r ≡ false → whole s ≡ true → Front m p d n r s b us f es
+front_of {m = m} {p = p} {d = d} {n = n} {r = r} {s = s} {b = b} {us = us} {f = f} {es = es} e h a w = by (short_to e refl refl h)
+  where
+    by : Short m p d n r s b us f es → Front m p d n r s b us f es
+    by v = front m v.reads (omega (arith, v.short)) a w

@@ -1,64 +1,107 @@
--- The rows of entries of patterns, of second names and of the root have places of their own.
-use Rattle.std.proofs.Common.{◌≡◌, ℕ, true, false, Option, Some, None, refl, ap, sym, ◌∙◌, subst, arith}
+-- The rows of entries of patterns, of second names and of the root have places of their own, and a row stays among its places.
+use Rattle.std.proofs.Common.{◌≡◌, ℕ, Bool, true, false, List, Option, Some, None, refl, ap, sym, ◌∙◌, subst, arith}
 use Rattle.std.specs.Prelude.{nat_eq}
+use Rattle.std.proofs.lemmas.Bool.Decides.{nat_tests}
+use Rattle.rnix_kinds.proofs.AllKinds.{every}
 use Rattle.rnix_kinds.specs.declared.kinds.SyntaxKind.{SyntaxKind}
+use Rattle.rnix_kinds.specs.declared.kinds.SyntaxKind.TheVariants.{NODE_ERROR, NODE_LITERAL, NODE_PAT_ENTRY, NODE_ROOT}
 use Rattle.rnix_grammar.specs.declared.place.Place.{Place}
 use Rattle.rnix_grammar.specs.declared.place.Place.TheVariants as p
-use Rattle.rnix_grammar.specs.declared.until.Until.{Until}
 use Rattle.rnix_grammar.specs.Fault.{Fault}
 use Rattle.rnix_grammar.specs.Missing.{lack, run_at}
-use Rattle.rnix_grammar.specs.Rows.{fits, Spot, At, go, live}
+use Rattle.rnix_grammar.specs.Rows.{Spot, At, Nowhere, fits, go, to}
+use Rattle.rnix_grammar.specs.Sketch.{Token, Note, Stray, Unwanted, Extra, Twice, TooDeep, Sketch, tokens_in, end_from}
+use Rattle.rnix_grammar.specs.Reads.{Reads, end, leaf, lost, wrong, second, inner, IsOver, IsWrong}
 use Rattle.rnix_lemmas.proofs.Basics.{true_is_not_false}
-use Rattle.rnix_lemmas.proofs.OpeningRows.{to_live}
-use Rattle.rnix_kinds.proofs.AllKinds.{implied}
-use Rattle.std.proofs.lemmas.Bool.Decides.{nat_tests}
+use Rattle.rnix_lemmas.proofs.LevelLemmas.{same_number}
+use Rattle.rnix_lemmas.proofs.Places.{home}
+use Rattle.rnix_uniqueness.proofs.StepReads.{ReadsRow}
+use Rattle.rnix_uniqueness.proofs.ReadingHeights.{Short, AllRows}
 
--- where a place is: in an entry of a pattern, in a second name, in the root, or elsewhere
+-- the class of a kind's row: that of other nodes, of entries, of second names, or of the root
+abbrev pub class_of : Option SyntaxKind → ℕ
+class_of (Some NODE_PAT_ENTRY) = 1
+class_of (Some NODE_ERROR) = 2
+class_of (Some NODE_ROOT) = 3
+class_of kind = 0
+
+-- the class of the row that a place is in
 abbrev pub row_class : Place → ℕ
-row_class p.EntryMore = 1
-row_class p.EntryDefault = 1
-row_class p.EntryPast = 1
-row_class p.TwiceName = 2
-row_class p.TwicePast = 2
-row_class p.RootStart = 3
-row_class p.RootEnd = 3
-row_class place = 0
+row_class x = class_of (home x)
 
-abbrev class_in : Spot → ℕ
-class_in (At y) = row_class y
-class_in q = 0
+-- a place in a row of the class, or nowhere in a row
+abbrev in_class : ℕ → Spot → Bool
+in_class v (At x) = nat_eq (row_class x) v
+in_class v Nowhere = true
+in_class v spot = false
 
-near : (x : Place) (k : SyntaxKind) → live (go (At x) k) ≡ true → nat_eq (class_in (go (At x) k)) (row_class x) ≡ true
-near (p.Right level) k l = ap (λ q. nat_eq (class_in q) 0) (to_live (fits level k) (At (p.Operated level)) l)
-near (p.PatternEnd true) k l = absurd (true_is_not_false (sym l))
-near (p.PatternEnd false) k l = implied (λ i. live (go (At (p.PatternEnd false)) i)) (λ i. nat_eq (class_in (go (At (p.PatternEnd false)) i)) 0) refl k l
-near x k l = implied (λ i. live (go (At x) i)) (λ i. nat_eq (class_in (go (At x) i)) (row_class x)) refl k l
+-- an operator's last place is in no special class
+to_class : (w : Bool) (level : ℕ) → in_class 0 (to w (At (p.Operated level))) ≡ true
+to_class true level = refl
+to_class false level = refl
 
 -- one more child leads to where the row is
-pub class_go : (x y : Place) (k : SyntaxKind) → go (At x) k ≡ At y → row_class y ≡ row_class x
-class_go x y k h =
-    let e : nat_eq (row_class y) (row_class x) ≡ true = ap (λ q. nat_eq (class_in q) (row_class x)) (sym h) ∙ near x k (ap live h) in grind (arith, nat_tests, e)
+near : (x : Place) (k : SyntaxKind) → in_class (row_class x) (go (At x) k) ≡ true
+near (p.Right level) k = to_class (fits level k) level
+near (p.PatternEnd true) k = refl
+near (p.PatternEnd false) k = every (λ i. in_class 0 (go (At (p.PatternEnd false)) i)) refl k
+near x k = every (λ i. in_class (row_class x) (go (At x) i)) refl k
 
-abbrev RunNear : Place → Option (Until × Place) → Type 0
-RunNear x None = Unit {0}
-RunNear x (Some w) = row_class w.1 ≡ row_class x
+-- the place behind what is missing, or behind a run, is in the class
+abbrev beside : {A : Type 0} → ℕ → Option (A × Place) → Bool
+beside v None = true
+beside v (Some w) = nat_eq (row_class w.1) v
 
-run_near : (x : Place) → RunNear x (run_at x)
-run_near p.RootStart = tt
-run_near _ = assumption (refl)
+-- so does what is missing
+lack_near : (x : Place) → beside (row_class x) (lack x) ≡ true
+lack_near p.RootStart = refl
+lack_near _ = refl
 
 -- so does a run
-pub class_run : (x y : Place) (until : Until) → run_at x ≡ Some (until, y) → row_class y ≡ row_class x
-class_run x y until h = subst (λ (z : Option (Until × Place)). RunNear x z) h (run_near x)
+run_near : (x : Place) → beside (row_class x) (run_at x) ≡ true
+run_near p.RootStart = refl
+run_near _ = refl
 
-abbrev LackNear : Place → Option (Fault × Place) → Type 0
-LackNear x None = Unit {0}
-LackNear x (Some w) = row_class w.1 ≡ row_class x
+-- what is in the class of a place is in the place's class
+same_class : (v : ℕ) (x : Place) (s : Spot) → in_class v (At x) ≡ true → in_class (row_class x) s ≡ true → in_class v s ≡ true
+same_class v x s h n = subst (λ (w : ℕ). in_class w s ≡ true) (same_number (row_class x) v h) n
 
-lack_near : (x : Place) → LackNear x (lack x)
-lack_near p.RootStart = refl
-lack_near _ = assumption (refl)
+-- behind one more child
+class_goes : (v : ℕ) (q r : Spot) (k : SyntaxKind) → go q k ≡ r → in_class v q ≡ true → in_class v r ≡ true
+class_goes v (At x) r k g h = same_class v x r h (ap (in_class (row_class x)) (sym g) ∙ near x k)
+class_goes v Nowhere r k g h = ap (in_class v) (sym g)
+class_goes v _ r k g h = absurd (true_is_not_false (sym h))
 
--- and what is missing
-pub class_lack : (x y : Place) (e : Fault) → lack x ≡ Some (e, y) → row_class y ≡ row_class x
-class_lack x y e h = subst (λ (z : Option (Fault × Place)). LackNear x z) h (lack_near x)
+-- behind an error node
+class_wrong : (v : ℕ) (note : Note) (d : ℕ) (q r : Spot) (ts vs : List Token) → IsWrong note d q r ts vs → in_class v q ≡ true → in_class v r ≡ true
+class_wrong v Stray d q r ts vs w h = class_goes v q r NODE_LITERAL w.3 h
+class_wrong v (Unwanted until) d q r ts vs w h =
+    ap (in_class v) w.5 ∙ same_class v w.2 (At w.3) (ap (in_class v) (sym w.4) ∙ h) (ap (beside (row_class w.2)) (sym w.6) ∙ run_near w.2)
+class_wrong v Extra d q r ts vs w h = ap (in_class v) w.3 ∙ h
+class_wrong v Twice d q r ts vs w h = absurd w
+class_wrong v TooDeep d q r ts vs w h = class_goes v q r NODE_LITERAL w.3 h
+
+-- a row ends in the class where it begins
+class_reads : (v : ℕ) {k : SyntaxKind} {d n : ℕ} {q s : Spot} {b : Sketch} {us : List Token} {f : Sketch} {es : List Fault} → Reads k d n q s b us f es
+    → in_class v q ≡ true → in_class v s ≡ true
+class_reads v end h = h
+class_reads v {q = q} (leaf {r = r} {k = k} e w o x g l c i t) h = class_reads v t (class_goes v q r k g h)
+class_reads v (lost {x = x} {y = y} {e = e} u f l w r z) h = class_reads v r (same_class v x (At y) h (ap (beside (row_class x)) (sym l) ∙ lack_near x))
+class_reads v {d = d} {q = q} (wrong {r = r} {vs = vs} note ts hc hv o w y hg he t hf) h = class_reads v t (class_wrong v note d q r ts vs y h)
+class_reads v (second w c i o q r g t z) h = class_reads v t (ap (in_class v) r ∙ sym (ap (in_class v) q) ∙ h)
+class_reads v {q = q} (inner {r = r} {k = k} w u t i o y j x m g l hg r' hf) h = class_reads v r' (class_goes v q r k g h)
+
+-- the steps read the rest of a row from a place on, to a place of its class where it ends
+pub record ReadOn (k : SyntaxKind) (d n : ℕ) (x : Place) (b : Sketch) (us : List Token) (f : Sketch) (es : List Fault) : Type 0 where
+  pub place : Place
+  pub row : ReadsRow k d n x place b us f es
+  pub same : row_class place ≡ row_class x
+  pub over : IsOver (At place) (end_from n (tokens_in f)) us
+
+-- so they do with each row that is not so high
+pub read_on : (m : ℕ) → AllRows m → (k : SyntaxKind) (d n : ℕ) (x : Place) (s : Spot) (b : Sketch) (us : List Token) (f : Sketch) (es : List Fault)
+    → Short m k d n (At x) s b us f es → IsOver s (end_from n (tokens_in f)) us → ReadOn k d n x b us f es
+read_on m rows k d n x (At y) b us f es h o =
+    let e : nat_eq (row_class x) (row_class x) ≡ true = grind (arith, nat_tests) in
+    record { place = y; row = rows k d n x y b us f es h; same = same_number (row_class y) (row_class x) (class_reads (row_class x) h.reads e); over = o }
+read_on m rows k d n x _ b us f es h o = absurd (true_is_not_false (sym o.0))

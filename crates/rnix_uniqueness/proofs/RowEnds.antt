@@ -1,142 +1,120 @@
 -- Where a row ends, its node is complete and goes to the frame below.
-use Rattle.std.proofs.Common.{◌≡◌, ℕ, suc, Bool, true, false, List, [], ◌∷◌, ◌++◌, Some, None, refl, ap, sym, ◌∙◌, subst, append-nil}
-use Rattle.std.specs.Prelude.{◌&&◌, nat_eq}
+use Rattle.std.proofs.Common.{◌≡◌, ℕ, zero, suc, Bool, true, false, List, [], ◌∷◌, ◌++◌, Some, None, refl, ap, sym, ◌∙◌, append-nil, append_assoc, arith}
+use Rattle.std.specs.Prelude.{if◌then◌else◌, nat_le}
+use Rattle.rnix_kinds.proofs.AllKinds.{every}
 use Rattle.rnix_kinds.specs.declared.kinds.SyntaxKind.{SyntaxKind}
-use Rattle.rnix_kinds.specs.declared.kinds.SyntaxKind.TheVariants.{TOKEN_AT, TOKEN_DOT, TOKEN_INTERPOL_START, TOKEN_OR, TOKEN_QUESTION, NODE_PAT_ENTRY}
+use Rattle.rnix_kinds.specs.declared.kinds.SyntaxKind.TheVariants.{NODE_PAT_ENTRY}
 use Rattle.rnix_grammar.specs.declared.place.Place.{Place}
 use Rattle.rnix_grammar.specs.declared.place.Place.TheVariants as p
 use Rattle.rnix_grammar.specs.declared.action.Action.{Action}
 use Rattle.rnix_grammar.specs.declared.action.Action.TheVariants as a
 use Rattle.rnix_grammar.specs.Fault.{Fault}
-use Rattle.rnix_grammar.specs.Actions.{action_at, first_piece_action, more_pieces_action, more_attrs_action, bind_action, default_action, or_action}
-use Rattle.rnix_grammar.specs.TokenKinds.{is_dot, is_question, is_piece_start, is_or, is_interpol_start, is_at}
-use Rattle.rnix_grammar.specs.Sketch.{Token, Twice, Sketch, ◌⊕◌, one_branch, one_fault, tokens_in, head_kind, touches}
-use Rattle.rnix_grammar.specs.Machine.{Node, Second, Frame, machine, put, opened, perform, step}
+use Rattle.rnix_grammar.specs.Actions.{action_at}
+use Rattle.rnix_grammar.specs.Slots.{slot_at}
+use Rattle.rnix_grammar.specs.Sketch.{Token, Twice, Sketch, blank, ◌⊕◌, one_branch, one_fault, tokens_in, head_kind, end_from, touches}
+use Rattle.rnix_grammar.specs.Machine.{Head, Node, Second, Operand, Frame, machine, put, opened, perform, step, Runs, rest as here}
 use Rattle.rnix_grammar.specs.Reports.{report, repeated, repeats}
 use Rattle.rnix_grammar.specs.Rows.{At, whole}
-use Rattle.rnix_grammar.specs.OwnItems.{owns}
+use Rattle.rnix_grammar.specs.OwnItems.{owns_in}
 use Rattle.rnix_grammar.specs.Reads.{IsOver}
 use Rattle.rnix_lemmas.proofs.Basics.{true_is_not_false}
-use Rattle.rnix_uniqueness.proofs.RowClasses.{row_class}
-use Rattle.rnix_uniqueness.proofs.PlaceActions.{no_piece}
+use Rattle.rnix_lemmas.proofs.LevelLemmas.{at_most}
+use Rattle.rnix_uniqueness.proofs.Runs.{runs_on, runs_to, step_to}
+use Rattle.rnix_uniqueness.proofs.RowClasses.{class_of, row_class, ReadOn}
 
--- the class of a kind's row: that of entries, or of others
-abbrev pub class_of_kind : SyntaxKind → ℕ
-class_of_kind NODE_PAT_ENTRY = 1
-class_of_kind kind = 0
+-- how a row of a class ends
+abbrev is_ending : ℕ → Action → Bool
+is_ending zero a.Close = true
+is_ending zero a.ClosePattern = true
+is_ending (suc zero) a.CloseEntry = true
+is_ending (suc (suc zero)) a.CloseTwice = true
+is_ending (suc (suc (suc v))) act = true
+is_ending v act = false
 
--- how a row ends at a place
-pub data Ends (x : Place) : Action → Type 0 where
-  plainly : row_class x ≡ 0 → Ends x a.Close
-  pattern : row_class x ≡ 0 → Ends x a.ClosePattern
-  entry : row_class x ≡ 1 → Ends x a.CloseEntry
-  second : row_class x ≡ 2 → Ends x a.CloseTwice
-  last : row_class x ≡ 3 → {act : Action} → Ends x act
+-- a row ends so before the end of the text
+ends_none : (x : Place) (touch : Bool) → whole (At x) ≡ true → is_ending (row_class x) (action_at x None touch) ≡ true
+ends_none p.RootEnd touch w = refl
+ends_none (p.PatternEnd true) touch w = refl
+ends_none (p.PatternEnd false) touch w = refl
+ends_none _ touch w = cc
 
-end_first : (t : Token) (ts : List Token) (n : ℕ) → is_interpol_start t.kind ≡ false → Ends p.PathFirst (action_at p.PathFirst (Some t.kind) (nat_eq t.start n))
-end_first t ts n h = by t.kind h
-  where
-    by : (k : SyntaxKind) → is_interpol_start k ≡ false → Ends p.PathFirst (first_piece_action (Some k))
-    by TOKEN_INTERPOL_START h = absurd (true_is_not_false h)
-    by _ h = plainly refl
+-- a row ends before an item that is not the place's own
+abbrev ends_before : Place → Bool → SyntaxKind → Bool
+ends_before x touch k = if owns_in (slot_at x) touch k then true else (if whole (At x) then is_ending (row_class x) (action_at x (Some k) touch) else true)
 
-end_more : (k : SyntaxKind) (touch : Bool) → (touch && is_piece_start k) ≡ false → Ends p.PathMore (more_pieces_action touch (Some k))
-end_more k true h = subst (λ (z : Action). Ends p.PathMore z) (sym (no_piece k h)) (plainly refl)
-end_more k false h = plainly refl
-
-end_attrs : (k : SyntaxKind) → is_dot k ≡ false → Ends p.AttrpathMore (more_attrs_action (Some k))
-end_attrs TOKEN_DOT h = absurd (true_is_not_false h)
-end_attrs _ h = plainly refl
-
-end_bind : (bound : Bool) (k : SyntaxKind) → is_at k ≡ false → Ends (p.PatternEnd bound) (bind_action bound (Some k))
-end_bind bound TOKEN_AT h = absurd (true_is_not_false h)
-end_bind true _ h = pattern refl
-end_bind false _ h = pattern refl
-
-end_entry : (k : SyntaxKind) → is_question k ≡ false → Ends p.EntryMore (default_action (Some k))
-end_entry TOKEN_QUESTION h = absurd (true_is_not_false h)
-end_entry _ h = entry refl
-
-end_or : (k : SyntaxKind) → is_or k ≡ false → Ends p.SelectOr (or_action (Some k))
-end_or TOKEN_OR h = absurd (true_is_not_false h)
-end_or _ h = plainly refl
-
-bind_none : (bound : Bool) → Ends (p.PatternEnd bound) (bind_action bound None)
-bind_none true = pattern refl
-bind_none false = pattern refl
-
-ends_none : (x : Place) (touch : Bool) → whole (At x) ≡ true → Ends x (action_at x None touch)
-ends_none p.RootEnd touch w = last refl
-ends_none p.TwicePast touch w = second refl
-ends_none p.PathFirst touch w = plainly refl
-ends_none p.PathMore touch w = plainly refl
-ends_none p.AttrpathMore touch w = plainly refl
-ends_none (p.PatternEnd bound) touch w = bind_none bound
-ends_none p.PatternPast touch w = pattern refl
-ends_none p.EntryMore touch w = entry refl
-ends_none p.EntryPast touch w = entry refl
-ends_none p.SelectOr touch w = plainly refl
-ends_none (p.Operated level) touch w = plainly refl
-ends_none p.Past touch w = plainly refl
-ends_none _ touch w = absurd (true_is_not_false (sym w))
-
-ends_some : (x : Place) (t : Token) (ts : List Token) (n : ℕ) → whole (At x) ≡ true → owns x n (t ∷ ts) ≡ false → Ends x (action_at x (Some t.kind) (nat_eq t.start n))
-ends_some p.RootEnd t ts n w o = last refl
-ends_some p.TwicePast t ts n w o = second refl
-ends_some p.PathFirst t ts n w o = end_first t ts n o
-ends_some p.PathMore t ts n w o = end_more t.kind (nat_eq t.start n) o
-ends_some p.AttrpathMore t ts n w o = end_attrs t.kind o
-ends_some (p.PatternEnd bound) t ts n w o = end_bind bound t.kind o
-ends_some p.PatternPast t ts n w o = pattern refl
-ends_some p.EntryMore t ts n w o = end_entry t.kind o
-ends_some p.EntryPast t ts n w o = entry refl
-ends_some p.SelectOr t ts n w o = end_or t.kind o
-ends_some (p.Operated level) t ts n w o = plainly refl
-ends_some p.Past t ts n w o = plainly refl
-ends_some _ t ts n w o = absurd (true_is_not_false (sym w))
+-- a row ends so before each other item
+ends_some : (x : Place) (touch : Bool) (k : SyntaxKind) → ends_before x touch k ≡ true
+ends_some (p.PatternEnd true) touch k = every (ends_before (p.PatternEnd true) touch) refl k
+ends_some (p.PatternEnd false) touch k = every (ends_before (p.PatternEnd false) touch) refl k
+ends_some p.PathMore true k = every (ends_before p.PathMore true) refl k
+ends_some p.PathMore false k = every (ends_before p.PathMore false) refl k
+ends_some x touch k = every (ends_before x touch) refl k
 
 -- a row ends where it may and the next item is not the place's own
-pub ends_at : (x : Place) (n : ℕ) (ts : List Token) → IsOver (At x) n ts → Ends x (action_at x (head_kind ts) (touches n ts))
+ends_at : (x : Place) (n : ℕ) (ts : List Token) → IsOver (At x) n ts → is_ending (row_class x) (action_at x (head_kind ts) (touches n ts)) ≡ true
 ends_at x n [] o = ends_none x false o.0
-ends_at x n (t ∷ ts) o = ends_some x t ts n o.0 o.1
+ends_at x n (t ∷ ts) o =
+    let is : Bool = is_ending (row_class x) (action_at x (Some t.kind) (touches n (t ∷ ts))) in
+    sym (ap (λ w. if w then is else true) o.0) ∙ sym (ap (λ w. if w then true else (if whole (At x) then is else true)) o.1)
+    ∙ ends_some x (touches n (t ∷ ts)) t.kind
 
-no_realm : {A : Type 0} (k : SyntaxKind) (v : ℕ) (x : Place) → row_class x ≡ suc (suc v) → row_class x ≡ class_of_kind k → A
-no_realm NODE_PAT_ENTRY v x h e = absurd (cc)
-no_realm _ v x h e = absurd (cc)
+-- entries alone are reported
+pub quiet : (k : SyntaxKind) (b c : Sketch) → class_of (Some k) ≡ 0 → repeats k b c ≡ []
+quiet NODE_PAT_ENTRY b c e = absurd (cc)
+quiet _ b c e = refl
 
-quiet : (k : SyntaxKind) (x : Place) (b c : Sketch) → row_class x ≡ 0 → row_class x ≡ class_of_kind k → repeats k b c ≡ []
-quiet NODE_PAT_ENTRY x b c h e = absurd (cc)
-quiet _ x b c h e = refl
+-- an entry is reported if it repeats a name
+loud : (k : SyntaxKind) (b c : Sketch) → class_of (Some k) ≡ 1 → repeats k b c ≡ repeated b c
+loud NODE_PAT_ENTRY b c e = refl
+loud _ b c e = absurd (cc)
 
-loud : (k : SyntaxKind) (x : Place) (b c : Sketch) → row_class x ≡ 1 → row_class x ≡ class_of_kind k → repeats k b c ≡ repeated b c
-loud NODE_PAT_ENTRY x b c h e = refl
-loud _ x b c h e = absurd (cc)
+-- the kinds of nodes that are open
+abbrev pub is_inner : SyntaxKind → Bool
+is_inner k = nat_le (class_of (Some k)) 1
 
-closes_by : (x : Place) (act : Action) → Ends x act → (k : SyntaxKind) (d n : ℕ) (b c : Sketch) (F : Frame) (fs : List Frame) (ts : List Token) (gs : List Fault) → row_class x ≡ class_of_kind k
+-- the end of a row completes its node
+closes_by : (v : ℕ) (act : Action) → is_ending v act ≡ true → (k : SyntaxKind) (d n : ℕ) (x : Place) (c : Sketch) (F : Frame) (fs : List Frame) (ts : List Token) (gs : List Fault)
+    → v ≡ class_of (Some k) → is_inner k ≡ true
     → perform false act (opened (Node k) x d c) (F ∷ fs) ts n gs ≡ machine (put F.place (F.row ⊕ one_branch k c) F ∷ fs) ts n (gs ++ repeats k F.row c)
-closes_by x act (plainly r) k d n b c F fs ts gs e =
-    ap (λ z. machine (put F.place (F.row ⊕ one_branch k c) F ∷ fs) ts n z) (sym (append-nil gs) ∙ ap (λ z. gs ++ z) (sym (quiet k x F.row c r e)))
-closes_by x act (pattern r) k d n b c F fs ts gs e =
-    ap (λ z. machine (put F.place (F.row ⊕ one_branch k c) F ∷ fs) ts n z) (sym (append-nil gs) ∙ ap (λ z. gs ++ z) (sym (quiet k x F.row c r e)))
-closes_by x act (entry r) k d n b c F fs ts gs e =
-    ap (λ z. machine (put F.place (F.row ⊕ one_branch k c) F ∷ fs) ts n z) (ap (λ z. gs ++ z) (sym (loud k x F.row c r e)))
-closes_by x act (second r) k d n b c F fs ts gs e = no_realm k 0 x r e
-closes_by x act (last r) k d n b c F fs ts gs e = no_realm k 1 x r e
+closes_by zero a.Close i k d n x c F fs ts gs e h =
+    ap (λ z. machine (put F.place (F.row ⊕ one_branch k c) F ∷ fs) ts n z) (sym (append-nil gs) ∙ ap (λ z. gs ++ z) (sym (quiet k F.row c (sym e))))
+closes_by zero a.ClosePattern i k d n x c F fs ts gs e h =
+    ap (λ z. machine (put F.place (F.row ⊕ one_branch k c) F ∷ fs) ts n z) (sym (append-nil gs) ∙ ap (λ z. gs ++ z) (sym (quiet k F.row c (sym e))))
+closes_by (suc zero) a.CloseEntry i k d n x c F fs ts gs e h =
+    ap (λ z. machine (put F.place (F.row ⊕ one_branch k c) F ∷ fs) ts n (gs ++ z)) (sym (loud k F.row c (sym e)))
+closes_by (suc (suc v)) act i k d n x c F fs ts gs e h = absurd (omega (arith, e, at_most (class_of (Some k)) 1 h))
+closes_by v act i k d n x c F fs ts gs e h = absurd (true_is_not_false (sym i))
 
--- then its node is complete
-pub closes_node : (k : SyntaxKind) (x : Place) (d n : ℕ) (c : Sketch) (F : Frame) (fs : List Frame) (ts : List Token) (gs : List Fault) → IsOver (At x) n ts → row_class x ≡ class_of_kind k
-    → step false (machine (opened (Node k) x d c ∷ (F ∷ fs)) ts n gs) ≡ machine (put F.place (F.row ⊕ one_branch k c) F ∷ fs) ts n (gs ++ repeats k F.row c)
-closes_node k x d n c F fs ts gs o e = closes_by x (action_at x (head_kind ts) (touches n ts)) (ends_at x n ts o) k d n c c F fs ts gs e
+-- a node whose row is read to its end is complete
+pub node_read : (k : SyntaxKind) (d m : ℕ) (x : Place) (g : Sketch) (vs : List Token) (f : Sketch) (ds : List Fault) → ReadOn k d m x g vs f ds
+    → row_class x ≡ class_of (Some k) → is_inner k ≡ true → (h : Head) (y : Place) (e : ℕ) (b : Sketch) (fs : List Frame) (gs : List Fault)
+    → Runs false (machine (opened (Node k) x d g ∷ (opened h y e b ∷ fs)) (tokens_in f ++ vs) m gs)
+    (machine (opened h y e (b ⊕ one_branch k (g ⊕ f)) ∷ fs) vs (end_from m (tokens_in f)) (gs ++ (ds ++ repeats k b (g ⊕ f))))
+node_read k d m x g vs f ds r c i h y e b fs gs =
+    let n : ℕ = end_from m (tokens_in f) in
+    runs_on (r.row (Node k) (opened h y e b ∷ fs) gs refl refl)
+    (step_to
+    (closes_by (row_class r.place) (action_at r.place (head_kind vs) (touches n vs)) (ends_at r.place n vs r.over) k d n r.place (g ⊕ f) (opened h y e b) fs vs (gs ++ ds) (r.same ∙ c) i)
+    (runs_to (ap (λ q. machine (opened h y e (b ⊕ one_branch k (g ⊕ f)) ∷ fs) vs n q) (append_assoc gs ds (repeats k b (g ⊕ f)))) here))
 
-twice_by : (x : Place) (act : Action) → Ends x act → (d n : ℕ) (c : Sketch) (F : Frame) (fs : List Frame) (ts : List Token) (gs : List Fault) → row_class x ≡ 2
+-- so is an operand's
+pub operand_read : (k : SyntaxKind) (d m : ℕ) (x : Place) (g : Sketch) (vs : List Token) (f : Sketch) (ds : List Fault) → ReadOn k d m x g vs f ds
+    → row_class x ≡ 0 → class_of (Some k) ≡ 0 → (y : Place) (e : ℕ) (fs : List Frame) (gs : List Fault)
+    → Runs false (machine (opened (Node k) x d g ∷ (opened Operand y e blank ∷ fs)) (tokens_in f ++ vs) m gs)
+    (machine (opened Operand y e (one_branch k (g ⊕ f)) ∷ fs) vs (end_from m (tokens_in f)) (gs ++ ds))
+operand_read k d m x g vs f ds r c q y e fs gs =
+    runs_to (ap (λ z. machine (opened Operand y e (one_branch k (g ⊕ f)) ∷ fs) vs (end_from m (tokens_in f)) (gs ++ z)) (ap (λ z. ds ++ z) (quiet k blank (g ⊕ f) q) ∙ append-nil ds))
+    (node_read k d m x g vs f ds r (c ∙ sym q) (ap (λ z. nat_le z 1) q) Operand y e blank fs gs)
+
+-- the end of a second name completes it
+twice_by : (act : Action) → is_ending 2 act ≡ true → (x : Place) (d n : ℕ) (c : Sketch) (F : Frame) (fs : List Frame) (ts : List Token) (gs : List Fault)
     → perform false act (opened Second x d c) (F ∷ fs) ts n gs ≡ machine (put F.place (F.row ⊕ one_fault Twice c) F ∷ fs) ts n (gs ++ report Twice (tokens_in c) ∷ [])
-twice_by x act (plainly r) d n c F fs ts gs e = absurd (cc)
-twice_by x act (pattern r) d n c F fs ts gs e = absurd (cc)
-twice_by x act (entry r) d n c F fs ts gs e = absurd (cc)
-twice_by x act (second r) d n c F fs ts gs e = refl
-twice_by x act (last r) d n c F fs ts gs e = absurd (cc)
+twice_by a.CloseTwice i x d n c F fs ts gs = refl
+twice_by _ i x d n c F fs ts gs = absurd (true_is_not_false (sym i))
 
--- or a second name is
+-- a second name whose row ends is complete
 pub closes_second : (x : Place) (d n : ℕ) (c : Sketch) (F : Frame) (fs : List Frame) (ts : List Token) (gs : List Fault) → IsOver (At x) n ts → row_class x ≡ 2
     → step false (machine (opened Second x d c ∷ (F ∷ fs)) ts n gs) ≡ machine (put F.place (F.row ⊕ one_fault Twice c) F ∷ fs) ts n (gs ++ report Twice (tokens_in c) ∷ [])
-closes_second x d n c F fs ts gs o e = twice_by x (action_at x (head_kind ts) (touches n ts)) (ends_at x n ts o) d n c F fs ts gs e
+closes_second x d n c F fs ts gs o e =
+    twice_by (action_at x (head_kind ts) (touches n ts)) (sym (ap (λ v. is_ending v (action_at x (head_kind ts) (touches n ts))) e)
+    ∙ ends_at x n ts o) x d n c F fs ts gs

@@ -6,44 +6,41 @@ use Rattle.rnix_grammar.specs.declared.place.Place.{Place}
 use Rattle.rnix_grammar.specs.declared.place.Place.TheVariants as p
 use Rattle.rnix_grammar.specs.Fault.{Fault}
 use Rattle.rnix_grammar.specs.Slots.{slot_at, level_in}
-use Rattle.rnix_grammar.specs.Sketch.{Token, Twice, Sketch, blank, token, branch, fault, ◌⊕◌, one_token, one_branch, one_fault, row_of, tokens_in, end_from}
+use Rattle.rnix_grammar.specs.Sketch.{Token, Twice, Sketch, blank, token, branch, fault, ◌⊕◌, one_token, one_branch, one_fault, row_of, tokens_in, told, end_from}
 use Rattle.rnix_grammar.specs.Reports.{report, repeats}
 use Rattle.rnix_grammar.specs.Rows.{Spot, At, SecondStart, go, live, start}
 use Rattle.rnix_grammar.specs.OwnItems.{owns, stands_owned_in}
 use Rattle.rnix_grammar.specs.Operands.{IsOperand}
 use Rattle.rnix_grammar.specs.Reads.{Reads, end, leaf, lost, wrong, second, inner, deeper, IsOver, IsWrong}
+use Rattle.rnix_lemmas.proofs.EveryKind.{only}
 use Rattle.rnix_lemmas.proofs.SketchLemmas.{tokens_in-row_of}
 use Rattle.rnix_lemmas.proofs.PlaceTests.{same_place}
 use Rattle.rnix_lemmas.proofs.PlainPlaces.{Reaches, reaches}
 use Rattle.rnix_uniqueness.proofs.StepReads.{ReadsRow}
-use Rattle.rnix_uniqueness.proofs.ReadingHeights.{height, Short, Trees, less, less_left, less_right}
+use Rattle.rnix_uniqueness.proofs.ReadingHeights.{height, Short, AllRows, Trees, front_of, short_to, less, less_left, less_right}
 use Rattle.rnix_uniqueness.proofs.PlacedNodes.{node_read_at}
-use Rattle.rnix_uniqueness.proofs.RowTrees.{ReadsOne, row_end, row_on, row_lost, one_leaf}
-use Rattle.rnix_uniqueness.proofs.RowNodes.{one_second}
-use Rattle.rnix_uniqueness.proofs.FirstItems.{fronted, Opened, second_by}
-use Rattle.rnix_uniqueness.proofs.InnerReads.{AllRows, ReadOn, read_on, inner_one}
+use Rattle.rnix_uniqueness.proofs.RowTrees.{ReadsOne, row_end, row_on, row_lost, one_leaf, one_second}
+use Rattle.rnix_uniqueness.proofs.RowClasses.{read_on}
+use Rattle.rnix_uniqueness.proofs.FirstItems.{row_of_kind, item_next}
+use Rattle.rnix_uniqueness.proofs.InnerReads.{inner_one}
 use Rattle.rnix_uniqueness.proofs.WrongReads.{WrongOne, wrong_one}
 
 -- the rest of a row behind a place
 shift : (m : ℕ) {p : SyntaxKind} {d n e : ℕ} {q s : Spot} {x : Place} {b c : Sketch} {us : List Token} {f : Sketch} {es : List Fault} (r : Reads p d n q s b us f es) → height r ≤ m → q ≡ At x → b ≡ c → n ≡ e
     → Short m p d e (At x) s c us f es
-shift m {p = p} {d = d} {n = n} {e = e} {q = q} {s = s} {x = x} {b = b} {c = c} {us = us} {f = f} {es = es} r h u v w =
-    subst (λ (z : Spot). Short m p d e z s c us f es) u
-    (subst (λ (z : Sketch). Short m p d e q s z us f es) v (subst (λ (z : ℕ). Short m p d z q s b us f es) w (record { reads = r; short = h })))
+shift m r h u v w = short_to u v w (record { reads = r; short = h })
 
-second_one : (m : ℕ) → AllRows m → (q : SyntaxKind) (d n : ℕ) (b c : Sketch) (vs : List Token) (ds : List Fault) (s : Spot) → Short m NODE_ERROR d n SecondStart s blank vs c ds
+-- a second name is read
+second_one : (m : ℕ) → AllRows m → (q : SyntaxKind) (d n : ℕ) (b c : Sketch) (vs : List Token) (ds : List Fault) (s : Spot)
+    → Short m NODE_ERROR d n SecondStart s blank vs c ds
     → IsOver s (end_from n (tokens_in c)) vs → ReadsOne q d n (p.PatternEnd true) p.PatternPast b (tokens_in c) vs (one_fault Twice c) (ds ++ report Twice (tokens_in c) ∷ [])
-second_one m rows q d n b c vs ds s short over = by (second_by m d n s vs over.0 (fronted m NODE_ERROR d n SecondStart s vs c ds short refl over.0))
-  where
-    by : Opened m NODE_ERROR TOKEN_AT p.TwiceName d n s vs c ds → ReadsOne q d n (p.PatternEnd true) p.PatternPast b (tokens_in c) vs (one_fault Twice c) (ds ++ report Twice (tokens_in c) ∷ [])
-    by o =
-        subst (λ (v : Sketch). ReadsOne q d n (p.PatternEnd true) p.PatternPast b (tokens_in v) vs (one_fault Twice v) (ds ++ report Twice (tokens_in v) ∷ [])) (sym o.is)
-        (on (read_on m rows NODE_ERROR d o.item.end p.TwiceName s (one_token TOKEN_AT o.item) vs o.more ds (end_from o.item.end (tokens_in o.more)) o.rest
-        (subst (λ (v : Sketch). IsOver s (end_from n (tokens_in v)) vs) o.is over)))
-      where
-        on : ReadOn NODE_ERROR d o.item.end p.TwiceName (one_token TOKEN_AT o.item) vs o.more ds (end_from o.item.end (tokens_in o.more))
-            → ReadsOne q d n (p.PatternEnd true) p.PatternPast b (o.item ∷ tokens_in o.more) vs (one_fault Twice (token TOKEN_AT o.item o.more)) (ds ++ report Twice (o.item ∷ tokens_in o.more) ∷ [])
-        on r = one_second q d n r.place b TOKEN_AT o.item o.more vs ds (sym o.told) o.told r.row r.home r.over
+second_one m rows q d n b c vs ds s r over =
+    let w = item_next refl (front_of refl r refl over.0) in
+    let e : w.item.kind ≡ TOKEN_AT = only (λ j. live (go SecondStart j)) TOKEN_AT refl w.item.kind w.alive in
+    subst (λ (v : Sketch). IsOver s (end_from n (tokens_in v)) vs
+    → ReadsOne q d n (p.PatternEnd true) p.PatternPast b (tokens_in v) vs (one_fault Twice v) (ds ++ report Twice (tokens_in v) ∷ [])) (sym w.is)
+    (λ over. one_second q d n b w.item w.more vs ds e
+    (read_on m rows NODE_ERROR d w.item.end p.TwiceName s (one_token (told NODE_ERROR w.item) w.item) vs w.more ds (short_to (ap (go SecondStart) e) refl refl w.rest) over)) over
 
 -- a row that is at most one higher is read
 pub row_next : (m : ℕ) → AllRows m → Trees m → {k : SyntaxKind} {d n : ℕ} {x y : Place} {b : Sketch} {us : List Token} {f : Sketch} {es : List Fault}
@@ -89,6 +86,7 @@ row_next m rows trees {k = q} {d = d} {n = n} {x = x} {y = y} {b = b} {us = us} 
         (subst (λ (w : List Token). Short m k (deeper (At x) d) n (start k) s blank w c ds) v (record { reads = r; short = less_left (height r) (height r') m h }))
         (subst (λ (w : List Token). IsOver s (end_from n (tokens_in c)) w) v (subst (λ (w : ℕ). IsOver s w vs) e over))
         room (subst (λ (w : List Token). IsOperand (level_in (slot_at x)) (one_branch k c) w) v op)
-        (node_read_at x z.place n (tokens_in c ++ (tokens_in f ++ us)) k z.is
+        (node_read_at x z.place n (tokens_in c ++ (tokens_in f ++ us)) k (row_of_kind (record { reads = r; short = less_left (height r) (height r') m h }) over.0) z.is
         (subst (λ (w : List Token). owns x n (tokens_in c ++ w) ≡ stands_owned_in (slot_at x) k) v (subst (λ (w : List Token). owns x n w ≡ stands_owned_in (slot_at x) k) u o))))
-        (rows q d (end_from n (tokens_in c)) z.place y (b ⊕ one_branch k c) us f es (shift m r' (less_right (height r) (height r') m h) (sym g ∙ z.is) hg e)) refl)
+        (rows q d (end_from n (tokens_in c)) z.place y (b ⊕ one_branch k c) us f es (shift m r' (less_right (height r) (height r') m h) (sym g
+        ∙ z.is) hg e)) refl)

@@ -17,14 +17,15 @@ ReadsRow k d n x y b us f es =
     (h : Head) (fs : List Frame) (gs : List Fault) → is_open h ≡ true → kind_of h ≡ k
     → Runs false (machine (opened h x d b ∷ fs) (tokens_in f ++ us) n gs) (machine (opened h y d (b ⊕ f) ∷ fs) us (end_from n (tokens_in f)) (gs ++ es))
 
--- The steps have read a tree as an operand, from its first item on.
-pub record IsOperandRead (level d n : ℕ) (x : Sketch) (after : List Token) (ds : List Fault) (f : Frame) (fs : List Frame) (gs : List Fault) : Type 0 where
+-- The steps have read a tree of some items as an operand.
+pub record IsOperandRead (level d n : ℕ) (zs : List Token) (x : Sketch) (after : List Token) (ds : List Fault) (f : Frame) (fs : List Frame) (gs : List Fault) : Type 0 where
   pub high : ℕ
   pub followed : FollowedTo high x
-  pub runs : Runs false (operand_on false level d f fs (tokens_in x ++ after) (tokens_in x ++ after) n gs)
-      (machine (opened Operand (p.Behind level high) d x ∷ (f ∷ fs)) after (end_from n (tokens_in x)) (gs ++ ds))
+  pub runs : Runs false (operand_on false level d f fs (zs ++ after) (zs ++ after) n gs)
+      (machine (opened Operand (p.Behind level high) d x ∷ (f ∷ fs)) after (end_from n zs) (gs ++ ds))
 
 -- So it is at each level that the tree is tight enough for and begins at, whatever waits for the operand.
-abbrev pub ReadsTree : ℕ → ℕ → Sketch → List Token → List Fault → Type 0
-ReadsTree d n x after ds =
-    (level : ℕ) (f : Frame) (fs : List Frame) (gs : List Fault) → level ≤ row_level x → IsBegun level x (tokens_in x ++ after) → IsOperandRead level d n x after ds f fs gs
+abbrev pub ReadsTree : ℕ → ℕ → List Token → Sketch → List Token → List Fault → Type 0
+ReadsTree d n zs x after ds =
+    (level : ℕ) (f : Frame) (fs : List Frame) (gs : List Fault) → level ≤ row_level x → IsBegun level x (zs ++ after)
+    → IsOperandRead level d n zs x after ds f fs gs

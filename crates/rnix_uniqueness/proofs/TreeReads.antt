@@ -1,55 +1,47 @@
 -- Expressions are read as operands, if the rows and the expressions in them are read.
 use Rattle.std.proofs.Common.{◌≡◌, ℕ, suc, ◌≤◌, true, false, List, refl, sym, ◌∙◌, arith}
 use Rattle.rnix_kinds.specs.declared.kinds.SyntaxKind.{SyntaxKind}
-use Rattle.rnix_kinds.specs.declared.kinds.SyntaxKind.TheVariants.{NODE_APPLY, NODE_ASSERT, NODE_ATTR_SET, NODE_BIN_OP, NODE_CUR_POS, NODE_HAS_ATTR, NODE_IDENT, NODE_IF_ELSE, NODE_LAMBDA, NODE_LEGACY_LET, NODE_LET_IN, NODE_LIST, NODE_LITERAL, NODE_PAREN, NODE_PATH_ABS, NODE_PATH_HOME, NODE_PATH_REL, NODE_PATH_SEARCH, NODE_SELECT, NODE_STRING, NODE_UNARY_OP, NODE_WITH}
+use Rattle.rnix_kinds.specs.declared.kinds.SyntaxKind.TheVariants.{NODE_APPLY, NODE_BIN_OP, NODE_HAS_ATTR, NODE_LAMBDA, NODE_LEGACY_LET, NODE_ROOT, NODE_SELECT}
 use Rattle.rnix_grammar.specs.Fault.{Fault}
 use Rattle.rnix_grammar.specs.Sketch.{Token, Sketch, blank, one_branch, tokens_in, end_from}
-use Rattle.rnix_grammar.specs.Rows.{Spot, Start, fits, whole}
+use Rattle.rnix_grammar.specs.Rows.{Spot, Start, fits, start, whole}
 use Rattle.rnix_grammar.specs.Reads.{Reads, end, leaf, lost, wrong, second, inner, IsOver}
 use Rattle.rnix_lemmas.proofs.Basics.{true_is_not_false}
 use Rattle.rnix_lemmas.proofs.ImitateLemmas.{start_half}
 use Rattle.rnix_uniqueness.proofs.StepReads.{ReadsTree}
-use Rattle.rnix_uniqueness.proofs.ReadingHeights.{height, Short, Rows, Trees, Front, front}
-use Rattle.rnix_uniqueness.proofs.NodeRows.{short_from, expression_start}
-use Rattle.rnix_uniqueness.proofs.ItemRows.{leafed_reads, opened_reads, legacy_reads}
+use Rattle.rnix_uniqueness.proofs.ReadingHeights.{height, Short, AllRows, Trees, Front, front, short_to}
+use Rattle.rnix_uniqueness.proofs.ItemRows.{led_reads, legacy_reads}
 use Rattle.rnix_uniqueness.proofs.OperatorRows.{binary_reads, question_reads, selected_reads}
 use Rattle.rnix_uniqueness.proofs.CallRows.{called_reads}
 use Rattle.rnix_uniqueness.proofs.FunctionRows.{lambda_reads}
 
 -- an expression of each kind is read
-kind_reads : (m : ℕ) → Rows m → Trees m → (k : SyntaxKind) (d n : ℕ) (s : Spot) (us : List Token) (c : Sketch) (es : List Fault) → fits 0 k ≡ true → Front m k d n (Start k) s blank us c es
-    → IsOver s (end_from n (tokens_in c)) us → ReadsTree d n (one_branch k c) us es
+kind_reads : (m : ℕ) → AllRows m → Trees m → (k : SyntaxKind) (d n : ℕ) (s : Spot) (us : List Token) (c : Sketch) (es : List Fault)
+    → fits 0 k ≡ true → Front m k d n (Start k) s blank us c es
+    → IsOver s (end_from n (tokens_in c)) us → ReadsTree d n (tokens_in c) (one_branch k c) us es
 kind_reads m rows trees NODE_APPLY d n s us c es h r o = called_reads m trees d n s us c es r o
 kind_reads m rows trees NODE_SELECT d n s us c es h r o = selected_reads m rows trees d n s us c es r o
 kind_reads m rows trees NODE_HAS_ATTR d n s us c es h r o = question_reads m rows trees d n s us c es r o
 kind_reads m rows trees NODE_BIN_OP d n s us c es h r o = binary_reads m rows trees d n s us c es r o
 kind_reads m rows trees NODE_LAMBDA d n s us c es h r o = lambda_reads m rows d n s us c es r o
 kind_reads m rows trees NODE_LEGACY_LET d n s us c es h r o = legacy_reads m rows d n s us c es r o
-kind_reads m rows trees NODE_LITERAL d n s us c es h r o = leafed_reads m NODE_LITERAL d n s us c es refl r
-kind_reads m rows trees NODE_PATH_SEARCH d n s us c es h r o = leafed_reads m NODE_PATH_SEARCH d n s us c es refl r
-kind_reads m rows trees NODE_IDENT d n s us c es h r o = leafed_reads m NODE_IDENT d n s us c es refl r
-kind_reads m rows trees NODE_CUR_POS d n s us c es h r o = leafed_reads m NODE_CUR_POS d n s us c es refl r
-kind_reads m rows trees NODE_PAREN d n s us c es h r o = opened_reads m rows NODE_PAREN d n s us c es refl r o
-kind_reads m rows trees NODE_LIST d n s us c es h r o = opened_reads m rows NODE_LIST d n s us c es refl r o
-kind_reads m rows trees NODE_STRING d n s us c es h r o = opened_reads m rows NODE_STRING d n s us c es refl r o
-kind_reads m rows trees NODE_PATH_ABS d n s us c es h r o = opened_reads m rows NODE_PATH_ABS d n s us c es refl r o
-kind_reads m rows trees NODE_PATH_REL d n s us c es h r o = opened_reads m rows NODE_PATH_REL d n s us c es refl r o
-kind_reads m rows trees NODE_PATH_HOME d n s us c es h r o = opened_reads m rows NODE_PATH_HOME d n s us c es refl r o
-kind_reads m rows trees NODE_ATTR_SET d n s us c es h r o = opened_reads m rows NODE_ATTR_SET d n s us c es refl r o
-kind_reads m rows trees NODE_LET_IN d n s us c es h r o = opened_reads m rows NODE_LET_IN d n s us c es refl r o
-kind_reads m rows trees NODE_WITH d n s us c es h r o = opened_reads m rows NODE_WITH d n s us c es refl r o
-kind_reads m rows trees NODE_ASSERT d n s us c es h r o = opened_reads m rows NODE_ASSERT d n s us c es refl r o
-kind_reads m rows trees NODE_IF_ELSE d n s us c es h r o = opened_reads m rows NODE_IF_ELSE d n s us c es refl r o
-kind_reads m rows trees NODE_UNARY_OP d n s us c es h r o = opened_reads m rows NODE_UNARY_OP d n s us c es refl r o
-kind_reads m rows trees _ d n s us c es h r o = absurd (true_is_not_false (sym h))
+kind_reads m rows trees k d n s us c es h r o = led_reads m rows k d n s us c es h r o
+
+-- an expression's row begins at no place
+expression_start : (k : SyntaxKind) → fits 0 k ≡ true → start k ≡ Start k
+expression_start NODE_ROOT h = absurd (true_is_not_false (sym h))
+expression_start _ h = cc
 
 -- the steps read an expression whose parts they read
-pub tree_runs : (m : ℕ) → Rows m → Trees m → Trees (suc m)
-tree_runs m rows trees k d n s us c es r o h =
-    let q : Short (suc m) k d n (Start k) s blank us c es = short_from (expression_start k h) r in
-    kind_reads m rows trees k d n s us c es h (front m q.reads q.short refl o.0) o
+pub tree_runs : (m : ℕ) → AllRows m → Trees m → Trees (suc m)
+tree_runs m rows trees k d n s us c es r o h = by (short_to (expression_start k h) refl refl r)
+  where
+    by : Short (suc m) k d n (Start k) s blank us c es → ReadsTree d n (tokens_in c) (one_branch k c) us es
+    by q = kind_reads m rows trees k d n s us c es h (front m q.reads q.short refl o.0) o
 
-none_high : {k : SyntaxKind} {d n : ℕ} {q s : Spot} {b : Sketch} {us : List Token} {f : Sketch} {es : List Fault} (r : Reads k d n q s b us f es) → height r ≤ 0 → whole q ≡ false → whole s ≡ true → ⊥
+-- no whole row has no height
+none_high : {k : SyntaxKind} {d n : ℕ} {q s : Spot} {b : Sketch} {us : List Token} {f : Sketch} {es : List Fault} (r : Reads k d n q s b us f es)
+    → height r ≤ 0 → whole q ≡ false → whole s ≡ true → ⊥
 none_high end h w o = true_is_not_false (sym o ∙ w)
 none_high (leaf e v x y g l c i r) h w o = omega (arith, h)
 none_high (lost u f l x r z) h w o = omega (arith, h)

@@ -1,5 +1,5 @@
 -- An error node that stands at a place of a row is read there.
-use Rattle.std.proofs.Common.{◌≡◌, ℕ, Bool, true, false, List, [], ◌∷◌, ◌++◌, Option, Some, None, length, refl, ap, sym, ◌∙◌, subst, append-nil}
+use Rattle.std.proofs.Common.{◌≡◌, ℕ, Bool, true, false, List, [], ◌∷◌, ◌++◌, Option, Some, length, refl, ap, sym, ◌∙◌, subst, append-nil}
 use Rattle.std.specs.Prelude.{if◌then◌else◌}
 use Rattle.rnix_kinds.specs.declared.kinds.SyntaxKind.{SyntaxKind}
 use Rattle.rnix_kinds.specs.declared.kinds.SyntaxKind.TheVariants.{NODE_LITERAL}
@@ -8,16 +8,13 @@ use Rattle.rnix_grammar.specs.declared.place.Place.TheVariants as p
 use Rattle.rnix_grammar.specs.declared.slot.Slot.{Slot}
 use Rattle.rnix_grammar.specs.declared.slot.Slot.TheVariants as s
 use Rattle.rnix_grammar.specs.declared.until.Until.{Until}
-use Rattle.rnix_grammar.specs.declared.until.Closer.{Closer}
 use Rattle.rnix_grammar.specs.declared.action.Action.TheVariants as a
-use Rattle.rnix_grammar.specs.Tables.{is_wanted, closes, depth_limit}
+use Rattle.rnix_grammar.specs.Tables.{depth_limit}
 use Rattle.rnix_grammar.specs.Slots.{slot_at, level_in, is_counted}
-use Rattle.rnix_grammar.specs.Actions.{done_at}
 use Rattle.rnix_grammar.specs.Missing.{run_at, run_of}
 use Rattle.rnix_grammar.specs.Sketch.{touches, Token, Note, Stray, Unwanted, Extra, Twice, TooDeep, Sketch, one_fault, row_of, is_some, head_kind}
 use Rattle.rnix_grammar.specs.Reports.{report}
 use Rattle.rnix_grammar.specs.Rows.{Spot, At, Nowhere, fits, go, go_slot, live, to}
-use Rattle.rnix_grammar.specs.Plain.{is_node}
 use Rattle.rnix_grammar.specs.OwnItems.{owns}
 use Rattle.rnix_grammar.specs.Operands.{IsOperand}
 use Rattle.rnix_grammar.specs.Reads.{deeper, IsRoom, IsWrong}
@@ -25,72 +22,62 @@ use Rattle.rnix_lemmas.proofs.Basics.{true_is_not_false}
 use Rattle.rnix_lemmas.proofs.PlaceTests.{same_place}
 use Rattle.rnix_lemmas.proofs.PlaceTests.{to_test, no_place}
 use Rattle.rnix_lemmas.proofs.PlainPlaces.{Reaches, reaches}
-use Rattle.rnix_lemmas.proofs.PlaceTests.{closer_leaf, wanted_leaf}
-use Rattle.rnix_uniqueness.proofs.ItemOperands.{tree_stray}
-use Rattle.rnix_uniqueness.proofs.PlacedNodes.{own_next, own_at}
-use Rattle.rnix_uniqueness.proofs.RowTrees.{ReadsOne, one_operand}
-use Rattle.rnix_uniqueness.proofs.RowNodes.{one_unwanted, one_extra, one_deep}
+use Rattle.rnix_lemmas.proofs.RowKinds.{no_wanted, no_closing}
+use Rattle.rnix_uniqueness.proofs.ItemRows.{stray_reads}
+use Rattle.rnix_uniqueness.proofs.PlacedNodes.{own_next, own_at, Operands, series_read}
+use Rattle.rnix_uniqueness.proofs.RowTrees.{ReadsOne, one_operand, one_unwanted, one_extra, one_deep}
 use Rattle.rnix_uniqueness.proofs.ReadingHeights.{lone_token}
 
--- where an operand stands in a slot, it is read
-record Operands (slot : Slot) (x y : Place) (touch : Bool) (next : Option SyntaxKind) : Type 0 where
-  pub level : ℕ
-  pub is : level_in slot ≡ Some level
-  pub act : done_at slot x next touch ≡ a.Read level (is_counted slot) y
-
-no_literal : {A : Type 0} → is_node NODE_LITERAL ≡ false → A
-no_literal h = absurd (true_is_not_false h)
-
-literal_series : (level : ℕ) (closer : Closer) (x y : Place) (touch : Bool) (next : Option SyntaxKind) (w : Bool) → closes closer NODE_LITERAL ≡ w → own_next (s.Series level closer) touch next ≡ false
-    → (if w then At p.Past else to (fits level NODE_LITERAL) (At x)) ≡ At y → Operands (s.Series level closer) x y touch next
-literal_series level closer x y touch next true e o h = no_literal (closer_leaf closer NODE_LITERAL e)
-literal_series level closer x y touch None false e o h = absurd (true_is_not_false o)
-literal_series level closer x y touch (Some j) false e o h =
-    let q = to_test (fits level NODE_LITERAL) x y h in
-    record { level = level; is = refl; act = ap (λ w. if w then a.Take p.Past else a.Read level true x) o ∙ ap (λ z. a.Read level true z) q.1 }
-
-literal_entries : (closer : Closer) (x y z : Place) (touch : Bool) (next : Option SyntaxKind) (w : Bool) → closes closer NODE_LITERAL ≡ w → (if w then At z else Nowhere) ≡ At y → Operands (s.Entries closer z) x y touch next
-literal_entries closer x y z touch next true e h = no_literal (closer_leaf closer NODE_LITERAL e)
-literal_entries closer x y z touch next false e h = absurd (no_place y h)
-
-literal_in : (slot : Slot) (x y : Place) (touch : Bool) (next : Option SyntaxKind) → go_slot slot x NODE_LITERAL ≡ At y → own_next slot touch next ≡ false → Operands slot x y touch next
+-- where an error node stands for an operand, an operand is read
+literal_in : (slot : Slot) (x y : Place) (touch : Bool) (next : Option SyntaxKind) → go_slot slot x NODE_LITERAL ≡ At y
+    → own_next slot touch next ≡ false → Operands slot x y touch next NODE_LITERAL
 literal_in (s.Operand level counted z) x y touch next h o =
-    let q = to_test (fits level NODE_LITERAL) z y h in record { level = level; is = refl; act = ap (λ w. a.Read level counted w) q.1 }
-literal_in (s.Series level closer) x y touch next h o = literal_series level closer x y touch next (closes closer NODE_LITERAL) refl o h
-literal_in (s.Token until z) x y touch next h o = no_literal (wanted_leaf until NODE_LITERAL (to_test (is_wanted until NODE_LITERAL) z y h).0)
-literal_in (s.Entries closer z) x y touch next h o = literal_entries closer x y z touch next (closes closer NODE_LITERAL) refl h
+    let q = to_test (fits level NODE_LITERAL) z y h in record { level = level; is = refl; fit = q.0; act = ap (λ w. a.Read level counted w) q.1 }
+literal_in (s.Series level closer) x y touch next h o = series_read level closer x y touch next NODE_LITERAL refl o h
+literal_in (s.Token until z) x y touch next h o = absurd (no_place y (sym (ap (λ w. to w (At z)) (no_wanted until NODE_LITERAL refl)) ∙ h))
+literal_in (s.Entries closer z) x y touch next h o = absurd (no_place y (sym (ap (λ w. if w then At z else Nowhere) (no_closing closer NODE_LITERAL refl)) ∙ h))
 literal_in (s.Bind true) x y touch next h o = absurd (no_place y h)
 literal_in (s.Bind false) x y touch next h o = absurd (no_place y h)
 literal_in _ x y touch next h o = absurd (no_place y h)
 
-literal_at : (x y : Place) (n : ℕ) (ts : List Token) → go (At x) NODE_LITERAL ≡ At y → owns x n ts ≡ false → Operands (slot_at x) x y (touches n ts) (head_kind ts)
+-- so at a place
+literal_at : (x y : Place) (n : ℕ) (ts : List Token) → go (At x) NODE_LITERAL ≡ At y → owns x n ts ≡ false
+    → Operands (slot_at x) x y (touches n ts) (head_kind ts) NODE_LITERAL
 literal_at x y n ts h o = literal_in (slot_at x) x y (touches n ts) (head_kind ts) h (sym (own_at x n ts) ∙ o)
 
+-- an item that begins no operand
 stray_one : (q : SyntaxKind) (d n : ℕ) (x z : Place) (b : Sketch) (ts vs : List Token) → length ts ≡ 1 → owns x n (ts ++ vs) ≡ false → IsRoom (At x) d
-    → IsOperand (level_in (slot_at x)) (one_fault Stray (row_of ts)) vs → go (At x) NODE_LITERAL ≡ At z → ReadsOne q d n x z b ts vs (one_fault Stray (row_of ts)) (report Stray ts ∷ [])
+    → IsOperand (level_in (slot_at x)) (one_fault Stray (row_of ts)) vs → go (At x) NODE_LITERAL ≡ At z
+    → ReadsOne q d n x z b ts vs (one_fault Stray (row_of ts)) (report Stray ts ∷ [])
 stray_one q d n x z b ts vs l o room op g = by (lone_token ts l)
   where
     by : (t : Token) × (ts ≡ t ∷ []) → ReadsOne q d n x z b ts vs (one_fault Stray (row_of ts)) (report Stray ts ∷ [])
     by w =
-        let r : Operands (slot_at x) x z (touches n (w.0 ∷ vs)) (Some w.0.kind) = literal_at x z n (w.0 ∷ vs) g (subst (λ (v : List Token). owns x n (v ++ vs) ≡ false) w.1 o) in
+        let r : Operands (slot_at x) x z (touches n (w.0 ∷ vs)) (Some w.0.kind) NODE_LITERAL = literal_at x z n (w.0 ∷ vs) g (subst (λ (v : List Token). owns x n (v ++ vs) ≡ false) w.1 o) in
+        let p : IsOperand (Some r.level) (one_fault Stray (row_of (w.0 ∷ []))) vs =
+        subst (λ (v : Option ℕ). IsOperand v (one_fault Stray (row_of (w.0 ∷ []))) vs) r.is (subst (λ (v : List Token). IsOperand (level_in (slot_at x)) (one_fault Stray (row_of v)) vs) w.1 op) in
         subst (λ (v : List Token). ReadsOne q d n x z b v vs (one_fault Stray (row_of v)) (report Stray v ∷ [])) (sym w.1)
-        (one_operand q d n r.level x z b (one_fault Stray (row_of (w.0 ∷ []))) vs (report Stray (w.0 ∷ []) ∷ []) r.act room
-        (subst (λ (v : Option ℕ). IsOperand v (one_fault Stray (row_of (w.0 ∷ []))) vs) r.is (subst (λ (v : List Token). IsOperand (level_in (slot_at x)) (one_fault Stray (row_of v)) vs) w.1 op))
-        (tree_stray w.0 (deeper (At x) d) n vs))
+        (one_operand q d n r.level x z b (w.0 ∷ []) (one_fault Stray (row_of (w.0 ∷ []))) vs (report Stray (w.0 ∷ []) ∷ []) r.act room p.0 p.1 p.2 (stray_reads w.0 (deeper (At x) d) n vs))
 
-unwanted_one : (q : SyntaxKind) (d n : ℕ) (x z : Place) (b : Sketch) (until : Until) (ts vs : List Token) → is_some ts ≡ true → ts ≡ run_of until (ts ++ vs) → run_at x ≡ Some (until, z)
+-- items that are not wanted
+unwanted_one : (q : SyntaxKind) (d n : ℕ) (x z : Place) (b : Sketch) (until : Until) (ts vs : List Token) → is_some ts ≡ true
+    → ts ≡ run_of until (ts ++ vs) → run_at x ≡ Some (until, z)
     → owns x n (ts ++ vs) ≡ false → ReadsOne q d n x z b ts vs (one_fault (Unwanted until) (row_of ts)) (report (Unwanted until) ts ∷ [])
 unwanted_one q d n x z b until [] vs i r a o = absurd (true_is_not_false (sym i))
 unwanted_one q d n x z b until (t ∷ ts) vs i r a o = one_unwanted q d n x z b until t ts vs r a o
 
-extra_one : (q : SyntaxKind) (d n : ℕ) (b : Sketch) (ts : List Token) → is_some ts ≡ true → ReadsOne q d n p.RootEnd p.RootEnd b ts [] (one_fault Extra (row_of ts)) (report Extra ts ∷ [])
+-- items behind the root's expression
+extra_one : (q : SyntaxKind) (d n : ℕ) (b : Sketch) (ts : List Token) → is_some ts ≡ true
+    → ReadsOne q d n p.RootEnd p.RootEnd b ts [] (one_fault Extra (row_of ts)) (report Extra ts ∷ [])
 extra_one q d n b [] i = absurd (true_is_not_false (sym i))
 extra_one q d n b (t ∷ ts) i = one_extra q d n b t ts
 
-deep_one : (q : SyntaxKind) (d n : ℕ) (x z : Place) (b : Sketch) (ts : List Token) → owns x n ts ≡ false → is_counted (slot_at x) ≡ true → d ≡ depth_limit → go (At x) NODE_LITERAL ≡ At z
+-- items that are nested too deep
+deep_one : (q : SyntaxKind) (d n : ℕ) (x z : Place) (b : Sketch) (ts : List Token) → owns x n ts ≡ false → is_counted (slot_at x) ≡ true
+    → d ≡ depth_limit → go (At x) NODE_LITERAL ≡ At z
     → ReadsOne q d n x z b ts [] (one_fault TooDeep (row_of ts)) (report TooDeep ts ∷ [])
 deep_one q d n x z b ts o k e g =
-    let r : Operands (slot_at x) x z (touches n ts) (head_kind ts) = literal_at x z n ts g o in
+    let r : Operands (slot_at x) x z (touches n ts) (head_kind ts) NODE_LITERAL = literal_at x z n ts g o in
     one_deep q d n r.level x z b ts (r.act ∙ ap (λ v. a.Read r.level v z) k) e
 
 -- an error node at a place, and the place behind it
@@ -100,7 +87,8 @@ pub record WrongOne (q : SyntaxKind) (d n : ℕ) (x : Place) (r : Spot) (b : Ske
   pub one : ReadsOne q d n x place b ts vs (one_fault note (row_of ts)) (report note ts ∷ [])
 
 -- an error node at a place is read there
-pub wrong_one : (q : SyntaxKind) (d n : ℕ) (x : Place) (r : Spot) (b : Sketch) (note : Note) (ts vs : List Token) → owns x n (ts ++ vs) ≡ false → IsWrong note d (At x) r ts vs → WrongOne q d n x r b note ts vs
+pub wrong_one : (q : SyntaxKind) (d n : ℕ) (x : Place) (r : Spot) (b : Sketch) (note : Note) (ts vs : List Token) → owns x n (ts ++ vs) ≡ false
+    → IsWrong note d (At x) r ts vs → WrongOne q d n x r b note ts vs
 wrong_one q d n x r b Stray ts vs o w = by (reaches x NODE_LITERAL (ap live w.3 ∙ w.4))
   where
     by : Reaches x (go (At x) NODE_LITERAL) → WrongOne q d n x r b Stray ts vs

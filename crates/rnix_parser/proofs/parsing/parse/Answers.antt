@@ -1,5 +1,5 @@
 use Rattle.std.proofs.lemmas.Result.{IfOk-weaker}
-use Rattle.rnix_parser.proofs.ParsedLemmas.{read_parsed}
+use Rattle.rnix_parser.proofs.OneReading.{read_parsed}
 use Rattle.rnix_parser.proofs.parsing.parse.Goals as goal
 
 pub returns : goal.returns

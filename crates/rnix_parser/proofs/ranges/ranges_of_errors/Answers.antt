@@ -1,6 +1,6 @@
 use Rattle.rnix_grammar.specs.Sketch.{clean}
 use Rattle.rnix_rows.proofs.ParsedRanges.{parsed_order, parsed_nodes}
-use Rattle.rnix_parser.proofs.OneReading.{reads_stand}
+use Rattle.rnix_rows.proofs.ReadsStand.{reads_stand}
 use Rattle.rnix_parser.proofs.ranges.ranges_of_errors.Goals as goal
 
 pub returns : goal.returns

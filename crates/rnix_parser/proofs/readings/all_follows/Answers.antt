@@ -1,7 +1,7 @@
 use Rattle.std.proofs.Common.{[]}
 use Rattle.rnix_kinds.proofs.Lexical.Laws.{AreSound-tokens_under}
 use Rattle.rnix_kinds.specs.Lexical.Tokens.{tokens_of}
-use Rattle.rnix_parser.proofs.OneReading.{all_follows}
+use Rattle.rnix_parser.proofs.ParsedLemmas.{all_follows}
 use Rattle.rnix_parser.proofs.readings.all_follows.Goals as goal
 
 pub returns : goal.returns

@@ -1,5 +1,6 @@
 use Rattle.rnix_grammar.specs.Sketch.{clean}
-use Rattle.rnix_parser.proofs.OneReading.{reads_stand, reads_shallow, reads_limited}
+use Rattle.rnix_rows.proofs.ReadsNest.{reads_shallow, reads_limited}
+use Rattle.rnix_rows.proofs.ReadsStand.{reads_stand}
 use Rattle.rnix_parser.proofs.readings.error_forms.Goals as goal
 
 pub returns : goal.returns

@@ -1,8 +1,6 @@
-use Rattle.std.proofs.Common.{[]}
-use Rattle.rnix_kinds.proofs.Lexical.Laws.{AreSound-tokens_under}
 use Rattle.rnix_kinds.specs.Lexical.Tokens.{tokens_of}
 use Rattle.rnix_parser.proofs.OneReading.{has_reading}
 use Rattle.rnix_parser.proofs.readings.has_reading.Goals as goal
 
 pub returns : goal.returns
-returns c = has_reading (tokens_of c.args.text.now) (AreSound-tokens_under [] c.args.text.now c.utf8.text).named
+returns c = has_reading (tokens_of c.args.text.now)

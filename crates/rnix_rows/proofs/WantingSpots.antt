@@ -1,0 +1,119 @@
+-- Which spots want a token or what a run of others may stand before, and what stands before such spots.
+use Rattle.std.proofs.Common.{◌≡◌, Bool, true, false, refl, ap, sym, ◌∙◌}
+use Rattle.std.proofs.lemmas.Bool.{and_parts}
+use Rattle.std.specs.List.{list_all}
+use Rattle.std.specs.Prelude.{◌||◌, ◌&&◌, if◌then◌else◌, nat_eq}
+use Rattle.rnix_kinds.specs.declared.kinds.SyntaxKind.{SyntaxKind}
+use Rattle.rnix_kinds.specs.declared.kinds.SyntaxKind.TheVariants.{NODE_ATTRPATH}
+use Rattle.rnix_kinds.proofs.AllKinds.{all_kinds, every, implied}
+use Rattle.rnix_grammar.specs.declared.place.Place.TheVariants as p
+use Rattle.rnix_grammar.specs.declared.slot.Slot.{Slot}
+use Rattle.rnix_grammar.specs.declared.slot.Slot.TheVariants as s
+use Rattle.rnix_grammar.specs.Slots.{slot_at}
+use Rattle.rnix_grammar.specs.Rows.{is_operand, is_expression, fits, Spot, Start, At, to, go, live, start}
+use Rattle.rnix_grammar.specs.Stands.{continues_kind}
+use Rattle.rnix_lemmas.proofs.Basics.{not_if}
+use Rattle.rnix_lemmas.proofs.Places.{is_last}
+use Rattle.rnix_lemmas.proofs.LaterSpots.{is_start}
+use Rattle.rnix_lemmas.proofs.NodeKinds.{fits_expression}
+
+-- a token is wanted in a slot, or what a run of others may stand before, or the end of the text
+abbrev pub wants_in : Slot → Bool
+wants_in (s.Token until behind) = true
+wants_in s.Pieces = true
+wants_in (s.Attr behind) = true
+wants_in (s.Name behind) = true
+wants_in (s.Braces bound) = true
+wants_in (s.Formals bound) = true
+wants_in (s.Comma bound) = true
+wants_in s.End = true
+wants_in slot = false
+
+-- so it is at a spot
+abbrev pub wants : Spot → Bool
+wants (At place) = wants_in (slot_at place)
+wants spot = false
+
+-- an operand of the loosest level stands in a slot, or an attribute path
+abbrev pub is_parted_in : Slot → Bool
+is_parted_in (s.Operand level counted behind) = nat_eq level 0
+is_parted_in (s.Attrpath behind) = true
+is_parted_in slot = false
+
+-- so it is at a spot
+abbrev pub is_parted : Spot → Bool
+is_parted (At place) = is_parted_in (slot_at place)
+is_parted spot = false
+
+-- a spot where the end of a string alone is missing
+abbrev pub is_last_at : Spot → Bool
+is_last_at (At place) = is_last place
+is_last_at spot = false
+
+-- no item goes on with a tree of the kind
+abbrev pub is_closed : SyntaxKind → Bool
+is_closed NODE_ATTRPATH = false
+is_closed kind = if is_operand kind then false else true
+
+-- so no item of any kind does
+pub closed_continues : (j k : SyntaxKind) → is_closed k ≡ true → continues_kind j k ≡ false
+closed_continues j k h =
+    not_if (continues_kind j k)
+    (every (λ i. if continues_kind i k then false else true)
+    (implied is_closed (λ l. list_all (λ i. if continues_kind i l then false else true) all_kinds) refl k h) j)
+
+-- attribute paths stand in a slot, or entries
+abbrev pub is_listed_in : Slot → Bool
+is_listed_in (s.Attrpath behind) = true
+is_listed_in (s.Entries closer behind) = true
+is_listed_in slot = false
+
+-- so it is at a spot
+abbrev pub is_listed : Spot → Bool
+is_listed (At place) = is_listed_in (slot_at place)
+is_listed spot = false
+
+-- what is so of a spot behind a tree of a kind
+abbrev is_behind : Spot → SyntaxKind → Spot → Bool
+is_behind q k r =
+    (if wants r then is_closed k || is_parted q else true)
+    && ((if is_last_at r then false else true) && (if live r then is_start (start k) || is_listed q else true))
+
+behind : (q : Spot) (k : SyntaxKind) → is_behind q k (go q k) ≡ true
+behind (Start node) k = every (λ j. is_behind (Start node) j (go (Start node) j))
+    (every (λ i. list_all (λ j. is_behind (Start i) j (go (Start i) j)) all_kinds) refl node) k
+behind (At (p.Right level)) k = by (fits level k) refl
+  where
+    by : (w : Bool) → fits level k ≡ w → is_behind (At (p.Right level)) k (to w (At (p.Operated level))) ≡ true
+    by true h = ap (λ w. w || false) (implied is_expression (λ i. is_start (start i)) refl k (fits_expression level k h))
+    by false h = refl
+behind (At (p.PatternEnd true)) k = refl
+behind (At (p.PatternEnd false)) k = every (λ j. is_behind (At (p.PatternEnd false)) j (go (At (p.PatternEnd false)) j)) refl k
+behind (At x) k = every (λ j. is_behind (At x) j (go (At x) j)) refl k
+behind q k = every (λ j. is_behind q j (go q j)) refl k
+
+-- the three parts of what is so
+record Parts (q : Spot) (k : SyntaxKind) (r : Spot) : Type 0 where
+  closed : (if wants r then is_closed k || is_parted q else true) ≡ true
+  further : (if is_last_at r then false else true) ≡ true
+  starts : (if live r then is_start (start k) || is_listed q else true) ≡ true
+
+parts : (q : Spot) (k : SyntaxKind) → Parts q k (go q k)
+parts q k =
+    let r : Spot = go q k in
+    let h = and_parts (if wants r then is_closed k || is_parted q else true)
+    ((if is_last_at r then false else true) && (if live r then is_start (start k) || is_listed q else true)) (behind q k) in
+    let i = and_parts (if is_last_at r then false else true) (if live r then is_start (start k) || is_listed q else true) h.1 in
+    record { closed = h.0; further = i.0; starts = i.1 }
+
+-- before such a spot stands a tree that no item goes on with, or an operand of the loosest level, or an attribute path
+pub closed_before : (q : Spot) (k : SyntaxKind) → wants (go q k) ≡ true → (is_closed k || is_parted q) ≡ true
+closed_before q k h = sym (ap (λ w. if w then is_closed k || is_parted q else true) h) ∙ (parts q k).closed
+
+-- no tree leads to where the end of a string alone is missing
+pub go_further : (q : Spot) (k : SyntaxKind) → is_last_at (go q k) ≡ false
+go_further q k = not_if (is_last_at (go q k)) (parts q k).further
+
+-- but for attribute paths and entries, a node's row begins with a first tree
+pub starts_first : (q : Spot) (k : SyntaxKind) → live (go q k) ≡ true → (is_start (start k) || is_listed q) ≡ true
+starts_first q k h = sym (ap (λ w. if w then is_start (start k) || is_listed q else true) h) ∙ (parts q k).starts
