@@ -1,4 +1,4 @@
--- Each element of a tree without errors: what is no node has the kind of a token, of which no parts are wanted.
+-- Each element of a tree without errors has its parts: what is no node has the kind of a token, of which no parts are wanted.
 use Rattle.std.proofs.Common.{◌≡◌, ℕ, ◌+◌, ◌<◌, Bool, true, false, ◌||◌, List, [], Option, Some, None, refl, ap, sym, ◌∙◌, subst, inl, inr, length}
 use Rattle.std.specs.List.{list_all}
 use Rattle.std.proofs.lemmas.Bool.{and_parts, cases_lt}
@@ -11,15 +11,23 @@ use Rattle.rnix_kinds.specs.SyntaxKind.{is_token}
 use Rattle.rnix_kinds.specs.Lexical.Tokens.{Lexeme}
 use Rattle.rnix_tree.specs.Equality.{same_kind-decides}
 use Rattle.rnix_tree.specs.Forest.{Forest, empty, leaf, node, text_of, element_count}
-use Rattle.rnix_tree.specs.Tree.{Item, Located, items_from, items_of, no_item, item_of, forest_of}
+use Rattle.rnix_tree.specs.Tree.{Item, Located, IsNodeAt, items_from, items_of, no_item, item_of, forest_of}
 use Rattle.rnix_base.specs.Select.{HasKind}
+use Rattle.rnix_grammar.specs.Shape.{item_kinds}
 use Rattle.rnix_grammar.specs.Derivation.{has_tokens_alone}
 use Rattle.rnix_grammar.specs.Parsed.{IsParsed}
 use Rattle.rnix_lemmas.proofs.SpelledLemmas.{AreRuled}
 use Rattle.rnix_lemmas.proofs.EntryNames.{both_true}
 use Rattle.rnix_rows.proofs.PartRows.{HasRows, HasTokens, shaped_rows, parsed_tokens}
 use Rattle.rnix.specs.Whole.{HasParts}
-use Rattle.rnix.proofs.WholeLemmas.{node_parts}
+use Rattle.rnix.proofs.Seen.{node_in, sees}
+use Rattle.rnix.proofs.KindParts.{parts}
+
+-- a node of a tree whose nodes have their rows
+node_parts : (n : Located) → HasRows (forest_of n.tree) → HasTokens (forest_of n.tree) → IsNodeAt n → HasParts (item_of n).kind n
+node_parts n r w there =
+    let h = node_in n r w there in
+    subst (λ (kind : SyntaxKind). HasParts kind n) (sym h.is) (parts h.kind (record { kinds = item_kinds h.children; sees = sees n h; row = h.row }))
 
 -- an element is a node, or has the kind of a token
 abbrev is_sound : Item → Bool

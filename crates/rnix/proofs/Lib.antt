@@ -1,4 +1,5 @@
 mod AnyParts
+mod KindParts
 pub mod SameParts
 mod SameTree
 mod Seen

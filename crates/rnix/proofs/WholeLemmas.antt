@@ -1,5 +1,5 @@
--- The nodes of a tree without errors have their parts.
-use Rattle.std.proofs.Common.{◌≡◌, ℕ, suc, ◌≤◌, Bool, true, false, cond, List, [], ◌∷◌, Option, Some, None, refl, ap, sym, ◌∙◌, subst, arith}
+-- What parts a node has whose row is seen.
+use Rattle.std.proofs.Common.{◌≡◌, ℕ, suc, ◌≤◌, Bool, true, false, cond, List, [], ◌∷◌, Option, Some, None, refl, ap, sym, ◌∙◌, arith}
 use Rattle.std.specs.Prelude.{◌&&◌, not, is_some, IsSome, nat_le, slice_get, filter, find, option_map}
 use Rattle.std.proofs.lemmas.Bool.Decides.{nat_tests}
 use Rattle.std.proofs.lemmas.Bool.{and_parts}
@@ -7,7 +7,7 @@ use Rattle.rnix_kinds.specs.declared.kinds.SyntaxKind.{SyntaxKind}
 use Rattle.rnix_kinds.specs.declared.kinds.SyntaxKind.TheVariants as k
 use Rattle.rnix_kinds.specs.SyntaxKind.{is_token, is_trivia}
 use Rattle.rnix_tree.specs.Equality.{same_kind, same_kind-decides}
-use Rattle.rnix_tree.specs.Tree.{Located, IsNodeAt, item_of, forest_of}
+use Rattle.rnix_tree.specs.Tree.{Located, item_of}
 use Rattle.rnix_tree.specs.Walk.{children_of}
 use Rattle.rnix_base.specs.Kinds.{is_path_token}
 use Rattle.rnix_base.specs.Select.{has_kind, tokens_in, child_of, token_of}
@@ -15,16 +15,14 @@ use Rattle.rnix_base.specs.Operators.{or_else, first_operator, binary_operator, 
 use Rattle.rnix_base.specs.Literal.{first_literal}
 use Rattle.rnix_base.specs.declared.literal.LiteralKind.TheVariants as literal
 use Rattle.rnix_grammar.specs.Rows.{is_expression, is_infix, is_row}
-use Rattle.rnix_grammar.specs.Shape.{item_kinds}
 use Rattle.rnix_kinds.proofs.AllKinds.{implied}
 use Rattle.rnix_lemmas.proofs.Basics.{true_is_not_false}
-use Rattle.rnix_rows.proofs.PartRows.{HasRows, HasTokens}
 use Rattle.rnix_rows.proofs.RowParts.{Exactly, Expression, Parameter, Prefix, Infix, is_prefix, is_parameter}
 use Rattle.rnix_rows.proofs.RowTable.{parts_of, IsSelection, bare, with_default, selection_is, IsFormal, name_alone, defaulted, formal_is, IsOneLiteral, float, integer, uri, literal_is}
 use Rattle.rnix_rows.proofs.RowCounts.{count_of, row_first, row_nth}
 use Rattle.rnix.specs.NodeKinds.{is_expr, is_param}
-use Rattle.rnix.specs.Whole.{HasToken, HasNode, HasExpr, AreTogether, HasParts}
-use Rattle.rnix.proofs.Seen.{AreItems, AreNodes, exact_items, exact_nodes, none_if, node_in, Sees, sees}
+use Rattle.rnix.specs.Presence.{HasToken, HasNode, HasExpr, AreTogether}
+use Rattle.rnix.proofs.Seen.{AreItems, AreNodes, exact_items, exact_nodes, none_if, Sees}
 
 -- a test of numbers
 at_most : (m n : ℕ) → nat_le m n ≡ true → m ≤ n
@@ -131,86 +129,64 @@ not_true : (w : Bool) → not w ≡ true → w ≡ false
 not_true false h = refl
 not_true true h = absurd (true_is_not_false (sym h))
 
+-- a node with the kinds of its row, as they are seen right below it
+pub record RowSeen (kind : SyntaxKind) (n : Located) : Type 0 where
+  pub kinds : List SyntaxKind
+  pub sees : Sees n kinds
+  pub row : is_row kind kinds ≡ true
+
 -- each part that a node's kind asks for is there
-module _ (n : Located) (ks : List SyntaxKind) (s : Sees n ks) where
-  token : (kind x : SyntaxKind) → is_row kind ks ≡ true → asks_token kind x ≡ true → HasToken x n
-  token kind x r h =
-      let a = and_parts (is_token x) (not (is_trivia x) && nat_le 1 (count_of (Exactly x) (parts_of kind))) h in
-      let b = and_parts (not (is_trivia x)) (nat_le 1 (count_of (Exactly x) (parts_of kind))) a.1 in
-      s.tokens (same_kind x) (exact_items x a.0 (not_true (is_trivia x) b.0)) ∙ row_first kind ks (Exactly x) (same_kind x) (λ j e. e) r (at_most 1 (count_of (Exactly x) (parts_of kind)) b.1)
+pub token : {kind : SyntaxKind} {n : Located} → RowSeen kind n → (x : SyntaxKind) → asks_token kind x ≡ true → HasToken x n
+token {kind} {n} h x asked =
+    let a = and_parts (is_token x) (not (is_trivia x) && nat_le 1 (count_of (Exactly x) (parts_of kind))) asked in
+    let b = and_parts (not (is_trivia x)) (nat_le 1 (count_of (Exactly x) (parts_of kind))) a.1 in
+    h.sees.tokens (same_kind x) (exact_items x a.0 (not_true (is_trivia x) b.0))
+    ∙ row_first kind h.kinds (Exactly x) (same_kind x) (λ j e. e) h.row (at_most 1 (count_of (Exactly x) (parts_of kind)) b.1)
 
-  expr : (kind : SyntaxKind) (number : ℕ) → is_row kind ks ≡ true → nat_le (suc number) (count_of Expression (parts_of kind)) ≡ true → HasExpr number n
-  expr kind number r h =
-      s.nodes is_expr expr_nodes number
-      ∙ row_nth kind ks Expression is_expr number expression_expr r (at_most (suc number) (count_of Expression (parts_of kind)) h)
+pub expr : {kind : SyntaxKind} {n : Located} → RowSeen kind n → (number : ℕ) → nat_le (suc number) (count_of Expression (parts_of kind)) ≡ true → HasExpr number n
+expr {kind} {n} h number asked =
+    h.sees.nodes is_expr expr_nodes number
+    ∙ row_nth kind h.kinds Expression is_expr number expression_expr h.row (at_most (suc number) (count_of Expression (parts_of kind)) asked)
 
-  child : (kind x : SyntaxKind) → is_row kind ks ≡ true → asks_node kind x ≡ true → HasNode x n
-  child kind x r h =
-      let a = and_parts (not (is_token x)) (nat_le 1 (count_of (Exactly x) (parts_of kind))) h in
-      s.nodes (same_kind x) (exact_nodes x (not_true (is_token x) a.0)) 0
-      ∙ row_nth kind ks (Exactly x) (same_kind x) 0 (λ j e. e) r (at_most 1 (count_of (Exactly x) (parts_of kind)) a.1)
+pub child : {kind : SyntaxKind} {n : Located} → RowSeen kind n → (x : SyntaxKind) → asks_node kind x ≡ true → HasNode x n
+child {kind} {n} h x asked =
+    let a = and_parts (not (is_token x)) (nat_le 1 (count_of (Exactly x) (parts_of kind))) asked in
+    h.sees.nodes (same_kind x) (exact_nodes x (not_true (is_token x) a.0)) 0
+    ∙ row_nth kind h.kinds (Exactly x) (same_kind x) 0 (λ j e. e) h.row (at_most 1 (count_of (Exactly x) (parts_of kind)) a.1)
 
-  param : is_row k.NODE_LAMBDA ks ≡ true → IsSome (child_of is_param 0 n)
-  param r = s.nodes is_param param_nodes 0 ∙ row_nth k.NODE_LAMBDA ks Parameter is_param 0 parameter_param r (omega arith)
+-- a function's parameter, the operators, a path's content and a literal's token are there
+pub lambda_param : {n : Located} → RowSeen k.NODE_LAMBDA n → IsSome (child_of is_param 0 n)
+lambda_param h = h.sees.nodes is_param param_nodes 0 ∙ row_nth k.NODE_LAMBDA h.kinds Parameter is_param 0 parameter_param h.row (omega arith)
 
-  binary : is_row k.NODE_BIN_OP ks ≡ true → IsSome (first_operator binary_operator (tokens_in (children_of n)))
-  binary r =
-      operator_found binary_operator is_infix (λ kind h. (infix_token kind h).2) (tokens_in (children_of n))
-      (s.tokens is_infix infix_items ∙ row_first k.NODE_BIN_OP ks Infix is_infix (λ j e. e) r (omega arith))
+pub bin_op_operator : {n : Located} → RowSeen k.NODE_BIN_OP n → IsSome (first_operator binary_operator (tokens_in (children_of n)))
+bin_op_operator {n} h =
+    operator_found binary_operator is_infix (λ kind h. (infix_token kind h).2) (tokens_in (children_of n))
+    (h.sees.tokens is_infix infix_items ∙ row_first k.NODE_BIN_OP h.kinds Infix is_infix (λ j e. e) h.row (omega arith))
 
-  unary : is_row k.NODE_UNARY_OP ks ≡ true → IsSome (first_operator unary_operator (tokens_in (children_of n)))
-  unary r =
-      operator_found unary_operator is_prefix (λ kind h. (prefix_token kind h).2) (tokens_in (children_of n))
-      (s.tokens is_prefix prefix_items ∙ row_first k.NODE_UNARY_OP ks Prefix is_prefix (λ j e. e) r (omega arith))
+pub unary_op_operator : {n : Located} → RowSeen k.NODE_UNARY_OP n → IsSome (first_operator unary_operator (tokens_in (children_of n)))
+unary_op_operator {n} h =
+    operator_found unary_operator is_prefix (λ kind h. (prefix_token kind h).2) (tokens_in (children_of n))
+    (h.sees.tokens is_prefix prefix_items ∙ row_first k.NODE_UNARY_OP h.kinds Prefix is_prefix (λ j e. e) h.row (omega arith))
 
-  path : is_row k.NODE_PATH_SEARCH ks ≡ true → IsSome (token_of is_path_token n)
-  path r =
-      s.tokens is_path_token path_items
-      ∙ row_first k.NODE_PATH_SEARCH ks (Exactly k.TOKEN_PATH_SEARCH) is_path_token
-      (λ j e. ap is_path_token (sym ((same_kind-decides k.TOKEN_PATH_SEARCH j).0 e))) r (omega arith)
+pub path_search_content : {n : Located} → RowSeen k.NODE_PATH_SEARCH n → IsSome (token_of is_path_token n)
+path_search_content h =
+    h.sees.tokens is_path_token path_items
+    ∙ row_first k.NODE_PATH_SEARCH h.kinds (Exactly k.TOKEN_PATH_SEARCH) is_path_token
+    (λ j e. ap is_path_token (sym ((same_kind-decides k.TOKEN_PATH_SEARCH j).0 e))) h.row (omega arith)
 
-  plain : is_row k.NODE_LITERAL ks ≡ true → IsSome (first_literal n)
-  plain r =
-      literal_found ks (literal_is ks r) (token_of (same_kind k.TOKEN_FLOAT) n) (token_of (same_kind k.TOKEN_INTEGER) n) (token_of (same_kind k.TOKEN_URI) n)
-      (s.tokens (same_kind k.TOKEN_FLOAT) (exact_items k.TOKEN_FLOAT refl refl)) (s.tokens (same_kind k.TOKEN_INTEGER) (exact_items k.TOKEN_INTEGER refl refl))
-      (s.tokens (same_kind k.TOKEN_URI) (exact_items k.TOKEN_URI refl refl))
+pub literal_kind : {n : Located} → RowSeen k.NODE_LITERAL n → IsSome (first_literal n)
+literal_kind {n} h =
+    literal_found h.kinds (literal_is h.kinds h.row) (token_of (same_kind k.TOKEN_FLOAT) n) (token_of (same_kind k.TOKEN_INTEGER) n) (token_of (same_kind k.TOKEN_URI) n)
+    (h.sees.tokens (same_kind k.TOKEN_FLOAT) (exact_items k.TOKEN_FLOAT refl refl)) (h.sees.tokens (same_kind k.TOKEN_INTEGER) (exact_items k.TOKEN_INTEGER refl refl))
+    (h.sees.tokens (same_kind k.TOKEN_URI) (exact_items k.TOKEN_URI refl refl))
 
-  default : (x : SyntaxKind) → is_token x ≡ true → is_trivia x ≡ false → is_some (find (same_kind x) ks) ≡ is_some (slice_get (filter is_expr ks) 1)
-      → AreTogether (token_of (same_kind x) n) (child_of is_expr 1 n)
-  default x t i e = s.tokens (same_kind x) (exact_items x t i) ∙ e ∙ sym (s.nodes is_expr expr_nodes 1)
+-- a default stands behind its sign
+default : {n : Located} {ks : List SyntaxKind} → Sees n ks → (x : SyntaxKind) → is_token x ≡ true → is_trivia x ≡ false
+    → is_some (find (same_kind x) ks) ≡ is_some (slice_get (filter is_expr ks) 1) → AreTogether (token_of (same_kind x) n) (child_of is_expr 1 n)
+default s x t i e = s.tokens (same_kind x) (exact_items x t i) ∙ e ∙ sym (s.nodes is_expr expr_nodes 1)
 
-  parts : (kind : SyntaxKind) → is_row kind ks ≡ true → HasParts kind n
-  parts k.NODE_ROOT r = expr k.NODE_ROOT 0 r refl
-  parts k.NODE_IDENT r = token k.NODE_IDENT k.TOKEN_IDENT r refl
-  parts k.NODE_CUR_POS r = token k.NODE_CUR_POS k.TOKEN_CUR_POS r refl
-  parts k.NODE_LITERAL r = plain r
-  parts k.NODE_PATH_SEARCH r = path r
-  parts k.NODE_INTERPOL r = expr k.NODE_INTERPOL 0 r refl
-  parts k.NODE_DYNAMIC r = (token k.NODE_DYNAMIC k.TOKEN_INTERPOL_START r refl, token k.NODE_DYNAMIC k.TOKEN_INTERPOL_END r refl)
-  parts k.NODE_PAREN r = (token k.NODE_PAREN k.TOKEN_L_PAREN r refl, expr k.NODE_PAREN 0 r refl, token k.NODE_PAREN k.TOKEN_R_PAREN r refl)
-  parts k.NODE_LIST r = (token k.NODE_LIST k.TOKEN_L_BRACK r refl, token k.NODE_LIST k.TOKEN_R_BRACK r refl)
-  parts k.NODE_ATTR_SET r = (token k.NODE_ATTR_SET k.TOKEN_L_BRACE r refl, token k.NODE_ATTR_SET k.TOKEN_R_BRACE r refl)
-  parts k.NODE_ATTRPATH_VALUE r = (child k.NODE_ATTRPATH_VALUE k.NODE_ATTRPATH r refl, token k.NODE_ATTRPATH_VALUE k.TOKEN_ASSIGN r refl, expr k.NODE_ATTRPATH_VALUE 0 r refl)
-  parts k.NODE_INHERIT r = token k.NODE_INHERIT k.TOKEN_INHERIT r refl
-  parts k.NODE_INHERIT_FROM r = (token k.NODE_INHERIT_FROM k.TOKEN_L_PAREN r refl, expr k.NODE_INHERIT_FROM 0 r refl, token k.NODE_INHERIT_FROM k.TOKEN_R_PAREN r refl)
-  parts k.NODE_LEGACY_LET r = (token k.NODE_LEGACY_LET k.TOKEN_LET r refl, token k.NODE_LEGACY_LET k.TOKEN_L_BRACE r refl, token k.NODE_LEGACY_LET k.TOKEN_R_BRACE r refl)
-  parts k.NODE_LET_IN r = (token k.NODE_LET_IN k.TOKEN_LET r refl, token k.NODE_LET_IN k.TOKEN_IN r refl, expr k.NODE_LET_IN 0 r refl)
-  parts k.NODE_WITH r = (token k.NODE_WITH k.TOKEN_WITH r refl, expr k.NODE_WITH 0 r refl, token k.NODE_WITH k.TOKEN_SEMICOLON r refl, expr k.NODE_WITH 1 r refl)
-  parts k.NODE_ASSERT r = (token k.NODE_ASSERT k.TOKEN_ASSERT r refl, expr k.NODE_ASSERT 0 r refl, expr k.NODE_ASSERT 1 r refl)
-  parts k.NODE_IF_ELSE r = (token k.NODE_IF_ELSE k.TOKEN_IF r refl, expr k.NODE_IF_ELSE 0 r refl, token k.NODE_IF_ELSE k.TOKEN_THEN r refl, expr k.NODE_IF_ELSE 1 r refl, token k.NODE_IF_ELSE k.TOKEN_ELSE r refl, expr k.NODE_IF_ELSE 2 r refl)
-  parts k.NODE_LAMBDA r = (param r, token k.NODE_LAMBDA k.TOKEN_COLON r refl, expr k.NODE_LAMBDA 0 r refl)
-  parts k.NODE_IDENT_PARAM r = child k.NODE_IDENT_PARAM k.NODE_IDENT r refl
-  parts k.NODE_PAT_BIND r = child k.NODE_PAT_BIND k.NODE_IDENT r refl
-  parts k.NODE_PAT_ENTRY r = (child k.NODE_PAT_ENTRY k.NODE_IDENT r refl, default k.TOKEN_QUESTION refl refl (formal_pair ks (formal_is ks r)))
-  parts k.NODE_SELECT r = (expr k.NODE_SELECT 0 r refl, token k.NODE_SELECT k.TOKEN_DOT r refl, child k.NODE_SELECT k.NODE_ATTRPATH r refl, default k.TOKEN_OR refl refl (selection_pair ks (selection_is ks r)))
-  parts k.NODE_HAS_ATTR r = (expr k.NODE_HAS_ATTR 0 r refl, token k.NODE_HAS_ATTR k.TOKEN_QUESTION r refl, child k.NODE_HAS_ATTR k.NODE_ATTRPATH r refl)
-  parts k.NODE_APPLY r = (expr k.NODE_APPLY 0 r refl, expr k.NODE_APPLY 1 r refl)
-  parts k.NODE_UNARY_OP r = (unary r, expr k.NODE_UNARY_OP 0 r refl)
-  parts k.NODE_BIN_OP r = (expr k.NODE_BIN_OP 0 r refl, binary r, expr k.NODE_BIN_OP 1 r refl)
-  parts _ r = tt
+pub pat_entry_default : {n : Located} → RowSeen k.NODE_PAT_ENTRY n → AreTogether (token_of (same_kind k.TOKEN_QUESTION) n) (child_of is_expr 1 n)
+pat_entry_default h = default h.sees k.TOKEN_QUESTION refl refl (formal_pair h.kinds (formal_is h.kinds h.row))
 
--- a node of a tree whose nodes have their rows
-pub node_parts : (n : Located) → HasRows (forest_of n.tree) → HasTokens (forest_of n.tree) → IsNodeAt n → HasParts (item_of n).kind n
-node_parts n r w there =
-    let h = node_in n r w there in
-    subst (λ (kind : SyntaxKind). HasParts kind n) (sym h.is) (parts n (item_kinds h.children) (sees n h) h.kind h.row)
+pub select_default_expr : {n : Located} → RowSeen k.NODE_SELECT n → AreTogether (token_of (same_kind k.TOKEN_OR) n) (child_of is_expr 1 n)
+select_default_expr h = default h.sees k.TOKEN_OR refl refl (selection_pair h.kinds (selection_is h.kinds h.row))

@@ -1,15 +1,13 @@
 //! The parts of paths.
 
 ghost use Rattle.std.specs.Prelude.{◌≡◌, IfOk, not};
-ghost use Rattle.rnix_base.specs.Kinds.{is_path_token};
-ghost use Rattle.rnix_base.specs.Select.{token_of};
 ghost use Rattle.rnix.specs.Strings.{path_parts, parts_of_path, is_search};
 
 use crate::ast::attributes::Path;
-use crate::ast::paths::{PathAbs, PathHome, PathRel, PathSearch};
+use crate::ast::paths::{PathAbs, PathHome, PathRel};
 use crate::ast::string_parts::InterpolPart;
 use crate::ast::strings::Interpol;
-use rnix_base::{PathContent, all_parts, child_token};
+use rnix_base::{PathContent, all_parts};
 use rnix_tree::SyntaxNode;
 use std::alloc::{AllocError, Global};
 
@@ -47,15 +45,6 @@ impl<'t> PathHome<'t> {
         ensures { IfOk result (λ parts. parts.items ≡ path_parts self.now) }
     {
         parts_of_node(alloc, &self.syntax)
-    }
-}
-
-impl<'t> PathSearch<'t> {
-    /// What the path says, as it is written.
-    pub fn content(&self) -> Option<PathContent<'t>>
-        ensures { result ≡ token_of is_path_token self.now }
-    {
-        child_token::<PathContent<'t>>(&self.syntax)
     }
 }
 
