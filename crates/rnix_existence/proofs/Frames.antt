@@ -15,7 +15,7 @@ use Rattle.rnix_lemmas.proofs.NestTrees.{is_formal}
 use Rattle.rnix_lemmas.proofs.FirstTrees.{IsSingle}
 use Rattle.rnix_existence.proofs.OpenFrames.{seen_kind}
 
--- whether a place is in an entry of a pattern, if it is in a node's row, where an operand on the right is of a level up to 16
+-- whether a place of a node's row is in an entry of a pattern; none behind an operand, in a second name, or for a right operand above level 16
 abbrev pub row_at : Place → Option Bool
 row_at p.EntryMore = Some true
 row_at p.EntryDefault = Some true

@@ -14,7 +14,7 @@ use Rattle.rnix_lemmas.proofs.LevelLemmas.{sided, left_rule, next_left, operates
 use Rattle.rnix_existence.proofs.OpenFrames.{seen_kind}
 use Rattle.rnix_existence.proofs.Frames.{MayGrow}
 
--- an open node is no name
+-- a node whose leaves keep their tokens' kinds is not the name `or`
 pub no_name : (k : SyntaxKind) (c : Sketch) → is_error k ≡ false → is_or_row (one_branch k c) ≡ false
 no_name NODE_IDENT c h = absurd (true_is_not_false h)
 no_name _ c h = refl
@@ -116,7 +116,7 @@ question_grows low c l = record {
     by false false true x e f = refl
     by false false false x e f = absurd (grind (arith, nat_tests, l, e, f))
 
--- a binary operator's tree goes on with what is looser than its last operand
+-- the tree of a binary operator is continued by operators up to the operator's `high_of`
 pub operator_grows : (low : ℕ) (k : SyntaxKind) (c : Sketch) → is_infix k ≡ true → low ≤ power k → row_level (one_branch NODE_BIN_OP c) ≡ power k
     → MayGrow low (high_of k) (one_branch NODE_BIN_OP c)
 operator_grows low k c i l v = record {

@@ -76,7 +76,7 @@ wrapped_kept f fs k z x high r i grows = record {
   below = an_operand r.low high refl (ap (λ y. p.Behind (low_of y) high) r.place) refl r.shallow grows r.below;
 }
 
--- a call is as tight as its argument, or tighter
+-- a call binds at least as tightly as application
 call_level : (c : Sketch) → 15 ≤ row_level (one_branch NODE_APPLY c)
 call_level c = by (calls_or c)
   where

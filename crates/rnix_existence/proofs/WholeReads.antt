@@ -49,7 +49,7 @@ runs_end row all (further {m = m} s) r w =
 begun : (ts : List Token) → Reading (begins ts).frames
 begun ts = node (record { kind = NODE_ROOT; node = record { is = refl; sound = refl; home = refl; shallow = omega arith }; below = no_frame })
 
--- what is read when the root's frame ends at its end is what is read of all items, and has them all
+-- if the steps end with the root's row complete and no item left, that row is a reading of all the items
 pub whole_reads : (ts : List Token) (m : Machine) (f : Frame) → Runs false (begins ts) m → m.frames ≡ f ∷ [] → f.head ≡ Node NODE_ROOT
     → f.place ≡ p.RootEnd → m.left ≡ []
     → (ts ≡ tokens_in f.row) × ReadsWhole f.row m.faults

@@ -12,7 +12,7 @@ use Rattle.rnix_grammar.specs.Rows.{is_infix, is_plain_literal}
 abbrev pub name : List ℕ → Forest → Forest
 name t f = node NODE_IDENT (leaf TOKEN_IDENT t empty) f
 
--- what may stand behind the `}` of a pattern, which has been bound to a name before it or not: nothing, or `@` and a name
+-- what may stand behind the `}` of a pattern, which has been bound to a name before it or not: nothing, or `@` and a name if it has not
 pub data PatternEnd : Bool → Forest → Type 0 where
   pattern_end : {bound : Bool} → PatternEnd bound empty
   bound_behind : {s t : List ℕ} → is_or t ≡ false → PatternEnd false (node NODE_PAT_BIND (leaf TOKEN_AT s (name t empty)) empty)

@@ -1,4 +1,4 @@
--- The levels of precedence: the binary operators have 1 to 12, the other forms of expressions those below.
+-- The levels of precedence: the binary operators have 1 to 8 and 10 to 12, the other levels have names here.
 use Rattle.std.specs.Prelude.{ℕ, suc, ◌-◌, Option, Some, None, if◌then◌else◌}
 use Rattle.rnix_kinds.specs.declared.kinds.SyntaxKind.{SyntaxKind}
 use Rattle.rnix_kinds.specs.declared.kinds.SyntaxKind.TheVariants.{TOKEN_PIPE_LEFT, TOKEN_PIPE_RIGHT, TOKEN_IMPLICATION, TOKEN_OR_OR, TOKEN_AND_AND, TOKEN_EQUAL, TOKEN_NOT_EQUAL, TOKEN_LESS, TOKEN_LESS_OR_EQ, TOKEN_MORE, TOKEN_MORE_OR_EQ, TOKEN_UPDATE, TOKEN_ADD, TOKEN_SUB, TOKEN_MUL, TOKEN_DIV, TOKEN_CONCAT, TOKEN_QUESTION, TOKEN_DOT, TOKEN_OR}
@@ -10,7 +10,7 @@ use Rattle.rnix_grammar.specs.declared.level.Associativity.TheVariants.{Left, Ri
 abbrev pub expression_level : ℕ
 expression_level = 0
 
--- no operator has this level: it is the power of tokens that end an expression, and bounds what follows one that reaches as far as it can
+-- no operator has this level: it is the power of tokens that end an expression, and nothing can follow one that extends as far right as possible
 abbrev pub no_level : ℕ
 no_level = 0
 

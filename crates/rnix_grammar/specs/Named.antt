@@ -22,7 +22,7 @@ abbrev pub AreSpelled : List Token → Type 0
 AreSpelled [] = Unit {0}
 AreSpelled (t ∷ ts) = (is_spelled t.kind t.text ≡ true) × AreSpelled ts
 
--- and so each node of a row from a spot on
+-- each name and each current position of a row, from a spot on, stands where it may
 abbrev pub AreNamed : Spot → Sketch → Type 0
 AreNamed q blank = Unit {0}
 AreNamed q (token k t f) = AreNamed (go q k) f

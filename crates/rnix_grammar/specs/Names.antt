@@ -24,7 +24,7 @@ abbrev pub is_position : SyntaxKind → List ℕ → Bool
 is_position TOKEN_CUR_POS text = true
 is_position kind text = is_cur_pos text
 
--- an argument, or the name `or` behind an atom
+-- the name may be an argument: each may but `__curPos`
 abbrev pub is_called : Token → Bool
 is_called t = if is_or t.kind then true else (if is_cur_pos t.text then false else true)
 

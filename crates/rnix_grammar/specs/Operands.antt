@@ -63,7 +63,7 @@ abbrev pub IsOperand : Option ℕ → Sketch → List Token → Type 0
 IsOperand None x after = Unit {0}
 IsOperand (Some level) x after = (level ≤ row_level x) × IsBegun level x (tokens_in x ++ after) × (goes_on level x after ≡ false)
 
--- the level of the operands at a spot; the name `or` is called as no operand
+-- the level of the operand at a spot, if any; an `or` that is an argument has none
 abbrev pub level_at : Spot → Sketch → Option ℕ
 level_at (At place) x = level_in (slot_at place)
 level_at BeforeArgument x = if is_or_row x then None else Some selection_level

@@ -15,7 +15,7 @@ pub record IsReading (tokens : List Lexeme) (tree : Tree) (faults : List Fault) 
   pub tree_is : tree ≡ record { kind = NODE_ROOT; children = forget sketch }
   -- the leaves are the tokens, one by one
   pub leaves : tokens_in sketch ≡ placed_from 0 tokens
-  -- trivia stand before the token or the node in whose row they are met
+  -- trivia before a token stand before it in its row; before the first item of a node they stand outside, before the node
   pub laid : sketch ≡ dressed_whole (clean sketch) (placed_from 0 tokens)
   -- at each place of a row the next items decide what stands there; the errors are those of the error nodes, of what is missing at the end of
   -- the text, and of repeated entries, in the order in which these are met

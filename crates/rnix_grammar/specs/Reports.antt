@@ -20,7 +20,7 @@ report Extra ts = extra (extent_of ts)
 report Twice ts = bound_twice (extent_of ts)
 report TooDeep ts = too_deep
 
--- the token of a node of one token
+-- the token that a row begins with, if it begins with one
 abbrev pub only_token : Sketch → Option Token
 only_token (token k t f) = Some t
 only_token f = None

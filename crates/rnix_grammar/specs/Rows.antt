@@ -373,7 +373,7 @@ pub record IsBeginning (node : SyntaxKind) (kinds : List SyntaxKind) : Type 0 wh
   pub more : List SyntaxKind
   pub is : whole (run (run (start node) kinds) more) ≡ true
 
--- so it is at a spot
+-- an operand at the spot is inside one more counted place
 abbrev pub counts : Spot → Bool
 counts (At place) = is_counted (slot_at place)
 counts spot = false

@@ -66,7 +66,7 @@ abbrev pub LacksNext : Option SyntaxKind → Type 0
 LacksNext None = Unit {0}
 LacksNext (Some kind) = ⊥
 
--- an item is left with which no run stops
+-- an item is left that does not stop the run
 abbrev pub HasUnwanted : Until → Option SyntaxKind → Type 0
 HasUnwanted until None = ⊥
 HasUnwanted until (Some kind) = is_wanted until kind ≡ false
@@ -123,7 +123,7 @@ Suits Second Naming = Unit {0}
 Suits Operand Following = Unit {0}
 Suits head sort = ⊥
 
--- a second name waits for nothing
+-- a frame below another is no second name, and stands at a place of its sort
 abbrev pub Waits : Head → Sort → Type 0
 Waits Second sort = ⊥
 Waits head sort = Suits head sort
@@ -133,7 +133,7 @@ abbrev pub IsBottom : Head → List Frame → Type 0
 IsBottom head [] = head ≡ Node NODE_ROOT
 IsBottom head (f ∷ fs) = Unit {0}
 
--- each frame stands at a place of its sort
+-- so it is for each frame, and the lowest is the root
 abbrev pub AreWaiting : List Frame → Type 0
 AreWaiting [] = Unit {0}
 AreWaiting (f ∷ fs) = Waits f.head (sort_of f.place) × (IsBottom f.head fs × AreWaiting fs)

@@ -98,7 +98,7 @@ is_wanted_in u.Attr NODE_INHERIT = true
 is_wanted_in u.Entry NODE_PATTERN = true
 is_wanted_in until parent = false
 
--- the kind of inherited names
+-- the kind of `inherit` entries
 abbrev pub is_inherit : SyntaxKind → Bool
 is_inherit NODE_INHERIT = true
 is_inherit kind = false

@@ -9,7 +9,7 @@ use Rattle.rnix_grammar.specs.Slots.{slot_at, level_in}
 use Rattle.rnix_grammar.specs.Rows.{is_atom, is_expression, Spot, BeforeArgument, At, go, live, whole, start}
 use Rattle.rnix_grammar.specs.Corners.{node_count, is_one}
 
--- the text of the only leaf
+-- the text of the leaf that a row begins with
 abbrev pub only_text : Forest → List ℕ
 only_text (leaf k t f) = t
 only_text f = []
@@ -23,12 +23,12 @@ abbrev pub operator_of : Forest → SyntaxKind
 operator_of (node k c (leaf j t f)) = j
 operator_of f = NODE_ROOT
 
--- the second tree is the name `or`
+-- a node is the name `or`
 abbrev pub is_or_name : SyntaxKind → Forest → Bool
 is_or_name NODE_IDENT c = is_or (only_text c)
 is_or_name kind c = false
 
--- a call calls the name `or`
+-- a call has the name `or` as its argument
 abbrev pub calls_or : Forest → Bool
 calls_or (node k c (node j d f)) = is_or_name j d
 calls_or f = false

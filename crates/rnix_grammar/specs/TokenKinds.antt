@@ -35,7 +35,7 @@ abbrev pub is_piece_start : SyntaxKind → Bool
 is_piece_start TOKEN_INTERPOL_START = true
 is_piece_start kind = is_path_piece kind
 
--- the name `or`
+-- the token `or`
 abbrev pub is_or : SyntaxKind → Bool
 is_or TOKEN_OR = true
 is_or kind = false

@@ -6,7 +6,7 @@ use Rattle.rnix_kinds.specs.Lexical.Tokens.{Lexeme}
 use Rattle.rnix_tree.specs.Forest.{Forest, empty, leaf, node}
 use Rattle.rnix_grammar.specs.Tables.{is_or}
 
--- the token of a leaf
+-- the kind of a leaf's token, by the leaf's kind and text
 abbrev pub untold : SyntaxKind → List ℕ → SyntaxKind
 untold TOKEN_IDENT text = if is_or text then TOKEN_OR else TOKEN_IDENT
 untold TOKEN_CUR_POS text = TOKEN_IDENT

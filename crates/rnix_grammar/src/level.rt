@@ -1,4 +1,4 @@
-//! The levels of precedence, by numbers: the binary operators have 1 to 12, from the loosest to the tightest.
+//! The levels of precedence, by numbers: the binary operators have 1 to 8 and 10 to 12, from the loosest to the tightest.
 
 ghost use Rattle.std.specs.Prelude.{◌≡◌, ◌≤◌, IfSome};
 ghost use Rattle.rnix_grammar.specs.Levels.{concatenation_level, operator, plain_power, power, right_of, high_of};

@@ -30,7 +30,7 @@ pub enum Slot {
     Entries(Closer, Place),
     /// Pieces of a string, and its end.
     Pieces,
-    /// An interpolation after the first token of a path, or nothing more.
+    /// An interpolation after the first token of a path, even behind trivia, or nothing more.
     FirstPiece,
     /// More pieces of a path, each of which touches the one before it; or nothing more.
     MorePieces,

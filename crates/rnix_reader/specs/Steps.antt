@@ -64,14 +64,14 @@ lambda_begun over d s = noded NODE_LAMBDA LambdaColon d (operand_begun over d s)
 abbrev pub begins_with : ℕ → Token → List Token → Begin
 begins_with level t us = begin_of level t.kind t.text (head_kind us) (second_kind us)
 
--- what stands behind an operand's first item matters; the third item too
+-- the second item tells how an operand begins with this one
 abbrev pub looks_behind : SyntaxKind → Bool
 looks_behind TOKEN_IDENT = true
 looks_behind TOKEN_L_BRACE = true
 looks_behind TOKEN_LET = true
 looks_behind kind = false
 
--- the token `{`
+-- the token `{`, with which the third item tells too
 abbrev pub is_brace : SyntaxKind → Bool
 is_brace TOKEN_L_BRACE = true
 is_brace kind = false

@@ -201,7 +201,7 @@ pattern_begins : (ts : List Token) → MayBegin NODE_PATTERN ts → MayBegin NOD
 pattern_begins [] h = tt
 pattern_begins (t ∷ ts) h = no_or begins_pattern refl t.kind h
 
--- nodes that begin with a parameter, or are one
+-- functions, parameters and their parts, which begin with a name or a brace
 abbrev is_parameter : SyntaxKind → Bool
 is_parameter NODE_LAMBDA = true
 is_parameter NODE_PATTERN = true
@@ -246,7 +246,7 @@ own_begins : (x : Place) (test : SyntaxKind → Bool) (n : ℕ) (ts : List Token
 own_begins x test n [] own h o = tt
 own_begins x test n (t ∷ ts) own h o = no_or test h t.kind (own t ts o)
 
--- no operand stands in a slot
+-- no level is asked for
 abbrev pub is_free : Option ℕ → Bool
 is_free None = true
 is_free (Some level) = false

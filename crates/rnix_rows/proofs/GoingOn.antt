@@ -1,4 +1,5 @@
--- Which items go on with a node that is complete: those that go on with its kind, but behind an operator those that bind too tightly for its last operand.
+-- Which items continue a complete node: all that continue a node of its kind; behind an operator's last operand, only those that bind too loosely to
+-- continue the operand.
 use Rattle.std.proofs.Common.{◌≡◌, ℕ, ◌≤◌, ◌<◌, Bool, true, false, List, [], ◌∷◌, Some, refl, ap, sym, ◌∙◌, subst, arith}
 use Rattle.std.proofs.lemmas.Bool.Decides.{nat_tests}
 use Rattle.std.specs.List.{list_all}

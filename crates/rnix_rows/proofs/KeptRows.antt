@@ -28,7 +28,7 @@ use Rattle.rnix_rows.proofs.QuietRows.{Calm, Settled, none_next, calm_behind, ca
 use Rattle.rnix_rows.proofs.WantingSpots.{wants, is_last_at, go_further}
 
 -- so much is known of the row of a kind of node at a spot, with the trees before it, its other trees and the items that are left: it is inside more
--- nodes than counted places, and as many items as these are before it, but for the first tree
+-- nodes than counted places, and at least as many items as such places come before it, one fewer where the row begins
 pub record Kept (i : SyntaxKind) (d a c : ℕ) (q : Spot) (b f : Sketch) (ts : List Token) : Type 0 where
   pub owned : IsInRow i q
   pub further : is_last_at q ≡ true → ts ≡ []
@@ -70,7 +70,7 @@ kept_leaf i d a c n q k t b f ts l o w h =
     kept_behind i d a c (suc c) q k b (one_token k t) (token k t f) f (t ∷ ts) ts (λ o. refl) h (omega (arith, on))
     (calm_behind (go q k) b (one_token k t) k ts (λ o. refl) (λ v j e. calm_leaf q k n t ts o v j)) (made_leaf i q k t n b (t ∷ ts) ts ts l o w h.made)
 
--- behind a tree that stands for an operand, an attribute path or an entry
+-- behind a node, or an error node that stands for an operand
 pub kept_tree : (i : SyntaxKind) (d a c l : ℕ) (q : Spot) (k : SyntaxKind) (b x f g : Sketch) (ts vs : List Token) → has_row k ≡ true → IsSingle x
     → ((o : Option SyntaxKind) → last_from o x ≡ Some k)
     → live (go q k) ≡ true → Settled q k vs → (is_attrpath k ≡ true → (j : SyntaxKind) → head_kind vs ≡ Some j → is_dot j ≡ false)
@@ -80,7 +80,7 @@ kept_tree i d a c l q k b x f g ts vs r s last w e dot m h =
     kept_behind i d a c (c + l) q k b x f g ts vs last h (near (is_start q) d c l h.items m) (calm_behind (go q k) b x k vs last (calm_tree q k vs w e dot))
     (made_tree i q k b x ts vs r s w e h.made)
 
--- inherited names
+-- the kind, if there is one, is that of an `inherit` entry
 abbrev pub inherits : Option SyntaxKind → Bool
 inherits None = false
 inherits (Some k) = is_inherit k

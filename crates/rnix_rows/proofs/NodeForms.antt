@@ -37,7 +37,7 @@ start_part : (q : Spot) → is_start q ≡ true → whole q ≡ false
 start_part (Start k) h = refl
 start_part _ h = cc
 
--- no counted place begins a row
+-- a spot before the first child of a row is not counted
 pub start_uncounted : (q : Spot) → is_start q ≡ true → counts q ≡ false
 start_uncounted (Start k) h = refl
 start_uncounted _ h = cc

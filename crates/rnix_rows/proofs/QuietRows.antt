@@ -32,7 +32,7 @@ use Rattle.rnix_rows.proofs.WantingSpots.{wants, is_parted_in, is_parted, is_clo
 abbrev pub Calm : Spot → Sketch → List Token → Type 0
 Calm q b ts = wants q ≡ true → (j : SyntaxKind) → head_kind ts ≡ Some j → continues j (last_kind b) ≡ false
 
--- the level of the operands at a place
+-- the level of the operands at a spot
 abbrev pub level_of : Spot → Option ℕ
 level_of (At x) = level_in (slot_at x)
 level_of q = None

@@ -63,7 +63,7 @@ unplaced_start (Start n) k h l =
 unplaced_start (At x) k h l = absurd (true_is_not_false h)
 unplaced_start q k h l = not_if (is_place (start k)) (implied (λ k. live (go q k)) (λ k. if is_place (start k) then false else true) refl k l)
 
--- a row that begins at no place has a token
+-- a complete row that begins at no place has a token
 row_some : {p : SyntaxKind} {d n : ℕ} {q q' : Spot} {b : Sketch} {us : List Token} {f : Sketch} {es : List Fault}
     → Reads p d n q q' b us f es → is_place q ≡ false → whole q' ≡ true → tokens_in f ≡ [] → ⊥
 row_some {q = q} end h w e = true_is_not_false (sym w ∙ (unplaced q h).0)
@@ -101,7 +101,7 @@ begins_unplaced (At x) k c n h o e l = by (is_place (start k)) refl
     by false i = i
 begins_unplaced q k c n h o e l = unplaced_start q k refl l
 
--- an operand has a token
+-- where no item is left, no operand stands that is no error node
 no_operand : (o : Option ℕ) (x : Sketch) (after : List Token) → tokens_in x ++ after ≡ [] → IsOperand o x after → o ≡ None
 no_operand None x after e h = refl
 no_operand (Some level) x after e h = absurd (subst (IsBegun level x) e h.1)

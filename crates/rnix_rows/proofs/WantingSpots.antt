@@ -17,7 +17,7 @@ use Rattle.rnix_lemmas.proofs.Places.{is_last}
 use Rattle.rnix_lemmas.proofs.LaterSpots.{is_start}
 use Rattle.rnix_lemmas.proofs.NodeKinds.{fits_expression}
 
--- a token is wanted in a slot, or what a run of others may stand before, or the end of the text
+-- a token is wanted in a slot, or what a run of others may stand before, inherited names aside, or the end of the text
 abbrev pub wants_in : Slot → Bool
 wants_in (s.Token until behind) = true
 wants_in s.Pieces = true
