@@ -89,7 +89,7 @@ is_special kind = is_wrapper kind
 
 -- an expression of another kind that begins with a token
 abbrev is_told_by : SyntaxKind → SyntaxKind → Bool
-is_told_by k i = is_expression k && ((if is_special k then false else true) && ((if is_node i then false else true) && live (go (start k) i)))
+is_told_by k i = is_expression k && ((if is_special k then false else true) && (live (go (start k) i) && (if is_node i then false else true)))
 
 token_tells : (w : Bool) (k i : SyntaxKind) (t : Token) (level : ℕ) (ts : List Token) → is_operand k ≡ w → (w ≡ false → level ≡ 0) → is_told_by k i ≡ true → t.kind ≡ i → Tells k level t ts
 token_tells true k i t level ts o z h e =
@@ -108,7 +108,7 @@ told_tells : (k i : SyntaxKind) (t : Token) (f : Forest) (level : ℕ) (ts : Lis
     → live (go (start k) i) ≡ true → t.kind ≡ untold i t.text → Tells k level t ts
 told_tells k i t f level ts p n s l e =
     let x : Standing level k (leaf i t.text f) = standing level k (leaf i t.text f) s in
-    let h : is_told_by k i ≡ true = both_true x.expression (both_true (ap (λ w. if w then false else true) p) (both_true (ap (λ w. if w then false else true) n) l)) in
+    let h : is_told_by k i ≡ true = both_true x.expression (both_true (ap (λ w. if w then false else true) p) (both_true l (ap (λ w. if w then false else true) n))) in
     token_tells (is_operand k) k i t level ts refl (λ o. loosest k (leaf i t.text f) level x.expression o x.low) h
     (e ∙ untold_plain i t.text (not_if (is_name i) (whenever_two is_told_by (λ j u. if is_name u then false else true) refl k i h)))
 
@@ -150,8 +150,8 @@ leaf_first _ i t d f w = cc
 
 lambda_alone : (k i : SyntaxKind) → is_expression k ≡ true → is_wrapper k ≡ false → is_node i ≡ true → live (go (start k) i) ≡ true → k ≡ NODE_LAMBDA
 lambda_alone k i e w n l =
-    same k NODE_LAMBDA (whenever_two (λ j u. is_expression j && ((if is_wrapper j then false else true) && (is_node u && live (go (start j) u)))) (λ j u. nat_eq (place_of j) (place_of NODE_LAMBDA)) refl k i
-    (both_true e (both_true (ap (λ z. if z then false else true) w) (both_true n l))))
+    same k NODE_LAMBDA (whenever_two (λ j u. is_expression j && ((if is_wrapper j then false else true) && (live (go (start j) u) && is_node u))) (λ j u. nat_eq (place_of j) (place_of NODE_LAMBDA)) refl k i
+    (both_true e (both_true (ap (λ z. if z then false else true) w) (both_true l n))))
 
 lambda_begun : (c f : Sketch) (level : ℕ) (us : List Token) → stands_at level NODE_LAMBDA (forget c) ≡ true → is_strict (start NODE_LAMBDA) (forget c) ≡ true → AreUntold c
     → IsBegun level (branch NODE_LAMBDA c f) (tokens_in c ++ us)
