@@ -1,6 +1,8 @@
 -- Lemmas on the lexical rules.
+pub mod ClassTable
 pub mod CutLemmas
 pub mod CutParts
+pub mod FirstBytes
 pub mod Laws
 pub mod LongestLemmas
 pub mod ModesLemmas

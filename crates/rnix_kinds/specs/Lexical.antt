@@ -1,6 +1,7 @@
 -- The lexical rules: which tokens a text has.
 pub mod Texts
 pub mod Classes
+pub mod ClassTable
 pub mod Plain
 pub mod Strings
 pub mod Paths

@@ -24,7 +24,7 @@ mod string;
 mod text;
 mod word;
 
-use self::ahead::{Ahead, look_ahead, passed};
+use self::ahead::Ahead;
 use self::modes::Modes;
 use self::normal::normal;
 use self::path::path;
@@ -37,24 +37,21 @@ use std::marker::Model;
 /// A kind and the text it was given for.
 pub type Token<'a> = (SyntaxKind, &'a str);
 
-/// The token that begins the text, and what was looked over for it.
+/// The token that begins the text.
 #[tactic(auto, unfolding(crate::specs::Lexical::Tokens::cut_at))]
-fn cut_at(text: &str, top: Option<Mode>, ahead: Ahead) -> (Cut, Ahead)
+fn cut_at(text: &str, top: Option<Mode>, ahead: &mut Ahead) -> Cut
     requires some { 0 < length text.now }
     requires room { HasRoom top }
     requires goes_on { IsPathGoingOn top text.now }
-    requires ahead { IsAhead ahead text.now }
-    ensures cut { result.0 ≡ cut_at top text.now }
-    ensures good { IsCutOf top text.now result.0 }
-    ensures ahead { IsAhead result.1 text.now }
+    requires ahead { IsAhead ahead.old text.now }
+    ensures cut { result ≡ cut_at top text.now }
+    ensures good { IsCutOf top text.now result }
+    ensures ahead { IsAhead ahead.new text.now }
 {
     match top {
-        Some(Mode::Quoted(multiline)) => (string(text, multiline), ahead),
-        Some(Mode::Path(start)) => (path(text, start), ahead),
-        _ => {
-            let runs = look_ahead(text, ahead);
-            (normal(text, top, runs), runs)
-        }
+        Some(Mode::Quoted(multiline)) => string(text, multiline),
+        Some(Mode::Path(start)) => path(text, start),
+        _ => normal(text, top, ahead),
     }
 }
 
@@ -86,14 +83,14 @@ impl<'a> Tokenizer<'a> {
     pub fn new(alloc: Global, text: &'a str) -> Self
         ensures { result ≡ tokens_of text.now }
     {
-        let _len = text.len();
+        let len = text.len();
         Tokenizer {
             rest: text,
             modes: Modes::new(alloc),
             ahead: Ahead {
-                step: 0,
-                scheme: 0,
-                angle: 0,
+                step: len,
+                scheme: len,
+                angle: len,
             },
         }
     }
@@ -115,13 +112,12 @@ impl<'a> Tokenizer<'a> {
             return None;
         }
         self.modes.leave_ended_paths(text);
-        let (cut, ahead) = cut_at(text, self.modes.top(), self.ahead);
+        let cut = cut_at(text, self.modes.top(), &mut self.ahead);
         if let Err(error) = self.modes.change(cut.change) {
             return Some(Err(error));
         }
         let (token, rest) = text.split_at(cut.len);
         self.rest = rest;
-        self.ahead = passed(ahead, cut.len, text);
         Some(Ok((cut.kind, token)))
     }
 }

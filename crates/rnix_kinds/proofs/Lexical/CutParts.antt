@@ -10,7 +10,7 @@ use Rattle.std.specs.List.{prefix_len, list_all}
 use Rattle.std.specs.Char.{is_ascii_alphabetic}
 use Rattle.std.specs.Str.{IsCharBoundary, bytes_eq}
 use Rattle.rnix_kinds.specs.declared.kinds.SyntaxKind.{SyntaxKind}
-use Rattle.rnix_kinds.specs.declared.kinds.SyntaxKind.TheVariants.{TOKEN_ASSERT, TOKEN_ELSE, TOKEN_IF, TOKEN_IN, TOKEN_INHERIT, TOKEN_LET, TOKEN_REC, TOKEN_THEN, TOKEN_WITH, TOKEN_CUR_POS, TOKEN_OR, TOKEN_IDENT, TOKEN_ERROR, TOKEN_STRING_END}
+use Rattle.rnix_kinds.specs.declared.kinds.SyntaxKind.TheVariants.{TOKEN_ELSE, TOKEN_IF, TOKEN_IN, TOKEN_INHERIT, TOKEN_LET, TOKEN_REC, TOKEN_THEN, TOKEN_WITH, TOKEN_CUR_POS, TOKEN_OR, TOKEN_IDENT, TOKEN_ERROR, TOKEN_STRING_END}
 use Rattle.rnix_kinds.specs.declared.tokenizer.rule.Cut.{Cut}
 use Rattle.rnix_kinds.specs.declared.tokenizer.rule.PathStart.{PathStart}
 use Rattle.rnix_kinds.specs.declared.tokenizer.rule.PathStart.TheVariants.{Root as StartSlash, Relative as StartName, Home as StartTilde}
@@ -125,7 +125,7 @@ differs word same e = let f = rw same at e in cc
 -- the word `or` has its own kind
 pub word_named : (word : List ℕ) → MayBe (kind_of_word word) word
 word_named word =
-    named_if (bytes_eq word (codes "assert")) TOKEN_ASSERT _ word (λ e. refl) (λ e.
+    named_if (bytes_eq word (codes "assert")) _ _ word (λ e. refl) (λ e.
     named_if (bytes_eq word (codes "else")) TOKEN_ELSE _ word (λ e. refl) (λ e.
     named_if (bytes_eq word (codes "if")) TOKEN_IF _ word (λ e. refl) (λ e.
     named_if (bytes_eq word (codes "in")) TOKEN_IN _ word (λ e. refl) (λ e.

@@ -1,5 +1,11 @@
 -- Rows of the pieces of a string.
-use Rattle.std.proofs.Common.{◌≡◌, ℕ, zero, suc, ◌+◌, ◌<◌, ◌≤◌, Bool, List, [], ◌∷◌, length, drop, refl, arith}
+use Rattle.std.proofs.Common.{◌≡◌, ℕ, zero, suc, ◌+◌, ◌<◌, ◌≤◌, Bool, true, false, List, [], ◌∷◌, length, drop, refl, ap, arith}
+use Rattle.std.proofs.lemmas.Bool.Decides.{nat_tests}
+use Rattle.std.proofs.lemmas.List.{drop-drop}
+use Rattle.std.specs.List.{prefix_len}
+use Rattle.rnix_kinds.specs.declared.tokenizer.text.Class.TheVariants.{Content}
+use Rattle.rnix_kinds.specs.Lexical.Classes.{class_test}
+use Rattle.rnix_kinds.specs.Lexical.Texts.{run_end}
 use Rattle.rnix_kinds.specs.Lexical.Strings.{piece_len, content_from, content_len}
 
 -- a piece is passed as a whole
@@ -40,6 +46,32 @@ content_len-past m (suc n) (b ∷ xs) e h = omega (arith, content_step m n b xs 
 pub content_len-nil : (m : Bool) → content_len m [] ≡ 0
 unfolding content_from
 content_len-nil m = refl
+
+-- a byte that means nothing of its own is a piece
+plain_piece : (m : Bool) (x : ℕ) (xs : List ℕ) → class_test Content x ≡ true → piece_len m (x ∷ xs) ≡ 1
+plain_piece true x xs e = grind (arith, nat_tests)
+plain_piece false x xs e = grind (arith, nat_tests)
+
+content_run_step : (m b : Bool) (x : ℕ) (xs : List ℕ) → class_test Content x ≡ b
+    → content_len m xs ≡ prefix_len (class_test Content) xs + content_len m (drop (prefix_len (class_test Content) xs) xs)
+    → content_len m (x ∷ xs) ≡ prefix_len (class_test Content) (x ∷ xs) + content_len m (drop (prefix_len (class_test Content) (x ∷ xs)) (x ∷ xs))
+content_run_step m true x xs e h =
+    let piece = content_len-piece m 1 (x ∷ xs) (plain_piece m x xs e) (omega arith) (omega arith) in
+    let more : 1 + prefix_len (class_test Content) xs ≡ suc (prefix_len (class_test Content) xs) = omega arith in
+    rw (e, more) (omega (arith, piece, h))
+content_run_step m false x xs e h = rw e (omega arith)
+
+-- and so is a run of them a row
+pub content_len-run : (m : Bool) (xs : List ℕ) → content_len m xs ≡ prefix_len (class_test Content) xs + content_len m (drop (prefix_len (class_test Content) xs) xs)
+content_len-run m [] = omega arith
+content_len-run m (x ∷ xs) = content_run_step m (class_test Content x) x xs refl (content_len-run m xs)
+
+-- what comes before a place and a run from there on
+pub content_len-run_end : (m : Bool) (i end : ℕ) (xs : List ℕ) → content_len m xs ≡ i + content_len m (drop i xs) → end ≡ run_end (class_test Content) i xs → content_len m xs ≡ end + content_len m (drop end xs)
+content_len-run_end m i end xs so_far e =
+    let run = content_len-run m (drop i xs) in
+    let same = ap (content_len m) (drop-drop (prefix_len (class_test Content) (drop i xs)) i xs) in
+    rw e (omega (arith, so_far, run, same))
 
 content_le_step : (m : Bool) (x : ℕ) (xs : List ℕ) (n : ℕ) → piece_len m (x ∷ xs) ≡ n → ((k : ℕ) → content_from m k xs ≤ length xs) → content_len m (x ∷ xs) ≤ suc (length xs)
 content_le_step m x xs zero e more = omega (arith, content_len-stop m (x ∷ xs) e)

@@ -1,17 +1,19 @@
 -- Facts on the words on texts.
-use Rattle.std.proofs.Common.{eqb-true, eq-eqb, ◌≡◌, ℕ, zero, suc, ◌+◌, ◌-◌, ◌<◌, ◌≤◌, Bool, true, false, cond, ◌&&◌, ◌==◌, List, [], ◌∷◌, ◌++◌, length, get_or, drop, IsUtf8, refl, sym, ap, ◌∙◌, subst, inl, inr, arith, add-one, add-zero, zero-add, get_or-drop, append_assoc, length-append}
+use Rattle.std.proofs.Common.{eqb-true, eq-eqb, ◌≡◌, ℕ, zero, suc, ◌+◌, ◌-◌, ◌<◌, ◌≤◌, Bool, true, false, cond, ◌&&◌, ◌==◌, nat_lt, List, [], ◌∷◌, ◌++◌, length, get_or, drop, IsUtf8, refl, sym, ap, ◌∙◌, subst, inl, inr, arith, add-one, add-zero, zero-add, get_or-drop, append_assoc, length-append, length-drop}
 use Rattle.std.proofs.lemmas.Bool.{cases_lt, and_parts}
 use Rattle.std.proofs.lemmas.Bool.Decides.{nat_tests}
 use Rattle.std.proofs.lemmas.List.{drop_more, get_or_past}
 use Rattle.std.proofs.lemmas.List.Sums.{prefix_len-le-length, prefix_len_passes, prefix_len_stops}
-use Rattle.std.proofs.lemmas.Str.{encodes-chars, scalars-chars, len_utf8_bounds, IsCharBoundary-past_char, IsCharBoundary-at_seam, IsCharBoundary-start, IsCharBoundary-end, IsCharBoundary-before_ascii, IsCharBoundary-after_ascii}
+use Rattle.std.proofs.lemmas.Str.{chars-nil, encode_ascii, encodes-chars, scalars-chars, len_utf8_bounds, IsCharBoundary-past_char, IsCharBoundary-at_seam, IsCharBoundary-start, IsCharBoundary-end, IsCharBoundary-before_ascii, IsCharBoundary-after_ascii}
 use Rattle.std.specs.List.{prefix_len, take_while}
 use Rattle.std.specs.Char.{is_whitespace, len_utf8}
+use lib.Utf8.{encode}
 use Rattle.std.specs.Str.{chars, encode_utf8_all, all_scalars, skip_leading_whitespace, trim_start, IsCharBoundary}
+use Rattle.rnix_kinds.specs.declared.tokenizer.ahead.Ahead.{Ahead}
 use Rattle.rnix_kinds.specs.declared.tokenizer.text.Class.{Class}
-use Rattle.rnix_kinds.specs.declared.tokenizer.text.Class.TheVariants.{Digit, Name, Path, Step, Scheme, Angle, Uri, Line}
+use Rattle.rnix_kinds.specs.declared.tokenizer.text.Class.TheVariants.{Digit, Name, Path, Step, Scheme, Angle, Uri, Line, Content}
 use Rattle.rnix_kinds.specs.Lexical.Classes.{class_test}
-use Rattle.rnix_kinds.specs.Lexical.Ahead.{IsRunLength}
+use Rattle.rnix_kinds.specs.Lexical.Ahead.{IsRunEnd, IsAhead}
 use Rattle.rnix_kinds.specs.Lexical.Texts.{before_pair, space_len, char_len}
 
 -- one turn of `before_pair`, at an index
@@ -25,6 +27,28 @@ before_pair-turn a b xs i h =
 pub before_pair-nil : (a b : ℕ) → before_pair a b [] ≡ 0
 unfolding before_pair
 before_pair-nil a b = refl
+
+-- an ASCII byte is a character
+chars-ascii : (b : ℕ) (text : List ℕ) → b < 128 → chars (b ∷ text) ≡ b ∷ chars text
+unfolding chars
+chars-ascii b [] h = let low : nat_lt b 128 ≡ true = grind (arith, nat_tests) in rw low refl
+chars-ascii b (c ∷ text) h = let low : nat_lt b 128 ≡ true = grind (arith, nat_tests) in rw low refl
+
+-- white space ends before an ASCII byte that is none, and at the end
+pub space_len-stop : (text : List ℕ) → get_or text 0 0 < 128 → is_whitespace (get_or text 0 0) ≡ false → space_len text ≡ 0
+unfolding space_len
+space_len-stop [] low out = rw chars-nil refl
+space_len-stop (b ∷ text) low out = rw (chars-ascii b text low, out) refl
+
+blank_more : (b : ℕ) (cs : List ℕ) → b < 128 → is_whitespace b ≡ true → length (encode_utf8_all (take_while is_whitespace (b ∷ cs))) ≡ 1 + length (encode_utf8_all (take_while is_whitespace cs))
+blank_more b cs low white =
+    let more : 1 + prefix_len is_whitespace cs ≡ suc (prefix_len is_whitespace cs) = omega arith in
+    rw (white, more) (omega (arith, length-append (encode b) (encode_utf8_all (take_while is_whitespace cs)), ap length (encode_ascii b low)))
+
+-- and goes on past one that is
+pub space_len-step : (b : ℕ) (text : List ℕ) → b < 128 → is_whitespace b ≡ true → space_len (b ∷ text) ≡ 1 + space_len text
+unfolding space_len
+space_len-step b text low white = rw (chars-ascii b text low) (blank_more b (chars text) low white)
 
 space_step : (c : ℕ) (cs : List ℕ) (b : Bool) → is_whitespace c ≡ b
     → encode_utf8_all (take_while is_whitespace cs) ++ encode_utf8_all (skip_leading_whitespace cs) ≡ encode_utf8_all cs
@@ -76,6 +100,7 @@ IsCharBoundary-run Step bs utf8 = IsCharBoundary-ascii_run (class_test Step) bs 
 IsCharBoundary-run Scheme bs utf8 = IsCharBoundary-ascii_run (class_test Scheme) bs utf8 (λ c e. grind (arith, nat_tests))
 IsCharBoundary-run Angle bs utf8 = IsCharBoundary-ascii_run (class_test Angle) bs utf8 (λ c e. grind (arith, nat_tests))
 IsCharBoundary-run Uri bs utf8 = IsCharBoundary-ascii_run (class_test Uri) bs utf8 (λ c e. grind (arith, nat_tests))
+IsCharBoundary-run Content bs utf8 = IsCharBoundary-wide_run (class_test Content) bs (λ c e. grind (arith, nat_tests))
 IsCharBoundary-run Line bs utf8 = IsCharBoundary-wide_run (class_test Line) bs (λ c e. grind (arith, nat_tests))
 
 prefix_len_drop_step : (p : ℕ → Bool) (b : Bool) (n x : ℕ) (xs : List ℕ) → p x ≡ b → suc n < prefix_len p (x ∷ xs) → (n < prefix_len p xs → prefix_len p (drop n xs) ≡ prefix_len p xs - n) → prefix_len p (drop n xs) ≡ prefix_len p (x ∷ xs) - suc n
@@ -93,11 +118,20 @@ prefix_len-drop p zero xs h = omega arith
 prefix_len-drop p (suc n) [] h = absurd (omega arith)
 prefix_len-drop p (suc n) (x ∷ xs) h = prefix_len_drop_step p (p x) n x xs refl h (prefix_len-drop p n xs)
 
-pub IsRunLength-pass : (class : Class) (n len m : ℕ) (text : List ℕ) → IsRunLength class n text → m ≡ n - len → IsRunLength class m (drop len text)
-IsRunLength-pass class n len m text ahead e positive =
+-- where a run ends stays, whatever is passed of it
+pub IsRunEnd-pass : (class : Class) (left n : ℕ) (text : List ℕ) → IsRunEnd class left text → IsRunEnd class left (drop n text)
+IsRunEnd-pass class left n text ahead inside =
+    let size = length-drop n text in
     let is = ahead (omega arith) in
-    let step = prefix_len-drop (class_test class) len text (omega arith) in
+    let more = prefix_len-drop (class_test class) n text (omega arith) in
     omega arith
+
+pub IsAhead-pass : (runs : Ahead) (n : ℕ) (text : List ℕ) → IsAhead runs text → IsAhead runs (drop n text)
+IsAhead-pass runs n text ahead = record {
+  step = IsRunEnd-pass Step runs.step n text ahead.step;
+  scheme = IsRunEnd-pass Scheme runs.scheme n text ahead.scheme;
+  angle = IsRunEnd-pass Angle runs.angle n text ahead.angle;
+}
 
 scalars-skip : (cs : List ℕ) → all_scalars cs ≡ true → all_scalars (skip_leading_whitespace cs) ≡ true
 scalars-skip [] e = refl

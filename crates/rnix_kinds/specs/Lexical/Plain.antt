@@ -1,5 +1,5 @@
 -- White space, comments and words, and what a rule gives.
-use Rattle.std.specs.Prelude.{ℕ, ◌+◌, ◌&&◌, ◌||◌, ◌==◌, if◌then◌else◌, nat_lt, List, take, drop, length, slice_index, codes, Option, Some, None}
+use Rattle.std.specs.Prelude.{ℕ, Bool, ◌+◌, ◌&&◌, ◌||◌, ◌==◌, if◌then◌else◌, nat_lt, List, take, drop, length, slice_index, codes, Option, Some, None}
 use Rattle.std.specs.List.{prefix_len}
 use Rattle.std.specs.Char.{is_ascii_alphabetic}
 use Rattle.std.specs.Str.{bytes_eq}
@@ -53,9 +53,17 @@ kind_of_word word =
     else (if bytes_eq word (codes "with") then TOKEN_WITH
     else TOKEN_IDENT)))))))))
 
+-- a letter or `_`
+abbrev pub begins_word : ℕ → Bool
+begins_word b = is_ascii_alphabetic b || b == 95
+
+-- a byte with which a path or a URI may go on behind a name: one of `.+/:`
+abbrev pub goes_past_name : ℕ → Bool
+goes_past_name b = b == 46 || b == 43 || b == 47 || b == 58
+
 -- a letter or `_`, and the longest run of letters, digits, `_`, `-` and `'`
 abbrev pub word : List ℕ → Option Cut
 word text =
     let n = run_end (class_test Name) 0 text in
-    if is_ascii_alphabetic (slice_index text 0) || slice_index text 0 == 95
+    if begins_word (slice_index text 0)
     then Some (plain (kind_of_word (take n text)) n) else None

@@ -31,8 +31,12 @@ normal_rules top text =
     space text ∷ comment text ∷ ellipsis text ∷ slash text ∷ home text ∷ relative text ∷ search_path text ∷ uri text
     ∷ word text ∷ number text ∷ opener text ∷ brace top text ∷ operator text ∷ []
 
+-- an error over the first character
+abbrev pub one_error : List ℕ → Cut
+one_error text = plain TOKEN_ERROR (char_len text)
+
 unfoldable pub normal_cut : Option Mode → List ℕ → Cut
-normal_cut top text = first_that_fits (normal_rules top text) (plain TOKEN_ERROR (char_len text))
+normal_cut top text = first_that_fits (normal_rules top text) (one_error text)
 
 -- the token that begins the text
 unfoldable pub cut_at : Option Mode → List ℕ → Cut

@@ -1,13 +1,13 @@
 //! What was looked over ahead, so that no byte is looked over twice.
 
-ghost use Rattle.std.specs.Prelude.{◌≡◌, drop, slice_index};
+ghost use Rattle.std.specs.Prelude.{◌≡◌};
 ghost use Rattle.std.specs.List.{prefix_len};
 ghost use Rattle.rnix_kinds.specs.Lexical.Classes.{class_test};
-ghost use Rattle.rnix_kinds.specs.Lexical.Ahead.{IsAhead};
+ghost use Rattle.rnix_kinds.specs.Lexical.Ahead.{IsRunEnd};
 
-use super::text::{Class, byte_at, looked};
+use super::text::{Class, run_end};
 
-/// The lengths of runs at the front of a text; 0 where a run was not looked over.
+/// Where the runs end that were looked over last, told by the length of the text that is left there.
 #[derive(Clone, Copy)]
 pub struct Ahead {
     pub step: usize,
@@ -15,34 +15,14 @@ pub struct Ahead {
     pub angle: usize,
 }
 
-/// The runs that the rules ask for here.
-pub fn look_ahead(text: &str, ahead: Ahead) -> Ahead
-    requires { IsAhead ahead text.now }
-    ensures ahead { IsAhead result text.now }
-    ensures step { result.step ≡ prefix_len (class_test Class.Step) text.now }
-    ensures scheme { result.scheme ≡ prefix_len (class_test Class.Scheme) text.now }
-    ensures angle { slice_index text.now 0 ≡ 60 → result.angle ≡ prefix_len (class_test Class.Angle) text.now }
+/// The length of the run at the front, which may have been looked over before.
+pub fn looked(text: &str, left: &mut usize, class: Class) -> usize
+    requires { IsRunEnd class left.old text.now }
+    ensures len { result ≡ prefix_len (class_test class) text.now }
+    ensures left { IsRunEnd class left.new text.now }
 {
-    let angle = if byte_at(text, 0) == b'<' {
-        looked(text, ahead.angle, Class::Angle)
-    } else {
-        ahead.angle
-    };
-    Ahead {
-        step: looked(text, ahead.step, Class::Step),
-        scheme: looked(text, ahead.scheme, Class::Scheme),
-        angle,
+    if *left >= text.len() {
+        *left = text.len() - run_end(text, 0, class);
     }
-}
-
-/// What is left of the runs after `len` bytes.
-pub fn passed(ahead: Ahead, len: usize, text: &str) -> Ahead
-    requires { IsAhead ahead text.now }
-    ensures { IsAhead result (drop len text.now) }
-{
-    Ahead {
-        step: ahead.step.saturating_sub(len),
-        scheme: ahead.scheme.saturating_sub(len),
-        angle: ahead.angle.saturating_sub(len),
-    }
+    text.len() - *left
 }

@@ -49,10 +49,11 @@ impl Modes {
     pub fn leave_ended_paths(&mut self, text: &str)
         ensures { self.new ≡ without_ended_paths self.old text.now }
     {
-        if !path_goes_on(text) {
-            while let Some(Mode::Path(_)) = self.top() {
-                self.close();
+        while let Some(Mode::Path(_)) = self.top() {
+            if path_goes_on(text) {
+                return;
             }
+            self.close();
         }
     }
 

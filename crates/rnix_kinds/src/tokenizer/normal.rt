@@ -1,69 +1,143 @@
-//! The rules in their order.
+//! The rules, by the first byte.
 
-ghost use Rattle.std.specs.Prelude.{◌≡◌, ◌<◌, length, slice_index};
-ghost use Rattle.std.specs.List.{prefix_len};
-ghost use Rattle.rnix_kinds.specs.Lexical.Classes.{class_test};
-ghost use Rattle.rnix_kinds.specs.Lexical.Operators.{HasRoom};
-ghost use Rattle.rnix_kinds.specs.Lexical.Tokens.{normal_cut};
+ghost use Rattle.std.specs.Prelude.{◌≡◌, ◌<◌, ◌∷◌, [], true, length, slice_index};
+ghost use Rattle.rnix_kinds.specs.Lexical.Ahead.{IsAhead};
+ghost use Rattle.rnix_kinds.specs.Lexical.Operators.{HasRoom, ellipsis, opener, operator};
+ghost use Rattle.rnix_kinds.specs.Lexical.Paths.{relative, search_path};
+ghost use Rattle.rnix_kinds.specs.Lexical.Plain.{space, uri, word, begins_word, goes_past_name};
+ghost use Rattle.rnix_kinds.specs.Lexical.Numbers.{number};
+ghost use Rattle.rnix_kinds.specs.Lexical.Tokens.{first_that_fits, one_error, normal_cut};
 
-use super::ahead::Ahead;
+use super::ahead::{Ahead, looked};
 use super::number::number;
-use super::operator::{brace, ellipsis, opener, operator};
+use super::operator::{closing_brace, ellipsis, opener, opening_brace, operator};
 use super::path::{home, relative, search_path, slash};
 use super::rule::{Cut, Mode, plain};
-use super::space::{comment, space};
-use super::text::{Class, char_len};
+use super::space::{block_comment, line_comment, space};
+use super::text::{Class, byte_at, char_len, is_in, run_end, space_len};
 use super::word::{uri, word};
 use crate::kinds::SyntaxKind;
 
+// An operator, or an error over one character.
+fn symbol(text: &str) -> Cut
+    requires { 0 < length text.now }
+    ensures { result ≡ first_that_fits (operator text.now ∷ []) (one_error text.now) }
+{
+    match operator(text) {
+        Some(cut) => cut,
+        None => plain(SyntaxKind::TOKEN_ERROR, char_len(text)),
+    }
+}
+
+// Whether a path or a URI may go on with this byte behind a name.
+#[inline]
+fn goes_past_name(b: u8) -> bool
+    ensures { result ≡ goes_past_name b }
+{
+    matches!(b, b'.' | b'+' | b'/' | b':')
+}
+
+// What begins with a letter or `_`.
+fn named(text: &str, ahead: &mut Ahead) -> Cut
+    requires first { begins_word (slice_index text.now 0) ≡ true }
+    requires ahead { IsAhead ahead.old text.now }
+    ensures cut { result ≡ first_that_fits (relative text.now ∷ uri text.now ∷ word text.now ∷ []) (one_error text.now) }
+    ensures ahead { IsAhead ahead.new text.now }
+{
+    let end = run_end(text, 0, Class::Name);
+    if goes_past_name(byte_at(text, end)) {
+        if let Some(cut) = relative(text, looked(text, &mut ahead.step, Class::Step)) {
+            return cut;
+        }
+        if let Some(cut) = uri(text, looked(text, &mut ahead.scheme, Class::Scheme)) {
+            return cut;
+        }
+    }
+    word(text, end)
+}
+
+// What begins with a digit, `.`, `+` or `-`. A path goes on with a path character.
+fn stepped(text: &str, ahead: &mut Ahead) -> Cut
+    requires some { 0 < length text.now }
+    requires ahead { IsAhead ahead.old text.now }
+    ensures cut { result
+        ≡ first_that_fits
+        (ellipsis text.now ∷ relative text.now ∷ number text.now ∷ operator text.now ∷ [])
+        (one_error text.now) }
+    ensures ahead { IsAhead ahead.new text.now }
+{
+    if is_in(Class::Path, byte_at(text, 1)) {
+        if let Some(cut) = ellipsis(text) {
+            return cut;
+        }
+        if let Some(cut) = relative(text, looked(text, &mut ahead.step, Class::Step)) {
+            return cut;
+        }
+    }
+    match number(text) {
+        Some(cut) => cut,
+        None => symbol(text),
+    }
+}
+
+// What begins with `<`.
+fn angled(text: &str, ahead: &mut Ahead) -> Cut
+    requires some { 0 < length text.now }
+    requires ahead { IsAhead ahead.old text.now }
+    ensures cut { result ≡ first_that_fits (search_path text.now ∷ operator text.now ∷ []) (one_error text.now) }
+    ensures ahead { IsAhead ahead.new text.now }
+{
+    match search_path(text, looked(text, &mut ahead.angle, Class::Angle)) {
+        Some(cut) => cut,
+        None => symbol(text),
+    }
+}
+
+// What begins with `"`, `$` or `'`.
+fn opened(text: &str) -> Cut
+    requires { 0 < length text.now }
+    ensures { result ≡ first_that_fits (opener text.now ∷ operator text.now ∷ []) (one_error text.now) }
+{
+    match opener(text) {
+        Some(cut) => cut,
+        None => symbol(text),
+    }
+}
+
+// What begins with a control character, or with no character of ASCII.
+fn other(text: &str) -> Cut
+    requires { 0 < length text.now }
+    ensures { result ≡ first_that_fits (space text.now ∷ operator text.now ∷ []) (one_error text.now) }
+{
+    match space(text) {
+        Some(cut) => cut,
+        None => symbol(text),
+    }
+}
+
 /// The token of the first rule that fits.
-#[tactic(auto, unfolding(crate::specs::Lexical::Tokens::normal_cut))]
-pub fn normal(text: &str, top: Option<Mode>, runs: Ahead) -> Cut
+pub fn normal(text: &str, top: Option<Mode>, ahead: &mut Ahead) -> Cut
     requires some { 0 < length text.now }
     requires room { HasRoom top }
-    requires step { runs.step ≡ prefix_len (class_test Class.Step) text.now }
-    requires scheme { runs.scheme ≡ prefix_len (class_test Class.Scheme) text.now }
-    requires angle { slice_index text.now 0 ≡ 60 → runs.angle ≡ prefix_len (class_test Class.Angle) text.now }
-    ensures { result ≡ normal_cut top text.now }
+    requires ahead { IsAhead ahead.old text.now }
+    ensures cut { result ≡ normal_cut top text.now }
+    ensures ahead { IsAhead ahead.new text.now }
 {
-    if let Some(cut) = space(text) {
-        return cut;
+    match byte_at(text, 0) {
+        b' ' | b'\t'..=b'\r' => plain(SyntaxKind::TOKEN_WHITESPACE, space_len(text)),
+        b'a'..=b'z' | b'A'..=b'Z' | b'_' => named(text, ahead),
+        b'0'..=b'9' | b'.' | b'+' | b'-' => stepped(text, ahead),
+        b'#' => line_comment(text),
+        b'/' => match byte_at(text, 1) {
+            b'*' => block_comment(text),
+            _ => slash(text),
+        },
+        b'<' => angled(text, ahead),
+        b'~' => home(text),
+        b'"' | b'$' | b'\'' => opened(text),
+        b'{' => opening_brace(top),
+        b'}' => closing_brace(top),
+        b'!'..=b'~' => symbol(text),
+        _ => other(text),
     }
-    if let Some(cut) = comment(text) {
-        return cut;
-    }
-    if let Some(cut) = ellipsis(text) {
-        return cut;
-    }
-    if let Some(cut) = slash(text) {
-        return cut;
-    }
-    if let Some(cut) = home(text) {
-        return cut;
-    }
-    if let Some(cut) = relative(text, runs.step) {
-        return cut;
-    }
-    if let Some(cut) = search_path(text, runs.angle) {
-        return cut;
-    }
-    if let Some(cut) = uri(text, runs.scheme) {
-        return cut;
-    }
-    if let Some(cut) = word(text) {
-        return cut;
-    }
-    if let Some(cut) = number(text) {
-        return cut;
-    }
-    if let Some(cut) = opener(text) {
-        return cut;
-    }
-    if let Some(cut) = brace(text, top) {
-        return cut;
-    }
-    if let Some(cut) = operator(text) {
-        return cut;
-    }
-    plain(SyntaxKind::TOKEN_ERROR, char_len(text))
 }

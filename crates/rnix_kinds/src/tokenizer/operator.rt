@@ -1,7 +1,7 @@
 //! Operators and brackets.
 
 ghost use Rattle.std.specs.Prelude.{◌≡◌};
-ghost use Rattle.rnix_kinds.specs.Lexical.Operators.{ellipsis, opener, brace, operator, HasRoom};
+ghost use Rattle.rnix_kinds.specs.Lexical.Operators.{ellipsis, opener, opening_brace, closing_brace, operator, HasRoom};
 
 use super::rule::{Change, Cut, Mode, plain};
 use super::text::byte_at;
@@ -43,34 +43,37 @@ pub fn opener(text: &str) -> Option<Cut>
     }
 }
 
-/// A brace. An interpolation counts its braces, and ends at a `}` too many.
-pub fn brace(text: &str, top: Option<Mode>) -> Option<Cut>
+/// A `{`, which an interpolation counts.
+pub fn opening_brace(top: Option<Mode>) -> Cut
     requires { HasRoom top }
-    ensures { result ≡ brace top text.now }
+    ensures { result ≡ opening_brace top }
 {
-    match byte_at(text, 0) {
-        b'{' => Some(match top {
-            Some(Mode::Interpolation(braces)) => Cut {
-                kind: SyntaxKind::TOKEN_L_BRACE,
-                len: 1,
-                change: Change::Count(braces + 1),
-            },
-            _ => plain(SyntaxKind::TOKEN_L_BRACE, 1),
-        }),
-        b'}' => Some(match top {
-            Some(Mode::Interpolation(0)) => Cut {
-                kind: SyntaxKind::TOKEN_INTERPOL_END,
-                len: 1,
-                change: Change::Close,
-            },
-            Some(Mode::Interpolation(braces)) => Cut {
-                kind: SyntaxKind::TOKEN_R_BRACE,
-                len: 1,
-                change: Change::Count(braces - 1),
-            },
-            _ => plain(SyntaxKind::TOKEN_R_BRACE, 1),
-        }),
-        _ => None,
+    match top {
+        Some(Mode::Interpolation(braces)) => Cut {
+            kind: SyntaxKind::TOKEN_L_BRACE,
+            len: 1,
+            change: Change::Count(braces + 1),
+        },
+        _ => plain(SyntaxKind::TOKEN_L_BRACE, 1),
+    }
+}
+
+/// A `}`. An interpolation ends at one too many.
+pub fn closing_brace(top: Option<Mode>) -> Cut
+    ensures { result ≡ closing_brace top }
+{
+    match top {
+        Some(Mode::Interpolation(0)) => Cut {
+            kind: SyntaxKind::TOKEN_INTERPOL_END,
+            len: 1,
+            change: Change::Close,
+        },
+        Some(Mode::Interpolation(braces)) => Cut {
+            kind: SyntaxKind::TOKEN_R_BRACE,
+            len: 1,
+            change: Change::Count(braces - 1),
+        },
+        _ => plain(SyntaxKind::TOKEN_R_BRACE, 1),
     }
 }
 

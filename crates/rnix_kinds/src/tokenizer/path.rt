@@ -1,6 +1,6 @@
 //! Paths.
 
-ghost use Rattle.std.specs.Prelude.{◌≡◌, ◌<◌, ◌≤◌, true, length, slice_index};
+ghost use Rattle.std.specs.Prelude.{◌≡◌, ◌<◌, ◌≤◌, Some, true, length, slice_index};
 ghost use Rattle.std.specs.List.{prefix_len};
 ghost use Rattle.rnix_kinds.specs.Lexical.Classes.{class_test};
 ghost use Rattle.rnix_kinds.specs.Lexical.Paths.{is_broken, segment, first_segment, slash, home, goes_on_as_path, relative, search_path, path_goes_on, path_cut};
@@ -59,38 +59,34 @@ fn first_segment(text: &str, start: PathStart, from: usize) -> Cut
 }
 
 /// `//`, an absolute path, or a division.
-pub fn slash(text: &str) -> Option<Cut>
-    ensures { result ≡ slash text.now }
+pub fn slash(text: &str) -> Cut
+    requires { slice_index text.now 0 ≡ 47 }
+    ensures { Some result ≡ slash text.now }
 {
-    if byte_at(text, 0) != b'/' {
-        return None;
-    }
     let second = byte_at(text, 1);
     if second == b'/' {
-        Some(plain(SyntaxKind::TOKEN_UPDATE, 2))
+        plain(SyntaxKind::TOKEN_UPDATE, 2)
     } else if second == b'$' && byte_at(text, 2) == b'{' || is_in(Class::Path, second) {
-        Some(first_segment(text, PathStart::Root, 0))
+        first_segment(text, PathStart::Root, 0)
     } else {
-        Some(plain(SyntaxKind::TOKEN_DIV, 1))
+        plain(SyntaxKind::TOKEN_DIV, 1)
     }
 }
 
 /// A path from the home folder, or an error over `~` and the next character.
-pub fn home(text: &str) -> Option<Cut>
-    ensures { result ≡ home text.now }
+pub fn home(text: &str) -> Cut
+    requires { slice_index text.now 0 ≡ 126 }
+    ensures { Some result ≡ home text.now }
 {
-    if byte_at(text, 0) != b'~' {
-        return None;
-    }
     if byte_at(text, 1) == b'/' {
-        return Some(first_segment(text, PathStart::Home, 1));
+        return first_segment(text, PathStart::Home, 1);
     }
     let len = if text.len() == 1 {
         1
     } else {
         1 + char_len(&text[1..])
     };
-    Some(plain(SyntaxKind::TOKEN_ERROR, len))
+    plain(SyntaxKind::TOKEN_ERROR, len)
 }
 
 // Whether `/` and what a path goes on with stand behind the first `len` bytes.

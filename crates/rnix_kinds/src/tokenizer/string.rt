@@ -4,7 +4,7 @@ ghost use Rattle.std.specs.Prelude.{◌≡◌, ◌≤◌, length};
 ghost use Rattle.rnix_kinds.specs.Lexical.Strings.{piece_len, content_len, string_cut};
 
 use super::rule::{Change, Cut, Mode, plain};
-use super::text::{byte_at, byte_of};
+use super::text::{Class, byte_at, byte_of, run_end_of};
 use crate::kinds::SyntaxKind;
 
 /// The length of the first piece; 0 where the closer or `${` stands.
@@ -42,7 +42,7 @@ fn content_len(bytes: &[u8], multiline: bool) -> usize
     ensures value { result ≡ content_len multiline bytes.now }
     ensures within { result ≤ length bytes.now }
 {
-    let mut at = 0;
+    let mut at = run_end_of(bytes, 0, Class::Content);
     while at < bytes.len() {
         let len = piece_len(&bytes[at..], multiline);
         if len == 0 {
@@ -51,7 +51,7 @@ fn content_len(bytes: &[u8], multiline: bool) -> usize
         if len > bytes.len() - at {
             return bytes.len();
         }
-        at += len;
+        at = run_end_of(bytes, at + len, Class::Content);
     }
     at
 }

@@ -4,6 +4,7 @@ ghost use Rattle.std.specs.Prelude.{◌≡◌, ◌<◌, ◌≤◌, length, slice
 ghost use Rattle.std.specs.List.{prefix_len};
 ghost use Rattle.rnix_kinds.specs.Lexical.Texts.{run_end, before_pair, char_len, begins_space, space_len};
 ghost use Rattle.rnix_kinds.specs.Lexical.Classes.{class_test};
+ghost use Rattle.rnix_kinds.specs.Lexical.ClassTable.{has_flag};
 
 /// A set of bytes, to find runs of.
 #[derive(Clone, Copy)]
@@ -22,14 +23,50 @@ pub enum Class {
     Uri,
     /// Any byte but a line feed.
     Line,
+    /// Any byte but `"`, `\`, `$` and `'`.
+    Content,
 }
 
-// A path character: a letter, a digit, `/`, `_`, `.`, `+` or `-`.
+const DIGIT: u8 = 1;
+
+const NAME: u8 = 2;
+
+const PATH: u8 = 4;
+
+const STEP: u8 = 8;
+
+const SCHEME: u8 = 16;
+
+const ANGLE: u8 = 32;
+
+const URI: u8 = 64;
+
+const CONTENT: u8 = 128;
+
+// For each byte the flags of the classes that it is of.
+static CLASSES: [u8; 256] = [
+    128, 128, 128, 128, 128, 128, 128, 128, 128, 128, 128, 128, 128, 128, 128, 128, 128, 128, 128,
+    128, 128, 128, 128, 128, 128, 128, 128, 128, 128, 128, 128, 128, 128, 192, 0, 128, 64, 192,
+    192, 66, 128, 128, 192, 252, 192, 254, 252, 228, 255, 255, 255, 255, 255, 255, 255, 255, 255,
+    255, 192, 128, 160, 192, 128, 192, 192, 254, 254, 254, 254, 254, 254, 254, 254, 254, 254, 254,
+    254, 254, 254, 254, 254, 254, 254, 254, 254, 254, 254, 254, 254, 254, 254, 128, 0, 128, 128,
+    238, 128, 254, 254, 254, 254, 254, 254, 254, 254, 254, 254, 254, 254, 254, 254, 254, 254, 254,
+    254, 254, 254, 254, 254, 254, 254, 254, 254, 128, 128, 128, 192, 128, 128, 128, 128, 128, 128,
+    128, 128, 128, 128, 128, 128, 128, 128, 128, 128, 128, 128, 128, 128, 128, 128, 128, 128, 128,
+    128, 128, 128, 128, 128, 128, 128, 128, 128, 128, 128, 128, 128, 128, 128, 128, 128, 128, 128,
+    128, 128, 128, 128, 128, 128, 128, 128, 128, 128, 128, 128, 128, 128, 128, 128, 128, 128, 128,
+    128, 128, 128, 128, 128, 128, 128, 128, 128, 128, 128, 128, 128, 128, 128, 128, 128, 128, 128,
+    128, 128, 128, 128, 128, 128, 128, 128, 128, 128, 128, 128, 128, 128, 128, 128, 128, 128, 128,
+    128, 128, 128, 128, 128, 128, 128, 128, 128, 128, 128, 128, 128, 128, 128, 128, 128, 128, 128,
+    128, 128, 128, 128, 128, 128, 128, 128, 128,
+];
+
+// Whether the byte has the flag.
 #[inline(always)]
-fn is_path(b: u8) -> bool
-    ensures { result ≡ class_test Class.Path b }
+fn has_flag(flag: u8, b: u8) -> bool
+    ensures { result ≡ has_flag flag b }
 {
-    b.is_ascii_alphanumeric() || b == b'/' || b == b'_' || b == b'.' || b == b'+' || b == b'-'
+    CLASSES[b as usize] & flag != 0
 }
 
 /// Whether the byte is of the class.
@@ -38,27 +75,14 @@ pub fn is_in(class: Class, b: u8) -> bool
     ensures { result ≡ class_test class b }
 {
     match class {
-        Class::Digit => b.is_ascii_digit(),
-        Class::Name => b.is_ascii_alphanumeric() || b == b'_' || b == b'-' || b == b'\'',
-        Class::Path => is_path(b),
-        Class::Step => is_path(b) && b != b'/',
-        Class::Scheme => is_path(b) && b != b'/' && b != b'_',
-        Class::Angle => is_path(b) || b == b'<',
-        Class::Uri => {
-            is_path(b)
-                || b == b'%'
-                || b == b'?'
-                || b == b':'
-                || b == b'@'
-                || b == b'&'
-                || b == b'='
-                || b == b'$'
-                || b == b','
-                || b == b'!'
-                || b == b'~'
-                || b == b'*'
-                || b == b'\''
-        }
+        Class::Digit => has_flag(DIGIT, b),
+        Class::Name => has_flag(NAME, b),
+        Class::Path => has_flag(PATH, b),
+        Class::Step => has_flag(STEP, b),
+        Class::Scheme => has_flag(SCHEME, b),
+        Class::Angle => has_flag(ANGLE, b),
+        Class::Uri => has_flag(URI, b),
+        Class::Content => has_flag(CONTENT, b),
         Class::Line => b != b'\n',
     }
 }
@@ -90,26 +114,24 @@ fn run_len(bytes: &[u8], class: Class) -> usize
 
 /// Where the longest run of the class ends that begins at `from`.
 #[inline]
+pub fn run_end_of(bytes: &[u8], from: usize, class: Class) -> usize
+    requires { from ≤ length bytes.now }
+    ensures end { result ≡ run_end (class_test class) from bytes.now }
+    ensures within { result ≤ length bytes.now }
+    ensures onward { from ≤ result }
+{
+    from + run_len(&bytes[from..], class)
+}
+
+/// Where the longest run of the class ends that begins at the byte `from` of a text.
+#[inline]
 pub fn run_end(text: &str, from: usize, class: Class) -> usize
     requires { from ≤ length text.now }
     ensures end { result ≡ run_end (class_test class) from text.now }
     ensures within { result ≤ length text.now }
     ensures onward { from ≤ result }
 {
-    from + run_len(&text.as_bytes()[from..], class)
-}
-
-/// The longest run at the front, which may have been looked over before.
-#[inline]
-pub fn looked(text: &str, ahead: usize, class: Class) -> usize
-    requires { 0 < ahead → ahead ≡ prefix_len (class_test class) text.now }
-    ensures { result ≡ prefix_len (class_test class) text.now }
-{
-    if ahead > 0 {
-        ahead
-    } else {
-        run_len(text.as_bytes(), class)
-    }
+    run_end_of(text.as_bytes(), from, class)
 }
 
 /// How many bytes of white space come first.

@@ -1,8 +1,9 @@
 //! Names, keywords and URIs.
 
-ghost use Rattle.std.specs.Prelude.{◌≡◌};
+ghost use Rattle.std.specs.Prelude.{◌≡◌, Some, true, slice_index};
 ghost use Rattle.std.specs.List.{prefix_len};
-ghost use Rattle.rnix_kinds.specs.Lexical.Plain.{uri, word, kind_of_word};
+ghost use Rattle.rnix_kinds.specs.Lexical.Plain.{uri, word, begins_word, kind_of_word};
+ghost use Rattle.rnix_kinds.specs.Lexical.Texts.{run_end};
 ghost use Rattle.rnix_kinds.specs.Lexical.Classes.{class_test};
 
 use super::rule::{Cut, plain};
@@ -43,14 +44,11 @@ fn kind_of_word(word: &str) -> SyntaxKind
     }
 }
 
-/// A keyword or a name.
-pub fn word(text: &str) -> Option<Cut>
-    ensures { result ≡ word text.now }
+/// A keyword or a name; `end` is where it ends.
+pub fn word(text: &str, end: usize) -> Cut
+    requires first { begins_word (slice_index text.now 0) ≡ true }
+    requires end { end ≡ run_end (class_test Class.Name) 0 text.now }
+    ensures { Some result ≡ word text.now }
 {
-    if byte_at(text, 0).is_ascii_alphabetic() || byte_at(text, 0) == b'_' {
-        let end = run_end(text, 0, Class::Name);
-        Some(plain(kind_of_word(&text[..end]), end))
-    } else {
-        None
-    }
+    plain(kind_of_word(&text[..end]), end)
 }

@@ -4,4 +4,4 @@ use Rattle.rnix_kinds.proofs.Lexical.WordsLemmas.{IsCharBoundary-run}
 use Rattle.rnix_kinds.proofs.tokenizer.word.word.Goals as goal
 
 pub range-requires-clause-end_boundary : goal.range-requires-clause-end_boundary
-range-requires-clause-end_boundary c = rw (c.run_end-end.ensures.end, zero-add) (IsCharBoundary-run Name c.args.text.now c.utf8.text)
+range-requires-clause-end_boundary c = rw (c.requires.end, zero-add) (IsCharBoundary-run Name c.args.text.now c.utf8.text)

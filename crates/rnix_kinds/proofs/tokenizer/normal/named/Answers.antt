@@ -1,0 +1,22 @@
+use Rattle.std.proofs.Common.{◌≡◌, [], None, false, get_or, sym, ap, ◌∙◌, zero-add}
+use Rattle.std.specs.List.{prefix_len}
+use Rattle.rnix_kinds.specs.declared.tokenizer.text.Class.TheVariants.{Name}
+use Rattle.rnix_kinds.specs.Lexical.Classes.{class_test}
+use Rattle.rnix_kinds.specs.Lexical.Paths.{relative}
+use Rattle.rnix_kinds.specs.Lexical.Plain.{uri, word, goes_past_name}
+use Rattle.rnix_kinds.specs.Lexical.Tokens.{one_error}
+use Rattle.rnix_kinds.proofs.Lexical.FirstBytes.{relative-None-named, uri-None-named, third_fits}
+use Rattle.rnix_kinds.proofs.tokenizer.normal.named.Goals as goal
+use Rattle.rnix_kinds.proofs.tokenizer.normal.named.Goals.{then-goes_past_name+in_default+in_default-uri, else-goes_past_name}
+
+pub returns-clause-cut : goal.returns-clause-cut
+returns-clause-cut c =
+    let text = c.args.text.now in
+    let behind : c.byte_at.result ≡ get_or text (prefix_len (class_test Name) text) 0 = rw (c.run_end-end.ensures.end, zero-add) at c.byte_at.ensures in
+    let none : (relative text ≡ None) × (uri text ≡ None) = elim c.if-goes_past_name.branch [
+      | then-goes_past_name+in_default+in_default-uri w ↦ (sym w.relative.ensures ∙ w.in_default.is, sym w.uri.ensures ∙ w.in_default-uri.is)
+      | else-goes_past_name w ↦ (
+          let out : goes_past_name (get_or text (prefix_len (class_test Name) text) 0) ≡ false = sym (ap goes_past_name behind) ∙ sym c.goes_past_name.ensures ∙ w.if-goes_past_name.false in
+          (relative-None-named text out, uri-None-named text out))
+    ] in
+    third_fits (relative text) (uri text) (word text) [] (one_error text) c.word.result none.0 none.1 (sym c.word.ensures)
