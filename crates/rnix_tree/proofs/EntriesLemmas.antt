@@ -1,20 +1,20 @@
 -- How the entries of a builder make trees.
-use Rattle.std.proofs.Common.{◌≡◌, ℕ, zero, suc, ◌+◌, ◌-◌, ◌≤◌, ◌<◌, List, [], ◌∷◌, ◌++◌, length, take, drop, get_or, true, refl, ap, sym, ◌∙◌, arith, append_assoc, inl, inr}
-use Rattle.std.proofs.lemmas.List.{take_all, take_more, reverse-append, length-map, length-reverse, take_at, drop_at, append-nil, length_push, length-take-le, get_or_past}
+use Rattle.std.proofs.Common.{◌≡◌, ℕ, zero, suc, ◌+◌, ◌-◌, ◌≤◌, ◌<◌, List, [], ◌∷◌, ◌++◌, length, take, drop, get_or, map, true, refl, ap, sym, ◌∙◌, arith, append_assoc, length-append, inl, inr}
+use Rattle.std.proofs.lemmas.List.{take_all, take_more, reverse-append, length-map, length-reverse, map-append, take_at, drop_at, append-nil, length_push, length-take-le, get_or_past}
 use Rattle.std.proofs.lemmas.Bool.{cases_lt, and_parts}
 use Rattle.std.specs.Str.{IsUtf8}
 use Rattle.rnix_kinds.specs.declared.kinds.SyntaxKind.{SyntaxKind}
-use Rattle.rnix_tree.specs.declared.postorder.Entry.{Entry}
-use Rattle.rnix_tree.specs.declared.postorder.Entry.TheVariants.{Leaf, Node}
 use Rattle.rnix_tree.specs.declared.builder.OpenNode.{OpenNode as Pending}
 use Rattle.rnix_tree.specs.Forest.{Forest, empty, leaf, node, join, tree_count, element_count, first_trees, trees_after, text_of, HasText}
-use Rattle.rnix_tree.specs.Draft.{Draft, with_leaf, wrapped, closed_over, is_complete_of, is_nothing, is_one_node}
+use Rattle.rnix_tree.specs.Draft.{Draft, with_leaf, wrapped, closed_over, is_complete_of, is_nothing, is_one_node, wrapped-join}
 use Rattle.rnix_tree.specs.Kept.{first_elements, elements_after}
-use Rattle.rnix_tree.specs.Postorder.{entries_of}
+use Rattle.rnix_tree.specs.declared.packed.Packed.{Packed}
+use Rattle.rnix_tree.specs.Packed.{limit, packed}
+use Rattle.rnix_tree.specs.Postorder.{Entry, Leaf, Node, entry_of, entries_of}
 use Rattle.rnix_tree.specs.Entries.{built_onto, built, wrapped_last, starts_from, open_pairs, IsNested, IsBuilt}
 use Rattle.rnix_tree.specs.ForestCode.{join_empty}
 use Rattle.rnix_tree.proofs.ForestLemmas.{tree_count-join, tree_count-first, element_count-join, text_of-join, join_assoc, join_first_after}
-use Rattle.rnix_tree.proofs.PostorderLemmas.{entries_of-join, length-post_of}
+use Rattle.rnix_tree.proofs.PostorderLemmas.{entries_of-join, length-post_of, packed_leaf, packed_node}
 
 -- the first of two rows, by its elements
 pub first_elements-join : (f g : Forest) → first_elements (element_count f) (join f g) ≡ f
@@ -150,20 +150,60 @@ IsNested-weaker n m ((k, p) ∷ os) l h = (omega arith, h.1)
 pub length-open_pairs : (os : List Pending) → length (open_pairs os) ≡ length os
 length-open_pairs os = simp (length-map, length-reverse)
 
--- a builder with one more token
-pub built-token : (f : Forest) (text later s : List ℕ) (es more : List Entry) (os : List Pending) (st starts : List ℕ) (k : SyntaxKind) →
-    IsBuilt f text es os st → IsUtf8 s → later ≡ text ++ s → more ≡ es ++ Leaf k (length s) ∷ [] → starts ≡ st ++ length es ∷ [] →
-    IsBuilt (with_leaf k s f) later more os starts
-built-token f text later s es more os st starts k h u le mo sta = record {
-  entries = mo ∙ ap (λ x. x ++ Leaf k (length s) ∷ []) h.entries ∙ sym (entries_of-join f (leaf k s empty));
-  text_is = le ∙ ap (λ x. x ++ s) h.text_is ∙ sym (text_of-join f (leaf k s empty) ∙ ap (λ x. text_of f ++ x) (append-nil s));
-  characters = HasText-join f (leaf k s empty) h.characters (u, tt);
+-- one more element is one more entry
+pub entries_push : (es more : List Packed) (x : Packed) (n : Entry) → more ≡ es ++ x ∷ [] → entry_of x ≡ n → map entry_of more ≡ map entry_of es ++ n ∷ []
+entries_push es more x n e is = ap (map entry_of) e ∙ map-append entry_of es (x ∷ []) ∙ ap (λ y. map entry_of es ++ y ∷ []) is
+
+-- a builder with one more tree
+built-tree : (f g : Forest) (text later : List ℕ) (es more : List Entry) (os : List Pending) (st starts : List ℕ) →
+    IsBuilt f text es os st → HasText g → tree_count g ≡ 1 → starts_from (element_count f) g ≡ element_count f ∷ [] →
+    length later < limit → length more < limit → later ≡ text ++ text_of g → more ≡ es ++ entries_of g → starts ≡ st ++ length es ∷ [] →
+    IsBuilt (join f g) later more os starts
+built-tree f g text later es more os st starts h u one first short few le mo sta = record {
+  entries = mo ∙ ap (λ x. x ++ entries_of g) h.entries ∙ sym (entries_of-join f g);
+  text_is = le ∙ ap (λ x. x ++ text_of g) h.text_is ∙ sym (text_of-join f g);
+  characters = HasText-join f g h.characters u;
   starts_are =
-      let n : length es ≡ 0 + element_count f = omega (arith, ap length h.entries, length-post_of f) in
-      sta ∙ ap (λ x. x ++ length es ∷ []) h.starts_are ∙ ap (λ n. starts_from 0 f ++ n ∷ []) n ∙ sym (starts_from-join 0 f (leaf k s empty));
-  counted = omega (arith, ap length sta, length_push st (length es), h.counted, tree_count-with_leaf k s f);
-  nested = IsNested-weaker (tree_count f) (tree_count (with_leaf k s f)) (open_pairs os) (omega (arith, tree_count-with_leaf k s f)) h.nested;
+      let n : length es ≡ element_count f = omega (arith, ap length h.entries, length-post_of f) in
+      let behind : element_count f ≡ 0 + element_count f = omega arith in
+      sta ∙ ap (λ x. x ++ length es ∷ []) h.starts_are ∙ ap (λ m. starts_from 0 f ++ m ∷ []) n ∙ ap (λ x. starts_from 0 f ++ x) (sym first)
+      ∙ ap (λ m. starts_from 0 f ++ starts_from m g) behind ∙ sym (starts_from-join 0 f g);
+  counted = omega (arith, ap length sta, length_push st (length es), h.counted, tree_count-join f g);
+  nested = IsNested-weaker (tree_count f) (tree_count (join f g)) (open_pairs os) (omega (arith, tree_count-join f g)) h.nested;
+  short = short;
+  few = few;
 }
+
+-- a builder with one more token
+pub built-token : (f : Forest) (text later s : List ℕ) (es more : List Packed) (os : List Pending) (st starts : List ℕ) (k : SyntaxKind) (x : Packed) (n : ℕ) →
+    IsBuilt f text (map entry_of es) os st → IsUtf8 s → length text + length s < limit → length es + 1 < limit → x ≡ packed k (length s) 0 0 → n ≡ length es →
+    later ≡ text ++ s → more ≡ es ++ x ∷ [] → starts ≡ st ++ n ∷ [] → IsBuilt (with_leaf k s f) later (map entry_of more) os starts
+built-token f text later s es more os st starts k x n h u short few is many le mo sta =
+    let entry : entry_of x ≡ Leaf k (length s) = ap entry_of is ∙ packed_leaf k (length s) (omega arith) in
+    let place : n ≡ length (map entry_of es) = many ∙ sym (length-map es entry_of) in
+    built-tree f (leaf k s empty) text later (map entry_of es) (map entry_of more) os st starts h (u, tt) refl refl
+    (omega (arith, ap length le, length-append text s)) (omega (arith, length-map more entry_of, ap length mo, length_push es x))
+    (le ∙ ap (λ t. text ++ t) (sym (append-nil s))) (entries_push es more x (Leaf k (length s)) mo entry) (sta ∙ ap (λ m. st ++ m ∷ []) place)
+
+-- a builder with one more node, over one token
+pub built-leaf_node : (f : Forest) (text later s : List ℕ) (es both more : List Packed) (os : List Pending) (st starts : List ℕ) (i k : SyntaxKind) (x y : Packed)
+    (n : ℕ) → IsBuilt f text (map entry_of es) os st → IsUtf8 s → length text + length s < limit → length es + 2 < limit → x ≡ packed k (length s) 0 0 →
+    y ≡ packed i 0 0 2 → n ≡ length es → later ≡ text ++ s → both ≡ es ++ x ∷ [] → more ≡ both ++ y ∷ [] → starts ≡ st ++ n ∷ [] →
+    IsBuilt (wrapped i (tree_count f) (with_leaf k s f)) later (map entry_of more) os starts
+built-leaf_node f text later s es both more os st starts i k x y n h u short few is node_is many le bo mo sta =
+    let g = node i (leaf k s empty) empty in
+    let token : entry_of x ≡ Leaf k (length s) = ap entry_of is ∙ packed_leaf k (length s) (omega arith) in
+    let over : entry_of y ≡ Node i 1 = ap entry_of node_is ∙ packed_node i 1 (omega arith) in
+    let place : n ≡ length (map entry_of es) = many ∙ sym (length-map es entry_of) in
+    let entries : map entry_of more ≡ map entry_of es ++ (Leaf k (length s) ∷ (Node i 1 ∷ [])) =
+    entries_push both more y (Node i 1) mo over ∙ ap (λ z. z ++ Node i 1 ∷ []) (entries_push es both x (Leaf k (length s)) bo token)
+    ∙ append_assoc (map entry_of es) (Leaf k (length s) ∷ []) (Node i 1 ∷ []) in
+    let texts : s ≡ (s ++ []) ++ [] = sym (append-nil s) ∙ sym (append-nil (s ++ [])) in
+    rw (wrapped-join i f (leaf k s empty))
+    (built-tree f g text later (map entry_of es) (map entry_of more) os st starts h ((u, tt), tt) refl refl
+    (omega (arith, ap length le, length-append text s))
+    (omega (arith, length-map more entry_of, ap length mo, length_push both y, ap length bo, length_push es x))
+    (le ∙ ap (λ t. text ++ t) texts) entries (sta ∙ ap (λ m. st ++ m ∷ []) place))
 
 -- the innermost open node, the last of the list
 pub innermost : (f : Forest) (text : List ℕ) (es : List Entry) (os : List Pending) (st : List ℕ) (j : ℕ) (o : Pending) → IsBuilt f text es os st →
@@ -190,11 +230,17 @@ first_entry_le f text es os st p h =
     omega (arith, first_entry f text es os st p h, ap length h.entries, length-post_of f, element_count-join (first_trees p f) (trees_after p f), ap element_count (join_first_after p f))
 
 -- a builder whose innermost node is closed
-pub built-closed : (f : Forest) (text : List ℕ) (es more : List Entry) (os outer : List Pending) (st starts : List ℕ) (j first : ℕ) (o : Pending) →
-    IsBuilt f text es os st → j + 1 ≡ length os → o ≡ get_or os j o → first ≡ element_count (first_trees o.place f) →
-    more ≡ es ++ Node o.kind (length es - first) ∷ [] → outer ≡ take j os → starts ≡ take o.place st ++ first ∷ [] →
-    IsBuilt (wrapped o.kind o.place f) text more outer starts
-built-closed f text es more os outer st starts j first o h e is fi mo ou sta =
+pub built-closed : (f : Forest) (text : List ℕ) (es more : List Packed) (os outer : List Pending) (st starts : List ℕ) (j first : ℕ) (o : Pending) (x : Packed) →
+    IsBuilt f text (map entry_of es) os st → length es + 1 < limit → j + 1 ≡ length os → o ≡ get_or os j o → first ≡ element_count (first_trees o.place f) →
+    x ≡ packed o.kind 0 0 (length es - first + 1) → more ≡ es ++ x ∷ [] → outer ≡ take j os → starts ≡ take o.place st ++ first ∷ [] →
+    IsBuilt (wrapped o.kind o.place f) text (map entry_of more) outer starts
+built-closed f text packs more os outer st starts j first o x h room e is fi new pushed ou sta =
+    let es = map entry_of packs in
+    let many : length es ≡ length packs = length-map packs entry_of in
+    let size : length packs - first + 1 ≡ suc (length es - first) = omega arith in
+    let entry : entry_of x ≡ Node o.kind (length es - first) =
+    ap entry_of (new ∙ ap (packed o.kind 0 0) size) ∙ packed_node o.kind (length es - first) (omega arith) in
+    let mo : map entry_of more ≡ es ++ Node o.kind (length es - first) ∷ [] = entries_push packs more x _ pushed entry in
     let i : IsNested (tree_count f) ((o.kind, o.place) ∷ open_pairs (take j os)) = innermost f text es os st j o h e is in
     let a = first_trees o.place f in
     let b = trees_after o.place f in
@@ -217,6 +263,8 @@ built-closed f text es more os outer st starts j first o h e is fi mo ou sta =
           omega (arith, ap length sta, length_push (take o.place st) first, length-take-le o.place st (omega (arith, h.counted, i.0)), tree_count-wrapped o.kind o.place f i.0);
       nested =
           rw ou (IsNested-weaker o.place (tree_count (wrapped o.kind o.place f)) (open_pairs (take j os)) (omega (arith, tree_count-wrapped o.kind o.place f i.0)) i.1);
+      short = h.short;
+      few = omega (arith, ap length mo, length_push es (Node o.kind (length es - first)));
     }
 
 -- a builder that is complete

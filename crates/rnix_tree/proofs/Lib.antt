@@ -1,4 +1,5 @@
 pub mod NumberTests
+pub mod PackedLemmas
 pub mod ListLemmas
 pub mod ForestLemmas
 pub mod PostorderLemmas
@@ -13,6 +14,7 @@ pub mod InsideLemmas
 pub mod RelativeLemmas
 pub mod AncestorLemmas
 pub mod StartLemmas
+pub mod ElementLemmas
 pub mod FirstFromLemmas
 pub mod OffsetLemmas
 pub mod SameLemmas

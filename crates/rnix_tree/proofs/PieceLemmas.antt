@@ -1,11 +1,9 @@
 -- Where the text of an element lies in the text of its tree.
 use Rattle.std.proofs.Common.{◌≡◌, ℕ, zero, suc, ◌+◌, ◌-◌, ◌≤◌, ◌<◌, List, [], ◌++◌, length, get_or, Option, Some, None, refl, ap, sym, ◌∙◌, subst, arith, length-append, append_assoc, inl, inr}
 use Rattle.std.proofs.lemmas.Bool.{cases_lt}
-use Rattle.std.proofs.lemmas.List.{get_or_append_left, get_or-append_right, get_or-map, length-map}
+use Rattle.std.proofs.lemmas.List.{get_or_append_left, get_or-append_right}
 use Rattle.std.proofs.lemmas.Str.{IsUtf8-append, IsUtf8-nil, IsCharBoundary-at_seam}
 use Rattle.std.specs.Str.{IsUtf8, IsCharBoundary}
-use Rattle.rnix_tree.specs.declared.green.Element.{Element}
-use Rattle.rnix_tree.specs.Kept.{item_from, IsKept}
 use Rattle.rnix_tree.specs.Forest.{Forest, empty, leaf, node, text_of, element_count, HasText}
 use Rattle.rnix_tree.specs.Tree.{Tree, Item, items_from, items_of, forest_of, no_item, item}
 
@@ -127,16 +125,3 @@ pub cut_of : (t : Tree) (m : ℕ) → HasText (forest_of t) → m < length (item
 cut_of t m h l =
     cut_from_piece (text_of (forest_of t)) (item t m)
     (piece_of 0 0 None (forest_of t) m h (omega (arith, length-items_from 0 0 None (forest_of t))))
-
--- an element that was read is that element of the tree
-pub item_of_element : (t : Tree) (es : List Element) (text : List ℕ) (m : ℕ) (e : Element) → IsKept t es text → m < length (items_of t) →
-    e ≡ get_or es m e → item_from e ≡ item t m
-item_of_element t es text m e h l r =
-    let count : length es ≡ length (items_of t) = sym (length-map es item_from) ∙ ap length h.elements in
-    ap item_from r ∙ sym (get_or-map item_from es m e no_item (omega arith)) ∙ ap (λ is. get_or is m no_item) h.elements
-
--- and each that is kept
-pub cut_of_element : (t : Tree) (es : List Element) (text : List ℕ) (m : ℕ) (e : Element) → IsKept t es text → m < length (items_of t) →
-    e ≡ get_or es m e → IsCut text (item_from e)
-cut_of_element t es text m e h l r =
-    rw (item_of_element t es text m e h l r, h.text_is) (cut_of t m h.characters l)

@@ -1,29 +1,21 @@
 -- Trees are equal exactly if their elements and their texts are.
-use Rattle.std.proofs.Common.{◌≡◌, ℕ, List, [], ◌∷◌, map, Bool, refl, ap, sym, ◌∙◌}
+use Rattle.std.proofs.Common.{◌≡◌, ℕ, List, None, Bool, ap, sym, ◌∙◌}
 use Rattle.std.specs.Bool.{Decides}
 use Rattle.std.proofs.lemmas.Bool.Decides.{Decides-like, same_from_decides}
 use Rattle.rnix_tree.specs.Same.{same_located, same_located-decides}
-use Rattle.rnix_tree.specs.declared.green.Element.{Element}
+use Rattle.rnix_tree.specs.declared.packed.Packed.{Packed}
 use Rattle.rnix_tree.specs.Forest.{text_of}
-use Rattle.rnix_tree.specs.Tree.{Tree, Located, Item, items_of, forest_of}
-use Rattle.rnix_tree.specs.Kept.{IsKept, item_from, tree_from}
+use Rattle.rnix_tree.specs.Tree.{Tree, Located, forest_of}
+use Rattle.rnix_tree.specs.Kept.{IsKept, kept_from, tree_from}
 use Rattle.rnix_tree.proofs.KeptLemmas.{tree_from_kept}
 
--- an item tells its element
-abbrev element_of : Item → Element
-element_of i = record { kind = i.kind; is_node = i.is_node; start = i.start; end = i.end; parent = i.parent; below = i.below }
-
-elements_back : (es : List Element) → map element_of (map item_from es) ≡ es
-elements_back [] = refl
-elements_back (e ∷ es) = ap (λ xs. e ∷ xs) (elements_back es)
-
-module _ (t u : Tree) (es fs : List Element) (text other : List ℕ) (kept : IsKept t es text) (also : IsKept u fs other) where
+module _ (t u : Tree) (es fs : List Packed) (text other : List ℕ) (kept : IsKept t es text) (also : IsKept u fs other) where
   pub same_tree : es ≡ fs → text ≡ other → t ≡ u
   same_tree e f = sym (tree_from_kept t es text kept) ∙ (λ i. tree_from (e i) (f i)) ∙ tree_from_kept u fs other also
 
   pub same_parts : t ≡ u → (es ≡ fs) × (text ≡ other)
   same_parts e = (
-    sym (elements_back es) ∙ ap (map element_of) (kept.elements ∙ ap items_of e ∙ sym also.elements) ∙ elements_back fs,
+    kept.elements ∙ ap (λ x. kept_from 0 0 None (forest_of x)) e ∙ sym also.elements,
     kept.text_is ∙ ap (λ x. text_of (forest_of x)) e ∙ sym also.text_is,
   )
 

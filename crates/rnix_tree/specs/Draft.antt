@@ -56,6 +56,10 @@ abbrev pub is_inside : ℕ → List OpenNode → Bool
 is_inside n [] = true
 is_inside n ((k, place) ∷ outer) = nat_le place n
 
+-- one more node over one leaf: it is opened behind the trees, the leaf is added, and it is closed
+abbrev pub leaf_node_added : SyntaxKind → SyntaxKind → List ℕ → Draft → Draft
+leaf_node_added i k t d = node_closed (leaf_added k t (node_opened i (tree_count d.finished) d))
+
 -- a node may be opened at this place
 abbrev pub is_checkpoint_of : Draft → ℕ → Bool
 is_checkpoint_of d n = nat_le n (tree_count d.finished) && is_inside n d.open_nodes

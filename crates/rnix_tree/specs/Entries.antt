@@ -1,13 +1,13 @@
 -- What a builder keeps: one list of what was added and closed, in that order, beside the text.
-use Rattle.std.specs.Prelude.{◌≡◌, Bool, true, false, Option, Some, slice_get, ℕ, ◌+◌, ◌-◌, ◌≤◌, List, [], ◌∷◌, length, take, drop, map, reverse}
+use Rattle.std.specs.Prelude.{◌≡◌, Bool, true, false, Option, Some, slice_get, ℕ, ◌+◌, ◌-◌, ◌≤◌, ◌<◌, List, [], ◌∷◌, length, take, drop, map, reverse}
 use Rattle.rnix_kinds.specs.declared.kinds.SyntaxKind.{SyntaxKind}
-use Rattle.rnix_tree.specs.declared.postorder.Entry.{Entry}
-use Rattle.rnix_tree.specs.declared.postorder.Entry.TheVariants.{Leaf, Node}
 use Rattle.rnix_tree.specs.declared.builder.OpenNode.{OpenNode as Pending}
 use Rattle.rnix_tree.specs.Forest.{Forest, empty, leaf, node, join, tree_count, element_count, text_of, HasText}
 use Rattle.rnix_tree.specs.Draft.{OpenNode, with_leaf}
 use Rattle.rnix_tree.specs.Kept.{first_elements, elements_after}
-use Rattle.rnix_tree.specs.Postorder.{entries_of}
+use Rattle.rnix_tree.specs.declared.packed.Packed.{Packed}
+use Rattle.rnix_tree.specs.Packed.{limit}
+use Rattle.rnix_tree.specs.Postorder.{Entry, Leaf, Node, entry_of, entries_of}
 
 -- the last trees of a row, those with n elements in all, become the children of one node
 abbrev pub wrapped_last : SyntaxKind → ℕ → Forest → Forest
@@ -24,6 +24,10 @@ built_onto f text (Node k n ∷ es) = built_onto (wrapped_last k n f) text es
 abbrev pub built : List ℕ → List Entry → Forest
 built text es = built_onto empty text es
 
+-- what the elements of a builder make of the text
+abbrev pub made : List ℕ → List Packed → Forest
+made text es = built text (map entry_of es)
+
 -- the entry at which each tree begins
 abbrev pub starts_from : ℕ → Forest → List ℕ
 starts_from n empty = []
@@ -39,7 +43,7 @@ abbrev pub IsNested : ℕ → List OpenNode → Type 0
 IsNested n [] = Unit {0}
 IsNested n ((k, place) ∷ outer) = (place ≤ n) × IsNested place outer
 
--- the trees, the text, the entries and the open nodes are those of one builder
+-- the trees, the text, the entries and the open nodes are those of one builder, with less text and fewer entries than the limit
 pub record IsBuilt (f : Forest) (text : List ℕ) (es : List Entry) (pending : List Pending) (starts : List ℕ) : Type 0 where
   pub entries : es ≡ entries_of f
   pub text_is : text ≡ text_of f
@@ -47,6 +51,8 @@ pub record IsBuilt (f : Forest) (text : List ℕ) (es : List Entry) (pending : L
   pub starts_are : starts ≡ starts_from 0 f
   pub counted : length starts ≡ tree_count f
   pub nested : IsNested (tree_count f) (open_pairs pending)
+  pub short : length text < limit
+  pub few : length es < limit
 
 -- an entry, if there is one, is that of a node
 abbrev pub is_node_entry : Option Entry → Bool
@@ -56,3 +62,7 @@ is_node_entry e = false
 -- the last entry is a node
 abbrev pub is_node_last : List Entry → Bool
 is_node_last es = is_node_entry (slice_get es (length es - 1))
+
+-- the text, the elements and the open nodes are those of one builder
+abbrev pub IsBuilder : List ℕ → List Packed → List Pending → List ℕ → Type 0
+IsBuilder text es pending starts = IsBuilt (made text es) text (map entry_of es) pending starts

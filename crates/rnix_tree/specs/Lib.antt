@@ -2,6 +2,7 @@ pub mod Forest
 pub mod ForestCode
 pub mod Draft
 pub mod Range
+pub mod Packed
 pub mod Tree
 pub mod Walk
 pub mod Kept

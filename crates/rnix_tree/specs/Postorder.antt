@@ -1,10 +1,25 @@
 -- Trees as a list in which each node stands behind its children, and what is left to do when that list is read from its end.
-use Rattle.std.specs.Prelude.{◌≡◌, ◌≢◌, ℕ, ◌+◌, ◌-◌, List, [], ◌∷◌, ◌++◌, length, reverse, take, Option, Some, None, true}
-use Rattle.rnix_tree.specs.declared.postorder.Entry.{Entry}
-use Rattle.rnix_tree.specs.declared.postorder.Entry.TheVariants.{Leaf, Node}
+use Rattle.std.specs.Prelude.{◌≡◌, ◌≢◌, ℕ, zero, suc, ◌+◌, ◌-◌, List, [], ◌∷◌, ◌++◌, length, reverse, take, Option, Some, None, true}
+use Rattle.rnix_kinds.specs.declared.kinds.SyntaxKind.{SyntaxKind}
+use Rattle.rnix_tree.specs.declared.packed.Packed.{Packed}
 use Rattle.rnix_tree.specs.declared.postorder.Frame.{Frame}
 use Rattle.rnix_tree.specs.Forest.{Forest, empty, leaf, node, text_of, element_count}
-use Rattle.rnix_tree.specs.Tree.{Item, items_from}
+use Rattle.rnix_tree.specs.Packed.{packed, place_in, size_in}
+use Rattle.rnix_tree.specs.Kept.{parent_or_root, kept_from}
+
+-- a leaf with the length of its text; a node with the number of elements inside it
+pub data Entry : Type 0 where
+  Leaf : SyntaxKind → ℕ → Entry
+  Node : SyntaxKind → ℕ → Entry
+
+-- what has a size is a node
+abbrev pub entry_by : ℕ → SyntaxKind → ℕ → Entry
+entry_by zero k n = Leaf k n
+entry_by (suc below) k n = Node k below
+
+-- what an element is that is not placed yet
+abbrev pub entry_of : Packed → Entry
+entry_of e = entry_by (size_in e) e.kind (place_in e)
 
 -- each leaf, and each node behind its children
 abbrev pub entries_of : Forest → List Entry
@@ -32,16 +47,17 @@ abbrev pub text_left : List Forest → ℕ
 text_left [] = 0
 text_left (g ∷ gs) = text_left gs + length (text_of g)
 
--- what the node of a frame shows
-abbrev pub frame_item : Frame → ℕ → Option ℕ → Item
-frame_item fr start parent = record { kind = fr.kind; is_node = true; start = start; end = fr.end; parent = parent; below = fr.below }
+-- what is kept of the node of a frame
+abbrev pub frame_kept : Frame → ℕ → Option ℕ → Packed
+frame_kept fr start parent = packed fr.kind start (parent_or_root parent) fr.size
 
--- all items: xs in the innermost frame, and left of each frame a row that is not read
-abbrev pub around : List Frame → List Forest → List Item → List Item
-around [] gs xs = xs
-around (fr ∷ frs) [] xs = xs
-around (fr ∷ frs) (g ∷ gs) xs =
-    around frs gs (items_from (child_number frs) (text_left gs) (parent_number frs) g ++ (frame_item fr (text_left (g ∷ gs)) (parent_number frs) ∷ xs))
+-- all elements: es in the innermost frame, and left of each frame a row that is not read
+abbrev pub around : List Frame → List Forest → List Packed → List Packed
+around [] gs es = es
+around (fr ∷ frs) [] es = es
+around (fr ∷ frs) (g ∷ gs) es =
+    around frs gs
+    (kept_from (child_number frs) (text_left gs) (parent_number frs) g ++ (frame_kept fr (text_left (g ∷ gs)) (parent_number frs) ∷ es))
 
 -- each frame knows how many entries stand left of it, and its number
 abbrev pub IsAligned : List Frame → List Forest → Type 0
@@ -62,10 +78,11 @@ pub record IsReached (frames : List Frame) (n : ℕ) (fr : Frame) : Type 0 where
   pub innermost : reverse frames ≡ fr ∷ reverse (take (length frames - 1) frames)
 
 -- what is left to do: the trees that are not read, in the innermost frame and left of each frame
-pub record IsWork (forest : Forest) (prefix : List Entry) (offset : ℕ) (frames : List Frame) (done : List Item) : Type 0 where
+pub record IsWork (forest : Forest) (prefix : List Entry) (offset : ℕ) (frames : List Frame) (done : List Packed) : Type 0 where
   pub current : Forest
   pub outer : List Forest
   pub entries : prefix ≡ entries_left (current ∷ outer)
   pub text : offset ≡ text_left (current ∷ outer)
   pub aligned : IsAligned frames outer
-  pub items : around frames outer (items_from (child_number frames) (text_left outer) (parent_number frames) current ++ done) ≡ items_from 0 0 None forest
+  pub elements :
+      around frames outer (kept_from (child_number frames) (text_left outer) (parent_number frames) current ++ done) ≡ kept_from 0 0 None forest

@@ -1,13 +1,15 @@
 //! Building a tree from left to right.
 
-ghost use Rattle.std.specs.Prelude.{◌≡◌, ◌<◌, length, IsTrue, IfOk, OnOk, OnErr, slice_index_or};
+ghost use Rattle.std.specs.Prelude.{◌≡◌, ◌<◌, length, map, IsTrue, IfOk, OnOk, OnErr, slice_index_or};
 ghost use Rattle.rnix_tree.specs.Forest.{tree_count};
-ghost use Rattle.rnix_tree.specs.Draft.{blank, leaf_added, node_opened, node_closed, is_checkpoint_of, is_complete_of};
+ghost use Rattle.rnix_tree.specs.Draft.{blank, leaf_added, leaf_node_added, node_opened, node_closed, is_checkpoint_of, is_complete_of};
 ghost use Rattle.rnix_tree.specs.Tree.{forest_of};
 ghost use Rattle.rnix_tree.specs.Entries.{is_node_last};
+ghost use Rattle.rnix_tree.specs.Postorder.{entry_of};
 
 use crate::green::GreenNode;
-use crate::postorder::{Entry, in_preorder};
+use crate::packed::{Packed, room};
+use crate::postorder::in_preorder;
 use rnix_kinds::SyntaxKind;
 use std::alloc::{AllocError, Global};
 use std::marker::Model;
@@ -35,10 +37,11 @@ impl Model for Checkpoint {
     ghost inverse = { λ n. record { place = n } };
 }
 
-/// Builds a tree. A call that is refused memory leaves the builder as it was.
+/// Builds a tree. A call that is refused memory leaves the builder as it was. A text of 2^32 bytes or as many elements are refused so.
 #[derive(Drop)]
 pub struct GreenNodeBuilder {
-    entries: Vec<Entry>,
+    // The elements of the finished trees: each node stands behind its children.
+    entries: Vec<Packed>,
     text: String,
     pending: Vec<OpenNode>,
     // The entry at which each finished tree begins.
@@ -53,20 +56,19 @@ impl Model for GreenNodeBuilder {
 
     ghost coded = { draft_code };
 
-    ghost use Rattle.rnix_tree.specs.Entries.{built, IsBuilt, open_pairs};
+    ghost use Rattle.rnix_tree.specs.Entries.{made, IsBuilder, open_pairs};
 
-    ghost view = { λ b. record { finished = built (string_bytes b.text) b.entries.items; open_nodes = open_pairs b.pending.items } };
+    ghost view = { λ b. record { finished = made (string_bytes b.text) b.entries.items; open_nodes = open_pairs b.pending.items } };
 
-    ghost invariant = { λ b. IsBuilt (built (string_bytes b.text) b.entries.items) (string_bytes b.text) b.entries.items b.pending.items b.starts.items };
+    ghost invariant = { λ b. IsBuilder (string_bytes b.text) b.entries.items b.pending.items b.starts.items };
 }
 
 // Whether the last tree is a node.
-fn ends_with_node(entries: &[Entry]) -> bool
-    ensures { result ≡ is_node_last entries.now }
+fn ends_with_node(entries: &[Packed]) -> bool
+    ensures { result ≡ is_node_last (map entry_of entries.now) }
 {
     match entries.last() {
-        Some(Entry::Node(_, _)) => true,
-        Some(Entry::Leaf(_, _)) => false,
+        Some(entry) => entry.size() > 0,
         None => false,
     }
 }
@@ -91,6 +93,14 @@ impl GreenNodeBuilder {
         }
     }
 
+    /// Makes room for so many more elements, and so many more bytes of text.
+    pub fn reserve(&mut self, elements: usize, bytes: usize) -> Result<(), AllocError>
+        ensures { self.new ≡ self.old }
+    {
+        self.entries.reserve_exact(elements)?;
+        self.text.reserve_exact(bytes)
+    }
+
     /// Opens a node behind the finished trees.
     pub fn start_node(&mut self, kind: SyntaxKind) -> Result<(), AllocError>
         ensures ok { OnOk result (self.new ≡ node_opened kind (tree_count self.old.finished) self.old) }
@@ -106,11 +116,13 @@ impl GreenNodeBuilder {
         ensures ok { OnOk result (self.new ≡ leaf_added kind text.now self.old) }
         ensures err { OnErr result (self.new ≡ self.old) }
     {
+        room(self.text.len(), text.len())?;
+        room(self.entries.len(), 1)?;
         self.entries.reserve(1)?;
         self.starts.reserve(1)?;
         self.text.push_str(text)?;
         let start = self.entries.len();
-        self.entries.push(Entry::Leaf(kind, text.len()))?;
+        self.entries.push(Packed::new(kind, text.len(), 0, 0))?;
         self.starts.push(start)?;
         Ok(())
     }
@@ -149,11 +161,34 @@ impl GreenNodeBuilder {
         let OpenNode { kind, place } = self.pending[self.pending.len() - 1];
         let end = self.entries.len();
         let first = start_at(&self.starts, place, end);
+        room(end, 1)?;
         self.starts.reserve(1)?;
-        self.entries.push(Entry::Node(kind, end - first))?;
+        self.entries.push(Packed::new(kind, 0, 0, end - first + 1))?;
         self.pending.truncate(self.pending.len() - 1);
         self.starts.truncate(place);
         self.starts.push(first)?;
+        Ok(())
+    }
+
+    /// Adds a node over one leaf, as `start_node`, `token` and `finish_node` do.
+    pub fn leaf_node(
+        &mut self,
+        node: SyntaxKind,
+        kind: SyntaxKind,
+        text: &str,
+    ) -> Result<(), AllocError>
+        ensures ok { OnOk result (self.new ≡ leaf_node_added node kind text.now self.old) }
+        ensures err { OnErr result (self.new ≡ self.old) }
+    {
+        let start = self.entries.len();
+        room(self.text.len(), text.len())?;
+        room(start, 2)?;
+        self.entries.reserve(2)?;
+        self.starts.reserve(1)?;
+        self.text.push_str(text)?;
+        self.entries.push(Packed::new(kind, text.len(), 0, 0))?;
+        self.entries.push(Packed::new(node, 0, 0, 2))?;
+        self.starts.push(start)?;
         Ok(())
     }
 
@@ -196,10 +231,12 @@ impl GreenNodeBuilder {
         let GreenNodeBuilder {
             entries,
             text,
-            pending: _,
-            starts: _,
+            pending,
+            starts,
         } = self;
-        let elements = in_preorder(*entries.allocator(), &entries, text.as_str())?;
+        drop(pending);
+        drop(starts);
+        let elements = in_preorder(entries, text.as_str())?;
         Ok(GreenNode::from_parts(elements, text))
     }
 }

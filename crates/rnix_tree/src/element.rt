@@ -1,6 +1,7 @@
 //! What stands in a tree: nodes and tokens.
 
 ghost use Rattle.std.specs.Prelude.{◌≡◌, ◌<◌, length, option_map};
+ghost use Rattle.rnix_tree.specs.Range.{bounds_of};
 ghost use Rattle.rnix_tree.specs.Tree.{items_of, item_of, extent_of};
 ghost use Rattle.rnix_tree.specs.Walk.{spot_at, spot_of, place_of, node_in, token_in};
 
@@ -86,7 +87,7 @@ impl<'t> NodeOrToken<SyntaxNode<'t>, SyntaxToken<'t>> {
 
     /// The element's place in the text, in bytes.
     pub fn text_range(&self) -> TextRange
-        ensures { result ≡ extent_of (place_of self.now) }
+        ensures { bounds_of result ≡ extent_of (place_of self.now) }
     {
         match self {
             NodeOrToken::Node(node) => node.text_range(),

@@ -2,9 +2,9 @@
 
 ghost use Rattle.std.specs.Bool.{Decides};
 ghost use Rattle.std.specs.Prelude.{◌≡◌};
-ghost use Rattle.rnix_tree.specs.Equality.{same_kind};
-ghost use Rattle.rnix_tree.specs.SameElements.{same_option, same_numbers};
+ghost use Rattle.rnix_tree.specs.Kept.{parent_kept};
 
+use crate::packed::Packed;
 use rnix_kinds::SyntaxKind;
 use std::alloc::AllocError;
 use std::marker::Model;
@@ -24,7 +24,7 @@ pub(crate) struct Element {
 /// A whole tree. Nodes and tokens borrow it.
 #[derive(Drop)]
 pub struct GreenNode {
-    elements: Vec<Element>,
+    elements: Vec<Packed>,
     text: String,
 }
 
@@ -43,49 +43,15 @@ impl Model for GreenNode {
     ghost invariant = { λ g. IsKept (tree_from g.elements.items (string_bytes g.text)) g.elements.items (string_bytes g.text) };
 }
 
-// Whether the kinds are one.
-fn same_kind(a: SyntaxKind, b: SyntaxKind) -> bool
-    ensures { result ≡ same_kind a b }
+// The parent that is kept of the element of a number; the first has none.
+fn parent_kept(number: usize, parent: usize) -> Option<usize>
+    ensures { result ≡ parent_kept number parent }
 {
-    a == b
-}
-
-// Whether there is the same number, or none.
-fn same_option(a: Option<usize>, b: Option<usize>) -> bool
-    ensures { result ≡ same_option a b }
-{
-    match (a, b) {
-        (None, None) => true,
-        (Some(a), Some(b)) => a == b,
-        _ => false,
-    }
-}
-
-// Whether the ranges are one, and as many elements are inside.
-fn same_numbers(a: &Element, b: &Element) -> bool
-    ensures { result ≡ same_numbers a.now b.now }
-{
-    a.start == b.start && a.end == b.end && a.below == b.below
-}
-
-impl PartialEq for Element {
-    ghost use Rattle.std.specs.Cmp.{partial_equiv_from_equiv};
-    ghost use Rattle.rnix_tree.specs.SameElements.{same_element, elements_equal};
-
-    ghost eq = { same_element };
-
-    ghost laws = { partial_equiv_from_equiv elements_equal };
-
-    fn eq(&self, other: &Element) -> bool {
-        same_kind(self.kind, other.kind)
-            && self.is_node == other.is_node
-            && same_option(self.parent, other.parent)
-            && same_numbers(self, other)
-    }
+    if number == 0 { None } else { Some(parent) }
 }
 
 // Whether two lists hold equal elements.
-fn same_elements(a: &[Element], b: &[Element]) -> bool
+fn same_elements(a: &[Packed], b: &[Packed]) -> bool
     ensures { Decides result (a.now ≡ b.now) }
 {
     a == b
@@ -94,9 +60,9 @@ fn same_elements(a: &[Element], b: &[Element]) -> bool
 impl GreenNode {
     ghost use Rattle.std.specs.Prelude.{◌≡◌, ◌<◌, ◌≤◌, ◌+◌, ◌^◌, ℕ, length, IfOk, string_bytes};
     ghost use Rattle.rnix_tree.specs.Tree.{item, items_of, text_at};
-    ghost use Rattle.rnix_tree.specs.Kept.{item_from, tree_from, IsKept};
+    ghost use Rattle.rnix_tree.specs.Kept.{item_from, tree_from, start_at, IsKept};
 
-    pub(crate) fn from_parts(elements: Vec<Element>, text: String) -> Self
+    pub(crate) fn from_parts(elements: Vec<Packed>, text: String) -> Self
         requires { IsKept (tree_from elements.items (string_bytes text)) elements.items (string_bytes text) }
         ensures { result ≡ tree_from elements.items (string_bytes text) }
     {
@@ -112,6 +78,17 @@ impl GreenNode {
         Ok(GreenNode { elements, text })
     }
 
+    // Where the element of a number starts, or the end of the text where there is none.
+    fn start_at(&self, number: usize) -> usize
+        ensures { result ≡ start_at self.now number }
+    {
+        if number < self.elements.len() {
+            self.elements[number].place()
+        } else {
+            self.text.len()
+        }
+    }
+
     pub(crate) fn element(&self, number: usize) -> Element
         requires { number < length (items_of self.now) }
         ensures is { item_from result ≡ item self.now number }
@@ -119,7 +96,17 @@ impl GreenNode {
         ensures inside { number + 1 + result.below ≤ length (items_of self.now) }
         ensures next_fits { number + 1 + result.below < 2 ^ 63 }
     {
-        self.elements[number]
+        let element = self.elements[number];
+        let size = element.size();
+        let below = size.saturating_sub(1);
+        Element {
+            kind: element.kind(),
+            is_node: size > 0,
+            start: element.place(),
+            end: self.start_at(number + 1 + below),
+            parent: parent_kept(number, element.parent()),
+            below,
+        }
     }
 
     /// Whether the trees are equal as values.
@@ -138,7 +125,7 @@ impl GreenNode {
         ensures before { (m : ℕ) → from ≤ m → m < result → (item self.now m).start < offset }
         ensures behind { (m : ℕ) → result ≤ m → m < end → offset ≤ (item self.now m).start }
     {
-        from + self.elements[from..end].partition_point(|element| element.start < offset)
+        from + self.elements[from..end].partition_point(|element| element.place() < offset)
     }
 
     /// How many elements the tree has.
@@ -152,7 +139,7 @@ impl GreenNode {
         requires { number < length (items_of self.now) }
         ensures { result.now ≡ text_at record { tree = self.now; number = number } }
     {
-        let element = self.elements[number];
+        let element = self.element(number);
         &self.text.as_str()[element.start..element.end]
     }
 }

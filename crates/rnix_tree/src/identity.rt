@@ -1,6 +1,7 @@
 //! Equality, hashes and printing of nodes and tokens.
 
 ghost use Rattle.std.specs.Prelude.{◌≡◌, fold};
+ghost use Rattle.rnix_tree.specs.Range.{bounds_of};
 ghost use Rattle.rnix_tree.specs.Same.{hashed_at};
 
 use crate::node::SyntaxNode;
@@ -22,7 +23,7 @@ fn write_place<W: fmt::Write>(
 
 // A number with a kind and a range.
 fn hash_place<H: Hasher>(number: usize, kind: SyntaxKind, range: TextRange, state: &mut H)
-    ensures { state.new ≡ fold H.write state.old (hashed_at number kind range) }
+    ensures { state.new ≡ fold H.write state.old (hashed_at number kind (bounds_of range)) }
 {
     number.hash(state);
     (kind as usize).hash(state);

@@ -11,6 +11,7 @@ mod neighbours;
 mod node;
 mod nodes;
 mod offset;
+mod packed;
 mod postorder;
 mod range;
 mod relatives;

@@ -2,6 +2,7 @@
 
 ghost use Rattle.std.specs.Prelude.{◌≡◌, ◌<◌, ◌^◌, length};
 ghost use Rattle.rnix_tree.specs.Forest.{element_count};
+ghost use Rattle.rnix_tree.specs.Range.{bounds_of};
 ghost use Rattle.rnix_tree.specs.Tree.{item_of, extent_of, text_at, part_at};
 ghost use Rattle.rnix_tree.specs.Walk.{children_of, preorder_of, nodes_in, elements_of, node_events, ancestors_of};
 
@@ -50,7 +51,7 @@ impl<'t> SyntaxNode<'t> {
 
     /// The node's place in the text, in bytes.
     pub fn text_range(&self) -> TextRange
-        ensures { result ≡ extent_of self.now }
+        ensures { bounds_of result ≡ extent_of self.now }
     {
         let element = self.green.element(self.number);
         TextRange::new(element.start, element.end)

@@ -2,40 +2,30 @@
 
 ghost use Rattle.std.specs.Prelude.{◌≡◌, map, reverse, IfOk, None, MatchOption};
 ghost use Rattle.rnix_tree.specs.Forest.{text_of};
-ghost use Rattle.rnix_tree.specs.Entries.{built};
-ghost use Rattle.rnix_tree.specs.Tree.{items_from};
-ghost use Rattle.rnix_tree.specs.Kept.{item_from};
-ghost use Rattle.rnix_tree.specs.Postorder.{entries_of, parent_number, HasMore, IsReached};
+ghost use Rattle.rnix_tree.specs.Entries.{made};
+ghost use Rattle.rnix_tree.specs.Kept.{parent_or_root, kept_from};
+ghost use Rattle.rnix_tree.specs.Postorder.{entry_of, entries_of, parent_number, HasMore, IsReached};
 
-use crate::green::Element;
+use crate::packed::Packed;
 use rnix_kinds::SyntaxKind;
-use std::alloc::{AllocError, Global};
+use std::alloc::AllocError;
 
-/// An element as the builder keeps it: each node stands behind its children.
-#[derive(Clone, Copy)]
-pub(crate) enum Entry {
-    /// A leaf, with the length of its text.
-    Leaf(SyntaxKind, usize),
-    /// A node, with the number of elements inside it.
-    Node(SyntaxKind, usize),
-}
-
-// A node whose children are being read, the last one first.
+// A node whose children are being placed, the last one first: its number, and which entry is its first.
 #[derive(Clone, Copy)]
 pub(crate) struct Frame {
     kind: SyntaxKind,
+    size: usize,
     number: usize,
-    end: usize,
-    below: usize,
     first: usize,
 }
 
-fn innermost_number(frames: &[Frame]) -> Option<usize>
-    ensures { result ≡ parent_number (reverse frames.now) }
+// The number of the innermost node; 0 where there is none.
+fn innermost_number(frames: &[Frame]) -> usize
+    ensures { result ≡ parent_or_root (parent_number (reverse frames.now)) }
 {
     match frames.last() {
-        Some(frame) => Some(frame.number),
-        None => None,
+        Some(frame) => frame.number,
+        None => 0,
     }
 }
 
@@ -55,67 +45,46 @@ fn reached(frames: &[Frame], left: usize) -> Option<Frame>
     }
 }
 
-/// The elements in preorder, by one pass from the last entry to the first.
-pub(crate) fn in_preorder(
-    alloc: Global,
-    entries: &[Entry],
-    text: &str,
-) -> Result<Vec<Element>, AllocError>
-    requires entries_are { entries.now ≡ entries_of (built text.now entries.now) }
-    requires text_is { text.now ≡ text_of (built text.now entries.now) }
-    ensures { IfOk result (λ v. map item_from v.items ≡ items_from 0 0 None (built text.now entries.now)) }
+/// Puts each node before its children, by one pass from the last entry to the first. Entries that are left stand in front, placed
+/// elements at the end, and between them is one free place for each frame.
+pub(crate) fn in_preorder(mut elements: Vec<Packed>, text: &str) -> Result<Vec<Packed>, AllocError>
+    requires entries_are { map entry_of elements.items ≡ entries_of (made text.now elements.items) }
+    requires text_is { text.now ≡ text_of (made text.now elements.items) }
+    ensures { IfOk result (λ v. v.items ≡ kept_from 0 0 None (made text.now elements.items)) }
 {
-    let mut out = Vec::with_capacity(alloc, entries.len())?;
-    let mut frames: Vec<Frame> = Vec::new(alloc);
+    let mut frames: Vec<Frame> = Vec::new(*elements.allocator());
     let mut offset = text.len();
-    let mut left = entries.len();
-    'entries: loop {
+    let mut left = elements.len();
+    'elements: loop {
         match reached(&frames, left) {
             Some(frame) => {
                 frames.truncate(frames.len() - 1);
                 let parent = innermost_number(&frames);
-                out.push(Element {
-                    kind: frame.kind,
-                    is_node: true,
-                    start: offset,
-                    end: frame.end,
-                    parent,
-                    below: frame.below,
-                })?;
+                elements[left + frames.len()] = Packed::new(frame.kind, offset, parent, frame.size);
             }
             None => {
                 if left == 0 {
                     break;
                 }
                 left -= 1;
-                match entries[left] {
-                    Entry::Leaf(kind, len) => {
-                        let parent = innermost_number(&frames);
-                        let end = offset;
-                        offset -= len;
-                        out.push(Element {
-                            kind,
-                            is_node: false,
-                            start: offset,
-                            end,
-                            parent,
-                            below: 0,
-                        })?;
-                    }
-                    Entry::Node(kind, below) => {
-                        let first = left - below;
-                        frames.push(Frame {
-                            kind,
-                            number: first + frames.len(),
-                            end: offset,
-                            below,
-                            first,
-                        })?;
-                    }
+                let entry = elements[left];
+                let (kind, size) = (entry.kind(), entry.size());
+                if size > 0 {
+                    let first = left + 1 - size;
+                    let number = first + frames.len();
+                    frames.push(Frame {
+                        kind,
+                        size,
+                        number,
+                        first,
+                    })?;
+                } else {
+                    offset -= entry.place();
+                    let parent = innermost_number(&frames);
+                    elements[left + frames.len()] = Packed::new(kind, offset, parent, 0);
                 }
             }
         }
     }
-    out.reverse();
-    Ok(out)
+    Ok(elements)
 }

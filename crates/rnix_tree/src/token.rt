@@ -1,6 +1,7 @@
 //! Tokens of a tree.
 
 ghost use Rattle.std.specs.Prelude.{◌≡◌};
+ghost use Rattle.rnix_tree.specs.Range.{bounds_of};
 ghost use Rattle.rnix_tree.specs.Tree.{item_of, extent_of, text_at};
 
 use crate::green::GreenNode;
@@ -37,7 +38,7 @@ impl<'t> SyntaxToken<'t> {
 
     /// The token's place in the text, in bytes.
     pub fn text_range(&self) -> TextRange
-        ensures { result ≡ extent_of self.now }
+        ensures { bounds_of result ≡ extent_of self.now }
     {
         let element = self.green.element(self.number);
         TextRange::new(element.start, element.end)

@@ -1,15 +1,18 @@
-use Rattle.std.proofs.Common.{◌≤◌, ◌+◌, ◌*◌, map, reverse, take, length}
-use Rattle.rnix_tree.specs.Kept.{item_from}
+use Rattle.std.proofs.Common.{◌≤◌, ◌+◌, ◌*◌, reverse, drop, length}
 use Rattle.rnix_tree.specs.Postorder.{IsWork}
-use Rattle.rnix_tree.specs.Entries.{built}
+use Rattle.rnix_tree.specs.Entries.{made}
+use Rattle.rnix_tree.proofs.PostorderLemmas.{entries_before}
 use Rattle.rnix_tree.proofs.postorder.in_preorder.Given as goal
 
-abbrev pub invariant-entries : goal.invariant-entries
-invariant-entries l = record {
-  inside : l.left ≤ length l.entries;
-  few : l.left + length l.frames.items ≤ length l.entries;
-  work : IsWork (built l.text l.entries) (take l.left l.entries) l.offset (reverse l.frames.items) (reverse (map item_from l.out.items));
-}
+abbrev pub invariant-elements : goal.invariant-elements
+invariant-elements l =
+    let es = l.elements.items in
+    record {
+      few : l.left + length l.frames.items ≤ length es;
+      work :
+          IsWork (made l.text l.initial.elements.items) (entries_before l.left es) l.offset (reverse l.frames.items)
+          (drop (l.left + length l.frames.items) es);
+    }
 
-abbrev pub decreases-entries : goal.decreases-entries
-decreases-entries l = 2 * l.left + length l.frames.items
+abbrev pub decreases-elements : goal.decreases-elements
+decreases-elements l = 2 * l.left + length l.frames.items

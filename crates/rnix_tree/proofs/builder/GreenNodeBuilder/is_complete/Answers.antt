@@ -1,5 +1,6 @@
-use Rattle.std.proofs.Common.{arith, ap, ◌∙◌}
+use Rattle.std.proofs.Common.{arith, ap, ◌∙◌, map}
 use Rattle.rnix_tree.specs.Entries.{is_node_last}
+use Rattle.rnix_tree.specs.Postorder.{entry_of}
 use Rattle.rnix_tree.proofs.KeptLemmas.{complete_is}
 use Rattle.rnix_tree.proofs.builder.GreenNodeBuilder.is_complete.Goals as goal
 
@@ -7,5 +8,5 @@ pub returns : goal.returns
 returns c =
     let b = c.self.inside in
     rw (← c.self.view_is)
-    (c.ends_with_node.ensures ∙ ap is_node_last c.deref.ensures.value
-    ∙ complete_is _ _ b.entries.items b.pending.items b.starts.items c.self.invariant (omega (arith, b.pending.ok.0)) (omega (arith, b.starts.ok.0)))
+    (c.ends_with_node.ensures ∙ ap (λ es. is_node_last (map entry_of es)) c.deref.ensures.value
+    ∙ complete_is _ _ (map entry_of b.entries.items) b.pending.items b.starts.items c.self.invariant (omega (arith, b.pending.ok.0)) (omega (arith, b.starts.ok.0)))

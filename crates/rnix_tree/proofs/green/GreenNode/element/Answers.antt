@@ -1,37 +1,73 @@
-use Rattle.std.proofs.Common.{sym, ◌∙◌, ◌≡◌, length}
-use Rattle.std.proofs.lemmas.List.{length-map}
-use Rattle.rnix_tree.specs.Kept.{item_from}
-use Rattle.rnix_tree.specs.Tree.{items_of}
-use Rattle.std.proofs.Common.{arith, ap}
-use Rattle.rnix_tree.specs.Tree.{Item}
-use Rattle.rnix_tree.proofs.SiblingLemmas.{next_inside}
-use Rattle.rnix_tree.specs.Kept.{IsKept}
+use Rattle.std.proofs.Common.{◌≡◌, ◌∙◌, ◌-◌, ◌+◌, length, sym, ap, arith}
 use Rattle.std.specs.String.{string_bytes}
-use Rattle.rnix_tree.proofs.PieceLemmas.{cut_of_element, item_of_element}
+use Rattle.rnix_tree.specs.Packed.{size_in}
+use Rattle.rnix_tree.specs.Kept.{start_at, IsKept}
+use Rattle.rnix_tree.specs.Tree.{items_of}
+use Rattle.rnix_tree.proofs.SiblingLemmas.{next_inside}
+use Rattle.rnix_tree.proofs.ElementLemmas.{length_kept, element_read, below_read, read_in_order, item_read}
 use Rattle.rnix_tree.proofs.green.GreenNode.element.Goals as goal
+
+pub overflow_add-number-2 : goal.overflow_add-number-2
+overflow_add-number-2 c =
+    let t = c.args.self.now in
+    let g = c.self.inside in
+    let kept : IsKept t g.elements.items (string_bytes g.text) = rw c.self.view_is at c.self.invariant in
+    let is = element_read t _ _ c.args.number c.index.result.now kept c.requires c.index.ensures in
+    let below : c.saturating_sub-below.result ≡ size_in c.index.result.now - 1 = c.saturating_sub-below.ensures ∙ ap (λ s. s - 1) c.size-size.ensures in
+    omega (
+      arith,
+      below,
+      below_read t c.args.number c.index.result.now c.requires is,
+      next_inside t c.args.number c.requires,
+      length_kept t g.elements.items (string_bytes g.text) kept,
+      g.elements.small,
+      g.elements.ok,
+    )
 
 pub returns-clause-is : goal.returns-clause-is
 returns-clause-is c =
+    let t = c.args.self.now in
     let g = c.self.inside in
-    let kept : IsKept c.args.self.now g.elements.items (string_bytes g.text) = rw c.self.view_is at c.self.invariant in
-    item_of_element _ _ _ c.args.number _ kept c.requires c.index.ensures
+    let kept : IsKept t g.elements.items (string_bytes g.text) = rw c.self.view_is at c.self.invariant in
+    let is = element_read t _ _ c.args.number c.index.result.now kept c.requires c.index.ensures in
+    let below : c.saturating_sub-below.result ≡ size_in c.index.result.now - 1 = c.saturating_sub-below.ensures ∙ ap (λ s. s - 1) c.size-size.ensures in
+    let end : c.start_at.result ≡ start_at t (c.args.number + 1 + (size_in c.index.result.now - 1)) =
+    c.start_at.ensures ∙ ap (λ b. start_at t (c.args.number + 1 + b)) below in
+    rw (end, below, c.kind.ensures, c.size-size.ensures, c.place.ensures, c.parent_kept.ensures, c.parent.ensures)
+    (item_read t c.args.number c.index.result.now c.requires is)
 
 pub returns-clause-ordered : goal.returns-clause-ordered
 returns-clause-ordered c =
-    let l = rw (← c.self.view_is) at c.requires in
-    (cut_of_element _ _ _ c.args.number _ c.self.invariant l c.index.ensures).ordered
+    let t = c.args.self.now in
+    let g = c.self.inside in
+    let kept : IsKept t g.elements.items (string_bytes g.text) = rw c.self.view_is at c.self.invariant in
+    let is = element_read t _ _ c.args.number c.index.result.now kept c.requires c.index.ensures in
+    let below : c.saturating_sub-below.result ≡ size_in c.index.result.now - 1 = c.saturating_sub-below.ensures ∙ ap (λ s. s - 1) c.size-size.ensures in
+    let end : c.start_at.result ≡ start_at t (c.args.number + 1 + (size_in c.index.result.now - 1)) =
+    c.start_at.ensures ∙ ap (λ b. start_at t (c.args.number + 1 + b)) below in
+    rw (end, c.place.ensures) (read_in_order t c.args.number c.index.result.now c.requires is)
 
 pub returns-clause-inside : goal.returns-clause-inside
 returns-clause-inside c =
+    let t = c.args.self.now in
     let g = c.self.inside in
-    let kept : IsKept c.args.self.now g.elements.items (string_bytes g.text) = rw c.self.view_is at c.self.invariant in
-    let is = item_of_element _ _ _ c.args.number _ kept c.requires c.index.ensures in
-    omega (arith, next_inside c.args.self.now c.args.number c.requires, ap (λ (i : Item). i.below) is)
+    let kept : IsKept t g.elements.items (string_bytes g.text) = rw c.self.view_is at c.self.invariant in
+    let is = element_read t _ _ c.args.number c.index.result.now kept c.requires c.index.ensures in
+    let below : c.saturating_sub-below.result ≡ size_in c.index.result.now - 1 = c.saturating_sub-below.ensures ∙ ap (λ s. s - 1) c.size-size.ensures in
+    omega (arith, below, below_read t c.args.number c.index.result.now c.requires is, next_inside t c.args.number c.requires)
 
 pub returns-clause-next_fits : goal.returns-clause-next_fits
 returns-clause-next_fits c =
+    let t = c.args.self.now in
     let g = c.self.inside in
-    let kept : IsKept c.args.self.now g.elements.items (string_bytes g.text) = rw c.self.view_is at c.self.invariant in
-    let is = item_of_element _ _ _ c.args.number _ kept c.requires c.index.ensures in
-    let count : length g.elements.items ≡ length (items_of c.args.self.now) = sym (length-map g.elements.items item_from) ∙ ap length kept.elements in
-    omega (arith, next_inside c.args.self.now c.args.number c.requires, ap (λ (i : Item). i.below) is, g.elements.small, g.elements.ok)
+    let kept : IsKept t g.elements.items (string_bytes g.text) = rw c.self.view_is at c.self.invariant in
+    let is = element_read t _ _ c.args.number c.index.result.now kept c.requires c.index.ensures in
+    let below : c.saturating_sub-below.result ≡ size_in c.index.result.now - 1 = c.saturating_sub-below.ensures ∙ ap (λ s. s - 1) c.size-size.ensures in
+    omega (
+      arith,
+      below,
+      below_read t c.args.number c.index.result.now c.requires is,
+      next_inside t c.args.number c.requires,
+      length_kept t g.elements.items (string_bytes g.text) kept,
+      kept.few,
+    )
