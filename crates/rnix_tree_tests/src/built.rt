@@ -157,3 +157,47 @@ fn any_kind_stands_on_leaves_and_nodes(rt: HostRuntime) -> Result<(), Fail> {
     );
     Ok(())
 }
+
+// A ROOT over an IDENT with the name `a`: by single calls, or by one.
+fn over_a_name(alloc: Global, at_once: bool) -> Result<GreenNode, Fail> {
+    let mut builder = GreenNodeBuilder::new(alloc);
+    builder.start_node(SyntaxKind::NODE_ROOT)?;
+    if at_once {
+        builder.leaf_node(SyntaxKind::NODE_IDENT, SyntaxKind::TOKEN_IDENT, "a")?;
+    } else {
+        builder.start_node(SyntaxKind::NODE_IDENT)?;
+        builder.token(SyntaxKind::TOKEN_IDENT, "a")?;
+        builder.finish_node()?;
+    }
+    builder.finish_node()?;
+    Ok(builder.finish()?)
+}
+
+#[test]
+fn a_node_over_one_leaf_is_made_at_once(rt: HostRuntime) -> Result<(), Fail> {
+    let (once, single) = (
+        over_a_name(rt.alloc(), true)?,
+        over_a_name(rt.alloc(), false)?,
+    );
+    let root = SyntaxNode::new_root(&once);
+    assert!(rt; root == SyntaxNode::new_root(&single));
+    assert!(rt;
+        root.first_child().is_some_and(|name| name.kind() == SyntaxKind::NODE_IDENT
+            && name.text() == "a")
+    );
+    Ok(())
+}
+
+#[test]
+fn too_much_room_is_refused_and_changes_nothing(rt: HostRuntime) -> Result<(), Fail> {
+    let mut builder = GreenNodeBuilder::new(rt.alloc());
+    builder.start_node(SyntaxKind::NODE_ROOT)?;
+    assert!(rt; builder.reserve(usize::MAX, 0).is_err());
+    assert!(rt; builder.reserve(0, usize::MAX).is_err());
+    builder.reserve(2, 1)?;
+    builder.token(SyntaxKind::TOKEN_IDENT, "a")?;
+    assert_eq!(rt; builder.open_nodes(), 1);
+    builder.finish_node()?;
+    assert!(rt; builder.is_complete());
+    Ok(())
+}

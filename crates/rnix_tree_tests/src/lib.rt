@@ -1,9 +1,13 @@
-//! Tests of kinds, of the tokenizer and of trees that were built by hand.
+//! Tests of kinds, of the tokenizer, of trees that were built by hand, of ranges, lines and edits.
 #![tactic(auto)]
 
 #[cfg(test)]
 mod built;
 #[cfg(test)]
 mod kinds;
+#[cfg(test)]
+mod ranges;
+#[cfg(test)]
+mod texts;
 #[cfg(test)]
 mod tokens;

@@ -1,0 +1,132 @@
+-- Changes in order: what stands around a place among them, and another one that is put there.
+use Rattle.std.proofs.Common.{◌≡◌, ℕ, zero, suc, ◌≤◌, ◌<◌, nat_le, List, [], ◌∷◌, ◌++◌, length, map, get_or, Bool, true, false, refl, ap, sym, subst, arith}
+use Rattle.std.specs.List.{All, insert}
+use Rattle.std.specs.List.Sorted.{IsPartitionedBy, IsPartitionPoint}
+use Rattle.std.proofs.lemmas.Bool.Decides.{nat_tests}
+use Rattle.rnix_text.specs.declared.edits.Edit.{Edit}
+use Rattle.rnix_text.specs.Edit.{change_of}
+use Rattle.rnix_text.specs.Changes.{Change, AreAscending, AreInOrder, IsBetween, Overlaps, IsAdded, IsMet}
+
+none : {X : Type 0} (P : X → Type 0) → All P []
+none P k d l = absurd (omega (arith, l))
+
+cons_all : {X : Type 0} (P : X → Type 0) (x : X) (xs : List X) → P x → All P xs → All P (x ∷ xs)
+cons_all P x xs h hs zero d l = h
+cons_all P x xs h hs (suc k) d l = hs k d (omega (arith, l))
+
+-- changes in order ascend
+pub ascending : (text : List ℕ) (n : ℕ) (cs : List Change) → AreInOrder text n cs → AreAscending n cs
+ascending text n [] h = tt
+ascending text n (c ∷ cs) h = (h.0, h.1, ascending text c.end cs h.3)
+
+starts : (n : ℕ) (cs : List Change) → AreAscending n cs → All (λ x. (n ≤ x.start) × (x.start ≤ x.end)) cs
+starts n [] h k d l = absurd (omega (arith, l))
+starts n (c ∷ cs) h zero d l = (h.0, h.1)
+starts n (c ∷ cs) h (suc k) d l = let s = starts c.end cs h.2 k d (omega (arith, l)) in (omega (arith, h.0, h.1, s.0), s.1)
+
+ends_from : (n : ℕ) (es : List Edit) → AreAscending n (map change_of es) → (j : ℕ) (d : Edit) → j < length es → n ≤ (get_or es j d).end
+ends_from n [] h j d l = absurd (omega (arith, l))
+ends_from n (e ∷ es) h zero d l = omega (arith, h.0, h.1)
+ends_from n (e ∷ es) h (suc j) d l = let s = ends_from e.end es h.2 j d (omega (arith, l)) in omega (arith, h.0, h.1, s)
+
+ends_rise : (n : ℕ) (es : List Edit) → AreAscending n (map change_of es) → (i j : ℕ) (d : Edit) → i ≤ j → j < length es → (get_or es i d).end ≤ (get_or es j d).end
+ends_rise n [] h i j d le l = absurd (omega (arith, l))
+ends_rise n (e ∷ es) h zero zero d le l = omega arith
+ends_rise n (e ∷ es) h zero (suc j) d le l = ends_from e.end es h.2 j d (omega (arith, l))
+ends_rise n (e ∷ es) h (suc i) zero d le l = absurd (omega (arith, le))
+ends_rise n (e ∷ es) h (suc i) (suc j) d le l = ends_rise e.end es h.2 i j d (omega (arith, le)) (omega (arith, l))
+
+-- an edit ends at the offset or in front of it
+abbrev pub ends_by : ℕ → Edit → Bool
+ends_by start e = nat_le e.end start
+
+ends_by_true : (start : ℕ) (e : Edit) → ends_by start e ≡ true → e.end ≤ start
+ends_by_true start e h = grind (arith, nat_tests)
+
+ends_by_false : (start : ℕ) (e : Edit) → ends_by start e ≡ false → start < e.end
+ends_by_false start e h = grind (arith, nat_tests)
+
+does_end_by : (start : ℕ) (e : Edit) → e.end ≤ start → ends_by start e ≡ true
+does_end_by start e h = grind (arith, nat_tests)
+
+-- edits are parted by where they end
+pub parted : (start : ℕ) (es : List Edit) → AreAscending 0 (map change_of es) → IsPartitionedBy (ends_by start) es
+parted start es h i j d le l up =
+    does_end_by start (get_or es i d) (omega (arith, ends_rise 0 es h i j d le l, ends_by_true start (get_or es j d) up))
+
+-- an edit that overlaps the range is met
+met : (start end : ℕ) (es : List Edit) (at : ℕ) (d : Edit) → at < length es → Overlaps start end (change_of (get_or es at d)) → IsMet start end (map change_of es)
+met start end [] at d l o = absurd (omega (arith, l))
+met start end (e ∷ es) zero d l o = record { front = []; change = change_of e; back = map change_of es; is = refl; overlaps = o }
+met start end (e ∷ es) (suc at) d l o =
+    let m = met start end es at d (omega (arith, l)) o in
+    record { front = change_of e ∷ m.front; change = m.change; back = m.back; is = ap (λ cs. change_of e ∷ cs) m.is; overlaps = m.overlaps }
+
+behind_first : (n : ℕ) (c : Change) (cs : List Change) → AreAscending n cs → c.start ≤ c.end
+    → ((x : Change) (xs : List Change) → cs ≡ x ∷ xs → (c.start < x.end) × (c.end ≤ x.start)) → All (λ x. (c.start < x.end) × (c.end ≤ x.start)) cs
+behind_first n c [] h o first = none _
+behind_first n c (x ∷ xs) h o first =
+    let f = first x xs refl in
+    cons_all (λ x. (c.start < x.end) × (c.end ≤ x.start)) x xs f (λ k d l. let s = starts x.end xs h.2 k d l in (omega (arith, f.0, s.0, s.1), omega (arith, f.1, h.1, s.0)))
+
+-- an edit is added behind those that end where it begins or before
+added_at : (n : ℕ) (es : List Edit) (at : ℕ) (e : Edit) → AreAscending n (map change_of es) → at ≤ length es → e.start ≤ e.end
+    → ((k : ℕ) (d : Edit) → k < at → (get_or es k d).end ≤ e.start) → ((d : Edit) → at < length es → (e.start < (get_or es at d).end) × (e.end ≤ (get_or es at d).start))
+    → IsAdded (change_of e) (map change_of es) (map change_of (insert es at e))
+added_at n es zero e h l o before behind = record {
+  front = [];
+  back = map change_of es;
+  old_is = refl;
+  new_is = refl;
+  before = none _;
+  behind = behind_first n (change_of e) (map change_of es) h o (first es behind);
+}
+  where
+    head_or : Change → List Change → Change
+    head_or c [] = c
+    head_or c (x ∷ xs) = x
+
+    first : (es : List Edit) → ((d : Edit) → 0 < length es → (e.start < (get_or es 0 d).end) × (e.end ≤ (get_or es 0 d).start))
+        → (x : Change) (xs : List Change) → map change_of es ≡ x ∷ xs → (e.start < x.end) × (e.end ≤ x.start)
+    first [] b x xs s = absurd (omega (arith, ap length s))
+    first (y ∷ ys) b x xs s =
+        let f = b e (omega arith) in
+        let head = ap (head_or (change_of y)) s in
+        (omega (arith, f.0, ap (λ (c : Change). c.end) head), omega (arith, f.1, ap (λ (c : Change). c.start) head))
+added_at n [] (suc at) e h l o before behind = absurd (omega (arith, l))
+added_at n (x ∷ es) (suc at) e h l o before behind =
+    let r = added_at x.end es at e h.2 (omega (arith, l)) o (λ k d l. before (suc k) d (omega (arith, l))) (λ d l. behind d (omega (arith, l))) in
+    record {
+      front = change_of x ∷ r.front;
+      back = r.back;
+      old_is = ap (λ cs. change_of x ∷ cs) r.old_is;
+      new_is = ap (λ cs. change_of x ∷ cs) r.new_is;
+      before = cons_all (λ y. y.end ≤ e.start) (change_of x) r.front (before 0 x (omega arith)) r.before;
+      behind = r.behind;
+    }
+
+module _ (start end : ℕ) (es : List Edit) (r : ℕ) (bound : r ≤ length es) (point : IsPartitionPoint (λ y. ends_by start y ≡ true) (λ y. ends_by start y ≡ false) es r) where
+  -- an edit of the range may stand where they are parted
+  pub placed : AreAscending 0 (map change_of es) → start ≤ end → ((d : Edit) → r < length es → end ≤ (get_or es r d).start) → (e : Edit) → e.start ≡ start → e.end ≡ end
+      → IsAdded (change_of e) (map change_of es) (map change_of (insert es r e))
+  placed h o free e s t =
+      added_at 0 es r e h bound (omega (arith, o, s, t))
+      (λ k d l. let x = ends_by_true start (get_or es k d) (point.0 k d (omega arith) l) in omega (arith, x, s))
+      (λ d l. let x = ends_by_false start (get_or es r d) (point.1 r d (omega arith) l) in let y = free d l in (omega (arith, x, s), omega (arith, y, t)))
+
+  -- or overlaps the one that is there
+  pub met_there : (x : Edit) → r < length es → (get_or es r x).start < end → IsMet start end (map change_of es)
+  met_there x l b = met start end es r x l (ends_by_false start (get_or es r x) (point.1 r x (omega arith) l), b)
+
+kept : (text : List ℕ) (n : ℕ) (c : Change) (front back : List Change) → AreInOrder text n (front ++ back) → n ≤ c.start → c.start ≤ c.end → c.end ≤ length text
+    → IsBetween text c.start c.end → All (λ x. x.end ≤ c.start) front → All (λ x. (c.start < x.end) × (c.end ≤ x.start)) back → AreInOrder text n (front ++ c ∷ back)
+kept text n c [] [] h low o high b before behind = (low, o, b, high)
+kept text n c [] (x ∷ xs) h low o high b before behind = (low, o, b, ((behind 0 x (omega arith)).1, h.1, h.2, h.3))
+kept text n c (f ∷ fs) back h low o high b before behind =
+    (h.0, h.1, h.2, kept text f.end c fs back h.3 (before 0 f (omega arith)) o high b (λ k d l. before (suc k) d (omega (arith, l))) behind)
+
+-- and then they are in order
+pub added_in_order : (text : List ℕ) (c : Change) (old new : List Change) → AreInOrder text 0 old → c.start ≤ c.end → c.end ≤ length text → IsBetween text c.start c.end
+    → IsAdded c old new → AreInOrder text 0 new
+added_in_order text c old new h o high b a =
+    subst (AreInOrder text 0) (sym a.new_is) (kept text 0 c a.front a.back (subst (AreInOrder text 0) a.old_is h) (omega arith) o high b a.before a.behind)

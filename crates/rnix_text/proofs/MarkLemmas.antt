@@ -1,0 +1,98 @@
+-- Marks that pass a test which, where it passes behind a byte, passes in front of it.
+use Rattle.std.proofs.Common.{◌≡◌, ℕ, zero, suc, ◌-◌, ◌≤◌, ◌<◌, ◌⊎◌, inl, inr, List, [], ◌∷◌, length, get_or, Bool, true, false, refl, ap, sym, ◌∙◌, subst, arith}
+use Rattle.std.specs.Prelude.{if◌then◌else◌}
+use Rattle.std.specs.List.Sorted.{IsPartitionedBy, IsPartitionPoint}
+use Rattle.std.proofs.lemmas.Bool.{false_from_ne_true, both_ways}
+use Rattle.rnix_text.specs.declared.mark.ColumnUnit.{ColumnUnit}
+use Rattle.rnix_text.specs.declared.mark.Mark.{Mark}
+use Rattle.rnix_text.specs.Marks.{is_plain, first_mark, mark_behind, marks_behind, marks_of, last_of}
+
+found : (test : Mark → Bool) (xs : List Mark) (m : Mark) (r : ℕ) (d : Mark) → test m ≡ true → r ≤ length (m ∷ xs)
+    → IsPartitionPoint (λ y. test y ≡ true) (λ y. test y ≡ false) (m ∷ xs) r → (0 < r) × (get_or (m ∷ xs) (r - 1) d ≡ last_of test m xs)
+found test xs m zero d h bound point = absurd (both_ways (test m) (point.1 0 d (omega arith) (omega arith)) h)
+found test [] m (suc zero) d h bound point = (omega arith, refl)
+found test [] m (suc (suc r)) d h bound point = absurd (omega (arith, bound))
+found test (x ∷ xs) m (suc zero) d h bound point = (omega arith, sym (ap (λ w. if w then last_of test x xs else m) (point.1 1 d (omega arith) (omega arith))))
+found test (x ∷ xs) m (suc (suc r)) d h bound point =
+    let passes : test x ≡ true = point.0 1 d (omega arith) (omega arith) in
+    let more = found test xs x (suc r) d passes (omega (arith, bound)) (λ k e a b. point.0 (suc k) e (omega arith) (omega (arith, b)), λ k e a b. point.1 (suc k) e (omega (arith, a)) (omega (arith, b))) in
+    let next : suc (suc r) - 1 ≡ suc (suc r - 1) = omega arith in
+    (omega arith, ap (λ k. get_or (m ∷ x ∷ xs) k d) next ∙ more.1 ∙ sym (ap (λ w. if w then last_of test x xs else m) passes))
+
+-- of two first marks, both or none give way to the marks behind them
+pub last_alike : (test : Mark → Bool) (m n : Mark) (xs : List Mark) → ((last_of test m xs ≡ m) × (last_of test n xs ≡ n)) ⊎ (last_of test m xs ≡ last_of test n xs)
+last_alike test m n [] = inl (refl, refl)
+last_alike test m n (x ∷ xs) =
+    elim (test x) as (λ w. (((if w then last_of test x xs else m) ≡ m) × ((if w then last_of test x xs else n) ≡ n)) ⊎ ((if w then last_of test x xs else m) ≡ (if w then last_of test x xs else n))) [
+      | true ↦ inr refl
+      | false ↦ inl (refl, refl)
+    ]
+
+module _ (unit : ColumnUnit) (test : Mark → Bool) (back : (m : Mark) (b : ℕ) → test (mark_behind unit m b) ≡ true → test m ≡ true) where
+  next_fails : (m : Mark) (b : ℕ) → test m ≡ false → test (mark_behind unit m b) ≡ false
+  next_fails m b f = false_from_ne_true (test (mark_behind unit m b)) (λ t. both_ways (test m) f (back m b t))
+
+  -- no mark passes behind one that fails
+  pub none_behind : (bs : List ℕ) (m x : Mark) → test m ≡ false → last_of test x (marks_behind unit m bs) ≡ x
+  none_behind [] m x f = refl
+  none_behind (b ∷ bs) m x f =
+      let next = mark_behind unit m b in
+      let fails = next_fails m b f in
+      elim (is_plain unit b) as (λ w. last_of test x (if w then marks_behind unit next bs else next ∷ marks_behind unit next bs) ≡ x) [
+        | true ↦ none_behind bs next x fails
+        | false ↦ ap (λ w. if w then last_of test next (marks_behind unit next bs) else x) fails
+      ]
+
+  -- where the next place fails, a mark is the last
+  pub last_here : (bs : List ℕ) (b : ℕ) (m : Mark) → test (mark_behind unit m b) ≡ false → last_of test m (marks_behind unit m (b ∷ bs)) ≡ m
+  last_here bs b m fails =
+      let next = mark_behind unit m b in
+      elim (is_plain unit b) as (λ w. last_of test m (if w then marks_behind unit next bs else next ∷ marks_behind unit next bs) ≡ m) [
+        | true ↦ none_behind bs next m fails
+        | false ↦ ap (λ w. if w then last_of test next (marks_behind unit next bs) else m) fails
+      ]
+
+  at_first : (bs : List ℕ) (m : Mark) (j : ℕ) (d : Mark) → j < length (m ∷ marks_behind unit m bs) → test (get_or (m ∷ marks_behind unit m bs) j d) ≡ true → test m ≡ true
+  at_first bs m zero d l h = h
+  at_first [] m (suc j) d l h = absurd (omega (arith, l))
+  at_first (b ∷ bs) m (suc j) d l h = by (is_plain unit b) (at_first bs (mark_behind unit m b)) l h
+    where
+      next : Mark
+      next = mark_behind unit m b
+
+      rest : List Mark
+      rest = marks_behind unit next bs
+
+      by : (w : Bool) → ((i : ℕ) (d : Mark) → i < length (next ∷ rest) → test (get_or (next ∷ rest) i d) ≡ true → test next ≡ true)
+          → suc j < length (m ∷ (if w then rest else next ∷ rest)) → test (get_or (m ∷ (if w then rest else next ∷ rest)) (suc j) d) ≡ true → test m ≡ true
+      by true more l h = back m b (more (suc j) d l h)
+      by false more l h = back m b (more j d (omega (arith, l)) h)
+
+  -- the marks are parted by the test
+  pub parted : (bs : List ℕ) (m : Mark) → IsPartitionedBy test (m ∷ marks_behind unit m bs)
+  parted bs m zero j d le l h = at_first bs m j d l h
+  parted bs m (suc i) zero d le l h = absurd (omega (arith, le))
+  parted [] m (suc i) (suc j) d le l h = absurd (omega (arith, l))
+  parted (b ∷ bs) m (suc i) (suc j) d le l h = by (is_plain unit b) (parted bs (mark_behind unit m b)) l h
+    where
+      next : Mark
+      next = mark_behind unit m b
+
+      rest : List Mark
+      rest = marks_behind unit next bs
+
+      by : (w : Bool) → IsPartitionedBy test (next ∷ rest)
+          → suc j < length (m ∷ (if w then rest else next ∷ rest)) → test (get_or (m ∷ (if w then rest else next ∷ rest)) (suc j) d) ≡ true
+          → test (get_or (m ∷ (if w then rest else next ∷ rest)) (suc i) d) ≡ true
+      by true more l h = more (suc i) (suc j) d le l h
+      by false more l h = more i j d (omega (arith, le)) (omega (arith, l)) h
+
+  -- the last of a text's marks that pass is found where they are parted
+  pub last_in : (text : List ℕ) (items : List Mark) (r : ℕ) → items ≡ marks_of unit text → test first_mark ≡ true → r ≤ length items
+      → (IsPartitionedBy test items → IsPartitionPoint (λ y. test y ≡ true) (λ y. test y ≡ false) items r) → (d : Mark)
+      → (0 < r) × (get_or items (r - 1) d ≡ last_of test first_mark (marks_behind unit first_mark text))
+  last_in text items r e h bound point d =
+      let rest = marks_behind unit first_mark text in
+      let parting = point (subst (IsPartitionedBy test) (sym e) (parted text first_mark)) in
+      let told = found test rest first_mark r d h (subst (λ xs. r ≤ length xs) e bound) (subst (λ xs. IsPartitionPoint (λ y. test y ≡ true) (λ y. test y ≡ false) xs r) e parting) in
+      (told.0, ap (λ xs. get_or xs (r - 1) d) e ∙ told.1)

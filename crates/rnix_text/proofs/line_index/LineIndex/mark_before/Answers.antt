@@ -1,0 +1,31 @@
+use Rattle.std.proofs.Common.{rules, ◌≡◌, ◌≤◌, ◌∙◌, true, false, length, ap, sym, subst}
+use Rattle.std.specs.List.Sorted.{IsPartitionedBy, IsPartitionPoint}
+use Rattle.std.proofs.lemmas.List.Sorted.{IsPartitionPoint-from_clause}
+use Rattle.rnix_text.specs.Marks.{is_before, first_mark}
+use Rattle.rnix_text.specs.Texts.{last_mark}
+use Rattle.rnix_text.proofs.MarkLemmas.{last_in}
+use Rattle.rnix_text.proofs.PositionLemmas.{before_back, first_before}
+use Rattle.rnix_text.proofs.line_index.LineIndex.mark_before.Goals as goal
+
+pub overflow_sub-behind : goal.overflow_sub-behind
+overflow_sub-behind c =
+    let test = is_before c.args.offset in
+    let items = c.self.inside.marks.items in
+    let r = c.partition_point-behind.result in
+    let same = c.deref.ensures.value in
+    let point = λ (p : IsPartitionedBy test items). subst (λ xs. IsPartitionPoint (λ y. test y ≡ true) (λ y. test y ≡ false) xs r) same
+    (IsPartitionPoint-from_clause test _ r c.partition_point-behind.ensures.partitioned (subst (IsPartitionedBy test) (sym same) p) (λ a s q k. search rules)) in
+    (last_in c.self.inside.unit test (before_back c.self.inside.unit c.args.offset) c.self.inside.text.now items r c.self.invariant (first_before c.args.offset)
+    (subst (λ xs. r ≤ length xs) same c.partition_point-behind.ensures.bound) point first_mark).0
+
+pub returns : goal.returns
+returns c =
+    let test = is_before c.args.offset in
+    let items = c.self.inside.marks.items in
+    let r = c.partition_point-behind.result in
+    let same = c.deref.ensures.value in
+    let point = λ (p : IsPartitionedBy test items). subst (λ xs. IsPartitionPoint (λ y. test y ≡ true) (λ y. test y ≡ false) xs r) same
+    (IsPartitionPoint-from_clause test _ r c.partition_point-behind.ensures.partitioned (subst (IsPartitionedBy test) (sym same) p) (λ a s q k. search rules)) in
+    let bound : r ≤ length items = subst (λ xs. r ≤ length xs) same c.partition_point-behind.ensures.bound in
+    let found = last_in c.self.inside.unit test (before_back c.self.inside.unit c.args.offset) c.self.inside.text.now items r c.self.invariant (first_before c.args.offset) bound point c.index.result.now in
+    c.index.ensures ∙ found.1 ∙ ap (last_mark test) c.self.view_is

@@ -1,0 +1,46 @@
+-- Marks: the offsets behind bytes that move the column otherwise than the offset.
+use Rattle.std.specs.Prelude.{ℕ, ◌+◌, ◌-◌, ◌==◌, ◌&&◌, ◌||◌, not, nat_lt, nat_le, Bool, List, [], ◌∷◌, if◌then◌else◌}
+use Rattle.rnix_text.specs.declared.mark.ColumnUnit.{ColumnUnit}
+use Rattle.rnix_text.specs.declared.mark.Position.{Position}
+use Rattle.rnix_text.specs.declared.mark.Mark.{Mark}
+use Rattle.rnix_text.specs.Positions.{newline, weight, origin, step}
+
+-- the byte moves the column as far as the offset
+abbrev pub is_plain : ColumnUnit → ℕ → Bool
+is_plain unit b = not (b == newline) && (weight unit b == 1)
+
+-- the start of a text
+abbrev pub first_mark : Mark
+first_mark = record { offset = 0; position = origin }
+
+-- the place behind a byte
+abbrev pub mark_behind : ColumnUnit → Mark → ℕ → Mark
+mark_behind unit m b = record { offset = m.offset + 1; position = step unit m.position b }
+
+-- the marks behind a mark, where these bytes follow it
+abbrev pub marks_behind : ColumnUnit → Mark → List ℕ → List Mark
+marks_behind unit m [] = []
+marks_behind unit m (b ∷ bs) =
+    if is_plain unit b then marks_behind unit (mark_behind unit m b) bs
+    else mark_behind unit m b ∷ marks_behind unit (mark_behind unit m b) bs
+
+-- the marks of a text
+abbrev pub marks_of : ColumnUnit → List ℕ → List Mark
+marks_of unit text = first_mark ∷ marks_behind unit first_mark text
+
+-- the position of an offset behind a mark, over bytes that move the column as far
+abbrev pub position_behind : Mark → ℕ → Position
+position_behind m offset = record { line = m.position.line; column = m.position.column + (offset - m.offset) }
+
+-- the mark is at the offset or in front of it
+abbrev pub is_before : ℕ → Mark → Bool
+is_before o m = nat_le m.offset o
+
+-- the mark is at the position or in front of it
+abbrev pub is_up_to : Position → Mark → Bool
+is_up_to p m = nat_lt m.position.line p.line || ((m.position.line == p.line) && nat_le m.position.column p.column)
+
+-- the last of the leading marks that pass a test, where the first passes
+abbrev pub last_of : (Mark → Bool) → Mark → List Mark → Mark
+last_of test m [] = m
+last_of test m (x ∷ xs) = if test x then last_of test x xs else m

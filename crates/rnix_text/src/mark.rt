@@ -1,0 +1,116 @@
+//! Positions in a text, and the marks from which positions are counted.
+
+ghost use Rattle.std.specs.Prelude.{◌≡◌, ◌+◌, ◌-◌, ◌<◌, ◌≤◌, ◌^◌, fold};
+ghost use Rattle.rnix_text.specs.Positions.{weight, step};
+ghost use Rattle.rnix_text.specs.Marks.{is_plain, first_mark, mark_behind, position_behind, is_up_to};
+
+/// What a column counts.
+#[derive(Clone, Copy, PartialEq, Eq, Hash, Debug)]
+pub enum ColumnUnit {
+    /// Bytes of UTF-8.
+    Bytes,
+    /// Characters.
+    Chars,
+    /// Units of 16 bits of UTF-16, as editors count.
+    Utf16,
+}
+
+/// A line and a column in it, both from 0.
+#[derive(Clone, Copy, PartialEq, Eq, PartialOrd, Ord, Hash, Debug, Default)]
+pub struct Position {
+    pub line: usize,
+    pub column: usize,
+}
+
+// An offset with its position.
+#[derive(Clone, Copy)]
+pub(crate) struct Mark {
+    pub(crate) offset: usize,
+    pub(crate) position: Position,
+}
+
+// The byte that ends a line.
+const NEWLINE: u8 = b'\n';
+// The first byte that begins no character of one byte.
+const CONTINUATION: u8 = 0x80;
+// The first byte that begins a character of several bytes.
+const LEAD: u8 = 0xc0;
+// The first byte that begins a character of two units in UTF-16.
+const LEAD_OF_PAIR: u8 = 0xf0;
+
+// What a byte adds to the column of its line.
+pub(crate) fn weight_of(unit: ColumnUnit, byte: u8) -> usize
+    ensures value { result ≡ weight unit byte }
+    ensures small { result ≤ 2 }
+{
+    match unit {
+        ColumnUnit::Bytes => 1,
+        _ if byte < CONTINUATION => 1,
+        _ if byte < LEAD => 0,
+        ColumnUnit::Utf16 if byte >= LEAD_OF_PAIR => 2,
+        _ => 1,
+    }
+}
+
+// Whether a byte moves the column as far as the offset.
+pub(crate) fn moves_alike(unit: ColumnUnit, byte: u8) -> bool
+    ensures { result ≡ is_plain unit byte }
+{
+    byte != NEWLINE && weight_of(unit, byte) == 1
+}
+
+impl Mark {
+    // The start of a text.
+    pub(crate) fn first() -> Mark
+        ensures { result ≡ first_mark }
+    {
+        Mark {
+            offset: 0,
+            position: Position { line: 0, column: 0 },
+        }
+    }
+
+    // The place behind a byte.
+    pub(crate) fn behind(self, unit: ColumnUnit, byte: u8) -> Mark
+        requires offset { self.offset + 1 < 2 ^ 64 }
+        requires line { self.position.line + 1 < 2 ^ 64 }
+        requires column { self.position.column + 2 < 2 ^ 64 }
+        ensures { result ≡ mark_behind unit self byte }
+    {
+        let position = if byte == NEWLINE {
+            Position {
+                line: self.position.line + 1,
+                column: 0,
+            }
+        } else {
+            Position {
+                line: self.position.line,
+                column: self.position.column + weight_of(unit, byte),
+            }
+        };
+        Mark {
+            offset: self.offset + 1,
+            position,
+        }
+    }
+
+    // The position of an offset behind the mark, with bytes between them that move the column as far as the offset.
+    pub(crate) fn position_of(self, offset: usize) -> Position
+        requires order { self.offset ≤ offset }
+        requires fits { self.position.column + (offset - self.offset) < 2 ^ 64 }
+        ensures { result ≡ position_behind self offset }
+    {
+        Position {
+            line: self.position.line,
+            column: self.position.column + (offset - self.offset),
+        }
+    }
+
+    // Whether the mark is at a position or in front of it.
+    pub(crate) fn is_up_to(self, position: Position) -> bool
+        ensures { result ≡ is_up_to position self }
+    {
+        let own = self.position;
+        own.line < position.line || (own.line == position.line && own.column <= position.column)
+    }
+}
