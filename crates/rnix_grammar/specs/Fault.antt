@@ -6,7 +6,7 @@ use Rattle.std.specs.Fmt.{decimal}
 use Rattle.rnix_kinds.specs.declared.kinds.SyntaxKind.{SyntaxKind}
 use Rattle.rnix_kinds.specs.SyntaxKind.{name_of}
 use Rattle.rnix_tree.specs.Equality.{same_kind}
-use Rattle.rnix_tree.specs.Range.{Extent}
+use Rattle.rnix_tree.specs.Range.{Extent, bounds_of}
 use Rattle.rnix_grammar.specs.declared.error.ParseError.{ParseError}
 use Rattle.rnix_grammar.specs.declared.error.ParseError.TheVariants.{Unexpected, UnexpectedExtra, UnexpectedWanted, UnexpectedDoubleBind, UnexpectedEOF, UnexpectedEOFWanted, DuplicatedArgs, RecursionLimitExceeded}
 
@@ -23,13 +23,13 @@ pub data Fault : Type 0 where
 
 -- the fault that an error of the program stands for
 abbrev pub fault_of : ParseError → Fault
-fault_of (Unexpected range) = untold range
-fault_of (UnexpectedExtra range) = extra range
-fault_of (UnexpectedWanted kind range wanted) = unwanted kind range wanted.items
-fault_of (UnexpectedDoubleBind range) = bound_twice range
+fault_of (Unexpected range) = untold (bounds_of range)
+fault_of (UnexpectedExtra range) = extra (bounds_of range)
+fault_of (UnexpectedWanted kind range wanted) = unwanted kind (bounds_of range) wanted.items
+fault_of (UnexpectedDoubleBind range) = bound_twice (bounds_of range)
 fault_of UnexpectedEOF = ended
 fault_of (UnexpectedEOFWanted wanted) = ended_before wanted.items
-fault_of (DuplicatedArgs range name) = named_twice range (string_bytes name)
+fault_of (DuplicatedArgs range name) = named_twice (bounds_of range) (string_bytes name)
 fault_of RecursionLimitExceeded = too_deep
 
 -- two ranges are one

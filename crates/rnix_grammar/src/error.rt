@@ -1,11 +1,13 @@
 //! The errors of a text.
 
-ghost use Rattle.std.specs.Prelude.{◌≡◌, ◌&&◌, IfOk, Some};
+ghost use Rattle.std.specs.Prelude.{◌≡◌, ◌&&◌, IfOk, Some, option_map};
 ghost use Rattle.std.specs.Bool.{Decides};
 ghost use Rattle.std.specs.Cmp.Lexicographic.{pointwise};
 ghost use Rattle.std.specs.Fmt.{DisplaysOnOk};
 ghost use Rattle.rnix_tree.specs.Equality.{same_kind};
+ghost use Rattle.rnix_tree.specs.Range.{bounds_of};
 ghost use Rattle.rnix_grammar.specs.Fault.{fault_of, more_kinds_text, kinds_text, wanted_text, place_text, again_text, range_text, fault_text, unwanted, named_twice, same_extent};
+ghost use Rattle.rnix_grammar.specs.Ranges.{range_in};
 
 use rnix_kinds::SyntaxKind;
 use rnix_tree::TextRange;
@@ -57,6 +59,22 @@ impl ParseError {
         };
         Ok(error)
     }
+
+    /// The error's range, in bytes. The errors at the end of the text have none, and neither has `RecursionLimitExceeded`.
+    pub fn range(&self) -> Option<TextRange>
+        ensures { option_map bounds_of result ≡ range_in (fault_of self.now) }
+    {
+        match self {
+            ParseError::Unexpected(range)
+            | ParseError::UnexpectedExtra(range)
+            | ParseError::UnexpectedWanted(_, range, _)
+            | ParseError::UnexpectedDoubleBind(range)
+            | ParseError::DuplicatedArgs(range, _) => Some(*range),
+            ParseError::UnexpectedEOF
+            | ParseError::UnexpectedEOFWanted(_)
+            | ParseError::RecursionLimitExceeded => None,
+        }
+    }
 }
 
 // Whether two lists hold the same kinds.
@@ -68,7 +86,7 @@ fn same_kinds(a: &[SyntaxKind], b: &[SyntaxKind]) -> bool
 
 // Whether two tokens are of one kind in one place.
 fn same_token(kind: SyntaxKind, range: TextRange, other: SyntaxKind, place: TextRange) -> bool
-    ensures { result ≡ (same_kind kind other && same_extent range place) }
+    ensures { result ≡ (same_kind kind other && same_extent (bounds_of range) (bounds_of place)) }
 {
     kind == other && range == place
 }
@@ -143,7 +161,7 @@ fn write_wanted<W: fmt::Write>(kinds: &[SyntaxKind], f: &mut fmt::Formatter<W>) 
 
 // A range in decimal.
 fn write_place<W: fmt::Write>(range: TextRange, f: &mut fmt::Formatter<W>) -> fmt::Result
-    ensures { DisplaysOnOk W.write_str_gives f.old result (Some (place_text range)) f.new }
+    ensures { DisplaysOnOk W.write_str_gives f.old result (Some (place_text (bounds_of range))) f.new }
 {
     let (start, end) = (range.start(), range.end());
     write!(f, "{start}..{end}")
@@ -155,7 +173,7 @@ fn write_range<W: fmt::Write>(
     range: TextRange,
     f: &mut fmt::Formatter<W>,
 ) -> fmt::Result
-    ensures { DisplaysOnOk W.write_str_gives f.old result (Some (range_text what.now range)) f.new }
+    ensures { DisplaysOnOk W.write_str_gives f.old result (Some (range_text what.now (bounds_of range))) f.new }
 {
     f.write_str(what)?;
     f.write_str(" at ")?;
@@ -169,7 +187,8 @@ fn write_unwanted<W: fmt::Write>(
     wanted: &[SyntaxKind],
     f: &mut fmt::Formatter<W>,
 ) -> fmt::Result
-    ensures { DisplaysOnOk W.write_str_gives f.old result (Some (fault_text (unwanted kind range wanted.now))) f.new }
+    ensures { DisplaysOnOk W.write_str_gives f.old result
+        (Some (fault_text (unwanted kind (bounds_of range) wanted.now))) f.new }
 {
     f.write_str("unexpected ")?;
     write_range(kind.name(), range, f)?;
@@ -178,7 +197,7 @@ fn write_unwanted<W: fmt::Write>(
 
 // Where a name stands again.
 fn write_again<W: fmt::Write>(range: TextRange, f: &mut fmt::Formatter<W>) -> fmt::Result
-    ensures { DisplaysOnOk W.write_str_gives f.old result (Some (again_text range)) f.new }
+    ensures { DisplaysOnOk W.write_str_gives f.old result (Some (again_text (bounds_of range))) f.new }
 {
     f.write_str("` is duplicated in ")?;
     write_place(range, f)
@@ -190,7 +209,8 @@ fn write_named_twice<W: fmt::Write>(
     name: &str,
     f: &mut fmt::Formatter<W>,
 ) -> fmt::Result
-    ensures { DisplaysOnOk W.write_str_gives f.old result (Some (fault_text (named_twice range name.now))) f.new }
+    ensures { DisplaysOnOk W.write_str_gives f.old result
+        (Some (fault_text (named_twice (bounds_of range) name.now))) f.new }
 {
     f.write_str("argument `")?;
     f.write_str(name)?;

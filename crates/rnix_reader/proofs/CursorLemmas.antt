@@ -1,37 +1,112 @@
 -- The tokens from a place on.
-use Rattle.std.proofs.Common.{◌≡◌, ℕ, zero, suc, ◌+◌, ◌<◌, ◌≤◌, max, Bool, true, false, List, [], ◌∷◌, map, drop, length, get_or, Option, Some, None, refl, ap, sym, ◌∙◌, arith, length-drop, ltb, ltb-true, ltb-false}
-use Rattle.std.specs.Borrow.{Bor}
-use Rattle.std.specs.Option.{option_map, option_copied, is_some, IfSome}
-use Rattle.std.proofs.lemmas.List.{drop_all, length-map}
+use Rattle.std.proofs.Common.{◌≡◌, ℕ, zero, suc, ◌+◌, ◌-◌, ◌<◌, ◌≤◌, max, Bool, true, false, List, [], ◌∷◌, ◌++◌, take, drop, length, get_or, IsUtf8, Some, refl, ap, sym, ◌∙◌, subst, arith, length-append, length-drop, drop-drop, ltb, ltb-true, ltb-false}
+use Rattle.std.proofs.Math.Nat.{add-sub_cancel_left}
+use Rattle.std.proofs.Math.Seq.{take-append_seam, drop-append_seam}
+use Rattle.std.proofs.lemmas.List.{drop_all}
+use Rattle.std.proofs.lemmas.List.Concat.{flat_map-cons}
+use Rattle.std.proofs.lemmas.List.Elements.{All-head, All-tail}
+use Rattle.std.proofs.lemmas.Str.{IsUtf8-nil, IsUtf8-append, IsCharBoundary-start, IsCharBoundary-from_drop}
+use Rattle.std.specs.List.{flat_map, All}
+use Rattle.std.specs.Str.{IsCharBoundary}
+use Rattle.rnix_kinds.specs.declared.kinds.SyntaxKind.{SyntaxKind}
 use Rattle.rnix_kinds.specs.SyntaxKind.{is_trivia}
-use Rattle.rnix_kinds.specs.Lexical.Tokens.{Lexeme}
+use Rattle.rnix_kinds.specs.Lexical.Tokens.{Lexeme, AreSound, text_of}
 use Rattle.rnix_grammar.specs.Sketch.{Token, head_of, head_kind, placed_from}
 use Rattle.rnix_grammar.specs.Layout.{from_item, from_item_if, items, tail_of}
 use Rattle.rnix_lemmas.proofs.LayoutLemmas.{from_item-from_item, items-view, items_head}
-use Rattle.rnix_reader.specs.declared.cursor.PlacedToken.{PlacedToken}
-use Rattle.rnix_reader.specs.Placed.{token_of, AreInOrder}
+use Rattle.rnix_reader.specs.declared.cursor.TokenEnd.{TokenEnd}
+use Rattle.rnix_reader.specs.Placed.{ends_from, token_cut, tokens_cut, start_of, AreEnds, AreInOrder}
+
+-- the tokens are as many as their ends
+pub length-tokens_cut : (text : List ℕ) (n : ℕ) (ts : List TokenEnd) → length (tokens_cut text n ts) ≡ length ts
+length-tokens_cut text n [] = refl
+length-tokens_cut text n (t ∷ ts) = ap suc (length-tokens_cut text t.end ts)
 
 -- the token at a place within
-pub at_place : (ts : List PlacedToken) (i : ℕ) (d : PlacedToken) → i < length ts → drop i (map token_of ts) ≡ token_of (get_or ts i d) ∷ drop (suc i) (map token_of ts)
-at_place [] i d h = absurd (omega arith)
-at_place (x ∷ xs) zero d h = refl
-at_place (x ∷ xs) (suc i) d h = at_place xs i d (omega arith)
+pub at_place : (text : List ℕ) (n : ℕ) (ts : List TokenEnd) (i : ℕ) (d : TokenEnd) → i < length ts
+    → drop i (tokens_cut text n ts) ≡ token_cut text (start_of n i ts) (get_or ts i d) ∷ drop (suc i) (tokens_cut text n ts)
+at_place text n [] i d h = absurd (omega arith)
+at_place text n (t ∷ ts) zero d h = refl
+at_place text n (t ∷ ts) (suc i) d h = at_place text t.end ts i d (omega arith)
 
 -- there is a token at each place within
-token_at : (ts : List PlacedToken) (i : ℕ) → i < length ts → (t : PlacedToken) × (drop i (map token_of ts) ≡ token_of t ∷ drop (suc i) (map token_of ts))
-token_at [] i h = absurd (omega arith)
-token_at (x ∷ xs) zero h = (x, refl)
-token_at (x ∷ xs) (suc i) h = token_at xs i (omega arith)
+token_there : (text : List ℕ) (n : ℕ) (ts : List TokenEnd) (i : ℕ) → i < length ts → (t : Token) × (drop i (tokens_cut text n ts) ≡ t ∷ drop (suc i) (tokens_cut text n ts))
+token_there text n [] i h = absurd (omega arith)
+token_there text n (t ∷ ts) zero h = (token_cut text n t, refl)
+token_there text n (t ∷ ts) (suc i) h = token_there text t.end ts i (omega arith)
 
 -- no token is behind the last
-pub behind_all : (ts : List PlacedToken) (i : ℕ) → length ts ≤ i → drop i (map token_of ts) ≡ []
-behind_all ts i h = drop_all i (map token_of ts) (omega (arith, length-map ts token_of))
+pub behind_all : (text : List ℕ) (ts : List TokenEnd) (i : ℕ) → length ts ≤ i → drop i (tokens_cut text 0 ts) ≡ []
+behind_all text ts i h = drop_all i (tokens_cut text 0 ts) (omega (arith, length-tokens_cut text 0 ts))
 
--- what is looked up there
-pub looked_up : (ts : List PlacedToken) (i : ℕ) (found : Option (Bor PlacedToken)) (copy : Option PlacedToken) → IfSome found (λ x. x.now ≡ get_or ts i x.now)
-    → is_some found ≡ ltb i (length ts) → copy ≡ option_copied found → option_map token_of copy ≡ head_of (drop i (map token_of ts))
-looked_up ts i None copy e h c = ap (option_map token_of) c ∙ sym (ap head_of (behind_all ts i (ltb-false i (length ts) (sym h))))
-looked_up ts i (Some x) copy e h c = ap (option_map token_of) c ∙ sym (ap head_of (at_place ts i x.now (ltb-true i (length ts) (sym h))) ∙ ap (λ y. Some (token_of y)) (sym e))
+-- a token begins where the one before it ends
+pub start_behind : (n : ℕ) (i : ℕ) (ts : List TokenEnd) (d : TokenEnd) → i < length ts → start_of n (suc i) ts ≡ (get_or ts i d).end
+start_behind n i [] d h = absurd (omega arith)
+start_behind n zero (t ∷ ts) d h = refl
+start_behind n (suc i) (t ∷ ts) d h = start_behind t.end i ts d (omega arith)
+
+-- where a token begins and ends the text may be cut
+pub record IsCut (text : List ℕ) (start end : ℕ) : Type 0 where
+  pub order : start ≤ end
+  pub at_start : IsCharBoundary text start
+  pub at_end : IsCharBoundary text end
+
+cut_from : (text : List ℕ) (n : ℕ) (ts : List TokenEnd) (i : ℕ) (d : TokenEnd) → IsCharBoundary text n → AreEnds text n ts → i < length ts → IsCut text (start_of n i ts) (get_or ts i d).end
+cut_from text n [] i d b e h = absurd (omega arith)
+cut_from text n (t ∷ ts) zero d b e h = record { order = e.0; at_start = b; at_end = e.1 }
+cut_from text n (t ∷ ts) (suc i) d b e h = cut_from text t.end ts i d e.1 e.2 (omega arith)
+
+-- and so for the tokens of a text from its start on
+pub cut_at_token : (text : List ℕ) (ts : List TokenEnd) (i : ℕ) (d : TokenEnd) → IsUtf8 text → AreEnds text 0 ts → i < length ts → IsCut text (start_of 0 i ts) (get_or ts i d).end
+cut_at_token text ts i d u e h = cut_from text 0 ts i d (IsCharBoundary-start text u) e h
+
+-- what is behind the first of the tokens of a text
+rest_behind : (text : List ℕ) (n : ℕ) (l : Lexeme) (ls : List Lexeme) → drop n text ≡ flat_map text_of (l ∷ ls) → drop (n + length l.1) text ≡ flat_map text_of ls
+rest_behind text n l ls h =
+    sym (drop-drop (length l.1) n text) ∙ ap (drop (length l.1)) (h ∙ flat_map-cons text_of l ls) ∙ drop-append_seam l.1 (flat_map text_of ls)
+
+-- the token of these parts
+abbrev pub token_with : SyntaxKind → List ℕ → ℕ → ℕ → Token
+token_with k text start end = record { kind = k; text = text; start = start; end = end }
+
+-- the parts of a text between its tokens' ends are the tokens' texts
+pub tokens_cut-placed : (text : List ℕ) (n : ℕ) (ls : List Lexeme) → drop n text ≡ flat_map text_of ls → tokens_cut text n (ends_from n ls) ≡ placed_from n ls
+tokens_cut-placed text n [] h = refl
+tokens_cut-placed text n (l ∷ ls) h =
+    let end : ℕ = n + length l.1 in
+    let cut : take (end - n) (drop n text) ≡ l.1 =
+    ap (λ k. take k (drop n text)) (add-sub_cancel_left n (length l.1)) ∙ ap (take (length l.1)) (h ∙ flat_map-cons text_of l ls) ∙ take-append_seam l.1 (flat_map text_of ls) in
+    ap (λ x. token_with l.0 x n end ∷ tokens_cut text end (ends_from end ls)) cut ∙ ap (λ x. token_with l.0 l.1 n end ∷ x) (tokens_cut-placed text end ls (rest_behind text n l ls h))
+
+-- what is cut out at a token's place is that token
+pub token_found : (text : List ℕ) (ts : List TokenEnd) (i : ℕ) (d : TokenEnd) (start : ℕ) (cut : List ℕ) → i < length ts → start ≡ start_of 0 i ts
+    → cut ≡ take ((get_or ts i d).end - start) (drop start text) → Some (token_with (get_or ts i d).kind cut start (get_or ts i d).end) ≡ head_of (drop i (tokens_cut text 0 ts))
+token_found text ts i d start cut h s e =
+    let t : TokenEnd = get_or ts i d in
+    ap (λ x. Some (token_with t.kind x start t.end)) e ∙ ap (λ n. Some (token_with t.kind (take (t.end - n) (drop n text)) n t.end)) s ∙ sym (ap head_of (at_place text 0 ts i d h))
+
+-- texts that are UTF-8 are so together
+joined_utf8 : (ls : List Lexeme) → All (λ t. IsUtf8 t.1) ls → IsUtf8 (flat_map text_of ls)
+joined_utf8 [] u = IsUtf8-nil
+joined_utf8 (l ∷ ls) u =
+    subst IsUtf8 (sym (flat_map-cons text_of l ls)) (IsUtf8-append l.1 (flat_map text_of ls) (All-head (λ t. IsUtf8 t.1) l ls u) (joined_utf8 ls (All-tail (λ t. IsUtf8 t.1) l ls u)))
+
+-- the text may be cut where its tokens end
+ends_cut : (text : List ℕ) (n : ℕ) (ls : List Lexeme) → n ≤ length text → drop n text ≡ flat_map text_of ls → All (λ t. IsUtf8 t.1) ls → AreEnds text n (ends_from n ls)
+ends_cut text n [] w h u = tt
+ends_cut text n (l ∷ ls) w h u =
+    let rest : drop (n + length l.1) text ≡ flat_map text_of ls = rest_behind text n l ls h in
+    let lengths : length text - n ≡ length (l.1 ++ flat_map text_of ls) = sym (length-drop n text) ∙ ap length (h ∙ flat_map-cons text_of l ls) in
+    let within : n + length l.1 ≤ length text = omega (arith, lengths, length-append l.1 (flat_map text_of ls)) in
+    let more : All (λ t. IsUtf8 t.1) ls = All-tail (λ t. IsUtf8 t.1) l ls u in
+    (omega arith, IsCharBoundary-from_drop text (n + length l.1) within (subst IsUtf8 (sym rest) (joined_utf8 ls more)), ends_cut text (n + length l.1) ls within rest more)
+
+-- so it is for all tokens of a text
+pub sound_ends : (text : List ℕ) (ls : List Lexeme) → AreSound text ls → AreEnds text 0 (ends_from 0 ls)
+sound_ends text ls s = ends_cut text 0 ls (omega arith) (sym s.joined) s.utf8
+
+pub sound_tokens : (text : List ℕ) (ls : List Lexeme) → AreSound text ls → tokens_cut text 0 (ends_from 0 ls) ≡ placed_from 0 ls
+sound_tokens text ls s = tokens_cut-placed text 0 ls (sym s.joined)
 
 -- a token that is trivia is passed, an item is not
 pub from_trivia : (ts : List Token) (t : Token) (more : List Token) → ts ≡ t ∷ more → is_trivia t.kind ≡ true → from_item ts ≡ from_item more
@@ -51,26 +126,26 @@ behind_first ts at next t more h d f n false e =
     absurd (omega (arith, length-drop at ts, length-drop next ts))
 
 -- where the next item stands, by the places in the list
-pub next_item : (ts : List PlacedToken) (at next : ℕ) → at < length ts → from_item (drop at (map token_of ts)) ≡ drop next (map token_of ts)
-    → from_item (drop (max next (suc at)) (map token_of ts)) ≡ from_item (drop (suc at) (map token_of ts))
-next_item ts at next h f = by (ltb at next) refl
+pub next_item : (text : List ℕ) (ts : List TokenEnd) (at next : ℕ) → at < length ts → from_item (drop at (tokens_cut text 0 ts)) ≡ drop next (tokens_cut text 0 ts)
+    → from_item (drop (max next (suc at)) (tokens_cut text 0 ts)) ≡ from_item (drop (suc at) (tokens_cut text 0 ts))
+next_item text ts at next h f = by (ltb at next) refl
   where
-    by : (b : Bool) → ltb at next ≡ b → from_item (drop (max next (suc at)) (map token_of ts)) ≡ from_item (drop (suc at) (map token_of ts))
+    by : (b : Bool) → ltb at next ≡ b → from_item (drop (max next (suc at)) (tokens_cut text 0 ts)) ≡ from_item (drop (suc at) (tokens_cut text 0 ts))
     by true e =
         let less : at < next = ltb-true at next e in
         let m : max next (suc at) ≡ next = omega arith in
-        let w = token_at ts at h in
-        ap (λ x. from_item (drop x (map token_of ts))) m
-        ∙ behind_first (map token_of ts) at next (token_of w.0) (drop (suc at) (map token_of ts)) (omega (arith, length-map ts token_of)) w.1 f less (is_trivia w.0.kind) refl
+        let w = token_there text 0 ts at h in
+        ap (λ x. from_item (drop x (tokens_cut text 0 ts))) m
+        ∙ behind_first (tokens_cut text 0 ts) at next w.0 (drop (suc at) (tokens_cut text 0 ts)) (omega (arith, length-tokens_cut text 0 ts)) w.1 f less (is_trivia w.0.kind) refl
     by false e =
         let less : next ≤ at = ltb-false at next e in
         let m : max next (suc at) ≡ suc at = omega arith in
-        ap (λ x. from_item (drop x (map token_of ts))) m
+        ap (λ x. from_item (drop x (tokens_cut text 0 ts))) m
 
 -- the tokens of a text are in order
-pub placed_in_order : (n : ℕ) (ls : List Lexeme) → AreInOrder n (placed_from n ls)
-placed_in_order n [] = tt
-placed_in_order n (l ∷ ls) = (omega arith, omega arith, placed_in_order (n + length l.1) ls)
+pub cut_in_order : (text : List ℕ) (n : ℕ) (ts : List TokenEnd) → AreEnds text n ts → AreInOrder n (tokens_cut text n ts)
+cut_in_order text n [] e = tt
+cut_in_order text n (t ∷ ts) e = (omega arith, e.0, cut_in_order text t.end ts e.2)
 
 -- tokens in order from a place are so from a place before it
 pub in_order_from : (m n : ℕ) (ts : List Token) → m ≤ n → AreInOrder n ts → AreInOrder m ts

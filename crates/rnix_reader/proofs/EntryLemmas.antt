@@ -9,10 +9,10 @@ use Rattle.rnix_grammar.specs.Machine.{Head, Node, Second, Operand, Frame, Machi
 use Rattle.rnix_reader.specs.declared.mark.Mark.{Mark}
 use Rattle.rnix_reader.specs.declared.names.NameSet.{NameSet}
 use Rattle.rnix_reader.specs.declared.names.Names.{Names}
-use Rattle.rnix_reader.specs.Names.{texts_of}
+use Rattle.rnix_reader.specs.Names.{texts_of, extents_of}
 use Rattle.rnix_reader.specs.State.{State, ended}
 use Rattle.rnix_reader.specs.Flat.{flat}
-use Rattle.rnix_reader.specs.Sorts.{Sort, Pattern, Entry, sort_of, sort_of_head, may_hold}
+use Rattle.rnix_grammar.specs.Sorts.{Sort, Pattern, Entry, sort_of, sort_of_head, may_hold, StandsOn}
 use Rattle.rnix_reader.specs.Holds.{AreFit, IsFit, IsBegun, Holding, EntryTold, told_of, text_of, range_of, name_of, entries_of, ranges_of, Tops, Known, KnownOn}
 use Rattle.rnix_reader.proofs.FlatLemmas.{flat-failed}
 use Rattle.rnix_reader.proofs.StepLemmas.{stands_of, done_node, is_node, is_root}
@@ -46,6 +46,11 @@ head_pattern Operand e = absurd (true_is_not_false (sym (ap is_pattern e)))
 pub holds_entry : (s : Sort) → may_hold s Entry ≡ true → s ≡ Pattern
 holds_entry Pattern e = refl
 holds_entry _ e = cc
+
+-- frames that fit stand on one another
+pub fit_stands : (f : Frame) (fs : List Frame) → AreFit f fs → StandsOn f.head f.place fs
+fit_stands f [] w = (w.0.sort, w.1)
+fit_stands f (g ∷ fs) w = (w.0.sort, w.1, fit_stands g fs w.2)
 
 -- the innermost of frames that fit does
 pub fit_first : (g : Frame) (fs : List Frame) → AreFit g fs → IsFit g
@@ -81,7 +86,7 @@ done_entry f (g ∷ fs) ts n m mark s names names' s' h e told =
     let t : Token = begun.0 in
     let named : name_of f.head f.row ≡ Some t = ap (λ x. name_of x f.row) entry ∙ begun.1 in
     let texts : texts_of names ≡ entries_of (g ∷ fs) ++ t.text ∷ [] = h.named.texts ∙ ap (λ x. entries_of (g ∷ fs) ++ text_of x) named in
-    let ranges : names.ranges.items ≡ ranges_of (g ∷ fs) ++ extent_of (t ∷ []) ∷ [] = h.named.ranges ∙ ap (λ x. ranges_of (g ∷ fs) ++ range_of x) named in
+    let ranges : extents_of names ≡ ranges_of (g ∷ fs) ++ extent_of (t ∷ []) ∷ [] = h.named.ranges ∙ ap (λ x. ranges_of (g ∷ fs) ++ range_of x) named in
     let done = told.closed.entered (entries_of (g ∷ fs)) t.text (ranges_of (g ∷ fs)) (extent_of (t ∷ [])) tops.below tops.set texts ranges tops.all in
     let fault : Fault = named_twice (extent_of (t ∷ [])) t.text in
     let again : told.again ≡ (if has_entry t.text (clean g.row) then Some fault else None) = done.3 ∙ ap (λ x. if x then Some fault else None) (tops.is t.text) in

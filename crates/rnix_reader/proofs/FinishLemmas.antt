@@ -8,35 +8,22 @@ use Rattle.rnix_grammar.specs.declared.place.Place.TheVariants as p
 use Rattle.rnix_grammar.specs.Fault.{Fault}
 use Rattle.rnix_grammar.specs.Sketch.{Token, Sketch, forget, head_kind}
 use Rattle.rnix_grammar.specs.Layout.{items, from_item}
-use Rattle.rnix_grammar.specs.Machine.{Head, Node, Second, Operand, Frame, Machine, machine, begins, opened, ate, Runs}
+use Rattle.rnix_grammar.specs.Machine.{Head, Node, Frame, Machine, machine, begins, opened, ate, Runs}
+use Rattle.rnix_lemmas.proofs.PlaceLemmas.{head_root, root_alone}
+use Rattle.rnix_reader.proofs.EntryLemmas.{fit_stands}
 use Rattle.rnix_reader.specs.declared.mark.Mark.{Mark}
 use Rattle.rnix_reader.specs.declared.names.Names.{Names}
 use Rattle.rnix_reader.specs.State.{State, eaten, ended}
 use Rattle.rnix_reader.specs.Flat.{flat_with, popped}
-use Rattle.rnix_reader.specs.Sorts.{Sort, Root, sort_of, sort_of_head, may_hold}
-use Rattle.rnix_reader.specs.Holds.{AreFit, Holding, IsReadTo}
+use Rattle.rnix_grammar.specs.Sorts.{Root, sort_of}
+use Rattle.rnix_reader.specs.Holds.{Holding, IsReadTo}
 use Rattle.rnix_reader.proofs.FlatLemmas.{flat-eaten}
 use Rattle.rnix_reader.proofs.StateLemmas.{state_is}
-use Rattle.rnix_reader.proofs.StepLemmas.{stands_of, open_there, is_node, is_root}
+use Rattle.rnix_reader.proofs.StepLemmas.{stands_of, open_there, is_node}
 use Rattle.rnix_reader.proofs.RunLemmas.{no_items}
 
 true_is_not_false : true ≡ false → ⊥
 true_is_not_false e = cc
-
-head_root : (h : Head) → sort_of_head h ≡ Root → h ≡ Node NODE_ROOT
-head_root (Node NODE_ROOT) e = refl
-head_root (Node k) e = absurd (true_is_not_false (sym (ap is_root e)))
-head_root Second e = absurd (true_is_not_false (sym (ap is_root e)))
-head_root Operand e = absurd (true_is_not_false (sym (ap is_root e)))
-
--- nothing holds the root
-no_holder : (s : Sort) → may_hold s Root ≡ false
-no_holder Root = refl
-no_holder _ = cc
-
-alone : (f : Frame) (fs : List Frame) → AreFit f fs → sort_of f.place ≡ Root → fs ≡ []
-alone f [] w e = refl
-alone f (g ∷ fs) w e = absurd (true_is_not_false (sym w.1 ∙ ap (may_hold (sort_of g.place)) e ∙ no_holder (sort_of g.place)))
 
 -- the root over all trees
 root_ended : (h : Head) (place : Place) (d : ℕ) (row : Sketch) (ms : List Mark) (ts : List Token) (n : ℕ) (es : List Fault) → h ≡ Node NODE_ROOT
@@ -58,7 +45,7 @@ pub finished : (f : Frame) (fs : List Frame) (ts : List Token) (n : ℕ) (m : Ma
 finished f fs ts n m mark s names h al start runs s2 e =
     let st = stands_of f fs ts n m mark s names h in
     let root : sort_of f.place ≡ Root = ap sort_of al.0 in
-    let none : fs ≡ [] = alone f fs h.well.fit root in
+    let none : fs ≡ [] = root_alone f.head f.place fs (fit_stands f fs h.well.fit) root in
     let head : f.head ≡ Node NODE_ROOT = head_root f.head (st.sort ∙ root) in
     let left : m.left ≡ ts = ap (λ x. x.left) h.machine_is in
     let row : Sketch = ate true f.row ts in

@@ -13,10 +13,10 @@ use Rattle.rnix_grammar.specs.Layout.{items, from_item}
 use Rattle.rnix_grammar.specs.Machine.{Head, Node, Second, Operand, Frame, Machine, put, opened, ate, leaf, behind, reach, run_row, run_rest, made, machine, closed, limited, begun, operand_on, reading}
 use Rattle.rnix_grammar.specs.Begins.{second_kind}
 use Rattle.rnix_lemmas.proofs.Basics.{choice}
+use Rattle.rnix_lemmas.proofs.PlaceLemmas.{BeginsInner, begin_inner}
 use Rattle.rnix_reader.specs.declared.names.Names.{Names}
 use Rattle.rnix_reader.specs.Placed.{AreInOrder}
-use Rattle.rnix_reader.specs.Sorts.{Sort, Again, Loose, Plain, sort_of, sort_of_head, sort_of_node, may_hold}
-use Rattle.rnix_reader.specs.Allowed.{is_open}
+use Rattle.rnix_grammar.specs.Sorts.{Sort, Again, Loose, Plain, sort_of, sort_of_head, sort_of_node, may_hold, is_open}
 use Rattle.rnix_reader.specs.Holds.{BeginsAt, EndsAt, IsWell, AreNamed, NamesFor, opens_pattern, opens_on}
 use Rattle.rnix_reader.proofs.EntryLemmas.{fit_first}
 use Rattle.rnix_reader.proofs.OrderLemmas.{order_from, order_behind, order_all}
@@ -68,11 +68,6 @@ pub holds_open : (s t : Sort) → may_hold s t ≡ true → is_open s ≡ true
 holds_open Again t e = absurd (true_is_not_false (sym e))
 holds_open s t e = refl
 
--- what holds an operand is no pattern, and may hold a node
-pub open_holds : (s : Sort) → is_open s ≡ true → may_hold s Plain ≡ true
-open_holds Again e = absurd (true_is_not_false (sym e))
-open_holds _ e = cc
-
 -- a frame without names is complete
 pub closed_goes : (f g : Frame) (fs : List Frame) (ts : List Token) (n : ℕ) (es : List Fault) (names : Names) → is_bare (sort_of f.place) ≡ true → Kept f (g ∷ fs) names → AreInOrder n ts
     → Goes (closed f (g ∷ fs) ts n es) names
@@ -84,27 +79,12 @@ abbrev pub BeginFits : Begin → Type 0
 BeginFits (b.Node k place high) = (sort_of_node k ≡ Plain) × (sort_of place ≡ Plain)
 BeginFits begin = Unit {0}
 
-name_fits : (text : List ℕ) (second : Option SyntaxKind) → BeginFits (begin_name text second)
-name_fits text None = choice BeginFits (is_cur_pos text) tt tt
-name_fits text (Some TOKEN_COLON) = tt
-name_fits text (Some TOKEN_AT) = tt
-name_fits text (Some kind) = choice BeginFits (is_cur_pos text) tt tt
-
-let_fits : (second : Option SyntaxKind) → BeginFits (begin_let second)
-let_fits None = (refl, refl)
-let_fits (Some TOKEN_L_BRACE) = tt
-let_fits (Some kind) = (refl, refl)
+begin_plain : (second : Option SyntaxKind) (begin : Begin) → BeginsInner second begin → BeginFits begin
+begin_plain second (b.Node k place high) h = h
+begin_plain second _ h = tt
 
 pub begin_fits : (level : ℕ) (kind : SyntaxKind) (text : List ℕ) (second third : Option SyntaxKind) → BeginFits (begin_of level kind text second third)
-begin_fits level TOKEN_IDENT text second third = name_fits text second
-begin_fits level TOKEN_L_BRACE text second third = choice BeginFits (is_pattern second third) tt (refl, refl)
-begin_fits level TOKEN_INVERT text second third = choice BeginFits (nat_le level 9) (refl, refl) tt
-begin_fits level TOKEN_SUB text second third = choice BeginFits (nat_le level 14) (refl, refl) tt
-begin_fits level TOKEN_LET text second third = choice BeginFits (nat_eq level 0) (let_fits second) tt
-begin_fits level TOKEN_WITH text second third = choice BeginFits (nat_eq level 0) (refl, refl) tt
-begin_fits level TOKEN_ASSERT text second third = choice BeginFits (nat_eq level 0) (refl, refl) tt
-begin_fits level TOKEN_IF text second third = choice BeginFits (nat_eq level 0) (refl, refl) tt
-begin_fits level _ text second third = assumption
+begin_fits level kind text second third = begin_plain second (begin_of level kind text second third) (begin_inner level kind text second third)
 
 -- equal names serve as well
 pub same_names : (m : Machine) (names names' : Names) → names' ≡ names → Goes m names → Goes m names'

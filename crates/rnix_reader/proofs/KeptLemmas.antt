@@ -12,8 +12,8 @@ use Rattle.rnix_grammar.specs.Reports.{entry_name}
 use Rattle.rnix_grammar.specs.Machine.{Head, Node, Second, Operand, Frame, put, opened, ate, made}
 use Rattle.rnix_reader.specs.declared.names.NameSet.{NameSet}
 use Rattle.rnix_reader.specs.declared.names.Names.{Names}
-use Rattle.rnix_reader.specs.Names.{texts_of, PatternOpened, PatternClosed, EntryOpened, EntryClosed}
-use Rattle.rnix_reader.specs.Sorts.{Sort, Root, Pattern, Entry, Again, Loose, Plain, sort_of, sort_of_head, sort_of_node, may_hold}
+use Rattle.rnix_reader.specs.Names.{texts_of, extents_of, PatternOpened, PatternClosed, EntryOpened, EntryClosed}
+use Rattle.rnix_grammar.specs.Sorts.{Sort, Root, Pattern, Entry, Again, Loose, Plain, sort_of, sort_of_head, sort_of_node, may_hold}
 use Rattle.rnix_reader.specs.Holds.{AreFit, IsFit, IsBegun, text_of, range_of, name_of, entries_of, ranges_of, Tops, Known, KnownOn}
 use Rattle.rnix_reader.proofs.EntryLemmas.{known_pattern, known_entry as known_in_entry, fit_first}
 use Rattle.rnix_reader.proofs.RowLemmas.{HasNoEntry, no_entry_trivia, is_pattern_sort, begun_more, name_more, known_more, known_entry}
@@ -26,7 +26,7 @@ pub record Kept (f : Frame) (fs : List Frame) (names : Names) : Type 0 where
   pub fit : AreFit f fs
   pub sets : Known (f ∷ fs) names.sets.items
   pub texts : texts_of names ≡ entries_of (f ∷ fs)
-  pub ranges : names.ranges.items ≡ ranges_of (f ∷ fs)
+  pub ranges : extents_of names ≡ ranges_of (f ∷ fs)
 
 -- what a frame stands on
 abbrev pub Under : Sort → List Frame → Type 0
@@ -156,7 +156,7 @@ push_entry f fs names names' d row t m e o w = record {
 }
 
 -- the same names
-pub renamed : (f : Frame) (fs : List Frame) (names names' : Names) → names'.sets.items ≡ names.sets.items → texts_of names' ≡ texts_of names → names'.ranges.items ≡ names.ranges.items
+pub renamed : (f : Frame) (fs : List Frame) (names names' : Names) → names'.sets.items ≡ names.sets.items → texts_of names' ≡ texts_of names → extents_of names' ≡ extents_of names
     → Kept f fs names → Kept f fs names'
 renamed f fs names names' s t r w = record { fit = w.fit; sets = subst (Known (f ∷ fs)) (sym s) w.sets; texts = t ∙ w.texts; ranges = r ∙ w.ranges }
 
@@ -218,7 +218,7 @@ pop_entry f g fs names names' again entry pattern c w =
     let t : Token = begun.0 in
     let named : name_of f.head f.row ≡ Some t = ap (λ x. name_of x f.row) entry ∙ begun.1 in
     let texts : texts_of names ≡ entries_of (g ∷ fs) ++ t.text ∷ [] = w.texts ∙ ap (λ x. entries_of (g ∷ fs) ++ text_of x) named in
-    let ranges : names.ranges.items ≡ ranges_of (g ∷ fs) ++ extent_of (t ∷ []) ∷ [] = w.ranges ∙ ap (λ x. ranges_of (g ∷ fs) ++ range_of x) named in
+    let ranges : extents_of names ≡ ranges_of (g ∷ fs) ++ extent_of (t ∷ []) ∷ [] = w.ranges ∙ ap (λ x. ranges_of (g ∷ fs) ++ range_of x) named in
     let done = c.entered (entries_of (g ∷ fs)) t.text (ranges_of (g ∷ fs)) (extent_of (t ∷ [])) tops.below tops.set texts ranges tops.all in
     let same = name_more g.head g.row (made f.head f.row) (fit_first g fs w.fit.2).begun in
     record {

@@ -3,7 +3,6 @@ pub mod StateLemmas
 pub mod RunLemmas
 pub mod FlatLemmas
 pub mod NameLemmas
-pub mod AllowedLemmas
 pub mod BegunLemmas
 pub mod StepLemmas
 pub mod EntryLemmas
@@ -17,5 +16,4 @@ pub mod LoopLemmas
 pub mod FinishLemmas
 pub mod DocumentLemmas
 pub mod BeginLemmas
-pub mod RootedFrames
 pub mod EachText

@@ -11,11 +11,11 @@ use Rattle.rnix_lemmas.proofs.Basics.{not_nil}
 use Rattle.rnix_reader.specs.declared.mark.Mark.{Mark}
 use Rattle.rnix_reader.specs.declared.names.Names.{Names}
 use Rattle.rnix_reader.specs.Placed.{AreInOrder}
-use Rattle.rnix_reader.specs.Names.{texts_of}
+use Rattle.rnix_reader.specs.Names.{texts_of, extents_of}
 use Rattle.rnix_reader.specs.State.{State}
 use Rattle.rnix_reader.specs.Flat.{marks_of, mark_of, flat, popped}
 use Rattle.rnix_reader.specs.Holds.{Holds, Holding, IsHolding, NamesAfter, action_of, is_finish, work}
-use Rattle.rnix_reader.specs.Allowed.{Allowed}
+use Rattle.rnix_grammar.specs.Allowed.{Allowed}
 use Rattle.rnix_reader.proofs.StepLemmas.{given, step_is}
 use Rattle.rnix_reader.proofs.KeptLemmas.{Kept}
 use Rattle.rnix_reader.proofs.GoesLemmas.{Goes}
@@ -28,7 +28,7 @@ runs_on raw a m rest = then rest
 runs_on raw a m (then r) = then (runs_on raw (step raw a) m r)
 
 -- the text is about to be read
-pub starts : (s : State) (names : Names) → s ≡ flat (begins s.rest) → AreInOrder 0 s.rest → names.sets.items ≡ [] → texts_of names ≡ [] → names.ranges.items ≡ []
+pub starts : (s : State) (names : Names) → s ≡ flat (begins s.rest) → AreInOrder 0 s.rest → names.sets.items ≡ [] → texts_of names ≡ [] → extents_of names ≡ []
     → Holds (begins s.rest) s names
 starts s names e o k t r = record {
   top = opened (Node NODE_ROOT) p.RootStart 0 blank;

@@ -1,5 +1,5 @@
 -- What each action makes of the frames.
-use Rattle.std.proofs.Common.{◌≡◌, ◌≤◌, ℕ, true, false, List, [], ◌∷◌, ◌++◌, Option, Some, None, refl, ap, sym, ◌∙◌, subst, arith, append-nil}
+use Rattle.std.proofs.Common.{◌≡◌, ◌≤◌, ℕ, true, false, List, [], ◌∷◌, ◌++◌, Option, Some, refl, ap, sym, ◌∙◌, subst, arith, append-nil}
 use Rattle.rnix_kinds.specs.declared.kinds.SyntaxKind.{SyntaxKind}
 use Rattle.rnix_kinds.specs.declared.kinds.SyntaxKind.TheVariants.{NODE_ERROR, NODE_IDENT, NODE_PAT_ENTRY, NODE_APPLY}
 use Rattle.rnix_grammar.specs.declared.place.Place.{Place}
@@ -15,27 +15,23 @@ use Rattle.rnix_grammar.specs.Missing.{run_of}
 use Rattle.rnix_lemmas.proofs.SketchLemmas.{tokens_in-row_of}
 use Rattle.rnix_lemmas.proofs.CleanLemmas.{leaf_clean, reach_items, run_prefix, run_bared}
 use Rattle.rnix_lemmas.proofs.LayoutLemmas.{first_item, clean-trivia}
+use Rattle.rnix_lemmas.proofs.PlaceLemmas.{open_holds, next_sort}
 use Rattle.rnix_reader.specs.declared.names.Names.{Names}
 use Rattle.rnix_reader.specs.Names.{PatternClosed, EntryClosed, EntryOpened}
 use Rattle.rnix_reader.specs.Placed.{AreInOrder}
 use Rattle.rnix_reader.specs.Flat.{mark_of, popped}
-use Rattle.rnix_reader.specs.Sorts.{Pattern, Entry, Again, Loose, sort_of, may_hold}
-use Rattle.rnix_reader.specs.Allowed.{Allowed, IsNext, is_there, is_open}
+use Rattle.rnix_grammar.specs.Sorts.{Pattern, Entry, Again, Loose, sort_of, may_hold, is_open}
+use Rattle.rnix_grammar.specs.Allowed.{Allowed, is_there}
 use Rattle.rnix_reader.specs.Holds.{IsBegun, BeginsAt, EndsAt, NamesAfter, TwiceOpened, is_finish}
 use Rattle.rnix_reader.proofs.StepLemmas.{head_loose, is_root}
 use Rattle.rnix_reader.proofs.EntryLemmas.{fit_first, head_entry, head_pattern, holds_entry}
 use Rattle.rnix_reader.proofs.OrderLemmas.{order_from, order_behind, reach_least, order_run, order_all}
 use Rattle.rnix_reader.proofs.RowLemmas.{HasNoEntry, no_entry_leaf, no_entry_fault, begun_more, begins_more, ends_more}
 use Rattle.rnix_reader.proofs.KeptLemmas.{Kept, is_bare, moved_on, grow_trivia, grow_behind, push_node, push_second, push_entry, renamed, instead, pop_pattern, pop_entry}
-use Rattle.rnix_reader.proofs.GoesLemmas.{Goes, goes, goes_open, holds_open, open_holds, closed_goes, same_names, reading_goes}
+use Rattle.rnix_reader.proofs.GoesLemmas.{Goes, goes, goes_open, holds_open, closed_goes, same_names, reading_goes}
 
 true_is_not_false : true ≡ false → ⊥
 true_is_not_false e = cc
-
--- the next place is of the same sort
-same_sort : (place after : Place) (next : Option SyntaxKind) → IsNext place next after → sort_of after ≡ sort_of place
-same_sort place after None h = h.0
-same_sort place after (Some kind) h = h
 
 -- a frame is complete
 closing : (f : Frame) (fs : List Frame) (ts : List Token) (n : ℕ) (es : List Fault) (names : Names) → is_bare (sort_of f.place) ≡ true → is_root (sort_of f.place) ≡ false
@@ -142,16 +138,16 @@ perform_goes a.Extra f fs ts n es names names' w e i o al g k =
     (goes_open (put f.place (ate true f.row ts ⊕ fault) f) fs (run_rest true (items ts) ts) (end_from n (items ts)) _ names (ap is_open al.1)
     (grow_behind f fs names f.place ts fault refl (λ q. no_entry_fault Extra (run_row true (items ts) ts)) w) (order_all n ts o).0)
 perform_goes (a.Take after) f fs ts n es names names' w e i o al g k =
-    let same = same_sort f.place after (head_kind (items ts)) al.1 in
+    let same = next_sort f.place after (head_kind (items ts)) al.1 in
     same_names (perform true (a.Take after) f fs ts n es) names names' k
     (goes_open (put after (ate true f.row ts ⊕ leaf true (kind_of f.head) ts) f) fs (behind true ts) (reach true n ts) es names (ap is_open same ∙ al.2)
     (grow_behind f fs names after ts (leaf true (kind_of f.head) ts) same (λ q. no_entry_leaf (kind_of f.head) ts) w) (order_behind n ts o))
 perform_goes (a.Miss after) f fs ts n es names names' w e i o al g k =
     same_names (perform true (a.Miss after) f fs ts n es) names names' k
-    (goes (put after f.row f) fs ts n _ names (moved_on f fs names after (same_sort f.place after (head_kind (items ts)) al.1) w) e i o)
+    (goes (put after f.row f) fs ts n _ names (moved_on f fs names after (next_sort f.place after (head_kind (items ts)) al.1) w) e i o)
 perform_goes (a.MissWanted until after) f fs ts n es names names' w e i o al g k =
     same_names (perform true (a.MissWanted until after) f fs ts n es) names names' k
-    (goes (put after f.row f) fs ts n _ names (moved_on f fs names after (same_sort f.place after (head_kind (items ts)) al.1) w) e i o)
+    (goes (put after f.row f) fs ts n _ names (moved_on f fs names after (next_sort f.place after (head_kind (items ts)) al.1) w) e i o)
 perform_goes (a.Run until after) f fs ts n es names names' w e i o al g k =
     let run : List Token = run_of until (items ts) in
     let fault : Sketch = one_fault (Unwanted until) (run_row true run ts) in
@@ -159,7 +155,7 @@ perform_goes (a.Run until after) f fs ts n es names names' w e i o al g k =
     let begun : IsBegun f.head f.row = (fit_first f fs w.fit).begun in
     same_names (perform true (a.Run until after) f fs ts n es) names names' k
     (goes (put after (ate true f.row ts ⊕ fault) f) fs (run_rest true run ts) (end_from n run) _ names
-    (grow_behind f fs names after ts fault (same_sort f.place after (head_kind (items ts)) al.1) (λ q. no_entry_fault (Unwanted until) (run_row true run ts)) w)
+    (grow_behind f fs names after ts fault (next_sort f.place after (head_kind (items ts)) al.1) (λ q. no_entry_fault (Unwanted until) (run_row true run ts)) w)
     (ends_behind n (end_from n run) f.head f.row ts fault run begun e (run_tokens (Unwanted until) run (dropped run (items ts)) ts (run_prefix until (items ts))) refl all.1)
     (begins_behind names.second f.head f.row ts fault begun i) all.0)
 perform_goes (a.Leaf j after) f fs ts n es names names' w e i o al g k =
@@ -167,12 +163,12 @@ perform_goes (a.Leaf j after) f fs ts n es names names' w e i o al g k =
     let begun : IsBegun f.head f.row = (fit_first f fs w.fit).begun in
     same_names (perform true (a.Leaf j after) f fs ts n es) names names' k
     (goes (put after (ate true f.row ts ⊕ row) f) fs (behind true ts) (reach true n ts) es names
-    (grow_behind f fs names after ts row (same_sort f.place after (head_kind (items ts)) al.1)
+    (grow_behind f fs names after ts row (next_sort f.place after (head_kind (items ts)) al.1)
     (λ q. subst (λ x. HasNoEntry (one_branch x (leaf true x ts))) (sym al.2) (λ name. refl)) w)
     (ends_behind n (reach true n ts) f.head f.row ts row (firsts (items ts)) begun e (append-nil (tokens_in (clean (leaf true j ts))) ∙ leaf_tokens j ts) (leaf_end n ts) (reach_least n ts o))
     (begins_behind names.second f.head f.row ts row begun i) (order_behind n ts o))
 perform_goes (a.Open j inside after) f fs ts n es names names' w e i o al g k =
-    let same = same_sort f.place after (head_kind (items ts)) al.1 in
+    let same = next_sort f.place after (head_kind (items ts)) al.1 in
     let h : Frame = put after (ate true f.row ts) f in
     same_names (perform true (a.Open j inside after) f fs ts n es) names names' k
     (goes_open (opened (Node j) inside f.depth (leaf true j ts)) (h ∷ fs) (behind true ts) (reach true n ts) es names (ap is_open al.3)
@@ -183,11 +179,11 @@ perform_goes (a.Begin j inside after) f fs ts n es names names' w e i o al g k =
     (goes_open (opened (Node j) inside f.depth blank) (h ∷ fs) (from_item ts) n es names (ap is_open al.2)
     (push_node h fs names j inside f.depth blank al.1 al.2 (open_holds (sort_of after) (ap is_open al.0 ∙ al.3)) (grow_trivia f fs names after ts al.0 w)) (order_from n ts o))
 perform_goes (a.Entry after) f fs ts n es names names' w e i o al g k =
-    entry_goes after f fs ts (items ts) n es names names' w o refl (ap is_there al.0) (same_sort f.place after (head_kind (items ts)) al.1) al.2 k
+    entry_goes after f fs ts (items ts) n es names names' w o refl (ap is_there al.0) (next_sort f.place after (head_kind (items ts)) al.1) al.2 k
 perform_goes (a.Twice after) f fs ts n es names names' w e i o al g k =
-    twice_goes after f fs ts (items ts) n es names names' w o refl al.0 (same_sort f.place after (head_kind (items ts)) al.1) al.2 k
+    twice_goes after f fs ts (items ts) n es names names' w o refl al.0 (next_sort f.place after (head_kind (items ts)) al.1) al.2 k
 perform_goes (a.Read level counted after) f fs ts n es names names' w e i o al g k =
-    let same = same_sort f.place after (head_kind (items ts)) al.0 in
+    let same = next_sort f.place after (head_kind (items ts)) al.0 in
     reading_goes level counted (put after f.row f) fs ts n es names names' (moved_on f fs names after same w) (ap (λ x. may_hold x Loose) same ∙ al.1) o k
 perform_goes (a.Wrap j inside high) f fs ts n es names names' w e i o al g k =
     let over : Frame = opened Operand (p.Behind (low_of f.place) high) f.depth blank in

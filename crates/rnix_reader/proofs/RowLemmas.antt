@@ -14,7 +14,7 @@ use Rattle.rnix_lemmas.proofs.LayoutLemmas.{clean-⊕, clean-trivia}
 use Rattle.rnix_lemmas.proofs.StrictParts.{end_behind}
 use Rattle.rnix_reader.specs.declared.names.NameSet.{NameSet}
 use Rattle.rnix_reader.specs.Names.{has_name}
-use Rattle.rnix_reader.specs.Sorts.{Sort, Pattern, sort_of_head}
+use Rattle.rnix_grammar.specs.Sorts.{Sort, Pattern, sort_of_head}
 use Rattle.rnix_reader.specs.Holds.{IsBegun, EndsAt, BeginsAt, name_of, KnownOn}
 
 true_is_not_false : true ≡ false → ⊥

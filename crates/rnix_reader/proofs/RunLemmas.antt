@@ -24,7 +24,7 @@ use Rattle.rnix_lemmas.proofs.RunLemmas.{run_begins}
 use Rattle.rnix_reader.specs.declared.cursor.PlacedToken.{PlacedToken}
 use Rattle.rnix_reader.specs.declared.mark.Mark.{Mark}
 use Rattle.rnix_reader.specs.Steps.{moved}
-use Rattle.rnix_reader.specs.Allowed.{is_there}
+use Rattle.rnix_grammar.specs.Allowed.{is_there}
 use Rattle.rnix_reader.specs.Placed.{token_of, AreInOrder}
 use Rattle.rnix_reader.specs.State.{State, items_left, eaten, bumped, skipped, started, started_at, ended, failed, marked}
 use Rattle.rnix_reader.proofs.CursorLemmas.{in_order_from}

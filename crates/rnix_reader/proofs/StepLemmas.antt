@@ -25,11 +25,11 @@ use Rattle.rnix_reader.specs.declared.mark.Mark.{Mark}
 use Rattle.rnix_reader.specs.State.{State, bumped, skipped, started, started_at, ended, failed, marked}
 use Rattle.rnix_reader.specs.Steps.{moved, noded}
 use Rattle.rnix_reader.specs.Flat.{trees_of, nodes_of, mark_of, mark_at, opened_on, flat, popped}
-use Rattle.rnix_reader.specs.Sorts.{Sort, Name, Root, Again, Loose, sort_of, sort_of_head, sort_of_node}
+use Rattle.rnix_grammar.specs.Sorts.{Sort, Name, Root, Again, Loose, sort_of, sort_of_head, sort_of_node}
 use Rattle.rnix_reader.specs.declared.names.Names.{Names}
-use Rattle.rnix_reader.specs.Allowed.{Allowed}
+use Rattle.rnix_grammar.specs.Allowed.{Allowed}
 use Rattle.rnix_reader.specs.Holds.{AreFit, BeginsAt, EndsAt, Holding, IsHolding, action_of, is_finish}
-use Rattle.rnix_reader.proofs.AllowedLemmas.{allowed}
+use Rattle.rnix_lemmas.proofs.AllowedLemmas.{allowed}
 use Rattle.rnix_reader.proofs.FlatLemmas.{flat-bumped, flat-marked, flat-leaf, flat-run, flat-closed, flat-twice, flat-settled, flat-opened, flat-wrapped, flat-started_at, flat-failed}
 use Rattle.rnix_reader.proofs.BegunLemmas.{first_row, name_row}
 

@@ -7,10 +7,13 @@ use Rattle.rnix_grammar.specs.declared.place.Place.TheVariants as p
 use Rattle.rnix_grammar.specs.declared.until.Until.{Until}
 use Rattle.rnix_grammar.specs.declared.action.Action.{Action}
 use Rattle.rnix_grammar.specs.declared.action.Action.TheVariants as a
+use Rattle.rnix_grammar.specs.declared.slot.Slot.{Slot}
+use Rattle.rnix_grammar.specs.declared.slot.Slot.TheVariants as s
 use Rattle.rnix_grammar.specs.declared.begin.Begin.{Begin}
 use Rattle.rnix_grammar.specs.declared.begin.Begin.TheVariants as b
 use Rattle.rnix_grammar.specs.Fault.{Fault}
 use Rattle.rnix_grammar.specs.Tables.{stops, depth_limit}
+use Rattle.rnix_grammar.specs.Slots.{slot_at}
 use Rattle.rnix_grammar.specs.Begins.{begin_of}
 use Rattle.rnix_grammar.specs.Sketch.{Token, blank, head_kind}
 use Rattle.rnix_grammar.specs.Layout.{items, from_item, tail_of}
@@ -21,10 +24,14 @@ use Rattle.rnix_lemmas.proofs.LayoutLemmas.{items-from_item}
 use Rattle.rnix_lemmas.proofs.CleanLemmas.{items_behind, run_prefix, all_prefix, run_bared}
 use Rattle.rnix_lemmas.proofs.RunLemmas.{dropped_all, run_begins}
 use Rattle.rnix_reader.specs.declared.mark.Mark.{Mark}
-use Rattle.rnix_reader.specs.Sorts.{Sort, Plain, sort_of, weight, bonus}
-use Rattle.rnix_reader.specs.Allowed.{Allowed, IsNext, is_there}
+use Rattle.rnix_grammar.specs.Sorts.{Sort, Plain, sort_of, sort_in}
+use Rattle.rnix_grammar.specs.Weights.{weight, bonus_in, bonus}
+use Rattle.rnix_grammar.specs.Allowed.{Allowed, IsNext, is_there}
 use Rattle.rnix_reader.specs.Flat.{marks_of, mark_of, flat}
 use Rattle.rnix_reader.specs.Holds.{AreFit, is_finish, weights, bonus_on, work}
+use Rattle.rnix_lemmas.proofs.PlaceLemmas.{root_lowest}
+use Rattle.rnix_lemmas.proofs.AllowedLemmas.{sort_there, weight_there}
+use Rattle.rnix_reader.proofs.EntryLemmas.{fit_stands}
 use Rattle.rnix_reader.proofs.StepLemmas.{is_root}
 use Rattle.rnix_reader.proofs.RunLemmas.{no_items}
 
@@ -32,36 +39,31 @@ true_is_not_false : true ≡ false → ⊥
 true_is_not_false e = cc
 
 -- weights are small, and not nothing
-weight_least : (place : Place) → nat_le 1 (weight place) ≡ true
-weight_least p.RootStart = refl
-weight_least place = refl
-
-weight_test : (place : Place) → nat_le (weight place) 7 ≡ true
-weight_test p.RootStart = refl
-weight_test place = refl
-
-bonus_test : (place : Place) → nat_le (bonus place) 30 ≡ true
-bonus_test p.ValuePath = refl
-bonus_test place = refl
-
 weight_some : (place : Place) → 1 ≤ weight place
-weight_some place = leb-true 1 (weight place) (weight_least place)
+weight_some place = leb-true 1 (weight place) (weight_there place).1
 
 weight_most : (place : Place) → weight place ≤ 7
-weight_most place = leb-true (weight place) 7 (weight_test place)
+weight_most place = leb-true (weight place) 7 (weight_there place).2
+
+bonus_test : (slot : Slot) → nat_le (bonus_in slot) 30 ≡ true
+bonus_test s.Done = refl
+bonus_test slot = refl
 
 bonus_most : (place : Place) → bonus place ≤ 30
-bonus_most place = leb-true (bonus place) 30 (bonus_test place)
+bonus_most place = leb-true (bonus place) 30 (bonus_test (slot_at place))
 
 abbrev is_plain : Sort → Bool
 is_plain Plain = true
-is_plain s = false
+is_plain sort = false
 
 -- only in a plain node may a node begin without an item
 bonus_full : (place : Place) → is_plain (sort_of place) ≡ false → bonus place ≡ 30
-bonus_full p.ValuePath e = absurd (true_is_not_false e)
-bonus_full p.AttrpathStart e = absurd (true_is_not_false e)
-bonus_full place e = refl
+bonus_full place e = by (slot_at place) (sort_there place)
+  where
+    by : (slot : Slot) → sort_of place ≡ sort_in slot (sort_of place) → bonus_in slot ≡ 30
+    by (s.Attrpath behind) h = absurd (true_is_not_false (sym (ap is_plain h) ∙ e))
+    by (s.Attr behind) h = absurd (true_is_not_false (sym (ap is_plain h) ∙ e))
+    by slot h = refl
 
 -- what frames and items cost
 abbrev pub weight_of : List Frame → ℕ
@@ -273,5 +275,4 @@ perform_less a.ApplyOr f fs ts n es w al g =
 
 -- frames that fit stand on the root
 pub fit_bottom : (f : Frame) (fs : List Frame) → AreFit f fs → fs ≡ [] → is_root (sort_of f.place) ≡ true
-fit_bottom f [] w e = ap is_root w.1
-fit_bottom f (g ∷ fs) w e = absurd (cc)
+fit_bottom f fs w e = ap is_root (root_lowest f.head f.place fs (fit_stands f fs w) e).1

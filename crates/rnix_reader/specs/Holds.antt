@@ -20,11 +20,12 @@ use Rattle.rnix_reader.specs.declared.mark.Mark.{Mark}
 use Rattle.rnix_reader.specs.declared.names.NameSet.{NameSet}
 use Rattle.rnix_reader.specs.declared.names.Names.{Names}
 use Rattle.rnix_reader.specs.Placed.{AreInOrder}
-use Rattle.rnix_reader.specs.Names.{has_name, texts_of, PatternOpened, PatternClosed, EntryNamed, EntryClosed}
+use Rattle.rnix_reader.specs.Names.{has_name, texts_of, extents_of, PatternOpened, PatternClosed, EntryNamed, EntryClosed}
 use Rattle.rnix_reader.specs.State.{State, items_left, IsNextItem, ended, failed}
 use Rattle.rnix_reader.specs.Steps.{begins_with}
 use Rattle.rnix_reader.specs.Flat.{flat, popped, mark_of}
-use Rattle.rnix_reader.specs.Sorts.{sort_of, sort_of_head, may_hold, weight, bonus, Root}
+use Rattle.rnix_grammar.specs.Sorts.{sort_of, sort_of_head, may_hold, Root}
+use Rattle.rnix_grammar.specs.Weights.{weight, bonus}
 
 -- an entry begins with its name, and a second name with a token
 abbrev pub IsBegun : Head → Sketch → Type 0
@@ -109,7 +110,7 @@ BeginsAt n head row = Unit {0}
 pub record AreNamed (names : Names) (f : Frame) (fs : List Frame) : Type 0 where
   pub sets : Known (f ∷ fs) names.sets.items
   pub texts : texts_of names ≡ entries_of (f ∷ fs)
-  pub ranges : names.ranges.items ≡ ranges_of (f ∷ fs)
+  pub ranges : extents_of names ≡ ranges_of (f ∷ fs)
   pub second : BeginsAt names.second f.head f.row
 
 -- the reader stands where the machine does
@@ -195,7 +196,7 @@ pub record EntryTold (s : State) (n : Names) (s' : State) (n' : Names) : Type 0 
 pub record TwiceOpened (start : ℕ) (n n' : Names) : Type 0 where
   pub sets : n'.sets.items ≡ n.sets.items
   pub texts : texts_of n' ≡ texts_of n
-  pub ranges : n'.ranges.items ≡ n.ranges.items
+  pub ranges : extents_of n' ≡ extents_of n
   pub second : n'.second ≡ start
 
 -- what a step makes of the names, by the state before it

@@ -4,7 +4,5 @@ pub mod Names
 pub mod Flat
 pub mod Steps
 pub mod Reported
-pub mod Sorts
-pub mod Allowed
 pub mod Holds
 pub mod Simulates

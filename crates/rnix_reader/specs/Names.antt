@@ -4,7 +4,7 @@ use Rattle.std.specs.BTreeSet.{contains_by}
 use Rattle.std.specs.Cmp.Lexicographic.{slice_cmp}
 use Rattle.std.specs.Ordering.{nat_cmp}
 use Rattle.std.specs.Str.{bytes_eq}
-use Rattle.rnix_tree.specs.Range.{Extent}
+use Rattle.rnix_tree.specs.Range.{Extent, bounds_of}
 use Rattle.rnix_grammar.specs.Fault.{Fault, named_twice}
 use Rattle.rnix_grammar.specs.Sketch.{Token}
 use Rattle.rnix_reader.specs.declared.names.NameSet.{NameSet}
@@ -22,27 +22,31 @@ has_with other text s = if bytes_eq text other then true else has_name other s
 abbrev pub texts_of : Names → List (List ℕ)
 texts_of n = map (λ x. x.now) n.entries.items
 
+-- their ranges
+abbrev pub extents_of : Names → List Extent
+extents_of n = map bounds_of n.ranges.items
+
 -- a pattern is open, with no names
 pub record PatternOpened (n n' : Names) : Type 0 where
   pub set : NameSet
   pub none : (name : List ℕ) → has_name name set ≡ false
   pub sets : n'.sets.items ≡ n.sets.items ++ set ∷ []
   pub entries : texts_of n' ≡ texts_of n
-  pub ranges : n'.ranges.items ≡ n.ranges.items
+  pub ranges : extents_of n' ≡ extents_of n
   pub second : n'.second ≡ n.second
 
 -- the innermost pattern is complete
 pub record PatternClosed (n n' : Names) : Type 0 where
   pub sets : (below : List NameSet) (s : NameSet) → n.sets.items ≡ below ++ s ∷ [] → n'.sets.items ≡ below
   pub entries : texts_of n' ≡ texts_of n
-  pub ranges : n'.ranges.items ≡ n.ranges.items
+  pub ranges : extents_of n' ≡ extents_of n
   pub second : n'.second ≡ n.second
 
 -- an entry is open
 pub record EntryOpened (text : List ℕ) (range : Extent) (n n' : Names) : Type 0 where
   pub sets : n'.sets.items ≡ n.sets.items
   pub entries : texts_of n' ≡ texts_of n ++ text ∷ []
-  pub ranges : n'.ranges.items ≡ n.ranges.items ++ range ∷ []
+  pub ranges : extents_of n' ≡ extents_of n ++ range ∷ []
   pub second : n'.second ≡ n.second
 
 -- the entry that begins with this token is open
@@ -58,6 +62,6 @@ pub record Entered (text : List ℕ) (below : List NameSet) (s : NameSet) (n' : 
 -- an entry is complete, and an error is told if it repeats a name
 pub record EntryClosed (again : Option Fault) (n n' : Names) : Type 0 where
   pub entered : (texts : List (List ℕ)) (text : List ℕ) (ranges : List Extent) (range : Extent) (below : List NameSet) (s : NameSet)
-      → texts_of n ≡ texts ++ text ∷ [] → n.ranges.items ≡ ranges ++ range ∷ [] → n.sets.items ≡ below ++ s ∷ []
-      → Entered text below s n' × (texts_of n' ≡ texts) × (n'.ranges.items ≡ ranges) × (again ≡ (if has_name text s then Some (named_twice range text) else None))
+      → texts_of n ≡ texts ++ text ∷ [] → extents_of n ≡ ranges ++ range ∷ [] → n.sets.items ≡ below ++ s ∷ []
+      → Entered text below s n' × (texts_of n' ≡ texts) × (extents_of n' ≡ ranges) × (again ≡ (if has_name text s then Some (named_twice range text) else None))
   pub second : n'.second ≡ n.second

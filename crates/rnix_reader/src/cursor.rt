@@ -1,13 +1,16 @@
 //! The tokens of a text, and how far they are read.
 
-ghost use Rattle.std.specs.Prelude.{◌≡◌, drop, map, IfOk, option_map};
+ghost use Rattle.std.specs.Prelude.{◌≡◌, ◌≤◌, ℕ, List, length, drop, IfOk, option_map};
 ghost use Rattle.rnix_grammar.specs.Sketch.{placed_from, head_of, head_kind};
 ghost use Rattle.rnix_grammar.specs.Layout.{from_item, tail_of, items};
-ghost use Rattle.rnix_reader.specs.Placed.{token_of, AreInOrder, IsCursor};
+ghost use Rattle.rnix_reader.specs.Placed.{token_of, ends_from, tokens_cut, start_of, AreEnds, AreInOrder, IsCursor};
 
 use rnix_kinds::{SyntaxKind, Tokenizer};
 use std::alloc::{AllocError, Global};
 use std::marker::Model;
+
+// How many bytes of text there is room for a token by, before the tokens are counted.
+const BYTES_PER_TOKEN: usize = 2;
 
 /// A token, and the bytes that it takes.
 #[derive(Clone, Copy)]
@@ -18,59 +21,89 @@ pub(crate) struct PlacedToken<'t> {
     pub(crate) end: usize,
 }
 
+// A token as it is kept: it begins where the one before it ends.
+#[derive(Clone, Copy)]
+struct TokenEnd {
+    kind: SyntaxKind,
+    end: usize,
+}
+
 /// The tokens that are left.
 #[derive(Drop)]
 pub(crate) struct Cursor<'t> {
-    tokens: Vec<PlacedToken<'t>>,
+    text: &'t str,
+    tokens: Vec<TokenEnd>,
     at: usize,
     // Where the next item is, so that looking at it does not go over trivia again.
     next: usize,
 }
 
 impl<'t> Model for Cursor<'t> {
-    ghost use Rattle.std.specs.Prelude.{List, map, drop};
+    ghost use Rattle.std.specs.Prelude.{List, drop};
     ghost use Rattle.rnix_grammar.specs.Sketch.{Token};
-    ghost use Rattle.rnix_reader.specs.Placed.{token_of, tokens_code, IsCursor};
+    ghost use Rattle.rnix_reader.specs.Placed.{tokens_code, tokens_cut, IsCursor};
 
     ghost Value = { List Token };
 
     ghost coded = { tokens_code };
 
-    ghost view = { λ c. drop c.at (map token_of c.tokens.items) };
+    ghost view = { λ c. drop c.at (tokens_cut c.text.now 0 c.tokens.items) };
 
-    ghost invariant = { λ c. IsCursor (map token_of c.tokens.items) c.at c.next };
+    ghost invariant = { λ c. IsCursor c.text.now c.tokens.items c.at c.next };
 }
 
-// The tokens, each with the bytes that it takes.
-fn placed_tokens(alloc: Global, tokens: Tokenizer<'_>) -> Result<Vec<PlacedToken<'_>>, AllocError>
-    ensures { IfOk result (λ placed. map token_of placed.items ≡ placed_from 0 tokens.entry) }
+// The kinds and the ends of the tokens.
+fn token_ends(alloc: Global, tokens: Tokenizer<'_>) -> Result<Vec<TokenEnd>, AllocError>
+    ensures { IfOk result (λ ends. ends.items ≡ ends_from 0 tokens.entry) }
 {
     let mut tokens = tokens;
-    let _whole = tokens.rest().len();
-    let mut placed = Vec::new(alloc);
-    let mut start = 0;
+    let whole = tokens.rest().len();
+    let mut ends = Vec::with_capacity(alloc, whole / BYTES_PER_TOKEN)?;
+    let mut end = 0;
     while let Some(token) = tokens.next_token() {
         let (kind, text) = token?;
-        let end = start + text.len();
-        placed.push(PlacedToken {
+        end += text.len();
+        ends.push(TokenEnd { kind, end })?;
+    }
+    Ok(ends)
+}
+
+// Where the token at a place begins.
+fn start_at(tokens: &[TokenEnd], at: usize) -> usize
+    requires { at ≤ length tokens.now }
+    ensures { result ≡ start_of 0 at tokens.now }
+{
+    if at == 0 {
+        return 0;
+    }
+    tokens[at - 1].end
+}
+
+// The token of the text at a place.
+fn token_at<'t>(text: &'t str, tokens: &[TokenEnd], at: usize) -> Option<PlacedToken<'t>>
+    requires { AreEnds text.now 0 tokens.now }
+    ensures { option_map token_of result ≡ head_of (drop at (tokens_cut text.now 0 tokens.now)) }
+{
+    if at < tokens.len() {
+        let TokenEnd { kind, end } = tokens[at];
+        let start = start_at(tokens, at);
+        return Some(PlacedToken {
             kind,
-            text,
+            text: &text[start..end],
             start,
             end,
-        })?;
-        start = end;
+        });
     }
-    Ok(placed)
+    None
 }
 
 // Where the first item from a place on is.
-fn item_from(tokens: &[PlacedToken<'_>], from: usize) -> usize
-    ensures { from_item (drop from (map token_of tokens.now)) ≡ drop result (map token_of tokens.now) }
+fn item_from(tokens: &[TokenEnd], from: usize) -> usize
+    ensures { (text : List ℕ) → from_item (drop from (tokens_cut text 0 tokens.now)) ≡ drop result (tokens_cut text 0 tokens.now) }
 {
     let mut at = from;
     while at < tokens.len() {
-        let token = tokens[at];
-        if !token.kind.is_trivia() {
+        if !tokens[at].kind.is_trivia() {
             return at;
         }
         at += 1;
@@ -79,8 +112,9 @@ fn item_from(tokens: &[PlacedToken<'_>], from: usize) -> usize
 }
 
 // Where the item after an item is.
-fn behind_item(tokens: &[PlacedToken<'_>], at: usize) -> usize
-    ensures { from_item (tail_of (drop at (map token_of tokens.now))) ≡ drop result (map token_of tokens.now) }
+fn behind_item(tokens: &[TokenEnd], at: usize) -> usize
+    ensures { (text : List ℕ) →
+        from_item (tail_of (drop at (tokens_cut text 0 tokens.now))) ≡ drop result (tokens_cut text 0 tokens.now) }
 {
     if at < tokens.len() {
         return item_from(tokens, at + 1);
@@ -89,8 +123,8 @@ fn behind_item(tokens: &[PlacedToken<'_>], at: usize) -> usize
 }
 
 // The kind of the token at a place.
-fn kind_at(tokens: &[PlacedToken<'_>], at: usize) -> Option<SyntaxKind>
-    ensures { result ≡ head_kind (drop at (map token_of tokens.now)) }
+fn kind_at(tokens: &[TokenEnd], at: usize) -> Option<SyntaxKind>
+    ensures { (text : List ℕ) → result ≡ head_kind (drop at (tokens_cut text 0 tokens.now)) }
 {
     if at < tokens.len() {
         return Some(tokens[at].kind);
@@ -103,27 +137,43 @@ impl<'t> Cursor<'t> {
     pub(crate) fn new(alloc: Global, tokens: Tokenizer<'t>) -> Result<Self, AllocError>
         ensures { IfOk result (λ cursor. cursor ≡ placed_from 0 tokens.entry) }
     {
-        let tokens = placed_tokens(alloc, tokens)?;
+        let text = tokens.rest();
+        let tokens = token_ends(alloc, tokens)?;
         let next = item_from(&tokens, 0);
         Ok(Cursor {
+            text,
             tokens,
             at: 0,
             next,
         })
     }
 
+    /// How many tokens are left.
+    pub(crate) fn len(&self) -> usize
+        ensures { result ≡ length self.now }
+    {
+        self.tokens.len().saturating_sub(self.at)
+    }
+
     /// The next token.
     pub(crate) fn token(&self) -> Option<PlacedToken<'t>>
         ensures { option_map token_of result ≡ head_of self.now }
     {
-        self.tokens.get(self.at).copied()
+        token_at(self.text, &self.tokens, self.at)
     }
 
     /// The next token that is not trivia.
     pub(crate) fn item(&self) -> Option<PlacedToken<'t>>
         ensures { option_map token_of result ≡ head_of (from_item self.now) }
     {
-        self.tokens.get(self.next).copied()
+        token_at(self.text, &self.tokens, self.next)
+    }
+
+    /// The kind of the next item.
+    pub(crate) fn first(&self) -> Option<SyntaxKind>
+        ensures { result ≡ head_kind (items self.now) }
+    {
+        kind_at(&self.tokens, self.next)
     }
 
     /// The kind of the second item.

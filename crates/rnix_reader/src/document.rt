@@ -13,6 +13,9 @@ use rnix_kinds::{SyntaxKind, Tokenizer};
 use rnix_tree::{GreenNode, GreenNodeBuilder};
 use std::alloc::{AllocError, Global};
 
+// How many elements of the tree there is room for, for each token.
+const ELEMENTS_PER_TOKEN: usize = 2;
+
 /// Reads the tokens that are left: their tree, with a NODE_ROOT at its top, and the errors in the order in which they were found. Ranges are
 /// bytes from the first of these tokens on.
 pub fn read_tokens(
@@ -21,10 +24,13 @@ pub fn read_tokens(
 ) -> Result<(GreenNode, Vec<ParseError>), AllocError>
     ensures { IfOk result (λ read. IsRead tokens.entry read.0 (map fault_of read.1.items)) }
 {
+    let bytes = tokens.rest().len();
     let cursor = Cursor::new(alloc, tokens)?;
+    let mut builder = GreenNodeBuilder::new(alloc);
+    builder.reserve(cursor.len().saturating_mul(ELEMENTS_PER_TOKEN), bytes)?;
     let mut p = Parser {
         cursor,
-        builder: GreenNodeBuilder::new(alloc),
+        builder,
         errors: Vec::new(alloc),
         reached: 0,
         marks: Vec::new(alloc),
@@ -36,12 +42,15 @@ pub fn read_tokens(
     p.ordered();
     read_all(&mut p, &mut names)?;
     let Parser {
-        cursor: _,
+        cursor,
         builder,
         errors,
         reached: _,
-        marks: _,
+        marks,
     } = p;
+    drop(cursor);
+    drop(marks);
+    drop(names);
     let tree = builder.finish()?;
     Ok((tree, errors))
 }

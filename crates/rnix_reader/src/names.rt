@@ -1,8 +1,9 @@
 //! The names of the patterns that are being read.
 
 ghost use Rattle.std.specs.Prelude.{◌≡◌, [], ℕ, List, IfOk, OnOk, option_map, false};
+ghost use Rattle.rnix_tree.specs.Range.{bounds_of};
 ghost use Rattle.rnix_grammar.specs.Fault.{fault_of};
-ghost use Rattle.rnix_reader.specs.Names.{has_name, has_with, PatternOpened, PatternClosed, EntryOpened, EntryClosed};
+ghost use Rattle.rnix_reader.specs.Names.{has_name, has_with, extents_of, PatternOpened, PatternClosed, EntryOpened, EntryClosed};
 
 use rnix_grammar::ParseError;
 use rnix_tree::TextRange;
@@ -58,7 +59,7 @@ impl<'t> Names<'t> {
     pub(crate) fn new(alloc: Global) -> Self
         ensures sets { result.sets.items ≡ [] }
         ensures entries { result.entries.items ≡ [] }
-        ensures ranges { result.ranges.items ≡ [] }
+        ensures ranges { extents_of result ≡ [] }
     {
         Names {
             sets: Vec::new(alloc),
@@ -86,7 +87,7 @@ impl<'t> Names<'t> {
 
     /// Opens an entry.
     pub(crate) fn open_entry(&mut self, text: &'t str, range: TextRange) -> Result<(), AllocError>
-        ensures { OnOk result (EntryOpened text.now range self.old self.new) }
+        ensures { OnOk result (EntryOpened text.now (bounds_of range) self.old self.new) }
     {
         self.entries.push(text)?;
         self.ranges.push(range)?;

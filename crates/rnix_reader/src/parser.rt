@@ -40,10 +40,7 @@ impl<'t> Parser<'t> {
     pub(crate) fn peek(&self) -> Option<SyntaxKind>
         ensures { result ≡ head_kind (items_left (state self.now)) }
     {
-        match self.item() {
-            Some(item) => Some(item.kind),
-            None => None,
-        }
+        self.cursor.first()
     }
 
     /// Whether no trivia stand between the last item and the next.

@@ -8,8 +8,8 @@ ghost use Rattle.rnix_reader.specs.Placed.{token_of, AreInOrder};
 ghost use Rattle.rnix_reader.specs.State.{state, items_left, IsNextItem};
 ghost use Rattle.rnix_reader.specs.Steps.{moved, entry_begun, second_begun};
 ghost use Rattle.rnix_reader.specs.Flat.{flat};
-ghost use Rattle.rnix_reader.specs.Names.{texts_of, EntryNamed};
-ghost use Rattle.rnix_reader.specs.Allowed.{is_there};
+ghost use Rattle.rnix_reader.specs.Names.{texts_of, extents_of, EntryNamed};
+ghost use Rattle.rnix_grammar.specs.Allowed.{is_there};
 ghost use Rattle.rnix_reader.specs.Holds.{IsHolding, NamesAfter, IsReadTo, EntryTold, TwiceOpened, action_of, is_finish, opens_pattern, opens_on, NamesFor, opens_at};
 ghost use Rattle.rnix_reader.specs.Simulates.{Simulates, SimulatesAt, SimulatesStep, operand_next};
 ghost use Rattle.rnix_reader.specs.Reported.{reported, run_reported, second_reported};
@@ -278,7 +278,7 @@ pub(crate) fn read_all<'t>(p: &mut Parser<'t>, names: &mut Names<'t>) -> Result<
     requires order { AreInOrder 0 (state p.old).rest }
     requires sets { names.old.sets.items ≡ [] }
     requires texts { texts_of names.old ≡ [] }
-    requires ranges { names.old.ranges.items ≡ [] }
+    requires ranges { extents_of names.old ≡ [] }
     ensures { OnOk result (IsReadTo (state p.old).rest (state p.new)) }
 {
     while let Some(mark) = p.marks.pop() {

@@ -1,6 +1,7 @@
 //! Nodes that are read at once: over one item, and over runs of items that are not wanted.
 
 ghost use Rattle.std.specs.Prelude.{◌≡◌, IfOk, OnOk, false, Some};
+ghost use Rattle.rnix_tree.specs.Range.{bounds_of};
 ghost use Rattle.rnix_grammar.specs.Tables.{stops};
 ghost use Rattle.rnix_grammar.specs.Sketch.{Unwanted, Extra, extent_of};
 ghost use Rattle.rnix_reader.specs.Placed.{token_of};
@@ -10,6 +11,7 @@ ghost use Rattle.rnix_reader.specs.Steps.{leafed};
 
 use crate::cursor::PlacedToken;
 use crate::parser::Parser;
+use crate::told::told_as;
 use rnix_grammar::{ParseError, Until, operand_kinds, stops, wanted_kinds};
 use rnix_kinds::SyntaxKind;
 use rnix_tree::TextRange;
@@ -21,8 +23,15 @@ impl<'t> Parser<'t> {
         ensures state { OnOk result (state self.new ≡ leafed kind (state self.old)) }
         ensures nodes { OnOk result (self.new.builder.open_nodes ≡ self.old.builder.open_nodes) }
     {
-        self.start_node(kind)?;
-        self.bump(kind)?;
+        self.eat_trivia()?;
+        if let Some(token) = self.cursor.token() {
+            let told = told_as(kind, token.kind);
+            self.builder.leaf_node(kind, told, token.text)?;
+            self.cursor.advance();
+            self.reached = token.end;
+            return Ok(());
+        }
+        self.builder.start_node(kind)?;
         self.finish_node()?;
         Ok(())
     }
@@ -46,7 +55,7 @@ impl<'t> Parser<'t> {
         requires first { IsNextItem (token_of first) (state self.old) }
         requires unwanted { stops until (Some first.kind) ≡ false }
         ensures state { OnOk result (state self.new ≡ error_over (next_run until (state self.old)) (state self.old)) }
-        ensures range { IfOk result (λ range. range ≡ extent_of (next_run until (state self.old))) }
+        ensures range { IfOk result (λ range. bounds_of range ≡ extent_of (next_run until (state self.old))) }
     {
         self.ordered();
         self.start_node(SyntaxKind::NODE_ERROR)?;

@@ -1,8 +1,13 @@
-use Rattle.std.proofs.Common.{ap, ◌∙◌, add-one, map}
-use Rattle.rnix_grammar.specs.Layout.{from_item}
-use Rattle.rnix_reader.specs.Placed.{token_of}
-use Rattle.rnix_reader.proofs.CursorLemmas.{tail-drop}
+use Rattle.std.proofs.Common.{ap, sym, ◌∙◌, add-one, arith}
+use Rattle.rnix_grammar.specs.Layout.{from_item, tail_of}
+use Rattle.rnix_reader.specs.Placed.{tokens_cut}
+use Rattle.rnix_reader.proofs.CursorLemmas.{behind_all, tail-drop}
 use Rattle.rnix_reader.proofs.cursor.behind_item.Goals as goal
 
 pub returns-then-at-tokens : goal.returns-then-at-tokens
-returns-then-at-tokens c = ap from_item (tail-drop c.args.at (map token_of c.args.tokens.now)) ∙ (rw (add-one) at c.item_from.ensures)
+returns-then-at-tokens c text = ap from_item (tail-drop c.args.at (tokens_cut text 0 c.args.tokens.now)) ∙ (rw (add-one) at (c.item_from.ensures text))
+
+pub returns : goal.returns
+returns c text =
+    let none = behind_all text c.args.tokens.now c.args.at (omega (arith, c.if-at-tokens.false)) in
+    ap (λ x. from_item (tail_of x)) none ∙ sym none

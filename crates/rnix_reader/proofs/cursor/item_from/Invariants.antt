@@ -1,10 +1,10 @@
-use Rattle.std.proofs.Common.{◌≡◌, ◌-◌, length, drop, map}
+use Rattle.std.proofs.Common.{◌≡◌, ◌-◌, ℕ, List, length, drop}
 use Rattle.rnix_grammar.specs.Layout.{from_item}
-use Rattle.rnix_reader.specs.Placed.{token_of}
+use Rattle.rnix_reader.specs.Placed.{tokens_cut}
 use Rattle.rnix_reader.proofs.cursor.item_from.Given as goal
 
 abbrev pub invariant-loop-at : goal.invariant-loop-at
-invariant-loop-at l = from_item (drop l.at (map token_of l.tokens)) ≡ from_item (drop l.from (map token_of l.tokens))
+invariant-loop-at l = (text : List ℕ) → from_item (drop l.at (tokens_cut text 0 l.tokens)) ≡ from_item (drop l.from (tokens_cut text 0 l.tokens))
 
 abbrev pub decreases-loop-at : goal.decreases-loop-at
 decreases-loop-at l = length l.tokens - l.at

@@ -5,8 +5,8 @@ use Rattle.rnix_reader.proofs.document.read_tokens.Goals as goal
 
 pub read_all-requires-clause-state : goal.read_all-requires-clause-state
 read_all-requires-clause-state c =
-    opened_root c.in_ok-cursor.cursor c.start_node.new.self c.new-2.result c.new-3.result.items c.new-4.result.items c.here-at.result (state c.mark.new.self) c.new-2.ensures
-    c.in_ok-start_node.ensures.ok c.new-3.ensures.items c.new-4.ensures.items c.here-at.ensures.place c.in_ok-mark.ensures.state
+    opened_root c.in_ok-cursor.cursor c.start_node.new.self c.reserve.new.self c.new-2.result.items c.new-3.result.items c.here-at.result (state c.mark.new.self)
+    (c.reserve.ensures ∙ c.new-builder.ensures) c.in_ok-start_node.ensures.ok c.new-2.ensures.items c.new-3.ensures.items c.here-at.ensures.place c.in_ok-mark.ensures.state
 
 pub returns : goal.returns
 returns c =

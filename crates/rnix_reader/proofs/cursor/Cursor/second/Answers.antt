@@ -5,5 +5,6 @@ use Rattle.rnix_reader.proofs.cursor.Cursor.second.Goals as goal
 
 pub returns : goal.returns
 returns c =
-    (rw (c.deref.ensures.value) at c.kind_at.ensures)
-    ∙ behind_first_item c.args.self.now _ _ (ap from_item (sym c.self.view_is) ∙ c.self.invariant.item) (rw (c.deref-2.ensures.value) at c.behind_item.ensures)
+    let text = c.self.inside.text.now in
+    (rw (c.deref.ensures.value) at (c.kind_at.ensures text))
+    ∙ behind_first_item c.args.self.now _ _ (ap from_item (sym c.self.view_is) ∙ c.self.invariant.item) (rw (c.deref-2.ensures.value) at (c.behind_item.ensures text))

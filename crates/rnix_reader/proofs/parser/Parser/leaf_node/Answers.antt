@@ -1,9 +1,24 @@
-use Rattle.std.proofs.Common.{ap, ◌∙◌}
-use Rattle.rnix_reader.specs.State.{state, ended, bumped}
+use Rattle.std.proofs.Common.{ap, refl, ◌∙◌}
+use Rattle.rnix_tree.specs.Draft.{leaf_added, node_opened, node_closed}
+use Rattle.rnix_tree.specs.Forest.{tree_count}
+use Rattle.rnix_reader.specs.Placed.{token_of}
+use Rattle.rnix_reader.specs.State.{state}
 use Rattle.rnix_reader.proofs.BeginLemmas.{leaf_nodes}
+use Rattle.rnix_reader.proofs.StateLemmas.{first_there, none_there, leafed-item, leafed-end}
 use Rattle.rnix_reader.proofs.parser.Parser.leaf_node.Goals as goal
 
+pub returns-in-Some-clause-state : goal.returns-in-Some-clause-state
+returns-in-Some-clause-state c =
+    let b = c.eat_trivia.new.self.builder in
+    leafed-item c.args.kind (state c.args.self.now) (state c.eat_trivia.new.self) _ (token_of c.in-Some.token) _ c.in_ok-eat_trivia.ensures.state
+    (first_there _ _ _ c.token.ensures c.in-Some.is)
+    (c.in_ok-leaf_node.ensures.ok ∙ ap (λ k. node_closed (leaf_added k c.in-Some.token.text.now (node_opened c.args.kind (tree_count b.finished) b))) c.told_as-told.ensures)
+    c.advance.ensures refl refl refl refl refl
+
+pub returns-clause-state : goal.returns-clause-state
+returns-clause-state c =
+    leafed-end c.args.kind (state c.args.self.now) (state c.eat_trivia.new.self) _ _ _ c.in_ok-eat_trivia.ensures.state (none_there _ _ c.token.ensures c.in_default.is)
+    c.in_ok-start_node.ensures.ok refl refl refl refl refl refl c.in_ok-finish_node.ensures
+
 pub returns-clause-nodes : goal.returns-clause-nodes
-returns-clause-nodes c =
-    leaf_nodes c.args.kind (state c.args.self.now) _
-    (c.in_ok-finish_node.ensures ∙ ap ended (c.in_ok-bump.ensures.state ∙ ap (bumped c.args.kind) c.in_ok-start_node.ensures.state))
+returns-clause-nodes c = leaf_nodes c.args.kind (state c.args.self.now) _ (returns-clause-state c)
