@@ -1,37 +1,33 @@
 -- No operator is that of two kinds.
-use Rattle.std.specs.Prelude.{◌≡◌, Option, Some, None}
+use Rattle.std.specs.Prelude.{◌≡◌, ℕ, Bool, false, Option, Some, None, find, nat_eq}
+use Rattle.std.specs.Option.{unwrap_or}
 use Rattle.std.proofs.Common.{ap, sym, refl, ◌∙◌}
 use Rattle.rnix_kinds.specs.declared.kinds.SyntaxKind.{SyntaxKind}
 use Rattle.rnix_kinds.specs.declared.kinds.SyntaxKind.TheVariants as k
+use Rattle.rnix_kinds.proofs.AllKinds.{all_kinds}
+use denote.Enum.Declared.{tag_of}
+use Rattle.rnix_base.specs.contracts.operators.BinOpKind.{the_type as binary_type}
+use Rattle.rnix_base.specs.contracts.operators.UnaryOpKind.{the_type as unary_type}
 use Rattle.rnix_base.specs.declared.operators.BinOpKind.{BinOpKind}
 use Rattle.rnix_base.specs.declared.operators.BinOpKind.TheVariants as b
 use Rattle.rnix_base.specs.declared.operators.UnaryOpKind.{UnaryOpKind}
 use Rattle.rnix_base.specs.declared.operators.UnaryOpKind.TheVariants as u
 use Rattle.rnix_base.specs.Operators.{binary_operator, unary_operator, EachHasOneKind}
 
--- the kind of an operator's tokens
+-- the operator is this one, by its number
+abbrev is_of : {A : Type 0} → (A → ℕ) → A → Option A → Bool
+is_of number a None = false
+is_of number a (Some b) = nat_eq (number a) (number b)
+
+-- the first kind whose tokens stand for an operator
+abbrev first_kind : {A : Type 0} → (A → ℕ) → (SyntaxKind → Option A) → A → SyntaxKind
+first_kind number operator a = unwrap_or (find (λ k. is_of number a (operator k)) all_kinds) k.TOKEN_ERROR
+
 abbrev binary_kind : BinOpKind → SyntaxKind
-binary_kind b.Concat = k.TOKEN_CONCAT
-binary_kind b.Update = k.TOKEN_UPDATE
-binary_kind b.Add = k.TOKEN_ADD
-binary_kind b.Sub = k.TOKEN_SUB
-binary_kind b.Mul = k.TOKEN_MUL
-binary_kind b.Div = k.TOKEN_DIV
-binary_kind b.And = k.TOKEN_AND_AND
-binary_kind b.Equal = k.TOKEN_EQUAL
-binary_kind b.Implication = k.TOKEN_IMPLICATION
-binary_kind b.Less = k.TOKEN_LESS
-binary_kind b.LessOrEq = k.TOKEN_LESS_OR_EQ
-binary_kind b.More = k.TOKEN_MORE
-binary_kind b.MoreOrEq = k.TOKEN_MORE_OR_EQ
-binary_kind b.NotEqual = k.TOKEN_NOT_EQUAL
-binary_kind b.Or = k.TOKEN_OR_OR
-binary_kind b.PipeRight = k.TOKEN_PIPE_RIGHT
-binary_kind b.PipeLeft = k.TOKEN_PIPE_LEFT
+binary_kind = first_kind (tag_of binary_type) binary_operator
 
 abbrev unary_kind : UnaryOpKind → SyntaxKind
-unary_kind u.Invert = k.TOKEN_INVERT
-unary_kind u.Negate = k.TOKEN_SUB
+unary_kind = first_kind (tag_of unary_type) unary_operator
 
 -- the kind of what is there
 abbrev kind_in : {A : Type 0} → (A → SyntaxKind) → Option A → SyntaxKind

@@ -3,15 +3,15 @@ use Rattle.std.proofs.Common.{◌≡◌, ℕ, ◌≤◌, Bool, true, false, List
 use Rattle.std.specs.Prelude.{if◌then◌else◌, nat_eq, nat_le}
 use Rattle.std.proofs.lemmas.Bool.Decides.{nat_tests}
 use Rattle.rnix_kinds.specs.declared.kinds.SyntaxKind.{SyntaxKind}
-use Rattle.rnix_kinds.specs.declared.kinds.SyntaxKind.TheVariants.{TOKEN_L_PAREN, TOKEN_L_BRACK, TOKEN_REC, TOKEN_STRING_START, TOKEN_PATH_ABS, TOKEN_PATH_REL, TOKEN_PATH_HOME, TOKEN_PATH_SEARCH, TOKEN_FLOAT, TOKEN_INTEGER, TOKEN_URI, TOKEN_IDENT, TOKEN_CUR_POS, TOKEN_L_BRACE, TOKEN_COLON, TOKEN_AT, TOKEN_LET, TOKEN_WITH, TOKEN_ASSERT, TOKEN_IF, TOKEN_INVERT, TOKEN_SUB, NODE_ASSERT, NODE_ATTR_SET, NODE_CUR_POS, NODE_IDENT, NODE_IF_ELSE, NODE_UNARY_OP, NODE_WITH, NODE_ROOT, NODE_ATTRPATH, NODE_ATTRPATH_VALUE}
+use Rattle.rnix_kinds.specs.declared.kinds.SyntaxKind.TheVariants.{TOKEN_L_PAREN, TOKEN_L_BRACK, TOKEN_REC, TOKEN_STRING_START, TOKEN_PATH_ABS, TOKEN_PATH_REL, TOKEN_PATH_HOME, TOKEN_PATH_SEARCH, TOKEN_FLOAT, TOKEN_INTEGER, TOKEN_URI, TOKEN_IDENT, TOKEN_CUR_POS, TOKEN_L_BRACE, TOKEN_COLON, TOKEN_AT, TOKEN_LET, TOKEN_INVERT, TOKEN_SUB, NODE_ATTR_SET, NODE_CUR_POS, NODE_IDENT, NODE_UNARY_OP, NODE_ROOT, NODE_ATTRPATH, NODE_ATTRPATH_VALUE}
 use Rattle.rnix_grammar.specs.declared.place.Place.{Place}
 use Rattle.rnix_grammar.specs.declared.place.Place.TheVariants as p
 use Rattle.rnix_grammar.specs.declared.begin.Begin.{Begin}
 use Rattle.rnix_grammar.specs.declared.begin.Begin.TheVariants as b
-use Rattle.rnix_grammar.specs.Begins.{is_pattern, begin_name, begin_let, begin_of}
+use Rattle.rnix_grammar.specs.Begins.{is_pattern, begin_name, begin_let, begin_keyword, begin_scope, begin_of}
 use Rattle.rnix_grammar.specs.Tables.{is_cur_pos}
 use Rattle.rnix_grammar.specs.Sketch.{Token, Sketch, blank, token, one_token, one_branch, told_as}
-use Rattle.rnix_grammar.specs.Rows.{is_atom, is_expression, fits, Start, At, go, start}
+use Rattle.rnix_grammar.specs.Rows.{is_atom, is_expression, is_loose, fits, Start, At, go, start}
 use Rattle.rnix_grammar.specs.TokenKinds.{is_or}
 use Rattle.rnix_grammar.specs.TreeLevels.{is_or_row, level_of}
 use Rattle.rnix_grammar.specs.Operands.{first_tree}
@@ -134,9 +134,40 @@ negate_begins level true second e = record {
 }
 negate_begins level false second e = tt
 
-let_begins : (level : ℕ) (second : Option SyntaxKind) → level ≡ 0 → BeginsTree (begin_let second) level TOKEN_LET second
-let_begins level (Some TOKEN_L_BRACE) e = (refl, refl, e)
-let_begins level second e = loose _ _ _ _ refl refl (λ c. refl) refl refl refl (λ j t r. refl) e
+-- a node that reaches as far as it can stands at the loosest level
+loose_level : (k : SyntaxKind) (c : Sketch) → is_loose k ≡ true → level_of k c ≡ 0
+loose_level NODE_UNARY_OP c h = absurd (true_is_not_false (sym h))
+loose_level _ c h = cc
+
+-- and is its own first tree
+loose_first : (k j : SyntaxKind) (t : Token) (r : Sketch) → is_loose k ≡ true → first_tree (one_branch k (token j t r)) ≡ k
+loose_first NODE_UNARY_OP j t r h = absurd (true_is_not_false (sym h))
+loose_first _ j t r h = cc
+
+-- what is asked of such a node, by how it begins
+abbrev IsLoose : Begin → SyntaxKind → Option SyntaxKind → Type 0
+IsLoose (b.Node k z high) kind second =
+    (is_expression k ≡ true) × (is_loose k ≡ true) × (is_atom k ≡ false) × (is_error k ≡ false) × (row_at z ≡ Some (is_formal k)) × (go (start k) (told_as k kind) ≡ At z) × (high ≡ 0)
+IsLoose b.LegacyLet kind second = (kind ≡ TOKEN_LET) × (second ≡ Some TOKEN_L_BRACE)
+IsLoose b.Stray kind second = Unit {0}
+IsLoose begin kind second = ⊥
+
+let_loose : (second : Option SyntaxKind) → IsLoose (begin_let second) TOKEN_LET second
+let_loose (Some TOKEN_L_BRACE) = (refl, refl)
+let_loose second = (refl, refl, refl, refl, refl, refl, refl)
+
+keyword_loose : (kind : SyntaxKind) (second : Option SyntaxKind) → IsLoose (begin_keyword kind second) kind second
+keyword_loose TOKEN_LET second = let_loose second
+keyword_loose _ second = assumption
+
+-- what a keyword begins where an expression may stand
+loose_begins : (begin : Begin) (level : ℕ) (kind : SyntaxKind) (second : Option SyntaxKind) → IsLoose begin kind second → level ≡ 0
+    → BeginsTree begin level kind second
+loose_begins (b.Node k z high) level kind second h e =
+    subst (λ n. BeginsNode k z n level kind) (sym h.6) (loose k z level kind h.0 h.2 (λ c. loose_level k c h.1) h.3 h.4 h.5 (λ j t r. loose_first k j t r h.1) e)
+loose_begins b.LegacyLet level kind second h e = (h.0, h.1, e)
+loose_begins b.Stray level kind second h e = tt
+loose_begins _ level kind second h e = absurd h
 
 -- where an expression may stand
 scope_begins : (level : ℕ) (begin : Begin) (kind : SyntaxKind) (second : Option SyntaxKind) (w : Bool) → nat_eq level 0 ≡ w
@@ -144,6 +175,11 @@ scope_begins : (level : ℕ) (begin : Begin) (kind : SyntaxKind) (second : Optio
     → BeginsTree (if w then begin else b.Stray) level kind second
 scope_begins level begin kind second true e h = h (same_number level 0 e)
 scope_begins level begin kind second false e h = tt
+
+scope_tree : (level : ℕ) (kind : SyntaxKind) (second : Option SyntaxKind) → BeginsTree (begin_scope level kind second) level kind second
+scope_tree level kind second =
+    scope_begins level (begin_keyword kind second) kind second (nat_eq level 0) refl
+    (loose_begins (begin_keyword kind second) level kind second (keyword_loose kind second))
 
 begins_tree : (level : ℕ) (kind : SyntaxKind) (text : List ℕ) (second third : Option SyntaxKind)
     → BeginsTree (begin_of level kind text second third) level kind second
@@ -163,18 +199,8 @@ begins_tree level TOKEN_IDENT text second third = name_begins level text second
 begins_tree level TOKEN_L_BRACE text second third = brace_begins level (is_pattern second third) second
 begins_tree level TOKEN_INVERT text second third = invert_begins level (nat_le level 9) second refl
 begins_tree level TOKEN_SUB text second third = negate_begins level (nat_le level 14) second refl
-begins_tree level TOKEN_LET text second third =
-    scope_begins level (begin_let second) TOKEN_LET second (nat_eq level 0) refl (let_begins level second)
-begins_tree level TOKEN_WITH text second third =
-    scope_begins level (b.Node NODE_WITH p.WithScope 0) TOKEN_WITH second (nat_eq level 0) refl
-    (loose _ _ _ _ refl refl (λ c. refl) refl refl refl (λ j t r. refl))
-begins_tree level TOKEN_ASSERT text second third =
-    scope_begins level (b.Node NODE_ASSERT p.AssertCondition 0) TOKEN_ASSERT second (nat_eq level 0) refl
-    (loose _ _ _ _ refl refl (λ c. refl) refl refl refl (λ j t r. refl))
-begins_tree level TOKEN_IF text second third =
-    scope_begins level (b.Node NODE_IF_ELSE p.IfCondition 0) TOKEN_IF second (nat_eq level 0) refl
-    (loose _ _ _ _ refl refl (λ c. refl) refl refl refl (λ j t r. refl))
-begins_tree level _ text second third = tt
+begins_tree level TOKEN_LET text second third = scope_tree level TOKEN_LET second
+begins_tree level _ text second third = first_of (assumption, search scope_tree)
 
 -- the table read backwards
 pub begun_tree : (begin : Begin) (level : ℕ) (kind : SyntaxKind) (text : List ℕ) (second third : Option SyntaxKind)

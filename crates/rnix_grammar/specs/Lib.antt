@@ -16,6 +16,8 @@ pub mod Strict
 pub mod Grammar
 pub mod Clean
 pub mod Sorts
+pub mod Weights
+pub mod Allowed
 pub mod Trim
 pub mod Mended
 pub mod Shape

@@ -1,148 +1,115 @@
--- What may be done at which places.
-use Rattle.std.specs.Prelude.{◌≡◌, Bool, true, false, List, [], ◌∷◌, Option, Some, None}
+-- Which heads stand at which places, and inside which others.
+use Rattle.std.specs.Prelude.{◌≡◌, Bool, true, false, List, [], ◌∷◌}
 use Rattle.rnix_kinds.specs.declared.kinds.SyntaxKind.{SyntaxKind}
-use Rattle.rnix_kinds.specs.declared.kinds.SyntaxKind.TheVariants.{NODE_ROOT}
+use Rattle.rnix_kinds.specs.declared.kinds.SyntaxKind.TheVariants.{NODE_ROOT, NODE_PATTERN, NODE_PAT_ENTRY, NODE_IDENT, NODE_CUR_POS}
 use Rattle.rnix_grammar.specs.declared.place.Place.{Place}
 use Rattle.rnix_grammar.specs.declared.place.Place.TheVariants as p
-use Rattle.rnix_grammar.specs.declared.until.Until.{Until}
-use Rattle.rnix_grammar.specs.declared.action.Action.{Action}
-use Rattle.rnix_grammar.specs.declared.action.Action.TheVariants as a
-use Rattle.rnix_grammar.specs.Tables.{is_wanted}
+use Rattle.rnix_grammar.specs.declared.slot.Slot.{Slot}
+use Rattle.rnix_grammar.specs.declared.slot.Slot.TheVariants as s
 use Rattle.rnix_grammar.specs.Machine.{Head, Node, Second, Operand, Frame}
 
--- a place in a node's row, where nothing need be read before it or something is; a place of a second name; a place behind an operand
+-- the root, a pattern, its entry, its second name, an operand, a name alone, another node
 pub data Sort : Type 0 where
-  Inner : Bool → Sort
-  Naming : Sort
-  Following : Sort
+  Root : Sort
+  Pattern : Sort
+  Entry : Sort
+  Again : Sort
+  Loose : Sort
+  Name : Sort
+  Plain : Sort
 
--- the sort of each place
+-- the sort of a node's places, by its kind
+abbrev pub sort_of_node : SyntaxKind → Sort
+sort_of_node NODE_ROOT = Root
+sort_of_node NODE_PATTERN = Pattern
+sort_of_node NODE_PAT_ENTRY = Entry
+sort_of_node NODE_IDENT = Name
+sort_of_node NODE_CUR_POS = Name
+sort_of_node k = Plain
+
+-- the sort of the places of what is open
+abbrev pub sort_of_head : Head → Sort
+sort_of_head (Node k) = sort_of_node k
+sort_of_head Second = Again
+sort_of_head Operand = Loose
+
+-- the sort of a place
 abbrev pub sort_of : Place → Sort
-sort_of p.ValuePath = Inner true
-sort_of p.AttrpathStart = Inner true
-sort_of p.TwiceName = Naming
-sort_of p.TwicePast = Naming
-sort_of (p.Behind low high) = Following
-sort_of place = Inner false
+sort_of p.RootStart = Root
+sort_of p.RootEnd = Root
+sort_of p.PatternBrace = Pattern
+sort_of (p.PatternStart bound) = Pattern
+sort_of (p.PatternInside bound) = Pattern
+sort_of (p.PatternAfter bound) = Pattern
+sort_of (p.PatternClose bound) = Pattern
+sort_of (p.PatternEnd bound) = Pattern
+sort_of p.PatternPast = Pattern
+sort_of p.EntryMore = Entry
+sort_of p.EntryDefault = Entry
+sort_of p.EntryPast = Entry
+sort_of p.TwiceName = Again
+sort_of p.TwicePast = Again
+sort_of (p.Behind low high) = Loose
+sort_of place = Plain
 
--- a place in a node's row
-abbrev pub is_inner : Sort → Bool
-is_inner (Inner start) = true
-is_inner sort = false
+-- what may stand inside what: nothing inside a second name, no operand in a pattern itself, an entry inside a pattern, the root inside nothing
+abbrev pub may_hold : Sort → Sort → Bool
+may_hold Again s = false
+may_hold s Root = false
+may_hold Pattern Loose = false
+may_hold Pattern s = true
+may_hold t Entry = false
+may_hold t s = true
 
--- a place of a second name
-abbrev pub is_naming : Sort → Bool
-is_naming Naming = true
-is_naming sort = false
+-- the sort of a place, by what stands there; a token, an operand and a name stand at places of several sorts
+abbrev pub sort_in : Slot → Sort → Sort
+sort_in s.End own = Root
+sort_in (s.Token until behind) own = own
+sort_in (s.Operand level counted behind) own = own
+sort_in (s.Name behind) own = own
+sort_in (s.Braces bound) own = Pattern
+sort_in (s.Formals bound) own = Pattern
+sort_in (s.Comma bound) own = Pattern
+sort_in (s.Bind bound) own = Pattern
+sort_in s.PatternDone own = Pattern
+sort_in s.Default own = Entry
+sort_in s.EntryDone own = Entry
+sort_in s.TwiceDone own = Again
+sort_in (s.More low high) own = Loose
+sort_in slot own = Plain
 
--- nothing need be read before the place
-abbrev pub is_start : Sort → Bool
-is_start (Inner start) = start
-is_start sort = false
+-- a place that is not in a second name
+abbrev pub is_open : Sort → Bool
+is_open Again = false
+is_open sort = true
 
--- the place stands in a node's row
-abbrev pub IsInner : Place → Type 0
-IsInner place = is_inner (sort_of place) ≡ true
+-- a token stands in no second name, and an operand where one may stand
+abbrev pub may_stand : Slot → Sort → Bool
+may_stand (s.Token until behind) sort = is_open sort
+may_stand (s.Operand level counted behind) sort = may_hold sort Loose
+may_stand slot sort = true
 
--- the place stands in a second name
-abbrev pub IsNaming : Place → Type 0
-IsNaming place = is_naming (sort_of place) ≡ true
+-- the place behind what stands at a place
+abbrev pub behind_in : Slot → Place → Place
+behind_in (s.Token until behind) place = behind
+behind_in (s.Operand level counted behind) place = behind
+behind_in (s.Entries closer behind) place = behind
+behind_in (s.Attr behind) place = behind
+behind_in (s.Attrpath behind) place = behind
+behind_in (s.Name behind) place = behind
+behind_in slot place = place
 
--- nothing need be read before the place
-abbrev pub IsStart : Place → Type 0
-IsStart place = is_start (sort_of place) ≡ true
+-- the end of the text stands at one place
+abbrev pub place_in : Slot → Place → Place
+place_in s.End place = p.RootEnd
+place_in slot place = place
 
--- something has been read before the place
-abbrev pub IsLater : Bool → Type 0
-IsLater start = start ≡ false
+-- a head stands at a place of its sort, and may stand inside the frame below, as each frame below; the lowest is the root
+abbrev pub StandsOn : Head → Place → List Frame → Type 0
+StandsOn head place [] = (sort_of_head head ≡ sort_of place) × (sort_of place ≡ Root)
+StandsOn head place (f ∷ fs) = (sort_of_head head ≡ sort_of place) × (may_hold (sort_of f.place) (sort_of place) ≡ true) × StandsOn f.head f.place fs
 
--- an item is left
-abbrev pub HasNext : Option SyntaxKind → Type 0
-HasNext None = ⊥
-HasNext (Some kind) = Unit {0}
-
--- no item is left
-abbrev pub LacksNext : Option SyntaxKind → Type 0
-LacksNext None = Unit {0}
-LacksNext (Some kind) = ⊥
-
--- an item is left that does not stop the run
-abbrev pub HasUnwanted : Until → Option SyntaxKind → Type 0
-HasUnwanted until None = ⊥
-HasUnwanted until (Some kind) = is_wanted until kind ≡ false
-
--- what may be done in a node's row
-abbrev pub FitsNode : Bool → Option SyntaxKind → Action → Type 0
-FitsNode start next a.Close = IsLater start
-FitsNode start next a.CloseEntry = IsLater start
-FitsNode start next a.ClosePattern = IsLater start
-FitsNode start next a.CloseTwice = ⊥
-FitsNode start next a.Finish = LacksNext next
-FitsNode start next a.Settle = ⊥
-FitsNode start next a.Extra = HasNext next
-FitsNode start next (a.Take after) = HasNext next × IsInner after
-FitsNode start next (a.Miss after) = LacksNext next × IsInner after
-FitsNode start next (a.MissWanted until after) = LacksNext next × IsInner after
-FitsNode start next (a.Run until after) = HasUnwanted until next × IsInner after
-FitsNode start next (a.Leaf k after) = HasNext next × IsInner after
-FitsNode start next (a.Open k inside after) = HasNext next × IsInner inside × IsInner after
-FitsNode start next (a.Begin k inside after) = IsStart inside × IsInner after
-FitsNode start next (a.Entry after) = HasNext next × IsInner after
-FitsNode start next (a.Twice after) = HasNext next × IsInner after
-FitsNode start next (a.Read level counted after) = IsInner after
-FitsNode start next (a.Wrap k inside high) = ⊥
-FitsNode start next a.Apply = ⊥
-FitsNode start next a.ApplyOr = ⊥
-
--- what may be done in a second name
-abbrev pub FitsSecond : Option SyntaxKind → Action → Type 0
-FitsSecond next a.CloseTwice = Unit {0}
-FitsSecond next (a.MissWanted until after) = LacksNext next × IsNaming after
-FitsSecond next (a.Run until after) = HasUnwanted until next × IsNaming after
-FitsSecond next (a.Leaf k after) = HasNext next × IsNaming after
-FitsSecond next action = ⊥
-
--- what may be done behind an operand
-abbrev pub FitsOperand : Option SyntaxKind → Action → Type 0
-FitsOperand next a.Settle = Unit {0}
-FitsOperand next (a.Wrap k inside high) = HasNext next × IsInner inside
-FitsOperand next a.Apply = HasNext next
-FitsOperand next a.ApplyOr = HasNext next
-FitsOperand next action = ⊥
-
--- what may be done at a place of a sort
-abbrev pub Fits : Sort → Option SyntaxKind → Action → Type 0
-Fits (Inner start) next action = FitsNode start next action
-Fits Naming next action = FitsSecond next action
-Fits Following next action = FitsOperand next action
-
--- a frame stands at a place of its own sort: an operand behind an operand, a second name in one, a node in its row
-abbrev pub Suits : Head → Sort → Type 0
-Suits (Node k) (Inner start) = Unit {0}
-Suits Second Naming = Unit {0}
-Suits Operand Following = Unit {0}
-Suits head sort = ⊥
-
--- a frame below another is no second name, and stands at a place of its sort
-abbrev pub Waits : Head → Sort → Type 0
-Waits Second sort = ⊥
-Waits head sort = Suits head sort
-
--- the lowest frame is the root
-abbrev pub IsBottom : Head → List Frame → Type 0
-IsBottom head [] = head ≡ Node NODE_ROOT
-IsBottom head (f ∷ fs) = Unit {0}
-
--- so it is for each frame, and the lowest is the root
-abbrev pub AreWaiting : List Frame → Type 0
-AreWaiting [] = Unit {0}
-AreWaiting (f ∷ fs) = Waits f.head (sort_of f.place) × (IsBottom f.head fs × AreWaiting fs)
-
--- the frames below one
-abbrev pub Under : Head → List Frame → Type 0
-Under head fs = IsBottom head fs × AreWaiting fs
-
--- all frames, of which only the innermost may be a second name
+-- there are frames, and so it is for all of them
 abbrev pub AreKept : List Frame → Type 0
-AreKept [] = Unit {0}
-AreKept (f ∷ fs) = Suits f.head (sort_of f.place) × Under f.head fs
+AreKept [] = ⊥
+AreKept (f ∷ fs) = StandsOn f.head f.place fs

@@ -1,12 +1,12 @@
 -- A test of the strict grammar along the rows: which trees without trivia and error nodes are expressions. The grammar is defined in Grammar; the test says the same.
 use Rattle.std.specs.Prelude.{ℕ, Bool, true, false, ◌&&◌, List, [], ◌∷◌, Option, Some, None, if◌then◌else◌, nat_le}
 use Rattle.rnix_kinds.specs.declared.kinds.SyntaxKind.{SyntaxKind}
-use Rattle.rnix_kinds.specs.declared.kinds.SyntaxKind.TheVariants.{TOKEN_INVERT, NODE_APPLY, NODE_ASSERT, NODE_BIN_OP, NODE_CUR_POS, NODE_DYNAMIC, NODE_HAS_ATTR, NODE_IDENT, NODE_IDENT_PARAM, NODE_IF_ELSE, NODE_LAMBDA, NODE_LEGACY_LET, NODE_LET_IN, NODE_PAT_BIND, NODE_PAT_ENTRY, NODE_PATTERN, NODE_ROOT, NODE_SELECT, NODE_UNARY_OP, NODE_WITH}
+use Rattle.rnix_kinds.specs.declared.kinds.SyntaxKind.TheVariants.{TOKEN_INVERT, NODE_APPLY, NODE_BIN_OP, NODE_CUR_POS, NODE_DYNAMIC, NODE_HAS_ATTR, NODE_IDENT, NODE_IDENT_PARAM, NODE_LAMBDA, NODE_PAT_BIND, NODE_PAT_ENTRY, NODE_PATTERN, NODE_ROOT, NODE_SELECT, NODE_UNARY_OP, NODE_WITH}
 use Rattle.rnix_tree.specs.Forest.{Forest, empty, leaf, node}
 use Rattle.rnix_grammar.specs.Tables.{is_cur_pos, is_or, is_among}
 use Rattle.rnix_grammar.specs.Levels.{expression_level, inversion_level, has_attr_level, negation_level, application_level, selection_level, power, left_of}
 use Rattle.rnix_grammar.specs.Slots.{slot_at, level_in}
-use Rattle.rnix_grammar.specs.Rows.{is_atom, is_expression, Spot, BeforeArgument, At, go, live, whole, start}
+use Rattle.rnix_grammar.specs.Rows.{is_atom, is_expression, is_loose, Spot, BeforeArgument, At, go, live, whole, start}
 use Rattle.rnix_grammar.specs.Corners.{node_count, is_one}
 
 -- the text of the leaf that a row begins with
@@ -45,12 +45,7 @@ level_of NODE_HAS_ATTR c = has_attr_level
 level_of NODE_UNARY_OP c = prefix_level c
 level_of NODE_APPLY c = if calls_or c then selection_level else application_level
 level_of NODE_LAMBDA c = expression_level
-level_of NODE_LEGACY_LET c = expression_level
-level_of NODE_LET_IN c = expression_level
-level_of NODE_WITH c = expression_level
-level_of NODE_IF_ELSE c = expression_level
-level_of NODE_ASSERT c = expression_level
-level_of kind c = selection_level
+level_of kind c = if is_loose kind then expression_level else selection_level
 
 -- a tree is a name or the current position only where its text may be one (specs/Names asks it of a token at a spot)
 abbrev pub is_named : SyntaxKind → Forest → Bool

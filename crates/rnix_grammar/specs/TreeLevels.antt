@@ -1,11 +1,11 @@
 -- How tightly a tree binds, with its error nodes.
 use Rattle.std.specs.Prelude.{ℕ, Bool, true, false, if◌then◌else◌}
 use Rattle.rnix_kinds.specs.declared.kinds.SyntaxKind.{SyntaxKind}
-use Rattle.rnix_kinds.specs.declared.kinds.SyntaxKind.TheVariants.{TOKEN_INVERT, NODE_IDENT, NODE_BIN_OP, NODE_HAS_ATTR, NODE_UNARY_OP, NODE_APPLY, NODE_LEGACY_LET, NODE_LET_IN, NODE_WITH, NODE_IF_ELSE, NODE_ASSERT, NODE_ROOT}
+use Rattle.rnix_kinds.specs.declared.kinds.SyntaxKind.TheVariants.{TOKEN_INVERT, NODE_IDENT, NODE_BIN_OP, NODE_HAS_ATTR, NODE_UNARY_OP, NODE_APPLY, NODE_ROOT}
 use Rattle.rnix_grammar.specs.Levels.{expression_level, no_level, inversion_level, has_attr_level, negation_level, application_level, selection_level, power}
 use Rattle.rnix_grammar.specs.Sketch.{Sketch, blank, token, branch, fault}
 use Rattle.rnix_grammar.specs.TokenKinds.{is_or}
-use Rattle.rnix_grammar.specs.Rows.{is_atom}
+use Rattle.rnix_grammar.specs.Rows.{is_atom, is_loose}
 
 -- the operator behind the first tree
 abbrev pub operator_in : Sketch → SyntaxKind
@@ -42,12 +42,7 @@ level_of NODE_BIN_OP c = power (operator_in c)
 level_of NODE_HAS_ATTR c = has_attr_level
 level_of NODE_UNARY_OP c = prefix_in c
 level_of NODE_APPLY c = if calls_or c then selection_level else application_level
-level_of NODE_LEGACY_LET c = expression_level
-level_of NODE_LET_IN c = expression_level
-level_of NODE_WITH c = expression_level
-level_of NODE_IF_ELSE c = expression_level
-level_of NODE_ASSERT c = expression_level
-level_of kind c = selection_level
+level_of kind c = if is_loose kind then expression_level else selection_level
 
 -- the level of the first tree of a row; an error node counts as a literal
 abbrev pub row_level : Sketch → ℕ

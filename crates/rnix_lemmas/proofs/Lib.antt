@@ -14,7 +14,7 @@ pub mod RunLemmas
 pub mod LevelLemmas
 pub mod LayoutLemmas
 pub mod CleanLemmas
-pub mod PlaceFacts
+pub mod AllowedLemmas
 pub mod PlaceLemmas
 pub mod EachKind
 pub mod EdgeLemmas

@@ -2,8 +2,9 @@
 use Rattle.std.proofs.Common.{ℕ, zero, suc, Bool, true, false, Option, Some, None}
 use Rattle.std.specs.Prelude.{if◌then◌else◌, nat_le}
 use Rattle.rnix_kinds.specs.declared.kinds.SyntaxKind.{SyntaxKind}
-use Rattle.rnix_kinds.specs.declared.kinds.SyntaxKind.TheVariants.{TOKEN_AT, TOKEN_COLON, TOKEN_DOT, TOKEN_INTERPOL_START, TOKEN_INVERT, NODE_APPLY, NODE_ASSERT, NODE_BIN_OP, NODE_HAS_ATTR, NODE_IF_ELSE, NODE_LAMBDA, NODE_LEGACY_LET, NODE_LET_IN, NODE_SELECT, NODE_UNARY_OP, NODE_WITH}
+use Rattle.rnix_kinds.specs.declared.kinds.SyntaxKind.TheVariants.{TOKEN_AT, TOKEN_COLON, TOKEN_DOT, TOKEN_INTERPOL_START, TOKEN_INVERT, NODE_APPLY, NODE_BIN_OP, NODE_HAS_ATTR, NODE_LAMBDA, NODE_SELECT, NODE_UNARY_OP}
 use Rattle.rnix_grammar.specs.Levels.{power, high_of}
+use Rattle.rnix_grammar.specs.Rows.{is_loose}
 use Rattle.rnix_grammar.specs.Sketch.{Sketch, token, branch}
 
 -- the tokens that make more of a name or a path before them
@@ -56,9 +57,4 @@ high_in NODE_UNARY_OP c = prefix_high c
 high_in NODE_APPLY c = 15
 high_in NODE_SELECT c = 15
 high_in NODE_LAMBDA c = 0
-high_in NODE_LEGACY_LET c = 0
-high_in NODE_LET_IN c = 0
-high_in NODE_WITH c = 0
-high_in NODE_IF_ELSE c = 0
-high_in NODE_ASSERT c = 0
-high_in kind c = 16
+high_in kind c = if is_loose kind then 0 else 16

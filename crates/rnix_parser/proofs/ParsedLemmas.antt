@@ -8,7 +8,7 @@ use Rattle.rnix_grammar.specs.Tables.{depth_limit}
 use Rattle.rnix_grammar.specs.Sketch.{Token, Sketch, blank, forget, tokens_in, clean, placed_from, AreTold}
 use Rattle.rnix_grammar.specs.Layout.{items}
 use Rattle.rnix_grammar.specs.Trim.{AreFaultsTrimmed, AreNodesTrimmed}
-use Rattle.rnix_grammar.specs.Shape.{IsShaped, IsUnrepeated}
+use Rattle.rnix_grammar.specs.Shape.{IsShaped, IsUnrepeated, reports}
 use Rattle.rnix_grammar.specs.Seams.{AreTriviaBetween}
 use Rattle.rnix_grammar.specs.Named.{AreSpelled, is_repeated, Lacks}
 use Rattle.rnix_grammar.specs.Mended.{mended, ended_count}
@@ -23,19 +23,16 @@ use Rattle.rnix_tree.specs.Tree.{Tree}
 use Rattle.rnix_grammar.specs.Stands.{StandsWhole}
 use Rattle.rnix_grammar.specs.Reading.{IsReading}
 use Rattle.rnix_grammar.specs.Parsed.{IsParsed}
-use Rattle.rnix_rows.proofs.StandsWhole.{whole_paired, whole_named, whole_settled, whole_few, whole_ended, whole_begun}
-use Rattle.rnix_rows.proofs.StandsLast.{halves_last}
-use Rattle.rnix_rows.proofs.TreeShapes.{whole_shaped}
-use Rattle.rnix_rows.proofs.CleanReports.{clean_reports}
+use Rattle.rnix_rows.proofs.StandsFaults.{Errors, stands_errors}
+use Rattle.rnix_rows.proofs.StandsWhole.{whole_few, whole_ended, whole_begun, halves_last}
+use Rattle.rnix_rows.proofs.TreeShapes.{whole_shaped, clean_reports}
 use Rattle.rnix_rows.proofs.SeamLemmas.{trivia_between}
 use Rattle.rnix_soundness.proofs.ConverseNames.{converse}
 use Rattle.rnix_lemmas.proofs.SpelledLemmas.{AreRuled, spelled_from, clean_spelled}
 use Rattle.rnix_rows.proofs.ReadsNest.{reads_nested}
 use Rattle.rnix_rows.proofs.ReadsStand.{reads_stand}
-use Rattle.rnix_rows.proofs.DressedWhole.{clean_items}
-use Rattle.rnix_rows.proofs.StandsTold.{stands_told}
-use Rattle.rnix_rows.proofs.StandsDressed.{laid_told, laid_trimmed, laid_bare, laid_nodes}
-use Rattle.rnix_rows.proofs.StrictTokens.{mended_tokens}
+use Rattle.rnix_rows.proofs.DressedWhole.{clean_items, laid_told, laid_trimmed, laid_bare, laid_nodes}
+use Rattle.rnix_rows.proofs.StandsTold.{stands_told, mended_tokens}
 use Rattle.rnix_rows.proofs.StandsShapes.{AreBareRows, mended_none, whole_rows}
 use Rattle.rnix_lemmas.proofs.EntryNames.{both_true}
 use Rattle.rnix_soundness.proofs.StrictCorners.{strict_no_corner}
@@ -75,6 +72,7 @@ all_follows ls tree faults ruled r =
     let g : Sketch = r.sketch in
     let own : items ts ≡ tokens_in (clean g) = clean_items g ts r.leaves in
     let stands : StandsWhole (clean g) faults = reads_stand (clean g) faults r.reads in
+    let errors : Errors (clean g) [] (reports (clean g)) faults = stands_errors stands in
     let told : AreTold NODE_ROOT g = laid_told (clean g) g ts faults r.laid stands in
     let trimmed : AreFaultsTrimmed g = laid_trimmed (clean g) g ts faults r.laid own stands in
     let nodes : faults ≡ [] → AreNodesTrimmed (forget g) = laid_nodes (clean g) g ts faults r.laid own stands in
@@ -90,14 +88,14 @@ all_follows ls tree faults ruled r =
       told = told;
       trimmed = trimmed;
       bare = laid_bare (clean g) g ts faults r.laid spelled stands;
-      paired = whole_paired stands ∙ clean_reports blank g trimmed;
-      named = whole_named stands;
+      paired = errors.reports ∙ clean_reports blank g trimmed;
+      named = errors.named;
       shaped = subst (λ (t : Tree). (faults ≡ []) ↔ (IsShaped t × IsUnrepeated t)) (sym r.tree_is) (whole_shaped (clean g) g faults stands refl told nodes);
       few_halves = whole_few stands;
       no_halves = whole_ended stands;
       begun = whole_begun stands;
       last_halves = halves_last stands;
-      settled = whole_settled stands;
+      settled = errors.settled;
       between = λ h. subst AreTriviaBetween (sym r.tree_is) (trivia_between (record { kind = NODE_ROOT; children = forget g }) (nodes h));
       nested = nested;
       found = met;

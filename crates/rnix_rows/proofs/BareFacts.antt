@@ -9,6 +9,7 @@ use Rattle.rnix_grammar.specs.Fault.{Fault}
 use Rattle.rnix_grammar.specs.Slots.{slot_at}
 use Rattle.rnix_grammar.specs.Rows.{fits, Spot, Start, At, go, first, live, to}
 use Rattle.rnix_grammar.specs.Missing.{lack}
+use Rattle.rnix_lemmas.proofs.Basics.{no_way}
 use Rattle.rnix_lemmas.proofs.NestSpots.{is_pathless}
 
 -- no attribute path stands at a spot
@@ -44,11 +45,7 @@ literal_bare _ = refl
 
 -- an attribute path is no operand
 no_level : (a b c d : Bool) → (if a then false else (if b then false else (if c then false else (if d then false else false)))) ≡ false
-no_level true b c d = refl
-no_level false true c d = refl
-no_level false false true d = refl
-no_level false false false true = refl
-no_level false false false false = refl
+no_level a b c d = no_way a false _ refl (no_way b false _ refl (no_way c false _ refl (no_way d false false refl refl)))
 
 first_path : (k : SyntaxKind) → live (first k NODE_ATTRPATH) ≡ false
 first_path NODE_PAREN = refl

@@ -65,16 +65,16 @@ let_begins : (text : List ℕ) (second : Option SyntaxKind) → Begins TOKEN_LET
 let_begins text (Some TOKEN_L_BRACE) = refl
 let_begins text second = refl
 
+scope_begins : (level : ℕ) (kind : SyntaxKind) (text : List ℕ) (begin : Begin) → Begins kind text begin → Begins kind text b.Stray → Begins kind text (if nat_eq level 0 then begin else b.Stray)
+scope_begins level kind text begin h s = choice (Begins kind text) (nat_eq level 0) h s
+
 begins : (level : ℕ) (kind : SyntaxKind) (text : List ℕ) (second third : Option SyntaxKind) → Begins kind text (begin_of level kind text second third)
 begins level TOKEN_IDENT text second third = name_begins text second
 begins level TOKEN_L_BRACE text second third = choice (Begins TOKEN_L_BRACE text) (is_pattern second third) refl refl
 begins level TOKEN_INVERT text second third = choice (Begins TOKEN_INVERT text) (nat_le level 9) refl refl
 begins level TOKEN_SUB text second third = choice (Begins TOKEN_SUB text) (nat_le level 14) refl refl
 begins level TOKEN_LET text second third = choice (Begins TOKEN_LET text) (nat_eq level 0) (let_begins text second) refl
-begins level TOKEN_WITH text second third = choice (Begins TOKEN_WITH text) (nat_eq level 0) refl refl
-begins level TOKEN_ASSERT text second third = choice (Begins TOKEN_ASSERT text) (nat_eq level 0) refl refl
-begins level TOKEN_IF text second third = choice (Begins TOKEN_IF text) (nat_eq level 0) refl refl
-begins level _ text second third = refl
+begins level kind text second third = first_of (cc, search scope_begins)
 
 -- an operand begins with what may begin its first tree
 pub operand_begins : (level : ℕ) (x : Sketch) (ts : List Token) → IsBegun level x ts → MayBegin (first_tree x) ts

@@ -5,7 +5,8 @@ use Rattle.rnix_kinds.specs.SyntaxKind.{is_trivia}
 use Rattle.rnix_grammar.specs.Sketch.{Token, Note, TooDeep, Sketch, blank, token, branch, fault, ◌⊕◌, one_branch, one_fault, clean, token_if, told, head_kind}
 use Rattle.rnix_grammar.specs.Layout.{from_item, from_item_if, trivia_if, trivia_before, items, tail_of, is_last, trivia_after, rest_after, left_after, dressed}
 use Rattle.rnix_grammar.specs.Machine.{ate, behind, leaf_in, leaf, run_row, run_rest}
-use Rattle.rnix_grammar.specs.Sorts.{HasNext}
+use Rattle.rnix_grammar.specs.Allowed.{is_there}
+use Rattle.rnix_lemmas.proofs.Basics.{true_is_not_false}
 use Rattle.rnix_lemmas.proofs.SketchLemmas.{⊕-assoc, ⊕-blank}
 use Rattle.rnix_lemmas.proofs.LayoutLemmas.{trivia-from_item, from_item-from_item, items_head, items-view, from_item_item}
 use Rattle.rnix_lemmas.proofs.CleanLemmas.{ate_clean, added_clean, run_bared}
@@ -21,19 +22,15 @@ left_after-⊕ (fault n c f) g ts = left_after-⊕ f g (rest_after (is_last n) (
 pub dressed-⊕ : (f g : Sketch) (ts : List Token) → dressed (f ⊕ g) ts ≡ dressed f ts ⊕ dressed g (left_after f ts)
 dressed-⊕ blank g ts = refl
 dressed-⊕ (token k t f) g ts =
-    let rest = tail_of (from_item ts) in
-    ap (λ x. trivia_before ts ⊕ token k t x) (dressed-⊕ f g rest) ∙ sym (⊕-assoc (trivia_before ts) (token k t (dressed f rest)) (dressed g (left_after f rest)))
+    let rest = tail_of (from_item ts) in rw (dressed-⊕ f g rest) (sym (⊕-assoc (trivia_before ts) (token k t (dressed f rest)) (dressed g (left_after f rest))))
 dressed-⊕ (branch k c f) g ts =
     let rest = left_after c (from_item ts) in
-    ap (λ x. trivia_before ts ⊕ branch k (dressed c (from_item ts)) x) (dressed-⊕ f g rest)
-    ∙ sym (⊕-assoc (trivia_before ts) (branch k (dressed c (from_item ts)) (dressed f rest)) (dressed g (left_after f rest)))
+    rw (dressed-⊕ f g rest) (sym (⊕-assoc (trivia_before ts) (branch k (dressed c (from_item ts)) (dressed f rest)) (dressed g (left_after f rest))))
 dressed-⊕ (fault n c f) g ts =
-    let rest = left_after c (from_item ts) in
-    let later = rest_after (is_last n) rest in
-    let own = trivia_after (is_last n) rest in
-    ap (λ x. trivia_before ts ⊕ fault n (dressed c (from_item ts)) x)
-    (ap (λ x. own ⊕ x) (dressed-⊕ f g later) ∙ sym (⊕-assoc own (dressed f later) (dressed g (left_after f later))))
-    ∙ sym (⊕-assoc (trivia_before ts) (fault n (dressed c (from_item ts)) (own ⊕ dressed f later)) (dressed g (left_after f later)))
+    let later = rest_after (is_last n) (left_after c (from_item ts)) in
+    let own = trivia_after (is_last n) (left_after c (from_item ts)) in
+    rw (dressed-⊕ f g later, sym (⊕-assoc own (dressed f later) (dressed g (left_after f later))))
+    (sym (⊕-assoc (trivia_before ts) (fault n (dressed c (from_item ts)) (own ⊕ dressed f later)) (dressed g (left_after f later))))
 
 -- some tree stands in a row
 abbrev pub HasTree : Sketch → Type 0
@@ -78,26 +75,9 @@ record IsAhead (c : Sketch) (ts : List Token) : Type 0 where
 -- trivia come before the first tree
 ahead : (c : Sketch) (ts : List Token) → HasTree c → IsAhead c ts
 ahead blank ts h = absurd h
-ahead (token k t f) ts h =
-    let e = from_item-from_item ts in
-    record {
-      same = ap (λ x. trivia_before ts ⊕ x) (ap (λ x. token k t (dressed f (tail_of x))) (sym e) ∙ ap (λ x. x ⊕ token k t (dressed f (tail_of (from_item (from_item ts))))) (sym (trivia-from_item ts)));
-      left = ap (λ x. left_after f (tail_of x)) (sym e);
-    }
-ahead (branch k c f) ts h =
-    let e = from_item-from_item ts in
-    let node : List Token → Sketch = λ x. branch k (dressed c x) (dressed f (left_after c x)) in
-    record {
-      same = ap (λ x. trivia_before ts ⊕ x) (ap node (sym e) ∙ ap (λ x. x ⊕ node (from_item (from_item ts))) (sym (trivia-from_item ts)));
-      left = ap (λ x. left_after f (left_after c x)) (sym e);
-    }
-ahead (fault n c f) ts h =
-    let e = from_item-from_item ts in
-    let node : List Token → Sketch = λ x. fault n (dressed c x) (trivia_after (is_last n) (left_after c x) ⊕ dressed f (rest_after (is_last n) (left_after c x))) in
-    record {
-      same = ap (λ x. trivia_before ts ⊕ x) (ap node (sym e) ∙ ap (λ x. x ⊕ node (from_item (from_item ts))) (sym (trivia-from_item ts)));
-      left = ap (λ x. left_after f (rest_after (is_last n) (left_after c x))) (sym e);
-    }
+ahead (token k t f) ts h = record { same = rw (from_item-from_item ts, trivia-from_item ts) refl; left = rw (from_item-from_item ts) refl }
+ahead (branch k c f) ts h = record { same = rw (from_item-from_item ts, trivia-from_item ts) refl; left = rw (from_item-from_item ts) refl }
+ahead (fault n c f) ts h = record { same = rw (from_item-from_item ts, trivia-from_item ts) refl; left = rw (from_item-from_item ts) refl }
 
 -- a row with trivia and trees behind it
 pub dressed_added : (row g : Sketch) (ts us vs : List Token) → IsDressed row ts us → IsDressed g (from_item us) vs → HasTree (clean g) → IsDressed (ate true row us ⊕ g) ts vs
@@ -105,10 +85,8 @@ dressed_added row g ts us vs h j t =
     let parts : clean (ate true row us ⊕ g) ≡ clean row ⊕ clean g = added_clean row us g refl in
     let a : IsAhead (clean g) us = ahead (clean g) us t in
     record {
-      same =
-          ap (λ x. dressed x ts) parts ∙ dressed-⊕ (clean row) (clean g) ts ∙ ap (λ x. x ⊕ dressed (clean g) (left_after (clean row) ts)) h.same
-          ∙ ap (λ x. row ⊕ dressed (clean g) x) h.left ∙ ap (λ x. row ⊕ x) (a.same ∙ ap (λ x. trivia_before us ⊕ x) j.same) ∙ sym (⊕-assoc row (trivia_before us) g);
-      left = ap (λ x. left_after x ts) parts ∙ left_after-⊕ (clean row) (clean g) ts ∙ ap (left_after (clean g)) h.left ∙ a.left ∙ j.left;
+      same = rw (parts, dressed-⊕ (clean row) (clean g) ts, h.same, h.left, a.same, j.same) (sym (⊕-assoc row (trivia_before us) g));
+      left = rw (parts, left_after-⊕ (clean row) (clean g) ts, h.left, a.left) j.left;
     }
 
 -- a tree is in a row with trivia and trees behind it
@@ -117,38 +95,19 @@ tree_added row us g h = subst HasTree (sym (added_clean row us g refl)) (tree_be
 
 -- a node over a row
 pub dressed_branch : (k : SyntaxKind) (row : Sketch) (ts us : List Token) → IsBare ts → IsDressed row ts us → IsDressed (one_branch k row) ts us
-dressed_branch k row ts us b h =
-    record {
-      same =
-          ap (λ x. x ⊕ branch k (dressed (clean row) (from_item ts)) blank) (bare_trivia ts b) ∙ ap (λ x. branch k (dressed (clean row) x) blank) b ∙ ap (λ x. branch k x blank) h.same;
-      left = ap (left_after (clean row)) b ∙ h.left;
-    }
+dressed_branch k row ts us b h = record { same = rw (bare_trivia ts b, b, h.same) refl; left = ap (left_after (clean row)) b ∙ h.left }
 
 -- an error node over a row, behind which trivia need not stand
 pub dressed_fault : (n : Note) (row : Sketch) (ts us : List Token) → is_last n ≡ false → IsBare ts → IsDressed row ts us → IsDressed (one_fault n row) ts us
-dressed_fault n row ts us e b h =
-    let rest : List Token → List Token = left_after (clean row) in
-    record {
-      same =
-          ap (λ x. x ⊕ fault n (dressed (clean row) (from_item ts)) (trivia_after (is_last n) (rest (from_item ts)) ⊕ blank)) (bare_trivia ts b)
-          ∙ ap (λ x. fault n (dressed (clean row) (from_item ts)) (trivia_after x (rest (from_item ts)) ⊕ blank)) e
-          ∙ ap (λ x. fault n (dressed (clean row) x) blank) b ∙ ap (λ x. fault n x blank) h.same;
-      left = ap (λ x. rest_after x (rest (from_item ts))) e ∙ ap rest b ∙ h.left;
-    }
+dressed_fault n row ts us e b h = record { same = rw (bare_trivia ts b, b, e, h.same) refl; left = rw (b, e) h.left }
 
 -- the node of what is too deep, with the trivia behind it
 pub dressed_last : (row : Sketch) (ts us : List Token) → IsBare ts → IsDressed row ts us → IsDressed (ate true (one_fault TooDeep row) us) ts (from_item us)
 dressed_last row ts us b h =
     let bare : clean (ate true (one_fault TooDeep row) us) ≡ one_fault TooDeep (clean row) = ate_clean (one_fault TooDeep row) us in
-    let rest : List Token → List Token = left_after (clean row) in
     record {
-      same =
-          ap (λ x. dressed x ts) bare
-          ∙ ap (λ x. x ⊕ fault TooDeep (dressed (clean row) (from_item ts)) (trivia_before (rest (from_item ts)) ⊕ blank)) (bare_trivia ts b)
-          ∙ ap (λ x. fault TooDeep (dressed (clean row) x) (trivia_before (rest x) ⊕ blank)) b
-          ∙ ap (λ x. fault TooDeep x (trivia_before (rest ts) ⊕ blank)) h.same
-          ∙ ap (fault TooDeep row) (⊕-blank (trivia_before (rest ts)) ∙ ap trivia_before h.left);
-      left = ap (λ x. left_after x ts) bare ∙ ap (λ x. from_item (rest x)) b ∙ ap from_item h.left;
+      same = ap (λ x. dressed x ts) bare ∙ rw (bare_trivia ts b, b, h.same, h.left) (ap (fault TooDeep row) (⊕-blank (trivia_before us)));
+      left = ap (λ x. left_after x ts) bare ∙ ap (λ x. from_item (left_after (clean row) x)) b ∙ ap from_item h.left;
     }
 
 -- the next item as a leaf
@@ -170,11 +129,11 @@ dressed_leaf k ts = by_head (from_item ts) refl
     by_head (x ∷ xs) e = by_item x xs (from_item_item ts x xs e)
 
 -- there is one where an item is left
-pub tree_leaf : (k : SyntaxKind) (ts : List Token) → HasNext (head_kind (items ts)) → HasTree (clean (leaf true k ts))
-tree_leaf k ts h = by_head (from_item ts) refl (subst (λ (x : List Token). HasNext (head_kind x)) (items-view ts) h)
+pub tree_leaf : (k : SyntaxKind) (ts : List Token) → is_there (head_kind (items ts)) ≡ true → HasTree (clean (leaf true k ts))
+tree_leaf k ts h = by_head (from_item ts) refl (subst (λ (x : List Token). is_there (head_kind x) ≡ true) (items-view ts) h)
   where
-    by_head : (xs : List Token) → from_item ts ≡ xs → HasNext (head_kind (items_head xs)) → HasTree (clean (leaf_in k xs))
-    by_head [] e h = absurd h
+    by_head : (xs : List Token) → from_item ts ≡ xs → is_there (head_kind (items_head xs)) ≡ true → HasTree (clean (leaf_in k xs))
+    by_head [] e h = absurd (true_is_not_false (sym h))
     by_head (x ∷ xs) e h = rw (from_item_item ts x xs e) tt
 
 -- the first items as leaves

@@ -14,16 +14,18 @@ use Rattle.rnix_grammar.specs.Fault.{Fault}
 use Rattle.rnix_grammar.specs.Tables.{depth_limit}
 use Rattle.rnix_grammar.specs.Actions.{action_at}
 use Rattle.rnix_grammar.specs.Begins.{begin_of, second_kind}
-use Rattle.rnix_grammar.specs.Sketch.{Token, Stray, Unwanted, Extra, Twice, TooDeep, Sketch, blank, ◌⊕◌, one_branch, one_fault, tokens_in, clean, head_kind, touches}
+use Rattle.rnix_grammar.specs.Sketch.{Token, Stray, Unwanted, Extra, Twice, TooDeep, Sketch, blank, ◌⊕◌, one_branch, one_fault, clean, head_kind, touches}
 use Rattle.rnix_grammar.specs.Layout.{from_item, tail_of, trivia_before, items, left_after, dressed_whole}
-use Rattle.rnix_grammar.specs.Reports.{report, repeated}
-use Rattle.rnix_grammar.specs.Machine.{Head, Node, Second, Operand, Frame, Machine, put, opened, ate, behind, leaf, run_row, dropped, run_rest, made, low_of, closed, entry_closed, limited, begun, operand_on, reading, perform, step_on, step, begins, Runs, rest, then as further}
+use Rattle.rnix_grammar.specs.Reports.{repeated}
+use Rattle.rnix_grammar.specs.Machine.{Head, Node, Second, Operand, Frame, Machine, put, opened, ate, behind, leaf, run_row, dropped, run_rest, made, kind_of, low_of, closed, entry_closed, limited, begun, operand_on, reading, perform, step_on, step, begins, Runs, rest, then as further}
 use Rattle.rnix_grammar.specs.Missing.{run_of}
-use Rattle.rnix_grammar.specs.Sorts.{sort_of, is_start, HasNext, FitsNode, FitsSecond, FitsOperand, IsBottom, AreKept}
+use Rattle.rnix_grammar.specs.Sorts.{Loose, sort_of, StandsOn, AreKept}
+use Rattle.rnix_grammar.specs.Allowed.{Allowed, is_there}
 use Rattle.rnix_lemmas.proofs.SketchLemmas.{⊕-assoc}
 use Rattle.rnix_lemmas.proofs.LayoutLemmas.{clean-⊕}
 use Rattle.rnix_lemmas.proofs.CleanLemmas.{items_behind, ate_clean, run_prefix, all_prefix}
-use Rattle.rnix_lemmas.proofs.PlaceLemmas.{FitsHead, head_fits, BeginsInner, begin_inner, step_kept, begins_kept}
+use Rattle.rnix_lemmas.proofs.AllowedLemmas.{allowed}
+use Rattle.rnix_lemmas.proofs.PlaceLemmas.{BeginsInner, begin_inner, step_kept, begins_kept}
 use Rattle.rnix_rows.proofs.DressLemmas.{HasTree, tree_behind, IsBare, bare_from, bare_trivia, IsDressed, dressed_blank, dressed_added, tree_added, dressed_branch, dressed_fault, dressed_last, dressed_leaf, tree_leaf, dressed_run}
 
 -- a row that waits for a tree: it has the trivia before the tree, which begins with the tokens vs
@@ -88,9 +90,9 @@ operand_tree Operand row t = t
 operand_tree _ row t = tt
 
 -- an operand is no root, so it does not begin with trivia
-on_some : (all : List Token) (fs : List Frame) (ts : List Token) → IsBottom Operand fs → AreAwaiting all fs ts → IsBare ts
-on_some all [] ts b h = absurd (cc)
-on_some all (f ∷ fs) ts b h = awaited_bare f.row h.0 ts h.1.0
+on_some : (all : List Token) (head : Head) (place : Place) (fs : List Frame) (ts : List Token) → sort_of place ≡ Loose → StandsOn head place fs → AreAwaiting all fs ts → IsBare ts
+on_some all head place [] ts e w h = absurd (cc)
+on_some all head place (f ∷ fs) ts e w h = awaited_bare f.row h.0 ts h.1.0
 
 -- a frame that waits for what begins with the next item
 waiting : (all : List Token) (f : Frame) (fs : List Frame) (ts : List Token) → AreDressed all (f ∷ fs) ts → AreAwaiting all (put f.place (ate true f.row ts) f ∷ fs) (from_item ts)
@@ -116,12 +118,12 @@ entry_dressed all f [] ts n es h = h
 entry_dressed all f (g ∷ fs) ts n es h = closed_dressed all f (g ∷ fs) ts n (es ++ repeated (clean g.row) (clean f.row)) h
 
 -- a second item as a leaf behind a row that begins with the first
-two_dressed : (j : SyntaxKind) (row : Sketch) (ts : List Token) (x : Token) (us : List Token) → items ts ≡ x ∷ us → HasNext (head_kind us)
+two_dressed : (j : SyntaxKind) (row : Sketch) (ts : List Token) (x : Token) (us : List Token) → items ts ≡ x ∷ us → is_there (head_kind us) ≡ true
     → IsDressed row (from_item ts) (behind true ts) → IsDressed (ate true row (behind true ts) ⊕ leaf true j (behind true ts)) (from_item ts) (behind true (behind true ts))
 two_dressed j row ts x us i s h =
     let later : items (behind true ts) ≡ us = items_behind ts ∙ ap tail_of i in
     dressed_added row (leaf true j (behind true ts)) (from_item ts) (behind true ts) (behind true (behind true ts)) h (dressed_leaf j (behind true ts))
-    (tree_leaf j (behind true ts) (subst (λ (z : List Token). HasNext (head_kind z)) (sym later) s))
+    (tree_leaf j (behind true ts) (subst (λ (z : List Token). is_there (head_kind z) ≡ true) (sym later) s))
 
 -- a node over a leaf
 one_dressed : (j : SyntaxKind) (ts : List Token) → IsDressed (one_branch j (leaf true j ts)) (from_item ts) (behind true ts)
@@ -210,66 +212,48 @@ name_dressed : (j : SyntaxKind) (row : Sketch) (vs ts : List Token) → IsDresse
 name_dressed j row vs ts h = dressed_added row (one_branch j (leaf true j ts)) vs ts (behind true ts) h (one_dressed j ts) tt
 
 -- the next item behind a row
-next_dressed : (k : SyntaxKind) (row : Sketch) (vs ts : List Token) → HasNext (head_kind (items ts)) → IsDressed row vs ts → IsDressed (ate true row ts ⊕ leaf true k ts) vs (behind true ts)
+next_dressed : (k : SyntaxKind) (row : Sketch) (vs ts : List Token) → is_there (head_kind (items ts)) ≡ true → IsDressed row vs ts → IsDressed (ate true row ts ⊕ leaf true k ts) vs (behind true ts)
 next_dressed k row vs ts f h = dressed_added row (leaf true k ts) vs ts (behind true ts) h (dressed_leaf k ts) (tree_leaf k ts f)
 
--- what a node does
-node_dressed : (all : List Token) (action : Action) (start : Bool) (k : SyntaxKind) (q : Place) (e : ℕ) (row : Sketch) (fs : List Frame) (ts : List Token) (n : ℕ) (es : List Fault)
-    → FitsNode start (head_kind (items ts)) action → AreDressed all (opened (Node k) q e row ∷ fs) ts → Dresses all (perform true action (opened (Node k) q e row) fs ts n es)
-node_dressed all a.Close start k q e row fs ts n es f h = closed_dressed all (opened (Node k) q e row) fs ts n es h
-node_dressed all a.ClosePattern start k q e row fs ts n es f h = closed_dressed all (opened (Node k) q e row) fs ts n es h
-node_dressed all a.CloseEntry start k q e row fs ts n es f h = entry_dressed all (opened (Node k) q e row) fs ts n es h
-node_dressed all a.CloseTwice start k q e row fs ts n es f h = absurd f
-node_dressed all a.Finish start k q e row fs ts n es f h = h
-node_dressed all a.Settle start k q e row fs ts n es f h = absurd f
-node_dressed all a.Extra start k q e row fs ts n es f h =
-    let run : List Token = items ts in
-    let node = dressed_fault Extra (run_row true run ts) (from_item ts) (run_rest true run ts) refl (bare_from ts) (dressed_run run ts (dropped run run) (all_prefix run)) in
-    (h.0, (dressed_added row (one_fault Extra (run_row true run ts)) h.0 ts (run_rest true run ts) h.1.0 node tt, (tt, h.1.1.1)))
-node_dressed all (a.Take after) start k q e row fs ts n es f h = (h.0, (next_dressed k row h.0 ts f.0 h.1.0, (tt, h.1.1.1)))
-node_dressed all (a.Miss after) start k q e row fs ts n es f h = h
-node_dressed all (a.MissWanted until after) start k q e row fs ts n es f h = h
-node_dressed all (a.Run until after) start k q e row fs ts n es f h = (h.0, (run_dressed until row h.0 ts h.1.0, (tt, h.1.1.1)))
-node_dressed all (a.Leaf j after) start k q e row fs ts n es f h = (h.0, (name_dressed j row h.0 ts h.1.0, (tt, h.1.1.1)))
-node_dressed all (a.Open j inside after) start k q e row fs ts n es f h = (from_item ts, (dressed_leaf j ts, (tt, waiting all (opened (Node k) q e row) fs ts h)))
-node_dressed all (a.Begin j inside after) start k q e row fs ts n es f h = (from_item ts, (dressed_blank (from_item ts), (tt, waiting all (opened (Node k) q e row) fs ts h)))
-node_dressed all (a.Entry after) start k q e row fs ts n es f h = (from_item ts, (one_dressed NODE_IDENT ts, (tt, waiting all (opened (Node k) q e row) fs ts h)))
-node_dressed all (a.Twice after) start k q e row fs ts n es f h = (from_item ts, (dressed_leaf NODE_ERROR ts, (tt, waiting all (opened (Node k) q e row) fs ts h)))
-node_dressed all (a.Read level counted after) start k q e row fs ts n es f h = reading_dressed all level counted (opened (Node k) after e row) fs ts n es h
-node_dressed all (a.Wrap j inside high) start k q e row fs ts n es f h = absurd f
-node_dressed all a.Apply start k q e row fs ts n es f h = absurd f
-node_dressed all a.ApplyOr start k q e row fs ts n es f h = absurd f
-
--- what a second name does
-second_dressed : (all : List Token) (action : Action) (next : Option SyntaxKind) (q : Place) (e : ℕ) (row : Sketch) (fs : List Frame) (ts : List Token) (n : ℕ) (es : List Fault)
-    → FitsSecond next action → AreDressed all (opened Second q e row ∷ fs) ts → Dresses all (perform true action (opened Second q e row) fs ts n es)
-second_dressed all a.CloseTwice next q e row fs ts n es f h = closed_dressed all (opened Second q e row) fs ts n (es ++ report Twice (tokens_in (clean row)) ∷ []) h
-second_dressed all (a.MissWanted until after) next q e row fs ts n es f h = h
-second_dressed all (a.Run until after) next q e row fs ts n es f h = (h.0, (run_dressed until row h.0 ts h.1.0, (tt, h.1.1.1)))
-second_dressed all (a.Leaf j after) next q e row fs ts n es f h = (h.0, (name_dressed j row h.0 ts h.1.0, (tt, h.1.1.1)))
-second_dressed all _ next q e row fs ts n es f h = absurd f
-
--- what an operand does
-operand_does : (all : List Token) (action : Action) (q : Place) (e : ℕ) (row : Sketch) (fs : List Frame) (ts : List Token) (n : ℕ) (es : List Fault)
-    → FitsOperand (head_kind (items ts)) action → IsBottom Operand fs → AreDressed all (opened Operand q e row ∷ fs) ts → Dresses all (perform true action (opened Operand q e row) fs ts n es)
-operand_does all a.Settle q e row fs ts n es f b h = closed_dressed all (opened Operand q e row) fs ts n es h
-operand_does all (a.Wrap j inside high) q e row fs ts n es f b h =
-    let free : IsAwaiting blank h.0 h.0 = awaits_blank h.0 (on_some all fs h.0 b h.1.1.1) in
-    (h.0, (next_dressed j row h.0 ts f.0 h.1.0, (tt, (h.0, (free, h.1.1.1)))))
-operand_does all a.Apply q e row fs ts n es f b h =
-    let free : IsAwaiting blank h.0 h.0 = awaits_blank h.0 (on_some all fs h.0 b h.1.1.1) in
-    reading_dressed all 16 false (opened (Node NODE_APPLY) p.Past e row) (opened Operand (p.Behind (low_of q) 15) e blank ∷ fs) ts n es (h.0, (h.1.0, (tt, (h.0, (free, h.1.1.1)))))
-operand_does all a.ApplyOr q e row fs ts n es f b h =
-    let inside : Sketch = ate true row ts ⊕ one_branch NODE_IDENT (leaf true NODE_IDENT ts) in
-    (h.0, (dressed_branch NODE_APPLY inside h.0 (behind true ts) (on_some all fs h.0 b h.1.1.1) (name_dressed NODE_IDENT row h.0 ts h.1.0), (tt, h.1.1.1)))
-operand_does all _ q e row fs ts n es f b h = absurd f
+-- a tree comes behind a row
+grown : (all : List Token) (f : Frame) (fs : List Frame) (ts us : List Token) (g : Sketch) → HasTree (clean g) → ((vs : List Token) → IsDressed f.row vs ts → IsDressed (ate true f.row ts ⊕ g) vs us)
+    → AreDressed all (f ∷ fs) ts → AreDressed all (put f.place (ate true f.row ts ⊕ g) f ∷ fs) us
+grown all f fs ts us g t d h = (h.0, (d h.0 h.1.0, (operand_tree f.head (ate true f.row ts ⊕ g) (tree_added f.row ts g t), h.1.1.1)))
 
 -- what is done by a frame
-perform_dressed : (all : List Token) (action : Action) (start : Bool) (h : Head) (q : Place) (e : ℕ) (row : Sketch) (fs : List Frame) (ts : List Token) (n : ℕ) (es : List Fault)
-    → FitsHead h start (head_kind (items ts)) action → IsBottom h fs → AreDressed all (opened h q e row ∷ fs) ts → Dresses all (perform true action (opened h q e row) fs ts n es)
-perform_dressed all action start (Node k) q e row fs ts n es f b h = node_dressed all action start k q e row fs ts n es f h
-perform_dressed all action start Second q e row fs ts n es f b h = second_dressed all action (head_kind (items ts)) q e row fs ts n es f h
-perform_dressed all action start Operand q e row fs ts n es f b h = operand_does all action q e row fs ts n es f b h
+perform_dressed : (all : List Token) (action : Action) (f : Frame) (fs : List Frame) (ts : List Token) (n : ℕ) (es : List Fault)
+    → Allowed f.place (head_kind (items ts)) action → StandsOn f.head f.place fs → AreDressed all (f ∷ fs) ts → Dresses all (perform true action f fs ts n es)
+perform_dressed all a.Close f fs ts n es al w h = closed_dressed all f fs ts n es h
+perform_dressed all a.ClosePattern f fs ts n es al w h = closed_dressed all f fs ts n es h
+perform_dressed all a.CloseEntry f fs ts n es al w h = entry_dressed all f fs ts n es h
+perform_dressed all a.CloseTwice f fs ts n es al w h = closed_dressed all f fs ts n _ h
+perform_dressed all a.Finish f fs ts n es al w h = h
+perform_dressed all a.Settle f fs ts n es al w h = closed_dressed all f fs ts n es h
+perform_dressed all a.Extra f fs ts n es al w h =
+    let run : List Token = items ts in
+    let node = dressed_fault Extra (run_row true run ts) (from_item ts) (run_rest true run ts) refl (bare_from ts) (dressed_run run ts (dropped run run) (all_prefix run)) in
+    grown all f fs ts (run_rest true run ts) (one_fault Extra (run_row true run ts)) tt (λ vs d. dressed_added f.row (one_fault Extra (run_row true run ts)) vs ts (run_rest true run ts) d node tt) h
+perform_dressed all (a.Take after) f fs ts n es al w h =
+    grown all f fs ts (behind true ts) (leaf true (kind_of f.head) ts) (tree_leaf (kind_of f.head) ts al.0) (λ vs d. next_dressed (kind_of f.head) f.row vs ts al.0 d) h
+perform_dressed all (a.Miss after) f fs ts n es al w h = h
+perform_dressed all (a.MissWanted until after) f fs ts n es al w h = h
+perform_dressed all (a.Run until after) f fs ts n es al w h =
+    grown all f fs ts (run_rest true (run_of until (items ts)) ts) (one_fault (Unwanted until) (run_row true (run_of until (items ts)) ts)) tt (λ vs d. run_dressed until f.row vs ts d) h
+perform_dressed all (a.Leaf j after) f fs ts n es al w h = grown all f fs ts (behind true ts) (one_branch j (leaf true j ts)) tt (λ vs d. name_dressed j f.row vs ts d) h
+perform_dressed all (a.Open j inside after) f fs ts n es al w h = (from_item ts, (dressed_leaf j ts, (tt, waiting all f fs ts h)))
+perform_dressed all (a.Begin j inside after) f fs ts n es al w h = (from_item ts, (dressed_blank (from_item ts), (tt, waiting all f fs ts h)))
+perform_dressed all (a.Entry after) f fs ts n es al w h = (from_item ts, (one_dressed NODE_IDENT ts, (tt, waiting all f fs ts h)))
+perform_dressed all (a.Twice after) f fs ts n es al w h = (from_item ts, (dressed_leaf NODE_ERROR ts, (tt, waiting all f fs ts h)))
+perform_dressed all (a.Read level counted after) f fs ts n es al w h = reading_dressed all level counted (put after f.row f) fs ts n es h
+perform_dressed all (a.Wrap j inside high) f fs ts n es al w h =
+    let free : IsAwaiting blank h.0 h.0 = awaits_blank h.0 (on_some all f.head f.place fs h.0 al.1 w h.1.1.1) in
+    (h.0, (next_dressed j f.row h.0 ts al.0 h.1.0, (tt, (h.0, (free, h.1.1.1)))))
+perform_dressed all a.Apply f fs ts n es al w h =
+    let free : IsAwaiting blank h.0 h.0 = awaits_blank h.0 (on_some all f.head f.place fs h.0 al.1 w h.1.1.1) in
+    reading_dressed all 16 false (opened (Node NODE_APPLY) p.Past f.depth f.row) (opened Operand (p.Behind (low_of f.place) 15) f.depth blank ∷ fs) ts n es (h.0, (h.1.0, (tt, (h.0, (free, h.1.1.1)))))
+perform_dressed all a.ApplyOr f fs ts n es al w h =
+    let inside : Sketch = ate true f.row ts ⊕ one_branch NODE_IDENT (leaf true NODE_IDENT ts) in
+    (h.0, (dressed_branch NODE_APPLY inside h.0 (behind true ts) (on_some all f.head f.place fs h.0 al.1 w h.1.1.1) (name_dressed NODE_IDENT f.row h.0 ts h.1.0), (tt, h.1.1.1)))
 
 -- each step keeps the rows as their items and the tokens make them
 pub step_dressed : (all : List Token) (m : Machine) → AreKept m.frames → Dresses all m → Dresses all (step true m)
@@ -280,8 +264,7 @@ step_dressed all m k h = by_frames m.frames k h
     by_frames (f ∷ fs) k h =
         let next : Option SyntaxKind = head_kind (items m.left) in
         let near : Bool = touches m.reached (items m.left) in
-        perform_dressed all (action_at f.place next near) (is_start (sort_of f.place)) f.head f.place f.depth f.row fs m.left m.reached m.faults
-        (head_fits f.head f.place next near k.0) k.1.0 h
+        perform_dressed all (action_at f.place next near) f fs m.left m.reached m.faults (allowed f.place next near) k h
 
 -- many steps keep the rows as their items and the tokens make them
 pub runs_dressed : (all : List Token) {m n : Machine} → Runs true m n → AreKept m.frames → Dresses all m → Dresses all n

@@ -1,14 +1,15 @@
--- What is dressed from an item on begins and ends with items.
+-- What is dressed from an item on begins and ends with items, as a row of tokens and as trees.
 use Rattle.std.proofs.Common.{◌≡◌, Bool, true, false, List, [], ◌∷◌, ◌++◌, refl, ap, sym, ◌∙◌, subst, append_assoc}
 use Rattle.rnix_kinds.specs.declared.kinds.SyntaxKind.{SyntaxKind}
+use Rattle.rnix_kinds.specs.declared.kinds.SyntaxKind.TheVariants.{TOKEN_IDENT, TOKEN_OR, NODE_IDENT, NODE_CUR_POS, NODE_ERROR}
 use Rattle.rnix_kinds.specs.SyntaxKind.{is_trivia}
-use Rattle.rnix_grammar.specs.Sketch.{Token, Sketch, blank, token, branch, fault, ◌⊕◌, one_token, one_branch, one_fault, tokens_in}
+use Rattle.rnix_grammar.specs.Sketch.{Token, Sketch, blank, token, branch, fault, ◌⊕◌, one_token, one_branch, one_fault, tokens_in, forget, told_as, AreTold}
 use Rattle.rnix_grammar.specs.Layout.{from_item, tail_of, items, trivia_if, trivia_before, is_last, trivia_after, rest_after, left_after, dressed}
 use Rattle.rnix_grammar.specs.Machine.{ate}
-use Rattle.rnix_grammar.specs.Trim.{BeginsWithItem, EndsWithItem, token_kinds, AreFaultsTrimmed}
+use Rattle.rnix_grammar.specs.Trim.{BeginsWithItem, EndsWithItem, leaf_kinds, token_kinds, AreFaultsTrimmed, AreNodesTrimmed}
 use Rattle.rnix_lemmas.proofs.SketchLemmas.{⊕-assoc, ⊕-blank}
 use Rattle.rnix_lemmas.proofs.LayoutLemmas.{IsFirst, first_item, IsBared, bared, items-from_item, items-rest_after}
-use Rattle.rnix_lemmas.proofs.EdgeLemmas.{some, IsEdged, edged_led, edged_added, edged_branch, edged_fault, faults_trimmed-⊕, faults_trimmed_trivia}
+use Rattle.rnix_lemmas.proofs.EdgeLemmas.{token_kinds-++, some, IsEdged, edged_led, edged_added, edged_branch, edged_fault, faults_trimmed-⊕, faults_trimmed_trivia}
 use Rattle.rnix_rows.proofs.DressLemmas.{HasTree, IsBare, bare_from, bare_trivia}
 use Rattle.rnix_rows.proofs.StandsFilled.{AreFilled, AreFaultsFilled}
 
@@ -29,13 +30,9 @@ ready_next : (g x : Sketch) {f : Sketch} (ts : List Token) → IsReady g f ts �
 ready_next g x ts (read e) h = edged_added g ts x (edged_led g e) h
 ready_next g x ts (unread e b t) h = subst (λ (z : Sketch). IsEdged (z ⊕ x)) (sym (ap (λ z. z ⊕ trivia_before ts) e ∙ bare_trivia ts b)) h
 
--- a row goes on with a tree and more behind it
-next_more : (g x f : Sketch) (ts : List Token) → ate true g ts ⊕ (x ⊕ f) ≡ (ate true g ts ⊕ x) ⊕ f
-next_more g x f ts = sym (⊕-assoc (ate true g ts) x f)
-
--- a row with trees behind it
-more : (g h : Sketch) (ts : List Token) → ate true g ts ⊕ h ≡ g ⊕ (trivia_before ts ⊕ h)
-more g h ts = ⊕-assoc g (trivia_before ts) h
+-- and more behind it
+ready_more : (g x f : Sketch) (ts : List Token) → IsEdged ((ate true g ts ⊕ x) ⊕ f) → IsEdged (g ⊕ (trivia_before ts ⊕ (x ⊕ f)))
+ready_more g x f ts h = subst IsEdged (⊕-assoc (ate true g ts) x f ∙ ⊕-assoc g (trivia_before ts) (x ⊕ f)) h
 
 -- a leaf that is an item
 edged_item : (k : SyntaxKind) (t : Token) → is_trivia t.kind ≡ false → IsEdged (one_token k t)
@@ -53,8 +50,7 @@ edged_trees g (token k x f) ts us e h r =
     let w : IsFirst x (tokens_in f ++ us) ts = first_item x (tokens_in f ++ us) ts e in
     let rest : List Token = tail_of (from_item ts) in
     let one : IsEdged (ate true g ts ⊕ one_token k x) = ready_next g (one_token k x) ts r (edged_item k x w.item) in
-    subst IsEdged (sym (next_more g (one_token k x) (dressed f rest) ts) ∙ more g (token k x (dressed f rest)) ts)
-    (edged_trees (ate true g ts ⊕ one_token k x) f rest us w.left h (read one))
+    ready_more g (one_token k x) (dressed f rest) ts (edged_trees (ate true g ts ⊕ one_token k x) f rest us w.left h (read one))
 edged_trees g (branch k c f) ts us e h r =
     let w : IsBared c (from_item ts) (tokens_in f ++ us) = inside c f ts us e in
     let rest : List Token = left_after c (from_item ts) in
@@ -62,8 +58,7 @@ edged_trees g (branch k c f) ts us e h r =
     edged_trees blank c (from_item ts) (tokens_in f ++ us) (items-from_item ts ∙ e ∙ append_assoc (tokens_in c) (tokens_in f) us) h.1 (unread refl (bare_from ts) h.0) in
     let x : Sketch = one_branch k (dressed c (from_item ts)) in
     let one : IsEdged (ate true g ts ⊕ x) = ready_next g x ts r (edged_branch k (dressed c (from_item ts)) below) in
-    subst IsEdged (sym (next_more g x (dressed f rest) ts) ∙ more g (branch k (dressed c (from_item ts)) (dressed f rest)) ts)
-    (edged_trees (ate true g ts ⊕ x) f rest us w.left h.2 (read one))
+    ready_more g x (dressed f rest) ts (edged_trees (ate true g ts ⊕ x) f rest us w.left h.2 (read one))
 edged_trees g (fault n c f) ts us e h r =
     let w : IsBared c (from_item ts) (tokens_in f ++ us) = inside c f ts us e in
     let rest : List Token = left_after c (from_item ts) in
@@ -72,8 +67,7 @@ edged_trees g (fault n c f) ts us e h r =
     let x : Sketch = one_fault n (dressed c (from_item ts)) in
     let one : IsEdged (ate true g ts ⊕ x) = ready_next g x ts r (edged_fault n (dressed c (from_item ts)) below) in
     subst (λ (z : Bool). IsEdged (g ⊕ (trivia_before ts ⊕ fault n (dressed c (from_item ts)) (trivia_after z rest ⊕ dressed f (rest_after z rest))))) (sym h.0)
-    (subst IsEdged (sym (next_more g x (dressed f rest) ts) ∙ more g (fault n (dressed c (from_item ts)) (dressed f rest)) ts)
-    (edged_trees (ate true g ts ⊕ x) f rest us w.left h.3 (read one)))
+    (ready_more g x (dressed f rest) ts (edged_trees (ate true g ts ⊕ x) f rest us w.left h.3 (read one)))
 
 -- what is dressed from an item on begins and ends with items
 edged_from : (f : Sketch) (ts us : List Token) → items ts ≡ tokens_in f ++ us → AreFilled f → HasTree f → IsEdged (dressed f (from_item ts))
@@ -149,3 +143,61 @@ dressed_trimmed (fault n c f) ts us e h =
       faults_trimmed-⊕ (trivia_after (is_last n) rest) (dressed f later) (trimmed_after (is_last n) rest)
           (dressed_trimmed f later us (items-rest_after (is_last n) rest ∙ (inside c f ts us e).left) h.2),
     )
+
+-- kinds that are trivia at the same places
+data AreAlike : List SyntaxKind → List SyntaxKind → Type 0 where
+  none : AreAlike [] []
+  both : {j k : SyntaxKind} {js ks : List SyntaxKind} → is_trivia j ≡ is_trivia k → AreAlike js ks → AreAlike (j ∷ js) (k ∷ ks)
+
+-- two such rows, one behind the other
+alike-++ : {js ks ls ms : List SyntaxKind} → AreAlike js ks → AreAlike ls ms → AreAlike (js ++ ls) (ks ++ ms)
+alike-++ none i = i
+alike-++ (both e h) i = both e (alike-++ h i)
+
+-- they begin alike, and end alike
+begins_alike : {js ks : List SyntaxKind} → AreAlike js ks → BeginsWithItem ks → BeginsWithItem js
+begins_alike none b = tt
+begins_alike (both e h) b = e ∙ b
+
+ends_alike : {js ks : List SyntaxKind} → AreAlike js ks → EndsWithItem ks → EndsWithItem js
+ends_alike none b = tt
+ends_alike (both e none) b = e ∙ b
+ends_alike (both e (both {j = j} {k = k} f h)) b = ends_alike (both {j = j} {k = k} f h) b
+
+-- a leaf is trivia as its token is
+name_alike : (k : SyntaxKind) → is_trivia (told_as NODE_IDENT k) ≡ is_trivia k
+name_alike TOKEN_OR = refl
+name_alike _ = refl
+
+-- below the current position too
+place_alike : (k : SyntaxKind) → is_trivia (told_as NODE_CUR_POS k) ≡ is_trivia k
+place_alike TOKEN_IDENT = refl
+place_alike _ = refl
+
+-- below any parent
+pub told_alike : (p k : SyntaxKind) → is_trivia (told_as p k) ≡ is_trivia k
+told_alike NODE_IDENT k = name_alike k
+told_alike NODE_CUR_POS k = place_alike k
+told_alike _ k = refl
+
+-- the leaves of a row and its tokens
+leaves_alike : (p : SyntaxKind) (f : Sketch) → AreTold p f → AreAlike (leaf_kinds (forget f)) (token_kinds (tokens_in f))
+leaves_alike p blank h = none
+leaves_alike p (token k t f) h = both (ap is_trivia h.0 ∙ told_alike p t.kind) (leaves_alike p f h.1)
+leaves_alike p (branch k c f) h =
+    subst (AreAlike (leaf_kinds (forget c) ++ leaf_kinds (forget f))) (sym (token_kinds-++ (tokens_in c) (tokens_in f)))
+    (alike-++ (leaves_alike k c h.0) (leaves_alike p f h.1))
+leaves_alike p (fault n c f) h =
+    subst (AreAlike (leaf_kinds (forget c) ++ leaf_kinds (forget f))) (sym (token_kinds-++ (tokens_in c) (tokens_in f)))
+    (alike-++ (leaves_alike NODE_ERROR c h.0) (leaves_alike p f h.1))
+
+-- the nodes of a row without its notes
+pub nodes_trimmed : (p : SyntaxKind) (f : Sketch) → AreTold p f → AreEdged f → AreNodesTrimmed (forget f)
+nodes_trimmed p blank h e = tt
+nodes_trimmed p (token k t f) h e = nodes_trimmed p f h.1 e
+nodes_trimmed p (branch k c f) h e =
+    let same = leaves_alike k c h.0 in
+    (begins_alike same e.0.begins, ends_alike same e.0.ends, nodes_trimmed k c h.0 e.1, nodes_trimmed p f h.1 e.2)
+nodes_trimmed p (fault n c f) h e =
+    let same = leaves_alike NODE_ERROR c h.0 in
+    (begins_alike same e.0.begins, ends_alike same e.0.ends, nodes_trimmed NODE_ERROR c h.0 e.1, nodes_trimmed p f h.1 e.2)

@@ -1,10 +1,10 @@
--- What is so of a whole text's trees, where their items and the tokens tell where the trivia stand.
-use Rattle.std.proofs.Common.{◌≡◌, true, List, [], ◌++◌, ap, sym, ◌∙◌, append-nil}
+-- What is so of a whole text's trees, where their items and the tokens tell where the trivia stand, and if its items stand.
+use Rattle.std.proofs.Common.{◌≡◌, true, List, [], ◌++◌, ap, sym, ◌∙◌, append-nil, subst}
 use Rattle.rnix_kinds.specs.declared.kinds.SyntaxKind.{SyntaxKind}
 use Rattle.rnix_kinds.specs.Lexical.Tokens.{Lexeme}
 use Rattle.rnix_tree.specs.Tree.{Tree}
 use Rattle.rnix_grammar.specs.Fault.{Fault}
-use Rattle.rnix_grammar.specs.Sketch.{Token, Sketch, tokens_in, clean, placed_from, AreTold}
+use Rattle.rnix_grammar.specs.Sketch.{Token, Sketch, tokens_in, clean, placed_from, AreTold, forget}
 use Rattle.rnix_grammar.specs.Layout.{trivia_before, from_item, items, left_after, dressed, dressed_whole}
 use Rattle.rnix_grammar.specs.Machine.{ate}
 use Rattle.rnix_grammar.specs.Document.{IsRead}
@@ -12,6 +12,16 @@ use Rattle.rnix_lemmas.proofs.SketchLemmas.{tokens_in-⊕}
 use Rattle.rnix_lemmas.proofs.LayoutLemmas.{items-view, IsBared, bared, dressed_tokens, trivia_tokens, nothing_from, told-⊕, told_trivia, told_dressed}
 use Rattle.rnix_lemmas.proofs.ReportLemmas.{clean_tokens}
 use Rattle.rnix_rows.proofs.Dressed.{whole_dressed}
+use Rattle.rnix_kinds.specs.declared.kinds.SyntaxKind.TheVariants.{NODE_ROOT}
+use Rattle.rnix_grammar.specs.Named.{AreSpelled}
+use Rattle.rnix_grammar.specs.Stands.{StandsWhole}
+use Rattle.rnix_grammar.specs.Trim.{AreFaultsTrimmed, AreNamesBare, AreNodesTrimmed}
+use Rattle.rnix_lemmas.proofs.EdgeLemmas.{faults_trimmed-⊕, faults_trimmed_trivia}
+use Rattle.rnix_rows.proofs.StandsShapes.{whole_rows}
+use Rattle.rnix_rows.proofs.StandsFilled.{rows_filled, stands_filled}
+use Rattle.rnix_rows.proofs.StandsTold.{stands_told, stands_bare}
+use Rattle.rnix_rows.proofs.DressedEdges.{edged-⊕, edged_trivia, dressed_edged, dressed_trimmed, nodes_trimmed}
+use Rattle.rnix_rows.proofs.DressedNames.{bare-⊕, bare_trivia, dressed_bare}
 
 -- all items, with nothing behind them
 pub all_items : (f : Sketch) (ts : List Token) → items ts ≡ tokens_in f → items ts ≡ tokens_in f ++ []
@@ -42,3 +52,25 @@ clean_items f ts e = ap items (sym e) ∙ sym (clean_tokens f)
 pub read_dressed : (ls : List Lexeme) (tree : Tree) (faults : List Fault) (r : IsRead ls tree faults)
     → ate true r.root.row r.last.left ≡ dressed_whole (clean (ate true r.root.row r.last.left)) (placed_from 0 ls)
 read_dressed ls tree faults r = whole_dressed (placed_from 0 ls) r.last r.root r.runs r.alone r.nothing
+
+-- each leaf has the kind that its token has below its parent
+pub laid_told : (f g : Sketch) (ts : List Token) (es : List Fault) → g ≡ dressed_whole f ts → StandsWhole f es → AreTold NODE_ROOT g
+laid_told f g ts es e s = subst (AreTold NODE_ROOT) (sym e) (dressed_whole_told NODE_ROOT f ts (stands_told s))
+
+-- no error node begins or ends with trivia
+pub laid_trimmed : (f g : Sketch) (ts : List Token) (es : List Fault) → g ≡ dressed_whole f ts → items ts ≡ tokens_in f → StandsWhole f es → AreFaultsTrimmed g
+laid_trimmed f g ts es e i s =
+    subst AreFaultsTrimmed (sym e)
+    (faults_trimmed-⊕ (dressed f ts) (trivia_before (left_after f ts)) (dressed_trimmed f ts [] (all_items f ts i) (stands_filled s)) (faults_trimmed_trivia (left_after f ts)))
+
+-- names hold their tokens alone, and an entry of a pattern begins with its name
+pub laid_bare : (f g : Sketch) (ts : List Token) (es : List Fault) → g ≡ dressed_whole f ts → AreSpelled (tokens_in f) → StandsWhole f es → AreNamesBare g
+laid_bare f g ts es e a s =
+    subst AreNamesBare (sym e) (bare-⊕ (dressed f ts) (trivia_before (left_after f ts)) (dressed_bare f ts (stands_bare s a)) (bare_trivia (left_after f ts)))
+
+-- without errors no node begins or ends with trivia
+pub laid_nodes : (f g : Sketch) (ts : List Token) (es : List Fault) → g ≡ dressed_whole f ts → items ts ≡ tokens_in f → StandsWhole f es → es ≡ [] → AreNodesTrimmed (forget g)
+laid_nodes f g ts es e i s n =
+    subst (λ (x : Sketch). AreNodesTrimmed (forget x)) (sym e)
+    (nodes_trimmed NODE_ROOT (dressed_whole f ts) (dressed_whole_told NODE_ROOT f ts (stands_told s))
+    (edged-⊕ (dressed f ts) (trivia_before (left_after f ts)) (dressed_edged f ts [] (all_items f ts i) (rows_filled f ((whole_rows s).0 n).nodes)) (edged_trivia (left_after f ts))))

@@ -1,19 +1,20 @@
--- The error of an error node is of its element: it has its range, and tells the kind of its first token.
-use Rattle.std.proofs.Common.{◌≡◌, ℕ, ◌+◌, true, List, [], ◌∷◌, ◌++◌, length, Some, refl, ap, sym, ◌∙◌, arith}
+-- The errors of error nodes and of entries that repeat a name are of their elements: they have their ranges, and tell what these begin with.
+use Rattle.std.proofs.Common.{◌≡◌, ℕ, ◌+◌, true, List, [], ◌∷◌, ◌++◌, length, Some, refl, ap, sym, ◌∙◌, arith, Bool, false, None, subst, append-nil}
 use Rattle.rnix_kinds.specs.declared.kinds.SyntaxKind.{SyntaxKind}
-use Rattle.rnix_kinds.specs.declared.kinds.SyntaxKind.TheVariants.{NODE_ERROR}
-use Rattle.rnix_tree.specs.Forest.{text_of}
+use Rattle.rnix_kinds.specs.declared.kinds.SyntaxKind.TheVariants.{NODE_ERROR, NODE_IDENT, NODE_PAT_ENTRY}
+use Rattle.rnix_tree.specs.Forest.{text_of, node}
 use Rattle.rnix_tree.specs.Tree.{Tree, Item, item, extent_of}
 use Rattle.rnix_grammar.specs.Fault.{Fault}
-use Rattle.rnix_grammar.specs.Sketch.{Note, Stray, Unwanted, Extra, Twice, TooDeep, Sketch, blank, token, branch, fault, tokens_in, forget, is_some, AreTold, extent_of as place_of}
-use Rattle.rnix_grammar.specs.Reports.{first_kind, report}
+use Rattle.rnix_grammar.specs.Sketch.{Note, Stray, Unwanted, Extra, Twice, TooDeep, Sketch, token, tokens_in, forget, is_some, AreTold, extent_of as place_of, Token, blank, branch, clean, token_if}
+use Rattle.rnix_grammar.specs.Reports.{first_kind, report, only_token, entry_name}
 use Rattle.rnix_grammar.specs.Stands.{begins_with_token}
-use Rattle.rnix_grammar.specs.Trim.{AreNamesBare}
-use Rattle.rnix_grammar.specs.Ranges.{BeginsWith, IsErrorOf, AreErrorsOf}
-use Rattle.rnix_lemmas.proofs.Basics.{true_is_not_false}
-use Rattle.rnix_rows.proofs.StandsMarks.{HasTokens, AreMarked}
-use Rattle.rnix_rows.proofs.PlacedTokens.{ArePlaced, between, row_extent}
-use Rattle.rnix_rows.proofs.RowsIn.{IsRowIn, row_first}
+use Rattle.rnix_grammar.specs.Trim.{AreNamesBare, is_bare, begins_with_node}
+use Rattle.rnix_grammar.specs.Ranges.{BeginsWith, IsErrorOf, AreErrorsOf, IsEntryName}
+use Rattle.rnix_lemmas.proofs.Basics.{true_is_not_false, some_same}
+use Rattle.rnix_rows.proofs.StandsFilled.{HasTokens, AreMarked}
+use Rattle.rnix_rows.proofs.PlacedTokens.{ArePlaced, between, row_extent, placed_first}
+use Rattle.rnix_rows.proofs.RowsIn.{IsRowIn, row_first, row_text}
+use Rattle.rnix_kinds.specs.SyntaxKind.{is_trivia}
 
 -- errors and elements, one list behind another
 pub errors-++ : (t : Tree) (es fs : List Fault) (ms ns : List ℕ) → AreErrorsOf t es ms → AreErrorsOf t fs ns → AreErrorsOf t (es ++ fs) (ms ++ ns)
@@ -31,9 +32,6 @@ pub record IsSound (q : SyntaxKind) (s : ℕ) (f : Sketch) : Type 0 where
 
 -- the first token of an error node
 first_token : (t : Tree) (m s : ℕ) (c : Sketch) → IsRowIn t (m + 1) s (Some m) (forget c) → AreTold NODE_ERROR c → begins_with_token c ≡ true → BeginsWith t m (first_kind (tokens_in c))
-first_token t m s blank h o b = absurd (true_is_not_false (sym b))
-first_token t m s (branch k c f) h o b = absurd (true_is_not_false (sym b))
-first_token t m s (fault n c f) h o b = absurd (true_is_not_false (sym b))
 first_token t m s (token k x f) h o b =
     let first : item t (m + 1) ≡ _ = row_first t (m + 1) s (Some m) (forget (token k x f)) h (omega arith) in
     record {
@@ -41,6 +39,7 @@ first_token t m s (token k x f) h o b =
       parent = ap (λ (i : Item). i.parent) first;
       kind_is = ap (λ (i : Item). i.kind) first ∙ o.0;
     }
+first_token t m s _ h o b = absurd (true_is_not_false (sym b))
 
 -- the error of an error node is of the element that has the kind and the place of the node
 pub report_error : (t : Tree) (m s : ℕ) (n : Note) (c : Sketch) → HasTokens n c → IsRowIn t (m + 1) s (Some m) (forget c) → IsSound NODE_ERROR s c
@@ -63,3 +62,51 @@ report_error t m s n c some h w k a b = by n some
     by (Unwanted until) some = (k, place (begins_some c some), first_token t m s c h w.told some)
     by Extra some = (k, place some, tt)
     by Twice some = (k, place some, tt)
+
+-- nothing is no token
+pub none_some : {A : Type 0} (x : Token) → None ≡ Some x → A
+none_some x h = absurd (cc)
+
+-- the name that a row begins with is that of a node
+name_node : (k : SyntaxKind) (c f : Sketch) (x : Token) → entry_name (branch k c f) ≡ Some x → (k ≡ NODE_IDENT) × (only_token c ≡ Some x)
+name_node NODE_IDENT c f x h = (refl, h)
+name_node _ c f x h = none_some x h
+
+-- a bare name with trivia is its token
+pub data IsName (x : Token) : Sketch → Type 0 where
+  name : (j : SyntaxKind) → IsName x (token j x blank)
+
+bare_if : (b : Bool) (j : SyntaxKind) (y x : Token) → only_token (token_if b j y blank) ≡ Some x → y ≡ x
+bare_if true j y x h = none_some x h
+bare_if false j y x h = some_same y x h
+
+bare_name : (c : Sketch) (x : Token) → is_bare c ≡ true → only_token (clean c) ≡ Some x → IsName x c
+bare_name blank x b h = none_some x h
+bare_name (token j y blank) x b h = subst (λ z. IsName x (token j z blank)) (sym (bare_if (is_trivia y.kind) j y x h)) (name j)
+bare_name _ x b h = absurd (true_is_not_false (sym b))
+
+-- a name at the head of an entry
+name_here : (t : Tree) (e s : ℕ) (x : Token) (d f : Sketch) → (item t e).kind ≡ NODE_PAT_ENTRY → IsRowIn t (e + 1) s (Some e) (forget (branch NODE_IDENT d f)) → ArePlaced s (tokens_in d)
+    → IsName x d → IsEntryName t e (place_of (x ∷ [])) x.text
+name_here t e s x _ f k h a (name j) =
+    let n : ℕ = e + 1 in
+    let first : item t n ≡ _ = row_first t n s (Some e) (forget (branch NODE_IDENT (token j x blank) f)) h (omega arith) in
+    let size : length (x.text ++ []) ≡ length x.text = ap length (append-nil x.text) in
+    let start : x.start ≡ (item t n).start = a.0 ∙ sym (ap (λ (i : Item). i.start) first) in
+    let end : x.end ≡ (item t n).end = a.1 ∙ ap (λ z. s + z) (sym size) ∙ sym (ap (λ (i : Item). i.end) first) in
+    record {
+      entry_is = k;
+      node = record { is_there = omega (arith, h.there); is_node = ap (λ (i : Item). i.is_node) first };
+      parent = ap (λ (i : Item). i.parent) first;
+      node_is = ap (λ (i : Item). i.kind) first;
+      range_is = ap (λ z. between z x.end) start ∙ ap (λ z. between (item t n).start z) end;
+      name_is = sym (append-nil x.text) ∙ sym (row_text t n s (Some e) NODE_IDENT (forget (token j x blank)) (forget f) h);
+    }
+
+-- the name that the row of an entry begins with
+pub row_name : (t : Tree) (e s : ℕ) (c : Sketch) (x : Token) → (item t e).kind ≡ NODE_PAT_ENTRY → IsRowIn t (e + 1) s (Some e) (forget c) → ArePlaced s (tokens_in c)
+    → AreNamesBare c → begins_with_node c ≡ true → entry_name (clean c) ≡ Some x → IsEntryName t e (place_of (x ∷ [])) x.text
+row_name t e s (branch j d f) x k h a r b g =
+    let w = name_node j (clean d) (clean f) x g in
+    name_here t e s x d f k (subst (λ z. IsRowIn t (e + 1) s (Some e) (node z (forget d) (forget f))) w.0 h) (placed_first s (tokens_in d) (tokens_in f) a) (bare_name d x (r.0.0 w.0) w.1)
+row_name t e s _ x k h a r b g = absurd (true_is_not_false (sym b))

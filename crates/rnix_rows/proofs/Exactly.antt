@@ -1,5 +1,6 @@
 -- What is read without an error and a corner is a derivation of its items.
 use Rattle.std.proofs.Common.{◌≡◌, ◌≤◌, ℕ, Bool, true, false, List, [], ◌∷◌, ◌++◌, refl, ap, sym, ◌∙◌, subst, append-nil, append_assoc}
+use Rattle.std.proofs.lemmas.List.{map-append}
 use Rattle.std.specs.Prelude.{map, if◌then◌else◌}
 use Rattle.rnix_kinds.specs.declared.kinds.SyntaxKind.{SyntaxKind}
 use Rattle.rnix_kinds.specs.declared.kinds.SyntaxKind.TheVariants.{TOKEN_CUR_POS, TOKEN_IDENT, TOKEN_OR, NODE_CUR_POS, NODE_IDENT, NODE_ROOT}
@@ -24,8 +25,7 @@ pub beyond_row : (f : Sketch) (us : List Token) → AreBareRows f → beyond (fo
 beyond_row blank us h = refl
 beyond_row (token k t f) us h = beyond_row f us h
 beyond_row (branch k c f) us h =
-    ap (λ x. beyond (forget f) (beyond (forget c) x)) (append_assoc (tokens_in c) (tokens_in f) us)
-    ∙ ap (beyond (forget f)) (beyond_row c (tokens_in f ++ us) h.2) ∙ beyond_row f us h.3
+    rw (append_assoc (tokens_in c) (tokens_in f) us) (ap (beyond (forget f)) (beyond_row c (tokens_in f ++ us) h.2) ∙ beyond_row f us h.3)
 beyond_row (fault n c f) us h = absurd h
 
 -- a row of bare trees, laid over its own tokens, is itself
@@ -33,9 +33,8 @@ pub laid_row_same : (f : Sketch) (us : List Token) → AreBareRows f → laid (f
 laid_row_same blank us h = refl
 laid_row_same (token k t f) us h = ap (token k t) (laid_row_same f us h)
 laid_row_same (branch k c f) us h =
-    ap (λ x. branch k (laid (forget c) x) (laid (forget f) (beyond (forget c) x))) (append_assoc (tokens_in c) (tokens_in f) us)
-    ∙ ap (λ x. branch k x (laid (forget f) (beyond (forget c) (tokens_in c ++ (tokens_in f ++ us))))) (laid_row_same c (tokens_in f ++ us) h.2)
-    ∙ ap (λ x. branch k c (laid (forget f) x)) (beyond_row c (tokens_in f ++ us) h.2) ∙ ap (branch k c) (laid_row_same f us h.3)
+    rw (append_assoc (tokens_in c) (tokens_in f) us, laid_row_same c (tokens_in f ++ us) h.2)
+    (ap (λ x. branch k c (laid (forget f) x)) (beyond_row c (tokens_in f ++ us) h.2) ∙ ap (branch k c) (laid_row_same f us h.3))
 laid_row_same (fault n c f) us h = absurd h
 
 -- and so where no more tokens follow
@@ -66,10 +65,6 @@ told_back NODE_CUR_POS TOKEN_IDENT text h = refl
 told_back NODE_CUR_POS k text h = kept_back k text h
 told_back _ k text h = kept_back k text h
 
-map-++ : (ts us : List Token) → map lexeme_of ts ++ map lexeme_of us ≡ map lexeme_of (ts ++ us)
-map-++ [] us = refl
-map-++ (t ∷ ts) us = ap (λ x. lexeme_of t ∷ x) (map-++ ts us)
-
 -- so the trees stand for the tokens
 pub yields_same : (p : SyntaxKind) (f : Sketch) → AreBareRows f → AreTold p f → AreSpelled (tokens_in f) → yield (forget f) ≡ map lexeme_of (tokens_in f)
 yields_same p blank h t s = refl
@@ -77,7 +72,7 @@ yields_same p (token k x f) h t s =
     ap (λ z. (z, x.text) ∷ yield (forget f)) (ap (λ z. untold z x.text) t.0 ∙ told_back p x.kind x.text s.0) ∙ ap (λ z. lexeme_of x ∷ z) (yields_same p f h t.1 s.1)
 yields_same p (branch k c f) h t s =
     ap (λ z. z ++ yield (forget f)) (yields_same k c h.2 t.0 (spelled_first (tokens_in c) (tokens_in f) s))
-    ∙ ap (λ z. map lexeme_of (tokens_in c) ++ z) (yields_same p f h.3 t.1 (spelled_rest (tokens_in c) (tokens_in f) s)) ∙ map-++ (tokens_in c) (tokens_in f)
+    ∙ ap (λ z. map lexeme_of (tokens_in c) ++ z) (yields_same p f h.3 t.1 (spelled_rest (tokens_in c) (tokens_in f) s)) ∙ sym (map-append lexeme_of (tokens_in c) (tokens_in f))
 yields_same p (fault n c f) h t s = absurd h
 
 -- the trees of such a row have rows of their kinds

@@ -13,7 +13,7 @@ use Rattle.rnix_grammar.specs.Operands.{IsFollowed}
 use Rattle.rnix_grammar.specs.Reads.{IsWrong}
 use Rattle.rnix_grammar.specs.Rows.{Spot, Start, At, go, live}
 use Rattle.rnix_grammar.specs.Sketch.{Token, Note, Stray, Unwanted, Extra, Twice, TooDeep, Sketch, blank, token, fault, ◌⊕◌, one_token, one_fault, row_of, head_kind}
-use Rattle.rnix_grammar.specs.Stands.{is_attrpath, is_inherit, last_from}
+use Rattle.rnix_grammar.specs.Stands.{is_attrpath, is_inherit, seen_as, last_from}
 use Rattle.rnix_grammar.specs.TokenKinds.{is_dot}
 use Rattle.rnix_lemmas.proofs.Basics.{true_is_not_false, none_right}
 use Rattle.rnix_lemmas.proofs.FirstTrees.{IsSingle, an_error}
@@ -22,9 +22,8 @@ use Rattle.rnix_lemmas.proofs.NestPlaces.{is_owned, IsOwned as IsInRow, go_owned
 use Rattle.rnix_lemmas.proofs.Places.{home, is_last, IsSame, lack_leads_on}
 use Rattle.rnix_lemmas.proofs.RowKinds.{has_row}
 use Rattle.rnix_rows.proofs.BegunTrees.{Fronts}
-use Rattle.rnix_rows.proofs.GoingOn.{goes_on_error}
 use Rattle.rnix_rows.proofs.NodeForms.{start_uncounted}
-use Rattle.rnix_rows.proofs.QuietRows.{Calm, Settled, none_next, calm_behind, calm_leaf, calm_tree, settled, Made, made_leaf, made_tree, is_operated, made_elsewhere, made_lost}
+use Rattle.rnix_rows.proofs.QuietRows.{goes_on_error, Calm, Settled, none_next, calm_behind, calm_leaf, calm_tree, settled, Made, made_leaf, made_tree, is_operated, made_elsewhere, made_lost}
 use Rattle.rnix_rows.proofs.WantingSpots.{wants, is_last_at, go_further}
 
 -- so much is known of the row of a kind of node at a spot, with the trees before it, its other trees and the items that are left: it is inside more
@@ -68,7 +67,7 @@ pub kept_leaf : (i : SyntaxKind) (d a c n : ℕ) (q : Spot) (k : SyntaxKind) (t 
 kept_leaf i d a c n q k t b f ts l o w h =
     let on : d ≤ c + 1 = near (is_start q) d c 1 h.items (λ z. omega arith) in
     kept_behind i d a c (suc c) q k b (one_token k t) (token k t f) f (t ∷ ts) ts (λ o. refl) h (omega (arith, on))
-    (calm_behind (go q k) b (one_token k t) k ts (λ o. refl) (λ v j e. calm_leaf q k n t ts o v j)) (made_leaf i q k t n b (t ∷ ts) ts ts l o w h.made)
+    (calm_behind (go q k) b (one_token k t) k ts (λ o. refl) (λ v j e. calm_leaf q k n t ts o v j)) (made_leaf k t n ts ts l o w h.made)
 
 -- behind a node, or an error node that stands for an operand
 pub kept_tree : (i : SyntaxKind) (d a c l : ℕ) (q : Spot) (k : SyntaxKind) (b x f g : Sketch) (ts vs : List Token) → has_row k ≡ true → IsSingle x
@@ -78,7 +77,7 @@ pub kept_tree : (i : SyntaxKind) (d a c l : ℕ) (q : Spot) (k : SyntaxKind) (b 
     → Kept i d a (c + l) (go q k) (b ⊕ x) g vs
 kept_tree i d a c l q k b x f g ts vs r s last w e dot m h =
     kept_behind i d a c (c + l) q k b x f g ts vs last h (near (is_start q) d c l h.items m) (calm_behind (go q k) b x k vs last (calm_tree q k vs w e dot))
-    (made_tree i q k b x ts vs r s w e h.made)
+    (made_tree k x vs r s w e h.made)
 
 -- the kind, if there is one, is that of an `inherit` entry
 abbrev pub inherits : Option SyntaxKind → Bool
@@ -97,20 +96,24 @@ all_runs _ = assumption
 pub run_facts : (x y : Place) (until : Until) → run_at x ≡ Some (until, y) → RunFacts x (Some (until, y))
 run_facts x y until e = subst (RunFacts x) e (all_runs x)
 
+-- behind an error node that stands for no operand
+kept_still : (note : Note) (i : SyntaxKind) (d a c l : ℕ) (x y : Place) (b f g h : Sketch) (ts vs : List Token) → seen_as note ≡ NODE_ERROR → is_owned (home y) i ≡ true
+    → (is_last y ≡ true → vs ≡ []) → is_operated x ≡ false → Kept i d a c (At x) b f ts → Kept i d a (c + l) (At y) (b ⊕ one_fault note g) h vs
+kept_still note i d a c l x y b f g h ts vs n o last e k = record {
+  owned = o;
+  further = last;
+  calm = calm_behind (At y) b (one_fault note g) NODE_ERROR vs (λ p. ap Some n) (λ w j u. refl);
+  made = made_elsewhere e k.made;
+  fronts = tt;
+  nodes = k.nodes;
+  items = near false d c l k.items (λ z. absurd (cc));
+}
+
 kept_run : (i : SyntaxKind) (d a c : ℕ) (x y : Place) (until : Until) (b f g h : Sketch) (ts vs : List Token) → run_at x ≡ Some (until, y)
-    → Kept i d a c (At x) b f (ts ++ vs)
-    → Kept i d a (c + length ts) (At y) (b ⊕ one_fault (Unwanted until) g) h vs
+    → Kept i d a c (At x) b f (ts ++ vs) → Kept i d a (c + length ts) (At y) (b ⊕ one_fault (Unwanted until) g) h vs
 kept_run i d a c x y until b f g h ts vs e k =
     let r = run_facts x y until e in
-    record {
-      owned = ap (λ o. is_owned o i) r.0 ∙ k.owned;
-      further = λ z. none_right ts vs (k.further (sym r.1 ∙ z));
-      calm = calm_behind (At y) b (one_fault (Unwanted until) g) NODE_ERROR vs (λ o. refl) (λ w j u. refl);
-      made = made_elsewhere i x (At y) b (b ⊕ one_fault (Unwanted until) g) (ts ++ vs) vs r.2 k.made;
-      fronts = tt;
-      nodes = k.nodes;
-      items = near false d c (length ts) k.items (λ z. absurd (cc));
-    }
+    kept_still (Unwanted until) i d a c (length ts) x y b f g h (ts ++ vs) vs refl (ap (λ o. is_owned o i) r.0 ∙ k.owned) (λ z. none_right ts vs (k.further (sym r.1 ∙ z))) r.2 k
 
 -- behind an error node
 pub kept_wrong : (note : Note) (i : SyntaxKind) (d a c : ℕ) (q r : Spot) (b f : Sketch) (ts vs : List Token) → IsWrong note d q r ts vs
@@ -129,15 +132,8 @@ kept_wrong (Unwanted until) i d a c q r b f ts vs w h =
 kept_wrong Extra i d a c q r b f ts vs w h =
     let k : Kept i d a c (At p.RootEnd) b (fault Extra (row_of ts) f) (ts ++ vs) = subst
     (λ (z : Spot). Kept i d a c z b (fault Extra (row_of ts) f) (ts ++ vs)) w.2 h in
-    subst (λ (z : Spot). Kept i d a (c + length ts) z (b ⊕ one_fault Extra (row_of ts)) f vs) (sym (w.3 ∙ w.2)) (record {
-      owned = k.owned;
-      further = λ z. w.1;
-      calm = calm_behind (At p.RootEnd) b (one_fault Extra (row_of ts)) NODE_ERROR vs (λ o. refl) (λ v j u. refl);
-      made = made_elsewhere i p.RootEnd (At p.RootEnd) b (b ⊕ one_fault Extra (row_of ts)) (ts ++ vs) vs refl k.made;
-      fronts = tt;
-      nodes = k.nodes;
-      items = near false d c (length ts) k.items (λ z. absurd (cc));
-    })
+    subst (λ (z : Spot). Kept i d a (c + length ts) z (b ⊕ one_fault Extra (row_of ts)) f vs) (sym (w.3 ∙ w.2))
+    (kept_still Extra i d a c (length ts) p.RootEnd p.RootEnd b (fault Extra (row_of ts) f) (row_of ts) f (ts ++ vs) vs refl k.owned (λ z. w.1) refl k)
 kept_wrong Twice i d a c q r b f ts vs w h = absurd w
 kept_wrong TooDeep i d a c q r b f ts vs w h =
     subst (λ (z : Spot). Kept i d a (c + length ts) z (b ⊕ one_fault TooDeep (row_of ts)) f vs) w.3
@@ -157,7 +153,7 @@ kept_lost i d a c x y e b f ts n l h = subst (λ (us : List Token). Kept i d a c
   owned = same_owner (home x) (home y) i (lack_leads_on x y e l) h.owned;
   further = λ z. refl;
   calm = λ w j u. none_next j u;
-  made = made_lost i x y e b ts l h.made;
+  made = made_lost l h.made;
   fronts = tt;
   nodes = h.nodes;
   items = h.items;
@@ -166,12 +162,4 @@ kept_lost i d a c x y e b f ts n l h = subst (λ (us : List Token). Kept i d a c
 -- behind a second name
 pub kept_second : (i : SyntaxKind) (d a c l : ℕ) (b f g h : Sketch) (ts vs : List Token) → Kept i d a c (At (p.PatternEnd true)) b f ts
     → Kept i d a (c + l) (At p.PatternPast) (b ⊕ one_fault Twice g) h vs
-kept_second i d a c l b f g h ts vs k = record {
-  owned = k.owned;
-  further = λ z. absurd (cc);
-  calm = λ w. absurd (cc);
-  made = made_elsewhere i (p.PatternEnd true) (At p.PatternPast) b (b ⊕ one_fault Twice g) ts vs refl k.made;
-  fronts = tt;
-  nodes = k.nodes;
-  items = near false d c l k.items (λ z. absurd (cc));
-}
+kept_second i d a c l b f g h ts vs k = kept_still Twice i d a c l (p.PatternEnd true) p.PatternPast b f g h ts vs refl k.owned (λ z. absurd (cc)) refl k

@@ -15,7 +15,7 @@ use Rattle.rnix_grammar.specs.Missing.{lack, run_at}
 use Rattle.rnix_grammar.specs.OwnItems.{owns, owns_end, IsOwned, stands_owned, stands_owned_in}
 use Rattle.rnix_grammar.specs.Reads.{Reads, end, leaf, lost, wrong, second, inner, IsWrong, IsOver}
 use Rattle.rnix_grammar.specs.Rows.{Spot, Start, At, fits, first, go, go_slot, live, start, whole, counts}
-use Rattle.rnix_grammar.specs.Sketch.{Token, Note, Stray, Unwanted, Extra, Twice, TooDeep, Sketch, blank, token, branch, row_of, tokens_in, is_some, told_as, head_kind}
+use Rattle.rnix_grammar.specs.Sketch.{Token, Note, Stray, Unwanted, Extra, Twice, TooDeep, Sketch, blank, token, branch, tokens_in, is_some, told_as, head_kind}
 use Rattle.rnix_grammar.specs.Slots.{slot_at}
 use Rattle.rnix_grammar.specs.Stands.{begins_with_token, suits, is_filled}
 use Rattle.rnix_grammar.specs.Tables.{wanted_kinds}
@@ -24,7 +24,7 @@ use Rattle.rnix_lemmas.proofs.Basics.{true_is_not_false, not_if, some_same}
 use Rattle.rnix_lemmas.proofs.EveryKind.{never, whenever_two}
 use Rattle.rnix_lemmas.proofs.LaterSpots.{is_start}
 use Rattle.rnix_lemmas.proofs.NodeKinds.{fits_expression}
-use Rattle.rnix_lemmas.proofs.OpeningRows.{HasRow, Opening, by_token, by_branch, by_fault, opened, no_row, live_to}
+use Rattle.rnix_lemmas.proofs.OpeningRows.{HasRow, Opening, by_token, by_branch, by_fault, is_place, opened, no_row, live_to}
 use Rattle.rnix_lemmas.proofs.SketchLemmas.{tokens_in-row_of}
 use Rattle.rnix_rows.proofs.BegunTrees.{MayBegin, Names, Fronts, begins_pattern}
 use Rattle.rnix_rows.proofs.WantingSpots.{is_listed_in, is_listed, starts_first}
@@ -33,41 +33,48 @@ some_left : (ts us : List Token) → is_some ts ≡ true → is_some (ts ++ us) 
 some_left [] us h = absurd (true_is_not_false (sym h))
 some_left (t ∷ ts) us h = refl
 
-start_part : (q : Spot) → is_start q ≡ true → whole q ≡ false
-start_part (Start k) h = refl
-start_part _ h = cc
-
 -- a spot before the first child of a row is not counted
 pub start_uncounted : (q : Spot) → is_start q ≡ true → counts q ≡ false
 start_uncounted (Start k) h = refl
 start_uncounted _ h = cc
 
--- an error node that a row begins with has items
-wrong_some : (note : Note) (d : ℕ) (q r : Spot) (ts vs : List Token) → is_start q ≡ true → IsWrong note d q r ts vs → is_some ts ≡ true
+-- it is no place
+pub start_unplaced : (q : Spot) → is_start q ≡ true → is_place q ≡ false
+start_unplaced (Start k) h = refl
+start_unplaced _ h = cc
+
+-- where a row has come to no place it is not whole, and nothing counts
+unplaced : (q : Spot) → is_place q ≡ false → (whole q ≡ false) × (counts q ≡ false)
+unplaced (At x) h = absurd (true_is_not_false h)
+unplaced _ h = (refl, refl)
+
+-- and the row of a node that stands there begins at no place
+pub unplaced_start : (q : Spot) (k : SyntaxKind) → is_place q ≡ false → live (go q k) ≡ true → is_place (start k) ≡ false
+unplaced_start (Start n) k h l =
+    not_if (is_place (start k)) (whenever_two (λ n k. live (first n k)) (λ n k. if is_place (start k) then false else true) refl n k l)
+unplaced_start (At x) k h l = absurd (true_is_not_false h)
+unplaced_start q k h l = not_if (is_place (start k)) (implied (λ k. live (go q k)) (λ k. if is_place (start k) then false else true) refl k l)
+
+-- an error node there has items
+wrong_some : (note : Note) (d : ℕ) (q r : Spot) (ts vs : List Token) → is_place q ≡ false → IsWrong note d q r ts vs → is_some ts ≡ true
 wrong_some Stray d q r [] vs h w = absurd (cc)
 wrong_some Stray d q r (t ∷ ts) vs h w = refl
 wrong_some (Unwanted until) d q r ts vs h w = w.0
 wrong_some Extra d q r ts vs h w = w.0
 wrong_some Twice d q r ts vs h w = absurd w
-wrong_some TooDeep d q r ts vs h w = absurd (true_is_not_false (sym w.1 ∙ start_uncounted q h))
+wrong_some TooDeep d q r ts vs h w = absurd (true_is_not_false (sym w.1 ∙ (unplaced q h).1))
 
--- the row of a node below a first tree begins with one
-pub first_starts : (q : Spot) (k : SyntaxKind) → is_start q ≡ true → live (go q k) ≡ true → is_start (start k) ≡ true
-first_starts (Start i) k h l = whenever_two (λ i j. live (first i j)) (λ i j. is_start (start j)) refl i k l
-first_starts _ k h l = absurd (true_is_not_false (sym h))
-
--- a row that begins with a first tree has items
+-- a complete row that begins at no place has items
 pub row_some : {i : SyntaxKind} {d n : ℕ} {q s : Spot} {b : Sketch} {us : List Token} {f : Sketch} {es : List Fault} → Reads i d n q s b us f es
-    → is_start q ≡ true → whole s ≡ true
-    → is_some (tokens_in f) ≡ true
-row_some {q = q} end h w = absurd (true_is_not_false (sym w ∙ start_part q h))
+    → is_place q ≡ false → whole s ≡ true → is_some (tokens_in f) ≡ true
+row_some {q = q} end h w = absurd (true_is_not_false (sym w ∙ (unplaced q h).0))
 row_some (leaf e v x y g l c i r) h w = refl
-row_some (lost u f l x r z) h w = absurd (true_is_not_false (sym h))
+row_some (lost u f l x r z) h w = absurd (true_is_not_false h)
 row_some {d = d} {q = q} (wrong {r = r} {vs = vs} {c = c} {f = f} note ts hc hv x y v hg he r' hf) h w =
     some_left (tokens_in c) (tokens_in f) (ap (λ z. is_some (tokens_in z)) hc ∙ ap is_some (tokens_in-row_of ts) ∙ wrong_some note d q r ts vs h v)
-row_some (second v c i x q r g t z) h w = absurd (true_is_not_false (sym h ∙ ap is_start q))
+row_some (second v c i x q r g t z) h w = absurd (true_is_not_false (sym (ap is_place q) ∙ h))
 row_some {q = q} (inner {c = c} {f = f} {k = k} v u r i x y j z t g l hg r' hf) h w =
-    some_left (tokens_in c) (tokens_in f) (row_some r (first_starts q k h (ap live g ∙ l)) x.0)
+    some_left (tokens_in c) (tokens_in f) (row_some r (unplaced_start q k h (ap live g ∙ l)) x.0)
 
 filled_by : (k : SyntaxKind) (c : Sketch) → is_some (tokens_in c) ≡ true → is_filled k c ≡ true
 filled_by NODE_ATTRPATH c h = refl
@@ -93,7 +100,7 @@ listed _ x k c vs h i l o n = absurd (true_is_not_false (sym h))
 -- a node that is complete has items, unless it is an attribute path
 pub node_filled : (q : Spot) (k : SyntaxKind) (c : Sketch) (n : ℕ) (vs : List Token) → live (go q k) ≡ true
     → IsOwned q n (tokens_in c ++ vs) (stands_owned q k c)
-    → (is_start (start k) ≡ true → is_some (tokens_in c) ≡ true) → (tokens_in c ≡ [] → vs ≡ []) → is_filled k c ≡ true
+    → (is_place (start k) ≡ false → is_some (tokens_in c) ≡ true) → (tokens_in c ≡ [] → vs ≡ []) → is_filled k c ≡ true
 node_filled q k c n vs l o h e = by (is_start (start k)) refl (starts_first q k l)
   where
     at_spot : (q : Spot) → is_start (start k) ≡ false → is_listed q ≡ true → live (go q k) ≡ true → IsOwned q n (tokens_in c ++ vs) (stands_owned q k c)
@@ -102,7 +109,7 @@ node_filled q k c n vs l o h e = by (is_start (start k)) refl (starts_first q k 
     at_spot _ i w l o = absurd (true_is_not_false (sym w))
 
     by : (v : Bool) → is_start (start k) ≡ v → (v || is_listed q) ≡ true → is_filled k c ≡ true
-    by true i w = filled_by k c (h i)
+    by true i w = filled_by k c (h (start_unplaced (start k) i))
     by false i w = at_spot q i w l o
 
 -- no name begins with `@`

@@ -18,15 +18,12 @@ use Rattle.rnix_lemmas.proofs.EntryNames.{bare_name, has_branch, has-⊕, if_not
 use Rattle.rnix_rows.proofs.TreeShapes.{Lists, clean_name, repeats_named, text_in as name_of}
 use Rattle.rnix_rows.proofs.PlacedTokens.{ArePlaced, text_in, placed_first, placed_rest, forget-length}
 use Rattle.rnix_rows.proofs.RowsIn.{IsRowIn, row_first, row_inside, row_behind_leaf, row_behind_node}
-use Rattle.rnix_rows.proofs.ErrorElements.{errors-++, IsSound, report_error}
-use Rattle.rnix_rows.proofs.NameRanges.{row_name, none_some}
+use Rattle.rnix_rows.proofs.ErrorElements.{errors-++, IsSound, report_error, row_name, none_some}
 
 -- one or the other
 swapped : (x y : Bool) → (if x then true else (if y then true else false)) ≡ (if y then true else x)
 swapped true true = refl
-swapped true false = refl
-swapped false true = refl
-swapped false false = refl
+swapped _ _ = refl
 
 -- the names before a row, with that of one more node
 lists_node : (names : List (List ℕ)) (b : Sketch) (k : SyntaxKind) (c : Sketch) → Lists names b → Lists (with_name (name_of (bare_name k c)) names) (b ⊕ one_branch k c)

@@ -1,22 +1,20 @@
 -- The errors of a whole text, and the elements of its tree that they are of.
-use Rattle.std.proofs.Common.{◌≡◌, false, List, [], ◌∷◌, ◌++◌, None, Some, refl, ap, sym, ◌∙◌, subst, append-nil}
+use Rattle.std.proofs.Common.{◌≡◌, List, [], None, Some, refl, sym, subst, append-nil}
 use Rattle.rnix_kinds.specs.declared.kinds.SyntaxKind.TheVariants.{NODE_ROOT}
 use Rattle.rnix_kinds.specs.Lexical.Tokens.{Lexeme}
 use Rattle.rnix_tree.specs.Forest.{empty}
-use Rattle.rnix_tree.specs.Tree.{Tree}
-use Rattle.rnix_tree.specs.Walk.{Step, steps_from}
+use Rattle.rnix_tree.specs.Tree.{Tree, forest_of}
 use Rattle.rnix_grammar.specs.Fault.{Fault}
 use Rattle.rnix_grammar.specs.Sketch.{Sketch, blank, forget, clean}
 use Rattle.rnix_grammar.specs.Mended.{others}
-use Rattle.rnix_grammar.specs.Shape.{reports_within}
 use Rattle.rnix_grammar.specs.Stands.{StandsWhole}
 use Rattle.rnix_grammar.specs.Parsed.{IsParsed}
 use Rattle.rnix_grammar.specs.Ranges.{of_nodes, error_nodes, at_fault_from, at_fault, AreErrorsOf}
-use Rattle.rnix_rows.proofs.StandsMarks.{stands_marked, marked_clean}
+use Rattle.rnix_rows.proofs.StandsFilled.{stands_marked, marked_clean}
 use Rattle.rnix_rows.proofs.PlacedTokens.{ArePlaced, placed_all}
 use Rattle.rnix_rows.proofs.RowsIn.{IsRowIn, row_whole, row_inside}
 use Rattle.rnix_rows.proofs.ErrorElements.{IsSound}
-use Rattle.rnix_rows.proofs.WalkErrors.{of_nodes-others, errors_at, errors_at-++, node_left, walk_errors}
+use Rattle.rnix_rows.proofs.WalkErrors.{node_errors, walk_errors}
 use Rattle.rnix_rows.proofs.OrderedErrors.{row_errors}
 
 -- the tree of a sketch
@@ -36,25 +34,9 @@ sound_whole {tokens = tokens} h stands = record {
   marked = marked_clean h.reading.sketch (stands_marked stands);
 }
 
--- the error nodes of a tree are those below its root
-nodes_below : (f : Sketch) → error_nodes (tree_of f) ≡ errors_at (tree_of f) (steps_from 1 (forget f))
-nodes_below f =
-    let inner : List Step = steps_from 1 (forget f) in
-    errors_at-++ (tree_of f) inner ((false, 0) ∷ []) ∙ ap (λ z. errors_at (tree_of f) inner ++ z) (node_left (tree_of f) 0 [] refl) ∙ append-nil (errors_at (tree_of f) inner)
-
--- and so with entries
+-- the elements at fault of a tree are those below its root
 fault_below : (f : Sketch) → at_fault (tree_of f) ≡ at_fault_from 1 [] (forget f)
 fault_below f = append-nil (at_fault_from 1 [] (forget f))
-
--- the errors of error nodes are, one by one, of the error nodes that a walk over the tree leaves
-pub parsed_nodes : {tokens : List Lexeme} {tree : Tree} {faults : List Fault} → (h : IsParsed tokens tree faults) → StandsWhole (clean h.reading.sketch) faults → AreErrorsOf tree (of_nodes faults) (error_nodes tree)
-parsed_nodes {tree = tree} {faults = faults} h stands =
-    let f : Sketch = h.reading.sketch in
-    let same : of_nodes faults ≡ of_nodes (reports_within blank f) = of_nodes-others faults ∙ ap of_nodes h.paired in
-    subst (λ z. AreErrorsOf z (of_nodes faults) (error_nodes z)) (sym h.reading.tree_is)
-    (subst (AreErrorsOf (tree_of f) (of_nodes faults)) (sym (nodes_below f))
-    (subst (λ z. AreErrorsOf (tree_of f) z (errors_at (tree_of f) (steps_from 1 (forget f)))) (sym same)
-    (walk_errors (tree_of f) NODE_ROOT 1 0 (Some 0) blank f (row_below f) (sound_whole h stands))))
 
 -- all errors but those of the end of the text are, one by one, of the error nodes and of the entries that repeat a name, as these close
 pub parsed_order : {tokens : List Lexeme} {tree : Tree} {faults : List Fault} → (h : IsParsed tokens tree faults) → StandsWhole (clean h.reading.sketch) faults → AreErrorsOf tree (others faults) (at_fault tree)
@@ -64,3 +46,8 @@ parsed_order {tree = tree} {faults = faults} h stands =
     (subst (AreErrorsOf (tree_of f) (others faults)) (sym (fault_below f))
     (subst (λ z. AreErrorsOf (tree_of f) z (at_fault_from 1 [] (forget f))) (sym h.paired)
     (row_errors (tree_of f) NODE_ROOT 1 0 (Some 0) blank [] f (row_below f) (sound_whole h stands) (λ name. refl))))
+
+-- the errors of error nodes are, one by one, of the error nodes that a walk over the tree leaves
+pub parsed_nodes : {tokens : List Lexeme} {tree : Tree} {faults : List Fault} → (h : IsParsed tokens tree faults) → StandsWhole (clean h.reading.sketch) faults → AreErrorsOf tree (of_nodes faults) (error_nodes tree)
+parsed_nodes {tree = tree} {faults = faults} h stands =
+    subst (AreErrorsOf tree (of_nodes faults)) (sym (walk_errors tree 0 0 None [] (forest_of tree) (row_whole tree))) (node_errors tree faults (at_fault tree) (parsed_order h stands))

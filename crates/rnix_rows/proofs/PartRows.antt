@@ -17,7 +17,7 @@ use Rattle.rnix_grammar.specs.Derivation.{has_tokens_alone}
 use Rattle.rnix_grammar.specs.Parsed.{IsParsed}
 use Rattle.rnix_lemmas.proofs.Basics.{not_if}
 use Rattle.rnix_lemmas.proofs.EntryNames.{both_true}
-use Rattle.rnix_rows.proofs.StrictTokens.{told_token, spelled_token}
+use Rattle.rnix_rows.proofs.StandsTold.{told_token, spelled_token}
 use Rattle.rnix_lemmas.proofs.SpelledLemmas.{AreRuled, spelled_from}
 use Rattle.rnix_kinds.proofs.AllKinds.{implied}
 use Rattle.rnix_lemmas.proofs.RowKinds.{has_row, starts_row}

@@ -1,32 +1,137 @@
--- What waits for a token, or is complete, along a row: the next item does not go on with the tree before it.
-use Rattle.std.proofs.Common.{◌≡◌, ℕ, ◌<◌, Bool, true, false, List, [], ◌∷◌, Option, Some, None, refl, ap, sym, ◌∙◌, subst, arith}
+-- Which items go on with a complete node, and what is so of a row where the next item goes on with none of its trees.
+use Rattle.std.proofs.Common.{◌≡◌, ℕ, ◌≤◌, ◌<◌, Bool, true, false, List, [], ◌∷◌, Some, refl, ap, sym, ◌∙◌, subst, arith, Option, None}
 use Rattle.std.proofs.lemmas.Bool.Decides.{nat_tests}
-use Rattle.std.specs.Prelude.{◌||◌, nat_eq}
+use Rattle.std.specs.List.{list_all}
+use Rattle.std.specs.Prelude.{◌&&◌, if◌then◌else◌, nat_eq, nat_le, ◌||◌}
 use Rattle.rnix_kinds.specs.declared.kinds.SyntaxKind.{SyntaxKind}
-use Rattle.rnix_kinds.specs.declared.kinds.SyntaxKind.TheVariants.{TOKEN_INVERT, TOKEN_SUB, NODE_ATTRPATH, NODE_BIN_OP, NODE_UNARY_OP}
+use Rattle.rnix_kinds.specs.declared.kinds.SyntaxKind.TheVariants.{TOKEN_INVERT, NODE_APPLY, NODE_ATTRPATH, NODE_BIN_OP, NODE_LITERAL, NODE_UNARY_OP, TOKEN_SUB}
+use Rattle.rnix_kinds.proofs.AllKinds.{all_kinds, implied}
+use Rattle.rnix_grammar.specs.Levels.{power, right_of, high_of}
+use Rattle.rnix_grammar.specs.Sketch.{Token, Note, Sketch, blank, token, branch, fault, ◌⊕◌, one_branch, one_fault, head_kind, one_token}
+use Rattle.rnix_grammar.specs.Rows.{is_simple, is_negated, is_questioned, is_operand, is_expression, is_infix, fits, Spot, Start, BeforeOperator, At, go, go_slot, live, start, whole}
+use Rattle.rnix_grammar.specs.Stands.{continues_kind, is_attrpath, continues, seen_as, last_from, last_kind}
+use Rattle.rnix_grammar.specs.TreeLevels.{operator_in, prefix_in, calls_or}
+use Rattle.rnix_grammar.specs.Operands.{follows, goes_on, IsFollowed, IsOperand, level_at}
+use Rattle.rnix_lemmas.proofs.Basics.{true_is_not_false, some_same}
+use Rattle.rnix_lemmas.proofs.FollowLemmas.{goes_after, FollowedTo, followed_infix, followed_inverted, followed_negated, follows_token}
+use Rattle.rnix_lemmas.proofs.LevelLemmas.{operates, operand_power, questioned_operand, negated_questioned, simple_negated}
 use Rattle.rnix_grammar.specs.declared.place.Place.{Place}
 use Rattle.rnix_grammar.specs.declared.place.Place.TheVariants as p
 use Rattle.rnix_grammar.specs.declared.slot.Slot.{Slot}
 use Rattle.rnix_grammar.specs.declared.slot.Slot.TheVariants as s
 use Rattle.rnix_grammar.specs.Fault.{Fault, ended}
-use Rattle.rnix_grammar.specs.Levels.{power, right_of}
 use Rattle.rnix_grammar.specs.Missing.{lack}
 use Rattle.rnix_grammar.specs.OwnItems.{owns_in, IsOwned}
-use Rattle.rnix_grammar.specs.Operands.{follows, IsFollowed, IsOperand, level_at}
-use Rattle.rnix_grammar.specs.Rows.{is_operand, is_infix, fits, Spot, Start, BeforeOperator, At, go, go_slot, live, start, whole}
-use Rattle.rnix_grammar.specs.Sketch.{Token, Sketch, blank, token, branch, fault, ◌⊕◌, one_token, head_kind}
 use Rattle.rnix_grammar.specs.Slots.{slot_at, level_in}
-use Rattle.rnix_grammar.specs.Stands.{continues_kind, continues, is_attrpath, seen_as, last_from, last_kind}
 use Rattle.rnix_grammar.specs.TokenKinds.{is_dot}
-use Rattle.rnix_grammar.specs.TreeLevels.{operator_in, prefix_in}
-use Rattle.rnix_lemmas.proofs.Basics.{true_is_not_false, some_same}
 use Rattle.rnix_lemmas.proofs.EveryKind.{never}
 use Rattle.rnix_lemmas.proofs.FirstTrees.{IsSingle, single_operator}
-use Rattle.rnix_lemmas.proofs.FollowLemmas.{follows_token}
 use Rattle.rnix_lemmas.proofs.OpeningRows.{live_to, to_live}
 use Rattle.rnix_lemmas.proofs.RowKinds.{has_row}
-use Rattle.rnix_rows.proofs.GoingOn.{GoesOn, IsLooser, looser, goes_on_plain, goes_on_binary, goes_on_negated, goes_on_inverted}
 use Rattle.rnix_rows.proofs.WantingSpots.{wants, is_parted_in, is_parted, is_closed, closed_continues, closed_before}
+
+-- the next of some items goes on with a node, if it goes on with the node's kind
+abbrev pub GoesOn : SyntaxKind → Sketch → List Token → Type 0
+GoesOn k c ts = (j : SyntaxKind) → head_kind ts ≡ Some j → continues_kind j k ≡ true → follows j (one_branch k c) ≡ true
+
+-- the next of some items binds looser than a level, if it goes on with a kind
+abbrev pub IsLooser : ℕ → SyntaxKind → List Token → Type 0
+IsLooser n k ts = (j : SyntaxKind) → head_kind ts ≡ Some j → continues_kind j k ≡ true → power j < n
+
+-- nodes that end with an operand of an operator
+abbrev pub is_operation : SyntaxKind → Bool
+is_operation NODE_BIN_OP = true
+is_operation NODE_UNARY_OP = true
+is_operation kind = false
+
+-- what goes on with the kind of another node goes on with the node
+pub goes_on_plain : (k : SyntaxKind) (c : Sketch) (j : SyntaxKind) → is_operation k ≡ false → is_attrpath k ≡ false → continues_kind j k ≡ true
+    → follows j (one_branch k c) ≡ true
+goes_on_plain NODE_BIN_OP c j o a h = absurd (true_is_not_false o)
+goes_on_plain NODE_UNARY_OP c j o a h = absurd (true_is_not_false o)
+goes_on_plain NODE_ATTRPATH c j o a h = absurd (true_is_not_false a)
+goes_on_plain NODE_APPLY c j o a h =
+    elim (calls_or c) as (λ w. goes_after j (if w then 16 else 15) false ≡ true) [
+      | true ↦ implied (λ i. continues_kind i NODE_APPLY) (λ i. goes_after i 16 false) refl j h
+      | false ↦ implied (λ i. continues_kind i NODE_APPLY) (λ i. goes_after i 15 false) refl j h
+    ]
+goes_on_plain k c j o a h = implied (λ i. continues_kind i k) (λ i. follows i (one_branch k c)) refl j h
+
+-- so it is with an error node in an operand's place
+pub goes_on_error : (n : Note) (c : Sketch) (j : SyntaxKind) → continues_kind j NODE_LITERAL ≡ true → follows j (one_fault n c) ≡ true
+goes_on_error n c j h = implied (λ i. continues_kind i NODE_LITERAL) (λ i. follows i (one_fault n c)) refl j h
+
+not_reached : (n : ℕ) (w : Bool) (m : ℕ) → w ≡ true → (w && nat_le n m) ≡ false → m < n
+not_reached n w m e h = grind (arith, nat_tests, e, h)
+
+-- behind an operand of a level the next item binds looser, if it would go on with it
+pub looser : (n : ℕ) (k : SyntaxKind) (x : Sketch) (ts : List Token) → goes_on n x ts ≡ false
+    → ((j : SyntaxKind) → head_kind ts ≡ Some j → continues_kind j k ≡ true → follows j x ≡ true) → IsLooser n k ts
+looser n k x [] h f j e c = absurd (cc)
+looser n k x (t ∷ ts) h f j e c =
+    let same : t.kind ≡ j = some_same t.kind j e in
+    subst (λ (i : SyntaxKind). power i < n) same (not_reached n (follows t.kind x) (power t.kind) (f t.kind refl (ap (λ i. continues_kind i k) same ∙ c)) h)
+
+-- what fits a level that is not the loosest is an operand of operators
+fits_operand : (n : ℕ) (k : SyntaxKind) → 1 ≤ n → fits n k ≡ true → is_operand k ≡ true
+fits_operand n k l h = by (nat_eq n 0) (nat_le n 12) (nat_eq n 13) (nat_eq n 14) refl h
+  where
+    by : (t u v w : Bool) → nat_eq n 0 ≡ t
+        → (if t then is_expression k else (if u then is_operand k else
+        (if v then is_questioned k else (if w then is_negated k else is_simple k)))) ≡ true → is_operand k ≡ true
+    by true u v w e h = absurd (grind (arith, nat_tests, l, e))
+    by false true v w e h = h
+    by false false true w e h = questioned_operand k h
+    by false false false true e h = questioned_operand k (negated_questioned k h)
+    by false false false false e h = questioned_operand k (negated_questioned k (simple_negated k h))
+
+-- what goes on with an operator's tree goes on with each of its operands
+continues_operand : (j k : SyntaxKind) → is_operand k ≡ true → continues_kind j NODE_BIN_OP ≡ true → continues_kind j k ≡ true
+continues_operand j k o h =
+    implied (λ i. continues_kind i NODE_BIN_OP) (λ i. continues_kind i k)
+    (implied is_operand (λ l. list_all (λ i. if continues_kind i NODE_BIN_OP then continues_kind i l else true) all_kinds) refl k o) j h
+
+-- behind an operator's last operand the next item binds looser than that, if it goes on with the operator's tree
+last_looser : (n : ℕ) (k : SyntaxKind) (ts : List Token) → 1 ≤ n → fits n k ≡ true → IsLooser n k ts → IsLooser n NODE_BIN_OP ts
+last_looser n k ts l f h j e c = h j e (continues_operand j k (fits_operand n k l f) c)
+
+-- what goes on with an operator's tree, of what binds no tighter than a level
+by_level : (j : SyntaxKind) (x : Sketch) (high : ℕ) → FollowedTo high x → continues_kind j NODE_BIN_OP ≡ true → power j ≤ high → follows j x ≡ true
+by_level j x high w c l = (w j).0 (operand_power j c).positive l
+
+-- a row of an operator is not changed by what stands behind it
+operator_stays : (b g : Sketch) → is_infix (operator_in b) ≡ true → operator_in (b ⊕ g) ≡ operator_in b
+operator_stays (branch k c (token j t f)) g h = refl
+operator_stays (fault n c (token j t f)) g h = refl
+operator_stays _ g h = absurd (true_is_not_false (sym h))
+
+-- nor is that of a prefix operator
+prefix_stays : (b g : Sketch) → 1 ≤ prefix_in b → prefix_in (b ⊕ g) ≡ prefix_in b
+prefix_stays blank g h = absurd (omega (arith, h))
+prefix_stays (token TOKEN_INVERT t f) g h = refl
+prefix_stays _ g h = refl
+
+-- so the next item goes on with a binary operator's tree whose last operand is read
+pub goes_on_binary : (b x : Sketch) (k : SyntaxKind) (ts : List Token) → is_infix (operator_in b) ≡ true → fits (right_of (operator_in b)) k ≡ true
+    → IsLooser (right_of (operator_in b)) k ts → GoesOn NODE_BIN_OP (b ⊕ x) ts
+goes_on_binary b x k ts i f l j e c =
+    let o = operates (operator_in b) i in
+    by_level j (one_branch NODE_BIN_OP (b ⊕ x)) (high_of (operator_in b))
+    (followed_infix (operator_in b) i (one_branch NODE_BIN_OP (b ⊕ x)) (ap power (operator_stays b x i)) refl) c
+    (o.bounded j c (last_looser (right_of (operator_in b)) k ts o.right.2 f l j e c))
+
+-- and with that of `-`
+pub goes_on_negated : (b x : Sketch) (k : SyntaxKind) (ts : List Token) → prefix_in b ≡ 14 → fits 14 k ≡ true → IsLooser 14 k ts
+    → GoesOn NODE_UNARY_OP (b ⊕ x) ts
+goes_on_negated b x k ts i f l j e c =
+    by_level j (one_branch NODE_UNARY_OP (b ⊕ x)) 13 (followed_negated (one_branch NODE_UNARY_OP (b ⊕ x)) (prefix_stays b x (omega (arith, i)) ∙ i) refl) c
+    (omega (arith, last_looser 14 k ts (omega arith) f l j e c))
+
+-- and with that of `!`
+pub goes_on_inverted : (b x : Sketch) (k : SyntaxKind) (ts : List Token) → prefix_in b ≡ 9 → fits 9 k ≡ true → IsLooser 9 k ts → GoesOn NODE_UNARY_OP (b ⊕ x) ts
+goes_on_inverted b x k ts i f l j e c =
+    by_level j (one_branch NODE_UNARY_OP (b ⊕ x)) 8 (followed_inverted (one_branch NODE_UNARY_OP (b ⊕ x)) (prefix_stays b x (omega (arith, i)) ∙ i) refl) c
+    (omega (arith, last_looser 9 k ts (omega arith) f l j e c))
 
 -- where something is wanted, the next item does not go on with the last tree
 abbrev pub Calm : Spot → Sketch → List Token → Type 0
@@ -108,87 +213,68 @@ settled (At z) x y k ts h f n e = looser n k x ts (subst (λ (o : Option ℕ). I
 settled _ x y k ts h f n e = absurd (cc)
 
 -- how far an operator's row has come: its operator binds as its last operand asks, and once that is read, what goes on with its kind goes on with it
-abbrev pub Made : SyntaxKind → Spot → Sketch → List Token → Type 0
-Made NODE_BIN_OP (Start NODE_BIN_OP) b ts = b ≡ blank
-Made NODE_BIN_OP BeforeOperator b ts = (j : SyntaxKind) (t : Token) → follows j b ≡ true → operator_in (b ⊕ one_token j t) ≡ j
-Made NODE_BIN_OP (At (p.Right level)) b ts = (is_infix (operator_in b) ≡ true) × (right_of (operator_in b) ≡ level)
-Made NODE_BIN_OP (At (p.Operated level)) b ts = GoesOn NODE_BIN_OP b ts
-Made NODE_BIN_OP q b ts = ⊥
-Made NODE_UNARY_OP (Start NODE_UNARY_OP) b ts = b ≡ blank
-Made NODE_UNARY_OP (At p.Negated) b ts = prefix_in b ≡ 14
-Made NODE_UNARY_OP (At p.Inverted) b ts = prefix_in b ≡ 9
-Made NODE_UNARY_OP (At (p.Operated level)) b ts = GoesOn NODE_UNARY_OP b ts
-Made NODE_UNARY_OP q b ts = ⊥
-Made k q b ts = Unit {0}
+pub data Made : SyntaxKind → Spot → Sketch → List Token → Type 0 where
+  binary_first : {ts : List Token} → Made NODE_BIN_OP (Start NODE_BIN_OP) blank ts
+  binary_sign : {b : Sketch} {ts : List Token} → ((j : SyntaxKind) (t : Token) → follows j b ≡ true → operator_in (b ⊕ one_token j t) ≡ j) → Made NODE_BIN_OP BeforeOperator b ts
+  binary_last : {level : ℕ} {b : Sketch} {ts : List Token} → is_infix (operator_in b) ≡ true → right_of (operator_in b) ≡ level → Made NODE_BIN_OP (At (p.Right level)) b ts
+  unary_first : {ts : List Token} → Made NODE_UNARY_OP (Start NODE_UNARY_OP) blank ts
+  negated : {b : Sketch} {ts : List Token} → prefix_in b ≡ 14 → Made NODE_UNARY_OP (At p.Negated) b ts
+  inverted : {b : Sketch} {ts : List Token} → prefix_in b ≡ 9 → Made NODE_UNARY_OP (At p.Inverted) b ts
+  operated : {k : SyntaxKind} {level : ℕ} {b : Sketch} {ts : List Token} → GoesOn k b ts → Made k (At (p.Operated level)) b ts
+  other : {k : SyntaxKind} {q : Spot} {b : Sketch} {ts : List Token} → is_operation k ≡ false → Made k q b ts
 
 -- where it begins
 pub made_start : (k : SyntaxKind) (ts : List Token) → Made k (start k) blank ts
-made_start NODE_BIN_OP ts = refl
-made_start NODE_UNARY_OP ts = refl
-made_start _ ts = tt
+made_start NODE_BIN_OP ts = binary_first
+made_start NODE_UNARY_OP ts = unary_first
+made_start _ ts = other refl
 
 -- where it ends
-pub made_end : (k : SyntaxKind) (q : Spot) (b : Sketch) (ts : List Token) → whole q ≡ true → is_attrpath k ≡ false → Made k q b ts → GoesOn k b ts
-made_end NODE_BIN_OP (At (p.Operated level)) b ts w a m = m
-made_end NODE_BIN_OP (Start NODE_BIN_OP) b ts w a m = absurd (true_is_not_false (sym w))
-made_end NODE_BIN_OP BeforeOperator b ts w a m = absurd (true_is_not_false (sym w))
-made_end NODE_BIN_OP (At (p.Right level)) b ts w a m = absurd (true_is_not_false (sym w))
-made_end NODE_BIN_OP _ b ts w a m = absurd m
-made_end NODE_UNARY_OP (At (p.Operated level)) b ts w a m = m
-made_end NODE_UNARY_OP (Start NODE_UNARY_OP) b ts w a m = absurd (true_is_not_false (sym w))
-made_end NODE_UNARY_OP (At p.Negated) b ts w a m = absurd (true_is_not_false (sym w))
-made_end NODE_UNARY_OP (At p.Inverted) b ts w a m = absurd (true_is_not_false (sym w))
-made_end NODE_UNARY_OP _ b ts w a m = absurd m
-made_end k q b ts w a m = λ j e c. goes_on_plain k b j refl a c
+pub made_end : {k : SyntaxKind} {q : Spot} {b : Sketch} {ts : List Token} → Made k q b ts → whole q ≡ true → is_attrpath k ≡ false → GoesOn k b ts
+made_end (operated g) w a = g
+made_end {k = k} {b = b} (other o) w a = λ j e c. goes_on_plain k b j o a c
+made_end _ w a = absurd (true_is_not_false (sym w))
 
 -- behind a token
-pub made_leaf : (i : SyntaxKind) (q : Spot) (k : SyntaxKind) (t : Token) (n : ℕ) (b : Sketch) (ts us vs : List Token) → live (go q k) ≡ true
-    → IsOwned q n (t ∷ us) true
-    → IsFollowed q b (Some k) → Made i q b ts → Made i (go q k) (b ⊕ one_token k t) vs
-made_leaf NODE_BIN_OP (Start NODE_BIN_OP) k t n b ts us vs l o f m =
-    subst (λ (q : Spot). Made NODE_BIN_OP q (b ⊕ one_token k t) vs) (sym (to_live (is_operand k) BeforeOperator l))
-    (λ j s h. absurd (follows_token j k t blank (subst (λ (c : Sketch). follows j (c ⊕ one_token k t) ≡ true) m h)))
-made_leaf NODE_BIN_OP BeforeOperator k t n b ts us vs l o f m =
+pub made_leaf : {i : SyntaxKind} {q : Spot} {b : Sketch} {ts : List Token} (k : SyntaxKind) (t : Token) (n : ℕ) (us vs : List Token) → live (go q k) ≡ true
+    → IsOwned q n (t ∷ us) true → IsFollowed q b (Some k) → Made i q b ts → Made i (go q k) (b ⊕ one_token k t) vs
+made_leaf k t n us vs l o f binary_first =
+    subst (λ (q : Spot). Made NODE_BIN_OP q (one_token k t) vs) (sym (to_live (is_operand k) BeforeOperator l))
+    (binary_sign (λ j s h. absurd (follows_token j k t blank h)))
+made_leaf {b = b} k t n us vs l o f (binary_sign m) =
     subst (λ (q : Spot). Made NODE_BIN_OP q (b ⊕ one_token k t) vs) (sym (to_live (is_infix k) (At (p.Right (right_of k))) l))
-    (ap is_infix (m k t f) ∙ live_to (is_infix k) (At (p.Right (right_of k))) l, ap right_of (m k t f))
-made_leaf NODE_BIN_OP (At (p.Right level)) k t n b ts us vs l o f m = absurd (true_is_not_false (sym o))
-made_leaf NODE_BIN_OP (At (p.Operated level)) k t n b ts us vs l o f m = absurd (true_is_not_false (sym l))
-made_leaf NODE_BIN_OP _ k t n b ts us vs l o f m = absurd m
-made_leaf NODE_UNARY_OP (Start NODE_UNARY_OP) TOKEN_SUB t n b ts us vs l o f m = ap (λ c. prefix_in (c ⊕ one_token TOKEN_SUB t)) m
-made_leaf NODE_UNARY_OP (Start NODE_UNARY_OP) TOKEN_INVERT t n b ts us vs l o f m = ap (λ c. prefix_in (c ⊕ one_token TOKEN_INVERT t)) m
-made_leaf NODE_UNARY_OP (Start NODE_UNARY_OP) _ t n b ts us vs l o f m = absurd (true_is_not_false (sym l))
-made_leaf NODE_UNARY_OP (At p.Negated) k t n b ts us vs l o f m = absurd (true_is_not_false (sym o))
-made_leaf NODE_UNARY_OP (At p.Inverted) k t n b ts us vs l o f m = absurd (true_is_not_false (sym o))
-made_leaf NODE_UNARY_OP (At (p.Operated level)) k t n b ts us vs l o f m = absurd (true_is_not_false (sym l))
-made_leaf NODE_UNARY_OP _ k t n b ts us vs l o f m = absurd m
-made_leaf _ q k t n b ts us vs l o f m = tt
+    (binary_last (ap is_infix (m k t f) ∙ live_to (is_infix k) (At (p.Right (right_of k))) l) (ap right_of (m k t f)))
+made_leaf k t n us vs l o f (binary_last i m) = absurd (true_is_not_false (sym o))
+made_leaf k t n us vs l o f unary_first = by k l
+  where
+    by : (k : SyntaxKind) → live (go (Start NODE_UNARY_OP) k) ≡ true → Made NODE_UNARY_OP (go (Start NODE_UNARY_OP) k) (one_token k t) vs
+    by TOKEN_SUB l = negated refl
+    by TOKEN_INVERT l = inverted refl
+    by _ l = absurd (true_is_not_false (sym l))
+made_leaf k t n us vs l o f (negated m) = absurd (true_is_not_false (sym o))
+made_leaf k t n us vs l o f (inverted m) = absurd (true_is_not_false (sym o))
+made_leaf k t n us vs l o f (operated g) = absurd (true_is_not_false (sym l))
+made_leaf k t n us vs l o f (other h) = other h
 
 -- behind another tree
-pub made_tree : (i : SyntaxKind) (q : Spot) (k : SyntaxKind) (b x : Sketch) (ts vs : List Token) → has_row k ≡ true → IsSingle x → live (go q k) ≡ true
-    → Settled q k vs
-    → Made i q b ts → Made i (go q k) (b ⊕ x) vs
-made_tree NODE_BIN_OP (Start NODE_BIN_OP) k b x ts vs r s l h m =
-    subst (λ (q : Spot). Made NODE_BIN_OP q (b ⊕ x) vs) (sym (to_live (is_operand k) BeforeOperator l))
-    (λ j t f. ap (λ c. operator_in ((c ⊕ x) ⊕ one_token j t)) m ∙ single_operator x blank j t s)
-made_tree NODE_BIN_OP BeforeOperator k b x ts vs r s l h m = absurd (never is_infix has_row refl k (live_to (is_infix k) (At (p.Right (right_of k))) l) r)
-made_tree NODE_BIN_OP (At (p.Right level)) k b x ts vs r s l h m =
+pub made_tree : {i : SyntaxKind} {q : Spot} {b : Sketch} {ts : List Token} (k : SyntaxKind) (x : Sketch) (vs : List Token) → has_row k ≡ true → IsSingle x
+    → live (go q k) ≡ true → Settled q k vs → Made i q b ts → Made i (go q k) (b ⊕ x) vs
+made_tree k x vs r s l h binary_first =
+    subst (λ (q : Spot). Made NODE_BIN_OP q x vs) (sym (to_live (is_operand k) BeforeOperator l)) (binary_sign (λ j t f. single_operator x blank j t s))
+made_tree k x vs r s l h (binary_sign m) = absurd (never is_infix has_row refl k (live_to (is_infix k) (At (p.Right (right_of k))) l) r)
+made_tree {b = b} k x vs r s l h (binary_last {level = level} i m) =
     subst (λ (q : Spot). Made NODE_BIN_OP q (b ⊕ x) vs) (sym (to_live (fits level k) (At (p.Operated level)) l))
-    (goes_on_binary b x k vs m.0 (ap (λ v. fits v k) m.1 ∙ live_to (fits level k) (At (p.Operated level)) l)
-    (subst (λ (v : ℕ). IsLooser v k vs) (sym m.1) (h level refl)))
-made_tree NODE_BIN_OP (At (p.Operated level)) k b x ts vs r s l h m = absurd (true_is_not_false (sym l))
-made_tree NODE_BIN_OP _ k b x ts vs r s l h m = absurd m
-made_tree NODE_UNARY_OP (Start NODE_UNARY_OP) TOKEN_SUB b x ts vs r s l h m = absurd (true_is_not_false (sym r))
-made_tree NODE_UNARY_OP (Start NODE_UNARY_OP) TOKEN_INVERT b x ts vs r s l h m = absurd (true_is_not_false (sym r))
-made_tree NODE_UNARY_OP (Start NODE_UNARY_OP) _ b x ts vs r s l h m = absurd (true_is_not_false (sym l))
-made_tree NODE_UNARY_OP (At p.Negated) k b x ts vs r s l h m =
+    (operated (goes_on_binary b x k vs i (ap (λ v. fits v k) m ∙ live_to (fits level k) (At (p.Operated level)) l)
+    (subst (λ (v : ℕ). IsLooser v k vs) (sym m) (h level refl))))
+made_tree k x vs r s l h unary_first = absurd (never (λ j. live (go (Start NODE_UNARY_OP) j)) has_row refl k l r)
+made_tree {b = b} k x vs r s l h (negated m) =
     subst (λ (q : Spot). Made NODE_UNARY_OP q (b ⊕ x) vs) (sym (to_live (fits 14 k) (At (p.Operated 14)) l))
-    (goes_on_negated b x k vs m (live_to (fits 14 k) (At (p.Operated 14)) l) (h 14 refl))
-made_tree NODE_UNARY_OP (At p.Inverted) k b x ts vs r s l h m =
+    (operated (goes_on_negated b x k vs m (live_to (fits 14 k) (At (p.Operated 14)) l) (h 14 refl)))
+made_tree {b = b} k x vs r s l h (inverted m) =
     subst (λ (q : Spot). Made NODE_UNARY_OP q (b ⊕ x) vs) (sym (to_live (fits 9 k) (At (p.Operated 9)) l))
-    (goes_on_inverted b x k vs m (live_to (fits 9 k) (At (p.Operated 9)) l) (h 9 refl))
-made_tree NODE_UNARY_OP (At (p.Operated level)) k b x ts vs r s l h m = absurd (true_is_not_false (sym l))
-made_tree NODE_UNARY_OP _ k b x ts vs r s l h m = absurd m
-made_tree _ q k b x ts vs r s l h m = tt
+    (operated (goes_on_inverted b x k vs m (live_to (fits 9 k) (At (p.Operated 9)) l) (h 9 refl)))
+made_tree k x vs r s l h (operated g) = absurd (true_is_not_false (sym l))
+made_tree k x vs r s l h (other o) = other o
 
 -- places in an operator's row
 abbrev pub is_operated : Place → Bool
@@ -199,29 +285,17 @@ is_operated (p.Operated level) = true
 is_operated x = false
 
 -- behind what stands at any other place
-pub made_elsewhere : (i : SyntaxKind) (x : Place) (r : Spot) (b c : Sketch) (ts vs : List Token) → is_operated x ≡ false → Made i (At x) b ts → Made i r c vs
-made_elsewhere NODE_BIN_OP (p.Right level) r b c ts vs h m = absurd (true_is_not_false h)
-made_elsewhere NODE_BIN_OP (p.Operated level) r b c ts vs h m = absurd (true_is_not_false h)
-made_elsewhere NODE_BIN_OP _ r b c ts vs h m = absurd m
-made_elsewhere NODE_UNARY_OP p.Negated r b c ts vs h m = absurd (true_is_not_false h)
-made_elsewhere NODE_UNARY_OP p.Inverted r b c ts vs h m = absurd (true_is_not_false h)
-made_elsewhere NODE_UNARY_OP (p.Operated level) r b c ts vs h m = absurd (true_is_not_false h)
-made_elsewhere NODE_UNARY_OP _ r b c ts vs h m = absurd m
-made_elsewhere _ x r b c ts vs h m = tt
+pub made_elsewhere : {i : SyntaxKind} {x : Place} {r : Spot} {b c : Sketch} {ts vs : List Token} → is_operated x ≡ false → Made i (At x) b ts → Made i r c vs
+made_elsewhere h (other o) = other o
+made_elsewhere h _ = absurd (true_is_not_false h)
 
 -- behind what is missing
-pub made_lost : (i : SyntaxKind) (x y : Place) (e : Fault) (b : Sketch) (ts : List Token) → lack x ≡ Some (e, y) → Made i (At x) b ts → Made i (At y) b []
-made_lost NODE_BIN_OP (p.Right level) y e b ts h m =
-    let same : p.Operated level ≡ y = ap (λ (w : Fault × Place). w.1) (some_same (ended, p.Operated level) (e, y) h) in
-    subst (λ (z : Place). Made NODE_BIN_OP (At z) b []) same (λ j u c. none_next j u)
-made_lost NODE_BIN_OP (p.Operated level) y e b ts h m = absurd (cc)
-made_lost NODE_BIN_OP _ y e b ts h m = absurd m
-made_lost NODE_UNARY_OP p.Negated y e b ts h m =
-    let same : p.Operated 14 ≡ y = ap (λ (w : Fault × Place). w.1) (some_same (ended, p.Operated 14) (e, y) h) in
-    subst (λ (z : Place). Made NODE_UNARY_OP (At z) b []) same (λ j u c. none_next j u)
-made_lost NODE_UNARY_OP p.Inverted y e b ts h m =
-    let same : p.Operated 9 ≡ y = ap (λ (w : Fault × Place). w.1) (some_same (ended, p.Operated 9) (e, y) h) in
-    subst (λ (z : Place). Made NODE_UNARY_OP (At z) b []) same (λ j u c. none_next j u)
-made_lost NODE_UNARY_OP (p.Operated level) y e b ts h m = absurd (cc)
-made_lost NODE_UNARY_OP _ y e b ts h m = absurd m
-made_lost _ x y e b ts h m = tt
+behind : {i : SyntaxKind} {b : Sketch} (v w : Fault × Place) → Some v ≡ Some w → Made i (At v.1) b [] → Made i (At w.1) b []
+behind {i = i} {b = b} v w h m = subst (λ (z : Fault × Place). Made i (At z.1) b []) (some_same v w h) m
+
+pub made_lost : {i : SyntaxKind} {x y : Place} {e : Fault} {b : Sketch} {ts : List Token} → lack x ≡ Some (e, y) → Made i (At x) b ts → Made i (At y) b []
+made_lost h (other o) = other o
+made_lost {y = y} {e = e} h (binary_last {level = level} i m) = behind (ended, p.Operated level) (e, y) h (operated (λ j u c. none_next j u))
+made_lost {y = y} {e = e} h (negated m) = behind (ended, p.Operated 14) (e, y) h (operated (λ j u c. none_next j u))
+made_lost {y = y} {e = e} h (inverted m) = behind (ended, p.Operated 9) (e, y) h (operated (λ j u c. none_next j u))
+made_lost h (operated g) = absurd (cc)

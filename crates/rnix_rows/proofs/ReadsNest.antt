@@ -11,22 +11,23 @@ use Rattle.rnix_grammar.specs.declared.slot.Slot.TheVariants as s
 use Rattle.rnix_grammar.specs.Fault.{Fault}
 use Rattle.rnix_grammar.specs.Slots.{slot_at, level_in}
 use Rattle.rnix_grammar.specs.Tables.{is_wanted, closes, depth_limit}
-use Rattle.rnix_grammar.specs.Sketch.{Token, Note, Stray, Unwanted, Extra, Twice, TooDeep, Sketch, blank, token, branch, fault, one_branch, tokens_in, forget}
-use Rattle.rnix_grammar.specs.Rows.{is_entry, Spot, Start, At, to, first, go, go_slot, whole, live, start, counts}
+use Rattle.rnix_grammar.specs.Sketch.{Token, Note, Stray, Unwanted, Extra, Twice, TooDeep, Sketch, blank, token, branch, fault, one_branch, is_some, tokens_in, forget}
+use Rattle.rnix_grammar.specs.Rows.{is_entry, Spot, At, to, go, go_slot, live, start, counts}
 use Rattle.rnix_grammar.specs.BehindErrors.{go_run, go_unwanted, go_error}
 use Rattle.rnix_grammar.specs.OwnItems.{owns_end, stands_owned_in, stands_owned, IsOwned}
 use Rattle.rnix_grammar.specs.Operands.{IsBegun, IsOperand, level_at}
 use Rattle.rnix_grammar.specs.Reads.{Reads, end, leaf, lost, wrong, second, inner, deeper, IsWrong, ReadsWhole}
 use Rattle.rnix_grammar.specs.Nesting.{depth_of, IsLimited, AreLimited}
 use Rattle.rnix_grammar.specs.Nest.{nest}
-use Rattle.rnix_lemmas.proofs.Basics.{true_is_not_false, not_if, not_nil, none_left, none_right}
-use Rattle.rnix_lemmas.proofs.EveryKind.{never, only_both, whenever_two}
+use Rattle.rnix_lemmas.proofs.Basics.{true_is_not_false, not_nil, none_left, none_right}
+use Rattle.rnix_lemmas.proofs.EveryKind.{never, only_both}
 use Rattle.rnix_lemmas.proofs.RowKinds.{has_row, no_wanted, no_closing}
 use Rattle.rnix_lemmas.proofs.OpeningRows.{is_place, live_to}
 use Rattle.rnix_lemmas.proofs.NestSpots.{is_pathless}
 use Rattle.rnix_lemmas.proofs.RowEndings.{row_tokens}
 use Rattle.rnix_lemmas.proofs.RowNesting.{nesting}
 use Rattle.rnix_rows.proofs.BareFacts.{is_bare, lack_bare, literal_bare}
+use Rattle.rnix_rows.proofs.NodeForms.{unplaced_start, row_some}
 use Rattle.rnix_rows.proofs.StandsShapes.{AreBareRows, IsBare}
 use Rattle.rnix_rows.proofs.Exactly.{bare_nest}
 
@@ -50,31 +51,6 @@ wrong_empty (Unwanted until) d q r vs h = absurd (true_is_not_false (sym h.0))
 wrong_empty Extra d q r vs h = absurd (true_is_not_false (sym h.0))
 wrong_empty Twice d q r vs h = absurd h
 wrong_empty TooDeep d q r vs h = (h.1, subst (λ z. is_bare z ≡ true) h.3 (literal_bare q))
-
--- where a row has come to no place it is not whole, and nothing counts
-unplaced : (q : Spot) → is_place q ≡ false → (whole q ≡ false) × (counts q ≡ false)
-unplaced (At x) h = absurd (true_is_not_false h)
-unplaced _ h = (refl, refl)
-
--- and the row of a node that stands there begins at no place
-unplaced_start : (q : Spot) (k : SyntaxKind) → is_place q ≡ false → live (go q k) ≡ true → is_place (start k) ≡ false
-unplaced_start (Start n) k h l =
-    not_if (is_place (start k)) (whenever_two (λ n k. live (first n k)) (λ n k. if is_place (start k) then false else true) refl n k l)
-unplaced_start (At x) k h l = absurd (true_is_not_false h)
-unplaced_start q k h l = not_if (is_place (start k)) (implied (λ k. live (go q k)) (λ k. if is_place (start k) then false else true) refl k l)
-
--- a complete row that begins at no place has a token
-row_some : {p : SyntaxKind} {d n : ℕ} {q q' : Spot} {b : Sketch} {us : List Token} {f : Sketch} {es : List Fault}
-    → Reads p d n q q' b us f es → is_place q ≡ false → whole q' ≡ true → tokens_in f ≡ [] → ⊥
-row_some {q = q} end h w e = true_is_not_false (sym w ∙ (unplaced q h).0)
-row_some (leaf j v o t g l c m s) h w e = not_nil e
-row_some (lost u t l a s z) h w e = true_is_not_false h
-row_some {d = d} {q = q} (wrong {r = r} {vs = vs} {c = c} {f = f} note ts j v o t x g m s z) h w e =
-    let none : ts ≡ [] = row_tokens c ts j (none_left (tokens_in c) (tokens_in f) e) in
-    true_is_not_false (sym (wrong_empty note d q r vs (subst (λ us. IsWrong note d q r us vs) none x)).0 ∙ (unplaced q h).1)
-row_some (second v s m o j r g x z) h w e = true_is_not_false (sym (ap is_place j) ∙ h)
-row_some {q = q} (inner {c = c} {f = f} {k = k} v y s m o a i t j g l b x z) h w e =
-    row_some s (unplaced_start q k h (ap live g ∙ l)) o.0 (none_left (tokens_in c) (tokens_in f) e)
 
 -- where no item is left a node whose row begins at a place is an operand or an attribute path
 placed_start : (slot : Slot) (x : Place) (k : SyntaxKind) → level_in slot ≡ None → is_pathless slot ≡ true → owns_end slot ≡ stands_owned_in slot k
@@ -128,7 +104,7 @@ bare_row {n = n} {q = q} {us = us} (inner {vs = vs} {c = c} {f = f} {k = k} v y 
     let last : vs ≡ [] = v ∙ ap (λ ts. ts ++ us) (none_right (tokens_in c) (tokens_in f) e) ∙ u in
     let own : IsOwned q n [] (stands_owned q k c) = subst (λ ts. IsOwned q n ts (stands_owned q k c)) (y ∙ ap (λ ts. ts ++ vs) none ∙ last) a in
     let free : level_at q (one_branch k c) ≡ None = no_operand (level_at q (one_branch k c)) (one_branch k c) vs (ap (λ ts. (ts ++ []) ++ vs) none ∙ last) j in
-    absurd (row_some s (begins_unplaced q k c n h own free (ap live g ∙ l)) o.0 none)
+    absurd (true_is_not_false (sym (row_some s (begins_unplaced q k c n h own free (ap live g ∙ l)) o.0) ∙ ap is_some none))
 
 -- a row inside some counted places nests no deeper than may be, and what is nested too deep is inside as many as may be
 abbrev Nests : ℕ → Spot → Sketch → Type 0

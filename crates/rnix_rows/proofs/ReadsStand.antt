@@ -24,13 +24,14 @@ use Rattle.rnix_lemmas.proofs.FirstTrees.{a_node}
 use Rattle.rnix_lemmas.proofs.ImitateLemmas.{start_half}
 use Rattle.rnix_lemmas.proofs.LaterSpots.{is_start}
 use Rattle.rnix_lemmas.proofs.NestPlaces.{start_owned}
+use Rattle.rnix_lemmas.proofs.OpeningRows.{is_place}
 use Rattle.rnix_lemmas.proofs.RowEndings.{none_behind}
 use Rattle.rnix_lemmas.proofs.SketchLemmas.{⊕-assoc, ⊕-blank, tokens_in-row_of}
 use Rattle.rnix_rows.proofs.BegunTrees.{Fronts, Known, node_known}
 use Rattle.rnix_rows.proofs.BesideErrors.{beside, token_opened, node_leveled}
 use Rattle.rnix_rows.proofs.KeptRows.{Kept, kept_leaf, kept_tree, kept_wrong, kept_lost, kept_second}
-use Rattle.rnix_rows.proofs.NodeForms.{start_uncounted, first_starts, row_some, node_filled, node_suits, is_path, path_ends, no_dot}
-use Rattle.rnix_rows.proofs.QuietRows.{Made, made_start, made_end, settled}
+use Rattle.rnix_rows.proofs.NodeForms.{start_uncounted, start_unplaced, unplaced_start, row_some, node_filled, node_suits, is_path, path_ends, no_dot}
+use Rattle.rnix_rows.proofs.QuietRows.{Made, other, made_start, made_end, settled}
 use Rattle.rnix_rows.proofs.StandsRows.{stands_row}
 use Rattle.rnix_rows.proofs.WantingSpots.{is_last_at, is_listed_in, is_listed, starts_first}
 
@@ -48,9 +49,8 @@ deeper_items true true w x d c f g h l = absurd (true_is_not_false (f refl))
 deeper_items true false true x d c f g h l = omega (arith, l)
 deeper_items false true true x d c f g h l = l
 deeper_items false false true x d c f g h l = omega (arith, l)
-deeper_items true false false true d c f g h l = absurd (true_is_not_false (g refl).0)
-deeper_items false true false true d c f g h l = absurd (true_is_not_false (g refl).1)
-deeper_items false false false true d c f g h l = l
+deeper_items u v false true d c f g h l =
+    subst (λ (w : Bool). (if w then suc d else d) ≤ c) (sym (g refl).0) (subst (λ (w : Bool). d ≤ (if w then suc c else c)) (g refl).1 l)
 deeper_items u v false false d c f g h l = absurd (true_is_not_false (sym h))
 
 listed_part : (q : Spot) → is_listed q ≡ true → (counts q ≡ false) × (is_start q ≡ false)
@@ -96,6 +96,10 @@ some_length (t ∷ ts) h = omega arith
 Standing : SyntaxKind → ℕ → Spot → Spot → Sketch → ℕ → List Token → Sketch → List Fault → Type 0
 Standing i a q s b c us f es = Stands i a q s b c us f es × Made i s (b ⊕ f) us
 
+-- a row made behind one more tree is made
+made_behind : {i : SyntaxKind} {s : Spot} {us : List Token} (b x f g : Sketch) → g ≡ b ⊕ x → Made i s (g ⊕ f) us → Made i s (b ⊕ (x ⊕ f)) us
+made_behind {i = i} {s = s} {us = us} b x f g e h = subst (λ (z : Sketch). Made i s z us) (ap (λ z. z ⊕ f) e ∙ ⊕-assoc b x f) h
+
 stands : {i : SyntaxKind} {d n : ℕ} {q s : Spot} {b : Sketch} {us : List Token} {f : Sketch} {es : List Fault} → Reads i d n q s b us f es → (a c : ℕ)
     → Kept i d a c q b f (tokens_in f ++ us) → Standing i a q s b c us f es
 unfolding Standing
@@ -108,8 +112,7 @@ stands {i = i} {d = d} {n = n} {q = q} {s = s} {b = b} {us = us} (a_leaf {r = r}
     (kept_leaf i d a c n q k t b f ts lives (subst (λ (z : List Token). IsOwned q n (t ∷ z) true) hv own) fo h)) in
     let more : Standing i a r s g (suc c) us f _ = stands rest a (suc c) next in (
       leaf told (token_opened q b k lives fo) e l hg refl more.0,
-      subst (λ (z : Sketch). Made i s z us)
-          (ap (λ z. z ⊕ f) hg ∙ ⊕-assoc b (one_token k t) f) more.1,
+      made_behind b (one_token k t) f g hg more.1,
     )
 stands {i = i} {d = d} {b = b} {us = us} {f = f} (a_lack {x = x} {y = y} {e = e} hu hf hl room rest hz) a c h =
     let more = stands rest a c (kept_lost i d a c x y e b f (tokens_in f ++ us) (ap (λ z. z ++ us) hf ∙ hu) hl h) in
@@ -125,8 +128,7 @@ stands {i = i} {d = d} {n = n} {q = q} {s = s} {b = b} {us = us}
     (subst (Kept i d a (c + length ts) r (b ⊕ one_fault note (row_of ts)) f) hv (kept_wrong note i d a c q r b f ts vs w k)) in
     let more = stands rest a (c + length ts) next in (
       wrong note ts hc hv (beside note i d a c n q r b f ts vs w own k) hg refl more.0 hz,
-      subst (λ (z : Sketch). Made i s z us)
-          (ap (λ z. z ⊕ f) hg ∙ ⊕-assoc b (one_fault note v) f) more.1,
+      made_behind b (one_fault note v) f g hg more.1,
     )
 stands {i = i} {d = d} {q = q} {s = s} {b = b} {us = us} (a_name {r = r} {s = e} {g = g} {vs = vs} {c = v} {f = f}
     {ds = ds} hv first hm over hq hr hg rest hz) a c h =
@@ -136,7 +138,7 @@ stands {i = i} {d = d} {q = q} {s = s} {b = b} {us = us} (a_name {r = r} {s = e}
       owned = refl;
       further = λ z. absurd (true_is_not_false (sym z));
       calm = λ z. absurd (true_is_not_false (sym z));
-      made = tt;
+      made = other refl;
       fronts = tt;
       nodes = omega (arith, k.nodes);
       items = k.items;
@@ -150,7 +152,7 @@ stands {i = i} {d = d} {q = q} {s = s} {b = b} {us = us} (a_name {r = r} {s = e}
       second hv (subst (λ (z : Spot). Stands NODE_ERROR (suc a) SecondStart z blank c vs v ds) x.1 inside.0) (sym (ap whole x.1) ∙ over.0)
           (sym ((same_kind-decides NODE_PATTERN i).0 k.owned)) hq hr hg refl
           more.0 hz,
-      subst (λ (z : Sketch). Made i s z us) (ap (λ z. z ⊕ f) hg ∙ ⊕-assoc b (one_fault Twice v) f) more.1,
+      made_behind b (one_fault Twice v) f g hg more.1,
     )
 stands {i = i} {d = d} {n = n} {q = q} {s = s} {b = b} {us = us}
     (a_tree {m = m} {r = r} {s = e} {g = g} {vs = vs} {ws = ws} {c = v} {f = f} {ds = ds} {k = k} hv hw first hm over own room fo op on l hg rest hz) a c h =
@@ -163,7 +165,7 @@ stands {i = i} {d = d} {n = n} {q = q} {s = s} {b = b} {us = us}
     stands first (suc a) c (kept_start i k d a c q b (branch k v f) v (tokens_in v ++ vs) lives kept known.1) in
     let x = whole_place e over.0 in
     let row : Stands k (suc a) (start k) (At x.0) blank c vs v ds = subst (λ (z : Spot). Stands k (suc a) (start k) z blank c vs v ds) x.1 inside.0 in
-    let some : is_start (start k) ≡ true → is_some (tokens_in v) ≡ true = λ z. row_some first z over.0 in
+    let some : is_place (start k) ≡ false → is_some (tokens_in v) ≡ true = λ z. row_some first z over.0 in
     let dot : is_attrpath k ≡ true → (j : SyntaxKind) → head_kind vs ≡ Some j → is_dot j ≡ false = λ z. no_dot e m vs (path_ends first (start_path k z)) over in
     let form : is_formed q k v ≡ true =
     and_from (is_filled k v) (suits q k v) (node_filled q k v n vs lives owned some (λ z. none_behind inside.0 z (start_half k) over.0))
@@ -175,16 +177,16 @@ stands {i = i} {d = d} {n = n} {q = q} {s = s} {b = b} {us = us}
     (kept_tree i d a c (length (tokens_in v)) q k b (one_branch k v) (branch k v f) f (tokens_in v ++ vs) vs
     (stands_row k inside.0 refl over.0) a_node (λ o. refl) lives
     (settled q (one_branch k v) (one_branch k v) k vs op (follow (is_attrpath k) refl dot inside.1)) dot
-    (λ z. some_length (tokens_in v) (some (first_starts q k z lives))) kept))) in
+    (λ z. some_length (tokens_in v) (some (unplaced_start q k (start_unplaced q z) lives))) kept))) in
     let more = stands rest a (c + length (tokens_in v)) next in (
       inner hv row (sym (ap whole x.1) ∙ over.0) form (node_leveled q b k v n ws vs own fo op) on l hg refl more.0 hz,
-      subst (λ (z : Sketch). Made i s z us) (ap (λ z. z ⊕ f) hg ∙ ⊕-assoc b (one_branch k v) f) more.1,
+      made_behind b (one_branch k v) f g hg more.1,
     )
   where
     follow : (w : Bool) → is_attrpath k ≡ w → (is_attrpath k ≡ true → (j : SyntaxKind) → head_kind vs ≡ Some j → is_dot j ≡ false) → Made k e v vs
         → (j : SyntaxKind) → head_kind vs ≡ Some j → continues_kind j k ≡ true → follows j (one_branch k v) ≡ true
     follow true w dot made j h z = absurd (true_is_not_false (sym (dotted k j w z) ∙ dot w j h))
-    follow false w dot made j h z = made_end k e v vs over.0 w made j h z
+    follow false w dot made j h z = made_end made over.0 w j h z
 
 -- what is read of all items stands as it may
 pub reads_stand : (f : Sketch) (es : List Fault) → ReadsWhole f es → StandsWhole f es
@@ -193,7 +195,7 @@ reads_stand f es r = (stands r 1 0 (record {
   owned = refl;
   further = λ z. absurd (true_is_not_false (sym z));
   calm = λ z. absurd (true_is_not_false (sym z));
-  made = tt;
+  made = other refl;
   fronts = tt;
   nodes = omega arith;
   items = omega arith;

@@ -1,82 +1,200 @@
--- How many children of a set a row has.
-use Rattle.std.proofs.Common.{◌≡◌, ℕ, zero, suc, ◌≤◌, Bool, true, false, cond, List, [], ◌∷◌, length, refl, ap, sym, subst, arith}
-use Rattle.std.specs.Prelude.{if◌then◌else◌, is_some, slice_get, Some}
-use Rattle.std.specs.List.{filter, find}
+-- What every row of a kind has, by computation along the rows.
+use Rattle.std.proofs.Common.{◌≡◌, ℕ, zero, suc, ◌≤◌, Bool, true, false, cond, List, [], ◌∷◌, length, Option, Some, None, refl, ap, sym, ◌∙◌, arith}
+use Rattle.std.proofs.lemmas.Bool.{and_parts}
+use Rattle.std.specs.Prelude.{◌&&◌, if◌then◌else◌, is_some, slice_get}
+use Rattle.std.specs.List.{filter, find, list_all}
 use Rattle.rnix_kinds.specs.declared.kinds.SyntaxKind.{SyntaxKind}
-use Rattle.rnix_tree.specs.Equality.{same_kind, same_kind-decides}
-use Rattle.rnix_grammar.specs.Rows.{is_row}
-use Rattle.rnix_rows.proofs.RowParts.{Test, Part, Exactly, Expression, Parameter, Prefix, Infix, PlainLiteral, meets, Holds, nothing, here, further}
-use Rattle.rnix_rows.proofs.RowTable.{parts_of, row_has}
+use Rattle.rnix_kinds.specs.declared.kinds.SyntaxKind.TheVariants.{NODE_ATTRPATH, NODE_IDENT}
+use Rattle.rnix_kinds.proofs.AllKinds.{all_kinds, every, implied}
+use Rattle.rnix_grammar.specs.declared.place.Place.{Place}
+use Rattle.rnix_grammar.specs.declared.place.Place.TheVariants as p
+use Rattle.rnix_grammar.specs.declared.slot.Slot.{Slot}
+use Rattle.rnix_grammar.specs.declared.slot.Slot.TheVariants as s
+use Rattle.rnix_grammar.specs.Tables.{is_wanted, closes}
+use Rattle.rnix_grammar.specs.Slots.{slot_at}
+use Rattle.rnix_grammar.specs.Rows.{is_entry, fits, Spot, At, Nowhere, to, go_slot, go, is_end, live, start, whole, run, is_row}
+use Rattle.rnix_lemmas.proofs.Basics.{true_is_not_false}
+use Rattle.rnix_lemmas.proofs.ImitateLemmas.{nowhere, run_live}
 
--- two parts are one
-abbrev pub same_part : Part → Part → Bool
-same_part (Exactly j) (Exactly k) = same_kind j k
-same_part Expression Expression = true
-same_part Parameter Parameter = true
-same_part Prefix Prefix = true
-same_part Infix Infix = true
-same_part PlainLiteral PlainLiteral = true
-same_part a b = false
+-- a set of kinds
+abbrev pub Test : Type 0
+Test = SyntaxKind → Bool
 
-meets_same : (a b : Part) (k : SyntaxKind) → same_part a b ≡ true → meets b k ≡ true → meets a k ≡ true
-meets_same (Exactly i) (Exactly j) k e h = subst (λ (x : SyntaxKind). same_kind x k ≡ true) (sym ((same_kind-decides i j).0 e)) h
-meets_same Expression Expression k e h = h
-meets_same Parameter Parameter k e h = h
-meets_same Prefix Prefix k e h = h
-meets_same Infix Infix k e h = h
-meets_same PlainLiteral PlainLiteral k e h = h
-meets_same _ _ k e h = cc
+-- the place behind a slot that every row passes
+abbrev next : Slot → Option Place
+next (s.Token until y) = Some y
+next (s.Operand level counted y) = Some y
+next (s.Series level closer) = Some p.Past
+next (s.Entries closer y) = Some y
+next (s.Attrpath y) = Some y
+next (s.Name y) = Some y
+next slot = None
 
--- how often a part is among others
-abbrev pub count_of : Part → List Part → ℕ
-count_of a [] = 0
-count_of a (b ∷ bs) = if same_part a b then suc (count_of a bs) else count_of a bs
+-- the children that lead there
+abbrev leads : Slot → Test
+leads (s.Token until y) = is_wanted until
+leads (s.Operand level counted y) = fits level
+leads (s.Series level closer) = closes closer
+leads (s.Entries closer y) = closes closer
+leads slot = λ k. live (go_slot slot p.Past k)
+
+-- a test of the place behind a slot
+abbrev behind : Option Place → (Place → Bool) → Bool
+behind None test = false
+behind (Some y) test = test y
+
+-- each row from a spot on has so many children of a set, as so many steps along it show
+abbrev pub has : Test → ℕ → ℕ → Spot → Bool
+has test zero m q = true
+has test (suc n) zero q = false
+has test (suc n) (suc m) (At x) =
+    behind (next (slot_at x))
+    (λ y. has test (if list_all (λ k. if leads (slot_at x) k then test k else true) all_kinds then n else suc n) m (At y))
+has test (suc n) (suc m) q = list_all (λ k. if live (go q k) then has test (if test k then n else suc n) m (go q k) else true) all_kinds
+
+-- a row passes a slot with its first child, or with one behind it
+data Passes (slot : Slot) : List SyntaxKind → Type 0 where
+  now : {k : SyntaxKind} {ks : List SyntaxKind} (y : Place) → next slot ≡ Some y → leads slot k ≡ true → whole (run (At y) ks) ≡ true → Passes slot (k ∷ ks)
+  later : {k : SyntaxKind} {ks : List SyntaxKind} → Passes slot ks → Passes slot (k ∷ ks)
+
+-- nowhere a row is whole
+no_whole : {A : Type 0} (ks : List SyntaxKind) → whole (run Nowhere ks) ≡ true → A
+no_whole ks h = absurd (true_is_not_false (sym h ∙ ap whole (nowhere ks)))
+
+-- a test that leads to the place behind a slot
+tested : (slot : Slot) (y : Place) (w : Bool) (k : SyntaxKind) (ks : List SyntaxKind) → next slot ≡ Some y → leads slot k ≡ w → whole (run (to w (At y)) ks) ≡ true
+    → Passes slot (k ∷ ks)
+tested slot y true k ks n l h = now y n l h
+tested slot y false k ks n l h = no_whole ks h
+
+-- one more turn of a row of any length
+turned : (slot : Slot) (x y : Place) (w v : Bool) (k : SyntaxKind) (ks : List SyntaxKind) → next slot ≡ Some y → leads slot k ≡ w
+    → whole (run (if w then At y else to v (At x)) ks) ≡ true → (whole (run (At x) ks) ≡ true → Passes slot ks) → Passes slot (k ∷ ks)
+turned slot x y true v k ks n l h ih = now y n l h
+turned slot x y false true k ks n l h ih = later (ih h)
+turned slot x y false false k ks n l h ih = no_whole ks h
+
+-- no row ends at such a slot
+no_end : (slot : Slot) → is_some (next slot) ≡ true → is_end slot ≡ false
+no_end s.End n = cc
+no_end _ n = cc
+
+-- so it is with every row
+passes : (x : Place) (slot : Slot) → slot_at x ≡ slot → is_some (next slot) ≡ true → (ks : List SyntaxKind) → whole (run (At x) ks) ≡ true → Passes slot ks
+passes x slot e n [] h = absurd (true_is_not_false (sym h ∙ ap is_end e ∙ no_end slot n))
+passes x slot e n (k ∷ ks) h = by slot n (ap (λ z. whole (run (go_slot z x k) ks)) (sym e) ∙ h) (passes x slot e n ks)
+  where
+    by : (slot : Slot) → is_some (next slot) ≡ true → whole (run (go_slot slot x k) ks) ≡ true → (whole (run (At x) ks) ≡ true → Passes slot ks) → Passes slot (k ∷ ks)
+    by (s.Token until y) n h ih = tested (s.Token until y) y (is_wanted until k) k ks refl refl h
+    by (s.Operand level counted y) n h ih = tested (s.Operand level counted y) y (fits level k) k ks refl refl h
+    by (s.Series level closer) n h ih = turned (s.Series level closer) x p.Past (closes closer k) (fits level k) k ks refl refl h ih
+    by (s.Entries closer y) n h ih = turned (s.Entries closer y) x y (closes closer k) (is_entry k) k ks refl refl h ih
+    by (s.Attrpath y) n h ih = path k h
+      where
+        path : (k : SyntaxKind) → whole (run (go_slot (s.Attrpath y) x k) ks) ≡ true → Passes (s.Attrpath y) (k ∷ ks)
+        path NODE_ATTRPATH h = now y refl refl h
+        path _ h = no_whole ks h
+    by (s.Name y) n h ih = name k h
+      where
+        name : (k : SyntaxKind) → whole (run (go_slot (s.Name y) x k) ks) ≡ true → Passes (s.Name y) (k ∷ ks)
+        name NODE_IDENT h = now y refl refl h
+        name _ h = no_whole ks h
+    by _ n h ih = absurd (true_is_not_false (sym n))
 
 -- one more child
-more : (test : Test) (k : SyntaxKind) (ks : List SyntaxKind) → length (filter test ks) ≤ length (filter test (k ∷ ks))
-more test k ks = by (test k)
+grown : (test : Test) (n : ℕ) (k : SyntaxKind) (ks : List SyntaxKind) → n ≤ length (filter test ks) → n ≤ length (filter test (k ∷ ks))
+grown test n k ks h = by (test k)
   where
-    by : (w : Bool) → length (filter test ks) ≤ length (cond w (k ∷ filter test ks) (filter test ks))
-    by true = omega arith
-    by false = omega arith
+    by : (w : Bool) → n ≤ length (cond w (k ∷ filter test ks) (filter test ks))
+    by true = omega (arith, h)
+    by false = h
 
-one_more : (test : Test) (k : SyntaxKind) (ks : List SyntaxKind) (n : ℕ) → test k ≡ true → n ≤ length (filter test ks) → suc n ≤ length (filter test (k ∷ ks))
-one_more test k ks n e h = let same : length (filter test (k ∷ ks)) ≡ suc (length (filter test ks)) = ap (λ w. length (cond w (k ∷ filter test ks) (filter test ks))) e in omega (arith, same, h)
+-- of the set, if it is wanted
+counted : (test : Test) (v : Bool) (n : ℕ) (k : SyntaxKind) (ks : List SyntaxKind) → (v ≡ true → test k ≡ true) → (if v then n else suc n) ≤ length (filter test ks)
+    → suc n ≤ length (filter test (k ∷ ks))
+counted test false n k ks t h = grown test (suc n) k ks h
+counted test true n k ks t h =
+    let same : length (filter test (k ∷ ks)) ≡ suc (length (filter test ks)) = ap (λ w. length (cond w (k ∷ filter test ks) (filter test ks))) (t refl) in omega (arith, same, h)
 
-step : (a b : Part) (test : Test) (bs : List Part) (k : SyntaxKind) (ks : List SyntaxKind) (w : Bool) → same_part a b ≡ w → ((j : SyntaxKind) → meets a j ≡ true → test j ≡ true) → meets b k ≡ true
-    → count_of a bs ≤ length (filter test ks) → (if w then suc (count_of a bs) else count_of a bs) ≤ length (filter test (k ∷ ks))
-step a b test bs k ks true e m h ih = one_more test k ks (count_of a bs) (m k (meets_same a b k e h)) ih
-step a b test bs k ks false e m h ih = let grows = more test k ks in omega (arith, grows, ih)
+-- what is computed is so
+enough : (test : Test) (n m : ℕ) (q : Spot) (ks : List SyntaxKind) → has test n m q ≡ true → whole (run q ks) ≡ true → n ≤ length (filter test ks)
+enough test zero m q ks h w = omega arith
+enough test (suc n) zero q ks h w = absurd (true_is_not_false (sym h))
+enough test (suc n) (suc m) (At x) ks h w = by (next (slot_at x)) refl h (λ y ks g v. enough test left m (At y) ks g v)
+  where
+    all : Bool
+    all = list_all (λ k. if leads (slot_at x) k then test k else true) all_kinds
 
--- as many as the parts that a row has are there
-counted : (a : Part) (test : Test) → ((k : SyntaxKind) → meets a k ≡ true → test k ≡ true) → (bs : List Part) (ks : List SyntaxKind) → Holds bs ks
-    → count_of a bs ≤ length (filter test ks)
-counted a test m _ ks (nothing _) = omega arith
-counted a test m _ _ (here b bs k ks e h) = step a b test bs k ks (same_part a b) refl m e (counted a test m bs ks h)
-counted a test m bs _ (further _ k ks h) = let grows = more test k ks in let ih = counted a test m bs ks h in omega (arith, grows, ih)
+    left : ℕ
+    left = if all then n else suc n
 
--- an element of a number is there
+    Ahead : Type 0
+    Ahead = (y : Place) (ks : List SyntaxKind) → has test left m (At y) ≡ true → whole (run (At y) ks) ≡ true → left ≤ length (filter test ks)
+
+    on : (y : Place) (ks : List SyntaxKind) → next (slot_at x) ≡ Some y → has test left m (At y) ≡ true → Passes (slot_at x) ks → Ahead
+        → suc n ≤ length (filter test ks)
+    on y [] e h r ih = elim r [ ]
+    on y (k ∷ ks) e h (now z f l w) ih =
+        counted test all n k ks (λ a. implied (leads (slot_at x)) test a k l)
+        (ih z ks (ap (λ o. behind o (λ y. has test left m (At y))) (sym f ∙ e) ∙ h) w)
+    on y (k ∷ ks) e h (later r) ih = grown test (suc n) k ks (on y ks e h r ih)
+
+    by : (o : Option Place) → next (slot_at x) ≡ o → behind o (λ y. has test left m (At y)) ≡ true → Ahead → suc n ≤ length (filter test ks)
+    by None e h ih = absurd (true_is_not_false (sym h))
+    by (Some y) e h ih = on y ks e h (passes x (slot_at x) refl (ap is_some e) ks w) ih
+enough test (suc n) (suc m) q [] h w = absurd (true_is_not_false (sym w))
+enough test (suc n) (suc m) q (k ∷ ks) h w =
+    let left : ℕ = if test k then n else suc n in
+    counted test (test k) n k ks (λ e. e)
+    (enough test left m (go q k) ks
+    (sym (ap (λ v. if v then has test left m (go q k) else true) (run_live (go q k) ks w))
+    ∙ every (λ k. if live (go q k) then has test (if test k then n else suc n) m (go q k) else true) h k) w)
+
+-- a number of steps in which each row passes all that it passes
+abbrev steps : ℕ
+steps = 7
+
+-- each row of a kind has so many children of a set
+abbrev pub row_has : Test → ℕ → SyntaxKind → Bool
+row_has test n kind = has test n steps (start kind)
+
+-- the first of a set is there
+first_some : (test : Test) (ks : List SyntaxKind) → 1 ≤ length (filter test ks) → is_some (find test ks) ≡ true
+first_some test [] h = absurd (omega (arith, h))
+first_some test (k ∷ ks) h = by (test k) h (first_some test ks)
+  where
+    by : (w : Bool) → 1 ≤ length (cond w (k ∷ filter test ks) (filter test ks)) → (1 ≤ length (filter test ks) → is_some (find test ks) ≡ true)
+        → is_some (cond w (Some k) (find test ks)) ≡ true
+    by true h ih = refl
+    by false h ih = ih h
+
+pub row_first : (kind : SyntaxKind) (ks : List SyntaxKind) (test : Test) → row_has test 1 kind ≡ true → is_row kind ks ≡ true → is_some (find test ks) ≡ true
+row_first kind ks test h r = first_some test ks (enough test 1 steps (start kind) ks h r)
+
+-- and that of a number
 nth_some : {A : Type 0} (xs : List A) (n : ℕ) → suc n ≤ length xs → is_some (slice_get xs n) ≡ true
 nth_some [] n h = absurd (omega (arith, h))
 nth_some (x ∷ xs) zero h = refl
 nth_some (x ∷ xs) (suc n) h = nth_some xs n (omega (arith, h))
 
--- the first of a set is there
-found_if : (test : Test) (k : SyntaxKind) (ks : List SyntaxKind) (w : Bool) → 1 ≤ length (cond w (k ∷ filter test ks) (filter test ks)) → (1 ≤ length (filter test ks) → is_some (find test ks) ≡ true)
-    → is_some (cond w (Some k) (find test ks)) ≡ true
-found_if test k ks true h ih = refl
-found_if test k ks false h ih = ih h
+pub row_nth : (kind : SyntaxKind) (ks : List SyntaxKind) (test : Test) (n : ℕ) → row_has test (suc n) kind ≡ true → is_row kind ks ≡ true
+    → is_some (slice_get (filter test ks) n) ≡ true
+row_nth kind ks test n h r = nth_some (filter test ks) n (enough test (suc n) steps (start kind) ks h r)
 
-first_some : (test : Test) (ks : List SyntaxKind) → 1 ≤ length (filter test ks) → is_some (find test ks) ≡ true
-first_some test [] h = absurd (omega (arith, h))
-first_some test (k ∷ ks) h = found_if test k ks (test k) h (first_some test ks)
+-- what holds of all rows from a spot on that have fewer children than a number, if all have
+abbrev pub all_rows : ℕ → Spot → (List SyntaxKind → Bool) → Bool
+all_rows zero q test = false
+all_rows (suc m) q test =
+    (if whole q then test [] else true) && list_all (λ k. if live (go q k) then all_rows m (go q k) (λ ks. test (k ∷ ks)) else true) all_kinds
 
--- a row of a kind has the first of each set that holds one of its parts
-pub row_first : (kind : SyntaxKind) (ks : List SyntaxKind) (a : Part) (test : Test) → ((k : SyntaxKind) → meets a k ≡ true → test k ≡ true) → is_row kind ks ≡ true
-    → 1 ≤ count_of a (parts_of kind) → is_some (find test ks) ≡ true
-row_first kind ks a test m h n = let c = counted a test m (parts_of kind) ks (row_has kind ks h) in first_some test ks (omega (arith, n, c))
+each_row : (m : ℕ) (q : Spot) (test : List SyntaxKind → Bool) → all_rows m q test ≡ true → (ks : List SyntaxKind) → whole (run q ks) ≡ true → test ks ≡ true
+each_row zero q test h ks w = absurd (true_is_not_false (sym h))
+each_row (suc m) q test h [] w = sym (ap (λ v. if v then test [] else true) w) ∙ (and_parts (if whole q then test [] else true) _ h).0
+each_row (suc m) q test h (k ∷ ks) w =
+    each_row m (go q k) (λ ks. test (k ∷ ks))
+    (sym (ap (λ v. if v then all_rows m (go q k) (λ ks. test (k ∷ ks)) else true) (run_live (go q k) ks w))
+    ∙ every (λ k. if live (go q k) then all_rows m (go q k) (λ ks. test (k ∷ ks)) else true) (and_parts (if whole q then test [] else true) _ h).1 k) ks w
 
--- and as many of it as it has such parts
-pub row_nth : (kind : SyntaxKind) (ks : List SyntaxKind) (a : Part) (test : Test) (n : ℕ) → ((k : SyntaxKind) → meets a k ≡ true → test k ≡ true) → is_row kind ks ≡ true
-    → suc n ≤ count_of a (parts_of kind) → is_some (slice_get (filter test ks) n) ≡ true
-row_nth kind ks a test n m h l = let c = counted a test m (parts_of kind) ks (row_has kind ks h) in nth_some (filter test ks) n (omega (arith, l, c))
+-- so it is with each row of a kind
+pub row_is : (kind : SyntaxKind) (test : List SyntaxKind → Bool) → all_rows steps (start kind) test ≡ true → (ks : List SyntaxKind) → is_row kind ks ≡ true → test ks ≡ true
+row_is kind test h ks r = each_row steps (start kind) test h ks r

@@ -7,15 +7,15 @@ use Rattle.rnix_kinds.specs.declared.kinds.SyntaxKind.TheVariants.{NODE_ATTRPATH
 use Rattle.rnix_tree.specs.Forest.{Forest, empty}
 use Rattle.rnix_grammar.specs.declared.place.Place.TheVariants as places
 use Rattle.rnix_grammar.specs.Fault.{Fault}
-use Rattle.rnix_grammar.specs.Sketch.{Token, Note, Stray, Unwanted, Extra, Twice, TooDeep, Sketch, fault, tokens_in, is_some}
+use Rattle.rnix_grammar.specs.Sketch.{Token, Note, Stray, Twice, TooDeep, Sketch, fault, tokens_in, is_some}
 use Rattle.rnix_grammar.specs.Rows.{Spot, At, go, whole, live, start, run, IsBeginning}
-use Rattle.rnix_grammar.specs.Stands.{Stands, end, leaf, lost, wrong, second, inner, IsBeside, suits, is_formed}
+use Rattle.rnix_grammar.specs.Stands.{Stands, end, leaf, lost, wrong, second, inner, suits, is_formed}
 use Rattle.rnix_grammar.specs.Mended.{patch, held, kinds_of, AreBegun}
 use Rattle.rnix_rows.proofs.BareFacts.{is_bare, lack_bare, literal_bare, no_path}
 use Rattle.rnix_lemmas.proofs.SketchLemmas.{tokens_in-row_of}
 use Rattle.rnix_lemmas.proofs.Completable.{IsCompletable}
 use Rattle.rnix_lemmas.proofs.ImitateLemmas.{Imitates, imitates_self, imitates_same, imitates_both, second_imitates, patched, beside_imitates, imitates_completable}
-use Rattle.rnix_rows.proofs.StandsRows.{stands_completable}
+use Rattle.rnix_rows.proofs.StandsRows.{IsAside, a_number, a_run, at_end, aside, stands_completable}
 use Rattle.rnix_lemmas.proofs.RowEndings.{beside_last, row_tokens}
 use Rattle.rnix_lemmas.proofs.Basics.{true_is_not_false, not_nil, none_right, none_left}
 
@@ -25,15 +25,10 @@ path_alone q NODE_ATTRPATH c h n = refl
 path_alone q k c h n = absurd (true_is_not_false (sym (and_parts (is_some (tokens_in c)) (suits q k c) h).0 ∙ ap is_some n))
 
 -- an error node without tokens stands for an operand
-none_bare : (n : Note) (p : SyntaxKind) (a : ℕ) (q r : Spot) (b : Sketch) (i : ℕ) (ts vs : List Token) → ts ≡ [] → IsBeside n p a q r b i ts vs → is_bare r ≡ true
-none_bare Stray p a q r b i [] vs e h = absurd h
-none_bare Stray p a q r b i (t ∷ ts) vs e h = absurd (not_nil e)
-none_bare (Unwanted until) p a q r b i [] vs e h = absurd h
-none_bare (Unwanted until) p a q r b i (t ∷ ts) vs e h = absurd (not_nil e)
-none_bare Extra p a q r b i [] vs e h = absurd h
-none_bare Extra p a q r b i (t ∷ ts) vs e h = absurd (not_nil e)
-none_bare Twice p a q r b i ts vs e h = absurd h
-none_bare TooDeep p a q r b i ts vs e h = subst (λ z. is_bare z ≡ true) h.3 (literal_bare q)
+none_bare : {n : Note} {q r : Spot} {ts : List Token} → IsAside n q r ts → ts ≡ [] → is_bare r ≡ true
+none_bare {q = q} (a_number g l) e = subst (λ z. is_bare z ≡ true) g (literal_bare q)
+none_bare (a_run x y until n t f g w) e = absurd (true_is_not_false (sym t ∙ ap is_some e))
+none_bare (at_end t f) e = absurd (true_is_not_false (sym t ∙ ap is_some e))
 
 -- a row with no token holds nothing, where no attribute path stands
 pub held_none : {p : SyntaxKind} {a : ℕ} {q q' : Spot} {b : Sketch} {i : ℕ} {us : List Token} {f : Sketch} {es : List Fault}
@@ -44,7 +39,7 @@ held_none (lost {x = x} {y = y} {e = e} u v l s z) h n = held_none s (lack_bare 
 held_none {p = p} {a = a} {q = q} {b = b} {i = i} (wrong {r = r} {vs = vs} {c = c} {f = f} note ts e v x d j s z) h n =
     let none : tokens_in c ≡ [] = none_left (tokens_in c) (tokens_in f) n in
     ap (λ o. if is_some o then patch note (held f) else held f) none
-    ∙ held_none s (none_bare note p a q r b i ts vs (row_tokens c ts e none) x) (none_right (tokens_in c) (tokens_in f) n)
+    ∙ held_none s (none_bare (aside note p a q r b i ts vs x) (row_tokens c ts e none)) (none_right (tokens_in c) (tokens_in f) n)
 held_none (second {c = c} {f = f} v s y o e r d j x z) h n =
     ap (λ o. if is_some o then patch Twice (held f) else held f) (none_left (tokens_in c) (tokens_in f) n)
     ∙ held_none x (ap is_bare r) (none_right (tokens_in c) (tokens_in f) n)
@@ -90,7 +85,7 @@ stands_begun {p = p} {a = a} {q = q} {b = b} {i = i} {us = us} q0 (wrong {r = r}
     by_tokens : (xs : List Token) → ts ≡ xs → IsCompletable q → IsBegun (patched n q0) (held f) → IsBegun q0 (held (fault n c f))
     by_tokens [] e here more =
         let last : tokens_in f ≡ [] = none_left (tokens_in f) us (sym v ∙ beside_last n p a q r b i ts vs e x) in
-        none_begun q0 (held (fault n c f)) (ap (λ o. if is_some o then patch n (held f) else held f) (same ∙ e) ∙ held_none s (none_bare n p a q r b i ts vs e x) last)
+        none_begun q0 (held (fault n c f)) (ap (λ o. if is_some o then patch n (held f) else held f) (same ∙ e) ∙ held_none s (none_bare (aside n p a q r b i ts vs x) e) last)
         (imitates_completable m here)
     by_tokens (t ∷ xs) e here more = subst (IsBegun q0) (ap (λ o. if is_some o then patch n (held f) else held f) (sym (same ∙ e))) (begun_patch n q0 (held f) more)
 stands_begun q0 (second {c = c} {f = f} v s y o e r d j x z) w m =

@@ -2,19 +2,21 @@
 use Rattle.std.proofs.Common.{◌≡◌, ◌⊎◌, inl, inr, ℕ, ◌+◌, ◌≤◌, Bool, true, false, List, [], ◌∷◌, ◌++◌, Option, Some, None, refl, ap, sym, ◌∙◌, subst, arith}
 use Rattle.std.specs.Prelude.{if◌then◌else◌}
 use Rattle.rnix_kinds.specs.declared.kinds.SyntaxKind.{SyntaxKind}
-use Rattle.rnix_kinds.specs.declared.kinds.SyntaxKind.TheVariants.{NODE_LITERAL, NODE_PATTERN, NODE_PAT_ENTRY}
+use Rattle.rnix_kinds.specs.declared.kinds.SyntaxKind.TheVariants.{NODE_LITERAL, NODE_PATTERN}
 use Rattle.rnix_tree.specs.Forest.{Forest}
 use Rattle.rnix_grammar.specs.declared.place.Place.{Place}
 use Rattle.rnix_grammar.specs.declared.place.Place.TheVariants as places
-use Rattle.rnix_grammar.specs.Fault.{Fault, named_twice}
-use Rattle.rnix_grammar.specs.Sketch.{Token, Note, Stray, Unwanted, Extra, Twice, TooDeep, Sketch, tokens_in, extent_of}
-use Rattle.rnix_grammar.specs.Reports.{report, repeated_if, entry_name, has_entry, repeats}
+use Rattle.rnix_grammar.specs.Fault.{Fault}
+use Rattle.rnix_grammar.specs.Sketch.{Token, Note, Stray, Unwanted, Extra, Twice, TooDeep, Sketch, tokens_in, is_some}
+use Rattle.rnix_grammar.specs.Reports.{report, repeats}
 use Rattle.rnix_grammar.specs.Rows.{Spot, At, go, whole, live, start, run}
 use Rattle.rnix_grammar.specs.Stands.{Stands, end, leaf, lost, wrong, second, inner, IsBeside}
 use Rattle.rnix_grammar.specs.Mended.{patch, mended, kinds_of, halves, is_ended, ended_count}
-use Rattle.rnix_grammar.specs.Missing.{lack}
+use Rattle.rnix_grammar.specs.declared.until.Until.{Until}
+use Rattle.rnix_grammar.specs.Layout.{is_last}
+use Rattle.rnix_grammar.specs.Missing.{lack, run_at}
 use Rattle.rnix_lemmas.proofs.LackFacts.{lack_ended}
-use Rattle.rnix_rows.proofs.StandsFaults.{HasEnded, last_ended}
+use Rattle.rnix_rows.proofs.StandsFaults.{HasEnded, AreCalm, plain_report, calm_second, calm_repeats, stands_errors}
 use Rattle.rnix_lemmas.proofs.Completable.{IsCompletable, completed_at, lost_inside}
 use Rattle.rnix_lemmas.proofs.Owing.{owes, owing, owing_half, owing_goes}
 use Rattle.rnix_lemmas.proofs.RowEnds.{is_final, lost_final, final_full, final_goes, lost_half}
@@ -23,16 +25,25 @@ use Rattle.rnix_lemmas.proofs.ImitateLemmas.{Imitates, imitates_self, imitates_s
 use Rattle.rnix_lemmas.proofs.Basics.{true_is_not_false, not_nil, none_right, none_left}
 use Rattle.rnix_lemmas.proofs.RowEndings.{row_tokens}
 
+-- how an error node over tokens stands at a spot
+pub data IsAside (n : Note) (q r : Spot) (ts : List Token) : Type 0 where
+  a_number : go q NODE_LITERAL ≡ r → live r ≡ true → IsAside n q r ts
+  a_run : (x y : Place) (until : Until) → is_last n ≡ false → is_some ts ≡ true → q ≡ At x → r ≡ At y → run_at x ≡ Some (until, y) → IsAside n q r ts
+  at_end : is_some ts ≡ true → q ≡ At places.RootEnd → IsAside n q r ts
+
+-- each stands so
+pub aside : (n : Note) (p : SyntaxKind) (a : ℕ) (q r : Spot) (b : Sketch) (i : ℕ) (ts vs : List Token) → IsBeside n p a q r b i ts vs → IsAside n q r ts
+aside Stray p a q r b i (t ∷ ts) vs h = a_number h.3 h.4
+aside (Unwanted until) p a q r b i (t ∷ ts) vs h = a_run h.4 h.5 until refl refl h.6 h.7 h.8
+aside Extra p a q r b i (t ∷ ts) vs h = at_end refl h.3
+aside TooDeep p a q r b i ts vs h = a_number h.3 h.4
+aside _ p a q r b i _ vs h = absurd h
+
 -- a row with an error node begins as its kind's rows do
-beside_row : (n : Note) (p : SyntaxKind) (a : ℕ) (q r : Spot) (b : Sketch) (i : ℕ) (ts vs : List Token) (k : SyntaxKind) → IsBeside n p a q r b i ts vs → q ≡ start k → has_row k ≡ true
-beside_row Stray p a q r b i [] vs k h e = absurd h
-beside_row Stray p a q r b i (t ∷ ts) vs k h e = starts_row k NODE_LITERAL (ap (λ x. live (go x NODE_LITERAL)) (sym e) ∙ ap live h.3 ∙ h.4)
-beside_row (Unwanted until) p a q r b i [] vs k h e = absurd h
-beside_row (Unwanted until) p a q r b i (t ∷ ts) vs k h e = start_place k h.4 (sym h.6 ∙ e)
-beside_row Extra p a q r b i [] vs k h e = absurd h
-beside_row Extra p a q r b i (t ∷ ts) vs k h e = start_place k places.RootEnd (sym h.3 ∙ e)
-beside_row Twice p a q r b i ts vs k h e = absurd h
-beside_row TooDeep p a q r b i ts vs k h e = starts_row k NODE_LITERAL (ap (λ x. live (go x NODE_LITERAL)) (sym e) ∙ ap live h.3 ∙ h.4)
+aside_row : {n : Note} {q r : Spot} {ts : List Token} (k : SyntaxKind) → IsAside n q r ts → q ≡ start k → has_row k ≡ true
+aside_row k (a_number g l) e = starts_row k NODE_LITERAL (ap (λ x. live (go x NODE_LITERAL)) (sym e) ∙ ap live g ∙ l)
+aside_row k (a_run x y until n t f g w) e = start_place k x (sym f ∙ e)
+aside_row k (at_end t f) e = start_place k places.RootEnd (sym f ∙ e)
 
 -- a node that is complete is of a kind with rows
 pub stands_row : {p : SyntaxKind} {a : ℕ} {q q' : Spot} {b : Sketch} {i : ℕ} {us : List Token} {f : Sketch} {es : List Fault} (k : SyntaxKind)
@@ -40,7 +51,7 @@ pub stands_row : {p : SyntaxKind} {a : ℕ} {q q' : Spot} {b : Sketch} {i : ℕ}
 stands_row k end e w = absurd (true_is_not_false (sym w ∙ ap whole e ∙ start_half k))
 stands_row k (leaf {k = j} h tight g l c m s) e w = starts_row k j (ap (λ x. live (go x j)) (sym e) ∙ ap live g ∙ l)
 stands_row k (lost {x = x} u n l s z) e w = start_place k x e
-stands_row {p = p} {a = a} {q = q} {b = b} {i = i} k (wrong {r = r} {vs = vs} n ts h v x d j s z) e w = beside_row n p a q r b i ts vs k x e
+stands_row {p = p} {a = a} {q = q} {b = b} {i = i} k (wrong {r = r} {vs = vs} n ts h v x d j s z) e w = aside_row k (aside n p a q r b i ts vs x) e
 stands_row k (second v s y p q r d j x z) e w = start_place k (places.PatternEnd true) (sym q ∙ e)
 stands_row k (inner {k = j} v s y form tight g l d m x z) e w = starts_row k j (ap (λ x. live (go x j)) (sym e) ∙ ap live g ∙ l)
 
@@ -58,10 +69,8 @@ stands_completable (inner {k = k} v s y form tight g l d j x z) w = let m = stan
 -- a patch pays no token
 owing_patch : (n : Note) (q : Spot) (f : Forest) → owing q ≡ true → ((r : Spot) → owing r ≡ true → owing (run r (kinds_of f)) ≡ true) → owing (run q (kinds_of (patch n f))) ≡ true
 owing_patch Stray q f o h = h (go q NODE_LITERAL) (owing_goes q NODE_LITERAL o refl)
-owing_patch (Unwanted u) q f o h = h q o
-owing_patch Extra q f o h = h q o
-owing_patch Twice q f o h = h q o
 owing_patch TooDeep q f o h = h (go q NODE_LITERAL) (owing_goes q NODE_LITERAL o refl)
+owing_patch _ q f o h = h q o
 
 -- what holds no token pays none
 pub owing_rest : {p : SyntaxKind} {a : ℕ} {q q' : Spot} {b : Sketch} {i : ℕ} {us : List Token} {f : Sketch} {es : List Fault}
@@ -75,16 +84,10 @@ owing_rest (inner {c = c} {f = f} {k = k} v s y form tight g l d j x z) n q0 o =
     owing_rest x (none_right (tokens_in c) (tokens_in f) n) (go q0 k) (owing_goes q0 k o (stands_row k s refl y))
 
 -- where nothing but a token may follow, nothing without one follows
-final_beside : (n : Note) (p : SyntaxKind) (a : ℕ) (q r : Spot) (b : Sketch) (i : ℕ) (ts vs : List Token) (y : Place) → ts ≡ [] → IsBeside n p a q r b i ts vs → q ≡ At y → is_final y ≡ true → ⊥
-final_beside Stray p a q r b i [] vs y n h e m = h
-final_beside Stray p a q r b i (t ∷ ts) vs y n h e m = not_nil n
-final_beside (Unwanted until) p a q r b i [] vs y n h e m = h
-final_beside (Unwanted until) p a q r b i (t ∷ ts) vs y n h e m = not_nil n
-final_beside Extra p a q r b i [] vs y n h e m = h
-final_beside Extra p a q r b i (t ∷ ts) vs y n h e m = not_nil n
-final_beside Twice p a q r b i ts vs y n h e m = h
-final_beside TooDeep p a q r b i ts vs y n h e m =
-    true_is_not_false (sym h.4 ∙ ap live (sym h.3) ∙ ap (λ x. live (go x NODE_LITERAL)) e ∙ final_goes y NODE_LITERAL m refl)
+final_aside : {n : Note} {q r : Spot} {ts : List Token} (y : Place) → IsAside n q r ts → ts ≡ [] → q ≡ At y → is_final y ≡ true → ⊥
+final_aside y (a_number g l) n e m = true_is_not_false (sym l ∙ ap live (sym g) ∙ ap (λ x. live (go x NODE_LITERAL)) e ∙ final_goes y NODE_LITERAL m refl)
+final_aside y (a_run x z until o t f g w) n e m = true_is_not_false (sym t ∙ ap is_some n)
+final_aside y (at_end t f) n e m = true_is_not_false (sym t ∙ ap is_some n)
 
 -- something is missing or nothing
 some_is_not_none : {e : Fault} {y : Place} {o : Option (Fault × Place)} → o ≡ Some (e, y) → o ≡ None → ⊥
@@ -99,7 +102,7 @@ final_rest y (lost {x = x} u v l s z) e m n =
     let same : x ≡ y = cc in
     absurd (some_is_not_none l (ap lack same ∙ final_full y m))
 final_rest {p = p} {a = a} {q = q} {b = b} {i = i} y (wrong {r = r} {vs = vs} {c = c} {f = f} note ts h v x d j s z) e m n =
-    absurd (final_beside note p a q r b i ts vs y (row_tokens c ts h (none_left (tokens_in c) (tokens_in f) n)) x e m)
+    absurd (final_aside y (aside note p a q r b i ts vs x) (row_tokens c ts h (none_left (tokens_in c) (tokens_in f) n)) e m)
 final_rest y (second v s w p q r d j x z) e m n =
     let same : places.PatternEnd true ≡ y = let both : At (places.PatternEnd true) ≡ At y = sym q ∙ e in cc in
     absurd (true_is_not_false (sym m ∙ ap is_final (sym same)))
@@ -123,22 +126,6 @@ pub ended_count-++ : (es fs : List Fault) → ended_count (es ++ fs) ≡ ended_c
 ended_count-++ [] fs = omega arith
 ended_count-++ (e ∷ es) fs = let h : ended_count (es ++ fs) ≡ ended_count es + ended_count fs = ended_count-++ es fs in omega arith
 
--- the error of an error node is none of them
-report_not_counted : (n : Note) (ts : List Token) (es : List Fault) → ended_count (report n ts ∷ es) ≡ ended_count es
-report_not_counted Stray ts es = omega arith
-report_not_counted _ ts es = first_of (omega arith, assumption, cc)
-
--- nor is that of a repeated entry
-repeats_if_not_counted : (o : Option Token) (b : Sketch) → ended_count (repeated_if o b) ≡ 0
-repeats_if_not_counted None b = refl
-repeats_if_not_counted (Some t) b =
-    elim (has_entry t.text b) as (λ x. ended_count (if x then named_twice (extent_of (t ∷ [])) t.text ∷ [] else []) ≡ 0) [ true ↦ omega arith | false ↦ refl ]
-
--- nor are those of a node
-repeats_not_counted : (k : SyntaxKind) (b c : Sketch) → ended_count (repeats k b c) ≡ 0
-repeats_not_counted NODE_PAT_ENTRY b c = repeats_if_not_counted (entry_name c) b
-repeats_not_counted _ b c = refl
-
 -- what is missing is one of them
 lost_counted : (e : Fault) (es : List Fault) → is_ended e ≡ true → ended_count (e ∷ es) ≡ 1 + ended_count es
 lost_counted e es h = ap (λ x. (if x then 1 else 0) + ended_count es) h
@@ -149,13 +136,17 @@ halves_patch Stray f = omega arith
 halves_patch _ f = first_of (omega arith, assumption, cc)
 
 -- no error of the end, or one
-ended_or : (es : List Fault) → (ended_count es ≡ 0) ⊎ HasEnded es
+pub ended_or : (es : List Fault) → (ended_count es ≡ 0) ⊎ HasEnded es
 ended_or [] = inl refl
 ended_or (e ∷ es) = by_first (is_ended e) refl (ended_or es)
   where
     by_first : (x : Bool) → is_ended e ≡ x → (ended_count es ≡ 0) ⊎ HasEnded es → (ended_count (e ∷ es) ≡ 0) ⊎ HasEnded (e ∷ es)
     by_first true h w = inr (inl h)
     by_first false h w = elim w [ inl n ↦ inl (ap (λ x. (if x then 1 else 0) + ended_count es) h ∙ omega (arith, n)) | inr n ↦ inr (inr n) ]
+
+-- calm errors are none of them
+calm_count : (es : List Fault) → AreCalm es → ended_count es ≡ 0
+calm_count es h = elim (ended_or es) [ inl n ↦ n | inr n ↦ absurd (h.ended n) ]
 
 -- how far a mended row is from whole
 abbrev pub half : Bool → ℕ
@@ -185,11 +176,11 @@ stands_counts q0 (lost {x = x} {y = y} {f = f} {e = e} {es = es} u n l s z) w m 
 stands_counts {p = p} {a = a} {q = q} {b = b} {i = i} q0 (wrong {r = r} {vs = vs} {f = f} {es = es} n ts h v x d j s z) w m =
     let ih = stands_counts (patched n q0) s w (beside_imitates n p a q0 q r b i ts vs x m) in
     same_counts (ap (λ o. half (whole o) + halves (mended f)) (sym (run_patch n q0 (mended f))) ∙ ap (λ o. half (whole (run q0 (kinds_of (patch n (mended f))))) + o) (sym (halves_patch n (mended f))))
-    (sym (ap ended_count z ∙ report_not_counted n ts es)) ih
+    (sym (ap ended_count z ∙ ap (λ x. (if x then 1 else 0) + ended_count es) (plain_report n ts) ∙ omega arith)) ih
 stands_counts {us = us} q0 (second {vs = vs} {c = c} {f = f} {ds = ds} {es = es} v s y p q r d j x z) w m =
     let on : Imitates q0 (At places.PatternPast) = imitates_both (subst (Imitates q0) q m) second_imitates in
     let ih = stands_counts q0 x w (subst (Imitates q0) (sym r) on) in
-    let one : ended_count (report Twice (tokens_in c) ∷ []) ≡ 0 = report_not_counted Twice (tokens_in c) [] in
+    let one : ended_count (report Twice (tokens_in c) ∷ []) ≡ 0 = calm_count (report Twice (tokens_in c) ∷ []) (calm_second (tokens_in c)) in
     let sum : ended_count ((ds ++ report Twice (tokens_in c) ∷ []) ++ es) ≡ ended_count ds + ended_count es =
     ended_count-++ (ds ++ report Twice (tokens_in c) ∷ []) es ∙ ap (λ k. k + ended_count es) (ended_count-++ ds (report Twice (tokens_in c) ∷ []) ∙ ap (λ k. ended_count ds + k) one ∙ omega arith) in
     let fewer : half (whole (run q0 (kinds_of (mended f)))) + halves (mended f) ≤ ended_count es = ih.few in
@@ -198,14 +189,14 @@ stands_counts {us = us} q0 (second {vs = vs} {c = c} {f = f} {ds = ds} {es = es}
       none = λ h.
           elim (ended_or ds) [
             | inl n ↦ elim (ih.none h) [ inl k ↦ inl (omega (arith, n, k)) | inr k ↦ inr k ]
-            | inr n ↦ inr (p, none_right (tokens_in f) us (sym v ∙ last_ended s n))
+            | inr n ↦ inr (p, none_right (tokens_in f) us (sym v ∙ (stands_errors s).last n))
           ];
     })
 stands_counts {q = q} {b = b} {us = us} q0 (inner {r = r} {vs = vs} {c = c} {f = f} {ds = ds} {es = es} {k = k} v s y form tight g l d j x z) w m =
     let on : go q0 k ≡ r = m.goes k (ap live g ∙ l) ∙ g in
     let here = stands_counts (go q0 k) x w (imitates_same (go q0 k) r on) in
     let below = stands_counts (start k) s y (imitates_self (start k)) in
-    let none : ended_count (repeats k b c) ≡ 0 = repeats_not_counted k b c in
+    let none : ended_count (repeats k b c) ≡ 0 = calm_count (repeats k b c) (calm_repeats k b c) in
     let sum : ended_count ((ds ++ repeats k b c) ++ es) ≡ ended_count ds + ended_count es =
     ended_count-++ (ds ++ repeats k b c) es ∙ ap (λ o. o + ended_count es) (ended_count-++ ds (repeats k b c) ∙ ap (λ o. ended_count ds + o) none ∙ omega arith) in
     let a1 : half (whole (run (go q0 k) (kinds_of (mended f)))) + halves (mended f) ≤ ended_count es = here.few in

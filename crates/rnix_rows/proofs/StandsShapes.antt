@@ -1,23 +1,70 @@
 -- A row that stands has no error exactly if each of its nodes has its shape, and nothing in it is reported.
 use Rattle.std.proofs.Common.{◌≡◌, ◌↔◌, inl, inr, ℕ, ◌+◌, Bool, true, false, List, [], ◌∷◌, ◌++◌, refl, ap, sym, ◌∙◌, subst, arith}
+use Rattle.std.proofs.lemmas.Bool.{and_parts}
 use Rattle.std.specs.Prelude.{if◌then◌else◌, ◌&&◌}
 use Rattle.rnix_kinds.specs.declared.kinds.SyntaxKind.{SyntaxKind}
-use Rattle.rnix_kinds.specs.declared.kinds.SyntaxKind.TheVariants.{NODE_ROOT, NODE_PATTERN}
+use Rattle.rnix_kinds.specs.declared.kinds.SyntaxKind.TheVariants.{NODE_ROOT, NODE_PATTERN, NODE_PAT_BIND}
 use Rattle.rnix_tree.specs.Forest.{node, leaf as leaf_in}
 use Rattle.rnix_grammar.specs.declared.place.Place.TheVariants as places
 use Rattle.rnix_grammar.specs.Fault.{Fault}
-use Rattle.rnix_grammar.specs.Sketch.{Token, Sketch, blank, token, branch, fault, forget, Twice, tokens_in}
-use Rattle.rnix_grammar.specs.Rows.{Spot, At, whole, live, run, is_row}
-use Rattle.rnix_grammar.specs.Stands.{Stands, end, leaf, lost, wrong, second, inner}
+use Rattle.rnix_grammar.specs.Sketch.{Token, Sketch, blank, token, branch, fault, forget, Twice, tokens_in, is_some}
+use Rattle.rnix_grammar.specs.Rows.{Spot, Start, At, go, whole, live, start, run, is_row}
+use Rattle.rnix_grammar.specs.Stands.{Stands, end, leaf, lost, wrong, second, inner, begins_with_token, is_bind_at, is_formed}
 use Rattle.rnix_grammar.specs.Reports.{repeats, report}
 use Rattle.rnix_grammar.specs.Mended.{mended, kinds_of, halves, is_ended, ended_count, others}
 use Rattle.rnix_grammar.specs.Shape.{reports_behind, reports}
-use Rattle.rnix_rows.proofs.StandsFaults.{stands_reports}
+use Rattle.rnix_rows.proofs.StandsFaults.{stands_errors}
 use Rattle.rnix_rows.proofs.StandsRows.{half, stands_counts}
 use Rattle.rnix_lemmas.proofs.ImitateLemmas.{imitates_self}
-use Rattle.rnix_rows.proofs.BindFacts.{bare_bind, Agrees, agrees_start, agrees_later, formed_bare}
-use Rattle.rnix_lemmas.proofs.Basics.{not_nil, none_left, none_right}
+use Rattle.rnix_lemmas.proofs.Basics.{true_is_not_false, not_nil, none_left, none_right}
+use Rattle.rnix_lemmas.proofs.LaterSpots.{is_start, go_later}
 use Rattle.rnix_lemmas.proofs.EntryNames.{both_true}
+
+-- a bound name stands first where a row begins, and behind the first child at a place
+abbrev pub is_at : Spot → Bool
+is_at (At place) = true
+is_at spot = false
+
+-- behind the first child
+abbrev pub not_first : Bool → Bool
+not_first first = if first then false else true
+
+-- a spot where a bound name may stand is a place exactly if a child stands before it
+abbrev pub Agrees : Bool → Spot → Type 0
+Agrees first q = live (go q NODE_PAT_BIND) ≡ true → is_at q ≡ not_first first
+
+-- so it is where a row begins
+pub agrees_start : (k : SyntaxKind) → Agrees true (start k)
+agrees_start NODE_ROOT = λ l. absurd (true_is_not_false (sym l))
+agrees_start _ = λ l. cc
+
+-- so it is at each spot but these
+later_agrees : (r : Spot) → is_start r ≡ false → Agrees false r
+later_agrees (Start k) h = λ l. absurd (true_is_not_false h)
+later_agrees _ h = λ l. cc
+
+-- so it is behind a child
+pub agrees_later : (q : Spot) (k : SyntaxKind) → Agrees false (go q k)
+agrees_later q k = later_agrees (go q k) (go_later q k)
+
+-- a bound name without trivia is formed by whether it is the first child
+abbrev pub bare_bind : Bool → SyntaxKind → Sketch → Bool
+bare_bind true NODE_PAT_BIND c = if begins_with_token c then false else true
+bare_bind false NODE_PAT_BIND c = begins_with_token c
+bare_bind first k c = true
+
+-- a bound name is formed by its spot
+by_spot : (first : Bool) (q : Spot) (c : Sketch) → is_at q ≡ not_first first → is_bind_at q c ≡ true → bare_bind first NODE_PAT_BIND c ≡ true
+by_spot true (At x) c a h = cc
+by_spot false (At x) c a h = h
+by_spot true _ c a h = cc
+by_spot false _ c a h = cc
+
+-- so it is formed by whether it is the first child
+pub formed_bare : (first : Bool) (q : Spot) (k : SyntaxKind) (c : Sketch) → Agrees first q → live (go q k) ≡ true → is_formed q k c ≡ true → bare_bind first k c ≡ true
+formed_bare first q NODE_PAT_BIND c a l h = by_spot first q c (a l) (and_parts (is_some (tokens_in c)) (is_bind_at q c) h).1
+formed_bare true q _ c a l h = refl
+formed_bare false q _ c a l h = refl
 
 -- bound names are formed in a row without trivia
 abbrev pub bare_binds : Bool → Sketch → Bool
@@ -93,7 +140,7 @@ rows_stand {q = q} {f = f} {es = es} s w not r h n =
     let row : half (whole (run q (kinds_of (mended f)))) ≡ 0 = ap (λ x. half (whole (run q (kinds_of x)))) (mended_none f r) ∙ ap half h in
     let all : halves (mended f) ≡ 0 = ap halves (mended_none f r) ∙ halves_none f r in
     let counts = stands_counts q s w (imitates_self q) in
-    none_in_all es (elim (counts.none (omega (arith, row, all))) [ inl e ↦ e | inr e ↦ absurd (not e.0) ]) (stands_reports s ∙ n)
+    none_in_all es (elim (counts.none (omega (arith, row, all))) [ inl e ↦ e | inr e ↦ absurd (not e.0) ]) ((stands_errors s).reports ∙ n)
 
 -- a whole text without trivia: no error exactly if the root and each node below it have their rows, and nothing is reported
 pub record IsBare (f : Sketch) : Type 0 where
@@ -108,4 +155,4 @@ whole_rows {f = f} {es = es} s = (there, λ w. rows_stand s refl (λ e. cc) w.no
     there : es ≡ [] → IsBare f
     there n =
         let w = stands_rows true s n (agrees_start NODE_ROOT) in
-        record { root = ap whole w.reaches; nodes = w.nodes; silent = sym (stands_reports s) ∙ ap others n }
+        record { root = ap whole w.reaches; nodes = w.nodes; silent = sym (stands_errors s).reports ∙ ap others n }

@@ -1,25 +1,52 @@
--- In a row that stands each leaf has the kind of its token, and each name holds that alone.
-use Rattle.std.proofs.Common.{◌≡◌, ℕ, Bool, true, false, List, [], ◌∷◌, Some, None, refl, ap, sym, ◌∙◌, subst}
+-- Leaves have the kinds of tokens, also in a mended tree; in a row that stands each has the kind of its token, and each name holds that alone.
+use Rattle.std.proofs.Common.{◌≡◌, ℕ, true, List, refl, ap, ◌∙◌, [], ◌∷◌, Some, None, sym, subst}
 use Rattle.rnix_kinds.specs.declared.kinds.SyntaxKind.{SyntaxKind}
-use Rattle.rnix_kinds.specs.declared.kinds.SyntaxKind.TheVariants.{NODE_ERROR, NODE_IDENT, NODE_LITERAL, NODE_PAT_ENTRY}
+use Rattle.rnix_kinds.specs.declared.kinds.SyntaxKind.TheVariants.{TOKEN_CUR_POS, TOKEN_IDENT, TOKEN_OR, NODE_CUR_POS, NODE_IDENT, NODE_ERROR, NODE_LITERAL, NODE_PAT_ENTRY}
 use Rattle.rnix_kinds.specs.SyntaxKind.{is_token}
-use Rattle.rnix_kinds.proofs.AllKinds.{implied}
+use Rattle.rnix_grammar.specs.Sketch.{Note, Stray, Sketch, blank, token, branch, fault, tokens_in, told_as, AreTold, Token, row_of}
+use Rattle.rnix_grammar.specs.Mended.{mended, patch}
+use Rattle.rnix_grammar.specs.Named.{is_spelled, AreSpelled}
+use Rattle.rnix_grammar.specs.Derivation.{has_tokens_alone}
+use Rattle.rnix_lemmas.proofs.EntryNames.{both_true}
+use Rattle.rnix_lemmas.proofs.OpeningRows.{spelled_first, spelled_rest, Opening, by_token, by_branch, by_fault, opening, is_place}
 use Rattle.rnix_grammar.specs.declared.place.Place.{Place}
-use Rattle.rnix_grammar.specs.declared.place.Place.TheVariants as p
+use Rattle.rnix_grammar.specs.declared.place.Place.TheVariants as places
 use Rattle.rnix_grammar.specs.Fault.{Fault}
-use Rattle.rnix_grammar.specs.Sketch.{Token, Note, Sketch, blank, token, row_of, tokens_in, AreTold}
 use Rattle.rnix_grammar.specs.Missing.{lack, run_at}
 use Rattle.rnix_grammar.specs.Rows.{Spot, Start, At, first, go, live, whole, start}
 use Rattle.rnix_grammar.specs.Stands.{Stands, end, leaf, lost, wrong, second, inner}
-use Rattle.rnix_grammar.specs.Named.{AreSpelled}
 use Rattle.rnix_grammar.specs.Trim.{is_bare, begins_with_node, HasBareName, AreNamesBare}
 use Rattle.rnix_lemmas.proofs.Basics.{true_is_not_false}
 use Rattle.rnix_lemmas.proofs.EveryKind.{never}
-use Rattle.rnix_lemmas.proofs.OpeningRows.{Opening, by_token, by_branch, by_fault, opening, is_place, spelled_first, spelled_rest}
 use Rattle.rnix_lemmas.proofs.RowKinds.{has_row}
-use Rattle.rnix_rows.proofs.StandsFilled.{IsAside, a_number, a_run, at_end, aside}
-use Rattle.rnix_rows.proofs.StandsRows.{stands_row}
-use Rattle.rnix_rows.proofs.StrictTokens.{told_token, spelled_token}
+use Rattle.rnix_rows.proofs.StandsRows.{IsAside, a_number, a_run, at_end, aside, stands_row}
+
+-- a token's leaf has the kind of a token
+pub told_token : (p k : SyntaxKind) → is_token k ≡ true → is_token (told_as p k) ≡ true
+told_token NODE_IDENT TOKEN_OR h = refl
+told_token NODE_IDENT TOKEN_CUR_POS h = refl
+told_token NODE_IDENT _ h = h
+told_token NODE_CUR_POS TOKEN_IDENT h = refl
+told_token NODE_CUR_POS _ h = h
+told_token _ k h = h
+
+pub spelled_token : (k : SyntaxKind) (text : List ℕ) → is_spelled k text ≡ true → is_token k ≡ true
+spelled_token TOKEN_OR text h = refl
+spelled_token _ text h = assumption
+
+patched : (n : Note) (f : Sketch) → has_tokens_alone (mended f) ≡ true → has_tokens_alone (patch n (mended f)) ≡ true
+patched Stray f h = h
+patched _ f h = assumption
+
+-- so it is in a mended row
+pub mended_tokens : (p : SyntaxKind) (f : Sketch) → AreTold p f → AreSpelled (tokens_in f) → has_tokens_alone (mended f) ≡ true
+mended_tokens p blank t h = refl
+mended_tokens p (token k x f) t h =
+    both_true (is_token k) (has_tokens_alone (mended f)) (ap is_token t.0 ∙ told_token p x.kind (spelled_token x.kind x.text h.0)) (mended_tokens p f t.1 h.1)
+mended_tokens p (branch k c f) t h =
+    both_true (has_tokens_alone (mended c)) (has_tokens_alone (mended f)) (mended_tokens k c t.0 (spelled_first (tokens_in c) (tokens_in f) h))
+    (mended_tokens p f t.1 (spelled_rest (tokens_in c) (tokens_in f) h))
+mended_tokens p (fault n c f) t h = patched n f (mended_tokens p f t.1 (spelled_rest (tokens_in c) (tokens_in f) h))
 
 -- tokens of a run have their own kinds
 told_row : (ts : List Token) → AreTold NODE_ERROR (row_of ts)
@@ -39,37 +66,29 @@ stands_told (inner v s y form tight g l d j x z) = (stands_told s, stands_told x
 some_none : {A : Type 0} {x : A} → Some x ≡ None → ⊥
 some_none e = cc
 
--- a spot where nothing may stand
-abbrev is_past : Spot → Bool
-is_past (At p.Past) = true
-is_past q = false
+-- behind the last child of a row nothing stands
+past_aside : {n : Note} {r : Spot} {ts : List Token} → IsAside n (At places.Past) r ts → ⊥
+past_aside (a_number g l) = true_is_not_false (sym l ∙ sym (ap live g))
+past_aside (a_run x y until n t e f w) =
+    let same : places.Past ≡ x = cc in
+    some_none (sym w ∙ ap run_at (sym same))
+past_aside (at_end t e) = absurd (cc)
 
--- nothing goes on there
-past_dead : (q : Spot) (k : SyntaxKind) → is_past q ≡ true → live (go q k) ≡ false
-past_dead (At p.Past) k h = refl
-past_dead _ k h = absurd (true_is_not_false (sym h))
-
--- nothing is missing there, and no run stands there
-past_full : (x : Place) → is_past (At x) ≡ true → (lack x ≡ None) × (run_at x ≡ None)
-past_full p.Past h = (refl, refl)
-past_full _ h = absurd (true_is_not_false (sym h))
-
-past_aside : {n : Note} {q r : Spot} {ts : List Token} → IsAside n q r ts → is_past q ≡ true → ⊥
-past_aside {q = q} (a_number g l) h = true_is_not_false (sym l ∙ sym (ap live g) ∙ past_dead q NODE_LITERAL h)
-past_aside (a_run x y until n t e f w) h = some_none (sym w ∙ (past_full x (sym (ap is_past e) ∙ h)).1)
-past_aside (at_end e) h = true_is_not_false (sym h ∙ ap is_past e)
-
-past_blank : {p : SyntaxKind} {a : ℕ} {q q' : Spot} {b : Sketch} {i : ℕ} {us : List Token} {f : Sketch} {es : List Fault} → Stands p a q q' b i us f es → is_past q ≡ true → f ≡ blank
+past_blank : {p : SyntaxKind} {a : ℕ} {q q' : Spot} {b : Sketch} {i : ℕ} {us : List Token} {f : Sketch} {es : List Fault} → Stands p a q q' b i us f es → q ≡ At places.Past → f ≡ blank
 past_blank end h = refl
-past_blank {q = q} (leaf {k = k} e tight g l c j s) h = absurd (true_is_not_false (sym l ∙ sym (ap live g) ∙ past_dead q k h))
-past_blank (lost {x = x} u n l s z) h = absurd (some_none (sym l ∙ (past_full x h).0))
-past_blank {p = p} {a = a} {q = q} {b = b} {i = i} (wrong {r = r} {vs = vs} note ts e v w d j s z) h = absurd (past_aside (aside note p a q r b i ts vs w) h)
-past_blank (second v s y o e r d j x z) h = absurd (true_is_not_false (sym h ∙ ap is_past e))
-past_blank {q = q} (inner {k = k} v s y form tight g l d j x z) h = absurd (true_is_not_false (sym l ∙ sym (ap live g) ∙ past_dead q k h))
+past_blank {q = q} (leaf {k = k} e tight g l c j s) h = absurd (true_is_not_false (sym l ∙ sym (ap live g) ∙ ap (λ x. live (go x k)) h))
+past_blank (lost {x = x} {y = y} {e = e} u n l s z) h =
+    let same : x ≡ places.Past = cc in
+    absurd (some_none (sym l ∙ ap lack same))
+past_blank {p = p} {a = a} {q = q} {b = b} {i = i} (wrong {r = r} {vs = vs} note ts e v w d j s z) h =
+    absurd (past_aside (subst (λ x. IsAside note x r ts) h (aside note p a q r b i ts vs w)))
+past_blank (second v s y o e r d j x z) h = let same : At (places.PatternEnd true) ≡ At places.Past = sym e ∙ h in absurd (cc)
+past_blank {q = q} (inner {k = k} v s y form tight g l d j x z) h = absurd (true_is_not_false (sym l ∙ sym (ap live g) ∙ ap (λ x. live (go x k)) h))
 
 -- the node of a name holds nothing but a token
-name_past : (k : SyntaxKind) → live (go (Start NODE_IDENT) k) ≡ true → is_past (go (Start NODE_IDENT) k) ≡ true
-name_past = implied (λ k. live (go (Start NODE_IDENT) k)) (λ k. is_past (go (Start NODE_IDENT) k)) refl
+name_past : (k : SyntaxKind) → live (go (Start NODE_IDENT) k) ≡ true → go (Start NODE_IDENT) k ≡ At places.Past
+name_past TOKEN_IDENT l = refl
+name_past _ l = absurd (true_is_not_false (sym l))
 
 one_bare : (k : SyntaxKind) (t : Token) (f : Sketch) → f ≡ blank → is_bare (token k t f) ≡ true
 one_bare k t f e = ap (λ x. is_bare (token k t x)) e
@@ -79,14 +98,14 @@ name_bare : {p : SyntaxKind} {a : ℕ} {q q' : Spot} {b : Sketch} {i : ℕ} {us 
 name_bare end w e = refl
 name_bare (leaf {f = f} {k = k} {t = t} h tight g l c j s) w e =
     let from : go (Start NODE_IDENT) k ≡ _ = ap (λ x. go x k) (sym e) ∙ g in
-    one_bare k t f (past_blank s (sym (ap is_past from) ∙ name_past k (ap live from ∙ l)))
+    one_bare k t f (past_blank s (sym from ∙ name_past k (ap live from ∙ l)))
 name_bare (lost u n l s z) w e = absurd (true_is_not_false (ap is_place e))
 name_bare {p = p} {a = a} {q = q} {b = b} {i = i} (wrong {r = r} {vs = vs} note ts h v x d j s z) w e = absurd (by (aside note p a q r b i ts vs x) e)
   where
     by : {n : Note} {q r : Spot} {ts : List Token} → IsAside n q r ts → q ≡ Start NODE_IDENT → ⊥
     by (a_number g l) e = true_is_not_false (sym l ∙ sym (ap live g) ∙ ap (λ x. live (go x NODE_LITERAL)) e)
     by (a_run x y until n t f g w) e = true_is_not_false (sym (ap is_place f) ∙ ap is_place e)
-    by (at_end f) e = true_is_not_false (sym (ap is_place f) ∙ ap is_place e)
+    by (at_end t f) e = true_is_not_false (sym (ap is_place f) ∙ ap is_place e)
 name_bare (second v s y o q r d j x z) w e = absurd (true_is_not_false (sym (ap is_place q) ∙ ap is_place e))
 name_bare (inner {k = k} v s y form tight g l d j x z) w e =
     absurd (never (λ j. live (go (Start NODE_IDENT) j)) has_row refl k (ap (λ x. live (go x k)) (sym e) ∙ ap live g ∙ l) (stands_row k s refl y))

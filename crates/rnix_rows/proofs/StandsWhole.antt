@@ -1,30 +1,19 @@
--- What holds of a whole text that stands: its errors, and its mended tree.
-use Rattle.std.proofs.Common.{◌≡◌, ◌↔◌, inl, inr, ◌+◌, ◌≤◌, List, refl, arith}
+-- What holds of the mended tree of a whole text that stands; behind a node that is not whole no item stands.
+use Rattle.std.proofs.Common.{◌≡◌, ◌↔◌, inl, inr, ℕ, ◌+◌, ◌≤◌, false, List, [], refl, ap, sym, ◌∙◌, subst, arith}
+use Rattle.rnix_kinds.specs.declared.kinds.SyntaxKind.{SyntaxKind}
 use Rattle.rnix_kinds.specs.declared.kinds.SyntaxKind.TheVariants.{NODE_ROOT, NODE_PATTERN}
 use Rattle.rnix_tree.specs.Forest.{empty, node}
 use Rattle.rnix_grammar.specs.declared.place.Place.TheVariants as places
 use Rattle.rnix_grammar.specs.Fault.{Fault}
-use Rattle.rnix_grammar.specs.Sketch.{Sketch}
-use Rattle.rnix_grammar.specs.Rows.{At, run, whole}
-use Rattle.rnix_grammar.specs.Mended.{mended, held, kinds_of, halves, AreBegun, ended_count, others, AreSettled, AreNamedLists}
-use Rattle.rnix_grammar.specs.Shape.{reports}
-use Rattle.rnix_grammar.specs.Stands.{StandsWhole}
-use Rattle.rnix_rows.proofs.StandsFaults.{stands_reports, stands_named, stands_settled}
+use Rattle.rnix_grammar.specs.Sketch.{Token, Sketch}
+use Rattle.rnix_grammar.specs.Rows.{Spot, At, run, is_row, start, whole}
+use Rattle.rnix_grammar.specs.Mended.{mended, held, kinds_of, halves, AreBegun, ended_count}
+use Rattle.rnix_grammar.specs.Stands.{Stands, StandsWhole, end, leaf, lost, wrong, second, inner}
+use Rattle.rnix_grammar.specs.Unfinished.{AreHalvesLast}
+use Rattle.rnix_rows.proofs.StandsFaults.{stands_errors}
 use Rattle.rnix_lemmas.proofs.ImitateLemmas.{imitates_self}
-use Rattle.rnix_rows.proofs.StandsRows.{half, stands_counts}
+use Rattle.rnix_rows.proofs.StandsRows.{ended_or, half, stands_counts}
 use Rattle.rnix_rows.proofs.StandsBegun.{beginning, stands_begun}
-
--- the errors other than those of the end of the text are those of the error nodes and of repeated entries, as these close
-pub whole_paired : {f : Sketch} {es : List Fault} → StandsWhole f es → others es ≡ reports f
-whole_paired s = stands_reports s
-
--- each list of wanted kinds is one of those that tokens are wanted by
-pub whole_named : {f : Sketch} {es : List Fault} → StandsWhole f es → AreNamedLists es
-whole_named s = stands_named s
-
--- behind an error of the end of the text no token is wrong
-pub whole_settled : {f : Sketch} {es : List Fault} → StandsWhole f es → AreSettled es
-whole_settled s = stands_settled s
 
 -- the nodes of the mended tree that are not whole are no more than the errors of the end of the text
 pub whole_few : {f : Sketch} {es : List Fault} → StandsWhole f es → halves (node NODE_ROOT (mended f) empty) ≤ ended_count es
@@ -53,3 +42,20 @@ pub whole_begun : {f : Sketch} {es : List Fault} → StandsWhole f es → AreBeg
 whole_begun {f = f} s =
     let begun = stands_begun (At places.RootStart) s refl (imitates_self (At places.RootStart)) in
     (beginning NODE_ROOT (kinds_of (held f)) begun.row, begun.nodes, tt)
+
+-- a node that is not whole misses an end, so it has no item behind it
+pub halves_last : {p : SyntaxKind} {a : ℕ} {q q' : Spot} {b : Sketch} {i : ℕ} {us : List Token} {f : Sketch} {es : List Fault}
+    → Stands p a q q' b i us f es → AreHalvesLast f us
+halves_last end = tt
+halves_last (leaf h op g l c j s) = halves_last s
+halves_last (lost u t l s z) = halves_last s
+halves_last (wrong note ts h v x d j s z) = halves_last s
+halves_last (second v s y p q r d j x z) = halves_last x
+halves_last {us = us} (inner {vs = vs} {c = c} {f = f} {ds = ds} {k = k} v s y form tight g l d j x z) =
+    (λ h. sym v ∙ none h, subst (AreHalvesLast c) v (halves_last s), halves_last x)
+  where
+    none : is_row k (kinds_of (mended c)) ≡ false → vs ≡ []
+    none h =
+        let few : half (whole (run (start k) (kinds_of (mended c)))) + halves (mended c) ≤ ended_count ds = (stands_counts (start k) s y (imitates_self (start k))).few in
+        let one : half (whole (run (start k) (kinds_of (mended c)))) ≡ 1 = ap half h in
+        elim (ended_or ds) [ inl n ↦ absurd (omega (arith, few, one, n)) | inr e ↦ (stands_errors s).last e ]

@@ -1,4 +1,4 @@
--- The shape of a whole tree, with its trivia.
+-- The shape of a whole tree, with its trivia; a tree reports what its items report, where no error node begins or ends with trivia.
 use Rattle.std.proofs.Common.{◌≡◌, ◌↔◌, ℕ, Bool, true, false, List, [], ◌∷◌, ◌++◌, Option, Some, None, refl, ap, sym, ◌∙◌, subst}
 use Rattle.std.specs.Prelude.{if◌then◌else◌, ◌&&◌, bytes_eq}
 use Rattle.rnix_kinds.specs.declared.kinds.SyntaxKind.{SyntaxKind}
@@ -12,15 +12,17 @@ use Rattle.rnix_grammar.specs.Reports.{report, repeated_if, entry_name, only_tok
 use Rattle.rnix_grammar.specs.Rows.{At, whole, is_row}
 use Rattle.rnix_grammar.specs.Stands.{Stands, begins_with_token}
 use Rattle.rnix_grammar.specs.Mended.{kinds_of}
-use Rattle.rnix_grammar.specs.Trim.{AreNodesTrimmed}
-use Rattle.rnix_grammar.specs.Shape.{item_kinds, begins_with_leaf, is_bind_formed, are_binds_formed, AreRows, IsShaped, leaf_text, text_if, name_in, name_if, with_name, entry_names, AreNew, AreUnrepeated, IsUnrepeated, reports_behind}
+use Rattle.rnix_grammar.specs.Trim.{AreNodesTrimmed, AreFaultsTrimmed}
+use Rattle.rnix_grammar.specs.Shape.{item_kinds, begins_with_leaf, is_bind_formed, are_binds_formed, AreRows, IsShaped, leaf_text, text_if, name_in, name_if, with_name, entry_names, AreNew, AreUnrepeated, IsUnrepeated, reports_behind, reports_within}
 use Rattle.rnix_grammar.specs.Tables.{is_among}
-use Rattle.rnix_rows.proofs.WholeEdges.{told_alike}
+use Rattle.rnix_rows.proofs.DressedEdges.{told_alike}
 use Rattle.rnix_lemmas.proofs.ImitateLemmas.{nowhere}
-use Rattle.rnix_rows.proofs.BindFacts.{bare_bind}
-use Rattle.rnix_rows.proofs.StandsShapes.{bare_binds, AreBareRows, IsBare, whole_rows}
+use Rattle.rnix_rows.proofs.StandsShapes.{bare_bind, bare_binds, AreBareRows, IsBare, whole_rows}
 use Rattle.rnix_lemmas.proofs.Basics.{true_is_not_false, none_left, none_right, not_nil}
 use Rattle.rnix_lemmas.proofs.EntryNames.{bare_name, has_branch, either_assoc, has-⊕, if_not}
+use Rattle.rnix_lemmas.proofs.SketchLemmas.{⊕-blank}
+use Rattle.rnix_lemmas.proofs.LayoutLemmas.{clean-⊕}
+use Rattle.rnix_lemmas.proofs.ReportLemmas.{clean_tokens, same_report}
 
 -- whether a leaf is trivia, its token tells
 leaf_trivia : (p k : SyntaxKind) (t : Token) → k ≡ told p t → is_trivia t.kind ≡ is_trivia k
@@ -268,3 +270,18 @@ whole_shaped f g es s e h t = (there, back)
           silent = new_silent NODE_ROOT g blank [] h (λ name. refl) shape.1 new.0 new.1;
         } in
         (whole_rows s).1 (subst IsBare e bare)
+
+-- a leaf reports nothing
+leaf_reports : (x : Bool) (k : SyntaxKind) (t : Token) (b f : Sketch) → reports_behind b (token_if x k t f) ≡ reports_behind (b ⊕ token_if x k t blank) f
+leaf_reports true k t b f = ap (λ z. reports_behind z f) (sym (⊕-blank b))
+leaf_reports false k t b f = refl
+
+-- what a row reports, its items report
+pub clean_reports : (b g : Sketch) → AreFaultsTrimmed g → reports_behind (clean b) (clean g) ≡ reports_within b g
+clean_reports b blank h = refl
+clean_reports b (token k t f) h =
+    leaf_reports (is_trivia t.kind) k t (clean b) (clean f) ∙ ap (λ z. reports_behind z (clean f)) (sym (clean-⊕ b (one_token k t))) ∙ clean_reports (b ⊕ one_token k t) f h
+clean_reports b (branch k c f) h =
+    rw (clean_reports blank c h.0, sym (clean-⊕ b (one_branch k c)), clean_reports (b ⊕ one_branch k c) f h.1) refl
+clean_reports b (fault n c f) h =
+    rw (clean_reports blank c h.2, clean_tokens c, same_report n (tokens_in c) h.0 h.1, sym (clean-⊕ b (one_fault n c)), clean_reports (b ⊕ one_fault n c) f h.3) refl

@@ -92,28 +92,18 @@ behind (At (p.PatternEnd false)) k = every (λ j. is_behind (At (p.PatternEnd fa
 behind (At x) k = every (λ j. is_behind (At x) j (go (At x) j)) refl k
 behind q k = every (λ j. is_behind q j (go q j)) refl k
 
--- the three parts of what is so
-record Parts (q : Spot) (k : SyntaxKind) (r : Spot) : Type 0 where
-  closed : (if wants r then is_closed k || is_parted q else true) ≡ true
-  further : (if is_last_at r then false else true) ≡ true
-  starts : (if live r then is_start (start k) || is_listed q else true) ≡ true
-
-parts : (q : Spot) (k : SyntaxKind) → Parts q k (go q k)
-parts q k =
-    let r : Spot = go q k in
-    let h = and_parts (if wants r then is_closed k || is_parted q else true)
-    ((if is_last_at r then false else true) && (if live r then is_start (start k) || is_listed q else true)) (behind q k) in
-    let i = and_parts (if is_last_at r then false else true) (if live r then is_start (start k) || is_listed q else true) h.1 in
-    record { closed = h.0; further = i.0; starts = i.1 }
-
 -- before such a spot stands a tree that no item goes on with, or an operand of the loosest level, or an attribute path
 pub closed_before : (q : Spot) (k : SyntaxKind) → wants (go q k) ≡ true → (is_closed k || is_parted q) ≡ true
-closed_before q k h = sym (ap (λ w. if w then is_closed k || is_parted q else true) h) ∙ (parts q k).closed
+closed_before q k h = sym (ap (λ w. if w then is_closed k || is_parted q else true) h) ∙ (and_parts (if wants (go q k) then is_closed k || is_parted q else true) _ (behind q k)).0
 
 -- no tree leads to where the end of a string alone is missing
 pub go_further : (q : Spot) (k : SyntaxKind) → is_last_at (go q k) ≡ false
-go_further q k = not_if (is_last_at (go q k)) (parts q k).further
+go_further q k =
+    not_if (is_last_at (go q k))
+    (and_parts (if is_last_at (go q k) then false else true) _ (and_parts (if wants (go q k) then is_closed k || is_parted q else true) _ (behind q k)).1).0
 
 -- but for attribute paths and entries, a node's row begins with a first tree
 pub starts_first : (q : Spot) (k : SyntaxKind) → live (go q k) ≡ true → (is_start (start k) || is_listed q) ≡ true
-starts_first q k h = sym (ap (λ w. if w then is_start (start k) || is_listed q else true) h) ∙ (parts q k).starts
+starts_first q k h =
+    sym (ap (λ w. if w then is_start (start k) || is_listed q else true) h)
+    ∙ (and_parts (if is_last_at (go q k) then false else true) _ (and_parts (if wants (go q k) then is_closed k || is_parted q else true) _ (behind q k)).1).1

@@ -1,0 +1,40 @@
+-- How far a place is from the end of its row.
+use Rattle.std.specs.Prelude.{ℕ, zero, suc, ◌+◌, false, None}
+use Rattle.rnix_grammar.specs.declared.place.Place.{Place}
+use Rattle.rnix_grammar.specs.declared.slot.Slot.{Slot}
+use Rattle.rnix_grammar.specs.declared.slot.Slot.TheVariants as s
+use Rattle.rnix_grammar.specs.declared.action.Action.{Action}
+use Rattle.rnix_grammar.specs.declared.action.Action.TheVariants as a
+use Rattle.rnix_grammar.specs.Slots.{slot_at}
+use Rattle.rnix_grammar.specs.Actions.{action_at}
+
+-- a step with an action and those that follow in its row, where so many follow from each place
+abbrev pub steps_with : (Place → ℕ) → Action → ℕ
+steps_with steps (a.Miss after) = suc (steps after)
+steps_with steps (a.MissWanted until after) = suc (steps after)
+steps_with steps (a.Read level counted after) = suc (steps after)
+steps_with steps (a.Begin k inside after) = suc (steps inside + steps after)
+steps_with steps action = 1
+
+-- the steps from a place to the end of its row where the text has ended, so many places on at most
+abbrev pub steps_from : ℕ → Place → ℕ
+steps_from zero place = 0
+steps_from (suc n) place = steps_with (steps_from n) (action_at place None false)
+
+-- no row has more places, one behind another
+abbrev pub most_places : ℕ
+most_places = 6
+
+-- the steps from a place to the end of its row where the text has ended, with those of a node that begins there without an item
+abbrev pub weight : Place → ℕ
+weight place = steps_from most_places place
+
+-- where attributes are wanted a node may have begun without an item, and it takes one next
+abbrev pub bonus_in : Slot → ℕ
+bonus_in (s.Attrpath behind) = 0
+bonus_in (s.Attr behind) = 0
+bonus_in slot = 30
+
+-- so it is at a place
+abbrev pub bonus : Place → ℕ
+bonus place = bonus_in (slot_at place)
