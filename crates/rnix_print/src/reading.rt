@@ -55,7 +55,7 @@ fn read_bytes<R: Read>(alloc: Global, input: &mut R) -> Result<Vec<u8>, RunError
 /// Reads all of the input, as text. An interrupted read is repeated, and an input that has not ended after `u64::MAX` reads is refused.
 pub(crate) fn read_all<R: Read>(alloc: Global, input: &mut R) -> Result<String, RunError>
     ensures text { IfOk result (λ text. IfSome (R.remaining input.old) (λ all. string_bytes text ≡ all)) }
-    ensures end { OnOk result (IsAtEnd (R.remaining input.new)) }
+    ensures ended { result ≢ Err refused.Read → result ≢ Err refused.Memory → IsAtEnd (R.remaining input.new) }
     ensures not_utf8 { result ≡ Err refused.NotUtf8 → IsNotUtf8 (R.remaining input.old) }
     ensures not_write { result ≢ Err refused.Write }
 {

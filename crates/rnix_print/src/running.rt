@@ -1,7 +1,7 @@
 //! A text in, its printed tree out.
 
-ghost use Rattle.std.specs.Prelude.{◌≡◌, map, OnOk, IfOk, Err};
-ghost use Rattle.std.specs.Io.KnownBytes.{Appends};
+ghost use Rattle.std.specs.Prelude.{◌≡◌, ◌≢◌, map, OnOk, IfOk, IfSome, Err, IsUtf8};
+ghost use Rattle.std.specs.Io.KnownBytes.{Appends, IsAtEnd};
 ghost use Rattle.rnix_grammar.specs.Fault.{fault_of};
 ghost use Rattle.rnix_print.specs.declared.outcome.RunError.TheVariants as refused;
 ghost use Rattle.rnix_print.specs.Ran.{HasRun, IsNotUtf8};
@@ -28,12 +28,14 @@ fn print<W: Write>(tree: &GreenNode, errors: &[ParseError], out: &mut W) -> io::
 }
 
 /// Reads all of the input and prints its errors and its tree: true if there are no errors. A refusal other than `Write` leaves the writer
-/// as it was.
+/// as it was. An answer other than `Read` and `Memory` comes only once all of the input is read.
 pub fn run<R: Read, W: Write>(alloc: Global, input: &mut R, out: &mut W) -> Result<bool, RunError>
     ensures ran { IfOk result (λ good. HasRun (R.remaining input.old) good (W.contents out.old) (W.contents out.new)) }
     ensures read { result ≡ Err refused.Read → out.new ≡ out.old }
     ensures not_utf8 { result ≡ Err refused.NotUtf8 → (out.new ≡ out.old) × IsNotUtf8 (R.remaining input.old) }
     ensures memory { result ≡ Err refused.Memory → out.new ≡ out.old }
+    ensures write { result ≡ Err refused.Write → IfSome (R.remaining input.old) IsUtf8 }
+    ensures ended { result ≢ Err refused.Read → result ≢ Err refused.Memory → IsAtEnd (R.remaining input.new) }
 {
     let text = read_all(alloc, input)?;
     let Ok((tree, errors)) = parse(alloc, tokenize(alloc, text.as_str())) else {

@@ -1,11 +1,11 @@
 //! Trees: built by hand and read from a text.
 
 use rnix::{
-    Checkpoint, GreenNode, GreenNodeBuilder, NodeOrToken, Parse, ParseError, Root, SyntaxKind,
-    SyntaxNode, TextRange, TokenSet, WalkEvent,
+    GreenNode, GreenNodeBuilder, NodeOrToken, Parse, ParseError, Root, SyntaxKind, SyntaxNode,
+    TextRange, TokenSet, WalkEvent,
 };
 use rnix_print::dump;
-use std::alloc::{AllocError, Global};
+use std::alloc::Global;
 use std::process::Abort;
 use std::test::Fail;
 
@@ -123,82 +123,5 @@ fn open_parentheses_end_with_the_text(rt: HostRuntime) -> Result<(), Fail> {
     let read = Root::parse(rt.alloc(), text.as_str())?;
     assert_too_deep(&rt, &read);
     assert!(rt; read.syntax().text_range() == TextRange::new(0, 512));
-    Ok(())
-}
-
-// A NODE_IDENT over a leaf, where each refused call is made again.
-fn name_again(builder: &mut GreenNodeBuilder, text: &str) -> Result<(), AllocError> {
-    if builder.start_node(SyntaxKind::NODE_IDENT).is_err() {
-        builder.start_node(SyntaxKind::NODE_IDENT)?;
-    }
-    if builder.token(SyntaxKind::TOKEN_IDENT, text).is_err() {
-        builder.token(SyntaxKind::TOKEN_IDENT, text)?;
-    }
-    if builder.open_nodes() > 0 && builder.finish_node().is_err() {
-        builder.finish_node()?;
-    }
-    Ok(())
-}
-
-// A NODE_ROOT over the trees from the checkpoint on, where each refused call is made again.
-fn root_again(builder: &mut GreenNodeBuilder, start: Checkpoint) -> Result<(), AllocError> {
-    if !builder.is_valid_checkpoint(start) {
-        return Ok(());
-    }
-    if builder.start_node_at(start, SyntaxKind::NODE_ROOT).is_err() {
-        builder.start_node_at(start, SyntaxKind::NODE_ROOT)?;
-    }
-    if builder.open_nodes() > 0 && builder.finish_node().is_err() {
-        builder.finish_node()?;
-    }
-    Ok(())
-}
-
-// Four names, where each refused call is made again.
-fn names_again(builder: &mut GreenNodeBuilder) -> Result<(), AllocError> {
-    name_again(builder, "a")?;
-    name_again(builder, "b")?;
-    name_again(builder, "or")?;
-    name_again(builder, "c")
-}
-
-// The tree of `a b or c` without trivia; None if what was built is no tree.
-fn built_again(alloc: Global) -> Result<Option<GreenNode>, AllocError> {
-    let mut builder = GreenNodeBuilder::new(alloc);
-    let start = builder.checkpoint();
-    names_again(&mut builder)?;
-    root_again(&mut builder, start)?;
-    if !builder.is_complete() {
-        return Ok(None);
-    }
-    Ok(Some(builder.finish()?))
-}
-
-// Whether the children of a node are names, one right behind another from the start on.
-fn are_names_in_a_row(root: &SyntaxNode<'_>) -> bool {
-    let mut places: usize = 0;
-    for child in root.children_with_tokens() {
-        let range = child.text_range();
-        if child.kind() != SyntaxKind::NODE_IDENT || range.start() != places {
-            return false;
-        }
-        places = range.end();
-    }
-    true
-}
-
-#[test]
-fn a_tree_is_built_in_spite_of_refusals(rt: HostRuntime) -> Result<(), Fail> {
-    // A refused `finish` takes the builder with it, so all is built again.
-    let built = match built_again(rt.alloc()) {
-        Ok(built) => built,
-        Err(_refused) => built_again(rt.alloc())?,
-    };
-    assert!(rt; built.is_some());
-    if let Some(tree) = built {
-        let root = SyntaxNode::new_root(&tree);
-        assert!(rt; are_names_in_a_row(&root));
-        assert_eq!(rt; root.text(), "aborc");
-    }
     Ok(())
 }

@@ -1,0 +1,99 @@
+//! Readers and writers over memory that move one byte a call, and fail at one of their calls.
+
+use std::alloc::Global;
+use std::io;
+use std::io::{ErrorKind, Read, Write};
+
+/// No call has this number.
+pub(crate) const NEVER: u64 = u64::MAX;
+
+/// A reader that fails at the read with a number, from 0 on. It may have an interrupt before each byte.
+#[derive(Drop)]
+pub(crate) struct Input<'a> {
+    rest: &'a [u8],
+    reads: u64,
+    fails_at: u64,
+    kind: ErrorKind,
+    interrupts: bool,
+}
+
+impl<'a> Input<'a> {
+    /// A reader of these bytes.
+    pub(crate) fn new(bytes: &'a [u8], fails_at: u64, kind: ErrorKind, interrupts: bool) -> Self {
+        Input {
+            rest: bytes,
+            reads: 0,
+            fails_at,
+            kind,
+            interrupts,
+        }
+    }
+}
+
+impl Read for Input<'_> {
+    fn read(&mut self, buf: &mut [u8]) -> io::Result<usize> {
+        let read = self.reads;
+        self.reads = read.saturating_add(1);
+        if read == self.fails_at {
+            return Err(io::Error::from(self.kind));
+        }
+        if self.interrupts && read % 2 == 0 {
+            return Err(io::Error::from(ErrorKind::Interrupted));
+        }
+        let count = self.rest.len().min(buf.len()).min(1);
+        let (now, rest) = self.rest.split_at(count);
+        buf[..count].copy_from_slice(now);
+        self.rest = rest;
+        Ok(count)
+    }
+}
+
+/// A writer that fails at the write with a number, from 0 on: with an error of a kind, or, where there is none, by taking nothing.
+#[derive(Drop)]
+pub(crate) struct Output {
+    /// What was written.
+    pub(crate) bytes: Vec<u8>,
+    /// How many writes were made.
+    pub(crate) writes: u64,
+    fails_at: u64,
+    kind: Option<ErrorKind>,
+}
+
+impl Output {
+    /// A writer that has taken nothing.
+    pub(crate) fn new(alloc: Global, fails_at: u64, kind: Option<ErrorKind>) -> Output {
+        Output {
+            bytes: Vec::new(alloc),
+            writes: 0,
+            fails_at,
+            kind,
+        }
+    }
+
+    /// Whether the write that failed was the last one, and what was written before it is the first part of what is wanted.
+    pub(crate) fn stopped(&self, wanted: &[u8]) -> bool {
+        self.writes == self.fails_at.saturating_add(1) && wanted.starts_with(self.bytes.as_slice())
+    }
+}
+
+impl Write for Output {
+    fn write(&mut self, buf: &[u8]) -> io::Result<usize> {
+        let write = self.writes;
+        self.writes = write.saturating_add(1);
+        if write == self.fails_at {
+            return match self.kind {
+                Some(kind) => Err(io::Error::from(kind)),
+                None => Ok(0),
+            };
+        }
+        let Some(byte) = buf.first() else {
+            return Ok(0);
+        };
+        self.bytes.push(*byte)?;
+        Ok(1)
+    }
+
+    fn flush(&mut self) -> io::Result<()> {
+        Ok(())
+    }
+}

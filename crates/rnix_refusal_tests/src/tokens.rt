@@ -1,0 +1,45 @@
+//! Tokens that are asked for again after a refusal.
+
+use crate::again::told;
+use rnix::{Token, Tokenizer, tokenize};
+use std::alloc::{AllocError, Global};
+use std::process::Abort;
+
+// The next token, asked for again where it was refused, which leaves the text as it was.
+fn next_again<'a>(
+    rt: &impl Abort,
+    tokens: &mut Tokenizer<'a>,
+    refused: &mut bool,
+) -> Option<Token<'a>> {
+    let text = tokens.rest();
+    if let Ok(token) = tokens.next_token()? {
+        return Some(token);
+    }
+    *refused = true;
+    assert!(rt; tokens.rest() == text);
+    tokens.next_token()?.ok()
+}
+
+// Two tokenizers give the same tokens of a text. Of one of them at most a growth is refused.
+fn are_asked_for_again(rt: &impl Abort, alloc: Global, text: &str) -> Result<(), AllocError> {
+    let mut refused = false;
+    let mut tokens = tokenize(alloc, text);
+    let mut others = tokenize(alloc, text);
+    for _byte in 0..text.len() {
+        let token = next_again(rt, &mut tokens, &mut refused);
+        let other = next_again(rt, &mut others, &mut refused);
+        assert!(rt; token == other);
+    }
+    assert!(rt; tokens.rest().is_empty() && others.rest().is_empty());
+    told(refused)
+}
+
+#[test]
+fn tokens_of_a_string_are_asked_for_again(rt: HostRuntime) -> Result<(), AllocError> {
+    are_asked_for_again(&rt, rt.alloc(), "\"a${{}}b\"")
+}
+
+#[test]
+fn tokens_of_an_indented_string_are_asked_for_again(rt: HostRuntime) -> Result<(), AllocError> {
+    are_asked_for_again(&rt, rt.alloc(), "''a'''b''$c''\\nd''")
+}
