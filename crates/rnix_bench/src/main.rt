@@ -1,26 +1,28 @@
-//! Times the tokenizer, the parser and walks over the tree: `rnix_bench FILE TURNS` reads the file once and goes over its text again and
-//! again.
+//! Times parts of the library on a text: `rnix_bench FILE PART TURNS` prints what one turn counted, and the fewest microseconds that a turn took.
 #![tactic(auto)]
 
-mod reading;
+mod parts;
 mod walking;
 
+use parts::Part;
 use std::{env, fs, io};
-
-// One line for each part.
-fn report(rt: &HostRuntime, name: &str, turns: u64) -> io::Result<()> {
-    let text = fs::read_to_string(rt, name)?;
-    reading::report(rt, text.as_str(), turns)?;
-    walking::report(rt, text.as_str())
-}
 
 fn main(rt: HostRuntime) -> io::Result<()> {
     let mut args = env::args(&rt)?;
     let _program = args.next();
-    match (args.next(), args.next()) {
-        (Some(name), Some(turns)) => {
-            report(&rt, name.as_str(), turns.as_str().parse().unwrap_or(1))
+    match (args.next(), args.next(), args.next()) {
+        (Some(name), Some(part), Some(turns)) => {
+            let text = fs::read_to_string(&rt, name.as_str())?;
+            match Part::named(part.as_str()) {
+                Some(part) => parts::report(
+                    &rt,
+                    part,
+                    text.as_str(),
+                    turns.as_str().parse().unwrap_or(1),
+                ),
+                None => println!(rt; "rnix_bench: no part of this name"),
+            }
         }
-        _ => println!(rt; "rnix_bench FILE TURNS"),
+        _ => println!(rt; "rnix_bench FILE tokens|parse|walk|ranges|parents|offsets|print TURNS"),
     }
 }

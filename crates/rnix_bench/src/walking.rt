@@ -1,8 +1,6 @@
-//! How long walks over a tree take.
+//! Walks over a tree, each with what it counts.
 
-use rnix::{Parse, Root, SyntaxNode, TokenAtOffset};
-use std::io;
-use std::time::Instant;
+use rnix::{Parse, SyntaxNode, TokenAtOffset, WalkEvent};
 
 // How many chains of parents are followed, and how many offsets are looked up.
 const CHAINS: u64 = 10_000;
@@ -24,8 +22,25 @@ fn offset_in(node: &SyntaxNode<'_>, number: u64) -> usize {
     range.start().saturating_add(high % len.max(1))
 }
 
-// How many bytes of tokens stand at some offsets.
-fn look_up(read: &Parse) -> usize {
+/// How many events a walk in preorder has.
+pub fn count_events(read: &Parse) -> usize {
+    read.syntax().preorder_with_tokens().count()
+}
+
+/// How many bytes the ranges of all elements have together.
+pub fn count_range_bytes(read: &Parse) -> usize {
+    let mut bytes: usize = 0;
+    for event in read.syntax().preorder_with_tokens() {
+        if let WalkEvent::Enter(element) = event {
+            let range = element.text_range();
+            bytes = bytes.saturating_add(range.end().saturating_sub(range.start()));
+        }
+    }
+    bytes
+}
+
+/// How many bytes of tokens stand at some offsets.
+pub fn look_up(read: &Parse) -> usize {
     let root = read.syntax();
     let range = root.text_range();
     let (mut number, mut bytes): (u64, usize) = (1, 0);
@@ -41,8 +56,8 @@ fn look_up(read: &Parse) -> usize {
     bytes
 }
 
-// How many nodes stand around the tokens at some offsets.
-fn follow_parents(read: &Parse) -> usize {
+/// How many nodes stand around the tokens at some offsets.
+pub fn follow_parents(read: &Parse) -> usize {
     let root = read.syntax();
     let range = root.text_range();
     let (mut number, mut nodes): (u64, usize) = (1, 0);
@@ -58,21 +73,4 @@ fn follow_parents(read: &Parse) -> usize {
         }
     }
     nodes
-}
-
-/// One line: the events of a walk, the nodes around tokens, and the bytes of tokens at offsets, each with its microseconds.
-pub fn report(rt: &HostRuntime, text: &str) -> io::Result<()> {
-    let read = Root::parse(rt.alloc(), text)?;
-    let start = Instant::now(rt)?;
-    let events = read.syntax().preorder_with_tokens().count();
-    let walk = start.elapsed(rt)?.as_micros();
-    let start = Instant::now(rt)?;
-    let nodes = follow_parents(&read);
-    let chains = start.elapsed(rt)?.as_micros();
-    let start = Instant::now(rt)?;
-    let bytes = look_up(&read);
-    let offsets = start.elapsed(rt)?.as_micros();
-    println!(rt;
-        "{events} events in {walk} us, {nodes} nodes around tokens in {chains} us, {bytes} bytes at offsets in {offsets} us"
-    )
 }

@@ -1,0 +1,100 @@
+//! The parts that are timed.
+
+use crate::walking::{count_events, count_range_bytes, follow_parents, look_up};
+use rnix::{Parse, Root, tokenize};
+use rnix_print::dump;
+use std::alloc::{AllocError, Global};
+use std::io;
+use std::time::Instant;
+
+/// A part of the library that is timed.
+#[derive(Clone, Copy)]
+pub enum Part {
+    /// Cuts the text into tokens.
+    Tokens,
+    /// Makes the tree and the errors of the text.
+    Parse,
+    /// Goes over all elements in preorder.
+    Walk,
+    /// Asks each element for its range.
+    Ranges,
+    /// Follows the parents of tokens.
+    Parents,
+    /// Looks up the tokens at offsets.
+    Offsets,
+    /// Prints the tree.
+    Print,
+}
+
+impl Part {
+    /// The part of a name.
+    pub fn named(name: &str) -> Option<Part> {
+        match name {
+            "tokens" => Some(Part::Tokens),
+            "parse" => Some(Part::Parse),
+            "walk" => Some(Part::Walk),
+            "ranges" => Some(Part::Ranges),
+            "parents" => Some(Part::Parents),
+            "offsets" => Some(Part::Offsets),
+            "print" => Some(Part::Print),
+            _ => None,
+        }
+    }
+}
+
+// How many tokens the text has, which are no more than its bytes.
+fn count_tokens(alloc: Global, text: &str) -> Result<usize, AllocError> {
+    let mut tokens = tokenize(alloc, text);
+    for count in 0..text.len() {
+        let Some(token) = tokens.next_token() else {
+            return Ok(count);
+        };
+        token?;
+    }
+    Ok(text.len())
+}
+
+// How many errors the text has.
+fn count_errors(alloc: Global, text: &str) -> Result<usize, AllocError> {
+    Ok(Root::parse(alloc, text)?.errors().len())
+}
+
+// How many bytes the printed tree has.
+fn count_printed(alloc: Global, read: &Parse) -> io::Result<usize> {
+    let mut out: Vec<u8> = Vec::new(alloc);
+    dump(&read.syntax(), &mut out)?;
+    Ok(out.len())
+}
+
+// What one turn of a part counts in a text; trees are walked and printed as they were read before.
+fn turn(alloc: Global, part: Part, text: &str, read: &Parse) -> io::Result<usize> {
+    match part {
+        Part::Tokens => Ok(count_tokens(alloc, text)?),
+        Part::Parse => Ok(count_errors(alloc, text)?),
+        Part::Walk => Ok(count_events(read)),
+        Part::Ranges => Ok(count_range_bytes(read)),
+        Part::Parents => Ok(follow_parents(read)),
+        Part::Offsets => Ok(look_up(read)),
+        Part::Print => count_printed(alloc, read),
+    }
+}
+
+// The text that is read before the turns: none where reading itself is timed.
+fn read_before(part: Part, text: &str) -> &str {
+    match part {
+        Part::Tokens | Part::Parse => "",
+        _ => text,
+    }
+}
+
+/// One line: what a turn counted, and the fewest microseconds that one took.
+pub fn report(rt: &HostRuntime, part: Part, text: &str, turns: u64) -> io::Result<()> {
+    let read = Root::parse(rt.alloc(), read_before(part, text))?;
+    let (mut least, mut count) = (u128::MAX, 0);
+    for _turn in 0..turns {
+        let start = Instant::now(rt)?;
+        count = turn(rt.alloc(), part, text, &read)?;
+        least = least.min(start.elapsed(rt)?.as_micros());
+    }
+    println!(rt; "{count} in {least} us")
+}
