@@ -1,0 +1,261 @@
+/*
+ * rnix: a lossless parser of the Nix language, for C and C++ and for what calls C.
+ *
+ * Texts are UTF-8, given as bytes and their number; they need no zero at the end. All offsets are in bytes from the beginning of the text, and
+ * all ranges are half-open: the byte at `end` is not inside.
+ *
+ * Nothing is kept and nothing is handed over: a call reads the text, writes into the arrays of the caller, and has freed what memory it took
+ * when it returns. A function that lists things takes an array and how many of them it has room for. It writes the first of them, as many as
+ * there is room for, and answers how many there are, also where that is more: so a call with no room (NULL and 0) counts. What lies behind
+ * the things written stays as it was. NULL may stand for a text of 0 bytes and an array of no room, and nowhere else. The arrays may not
+ * overlap each other or the text.
+ *
+ * An answer below 0 is a refusal (enum rnix_refusal). What the caller gave is then as it was, but for the tokens of rnix_tokens.
+ *
+ * Any thread may call at any time: calls share nothing but the C library's malloc, realloc and free, which may be called by several threads.
+ * No function may be called from a signal handler. No text makes a call need a deep stack.
+ */
+#ifndef RNIX_H
+#define RNIX_H
+
+#include <stddef.h>
+#include <stdint.h>
+
+#ifdef __cplusplus
+extern "C" {
+#endif
+
+/* The interface that this header describes. */
+#define RNIX_VERSION 1u
+
+/* The interface of the library, which should be RNIX_VERSION. It changes where a function, a struct or a number in this header does. */
+uint32_t rnix_version(void);
+
+/* Why a call is refused. */
+enum rnix_refusal {
+    RNIX_NOT_UTF8 = -1,  /* the text is not UTF-8 */
+    RNIX_NO_MEMORY = -2, /* malloc or realloc answered NULL */
+    RNIX_NONE_SUCH = -3  /* there is no such kind, name, error or string */
+};
+
+/* An offset, or the number of an element, that is none. */
+#define RNIX_NO_NUMBER UINT64_MAX
+
+/* A kind that is none. */
+#define RNIX_NO_KIND UINT32_MAX
+
+/* What a token or a node is. The kinds of tokens come before those of nodes. */
+enum rnix_kind {
+    RNIX_TOKEN_ADD = 0,
+    RNIX_TOKEN_AND_AND = 1,
+    RNIX_TOKEN_ASSIGN = 2,
+    RNIX_TOKEN_ASSERT = 3,
+    RNIX_TOKEN_AT = 4,
+    RNIX_TOKEN_COLON = 5,
+    RNIX_TOKEN_COMMA = 6,
+    RNIX_TOKEN_COMMENT = 7,
+    RNIX_TOKEN_CONCAT = 8,
+    RNIX_TOKEN_CUR_POS = 9,
+    RNIX_TOKEN_DIV = 10,
+    RNIX_TOKEN_DOT = 11,
+    RNIX_TOKEN_ELLIPSIS = 12,
+    RNIX_TOKEN_ELSE = 13,
+    RNIX_TOKEN_EQUAL = 14,
+    RNIX_TOKEN_ERROR = 15,
+    RNIX_TOKEN_FLOAT = 16,
+    RNIX_TOKEN_IDENT = 17,
+    RNIX_TOKEN_IF = 18,
+    RNIX_TOKEN_IMPLICATION = 19,
+    RNIX_TOKEN_IN = 20,
+    RNIX_TOKEN_INHERIT = 21,
+    RNIX_TOKEN_INTEGER = 22,
+    RNIX_TOKEN_INTERPOL_END = 23,
+    RNIX_TOKEN_INTERPOL_START = 24,
+    RNIX_TOKEN_INVERT = 25,
+    RNIX_TOKEN_L_BRACE = 26,
+    RNIX_TOKEN_L_BRACK = 27,
+    RNIX_TOKEN_L_PAREN = 28,
+    RNIX_TOKEN_LESS = 29,
+    RNIX_TOKEN_LESS_OR_EQ = 30,
+    RNIX_TOKEN_LET = 31,
+    RNIX_TOKEN_MORE = 32,
+    RNIX_TOKEN_MORE_OR_EQ = 33,
+    RNIX_TOKEN_MUL = 34,
+    RNIX_TOKEN_NOT_EQUAL = 35,
+    RNIX_TOKEN_OR = 36,
+    RNIX_TOKEN_OR_OR = 37,
+    RNIX_TOKEN_PATH_ABS = 38,
+    RNIX_TOKEN_PATH_HOME = 39,
+    RNIX_TOKEN_PATH_REL = 40,
+    RNIX_TOKEN_PATH_SEARCH = 41,
+    RNIX_TOKEN_PIPE_LEFT = 42,
+    RNIX_TOKEN_PIPE_RIGHT = 43,
+    RNIX_TOKEN_QUESTION = 44,
+    RNIX_TOKEN_R_BRACE = 45,
+    RNIX_TOKEN_R_BRACK = 46,
+    RNIX_TOKEN_R_PAREN = 47,
+    RNIX_TOKEN_REC = 48,
+    RNIX_TOKEN_SEMICOLON = 49,
+    RNIX_TOKEN_STRING_CONTENT = 50,
+    RNIX_TOKEN_STRING_END = 51,
+    RNIX_TOKEN_STRING_START = 52,
+    RNIX_TOKEN_SUB = 53,
+    RNIX_TOKEN_THEN = 54,
+    RNIX_TOKEN_UPDATE = 55,
+    RNIX_TOKEN_URI = 56,
+    RNIX_TOKEN_WHITESPACE = 57,
+    RNIX_TOKEN_WITH = 58,
+    RNIX_NODE_APPLY = 59,
+    RNIX_NODE_ASSERT = 60,
+    RNIX_NODE_ATTR_SET = 61,
+    RNIX_NODE_ATTRPATH = 62,
+    RNIX_NODE_ATTRPATH_VALUE = 63,
+    RNIX_NODE_BIN_OP = 64,
+    RNIX_NODE_CUR_POS = 65,
+    RNIX_NODE_DYNAMIC = 66,
+    RNIX_NODE_ERROR = 67,
+    RNIX_NODE_HAS_ATTR = 68,
+    RNIX_NODE_IDENT = 69,
+    RNIX_NODE_IDENT_PARAM = 70,
+    RNIX_NODE_IF_ELSE = 71,
+    RNIX_NODE_INHERIT = 72,
+    RNIX_NODE_INHERIT_FROM = 73,
+    RNIX_NODE_INTERPOL = 74,
+    RNIX_NODE_LAMBDA = 75,
+    RNIX_NODE_LEGACY_LET = 76,
+    RNIX_NODE_LET_IN = 77,
+    RNIX_NODE_LIST = 78,
+    RNIX_NODE_LITERAL = 79,
+    RNIX_NODE_PAREN = 80,
+    RNIX_NODE_PAT_BIND = 81,
+    RNIX_NODE_PAT_ENTRY = 82,
+    RNIX_NODE_PATTERN = 83,
+    RNIX_NODE_PATH_ABS = 84,
+    RNIX_NODE_PATH_HOME = 85,
+    RNIX_NODE_PATH_REL = 86,
+    RNIX_NODE_PATH_SEARCH = 87,
+    RNIX_NODE_ROOT = 88,
+    RNIX_NODE_SELECT = 89,
+    RNIX_NODE_STRING = 90,
+    RNIX_NODE_UNARY_OP = 91,
+    RNIX_NODE_WITH = 92};
+
+/* How many kinds there are. */
+#define RNIX_KINDS 93u
+
+/* A token: 24 bytes, of which the last 4 are not used. */
+struct rnix_token {
+    uint64_t start;
+    uint64_t end;
+    uint32_t kind; /* enum rnix_kind */
+};
+
+/*
+ * An element of a tree, a node or a token: 40 bytes. Elements are numbered in preorder from 0, the root: first a node, then what is inside it.
+ * So the elements inside element n are n + 1 up to n + inside, the first child is n + 1 (if inside > 0), and the next element behind it with
+ * the same parent is n + 1 + inside (if that is inside the parent).
+ */
+struct rnix_element {
+    uint64_t start;
+    uint64_t end;
+    uint64_t parent;   /* the number of the node around it; RNIX_NO_NUMBER of the root */
+    uint64_t inside;   /* how many elements are inside it; 0 of a token */
+    uint32_t kind;     /* enum rnix_kind */
+    uint32_t is_token; /* 1 of a token, 0 of a node */
+};
+
+/* What an error is. Those with a range say where: of an error node in the tree, or, of RNIX_DUPLICATED_ARGS, of the repeated name. */
+enum rnix_error_variant {
+    RNIX_UNEXPECTED = 0,               /* no cause is told; the parser never makes it; it has a range */
+    RNIX_UNEXPECTED_EXTRA = 1,         /* tokens follow the expression; it has a range */
+    RNIX_UNEXPECTED_WANTED = 2,        /* another kind of token is wanted; it has a range, `found` and `wanted` */
+    RNIX_UNEXPECTED_DOUBLE_BIND = 3,   /* a pattern is bound to two names; it has a range */
+    RNIX_UNEXPECTED_EOF = 4,           /* the text ends where more is wanted */
+    RNIX_UNEXPECTED_EOF_WANTED = 5,    /* the text ends where a token is wanted; it has `wanted` */
+    RNIX_DUPLICATED_ARGS = 6,          /* two entries of a pattern have one name; it has a range */
+    RNIX_RECURSION_LIMIT_EXCEEDED = 7  /* expressions are nested too deep */
+};
+
+/* An error: 40 bytes. */
+struct rnix_error {
+    uint64_t start;     /* RNIX_NO_NUMBER where the error has no range */
+    uint64_t end;       /* RNIX_NO_NUMBER where the error has no range */
+    uint64_t wanted[2]; /* the set of the kinds of which one is wanted: RNIX_WANTS */
+    uint32_t variant;   /* enum rnix_error_variant */
+    uint32_t found;     /* the kind of the token that stands there, or RNIX_NO_KIND */
+};
+
+/* Whether the error (a pointer to it) wants the kind (a number below RNIX_KINDS). */
+#define RNIX_WANTS(error, kind) ((int)(((error)->wanted[(kind) / 64] >> ((kind) % 64)) & 1))
+
+/* A part of a string: 24 bytes, of which the last 4 are not used. */
+struct rnix_part {
+    uint64_t start; /* of an interpolation its range in the text; else a range of what rnix_string_text writes */
+    uint64_t end;
+    uint32_t is_interpolation; /* 1 of `${..}`, 0 of text */
+};
+
+/*
+ * The tokens of a text, one behind another: each begins where the one before ends, the first at 0, and the last ends at the end of the text.
+ * Answers how many there are. Refusals: RNIX_NOT_UTF8; RNIX_NO_MEMORY, where the first of the tokens may be written all the same.
+ */
+int64_t rnix_tokens(const uint8_t *text, size_t len, struct rnix_token *tokens, size_t room);
+
+/*
+ * The elements of a text's tree in preorder. Each text has a tree, also where it has errors; its leaves are the tokens of the text.
+ * Answers how many there are, at least 1. Refusals: RNIX_NOT_UTF8, RNIX_NO_MEMORY.
+ */
+int64_t rnix_elements(const uint8_t *text, size_t len, struct rnix_element *elements, size_t room);
+
+/*
+ * The errors of a text, in the order in which they were found.
+ * Answers how many there are. Refusals: RNIX_NOT_UTF8, RNIX_NO_MEMORY.
+ */
+int64_t rnix_errors(const uint8_t *text, size_t len, struct rnix_error *errors, size_t room);
+
+/*
+ * The elements and the errors of a text, which is read once. How many errors there are is written to *error_count, which may not be NULL.
+ * Answers how many elements there are. Refusals: RNIX_NOT_UTF8, RNIX_NO_MEMORY.
+ */
+int64_t rnix_parse(const uint8_t *text, size_t len, struct rnix_element *elements, size_t element_room, struct rnix_error *errors,
+                   size_t error_room, uint64_t *error_count);
+
+/*
+ * What is said of one error of a text (its number in rnix_errors, from 0), in UTF-8, with no zero at the end. The text is read anew.
+ * Answers how many bytes it has. Refusals: RNIX_NOT_UTF8, RNIX_NO_MEMORY, and RNIX_NONE_SUCH where there are not so many errors.
+ */
+int64_t rnix_error_text(const uint8_t *text, size_t len, size_t error, uint8_t *buffer, size_t room);
+
+/*
+ * What is said of all errors of a text, each ended by a line feed, which stands nowhere else in it; the text is read once.
+ * Answers how many bytes there are. Refusals: RNIX_NOT_UTF8, RNIX_NO_MEMORY.
+ */
+int64_t rnix_error_texts(const uint8_t *text, size_t len, uint8_t *buffer, size_t room);
+
+/*
+ * The name of a kind in ASCII, as TOKEN_ADD, with no zero at the end.
+ * Answers how many bytes it has. Refusal: RNIX_NONE_SUCH where no kind has this number.
+ */
+int64_t rnix_kind_name(uint32_t kind, uint8_t *buffer, size_t room);
+
+/* Answers the number of the kind that has this name. Refusal: RNIX_NONE_SUCH where no kind has it. */
+int64_t rnix_kind_of_name(const uint8_t *name, size_t len);
+
+/*
+ * The text that a string stands for, in UTF-8 with no zero at the end: without its indentation if it is one in '', with what its escapes
+ * stand for, and without its interpolations. The string is given by its number among the elements; its kind is RNIX_NODE_STRING. The text is
+ * read anew. Answers how many bytes there are. Refusals: RNIX_NOT_UTF8, RNIX_NO_MEMORY, and RNIX_NONE_SUCH where no string has this number.
+ */
+int64_t rnix_string_text(const uint8_t *text, size_t len, size_t element, uint8_t *buffer, size_t room);
+
+/*
+ * The parts of a string, in order: pieces of what rnix_string_text writes, and the interpolations between them.
+ * Answers how many there are. Refusals: as those of rnix_string_text.
+ */
+int64_t rnix_string_parts(const uint8_t *text, size_t len, size_t element, struct rnix_part *parts, size_t room);
+
+#ifdef __cplusplus
+}
+#endif
+
+#endif

@@ -1,0 +1,40 @@
+//! Prints the errors and the tree of each file, or of standard input, as nix-tree does: tree [FILE..]
+//! It ends with 0 if no text has errors, with 1 if one has, and with 2 if something is refused.
+
+use std::error::Error;
+use std::io::{self, Read, Write};
+use std::process::ExitCode;
+use std::{env, fs};
+
+// Prints a text's tree, and answers whether it has errors.
+fn print(text: &[u8], out: &mut impl Write) -> Result<bool, Box<dyn Error>> {
+    let tree = rnix_proved::parse(text)?;
+    write!(out, "{tree}")?;
+    Ok(!tree.errors().is_empty())
+}
+
+fn print_all(files: &[String]) -> Result<bool, Box<dyn Error>> {
+    let mut out = io::BufWriter::new(io::stdout().lock());
+    let mut wrong = false;
+    if files.is_empty() {
+        let mut text = Vec::new();
+        io::stdin().read_to_end(&mut text)?;
+        wrong = print(&text, &mut out)?;
+    }
+    for file in files {
+        wrong |= print(&fs::read(file)?, &mut out)?;
+    }
+    out.flush()?;
+    Ok(wrong)
+}
+
+fn main() -> ExitCode {
+    let files: Vec<String> = env::args().skip(1).collect();
+    match print_all(&files) {
+        Ok(wrong) => ExitCode::from(u8::from(wrong)),
+        Err(refusal) => {
+            eprintln!("tree: {refusal}");
+            ExitCode::from(2)
+        }
+    }
+}

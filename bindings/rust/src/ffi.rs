@@ -1,0 +1,135 @@
+//! The functions of the library, as `bindings/rnix.h` describes them, and safe calls of those that fill an array.
+
+use crate::Refused;
+use std::mem::MaybeUninit;
+
+/// The interface that this file describes.
+pub const VERSION: u32 = 1;
+
+/// Refusals.
+pub const NOT_UTF8: i64 = -1;
+pub const NO_MEMORY: i64 = -2;
+
+/// An offset or a number that is none.
+pub const NO_NUMBER: u64 = u64::MAX;
+
+/// A token: 24 bytes.
+#[repr(C)]
+#[derive(Clone, Copy, Debug)]
+pub struct Token {
+    pub start: u64,
+    pub end: u64,
+    pub kind: u32,
+}
+
+/// An element of a tree: 40 bytes.
+#[repr(C)]
+#[derive(Clone, Copy, Debug)]
+pub struct Element {
+    pub start: u64,
+    pub end: u64,
+    pub parent: u64,
+    pub inside: u64,
+    pub kind: u32,
+    pub is_token: u32,
+}
+
+/// An error: 40 bytes.
+#[repr(C)]
+#[derive(Clone, Copy, Debug)]
+pub struct Fault {
+    pub start: u64,
+    pub end: u64,
+    pub wanted: [u64; 2],
+    pub variant: u32,
+    pub found: u32,
+}
+
+/// A part of a string: 24 bytes.
+#[repr(C)]
+#[derive(Clone, Copy, Debug)]
+pub struct Part {
+    pub start: u64,
+    pub end: u64,
+    pub is_interpolation: u32,
+}
+
+extern "C" {
+    pub fn rnix_version() -> u32;
+    pub fn rnix_tokens(text: *const u8, len: usize, tokens: *mut Token, room: usize) -> i64;
+    pub fn rnix_parse(
+        text: *const u8,
+        len: usize,
+        elements: *mut Element,
+        element_room: usize,
+        errors: *mut Fault,
+        error_room: usize,
+        error_count: *mut u64,
+    ) -> i64;
+    pub fn rnix_errors(text: *const u8, len: usize, errors: *mut Fault, room: usize) -> i64;
+    pub fn rnix_error_texts(text: *const u8, len: usize, buffer: *mut u8, room: usize) -> i64;
+    pub fn rnix_string_text(text: *const u8, len: usize, element: usize, buffer: *mut u8, room: usize) -> i64;
+    pub fn rnix_string_parts(text: *const u8, len: usize, element: usize, parts: *mut Part, room: usize) -> i64;
+}
+
+/// The count that an answer is, or why the call was refused.
+pub fn answered(answer: i64) -> Result<usize, Refused> {
+    match answer {
+        NOT_UTF8 => Err(Refused::NotUtf8),
+        NO_MEMORY => Err(Refused::NoMemory),
+        _ => Ok(usize::try_from(answer).expect("the library answers a count, and the caller asks for what there is")),
+    }
+}
+
+/// All that a call writes, where there are perhaps `guess` of them.
+///
+/// # Safety
+/// The call must write into the array that it is given, from its beginning, as many as it answers or as there is room for, whichever is less.
+pub unsafe fn listed<T: Copy>(guess: usize, call: impl Fn(*mut T, usize) -> i64) -> Result<Vec<T>, Refused> {
+    let mut list: Vec<T> = Vec::new();
+    let mut wanted = guess;
+    loop {
+        list.try_reserve_exact(wanted).map_err(|_| Refused::NoMemory)?;
+        let room: &mut [MaybeUninit<T>] = list.spare_capacity_mut();
+        let count = answered(call(room.as_mut_ptr().cast(), room.len()))?;
+        if count <= room.len() {
+            // SAFETY: the call has written the first `count`.
+            unsafe { list.set_len(count) };
+            list.shrink_to_fit();
+            return Ok(list);
+        }
+        wanted = count;
+    }
+}
+
+#[cfg(test)]
+mod tests {
+    use super::*;
+    use crate::SyntaxKind;
+    use std::mem::{align_of, size_of};
+
+    extern "C" {
+        fn rnix_kind_name(kind: u32, buffer: *mut u8, room: usize) -> i64;
+    }
+
+    #[test]
+    fn structs_have_the_sizes_of_the_header() {
+        assert_eq!((size_of::<Token>(), align_of::<Token>()), (24, 8));
+        assert_eq!((size_of::<Element>(), align_of::<Element>()), (40, 8));
+        assert_eq!((size_of::<Fault>(), align_of::<Fault>()), (40, 8));
+        assert_eq!((size_of::<Part>(), align_of::<Part>()), (24, 8));
+    }
+
+    #[test]
+    fn kinds_have_the_names_of_the_library() {
+        for (number, kind) in SyntaxKind::ALL.iter().enumerate() {
+            let number = number as u32;
+            // SAFETY: the call fills its array as `listed` asks.
+            let name = unsafe { listed(32, |room, len| rnix_kind_name(number, room, len)) }.unwrap();
+            assert_eq!(String::from_utf8(name).unwrap(), kind.name());
+        }
+        let end = SyntaxKind::ALL.len() as u32;
+        // SAFETY: there is no room, so nothing is written.
+        assert!(unsafe { rnix_kind_name(end, std::ptr::null_mut(), 0) } < 0);
+    }
+}

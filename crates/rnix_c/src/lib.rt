@@ -1,0 +1,20 @@
+//! The parser for callers that are not written in Rattle. `bindings/rnix.h` has these functions as C calls them.
+#![tactic(auto)]
+
+ghost use Rattle.std.specs.Prelude.{◌≡◌};
+
+mod answers;
+mod elements;
+mod errors;
+mod kinds;
+mod strings;
+mod tokens;
+mod tree;
+
+/// The number of this interface. It changes where a function, a struct or the number of a kind does.
+#[unsafe(no_mangle)]
+pub extern "C" fn rnix_version() -> u32
+    ensures { result ≡ 1 }
+{
+    1
+}
