@@ -75,6 +75,9 @@ SHAPES = {
     "semicolons": ("", ";", ""),
 }
 
+# Their trees are about as deep as they have tokens, so that each line of a printed tree is indented by as much.
+DEEP = {"sums", "calls", "plus", "angles"}
+
 
 def text_of(shape, size):
     """A text of the shape, of at most so many bytes."""
