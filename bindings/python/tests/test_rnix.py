@@ -119,13 +119,14 @@ class Header(unittest.TestCase):
     source = (BINDINGS / "rnix.h").read_text()
 
     def numbers(self, enum):
-        """The names and numbers of an enum, without their prefix."""
+        """The names and numbers of an enum, without their prefix. One that says no number has that of its place."""
         body = re.search(rf"enum {enum} {{(.*?)}};", self.source, re.S).group(1)
-        return [(name, int(number)) for name, number in re.findall(r"RNIX_(\w+) = (-?\d+)", body)]
+        found = re.findall(r"RNIX_(\w+)(?: = (-?\d+))?", body)
+        return [(name, int(number or place)) for place, (name, number) in enumerate(found)]
 
     def test_kinds_have_their_names_and_numbers(self):
         self.assertEqual(self.numbers("rnix_kind"), [(name, number) for number, name in enumerate(library.KINDS)])
-        self.assertIn(f"#define RNIX_KINDS {len(library.KINDS)}u", self.source)
+        self.assertIn(f"#define RNIX_KINDS (RNIX_{library.KINDS[-1]} + 1u)", self.source)
         for number, name in enumerate(library.KINDS):
             self.assertEqual(library.LIBRARY.rnix_kind_of_name(name.encode(), len(name)), number)
         self.assertEqual(library.LIBRARY.rnix_kind_of_name(b"TOKEN", 5), library.NONE_SUCH)

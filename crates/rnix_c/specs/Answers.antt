@@ -1,7 +1,7 @@
 -- What calls answer, and what they leave in the arrays that they are given.
 use Rattle.std.specs.Prelude.{◌≡◌, ◌⊎◌, ◌<◌, ◌≤◌, ◌^◌, ℕ, Some, slice_get, ℤ, ◌≤ℤ◌, pos, negsuc, List, ◌++◌, length, take, drop, IsUtf8}
 use Rattle.rnix_kinds.specs.declared.kinds.SyntaxKind.{SyntaxKind}
-use Rattle.rnix_kinds.specs.SyntaxKind.{name_of, place_of}
+use Rattle.rnix_kinds.specs.SyntaxKind.{name_of, place_of, kind_count}
 use Rattle.rnix_kinds.specs.Lexical.Tokens.{tokens_of}
 use Rattle.rnix_tree.specs.Tree.{Tree, Located}
 use Rattle.rnix_grammar.specs.Fault.{Fault, fault_text}
@@ -38,7 +38,7 @@ Answers text answer Promise = IsRefused text answer ⊎ ((tree : Tree) × (fault
 -- there is no kind of this number, or its name is written
 abbrev pub NamesKind : ℕ → ℤ → List ℕ → List ℕ → Type 0
 NamesKind number answer old new =
-    ((93 ≤ number) × (answer ≡ negsuc 2) × (new ≡ old))
+    ((kind_count ≤ number) × (answer ≡ negsuc 2) × (new ≡ old))
     ⊎ ((kind : SyntaxKind) × (place_of kind ≡ number) × IsWritten (name_of kind) answer old new)
 
 -- there is no error of this number, or its text is written

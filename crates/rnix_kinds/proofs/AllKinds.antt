@@ -1,13 +1,14 @@
 -- Every kind stands in the list of all, so what holds of all kinds is shown by one computation.
-use Rattle.std.proofs.Common.{◌≡◌, ◌<◌, ℕ, zero, suc, Bool, true, List, [], ◌∷◌, refl, ap, sym, ◌∙◌, get_or, arith}
-use Rattle.std.specs.Prelude.{if◌then◌else◌, nat_lt}
+use Rattle.std.proofs.Common.{◌≡◌, ◌<◌, ◌≤◌, ◌+◌, ℕ, zero, suc, Bool, true, List, [], ◌∷◌, refl, ap, sym, ◌∙◌, get_or, arith, inl, inr}
+use Rattle.std.specs.Prelude.{if◌then◌else◌, nat_lt, ◌==◌, ◌&&◌, slice_get, Option, Some, None, IfSome, IfNone}
+use Rattle.std.proofs.lemmas.Option.{slice_get_cases}
 use Rattle.std.specs.List.{All, list_all}
 use Rattle.std.proofs.lemmas.Bool.Decides.{nat_tests}
 use Rattle.std.proofs.lemmas.Bool.{and_parts}
 use Rattle.rnix_kinds.specs.declared.kinds.SyntaxKind.{SyntaxKind}
 use Rattle.rnix_kinds.specs.declared.kinds.SyntaxKind.TheVariants.{TOKEN_ADD}
 use Rattle.rnix_kinds.specs.declared.kinds.TheConstants.{ALL}
-use Rattle.rnix_kinds.specs.SyntaxKind.{name_of, place_of}
+use Rattle.rnix_kinds.specs.SyntaxKind.{name_of, kind_count, place_of}
 
 -- all kinds, in the order of their declaration
 abbrev pub all_kinds : List SyntaxKind
@@ -38,10 +39,41 @@ implied first second h k e = sym (ap (λ w. if w then second k else true) e) ∙
 below : (m n : ℕ) → nat_lt m n ≡ true → m < n
 below m n h = grind (arith, nat_tests, h)
 
-pub place_in_range : (k : SyntaxKind) → place_of k < 93
-place_in_range k = below (place_of k) 93 (every (λ k. nat_lt (place_of k) 93) refl k)
+pub place_in_range : (k : SyntaxKind) → place_of k < kind_count
+place_in_range k = below (place_of k) kind_count (every (λ k. nat_lt (place_of k) kind_count) refl k)
 
 -- where no listed kind has the name, no kind has it
 pub none_named : (name : List ℕ) → All (λ (kind : SyntaxKind). ¬ (name_of kind ≡ name)) ALL → (kind : SyntaxKind) → ¬ (name_of kind ≡ name)
 none_named name none kind h =
     none (place_of kind) kind (place_in_range kind) (ap name_of (kind_at_place kind kind) ∙ h)
+
+same_number : (m n : ℕ) → (m == n) ≡ true → m ≡ n
+same_number m n h = grind (arith, nat_tests, h)
+
+-- the kinds of a list have the numbers from n on
+are_numbered : ℕ → List SyntaxKind → Bool
+are_numbered n [] = true
+are_numbered n (k ∷ ks) = place_of k == n && are_numbered (suc n) ks
+
+-- so each has the number of its place
+numbered : (n : ℕ) (ks : List SyntaxKind) (i : ℕ) (k : SyntaxKind) → are_numbered n ks ≡ true → slice_get ks i ≡ Some k → place_of k ≡ n + i
+unfolding are_numbered
+numbered n [] i k h e = cc
+numbered n (x ∷ xs) zero k h e =
+    let same : x ≡ k = cc in
+    let first : place_of x ≡ n = same_number (place_of x) n (and_parts (place_of x == n) (are_numbered (suc n) xs) h).0 in
+    sym (ap place_of same) ∙ first ∙ omega arith
+numbered n (x ∷ xs) (suc i) k h e =
+    let next = numbered (suc n) xs i k (and_parts (place_of x == n) (are_numbered (suc n) xs) h).1 e in
+    omega (arith, next)
+
+-- a kind that stands in the list of all kinds has the number of its place
+pub number_in_all : (i : ℕ) (found : Option SyntaxKind) → found ≡ slice_get ALL i → IfSome found (λ kind. place_of kind ≡ i)
+unfolding are_numbered
+number_in_all i None e = tt
+number_in_all i (Some k) e = let place = numbered 0 ALL i k refl (sym e) in omega (arith, place)
+
+-- where none stands, no kind has the number
+pub none_in_all : (i : ℕ) (found : Option SyntaxKind) → found ≡ slice_get ALL i → IfNone found (kind_count ≤ i)
+none_in_all i (Some k) e = tt
+none_in_all i None e = elim (slice_get_cases ALL i).1 [ inl h ↦ cc | inr h ↦ h.0 ]

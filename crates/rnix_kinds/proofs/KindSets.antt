@@ -16,7 +16,7 @@ use Rattle.rnix_kinds.specs.declared.kinds.SyntaxKind.{SyntaxKind}
 use Rattle.rnix_kinds.specs.declared.kinds.TheConstants.{ALL}
 use Rattle.rnix_kinds.specs.contracts.kinds.SyntaxKind.{the_type}
 use denote.Enum.Declared.{tag_of}
-use Rattle.rnix_kinds.specs.SyntaxKind.{place_of}
+use Rattle.rnix_kinds.specs.SyntaxKind.{kind_count, place_of}
 use Rattle.rnix_kinds.specs.TokenSet.{kind_cmp, KindSet, set_of}
 use Rattle.rnix_kinds.specs.KindNumbers.{as_bit, kinds_of, number_of, same_number, kind_cmp_total, tied_in_place, contains-set_of, contains-kinds_of, bit_at-number_of}
 use Rattle.rnix_kinds.proofs.AllKinds.{every, place_in_range, kind_at_place, same_place}
@@ -80,7 +80,7 @@ power_bit p k = elim (eqb_tells k p) [
 -- the number that code makes for a kind
 kind_bit : (kind : SyntaxKind) → 1 * 2 ^ tag_of the_type kind % 2 ^ 128 ≡ 2 ^ place_of kind
 kind_bit kind =
-    let low : place_of kind < 93 = place_in_range kind in
+    let low : place_of kind < kind_count = place_in_range kind in
     let fits : 2 ^ place_of kind < 2 ^ 128 = pow-lt {i = place_of kind} {j = 128} (omega arith) in
     omega arith
 

@@ -15,7 +15,7 @@ use Rattle.std.proofs.lemmas.Nat.Bits.{bit_at-lt, bit_at_lowest, bit_at-suc, sam
 use Rattle.rnix_kinds.specs.declared.kinds.SyntaxKind.{SyntaxKind}
 use Rattle.rnix_kinds.specs.declared.kinds.SyntaxKind.TheVariants.{TOKEN_ADD}
 use Rattle.rnix_kinds.specs.declared.kinds.TheConstants.{ALL}
-use Rattle.rnix_kinds.specs.SyntaxKind.{place_of}
+use Rattle.rnix_kinds.specs.SyntaxKind.{kind_count, place_of}
 use Rattle.rnix_kinds.specs.TokenSet.{kind_cmp, KindSet, set_of}
 
 -- a bit that is set or not
@@ -116,19 +116,19 @@ unfolding kinds_of
 contains-kinds_of n kind = contains-retain (set_of ALL) (λ k. bit_at n (place_of k) == 1) kind (same_bit n kind)
 
 -- the bits of a set's number are set for its kinds
-pub bit_at-number_of : (kinds : KindSet) (i : ℕ) (d : SyntaxKind) → i < 93 → bit_at (number_of kinds) i ≡ as_bit (set.contains kinds (get_or ALL i d))
+pub bit_at-number_of : (kinds : KindSet) (i : ℕ) (d : SyntaxKind) → i < kind_count → bit_at (number_of kinds) i ≡ as_bit (set.contains kinds (get_or ALL i d))
 unfolding number_of
 bit_at-number_of kinds i d l = number_from-bit (set.contains kinds) ALL i d l
 
-number_of-lt : (kinds : KindSet) → number_of kinds < 2 ^ 93
+number_of-lt : (kinds : KindSet) → number_of kinds < 2 ^ kind_count
 unfolding number_of
 number_of-lt kinds = number_from-lt (set.contains kinds) ALL
 
 -- a number with no other bits is that of the kinds whose bits are set in it
-pub number_of-kinds_of : (n : ℕ) → n < 2 ^ 93 → number_of (kinds_of n) ≡ n
-number_of-kinds_of n low = same_from_bits_below 93 (number_of (kinds_of n)) n (number_of-lt (kinds_of n)) low bits
+pub number_of-kinds_of : (n : ℕ) → n < 2 ^ kind_count → number_of (kinds_of n) ≡ n
+number_of-kinds_of n low = same_from_bits_below kind_count (number_of (kinds_of n)) n (number_of-lt (kinds_of n)) low bits
   where
-    bits : (i : ℕ) → i < 93 → bit_at (number_of (kinds_of n)) i ≡ bit_at n i
+    bits : (i : ℕ) → i < kind_count → bit_at (number_of (kinds_of n)) i ≡ bit_at n i
     bits i l =
         let kind : SyntaxKind = get_or ALL i TOKEN_ADD in
         let place : place_of kind ≡ i = place_at 0 i ALL TOKEN_ADD refl l ∙ (omega arith) in

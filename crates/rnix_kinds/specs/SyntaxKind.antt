@@ -1,7 +1,8 @@
 -- The kinds of tokens and nodes: their names and classes.
-use Rattle.std.specs.Prelude.{◌≡◌, ℕ, Bool, true, false, List, codes, nat_lt, Result, MatchResult}
+use Rattle.std.specs.Prelude.{◌≡◌, ℕ, Bool, true, false, List, length, codes, nat_lt, Result, MatchResult}
 use Rattle.rnix_kinds.specs.declared.kinds.SyntaxKind.{SyntaxKind}
 use Rattle.rnix_kinds.specs.declared.kinds.SyntaxKind.TheVariants.{TOKEN_ADD, TOKEN_AND_AND, TOKEN_ASSIGN, TOKEN_ASSERT, TOKEN_AT, TOKEN_COLON, TOKEN_COMMA, TOKEN_COMMENT, TOKEN_CONCAT, TOKEN_CUR_POS, TOKEN_DIV, TOKEN_DOT, TOKEN_ELLIPSIS, TOKEN_ELSE, TOKEN_EQUAL, TOKEN_ERROR, TOKEN_FLOAT, TOKEN_IDENT, TOKEN_IF, TOKEN_IMPLICATION, TOKEN_IN, TOKEN_INHERIT, TOKEN_INTEGER, TOKEN_INTERPOL_END, TOKEN_INTERPOL_START, TOKEN_INVERT, TOKEN_L_BRACE, TOKEN_L_BRACK, TOKEN_L_PAREN, TOKEN_LESS, TOKEN_LESS_OR_EQ, TOKEN_LET, TOKEN_MORE, TOKEN_MORE_OR_EQ, TOKEN_MUL, TOKEN_NOT_EQUAL, TOKEN_OR, TOKEN_OR_OR, TOKEN_PATH_ABS, TOKEN_PATH_HOME, TOKEN_PATH_REL, TOKEN_PATH_SEARCH, TOKEN_PIPE_LEFT, TOKEN_PIPE_RIGHT, TOKEN_QUESTION, TOKEN_R_BRACE, TOKEN_R_BRACK, TOKEN_R_PAREN, TOKEN_REC, TOKEN_SEMICOLON, TOKEN_STRING_CONTENT, TOKEN_STRING_END, TOKEN_STRING_START, TOKEN_SUB, TOKEN_THEN, TOKEN_UPDATE, TOKEN_URI, TOKEN_WHITESPACE, TOKEN_WITH, NODE_APPLY, NODE_ASSERT, NODE_ATTR_SET, NODE_ATTRPATH, NODE_ATTRPATH_VALUE, NODE_BIN_OP, NODE_CUR_POS, NODE_DYNAMIC, NODE_ERROR, NODE_HAS_ATTR, NODE_IDENT, NODE_IDENT_PARAM, NODE_IF_ELSE, NODE_INHERIT, NODE_INHERIT_FROM, NODE_INTERPOL, NODE_LAMBDA, NODE_LEGACY_LET, NODE_LET_IN, NODE_LIST, NODE_LITERAL, NODE_PAREN, NODE_PAT_BIND, NODE_PAT_ENTRY, NODE_PATTERN, NODE_PATH_ABS, NODE_PATH_HOME, NODE_PATH_REL, NODE_PATH_SEARCH, NODE_ROOT, NODE_SELECT, NODE_STRING, NODE_UNARY_OP, NODE_WITH}
+use Rattle.rnix_kinds.specs.declared.kinds.TheConstants.{ALL}
 use Rattle.rnix_kinds.specs.contracts.kinds.SyntaxKind.{the_type}
 use denote.Enum.Declared.{tag_of}
 use Rattle.rnix_kinds.specs.declared.kinds.ParseSyntaxKindError.{ParseSyntaxKindError}
@@ -101,6 +102,10 @@ name_of NODE_SELECT = codes "NODE_SELECT"
 name_of NODE_STRING = codes "NODE_STRING"
 name_of NODE_UNARY_OP = codes "NODE_UNARY_OP"
 name_of NODE_WITH = codes "NODE_WITH"
+
+-- how many kinds there are
+abbrev pub kind_count : ℕ
+kind_count = length ALL
 
 -- a kind's place in the list
 abbrev pub place_of : SyntaxKind → ℕ

@@ -111,7 +111,7 @@ pub enum SyntaxKind {
 pub struct ParseSyntaxKindError;
 
 // Every kind, in order.
-const ALL: [SyntaxKind; 93] = [
+pub(crate) const ALL: [SyntaxKind; 93] = [
     SyntaxKind::TOKEN_ADD,
     SyntaxKind::TOKEN_AND_AND,
     SyntaxKind::TOKEN_ASSIGN,
@@ -343,6 +343,7 @@ impl SyntaxKind {
     }
 
     /// Whether the token is a comment or white space.
+    #[inline]
     pub fn is_trivia(self) -> bool
         ensures { result ≡ is_trivia self }
     {

@@ -2,6 +2,7 @@
 #![tactic(auto)]
 
 mod kinds;
+mod raw;
 mod token_set;
 mod tokenizer;
 

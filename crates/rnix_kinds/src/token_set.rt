@@ -18,6 +18,7 @@ pub struct TokenSet {
 
 impl Model for TokenSet {
     ghost use Rattle.std.specs.Prelude.{◌<◌, ◌^◌};
+    ghost use Rattle.rnix_kinds.specs.SyntaxKind.{kind_count};
     ghost use Rattle.rnix_kinds.specs.TokenSet.{KindSet, set_code};
     ghost use Rattle.rnix_kinds.specs.KindNumbers.{kinds_of, number_of, number_of-kinds_of};
 
@@ -27,7 +28,7 @@ impl Model for TokenSet {
 
     ghost view = { λ s. kinds_of s.bits };
 
-    ghost invariant = { λ s. s.bits < 2 ^ 93 };
+    ghost invariant = { λ s. s.bits < 2 ^ kind_count };
 
     ghost inverse = { λ kinds. record { bits = number_of kinds } };
 

@@ -14,7 +14,7 @@ use Rattle.rnix_kinds.specs.declared.tokenizer.text.Class.{Class}
 use Rattle.rnix_kinds.specs.declared.tokenizer.text.Class.TheVariants.{Digit, Name, Path, Step, Scheme, Angle, Uri, Line, Content}
 use Rattle.rnix_kinds.specs.Lexical.Classes.{class_test}
 use Rattle.rnix_kinds.specs.Lexical.Ahead.{IsRunEnd, IsAhead}
-use Rattle.rnix_kinds.specs.Lexical.Texts.{before_pair, space_len, char_len}
+use Rattle.rnix_kinds.specs.Lexical.Texts.{before_pair, is_blank, space_len, char_len}
 
 -- one turn of `before_pair`, at an index
 pub before_pair-turn : (a b : ℕ) (xs : List ℕ) (i : ℕ) → i < length xs
@@ -49,6 +49,25 @@ blank_more b cs low white =
 pub space_len-step : (b : ℕ) (text : List ℕ) → b < 128 → is_whitespace b ≡ true → space_len (b ∷ text) ≡ 1 + space_len text
 unfolding space_len
 space_len-step b text low white = rw (chars-ascii b text low) (blank_more b (chars text) low white)
+
+-- a blank is white space, and no other byte of ASCII is
+blank_is : (b : ℕ) → is_blank b ≡ true → (b < 128) × (is_whitespace b ≡ true)
+blank_is b e = grind (arith, nat_tests)
+
+no_blank : (b : ℕ) → b < 128 → is_blank b ≡ false → is_whitespace b ≡ false
+no_blank b low e = grind (arith, nat_tests)
+
+-- blanks are all the white space at the front, where a byte of ASCII follows them, or none
+pub space_len-blanks : (text : List ℕ) → get_or text (prefix_len is_blank text) 0 < 128 → space_len text ≡ prefix_len is_blank text
+space_len-blanks [] h = space_len-stop [] (omega arith) refl
+space_len-blanks (b ∷ text) h = by (space_len-blanks text) (is_blank b) refl h
+  where
+    by : (get_or text (prefix_len is_blank text) 0 < 128 → space_len text ≡ prefix_len is_blank text) → (c : Bool) → is_blank b ≡ c
+        → get_or (b ∷ text) (prefix_len is_blank (b ∷ text)) 0 < 128 → space_len (b ∷ text) ≡ prefix_len is_blank (b ∷ text)
+    by more true e h =
+        let one : 1 + prefix_len is_blank text ≡ suc (prefix_len is_blank text) = omega arith in
+        rw e (space_len-step b text (blank_is b e).0 (blank_is b e).1 ∙ ap (λ n. 1 + n) (more (rw (e, one) at h)))
+    by more false e h = rw e (space_len-stop (b ∷ text) (rw e at h) (no_blank b (rw e at h) e))
 
 space_step : (c : ℕ) (cs : List ℕ) (b : Bool) → is_whitespace c ≡ b
     → encode_utf8_all (take_while is_whitespace cs) ++ encode_utf8_all (skip_leading_whitespace cs) ≡ encode_utf8_all cs

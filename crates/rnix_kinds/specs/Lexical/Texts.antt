@@ -1,5 +1,5 @@
 -- Words on a text, which is a list of bytes.
-use Rattle.std.specs.Prelude.{ℕ, suc, ◌+◌, Bool, true, cond, ◌&&◌, ◌==◌, List, [], ◌∷◌, take, drop, length, slice_index}
+use Rattle.std.specs.Prelude.{ℕ, suc, ◌+◌, Bool, true, cond, ◌&&◌, ◌||◌, ◌==◌, nat_lt, List, [], ◌∷◌, take, drop, length, slice_index}
 use Rattle.std.specs.List.{prefix_len, take_while, list_any}
 use Rattle.std.specs.Char.{is_whitespace, len_utf8}
 use Rattle.std.specs.Str.{chars, encode_utf8_all}
@@ -22,6 +22,10 @@ run_end test i text = i + prefix_len test (drop i text)
 unfoldable pub before_pair : ℕ → ℕ → List ℕ → ℕ
 before_pair a b [] = 0
 before_pair a b (x ∷ text) = cond (x == a && slice_index text 0 == b) 0 (1 + before_pair a b text)
+
+-- white space of ASCII
+abbrev pub is_blank : ℕ → Bool
+is_blank b = (nat_lt 8 b && nat_lt b 14) || b == 32
 
 -- the length of the longest run of white space at the front
 unfoldable pub space_len : List ℕ → ℕ

@@ -2,7 +2,7 @@
 
 ghost use Rattle.std.specs.Prelude.{◌≡◌, ◌<◌, ◌≤◌, length, slice_index};
 ghost use Rattle.std.specs.List.{prefix_len};
-ghost use Rattle.rnix_kinds.specs.Lexical.Texts.{run_end, before_pair, char_len, begins_space, space_len};
+ghost use Rattle.rnix_kinds.specs.Lexical.Texts.{run_end, before_pair, char_len, begins_space, is_blank, space_len};
 ghost use Rattle.rnix_kinds.specs.Lexical.Classes.{class_test};
 ghost use Rattle.rnix_kinds.specs.Lexical.ClassTable.{has_flag};
 
@@ -134,10 +134,31 @@ pub fn run_end(text: &str, from: usize, class: Class) -> usize
     run_end_of(text.as_bytes(), from, class)
 }
 
+// Whether the byte is white space of ASCII.
+#[inline(always)]
+fn is_blank(b: u8) -> bool
+    ensures { result ≡ is_blank b }
+{
+    matches!(b, b' ' | b'\t'..=b'\r')
+}
+
+// How many blanks come first.
+#[inline(always)]
+fn blank_len(bytes: &[u8]) -> usize
+    ensures { result ≡ prefix_len is_blank bytes.now }
+{
+    bytes.iter().take_while(|b| is_blank(**b)).count()
+}
+
 /// How many bytes of white space come first.
+#[inline]
 pub fn space_len(text: &str) -> usize
     ensures { result ≡ space_len text.now }
 {
+    let blanks = blank_len(text.as_bytes());
+    if byte_at(text, blanks) < 128 {
+        return blanks;
+    }
     text.len() - text.trim_start().len()
 }
 

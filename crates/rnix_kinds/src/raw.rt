@@ -1,0 +1,23 @@
+//! Kinds by their numbers.
+
+ghost use Rattle.std.specs.Prelude.{◌≡◌, ◌≤◌, IfSome, IfNone, slice_get};
+ghost use Rattle.rnix_kinds.specs.SyntaxKind.{place_of, kind_count};
+
+use crate::kinds::{ALL, SyntaxKind};
+
+// The kind at this place of a list.
+fn kind_at(kinds: &[SyntaxKind], place: usize) -> Option<SyntaxKind>
+    ensures { result ≡ slice_get kinds.now place }
+{
+    kinds.get(place).copied()
+}
+
+impl SyntaxKind {
+    /// The kind that has the number, which `kind as u16` gives: the kinds are numbered from 0, in the order of their declaration.
+    pub fn from_raw(number: u16) -> Option<SyntaxKind>
+        ensures found { IfSome result (λ kind. place_of kind ≡ number) }
+        ensures missing { IfNone result (kind_count ≤ number) }
+    {
+        kind_at(&ALL, number as usize)
+    }
+}
