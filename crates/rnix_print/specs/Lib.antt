@@ -1,5 +1,4 @@
 pub mod Outcome
 pub mod Lines
-pub mod Walked
 pub mod Moved
 pub mod Ran

@@ -7,5 +7,5 @@ mod reading;
 mod running;
 
 pub use outcome::{RunError, complaint, status};
-pub use printing::dump;
+pub use rnix_tree::dump;
 pub use running::run;

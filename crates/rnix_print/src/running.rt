@@ -8,12 +8,12 @@ ghost use Rattle.rnix_print.specs.Ran.{HasRun, IsNotUtf8};
 ghost use Rattle.rnix_print.specs.Lines.{output};
 
 use crate::outcome::RunError;
-use crate::printing::{dump, write_errors};
+use crate::printing::write_errors;
 use crate::reading::read_all;
 use rnix_grammar::ParseError;
 use rnix_kinds::tokenize;
 use rnix_parser::parse;
-use rnix_tree::{GreenNode, SyntaxNode};
+use rnix_tree::{GreenNode, SyntaxNode, dump};
 use std::alloc::Global;
 use std::io;
 use std::io::{Read, Write};

@@ -23,3 +23,10 @@ pub mod WalkRows
 pub mod EnterSteps
 pub mod LeaveSteps
 pub mod PreorderLemmas
+pub mod LineLemmas
+pub mod DumpLemmas
+pub mod PointerLemmas
+pub mod DirectionLemmas
+pub mod ChildLemmas
+pub mod CoveringLemmas
+pub mod SkipLemmas

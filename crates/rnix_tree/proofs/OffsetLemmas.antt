@@ -91,9 +91,12 @@ module _ (t : Tree) (n offset : ℕ) where
       let b = in_text (n + 1) inner.start (Some n) inner.children (m - (n + 1)) (omega (arith, h.high, inner.count)) in
       (omega (arith, b.low, inner.begins node.is_node, ap (λ (i : Item). i.start) same), omega (arith, b.high, inner.ends node.is_node, ap (λ (i : Item). i.end) same))
 
-  -- at an empty node there is none
-  pub none_touched : IsNodeIn t n → (item t n).start ≡ (item t n).end → (m : ℕ) → ¬ IsTouched record { tree = t; number = n } offset m
-  none_touched node e m h = (let w = within m node h.inside in omega (arith, w.0, w.1, h.some))
+  -- where there is one, the node has a byte, and its closed range holds the offset
+  pub touched_inside : (m : ℕ) → IsNodeIn t n → IsTouched record { tree = t; number = n } offset m
+      → ((item t n).start < (item t n).end) × ((item t n).start ≤ offset) × (offset ≤ (item t n).end)
+  touched_inside m node h =
+      let w = within m node h.inside in
+      (omega (arith, w.0, w.1, h.some), omega (arith, w.0, h.low), omega (arith, w.1, h.high))
 
   -- at the node's start and at its end there is one
   pub one_at_start : IsNodeIn t n → offset ≡ (item t n).start → (r : ℕ) → IsHolding record { tree = t; number = n } (offset + 1) r

@@ -1,8 +1,10 @@
 -- What the steps over siblings and tokens give, by numbers.
 use Rattle.std.specs.Prelude.{◌≡◌, ◌<◌, ◌≤◌, ◌+◌, ℕ, length, List, [], Option, Some, None}
-use Rattle.rnix_tree.specs.Tree.{Tree, Located, items_of, item}
+use Rattle.rnix_tree.specs.Tree.{Tree, Located, items_of, item, item_of}
 use Rattle.rnix_tree.specs.Walk.{ancestors_of}
-use Rattle.rnix_tree.specs.Relatives.{IsNodeIn, IsTokenIn, IsSiblingNode}
+use Rattle.rnix_tree.specs.Relatives.{IsNodeIn, IsTokenIn, IsSiblingNode, IsFirstToken, IsLastToken}
+use Rattle.rnix_tree.specs.declared.element.NodeOrToken.{NodeOrToken}
+use Rattle.rnix_tree.specs.declared.element.NodeOrToken.TheVariants.{Node, Token}
 
 -- the number is one of the tree's, if there is one
 abbrev pub IsThereIfAny : Tree → Option ℕ → Type 0
@@ -23,6 +25,25 @@ IsTokenIfAny t (Some n) = IsTokenIn t n
 abbrev pub ancestors_if : Tree → Option ℕ → List Located
 ancestors_if t None = []
 ancestors_if t (Some n) = ancestors_of record { tree = t; number = n }
+
+-- the nodes around an element, the innermost first
+abbrev pub parent_ancestors_of : Located → List Located
+parent_ancestors_of e = ancestors_if e.tree (item_of e).parent
+
+-- the same, behind the element where it is a node
+abbrev pub nodes_around : NodeOrToken Located Located → List Located
+nodes_around (Node e) = ancestors_of e
+nodes_around (Token e) = parent_ancestors_of e
+
+-- the first token of an element: one inside a node, or the token itself
+abbrev pub IsFirstTokenOf : NodeOrToken Located Located → Option Located → Type 0
+IsFirstTokenOf (Node e) r = IsFirstToken e r
+IsFirstTokenOf (Token e) r = r ≡ Some e
+
+-- the last token of an element
+abbrev pub IsLastTokenOf : NodeOrToken Located Located → Option Located → Type 0
+IsLastTokenOf (Node e) r = IsLastToken e r
+IsLastTokenOf (Token e) r = r ≡ Some e
 
 -- a child of the element p in which the element m lies
 pub record IsOnWayTo (t : Tree) (p m child : ℕ) : Type 0 where

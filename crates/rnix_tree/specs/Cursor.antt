@@ -76,3 +76,14 @@ behind t root m (Some p) =
 -- the next thing to do after an element is left
 abbrev pub after_leave : Tree → ℕ → ℕ → Next
 after_leave t root m = behind t root m (item t m).parent
+
+-- the element around the element m is left next, where it is in the walk
+abbrev pub around : ℕ → ℕ → Option ℕ → Next
+around root m None = Done
+around root m (Some p) = if m == root then Done else Leave p
+
+-- the next thing to do, where what is inside the innermost open element is passed over
+abbrev pub after_skip : Tree → ℕ → Next → Next
+after_skip t root (Enter m) = around root m (item t m).parent
+after_skip t root (Leave m) = Leave m
+after_skip t root Done = Done

@@ -12,6 +12,12 @@ pub mod Cursor
 pub mod Relatives
 pub mod Around
 pub mod Offset
+pub mod Pointer
+pub mod Lines
+pub mod Walked
 pub mod Equality
 pub mod Same
 pub mod SameElements
+pub mod Siblings
+pub mod ByKind
+pub mod Covering

@@ -1,5 +1,5 @@
 -- The tokens at an offset.
-use Rattle.std.specs.Prelude.{◌≡◌, ◌<◌, ◌≤◌, ◌⊎◌, ℕ, Option, Some, None}
+use Rattle.std.specs.Prelude.{◌≡◌, ◌<◌, ◌≤◌, ◌⊎◌, ℕ, List, [], ◌∷◌, Option, Some, None}
 use Rattle.rnix_tree.specs.Tree.{Located, item}
 use Rattle.rnix_tree.specs.Relatives.{IsTokenInside}
 use Rattle.rnix_tree.specs.declared.offset.TokenAtOffset.{TokenAtOffset}
@@ -37,3 +37,33 @@ abbrev pub right_of : {T : Type 0} → TokenAtOffset T → Option T
 right_of at.None = None
 right_of (at.Single a) = Some a
 right_of (at.Between a b) = Some b
+
+-- the tokens, the left one first
+abbrev pub tokens_of : {T : Type 0} → TokenAtOffset T → List T
+tokens_of at.None = []
+tokens_of (at.Single a) = a ∷ []
+tokens_of (at.Between a b) = a ∷ b ∷ []
+
+-- P holds of each token
+abbrev pub ForTokens : {T : Type 0} → (T → Type 0) → TokenAtOffset T → Type 0
+ForTokens P at.None = Unit {0}
+ForTokens P (at.Single a) = P a
+ForTokens P (at.Between a b) = P a × P b
+
+-- there is one token, and P holds of it
+abbrev pub IsSingle : {T : Type 0} → (T → Type 0) → TokenAtOffset T → Type 0
+IsSingle P at.None = ⊥
+IsSingle P (at.Single a) = P a
+IsSingle P (at.Between a b) = ⊥
+
+-- there are two, P holds of the left one and Q of the right one
+abbrev pub IsBetween : {T : Type 0} → (T → Type 0) → (T → Type 0) → TokenAtOffset T → Type 0
+IsBetween P Q at.None = ⊥
+IsBetween P Q (at.Single a) = ⊥
+IsBetween P Q (at.Between a b) = P a × Q b
+
+-- as many tokens, each of which may be made of the other
+abbrev pub MapsTokens : {T U : Type 0} → (T → U → Type 0) → TokenAtOffset T → TokenAtOffset U → Type 0
+MapsTokens makes at.None r = r ≡ at.None
+MapsTokens makes (at.Single a) r = IsSingle (makes a) r
+MapsTokens makes (at.Between a b) r = IsBetween (makes a) (makes b) r

@@ -85,6 +85,27 @@ abbrev pub event_of : WalkEvent (NodeOrToken Located Located) → Event
 event_of (Enter e) = (true, spot_of e)
 event_of (Leave e) = (false, spot_of e)
 
+-- the element of an event
+abbrev pub element_in : {T : Type 0} → WalkEvent T → T
+element_in (Enter e) = e
+element_in (Leave e) = e
+
+-- what is left of a walk from where the innermost element is left that was entered; so many more were entered since
+abbrev pub from_leaving : {S : Type 0} → ℕ → List (Bool × S) → List (Bool × S)
+from_leaving zero [] = []
+from_leaving (suc d) [] = []
+from_leaving zero ((true, s) ∷ es) = from_leaving 1 es
+from_leaving zero ((false, s) ∷ es) = (false, s) ∷ es
+from_leaving (suc d) ((true, s) ∷ es) = from_leaving (suc (suc d)) es
+from_leaving (suc d) ((false, s) ∷ es) = from_leaving d es
+
+-- an event of what may be made of another's element
+abbrev pub MapsEvent : {T U : Type 0} → (T → U → Type 0) → WalkEvent T → WalkEvent U → Type 0
+MapsEvent makes (Enter a) (Enter b) = makes a b
+MapsEvent makes (Leave a) (Leave b) = makes a b
+MapsEvent makes (Enter a) (Leave b) = ⊥
+MapsEvent makes (Leave a) (Enter b) = ⊥
+
 -- so many numbers, from the first on
 abbrev pub counted : ℕ → ℕ → List ℕ
 counted n zero = []
@@ -102,10 +123,6 @@ nodes_in (spot ∷ spots) = if spot.0 then spot.1 ∷ nodes_in spots else nodes_
 -- a node is entered or left
 abbrev pub NodeEvent : Type 0
 NodeEvent = Bool × Located
-
--- the events of nodes as lists and numbers
-abbrev pub node_events_code : Coded (List NodeEvent)
-node_events_code = coded_list (coded× coded_bool located_code)
 
 -- the events of a walk that are those of nodes
 abbrev pub node_events : List Event → List NodeEvent

@@ -3,7 +3,7 @@
 ghost use Rattle.std.specs.Prelude.{◌≡◌, ◌<◌, length, option_map};
 ghost use Rattle.rnix_tree.specs.Range.{bounds_of};
 ghost use Rattle.rnix_tree.specs.Tree.{items_of, item_of, extent_of};
-ghost use Rattle.rnix_tree.specs.Walk.{spot_at, spot_of, place_of, node_in, token_in};
+ghost use Rattle.rnix_tree.specs.Walk.{spot_at, spot_of, place_of, node_in, token_in, element_in, MapsEvent};
 
 use crate::green::GreenNode;
 use crate::node::SyntaxNode;
@@ -52,6 +52,19 @@ impl<N, T> NodeOrToken<N, T> {
     }
 }
 
+impl<T> WalkEvent<T> {
+    /// The same event of what `f` makes of the element.
+    pub fn map<F: FnOnce(T) -> U, U>(self, f: F) -> WalkEvent<U>
+        requires { F.pre f (element_in self) }
+        ensures { MapsEvent (F.post f) self result }
+    {
+        match self {
+            WalkEvent::Enter(element) => WalkEvent::Enter(f(element)),
+            WalkEvent::Leave(element) => WalkEvent::Leave(f(element)),
+        }
+    }
+}
+
 impl<N: Drop, T: Drop> NodeOrToken<N, T> {
     /// The node, if it is one.
     pub fn into_node(self) -> Option<N>
@@ -75,6 +88,16 @@ impl<N: Drop, T: Drop> NodeOrToken<N, T> {
 }
 
 impl<'t> NodeOrToken<SyntaxNode<'t>, SyntaxToken<'t>> {
+    /// The same element once more.
+    pub fn clone(&self) -> Self
+        ensures { result ≡ self.now }
+    {
+        match self {
+            NodeOrToken::Node(node) => NodeOrToken::Node(node.clone()),
+            NodeOrToken::Token(token) => NodeOrToken::Token(token.clone()),
+        }
+    }
+
     /// The element's kind.
     pub fn kind(&self) -> SyntaxKind
         ensures { result ≡ (item_of (place_of self.now)).kind }
@@ -93,6 +116,26 @@ impl<'t> NodeOrToken<SyntaxNode<'t>, SyntaxToken<'t>> {
             NodeOrToken::Node(node) => node.text_range(),
             NodeOrToken::Token(token) => token.text_range(),
         }
+    }
+}
+
+impl<'t> From<SyntaxNode<'t>> for NodeOrToken<SyntaxNode<'t>, SyntaxToken<'t>> {
+    ghost use Rattle.rnix_tree.specs.declared.element.NodeOrToken.TheVariants.{Node};
+
+    ghost from_gives = { λ node element. element ≡ Node node };
+
+    fn from(node: SyntaxNode<'t>) -> SyntaxElement<'t> {
+        NodeOrToken::Node(node)
+    }
+}
+
+impl<'t> From<SyntaxToken<'t>> for NodeOrToken<SyntaxNode<'t>, SyntaxToken<'t>> {
+    ghost use Rattle.rnix_tree.specs.declared.element.NodeOrToken.TheVariants.{Token};
+
+    ghost from_gives = { λ token element. element ≡ Token token };
+
+    fn from(token: SyntaxToken<'t>) -> SyntaxElement<'t> {
+        NodeOrToken::Token(token)
     }
 }
 

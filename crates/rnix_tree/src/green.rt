@@ -130,7 +130,8 @@ impl GreenNode {
 
     /// How many elements the tree has.
     pub(crate) fn element_count(&self) -> usize
-        ensures { result ≡ length (items_of self.now) }
+        ensures value { result ≡ length (items_of self.now) }
+        ensures fits { result < 2 ^ 64 }
     {
         self.elements.len()
     }

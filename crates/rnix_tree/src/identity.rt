@@ -1,25 +1,16 @@
-//! Equality, hashes and printing of nodes and tokens.
+//! Equality and hashes of nodes and tokens, and their texts.
 
 ghost use Rattle.std.specs.Prelude.{◌≡◌, fold};
 ghost use Rattle.rnix_tree.specs.Range.{bounds_of};
 ghost use Rattle.rnix_tree.specs.Same.{hashed_at};
 
+use crate::element::NodeOrToken;
 use crate::node::SyntaxNode;
 use crate::range::TextRange;
 use crate::token::SyntaxToken;
 use rnix_kinds::SyntaxKind;
 use std::fmt;
 use std::hash::{Hash, Hasher};
-
-// A kind with its range.
-fn write_place<W: fmt::Write>(
-    kind: SyntaxKind,
-    range: TextRange,
-    f: &mut fmt::Formatter<W>,
-) -> fmt::Result {
-    let (name, start, end) = (kind.name(), range.start(), range.end());
-    write!(f, "{name}@{start}..{end}")
-}
 
 // A number with a kind and a range.
 fn hash_place<H: Hasher>(number: usize, kind: SyntaxKind, range: TextRange, state: &mut H)
@@ -73,12 +64,6 @@ impl<'t> fmt::Display for SyntaxNode<'t> {
     }
 }
 
-impl<'t> fmt::Debug for SyntaxNode<'t> {
-    fn fmt<W: fmt::Write>(&self, f: &mut fmt::Formatter<W>) -> fmt::Result {
-        write_place(self.kind(), self.text_range(), f)
-    }
-}
-
 impl<'t> PartialEq for SyntaxToken<'t> {
     ghost use Rattle.std.specs.Cmp.{partial_equiv_from_equiv};
     ghost use Rattle.rnix_tree.specs.Same.{same_located, same_is_equivalence};
@@ -121,8 +106,17 @@ impl<'t> fmt::Display for SyntaxToken<'t> {
     }
 }
 
-impl<'t> fmt::Debug for SyntaxToken<'t> {
+impl<'t> fmt::Display for NodeOrToken<SyntaxNode<'t>, SyntaxToken<'t>> {
+    ghost use Rattle.std.specs.Prelude.{Some};
+    ghost use Rattle.rnix_tree.specs.Tree.{text_at};
+    ghost use Rattle.rnix_tree.specs.Walk.{place_of};
+
+    ghost output = { λ element. Some (text_at (place_of element)) };
+
     fn fmt<W: fmt::Write>(&self, f: &mut fmt::Formatter<W>) -> fmt::Result {
-        write_place(self.kind(), self.text_range(), f)
+        match self {
+            NodeOrToken::Node(node) => f.write_str(node.text()),
+            NodeOrToken::Token(token) => f.write_str(token.text()),
+        }
     }
 }

@@ -3,6 +3,9 @@
 
 mod ancestors;
 mod builder;
+mod by_kind;
+mod covering;
+mod debug;
 mod descendants;
 mod element;
 mod green;
@@ -12,9 +15,12 @@ mod node;
 mod nodes;
 mod offset;
 mod packed;
+mod pointer;
 mod postorder;
+mod printing;
 mod range;
 mod relatives;
+mod siblings;
 mod token;
 mod walk;
 
@@ -26,6 +32,9 @@ pub use green::GreenNode;
 pub use node::SyntaxNode;
 pub use nodes::{Preorder, SyntaxNodeChildren};
 pub use offset::TokenAtOffset;
+pub use pointer::SyntaxNodePtr;
+pub use printing::dump;
 pub use range::{TextRange, TextSize};
+pub use siblings::{Direction, Siblings, SiblingsWithTokens};
 pub use token::SyntaxToken;
 pub use walk::{PreorderWithTokens, SyntaxElementChildren};

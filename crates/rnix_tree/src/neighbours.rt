@@ -1,10 +1,11 @@
 //! From an element to those around it, beside it and inside it.
 
-ghost use Rattle.std.specs.Prelude.{◌≡◌, option_map, is_some, true};
+ghost use Rattle.std.specs.Prelude.{◌≡◌, ◌<◌, ◌^◌, length, option_map, is_some, true};
 ghost use Rattle.rnix_tree.specs.Walk.{place_of};
 ghost use Rattle.rnix_tree.specs.Relatives.{located, parent_of, IsFirstChild, IsLastChild, IsFirstChildNode, IsLastChildNode, IsNextSibling, IsPrevSibling, IsNextSiblingNode, IsPrevSiblingNode, IsFirstToken, IsLastToken, IsNextToken, IsPrevToken};
-ghost use Rattle.rnix_tree.specs.Around.{IsThereIfAny, IsNodeIfAny, IsTokenIfAny};
+ghost use Rattle.rnix_tree.specs.Around.{IsThereIfAny, IsNodeIfAny, IsTokenIfAny, parent_ancestors_of, nodes_around, IsFirstTokenOf, IsLastTokenOf};
 
+use crate::ancestors::Ancestors;
 use crate::element::{NodeOrToken, SyntaxElement, element_at};
 use crate::green::GreenNode;
 use crate::node::SyntaxNode;
@@ -146,6 +147,17 @@ impl<'t> SyntaxToken<'t> {
         node_if(self.green, self.green.element(self.number).parent)
     }
 
+    /// The nodes that this token lies in, the innermost first.
+    pub fn parent_ancestors(&self) -> Ancestors<'t>
+        ensures ancestors { result ≡ parent_ancestors_of self.now }
+        ensures fits { length result < 2 ^ 64 }
+    {
+        Ancestors {
+            green: self.green,
+            next: self.green.element(self.number).parent,
+        }
+    }
+
     /// The next token of the tree.
     pub fn next_token(&self) -> Option<SyntaxToken<'t>>
         ensures { IsNextToken self.now result }
@@ -190,6 +202,57 @@ impl<'t> NodeOrToken<SyntaxNode<'t>, SyntaxToken<'t>> {
         match self {
             NodeOrToken::Node(node) => node.parent(),
             NodeOrToken::Token(token) => token.parent(),
+        }
+    }
+
+    /// The nodes around the element, the innermost first; a node comes before them itself.
+    pub fn ancestors(&self) -> Ancestors<'t>
+        ensures ancestors { result ≡ nodes_around self.now }
+        ensures fits { length result < 2 ^ 64 }
+    {
+        match self {
+            NodeOrToken::Node(node) => node.ancestors(),
+            NodeOrToken::Token(token) => token.parent_ancestors(),
+        }
+    }
+
+    /// The first token inside a node, at any depth; a token itself.
+    pub fn first_token(&self) -> Option<SyntaxToken<'t>>
+        ensures { IsFirstTokenOf self.now result }
+    {
+        match self {
+            NodeOrToken::Node(node) => node.first_token(),
+            NodeOrToken::Token(token) => Some(token.clone()),
+        }
+    }
+
+    /// The last token inside a node, at any depth; a token itself.
+    pub fn last_token(&self) -> Option<SyntaxToken<'t>>
+        ensures { IsLastTokenOf self.now result }
+    {
+        match self {
+            NodeOrToken::Node(node) => node.last_token(),
+            NodeOrToken::Token(token) => Some(token.clone()),
+        }
+    }
+
+    /// The next node or token with the same parent.
+    pub fn next_sibling_or_token(&self) -> Option<SyntaxElement<'t>>
+        ensures { IsNextSibling (place_of self.now) (option_map place_of result) }
+    {
+        match self {
+            NodeOrToken::Node(node) => node.next_sibling_or_token(),
+            NodeOrToken::Token(token) => token.next_sibling_or_token(),
+        }
+    }
+
+    /// The previous node or token with the same parent.
+    pub fn prev_sibling_or_token(&self) -> Option<SyntaxElement<'t>>
+        ensures { IsPrevSibling (place_of self.now) (option_map place_of result) }
+    {
+        match self {
+            NodeOrToken::Node(node) => node.prev_sibling_or_token(),
+            NodeOrToken::Token(token) => token.prev_sibling_or_token(),
         }
     }
 }

@@ -15,7 +15,8 @@ use crate::walk::{PreorderWithTokens, SyntaxElementChildren};
 use rnix_kinds::SyntaxKind;
 use std::marker::Model;
 
-/// A node of a tree, which it borrows.
+/// A node of a tree, which it borrows. Where two nodes have one number, `==` compares their whole trees, also where they are one tree:
+/// `SyntaxNodePtr` compares and hashes in constant time.
 #[derive(Clone, Drop)]
 pub struct SyntaxNode<'t> {
     pub(crate) green: &'t GreenNode,
@@ -40,6 +41,16 @@ impl<'t> SyntaxNode<'t> {
         ensures { result ≡ record { tree = green.now; number = 0 } }
     {
         SyntaxNode { green, number: 0 }
+    }
+
+    /// The same node once more. It copies a reference and a number, so nothing can be refused.
+    pub fn clone(&self) -> Self
+        ensures { result ≡ self.now }
+    {
+        SyntaxNode {
+            green: self.green,
+            number: self.number,
+        }
     }
 
     /// The node's kind.
@@ -124,8 +135,8 @@ impl<'t> SyntaxNode<'t> {
 
     /// A walk that enters and leaves the node and all nodes inside it.
     pub fn preorder(&self) -> Preorder<'t>
-        ensures walk { result ≡ node_events (preorder_of self.now) }
-        ensures fits { length result < 2 ^ 64 }
+        ensures walk { result ≡ preorder_of self.now }
+        ensures fits { length (node_events result) < 2 ^ 64 }
     {
         Preorder {
             events: self.preorder_with_tokens(),

@@ -1,5 +1,8 @@
 //! Walks that give nodes alone.
 
+ghost use Rattle.std.specs.Prelude.{◌≡◌, ◌≤◌, length};
+ghost use Rattle.rnix_tree.specs.Walk.{from_leaving, node_events};
+
 use crate::element::{NodeOrToken, WalkEvent};
 use crate::node::SyntaxNode;
 use crate::walk::{PreorderWithTokens, SyntaxElementChildren};
@@ -51,24 +54,34 @@ pub struct Preorder<'t> {
 
 impl<'t> Model for Preorder<'t> {
     ghost use Rattle.std.specs.Prelude.{List};
-    ghost use Rattle.rnix_tree.specs.Walk.{NodeEvent, node_events, node_events_code};
+    ghost use Rattle.rnix_tree.specs.Walk.{Event, events_code};
 
-    ghost Value = { List NodeEvent };
+    ghost Value = { List Event };
 
-    ghost coded = { node_events_code };
+    ghost coded = { events_code };
 
-    ghost view = { λ w. node_events w.events };
+    ghost view = { λ w. w.events };
+}
+
+impl<'t> Preorder<'t> {
+    /// Goes on where the innermost node is left that was entered, without what is inside it. A walk that has entered none ends.
+    pub fn skip_subtree(&mut self)
+        ensures walk { self.new ≡ from_leaving 0 self.old }
+        ensures shorter { length (node_events self.new) ≤ length (node_events self.old) }
+    {
+        self.events.skip_subtree();
+    }
 }
 
 impl<'t> Iterator for Preorder<'t> {
     type Item = WalkEvent<SyntaxNode<'t>>;
 
     ghost use Rattle.std.specs.Iterator.{YieldsFirstBy, item_count};
-    ghost use Rattle.rnix_tree.specs.Walk.{node_event_of};
+    ghost use Rattle.rnix_tree.specs.Walk.{node_event_of, node_events};
 
-    ghost next_gives = { YieldsFirstBy node_event_of (λ s. s) };
+    ghost next_gives = { YieldsFirstBy node_event_of node_events };
 
-    ghost remaining = { item_count (λ s. s) };
+    ghost remaining = { item_count node_events };
 
     fn next(&mut self) -> Option<WalkEvent<SyntaxNode<'t>>> {
         while let Some(event) = self.events.next() {

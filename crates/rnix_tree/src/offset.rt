@@ -3,12 +3,13 @@
 ghost use Rattle.std.specs.Prelude.{◌≡◌, ◌<◌, ◌≤◌, ℕ};
 ghost use Rattle.rnix_tree.specs.Tree.{item, item_of};
 ghost use Rattle.rnix_tree.specs.Relatives.{IsNodeIn};
-ghost use Rattle.rnix_tree.specs.Offset.{AreTouched, IsHolding, left_of, right_of};
+ghost use Rattle.rnix_tree.specs.Offset.{AreTouched, IsHolding, left_of, right_of, ForTokens, MapsTokens};
 
 use crate::green::GreenNode;
 use crate::node::SyntaxNode;
 use crate::range::TextSize;
 use crate::token::SyntaxToken;
+use std::mem;
 
 /// The tokens at an offset: two where one ends and the other begins.
 #[derive(Clone, Debug, Drop)]
@@ -16,6 +17,42 @@ pub enum TokenAtOffset<T> {
     None,
     Single(T),
     Between(T, T),
+}
+
+impl<T> TokenAtOffset<T> {
+    /// What `f` makes of each token.
+    pub fn map<F: Fn(T) -> U, U>(self, f: F) -> TokenAtOffset<U>
+        requires { ForTokens (F.pre f) self }
+        ensures { MapsTokens (F.post f) self result }
+    {
+        match self {
+            TokenAtOffset::None => TokenAtOffset::None,
+            TokenAtOffset::Single(token) => TokenAtOffset::Single(f(token)),
+            TokenAtOffset::Between(left, right) => TokenAtOffset::Between(f(left), f(right)),
+        }
+    }
+}
+
+impl<T: Drop> Iterator for TokenAtOffset<T> {
+    type Item = T;
+
+    ghost use Rattle.std.specs.Iterator.{YieldsFirst, item_count};
+    ghost use Rattle.rnix_tree.specs.Offset.{tokens_of};
+
+    ghost next_gives = { YieldsFirst tokens_of };
+
+    ghost remaining = { item_count tokens_of };
+
+    fn next(&mut self) -> Option<T> {
+        match mem::replace(self, TokenAtOffset::None) {
+            TokenAtOffset::None => None,
+            TokenAtOffset::Single(token) => Some(token),
+            TokenAtOffset::Between(left, right) => {
+                *self = TokenAtOffset::Single(right);
+                Some(left)
+            }
+        }
+    }
 }
 
 impl<T: Drop> TokenAtOffset<T> {
@@ -57,14 +94,24 @@ fn token_before(green: &GreenNode, number: usize, offset: usize) -> usize
 impl<'t> SyntaxNode<'t> {
     /// The tokens inside the node whose ranges hold the offset, their ends included. Empty tokens are left out.
     pub fn token_at_offset(&self, offset: TextSize) -> TokenAtOffset<SyntaxToken<'t>>
+        ensures { AreTouched self.now offset result }
+    {
+        let element = self.green.element(self.number);
+        if offset < element.start || element.end < offset || element.start == element.end {
+            TokenAtOffset::None
+        } else {
+            self.tokens_inside(offset)
+        }
+    }
+
+    // The tokens at an offset of the node, where it is not empty.
+    fn tokens_inside(&self, offset: TextSize) -> TokenAtOffset<SyntaxToken<'t>>
+        requires some { (item_of self.now).start < (item_of self.now).end }
         requires low { (item_of self.now).start ≤ offset }
         requires high { offset ≤ (item_of self.now).end }
         ensures { AreTouched self.now offset result }
     {
         let (green, range) = (self.green, self.text_range());
-        if range.is_empty() {
-            return TokenAtOffset::None;
-        }
         if offset == range.start() {
             let number = token_before(green, self.number, offset + 1);
             return TokenAtOffset::Single(SyntaxToken { green, number });

@@ -9,7 +9,7 @@ use crate::range::TextRange;
 use rnix_kinds::SyntaxKind;
 use std::marker::Model;
 
-/// A token of a tree, which it borrows.
+/// A token of a tree, which it borrows. Where two tokens have one number, `==` compares their whole trees, also where they are one tree.
 #[derive(Clone, Drop)]
 pub struct SyntaxToken<'t> {
     pub(crate) green: &'t GreenNode,
@@ -29,6 +29,16 @@ impl<'t> Model for SyntaxToken<'t> {
 }
 
 impl<'t> SyntaxToken<'t> {
+    /// The same token once more. It copies a reference and a number, so nothing can be refused.
+    pub fn clone(&self) -> Self
+        ensures { result ≡ self.now }
+    {
+        SyntaxToken {
+            green: self.green,
+            number: self.number,
+        }
+    }
+
     /// The token's kind.
     pub fn kind(&self) -> SyntaxKind
         ensures { result ≡ (item_of self.now).kind }

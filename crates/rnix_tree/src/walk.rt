@@ -1,9 +1,9 @@
 //! Walks over a tree, without memory and without recursion.
 
-ghost use Rattle.std.specs.Prelude.{◌≡◌, ◌<◌, length};
+ghost use Rattle.std.specs.Prelude.{◌≡◌, ◌<◌, ◌≤◌, length};
 ghost use Rattle.rnix_tree.specs.Tree.{items_of};
-ghost use Rattle.rnix_tree.specs.Walk.{preorder_of};
-ghost use Rattle.rnix_tree.specs.Cursor.{after_enter, after_leave};
+ghost use Rattle.rnix_tree.specs.Walk.{preorder_of, from_leaving};
+ghost use Rattle.rnix_tree.specs.Cursor.{after_enter, after_leave, after_skip, IsNextWithin};
 
 use crate::element::{SyntaxElement, WalkEvent, element_at};
 use crate::green::GreenNode;
@@ -97,6 +97,14 @@ impl<'t> PreorderWithTokens<'t> {
             next: Next::Enter(root),
         }
     }
+
+    /// Goes on where the innermost element is left that was entered, without what is inside it. A walk that has entered none ends.
+    pub fn skip_subtree(&mut self)
+        ensures walk { self.new ≡ from_leaving 0 self.old }
+        ensures shorter { length self.new ≤ length self.old }
+    {
+        self.next = after_skip(self.green, self.root, self.next);
+    }
 }
 
 // What a walk does after it entered the element.
@@ -127,6 +135,20 @@ fn after_leave(green: &GreenNode, root: usize, number: usize) -> Next
             }
         }
         _ => Next::Done,
+    }
+}
+
+// What a walk from the root does where what is inside the innermost open element is passed over.
+fn after_skip(green: &GreenNode, root: usize, next: Next) -> Next
+    requires { IsNextWithin green.now root next }
+    ensures { result ≡ after_skip green.now root next }
+{
+    match next {
+        Next::Enter(number) => match green.element(number).parent {
+            Some(parent) if number != root => Next::Leave(parent),
+            _ => Next::Done,
+        },
+        _ => next,
     }
 }
 

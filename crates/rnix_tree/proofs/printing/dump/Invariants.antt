@@ -1,8 +1,8 @@
 use Rattle.std.proofs.Common.{◌≡◌, ℕ, List, ◌++◌, ◌+◌, ◌<◌, ◌^◌}
 use Rattle.std.specs.Io.KnownBytes.{Appends}
 use Rattle.rnix_tree.specs.Walk.{preorder_of}
-use Rattle.rnix_print.specs.Walked.{event_lines, entered_in, IsNested}
-use Rattle.rnix_print.proofs.printing.dump.Given as goal
+use Rattle.rnix_tree.specs.Walked.{event_lines, entered_in, IsNested}
+use Rattle.rnix_tree.proofs.printing.dump.Given as goal
 
 -- the lines so far and those of the events left are those of all events
 abbrev pub invariant-loop-event : goal.invariant-loop-event

@@ -14,8 +14,8 @@ use Rattle.rnix_tree.specs.declared.element.WalkEvent.TheVariants.{Enter}
 use Rattle.rnix_tree.proofs.NumberTests.{is_above, is_not_below}
 use Rattle.rnix_tree.proofs.PartLemmas.{IsPart, IsOne, one_leaf, one_node, part_there, one_there, item_of_part}
 use Rattle.rnix_tree.proofs.PieceLemmas.{length-items_from}
-use Rattle.rnix_print.specs.Lines.{line_of, lines_from, lines_of}
-use Rattle.rnix_print.specs.Walked.{event_lines, entered_in, IsNested}
+use Rattle.rnix_tree.specs.Lines.{line_of, lines_from, lines_of}
+use Rattle.rnix_tree.specs.Walked.{event_lines, entered_in, IsNested}
 
 -- the items of a row stand in the tree from the number n on
 pub record Stands (t : Tree) (n : ℕ) (is : List Item) : Type 0 where

@@ -1,7 +1,7 @@
 -- What a walk prints, as its events come.
 use Rattle.std.specs.Prelude.{◌≡◌, ◌<◌, false, ℕ, ◌+◌, ◌-◌, List, [], ◌∷◌, ◌++◌, if◌then◌else◌}
 use Rattle.rnix_tree.specs.Walk.{Event}
-use Rattle.rnix_print.specs.Lines.{element_line}
+use Rattle.rnix_tree.specs.Lines.{element_line}
 
 -- the line that an event prints at a depth: one where an element is entered, none where it is left
 abbrev pub event_line : ℕ → Event → List ℕ

@@ -3,10 +3,10 @@ use Rattle.std.proofs.KnownBytes.{Appends-nil, Appends-trans}
 use Rattle.std.specs.Io.KnownBytes.{Appends}
 use Rattle.rnix_tree.specs.Tree.{item_of, extent_of}
 use Rattle.rnix_tree.specs.Walk.{place_of}
-use Rattle.rnix_print.specs.Lines.{line_of}
-use Rattle.rnix_print.specs.Walked.{event_lines}
-use Rattle.rnix_print.proofs.WalkLemmas.{entered, deeper, finished, begun}
-use Rattle.rnix_print.proofs.printing.dump.Goals as goal
+use Rattle.rnix_tree.specs.Lines.{line_of}
+use Rattle.rnix_tree.specs.Walked.{event_lines}
+use Rattle.rnix_tree.proofs.DumpLemmas.{entered, deeper, finished, begun}
+use Rattle.rnix_tree.proofs.printing.dump.Goals as goal
 
 pub loop-event-init : goal.loop-event-init
 loop-event-init g c =

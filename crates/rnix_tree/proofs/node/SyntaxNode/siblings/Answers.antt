@@ -1,0 +1,7 @@
+use Rattle.std.proofs.Common.{arith}
+use Rattle.rnix_tree.proofs.CountLemmas.{nodes_in-few}
+use Rattle.rnix_tree.proofs.node.SyntaxNode.siblings.Goals as goal
+
+pub returns-clause-fits : goal.returns-clause-fits
+returns-clause-fits c =
+    omega (arith, nodes_in-few c.siblings_with_tokens.result, c.siblings_with_tokens.ensures.fits)

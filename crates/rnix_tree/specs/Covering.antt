@@ -1,0 +1,35 @@
+-- The elements that hold a range.
+use Rattle.std.specs.Prelude.{◌≡◌, ◌≤◌, ◌+◌, ◌&&◌, ℕ, nat_le, nat_lt, Bool, true, find, Option, Some, None}
+use Rattle.rnix_tree.specs.Range.{Extent}
+use Rattle.rnix_tree.specs.Tree.{Located, item_of, extent_of}
+use Rattle.rnix_tree.specs.Walk.{Spot, children_of}
+
+-- whether a range lies in another; an empty one strictly between its ends
+abbrev pub holds : Extent → Extent → Bool
+holds range place =
+    (nat_le place.start range.start && nat_le range.end place.end) && (nat_lt place.start range.end && nat_lt range.start place.end)
+
+-- whether it lies in the range of an element
+abbrev pub holds_at : Extent → Spot → Bool
+holds_at range spot = holds range (extent_of spot.1)
+
+-- the child that a range lies in
+abbrev pub child_at_range : Extent → Located → Option Spot
+child_at_range range e = find (holds_at range) (children_of e)
+
+-- the range lies between the ends of an element
+abbrev pub IsOver : Extent → Located → Type 0
+IsOver range e = ((item_of e).start ≤ range.start) × (range.end ≤ (item_of e).end)
+
+-- c is e or inside it, the range lies in c, and in no child of c
+pub record IsInnermost (range : Extent) (e c : Located) : Type 0 where
+  pub tree : c.tree ≡ e.tree
+  pub low : e.number ≤ c.number
+  pub high : c.number ≤ e.number + (item_of e).below
+  pub inside : ¬ (c.number ≡ e.number) → holds range (extent_of c) ≡ true
+  pub innermost : child_at_range range c ≡ None
+
+-- the innermost element that a range lies in, where it lies in e
+abbrev pub IsCovering : Extent → Located → Option Located → Type 0
+IsCovering range e None = ¬ IsOver range e
+IsCovering range e (Some c) = IsOver range e × IsInnermost range e c

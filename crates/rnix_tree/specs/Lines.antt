@@ -1,0 +1,45 @@
+-- The lines that are printed of a tree's elements.
+use Rattle.std.specs.Prelude.{ℕ, suc, zero, ◌+◌, List, [], ◌++◌, length, codes}
+use Rattle.std.specs.Fmt.{decimal}
+use Rattle.rnix_kinds.specs.declared.kinds.SyntaxKind.{SyntaxKind}
+use Rattle.rnix_kinds.specs.SyntaxKind.{name_of}
+use Rattle.rnix_tree.specs.Range.{Extent}
+use Rattle.rnix_tree.specs.Forest.{Forest, empty, leaf, node, text_of}
+use Rattle.rnix_tree.specs.Tree.{Located, item_of, extent_of, part_at}
+
+-- a range in decimal
+abbrev pub place_text : Extent → List ℕ
+place_text range = decimal range.start ++ codes ".." ++ decimal range.end
+
+-- an element's kind and range
+abbrev pub element_text : SyntaxKind → Extent → List ℕ
+element_text kind range = name_of kind ++ codes "@" ++ place_text range
+
+-- two spaces for each level
+abbrev pub indent : ℕ → List ℕ
+indent zero = []
+indent (suc depth) = codes "  " ++ indent depth
+
+-- the end of an element's line: its range
+abbrev pub range_end : Extent → List ℕ
+range_end range = codes "@" ++ place_text range ++ codes "\n"
+
+-- an element's line: the indent of its depth, its kind's name, its range
+abbrev pub line_of : ℕ → SyntaxKind → Extent → List ℕ
+line_of depth kind range = indent depth ++ name_of kind ++ range_end range
+
+-- the line of an element of a tree
+abbrev pub element_line : ℕ → Located → List ℕ
+element_line depth e = line_of depth (item_of e).kind (extent_of e)
+
+-- the lines of a row of trees at a depth, whose text begins at the offset s: each element's line comes before those of what is inside it, one deeper
+abbrev pub lines_from : ℕ → ℕ → Forest → List ℕ
+lines_from depth s empty = []
+lines_from depth s (leaf k t f) = line_of depth k record { start = s; end = s + length t } ++ lines_from depth (s + length t) f
+lines_from depth s (node k c f) =
+    line_of depth k record { start = s; end = s + length (text_of c) }
+    ++ lines_from (depth + 1) s c ++ lines_from depth (s + length (text_of c)) f
+
+-- the lines of an element and what is inside it, where the element itself is not indented
+abbrev pub lines_of : Located → List ℕ
+lines_of e = lines_from 0 (item_of e).start (part_at e)

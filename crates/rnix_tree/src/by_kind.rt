@@ -1,0 +1,113 @@
+//! What is of a kind, among children and siblings.
+
+ghost use Rattle.std.specs.Prelude.{◌≡◌, drop, find, option_map};
+ghost use Rattle.rnix_tree.specs.Equality.{same_kind};
+ghost use Rattle.rnix_tree.specs.Walk.{children_of, nodes_in, spot_of};
+ghost use Rattle.rnix_tree.specs.Siblings.{siblings_of};
+ghost use Rattle.rnix_tree.specs.ByKind.{is_of_kind, is_spot_of_kind};
+ghost use Rattle.rnix_tree.specs.declared.siblings.Direction.TheVariants as direction;
+
+use crate::element::SyntaxElement;
+use crate::node::SyntaxNode;
+use crate::nodes::SyntaxNodeChildren;
+use crate::siblings::{Direction, Siblings, SiblingsWithTokens};
+use crate::walk::SyntaxElementChildren;
+use rnix_kinds::SyntaxKind;
+
+// Whether the kinds are one.
+fn same_kind(a: SyntaxKind, b: SyntaxKind) -> bool
+    ensures { result ≡ same_kind a b }
+{
+    a == b
+}
+
+// The first sibling of a kind.
+fn first_node<'t>(mut nodes: Siblings<'t>, kind: SyntaxKind) -> Option<SyntaxNode<'t>>
+    ensures { result ≡ find (is_of_kind kind) nodes.entry }
+{
+    while let Some(node) = nodes.next() {
+        if same_kind(kind, node.kind()) {
+            return Some(node);
+        }
+    }
+    None
+}
+
+// The same among nodes and tokens.
+fn first_element<'t>(
+    mut elements: SiblingsWithTokens<'t>,
+    kind: SyntaxKind,
+) -> Option<SyntaxElement<'t>>
+    ensures { option_map spot_of result ≡ find (is_spot_of_kind kind) elements.entry }
+{
+    while let Some(element) = elements.next() {
+        if same_kind(kind, element.kind()) {
+            return Some(element);
+        }
+    }
+    None
+}
+
+impl<'t> SyntaxNode<'t> {
+    /// The first node of a kind right below this one.
+    pub fn first_child_by_kind(&self, kind: SyntaxKind) -> Option<SyntaxNode<'t>>
+        ensures { result ≡ find (is_of_kind kind) (nodes_in (children_of self.now)) }
+    {
+        let mut nodes = self.children();
+        while let Some(node) = nodes.next() {
+            if same_kind(kind, node.kind()) {
+                return Some(node);
+            }
+        }
+        None
+    }
+
+    /// The first node or token of a kind right below this one.
+    pub fn first_child_or_token_by_kind(&self, kind: SyntaxKind) -> Option<SyntaxElement<'t>>
+        ensures { option_map spot_of result ≡ find (is_spot_of_kind kind) (children_of self.now) }
+    {
+        let mut elements = self.children_with_tokens();
+        while let Some(element) = elements.next() {
+            if same_kind(kind, element.kind()) {
+                return Some(element);
+            }
+        }
+        None
+    }
+
+    /// The next node of a kind with the same parent.
+    pub fn next_sibling_by_kind(&self, kind: SyntaxKind) -> Option<SyntaxNode<'t>>
+        ensures { result ≡ find (is_of_kind kind) (drop 1 (nodes_in (siblings_of direction.Next self.now))) }
+    {
+        let mut nodes = self.siblings(Direction::Next);
+        let _this = nodes.next();
+        first_node(nodes, kind)
+    }
+
+    /// The previous node of a kind with the same parent.
+    pub fn prev_sibling_by_kind(&self, kind: SyntaxKind) -> Option<SyntaxNode<'t>>
+        ensures { result ≡ find (is_of_kind kind) (drop 1 (nodes_in (siblings_of direction.Prev self.now))) }
+    {
+        let mut nodes = self.siblings(Direction::Prev);
+        let _this = nodes.next();
+        first_node(nodes, kind)
+    }
+
+    /// The next node or token of a kind with the same parent.
+    pub fn next_sibling_or_token_by_kind(&self, kind: SyntaxKind) -> Option<SyntaxElement<'t>>
+        ensures { option_map spot_of result ≡ find (is_spot_of_kind kind) (drop 1 (siblings_of direction.Next self.now)) }
+    {
+        let mut elements = self.siblings_with_tokens(Direction::Next);
+        let _this = elements.next();
+        first_element(elements, kind)
+    }
+
+    /// The previous node or token of a kind with the same parent.
+    pub fn prev_sibling_or_token_by_kind(&self, kind: SyntaxKind) -> Option<SyntaxElement<'t>>
+        ensures { option_map spot_of result ≡ find (is_spot_of_kind kind) (drop 1 (siblings_of direction.Prev self.now)) }
+    {
+        let mut elements = self.siblings_with_tokens(Direction::Prev);
+        let _this = elements.next();
+        first_element(elements, kind)
+    }
+}

@@ -1,0 +1,118 @@
+//! What `{:?}` and `{:#?}` print of nodes and tokens.
+
+ghost use Rattle.std.specs.Prelude.{Some};
+ghost use Rattle.std.specs.Fmt.{DisplaysOnOk};
+ghost use Rattle.rnix_tree.specs.Lines.{element_text};
+ghost use Rattle.rnix_tree.specs.Range.{bounds_of};
+
+use crate::element::{NodeOrToken, SyntaxElement, WalkEvent};
+use crate::node::SyntaxNode;
+use crate::range::TextRange;
+use crate::token::SyntaxToken;
+use rnix_kinds::SyntaxKind;
+use std::fmt;
+
+// A token's text is printed whole if it has fewer bytes.
+const LONG: usize = 25;
+
+// A longer text is cut at the first character that begins at this byte or behind it.
+const CUT: usize = 21;
+
+// What stands behind a text that was cut.
+const MORE: &str = " ...";
+
+// A kind with its range.
+fn write_place<W: fmt::Write>(
+    kind: SyntaxKind,
+    range: TextRange,
+    f: &mut fmt::Formatter<W>,
+) -> fmt::Result
+    ensures { DisplaysOnOk W.write_str_gives f.old result (Some (element_text kind (bounds_of range))) f.new }
+{
+    let (name, start, end) = (kind.name(), range.start(), range.end());
+    write!(f, "{name}@{start}..{end}")
+}
+
+// The start of a long text, in quotes.
+fn write_start<W: fmt::Write>(text: &str, f: &mut fmt::Formatter<W>) -> fmt::Result {
+    let cut = text.ceil_char_boundary(CUT);
+    let mut bytes = [0u8; LONG + MORE.len()];
+    for (place, byte) in bytes
+        .iter_mut()
+        .zip(text[..cut].bytes().chain(MORE.bytes()))
+    {
+        *place = byte;
+    }
+    match bytes
+        .get(..cut.saturating_add(MORE.len()))
+        .map(str::from_utf8)
+    {
+        Some(Ok(start)) => write!(f, "{start:?}"),
+        _ => Err(fmt::Error),
+    }
+}
+
+// A token: its kind, its range, and its text in quotes.
+fn write_token<W: fmt::Write>(token: &SyntaxToken<'_>, f: &mut fmt::Formatter<W>) -> fmt::Result {
+    write_place(token.kind(), token.text_range(), f)?;
+    f.write_str(" ")?;
+    let text = token.text();
+    if text.len() < LONG {
+        write!(f, "{text:?}")
+    } else {
+        write_start(text, f)
+    }
+}
+
+// An element on a line of its own, behind two spaces for each level.
+fn write_line<W: fmt::Write>(
+    element: &SyntaxElement<'_>,
+    depth: usize,
+    f: &mut fmt::Formatter<W>,
+) -> fmt::Result {
+    for _level in 0..depth {
+        f.write_str("  ")?;
+    }
+    match element {
+        NodeOrToken::Node(node) => write_place(node.kind(), node.text_range(), f)?,
+        NodeOrToken::Token(token) => write_token(token, f)?,
+    }
+    f.write_str("\n")
+}
+
+// The node and all that is inside it, in preorder, one line for each element.
+fn write_tree<W: fmt::Write>(node: &SyntaxNode<'_>, f: &mut fmt::Formatter<W>) -> fmt::Result {
+    let mut depth: usize = 0;
+    for event in node.preorder_with_tokens() {
+        match event {
+            WalkEvent::Enter(element) => {
+                write_line(&element, depth, f)?;
+                depth += 1;
+            }
+            WalkEvent::Leave(_) => depth -= 1,
+        }
+    }
+    Ok(())
+}
+
+impl<'t> fmt::Debug for SyntaxNode<'t> {
+    ghost use Rattle.std.specs.Prelude.{Some};
+    ghost use Rattle.rnix_tree.specs.Lines.{element_text};
+    ghost use Rattle.rnix_tree.specs.Tree.{item_of, extent_of};
+
+    ghost debug_output = { λ node. Some (element_text (item_of node).kind (extent_of node)) };
+
+    fn fmt<W: fmt::Write>(&self, f: &mut fmt::Formatter<W>) -> fmt::Result {
+        if f.alternate() {
+            write_tree(self, f)
+        } else {
+            write_place(self.kind(), self.text_range(), f)
+        }
+    }
+}
+
+impl<'t> fmt::Debug for SyntaxToken<'t> {
+    fn fmt<W: fmt::Write>(&self, f: &mut fmt::Formatter<W>) -> fmt::Result {
+        write_token(self, f)
+    }
+}

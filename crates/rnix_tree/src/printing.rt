@@ -1,0 +1,76 @@
+//! What is printed of a tree.
+
+ghost use Rattle.std.specs.Prelude.{OnOk};
+ghost use Rattle.std.specs.Io.KnownBytes.{Appends};
+ghost use Rattle.rnix_tree.specs.Lines.{indent, range_end, element_line, lines_of};
+ghost use Rattle.rnix_tree.specs.Range.{bounds_of};
+ghost use Rattle.rnix_tree.specs.Walk.{place_of};
+
+use crate::element::{SyntaxElement, WalkEvent};
+use crate::node::SyntaxNode;
+use crate::range::TextRange;
+use itoa::write_digits;
+use std::io;
+use std::io::Write;
+
+// How many levels are indented by one write.
+const LEVELS: usize = 32;
+
+// Two spaces for each of them.
+static SPACES: [u8; 64] = [b' '; 64];
+
+// How many bytes a range takes in decimal, at most, with `@` before it and the end of its line.
+const RANGE_LEN: usize = 44;
+
+// Prints two spaces for each level.
+fn write_indent<W: Write>(depth: usize, out: &mut W) -> io::Result<()>
+    ensures { OnOk result (Appends (W.contents out.old) (W.contents out.new) (indent depth)) }
+{
+    let mut left = depth;
+    while left > LEVELS {
+        out.write_all(&SPACES)?;
+        left -= LEVELS;
+    }
+    out.write_all(&SPACES[..2 * left])?;
+    Ok(())
+}
+
+// Prints a range, and ends the line.
+fn write_range<W: Write>(range: TextRange, out: &mut W) -> io::Result<()>
+    ensures { OnOk result (Appends (W.contents out.old) (W.contents out.new) (range_end (bounds_of range))) }
+{
+    let mut bytes = [b'\n'; RANGE_LEN];
+    let end = write_digits(range.end() as u64, &mut bytes, RANGE_LEN - 1);
+    bytes[end - 1] = b'.';
+    bytes[end - 2] = b'.';
+    let start = write_digits(range.start() as u64, &mut bytes, end - 2);
+    bytes[start - 1] = b'@';
+    out.write_all(&bytes[start - 1..])?;
+    Ok(())
+}
+
+// Prints the line of an element.
+fn write_line<W: Write>(element: &SyntaxElement<'_>, depth: usize, out: &mut W) -> io::Result<()>
+    ensures { OnOk result (Appends (W.contents out.old) (W.contents out.new) (element_line depth (place_of element.now))) }
+{
+    write_indent(depth, out)?;
+    out.write_all(element.kind().name().as_bytes())?;
+    write_range(element.text_range(), out)
+}
+
+/// Prints the node and all that is inside it, in preorder, one line for each element: `NODE_LIST@4..9`, behind two spaces for each level.
+pub fn dump<W: Write>(node: &SyntaxNode<'_>, out: &mut W) -> io::Result<()>
+    ensures { OnOk result (Appends (W.contents out.old) (W.contents out.new) (lines_of node.now)) }
+{
+    let mut depth: usize = 0;
+    for event in node.preorder_with_tokens() {
+        match event {
+            WalkEvent::Enter(element) => {
+                write_line(&element, depth, out)?;
+                depth += 1;
+            }
+            WalkEvent::Leave(_) => depth -= 1,
+        }
+    }
+    Ok(())
+}

@@ -1,0 +1,198 @@
+//! From an element along its siblings.
+
+ghost use Rattle.std.specs.Prelude.{◌≡◌, ◌<◌, ◌^◌, length};
+ghost use Rattle.rnix_tree.specs.Tree.{items_of};
+ghost use Rattle.rnix_tree.specs.Walk.{nodes_in, place_of};
+ghost use Rattle.rnix_tree.specs.Around.{IsThereIfAny};
+ghost use Rattle.rnix_tree.specs.Siblings.{siblings_of, index_of, IsBeside};
+
+use crate::element::{NodeOrToken, SyntaxElement, element_at};
+use crate::green::GreenNode;
+use crate::node::SyntaxNode;
+use crate::relatives;
+use crate::token::SyntaxToken;
+use std::marker::Model;
+
+/// Which way to go along siblings.
+#[derive(Clone, Copy, Debug, PartialEq, Eq, Hash)]
+pub enum Direction {
+    /// Towards the end of the text.
+    Next,
+    /// Towards its start.
+    Prev,
+}
+
+/// An element and its siblings on one side, nodes and tokens, the nearest first.
+#[derive(Drop)]
+pub struct SiblingsWithTokens<'t> {
+    green: &'t GreenNode,
+    direction: Direction,
+    next: Option<usize>,
+}
+
+impl<'t> Model for SiblingsWithTokens<'t> {
+    ghost use Rattle.std.specs.Prelude.{List};
+    ghost use Rattle.rnix_tree.specs.Walk.{Spot, spots_code};
+    ghost use Rattle.rnix_tree.specs.Around.{IsThereIfAny};
+    ghost use Rattle.rnix_tree.specs.Siblings.{siblings_if};
+
+    ghost Value = { List Spot };
+
+    ghost coded = { spots_code };
+
+    ghost view = { λ s. siblings_if s.direction s.green.now s.next };
+
+    ghost invariant = { λ s. IsThereIfAny s.green.now s.next };
+}
+
+impl<'t> SiblingsWithTokens<'t> {
+    pub(crate) fn new(green: &'t GreenNode, direction: Direction, number: usize) -> Self
+        requires { number < length (items_of green.now) }
+        ensures siblings { result ≡ siblings_of direction record { tree = green.now; number = number } }
+        ensures fits { length result < 2 ^ 64 }
+    {
+        let _count = green.element_count();
+        SiblingsWithTokens {
+            green,
+            direction,
+            next: Some(number),
+        }
+    }
+}
+
+// The nearest sibling on one side.
+fn sibling(green: &GreenNode, direction: Direction, number: usize) -> Option<usize>
+    requires { number < length (items_of green.now) }
+    ensures there { IsThereIfAny green.now result }
+    ensures beside { IsBeside direction record { tree = green.now; number = number } result }
+{
+    match direction {
+        Direction::Next => relatives::next_sibling(green, number),
+        Direction::Prev => relatives::prev_sibling(green, number),
+    }
+}
+
+impl<'t> Iterator for SiblingsWithTokens<'t> {
+    type Item = SyntaxElement<'t>;
+
+    ghost use Rattle.std.specs.Iterator.{YieldsFirstBy, item_count};
+    ghost use Rattle.rnix_tree.specs.Walk.{spot_of};
+
+    ghost next_gives = { YieldsFirstBy spot_of (λ s. s) };
+
+    ghost remaining = { item_count (λ s. s) };
+
+    fn next(&mut self) -> Option<SyntaxElement<'t>> {
+        let green = self.green;
+        let Some(number) = self.next else {
+            return None;
+        };
+        self.next = sibling(green, self.direction, number);
+        Some(element_at(green, number))
+    }
+}
+
+/// A node and those of its siblings on one side that are nodes, the nearest first.
+#[derive(Drop)]
+pub struct Siblings<'t> {
+    elements: SiblingsWithTokens<'t>,
+}
+
+impl<'t> Model for Siblings<'t> {
+    ghost use Rattle.std.specs.Prelude.{List};
+    ghost use Rattle.std.specs.Coded.{coded_list};
+    ghost use Rattle.rnix_tree.specs.Tree.{Located, located_code};
+    ghost use Rattle.rnix_tree.specs.Walk.{nodes_in};
+
+    ghost Value = { List Located };
+
+    ghost coded = { coded_list located_code };
+
+    ghost view = { λ s. nodes_in s.elements };
+}
+
+impl<'t> Iterator for Siblings<'t> {
+    type Item = SyntaxNode<'t>;
+
+    ghost use Rattle.std.specs.Iterator.{YieldsFirstBy, item_count};
+
+    ghost next_gives = { YieldsFirstBy (λ node. node) (λ s. s) };
+
+    ghost remaining = { item_count (λ s. s) };
+
+    fn next(&mut self) -> Option<SyntaxNode<'t>> {
+        while let Some(element) = self.elements.next() {
+            if let NodeOrToken::Node(node) = element {
+                return Some(node);
+            }
+        }
+        None
+    }
+}
+
+impl<'t> SyntaxNode<'t> {
+    /// The node and its siblings on one side, nodes and tokens, the nearest first.
+    pub fn siblings_with_tokens(&self, direction: Direction) -> SiblingsWithTokens<'t>
+        ensures siblings { result ≡ siblings_of direction self.now }
+        ensures fits { length result < 2 ^ 64 }
+    {
+        SiblingsWithTokens::new(self.green, direction, self.number)
+    }
+
+    /// The node and those of its siblings on one side that are nodes, the nearest first.
+    pub fn siblings(&self, direction: Direction) -> Siblings<'t>
+        ensures siblings { result ≡ nodes_in (siblings_of direction self.now) }
+        ensures fits { length result < 2 ^ 64 }
+    {
+        Siblings {
+            elements: self.siblings_with_tokens(direction),
+        }
+    }
+
+    /// How many siblings, nodes and tokens, stand before the node.
+    pub fn index(&self) -> usize
+        ensures { result ≡ index_of self.now }
+    {
+        self.siblings_with_tokens(Direction::Prev).count() - 1
+    }
+}
+
+impl<'t> SyntaxToken<'t> {
+    /// The token and its siblings on one side, nodes and tokens, the nearest first.
+    pub fn siblings_with_tokens(&self, direction: Direction) -> SiblingsWithTokens<'t>
+        ensures siblings { result ≡ siblings_of direction self.now }
+        ensures fits { length result < 2 ^ 64 }
+    {
+        SiblingsWithTokens::new(self.green, direction, self.number)
+    }
+
+    /// How many siblings, nodes and tokens, stand before the token.
+    pub fn index(&self) -> usize
+        ensures { result ≡ index_of self.now }
+    {
+        self.siblings_with_tokens(Direction::Prev).count() - 1
+    }
+}
+
+impl<'t> NodeOrToken<SyntaxNode<'t>, SyntaxToken<'t>> {
+    /// The element and its siblings on one side, nodes and tokens, the nearest first.
+    pub fn siblings_with_tokens(&self, direction: Direction) -> SiblingsWithTokens<'t>
+        ensures siblings { result ≡ siblings_of direction (place_of self.now) }
+        ensures fits { length result < 2 ^ 64 }
+    {
+        match self {
+            NodeOrToken::Node(node) => node.siblings_with_tokens(direction),
+            NodeOrToken::Token(token) => token.siblings_with_tokens(direction),
+        }
+    }
+
+    /// How many siblings, nodes and tokens, stand before the element.
+    pub fn index(&self) -> usize
+        ensures { result ≡ index_of (place_of self.now) }
+    {
+        match self {
+            NodeOrToken::Node(node) => node.index(),
+            NodeOrToken::Token(token) => token.index(),
+        }
+    }
+}
