@@ -9,7 +9,7 @@ pub mod PlainSets
 pub mod RowBehind
 pub mod RowFits
 pub mod RowAsks
-pub mod RowOwns
+pub mod RowExpects
 pub mod RowGroups
 pub mod RowStands
 pub mod RowFunctions

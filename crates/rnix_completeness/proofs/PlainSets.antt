@@ -7,8 +7,8 @@ use Rattle.rnix_kinds.specs.declared.kinds.SyntaxKind.{SyntaxKind}
 use Rattle.rnix_kinds.specs.declared.kinds.SyntaxKind.TheVariants.{TOKEN_AT, TOKEN_COLON, TOKEN_ELLIPSIS, TOKEN_IDENT, TOKEN_OR, TOKEN_R_BRACE, NODE_ATTRPATH, NODE_ATTRPATH_VALUE, NODE_DYNAMIC, NODE_IDENT, NODE_INHERIT, NODE_STRING}
 use Rattle.rnix_grammar.specs.declared.place.Place.TheVariants as p
 use Rattle.rnix_grammar.specs.Begins.{is_pattern, second_kind}
-use Rattle.rnix_grammar.specs.Sketch.{Token, Sketch, blank, token, branch, fault, tokens_in, head_kind, forget}
-use Rattle.rnix_grammar.specs.Rows.{Spot, At, go, live, start, to, is_attr}
+use Rattle.rnix_grammar.specs.AnnotatedForest.{Token, AnnotatedForest, blank, token, branch, fault, tokens_in, head_kind, forget}
+use Rattle.rnix_grammar.specs.Rows.{RowState, At, advance, live, start, to, is_attr}
 use Rattle.rnix_grammar.specs.Strict.{is_strict}
 use Rattle.rnix_grammar.specs.Plain.{AreUntold}
 use Rattle.rnix_lemmas.proofs.EveryKind.{not_alone}
@@ -42,7 +42,7 @@ no_binder (Some TOKEN_AT) h = absurd (true_is_not_false (sym h))
 no_binder (Some _) h = refl
 
 -- nor with what begins with another token
-first_opens : (j : SyntaxKind) (c : Sketch) (vs : List Token) → node_passes is_no_formal j ≡ true → is_strict (start j) (forget c) ≡ true → AreUntold c → opens_pattern (tokens_in c ++ vs) ≡ false
+first_opens : (j : SyntaxKind) (c : AnnotatedForest) (vs : List Token) → node_passes is_no_formal j ≡ true → is_strict (start j) (forget c) ≡ true → AreUntold c → opens_pattern (tokens_in c ++ vs) ≡ false
 first_opens j c vs n h v =
     let b : Begins (may_begin j) c = node_begins c j h v in
     ap (λ z. is_pattern z (second_kind (tokens_in c ++ vs))) (b.is vs) ∙ no_formal b.kind (second_kind (tokens_in c ++ vs)) (implied (may_begin j) is_no_formal n b.kind b.passes)
@@ -51,7 +51,7 @@ first_opens j c vs n h v =
 abbrev is_no_tail : Option SyntaxKind → Bool
 is_no_tail o = if is_pattern (Some TOKEN_IDENT) o then false else true
 
-name_opens : (c : Sketch) (vs : List Token) → IsName c → is_no_tail (head_kind vs) ≡ true → opens_pattern (tokens_in c ++ vs) ≡ false
+name_opens : (c : AnnotatedForest) (vs : List Token) → IsName c → is_no_tail (head_kind vs) ≡ true → opens_pattern (tokens_in c ++ vs) ≡ false
 name_opens c vs w h =
     ap (λ z. opens_pattern (tokens_in z ++ vs)) w.is
     ∙ elim w.kind as (λ v. is_pattern (Some w.token.kind) (head_kind vs) ≡ false) [
@@ -59,26 +59,26 @@ name_opens c vs w h =
       | inr e ↦ ap (λ z. is_pattern (Some z) (head_kind vs)) e ∙ no_formal TOKEN_OR (head_kind vs) refl
     ]
 
-attr_opens : (j : SyntaxKind) (c : Sketch) (vs : List Token) → is_attr j ≡ true → is_strict (start j) (forget c) ≡ true → AreUntold c → is_no_tail (head_kind vs) ≡ true
+attr_opens : (j : SyntaxKind) (c : AnnotatedForest) (vs : List Token) → is_attr j ≡ true → is_strict (start j) (forget c) ≡ true → AreUntold c → is_no_tail (head_kind vs) ≡ true
     → opens_pattern (tokens_in c ++ vs) ≡ false
 attr_opens NODE_IDENT c vs a h v e = name_opens c vs (only_name c h v) e
 attr_opens NODE_STRING c vs a h v e = first_opens NODE_STRING c vs refl h v
 attr_opens NODE_DYNAMIC c vs a h v e = first_opens NODE_DYNAMIC c vs refl h v
 attr_opens _ c vs a h v e = absurd (true_is_not_false (sym a))
 
-path_opens : (c : Sketch) (vs : List Token) → is_strict (At p.AttrpathStart) (forget c) ≡ true → AreUntold c → is_no_tail (head_kind vs) ≡ true → opens_pattern (tokens_in c ++ vs) ≡ false
+path_opens : (c : AnnotatedForest) (vs : List Token) → is_strict (At p.AttrpathStart) (forget c) ≡ true → AreUntold c → is_no_tail (head_kind vs) ≡ true → opens_pattern (tokens_in c ++ vs) ≡ false
 path_opens blank vs h v e = absurd (true_is_not_false (sym h))
 path_opens (token i t f) vs h v e =
-    absurd (not_both i v.0 (attr_node i (live_to (is_attr i) (At p.AttrpathMore) (and_parts (live (go (At p.AttrpathStart) i)) (is_strict (go (At p.AttrpathStart) i) (forget f)) h).0)))
+    absurd (not_both i v.0 (attr_node i (live_to (is_attr i) (At p.AttrpathMore) (and_parts (live (advance (At p.AttrpathStart) i)) (is_strict (advance (At p.AttrpathStart) i) (forget f)) h).0)))
 path_opens (branch j c f) vs h v e =
     let q : Parts (At p.AttrpathStart) j (forget c) (forget f) = parts (At p.AttrpathStart) j (forget c) (forget f) h in
     let m : is_attr j ≡ true = live_to (is_attr j) (At p.AttrpathMore) q.live in
     ap opens_pattern (append_assoc (tokens_in c) (tokens_in f) vs)
     ∙ attr_opens j c (tokens_in f ++ vs) m q.inner v.0
-    (next_at is_no_tail (At p.AttrpathMore) refl f vs (subst (λ (z : Spot). is_strict z (forget f) ≡ true) (ap (λ z. to z (At p.AttrpathMore)) m) q.more) v.1 (λ w. e))
+    (next_at is_no_tail (At p.AttrpathMore) refl f vs (subst (λ (z : RowState). is_strict z (forget f) ≡ true) (ap (λ z. to z (At p.AttrpathMore)) m) q.more) v.1 (λ w. e))
 path_opens (fault n c f) vs h v e = absurd v
 
-value_opens : (c : Sketch) (vs : List Token) → is_strict (At p.ValuePath) (forget c) ≡ true → AreUntold c → opens_pattern (tokens_in c ++ vs) ≡ false
+value_opens : (c : AnnotatedForest) (vs : List Token) → is_strict (At p.ValuePath) (forget c) ≡ true → AreUntold c → opens_pattern (tokens_in c ++ vs) ≡ false
 value_opens blank vs h v = absurd (true_is_not_false (sym h))
 value_opens (token NODE_ATTRPATH t f) vs h v = absurd (true_is_not_false v.0)
 value_opens (token _ t f) vs h v = absurd (true_is_not_false (sym h))
@@ -90,7 +90,7 @@ value_opens (branch _ c f) vs h v = absurd (true_is_not_false (sym h))
 value_opens (fault n c f) vs h v = absurd v
 
 -- so it begins a set before the rest of a set
-pub set_opens : (c : Sketch) (us : List Token) → is_strict (At p.SetInside) (forget c) ≡ true → AreUntold c → loose 16 (head_kind us) ≡ true → opens_pattern (tokens_in c ++ us) ≡ false
+pub set_opens : (c : AnnotatedForest) (us : List Token) → is_strict (At p.SetInside) (forget c) ≡ true → AreUntold c → loose 16 (head_kind us) ≡ true → opens_pattern (tokens_in c ++ us) ≡ false
 set_opens blank us h v l = absurd (true_is_not_false (sym h))
 set_opens (token TOKEN_R_BRACE t f) us h v l =
     ap (λ z. opens_pattern (t ∷ (tokens_in z ++ us))) (past_blank f h v.2) ∙ ap (λ z. is_pattern (Some z) (head_kind us)) v.1 ∙ no_binder (head_kind us) l

@@ -6,19 +6,21 @@ use Rattle.std.specs.Prelude.{◌&&◌, if◌then◌else◌, nat_eq}
 use Rattle.rnix_kinds.specs.SyntaxKind.{place_of}
 use Rattle.rnix_kinds.specs.declared.kinds.SyntaxKind.{SyntaxKind}
 use Rattle.rnix_kinds.specs.declared.kinds.SyntaxKind.TheVariants.{TOKEN_CUR_POS, TOKEN_IDENT, TOKEN_INVERT, TOKEN_LET, TOKEN_L_BRACE, TOKEN_REC, TOKEN_SUB, NODE_ATTR_SET, NODE_CUR_POS, NODE_IDENT, NODE_LAMBDA, NODE_LEGACY_LET, NODE_LET_IN, NODE_PAREN, NODE_UNARY_OP}
+use Rattle.rnix_tree.specs.Equality.{same_kind}
 use Rattle.rnix_tree.specs.Forest.{Forest, leaf}
 use Rattle.rnix_grammar.specs.declared.place.Place.TheVariants as p
 use Rattle.rnix_grammar.specs.declared.begin.Begin.TheVariants as b
 use Rattle.rnix_grammar.specs.Begins.{begin_of, begin_let, second_kind}
 use Rattle.rnix_grammar.specs.Operands.{first_tree, kind_of, IsBegun}
-use Rattle.rnix_grammar.specs.Sketch.{Token, Sketch, blank, token, branch, fault, tokens_in, head_kind, forget}
-use Rattle.rnix_grammar.specs.Rows.{BeforeBrace, At, first, go, is_expression, is_operand, live, start, whole}
+use Rattle.rnix_grammar.specs.AnnotatedForest.{Token, AnnotatedForest, blank, token, branch, fault, tokens_in, head_kind, forget}
+use Rattle.rnix_grammar.specs.Rows.{BeforeBrace, At, first, advance, is_expression, is_operand, to, live, start, whole}
 use Rattle.rnix_grammar.specs.Strict.{is_named, is_strict, level_of, stands_at}
 use Rattle.rnix_grammar.specs.Yield.{untold}
 use Rattle.rnix_grammar.specs.Plain.{is_node, AreUntold}
 use Rattle.rnix_lemmas.proofs.Basics.{true_is_not_false, not_if}
 use Rattle.rnix_lemmas.proofs.EveryKind.{same, no_kind, whenever_two}
 use Rattle.rnix_lemmas.proofs.NodeKinds.{not_both}
+use Rattle.rnix_lemmas.proofs.OpeningRows.{live_to}
 use Rattle.rnix_lemmas.proofs.PlainTables.{loose}
 use Rattle.rnix_lemmas.proofs.StrictParts.{Parts, parts, Standing, standing}
 use Rattle.rnix_completeness.proofs.FirstTokens.{next_at, next_kind}
@@ -53,19 +55,19 @@ position_tells TOKEN_CUR_POS t f level ts s l e n =
     tells_by _ level t ts TOKEN_IDENT e (ap kind_of (plain_name t.text (head_kind ts) n) ∙ ap (λ z. kind_of (if z then b.Leaf NODE_CUR_POS else b.Leaf NODE_IDENT)) s)
 position_tells _ t f level ts s l e n = absurd (true_is_not_false (sym l))
 
-set_tells : (i : SyntaxKind) (t : Token) (d : Sketch) (level : ℕ) (us : List Token) → is_strict (start NODE_ATTR_SET) (forget (token i t d)) ≡ true → t.kind ≡ untold i t.text → AreUntold d
+set_tells : (i : SyntaxKind) (t : Token) (d : AnnotatedForest) (level : ℕ) (us : List Token) → is_strict (start NODE_ATTR_SET) (forget (token i t d)) ≡ true → t.kind ≡ untold i t.text → AreUntold d
     → loose 16 (head_kind us) ≡ true → Tells NODE_ATTR_SET level t (tokens_in d ++ us)
 set_tells TOKEN_REC t d level us h e v n = tells_by _ level t (tokens_in d ++ us) TOKEN_REC e refl
 set_tells TOKEN_L_BRACE t d level us h e v n =
     tells_by _ level t (tokens_in d ++ us) TOKEN_L_BRACE e (ap (λ w. kind_of (if w then b.PatternLambda else b.Node NODE_ATTR_SET p.SetInside 16)) (set_opens d us h v n))
 set_tells _ t d level us h e v n = absurd (true_is_not_false (sym h))
 
-let_tells : (i : SyntaxKind) (t : Token) (d : Sketch) (us : List Token) → is_strict (start NODE_LET_IN) (forget (token i t d)) ≡ true → t.kind ≡ untold i t.text → AreUntold d
+let_tells : (i : SyntaxKind) (t : Token) (d : AnnotatedForest) (us : List Token) → is_strict (start NODE_LET_IN) (forget (token i t d)) ≡ true → t.kind ≡ untold i t.text → AreUntold d
     → Tells NODE_LET_IN 0 t (tokens_in d ++ us)
 let_tells TOKEN_LET t d us h e v = tells_by _ 0 t (tokens_in d ++ us) TOKEN_LET e (next_kind (λ o. kind_of (begin_let o)) NODE_LET_IN (At p.LetInside) refl refl d us h v)
 let_tells _ t d us h e v = absurd (true_is_not_false (sym h))
 
-old_let_tells : (i : SyntaxKind) (t : Token) (d : Sketch) (us : List Token) → is_strict (start NODE_LEGACY_LET) (forget (token i t d)) ≡ true → t.kind ≡ untold i t.text → AreUntold d
+old_let_tells : (i : SyntaxKind) (t : Token) (d : AnnotatedForest) (us : List Token) → is_strict (start NODE_LEGACY_LET) (forget (token i t d)) ≡ true → t.kind ≡ untold i t.text → AreUntold d
     → Tells NODE_LEGACY_LET 0 t (tokens_in d ++ us)
 old_let_tells TOKEN_LET t d us h e v = tells_by _ 0 t (tokens_in d ++ us) TOKEN_LET e (next_kind (λ o. kind_of (begin_let o)) NODE_LEGACY_LET BeforeBrace refl refl d us h v)
 old_let_tells _ t d us h e v = absurd (true_is_not_false (sym h))
@@ -89,7 +91,7 @@ is_special kind = is_wrapper kind
 
 -- an expression of another kind that begins with a token
 abbrev is_told_by : SyntaxKind → SyntaxKind → Bool
-is_told_by k i = is_expression k && ((if is_special k then false else true) && (live (go (start k) i) && (if is_node i then false else true)))
+is_told_by k i = is_expression k && ((if is_special k then false else true) && (live (advance (start k) i) && (if is_node i then false else true)))
 
 token_tells : (w : Bool) (k i : SyntaxKind) (t : Token) (level : ℕ) (ts : List Token) → is_operand k ≡ w → (w ≡ false → level ≡ 0) → is_told_by k i ≡ true → t.kind ≡ i → Tells k level t ts
 token_tells true k i t level ts o z h e =
@@ -105,7 +107,7 @@ loosest NODE_LET_IN c level e o l = omega (arith, l)
 loosest _ c level e o l = first_of (omega (arith, l), cc)
 
 told_tells : (k i : SyntaxKind) (t : Token) (f : Forest) (level : ℕ) (ts : List Token) → is_special k ≡ false → is_node i ≡ false → stands_at level k (leaf i t.text f) ≡ true
-    → live (go (start k) i) ≡ true → t.kind ≡ untold i t.text → Tells k level t ts
+    → live (advance (start k) i) ≡ true → t.kind ≡ untold i t.text → Tells k level t ts
 told_tells k i t f level ts p n s l e =
     let x : Standing level k (leaf i t.text f) = standing level k (leaf i t.text f) s in
     let h : is_told_by k i ≡ true = both_true x.expression (both_true (ap (λ w. if w then false else true) p) (both_true l (ap (λ w. if w then false else true) n))) in
@@ -113,21 +115,19 @@ told_tells k i t f level ts p n s l e =
     (e ∙ untold_plain i t.text (not_if (is_name i) (whenever_two is_told_by (λ j u. if is_name u then false else true) refl k i h)))
 
 -- behind the token of a name is what follows the name
-name_end : (k i : SyntaxKind) (t : Token) (d : Sketch) (us : List Token) → is_name_node k ≡ true → is_strict (start k) (forget (token i t d)) ≡ true → AreUntold (token i t d)
+name_end : (k i : SyntaxKind) (t : Token) (d : AnnotatedForest) (us : List Token) → is_name_node k ≡ true → is_strict (start k) (forget (token i t d)) ≡ true → AreUntold (token i t d)
     → loose 16 (head_kind us) ≡ true → loose 16 (head_kind (tokens_in d ++ us)) ≡ true
 name_end k i t d us e h v n =
-    let m = and_parts (live (go (start k) i)) (is_strict (go (start k) i) (forget d)) h in
+    let m = and_parts (live (advance (start k) i)) (is_strict (advance (start k) i) (forget d)) h in
     next_at (λ o. loose 16 o) (At p.Past) refl d us (subst (λ q. is_strict q (forget d) ≡ true) (ends k i e m.0) m.1) v.2 (λ x. n)
   where
-    ends : (k i : SyntaxKind) → is_name_node k ≡ true → live (go (start k) i) ≡ true → go (start k) i ≡ At p.Past
-    ends NODE_IDENT TOKEN_IDENT e l = refl
-    ends NODE_CUR_POS TOKEN_CUR_POS e l = refl
-    ends NODE_IDENT _ e l = cc
-    ends NODE_CUR_POS _ e l = cc
-    ends _ i e l = cc
+    ends : (k i : SyntaxKind) → is_name_node k ≡ true → live (advance (start k) i) ≡ true → advance (start k) i ≡ At p.Past
+    ends NODE_IDENT i e l = ap (λ w. to w (At p.Past)) (live_to (same_kind TOKEN_IDENT i) (At p.Past) l)
+    ends NODE_CUR_POS i e l = ap (λ w. to w (At p.Past)) (live_to (same_kind TOKEN_CUR_POS i) (At p.Past) l)
+    ends _ i e l = absurd (true_is_not_false (sym e))
 
 -- an expression that begins with a token begins as its items say
-leaf_tells : (k i : SyntaxKind) (t : Token) (d : Sketch) (level : ℕ) (us : List Token) → is_wrapper k ≡ false → stands_at level k (forget (token i t d)) ≡ true
+leaf_tells : (k i : SyntaxKind) (t : Token) (d : AnnotatedForest) (level : ℕ) (us : List Token) → is_wrapper k ≡ false → stands_at level k (forget (token i t d)) ≡ true
     → is_strict (start k) (forget (token i t d)) ≡ true → AreUntold (token i t d) → loose 16 (head_kind us) ≡ true → Tells k level t (tokens_in d ++ us)
 leaf_tells NODE_UNARY_OP i t d level us w s h v n = prefix_tells i t (forget d) level (tokens_in d ++ us) s (and_parts (live (first NODE_UNARY_OP i)) _ h).0 v.1
 leaf_tells NODE_IDENT i t d level us w s h v n =
@@ -142,25 +142,25 @@ leaf_tells NODE_LEGACY_LET i t d level us w s h v n =
     subst (λ z. Tells NODE_LEGACY_LET z t (tokens_in d ++ us)) (sym (loosest NODE_LEGACY_LET (forget (token i t d)) level refl refl (standing level NODE_LEGACY_LET (forget (token i t d)) s).low))
     (old_let_tells i t d us h v.1 v.2)
 leaf_tells NODE_LAMBDA i t d level us w s h v n = absurd (not_both i v.0 (param_node i (and_parts (live (first NODE_LAMBDA i)) _ h).0))
-leaf_tells k i t d level us w s h v n = told_tells k i t (forget d) level (tokens_in d ++ us) w v.0 s (and_parts (live (go (start k) i)) (is_strict (go (start k) i) (forget d)) h).0 v.1
+leaf_tells k i t d level us w s h v n = told_tells k i t (forget d) level (tokens_in d ++ us) w v.0 s (and_parts (live (advance (start k) i)) (is_strict (advance (start k) i) (forget d)) h).0 v.1
 
-leaf_first : (k i : SyntaxKind) (t : Token) (d f : Sketch) → is_wrapper k ≡ false → first_tree (branch k (token i t d) f) ≡ k
+leaf_first : (k i : SyntaxKind) (t : Token) (d f : AnnotatedForest) → is_wrapper k ≡ false → first_tree (branch k (token i t d) f) ≡ k
 leaf_first NODE_PAREN i t d f w = refl
 leaf_first _ i t d f w = cc
 
-lambda_alone : (k i : SyntaxKind) → is_expression k ≡ true → is_wrapper k ≡ false → is_node i ≡ true → live (go (start k) i) ≡ true → k ≡ NODE_LAMBDA
+lambda_alone : (k i : SyntaxKind) → is_expression k ≡ true → is_wrapper k ≡ false → is_node i ≡ true → live (advance (start k) i) ≡ true → k ≡ NODE_LAMBDA
 lambda_alone k i e w n l =
-    same k NODE_LAMBDA (whenever_two (λ j u. is_expression j && ((if is_wrapper j then false else true) && (live (go (start j) u) && is_node u))) (λ j u. nat_eq (place_of j) (place_of NODE_LAMBDA)) refl k i
+    same k NODE_LAMBDA (whenever_two (λ j u. is_expression j && ((if is_wrapper j then false else true) && (live (advance (start j) u) && is_node u))) (λ j u. nat_eq (place_of j) (place_of NODE_LAMBDA)) refl k i
     (both_true e (both_true (ap (λ z. if z then false else true) w) (both_true l n))))
 
-lambda_begun : (c f : Sketch) (level : ℕ) (us : List Token) → stands_at level NODE_LAMBDA (forget c) ≡ true → is_strict (start NODE_LAMBDA) (forget c) ≡ true → AreUntold c
+lambda_begun : (c f : AnnotatedForest) (level : ℕ) (us : List Token) → stands_at level NODE_LAMBDA (forget c) ≡ true → is_strict (start NODE_LAMBDA) (forget c) ≡ true → AreUntold c
     → IsBegun level (branch NODE_LAMBDA c f) (tokens_in c ++ us)
 lambda_begun c f level us s h v =
     let l = (standing level NODE_LAMBDA (forget c) s).low in
     let e : level ≡ 0 = omega (arith, l) in subst (λ z. IsBegun z (branch NODE_LAMBDA c f) (tokens_in c ++ us)) (sym e) (lambda_row c f us h v)
 
 -- an expression that begins with no operand begins as its items say
-pub led_begun : (k : SyntaxKind) (c f : Sketch) (level : ℕ) (us : List Token) → is_wrapper k ≡ false → stands_at level k (forget c) ≡ true → is_strict (start k) (forget c) ≡ true → AreUntold c
+pub led_begun : (k : SyntaxKind) (c f : AnnotatedForest) (level : ℕ) (us : List Token) → is_wrapper k ≡ false → stands_at level k (forget c) ≡ true → is_strict (start k) (forget c) ≡ true → AreUntold c
     → loose 16 (head_kind us) ≡ true → IsBegun level (branch k c f) (tokens_in c ++ us)
 led_begun k blank f level us w s h v n = absurd (true_is_not_false (sym h ∙ no_kind (λ j. whole (start j)) refl k))
 led_begun k (token i t d) f level us w s h v n = leaf_tells k i t d level us w s h v n ∙ sym (leaf_first k i t d f w)

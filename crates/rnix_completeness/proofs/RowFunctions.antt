@@ -7,8 +7,8 @@ use Rattle.rnix_grammar.specs.declared.place.Place.TheVariants as p
 use Rattle.rnix_grammar.specs.declared.begin.Begin.TheVariants as b
 use Rattle.rnix_grammar.specs.Begins.{begin_of, begin_name, is_pattern, second_kind}
 use Rattle.rnix_grammar.specs.Operands.{kind_of, IsBegun}
-use Rattle.rnix_grammar.specs.Sketch.{Token, Sketch, blank, token, branch, fault, one_token, one_branch, tokens_in, head_kind, forget}
-use Rattle.rnix_grammar.specs.Rows.{BeforeAt, At, go, live, start}
+use Rattle.rnix_grammar.specs.AnnotatedForest.{Token, AnnotatedForest, blank, token, branch, fault, one_token, one_branch, tokens_in, head_kind, forget}
+use Rattle.rnix_grammar.specs.Rows.{BeforeAt, At, advance, live, start}
 use Rattle.rnix_grammar.specs.Strict.{begins_with_leaf, is_strict}
 use Rattle.rnix_grammar.specs.Plain.{AreUntold}
 use Rattle.rnix_lemmas.proofs.Basics.{true_is_not_false, not_if}
@@ -21,9 +21,9 @@ use Rattle.rnix_completeness.proofs.PlainPatterns.{bind_no_or, param_node, patte
 use Rattle.rnix_completeness.proofs.FirstTokens.{next_at, next_kind}
 
 -- a function of a name
-param_row : (c f g : Sketch) (us : List Token) → IsNamed (At p.Past) c → is_strict (At p.LambdaColon) (forget f) ≡ true → AreUntold f → IsBegun 0 (branch NODE_LAMBDA (branch NODE_IDENT_PARAM c f) g) (tokens_in (branch NODE_IDENT_PARAM c f) ++ us)
+param_row : (c f g : AnnotatedForest) (us : List Token) → IsNamed (At p.Past) c → is_strict (At p.LambdaColon) (forget f) ≡ true → AreUntold f → IsBegun 0 (branch NODE_LAMBDA (branch NODE_IDENT_PARAM c f) g) (tokens_in (branch NODE_IDENT_PARAM c f) ++ us)
 param_row c f g us w h v =
-    subst (λ (z : Sketch). IsBegun 0 (branch NODE_LAMBDA (branch NODE_IDENT_PARAM z f) g) (tokens_in (branch NODE_IDENT_PARAM z f) ++ us)) (sym same)
+    subst (λ (z : AnnotatedForest). IsBegun 0 (branch NODE_LAMBDA (branch NODE_IDENT_PARAM z f) g) (tokens_in (branch NODE_IDENT_PARAM z f) ++ us)) (sym same)
     (ap (λ i. kind_of (begin_of 0 i w.name.text (head_kind (tokens_in f ++ us)) (second_kind (tokens_in f ++ us)))) w.kind
     ∙ next_kind (λ o. kind_of (begin_name w.name.text o)) NODE_IDENT_PARAM (At p.LambdaColon) refl refl f us h v)
   where
@@ -31,7 +31,7 @@ param_row c f g us w h v =
     same = w.is ∙ ap (λ z. branch NODE_IDENT (one_token TOKEN_IDENT w.name) z) (past_blank w.more w.strict w.spelled)
 
 -- a function of a pattern
-pattern_row : (t : Token) (c f g : Sketch) (us : List Token) → t.kind ≡ TOKEN_L_BRACE → is_strict (At (p.PatternStart false)) (forget c) ≡ true → AreUntold c → is_strict (At p.LambdaColon) (forget f) ≡ true → AreUntold f
+pattern_row : (t : Token) (c f g : AnnotatedForest) (us : List Token) → t.kind ≡ TOKEN_L_BRACE → is_strict (At (p.PatternStart false)) (forget c) ≡ true → AreUntold c → is_strict (At p.LambdaColon) (forget f) ≡ true → AreUntold f
     → IsBegun 0 (branch NODE_LAMBDA (branch NODE_PATTERN (token TOKEN_L_BRACE t c) f) g) (tokens_in (branch NODE_PATTERN (token TOKEN_L_BRACE t c) f) ++ us)
 pattern_row t c f g us e h v i u =
     let vs : List Token = tokens_in f ++ us in
@@ -40,19 +40,19 @@ pattern_row t c f g us e h v i u =
     ∙ ap (λ w. kind_of (if w then b.PatternLambda else b.Node NODE_ATTR_SET p.SetInside 16)) (pattern_opens c vs h v (next_at (λ o. is_pattern (Some TOKEN_R_BRACE) o) (At p.LambdaColon) refl f us i u (λ z. absurd (true_is_not_false (sym z))))))
 
 -- a function of a pattern that has a name before it
-bound_row : (a c f g : Sketch) (us : List Token) → IsNamed BeforeAt a → IsBegun 0 (branch NODE_LAMBDA (branch NODE_PATTERN (branch NODE_PAT_BIND a c) f) g) (tokens_in (branch NODE_PATTERN (branch NODE_PAT_BIND a c) f) ++ us)
+bound_row : (a c f g : AnnotatedForest) (us : List Token) → IsNamed BeforeAt a → IsBegun 0 (branch NODE_LAMBDA (branch NODE_PATTERN (branch NODE_PAT_BIND a c) f) g) (tokens_in (branch NODE_PATTERN (branch NODE_PAT_BIND a c) f) ++ us)
 bound_row a c f g us w =
     let vs : List Token = tokens_in c ++ (tokens_in f ++ us) in
-    subst (λ (z : Sketch). IsBegun 0 (branch NODE_LAMBDA (branch NODE_PATTERN (branch NODE_PAT_BIND z c) f) g) (tokens_in (branch NODE_PATTERN (branch NODE_PAT_BIND z c) f) ++ us)) (sym w.is)
+    subst (λ (z : AnnotatedForest). IsBegun 0 (branch NODE_LAMBDA (branch NODE_PATTERN (branch NODE_PAT_BIND z c) f) g) (tokens_in (branch NODE_PATTERN (branch NODE_PAT_BIND z c) f) ++ us)) (sym w.is)
     (subst (λ (ts : List Token). IsBegun 0 (branch NODE_LAMBDA (branch NODE_PATTERN (branch NODE_PAT_BIND (branch NODE_IDENT (one_token TOKEN_IDENT w.name) w.more) c) f) g) ts)
     (sym (append_assoc (w.name ∷ (tokens_in w.more ++ tokens_in c)) (tokens_in f) us ∙ append_assoc (w.name ∷ tokens_in w.more) (tokens_in c) (tokens_in f ++ us)))
     (ap (λ z. kind_of (begin_of 0 z w.name.text (head_kind (tokens_in w.more ++ vs)) (second_kind (tokens_in w.more ++ vs)))) w.kind
     ∙ next_kind (λ o. kind_of (begin_name w.name.text o)) NODE_PATTERN BeforeAt refl refl w.more vs w.strict w.spelled))
 
 -- a function begins as its items say
-pub lambda_row : (c g : Sketch) (us : List Token) → is_strict (start NODE_LAMBDA) (forget c) ≡ true → AreUntold c → IsBegun 0 (branch NODE_LAMBDA c g) (tokens_in c ++ us)
+pub lambda_row : (c g : AnnotatedForest) (us : List Token) → is_strict (start NODE_LAMBDA) (forget c) ≡ true → AreUntold c → IsBegun 0 (branch NODE_LAMBDA c g) (tokens_in c ++ us)
 lambda_row blank g us h v = absurd (true_is_not_false (sym h))
-lambda_row (token i t f) g us h v = absurd (not_both i v.0 (param_node i (and_parts (live (go (start NODE_LAMBDA) i)) (is_strict (go (start NODE_LAMBDA) i) (forget f)) h).0))
+lambda_row (token i t f) g us h v = absurd (not_both i v.0 (param_node i (and_parts (live (advance (start NODE_LAMBDA) i)) (is_strict (advance (start NODE_LAMBDA) i) (forget f)) h).0))
 lambda_row (branch NODE_IDENT_PARAM c f) g us h v =
     let m : Parts (start NODE_LAMBDA) NODE_IDENT_PARAM (forget c) (forget f) = parts (start NODE_LAMBDA) NODE_IDENT_PARAM (forget c) (forget f) h in
     param_row c f g us (named_row NODE_IDENT_PARAM refl (only _ NODE_IDENT refl) c m.inner v.0 m.grouped) m.more v.1

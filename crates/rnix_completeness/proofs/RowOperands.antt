@@ -5,16 +5,16 @@ use Rattle.std.proofs.lemmas.Bool.Decides.{nat_tests}
 use Rattle.std.specs.Prelude.{◌&&◌, if◌then◌else◌, nat_le}
 use Rattle.rnix_kinds.specs.declared.kinds.SyntaxKind.{SyntaxKind}
 use Rattle.rnix_kinds.specs.declared.kinds.SyntaxKind.TheVariants.{TOKEN_DOT, NODE_BIN_OP}
-use Rattle.rnix_grammar.specs.Levels.{power}
+use Rattle.rnix_grammar.specs.Levels.{binding_power}
 use Rattle.rnix_grammar.specs.Operands.{first_tree, follows, goes_on, IsBegun, IsOperand, level_at}
-use Rattle.rnix_grammar.specs.Sketch.{Token, Sketch, blank, token, branch, fault, one_branch, tokens_in, head_kind, forget}
-use Rattle.rnix_grammar.specs.Rows.{Spot, Start, go, live, start, whole}
+use Rattle.rnix_grammar.specs.AnnotatedForest.{Token, AnnotatedForest, blank, token, branch, fault, one_branch, tokens_in, head_kind, forget}
+use Rattle.rnix_grammar.specs.Rows.{RowState, Start, advance, live, start, whole}
 use Rattle.rnix_grammar.specs.Strict.{is_grouped, is_strict, stands_at}
 use Rattle.rnix_grammar.specs.Plain.{is_node, AreUntold}
 use Rattle.rnix_lemmas.proofs.Basics.{true_is_not_false}
 use Rattle.rnix_lemmas.proofs.EveryKind.{no_kind, whenever_two}
 use Rattle.std.specs.Cmp.Derive.{both_true}
-use Rattle.rnix_lemmas.proofs.LevelLemmas.{at_most, power_max}
+use Rattle.rnix_lemmas.proofs.LevelLemmas.{at_most, binding_power_max}
 use Rattle.rnix_lemmas.proofs.NodeKinds.{not_both}
 use Rattle.rnix_lemmas.proofs.PlainTables.{loose, below, high_in, is_bound}
 use Rattle.rnix_lemmas.proofs.StrictParts.{Parts, parts, standing}
@@ -29,16 +29,16 @@ wide : (m : ℕ) (next : Option SyntaxKind) → loose m next ≡ true → loose 
 wide m None h = refl
 wide m (Some k) h = by (is_bound k) h
   where
-    most : (w : Bool) → nat_le (power k) 16 ≡ w → w ≡ true
+    most : (w : Bool) → nat_le (binding_power k) 16 ≡ w → w ≡ true
     most true e = refl
-    most false e = absurd (grind (arith, nat_tests, e, power_max k))
+    most false e = absurd (grind (arith, nat_tests, e, binding_power_max k))
 
-    by : (w : Bool) → (if w then false else nat_le (power k) m) ≡ true → (if w then false else nat_le (power k) 16) ≡ true
+    by : (w : Bool) → (if w then false else nat_le (binding_power k) m) ≡ true → (if w then false else nat_le (binding_power k) 16) ≡ true
     by true e = absurd (true_is_not_false (sym e))
-    by false e = most (nat_le (power k) 16) refl
+    by false e = most (nat_le (binding_power k) 16) refl
 
 -- a tree begins as its first tree does
-begun_on : (level : ℕ) (x y : Sketch) (ts us : List Token) → first_tree x ≡ first_tree y → ts ≡ us → IsBegun level x ts → IsBegun level y us
+begun_on : (level : ℕ) (x y : AnnotatedForest) (ts us : List Token) → first_tree x ≡ first_tree y → ts ≡ us → IsBegun level x ts → IsBegun level y us
 begun_on level x y ts us e h w = subst (λ (z : List Token). IsBegun level y z) h (by ts w)
   where
     by : (ts : List Token) → IsBegun level x ts → IsBegun level y ts
@@ -49,21 +49,21 @@ wrapper_start : (k : SyntaxKind) → is_wrapper k ≡ true → start k ≡ Start
 wrapper_start NODE_BIN_OP e = refl
 wrapper_start _ e = cc
 
-wrapper_first : (k j : SyntaxKind) (c e f : Sketch) → is_wrapper k ≡ true → first_tree (branch j c e) ≡ first_tree (branch k (branch j c e) f)
+wrapper_first : (k j : SyntaxKind) (c e f : AnnotatedForest) → is_wrapper k ≡ true → first_tree (branch j c e) ≡ first_tree (branch k (branch j c e) f)
 wrapper_first NODE_BIN_OP j c e f h = refl
 wrapper_first _ j c e f h = cc
 
-wrapper_node : (k i : SyntaxKind) → is_wrapper k ≡ true → live (go (start k) i) ≡ true → is_node i ≡ true
-wrapper_node k i e l = whenever_two (λ j v. is_wrapper j && live (go (start j) v)) (λ j v. is_node v) refl k i (both_true e l)
+wrapper_node : (k i : SyntaxKind) → is_wrapper k ≡ true → live (advance (start k) i) ≡ true → is_node i ≡ true
+wrapper_node k i e l = whenever_two (λ j v. is_wrapper j && live (advance (start j) v)) (λ j v. is_node v) refl k i (both_true e l)
 
 -- an expression begins as its first three items say
-begun : (c f : Sketch) (level : ℕ) (k : SyntaxKind) (us : List Token) → stands_at level k (forget c) ≡ true → is_grouped k (forget c) ≡ true → is_strict (start k) (forget c) ≡ true → AreUntold c
+begun : (c f : AnnotatedForest) (level : ℕ) (k : SyntaxKind) (us : List Token) → stands_at level k (forget c) ≡ true → is_grouped k (forget c) ≡ true → is_strict (start k) (forget c) ≡ true → AreUntold c
     → loose 16 (head_kind us) ≡ true → IsBegun level (branch k c f) (tokens_in c ++ us)
 begun blank f level k us s g h v n = absurd (true_is_not_false (sym h ∙ no_kind (λ j. whole (start j)) refl k))
 begun (token i t d) f level k us s g h v n = by (is_wrapper k) refl
   where
     by : (w : Bool) → is_wrapper k ≡ w → IsBegun level (branch k (token i t d) f) (tokens_in (token i t d) ++ us)
-    by true e = absurd (not_both i v.0 (wrapper_node k i e (and_parts (live (go (start k) i)) (is_strict (go (start k) i) (forget d)) h).0))
+    by true e = absurd (not_both i v.0 (wrapper_node k i e (and_parts (live (advance (start k) i)) (is_strict (advance (start k) i) (forget d)) h).0))
     by false e = led_begun k (token i t d) f level us e s h v n
 begun (branch j c d) f level k us s g h v n =
     let m : Parts (start k) j (forget c) (forget d) = parts (start k) j (forget c) (forget d) h in
@@ -82,23 +82,23 @@ both_no true w h = h refl
 both_no false w h = refl
 
 -- what goes on with a tree binds
-follows_power : (i : SyntaxKind) (x : Sketch) → follows i x ≡ true → nat_le 1 (power i) ≡ true
-follows_power TOKEN_DOT x h = refl
-follows_power _ x h = cc
+follows_binding_power : (i : SyntaxKind) (x : AnnotatedForest) → follows i x ≡ true → nat_le 1 (binding_power i) ≡ true
+follows_binding_power TOKEN_DOT x h = refl
+follows_binding_power _ x h = cc
 
 -- where only looser operators follow, none goes on with an operand
-pub stops_here : (level : ℕ) (x : Sketch) (ts : List Token) → loose (below level) (head_kind ts) ≡ true → goes_on level x ts ≡ false
+pub stops_here : (level : ℕ) (x : AnnotatedForest) (ts : List Token) → loose (below level) (head_kind ts) ≡ true → goes_on level x ts ≡ false
 stops_here level x [] h = refl
-stops_here level x (t ∷ ts) h = both_no (follows t.kind x) (nat_le level (power t.kind)) (λ e. by level (is_bound t.kind) h (nat_le level (power t.kind)) refl (at_most 1 (power t.kind) (follows_power t.kind x e)))
+stops_here level x (t ∷ ts) h = both_no (follows t.kind x) (nat_le level (binding_power t.kind)) (λ e. by level (is_bound t.kind) h (nat_le level (binding_power t.kind)) refl (at_most 1 (binding_power t.kind) (follows_binding_power t.kind x e)))
   where
-    by : (n : ℕ) (u : Bool) → (if u then false else nat_le (power t.kind) (below n)) ≡ true → (w : Bool) → nat_le n (power t.kind) ≡ w → 1 ≤ power t.kind → w ≡ false
+    by : (n : ℕ) (u : Bool) → (if u then false else nat_le (binding_power t.kind) (below n)) ≡ true → (w : Bool) → nat_le n (binding_power t.kind) ≡ w → 1 ≤ binding_power t.kind → w ≡ false
     by n true h w e l = absurd (true_is_not_false (sym h))
     by n false h false e l = refl
     by zero false h true e l = absurd (grind (arith, nat_tests, h, l))
     by (suc n) false h true e l = absurd (grind (arith, nat_tests, h, e))
 
 -- an expression is an operand where one is wanted
-pub operand_of : {p : SyntaxKind} {q : Spot} {d n : ℕ} {g : Sketch} {us : List Token} (k : SyntaxKind) (c f : Sketch) → Fit p q d n g (branch k c f) us → is_node k ≡ true → live (go q k) ≡ true
+pub operand_of : {p : SyntaxKind} {q : RowState} {d n : ℕ} {g : AnnotatedForest} {us : List Token} (k : SyntaxKind) (c f : AnnotatedForest) → Fit p q d n g (branch k c f) us → is_node k ≡ true → live (advance q k) ≡ true
     → IsOperand (level_at q (one_branch k c)) (one_branch k c) (tokens_in f ++ us)
 operand_of {q = q} {us = us} k c f w v l = by (level_at q (one_branch k c)) refl
   where

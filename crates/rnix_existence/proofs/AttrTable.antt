@@ -1,54 +1,54 @@
--- What ends behind a step at an open node ends before it, slot by slot: attributes, inherited names, attribute paths and names.
+-- What ends behind a step at an open node ends before it, symbol by symbol: attributes, inherited names, attribute paths and names.
 use Rattle.std.proofs.Common.{◌≡◌, ℕ, Bool, true, false, List, [], ◌∷◌, Some, None, refl, ap, sym, ◌∙◌, subst}
 use Rattle.std.specs.Prelude.{nat_eq, if◌then◌else◌, ◌||◌}
 use Rattle.rnix_kinds.specs.declared.kinds.SyntaxKind.{SyntaxKind}
 use Rattle.rnix_kinds.specs.declared.kinds.SyntaxKind.TheVariants.{NODE_ATTRPATH, NODE_DYNAMIC, NODE_IDENT, NODE_INHERIT_FROM, NODE_STRING, TOKEN_CUR_POS, TOKEN_DOT, TOKEN_IDENT, TOKEN_INTERPOL_START, TOKEN_L_PAREN, TOKEN_OR, TOKEN_SEMICOLON, TOKEN_STRING_START}
 use Rattle.rnix_grammar.specs.declared.place.Place.{Place}
 use Rattle.rnix_grammar.specs.declared.place.Place.TheVariants as p
-use Rattle.rnix_grammar.specs.declared.slot.Slot.{Slot}
-use Rattle.rnix_grammar.specs.declared.slot.Slot.TheVariants as s
+use Rattle.rnix_grammar.specs.declared.symbol.Symbol.{Symbol}
+use Rattle.rnix_grammar.specs.declared.symbol.Symbol.TheVariants as s
 use Rattle.rnix_grammar.specs.declared.until.Until.TheVariants as u
 use Rattle.rnix_grammar.specs.declared.action.Action.TheVariants as a
 use Rattle.rnix_grammar.specs.Fault.{Fault}
 use Rattle.rnix_grammar.specs.Tables.{is_wanted}
-use Rattle.rnix_grammar.specs.Slots.{level_in, is_counted}
+use Rattle.rnix_grammar.specs.Symbols.{level_in, is_counted}
 use Rattle.rnix_grammar.specs.Actions.{attr_action, names_action, source_action, more_attrs_action, name_action}
 use Rattle.rnix_grammar.specs.TokenKinds.{is_l_paren}
-use Rattle.rnix_grammar.specs.Sketch.{Token, Sketch, head_kind}
+use Rattle.rnix_grammar.specs.AnnotatedForest.{Token, AnnotatedForest, head_kind}
 use Rattle.rnix_grammar.specs.Machine.{Frame}
 use Rattle.rnix_grammar.specs.Missing.{run_in}
-use Rattle.rnix_grammar.specs.Rows.{At, is_attr, go_slot, go_source, go_names, to}
-use Rattle.rnix_grammar.specs.OwnItems.{owns, owns_in, owns_end, stands_owned_in, begins_attr}
+use Rattle.rnix_grammar.specs.Rows.{At, is_attr, advance_symbol, advance_source, advance_names, to}
+use Rattle.rnix_grammar.specs.ExpectedItems.{expects, expects_in, expects_end, stands_expected_in, begins_attr}
 use Rattle.rnix_existence.proofs.OpenFrames.{closing, EndsBy}
 use Rattle.rnix_existence.proofs.NodeOpens as opening
-use Rattle.rnix_existence.proofs.SlotSteps.{Known, takes, misses, misses_wanted, runs, names, opens, begins, over, over_end}
+use Rattle.rnix_existence.proofs.SymbolSteps.{Known, takes, misses, misses_wanted, runs, names, opens, begins, over, over_end}
 
 -- where attributes stand among other things: its own items beside those that attributes begin with, and what attributes lead to
-pub record Attrs (slot : Slot) (x again y : Place) : Type 0 where
-  pub own : (touches : Bool) (k : SyntaxKind) → begins_attr k ≡ true → owns_in slot touches k ≡ true
-  pub stands : (k : SyntaxKind) → is_attr k ≡ true → stands_owned_in slot k ≡ true
-  pub counted : is_counted slot ≡ false
-  pub level : level_in slot ≡ None
-  pub goes : (k : SyntaxKind) → is_attr k ≡ true → go_slot slot x k ≡ At y
-  pub runs : run_in slot x ≡ Some (u.Attr, again)
+pub record Attrs (symbol : Symbol) (x again y : Place) : Type 0 where
+  pub own : (touches : Bool) (k : SyntaxKind) → begins_attr k ≡ true → expects_in symbol touches k ≡ true
+  pub stands : (k : SyntaxKind) → is_attr k ≡ true → stands_expected_in symbol k ≡ true
+  pub counted : is_counted symbol ≡ false
+  pub level : level_in symbol ≡ None
+  pub goes : (k : SyntaxKind) → is_attr k ≡ true → advance_symbol symbol x k ≡ At y
+  pub runs : run_in symbol x ≡ Some (u.Attr, again)
 
 -- an attribute, or a run before one
-attr_here : (f : Frame) (fs : List Frame) (slot : Slot) (t : Token) (ts : List Token) (n : ℕ) (gs : List Fault) (again y : Place)
-    → Known f slot → Attrs slot f.place again y → owns_in slot (nat_eq t.start n) t.kind ≡ begins_attr t.kind → EndsBy (attr_action again y (Some t.kind)) f fs (t ∷ ts) n gs
-attr_here f fs slot t ts n gs again y w r own = by t.kind refl
+attr_here : (f : Frame) (fs : List Frame) (symbol : Symbol) (t : Token) (ts : List Token) (n : ℕ) (gs : List Fault) (again y : Place)
+    → Known f symbol → Attrs symbol f.place again y → expects_in symbol (nat_eq t.start n) t.kind ≡ begins_attr t.kind → EndsBy (attr_action again y (Some t.kind)) f fs (t ∷ ts) n gs
+attr_here f fs symbol t ts n gs again y w r own = by t.kind refl
   where
-    same : (h k : SyntaxKind) → begins_attr h ≡ true → is_attr k ≡ true → owns_in slot (nat_eq t.start n) h ≡ stands_owned_in slot k
+    same : (h k : SyntaxKind) → begins_attr h ≡ true → is_attr k ≡ true → expects_in symbol (nat_eq t.start n) h ≡ stands_expected_in symbol k
     same h k x z = r.own (nat_eq t.start n) h x ∙ sym (r.stands k z)
 
     by : (k : SyntaxKind) → t.kind ≡ k → EndsBy (attr_action again y (Some k)) f fs (t ∷ ts) n gs
     by TOKEN_INTERPOL_START h =
-        opens f fs slot t ts n gs TOKEN_INTERPOL_START NODE_DYNAMIC p.DynamicInside y w h refl refl r.counted r.level (same TOKEN_INTERPOL_START NODE_DYNAMIC refl refl) (r.goes NODE_DYNAMIC refl)
+        opens f fs symbol t ts n gs TOKEN_INTERPOL_START NODE_DYNAMIC p.DynamicInside y w h refl refl r.counted r.level (same TOKEN_INTERPOL_START NODE_DYNAMIC refl refl) (r.goes NODE_DYNAMIC refl)
     by TOKEN_STRING_START h =
-        opens f fs slot t ts n gs TOKEN_STRING_START NODE_STRING p.StringInside y w h refl refl r.counted r.level (same TOKEN_STRING_START NODE_STRING refl refl) (r.goes NODE_STRING refl)
-    by TOKEN_IDENT h = names f fs slot t ts n gs TOKEN_IDENT y w h (same TOKEN_IDENT NODE_IDENT refl refl) r.counted r.level refl (r.goes NODE_IDENT refl)
-    by TOKEN_OR h = names f fs slot t ts n gs TOKEN_OR y w h (same TOKEN_OR NODE_IDENT refl refl) r.counted r.level refl (r.goes NODE_IDENT refl)
-    by TOKEN_CUR_POS h = names f fs slot t ts n gs TOKEN_CUR_POS y w h (same TOKEN_CUR_POS NODE_IDENT refl refl) r.counted r.level refl (r.goes NODE_IDENT refl)
-    by k h = runs f fs slot t ts n gs t.kind u.Attr again w refl (own ∙ ap begins_attr h) (ap (is_wanted u.Attr) h) r.runs
+        opens f fs symbol t ts n gs TOKEN_STRING_START NODE_STRING p.StringInside y w h refl refl r.counted r.level (same TOKEN_STRING_START NODE_STRING refl refl) (r.goes NODE_STRING refl)
+    by TOKEN_IDENT h = names f fs symbol t ts n gs TOKEN_IDENT y w h (same TOKEN_IDENT NODE_IDENT refl refl) r.counted r.level refl (r.goes NODE_IDENT refl)
+    by TOKEN_OR h = names f fs symbol t ts n gs TOKEN_OR y w h (same TOKEN_OR NODE_IDENT refl refl) r.counted r.level refl (r.goes NODE_IDENT refl)
+    by TOKEN_CUR_POS h = names f fs symbol t ts n gs TOKEN_CUR_POS y w h (same TOKEN_CUR_POS NODE_IDENT refl refl) r.counted r.level refl (r.goes NODE_IDENT refl)
+    by k h = runs f fs symbol t ts n gs t.kind u.Attr again w refl (own ∙ ap begins_attr h) (ap (is_wanted u.Attr) h) r.runs
 
 -- where an attribute is wanted
 pub at_attr : (f : Frame) (fs : List Frame) (ts : List Token) (n : ℕ) (gs : List Fault) (y : Place) → Known f (s.Attr y)
@@ -69,12 +69,12 @@ or_true true = refl
 or_true false = refl
 
 -- behind an attribute among inherited names such names stand
-attr_names : (k : SyntaxKind) → is_attr k ≡ true → go_names k ≡ At p.InheritNames
+attr_names : (k : SyntaxKind) → is_attr k ≡ true → advance_names k ≡ At p.InheritNames
 attr_names NODE_IDENT h = refl
 attr_names _ h = cc
 
 -- so they do behind one before them
-attr_source : (k : SyntaxKind) → is_attr k ≡ true → go_source k ≡ At p.InheritNames
+attr_source : (k : SyntaxKind) → is_attr k ≡ true → advance_source k ≡ At p.InheritNames
 attr_source NODE_IDENT h = refl
 attr_source _ h = cc
 
@@ -123,7 +123,7 @@ at_source f fs (t ∷ ts) n gs w = by t.kind refl
         (attrs (ap is_l_paren h) (ap (is_wanted u.Semicolon) h))
 
 -- behind an attribute of a path
-pub at_more_attrs : (f : Frame) (fs : List Frame) (ts : List Token) (n : ℕ) (gs : List Fault) → Known f s.MoreAttrs → ((b c : Sketch) → closing f.head b c ≡ [])
+pub at_more_attrs : (f : Frame) (fs : List Frame) (ts : List Token) (n : ℕ) (gs : List Fault) → Known f s.MoreAttrs → ((b c : AnnotatedForest) → closing f.head b c ≡ [])
     → EndsBy (more_attrs_action (head_kind ts)) f fs ts n gs
 at_more_attrs f fs [] n gs w e = opening.closes f fs [] n gs w.wide (over_end f s.MoreAttrs n w.here refl refl) e
 at_more_attrs f fs (t ∷ ts) n gs w e = by t.kind refl
@@ -137,9 +137,9 @@ pub at_attrpath : (f : Frame) (fs : List Frame) (ts : List Token) (n : ℕ) (gs 
     → EndsBy (a.Begin NODE_ATTRPATH p.AttrpathStart y) f fs ts n gs
 at_attrpath f fs ts n gs y w = begins f fs (s.Attrpath y) ts n gs NODE_ATTRPATH p.AttrpathStart y w refl refl refl (by ts) refl
   where
-    by : (us : List Token) → owns f.place n us ≡ false
-    by [] = ap owns_end w.here
-    by (t ∷ us) = ap (λ z. owns_in z (nat_eq t.start n) t.kind) w.here
+    by : (us : List Token) → expects f.place n us ≡ false
+    by [] = ap expects_end w.here
+    by (t ∷ us) = ap (λ z. expects_in z (nat_eq t.start n) t.kind) w.here
 
 -- where a name is wanted
 pub at_name : (f : Frame) (fs : List Frame) (ts : List Token) (n : ℕ) (gs : List Fault) (y : Place) → Known f (s.Name y) → EndsBy (name_action f.place y (head_kind ts)) f fs ts n gs

@@ -8,14 +8,14 @@ use Rattle.rnix_grammar.specs.declared.begin.Begin.{Begin}
 use Rattle.rnix_grammar.specs.declared.begin.Begin.TheVariants as b
 use Rattle.rnix_grammar.specs.Fault.{Fault}
 use Rattle.rnix_grammar.specs.Begins.{begin_of, second_kind}
-use Rattle.rnix_grammar.specs.Sketch.{Token, Stray, Sketch, blank, ◌⊕◌, one_token, one_branch, one_fault, tokens_in, told, told_as, head_kind, end_from}
+use Rattle.rnix_grammar.specs.AnnotatedForest.{Token, Stray, AnnotatedForest, blank, ◌⊕◌, one_token, one_branch, one_fault, tokens_in, leaf_kind, leaf_kind_as, head_kind, end_from}
 use Rattle.rnix_grammar.specs.Machine.{Node, Operand, Frame, put, opened, begun}
 use Rattle.rnix_grammar.specs.Reports.{report}
-use Rattle.rnix_grammar.specs.Rows.{fits, Spot, Start, BeforeAt, BeforeBrace, At, go, start}
+use Rattle.rnix_grammar.specs.Rows.{fits, RowState, Start, BeforeAt, BeforeBrace, At, advance, start}
 use Rattle.rnix_grammar.specs.Operands.{kind_of, IsBegun}
 use Rattle.rnix_grammar.specs.Reads.{Reads, end, leaf, inner}
 use Rattle.rnix_lemmas.proofs.Basics.{true_is_not_false, some_same}
-use Rattle.rnix_lemmas.proofs.SketchLemmas.{tokens_two}
+use Rattle.rnix_lemmas.proofs.AnnotatedForestLemmas.{tokens_two}
 use Rattle.rnix_lemmas.proofs.LevelLemmas.{atom_fits}
 use Rattle.rnix_lemmas.proofs.FollowLemmas.{Stops, stops_all, stops_at, followed_loose}
 use Rattle.rnix_existence.proofs.OpenFrames.{a_node, an_error, Ends}
@@ -28,16 +28,16 @@ use Rattle.rnix_existence.proofs.OperandKept.{none_some}
 use Rattle.rnix_existence.proofs.BeginEnds.{BeginEnds, tree_ends, first_leaf, leaf_node}
 
 -- a node that begins with some trees, whose row goes on, is the first tree of an operand
-pub node_ends : (level high d : ℕ) (k : SyntaxKind) (z : Place) (x : Sketch) (g : Frame) (fs : List Frame) (ts us : List Token) (n m : ℕ) (row : Sketch) (zs es gs hs : List Fault) → fits level k ≡ true
+pub node_ends : (level high d : ℕ) (k : SyntaxKind) (z : Place) (x : AnnotatedForest) (g : Frame) (fs : List Frame) (ts us : List Token) (n m : ℕ) (row : AnnotatedForest) (zs es gs hs : List Fault) → fits level k ≡ true
     → ts ≡ tokens_in x ++ us → m ≡ end_from n (tokens_in x)
-    → ((left : List Token) (s : Spot) (rest : Sketch) (ds : List Fault) → us ≡ tokens_in rest ++ left → Reads k d m (At z) s x left rest ds → Reads k d n (start k) s blank left (x ⊕ rest) (zs ++ ds))
-    → ((rest : Sketch) → Stops high (one_branch k (x ⊕ rest))) → ((rest : Sketch) → IsBegun level (one_branch k (x ⊕ rest)) ts)
+    → ((left : List Token) (s : RowState) (rest : AnnotatedForest) (ds : List Fault) → us ≡ tokens_in rest ++ left → Reads k d m (At z) s x left rest ds → Reads k d n (start k) s blank left (x ⊕ rest) (zs ++ ds))
+    → ((rest : AnnotatedForest) → Stops high (one_branch k (x ⊕ rest))) → ((rest : AnnotatedForest) → IsBegun level (one_branch k (x ⊕ rest)) ts)
     → Ends (opened (Node k) z d x ∷ (opened Operand (p.Behind level high) d blank ∷ (put g.place g.row g ∷ fs))) us m row es → gs ++ (zs ++ es) ≡ hs → BeginEnds level d g fs ts n row gs hs
 node_ends level high d k z x g fs ts us n m row zs es gs hs fit items reach reads stops begun ends faults =
     tree_ends level high d g fs ts o.left n o.reached row (one_branch k (x ⊕ o.rest)) (zs ++ o.inside) o.behind gs hs (stops o.rest)
     (items ∙ ap (λ y. tokens_in x ++ y) o.items ∙ sym (tokens_two x o.rest o.left) ∙ ap (λ y. y ++ o.left) (sym (alone_tokens k (x ⊕ o.rest))))
     (last ∙ ap (end_from n) (sym (alone_tokens k (x ⊕ o.rest)))) (begun o.rest)
-    (a_node (reads o.left o.spot o.rest o.inside o.items o.reads) last o.over) o.ends
+    (a_node (reads o.left o.row_state o.rest o.inside o.items o.reads) last o.over) o.ends
     (ap (λ y. gs ++ y) (append_assoc zs o.inside o.behind ∙ ap (λ y. zs ++ y) (ap (λ y. o.inside ++ (y ++ o.behind)) (sym (fit_new level k blank (x ⊕ o.rest) fit)) ∙ sym o.faults)) ∙ faults)
   where
     o : OpenEnds (opened (Node k) z d x) (opened Operand (p.Behind level high) d blank) (put g.place g.row g ∷ fs) us m row es
@@ -47,18 +47,18 @@ node_ends level high d k z x g fs ts us n m row zs es gs hs fit items reach read
     last = o.reach ∙ ap (λ j. end_from j (tokens_in o.rest)) reach ∙ sym (end_two n x o.rest)
 
 -- a function whose pattern begins with some trees is the first tree of an operand
-pub pattern_ends : (level d : ℕ) (z : Place) (x : Sketch) (g : Frame) (fs : List Frame) (ts us : List Token) (n m : ℕ) (row : Sketch) (es gs : List Fault)
+pub pattern_ends : (level d : ℕ) (z : Place) (x : AnnotatedForest) (g : Frame) (fs : List Frame) (ts us : List Token) (n m : ℕ) (row : AnnotatedForest) (es gs : List Fault)
     → ts ≡ tokens_in x ++ us → m ≡ end_from n (tokens_in x)
-    → ((left : List Token) (s : Spot) (rest : Sketch) (ds : List Fault) → us ≡ tokens_in rest ++ left → Reads NODE_PATTERN d m (At z) s x left rest ds
+    → ((left : List Token) (s : RowState) (rest : AnnotatedForest) (ds : List Fault) → us ≡ tokens_in rest ++ left → Reads NODE_PATTERN d m (At z) s x left rest ds
     → Reads NODE_PATTERN d n (Start NODE_PATTERN) s blank left (x ⊕ rest) ds)
-    → ((c rest : Sketch) → IsBegun level (one_branch NODE_LAMBDA (one_branch NODE_PATTERN c ⊕ rest)) ts)
+    → ((c rest : AnnotatedForest) → IsBegun level (one_branch NODE_LAMBDA (one_branch NODE_PATTERN c ⊕ rest)) ts)
     → Ends (opened (Node NODE_PATTERN) z d x ∷ (opened (Node NODE_LAMBDA) p.LambdaColon d blank ∷ (opened Operand (p.Behind level 16) d blank ∷ (put g.place g.row g ∷ fs)))) us m row es
     → BeginEnds level d g fs ts n row gs (gs ++ es)
 pattern_ends level d z x g fs ts us n m row es gs items reach reads begun ends =
     node_ends level 16 d NODE_LAMBDA p.LambdaColon (one_branch NODE_PATTERN (x ⊕ o.rest)) g fs ts o.left n o.reached row o.inside o.behind gs (gs ++ es) (atom_fits level NODE_LAMBDA refl)
     (items ∙ ap (λ y. tokens_in x ++ y) o.items ∙ sym (tokens_two x o.rest o.left) ∙ ap (λ y. y ++ o.left) (sym (alone_tokens NODE_PATTERN (x ⊕ o.rest))))
     (last ∙ ap (end_from n) (sym (alone_tokens NODE_PATTERN (x ⊕ o.rest))))
-    (λ left s rest ds v w. inner v refl (reads o.left o.spot o.rest o.inside o.items o.reads) last o.over tt (λ e. absurd (true_is_not_false (sym e))) tt tt refl refl refl w
+    (λ left s rest ds v w. inner v refl (reads o.left o.row_state o.rest o.inside o.items o.reads) last o.over tt (λ e. absurd (true_is_not_false (sym e))) tt tt refl refl refl w
     (ap (λ y. y ++ ds) (sym (append-nil o.inside))))
     (λ rest. stops_all (one_branch NODE_LAMBDA (one_branch NODE_PATTERN (x ⊕ o.rest) ⊕ rest))) (begun (x ⊕ o.rest)) o.ends (ap (λ y. gs ++ y) (sym o.faults))
   where
@@ -69,67 +69,67 @@ pattern_ends level d z x g fs ts us n m row es gs items reach reads begun ends =
     last = o.reach ∙ ap (λ j. end_from j (tokens_in o.rest)) reach ∙ sym (end_two n x o.rest)
 
 -- `let {`
-legacy : (level d : ℕ) (t u : Token) (us : List Token) (g : Frame) (fs : List Frame) (n : ℕ) (gs : List Fault) (row : Sketch) (es : List Fault) → t.kind ≡ TOKEN_LET → u.kind ≡ TOKEN_L_BRACE → level ≡ 0
-    → ((x : Sketch) → IsBegun level (one_branch NODE_LEGACY_LET x) (t ∷ (u ∷ us)))
+legacy : (level d : ℕ) (t u : Token) (us : List Token) (g : Frame) (fs : List Frame) (n : ℕ) (gs : List Fault) (row : AnnotatedForest) (es : List Fault) → t.kind ≡ TOKEN_LET → u.kind ≡ TOKEN_L_BRACE → level ≡ 0
+    → ((x : AnnotatedForest) → IsBegun level (one_branch NODE_LEGACY_LET x) (t ∷ (u ∷ us)))
     → Ends (begun false b.LegacyLet level d t g fs (t ∷ (u ∷ us)) n gs).frames us u.end row es → BeginEnds level d g fs (t ∷ (u ∷ us)) n row gs (gs ++ es)
 legacy level d t u us g fs n gs row es e h l w ends =
-    node_ends level 0 d NODE_LEGACY_LET p.LegacyInside (one_token (told NODE_LEGACY_LET t) t ⊕ one_token (told NODE_LEGACY_LET u) u) g fs (t ∷ (u ∷ us)) us n u.end row [] es gs (gs ++ es)
+    node_ends level 0 d NODE_LEGACY_LET p.LegacyInside (one_token (leaf_kind NODE_LEGACY_LET t) t ⊕ one_token (leaf_kind NODE_LEGACY_LET u) u) g fs (t ∷ (u ∷ us)) us n u.end row [] es gs (gs ++ es)
     (subst (λ (v : ℕ). fits v NODE_LEGACY_LET ≡ true) (sym l) refl) refl refl
-    (λ left s rest ds v z. first_leaf NODE_LEGACY_LET t refl (ap (λ k. go (Start NODE_LEGACY_LET) (told_as NODE_LEGACY_LET k)) e) refl
-    (leaf refl refl tt tt (ap (λ k. go BeforeBrace (told_as NODE_LEGACY_LET k)) h) refl refl refl z))
-    (λ rest. stops_at 0 (one_branch NODE_LEGACY_LET ((one_token (told NODE_LEGACY_LET t) t ⊕ one_token (told NODE_LEGACY_LET u) u) ⊕ rest)) (followed_loose (one_branch NODE_LEGACY_LET ((one_token (told NODE_LEGACY_LET t) t ⊕ one_token (told NODE_LEGACY_LET u) u) ⊕ rest)) refl refl))
-    (λ rest. w ((one_token (told NODE_LEGACY_LET t) t ⊕ one_token (told NODE_LEGACY_LET u) u) ⊕ rest)) ends refl
+    (λ left s rest ds v z. first_leaf NODE_LEGACY_LET t refl (ap (λ k. advance (Start NODE_LEGACY_LET) (leaf_kind_as NODE_LEGACY_LET k)) e) refl
+    (leaf refl refl tt tt (ap (λ k. advance BeforeBrace (leaf_kind_as NODE_LEGACY_LET k)) h) refl refl refl z))
+    (λ rest. stops_at 0 (one_branch NODE_LEGACY_LET ((one_token (leaf_kind NODE_LEGACY_LET t) t ⊕ one_token (leaf_kind NODE_LEGACY_LET u) u) ⊕ rest)) (followed_loose (one_branch NODE_LEGACY_LET ((one_token (leaf_kind NODE_LEGACY_LET t) t ⊕ one_token (leaf_kind NODE_LEGACY_LET u) u) ⊕ rest)) refl refl))
+    (λ rest. w ((one_token (leaf_kind NODE_LEGACY_LET t) t ⊕ one_token (leaf_kind NODE_LEGACY_LET u) u) ⊕ rest)) ends refl
 
 -- `name:`
-named : (level d : ℕ) (t : Token) (us : List Token) (g : Frame) (fs : List Frame) (n : ℕ) (gs : List Fault) (row : Sketch) (es : List Fault) → t.kind ≡ TOKEN_IDENT
-    → ((c rest : Sketch) → IsBegun level (one_branch NODE_LAMBDA (one_branch NODE_IDENT_PARAM c ⊕ rest)) (t ∷ us))
+named : (level d : ℕ) (t : Token) (us : List Token) (g : Frame) (fs : List Frame) (n : ℕ) (gs : List Fault) (row : AnnotatedForest) (es : List Fault) → t.kind ≡ TOKEN_IDENT
+    → ((c rest : AnnotatedForest) → IsBegun level (one_branch NODE_LAMBDA (one_branch NODE_IDENT_PARAM c ⊕ rest)) (t ∷ us))
     → Ends (begun false b.NameLambda level d t g fs (t ∷ us) n gs).frames us t.end row es → BeginEnds level d g fs (t ∷ us) n row gs (gs ++ es)
 named level d t us g fs n gs row es e w ends =
-    node_ends level 16 d NODE_LAMBDA p.LambdaColon (one_branch NODE_IDENT_PARAM (one_branch NODE_IDENT (one_token (told NODE_IDENT t) t))) g fs (t ∷ us) us n t.end row [] es gs (gs ++ es)
+    node_ends level 16 d NODE_LAMBDA p.LambdaColon (one_branch NODE_IDENT_PARAM (one_branch NODE_IDENT (one_token (leaf_kind NODE_IDENT t) t))) g fs (t ∷ us) us n t.end row [] es gs (gs ++ es)
     (atom_fits level NODE_LAMBDA refl) refl refl
     (λ left s rest ds v z. inner refl refl
-    (inner refl refl (first_leaf NODE_IDENT t refl (ap (λ k. go (Start NODE_IDENT) (told_as NODE_IDENT k)) e) refl end) refl (past_over t.end (tokens_in rest ++ left)) tt
+    (inner refl refl (first_leaf NODE_IDENT t refl (ap (λ k. advance (Start NODE_IDENT) (leaf_kind_as NODE_IDENT k)) e) refl end) refl (past_over t.end (tokens_in rest ++ left)) tt
     (λ x. absurd (true_is_not_false (sym x))) tt tt refl refl refl end refl)
     refl (past_over t.end (tokens_in rest ++ left)) tt (λ x. absurd (true_is_not_false (sym x))) tt tt refl refl refl z refl)
-    (λ rest. stops_all (one_branch NODE_LAMBDA (one_branch NODE_IDENT_PARAM (one_branch NODE_IDENT (one_token (told NODE_IDENT t) t)) ⊕ rest)))
-    (λ rest. w (one_branch NODE_IDENT (one_token (told NODE_IDENT t) t)) rest) ends refl
+    (λ rest. stops_all (one_branch NODE_LAMBDA (one_branch NODE_IDENT_PARAM (one_branch NODE_IDENT (one_token (leaf_kind NODE_IDENT t) t)) ⊕ rest)))
+    (λ rest. w (one_branch NODE_IDENT (one_token (leaf_kind NODE_IDENT t) t)) rest) ends refl
 
 -- `name@`
-bound : (level d : ℕ) (t u : Token) (us : List Token) (g : Frame) (fs : List Frame) (n : ℕ) (gs : List Fault) (row : Sketch) (es : List Fault) → t.kind ≡ TOKEN_IDENT → u.kind ≡ TOKEN_AT
-    → ((c rest : Sketch) → IsBegun level (one_branch NODE_LAMBDA (one_branch NODE_PATTERN c ⊕ rest)) (t ∷ (u ∷ us)))
+bound : (level d : ℕ) (t u : Token) (us : List Token) (g : Frame) (fs : List Frame) (n : ℕ) (gs : List Fault) (row : AnnotatedForest) (es : List Fault) → t.kind ≡ TOKEN_IDENT → u.kind ≡ TOKEN_AT
+    → ((c rest : AnnotatedForest) → IsBegun level (one_branch NODE_LAMBDA (one_branch NODE_PATTERN c ⊕ rest)) (t ∷ (u ∷ us)))
     → Ends (begun false b.BoundLambda level d t g fs (t ∷ (u ∷ us)) n gs).frames us u.end row es → BeginEnds level d g fs (t ∷ (u ∷ us)) n row gs (gs ++ es)
 bound level d t u us g fs n gs row es e h w ends =
-    pattern_ends level d p.PatternBrace (one_branch NODE_PAT_BIND (one_branch NODE_IDENT (one_token (told NODE_IDENT t) t) ⊕ one_token (told NODE_PAT_BIND u) u)) g fs (t ∷ (u ∷ us)) us n u.end row es gs
+    pattern_ends level d p.PatternBrace (one_branch NODE_PAT_BIND (one_branch NODE_IDENT (one_token (leaf_kind NODE_IDENT t) t) ⊕ one_token (leaf_kind NODE_PAT_BIND u) u)) g fs (t ∷ (u ∷ us)) us n u.end row es gs
     refl refl
     (λ left s rest ds v z. inner refl refl
-    (inner refl refl (first_leaf NODE_IDENT t refl (ap (λ k. go (Start NODE_IDENT) (told_as NODE_IDENT k)) e) refl end) refl (past_over t.end (u ∷ (tokens_in rest ++ left))) tt
+    (inner refl refl (first_leaf NODE_IDENT t refl (ap (λ k. advance (Start NODE_IDENT) (leaf_kind_as NODE_IDENT k)) e) refl end) refl (past_over t.end (u ∷ (tokens_in rest ++ left))) tt
     (λ x. absurd (true_is_not_false (sym x))) tt tt refl refl refl
-    (leaf refl refl tt tt (ap (λ k. go BeforeAt (told_as NODE_PAT_BIND k)) h) refl refl refl end) refl)
+    (leaf refl refl tt tt (ap (λ k. advance BeforeAt (leaf_kind_as NODE_PAT_BIND k)) h) refl refl refl end) refl)
     refl (past_over u.end (tokens_in rest ++ left)) tt (λ x. absurd (true_is_not_false (sym x))) tt tt refl refl refl z refl)
     w ends
 
 -- `{` of a pattern
-patterned : (level d : ℕ) (t : Token) (us : List Token) (g : Frame) (fs : List Frame) (n : ℕ) (gs : List Fault) (row : Sketch) (es : List Fault) → t.kind ≡ TOKEN_L_BRACE
-    → ((c rest : Sketch) → IsBegun level (one_branch NODE_LAMBDA (one_branch NODE_PATTERN c ⊕ rest)) (t ∷ us))
+patterned : (level d : ℕ) (t : Token) (us : List Token) (g : Frame) (fs : List Frame) (n : ℕ) (gs : List Fault) (row : AnnotatedForest) (es : List Fault) → t.kind ≡ TOKEN_L_BRACE
+    → ((c rest : AnnotatedForest) → IsBegun level (one_branch NODE_LAMBDA (one_branch NODE_PATTERN c ⊕ rest)) (t ∷ us))
     → Ends (begun false b.PatternLambda level d t g fs (t ∷ us) n gs).frames us t.end row es → BeginEnds level d g fs (t ∷ us) n row gs (gs ++ es)
 patterned level d t us g fs n gs row es e w ends =
-    pattern_ends level d (p.PatternStart false) (one_token (told NODE_PATTERN t) t) g fs (t ∷ us) us n t.end row es gs refl refl
-    (λ left s rest ds v z. first_leaf NODE_PATTERN t refl (ap (λ k. go (Start NODE_PATTERN) (told_as NODE_PATTERN k)) e) refl z) w ends
+    pattern_ends level d (p.PatternStart false) (one_token (leaf_kind NODE_PATTERN t) t) g fs (t ∷ us) us n t.end row es gs refl refl
+    (λ left s rest ds v z. first_leaf NODE_PATTERN t refl (ap (λ k. advance (Start NODE_PATTERN) (leaf_kind_as NODE_PATTERN k)) e) refl z) w ends
 
 -- an operand that has begun becomes a whole one
-pub begun_ends : (begin : Begin) (level d : ℕ) (t : Token) (us : List Token) (g : Frame) (fs : List Frame) (n : ℕ) (gs : List Fault) (row : Sketch) (es : List Fault)
+pub begun_ends : (begin : Begin) (level d : ℕ) (t : Token) (us : List Token) (g : Frame) (fs : List Frame) (n : ℕ) (gs : List Fault) (row : AnnotatedForest) (es : List Fault)
     → begin_of level t.kind t.text (head_kind us) (second_kind us) ≡ begin → BeginsTree begin level t.kind (head_kind us)
     → Ends (begun false begin level d t g fs (t ∷ us) n gs).frames (begun false begin level d t g fs (t ∷ us) n gs).left (begun false begin level d t g fs (t ∷ us) n gs).reached row es
     → BeginEnds level d g fs (t ∷ us) n row gs ((begun false begin level d t g fs (t ∷ us) n gs).faults ++ es)
 begun_ends (b.Leaf k) level d t us g fs n gs row es e h ends =
-    tree_ends level 16 d g fs (t ∷ us) us n t.end row (one_branch k (one_token (told k t) t)) [] es gs (gs ++ es) (stops_all (one_branch k (one_token (told k t) t))) refl refl
-    (ap kind_of e ∙ sym (h.first (told k t) t blank)) (leaf_node k t st h.goes) ends refl
+    tree_ends level 16 d g fs (t ∷ us) us n t.end row (one_branch k (one_token (leaf_kind k t) t)) [] es gs (gs ++ es) (stops_all (one_branch k (one_token (leaf_kind k t) t))) refl refl
+    (ap kind_of e ∙ sym (h.first (leaf_kind k t) t blank)) (leaf_node k t st h.goes) ends refl
   where
     st : start k ≡ Start k
     st = fits_starts 0 k (atom_fits 0 k h.atom)
 begun_ends (b.Node k z high) level d t us g fs n gs row es e h ends =
-    node_ends level high d k z (one_token (told k t) t) g fs (t ∷ us) us n t.end row [] es gs (gs ++ es) h.fit refl refl
-    (λ left s rest ds v y. first_leaf k t (fits_starts level k h.fit) h.goes refl y) (λ rest. h.stops t rest) (λ rest. ap kind_of e ∙ sym (h.first (told k t) t rest)) ends refl
+    node_ends level high d k z (one_token (leaf_kind k t) t) g fs (t ∷ us) us n t.end row [] es gs (gs ++ es) h.fit refl refl
+    (λ left s rest ds v y. first_leaf k t (fits_starts level k h.fit) h.goes refl y) (λ rest. h.stops t rest) (λ rest. ap kind_of e ∙ sym (h.first (leaf_kind k t) t rest)) ends refl
 begun_ends b.LegacyLet level d t [] g fs n gs row es e h ends = absurd (none_some h.1)
 begun_ends b.LegacyLet level d t (u ∷ us) g fs n gs row es e h ends = legacy level d t u us g fs n gs row es h.0 (some_same u.kind TOKEN_L_BRACE h.1) h.2 (λ x. ap kind_of e) ends
 begun_ends b.NameLambda level d t us g fs n gs row es e h ends = named level d t us g fs n gs row es h (λ c rest. ap kind_of e) ends

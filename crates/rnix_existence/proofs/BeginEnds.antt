@@ -3,11 +3,11 @@ use Rattle.std.proofs.Common.{◌≡◌, ℕ, true, false, List, [], ◌∷◌, 
 use Rattle.rnix_kinds.specs.declared.kinds.SyntaxKind.{SyntaxKind}
 use Rattle.rnix_grammar.specs.declared.place.Place.TheVariants as p
 use Rattle.rnix_grammar.specs.Fault.{Fault}
-use Rattle.rnix_grammar.specs.Sketch.{Token, Sketch, blank, token, ◌⊕◌, one_token, one_branch, tokens_in, told, end_from}
+use Rattle.rnix_grammar.specs.AnnotatedForest.{Token, AnnotatedForest, blank, token, ◌⊕◌, one_token, one_branch, tokens_in, leaf_kind, end_from}
 use Rattle.rnix_grammar.specs.Machine.{Operand, Frame, put, opened}
-use Rattle.rnix_grammar.specs.Rows.{fits, Spot, Start, At, go, live, start}
+use Rattle.rnix_grammar.specs.Rows.{fits, RowState, Start, At, advance, live, start}
 use Rattle.rnix_grammar.specs.TreeLevels.{is_or_row}
-use Rattle.rnix_grammar.specs.OwnItems.{IsOwned}
+use Rattle.rnix_grammar.specs.ExpectedItems.{IsExpected}
 use Rattle.rnix_grammar.specs.Operands.{first_tree, IsFollowed, IsBegun, IsOperand}
 use Rattle.rnix_grammar.specs.Reads.{Reads, end, leaf}
 use Rattle.rnix_lemmas.proofs.FollowLemmas.{Stops}
@@ -16,10 +16,10 @@ use Rattle.rnix_existence.proofs.OperandTrees.{past_over}
 use Rattle.rnix_existence.proofs.OperandEnds.{OperandEnds, operand_ends}
 
 -- a whole operand of a level above a frame that waits for it, and what comes behind it: gs are the errors before it, and hs all errors
-pub record BeginEnds (level d : ℕ) (g : Frame) (fs : List Frame) (ts : List Token) (n : ℕ) (row : Sketch) (gs hs : List Fault) : Type 0 where
+pub record BeginEnds (level d : ℕ) (g : Frame) (fs : List Frame) (ts : List Token) (n : ℕ) (row : AnnotatedForest) (gs hs : List Fault) : Type 0 where
   pub left : List Token
   pub reached : ℕ
-  pub tree : Sketch
+  pub tree : AnnotatedForest
   pub inside : List Fault
   pub behind : List Fault
   pub lone : Lone d n tree left inside
@@ -32,7 +32,7 @@ pub record BeginEnds (level d : ℕ) (g : Frame) (fs : List Frame) (ts : List To
   pub faults : gs ++ (inside ++ behind) ≡ hs
 
 -- trees with one first tree begin alike
-pub begun_same : (level : ℕ) (x y : Sketch) (ts : List Token) → first_tree y ≡ first_tree x → IsBegun level x ts → IsBegun level y ts
+pub begun_same : (level : ℕ) (x y : AnnotatedForest) (ts : List Token) → first_tree y ≡ first_tree x → IsBegun level x ts → IsBegun level y ts
 begun_same level x y [] e h = h
 begun_same level x y (t ∷ ts) e h = h ∙ sym e
 
@@ -43,7 +43,7 @@ under_same : {f g : Frame} {fs gs : List Frame} → f ∷ fs ≡ g ∷ gs → fs
 under_same e = cc
 
 -- the first tree of an operand goes on to the whole operand
-pub tree_ends : (level high d : ℕ) (g : Frame) (fs : List Frame) (ts us : List Token) (n m : ℕ) (row x : Sketch) (cs es gs hs : List Fault) → Stops high x
+pub tree_ends : (level high d : ℕ) (g : Frame) (fs : List Frame) (ts us : List Token) (n m : ℕ) (row x : AnnotatedForest) (cs es gs hs : List Fault) → Stops high x
     → ts ≡ tokens_in x ++ us → m ≡ end_from n (tokens_in x) → IsBegun level x ts → Lone d n x us cs
     → Ends (opened Operand (p.Behind level high) d x ∷ (put g.place g.row g ∷ fs)) us m row es → gs ++ (cs ++ es) ≡ hs → BeginEnds level d g fs ts n row gs hs
 tree_ends level high d g fs ts us n m row x cs es gs hs stops items reach begun lone ends faults = record {
@@ -75,11 +75,11 @@ tree_ends level high d g fs ts us n m row x cs es gs hs stops items reach begun 
     all = items ∙ o.grows.items
 
 -- an item where the row of a node begins
-pub first_leaf : {d n : ℕ} {q s : Spot} {us : List Token} {f : Sketch} {es : List Fault} (k : SyntaxKind) (t : Token) → start k ≡ Start k → go (start k) (told k t) ≡ q → live q ≡ true
-    → Reads k d t.end q s (one_token (told k t) t) us f es → Reads k d n (start k) s blank us (token (told k t) t f) es
+pub first_leaf : {d n : ℕ} {q s : RowState} {us : List Token} {f : AnnotatedForest} {es : List Fault} (k : SyntaxKind) (t : Token) → start k ≡ Start k → advance (start k) (leaf_kind k t) ≡ q → live q ≡ true
+    → Reads k d t.end q s (one_token (leaf_kind k t) t) us f es → Reads k d n (start k) s blank us (token (leaf_kind k t) t f) es
 first_leaf {n = n} {us = us} {f = f} k t e g l z =
-    leaf refl refl (subst (λ (y : Spot). IsOwned y n (t ∷ (tokens_in f ++ us)) true) (sym e) tt) (subst (λ (y : Spot). IsFollowed y blank (Some (told k t))) (sym e) tt) g l refl refl z
+    leaf refl refl (subst (λ (y : RowState). IsExpected y n (t ∷ (tokens_in f ++ us)) true) (sym e) tt) (subst (λ (y : RowState). IsFollowed y blank (Some (leaf_kind k t))) (sym e) tt) g l refl refl z
 
 -- a node of one item
-pub leaf_node : {d n : ℕ} {us : List Token} (k : SyntaxKind) (t : Token) → start k ≡ Start k → go (start k) (told k t) ≡ At p.Past → Lone d n (one_branch k (one_token (told k t) t)) us []
+pub leaf_node : {d n : ℕ} {us : List Token} (k : SyntaxKind) (t : Token) → start k ≡ Start k → advance (start k) (leaf_kind k t) ≡ At p.Past → Lone d n (one_branch k (one_token (leaf_kind k t) t)) us []
 leaf_node {us = us} k t e g = a_node (first_leaf k t e g refl end) refl (past_over t.end us)

@@ -11,7 +11,7 @@ use Rattle.rnix_grammar.specs.declared.begin.Begin.TheVariants as b
 use Rattle.rnix_grammar.specs.Fault.{Fault}
 use Rattle.rnix_grammar.specs.Tables.{depth_limit}
 use Rattle.rnix_grammar.specs.Begins.{begin_of, second_kind}
-use Rattle.rnix_grammar.specs.Sketch.{Token, Stray, TooDeep, Sketch, blank, ◌⊕◌, one_token, one_branch, one_fault, row_of, told, head_kind}
+use Rattle.rnix_grammar.specs.AnnotatedForest.{Token, Stray, TooDeep, AnnotatedForest, blank, ◌⊕◌, one_token, one_branch, one_fault, row_of, leaf_kind, head_kind}
 use Rattle.rnix_grammar.specs.Machine.{Node, Operand, Frame, put, opened, leaf, behind, begun, limited, operand_on, reading}
 use Rattle.rnix_lemmas.proofs.FirstTrees.{a_node, an_error}
 use Rattle.rnix_lemmas.proofs.FollowLemmas.{atom_tight}
@@ -22,8 +22,8 @@ use Rattle.rnix_existence.proofs.BeginLevels.{BeginsTree, begun_tree}
 use Rattle.rnix_existence.proofs.BelowKept.{grown, stayed, waits}
 
 -- a node is open for an operand that a node below waits for
-on_operand : (k : SyntaxKind) (z : Place) (d level high : ℕ) (x : Sketch) (g : Frame) (fs : List Frame) → AtNode g fs → IsRow k z → d ≤ depth_limit
-    → ((rest : Sketch) → MayGrow level high (one_branch k (x ⊕ rest)))
+on_operand : (k : SyntaxKind) (z : Place) (d level high : ℕ) (x : AnnotatedForest) (g : Frame) (fs : List Frame) → AtNode g fs → IsRow k z → d ≤ depth_limit
+    → ((rest : AnnotatedForest) → MayGrow level high (one_branch k (x ⊕ rest)))
     → AtNode (opened (Node k) z d x) (opened Operand (p.Behind level high) d blank ∷ (put g.place g.row g ∷ fs))
 on_operand k z d level high x g fs r i s grows = record {
   kind = k;
@@ -32,13 +32,13 @@ on_operand k z d level high x g fs r i s grows = record {
 }
 
 -- a function's node
-lambda_kept : (d level : ℕ) (x : Sketch) (g : Frame) (fs : List Frame) → AtNode g fs → d ≤ depth_limit → level ≤ 16
+lambda_kept : (d level : ℕ) (x : AnnotatedForest) (g : Frame) (fs : List Frame) → AtNode g fs → d ≤ depth_limit → level ≤ 16
     → AtNode (opened (Node NODE_LAMBDA) p.LambdaColon d x) (opened Operand (p.Behind level 16) d blank ∷ (put g.place g.row g ∷ fs))
 lambda_kept d level x g fs r s l =
     on_operand NODE_LAMBDA p.LambdaColon d level 16 x g fs r (refl, refl) s (λ rest. atom_grows level (one_branch NODE_LAMBDA (x ⊕ rest)) refl refl refl l)
 
 -- a pattern in a function's node
-pattern_kept : (d level : ℕ) (z : Place) (x : Sketch) (g : Frame) (fs : List Frame) → AtNode g fs → d ≤ depth_limit → level ≤ 16
+pattern_kept : (d level : ℕ) (z : Place) (x : AnnotatedForest) (g : Frame) (fs : List Frame) → AtNode g fs → d ≤ depth_limit → level ≤ 16
     → row_at z ≡ Some false
     → Reading (opened (Node NODE_PATTERN) z d x ∷ (opened (Node NODE_LAMBDA) p.LambdaColon d blank ∷ (opened Operand (p.Behind level 16) d blank ∷ (put g.place g.row g ∷ fs))))
 pattern_kept d level z x g fs r s l h = node (record {
@@ -60,14 +60,14 @@ begun_kept (b.Leaf k) level d t ts g fs n gs w r s l = operand (record {
   place = refl;
   single = a_node;
   grows =
-      atom_grows level (one_branch k (one_token (told k t) t)) w.atom (atom_tight k (one_token (told k t) t) w.atom) (w.no_or (told k t) t refl) l;
+      atom_grows level (one_branch k (one_token (leaf_kind k t) t)) w.atom (atom_tight k (one_token (leaf_kind k t) t) w.atom) (w.no_or (leaf_kind k t) t refl) l;
   shallow = s;
   below = waits (put g.place g.row g) fs (stayed g fs g.place r refl);
 })
 begun_kept (b.Node k z high) level d t ts g fs n gs w r s l =
-    node (on_operand k z d level high (one_token (told k t) t) g fs r (w.sound, w.home) s (λ rest. w.grows l t rest))
+    node (on_operand k z d level high (one_token (leaf_kind k t) t) g fs r (w.sound, w.home) s (λ rest. w.grows l t rest))
 begun_kept b.LegacyLet level d t ts g fs n gs w r s l =
-    let x : Sketch = leaf false NODE_LEGACY_LET (t ∷ ts) ⊕ leaf false NODE_LEGACY_LET (behind false (t ∷ ts)) in
+    let x : AnnotatedForest = leaf false NODE_LEGACY_LET (t ∷ ts) ⊕ leaf false NODE_LEGACY_LET (behind false (t ∷ ts)) in
     node (on_operand NODE_LEGACY_LET p.LegacyInside d level 0 x g fs r (refl, refl) s
     (λ rest. loose_grows level (one_branch NODE_LEGACY_LET (x ⊕ rest)) w.2 refl refl))
 begun_kept b.NameLambda level d t ts g fs n gs w r s l =

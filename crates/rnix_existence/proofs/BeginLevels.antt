@@ -10,8 +10,8 @@ use Rattle.rnix_grammar.specs.declared.begin.Begin.{Begin}
 use Rattle.rnix_grammar.specs.declared.begin.Begin.TheVariants as b
 use Rattle.rnix_grammar.specs.Begins.{is_pattern, begin_name, begin_let, begin_keyword, begin_scope, begin_of}
 use Rattle.rnix_grammar.specs.Tables.{is_cur_pos}
-use Rattle.rnix_grammar.specs.Sketch.{Token, Sketch, blank, token, one_token, one_branch, told_as}
-use Rattle.rnix_grammar.specs.Rows.{is_atom, is_expression, is_loose, fits, Start, At, go, start}
+use Rattle.rnix_grammar.specs.AnnotatedForest.{Token, AnnotatedForest, blank, token, one_token, one_branch, leaf_kind_as}
+use Rattle.rnix_grammar.specs.Rows.{is_atom, is_expression, is_loose, fits, Start, At, advance, start}
 use Rattle.rnix_grammar.specs.TokenKinds.{is_or}
 use Rattle.rnix_grammar.specs.TreeLevels.{is_or_row, level_of}
 use Rattle.rnix_grammar.specs.Operands.{first_tree}
@@ -36,19 +36,19 @@ fits_starts n k h = expression_starts k (fits_expression n k h)
 -- a node of one token, and no name `or`
 pub record BeginsLeaf (k kind : SyntaxKind) : Type 0 where
   pub atom : is_atom k ≡ true
-  pub goes : go (start k) (told_as k kind) ≡ At p.Past
-  pub first : (j : SyntaxKind) (t : Token) (r : Sketch) → first_tree (one_branch k (token j t r)) ≡ k
+  pub goes : advance (start k) (leaf_kind_as k kind) ≡ At p.Past
+  pub first : (j : SyntaxKind) (t : Token) (r : AnnotatedForest) → first_tree (one_branch k (token j t r)) ≡ k
   pub no_or : (j : SyntaxKind) (t : Token) → t.kind ≡ kind → is_or_row (one_branch k (one_token j t)) ≡ false
 
 -- a node that begins with a token: it is its own first tree, what goes on with it binds no tighter than the level, and it may grow so far
 pub record BeginsNode (k : SyntaxKind) (z : Place) (high level : ℕ) (kind : SyntaxKind) : Type 0 where
-  pub goes : go (start k) (told_as k kind) ≡ At z
+  pub goes : advance (start k) (leaf_kind_as k kind) ≡ At z
   pub sound : is_error k ≡ false
   pub home : row_at z ≡ Some (is_formal k)
   pub fit : fits level k ≡ true
-  pub first : (j : SyntaxKind) (t : Token) (r : Sketch) → first_tree (one_branch k (token j t r)) ≡ k
-  pub stops : (t : Token) (r : Sketch) → Stops high (one_branch k (token (told_as k kind) t r))
-  pub grows : level ≤ 16 → (t : Token) (r : Sketch) → MayGrow level high (one_branch k (token (told_as k kind) t r))
+  pub first : (j : SyntaxKind) (t : Token) (r : AnnotatedForest) → first_tree (one_branch k (token j t r)) ≡ k
+  pub stops : (t : Token) (r : AnnotatedForest) → Stops high (one_branch k (token (leaf_kind_as k kind) t r))
+  pub grows : level ≤ 16 → (t : Token) (r : AnnotatedForest) → MayGrow level high (one_branch k (token (leaf_kind_as k kind) t r))
 
 -- what is known of the first items, and of the tree that begins so
 abbrev pub BeginsTree : Begin → ℕ → SyntaxKind → Option SyntaxKind → Type 0
@@ -62,7 +62,7 @@ BeginsTree b.Stray level kind second = Unit {0}
 
 -- an atom
 atom : (k : SyntaxKind) (z : Place) (level : ℕ) (kind : SyntaxKind) → is_atom k ≡ true → is_error k ≡ false → row_at z ≡ Some (is_formal k)
-    → go (start k) (told_as k kind) ≡ At z → ((j : SyntaxKind) (t : Token) (r : Sketch) → first_tree (one_branch k (token j t r)) ≡ k)
+    → advance (start k) (leaf_kind_as k kind) ≡ At z → ((j : SyntaxKind) (t : Token) (r : AnnotatedForest) → first_tree (one_branch k (token j t r)) ≡ k)
     → BeginsNode k z 16 level kind
 atom k z level kind h sound home goes first = record {
   goes = goes;
@@ -70,15 +70,15 @@ atom k z level kind h sound home goes first = record {
   home = home;
   fit = atom_fits level k h;
   first = first;
-  stops = λ t r. stops_all (one_branch k (token (told_as k kind) t r));
-  grows = λ l t r. let c : Sketch = token (told_as k kind) t r in atom_grows level (one_branch k c) h (atom_tight k c h) (no_name k c sound) l;
+  stops = λ t r. stops_all (one_branch k (token (leaf_kind_as k kind) t r));
+  grows = λ l t r. let c : AnnotatedForest = token (leaf_kind_as k kind) t r in atom_grows level (one_branch k c) h (atom_tight k c h) (no_name k c sound) l;
 }
 
 -- what reaches as far as it can
 loose : (k : SyntaxKind) (z : Place) (level : ℕ) (kind : SyntaxKind) → is_expression k ≡ true → is_atom k ≡ false
-    → ((c : Sketch) → level_of k c ≡ 0) → is_error k ≡ false
-    → row_at z ≡ Some (is_formal k) → go (start k) (told_as k kind) ≡ At z
-    → ((j : SyntaxKind) (t : Token) (r : Sketch) → first_tree (one_branch k (token j t r)) ≡ k)
+    → ((c : AnnotatedForest) → level_of k c ≡ 0) → is_error k ≡ false
+    → row_at z ≡ Some (is_formal k) → advance (start k) (leaf_kind_as k kind) ≡ At z
+    → ((j : SyntaxKind) (t : Token) (r : AnnotatedForest) → first_tree (one_branch k (token j t r)) ≡ k)
     → level ≡ 0 → BeginsNode k z 0 level kind
 loose k z level kind h a v sound home goes first e = record {
   goes = goes;
@@ -86,8 +86,8 @@ loose k z level kind h a v sound home goes first e = record {
   home = home;
   fit = (loose_grows level (one_branch k blank) e h (no_name k blank sound)).fit;
   first = first;
-  stops = λ t r. let c : Sketch = token (told_as k kind) t r in stops_at 0 (one_branch k c) (followed_loose (one_branch k c) (v c) a);
-  grows = λ l t r. loose_grows level (one_branch k (token (told_as k kind) t r)) e h (no_name k (token (told_as k kind) t r) sound);
+  stops = λ t r. let c : AnnotatedForest = token (leaf_kind_as k kind) t r in stops_at 0 (one_branch k c) (followed_loose (one_branch k c) (v c) a);
+  grows = λ l t r. loose_grows level (one_branch k (token (leaf_kind_as k kind) t r)) e h (no_name k (token (leaf_kind_as k kind) t r) sound);
 }
 
 name_tree : (level : ℕ) (w : Bool) (second : Option SyntaxKind)
@@ -115,7 +115,7 @@ invert_begins level true second e =
       home = refl;
       fit = fit;
       first = λ j t r. refl;
-      stops = λ t r. let x : Sketch = one_branch NODE_UNARY_OP (token TOKEN_INVERT t r) in stops_at 8 x (followed_inverted x refl refl);
+      stops = λ t r. let x : AnnotatedForest = one_branch NODE_UNARY_OP (token TOKEN_INVERT t r) in stops_at 8 x (followed_inverted x refl refl);
       grows = λ l t r. prefix_grows level 8 (one_branch NODE_UNARY_OP (token TOKEN_INVERT t r)) fit refl refl (at_most level 9 e) (omega arith) refl;
     }
 invert_begins level false second e = tt
@@ -128,26 +128,26 @@ negate_begins level true second e = record {
   home = refl;
   fit = prefix_fits level e;
   first = λ j t r. refl;
-  stops = λ t r. let x : Sketch = one_branch NODE_UNARY_OP (token TOKEN_SUB t r) in stops_at 13 x (followed_negated x refl refl);
+  stops = λ t r. let x : AnnotatedForest = one_branch NODE_UNARY_OP (token TOKEN_SUB t r) in stops_at 13 x (followed_negated x refl refl);
   grows =
       λ l t r. prefix_grows level 13 (one_branch NODE_UNARY_OP (token TOKEN_SUB t r)) (prefix_fits level e) refl refl (at_most level 14 e) (omega arith) refl;
 }
 negate_begins level false second e = tt
 
 -- a node that reaches as far as it can stands at the loosest level
-loose_level : (k : SyntaxKind) (c : Sketch) → is_loose k ≡ true → level_of k c ≡ 0
+loose_level : (k : SyntaxKind) (c : AnnotatedForest) → is_loose k ≡ true → level_of k c ≡ 0
 loose_level NODE_UNARY_OP c h = absurd (true_is_not_false (sym h))
 loose_level _ c h = cc
 
 -- and is its own first tree
-loose_first : (k j : SyntaxKind) (t : Token) (r : Sketch) → is_loose k ≡ true → first_tree (one_branch k (token j t r)) ≡ k
+loose_first : (k j : SyntaxKind) (t : Token) (r : AnnotatedForest) → is_loose k ≡ true → first_tree (one_branch k (token j t r)) ≡ k
 loose_first NODE_UNARY_OP j t r h = absurd (true_is_not_false (sym h))
 loose_first _ j t r h = cc
 
 -- what is asked of such a node, by how it begins
 abbrev IsLoose : Begin → SyntaxKind → Option SyntaxKind → Type 0
 IsLoose (b.Node k z high) kind second =
-    (is_expression k ≡ true) × (is_loose k ≡ true) × (is_atom k ≡ false) × (is_error k ≡ false) × (row_at z ≡ Some (is_formal k)) × (go (start k) (told_as k kind) ≡ At z) × (high ≡ 0)
+    (is_expression k ≡ true) × (is_loose k ≡ true) × (is_atom k ≡ false) × (is_error k ≡ false) × (row_at z ≡ Some (is_formal k)) × (advance (start k) (leaf_kind_as k kind) ≡ At z) × (high ≡ 0)
 IsLoose b.LegacyLet kind second = (kind ≡ TOKEN_LET) × (second ≡ Some TOKEN_L_BRACE)
 IsLoose b.Stray kind second = Unit {0}
 IsLoose begin kind second = ⊥

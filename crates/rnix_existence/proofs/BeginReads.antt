@@ -9,20 +9,20 @@ use Rattle.rnix_grammar.specs.declared.place.Place.{Place}
 use Rattle.rnix_grammar.specs.declared.place.Place.TheVariants as p
 use Rattle.rnix_grammar.specs.declared.until.Closer.{Closer}
 use Rattle.rnix_grammar.specs.declared.until.Closer.TheVariants as c
-use Rattle.rnix_grammar.specs.declared.slot.Slot.TheVariants as s
+use Rattle.rnix_grammar.specs.declared.symbol.Symbol.TheVariants as s
 use Rattle.rnix_grammar.specs.declared.action.Action.TheVariants as a
 use Rattle.rnix_grammar.specs.Fault.{Fault, ended, too_deep}
-use Rattle.rnix_grammar.specs.Slots.{slot_at, level_in, is_counted}
+use Rattle.rnix_grammar.specs.Symbols.{symbol_at, level_in, is_counted}
 use Rattle.rnix_grammar.specs.Tables.{closes, depth_limit}
 use Rattle.rnix_grammar.specs.Begins.{begin_of, second_kind}
-use Rattle.rnix_grammar.specs.Sketch.{Token, TooDeep, Sketch, blank, ◌⊕◌, one_fault, row_of, tokens_in, head_kind, end_from}
+use Rattle.rnix_grammar.specs.AnnotatedForest.{Token, TooDeep, AnnotatedForest, blank, ◌⊕◌, one_fault, row_of, tokens_in, head_kind, end_from}
 use Rattle.rnix_grammar.specs.Machine.{Machine, Frame, kind_of, put, operand_on, limited}
-use Rattle.rnix_grammar.specs.Rows.{is_expression, fits, At, to, go_slot, counts}
-use Rattle.rnix_grammar.specs.Missing.{lack, lack_in}
-use Rattle.rnix_grammar.specs.OwnItems.{owns, owns_in, owns_end, stands_owned_in}
-use Rattle.rnix_grammar.specs.Reads.{Reads, lost, wrong, IsRoom, deeper}
+use Rattle.rnix_grammar.specs.Rows.{is_expression, fits, At, to, advance_symbol, counts}
+use Rattle.rnix_grammar.specs.Missing.{missing, missing_in}
+use Rattle.rnix_grammar.specs.ExpectedItems.{expects, expects_in, expects_end, stands_expected_in}
+use Rattle.rnix_grammar.specs.Reads.{Reads, missing_part, wrong, IsRoom, deeper}
 use Rattle.rnix_lemmas.proofs.Basics.{true_is_not_false, not_nil, not_if, none_left, none_right}
-use Rattle.rnix_lemmas.proofs.SketchLemmas.{⊕-blank, tokens_in-row_of}
+use Rattle.rnix_lemmas.proofs.AnnotatedForestLemmas.{⊕-blank, tokens_in-row_of}
 use Rattle.rnix_lemmas.proofs.LevelLemmas.{atom_fits}
 use Rattle.rnix_lemmas.proofs.RunLemmas.{dropped_all}
 use Rattle.rnix_lemmas.proofs.NodeKinds.{fits_expression}
@@ -36,7 +36,7 @@ use Rattle.rnix_existence.proofs.BeginEnds.{BeginEnds}
 use Rattle.rnix_existence.proofs.BeginCases.{begun_ends}
 
 -- an operand that begins as its first items say becomes a whole one
-pub begin_ends : (level d : ℕ) (t : Token) (us : List Token) (g : Frame) (fs : List Frame) (n : ℕ) (gs : List Fault) (row : Sketch) (es : List Fault)
+pub begin_ends : (level d : ℕ) (t : Token) (us : List Token) (g : Frame) (fs : List Frame) (n : ℕ) (gs : List Fault) (row : AnnotatedForest) (es : List Fault)
     → Ends (operand_on false level d g fs (t ∷ us) (t ∷ us) n gs).frames (operand_on false level d g fs (t ∷ us) (t ∷ us) n gs).left
     (operand_on false level d g fs (t ∷ us) (t ∷ us) n gs).reached row es
     → BeginEnds level d g fs (t ∷ us) n row gs ((operand_on false level d g fs (t ∷ us) (t ∷ us) n gs).faults ++ es)
@@ -46,7 +46,7 @@ begin_ends level d t us g fs n gs row es ends =
 
 -- what ends behind some machine ends before it, with the errors in between
 abbrev pub EndsAfter : Machine → Frame → List Frame → List Token → ℕ → List Fault → Type 0
-EndsAfter e f fs ts n gs = (row : Sketch) (es : List Fault) → Ends e.frames e.left e.reached row es → (ds : List Fault) × (Ends (f ∷ fs) ts n row ds × (gs ++ ds ≡ e.faults ++ es))
+EndsAfter e f fs ts n gs = (row : AnnotatedForest) (es : List Fault) → Ends e.frames e.left e.reached row es → (ds : List Fault) × (Ends (f ∷ fs) ts n row ds × (gs ++ ds ≡ e.faults ++ es))
 
 -- no expression is a token that closes a row
 closes_none : (closer : Closer) (k : SyntaxKind) → is_expression k ≡ true → closes closer k ≡ false
@@ -55,27 +55,27 @@ closes_none c.RBrace k h = not_if (closes c.RBrace k) (implied is_expression (λ
 closes_none c.InterpolEnd k h = not_if (closes c.InterpolEnd k) (implied is_expression (λ o. if closes c.InterpolEnd o then false else true) refl k h)
 closes_none c.In k h = not_if (closes c.In k) (implied is_expression (λ o. if closes c.In o then false else true) refl k h)
 
--- an operand of a slot stands at its place
-pub operand_takes : (x : Place) (level : ℕ) (counted : Bool) (y : Place) → slot_at x ≡ s.Operand level counted y → Takes (At x) level (At y)
+-- an operand of a symbol stands at its place
+pub operand_takes : (x : Place) (level : ℕ) (counted : Bool) (y : Place) → symbol_at x ≡ s.Operand level counted y → Takes (At x) level (At y)
 operand_takes x level counted y e = record {
   leveled = λ z h. ap level_in e;
-  owned = λ k d h. ap (λ w. stands_owned_in w k) e;
-  goes = λ k h. ap (λ w. go_slot w x k) e ∙ ap (λ w. to w (At y)) h;
+  expected = λ k d h. ap (λ w. stands_expected_in w k) e;
+  goes = λ k h. ap (λ w. advance_symbol w x k) e ∙ ap (λ w. to w (At y)) h;
   live = refl;
 }
 
 -- so it does where more operands may stand
-pub series_takes : (x : Place) (level : ℕ) (closer : Closer) → slot_at x ≡ s.Series level closer → Takes (At x) level (At x)
+pub series_takes : (x : Place) (level : ℕ) (closer : Closer) → symbol_at x ≡ s.Series level closer → Takes (At x) level (At x)
 series_takes x level closer e = record {
   leveled = λ z h. ap level_in e;
-  owned = λ k d h. ap (λ w. stands_owned_in w k) e;
-  goes = λ k h. ap (λ w. go_slot w x k) e ∙ ap (λ w. if w then At p.Past else to (fits level k) (At x)) (closes_none closer k (fits_expression level k h)) ∙ ap (λ w. to w (At x)) h;
+  expected = λ k d h. ap (λ w. stands_expected_in w k) e;
+  goes = λ k h. ap (λ w. advance_symbol w x k) e ∙ ap (λ w. if w then At p.Past else to (fits level k) (At x)) (closes_none closer k (fits_expression level k h)) ∙ ap (λ w. to w (At x)) h;
   live = refl;
 }
 
 -- an operand in the row of an open frame
 operand_at : (f : Frame) (fs : List Frame) (ts : List Token) (n : ℕ) (gs : List Fault) (level d : ℕ) (y : Place) → is_open f.head ≡ true → Takes (At f.place) level (At y)
-    → d ≡ deeper (At f.place) f.depth → IsRoom (At f.place) f.depth → owns f.place n ts ≡ false → (ts ≡ [] → lack f.place ≡ Some (ended, y))
+    → d ≡ deeper (At f.place) f.depth → IsRoom (At f.place) f.depth → expects f.place n ts ≡ false → (ts ≡ [] → missing f.place ≡ Some (ended, y))
     → EndsAfter (operand_on false level d (put y f.row f) fs ts ts n gs) f fs ts n gs
 operand_at f fs [] n gs level d y o takes e room own missing row es ends =
     (ended ∷ es, (empty, sym (append_assoc gs (ended ∷ []) es)))
@@ -83,9 +83,9 @@ operand_at f fs [] n gs level d y o takes e room own missing row es ends =
     empty : Ends (f ∷ fs) [] n row (ended ∷ es)
     empty =
         prepended f fs [] [] n n row (ended ∷ []) es y blank o refl refl
-        (λ vs s r cs i z. lost (none_right (tokens_in r) vs (sym i)) (none_left (tokens_in r) vs (sym i)) (missing refl) (λ v. room)
-        (subst (λ (b : Sketch). Reads (kind_of f.head) f.depth n (At y) s b vs r cs) (⊕-blank f.row) z) refl)
-        (subst (λ (b : Sketch). Ends (put y b f ∷ fs) [] n row es) (sym (⊕-blank f.row)) ends)
+        (λ vs s r cs i z. missing_part (none_right (tokens_in r) vs (sym i)) (none_left (tokens_in r) vs (sym i)) (missing refl) (λ v. room)
+        (subst (λ (b : AnnotatedForest). Reads (kind_of f.head) f.depth n (At y) s b vs r cs) (⊕-blank f.row) z) refl)
+        (subst (λ (b : AnnotatedForest). Ends (put y b f ∷ fs) [] n row es) (sym (⊕-blank f.row)) ends)
 operand_at f fs (t ∷ us) n gs level d y o takes e room own missing row es ends = (b.inside ++ b.behind, (whole, b.faults))
   where
     b : BeginEnds level d (put y f.row f) fs (t ∷ us) n row gs ((operand_on false level d (put y f.row f) fs (t ∷ us) (t ∷ us) n gs).faults ++ es)
@@ -98,7 +98,7 @@ operand_at f fs (t ∷ us) n gs level d y o takes e room own missing row es ends
 
 -- all that is left is nested too deep
 too_deep_at : (f : Frame) (fs : List Frame) (ts : List Token) (n : ℕ) (gs : List Fault) (level : ℕ) (y : Place) → is_open f.head ≡ true → Takes (At f.place) level (At y)
-    → counts (At f.place) ≡ true → f.depth ≡ depth_limit → owns f.place n ts ≡ false → EndsAfter (limited false (put y f.row f) fs ts n gs) f fs ts n gs
+    → counts (At f.place) ≡ true → f.depth ≡ depth_limit → expects f.place n ts ≡ false → EndsAfter (limited false (put y f.row f) fs ts n gs) f fs ts n gs
 too_deep_at f fs ts n gs level y o takes counted e own row es ends = (too_deep ∷ es, (whole, sym (append_assoc gs (too_deep ∷ []) es)))
   where
     all : tokens_in (one_fault TooDeep (row_of ts)) ≡ ts
@@ -107,7 +107,7 @@ too_deep_at f fs ts n gs level y o takes counted e own row es ends = (too_deep �
     whole : Ends (f ∷ fs) ts n row (too_deep ∷ es)
     whole =
         prepended f fs ts [] n (end_from n ts) row (too_deep ∷ []) es y (one_fault TooDeep (row_of ts)) o (sym (append-nil (tokens_in (one_fault TooDeep (row_of ts))) ∙ all)) (ap (end_from n) (sym all))
-        (λ vs s r cs i z. wrong TooDeep ts refl i (subst (λ (x : List Token). owns f.place n x ≡ false) (sym (append-nil ts)) own) tt
+        (λ vs s r cs i z. wrong TooDeep ts refl i (subst (λ (x : List Token). expects f.place n x ≡ false) (sym (append-nil ts)) own) tt
         (refl, counted, e, takes.goes NODE_LITERAL (atom_fits level NODE_LITERAL refl), refl) refl refl z refl)
         (subst (λ (x : List Token). Ends (put y (f.row ⊕ one_fault TooDeep (row_of ts)) f ∷ fs) x (end_from n ts) row es) (dropped_all ts) ends)
 
@@ -116,7 +116,7 @@ at_limit d h j = grind (arith, nat_tests, h, j)
 
 -- an operand of a level is read where one may stand
 pub reading_ends : (f : Frame) (fs : List Frame) (ts : List Token) (n : ℕ) (gs : List Fault) (level : ℕ) (counted : Bool) (y : Place) → is_open f.head ≡ true → f.depth ≤ depth_limit
-    → Takes (At f.place) level (At y) → counts (At f.place) ≡ counted → owns f.place n ts ≡ false → (ts ≡ [] → lack f.place ≡ Some (ended, y)) → EndsBy (a.Read level counted y) f fs ts n gs
+    → Takes (At f.place) level (At y) → counts (At f.place) ≡ counted → expects f.place n ts ≡ false → (ts ≡ [] → missing f.place ≡ Some (ended, y)) → EndsBy (a.Read level counted y) f fs ts n gs
 reading_ends f fs ts n gs level false y o d takes e own missing =
     operand_at f fs ts n gs level f.depth y o takes (ap (λ w. if w then suc f.depth else f.depth) (sym e)) (λ v. absurd (true_is_not_false (sym v ∙ e))) own missing
 reading_ends f fs ts n gs level true y o d takes e own missing = by (nat_le depth_limit f.depth) refl
@@ -126,18 +126,18 @@ reading_ends f fs ts n gs level true y o d takes e own missing = by (nat_le dept
     by true v = too_deep_at f fs ts n gs level y o takes e (at_limit f.depth v d) own
     by false v = operand_at f fs ts n gs level (suc f.depth) y o takes (ap (λ w. if w then suc f.depth else f.depth) (sym e)) (λ u. below_limit f.depth v) own missing
 
--- the operand of a slot
+-- the operand of a symbol
 pub read_ends : (f : Frame) (fs : List Frame) (ts : List Token) (n : ℕ) (gs : List Fault) (level : ℕ) (counted : Bool) (y : Place) → is_open f.head ≡ true → f.depth ≤ depth_limit
-    → slot_at f.place ≡ s.Operand level counted y → EndsBy (a.Read level counted y) f fs ts n gs
+    → symbol_at f.place ≡ s.Operand level counted y → EndsBy (a.Read level counted y) f fs ts n gs
 read_ends f fs ts n gs level counted y o d e =
-    reading_ends f fs ts n gs level counted y o d (operand_takes f.place level counted y e) (ap is_counted e) (own ts) (λ v. ap lack_in e)
+    reading_ends f fs ts n gs level counted y o d (operand_takes f.place level counted y e) (ap is_counted e) (own ts) (λ v. ap missing_in e)
   where
-    own : (us : List Token) → owns f.place n us ≡ false
-    own [] = ap owns_end e
-    own (t ∷ us) = ap (λ w. owns_in w (nat_eq t.start n) t.kind) e
+    own : (us : List Token) → expects f.place n us ≡ false
+    own [] = ap expects_end e
+    own (t ∷ us) = ap (λ w. expects_in w (nat_eq t.start n) t.kind) e
 
 -- one more operand, where the next item does not close the row
 pub series_ends : (f : Frame) (fs : List Frame) (t : Token) (ts : List Token) (n : ℕ) (gs : List Fault) (level : ℕ) (closer : Closer) → is_open f.head ≡ true → f.depth ≤ depth_limit
-    → slot_at f.place ≡ s.Series level closer → closes closer t.kind ≡ false → EndsBy (a.Read level true f.place) f fs (t ∷ ts) n gs
+    → symbol_at f.place ≡ s.Series level closer → closes closer t.kind ≡ false → EndsBy (a.Read level true f.place) f fs (t ∷ ts) n gs
 series_ends f fs t ts n gs level closer o d e h =
-    reading_ends f fs (t ∷ ts) n gs level true f.place o d (series_takes f.place level closer e) (ap is_counted e) (ap (λ w. owns_in w (nat_eq t.start n) t.kind) e ∙ h) (λ v. absurd (not_nil v))
+    reading_ends f fs (t ∷ ts) n gs level true f.place o d (series_takes f.place level closer e) (ap is_counted e) (ap (λ w. expects_in w (nat_eq t.start n) t.kind) e ∙ h) (λ v. absurd (not_nil v))

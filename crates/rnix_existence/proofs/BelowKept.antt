@@ -3,26 +3,26 @@ use Rattle.std.proofs.Common.{◌≡◌, ℕ, List, [], ◌∷◌, refl, sym, �
 use Rattle.rnix_kinds.specs.declared.kinds.SyntaxKind.{SyntaxKind}
 use Rattle.rnix_grammar.specs.declared.place.Place.{Place}
 use Rattle.rnix_grammar.specs.Fault.{Fault}
-use Rattle.rnix_grammar.specs.Sketch.{Token, Sketch, ◌⊕◌, one_branch}
+use Rattle.rnix_grammar.specs.AnnotatedForest.{Token, AnnotatedForest, ◌⊕◌, one_branch}
 use Rattle.rnix_grammar.specs.Machine.{Frame, put, made, closed}
-use Rattle.rnix_lemmas.proofs.SketchLemmas.{⊕-assoc}
+use Rattle.rnix_lemmas.proofs.AnnotatedForestLemmas.{⊕-assoc}
 use Rattle.rnix_existence.proofs.Frames.{row_at, MayGrow, Above, One, Other, Below, no_frame, a_row, an_operand, AtNode, Reading, node}
 
 -- more trees in its row change nothing below an open node
-below_more : {k : SyntaxKind} {row : Sketch} {fs : List Frame} (x : Sketch) → Below (One k row) fs → Below (One k (row ⊕ x)) fs
+below_more : {k : SyntaxKind} {row : AnnotatedForest} {fs : List Frame} (x : AnnotatedForest) → Below (One k row) fs → Below (One k (row ⊕ x)) fs
 below_more x no_frame = no_frame
 below_more x (a_row j n b) = a_row j n b
 below_more {k = k} {row = row} x (an_operand low high h e m d grows b) =
-    an_operand low high h e m d (λ rest. subst (λ (z : Sketch). MayGrow low high (one_branch k z)) (sym (⊕-assoc row x rest)) (grows (x ⊕ rest))) b
+    an_operand low high h e m d (λ rest. subst (λ (z : AnnotatedForest). MayGrow low high (one_branch k z)) (sym (⊕-assoc row x rest)) (grows (x ⊕ rest))) b
 
 -- a node goes on at another place of its row
-went : (f : Frame) (fs : List Frame) (y : Place) (row : Sketch) (r : AtNode f fs) → row_at y ≡ row_at f.place → Below (One r.kind row) fs
+went : (f : Frame) (fs : List Frame) (y : Place) (row : AnnotatedForest) (r : AtNode f fs) → row_at y ≡ row_at f.place → Below (One r.kind row) fs
     → AtNode (put y row f) fs
 went f fs y row r l b =
     record { kind = r.kind; node = record { is = r.node.is; sound = r.node.sound; home = l ∙ r.node.home; shallow = r.node.shallow }; below = b }
 
 -- with more trees
-pub grown : (f : Frame) (fs : List Frame) (y : Place) (x : Sketch) → AtNode f fs → row_at y ≡ row_at f.place → AtNode (put y (f.row ⊕ x) f) fs
+pub grown : (f : Frame) (fs : List Frame) (y : Place) (x : AnnotatedForest) → AtNode f fs → row_at y ≡ row_at f.place → AtNode (put y (f.row ⊕ x) f) fs
 grown f fs y x r l = went f fs y (f.row ⊕ x) r l (below_more x r.below)
 
 -- with the same trees

@@ -4,9 +4,9 @@ use Rattle.std.specs.Prelude.{if◌then◌else◌, nat_le}
 use Rattle.rnix_kinds.specs.declared.kinds.SyntaxKind.{SyntaxKind}
 use Rattle.rnix_grammar.specs.declared.place.Place.{Place}
 use Rattle.rnix_grammar.specs.declared.place.Place.TheVariants as p
-use Rattle.rnix_grammar.specs.Levels.{power, left_of}
+use Rattle.rnix_grammar.specs.Levels.{binding_power, left_of}
 use Rattle.rnix_grammar.specs.Tables.{depth_limit}
-use Rattle.rnix_grammar.specs.Sketch.{Sketch, blank, ◌⊕◌, one_branch}
+use Rattle.rnix_grammar.specs.AnnotatedForest.{AnnotatedForest, blank, ◌⊕◌, one_branch}
 use Rattle.rnix_grammar.specs.Machine.{Head, Node, Second, Operand, Frame}
 use Rattle.rnix_grammar.specs.Rows.{is_atom, is_simple, is_questioned, is_operand, is_infix, fits}
 use Rattle.rnix_grammar.specs.TreeLevels.{row_level, is_or_row}
@@ -27,14 +27,14 @@ row_at (p.Behind low high) = None
 row_at place = Some false
 
 -- One tree may be an operand of a level, and go on with what binds no tighter than another level.
-pub record MayGrow (low high : ℕ) (x : Sketch) : Type 0 where
+pub record MayGrow (low high : ℕ) (x : AnnotatedForest) : Type 0 where
   pub fit : fits low (seen_kind x) ≡ true
   pub atom : 16 ≤ high → is_atom (seen_kind x) ≡ true
   pub simple : 15 ≤ high → is_simple (seen_kind x) ≡ true
   pub questioned : 13 ≤ high → is_questioned (seen_kind x) ≡ true
   pub operand : 1 ≤ high → is_operand (seen_kind x) ≡ true
   pub least : low ≤ row_level x
-  pub left : (j : SyntaxKind) → is_infix j ≡ true → power j ≤ high → left_of j ≤ row_level x
+  pub left : (j : SyntaxKind) → is_infix j ≡ true → binding_power j ≤ high → left_of j ≤ row_level x
   pub asked : 13 ≤ high → 13 ≤ row_level x
   pub called : 15 ≤ high → 15 ≤ row_level x
   pub no_or : is_or_row x ≡ false
@@ -48,16 +48,16 @@ pub record IsNode (head : Head) (place : Place) (depth : ℕ) (k : SyntaxKind) :
 
 -- what stands on some frames: an open node of a kind with its row so far, or an operand or a second name
 pub data Above : Type 0 where
-  One : SyntaxKind → Sketch → Above
+  One : SyntaxKind → AnnotatedForest → Above
   Other : Above
 
 -- The frames below: nodes, and operands of which an open node becomes the first tree, whatever it holds in the end.
 pub data Below : Above → List Frame → Type 0 where
-  no_frame : {k : SyntaxKind} {row : Sketch} → Below (One k row) []
+  no_frame : {k : SyntaxKind} {row : AnnotatedForest} → Below (One k row) []
   a_row : {w : Above} {f : Frame} {fs : List Frame} (k : SyntaxKind) → IsNode f.head f.place f.depth k → Below (One k f.row) fs → Below w (f ∷ fs)
-  an_operand : {k : SyntaxKind} {row : Sketch} {f : Frame} {fs : List Frame} (low high : ℕ)
+  an_operand : {k : SyntaxKind} {row : AnnotatedForest} {f : Frame} {fs : List Frame} (low high : ℕ)
       → f.head ≡ Operand → f.place ≡ p.Behind low high → f.row ≡ blank → f.depth ≤ depth_limit
-      → ((rest : Sketch) → MayGrow low high (one_branch k (row ⊕ rest))) → Below Other fs → Below (One k row) (f ∷ fs)
+      → ((rest : AnnotatedForest) → MayGrow low high (one_branch k (row ⊕ rest))) → Below Other fs → Below (One k row) (f ∷ fs)
 
 -- the innermost frame is a node
 pub record AtNode (f : Frame) (fs : List Frame) : Type 0 where

@@ -4,8 +4,8 @@ use Rattle.std.specs.Prelude.{if◌then◌else◌, nat_eq, nat_le}
 use Rattle.std.proofs.lemmas.Bool.Decides.{nat_tests}
 use Rattle.rnix_kinds.specs.declared.kinds.SyntaxKind.{SyntaxKind}
 use Rattle.rnix_kinds.specs.declared.kinds.SyntaxKind.TheVariants.{NODE_BIN_OP, NODE_HAS_ATTR, NODE_IDENT, NODE_UNARY_OP}
-use Rattle.rnix_grammar.specs.Levels.{power, high_of}
-use Rattle.rnix_grammar.specs.Sketch.{Sketch, one_branch}
+use Rattle.rnix_grammar.specs.Levels.{binding_power, high_of}
+use Rattle.rnix_grammar.specs.AnnotatedForest.{AnnotatedForest, one_branch}
 use Rattle.rnix_grammar.specs.Rows.{is_atom, is_simple, is_questioned, is_infix, is_expression, fits}
 use Rattle.rnix_grammar.specs.TreeLevels.{row_level, is_or_row}
 use Rattle.rnix_lemmas.proofs.Basics.{true_is_not_false}
@@ -15,12 +15,12 @@ use Rattle.rnix_existence.proofs.OpenFrames.{seen_kind}
 use Rattle.rnix_existence.proofs.Frames.{MayGrow}
 
 -- a node whose leaves keep their tokens' kinds is not the name `or`
-pub no_name : (k : SyntaxKind) (c : Sketch) → is_error k ≡ false → is_or_row (one_branch k c) ≡ false
+pub no_name : (k : SyntaxKind) (c : AnnotatedForest) → is_error k ≡ false → is_or_row (one_branch k c) ≡ false
 no_name NODE_IDENT c h = absurd (true_is_not_false h)
 no_name _ c h = refl
 
 -- an atom goes on with everything
-pub atom_grows : (low : ℕ) (x : Sketch) → is_atom (seen_kind x) ≡ true → row_level x ≡ 16 → is_or_row x ≡ false → low ≤ 16 → MayGrow low 16 x
+pub atom_grows : (low : ℕ) (x : AnnotatedForest) → is_atom (seen_kind x) ≡ true → row_level x ≡ 16 → is_or_row x ≡ false → low ≤ 16 → MayGrow low 16 x
 atom_grows low x h v o l = record {
   fit = atom_fits low (seen_kind x) h;
   atom = λ m. h;
@@ -35,7 +35,7 @@ atom_grows low x h v o l = record {
 }
 
 -- a selection or a call goes on with arguments, and with what is looser
-pub simple_grows : (low : ℕ) (x : Sketch) → is_simple (seen_kind x) ≡ true → low ≤ row_level x → 15 ≤ row_level x → is_or_row x ≡ false
+pub simple_grows : (low : ℕ) (x : AnnotatedForest) → is_simple (seen_kind x) ≡ true → low ≤ row_level x → 15 ≤ row_level x → is_or_row x ≡ false
     → MayGrow low 15 x
 simple_grows low x h l v o = record {
   fit = simple_fits low (seen_kind x) h;
@@ -51,7 +51,7 @@ simple_grows low x h l v o = record {
 }
 
 -- a prefix operator goes on with what is looser than its operand
-pub prefix_grows : (low high : ℕ) (x : Sketch) → fits low (seen_kind x) ≡ true → is_questioned (seen_kind x) ≡ true → row_level x ≡ suc high
+pub prefix_grows : (low high : ℕ) (x : AnnotatedForest) → fits low (seen_kind x) ≡ true → is_questioned (seen_kind x) ≡ true → row_level x ≡ suc high
     → low ≤ suc high → high ≤ 13
     → is_or_row x ≡ false → MayGrow low high x
 prefix_grows low high x f h v l w o = record {
@@ -80,7 +80,7 @@ prefix_fits n h = by (nat_eq n 0) (nat_le n 12) (nat_eq n 13) (nat_eq n 14) refl
     by false false false false e f g = absurd (grind (arith, nat_tests, h, e, f, g))
 
 -- what reaches as far as it can goes on with nothing
-pub loose_grows : (low : ℕ) (x : Sketch) → low ≡ 0 → is_expression (seen_kind x) ≡ true → is_or_row x ≡ false → MayGrow low 0 x
+pub loose_grows : (low : ℕ) (x : AnnotatedForest) → low ≡ 0 → is_expression (seen_kind x) ≡ true → is_or_row x ≡ false → MayGrow low 0 x
 loose_grows low x e h o = record {
   fit = subst (λ (n : ℕ). fits n (seen_kind x) ≡ true) (sym e) h;
   atom = λ m. absurd (omega (arith, m));
@@ -95,7 +95,7 @@ loose_grows low x e h o = record {
 }
 
 -- a test for an attribute goes on with operators and with another test
-pub question_grows : (low : ℕ) (c : Sketch) → low ≤ 13 → MayGrow low 13 (one_branch NODE_HAS_ATTR c)
+pub question_grows : (low : ℕ) (c : AnnotatedForest) → low ≤ 13 → MayGrow low 13 (one_branch NODE_HAS_ATTR c)
 question_grows low c l = record {
   fit = by (nat_eq low 0) (nat_le low 12) (nat_eq low 13) (nat_eq low 14) refl refl;
   atom = λ m. absurd (omega (arith, m));
@@ -117,7 +117,7 @@ question_grows low c l = record {
     by false false false x e f = absurd (grind (arith, nat_tests, l, e, f))
 
 -- the tree of a binary operator is continued by operators up to the operator's `high_of`
-pub operator_grows : (low : ℕ) (k : SyntaxKind) (c : Sketch) → is_infix k ≡ true → low ≤ power k → row_level (one_branch NODE_BIN_OP c) ≡ power k
+pub operator_grows : (low : ℕ) (k : SyntaxKind) (c : AnnotatedForest) → is_infix k ≡ true → low ≤ binding_power k → row_level (one_branch NODE_BIN_OP c) ≡ binding_power k
     → MayGrow low (high_of k) (one_branch NODE_BIN_OP c)
 operator_grows low k c i l v = record {
   fit = by (nat_eq low 0) (nat_le low 12) (nat_eq low 13) (nat_eq low 14) refl;

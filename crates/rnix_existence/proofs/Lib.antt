@@ -10,8 +10,8 @@ pub mod OperandKept
 pub mod RowFronts
 pub mod RowSteps
 pub mod NodeOpens
-pub mod SlotSteps
-pub mod SlotTable
+pub mod SymbolSteps
+pub mod SymbolTable
 pub mod AttrTable
 pub mod PatternTable
 pub mod OperandTrees

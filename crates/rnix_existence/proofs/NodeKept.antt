@@ -9,12 +9,12 @@ use Rattle.rnix_grammar.specs.declared.action.Action.{Action}
 use Rattle.rnix_grammar.specs.declared.action.Action.TheVariants as a
 use Rattle.rnix_grammar.specs.Fault.{Fault}
 use Rattle.rnix_grammar.specs.Actions.{action_at, name_action}
-use Rattle.rnix_grammar.specs.Sketch.{Token, Extra, Twice, Unwanted, Sketch, blank, ◌⊕◌, one_branch, one_fault, row_of, tokens_in, head_kind}
+use Rattle.rnix_grammar.specs.AnnotatedForest.{Token, Extra, Twice, Unwanted, AnnotatedForest, blank, ◌⊕◌, one_branch, one_fault, row_of, tokens_in, head_kind}
 use Rattle.rnix_grammar.specs.Machine.{Node, Frame, put, opened, leaf, kind_of, made, closed, entry_closed, perform}
 use Rattle.rnix_grammar.specs.Missing.{run_of}
 use Rattle.rnix_grammar.specs.Reports.{report, repeated}
 use Rattle.rnix_lemmas.proofs.LevelLemmas.{at_most}
-use Rattle.rnix_lemmas.proofs.SketchLemmas.{⊕-blank}
+use Rattle.rnix_lemmas.proofs.AnnotatedForestLemmas.{⊕-blank}
 use Rattle.rnix_lemmas.proofs.FirstTrees.{IsSingle, a_node}
 use Rattle.rnix_lemmas.proofs.NestTrees.{is_formal}
 use Rattle.rnix_existence.proofs.Frames.{row_at, MayGrow, One, Below, a_row, an_operand, AtNode, AtSecond, Reading, node, operand, second}
@@ -23,7 +23,7 @@ use Rattle.rnix_existence.proofs.BelowKept.{grown, stayed, waits, landed_kept}
 use Rattle.rnix_existence.proofs.BeginKept.{reading_kept}
 
 -- a node opens at a place for it
-opened_kept : (f : Frame) (fs : List Frame) (k : SyntaxKind) (z y : Place) (x : Sketch) → AtNode f fs → IsRow k z → row_at y ≡ row_at f.place
+opened_kept : (f : Frame) (fs : List Frame) (k : SyntaxKind) (z y : Place) (x : AnnotatedForest) → AtNode f fs → IsRow k z → row_at y ≡ row_at f.place
     → Reading (opened (Node k) z f.depth x ∷ (put y f.row f ∷ fs))
 opened_kept f fs k z y x r i l = node (record {
   kind = k;
@@ -36,7 +36,7 @@ closed_kept : (f : Frame) (fs : List Frame) (ts : List Token) (n : ℕ) (gs : Li
 closed_kept f [] ts n gs r = node r
 closed_kept f (g ∷ fs) ts n gs r = by r.below (ap (λ h. made h f.row) r.node.is)
   where
-    by : {k : SyntaxKind} {row : Sketch} → Below (One k row) (g ∷ fs) → made f.head f.row ≡ one_branch k row
+    by : {k : SyntaxKind} {row : AnnotatedForest} → Below (One k row) (g ∷ fs) → made f.head f.row ≡ one_branch k row
         → Reading (put g.place (g.row ⊕ made f.head f.row) g ∷ fs)
     by (a_row j i b) e = landed_kept f (g ∷ fs) ts n gs (a_row j i b)
     by {k = k} {row = row} (an_operand low high h x m d grows b) e =
@@ -47,7 +47,7 @@ closed_kept f (g ∷ fs) ts n gs r = by r.below (ap (λ h. made h f.row) r.node.
           head = h;
           place = x;
           single = subst IsSingle same a_node;
-          grows = subst (MayGrow low high) same (subst (λ (z : Sketch). MayGrow low high (one_branch k z)) (⊕-blank row) (grows blank));
+          grows = subst (MayGrow low high) same (subst (λ (z : AnnotatedForest). MayGrow low high (one_branch k z)) (⊕-blank row) (grows blank));
           shallow = d;
           below = b;
         })
@@ -95,7 +95,7 @@ pub second_kept : (f : Frame) (fs : List Frame) (ts : List Token) (n : ℕ) (gs 
     → Reading (perform false (action_at f.place (head_kind ts) touch) f fs ts n gs).frames
 second_kept f fs ts n gs touch r = by r.place
   where
-    again : (y : Place) (row : Sketch) → (y ≡ p.TwiceName) ⊎ (y ≡ p.TwicePast) → Reading (put y row f ∷ fs)
+    again : (y : Place) (row : AnnotatedForest) → (y ≡ p.TwiceName) ⊎ (y ≡ p.TwicePast) → Reading (put y row f ∷ fs)
     again y row h = second (record { head = r.head; place = h; below = r.below })
 
     named : (next : Option SyntaxKind) → Reading (perform false (name_action p.TwiceName p.TwicePast next) f fs ts n gs).frames

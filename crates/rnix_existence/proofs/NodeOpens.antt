@@ -7,16 +7,16 @@ use Rattle.rnix_grammar.specs.declared.place.Place.{Place}
 use Rattle.rnix_grammar.specs.declared.place.Place.TheVariants as p
 use Rattle.rnix_grammar.specs.declared.action.Action.TheVariants as a
 use Rattle.rnix_grammar.specs.Fault.{Fault}
-use Rattle.rnix_grammar.specs.Slots.{slot_at, level_in}
-use Rattle.rnix_grammar.specs.Sketch.{Token, Twice, Sketch, blank, token, ◌⊕◌, one_token, one_branch, one_fault, tokens_in, told, told_as, end_from}
+use Rattle.rnix_grammar.specs.Symbols.{symbol_at, level_in}
+use Rattle.rnix_grammar.specs.AnnotatedForest.{Token, Twice, AnnotatedForest, blank, token, ◌⊕◌, one_token, one_branch, one_fault, tokens_in, leaf_kind, leaf_kind_as, end_from}
 use Rattle.rnix_grammar.specs.Reports.{report, repeated, repeats}
 use Rattle.rnix_grammar.specs.Machine.{Head, Node, Second, Frame, opened, put, made, closed}
-use Rattle.rnix_grammar.specs.Rows.{Spot, Start, SecondStart, At, go, first, start, counts}
+use Rattle.rnix_grammar.specs.Rows.{RowState, Start, SecondStart, At, advance, first, start, counts}
 use Rattle.rnix_grammar.specs.Operands.{IsOperand}
-use Rattle.rnix_grammar.specs.OwnItems.{owns, stands_owned_in}
+use Rattle.rnix_grammar.specs.ExpectedItems.{expects, stands_expected_in}
 use Rattle.rnix_grammar.specs.Reads.{Reads, IsOver, end, leaf, second, inner}
 use Rattle.rnix_lemmas.proofs.Basics.{true_is_not_false}
-use Rattle.rnix_lemmas.proofs.SketchLemmas.{⊕-blank, tokens_two}
+use Rattle.rnix_lemmas.proofs.AnnotatedForestLemmas.{⊕-blank, tokens_two}
 use Rattle.rnix_lemmas.proofs.OpenHeads.{is_open}
 use Rattle.rnix_existence.proofs.OpenFrames.{closing, Ends, open_frame, EndsBy}
 use Rattle.rnix_existence.proofs.RowFronts.{end_two, prepended}
@@ -24,10 +24,10 @@ use Rattle.rnix_existence.proofs.OperandEnds.{OpenEnds, open_ends}
 use Rattle.rnix_existence.proofs.RowSteps.{past_over}
 
 -- a node that begins at a place for it
-pub opens_by : (f : Frame) (fs : List Frame) (ts us : List Token) (n m : ℕ) (row : Sketch) (es : List Fault) (k : SyntaxKind) (z y : Place) (x : Sketch)
+pub opens_by : (f : Frame) (fs : List Frame) (ts us : List Token) (n m : ℕ) (row : AnnotatedForest) (es : List Fault) (k : SyntaxKind) (z y : Place) (x : AnnotatedForest)
     → is_open f.head ≡ true → ts ≡ tokens_in x ++ us → m ≡ end_from n (tokens_in x)
-    → ((vs : List Token) (s : Spot) (r : Sketch) (cs : List Fault) → us ≡ tokens_in r ++ vs → Reads k f.depth m (At z) s x vs r cs → Reads k f.depth n (start k) s blank vs (x ⊕ r) cs)
-    → counts (At f.place) ≡ false → level_in (slot_at f.place) ≡ None → owns f.place n ts ≡ stands_owned_in (slot_at f.place) k → go (At f.place) k ≡ At y
+    → ((vs : List Token) (s : RowState) (r : AnnotatedForest) (cs : List Fault) → us ≡ tokens_in r ++ vs → Reads k f.depth m (At z) s x vs r cs → Reads k f.depth n (start k) s blank vs (x ⊕ r) cs)
+    → counts (At f.place) ≡ false → level_in (symbol_at f.place) ≡ None → expects f.place n ts ≡ stands_expected_in (symbol_at f.place) k → advance (At f.place) k ≡ At y
     → Ends (opened (Node k) z f.depth x ∷ (put y f.row f ∷ fs)) us m row es → Ends (f ∷ fs) ts n row es
 opens_by f fs ts us n m row es k z y x o e l reads c v w g ends = by (open_ends (opened (Node k) z f.depth x) (put y f.row f) fs us m row es refl ends)
   where
@@ -40,45 +40,45 @@ opens_by f fs ts us n m row es k z y x o e l reads c v w g ends = by (open_ends 
         (prepended f fs ts q.left n q.reached row (q.inside ++ repeats k f.row (x ⊕ q.rest)) q.behind y (one_branch k (x ⊕ q.rest)) o
         (all ∙ ap (λ z. z ++ q.left) (sym (append-nil (tokens_in (x ⊕ q.rest))))) (reach ∙ ap (end_from n) (sym (append-nil (tokens_in (x ⊕ q.rest)))))
         (λ vs s r cs h i. inner h all
-        (subst (λ (z : Bool). Reads k (if z then suc f.depth else f.depth) n (start k) q.spot blank q.left (x ⊕ q.rest) q.inside) (sym c) (reads q.left q.spot q.rest q.inside q.items q.reads))
+        (subst (λ (z : Bool). Reads k (if z then suc f.depth else f.depth) n (start k) q.row_state blank q.left (x ⊕ q.rest) q.inside) (sym c) (reads q.left q.row_state q.rest q.inside q.items q.reads))
         reach q.over w (λ x. absurd (true_is_not_false (sym x ∙ c))) tt (subst (λ (z : Option ℕ). IsOperand z (one_branch k (x ⊕ q.rest)) q.left) (sym v) tt) g refl refl i refl) q.ends)
 
 -- a node opens with the next item
 pub opens : (f : Frame) (fs : List Frame) (t : Token) (ts : List Token) (n : ℕ) (gs : List Fault) (k : SyntaxKind) (z y : Place)
-    → is_open f.head ≡ true → start k ≡ Start k → go (Start k) (told k t) ≡ At z → counts (At f.place) ≡ false → level_in (slot_at f.place) ≡ None
-    → owns f.place n (t ∷ ts) ≡ stands_owned_in (slot_at f.place) k → go (At f.place) k ≡ At y → EndsBy (a.Open k z y) f fs (t ∷ ts) n gs
+    → is_open f.head ≡ true → start k ≡ Start k → advance (Start k) (leaf_kind k t) ≡ At z → counts (At f.place) ≡ false → level_in (symbol_at f.place) ≡ None
+    → expects f.place n (t ∷ ts) ≡ stands_expected_in (symbol_at f.place) k → advance (At f.place) k ≡ At y → EndsBy (a.Open k z y) f fs (t ∷ ts) n gs
 opens f fs t ts n gs k z y o e i c v w g row es ends = (
   es,
   (
-    opens_by f fs (t ∷ ts) ts n t.end row es k z y (one_token (told k t) t) o refl refl
-        (λ vs s r cs h q. subst (λ (x : Spot). Reads k f.depth n x s blank vs (token (told k t) t r) cs) (sym e) (leaf refl h tt tt i refl refl refl q)) c v w g ends,
+    opens_by f fs (t ∷ ts) ts n t.end row es k z y (one_token (leaf_kind k t) t) o refl refl
+        (λ vs s r cs h q. subst (λ (x : RowState). Reads k f.depth n x s blank vs (token (leaf_kind k t) t r) cs) (sym e) (leaf refl h tt tt i refl refl refl q)) c v w g ends,
     refl,
   ),
 )
 
 -- a node begins with nothing read
 pub begins_node : (f : Frame) (fs : List Frame) (ts : List Token) (n : ℕ) (gs : List Fault) (k : SyntaxKind) (z y : Place)
-    → is_open f.head ≡ true → start k ≡ At z → counts (At f.place) ≡ false → level_in (slot_at f.place) ≡ None
-    → owns f.place n ts ≡ stands_owned_in (slot_at f.place) k → go (At f.place) k ≡ At y → EndsBy (a.Begin k z y) f fs ts n gs
+    → is_open f.head ≡ true → start k ≡ At z → counts (At f.place) ≡ false → level_in (symbol_at f.place) ≡ None
+    → expects f.place n ts ≡ stands_expected_in (symbol_at f.place) k → advance (At f.place) k ≡ At y → EndsBy (a.Begin k z y) f fs ts n gs
 begins_node f fs ts n gs k z y o i c v w g row es ends = (
   es,
   (
     opens_by f fs ts ts n n row es k z y blank o refl refl
-        (λ vs s r cs h q. subst (λ (x : Spot). Reads k f.depth n x s blank vs r cs) (sym i) q) c v w g ends,
+        (λ vs s r cs h q. subst (λ (x : RowState). Reads k f.depth n x s blank vs r cs) (sym i) q) c v w g ends,
     refl,
   ),
 )
 
 -- an entry of a pattern begins with its name
 pub begins_entry : (f : Frame) (fs : List Frame) (t : Token) (ts : List Token) (n : ℕ) (gs : List Fault) (y : Place)
-    → is_open f.head ≡ true → t.kind ≡ TOKEN_IDENT → counts (At f.place) ≡ false → level_in (slot_at f.place) ≡ None
-    → owns f.place n (t ∷ ts) ≡ stands_owned_in (slot_at f.place) NODE_PAT_ENTRY → go (At f.place) NODE_PAT_ENTRY ≡ At y → EndsBy (a.Entry y) f fs (t ∷ ts) n gs
+    → is_open f.head ≡ true → t.kind ≡ TOKEN_IDENT → counts (At f.place) ≡ false → level_in (symbol_at f.place) ≡ None
+    → expects f.place n (t ∷ ts) ≡ stands_expected_in (symbol_at f.place) NODE_PAT_ENTRY → advance (At f.place) NODE_PAT_ENTRY ≡ At y → EndsBy (a.Entry y) f fs (t ∷ ts) n gs
 begins_entry f fs t ts n gs y o i c v w g row es ends =
-    let x : Sketch = one_branch NODE_IDENT (one_token (told NODE_IDENT t) t) in (
+    let x : AnnotatedForest = one_branch NODE_IDENT (one_token (leaf_kind NODE_IDENT t) t) in (
       es,
       (
         opens_by f fs (t ∷ ts) ts n t.end row es NODE_PAT_ENTRY p.EntryMore y x o refl refl
-            (λ vs s r cs h q. inner h refl (leaf refl refl tt tt (ap (λ z. first NODE_IDENT (told_as NODE_IDENT z)) i) refl refl refl end) refl (refl, past_over t.end ts) tt
+            (λ vs s r cs h q. inner h refl (leaf refl refl tt tt (ap (λ z. first NODE_IDENT (leaf_kind_as NODE_IDENT z)) i) refl refl refl end) refl (refl, past_over t.end ts) tt
             (λ z. absurd (true_is_not_false (sym z))) tt tt refl refl refl q refl) c v w g ends,
         refl,
       ),
@@ -90,7 +90,7 @@ pub begins_second : (f : Frame) (fs : List Frame) (t : Token) (ts : List Token) 
 begins_second f fs t ts n gs o i j row es ends =
     (es, (by (open_ends (opened Second p.TwiceName f.depth x) (put p.PatternPast f.row f) fs ts t.end row es refl ends), refl))
   where
-    x : Sketch
+    x : AnnotatedForest
     x = one_token t.kind t
 
     by : OpenEnds (opened Second p.TwiceName f.depth x) (put p.PatternPast f.row f) fs ts t.end row es → Ends (f ∷ fs) (t ∷ ts) n row es
@@ -101,19 +101,19 @@ begins_second f fs t ts n gs o i j row es ends =
         subst (λ (z : List Fault). Ends (f ∷ fs) (t ∷ ts) n row z) (sym (q.faults ∙ sym (append_assoc q.inside (report Twice (t ∷ tokens_in q.rest) ∷ []) q.behind)))
         (prepended f fs (t ∷ ts) q.left n q.reached row found q.behind p.PatternPast (one_fault Twice (x ⊕ q.rest)) o
         (all ∙ ap (λ z. z ++ q.left) same) (q.reach ∙ ap (end_from n) same)
-        (λ vs s r cs h w. second h (leaf refl q.items tt tt (ap (λ z. go SecondStart z) j) refl refl refl q.reads) q.reach q.over (ap At i) refl refl w refl) q.ends)
+        (λ vs s r cs h w. second h (leaf refl q.items tt tt (ap (λ z. advance SecondStart z) j) refl refl refl q.reads) q.reach q.over (ap At i) refl refl w refl) q.ends)
 
 -- a row that is complete goes to the frame below
-pub closes_by : (f g : Frame) (fs : List Frame) (ts : List Token) (n : ℕ) (row : Sketch) (es : List Fault)
+pub closes_by : (f g : Frame) (fs : List Frame) (ts : List Token) (n : ℕ) (row : AnnotatedForest) (es : List Fault)
     → is_open f.head ≡ true → IsOver (At f.place) n ts → Ends (put g.place (g.row ⊕ made f.head f.row) g ∷ fs) ts n row es
     → Ends (f ∷ (g ∷ fs)) ts n row (closing f.head g.row f.row ++ es)
 closes_by f g fs ts n row es o w ends =
-    open_frame o end refl refl w (subst (λ (z : Sketch). Ends (put g.place (g.row ⊕ made f.head z) g ∷ fs) ts n row es) (sym (⊕-blank f.row)) ends)
+    open_frame o end refl refl w (subst (λ (z : AnnotatedForest). Ends (put g.place (g.row ⊕ made f.head z) g ∷ fs) ts n row es) (sym (⊕-blank f.row)) ends)
     (ap (λ z. closing f.head g.row z ++ es) (sym (⊕-blank f.row)))
 
 -- a node is complete that repeats no name
 pub closes : (f : Frame) (fs : List Frame) (ts : List Token) (n : ℕ) (gs : List Fault)
-    → is_open f.head ≡ true → IsOver (At f.place) n ts → ((b c : Sketch) → closing f.head b c ≡ []) → (row : Sketch) (es : List Fault)
+    → is_open f.head ≡ true → IsOver (At f.place) n ts → ((b c : AnnotatedForest) → closing f.head b c ≡ []) → (row : AnnotatedForest) (es : List Fault)
     → Ends (closed f fs ts n gs).frames (closed f fs ts n gs).left (closed f fs ts n gs).reached row es
     → (ds : List Fault) × (Ends (f ∷ fs) ts n row ds × (gs ++ ds ≡ (closed f fs ts n gs).faults ++ es))
 closes f [] ts n gs o w e row es ends = (es, (ends, refl))

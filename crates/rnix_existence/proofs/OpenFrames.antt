@@ -5,10 +5,10 @@ use Rattle.rnix_kinds.specs.declared.kinds.SyntaxKind.TheVariants.{NODE_ROOT, NO
 use Rattle.rnix_grammar.specs.declared.place.Place.TheVariants as p
 use Rattle.rnix_grammar.specs.declared.action.Action.{Action}
 use Rattle.rnix_grammar.specs.Fault.{Fault}
-use Rattle.rnix_grammar.specs.Sketch.{Token, Stray, Twice, Sketch, blank, branch, ◌⊕◌, one_branch, one_fault, row_of, tokens_in, end_from}
+use Rattle.rnix_grammar.specs.AnnotatedForest.{Token, Stray, Twice, AnnotatedForest, blank, branch, ◌⊕◌, one_branch, one_fault, row_of, tokens_in, end_from}
 use Rattle.rnix_grammar.specs.Reports.{report, repeats}
 use Rattle.rnix_grammar.specs.Machine.{Head, Node, Second, Operand, Frame, put, kind_of, made, perform}
-use Rattle.rnix_grammar.specs.Rows.{fits, Spot, At, start}
+use Rattle.rnix_grammar.specs.Rows.{fits, RowState, At, start}
 use Rattle.rnix_grammar.specs.TreeLevels.{row_level, is_or_row}
 use Rattle.rnix_grammar.specs.Operands.{first_tree, goes_on}
 use Rattle.rnix_grammar.specs.Reads.{Reads, IsOver}
@@ -16,18 +16,18 @@ use Rattle.rnix_lemmas.proofs.FollowLemmas.{Stops}
 use Rattle.rnix_lemmas.proofs.OpenHeads.{is_open}
 
 -- the kind by which a row goes on behind a tree: an error node counts as a literal
-abbrev pub seen_kind : Sketch → SyntaxKind
+abbrev pub seen_kind : AnnotatedForest → SyntaxKind
 seen_kind (branch k c f) = k
 seen_kind f = NODE_LITERAL
 
 -- One tree that may be an operand, inside so many counted places, with its errors: the item before it ends at n, these items come after it.
-pub data Lone (d n : ℕ) : Sketch → List Token → List Fault → Type 0 where
-  a_node : {m : ℕ} {k : SyntaxKind} {s : Spot} {c : Sketch} {after : List Token} {ds : List Fault}
+pub data Lone (d n : ℕ) : AnnotatedForest → List Token → List Fault → Type 0 where
+  a_node : {m : ℕ} {k : SyntaxKind} {s : RowState} {c : AnnotatedForest} {after : List Token} {ds : List Fault}
       → Reads k d n (start k) s blank after c ds → m ≡ end_from n (tokens_in c) → IsOver s m after → Lone d n (one_branch k c) after ds
   an_error : {t : Token} {after : List Token} → Lone d n (one_fault Stray (row_of (t ∷ []))) after (report Stray (t ∷ []) ∷ [])
 
 -- An operand goes on from one tree x to another y, over items from ts to us, and reaches from n to m, with these errors.
-pub record Grows (low high d : ℕ) (x y : Sketch) (ts us : List Token) (n m : ℕ) (ds : List Fault) : Type 0 where
+pub record Grows (low high d : ℕ) (x y : AnnotatedForest) (ts us : List Token) (n m : ℕ) (ds : List Fault) : Type 0 where
   pub items : tokens_in x ++ ts ≡ tokens_in y ++ us
   pub reach : (l : ℕ) → n ≡ end_from l (tokens_in x) → m ≡ end_from l (tokens_in y)
   pub first : first_tree y ≡ first_tree x
@@ -38,21 +38,21 @@ pub record Grows (low high d : ℕ) (x y : Sketch) (ts us : List Token) (n m : �
   pub lone : (l : ℕ) (cs : List Fault) → n ≡ end_from l (tokens_in x) → Stops high x → Lone d l x ts cs → Lone d l y us (cs ++ ds)
 
 -- the errors that are reported as such a frame is complete, behind the trees before it
-abbrev pub closing : Head → Sketch → Sketch → List Fault
+abbrev pub closing : Head → AnnotatedForest → AnnotatedForest → List Fault
 closing (Node k) before row = repeats k before row
 closing Second before row = report Twice (tokens_in row) ∷ []
 closing Operand before row = []
 
 -- Some frames, with these items left, reaching so far, become the row of the root in the end, with these errors still to come.
-pub data Ends : List Frame → List Token → ℕ → Sketch → List Fault → Type 0 where
-  root_frame : {f : Frame} {ts : List Token} {n : ℕ} {row r : Sketch} {es : List Fault}
+pub data Ends : List Frame → List Token → ℕ → AnnotatedForest → List Fault → Type 0 where
+  root_frame : {f : Frame} {ts : List Token} {n : ℕ} {row r : AnnotatedForest} {es : List Fault}
       → f.head ≡ Node NODE_ROOT → Reads NODE_ROOT f.depth n (At f.place) (At p.RootEnd) f.row [] r es → ts ≡ tokens_in r → row ≡ f.row ⊕ r
       → Ends (f ∷ []) ts n row es
-  open_frame : {f g : Frame} {fs : List Frame} {ts us : List Token} {n m : ℕ} {s : Spot} {row r : Sketch} {ds es gs : List Fault}
+  open_frame : {f g : Frame} {fs : List Frame} {ts us : List Token} {n m : ℕ} {s : RowState} {row r : AnnotatedForest} {ds es gs : List Fault}
       → is_open f.head ≡ true → Reads (kind_of f.head) f.depth n (At f.place) s f.row us r ds → ts ≡ tokens_in r ++ us → m ≡ end_from n (tokens_in r) → IsOver s m us
       → Ends (put g.place (g.row ⊕ made f.head (f.row ⊕ r)) g ∷ fs) us m row es → gs ≡ ds ++ (closing f.head g.row (f.row ⊕ r) ++ es)
       → Ends (f ∷ g ∷ fs) ts n row gs
-  operand_frame : {f g : Frame} {fs : List Frame} {ts us : List Token} {n m : ℕ} {row y : Sketch} {ds es gs : List Fault} (low high : ℕ)
+  operand_frame : {f g : Frame} {fs : List Frame} {ts us : List Token} {n m : ℕ} {row y : AnnotatedForest} {ds es gs : List Fault} (low high : ℕ)
       → f.head ≡ Operand → f.place ≡ p.Behind low high → Grows low high f.depth f.row y ts us n m ds
       → Ends (put g.place (g.row ⊕ y) g ∷ fs) us m row es → gs ≡ ds ++ es
       → Ends (f ∷ g ∷ fs) ts n row gs
@@ -60,5 +60,5 @@ pub data Ends : List Frame → List Token → ℕ → Sketch → List Fault → 
 -- What ends behind a step at the innermost frame ends before it, with the errors of the step.
 abbrev pub EndsBy : Action → Frame → List Frame → List Token → ℕ → List Fault → Type 0
 EndsBy action f fs ts n gs =
-    (row : Sketch) (es : List Fault) → Ends (perform false action f fs ts n gs).frames (perform false action f fs ts n gs).left (perform false action f fs ts n gs).reached row es
+    (row : AnnotatedForest) (es : List Fault) → Ends (perform false action f fs ts n gs).frames (perform false action f fs ts n gs).left (perform false action f fs ts n gs).reached row es
     → (ds : List Fault) × (Ends (f ∷ fs) ts n row ds × (gs ++ ds ≡ (perform false action f fs ts n gs).faults ++ es))

@@ -2,9 +2,9 @@
 use Rattle.std.proofs.Common.{◌≡◌, ℕ, true, List, ◌∷◌, ◌++◌, refl, ap, sym, ◌∙◌, subst, append_assoc}
 use Rattle.rnix_grammar.specs.declared.place.Place.TheVariants as p
 use Rattle.rnix_grammar.specs.Fault.{Fault}
-use Rattle.rnix_grammar.specs.Sketch.{Token, Sketch, ◌⊕◌, tokens_in, end_from}
+use Rattle.rnix_grammar.specs.AnnotatedForest.{Token, AnnotatedForest, ◌⊕◌, tokens_in, end_from}
 use Rattle.rnix_grammar.specs.Machine.{Head, Operand, Frame, put, kind_of, made}
-use Rattle.rnix_grammar.specs.Rows.{Spot, At}
+use Rattle.rnix_grammar.specs.Rows.{RowState, At}
 use Rattle.rnix_grammar.specs.Operands.{first_tree}
 use Rattle.rnix_grammar.specs.Reads.{Reads, IsOver}
 use Rattle.rnix_lemmas.proofs.Basics.{true_is_not_false}
@@ -13,34 +13,34 @@ use Rattle.rnix_lemmas.proofs.OpenHeads.{is_open}
 use Rattle.rnix_existence.proofs.OpenFrames.{Lone, Grows, closing, Ends, root_frame, open_frame, operand_frame}
 
 -- what is still to come of an open frame above another
-pub record OpenEnds (f g : Frame) (fs : List Frame) (ts : List Token) (n : ℕ) (row : Sketch) (gs : List Fault) : Type 0 where
+pub record OpenEnds (f g : Frame) (fs : List Frame) (ts : List Token) (n : ℕ) (row : AnnotatedForest) (gs : List Fault) : Type 0 where
   pub left : List Token
   pub reached : ℕ
-  pub spot : Spot
-  pub rest : Sketch
+  pub row_state : RowState
+  pub rest : AnnotatedForest
   pub inside : List Fault
   pub behind : List Fault
-  pub reads : Reads (kind_of f.head) f.depth n (At f.place) spot f.row left rest inside
+  pub reads : Reads (kind_of f.head) f.depth n (At f.place) row_state f.row left rest inside
   pub items : ts ≡ tokens_in rest ++ left
   pub reach : reached ≡ end_from n (tokens_in rest)
-  pub over : IsOver spot reached left
+  pub over : IsOver row_state reached left
   pub ends : Ends (put g.place (g.row ⊕ made f.head (f.row ⊕ rest)) g ∷ fs) left reached row behind
   pub faults : gs ≡ inside ++ (closing f.head g.row (f.row ⊕ rest) ++ behind)
 
 -- each open frame is complete in the end
-pub open_ends : (f g : Frame) (fs : List Frame) (ts : List Token) (n : ℕ) (row : Sketch) (gs : List Fault) → is_open f.head ≡ true → Ends (f ∷ (g ∷ fs)) ts n row gs
+pub open_ends : (f g : Frame) (fs : List Frame) (ts : List Token) (n : ℕ) (row : AnnotatedForest) (gs : List Fault) → is_open f.head ≡ true → Ends (f ∷ (g ∷ fs)) ts n row gs
     → OpenEnds f g fs ts n row gs
 open_ends f g fs ts n row gs o (open_frame {us = us} {m = m} {s = s} {r = r} {ds = ds} {es = es} a b c d i j k) =
-    record { left = us; reached = m; spot = s; rest = r; inside = ds; behind = es; reads = b; items = c; reach = d; over = i; ends = j; faults = k }
+    record { left = us; reached = m; row_state = s; rest = r; inside = ds; behind = es; reads = b; items = c; reach = d; over = i; ends = j; faults = k }
 open_ends f g fs ts n row gs o (operand_frame low high a b c d i) = absurd (true_is_not_false (sym o ∙ ap is_open a))
 
 -- what is still to come of an operand that goes on between two levels
-pub record OperandEnds (low high : ℕ) (f : Frame) (fs : List Frame) (ts : List Token) (n : ℕ) (row : Sketch) (gs : List Fault) : Type 0 where
+pub record OperandEnds (low high : ℕ) (f : Frame) (fs : List Frame) (ts : List Token) (n : ℕ) (row : AnnotatedForest) (gs : List Fault) : Type 0 where
   pub below : Frame
   pub frames : List Frame
   pub left : List Token
   pub reached : ℕ
-  pub tree : Sketch
+  pub tree : AnnotatedForest
   pub inside : List Fault
   pub behind : List Fault
   pub stack : fs ≡ below ∷ frames
@@ -55,7 +55,7 @@ node_operand : {h : Head} → h ≡ Operand → is_open h ≡ true → ⊥
 node_operand e o = true_is_not_false (sym o ∙ ap is_open e)
 
 -- each operand is complete in the end
-pub operand_ends : (low high : ℕ) (f : Frame) (fs : List Frame) (ts : List Token) (n : ℕ) (row : Sketch) (gs : List Fault) → f.head ≡ Operand → f.place ≡ p.Behind low high
+pub operand_ends : (low high : ℕ) (f : Frame) (fs : List Frame) (ts : List Token) (n : ℕ) (row : AnnotatedForest) (gs : List Fault) → f.head ≡ Operand → f.place ≡ p.Behind low high
     → Ends (f ∷ fs) ts n row gs → OperandEnds low high f fs ts n row gs
 operand_ends low high f fs ts n row gs h e (root_frame a b c d) = absurd (node_operand h (ap is_open a))
 operand_ends low high f fs ts n row gs h e (open_frame a b c d i j k) = absurd (node_operand h a)
@@ -76,7 +76,7 @@ operand_ends low high f fs ts n row gs h e (operand_frame {g = g} {fs = hs} {us 
     }
 
 -- an operand that becomes another tree, and then goes on as that does
-pub regrown : (low high other d : ℕ) (x x' y : Sketch) (ts us vs : List Token) (n m l : ℕ) (ds es : List Fault) → Grows low other d x' y us vs m l es → Stops other x'
+pub regrown : (low high other d : ℕ) (x x' y : AnnotatedForest) (ts us vs : List Token) (n m l : ℕ) (ds es : List Fault) → Grows low other d x' y us vs m l es → Stops other x'
     → tokens_in x ++ ts ≡ tokens_in x' ++ us → ((i : ℕ) → n ≡ end_from i (tokens_in x) → m ≡ end_from i (tokens_in x')) → first_tree x' ≡ first_tree x
     → ((i : ℕ) (cs : List Fault) → n ≡ end_from i (tokens_in x) → Lone d i x ts cs → Lone d i x' us (cs ++ ds)) → Grows low high d x y ts vs n l (ds ++ es)
 regrown low high other d x x' y ts us vs n m l ds es g stops items reach first lone = record {
@@ -91,7 +91,7 @@ regrown low high other d x x' y ts us vs n m l ds es g stops items reach first l
 }
 
 -- an operand goes on as another frame does that becomes the same tree
-pub grown_ends : (low high other : ℕ) (f f' : Frame) (fs : List Frame) (ts us : List Token) (n m : ℕ) (row : Sketch) (ds gs hs : List Fault) → f.head ≡ Operand → f.place ≡ p.Behind low high
+pub grown_ends : (low high other : ℕ) (f f' : Frame) (fs : List Frame) (ts us : List Token) (n m : ℕ) (row : AnnotatedForest) (ds gs hs : List Fault) → f.head ≡ Operand → f.place ≡ p.Behind low high
     → (o : OperandEnds low other f' fs us m row hs) → Grows low high f.depth f.row o.tree ts o.left n o.reached (ds ++ o.inside) → gs ≡ ds ++ hs → Ends (f ∷ fs) ts n row gs
 grown_ends low high other f f' fs ts us n m row ds gs hs h e o g i =
     subst (λ (z : List Frame). Ends (f ∷ z) ts n row gs) (sym o.stack)

@@ -6,55 +6,55 @@ use Rattle.rnix_kinds.proofs.AllKinds.{implied}
 use Rattle.rnix_kinds.specs.declared.kinds.SyntaxKind.{SyntaxKind}
 use Rattle.rnix_kinds.specs.declared.kinds.SyntaxKind.TheVariants.{TOKEN_QUESTION}
 use Rattle.rnix_kinds.specs.SyntaxKind.{is_fn_arg}
-use Rattle.rnix_grammar.specs.Levels.{power, left_of}
+use Rattle.rnix_grammar.specs.Levels.{binding_power, left_of}
 use Rattle.rnix_grammar.specs.Actions as a
 use Rattle.rnix_grammar.specs.TokenKinds.{is_or, is_question, is_dot}
-use Rattle.rnix_grammar.specs.Sketch.{Token, Sketch, head_kind}
+use Rattle.rnix_grammar.specs.AnnotatedForest.{Token, AnnotatedForest, head_kind}
 use Rattle.rnix_grammar.specs.Rows.{is_infix, fits}
 use Rattle.rnix_grammar.specs.TreeLevels.{row_level, is_or_row, is_atom_row}
 use Rattle.rnix_grammar.specs.Operands.{follows, goes_on}
 use Rattle.rnix_lemmas.proofs.Basics.{true_is_not_false, not_if}
 use Rattle.rnix_lemmas.proofs.LevelLemmas.{at_most_true}
-use Rattle.rnix_lemmas.proofs.FollowLemmas.{Stops, follows_power}
+use Rattle.rnix_lemmas.proofs.FollowLemmas.{Stops, follows_binding_power}
 use Rattle.rnix_existence.proofs.OpenFrames.{seen_kind, Lone, Grows}
 
 -- an operator follows what may be its left operand
-pub operator_follows : (k : SyntaxKind) (x : Sketch) → is_infix k ≡ true → left_of k ≤ row_level x → follows k x ≡ true
+pub operator_follows : (k : SyntaxKind) (x : AnnotatedForest) → is_infix k ≡ true → left_of k ≤ row_level x → follows k x ≡ true
 operator_follows k x h l =
     ap (λ w. if w then nat_le (left_of k) (row_level x) else (if is_question k then nat_le 13 (row_level x) else (if is_fn_arg k then nat_le 15 (row_level x) else ((is_dot k || is_or k) && is_atom_row x)))) h
     ∙ at_most_true (left_of k) (row_level x) l
 
 -- `?` follows what binds as tightly
-pub question_follows : (x : Sketch) → 13 ≤ row_level x → follows TOKEN_QUESTION x ≡ true
+pub question_follows : (x : AnnotatedForest) → 13 ≤ row_level x → follows TOKEN_QUESTION x ≡ true
 question_follows x h = at_most_true 13 (row_level x) h
 
 -- a token of level 15 begins an argument
-pub argument_is : (k : SyntaxKind) → power k ≡ 15 → is_fn_arg k ≡ true
-argument_is k h = implied (λ o. nat_eq (power o) 15) is_fn_arg refl k (grind (arith, nat_tests, h))
+pub argument_is : (k : SyntaxKind) → binding_power k ≡ 15 → is_fn_arg k ≡ true
+argument_is k h = implied (λ o. nat_eq (binding_power o) 15) is_fn_arg refl k (grind (arith, nat_tests, h))
 
 -- and follows what may be called
-pub argument_follows : (k : SyntaxKind) (x : Sketch) → power k ≡ 15 → 15 ≤ row_level x → follows k x ≡ true
+pub argument_follows : (k : SyntaxKind) (x : AnnotatedForest) → binding_power k ≡ 15 → 15 ≤ row_level x → follows k x ≡ true
 argument_follows k x h l =
     ap (λ w. if w then nat_le (left_of k) (row_level x) else (if is_question k then nat_le 13 (row_level x) else (if is_fn_arg k then nat_le 15 (row_level x) else ((is_dot k || is_or k) && is_atom_row x))))
-    (not_if (is_infix k) (implied (λ o. nat_eq (power o) 15) (λ o. if is_infix o then false else true) refl k e))
+    (not_if (is_infix k) (implied (λ o. nat_eq (binding_power o) 15) (λ o. if is_infix o then false else true) refl k e))
     ∙ ap (λ w. if w then nat_le 13 (row_level x) else (if is_fn_arg k then nat_le 15 (row_level x) else ((is_dot k || is_or k) && is_atom_row x)))
-    (not_if (is_question k) (implied (λ o. nat_eq (power o) 15) (λ o. if is_question o then false else true) refl k e))
+    (not_if (is_question k) (implied (λ o. nat_eq (binding_power o) 15) (λ o. if is_question o then false else true) refl k e))
     ∙ ap (λ w. if w then nat_le 15 (row_level x) else ((is_dot k || is_or k) && is_atom_row x)) (argument_is k h) ∙ at_most_true 15 (row_level x) l
   where
-    e : nat_eq (power k) 15 ≡ true
+    e : nat_eq (binding_power k) 15 ≡ true
     e = grind (arith, nat_tests, h)
 
 -- what does not go on between two levels does not go on with a tree, if nothing tighter follows that
-pub calm_behind : (low high : ℕ) (x : Sketch) (ts : List Token) → ((j : SyntaxKind) → head_kind ts ≡ Some j → a.goes_on low high j ≡ false) → Stops high x → goes_on low x ts ≡ false
+pub calm_behind : (low high : ℕ) (x : AnnotatedForest) (ts : List Token) → ((j : SyntaxKind) → head_kind ts ≡ Some j → a.goes_on low high j ≡ false) → Stops high x → goes_on low x ts ≡ false
 calm_behind low high x [] h s = refl
-calm_behind low high x (t ∷ ts) h s = by (follows t.kind x) (nat_le low (power t.kind)) refl refl
+calm_behind low high x (t ∷ ts) h s = by (follows t.kind x) (nat_le low (binding_power t.kind)) refl refl
   where
-    by : (v w : Bool) → follows t.kind x ≡ v → nat_le low (power t.kind) ≡ w → (v && w) ≡ false
+    by : (v w : Bool) → follows t.kind x ≡ v → nat_le low (binding_power t.kind) ≡ w → (v && w) ≡ false
     by false w e f = refl
     by true false e f = refl
     by true true e f =
-        absurd (true_is_not_false (sym (all (nat_le 1 (power t.kind)) (nat_le low (power t.kind)) (nat_le (power t.kind) high) (at_most_true 1 (power t.kind) (follows_power t.kind x e)) f
-        (at_most_true (power t.kind) high (s t.kind e))) ∙ h t.kind refl))
+        absurd (true_is_not_false (sym (all (nat_le 1 (binding_power t.kind)) (nat_le low (binding_power t.kind)) (nat_le (binding_power t.kind) high) (at_most_true 1 (binding_power t.kind) (follows_binding_power t.kind x e)) f
+        (at_most_true (binding_power t.kind) high (s t.kind e))) ∙ h t.kind refl))
       where
         all : (u v w : Bool) → u ≡ true → v ≡ true → w ≡ true → (u && (v && w)) ≡ true
         all true true true a b c = refl
@@ -63,7 +63,7 @@ calm_behind low high x (t ∷ ts) h s = by (follows t.kind x) (nat_le low (power
         all false v w a b c = a
 
 -- an operand that does not go on is whole
-pub grown_none : (low high d : ℕ) (x : Sketch) (ts : List Token) (n : ℕ) → low ≤ row_level x → fits low (seen_kind x) ≡ true → is_or_row x ≡ false
+pub grown_none : (low high d : ℕ) (x : AnnotatedForest) (ts : List Token) (n : ℕ) → low ≤ row_level x → fits low (seen_kind x) ≡ true → is_or_row x ≡ false
     → ((j : SyntaxKind) → head_kind ts ≡ Some j → a.goes_on low high j ≡ false) → Grows low high d x x ts ts n n []
 grown_none low high d x ts n l h o calm = record {
   items = refl;

@@ -9,14 +9,14 @@ use Rattle.rnix_grammar.specs.declared.place.Place.TheVariants as p
 use Rattle.rnix_grammar.specs.declared.action.Action.{Action}
 use Rattle.rnix_grammar.specs.declared.action.Action.TheVariants as a
 use Rattle.rnix_grammar.specs.Fault.{Fault}
-use Rattle.rnix_grammar.specs.Levels.{power, right_of, high_of}
+use Rattle.rnix_grammar.specs.Levels.{binding_power, right_of, high_of}
 use Rattle.rnix_grammar.specs.Actions.{follow, goes_on, more_action, action_at}
-use Rattle.rnix_grammar.specs.Sketch.{Token, Sketch, blank, ◌⊕◌, one_token, one_branch, told, head_kind}
+use Rattle.rnix_grammar.specs.AnnotatedForest.{Token, AnnotatedForest, blank, ◌⊕◌, one_token, one_branch, leaf_kind, head_kind}
 use Rattle.rnix_grammar.specs.Machine.{Node, Operand, Frame, opened, leaf, low_of, perform}
 use Rattle.rnix_grammar.specs.Rows.{is_atom, is_infix}
 use Rattle.rnix_grammar.specs.TokenKinds.{is_or}
 use Rattle.rnix_grammar.specs.TreeLevels.{row_level, operator_in, calls_or, is_atom_row}
-use Rattle.rnix_lemmas.proofs.SketchLemmas.{⊕-assoc}
+use Rattle.rnix_lemmas.proofs.AnnotatedForestLemmas.{⊕-assoc}
 use Rattle.rnix_lemmas.proofs.LevelLemmas.{at_most, at_most_true, right_within}
 use Rattle.rnix_lemmas.proofs.FirstTrees.{IsSingle, a_node, an_error, single_operator, single_calls}
 use Rattle.rnix_existence.proofs.OpenFrames.{seen_kind}
@@ -31,22 +31,22 @@ pub none_some : {k : SyntaxKind} → None ≡ Some k → ⊥
 none_some e = cc
 
 -- an atom alone is one
-pub atom_row : (x : Sketch) → IsSingle x → is_atom (seen_kind x) ≡ true → is_atom_row x ≡ true
+pub atom_row : (x : AnnotatedForest) → IsSingle x → is_atom (seen_kind x) ≡ true → is_atom_row x ≡ true
 atom_row _ a_node h = h
 atom_row _ an_error h = refl
 
 -- what a test of levels tells
 pub record Between (low high : ℕ) (k : SyntaxKind) : Type 0 where
-  pub positive : 1 ≤ power k
-  pub least : low ≤ power k
-  pub most : power k ≤ high
+  pub positive : 1 ≤ binding_power k
+  pub least : low ≤ binding_power k
+  pub most : binding_power k ≤ high
 
 -- what goes on between two levels has a level between them
 pub between : (low high : ℕ) (k : SyntaxKind) → goes_on low high k ≡ true → Between low high k
 between low high k h =
-    let x = and_parts (nat_le 1 (power k)) (nat_le low (power k) && nat_le (power k) high) h in
-    let y = and_parts (nat_le low (power k)) (nat_le (power k) high) x.1 in
-    record { positive = at_most 1 (power k) x.0; least = at_most low (power k) y.0; most = at_most (power k) high y.1 }
+    let x = and_parts (nat_le 1 (binding_power k)) (nat_le low (binding_power k) && nat_le (binding_power k) high) h in
+    let y = and_parts (nat_le low (binding_power k)) (nat_le (binding_power k) high) x.1 in
+    record { positive = at_most 1 (binding_power k) x.0; least = at_most low (binding_power k) y.0; most = at_most (binding_power k) high y.1 }
 
 -- what a token that goes on with an operand makes of it
 pub data FollowsBy : SyntaxKind → Action → Type 0 where
@@ -54,21 +54,21 @@ pub data FollowsBy : SyntaxKind → Action → Type 0 where
   by_or : FollowsBy TOKEN_OR a.ApplyOr
   by_question : FollowsBy TOKEN_QUESTION (a.Wrap NODE_HAS_ATTR p.HasPath 13)
   by_operator : {k : SyntaxKind} → is_infix k ≡ true → FollowsBy k (a.Wrap NODE_BIN_OP (p.Right (right_of k)) (high_of k))
-  by_argument : {k : SyntaxKind} → power k ≡ 15 → FollowsBy k a.Apply
+  by_argument : {k : SyntaxKind} → binding_power k ≡ 15 → FollowsBy k a.Apply
 
-no_power : (k : SyntaxKind) (action : Action) → 1 ≤ 0 → FollowsBy k action
-no_power k action h = absurd (omega (arith, h))
+no_binding_power : (k : SyntaxKind) (action : Action) → 1 ≤ 0 → FollowsBy k action
+no_binding_power k action h = absurd (omega (arith, h))
 
 -- what a token does behind an operand, by its level
-pub follows : (k : SyntaxKind) → 1 ≤ power k → FollowsBy k (follow k)
+pub follows : (k : SyntaxKind) → 1 ≤ binding_power k → FollowsBy k (follow k)
 follows TOKEN_DOT h = by_dot
 follows TOKEN_OR h = by_or
 follows TOKEN_QUESTION h = by_question
-follows _ h = first_of (search by_operator, search by_argument, search (no_power, h))
+follows _ h = first_of (search by_operator, search by_argument, search (no_binding_power, h))
 
 -- an operand becomes the first tree of a node that may be an operand of its level
-wrapped_kept : (f : Frame) (fs : List Frame) (k : SyntaxKind) (z : Place) (x : Sketch) (high : ℕ) (r : AtOperand f fs) → IsRow k z
-    → ((rest : Sketch) → MayGrow r.low high (one_branch k (x ⊕ rest)))
+wrapped_kept : (f : Frame) (fs : List Frame) (k : SyntaxKind) (z : Place) (x : AnnotatedForest) (high : ℕ) (r : AtOperand f fs) → IsRow k z
+    → ((rest : AnnotatedForest) → MayGrow r.low high (one_branch k (x ⊕ rest)))
     → AtNode (opened (Node k) z f.depth x) (opened Operand (p.Behind (low_of f.place) high) f.depth blank ∷ fs)
 wrapped_kept f fs k z x high r i grows = record {
   kind = k;
@@ -77,7 +77,7 @@ wrapped_kept f fs k z x high r i grows = record {
 }
 
 -- a call binds at least as tightly as application
-call_level : (c : Sketch) → 15 ≤ row_level (one_branch NODE_APPLY c)
+call_level : (c : AnnotatedForest) → 15 ≤ row_level (one_branch NODE_APPLY c)
 call_level c = by (calls_or c)
   where
     by : (w : Bool) → 15 ≤ (if w then 16 else 15)
@@ -89,20 +89,20 @@ goes : (k : SyntaxKind) (action : Action) → FollowsBy k action
     → (f : Frame) (fs : List Frame) (t : Token) (ts : List Token) (n : ℕ) (gs : List Fault) (r : AtOperand f fs)
     → t.kind ≡ k → Between r.low r.high k → Reading (perform false action f fs (t ∷ ts) n gs).frames
 goes k action by_dot f fs t ts n gs r e x =
-    let row : Sketch = f.row ⊕ leaf false NODE_SELECT (t ∷ ts) in
+    let row : AnnotatedForest = f.row ⊕ leaf false NODE_SELECT (t ∷ ts) in
     node (wrapped_kept f fs NODE_SELECT p.SelectPath row 15 r (refl, refl)
     (λ rest. simple_grows r.low (one_branch NODE_SELECT (row ⊕ rest)) refl x.least (omega arith) refl))
 goes k action by_question f fs t ts n gs r e x =
-    let row : Sketch = f.row ⊕ leaf false NODE_HAS_ATTR (t ∷ ts) in
+    let row : AnnotatedForest = f.row ⊕ leaf false NODE_HAS_ATTR (t ∷ ts) in
     node (wrapped_kept f fs NODE_HAS_ATTR p.HasPath row 13 r (refl, refl) (λ rest. question_grows r.low (row ⊕ rest) x.least))
 goes k action (by_operator h) f fs t ts n gs r e x =
-    let leaves : Sketch = one_token (told NODE_BIN_OP t) t in
+    let leaves : AnnotatedForest = one_token (leaf_kind NODE_BIN_OP t) t in
     node (wrapped_kept f fs NODE_BIN_OP (p.Right (right_of k)) (f.row ⊕ leaves) (high_of k) r
     (refl, ap (λ w. if w then Some false else None) (at_most_true (right_of k) 16 (right_within k).1))
     (λ rest. operator_grows r.low k ((f.row ⊕ leaves) ⊕ rest) h x.least
-    (ap power (ap operator_in (⊕-assoc f.row leaves rest) ∙ single_operator f.row rest (told NODE_BIN_OP t) t r.single ∙ e))))
+    (ap binding_power (ap operator_in (⊕-assoc f.row leaves rest) ∙ single_operator f.row rest (leaf_kind NODE_BIN_OP t) t r.single ∙ e))))
 goes k action by_or f fs t ts n gs r e x =
-    let name : Sketch = one_branch NODE_IDENT (one_token (told NODE_IDENT t) t) in
+    let name : AnnotatedForest = one_branch NODE_IDENT (one_token (leaf_kind NODE_IDENT t) t) in
     let level : row_level (one_branch NODE_APPLY (f.row ⊕ name)) ≡ 16 =
     ap (λ w. if w then 16 else 15) (single_calls f.row name r.single ∙ ap is_or e) in
     operand (record {

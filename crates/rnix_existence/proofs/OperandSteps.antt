@@ -10,15 +10,15 @@ use Rattle.rnix_grammar.specs.declared.action.Action.TheVariants as a
 use Rattle.rnix_grammar.specs.Fault.{Fault}
 use Rattle.rnix_grammar.specs.Actions.{goes_on}
 use Rattle.rnix_grammar.specs.TokenKinds.{is_or}
-use Rattle.rnix_grammar.specs.Sketch.{Token, Sketch, blank, token, ◌⊕◌, one_token, one_branch, tokens_in, told, told_as, head_kind, end_from}
+use Rattle.rnix_grammar.specs.AnnotatedForest.{Token, AnnotatedForest, blank, token, ◌⊕◌, one_token, one_branch, tokens_in, leaf_kind, leaf_kind_as, head_kind, end_from}
 use Rattle.rnix_grammar.specs.Machine.{Head, Node, Operand, Frame, put, opened, made, low_of, operand_on}
-use Rattle.rnix_grammar.specs.Rows.{Spot, Start, BeforeArgument, At, to, go, live, start}
+use Rattle.rnix_grammar.specs.Rows.{RowState, Start, BeforeArgument, At, to, advance, live, start}
 use Rattle.rnix_grammar.specs.Reports.{repeats}
-use Rattle.rnix_grammar.specs.OwnItems.{IsOwned}
+use Rattle.rnix_grammar.specs.ExpectedItems.{IsExpected}
 use Rattle.rnix_grammar.specs.Operands.{first_tree, follows, IsFollowed, IsOperand}
 use Rattle.rnix_grammar.specs.Reads.{end, leaf, inner}
 use Rattle.rnix_lemmas.proofs.Basics.{true_is_not_false}
-use Rattle.rnix_lemmas.proofs.SketchLemmas.{⊕-assoc, tokens_two}
+use Rattle.rnix_lemmas.proofs.AnnotatedForestLemmas.{⊕-assoc, tokens_two}
 use Rattle.rnix_lemmas.proofs.FollowLemmas.{Stops, stops_simple}
 use Rattle.rnix_existence.proofs.OpenFrames.{seen_kind, Ends, operand_frame, EndsBy}
 use Rattle.rnix_existence.proofs.Frames.{AtOperand}
@@ -46,33 +46,33 @@ settle_ends f (g ∷ fs) ts n gs r h row es ends = (
 )
 
 -- the operand becomes the first tree of a node that the next item goes on with
-pub wrap_ends : (f : Frame) (fs : List Frame) (t : Token) (ts : List Token) (n : ℕ) (gs : List Fault) (k : SyntaxKind) (spot : Spot) (x : Place) (other : ℕ) (r : AtOperand f fs)
-    → start k ≡ Start k → go (Start k) (seen_kind f.row) ≡ spot → live spot ≡ true → ((us : List Token) → IsOwned spot n us true) → IsFollowed spot f.row (Some (told k t)) → go spot (told k t) ≡ At x
-    → ((c : Sketch) → first_tree (one_branch k c) ≡ first_tree c) → ((rest : Sketch) → Stops other (one_branch k (f.row ⊕ token (told k t) t rest))) → ((b c : Sketch) → repeats k b c ≡ [])
+pub wrap_ends : (f : Frame) (fs : List Frame) (t : Token) (ts : List Token) (n : ℕ) (gs : List Fault) (k : SyntaxKind) (row_state : RowState) (x : Place) (other : ℕ) (r : AtOperand f fs)
+    → start k ≡ Start k → advance (Start k) (seen_kind f.row) ≡ row_state → live row_state ≡ true → ((us : List Token) → IsExpected row_state n us true) → IsFollowed row_state f.row (Some (leaf_kind k t)) → advance row_state (leaf_kind k t) ≡ At x
+    → ((c : AnnotatedForest) → first_tree (one_branch k c) ≡ first_tree c) → ((rest : AnnotatedForest) → Stops other (one_branch k (f.row ⊕ token (leaf_kind k t) t rest))) → ((b c : AnnotatedForest) → repeats k b c ≡ [])
     → EndsBy (a.Wrap k x other) f fs (t ∷ ts) n gs
-wrap_ends f fs t ts n gs k spot x other r st g l own fo h first stops none row es ends = (es, (subst (Ends (f ∷ fs) (t ∷ ts) n row) (sym all) whole, refl))
+wrap_ends f fs t ts n gs k row_state x other r st g l own fo h first stops none row es ends = (es, (subst (Ends (f ∷ fs) (t ∷ ts) n row) (sym all) whole, refl))
   where
-    o : OpenEnds (opened (Node k) x f.depth (f.row ⊕ one_token (told k t) t)) (opened Operand (p.Behind r.low other) f.depth blank) fs ts t.end row es
+    o : OpenEnds (opened (Node k) x f.depth (f.row ⊕ one_token (leaf_kind k t) t)) (opened Operand (p.Behind r.low other) f.depth blank) fs ts t.end row es
     o =
-        open_ends (opened (Node k) x f.depth (f.row ⊕ one_token (told k t) t)) (opened Operand (p.Behind r.low other) f.depth blank) fs ts t.end row es refl
-        (subst (λ (m : ℕ). Ends (opened (Node k) x f.depth (f.row ⊕ one_token (told k t) t) ∷ (opened Operand (p.Behind m other) f.depth blank ∷ fs)) ts t.end row es) (ap low_of r.place) ends)
+        open_ends (opened (Node k) x f.depth (f.row ⊕ one_token (leaf_kind k t) t)) (opened Operand (p.Behind r.low other) f.depth blank) fs ts t.end row es refl
+        (subst (λ (m : ℕ). Ends (opened (Node k) x f.depth (f.row ⊕ one_token (leaf_kind k t) t) ∷ (opened Operand (p.Behind m other) f.depth blank ∷ fs)) ts t.end row es) (ap low_of r.place) ends)
 
     all : es ≡ o.inside ++ o.behind
-    all = o.faults ∙ ap (λ z. o.inside ++ (z ++ o.behind)) (none blank ((f.row ⊕ one_token (told k t) t) ⊕ o.rest))
+    all = o.faults ∙ ap (λ z. o.inside ++ (z ++ o.behind)) (none blank ((f.row ⊕ one_token (leaf_kind k t) t) ⊕ o.rest))
 
     whole : Ends (f ∷ fs) (t ∷ ts) n row (o.inside ++ o.behind)
     whole =
-        wrapped_ends f fs (t ∷ ts) n row o.behind r.low r.high other k spot o.spot (token (told k t) t o.rest) o.left o.reached o.inside r.head r.place r.single
-        r.grows.fit st g l (first (f.row ⊕ token (told k t) t o.rest)) (stops o.rest) (ap (λ z. t ∷ z) o.items) o.reach o.over
+        wrapped_ends f fs (t ∷ ts) n row o.behind r.low r.high other k row_state o.row_state (token (leaf_kind k t) t o.rest) o.left o.reached o.inside r.head r.place r.single
+        r.grows.fit st g l (first (f.row ⊕ token (leaf_kind k t) t o.rest)) (stops o.rest) (ap (λ z. t ∷ z) o.items) o.reach o.over
         (leaf refl refl (own (t ∷ (tokens_in o.rest ++ o.left))) fo h refl refl refl o.reads)
-        (subst (λ (z : Sketch). Ends (opened Operand (p.Behind r.low other) f.depth (one_branch k z) ∷ fs) o.left o.reached row o.behind) (⊕-assoc f.row (one_token (told k t) t) o.rest) o.ends)
+        (subst (λ (z : AnnotatedForest). Ends (opened Operand (p.Behind r.low other) f.depth (one_branch k z) ∷ fs) o.left o.reached row o.behind) (⊕-assoc f.row (one_token (leaf_kind k t) t) o.rest) o.ends)
 
 -- an argument stands behind what is called
 argument_takes : Takes BeforeArgument 16 (At p.Past)
-argument_takes = record { leveled = λ x h. ap (λ w. if w then None else Some 16) h; owned = λ k c h. h; goes = λ k h. ap (λ w. to w (At p.Past)) h; live = refl }
+argument_takes = record { leveled = λ x h. ap (λ w. if w then None else Some 16) h; expected = λ k c h. h; goes = λ k h. ap (λ w. to w (At p.Past)) h; live = refl }
 
 -- the operand is called
-pub apply_ends : (f : Frame) (fs : List Frame) (t : Token) (ts : List Token) (n : ℕ) (gs : List Fault) (r : AtOperand f fs) → go (Start NODE_APPLY) (seen_kind f.row) ≡ BeforeArgument
+pub apply_ends : (f : Frame) (fs : List Frame) (t : Token) (ts : List Token) (n : ℕ) (gs : List Fault) (r : AtOperand f fs) → advance (Start NODE_APPLY) (seen_kind f.row) ≡ BeforeArgument
     → is_or t.kind ≡ false → is_fn_arg t.kind ≡ true → follows t.kind f.row ≡ true → EndsBy a.Apply f fs (t ∷ ts) n gs
 apply_ends f fs t ts n gs r g nor arg fo row es ends = ((b.inside ++ o.inside) ++ o.behind, (whole, faults))
   where
@@ -96,25 +96,25 @@ apply_ends f fs t ts n gs r g nor arg fo row es ends = ((b.inside ++ o.inside) +
 
     whole : Ends (f ∷ fs) (t ∷ ts) n row ((b.inside ++ o.inside) ++ o.behind)
     whole =
-        wrapped_ends f fs (t ∷ ts) n row o.behind r.low r.high 15 NODE_APPLY BeforeArgument o.spot (b.tree ⊕ o.rest) o.left o.reached (b.inside ++ o.inside) r.head r.place r.single
+        wrapped_ends f fs (t ∷ ts) n row o.behind r.low r.high 15 NODE_APPLY BeforeArgument o.row_state (b.tree ⊕ o.rest) o.left o.reached (b.inside ++ o.inside) r.head r.place r.single
         r.grows.fit refl g refl refl (stops_simple (one_branch NODE_APPLY (f.row ⊕ (b.tree ⊕ o.rest))) refl)
         (b.items ∙ ap (λ z. tokens_in b.tree ++ z) o.items ∙ sym (tokens_two b.tree o.rest o.left)) (o.reach ∙ ap (λ j. end_from j (tokens_in o.rest)) b.reach ∙ sym (end_two n b.tree o.rest)) o.over
         (placed argument_takes b.lone b.fit b.no_or b.operand o.items b.items b.reach nor (λ e. absurd (true_is_not_false (sym e))) followed o.reads)
         (subst (λ (m : ℕ). Ends (opened Operand (p.Behind m 15) f.depth (one_branch NODE_APPLY (f.row ⊕ (b.tree ⊕ o.rest))) ∷ fs) o.left o.reached row o.behind) (ap low_of r.place)
-        (subst (λ (z : Sketch). Ends (opened Operand (p.Behind (low_of f.place) 15) f.depth (one_branch NODE_APPLY z) ∷ fs) o.left o.reached row o.behind) (⊕-assoc f.row b.tree o.rest) o.ends))
+        (subst (λ (z : AnnotatedForest). Ends (opened Operand (p.Behind (low_of f.place) 15) f.depth (one_branch NODE_APPLY z) ∷ fs) o.left o.reached row o.behind) (⊕-assoc f.row b.tree o.rest) o.ends))
 
 -- the operand is called with the name `or`
-pub apply_or_ends : (f : Frame) (fs : List Frame) (t : Token) (ts : List Token) (n : ℕ) (gs : List Fault) (r : AtOperand f fs) → go (Start NODE_APPLY) (seen_kind f.row) ≡ BeforeArgument
+pub apply_or_ends : (f : Frame) (fs : List Frame) (t : Token) (ts : List Token) (n : ℕ) (gs : List Fault) (r : AtOperand f fs) → advance (Start NODE_APPLY) (seen_kind f.row) ≡ BeforeArgument
     → t.kind ≡ TOKEN_OR → follows TOKEN_OR f.row ≡ true → EndsBy a.ApplyOr f fs (t ∷ ts) n gs
 apply_or_ends f fs t ts n gs r g e fo row es ends = (es, (whole, refl))
   where
     whole : Ends (f ∷ fs) (t ∷ ts) n row es
     whole =
-        wrapped_ends f fs (t ∷ ts) n row es r.low r.high 15 NODE_APPLY BeforeArgument (At p.Past) (one_branch NODE_IDENT (one_token (told NODE_IDENT t) t)) ts t.end [] r.head r.place r.single
-        r.grows.fit refl g refl refl (stops_simple (one_branch NODE_APPLY (f.row ⊕ one_branch NODE_IDENT (one_token (told NODE_IDENT t) t))) refl)
+        wrapped_ends f fs (t ∷ ts) n row es r.low r.high 15 NODE_APPLY BeforeArgument (At p.Past) (one_branch NODE_IDENT (one_token (leaf_kind NODE_IDENT t) t)) ts t.end [] r.head r.place r.single
+        r.grows.fit refl g refl refl (stops_simple (one_branch NODE_APPLY (f.row ⊕ one_branch NODE_IDENT (one_token (leaf_kind NODE_IDENT t) t))) refl)
         refl refl (past_over t.end ts)
-        (inner refl refl (first_leaf NODE_IDENT t refl (ap (λ k. go (Start NODE_IDENT) (told_as NODE_IDENT k)) e) refl end) refl (past_over t.end ts) refl
+        (inner refl refl (first_leaf NODE_IDENT t refl (ap (λ k. advance (Start NODE_IDENT) (leaf_kind_as NODE_IDENT k)) e) refl end) refl (past_over t.end ts) refl
         (λ v. absurd (true_is_not_false (sym v))) (subst (λ (k : SyntaxKind). IsFollowed BeforeArgument f.row (Some k)) (sym e) fo)
-        (subst (λ (k : SyntaxKind). IsOperand (if is_or k then None else Some 16) (one_branch NODE_IDENT (one_token (told NODE_IDENT t) t)) ts) (sym e) tt)
+        (subst (λ (k : SyntaxKind). IsOperand (if is_or k then None else Some 16) (one_branch NODE_IDENT (one_token (leaf_kind NODE_IDENT t) t)) ts) (sym e) tt)
         refl refl refl end refl)
-        (subst (λ (m : ℕ). Ends (opened Operand (p.Behind m 15) f.depth (one_branch NODE_APPLY (f.row ⊕ one_branch NODE_IDENT (one_token (told NODE_IDENT t) t))) ∷ fs) ts t.end row es) (ap low_of r.place) ends)
+        (subst (λ (m : ℕ). Ends (opened Operand (p.Behind m 15) f.depth (one_branch NODE_APPLY (f.row ⊕ one_branch NODE_IDENT (one_token (leaf_kind NODE_IDENT t) t))) ∷ fs) ts t.end row es) (ap low_of r.place) ends)

@@ -4,11 +4,11 @@ use Rattle.rnix_kinds.specs.declared.kinds.SyntaxKind.{SyntaxKind}
 use Rattle.rnix_kinds.specs.declared.kinds.SyntaxKind.TheVariants.{NODE_LITERAL, NODE_PAT_ENTRY}
 use Rattle.rnix_grammar.specs.declared.place.Place.TheVariants as p
 use Rattle.rnix_grammar.specs.Fault.{Fault}
-use Rattle.rnix_grammar.specs.Sketch.{Token, Stray, Sketch, blank, ◌⊕◌, one_branch, one_fault, row_of, tokens_in, head_kind, end_from}
-use Rattle.rnix_grammar.specs.Rows.{is_expression, fits, Spot, Start, At, go, live}
+use Rattle.rnix_grammar.specs.AnnotatedForest.{Token, Stray, AnnotatedForest, blank, ◌⊕◌, one_branch, one_fault, row_of, tokens_in, head_kind, end_from}
+use Rattle.rnix_grammar.specs.Rows.{is_expression, fits, RowState, Start, At, advance, live}
 use Rattle.rnix_grammar.specs.Reports.{repeats}
 use Rattle.rnix_grammar.specs.TreeLevels.{is_or_row}
-use Rattle.rnix_grammar.specs.OwnItems.{IsOwned, stands_owned}
+use Rattle.rnix_grammar.specs.ExpectedItems.{IsExpected, stands_expected}
 use Rattle.rnix_grammar.specs.Operands.{IsFollowed, IsOperand, level_at}
 use Rattle.rnix_grammar.specs.Reads.{Reads, wrong, inner, IsRoom, IsOver, deeper}
 use Rattle.rnix_lemmas.proofs.Basics.{true_is_not_false}
@@ -21,24 +21,24 @@ past_over m [] = (refl, refl)
 past_over m (t ∷ us) = (refl, refl)
 
 -- a tree's last item, without the empty row behind the tree
-alone_end : (m n : ℕ) (c : Sketch) → m ≡ end_from n (tokens_in (one_branch NODE_LITERAL c)) → m ≡ end_from n (tokens_in c)
+alone_end : (m n : ℕ) (c : AnnotatedForest) → m ≡ end_from n (tokens_in (one_branch NODE_LITERAL c)) → m ≡ end_from n (tokens_in c)
 alone_end m n c e = e ∙ ap (end_from n) (append-nil (tokens_in c))
 
-expression_new : (k : SyntaxKind) (b c : Sketch) → is_expression k ≡ true → repeats k b c ≡ []
+expression_new : (k : SyntaxKind) (b c : AnnotatedForest) → is_expression k ≡ true → repeats k b c ≡ []
 expression_new NODE_PAT_ENTRY b c h = absurd (true_is_not_false (sym h))
 expression_new _ b c h = refl
 
 -- no operand is an entry of a pattern
-pub fit_new : (n : ℕ) (k : SyntaxKind) (b c : Sketch) → fits n k ≡ true → repeats k b c ≡ []
+pub fit_new : (n : ℕ) (k : SyntaxKind) (b c : AnnotatedForest) → fits n k ≡ true → repeats k b c ≡ []
 fit_new n k b c h = expression_new k b c (fits_expression n k h)
 
 -- an operand repeats no name
-none_repeated : (level : ℕ) (k : SyntaxKind) (b c : Sketch) (ds : List Fault) → fits level k ≡ true → ds ++ repeats k b c ≡ ds
+none_repeated : (level : ℕ) (k : SyntaxKind) (b c : AnnotatedForest) (ds : List Fault) → fits level k ≡ true → ds ++ repeats k b c ≡ ds
 none_repeated level k b c ds h = ap (λ z. ds ++ z) (fit_new level k b c h) ∙ append-nil ds
 
 -- a tree where a node's row begins
-pub first_placed : {d n m : ℕ} {x f : Sketch} {vs us : List Token} {ds es : List Fault} {k : SyntaxKind} {q r : Spot} (level : ℕ)
-    → Lone d n x vs ds → fits level (seen_kind x) ≡ true → vs ≡ tokens_in f ++ us → m ≡ end_from n (tokens_in x) → go (Start k) (seen_kind x) ≡ q → live q ≡ true
+pub first_placed : {d n m : ℕ} {x f : AnnotatedForest} {vs us : List Token} {ds es : List Fault} {k : SyntaxKind} {q r : RowState} (level : ℕ)
+    → Lone d n x vs ds → fits level (seen_kind x) ≡ true → vs ≡ tokens_in f ++ us → m ≡ end_from n (tokens_in x) → advance (Start k) (seen_kind x) ≡ q → live q ≡ true
     → Reads k d m q r x us f es → Reads k d n (Start k) r blank us (x ⊕ f) (ds ++ es)
 first_placed {n = n} {m = m} {vs = vs} {es = es} level (a_node {k = k} {s = s} {c = c} {ds = ds} w e o) h v u g l z =
     inner v refl w u' (subst (λ (j : ℕ). IsOver s j vs) (e ∙ sym u') o) tt (λ e. absurd (true_is_not_false (sym e))) tt tt g l refl z
@@ -48,26 +48,26 @@ first_placed {n = n} {m = m} {vs = vs} {es = es} level (a_node {k = k} {s = s} {
     u' = alone_end m n c u
 first_placed level (an_error {t = t}) h v u g l z = wrong Stray (t ∷ []) refl v tt tt (refl, (λ e. absurd (true_is_not_false (sym e))), tt, g, l) refl u z refl
 
--- a spot where operands of a level stand, and the spot behind them
-pub record Takes (q : Spot) (level : ℕ) (r : Spot) : Type 0 where
-  pub leveled : (x : Sketch) → is_or_row x ≡ false → level_at q x ≡ Some level
-  pub owned : (k : SyntaxKind) (c : Sketch) → is_or_row (one_branch k c) ≡ false → stands_owned q k c ≡ false
-  pub goes : (k : SyntaxKind) → fits level k ≡ true → go q k ≡ r
+-- a state where operands of a level stand, and the state behind them
+pub record Takes (q : RowState) (level : ℕ) (r : RowState) : Type 0 where
+  pub leveled : (x : AnnotatedForest) → is_or_row x ≡ false → level_at q x ≡ Some level
+  pub expected : (k : SyntaxKind) (c : AnnotatedForest) → is_or_row (one_branch k c) ≡ false → stands_expected q k c ≡ false
+  pub goes : (k : SyntaxKind) → fits level k ≡ true → advance q k ≡ r
   pub live : live r ≡ true
 
 -- an operand where one may stand
-pub placed : {d n m level : ℕ} {b x f : Sketch} {us vs ws : List Token} {ds es : List Fault} {k : SyntaxKind} {q r s : Spot} → Takes q level s
+pub placed : {d n m level : ℕ} {b x f : AnnotatedForest} {us vs ws : List Token} {ds es : List Fault} {k : SyntaxKind} {q r s : RowState} → Takes q level s
     → Lone (deeper q d) n x vs ds → fits level (seen_kind x) ≡ true → is_or_row x ≡ false → IsOperand (Some level) x vs
-    → vs ≡ tokens_in f ++ us → ws ≡ tokens_in x ++ vs → m ≡ end_from n (tokens_in x) → IsOwned q n ws false → IsRoom q d → IsFollowed q b (head_kind ws)
+    → vs ≡ tokens_in f ++ us → ws ≡ tokens_in x ++ vs → m ≡ end_from n (tokens_in x) → IsExpected q n ws false → IsRoom q d → IsFollowed q b (head_kind ws)
     → Reads k d m s r (b ⊕ x) us f es → Reads k d n q r b us (x ⊕ f) (ds ++ es)
 placed {n = n} {m = m} {level = level} {b = b} {vs = vs} {ws = ws} {es = es} {q = q} a (a_node {k = k} {s = s} {c = c} {ds = ds} w e o) h nor op v i u ow room fo z =
     inner v (i ∙ ap (λ y. y ++ vs) (append-nil (tokens_in c))) w u' (subst (λ (j : ℕ). IsOver s j vs) (e ∙ sym u') o)
-    (subst (λ (y : Bool). IsOwned q n ws y) (sym (a.owned k c nor)) ow) room fo
+    (subst (λ (y : Bool). IsExpected q n ws y) (sym (a.expected k c nor)) ow) room fo
     (subst (λ (y : Option ℕ). IsOperand y (one_branch k c) vs) (sym (a.leveled (one_branch k c) nor)) op) (a.goes k h) a.live refl z
     (ap (λ y. y ++ es) (sym (none_repeated level k b c ds h)))
   where
     u' : m ≡ end_from n (tokens_in c)
     u' = alone_end m n c u
 placed {n = n} {b = b} {vs = vs} {q = q} a (an_error {t = t}) h nor op v i u ow room fo z =
-    wrong Stray (t ∷ []) refl v (subst (λ (y : List Token). IsOwned q n y false) i ow) (subst (λ (y : List Token). IsFollowed q b (head_kind y)) i fo)
+    wrong Stray (t ∷ []) refl v (subst (λ (y : List Token). IsExpected q n y false) i ow) (subst (λ (y : List Token). IsFollowed q b (head_kind y)) i fo)
     (refl, room, subst (λ (y : Option ℕ). IsOperand y (one_fault Stray (row_of (t ∷ []))) vs) (sym (a.leveled blank refl)) op, a.goes NODE_LITERAL h, a.live) refl u z refl

@@ -11,12 +11,12 @@ use Rattle.rnix_grammar.specs.declared.place.Place.TheVariants as p
 use Rattle.rnix_grammar.specs.declared.action.Action.{Action}
 use Rattle.rnix_grammar.specs.declared.action.Action.TheVariants as a
 use Rattle.rnix_grammar.specs.Fault.{Fault}
-use Rattle.rnix_grammar.specs.Levels.{power, right_of, high_of}
+use Rattle.rnix_grammar.specs.Levels.{binding_power, right_of, high_of}
 use Rattle.rnix_grammar.specs.Actions.{follow, goes_on, more_action, action_at}
 use Rattle.rnix_grammar.specs.TokenKinds.{is_or}
-use Rattle.rnix_grammar.specs.Sketch.{Token, token, ◌⊕◌, one_branch, told, told_as, head_kind, touches}
+use Rattle.rnix_grammar.specs.AnnotatedForest.{Token, token, ◌⊕◌, one_branch, leaf_kind, leaf_kind_as, head_kind, touches}
 use Rattle.rnix_grammar.specs.Machine.{Frame}
-use Rattle.rnix_grammar.specs.Rows.{is_atom, BeforeOperator, BeforeDot, BeforeQuestion, BeforeArgument, At, to, go}
+use Rattle.rnix_grammar.specs.Rows.{is_atom, BeforeOperator, BeforeDot, BeforeQuestion, BeforeArgument, At, to, advance}
 use Rattle.rnix_grammar.specs.Operands.{follows}
 use Rattle.rnix_lemmas.proofs.Basics.{not_if, some_same}
 use Rattle.rnix_lemmas.proofs.FollowLemmas.{stops_simple, stops_at, followed_question, followed_infix}
@@ -29,8 +29,8 @@ use Rattle.rnix_existence.proofs.OperandFollows.{operator_follows, question_foll
 use Rattle.rnix_existence.proofs.OperandSteps.{settle_ends, wrap_ends, apply_ends, apply_or_ends}
 
 -- a token that begins an argument is not the name `or`
-argument_no_or : (k : SyntaxKind) → power k ≡ 15 → is_or k ≡ false
-argument_no_or k h = not_if (is_or k) (implied (λ o. nat_eq (power o) 15) (λ o. if is_or o then false else true) refl k (grind (arith, nat_tests, h)))
+argument_no_or : (k : SyntaxKind) → binding_power k ≡ 15 → is_or k ≡ false
+argument_no_or k h = not_if (is_or k) (implied (λ o. nat_eq (binding_power o) 15) (λ o. if is_or o then false else true) refl k (grind (arith, nat_tests, h)))
 
 -- an operand goes on with a token
 goes : (k : SyntaxKind) (action : Action) → FollowsBy k action → (f : Frame) (fs : List Frame) (t : Token) (ts : List Token) (n : ℕ) (gs : List Fault) (r : AtOperand f fs)
@@ -39,20 +39,20 @@ goes k action by_dot f fs t ts n gs r e x =
     let at : is_atom (seen_kind f.row) ≡ true = r.grows.atom (omega (arith, x.most)) in
     wrap_ends f fs t ts n gs NODE_SELECT BeforeDot p.SelectPath 15 r refl (ap (λ w. to w BeforeDot) at) refl (λ us. tt)
     (subst (λ (j : SyntaxKind). follows j f.row ≡ true) (sym e) (atom_row f.row r.single at))
-    (ap (λ j. go BeforeDot (told_as NODE_SELECT j)) e) (λ c. refl) (λ rest. stops_simple (one_branch NODE_SELECT (f.row ⊕ token (told NODE_SELECT t) t rest)) refl) (λ b c. refl)
+    (ap (λ j. advance BeforeDot (leaf_kind_as NODE_SELECT j)) e) (λ c. refl) (λ rest. stops_simple (one_branch NODE_SELECT (f.row ⊕ token (leaf_kind NODE_SELECT t) t rest)) refl) (λ b c. refl)
 goes k action by_question f fs t ts n gs r e x =
     wrap_ends f fs t ts n gs NODE_HAS_ATTR BeforeQuestion p.HasPath 13 r refl
     (ap (λ w. to w BeforeQuestion) (r.grows.questioned (omega (arith, x.most)))) refl (λ us. tt)
     (subst (λ (j : SyntaxKind). follows j f.row ≡ true) (sym e) (question_follows f.row (r.grows.asked (omega (arith, x.most)))))
-    (ap (λ j. go BeforeQuestion (told_as NODE_HAS_ATTR j)) e) (λ c. refl)
-    (λ rest. stops_at 13 (one_branch NODE_HAS_ATTR (f.row ⊕ token (told NODE_HAS_ATTR t) t rest)) (followed_question (one_branch NODE_HAS_ATTR (f.row ⊕ token (told NODE_HAS_ATTR t) t rest)) refl refl)) (λ b c. refl)
+    (ap (λ j. advance BeforeQuestion (leaf_kind_as NODE_HAS_ATTR j)) e) (λ c. refl)
+    (λ rest. stops_at 13 (one_branch NODE_HAS_ATTR (f.row ⊕ token (leaf_kind NODE_HAS_ATTR t) t rest)) (followed_question (one_branch NODE_HAS_ATTR (f.row ⊕ token (leaf_kind NODE_HAS_ATTR t) t rest)) refl refl)) (λ b c. refl)
 goes k action (by_operator h) f fs t ts n gs r e x =
     wrap_ends f fs t ts n gs NODE_BIN_OP BeforeOperator (p.Right (right_of k)) (high_of k) r refl
     (ap (λ w. to w BeforeOperator) (r.grows.operand (omega (arith, x.most, x.positive)))) refl (λ us. tt)
     (subst (λ (j : SyntaxKind). follows j f.row ≡ true) (sym e) (operator_follows k f.row h (r.grows.left k h x.most)))
-    (ap (λ j. go BeforeOperator (told_as NODE_BIN_OP j)) e ∙ ap (λ w. to w (At (p.Right (right_of k)))) h) (λ c. refl)
-    (λ rest. stops_at (high_of k) (one_branch NODE_BIN_OP (f.row ⊕ token (told NODE_BIN_OP t) t rest))
-    (followed_infix k h (one_branch NODE_BIN_OP (f.row ⊕ token (told NODE_BIN_OP t) t rest)) (ap power (single_operator f.row rest (told NODE_BIN_OP t) t r.single ∙ e)) refl)) (λ b c. refl)
+    (ap (λ j. advance BeforeOperator (leaf_kind_as NODE_BIN_OP j)) e ∙ ap (λ w. to w (At (p.Right (right_of k)))) h) (λ c. refl)
+    (λ rest. stops_at (high_of k) (one_branch NODE_BIN_OP (f.row ⊕ token (leaf_kind NODE_BIN_OP t) t rest))
+    (followed_infix k h (one_branch NODE_BIN_OP (f.row ⊕ token (leaf_kind NODE_BIN_OP t) t rest)) (ap binding_power (single_operator f.row rest (leaf_kind NODE_BIN_OP t) t r.single ∙ e)) refl)) (λ b c. refl)
 goes k action by_or f fs t ts n gs r e x =
     let at : is_atom (seen_kind f.row) ≡ true = r.grows.atom (omega (arith, x.most)) in
     apply_or_ends f fs t ts n gs r (ap (λ w. to w BeforeArgument) (r.grows.simple (omega (arith, x.most)))) e

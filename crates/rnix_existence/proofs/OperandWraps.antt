@@ -3,12 +3,12 @@ use Rattle.std.proofs.Common.{◌≡◌, ℕ, true, List, ◌∷◌, ◌++◌, r
 use Rattle.rnix_kinds.specs.declared.kinds.SyntaxKind.{SyntaxKind}
 use Rattle.rnix_grammar.specs.declared.place.Place.TheVariants as p
 use Rattle.rnix_grammar.specs.Fault.{Fault}
-use Rattle.rnix_grammar.specs.Sketch.{Token, Sketch, blank, ◌⊕◌, one_branch, tokens_in, end_from}
+use Rattle.rnix_grammar.specs.AnnotatedForest.{Token, AnnotatedForest, blank, ◌⊕◌, one_branch, tokens_in, end_from}
 use Rattle.rnix_grammar.specs.Machine.{Operand, Frame, opened}
-use Rattle.rnix_grammar.specs.Rows.{fits, Spot, Start, go, live, start}
+use Rattle.rnix_grammar.specs.Rows.{fits, RowState, Start, advance, live, start}
 use Rattle.rnix_grammar.specs.Operands.{first_tree}
 use Rattle.rnix_grammar.specs.Reads.{Reads, IsOver}
-use Rattle.rnix_lemmas.proofs.SketchLemmas.{tokens_two}
+use Rattle.rnix_lemmas.proofs.AnnotatedForestLemmas.{tokens_two}
 use Rattle.rnix_lemmas.proofs.FollowLemmas.{Stops}
 use Rattle.rnix_lemmas.proofs.FirstTrees.{IsSingle, first_in}
 use Rattle.rnix_existence.proofs.OpenFrames.{seen_kind, Lone, a_node, Ends}
@@ -17,30 +17,30 @@ use Rattle.rnix_existence.proofs.OperandTrees.{first_placed}
 use Rattle.rnix_existence.proofs.OperandEnds.{OperandEnds, operand_ends, regrown, grown_ends}
 
 -- a tree without the empty row behind it
-pub alone_tokens : (k : SyntaxKind) (c : Sketch) → tokens_in (one_branch k c) ≡ tokens_in c
+pub alone_tokens : (k : SyntaxKind) (c : AnnotatedForest) → tokens_in (one_branch k c) ≡ tokens_in c
 alone_tokens k c = append-nil (tokens_in c)
 
 -- the node of an operand and what goes on with it may be an operand
-pub lone_node : (k : SyntaxKind) (low d n m : ℕ) (x rest : Sketch) (ts left : List Token) (spot s : Spot) (ds : List Fault) → start k ≡ Start k → fits low (seen_kind x) ≡ true
-    → go (Start k) (seen_kind x) ≡ spot → live spot ≡ true → ts ≡ tokens_in rest ++ left → m ≡ end_from n (tokens_in rest) → IsOver s m left → Reads k d n spot s x left rest ds
+pub lone_node : (k : SyntaxKind) (low d n m : ℕ) (x rest : AnnotatedForest) (ts left : List Token) (row_state s : RowState) (ds : List Fault) → start k ≡ Start k → fits low (seen_kind x) ≡ true
+    → advance (Start k) (seen_kind x) ≡ row_state → live row_state ≡ true → ts ≡ tokens_in rest ++ left → m ≡ end_from n (tokens_in rest) → IsOver s m left → Reads k d n row_state s x left rest ds
     → (i : ℕ) (cs : List Fault) → n ≡ end_from i (tokens_in x) → Lone d i x ts cs → Lone d i (one_branch k (x ⊕ rest)) left (cs ++ ds)
-lone_node k low d n m x rest ts left spot s ds st h g l e u o z i cs v w =
-    a_node (subst (λ (q : Spot). Reads k d i q s blank left (x ⊕ rest) (cs ++ ds)) (sym st) (first_placed low w h e v g l z))
+lone_node k low d n m x rest ts left row_state s ds st h g l e u o z i cs v w =
+    a_node (subst (λ (q : RowState). Reads k d i q s blank left (x ⊕ rest) (cs ++ ds)) (sym st) (first_placed low w h e v g l z))
     (u ∙ ap (λ j. end_from j (tokens_in rest)) v ∙ sym (end_two i x rest)) o
 
 -- an operand becomes the first tree of a node, which then goes on as one
-pub wrapped_ends : (f : Frame) (fs : List Frame) (ts : List Token) (n : ℕ) (row : Sketch) (es : List Fault) (low high other : ℕ) (k : SyntaxKind) (spot s : Spot) (rest : Sketch)
+pub wrapped_ends : (f : Frame) (fs : List Frame) (ts : List Token) (n : ℕ) (row : AnnotatedForest) (es : List Fault) (low high other : ℕ) (k : SyntaxKind) (row_state s : RowState) (rest : AnnotatedForest)
     (left : List Token) (m : ℕ) (ds : List Fault) → f.head ≡ Operand → f.place ≡ p.Behind low high → IsSingle f.row → fits low (seen_kind f.row) ≡ true → start k ≡ Start k
-    → go (Start k) (seen_kind f.row) ≡ spot → live spot ≡ true → first_tree (one_branch k (f.row ⊕ rest)) ≡ first_tree (f.row ⊕ rest) → Stops other (one_branch k (f.row ⊕ rest))
-    → ts ≡ tokens_in rest ++ left → m ≡ end_from n (tokens_in rest) → IsOver s m left → Reads k f.depth n spot s f.row left rest ds
+    → advance (Start k) (seen_kind f.row) ≡ row_state → live row_state ≡ true → first_tree (one_branch k (f.row ⊕ rest)) ≡ first_tree (f.row ⊕ rest) → Stops other (one_branch k (f.row ⊕ rest))
+    → ts ≡ tokens_in rest ++ left → m ≡ end_from n (tokens_in rest) → IsOver s m left → Reads k f.depth n row_state s f.row left rest ds
     → Ends (opened Operand (p.Behind low other) f.depth (one_branch k (f.row ⊕ rest)) ∷ fs) left m row es → Ends (f ∷ fs) ts n row (ds ++ es)
-wrapped_ends f fs ts n row es low high other k spot s rest left m ds h e single fit st g l first stops items reach over reads ends =
+wrapped_ends f fs ts n row es low high other k row_state s rest left m ds h e single fit st g l first stops items reach over reads ends =
     grown_ends low high other f (opened Operand (p.Behind low other) f.depth (one_branch k (f.row ⊕ rest))) fs ts left n m row ds (ds ++ es) es h e o
     (regrown low high other f.depth f.row (one_branch k (f.row ⊕ rest)) o.tree ts left o.left n m o.reached ds o.inside o.grows stops
     (ap (λ z. tokens_in f.row ++ z) items ∙ sym (tokens_two f.row rest left) ∙ ap (λ z. z ++ left) (sym (alone_tokens k (f.row ⊕ rest))))
     (λ i v. reach ∙ ap (λ j. end_from j (tokens_in rest)) v ∙ sym (end_two i f.row rest) ∙ ap (end_from i) (sym (alone_tokens k (f.row ⊕ rest))))
     (first ∙ first_in f.row rest single)
-    (lone_node k low f.depth n m f.row rest ts left spot s ds st fit g l items reach over reads)) refl
+    (lone_node k low f.depth n m f.row rest ts left row_state s ds st fit g l items reach over reads)) refl
   where
     o : OperandEnds low other (opened Operand (p.Behind low other) f.depth (one_branch k (f.row ⊕ rest))) fs left m row es
     o = operand_ends low other (opened Operand (p.Behind low other) f.depth (one_branch k (f.row ⊕ rest))) fs left m row es refl refl ends

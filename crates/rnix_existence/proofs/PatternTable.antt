@@ -1,50 +1,50 @@
--- What ends behind a step at an open node ends before it, slot by slot: patterns, defaults and ends.
+-- What ends behind a step at an open node ends before it, symbol by symbol: patterns, defaults and ends.
 use Rattle.std.proofs.Common.{◌≡◌, ℕ, Bool, true, false, List, [], ◌∷◌, Some, None, refl, ap, sym, ◌∙◌}
 use Rattle.std.specs.Prelude.{nat_eq, if◌then◌else◌}
 use Rattle.rnix_kinds.specs.declared.kinds.SyntaxKind.{SyntaxKind}
 use Rattle.rnix_kinds.specs.declared.kinds.SyntaxKind.TheVariants.{NODE_PAT_BIND, NODE_PAT_ENTRY, TOKEN_AT, TOKEN_COMMA, TOKEN_ELLIPSIS, TOKEN_IDENT, TOKEN_OR, TOKEN_QUESTION, TOKEN_R_BRACE}
 use Rattle.rnix_grammar.specs.declared.place.Place.{Place}
 use Rattle.rnix_grammar.specs.declared.place.Place.TheVariants as p
-use Rattle.rnix_grammar.specs.declared.slot.Slot.{Slot}
-use Rattle.rnix_grammar.specs.declared.slot.Slot.TheVariants as s
+use Rattle.rnix_grammar.specs.declared.symbol.Symbol.{Symbol}
+use Rattle.rnix_grammar.specs.declared.symbol.Symbol.TheVariants as s
 use Rattle.rnix_grammar.specs.declared.until.Until.TheVariants as u
 use Rattle.rnix_grammar.specs.declared.action.Action.TheVariants as a
 use Rattle.rnix_grammar.specs.Fault.{Fault}
 use Rattle.rnix_grammar.specs.Tables.{is_wanted}
-use Rattle.rnix_grammar.specs.Slots.{level_in, is_counted}
+use Rattle.rnix_grammar.specs.Symbols.{level_in, is_counted}
 use Rattle.rnix_grammar.specs.Actions.{token_action, formals_action, braces_action, comma_action, bind_action, default_action, or_action, end_action}
 use Rattle.rnix_grammar.specs.TokenKinds.{is_comma}
-use Rattle.rnix_grammar.specs.Sketch.{Token, Sketch, head_kind}
+use Rattle.rnix_grammar.specs.AnnotatedForest.{Token, AnnotatedForest, head_kind}
 use Rattle.rnix_grammar.specs.Machine.{Frame, Node}
 use Rattle.rnix_grammar.specs.Missing.{run_in}
-use Rattle.rnix_grammar.specs.Rows.{go_formals, go_slot}
-use Rattle.rnix_grammar.specs.OwnItems.{owns_in, stands_owned_in}
+use Rattle.rnix_grammar.specs.Rows.{advance_formals, advance_symbol}
+use Rattle.rnix_grammar.specs.ExpectedItems.{expects_in, stands_expected_in}
 use Rattle.rnix_lemmas.proofs.PlaceTables.{bind_is, end_is}
 use Rattle.rnix_existence.proofs.OpenFrames.{closing, EndsBy}
 use Rattle.rnix_existence.proofs.RowSteps as row
 use Rattle.rnix_existence.proofs.NodeOpens as opening
-use Rattle.rnix_existence.proofs.SlotSteps.{Known, takes, misses, misses_wanted, runs, opens, begins_entry, over, over_end}
+use Rattle.rnix_existence.proofs.SymbolSteps.{Known, takes, misses, misses_wanted, runs, opens, begins_entry, over, over_end}
 
 -- where entries of a pattern stand: its own items, and what they lead to
-record Formal (slot : Slot) (x : Place) (bound : Bool) : Type 0 where
-  own : (touches : Bool) (k : SyntaxKind) → owns_in slot touches k ≡ is_wanted u.Entry k
-  stands : stands_owned_in slot NODE_PAT_ENTRY ≡ true
-  counted : is_counted slot ≡ false
-  level : level_in slot ≡ None
-  goes : (k : SyntaxKind) → go_slot slot x k ≡ go_formals bound k
-  runs : run_in slot x ≡ Some (u.Entry, p.PatternInside bound)
+record Formal (symbol : Symbol) (x : Place) (bound : Bool) : Type 0 where
+  own : (touches : Bool) (k : SyntaxKind) → expects_in symbol touches k ≡ is_wanted u.Entry k
+  stands : stands_expected_in symbol NODE_PAT_ENTRY ≡ true
+  counted : is_counted symbol ≡ false
+  level : level_in symbol ≡ None
+  goes : (k : SyntaxKind) → advance_symbol symbol x k ≡ advance_formals bound k
+  runs : run_in symbol x ≡ Some (u.Entry, p.PatternInside bound)
 
 -- an entry of a pattern, what closes it, or a run before them
-formals_here : (f : Frame) (fs : List Frame) (slot : Slot) (t : Token) (ts : List Token) (n : ℕ) (gs : List Fault) (bound : Bool) → Known f slot → Formal slot f.place bound
+formals_here : (f : Frame) (fs : List Frame) (symbol : Symbol) (t : Token) (ts : List Token) (n : ℕ) (gs : List Fault) (bound : Bool) → Known f symbol → Formal symbol f.place bound
     → EndsBy (formals_action bound (Some t.kind)) f fs (t ∷ ts) n gs
-formals_here f fs slot t ts n gs bound w r = by t.kind refl
+formals_here f fs symbol t ts n gs bound w r = by t.kind refl
   where
     by : (k : SyntaxKind) → t.kind ≡ k → EndsBy (formals_action bound (Some k)) f fs (t ∷ ts) n gs
-    by TOKEN_R_BRACE h = takes f fs slot t ts n gs TOKEN_R_BRACE (p.PatternEnd bound) w h (r.own (nat_eq t.start n) TOKEN_R_BRACE) (r.goes TOKEN_R_BRACE)
-    by TOKEN_ELLIPSIS h = takes f fs slot t ts n gs TOKEN_ELLIPSIS (p.PatternClose bound) w h (r.own (nat_eq t.start n) TOKEN_ELLIPSIS) (r.goes TOKEN_ELLIPSIS)
+    by TOKEN_R_BRACE h = takes f fs symbol t ts n gs TOKEN_R_BRACE (p.PatternEnd bound) w h (r.own (nat_eq t.start n) TOKEN_R_BRACE) (r.goes TOKEN_R_BRACE)
+    by TOKEN_ELLIPSIS h = takes f fs symbol t ts n gs TOKEN_ELLIPSIS (p.PatternClose bound) w h (r.own (nat_eq t.start n) TOKEN_ELLIPSIS) (r.goes TOKEN_ELLIPSIS)
     by TOKEN_IDENT h =
-        begins_entry f fs slot t ts n gs (p.PatternAfter bound) w h r.counted r.level (r.own (nat_eq t.start n) TOKEN_IDENT ∙ sym r.stands) (r.goes NODE_PAT_ENTRY)
-    by k h = runs f fs slot t ts n gs t.kind u.Entry (p.PatternInside bound) w refl (r.own (nat_eq t.start n) t.kind ∙ ap (is_wanted u.Entry) h) (ap (is_wanted u.Entry) h) r.runs
+        begins_entry f fs symbol t ts n gs (p.PatternAfter bound) w h r.counted r.level (r.own (nat_eq t.start n) TOKEN_IDENT ∙ sym r.stands) (r.goes NODE_PAT_ENTRY)
+    by k h = runs f fs symbol t ts n gs t.kind u.Entry (p.PatternInside bound) w refl (r.own (nat_eq t.start n) t.kind ∙ ap (is_wanted u.Entry) h) (ap (is_wanted u.Entry) h) r.runs
 
 -- inside the braces of a pattern
 pub at_formals : (f : Frame) (fs : List Frame) (ts : List Token) (n : ℕ) (gs : List Fault) (bound : Bool) → Known f (s.Formals bound)
@@ -73,11 +73,11 @@ at_comma f fs (t ∷ ts) n gs bound w = by t.kind refl
     by k h = runs f fs (s.Comma bound) t ts n gs k u.RBrace (p.PatternClose bound) w h refl refl refl
 
 -- behind the braces of a pattern
-pub at_bind : (f : Frame) (fs : List Frame) (ts : List Token) (n : ℕ) (gs : List Fault) (bound : Bool) → Known f (s.Bind bound) → ((b c : Sketch) → closing f.head b c ≡ [])
+pub at_bind : (f : Frame) (fs : List Frame) (ts : List Token) (n : ℕ) (gs : List Fault) (bound : Bool) → Known f (s.Bind bound) → ((b c : AnnotatedForest) → closing f.head b c ≡ [])
     → EndsBy (bind_action bound (head_kind ts)) f fs ts n gs
 at_bind f fs ts n gs bound w e = by_items ts refl
   where
-    ends : (t : Token) (us : List Token) (k : SyntaxKind) → t.kind ≡ k → owns_in (s.Bind bound) (nat_eq t.start n) k ≡ false → EndsBy a.ClosePattern f fs (t ∷ us) n gs
+    ends : (t : Token) (us : List Token) (k : SyntaxKind) → t.kind ≡ k → expects_in (s.Bind bound) (nat_eq t.start n) k ≡ false → EndsBy a.ClosePattern f fs (t ∷ us) n gs
     ends t us k h own = opening.closes f fs (t ∷ us) n gs w.wide (over f (s.Bind bound) t us n k w.here h refl own) e
 
     ends_all : (b : Bool) → EndsBy (bind_action b None) f fs [] n gs
@@ -87,7 +87,7 @@ at_bind f fs ts n gs bound w e = by_items ts refl
     bound_as : (t : Token) (us : List Token) (b : Bool) → bound ≡ b → (k : SyntaxKind) → t.kind ≡ k → EndsBy (bind_action b (Some k)) f fs (t ∷ us) n gs
     bound_as t us true q TOKEN_AT h = opening.begins_second f fs t us n gs w.wide (bind_is f.place bound w.here ∙ ap p.PatternEnd q) h
     bound_as t us false q TOKEN_AT h =
-        opens f fs (s.Bind bound) t us n gs TOKEN_AT NODE_PAT_BIND p.BindName p.PatternPast w h refl refl refl refl refl (ap (λ z. go_slot (s.Bind z) f.place NODE_PAT_BIND) q)
+        opens f fs (s.Bind bound) t us n gs TOKEN_AT NODE_PAT_BIND p.BindName p.PatternPast w h refl refl refl refl refl (ap (λ z. advance_symbol (s.Bind z) f.place NODE_PAT_BIND) q)
     bound_as t us true q k h = ends t us k h refl
     bound_as t us false q k h = ends t us k h refl
 
@@ -106,7 +106,7 @@ at_default f fs (t ∷ ts) n gs w e = by t.kind refl
     by k h = opening.closes_entry f fs (t ∷ ts) n gs e (over f s.Default t ts n k w.here h refl refl)
 
 -- behind the path of a selection
-pub at_or : (f : Frame) (fs : List Frame) (ts : List Token) (n : ℕ) (gs : List Fault) → Known f s.Or → ((b c : Sketch) → closing f.head b c ≡ [])
+pub at_or : (f : Frame) (fs : List Frame) (ts : List Token) (n : ℕ) (gs : List Fault) → Known f s.Or → ((b c : AnnotatedForest) → closing f.head b c ≡ [])
     → EndsBy (or_action (head_kind ts)) f fs ts n gs
 at_or f fs [] n gs w e = opening.closes f fs [] n gs w.wide (over_end f s.Or n w.here refl refl) e
 at_or f fs (t ∷ ts) n gs w e = by t.kind refl

@@ -4,11 +4,11 @@ use Rattle.rnix_kinds.specs.declared.kinds.SyntaxKind.TheVariants.{NODE_ROOT}
 use Rattle.rnix_grammar.specs.declared.place.Place.{Place}
 use Rattle.rnix_grammar.specs.declared.place.Place.TheVariants as p
 use Rattle.rnix_grammar.specs.Fault.{Fault}
-use Rattle.rnix_grammar.specs.Sketch.{Token, Sketch, blank, tokens_in, touches}
+use Rattle.rnix_grammar.specs.AnnotatedForest.{Token, AnnotatedForest, blank, tokens_in, touches}
 use Rattle.rnix_grammar.specs.Machine.{Machine, Node, Frame, opened, step_on, begins, Runs, rest, then as further}
 use Rattle.rnix_grammar.specs.Rows.{At}
 use Rattle.rnix_grammar.specs.Reads.{Reads, end, ReadsWhole}
-use Rattle.rnix_lemmas.proofs.SketchLemmas.{⊕-blank}
+use Rattle.rnix_lemmas.proofs.AnnotatedForestLemmas.{⊕-blank}
 use Rattle.rnix_existence.proofs.OpenFrames.{Ends, root_frame}
 use Rattle.rnix_existence.proofs.Frames.{no_frame, Reading, node, operand, second}
 use Rattle.rnix_existence.proofs.NodeKept.{node_kept, second_kept}
@@ -17,7 +17,7 @@ use Rattle.rnix_existence.proofs.OperandWhole.{operand_step}
 use Rattle.rnix_existence.proofs.FrameEnds.{node_ends, second_ends}
 
 -- a machine ends as a row, with the errors that are still to come, so that all its errors are these
-pub record EndsWith (m : Machine) (row : Sketch) (all : List Fault) : Type 0 where
+pub record EndsWith (m : Machine) (row : AnnotatedForest) (all : List Fault) : Type 0 where
   pub coming : List Fault
   pub ends : Ends m.frames m.left m.reached row coming
   pub faults : m.faults ++ coming ≡ all
@@ -29,7 +29,7 @@ step_kept ts n gs (operand {f = f} {fs = fs} r) = operand_kept f fs ts n gs (tou
 step_kept ts n gs (second {f = f} {fs = fs} r) = second_kept f fs ts n gs (touches n ts) r
 
 -- what ends behind a step ends before it
-step_ends : {fs : List Frame} (ts : List Token) (n : ℕ) (gs : List Fault) (row : Sketch) (all : List Fault) → Reading fs
+step_ends : {fs : List Frame} (ts : List Token) (n : ℕ) (gs : List Fault) (row : AnnotatedForest) (all : List Fault) → Reading fs
     → EndsWith (step_on false fs ts n gs) row all
     → EndsWith (record { frames = fs; left = ts; reached = n; faults = gs }) row all
 step_ends ts n gs row all (node {f = f} {fs = fs} r) w =
@@ -40,7 +40,7 @@ step_ends ts n gs row all (second {f = f} {fs = fs} r) w =
     let q = second_ends f fs ts n gs r row w.coming w.ends in record { coming = q.0; ends = q.1.0; faults = q.1.1 ∙ w.faults }
 
 -- what ends behind some steps ends before them
-runs_end : {m n : Machine} (row : Sketch) (all : List Fault) → Runs false m n → Reading m.frames → EndsWith n row all → EndsWith m row all
+runs_end : {m n : Machine} (row : AnnotatedForest) (all : List Fault) → Runs false m n → Reading m.frames → EndsWith n row all → EndsWith m row all
 runs_end row all rest r w = w
 runs_end row all (further {m = m} s) r w =
     step_ends m.left m.reached m.faults row all r (runs_end row all s (step_kept m.left m.reached m.faults r) w)
@@ -64,9 +64,9 @@ whole_reads ts m f s e h x l = by (runs_end f.row m.faults s (begun ts) ended)
       faults = append-nil m.faults;
     }
 
-    root : (row : Sketch) (zs : List Fault) → Ends (opened (Node NODE_ROOT) p.RootStart 0 blank ∷ []) ts 0 row zs
+    root : (row : AnnotatedForest) (zs : List Fault) → Ends (opened (Node NODE_ROOT) p.RootStart 0 blank ∷ []) ts 0 row zs
         → (ts ≡ tokens_in row) × ReadsWhole row zs
-    root row zs (root_frame {r = r} a b c d) = (c ∙ ap tokens_in (sym d), subst (λ (z : Sketch). ReadsWhole z zs) (sym d) b)
+    root row zs (root_frame {r = r} a b c d) = (c ∙ ap tokens_in (sym d), subst (λ (z : AnnotatedForest). ReadsWhole z zs) (sym d) b)
 
     by : EndsWith (begins ts) f.row m.faults → (ts ≡ tokens_in f.row) × ReadsWhole f.row m.faults
     by w = let r = root f.row w.coming w.ends in (r.0, subst (λ (z : List Fault). ReadsWhole f.row z) w.faults r.1)

@@ -8,13 +8,13 @@ use Rattle.rnix_grammar.specs.declared.place.Place.TheVariants as p
 use Rattle.rnix_grammar.specs.declared.until.Until.{Until}
 use Rattle.rnix_grammar.specs.declared.until.Until.TheVariants as u
 use Rattle.rnix_grammar.specs.declared.until.Closer.{Closer}
-use Rattle.rnix_grammar.specs.declared.slot.Slot.{Slot}
-use Rattle.rnix_grammar.specs.declared.slot.Slot.TheVariants as s
+use Rattle.rnix_grammar.specs.declared.symbol.Symbol.{Symbol}
+use Rattle.rnix_grammar.specs.declared.symbol.Symbol.TheVariants as s
 use Rattle.rnix_grammar.specs.declared.action.Action.{Action}
 use Rattle.rnix_grammar.specs.declared.action.Action.TheVariants as a
 use Rattle.rnix_grammar.specs.Tables.{is_wanted, closes}
-use Rattle.rnix_grammar.specs.Levels.{has_attr_level, application_level, power, right_of, high_of}
-use Rattle.rnix_grammar.specs.Slots.{slot_at}
+use Rattle.rnix_grammar.specs.Levels.{has_attr_level, application_level, binding_power, right_of, high_of}
+use Rattle.rnix_grammar.specs.Symbols.{symbol_at}
 use Rattle.rnix_grammar.specs.TokenKinds.{is_l_paren, is_comma, is_path_piece}
 
 -- where a token is wanted
@@ -130,7 +130,7 @@ follow kind = if is_fn_arg kind then a.Apply else a.Wrap NODE_BIN_OP (p.Right (r
 
 -- an operator goes on whose level is between these
 abbrev pub goes_on : ℕ → ℕ → SyntaxKind → Bool
-goes_on low high kind = nat_le 1 (power kind) && (nat_le low (power kind) && nat_le (power kind) high)
+goes_on low high kind = nat_le 1 (binding_power kind) && (nat_le low (binding_power kind) && nat_le (binding_power kind) high)
 
 -- behind an operand: what goes on with it at a level between two, or its end
 abbrev pub more_action : ℕ → ℕ → Option SyntaxKind → Action
@@ -138,7 +138,7 @@ more_action low high None = a.Settle
 more_action low high (Some kind) = if goes_on low high kind then follow kind else a.Settle
 
 -- what is done where something stands
-abbrev pub done_at : Slot → Place → Option SyntaxKind → Bool → Action
+abbrev pub done_at : Symbol → Place → Option SyntaxKind → Bool → Action
 done_at s.Done place next touches = a.Close
 done_at s.EntryDone place next touches = a.CloseEntry
 done_at s.PatternDone place next touches = a.ClosePattern
@@ -167,4 +167,4 @@ done_at (s.More low high) place next touches = more_action low high next
 
 -- what is done at a place, by the next token that is not trivia, and by whether it touches the one before
 abbrev pub action_at : Place → Option SyntaxKind → Bool → Action
-action_at place next touches = done_at (slot_at place) place next touches
+action_at place next touches = done_at (symbol_at place) place next touches

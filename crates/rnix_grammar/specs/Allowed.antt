@@ -8,7 +8,7 @@ use Rattle.rnix_grammar.specs.declared.action.Action.{Action}
 use Rattle.rnix_grammar.specs.declared.action.Action.TheVariants as a
 use Rattle.rnix_grammar.specs.Tables.{stops}
 use Rattle.rnix_grammar.specs.Sorts.{Root, Pattern, Entry, Again, Loose, Plain, sort_of, sort_of_node, may_hold, is_open}
-use Rattle.rnix_grammar.specs.Weights.{weight, bonus}
+use Rattle.rnix_grammar.specs.Weights.{weight, full_bonus, bonus}
 
 -- an item is at hand
 abbrev pub is_there : Option SyntaxKind → Bool
@@ -22,7 +22,7 @@ IsNext place (Some kind) after = sort_of after ≡ sort_of place
 
 -- what an action needs: the sort of its place, an item or none, and where it leads
 abbrev pub Allowed : Place → Option SyntaxKind → Action → Type 0
-Allowed place next a.Close = (sort_of place ≡ Plain) × (bonus place ≡ 30)
+Allowed place next a.Close = (sort_of place ≡ Plain) × (bonus place ≡ full_bonus)
 Allowed place next a.CloseEntry = sort_of place ≡ Entry
 Allowed place next a.ClosePattern = sort_of place ≡ Pattern
 Allowed place next a.CloseTwice = sort_of place ≡ Again

@@ -6,7 +6,7 @@ use Rattle.rnix_grammar.specs.declared.place.Place.TheVariants as p
 use Rattle.rnix_grammar.specs.declared.begin.Begin.{Begin}
 use Rattle.rnix_grammar.specs.declared.begin.Begin.TheVariants as b
 use Rattle.rnix_grammar.specs.Tables.{is_cur_pos}
-use Rattle.rnix_grammar.specs.Sketch.{Token, head_kind}
+use Rattle.rnix_grammar.specs.AnnotatedForest.{Token, head_kind}
 use Rattle.rnix_grammar.specs.Layout.{tail_of}
 use Rattle.rnix_grammar.specs.Levels.{expression_level, no_level, inversion_level, negation_level, selection_level}
 

@@ -1,6 +1,6 @@
 -- A machine without trivia.
 use Rattle.std.specs.Prelude.{List, [], ◌∷◌}
-use Rattle.rnix_grammar.specs.Sketch.{clean}
+use Rattle.rnix_grammar.specs.AnnotatedForest.{clean}
 use Rattle.rnix_grammar.specs.Layout.{items}
 use Rattle.rnix_grammar.specs.Machine.{Frame, Machine, put, machine}
 

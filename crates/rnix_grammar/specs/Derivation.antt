@@ -4,7 +4,7 @@ use Rattle.rnix_kinds.specs.declared.kinds.SyntaxKind.TheVariants.{NODE_ROOT}
 use Rattle.rnix_kinds.specs.SyntaxKind.{is_token}
 use Rattle.rnix_tree.specs.Forest.{Forest, empty, leaf, node}
 use Rattle.rnix_grammar.specs.Tables.{depth_limit}
-use Rattle.rnix_grammar.specs.Sketch.{Token, lexeme_of, Sketch, blank, token, branch}
+use Rattle.rnix_grammar.specs.AnnotatedForest.{Token, lexeme_of, AnnotatedForest, blank, token, branch}
 use Rattle.rnix_grammar.specs.Layout.{tail_of}
 use Rattle.rnix_grammar.specs.Strict.{is_strict_expression}
 use Rattle.rnix_grammar.specs.Yield.{yield}
@@ -19,7 +19,7 @@ beyond (leaf k t f) ts = beyond f (tail_of ts)
 beyond (node k c f) ts = beyond f (beyond c ts)
 
 -- each leaf with its item, from left to right
-abbrev pub laid : Forest → List Token → Sketch
+abbrev pub laid : Forest → List Token → AnnotatedForest
 laid empty ts = blank
 laid (leaf k t f) [] = blank
 laid (leaf k t f) (x ∷ ts) = token k x (laid f ts)

@@ -5,7 +5,7 @@ use Rattle.rnix_kinds.specs.Lexical.Tokens.{Lexeme}
 use Rattle.rnix_tree.specs.Tree.{Tree}
 use Rattle.rnix_grammar.specs.declared.place.Place.TheVariants as p
 use Rattle.rnix_grammar.specs.Fault.{Fault}
-use Rattle.rnix_grammar.specs.Sketch.{placed_from, forget}
+use Rattle.rnix_grammar.specs.AnnotatedForest.{placed_from, forget}
 use Rattle.rnix_grammar.specs.Layout.{items}
 use Rattle.rnix_grammar.specs.Machine.{Node, Frame, Machine, begins, ate, Runs}
 

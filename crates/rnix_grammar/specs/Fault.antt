@@ -2,10 +2,10 @@
 use Rattle.std.specs.Prelude.{ℕ, Bool, true, false, ◌==◌, ◌&&◌, bytes_eq, List, [], ◌∷◌, ◌++◌, codes, string_bytes}
 use Rattle.std.specs.List.{flat_map}
 use Rattle.std.specs.Cmp.Lexicographic.{pointwise}
-use Rattle.std.specs.Fmt.{decimal}
 use Rattle.rnix_kinds.specs.declared.kinds.SyntaxKind.{SyntaxKind}
 use Rattle.rnix_kinds.specs.SyntaxKind.{name_of}
 use Rattle.rnix_tree.specs.Equality.{same_kind}
+use Rattle.rnix_tree.specs.Lines.{place_text}
 use Rattle.rnix_tree.specs.Range.{Extent, bounds_of}
 use Rattle.rnix_grammar.specs.declared.error.ParseError.{ParseError}
 use Rattle.rnix_grammar.specs.declared.error.ParseError.TheVariants.{Unexpected, UnexpectedExtra, UnexpectedWanted, UnexpectedDoubleBind, UnexpectedEOF, UnexpectedEOFWanted, DuplicatedArgs, RecursionLimitExceeded}
@@ -47,10 +47,6 @@ same_fault (ended_before wanted) (ended_before others) = pointwise same_kind wan
 same_fault (named_twice a name) (named_twice b other) = same_extent a b && bytes_eq name other
 same_fault too_deep too_deep = true
 same_fault _ _ = false
-
--- a range in decimal
-abbrev pub place_text : Extent → List ℕ
-place_text range = decimal range.start ++ codes ".." ++ decimal range.end
 
 -- what is said of a range, and the range
 abbrev pub range_text : List ℕ → Extent → List ℕ

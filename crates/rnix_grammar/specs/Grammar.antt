@@ -5,7 +5,7 @@ use Rattle.rnix_kinds.specs.declared.kinds.SyntaxKind.TheVariants.{TOKEN_ASSERT,
 use Rattle.rnix_tree.specs.Forest.{Forest, empty, leaf, node}
 use Rattle.rnix_grammar.specs.Tables.{is_cur_pos, is_or, is_among}
 use Rattle.rnix_grammar.specs.TokenKinds.{is_path_piece}
-use Rattle.rnix_grammar.specs.Levels.{power, left_of, right_of}
+use Rattle.rnix_grammar.specs.Levels.{expression_level, inversion_level, has_attr_level, negation_level, application_level, selection_level, binding_power, left_of, right_of}
 use Rattle.rnix_grammar.specs.Rows.{is_infix, is_plain_literal}
 
 -- a name, and the trees behind it
@@ -18,40 +18,47 @@ pub data PatternEnd : Bool → Forest → Type 0 where
   bound_behind : {s t : List ℕ} → is_or t ≡ false → PatternEnd false (node NODE_PAT_BIND (leaf TOKEN_AT s (name t empty)) empty)
 
 mutual
-  -- an expression that may stand where one of a level is asked for; any stands at level 0, and at 16 the simple ones alone
+  -- an expression that may stand where one of a level is asked for; the loosest level is that of all expressions, the tightest that of simple ones
   pub data Strict : ℕ → SyntaxKind → Forest → Type 0 where
     -- what stands at a level stands at each looser one
     looser : {m n : ℕ} {k : SyntaxKind} {c : Forest} → n ≤ m → Strict m k c → Strict n k c
-    -- 16: an atom; `a.b` and `a.b or c`; an atom behind which stands a lone `or`
-    atom : {k : SyntaxKind} {c : Forest} → Atom k c → Strict 16 k c
-    select : {k : SyntaxKind} {a p : Forest} {s : List ℕ} → Atom k a → Attrpath p → Strict 16 NODE_SELECT (node k a (leaf TOKEN_DOT s (node NODE_ATTRPATH p empty)))
-    select_or : {j k : SyntaxKind} {a p c : Forest} {s t : List ℕ} → Atom j a → Attrpath p → Strict 16 k c
-        → Strict 16 NODE_SELECT (node j a (leaf TOKEN_DOT s (node NODE_ATTRPATH p (leaf TOKEN_OR t (node k c empty)))))
-    apply_or : {k : SyntaxKind} {a : Forest} {t : List ℕ} → Atom k a → is_or t ≡ true → Strict 16 NODE_APPLY (node k a (name t empty))
-    -- 15: `a b`
-    apply : {j k : SyntaxKind} {a b : Forest} → Strict 15 j a → Strict 16 k b → Strict 15 NODE_APPLY (node j a (node k b empty))
-    -- 14: `-a`
-    negate : {k : SyntaxKind} {a : Forest} {s : List ℕ} → Strict 14 k a → Strict 14 NODE_UNARY_OP (leaf TOKEN_SUB s (node k a empty))
-    -- 13: `a ? b`
-    has_attr : {k : SyntaxKind} {a p : Forest} {s : List ℕ} → Strict 13 k a → Attrpath p → Strict 13 NODE_HAS_ATTR (node k a (leaf TOKEN_QUESTION s (node NODE_ATTRPATH p empty)))
-    -- 1 to 8 and 10 to 12: a binary operator, by the table of levels
+    -- an atom; `a.b` and `a.b or c`; an atom behind which stands a lone `or`
+    atom : {k : SyntaxKind} {c : Forest} → Atom k c → Strict selection_level k c
+    select : {k : SyntaxKind} {a p : Forest} {s : List ℕ} → Atom k a → Attrpath p
+        → Strict selection_level NODE_SELECT (node k a (leaf TOKEN_DOT s (node NODE_ATTRPATH p empty)))
+    select_or : {j k : SyntaxKind} {a p c : Forest} {s t : List ℕ} → Atom j a → Attrpath p → Strict selection_level k c
+        → Strict selection_level NODE_SELECT (node j a (leaf TOKEN_DOT s (node NODE_ATTRPATH p (leaf TOKEN_OR t (node k c empty)))))
+    apply_or : {k : SyntaxKind} {a : Forest} {t : List ℕ} → Atom k a → is_or t ≡ true → Strict selection_level NODE_APPLY (node k a (name t empty))
+    -- `a b`
+    apply : {j k : SyntaxKind} {a b : Forest} → Strict application_level j a → Strict selection_level k b
+        → Strict application_level NODE_APPLY (node j a (node k b empty))
+    -- `-a`
+    negate : {k : SyntaxKind} {a : Forest} {s : List ℕ} → Strict negation_level k a → Strict negation_level NODE_UNARY_OP (leaf TOKEN_SUB s (node k a empty))
+    -- `a ? b`
+    has_attr : {k : SyntaxKind} {a p : Forest} {s : List ℕ} → Strict has_attr_level k a → Attrpath p
+        → Strict has_attr_level NODE_HAS_ATTR (node k a (leaf TOKEN_QUESTION s (node NODE_ATTRPATH p empty)))
+    -- a binary operator, by the table of levels
     binary : {o j k : SyntaxKind} {a b : Forest} {s : List ℕ} → is_infix o ≡ true → Strict (left_of o) j a → Strict (right_of o) k b
-        → Strict (power o) NODE_BIN_OP (node j a (leaf o s (node k b empty)))
-    -- 9: `!a`
-    invert : {k : SyntaxKind} {a : Forest} {s : List ℕ} → Strict 9 k a → Strict 9 NODE_UNARY_OP (leaf TOKEN_INVERT s (node k a empty))
-    -- 0: functions, `let`, `with`, `assert` and `if`
-    lambda : {j k : SyntaxKind} {a b : Forest} {s : List ℕ} → Parameter j a → Strict 0 k b → Strict 0 NODE_LAMBDA (node j a (leaf TOKEN_COLON s (node k b empty)))
-    legacy_let : {f : Forest} {s t u : List ℕ} → Entries f (leaf TOKEN_R_BRACE u empty) → Strict 0 NODE_LEGACY_LET (leaf TOKEN_LET s (leaf TOKEN_L_BRACE t f))
-    let_in : {k : SyntaxKind} {f b : Forest} {s t : List ℕ} → Entries f (leaf TOKEN_IN t (node k b empty)) → Strict 0 k b → Strict 0 NODE_LET_IN (leaf TOKEN_LET s f)
-    with_scope : {j k : SyntaxKind} {a b : Forest} {s t : List ℕ} → Strict 0 j a → Strict 0 k b → Strict 0 NODE_WITH (leaf TOKEN_WITH s (node j a (leaf TOKEN_SEMICOLON t (node k b empty))))
-    assertion : {j k : SyntaxKind} {a b : Forest} {s t : List ℕ} → Strict 0 j a → Strict 0 k b
-        → Strict 0 NODE_ASSERT (leaf TOKEN_ASSERT s (node j a (leaf TOKEN_SEMICOLON t (node k b empty))))
-    if_else : {i j k : SyntaxKind} {a b c : Forest} {s t u : List ℕ} → Strict 0 i a → Strict 0 j b → Strict 0 k c
-        → Strict 0 NODE_IF_ELSE (leaf TOKEN_IF s (node i a (leaf TOKEN_THEN t (node j b (leaf TOKEN_ELSE u (node k c empty))))))
+        → Strict (binding_power o) NODE_BIN_OP (node j a (leaf o s (node k b empty)))
+    -- `!a`
+    invert : {k : SyntaxKind} {a : Forest} {s : List ℕ} → Strict inversion_level k a → Strict inversion_level NODE_UNARY_OP (leaf TOKEN_INVERT s (node k a empty))
+    -- functions, `let`, `with`, `assert` and `if`
+    lambda : {j k : SyntaxKind} {a b : Forest} {s : List ℕ} → Parameter j a → Strict expression_level k b
+        → Strict expression_level NODE_LAMBDA (node j a (leaf TOKEN_COLON s (node k b empty)))
+    legacy_let : {f : Forest} {s t u : List ℕ} → Entries f (leaf TOKEN_R_BRACE u empty)
+        → Strict expression_level NODE_LEGACY_LET (leaf TOKEN_LET s (leaf TOKEN_L_BRACE t f))
+    let_in : {k : SyntaxKind} {f b : Forest} {s t : List ℕ} → Entries f (leaf TOKEN_IN t (node k b empty)) → Strict expression_level k b
+        → Strict expression_level NODE_LET_IN (leaf TOKEN_LET s f)
+    with_scope : {j k : SyntaxKind} {a b : Forest} {s t : List ℕ} → Strict expression_level j a → Strict expression_level k b
+        → Strict expression_level NODE_WITH (leaf TOKEN_WITH s (node j a (leaf TOKEN_SEMICOLON t (node k b empty))))
+    assertion : {j k : SyntaxKind} {a b : Forest} {s t : List ℕ} → Strict expression_level j a → Strict expression_level k b
+        → Strict expression_level NODE_ASSERT (leaf TOKEN_ASSERT s (node j a (leaf TOKEN_SEMICOLON t (node k b empty))))
+    if_else : {i j k : SyntaxKind} {a b c : Forest} {s t u : List ℕ} → Strict expression_level i a → Strict expression_level j b → Strict expression_level k c
+        → Strict expression_level NODE_IF_ELSE (leaf TOKEN_IF s (node i a (leaf TOKEN_THEN t (node j b (leaf TOKEN_ELSE u (node k c empty))))))
 
   -- an expression that `.` and a lone `or` may follow
   pub data Atom : SyntaxKind → Forest → Type 0 where
-    paren : {k : SyntaxKind} {c : Forest} {s t : List ℕ} → Strict 0 k c → Atom NODE_PAREN (leaf TOKEN_L_PAREN s (node k c (leaf TOKEN_R_PAREN t empty)))
+    paren : {k : SyntaxKind} {c : Forest} {s t : List ℕ} → Strict expression_level k c → Atom NODE_PAREN (leaf TOKEN_L_PAREN s (node k c (leaf TOKEN_R_PAREN t empty)))
     set : {f : Forest} {s t : List ℕ} → Entries f (leaf TOKEN_R_BRACE t empty) → Atom NODE_ATTR_SET (leaf TOKEN_L_BRACE s f)
     rec_set : {f : Forest} {s t u : List ℕ} → Entries f (leaf TOKEN_R_BRACE u empty) → Atom NODE_ATTR_SET (leaf TOKEN_REC s (leaf TOKEN_L_BRACE t f))
     list : {f : Forest} {s : List ℕ} → Items f → Atom NODE_LIST (leaf TOKEN_L_BRACK s f)
@@ -68,7 +75,7 @@ mutual
   -- the rest of a list: simple expressions, and `]`
   pub data Items : Forest → Type 0 where
     list_end : {s : List ℕ} → Items (leaf TOKEN_R_BRACK s empty)
-    item : {k : SyntaxKind} {c f : Forest} → Strict 16 k c → Items f → Items (node k c f)
+    item : {k : SyntaxKind} {c f : Forest} → Strict selection_level k c → Items f → Items (node k c f)
 
   -- the rest of a string: contents and interpolations, and its end
   pub data Pieces : Forest → Type 0 where
@@ -89,13 +96,15 @@ mutual
 
   -- `${`, an expression and `}`
   pub data Interpol : Forest → Type 0 where
-    interpol : {k : SyntaxKind} {c : Forest} {s t : List ℕ} → Strict 0 k c → Interpol (leaf TOKEN_INTERPOL_START s (node k c (leaf TOKEN_INTERPOL_END t empty)))
+    interpol : {k : SyntaxKind} {c : Forest} {s t : List ℕ}
+        → Strict expression_level k c → Interpol (leaf TOKEN_INTERPOL_START s (node k c (leaf TOKEN_INTERPOL_END t empty)))
 
   -- an attribute's name: any name, a string, or one expression between `${` and `}`
   pub data Attr : SyntaxKind → Forest → Type 0 where
     named_attr : {s : List ℕ} → Attr NODE_IDENT (leaf TOKEN_IDENT s empty)
     string_attr : {f : Forest} {s : List ℕ} → Pieces f → Attr NODE_STRING (leaf TOKEN_STRING_START s f)
-    dynamic_attr : {k : SyntaxKind} {c : Forest} {s t : List ℕ} → Strict 0 k c → Attr NODE_DYNAMIC (leaf TOKEN_INTERPOL_START s (node k c (leaf TOKEN_INTERPOL_END t empty)))
+    dynamic_attr : {k : SyntaxKind} {c : Forest} {s t : List ℕ}
+        → Strict expression_level k c → Attr NODE_DYNAMIC (leaf TOKEN_INTERPOL_START s (node k c (leaf TOKEN_INTERPOL_END t empty)))
 
   -- names of attributes with `.` between them
   pub data Attrpath : Forest → Type 0 where
@@ -110,7 +119,8 @@ mutual
 
   -- `a.b = c;`
   pub data Binding : Forest → Type 0 where
-    bind : {k : SyntaxKind} {p c : Forest} {s t : List ℕ} → Attrpath p → Strict 0 k c → Binding (node NODE_ATTRPATH p (leaf TOKEN_ASSIGN s (node k c (leaf TOKEN_SEMICOLON t empty))))
+    bind : {k : SyntaxKind} {p c : Forest} {s t : List ℕ} → Attrpath p
+        → Strict expression_level k c → Binding (node NODE_ATTRPATH p (leaf TOKEN_ASSIGN s (node k c (leaf TOKEN_SEMICOLON t empty))))
 
   -- `inherit a b;` or `inherit (c) a b;`
   pub data Inherit : Forest → Type 0 where
@@ -119,7 +129,7 @@ mutual
 
   -- `(c)`
   pub data Source : Forest → Type 0 where
-    source : {k : SyntaxKind} {c : Forest} {s t : List ℕ} → Strict 0 k c → Source (leaf TOKEN_L_PAREN s (node k c (leaf TOKEN_R_PAREN t empty)))
+    source : {k : SyntaxKind} {c : Forest} {s t : List ℕ} → Strict expression_level k c → Source (leaf TOKEN_L_PAREN s (node k c (leaf TOKEN_R_PAREN t empty)))
 
   -- names of attributes, and `;`
   pub data Names : Forest → Type 0 where
@@ -145,8 +155,9 @@ mutual
   -- an entry of a pattern: a name, or a name, `?` and an expression
   pub data Formal : List ℕ → Forest → Type 0 where
     entry : {x : List ℕ} → is_or x ≡ false → Formal x (name x empty)
-    default_entry : {k : SyntaxKind} {x : List ℕ} {c : Forest} {s : List ℕ} → is_or x ≡ false → Strict 0 k c → Formal x (name x (leaf TOKEN_QUESTION s (node k c empty)))
+    default_entry : {k : SyntaxKind} {x : List ℕ} {c : Forest} {s : List ℕ} → is_or x ≡ false
+        → Strict expression_level k c → Formal x (name x (leaf TOKEN_QUESTION s (node k c empty)))
 
 -- one tree, which is an expression
 pub data IsExpression : Forest → Type 0 where
-  expression : {k : SyntaxKind} {c : Forest} → Strict 0 k c → IsExpression (node k c empty)
+  expression : {k : SyntaxKind} {c : Forest} → Strict expression_level k c → IsExpression (node k c empty)

@@ -1,7 +1,7 @@
 -- Where trivia stand: before a node's first item they stand before the node.
 use Rattle.std.specs.Prelude.{Bool, true, false, List, [], ◌∷◌}
 use Rattle.rnix_kinds.specs.SyntaxKind.{is_trivia}
-use Rattle.rnix_grammar.specs.Sketch.{Token, Note, TooDeep, Sketch, blank, token, branch, fault, ◌⊕◌}
+use Rattle.rnix_grammar.specs.AnnotatedForest.{Token, Note, TooDeep, AnnotatedForest, blank, token, branch, fault, ◌⊕◌}
 
 -- the tokens from a token on if it is an item, else those from a later one on
 abbrev pub from_item_if : Bool → Token → List Token → List Token → List Token
@@ -14,12 +14,12 @@ from_item [] = []
 from_item (t ∷ ts) = from_item_if (is_trivia t.kind) t ts (from_item ts)
 
 -- a token that is trivia, as a leaf before others; nothing for an item
-abbrev pub trivia_if : Bool → Token → Sketch → Sketch
+abbrev pub trivia_if : Bool → Token → AnnotatedForest → AnnotatedForest
 trivia_if true t more = token t.kind t more
 trivia_if false t more = blank
 
 -- the trivia before the first item, as a row of leaves
-abbrev pub trivia_before : List Token → Sketch
+abbrev pub trivia_before : List Token → AnnotatedForest
 trivia_before [] = blank
 trivia_before (t ∷ ts) = trivia_if (is_trivia t.kind) t (trivia_before ts)
 
@@ -44,7 +44,7 @@ is_last TooDeep = true
 is_last n = false
 
 -- the trivia that follow a node, if they stand beside it
-abbrev pub trivia_after : Bool → List Token → Sketch
+abbrev pub trivia_after : Bool → List Token → AnnotatedForest
 trivia_after true ts = trivia_before ts
 trivia_after false ts = blank
 
@@ -53,15 +53,15 @@ abbrev pub rest_after : Bool → List Token → List Token
 rest_after true ts = from_item ts
 rest_after false ts = ts
 
--- the tokens that are left after a sketch of items
-abbrev pub left_after : Sketch → List Token → List Token
+-- the tokens that are left after a forest of items
+abbrev pub left_after : AnnotatedForest → List Token → List Token
 left_after blank ts = ts
 left_after (token k t f) ts = left_after f (tail_of (from_item ts))
 left_after (branch k c f) ts = left_after f (left_after c (from_item ts))
 left_after (fault n c f) ts = left_after f (rest_after (is_last n) (left_after c (from_item ts)))
 
--- a sketch of items with the trivia of the tokens that it is read from
-abbrev pub dressed : Sketch → List Token → Sketch
+-- a forest of items with the trivia of the tokens that it is read from
+abbrev pub dressed : AnnotatedForest → List Token → AnnotatedForest
 dressed blank ts = blank
 dressed (token k t f) ts = trivia_before ts ⊕ token k t (dressed f (tail_of (from_item ts)))
 dressed (branch k c f) ts = trivia_before ts ⊕ branch k (dressed c (from_item ts)) (dressed f (left_after c (from_item ts)))
@@ -71,5 +71,5 @@ dressed (fault n c f) ts =
     (trivia_after (is_last n) (left_after c (from_item ts)) ⊕ dressed f (rest_after (is_last n) (left_after c (from_item ts))))
 
 -- a whole text: the trivia behind the last item stand in the root
-abbrev pub dressed_whole : Sketch → List Token → Sketch
+abbrev pub dressed_whole : AnnotatedForest → List Token → AnnotatedForest
 dressed_whole f ts = dressed f ts ⊕ trivia_before (left_after f ts)

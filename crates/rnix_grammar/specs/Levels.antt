@@ -60,11 +60,11 @@ operator TOKEN_CONCAT = Some (concatenation_level, Right)
 operator kind = None
 
 -- how tightly a token that is no binary operator binds what stands before it
-abbrev pub plain_power : SyntaxKind → ℕ
-plain_power TOKEN_QUESTION = has_attr_level
-plain_power TOKEN_DOT = selection_level
-plain_power TOKEN_OR = selection_level
-plain_power kind = if is_fn_arg kind then application_level else no_level
+abbrev pub plain_binding_power : SyntaxKind → ℕ
+plain_binding_power TOKEN_QUESTION = has_attr_level
+plain_binding_power TOKEN_DOT = selection_level
+plain_binding_power TOKEN_OR = selection_level
+plain_binding_power kind = if is_fn_arg kind then application_level else no_level
 
 -- an operator's level, or another number where there is none
 abbrev pub level_or : ℕ → Option (ℕ × Associativity) → ℕ
@@ -72,8 +72,8 @@ level_or n (Some o) = o.0
 level_or n None = n
 
 -- how tightly a token binds what stands before it; no level is that of a token that ends an expression
-abbrev pub power : SyntaxKind → ℕ
-power kind = level_or (plain_power kind) (operator kind)
+abbrev pub binding_power : SyntaxKind → ℕ
+binding_power kind = level_or (plain_binding_power kind) (operator kind)
 
 -- the loosest level of an operand on the right: the operator's own where it groups to the right, else the next
 abbrev pub right_level : ℕ → Associativity → ℕ

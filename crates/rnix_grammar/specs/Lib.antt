@@ -2,10 +2,10 @@ pub mod Fault
 pub mod SameFaults
 pub mod Tables
 pub mod Levels
-pub mod Slots
+pub mod Symbols
 pub mod Actions
 pub mod Begins
-pub mod Sketch
+pub mod AnnotatedForest
 pub mod Layout
 pub mod Reports
 pub mod Machine
@@ -19,7 +19,7 @@ pub mod Sorts
 pub mod Weights
 pub mod Allowed
 pub mod Trim
-pub mod Mended
+pub mod Repaired
 pub mod Shape
 pub mod Seams
 pub mod Parsed
@@ -33,7 +33,7 @@ pub mod Nest
 pub mod Nesting
 pub mod Unfinished
 pub mod Document
-pub mod OwnItems
+pub mod ExpectedItems
 pub mod Operands
 pub mod Reads
 pub mod Reading

@@ -13,7 +13,7 @@ use Rattle.rnix_grammar.specs.Fault.{Fault, ended, ended_before, too_deep}
 use Rattle.rnix_grammar.specs.Tables.{wanted_kinds, depth_limit}
 use Rattle.rnix_grammar.specs.Actions.{action_at}
 use Rattle.rnix_grammar.specs.Begins.{begin_of, second_kind}
-use Rattle.rnix_grammar.specs.Sketch.{Token, Stray, Unwanted, Extra, Twice, TooDeep, Sketch, blank, ◌⊕◌, one_token, one_branch, one_fault, row_of, tokens_in, clean, told, end_from, head_kind, touches}
+use Rattle.rnix_grammar.specs.AnnotatedForest.{Token, Stray, Unwanted, Extra, Twice, TooDeep, AnnotatedForest, blank, ◌⊕◌, one_token, one_branch, one_fault, row_of, tokens_in, clean, leaf_kind, end_from, head_kind, touches}
 use Rattle.rnix_grammar.specs.Layout.{items, from_item, tail_of, trivia_before, dressed, left_after}
 use Rattle.rnix_grammar.specs.Reports.{report, repeated}
 use Rattle.rnix_grammar.specs.Missing.{run_of}
@@ -30,7 +30,7 @@ pub record Frame : Type 0 where
   pub head : Head
   pub place : Place
   pub depth : ℕ
-  pub row : Sketch
+  pub row : AnnotatedForest
 
 -- the frames, the innermost first; the tokens that are left; where the last item ended; the errors so far
 pub record Machine : Type 0 where
@@ -40,11 +40,11 @@ pub record Machine : Type 0 where
   pub faults : List Fault
 
 -- a frame at another place, with another row
-abbrev pub put : Place → Sketch → Frame → Frame
+abbrev pub put : Place → AnnotatedForest → Frame → Frame
 put place row f = record { head = f.head; place = place; depth = f.depth; row = row }
 
 -- an open node or operand
-abbrev pub opened : Head → Place → ℕ → Sketch → Frame
+abbrev pub opened : Head → Place → ℕ → AnnotatedForest → Frame
 opened head place depth row = record { head = head; place = place; depth = depth; row = row }
 
 -- the items that are left, where trivia are read
@@ -58,7 +58,7 @@ past true ts = from_item ts
 past false ts = ts
 
 -- a row with the trivia before the next item, where trivia are read
-abbrev pub ate : Bool → Sketch → List Token → Sketch
+abbrev pub ate : Bool → AnnotatedForest → List Token → AnnotatedForest
 ate true f ts = f ⊕ trivia_before ts
 ate false f ts = f
 
@@ -76,16 +76,16 @@ abbrev pub reach : Bool → ℕ → List Token → ℕ
 reach raw n ts = end_of n (past raw ts)
 
 -- the next item as a leaf below a node
-abbrev pub leaf_in : SyntaxKind → List Token → Sketch
+abbrev pub leaf_in : SyntaxKind → List Token → AnnotatedForest
 leaf_in parent [] = blank
-leaf_in parent (t ∷ ts) = one_token (told parent t) t
+leaf_in parent (t ∷ ts) = one_token (leaf_kind parent t) t
 
 -- the next item as a leaf below a node, where trivia may come first
-abbrev pub leaf : Bool → SyntaxKind → List Token → Sketch
+abbrev pub leaf : Bool → SyntaxKind → List Token → AnnotatedForest
 leaf raw parent ts = leaf_in parent (past raw ts)
 
 -- the run as leaves, with its trivia where they are read
-abbrev pub run_row : Bool → List Token → List Token → Sketch
+abbrev pub run_row : Bool → List Token → List Token → AnnotatedForest
 run_row true run ts = dressed (row_of run) (from_item ts)
 run_row false run ts = row_of run
 
@@ -106,7 +106,7 @@ kind_of Second = NODE_ERROR
 kind_of Operand = NODE_ROOT
 
 -- what a frame's row becomes as it is complete
-abbrev pub made : Head → Sketch → Sketch
+abbrev pub made : Head → AnnotatedForest → AnnotatedForest
 made (Node k) row = one_branch k row
 made Second row = one_fault Twice row
 made Operand row = row
@@ -126,7 +126,7 @@ closed f [] ts n es = machine (f ∷ []) ts n es
 closed f (g ∷ fs) ts n es = machine (put g.place (g.row ⊕ made f.head f.row) g ∷ fs) ts n es
 
 -- a row without trivia
-abbrev pub cleaned : Bool → Sketch → Sketch
+abbrev pub cleaned : Bool → AnnotatedForest → AnnotatedForest
 cleaned true f = clean f
 cleaned false f = f
 
@@ -136,7 +136,7 @@ entry_closed raw f [] ts n es = machine (f ∷ []) ts n es
 entry_closed raw f (g ∷ fs) ts n es = closed f (g ∷ fs) ts n (es ++ repeated (cleaned raw g.row) (cleaned raw f.row))
 
 -- a node is opened with a row
-abbrev pub open_on : Bool → Head → Place → Sketch → Place → Frame → List Frame → List Token → List Frame
+abbrev pub open_on : Bool → Head → Place → AnnotatedForest → Place → Frame → List Frame → List Token → List Frame
 open_on raw head inside row after f fs ts = opened head inside f.depth row ∷ (put after (ate raw f.row ts) f ∷ fs)
 
 -- all that is left is nested too deep

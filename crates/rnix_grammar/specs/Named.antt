@@ -4,8 +4,8 @@ use Rattle.rnix_kinds.specs.declared.kinds.SyntaxKind.{SyntaxKind}
 use Rattle.rnix_kinds.specs.SyntaxKind.{is_token}
 use Rattle.rnix_kinds.specs.declared.kinds.SyntaxKind.TheVariants.{TOKEN_IDENT, TOKEN_OR, TOKEN_CUR_POS}
 use Rattle.rnix_grammar.specs.Fault.{Fault, named_twice}
-use Rattle.rnix_grammar.specs.Sketch.{Token, Sketch, blank, token, branch, fault}
-use Rattle.rnix_grammar.specs.Rows.{Spot, go, start}
+use Rattle.rnix_grammar.specs.AnnotatedForest.{Token, AnnotatedForest, blank, token, branch, fault}
+use Rattle.rnix_grammar.specs.Rows.{RowState, advance, start}
 use Rattle.rnix_grammar.specs.Names.{is_named}
 use Rattle.rnix_grammar.specs.Tables.{is_or}
 use Rattle.rnix_grammar.specs.BehindErrors.{go_error}
@@ -22,11 +22,11 @@ abbrev pub AreSpelled : List Token → Type 0
 AreSpelled [] = Unit {0}
 AreSpelled (t ∷ ts) = (is_spelled t.kind t.text ≡ true) × AreSpelled ts
 
--- each name and each current position of a row, from a spot on, stands where it may
-abbrev pub AreNamed : Spot → Sketch → Type 0
+-- each name and each current position of a row, from a state on, stands where it may
+abbrev pub AreNamed : RowState → AnnotatedForest → Type 0
 AreNamed q blank = Unit {0}
-AreNamed q (token k t f) = AreNamed (go q k) f
-AreNamed q (branch k c f) = (is_named q k c ≡ true) × AreNamed (start k) c × AreNamed (go q k) f
+AreNamed q (token k t f) = AreNamed (advance q k) f
+AreNamed q (branch k c f) = (is_named q k c ≡ true) × AreNamed (start k) c × AreNamed (advance q k) f
 AreNamed q (fault n c f) = AreNamed (go_error q n) f
 
 -- a name is repeated

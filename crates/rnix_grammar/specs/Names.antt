@@ -2,13 +2,13 @@
 use Rattle.std.specs.Prelude.{ℕ, Bool, true, false, List, Option, Some, None, if◌then◌else◌}
 use Rattle.rnix_kinds.specs.declared.kinds.SyntaxKind.{SyntaxKind}
 use Rattle.rnix_kinds.specs.declared.kinds.SyntaxKind.TheVariants.{TOKEN_CUR_POS, NODE_CUR_POS, NODE_IDENT, NODE_IDENT_PARAM, NODE_PAT_BIND, NODE_PAT_ENTRY}
-use Rattle.rnix_grammar.specs.declared.slot.Slot.{Slot}
-use Rattle.rnix_grammar.specs.declared.slot.Slot.TheVariants.{Source, Names, Attr, Name}
+use Rattle.rnix_grammar.specs.declared.symbol.Symbol.{Symbol}
+use Rattle.rnix_grammar.specs.declared.symbol.Symbol.TheVariants.{Source, Names, Attr, Name}
 use Rattle.rnix_grammar.specs.Tables.{is_cur_pos}
-use Rattle.rnix_grammar.specs.Slots.{slot_at}
-use Rattle.rnix_grammar.specs.Sketch.{Token, Sketch}
+use Rattle.rnix_grammar.specs.Symbols.{symbol_at}
+use Rattle.rnix_grammar.specs.AnnotatedForest.{Token, AnnotatedForest}
 use Rattle.rnix_grammar.specs.Reports.{only_token}
-use Rattle.rnix_grammar.specs.Rows.{Spot, Start, BeforeArgument, At}
+use Rattle.rnix_grammar.specs.Rows.{RowState, Start, BeforeArgument, At}
 use Rattle.rnix_grammar.specs.TokenKinds.{is_or}
 
 -- a name that is not `or`
@@ -28,13 +28,13 @@ is_position kind text = is_cur_pos text
 abbrev pub is_called : Token → Bool
 is_called t = if is_or t.kind then true else (if is_cur_pos t.text then false else true)
 
--- the name may stand in a slot
-abbrev pub is_name_in : Slot → Token → Bool
+-- the name may stand in a symbol
+abbrev pub is_name_in : Symbol → Token → Bool
 is_name_in Source t = true
 is_name_in Names t = true
 is_name_in (Attr behind) t = true
 is_name_in (Name behind) t = is_no_or t
-is_name_in slot t = is_plain t
+is_name_in symbol t = is_plain t
 
 -- the name may stand as the first child of a node
 abbrev pub is_name_of : SyntaxKind → Token → Bool
@@ -43,24 +43,24 @@ is_name_of NODE_PAT_ENTRY t = is_no_or t
 is_name_of NODE_PAT_BIND t = is_no_or t
 is_name_of kind t = is_plain t
 
--- the name may stand at a spot
-abbrev pub is_name_at : Spot → Token → Bool
-is_name_at (At place) t = is_name_in (slot_at place) t
+-- the name may stand at a state
+abbrev pub is_name_at : RowState → Token → Bool
+is_name_at (At place) t = is_name_in (symbol_at place) t
 is_name_at (Start kind) t = is_name_of kind t
 is_name_at BeforeArgument t = is_called t
-is_name_at spot t = is_plain t
+is_name_at row_state t = is_plain t
 
--- a token may be that of a name or of the current position at a spot
-abbrev pub is_named_by : Spot → SyntaxKind → Token → Bool
-is_named_by spot NODE_IDENT t = is_name_at spot t
-is_named_by spot NODE_CUR_POS t = is_position t.kind t.text
-is_named_by spot kind t = true
+-- a token may be that of a name or of the current position at a state
+abbrev pub is_named_by : RowState → SyntaxKind → Token → Bool
+is_named_by row_state NODE_IDENT t = is_name_at row_state t
+is_named_by row_state NODE_CUR_POS t = is_position t.kind t.text
+is_named_by row_state kind t = true
 
 -- and so for a token that may be absent
-abbrev pub is_named_in : Spot → SyntaxKind → Option Token → Bool
-is_named_in spot kind None = true
-is_named_in spot kind (Some t) = is_named_by spot kind t
+abbrev pub is_named_in : RowState → SyntaxKind → Option Token → Bool
+is_named_in row_state kind None = true
+is_named_in row_state kind (Some t) = is_named_by row_state kind t
 
--- a node at a spot is a name or the current position only where its token may be one
-abbrev pub is_named : Spot → SyntaxKind → Sketch → Bool
-is_named spot kind c = is_named_in spot kind (only_token c)
+-- a node at a state is a name or the current position only where its token may be one
+abbrev pub is_named : RowState → SyntaxKind → AnnotatedForest → Bool
+is_named row_state kind c = is_named_in row_state kind (only_token c)

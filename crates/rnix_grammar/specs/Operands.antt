@@ -5,16 +5,16 @@ use Rattle.rnix_kinds.specs.declared.kinds.SyntaxKind.TheVariants.{NODE_IDENT_PA
 use Rattle.rnix_kinds.specs.SyntaxKind.{is_fn_arg}
 use Rattle.rnix_grammar.specs.declared.begin.Begin.{Begin}
 use Rattle.rnix_grammar.specs.declared.begin.Begin.TheVariants as b
-use Rattle.rnix_grammar.specs.Slots.{slot_at, level_in}
-use Rattle.rnix_grammar.specs.Levels.{has_attr_level, application_level, selection_level, power, left_of}
-use Rattle.rnix_grammar.specs.Sketch.{Token, Sketch, branch, tokens_in, head_kind}
+use Rattle.rnix_grammar.specs.Symbols.{symbol_at, level_in}
+use Rattle.rnix_grammar.specs.Levels.{has_attr_level, application_level, selection_level, binding_power, left_of}
+use Rattle.rnix_grammar.specs.AnnotatedForest.{Token, AnnotatedForest, branch, tokens_in, head_kind}
 use Rattle.rnix_grammar.specs.TokenKinds.{is_or, is_question, is_dot}
-use Rattle.rnix_grammar.specs.Rows.{is_infix, Spot, BeforeOperator, BeforeDot, BeforeQuestion, BeforeArgument, At}
+use Rattle.rnix_grammar.specs.Rows.{is_infix, RowState, BeforeOperator, BeforeDot, BeforeQuestion, BeforeArgument, At}
 use Rattle.rnix_grammar.specs.Begins.{begin_of, second_kind}
 use Rattle.rnix_grammar.specs.TreeLevels.{row_level, is_atom_row, is_or_row}
 
 -- the kind of the first tree of an operand, down the first trees of operators, calls and selections; a function is known by its parameter
-abbrev pub first_tree : Sketch → SyntaxKind
+abbrev pub first_tree : AnnotatedForest → SyntaxKind
 first_tree (branch NODE_BIN_OP c f) = first_tree c
 first_tree (branch NODE_HAS_ATTR c f) = first_tree c
 first_tree (branch NODE_APPLY c f) = first_tree c
@@ -34,37 +34,37 @@ kind_of b.PatternLambda = NODE_PATTERN
 kind_of b.Stray = NODE_ERROR
 
 -- an operand of a level begins as its first three items say
-abbrev pub IsBegun : ℕ → Sketch → List Token → Type 0
+abbrev pub IsBegun : ℕ → AnnotatedForest → List Token → Type 0
 IsBegun level x [] = ⊥
 IsBegun level x (t ∷ ts) = kind_of (begin_of level t.kind t.text (head_kind ts) (second_kind ts)) ≡ first_tree x
 
 -- an item of the kind may go on with the tree before it
-abbrev pub follows : SyntaxKind → Sketch → Bool
+abbrev pub follows : SyntaxKind → AnnotatedForest → Bool
 follows kind x =
     if is_infix kind then nat_le (left_of kind) (row_level x)
     else (if is_question kind then nat_le has_attr_level (row_level x)
     else (if is_fn_arg kind then nat_le application_level (row_level x) else ((is_dot kind || is_or kind) && is_atom_row x)))
 
 -- the next item would go on with an operand of a level
-abbrev pub goes_on : ℕ → Sketch → List Token → Bool
+abbrev pub goes_on : ℕ → AnnotatedForest → List Token → Bool
 goes_on level x [] = false
-goes_on level x (t ∷ ts) = follows t.kind x && nat_le level (power t.kind)
+goes_on level x (t ∷ ts) = follows t.kind x && nat_le level (binding_power t.kind)
 
 -- the first tree of an operator, a call or a selection stands before an item that goes on with it
-abbrev pub IsFollowed : Spot → Sketch → Option SyntaxKind → Type 0
+abbrev pub IsFollowed : RowState → AnnotatedForest → Option SyntaxKind → Type 0
 IsFollowed BeforeOperator x (Some kind) = follows kind x ≡ true
 IsFollowed BeforeDot x (Some kind) = follows kind x ≡ true
 IsFollowed BeforeQuestion x (Some kind) = follows kind x ≡ true
 IsFollowed BeforeArgument x (Some kind) = ((is_fn_arg kind || is_or kind) && follows kind x) ≡ true
-IsFollowed spot x next = Unit {0}
+IsFollowed row_state x next = Unit {0}
 
 -- An operand of a level before some items binds as tightly as the level asks, begins as its items say, and the next item does not go on with it.
-abbrev pub IsOperand : Option ℕ → Sketch → List Token → Type 0
+abbrev pub IsOperand : Option ℕ → AnnotatedForest → List Token → Type 0
 IsOperand None x after = Unit {0}
 IsOperand (Some level) x after = (level ≤ row_level x) × IsBegun level x (tokens_in x ++ after) × (goes_on level x after ≡ false)
 
--- the level of the operand at a spot, if any; an `or` that is an argument has none
-abbrev pub level_at : Spot → Sketch → Option ℕ
-level_at (At place) x = level_in (slot_at place)
+-- the level of the operand at a state, if any; an `or` that is an argument has none
+abbrev pub level_at : RowState → AnnotatedForest → Option ℕ
+level_at (At place) x = level_in (symbol_at place)
 level_at BeforeArgument x = if is_or_row x then None else Some selection_level
-level_at spot x = None
+level_at row_state x = None

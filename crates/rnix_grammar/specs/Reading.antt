@@ -4,19 +4,19 @@ use Rattle.rnix_kinds.specs.declared.kinds.SyntaxKind.TheVariants.{NODE_ROOT}
 use Rattle.rnix_kinds.specs.Lexical.Tokens.{Lexeme}
 use Rattle.rnix_tree.specs.Tree.{Tree}
 use Rattle.rnix_grammar.specs.Fault.{Fault}
-use Rattle.rnix_grammar.specs.Sketch.{Sketch, forget, tokens_in, clean, placed_from}
+use Rattle.rnix_grammar.specs.AnnotatedForest.{AnnotatedForest, forget, tokens_in, clean, placed_from}
 use Rattle.rnix_grammar.specs.Layout.{dressed_whole}
 use Rattle.rnix_grammar.specs.Reads.{ReadsWhole}
 
 -- a tree and errors as the reading of some tokens
 pub record IsReading (tokens : List Lexeme) (tree : Tree) (faults : List Fault) : Type 0 where
   -- the tree with its tokens, and with what each error node is
-  pub sketch : Sketch
-  pub tree_is : tree ≡ record { kind = NODE_ROOT; children = forget sketch }
+  pub annotated : AnnotatedForest
+  pub tree_is : tree ≡ record { kind = NODE_ROOT; children = forget annotated }
   -- the leaves are the tokens, one by one
-  pub leaves : tokens_in sketch ≡ placed_from 0 tokens
+  pub leaves : tokens_in annotated ≡ placed_from 0 tokens
   -- trivia before a token stand before it in its row; before the first item of a node they stand outside, before the node
-  pub laid : sketch ≡ dressed_whole (clean sketch) (placed_from 0 tokens)
+  pub laid : annotated ≡ dressed_whole (clean annotated) (placed_from 0 tokens)
   -- at each place of a row the next items decide what stands there; the errors are those of the error nodes, of what is missing at the end of
   -- the text, and of repeated entries, in the order in which these are met
-  pub reads : ReadsWhole (clean sketch) faults
+  pub reads : ReadsWhole (clean annotated) faults

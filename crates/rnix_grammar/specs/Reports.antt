@@ -5,7 +5,7 @@ use Rattle.rnix_kinds.specs.declared.kinds.SyntaxKind.{SyntaxKind}
 use Rattle.rnix_kinds.specs.declared.kinds.SyntaxKind.TheVariants.{NODE_ERROR, NODE_IDENT, NODE_PAT_ENTRY}
 use Rattle.rnix_grammar.specs.Fault.{Fault, extra, unwanted, bound_twice, named_twice, too_deep}
 use Rattle.rnix_grammar.specs.Tables.{wanted_kinds, operand_kinds}
-use Rattle.rnix_grammar.specs.Sketch.{Token, Note, Stray, Unwanted, Extra, Twice, TooDeep, Sketch, blank, token, branch, fault, extent_of}
+use Rattle.rnix_grammar.specs.AnnotatedForest.{Token, Note, Stray, Unwanted, Extra, Twice, TooDeep, AnnotatedForest, blank, token, branch, fault, extent_of}
 
 -- the kind of the first token
 abbrev pub first_kind : List Token → SyntaxKind
@@ -21,12 +21,12 @@ report Twice ts = bound_twice (extent_of ts)
 report TooDeep ts = too_deep
 
 -- the token that a row begins with, if it begins with one
-abbrev pub only_token : Sketch → Option Token
+abbrev pub only_token : AnnotatedForest → Option Token
 only_token (token k t f) = Some t
 only_token f = None
 
 -- the name that an entry of a pattern begins with
-abbrev pub entry_name : Sketch → Option Token
+abbrev pub entry_name : AnnotatedForest → Option Token
 entry_name (branch NODE_IDENT c f) = only_token c
 entry_name f = None
 
@@ -36,7 +36,7 @@ is_same_name name None = false
 is_same_name name (Some t) = bytes_eq name t.text
 
 -- an entry of the name stands in a row
-abbrev pub has_entry : List ℕ → Sketch → Bool
+abbrev pub has_entry : List ℕ → AnnotatedForest → Bool
 has_entry name blank = false
 has_entry name (token k t f) = has_entry name f
 has_entry name (branch NODE_PAT_ENTRY c f) = if is_same_name name (entry_name c) then true else has_entry name f
@@ -44,15 +44,15 @@ has_entry name (branch k c f) = has_entry name f
 has_entry name (fault n c f) = has_entry name f
 
 -- an entry with this name behind these siblings is reported, if it repeats one of theirs
-abbrev pub repeated_if : Option Token → Sketch → List Fault
+abbrev pub repeated_if : Option Token → AnnotatedForest → List Fault
 repeated_if None before = []
 repeated_if (Some t) before = if has_entry t.text before then named_twice (extent_of (t ∷ [])) t.text ∷ [] else []
 
 -- the error of an entry that repeats a name of its siblings
-abbrev pub repeated : Sketch → Sketch → List Fault
+abbrev pub repeated : AnnotatedForest → AnnotatedForest → List Fault
 repeated before entry = repeated_if (entry_name entry) before
 
 -- the error of an entry of a pattern that repeats a name of one before it
-abbrev pub repeats : SyntaxKind → Sketch → Sketch → List Fault
+abbrev pub repeats : SyntaxKind → AnnotatedForest → AnnotatedForest → List Fault
 repeats NODE_PAT_ENTRY before c = repeated before c
 repeats kind before c = []

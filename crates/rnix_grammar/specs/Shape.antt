@@ -6,7 +6,7 @@ use Rattle.rnix_kinds.specs.SyntaxKind.{is_trivia}
 use Rattle.rnix_tree.specs.Forest.{Forest, empty, leaf, node}
 use Rattle.rnix_tree.specs.Tree.{Tree, forest_of}
 use Rattle.rnix_grammar.specs.Fault.{Fault}
-use Rattle.rnix_grammar.specs.Sketch.{Sketch, blank, token, branch, fault, ◌⊕◌, one_token, one_branch, one_fault, tokens_in, clean}
+use Rattle.rnix_grammar.specs.AnnotatedForest.{AnnotatedForest, blank, token, branch, fault, ◌⊕◌, one_token, one_branch, one_fault, tokens_in, clean}
 use Rattle.rnix_grammar.specs.Reports.{report, repeats}
 use Rattle.rnix_grammar.specs.Rows.{is_row}
 use Rattle.rnix_grammar.specs.Trim.{AreNodesTrimmed}
@@ -95,18 +95,18 @@ abbrev pub IsUnrepeated : Tree → Type 0
 IsUnrepeated tree = AreUnrepeated (forest_of tree)
 
 -- the errors of a row's error nodes and of its repeated entries, in the order in which the nodes close; some trees stand before the row
-abbrev pub reports_behind : Sketch → Sketch → List Fault
+abbrev pub reports_behind : AnnotatedForest → AnnotatedForest → List Fault
 reports_behind b blank = []
 reports_behind b (token k t f) = reports_behind (b ⊕ one_token k t) f
 reports_behind b (branch k c f) = reports_behind blank c ++ (repeats k b c ++ reports_behind (b ⊕ one_branch k c) f)
 reports_behind b (fault n c f) = reports_behind blank c ++ (report n (tokens_in c) ∷ reports_behind (b ⊕ one_fault n c) f)
 
 -- the errors of a row before which no tree stands
-abbrev pub reports : Sketch → List Fault
+abbrev pub reports : AnnotatedForest → List Fault
 reports f = reports_behind blank f
 
 -- the same of a tree with trivia: a name is looked for in the trees without trivia, and an error node has all its tokens
-abbrev pub reports_within : Sketch → Sketch → List Fault
+abbrev pub reports_within : AnnotatedForest → AnnotatedForest → List Fault
 reports_within b blank = []
 reports_within b (token k t f) = reports_within (b ⊕ one_token k t) f
 reports_within b (branch k c f) = reports_within blank c ++ (repeats k (clean b) (clean c) ++ reports_within (b ⊕ one_branch k c) f)

@@ -4,8 +4,8 @@ use Rattle.rnix_kinds.specs.declared.kinds.SyntaxKind.{SyntaxKind}
 use Rattle.rnix_kinds.specs.declared.kinds.SyntaxKind.TheVariants.{NODE_ROOT, NODE_PATTERN, NODE_PAT_ENTRY, NODE_IDENT, NODE_CUR_POS}
 use Rattle.rnix_grammar.specs.declared.place.Place.{Place}
 use Rattle.rnix_grammar.specs.declared.place.Place.TheVariants as p
-use Rattle.rnix_grammar.specs.declared.slot.Slot.{Slot}
-use Rattle.rnix_grammar.specs.declared.slot.Slot.TheVariants as s
+use Rattle.rnix_grammar.specs.declared.symbol.Symbol.{Symbol}
+use Rattle.rnix_grammar.specs.declared.symbol.Symbol.TheVariants as s
 use Rattle.rnix_grammar.specs.Machine.{Head, Node, Second, Operand, Frame}
 
 -- the root, a pattern, its entry, its second name, an operand, a name alone, another node
@@ -62,7 +62,7 @@ may_hold t Entry = false
 may_hold t s = true
 
 -- the sort of a place, by what stands there; a token, an operand and a name stand at places of several sorts
-abbrev pub sort_in : Slot → Sort → Sort
+abbrev pub sort_in : Symbol → Sort → Sort
 sort_in s.End own = Root
 sort_in (s.Token until behind) own = own
 sort_in (s.Operand level counted behind) own = own
@@ -76,7 +76,7 @@ sort_in s.Default own = Entry
 sort_in s.EntryDone own = Entry
 sort_in s.TwiceDone own = Again
 sort_in (s.More low high) own = Loose
-sort_in slot own = Plain
+sort_in symbol own = Plain
 
 -- a place that is not in a second name
 abbrev pub is_open : Sort → Bool
@@ -84,25 +84,25 @@ is_open Again = false
 is_open sort = true
 
 -- a token stands in no second name, and an operand where one may stand
-abbrev pub may_stand : Slot → Sort → Bool
+abbrev pub may_stand : Symbol → Sort → Bool
 may_stand (s.Token until behind) sort = is_open sort
 may_stand (s.Operand level counted behind) sort = may_hold sort Loose
-may_stand slot sort = true
+may_stand symbol sort = true
 
 -- the place behind what stands at a place
-abbrev pub behind_in : Slot → Place → Place
+abbrev pub behind_in : Symbol → Place → Place
 behind_in (s.Token until behind) place = behind
 behind_in (s.Operand level counted behind) place = behind
 behind_in (s.Entries closer behind) place = behind
 behind_in (s.Attr behind) place = behind
 behind_in (s.Attrpath behind) place = behind
 behind_in (s.Name behind) place = behind
-behind_in slot place = place
+behind_in symbol place = place
 
 -- the end of the text stands at one place
-abbrev pub place_in : Slot → Place → Place
+abbrev pub place_in : Symbol → Place → Place
 place_in s.End place = p.RootEnd
-place_in slot place = place
+place_in symbol place = place
 
 -- a head stands at a place of its sort, and may stand inside the frame below, as each frame below; the lowest is the root
 abbrev pub StandsOn : Head → Place → List Frame → Type 0

@@ -4,9 +4,9 @@ use Rattle.rnix_kinds.specs.declared.kinds.SyntaxKind.{SyntaxKind}
 use Rattle.rnix_kinds.specs.declared.kinds.SyntaxKind.TheVariants.{TOKEN_INVERT, NODE_APPLY, NODE_BIN_OP, NODE_CUR_POS, NODE_DYNAMIC, NODE_HAS_ATTR, NODE_IDENT, NODE_IDENT_PARAM, NODE_LAMBDA, NODE_PAT_BIND, NODE_PAT_ENTRY, NODE_PATTERN, NODE_ROOT, NODE_SELECT, NODE_UNARY_OP, NODE_WITH}
 use Rattle.rnix_tree.specs.Forest.{Forest, empty, leaf, node}
 use Rattle.rnix_grammar.specs.Tables.{is_cur_pos, is_or, is_among}
-use Rattle.rnix_grammar.specs.Levels.{expression_level, inversion_level, has_attr_level, negation_level, application_level, selection_level, power, left_of}
-use Rattle.rnix_grammar.specs.Slots.{slot_at, level_in}
-use Rattle.rnix_grammar.specs.Rows.{is_atom, is_expression, is_loose, Spot, BeforeArgument, At, go, live, whole, start}
+use Rattle.rnix_grammar.specs.Levels.{expression_level, inversion_level, has_attr_level, negation_level, application_level, selection_level, binding_power, left_of}
+use Rattle.rnix_grammar.specs.Symbols.{symbol_at, level_in}
+use Rattle.rnix_grammar.specs.Rows.{is_atom, is_expression, is_loose, RowState, BeforeArgument, At, advance, live, whole, start}
 use Rattle.rnix_grammar.specs.Corners.{node_count, is_one}
 
 -- the text of the leaf that a row begins with
@@ -40,14 +40,14 @@ prefix_level f = negation_level
 
 -- the tightest level at which a tree may stand; 0 is a tree that only stands where any expression may
 abbrev pub level_of : SyntaxKind → Forest → ℕ
-level_of NODE_BIN_OP c = power (operator_of c)
+level_of NODE_BIN_OP c = binding_power (operator_of c)
 level_of NODE_HAS_ATTR c = has_attr_level
 level_of NODE_UNARY_OP c = prefix_level c
 level_of NODE_APPLY c = if calls_or c then selection_level else application_level
 level_of NODE_LAMBDA c = expression_level
 level_of kind c = if is_loose kind then expression_level else selection_level
 
--- a tree is a name or the current position only where its text may be one (specs/Names asks it of a token at a spot)
+-- a tree is a name or the current position only where its text may be one (specs/Names asks it of a token at a state)
 abbrev pub is_named : SyntaxKind → Forest → Bool
 is_named NODE_IDENT c = is_plain_name c
 is_named NODE_CUR_POS c = is_cur_pos (only_text c)
@@ -118,23 +118,23 @@ begins_with_leaf (leaf k t f) = true
 begins_with_leaf f = false
 
 -- the name that a pattern is bound to stands before `@` where the pattern begins, and behind it where the pattern ends
-abbrev pub binds_at : Spot → Forest → Bool
+abbrev pub binds_at : RowState → Forest → Bool
 binds_at (At place) c = begins_with_leaf c
-binds_at spot c = if begins_with_leaf c then false else true
+binds_at row_state c = if begins_with_leaf c then false else true
 
--- a node may stand at a spot of a row
-abbrev pub may_stand : Spot → SyntaxKind → Forest → Bool
+-- a node may stand at a state of a row
+abbrev pub may_stand : RowState → SyntaxKind → Forest → Bool
 may_stand (At place) NODE_PAT_BIND c = begins_with_leaf c
-may_stand spot NODE_PAT_BIND c = binds_at spot c
-may_stand (At place) k c = stands_in (level_in (slot_at place)) k c
+may_stand row_state NODE_PAT_BIND c = binds_at row_state c
+may_stand (At place) k c = stands_in (level_in (symbol_at place)) k c
 may_stand BeforeArgument k c = if is_or_name k c then true else stands_at selection_level k c
-may_stand spot k c = true
+may_stand row_state k c = true
 
--- the rest of a row, from a spot on
-abbrev pub is_strict : Spot → Forest → Bool
+-- the rest of a row, from a state on
+abbrev pub is_strict : RowState → Forest → Bool
 is_strict q empty = whole q
-is_strict q (leaf k t f) = live (go q k) && is_strict (go q k) f
-is_strict q (node k c f) = live (go q k) && (may_stand q k c && (is_grouped k c && (is_strict (start k) c && is_strict (go q k) f)))
+is_strict q (leaf k t f) = live (advance q k) && is_strict (advance q k) f
+is_strict q (node k c f) = live (advance q k) && (may_stand q k c && (is_grouped k c && (is_strict (start k) c && is_strict (advance q k) f)))
 
 -- a whole strict expression
 abbrev pub is_strict_expression : Forest → Bool

@@ -4,7 +4,7 @@ use Rattle.rnix_kinds.specs.declared.kinds.SyntaxKind.{SyntaxKind}
 use Rattle.rnix_kinds.specs.declared.kinds.SyntaxKind.TheVariants.{NODE_IDENT, NODE_PAT_ENTRY}
 use Rattle.rnix_kinds.specs.SyntaxKind.{is_trivia}
 use Rattle.rnix_tree.specs.Forest.{Forest, empty, leaf, node}
-use Rattle.rnix_grammar.specs.Sketch.{Token, Sketch, blank, token, branch, fault, tokens_in}
+use Rattle.rnix_grammar.specs.AnnotatedForest.{Token, AnnotatedForest, blank, token, branch, fault, tokens_in}
 
 -- the first kind is no trivia
 abbrev pub BeginsWithItem : List SyntaxKind → Type 0
@@ -29,7 +29,7 @@ token_kinds [] = []
 token_kinds (t ∷ ts) = t.kind ∷ token_kinds ts
 
 -- no error node of a row begins or ends with trivia
-abbrev pub AreFaultsTrimmed : Sketch → Type 0
+abbrev pub AreFaultsTrimmed : AnnotatedForest → Type 0
 AreFaultsTrimmed blank = Unit {0}
 AreFaultsTrimmed (token k t f) = AreFaultsTrimmed f
 AreFaultsTrimmed (branch k c f) = AreFaultsTrimmed c × AreFaultsTrimmed f
@@ -42,22 +42,22 @@ AreNodesTrimmed (leaf k t f) = AreNodesTrimmed f
 AreNodesTrimmed (node k c f) = BeginsWithItem (leaf_kinds c) × EndsWithItem (leaf_kinds c) × AreNodesTrimmed c × AreNodesTrimmed f
 
 -- a row has no more than one token
-abbrev pub is_bare : Sketch → Bool
+abbrev pub is_bare : AnnotatedForest → Bool
 is_bare blank = true
 is_bare (token k t blank) = true
 is_bare f = false
 
 -- a row begins with a node
-abbrev pub begins_with_node : Sketch → Bool
+abbrev pub begins_with_node : AnnotatedForest → Bool
 begins_with_node (branch k c f) = true
 begins_with_node f = false
 
 -- the node of a name holds nothing but a token, and before the name of an entry of a pattern nothing stands in it
-abbrev pub HasBareName : SyntaxKind → Sketch → Type 0
+abbrev pub HasBareName : SyntaxKind → AnnotatedForest → Type 0
 HasBareName kind c = (kind ≡ NODE_IDENT → is_bare c ≡ true) × (kind ≡ NODE_PAT_ENTRY → begins_with_node c ≡ true)
 
 -- and so each node of a row
-abbrev pub AreNamesBare : Sketch → Type 0
+abbrev pub AreNamesBare : AnnotatedForest → Type 0
 AreNamesBare blank = Unit {0}
 AreNamesBare (token k t f) = AreNamesBare f
 AreNamesBare (branch k c f) = HasBareName k c × AreNamesBare c × AreNamesBare f

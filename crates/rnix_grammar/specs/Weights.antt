@@ -1,11 +1,11 @@
 -- How far a place is from the end of its row.
 use Rattle.std.specs.Prelude.{ℕ, zero, suc, ◌+◌, false, None}
 use Rattle.rnix_grammar.specs.declared.place.Place.{Place}
-use Rattle.rnix_grammar.specs.declared.slot.Slot.{Slot}
-use Rattle.rnix_grammar.specs.declared.slot.Slot.TheVariants as s
+use Rattle.rnix_grammar.specs.declared.symbol.Symbol.{Symbol}
+use Rattle.rnix_grammar.specs.declared.symbol.Symbol.TheVariants as s
 use Rattle.rnix_grammar.specs.declared.action.Action.{Action}
 use Rattle.rnix_grammar.specs.declared.action.Action.TheVariants as a
-use Rattle.rnix_grammar.specs.Slots.{slot_at}
+use Rattle.rnix_grammar.specs.Symbols.{symbol_at}
 use Rattle.rnix_grammar.specs.Actions.{action_at}
 
 -- a step with an action and those that follow in its row, where so many follow from each place
@@ -29,12 +29,16 @@ most_places = 6
 abbrev pub weight : Place → ℕ
 weight place = steps_from most_places place
 
+-- more than two places weigh together
+abbrev pub full_bonus : ℕ
+full_bonus = 30
+
 -- where attributes are wanted a node may have begun without an item, and it takes one next
-abbrev pub bonus_in : Slot → ℕ
+abbrev pub bonus_in : Symbol → ℕ
 bonus_in (s.Attrpath behind) = 0
 bonus_in (s.Attr behind) = 0
-bonus_in slot = 30
+bonus_in symbol = full_bonus
 
 -- so it is at a place
 abbrev pub bonus : Place → ℕ
-bonus place = bonus_in (slot_at place)
+bonus place = bonus_in (symbol_at place)

@@ -6,7 +6,7 @@ ghost use Rattle.rnix_grammar.specs.TokenKinds.{is_path_piece, is_l_paren, is_co
 
 use crate::operand::more_action;
 use crate::place::Place;
-use crate::slot::{Slot, slot_at};
+use crate::symbol::{Symbol, symbol_at};
 use crate::until::{Closer, Until, closes, is_wanted};
 use rnix_kinds::SyntaxKind;
 
@@ -332,33 +332,33 @@ fn end_action(next: Option<SyntaxKind>) -> Action
 pub fn action_at(place: Place, next: Option<SyntaxKind>, touches: bool) -> Action
     ensures { result ≡ action_at place next touches }
 {
-    match slot_at(place) {
-        Slot::Done => Action::Close,
-        Slot::EntryDone => Action::CloseEntry,
-        Slot::PatternDone => Action::ClosePattern,
-        Slot::TwiceDone => Action::CloseTwice,
-        Slot::End => end_action(next),
-        Slot::Token(until, behind) => token_action(until, place, behind, next),
-        Slot::Operand(level, counted, behind) => Action::Read(level, counted, behind),
-        Slot::Series(level, closer) => series_action(level, closer, place, next),
-        Slot::Entries(closer, behind) => entries_action(closer, place, behind, next),
-        Slot::Pieces => pieces_action(place, next),
-        Slot::FirstPiece => first_piece_action(next),
-        Slot::MorePieces => more_pieces_action(touches, next),
-        Slot::Source => source_action(next),
-        Slot::Names => names_action(next),
-        Slot::Attr(behind) => attr_action(place, behind, next),
-        Slot::MoreAttrs => more_attrs_action(next),
-        Slot::Attrpath(behind) => {
+    match symbol_at(place) {
+        Symbol::Done => Action::Close,
+        Symbol::EntryDone => Action::CloseEntry,
+        Symbol::PatternDone => Action::ClosePattern,
+        Symbol::TwiceDone => Action::CloseTwice,
+        Symbol::End => end_action(next),
+        Symbol::Token(until, behind) => token_action(until, place, behind, next),
+        Symbol::Operand(level, counted, behind) => Action::Read(level, counted, behind),
+        Symbol::Series(level, closer) => series_action(level, closer, place, next),
+        Symbol::Entries(closer, behind) => entries_action(closer, place, behind, next),
+        Symbol::Pieces => pieces_action(place, next),
+        Symbol::FirstPiece => first_piece_action(next),
+        Symbol::MorePieces => more_pieces_action(touches, next),
+        Symbol::Source => source_action(next),
+        Symbol::Names => names_action(next),
+        Symbol::Attr(behind) => attr_action(place, behind, next),
+        Symbol::MoreAttrs => more_attrs_action(next),
+        Symbol::Attrpath(behind) => {
             Action::Begin(SyntaxKind::NODE_ATTRPATH, Place::AttrpathStart, behind)
         }
-        Slot::Name(behind) => name_action(place, behind, next),
-        Slot::Braces(bound) => braces_action(bound, next),
-        Slot::Formals(bound) => formals_action(bound, next),
-        Slot::Comma(bound) => comma_action(bound, next),
-        Slot::Bind(bound) => bind_action(bound, next),
-        Slot::Default => default_action(next),
-        Slot::Or => or_action(next),
-        Slot::More(low, high) => more_action(low, high, next),
+        Symbol::Name(behind) => name_action(place, behind, next),
+        Symbol::Braces(bound) => braces_action(bound, next),
+        Symbol::Formals(bound) => formals_action(bound, next),
+        Symbol::Comma(bound) => comma_action(bound, next),
+        Symbol::Bind(bound) => bind_action(bound, next),
+        Symbol::Default => default_action(next),
+        Symbol::Or => or_action(next),
+        Symbol::More(low, high) => more_action(low, high, next),
     }
 }

@@ -6,7 +6,8 @@ ghost use Rattle.std.specs.Cmp.Lexicographic.{pointwise};
 ghost use Rattle.std.specs.Fmt.{DisplaysOnOk};
 ghost use Rattle.rnix_tree.specs.Equality.{same_kind};
 ghost use Rattle.rnix_tree.specs.Range.{bounds_of};
-ghost use Rattle.rnix_grammar.specs.Fault.{fault_of, more_kinds_text, kinds_text, wanted_text, place_text, again_text, range_text, fault_text, unwanted, named_twice, same_extent};
+ghost use Rattle.rnix_tree.specs.Lines.{place_text};
+ghost use Rattle.rnix_grammar.specs.Fault.{fault_of, more_kinds_text, kinds_text, wanted_text, again_text, range_text, fault_text, unwanted, named_twice, same_extent};
 ghost use Rattle.rnix_grammar.specs.Ranges.{range_in};
 
 use rnix_kinds::SyntaxKind;

@@ -1,7 +1,7 @@
 //! The levels of precedence, by numbers: the binary operators have 1 to 8 and 10 to 12, from the loosest to the tightest.
 
 ghost use Rattle.std.specs.Prelude.{◌≡◌, ◌≤◌, IfSome};
-ghost use Rattle.rnix_grammar.specs.Levels.{concatenation_level, operator, plain_power, power, right_of, high_of};
+ghost use Rattle.rnix_grammar.specs.Levels.{concatenation_level, operator, plain_binding_power, binding_power, right_of, high_of};
 
 use rnix_kinds::SyntaxKind;
 
@@ -62,8 +62,8 @@ pub fn operator(kind: SyntaxKind) -> Option<(u8, Associativity)>
 }
 
 // How tightly a token that is no binary operator binds what stands before it.
-fn plain_power(kind: SyntaxKind) -> u8
-    ensures { result ≡ plain_power kind }
+fn plain_binding_power(kind: SyntaxKind) -> u8
+    ensures { result ≡ plain_binding_power kind }
 {
     match kind {
         SyntaxKind::TOKEN_QUESTION => HAS_ATTR_LEVEL,
@@ -79,12 +79,12 @@ fn plain_power(kind: SyntaxKind) -> u8
 }
 
 /// How tightly a token binds what stands before it: its level, and no level for one that ends an expression.
-pub fn power(kind: SyntaxKind) -> u8
-    ensures { result ≡ power kind }
+pub fn binding_power(kind: SyntaxKind) -> u8
+    ensures { result ≡ binding_power kind }
 {
     match operator(kind) {
         Some((level, _)) => level,
-        None => plain_power(kind),
+        None => plain_binding_power(kind),
     }
 }
 

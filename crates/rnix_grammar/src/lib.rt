@@ -7,7 +7,7 @@ mod error;
 mod level;
 mod operand;
 mod place;
-mod slot;
+mod symbol;
 mod until;
 
 pub use action::{Action, action_at};

@@ -1,11 +1,11 @@
 //! What the reader does after an operand.
 
 ghost use Rattle.std.specs.Prelude.{◌≡◌};
-ghost use Rattle.rnix_grammar.specs.Levels.{power};
+ghost use Rattle.rnix_grammar.specs.Levels.{binding_power};
 ghost use Rattle.rnix_grammar.specs.Actions.{follow, more_action};
 
 use crate::action::Action;
-use crate::level::{APPLICATION_LEVEL, HAS_ATTR_LEVEL, NO_LEVEL, high_of, power, right_of};
+use crate::level::{APPLICATION_LEVEL, HAS_ATTR_LEVEL, NO_LEVEL, binding_power, high_of, right_of};
 use crate::place::Place;
 use rnix_kinds::SyntaxKind;
 
@@ -46,7 +46,7 @@ pub fn more_action(low: u8, high: u8, next: Option<SyntaxKind>) -> Action
     match next {
         None => Action::Settle,
         Some(kind) => {
-            let level = power(kind);
+            let level = binding_power(kind);
             if level != NO_LEVEL && low <= level && level <= high {
                 follow(kind)
             } else {

@@ -6,41 +6,41 @@ use Rattle.rnix_grammar.specs.declared.place.Place.{Place}
 use Rattle.rnix_grammar.specs.declared.place.Place.TheVariants as p
 use Rattle.rnix_grammar.specs.declared.until.Until.{Until}
 use Rattle.rnix_grammar.specs.declared.until.Closer.{Closer}
-use Rattle.rnix_grammar.specs.declared.slot.Slot.{Slot}
-use Rattle.rnix_grammar.specs.declared.slot.Slot.TheVariants as s
+use Rattle.rnix_grammar.specs.declared.symbol.Symbol.{Symbol}
+use Rattle.rnix_grammar.specs.declared.symbol.Symbol.TheVariants as s
 use Rattle.rnix_grammar.specs.declared.action.Action.{Action}
 use Rattle.rnix_grammar.specs.declared.action.Action.TheVariants as a
 use Rattle.rnix_grammar.specs.Tables.{is_wanted, closes}
-use Rattle.rnix_grammar.specs.Slots.{slot_at}
+use Rattle.rnix_grammar.specs.Symbols.{symbol_at}
 use Rattle.rnix_grammar.specs.Actions.{token_action, series_action, entries_action, more_pieces_action, bind_action, follow, goes_on, done_at, action_at}
 use Rattle.rnix_grammar.specs.Sorts.{Loose, Plain, sort_of, may_hold, is_open, sort_in, may_stand, behind_in, place_in}
-use Rattle.rnix_grammar.specs.Weights.{steps_with, weight, bonus_in, bonus}
+use Rattle.rnix_grammar.specs.Weights.{steps_with, weight, full_bonus, bonus_in, bonus}
 use Rattle.rnix_lemmas.proofs.EachKind.{each_kind}
 use Rattle.rnix_grammar.specs.Allowed.{Allowed}
 
 -- what a place is by what stands there
-record StandsAt (slot : Slot) (place : Place) : Type 0 where
-  sort : sort_of place ≡ sort_in slot (sort_of place)
-  same : sort_of (behind_in slot place) ≡ sort_of place
-  free : may_stand slot (sort_of place) ≡ true
-  here : place ≡ place_in slot place
-  steps : weight place ≡ steps_with weight (done_at slot place None false)
-  bonus : bonus place ≡ bonus_in slot
+record StandsAt (symbol : Symbol) (place : Place) : Type 0 where
+  sort : sort_of place ≡ sort_in symbol (sort_of place)
+  same : sort_of (behind_in symbol place) ≡ sort_of place
+  free : may_stand symbol (sort_of place) ≡ true
+  here : place ≡ place_in symbol place
+  steps : weight place ≡ steps_with weight (done_at symbol place None false)
+  bonus : bonus place ≡ bonus_in symbol
 
 -- the sort of a place, by what stands there
-pub sort_there : (place : Place) → sort_of place ≡ sort_in (slot_at place) (sort_of place)
+pub sort_there : (place : Place) → sort_of place ≡ sort_in (symbol_at place) (sort_of place)
 sort_there p.RootStart = refl
 sort_there _ = refl
 
-same_there : (place : Place) → sort_of (behind_in (slot_at place) place) ≡ sort_of place
+same_there : (place : Place) → sort_of (behind_in (symbol_at place) place) ≡ sort_of place
 same_there p.RootStart = refl
 same_there _ = refl
 
-free_there : (place : Place) → may_stand (slot_at place) (sort_of place) ≡ true
+free_there : (place : Place) → may_stand (symbol_at place) (sort_of place) ≡ true
 free_there p.RootStart = refl
 free_there _ = refl
 
-place_there : (place : Place) → place ≡ place_in (slot_at place) place
+place_there : (place : Place) → place ≡ place_in (symbol_at place) place
 place_there p.RootStart = refl
 place_there _ = refl
 
@@ -55,7 +55,7 @@ weight_there (p.PatternEnd true) = (refl, refl, refl)
 weight_there _ = (refl, refl, refl)
 
 -- so is each place
-stands_there : (place : Place) → StandsAt (slot_at place) place
+stands_there : (place : Place) → StandsAt (symbol_at place) place
 stands_there place = record {
   sort = sort_there place;
   same = same_there place;
@@ -79,14 +79,14 @@ series : (level : ℕ) (closer : Closer) (place : Place) (kind : SyntaxKind) →
 series level closer place kind e =
     either place (Some kind) (closes closer kind) (a.Take p.Past) (a.Read level true place) (λ h. (refl, sym e, ap is_open e)) (λ h. (refl, ap (λ x. may_hold x Loose) e))
 
-entries : (closer : Closer) (place behind : Place) (kind : SyntaxKind) → sort_of place ≡ Plain → sort_of behind ≡ sort_of place → bonus place ≡ 30
+entries : (closer : Closer) (place behind : Place) (kind : SyntaxKind) → sort_of place ≡ Plain → sort_of behind ≡ sort_of place → bonus place ≡ full_bonus
     → Allowed place (Some kind) (entries_action closer place behind (Some kind))
 entries closer place behind TOKEN_INHERIT e f b = (refl, refl, refl, refl, ap is_open e)
 entries closer place behind kind e f b =
     either place (Some kind) (closes closer kind) (a.Take behind) _ (λ h. (refl, f, ap is_open e)) (λ h. (refl, refl, refl, ap is_open e, refl, omega (arith, b), λ n. absurd (cc)))
 
 -- where the text has ended
-ended : (slot : Slot) (place : Place) (touches : Bool) → StandsAt slot place → Allowed place None (done_at slot place None touches)
+ended : (symbol : Symbol) (place : Place) (touches : Bool) → StandsAt symbol place → Allowed place None (done_at symbol place None touches)
 ended (s.Token until behind) place touches w = (refl, (w.same, omega (arith, w.steps)))
 ended (s.Operand level counted behind) place touches w = ((w.same, omega (arith, w.steps)), w.free)
 ended (s.Series level closer) place touches w = (refl, (sym w.sort, omega (arith, w.steps)))
@@ -102,10 +102,10 @@ ended (s.Formals bound) place touches w = (refl, (sym w.sort, omega (arith, w.st
 ended (s.Comma bound) place touches w = (refl, (sym w.sort, omega (arith, w.steps)))
 ended (s.Bind true) place touches w = w.sort
 ended (s.Bind false) place touches w = w.sort
-ended slot place touches w = assumption
+ended symbol place touches w = assumption
 
 -- where an item is at hand
-at_hand : (slot : Slot) (place : Place) (kind : SyntaxKind) (touches : Bool) → StandsAt slot place → Allowed place (Some kind) (done_at slot place (Some kind) touches)
+at_hand : (symbol : Symbol) (place : Place) (kind : SyntaxKind) (touches : Bool) → StandsAt symbol place → Allowed place (Some kind) (done_at symbol place (Some kind) touches)
 at_hand (s.Token until behind) place kind touches w = token until place behind kind w.same w.free
 at_hand (s.Operand level counted behind) place kind touches w = (w.same, w.free)
 at_hand (s.Series level closer) place kind touches w = series level closer place kind w.sort
@@ -116,10 +116,10 @@ at_hand s.MorePieces place kind true w = each_kind (λ k. Allowed place (Some k)
 at_hand s.MorePieces place kind false w = (w.sort, w.bonus)
 at_hand (s.Bind true) place kind touches w = each_kind (λ k. Allowed place (Some k) (bind_action true (Some k))) (assumption (w.sort, sym w.sort, ap is_open w.sort)) kind
 at_hand (s.Bind false) place kind touches w = each_kind (λ k. Allowed place (Some k) (bind_action false (Some k))) (assumption (w.sort, sym w.sort, ap is_open w.sort)) kind
-at_hand slot place kind touches w =
-    each_kind (λ k. Allowed place (Some k) (done_at slot place (Some k) touches)) (assumption (w.sort, sym w.sort, ap is_open w.sort, w.same, w.bonus)) kind
+at_hand symbol place kind touches w =
+    each_kind (λ k. Allowed place (Some k) (done_at symbol place (Some k) touches)) (assumption (w.sort, sym w.sort, ap is_open w.sort, w.same, w.bonus)) kind
 
 -- at each place
 pub allowed : (place : Place) (next : Option SyntaxKind) (touches : Bool) → Allowed place next (action_at place next touches)
-allowed place None touches = ended (slot_at place) place touches (stands_there place)
-allowed place (Some kind) touches = at_hand (slot_at place) place kind touches (stands_there place)
+allowed place None touches = ended (symbol_at place) place touches (stands_there place)
+allowed place (Some kind) touches = at_hand (symbol_at place) place kind touches (stands_there place)

@@ -14,13 +14,13 @@ use Rattle.rnix_grammar.specs.Fault.{Fault}
 use Rattle.rnix_grammar.specs.Tables.{is_wanted, depth_limit}
 use Rattle.rnix_grammar.specs.Actions.{action_at}
 use Rattle.rnix_grammar.specs.Begins.{begin_of, second_kind}
-use Rattle.rnix_grammar.specs.Sketch.{Token, Stray, Unwanted, Extra, Twice, TooDeep, Sketch, blank, ◌⊕◌, one_branch, one_fault, row_of, tokens_in, clean, token_if, told, head_kind, touches}
+use Rattle.rnix_grammar.specs.AnnotatedForest.{Token, Stray, Unwanted, Extra, Twice, TooDeep, AnnotatedForest, blank, ◌⊕◌, one_branch, one_fault, row_of, tokens_in, clean, token_if, leaf_kind, head_kind, touches}
 use Rattle.rnix_grammar.specs.Layout.{items, from_item, tail_of, trivia_before}
 use Rattle.rnix_grammar.specs.Reports.{report, repeated}
 use Rattle.rnix_grammar.specs.Machine.{Head, Node, Second, Operand, Frame, Machine, put, opened, ate, behind, end_of, reach, leaf_in, leaf, run_row, dropped, run_rest, kind_of, made, low_of, machine, closed, entry_closed, limited, begun, operand_on, reading, perform, step_on, step, Runs, rest, then as further}
 use Rattle.rnix_grammar.specs.Missing.{run_of}
 use Rattle.rnix_grammar.specs.Clean.{clean_frame, clean_frames, clean_machine}
-use Rattle.rnix_lemmas.proofs.SketchLemmas.{⊕-blank, tokens_in-row_of}
+use Rattle.rnix_lemmas.proofs.AnnotatedForestLemmas.{⊕-blank, tokens_in-row_of}
 use Rattle.rnix_lemmas.proofs.LayoutLemmas.{items_head, items-view, items-from_item, from_item_item, clean-⊕, clean-trivia, IsBared, bared}
 
 -- the items behind the first
@@ -45,14 +45,14 @@ leaf_clean k ts = by_head (from_item ts) refl ∙ ap (leaf_in k) (sym (items-vie
   where
     by_head : (xs : List Token) → from_item ts ≡ xs → clean (leaf_in k xs) ≡ leaf_in k (items_head xs)
     by_head [] e = refl
-    by_head (x ∷ xs) e = ap (λ y. token_if y (told k x) x blank) (from_item_item ts x xs e)
+    by_head (x ∷ xs) e = ap (λ y. token_if y (leaf_kind k x) x blank) (from_item_item ts x xs e)
 
 -- trivia behind a row go
-pub ate_clean : (f : Sketch) (ts : List Token) → clean (ate true f ts) ≡ clean f
+pub ate_clean : (f : AnnotatedForest) (ts : List Token) → clean (ate true f ts) ≡ clean f
 ate_clean f ts = clean-⊕ f (trivia_before ts) ∙ ap (λ x. clean f ⊕ x) (clean-trivia ts) ∙ ⊕-blank (clean f)
 
 -- a row with something behind it
-pub added_clean : (f : Sketch) (ts : List Token) (g : Sketch) {h : Sketch} → clean g ≡ h → clean (ate true f ts ⊕ g) ≡ clean f ⊕ h
+pub added_clean : (f : AnnotatedForest) (ts : List Token) (g : AnnotatedForest) {h : AnnotatedForest} → clean g ≡ h → clean (ate true f ts ⊕ g) ≡ clean f ⊕ h
 added_clean f ts g e = clean-⊕ (ate true f ts) g ∙ ap (λ x. x ⊕ clean g) (ate_clean f ts) ∙ ap (λ x. clean f ⊕ x) e
 
 -- a run and what is left behind it are the items
@@ -76,7 +76,7 @@ cons_same : {f g : Frame} {fs gs : List Frame} → f ≡ g → fs ≡ gs → f �
 cons_same {f = f} {gs = gs} d e = ap (λ x. f ∷ x) e ∙ ap (λ x. x ∷ gs) d
 
 -- frames with the same rows
-row_same : (h : Head) (q : Place) (d : ℕ) {f g : Sketch} → f ≡ g → opened h q d f ≡ opened h q d g
+row_same : (h : Head) (q : Place) (d : ℕ) {f g : AnnotatedForest} → f ≡ g → opened h q d f ≡ opened h q d g
 row_same h q d e = ap (opened h q d) e
 
 -- machines with the same frames, with the same left, reached as far
@@ -89,7 +89,7 @@ choice_same true k m d e = d
 choice_same false k m d e = e
 
 -- what is made of a row
-made_clean : (h : Head) (f : Sketch) → clean (made h f) ≡ made h (clean f)
+made_clean : (h : Head) (f : AnnotatedForest) → clean (made h f) ≡ made h (clean f)
 made_clean (Node k) f = refl
 made_clean _ f = assumption
 

@@ -8,13 +8,13 @@ use Rattle.rnix_grammar.specs.declared.place.Place.{Place}
 use Rattle.rnix_grammar.specs.declared.place.Place.TheVariants as p
 use Rattle.rnix_grammar.specs.declared.until.Until.{Until}
 use Rattle.rnix_grammar.specs.Fault.{Fault}
-use Rattle.rnix_grammar.specs.Rows.{Spot, At, to, go, live, whole, run}
-use Rattle.rnix_grammar.specs.Missing.{lack, run_at}
+use Rattle.rnix_grammar.specs.Rows.{RowState, At, to, advance, live, whole, run}
+use Rattle.rnix_grammar.specs.Missing.{missing, run_at}
 use Rattle.rnix_lemmas.proofs.LevelLemmas.{simple_fits}
 use Rattle.rnix_lemmas.proofs.Basics.{true_is_not_false}
 
 -- some kinds complete a row
-abbrev pub IsCompletable : Spot → Type 0
+abbrev pub IsCompletable : RowState → Type 0
 IsCompletable q = (kinds : List SyntaxKind) × (whole (run q kinds) ≡ true)
 
 -- a place behind an operand, which is in no row
@@ -22,15 +22,15 @@ abbrev pub is_behind : Place → Bool
 is_behind (p.Behind low high) = true
 is_behind place = false
 
--- the first kind that goes on from a spot
-abbrev first_live : Spot → List SyntaxKind → SyntaxKind
+-- the first kind that goes on from a state
+abbrev first_live : RowState → List SyntaxKind → SyntaxKind
 first_live q [] = NODE_LITERAL
-first_live q (k ∷ ks) = if live (go q k) then k else first_live q ks
+first_live q (k ∷ ks) = if live (advance q k) then k else first_live q ks
 
 -- first kinds, as many as a number says, or until the row is whole
-abbrev ending : ℕ → Spot → List SyntaxKind
+abbrev ending : ℕ → RowState → List SyntaxKind
 ending zero q = []
-ending (suc n) q = if whole q then [] else first_live q all_kinds ∷ ending n (go q (first_live q all_kinds))
+ending (suc n) q = if whole q then [] else first_live q all_kinds ∷ ending n (advance q (first_live q all_kinds))
 
 -- each place's row is completed by five kinds at most
 pub completed_at : (x : Place) → is_behind x ≡ false → IsCompletable (At x)
@@ -40,7 +40,7 @@ completed_at (p.Behind low high) h = absurd (true_is_not_false h)
 completed_at x h = (ending 5 (At x), refl)
 
 -- a place behind an operand lacks nothing, and no run stands there
-pub lost_inside : (x y : Place) (e : Fault) → lack x ≡ Some (e, y) → is_behind x ≡ false
+pub lost_inside : (x y : Place) (e : Fault) → missing x ≡ Some (e, y) → is_behind x ≡ false
 lost_inside (p.Behind low high) y e h = absurd (cc)
 lost_inside _ y e h = refl
 

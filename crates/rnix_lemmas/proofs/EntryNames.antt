@@ -3,16 +3,16 @@ use Rattle.std.proofs.Common.{◌≡◌, ℕ, Bool, true, false, List, Option, N
 use Rattle.std.specs.Prelude.{if◌then◌else◌, ◌&&◌}
 use Rattle.rnix_kinds.specs.declared.kinds.SyntaxKind.{SyntaxKind}
 use Rattle.rnix_kinds.specs.declared.kinds.SyntaxKind.TheVariants.{NODE_PAT_ENTRY}
-use Rattle.rnix_grammar.specs.Sketch.{Token, Sketch, blank, token, branch, fault, ◌⊕◌}
+use Rattle.rnix_grammar.specs.AnnotatedForest.{Token, AnnotatedForest, blank, token, branch, fault, ◌⊕◌}
 use Rattle.rnix_grammar.specs.Reports.{entry_name, is_same_name, has_entry}
 
 -- the names of entries, without trivia and with them
-abbrev pub bare_name : SyntaxKind → Sketch → Option Token
+abbrev pub bare_name : SyntaxKind → AnnotatedForest → Option Token
 bare_name NODE_PAT_ENTRY c = entry_name c
 bare_name k c = None
 
 -- a node may be an entry of the name
-pub has_branch : (name : List ℕ) (k : SyntaxKind) (c f : Sketch) → has_entry name (branch k c f) ≡ (if is_same_name name (bare_name k c) then true else has_entry name f)
+pub has_branch : (name : List ℕ) (k : SyntaxKind) (c f : AnnotatedForest) → has_entry name (branch k c f) ≡ (if is_same_name name (bare_name k c) then true else has_entry name f)
 has_branch name NODE_PAT_ENTRY c f = refl
 has_branch name _ c f = refl
 
@@ -22,7 +22,7 @@ either_assoc true y z = refl
 either_assoc false y z = refl
 
 -- an entry of the name stands in one of two rows
-pub has-⊕ : (name : List ℕ) (b c : Sketch) → has_entry name (b ⊕ c) ≡ (if has_entry name b then true else has_entry name c)
+pub has-⊕ : (name : List ℕ) (b c : AnnotatedForest) → has_entry name (b ⊕ c) ≡ (if has_entry name b then true else has_entry name c)
 has-⊕ name blank c = refl
 has-⊕ name (token k t f) c = has-⊕ name f c
 has-⊕ name (branch k d f) c =

@@ -2,17 +2,17 @@
 use Rattle.std.proofs.Common.{◌≡◌, refl}
 use Rattle.rnix_kinds.specs.declared.kinds.SyntaxKind.{SyntaxKind}
 use Rattle.rnix_kinds.specs.declared.kinds.SyntaxKind.TheVariants.{NODE_LAMBDA}
-use Rattle.rnix_grammar.specs.Sketch.{Token, Note, Sketch, blank, token, branch, fault, ◌⊕◌}
+use Rattle.rnix_grammar.specs.AnnotatedForest.{Token, Note, AnnotatedForest, blank, token, branch, fault, ◌⊕◌}
 use Rattle.rnix_grammar.specs.TreeLevels.{operator_in, calls_or, is_or_row}
 use Rattle.rnix_grammar.specs.Operands.{first_tree}
 
 -- one tree
-pub data IsSingle : Sketch → Type 0 where
-  a_node : {k : SyntaxKind} {c : Sketch} → IsSingle (branch k c blank)
-  an_error : {n : Note} {c : Sketch} → IsSingle (fault n c blank)
+pub data IsSingle : AnnotatedForest → Type 0 where
+  a_node : {k : SyntaxKind} {c : AnnotatedForest} → IsSingle (branch k c blank)
+  an_error : {n : Note} {c : AnnotatedForest} → IsSingle (fault n c blank)
 
 -- what is behind the first tree does not change which kind it has
-first_rest : (k : SyntaxKind) (c f g : Sketch) → first_tree (branch k c f) ≡ first_tree (branch k c g)
+first_rest : (k : SyntaxKind) (c f g : AnnotatedForest) → first_tree (branch k c f) ≡ first_tree (branch k c g)
 first_rest NODE_LAMBDA blank f g = refl
 first_rest NODE_LAMBDA (token i t h) f g = refl
 first_rest NODE_LAMBDA (branch i e h) f g = refl
@@ -20,16 +20,16 @@ first_rest NODE_LAMBDA (fault i e h) f g = refl
 first_rest _ c f g = refl
 
 -- a row that begins with one tree has that tree's first tree
-pub first_in : (x g : Sketch) → IsSingle x → first_tree (x ⊕ g) ≡ first_tree x
+pub first_in : (x g : AnnotatedForest) → IsSingle x → first_tree (x ⊕ g) ≡ first_tree x
 first_in _ g (a_node {k = k} {c = c}) = first_rest k c g blank
 first_in _ g an_error = refl
 
 -- the operator behind one tree
-pub single_operator : (x f : Sketch) (j : SyntaxKind) (t : Token) → IsSingle x → operator_in (x ⊕ token j t f) ≡ j
+pub single_operator : (x f : AnnotatedForest) (j : SyntaxKind) (t : Token) → IsSingle x → operator_in (x ⊕ token j t f) ≡ j
 single_operator _ f j t a_node = refl
 single_operator _ f j t an_error = refl
 
 -- the argument behind one tree
-pub single_calls : (x g : Sketch) → IsSingle x → calls_or (x ⊕ g) ≡ is_or_row g
+pub single_calls : (x g : AnnotatedForest) → IsSingle x → calls_or (x ⊕ g) ≡ is_or_row g
 single_calls _ g a_node = refl
 single_calls _ g an_error = refl

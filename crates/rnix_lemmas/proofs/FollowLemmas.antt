@@ -8,92 +8,92 @@ use Rattle.std.specs.Prelude.{◌||◌, ◌&&◌, if◌then◌else◌, nat_eq, n
 use Rattle.rnix_kinds.specs.declared.kinds.SyntaxKind.{SyntaxKind}
 use Rattle.rnix_kinds.specs.declared.kinds.SyntaxKind.TheVariants.{NODE_PAREN}
 use Rattle.rnix_kinds.specs.SyntaxKind.{is_fn_arg}
-use Rattle.rnix_grammar.specs.Levels.{power, left_of, high_of}
+use Rattle.rnix_grammar.specs.Levels.{binding_power, left_of, high_of}
 use Rattle.rnix_grammar.specs.TokenKinds.{is_or, is_question, is_dot}
 use Rattle.rnix_grammar.specs.Rows.{is_atom, is_infix}
-use Rattle.rnix_grammar.specs.Sketch.{Token, Sketch, blank, token, branch, fault}
+use Rattle.rnix_grammar.specs.AnnotatedForest.{Token, AnnotatedForest, blank, token, branch, fault}
 use Rattle.rnix_grammar.specs.TreeLevels.{row_level, level_of, is_atom_row}
 use Rattle.rnix_grammar.specs.Operands.{follows}
 use Rattle.rnix_lemmas.proofs.Basics.{true_is_not_false, not_if}
-use Rattle.rnix_lemmas.proofs.LevelLemmas.{within, at_most, same_number, at_most_true, power_max, operates}
+use Rattle.rnix_lemmas.proofs.LevelLemmas.{within, at_most, same_number, at_most_true, binding_power_max, operates}
 use Rattle.rnix_lemmas.proofs.StrictParts.{left_least}
 
 -- how an item goes on with a tree of a level that is an atom or not: as an operator, by `?`, as an argument, or by `.` or `or`
 pub data Follows (j : SyntaxKind) (v : ℕ) (w : Bool) : Type 0 where
   by_operator : is_infix j ≡ true → left_of j ≤ v → Follows j v w
-  by_question : power j ≡ 13 → 13 ≤ v → Follows j v w
-  by_argument : power j ≡ 15 → 15 ≤ v → Follows j v w
-  by_name : power j ≡ 16 → w ≡ true → Follows j v w
+  by_question : binding_power j ≡ 13 → 13 ≤ v → Follows j v w
+  by_argument : binding_power j ≡ 15 → 15 ≤ v → Follows j v w
+  by_name : binding_power j ≡ 16 → w ≡ true → Follows j v w
 
 -- an item goes on with a tree in one of these ways
-pub follows_by : (j : SyntaxKind) (x : Sketch) → follows j x ≡ true → Follows j (row_level x) (is_atom_row x)
+pub follows_by : (j : SyntaxKind) (x : AnnotatedForest) → follows j x ≡ true → Follows j (row_level x) (is_atom_row x)
 follows_by j x h = by (is_infix j) (is_question j) (is_fn_arg j) (is_dot j || is_or j) refl refl refl refl h
   where
     by : (a b c d : Bool) → is_infix j ≡ a → is_question j ≡ b → is_fn_arg j ≡ c → (is_dot j || is_or j) ≡ d
         → (if a then nat_le (left_of j) (row_level x) else (if b then nat_le 13 (row_level x) else (if c then nat_le 15 (row_level x) else (d && is_atom_row x)))) ≡ true
         → Follows j (row_level x) (is_atom_row x)
     by true b c d e f g k h = by_operator e (at_most (left_of j) (row_level x) h)
-    by false true c d e f g k h = by_question (same_number (power j) 13 (implied is_question (λ o. nat_eq (power o) 13) refl j f)) (at_most 13 (row_level x) h)
-    by false false true d e f g k h = by_argument (same_number (power j) 15 (implied is_fn_arg (λ o. nat_eq (power o) 15) refl j g)) (at_most 15 (row_level x) h)
-    by false false false true e f g k h = by_name (same_number (power j) 16 (implied (λ o. is_dot o || is_or o) (λ o. nat_eq (power o) 16) refl j k)) h
+    by false true c d e f g k h = by_question (same_number (binding_power j) 13 (implied is_question (λ o. nat_eq (binding_power o) 13) refl j f)) (at_most 13 (row_level x) h)
+    by false false true d e f g k h = by_argument (same_number (binding_power j) 15 (implied is_fn_arg (λ o. nat_eq (binding_power o) 15) refl j g)) (at_most 15 (row_level x) h)
+    by false false false true e f g k h = by_name (same_number (binding_power j) 16 (implied (λ o. is_dot o || is_or o) (λ o. nat_eq (binding_power o) 16) refl j k)) h
     by false false false false e f g k h = absurd (true_is_not_false (sym h))
 
 -- what goes on with a tree has a level
-pub follows_power : (j : SyntaxKind) (x : Sketch) → follows j x ≡ true → 1 ≤ power j
-follows_power j x h = by (follows_by j x h)
+pub follows_binding_power : (j : SyntaxKind) (x : AnnotatedForest) → follows j x ≡ true → 1 ≤ binding_power j
+follows_binding_power j x h = by (follows_by j x h)
   where
-    by : {v : ℕ} {w : Bool} → Follows j v w → 1 ≤ power j
+    by : {v : ℕ} {w : Bool} → Follows j v w → 1 ≤ binding_power j
     by (by_operator i l) = (operates j i).positive
     by (by_question p l) = omega (arith, p)
     by (by_argument p l) = omega (arith, p)
     by (by_name p e) = omega (arith, p)
 
 -- an atom is as tight as any operator wants
-pub atom_tight : (k : SyntaxKind) (c : Sketch) → is_atom k ≡ true → level_of k c ≡ 16
+pub atom_tight : (k : SyntaxKind) (c : AnnotatedForest) → is_atom k ≡ true → level_of k c ≡ 16
 atom_tight NODE_PAREN c h = refl
 atom_tight _ c h = cc
 
 -- so is a row of one atom
-pub atom_level : (x : Sketch) → is_atom_row x ≡ true → row_level x ≡ 16
+pub atom_level : (x : AnnotatedForest) → is_atom_row x ≡ true → row_level x ≡ 16
 atom_level (branch k c f) h = atom_tight k c h
 atom_level (fault n c f) h = refl
 atom_level blank h = absurd (true_is_not_false (sym h))
 atom_level (token k t f) h = absurd (true_is_not_false (sym h))
 
 -- what goes on with a tree binds no tighter than the tree
-pub follows_level : (i : SyntaxKind) (x : Sketch) → follows i x ≡ true → power i ≤ row_level x
+pub follows_level : (i : SyntaxKind) (x : AnnotatedForest) → follows i x ≡ true → binding_power i ≤ row_level x
 follows_level i x h = by (follows_by i x h) refl refl
   where
-    by : {v : ℕ} {w : Bool} → Follows i v w → v ≡ row_level x → w ≡ is_atom_row x → power i ≤ row_level x
+    by : {v : ℕ} {w : Bool} → Follows i v w → v ≡ row_level x → w ≡ is_atom_row x → binding_power i ≤ row_level x
     by (by_operator o l) d e = omega (arith, l, d, left_least i o)
     by (by_question p l) d e = omega (arith, l, d, p)
     by (by_argument p l) d e = omega (arith, l, d, p)
     by (by_name p e) d u = omega (arith, p, atom_level x (sym u ∙ e))
 
 -- What goes on with a tree binds no tighter than the level.
-abbrev pub Stops : ℕ → Sketch → Type 0
-Stops high x = (j : SyntaxKind) → follows j x ≡ true → power j ≤ high
+abbrev pub Stops : ℕ → AnnotatedForest → Type 0
+Stops high x = (j : SyntaxKind) → follows j x ≡ true → binding_power j ≤ high
 
 -- nothing binds tighter than 16
-pub stops_all : (x : Sketch) → Stops 16 x
-stops_all x j h = power_max j
+pub stops_all : (x : AnnotatedForest) → Stops 16 x
+stops_all x j h = binding_power_max j
 
 -- behind a tree that is no atom nothing binds tighter than an argument
-pub stops_simple : (x : Sketch) → is_atom_row x ≡ false → Stops 15 x
+pub stops_simple : (x : AnnotatedForest) → is_atom_row x ≡ false → Stops 15 x
 stops_simple x a j h = by (follows_by j x h) refl
   where
-    by : {v : ℕ} {w : Bool} → Follows j v w → w ≡ is_atom_row x → power j ≤ 15
+    by : {v : ℕ} {w : Bool} → Follows j v w → w ≡ is_atom_row x → binding_power j ≤ 15
     by (by_operator i l) e = omega (arith, (operates j i).most)
     by (by_question p l) e = omega (arith, p)
     by (by_argument p l) e = omega (arith, p)
     by (by_name p e) u = absurd (true_is_not_false (sym e ∙ u ∙ a))
 
 -- What goes on with a tree is what binds no tighter than the level.
-abbrev pub FollowedTo : ℕ → Sketch → Type 0
-FollowedTo high x = (j : SyntaxKind) → ((1 ≤ power j → power j ≤ high → follows j x ≡ true) × (follows j x ≡ true → (1 ≤ power j) × (power j ≤ high)))
+abbrev pub FollowedTo : ℕ → AnnotatedForest → Type 0
+FollowedTo high x = (j : SyntaxKind) → ((1 ≤ binding_power j → binding_power j ≤ high → follows j x ≡ true) × (follows j x ≡ true → (1 ≤ binding_power j) × (binding_power j ≤ high)))
 
 -- so no more does
-pub stops_at : (high : ℕ) (x : Sketch) → FollowedTo high x → Stops high x
+pub stops_at : (high : ℕ) (x : AnnotatedForest) → FollowedTo high x → Stops high x
 stops_at high x w j h = ((w j).1 h).1
 
 -- an item of the kind may go on with a tree of the level, which is an atom or is not
@@ -105,7 +105,7 @@ goes_after kind level atom =
 -- it may do so if it binds no tighter than another level, and only then
 abbrev pub is_followed : ℕ → Bool → ℕ → SyntaxKind → Bool
 is_followed level atom high j =
-    if nat_le 1 (power j) && nat_le (power j) high then goes_after j level atom else (if goes_after j level atom then false else true)
+    if nat_le 1 (binding_power j) && nat_le (binding_power j) high then goes_after j level atom else (if goes_after j level atom then false else true)
 
 both_ways : (p high : ℕ) (w : Bool) → (if nat_le 1 p && nat_le p high then w else (if w then false else true)) ≡ true
     → (1 ≤ p → p ≤ high → w ≡ true) × (w ≡ true → (1 ≤ p) × (p ≤ high))
@@ -116,42 +116,42 @@ both_ways p high false h = (
 )
 
 -- what is so of all kinds says what goes on with a tree of the level
-pub followed_by : (level : ℕ) (atom : Bool) (high : ℕ) → list_all (is_followed level atom high) all_kinds ≡ true → (x : Sketch) → row_level x ≡ level → is_atom_row x ≡ atom → FollowedTo high x
+pub followed_by : (level : ℕ) (atom : Bool) (high : ℕ) → list_all (is_followed level atom high) all_kinds ≡ true → (x : AnnotatedForest) → row_level x ≡ level → is_atom_row x ≡ atom → FollowedTo high x
 followed_by level atom high h x e f j =
-    both_ways (power j) high (follows j x) (subst (λ (a : Bool). is_followed (row_level x) a high j ≡ true) (sym f) (subst (λ (l : ℕ). is_followed l atom high j ≡ true) (sym e) (every (is_followed level atom high) h j)))
+    both_ways (binding_power j) high (follows j x) (subst (λ (a : Bool). is_followed (row_level x) a high j ≡ true) (sym f) (subst (λ (l : ℕ). is_followed l atom high j ≡ true) (sym e) (every (is_followed level atom high) h j)))
 
 -- an atom, or an error node
-pub followed_atom : (x : Sketch) → row_level x ≡ 16 → is_atom_row x ≡ true → FollowedTo 16 x
+pub followed_atom : (x : AnnotatedForest) → row_level x ≡ 16 → is_atom_row x ≡ true → FollowedTo 16 x
 followed_atom = followed_by 16 true 16 refl
 
 -- a selection, or a call of the name `or`
-pub followed_tight : (x : Sketch) → row_level x ≡ 16 → is_atom_row x ≡ false → FollowedTo 15 x
+pub followed_tight : (x : AnnotatedForest) → row_level x ≡ 16 → is_atom_row x ≡ false → FollowedTo 15 x
 followed_tight = followed_by 16 false 15 refl
 
 -- another call
-pub followed_call : (x : Sketch) → row_level x ≡ 15 → is_atom_row x ≡ false → FollowedTo 15 x
+pub followed_call : (x : AnnotatedForest) → row_level x ≡ 15 → is_atom_row x ≡ false → FollowedTo 15 x
 followed_call = followed_by 15 false 15 refl
 
 -- a negation
-pub followed_negated : (x : Sketch) → row_level x ≡ 14 → is_atom_row x ≡ false → FollowedTo 13 x
+pub followed_negated : (x : AnnotatedForest) → row_level x ≡ 14 → is_atom_row x ≡ false → FollowedTo 13 x
 followed_negated = followed_by 14 false 13 refl
 
 -- a test for an attribute
-pub followed_question : (x : Sketch) → row_level x ≡ 13 → is_atom_row x ≡ false → FollowedTo 13 x
+pub followed_question : (x : AnnotatedForest) → row_level x ≡ 13 → is_atom_row x ≡ false → FollowedTo 13 x
 followed_question = followed_by 13 false 13 refl
 
 -- the other prefix operator
-pub followed_inverted : (x : Sketch) → row_level x ≡ 9 → is_atom_row x ≡ false → FollowedTo 8 x
+pub followed_inverted : (x : AnnotatedForest) → row_level x ≡ 9 → is_atom_row x ≡ false → FollowedTo 8 x
 followed_inverted = followed_by 9 false 8 refl
 
 -- what reaches as far as it can
-pub followed_loose : (x : Sketch) → row_level x ≡ 0 → is_atom_row x ≡ false → FollowedTo 0 x
+pub followed_loose : (x : AnnotatedForest) → row_level x ≡ 0 → is_atom_row x ≡ false → FollowedTo 0 x
 followed_loose = followed_by 0 false 0 refl
 
 -- a binary operator with its operands
-pub followed_infix : (k : SyntaxKind) → is_infix k ≡ true → (x : Sketch) → row_level x ≡ power k → is_atom_row x ≡ false → FollowedTo (high_of k) x
-followed_infix k h = followed_by (power k) false (high_of k) (implied is_infix (λ i. list_all (is_followed (power i) false (high_of i)) all_kinds) refl k h)
+pub followed_infix : (k : SyntaxKind) → is_infix k ≡ true → (x : AnnotatedForest) → row_level x ≡ binding_power k → is_atom_row x ≡ false → FollowedTo (high_of k) x
+followed_infix k h = followed_by (binding_power k) false (high_of k) (implied is_infix (λ i. list_all (is_followed (binding_power i) false (high_of i)) all_kinds) refl k h)
 
 -- no item goes on with a lone token
-pub follows_token : (i k : SyntaxKind) (t : Token) (f : Sketch) → follows i (token k t f) ≡ true → ⊥
+pub follows_token : (i k : SyntaxKind) (t : Token) (f : AnnotatedForest) → follows i (token k t f) ≡ true → ⊥
 follows_token i k t f h = let w = (followed_loose (token k t f) refl refl i).1 h in omega (arith, w.0, w.1)

@@ -1,4 +1,4 @@
--- How a mended row comes as far as the row that is read: a run of unwanted tokens may leave the row at another place, where the same goes on.
+-- How a repaired row comes as far as the row that is read: a run of unwanted tokens may leave the row at another place, where the same goes on.
 use Rattle.std.proofs.Common.{◌≡◌, ℕ, Bool, true, false, List, [], ◌∷◌, Option, Some, None, refl, ap, sym, ◌∙◌, subst}
 use Rattle.std.specs.Prelude.{if◌then◌else◌, nat_eq, nat_le}
 use Rattle.rnix_kinds.specs.declared.kinds.SyntaxKind.{SyntaxKind}
@@ -8,51 +8,51 @@ use Rattle.rnix_grammar.specs.declared.place.Place.{Place}
 use Rattle.rnix_grammar.specs.declared.place.Place.TheVariants as p
 use Rattle.rnix_grammar.specs.declared.until.Until.{Until}
 use Rattle.rnix_grammar.specs.declared.until.Until.TheVariants as u
-use Rattle.rnix_grammar.specs.declared.slot.Slot.{Slot}
-use Rattle.rnix_grammar.specs.declared.slot.Slot.TheVariants as s
+use Rattle.rnix_grammar.specs.declared.symbol.Symbol.{Symbol}
+use Rattle.rnix_grammar.specs.declared.symbol.Symbol.TheVariants as s
 use Rattle.rnix_grammar.specs.Tables.{is_wanted}
-use Rattle.rnix_grammar.specs.Slots.{slot_at}
-use Rattle.rnix_grammar.specs.Sketch.{Token, Note, Stray, Unwanted, Extra, Twice, TooDeep, Sketch}
-use Rattle.rnix_grammar.specs.Rows.{fits, is_attr, Spot, Start, At, Nowhere, to, first, go_source, go_names, go_comma, go_slot, go, whole, live, start, run}
+use Rattle.rnix_grammar.specs.Symbols.{symbol_at}
+use Rattle.rnix_grammar.specs.AnnotatedForest.{Token, Note, Stray, Unwanted, Extra, Twice, TooDeep, AnnotatedForest}
+use Rattle.rnix_grammar.specs.Rows.{fits, is_attr, RowState, Start, At, Nowhere, to, first, advance_source, advance_names, advance_comma, advance_symbol, advance, whole, live, start, run}
 use Rattle.rnix_grammar.specs.Stands.{IsBeside}
-use Rattle.rnix_grammar.specs.Mended.{patch, kinds_of}
+use Rattle.rnix_grammar.specs.Repaired.{patch, kinds_of}
 use Rattle.rnix_grammar.specs.Missing.{run_at}
 use Rattle.rnix_lemmas.proofs.Completable.{IsCompletable, completed_at, run_inside}
 use Rattle.rnix_lemmas.proofs.Owing.{owing}
 use Rattle.rnix_lemmas.proofs.RowKinds.{has_row, no_wanted, no_closing}
 use Rattle.rnix_lemmas.proofs.Basics.{true_is_not_false, no_way}
 
--- where the second spot goes on the first goes on as well, and they end together
-pub record Imitates (q0 q : Spot) : Type 0 where
-  pub goes : (k : SyntaxKind) → live (go q k) ≡ true → go q0 k ≡ go q k
+-- where the second state goes on the first goes on as well, and they end together
+pub record Imitates (q0 q : RowState) : Type 0 where
+  pub goes : (k : SyntaxKind) → live (advance q k) ≡ true → advance q0 k ≡ advance q k
   pub ends : whole q0 ≡ whole q
   pub owes : owing q ≡ true → owing q0 ≡ true
 
--- a spot imitates itself
-pub imitates_self : (q : Spot) → Imitates q q
+-- a state imitates itself
+pub imitates_self : (q : RowState) → Imitates q q
 imitates_self q = record { goes = λ k l. refl; ends = refl; owes = λ o. o }
 
 -- so does an equal one
-pub imitates_same : (q0 q : Spot) → q0 ≡ q → Imitates q0 q
-imitates_same q0 q e = subst (λ (x : Spot). Imitates q0 x) e (imitates_self q0)
+pub imitates_same : (q0 q : RowState) → q0 ≡ q → Imitates q0 q
+imitates_same q0 q e = subst (λ (x : RowState). Imitates q0 x) e (imitates_self q0)
 
 -- one imitates what another does
-pub imitates_both : {q0 q r : Spot} → Imitates q0 q → Imitates q r → Imitates q0 r
+pub imitates_both : {q0 q r : RowState} → Imitates q0 q → Imitates q r → Imitates q0 r
 imitates_both m n =
     record { goes = λ k l. m.goes k (ap live (n.goes k l) ∙ l) ∙ n.goes k l; ends = m.ends ∙ n.ends; owes = λ o. m.owes (n.owes o) }
 
 -- behind a run of unwanted tokens
-pub source_attr : (k : SyntaxKind) → live (to (is_attr k) (At p.InheritNames)) ≡ true → go_source k ≡ to (is_attr k) (At p.InheritNames)
+pub source_attr : (k : SyntaxKind) → live (to (is_attr k) (At p.InheritNames)) ≡ true → advance_source k ≡ to (is_attr k) (At p.InheritNames)
 source_attr NODE_IDENT l = refl
 source_attr _ l = cc
 
 -- and where more names are inherited
-pub names_attr : (k : SyntaxKind) → live (to (is_attr k) (At p.InheritNames)) ≡ true → go_names k ≡ to (is_attr k) (At p.InheritNames)
+pub names_attr : (k : SyntaxKind) → live (to (is_attr k) (At p.InheritNames)) ≡ true → advance_names k ≡ to (is_attr k) (At p.InheritNames)
 names_attr NODE_IDENT l = refl
 names_attr _ l = cc
 
 -- and behind an entry of a pattern
-pub comma_brace : (bound : Bool) (k : SyntaxKind) → live (to (is_wanted u.RBrace k) (At (p.PatternEnd bound))) ≡ true → go_comma bound k ≡ to (is_wanted u.RBrace k) (At (p.PatternEnd bound))
+pub comma_brace : (bound : Bool) (k : SyntaxKind) → live (to (is_wanted u.RBrace k) (At (p.PatternEnd bound))) ≡ true → advance_comma bound k ≡ to (is_wanted u.RBrace k) (At (p.PatternEnd bound))
 comma_brace bound TOKEN_R_BRACE l = refl
 comma_brace bound _ l = absurd (true_is_not_false (sym l))
 
@@ -77,22 +77,22 @@ pub second_imitates : Imitates (At (p.PatternEnd true)) (At p.PatternPast)
 second_imitates = record { goes = λ k l. absurd (true_is_not_false (sym l)); ends = refl; owes = λ o. absurd (true_is_not_false (sym o)) }
 
 -- behind an error node, and its patch
-abbrev pub patched : Note → Spot → Spot
-patched Stray q = go q NODE_LITERAL
-patched TooDeep q = go q NODE_LITERAL
+abbrev pub patched : Note → RowState → RowState
+patched Stray q = advance q NODE_LITERAL
+patched TooDeep q = advance q NODE_LITERAL
 patched n q = q
 
 -- a row goes on behind a patch
-pub run_patch : (n : Note) (q : Spot) (f : Forest) → run q (kinds_of (patch n f)) ≡ run (patched n q) (kinds_of f)
+pub run_patch : (n : Note) (q : RowState) (f : Forest) → run q (kinds_of (patch n f)) ≡ run (patched n q) (kinds_of f)
 run_patch Stray q f = refl
 run_patch _ q f = cc
 
 -- a number stands where an error node does
-literal_imitates : {q0 q r : Spot} → Imitates q0 q → go q NODE_LITERAL ≡ r → live r ≡ true → Imitates (go q0 NODE_LITERAL) r
-literal_imitates {q0 = q0} {r = r} m g l = imitates_same (go q0 NODE_LITERAL) r (m.goes NODE_LITERAL (ap live g ∙ l) ∙ g)
+literal_imitates : {q0 q r : RowState} → Imitates q0 q → advance q NODE_LITERAL ≡ r → live r ≡ true → Imitates (advance q0 NODE_LITERAL) r
+literal_imitates {q0 = q0} {r = r} m g l = imitates_same (advance q0 NODE_LITERAL) r (m.goes NODE_LITERAL (ap live g ∙ l) ∙ g)
 
 -- behind the patch of an error node the same goes on as behind the error node
-pub beside_imitates : (n : Note) (p : SyntaxKind) (a : ℕ) (q0 q r : Spot) (b : Sketch) (i : ℕ) (ts vs : List Token) → IsBeside n p a q r b i ts vs → Imitates q0 q → Imitates (patched n q0) r
+pub beside_imitates : (n : Note) (p : SyntaxKind) (a : ℕ) (q0 q r : RowState) (b : AnnotatedForest) (i : ℕ) (ts vs : List Token) → IsBeside n p a q r b i ts vs → Imitates q0 q → Imitates (patched n q0) r
 beside_imitates Stray p a q0 q r b i [] vs h m = absurd h
 beside_imitates Stray p a q0 q r b i (t ∷ ts) vs h m = literal_imitates m h.3 h.4
 beside_imitates (Unwanted until) p a q0 q r b i [] vs h m = absurd h
@@ -104,27 +104,27 @@ beside_imitates Extra p a q0 q r b i (t ∷ ts) vs h m = subst (Imitates q0) (sy
 beside_imitates Twice p a q0 q r b i ts vs h m = absurd h
 beside_imitates TooDeep p a q0 q r b i ts vs h m = literal_imitates m h.3 h.4
 
--- behind a dead spot nothing goes on
+-- behind a dead state nothing goes on
 pub nowhere : (ks : List SyntaxKind) → run Nowhere ks ≡ Nowhere
 nowhere [] = refl
 nowhere (k ∷ ks) = nowhere ks
 
 -- what may end is alive
-pub run_live : (r : Spot) (ks : List SyntaxKind) → whole (run r ks) ≡ true → live r ≡ true
+pub run_live : (r : RowState) (ks : List SyntaxKind) → whole (run r ks) ≡ true → live r ≡ true
 run_live Nowhere ks h = absurd (true_is_not_false (sym h ∙ ap whole (nowhere ks)))
 run_live _ ks h = cc
 
 -- what completes a row completes each that imitates it
-imitates_run : {q0 q : Spot} → Imitates q0 q → (ks : List SyntaxKind) → whole (run q ks) ≡ true → whole (run q0 ks) ≡ true
+imitates_run : {q0 q : RowState} → Imitates q0 q → (ks : List SyntaxKind) → whole (run q ks) ≡ true → whole (run q0 ks) ≡ true
 imitates_run m [] h = m.ends ∙ h
-imitates_run {q = q} m (k ∷ ks) h = ap (λ z. whole (run z ks)) (m.goes k (run_live (go q k) ks h)) ∙ h
+imitates_run {q = q} m (k ∷ ks) h = ap (λ z. whole (run z ks)) (m.goes k (run_live (advance q k) ks h)) ∙ h
 
 -- so it can be completed
-pub imitates_completable : {q0 q : Spot} → Imitates q0 q → IsCompletable q → IsCompletable q0
+pub imitates_completable : {q0 q : RowState} → Imitates q0 q → IsCompletable q → IsCompletable q0
 imitates_completable m w = (w.0, imitates_run m w.0 w.1)
 
 -- what an error node stands in can be completed where what follows can
-pub beside_completable : (n : Note) (p : SyntaxKind) (a : ℕ) (q r : Spot) (b : Sketch) (i : ℕ) (ts vs : List Token) → IsBeside n p a q r b i ts vs → IsCompletable r → IsCompletable q
+pub beside_completable : (n : Note) (p : SyntaxKind) (a : ℕ) (q r : RowState) (b : AnnotatedForest) (i : ℕ) (ts vs : List Token) → IsBeside n p a q r b i ts vs → IsCompletable r → IsCompletable q
 beside_completable Stray p a q r b i [] vs h w = absurd h
 beside_completable Stray p a q r b i (t ∷ ts) vs h w = (NODE_LITERAL ∷ w.0, ap (λ x. whole (run x w.0)) h.3 ∙ w.1)
 beside_completable (Unwanted until) p a q r b i [] vs h w = absurd h
@@ -142,15 +142,15 @@ unfit_by n =
     (no_way (nat_eq n 13) false (if nat_eq n 14 then false else false) refl (no_way (nat_eq n 14) false false refl refl)))
 
 -- a pattern stands in a lambda alone
-pattern_slot : (slot : Slot) (x : Place) → live (go_slot slot x NODE_PATTERN) ≡ false
-pattern_slot (s.Token until y) x = ap (λ z. live (to z (At y))) (no_wanted until NODE_PATTERN refl)
-pattern_slot (s.Operand level counted y) x = ap (λ z. live (to z (At y))) (unfit_by level)
-pattern_slot (s.Series level closer) x =
+pattern_symbol : (symbol : Symbol) (x : Place) → live (advance_symbol symbol x NODE_PATTERN) ≡ false
+pattern_symbol (s.Token until y) x = ap (λ z. live (to z (At y))) (no_wanted until NODE_PATTERN refl)
+pattern_symbol (s.Operand level counted y) x = ap (λ z. live (to z (At y))) (unfit_by level)
+pattern_symbol (s.Series level closer) x =
     ap (λ z. live (if z then At p.Past else to (fits level NODE_PATTERN) (At x))) (no_closing closer NODE_PATTERN refl) ∙ ap (λ z. live (to z (At x))) (unfit_by level)
-pattern_slot (s.Entries closer y) x = ap (λ z. live (if z then At y else Nowhere)) (no_closing closer NODE_PATTERN refl)
-pattern_slot (s.Bind true) x = refl
-pattern_slot (s.Bind false) x = refl
-pattern_slot _ x = refl
+pattern_symbol (s.Entries closer y) x = ap (λ z. live (if z then At y else Nowhere)) (no_closing closer NODE_PATTERN refl)
+pattern_symbol (s.Bind true) x = refl
+pattern_symbol (s.Bind false) x = refl
+pattern_symbol _ x = refl
 
 -- where a pattern comes first
 first_pattern_node : (node : SyntaxKind) → live (first node NODE_PATTERN) ≡ true → first node NODE_PATTERN ≡ At p.LambdaColon
@@ -158,9 +158,9 @@ first_pattern_node NODE_LAMBDA h = refl
 first_pattern_node _ h = absurd (true_is_not_false (sym h))
 
 -- so a colon is wanted behind it
-pub pattern_goes : (q : Spot) → live (go q NODE_PATTERN) ≡ true → go q NODE_PATTERN ≡ At p.LambdaColon
+pub pattern_goes : (q : RowState) → live (advance q NODE_PATTERN) ≡ true → advance q NODE_PATTERN ≡ At p.LambdaColon
 pattern_goes (Start node) h = first_pattern_node node h
-pattern_goes (At x) h = absurd (true_is_not_false (sym h ∙ pattern_slot (slot_at x) x))
+pattern_goes (At x) h = absurd (true_is_not_false (sym h ∙ pattern_symbol (symbol_at x) x))
 pattern_goes _ h = cc
 
 -- no row is whole where it begins

@@ -6,7 +6,7 @@ use Rattle.rnix_kinds.specs.declared.kinds.SyntaxKind.{SyntaxKind}
 use Rattle.rnix_kinds.specs.SyntaxKind.{is_token}
 use Rattle.rnix_kinds.specs.Lexical.Tokens.{Lexeme}
 use Rattle.rnix_tree.specs.Forest.{Forest, empty, leaf, node}
-use Rattle.rnix_grammar.specs.Sketch.{Token, lexeme_of, tokens_in, forget}
+use Rattle.rnix_grammar.specs.AnnotatedForest.{Token, lexeme_of, tokens_in, forget}
 use Rattle.rnix_grammar.specs.Yield.{yield, untold}
 use Rattle.rnix_grammar.specs.Plain.{is_node, AreUntold}
 use Rattle.rnix_grammar.specs.Derivation.{beyond, laid, has_tokens_alone}

@@ -1,30 +1,30 @@
--- A sketch of items with its trivia.
+-- A forest of items with its trivia.
 use Rattle.std.proofs.Common.{◌≡◌, Bool, true, false, List, [], ◌∷◌, ◌++◌, refl, ap, sym, ◌∙◌, append_assoc}
 use Rattle.rnix_kinds.specs.declared.kinds.SyntaxKind.{SyntaxKind}
 use Rattle.rnix_kinds.specs.declared.kinds.SyntaxKind.TheVariants.{TOKEN_IDENT, TOKEN_OR, NODE_IDENT, NODE_CUR_POS, NODE_ERROR}
 use Rattle.rnix_kinds.specs.SyntaxKind.{is_trivia}
-use Rattle.rnix_grammar.specs.Sketch.{Token, Sketch, blank, token, branch, fault, ◌⊕◌, tokens_in, clean, token_if, told_as, AreTold}
+use Rattle.rnix_grammar.specs.AnnotatedForest.{Token, AnnotatedForest, blank, token, branch, fault, ◌⊕◌, tokens_in, clean, token_if, leaf_kind_as, HaveLeafKinds}
 use Rattle.rnix_grammar.specs.Layout.{from_item_if, from_item, trivia_if, trivia_before, item_if, items, tail_of, is_last, trivia_after, rest_after, left_after, dressed}
-use Rattle.rnix_lemmas.proofs.SketchLemmas.{tokens_two}
+use Rattle.rnix_lemmas.proofs.AnnotatedForestLemmas.{tokens_two}
 use Rattle.rnix_lemmas.proofs.Basics.{true_is_not_false}
 
 -- no trivia stand before the first item
 pub trivia-from_item : (ts : List Token) → trivia_before (from_item ts) ≡ blank
 trivia-from_item [] = refl
-trivia-from_item (t ∷ ts) = go (trivia-from_item ts) (is_trivia t.kind) refl
+trivia-from_item (t ∷ ts) = advance (trivia-from_item ts) (is_trivia t.kind) refl
   where
-    go : trivia_before (from_item ts) ≡ blank → (x : Bool) → is_trivia t.kind ≡ x → trivia_before (from_item_if x t ts (from_item ts)) ≡ blank
-    go ih true e = ih
-    go ih false e = ap (λ y. trivia_if y t (trivia_before ts)) e
+    advance : trivia_before (from_item ts) ≡ blank → (x : Bool) → is_trivia t.kind ≡ x → trivia_before (from_item_if x t ts (from_item ts)) ≡ blank
+    advance ih true e = ih
+    advance ih false e = ap (λ y. trivia_if y t (trivia_before ts)) e
 
 -- from the first item on, the first item is the same
 pub from_item-from_item : (ts : List Token) → from_item (from_item ts) ≡ from_item ts
 from_item-from_item [] = refl
-from_item-from_item (t ∷ ts) = go (from_item-from_item ts) (is_trivia t.kind) refl
+from_item-from_item (t ∷ ts) = advance (from_item-from_item ts) (is_trivia t.kind) refl
   where
-    go : from_item (from_item ts) ≡ from_item ts → (x : Bool) → is_trivia t.kind ≡ x → from_item (from_item_if x t ts (from_item ts)) ≡ from_item_if x t ts (from_item ts)
-    go ih true e = ih
-    go ih false e = ap (λ y. from_item_if y t ts (from_item ts)) e
+    advance : from_item (from_item ts) ≡ from_item ts → (x : Bool) → is_trivia t.kind ≡ x → from_item (from_item_if x t ts (from_item ts)) ≡ from_item_if x t ts (from_item ts)
+    advance ih true e = ih
+    advance ih false e = ap (λ y. from_item_if y t ts (from_item ts)) e
 
 -- the items, by the first of them
 abbrev pub items_head : List Token → List Token
@@ -64,11 +64,11 @@ head_here (x ∷ xs) t us e =
 -- the first item is no trivia
 pub from_item_item : (ts : List Token) (t : Token) (us : List Token) → from_item ts ≡ t ∷ us → is_trivia t.kind ≡ false
 from_item_item [] t us e = absurd (cc)
-from_item_item (x ∷ xs) t us e = go (from_item_item xs t us) (is_trivia x.kind) refl e
+from_item_item (x ∷ xs) t us e = advance (from_item_item xs t us) (is_trivia x.kind) refl e
   where
-    go : (from_item xs ≡ t ∷ us → is_trivia t.kind ≡ false) → (y : Bool) → is_trivia x.kind ≡ y → from_item_if y x xs (from_item xs) ≡ t ∷ us → is_trivia t.kind ≡ false
-    go ih true h e = ih e
-    go ih false h e = let same : x ≡ t = cc in ap (λ z. is_trivia z.kind) (sym same) ∙ h
+    advance : (from_item xs ≡ t ∷ us → is_trivia t.kind ≡ false) → (y : Bool) → is_trivia x.kind ≡ y → from_item_if y x xs (from_item xs) ≡ t ∷ us → is_trivia t.kind ≡ false
+    advance ih true h e = ih e
+    advance ih false h e = let same : x ≡ t = cc in ap (λ z. is_trivia z.kind) (sym same) ∙ h
 
 -- the first item is found
 pub first_item : (t : Token) (us ts : List Token) → items ts ≡ t ∷ us → IsFirst t us ts
@@ -77,7 +77,7 @@ first_item t us ts e =
     record { here = w.0; item = from_item_item ts t (tail_of (from_item ts)) w.0; left = w.1 }
 
 -- trivia go, items stay
-pub clean-⊕ : (f g : Sketch) → clean (f ⊕ g) ≡ clean f ⊕ clean g
+pub clean-⊕ : (f g : AnnotatedForest) → clean (f ⊕ g) ≡ clean f ⊕ clean g
 clean-⊕ blank g = refl
 clean-⊕ (token k t f) g =
     elim (is_trivia t.kind) as (λ x. token_if x k t (clean (f ⊕ g)) ≡ token_if x k t (clean f) ⊕ clean g) [ true ↦ clean-⊕ f g | false ↦ ap (token k t) (clean-⊕ f g) ]
@@ -87,19 +87,19 @@ clean-⊕ (fault n c f) g = ap (fault n (clean c)) (clean-⊕ f g)
 -- trivia go
 pub clean-trivia : (ts : List Token) → clean (trivia_before ts) ≡ blank
 clean-trivia [] = refl
-clean-trivia (t ∷ ts) = go (clean-trivia ts) (is_trivia t.kind) refl
+clean-trivia (t ∷ ts) = advance (clean-trivia ts) (is_trivia t.kind) refl
   where
-    go : clean (trivia_before ts) ≡ blank → (x : Bool) → is_trivia t.kind ≡ x → clean (trivia_if x t (trivia_before ts)) ≡ blank
-    go ih true e = ap (λ y. token_if y t.kind t (clean (trivia_before ts))) e ∙ ih
-    go ih false e = refl
+    advance : clean (trivia_before ts) ≡ blank → (x : Bool) → is_trivia t.kind ≡ x → clean (trivia_if x t (trivia_before ts)) ≡ blank
+    advance ih true e = ap (λ y. token_if y t.kind t (clean (trivia_before ts))) e ∙ ih
+    advance ih false e = refl
 
 -- and so where they stand behind a node
 clean-trivia_after : (x : Bool) (ts : List Token) → clean (trivia_after x ts) ≡ blank
 clean-trivia_after true ts = clean-trivia ts
 clean-trivia_after false ts = refl
 
--- trivia before a sketch
-clean-behind : (ts : List Token) (f : Sketch) → clean (trivia_before ts ⊕ f) ≡ clean f
+-- trivia before a forest
+clean-behind : (ts : List Token) (f : AnnotatedForest) → clean (trivia_before ts ⊕ f) ≡ clean f
 clean-behind ts f = clean-⊕ (trivia_before ts) f ∙ ap (λ x. x ⊕ clean f) (clean-trivia ts)
 
 -- the items behind the node of what is too deep
@@ -107,13 +107,13 @@ pub items-rest_after : (x : Bool) (ts : List Token) → items (rest_after x ts) 
 items-rest_after true ts = items-from_item ts
 items-rest_after false ts = refl
 
--- without its trivia a dressed sketch is the sketch
-pub record IsBared (f : Sketch) (ts us : List Token) : Type 0 where
+-- without its trivia a dressed forest is the forest
+pub record IsBared (f : AnnotatedForest) (ts us : List Token) : Type 0 where
   pub same : clean (dressed f ts) ≡ f
   pub left : items (left_after f ts) ≡ us
 
--- a sketch of the first items, dressed and cleaned, is the sketch, and behind it the other items are left
-pub bared : (f : Sketch) (ts us : List Token) → items ts ≡ tokens_in f ++ us → IsBared f ts us
+-- a forest of the first items, dressed and cleaned, is the forest, and behind it the other items are left
+pub bared : (f : AnnotatedForest) (ts us : List Token) → items ts ≡ tokens_in f ++ us → IsBared f ts us
 bared blank ts us e = record { same = refl; left = e }
 bared (token k t f) ts us e =
     let w : IsFirst t (tokens_in f ++ us) ts = first_item t (tokens_in f ++ us) ts e in
@@ -157,11 +157,11 @@ rest_tokens true ts = trivia_tokens ts
 rest_tokens false ts = refl
 
 -- a row behind the trivia before it
-behind_trivia : (ts us : List Token) (f : Sketch) → tokens_in f ++ us ≡ from_item ts → tokens_in (trivia_before ts ⊕ f) ++ us ≡ ts
+behind_trivia : (ts us : List Token) (f : AnnotatedForest) → tokens_in f ++ us ≡ from_item ts → tokens_in (trivia_before ts ⊕ f) ++ us ≡ ts
 behind_trivia ts us f e = tokens_two (trivia_before ts) f us ∙ ap (λ x. tokens_in (trivia_before ts) ++ x) e ∙ trivia_tokens ts
 
--- the leaves of a dressed sketch are the tokens
-pub dressed_tokens : (f : Sketch) (ts us : List Token) → items ts ≡ tokens_in f ++ us → tokens_in (dressed f ts) ++ left_after f ts ≡ ts
+-- the leaves of a dressed forest are the tokens
+pub dressed_tokens : (f : AnnotatedForest) (ts us : List Token) → items ts ≡ tokens_in f ++ us → tokens_in (dressed f ts) ++ left_after f ts ≡ ts
 dressed_tokens blank ts us e = refl
 dressed_tokens (token k t f) ts us e =
     let w : IsFirst t (tokens_in f ++ us) ts = first_item t (tokens_in f ++ us) ts e in
@@ -193,54 +193,54 @@ nothing_from [] h = refl
 nothing_from (t ∷ ts) h = absurd (cc)
 
 -- trivia keep their kinds below every parent
-trivia_name : (k : SyntaxKind) → is_trivia k ≡ true → k ≡ told_as NODE_IDENT k
+trivia_name : (k : SyntaxKind) → is_trivia k ≡ true → k ≡ leaf_kind_as NODE_IDENT k
 trivia_name TOKEN_OR h = absurd (true_is_not_false (sym h))
 trivia_name _ h = cc
 
 -- below the current position too
-trivia_place : (k : SyntaxKind) → is_trivia k ≡ true → k ≡ told_as NODE_CUR_POS k
+trivia_place : (k : SyntaxKind) → is_trivia k ≡ true → k ≡ leaf_kind_as NODE_CUR_POS k
 trivia_place TOKEN_IDENT h = absurd (true_is_not_false (sym h))
 trivia_place _ h = refl
 
 -- below any parent
-pub trivia_told : (p k : SyntaxKind) → is_trivia k ≡ true → k ≡ told_as p k
+pub trivia_told : (p k : SyntaxKind) → is_trivia k ≡ true → k ≡ leaf_kind_as p k
 trivia_told NODE_IDENT k h = trivia_name k h
 trivia_told NODE_CUR_POS k h = trivia_place k h
 trivia_told _ k h = refl
 
 -- two rows of told leaves
-pub told-⊕ : (p : SyntaxKind) (f g : Sketch) → AreTold p f → AreTold p g → AreTold p (f ⊕ g)
-told-⊕ p blank g h k = k
-told-⊕ p (token j t f) g h k = (h.0, told-⊕ p f g h.1 k)
-told-⊕ p (branch j c f) g h k = (h.0, told-⊕ p f g h.1 k)
-told-⊕ p (fault n c f) g h k = (h.0, told-⊕ p f g h.1 k)
+pub leaf_kind-⊕ : (p : SyntaxKind) (f g : AnnotatedForest) → HaveLeafKinds p f → HaveLeafKinds p g → HaveLeafKinds p (f ⊕ g)
+leaf_kind-⊕ p blank g h k = k
+leaf_kind-⊕ p (token j t f) g h k = (h.0, leaf_kind-⊕ p f g h.1 k)
+leaf_kind-⊕ p (branch j c f) g h k = (h.0, leaf_kind-⊕ p f g h.1 k)
+leaf_kind-⊕ p (fault n c f) g h k = (h.0, leaf_kind-⊕ p f g h.1 k)
 
 -- trivia are told below every parent
-pub told_trivia : (p : SyntaxKind) (ts : List Token) → AreTold p (trivia_before ts)
+pub told_trivia : (p : SyntaxKind) (ts : List Token) → HaveLeafKinds p (trivia_before ts)
 told_trivia p [] = tt
-told_trivia p (t ∷ ts) = go (told_trivia p ts) (is_trivia t.kind) refl
+told_trivia p (t ∷ ts) = advance (told_trivia p ts) (is_trivia t.kind) refl
   where
-    go : AreTold p (trivia_before ts) → (x : Bool) → is_trivia t.kind ≡ x → AreTold p (trivia_if x t (trivia_before ts))
-    go ih true e = (trivia_told p t.kind e, ih)
-    go ih false e = tt
+    advance : HaveLeafKinds p (trivia_before ts) → (x : Bool) → is_trivia t.kind ≡ x → HaveLeafKinds p (trivia_if x t (trivia_before ts))
+    advance ih true e = (trivia_told p t.kind e, ih)
+    advance ih false e = tt
 
 -- and so behind a node
-told_trivia_after : (p : SyntaxKind) (x : Bool) (ts : List Token) → AreTold p (trivia_after x ts)
+told_trivia_after : (p : SyntaxKind) (x : Bool) (ts : List Token) → HaveLeafKinds p (trivia_after x ts)
 told_trivia_after p true ts = told_trivia p ts
 told_trivia_after p false ts = tt
 
--- the leaves of a dressed sketch are told
-pub told_dressed : (p : SyntaxKind) (f : Sketch) (ts : List Token) → AreTold p f → AreTold p (dressed f ts)
+-- the leaves of a dressed forest are told
+pub told_dressed : (p : SyntaxKind) (f : AnnotatedForest) (ts : List Token) → HaveLeafKinds p f → HaveLeafKinds p (dressed f ts)
 told_dressed p blank ts h = tt
 told_dressed p (token k t f) ts h =
-    told-⊕ p (trivia_before ts) (token k t (dressed f (tail_of (from_item ts)))) (told_trivia p ts) (h.0, told_dressed p f (tail_of (from_item ts)) h.1)
+    leaf_kind-⊕ p (trivia_before ts) (token k t (dressed f (tail_of (from_item ts)))) (told_trivia p ts) (h.0, told_dressed p f (tail_of (from_item ts)) h.1)
 told_dressed p (branch k c f) ts h =
-    told-⊕ p (trivia_before ts) (branch k (dressed c (from_item ts)) (dressed f (left_after c (from_item ts)))) (told_trivia p ts)
+    leaf_kind-⊕ p (trivia_before ts) (branch k (dressed c (from_item ts)) (dressed f (left_after c (from_item ts)))) (told_trivia p ts)
     (told_dressed k c (from_item ts) h.0, told_dressed p f (left_after c (from_item ts)) h.1)
 told_dressed p (fault n c f) ts h =
     let rest = left_after c (from_item ts) in
     let later = dressed f (rest_after (is_last n) rest) in
-    told-⊕ p (trivia_before ts) (fault n (dressed c (from_item ts)) (trivia_after (is_last n) rest ⊕ later)) (told_trivia p ts) (
+    leaf_kind-⊕ p (trivia_before ts) (fault n (dressed c (from_item ts)) (trivia_after (is_last n) rest ⊕ later)) (told_trivia p ts) (
       told_dressed NODE_ERROR c (from_item ts) h.0,
-      told-⊕ p (trivia_after (is_last n) rest) later (told_trivia_after p (is_last n) rest) (told_dressed p f (rest_after (is_last n) rest) h.1),
+      leaf_kind-⊕ p (trivia_after (is_last n) rest) later (told_trivia_after p (is_last n) rest) (told_dressed p f (rest_after (is_last n) rest) h.1),
     )

@@ -9,7 +9,7 @@ use Rattle.rnix_kinds.specs.declared.kinds.SyntaxKind.{SyntaxKind}
 use Rattle.rnix_kinds.specs.declared.kinds.SyntaxKind.TheVariants.{NODE_BIN_OP}
 use Rattle.rnix_lemmas.proofs.EveryKind.{whenever_two}
 use Rattle.rnix_lemmas.proofs.EveryKind as every
-use Rattle.rnix_grammar.specs.Levels.{power, left_of, right_of, high_of}
+use Rattle.rnix_grammar.specs.Levels.{binding_power, left_of, right_of, high_of}
 use Rattle.rnix_grammar.specs.Rows.{is_atom, is_simple, is_negated, is_questioned, is_operand, is_expression, fits, is_infix}
 use Rattle.rnix_grammar.specs.Stands.{continues_kind}
 
@@ -88,45 +88,45 @@ pub within : (l m n : ℕ) → (nat_le l m && nat_le m n) ≡ true → (l ≤ m)
 within l m n h = let q = and_parts (nat_le l m) (nat_le m n) h in (at_most l m q.0, at_most m n q.1)
 
 -- no power is above 16
-pub power_max : (j : SyntaxKind) → power j ≤ 16
-power_max j = at_most (power j) 16 (every (λ k. nat_le (power k) 16) refl j)
+pub binding_power_max : (j : SyntaxKind) → binding_power j ≤ 16
+binding_power_max j = at_most (binding_power j) 16 (every (λ k. nat_le (binding_power k) 16) refl j)
 
 -- the power of what goes on with an operator's tree
 pub record Loose (j : SyntaxKind) : Type 0 where
-  pub positive : 1 ≤ power j
-  pub most : power j ≤ 13
+  pub positive : 1 ≤ binding_power j
+  pub most : binding_power j ≤ 13
 
 -- what goes on with the tree of a binary operator binds loosely
-pub operand_power : (j : SyntaxKind) → continues_kind j NODE_BIN_OP ≡ true → Loose j
-operand_power j h =
-    let q = within 1 (power j) 13 (implied (λ k. continues_kind k NODE_BIN_OP) (λ k. nat_le 1 (power k) && nat_le (power k) 13) refl j h) in record { positive = q.0; most = q.1 }
+pub operand_binding_power : (j : SyntaxKind) → continues_kind j NODE_BIN_OP ≡ true → Loose j
+operand_binding_power j h =
+    let q = within 1 (binding_power j) 13 (implied (λ k. continues_kind k NODE_BIN_OP) (λ k. nat_le 1 (binding_power k) && nat_le (binding_power k) 13) refl j h) in record { positive = q.0; most = q.1 }
 
 -- what goes on behind an operator and its right operand
 pub record Operates (k : SyntaxKind) : Type 0 where
-  pub positive : 1 ≤ power k
-  pub most : power k ≤ 12
-  pub bounded : (j : SyntaxKind) → continues_kind j NODE_BIN_OP ≡ true → power j < right_of k → power j ≤ high_of k
-  pub high : high_of k ≤ power k
-  pub right : (power k ≤ right_of k) × (right_of k ≤ 12) × (1 ≤ right_of k)
+  pub positive : 1 ≤ binding_power k
+  pub most : binding_power k ≤ 12
+  pub bounded : (j : SyntaxKind) → continues_kind j NODE_BIN_OP ≡ true → binding_power j < right_of k → binding_power j ≤ high_of k
+  pub high : high_of k ≤ binding_power k
+  pub right : (binding_power k ≤ right_of k) × (right_of k ≤ 12) × (1 ≤ right_of k)
 
 -- of what goes on with an operator's tree, what is looser than its right operand may follow it
-bounded_all : (k j : SyntaxKind) → is_infix k ≡ true → continues_kind j NODE_BIN_OP ≡ true → power j < right_of k → power j ≤ high_of k
+bounded_all : (k j : SyntaxKind) → is_infix k ≡ true → continues_kind j NODE_BIN_OP ≡ true → binding_power j < right_of k → binding_power j ≤ high_of k
 bounded_all k j h c l =
-    let w : nat_lt (power j) (right_of k) ≡ true = grind (arith, nat_tests, l) in
-    at_most (power j) (high_of k)
-    (whenever_two (λ k j. is_infix k && (continues_kind j NODE_BIN_OP && nat_lt (power j) (right_of k))) (λ k j. nat_le (power j) (high_of k)) refl k j
+    let w : nat_lt (binding_power j) (right_of k) ≡ true = grind (arith, nat_tests, l) in
+    at_most (binding_power j) (high_of k)
+    (whenever_two (λ k j. is_infix k && (continues_kind j NODE_BIN_OP && nat_lt (binding_power j) (right_of k))) (λ k j. nat_le (binding_power j) (high_of k)) refl k j
     (and_from _ _ h (and_from _ _ c w)))
 
 -- a binary operator has a level of its own
 pub operates : (k : SyntaxKind) → is_infix k ≡ true → Operates k
 operates k h =
-    let q = within 1 (power k) 12 (implied is_infix (λ o. nat_le 1 (power o) && nat_le (power o) 12) refl k h) in
-    let r = within (power k) (right_of k) 12 (implied is_infix (λ o. nat_le (power o) (right_of o) && nat_le (right_of o) 12) refl k h) in
+    let q = within 1 (binding_power k) 12 (implied is_infix (λ o. nat_le 1 (binding_power o) && nat_le (binding_power o) 12) refl k h) in
+    let r = within (binding_power k) (right_of k) 12 (implied is_infix (λ o. nat_le (binding_power o) (right_of o) && nat_le (right_of o) 12) refl k h) in
     record {
       positive = q.0;
       most = q.1;
       bounded = λ j c l. bounded_all k j h c l;
-      high = at_most (high_of k) (power k) (implied is_infix (λ o. nat_le (high_of o) (power o)) refl k h);
+      high = at_most (high_of k) (binding_power k) (implied is_infix (λ o. nat_le (high_of o) (binding_power o)) refl k h);
       right = (r.0, r.1, omega (arith, q.0, r.0));
     }
 
@@ -136,28 +136,28 @@ is_left n = nat_eq n 2 || (nat_eq n 4 || (nat_eq n 5 || (nat_eq n 10 || nat_eq n
 
 -- the levels beside an operator, by whether it groups to the left
 pub record Sided (k : SyntaxKind) : Type 0 where
-  pub left : left_of k ≡ (if is_left (power k) then power k else suc (power k))
-  pub high : suc (high_of k) ≡ (if is_left (power k) then suc (power k) else power k)
+  pub left : left_of k ≡ (if is_left (binding_power k) then binding_power k else suc (binding_power k))
+  pub high : suc (high_of k) ≡ (if is_left (binding_power k) then suc (binding_power k) else binding_power k)
   pub most : left_of k ≤ 13
 
 -- and the levels of its two sides
 pub sided : (k : SyntaxKind) → is_infix k ≡ true → Sided k
 sided k h = record {
-  left = same_number _ _ (implied is_infix (λ o. nat_eq (left_of o) (if is_left (power o) then power o else suc (power o))) refl k h);
-  high = same_number _ _ (implied is_infix (λ o. nat_eq (suc (high_of o)) (if is_left (power o) then suc (power o) else power o)) refl k h);
+  left = same_number _ _ (implied is_infix (λ o. nat_eq (left_of o) (if is_left (binding_power o) then binding_power o else suc (binding_power o))) refl k h);
+  high = same_number _ _ (implied is_infix (λ o. nat_eq (suc (high_of o)) (if is_left (binding_power o) then suc (binding_power o) else binding_power o)) refl k h);
   most = at_most (left_of k) 13 (implied is_infix (λ o. nat_le (left_of o) 13) refl k h);
 }
 
 -- an operator that may follow what another has made takes it as its left operand
-pub left_rule : (j k : SyntaxKind) → is_infix j ≡ true → is_infix k ≡ true → power j ≤ high_of k → left_of j ≤ power k
+pub left_rule : (j k : SyntaxKind) → is_infix j ≡ true → is_infix k ≡ true → binding_power j ≤ high_of k → left_of j ≤ binding_power k
 left_rule j k h i l =
-    at_most (left_of j) (power k)
-    (whenever_two (λ j k. is_infix j && (is_infix k && nat_le (power j) (high_of k))) (λ j k. nat_le (left_of j) (power k)) refl j k
-    (and_from _ _ h (and_from _ _ i (at_most_true (power j) (high_of k) l))))
+    at_most (left_of j) (binding_power k)
+    (whenever_two (λ j k. is_infix j && (is_infix k && nat_le (binding_power j) (high_of k))) (λ j k. nat_le (left_of j) (binding_power k)) refl j k
+    (and_from _ _ h (and_from _ _ i (at_most_true (binding_power j) (high_of k) l))))
 
 -- a left operand is tighter than the operator by one level at most
-pub next_left : (j : SyntaxKind) → is_infix j ≡ true → left_of j ≤ suc (power j)
-next_left = every.at_most is_infix left_of (λ j. suc (power j)) refl
+pub next_left : (j : SyntaxKind) → is_infix j ≡ true → left_of j ≤ suc (binding_power j)
+next_left = every.at_most is_infix left_of (λ j. suc (binding_power j)) refl
 
 -- the loosest level of a right operand lies between these
 pub right_within : (k : SyntaxKind) → (1 ≤ right_of k) × (right_of k ≤ 16)

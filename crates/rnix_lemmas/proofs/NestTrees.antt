@@ -7,8 +7,8 @@ use Rattle.rnix_kinds.specs.declared.kinds.SyntaxKind.{SyntaxKind}
 use Rattle.rnix_kinds.specs.declared.kinds.SyntaxKind.TheVariants.{NODE_IDENT, NODE_PAT_ENTRY, NODE_ROOT, TOKEN_IDENT}
 use Rattle.rnix_tree.specs.Forest.{Forest, empty, leaf, node}
 use Rattle.rnix_grammar.specs.declared.place.Place.TheVariants as p
-use Rattle.rnix_grammar.specs.Rows.{Spot, Start, At, Nowhere, first, first_token, go, live, whole, start, run, is_row, counts}
-use Rattle.rnix_grammar.specs.Mended.{kinds_of}
+use Rattle.rnix_grammar.specs.Rows.{RowState, Start, At, Nowhere, first, first_child, advance, live, whole, start, run, is_row, counts}
+use Rattle.rnix_grammar.specs.Repaired.{kinds_of}
 use Rattle.rnix_grammar.specs.Strict.{is_strict, is_strict_expression}
 use Rattle.rnix_lemmas.proofs.RowNesting.{nesting}
 use Rattle.rnix_grammar.specs.Nest.{is_flat, nests, nest}
@@ -18,24 +18,24 @@ use Rattle.rnix_lemmas.proofs.EveryKind.{only, never}
 use Rattle.rnix_lemmas.proofs.ImitateLemmas.{run_live}
 use Rattle.rnix_lemmas.proofs.RowKinds.{has_row, starts_row}
 use Rattle.rnix_lemmas.proofs.StrictParts.{parts}
-use Rattle.rnix_lemmas.proofs.NestPlaces.{IsOwned, start_owned, go_owned}
+use Rattle.rnix_lemmas.proofs.NestPlaces.{IsExpected, start_expected, go_expected}
 use Rattle.rnix_lemmas.proofs.NestKinds.{is_formal_start, counts_nests}
-use Rattle.rnix_lemmas.proofs.LaterSpots.{is_start, go_later}
+use Rattle.rnix_lemmas.proofs.LaterRowStates.{is_start, go_later}
 
--- each node in a row from a spot on goes on with the row, and has a row of its kind
-abbrev pub Goes : Spot → Forest → Type 0
+-- each node in a row from a state on goes on with the row, and has a row of its kind
+abbrev pub Goes : RowState → Forest → Type 0
 Goes q empty = Unit {0}
-Goes q (leaf k t f) = Goes (go q k) f
-Goes q (node k c f) = (live (go q k) ≡ true) × (has_row k ≡ true) × Goes (start k) c × Goes (go q k) f
+Goes q (leaf k t f) = Goes (advance q k) f
+Goes q (node k c f) = (live (advance q k) ≡ true) × (has_row k ≡ true) × Goes (start k) c × Goes (advance q k) f
 
 -- where no row begins no entry's does
-no_formal : (q : Spot) → is_start q ≡ false → is_formal_start q ≡ false
+no_formal : (q : RowState) → is_start q ≡ false → is_formal_start q ≡ false
 no_formal (Start k) h = absurd (true_is_not_false h)
 no_formal _ h = refl
 
 -- the row of an entry of a pattern begins nowhere but at its beginning
-formal_later : (q : Spot) (k : SyntaxKind) → is_formal_start (go q k) ≡ false
-formal_later q k = no_formal (go q k) (go_later q k)
+formal_later : (q : RowState) (k : SyntaxKind) → is_formal_start (advance q k) ≡ false
+formal_later q k = no_formal (advance q k) (go_later q k)
 
 -- nothing is inside a name
 nowhere_none : (f : Forest) → Goes Nowhere f → nesting Nowhere f ≡ 0
@@ -53,7 +53,7 @@ name_none empty h = refl
 name_none (leaf k t f) h =
     let none : Goes Nowhere f → nesting Nowhere f ≡ 0 = nowhere_none f in
     let past : Goes (At p.Past) f → nesting (At p.Past) f ≡ 0 = past_none f in
-    each_kind (λ k. Goes (first_token TOKEN_IDENT k p.Past) f → nesting (first_token TOKEN_IDENT k p.Past) f ≡ 0) (assumption) k h
+    each_kind (λ k. Goes (first_child TOKEN_IDENT p.Past k) f → nesting (first_child TOKEN_IDENT p.Past k) f ≡ 0) (assumption) k h
 name_none (node k c f) h = absurd (never (λ k. live (first NODE_IDENT k)) has_row refl k h.0 h.1)
 
 -- entries of patterns
@@ -73,8 +73,8 @@ nest_other p NODE_PAT_ENTRY (leaf j t e) f h = refl
 nest_other p NODE_PAT_ENTRY (node j d e) f h = absurd (true_is_not_false h)
 nest_other p _ c f h = refl
 
-other_nests : (p : SyntaxKind) (q : Spot) (k : SyntaxKind) (c f : Forest) → (begins_with_node c && is_formal k) ≡ false → counts q ≡ nests p k → nest k c ≡ nesting (start k) c
-    → nest p f ≡ nesting (go q k) f → nest p (node k c f) ≡ nesting q (node k c f)
+other_nests : (p : SyntaxKind) (q : RowState) (k : SyntaxKind) (c f : Forest) → (begins_with_node c && is_formal k) ≡ false → counts q ≡ nests p k → nest k c ≡ nesting (start k) c
+    → nest p f ≡ nesting (advance q k) f → nest p (node k c f) ≡ nesting q (node k c f)
 other_nests p q k c f h w inside later =
     nest_other p k c f h ∙ ap (λ v. max (if v then suc (nest k c) else nest k c) (nest p f)) (sym w)
     ∙ ap (λ m. max (if counts q then suc m else m) (nest p f)) inside
@@ -86,15 +86,15 @@ only_name = only (λ j. live (first NODE_PAT_ENTRY j)) NODE_IDENT refl
 name_counts : (l m n : ℕ) → l ≡ 0 → max m n ≡ max (max l m) n
 name_counts l m n h = omega (arith, h)
 
-formal_nests : (p : SyntaxKind) (q : Spot) (j : SyntaxKind) (d e f : Forest) → counts q ≡ nests p NODE_PAT_ENTRY → live (first NODE_PAT_ENTRY j) ≡ true → Goes (start j) d
-    → nest NODE_PAT_ENTRY e ≡ nesting (first NODE_PAT_ENTRY j) e → nest p f ≡ nesting (go q NODE_PAT_ENTRY) f
+formal_nests : (p : SyntaxKind) (q : RowState) (j : SyntaxKind) (d e f : Forest) → counts q ≡ nests p NODE_PAT_ENTRY → live (first NODE_PAT_ENTRY j) ≡ true → Goes (start j) d
+    → nest NODE_PAT_ENTRY e ≡ nesting (first NODE_PAT_ENTRY j) e → nest p f ≡ nesting (advance q NODE_PAT_ENTRY) f
     → nest p (node NODE_PAT_ENTRY (node j d e) f) ≡ nesting q (node NODE_PAT_ENTRY (node j d e) f)
 formal_nests p q j d e f w l g behind later =
     let name : nesting (start j) d ≡ 0 = subst (λ i. Goes (start i) d → nesting (start i) d ≡ 0) (sym (only_name j l)) (name_none d) g in
     let none : counts q ≡ false = w ∙ choice (λ v. v ≡ false) (is_flat p) refl refl in
     ap (λ m. max m (nest p f)) behind ∙ ap (λ m. max (nesting (first NODE_PAT_ENTRY j) e) m) later
-    ∙ name_counts (nesting (start j) d) (nesting (first NODE_PAT_ENTRY j) e) (nesting (go q NODE_PAT_ENTRY) f) name
-    ∙ ap (λ v. max (if v then suc (nesting (Start NODE_PAT_ENTRY) (node j d e)) else nesting (Start NODE_PAT_ENTRY) (node j d e)) (nesting (go q NODE_PAT_ENTRY) f)) (sym none)
+    ∙ name_counts (nesting (start j) d) (nesting (first NODE_PAT_ENTRY j) e) (nesting (advance q NODE_PAT_ENTRY) f) name
+    ∙ ap (λ v. max (if v then suc (nesting (Start NODE_PAT_ENTRY) (node j d e)) else nesting (Start NODE_PAT_ENTRY) (node j d e)) (nesting (advance q NODE_PAT_ENTRY) f)) (sym none)
 
 formal_is : (k : SyntaxKind) → is_formal k ≡ true → k ≡ NODE_PAT_ENTRY
 formal_is = only is_formal NODE_PAT_ENTRY refl
@@ -108,29 +108,29 @@ never_both empty w h = refl
 never_both (leaf k t f) w h = refl
 never_both (node k c f) w h = h
 
--- so a row nests by its kind as it does from a spot on
-nest_from : (k : SyntaxKind) (q : Spot) (f : Forest) → IsOwned k q → has_row k ≡ true → (begins_with_node f && is_formal_start q) ≡ false → Goes q f → nest k f ≡ nesting q f
+-- so a row nests by its kind as it does from a state on
+nest_from : (k : SyntaxKind) (q : RowState) (f : Forest) → IsExpected k q → has_row k ≡ true → (begins_with_node f && is_formal_start q) ≡ false → Goes q f → nest k f ≡ nesting q f
 nest_from k q empty o r n g = refl
-nest_from k q (leaf j t f) o r n g = nest_from k (go q j) f (go_owned k q j o) r (never_both f (is_formal_start (go q j)) (formal_later q j)) g
+nest_from k q (leaf j t f) o r n g = nest_from k (advance q j) f (go_expected k q j o) r (never_both f (is_formal_start (advance q j)) (formal_later q j)) g
 nest_from k q (node j empty f) o r n g =
     other_nests k q j empty f refl (counts_nests k q j o n r g.1 g.0) refl
-    (nest_from k (go q j) f (go_owned k q j o) r (never_both f (is_formal_start (go q j)) (formal_later q j)) g.3)
+    (nest_from k (advance q j) f (go_expected k q j o) r (never_both f (is_formal_start (advance q j)) (formal_later q j)) g.3)
 nest_from k q (node j (leaf i t e) f) o r n g =
-    other_nests k q j (leaf i t e) f refl (counts_nests k q j o n r g.1 g.0) (nest_from j (start j) (leaf i t e) (start_owned j) g.1 refl g.2)
-    (nest_from k (go q j) f (go_owned k q j o) r (never_both f (is_formal_start (go q j)) (formal_later q j)) g.3)
+    other_nests k q j (leaf i t e) f refl (counts_nests k q j o n r g.1 g.0) (nest_from j (start j) (leaf i t e) (start_expected j) g.1 refl g.2)
+    (nest_from k (advance q j) f (go_expected k q j o) r (never_both f (is_formal_start (advance q j)) (formal_later q j)) g.3)
 nest_from k q (node j (node i d e) f) o r n g =
     let w : counts q ≡ nests k j = counts_nests k q j o n r g.1 g.0 in
-    let later : nest k f ≡ nesting (go q j) f = nest_from k (go q j) f (go_owned k q j o) r (never_both f (is_formal_start (go q j)) (formal_later q j)) g.3 in
-    let behind : nest j e ≡ nesting (go (start j) i) e =
-    nest_from j (go (start j) i) e (go_owned j (start j) i (start_owned j)) g.1 (never_both e (is_formal_start (go (start j) i)) (formal_later (start j) i)) g.2.3 in
-    let inside : is_formal j ≡ false → nest j (node i d e) ≡ nesting (start j) (node i d e) = λ h. nest_from j (start j) (node i d e) (start_owned j) g.1 (formal_same j ∙ h) g.2 in
+    let later : nest k f ≡ nesting (advance q j) f = nest_from k (advance q j) f (go_expected k q j o) r (never_both f (is_formal_start (advance q j)) (formal_later q j)) g.3 in
+    let behind : nest j e ≡ nesting (advance (start j) i) e =
+    nest_from j (advance (start j) i) e (go_expected j (start j) i (start_expected j)) g.1 (never_both e (is_formal_start (advance (start j) i)) (formal_later (start j) i)) g.2.3 in
+    let inside : is_formal j ≡ false → nest j (node i d e) ≡ nesting (start j) (node i d e) = λ h. nest_from j (start j) (node i d e) (start_expected j) g.1 (formal_same j ∙ h) g.2 in
     by (is_formal j) refl w later behind inside
   where
-    by : (v : Bool) → is_formal j ≡ v → counts q ≡ nests k j → nest k f ≡ nesting (go q j) f → nest j e ≡ nesting (go (start j) i) e
+    by : (v : Bool) → is_formal j ≡ v → counts q ≡ nests k j → nest k f ≡ nesting (advance q j) f → nest j e ≡ nesting (advance (start j) i) e
         → (is_formal j ≡ false → nest j (node i d e) ≡ nesting (start j) (node i d e)) → nest k (node j (node i d e) f) ≡ nesting q (node j (node i d e) f)
     by false h w later behind inside = other_nests k q j (node i d e) f h w (inside h) later
     by true h w later behind inside =
-        subst (λ x. counts q ≡ nests k x → live (go (start x) i) ≡ true → nest k f ≡ nesting (go q x) f → nest x e ≡ nesting (go (start x) i) e
+        subst (λ x. counts q ≡ nests k x → live (advance (start x) i) ≡ true → nest k f ≡ nesting (advance q x) f → nest x e ≡ nesting (advance (start x) i) e
         → nest k (node x (node i d e) f) ≡ nesting q (node x (node i d e) f))
         (sym (formal_is j h)) (λ w l later behind. formal_nests k q i d e f w l g.2.2 behind later) w g.2.0 later behind
 
@@ -141,15 +141,15 @@ root_nests f g = nest_from NODE_ROOT (At p.RootStart) f refl refl (never_both f 
 -- what begins a row or is one has rows
 strict_row : (k : SyntaxKind) (c : Forest) → is_strict (start k) c ≡ true → has_row k ≡ true
 strict_row k empty h = implied (λ k. whole (start k)) has_row refl k h
-strict_row k (leaf j t f) h = starts_row k j (and_parts (live (go (start k) j)) (is_strict (go (start k) j) f) h).0
+strict_row k (leaf j t f) h = starts_row k j (and_parts (live (advance (start k) j)) (is_strict (advance (start k) j) f) h).0
 strict_row k (node j d f) h = starts_row k j (parts (start k) j d f h).live
 
-strict_goes : (q : Spot) (f : Forest) → is_strict q f ≡ true → Goes q f
+strict_goes : (q : RowState) (f : Forest) → is_strict q f ≡ true → Goes q f
 strict_goes q empty h = tt
-strict_goes q (leaf k t f) h = strict_goes (go q k) f (and_parts (live (go q k)) (is_strict (go q k) f) h).1
+strict_goes q (leaf k t f) h = strict_goes (advance q k) f (and_parts (live (advance q k)) (is_strict (advance q k) f) h).1
 strict_goes q (node k c f) h =
     let m = parts q k c f h in
-    (m.live, strict_row k c m.inner, strict_goes (start k) c m.inner, strict_goes (go q k) f m.more)
+    (m.live, strict_row k c m.inner, strict_goes (start k) c m.inner, strict_goes (advance q k) f m.more)
 
 -- a strict tree nests by its kinds as it does along the rows
 pub strict_nest : (f : Forest) → is_strict_expression f ≡ true → nest NODE_ROOT f ≡ nesting (At p.RootStart) f
@@ -163,16 +163,16 @@ HaveRows (node k c f) = (is_row k (kinds_of c) ≡ true) × HaveRows c × HaveRo
 
 whole_row : (k : SyntaxKind) (ks : List SyntaxKind) → is_row k ks ≡ true → has_row k ≡ true
 whole_row k [] h = implied (λ k. whole (start k)) has_row refl k h
-whole_row k (j ∷ ks) h = starts_row k j (run_live (go (start k) j) ks h)
+whole_row k (j ∷ ks) h = starts_row k j (run_live (advance (start k) j) ks h)
 
-rows_go : (q : Spot) (f : Forest) → whole (run q (kinds_of f)) ≡ true → HaveRows f → Goes q f
+rows_go : (q : RowState) (f : Forest) → whole (run q (kinds_of f)) ≡ true → HaveRows f → Goes q f
 rows_go q empty h r = tt
-rows_go q (leaf k t f) h r = rows_go (go q k) f h r
-rows_go q (node k c f) h r = (run_live (go q k) (kinds_of f) h, whole_row k (kinds_of c) r.0, rows_go (start k) c r.0 r.1, rows_go (go q k) f h r.2)
+rows_go q (leaf k t f) h r = rows_go (advance q k) f h r
+rows_go q (node k c f) h r = (run_live (advance q k) (kinds_of f) h, whole_row k (kinds_of c) r.0, rows_go (start k) c r.0 r.1, rows_go (advance q k) f h r.2)
 
 -- a row of any kind but an entry of a pattern, whose nodes have rows of their kinds, nests by its kind as it does along the row
 pub row_nests : (k : SyntaxKind) (f : Forest) → is_formal k ≡ false → is_row k (kinds_of f) ≡ true → HaveRows f → nest k f ≡ nesting (start k) f
-row_nests k f e h r = nest_from k (start k) f (start_owned k) (whole_row k (kinds_of f) h) (never_both f (is_formal_start (start k)) (formal_same k ∙ e)) (rows_go (start k) f h r)
+row_nests k f e h r = nest_from k (start k) f (start_expected k) (whole_row k (kinds_of f) h) (never_both f (is_formal_start (start k)) (formal_same k ∙ e)) (rows_go (start k) f h r)
 
 -- so a tree whose nodes have rows of their kinds nests by its kinds as it does along the rows
 pub rows_nest : (f : Forest) → is_row NODE_ROOT (kinds_of f) ≡ true → HaveRows f → nest NODE_ROOT f ≡ nesting (At p.RootStart) f

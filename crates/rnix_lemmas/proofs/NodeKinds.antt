@@ -3,7 +3,7 @@ use Rattle.std.proofs.Common.{◌≡◌, ℕ, Bool, true, false, refl, sym, ◌�
 use Rattle.rnix_kinds.specs.declared.kinds.SyntaxKind.{SyntaxKind}
 use Rattle.rnix_kinds.specs.declared.kinds.SyntaxKind.TheVariants.{NODE_ERROR, NODE_IDENT, NODE_CUR_POS}
 use Rattle.rnix_kinds.proofs.AllKinds.{implied}
-use Rattle.rnix_grammar.specs.Sketch.{told_as}
+use Rattle.rnix_grammar.specs.AnnotatedForest.{leaf_kind_as}
 use Rattle.rnix_grammar.specs.Rows.{fits, is_expression, is_attr, is_entry}
 use Rattle.rnix_lemmas.proofs.Basics.{true_is_not_false}
 use Rattle.rnix_lemmas.proofs.LevelLemmas.{fits_looser}
@@ -17,7 +17,7 @@ is_error NODE_CUR_POS = true
 is_error kind = false
 
 -- no name is open, so tokens keep their kinds
-pub told_plain : (k kind : SyntaxKind) → is_error k ≡ false → told_as k kind ≡ kind
+pub told_plain : (k kind : SyntaxKind) → is_error k ≡ false → leaf_kind_as k kind ≡ kind
 told_plain NODE_IDENT kind h = absurd (true_is_not_false h)
 told_plain _ kind h = cc
 

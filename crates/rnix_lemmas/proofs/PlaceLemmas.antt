@@ -13,7 +13,7 @@ use Rattle.rnix_grammar.specs.Fault.{Fault}
 use Rattle.rnix_grammar.specs.Tables.{is_cur_pos, depth_limit}
 use Rattle.rnix_grammar.specs.Actions.{action_at}
 use Rattle.rnix_grammar.specs.Begins.{is_pattern, begin_name, begin_let, begin_of, second_kind}
-use Rattle.rnix_grammar.specs.Sketch.{Token, blank, head_kind, touches}
+use Rattle.rnix_grammar.specs.AnnotatedForest.{Token, blank, head_kind, touches}
 use Rattle.rnix_grammar.specs.Machine.{Head, Node, Second, Operand, Frame, Machine, put, opened, ate, seen, low_of, closed, entry_closed, limited, begun, operand_on, reading, perform, step_on, step, begins}
 use Rattle.rnix_grammar.specs.Sorts.{Sort, Root, Entry, Again, Loose, Plain, sort_of, sort_of_head, sort_of_node, may_hold, is_open, StandsOn, AreKept}
 use Rattle.rnix_grammar.specs.Allowed.{Allowed, IsNext, is_there}

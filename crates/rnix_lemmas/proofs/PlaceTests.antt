@@ -12,7 +12,7 @@ use Rattle.rnix_lemmas.proofs.EveryKind.{tokens_alone}
 use Rattle.rnix_lemmas.proofs.Basics.{true_is_not_false}
 use Rattle.rnix_grammar.specs.declared.until.Until.TheVariants as u
 
--- equal spots stand at one place
+-- equal states stand at one place
 pub same_place : (x y : Place) → At x ≡ At y → x ≡ y
 same_place x y h = cc
 

@@ -6,8 +6,9 @@ use Rattle.rnix_grammar.specs.declared.place.Place.{Place}
 use Rattle.rnix_grammar.specs.declared.place.Place.TheVariants as p
 use Rattle.rnix_grammar.specs.declared.until.Until.{Until}
 use Rattle.rnix_grammar.specs.Fault.{Fault}
+use Rattle.rnix_grammar.specs.Levels.{inversion_level, negation_level}
 use Rattle.rnix_grammar.specs.Stands.{is_wanted_in}
-use Rattle.rnix_grammar.specs.Missing.{lack, run_at}
+use Rattle.rnix_grammar.specs.Missing.{missing, run_at}
 
 -- the kind of node that a place is in; some places are in many
 abbrev pub home : Place → Option SyntaxKind
@@ -77,8 +78,8 @@ home place = None
 abbrev pub tight : Place → Option ℕ
 tight (p.Right level) = Some level
 tight (p.Operated level) = Some level
-tight p.Inverted = Some 9
-tight p.Negated = Some 14
+tight p.Inverted = Some inversion_level
+tight p.Negated = Some negation_level
 tight place = None
 
 -- entries of patterns, and attribute paths
@@ -122,14 +123,14 @@ pub wanted_here : (x : Place) (until : Until) (y : Place) (k : SyntaxKind) → i
 wanted_here x until y k l h i = wants_in (run_at x) (home x) until y k (wants x l) h i
 
 -- where the text ends, a row goes on in the same node
-abbrev pub LackLeads : Place → Option (Fault × Place) → Type 0
-LackLeads x None = Unit {0}
-LackLeads x (Some l) = IsSame (home x) (home l.1)
+abbrev pub MissingLeads : Place → Option (Fault × Place) → Type 0
+MissingLeads x None = Unit {0}
+MissingLeads x (Some l) = IsSame (home x) (home l.1)
 
-lack_leads : (x : Place) → LackLeads x (lack x)
-lack_leads p.RootStart = refl
-lack_leads _ = assumption
+missing_leads : (x : Place) → MissingLeads x (missing x)
+missing_leads p.RootStart = refl
+missing_leads _ = assumption
 
 -- a place leads to the one behind what is missing
-pub lack_leads_on : (x y : Place) (e : Fault) → lack x ≡ Some (e, y) → IsSame (home x) (home y)
-lack_leads_on x y e h = subst (λ (z : Option (Fault × Place)). LackLeads x z) h (lack_leads x)
+pub missing_leads_on : (x y : Place) (e : Fault) → missing x ≡ Some (e, y) → IsSame (home x) (home y)
+missing_leads_on x y e h = subst (λ (z : Option (Fault × Place)). MissingLeads x z) h (missing_leads x)

@@ -4,30 +4,30 @@ use Rattle.rnix_kinds.proofs.AllKinds.{implied}
 use Rattle.rnix_kinds.specs.declared.kinds.SyntaxKind.{SyntaxKind}
 use Rattle.rnix_grammar.specs.declared.place.Place.{Place}
 use Rattle.rnix_grammar.specs.declared.place.Place.TheVariants as p
-use Rattle.rnix_grammar.specs.Rows.{fits, Spot, At, go, live}
+use Rattle.rnix_grammar.specs.Rows.{fits, RowState, At, advance, live}
 use Rattle.rnix_lemmas.proofs.Basics.{true_is_not_false}
 use Rattle.rnix_lemmas.proofs.OpeningRows.{to_live}
 
--- a spot is a place
-abbrev is_at : Spot → Bool
+-- a state is a place
+abbrev is_at : RowState → Bool
 is_at (At x) = true
 is_at q = false
 
-go_at : (x : Place) (k : SyntaxKind) → live (go (At x) k) ≡ true → is_at (go (At x) k) ≡ true
-go_at (p.Right level) k l = ap is_at (to_live (fits level k) (At (p.Operated level)) l)
-go_at (p.PatternEnd true) k l = absurd (true_is_not_false (sym l))
-go_at (p.PatternEnd false) k l = implied (λ i. live (go (At (p.PatternEnd false)) i)) (λ i. is_at (go (At (p.PatternEnd false)) i)) refl k l
-go_at x k l = implied (λ i. live (go (At x) i)) (λ i. is_at (go (At x) i)) refl k l
+advance_at : (x : Place) (k : SyntaxKind) → live (advance (At x) k) ≡ true → is_at (advance (At x) k) ≡ true
+advance_at (p.Right level) k l = ap is_at (to_live (fits level k) (At (p.Operated level)) l)
+advance_at (p.PatternEnd true) k l = absurd (true_is_not_false (sym l))
+advance_at (p.PatternEnd false) k l = implied (λ i. live (advance (At (p.PatternEnd false)) i)) (λ i. is_at (advance (At (p.PatternEnd false)) i)) refl k l
+advance_at x k l = implied (λ i. live (advance (At x) i)) (λ i. is_at (advance (At x) i)) refl k l
 
 -- where a child leads
-pub record Reaches (x : Place) (q : Spot) : Type 0 where
+pub record Reaches (x : Place) (q : RowState) : Type 0 where
   pub place : Place
   pub is : q ≡ At place
 
-at_place : (x : Place) (q : Spot) → is_at q ≡ true → Reaches x q
+at_place : (x : Place) (q : RowState) → is_at q ≡ true → Reaches x q
 at_place x (At y) h = record { place = y; is = refl }
 at_place x _ h = absurd (true_is_not_false (sym h))
 
 -- a child leads from a place to a place
-pub reaches : (x : Place) (k : SyntaxKind) → live (go (At x) k) ≡ true → Reaches x (go (At x) k)
-reaches x k h = at_place x (go (At x) k) (go_at x k h)
+pub reaches : (x : Place) (k : SyntaxKind) → live (advance (At x) k) ≡ true → Reaches x (advance (At x) k)
+reaches x k h = at_place x (advance (At x) k) (advance_at x k h)

@@ -11,7 +11,7 @@ use Rattle.rnix_grammar.specs.declared.until.Until.TheVariants as u
 use Rattle.rnix_grammar.specs.declared.until.Closer.{Closer}
 use Rattle.rnix_grammar.specs.declared.until.Closer.TheVariants as c
 use Rattle.rnix_grammar.specs.Tables.{is_wanted, closes}
-use Rattle.rnix_grammar.specs.Rows.{go, live, start}
+use Rattle.rnix_grammar.specs.Rows.{advance, live, start}
 use Rattle.rnix_lemmas.proofs.Basics.{not_if}
 
 -- the kinds of nodes that have rows
@@ -20,7 +20,7 @@ has_row NODE_ERROR = false
 has_row kind = if is_token kind then false else true
 
 -- a kind whose row begins with some kind has rows
-pub starts_row : (k j : SyntaxKind) → live (go (start k) j) ≡ true → has_row k ≡ true
+pub starts_row : (k j : SyntaxKind) → live (advance (start k) j) ≡ true → has_row k ≡ true
 starts_row NODE_ROOT j h = refl
 starts_row _ j h = cc
 

@@ -3,7 +3,7 @@ use Rattle.std.proofs.Common.{◌≡◌, Bool, true, false, List, [], ◌∷◌,
 use Rattle.std.specs.Prelude.{if◌then◌else◌}
 use Rattle.rnix_grammar.specs.declared.until.Until.{Until}
 use Rattle.rnix_grammar.specs.Tables.{is_wanted, stops}
-use Rattle.rnix_grammar.specs.Sketch.{Token, head_kind}
+use Rattle.rnix_grammar.specs.AnnotatedForest.{Token, head_kind}
 use Rattle.rnix_grammar.specs.Machine.{dropped}
 use Rattle.rnix_grammar.specs.Missing.{run_of}
 use Rattle.rnix_grammar.specs.Stands.{AreUnwanted}

@@ -8,7 +8,7 @@ use Rattle.rnix_kinds.specs.declared.kinds.SyntaxKind.{SyntaxKind}
 use Rattle.rnix_kinds.specs.declared.kinds.SyntaxKind.TheVariants.{TOKEN_CUR_POS, TOKEN_IDENT, TOKEN_OR}
 use Rattle.rnix_kinds.specs.SyntaxKind.{is_trivia}
 use Rattle.rnix_kinds.specs.Lexical.Tokens.{Lexeme, MayBe}
-use Rattle.rnix_grammar.specs.Sketch.{Token, Sketch, blank, token, branch, fault, token_if, tokens_in, clean, placed_from}
+use Rattle.rnix_grammar.specs.AnnotatedForest.{Token, AnnotatedForest, blank, token, branch, fault, token_if, tokens_in, clean, placed_from}
 use Rattle.rnix_grammar.specs.Tables as tables
 use Rattle.rnix_grammar.specs.Named.{is_spelled, AreSpelled}
 use Rattle.rnix_lemmas.proofs.OpeningRows.{spelled_first, spelled_rest}
@@ -46,12 +46,12 @@ spelled-++ : (ts us : List Token) → AreSpelled ts → AreSpelled us → AreSpe
 spelled-++ [] us h k = k
 spelled-++ (t ∷ ts) us h k = (h.0, spelled-++ ts us h.1 k)
 
-spelled_if : (w : Bool) (k : SyntaxKind) (t : Token) (f : Sketch) → is_spelled t.kind t.text ≡ true → AreSpelled (tokens_in f) → AreSpelled (tokens_in (token_if w k t f))
+spelled_if : (w : Bool) (k : SyntaxKind) (t : Token) (f : AnnotatedForest) → is_spelled t.kind t.text ≡ true → AreSpelled (tokens_in f) → AreSpelled (tokens_in (token_if w k t f))
 spelled_if true k t f h s = s
 spelled_if false k t f h s = (h, s)
 
 -- and so are those of a row without trivia
-pub clean_spelled : (f : Sketch) → AreSpelled (tokens_in f) → AreSpelled (tokens_in (clean f))
+pub clean_spelled : (f : AnnotatedForest) → AreSpelled (tokens_in f) → AreSpelled (tokens_in (clean f))
 clean_spelled blank h = tt
 clean_spelled (token k t f) h = spelled_if (is_trivia t.kind) k t (clean f) h.0 (clean_spelled f h.1)
 clean_spelled (branch k c f) h =

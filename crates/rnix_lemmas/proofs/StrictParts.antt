@@ -5,30 +5,30 @@ use Rattle.rnix_lemmas.proofs.LevelLemmas.{at_most_true}
 use Rattle.std.specs.Prelude.{◌&&◌, nat_le}
 use Rattle.rnix_kinds.specs.declared.kinds.SyntaxKind.{SyntaxKind}
 use Rattle.rnix_tree.specs.Forest.{Forest, node}
-use Rattle.rnix_grammar.specs.Sketch.{Token, Sketch, end_from}
-use Rattle.rnix_grammar.specs.Rows.{Spot, go, live, start, is_infix, is_atom, is_expression}
+use Rattle.rnix_grammar.specs.AnnotatedForest.{Token, AnnotatedForest, end_from}
+use Rattle.rnix_grammar.specs.Rows.{RowState, advance, live, start, is_infix, is_atom, is_expression}
 use Rattle.rnix_grammar.specs.Strict.{is_strict, may_stand, is_grouped, level_of, is_named, is_strict_atom, stands_at}
 use Rattle.rnix_kinds.specs.declared.kinds.SyntaxKind.TheVariants.{NODE_LAMBDA, NODE_PAREN}
-use Rattle.rnix_grammar.specs.Levels.{power, left_of}
+use Rattle.rnix_grammar.specs.Levels.{binding_power, left_of}
 use Rattle.rnix_lemmas.proofs.EveryKind.{at_most}
 use Rattle.rnix_lemmas.proofs.PlainTables.{high_in}
 use Rattle.std.proofs.lemmas.Bool.Decides.{nat_tests}
 
 -- what a strict row that begins with a node is
-pub record Parts (q : Spot) (j : SyntaxKind) (c f : Forest) : Type 0 where
-  pub live : live (go q j) ≡ true
+pub record Parts (q : RowState) (j : SyntaxKind) (c f : Forest) : Type 0 where
+  pub live : live (advance q j) ≡ true
   pub may : may_stand q j c ≡ true
   pub grouped : is_grouped j c ≡ true
   pub inner : is_strict (start j) c ≡ true
-  pub more : is_strict (go q j) f ≡ true
+  pub more : is_strict (advance q j) f ≡ true
 
 -- a strict row that begins with a node has these parts
-pub parts : (q : Spot) (j : SyntaxKind) (c f : Forest) → is_strict q (node j c f) ≡ true → Parts q j c f
+pub parts : (q : RowState) (j : SyntaxKind) (c f : Forest) → is_strict q (node j c f) ≡ true → Parts q j c f
 parts q j c f h =
-    let s = and_parts (live (go q j)) (may_stand q j c && (is_grouped j c && (is_strict (start j) c && is_strict (go q j) f))) h in
-    let t = and_parts (may_stand q j c) (is_grouped j c && (is_strict (start j) c && is_strict (go q j) f)) s.1 in
-    let u = and_parts (is_grouped j c) (is_strict (start j) c && is_strict (go q j) f) t.1 in
-    let v = and_parts (is_strict (start j) c) (is_strict (go q j) f) u.1 in
+    let s = and_parts (live (advance q j)) (may_stand q j c && (is_grouped j c && (is_strict (start j) c && is_strict (advance q j) f))) h in
+    let t = and_parts (may_stand q j c) (is_grouped j c && (is_strict (start j) c && is_strict (advance q j) f)) s.1 in
+    let u = and_parts (is_grouped j c) (is_strict (start j) c && is_strict (advance q j) f) t.1 in
+    let v = and_parts (is_strict (start j) c) (is_strict (advance q j) f) u.1 in
     record { live = s.0; may = t.0; grouped = u.0; inner = v.0; more = v.1 }
 
 -- where two lists of tokens end
@@ -37,8 +37,8 @@ end_behind n [] us = refl
 end_behind n (t ∷ ts) us = end_behind t.end ts us
 
 -- no left operand is looser than its operator
-pub left_least : (i : SyntaxKind) → is_infix i ≡ true → power i ≤ left_of i
-left_least = at_most is_infix power left_of refl
+pub left_least : (i : SyntaxKind) → is_infix i ≡ true → binding_power i ≤ left_of i
+left_least = at_most is_infix binding_power left_of refl
 
 -- what it is to stand at a level
 pub record Standing (level : ℕ) (k : SyntaxKind) (c : Forest) : Type 0 where
@@ -65,12 +65,12 @@ strict_expression : (k : SyntaxKind) (c : Forest) → is_strict_atom k c ≡ tru
 strict_expression NODE_PAREN c h = refl
 strict_expression _ c h = cc
 
-atom_high : (k : SyntaxKind) (c : Forest) (b : Sketch) → is_strict_atom k c ≡ true → high_in k b ≡ 16
+atom_high : (k : SyntaxKind) (c : Forest) (b : AnnotatedForest) → is_strict_atom k c ≡ true → high_in k b ≡ 16
 atom_high NODE_PAREN c b h = refl
 atom_high _ c b h = cc
 
 -- what `.` and a lone `or` follow stands at the tightest level, and anything may follow it
-pub atom_level : (k : SyntaxKind) (c : Forest) → is_strict_atom k c ≡ true → (level_of k c ≡ 16) × ((b : Sketch) → high_in k b ≡ 16) × (is_expression k ≡ true)
+pub atom_level : (k : SyntaxKind) (c : Forest) → is_strict_atom k c ≡ true → (level_of k c ≡ 16) × ((b : AnnotatedForest) → high_in k b ≡ 16) × (is_expression k ≡ true)
 atom_level k c h = (strict_level k c h, λ b. atom_high k c b h, strict_expression k c h)
 
 -- a strict atom is named as its kind is

@@ -6,15 +6,15 @@ use Rattle.rnix_kinds.specs.declared.kinds.SyntaxKind.TheVariants.{NODE_ATTRPATH
 use Rattle.rnix_grammar.specs.declared.place.Place.{Place}
 use Rattle.rnix_grammar.specs.declared.place.Place.TheVariants as p
 use Rattle.rnix_grammar.specs.Fault.{Fault}
-use Rattle.rnix_grammar.specs.Slots.{slot_at}
-use Rattle.rnix_grammar.specs.Rows.{fits, Spot, Start, At, go, first, live, to}
-use Rattle.rnix_grammar.specs.Missing.{lack}
+use Rattle.rnix_grammar.specs.Symbols.{symbol_at}
+use Rattle.rnix_grammar.specs.Rows.{fits, RowState, Start, At, advance, first, live, to}
+use Rattle.rnix_grammar.specs.Missing.{missing}
 use Rattle.rnix_lemmas.proofs.Basics.{no_way}
-use Rattle.rnix_lemmas.proofs.NestSpots.{is_pathless}
+use Rattle.rnix_lemmas.proofs.NestRowStates.{is_pathless}
 
--- no attribute path stands at a spot
-abbrev pub is_bare : Spot → Bool
-is_bare (At y) = is_pathless (slot_at y)
+-- no attribute path stands at a state
+abbrev pub is_bare : RowState → Bool
+is_bare (At y) = is_pathless (symbol_at y)
 is_bare q = true
 
 -- what is missing leads to no such place
@@ -22,20 +22,20 @@ abbrev IsBareBehind : Option (Fault × Place) → Type 0
 IsBareBehind None = Unit {0}
 IsBareBehind (Some w) = is_bare (At w.1) ≡ true
 
-lack_well : (x : Place) → IsBareBehind (lack x)
-lack_well p.RootEnd = tt
-lack_well _ = cc
+missing_well : (x : Place) → IsBareBehind (missing x)
+missing_well p.RootEnd = tt
+missing_well _ = cc
 
 -- what is missing leads to a place without attribute paths
-pub lack_bare : (x y : Place) (e : Fault) → lack x ≡ Some (e, y) → is_bare (At y) ≡ true
-lack_bare x y e h = subst IsBareBehind h (lack_well x)
+pub missing_bare : (x y : Place) (e : Fault) → missing x ≡ Some (e, y) → is_bare (At y) ≡ true
+missing_bare x y e h = subst IsBareBehind h (missing_well x)
 
 first_bare : (k : SyntaxKind) → is_bare (first k NODE_LITERAL) ≡ true
 first_bare NODE_PAREN = refl
 first_bare _ = refl
 
 -- nor does an operand
-pub literal_bare : (q : Spot) → is_bare (go q NODE_LITERAL) ≡ true
+pub literal_bare : (q : RowState) → is_bare (advance q NODE_LITERAL) ≡ true
 literal_bare (Start k) = first_bare k
 literal_bare (At (p.Right level)) = elim (fits level NODE_LITERAL) as (λ w. is_bare (to w (At (p.Operated level))) ≡ true) [ true ↦ refl | false ↦ refl ]
 literal_bare (At (p.PatternEnd true)) = refl
@@ -52,7 +52,7 @@ first_path NODE_PAREN = refl
 first_path _ = refl
 
 -- no attribute path stands there
-pub no_path : (q : Spot) → is_bare q ≡ true → live (go q NODE_ATTRPATH) ≡ false
+pub no_path : (q : RowState) → is_bare q ≡ true → live (advance q NODE_ATTRPATH) ≡ false
 no_path (Start k) h = first_path k
 no_path (At (p.Right level)) h = ap (λ w. live (to w (At (p.Operated level)))) (no_level (nat_eq level 0) (nat_le level 12) (nat_eq level 13) (nat_eq level 14))
 no_path (At (p.PatternEnd true)) h = refl

@@ -1,4 +1,4 @@
--- What the first item of an operand is, by the kind of the operand's first tree; so it is at each spot where a node stands.
+-- What the first item of an operand is, by the kind of the operand's first tree; so it is at each state where a node stands.
 use Rattle.std.proofs.Common.{◌≡◌, ℕ, Bool, true, false, List, [], ◌∷◌, ◌++◌, Option, Some, None, refl, ap, sym, subst, append-nil}
 use Rattle.std.specs.List.{list_all}
 use Rattle.std.specs.Prelude.{if◌then◌else◌, nat_eq, nat_le}
@@ -10,16 +10,16 @@ use Rattle.rnix_grammar.specs.declared.begin.Begin.{Begin}
 use Rattle.rnix_grammar.specs.declared.begin.Begin.TheVariants as b
 use Rattle.rnix_grammar.specs.declared.place.Place.{Place}
 use Rattle.rnix_grammar.specs.declared.place.Place.TheVariants as p
-use Rattle.rnix_grammar.specs.declared.slot.Slot.{Slot}
-use Rattle.rnix_grammar.specs.declared.slot.Slot.TheVariants as s
+use Rattle.rnix_grammar.specs.declared.symbol.Symbol.{Symbol}
+use Rattle.rnix_grammar.specs.declared.symbol.Symbol.TheVariants as s
 use Rattle.rnix_grammar.specs.declared.until.Until.TheVariants as u
 use Rattle.rnix_grammar.specs.Begins.{begin_name, begin_let, begin_of, is_pattern, second_kind}
 use Rattle.rnix_grammar.specs.Names.{is_plain, is_no_or, is_position, is_name_in, is_name_of, is_name_at, is_named_by}
-use Rattle.rnix_grammar.specs.OwnItems.{IsOwned, stands_owned}
+use Rattle.rnix_grammar.specs.ExpectedItems.{IsExpected, stands_expected}
 use Rattle.rnix_grammar.specs.Operands.{first_tree, kind_of, IsBegun, IsOperand, level_at}
-use Rattle.rnix_grammar.specs.Rows.{Spot, Start, BeforeArgument, At, first, go, live, start}
-use Rattle.rnix_grammar.specs.Sketch.{Token, Sketch, branch, one_branch, tokens_in, head_kind}
-use Rattle.rnix_grammar.specs.Slots.{slot_at, level_in}
+use Rattle.rnix_grammar.specs.Rows.{RowState, Start, BeforeArgument, At, first, advance, live, start}
+use Rattle.rnix_grammar.specs.AnnotatedForest.{Token, AnnotatedForest, branch, one_branch, tokens_in, head_kind}
+use Rattle.rnix_grammar.specs.Symbols.{symbol_at, level_in}
 use Rattle.rnix_grammar.specs.Tables.{is_cur_pos, is_wanted}
 use Rattle.rnix_grammar.specs.TokenKinds.{is_or, is_at}
 use Rattle.rnix_grammar.specs.TreeLevels.{is_or_row}
@@ -77,7 +77,7 @@ begins level TOKEN_LET text second third = choice (Begins TOKEN_LET text) (nat_e
 begins level kind text second third = first_of (cc, search scope_begins)
 
 -- an operand begins with what may begin its first tree
-pub operand_begins : (level : ℕ) (x : Sketch) (ts : List Token) → IsBegun level x ts → MayBegin (first_tree x) ts
+pub operand_begins : (level : ℕ) (x : AnnotatedForest) (ts : List Token) → IsBegun level x ts → MayBegin (first_tree x) ts
 operand_begins level x [] h = tt
 operand_begins level x (t ∷ ts) h = subst (λ (k : SyntaxKind). may_begin k t.kind t.text ≡ true) h (begins level t.kind t.text (head_kind ts) (second_kind ts))
 
@@ -95,12 +95,12 @@ begins_with_node NODE_PAT_ENTRY = true
 begins_with_node kind = false
 
 -- the row of a node that begins with a node has items of which the first may begin its first tree
-abbrev pub Fronts : Spot → Sketch → List Token → Type 0
+abbrev pub Fronts : RowState → AnnotatedForest → List Token → Type 0
 Fronts (Start k) f ts = MayBegin (if begins_with_node k then first_tree (one_branch k f) else NODE_ROOT) ts
 Fronts q f ts = Unit {0}
 
--- the first of some items may be that of a name of the kind at a spot
-abbrev pub Names : Spot → SyntaxKind → List Token → Type 0
+-- the first of some items may be that of a name of the kind at a state
+abbrev pub Names : RowState → SyntaxKind → List Token → Type 0
 Names q k [] = Unit {0}
 Names q k (t ∷ ts) = is_named_by q k t ≡ true
 
@@ -109,19 +109,19 @@ root_begins : (ts : List Token) → MayBegin NODE_ROOT ts
 root_begins [] = tt
 root_begins (t ∷ ts) = refl
 
-fronts_of : (k : SyntaxKind) (c : Sketch) (ts : List Token) → MayBegin (first_tree (one_branch k c)) ts → Fronts (start k) c ts
+fronts_of : (k : SyntaxKind) (c : AnnotatedForest) (ts : List Token) → MayBegin (first_tree (one_branch k c)) ts → Fronts (start k) c ts
 fronts_of NODE_ROOT c ts h = tt
 fronts_of NODE_ATTRPATH c ts h = tt
 fronts_of NODE_ATTRPATH_VALUE c ts h = tt
 fronts_of k c ts h = choice (λ (i : SyntaxKind). MayBegin i ts) (begins_with_node k) {x = first_tree (one_branch k c)} {y = NODE_ROOT} h (root_begins ts)
 
 -- a name that is neither `or` nor `__curPos` may stand wherever a name may
-plain_slot : (slot : Slot) (t : Token) → is_plain t ≡ true → is_no_or t ≡ true → is_name_in slot t ≡ true
-plain_slot s.Source t h n = refl
-plain_slot s.Names t h n = refl
-plain_slot (s.Attr y) t h n = refl
-plain_slot (s.Name y) t h n = n
-plain_slot _ t h n = h
+plain_symbol : (symbol : Symbol) (t : Token) → is_plain t ≡ true → is_no_or t ≡ true → is_name_in symbol t ≡ true
+plain_symbol s.Source t h n = refl
+plain_symbol s.Names t h n = refl
+plain_symbol (s.Attr y) t h n = refl
+plain_symbol (s.Name y) t h n = n
+plain_symbol _ t h n = h
 
 plain_first : (k : SyntaxKind) (t : Token) → is_plain t ≡ true → is_no_or t ≡ true → is_name_of k t ≡ true
 plain_first NODE_IDENT_PARAM t h n = n
@@ -137,18 +137,18 @@ plain_no_or : (v w : Bool) → (if v then false else (if w then false else true)
 plain_no_or true w h = h
 plain_no_or false w h = refl
 
-plain_named : (q : Spot) (t : Token) → is_plain t ≡ true → is_name_at q t ≡ true
-plain_named (At x) t h = plain_slot (slot_at x) t h (plain_no_or (is_or t.kind) (is_cur_pos t.text) h)
+plain_named : (q : RowState) (t : Token) → is_plain t ≡ true → is_name_at q t ≡ true
+plain_named (At x) t h = plain_symbol (symbol_at x) t h (plain_no_or (is_or t.kind) (is_cur_pos t.text) h)
 plain_named (Start k) t h = plain_first k t h (plain_no_or (is_or t.kind) (is_cur_pos t.text) h)
 plain_named BeforeArgument t h = plain_called (is_or t.kind) (is_cur_pos t.text) h
 plain_named _ t h = h
 
 -- what is known of a node that begins with the next item
-abbrev pub Known : Spot → SyntaxKind → Sketch → List Token → Type 0
+abbrev pub Known : RowState → SyntaxKind → AnnotatedForest → List Token → Type 0
 Known q k c ts = Names q k ts × Fronts (start k) c ts
 
 -- of an operand, or an operand's first tree
-operand_known : (q : Spot) (k : SyntaxKind) (c : Sketch) (ts : List Token) → MayBegin (first_tree (one_branch k c)) ts → Known q k c ts
+operand_known : (q : RowState) (k : SyntaxKind) (c : AnnotatedForest) (ts : List Token) → MayBegin (first_tree (one_branch k c)) ts → Known q k c ts
 operand_known q k c ts h = (names k ts h, fronts_of k c ts h)
   where
     names : (k : SyntaxKind) (ts : List Token) → MayBegin (first_tree (one_branch k c)) ts → Names q k ts
@@ -164,7 +164,7 @@ is_told NODE_CUR_POS = true
 is_told k = begins_with_node k
 
 -- of others
-other_known : (q : Spot) (k : SyntaxKind) (c : Sketch) (ts : List Token) → is_told k ≡ false → Known q k c ts
+other_known : (q : RowState) (k : SyntaxKind) (c : AnnotatedForest) (ts : List Token) → is_told k ≡ false → Known q k c ts
 other_known q k c ts h = (names k ts h, fronts k h)
   where
     names : (k : SyntaxKind) (ts : List Token) → is_told k ≡ false → Names q k ts
@@ -182,7 +182,7 @@ other_known q k c ts h = (names k ts h, fronts k h)
         subst (λ (w : Bool). MayBegin (if w then first_tree (one_branch k c) else NODE_ROOT) ts) (sym plain) (root_begins ts)
 
 -- of a name, where a name that is not `or` is one
-name_known : (q : Spot) (c : Sketch) (ts : List Token) → ((t : Token) → is_no_or t ≡ true → is_name_at q t ≡ true) → MayBegin NODE_PAT_ENTRY ts
+name_known : (q : RowState) (c : AnnotatedForest) (ts : List Token) → ((t : Token) → is_no_or t ≡ true → is_name_at q t ≡ true) → MayBegin NODE_PAT_ENTRY ts
     → Known q NODE_IDENT c ts
 name_known q c [] n h = (tt, tt)
 name_known q c (t ∷ ts) n h = (n t h, refl)
@@ -211,7 +211,7 @@ is_parameter NODE_PAT_ENTRY = true
 is_parameter k = false
 
 -- of the first node of such a node
-parameter_known : (i k : SyntaxKind) (c f : Sketch) (ts : List Token) → is_parameter i ≡ true → live (first i k) ≡ true
+parameter_known : (i k : SyntaxKind) (c f : AnnotatedForest) (ts : List Token) → is_parameter i ≡ true → live (first i k) ≡ true
     → Fronts (Start i) (branch k c f) ts → Known (Start i) k c ts
 parameter_known NODE_LAMBDA NODE_IDENT_PARAM c f ts w l h = operand_known (Start NODE_LAMBDA) NODE_IDENT_PARAM c ts h
 parameter_known NODE_LAMBDA NODE_PATTERN c f ts w l h = operand_known (Start NODE_LAMBDA) NODE_PATTERN c ts h
@@ -222,11 +222,11 @@ parameter_known NODE_PAT_ENTRY NODE_IDENT c f ts w l h = name_known (Start NODE_
 parameter_known i k c f ts w l h = other_known (Start i) k c ts (cc)
 
 -- of an operator's first operand, or of what is called or selected from
-operand_first : (i k : SyntaxKind) (c f : Sketch) (ts : List Token) → MayBegin (first_tree (branch k c f)) ts → Known (Start i) k c ts
+operand_first : (i k : SyntaxKind) (c f : AnnotatedForest) (ts : List Token) → MayBegin (first_tree (branch k c f)) ts → Known (Start i) k c ts
 operand_first i k c f ts h = operand_known (Start i) k c ts (subst (λ (g : SyntaxKind). MayBegin g ts) (first_in (one_branch k c) f a_node) h)
 
 -- of the first node of any row
-first_known : (i k : SyntaxKind) (c f : Sketch) (ts : List Token) → live (first i k) ≡ true → Fronts (Start i) (branch k c f) ts → Known (Start i) k c ts
+first_known : (i k : SyntaxKind) (c f : AnnotatedForest) (ts : List Token) → live (first i k) ≡ true → Fronts (Start i) (branch k c f) ts → Known (Start i) k c ts
 first_known NODE_APPLY k c f ts l h = operand_first NODE_APPLY k c f ts h
 first_known NODE_BIN_OP k c f ts l h = operand_first NODE_BIN_OP k c f ts h
 first_known NODE_HAS_ATTR k c f ts l h = operand_first NODE_HAS_ATTR k c f ts h
@@ -241,8 +241,8 @@ first_known i k c f ts l h = other_known (Start i) k c ts (not_if (is_told k)
 
 -- an item of its own begins what stands at a place, where no operand does
 own_begins : (x : Place) (test : SyntaxKind → Bool) (n : ℕ) (ts : List Token)
-    → ((t : Token) (us : List Token) → IsOwned (At x) n (t ∷ us) true → test t.kind ≡ true)
-    → list_all (λ k. if test k then (if is_or k then false else true) else true) all_kinds ≡ true → IsOwned (At x) n ts true → MayBegin NODE_PAT_ENTRY ts
+    → ((t : Token) (us : List Token) → IsExpected (At x) n (t ∷ us) true → test t.kind ≡ true)
+    → list_all (λ k. if test k then (if is_or k then false else true) else true) all_kinds ≡ true → IsExpected (At x) n ts true → MayBegin NODE_PAT_ENTRY ts
 own_begins x test n [] own h o = tt
 own_begins x test n (t ∷ ts) own h o = no_or test h t.kind (own t ts o)
 
@@ -252,7 +252,7 @@ is_free None = true
 is_free (Some level) = false
 
 -- of a name, where every name may be one
-any_known : (q : Spot) (c : Sketch) (ts : List Token) → ((t : Token) → is_name_at q t ≡ true) → Known q NODE_IDENT c ts
+any_known : (q : RowState) (c : AnnotatedForest) (ts : List Token) → ((t : Token) → is_name_at q t ≡ true) → Known q NODE_IDENT c ts
 any_known q c [] n = (tt, tt)
 any_known q c (t ∷ ts) n = (n t, refl)
 
@@ -270,8 +270,8 @@ is_name_place (p.PatternEnd bound) = true
 is_name_place x = false
 
 -- of what stands at such a place
-name_place_known : (x : Place) (k : SyntaxKind) (c : Sketch) (n : ℕ) (ts : List Token) → is_name_place x ≡ true → live (go (At x) k) ≡ true
-    → IsOwned (At x) n ts (stands_owned (At x) k c)
+name_place_known : (x : Place) (k : SyntaxKind) (c : AnnotatedForest) (n : ℕ) (ts : List Token) → is_name_place x ≡ true → live (advance (At x) k) ≡ true
+    → IsExpected (At x) n ts (stands_expected (At x) k c)
     → Known (At x) k c ts
 name_place_known p.BindName NODE_IDENT c n ts w l o =
     name_known (At p.BindName) c ts (λ t h. h) (own_begins p.BindName (is_wanted u.Ident) n ts (λ t us w. w) refl o)
@@ -291,8 +291,8 @@ name_place_known x k c n ts w l o = other_known (At x) k c ts (cc)
 
 -- nothing need be known of what stands at another place where no operand does
 is_dull : Place → SyntaxKind → Bool
-is_dull x k = if is_free (level_in (slot_at x)) then (if is_name_place x then true else
-    (if live (go (At x) k) then (if is_told k then false else true) else true)) else true
+is_dull x k = if is_free (level_in (symbol_at x)) then (if is_name_place x then true else
+    (if live (advance (At x) k) then (if is_told k then false else true) else true)) else true
 
 dull : (x : Place) (k : SyntaxKind) → is_dull x k ≡ true
 unfolding is_dull
@@ -304,20 +304,20 @@ not_told : (u v w z : Bool) → (if u then (if v then true else (if w then (if z
 not_told true false true z h d e f = not_if z h
 not_told u v w z h d e f = absurd (cc)
 
-place_known : (x : Place) (k : SyntaxKind) (c : Sketch) (n : ℕ) (ts : List Token) → is_free (level_in (slot_at x)) ≡ true → live (go (At x) k) ≡ true
-    → IsOwned (At x) n ts (stands_owned (At x) k c)
+place_known : (x : Place) (k : SyntaxKind) (c : AnnotatedForest) (n : ℕ) (ts : List Token) → is_free (level_in (symbol_at x)) ≡ true → live (advance (At x) k) ≡ true
+    → IsExpected (At x) n ts (stands_expected (At x) k c)
     → Known (At x) k c ts
 unfolding is_dull
 place_known x k c n ts e l o = by (is_name_place x) refl
   where
     rest : is_name_place x ≡ false → is_told k ≡ false
-    rest w = not_told (is_free (level_in (slot_at x))) (is_name_place x) (live (go (At x) k)) (is_told k) (dull x k) e w l
+    rest w = not_told (is_free (level_in (symbol_at x))) (is_name_place x) (live (advance (At x) k)) (is_told k) (dull x k) e w l
 
     by : (w : Bool) → is_name_place x ≡ w → Known (At x) k c ts
     by true w = name_place_known x k c n ts w l o
     by false w = other_known (At x) k c ts (rest w)
 
-by_level : (q : Spot) (k : SyntaxKind) (c : Sketch) (vs : List Token) (o : Option ℕ) → (is_free o ≡ true → Known q k c (tokens_in c ++ vs))
+by_level : (q : RowState) (k : SyntaxKind) (c : AnnotatedForest) (vs : List Token) (o : Option ℕ) → (is_free o ≡ true → Known q k c (tokens_in c ++ vs))
     → IsOperand o (one_branch k c) vs
     → Known q k c (tokens_in c ++ vs)
 by_level q k c vs None h w = h refl
@@ -326,24 +326,24 @@ by_level q k c vs (Some level) h w =
     (operand_known q k c (tokens_in (one_branch k c) ++ vs) (operand_begins level (one_branch k c) (tokens_in (one_branch k c) ++ vs) w.1))
 
 -- the name `or` behind a function
-called_known : (k : SyntaxKind) (c : Sketch) (n : ℕ) (ts : List Token) → is_or_row (one_branch k c) ≡ true → IsOwned BeforeArgument n ts true
+called_known : (k : SyntaxKind) (c : AnnotatedForest) (n : ℕ) (ts : List Token) → is_or_row (one_branch k c) ≡ true → IsExpected BeforeArgument n ts true
     → Known BeforeArgument k c ts
 called_known k c n [] e o = absurd o
 called_known NODE_IDENT c n (t ∷ ts) e o = (ap (λ w. if w then true else (if is_cur_pos t.text then false else true)) o, refl)
 called_known k c n (t ∷ ts) e o = absurd (true_is_not_false (sym e))
 
 -- what is known of a node where it stands
-pub node_known : (q : Spot) (k : SyntaxKind) (c f : Sketch) (n : ℕ) (vs : List Token) → live (go q k) ≡ true
-    → IsOwned q n (tokens_in c ++ vs) (stands_owned q k c)
+pub node_known : (q : RowState) (k : SyntaxKind) (c f : AnnotatedForest) (n : ℕ) (vs : List Token) → live (advance q k) ≡ true
+    → IsExpected q n (tokens_in c ++ vs) (stands_expected q k c)
     → IsOperand (level_at q (one_branch k c)) (one_branch k c) vs → Fronts q (branch k c f) (tokens_in c ++ vs) → Known q k c (tokens_in c ++ vs)
 node_known (Start i) k c f n vs l o w h = first_known i k c f (tokens_in c ++ vs) l h
-node_known (At x) k c f n vs l o w h = by_level (At x) k c vs (level_in (slot_at x)) (λ e. place_known x k c n (tokens_in c ++ vs) e l o) w
+node_known (At x) k c f n vs l o w h = by_level (At x) k c vs (level_in (symbol_at x)) (λ e. place_known x k c n (tokens_in c ++ vs) e l o) w
 node_known BeforeArgument k c f n vs l o w h = by (is_or_row (one_branch k c)) refl w o
   where
     by : (v : Bool) → is_or_row (one_branch k c) ≡ v → IsOperand (if v then None else Some 16) (one_branch k c) vs
-        → IsOwned BeforeArgument n (tokens_in c ++ vs) v
+        → IsExpected BeforeArgument n (tokens_in c ++ vs) v
         → Known BeforeArgument k c (tokens_in c ++ vs)
     by true e w o = called_known k c n (tokens_in c ++ vs) e o
     by false e w o = by_level BeforeArgument k c vs (Some 16) (λ z. absurd (true_is_not_false (sym z))) w
 node_known q k c f n vs l o w h =
-    other_known q k c (tokens_in c ++ vs) (not_if (is_told k) (implied (λ j. live (go q j)) (λ j. if is_told j then false else true) refl k l))
+    other_known q k c (tokens_in c ++ vs) (not_if (is_told k) (implied (λ j. live (advance q j)) (λ j. if is_told j then false else true) refl k l))

@@ -9,39 +9,39 @@ use Rattle.rnix_kinds.proofs.AllKinds.{implied}
 use Rattle.rnix_tree.specs.Equality.{same_kind-decides}
 use Rattle.rnix_grammar.specs.declared.place.Place.{Place}
 use Rattle.rnix_grammar.specs.declared.place.Place.TheVariants as p
-use Rattle.rnix_grammar.specs.declared.slot.Slot.{Slot}
-use Rattle.rnix_grammar.specs.declared.slot.Slot.TheVariants as s
+use Rattle.rnix_grammar.specs.declared.symbol.Symbol.{Symbol}
+use Rattle.rnix_grammar.specs.declared.symbol.Symbol.TheVariants as s
 use Rattle.rnix_grammar.specs.declared.until.Until.{Until}
 use Rattle.rnix_grammar.specs.declared.until.Until.TheVariants as u
-use Rattle.rnix_grammar.specs.Levels.{power, left_of}
+use Rattle.rnix_grammar.specs.Levels.{binding_power, left_of}
 use Rattle.rnix_grammar.specs.Machine.{dropped}
 use Rattle.rnix_grammar.specs.Missing.{run_at}
-use Rattle.rnix_grammar.specs.OwnItems.{owns_in, IsOwned, stands_owned}
+use Rattle.rnix_grammar.specs.ExpectedItems.{expects_in, IsExpected, stands_expected}
 use Rattle.rnix_grammar.specs.Operands.{follows, IsFollowed, IsOperand, level_at}
 use Rattle.rnix_grammar.specs.Reads.{IsWrong}
-use Rattle.rnix_grammar.specs.Rows.{is_infix, Spot, Start, BeforeOperator, BeforeQuestion, BeforeArgument, At, go, live, first}
-use Rattle.rnix_grammar.specs.Sketch.{Token, Note, Stray, Unwanted, Extra, Twice, TooDeep, Sketch, blank, fault, one_branch, one_fault, row_of, tokens_in, head_kind}
-use Rattle.rnix_grammar.specs.Slots.{slot_at, level_in}
+use Rattle.rnix_grammar.specs.Rows.{is_infix, RowState, Start, BeforeOperator, BeforeQuestion, BeforeArgument, At, advance, live, first}
+use Rattle.rnix_grammar.specs.AnnotatedForest.{Token, Note, Stray, Unwanted, Extra, Twice, TooDeep, AnnotatedForest, blank, fault, one_branch, one_fault, row_of, tokens_in, head_kind}
+use Rattle.rnix_grammar.specs.Symbols.{symbol_at, level_in}
 use Rattle.rnix_grammar.specs.Stands.{continues, last_kind, closing_in, closing, is_wanted_in, is_inherit, AreUnwanted, IsBeside, IsTight, IsArgument, IsLeveled, IsOpened}
 use Rattle.rnix_grammar.specs.Tables.{stops}
 use Rattle.rnix_grammar.specs.TokenKinds.{is_or}
 use Rattle.rnix_grammar.specs.TreeLevels.{is_or_row, row_level, is_atom_row}
 use Rattle.rnix_lemmas.proofs.Basics.{true_is_not_false, not_if, not_nil}
 use Rattle.rnix_lemmas.proofs.FollowLemmas.{Follows, by_operator, by_question, by_argument, by_name, follows_by}
-use Rattle.rnix_lemmas.proofs.LaterSpots.{is_start}
+use Rattle.rnix_lemmas.proofs.LaterRowStates.{is_start}
 use Rattle.rnix_lemmas.proofs.LevelLemmas.{at_most, same_number, operates}
-use Rattle.rnix_lemmas.proofs.NestPlaces.{is_owned}
+use Rattle.rnix_lemmas.proofs.NestPlaces.{is_expected}
 use Rattle.rnix_lemmas.proofs.OpeningRows.{live_to}
 use Rattle.rnix_lemmas.proofs.Places.{home, is_last, IsIn, wanted_here}
 use Rattle.rnix_lemmas.proofs.RunLemmas.{parted}
-use Rattle.rnix_lemmas.proofs.SketchLemmas.{tokens_in-row_of}
+use Rattle.rnix_lemmas.proofs.AnnotatedForestLemmas.{tokens_in-row_of}
 use Rattle.rnix_rows.proofs.BegunTrees.{MayBegin, Fronts, is_free, operand_begins}
 use Rattle.rnix_rows.proofs.KeptRows.{Kept, inherits, run_facts}
 use Rattle.rnix_rows.proofs.NodeForms.{start_uncounted}
-use Rattle.rnix_rows.proofs.WantingSpots.{wants}
+use Rattle.rnix_rows.proofs.WantingRowStates.{wants}
 
 -- only operands stand where a number may, at a place
-literal_level : (x : Place) → live (go (At x) NODE_LITERAL) ≡ true → is_free (level_in (slot_at x)) ≡ false
+literal_level : (x : Place) → live (advance (At x) NODE_LITERAL) ≡ true → is_free (level_in (symbol_at x)) ≡ false
 literal_level (p.Right level) l = refl
 literal_level (p.PatternEnd true) l = absurd (true_is_not_false (sym l))
 literal_level (p.PatternEnd false) l = absurd (true_is_not_false (sym l))
@@ -55,7 +55,7 @@ error_begins (Some n) ts vs h w =
     (operand_begins n (one_fault Stray (row_of ts)) (tokens_in (one_fault Stray (row_of ts)) ++ vs) w.1)
 
 -- an error node that stands for an operand begins with what begins none
-stray_begins : (q : Spot) (f : Sketch) (ts vs : List Token) → live (go q NODE_LITERAL) ≡ true → IsOperand (level_at q blank) (one_fault Stray (row_of ts)) vs
+stray_begins : (q : RowState) (f : AnnotatedForest) (ts vs : List Token) → live (advance q NODE_LITERAL) ≡ true → IsOperand (level_at q blank) (one_fault Stray (row_of ts)) vs
     → Fronts q (fault Stray (row_of ts) f) (ts ++ vs) → MayBegin NODE_ERROR (ts ++ vs)
 stray_begins (Start i) f ts vs l w h = by i l h
   where
@@ -65,17 +65,17 @@ stray_begins (Start i) f ts vs l w h = by i l h
     by NODE_HAS_ATTR l h = h
     by NODE_SELECT l h = h
     by _ l h = absurd (true_is_not_false (sym l))
-stray_begins (At x) f ts vs l w h = error_begins (level_in (slot_at x)) ts vs (literal_level x l) w
+stray_begins (At x) f ts vs l w h = error_begins (level_in (symbol_at x)) ts vs (literal_level x l) w
 stray_begins BeforeArgument f ts vs l w h = error_begins (Some 16) ts vs refl w
 stray_begins _ f ts vs l w h = absurd (true_is_not_false (sym l))
 
 -- nor with what closes its row
-not_closing : (slot : Slot) (touches : Bool) (kind : SyntaxKind) → owns_in slot touches kind ≡ false → closing_in slot kind ≡ false
+not_closing : (symbol : Symbol) (touches : Bool) (kind : SyntaxKind) → expects_in symbol touches kind ≡ false → closing_in symbol kind ≡ false
 not_closing (s.Series level closer) touches kind h = h
 not_closing _ touches kind h = refl
 
-stray_open : (q : Spot) (n : ℕ) (t : Token) (ts : List Token) → IsOwned q n (t ∷ ts) false → closing q t.kind ≡ false
-stray_open (At x) n t ts o = not_closing (slot_at x) (nat_eq t.start n) t.kind o
+stray_open : (q : RowState) (n : ℕ) (t : Token) (ts : List Token) → IsExpected q n (t ∷ ts) false → closing q t.kind ≡ false
+stray_open (At x) n t ts o = not_closing (symbol_at x) (nat_eq t.start n) t.kind o
 stray_open _ n t ts o = refl
 
 dropped_own : (ts vs : List Token) → dropped ts (ts ++ vs) ≡ vs
@@ -83,7 +83,7 @@ dropped_own [] vs = refl
 dropped_own (t ∷ ts) vs = dropped_own ts vs
 
 -- what a run may stand before is wanted in the node that it stands in
-wanted_by : (x y : Place) (until : Until) (i : SyntaxKind) → is_last x ≡ false → run_at x ≡ Some (until, y) → is_owned (home x) i ≡ true
+wanted_by : (x y : Place) (until : Until) (i : SyntaxKind) → is_last x ≡ false → run_at x ≡ Some (until, y) → is_expected (home x) i ≡ true
     → is_wanted_in until i ≡ true
 wanted_by x y until i l r o = by (home x) refl o
   where
@@ -91,12 +91,12 @@ wanted_by x y until i l r o = by (home x) refl o
     none u.RParen = refl
     none _ = refl
 
-    by : (h : Option SyntaxKind) → home x ≡ h → is_owned h i ≡ true → is_wanted_in until i ≡ true
+    by : (h : Option SyntaxKind) → home x ≡ h → is_expected h i ≡ true → is_wanted_in until i ≡ true
     by None e o = absurd (true_is_not_false (sym (wanted_here x until y NODE_ROOT l r
         (subst (λ (g : Option SyntaxKind). IsIn g NODE_ROOT) (sym e) refl)) ∙ none until))
     by (Some k) e o = wanted_here x until y i l r (subst (λ (g : Option SyntaxKind). IsIn g i) (sym e) ((same_kind-decides k i).0 o))
 
-quiet_by : (h : Option SyntaxKind) (i : SyntaxKind) (w c : Bool) → (w || inherits h) ≡ true → is_owned h i ≡ true → (w ≡ true → c ≡ false)
+quiet_by : (h : Option SyntaxKind) (i : SyntaxKind) (w c : Bool) → (w || inherits h) ≡ true → is_expected h i ≡ true → (w ≡ true → c ≡ false)
     → (is_inherit i || (if c then false else true)) ≡ true
 quiet_by h i true true e o f = absurd (true_is_not_false (f refl))
 quiet_by h i true false e o f = by (is_inherit i)
@@ -112,8 +112,8 @@ further_by true t ts h = absurd (not_nil (h refl))
 further_by false t ts h = refl
 
 -- what is read as an error node stands as one may
-pub beside : (note : Note) (i : SyntaxKind) (d a c n : ℕ) (q r : Spot) (b f : Sketch) (ts vs : List Token) → IsWrong note d q r ts vs
-    → IsOwned q n (ts ++ vs) false
+pub beside : (note : Note) (i : SyntaxKind) (d a c n : ℕ) (q r : RowState) (b f : AnnotatedForest) (ts vs : List Token) → IsWrong note d q r ts vs
+    → IsExpected q n (ts ++ vs) false
     → Kept i d a c q b (fault note (row_of ts) f) (ts ++ vs) → IsBeside note i a q r b c ts vs
 beside Stray i d a c n q r b f [] vs w o h = absurd (cc)
 beside Stray i d a c n q r b f (t ∷ []) vs w o h =
@@ -122,12 +122,12 @@ beside Stray i d a c n q r b f (t ∷ (u ∷ ts)) vs w o h = absurd (cc)
 beside (Unwanted until) i d a c n q r b f [] vs w o h = absurd (true_is_not_false (sym w.0))
 beside (Unwanted until) i d a c n q r b f (t ∷ ts) vs w o h =
     let k : Kept i d a c (At w.2) b (fault (Unwanted until) (row_of (t ∷ ts)) f) (t ∷ (ts ++ vs)) =
-    subst (λ (z : Spot). Kept i d a c z b (fault (Unwanted until) (row_of (t ∷ ts)) f) (t ∷ (ts ++ vs))) w.4 h in
+    subst (λ (z : RowState). Kept i d a c z b (fault (Unwanted until) (row_of (t ∷ ts)) f) (t ∷ (ts ++ vs))) w.4 h in
     let run = parted until (t ∷ (ts ++ vs)) in (
       subst (AreUnwanted until) (sym w.1) run.unwanted,
       ap (λ us. stops until (head_kind us)) (sym (dropped_own (t ∷ ts) vs) ∙ ap (λ us. dropped us (t ∷ (ts ++ vs))) w.1) ∙ run.stops,
-      wanted_by w.2 w.3 until i (further_by (is_last w.2) t (ts ++ vs) k.further) w.6 k.owned,
-      quiet_by (home w.2) i (wants (At w.2)) (continues t.kind (last_kind b)) (run_facts w.2 w.3 until w.6).3 k.owned (λ v. k.calm v t.kind refl),
+      wanted_by w.2 w.3 until i (further_by (is_last w.2) t (ts ++ vs) k.further) w.6 k.expected,
+      quiet_by (home w.2) i (wants (At w.2)) (continues t.kind (last_kind b)) (run_facts w.2 w.3 until w.6).3 k.expected (λ v. k.calm v t.kind refl),
       w.2,
       w.3,
       w.4,
@@ -137,8 +137,8 @@ beside (Unwanted until) i d a c n q r b f (t ∷ ts) vs w o h =
 beside Extra i d a c n q r b f [] vs w o h = absurd (true_is_not_false (sym w.0))
 beside Extra i d a c n q r b f (t ∷ ts) vs w o h =
     let k : Kept i d a c (At p.RootEnd) b (fault Extra (row_of (t ∷ ts)) f) (t ∷ (ts ++ vs)) =
-    subst (λ (z : Spot). Kept i d a c z b (fault Extra (row_of (t ∷ ts)) f) (t ∷ (ts ++ vs))) w.2 h in
-    (w.1, sym ((same_kind-decides NODE_ROOT i).0 k.owned), k.calm refl t.kind refl, w.2, w.3)
+    subst (λ (z : RowState). Kept i d a c z b (fault Extra (row_of (t ∷ ts)) f) (t ∷ (ts ++ vs))) w.2 h in
+    (w.1, sym ((same_kind-decides NODE_ROOT i).0 k.expected), k.calm refl t.kind refl, w.2, w.3)
 beside Twice i d a c n q r b f ts vs w o h = absurd w
 beside TooDeep i d a c n q r b f ts vs w o h =
     (w.0, subst (λ (m : ℕ). m < a) w.2 h.nodes, subst (λ (m : ℕ). m ≤ c) w.2 (inside (is_start q) refl h.items), w.3, w.4)
@@ -148,7 +148,7 @@ beside TooDeep i d a c n q r b f ts vs w o h =
     inside false e l = l
 
 -- a token stands where the tree before it may
-pub token_opened : (q : Spot) (b : Sketch) (k : SyntaxKind) → live (go q k) ≡ true → IsFollowed q b (Some k) → IsOpened q b k
+pub token_opened : (q : RowState) (b : AnnotatedForest) (k : SyntaxKind) → live (advance q k) ≡ true → IsFollowed q b (Some k) → IsOpened q b k
 token_opened BeforeOperator b k l f = by (follows_by k b f)
   where
     operated : is_infix k ≡ true
@@ -167,12 +167,12 @@ or_left : (v w : Bool) → (v || w) ≡ true → w ≡ false → v ≡ true
 or_left true w h e = refl
 or_left false w h e = absurd (true_is_not_false (sym h ∙ e))
 
-argument : (v : Bool) (b x : Sketch) (t : Token) (vs : List Token) → is_or t.kind ≡ v → ((is_fn_arg t.kind || is_or t.kind) && follows t.kind b) ≡ true
+argument : (v : Bool) (b x : AnnotatedForest) (t : Token) (vs : List Token) → is_or t.kind ≡ v → ((is_fn_arg t.kind || is_or t.kind) && follows t.kind b) ≡ true
     → IsOperand (if v then None else Some 16) x vs → IsArgument v b x
 argument true b x t vs e f w = by (follows_by t.kind b (and_parts (is_fn_arg t.kind || is_or t.kind) (follows t.kind b) f).1) refl
   where
-    level : power t.kind ≡ 16
-    level = same_number (power t.kind) 16 (implied is_or (λ j. nat_eq (power j) 16) refl t.kind e)
+    level : binding_power t.kind ≡ 16
+    level = same_number (binding_power t.kind) 16 (implied is_or (λ j. nat_eq (binding_power j) 16) refl t.kind e)
 
     by : {v : ℕ} {u : Bool} → Follows t.kind v u → u ≡ is_atom_row b → is_atom_row b ≡ true
     by (by_operator i m) g = absurd (omega (arith, level, (operates t.kind i).most))
@@ -184,8 +184,8 @@ argument false b x t vs e f w = (by (follows_by t.kind b both.1), w.0)
     both : ((is_fn_arg t.kind || is_or t.kind) ≡ true) × (follows t.kind b ≡ true)
     both = and_parts (is_fn_arg t.kind || is_or t.kind) (follows t.kind b) f
 
-    level : power t.kind ≡ 15
-    level = same_number (power t.kind) 15 (implied is_fn_arg (λ j. nat_eq (power j) 15) refl t.kind (or_left (is_fn_arg t.kind) (is_or t.kind) both.0 e))
+    level : binding_power t.kind ≡ 15
+    level = same_number (binding_power t.kind) 15 (implied is_fn_arg (λ j. nat_eq (binding_power j) 15) refl t.kind (or_left (is_fn_arg t.kind) (is_or t.kind) both.0 e))
 
     by : {v : ℕ} {u : Bool} → Follows t.kind v u → 15 ≤ v
     by (by_operator i m) = absurd (omega (arith, level, (operates t.kind i).most))
@@ -193,15 +193,15 @@ argument false b x t vs e f w = (by (follows_by t.kind b both.1), w.0)
     by (by_argument h m) = m
     by (by_name h m) = absurd (omega (arith, level, h))
 
-tight : (o : Option ℕ) (x : Sketch) (vs : List Token) → IsOperand o x vs → IsTight o x
+tight : (o : Option ℕ) (x : AnnotatedForest) (vs : List Token) → IsOperand o x vs → IsTight o x
 tight None x vs w = tt
 tight (Some n) x vs w = w.0
 
 -- a node binds as tightly as it must
-pub node_leveled : (q : Spot) (b : Sketch) (k : SyntaxKind) (c : Sketch) (n : ℕ) (ts vs : List Token) → IsOwned q n ts (stands_owned q k c)
+pub node_leveled : (q : RowState) (b : AnnotatedForest) (k : SyntaxKind) (c : AnnotatedForest) (n : ℕ) (ts vs : List Token) → IsExpected q n ts (stands_expected q k c)
     → IsFollowed q b (head_kind ts)
     → IsOperand (level_at q (one_branch k c)) (one_branch k c) vs → IsLeveled q b (one_branch k c)
-node_leveled (At x) b k c n ts vs o f w = tight (level_in (slot_at x)) (one_branch k c) vs w
+node_leveled (At x) b k c n ts vs o f w = tight (level_in (symbol_at x)) (one_branch k c) vs w
 node_leveled BeforeArgument b k c n [] vs o f w = absurd o
 node_leveled BeforeArgument b k c n (t ∷ ts) vs o f w = argument (is_or_row (one_branch k c)) b (one_branch k c) t vs o f w
 node_leveled _ b k c n ts vs o f w = tt

@@ -2,24 +2,24 @@
 use Rattle.std.proofs.Common.{◌≡◌, true, false, List, [], ◌∷◌, ◌++◌, refl, ap, sym, ◌∙◌, subst}
 use Rattle.rnix_kinds.specs.declared.kinds.SyntaxKind.{SyntaxKind}
 use Rattle.rnix_kinds.specs.SyntaxKind.{is_trivia}
-use Rattle.rnix_grammar.specs.Sketch.{Token, Note, TooDeep, Sketch, blank, token, branch, fault, ◌⊕◌, one_branch, one_fault, clean, token_if, told, head_kind}
+use Rattle.rnix_grammar.specs.AnnotatedForest.{Token, Note, TooDeep, AnnotatedForest, blank, token, branch, fault, ◌⊕◌, one_branch, one_fault, clean, token_if, leaf_kind, head_kind}
 use Rattle.rnix_grammar.specs.Layout.{from_item, from_item_if, trivia_if, trivia_before, items, tail_of, is_last, trivia_after, rest_after, left_after, dressed}
 use Rattle.rnix_grammar.specs.Machine.{ate, behind, leaf_in, leaf, run_row, run_rest}
 use Rattle.rnix_grammar.specs.Allowed.{is_there}
 use Rattle.rnix_lemmas.proofs.Basics.{true_is_not_false}
-use Rattle.rnix_lemmas.proofs.SketchLemmas.{⊕-assoc, ⊕-blank}
+use Rattle.rnix_lemmas.proofs.AnnotatedForestLemmas.{⊕-assoc, ⊕-blank}
 use Rattle.rnix_lemmas.proofs.LayoutLemmas.{trivia-from_item, from_item-from_item, items_head, items-view, from_item_item}
 use Rattle.rnix_lemmas.proofs.CleanLemmas.{ate_clean, added_clean, run_bared}
 
 -- what is left behind two rows
-pub left_after-⊕ : (f g : Sketch) (ts : List Token) → left_after (f ⊕ g) ts ≡ left_after g (left_after f ts)
+pub left_after-⊕ : (f g : AnnotatedForest) (ts : List Token) → left_after (f ⊕ g) ts ≡ left_after g (left_after f ts)
 left_after-⊕ blank g ts = refl
 left_after-⊕ (token k t f) g ts = left_after-⊕ f g (tail_of (from_item ts))
 left_after-⊕ (branch k c f) g ts = left_after-⊕ f g (left_after c (from_item ts))
 left_after-⊕ (fault n c f) g ts = left_after-⊕ f g (rest_after (is_last n) (left_after c (from_item ts)))
 
 -- two rows with their trivia, the second from where the first ends
-pub dressed-⊕ : (f g : Sketch) (ts : List Token) → dressed (f ⊕ g) ts ≡ dressed f ts ⊕ dressed g (left_after f ts)
+pub dressed-⊕ : (f g : AnnotatedForest) (ts : List Token) → dressed (f ⊕ g) ts ≡ dressed f ts ⊕ dressed g (left_after f ts)
 dressed-⊕ blank g ts = refl
 dressed-⊕ (token k t f) g ts =
     let rest = tail_of (from_item ts) in rw (dressed-⊕ f g rest) (sym (⊕-assoc (trivia_before ts) (token k t (dressed f rest)) (dressed g (left_after f rest))))
@@ -33,14 +33,14 @@ dressed-⊕ (fault n c f) g ts =
     (sym (⊕-assoc (trivia_before ts) (fault n (dressed c (from_item ts)) (own ⊕ dressed f later)) (dressed g (left_after f later))))
 
 -- some tree stands in a row
-abbrev pub HasTree : Sketch → Type 0
+abbrev pub HasTree : AnnotatedForest → Type 0
 HasTree blank = ⊥
 HasTree (token k t f) = Unit {0}
 HasTree (branch k c f) = Unit {0}
 HasTree (fault n c f) = Unit {0}
 
 -- a tree behind a row stands in both
-pub tree_behind : (f g : Sketch) → HasTree g → HasTree (f ⊕ g)
+pub tree_behind : (f g : AnnotatedForest) → HasTree g → HasTree (f ⊕ g)
 tree_behind blank g h = h
 tree_behind (token k t f) g h = tt
 tree_behind (branch k c f) g h = tt
@@ -59,7 +59,7 @@ pub bare_trivia : (ts : List Token) → IsBare ts → trivia_before ts ≡ blank
 bare_trivia ts h = ap trivia_before (sym h) ∙ trivia-from_item ts
 
 -- a row is what its items and the tokens make of it, and these tokens are left behind it
-pub record IsDressed (row : Sketch) (ts us : List Token) : Type 0 where
+pub record IsDressed (row : AnnotatedForest) (ts us : List Token) : Type 0 where
   pub same : dressed (clean row) ts ≡ row
   pub left : left_after (clean row) ts ≡ us
 
@@ -68,19 +68,19 @@ pub dressed_blank : (ts : List Token) → IsDressed blank ts ts
 dressed_blank ts = record { same = refl; left = refl }
 
 -- what some items make of the tokens, by what they make of those from the first item on
-record IsAhead (c : Sketch) (ts : List Token) : Type 0 where
+record IsAhead (c : AnnotatedForest) (ts : List Token) : Type 0 where
   pub same : dressed c ts ≡ trivia_before ts ⊕ dressed c (from_item ts)
   pub left : left_after c ts ≡ left_after c (from_item ts)
 
 -- trivia come before the first tree
-ahead : (c : Sketch) (ts : List Token) → HasTree c → IsAhead c ts
+ahead : (c : AnnotatedForest) (ts : List Token) → HasTree c → IsAhead c ts
 ahead blank ts h = absurd h
 ahead (token k t f) ts h = record { same = rw (from_item-from_item ts, trivia-from_item ts) refl; left = rw (from_item-from_item ts) refl }
 ahead (branch k c f) ts h = record { same = rw (from_item-from_item ts, trivia-from_item ts) refl; left = rw (from_item-from_item ts) refl }
 ahead (fault n c f) ts h = record { same = rw (from_item-from_item ts, trivia-from_item ts) refl; left = rw (from_item-from_item ts) refl }
 
 -- a row with trivia and trees behind it
-pub dressed_added : (row g : Sketch) (ts us vs : List Token) → IsDressed row ts us → IsDressed g (from_item us) vs → HasTree (clean g) → IsDressed (ate true row us ⊕ g) ts vs
+pub dressed_added : (row g : AnnotatedForest) (ts us vs : List Token) → IsDressed row ts us → IsDressed g (from_item us) vs → HasTree (clean g) → IsDressed (ate true row us ⊕ g) ts vs
 dressed_added row g ts us vs h j t =
     let parts : clean (ate true row us ⊕ g) ≡ clean row ⊕ clean g = added_clean row us g refl in
     let a : IsAhead (clean g) us = ahead (clean g) us t in
@@ -90,19 +90,19 @@ dressed_added row g ts us vs h j t =
     }
 
 -- a tree is in a row with trivia and trees behind it
-pub tree_added : (row : Sketch) (us : List Token) (g : Sketch) → HasTree (clean g) → HasTree (clean (ate true row us ⊕ g))
+pub tree_added : (row : AnnotatedForest) (us : List Token) (g : AnnotatedForest) → HasTree (clean g) → HasTree (clean (ate true row us ⊕ g))
 tree_added row us g h = subst HasTree (sym (added_clean row us g refl)) (tree_behind (clean row) (clean g) h)
 
 -- a node over a row
-pub dressed_branch : (k : SyntaxKind) (row : Sketch) (ts us : List Token) → IsBare ts → IsDressed row ts us → IsDressed (one_branch k row) ts us
+pub dressed_branch : (k : SyntaxKind) (row : AnnotatedForest) (ts us : List Token) → IsBare ts → IsDressed row ts us → IsDressed (one_branch k row) ts us
 dressed_branch k row ts us b h = record { same = rw (bare_trivia ts b, b, h.same) refl; left = ap (left_after (clean row)) b ∙ h.left }
 
 -- an error node over a row, behind which trivia need not stand
-pub dressed_fault : (n : Note) (row : Sketch) (ts us : List Token) → is_last n ≡ false → IsBare ts → IsDressed row ts us → IsDressed (one_fault n row) ts us
+pub dressed_fault : (n : Note) (row : AnnotatedForest) (ts us : List Token) → is_last n ≡ false → IsBare ts → IsDressed row ts us → IsDressed (one_fault n row) ts us
 dressed_fault n row ts us e b h = record { same = rw (bare_trivia ts b, b, e, h.same) refl; left = rw (b, e) h.left }
 
 -- the node of what is too deep, with the trivia behind it
-pub dressed_last : (row : Sketch) (ts us : List Token) → IsBare ts → IsDressed row ts us → IsDressed (ate true (one_fault TooDeep row) us) ts (from_item us)
+pub dressed_last : (row : AnnotatedForest) (ts us : List Token) → IsBare ts → IsDressed row ts us → IsDressed (ate true (one_fault TooDeep row) us) ts (from_item us)
 dressed_last row ts us b h =
     let bare : clean (ate true (one_fault TooDeep row) us) ≡ one_fault TooDeep (clean row) = ate_clean (one_fault TooDeep row) us in
     record {
@@ -114,13 +114,13 @@ dressed_last row ts us b h =
 pub dressed_leaf : (k : SyntaxKind) (ts : List Token) → IsDressed (leaf true k ts) (from_item ts) (behind true ts)
 dressed_leaf k ts = by_head (from_item ts) refl
   where
-    by_item : (x : Token) (xs : List Token) → is_trivia x.kind ≡ false → IsDressed (token (told k x) x blank) (x ∷ xs) xs
+    by_item : (x : Token) (xs : List Token) → is_trivia x.kind ≡ false → IsDressed (token (leaf_kind k x) x blank) (x ∷ xs) xs
     by_item x xs e =
-        let bare : clean (token (told k x) x blank) ≡ token (told k x) x blank = ap (λ y. token_if y (told k x) x blank) e in
+        let bare : clean (token (leaf_kind k x) x blank) ≡ token (leaf_kind k x) x blank = ap (λ y. token_if y (leaf_kind k x) x blank) e in
         let here : from_item (x ∷ xs) ≡ x ∷ xs = ap (λ y. from_item_if y x xs (from_item xs)) e in
         record {
           same =
-              ap (λ y. dressed y (x ∷ xs)) bare ∙ ap (λ y. trivia_if y x (trivia_before xs) ⊕ token (told k x) x blank) e;
+              ap (λ y. dressed y (x ∷ xs)) bare ∙ ap (λ y. trivia_if y x (trivia_before xs) ⊕ token (leaf_kind k x) x blank) e;
           left = ap (λ y. left_after y (x ∷ xs)) bare ∙ ap tail_of here;
         }
 

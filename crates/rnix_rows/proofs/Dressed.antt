@@ -14,14 +14,14 @@ use Rattle.rnix_grammar.specs.Fault.{Fault}
 use Rattle.rnix_grammar.specs.Tables.{depth_limit}
 use Rattle.rnix_grammar.specs.Actions.{action_at}
 use Rattle.rnix_grammar.specs.Begins.{begin_of, second_kind}
-use Rattle.rnix_grammar.specs.Sketch.{Token, Stray, Unwanted, Extra, Twice, TooDeep, Sketch, blank, ◌⊕◌, one_branch, one_fault, clean, head_kind, touches}
+use Rattle.rnix_grammar.specs.AnnotatedForest.{Token, Stray, Unwanted, Extra, Twice, TooDeep, AnnotatedForest, blank, ◌⊕◌, one_branch, one_fault, clean, head_kind, touches}
 use Rattle.rnix_grammar.specs.Layout.{from_item, tail_of, trivia_before, items, left_after, dressed_whole}
 use Rattle.rnix_grammar.specs.Reports.{repeated}
 use Rattle.rnix_grammar.specs.Machine.{Head, Node, Second, Operand, Frame, Machine, put, opened, ate, behind, leaf, run_row, dropped, run_rest, made, kind_of, low_of, closed, entry_closed, limited, begun, operand_on, reading, perform, step_on, step, begins, Runs, rest, then as further}
 use Rattle.rnix_grammar.specs.Missing.{run_of}
 use Rattle.rnix_grammar.specs.Sorts.{Loose, sort_of, StandsOn, AreKept}
 use Rattle.rnix_grammar.specs.Allowed.{Allowed, is_there}
-use Rattle.rnix_lemmas.proofs.SketchLemmas.{⊕-assoc}
+use Rattle.rnix_lemmas.proofs.AnnotatedForestLemmas.{⊕-assoc}
 use Rattle.rnix_lemmas.proofs.LayoutLemmas.{clean-⊕}
 use Rattle.rnix_lemmas.proofs.CleanLemmas.{items_behind, ate_clean, run_prefix, all_prefix}
 use Rattle.rnix_lemmas.proofs.AllowedLemmas.{allowed}
@@ -29,8 +29,8 @@ use Rattle.rnix_lemmas.proofs.PlaceLemmas.{BeginsInner, begin_inner, step_kept, 
 use Rattle.rnix_rows.proofs.DressLemmas.{HasTree, tree_behind, IsBare, bare_from, bare_trivia, IsDressed, dressed_blank, dressed_added, tree_added, dressed_branch, dressed_fault, dressed_last, dressed_leaf, tree_leaf, dressed_run}
 
 -- a row that waits for a tree: it has the trivia before the tree, which begins with the tokens vs
-pub record IsAwaiting (row : Sketch) (ts vs : List Token) : Type 0 where
-  pub before : Sketch
+pub record IsAwaiting (row : AnnotatedForest) (ts vs : List Token) : Type 0 where
+  pub before : AnnotatedForest
   pub at : List Token
   pub row_is : row ≡ ate true before at
   pub held : IsDressed before ts at
@@ -42,7 +42,7 @@ AreAwaiting all [] vs = vs ≡ all
 AreAwaiting all (g ∷ gs) vs = (ts : List Token) × (IsAwaiting g.row ts vs × AreAwaiting all gs ts)
 
 -- a tree stands in the row of an operand
-abbrev pub HasOperand : Head → Sketch → Type 0
+abbrev pub HasOperand : Head → AnnotatedForest → Type 0
 HasOperand Operand row = HasTree (clean row)
 HasOperand head row = Unit {0}
 
@@ -56,7 +56,7 @@ abbrev pub Dresses : List Token → Machine → Type 0
 Dresses all m = AreDressed all m.frames m.left
 
 -- a row begins to wait
-awaits : (row : Sketch) (ts us : List Token) → IsDressed row ts us → IsAwaiting (ate true row us) ts (from_item us)
+awaits : (row : AnnotatedForest) (ts us : List Token) → IsDressed row ts us → IsAwaiting (ate true row us) ts (from_item us)
 awaits row ts us h = record { before = row; at = us; row_is = refl; held = h; next = refl }
 
 -- a row in which nothing is read waits
@@ -64,28 +64,28 @@ awaits_blank : (ts : List Token) → IsBare ts → IsAwaiting blank ts ts
 awaits_blank ts b = record { before = blank; at = ts; row_is = sym (bare_trivia ts b); held = dressed_blank ts; next = sym b }
 
 -- what is waited for does not begin with trivia
-awaited_bare : (row : Sketch) (ts vs : List Token) → IsAwaiting row ts vs → IsBare vs
+awaited_bare : (row : AnnotatedForest) (ts vs : List Token) → IsAwaiting row ts vs → IsBare vs
 awaited_bare row ts vs h = subst IsBare (sym h.next) (bare_from h.at)
 
 -- a row that waited, with a tree behind it
-came : (row g : Sketch) (ts vs us : List Token) → IsAwaiting row ts vs → IsDressed g vs us → HasTree (clean g) → IsDressed (row ⊕ g) ts us
+came : (row g : AnnotatedForest) (ts vs us : List Token) → IsAwaiting row ts vs → IsDressed g vs us → HasTree (clean g) → IsDressed (row ⊕ g) ts us
 came row g ts vs us h j t =
-    subst (λ (x : Sketch). IsDressed (x ⊕ g) ts us) (sym h.row_is)
+    subst (λ (x : AnnotatedForest). IsDressed (x ⊕ g) ts us) (sym h.row_is)
     (dressed_added h.before g ts h.at us h.held (subst (λ (x : List Token). IsDressed g x us) h.next j) t)
 
 -- what is made of a row
-made_dressed : (h : Head) (row : Sketch) (ts us : List Token) → IsBare ts → IsDressed row ts us → IsDressed (made h row) ts us
+made_dressed : (h : Head) (row : AnnotatedForest) (ts us : List Token) → IsBare ts → IsDressed row ts us → IsDressed (made h row) ts us
 made_dressed (Node k) row ts us b h = dressed_branch k row ts us b h
 made_dressed Second row ts us b h = dressed_fault Twice row ts us refl b h
 made_dressed Operand row ts us b h = h
 
 -- is a tree
-made_tree : (h : Head) (row : Sketch) → HasOperand h row → HasTree (clean (made h row))
+made_tree : (h : Head) (row : AnnotatedForest) → HasOperand h row → HasTree (clean (made h row))
 made_tree Operand row t = t
 made_tree _ row t = tt
 
 -- a row with a tree, whatever its head
-operand_tree : (h : Head) (row : Sketch) → HasTree (clean row) → HasOperand h row
+operand_tree : (h : Head) (row : AnnotatedForest) → HasTree (clean row) → HasOperand h row
 operand_tree Operand row t = t
 operand_tree _ row t = tt
 
@@ -104,7 +104,7 @@ closed_dressed all f [] ts n es h = h
 closed_dressed all f (g ∷ fs) ts n es h =
     let below = h.1.1.1 in
     let tree : HasTree (clean (made f.head f.row)) = made_tree f.head f.row h.1.1.0 in
-    let row : Sketch = g.row ⊕ made f.head f.row in (
+    let row : AnnotatedForest = g.row ⊕ made f.head f.row in (
       below.0,
       (
         came g.row (made f.head f.row) below.0 h.0 ts below.1.0 (made_dressed f.head f.row h.0 ts (awaited_bare g.row below.0 h.0 below.1.0) h.1.0) tree,
@@ -118,7 +118,7 @@ entry_dressed all f [] ts n es h = h
 entry_dressed all f (g ∷ fs) ts n es h = closed_dressed all f (g ∷ fs) ts n (es ++ repeated (clean g.row) (clean f.row)) h
 
 -- a second item as a leaf behind a row that begins with the first
-two_dressed : (j : SyntaxKind) (row : Sketch) (ts : List Token) (x : Token) (us : List Token) → items ts ≡ x ∷ us → is_there (head_kind us) ≡ true
+two_dressed : (j : SyntaxKind) (row : AnnotatedForest) (ts : List Token) (x : Token) (us : List Token) → items ts ≡ x ∷ us → is_there (head_kind us) ≡ true
     → IsDressed row (from_item ts) (behind true ts) → IsDressed (ate true row (behind true ts) ⊕ leaf true j (behind true ts)) (from_item ts) (behind true (behind true ts))
 two_dressed j row ts x us i s h =
     let later : items (behind true ts) ≡ us = items_behind ts ∙ ap tail_of i in
@@ -151,8 +151,8 @@ begun_dressed all b.NameLambda level d t x us f fs ts n es i s w = (
   ),
 )
 begun_dressed all b.BoundLambda level d t x us f fs ts n es i s w =
-    let name : Sketch = one_branch NODE_IDENT (leaf true NODE_IDENT ts) in
-    let row : Sketch = ate true name (behind true ts) ⊕ leaf true NODE_PAT_BIND (behind true ts) in
+    let name : AnnotatedForest = one_branch NODE_IDENT (leaf true NODE_IDENT ts) in
+    let row : AnnotatedForest = ate true name (behind true ts) ⊕ leaf true NODE_PAT_BIND (behind true ts) in
     let free : IsAwaiting blank (from_item ts) (from_item ts) = awaits_blank (from_item ts) (bare_from ts) in (
       from_item ts,
       (
@@ -178,7 +178,7 @@ operand_dressed all level d f fs ts (t ∷ us) n es i h =
 limited_dressed : (all : List Token) (f : Frame) (fs : List Frame) (ts : List Token) (n : ℕ) (es : List Fault) → AreDressed all (f ∷ fs) ts → Dresses all (limited true f fs ts n es)
 limited_dressed all f fs ts n es h =
     let run : List Token = items ts in
-    let node : Sketch = one_fault TooDeep (run_row true run ts) in
+    let node : AnnotatedForest = one_fault TooDeep (run_row true run ts) in
     let left : List Token = run_rest true run ts in
     let last : IsDressed (ate true node left) (from_item ts) (from_item left) = dressed_last (run_row true run ts) (from_item ts) left (bare_from ts) (dressed_run run ts (dropped run run) (all_prefix run)) in
     let two : IsDressed (ate true f.row ts ⊕ ate true node left) h.0 (from_item left) = dressed_added f.row (ate true node left) h.0 ts (from_item left) h.1.0 last tt in
@@ -186,8 +186,8 @@ limited_dressed all f fs ts n es h =
     let tree : HasTree (clean (ate true f.row ts ⊕ ate true node left)) = tree_added f.row ts (ate true node left) tt in (
       h.0,
       (
-        subst (λ (x : Sketch). IsDressed x h.0 (from_item left)) (sym same) two,
-        (operand_tree f.head (ate true (ate true f.row ts ⊕ node) left) (subst (λ (x : Sketch). HasTree (clean x)) (sym same) tree), h.1.1.1),
+        subst (λ (x : AnnotatedForest). IsDressed x h.0 (from_item left)) (sym same) two,
+        (operand_tree f.head (ate true (ate true f.row ts ⊕ node) left) (subst (λ (x : AnnotatedForest). HasTree (clean x)) (sym same) tree), h.1.1.1),
       ),
     )
 
@@ -200,7 +200,7 @@ reading_dressed all level true f fs ts n es h =
 reading_dressed all level false f fs ts n es h = operand_dressed all level f.depth f fs ts (items ts) n es refl h
 
 -- a run of items in an error node, behind a row
-run_dressed : (until : Until) (row : Sketch) (vs ts : List Token) → IsDressed row vs ts
+run_dressed : (until : Until) (row : AnnotatedForest) (vs ts : List Token) → IsDressed row vs ts
     → IsDressed (ate true row ts ⊕ one_fault (Unwanted until) (run_row true (run_of until (items ts)) ts)) vs (run_rest true (run_of until (items ts)) ts)
 run_dressed until row vs ts h =
     let run : List Token = run_of until (items ts) in
@@ -208,15 +208,15 @@ run_dressed until row vs ts h =
     (dressed_fault (Unwanted until) (run_row true run ts) (from_item ts) (run_rest true run ts) refl (bare_from ts) (dressed_run run ts (dropped run (items ts)) (run_prefix until (items ts)))) tt
 
 -- a leaf in a node, behind a row
-name_dressed : (j : SyntaxKind) (row : Sketch) (vs ts : List Token) → IsDressed row vs ts → IsDressed (ate true row ts ⊕ one_branch j (leaf true j ts)) vs (behind true ts)
+name_dressed : (j : SyntaxKind) (row : AnnotatedForest) (vs ts : List Token) → IsDressed row vs ts → IsDressed (ate true row ts ⊕ one_branch j (leaf true j ts)) vs (behind true ts)
 name_dressed j row vs ts h = dressed_added row (one_branch j (leaf true j ts)) vs ts (behind true ts) h (one_dressed j ts) tt
 
 -- the next item behind a row
-next_dressed : (k : SyntaxKind) (row : Sketch) (vs ts : List Token) → is_there (head_kind (items ts)) ≡ true → IsDressed row vs ts → IsDressed (ate true row ts ⊕ leaf true k ts) vs (behind true ts)
+next_dressed : (k : SyntaxKind) (row : AnnotatedForest) (vs ts : List Token) → is_there (head_kind (items ts)) ≡ true → IsDressed row vs ts → IsDressed (ate true row ts ⊕ leaf true k ts) vs (behind true ts)
 next_dressed k row vs ts f h = dressed_added row (leaf true k ts) vs ts (behind true ts) h (dressed_leaf k ts) (tree_leaf k ts f)
 
 -- a tree comes behind a row
-grown : (all : List Token) (f : Frame) (fs : List Frame) (ts us : List Token) (g : Sketch) → HasTree (clean g) → ((vs : List Token) → IsDressed f.row vs ts → IsDressed (ate true f.row ts ⊕ g) vs us)
+grown : (all : List Token) (f : Frame) (fs : List Frame) (ts us : List Token) (g : AnnotatedForest) → HasTree (clean g) → ((vs : List Token) → IsDressed f.row vs ts → IsDressed (ate true f.row ts ⊕ g) vs us)
     → AreDressed all (f ∷ fs) ts → AreDressed all (put f.place (ate true f.row ts ⊕ g) f ∷ fs) us
 grown all f fs ts us g t d h = (h.0, (d h.0 h.1.0, (operand_tree f.head (ate true f.row ts ⊕ g) (tree_added f.row ts g t), h.1.1.1)))
 
@@ -252,7 +252,7 @@ perform_dressed all a.Apply f fs ts n es al w h =
     let free : IsAwaiting blank h.0 h.0 = awaits_blank h.0 (on_some all f.head f.place fs h.0 al.1 w h.1.1.1) in
     reading_dressed all 16 false (opened (Node NODE_APPLY) p.Past f.depth f.row) (opened Operand (p.Behind (low_of f.place) 15) f.depth blank ∷ fs) ts n es (h.0, (h.1.0, (tt, (h.0, (free, h.1.1.1)))))
 perform_dressed all a.ApplyOr f fs ts n es al w h =
-    let inside : Sketch = ate true f.row ts ⊕ one_branch NODE_IDENT (leaf true NODE_IDENT ts) in
+    let inside : AnnotatedForest = ate true f.row ts ⊕ one_branch NODE_IDENT (leaf true NODE_IDENT ts) in
     (h.0, (dressed_branch NODE_APPLY inside h.0 (behind true ts) (on_some all f.head f.place fs h.0 al.1 w h.1.1.1) (name_dressed NODE_IDENT f.row h.0 ts h.1.0), (tt, h.1.1.1)))
 
 -- each step keeps the rows as their items and the tokens make them

@@ -3,35 +3,35 @@ use Rattle.std.proofs.Common.{◌≡◌, Bool, true, false, List, [], ◌∷◌,
 use Rattle.rnix_kinds.specs.declared.kinds.SyntaxKind.{SyntaxKind}
 use Rattle.rnix_kinds.specs.declared.kinds.SyntaxKind.TheVariants.{TOKEN_IDENT, TOKEN_OR, NODE_IDENT, NODE_CUR_POS, NODE_ERROR}
 use Rattle.rnix_kinds.specs.SyntaxKind.{is_trivia}
-use Rattle.rnix_grammar.specs.Sketch.{Token, Sketch, blank, token, branch, fault, ◌⊕◌, one_token, one_branch, one_fault, tokens_in, forget, told_as, AreTold}
+use Rattle.rnix_grammar.specs.AnnotatedForest.{Token, AnnotatedForest, blank, token, branch, fault, ◌⊕◌, one_token, one_branch, one_fault, tokens_in, forget, leaf_kind_as, HaveLeafKinds}
 use Rattle.rnix_grammar.specs.Layout.{from_item, tail_of, items, trivia_if, trivia_before, is_last, trivia_after, rest_after, left_after, dressed}
 use Rattle.rnix_grammar.specs.Machine.{ate}
 use Rattle.rnix_grammar.specs.Trim.{BeginsWithItem, EndsWithItem, leaf_kinds, token_kinds, AreFaultsTrimmed, AreNodesTrimmed}
-use Rattle.rnix_lemmas.proofs.SketchLemmas.{⊕-assoc, ⊕-blank}
+use Rattle.rnix_lemmas.proofs.AnnotatedForestLemmas.{⊕-assoc, ⊕-blank}
 use Rattle.rnix_lemmas.proofs.LayoutLemmas.{IsFirst, first_item, IsBared, bared, items-from_item, items-rest_after}
 use Rattle.rnix_lemmas.proofs.EdgeLemmas.{token_kinds-++, some, IsEdged, edged_led, edged_added, edged_branch, edged_fault, faults_trimmed-⊕, faults_trimmed_trivia}
 use Rattle.rnix_rows.proofs.DressLemmas.{HasTree, IsBare, bare_from, bare_trivia}
 use Rattle.rnix_rows.proofs.StandsFilled.{AreFilled, AreFaultsFilled}
 
 -- each node of a row has tokens, and begins and ends with an item
-abbrev pub AreEdged : Sketch → Type 0
+abbrev pub AreEdged : AnnotatedForest → Type 0
 AreEdged blank = Unit {0}
 AreEdged (token k t f) = AreEdged f
 AreEdged (branch k c f) = IsEdged c × AreEdged c × AreEdged f
 AreEdged (fault n c f) = IsEdged c × AreEdged c × AreEdged f
 
 -- a row that goes on with trees before some tokens: it begins and ends with items, or nothing is in it and an item comes next
-pub data IsReady (g f : Sketch) (ts : List Token) : Type 0 where
+pub data IsReady (g f : AnnotatedForest) (ts : List Token) : Type 0 where
   read : IsEdged g → IsReady g f ts
   unread : g ≡ blank → IsBare ts → HasTree f → IsReady g f ts
 
 -- the next tree, with the trivia before it
-ready_next : (g x : Sketch) {f : Sketch} (ts : List Token) → IsReady g f ts → IsEdged x → IsEdged (ate true g ts ⊕ x)
+ready_next : (g x : AnnotatedForest) {f : AnnotatedForest} (ts : List Token) → IsReady g f ts → IsEdged x → IsEdged (ate true g ts ⊕ x)
 ready_next g x ts (read e) h = edged_added g ts x (edged_led g e) h
-ready_next g x ts (unread e b t) h = subst (λ (z : Sketch). IsEdged (z ⊕ x)) (sym (ap (λ z. z ⊕ trivia_before ts) e ∙ bare_trivia ts b)) h
+ready_next g x ts (unread e b t) h = subst (λ (z : AnnotatedForest). IsEdged (z ⊕ x)) (sym (ap (λ z. z ⊕ trivia_before ts) e ∙ bare_trivia ts b)) h
 
 -- and more behind it
-ready_more : (g x f : Sketch) (ts : List Token) → IsEdged ((ate true g ts ⊕ x) ⊕ f) → IsEdged (g ⊕ (trivia_before ts ⊕ (x ⊕ f)))
+ready_more : (g x f : AnnotatedForest) (ts : List Token) → IsEdged ((ate true g ts ⊕ x) ⊕ f) → IsEdged (g ⊕ (trivia_before ts ⊕ (x ⊕ f)))
 ready_more g x f ts h = subst IsEdged (⊕-assoc (ate true g ts) x f ∙ ⊕-assoc g (trivia_before ts) (x ⊕ f)) h
 
 -- a leaf that is an item
@@ -39,11 +39,11 @@ edged_item : (k : SyntaxKind) (t : Token) → is_trivia t.kind ≡ false → IsE
 edged_item k t e = record { some = some t.kind []; begins = e; ends = e }
 
 -- the items of the children of a node, and those behind it
-inside : (c f : Sketch) (ts us : List Token) → items ts ≡ (tokens_in c ++ tokens_in f) ++ us → IsBared c (from_item ts) (tokens_in f ++ us)
+inside : (c f : AnnotatedForest) (ts us : List Token) → items ts ≡ (tokens_in c ++ tokens_in f) ++ us → IsBared c (from_item ts) (tokens_in f ++ us)
 inside c f ts us e = bared c (from_item ts) (tokens_in f ++ us) (items-from_item ts ∙ e ∙ append_assoc (tokens_in c) (tokens_in f) us)
 
 -- trees with their trivia, behind others
-pub edged_trees : (g f : Sketch) (ts us : List Token) → items ts ≡ tokens_in f ++ us → AreFilled f → IsReady g f ts → IsEdged (g ⊕ dressed f ts)
+pub edged_trees : (g f : AnnotatedForest) (ts us : List Token) → items ts ≡ tokens_in f ++ us → AreFilled f → IsReady g f ts → IsEdged (g ⊕ dressed f ts)
 edged_trees g blank ts us e h (read r) = subst IsEdged (sym (⊕-blank g)) r
 edged_trees g blank ts us e h (unread r b t) = absurd t
 edged_trees g (token k x f) ts us e h r =
@@ -56,7 +56,7 @@ edged_trees g (branch k c f) ts us e h r =
     let rest : List Token = left_after c (from_item ts) in
     let below : IsEdged (dressed c (from_item ts)) =
     edged_trees blank c (from_item ts) (tokens_in f ++ us) (items-from_item ts ∙ e ∙ append_assoc (tokens_in c) (tokens_in f) us) h.1 (unread refl (bare_from ts) h.0) in
-    let x : Sketch = one_branch k (dressed c (from_item ts)) in
+    let x : AnnotatedForest = one_branch k (dressed c (from_item ts)) in
     let one : IsEdged (ate true g ts ⊕ x) = ready_next g x ts r (edged_branch k (dressed c (from_item ts)) below) in
     ready_more g x (dressed f rest) ts (edged_trees (ate true g ts ⊕ x) f rest us w.left h.2 (read one))
 edged_trees g (fault n c f) ts us e h r =
@@ -64,17 +64,17 @@ edged_trees g (fault n c f) ts us e h r =
     let rest : List Token = left_after c (from_item ts) in
     let below : IsEdged (dressed c (from_item ts)) =
     edged_trees blank c (from_item ts) (tokens_in f ++ us) (items-from_item ts ∙ e ∙ append_assoc (tokens_in c) (tokens_in f) us) h.2 (unread refl (bare_from ts) h.1) in
-    let x : Sketch = one_fault n (dressed c (from_item ts)) in
+    let x : AnnotatedForest = one_fault n (dressed c (from_item ts)) in
     let one : IsEdged (ate true g ts ⊕ x) = ready_next g x ts r (edged_fault n (dressed c (from_item ts)) below) in
     subst (λ (z : Bool). IsEdged (g ⊕ (trivia_before ts ⊕ fault n (dressed c (from_item ts)) (trivia_after z rest ⊕ dressed f (rest_after z rest))))) (sym h.0)
     (ready_more g x (dressed f rest) ts (edged_trees (ate true g ts ⊕ x) f rest us w.left h.3 (read one)))
 
 -- what is dressed from an item on begins and ends with items
-edged_from : (f : Sketch) (ts us : List Token) → items ts ≡ tokens_in f ++ us → AreFilled f → HasTree f → IsEdged (dressed f (from_item ts))
+edged_from : (f : AnnotatedForest) (ts us : List Token) → items ts ≡ tokens_in f ++ us → AreFilled f → HasTree f → IsEdged (dressed f (from_item ts))
 edged_from f ts us e h t = edged_trees blank f (from_item ts) us (items-from_item ts ∙ e) h (unread refl (bare_from ts) t)
 
 -- two rows
-pub edged-⊕ : (f g : Sketch) → AreEdged f → AreEdged g → AreEdged (f ⊕ g)
+pub edged-⊕ : (f g : AnnotatedForest) → AreEdged f → AreEdged g → AreEdged (f ⊕ g)
 edged-⊕ blank g h j = j
 edged-⊕ (token k t f) g h j = edged-⊕ f g h j
 edged-⊕ (branch k c f) g h j = (h.0, h.1, edged-⊕ f g h.2 j)
@@ -86,7 +86,7 @@ edged_trivia [] = tt
 edged_trivia (t ∷ ts) = elim (is_trivia t.kind) as (λ x. AreEdged (trivia_if x t (trivia_before ts))) [ true ↦ edged_trivia ts | false ↦ tt ]
 
 -- where each node has trees each begins and ends with items
-pub dressed_edged : (f : Sketch) (ts us : List Token) → items ts ≡ tokens_in f ++ us → AreFilled f → AreEdged (dressed f ts)
+pub dressed_edged : (f : AnnotatedForest) (ts us : List Token) → items ts ≡ tokens_in f ++ us → AreFilled f → AreEdged (dressed f ts)
 dressed_edged blank ts us e h = tt
 dressed_edged (token k x f) ts us e h =
     let rest : List Token = tail_of (from_item ts) in
@@ -110,7 +110,7 @@ dressed_edged (fault n c f) ts us e h =
     ))
 
 -- an error node begins and ends with items, or is empty
-fault_edges : (c : Sketch) (ts us : List Token) → items ts ≡ tokens_in c ++ us → AreFilled c
+fault_edges : (c : AnnotatedForest) (ts us : List Token) → items ts ≡ tokens_in c ++ us → AreFilled c
     → BeginsWithItem (token_kinds (tokens_in (dressed c (from_item ts)))) × EndsWithItem (token_kinds (tokens_in (dressed c (from_item ts))))
 fault_edges blank ts us e h = (tt, tt)
 fault_edges c ts us e h = let w = edged_from c ts us e h tt in (w.begins, w.ends)
@@ -121,7 +121,7 @@ trimmed_after true ts = faults_trimmed_trivia ts
 trimmed_after false ts = tt
 
 -- no error node begins or ends with trivia
-pub dressed_trimmed : (f : Sketch) (ts us : List Token) → items ts ≡ tokens_in f ++ us → AreFaultsFilled f → AreFaultsTrimmed (dressed f ts)
+pub dressed_trimmed : (f : AnnotatedForest) (ts us : List Token) → items ts ≡ tokens_in f ++ us → AreFaultsFilled f → AreFaultsTrimmed (dressed f ts)
 dressed_trimmed blank ts us e h = tt
 dressed_trimmed (token k x f) ts us e h =
     let rest : List Token = tail_of (from_item ts) in
@@ -165,23 +165,23 @@ ends_alike (both e none) b = e ∙ b
 ends_alike (both e (both {j = j} {k = k} f h)) b = ends_alike (both {j = j} {k = k} f h) b
 
 -- a leaf is trivia as its token is
-name_alike : (k : SyntaxKind) → is_trivia (told_as NODE_IDENT k) ≡ is_trivia k
+name_alike : (k : SyntaxKind) → is_trivia (leaf_kind_as NODE_IDENT k) ≡ is_trivia k
 name_alike TOKEN_OR = refl
 name_alike _ = refl
 
 -- below the current position too
-place_alike : (k : SyntaxKind) → is_trivia (told_as NODE_CUR_POS k) ≡ is_trivia k
+place_alike : (k : SyntaxKind) → is_trivia (leaf_kind_as NODE_CUR_POS k) ≡ is_trivia k
 place_alike TOKEN_IDENT = refl
 place_alike _ = refl
 
 -- below any parent
-pub told_alike : (p k : SyntaxKind) → is_trivia (told_as p k) ≡ is_trivia k
+pub told_alike : (p k : SyntaxKind) → is_trivia (leaf_kind_as p k) ≡ is_trivia k
 told_alike NODE_IDENT k = name_alike k
 told_alike NODE_CUR_POS k = place_alike k
 told_alike _ k = refl
 
 -- the leaves of a row and its tokens
-leaves_alike : (p : SyntaxKind) (f : Sketch) → AreTold p f → AreAlike (leaf_kinds (forget f)) (token_kinds (tokens_in f))
+leaves_alike : (p : SyntaxKind) (f : AnnotatedForest) → HaveLeafKinds p f → AreAlike (leaf_kinds (forget f)) (token_kinds (tokens_in f))
 leaves_alike p blank h = none
 leaves_alike p (token k t f) h = both (ap is_trivia h.0 ∙ told_alike p t.kind) (leaves_alike p f h.1)
 leaves_alike p (branch k c f) h =
@@ -192,7 +192,7 @@ leaves_alike p (fault n c f) h =
     (alike-++ (leaves_alike NODE_ERROR c h.0) (leaves_alike p f h.1))
 
 -- the nodes of a row without its notes
-pub nodes_trimmed : (p : SyntaxKind) (f : Sketch) → AreTold p f → AreEdged f → AreNodesTrimmed (forget f)
+pub nodes_trimmed : (p : SyntaxKind) (f : AnnotatedForest) → HaveLeafKinds p f → AreEdged f → AreNodesTrimmed (forget f)
 nodes_trimmed p blank h e = tt
 nodes_trimmed p (token k t f) h e = nodes_trimmed p f h.1 e
 nodes_trimmed p (branch k c f) h e =

@@ -1,14 +1,14 @@
 -- Names hold their tokens alone with trivia around them too.
 use Rattle.std.proofs.Common.{◌≡◌, Bool, true, false, List, [], ◌∷◌, refl, sym}
 use Rattle.rnix_kinds.specs.SyntaxKind.{is_trivia}
-use Rattle.rnix_grammar.specs.Sketch.{Token, Sketch, blank, token, branch, fault, ◌⊕◌}
+use Rattle.rnix_grammar.specs.AnnotatedForest.{Token, AnnotatedForest, blank, token, branch, fault, ◌⊕◌}
 use Rattle.rnix_grammar.specs.Layout.{from_item, tail_of, trivia_if, trivia_before, is_last, trivia_after, rest_after, left_after, dressed}
 use Rattle.rnix_grammar.specs.Trim.{is_bare, begins_with_node, AreNamesBare}
 use Rattle.rnix_lemmas.proofs.Basics.{true_is_not_false}
 use Rattle.rnix_lemmas.proofs.LayoutLemmas.{trivia-from_item}
 
 -- two rows
-pub bare-⊕ : (f g : Sketch) → AreNamesBare f → AreNamesBare g → AreNamesBare (f ⊕ g)
+pub bare-⊕ : (f g : AnnotatedForest) → AreNamesBare f → AreNamesBare g → AreNamesBare (f ⊕ g)
 bare-⊕ blank g h j = j
 bare-⊕ (token k t f) g h j = bare-⊕ f g h j
 bare-⊕ (branch k c f) g h j = (h.0, h.1, bare-⊕ f g h.2 j)
@@ -24,18 +24,18 @@ bare_after true ts = bare_trivia ts
 bare_after false ts = tt
 
 -- from an item on a row begins with a node as it does without trivia
-begins_dressed : (c : Sketch) (ts : List Token) → begins_with_node c ≡ true → begins_with_node (dressed c (from_item ts)) ≡ true
+begins_dressed : (c : AnnotatedForest) (ts : List Token) → begins_with_node c ≡ true → begins_with_node (dressed c (from_item ts)) ≡ true
 begins_dressed (branch k c f) ts h = rw (trivia-from_item ts) refl
 begins_dressed _ ts h = absurd (true_is_not_false (sym h))
 
 -- and has no more than one token
-bare_dressed : (c : Sketch) (ts : List Token) → is_bare c ≡ true → is_bare (dressed c (from_item ts)) ≡ true
+bare_dressed : (c : AnnotatedForest) (ts : List Token) → is_bare c ≡ true → is_bare (dressed c (from_item ts)) ≡ true
 bare_dressed blank ts h = refl
 bare_dressed (token k t blank) ts h = rw (trivia-from_item ts) refl
 bare_dressed _ ts h = absurd (true_is_not_false (sym h))
 
 -- the names of a row with its trivia are bare
-pub dressed_bare : (f : Sketch) (ts : List Token) → AreNamesBare f → AreNamesBare (dressed f ts)
+pub dressed_bare : (f : AnnotatedForest) (ts : List Token) → AreNamesBare f → AreNamesBare (dressed f ts)
 dressed_bare blank ts h = tt
 dressed_bare (token k t f) ts h = let rest : List Token = tail_of (from_item ts) in bare-⊕ (trivia_before ts) (token k t (dressed f rest)) (bare_trivia ts) (dressed_bare f rest h)
 dressed_bare (branch k c f) ts h =

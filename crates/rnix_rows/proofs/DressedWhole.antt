@@ -4,12 +4,12 @@ use Rattle.rnix_kinds.specs.declared.kinds.SyntaxKind.{SyntaxKind}
 use Rattle.rnix_kinds.specs.Lexical.Tokens.{Lexeme}
 use Rattle.rnix_tree.specs.Tree.{Tree}
 use Rattle.rnix_grammar.specs.Fault.{Fault}
-use Rattle.rnix_grammar.specs.Sketch.{Token, Sketch, tokens_in, clean, placed_from, AreTold, forget}
+use Rattle.rnix_grammar.specs.AnnotatedForest.{Token, AnnotatedForest, tokens_in, clean, placed_from, HaveLeafKinds, forget}
 use Rattle.rnix_grammar.specs.Layout.{trivia_before, from_item, items, left_after, dressed, dressed_whole}
 use Rattle.rnix_grammar.specs.Machine.{ate}
 use Rattle.rnix_grammar.specs.Document.{IsRead}
-use Rattle.rnix_lemmas.proofs.SketchLemmas.{tokens_in-⊕}
-use Rattle.rnix_lemmas.proofs.LayoutLemmas.{items-view, IsBared, bared, dressed_tokens, trivia_tokens, nothing_from, told-⊕, told_trivia, told_dressed}
+use Rattle.rnix_lemmas.proofs.AnnotatedForestLemmas.{tokens_in-⊕}
+use Rattle.rnix_lemmas.proofs.LayoutLemmas.{items-view, IsBared, bared, dressed_tokens, trivia_tokens, nothing_from, leaf_kind-⊕, told_trivia, told_dressed}
 use Rattle.rnix_lemmas.proofs.ReportLemmas.{clean_tokens}
 use Rattle.rnix_rows.proofs.Dressed.{whole_dressed}
 use Rattle.rnix_kinds.specs.declared.kinds.SyntaxKind.TheVariants.{NODE_ROOT}
@@ -24,11 +24,11 @@ use Rattle.rnix_rows.proofs.DressedEdges.{edged-⊕, edged_trivia, dressed_edged
 use Rattle.rnix_rows.proofs.DressedNames.{bare-⊕, bare_trivia, dressed_bare}
 
 -- all items, with nothing behind them
-pub all_items : (f : Sketch) (ts : List Token) → items ts ≡ tokens_in f → items ts ≡ tokens_in f ++ []
+pub all_items : (f : AnnotatedForest) (ts : List Token) → items ts ≡ tokens_in f → items ts ≡ tokens_in f ++ []
 all_items f ts e = e ∙ sym (append-nil (tokens_in f))
 
 -- trees over all items, with the trivia of the tokens, have all the tokens
-pub dressed_whole_tokens : (f : Sketch) (ts : List Token) → items ts ≡ tokens_in f → tokens_in (dressed_whole f ts) ≡ ts
+pub dressed_whole_tokens : (f : AnnotatedForest) (ts : List Token) → items ts ≡ tokens_in f → tokens_in (dressed_whole f ts) ≡ ts
 dressed_whole_tokens f ts e =
     let us : List Token = left_after f ts in
     let w : IsBared f ts [] = bared f ts [] (all_items f ts e) in
@@ -37,15 +37,15 @@ dressed_whole_tokens f ts e =
     tokens_in-⊕ (dressed f ts) (trivia_before us) ∙ ap (λ x. tokens_in (dressed f ts) ++ x) rest ∙ dressed_tokens f ts [] (all_items f ts e)
 
 -- their leaves have the kinds that their tokens have below their parents
-pub dressed_whole_told : (p : SyntaxKind) (f : Sketch) (ts : List Token) → AreTold p f → AreTold p (dressed_whole f ts)
-dressed_whole_told p f ts h = told-⊕ p (dressed f ts) (trivia_before (left_after f ts)) (told_dressed p f ts h) (told_trivia p (left_after f ts))
+pub dressed_whole_told : (p : SyntaxKind) (f : AnnotatedForest) (ts : List Token) → HaveLeafKinds p f → HaveLeafKinds p (dressed_whole f ts)
+dressed_whole_told p f ts h = leaf_kind-⊕ p (dressed f ts) (trivia_before (left_after f ts)) (told_dressed p f ts h) (told_trivia p (left_after f ts))
 
 -- rows over the same tokens, each with its trivia where its items and the tokens tell it, are the same where they have the same items
-pub dressed_same : (f g : Sketch) (ts : List Token) → f ≡ dressed_whole (clean f) ts → g ≡ dressed_whole (clean g) ts → clean f ≡ clean g → f ≡ g
+pub dressed_same : (f g : AnnotatedForest) (ts : List Token) → f ≡ dressed_whole (clean f) ts → g ≡ dressed_whole (clean g) ts → clean f ≡ clean g → f ≡ g
 dressed_same f g ts d e h = d ∙ ap (λ x. dressed_whole x ts) h ∙ sym e
 
 -- a row over some tokens has their items, without its trivia
-pub clean_items : (f : Sketch) (ts : List Token) → tokens_in f ≡ ts → items ts ≡ tokens_in (clean f)
+pub clean_items : (f : AnnotatedForest) (ts : List Token) → tokens_in f ≡ ts → items ts ≡ tokens_in (clean f)
 clean_items f ts e = ap items (sym e) ∙ sym (clean_tokens f)
 
 -- the trees of a text that is read are what their items and its tokens make of them
@@ -54,23 +54,23 @@ pub read_dressed : (ls : List Lexeme) (tree : Tree) (faults : List Fault) (r : I
 read_dressed ls tree faults r = whole_dressed (placed_from 0 ls) r.last r.root r.runs r.alone r.nothing
 
 -- each leaf has the kind that its token has below its parent
-pub laid_told : (f g : Sketch) (ts : List Token) (es : List Fault) → g ≡ dressed_whole f ts → StandsWhole f es → AreTold NODE_ROOT g
-laid_told f g ts es e s = subst (AreTold NODE_ROOT) (sym e) (dressed_whole_told NODE_ROOT f ts (stands_told s))
+pub laid_told : (f g : AnnotatedForest) (ts : List Token) (es : List Fault) → g ≡ dressed_whole f ts → StandsWhole f es → HaveLeafKinds NODE_ROOT g
+laid_told f g ts es e s = subst (HaveLeafKinds NODE_ROOT) (sym e) (dressed_whole_told NODE_ROOT f ts (stands_told s))
 
 -- no error node begins or ends with trivia
-pub laid_trimmed : (f g : Sketch) (ts : List Token) (es : List Fault) → g ≡ dressed_whole f ts → items ts ≡ tokens_in f → StandsWhole f es → AreFaultsTrimmed g
+pub laid_trimmed : (f g : AnnotatedForest) (ts : List Token) (es : List Fault) → g ≡ dressed_whole f ts → items ts ≡ tokens_in f → StandsWhole f es → AreFaultsTrimmed g
 laid_trimmed f g ts es e i s =
     subst AreFaultsTrimmed (sym e)
     (faults_trimmed-⊕ (dressed f ts) (trivia_before (left_after f ts)) (dressed_trimmed f ts [] (all_items f ts i) (stands_filled s)) (faults_trimmed_trivia (left_after f ts)))
 
 -- names hold their tokens alone, and an entry of a pattern begins with its name
-pub laid_bare : (f g : Sketch) (ts : List Token) (es : List Fault) → g ≡ dressed_whole f ts → AreSpelled (tokens_in f) → StandsWhole f es → AreNamesBare g
+pub laid_bare : (f g : AnnotatedForest) (ts : List Token) (es : List Fault) → g ≡ dressed_whole f ts → AreSpelled (tokens_in f) → StandsWhole f es → AreNamesBare g
 laid_bare f g ts es e a s =
     subst AreNamesBare (sym e) (bare-⊕ (dressed f ts) (trivia_before (left_after f ts)) (dressed_bare f ts (stands_bare s a)) (bare_trivia (left_after f ts)))
 
 -- without errors no node begins or ends with trivia
-pub laid_nodes : (f g : Sketch) (ts : List Token) (es : List Fault) → g ≡ dressed_whole f ts → items ts ≡ tokens_in f → StandsWhole f es → es ≡ [] → AreNodesTrimmed (forget g)
+pub laid_nodes : (f g : AnnotatedForest) (ts : List Token) (es : List Fault) → g ≡ dressed_whole f ts → items ts ≡ tokens_in f → StandsWhole f es → es ≡ [] → AreNodesTrimmed (forget g)
 laid_nodes f g ts es e i s n =
-    subst (λ (x : Sketch). AreNodesTrimmed (forget x)) (sym e)
+    subst (λ (x : AnnotatedForest). AreNodesTrimmed (forget x)) (sym e)
     (nodes_trimmed NODE_ROOT (dressed_whole f ts) (dressed_whole_told NODE_ROOT f ts (stands_told s))
     (edged-⊕ (dressed f ts) (trivia_before (left_after f ts)) (dressed_edged f ts [] (all_items f ts i) (rows_filled f ((whole_rows s).0 n).nodes)) (edged_trivia (left_after f ts))))

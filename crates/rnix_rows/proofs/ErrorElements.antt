@@ -5,7 +5,7 @@ use Rattle.rnix_kinds.specs.declared.kinds.SyntaxKind.TheVariants.{NODE_ERROR, N
 use Rattle.rnix_tree.specs.Forest.{text_of, node}
 use Rattle.rnix_tree.specs.Tree.{Tree, Item, item, extent_of}
 use Rattle.rnix_grammar.specs.Fault.{Fault}
-use Rattle.rnix_grammar.specs.Sketch.{Note, Stray, Unwanted, Extra, Twice, TooDeep, Sketch, token, tokens_in, forget, is_some, AreTold, extent_of as place_of, Token, blank, branch, clean, token_if}
+use Rattle.rnix_grammar.specs.AnnotatedForest.{Note, Stray, Unwanted, Extra, Twice, TooDeep, AnnotatedForest, token, tokens_in, forget, is_some, HaveLeafKinds, extent_of as place_of, Token, blank, branch, clean, token_if}
 use Rattle.rnix_grammar.specs.Reports.{first_kind, report, only_token, entry_name}
 use Rattle.rnix_grammar.specs.Stands.{begins_with_token}
 use Rattle.rnix_grammar.specs.Trim.{AreNamesBare, is_bare, begins_with_node}
@@ -24,14 +24,14 @@ errors-++ t (e ∷ es) fs [] ns h k = absurd h
 errors-++ t (e ∷ es) fs (m ∷ ms) ns h k = (h.0, errors-++ t es fs ms ns h.1 k)
 
 -- what holds of a row in a tree with its tokens
-pub record IsSound (q : SyntaxKind) (s : ℕ) (f : Sketch) : Type 0 where
+pub record IsSound (q : SyntaxKind) (s : ℕ) (f : AnnotatedForest) : Type 0 where
   pub placed : ArePlaced s (tokens_in f)
-  pub told : AreTold q f
+  pub leaf_kind : HaveLeafKinds q f
   pub bare : AreNamesBare f
   pub marked : AreMarked f
 
 -- the first token of an error node
-first_token : (t : Tree) (m s : ℕ) (c : Sketch) → IsRowIn t (m + 1) s (Some m) (forget c) → AreTold NODE_ERROR c → begins_with_token c ≡ true → BeginsWith t m (first_kind (tokens_in c))
+first_token : (t : Tree) (m s : ℕ) (c : AnnotatedForest) → IsRowIn t (m + 1) s (Some m) (forget c) → HaveLeafKinds NODE_ERROR c → begins_with_token c ≡ true → BeginsWith t m (first_kind (tokens_in c))
 first_token t m s (token k x f) h o b =
     let first : item t (m + 1) ≡ _ = row_first t (m + 1) s (Some m) (forget (token k x f)) h (omega arith) in
     record {
@@ -42,14 +42,14 @@ first_token t m s (token k x f) h o b =
 first_token t m s _ h o b = absurd (true_is_not_false (sym b))
 
 -- the error of an error node is of the element that has the kind and the place of the node
-pub report_error : (t : Tree) (m s : ℕ) (n : Note) (c : Sketch) → HasTokens n c → IsRowIn t (m + 1) s (Some m) (forget c) → IsSound NODE_ERROR s c
+pub report_error : (t : Tree) (m s : ℕ) (n : Note) (c : AnnotatedForest) → HasTokens n c → IsRowIn t (m + 1) s (Some m) (forget c) → IsSound NODE_ERROR s c
     → (item t m).kind ≡ NODE_ERROR → (item t m).start ≡ s → (item t m).end ≡ s + length (text_of (forget c)) → IsErrorOf t (report n (tokens_in c)) m
 report_error t m s n c some h w k a b = by n some
   where
     same : (u v w x : ℕ) → u ≡ w → v ≡ x → between w x ≡ between u v
     same u v w x e g = cc
 
-    begins_some : (c : Sketch) → begins_with_token c ≡ true → is_some (tokens_in c) ≡ true
+    begins_some : (c : AnnotatedForest) → begins_with_token c ≡ true → is_some (tokens_in c) ≡ true
     begins_some (token k x f) h = refl
     begins_some _ h = absurd (true_is_not_false (sym h))
 
@@ -58,8 +58,8 @@ report_error t m s n c some h w k a b = by n some
 
     by : (n : Note) → HasTokens n c → IsErrorOf t (report n (tokens_in c)) m
     by TooDeep some = (k, tt, tt)
-    by Stray some = (k, place (begins_some c some), first_token t m s c h w.told some)
-    by (Unwanted until) some = (k, place (begins_some c some), first_token t m s c h w.told some)
+    by Stray some = (k, place (begins_some c some), first_token t m s c h w.leaf_kind some)
+    by (Unwanted until) some = (k, place (begins_some c some), first_token t m s c h w.leaf_kind some)
     by Extra some = (k, place some, tt)
     by Twice some = (k, place some, tt)
 
@@ -68,25 +68,25 @@ pub none_some : {A : Type 0} (x : Token) → None ≡ Some x → A
 none_some x h = absurd (cc)
 
 -- the name that a row begins with is that of a node
-name_node : (k : SyntaxKind) (c f : Sketch) (x : Token) → entry_name (branch k c f) ≡ Some x → (k ≡ NODE_IDENT) × (only_token c ≡ Some x)
+name_node : (k : SyntaxKind) (c f : AnnotatedForest) (x : Token) → entry_name (branch k c f) ≡ Some x → (k ≡ NODE_IDENT) × (only_token c ≡ Some x)
 name_node NODE_IDENT c f x h = (refl, h)
 name_node _ c f x h = none_some x h
 
 -- a bare name with trivia is its token
-pub data IsName (x : Token) : Sketch → Type 0 where
+pub data IsName (x : Token) : AnnotatedForest → Type 0 where
   name : (j : SyntaxKind) → IsName x (token j x blank)
 
 bare_if : (b : Bool) (j : SyntaxKind) (y x : Token) → only_token (token_if b j y blank) ≡ Some x → y ≡ x
 bare_if true j y x h = none_some x h
 bare_if false j y x h = some_same y x h
 
-bare_name : (c : Sketch) (x : Token) → is_bare c ≡ true → only_token (clean c) ≡ Some x → IsName x c
+bare_name : (c : AnnotatedForest) (x : Token) → is_bare c ≡ true → only_token (clean c) ≡ Some x → IsName x c
 bare_name blank x b h = none_some x h
 bare_name (token j y blank) x b h = subst (λ z. IsName x (token j z blank)) (sym (bare_if (is_trivia y.kind) j y x h)) (name j)
 bare_name _ x b h = absurd (true_is_not_false (sym b))
 
 -- a name at the head of an entry
-name_here : (t : Tree) (e s : ℕ) (x : Token) (d f : Sketch) → (item t e).kind ≡ NODE_PAT_ENTRY → IsRowIn t (e + 1) s (Some e) (forget (branch NODE_IDENT d f)) → ArePlaced s (tokens_in d)
+name_here : (t : Tree) (e s : ℕ) (x : Token) (d f : AnnotatedForest) → (item t e).kind ≡ NODE_PAT_ENTRY → IsRowIn t (e + 1) s (Some e) (forget (branch NODE_IDENT d f)) → ArePlaced s (tokens_in d)
     → IsName x d → IsEntryName t e (place_of (x ∷ [])) x.text
 name_here t e s x _ f k h a (name j) =
     let n : ℕ = e + 1 in
@@ -104,7 +104,7 @@ name_here t e s x _ f k h a (name j) =
     }
 
 -- the name that the row of an entry begins with
-pub row_name : (t : Tree) (e s : ℕ) (c : Sketch) (x : Token) → (item t e).kind ≡ NODE_PAT_ENTRY → IsRowIn t (e + 1) s (Some e) (forget c) → ArePlaced s (tokens_in c)
+pub row_name : (t : Tree) (e s : ℕ) (c : AnnotatedForest) (x : Token) → (item t e).kind ≡ NODE_PAT_ENTRY → IsRowIn t (e + 1) s (Some e) (forget c) → ArePlaced s (tokens_in c)
     → AreNamesBare c → begins_with_node c ≡ true → entry_name (clean c) ≡ Some x → IsEntryName t e (place_of (x ∷ [])) x.text
 row_name t e s (branch j d f) x k h a r b g =
     let w = name_node j (clean d) (clean f) x g in

@@ -4,7 +4,7 @@ use Rattle.std.proofs.lemmas.List.{map-append}
 use Rattle.std.specs.Prelude.{map, if◌then◌else◌}
 use Rattle.rnix_kinds.specs.declared.kinds.SyntaxKind.{SyntaxKind}
 use Rattle.rnix_kinds.specs.declared.kinds.SyntaxKind.TheVariants.{TOKEN_CUR_POS, TOKEN_IDENT, TOKEN_OR, NODE_CUR_POS, NODE_IDENT, NODE_ROOT}
-use Rattle.rnix_grammar.specs.Sketch.{Token, lexeme_of, Sketch, blank, token, branch, fault, tokens_in, forget, told_as, AreTold}
+use Rattle.rnix_grammar.specs.AnnotatedForest.{Token, lexeme_of, AnnotatedForest, blank, token, branch, fault, tokens_in, forget, leaf_kind_as, HaveLeafKinds}
 use Rattle.rnix_grammar.specs.Named.{is_spelled, AreSpelled}
 use Rattle.rnix_grammar.specs.Yield.{untold, yield}
 use Rattle.rnix_grammar.specs.Tables.{is_or, depth_limit}
@@ -21,7 +21,7 @@ use Rattle.rnix_lemmas.proofs.NestTrees.{HaveRows, rows_nest}
 use Rattle.rnix_rows.proofs.StandsShapes.{AreBareRows, IsBare}
 
 -- the trees of a row without error nodes, over its tokens, are the row
-pub beyond_row : (f : Sketch) (us : List Token) → AreBareRows f → beyond (forget f) (tokens_in f ++ us) ≡ us
+pub beyond_row : (f : AnnotatedForest) (us : List Token) → AreBareRows f → beyond (forget f) (tokens_in f ++ us) ≡ us
 beyond_row blank us h = refl
 beyond_row (token k t f) us h = beyond_row f us h
 beyond_row (branch k c f) us h =
@@ -29,7 +29,7 @@ beyond_row (branch k c f) us h =
 beyond_row (fault n c f) us h = absurd h
 
 -- a row of bare trees, laid over its own tokens, is itself
-pub laid_row_same : (f : Sketch) (us : List Token) → AreBareRows f → laid (forget f) (tokens_in f ++ us) ≡ f
+pub laid_row_same : (f : AnnotatedForest) (us : List Token) → AreBareRows f → laid (forget f) (tokens_in f ++ us) ≡ f
 laid_row_same blank us h = refl
 laid_row_same (token k t f) us h = ap (token k t) (laid_row_same f us h)
 laid_row_same (branch k c f) us h =
@@ -38,7 +38,7 @@ laid_row_same (branch k c f) us h =
 laid_row_same (fault n c f) us h = absurd h
 
 -- and so where no more tokens follow
-pub laid_same : (f : Sketch) → AreBareRows f → laid (forget f) (tokens_in f) ≡ f
+pub laid_same : (f : AnnotatedForest) → AreBareRows f → laid (forget f) (tokens_in f) ≡ f
 laid_same f h = ap (laid (forget f)) (sym (append-nil (tokens_in f))) ∙ laid_row_same f [] h
 
 -- each leaf stands for its token
@@ -54,19 +54,19 @@ kept_back TOKEN_IDENT text h = plain_back text (is_or text) refl h
 kept_back TOKEN_CUR_POS text h = absurd (true_is_not_false (sym h))
 kept_back _ text h = refl
 
-ident_back : (k : SyntaxKind) (text : List ℕ) → is_spelled k text ≡ true → untold (told_as NODE_IDENT k) text ≡ k
+ident_back : (k : SyntaxKind) (text : List ℕ) → is_spelled k text ≡ true → untold (leaf_kind_as NODE_IDENT k) text ≡ k
 ident_back TOKEN_OR text h = name_back text h
 ident_back TOKEN_CUR_POS text h = absurd (true_is_not_false (sym h))
 ident_back k text h = kept_back k text h
 
-told_back : (p k : SyntaxKind) (text : List ℕ) → is_spelled k text ≡ true → untold (told_as p k) text ≡ k
+told_back : (p k : SyntaxKind) (text : List ℕ) → is_spelled k text ≡ true → untold (leaf_kind_as p k) text ≡ k
 told_back NODE_IDENT k text h = ident_back k text h
 told_back NODE_CUR_POS TOKEN_IDENT text h = refl
 told_back NODE_CUR_POS k text h = kept_back k text h
 told_back _ k text h = kept_back k text h
 
 -- so the trees stand for the tokens
-pub yields_same : (p : SyntaxKind) (f : Sketch) → AreBareRows f → AreTold p f → AreSpelled (tokens_in f) → yield (forget f) ≡ map lexeme_of (tokens_in f)
+pub yields_same : (p : SyntaxKind) (f : AnnotatedForest) → AreBareRows f → HaveLeafKinds p f → AreSpelled (tokens_in f) → yield (forget f) ≡ map lexeme_of (tokens_in f)
 yields_same p blank h t s = refl
 yields_same p (token k x f) h t s =
     ap (λ z. (z, x.text) ∷ yield (forget f)) (ap (λ z. untold z x.text) t.0 ∙ told_back p x.kind x.text s.0) ∙ ap (λ z. lexeme_of x ∷ z) (yields_same p f h t.1 s.1)
@@ -76,18 +76,18 @@ yields_same p (branch k c f) h t s =
 yields_same p (fault n c f) h t s = absurd h
 
 -- the trees of such a row have rows of their kinds
-have_rows : (f : Sketch) → AreBareRows f → HaveRows (forget f)
+have_rows : (f : AnnotatedForest) → AreBareRows f → HaveRows (forget f)
 have_rows blank h = tt
 have_rows (token k t f) h = have_rows f h
 have_rows (branch k c f) h = (h.0, have_rows c h.2, have_rows f h.3)
 have_rows (fault n c f) h = absurd h
 
 -- so the trees of a whole text nest by their kinds as they do along the rows
-pub bare_nest : (f : Sketch) → IsBare f → nest NODE_ROOT (forget f) ≡ nesting (At RootStart) (forget f)
+pub bare_nest : (f : AnnotatedForest) → IsBare f → nest NODE_ROOT (forget f) ≡ nesting (At RootStart) (forget f)
 bare_nest f h = rows_nest (forget f) h.root (have_rows f h.nodes)
 
 -- where the pieces of its paths touch, such a row is a derivation of its tokens
-pub derived : (f : Sketch) → AreBareRows f → AreTold NODE_ROOT f → AreSpelled (tokens_in f) → IsExpression (forget f) → nest NODE_ROOT (forget f) ≤ depth_limit → ArePaths f []
+pub derived : (f : AnnotatedForest) → AreBareRows f → HaveLeafKinds NODE_ROOT f → AreSpelled (tokens_in f) → IsExpression (forget f) → nest NODE_ROOT (forget f) ≤ depth_limit → ArePaths f []
     → IsDerivation (forget f) (tokens_in f)
 derived f h t s strict shallow paths = record {
   strict = strict;

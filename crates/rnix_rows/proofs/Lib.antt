@@ -23,7 +23,7 @@ pub mod WalkErrors
 pub mod OrderedErrors
 pub mod ParsedRanges
 pub mod ReadsNest
-pub mod WantingSpots
+pub mod WantingRowStates
 pub mod BegunTrees
 pub mod QuietRows
 pub mod NodeForms

@@ -9,8 +9,8 @@ use Rattle.rnix_kinds.specs.Lexical.Tokens.{Lexeme}
 use Rattle.rnix_tree.specs.Forest.{Forest, empty, leaf, node, element_count}
 use Rattle.rnix_tree.specs.Tree.{Tree, forest_of, part_of}
 use Rattle.rnix_grammar.specs.Fault.{Fault}
-use Rattle.rnix_grammar.specs.Sketch.{Sketch, blank, token, branch, fault, forget, tokens_in, AreTold}
-use Rattle.rnix_grammar.specs.Rows.{is_row, whole, start, go}
+use Rattle.rnix_grammar.specs.AnnotatedForest.{AnnotatedForest, blank, token, branch, fault, forget, tokens_in, HaveLeafKinds}
+use Rattle.rnix_grammar.specs.Rows.{is_row, whole, start, advance}
 use Rattle.rnix_grammar.specs.Shape.{item_kinds, AreRows, IsShaped}
 use Rattle.rnix_grammar.specs.Named.{AreSpelled}
 use Rattle.rnix_grammar.specs.Derivation.{has_tokens_alone}
@@ -71,7 +71,7 @@ tokens_part m n (node k c f) h =
     (tokens_part m (n + 1 + element_count c) f both.1))
 
 -- the leaves of a tree that is read have the kinds of tokens
-forgotten_tokens : (p : SyntaxKind) (f : Sketch) → AreTold p f → AreSpelled (tokens_in f) → HasTokens (forget f)
+forgotten_tokens : (p : SyntaxKind) (f : AnnotatedForest) → HaveLeafKinds p f → AreSpelled (tokens_in f) → HasTokens (forget f)
 forgotten_tokens p blank t h = refl
 forgotten_tokens p (token k x f) t h =
     both_true (is_token k) (has_tokens_alone (forget f)) (ap is_token t.0 ∙ told_token p x.kind (spelled_token x.kind x.text h.0)) (forgotten_tokens p f t.1 h.1)
@@ -86,10 +86,10 @@ forgotten_tokens p (fault n c f) t h =
 pub parsed_tokens : (tokens : List Lexeme) (tree : Tree) (faults : List Fault) → AreRuled tokens → IsParsed tokens tree faults → HasTokens (forest_of tree)
 parsed_tokens tokens tree faults ruled h =
     ap (λ (t : Tree). has_tokens_alone (forest_of t)) h.reading.tree_is
-    ∙ both_true (has_tokens_alone (forget h.reading.sketch)) true
-    (forgotten_tokens NODE_ROOT h.reading.sketch h.told (subst AreSpelled (sym h.reading.leaves) (spelled_from 0 tokens ruled))) refl
+    ∙ both_true (has_tokens_alone (forget h.reading.annotated)) true
+    (forgotten_tokens NODE_ROOT h.reading.annotated h.leaf_kind (subst AreSpelled (sym h.reading.leaves) (spelled_from 0 tokens ruled))) refl
 
 -- a kind that has rows is that of a node
 pub row_of_node : (k : SyntaxKind) (ks : List SyntaxKind) → is_row k ks ≡ true → is_token k ≡ false
 row_of_node k [] h = not_if (is_token k) (implied (λ k. whole (start k)) (λ k. if is_token k then false else true) refl k h)
-row_of_node k (j ∷ ks) h = not_if (is_token k) (implied has_row (λ k. if is_token k then false else true) refl k (starts_row k j (run_live (go (start k) j) ks h)))
+row_of_node k (j ∷ ks) h = not_if (is_token k) (implied has_row (λ k. if is_token k then false else true) refl k (starts_row k j (run_live (advance (start k) j) ks h)))

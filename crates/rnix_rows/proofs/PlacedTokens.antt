@@ -3,7 +3,7 @@ use Rattle.std.proofs.Common.{◌≡◌, ℕ, ◌+◌, true, List, [], ◌∷◌
 use Rattle.rnix_kinds.specs.Lexical.Tokens.{Lexeme}
 use Rattle.rnix_tree.specs.Forest.{text_of}
 use Rattle.rnix_tree.specs.Range.{Extent}
-use Rattle.rnix_grammar.specs.Sketch.{Token, Sketch, blank, token, branch, fault, tokens_in, forget, placed_from, is_some, extent_of, end_from}
+use Rattle.rnix_grammar.specs.AnnotatedForest.{Token, AnnotatedForest, blank, token, branch, fault, tokens_in, forget, placed_from, is_some, extent_of, end_from}
 use Rattle.rnix_lemmas.proofs.Basics.{true_is_not_false}
 
 -- each token stands behind the one before, the first at the given place
@@ -27,7 +27,7 @@ text_in-length [] us = omega arith
 text_in-length (t ∷ ts) us = omega (arith, length-append t.text (text_in (ts ++ us)), length-append t.text (text_in ts), text_in-length ts us)
 
 -- the trees of a row have the text of its tokens
-pub forget-length : (f : Sketch) → length (text_of (forget f)) ≡ length (text_in (tokens_in f))
+pub forget-length : (f : AnnotatedForest) → length (text_of (forget f)) ≡ length (text_in (tokens_in f))
 forget-length blank = refl
 forget-length (token k t f) = omega (arith, length-append t.text (text_of (forget f)), length-append t.text (text_in (tokens_in f)), forget-length f)
 forget-length (branch k c f) = omega (arith, length-append (text_of (forget c)) (text_of (forget f)), text_in-length (tokens_in c) (tokens_in f), forget-length c, forget-length f)
@@ -61,5 +61,5 @@ placed_extent n m (t ∷ ts) s e h = same t.start n (end_from t.end ts) m h.0 (p
     same a b c d e g = cc
 
 -- the extent of a row's tokens is that of its trees' text
-pub row_extent : (s : ℕ) (f : Sketch) → is_some (tokens_in f) ≡ true → ArePlaced s (tokens_in f) → extent_of (tokens_in f) ≡ between s (s + length (text_of (forget f)))
+pub row_extent : (s : ℕ) (f : AnnotatedForest) → is_some (tokens_in f) ≡ true → ArePlaced s (tokens_in f) → extent_of (tokens_in f) ≡ between s (s + length (text_of (forget f)))
 row_extent s f some h = placed_extent s (s + length (text_of (forget f))) (tokens_in f) some (ap (λ z. s + z) (sym (forget-length f))) h

@@ -4,14 +4,14 @@ use Rattle.std.specs.Prelude.{if◌then◌else◌}
 use Rattle.rnix_kinds.specs.declared.kinds.SyntaxKind.{SyntaxKind}
 use Rattle.rnix_kinds.specs.declared.kinds.SyntaxKind.TheVariants.{NODE_PAT_ENTRY}
 use Rattle.rnix_grammar.specs.Fault.{Fault, named_twice}
-use Rattle.rnix_grammar.specs.Sketch.{Token, Note, Stray, Twice, TooDeep, Sketch, blank, branch, fault, ◌⊕◌, one_token, one_fault, row_of, tokens_in, extent_of}
+use Rattle.rnix_grammar.specs.AnnotatedForest.{Token, Note, Stray, Twice, TooDeep, AnnotatedForest, blank, branch, fault, ◌⊕◌, one_token, one_fault, row_of, tokens_in, extent_of}
 use Rattle.rnix_grammar.specs.Reports.{report, repeated_if, entry_name, has_entry, repeats}
-use Rattle.rnix_grammar.specs.Rows.{Spot}
-use Rattle.rnix_grammar.specs.Stands.{Stands, end, leaf, lost, wrong, second, inner, IsBeside}
-use Rattle.rnix_grammar.specs.Mended.{is_ended, others, is_misplaced, NoneMisplaced, AreSettled, IsNamedList, AreNamedLists}
+use Rattle.rnix_grammar.specs.Rows.{RowState}
+use Rattle.rnix_grammar.specs.Stands.{Stands, end, leaf, missing_part, wrong, second, inner, IsBeside}
+use Rattle.rnix_grammar.specs.Repaired.{is_ended, others, is_misplaced, NoneMisplaced, AreSettled, IsNamedList, AreNamedLists}
 use Rattle.rnix_grammar.specs.Shape.{reports_behind}
-use Rattle.rnix_lemmas.proofs.SketchLemmas.{tokens_in-row_of}
-use Rattle.rnix_lemmas.proofs.LackFacts.{lack_ended}
+use Rattle.rnix_lemmas.proofs.AnnotatedForestLemmas.{tokens_in-row_of}
+use Rattle.rnix_lemmas.proofs.MissingFacts.{missing_ended}
 use Rattle.rnix_lemmas.proofs.Basics.{true_is_not_false, not_nil, none_right, none_left}
 
 -- the others of two lists
@@ -27,7 +27,7 @@ plain_report Stray ts = refl
 plain_report _ ts = cc
 
 -- leaves alone have no errors
-pub reports-row_of : (b : Sketch) (ts : List Token) → reports_behind b (row_of ts) ≡ []
+pub reports-row_of : (b : AnnotatedForest) (ts : List Token) → reports_behind b (row_of ts) ≡ []
 reports-row_of b [] = refl
 reports-row_of b (t ∷ ts) = reports-row_of (b ⊕ one_token t.kind t) ts
 
@@ -94,7 +94,7 @@ pub calm_second : (ts : List Token) → AreCalm (report Twice ts ∷ [])
 calm_second ts = calm_one (report Twice ts) refl refl tt
 
 -- and so are those of a node that repeats a name
-pub calm_repeats : (k : SyntaxKind) (b c : Sketch) → AreCalm (repeats k b c)
+pub calm_repeats : (k : SyntaxKind) (b c : AnnotatedForest) → AreCalm (repeats k b c)
 calm_repeats NODE_PAT_ENTRY b c = by (entry_name c)
   where
     by : (o : Option Token) → AreCalm (repeated_if o b)
@@ -105,14 +105,14 @@ calm_repeats NODE_PAT_ENTRY b c = by (entry_name c)
 calm_repeats _ b c = calm_none
 
 -- an error node with no token is nested too deep
-empty_report : (n : Note) (p : SyntaxKind) (a : ℕ) (q r : Spot) (b : Sketch) (i : ℕ) (us : List Token) → IsBeside n p a q r b i [] us → is_misplaced (report n []) ≡ false
+empty_report : (n : Note) (p : SyntaxKind) (a : ℕ) (q r : RowState) (b : AnnotatedForest) (i : ℕ) (us : List Token) → IsBeside n p a q r b i [] us → is_misplaced (report n []) ≡ false
 empty_report TooDeep p a q r b i us h = refl
 empty_report _ p a q r b i us h = absurd h
 
 -- What is so of the errors of a row: those that are not of the end of the text are those of the error nodes and of repeated entries, as these close;
 -- each list of wanted kinds is one of those that tokens are wanted by; where no token is, none is wrong; behind an error of the end of the text no item
 -- is left, and no token is wrong.
-pub record Errors (f : Sketch) (us : List Token) (rs es : List Fault) : Type 0 where
+pub record Errors (f : AnnotatedForest) (us : List Token) (rs es : List Fault) : Type 0 where
   pub reports : others es ≡ rs
   pub named : AreNamedLists es
   pub none : tokens_in f ≡ [] → NoneMisplaced es
@@ -120,7 +120,7 @@ pub record Errors (f : Sketch) (us : List Token) (rs es : List Fault) : Type 0 w
   pub settled : AreSettled es
 
 -- those of a node, its own and those behind it
-joined : (c f g : Sketch) (us vs : List Token) (ds os es ps rs : List Fault) → tokens_in g ≡ tokens_in c ++ tokens_in f → vs ≡ tokens_in f ++ us → Errors c vs ps ds
+joined : (c f g : AnnotatedForest) (us vs : List Token) (ds os es ps rs : List Fault) → tokens_in g ≡ tokens_in c ++ tokens_in f → vs ≡ tokens_in f ++ us → Errors c vs ps ds
     → AreCalm os → Errors f us rs es → Errors g us (ps ++ (os ++ rs)) ((ds ++ os) ++ es)
 joined c f g us vs ds os es ps rs t v h o w = record {
   reports = rw (others-++ (ds ++ os) es, others-++ ds os, h.reports, o.reports, w.reports) (append_assoc ps os rs);
@@ -137,19 +137,19 @@ joined c f g us vs ds os es ps rs t v h o w = record {
 }
 
 -- so it is with each row
-pub stands_errors : {p : SyntaxKind} {a : ℕ} {q q' : Spot} {b : Sketch} {i : ℕ} {us : List Token} {f : Sketch} {es : List Fault}
+pub stands_errors : {p : SyntaxKind} {a : ℕ} {q q' : RowState} {b : AnnotatedForest} {i : ℕ} {us : List Token} {f : AnnotatedForest} {es : List Fault}
     → Stands p a q q' b i us f es → Errors f us (reports_behind b f) es
 stands_errors end = record { reports = refl; named = tt; none = λ n. tt; last = λ h. absurd h; settled = tt }
 stands_errors (leaf {f = f} h tight g l c j s) =
     let w = stands_errors s in
     record { reports = w.reports ∙ ap (λ x. reports_behind x f) c; named = w.named; none = λ n. absurd (not_nil n); last = w.last; settled = w.settled }
-stands_errors {b = b} {us = us} {f = f} (lost {x = x} {y = y} {e = e} {es = es} u n l s z) =
+stands_errors {b = b} {us = us} {f = f} (missing_part {x = x} {y = y} {e = e} {es = es} u n l s z) =
     let w = stands_errors s in
-    let lack = lack_ended x y e l in
+    let missing = missing_ended x y e l in
     subst (Errors f us (reports_behind b f)) (sym z) (record {
-      reports = ap (λ x. if x then others es else e ∷ others es) lack.0 ∙ w.reports;
-      named = (lack.1, w.named);
-      none = λ n. (ended_placed e lack.0, w.none n);
+      reports = ap (λ x. if x then others es else e ∷ others es) missing.0 ∙ w.reports;
+      named = (missing.1, w.named);
+      none = λ n. (ended_placed e missing.0, w.none n);
       last = λ h. u;
       settled = (w.settled, λ h. w.none n);
     })

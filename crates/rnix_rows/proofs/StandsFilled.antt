@@ -10,12 +10,12 @@ use Rattle.rnix_tree.specs.Equality.{same_kind, same_kind-decides}
 use Rattle.rnix_grammar.specs.declared.place.Place.{Place}
 use Rattle.rnix_grammar.specs.declared.place.Place.TheVariants as p
 use Rattle.rnix_grammar.specs.Fault.{Fault}
-use Rattle.rnix_grammar.specs.Sketch.{Token, Note, Sketch, blank, token, branch, fault, row_of, forget, tokens_in, is_some, Stray, Unwanted, Extra, Twice, TooDeep, clean, token_if}
+use Rattle.rnix_grammar.specs.AnnotatedForest.{Token, Note, AnnotatedForest, blank, token, branch, fault, row_of, forget, tokens_in, is_some, Stray, Unwanted, Extra, Twice, TooDeep, clean, token_if}
 use Rattle.rnix_grammar.specs.Layout.{is_last, items}
-use Rattle.rnix_grammar.specs.Missing.{lack, run_at}
-use Rattle.rnix_grammar.specs.Mended.{kinds_of}
-use Rattle.rnix_grammar.specs.Rows.{Spot, Start, SecondStart, At, run, go, live, start, whole}
-use Rattle.rnix_grammar.specs.Stands.{Stands, end, leaf, lost, wrong, second, inner, is_filled, suits, begins_with_token, IsBeside}
+use Rattle.rnix_grammar.specs.Missing.{missing, run_at}
+use Rattle.rnix_grammar.specs.Repaired.{kinds_of}
+use Rattle.rnix_grammar.specs.Rows.{RowState, Start, SecondStart, At, run, advance, live, start, whole}
+use Rattle.rnix_grammar.specs.Stands.{Stands, end, leaf, missing_part, wrong, second, inner, is_filled, suits, begins_with_token, IsBeside}
 use Rattle.rnix_lemmas.proofs.Basics.{true_is_not_false}
 use Rattle.rnix_lemmas.proofs.ImitateLemmas.{start_half}
 use Rattle.rnix_lemmas.proofs.RowKinds.{has_row}
@@ -28,14 +28,14 @@ use Rattle.rnix_lemmas.proofs.ReportLemmas.{clean_tokens}
 use Rattle.rnix_lemmas.proofs.OpeningRows.{HasRow, Opening, by_token, by_branch, by_fault, opening, no_row}
 
 -- each node of a row has trees, and none is that of what is too deep
-abbrev pub AreFilled : Sketch → Type 0
+abbrev pub AreFilled : AnnotatedForest → Type 0
 AreFilled blank = Unit {0}
 AreFilled (token k t f) = AreFilled f
 AreFilled (branch k c f) = HasTree c × AreFilled c × AreFilled f
 AreFilled (fault n c f) = (is_last n ≡ false) × HasTree c × AreFilled c × AreFilled f
 
 -- so it is in each error node of a row, of which some may be empty
-abbrev pub AreFaultsFilled : Sketch → Type 0
+abbrev pub AreFaultsFilled : AnnotatedForest → Type 0
 AreFaultsFilled blank = Unit {0}
 AreFaultsFilled (token k t f) = AreFaultsFilled f
 AreFaultsFilled (branch k c f) = AreFaultsFilled c × AreFaultsFilled f
@@ -55,23 +55,23 @@ row_tree [] h = true_is_not_false (sym h)
 row_tree (t ∷ ts) h = tt
 
 -- what has tokens has a tree
-tokens_tree : (f : Sketch) → is_some (tokens_in f) ≡ true → HasTree f
+tokens_tree : (f : AnnotatedForest) → is_some (tokens_in f) ≡ true → HasTree f
 tokens_tree blank h = true_is_not_false (sym h)
 tokens_tree _ h = tt
 
 -- where each node has its row each has a tree
-pub rows_filled : (f : Sketch) → AreBareRows f → AreFilled f
+pub rows_filled : (f : AnnotatedForest) → AreBareRows f → AreFilled f
 rows_filled blank h = tt
 rows_filled (token k t f) h = rows_filled f h
 rows_filled (branch k c f) h = (by c h.0, rows_filled c h.2, rows_filled f h.3)
   where
-    by : (c : Sketch) → whole (run (start k) (kinds_of (forget c))) ≡ true → HasTree c
+    by : (c : AnnotatedForest) → whole (run (start k) (kinds_of (forget c))) ≡ true → HasTree c
     by blank w = true_is_not_false (sym w ∙ start_half k)
     by _ w = tt
 rows_filled (fault n c f) h = absurd h
 
--- the spots of a second name, and those of a name
-abbrev pub is_calm : Spot → Bool
+-- the states of a second name, and those of a name
+abbrev pub is_calm : RowState → Bool
 is_calm (Start NODE_IDENT) = true
 is_calm SecondStart = true
 is_calm (At p.TwiceName) = true
@@ -79,20 +79,20 @@ is_calm (At p.TwicePast) = true
 is_calm (At p.Past) = true
 is_calm q = false
 
--- what is missing at a place leads to such a spot, and so does a run
+-- what is missing at a place leads to such a state, and so does a run
 abbrev is_calm_behind : {A : Type 0} → Option (A × Place) → Bool
 is_calm_behind None = true
 is_calm_behind (Some w) = is_calm (At w.1)
 
-abbrev leads_calm : Spot → Bool
-leads_calm (At x) = is_calm_behind (lack x) && is_calm_behind (run_at x)
+abbrev leads_calm : RowState → Bool
+leads_calm (At x) = is_calm_behind (missing x) && is_calm_behind (run_at x)
 leads_calm q = true
 
 -- no operand stands there; each goes on to another, and a node there is a name
-abbrev goes_calm : Spot → SyntaxKind → Bool
-goes_calm q k = if live (go q k) then is_calm (go q k) && (if has_row k then same_kind NODE_IDENT k else true) else true
+abbrev goes_calm : RowState → SyntaxKind → Bool
+goes_calm q k = if live (advance q k) then is_calm (advance q k) && (if has_row k then same_kind NODE_IDENT k else true) else true
 
-calm : (q : Spot) → is_calm q ≡ true → (live (go q NODE_LITERAL) ≡ false) × (leads_calm q ≡ true) × (list_all (goes_calm q) all_kinds ≡ true)
+calm : (q : RowState) → is_calm q ≡ true → (live (advance q NODE_LITERAL) ≡ false) × (leads_calm q ≡ true) × (list_all (goes_calm q) all_kinds ≡ true)
 calm (Start NODE_IDENT) h = (refl, refl, refl)
 calm SecondStart h = (refl, refl, refl)
 calm (At p.TwiceName) h = (refl, refl, refl)
@@ -100,68 +100,68 @@ calm (At p.TwicePast) h = (refl, refl, refl)
 calm (At p.Past) h = (refl, refl, refl)
 calm _ h = absurd (true_is_not_false (sym h))
 
-calm_goes : (q : Spot) (k : SyntaxKind) → is_calm q ≡ true → live (go q k) ≡ true → (is_calm (go q k) ≡ true) × ((if has_row k then same_kind NODE_IDENT k else true) ≡ true)
+calm_goes : (q : RowState) (k : SyntaxKind) → is_calm q ≡ true → live (advance q k) ≡ true → (is_calm (advance q k) ≡ true) × ((if has_row k then same_kind NODE_IDENT k else true) ≡ true)
 calm_goes q k h l =
-    and_parts (is_calm (go q k)) (if has_row k then same_kind NODE_IDENT k else true)
-    (sym (ap (λ w. if w then is_calm (go q k) && (if has_row k then same_kind NODE_IDENT k else true) else true) l) ∙ every (goes_calm q) (calm q h).2 k)
+    and_parts (is_calm (advance q k)) (if has_row k then same_kind NODE_IDENT k else true)
+    (sym (ap (λ w. if w then is_calm (advance q k) && (if has_row k then same_kind NODE_IDENT k else true) else true) l) ∙ every (goes_calm q) (calm q h).2 k)
 
-calm_name : (q : Spot) (k : SyntaxKind) → is_calm q ≡ true → live (go q k) ≡ true → has_row k ≡ true → k ≡ NODE_IDENT
+calm_name : (q : RowState) (k : SyntaxKind) → is_calm q ≡ true → live (advance q k) ≡ true → has_row k ≡ true → k ≡ NODE_IDENT
 calm_name q k h l r = sym ((same_kind-decides NODE_IDENT k).0 (sym (ap (λ w. if w then same_kind NODE_IDENT k else true) r) ∙ (calm_goes q k h l).1))
 
 -- an error node there is a run
-pub record IsCalmFault (n : Note) (r : Spot) (ts : List Token) : Type 0 where
+pub record IsCalmFault (n : Note) (r : RowState) (ts : List Token) : Type 0 where
   pub last : is_last n ≡ false
   pub some : is_some ts ≡ true
   pub calm : is_calm r ≡ true
 
-calm_fault : {n : Note} {q r : Spot} {ts : List Token} → IsAside n q r ts → is_calm q ≡ true → IsCalmFault n r ts
+calm_fault : {n : Note} {q r : RowState} {ts : List Token} → IsAside n q r ts → is_calm q ≡ true → IsCalmFault n r ts
 calm_fault {q = q} (a_number g l) h = absurd (true_is_not_false (sym l ∙ sym (ap live g) ∙ (calm q h).0))
 calm_fault (a_run x y until n t e f w) h =
     let here : is_calm (At x) ≡ true = sym (ap is_calm e) ∙ h in
-    record { last = n; some = t; calm = ap is_calm f ∙ ap is_calm_behind (sym w) ∙ (and_parts (is_calm_behind (lack x)) (is_calm_behind (run_at x)) (calm (At x) here).1).1 }
+    record { last = n; some = t; calm = ap is_calm f ∙ ap is_calm_behind (sym w) ∙ (and_parts (is_calm_behind (missing x)) (is_calm_behind (run_at x)) (calm (At x) here).1).1 }
 calm_fault (at_end t e) h = absurd (true_is_not_false (sym h ∙ ap is_calm e))
 
 -- the row of a name, and that of a second name, have trees wherever they have nodes
-pub calm_filled : {p : SyntaxKind} {a : ℕ} {q q' : Spot} {b : Sketch} {i : ℕ} {us : List Token} {f : Sketch} {es : List Fault}
+pub calm_filled : {p : SyntaxKind} {a : ℕ} {q q' : RowState} {b : AnnotatedForest} {i : ℕ} {us : List Token} {f : AnnotatedForest} {es : List Fault}
     → Stands p a q q' b i us f es → is_calm q ≡ true → AreFilled f
 calm_filled end m = tt
 calm_filled {q = q} (leaf {k = k} h tight g l c j s) m = calm_filled s (sym (ap is_calm g) ∙ (calm_goes q k m (ap live g ∙ l)).0)
-calm_filled (lost {x = x} {y = y} {e = e} u n l s z) m = calm_filled s (ap is_calm_behind (sym l) ∙ (and_parts (is_calm_behind (lack x)) (is_calm_behind (run_at x)) (calm (At x) m).1).0)
+calm_filled (missing_part {x = x} {y = y} {e = e} u n l s z) m = calm_filled s (ap is_calm_behind (sym l) ∙ (and_parts (is_calm_behind (missing x)) (is_calm_behind (run_at x)) (calm (At x) m).1).0)
 calm_filled {p = p} {a = a} {q = q} {b = b} {i = i} (wrong {r = r} {vs = vs} note ts h v w d j s z) m =
     let x : IsCalmFault note r ts = calm_fault (aside note p a q r b i ts vs w) m in
     (x.last, subst HasTree (sym h) (row_tree ts x.some), subst AreFilled (sym h) (row_filled ts), calm_filled s x.calm)
 calm_filled (second v s y o e r d j x z) m = absurd (true_is_not_false (sym m ∙ ap is_calm e))
 calm_filled {q = q} (inner {c = c} {k = k} v s y form tight g l d j x z) m =
-    let live_ : live (go q k) ≡ true = ap live g ∙ l in
+    let live_ : live (advance q k) ≡ true = ap live g ∙ l in
     let name : k ≡ NODE_IDENT = calm_name q k m live_ (stands_row k s refl y) in
     let some : is_some (tokens_in c) ≡ true = ap (λ w. is_filled w c) (sym name) ∙ (and_parts (is_filled k c) (suits q k c) form).0 in
     (tokens_tree c some, calm_filled s (ap (λ w. is_calm (start w)) name), calm_filled x (sym (ap is_calm g) ∙ (calm_goes q k m live_).0))
 
 -- so no error node of a row that stands has an empty node
-pub stands_filled : {p : SyntaxKind} {a : ℕ} {q q' : Spot} {b : Sketch} {i : ℕ} {us : List Token} {f : Sketch} {es : List Fault} → Stands p a q q' b i us f es → AreFaultsFilled f
+pub stands_filled : {p : SyntaxKind} {a : ℕ} {q q' : RowState} {b : AnnotatedForest} {i : ℕ} {us : List Token} {f : AnnotatedForest} {es : List Fault} → Stands p a q q' b i us f es → AreFaultsFilled f
 stands_filled end = tt
 stands_filled (leaf h tight g l c j s) = stands_filled s
-stands_filled (lost u x l s z) = stands_filled s
+stands_filled (missing_part u x l s z) = stands_filled s
 stands_filled (wrong note ts h v x d j s z) = (subst AreFilled (sym h) (row_filled ts), subst AreFaultsFilled (sym h) (row_faults ts), stands_filled s)
 stands_filled (second v s y o e r d j x z) = (calm_filled s refl, stands_filled s, stands_filled x)
 stands_filled (inner v s y form tight g l d j x z) = (stands_filled s, stands_filled x)
 
 -- an error node begins with a token, or at least has some, unless it is what is too deep
-abbrev pub HasTokens : Note → Sketch → Type 0
+abbrev pub HasTokens : Note → AnnotatedForest → Type 0
 HasTokens Stray c = begins_with_token c ≡ true
 HasTokens (Unwanted until) c = begins_with_token c ≡ true
 HasTokens TooDeep c = Unit {0}
 HasTokens n c = is_some (tokens_in c) ≡ true
 
 -- each error node of a row has tokens, but for what is too deep, and nodes without a note are no error nodes
-abbrev pub AreMarked : Sketch → Type 0
+abbrev pub AreMarked : AnnotatedForest → Type 0
 AreMarked blank = Unit {0}
 AreMarked (token k t f) = AreMarked f
 AreMarked (branch k c f) = (is_error_node k ≡ false) × AreMarked c × AreMarked f
 AreMarked (fault n c f) = HasTokens n c × AreMarked c × AreMarked f
 
 -- what is beside an error node
-beside_some : (p : SyntaxKind) (a : ℕ) (q r : Spot) (b : Sketch) (i : ℕ) (n : Note) (ts us : List Token) → IsBeside n p a q r b i ts us → HasTokens n (row_of ts)
+beside_some : (p : SyntaxKind) (a : ℕ) (q r : RowState) (b : AnnotatedForest) (i : ℕ) (n : Note) (ts us : List Token) → IsBeside n p a q r b i ts us → HasTokens n (row_of ts)
 beside_some p a q r b i TooDeep ts us h = tt
 beside_some p a q r b i Stray (t ∷ ts) us h = refl
 beside_some p a q r b i (Unwanted until) (t ∷ ts) us h = refl
@@ -174,32 +174,32 @@ marked-row_of [] = tt
 marked-row_of (t ∷ ts) = marked-row_of ts
 
 -- a second name has tokens
-second_some : {c : Sketch} → Opening NODE_ERROR SecondStart blank c → is_some (tokens_in c) ≡ true
+second_some : {c : AnnotatedForest} → Opening NODE_ERROR SecondStart blank c → is_some (tokens_in c) ≡ true
 second_some (by_token e op l) = refl
 second_some (by_branch {k = k} {c = c} row lev l more) = absurd (by k l row)
   where
-    by : (k : SyntaxKind) → live (go SecondStart k) ≡ true → HasRow k (start k) blank c → ⊥
+    by : (k : SyntaxKind) → live (advance SecondStart k) ≡ true → HasRow k (start k) blank c → ⊥
     by TOKEN_AT l row = no_row TOKEN_AT refl row
     by _ l row = true_is_not_false (sym l)
 second_some (by_fault e l more) = absurd (true_is_not_false (sym l))
 
 -- an error node without a note has no row
-no_error : {c : Sketch} → Opening NODE_ERROR (Start NODE_ERROR) blank c → ⊥
+no_error : {c : AnnotatedForest} → Opening NODE_ERROR (Start NODE_ERROR) blank c → ⊥
 no_error (by_token e op l) = true_is_not_false (sym l)
 no_error (by_branch row lev l more) = true_is_not_false (sym l)
 no_error (by_fault e l more) = true_is_not_false (sym l)
 
-not_error : (k : SyntaxKind) {a : ℕ} {x : Place} {c : Sketch} {i : ℕ} {us : List Token} {es : List Fault}
+not_error : (k : SyntaxKind) {a : ℕ} {x : Place} {c : AnnotatedForest} {i : ℕ} {us : List Token} {es : List Fault}
     → Stands k a (start k) (At x) blank i us c es → is_error_node k ≡ false
 not_error NODE_ERROR {x = x} s = absurd (no_error (opening s x refl refl))
 not_error _ s = refl
 
 -- a row that stands is marked
-pub stands_marked : {p : SyntaxKind} {a : ℕ} {q q' : Spot} {b : Sketch} {i : ℕ} {us : List Token} {f : Sketch} {es : List Fault}
+pub stands_marked : {p : SyntaxKind} {a : ℕ} {q q' : RowState} {b : AnnotatedForest} {i : ℕ} {us : List Token} {f : AnnotatedForest} {es : List Fault}
     → Stands p a q q' b i us f es → AreMarked f
 stands_marked end = tt
 stands_marked (leaf h tight g l c j s) = stands_marked s
-stands_marked (lost u n l s z) = stands_marked s
+stands_marked (missing_part u n l s z) = stands_marked s
 stands_marked {p = p} {a = a} {q = q} {b = b} {i = i} (wrong {r = r} {vs = vs} n ts h v w d j s z) = (
   subst (HasTokens n) (sym h) (beside_some p a q r b i n ts vs w),
   subst AreMarked (sym h) (marked-row_of ts),
@@ -214,26 +214,26 @@ some_tokens [] h = h
 some_tokens (t ∷ ts) h = refl
 
 -- what begins with a token without its trivia does so with them
-begins_clean : (c : Sketch) → begins_with_token (clean c) ≡ true → begins_with_token c ≡ true
+begins_clean : (c : AnnotatedForest) → begins_with_token (clean c) ≡ true → begins_with_token c ≡ true
 begins_clean blank h = h
 begins_clean (token k t f) h = refl
 begins_clean (branch k c f) h = h
 begins_clean (fault n c f) h = h
 
 -- what has items has tokens
-marked_tokens : (n : Note) (c : Sketch) → HasTokens n (clean c) → HasTokens n c
+marked_tokens : (n : Note) (c : AnnotatedForest) → HasTokens n (clean c) → HasTokens n c
 marked_tokens TooDeep c h = tt
 marked_tokens Stray c h = begins_clean c h
 marked_tokens (Unwanted until) c h = begins_clean c h
 marked_tokens Extra c h = some_tokens (tokens_in c) (sym (ap is_some (clean_tokens c)) ∙ h)
 marked_tokens Twice c h = some_tokens (tokens_in c) (sym (ap is_some (clean_tokens c)) ∙ h)
 
-marked_if : (x : Bool) (k : SyntaxKind) (t : Token) (f : Sketch) → AreMarked (token_if x k t f) → AreMarked f
+marked_if : (x : Bool) (k : SyntaxKind) (t : Token) (f : AnnotatedForest) → AreMarked (token_if x k t f) → AreMarked f
 marked_if true k t f h = h
 marked_if false k t f h = h
 
 -- and a row is marked with its trivia as it is without
-pub marked_clean : (f : Sketch) → AreMarked (clean f) → AreMarked f
+pub marked_clean : (f : AnnotatedForest) → AreMarked (clean f) → AreMarked f
 marked_clean blank h = tt
 marked_clean (token k t f) h = marked_clean f (marked_if (is_trivia t.kind) k t (clean f) h)
 marked_clean (branch k c f) h = (h.0, marked_clean c h.1, marked_clean f h.2)

@@ -7,93 +7,93 @@ use Rattle.rnix_kinds.specs.declared.kinds.SyntaxKind.TheVariants.{NODE_ROOT, NO
 use Rattle.rnix_tree.specs.Forest.{node, leaf as leaf_in}
 use Rattle.rnix_grammar.specs.declared.place.Place.TheVariants as places
 use Rattle.rnix_grammar.specs.Fault.{Fault}
-use Rattle.rnix_grammar.specs.Sketch.{Token, Sketch, blank, token, branch, fault, forget, Twice, tokens_in, is_some}
-use Rattle.rnix_grammar.specs.Rows.{Spot, Start, At, go, whole, live, start, run, is_row}
-use Rattle.rnix_grammar.specs.Stands.{Stands, end, leaf, lost, wrong, second, inner, begins_with_token, is_bind_at, is_formed}
+use Rattle.rnix_grammar.specs.AnnotatedForest.{Token, AnnotatedForest, blank, token, branch, fault, forget, Twice, tokens_in, is_some}
+use Rattle.rnix_grammar.specs.Rows.{RowState, Start, At, advance, whole, live, start, run, is_row}
+use Rattle.rnix_grammar.specs.Stands.{Stands, end, leaf, missing_part, wrong, second, inner, begins_with_token, is_bind_at, is_formed}
 use Rattle.rnix_grammar.specs.Reports.{repeats, report}
-use Rattle.rnix_grammar.specs.Mended.{mended, kinds_of, halves, is_ended, ended_count, others}
+use Rattle.rnix_grammar.specs.Repaired.{repaired, kinds_of, incomplete, is_ended, ended_count, others}
 use Rattle.rnix_grammar.specs.Shape.{reports_behind, reports}
 use Rattle.rnix_rows.proofs.StandsFaults.{stands_errors}
 use Rattle.rnix_rows.proofs.StandsRows.{half, stands_counts}
 use Rattle.rnix_lemmas.proofs.ImitateLemmas.{imitates_self}
 use Rattle.rnix_lemmas.proofs.Basics.{true_is_not_false, not_nil, none_left, none_right}
-use Rattle.rnix_lemmas.proofs.LaterSpots.{is_start, go_later}
+use Rattle.rnix_lemmas.proofs.LaterRowStates.{is_start, go_later}
 use Rattle.rnix_lemmas.proofs.EntryNames.{both_true}
 
 -- a bound name stands first where a row begins, and behind the first child at a place
-abbrev pub is_at : Spot → Bool
+abbrev pub is_at : RowState → Bool
 is_at (At place) = true
-is_at spot = false
+is_at row_state = false
 
 -- behind the first child
 abbrev pub not_first : Bool → Bool
 not_first first = if first then false else true
 
--- a spot where a bound name may stand is a place exactly if a child stands before it
-abbrev pub Agrees : Bool → Spot → Type 0
-Agrees first q = live (go q NODE_PAT_BIND) ≡ true → is_at q ≡ not_first first
+-- a state where a bound name may stand is a place exactly if a child stands before it
+abbrev pub Agrees : Bool → RowState → Type 0
+Agrees first q = live (advance q NODE_PAT_BIND) ≡ true → is_at q ≡ not_first first
 
 -- so it is where a row begins
 pub agrees_start : (k : SyntaxKind) → Agrees true (start k)
 agrees_start NODE_ROOT = λ l. absurd (true_is_not_false (sym l))
 agrees_start _ = λ l. cc
 
--- so it is at each spot but these
-later_agrees : (r : Spot) → is_start r ≡ false → Agrees false r
+-- so it is at each state but these
+later_agrees : (r : RowState) → is_start r ≡ false → Agrees false r
 later_agrees (Start k) h = λ l. absurd (true_is_not_false h)
 later_agrees _ h = λ l. cc
 
 -- so it is behind a child
-pub agrees_later : (q : Spot) (k : SyntaxKind) → Agrees false (go q k)
-agrees_later q k = later_agrees (go q k) (go_later q k)
+pub agrees_later : (q : RowState) (k : SyntaxKind) → Agrees false (advance q k)
+agrees_later q k = later_agrees (advance q k) (go_later q k)
 
 -- a bound name without trivia is formed by whether it is the first child
-abbrev pub bare_bind : Bool → SyntaxKind → Sketch → Bool
+abbrev pub bare_bind : Bool → SyntaxKind → AnnotatedForest → Bool
 bare_bind true NODE_PAT_BIND c = if begins_with_token c then false else true
 bare_bind false NODE_PAT_BIND c = begins_with_token c
 bare_bind first k c = true
 
--- a bound name is formed by its spot
-by_spot : (first : Bool) (q : Spot) (c : Sketch) → is_at q ≡ not_first first → is_bind_at q c ≡ true → bare_bind first NODE_PAT_BIND c ≡ true
-by_spot true (At x) c a h = cc
-by_spot false (At x) c a h = h
-by_spot true _ c a h = cc
-by_spot false _ c a h = cc
+-- a bound name is formed by its state
+by_row_state : (first : Bool) (q : RowState) (c : AnnotatedForest) → is_at q ≡ not_first first → is_bind_at q c ≡ true → bare_bind first NODE_PAT_BIND c ≡ true
+by_row_state true (At x) c a h = cc
+by_row_state false (At x) c a h = h
+by_row_state true _ c a h = cc
+by_row_state false _ c a h = cc
 
 -- so it is formed by whether it is the first child
-pub formed_bare : (first : Bool) (q : Spot) (k : SyntaxKind) (c : Sketch) → Agrees first q → live (go q k) ≡ true → is_formed q k c ≡ true → bare_bind first k c ≡ true
-formed_bare first q NODE_PAT_BIND c a l h = by_spot first q c (a l) (and_parts (is_some (tokens_in c)) (is_bind_at q c) h).1
+pub formed_bare : (first : Bool) (q : RowState) (k : SyntaxKind) (c : AnnotatedForest) → Agrees first q → live (advance q k) ≡ true → is_formed q k c ≡ true → bare_bind first k c ≡ true
+formed_bare first q NODE_PAT_BIND c a l h = by_row_state first q c (a l) (and_parts (is_some (tokens_in c)) (is_bind_at q c) h).1
 formed_bare true q _ c a l h = refl
 formed_bare false q _ c a l h = refl
 
 -- bound names are formed in a row without trivia
-abbrev pub bare_binds : Bool → Sketch → Bool
+abbrev pub bare_binds : Bool → AnnotatedForest → Bool
 bare_binds first blank = true
 bare_binds first (token k t f) = bare_binds false f
 bare_binds first (branch k c f) = bare_bind first k c && bare_binds false f
 bare_binds first (fault n c f) = bare_binds false f
 
 -- without trivia, every node has a row of its kind, its bound names are formed, and none is an error node
-abbrev pub AreBareRows : Sketch → Type 0
+abbrev pub AreBareRows : AnnotatedForest → Type 0
 AreBareRows blank = Unit {0}
 AreBareRows (token k t f) = AreBareRows f
 AreBareRows (branch k c f) = (is_row k (kinds_of (forget c)) ≡ true) × (bare_binds true c ≡ true) × AreBareRows c × AreBareRows f
 AreBareRows (fault n c f) = ⊥
 
--- a row of such nodes, from one spot to another
-pub record IsBareRow (first : Bool) (q q' : Spot) (f : Sketch) : Type 0 where
+-- a row of such nodes, from one state to another
+pub record IsBareRow (first : Bool) (q q' : RowState) (f : AnnotatedForest) : Type 0 where
   pub nodes : AreBareRows f
   pub binds : bare_binds first f ≡ true
   pub reaches : run q (kinds_of (forget f)) ≡ q'
 
 -- without errors every node has its row
-pub stands_rows : {p : SyntaxKind} {a : ℕ} {q q' : Spot} {b : Sketch} {i : ℕ} {us : List Token} {f : Sketch} {es : List Fault} (first : Bool)
+pub stands_rows : {p : SyntaxKind} {a : ℕ} {q q' : RowState} {b : AnnotatedForest} {i : ℕ} {us : List Token} {f : AnnotatedForest} {es : List Fault} (first : Bool)
     → Stands p a q q' b i us f es → es ≡ [] → Agrees first q → IsBareRow first q q' f
 stands_rows first end n g = record { nodes = tt; binds = refl; reaches = refl }
 stands_rows {q = q} first (leaf {f = f} {k = k} h tight g l c j s) n m =
     let w = stands_rows false s n (subst (Agrees false) g (agrees_later q k)) in
     record { nodes = w.nodes; binds = w.binds; reaches = ap (λ x. run x (kinds_of (forget f))) g ∙ w.reaches }
-stands_rows first (lost u x l s z) n m = absurd (not_nil (sym z ∙ n))
+stands_rows first (missing_part u x l s z) n m = absurd (not_nil (sym z ∙ n))
 stands_rows first (wrong note ts h v x d j s z) n m = absurd (not_nil (sym z ∙ n))
 stands_rows first (second {c = c} {ds = ds} {es = es} v s y o e r d j x z) n m =
     absurd (not_nil (none_right ds (report Twice (tokens_in c) ∷ []) (none_left (ds ++ report Twice (tokens_in c) ∷ []) es (sym z ∙ n))))
@@ -107,22 +107,22 @@ stands_rows {q = q} {b = b} first (inner {c = c} {f = f} {ds = ds} {es = es} {k 
       reaches = ap (λ x. run x (kinds_of (forget f))) g ∙ w.reaches;
     }
 
--- where no node is an error node nothing is mended
-pub mended_none : (f : Sketch) → AreBareRows f → mended f ≡ forget f
-mended_none blank r = refl
-mended_none (token k t f) r = ap (leaf_in k t.text) (mended_none f r)
-mended_none (branch k c f) r = ap (λ x. node k x (mended f)) (mended_none c r.2) ∙ ap (node k (forget c)) (mended_none f r.3)
-mended_none (fault n c f) r = absurd r
+-- where no node is an error node nothing is repaired
+pub repaired_none : (f : AnnotatedForest) → AreBareRows f → repaired f ≡ forget f
+repaired_none blank r = refl
+repaired_none (token k t f) r = ap (leaf_in k t.text) (repaired_none f r)
+repaired_none (branch k c f) r = ap (λ x. node k x (repaired f)) (repaired_none c r.2) ∙ ap (node k (forget c)) (repaired_none f r.3)
+repaired_none (fault n c f) r = absurd r
 
 -- where every node has its row all are whole
-pub halves_none : (f : Sketch) → AreBareRows f → halves (forget f) ≡ 0
-halves_none (token k t f) r = halves_none f r
-halves_none (branch k c f) r =
+pub incomplete_none : (f : AnnotatedForest) → AreBareRows f → incomplete (forget f) ≡ 0
+incomplete_none (token k t f) r = incomplete_none f r
+incomplete_none (branch k c f) r =
     let one : half (is_row k (kinds_of (forget c))) ≡ 0 = ap half r.0 in
-    let below : halves (forget c) ≡ 0 = halves_none c r.2 in
-    let more : halves (forget f) ≡ 0 = halves_none f r.3 in
+    let below : incomplete (forget c) ≡ 0 = incomplete_none c r.2 in
+    let more : incomplete (forget f) ≡ 0 = incomplete_none f r.3 in
     omega (arith, one, below, more)
-halves_none _ r = first_of (omega arith, assumption, cc)
+incomplete_none _ r = first_of (omega arith, assumption, cc)
 
 -- no error of the end of the text and no other is none
 none_in_all : (es : List Fault) → ended_count es ≡ 0 → others es ≡ [] → es ≡ []
@@ -134,22 +134,22 @@ none_in_all (e ∷ es) h k = by_first (is_ended e) refl
     by_first false i = absurd (not_nil (ap (λ x. if x then others es else e ∷ others es) (sym i) ∙ k))
 
 -- where every node has its row and nothing is reported there is no error
-pub rows_stand : {p : SyntaxKind} {a : ℕ} {q q' : Spot} {b : Sketch} {i : ℕ} {us : List Token} {f : Sketch} {es : List Fault}
+pub rows_stand : {p : SyntaxKind} {a : ℕ} {q q' : RowState} {b : AnnotatedForest} {i : ℕ} {us : List Token} {f : AnnotatedForest} {es : List Fault}
     → Stands p a q q' b i us f es → whole q' ≡ true → ((p ≡ NODE_PATTERN) → ⊥) → AreBareRows f → whole (run q (kinds_of (forget f))) ≡ true → reports_behind b f ≡ [] → es ≡ []
 rows_stand {q = q} {f = f} {es = es} s w not r h n =
-    let row : half (whole (run q (kinds_of (mended f)))) ≡ 0 = ap (λ x. half (whole (run q (kinds_of x)))) (mended_none f r) ∙ ap half h in
-    let all : halves (mended f) ≡ 0 = ap halves (mended_none f r) ∙ halves_none f r in
+    let row : half (whole (run q (kinds_of (repaired f)))) ≡ 0 = ap (λ x. half (whole (run q (kinds_of x)))) (repaired_none f r) ∙ ap half h in
+    let all : incomplete (repaired f) ≡ 0 = ap incomplete (repaired_none f r) ∙ incomplete_none f r in
     let counts = stands_counts q s w (imitates_self q) in
     none_in_all es (elim (counts.none (omega (arith, row, all))) [ inl e ↦ e | inr e ↦ absurd (not e.0) ]) ((stands_errors s).reports ∙ n)
 
 -- a whole text without trivia: no error exactly if the root and each node below it have their rows, and nothing is reported
-pub record IsBare (f : Sketch) : Type 0 where
+pub record IsBare (f : AnnotatedForest) : Type 0 where
   pub root : is_row NODE_ROOT (kinds_of (forget f)) ≡ true
   pub nodes : AreBareRows f
   pub silent : reports f ≡ []
 
 -- a whole text has no error exactly if it is so
-pub whole_rows : {a : ℕ} {i : ℕ} {us : List Token} {f : Sketch} {es : List Fault} → Stands NODE_ROOT a (At places.RootStart) (At places.RootEnd) blank i us f es → (es ≡ []) ↔ IsBare f
+pub whole_rows : {a : ℕ} {i : ℕ} {us : List Token} {f : AnnotatedForest} {es : List Fault} → Stands NODE_ROOT a (At places.RootStart) (At places.RootEnd) blank i us f es → (es ≡ []) ↔ IsBare f
 whole_rows {f = f} {es = es} s = (there, λ w. rows_stand s refl (λ e. cc) w.nodes w.root w.silent)
   where
     there : es ≡ [] → IsBare f

@@ -1,10 +1,10 @@
--- Leaves have the kinds of tokens, also in a mended tree; in a row that stands each has the kind of its token, and each name holds that alone.
+-- Leaves have the kinds of tokens, also in a repaired tree; in a row that stands each has the kind of its token, and each name holds that alone.
 use Rattle.std.proofs.Common.{◌≡◌, ℕ, true, List, refl, ap, ◌∙◌, [], ◌∷◌, Some, None, sym, subst}
 use Rattle.rnix_kinds.specs.declared.kinds.SyntaxKind.{SyntaxKind}
 use Rattle.rnix_kinds.specs.declared.kinds.SyntaxKind.TheVariants.{TOKEN_CUR_POS, TOKEN_IDENT, TOKEN_OR, NODE_CUR_POS, NODE_IDENT, NODE_ERROR, NODE_LITERAL, NODE_PAT_ENTRY}
 use Rattle.rnix_kinds.specs.SyntaxKind.{is_token}
-use Rattle.rnix_grammar.specs.Sketch.{Note, Stray, Sketch, blank, token, branch, fault, tokens_in, told_as, AreTold, Token, row_of}
-use Rattle.rnix_grammar.specs.Mended.{mended, patch}
+use Rattle.rnix_grammar.specs.AnnotatedForest.{Note, Stray, AnnotatedForest, blank, token, branch, fault, tokens_in, leaf_kind_as, HaveLeafKinds, Token, row_of}
+use Rattle.rnix_grammar.specs.Repaired.{repaired, patch}
 use Rattle.rnix_grammar.specs.Named.{is_spelled, AreSpelled}
 use Rattle.rnix_grammar.specs.Derivation.{has_tokens_alone}
 use Rattle.rnix_lemmas.proofs.EntryNames.{both_true}
@@ -12,9 +12,9 @@ use Rattle.rnix_lemmas.proofs.OpeningRows.{spelled_first, spelled_rest, Opening,
 use Rattle.rnix_grammar.specs.declared.place.Place.{Place}
 use Rattle.rnix_grammar.specs.declared.place.Place.TheVariants as places
 use Rattle.rnix_grammar.specs.Fault.{Fault}
-use Rattle.rnix_grammar.specs.Missing.{lack, run_at}
-use Rattle.rnix_grammar.specs.Rows.{Spot, Start, At, first, go, live, whole, start}
-use Rattle.rnix_grammar.specs.Stands.{Stands, end, leaf, lost, wrong, second, inner}
+use Rattle.rnix_grammar.specs.Missing.{missing, run_at}
+use Rattle.rnix_grammar.specs.Rows.{RowState, Start, At, first, advance, live, whole, start}
+use Rattle.rnix_grammar.specs.Stands.{Stands, end, leaf, missing_part, wrong, second, inner}
 use Rattle.rnix_grammar.specs.Trim.{is_bare, begins_with_node, HasBareName, AreNamesBare}
 use Rattle.rnix_lemmas.proofs.Basics.{true_is_not_false}
 use Rattle.rnix_lemmas.proofs.EveryKind.{never}
@@ -22,7 +22,7 @@ use Rattle.rnix_lemmas.proofs.RowKinds.{has_row}
 use Rattle.rnix_rows.proofs.StandsRows.{IsAside, a_number, a_run, at_end, aside, stands_row}
 
 -- a token's leaf has the kind of a token
-pub told_token : (p k : SyntaxKind) → is_token k ≡ true → is_token (told_as p k) ≡ true
+pub told_token : (p k : SyntaxKind) → is_token k ≡ true → is_token (leaf_kind_as p k) ≡ true
 told_token NODE_IDENT TOKEN_OR h = refl
 told_token NODE_IDENT TOKEN_CUR_POS h = refl
 told_token NODE_IDENT _ h = h
@@ -34,31 +34,31 @@ pub spelled_token : (k : SyntaxKind) (text : List ℕ) → is_spelled k text ≡
 spelled_token TOKEN_OR text h = refl
 spelled_token _ text h = assumption
 
-patched : (n : Note) (f : Sketch) → has_tokens_alone (mended f) ≡ true → has_tokens_alone (patch n (mended f)) ≡ true
+patched : (n : Note) (f : AnnotatedForest) → has_tokens_alone (repaired f) ≡ true → has_tokens_alone (patch n (repaired f)) ≡ true
 patched Stray f h = h
 patched _ f h = assumption
 
--- so it is in a mended row
-pub mended_tokens : (p : SyntaxKind) (f : Sketch) → AreTold p f → AreSpelled (tokens_in f) → has_tokens_alone (mended f) ≡ true
-mended_tokens p blank t h = refl
-mended_tokens p (token k x f) t h =
-    both_true (is_token k) (has_tokens_alone (mended f)) (ap is_token t.0 ∙ told_token p x.kind (spelled_token x.kind x.text h.0)) (mended_tokens p f t.1 h.1)
-mended_tokens p (branch k c f) t h =
-    both_true (has_tokens_alone (mended c)) (has_tokens_alone (mended f)) (mended_tokens k c t.0 (spelled_first (tokens_in c) (tokens_in f) h))
-    (mended_tokens p f t.1 (spelled_rest (tokens_in c) (tokens_in f) h))
-mended_tokens p (fault n c f) t h = patched n f (mended_tokens p f t.1 (spelled_rest (tokens_in c) (tokens_in f) h))
+-- so it is in a repaired row
+pub repaired_tokens : (p : SyntaxKind) (f : AnnotatedForest) → HaveLeafKinds p f → AreSpelled (tokens_in f) → has_tokens_alone (repaired f) ≡ true
+repaired_tokens p blank t h = refl
+repaired_tokens p (token k x f) t h =
+    both_true (is_token k) (has_tokens_alone (repaired f)) (ap is_token t.0 ∙ told_token p x.kind (spelled_token x.kind x.text h.0)) (repaired_tokens p f t.1 h.1)
+repaired_tokens p (branch k c f) t h =
+    both_true (has_tokens_alone (repaired c)) (has_tokens_alone (repaired f)) (repaired_tokens k c t.0 (spelled_first (tokens_in c) (tokens_in f) h))
+    (repaired_tokens p f t.1 (spelled_rest (tokens_in c) (tokens_in f) h))
+repaired_tokens p (fault n c f) t h = patched n f (repaired_tokens p f t.1 (spelled_rest (tokens_in c) (tokens_in f) h))
 
 -- tokens of a run have their own kinds
-told_row : (ts : List Token) → AreTold NODE_ERROR (row_of ts)
+told_row : (ts : List Token) → HaveLeafKinds NODE_ERROR (row_of ts)
 told_row [] = tt
 told_row (t ∷ ts) = (refl, told_row ts)
 
 -- so each leaf is told in a row that stands
-pub stands_told : {p : SyntaxKind} {a : ℕ} {q q' : Spot} {b : Sketch} {i : ℕ} {us : List Token} {f : Sketch} {es : List Fault} → Stands p a q q' b i us f es → AreTold p f
+pub stands_told : {p : SyntaxKind} {a : ℕ} {q q' : RowState} {b : AnnotatedForest} {i : ℕ} {us : List Token} {f : AnnotatedForest} {es : List Fault} → Stands p a q q' b i us f es → HaveLeafKinds p f
 stands_told end = tt
 stands_told (leaf h tight g l c j s) = (h, stands_told s)
-stands_told (lost u x l s z) = stands_told s
-stands_told {p = p} (wrong {f = f} note ts h v x d j s z) = (subst (λ (y : Sketch). AreTold NODE_ERROR y) (sym h) (told_row ts), stands_told s)
+stands_told (missing_part u x l s z) = stands_told s
+stands_told {p = p} (wrong {f = f} note ts h v x d j s z) = (subst (λ (y : AnnotatedForest). HaveLeafKinds NODE_ERROR y) (sym h) (told_row ts), stands_told s)
 stands_told (second v s y o e r d j x z) = (stands_told s, stands_told x)
 stands_told (inner v s y form tight g l d j x z) = (stands_told s, stands_told x)
 
@@ -67,58 +67,58 @@ some_none : {A : Type 0} {x : A} → Some x ≡ None → ⊥
 some_none e = cc
 
 -- behind the last child of a row nothing stands
-past_aside : {n : Note} {r : Spot} {ts : List Token} → IsAside n (At places.Past) r ts → ⊥
+past_aside : {n : Note} {r : RowState} {ts : List Token} → IsAside n (At places.Past) r ts → ⊥
 past_aside (a_number g l) = true_is_not_false (sym l ∙ sym (ap live g))
 past_aside (a_run x y until n t e f w) =
     let same : places.Past ≡ x = cc in
     some_none (sym w ∙ ap run_at (sym same))
 past_aside (at_end t e) = absurd (cc)
 
-past_blank : {p : SyntaxKind} {a : ℕ} {q q' : Spot} {b : Sketch} {i : ℕ} {us : List Token} {f : Sketch} {es : List Fault} → Stands p a q q' b i us f es → q ≡ At places.Past → f ≡ blank
+past_blank : {p : SyntaxKind} {a : ℕ} {q q' : RowState} {b : AnnotatedForest} {i : ℕ} {us : List Token} {f : AnnotatedForest} {es : List Fault} → Stands p a q q' b i us f es → q ≡ At places.Past → f ≡ blank
 past_blank end h = refl
-past_blank {q = q} (leaf {k = k} e tight g l c j s) h = absurd (true_is_not_false (sym l ∙ sym (ap live g) ∙ ap (λ x. live (go x k)) h))
-past_blank (lost {x = x} {y = y} {e = e} u n l s z) h =
+past_blank {q = q} (leaf {k = k} e tight g l c j s) h = absurd (true_is_not_false (sym l ∙ sym (ap live g) ∙ ap (λ x. live (advance x k)) h))
+past_blank (missing_part {x = x} {y = y} {e = e} u n l s z) h =
     let same : x ≡ places.Past = cc in
-    absurd (some_none (sym l ∙ ap lack same))
+    absurd (some_none (sym l ∙ ap missing same))
 past_blank {p = p} {a = a} {q = q} {b = b} {i = i} (wrong {r = r} {vs = vs} note ts e v w d j s z) h =
     absurd (past_aside (subst (λ x. IsAside note x r ts) h (aside note p a q r b i ts vs w)))
 past_blank (second v s y o e r d j x z) h = let same : At (places.PatternEnd true) ≡ At places.Past = sym e ∙ h in absurd (cc)
-past_blank {q = q} (inner {k = k} v s y form tight g l d j x z) h = absurd (true_is_not_false (sym l ∙ sym (ap live g) ∙ ap (λ x. live (go x k)) h))
+past_blank {q = q} (inner {k = k} v s y form tight g l d j x z) h = absurd (true_is_not_false (sym l ∙ sym (ap live g) ∙ ap (λ x. live (advance x k)) h))
 
 -- the node of a name holds nothing but a token
-name_past : (k : SyntaxKind) → live (go (Start NODE_IDENT) k) ≡ true → go (Start NODE_IDENT) k ≡ At places.Past
+name_past : (k : SyntaxKind) → live (advance (Start NODE_IDENT) k) ≡ true → advance (Start NODE_IDENT) k ≡ At places.Past
 name_past TOKEN_IDENT l = refl
 name_past _ l = absurd (true_is_not_false (sym l))
 
-one_bare : (k : SyntaxKind) (t : Token) (f : Sketch) → f ≡ blank → is_bare (token k t f) ≡ true
+one_bare : (k : SyntaxKind) (t : Token) (f : AnnotatedForest) → f ≡ blank → is_bare (token k t f) ≡ true
 one_bare k t f e = ap (λ x. is_bare (token k t x)) e
 
-name_bare : {p : SyntaxKind} {a : ℕ} {q q' : Spot} {b : Sketch} {i : ℕ} {us : List Token} {f : Sketch} {es : List Fault}
+name_bare : {p : SyntaxKind} {a : ℕ} {q q' : RowState} {b : AnnotatedForest} {i : ℕ} {us : List Token} {f : AnnotatedForest} {es : List Fault}
     → Stands p a q q' b i us f es → whole q' ≡ true → q ≡ Start NODE_IDENT → is_bare f ≡ true
 name_bare end w e = refl
 name_bare (leaf {f = f} {k = k} {t = t} h tight g l c j s) w e =
-    let from : go (Start NODE_IDENT) k ≡ _ = ap (λ x. go x k) (sym e) ∙ g in
+    let from : advance (Start NODE_IDENT) k ≡ _ = ap (λ x. advance x k) (sym e) ∙ g in
     one_bare k t f (past_blank s (sym from ∙ name_past k (ap live from ∙ l)))
-name_bare (lost u n l s z) w e = absurd (true_is_not_false (ap is_place e))
+name_bare (missing_part u n l s z) w e = absurd (true_is_not_false (ap is_place e))
 name_bare {p = p} {a = a} {q = q} {b = b} {i = i} (wrong {r = r} {vs = vs} note ts h v x d j s z) w e = absurd (by (aside note p a q r b i ts vs x) e)
   where
-    by : {n : Note} {q r : Spot} {ts : List Token} → IsAside n q r ts → q ≡ Start NODE_IDENT → ⊥
-    by (a_number g l) e = true_is_not_false (sym l ∙ sym (ap live g) ∙ ap (λ x. live (go x NODE_LITERAL)) e)
+    by : {n : Note} {q r : RowState} {ts : List Token} → IsAside n q r ts → q ≡ Start NODE_IDENT → ⊥
+    by (a_number g l) e = true_is_not_false (sym l ∙ sym (ap live g) ∙ ap (λ x. live (advance x NODE_LITERAL)) e)
     by (a_run x y until n t f g w) e = true_is_not_false (sym (ap is_place f) ∙ ap is_place e)
     by (at_end t f) e = true_is_not_false (sym (ap is_place f) ∙ ap is_place e)
 name_bare (second v s y o q r d j x z) w e = absurd (true_is_not_false (sym (ap is_place q) ∙ ap is_place e))
 name_bare (inner {k = k} v s y form tight g l d j x z) w e =
-    absurd (never (λ j. live (go (Start NODE_IDENT) j)) has_row refl k (ap (λ x. live (go x k)) (sym e) ∙ ap live g ∙ l) (stands_row k s refl y))
+    absurd (never (λ j. live (advance (Start NODE_IDENT) j)) has_row refl k (ap (λ x. live (advance x k)) (sym e) ∙ ap live g ∙ l) (stands_row k s refl y))
 
 -- an entry of a pattern begins with its name
-entry_opens : {q : Spot} {b f : Sketch} → Opening NODE_PAT_ENTRY q b f → q ≡ Start NODE_PAT_ENTRY → AreSpelled (tokens_in f) → begins_with_node f ≡ true
+entry_opens : {q : RowState} {b f : AnnotatedForest} → Opening NODE_PAT_ENTRY q b f → q ≡ Start NODE_PAT_ENTRY → AreSpelled (tokens_in f) → begins_with_node f ≡ true
 entry_opens (by_token {k = k} {t = t} e op l) h a =
-    absurd (never (λ j. live (first NODE_PAT_ENTRY j)) is_token refl k (ap (λ x. live (go x k)) (sym h) ∙ l) (ap is_token e ∙ told_token NODE_PAT_ENTRY t.kind (spelled_token t.kind t.text a.0)))
+    absurd (never (λ j. live (first NODE_PAT_ENTRY j)) is_token refl k (ap (λ x. live (advance x k)) (sym h) ∙ l) (ap is_token e ∙ told_token NODE_PAT_ENTRY t.kind (spelled_token t.kind t.text a.0)))
 entry_opens (by_branch c lev l r) h a = refl
-entry_opens (by_fault n l r) h a = absurd (true_is_not_false (sym l ∙ ap (λ x. live (go x NODE_LITERAL)) h))
+entry_opens (by_fault n l r) h a = absurd (true_is_not_false (sym l ∙ ap (λ x. live (advance x NODE_LITERAL)) h))
 
 -- so it is at each node of a kind
-bare_node : (k : SyntaxKind) {a : ℕ} {x : Place} {i : ℕ} {us : List Token} {c : Sketch} {es : List Fault}
+bare_node : (k : SyntaxKind) {a : ℕ} {x : Place} {i : ℕ} {us : List Token} {c : AnnotatedForest} {es : List Fault}
     → Stands k a (start k) (At x) blank i us c es → whole (At x) ≡ true → AreSpelled (tokens_in c) → HasBareName k c
 bare_node k {a = a} {x = x} {i = i} {us = us} {c = c} {es = es} s w h = (λ e. name_bare s w (ap start e), λ e. by e)
   where
@@ -131,11 +131,11 @@ bare_row [] = tt
 bare_row (t ∷ ts) = bare_row ts
 
 -- the names of a row that stands are bare
-pub stands_bare : {p : SyntaxKind} {a : ℕ} {q q' : Spot} {b : Sketch} {i : ℕ} {us : List Token} {f : Sketch} {es : List Fault}
+pub stands_bare : {p : SyntaxKind} {a : ℕ} {q q' : RowState} {b : AnnotatedForest} {i : ℕ} {us : List Token} {f : AnnotatedForest} {es : List Fault}
     → Stands p a q q' b i us f es → AreSpelled (tokens_in f) → AreNamesBare f
 stands_bare end h = tt
 stands_bare (leaf e tight g l c j s) h = stands_bare s h.1
-stands_bare (lost u x l s z) h = stands_bare s h
+stands_bare (missing_part u x l s z) h = stands_bare s h
 stands_bare (wrong {c = c} {f = f} note ts e v x d j s z) h = (subst AreNamesBare (sym e) (bare_row ts), stands_bare s (spelled_rest (tokens_in c) (tokens_in f) h))
 stands_bare (second {c = c} {f = f} v s y o e r d j x z) h = (stands_bare s (spelled_first (tokens_in c) (tokens_in f) h), stands_bare x (spelled_rest (tokens_in c) (tokens_in f) h))
 stands_bare (inner {c = c} {f = f} {k = k} v s y form tight g l d j x z) h =

@@ -7,11 +7,11 @@ use Rattle.rnix_kinds.specs.SyntaxKind.{is_trivia}
 use Rattle.rnix_tree.specs.Forest.{Forest}
 use Rattle.rnix_grammar.specs.declared.place.Place.TheVariants as places
 use Rattle.rnix_grammar.specs.Fault.{Fault, named_twice}
-use Rattle.rnix_grammar.specs.Sketch.{Token, Sketch, blank, token, branch, fault, ◌⊕◌, one_token, one_branch, one_fault, forget, clean, token_if, told, AreTold, tokens_in, extent_of}
+use Rattle.rnix_grammar.specs.AnnotatedForest.{Token, AnnotatedForest, blank, token, branch, fault, ◌⊕◌, one_token, one_branch, one_fault, forget, clean, token_if, leaf_kind, HaveLeafKinds, tokens_in, extent_of}
 use Rattle.rnix_grammar.specs.Reports.{report, repeated_if, entry_name, only_token, is_same_name, has_entry, repeats}
 use Rattle.rnix_grammar.specs.Rows.{At, whole, is_row}
 use Rattle.rnix_grammar.specs.Stands.{Stands, begins_with_token}
-use Rattle.rnix_grammar.specs.Mended.{kinds_of}
+use Rattle.rnix_grammar.specs.Repaired.{kinds_of}
 use Rattle.rnix_grammar.specs.Trim.{AreNodesTrimmed, AreFaultsTrimmed}
 use Rattle.rnix_grammar.specs.Shape.{item_kinds, begins_with_leaf, is_bind_formed, are_binds_formed, AreRows, IsShaped, leaf_text, text_if, name_in, name_if, with_name, entry_names, AreNew, AreUnrepeated, IsUnrepeated, reports_behind, reports_within}
 use Rattle.rnix_grammar.specs.Tables.{is_among}
@@ -20,21 +20,21 @@ use Rattle.rnix_lemmas.proofs.ImitateLemmas.{nowhere}
 use Rattle.rnix_rows.proofs.StandsShapes.{bare_bind, bare_binds, AreBareRows, IsBare, whole_rows}
 use Rattle.rnix_lemmas.proofs.Basics.{true_is_not_false, none_left, none_right, not_nil}
 use Rattle.rnix_lemmas.proofs.EntryNames.{bare_name, has_branch, either_assoc, has-⊕, if_not}
-use Rattle.rnix_lemmas.proofs.SketchLemmas.{⊕-blank}
+use Rattle.rnix_lemmas.proofs.AnnotatedForestLemmas.{⊕-blank}
 use Rattle.rnix_lemmas.proofs.LayoutLemmas.{clean-⊕}
 use Rattle.rnix_lemmas.proofs.ReportLemmas.{clean_tokens, same_report}
 
 -- whether a leaf is trivia, its token tells
-leaf_trivia : (p k : SyntaxKind) (t : Token) → k ≡ told p t → is_trivia t.kind ≡ is_trivia k
+leaf_trivia : (p k : SyntaxKind) (t : Token) → k ≡ leaf_kind p t → is_trivia t.kind ≡ is_trivia k
 leaf_trivia p k t e = sym (ap is_trivia e ∙ told_alike p t.kind)
 
 -- what is told of a row by its first tree that is no trivia, or by all of these
-by_leaf : {A : Type 0} (x : Bool) (k : SyntaxKind) (t : Token) (f : Sketch) (h : Sketch → A) (a b : A) → h f ≡ a → h (token k t f) ≡ b → h (token_if x k t f) ≡ (if x then a else b)
+by_leaf : {A : Type 0} (x : Bool) (k : SyntaxKind) (t : Token) (f : AnnotatedForest) (h : AnnotatedForest → A) (a b : A) → h f ≡ a → h (token k t f) ≡ b → h (token_if x k t f) ≡ (if x then a else b)
 by_leaf true k t f h a b e g = e
 by_leaf false k t f h a b e g = g
 
 -- the trees of a row that are no trivia
-pub clean_kinds : (p : SyntaxKind) (f : Sketch) → AreTold p f → kinds_of (forget (clean f)) ≡ item_kinds (forget f)
+pub clean_kinds : (p : SyntaxKind) (f : AnnotatedForest) → HaveLeafKinds p f → kinds_of (forget (clean f)) ≡ item_kinds (forget f)
 clean_kinds p blank h = refl
 clean_kinds p (token k t f) h =
     by_leaf (is_trivia t.kind) k t (clean f) (λ x. kinds_of (forget x)) (item_kinds (forget f)) (k ∷ item_kinds (forget f)) (clean_kinds p f h.1) (ap (λ z. k ∷ z) (clean_kinds p f h.1))
@@ -43,14 +43,14 @@ clean_kinds p (branch k c f) h = ap (λ z. k ∷ z) (clean_kinds p f h.1)
 clean_kinds p (fault n c f) h = ap (λ z. NODE_ERROR ∷ z) (clean_kinds p f h.1)
 
 -- what a row begins with
-clean_begins : (p : SyntaxKind) (f : Sketch) → AreTold p f → begins_with_token (clean f) ≡ begins_with_leaf (forget f)
+clean_begins : (p : SyntaxKind) (f : AnnotatedForest) → HaveLeafKinds p f → begins_with_token (clean f) ≡ begins_with_leaf (forget f)
 clean_begins p (token k t f) h =
     by_leaf (is_trivia t.kind) k t (clean f) begins_with_token (begins_with_leaf (forget f)) true (clean_begins p f h.1) refl
     ∙ ap (λ x. if x then begins_with_leaf (forget f) else true) (leaf_trivia p k t h.0)
 clean_begins p _ h = cc
 
 -- bound names
-clean_bind : (first : Bool) (k : SyntaxKind) (c : Sketch) → AreTold k c → bare_bind first k (clean c) ≡ is_bind_formed first k (forget c)
+clean_bind : (first : Bool) (k : SyntaxKind) (c : AnnotatedForest) → HaveLeafKinds k c → bare_bind first k (clean c) ≡ is_bind_formed first k (forget c)
 clean_bind true NODE_PAT_BIND c h = ap (λ x. if x then false else true) (clean_begins NODE_PAT_BIND c h)
 clean_bind false NODE_PAT_BIND c h = clean_begins NODE_PAT_BIND c h
 clean_bind true _ c h = refl
@@ -62,7 +62,7 @@ error_bind true c b = refl
 error_bind false c b = refl
 
 -- bound names in a row
-clean_binds : (p : SyntaxKind) (first : Bool) (f : Sketch) → AreTold p f → bare_binds first (clean f) ≡ are_binds_formed first (forget f)
+clean_binds : (p : SyntaxKind) (first : Bool) (f : AnnotatedForest) → HaveLeafKinds p f → bare_binds first (clean f) ≡ are_binds_formed first (forget f)
 clean_binds p first blank h = refl
 clean_binds p first (token k t f) h =
     by_leaf (is_trivia t.kind) k t (clean f) (bare_binds first) (are_binds_formed first (forget f)) (are_binds_formed false (forget f)) (clean_binds p first f h.1) (clean_binds p false f h.1)
@@ -72,17 +72,17 @@ clean_binds p first (branch k c f) h =
 clean_binds p first (fault n c f) h = clean_binds p false f h.1 ∙ sym (error_bind first (forget c) (are_binds_formed false (forget f)))
 
 -- the rows of the tree are those without trivia
-rows_if : (x : Bool) (k : SyntaxKind) (t : Token) (f : Sketch) → AreBareRows (token_if x k t f) → AreBareRows f
+rows_if : (x : Bool) (k : SyntaxKind) (t : Token) (f : AnnotatedForest) → AreBareRows (token_if x k t f) → AreBareRows f
 rows_if true k t f h = h
 rows_if false k t f h = h
 
 -- and the other way
-rows_of_if : (x : Bool) (k : SyntaxKind) (t : Token) (f : Sketch) → AreBareRows f → AreBareRows (token_if x k t f)
+rows_of_if : (x : Bool) (k : SyntaxKind) (t : Token) (f : AnnotatedForest) → AreBareRows f → AreBareRows (token_if x k t f)
 rows_of_if true k t f h = h
 rows_of_if false k t f h = h
 
 -- with trivia each node has its row
-tree_rows : (p : SyntaxKind) (f : Sketch) → AreTold p f → AreBareRows (clean f) → AreRows (forget f)
+tree_rows : (p : SyntaxKind) (f : AnnotatedForest) → HaveLeafKinds p f → AreBareRows (clean f) → AreRows (forget f)
 tree_rows p blank h r = tt
 tree_rows p (token k t f) h r = tree_rows p f h.1 (rows_if (is_trivia t.kind) k t (clean f) r)
 tree_rows p (branch k c f) h r =
@@ -95,7 +95,7 @@ no_error_row [] h = true_is_not_false (sym h)
 no_error_row (k ∷ ks) h = true_is_not_false (sym h ∙ ap whole (nowhere ks))
 
 -- without trivia each node has its row
-bare_rows : (p : SyntaxKind) (f : Sketch) → AreTold p f → AreRows (forget f) → AreBareRows (clean f)
+bare_rows : (p : SyntaxKind) (f : AnnotatedForest) → HaveLeafKinds p f → AreRows (forget f) → AreBareRows (clean f)
 bare_rows p blank h r = tt
 bare_rows p (token k t f) h r = rows_of_if (is_trivia t.kind) k t (clean f) (bare_rows p f h.1 r)
 bare_rows p (branch k c f) h r =
@@ -108,19 +108,19 @@ text_in None = None
 text_in (Some t) = Some t.text
 
 -- the text of a name
-clean_text : (p : SyntaxKind) (c : Sketch) → AreTold p c → text_in (only_token (clean c)) ≡ leaf_text (forget c)
+clean_text : (p : SyntaxKind) (c : AnnotatedForest) → HaveLeafKinds p c → text_in (only_token (clean c)) ≡ leaf_text (forget c)
 clean_text p (token k t f) h =
     by_leaf (is_trivia t.kind) k t (clean f) (λ x. text_in (only_token x)) (leaf_text (forget f)) (Some t.text) (clean_text p f h.1) refl
     ∙ ap (λ x. if x then leaf_text (forget f) else Some t.text) (leaf_trivia p k t h.0)
 clean_text p _ h = cc
 
 -- the name of a node that may be one
-clean_ident : (k : SyntaxKind) (c f : Sketch) → AreTold k c → text_in (entry_name (branch k (clean c) f)) ≡ text_if k (forget c)
+clean_ident : (k : SyntaxKind) (c f : AnnotatedForest) → HaveLeafKinds k c → text_in (entry_name (branch k (clean c) f)) ≡ text_if k (forget c)
 clean_ident NODE_IDENT c f h = clean_text NODE_IDENT c h
 clean_ident _ c f h = refl
 
 -- the name that an entry begins with
-clean_entry : (p : SyntaxKind) (c : Sketch) → AreTold p c → text_in (entry_name (clean c)) ≡ name_in (forget c)
+clean_entry : (p : SyntaxKind) (c : AnnotatedForest) → HaveLeafKinds p c → text_in (entry_name (clean c)) ≡ name_in (forget c)
 clean_entry p (token k t f) h =
     by_leaf (is_trivia t.kind) k t (clean f) (λ x. text_in (entry_name x)) (name_in (forget f)) None (clean_entry p f h.1) refl
     ∙ ap (λ x. if x then name_in (forget f) else None) (leaf_trivia p k t h.0)
@@ -128,12 +128,12 @@ clean_entry p (branch k c f) h = clean_ident k c (clean f) h.0
 clean_entry p _ h = assumption
 
 -- the name of a node that may be an entry
-pub clean_name : (k : SyntaxKind) (c : Sketch) → AreTold k c → text_in (bare_name k (clean c)) ≡ name_if k (forget c)
+pub clean_name : (k : SyntaxKind) (c : AnnotatedForest) → HaveLeafKinds k c → text_in (bare_name k (clean c)) ≡ name_if k (forget c)
 clean_name NODE_PAT_ENTRY c h = clean_entry NODE_PAT_ENTRY c h
 clean_name _ c h = refl
 
 -- an entry is reported by its name
-pub repeats_named : (k : SyntaxKind) (b c : Sketch) → repeats k b c ≡ repeated_if (bare_name k c) b
+pub repeats_named : (k : SyntaxKind) (b c : AnnotatedForest) → repeats k b c ≡ repeated_if (bare_name k c) b
 repeats_named NODE_PAT_ENTRY b c = refl
 repeats_named _ b c = refl
 
@@ -144,11 +144,11 @@ among-++ name (x ∷ xs) ys =
     ap (λ z. if bytes_eq name x then true else z) (among-++ name xs ys) ∙ either_assoc (bytes_eq name x) (is_among name xs) (is_among name ys)
 
 -- the names of the entries in the trees before
-abbrev pub Lists : List (List ℕ) → Sketch → Type 0
+abbrev pub Lists : List (List ℕ) → AnnotatedForest → Type 0
 Lists names b = (name : List ℕ) → has_entry name b ≡ is_among name names
 
 -- a leaf has no name
-lists_token : (names : List (List ℕ)) (b : Sketch) (k : SyntaxKind) (t : Token) → Lists names b → Lists names (b ⊕ one_token k t)
+lists_token : (names : List (List ℕ)) (b : AnnotatedForest) (k : SyntaxKind) (t : Token) → Lists names b → Lists names (b ⊕ one_token k t)
 lists_token names b k t h = λ name. has-⊕ name b (one_token k t) ∙ if_not (has_entry name b) ∙ h name
 
 -- a name behind others, if there is one
@@ -157,7 +157,7 @@ added names None = names
 added names (Some name) = names ++ (name ∷ [])
 
 -- a node may have a name
-lists_branch : (names : List (List ℕ)) (b : Sketch) (k : SyntaxKind) (c : Sketch) → Lists names b → Lists (added names (text_in (bare_name k c))) (b ⊕ one_branch k c)
+lists_branch : (names : List (List ℕ)) (b : AnnotatedForest) (k : SyntaxKind) (c : AnnotatedForest) → Lists names b → Lists (added names (text_in (bare_name k c))) (b ⊕ one_branch k c)
 lists_branch names b k c h = λ name.
     has-⊕ name b (one_branch k c) ∙ ap (λ x. if has_entry name b then true else x) (has_branch name k c blank) ∙ by_name name (bare_name k c)
   where
@@ -182,7 +182,7 @@ new_first before None names h = (tt, h)
 new_first before (Some name) names h = (h.0, h.1)
 
 -- what is not reported is new
-repeated_new : (names : List (List ℕ)) (b : Sketch) (o : Option Token) → Lists names b → repeated_if o b ≡ [] → IsNew names (text_in o)
+repeated_new : (names : List (List ℕ)) (b : AnnotatedForest) (o : Option Token) → Lists names b → repeated_if o b ≡ [] → IsNew names (text_in o)
 repeated_new names b None h e = tt
 repeated_new names b (Some t) h e = sym (h t.text) ∙ by_entry (has_entry t.text b) e
   where
@@ -191,12 +191,12 @@ repeated_new names b (Some t) h e = sym (h t.text) ∙ by_entry (has_entry t.tex
     by_entry false e = refl
 
 -- what is new is not reported
-new_repeated : (names : List (List ℕ)) (b : Sketch) (o : Option Token) → Lists names b → IsNew names (text_in o) → repeated_if o b ≡ []
+new_repeated : (names : List (List ℕ)) (b : AnnotatedForest) (o : Option Token) → Lists names b → IsNew names (text_in o) → repeated_if o b ≡ []
 new_repeated names b None h e = refl
 new_repeated names b (Some t) h e = ap (λ x. if x then named_twice (extent_of (t ∷ [])) t.text ∷ [] else []) (h t.text ∙ e)
 
 -- where nothing is reported no name is repeated
-pub silent_new : (p : SyntaxKind) (g : Sketch) (b : Sketch) (names : List (List ℕ)) → AreTold p g → Lists names b → reports_behind b (clean g) ≡ []
+pub silent_new : (p : SyntaxKind) (g : AnnotatedForest) (b : AnnotatedForest) (names : List (List ℕ)) → HaveLeafKinds p g → Lists names b → reports_behind b (clean g) ≡ []
     → AreNew names (entry_names (forget g)) × AreUnrepeated (forget g)
 silent_new p blank b names h l e = (tt, tt)
 silent_new p (token k t f) b names h l e = by_trivia (is_trivia t.kind) e (silent_new p f b names h.1 l) (silent_new p f (b ⊕ one_token k t) names h.1 (lists_token names b k t l))
@@ -230,7 +230,7 @@ both_none : {es fs : List Fault} → es ≡ [] → fs ≡ [] → es ++ fs ≡ []
 both_none {fs = fs} e h = ap (λ x. x ++ fs) e ∙ h
 
 -- where every node has its row and no name is repeated nothing is reported
-pub new_silent : (p : SyntaxKind) (g : Sketch) (b : Sketch) (names : List (List ℕ)) → AreTold p g → Lists names b → AreRows (forget g)
+pub new_silent : (p : SyntaxKind) (g : AnnotatedForest) (b : AnnotatedForest) (names : List (List ℕ)) → HaveLeafKinds p g → Lists names b → AreRows (forget g)
     → AreNew names (entry_names (forget g)) → AreUnrepeated (forget g) → reports_behind b (clean g) ≡ []
 new_silent p blank b names h l r n m = refl
 new_silent p (token k t f) b names h l r n m =
@@ -249,7 +249,7 @@ new_silent p (branch k c f) b names h l r n m =
 new_silent p (fault n c f) b names h l r i m = absurd (no_error_row (item_kinds (forget c)) r.0)
 
 -- a text has no error exactly if its tree has its shape and no name of a pattern is repeated
-pub whole_shaped : (f g : Sketch) (es : List Fault) → Stands NODE_ROOT 1 (At places.RootStart) (At places.RootEnd) blank 0 [] f es → clean g ≡ f → AreTold NODE_ROOT g
+pub whole_shaped : (f g : AnnotatedForest) (es : List Fault) → Stands NODE_ROOT 1 (At places.RootStart) (At places.RootEnd) blank 0 [] f es → clean g ≡ f → HaveLeafKinds NODE_ROOT g
     → (es ≡ [] → AreNodesTrimmed (forget g))
     → (es ≡ []) ↔ (IsShaped (record { kind = NODE_ROOT; children = forget g }) × IsUnrepeated (record { kind = NODE_ROOT; children = forget g }))
 whole_shaped f g es s e h t = (there, back)
@@ -272,12 +272,12 @@ whole_shaped f g es s e h t = (there, back)
         (whole_rows s).1 (subst IsBare e bare)
 
 -- a leaf reports nothing
-leaf_reports : (x : Bool) (k : SyntaxKind) (t : Token) (b f : Sketch) → reports_behind b (token_if x k t f) ≡ reports_behind (b ⊕ token_if x k t blank) f
+leaf_reports : (x : Bool) (k : SyntaxKind) (t : Token) (b f : AnnotatedForest) → reports_behind b (token_if x k t f) ≡ reports_behind (b ⊕ token_if x k t blank) f
 leaf_reports true k t b f = ap (λ z. reports_behind z f) (sym (⊕-blank b))
 leaf_reports false k t b f = refl
 
 -- what a row reports, its items report
-pub clean_reports : (b g : Sketch) → AreFaultsTrimmed g → reports_behind (clean b) (clean g) ≡ reports_within b g
+pub clean_reports : (b g : AnnotatedForest) → AreFaultsTrimmed g → reports_behind (clean b) (clean g) ≡ reports_within b g
 clean_reports b blank h = refl
 clean_reports b (token k t f) h =
     leaf_reports (is_trivia t.kind) k t (clean b) (clean f) ∙ ap (λ z. reports_behind z (clean f)) (sym (clean-⊕ b (one_token k t))) ∙ clean_reports (b ⊕ one_token k t) f h

@@ -6,7 +6,7 @@ use Rattle.rnix_tree.specs.Forest.{Forest, empty, leaf, node, element_count}
 use Rattle.rnix_tree.specs.Tree.{Tree, Item, item}
 use Rattle.rnix_tree.specs.Walk.{Step, Event, event_at, steps_from}
 use Rattle.rnix_grammar.specs.Fault.{Fault, ended, ended_before, named_twice}
-use Rattle.rnix_grammar.specs.Mended.{others}
+use Rattle.rnix_grammar.specs.Repaired.{others}
 use Rattle.rnix_grammar.specs.Shape.{name_if, with_name}
 use Rattle.rnix_grammar.specs.Ranges.{of_nodes, is_error_node, leaves_error, errors_left, is_among_if, at_fault_from, AreErrorsOf}
 use Rattle.rnix_rows.proofs.RowsIn.{IsRowIn, row_first, row_inside, row_behind_leaf, row_behind_node}

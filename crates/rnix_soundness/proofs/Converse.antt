@@ -1,4 +1,4 @@
--- A row without errors of the end, repeated names and corners is strict, once its errors are mended and its names stand where they may.
+-- A row without errors of the end, repeated names and corners is strict, once its errors are repaired and its names stand where they may.
 use Rattle.std.proofs.Common.{◌≡◌, ℕ, suc, Bool, true, false, List, [], ◌∷◌, ◌++◌, Some, refl, ap, sym, ◌∙◌, subst}
 use Rattle.std.specs.Prelude.{codes, if◌then◌else◌, ◌&&◌}
 use Rattle.std.specs.Str.{bytes_eq}
@@ -11,73 +11,73 @@ use Rattle.rnix_grammar.specs.declared.place.Place.{Place}
 use Rattle.rnix_grammar.specs.declared.place.Place.TheVariants as p
 use Rattle.rnix_grammar.specs.declared.until.Until.{Until}
 use Rattle.rnix_grammar.specs.Fault.{Fault, named_twice}
-use Rattle.rnix_grammar.specs.Sketch.{Token, Note, Stray, Unwanted, Extra, Twice, TooDeep, Sketch, blank, branch, ◌⊕◌, one_token, one_branch, one_fault, tokens_in, told, extent_of}
+use Rattle.rnix_grammar.specs.AnnotatedForest.{Token, Note, Stray, Unwanted, Extra, Twice, TooDeep, AnnotatedForest, blank, branch, ◌⊕◌, one_token, one_branch, one_fault, tokens_in, leaf_kind, extent_of}
 use Rattle.rnix_grammar.specs.Reports.{report, repeated, repeated_if, entry_name, is_same_name, has_entry}
-use Rattle.rnix_grammar.specs.Rows.{is_expression, Spot, Start, At, go, first, first_bind, live, whole, start}
-use Rattle.rnix_grammar.specs.Stands.{Stands, end, leaf as leafed, lost, wrong, second, inner, IsBeside}
+use Rattle.rnix_grammar.specs.Rows.{is_expression, RowState, Start, At, advance, first, first_bind, live, whole, start}
+use Rattle.rnix_grammar.specs.Stands.{Stands, end, leaf as leafed, missing_part, wrong, second, inner, IsBeside}
 use Rattle.rnix_grammar.specs.Reports.{repeats}
 use Rattle.rnix_grammar.specs.Strict.{may_stand, is_grouped, is_strict, entry_text, are_entries_new, first_is_no_or, binds_no_or}
 use Rattle.rnix_grammar.specs.Tables.{is_among}
-use Rattle.rnix_grammar.specs.Mended.{mended, patch, is_ended}
+use Rattle.rnix_grammar.specs.Repaired.{repaired, patch, is_ended}
 use Rattle.rnix_grammar.specs.Corners.{is_corner, has_no_corner}
 use Rattle.rnix_grammar.specs.Names.{is_name_at}
 use Rattle.rnix_grammar.specs.Named.{is_spelled, AreSpelled, AreNamed, is_repeated, Lacks}
 use Rattle.rnix_grammar.specs.BehindErrors.{go_run, go_error}
-use Rattle.rnix_grammar.specs.Missing.{lack}
+use Rattle.rnix_grammar.specs.Missing.{missing}
 use Rattle.rnix_lemmas.proofs.Basics.{true_is_not_false}
-use Rattle.rnix_soundness.proofs.SimilarSpots.{Similar, similar_same, similar_two, similar_run, similar_past}
-use Rattle.rnix_soundness.proofs.HomeSpots.{IsHome, home_go, home_start, home_run, home_past}
+use Rattle.rnix_soundness.proofs.SimilarRowStates.{Similar, similar_same, similar_two, similar_run, similar_past}
+use Rattle.rnix_soundness.proofs.HomeRowStates.{IsHome, home_go, home_start, home_run, home_past}
 use Rattle.rnix_lemmas.proofs.OpeningRows.{HasRow, Opening, by_token, by_branch, by_fault, opened, is_place, spelled_first, spelled_rest}
 use Rattle.rnix_soundness.proofs.FirstTrees.{IsLed, led, token_first, no_operand}
-use Rattle.rnix_soundness.proofs.MendedNames.{named_no_or}
-use Rattle.rnix_soundness.proofs.MendedStands.{IsThere, stands_there, number_stands}
-use Rattle.rnix_soundness.proofs.MendedGroups.{grouped}
-use Rattle.rnix_lemmas.proofs.LackFacts.{lack_ended}
+use Rattle.rnix_soundness.proofs.RepairedNames.{named_no_or}
+use Rattle.rnix_soundness.proofs.RepairedStands.{IsThere, stands_there, number_stands}
+use Rattle.rnix_soundness.proofs.RepairedGroups.{grouped}
+use Rattle.rnix_lemmas.proofs.MissingFacts.{missing_ended}
 use Rattle.rnix_lemmas.proofs.EntryNames.{has-⊕, if_not}
-use Rattle.rnix_lemmas.proofs.NestSpots.{beside_goes}
+use Rattle.rnix_lemmas.proofs.NestRowStates.{beside_goes}
 
 -- errors of two rows
-pub lacks_first : (test : Fault → Bool) (ds es : List Fault) → Lacks test (ds ++ es) → Lacks test ds
-lacks_first test [] es h = tt
-lacks_first test (d ∷ ds) es h = (h.0, lacks_first test ds es h.1)
+pub misses_first : (test : Fault → Bool) (ds es : List Fault) → Lacks test (ds ++ es) → Lacks test ds
+misses_first test [] es h = tt
+misses_first test (d ∷ ds) es h = (h.0, misses_first test ds es h.1)
 
 -- and the second
-pub lacks_rest : (test : Fault → Bool) (ds es : List Fault) → Lacks test (ds ++ es) → Lacks test es
-lacks_rest test [] es h = h
-lacks_rest test (d ∷ ds) es h = lacks_rest test ds es h.1
+pub misses_rest : (test : Fault → Bool) (ds es : List Fault) → Lacks test (ds ++ es) → Lacks test es
+misses_rest test [] es h = h
+misses_rest test (d ∷ ds) es h = misses_rest test ds es h.1
 
 -- nothing is missing where no error of the end is
-pub none_lost : (x y : Place) {e : Fault} {es fs : List Fault} {A : Type 0} → lack x ≡ Some (e, y) → fs ≡ e ∷ es → Lacks is_ended fs → A
-none_lost x y {e = e} {es = es} l z h =
+pub no_missing_part : (x y : Place) {e : Fault} {es fs : List Fault} {A : Type 0} → missing x ≡ Some (e, y) → fs ≡ e ∷ es → Lacks is_ended fs → A
+no_missing_part x y {e = e} {es = es} l z h =
     let w : Lacks is_ended (e ∷ es) = subst (Lacks is_ended) z h in
-    absurd (true_is_not_false (sym (lack_ended x y e l).0 ∙ w.0))
+    absurd (true_is_not_false (sym (missing_ended x y e l).0 ∙ w.0))
 
 -- the name of an entry
-record IsEntry (c : Sketch) : Type 0 where
+record IsEntry (c : AnnotatedForest) : Type 0 where
   name : Token
   said : entry_name c ≡ Some name
-  same : entry_text (mended c) ≡ name.text
+  same : entry_text (repaired c) ≡ name.text
 
 entry_live : (k : SyntaxKind) → live (first NODE_PAT_ENTRY k) ≡ true → is_expression k ≡ true
 entry_live = implied (λ k. live (first NODE_PAT_ENTRY k)) is_expression refl
 
-entry_of : (k : SyntaxKind) {c : Sketch} (f : Sketch) → live (first NODE_PAT_ENTRY k) ≡ true → HasRow k (start k) blank c → IsEntry (branch k c f)
+entry_of : (k : SyntaxKind) {c : AnnotatedForest} (f : AnnotatedForest) → live (first NODE_PAT_ENTRY k) ≡ true → HasRow k (start k) blank c → IsEntry (branch k c f)
 entry_of NODE_IDENT f l h = by (token_first refl refl h)
   where
-    by : {g : Sketch} → IsLed NODE_IDENT (Start NODE_IDENT) blank g → IsEntry (branch NODE_IDENT g f)
+    by : {g : AnnotatedForest} → IsLed NODE_IDENT (Start NODE_IDENT) blank g → IsEntry (branch NODE_IDENT g f)
     by (led {t = t} z op v) = record { name = t; said = refl; same = refl }
 entry_of _ f l h = absurd (true_is_not_false (sym l))
 
-entry : {c : Sketch} → HasRow NODE_PAT_ENTRY (Start NODE_PAT_ENTRY) blank c → AreSpelled (tokens_in c) → IsEntry c
+entry : {c : AnnotatedForest} → HasRow NODE_PAT_ENTRY (Start NODE_PAT_ENTRY) blank c → AreSpelled (tokens_in c) → IsEntry c
 entry h = by (opened h refl)
   where
-    by : {g : Sketch} → Opening NODE_PAT_ENTRY (Start NODE_PAT_ENTRY) blank g → AreSpelled (tokens_in g) → IsEntry g
+    by : {g : AnnotatedForest} → Opening NODE_PAT_ENTRY (Start NODE_PAT_ENTRY) blank g → AreSpelled (tokens_in g) → IsEntry g
     by (by_token {k = k} {t = t} e op l) w = absurd (no_operand NODE_PAT_ENTRY t.kind t.text w.0 (subst (λ z. is_expression z ≡ true) e (entry_live k l)))
     by (by_branch {k = k} {f = f} r lev l s) w = entry_of k f l r
     by (by_fault n l r) w = absurd (true_is_not_false (sym l))
 
 -- the names of the entries so far
-abbrev Tracks : List (List ℕ) → Sketch → Type 0
+abbrev Tracks : List (List ℕ) → AnnotatedForest → Type 0
 Tracks names b = (n : List ℕ) → is_among n names ≡ has_entry n b
 
 turned : (w v : Bool) → (if w then true else v) ≡ (if v then true else w)
@@ -86,19 +86,19 @@ turned true false = refl
 turned false true = refl
 turned false false = refl
 
-tracks_same : (names : List (List ℕ)) (b d x : Sketch) → d ≡ b ⊕ x → ((n : List ℕ) → has_entry n x ≡ false) → Tracks names b → Tracks names d
+tracks_same : (names : List (List ℕ)) (b d x : AnnotatedForest) → d ≡ b ⊕ x → ((n : List ℕ) → has_entry n x ≡ false) → Tracks names b → Tracks names d
 tracks_same names b d x e none h n =
     h n ∙ sym (if_not (has_entry n b)) ∙ ap (λ z. if has_entry n b then true else z) (sym (none n)) ∙ sym (has-⊕ n b x) ∙ ap (has_entry n) (sym e)
 
-tracks_entry : (names : List (List ℕ)) (b d c : Sketch) → IsEntry c → d ≡ b ⊕ one_branch NODE_PAT_ENTRY c → Tracks names b → Tracks (entry_text (mended c) ∷ names) d
+tracks_entry : (names : List (List ℕ)) (b d c : AnnotatedForest) → IsEntry c → d ≡ b ⊕ one_branch NODE_PAT_ENTRY c → Tracks names b → Tracks (entry_text (repaired c) ∷ names) d
 tracks_entry names b d c y e h n =
-    let test : bytes_eq n (entry_text (mended c)) ≡ is_same_name n (entry_name c) = ap (bytes_eq n) y.same ∙ sym (ap (is_same_name n) y.said) in
+    let test : bytes_eq n (entry_text (repaired c)) ≡ is_same_name n (entry_name c) = ap (bytes_eq n) y.same ∙ sym (ap (is_same_name n) y.said) in
     ap (λ z. if z then true else is_among n names) test ∙ ap (λ z. if is_same_name n (entry_name c) then true else z) (h n)
     ∙ turned (is_same_name n (entry_name c)) (has_entry n b) ∙ ap (λ z. if has_entry n b then true else z) (sym (if_not (is_same_name n (entry_name c))))
     ∙ sym (has-⊕ n b (one_branch NODE_PAT_ENTRY c)) ∙ ap (has_entry n) (sym e)
 
 -- an entry that is not reported is new
-not_repeated : (b c : Sketch) (y : IsEntry c) → Lacks is_repeated (repeated b c) → has_entry y.name.text b ≡ false
+not_repeated : (b c : AnnotatedForest) (y : IsEntry c) → Lacks is_repeated (repeated b c) → has_entry y.name.text b ≡ false
 not_repeated b c y h = by (has_entry y.name.text b) refl (subst (λ z. Lacks is_repeated (repeated_if z b)) y.said h)
   where
     by : (w : Bool) → has_entry y.name.text b ≡ w → Lacks is_repeated (if w then named_twice (extent_of (y.name ∷ [])) y.name.text ∷ [] else []) → has_entry y.name.text b ≡ false
@@ -109,42 +109,42 @@ patched_entries : (m : Note) (names : List (List ℕ)) (f : Forest) → are_entr
 patched_entries Stray names f h = h
 patched_entries _ names f h = assumption
 
-other_entries : (k : SyntaxKind) (names : List (List ℕ)) (b d c : Sketch) (f : Forest) → HasRow k (start k) blank c → AreSpelled (tokens_in c) → d ≡ b ⊕ one_branch k c → Tracks names b
-    → Lacks is_repeated (repeats k b c) → ((more : List (List ℕ)) → Tracks more d → are_entries_new more f ≡ true) → are_entries_new names (node k (mended c) f) ≡ true
+other_entries : (k : SyntaxKind) (names : List (List ℕ)) (b d c : AnnotatedForest) (f : Forest) → HasRow k (start k) blank c → AreSpelled (tokens_in c) → d ≡ b ⊕ one_branch k c → Tracks names b
+    → Lacks is_repeated (repeats k b c) → ((more : List (List ℕ)) → Tracks more d → are_entries_new more f ≡ true) → are_entries_new names (node k (repaired c) f) ≡ true
 other_entries NODE_PAT_ENTRY names b d c f r w e h l rest =
     let y : IsEntry c = entry r w in
-    let new : is_among (entry_text (mended c)) names ≡ false = h (entry_text (mended c)) ∙ ap (λ z. has_entry z b) y.same ∙ not_repeated b c y l in
-    ap (λ z. if z then false else are_entries_new (entry_text (mended c) ∷ names) f) new ∙ rest (entry_text (mended c) ∷ names) (tracks_entry names b d c y e h)
+    let new : is_among (entry_text (repaired c)) names ≡ false = h (entry_text (repaired c)) ∙ ap (λ z. has_entry z b) y.same ∙ not_repeated b c y l in
+    ap (λ z. if z then false else are_entries_new (entry_text (repaired c) ∷ names) f) new ∙ rest (entry_text (repaired c) ∷ names) (tracks_entry names b d c y e h)
 other_entries k names b d c f r w e h l rest = rest names (tracks_same names b d (one_branch k c) e (λ n. refl) h)
 
 -- no entry of a row has the name of one before it
-entries : {q₀ : SyntaxKind} {a : ℕ} {q q' : Spot} {b : Sketch} {i : ℕ} {us : List Token} {f : Sketch} {es : List Fault} → Stands q₀ a q q' b i us f es
-    → (names : List (List ℕ)) → Tracks names b → AreSpelled (tokens_in f) → Lacks is_ended es → Lacks is_repeated es → are_entries_new names (mended f) ≡ true
+entries : {q₀ : SyntaxKind} {a : ℕ} {q q' : RowState} {b : AnnotatedForest} {i : ℕ} {us : List Token} {f : AnnotatedForest} {es : List Fault} → Stands q₀ a q q' b i us f es
+    → (names : List (List ℕ)) → Tracks names b → AreSpelled (tokens_in f) → Lacks is_ended es → Lacks is_repeated es → are_entries_new names (repaired f) ≡ true
 entries end names h w n l = refl
 entries {b = b} (leafed {c = d} {k = k} {t = t} e op g v c j s) names h w n l = entries s names (tracks_same names b d (one_token k t) c (λ m. refl) h) w.1 n l
-entries (lost {x = x} {y = y} u v k s z) names h w n l = none_lost x y k z n
+entries (missing_part {x = x} {y = y} u v k s z) names h w n l = no_missing_part x y k z n
 entries {b = b} (wrong {d = d} {c = c} {f = f} {es = es} note ts e v beside o j s z) names h w n l =
-    patched_entries note names (mended f)
+    patched_entries note names (repaired f)
     (entries s names (tracks_same names b d (one_fault note c) o (λ m. refl) h) (spelled_rest (tokens_in c) (tokens_in f) w)
-    (lacks_rest is_ended (report note ts ∷ []) es (subst (Lacks is_ended) z n)) (lacks_rest is_repeated (report note ts ∷ []) es (subst (Lacks is_repeated) z l)))
+    (misses_rest is_ended (report note ts ∷ []) es (subst (Lacks is_ended) z n)) (misses_rest is_repeated (report note ts ∷ []) es (subst (Lacks is_repeated) z l)))
 entries {b = b} (second {d = d} {c = c} {f = f} {ds = ds} {es = es} v s x o q r m j y z) names h w n l =
     entries y names (tracks_same names b d (one_fault Twice c) m (λ x. refl) h) (spelled_rest (tokens_in c) (tokens_in f) w)
-    (lacks_rest is_ended (ds ++ report Twice (tokens_in c) ∷ []) es (subst (Lacks is_ended) z n)) (lacks_rest is_repeated (ds ++ report Twice (tokens_in c) ∷ []) es (subst (Lacks is_repeated) z l))
+    (misses_rest is_ended (ds ++ report Twice (tokens_in c) ∷ []) es (subst (Lacks is_ended) z n)) (misses_rest is_repeated (ds ++ report Twice (tokens_in c) ∷ []) es (subst (Lacks is_repeated) z l))
 entries {a = a} {b = b} (inner {x = x} {d = d} {i = i} {vs = vs} {c = c} {f = f} {ds = ds} {es = es} {k = k} v s x' form lev g m o j y z) names h w n l =
     let all : Lacks is_repeated ((ds ++ repeats k b c) ++ es) = subst (Lacks is_repeated) z l in
-    other_entries k names b d c (mended f) (record { depth = suc a; last = x; count = i; left = vs; faults = ds; stands = s }) (spelled_first (tokens_in c) (tokens_in f) w) o h
-    (lacks_rest is_repeated ds (repeats k b c) (lacks_first is_repeated (ds ++ repeats k b c) es all))
-    (λ more t. entries y more t (spelled_rest (tokens_in c) (tokens_in f) w) (lacks_rest is_ended (ds ++ repeats k b c) es (subst (Lacks is_ended) z n))
-    (lacks_rest is_repeated (ds ++ repeats k b c) es all))
+    other_entries k names b d c (repaired f) (record { depth = suc a; last = x; count = i; left = vs; faults = ds; stands = s }) (spelled_first (tokens_in c) (tokens_in f) w) o h
+    (misses_rest is_repeated ds (repeats k b c) (misses_first is_repeated (ds ++ repeats k b c) es all))
+    (λ more t. entries y more t (spelled_rest (tokens_in c) (tokens_in f) w) (misses_rest is_ended (ds ++ repeats k b c) es (subst (Lacks is_ended) z n))
+    (misses_rest is_repeated (ds ++ repeats k b c) es all))
 
 -- the name that a pattern is bound to, behind `@`
-abbrev is_bind_name : Spot → Bool
+abbrev is_bind_name : RowState → Bool
 is_bind_name (At p.BindName) = true
 is_bind_name q = false
 
-bind_beside : (m : Note) (k : SyntaxKind) (a : ℕ) (q r : Spot) (b : Sketch) (i : ℕ) (ts vs : List Token) → IsBeside m k a q r b i ts vs → q ≡ At p.BindName → (until : Until) × (m ≡ Unwanted until) × (r ≡ At p.BindName)
+bind_beside : (m : Note) (k : SyntaxKind) (a : ℕ) (q r : RowState) (b : AnnotatedForest) (i : ℕ) (ts vs : List Token) → IsBeside m k a q r b i ts vs → q ≡ At p.BindName → (until : Until) × (m ≡ Unwanted until) × (r ≡ At p.BindName)
 bind_beside Stray k a q r b i [] vs h e = absurd h
-bind_beside Stray k a q r b i (t ∷ ts) vs h e = absurd (true_is_not_false (sym h.4 ∙ ap live (sym h.3) ∙ ap (λ z. live (go z NODE_LITERAL)) e))
+bind_beside Stray k a q r b i (t ∷ ts) vs h e = absurd (true_is_not_false (sym h.4 ∙ ap live (sym h.3) ∙ ap (λ z. live (advance z NODE_LITERAL)) e))
 bind_beside (Unwanted until) k a q r b i [] vs h e = absurd h
 bind_beside (Unwanted until) k a q r b i (t ∷ ts) vs h e =
     let there : At h.4 ≡ At p.BindName = sym h.6 ∙ e in
@@ -152,18 +152,18 @@ bind_beside (Unwanted until) k a q r b i (t ∷ ts) vs h e =
 bind_beside Extra k a q r b i [] vs h e = absurd h
 bind_beside Extra k a q r b i (t ∷ ts) vs h e = absurd (true_is_not_false (sym (ap is_bind_name e) ∙ ap is_bind_name h.3))
 bind_beside Twice k a q r b i ts vs h e = absurd h
-bind_beside TooDeep k a q r b i ts vs h e = absurd (true_is_not_false (sym h.4 ∙ ap live (sym h.3) ∙ ap (λ z. live (go z NODE_LITERAL)) e))
+bind_beside TooDeep k a q r b i ts vs h e = absurd (true_is_not_false (sym h.4 ∙ ap live (sym h.3) ∙ ap (λ z. live (advance z NODE_LITERAL)) e))
 
-bound_name : {k : SyntaxKind} {a : ℕ} {q q' : Spot} {b : Sketch} {i : ℕ} {us : List Token} {f : Sketch} {es : List Fault} → Stands k a q q' b i us f es
-    → q ≡ At p.BindName → AreSpelled (tokens_in f) → AreNamed q f → Lacks is_ended es → first_is_no_or (mended f) ≡ true
+bound_name : {k : SyntaxKind} {a : ℕ} {q q' : RowState} {b : AnnotatedForest} {i : ℕ} {us : List Token} {f : AnnotatedForest} {es : List Fault} → Stands k a q q' b i us f es
+    → q ≡ At p.BindName → AreSpelled (tokens_in f) → AreNamed q f → Lacks is_ended es → first_is_no_or (repaired f) ≡ true
 bound_name end e w n l = refl
 bound_name (leafed h op g v c j s) e w n l = refl
-bound_name (lost {x = x} {y = y} u v k s z) e w n l = none_lost x y k z l
+bound_name (missing_part {x = x} {y = y} u v k s z) e w n l = no_missing_part x y k z l
 bound_name {k = k} {a = a} {q = q} {b = b} {i = i} (wrong {r = r} {vs = vs} {c = c} {f = f} {es = es} note ts h v beside o j s z) e w n l =
     let there = bind_beside note k a q r b i ts vs beside e in
     let same : go_error q note ≡ r = ap (go_error q) there.1 ∙ ap (λ z. go_error z (Unwanted there.0)) e ∙ sym there.2 in
-    ap (λ m. first_is_no_or (patch m (mended f))) there.1
-    ∙ bound_name s there.2 (spelled_rest (tokens_in c) (tokens_in f) w) (subst (λ u. AreNamed u f) same n) (lacks_rest is_ended (report note ts ∷ []) es (subst (Lacks is_ended) z l))
+    ap (λ m. first_is_no_or (patch m (repaired f))) there.1
+    ∙ bound_name s there.2 (spelled_rest (tokens_in c) (tokens_in f) w) (subst (λ u. AreNamed u f) same n) (misses_rest is_ended (report note ts ∷ []) es (subst (Lacks is_ended) z l))
 bound_name (second v s x o q r m j y z) e w n l = absurd (true_is_not_false (sym (ap is_bind_name e) ∙ ap is_bind_name q))
 bound_name {a = a} {q = q} (inner {x = x} {i = i} {vs = vs} {c = c} {f = f} {ds = ds} {k = j} v s x' form lev g m o d y z) e w n l =
     named_no_or q j (record { depth = suc a; last = x; count = i; left = vs; faults = ds; stands = s }) (spelled_first (tokens_in c) (tokens_in f) w)
@@ -173,53 +173,53 @@ bind_kind : (k : SyntaxKind) → live (first_bind k) ≡ true → (is_expression
 bind_kind TOKEN_AT l n = refl
 bind_kind _ l n = cc
 
-no_expression : (parent k : SyntaxKind) (t : Token) → k ≡ told parent t → is_spelled t.kind t.text ≡ true → is_expression k ≡ false
+no_expression : (parent k : SyntaxKind) (t : Token) → k ≡ leaf_kind parent t → is_spelled t.kind t.text ≡ true → is_expression k ≡ false
 no_expression parent k t e w = false_from_ne_true (is_expression k) (λ h. no_operand parent t.kind t.text w (subst (λ z. is_expression z ≡ true) e h))
 
-binds : {k : SyntaxKind} {a : ℕ} {q q' : Spot} {b : Sketch} {i : ℕ} {us : List Token} {f : Sketch} {es : List Fault} → Stands k a q q' b i us f es
-    → q ≡ Start NODE_PAT_BIND → AreSpelled (tokens_in f) → AreNamed q f → Lacks is_ended es → binds_no_or (mended f) ≡ true
+binds : {k : SyntaxKind} {a : ℕ} {q q' : RowState} {b : AnnotatedForest} {i : ℕ} {us : List Token} {f : AnnotatedForest} {es : List Fault} → Stands k a q q' b i us f es
+    → q ≡ Start NODE_PAT_BIND → AreSpelled (tokens_in f) → AreNamed q f → Lacks is_ended es → binds_no_or (repaired f) ≡ true
 binds end e w n l = refl
 binds {k = p₀} {q = q} (leafed {r = r} {f = f} {k = k} {t = t} h op g v c j s) e w n l =
-    let there : go q k ≡ first_bind k = ap (λ z. go z k) e in
+    let there : advance q k ≡ first_bind k = ap (λ z. advance z k) e in
     let alive : live (first_bind k) ≡ true = ap live (sym there ∙ g) ∙ v in
     let at : r ≡ At p.BindName = sym g ∙ there ∙ bind_kind k alive (no_expression p₀ k t h w.0) in
     bound_name s at w.1 (subst (λ u. AreNamed u f) g n) l
-binds (lost {x = x} {y = y} u v k s z) e w n l = none_lost x y k z l
+binds (missing_part {x = x} {y = y} u v k s z) e w n l = no_missing_part x y k z l
 binds {k = k} {a = a} {q = q} {b = b} {i = i} (wrong {r = r} {vs = vs} {f = f} note ts h v beside o j s z) e w n l =
     absurd (dead note ts beside)
   where
     dead : (m : Note) (ts : List Token) → IsBeside m k a q r b i ts vs → ⊥
     dead Stray [] h = h
-    dead Stray (t ∷ ts) h = true_is_not_false (sym h.4 ∙ ap live (sym h.3) ∙ ap (λ z. live (go z NODE_LITERAL)) e)
+    dead Stray (t ∷ ts) h = true_is_not_false (sym h.4 ∙ ap live (sym h.3) ∙ ap (λ z. live (advance z NODE_LITERAL)) e)
     dead (Unwanted until) [] h = h
     dead (Unwanted until) (t ∷ ts) h = true_is_not_false (sym (ap is_place h.6) ∙ ap is_place e)
     dead Extra [] h = h
     dead Extra (t ∷ ts) h = true_is_not_false (sym (ap is_place h.3) ∙ ap is_place e)
     dead Twice ts h = h
-    dead TooDeep ts h = true_is_not_false (sym h.4 ∙ ap live (sym h.3) ∙ ap (λ z. live (go z NODE_LITERAL)) e)
+    dead TooDeep ts h = true_is_not_false (sym h.4 ∙ ap live (sym h.3) ∙ ap (λ z. live (advance z NODE_LITERAL)) e)
 binds (second v s x o q r m j y z) e w n l = absurd (true_is_not_false (sym (ap is_place q) ∙ ap is_place e))
 binds {a = a} {q = q} (inner {x = x} {i = i} {vs = vs} {c = c} {f = f} {ds = ds} {k = j} v s x' form lev g m o d y z) e w n l =
     named_no_or q j (record { depth = suc a; last = x; count = i; left = vs; faults = ds; stands = s }) (spelled_first (tokens_in c) (tokens_in f) w)
     (λ t h. sym (ap (λ u. is_name_at u t) e) ∙ h) n.0
 
 -- a tree and the rest of a row
-strict_node : (s q : Spot) (k : SyntaxKind) (c f : Forest) → Similar s q → live (go q k) ≡ true → may_stand q k c ≡ true → is_grouped k c ≡ true → is_strict (start k) c ≡ true
-    → is_strict (go q k) f ≡ true → is_strict s (node k c f) ≡ true
+strict_node : (s q : RowState) (k : SyntaxKind) (c f : Forest) → Similar s q → live (advance q k) ≡ true → may_stand q k c ≡ true → is_grouped k c ≡ true → is_strict (start k) c ≡ true
+    → is_strict (advance q k) f ≡ true → is_strict s (node k c f) ≡ true
 strict_node s q k c f sim l m g i r =
-    let same : go s k ≡ go q k = sim.like.goes k l in
-    and_from (live (go s k)) (may_stand s k c && (is_grouped k c && (is_strict (start k) c && is_strict (go s k) f))) (ap live same ∙ l)
-    (and_from (may_stand s k c) (is_grouped k c && (is_strict (start k) c && is_strict (go s k) f)) (sim.stands k c l m)
-    (and_from (is_grouped k c) (is_strict (start k) c && is_strict (go s k) f) g
-    (and_from (is_strict (start k) c) (is_strict (go s k) f) i (ap (λ z. is_strict z f) same ∙ r))))
+    let same : advance s k ≡ advance q k = sim.like.goes k l in
+    and_from (live (advance s k)) (may_stand s k c && (is_grouped k c && (is_strict (start k) c && is_strict (advance s k) f))) (ap live same ∙ l)
+    (and_from (may_stand s k c) (is_grouped k c && (is_strict (start k) c && is_strict (advance s k) f)) (sim.stands k c l m)
+    (and_from (is_grouped k c) (is_strict (start k) c && is_strict (advance s k) f) g
+    (and_from (is_strict (start k) c) (is_strict (advance s k) f) i (ap (λ z. is_strict z f) same ∙ r))))
 
-strict_leaf : (s q : Spot) (k : SyntaxKind) (t : List ℕ) (f : Forest) → Similar s q → live (go q k) ≡ true → is_strict (go q k) f ≡ true → is_strict s (leaf k t f) ≡ true
+strict_leaf : (s q : RowState) (k : SyntaxKind) (t : List ℕ) (f : Forest) → Similar s q → live (advance q k) ≡ true → is_strict (advance q k) f ≡ true → is_strict s (leaf k t f) ≡ true
 strict_leaf s q k t f sim l r =
-    let same : go s k ≡ go q k = sim.like.goes k l in
-    and_from (live (go s k)) (is_strict (go s k) f) (ap live same ∙ l) (ap (λ z. is_strict z f) same ∙ r)
+    let same : advance s k ≡ advance q k = sim.like.goes k l in
+    and_from (live (advance s k)) (is_strict (advance s k) f) (ap live same ∙ l) (ap (λ z. is_strict z f) same ∙ r)
 
 -- behind an error node the row goes on
-strict_fault : (m : Note) (k : SyntaxKind) (a : ℕ) (s q r : Spot) (b : Sketch) (i : ℕ) (ts vs : List Token) (f : Forest) → IsBeside m k a q r b i ts vs → Similar s q → IsHome k q
-    → ((z : Spot) → Similar z r → IsHome k r → is_strict z f ≡ true) → is_strict s (patch m f) ≡ true
+strict_fault : (m : Note) (k : SyntaxKind) (a : ℕ) (s q r : RowState) (b : AnnotatedForest) (i : ℕ) (ts vs : List Token) (f : Forest) → IsBeside m k a q r b i ts vs → Similar s q → IsHome k q
+    → ((z : RowState) → Similar z r → IsHome k r → is_strict z f ≡ true) → is_strict s (patch m f) ≡ true
 strict_fault Stray k a s q r b i [] vs f h sim home rest = absurd h
 strict_fault Stray k a s q r b i (t ∷ ts) vs f h sim home rest =
     strict_node s q NODE_LITERAL (leaf TOKEN_INTEGER (codes "0") empty) f sim (ap live h.3 ∙ h.4) (number_stands k q home) refl refl
@@ -241,37 +241,37 @@ corners_behind : (m : Note) (k : SyntaxKind) (f : Forest) → has_no_corner k (p
 corners_behind Stray k f h = h
 corners_behind _ k f h = assumption
 
--- a row whose errors are mended is strict
-pub row : {k : SyntaxKind} {a : ℕ} {q q' : Spot} {b : Sketch} {i : ℕ} {us : List Token} {f : Sketch} {es : List Fault} → Stands k a q q' b i us f es → (s : Spot) → Similar s q → whole q' ≡ true
-    → IsHome k q → AreSpelled (tokens_in f) → AreNamed q f → has_no_corner k (mended f) ≡ true → Lacks is_ended es → Lacks is_repeated es → is_strict s (mended f) ≡ true
+-- a row whose errors are repaired is strict
+pub row : {k : SyntaxKind} {a : ℕ} {q q' : RowState} {b : AnnotatedForest} {i : ℕ} {us : List Token} {f : AnnotatedForest} {es : List Fault} → Stands k a q q' b i us f es → (s : RowState) → Similar s q → whole q' ≡ true
+    → IsHome k q → AreSpelled (tokens_in f) → AreNamed q f → has_no_corner k (repaired f) ≡ true → Lacks is_ended es → Lacks is_repeated es → is_strict s (repaired f) ≡ true
 row end s sim done home w n o l m = sim.like.ends ∙ done
 row {k = k₀} {q = q} (leafed {r = r} {f = f} {k = k} {t = t} h op g v c j y) s sim done home w n o l m =
-    strict_leaf s q k t.text (mended f) sim (ap live g ∙ v)
-    (ap (λ z. is_strict z (mended f)) g ∙ row y r (similar_same r) done (subst (IsHome k₀) g (home_go k₀ q k home)) w.1 (subst (λ z. AreNamed z f) g n) o l m)
-row (lost {x = x} {y = y} u v g j z) s sim done home w n o l m = none_lost x y g z l
+    strict_leaf s q k t.text (repaired f) sim (ap live g ∙ v)
+    (ap (λ z. is_strict z (repaired f)) g ∙ row y r (similar_same r) done (subst (IsHome k₀) g (home_go k₀ q k home)) w.1 (subst (λ z. AreNamed z f) g n) o l m)
+row (missing_part {x = x} {y = y} u v g j z) s sim done home w n o l m = no_missing_part x y g z l
 row {k = k} {a = a} {q = q} {b = b} {i = i} (wrong {r = r} {vs = vs} {c = c} {f = f} {es = es} note ts h v beside x j y z) s sim done home w n o l m =
-    strict_fault note k a s q r b i ts vs (mended f) beside sim home
+    strict_fault note k a s q r b i ts vs (repaired f) beside sim home
     (λ u like there. row y u like done there (spelled_rest (tokens_in c) (tokens_in f) w) (subst (λ e. AreNamed e f) (beside_goes note k a q r b i ts vs beside) n)
-    (corners_behind note k (mended f) o) (lacks_rest is_ended (report note ts ∷ []) es (subst (Lacks is_ended) z l))
-    (lacks_rest is_repeated (report note ts ∷ []) es (subst (Lacks is_repeated) z m)))
+    (corners_behind note k (repaired f) o) (misses_rest is_ended (report note ts ∷ []) es (subst (Lacks is_ended) z l))
+    (misses_rest is_repeated (report note ts ∷ []) es (subst (Lacks is_repeated) z m)))
 row {k = k} {q = q₁} (second {c = c} {f = f} {ds = ds} {es = es} v y x par q r d j g z) s sim done home w n o l m =
     row g s (subst (Similar s) (sym r) (similar_past s (subst (Similar s) q sim))) done (subst (IsHome k) (sym r) (home_past k q₁ q home))
     (spelled_rest (tokens_in c) (tokens_in f) w) (subst (λ u. AreNamed u f) (sym r) n) o
-    (lacks_rest is_ended (ds ++ report Twice (tokens_in c) ∷ []) es (subst (Lacks is_ended) z l)) (lacks_rest is_repeated (ds ++ report Twice (tokens_in c) ∷ []) es (subst (Lacks is_repeated) z m))
+    (misses_rest is_ended (ds ++ report Twice (tokens_in c) ∷ []) es (subst (Lacks is_ended) z l)) (misses_rest is_repeated (ds ++ report Twice (tokens_in c) ∷ []) es (subst (Lacks is_repeated) z m))
 row {k = k₀} {a = a} {q = q} {b = b} (inner {r = r} {x = x} {i = i} {vs = vs} {c = c} {f = f} {ds = ds} {es = es} {k = k} v y whole_there form lev g alive d j rest z) s sim done home w n o l m =
-    let first_parts = and_parts (if is_corner k₀ k (mended c) then false else true) (has_no_corner k (mended c) && has_no_corner k₀ (mended f)) o in
-    let more_parts = and_parts (has_no_corner k (mended c)) (has_no_corner k₀ (mended f)) first_parts.1 in
+    let first_parts = and_parts (if is_corner k₀ k (repaired c) then false else true) (has_no_corner k (repaired c) && has_no_corner k₀ (repaired f)) o in
+    let more_parts = and_parts (has_no_corner k (repaired c)) (has_no_corner k₀ (repaired f)) first_parts.1 in
     let all : Lacks is_ended ((ds ++ repeats k b c) ++ es) = subst (Lacks is_ended) z l in
     let new : Lacks is_repeated ((ds ++ repeats k b c) ++ es) = subst (Lacks is_repeated) z m in
-    let l₁ : Lacks is_ended ds = lacks_first is_ended ds (repeats k b c) (lacks_first is_ended (ds ++ repeats k b c) es all) in
-    let m₁ : Lacks is_repeated ds = lacks_first is_repeated ds (repeats k b c) (lacks_first is_repeated (ds ++ repeats k b c) es new) in
+    let l₁ : Lacks is_ended ds = misses_first is_ended ds (repeats k b c) (misses_first is_ended (ds ++ repeats k b c) es all) in
+    let m₁ : Lacks is_repeated ds = misses_first is_repeated ds (repeats k b c) (misses_first is_repeated (ds ++ repeats k b c) es new) in
     let w₁ : AreSpelled (tokens_in c) = spelled_first (tokens_in c) (tokens_in f) w in
     let has : HasRow k (start k) blank c = record { depth = suc a; last = x; count = i; left = vs; faults = ds; stands = y } in
     let there : IsThere k₀ q b k c = record { row = has; spelled = w₁; formed = form; leveled = lev; goes = ap live g ∙ alive; named = n.0; home = home; no_corner = first_parts.0 } in
-    strict_node s q k (mended c) (mended f) sim (ap live g ∙ alive) (stands_there k₀ q b k c there)
+    strict_node s q k (repaired c) (repaired f) sim (ap live g ∙ alive) (stands_there k₀ q b k c there)
     (grouped k₀ k c has w₁ n.1 more_parts.0 first_parts.0 (entries y [] (λ u. refl) w₁ l₁ m₁)
     (λ e. binds y (ap start e) w₁ n.1 l₁))
     (row y (start k) (similar_same (start k)) whole_there (home_start k) w₁ n.1 more_parts.0 l₁ m₁)
-    (ap (λ u. is_strict u (mended f)) g
+    (ap (λ u. is_strict u (repaired f)) g
     ∙ row rest r (similar_same r) done (subst (IsHome k₀) g (home_go k₀ q k home)) (spelled_rest (tokens_in c) (tokens_in f) w) (subst (λ u. AreNamed u f) g n.2) more_parts.1
-    (lacks_rest is_ended (ds ++ repeats k b c) es all) (lacks_rest is_repeated (ds ++ repeats k b c) es new))
+    (misses_rest is_ended (ds ++ repeats k b c) es all) (misses_rest is_repeated (ds ++ repeats k b c) es new))

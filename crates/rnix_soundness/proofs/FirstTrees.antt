@@ -9,47 +9,47 @@ use Rattle.rnix_kinds.specs.SyntaxKind.{is_token}
 use Rattle.rnix_tree.specs.Forest.{Forest, empty, leaf, node}
 use Rattle.rnix_grammar.specs.Tables.{is_cur_pos}
 use Rattle.rnix_grammar.specs.Tables as tables
-use Rattle.rnix_grammar.specs.Sketch.{Token, Note, Stray, Sketch, blank, token, tokens_in, told, told_as}
-use Rattle.rnix_grammar.specs.Rows.{is_expression, Spot, Start, go, first, live}
+use Rattle.rnix_grammar.specs.AnnotatedForest.{Token, Note, Stray, AnnotatedForest, blank, token, tokens_in, leaf_kind, leaf_kind_as}
+use Rattle.rnix_grammar.specs.Rows.{is_expression, RowState, Start, advance, first, live}
 use Rattle.rnix_grammar.specs.Stands.{IsOpened}
 use Rattle.rnix_grammar.specs.Names.{is_position}
 use Rattle.rnix_grammar.specs.TokenKinds.{is_or}
 use Rattle.rnix_grammar.specs.Named.{is_spelled, AreSpelled}
-use Rattle.rnix_grammar.specs.Mended.{patch}
+use Rattle.rnix_grammar.specs.Repaired.{patch}
 use Rattle.rnix_lemmas.proofs.Basics.{true_is_not_false, not_if}
 use Rattle.rnix_lemmas.proofs.EveryKind.{never, whenever_two}
 use Rattle.rnix_lemmas.proofs.OpeningRows.{HasRow, Opening, by_token, by_branch, by_fault, opened, is_place, is_number, is_rowless, no_row}
 
 -- a row that begins with a token
-pub data IsLed (p : SyntaxKind) (q : Spot) (b : Sketch) : Sketch → Type 0 where
-  led : {k : SyntaxKind} {t : Token} {f : Sketch} → k ≡ told p t → IsOpened q b k → live (go q k) ≡ true → IsLed p q b (token k t f)
+pub data IsLed (p : SyntaxKind) (q : RowState) (b : AnnotatedForest) : AnnotatedForest → Type 0 where
+  led : {k : SyntaxKind} {t : Token} {f : AnnotatedForest} → k ≡ leaf_kind p t → IsOpened q b k → live (advance q k) ≡ true → IsLed p q b (token k t f)
 
 -- a row begins with a token where nothing that has a row may stand first
-pub token_first : {p : SyntaxKind} {q : Spot} {b f : Sketch} → is_place q ≡ false
-    → list_all (λ k. if live (go q k) then is_rowless k else true) all_kinds ≡ true → HasRow p q b f → IsLed p q b f
+pub token_first : {p : SyntaxKind} {q : RowState} {b f : AnnotatedForest} → is_place q ≡ false
+    → list_all (λ k. if live (advance q k) then is_rowless k else true) all_kinds ≡ true → HasRow p q b f → IsLed p q b f
 token_first {p = p} {q = q} {b = b} n all h = by (opened h n)
   where
-    rowless : (k : SyntaxKind) → live (go q k) ≡ true → is_rowless k ≡ true
-    rowless = implied (λ k. live (go q k)) is_rowless all
+    rowless : (k : SyntaxKind) → live (advance q k) ≡ true → is_rowless k ≡ true
+    rowless = implied (λ k. live (advance q k)) is_rowless all
 
-    by : {g : Sketch} → Opening p q b g → IsLed p q b g
+    by : {g : AnnotatedForest} → Opening p q b g → IsLed p q b g
     by (by_token e op l) = led e op l
     by (by_branch {k = k} c lev l r) = absurd (no_row k (rowless k l) c)
     by (by_fault n l r) = absurd (true_is_not_false (sym (rowless NODE_LITERAL l)))
 
 -- a name is one token, and it is `or` exactly if its token is
-pub data IsName : Sketch → Type 0 where
-  name : {k : SyntaxKind} {t : Token} {f : Sketch} → tables.is_or t.text ≡ is_or t.kind → IsName (token k t f)
+pub data IsName : AnnotatedForest → Type 0 where
+  name : {k : SyntaxKind} {t : Token} {f : AnnotatedForest} → tables.is_or t.text ≡ is_or t.kind → IsName (token k t f)
 
-name_spelled : (kind : SyntaxKind) (text : List ℕ) → live (first NODE_IDENT (told_as NODE_IDENT kind)) ≡ true → is_spelled kind text ≡ true → tables.is_or text ≡ is_or kind
+name_spelled : (kind : SyntaxKind) (text : List ℕ) → live (first NODE_IDENT (leaf_kind_as NODE_IDENT kind)) ≡ true → is_spelled kind text ≡ true → tables.is_or text ≡ is_or kind
 name_spelled TOKEN_IDENT text l h = not_if (tables.is_or text) h
 name_spelled _ text l h = cc
 
 -- a name is one token
-pub named : {c : Sketch} → HasRow NODE_IDENT (Start NODE_IDENT) blank c → AreSpelled (tokens_in c) → IsName c
+pub named : {c : AnnotatedForest} → HasRow NODE_IDENT (Start NODE_IDENT) blank c → AreSpelled (tokens_in c) → IsName c
 named h = by (token_first refl refl h)
   where
-    by : {g : Sketch} → IsLed NODE_IDENT (Start NODE_IDENT) blank g → AreSpelled (tokens_in g) → IsName g
+    by : {g : AnnotatedForest} → IsLed NODE_IDENT (Start NODE_IDENT) blank g → AreSpelled (tokens_in g) → IsName g
     by (led {t = t} e op l) w = name (name_spelled t.kind t.text (ap (λ z. live (first NODE_IDENT z)) (sym e) ∙ l) w.0)
 
 -- the token of the current position is spelled so
@@ -64,10 +64,10 @@ spelled_token TOKEN_CUR_POS text h = refl
 spelled_token kind text h = h
 
 -- no token is told as an expression
-pub no_operand : (p kind : SyntaxKind) (text : List ℕ) → is_spelled kind text ≡ true → is_expression (told_as p kind) ≡ true → ⊥
+pub no_operand : (p kind : SyntaxKind) (text : List ℕ) → is_spelled kind text ≡ true → is_expression (leaf_kind_as p kind) ≡ true → ⊥
 no_operand p kind text h e =
     never is_token is_expression refl kind (spelled_token kind text h)
-    (whenever_two (λ p k. is_expression (told_as p k)) (λ p k. is_expression k) refl p kind e)
+    (whenever_two (λ p k. is_expression (leaf_kind_as p k)) (λ p k. is_expression k) refl p kind e)
 
 -- a number before some trees
 abbrev pub numbered : Forest → Forest

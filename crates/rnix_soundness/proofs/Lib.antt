@@ -1,10 +1,10 @@
-pub mod SimilarSpots
-pub mod HomeSpots
+pub mod SimilarRowStates
+pub mod HomeRowStates
 pub mod FirstTrees
-pub mod MendedLevels
-pub mod MendedNames
-pub mod MendedStands
-pub mod MendedGroups
+pub mod RepairedLevels
+pub mod RepairedNames
+pub mod RepairedStands
+pub mod RepairedGroups
 pub mod Converse
 pub mod ConverseNames
 pub mod StrictCorners

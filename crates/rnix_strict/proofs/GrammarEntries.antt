@@ -6,7 +6,7 @@ use Rattle.rnix_kinds.specs.SyntaxKind.{is_token}
 use Rattle.rnix_tree.specs.Forest.{Forest, empty, leaf, node}
 use Rattle.rnix_grammar.specs.declared.place.Place.{Place}
 use Rattle.rnix_grammar.specs.declared.place.Place.TheVariants as p
-use Rattle.rnix_grammar.specs.Rows.{is_attr, is_entry, Spot, BeforeBrace, At, go_names, go, to, live, whole, start}
+use Rattle.rnix_grammar.specs.Rows.{is_attr, is_entry, RowState, BeforeBrace, At, advance_names, advance, to, live, whole, start}
 use Rattle.rnix_grammar.specs.Plain.{is_node}
 use Rattle.rnix_grammar.specs.Grammar.{Strict, legacy_let, let_in, Atom, set, rec_set, Pieces, Attr, named_attr, string_attr, Attrpath, last_attr, attr_dot, Entries, entries_end, inheriting, binding, Binding, bind, Inherit, inherit_names, inherit_from, Names, names_end, inherited}
 use Rattle.rnix_lemmas.proofs.Basics.{true_is_not_false}
@@ -39,10 +39,10 @@ attr_rest k d f h =
     (e, subst (λ q. Held q f) (ap (λ w. to w (At p.AttrpathMore)) e) h.4)
 
 dot_rest : (j : SyntaxKind) (t : List ℕ) (f : Forest) → Held (At p.AttrpathMore) (leaf j t f) → (j ≡ TOKEN_DOT) × Held (At p.AttrpathStart) f
-dot_rest j t f h = let e : j ≡ TOKEN_DOT = only (λ i. live (go (At p.AttrpathMore) i)) TOKEN_DOT refl j h.1 in (e, subst (λ i. Held (go (At p.AttrpathMore) i) f) e h.2)
+dot_rest j t f h = let e : j ≡ TOKEN_DOT = only (λ i. live (advance (At p.AttrpathMore) i)) TOKEN_DOT refl j h.1 in (e, subst (λ i. Held (advance (At p.AttrpathMore) i) f) e h.2)
 
 no_dot : (j : SyntaxKind) (d f : Forest) → Held (At p.AttrpathMore) (node j d f) → ⊥
-no_dot j d f h = no_token TOKEN_DOT refl (subst (λ i. is_node i ≡ true) (only (λ i. live (go (At p.AttrpathMore) i)) TOKEN_DOT refl j h.1) h.0)
+no_dot j d f h = no_token TOKEN_DOT refl (subst (λ i. is_node i ≡ true) (only (λ i. live (advance (At p.AttrpathMore) i)) TOKEN_DOT refl j h.1) h.0)
 
 pub attrpath_form : (f : Forest) → Held (At p.AttrpathStart) f → Attrpath f
 attrpath_form empty h = absurd (true_is_not_false (sym h))
@@ -61,8 +61,8 @@ binding_form =
     (λ s. of_operand p.ValueInside _ refl (λ k d e. of_leaf (At p.ValueEnd) TOKEN_SEMICOLON _ refl refl refl (λ t. of_past _ (bind a e)))))
 
 -- names that are inherited
-names_attr : (k : SyntaxKind) → is_node k ≡ true → live (go_names k) ≡ true → is_attr k ≡ true
-names_attr = whenever_both is_node (λ k. live (go_names k)) is_attr refl
+names_attr : (k : SyntaxKind) → is_node k ≡ true → live (advance_names k) ≡ true → is_attr k ≡ true
+names_attr = whenever_both is_node (λ k. live (advance_names k)) is_attr refl
 
 names_last : {t : List ℕ} {f : Forest} → Ends f → Names (leaf TOKEN_SEMICOLON t f)
 names_last ends = names_end
@@ -95,12 +95,12 @@ pub data Gathered (Q : Forest → Type 0) : Forest → Type 0 where
   gathered : {f g : Forest} → Entries f g → Q g → Gathered Q f
 
 -- entries stand at a place, and a token of a kind behind them
-pub record Gathering (x : Place) (w : SyntaxKind) (q : Spot) : Type 0 where
+pub record Gathering (x : Place) (w : SyntaxKind) (q : RowState) : Type 0 where
   pub stays : Gathers x
   pub ends : whole (At x) ≡ false
-  pub token : (k : SyntaxKind) → is_token k ≡ true → live (go (At x) k) ≡ true → k ≡ w
-  pub goes : go (At x) w ≡ q
-  pub entry : (k : SyntaxKind) → is_node k ≡ true → live (go (At x) k) ≡ true → is_entry k ≡ true
+  pub token : (k : SyntaxKind) → is_token k ≡ true → live (advance (At x) k) ≡ true → k ≡ w
+  pub goes : advance (At x) w ≡ q
+  pub entry : (k : SyntaxKind) → is_node k ≡ true → live (advance (At x) k) ≡ true → is_entry k ≡ true
 
 one_inherit : {Q : Forest → Type 0} {d f : Forest} → Inherit d → Gathered Q f → Gathered Q (node NODE_INHERIT d f)
 one_inherit e (gathered r w) = gathered (inheriting e r) w
@@ -108,21 +108,21 @@ one_inherit e (gathered r w) = gathered (inheriting e r) w
 one_binding : {Q : Forest → Type 0} {d f : Forest} → Binding d → Gathered Q f → Gathered Q (node NODE_ATTRPATH_VALUE d f)
 one_binding e (gathered r w) = gathered (binding e r) w
 
-one_entry : (x : Place) {Q : Forest → Type 0} (k : SyntaxKind) (d f : Forest) → Gathers x → is_entry k ≡ true → Means k d → Held (go (At x) k) f → (Held (At x) f → Gathered Q f)
+one_entry : (x : Place) {Q : Forest → Type 0} (k : SyntaxKind) (d f : Forest) → Gathers x → is_entry k ≡ true → Means k d → Held (advance (At x) k) f → (Held (At x) f → Gathered Q f)
     → Gathered Q (node k d f)
 one_entry x NODE_INHERIT d f o e m h n = one_inherit m (n (subst (λ q. Held q f) o.inherit_stays h))
 one_entry x NODE_ATTRPATH_VALUE d f o e m h n = one_binding m (n (subst (λ q. Held q f) o.bind_stays h))
 one_entry x _ d f o e m h n = absurd (true_is_not_false (sym e))
 
-at_entries : (x : Place) (w : SyntaxKind) (q : Spot) {Q : Forest → Type 0} → Gathering x w q → ((f : Forest) → Held q f → Q f) → (f : Forest) → Held (At x) f → Gathered (Leads w Q) f
+at_entries : (x : Place) (w : SyntaxKind) (q : RowState) {Q : Forest → Type 0} → Gathering x w q → ((f : Forest) → Held q f → Q f) → (f : Forest) → Held (At x) f → Gathered (Leads w Q) f
 at_entries x w q o n empty h = absurd (true_is_not_false (sym h ∙ o.ends))
 at_entries x w q {Q = Q} o n (leaf k t f) h =
     let e : k ≡ w = o.token k h.0 h.1 in
-    subst (λ i. Gathered (Leads w Q) (leaf i t f)) (sym e) (gathered entries_end (leads (n f (subst (λ z. Held z f) (ap (go (At x)) e ∙ o.goes) h.2))))
+    subst (λ i. Gathered (Leads w Q) (leaf i t f)) (sym e) (gathered entries_end (leads (n f (subst (λ z. Held z f) (ap (advance (At x)) e ∙ o.goes) h.2))))
 at_entries x w q o n (node k d f) h = one_entry x k d f o.stays (o.entry k h.0 h.1) h.3 h.4 (at_entries x w q o n f)
 
 -- what holds of entries with such a token behind them holds of each row there
-of_entries : (x : Place) {w : SyntaxKind} {q : Spot} (P : Forest → Type 0) → Gathering x w q → ((t : List ℕ) (g : Forest) → Held q g → (f : Forest)
+of_entries : (x : Place) {w : SyntaxKind} {q : RowState} (P : Forest → Type 0) → Gathering x w q → ((t : List ℕ) (g : Forest) → Held q g → (f : Forest)
     → Entries f (leaf w t g) → P f)
     → (f : Forest) → Held (At x) f → P f
 of_entries x {w = w} {q = q} P o n f h = by (at_entries x w q {Q = Held q} o (λ g r. r) f h)
@@ -149,7 +149,7 @@ set_form (leaf TOKEN_REC t f) h =
     (λ s. of_entries p.SetInside _ gathers_set (λ u. of_past _ (λ g r. rec_set r))) f
     (leaf_rest (start NODE_ATTR_SET) TOKEN_REC t f h)
 set_form (leaf _ t f) h = absurd (not_together refl h.0 h.1)
-set_form (node k d f) h = absurd (never is_node (λ j. live (go (start NODE_ATTR_SET) j)) refl k h.0 h.1)
+set_form (node k d f) h = absurd (never is_node (λ j. live (advance (start NODE_ATTR_SET) j)) refl k h.0 h.1)
 
 pub legacy_form : (f : Forest) → Held (start NODE_LEGACY_LET) f → Strict 0 NODE_LEGACY_LET f
 legacy_form =

@@ -9,11 +9,11 @@ use Rattle.rnix_kinds.specs.SyntaxKind.{is_token}
 use Rattle.rnix_tree.specs.Forest.{Forest, empty, leaf, node}
 use Rattle.rnix_lemmas.proofs.Basics.{true_is_not_false, choice}
 use Rattle.rnix_grammar.specs.declared.place.Place.{Place}
-use Rattle.rnix_grammar.specs.declared.slot.Slot.TheVariants as s
+use Rattle.rnix_grammar.specs.declared.symbol.Symbol.TheVariants as s
 use Rattle.rnix_grammar.specs.Tables.{is_cur_pos}
 use Rattle.rnix_grammar.specs.TokenKinds.{is_path_piece}
-use Rattle.rnix_grammar.specs.Slots.{slot_at, level_in}
-use Rattle.rnix_grammar.specs.Rows.{is_expression, is_infix, is_plain_literal, is_attr, fits, Spot, Start, BeforeArgument, At, go_slot, go, to, live, whole, start}
+use Rattle.rnix_grammar.specs.Symbols.{symbol_at, level_in}
+use Rattle.rnix_grammar.specs.Rows.{is_expression, is_infix, is_plain_literal, is_attr, fits, RowState, Start, BeforeArgument, At, advance_symbol, advance, to, live, whole, start}
 use Rattle.rnix_grammar.specs.Strict.{only_text, is_or_name, stands_at, stands_in, may_stand, is_grouped, is_strict}
 use Rattle.rnix_grammar.specs.Tables.{is_or}
 use Rattle.rnix_grammar.specs.Derivation.{has_tokens_alone}
@@ -47,7 +47,7 @@ pub may_start : (j k : SyntaxKind) (c : Forest) → is_expression k ≡ true →
 may_start j NODE_PAT_BIND c h = absurd (true_is_not_false (sym h))
 may_start j _ c h = refl
 
-pub may_operand : (x : Place) (level : ℕ) (k : SyntaxKind) (c : Forest) → level_in (slot_at x) ≡ Some level → stands_at level k c ≡ true → may_stand (At x) k c ≡ true
+pub may_operand : (x : Place) (level : ℕ) (k : SyntaxKind) (c : Forest) → level_in (symbol_at x) ≡ Some level → stands_at level k c ≡ true → may_stand (At x) k c ≡ true
 may_operand x level NODE_PAT_BIND c e h = absurd (true_is_not_false (sym h))
 may_operand x level k c e h = ap (λ o. stands_in o k c) e ∙ h
 
@@ -55,12 +55,12 @@ pub may_argument : (k : SyntaxKind) (c : Forest) → stands_at 16 k c ≡ true �
 may_argument NODE_PAT_BIND c h = absurd (true_is_not_false (sym h))
 may_argument k c h = choice (λ w. w ≡ true) (is_or_name k c) refl h
 
-pub may_attr : (x : Place) (k : SyntaxKind) (c : Forest) → level_in (slot_at x) ≡ None → is_attr k ≡ true → may_stand (At x) k c ≡ true
+pub may_attr : (x : Place) (k : SyntaxKind) (c : Forest) → level_in (symbol_at x) ≡ None → is_attr k ≡ true → may_stand (At x) k c ≡ true
 may_attr x NODE_PAT_BIND c e h = absurd (true_is_not_false (sym h))
 may_attr x k c e h = ap (λ o. stands_in o k c) e
 
--- from a spot on the row passes the test, and its leaves are tokens
-pub record Passes (q : Spot) (f : Forest) : Type 0 where
+-- from a state on the row passes the test, and its leaves are tokens
+pub record Passes (q : RowState) (f : Forest) : Type 0 where
   pub strict : is_strict q f ≡ true
   pub tokens : has_tokens_alone f ≡ true
 
@@ -85,35 +85,35 @@ pub stands : {level : ℕ} {k : SyntaxKind} {c : Forest} → fits level k ≡ tr
 stands f s g h = record { fit = f; stands = s; good = good g h }
 
 -- a row that may end
-pub passes_end : {q : Spot} → whole q ≡ true → Passes q empty
+pub passes_end : {q : RowState} → whole q ≡ true → Passes q empty
 passes_end h = record { strict = h; tokens = refl }
 
--- a row that begins with a leaf, behind which it stands at a spot
-pub passes_leaf_to : (q r : Spot) (k : SyntaxKind) {t : List ℕ} {f : Forest} → go q k ≡ r → live r ≡ true → is_token k ≡ true → Passes r f → Passes q (leaf k t f)
+-- a row that begins with a leaf, behind which it stands at a state
+pub passes_leaf_to : (q r : RowState) (k : SyntaxKind) {t : List ℕ} {f : Forest} → advance q k ≡ r → live r ≡ true → is_token k ≡ true → Passes r f → Passes q (leaf k t f)
 passes_leaf_to q r k {t = t} {f = f} e l i h = record {
   strict = ap (λ x. live x && is_strict x f) e ∙ ap (λ w. w && is_strict r f) l ∙ h.strict;
   tokens = ap (λ w. w && has_tokens_alone f) i ∙ h.tokens;
 }
 
-pub passes_leaf : {q : Spot} {k : SyntaxKind} {t : List ℕ} {f : Forest} → live (go q k) ≡ true → is_token k ≡ true → Passes (go q k) f → Passes q (leaf k t f)
-passes_leaf {q = q} {k = k} l i h = passes_leaf_to q (go q k) k refl l i h
+pub passes_leaf : {q : RowState} {k : SyntaxKind} {t : List ℕ} {f : Forest} → live (advance q k) ≡ true → is_token k ≡ true → Passes (advance q k) f → Passes q (leaf k t f)
+passes_leaf {q = q} {k = k} l i h = passes_leaf_to q (advance q k) k refl l i h
 
 -- a row that begins with a node
-pub passes_node_to : (q r : Spot) (k : SyntaxKind) {c f : Forest} → go q k ≡ r → live r ≡ true → may_stand q k c ≡ true → Good k c → Passes r f → Passes q (node k c f)
+pub passes_node_to : (q r : RowState) (k : SyntaxKind) {c f : Forest} → advance q k ≡ r → live r ≡ true → may_stand q k c ≡ true → Good k c → Passes r f → Passes q (node k c f)
 passes_node_to q r k {c = c} {f = f} e l m g h =
-    let t : live (go q k) ≡ true = ap live e ∙ l in
+    let t : live (advance q k) ≡ true = ap live e ∙ l in
     record {
       strict = and_from _ _ t (and_from _ _ m (and_from _ _ g.grouped (and_from _ _ g.row.strict (ap (λ x. is_strict x f) e ∙ h.strict))));
       tokens = and_from _ _ g.row.tokens h.tokens;
     }
 
-pub passes_node : {q : Spot} {k : SyntaxKind} {c f : Forest} → live (go q k) ≡ true → may_stand q k c ≡ true → Good k c → Passes (go q k) f
+pub passes_node : {q : RowState} {k : SyntaxKind} {c f : Forest} → live (advance q k) ≡ true → may_stand q k c ≡ true → Good k c → Passes (advance q k) f
     → Passes q (node k c f)
-passes_node {q = q} {k = k} l m g h = passes_node_to q (go q k) k refl l m g h
+passes_node {q = q} {k = k} l m g h = passes_node_to q (advance q k) k refl l m g h
 
 -- a row that begins with an operand
-pub passes_operand : {x behind : Place} {level : ℕ} {counted : Bool} {k : SyntaxKind} {c f : Forest} → slot_at x ≡ s.Operand level counted behind
+pub passes_operand : {x behind : Place} {level : ℕ} {counted : Bool} {k : SyntaxKind} {c f : Forest} → symbol_at x ≡ s.Operand level counted behind
     → StandsAt level k c → Passes (At behind) f
     → Passes (At x) (node k c f)
 passes_operand {x = x} {behind = behind} {level = level} {k = k} {c = c} e w h =
-    passes_node_to (At x) (At behind) k (ap (λ z. go_slot z x k) e ∙ ap (λ z. to z (At behind)) w.fit) refl (may_operand x level k c (ap level_in e) w.stands) w.good h
+    passes_node_to (At x) (At behind) k (ap (λ z. advance_symbol z x k) e ∙ ap (λ z. to z (At behind)) w.fit) refl (may_operand x level k c (ap level_in e) w.stands) w.good h

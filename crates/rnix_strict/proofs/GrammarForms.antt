@@ -12,7 +12,7 @@ use Rattle.rnix_grammar.specs.declared.place.Place.TheVariants as p
 use Rattle.rnix_grammar.specs.declared.until.Closer.{Closer}
 use Rattle.rnix_grammar.specs.declared.until.Closer.TheVariants as c
 use Rattle.rnix_grammar.specs.Tables.{closes}
-use Rattle.rnix_grammar.specs.Rows.{is_plain_literal, fits, Spot, At, go, to, live, start}
+use Rattle.rnix_grammar.specs.Rows.{is_plain_literal, fits, RowState, At, advance, to, live, start}
 use Rattle.rnix_grammar.specs.Corners.{node_count, is_one}
 use Rattle.rnix_grammar.specs.Plain.{is_node}
 use Rattle.rnix_grammar.specs.Grammar.{Strict, with_scope, assertion, if_else, Atom, paren, list, path_abs, path_rel, path_home, path_search, literal, Items, list_end, item, Pieces, string_end, content, interpolated, PathEnd, path_end, path_on, PathPieces, pieces_end, piece, piece_on, Interpol, interpol, Attr, dynamic_attr, Source, source}
@@ -22,13 +22,13 @@ use Rattle.rnix_lemmas.proofs.EveryKind.{never, not_together}
 use Rattle.rnix_strict.proofs.GrammarRows.{item_stays, dynamic_stays}
 use Rattle.rnix_strict.proofs.GrammarViews.{Leads, leads, Ends, ends, Means, Held, strict_of, at_past, operand_stands, of_leaf, of_operand, of_past}
 
-pub leaf_rest : (q : Spot) (k : SyntaxKind) (t : List ℕ) (f : Forest) → Held q (leaf k t f) → Held (go q k) f
+pub leaf_rest : (q : RowState) (k : SyntaxKind) (t : List ℕ) (f : Forest) → Held q (leaf k t f) → Held (advance q k) f
 leaf_rest q k t f h = h.2
 
-pub node_rest : (q : Spot) (k : SyntaxKind) (c f : Forest) → Held q (node k c f) → Held (go q k) f
+pub node_rest : (q : RowState) (k : SyntaxKind) (c f : Forest) → Held q (node k c f) → Held (advance q k) f
 node_rest q k c f h = h.4
 
-pub node_means : (q : Spot) (k : SyntaxKind) (c f : Forest) → Held q (node k c f) → Means k c
+pub node_means : (q : RowState) (k : SyntaxKind) (c f : Forest) → Held q (node k c f) → Means k c
 node_means q k c f h = h.3
 
 -- one expression between two tokens
@@ -113,7 +113,7 @@ path_pieces_form (node _ d f) h = absurd (not_together refl h.0 h.1)
 
 path_end_form : (f : Forest) → Held (At p.PathFirst) f → PathEnd f
 path_end_form empty h = path_end
-path_end_form (leaf k t f) h = absurd (never is_token (λ j. live (go (At p.PathFirst) j)) refl k h.0 h.1)
+path_end_form (leaf k t f) h = absurd (never is_token (λ j. live (advance (At p.PathFirst) j)) refl k h.0 h.1)
 path_end_form (node NODE_INTERPOL d f) h = path_on (node_means (At p.PathFirst) NODE_INTERPOL d f h) (path_pieces_form f (node_rest (At p.PathFirst) NODE_INTERPOL d f h))
 path_end_form (node _ d f) h = absurd (not_together refl h.0 h.1)
 
@@ -127,7 +127,7 @@ pub home_form : (f : Forest) → Held (start NODE_PATH_HOME) f → Atom NODE_PAT
 home_form = of_leaf (start NODE_PATH_HOME) TOKEN_PATH_HOME _ refl refl refl (λ t f h. path_home (path_end_form f h))
 
 -- a node in a series of operands is one
-series_fits : (closer : Closer) (k : SyntaxKind) (w : Bool) (q r : Spot) → is_node k ≡ true → live (if closes closer k then q else to w r) ≡ true → w ≡ true
+series_fits : (closer : Closer) (k : SyntaxKind) (w : Bool) (q r : RowState) → is_node k ≡ true → live (if closes closer k then q else to w r) ≡ true → w ≡ true
 series_fits closer k w q r i h = by (closes closer k) refl h
   where
     by : (v : Bool) → closes closer k ≡ v → live (if v then q else to w r) ≡ true → w ≡ true

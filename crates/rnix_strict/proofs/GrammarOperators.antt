@@ -6,8 +6,8 @@ use Rattle.rnix_kinds.specs.declared.kinds.SyntaxKind.TheVariants.{TOKEN_COLON, 
 use Rattle.rnix_kinds.specs.SyntaxKind.{is_token}
 use Rattle.rnix_tree.specs.Forest.{Forest, empty, leaf, node}
 use Rattle.rnix_grammar.specs.declared.place.Place.TheVariants as p
-use Rattle.rnix_grammar.specs.Levels.{power, left_of, right_of}
-use Rattle.rnix_grammar.specs.Rows.{is_atom, is_simple, is_questioned, is_operand, is_infix, BeforeOperator, BeforeDot, BeforeQuestion, BeforeArgument, At, go, to, live, start}
+use Rattle.rnix_grammar.specs.Levels.{binding_power, left_of, right_of}
+use Rattle.rnix_grammar.specs.Rows.{is_atom, is_simple, is_questioned, is_operand, is_infix, BeforeOperator, BeforeDot, BeforeQuestion, BeforeArgument, At, advance, to, live, start}
 use Rattle.rnix_grammar.specs.Strict.{only_text, operator_of, is_or_name, level_of, stands_at, is_strict_atom, first_stands, first_is_atom, is_grouped, may_stand}
 use Rattle.rnix_grammar.specs.Tables.{is_or}
 use Rattle.rnix_grammar.specs.Plain.{is_node}
@@ -45,11 +45,11 @@ infix_node : (o : SyntaxKind) → is_node o ≡ true → is_infix o ≡ true →
 infix_node o h i = no_token o (infix_token o i) h
 
 binary_row : (j : SyntaxKind) (a f : Forest) → Means j a → Held BeforeOperator f → stands_at (left_of (operator_of (node j a f))) j a ≡ true
-    → Strict (power (operator_of (node j a f))) NODE_BIN_OP (node j a f)
+    → Strict (binding_power (operator_of (node j a f))) NODE_BIN_OP (node j a f)
 binary_row j a empty m h g = absurd (true_is_not_false (sym h))
 binary_row j a (leaf o t f) m h g =
     let i : is_infix o ≡ true = live_to (is_infix o) (At (p.Right (right_of o))) h.1 in
-    of_operand (p.Right (right_of o)) (λ r. Strict (power o) NODE_BIN_OP (node j a (leaf o t r))) refl
+    of_operand (p.Right (right_of o)) (λ r. Strict (binding_power o) NODE_BIN_OP (node j a (leaf o t r))) refl
     (λ k d u. of_end (At (p.Operated (right_of o))) _ (λ k. refl) (binary i (strict_of (left_of o) j a m g) u)) f
     (subst (λ q. Held q f) (ap (λ w. to w (At (p.Right (right_of o)))) i) h.2)
 binary_row j a (node o d f) m h g = absurd (infix_node o h.0 (live_to (is_infix o) (At (p.Right (right_of o))) h.1))
@@ -111,7 +111,7 @@ prefix_form (leaf TOKEN_INVERT t f) h =
     of_operand p.Inverted (λ r. Strict 9 NODE_UNARY_OP (leaf TOKEN_INVERT t r)) refl (λ k c e. of_end (At (p.Operated 9)) _ (λ k. refl) (invert e)) f
     (leaf_rest (start NODE_UNARY_OP) TOKEN_INVERT t f h)
 prefix_form (leaf _ t f) h = absurd (not_together refl h.0 h.1)
-prefix_form (node k d f) h = absurd (never is_node (λ j. live (go (start NODE_UNARY_OP) j)) refl k h.0 h.1)
+prefix_form (node k d f) h = absurd (never is_node (λ j. live (advance (start NODE_UNARY_OP) j)) refl k h.0 h.1)
 
 -- functions
 applied : (j : SyntaxKind) (a f : Forest) → Parameter j a → Held (At p.LambdaColon) f → Strict 0 NODE_LAMBDA (node j a f)
@@ -121,7 +121,7 @@ applied j a f q h =
 
 pub lambda_form : (f : Forest) → Held (start NODE_LAMBDA) f → Strict 0 NODE_LAMBDA f
 lambda_form empty h = absurd (true_is_not_false (sym h))
-lambda_form (leaf k t f) h = absurd (never is_token (λ j. live (go (start NODE_LAMBDA) j)) refl k h.0 h.1)
+lambda_form (leaf k t f) h = absurd (never is_token (λ j. live (advance (start NODE_LAMBDA) j)) refl k h.0 h.1)
 lambda_form (node NODE_IDENT_PARAM a f) h = applied NODE_IDENT_PARAM a f (node_means (start NODE_LAMBDA) NODE_IDENT_PARAM a f h)
     (node_rest (start NODE_LAMBDA) NODE_IDENT_PARAM a f h)
 lambda_form (node NODE_PATTERN a f) h = applied NODE_PATTERN a f (node_means (start NODE_LAMBDA) NODE_PATTERN a f h)

@@ -5,7 +5,7 @@ use Rattle.rnix_kinds.specs.declared.kinds.SyntaxKind.{SyntaxKind}
 use Rattle.rnix_kinds.specs.declared.kinds.SyntaxKind.TheVariants.{TOKEN_AT, TOKEN_COMMA, TOKEN_ELLIPSIS, TOKEN_IDENT, TOKEN_L_BRACE, TOKEN_QUESTION, TOKEN_R_BRACE, NODE_IDENT, NODE_IDENT_PARAM, NODE_PAT_BIND, NODE_PAT_ENTRY, NODE_PATTERN}
 use Rattle.rnix_tree.specs.Forest.{Forest, empty, leaf, node}
 use Rattle.rnix_grammar.specs.declared.place.Place.TheVariants as p
-use Rattle.rnix_grammar.specs.Rows.{Spot, BeforeAt, At, go_formals, go, live, start}
+use Rattle.rnix_grammar.specs.Rows.{RowState, BeforeAt, At, advance_formals, advance, live, start}
 use Rattle.rnix_grammar.specs.Strict.{only_text, first_is_no_or, binds_no_or, entry_text, are_entries_new, begins_with_leaf, may_stand}
 use Rattle.rnix_grammar.specs.Tables.{is_or, is_among}
 use Rattle.rnix_kinds.specs.SyntaxKind.{is_token}
@@ -68,13 +68,13 @@ last_bind (binds_behind o) e ends = bound_behind o
 pattern_past : (f : Forest) → Held (At p.PatternPast) f → Ends f
 pattern_past = of_end (At p.PatternPast) Ends (λ k. refl) ends
 
-node_may : (q : Spot) (k : SyntaxKind) (d f : Forest) → Held q (node k d f) → may_stand q k d ≡ true
+node_may : (q : RowState) (k : SyntaxKind) (d f : Forest) → Held q (node k d f) → may_stand q k d ≡ true
 node_may q k d f h = h.2
 
 end_form : (bound : Bool) (f : Forest) → Held (At (p.PatternEnd bound)) f → PatternEnd bound f
 end_form bound empty h = pattern_end
 end_form true (leaf k t f) h = absurd (true_is_not_false (sym h.1))
-end_form false (leaf k t f) h = absurd (never is_token (λ j. live (go (At (p.PatternEnd false)) j)) refl k h.0 h.1)
+end_form false (leaf k t f) h = absurd (never is_token (λ j. live (advance (At (p.PatternEnd false)) j)) refl k h.0 h.1)
 end_form true (node k d f) h = absurd (true_is_not_false (sym h.1))
 end_form false (node NODE_PAT_BIND d f) h =
     last_bind (node_means (At (p.PatternEnd false)) NODE_PAT_BIND d f h) (node_may (At (p.PatternEnd false)) NODE_PAT_BIND d f h)
@@ -99,7 +99,7 @@ entry_leaf bound names d TOKEN_COMMA t f m e n h ih = entry_comma e m (ih (leaf_
 entry_leaf bound names d _ t f m e n h ih = absurd (not_together refl h.0 h.1)
 
 entry_node : (bound : Bool) (k : SyntaxKind) (d f : Forest) → Held (At (p.PatternAfter bound)) (node k d f) → ⊥
-entry_node bound k d f h = never is_node (λ j. live (go (At (p.PatternAfter bound)) j)) refl k h.0 h.1
+entry_node bound k d f h = never is_node (λ j. live (advance (At (p.PatternAfter bound)) j)) refl k h.0 h.1
 
 formals_form : (bound : Bool) (names : List (List ℕ)) (f : Forest) → Held (At (p.PatternInside bound)) f → are_entries_new names f ≡ true → Formals bound names f
 formals_form bound names empty h n = absurd (true_is_not_false (sym h))
@@ -118,7 +118,7 @@ formals_form bound names (node NODE_PAT_ENTRY d (node k e f)) h n = absurd (entr
 formals_form bound names (node _ d f) h n = absurd (not_together refl h.0 h.1)
 
 -- where a pattern begins the same may stand as inside it
-entry_may : (bound : Bool) (k : SyntaxKind) (d : Forest) → is_node k ≡ true → live (go_formals bound k) ≡ true → may_stand (At (p.PatternInside bound)) k d ≡ true
+entry_may : (bound : Bool) (k : SyntaxKind) (d : Forest) → is_node k ≡ true → live (advance_formals bound k) ≡ true → may_stand (At (p.PatternInside bound)) k d ≡ true
 entry_may bound NODE_PAT_ENTRY d i h = refl
 entry_may bound _ d i h = absurd (not_together refl i h)
 

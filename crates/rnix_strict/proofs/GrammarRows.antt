@@ -9,8 +9,8 @@ use Rattle.rnix_lemmas.proofs.Basics.{true_is_not_false, choice}
 use Rattle.rnix_grammar.specs.declared.place.Place.{Place}
 use Rattle.rnix_grammar.specs.declared.place.Place.TheVariants as p
 use Rattle.rnix_grammar.specs.Tables.{is_cur_pos}
-use Rattle.rnix_grammar.specs.Levels.{power, left_of, right_of}
-use Rattle.rnix_grammar.specs.Rows.{is_atom, is_simple, is_expression, is_infix, is_attr, fits, BeforeOperator, BeforeDot, BeforeQuestion, BeforeArgument, At, go, to, start}
+use Rattle.rnix_grammar.specs.Levels.{binding_power, left_of, right_of}
+use Rattle.rnix_grammar.specs.Rows.{is_atom, is_simple, is_expression, is_infix, is_attr, fits, BeforeOperator, BeforeDot, BeforeQuestion, BeforeArgument, At, advance, to, start}
 use Rattle.rnix_grammar.specs.Strict.{is_named, first_stands, is_or_name, is_strict_atom, is_grouped, entry_text, are_entries_new, may_stand, stands_at}
 use Rattle.rnix_grammar.specs.Tables.{is_or, is_among}
 use Rattle.rnix_grammar.specs.Grammar.{name, PatternEnd, pattern_end, bound_behind}
@@ -34,7 +34,7 @@ pub record PassesAttr (k : SyntaxKind) (c : Forest) : Type 0 where
   pub good : Good k c
 
 pub record PassesParameter (k : SyntaxKind) (c : Forest) : Type 0 where
-  pub goes : go (start NODE_LAMBDA) k ≡ At p.LambdaColon
+  pub goes : advance (start NODE_LAMBDA) k ≡ At p.LambdaColon
   pub may : may_stand (start NODE_LAMBDA) k c ≡ true
   pub good : Good k c
 
@@ -53,8 +53,8 @@ pub record PassesNames (f : Forest) : Type 0 where
 
 -- entries may stand at a place, which they do not leave
 pub record Gathers (x : Place) : Type 0 where
-  pub inherit_stays : go (At x) NODE_INHERIT ≡ At x
-  pub bind_stays : go (At x) NODE_ATTRPATH_VALUE ≡ At x
+  pub inherit_stays : advance (At x) NODE_INHERIT ≡ At x
+  pub bind_stays : advance (At x) NODE_ATTRPATH_VALUE ≡ At x
   pub inherit_may : (c : Forest) → may_stand (At x) NODE_INHERIT c ≡ true
   pub bind_may : (c : Forest) → may_stand (At x) NODE_ATTRPATH_VALUE c ≡ true
 
@@ -77,19 +77,19 @@ pub value_name : (t : List ℕ) → is_or t ≡ false → is_cur_pos t ≡ false
 value_name t h e = ap (λ w. if w then false else (if is_cur_pos t then false else true)) h ∙ ap (λ w. if w then false else true) e
 
 -- operands of a series, and attributes, stay among their like
-pub item_stays : (k : SyntaxKind) → fits 16 k ≡ true → go (At p.ListInside) k ≡ At p.ListInside
+pub item_stays : (k : SyntaxKind) → fits 16 k ≡ true → advance (At p.ListInside) k ≡ At p.ListInside
 item_stays TOKEN_R_BRACK h = absurd (true_is_not_false (sym h))
 item_stays k h = ap (λ w. to w (At p.ListInside)) h
 
-pub dynamic_stays : (k : SyntaxKind) → fits 0 k ≡ true → go (At p.DynamicInside) k ≡ At p.DynamicInside
+pub dynamic_stays : (k : SyntaxKind) → fits 0 k ≡ true → advance (At p.DynamicInside) k ≡ At p.DynamicInside
 dynamic_stays TOKEN_INTERPOL_END h = absurd (true_is_not_false (sym h))
 dynamic_stays k h = ap (λ w. to w (At p.DynamicInside)) h
 
-pub names_go : (k : SyntaxKind) → is_attr k ≡ true → go (At p.InheritNames) k ≡ At p.InheritNames
+pub names_go : (k : SyntaxKind) → is_attr k ≡ true → advance (At p.InheritNames) k ≡ At p.InheritNames
 names_go NODE_IDENT h = refl
 names_go _ h = cc
 
-pub source_goes : (k : SyntaxKind) → is_attr k ≡ true → go (At p.InheritStart) k ≡ At p.InheritNames
+pub source_goes : (k : SyntaxKind) → is_attr k ≡ true → advance (At p.InheritStart) k ≡ At p.InheritNames
 source_goes NODE_IDENT h = refl
 source_goes _ h = cc
 
@@ -152,10 +152,10 @@ has_good {k = k} {a = a} h r = record {
 }
 
 pub binary_good : {o j k : SyntaxKind} {a b : Forest} {t : List ℕ} → is_infix o ≡ true → StandsAt (left_of o) j a → StandsAt (right_of o) k b
-    → StandsAt (power o) NODE_BIN_OP (node j a (leaf o t (node k b empty)))
+    → StandsAt (binding_power o) NODE_BIN_OP (node j a (leaf o t (node k b empty)))
 binary_good {o = o} {j = j} {a = a} h l r = record {
-  fit = fits_looser (power o) 12 NODE_BIN_OP (operates o h).most refl;
-  stands = at_most_true (power o) (power o) (omega arith);
+  fit = fits_looser (binding_power o) 12 NODE_BIN_OP (operates o h).most refl;
+  stands = at_most_true (binding_power o) (binding_power o) (omega arith);
   good = record {
     grouped = l.stands;
     row = passes_node_to (start NODE_BIN_OP) BeforeOperator j

@@ -6,7 +6,7 @@ use Rattle.rnix_kinds.specs.declared.kinds.SyntaxKind.TheVariants.{TOKEN_AT, TOK
 use Rattle.rnix_tree.specs.Forest.{Forest, empty, leaf, node}
 use Rattle.rnix_grammar.specs.declared.place.Place.{Place}
 use Rattle.rnix_grammar.specs.declared.place.Place.TheVariants as p
-use Rattle.rnix_grammar.specs.Rows.{go_first_piece, At, to, start}
+use Rattle.rnix_grammar.specs.Rows.{advance_first_piece, At, to, start}
 use Rattle.rnix_grammar.specs.Strict.{is_strict}
 use Rattle.rnix_grammar.specs.Derivation.{is_strict_tree, has_tokens_alone}
 use Rattle.rnix_grammar.specs.Grammar.{name, Strict, looser, atom, select, select_or, apply_or, apply, negate, has_attr, binary, invert, lambda, legacy_let, let_in, with_scope, assertion, if_else, Atom, paren, set, rec_set, list, string, path_abs, path_rel, path_home, path_search, literal, named, current_position, Items, list_end, item, Pieces, string_end, content, interpolated, PathEnd, path_end, path_on, PathPieces, pieces_end, piece, piece_on, Interpol, interpol, Attr, named_attr, string_attr, dynamic_attr, Attrpath, last_attr, attr_dot, Entries, entries_end, inheriting, binding, Binding, bind, Inherit, inherit_names, inherit_from, Source, source, Names, names_end, inherited, Parameter, parameter, pattern, bound_pattern, Formals, formals_end, ellipsis, last_entry, entry_comma, Formal, entry, default_entry, IsExpression, expression}
@@ -87,7 +87,7 @@ mutual
 
   path_pieces_pass : {f : Forest} → PathPieces f → Passes (At p.PathMore) f
   path_pieces_pass pieces_end = passes_end refl
-  path_pieces_pass (piece {j = j} h r) = passes_leaf_to (At p.PathMore) (At p.PathMore) j (ap (λ w. if w then At p.PathMore else go_first_piece j) h) refl (piece_token j h) (path_pieces_pass r)
+  path_pieces_pass (piece {j = j} h r) = passes_leaf_to (At p.PathMore) (At p.PathMore) j (ap (λ w. if w then At p.PathMore else advance_first_piece j) h) refl (piece_token j h) (path_pieces_pass r)
   path_pieces_pass (piece_on h r) = passes_node refl refl (interpol_good h) (path_pieces_pass r)
 
   interpol_good : {f : Forest} → Interpol f → Good NODE_INTERPOL f

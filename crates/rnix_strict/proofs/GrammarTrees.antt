@@ -7,7 +7,7 @@ use Rattle.rnix_kinds.specs.SyntaxKind.{is_token}
 use Rattle.rnix_tree.specs.Forest.{Forest, empty, leaf, node}
 use Rattle.rnix_lemmas.proofs.Basics.{true_is_not_false}
 use Rattle.rnix_grammar.specs.declared.place.Place.TheVariants as p
-use Rattle.rnix_grammar.specs.Rows.{Spot, At, go, live, start}
+use Rattle.rnix_grammar.specs.Rows.{RowState, At, advance, live, start}
 use Rattle.rnix_grammar.specs.Strict.{is_grouped, is_strict, is_strict_expression}
 use Rattle.rnix_grammar.specs.Derivation.{has_tokens_alone, is_strict_tree}
 use Rattle.rnix_grammar.specs.Plain.{is_node}
@@ -64,16 +64,16 @@ means NODE_IF_ELSE f h g = λ e. if_form f h
 means _ f h g = λ e. absurd (true_is_not_false (sym e))
 
 -- in a row that passes the test all nodes are what they are in the grammar
-held : (q : Spot) (f : Forest) → is_strict q f ≡ true → has_tokens_alone f ≡ true → Held q f
+held : (q : RowState) (f : Forest) → is_strict q f ≡ true → has_tokens_alone f ≡ true → Held q f
 held q empty h t = h
 held q (leaf k x f) h t =
     let a = and_parts (is_token k) (has_tokens_alone f) t in
-    let b = and_parts (live (go q k)) (is_strict (go q k) f) h in
-    (a.0, b.0, held (go q k) f b.1 a.1)
+    let b = and_parts (live (advance q k)) (is_strict (advance q k) f) h in
+    (a.0, b.0, held (advance q k) f b.1 a.1)
 held q (node k d f) h t =
     let a = and_parts (has_tokens_alone d) (has_tokens_alone f) t in
     let b : Parts q k d f = parts q k d f h in
-    (node_row k d b.inner, b.live, b.may, means k d (held (start k) d b.inner a.0) b.grouped, held (go q k) f b.more a.1)
+    (node_row k d b.inner, b.live, b.may, means k d (held (start k) d b.inner a.0) b.grouped, held (advance q k) f b.more a.1)
 
 -- what passes the test is an expression of the grammar
 pub strict_expression : (f : Forest) → is_strict_tree f ≡ true → IsExpression f

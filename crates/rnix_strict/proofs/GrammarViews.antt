@@ -9,10 +9,10 @@ use Rattle.rnix_kinds.specs.SyntaxKind.{is_token, place_of}
 use Rattle.rnix_tree.specs.Forest.{Forest, empty, leaf, node}
 use Rattle.rnix_grammar.specs.declared.place.Place.{Place}
 use Rattle.rnix_grammar.specs.declared.place.Place.TheVariants as p
-use Rattle.rnix_grammar.specs.declared.slot.Slot.TheVariants as s
+use Rattle.rnix_grammar.specs.declared.symbol.Symbol.TheVariants as s
 use Rattle.rnix_grammar.specs.Tables.{is_cur_pos}
-use Rattle.rnix_grammar.specs.Slots.{slot_at, level_in}
-use Rattle.rnix_grammar.specs.Rows.{is_expression, fits, Spot, At, go_slot, go, to, live, is_end, whole}
+use Rattle.rnix_grammar.specs.Symbols.{symbol_at, level_in}
+use Rattle.rnix_grammar.specs.Rows.{is_expression, fits, RowState, At, advance_symbol, advance, to, live, is_end, whole}
 use Rattle.rnix_grammar.specs.Strict.{is_named, is_strict_atom, entry_text, level_of, stands_at, stands_in, may_stand}
 use Rattle.rnix_grammar.specs.Tables.{is_or}
 use Rattle.rnix_grammar.specs.Plain.{is_node}
@@ -61,11 +61,11 @@ Means NODE_PAT_BIND c = IsBind c
 Means NODE_PAT_ENTRY c = Formal (entry_text c) c
 Means k c = is_expression k ≡ true → Strict (level_of k c) k c
 
--- a row from a spot on, whose nodes are what they are in the grammar
-abbrev pub Held : Spot → Forest → Type 0
+-- a row from a state on, whose nodes are what they are in the grammar
+abbrev pub Held : RowState → Forest → Type 0
 Held q empty = whole q ≡ true
-Held q (leaf k t f) = (is_token k ≡ true) × (live (go q k) ≡ true) × Held (go q k) f
-Held q (node k c f) = (is_node k ≡ true) × (live (go q k) ≡ true) × (may_stand q k c ≡ true) × Means k c × Held (go q k) f
+Held q (leaf k t f) = (is_token k ≡ true) × (live (advance q k) ≡ true) × Held (advance q k) f
+Held q (node k c f) = (is_node k ≡ true) × (live (advance q k) ≡ true) × (may_stand q k c ≡ true) × Means k c × Held (advance q k) f
 
 -- an atom's name stands for a value
 value_name : (t : List ℕ) → is_plain_name (leaf TOKEN_IDENT t empty) ≡ true → (is_or t ≡ false) × (is_cur_pos t ≡ false)
@@ -135,40 +135,40 @@ no_token = never is_token is_node refl
 pub no_expression : (k : SyntaxKind) → is_token k ≡ true → is_expression k ≡ true → ⊥
 no_expression = never is_token is_expression refl
 
--- one kind alone goes on from a spot
-abbrev pub GoesOn : Spot → SyntaxKind → Type 0
-GoesOn q w = list_all (λ k. if live (go q k) then nat_eq (place_of k) (place_of w) else true) all_kinds ≡ true
+-- one kind alone goes on from a state
+abbrev pub GoesOn : RowState → SyntaxKind → Type 0
+GoesOn q w = list_all (λ k. if live (advance q k) then nat_eq (place_of k) (place_of w) else true) all_kinds ≡ true
 
-alone : (q : Spot) (w : SyntaxKind) → GoesOn q w → (k : SyntaxKind) → live (go q k) ≡ true → k ≡ w
-alone q w = only (λ k. live (go q k)) w
+alone : (q : RowState) (w : SyntaxKind) → GoesOn q w → (k : SyntaxKind) → live (advance q k) ≡ true → k ≡ w
+alone q w = only (λ k. live (advance q k)) w
 
 -- what holds of the empty row, and of a leaf of the kind with any row behind it, holds of each row where that kind alone goes on
-pub of_optional : (q : Spot) (w : SyntaxKind) (P : Forest → Type 0) → GoesOn q w → is_token w ≡ true → (whole q ≡ true → P empty)
-    → ((t : List ℕ) (f : Forest) → Held (go q w) f → P (leaf w t f))
+pub of_optional : (q : RowState) (w : SyntaxKind) (P : Forest → Type 0) → GoesOn q w → is_token w ≡ true → (whole q ≡ true → P empty)
+    → ((t : List ℕ) (f : Forest) → Held (advance q w) f → P (leaf w t f))
     → (f : Forest) → Held q f → P f
 of_optional q w P o i z n empty h = z h
 of_optional q w P o i z n (leaf k t f) h =
     let same : k ≡ w = alone q w o k h.1 in
-    subst (λ j. P (leaf j t f)) (sym same) (n t f (subst (λ x. Held x f) (ap (go q) same) h.2))
+    subst (λ j. P (leaf j t f)) (sym same) (n t f (subst (λ x. Held x f) (ap (advance q) same) h.2))
 of_optional q w P o i z n (node k c f) h = absurd (no_token w i (subst (λ j. is_node j ≡ true) (alone q w o k h.1) h.0))
 
 -- so where the row may not end
-pub of_leaf : (q : Spot) (w : SyntaxKind) (P : Forest → Type 0) → whole q ≡ false → GoesOn q w → is_token w ≡ true → ((t : List ℕ) (f : Forest)
-    → Held (go q w) f → P (leaf w t f))
+pub of_leaf : (q : RowState) (w : SyntaxKind) (P : Forest → Type 0) → whole q ≡ false → GoesOn q w → is_token w ≡ true → ((t : List ℕ) (f : Forest)
+    → Held (advance q w) f → P (leaf w t f))
     → (f : Forest) → Held q f → P f
 of_leaf q w P d o i n = of_optional q w P o i (λ h. absurd (true_is_not_false (sym h ∙ d))) n
 
 -- so with a node of a kind
-pub of_child : (q : Spot) (w : SyntaxKind) (P : Forest → Type 0) → whole q ≡ false → GoesOn q w → is_token w ≡ false
-    → ((c : Forest) → Means w c → (f : Forest) → Held (go q w) f → P (node w c f)) → (f : Forest) → Held q f → P f
+pub of_child : (q : RowState) (w : SyntaxKind) (P : Forest → Type 0) → whole q ≡ false → GoesOn q w → is_token w ≡ false
+    → ((c : Forest) → Means w c → (f : Forest) → Held (advance q w) f → P (node w c f)) → (f : Forest) → Held q f → P f
 of_child q w P d o i n empty h = absurd (true_is_not_false (sym h ∙ d))
 of_child q w P d o i n (leaf k t f) h = absurd (true_is_not_false (sym (subst (λ j. is_token j ≡ true) (alone q w o k h.1) h.0) ∙ i))
 of_child q w P d o i n (node k c f) h =
     let same : k ≡ w = alone q w o k h.1 in
-    subst (λ j. P (node j c f)) (sym same) (n c (subst (λ j. Means j c) same h.3) f (subst (λ x. Held x f) (ap (go q) same) h.4))
+    subst (λ j. P (node j c f)) (sym same) (n c (subst (λ j. Means j c) same h.3) f (subst (λ x. Held x f) (ap (advance q) same) h.4))
 
 -- so where the row is over
-pub of_end : (q : Spot) (P : Forest → Type 0) → ((k : SyntaxKind) → live (go q k) ≡ false) → P empty → (f : Forest) → Held q f → P f
+pub of_end : (q : RowState) (P : Forest → Type 0) → ((k : SyntaxKind) → live (advance q k) ≡ false) → P empty → (f : Forest) → Held q f → P f
 of_end q P d n empty h = n
 of_end q P d n (leaf k t f) h = absurd (true_is_not_false (sym h.1 ∙ d k))
 of_end q P d n (node k c f) h = absurd (true_is_not_false (sym h.1 ∙ d k))
@@ -181,19 +181,19 @@ pub at_past : (f : Forest) → Held (At p.Past) f → Ends f
 at_past = of_past Ends ends
 
 -- what stands where an operand may is one
-pub operand_stands : (x : Place) (level : ℕ) (k : SyntaxKind) (c : Forest) → level_in (slot_at x) ≡ Some level → is_expression k ≡ true → may_stand (At x) k c ≡ true
+pub operand_stands : (x : Place) (level : ℕ) (k : SyntaxKind) (c : Forest) → level_in (symbol_at x) ≡ Some level → is_expression k ≡ true → may_stand (At x) k c ≡ true
     → stands_at level k c ≡ true
 operand_stands x level NODE_PAT_BIND c e i h = absurd (true_is_not_false (sym i))
 operand_stands x level k c e i h = ap (λ o. stands_in o k c) (sym e) ∙ h
 
 -- so with an expression of a level
-pub of_operand : (x : Place) {behind : Place} {level : ℕ} {counted : Bool} (P : Forest → Type 0) → slot_at x ≡ s.Operand level counted behind
+pub of_operand : (x : Place) {behind : Place} {level : ℕ} {counted : Bool} (P : Forest → Type 0) → symbol_at x ≡ s.Operand level counted behind
     → ((k : SyntaxKind) (c : Forest) → Strict level k c → (f : Forest) → Held (At behind) f → P (node k c f)) → (f : Forest) → Held (At x) f → P f
 of_operand x P e n empty h = absurd (true_is_not_false (sym h ∙ ap is_end e))
 of_operand x {behind = behind} {level = level} P e n (leaf k t f) h =
-    let fit : fits level k ≡ true = live_to (fits level k) (At behind) (ap (λ z. live (go_slot z x k)) (sym e) ∙ h.1) in
+    let fit : fits level k ≡ true = live_to (fits level k) (At behind) (ap (λ z. live (advance_symbol z x k)) (sym e) ∙ h.1) in
     absurd (no_expression k h.0 (fits_expression level k fit))
 of_operand x {behind = behind} {level = level} P e n (node k c f) h =
-    let fit : fits level k ≡ true = live_to (fits level k) (At behind) (ap (λ z. live (go_slot z x k)) (sym e) ∙ h.1) in
+    let fit : fits level k ≡ true = live_to (fits level k) (At behind) (ap (λ z. live (advance_symbol z x k)) (sym e) ∙ h.1) in
     n k c (strict_of level k c h.3 (operand_stands x level k c (ap level_in e) (fits_expression level k fit) h.2)) f
-    (subst (λ q. Held q f) (ap (λ z. go_slot z x k) e ∙ ap (λ z. to z (At behind)) fit) h.4)
+    (subst (λ q. Held q f) (ap (λ z. advance_symbol z x k) e ∙ ap (λ z. to z (At behind)) fit) h.4)

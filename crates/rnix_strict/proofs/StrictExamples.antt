@@ -5,10 +5,10 @@ use Rattle.rnix_kinds.specs.declared.kinds.SyntaxKind.{SyntaxKind}
 use Rattle.rnix_kinds.specs.declared.kinds.SyntaxKind.TheVariants.{TOKEN_IDENT, TOKEN_CUR_POS, TOKEN_INTEGER, TOKEN_ADD, TOKEN_SUB, TOKEN_MUL, TOKEN_EQUAL, TOKEN_INVERT, TOKEN_COLON, TOKEN_COMMA, TOKEN_QUESTION, TOKEN_AT, TOKEN_DOT, TOKEN_OR, TOKEN_L_BRACE, TOKEN_R_BRACE, TOKEN_L_BRACK, TOKEN_R_BRACK, TOKEN_L_PAREN, TOKEN_R_PAREN, TOKEN_INTERPOL_START, TOKEN_INTERPOL_END, TOKEN_CONCAT, NODE_APPLY, NODE_ATTRPATH, NODE_BIN_OP, NODE_CUR_POS, NODE_DYNAMIC, NODE_HAS_ATTR, NODE_IDENT, NODE_IDENT_PARAM, NODE_LAMBDA, NODE_LIST, NODE_LITERAL, NODE_PAREN, NODE_PATTERN, NODE_PAT_BIND, NODE_PAT_ENTRY, NODE_ROOT, NODE_SELECT, NODE_UNARY_OP, TOKEN_LESS, TOKEN_IMPLICATION}
 use Rattle.rnix_tree.specs.Forest.{Forest, empty, leaf, node}
 use Rattle.rnix_grammar.specs.declared.place.Place.TheVariants.{RootStart, AttrpathStart, InheritName, BindName}
-use Rattle.rnix_grammar.specs.Sketch.{Token, Sketch, Stray, Extra, one_token, one_fault}
+use Rattle.rnix_grammar.specs.AnnotatedForest.{Token, AnnotatedForest, Stray, Extra, one_token, one_fault}
 use Rattle.rnix_grammar.specs.Rows.{Start, BeforeArgument, At}
 use Rattle.rnix_grammar.specs.Strict.{is_strict_expression}
-use Rattle.rnix_grammar.specs.Mended.{mended}
+use Rattle.rnix_grammar.specs.Repaired.{repaired}
 use Rattle.rnix_grammar.specs.Nest.{nest}
 use Rattle.rnix_grammar.specs.Names.{is_named}
 
@@ -246,10 +246,10 @@ or_token = record { kind = TOKEN_OR; text = codes "or"; start = 0; end = 2 }
 abbrev cur_pos_token : Token
 cur_pos_token = record { kind = TOKEN_IDENT; text = codes "__curPos"; start = 0; end = 8 }
 
-abbrev an_or : Sketch
+abbrev an_or : AnnotatedForest
 an_or = one_token TOKEN_IDENT or_token
 
-abbrev a_cur_pos : Sketch
+abbrev a_cur_pos : AnnotatedForest
 a_cur_pos = one_token TOKEN_IDENT cur_pos_token
 
 or_operand : is_named (At RootStart) NODE_IDENT an_or ≡ false
@@ -282,12 +282,12 @@ a_current_position = refl
 no_current_position : is_named (At RootStart) NODE_CUR_POS an_or ≡ false
 no_current_position = refl
 
--- an error node that is mended
-stray_mended : mended (one_fault Stray (one_token TOKEN_OR or_token)) ≡ node NODE_LITERAL (leaf TOKEN_INTEGER (codes "0") empty) empty
-stray_mended = refl
+-- an error node that is repaired
+stray_repaired : repaired (one_fault Stray (one_token TOKEN_OR or_token)) ≡ node NODE_LITERAL (leaf TOKEN_INTEGER (codes "0") empty) empty
+stray_repaired = refl
 
-extra_mended : mended (one_fault Extra (one_token TOKEN_OR or_token)) ≡ empty
-extra_mended = refl
+extra_repaired : repaired (one_fault Extra (one_token TOKEN_OR or_token)) ≡ empty
+extra_repaired = refl
 
 -- how many expressions that count are inside one another: in `1 + 1 * 1`, `-((1 + 1) 1)`, `a: [1 (1)]`, `a.${1}` and `{b ? 1}: a`
 nested_sum : nest NODE_ROOT (binary TOKEN_ADD number (binary TOKEN_MUL number number) empty) ≡ 1

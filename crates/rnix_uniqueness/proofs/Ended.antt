@@ -3,7 +3,7 @@ use Rattle.std.proofs.Common.{◌≡◌, ℕ, false, List, [], ◌∷◌, refl, 
 use Rattle.rnix_kinds.specs.declared.kinds.SyntaxKind.TheVariants.{NODE_ROOT}
 use Rattle.rnix_grammar.specs.declared.place.Place.TheVariants as p
 use Rattle.rnix_grammar.specs.Fault.{Fault}
-use Rattle.rnix_grammar.specs.Sketch.{Token, Sketch, blank}
+use Rattle.rnix_grammar.specs.AnnotatedForest.{Token, AnnotatedForest, blank}
 use Rattle.rnix_grammar.specs.Machine.{Node, Frame, Machine, machine, opened, begins, step, Runs, rest as here, then as further}
 
 -- from where no step changes anything, all steps lead back
@@ -22,20 +22,20 @@ same_end (further r) here u v = sym (stays v (further r))
 same_end (further r) (further s) u v = same_end r s u v
 
 -- the root's row is whole, with one tree
-abbrev pub root_frame : Sketch → Frame
+abbrev pub root_frame : AnnotatedForest → Frame
 root_frame row = opened (Node NODE_ROOT) p.RootEnd 0 row
 
 -- the root's frame alone, with nothing left to read
-abbrev pub ended_with : Sketch → ℕ → List Fault → Machine
+abbrev pub ended_with : AnnotatedForest → ℕ → List Fault → Machine
 ended_with row n es = machine (root_frame row ∷ []) [] n es
 
 -- the row of the innermost frame
-abbrev pub row_in : List Frame → Sketch
+abbrev pub row_in : List Frame → AnnotatedForest
 row_in [] = blank
 row_in (f ∷ fs) = f.row
 
 -- so what is read of some items to their end is one tree, with the same errors
-pub ended_once : (ts : List Token) (f : Sketch) (n : ℕ) (es : List Fault) (m : Machine) → Runs false (begins ts) (ended_with f n es)
+pub ended_once : (ts : List Token) (f : AnnotatedForest) (n : ℕ) (es : List Fault) (m : Machine) → Runs false (begins ts) (ended_with f n es)
     → Runs false (begins ts) m → step false m ≡ m
     → (row_in m.frames ≡ f) × (m.faults ≡ es)
 ended_once ts f n es m r q h =

@@ -6,7 +6,7 @@ use Rattle.rnix_tree.specs.Range.{Extent}
 use Rattle.rnix_grammar.specs.declared.until.Until.{Until}
 use Rattle.rnix_grammar.specs.Fault.{Fault, extra, unwanted, ended_before}
 use Rattle.rnix_grammar.specs.Tables.{wanted_kinds, operand_kinds}
-use Rattle.rnix_grammar.specs.Sketch.{Stray, Unwanted, Extra}
+use Rattle.rnix_grammar.specs.AnnotatedForest.{Stray, Unwanted, Extra}
 use Rattle.rnix_uniqueness.proofs.Refused.{Shape, done, item, node, wrong}
 
 -- a tree, before those behind it

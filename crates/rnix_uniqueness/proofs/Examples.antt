@@ -8,7 +8,7 @@ use Rattle.rnix_kinds.specs.Lexical.Tokens.{normal_cut, cut_at, tokens_behind}
 use Rattle.rnix_kinds.specs.Lexical.Texts.{space_len, begins_space, char_len}
 use Rattle.rnix_grammar.specs.declared.until.Until.TheVariants.{RParen, RBrace, Semicolon, Assign, Colon, Then, Else, Attr, Entry}
 use Rattle.rnix_grammar.specs.Fault.{ended, named_twice, too_deep}
-use Rattle.rnix_grammar.specs.Sketch.{TooDeep}
+use Rattle.rnix_grammar.specs.AnnotatedForest.{TooDeep}
 use Rattle.rnix_uniqueness.proofs.Refused.{done, item, node, wrong, Case, IsTold, is_told}
 use Rattle.rnix_uniqueness.proofs.ExampleWords.{nothing, paren, run, name, path, path_of, no_path, wrong_path, call, select, binary, function, function_of, entry, set, binding, no_list, stray, unwanteds, extras, within, is_extra, no_operand, instead, missing}
 

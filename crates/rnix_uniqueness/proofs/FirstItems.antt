@@ -1,4 +1,4 @@
--- What a row goes on with behind a spot that is no place: an item, or a name.
+-- What a row goes on with behind a state that is no place: an item, or a name.
 use Rattle.std.proofs.Common.{◌≡◌, ℕ, Bool, true, false, List, [], ◌++◌, Option, Some, None, refl, ap, sym, ◌∙◌, subst}
 use Rattle.std.specs.Prelude.{if◌then◌else◌}
 use Rattle.std.specs.List.{list_all}
@@ -7,12 +7,12 @@ use Rattle.rnix_kinds.specs.declared.kinds.SyntaxKind.{SyntaxKind}
 use Rattle.rnix_kinds.specs.declared.kinds.SyntaxKind.TheVariants.{TOKEN_IDENT, NODE_IDENT, NODE_LITERAL, NODE_ROOT}
 use Rattle.rnix_grammar.specs.declared.place.Place.TheVariants as p
 use Rattle.rnix_grammar.specs.Fault.{Fault}
-use Rattle.rnix_grammar.specs.Missing.{lack, run_at}
-use Rattle.rnix_grammar.specs.Sketch.{Token, Note, Stray, Unwanted, Extra, Twice, TooDeep, Sketch, blank, token, branch, ◌⊕◌, one_token, one_branch, tokens_in, told, end_from}
+use Rattle.rnix_grammar.specs.Missing.{missing, run_at}
+use Rattle.rnix_grammar.specs.AnnotatedForest.{Token, Note, Stray, Unwanted, Extra, Twice, TooDeep, AnnotatedForest, blank, token, branch, ◌⊕◌, one_token, one_branch, tokens_in, leaf_kind, end_from}
 use Rattle.rnix_grammar.specs.Reports.{repeats}
-use Rattle.rnix_grammar.specs.Rows.{Spot, Start, At, first, go, live, start, whole}
+use Rattle.rnix_grammar.specs.Rows.{RowState, Start, At, first, advance, live, start, whole}
 use Rattle.rnix_grammar.specs.Operands.{IsFollowed}
-use Rattle.rnix_grammar.specs.Reads.{Reads, end, leaf, lost, wrong, second, inner, deeper, IsWrong}
+use Rattle.rnix_grammar.specs.Reads.{Reads, end, leaf, missing_part, wrong, second, inner, deeper, IsWrong}
 use Rattle.rnix_lemmas.proofs.Basics.{true_is_not_false, not_if}
 use Rattle.rnix_lemmas.proofs.EveryKind.{only}
 use Rattle.rnix_lemmas.proofs.PlaceTests.{same_place}
@@ -25,20 +25,20 @@ plain_start NODE_ROOT h = absurd (true_is_not_false h)
 plain_start _ h = cc
 
 -- a kind without rows has none
-no_row : (m : ℕ) (k : SyntaxKind) (d n : ℕ) (s : Spot) (us : List Token) (c : Sketch) (es : List Fault) → has_row k ≡ false
+no_row : (m : ℕ) (k : SyntaxKind) (d n : ℕ) (s : RowState) (us : List Token) (c : AnnotatedForest) (es : List Fault) → has_row k ≡ false
     → Short m k d n (start k) s blank us c es → whole s ≡ true → ⊥
 no_row m k d n s us c es h r w = by (front_of (plain_start k h) r refl w)
   where
     dead : (j : SyntaxKind) → live (first k j) ≡ true → ⊥
-    dead j l = true_is_not_false (sym (starts_row k j (ap (λ q. live (go q j)) (plain_start k h) ∙ l)) ∙ h)
+    dead j l = true_is_not_false (sym (starts_row k j (ap (λ q. live (advance q j)) (plain_start k h) ∙ l)) ∙ h)
 
-    by : {f : Sketch} {fs : List Fault} → Front m k d n (Start k) s blank us f fs → ⊥
+    by : {f : AnnotatedForest} {fs : List Fault} → Front m k d n (Start k) s blank us f fs → ⊥
     by (by_leaf {k = j} e x l q) = dead j l
     by (by_stray o x y l q) = dead NODE_LITERAL l
     by (by_node {k = j} q i o x y l q') = dead j l
 
 -- so a kind that has one has rows
-pub row_of_kind : {m : ℕ} {k : SyntaxKind} {d n : ℕ} {s : Spot} {us : List Token} {c : Sketch} {es : List Fault}
+pub row_of_kind : {m : ℕ} {k : SyntaxKind} {d n : ℕ} {s : RowState} {us : List Token} {c : AnnotatedForest} {es : List Fault}
     → Short m k d n (start k) s blank us c es → whole s ≡ true → has_row k ≡ true
 row_of_kind {m = m} {k = k} {d = d} {n = n} {s = s} {us = us} {c = c} {es = es} r w = by (has_row k) refl
   where
@@ -47,7 +47,7 @@ row_of_kind {m = m} {k = k} {d = d} {n = n} {s = s} {us = us} {c = c} {es = es} 
     by false h = absurd (no_row m k d n s us c es h r w)
 
 -- what a row is behind its last place
-pub record Ended (f : Sketch) (es : List Fault) : Type 0 where
+pub record Ended (f : AnnotatedForest) (es : List Fault) : Type 0 where
   pub row : f ≡ blank
   pub faults : es ≡ []
 
@@ -56,11 +56,11 @@ no_some : {A B : Type 0} (x : A) → ◌≡◌ {A = Option A} None (Some x) → 
 no_some x h = absurd (cc)
 
 -- no child leads on from the last place of a row
-dead_past : {A : Type 0} (q r : Spot) (k : SyntaxKind) → q ≡ At p.Past → go q k ≡ r → live r ≡ true → A
-dead_past q r k e g l = absurd (true_is_not_false (sym (ap (λ z. live (go z k)) (sym e) ∙ ap live g ∙ l)))
+dead_past : {A : Type 0} (q r : RowState) (k : SyntaxKind) → q ≡ At p.Past → advance q k ≡ r → live r ≡ true → A
+dead_past q r k e g l = absurd (true_is_not_false (sym (ap (λ z. live (advance z k)) (sym e) ∙ ap live g ∙ l)))
 
 -- no error node stands there
-wrong_past : {A : Type 0} (note : Note) (d : ℕ) (q r : Spot) (ts vs : List Token) → q ≡ At p.Past → IsWrong note d q r ts vs → A
+wrong_past : {A : Type 0} (note : Note) (d : ℕ) (q r : RowState) (ts vs : List Token) → q ≡ At p.Past → IsWrong note d q r ts vs → A
 wrong_past Stray d q r ts vs e w = dead_past q r NODE_LITERAL e w.3 w.4
 wrong_past (Unwanted until) d q r ts vs e w = no_some (until, w.3) (ap run_at (sym (same_place w.2 p.Past (sym w.4 ∙ e))) ∙ w.6)
 wrong_past Extra d q r ts vs e w = absurd (apart (sym w.2 ∙ e))
@@ -71,11 +71,11 @@ wrong_past Twice d q r ts vs e w = absurd w
 wrong_past TooDeep d q r ts vs e w = dead_past q r NODE_LITERAL e w.3 w.4
 
 -- nothing stands behind the last place of a row
-pub past_ends : {k : SyntaxKind} {d n : ℕ} {q s : Spot} {b : Sketch} {us : List Token} {f : Sketch} {es : List Fault} → Reads k d n q s b us f es
+pub past_ends : {k : SyntaxKind} {d n : ℕ} {q s : RowState} {b : AnnotatedForest} {us : List Token} {f : AnnotatedForest} {es : List Fault} → Reads k d n q s b us f es
     → q ≡ At p.Past → Ended f es
 past_ends end e = record { row = refl; faults = refl }
 past_ends {q = q} (leaf {r = r} {k = j} h v o x g l c i z) e = dead_past q r j e g l
-past_ends (lost {x = x} {y = y} {e = w} u f l v r z) e = no_some (w, y) (ap lack (sym (same_place x p.Past e)) ∙ l)
+past_ends (missing_part {x = x} {y = y} {e = w} u f l v r z) e = no_some (w, y) (ap missing (sym (same_place x p.Past e)) ∙ l)
 past_ends {d = d} {q = q} (wrong {r = r} {vs = vs} note ts hc hv o x y hg he t hf) e = wrong_past note d q r ts vs e y
 past_ends (second v c i o a r g t z) e = absurd (apart (sym a ∙ e))
   where
@@ -83,28 +83,28 @@ past_ends (second v c i o a r g t z) e = absurd (apart (sym a ∙ e))
     apart h = cc
 past_ends {q = q} (inner {r = r} {k = j} v u i z o y j' x t g l hg r' hf) e = dead_past q r j e g l
 
--- no node stands behind a spot
-abbrev pub is_bare : Spot → Bool
-is_bare q = list_all (λ j. if live (go q j) then (if has_row j then false else true) else true) all_kinds
+-- no node stands behind a state
+abbrev pub is_bare : RowState → Bool
+is_bare q = list_all (λ j. if live (advance q j) then (if has_row j then false else true) else true) all_kinds
 
--- what stands behind such a spot has no row
-bare_row : (q : Spot) → is_bare q ≡ true → (j : SyntaxKind) → live (go q j) ≡ true → has_row j ≡ false
-bare_row q h j l = not_if (has_row j) (implied (λ i. live (go q i)) (λ i. if has_row i then false else true) h j l)
+-- what stands behind such a state has no row
+bare_row : (q : RowState) → is_bare q ≡ true → (j : SyntaxKind) → live (advance q j) ≡ true → has_row j ≡ false
+bare_row q h j l = not_if (has_row j) (implied (λ i. live (advance q i)) (λ i. if has_row i then false else true) h j l)
 
 -- the next item of a row, and the rest of the row
-pub record Item (m : ℕ) (k : SyntaxKind) (d : ℕ) (q s : Spot) (b : Sketch) (us : List Token) (f : Sketch) (es : List Fault) : Type 0 where
+pub record Item (m : ℕ) (k : SyntaxKind) (d : ℕ) (q s : RowState) (b : AnnotatedForest) (us : List Token) (f : AnnotatedForest) (es : List Fault) : Type 0 where
   pub item : Token
-  pub more : Sketch
-  pub is : f ≡ token (told k item) item more
-  pub followed : IsFollowed q b (Some (told k item))
-  pub alive : live (go q (told k item)) ≡ true
-  pub rest : Short m k d item.end (go q (told k item)) s (b ⊕ one_token (told k item) item) us more es
+  pub more : AnnotatedForest
+  pub is : f ≡ token (leaf_kind k item) item more
+  pub followed : IsFollowed q b (Some (leaf_kind k item))
+  pub alive : live (advance q (leaf_kind k item)) ≡ true
+  pub rest : Short m k d item.end (advance q (leaf_kind k item)) s (b ⊕ one_token (leaf_kind k item) item) us more es
 
 -- where no node stands, an item does
-pub item_next : {m : ℕ} {k : SyntaxKind} {d n : ℕ} {q s : Spot} {b : Sketch} {us : List Token} {f : Sketch} {es : List Fault} → is_bare q ≡ true
+pub item_next : {m : ℕ} {k : SyntaxKind} {d n : ℕ} {q s : RowState} {b : AnnotatedForest} {us : List Token} {f : AnnotatedForest} {es : List Fault} → is_bare q ≡ true
     → Front m k d n q s b us f es → Item m k d q s b us f es
 item_next {m = m} {k = k} {d = d} {q = q} {s = s} {b = b} {us = us} h (by_leaf {k = i} {t = t} {f = f} {es = es} e y l r) =
-    subst (λ (j : SyntaxKind). IsFollowed q b (Some j) → live (go q j) ≡ true → Short m k d t.end (go q j) s (b ⊕ one_token j t) us f es
+    subst (λ (j : SyntaxKind). IsFollowed q b (Some j) → live (advance q j) ≡ true → Short m k d t.end (advance q j) s (b ⊕ one_token j t) us f es
     → Item m k d q s b us (token j t f) es) (sym e)
     (λ y l r. record { item = t; more = f; is = refl; followed = y; alive = l; rest = r }) y l r
 item_next {q = q} h (by_stray o y z l r) = absurd (true_is_not_false (bare_row q h NODE_LITERAL l))
@@ -112,42 +112,42 @@ item_next {m = m} {d = d} {n = n} {q = q} {us = us} h (by_node {k = j} {c = c} {
     absurd (no_row m j (deeper q d) n z (tokens_in f ++ us) c ds (bare_row q h j l) r o.0)
 
 -- an item that is the last of its row
-pub item_alone : {m : ℕ} {k : SyntaxKind} {d : ℕ} {q s : Spot} {b : Sketch} {us : List Token} {f : Sketch} {es : List Fault} (w : Item m k d q s b us f es)
-    → go q (told k w.item) ≡ At p.Past → (f ≡ one_token (told k w.item) w.item) × (es ≡ [])
-item_alone {k = k} w e = let v = past_ends w.rest.reads e in (w.is ∙ ap (λ z. token (told k w.item) w.item z) v.row, v.faults)
+pub item_alone : {m : ℕ} {k : SyntaxKind} {d : ℕ} {q s : RowState} {b : AnnotatedForest} {us : List Token} {f : AnnotatedForest} {es : List Fault} (w : Item m k d q s b us f es)
+    → advance q (leaf_kind k w.item) ≡ At p.Past → (f ≡ one_token (leaf_kind k w.item) w.item) × (es ≡ [])
+item_alone {k = k} w e = let v = past_ends w.rest.reads e in (w.is ∙ ap (λ z. token (leaf_kind k w.item) w.item z) v.row, v.faults)
 
 -- a name that stands next in a row, and the rest of the row
-pub record Name (m : ℕ) (k : SyntaxKind) (d : ℕ) (q s : Spot) (b : Sketch) (us : List Token) (f : Sketch) (es : List Fault) : Type 0 where
+pub record Name (m : ℕ) (k : SyntaxKind) (d : ℕ) (q s : RowState) (b : AnnotatedForest) (us : List Token) (f : AnnotatedForest) (es : List Fault) : Type 0 where
   pub item : Token
-  pub more : Sketch
-  pub is : f ≡ branch NODE_IDENT (one_token (told NODE_IDENT item) item) more
-  pub kind : told NODE_IDENT item ≡ TOKEN_IDENT
-  pub rest : Short m k d item.end (go q NODE_IDENT) s (b ⊕ one_branch NODE_IDENT (one_token (told NODE_IDENT item) item)) us more es
+  pub more : AnnotatedForest
+  pub is : f ≡ branch NODE_IDENT (one_token (leaf_kind NODE_IDENT item) item) more
+  pub kind : leaf_kind NODE_IDENT item ≡ TOKEN_IDENT
+  pub rest : Short m k d item.end (advance q NODE_IDENT) s (b ⊕ one_branch NODE_IDENT (one_token (leaf_kind NODE_IDENT item) item)) us more es
 
 -- a name is a token of that kind
 name_first : (i : SyntaxKind) → live (first NODE_IDENT i) ≡ true → i ≡ TOKEN_IDENT
 name_first i l = only (λ j. live (first NODE_IDENT j)) TOKEN_IDENT refl i l
 
 -- the row of a name is one item
-pub name_item : {m : ℕ} {d n : ℕ} {s : Spot} {us : List Token} {c : Sketch} {ds : List Fault}
+pub name_item : {m : ℕ} {d n : ℕ} {s : RowState} {us : List Token} {c : AnnotatedForest} {ds : List Fault}
     → Short m NODE_IDENT d n (Start NODE_IDENT) s blank us c ds → whole s ≡ true
-    → (t : Token) × (c ≡ one_token (told NODE_IDENT t) t) × (told NODE_IDENT t ≡ TOKEN_IDENT) × (ds ≡ [])
+    → (t : Token) × (c ≡ one_token (leaf_kind NODE_IDENT t) t) × (leaf_kind NODE_IDENT t ≡ TOKEN_IDENT) × (ds ≡ [])
 name_item r w =
     let v = item_next refl (front_of refl r refl w) in
-    let e = name_first (told NODE_IDENT v.item) v.alive in
+    let e = name_first (leaf_kind NODE_IDENT v.item) v.alive in
     let u = item_alone v (ap (first NODE_IDENT) e) in
     (v.item, u.0, e, u.1)
 
 -- a node that stands where only a name may is one
-pub name_next : {m : ℕ} {k : SyntaxKind} {d n : ℕ} {q s z : Spot} {b : Sketch} {us vs : List Token} {c f : Sketch} {ds es : List Fault} {e : ℕ} (j : SyntaxKind) → j ≡ NODE_IDENT
-    → Short m j e n (start j) z blank vs c ds → whole z ≡ true → Short m k d (end_from n (tokens_in c)) (go q j) s (b ⊕ one_branch j c) us f es
+pub name_next : {m : ℕ} {k : SyntaxKind} {d n : ℕ} {q s z : RowState} {b : AnnotatedForest} {us vs : List Token} {c f : AnnotatedForest} {ds es : List Fault} {e : ℕ} (j : SyntaxKind) → j ≡ NODE_IDENT
+    → Short m j e n (start j) z blank vs c ds → whole z ≡ true → Short m k d (end_from n (tokens_in c)) (advance q j) s (b ⊕ one_branch j c) us f es
     → Name m k d q s b us (branch j c f) ((ds ++ repeats j b c) ++ es)
 name_next {m = m} {k = k} {d = d} {n = n} {q = q} {s = s} {z = z} {b = b} {us = us} {vs = vs} {c = c} {f = f} {ds = ds} {es = es} {e = e} j h r w r' =
-    subst (λ (i : SyntaxKind). Short m i e n (start i) z blank vs c ds → Short m k d (end_from n (tokens_in c)) (go q i) s (b ⊕ one_branch i c) us f es
+    subst (λ (i : SyntaxKind). Short m i e n (start i) z blank vs c ds → Short m k d (end_from n (tokens_in c)) (advance q i) s (b ⊕ one_branch i c) us f es
     → Name m k d q s b us (branch i c f) ((ds ++ repeats i b c) ++ es)) (sym h) by r r'
   where
     by : Short m NODE_IDENT e n (Start NODE_IDENT) z blank vs c ds
-        → Short m k d (end_from n (tokens_in c)) (go q NODE_IDENT) s (b ⊕ one_branch NODE_IDENT c) us f es
+        → Short m k d (end_from n (tokens_in c)) (advance q NODE_IDENT) s (b ⊕ one_branch NODE_IDENT c) us f es
         → Name m k d q s b us (branch NODE_IDENT c f) ((ds ++ []) ++ es)
     by r r' =
         let v = name_item r w in
@@ -157,7 +157,7 @@ name_next {m = m} {k = k} {d = d} {n = n} {q = q} {s = s} {z = z} {b = b} {us = 
           is = ap (λ g. branch NODE_IDENT g f) v.1;
           kind = v.2;
           rest =
-              subst (λ (fs : List Fault). Short m k d v.0.end (go q NODE_IDENT) s (b ⊕ one_branch NODE_IDENT (one_token (told NODE_IDENT v.0) v.0)) us f fs)
+              subst (λ (fs : List Fault). Short m k d v.0.end (advance q NODE_IDENT) s (b ⊕ one_branch NODE_IDENT (one_token (leaf_kind NODE_IDENT v.0) v.0)) us f fs)
               (ap (λ fs. (fs ++ []) ++ es) (sym v.3))
-              (subst (λ (g : Sketch). Short m k d (end_from n (tokens_in g)) (go q NODE_IDENT) s (b ⊕ one_branch NODE_IDENT g) us f es) v.1 r');
+              (subst (λ (g : AnnotatedForest). Short m k d (end_from n (tokens_in g)) (advance q NODE_IDENT) s (b ⊕ one_branch NODE_IDENT g) us f es) v.1 r');
         }

@@ -8,9 +8,9 @@ use Rattle.rnix_grammar.specs.declared.begin.Begin.{Begin}
 use Rattle.rnix_grammar.specs.declared.begin.Begin.TheVariants as b
 use Rattle.rnix_grammar.specs.Fault.{Fault}
 use Rattle.rnix_grammar.specs.Begins.{begin_of, second_kind}
-use Rattle.rnix_grammar.specs.Sketch.{Token, Sketch, blank, token, branch, ◌⊕◌, one_token, one_branch, tokens_in, told, told_as, head_kind, end_from}
+use Rattle.rnix_grammar.specs.AnnotatedForest.{Token, AnnotatedForest, blank, token, branch, ◌⊕◌, one_token, one_branch, tokens_in, leaf_kind, leaf_kind_as, head_kind, end_from}
 use Rattle.rnix_grammar.specs.Machine.{Node, Operand, Frame, machine, opened, begun, operand_on, Runs}
-use Rattle.rnix_grammar.specs.Rows.{Spot, Start, BeforeAt, At, first, go, live, start, whole}
+use Rattle.rnix_grammar.specs.Rows.{RowState, Start, BeforeAt, At, first, advance, live, start, whole}
 use Rattle.rnix_grammar.specs.Reports.{repeats}
 use Rattle.rnix_grammar.specs.Operands.{kind_of}
 use Rattle.rnix_grammar.specs.Reads.{IsOver}
@@ -28,11 +28,11 @@ use Rattle.rnix_uniqueness.proofs.FirstItems.{row_of_kind, past_ends, item_next,
 use Rattle.rnix_uniqueness.proofs.OperandBegins.{BegunBy, begin_for, begins_special}
 
 -- the steps read the rest of a function's row behind its parameter
-abbrev Body : SyntaxKind → ℕ → ℕ → Sketch → List Token → Sketch → List Fault → Type 0
+abbrev Body : SyntaxKind → ℕ → ℕ → AnnotatedForest → List Token → AnnotatedForest → List Fault → Type 0
 Body k d n c us f es = ReadOn NODE_LAMBDA d (end_from n (tokens_in c)) p.LambdaColon (one_branch k c) us f es
 
 -- a function whose steps are known behind its beginning
-function_read : (level d n : ℕ) (zs : List Token) (c : Sketch) (us : List Token) (es : List Fault) (F : Frame) (fs : List Frame) (gs : List Fault) (t : Token) (ts : List Token) (begin : Begin)
+function_read : (level d n : ℕ) (zs : List Token) (c : AnnotatedForest) (us : List Token) (es : List Fault) (F : Frame) (fs : List Frame) (gs : List Fault) (t : Token) (ts : List Token) (begin : Begin)
     → zs ++ us ≡ t ∷ ts → begin_of level t.kind t.text (head_kind ts) (second_kind ts) ≡ begin
     → Runs false (begun false begin level d t F fs (t ∷ ts) n gs) (machine (opened Operand (p.Behind level 16) d (one_branch NODE_LAMBDA c) ∷ (F ∷ fs)) us (end_from n zs) (gs ++ es))
     → IsOperandRead level d n zs (one_branch NODE_LAMBDA c) us es F fs gs
@@ -45,11 +45,11 @@ function_read level d n zs c us es F fs gs t ts begin e h r = record {
 }
 
 -- a function of a name
-named_item : (t : Token) (f : Sketch) (d n : ℕ) (us : List Token) (es : List Fault) → told NODE_IDENT t ≡ TOKEN_IDENT
-    → Body NODE_IDENT_PARAM d n (one_branch NODE_IDENT (one_token (told NODE_IDENT t) t)) us f es
-    → ReadsTree d n (t ∷ tokens_in f) (one_branch NODE_LAMBDA (branch NODE_IDENT_PARAM (one_branch NODE_IDENT (one_token (told NODE_IDENT t) t)) f)) us es
+named_item : (t : Token) (f : AnnotatedForest) (d n : ℕ) (us : List Token) (es : List Fault) → leaf_kind NODE_IDENT t ≡ TOKEN_IDENT
+    → Body NODE_IDENT_PARAM d n (one_branch NODE_IDENT (one_token (leaf_kind NODE_IDENT t) t)) us f es
+    → ReadsTree d n (t ∷ tokens_in f) (one_branch NODE_LAMBDA (branch NODE_IDENT_PARAM (one_branch NODE_IDENT (one_token (leaf_kind NODE_IDENT t) t)) f)) us es
 named_item t f d n us es k r level F fs gs low begins =
-    let c : Sketch = one_branch NODE_IDENT (one_token (told NODE_IDENT t) t) in
+    let c : AnnotatedForest = one_branch NODE_IDENT (one_token (leaf_kind NODE_IDENT t) t) in
     let ts : List Token = tokens_in f ++ us in
     function_read level d n (t ∷ tokens_in f) (branch NODE_IDENT_PARAM c f) us es F fs gs t ts b.NameLambda refl (begins_special NODE_IDENT_PARAM refl level t ts begins).0
     (operand_read NODE_LAMBDA d t.end p.LambdaColon (one_branch NODE_IDENT_PARAM c) us f es r refl refl (p.Behind level 16) d (F ∷ fs) gs)
@@ -66,7 +66,7 @@ no_name k e h = other (sym e ∙ h)
     other h = cc
 
 -- so it is by the row of the parameter
-named_reads : (m d n : ℕ) (z : Spot) (us : List Token) (c f : Sketch) (ds es : List Fault)
+named_reads : (m d n : ℕ) (z : RowState) (us : List Token) (c f : AnnotatedForest) (ds es : List Fault)
     → Front m NODE_IDENT_PARAM d n (Start NODE_IDENT_PARAM) z blank (tokens_in f ++ us) c ds → whole z ≡ true
     → Body NODE_IDENT_PARAM d n c us f es → ReadsTree d n (tokens_in c ++ tokens_in f) (one_branch NODE_LAMBDA (branch NODE_IDENT_PARAM c f)) us ((ds ++ []) ++ es)
 named_reads m d n z us _ f _ es (by_leaf {k = i} {t = t} {f = g} e w l r) o more =
@@ -75,15 +75,15 @@ named_reads m d n z us _ f _ es (by_stray v w x l r) o more = absurd (true_is_no
 named_reads m d n z us _ f _ es (by_node {k = i} {c = c} {f = g} {ds = ds} {es = hs} r v y w x l r') o more =
     let w = name_next {q = Start NODE_IDENT_PARAM} i (parameter_first i l) r v.0 r' in
     let u = past_ends w.rest.reads refl in
-    let e : branch i c g ≡ one_branch NODE_IDENT (one_token (told NODE_IDENT w.item) w.item) = w.is
-    ∙ ap (λ q. branch NODE_IDENT (one_token (told NODE_IDENT w.item) w.item) q) u.row in
+    let e : branch i c g ≡ one_branch NODE_IDENT (one_token (leaf_kind NODE_IDENT w.item) w.item) = w.is
+    ∙ ap (λ q. branch NODE_IDENT (one_token (leaf_kind NODE_IDENT w.item) w.item) q) u.row in
     subst (λ (q : List Fault). ReadsTree d n ((tokens_in c ++ tokens_in g) ++ tokens_in f) (one_branch NODE_LAMBDA (branch NODE_IDENT_PARAM (branch i c g) f)) us ((q ++ []) ++ es)) (sym u.faults)
-    (subst (λ (q : Sketch). Body NODE_IDENT_PARAM d n q us f es
+    (subst (λ (q : AnnotatedForest). Body NODE_IDENT_PARAM d n q us f es
     → ReadsTree d n (tokens_in q ++ tokens_in f) (one_branch NODE_LAMBDA (branch NODE_IDENT_PARAM q f)) us es) (sym e)
     (named_item w.item f d n us es w.kind) more)
 
 -- a pattern that has begun, and the rest of its function
-pattern_runs : (x : Place) (g c f : Sketch) (level d m : ℕ) (F : Frame) (fs : List Frame) (us : List Token) (es ds gs : List Fault) → row_class x ≡ 0
+pattern_runs : (x : Place) (g c f : AnnotatedForest) (level d m : ℕ) (F : Frame) (fs : List Frame) (us : List Token) (es ds gs : List Fault) → row_class x ≡ 0
     → ReadOn NODE_PATTERN d m x g (tokens_in f ++ us) c es → ReadOn NODE_LAMBDA d (end_from m (tokens_in c)) p.LambdaColon (one_branch NODE_PATTERN (g ⊕ c)) us f ds
     → Runs false
     (machine (opened (Node NODE_PATTERN) x d g ∷ (opened (Node NODE_LAMBDA) p.LambdaColon d blank ∷ (opened Operand (p.Behind level 16) d blank ∷ (F ∷ fs)))) (tokens_in c ++ (tokens_in f ++ us)) m gs)
@@ -101,7 +101,7 @@ brace_kind TOKEN_L_BRACE l w = refl
 brace_kind _ l w = cc
 
 -- and of one with a name
-name_kind : (i : SyntaxKind) → told_as NODE_IDENT i ≡ TOKEN_IDENT → BegunBy i (begin_for NODE_PATTERN i) → i ≡ TOKEN_IDENT
+name_kind : (i : SyntaxKind) → leaf_kind_as NODE_IDENT i ≡ TOKEN_IDENT → BegunBy i (begin_for NODE_PATTERN i) → i ≡ TOKEN_IDENT
 name_kind TOKEN_IDENT h w = refl
 name_kind _ h w = cc
 
@@ -111,7 +111,7 @@ no_bind TOKEN_AT l w = cc
 no_bind _ l w = cc
 
 -- a function of a pattern that begins with a brace
-braced_reads : (m : ℕ) → AllRows m → (d n : ℕ) (t : Token) (z : Spot) (us : List Token) (c f : Sketch) (ds es : List Fault)
+braced_reads : (m : ℕ) → AllRows m → (d n : ℕ) (t : Token) (z : RowState) (us : List Token) (c f : AnnotatedForest) (ds es : List Fault)
     → live (first NODE_PATTERN t.kind) ≡ true
     → Short m NODE_PATTERN d t.end (first NODE_PATTERN t.kind) z (one_token t.kind t) (tokens_in f ++ us) c ds
     → IsOver z (end_from t.end (tokens_in c)) (tokens_in f ++ us)
@@ -119,7 +119,7 @@ braced_reads : (m : ℕ) → AllRows m → (d n : ℕ) (t : Token) (z : Spot) (u
     → ReadsTree d n (t ∷ (tokens_in c ++ tokens_in f)) (one_branch NODE_LAMBDA (branch NODE_PATTERN (token t.kind t c) f)) us ((ds ++ []) ++ es)
 braced_reads m rows d n t z us c f ds es l r o more level F fs gs low begins =
     let ts : List Token = (tokens_in c ++ tokens_in f) ++ us in
-    let x : Sketch = branch NODE_PATTERN (token t.kind t c) f in
+    let x : AnnotatedForest = branch NODE_PATTERN (token t.kind t c) f in
     let w = begins_special NODE_PATTERN refl level t ts begins in
     let k : t.kind ≡ TOKEN_L_BRACE = brace_kind t.kind l w.1 in
     let row : Frame = opened (Node NODE_PATTERN) (p.PatternStart false) d (one_token t.kind t) in
@@ -130,17 +130,17 @@ braced_reads m rows d n t z us c f ds es l r o more level F fs gs low begins =
     (read_on m rows NODE_PATTERN d t.end (p.PatternStart false) z (one_token t.kind t) (tokens_in f ++ us) c ds (short_to (ap (first NODE_PATTERN) k) refl refl r) o) more)))
 
 -- a name and `@`
-abbrev name_at : Token → Token → Sketch
-name_at t v = branch NODE_IDENT (one_token (told NODE_IDENT t) t) (one_token v.kind v)
+abbrev name_at : Token → Token → AnnotatedForest
+name_at t v = branch NODE_IDENT (one_token (leaf_kind NODE_IDENT t) t) (one_token v.kind v)
 
 -- a function of a pattern that begins with a name
-bound_item : (t v : Token) (c f : Sketch) (d n : ℕ) (us : List Token) (ds es : List Fault) → told NODE_IDENT t ≡ TOKEN_IDENT
+bound_item : (t v : Token) (c f : AnnotatedForest) (d n : ℕ) (us : List Token) (ds es : List Fault) → leaf_kind NODE_IDENT t ≡ TOKEN_IDENT
     → ReadOn NODE_PATTERN d v.end p.PatternBrace (one_branch NODE_PAT_BIND (name_at t v)) (tokens_in f ++ us) c ds
     → Body NODE_PATTERN d n (branch NODE_PAT_BIND (name_at t v) c) us f es
     → ReadsTree d n (t ∷ (v ∷ (tokens_in c ++ tokens_in f))) (one_branch NODE_LAMBDA (branch NODE_PATTERN (branch NODE_PAT_BIND (name_at t v) c) f)) us ((ds ++ []) ++ es)
 bound_item t v c f d n us ds es h r more level F fs gs low begins =
     let ts : List Token = v ∷ ((tokens_in c ++ tokens_in f) ++ us) in
-    let x : Sketch = branch NODE_PATTERN (branch NODE_PAT_BIND (name_at t v) c) f in
+    let x : AnnotatedForest = branch NODE_PATTERN (branch NODE_PAT_BIND (name_at t v) c) f in
     let w = begins_special NODE_PATTERN refl level t ts begins in
     let k : t.kind ≡ TOKEN_IDENT = name_kind t.kind h w.1 in
     let row : Frame = opened (Node NODE_PATTERN) p.PatternBrace d (one_branch NODE_PAT_BIND (name_at t v)) in
@@ -150,7 +150,7 @@ bound_item t v c f d n us ds es h r more level F fs gs low begins =
     (pattern_runs p.PatternBrace (one_branch NODE_PAT_BIND (name_at t v)) c f level d v.end F fs us ds es gs refl r more)))
 
 -- so it is by the row of the name
-bound_reads : (m : ℕ) → AllRows m → (d n : ℕ) (z y : Spot) (us : List Token) (c g f : Sketch) (bs ds es : List Fault)
+bound_reads : (m : ℕ) → AllRows m → (d n : ℕ) (z y : RowState) (us : List Token) (c g f : AnnotatedForest) (bs ds es : List Fault)
     → Front m NODE_PAT_BIND d n (Start NODE_PAT_BIND) y blank (tokens_in g ++ (tokens_in f ++ us)) c bs → whole y ≡ true
     → Short m NODE_PATTERN d (end_from n (tokens_in c)) (At p.PatternBrace) z (one_branch NODE_PAT_BIND c) (tokens_in f ++ us) g ds
     → IsOver z (end_from n (tokens_in c ++ tokens_in g)) (tokens_in f ++ us) → Body NODE_PATTERN d n (branch NODE_PAT_BIND c g) us f es
@@ -162,12 +162,12 @@ bound_reads m rows d n z y us _ g f _ ds es (by_stray v w x l r) o r' over more 
 bound_reads m rows d n z y us _ g f _ ds es (by_node {k = i} {c = c} {f = a} {ds = bs} {es = hs} r v u w x l q) o r' over more =
     let w = name_next {q = Start NODE_PAT_BIND} i (only_both (λ j. live (first NODE_PAT_BIND j)) has_row NODE_IDENT refl i l (row_of_kind r v.0)) r v.0 q in
     let v = item_next refl (front_of refl w.rest refl o) in
-    let u = item_alone v (ap (go BeforeAt) (only (λ j. live (go BeforeAt j)) TOKEN_AT refl v.item.kind v.alive)) in
-    let e : branch i c a ≡ name_at w.item v.item = w.is ∙ ap (λ q. branch NODE_IDENT (one_token (told NODE_IDENT w.item) w.item) q) u.0 in
+    let u = item_alone v (ap (advance BeforeAt) (only (λ j. live (advance BeforeAt j)) TOKEN_AT refl v.item.kind v.alive)) in
+    let e : branch i c a ≡ name_at w.item v.item = w.is ∙ ap (λ q. branch NODE_IDENT (one_token (leaf_kind NODE_IDENT w.item) w.item) q) u.0 in
     subst (λ (q : List Fault). ReadsTree d n (((tokens_in c ++ tokens_in a) ++ tokens_in g) ++ tokens_in f) (one_branch NODE_LAMBDA (branch NODE_PATTERN (branch NODE_PAT_BIND (branch i c a) g) f)) us ((((q ++ []) ++ ds) ++ []) ++ es))
     (sym u.1)
     (subst
-    (λ (q : Sketch). Short m NODE_PATTERN d (end_from n (tokens_in q)) (At p.PatternBrace) z (one_branch NODE_PAT_BIND q) (tokens_in f ++ us) g ds
+    (λ (q : AnnotatedForest). Short m NODE_PATTERN d (end_from n (tokens_in q)) (At p.PatternBrace) z (one_branch NODE_PAT_BIND q) (tokens_in f ++ us) g ds
     → IsOver z (end_from n (tokens_in q ++ tokens_in g)) (tokens_in f ++ us) → Body NODE_PATTERN d n (branch NODE_PAT_BIND q g) us f es
     → ReadsTree d n ((tokens_in q ++ tokens_in g) ++ tokens_in f) (one_branch NODE_LAMBDA (branch NODE_PATTERN (branch NODE_PAT_BIND q g) f)) us ((ds ++ []) ++ es)) (sym e)
     (λ r over more. bound_item w.item v.item g f d n us ds es w.kind
@@ -175,7 +175,7 @@ bound_reads m rows d n z y us _ g f _ ds es (by_node {k = i} {c = c} {f = a} {ds
     r' over more)
 
 -- a function of a pattern is read
-pattern_reads : (m : ℕ) → AllRows m → (d n : ℕ) (z : Spot) (us : List Token) (c f : Sketch) (ds es : List Fault)
+pattern_reads : (m : ℕ) → AllRows m → (d n : ℕ) (z : RowState) (us : List Token) (c f : AnnotatedForest) (ds es : List Fault)
     → Front m NODE_PATTERN d n (Start NODE_PATTERN) z blank (tokens_in f ++ us) c ds
     → IsOver z (end_from n (tokens_in c)) (tokens_in f ++ us) → Body NODE_PATTERN d n c us f es
     → ReadsTree d n (tokens_in c ++ tokens_in f) (one_branch NODE_LAMBDA (branch NODE_PATTERN c f)) us ((ds ++ []) ++ es)
@@ -201,13 +201,13 @@ lambda_first NODE_PATTERN h = inr refl
 lambda_first _ h = absurd (true_is_not_false (sym h))
 
 -- the row of a function by its parameter
-abbrev Parameter : ℕ → ℕ → ℕ → Spot → Spot → List Token → Sketch → Sketch → List Fault → List Fault → SyntaxKind → Type 0
+abbrev Parameter : ℕ → ℕ → ℕ → RowState → RowState → List Token → AnnotatedForest → AnnotatedForest → List Fault → List Fault → SyntaxKind → Type 0
 Parameter m d n z s us c f ds es k =
     Short m k d n (start k) z blank (tokens_in f ++ us) c ds → Short m NODE_LAMBDA d (end_from n (tokens_in c)) (first NODE_LAMBDA k) s (one_branch k c) us f es
     → ReadsTree d n (tokens_in c ++ tokens_in f) (one_branch NODE_LAMBDA (branch k c f)) us ((ds ++ repeats k blank c) ++ es)
 
 -- a function is read
-pub lambda_reads : (m : ℕ) → AllRows m → (d n : ℕ) (s : Spot) (us : List Token) (c : Sketch) (es : List Fault)
+pub lambda_reads : (m : ℕ) → AllRows m → (d n : ℕ) (s : RowState) (us : List Token) (c : AnnotatedForest) (es : List Fault)
     → Front m NODE_LAMBDA d n (Start NODE_LAMBDA) s blank us c es
     → IsOver s (end_from n (tokens_in c)) us → ReadsTree d n (tokens_in c) (one_branch NODE_LAMBDA c) us es
 lambda_reads m rows d n s us _ _ (by_leaf {t = t} {f = f} e w l r) over =

@@ -6,10 +6,10 @@ use Rattle.rnix_kinds.specs.declared.kinds.SyntaxKind.TheVariants.{TOKEN_L_BRACE
 use Rattle.rnix_grammar.specs.declared.place.Place.TheVariants as p
 use Rattle.rnix_grammar.specs.Fault.{Fault}
 use Rattle.rnix_grammar.specs.Begins.{begin_of, second_kind}
-use Rattle.rnix_grammar.specs.Sketch.{Token, Stray, Sketch, blank, token, ◌⊕◌, one_token, one_branch, one_fault, row_of, tokens_in, told, head_kind, end_from}
+use Rattle.rnix_grammar.specs.AnnotatedForest.{Token, Stray, AnnotatedForest, blank, token, ◌⊕◌, one_token, one_branch, one_fault, row_of, tokens_in, leaf_kind, head_kind, end_from}
 use Rattle.rnix_grammar.specs.Reports.{report}
 use Rattle.rnix_grammar.specs.Machine.{Operand, Frame, machine, opened, begun, rest as here}
-use Rattle.rnix_grammar.specs.Rows.{Spot, Start, BeforeBrace, At, first, go, live}
+use Rattle.rnix_grammar.specs.Rows.{RowState, Start, BeforeBrace, At, first, advance, live}
 use Rattle.rnix_grammar.specs.Reads.{IsOver}
 use Rattle.rnix_lemmas.proofs.EveryKind.{alike, only}
 use Rattle.rnix_lemmas.proofs.FollowLemmas.{FollowedTo, atom_tight, followed_atom, followed_loose}
@@ -30,25 +30,25 @@ stray_reads t d n us level F fs gs low begins = record {
 }
 
 -- an expression that begins with an item
-led_item : (m : ℕ) → AllRows m → (k : SyntaxKind) (d n : ℕ) (s : Spot) (us : List Token) (t : Token) (f : Sketch) (es : List Fault)
+led_item : (m : ℕ) → AllRows m → (k : SyntaxKind) (d n : ℕ) (s : RowState) (us : List Token) (t : Token) (f : AnnotatedForest) (es : List Fault)
     → is_led k ≡ true → class_of (Some k) ≡ 0
-    → Short m k d t.end (first k (told k t)) s (one_token (told k t) t) us f es → IsOver s (end_from t.end (tokens_in f)) us
-    → ReadsTree d n (t ∷ tokens_in f) (one_branch k (token (told k t) t f)) us es
-led_item m rows k d n s us t f es h q r o level F fs gs low begins = by (begins_led k h level t ts (token (told k t) t f) begins)
+    → Short m k d t.end (first k (leaf_kind k t)) s (one_token (leaf_kind k t) t) us f es → IsOver s (end_from t.end (tokens_in f)) us
+    → ReadsTree d n (t ∷ tokens_in f) (one_branch k (token (leaf_kind k t) t f)) us es
+led_item m rows k d n s us t f es h q r o level F fs gs low begins = by (begins_led k h level t ts (token (leaf_kind k t) t f) begins)
   where
     ts : List Token
     ts = tokens_in f ++ us
 
-    row : Sketch → Frame
-    row g = opened Operand (p.Behind level 16) d (one_branch k (token (told k t) t g))
+    row : AnnotatedForest → Frame
+    row g = opened Operand (p.Behind level 16) d (one_branch k (token (leaf_kind k t) t g))
 
     by : LedBy k t.kind (begin_of level t.kind t.text (head_kind ts) (second_kind ts))
-        → IsOperandRead level d n (t ∷ tokens_in f) (one_branch k (token (told k t) t f)) us es F fs gs
+        → IsOperandRead level d n (t ∷ tokens_in f) (one_branch k (token (leaf_kind k t) t f)) us es F fs gs
     by (by_leaf e g a) =
         let v = past_ends r.reads g in
         record {
           high = 16;
-          followed = followed_atom (one_branch k (token (told k t) t f)) (atom_tight k (token (told k t) t f) a) a;
+          followed = followed_atom (one_branch k (token (leaf_kind k t) t f)) (atom_tight k (token (leaf_kind k t) t f) a) a;
           runs =
               runs_from (ap (λ z. begun false z level d t F fs (t ∷ ts) n gs) e)
               (runs_to
@@ -59,10 +59,10 @@ led_item m rows k d n s us t f es h q r o level F fs gs low begins = by (begins_
         }
     by (by_node z high e g c l) = record {
       high = high;
-      followed = subst (λ (v : ℕ). FollowedTo v (one_branch k (token (told k t) t f))) l (followed_led k t.kind t f h);
+      followed = subst (λ (v : ℕ). FollowedTo v (one_branch k (token (leaf_kind k t) t f))) l (followed_led k t.kind t f h);
       runs =
           runs_from (ap (λ v. begun false v level d t F fs (t ∷ ts) n gs) e)
-          (operand_read k d t.end z (one_token (told k t) t) us f es (read_on m rows k d t.end z s (one_token (told k t) t) us f es (short_to g refl refl r) o) c q
+          (operand_read k d t.end z (one_token (leaf_kind k t) t) us f es (read_on m rows k d t.end z s (one_token (leaf_kind k t) t) us f es (short_to g refl refl r) o) c q
           (p.Behind level high) d (F ∷ fs) gs);
     }
 
@@ -75,21 +75,21 @@ led_class : (k : SyntaxKind) → is_led k ≡ true → class_of (Some k) ≡ 0
 led_class = alike is_led (λ k. class_of (Some k)) (λ k. 0) refl
 
 -- so each is read
-pub led_reads : (m : ℕ) → AllRows m → (k : SyntaxKind) (d n : ℕ) (s : Spot) (us : List Token) (c : Sketch) (es : List Fault) → is_led k ≡ true
+pub led_reads : (m : ℕ) → AllRows m → (k : SyntaxKind) (d n : ℕ) (s : RowState) (us : List Token) (c : AnnotatedForest) (es : List Fault) → is_led k ≡ true
     → Front m k d n (Start k) s blank us c es
     → IsOver s (end_from n (tokens_in c)) us → ReadsTree d n (tokens_in c) (one_branch k c) us es
 led_reads m rows k d n s us c es h r o =
     let w = item_next (led_bare k h) r in
-    subst (λ (z : Sketch). ReadsTree d n (tokens_in z) (one_branch k z) us es) (sym w.is)
-    (led_item m rows k d n s us w.item w.more es h (led_class k h) w.rest (subst (λ (z : Sketch). IsOver s (end_from n (tokens_in z)) us) w.is o))
+    subst (λ (z : AnnotatedForest). ReadsTree d n (tokens_in z) (one_branch k z) us es) (sym w.is)
+    (led_item m rows k d n s us w.item w.more es h (led_class k h) w.rest (subst (λ (z : AnnotatedForest). IsOver s (end_from n (tokens_in z)) us) w.is o))
 
 -- an old `let` is read
-legacy_item : (m : ℕ) → AllRows m → (d n : ℕ) (s : Spot) (us : List Token) (t v : Token) (f : Sketch) (es : List Fault)
+legacy_item : (m : ℕ) → AllRows m → (d n : ℕ) (s : RowState) (us : List Token) (t v : Token) (f : AnnotatedForest) (es : List Fault)
     → Short m NODE_LEGACY_LET d v.end (At p.LegacyInside) s (token t.kind t (one_token v.kind v)) us f es → IsOver s (end_from v.end (tokens_in f)) us
     → ReadsTree d n (t ∷ (v ∷ tokens_in f)) (one_branch NODE_LEGACY_LET (token t.kind t (token v.kind v f))) us es
 legacy_item m rows d n s us t v f es r o level F fs gs low begins =
     let ts : List Token = v ∷ (tokens_in f ++ us) in
-    let g : Sketch = token t.kind t (one_token v.kind v) in
+    let g : AnnotatedForest = token t.kind t (one_token v.kind v) in
     record {
       high = 0;
       followed = followed_loose (one_branch NODE_LEGACY_LET (g ⊕ f)) refl refl;
@@ -99,13 +99,13 @@ legacy_item m rows d n s us t v f es r o level F fs gs low begins =
     }
 
 -- so it is by its row
-pub legacy_reads : (m : ℕ) → AllRows m → (d n : ℕ) (s : Spot) (us : List Token) (c : Sketch) (es : List Fault)
+pub legacy_reads : (m : ℕ) → AllRows m → (d n : ℕ) (s : RowState) (us : List Token) (c : AnnotatedForest) (es : List Fault)
     → Front m NODE_LEGACY_LET d n (Start NODE_LEGACY_LET) s blank us c es
     → IsOver s (end_from n (tokens_in c)) us → ReadsTree d n (tokens_in c) (one_branch NODE_LEGACY_LET c) us es
 legacy_reads m rows d n s us c es r o =
     let w = item_next refl r in
     let v = item_next refl (front_of (ap (first NODE_LEGACY_LET) (only (λ j. live (first NODE_LEGACY_LET j)) TOKEN_LET refl w.item.kind w.alive)) w.rest refl o.0) in
     let e : c ≡ token w.item.kind w.item (token v.item.kind v.item v.more) = w.is ∙ ap (λ z. token w.item.kind w.item z) v.is in
-    subst (λ (z : Sketch). ReadsTree d n (tokens_in z) (one_branch NODE_LEGACY_LET z) us es) (sym e)
-    (legacy_item m rows d n s us w.item v.item v.more es (short_to (ap (go BeforeBrace) (only (λ j. live (go BeforeBrace j)) TOKEN_L_BRACE refl v.item.kind v.alive)) refl refl v.rest)
-    (subst (λ (z : Sketch). IsOver s (end_from n (tokens_in z)) us) e o))
+    subst (λ (z : AnnotatedForest). ReadsTree d n (tokens_in z) (one_branch NODE_LEGACY_LET z) us es) (sym e)
+    (legacy_item m rows d n s us w.item v.item v.more es (short_to (ap (advance BeforeBrace) (only (λ j. live (advance BeforeBrace j)) TOKEN_L_BRACE refl v.item.kind v.alive)) refl refl v.rest)
+    (subst (λ (z : AnnotatedForest). IsOver s (end_from n (tokens_in z)) us) e o))

@@ -6,8 +6,8 @@ use Rattle.rnix_kinds.specs.declared.kinds.SyntaxKind.{SyntaxKind}
 use Rattle.rnix_kinds.specs.declared.kinds.SyntaxKind.TheVariants.{TOKEN_IDENT, TOKEN_OR, TOKEN_STRING_END, NODE_INHERIT_FROM}
 use Rattle.rnix_grammar.specs.declared.place.Place.{Place}
 use Rattle.rnix_grammar.specs.declared.place.Place.TheVariants as p
-use Rattle.rnix_grammar.specs.declared.slot.Slot.{Slot}
-use Rattle.rnix_grammar.specs.declared.slot.Slot.TheVariants as s
+use Rattle.rnix_grammar.specs.declared.symbol.Symbol.{Symbol}
+use Rattle.rnix_grammar.specs.declared.symbol.Symbol.TheVariants as s
 use Rattle.rnix_grammar.specs.declared.until.Until.{Until}
 use Rattle.rnix_grammar.specs.declared.until.Until.TheVariants as u
 use Rattle.rnix_grammar.specs.declared.action.Action.TheVariants as a
@@ -15,33 +15,33 @@ use Rattle.rnix_grammar.specs.Fault.{Fault, ended}
 use Rattle.rnix_grammar.specs.Tables.{is_wanted, depth_limit}
 use Rattle.rnix_grammar.specs.Actions.{done_at, attr_action, formals_action, name_action, pieces_action, token_action}
 use Rattle.rnix_grammar.specs.TokenKinds.{is_comma, is_l_paren}
-use Rattle.rnix_grammar.specs.Sketch.{Sketch}
+use Rattle.rnix_grammar.specs.AnnotatedForest.{AnnotatedForest}
 use Rattle.rnix_grammar.specs.Machine.{Head, Frame, machine, opened, perform, limited}
-use Rattle.rnix_grammar.specs.Missing.{lack_in, run_in}
-use Rattle.rnix_grammar.specs.Slots.{is_counted}
-use Rattle.rnix_grammar.specs.OwnItems.{begins_attr, owns_in, owns_end}
+use Rattle.rnix_grammar.specs.Missing.{missing_in, run_in}
+use Rattle.rnix_grammar.specs.Symbols.{is_counted}
+use Rattle.rnix_grammar.specs.ExpectedItems.{begins_attr, expects_in, expects_end}
 use Rattle.rnix_lemmas.proofs.Basics.{true_is_not_false, some_same}
 
 -- what is missing is reported once
-lacks_one : (d e : Fault) (z y : Place) (x : Head) (n m : ℕ) (b : Sketch) (fs : List Frame) (gs : List Fault)
+misses_one : (d e : Fault) (z y : Place) (x : Head) (n m : ℕ) (b : AnnotatedForest) (fs : List Frame) (gs : List Fault)
     → ◌≡◌ {A = Option (Fault × Place)} (Some (d, z)) (Some (e, y))
     → machine (opened x z n b ∷ fs) [] m (gs ++ d ∷ []) ≡ machine (opened x y n b ∷ fs) [] m (gs ++ e ∷ [])
-lacks_one d e z y x n m b fs gs h = ap (λ (w : Fault × Place). machine (opened x w.1 n b ∷ fs) [] m (gs ++ w.0 ∷ [])) (some_same {A = Fault × Place} (d, z) (e, y) h)
+misses_one d e z y x n m b fs gs h = ap (λ (w : Fault × Place). machine (opened x w.1 n b ∷ fs) [] m (gs ++ w.0 ∷ [])) (some_same {A = Fault × Place} (d, z) (e, y) h)
 
 -- an operand of which nothing is left
-reads_none : (level : ℕ) (z : Place) (h : Head) (d n : ℕ) (b : Sketch) (fs : List Frame) (gs : List Fault) (w : Bool) → nat_le depth_limit d ≡ w → d < depth_limit
+reads_none : (level : ℕ) (z : Place) (h : Head) (d n : ℕ) (b : AnnotatedForest) (fs : List Frame) (gs : List Fault) (w : Bool) → nat_le depth_limit d ≡ w → d < depth_limit
     → (if w then limited false (opened h z d b) fs [] n gs else machine (opened h z d b ∷ fs) [] n (gs ++ ended ∷ [])) ≡ machine (opened h z d b ∷ fs) [] n (gs ++ ended ∷ [])
 reads_none level z h d n b fs gs true e l = absurd (grind (arith, nat_tests, e, l))
 reads_none level z h d n b fs gs false e l = refl
 
 -- where the text ends at a place, what is missing is reported
-pub lacks_in : (slot : Slot) (x y : Place) (e : Fault) (h : Head) (d n : ℕ) (b : Sketch) (fs : List Frame) (gs : List Fault) (touch : Bool)
-    → lack_in slot ≡ Some (e, y)
-    → (owns_end slot ≡ false → is_counted slot ≡ true → d < depth_limit)
-    → perform false (done_at slot x None touch) (opened h x d b) fs [] n gs ≡ machine (opened h y d b ∷ fs) [] n (gs ++ e ∷ [])
-lacks_in (s.Operand level true z) x y e h d n b fs gs touch l r = reads_none level z h d n b fs gs (nat_le depth_limit d) refl (r refl refl)
-    ∙ lacks_one _ e z y h d n b fs gs l
-lacks_in _ x y e h d n b fs gs touch l r = first_of (search, search lacks_one)
+pub misses_in : (symbol : Symbol) (x y : Place) (e : Fault) (h : Head) (d n : ℕ) (b : AnnotatedForest) (fs : List Frame) (gs : List Fault) (touch : Bool)
+    → missing_in symbol ≡ Some (e, y)
+    → (expects_end symbol ≡ false → is_counted symbol ≡ true → d < depth_limit)
+    → perform false (done_at symbol x None touch) (opened h x d b) fs [] n gs ≡ machine (opened h y d b ∷ fs) [] n (gs ++ e ∷ [])
+misses_in (s.Operand level true z) x y e h d n b fs gs touch l r = reads_none level z h d n b fs gs (nat_le depth_limit d) refl (r refl refl)
+    ∙ misses_one _ e z y h d n b fs gs l
+misses_in _ x y e h d n b fs gs touch l r = first_of (search, search misses_one)
 
 -- a run is as the place says
 runs_one : (v w : Until) (z y : Place) → ◌≡◌ {A = Option (Until × Place)} (Some (v, z)) (Some (w, y)) → a.Run v z ≡ a.Run w y
@@ -92,8 +92,8 @@ source_run k h =
     ∙ names_run p.InheritName p.InheritNames k o.1
 
 -- where a run may stand, an item that is not the place's own begins it
-pub runs_in : (slot : Slot) (x y : Place) (until : Until) (k : SyntaxKind) (touch : Bool) → run_in slot x ≡ Some (until, y) → owns_in slot touch k ≡ false
-    → done_at slot x (Some k) touch ≡ a.Run until y
+pub runs_in : (symbol : Symbol) (x y : Place) (until : Until) (k : SyntaxKind) (touch : Bool) → run_in symbol x ≡ Some (until, y) → expects_in symbol touch k ≡ false
+    → done_at symbol x (Some k) touch ≡ a.Run until y
 runs_in (s.Token v z) x y until k touch l o = ap (λ w. if w then a.Take z else a.Run v x) o ∙ runs_one v until x y l
 runs_in s.Pieces x y until k touch l o = pieces_run x k o ∙ runs_one _ until x y l
 runs_in s.Source x y until k touch l o = source_run k o ∙ runs_one _ until _ y l

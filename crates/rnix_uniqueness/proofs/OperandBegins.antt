@@ -9,7 +9,7 @@ use Rattle.rnix_grammar.specs.declared.begin.Begin.{Begin}
 use Rattle.rnix_grammar.specs.declared.begin.Begin.TheVariants as b
 use Rattle.rnix_grammar.specs.Tables.{is_cur_pos}
 use Rattle.rnix_grammar.specs.Begins.{begin_of, begin_name, begin_let, is_pattern, second_kind}
-use Rattle.rnix_grammar.specs.Sketch.{Token, Sketch, blank, token, branch, one_branch, told_as, head_kind}
+use Rattle.rnix_grammar.specs.AnnotatedForest.{Token, AnnotatedForest, blank, token, branch, one_branch, leaf_kind_as, head_kind}
 use Rattle.rnix_grammar.specs.Rows.{At, first, is_atom, is_expression}
 use Rattle.rnix_grammar.specs.TreeLevels.{level_of}
 use Rattle.rnix_grammar.specs.Operands.{first_tree, kind_of}
@@ -35,8 +35,8 @@ high_at k i = if is_atom k then 16 else 0
 
 -- what an item of a kind begins
 abbrev pub BegunBy : SyntaxKind → Begin → Type 0
-BegunBy i (b.Leaf k) = (is_led k ≡ true) × (first k (told_as k i) ≡ At p.Past) × (is_atom k ≡ true)
-BegunBy i (b.Node k z high) = (is_led k ≡ true) × (first k (told_as k i) ≡ At z) × (row_class z ≡ 0) × (high_at k i ≡ high)
+BegunBy i (b.Leaf k) = (is_led k ≡ true) × (first k (leaf_kind_as k i) ≡ At p.Past) × (is_atom k ≡ true)
+BegunBy i (b.Node k z high) = (is_led k ≡ true) × (first k (leaf_kind_as k i) ≡ At z) × (row_class z ≡ 0) × (high_at k i ≡ high)
 BegunBy i b.NameLambda = i ≡ TOKEN_IDENT
 BegunBy i b.BoundLambda = i ≡ TOKEN_IDENT
 BegunBy i b.PatternLambda = i ≡ TOKEN_L_BRACE
@@ -95,8 +95,8 @@ begins_special k h level t ts e =
 
 -- how an expression that begins with an item does so: it is the item, or a node that goes on at a place
 pub data LedBy (k i : SyntaxKind) (begin : Begin) : Type 0 where
-  by_leaf : begin ≡ b.Leaf k → first k (told_as k i) ≡ At p.Past → is_atom k ≡ true → LedBy k i begin
-  by_node : (z : Place) (high : ℕ) → begin ≡ b.Node k z high → first k (told_as k i) ≡ At z → row_class z ≡ 0 → high_at k i ≡ high → LedBy k i begin
+  by_leaf : begin ≡ b.Leaf k → first k (leaf_kind_as k i) ≡ At p.Past → is_atom k ≡ true → LedBy k i begin
+  by_node : (z : Place) (high : ℕ) → begin ≡ b.Node k z high → first k (leaf_kind_as k i) ≡ At z → row_class z ≡ 0 → high_at k i ≡ high → LedBy k i begin
 
 -- each such expression begins so, by its beginning
 led_by : (k i : SyntaxKind) (begin : Begin) → is_led k ≡ true → kind_of begin ≡ k → BegunBy i begin → LedBy k i begin
@@ -107,12 +107,12 @@ led_by k i (b.Node j z high) h e w =
 led_by k i _ h e w = absurd (true_is_not_false (sym h ∙ ap is_led (sym e)))
 
 -- such an expression is its own first tree
-first_led : (k : SyntaxKind) (c f : Sketch) → is_led k ≡ true → first_tree (branch k c f) ≡ k
+first_led : (k : SyntaxKind) (c f : AnnotatedForest) → is_led k ≡ true → first_tree (branch k c f) ≡ k
 first_led NODE_BIN_OP c f h = absurd (true_is_not_false (sym h))
 first_led _ c f h = cc
 
 -- each such expression begins so
-pub begins_led : (k : SyntaxKind) → is_led k ≡ true → (level : ℕ) (t : Token) (ts : List Token) (c : Sketch)
+pub begins_led : (k : SyntaxKind) → is_led k ≡ true → (level : ℕ) (t : Token) (ts : List Token) (c : AnnotatedForest)
     → kind_of (begin_of level t.kind t.text (head_kind ts) (second_kind ts)) ≡ first_tree (one_branch k c)
     → LedBy k t.kind (begin_of level t.kind t.text (head_kind ts) (second_kind ts))
 begins_led k h level t ts c e =
@@ -125,12 +125,12 @@ is_unary NODE_UNARY_OP = true
 is_unary k = false
 
 -- the level of such an expression that is no atom and has no prefix operator
-loose_level : (k : SyntaxKind) (c : Sketch) → is_led k ≡ true → is_atom k ≡ false → is_unary k ≡ false → level_of k c ≡ 0
+loose_level : (k : SyntaxKind) (c : AnnotatedForest) → is_led k ≡ true → is_atom k ≡ false → is_unary k ≡ false → level_of k c ≡ 0
 loose_level NODE_BIN_OP c h a u = absurd (true_is_not_false (sym h))
 loose_level _ c h a u = cc
 
 -- what goes on with it
-followed_plain : (k : SyntaxKind) (c : Sketch) → is_led k ≡ true → is_unary k ≡ false → FollowedTo (if is_atom k then 16 else 0) (one_branch k c)
+followed_plain : (k : SyntaxKind) (c : AnnotatedForest) → is_led k ≡ true → is_unary k ≡ false → FollowedTo (if is_atom k then 16 else 0) (one_branch k c)
 followed_plain k c h u = by (is_atom k) refl
   where
     by : (w : Bool) → is_atom k ≡ w → FollowedTo (if w then 16 else 0) (one_branch k c)
@@ -138,7 +138,7 @@ followed_plain k c h u = by (is_atom k) refl
     by false a = followed_loose (one_branch k c) (loose_level k c h a u) a
 
 -- what goes on with such a tree
-pub followed_led : (k i : SyntaxKind) (t : Token) (f : Sketch) → is_led k ≡ true → FollowedTo (high_at k i) (one_branch k (token (told_as k i) t f))
+pub followed_led : (k i : SyntaxKind) (t : Token) (f : AnnotatedForest) → is_led k ≡ true → FollowedTo (high_at k i) (one_branch k (token (leaf_kind_as k i) t f))
 followed_led NODE_UNARY_OP TOKEN_INVERT t f h = followed_inverted (one_branch NODE_UNARY_OP (token TOKEN_INVERT t f)) refl refl
 followed_led NODE_UNARY_OP i t f h = followed_negated (one_branch NODE_UNARY_OP (token i t f)) refl refl
-followed_led k i t f h = followed_plain k (token (told_as k i) t f) h refl
+followed_led k i t f h = followed_plain k (token (leaf_kind_as k i) t f) h refl

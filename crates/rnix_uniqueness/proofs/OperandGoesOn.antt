@@ -5,36 +5,36 @@ use Rattle.std.specs.Prelude.{◌&&◌, if◌then◌else◌, nat_le}
 use Rattle.rnix_kinds.specs.declared.kinds.SyntaxKind.{SyntaxKind}
 use Rattle.rnix_grammar.specs.declared.action.Action.TheVariants as a
 use Rattle.rnix_grammar.specs.Actions.{follow, more_action, goes_on as goes_between}
-use Rattle.rnix_grammar.specs.Levels.{power}
-use Rattle.rnix_grammar.specs.Sketch.{Token, Sketch, head_kind}
+use Rattle.rnix_grammar.specs.Levels.{binding_power}
+use Rattle.rnix_grammar.specs.AnnotatedForest.{Token, AnnotatedForest, head_kind}
 use Rattle.rnix_grammar.specs.Operands.{follows, first_tree, IsBegun, goes_on}
 use Rattle.rnix_lemmas.proofs.Basics.{true_is_not_false}
 use Rattle.rnix_lemmas.proofs.LevelLemmas.{at_most, at_most_true}
 use Rattle.rnix_lemmas.proofs.FollowLemmas.{FollowedTo}
 
 -- an item goes on with a tree, as far as the tree's level
-pub goes : (level high : ℕ) (i : SyntaxKind) (x : Sketch) → FollowedTo high x → follows i x ≡ true → level ≤ power i → more_action level high (Some i) ≡ follow i
+pub goes : (level high : ℕ) (i : SyntaxKind) (x : AnnotatedForest) → FollowedTo high x → follows i x ≡ true → level ≤ binding_power i → more_action level high (Some i) ≡ follow i
 goes level high i x b f l =
     let w = (b i).1 f in
-    ap (λ z. if z then follow i else a.Settle) (all_three (nat_le 1 (power i)) (nat_le level (power i)) (nat_le (power i) high) (at_most_true 1 (power i) w.0) (at_most_true level (power i) l) (at_most_true (power i) high w.1))
+    ap (λ z. if z then follow i else a.Settle) (all_three (nat_le 1 (binding_power i)) (nat_le level (binding_power i)) (nat_le (binding_power i) high) (at_most_true 1 (binding_power i) w.0) (at_most_true level (binding_power i) l) (at_most_true (binding_power i) high w.1))
   where
     all_three : (u v w : Bool) → u ≡ true → v ≡ true → w ≡ true → (u && (v && w)) ≡ true
     all_three u v w e f g = ap (λ z. z && (v && w)) e ∙ ap (λ z. z && w) f ∙ g
 
 -- an operand that no item goes on with ends
-pub settles : (level high : ℕ) (x : Sketch) (us : List Token) → FollowedTo high x → goes_on level x us ≡ false → more_action level high (head_kind us) ≡ a.Settle
+pub settles : (level high : ℕ) (x : AnnotatedForest) (us : List Token) → FollowedTo high x → goes_on level x us ≡ false → more_action level high (head_kind us) ≡ a.Settle
 settles level high x [] b h = refl
 settles level high x (t ∷ ts) b h = by (goes_between level high t.kind) refl
   where
     by : (w : Bool) → goes_between level high t.kind ≡ w → (if w then follow t.kind else a.Settle) ≡ a.Settle
     by false e = refl
     by true e =
-        let u = and_parts (nat_le 1 (power t.kind)) (nat_le level (power t.kind) && nat_le (power t.kind) high) e in
-        let v = and_parts (nat_le level (power t.kind)) (nat_le (power t.kind) high) u.1 in
-        let f : follows t.kind x ≡ true = (b t.kind).0 (at_most 1 (power t.kind) u.0) (at_most (power t.kind) high v.1) in
-        absurd (true_is_not_false (sym (ap (λ z. z && nat_le level (power t.kind)) f ∙ v.0) ∙ h))
+        let u = and_parts (nat_le 1 (binding_power t.kind)) (nat_le level (binding_power t.kind) && nat_le (binding_power t.kind) high) e in
+        let v = and_parts (nat_le level (binding_power t.kind)) (nat_le (binding_power t.kind) high) u.1 in
+        let f : follows t.kind x ≡ true = (b t.kind).0 (at_most 1 (binding_power t.kind) u.0) (at_most (binding_power t.kind) high v.1) in
+        absurd (true_is_not_false (sym (ap (λ z. z && nat_le level (binding_power t.kind)) f ∙ v.0) ∙ h))
 
 -- two trees whose first trees are of one kind begin alike
-pub begun_same : (level : ℕ) (x y : Sketch) (ts : List Token) → first_tree x ≡ first_tree y → IsBegun level x ts → IsBegun level y ts
+pub begun_same : (level : ℕ) (x y : AnnotatedForest) (ts : List Token) → first_tree x ≡ first_tree y → IsBegun level x ts → IsBegun level y ts
 begun_same level x y [] e h = h
 begun_same level x y (t ∷ ts) e h = h ∙ e

@@ -8,18 +8,18 @@ use Rattle.rnix_grammar.specs.declared.place.Place.TheVariants as p
 use Rattle.rnix_grammar.specs.declared.action.Action.TheVariants as a
 use Rattle.rnix_grammar.specs.Fault.{Fault}
 use Rattle.rnix_grammar.specs.Actions.{follow as follow_of}
-use Rattle.rnix_grammar.specs.Levels.{power, right_of, high_of}
-use Rattle.rnix_grammar.specs.Sketch.{Token, Stray, Sketch, blank, token, ◌⊕◌, one_token, one_branch, one_fault, row_of, tokens_in, told, end_from}
+use Rattle.rnix_grammar.specs.Levels.{binding_power, right_of, high_of}
+use Rattle.rnix_grammar.specs.AnnotatedForest.{Token, Stray, AnnotatedForest, blank, token, ◌⊕◌, one_token, one_branch, one_fault, row_of, tokens_in, leaf_kind, end_from}
 use Rattle.rnix_grammar.specs.Reports.{report, repeats}
 use Rattle.rnix_grammar.specs.Machine.{Node, Operand, Frame, machine, opened, perform, operand_on}
-use Rattle.rnix_grammar.specs.Rows.{Spot, Start, BeforeOperator, BeforeDot, BeforeQuestion, At, is_atom, is_questioned, is_operand, is_infix, is_expression, go, live, to}
+use Rattle.rnix_grammar.specs.Rows.{RowState, Start, BeforeOperator, BeforeDot, BeforeQuestion, At, is_atom, is_questioned, is_operand, is_infix, is_expression, advance, live, to}
 use Rattle.rnix_grammar.specs.TreeLevels.{row_level}
 use Rattle.rnix_grammar.specs.Operands.{follows, first_tree, IsBegun, IsFollowed}
 use Rattle.rnix_grammar.specs.Reads.{IsOver}
 use Rattle.rnix_lemmas.proofs.EveryKind.{alike, only}
 use Rattle.rnix_lemmas.proofs.NodeKinds.{is_error, told_plain}
 use Rattle.rnix_lemmas.proofs.OpeningRows.{is_place, live_to}
-use Rattle.rnix_lemmas.proofs.SketchLemmas.{⊕-assoc}
+use Rattle.rnix_lemmas.proofs.AnnotatedForestLemmas.{⊕-assoc}
 use Rattle.rnix_lemmas.proofs.StrictParts.{end_behind}
 use Rattle.rnix_lemmas.proofs.FirstTrees.{IsSingle, a_node, an_error, first_in, single_operator}
 use Rattle.rnix_lemmas.proofs.FollowLemmas.{FollowedTo, followed_infix, followed_question, followed_tight, follows_level, follows_token}
@@ -33,10 +33,10 @@ use Rattle.rnix_uniqueness.proofs.OperandGoesOn.{goes, begun_same}
 use Rattle.rnix_uniqueness.proofs.ItemRows.{stray_reads}
 
 -- the first tree of a row, read, and the rest of the row
-pub record Leading (m : ℕ) (k : SyntaxKind) (d n : ℕ) (q s : Spot) (us : List Token) (c : Sketch) (es : List Fault) : Type 0 where
+pub record Leading (m : ℕ) (k : SyntaxKind) (d n : ℕ) (q s : RowState) (us : List Token) (c : AnnotatedForest) (es : List Fault) : Type 0 where
   pub items : List Token
-  pub tree : Sketch
-  pub row : Sketch
+  pub tree : AnnotatedForest
+  pub row : AnnotatedForest
   pub before : List Fault
   pub later : List Fault
   pub one : IsSingle tree
@@ -47,28 +47,28 @@ pub record Leading (m : ℕ) (k : SyntaxKind) (d n : ℕ) (q s : Spot) (us : Lis
   pub rest : Short m k d (end_from n items) q s tree us row later
 
 -- what is known of a kind whose row begins with a tree
-pub record BeginsWithTree (k : SyntaxKind) (q : Spot) (test : SyntaxKind → Bool) : Type 0 where
-  pub goes : (j : SyntaxKind) → go (Start k) j ≡ to (test j) q
+pub record BeginsWithTree (k : SyntaxKind) (q : RowState) (test : SyntaxKind → Bool) : Type 0 where
+  pub goes : (j : SyntaxKind) → advance (Start k) j ≡ to (test j) q
   pub fitting : (j : SyntaxKind) → test j ≡ true → is_expression j ≡ true
 
 -- expressions are not reported
-pub unreported : (k : SyntaxKind) (b c : Sketch) → is_expression k ≡ true → repeats k b c ≡ []
+pub unreported : (k : SyntaxKind) (b c : AnnotatedForest) → is_expression k ≡ true → repeats k b c ≡ []
 unreported k b c h = quiet k b c (alike is_expression (λ j. class_of (Some j)) (λ j. 0) refl k h)
 
 -- the first tree is read, if no lone token is first
-pub leading : (m : ℕ) → Trees m → (k : SyntaxKind) (d n : ℕ) (q s : Spot) (us : List Token) (c : Sketch) (es : List Fault) (test : SyntaxKind → Bool)
+pub leading : (m : ℕ) → Trees m → (k : SyntaxKind) (d n : ℕ) (q s : RowState) (us : List Token) (c : AnnotatedForest) (es : List Fault) (test : SyntaxKind → Bool)
     → BeginsWithTree k q test
-    → ((j : SyntaxKind) (t : Token) (f : Sketch) (fs : List Fault) → Short m k d t.end q s (one_token j t) us f fs → ⊥)
+    → ((j : SyntaxKind) (t : Token) (f : AnnotatedForest) (fs : List Fault) → Short m k d t.end q s (one_token j t) us f fs → ⊥)
     → Front m k d n (Start k) s blank us c es → Leading m k d n q s us c es
 leading m trees k d n q s us c es test w dead r = by r
   where
-    passes : (j : SyntaxKind) → live (go (Start k) j) ≡ true → test j ≡ true
+    passes : (j : SyntaxKind) → live (advance (Start k) j) ≡ true → test j ≡ true
     passes j l = live_to (test j) q (ap live (sym (w.goes j)) ∙ l)
 
-    behind : (j : SyntaxKind) → live (go (Start k) j) ≡ true → go (Start k) j ≡ q
+    behind : (j : SyntaxKind) → live (advance (Start k) j) ≡ true → advance (Start k) j ≡ q
     behind j l = w.goes j ∙ ap (λ z. to z q) (passes j l)
 
-    by : {c : Sketch} {es : List Fault} → Front m k d n (Start k) s blank us c es → Leading m k d n q s us c es
+    by : {c : AnnotatedForest} {es : List Fault} → Front m k d n (Start k) s blank us c es → Leading m k d n q s us c es
     by (by_leaf {k = j} {t = t} {f = f} {es = es} e x l r) = absurd (dead j t f es (short_to (behind j l) refl refl r))
     by (by_stray {t = t} {f = f} {es = es} o x y l r) = record {
       items = t ∷ [];
@@ -98,35 +98,35 @@ leading m trees k d n q s us c es test w dead r = by r
     }
 
 -- so the row is read, if the steps read what the first tree stands before
-pub leading_reads : {m : ℕ} {k : SyntaxKind} {d n : ℕ} {q s : Spot} {us : List Token} {c : Sketch} {es : List Fault} (l : Leading m k d n q s us c es)
+pub leading_reads : {m : ℕ} {k : SyntaxKind} {d n : ℕ} {q s : RowState} {us : List Token} {c : AnnotatedForest} {es : List Fault} (l : Leading m k d n q s us c es)
     → ReadsTree d n (l.items ++ tokens_in l.row) (one_branch k (l.tree ⊕ l.row)) us (l.before ++ l.later) → ReadsTree d n (tokens_in c) (one_branch k c) us es
 leading_reads {k = k} {d = d} {n = n} {us = us} {c = c} {es = es} l r =
     subst (λ (zs : List Token). ReadsTree d n zs (one_branch k c) us es) (sym l.spelled)
-    (subst (λ (z : Sketch). ReadsTree d n (l.items ++ tokens_in l.row) (one_branch k z) us es) (sym l.is)
+    (subst (λ (z : AnnotatedForest). ReadsTree d n (l.items ++ tokens_in l.row) (one_branch k z) us es) (sym l.is)
     (subst (λ (v : List Fault). ReadsTree d n (l.items ++ tokens_in l.row) (one_branch k (l.tree ⊕ l.row)) us v) (sym l.faults) r))
 
 -- where the row is over behind its first tree
-leading_over : {m : ℕ} {k : SyntaxKind} {d n : ℕ} {q s : Spot} {us : List Token} {c : Sketch} {es : List Fault} (l : Leading m k d n q s us c es)
+leading_over : {m : ℕ} {k : SyntaxKind} {d n : ℕ} {q s : RowState} {us : List Token} {c : AnnotatedForest} {es : List Fault} (l : Leading m k d n q s us c es)
     → IsOver s (end_from n (tokens_in c)) us
     → IsOver s (end_from (end_from n l.items) (tokens_in l.row)) us
 leading_over {n = n} {s = s} {us = us} l o = subst (λ (e : ℕ). IsOver s e us) (ap (λ zs. end_from n zs) l.spelled ∙ end_behind n l.items (tokens_in l.row)) o
 
 -- a node whose row begins with a tree and an item, which leads to a place
-record Joins (k : SyntaxKind) (q : Spot) (test : SyntaxKind → Bool) (z : SyntaxKind → Place) (high : SyntaxKind → ℕ) : Type 0 where
+record Joins (k : SyntaxKind) (q : RowState) (test : SyntaxKind → Bool) (z : SyntaxKind → Place) (high : SyntaxKind → ℕ) : Type 0 where
   begins : BeginsWithTree k q test
   known : (is_error k ≡ false) × (class_of (Some k) ≡ 0) × (is_bare q ≡ true) × (is_place q ≡ false)
-  follow : (i : SyntaxKind) (x : Sketch) → IsFollowed q x (Some i) → follows i x ≡ true
-  goes : (i : SyntaxKind) → live (go q i) ≡ true → go q i ≡ At (z i)
+  follow : (i : SyntaxKind) (x : AnnotatedForest) → IsFollowed q x (Some i) → follows i x ≡ true
+  goes : (i : SyntaxKind) → live (advance q i) ≡ true → advance q i ≡ At (z i)
   home : (i : SyntaxKind) → row_class (z i) ≡ 0
-  action : (i : SyntaxKind) → live (go q i) ≡ true → follow_of i ≡ a.Wrap k (z i) (high i)
-  level : (i : SyntaxKind) (x : Sketch) (t : Token) (f : Sketch) → IsSingle x → live (go q i) ≡ true → row_level (one_branch k (x ⊕ token i t f)) ≡ power i
-  followed : (i : SyntaxKind) (x : Sketch) → live (go q i) ≡ true → row_level (one_branch k x) ≡ power i → FollowedTo (high i) (one_branch k x)
-  first : (x : Sketch) → first_tree (one_branch k x) ≡ first_tree x
+  action : (i : SyntaxKind) → live (advance q i) ≡ true → follow_of i ≡ a.Wrap k (z i) (high i)
+  level : (i : SyntaxKind) (x : AnnotatedForest) (t : Token) (f : AnnotatedForest) → IsSingle x → live (advance q i) ≡ true → row_level (one_branch k (x ⊕ token i t f)) ≡ binding_power i
+  followed : (i : SyntaxKind) (x : AnnotatedForest) → live (advance q i) ≡ true → row_level (one_branch k x) ≡ binding_power i → FollowedTo (high i) (one_branch k x)
+  first : (x : AnnotatedForest) → first_tree (one_branch k x) ≡ first_tree x
 
 -- a tree, an item that goes on with it, and the rest of the node's row
-joined : {k : SyntaxKind} {q : Spot} {test : SyntaxKind → Bool} {z : SyntaxKind → Place} {high : SyntaxKind
-    → ℕ} (w : Joins k q test z high) (zs : List Token) (x : Sketch) (t : Token) (f : Sketch)
-    (d n : ℕ) (us : List Token) (es ds : List Fault) → IsSingle x → live (go q t.kind) ≡ true → ReadsTree d n zs x (t ∷ (tokens_in f ++ us)) es
+joined : {k : SyntaxKind} {q : RowState} {test : SyntaxKind → Bool} {z : SyntaxKind → Place} {high : SyntaxKind
+    → ℕ} (w : Joins k q test z high) (zs : List Token) (x : AnnotatedForest) (t : Token) (f : AnnotatedForest)
+    (d n : ℕ) (us : List Token) (es ds : List Fault) → IsSingle x → live (advance q t.kind) ≡ true → ReadsTree d n zs x (t ∷ (tokens_in f ++ us)) es
     → follows t.kind x ≡ true
     → ReadOn k d t.end (z t.kind) (x ⊕ one_token t.kind t) us f ds → ReadsTree d n (zs ++ (t ∷ tokens_in f)) (one_branch k (x ⊕ token t.kind t f)) us (es ++ ds)
 joined {k = k} {z = z} {high = high} w zs x t f d n us es ds one live tree follow row level F fs gs low begins = by (tree level F fs gs (omega (arith, least, follows_level t.kind x follow)) begun)
@@ -134,13 +134,13 @@ joined {k = k} {z = z} {high = high} w zs x t f d n us es ds one live tree follo
     ts : List Token
     ts = tokens_in f ++ us
 
-    v : Sketch
+    v : AnnotatedForest
     v = one_branch k (x ⊕ token t.kind t f)
 
-    tight : row_level v ≡ power t.kind
+    tight : row_level v ≡ binding_power t.kind
     tight = w.level t.kind x t f one live
 
-    least : level ≤ power t.kind
+    least : level ≤ binding_power t.kind
     least = omega (arith, low, tight)
 
     begun : IsBegun level x (zs ++ (t ∷ ts))
@@ -172,17 +172,17 @@ joined {k = k} {z = z} {high = high} w zs x t f d n us es ds one live tree follo
     }
 
 -- such a node is read
-joined_reads : (m : ℕ) → AllRows m → Trees m → (k : SyntaxKind) (q : Spot) (test : SyntaxKind → Bool) (z : SyntaxKind → Place) (high : SyntaxKind
+joined_reads : (m : ℕ) → AllRows m → Trees m → (k : SyntaxKind) (q : RowState) (test : SyntaxKind → Bool) (z : SyntaxKind → Place) (high : SyntaxKind
     → ℕ) → Joins k q test z high
-    → (d n : ℕ) (s : Spot) (us : List Token) (c : Sketch) (es : List Fault) → Front m k d n (Start k) s blank us c es → IsOver s (end_from n (tokens_in c)) us
+    → (d n : ℕ) (s : RowState) (us : List Token) (c : AnnotatedForest) (es : List Fault) → Front m k d n (Start k) s blank us c es → IsOver s (end_from n (tokens_in c)) us
     → ReadsTree d n (tokens_in c) (one_branch k c) us es
 joined_reads m rows trees k q test z high w d n s us c es r over = by (leading m trees k d n q s us c es test w.begins lone r)
   where
-    next : {n : ℕ} {b f : Sketch} {es : List Fault} → Short m k d n q s b us f es → Item m k d q s b us f es
+    next : {n : ℕ} {b f : AnnotatedForest} {es : List Fault} → Short m k d n q s b us f es → Item m k d q s b us f es
     next r = item_next w.known.2 (front_of refl r w.known.3 over.0)
 
-    lone : (j : SyntaxKind) (t : Token) (f : Sketch) (fs : List Fault) → Short m k d t.end q s (one_token j t) us f fs → ⊥
-    lone j t f fs r = let v = next r in follows_token (told k v.item) j t blank (w.follow (told k v.item) (one_token j t) v.followed)
+    lone : (j : SyntaxKind) (t : Token) (f : AnnotatedForest) (fs : List Fault) → Short m k d t.end q s (one_token j t) us f fs → ⊥
+    lone j t f fs r = let v = next r in follows_token (leaf_kind k v.item) j t blank (w.follow (leaf_kind k v.item) (one_token j t) v.followed)
 
     by : Leading m k d n q s us c es → ReadsTree d n (tokens_in c) (one_branch k c) us es
     by l = leading_reads l (on (next l.rest))
@@ -190,16 +190,16 @@ joined_reads m rows trees k q test z high w d n s us c es r over = by (leading m
         on : Item m k d q s l.tree us l.row l.later → ReadsTree d n (l.items ++ tokens_in l.row) (one_branch k (l.tree ⊕ l.row)) us (l.before ++ l.later)
         on v =
             let t : Token = v.item in
-            let e : told k t ≡ t.kind = told_plain k t.kind w.known.0 in
+            let e : leaf_kind k t ≡ t.kind = told_plain k t.kind w.known.0 in
             let is : l.row ≡ token t.kind t v.more = v.is ∙ ap (λ i. token i t v.more) e in
-            let alive : live (go q t.kind) ≡ true = ap (λ i. live (go q i)) (sym e) ∙ v.alive in
+            let alive : live (advance q t.kind) ≡ true = ap (λ i. live (advance q i)) (sym e) ∙ v.alive in
             let rest : Short m k d t.end (At (z t.kind)) s (l.tree ⊕ one_token t.kind t) us v.more l.later =
-            short_to (ap (go q) e ∙ w.goes t.kind alive) (ap (λ i. l.tree ⊕ one_token i t) e) refl v.rest in
-            subst (λ (g : Sketch). ReadsTree d n (l.items ++ tokens_in g) (one_branch k (l.tree ⊕ g)) us (l.before ++ l.later)) (sym is)
-            (joined w l.items l.tree t v.more d n us l.before l.later l.one alive (subst (λ (g : Sketch). ReadsTree d n l.items l.tree (tokens_in g ++ us) l.before) is l.reads)
-            (ap (λ i. follows i l.tree) (sym e) ∙ w.follow (told k t) l.tree v.followed)
+            short_to (ap (advance q) e ∙ w.goes t.kind alive) (ap (λ i. l.tree ⊕ one_token i t) e) refl v.rest in
+            subst (λ (g : AnnotatedForest). ReadsTree d n (l.items ++ tokens_in g) (one_branch k (l.tree ⊕ g)) us (l.before ++ l.later)) (sym is)
+            (joined w l.items l.tree t v.more d n us l.before l.later l.one alive (subst (λ (g : AnnotatedForest). ReadsTree d n l.items l.tree (tokens_in g ++ us) l.before) is l.reads)
+            (ap (λ i. follows i l.tree) (sym e) ∙ w.follow (leaf_kind k t) l.tree v.followed)
             (read_on m rows k d t.end (z t.kind) s (l.tree ⊕ one_token t.kind t) us v.more l.later rest
-            (subst (λ (g : Sketch). IsOver s (end_from (end_from n l.items) (tokens_in g)) us) is (leading_over l over))))
+            (subst (λ (g : AnnotatedForest). IsOver s (end_from (end_from n l.items) (tokens_in g)) us) is (leading_over l over))))
 
 -- how a binary operator goes on
 follow_infix : (i : SyntaxKind) → is_infix i ≡ true → follow_of i ≡ a.Wrap NODE_BIN_OP (p.Right (right_of i)) (high_of i)
@@ -207,7 +207,7 @@ follow_infix TOKEN_ADD h = refl
 follow_infix _ h = cc
 
 -- a binary operator is read
-pub binary_reads : (m : ℕ) → AllRows m → Trees m → (d n : ℕ) (s : Spot) (us : List Token) (c : Sketch) (es : List Fault)
+pub binary_reads : (m : ℕ) → AllRows m → Trees m → (d n : ℕ) (s : RowState) (us : List Token) (c : AnnotatedForest) (es : List Fault)
     → Front m NODE_BIN_OP d n (Start NODE_BIN_OP) s blank us c es
     → IsOver s (end_from n (tokens_in c)) us → ReadsTree d n (tokens_in c) (one_branch NODE_BIN_OP c) us es
 binary_reads m rows trees =
@@ -218,16 +218,16 @@ binary_reads m rows trees =
       goes = λ i l. ap (λ w. to w (At (p.Right (right_of i)))) (operates i l);
       home = λ i. refl;
       action = λ i l. follow_infix i (operates i l);
-      level = λ i x t f one l. ap power (single_operator x f i t one);
+      level = λ i x t f one l. ap binding_power (single_operator x f i t one);
       followed = λ i x l e. followed_infix i (operates i l) (one_branch NODE_BIN_OP x) e refl;
       first = λ x. refl;
     })
   where
-    operates : (i : SyntaxKind) → live (go BeforeOperator i) ≡ true → is_infix i ≡ true
+    operates : (i : SyntaxKind) → live (advance BeforeOperator i) ≡ true → is_infix i ≡ true
     operates i l = live_to (is_infix i) (At (p.Right (right_of i))) l
 
 -- so is a test for an attribute
-pub question_reads : (m : ℕ) → AllRows m → Trees m → (d n : ℕ) (s : Spot) (us : List Token) (c : Sketch) (es : List Fault)
+pub question_reads : (m : ℕ) → AllRows m → Trees m → (d n : ℕ) (s : RowState) (us : List Token) (c : AnnotatedForest) (es : List Fault)
     → Front m NODE_HAS_ATTR d n (Start NODE_HAS_ATTR) s blank us c es
     → IsOver s (end_from n (tokens_in c)) us → ReadsTree d n (tokens_in c) (one_branch NODE_HAS_ATTR c) us es
 question_reads m rows trees =
@@ -235,19 +235,19 @@ question_reads m rows trees =
       begins = record { goes = λ j. refl; fitting = implied is_questioned is_expression refl };
       known = (refl, refl, refl, refl);
       follow = λ i x h. h;
-      goes = λ i l. ap (go BeforeQuestion) (question i l);
+      goes = λ i l. ap (advance BeforeQuestion) (question i l);
       home = λ i. refl;
       action = λ i l. ap follow_of (question i l);
-      level = λ i x t f one l. sym (ap power (question i l));
+      level = λ i x t f one l. sym (ap binding_power (question i l));
       followed = λ i x l e. followed_question (one_branch NODE_HAS_ATTR x) refl refl;
       first = λ x. refl;
     })
   where
-    question : (i : SyntaxKind) → live (go BeforeQuestion i) ≡ true → i ≡ TOKEN_QUESTION
-    question i l = only (λ j. live (go BeforeQuestion j)) TOKEN_QUESTION refl i l
+    question : (i : SyntaxKind) → live (advance BeforeQuestion i) ≡ true → i ≡ TOKEN_QUESTION
+    question i l = only (λ j. live (advance BeforeQuestion j)) TOKEN_QUESTION refl i l
 
 -- so is a selection
-pub selected_reads : (m : ℕ) → AllRows m → Trees m → (d n : ℕ) (s : Spot) (us : List Token) (c : Sketch) (es : List Fault)
+pub selected_reads : (m : ℕ) → AllRows m → Trees m → (d n : ℕ) (s : RowState) (us : List Token) (c : AnnotatedForest) (es : List Fault)
     → Front m NODE_SELECT d n (Start NODE_SELECT) s blank us c es
     → IsOver s (end_from n (tokens_in c)) us → ReadsTree d n (tokens_in c) (one_branch NODE_SELECT c) us es
 selected_reads m rows trees =
@@ -255,13 +255,13 @@ selected_reads m rows trees =
       begins = record { goes = λ j. refl; fitting = implied is_atom is_expression refl };
       known = (refl, refl, refl, refl);
       follow = λ i x h. h;
-      goes = λ i l. ap (go BeforeDot) (dot i l);
+      goes = λ i l. ap (advance BeforeDot) (dot i l);
       home = λ i. refl;
       action = λ i l. ap follow_of (dot i l);
-      level = λ i x t f one l. sym (ap power (dot i l));
+      level = λ i x t f one l. sym (ap binding_power (dot i l));
       followed = λ i x l e. followed_tight (one_branch NODE_SELECT x) refl refl;
       first = λ x. refl;
     })
   where
-    dot : (i : SyntaxKind) → live (go BeforeDot i) ≡ true → i ≡ TOKEN_DOT
-    dot i l = only (λ j. live (go BeforeDot j)) TOKEN_DOT refl i l
+    dot : (i : SyntaxKind) → live (advance BeforeDot i) ≡ true → i ≡ TOKEN_DOT
+    dot i l = only (λ j. live (advance BeforeDot j)) TOKEN_DOT refl i l

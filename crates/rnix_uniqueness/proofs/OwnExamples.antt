@@ -8,7 +8,7 @@ use Rattle.rnix_kinds.specs.Lexical.Tokens.{normal_cut, cut_at, tokens_behind}
 use Rattle.rnix_kinds.specs.Lexical.Texts.{space_len, begins_space, char_len, before_pair}
 use Rattle.rnix_grammar.specs.declared.until.Until.TheVariants.{RParen, RBrace, Semicolon, Assign, Colon, InterpolEnd, Ident, Attr}
 use Rattle.rnix_grammar.specs.Fault.{bound_twice, ended}
-use Rattle.rnix_grammar.specs.Sketch.{Twice}
+use Rattle.rnix_grammar.specs.AnnotatedForest.{Twice}
 use Rattle.rnix_uniqueness.proofs.Refused.{done, item, node, wrong, Case, IsTold, is_told}
 use Rattle.rnix_uniqueness.proofs.ExampleWords.{paren, path_of, run, name, path, wrong_path, call, select, function_of, entry, interpol, no_interpol, pieces, set, binding, no_list, stray, unwanteds, extras, within, is_extra, no_operand, instead, missing}
 

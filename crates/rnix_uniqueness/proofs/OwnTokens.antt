@@ -11,14 +11,14 @@ use Rattle.rnix_grammar.specs.declared.action.Action.TheVariants as a
 use Rattle.rnix_grammar.specs.Tables.{closes, is_wanted}
 use Rattle.rnix_grammar.specs.Actions.{entries_action, action_at, done_at, token_action, series_action}
 use Rattle.rnix_grammar.specs.TokenKinds.{is_inherit_token}
-use Rattle.rnix_grammar.specs.Rows.{fits, At, Nowhere, go, to, is_entry, go_slot}
+use Rattle.rnix_grammar.specs.Rows.{fits, At, Nowhere, advance, to, is_entry, advance_symbol}
 use Rattle.rnix_grammar.specs.Plain.{is_node}
-use Rattle.rnix_grammar.specs.declared.slot.Slot.{Slot}
-use Rattle.rnix_grammar.specs.declared.slot.Slot.TheVariants as s
+use Rattle.rnix_grammar.specs.declared.symbol.Symbol.{Symbol}
+use Rattle.rnix_grammar.specs.declared.symbol.Symbol.TheVariants as s
 use Rattle.rnix_grammar.specs.declared.until.Until.{Until}
-use Rattle.rnix_grammar.specs.Slots.{slot_at}
-use Rattle.rnix_grammar.specs.Sketch.{told_as}
-use Rattle.rnix_grammar.specs.OwnItems.{owns_in}
+use Rattle.rnix_grammar.specs.Symbols.{symbol_at}
+use Rattle.rnix_grammar.specs.AnnotatedForest.{leaf_kind_as}
+use Rattle.rnix_grammar.specs.ExpectedItems.{expects_in}
 use Rattle.rnix_lemmas.proofs.Basics.{true_is_not_false}
 use Rattle.rnix_lemmas.proofs.NodeKinds.{expression_node, fits_expression, not_both}
 use Rattle.rnix_lemmas.proofs.PlaceTables.{pieces_is}
@@ -33,7 +33,7 @@ fits_none n k h = by (fits n k) refl
     by false e = e
 
 -- no name stands behind the beginning of a row
-no_names : (x : Place) → (go (At x) TOKEN_IDENT ≡ Nowhere) × (go (At x) TOKEN_CUR_POS ≡ Nowhere)
+no_names : (x : Place) → (advance (At x) TOKEN_IDENT ≡ Nowhere) × (advance (At x) TOKEN_CUR_POS ≡ Nowhere)
 no_names (p.Right level) = (ap (λ w. to w (At (p.Operated level))) (fits_none level TOKEN_IDENT refl), ap (λ w. to w (At (p.Operated level))) (fits_none level TOKEN_CUR_POS refl))
 no_names (p.PatternEnd true) = (refl, refl)
 no_names (p.PatternEnd false) = (refl, refl)
@@ -74,9 +74,9 @@ token_own : (until : Until) (x z y : Place) (k : SyntaxKind) → is_wanted until
 token_own until x z y k e h = ap (λ w. if w then a.Take z else a.Run until x) e ∙ ap (λ w. a.Take w) (to_test (is_wanted until k) z y h).1
 
 -- an own token that a row goes on with is a leaf of it
-takes_own : (slot : Slot) (x y : Place) (k : SyntaxKind) (touch : Bool) → owns_in slot touch k ≡ true → go_slot slot x k ≡ At y → (slot ≡ s.Pieces
+takes_own : (symbol : Symbol) (x y : Place) (k : SyntaxKind) (touch : Bool) → expects_in symbol touch k ≡ true → advance_symbol symbol x k ≡ At y → (symbol ≡ s.Pieces
     → x ≡ p.StringInside)
-    → done_at slot x (Some k) touch ≡ a.Take y
+    → done_at symbol x (Some k) touch ≡ a.Take y
 takes_own (s.Token until z) x y k touch o h v = token_own until x z y k o h
 takes_own (s.Operand level counted z) x y k touch o h v = absurd (true_is_not_false (sym o))
 takes_own (s.Series level closer) x y k touch o h v = series_own level closer x y k o h
@@ -101,7 +101,7 @@ takes_own s.Or x y TOKEN_ADD touch o h v = absurd (no_place y h)
 takes_own _ x y _ touch o h v = cc
 
 -- a leaf that a row goes on with at a place has the kind of its token
-told_there : (x y : Place) (parent k : SyntaxKind) → go (At x) (told_as parent k) ≡ At y → told_as parent k ≡ k
+told_there : (x y : Place) (parent k : SyntaxKind) → advance (At x) (leaf_kind_as parent k) ≡ At y → leaf_kind_as parent k ≡ k
 told_there x y NODE_IDENT TOKEN_OR h = absurd (no_place y (sym (no_names x).0 ∙ h))
 told_there x y NODE_IDENT TOKEN_CUR_POS h = absurd (no_place y (sym (no_names x).0 ∙ h))
 told_there x y NODE_CUR_POS TOKEN_IDENT h = absurd (no_place y (sym (no_names x).1 ∙ h))
@@ -110,6 +110,6 @@ told_there x y NODE_CUR_POS _ h = refl
 told_there x y _ k h = refl
 
 -- so at a place
-pub takes_at : (x y : Place) (parent k : SyntaxKind) (touch : Bool) → owns_in (slot_at x) touch k ≡ true → go (At x) (told_as parent k) ≡ At y
+pub takes_at : (x y : Place) (parent k : SyntaxKind) (touch : Bool) → expects_in (symbol_at x) touch k ≡ true → advance (At x) (leaf_kind_as parent k) ≡ At y
     → action_at x (Some k) touch ≡ a.Take y
-takes_at x y parent k touch o h = takes_own (slot_at x) x y k touch o (ap (λ z. go (At x) z) (sym (told_there x y parent k h)) ∙ h) (pieces_is x)
+takes_at x y parent k touch o h = takes_own (symbol_at x) x y k touch o (ap (λ z. advance (At x) z) (sym (told_there x y parent k h)) ∙ h) (pieces_is x)

@@ -9,18 +9,18 @@ use Rattle.rnix_kinds.specs.declared.kinds.SyntaxKind.{SyntaxKind}
 use Rattle.rnix_kinds.specs.declared.kinds.SyntaxKind.TheVariants.{TOKEN_AT, TOKEN_COMMA, TOKEN_DOT, TOKEN_IDENT, TOKEN_INHERIT, TOKEN_INTERPOL_START, TOKEN_L_PAREN, TOKEN_OR, TOKEN_QUESTION, TOKEN_SEMICOLON, TOKEN_STRING_START, NODE_ATTRPATH, NODE_ATTRPATH_VALUE, NODE_DYNAMIC, NODE_IDENT, NODE_INHERIT, NODE_INHERIT_FROM, NODE_INTERPOL, NODE_PAT_BIND, NODE_PAT_ENTRY, NODE_STRING}
 use Rattle.rnix_grammar.specs.declared.place.Place.{Place}
 use Rattle.rnix_grammar.specs.declared.place.Place.TheVariants as p
-use Rattle.rnix_grammar.specs.declared.slot.Slot.{Slot}
-use Rattle.rnix_grammar.specs.declared.slot.Slot.TheVariants as s
+use Rattle.rnix_grammar.specs.declared.symbol.Symbol.{Symbol}
+use Rattle.rnix_grammar.specs.declared.symbol.Symbol.TheVariants as s
 use Rattle.rnix_grammar.specs.declared.until.Until.TheVariants as u
 use Rattle.rnix_grammar.specs.declared.until.Closer.{Closer}
 use Rattle.rnix_grammar.specs.declared.action.Action.TheVariants as a
 use Rattle.rnix_grammar.specs.Tables.{is_wanted, closes}
-use Rattle.rnix_grammar.specs.Slots.{slot_at, level_in, is_counted}
+use Rattle.rnix_grammar.specs.Symbols.{symbol_at, level_in, is_counted}
 use Rattle.rnix_grammar.specs.Actions.{done_at, entries_action, attr_action, formals_action, name_action, names_action, source_action}
-use Rattle.rnix_grammar.specs.Sketch.{Token, head_kind, touches}
-use Rattle.rnix_grammar.specs.Rows.{is_attr, is_entry, fits, Start, At, first, go, go_slot, live, start, to}
+use Rattle.rnix_grammar.specs.AnnotatedForest.{Token, head_kind, touches}
+use Rattle.rnix_grammar.specs.Rows.{is_attr, is_entry, fits, Start, At, first, advance, advance_symbol, live, start, to}
 use Rattle.rnix_grammar.specs.TokenKinds.{is_piece_start, is_at, is_inherit_token}
-use Rattle.rnix_grammar.specs.OwnItems.{owns_in, owns_end, owns, stands_owned_in}
+use Rattle.rnix_grammar.specs.ExpectedItems.{expects_in, expects_end, expects, stands_expected_in}
 use Rattle.rnix_lemmas.proofs.Basics.{true_is_not_false}
 use Rattle.rnix_lemmas.proofs.EveryKind.{only}
 use Rattle.rnix_lemmas.proofs.NodeKinds.{is_error}
@@ -34,13 +34,13 @@ use Rattle.rnix_uniqueness.proofs.RowClasses.{class_of, row_class}
 use Rattle.rnix_uniqueness.proofs.RowEnds.{is_inner}
 use Rattle.rnix_uniqueness.proofs.FirstItems.{is_bare}
 
--- the next item, or the end of the text, is a slot's own
-abbrev pub own_next : Slot → Bool → Option SyntaxKind → Bool
-own_next slot touch None = owns_end slot
-own_next slot touch (Some k) = owns_in slot touch k
+-- the next item, or the end of the text, is a symbol's own
+abbrev pub own_next : Symbol → Bool → Option SyntaxKind → Bool
+own_next symbol touch None = expects_end symbol
+own_next symbol touch (Some k) = expects_in symbol touch k
 
 -- so at a place
-pub own_at : (x : Place) (n : ℕ) (ts : List Token) → owns x n ts ≡ own_next (slot_at x) (touches n ts) (head_kind ts)
+pub own_at : (x : Place) (n : ℕ) (ts : List Token) → expects x n ts ≡ own_next (symbol_at x) (touches n ts) (head_kind ts)
 own_at x n [] = refl
 own_at x n (t ∷ ts) = refl
 
@@ -50,32 +50,32 @@ IsOpener k i z =
     (start k ≡ Start k) × (is_bare (Start k) ≡ true) × (list_all (λ j. if live (first k j) then nat_eq (place_of j) (place_of i) else true) all_kinds ≡ true)
     × (first k i ≡ At z) × (row_class z ≡ class_of (Some k)) × (is_inner k ≡ true) × (is_error k ≡ false)
 
--- where an operand stands in a slot, it is read
-pub record Operands (slot : Slot) (x y : Place) (touch : Bool) (next : Option SyntaxKind) (k : SyntaxKind) : Type 0 where
+-- where an operand stands in a symbol, it is read
+pub record Operands (symbol : Symbol) (x y : Place) (touch : Bool) (next : Option SyntaxKind) (k : SyntaxKind) : Type 0 where
   pub level : ℕ
-  pub is : level_in slot ≡ Some level
+  pub is : level_in symbol ≡ Some level
   pub fit : fits level k ≡ true
-  pub act : done_at slot x next touch ≡ a.Read level (is_counted slot) y
+  pub act : done_at symbol x next touch ≡ a.Read level (is_counted symbol) y
 
--- how a node that stands in a slot is read before an item
-pub data NodeRead (slot : Slot) (x y : Place) (touch : Bool) (next : Option SyntaxKind) : SyntaxKind → Type 0 where
-  operand : {k : SyntaxKind} → Operands slot x y touch next k → NodeRead slot x y touch next k
-  begins : {k : SyntaxKind} (z : Place) → start k ≡ At z → row_class z ≡ class_of (Some k) → is_inner k ≡ true → is_counted slot ≡ false
-      → done_at slot x next touch ≡ a.Begin k z y
-      → NodeRead slot x y touch next k
-  opens : {k : SyntaxKind} (i : SyntaxKind) (z : Place) → IsOpener k i z → is_counted slot ≡ false → (next ≡ Some i
-      → done_at slot x next touch ≡ a.Open k z y) → NodeRead slot x y touch next k
-  name : is_counted slot ≡ false → ((j : SyntaxKind) → next ≡ Some j → is_wanted u.Attr j ≡ true → done_at slot x next touch ≡ a.Leaf NODE_IDENT y)
-      → NodeRead slot x y touch next NODE_IDENT
-  binds : is_counted slot ≡ false → ((j : SyntaxKind) → next ≡ Some j
-      → (j ≡ TOKEN_AT) × (done_at slot x next touch ≡ a.Open NODE_PAT_BIND p.BindName y)) → NodeRead slot x y touch next NODE_PAT_BIND
-  entry : is_counted slot ≡ false → ((j : SyntaxKind) → next ≡ Some j → is_wanted u.Entry j ≡ true)
-      → ((j : SyntaxKind) → next ≡ Some j → is_wanted u.Attr j ≡ true → done_at slot x next touch ≡ a.Entry y) → NodeRead slot x y touch next NODE_PAT_ENTRY
+-- how a node that stands in a symbol is read before an item
+pub data NodeRead (symbol : Symbol) (x y : Place) (touch : Bool) (next : Option SyntaxKind) : SyntaxKind → Type 0 where
+  operand : {k : SyntaxKind} → Operands symbol x y touch next k → NodeRead symbol x y touch next k
+  begins : {k : SyntaxKind} (z : Place) → start k ≡ At z → row_class z ≡ class_of (Some k) → is_inner k ≡ true → is_counted symbol ≡ false
+      → done_at symbol x next touch ≡ a.Begin k z y
+      → NodeRead symbol x y touch next k
+  opens : {k : SyntaxKind} (i : SyntaxKind) (z : Place) → IsOpener k i z → is_counted symbol ≡ false → (next ≡ Some i
+      → done_at symbol x next touch ≡ a.Open k z y) → NodeRead symbol x y touch next k
+  name : is_counted symbol ≡ false → ((j : SyntaxKind) → next ≡ Some j → is_wanted u.Attr j ≡ true → done_at symbol x next touch ≡ a.Leaf NODE_IDENT y)
+      → NodeRead symbol x y touch next NODE_IDENT
+  binds : is_counted symbol ≡ false → ((j : SyntaxKind) → next ≡ Some j
+      → (j ≡ TOKEN_AT) × (done_at symbol x next touch ≡ a.Open NODE_PAT_BIND p.BindName y)) → NodeRead symbol x y touch next NODE_PAT_BIND
+  entry : is_counted symbol ≡ false → ((j : SyntaxKind) → next ≡ Some j → is_wanted u.Entry j ≡ true)
+      → ((j : SyntaxKind) → next ≡ Some j → is_wanted u.Attr j ≡ true → done_at symbol x next touch ≡ a.Entry y) → NodeRead symbol x y touch next NODE_PAT_ENTRY
 
 -- a node that is no token stands in a row of operands
 pub series_read : (level : ℕ) (closer : Closer) (x y : Place) (touch : Bool) (next : Option SyntaxKind) (k : SyntaxKind) → has_row k ≡ true
     → own_next (s.Series level closer) touch next ≡ false
-    → go_slot (s.Series level closer) x k ≡ At y → Operands (s.Series level closer) x y touch next k
+    → advance_symbol (s.Series level closer) x k ≡ At y → Operands (s.Series level closer) x y touch next k
 series_read level closer x y touch None k r o h = absurd (true_is_not_false o)
 series_read level closer x y touch (Some j) k r o h =
     let q = to_test (fits level k) x y (sym (ap (λ w. if w then At p.Past else to (fits level k) (At x)) (no_closing closer k r)) ∙ h) in
@@ -89,7 +89,7 @@ no_inherit closer x z k h o = ap (λ w. if w then a.Take z else a.Begin NODE_ATT
 
 -- how an entry of a set or of bindings is read
 entry_read : (closer : Closer) (z x y : Place) (touch : Bool) (next : Option SyntaxKind) (k : SyntaxKind) → is_entry k ≡ true
-    → own_next (s.Entries closer z) touch next ≡ stands_owned_in (s.Entries closer z) k → x ≡ y
+    → own_next (s.Entries closer z) touch next ≡ stands_expected_in (s.Entries closer z) k → x ≡ y
     → NodeRead (s.Entries closer z) x y touch next k
 entry_read closer z x y touch next NODE_INHERIT e o h =
     opens TOKEN_INHERIT p.InheritStart (assumption) refl (λ q. ap (λ w. entries_action closer x z w) q ∙ inherit_entry closer x z
@@ -132,32 +132,32 @@ entry_leaf bound TOKEN_IDENT o h = refl
 entry_leaf bound _ o h = cc
 
 -- an own item is the next one
-own_some : (slot : Slot) (touch : Bool) (next : Option SyntaxKind) (j : SyntaxKind) (w : Bool) → own_next slot touch next ≡ w → next ≡ Some j
-    → owns_in slot touch j ≡ w
-own_some slot touch next j w o e = ap (λ q. own_next slot touch q) (sym e) ∙ o
+own_some : (symbol : Symbol) (touch : Bool) (next : Option SyntaxKind) (j : SyntaxKind) (w : Bool) → own_next symbol touch next ≡ w → next ≡ Some j
+    → expects_in symbol touch j ≡ w
+own_some symbol touch next j w o e = ap (λ q. own_next symbol touch q) (sym e) ∙ o
 
 -- how an attribute is read
-attrs_read : (slot : Slot) (x y z : Place) (touch : Bool) (next : Option SyntaxKind) (k : SyntaxKind) → is_attr k ≡ true → is_counted slot ≡ false
-    → ((j : SyntaxKind) → is_wanted u.Attr j ≡ true → done_at slot x (Some j) touch ≡ a.Leaf NODE_IDENT z)
-    → done_at slot x (Some TOKEN_STRING_START) touch ≡ a.Open NODE_STRING p.StringInside z
-    → done_at slot x (Some TOKEN_INTERPOL_START) touch ≡ a.Open NODE_DYNAMIC p.DynamicInside z → z ≡ y → NodeRead slot x y touch next k
-attrs_read slot x y z touch next NODE_IDENT e n i t d h = name n (λ j q w. ap (λ v. done_at slot x v touch) q ∙ i j w ∙ ap (λ v. a.Leaf NODE_IDENT v) h)
-attrs_read slot x y z touch next NODE_STRING e n i t d h = opens TOKEN_STRING_START p.StringInside (assumption) n (λ q. ap (λ v. done_at slot x v touch) q
+attrs_read : (symbol : Symbol) (x y z : Place) (touch : Bool) (next : Option SyntaxKind) (k : SyntaxKind) → is_attr k ≡ true → is_counted symbol ≡ false
+    → ((j : SyntaxKind) → is_wanted u.Attr j ≡ true → done_at symbol x (Some j) touch ≡ a.Leaf NODE_IDENT z)
+    → done_at symbol x (Some TOKEN_STRING_START) touch ≡ a.Open NODE_STRING p.StringInside z
+    → done_at symbol x (Some TOKEN_INTERPOL_START) touch ≡ a.Open NODE_DYNAMIC p.DynamicInside z → z ≡ y → NodeRead symbol x y touch next k
+attrs_read symbol x y z touch next NODE_IDENT e n i t d h = name n (λ j q w. ap (λ v. done_at symbol x v touch) q ∙ i j w ∙ ap (λ v. a.Leaf NODE_IDENT v) h)
+attrs_read symbol x y z touch next NODE_STRING e n i t d h = opens TOKEN_STRING_START p.StringInside (assumption) n (λ q. ap (λ v. done_at symbol x v touch) q
     ∙ t ∙ ap (λ v. a.Open NODE_STRING p.StringInside v) h)
-attrs_read slot x y z touch next NODE_DYNAMIC e n i t d h = opens TOKEN_INTERPOL_START p.DynamicInside (assumption) n (λ q. ap (λ v. done_at slot x v touch) q ∙ d ∙ ap (λ v. a.Open NODE_DYNAMIC p.DynamicInside v) h)
-attrs_read slot x y z touch next _ e n i t d h = absurd (true_is_not_false (sym e))
+attrs_read symbol x y z touch next NODE_DYNAMIC e n i t d h = opens TOKEN_INTERPOL_START p.DynamicInside (assumption) n (λ q. ap (λ v. done_at symbol x v touch) q ∙ d ∙ ap (λ v. a.Open NODE_DYNAMIC p.DynamicInside v) h)
+attrs_read symbol x y z touch next _ e n i t d h = absurd (true_is_not_false (sym e))
 
 -- how an entry of a pattern is read
-formals_read : (slot : Slot) (bound : Bool) (x y : Place) (touch : Bool) (next : Option SyntaxKind) → is_counted slot ≡ false → ((j : SyntaxKind)
+formals_read : (symbol : Symbol) (bound : Bool) (x y : Place) (touch : Bool) (next : Option SyntaxKind) → is_counted symbol ≡ false → ((j : SyntaxKind)
     → next ≡ Some j → is_wanted u.Entry j ≡ true)
-    → ((j : SyntaxKind) → done_at slot x (Some j) touch ≡ formals_action bound (Some j)) → p.PatternAfter bound ≡ y → NodeRead slot x y touch next NODE_PAT_ENTRY
-formals_read slot bound x y touch next n o d h =
-    entry n o (λ j q w. ap (λ v. done_at slot x v touch) q ∙ d j ∙ entry_leaf bound j (o j q) w ∙ ap (λ v. a.Entry v) h)
+    → ((j : SyntaxKind) → done_at symbol x (Some j) touch ≡ formals_action bound (Some j)) → p.PatternAfter bound ≡ y → NodeRead symbol x y touch next NODE_PAT_ENTRY
+formals_read symbol bound x y touch next n o d h =
+    entry n o (λ j q w. ap (λ v. done_at symbol x v touch) q ∙ d j ∙ entry_leaf bound j (o j q) w ∙ ap (λ v. a.Entry v) h)
 
--- where a node with a row stands in a slot, it is read so
-node_read_in : (slot : Slot) (x y : Place) (touch : Bool) (next : Option SyntaxKind) (k : SyntaxKind) → has_row k ≡ true → go_slot slot x k ≡ At y
-    → own_next slot touch next ≡ stands_owned_in slot k
-    → (slot ≡ s.Pieces → x ≡ p.StringInside) → NodeRead slot x y touch next k
+-- where a node with a row stands in a symbol, it is read so
+node_read_in : (symbol : Symbol) (x y : Place) (touch : Bool) (next : Option SyntaxKind) (k : SyntaxKind) → has_row k ≡ true → advance_symbol symbol x k ≡ At y
+    → own_next symbol touch next ≡ stands_expected_in symbol k
+    → (symbol ≡ s.Pieces → x ≡ p.StringInside) → NodeRead symbol x y touch next k
 node_read_in (s.Token until z) x y touch next k r h o v = absurd (true_is_not_false (sym (to_test (is_wanted until k) z y h).0 ∙ no_wanted until k r))
 node_read_in (s.Operand level counted z) x y touch next k r h o v =
     let q = to_test (fits level k) z y h in operand (record { level = level; is = refl; fit = q.0; act = ap (λ w. a.Read level counted w) q.1 })
@@ -205,6 +205,6 @@ node_read_in s.Or x y touch next TOKEN_OR r h o v = absurd (true_is_not_false (s
 node_read_in _ x y touch next _ r h o v = absurd (cc)
 
 -- so at a place
-pub node_read_at : (x y : Place) (n : ℕ) (ts : List Token) (k : SyntaxKind) → has_row k ≡ true → go (At x) k ≡ At y → owns x n ts ≡ stands_owned_in (slot_at x) k
-    → NodeRead (slot_at x) x y (touches n ts) (head_kind ts) k
-node_read_at x y n ts k r h o = node_read_in (slot_at x) x y (touches n ts) (head_kind ts) k r h (sym (own_at x n ts) ∙ o) (pieces_is x)
+pub node_read_at : (x y : Place) (n : ℕ) (ts : List Token) (k : SyntaxKind) → has_row k ≡ true → advance (At x) k ≡ At y → expects x n ts ≡ stands_expected_in (symbol_at x) k
+    → NodeRead (symbol_at x) x y (touches n ts) (head_kind ts) k
+node_read_at x y n ts k r h o = node_read_in (symbol_at x) x y (touches n ts) (head_kind ts) k r h (sym (own_at x n ts) ∙ o) (pieces_is x)

@@ -3,8 +3,8 @@ use Rattle.std.proofs.Common.{[], ◌∷◌, refl, arith}
 use Rattle.std.specs.Prelude.{codes}
 use Rattle.rnix_kinds.specs.declared.kinds.SyntaxKind.TheVariants.{TOKEN_SUB, TOKEN_IDENT, TOKEN_R_PAREN, NODE_UNARY_OP, NODE_IDENT}
 use Rattle.rnix_grammar.specs.Fault.{extra, ended}
-use Rattle.rnix_grammar.specs.Sketch.{Token, Extra, one_token, one_branch, fault, branch, blank}
-use Rattle.rnix_grammar.specs.Reads.{ReadsWhole, end, leaf, lost, wrong, inner}
+use Rattle.rnix_grammar.specs.AnnotatedForest.{Token, Extra, one_token, one_branch, fault, branch, blank}
+use Rattle.rnix_grammar.specs.Reads.{ReadsWhole, end, leaf, missing_part, wrong, inner}
 
 -- the only item of `-`
 abbrev sub : Token
@@ -14,7 +14,7 @@ sub = record { kind = TOKEN_SUB; text = codes "-"; start = 0; end = 1 }
 minus_reads : ReadsWhole (one_branch NODE_UNARY_OP (one_token TOKEN_SUB sub)) (ended ∷ [])
 minus_reads =
     inner refl refl
-    (leaf refl refl tt tt refl refl refl refl (lost refl refl refl (λ h c. omega arith) end refl))
+    (leaf refl refl tt tt refl refl refl refl (missing_part refl refl refl (λ h c. omega arith) end refl))
     refl (refl, refl) refl (λ c. omega arith) tt (omega arith, refl, refl) refl refl refl end refl
 
 -- the items of `a )`

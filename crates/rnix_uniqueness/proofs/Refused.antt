@@ -10,7 +10,7 @@ use Rattle.rnix_kinds.specs.Lexical.Tokens.{tokens_of}
 use Rattle.rnix_tree.specs.Equality.{same_kind, same_kind-decides}
 use Rattle.rnix_grammar.specs.Fault.{Fault, same_fault}
 use Rattle.rnix_grammar.specs.SameFaults.{same_fault-decides}
-use Rattle.rnix_grammar.specs.Sketch.{Token, Note, Sketch, blank, token, branch, fault, told, tokens_in, end_from, placed_from}
+use Rattle.rnix_grammar.specs.AnnotatedForest.{Token, Note, AnnotatedForest, blank, token, branch, fault, leaf_kind, tokens_in, end_from, placed_from}
 use Rattle.rnix_grammar.specs.Layout.{items, tail_of}
 use Rattle.rnix_grammar.specs.Machine.{Machine, begins, step, Runs, rest as here, then as further}
 use Rattle.rnix_grammar.specs.Reads.{ReadsWhole}
@@ -40,10 +40,10 @@ unfilled (node k c f) ts = unfilled f (unfilled c ts)
 unfilled (wrong n c f) ts = unfilled f (unfilled c ts)
 
 -- the row below a node, with its items
-abbrev pub filled : SyntaxKind → Shape → List Token → Sketch
+abbrev pub filled : SyntaxKind → Shape → List Token → AnnotatedForest
 filled p done ts = blank
 filled p (item f) [] = blank
-filled p (item f) (t ∷ ts) = token (told p t) t (filled p f ts)
+filled p (item f) (t ∷ ts) = token (leaf_kind p t) t (filled p f ts)
 filled p (node k c f) ts = branch k (filled k c ts) (filled p f (unfilled c ts))
 filled p (wrong n c f) ts = fault n (filled NODE_ERROR c ts) (filled p f (unfilled c ts))
 
@@ -57,7 +57,7 @@ abbrev pub Reading : Type 0
 Reading = Shape × List Fault
 
 -- the trees of a reading, with their items
-abbrev pub trees_in : Reading → List Token → Sketch
+abbrev pub trees_in : Reading → List Token → AnnotatedForest
 trees_in r ts = filled NODE_ROOT r.0 ts
 
 -- all items are read so
@@ -76,7 +76,7 @@ AreRefused ts (r ∷ rs) = IsRefused ts r × AreRefused ts rs
 -- The steps make the right reading of some items, each reading of these items is that one, and so others are none.
 pub record IsReadAs (ts : List Token) (right : Reading) (others : List Reading) : Type 0 where
   pub made : Runs false (begins ts) (end_with ts right)
-  pub only : (f : Sketch) (faults : List Fault) → tokens_in f ≡ ts → ReadsWhole f faults → (trees_in right ts ≡ f) × (right.1 ≡ faults)
+  pub only : (f : AnnotatedForest) (faults : List Fault) → tokens_in f ≡ ts → ReadsWhole f faults → (trees_in right ts ≡ f) × (right.1 ≡ faults)
   pub refused : AreRefused ts others
 
 -- a text, how it is read, and how it is not
@@ -94,7 +94,7 @@ abbrev pub IsTold : Case → Type 0
 IsTold c = IsReadAs (items_of c) c.right c.others
 
 -- two rows are of one shape
-abbrev pub same_row : Sketch → Sketch → Bool
+abbrev pub same_row : AnnotatedForest → AnnotatedForest → Bool
 same_row blank blank = true
 same_row (token k t f) (token j u g) = same_kind k j && same_row f g
 same_row (branch k c f) (branch j d g) = same_kind k j && (same_row c d && same_row f g)
@@ -102,7 +102,7 @@ same_row (fault n c f) (fault m d g) = same_row c d && same_row f g
 same_row f g = false
 
 -- two readings have rows of one shape, and the same errors
-abbrev pub same_reading : Sketch → List Fault → Sketch → List Fault → Bool
+abbrev pub same_reading : AnnotatedForest → List Fault → AnnotatedForest → List Fault → Bool
 same_reading f es g fs = same_row f g && pointwise same_fault es fs
 
 -- a reading of so many items that is not another
@@ -153,14 +153,14 @@ all_filled f ts h =
     (omega (arith, h, unfilled_length f ts (omega (arith, h))))
 
 -- the test says of a row that it is of its own shape
-pub same_row_self : (f : Sketch) → same_row f f ≡ true
+pub same_row_self : (f : AnnotatedForest) → same_row f f ≡ true
 same_row_self blank = refl
 same_row_self (token k t f) = and_from (same_kind k k) (same_row f f) ((same_kind-decides k k).1 refl) (same_row_self f)
 same_row_self (branch k c f) =
     and_from (same_kind k k) (same_row c c && same_row f f) ((same_kind-decides k k).1 refl) (and_from (same_row c c) (same_row f f) (same_row_self c) (same_row_self f))
 same_row_self (fault n c f) = and_from (same_row c c) (same_row f f) (same_row_self c) (same_row_self f)
 
-same_reading_self : (f : Sketch) (es : List Fault) → same_reading f es f es ≡ true
+same_reading_self : (f : AnnotatedForest) (es : List Fault) → same_reading f es f es ≡ true
 same_reading_self f es = and_from (same_row f f) (pointwise same_fault es es) (same_row_self f) ((pointwise_decides same_fault-decides es es).1 refl)
 
 steps_run : (n : ℕ) (m : Machine) → Runs false m (steps n m)
@@ -168,7 +168,7 @@ steps_run zero m = here
 steps_run (suc n) m = further (steps_run n (step false m))
 
 -- where the steps end with some trees and errors, each reading of these items has them
-same : (ts : List Token) (f g : Sketch) (n : ℕ) (es fs : List Fault)
+same : (ts : List Token) (f g : AnnotatedForest) (n : ℕ) (es fs : List Fault)
     → Runs false (begins ts) (ended_with f n es) → tokens_in g ≡ ts → ReadsWhole g fs → (f ≡ g) × (es ≡ fs)
 same ts f g n es fs r e w =
     let k = end_from 0 (tokens_in g) in
@@ -176,10 +176,10 @@ same ts f g n es fs r e w =
     (sym h.0, sym h.1)
 
 -- so those that differ from them are none
-unread : (f g : Sketch) (es fs : List Fault) → (if same_reading g fs f es then false else true) ≡ true → (f ≡ g) × (es ≡ fs) → ⊥
+unread : (f g : AnnotatedForest) (es fs : List Fault) → (if same_reading g fs f es then false else true) ≡ true → (f ≡ g) × (es ≡ fs) → ⊥
 unread f g es fs h e =
     true_is_not_false (sym (subst (λ (z : List Fault). same_reading g fs g z ≡ true) (sym e.1) (same_reading_self g fs))
-    ∙ subst (λ (z : Sketch). same_reading g fs z es ≡ false) e.0 (not_if (same_reading g fs f es) h))
+    ∙ subst (λ (z : AnnotatedForest). same_reading g fs z es ≡ false) e.0 (not_if (same_reading g fs f es) h))
 
 all_unread : (ts : List Token) (right : Reading) (others : List Reading)
     → Runs false (begins ts) (end_with ts right) → are_others ts right others ≡ true → AreRefused ts others

@@ -10,12 +10,12 @@ use Rattle.rnix_grammar.specs.declared.action.Action.{Action}
 use Rattle.rnix_grammar.specs.declared.action.Action.TheVariants as a
 use Rattle.rnix_grammar.specs.Fault.{Fault}
 use Rattle.rnix_grammar.specs.Actions.{action_at}
-use Rattle.rnix_grammar.specs.Slots.{slot_at}
-use Rattle.rnix_grammar.specs.Sketch.{Token, Twice, Sketch, blank, ◌⊕◌, one_branch, one_fault, tokens_in, head_kind, end_from, touches}
+use Rattle.rnix_grammar.specs.Symbols.{symbol_at}
+use Rattle.rnix_grammar.specs.AnnotatedForest.{Token, Twice, AnnotatedForest, blank, ◌⊕◌, one_branch, one_fault, tokens_in, head_kind, end_from, touches}
 use Rattle.rnix_grammar.specs.Machine.{Head, Node, Second, Operand, Frame, machine, put, opened, perform, step, Runs, rest as here}
 use Rattle.rnix_grammar.specs.Reports.{report, repeated, repeats}
 use Rattle.rnix_grammar.specs.Rows.{At, whole}
-use Rattle.rnix_grammar.specs.OwnItems.{owns_in}
+use Rattle.rnix_grammar.specs.ExpectedItems.{expects_in}
 use Rattle.rnix_grammar.specs.Reads.{IsOver}
 use Rattle.rnix_lemmas.proofs.Basics.{true_is_not_false}
 use Rattle.rnix_lemmas.proofs.LevelLemmas.{at_most}
@@ -40,7 +40,7 @@ ends_none _ touch w = cc
 
 -- a row ends before an item that is not the place's own
 abbrev ends_before : Place → Bool → SyntaxKind → Bool
-ends_before x touch k = if owns_in (slot_at x) touch k then true else (if whole (At x) then is_ending (row_class x) (action_at x (Some k) touch) else true)
+ends_before x touch k = if expects_in (symbol_at x) touch k then true else (if whole (At x) then is_ending (row_class x) (action_at x (Some k) touch) else true)
 
 -- a row ends so before each other item
 ends_some : (x : Place) (touch : Bool) (k : SyntaxKind) → ends_before x touch k ≡ true
@@ -59,12 +59,12 @@ ends_at x n (t ∷ ts) o =
     ∙ ends_some x (touches n (t ∷ ts)) t.kind
 
 -- entries alone are reported
-pub quiet : (k : SyntaxKind) (b c : Sketch) → class_of (Some k) ≡ 0 → repeats k b c ≡ []
+pub quiet : (k : SyntaxKind) (b c : AnnotatedForest) → class_of (Some k) ≡ 0 → repeats k b c ≡ []
 quiet NODE_PAT_ENTRY b c e = absurd (cc)
 quiet _ b c e = refl
 
 -- an entry is reported if it repeats a name
-loud : (k : SyntaxKind) (b c : Sketch) → class_of (Some k) ≡ 1 → repeats k b c ≡ repeated b c
+loud : (k : SyntaxKind) (b c : AnnotatedForest) → class_of (Some k) ≡ 1 → repeats k b c ≡ repeated b c
 loud NODE_PAT_ENTRY b c e = refl
 loud _ b c e = absurd (cc)
 
@@ -73,7 +73,7 @@ abbrev pub is_inner : SyntaxKind → Bool
 is_inner k = nat_le (class_of (Some k)) 1
 
 -- the end of a row completes its node
-closes_by : (v : ℕ) (act : Action) → is_ending v act ≡ true → (k : SyntaxKind) (d n : ℕ) (x : Place) (c : Sketch) (F : Frame) (fs : List Frame) (ts : List Token) (gs : List Fault)
+closes_by : (v : ℕ) (act : Action) → is_ending v act ≡ true → (k : SyntaxKind) (d n : ℕ) (x : Place) (c : AnnotatedForest) (F : Frame) (fs : List Frame) (ts : List Token) (gs : List Fault)
     → v ≡ class_of (Some k) → is_inner k ≡ true
     → perform false act (opened (Node k) x d c) (F ∷ fs) ts n gs ≡ machine (put F.place (F.row ⊕ one_branch k c) F ∷ fs) ts n (gs ++ repeats k F.row c)
 closes_by zero a.Close i k d n x c F fs ts gs e h =
@@ -86,8 +86,8 @@ closes_by (suc (suc v)) act i k d n x c F fs ts gs e h = absurd (omega (arith, e
 closes_by v act i k d n x c F fs ts gs e h = absurd (true_is_not_false (sym i))
 
 -- a node whose row is read to its end is complete
-pub node_read : (k : SyntaxKind) (d m : ℕ) (x : Place) (g : Sketch) (vs : List Token) (f : Sketch) (ds : List Fault) → ReadOn k d m x g vs f ds
-    → row_class x ≡ class_of (Some k) → is_inner k ≡ true → (h : Head) (y : Place) (e : ℕ) (b : Sketch) (fs : List Frame) (gs : List Fault)
+pub node_read : (k : SyntaxKind) (d m : ℕ) (x : Place) (g : AnnotatedForest) (vs : List Token) (f : AnnotatedForest) (ds : List Fault) → ReadOn k d m x g vs f ds
+    → row_class x ≡ class_of (Some k) → is_inner k ≡ true → (h : Head) (y : Place) (e : ℕ) (b : AnnotatedForest) (fs : List Frame) (gs : List Fault)
     → Runs false (machine (opened (Node k) x d g ∷ (opened h y e b ∷ fs)) (tokens_in f ++ vs) m gs)
     (machine (opened h y e (b ⊕ one_branch k (g ⊕ f)) ∷ fs) vs (end_from m (tokens_in f)) (gs ++ (ds ++ repeats k b (g ⊕ f))))
 node_read k d m x g vs f ds r c i h y e b fs gs =
@@ -98,7 +98,7 @@ node_read k d m x g vs f ds r c i h y e b fs gs =
     (runs_to (ap (λ q. machine (opened h y e (b ⊕ one_branch k (g ⊕ f)) ∷ fs) vs n q) (append_assoc gs ds (repeats k b (g ⊕ f)))) here))
 
 -- so is an operand's
-pub operand_read : (k : SyntaxKind) (d m : ℕ) (x : Place) (g : Sketch) (vs : List Token) (f : Sketch) (ds : List Fault) → ReadOn k d m x g vs f ds
+pub operand_read : (k : SyntaxKind) (d m : ℕ) (x : Place) (g : AnnotatedForest) (vs : List Token) (f : AnnotatedForest) (ds : List Fault) → ReadOn k d m x g vs f ds
     → row_class x ≡ 0 → class_of (Some k) ≡ 0 → (y : Place) (e : ℕ) (fs : List Frame) (gs : List Fault)
     → Runs false (machine (opened (Node k) x d g ∷ (opened Operand y e blank ∷ fs)) (tokens_in f ++ vs) m gs)
     (machine (opened Operand y e (one_branch k (g ⊕ f)) ∷ fs) vs (end_from m (tokens_in f)) (gs ++ ds))
@@ -107,13 +107,13 @@ operand_read k d m x g vs f ds r c q y e fs gs =
     (node_read k d m x g vs f ds r (c ∙ sym q) (ap (λ z. nat_le z 1) q) Operand y e blank fs gs)
 
 -- the end of a second name completes it
-twice_by : (act : Action) → is_ending 2 act ≡ true → (x : Place) (d n : ℕ) (c : Sketch) (F : Frame) (fs : List Frame) (ts : List Token) (gs : List Fault)
+twice_by : (act : Action) → is_ending 2 act ≡ true → (x : Place) (d n : ℕ) (c : AnnotatedForest) (F : Frame) (fs : List Frame) (ts : List Token) (gs : List Fault)
     → perform false act (opened Second x d c) (F ∷ fs) ts n gs ≡ machine (put F.place (F.row ⊕ one_fault Twice c) F ∷ fs) ts n (gs ++ report Twice (tokens_in c) ∷ [])
 twice_by a.CloseTwice i x d n c F fs ts gs = refl
 twice_by _ i x d n c F fs ts gs = absurd (true_is_not_false (sym i))
 
 -- a second name whose row ends is complete
-pub closes_second : (x : Place) (d n : ℕ) (c : Sketch) (F : Frame) (fs : List Frame) (ts : List Token) (gs : List Fault) → IsOver (At x) n ts → row_class x ≡ 2
+pub closes_second : (x : Place) (d n : ℕ) (c : AnnotatedForest) (F : Frame) (fs : List Frame) (ts : List Token) (gs : List Fault) → IsOver (At x) n ts → row_class x ≡ 2
     → step false (machine (opened Second x d c ∷ (F ∷ fs)) ts n gs) ≡ machine (put F.place (F.row ⊕ one_fault Twice c) F ∷ fs) ts n (gs ++ report Twice (tokens_in c) ∷ [])
 closes_second x d n c F fs ts gs o e =
     twice_by (action_at x (head_kind ts) (touches n ts)) (sym (ap (λ v. is_ending v (action_at x (head_kind ts) (touches n ts))) e)

@@ -9,43 +9,43 @@ use Rattle.rnix_grammar.specs.declared.place.Place.TheVariants as p
 use Rattle.rnix_grammar.specs.declared.action.Action.TheVariants as a
 use Rattle.rnix_grammar.specs.Fault.{Fault, too_deep}
 use Rattle.rnix_grammar.specs.Tables.{depth_limit}
-use Rattle.rnix_grammar.specs.Slots.{slot_at, is_counted}
+use Rattle.rnix_grammar.specs.Symbols.{symbol_at, is_counted}
 use Rattle.rnix_grammar.specs.Actions.{action_at}
-use Rattle.rnix_grammar.specs.Sketch.{Token, Sketch, blank, ◌⊕◌, one_token, tokens_in, told, head_kind, end_from, touches, Unwanted, Extra, Twice, TooDeep, branch, token, one_branch, one_fault, row_of}
+use Rattle.rnix_grammar.specs.AnnotatedForest.{Token, AnnotatedForest, blank, ◌⊕◌, one_token, tokens_in, leaf_kind, head_kind, end_from, touches, Unwanted, Extra, Twice, TooDeep, branch, token, one_branch, one_fault, row_of}
 use Rattle.rnix_grammar.specs.Machine.{Head, Operand, Frame, machine, opened, kind_of, limited, operand_on, perform, Runs, rest as here, Second, dropped}
-use Rattle.rnix_grammar.specs.Missing.{lack, run_of, run_at}
-use Rattle.rnix_grammar.specs.Rows.{At, go}
-use Rattle.rnix_grammar.specs.OwnItems.{owns, owns_end}
+use Rattle.rnix_grammar.specs.Missing.{missing, run_of, run_at}
+use Rattle.rnix_grammar.specs.Rows.{At, advance}
+use Rattle.rnix_grammar.specs.ExpectedItems.{expects, expects_end}
 use Rattle.rnix_grammar.specs.Operands.{IsBegun, goes_on}
 use Rattle.rnix_grammar.specs.TreeLevels.{row_level}
 use Rattle.rnix_grammar.specs.Reads.{IsRoom, deeper}
 use Rattle.rnix_grammar.specs.declared.until.Until.{Until}
 use Rattle.rnix_grammar.specs.Reports.{report, repeats}
-use Rattle.rnix_lemmas.proofs.SketchLemmas.{⊕-assoc, ⊕-blank}
+use Rattle.rnix_lemmas.proofs.AnnotatedForestLemmas.{⊕-assoc, ⊕-blank}
 use Rattle.rnix_lemmas.proofs.StrictParts.{end_behind}
 use Rattle.rnix_lemmas.proofs.OpenHeads.{is_open}
 use Rattle.rnix_lemmas.proofs.RunLemmas.{dropped_all}
 use Rattle.rnix_uniqueness.proofs.Runs.{runs_on, runs_to, step_to}
 use Rattle.rnix_uniqueness.proofs.StepReads.{ReadsRow, ReadsTree, IsOperandRead}
 use Rattle.rnix_uniqueness.proofs.OwnTokens.{takes_at}
-use Rattle.rnix_uniqueness.proofs.MissingSteps.{lacks_in, runs_in}
+use Rattle.rnix_uniqueness.proofs.MissingSteps.{misses_in, runs_in}
 use Rattle.rnix_uniqueness.proofs.OperandGoesOn.{settles}
 use Rattle.rnix_uniqueness.proofs.RowClasses.{class_of, row_class, ReadOn}
 use Rattle.rnix_uniqueness.proofs.RowEnds.{is_inner, node_read, closes_second}
 
 -- The steps read a tree of some items on, from a place of a row to another.
-abbrev pub ReadsOne : SyntaxKind → ℕ → ℕ → Place → Place → Sketch → List Token → List Token → Sketch → List Fault → Type 0
+abbrev pub ReadsOne : SyntaxKind → ℕ → ℕ → Place → Place → AnnotatedForest → List Token → List Token → AnnotatedForest → List Fault → Type 0
 ReadsOne k d n x y b ts vs w ds =
     (h : Head) (fs : List Frame) (gs : List Fault) → is_open h ≡ true → kind_of h ≡ k
     → Runs false (machine (opened h x d b ∷ fs) (ts ++ vs) n gs) (machine (opened h y d (b ⊕ w) ∷ fs) vs (end_from n ts) (gs ++ ds))
 
 -- nothing more
-pub row_end : (k : SyntaxKind) (d n : ℕ) (x : Place) (b : Sketch) (us : List Token) → ReadsRow k d n x x b us blank []
+pub row_end : (k : SyntaxKind) (d n : ℕ) (x : Place) (b : AnnotatedForest) (us : List Token) → ReadsRow k d n x x b us blank []
 row_end k d n x b us h fs gs o e = runs_to (ap (λ z. machine (opened h x d z ∷ fs) us n gs) (sym (⊕-blank b))
     ∙ ap (λ z. machine (opened h x d (b ⊕ blank) ∷ fs) us n z) (sym (append-nil gs))) here
 
 -- one more tree, and the rest
-pub row_on : (k : SyntaxKind) (d n : ℕ) (x z y : Place) (b : Sketch) (ts us : List Token) (w f : Sketch) (ds es : List Fault)
+pub row_on : (k : SyntaxKind) (d n : ℕ) (x z y : Place) (b : AnnotatedForest) (ts us : List Token) (w f : AnnotatedForest) (ds es : List Fault)
     → ReadsOne k d n x z b ts (tokens_in f ++ us) w ds
     → ReadsRow k d (end_from n ts) z y (b ⊕ w) us f es → tokens_in (w ⊕ f) ≡ ts ++ tokens_in f → ReadsRow k d n x y b us (w ⊕ f) (ds ++ es)
 row_on k d n x z y b ts us w f ds es one row t h fs gs o e =
@@ -58,26 +58,26 @@ row_on k d n x z y b ts us w f ds es one row t h fs gs o e =
     (row h fs (gs ++ ds) o e)))
 
 -- a leaf
-pub one_leaf : (q : SyntaxKind) (d n : ℕ) (x y : Place) (b : Sketch) (t : Token) (vs : List Token) (k : SyntaxKind) → k ≡ told q t
-    → owns x n (t ∷ vs) ≡ true → go (At x) k ≡ At y
+pub one_leaf : (q : SyntaxKind) (d n : ℕ) (x y : Place) (b : AnnotatedForest) (t : Token) (vs : List Token) (k : SyntaxKind) → k ≡ leaf_kind q t
+    → expects x n (t ∷ vs) ≡ true → advance (At x) k ≡ At y
     → ReadsOne q d n x y b (t ∷ []) vs (one_token k t) []
 one_leaf q d n x y b t vs k w o g h fs gs oh e =
-    step_to (ap (λ z. perform false z (opened h x d b) fs (t ∷ vs) n gs) (takes_at x y q t.kind _ o (ap (λ z. go (At x) z) (sym w) ∙ g)))
-    (runs_to (ap (λ z. machine (opened h y d (b ⊕ one_token z t) ∷ fs) vs t.end gs) (ap (λ z. told z t) e ∙ sym w)
+    step_to (ap (λ z. perform false z (opened h x d b) fs (t ∷ vs) n gs) (takes_at x y q t.kind _ o (ap (λ z. advance (At x) z) (sym w) ∙ g)))
+    (runs_to (ap (λ z. machine (opened h y d (b ⊕ one_token z t) ∷ fs) vs t.end gs) (ap (λ z. leaf_kind z t) e ∙ sym w)
     ∙ ap (λ z. machine (opened h y d (b ⊕ one_token k t) ∷ fs) vs t.end z) (sym (append-nil gs))) here)
 
 -- what is missing where the text ends
-pub row_lost : (k : SyntaxKind) (d n : ℕ) (x z y : Place) (b : Sketch) (us : List Token) (f : Sketch) (e : Fault) (es : List Fault) → us ≡ []
-    → tokens_in f ≡ [] → lack x ≡ Some (e, z)
-    → (owns_end (slot_at x) ≡ false → IsRoom (At x) d) → ReadsRow k d n z y b us f es → ReadsRow k d n x y b us f (e ∷ es)
+pub row_lost : (k : SyntaxKind) (d n : ℕ) (x z y : Place) (b : AnnotatedForest) (us : List Token) (f : AnnotatedForest) (e : Fault) (es : List Fault) → us ≡ []
+    → tokens_in f ≡ [] → missing x ≡ Some (e, z)
+    → (expects_end (symbol_at x) ≡ false → IsRoom (At x) d) → ReadsRow k d n z y b us f es → ReadsRow k d n x y b us f (e ∷ es)
 row_lost k d n x z y b us f e es u v l r row h fs gs o w =
     let none : tokens_in f ++ us ≡ [] = ap (λ q. q ++ us) v ∙ u in
     runs_on
-    (subst (λ (q : List Token). Runs false (machine (opened h x d b ∷ fs) q n gs) (machine (opened h z d b ∷ fs) q n (gs ++ e ∷ []))) (sym none) (step_to (lacks_in (slot_at x) x z e h d n b fs gs false l r) here))
+    (subst (λ (q : List Token). Runs false (machine (opened h x d b ∷ fs) q n gs) (machine (opened h z d b ∷ fs) q n (gs ++ e ∷ []))) (sym none) (step_to (misses_in (symbol_at x) x z e h d n b fs gs false l r) here))
     (runs_to (ap (λ q. machine (opened h y d (b ⊕ f) ∷ fs) us (end_from n (tokens_in f)) q) (append_assoc gs (e ∷ []) es)) (row h fs (gs ++ e ∷ []) o w))
 
 -- an operand within the limit is read
-reads_counted : (level : ℕ) (counted : Bool) (x y : Place) (d n : ℕ) (b : Sketch) (h : Head) (fs : List Frame) (ts : List Token) (gs : List Fault)
+reads_counted : (level : ℕ) (counted : Bool) (x y : Place) (d n : ℕ) (b : AnnotatedForest) (h : Head) (fs : List Frame) (ts : List Token) (gs : List Fault)
     → (counted ≡ true → d < depth_limit)
     → perform false (a.Read level counted y) (opened h x d b) fs ts n gs ≡ operand_on false level (if counted then suc d else d) (opened h y d b) fs ts ts n gs
 reads_counted level false x y d n b h fs ts gs r = refl
@@ -89,18 +89,18 @@ reads_counted level true x y d n b h fs ts gs r = by (nat_le depth_limit d) refl
     by false e = refl
 
 -- an operand
-pub one_operand : (q : SyntaxKind) (d n level : ℕ) (x y : Place) (b : Sketch) (ts : List Token) (w : Sketch) (vs : List Token) (ds : List Fault)
-    → action_at x (head_kind (ts ++ vs)) (touches n (ts ++ vs)) ≡ a.Read level (is_counted (slot_at x)) y → IsRoom (At x) d → level ≤ row_level w
+pub one_operand : (q : SyntaxKind) (d n level : ℕ) (x y : Place) (b : AnnotatedForest) (ts : List Token) (w : AnnotatedForest) (vs : List Token) (ds : List Fault)
+    → action_at x (head_kind (ts ++ vs)) (touches n (ts ++ vs)) ≡ a.Read level (is_counted (symbol_at x)) y → IsRoom (At x) d → level ≤ row_level w
     → IsBegun level w (ts ++ vs) → goes_on level w vs ≡ false
     → ReadsTree (deeper (At x) d) n ts w vs ds → ReadsOne q d n x y b ts vs w ds
 one_operand q d n level x y b ts w vs ds act room low begun over tree h fs gs oh e =
     let r : IsOperandRead level (deeper (At x) d) n ts w vs ds (opened h y d b) fs gs = tree level (opened h y d b) fs gs low begun in
-    step_to (ap (λ z. perform false z (opened h x d b) fs (ts ++ vs) n gs) act ∙ reads_counted level (is_counted (slot_at x)) x y d n b h fs (ts ++ vs) gs room)
+    step_to (ap (λ z. perform false z (opened h x d b) fs (ts ++ vs) n gs) act ∙ reads_counted level (is_counted (symbol_at x)) x y d n b h fs (ts ++ vs) gs room)
     (runs_on r.runs
     (step_to (ap (λ z. perform false z (opened Operand (p.Behind level r.high) (deeper (At x) d) w) (opened h y d b ∷ fs) vs (end_from n ts) (gs ++ ds)) (settles level r.high w vs r.followed over)) here))
 
 -- a node that begins with nothing read
-pub one_begun : (q : SyntaxKind) (d n : ℕ) (x y z : Place) (b : Sketch) (k : SyntaxKind) (c : Sketch) (vs : List Token) (ds : List Fault)
+pub one_begun : (q : SyntaxKind) (d n : ℕ) (x y z : Place) (b : AnnotatedForest) (k : SyntaxKind) (c : AnnotatedForest) (vs : List Token) (ds : List Fault)
     → action_at x (head_kind (tokens_in c ++ vs)) (touches n (tokens_in c ++ vs)) ≡ a.Begin k z y → ReadOn k d n z blank vs c ds
     → row_class z ≡ class_of (Some k) → is_inner k ≡ true
     → ReadsOne q d n x y b (tokens_in c) vs (one_branch k c) (ds ++ repeats k b c)
@@ -108,36 +108,36 @@ one_begun q d n x y z b k c vs ds act row r i h fs gs oh e =
     step_to (ap (λ v. perform false v (opened h x d b) fs (tokens_in c ++ vs) n gs) act) (node_read k d n z blank vs c ds row r i h y d b fs gs)
 
 -- a node that its first item opens
-pub one_opened : (q : SyntaxKind) (d n : ℕ) (x y z : Place) (b : Sketch) (k : SyntaxKind) (t : Token) (f : Sketch) (vs : List Token) (ds : List Fault)
-    → action_at x (Some t.kind) (touches n (t ∷ (tokens_in f ++ vs))) ≡ a.Open k z y → ReadOn k d t.end z (one_token (told k t) t) vs f ds
+pub one_opened : (q : SyntaxKind) (d n : ℕ) (x y z : Place) (b : AnnotatedForest) (k : SyntaxKind) (t : Token) (f : AnnotatedForest) (vs : List Token) (ds : List Fault)
+    → action_at x (Some t.kind) (touches n (t ∷ (tokens_in f ++ vs))) ≡ a.Open k z y → ReadOn k d t.end z (one_token (leaf_kind k t) t) vs f ds
     → row_class z ≡ class_of (Some k) → is_inner k ≡ true
-    → ReadsOne q d n x y b (t ∷ tokens_in f) vs (one_branch k (token (told k t) t f)) (ds ++ repeats k b (token (told k t) t f))
+    → ReadsOne q d n x y b (t ∷ tokens_in f) vs (one_branch k (token (leaf_kind k t) t f)) (ds ++ repeats k b (token (leaf_kind k t) t f))
 one_opened q d n x y z b k t f vs ds act row r i h fs gs oh e =
-    step_to (ap (λ v. perform false v (opened h x d b) fs (t ∷ (tokens_in f ++ vs)) n gs) act) (node_read k d t.end z (one_token (told k t) t) vs f ds row r i h y d b fs gs)
+    step_to (ap (λ v. perform false v (opened h x d b) fs (t ∷ (tokens_in f ++ vs)) n gs) act) (node_read k d t.end z (one_token (leaf_kind k t) t) vs f ds row r i h y d b fs gs)
 
 -- a name
-pub one_named : (q : SyntaxKind) (d n : ℕ) (x y : Place) (b : Sketch) (t : Token) (vs : List Token)
+pub one_named : (q : SyntaxKind) (d n : ℕ) (x y : Place) (b : AnnotatedForest) (t : Token) (vs : List Token)
     → action_at x (Some t.kind) (touches n (t ∷ vs)) ≡ a.Leaf NODE_IDENT y
-    → ReadsOne q d n x y b (t ∷ []) vs (one_branch NODE_IDENT (one_token (told NODE_IDENT t) t)) []
+    → ReadsOne q d n x y b (t ∷ []) vs (one_branch NODE_IDENT (one_token (leaf_kind NODE_IDENT t) t)) []
 one_named q d n x y b t vs act h fs gs oh e =
     step_to (ap (λ v. perform false v (opened h x d b) fs (t ∷ vs) n gs) act)
-    (runs_to (ap (λ v. machine (opened h y d (b ⊕ one_branch NODE_IDENT (one_token (told NODE_IDENT t) t)) ∷ fs) vs t.end v) (sym (append-nil gs))) here)
+    (runs_to (ap (λ v. machine (opened h y d (b ⊕ one_branch NODE_IDENT (one_token (leaf_kind NODE_IDENT t) t)) ∷ fs) vs t.end v) (sym (append-nil gs))) here)
 
 -- an entry of a pattern
-pub one_entry : (q : SyntaxKind) (d n : ℕ) (x y : Place) (b : Sketch) (t : Token) (f : Sketch) (vs : List Token) (ds : List Fault)
+pub one_entry : (q : SyntaxKind) (d n : ℕ) (x y : Place) (b : AnnotatedForest) (t : Token) (f : AnnotatedForest) (vs : List Token) (ds : List Fault)
     → action_at x (Some t.kind) (touches n (t ∷ (tokens_in f ++ vs))) ≡ a.Entry y
-    → ReadOn NODE_PAT_ENTRY d t.end p.EntryMore (one_branch NODE_IDENT (one_token (told NODE_IDENT t) t)) vs f ds
-    → ReadsOne q d n x y b (t ∷ tokens_in f) vs (one_branch NODE_PAT_ENTRY (branch NODE_IDENT (one_token (told NODE_IDENT t) t) f)) (ds ++ repeats NODE_PAT_ENTRY b (branch NODE_IDENT (one_token (told NODE_IDENT t) t) f))
+    → ReadOn NODE_PAT_ENTRY d t.end p.EntryMore (one_branch NODE_IDENT (one_token (leaf_kind NODE_IDENT t) t)) vs f ds
+    → ReadsOne q d n x y b (t ∷ tokens_in f) vs (one_branch NODE_PAT_ENTRY (branch NODE_IDENT (one_token (leaf_kind NODE_IDENT t) t) f)) (ds ++ repeats NODE_PAT_ENTRY b (branch NODE_IDENT (one_token (leaf_kind NODE_IDENT t) t) f))
 one_entry q d n x y b t f vs ds act row h fs gs oh e =
     step_to (ap (λ v. perform false v (opened h x d b) fs (t ∷ (tokens_in f ++ vs)) n gs) act)
-    (node_read NODE_PAT_ENTRY d t.end p.EntryMore (one_branch NODE_IDENT (one_token (told NODE_IDENT t) t)) vs f ds row refl refl h y d b fs gs)
+    (node_read NODE_PAT_ENTRY d t.end p.EntryMore (one_branch NODE_IDENT (one_token (leaf_kind NODE_IDENT t) t)) vs f ds row refl refl h y d b fs gs)
 
 -- a second name of a pattern
-pub one_second : (q : SyntaxKind) (d n : ℕ) (b : Sketch) (t : Token) (f : Sketch) (vs : List Token) (ds : List Fault) → t.kind ≡ TOKEN_AT
-    → ReadOn NODE_ERROR d t.end p.TwiceName (one_token (told NODE_ERROR t) t) vs f ds
-    → ReadsOne q d n (p.PatternEnd true) p.PatternPast b (t ∷ tokens_in f) vs (one_fault Twice (token (told NODE_ERROR t) t f)) (ds ++ report Twice (t ∷ tokens_in f) ∷ [])
+pub one_second : (q : SyntaxKind) (d n : ℕ) (b : AnnotatedForest) (t : Token) (f : AnnotatedForest) (vs : List Token) (ds : List Fault) → t.kind ≡ TOKEN_AT
+    → ReadOn NODE_ERROR d t.end p.TwiceName (one_token (leaf_kind NODE_ERROR t) t) vs f ds
+    → ReadsOne q d n (p.PatternEnd true) p.PatternPast b (t ∷ tokens_in f) vs (one_fault Twice (token (leaf_kind NODE_ERROR t) t f)) (ds ++ report Twice (t ∷ tokens_in f) ∷ [])
 one_second q d n b t f vs ds k row h fs gs oh e =
-    let c : Sketch = token (told NODE_ERROR t) t f in
+    let c : AnnotatedForest = token (leaf_kind NODE_ERROR t) t f in
     step_to (ap (λ v. perform false (action_at (p.PatternEnd true) (Some v) (touches n (t ∷ (tokens_in f ++ vs)))) (opened h (p.PatternEnd true) d b) fs (t ∷ (tokens_in f ++ vs)) n gs) k)
     (runs_on (row.row Second (opened h p.PatternPast d b ∷ fs) gs refl refl)
     (step_to (closes_second row.place d (end_from t.end (tokens_in f)) c (opened h p.PatternPast d b) fs vs (gs ++ ds) row.over row.same)
@@ -149,18 +149,18 @@ dropped_front [] vs = refl
 dropped_front (t ∷ ts) vs = dropped_front ts vs
 
 -- items that are not wanted
-pub one_unwanted : (q : SyntaxKind) (d n : ℕ) (x y : Place) (b : Sketch) (until : Until) (t : Token) (ts vs : List Token)
+pub one_unwanted : (q : SyntaxKind) (d n : ℕ) (x y : Place) (b : AnnotatedForest) (until : Until) (t : Token) (ts vs : List Token)
     → t ∷ ts ≡ run_of until (t ∷ ts ++ vs) → run_at x ≡ Some (until, y)
-    → owns x n (t ∷ ts ++ vs) ≡ false → ReadsOne q d n x y b (t ∷ ts) vs (one_fault (Unwanted until) (row_of (t ∷ ts))) (report (Unwanted until) (t ∷ ts) ∷ [])
+    → expects x n (t ∷ ts ++ vs) ≡ false → ReadsOne q d n x y b (t ∷ ts) vs (one_fault (Unwanted until) (row_of (t ∷ ts))) (report (Unwanted until) (t ∷ ts) ∷ [])
 one_unwanted q d n x y b until t ts vs r a o h fs gs oh e =
     step_to
-    (ap (λ v. perform false v (opened h x d b) fs (t ∷ ts ++ vs) n gs) (runs_in (slot_at x) x y until t.kind (touches n (t ∷ ts ++ vs)) a o)
+    (ap (λ v. perform false v (opened h x d b) fs (t ∷ ts ++ vs) n gs) (runs_in (symbol_at x) x y until t.kind (touches n (t ∷ ts ++ vs)) a o)
     ∙ ap (λ (v : List Token). machine (opened h y d (b ⊕ one_fault (Unwanted until) (row_of v)) ∷ fs) (dropped v (t ∷ ts ++ vs)) (end_from n v) (gs ++ report (Unwanted until) v ∷ [])) (sym r)
     ∙ ap (λ v. machine (opened h y d (b ⊕ one_fault (Unwanted until) (row_of (t ∷ ts))) ∷ fs) v (end_from n (t ∷ ts)) (gs ++ report (Unwanted until) (t ∷ ts) ∷ [])) (dropped_front (t ∷ ts) vs))
     here
 
 -- the items behind the root's expression
-pub one_extra : (q : SyntaxKind) (d n : ℕ) (b : Sketch) (t : Token) (ts : List Token)
+pub one_extra : (q : SyntaxKind) (d n : ℕ) (b : AnnotatedForest) (t : Token) (ts : List Token)
     → ReadsOne q d n p.RootEnd p.RootEnd b (t ∷ ts) [] (one_fault Extra (row_of (t ∷ ts))) (report Extra (t ∷ ts) ∷ [])
 one_extra q d n b t ts h fs gs oh e =
     step_to
@@ -169,7 +169,7 @@ one_extra q d n b t ts h fs gs oh e =
     here
 
 -- an operand beyond the limit is not
-too_far : (level d n : ℕ) (y : Place) (b : Sketch) (h : Head) (fs : List Frame) (ts : List Token) (gs : List Fault) → d ≡ depth_limit
+too_far : (level d n : ℕ) (y : Place) (b : AnnotatedForest) (h : Head) (fs : List Frame) (ts : List Token) (gs : List Fault) → d ≡ depth_limit
     → (if nat_le depth_limit d then limited false (opened h y d b) fs ts n gs else operand_on false level (suc d) (opened h y d b) fs ts ts n gs) ≡ limited false (opened h y d b) fs ts n gs
 too_far level d n y b h fs ts gs r = by (nat_le depth_limit d) refl
   where
@@ -179,7 +179,7 @@ too_far level d n y b h fs ts gs r = by (nat_le depth_limit d) refl
     by false e = absurd (grind (arith, nat_tests, e, r))
 
 -- all that is left, nested too deep
-pub one_deep : (q : SyntaxKind) (d n level : ℕ) (x y : Place) (b : Sketch) (ts : List Token)
+pub one_deep : (q : SyntaxKind) (d n level : ℕ) (x y : Place) (b : AnnotatedForest) (ts : List Token)
     → action_at x (head_kind ts) (touches n ts) ≡ a.Read level true y → d ≡ depth_limit
     → ReadsOne q d n x y b ts [] (one_fault TooDeep (row_of ts)) (too_deep ∷ [])
 one_deep q d n level x y b ts act r h fs gs oh e =

@@ -3,9 +3,9 @@ use Rattle.std.proofs.Common.{◌≡◌, ℕ, suc, ◌≤◌, true, false, List,
 use Rattle.rnix_kinds.specs.declared.kinds.SyntaxKind.{SyntaxKind}
 use Rattle.rnix_kinds.specs.declared.kinds.SyntaxKind.TheVariants.{NODE_APPLY, NODE_BIN_OP, NODE_HAS_ATTR, NODE_LAMBDA, NODE_LEGACY_LET, NODE_ROOT, NODE_SELECT}
 use Rattle.rnix_grammar.specs.Fault.{Fault}
-use Rattle.rnix_grammar.specs.Sketch.{Token, Sketch, blank, one_branch, tokens_in, end_from}
-use Rattle.rnix_grammar.specs.Rows.{Spot, Start, fits, start, whole}
-use Rattle.rnix_grammar.specs.Reads.{Reads, end, leaf, lost, wrong, second, inner, IsOver}
+use Rattle.rnix_grammar.specs.AnnotatedForest.{Token, AnnotatedForest, blank, one_branch, tokens_in, end_from}
+use Rattle.rnix_grammar.specs.Rows.{RowState, Start, fits, start, whole}
+use Rattle.rnix_grammar.specs.Reads.{Reads, end, leaf, missing_part, wrong, second, inner, IsOver}
 use Rattle.rnix_lemmas.proofs.Basics.{true_is_not_false}
 use Rattle.rnix_lemmas.proofs.ImitateLemmas.{start_half}
 use Rattle.rnix_uniqueness.proofs.StepReads.{ReadsTree}
@@ -16,7 +16,7 @@ use Rattle.rnix_uniqueness.proofs.CallRows.{called_reads}
 use Rattle.rnix_uniqueness.proofs.FunctionRows.{lambda_reads}
 
 -- an expression of each kind is read
-kind_reads : (m : ℕ) → AllRows m → Trees m → (k : SyntaxKind) (d n : ℕ) (s : Spot) (us : List Token) (c : Sketch) (es : List Fault)
+kind_reads : (m : ℕ) → AllRows m → Trees m → (k : SyntaxKind) (d n : ℕ) (s : RowState) (us : List Token) (c : AnnotatedForest) (es : List Fault)
     → fits 0 k ≡ true → Front m k d n (Start k) s blank us c es
     → IsOver s (end_from n (tokens_in c)) us → ReadsTree d n (tokens_in c) (one_branch k c) us es
 kind_reads m rows trees NODE_APPLY d n s us c es h r o = called_reads m trees d n s us c es r o
@@ -40,11 +40,11 @@ tree_runs m rows trees k d n s us c es r o h = by (short_to (expression_start k 
     by q = kind_reads m rows trees k d n s us c es h (front m q.reads q.short refl o.0) o
 
 -- no whole row has no height
-none_high : {k : SyntaxKind} {d n : ℕ} {q s : Spot} {b : Sketch} {us : List Token} {f : Sketch} {es : List Fault} (r : Reads k d n q s b us f es)
+none_high : {k : SyntaxKind} {d n : ℕ} {q s : RowState} {b : AnnotatedForest} {us : List Token} {f : AnnotatedForest} {es : List Fault} (r : Reads k d n q s b us f es)
     → height r ≤ 0 → whole q ≡ false → whole s ≡ true → ⊥
 none_high end h w o = true_is_not_false (sym o ∙ w)
 none_high (leaf e v x y g l c i r) h w o = omega (arith, h)
-none_high (lost u f l x r z) h w o = omega (arith, h)
+none_high (missing_part u f l x r z) h w o = omega (arith, h)
 none_high (wrong note ts hc hv x y v hg he t hf) h w o = omega (arith, h)
 none_high (second v c i x q r g t z) h w o = omega (arith, h)
 none_high (inner v u r i x y j z t g l hg r' hf) h w o = omega (arith, h)

@@ -6,7 +6,7 @@ use Rattle.std.specs.Char.{encode_utf8}
 use Rattle.rnix_kinds.specs.declared.kinds.SyntaxKind.TheVariants.{NODE_IDENT, NODE_ROOT}
 use Rattle.rnix_kinds.specs.Lexical.Tokens.{tokens_of, normal_cut, cut_at, tokens_behind}
 use Rattle.rnix_kinds.specs.Lexical.Texts.{space_len, begins_space, char_len}
-use Rattle.rnix_grammar.specs.Sketch.{Token, Sketch, Extra, clean, placed_from}
+use Rattle.rnix_grammar.specs.AnnotatedForest.{Token, AnnotatedForest, Extra, clean, placed_from}
 use Rattle.rnix_grammar.specs.Layout.{dressed_whole}
 use Rattle.rnix_lemmas.proofs.Basics.{true_is_not_false}
 use Rattle.rnix_uniqueness.proofs.Refused.{Shape, done, item, node, wrong, filled, same_row, same_row_self}
@@ -23,7 +23,7 @@ abbrev pub all_tokens : Spaced → List Token
 all_tokens c = placed_from 0 (tokens_of c.text)
 
 -- trees of them
-abbrev pub trees_of : Spaced → Shape → Sketch
+abbrev pub trees_of : Spaced → Shape → AnnotatedForest
 trees_of c f = filled NODE_ROOT f (all_tokens c)
 
 -- the trivia stand where they belong
@@ -37,7 +37,7 @@ pub record IsSpaced (c : Spaced) : Type 0 where
   pub refused : IsDressed c c.other → ⊥
 
 -- rows of two shapes are two
-not_same : (f g : Sketch) → same_row f g ≡ false → f ≡ g → ⊥
+not_same : (f g : AnnotatedForest) → same_row f g ≡ false → f ≡ g → ⊥
 not_same f g h e = true_is_not_false (sym (same_row_self f) ∙ ap (same_row f) e ∙ h)
 
 -- it is so by computing

@@ -5,17 +5,17 @@ use Rattle.rnix_kinds.specs.declared.kinds.SyntaxKind.{SyntaxKind}
 use Rattle.rnix_kinds.specs.declared.kinds.SyntaxKind.TheVariants.{NODE_LITERAL}
 use Rattle.rnix_grammar.specs.declared.place.Place.{Place}
 use Rattle.rnix_grammar.specs.declared.place.Place.TheVariants as p
-use Rattle.rnix_grammar.specs.declared.slot.Slot.{Slot}
-use Rattle.rnix_grammar.specs.declared.slot.Slot.TheVariants as s
+use Rattle.rnix_grammar.specs.declared.symbol.Symbol.{Symbol}
+use Rattle.rnix_grammar.specs.declared.symbol.Symbol.TheVariants as s
 use Rattle.rnix_grammar.specs.declared.until.Until.{Until}
 use Rattle.rnix_grammar.specs.declared.action.Action.TheVariants as a
 use Rattle.rnix_grammar.specs.Tables.{depth_limit}
-use Rattle.rnix_grammar.specs.Slots.{slot_at, level_in, is_counted}
+use Rattle.rnix_grammar.specs.Symbols.{symbol_at, level_in, is_counted}
 use Rattle.rnix_grammar.specs.Missing.{run_at, run_of}
-use Rattle.rnix_grammar.specs.Sketch.{touches, Token, Note, Stray, Unwanted, Extra, Twice, TooDeep, Sketch, one_fault, row_of, is_some, head_kind}
+use Rattle.rnix_grammar.specs.AnnotatedForest.{touches, Token, Note, Stray, Unwanted, Extra, Twice, TooDeep, AnnotatedForest, one_fault, row_of, is_some, head_kind}
 use Rattle.rnix_grammar.specs.Reports.{report}
-use Rattle.rnix_grammar.specs.Rows.{Spot, At, Nowhere, fits, go, go_slot, live, to}
-use Rattle.rnix_grammar.specs.OwnItems.{owns}
+use Rattle.rnix_grammar.specs.Rows.{RowState, At, Nowhere, fits, advance, advance_symbol, live, to}
+use Rattle.rnix_grammar.specs.ExpectedItems.{expects}
 use Rattle.rnix_grammar.specs.Operands.{IsOperand}
 use Rattle.rnix_grammar.specs.Reads.{deeper, IsRoom, IsWrong}
 use Rattle.rnix_lemmas.proofs.Basics.{true_is_not_false}
@@ -29,8 +29,8 @@ use Rattle.rnix_uniqueness.proofs.RowTrees.{ReadsOne, one_operand, one_unwanted,
 use Rattle.rnix_uniqueness.proofs.ReadingHeights.{lone_token}
 
 -- where an error node stands for an operand, an operand is read
-literal_in : (slot : Slot) (x y : Place) (touch : Bool) (next : Option SyntaxKind) → go_slot slot x NODE_LITERAL ≡ At y
-    → own_next slot touch next ≡ false → Operands slot x y touch next NODE_LITERAL
+literal_in : (symbol : Symbol) (x y : Place) (touch : Bool) (next : Option SyntaxKind) → advance_symbol symbol x NODE_LITERAL ≡ At y
+    → own_next symbol touch next ≡ false → Operands symbol x y touch next NODE_LITERAL
 literal_in (s.Operand level counted z) x y touch next h o =
     let q = to_test (fits level NODE_LITERAL) z y h in record { level = level; is = refl; fit = q.0; act = ap (λ w. a.Read level counted w) q.1 }
 literal_in (s.Series level closer) x y touch next h o = series_read level closer x y touch next NODE_LITERAL refl o h
@@ -41,57 +41,57 @@ literal_in (s.Bind false) x y touch next h o = absurd (no_place y h)
 literal_in _ x y touch next h o = absurd (no_place y h)
 
 -- so at a place
-literal_at : (x y : Place) (n : ℕ) (ts : List Token) → go (At x) NODE_LITERAL ≡ At y → owns x n ts ≡ false
-    → Operands (slot_at x) x y (touches n ts) (head_kind ts) NODE_LITERAL
-literal_at x y n ts h o = literal_in (slot_at x) x y (touches n ts) (head_kind ts) h (sym (own_at x n ts) ∙ o)
+literal_at : (x y : Place) (n : ℕ) (ts : List Token) → advance (At x) NODE_LITERAL ≡ At y → expects x n ts ≡ false
+    → Operands (symbol_at x) x y (touches n ts) (head_kind ts) NODE_LITERAL
+literal_at x y n ts h o = literal_in (symbol_at x) x y (touches n ts) (head_kind ts) h (sym (own_at x n ts) ∙ o)
 
 -- an item that begins no operand
-stray_one : (q : SyntaxKind) (d n : ℕ) (x z : Place) (b : Sketch) (ts vs : List Token) → length ts ≡ 1 → owns x n (ts ++ vs) ≡ false → IsRoom (At x) d
-    → IsOperand (level_in (slot_at x)) (one_fault Stray (row_of ts)) vs → go (At x) NODE_LITERAL ≡ At z
+stray_one : (q : SyntaxKind) (d n : ℕ) (x z : Place) (b : AnnotatedForest) (ts vs : List Token) → length ts ≡ 1 → expects x n (ts ++ vs) ≡ false → IsRoom (At x) d
+    → IsOperand (level_in (symbol_at x)) (one_fault Stray (row_of ts)) vs → advance (At x) NODE_LITERAL ≡ At z
     → ReadsOne q d n x z b ts vs (one_fault Stray (row_of ts)) (report Stray ts ∷ [])
 stray_one q d n x z b ts vs l o room op g = by (lone_token ts l)
   where
     by : (t : Token) × (ts ≡ t ∷ []) → ReadsOne q d n x z b ts vs (one_fault Stray (row_of ts)) (report Stray ts ∷ [])
     by w =
-        let r : Operands (slot_at x) x z (touches n (w.0 ∷ vs)) (Some w.0.kind) NODE_LITERAL = literal_at x z n (w.0 ∷ vs) g (subst (λ (v : List Token). owns x n (v ++ vs) ≡ false) w.1 o) in
+        let r : Operands (symbol_at x) x z (touches n (w.0 ∷ vs)) (Some w.0.kind) NODE_LITERAL = literal_at x z n (w.0 ∷ vs) g (subst (λ (v : List Token). expects x n (v ++ vs) ≡ false) w.1 o) in
         let p : IsOperand (Some r.level) (one_fault Stray (row_of (w.0 ∷ []))) vs =
-        subst (λ (v : Option ℕ). IsOperand v (one_fault Stray (row_of (w.0 ∷ []))) vs) r.is (subst (λ (v : List Token). IsOperand (level_in (slot_at x)) (one_fault Stray (row_of v)) vs) w.1 op) in
+        subst (λ (v : Option ℕ). IsOperand v (one_fault Stray (row_of (w.0 ∷ []))) vs) r.is (subst (λ (v : List Token). IsOperand (level_in (symbol_at x)) (one_fault Stray (row_of v)) vs) w.1 op) in
         subst (λ (v : List Token). ReadsOne q d n x z b v vs (one_fault Stray (row_of v)) (report Stray v ∷ [])) (sym w.1)
         (one_operand q d n r.level x z b (w.0 ∷ []) (one_fault Stray (row_of (w.0 ∷ []))) vs (report Stray (w.0 ∷ []) ∷ []) r.act room p.0 p.1 p.2 (stray_reads w.0 (deeper (At x) d) n vs))
 
 -- items that are not wanted
-unwanted_one : (q : SyntaxKind) (d n : ℕ) (x z : Place) (b : Sketch) (until : Until) (ts vs : List Token) → is_some ts ≡ true
+unwanted_one : (q : SyntaxKind) (d n : ℕ) (x z : Place) (b : AnnotatedForest) (until : Until) (ts vs : List Token) → is_some ts ≡ true
     → ts ≡ run_of until (ts ++ vs) → run_at x ≡ Some (until, z)
-    → owns x n (ts ++ vs) ≡ false → ReadsOne q d n x z b ts vs (one_fault (Unwanted until) (row_of ts)) (report (Unwanted until) ts ∷ [])
+    → expects x n (ts ++ vs) ≡ false → ReadsOne q d n x z b ts vs (one_fault (Unwanted until) (row_of ts)) (report (Unwanted until) ts ∷ [])
 unwanted_one q d n x z b until [] vs i r a o = absurd (true_is_not_false (sym i))
 unwanted_one q d n x z b until (t ∷ ts) vs i r a o = one_unwanted q d n x z b until t ts vs r a o
 
 -- items behind the root's expression
-extra_one : (q : SyntaxKind) (d n : ℕ) (b : Sketch) (ts : List Token) → is_some ts ≡ true
+extra_one : (q : SyntaxKind) (d n : ℕ) (b : AnnotatedForest) (ts : List Token) → is_some ts ≡ true
     → ReadsOne q d n p.RootEnd p.RootEnd b ts [] (one_fault Extra (row_of ts)) (report Extra ts ∷ [])
 extra_one q d n b [] i = absurd (true_is_not_false (sym i))
 extra_one q d n b (t ∷ ts) i = one_extra q d n b t ts
 
 -- items that are nested too deep
-deep_one : (q : SyntaxKind) (d n : ℕ) (x z : Place) (b : Sketch) (ts : List Token) → owns x n ts ≡ false → is_counted (slot_at x) ≡ true
-    → d ≡ depth_limit → go (At x) NODE_LITERAL ≡ At z
+deep_one : (q : SyntaxKind) (d n : ℕ) (x z : Place) (b : AnnotatedForest) (ts : List Token) → expects x n ts ≡ false → is_counted (symbol_at x) ≡ true
+    → d ≡ depth_limit → advance (At x) NODE_LITERAL ≡ At z
     → ReadsOne q d n x z b ts [] (one_fault TooDeep (row_of ts)) (report TooDeep ts ∷ [])
 deep_one q d n x z b ts o k e g =
-    let r : Operands (slot_at x) x z (touches n ts) (head_kind ts) NODE_LITERAL = literal_at x z n ts g o in
+    let r : Operands (symbol_at x) x z (touches n ts) (head_kind ts) NODE_LITERAL = literal_at x z n ts g o in
     one_deep q d n r.level x z b ts (r.act ∙ ap (λ v. a.Read r.level v z) k) e
 
 -- an error node at a place, and the place behind it
-pub record WrongOne (q : SyntaxKind) (d n : ℕ) (x : Place) (r : Spot) (b : Sketch) (note : Note) (ts vs : List Token) : Type 0 where
+pub record WrongOne (q : SyntaxKind) (d n : ℕ) (x : Place) (r : RowState) (b : AnnotatedForest) (note : Note) (ts vs : List Token) : Type 0 where
   pub place : Place
   pub is : r ≡ At place
   pub one : ReadsOne q d n x place b ts vs (one_fault note (row_of ts)) (report note ts ∷ [])
 
 -- an error node at a place is read there
-pub wrong_one : (q : SyntaxKind) (d n : ℕ) (x : Place) (r : Spot) (b : Sketch) (note : Note) (ts vs : List Token) → owns x n (ts ++ vs) ≡ false
+pub wrong_one : (q : SyntaxKind) (d n : ℕ) (x : Place) (r : RowState) (b : AnnotatedForest) (note : Note) (ts vs : List Token) → expects x n (ts ++ vs) ≡ false
     → IsWrong note d (At x) r ts vs → WrongOne q d n x r b note ts vs
 wrong_one q d n x r b Stray ts vs o w = by (reaches x NODE_LITERAL (ap live w.3 ∙ w.4))
   where
-    by : Reaches x (go (At x) NODE_LITERAL) → WrongOne q d n x r b Stray ts vs
+    by : Reaches x (advance (At x) NODE_LITERAL) → WrongOne q d n x r b Stray ts vs
     by h = record { place = h.place; is = sym w.3 ∙ h.is; one = stray_one q d n x h.place b ts vs w.0 o w.1 w.2 h.is }
 wrong_one q d n x r b (Unwanted until) ts vs o w =
     record { place = w.3; is = w.5; one = unwanted_one q d n x w.3 b until ts vs w.0 w.1 (ap run_at (same_place x w.2 w.4) ∙ w.6) o }
@@ -102,11 +102,11 @@ wrong_one q d n x r b Extra ts vs o w =
 wrong_one q d n x r b Twice ts vs o w = absurd w
 wrong_one q d n x r b TooDeep ts vs o w = by (reaches x NODE_LITERAL (ap live w.3 ∙ w.4))
   where
-    by : Reaches x (go (At x) NODE_LITERAL) → WrongOne q d n x r b TooDeep ts vs
+    by : Reaches x (advance (At x) NODE_LITERAL) → WrongOne q d n x r b TooDeep ts vs
     by h =
         subst (λ (v : List Token). WrongOne q d n x r b TooDeep ts v) (sym w.0)
         (record {
           place = h.place;
           is = sym w.3 ∙ h.is;
-          one = deep_one q d n x h.place b ts (ap (λ v. owns x n v) (sym (append-nil ts) ∙ ap (λ v. ts ++ v) (sym w.0)) ∙ o) w.1 w.2 h.is;
+          one = deep_one q d n x h.place b ts (ap (λ v. expects x n v) (sym (append-nil ts) ∙ ap (λ v. ts ++ v) (sym w.0)) ∙ o) w.1 w.2 h.is;
         })

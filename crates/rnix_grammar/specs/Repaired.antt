@@ -1,4 +1,4 @@
--- The tree with its faults mended, and which of its nodes are whole; which errors are of the end of the text.
+-- The tree with its faults repaired, and which of its nodes are whole; which errors are of the end of the text.
 use Rattle.std.specs.Prelude.{◌≡◌, ℕ, ◌+◌, Bool, true, false, List, [], ◌∷◌, codes, if◌then◌else◌}
 use Rattle.rnix_kinds.specs.declared.kinds.SyntaxKind.{SyntaxKind}
 use Rattle.rnix_kinds.specs.declared.kinds.SyntaxKind.TheVariants.{TOKEN_INTEGER, NODE_LITERAL}
@@ -7,7 +7,7 @@ use Rattle.rnix_grammar.specs.declared.until.Until.{Until}
 use Rattle.rnix_grammar.specs.declared.until.Until.TheVariants.{End}
 use Rattle.rnix_grammar.specs.Fault.{Fault, extra, unwanted, ended, ended_before}
 use Rattle.rnix_grammar.specs.Tables.{wanted_kinds}
-use Rattle.rnix_grammar.specs.Sketch.{Note, Stray, TooDeep, Sketch, blank, token, branch, fault, tokens_in, is_some}
+use Rattle.rnix_grammar.specs.AnnotatedForest.{Note, Stray, TooDeep, AnnotatedForest, blank, token, branch, fault, tokens_in, is_some}
 use Rattle.rnix_grammar.specs.Rows.{is_row, IsBeginning}
 
 -- an error node in an operand's place becomes a number, others go with all that they hold
@@ -16,15 +16,15 @@ patch Stray f = node NODE_LITERAL (leaf TOKEN_INTEGER (codes "0") empty) f
 patch TooDeep f = node NODE_LITERAL (leaf TOKEN_INTEGER (codes "0") empty) f
 patch n f = f
 
--- a mended row
-abbrev pub mended : Sketch → Forest
-mended blank = empty
-mended (token k t f) = leaf k t.text (mended f)
-mended (branch k c f) = node k (mended c) (mended f)
-mended (fault n c f) = patch n (mended f)
+-- a repaired row
+abbrev pub repaired : AnnotatedForest → Forest
+repaired blank = empty
+repaired (token k t f) = leaf k t.text (repaired f)
+repaired (branch k c f) = node k (repaired c) (repaired f)
+repaired (fault n c f) = patch n (repaired f)
 
--- the mended trees, but for numbers that stand for no token: what is nested too deep, where the text has ended
-abbrev pub held : Sketch → Forest
+-- the repaired trees, but for numbers that stand for no token: what is nested too deep, where the text has ended
+abbrev pub held : AnnotatedForest → Forest
 held blank = empty
 held (token k t f) = leaf k t.text (held f)
 held (branch k c f) = node k (held c) (held f)
@@ -37,10 +37,10 @@ kinds_of (leaf k t f) = k ∷ kinds_of f
 kinds_of (node k c f) = k ∷ kinds_of f
 
 -- how many nodes are not whole
-abbrev pub halves : Forest → ℕ
-halves empty = 0
-halves (leaf k t f) = halves f
-halves (node k c f) = (if is_row k (kinds_of c) then 0 else 1) + halves c + halves f
+abbrev pub incomplete : Forest → ℕ
+incomplete empty = 0
+incomplete (leaf k t f) = incomplete f
+incomplete (node k c f) = (if is_row k (kinds_of c) then 0 else 1) + incomplete c + incomplete f
 
 -- each node's children begin a row of its kind
 abbrev pub AreBegun : Forest → Type 0

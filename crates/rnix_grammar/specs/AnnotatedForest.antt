@@ -34,43 +34,43 @@ pub data Note : Type 0 where
   TooDeep : Note
 
 -- a row of trees: a leaf has its kind and its token, an error node has its note
-pub data Sketch : Type 0 where
-  blank : Sketch
-  token : SyntaxKind → Token → Sketch → Sketch
-  branch : SyntaxKind → Sketch → Sketch → Sketch
-  fault : Note → Sketch → Sketch → Sketch
+pub data AnnotatedForest : Type 0 where
+  blank : AnnotatedForest
+  token : SyntaxKind → Token → AnnotatedForest → AnnotatedForest
+  branch : SyntaxKind → AnnotatedForest → AnnotatedForest → AnnotatedForest
+  fault : Note → AnnotatedForest → AnnotatedForest → AnnotatedForest
 
 -- one row behind another
 infixl 20 ◌⊕◌
-abbrev pub ◌⊕◌ : Sketch → Sketch → Sketch
+abbrev pub ◌⊕◌ : AnnotatedForest → AnnotatedForest → AnnotatedForest
 blank ⊕ g = g
 (token k t f) ⊕ g = token k t (f ⊕ g)
 (branch k c f) ⊕ g = branch k c (f ⊕ g)
 (fault n c f) ⊕ g = fault n c (f ⊕ g)
 
 -- a row of one tree
-abbrev pub one_token : SyntaxKind → Token → Sketch
+abbrev pub one_token : SyntaxKind → Token → AnnotatedForest
 one_token k t = token k t blank
 
 -- a row of one node
-abbrev pub one_branch : SyntaxKind → Sketch → Sketch
+abbrev pub one_branch : SyntaxKind → AnnotatedForest → AnnotatedForest
 one_branch k c = branch k c blank
 
 -- a row of one error node
-abbrev pub one_fault : Note → Sketch → Sketch
+abbrev pub one_fault : Note → AnnotatedForest → AnnotatedForest
 one_fault n c = fault n c blank
 
 -- tokens as leaves of their own kinds
-abbrev pub leaf_of : Token → Sketch
+abbrev pub leaf_of : Token → AnnotatedForest
 leaf_of t = one_token t.kind t
 
 -- tokens as a row of leaves of their own kinds
-abbrev pub row_of : List Token → Sketch
+abbrev pub row_of : List Token → AnnotatedForest
 row_of [] = blank
 row_of (t ∷ ts) = token t.kind t (row_of ts)
 
 -- the tokens, from left to right
-abbrev pub tokens_in : Sketch → List Token
+abbrev pub tokens_in : AnnotatedForest → List Token
 tokens_in blank = []
 tokens_in (token k t f) = t ∷ tokens_in f
 tokens_in (branch k c f) = tokens_in c ++ tokens_in f
@@ -82,7 +82,7 @@ is_some [] = false
 is_some (t ∷ ts) = true
 
 -- the trees alone
-abbrev pub forget : Sketch → Forest
+abbrev pub forget : AnnotatedForest → Forest
 forget blank = empty
 forget (token k t f) = leaf k t.text (forget f)
 forget (branch k c f) = node k (forget c) (forget f)
@@ -90,30 +90,30 @@ forget (fault n c f) = node NODE_ERROR (forget c) (forget f)
 
 -- the kind of a token's leaf below a node: the name `or` is a name like others, and `__curPos` has a kind of its own where it is the
 -- current position
-abbrev pub told_as : SyntaxKind → SyntaxKind → SyntaxKind
-told_as NODE_IDENT TOKEN_OR = TOKEN_IDENT
-told_as NODE_IDENT TOKEN_CUR_POS = TOKEN_IDENT
-told_as NODE_CUR_POS TOKEN_IDENT = TOKEN_CUR_POS
-told_as parent kind = kind
+abbrev pub leaf_kind_as : SyntaxKind → SyntaxKind → SyntaxKind
+leaf_kind_as NODE_IDENT TOKEN_OR = TOKEN_IDENT
+leaf_kind_as NODE_IDENT TOKEN_CUR_POS = TOKEN_IDENT
+leaf_kind_as NODE_CUR_POS TOKEN_IDENT = TOKEN_CUR_POS
+leaf_kind_as parent kind = kind
 
 -- the kind of a token's leaf below a node of the kind
-abbrev pub told : SyntaxKind → Token → SyntaxKind
-told parent t = told_as parent t.kind
+abbrev pub leaf_kind : SyntaxKind → Token → SyntaxKind
+leaf_kind parent t = leaf_kind_as parent t.kind
 
 -- each leaf has the kind that its token has below its parent
-abbrev pub AreTold : SyntaxKind → Sketch → Type 0
-AreTold parent blank = Unit {0}
-AreTold parent (token k t f) = (k ≡ told parent t) × AreTold parent f
-AreTold parent (branch k c f) = AreTold k c × AreTold parent f
-AreTold parent (fault n c f) = AreTold NODE_ERROR c × AreTold parent f
+abbrev pub HaveLeafKinds : SyntaxKind → AnnotatedForest → Type 0
+HaveLeafKinds parent blank = Unit {0}
+HaveLeafKinds parent (token k t f) = (k ≡ leaf_kind parent t) × HaveLeafKinds parent f
+HaveLeafKinds parent (branch k c f) = HaveLeafKinds k c × HaveLeafKinds parent f
+HaveLeafKinds parent (fault n c f) = HaveLeafKinds NODE_ERROR c × HaveLeafKinds parent f
 
 -- a token before a row, unless it is trivia
-abbrev pub token_if : Bool → SyntaxKind → Token → Sketch → Sketch
+abbrev pub token_if : Bool → SyntaxKind → Token → AnnotatedForest → AnnotatedForest
 token_if true k t f = f
 token_if false k t f = token k t f
 
 -- the trees without trivia
-abbrev pub clean : Sketch → Sketch
+abbrev pub clean : AnnotatedForest → AnnotatedForest
 clean blank = blank
 clean (token k t f) = token_if (is_trivia t.kind) k t (clean f)
 clean (branch k c f) = branch k (clean c) (clean f)

@@ -1,20 +1,20 @@
--- Which slots are for no attribute path, and where a row goes on behind an error node.
+-- Which symbols are for no attribute path, and where a row goes on behind an error node.
 use Rattle.std.proofs.Common.{◌≡◌, ℕ, Bool, true, false, List, [], ◌∷◌, sym, ap, ◌∙◌}
 use Rattle.rnix_kinds.specs.declared.kinds.SyntaxKind.{SyntaxKind}
-use Rattle.rnix_grammar.specs.declared.slot.Slot.{Slot}
-use Rattle.rnix_grammar.specs.declared.slot.Slot.TheVariants as s
-use Rattle.rnix_grammar.specs.Sketch.{Token, Note, Stray, Unwanted, Extra, Twice, TooDeep, Sketch}
-use Rattle.rnix_grammar.specs.Rows.{Spot}
+use Rattle.rnix_grammar.specs.declared.symbol.Symbol.{Symbol}
+use Rattle.rnix_grammar.specs.declared.symbol.Symbol.TheVariants as s
+use Rattle.rnix_grammar.specs.AnnotatedForest.{Token, Note, Stray, Unwanted, Extra, Twice, TooDeep, AnnotatedForest}
+use Rattle.rnix_grammar.specs.Rows.{RowState}
 use Rattle.rnix_grammar.specs.Stands.{IsBeside}
 use Rattle.rnix_grammar.specs.BehindErrors.{go_run, go_unwanted, go_error}
 
 -- no attribute path is to be read here
-abbrev pub is_pathless : Slot → Bool
+abbrev pub is_pathless : Symbol → Bool
 is_pathless (s.Attrpath behind) = false
-is_pathless slot = true
+is_pathless symbol = true
 
 -- an error node goes on where it stands
-pub beside_goes : (n : Note) (p : SyntaxKind) (a : ℕ) (q r : Spot) (b : Sketch) (i : ℕ) (ts vs : List Token) → IsBeside n p a q r b i ts vs → go_error q n ≡ r
+pub beside_goes : (n : Note) (p : SyntaxKind) (a : ℕ) (q r : RowState) (b : AnnotatedForest) (i : ℕ) (ts vs : List Token) → IsBeside n p a q r b i ts vs → go_error q n ≡ r
 beside_goes Stray p a q r b i [] vs h = absurd h
 beside_goes Stray p a q r b i (t ∷ ts) vs h = h.3
 beside_goes (Unwanted until) p a q r b i [] vs h = absurd h

@@ -1,11 +1,11 @@
--- What ends behind a step at an open node ends before it, slot by slot: tokens, series, entries, strings, paths and attributes.
+-- What ends behind a step at an open node ends before it, symbol by symbol: tokens, series, entries, strings, paths and attributes.
 use Rattle.std.proofs.Common.{◌≡◌, ℕ, Bool, true, false, List, [], ◌∷◌, Some, refl, ap, sym, ◌∙◌}
 use Rattle.std.specs.Prelude.{nat_eq, if◌then◌else◌, ◌||◌, ◌&&◌}
 use Rattle.rnix_kinds.specs.declared.kinds.SyntaxKind.{SyntaxKind}
 use Rattle.rnix_kinds.specs.declared.kinds.SyntaxKind.TheVariants.{NODE_ATTRPATH_VALUE, NODE_INHERIT, NODE_INTERPOL, TOKEN_INHERIT, TOKEN_INTERPOL_START, TOKEN_PATH_ABS, TOKEN_PATH_HOME, TOKEN_PATH_REL, TOKEN_STRING_CONTENT, TOKEN_STRING_END}
 use Rattle.rnix_grammar.specs.declared.place.Place.{Place}
 use Rattle.rnix_grammar.specs.declared.place.Place.TheVariants as p
-use Rattle.rnix_grammar.specs.declared.slot.Slot.TheVariants as s
+use Rattle.rnix_grammar.specs.declared.symbol.Symbol.TheVariants as s
 use Rattle.rnix_grammar.specs.declared.until.Until.{Until}
 use Rattle.rnix_grammar.specs.declared.until.Until.TheVariants as u
 use Rattle.rnix_grammar.specs.declared.until.Closer.{Closer}
@@ -14,15 +14,15 @@ use Rattle.rnix_grammar.specs.declared.action.Action.TheVariants as a
 use Rattle.rnix_grammar.specs.Fault.{Fault}
 use Rattle.rnix_grammar.specs.Tables.{is_wanted, closes}
 use Rattle.rnix_grammar.specs.Actions.{token_action, series_action, entries_action, pieces_action, first_piece_action, more_pieces_action}
-use Rattle.rnix_grammar.specs.Sketch.{Token, Sketch, head_kind, touches}
+use Rattle.rnix_grammar.specs.AnnotatedForest.{Token, AnnotatedForest, head_kind, touches}
 use Rattle.rnix_grammar.specs.Machine.{Frame}
 use Rattle.rnix_grammar.specs.TokenKinds.{is_piece_start, is_inherit_token}
-use Rattle.rnix_grammar.specs.Rows.{At, is_entry, go_slot, to}
-use Rattle.rnix_grammar.specs.OwnItems.{owns_in}
+use Rattle.rnix_grammar.specs.Rows.{At, is_entry, advance_symbol, to}
+use Rattle.rnix_grammar.specs.ExpectedItems.{expects_in}
 use Rattle.rnix_lemmas.proofs.PlaceTables.{pieces_is}
 use Rattle.rnix_existence.proofs.OpenFrames.{closing, EndsBy}
 use Rattle.rnix_existence.proofs.NodeOpens as opening
-use Rattle.rnix_existence.proofs.SlotSteps.{Known, takes, misses, misses_wanted, runs, opens, begins, over, over_end}
+use Rattle.rnix_existence.proofs.SymbolSteps.{Known, takes, misses, misses_wanted, runs, opens, begins, over, over_end}
 
 -- where a token is wanted
 pub at_token : (f : Frame) (fs : List Frame) (ts : List Token) (n : ℕ) (gs : List Fault) (until : Until) (y : Place) → Known f (s.Token until y)
@@ -44,7 +44,7 @@ at_series f fs (t ∷ ts) n gs level closer w reads = by (closes closer t.kind) 
     by : (z : Bool) → closes closer t.kind ≡ z → EndsBy (if z then a.Take p.Past else a.Read level true f.place) f fs (t ∷ ts) n gs
     by true e =
         takes f fs (s.Series level closer) t ts n gs t.kind p.Past w refl e
-        (ap (λ z. if z then At p.Past else go_slot (s.Operand level true f.place) f.place t.kind) e)
+        (ap (λ z. if z then At p.Past else advance_symbol (s.Operand level true f.place) f.place t.kind) e)
     by false e = reads t ts refl e
 
 -- where entries stand
@@ -53,7 +53,7 @@ pub at_entries : (f : Frame) (fs : List Frame) (ts : List Token) (n : ℕ) (gs :
 at_entries f fs [] n gs closer y w = misses f fs (s.Entries closer y) n gs y w refl refl
 at_entries f fs (t ∷ ts) n gs closer y w = by t.kind refl
   where
-    entry_goes : (k : SyntaxKind) → closes closer k ≡ false → is_entry k ≡ true → go_slot (s.Entries closer y) f.place k ≡ At f.place
+    entry_goes : (k : SyntaxKind) → closes closer k ≡ false → is_entry k ≡ true → advance_symbol (s.Entries closer y) f.place k ≡ At f.place
     entry_goes k e h = ap (λ z. if z then At y else to (is_entry k) (At f.place)) e ∙ ap (λ z. to z (At f.place)) h
 
     no_closer : (c : Closer) → (closes c TOKEN_INHERIT ≡ false) × (closes c NODE_INHERIT ≡ false) × (closes c NODE_ATTRPATH_VALUE ≡ false)
@@ -66,7 +66,7 @@ at_entries f fs (t ∷ ts) n gs closer y w = by t.kind refl
         takes f fs (s.Entries closer y) t ts n gs k y w h (ap (λ z. z || is_inherit_token k) e) (ap (λ z. if z then At y else to (is_entry k) (At f.place)) e)
     other k false e i h =
         begins f fs (s.Entries closer y) (t ∷ ts) n gs NODE_ATTRPATH_VALUE p.ValuePath f.place w refl refl refl
-        (ap (λ z. owns_in z (nat_eq t.start n) t.kind) w.here ∙ ap (λ z. closes closer z || is_inherit_token z) h ∙ ap (λ z. z || is_inherit_token k) e ∙ i)
+        (ap (λ z. expects_in z (nat_eq t.start n) t.kind) w.here ∙ ap (λ z. closes closer z || is_inherit_token z) h ∙ ap (λ z. z || is_inherit_token k) e ∙ i)
         (entry_goes NODE_ATTRPATH_VALUE (no_closer closer).2 refl)
 
     by : (k : SyntaxKind) → t.kind ≡ k → EndsBy (entries_action closer f.place y (Some k)) f fs (t ∷ ts) n gs
@@ -90,7 +90,7 @@ at_pieces f fs (t ∷ ts) n gs w = by t.kind refl
     by k h = runs f fs s.Pieces t ts n gs k u.Piece f.place w h refl refl refl
 
 -- behind the first token of a path
-pub at_first_piece : (f : Frame) (fs : List Frame) (ts : List Token) (n : ℕ) (gs : List Fault) → Known f s.FirstPiece → ((b c : Sketch) → closing f.head b c ≡ [])
+pub at_first_piece : (f : Frame) (fs : List Frame) (ts : List Token) (n : ℕ) (gs : List Fault) → Known f s.FirstPiece → ((b c : AnnotatedForest) → closing f.head b c ≡ [])
     → EndsBy (first_piece_action (head_kind ts)) f fs ts n gs
 at_first_piece f fs [] n gs w e = opening.closes f fs [] n gs w.wide (over_end f s.FirstPiece n w.here refl refl) e
 at_first_piece f fs (t ∷ ts) n gs w e = by t.kind refl
@@ -100,12 +100,12 @@ at_first_piece f fs (t ∷ ts) n gs w e = by t.kind refl
     by k h = opening.closes f fs (t ∷ ts) n gs w.wide (over f s.FirstPiece t ts n k w.here h refl refl) e
 
 -- behind a later piece of a path
-pub at_more_pieces : (f : Frame) (fs : List Frame) (ts : List Token) (n : ℕ) (gs : List Fault) → Known f s.MorePieces → ((b c : Sketch) → closing f.head b c ≡ [])
+pub at_more_pieces : (f : Frame) (fs : List Frame) (ts : List Token) (n : ℕ) (gs : List Fault) → Known f s.MorePieces → ((b c : AnnotatedForest) → closing f.head b c ≡ [])
     → EndsBy (more_pieces_action (touches n ts) (head_kind ts)) f fs ts n gs
 at_more_pieces f fs [] n gs w e = opening.closes f fs [] n gs w.wide (over_end f s.MorePieces n w.here refl refl) e
 at_more_pieces f fs (t ∷ ts) n gs w e = by (nat_eq t.start n) refl
   where
-    own : (k : SyntaxKind) → nat_eq t.start n ≡ true → is_piece_start k ≡ true → owns_in s.MorePieces (nat_eq t.start n) k ≡ true
+    own : (k : SyntaxKind) → nat_eq t.start n ≡ true → is_piece_start k ≡ true → expects_in s.MorePieces (nat_eq t.start n) k ≡ true
     own k x y = ap (λ z. z && is_piece_start k) x ∙ y
 
     touching : nat_eq t.start n ≡ true → (k : SyntaxKind) → t.kind ≡ k → EndsBy (more_pieces_action true (Some k)) f fs (t ∷ ts) n gs

@@ -1,32 +1,32 @@
 -- Rows of sketches, one after another.
 use Rattle.std.proofs.Common.{◌≡◌, List, [], ◌∷◌, ◌++◌, refl, ap, sym, ◌∙◌, append_assoc}
 use Rattle.rnix_tree.specs.Forest.{leaf, node, join}
-use Rattle.rnix_grammar.specs.Sketch.{Token, Sketch, blank, token, branch, fault, ◌⊕◌, row_of, tokens_in, forget}
+use Rattle.rnix_grammar.specs.AnnotatedForest.{Token, AnnotatedForest, blank, token, branch, fault, ◌⊕◌, row_of, tokens_in, forget}
 use Rattle.rnix_kinds.specs.declared.kinds.SyntaxKind.TheVariants.{NODE_ERROR}
 
 -- three rows
-pub ⊕-assoc : (f g h : Sketch) → (f ⊕ g) ⊕ h ≡ f ⊕ (g ⊕ h)
+pub ⊕-assoc : (f g h : AnnotatedForest) → (f ⊕ g) ⊕ h ≡ f ⊕ (g ⊕ h)
 ⊕-assoc blank g h = refl
 ⊕-assoc (token k t f) g h = ap (token k t) (⊕-assoc f g h)
 ⊕-assoc (branch k c f) g h = ap (branch k c) (⊕-assoc f g h)
 ⊕-assoc (fault n c f) g h = ap (fault n c) (⊕-assoc f g h)
 
 -- an empty row behind another
-pub ⊕-blank : (f : Sketch) → f ⊕ blank ≡ f
+pub ⊕-blank : (f : AnnotatedForest) → f ⊕ blank ≡ f
 ⊕-blank blank = refl
 ⊕-blank (token k t f) = ap (token k t) (⊕-blank f)
 ⊕-blank (branch k c f) = ap (branch k c) (⊕-blank f)
 ⊕-blank (fault n c f) = ap (fault n c) (⊕-blank f)
 
 -- the tokens of two rows
-pub tokens_in-⊕ : (f g : Sketch) → tokens_in (f ⊕ g) ≡ tokens_in f ++ tokens_in g
+pub tokens_in-⊕ : (f g : AnnotatedForest) → tokens_in (f ⊕ g) ≡ tokens_in f ++ tokens_in g
 tokens_in-⊕ blank g = refl
 tokens_in-⊕ (token k t f) g = ap (λ x. t ∷ x) (tokens_in-⊕ f g)
 tokens_in-⊕ (branch k c f) g = ap (λ x. tokens_in c ++ x) (tokens_in-⊕ f g) ∙ sym (append_assoc (tokens_in c) (tokens_in f) (tokens_in g))
 tokens_in-⊕ (fault n c f) g = ap (λ x. tokens_in c ++ x) (tokens_in-⊕ f g) ∙ sym (append_assoc (tokens_in c) (tokens_in f) (tokens_in g))
 
 -- the tokens of two rows, and what is left
-pub tokens_two : (f g : Sketch) (us : List Token) → tokens_in (f ⊕ g) ++ us ≡ tokens_in f ++ (tokens_in g ++ us)
+pub tokens_two : (f g : AnnotatedForest) (us : List Token) → tokens_in (f ⊕ g) ++ us ≡ tokens_in f ++ (tokens_in g ++ us)
 tokens_two f g us = ap (λ x. x ++ us) (tokens_in-⊕ f g) ∙ append_assoc (tokens_in f) (tokens_in g) us
 
 -- the tokens of a row of leaves
@@ -35,7 +35,7 @@ tokens_in-row_of [] = refl
 tokens_in-row_of (t ∷ ts) = ap (λ x. t ∷ x) (tokens_in-row_of ts)
 
 -- the trees of two rows
-pub forget-⊕ : (f g : Sketch) → forget (f ⊕ g) ≡ join (forget f) (forget g)
+pub forget-⊕ : (f g : AnnotatedForest) → forget (f ⊕ g) ≡ join (forget f) (forget g)
 forget-⊕ blank g = refl
 forget-⊕ (token k t f) g = ap (leaf k t.text) (forget-⊕ f g)
 forget-⊕ (branch k c f) g = ap (node k (forget c)) (forget-⊕ f g)

@@ -1,27 +1,27 @@
--- What holds at each spot that one more child may lead to holds behind the child.
+-- What holds at each state that one more child may lead to holds behind the child.
 use Rattle.std.proofs.Common.{Bool, true, false}
 use Rattle.std.specs.Prelude.{if◌then◌else◌}
 use Rattle.rnix_kinds.specs.declared.kinds.SyntaxKind.{SyntaxKind}
 use Rattle.rnix_grammar.specs.declared.place.Place.{Place}
 use Rattle.rnix_grammar.specs.declared.place.Place.TheVariants as p
-use Rattle.rnix_grammar.specs.declared.slot.Slot.{Slot}
-use Rattle.rnix_grammar.specs.declared.slot.Slot.TheVariants as s
+use Rattle.rnix_grammar.specs.declared.symbol.Symbol.{Symbol}
+use Rattle.rnix_grammar.specs.declared.symbol.Symbol.TheVariants as s
 use Rattle.rnix_lemmas.proofs.EachKind.{each_kind}
 use Rattle.rnix_grammar.specs.Tables.{is_wanted, closes}
-use Rattle.rnix_grammar.specs.Rows.{is_entry, fits, Spot, At, Nowhere, to, go_slot}
+use Rattle.rnix_grammar.specs.Rows.{is_entry, fits, RowState, At, Nowhere, to, advance_symbol}
 
 -- it holds behind a test
-pub case_to : (A : Spot → Type 0) → A Nowhere → (b : Bool) (q : Spot) → A q → A (to b q)
+pub case_to : (A : RowState → Type 0) → A Nowhere → (b : Bool) (q : RowState) → A q → A (to b q)
 case_to A n true q h = h
 case_to A n false q h = n
 
 -- and on both sides of a choice
-pub case_if : (A : Spot → Type 0) (b : Bool) (q r : Spot) → A q → A r → A (if b then q else r)
+pub case_if : (A : RowState → Type 0) (b : Bool) (q r : RowState) → A q → A r → A (if b then q else r)
 case_if A true q r h j = h
 case_if A false q r h j = j
 
--- it is so at the places that a slot leads to, but for the end of the row
-abbrev pub Leads : (Spot → Type 0) → Slot → Type 0
+-- it is so at the places that a symbol leads to, but for the end of the row
+abbrev pub Leads : (RowState → Type 0) → Symbol → Type 0
 Leads A (s.Token until behind) = A (At behind)
 Leads A (s.Operand level counted behind) = A (At behind)
 Leads A (s.Entries closer behind) = A (At behind)
@@ -40,19 +40,19 @@ Leads A (s.Comma bound) = A (At (p.PatternInside bound)) × A (At (p.PatternEnd 
 Leads A (s.Bind bound) = A (At p.PatternPast)
 Leads A s.Default = A (At p.EntryDefault)
 Leads A s.Or = A (At p.SelectDefault)
-Leads A slot = Unit {0}
+Leads A symbol = Unit {0}
 
 -- so it is behind one more child
-pub case_leads : (A : Spot → Type 0) → A Nowhere → A (At p.Past) → (slot : Slot) (x : Place) (j : SyntaxKind) → A (At x) → Leads A slot → A (go_slot slot x j)
+pub case_leads : (A : RowState → Type 0) → A Nowhere → A (At p.Past) → (symbol : Symbol) (x : Place) (j : SyntaxKind) → A (At x) → Leads A symbol → A (advance_symbol symbol x j)
 case_leads A n e (s.Token until behind) x j h l = case_to A n (is_wanted until j) (At behind) l
 case_leads A n e (s.Operand level counted behind) x j h l = case_to A n (fits level j) (At behind) l
 case_leads A n e (s.Series level closer) x j h l = case_if A (closes closer j) (At p.Past) (to (fits level j) (At x)) e (case_to A n (fits level j) (At x) h)
 case_leads A n e (s.Entries closer behind) x j h l = case_if A (closes closer j) (At behind) (to (is_entry j) (At x)) l (case_to A n (is_entry j) (At x) h)
 case_leads A n e (s.Bind true) x j h l = n
-case_leads A n e slot x j h l = each_kind (λ j. A (go_slot slot x j)) (assumption (n, e, l)) j
+case_leads A n e symbol x j h l = each_kind (λ j. A (advance_symbol symbol x j)) (assumption (n, e, l)) j
 
--- it holds at the spots that children lead to from many places
-pub record Usual (A : Spot → Type 0) : Type 0 where
+-- it holds at the states that children lead to from many places
+pub record Usual (A : RowState → Type 0) : Type 0 where
   pub nowhere : A Nowhere
   pub past : A (At p.Past)
   pub string : A (At p.StringInside)
@@ -65,8 +65,8 @@ pub record Usual (A : Spot → Type 0) : Type 0 where
   pub ends : (bound : Bool) → A (At (p.PatternEnd bound))
   pub behind : A (At p.PatternPast)
 
--- it holds at the place behind a slot
-abbrev pub Next : (Spot → Type 0) → Slot → Type 0
+-- it holds at the place behind a symbol
+abbrev pub Next : (RowState → Type 0) → Symbol → Type 0
 Next A (s.Token until behind) = A (At behind)
 Next A (s.Operand level counted behind) = A (At behind)
 Next A (s.Entries closer behind) = A (At behind)
@@ -75,9 +75,9 @@ Next A (s.Attrpath behind) = A (At behind)
 Next A (s.Name behind) = A (At behind)
 Next A s.Default = A (At p.EntryDefault)
 Next A s.Or = A (At p.SelectDefault)
-Next A slot = Unit {0}
+Next A symbol = Unit {0}
 
-leads_usual : {A : Spot → Type 0} → Usual A → (slot : Slot) → Next A slot → Leads A slot
+leads_usual : {A : RowState → Type 0} → Usual A → (symbol : Symbol) → Next A symbol → Leads A symbol
 leads_usual u s.Default n = n
 leads_usual u s.Or n = n
 leads_usual u (s.Braces bound) n = (u.ends bound, u.close bound, u.after bound)
@@ -86,5 +86,5 @@ leads_usual u (s.Comma bound) n = (u.inside bound, u.ends bound)
 leads_usual u _ n = assumption (n, u.string, u.path, u.names, u.attrs, u.behind)
 
 -- so it holds behind one more child of a place's row
-pub case_slot : {A : Spot → Type 0} → Usual A → (slot : Slot) (x : Place) (j : SyntaxKind) → A (At x) → Next A slot → A (go_slot slot x j)
-case_slot {A = A} u slot x j h n = case_leads A u.nowhere u.past slot x j h (leads_usual u slot n)
+pub case_symbol : {A : RowState → Type 0} → Usual A → (symbol : Symbol) (x : Place) (j : SyntaxKind) → A (At x) → Next A symbol → A (advance_symbol symbol x j)
+case_symbol {A = A} u symbol x j h n = case_leads A u.nowhere u.past symbol x j h (leads_usual u symbol n)

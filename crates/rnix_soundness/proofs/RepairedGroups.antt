@@ -1,0 +1,149 @@
+-- The first tree of a node whose errors are repaired stands where it may.
+use Rattle.std.proofs.Common.{◌≡◌, ℕ, ◌≤◌, Bool, true, false, [], refl, ap, sym, ◌∙◌, subst, arith}
+use Rattle.std.specs.Prelude.{if◌then◌else◌, ◌&&◌}
+use Rattle.std.proofs.lemmas.Bool.{and_from, and_parts}
+use Rattle.rnix_kinds.specs.declared.kinds.SyntaxKind.{SyntaxKind}
+use Rattle.rnix_kinds.specs.declared.kinds.SyntaxKind.TheVariants.{NODE_APPLY, NODE_BIN_OP, NODE_DYNAMIC, NODE_HAS_ATTR, NODE_IDENT_PARAM, NODE_LAMBDA, NODE_PAT_BIND, NODE_PAT_ENTRY, NODE_SELECT}
+use Rattle.rnix_tree.specs.Forest.{Forest, leaf, node}
+use Rattle.rnix_grammar.specs.Levels.{left_of}
+use Rattle.rnix_grammar.specs.AnnotatedForest.{Token, Note, AnnotatedForest, blank, branch, fault, one_branch, tokens_in, leaf_kind}
+use Rattle.rnix_grammar.specs.Rows.{is_atom, is_simple, is_questioned, is_operand, is_expression, Start, BeforeOperator, BeforeDot, BeforeQuestion, BeforeArgument, start}
+use Rattle.rnix_grammar.specs.TreeLevels.{level_of, calls_or}
+use Rattle.rnix_grammar.specs.Strict as strict
+use Rattle.rnix_grammar.specs.Corners as corners
+use Rattle.rnix_grammar.specs.Strict.{stands_at, is_strict_atom, is_grouped, first_stands, first_is_atom, first_is_no_or, are_entries_new}
+use Rattle.rnix_grammar.specs.Repaired.{repaired, patch}
+use Rattle.rnix_grammar.specs.Corners.{holds_no_lambda, is_corner, has_no_corner}
+use Rattle.rnix_grammar.specs.Names.{is_plain, is_no_or, is_named, is_name_at}
+use Rattle.rnix_grammar.specs.Named.{is_spelled, AreSpelled, AreNamed}
+use Rattle.rnix_kinds.proofs.AllKinds.{implied}
+use Rattle.rnix_lemmas.proofs.Basics.{true_is_not_false, choice}
+use Rattle.rnix_lemmas.proofs.LevelLemmas.{at_most_true, questioned_operand, operand_expression}
+use Rattle.rnix_lemmas.proofs.OpeningRows.{HasRow, Opening, by_token, by_branch, by_fault, opened, is_number, to_live, live_to, row_behind, spelled_first, spelled_rest}
+use Rattle.rnix_soundness.proofs.FirstTrees.{IsLed, led, token_first, no_operand, numbered, patch_number}
+use Rattle.rnix_soundness.proofs.RepairedLevels.{is_lambda, second_atom, calls_behind}
+use Rattle.rnix_soundness.proofs.RepairedNames.{simple_expression, named_plain, named_no_or, no_lambda, same_least, stands_level}
+
+-- the first tree of some nodes
+strict_atom : (k : SyntaxKind) (c : Forest) → is_lambda k ≡ false → is_atom k ≡ true → strict.is_named k c ≡ true → is_strict_atom k c ≡ true
+strict_atom NODE_LAMBDA c n a h = absurd (true_is_not_false n)
+strict_atom k c n a h = and_from (is_atom k) (strict.is_named k c) a h
+
+simple_level : (k : SyntaxKind) (c : AnnotatedForest) → is_simple k ≡ true → 15 ≤ level_of k c
+simple_level NODE_APPLY c h = choice (λ n. 15 ≤ n) (calls_or c) (omega arith) (omega arith)
+simple_level _ c h = first_of (omega arith, assumption, cc)
+
+-- no first tree is a corner or a wrong name
+abbrev FirstIs : SyntaxKind → AnnotatedForest → Type 0
+FirstIs parent (branch k c f) = ((if is_corner parent k (repaired c) then false else true) ≡ true) × (is_named (Start parent) k c ≡ true)
+FirstIs parent f = Unit {0}
+
+first_is : (parent : SyntaxKind) (f : AnnotatedForest) → AreNamed (Start parent) f → has_no_corner parent (repaired f) ≡ true → FirstIs parent f
+first_is parent (branch k c f) n h = ((and_parts (if is_corner parent k (repaired c) then false else true) (has_no_corner k (repaired c) && has_no_corner parent (repaired f)) h).0, n.0)
+first_is parent _ n h = cc
+
+-- the first tree stands at a level
+first_at : (parent k : SyntaxKind) (level : ℕ) (c : AnnotatedForest) → HasRow k (start k) blank c → AreSpelled (tokens_in c) → holds_no_lambda parent ≡ true
+    → ((t : Token) → is_name_at (Start parent) t ≡ true → is_plain t ≡ true) → FirstIs parent (branch k c blank) → is_expression k ≡ true → level ≤ level_of k c → stands_at level k (repaired c) ≡ true
+first_at parent k level c r w tight plain f e l =
+    stands_level level k (repaired c) e (named_plain (Start parent) k r w plain f.1) (same_least k level r w (no_lambda parent k (repaired c) tight f.0) l)
+
+told_first : (parent k : SyntaxKind) (t : Token) → k ≡ leaf_kind parent t → is_spelled t.kind t.text ≡ true → is_expression k ≡ true → ⊥
+told_first parent k t e w h = no_operand parent t.kind t.text w (subst (λ z. is_expression z ≡ true) e h)
+
+operator_first : (c : AnnotatedForest) → HasRow NODE_BIN_OP (Start NODE_BIN_OP) blank c → AreSpelled (tokens_in c) → FirstIs NODE_BIN_OP c → is_grouped NODE_BIN_OP (repaired c) ≡ true
+operator_first c h w n = by (opened h refl) w n
+  where
+    behind : (k : SyntaxKind) (d : AnnotatedForest) {f : AnnotatedForest} → HasRow k (start k) blank d → AreSpelled (tokens_in d) → FirstIs NODE_BIN_OP (branch k d blank) → is_operand k ≡ true
+        → IsLed NODE_BIN_OP BeforeOperator (one_branch k d) f → is_grouped NODE_BIN_OP (node k (repaired d) (repaired f)) ≡ true
+    behind k d r w n o (led {k = j} z l y) = first_at NODE_BIN_OP k (left_of j) d r w refl (λ t e. e) n (operand_expression k o) l
+
+    number : (m : Note) (d : AnnotatedForest) {f : AnnotatedForest} → is_number m ≡ true → IsLed NODE_BIN_OP BeforeOperator (fault m d blank) f
+        → is_grouped NODE_BIN_OP (patch m (repaired f)) ≡ true
+    number m d e (led {k = j} {t = t} {f = f} z l y) = ap (is_grouped NODE_BIN_OP) (patch_number m (leaf j t.text (repaired f)) e) ∙ at_most_true (left_of j) 16 l
+
+    by : {g : AnnotatedForest} → Opening NODE_BIN_OP (Start NODE_BIN_OP) blank g → AreSpelled (tokens_in g) → FirstIs NODE_BIN_OP g → is_grouped NODE_BIN_OP (repaired g) ≡ true
+    by (by_token {k = k} {t = t} e op l) w n = absurd (told_first NODE_BIN_OP k t e w.0 (operand_expression k (live_to (is_operand k) BeforeOperator l)))
+    by (by_branch {k = k} {c = d} {f = f} r lev l s) w n =
+        behind k d r (spelled_first (tokens_in d) (tokens_in f) w) n (live_to (is_operand k) BeforeOperator l)
+        (token_first refl refl (row_behind (to_live (is_operand k) BeforeOperator l) s))
+    by (by_fault {n = m} {c = d} e l r) w n = number m d e (token_first refl refl r)
+
+question_first : (c : AnnotatedForest) → HasRow NODE_HAS_ATTR (Start NODE_HAS_ATTR) blank c → AreSpelled (tokens_in c) → FirstIs NODE_HAS_ATTR c → is_grouped NODE_HAS_ATTR (repaired c) ≡ true
+question_first c h w n = by (opened h refl) w n
+  where
+    behind : (k : SyntaxKind) (d : AnnotatedForest) {f : AnnotatedForest} → HasRow k (start k) blank d → AreSpelled (tokens_in d) → FirstIs NODE_HAS_ATTR (branch k d blank) → is_questioned k ≡ true
+        → IsLed NODE_HAS_ATTR BeforeQuestion (one_branch k d) f → is_grouped NODE_HAS_ATTR (node k (repaired d) (repaired f)) ≡ true
+    behind k d r w n o (led z l y) = first_at NODE_HAS_ATTR k 13 d r w refl (λ t e. e) n (operand_expression k (questioned_operand k o)) l
+
+    by : {g : AnnotatedForest} → Opening NODE_HAS_ATTR (Start NODE_HAS_ATTR) blank g → AreSpelled (tokens_in g) → FirstIs NODE_HAS_ATTR g → is_grouped NODE_HAS_ATTR (repaired g) ≡ true
+    by (by_token {k = k} {t = t} e op l) w n = absurd (told_first NODE_HAS_ATTR k t e w.0
+        (operand_expression k (questioned_operand k (live_to (is_questioned k) BeforeQuestion l))))
+    by (by_branch {k = k} {c = d} {f = f} r lev l s) w n =
+        behind k d r (spelled_first (tokens_in d) (tokens_in f) w) n (live_to (is_questioned k) BeforeQuestion l)
+        (token_first refl refl (row_behind (to_live (is_questioned k) BeforeQuestion l) s))
+    by (by_fault {n = m} {f = f} e l r) w n = ap (is_grouped NODE_HAS_ATTR) (patch_number m (repaired f) e)
+
+atom_expression : (k : SyntaxKind) → is_atom k ≡ true → is_expression k ≡ true
+atom_expression = implied is_atom is_expression refl
+
+select_first : (c : AnnotatedForest) → HasRow NODE_SELECT (Start NODE_SELECT) blank c → AreSpelled (tokens_in c) → FirstIs NODE_SELECT c → is_grouped NODE_SELECT (repaired c) ≡ true
+select_first c h w n = by (opened h refl) w n
+  where
+    by : {g : AnnotatedForest} → Opening NODE_SELECT (Start NODE_SELECT) blank g → AreSpelled (tokens_in g) → FirstIs NODE_SELECT g → is_grouped NODE_SELECT (repaired g) ≡ true
+    by (by_token {k = k} {t = t} e op l) w n = absurd (told_first NODE_SELECT k t e w.0 (atom_expression k (live_to (is_atom k) BeforeDot l)))
+    by (by_branch {k = k} {c = d} {f = f} r lev l s) w n =
+        strict_atom k (repaired d) (no_lambda NODE_SELECT k (repaired d) refl n.0) (live_to (is_atom k) BeforeDot l)
+        (named_plain (Start NODE_SELECT) k r (spelled_first (tokens_in d) (tokens_in f) w) (λ t e. e) n.1)
+    by (by_fault {n = m} {f = f} e l r) w n = ap (is_grouped NODE_SELECT) (patch_number m (repaired f) e)
+
+apply_first : (c : AnnotatedForest) → HasRow NODE_APPLY (Start NODE_APPLY) blank c → AreSpelled (tokens_in c) → FirstIs NODE_APPLY c → is_grouped NODE_APPLY (repaired c) ≡ true
+apply_first c h w n = by (opened h refl) w n
+  where
+    by : {g : AnnotatedForest} → Opening NODE_APPLY (Start NODE_APPLY) blank g → AreSpelled (tokens_in g) → FirstIs NODE_APPLY g → is_grouped NODE_APPLY (repaired g) ≡ true
+    by (by_token {k = k} {t = t} e op l) w n = absurd (told_first NODE_APPLY k t e w.0 (simple_expression k (live_to (is_simple k) BeforeArgument l)))
+    by (by_branch {k = k} {c = d} {f = f} r lev l s) w n = by_call (strict.calls_or (node k (repaired d) (repaired f))) refl
+      where
+        simple : is_simple k ≡ true
+        simple = live_to (is_simple k) BeforeArgument l
+
+        inside : AreSpelled (tokens_in d)
+        inside = spelled_first (tokens_in d) (tokens_in f) w
+
+        by_call : (v : Bool) → strict.calls_or (node k (repaired d) (repaired f)) ≡ v
+            → (if v then first_is_atom (node k (repaired d) (repaired f)) else first_stands 15 (node k (repaired d) (repaired f))) ≡ true
+        by_call true e =
+            strict_atom k (repaired d) (no_lambda NODE_APPLY k (repaired d) refl n.0)
+            (second_atom (row_behind (to_live (is_simple k) BeforeArgument l) s) (spelled_rest (tokens_in d) (tokens_in f) w) (sym (calls_behind k (repaired d) (repaired f)) ∙ e))
+            (named_plain (Start NODE_APPLY) k r inside (λ t e. e) n.1)
+        by_call false e = first_at NODE_APPLY k 15 d r inside refl (λ t e. e) n (simple_expression k simple) (simple_level k d simple)
+    by (by_fault {n = m} {f = f} e l r) w n =
+        ap (is_grouped NODE_APPLY) (patch_number m (repaired f) e) ∙ choice (λ z. z ≡ true) (strict.calls_or (numbered (repaired f))) refl refl
+
+-- the name that a parameter or an entry is
+name_first : (parent : SyntaxKind) (c : AnnotatedForest) → HasRow parent (Start parent) blank c → AreSpelled (tokens_in c) → FirstIs parent c
+    → ((t : Token) → is_name_at (Start parent) t ≡ true → is_no_or t ≡ true) → first_is_no_or (repaired c) ≡ true
+name_first parent c h w n plain = by (opened h refl) w n
+  where
+    by : {g : AnnotatedForest} → Opening parent (Start parent) blank g → AreSpelled (tokens_in g) → FirstIs parent g → first_is_no_or (repaired g) ≡ true
+    by (by_token e op l) w n = refl
+    by (by_branch {k = k} {c = d} {f = f} r lev l s) w n = named_no_or (Start parent) k r (spelled_first (tokens_in d) (tokens_in f) w) plain n.1
+    by (by_fault {n = m} {f = f} e l r) w n = ap first_is_no_or (patch_number m (repaired f) e)
+
+-- an interpolation as an attribute holds one tree
+one_tree : (w : Bool) → (if (if w then false else true) then false else true) ≡ true → w ≡ true
+one_tree true h = refl
+one_tree false h = h
+
+-- the trees of a node are grouped
+pub grouped : (parent k : SyntaxKind) (c : AnnotatedForest) → HasRow k (start k) blank c → AreSpelled (tokens_in c) → AreNamed (start k) c → has_no_corner k (repaired c) ≡ true
+    → (if is_corner parent k (repaired c) then false else true) ≡ true → are_entries_new [] (repaired c) ≡ true → (k ≡ NODE_PAT_BIND → strict.binds_no_or (repaired c) ≡ true) → is_grouped k (repaired c) ≡ true
+grouped parent NODE_BIN_OP c h w n o q e b = operator_first c h w (first_is NODE_BIN_OP c n o)
+grouped parent NODE_HAS_ATTR c h w n o q e b = question_first c h w (first_is NODE_HAS_ATTR c n o)
+grouped parent NODE_SELECT c h w n o q e b = select_first c h w (first_is NODE_SELECT c n o)
+grouped parent NODE_APPLY c h w n o q e b = apply_first c h w (first_is NODE_APPLY c n o)
+grouped parent NODE_DYNAMIC c h w n o q e b = one_tree (corners.is_one (corners.node_count (repaired c))) q
+grouped parent NODE_IDENT_PARAM c h w n o q e b = name_first NODE_IDENT_PARAM c h w (first_is NODE_IDENT_PARAM c n o) (λ t x. x)
+grouped parent NODE_PAT_ENTRY c h w n o q e b = name_first NODE_PAT_ENTRY c h w (first_is NODE_PAT_ENTRY c n o) (λ t x. x)
+grouped parent NODE_PAT_BIND c h w n o q e b = b refl
+grouped parent _ c h w n o q e b = assumption
