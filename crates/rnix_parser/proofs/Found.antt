@@ -3,7 +3,7 @@ use Rattle.std.proofs.Common.{◌≡◌, true, List, [], ap, sym, ◌∙◌}
 use Rattle.std.proofs.lemmas.Bool.{and_parts as and_both}
 use Rattle.rnix_tree.specs.Forest.{Forest}
 use Rattle.rnix_grammar.specs.Fault.{Fault}
-use Rattle.rnix_grammar.specs.Sketch.{Token, Sketch, tokens_in, forget}
+use Rattle.rnix_grammar.specs.AnnotatedForest.{Token, AnnotatedForest, tokens_in, forget}
 use Rattle.rnix_grammar.specs.Reads.{ReadsWhole}
 use Rattle.rnix_grammar.specs.Strict.{is_strict_expression}
 use Rattle.rnix_grammar.specs.Derivation.{laid, has_tokens_alone, IsDerivation}
@@ -25,7 +25,7 @@ derivation_reads t ts d =
     strict_reads (laid t ts) (ap is_strict_expression l.forest ∙ strict) l.spelled d.joined (rw (l.forest, sym (strict_nest t strict)) d.shallow)
 
 -- what the items of a derivation are read as is the derivation, without errors
-pub derivation_found : (f : Sketch) (ts : List Token) (es : List Fault) → ReadsWhole f es → tokens_in f ≡ ts → (t : Forest) → IsDerivation t ts → (es ≡ []) × (forget f ≡ t)
+pub derivation_found : (f : AnnotatedForest) (ts : List Token) (es : List Fault) → ReadsWhole f es → tokens_in f ≡ ts → (t : Forest) → IsDerivation t ts → (es ≡ []) × (forget f ≡ t)
 derivation_found f ts es r e t d =
     let l = laid_over t ts d in
     let same = one_row f (laid t ts) es [] r (derivation_reads t ts d) (e ∙ sym l.tokens) in

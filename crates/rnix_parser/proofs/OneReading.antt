@@ -6,7 +6,7 @@ use Rattle.rnix_kinds.specs.Lexical.Tokens.{Lexeme, text_of as lexeme_text, AreS
 use Rattle.rnix_tree.specs.Forest.{text_of}
 use Rattle.rnix_tree.specs.Tree.{Tree}
 use Rattle.rnix_grammar.specs.Fault.{Fault}
-use Rattle.rnix_grammar.specs.Sketch.{Token, Sketch, blank, token, branch, fault, forget, tokens_in, clean, placed_from}
+use Rattle.rnix_grammar.specs.AnnotatedForest.{Token, AnnotatedForest, blank, token, branch, fault, forget, tokens_in, clean, placed_from}
 use Rattle.rnix_grammar.specs.Layout.{items, dressed_whole}
 use Rattle.rnix_grammar.specs.Machine.{ate}
 use Rattle.rnix_grammar.specs.Clean.{clean_machine, clean_frame, clean_frames}
@@ -24,17 +24,17 @@ use Rattle.rnix_reader.proofs.EachText.{each_read}
 use Rattle.rnix_parser.proofs.ParsedLemmas.{all_follows}
 
 -- the items of a reading are those of the tokens
-reading_items : {ls : List Lexeme} {tree : Tree} {faults : List Fault} (r : IsReading ls tree faults) → tokens_in (clean r.sketch) ≡ items (placed_from 0 ls)
-reading_items r = clean_tokens r.sketch ∙ ap items r.leaves
+reading_items : {ls : List Lexeme} {tree : Tree} {faults : List Fault} (r : IsReading ls tree faults) → tokens_in (clean r.annotated) ≡ items (placed_from 0 ls)
+reading_items r = clean_tokens r.annotated ∙ ap items r.leaves
 
 -- two readings of some tokens are one
 pub one_reading : (ls : List Lexeme) (t u : Tree) (ds es : List Fault) → IsReading ls t ds → IsReading ls u es → (t ≡ u) × (ds ≡ es)
 one_reading ls t u ds es r s =
-    let same : (clean r.sketch ≡ clean s.sketch) × (ds ≡ es) = one_row (clean r.sketch) (clean s.sketch) ds es r.reads s.reads (reading_items r ∙ sym (reading_items s)) in
-    let sketch : r.sketch ≡ s.sketch = dressed_same r.sketch s.sketch (placed_from 0 ls) r.laid s.laid same.0 in
-    (r.tree_is ∙ ap (λ (f : Sketch). record { kind = NODE_ROOT; children = forget f }) sketch ∙ sym u_is, same.1)
+    let same : (clean r.annotated ≡ clean s.annotated) × (ds ≡ es) = one_row (clean r.annotated) (clean s.annotated) ds es r.reads s.reads (reading_items r ∙ sym (reading_items s)) in
+    let annotated : r.annotated ≡ s.annotated = dressed_same r.annotated s.annotated (placed_from 0 ls) r.laid s.laid same.0 in
+    (r.tree_is ∙ ap (λ (f : AnnotatedForest). record { kind = NODE_ROOT; children = forget f }) annotated ∙ sym u_is, same.1)
   where
-    u_is : u ≡ record { kind = NODE_ROOT; children = forget s.sketch }
+    u_is : u ≡ record { kind = NODE_ROOT; children = forget s.annotated }
     u_is = s.tree_is
 
 -- the texts of some tokens, joined
@@ -46,11 +46,11 @@ texts-++ [] us = refl
 texts-++ (t ∷ ts) us = ap (λ z. t.text ++ z) (texts-++ ts us) ∙ sym (append_assoc t.text (texts_in ts) (texts_in us))
 
 -- the text of a tree is that of its tokens
-sketch_text : (f : Sketch) → text_of (forget f) ≡ texts_in (tokens_in f)
-sketch_text blank = refl
-sketch_text (token k t f) = ap (λ z. t.text ++ z) (sketch_text f)
-sketch_text (branch k c f) = ap (λ z. z ++ text_of (forget f)) (sketch_text c) ∙ ap (λ z. texts_in (tokens_in c) ++ z) (sketch_text f) ∙ sym (texts-++ (tokens_in c) (tokens_in f))
-sketch_text (fault n c f) = ap (λ z. z ++ text_of (forget f)) (sketch_text c) ∙ ap (λ z. texts_in (tokens_in c) ++ z) (sketch_text f) ∙ sym (texts-++ (tokens_in c) (tokens_in f))
+annotated_text : (f : AnnotatedForest) → text_of (forget f) ≡ texts_in (tokens_in f)
+annotated_text blank = refl
+annotated_text (token k t f) = ap (λ z. t.text ++ z) (annotated_text f)
+annotated_text (branch k c f) = ap (λ z. z ++ text_of (forget f)) (annotated_text c) ∙ ap (λ z. texts_in (tokens_in c) ++ z) (annotated_text f) ∙ sym (texts-++ (tokens_in c) (tokens_in f))
+annotated_text (fault n c f) = ap (λ z. z ++ text_of (forget f)) (annotated_text c) ∙ ap (λ z. texts_in (tokens_in c) ++ z) (annotated_text f) ∙ sym (texts-++ (tokens_in c) (tokens_in f))
 
 placed_text : (n : ℕ) (ls : List Lexeme) → texts_in (placed_from n ls) ≡ flat_map lexeme_text ls
 placed_text n [] = refl
@@ -59,7 +59,7 @@ placed_text n (l ∷ ls) = ap (λ z. l.1 ++ z) (placed_text (n + length l.1) ls)
 -- the text of a reading is that of its tokens
 pub reading_text : (ls : List Lexeme) (tree : Tree) (faults : List Fault) → IsReading ls tree faults → text_of tree.children ≡ flat_map lexeme_text ls
 reading_text ls tree faults r =
-    ap (λ (t : Tree). text_of t.children) r.tree_is ∙ sketch_text r.sketch ∙ ap texts_in r.leaves ∙ placed_text 0 ls
+    ap (λ (t : Tree). text_of t.children) r.tree_is ∙ annotated_text r.annotated ∙ ap texts_in r.leaves ∙ placed_text 0 ls
 
 -- two texts of which one tree is read are one text, with the same errors
 pub one_text : (s t : List ℕ) (tree : Tree) (ds es : List Fault) → AreSound s (tokens_of s) → AreSound t (tokens_of t) → IsReading (tokens_of s) tree ds → IsReading (tokens_of t) tree es
@@ -72,17 +72,17 @@ one_text s t tree ds es x y r q =
 read_reading : (ls : List Lexeme) (tree : Tree) (faults : List Fault) → IsRead ls tree faults → IsReading ls tree faults
 read_reading ls tree faults r =
     let ts : List Token = placed_from 0 ls in
-    let g : Sketch = ate true r.root.row r.last.left in
+    let g : AnnotatedForest = ate true r.root.row r.last.left in
     let bare : clean g ≡ clean r.root.row = ate_clean r.root.row r.last.left in
     let read : (items ts ≡ tokens_in (clean r.root.row)) × ReadsWhole (clean r.root.row) r.last.faults =
     whole_reads (items ts) (clean_machine r.last) (clean_frame r.root) (runs_clean r.runs) (ap clean_frames r.alone) r.head r.place r.nothing in
     let laid : g ≡ dressed_whole (clean g) ts = read_dressed ls tree faults r in
     record {
-      sketch = g;
+      annotated = g;
       tree_is = r.tree_is;
       leaves = ap tokens_in laid ∙ dressed_whole_tokens (clean g) ts (read.0 ∙ ap tokens_in (sym bare));
       laid = laid;
-      reads = subst (λ (f : Sketch). ReadsWhole f faults) (sym bare) (subst (ReadsWhole (clean r.root.row)) (sym r.faults_are) read.1);
+      reads = subst (λ (f : AnnotatedForest). ReadsWhole f faults) (sym bare) (subst (ReadsWhole (clean r.root.row)) (sym r.faults_are) read.1);
     }
 
 -- the tokens of a text have a reading

@@ -5,13 +5,13 @@ use Rattle.rnix_kinds.specs.declared.kinds.SyntaxKind.TheVariants.{NODE_ROOT}
 use Rattle.rnix_kinds.specs.Lexical.Tokens.{Lexeme}
 use Rattle.rnix_tree.specs.Forest.{Forest}
 use Rattle.rnix_grammar.specs.Tables.{depth_limit}
-use Rattle.rnix_grammar.specs.Sketch.{Token, Sketch, blank, forget, tokens_in, clean, placed_from, AreTold}
+use Rattle.rnix_grammar.specs.AnnotatedForest.{Token, AnnotatedForest, blank, forget, tokens_in, clean, placed_from, HaveLeafKinds}
 use Rattle.rnix_grammar.specs.Layout.{items}
 use Rattle.rnix_grammar.specs.Trim.{AreFaultsTrimmed, AreNodesTrimmed}
 use Rattle.rnix_grammar.specs.Shape.{IsShaped, IsUnrepeated, reports}
 use Rattle.rnix_grammar.specs.Seams.{AreTriviaBetween}
 use Rattle.rnix_grammar.specs.Named.{AreSpelled, is_repeated, Lacks}
-use Rattle.rnix_grammar.specs.Mended.{mended, ended_count}
+use Rattle.rnix_grammar.specs.Repaired.{repaired, ended_count}
 use Rattle.rnix_grammar.specs.Corners.{has_no_corner}
 use Rattle.rnix_grammar.specs.Fault.{Fault}
 use Rattle.rnix_grammar.specs.Plain.{ArePaths}
@@ -24,7 +24,7 @@ use Rattle.rnix_grammar.specs.Stands.{StandsWhole}
 use Rattle.rnix_grammar.specs.Reading.{IsReading}
 use Rattle.rnix_grammar.specs.Parsed.{IsParsed}
 use Rattle.rnix_rows.proofs.StandsFaults.{Errors, stands_errors}
-use Rattle.rnix_rows.proofs.StandsWhole.{whole_few, whole_ended, whole_begun, halves_last}
+use Rattle.rnix_rows.proofs.StandsWhole.{whole_few, whole_ended, whole_begun, incomplete_last}
 use Rattle.rnix_rows.proofs.TreeShapes.{whole_shaped, clean_reports}
 use Rattle.rnix_rows.proofs.SeamLemmas.{trivia_between}
 use Rattle.rnix_soundness.proofs.ConverseNames.{converse}
@@ -32,8 +32,8 @@ use Rattle.rnix_lemmas.proofs.SpelledLemmas.{AreRuled, spelled_from, clean_spell
 use Rattle.rnix_rows.proofs.ReadsNest.{reads_nested}
 use Rattle.rnix_rows.proofs.ReadsStand.{reads_stand}
 use Rattle.rnix_rows.proofs.DressedWhole.{clean_items, laid_told, laid_trimmed, laid_bare, laid_nodes}
-use Rattle.rnix_rows.proofs.StandsTold.{stands_told, mended_tokens}
-use Rattle.rnix_rows.proofs.StandsShapes.{AreBareRows, mended_none, whole_rows}
+use Rattle.rnix_rows.proofs.StandsTold.{stands_told, repaired_tokens}
+use Rattle.rnix_rows.proofs.StandsShapes.{AreBareRows, repaired_none, whole_rows}
 use Rattle.rnix_lemmas.proofs.EntryNames.{both_true}
 use Rattle.rnix_soundness.proofs.StrictCorners.{strict_no_corner}
 use Rattle.rnix_rows.proofs.Exactly.{derived}
@@ -42,23 +42,23 @@ use Rattle.rnix_strict.proofs.GrammarTrees.{strict_expression}
 use Rattle.rnix_parser.proofs.Found.{derivation_found}
 
 -- a tree without trivia, and its errors, as they must be to be a derivation
-record IsFit (f : Sketch) (ts : List Token) (es : List Fault) : Type 0 where
+record IsFit (f : AnnotatedForest) (ts : List Token) (es : List Fault) : Type 0 where
   pub tokens : tokens_in f ≡ ts
   pub bare : es ≡ [] → AreBareRows f
-  pub told : AreTold NODE_ROOT f
+  pub leaf_kind : HaveLeafKinds NODE_ROOT f
   pub spelled : AreSpelled (tokens_in f)
   pub nested : es ≡ [] → nest NODE_ROOT (forget f) ≤ depth_limit
-  pub strict : es ≡ [] → has_no_corner NODE_ROOT (mended f) ≡ true → IsExpression (mended f)
+  pub strict : es ≡ [] → has_no_corner NODE_ROOT (repaired f) ≡ true → IsExpression (repaired f)
   pub found : (t : Forest) → IsDerivation t ts → (es ≡ []) × (forget f ≡ t)
 
 -- so it is one exactly if there is no error and no corner
-exact : (f : Sketch) (ts : List Token) (es : List Fault) → IsFit f ts es → ArePaths f [] → ((es ≡ []) × (has_no_corner NODE_ROOT (forget f) ≡ true)) ↔ ((t : Forest) × IsDerivation t ts)
+exact : (f : AnnotatedForest) (ts : List Token) (es : List Fault) → IsFit f ts es → ArePaths f [] → ((es ≡ []) × (has_no_corner NODE_ROOT (forget f) ≡ true)) ↔ ((t : Forest) × IsDerivation t ts)
 exact f ts es w paths = (there, back)
   where
     there : (es ≡ []) × (has_no_corner NODE_ROOT (forget f) ≡ true) → (t : Forest) × IsDerivation t ts
     there h =
-        let same : mended f ≡ forget f = mended_none f (w.bare h.0) in
-        (forget f, subst (IsDerivation (forget f)) w.tokens (derived f (w.bare h.0) w.told w.spelled (subst IsExpression same (w.strict h.0 (ap (has_no_corner NODE_ROOT) same ∙ h.1))) (w.nested h.0) paths))
+        let same : repaired f ≡ forget f = repaired_none f (w.bare h.0) in
+        (forget f, subst (IsDerivation (forget f)) w.tokens (derived f (w.bare h.0) w.leaf_kind w.spelled (subst IsExpression same (w.strict h.0 (ap (has_no_corner NODE_ROOT) same ∙ h.1))) (w.nested h.0) paths))
 
     back : ((t : Forest) × IsDerivation t ts) → (es ≡ []) × (has_no_corner NODE_ROOT (forget f) ≡ true)
     back h =
@@ -69,32 +69,32 @@ exact f ts es w paths = (there, back)
 pub all_follows : (ls : List Lexeme) (tree : Tree) (faults : List Fault) → AreRuled ls → IsReading ls tree faults → IsParsed ls tree faults
 all_follows ls tree faults ruled r =
     let ts : List Token = placed_from 0 ls in
-    let g : Sketch = r.sketch in
+    let g : AnnotatedForest = r.annotated in
     let own : items ts ≡ tokens_in (clean g) = clean_items g ts r.leaves in
     let stands : StandsWhole (clean g) faults = reads_stand (clean g) faults r.reads in
     let errors : Errors (clean g) [] (reports (clean g)) faults = stands_errors stands in
-    let told : AreTold NODE_ROOT g = laid_told (clean g) g ts faults r.laid stands in
+    let leaf_kind : HaveLeafKinds NODE_ROOT g = laid_told (clean g) g ts faults r.laid stands in
     let trimmed : AreFaultsTrimmed g = laid_trimmed (clean g) g ts faults r.laid own stands in
     let nodes : faults ≡ [] → AreNodesTrimmed (forget g) = laid_nodes (clean g) g ts faults r.laid own stands in
     let spelled : AreSpelled (tokens_in (clean g)) = clean_spelled g (subst AreSpelled (sym r.leaves) (spelled_from 0 ls ruled)) in
     let nested : faults ≡ [] → nest NODE_ROOT (forget (clean g)) ≤ depth_limit = λ h. reads_nested (clean g) faults r.reads ((whole_rows stands).0 h) in
-    let strict : ended_count faults ≡ 0 → Lacks is_repeated faults → has_no_corner NODE_ROOT (mended (clean g)) ≡ true → IsExpression (mended (clean g)) = λ n r o.
-    strict_expression (mended (clean g))
-    (both_true (has_tokens_alone (mended (clean g))) (is_strict_expression (mended (clean g)))
-    (mended_tokens NODE_ROOT (clean g) (stands_told stands) spelled) (converse (clean g) faults stands spelled n r o)) in
+    let strict : ended_count faults ≡ 0 → Lacks is_repeated faults → has_no_corner NODE_ROOT (repaired (clean g)) ≡ true → IsExpression (repaired (clean g)) = λ n r o.
+    strict_expression (repaired (clean g))
+    (both_true (has_tokens_alone (repaired (clean g))) (is_strict_expression (repaired (clean g)))
+    (repaired_tokens NODE_ROOT (clean g) (stands_told stands) spelled) (converse (clean g) faults stands spelled n r o)) in
     let met : (t : Forest) → IsDerivation t (items ts) → (faults ≡ []) × (forget (clean g) ≡ t) = derivation_found (clean g) (items ts) faults r.reads (sym own) in
     record {
       reading = r;
-      told = told;
+      leaf_kind = leaf_kind;
       trimmed = trimmed;
       bare = laid_bare (clean g) g ts faults r.laid spelled stands;
       paired = errors.reports ∙ clean_reports blank g trimmed;
       named = errors.named;
-      shaped = subst (λ (t : Tree). (faults ≡ []) ↔ (IsShaped t × IsUnrepeated t)) (sym r.tree_is) (whole_shaped (clean g) g faults stands refl told nodes);
-      few_halves = whole_few stands;
-      no_halves = whole_ended stands;
+      shaped = subst (λ (t : Tree). (faults ≡ []) ↔ (IsShaped t × IsUnrepeated t)) (sym r.tree_is) (whole_shaped (clean g) g faults stands refl leaf_kind nodes);
+      few_incomplete = whole_few stands;
+      no_incomplete = whole_ended stands;
       begun = whole_begun stands;
-      last_halves = halves_last stands;
+      last_incomplete = incomplete_last stands;
       settled = errors.settled;
       between = λ h. subst AreTriviaBetween (sym r.tree_is) (trivia_between (record { kind = NODE_ROOT; children = forget g }) (nodes h));
       nested = nested;
@@ -104,7 +104,7 @@ all_follows ls tree faults ruled r =
           (record {
             tokens = sym own;
             bare = λ h. ((whole_rows stands).0 h).nodes;
-            told = stands_told stands;
+            leaf_kind = stands_told stands;
             spelled = spelled;
             nested = nested;
             strict = λ h o. strict (ap ended_count h) (subst (Lacks is_repeated) (sym h) tt) o;

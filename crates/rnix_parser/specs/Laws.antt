@@ -4,7 +4,7 @@ use Rattle.rnix_kinds.specs.Lexical.Tokens.{Lexeme, tokens_of}
 use Rattle.rnix_tree.specs.Forest.{Forest}
 use Rattle.rnix_tree.specs.Tree.{Tree}
 use Rattle.rnix_grammar.specs.Fault.{Fault}
-use Rattle.rnix_grammar.specs.Sketch.{Token, Sketch, clean}
+use Rattle.rnix_grammar.specs.AnnotatedForest.{Token, AnnotatedForest, clean}
 use Rattle.rnix_grammar.specs.Derivation.{IsDerivation}
 use Rattle.rnix_grammar.specs.Reading.{IsReading}
 use Rattle.rnix_grammar.specs.Parsed.{IsParsed}
@@ -18,8 +18,8 @@ abbrev pub OfRead : List ℕ → (Tree → List Fault → Type 0) → Type 0
 OfRead text P = (tree : Tree) (faults : List Fault) → IsReading (tokens_of text) tree faults → P tree faults
 
 -- so it is with the items and the errors of each reading
-abbrev pub OfReadings : (Sketch → List Fault → Type 0) → Type 0
-OfReadings P = (tokens : List Lexeme) (tree : Tree) (faults : List Fault) (r : IsReading tokens tree faults) → P (clean r.sketch) faults
+abbrev pub OfReadings : (AnnotatedForest → List Fault → Type 0) → Type 0
+OfReadings P = (tokens : List Lexeme) (tree : Tree) (faults : List Fault) (r : IsReading tokens tree faults) → P (clean r.annotated) faults
 
 -- two readings of some tokens are one
 abbrev pub HaveOneReading : List Lexeme → Type 0

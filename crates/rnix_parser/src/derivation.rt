@@ -1,7 +1,7 @@
 //! Derivations of the strict grammar.
 
 ghost use Rattle.rnix_kinds.specs.Lexical.Tokens.{tokens_of};
-ghost use Rattle.rnix_grammar.specs.Sketch.{placed_from};
+ghost use Rattle.rnix_grammar.specs.AnnotatedForest.{placed_from};
 ghost use Rattle.rnix_grammar.specs.Layout.{items};
 ghost use Rattle.rnix_parser.specs.Laws.{HaveOneDerivation};
 

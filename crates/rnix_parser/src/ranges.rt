@@ -1,6 +1,6 @@
 //! Errors, and the elements of a tree that they are of.
 
-ghost use Rattle.rnix_grammar.specs.Mended.{others};
+ghost use Rattle.rnix_grammar.specs.Repaired.{others};
 ghost use Rattle.rnix_grammar.specs.Ranges.{of_nodes, error_nodes, at_fault, AreErrorsOf};
 ghost use Rattle.rnix_parser.specs.Laws.{OfParsed};
 

@@ -42,7 +42,7 @@ pub fn all_follows(text: &str)
 /// Where each error node of a reading may stand and what it may not begin with, and how tightly operands bind; at most 512 counted places are
 /// inside one another, error nodes aside, and what is nested too deep is inside exactly 512.
 pub fn error_forms()
-    ensures stands { OfReadings (λ sketch faults. StandsWhole sketch faults) }
-    ensures shallow { OfReadings (λ sketch faults. depth_of (At RootStart) sketch ≤ depth_limit) }
-    ensures limited { OfReadings (λ sketch faults. AreLimited 0 (At RootStart) sketch) }
+    ensures stands { OfReadings (λ annotated faults. StandsWhole annotated faults) }
+    ensures shallow { OfReadings (λ annotated faults. depth_of (At RootStart) annotated ≤ depth_limit) }
+    ensures limited { OfReadings (λ annotated faults. AreLimited 0 (At RootStart) annotated) }
 {}

@@ -9,7 +9,7 @@ use Rattle.rnix_grammar.specs.declared.place.Place.TheVariants as p
 use Rattle.rnix_grammar.specs.declared.begin.Begin.TheVariants as b
 use Rattle.rnix_grammar.specs.Tables.{depth_limit}
 use Rattle.rnix_grammar.specs.Fault.{Fault, too_deep, ended as ended_fault}
-use Rattle.rnix_grammar.specs.Sketch.{Token, Stray, TooDeep, Sketch, head_of, end_from, blank, ◌⊕◌, one_branch, one_fault, forget}
+use Rattle.rnix_grammar.specs.AnnotatedForest.{Token, Stray, TooDeep, AnnotatedForest, head_of, end_from, blank, ◌⊕◌, one_branch, one_fault, forget}
 use Rattle.rnix_grammar.specs.Layout.{items, from_item, tail_of}
 use Rattle.rnix_grammar.specs.Reports.{report}
 use Rattle.rnix_grammar.specs.Machine.{Head, Node, Operand, Frame, put, opened, ate, leaf, leaf_in, behind, reach, end_of, machine, begun, operand_on, reading, limited, run_row, run_rest, past}
@@ -64,7 +64,7 @@ module _ (f : Frame) (fs : List Frame) (ts : List Token) (n : ℕ) (es : List Fa
   begun_operand over d = flat-operand over d f fs ts n es _ refl
 
   -- an empty row with no trivia before the next item
-  bare_row : (c : Sketch) → ate true blank us ⊕ c ≡ c
+  bare_row : (c : AnnotatedForest) → ate true blank us ⊕ c ≡ c
   bare_row c = ap (λ x. x ⊕ c) (trivia-from_item ts)
 
   same_leaf : (k : SyntaxKind) → leaf true k us ≡ leaf true k ts
@@ -77,8 +77,8 @@ module _ (f : Frame) (fs : List Frame) (ts : List Token) (n : ℕ) (es : List Fa
   same_reach = ap (end_of n) (from_item-from_item ts)
 
   -- a node over one item in an empty operand
-  leaf_there : (k : SyntaxKind) (c : Sketch → Sketch) (over : Place) (d : ℕ) (s : State) → s ≡ operand_begun over d (flat (machine (f ∷ fs) ts n es))
-      → ((x : Sketch) → forget (c x) ≡ node k (forget x) empty)
+  leaf_there : (k : SyntaxKind) (c : AnnotatedForest → AnnotatedForest) (over : Place) (d : ℕ) (s : State) → s ≡ operand_begun over d (flat (machine (f ∷ fs) ts n es))
+      → ((x : AnnotatedForest) → forget (c x) ≡ node k (forget x) empty)
       → ended (bumped k (started k s)) ≡ flat (machine (opened Operand over d (c (leaf true k ts)) ∷ (waiting ∷ fs)) (behind true ts) (reach true n ts) es)
   leaf_there k c over d s e h =
       ap (λ x. ended (bumped k (started k x))) (e ∙ begun_operand over d)
@@ -184,7 +184,7 @@ module _ (f : Frame) (fs : List Frame) (ts : List Token) (n : ℕ) (es : List Fa
   begun-bound level d t s e =
       let hs : List Frame = opened (Node NODE_LAMBDA) p.LambdaColon d blank ∷ (opened Operand (p.Behind level 16) d blank ∷ (waiting ∷ fs)) in
       let pattern : Frame = opened (Node NODE_PATTERN) p.PatternBrace d blank in
-      let name : Sketch = one_branch NODE_IDENT (leaf true NODE_IDENT ts) in
+      let name : AnnotatedForest = one_branch NODE_IDENT (leaf true NODE_IDENT ts) in
       ap (λ x. ended (bumped NODE_PAT_BIND (ended (bumped NODE_IDENT (started NODE_IDENT (started NODE_PAT_BIND x)))))) (pattern_there p.PatternBrace level d s e)
       ∙ ap (λ x. ended (bumped NODE_PAT_BIND (ended (bumped NODE_IDENT (started NODE_IDENT x))))) (inside_there _ NODE_PAT_BIND p.Past (Node NODE_PATTERN) p.PatternBrace d hs)
       ∙ ap (λ x. ended (bumped NODE_PAT_BIND x)) (name_row _ (Node NODE_PAT_BIND) p.Past d (pattern ∷ hs))

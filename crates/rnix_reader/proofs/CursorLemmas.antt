@@ -1,5 +1,5 @@
 -- The tokens from a place on.
-use Rattle.std.proofs.Common.{◌≡◌, ℕ, zero, suc, ◌+◌, ◌-◌, ◌<◌, ◌≤◌, max, Bool, true, false, List, [], ◌∷◌, ◌++◌, take, drop, length, get_or, IsUtf8, Some, refl, ap, sym, ◌∙◌, subst, arith, length-append, length-drop, drop-drop, ltb, ltb-true, ltb-false}
+use Rattle.std.proofs.Common.{◌≡◌, ℕ, zero, suc, ◌+◌, ◌-◌, ◌<◌, ◌≤◌, Bool, true, false, List, [], ◌∷◌, ◌++◌, take, drop, length, get_or, IsUtf8, Some, refl, ap, sym, ◌∙◌, subst, arith, length-append, length-drop, drop-drop}
 use Rattle.std.proofs.Math.Nat.{add-sub_cancel_left}
 use Rattle.std.proofs.Math.Seq.{take-append_seam, drop-append_seam}
 use Rattle.std.proofs.lemmas.List.{drop_all}
@@ -11,9 +11,9 @@ use Rattle.std.specs.Str.{IsCharBoundary}
 use Rattle.rnix_kinds.specs.declared.kinds.SyntaxKind.{SyntaxKind}
 use Rattle.rnix_kinds.specs.SyntaxKind.{is_trivia}
 use Rattle.rnix_kinds.specs.Lexical.Tokens.{Lexeme, AreSound, text_of}
-use Rattle.rnix_grammar.specs.Sketch.{Token, head_of, head_kind, placed_from}
+use Rattle.rnix_grammar.specs.AnnotatedForest.{Token, head_of, head_kind, placed_from}
 use Rattle.rnix_grammar.specs.Layout.{from_item, from_item_if, items, tail_of}
-use Rattle.rnix_lemmas.proofs.LayoutLemmas.{from_item-from_item, items-view, items_head}
+use Rattle.rnix_lemmas.proofs.LayoutLemmas.{items-view, items_head}
 use Rattle.rnix_reader.specs.declared.cursor.TokenEnd.{TokenEnd}
 use Rattle.rnix_reader.specs.Placed.{ends_from, token_cut, tokens_cut, start_of, AreEnds, AreInOrder}
 
@@ -28,12 +28,6 @@ pub at_place : (text : List ℕ) (n : ℕ) (ts : List TokenEnd) (i : ℕ) (d : T
 at_place text n [] i d h = absurd (omega arith)
 at_place text n (t ∷ ts) zero d h = refl
 at_place text n (t ∷ ts) (suc i) d h = at_place text t.end ts i d (omega arith)
-
--- there is a token at each place within
-token_there : (text : List ℕ) (n : ℕ) (ts : List TokenEnd) (i : ℕ) → i < length ts → (t : Token) × (drop i (tokens_cut text n ts) ≡ t ∷ drop (suc i) (tokens_cut text n ts))
-token_there text n [] i h = absurd (omega arith)
-token_there text n (t ∷ ts) zero h = (token_cut text n t, refl)
-token_there text n (t ∷ ts) (suc i) h = token_there text t.end ts i (omega arith)
 
 -- no token is behind the last
 pub behind_all : (text : List ℕ) (ts : List TokenEnd) (i : ℕ) → length ts ≤ i → drop i (tokens_cut text 0 ts) ≡ []
@@ -116,31 +110,53 @@ from_trivia ts t more e h = ap from_item e ∙ ap (λ x. from_item_if x t more (
 pub at_item : (ts : List Token) (t : Token) (more : List Token) → ts ≡ t ∷ more → is_trivia t.kind ≡ false → from_item ts ≡ ts
 at_item ts t more e h = ap from_item e ∙ ap (λ x. from_item_if x t more (from_item more)) h ∙ sym e
 
--- where the next item is once a token is passed
-behind_first : (ts : List Token) (at next : ℕ) (t : Token) (more : List Token) → at < length ts → drop at ts ≡ t ∷ more → from_item (drop at ts) ≡ drop next ts → at < next
-    → (b : Bool) → is_trivia t.kind ≡ b → from_item (drop next ts) ≡ from_item more
-behind_first ts at next t more h d f n true e = ap from_item (sym f) ∙ from_item-from_item (drop at ts) ∙ from_trivia (drop at ts) t more d e
-behind_first ts at next t more h d f n false e =
-    let same : drop at ts ≡ drop next ts = sym (at_item (drop at ts) t more d e) ∙ f in
-    let lengths : length (drop at ts) ≡ length (drop next ts) = ap length same in
-    absurd (omega (arith, length-drop at ts, length-drop next ts))
+-- all but the first of the tokens that are left
+pub tail-drop : (i : ℕ) (ts : List Token) → tail_of (drop i ts) ≡ drop (suc i) ts
+tail-drop zero [] = refl
+tail-drop zero (t ∷ ts) = refl
+tail-drop (suc i) [] = refl
+tail-drop (suc i) (t ∷ ts) = tail-drop i ts
 
--- where the next item stands, by the places in the list
-pub next_item : (text : List ℕ) (ts : List TokenEnd) (at next : ℕ) → at < length ts → from_item (drop at (tokens_cut text 0 ts)) ≡ drop next (tokens_cut text 0 ts)
-    → from_item (drop (max next (suc at)) (tokens_cut text 0 ts)) ≡ from_item (drop (suc at) (tokens_cut text 0 ts))
-next_item text ts at next h f = by (ltb at next) refl
+-- no more tokens are left from the first item on
+from_item-shorter : (ts : List Token) → length (from_item ts) ≤ length ts
+from_item-shorter [] = omega arith
+from_item-shorter (t ∷ ts) =
+    let more = from_item-shorter ts in
+    elim (is_trivia t.kind) as (λ b. length (from_item_if b t ts (from_item ts)) ≤ length (t ∷ ts)) [ true ↦ omega (arith, more) | false ↦ omega arith ]
+
+-- before the next item stands trivia
+pub before_item : (ts : List Token) (at next : ℕ) (t : Token) (more : List Token) → drop at ts ≡ t ∷ more → from_item (drop at ts) ≡ drop next ts → at < next → is_trivia t.kind ≡ true
+before_item ts at next t more d f n = by (is_trivia t.kind) refl
   where
-    by : (b : Bool) → ltb at next ≡ b → from_item (drop (max next (suc at)) (tokens_cut text 0 ts)) ≡ from_item (drop (suc at) (tokens_cut text 0 ts))
-    by true e =
-        let less : at < next = ltb-true at next e in
-        let m : max next (suc at) ≡ next = omega arith in
-        let w = token_there text 0 ts at h in
-        ap (λ x. from_item (drop x (tokens_cut text 0 ts))) m
-        ∙ behind_first (tokens_cut text 0 ts) at next w.0 (drop (suc at) (tokens_cut text 0 ts)) (omega (arith, length-tokens_cut text 0 ts)) w.1 f less (is_trivia w.0.kind) refl
+    by : (b : Bool) → is_trivia t.kind ≡ b → is_trivia t.kind ≡ true
+    by true e = e
     by false e =
-        let less : next ≤ at = ltb-false at next e in
-        let m : max next (suc at) ≡ suc at = omega arith in
-        ap (λ x. from_item (drop x (tokens_cut text 0 ts))) m
+        let same : drop at ts ≡ drop next ts = sym (at_item (drop at ts) t more d e) ∙ f in
+        absurd (omega (arith, ap length same, ap length d, length-drop at ts, length-drop next ts))
+
+-- at the next item, and behind all tokens, no trivia stands
+pub at_next_item : (ts : List Token) (at next : ℕ) → from_item (drop at ts) ≡ drop next ts → next ≤ at → from_item (drop at ts) ≡ drop at ts
+at_next_item ts at next f n = by (drop at ts) refl
+  where
+    by : (us : List Token) → drop at ts ≡ us → from_item us ≡ us
+    by [] e = refl
+    by (t ∷ us) e = advance (is_trivia t.kind) refl
+      where
+        advance : (b : Bool) → is_trivia t.kind ≡ b → from_item (t ∷ us) ≡ t ∷ us
+        advance true i =
+            let found : from_item us ≡ drop next ts = sym (from_trivia (t ∷ us) t us refl i) ∙ ap from_item (sym e) ∙ f in
+            absurd (omega (arith, from_item-shorter us, ap length found, ap length e, length-drop at ts, length-drop next ts))
+        advance false i = at_item (t ∷ us) t us refl i
+
+-- where the next item stands, it stands once a token before it is passed
+pub item_kept : (ts : List Token) (at next : ℕ) → at < length ts → from_item (drop at ts) ≡ drop next ts → suc at ≤ next → from_item (drop (suc at) ts) ≡ drop next ts
+item_kept ts at next h f n = by (drop at ts) refl
+  where
+    by : (us : List Token) → drop at ts ≡ us → from_item (drop (suc at) ts) ≡ drop next ts
+    by [] e = absurd (omega (arith, ap length e, length-drop at ts))
+    by (t ∷ us) e =
+        let rest : us ≡ drop (suc at) ts = sym (ap tail_of e) ∙ tail-drop at ts in
+        sym (ap from_item rest) ∙ sym (from_trivia (drop at ts) t us e (before_item ts at next t us e f n)) ∙ f
 
 -- the tokens of a text are in order
 pub cut_in_order : (text : List ℕ) (n : ℕ) (ts : List TokenEnd) → AreEnds text n ts → AreInOrder n (tokens_cut text n ts)
@@ -157,13 +173,6 @@ pub in_order_drop : (n i : ℕ) (ts : List Token) → AreInOrder n ts → AreInO
 in_order_drop n zero ts o = o
 in_order_drop n (suc i) [] o = o
 in_order_drop n (suc i) (t ∷ ts) o = in_order_drop n i ts (in_order_from n t.end ts (omega (arith, o.0, o.1)) o.2)
-
--- all but the first of the tokens that are left
-pub tail-drop : (i : ℕ) (ts : List Token) → tail_of (drop i ts) ≡ drop (suc i) ts
-tail-drop zero [] = refl
-tail-drop zero (t ∷ ts) = refl
-tail-drop (suc i) [] = refl
-tail-drop (suc i) (t ∷ ts) = tail-drop i ts
 
 -- the kind of the first item, by the tokens from it on
 pub head_item : (ts : List Token) → head_kind (items ts) ≡ head_kind (from_item ts)

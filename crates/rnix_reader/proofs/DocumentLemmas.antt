@@ -8,7 +8,7 @@ use Rattle.rnix_tree.specs.Tree.{Tree, forest_of}
 use Rattle.rnix_grammar.specs.declared.error.ParseError.{ParseError}
 use Rattle.rnix_grammar.specs.declared.place.Place.TheVariants as p
 use Rattle.rnix_grammar.specs.Fault.{fault_of}
-use Rattle.rnix_grammar.specs.Sketch.{Token, placed_from, forget}
+use Rattle.rnix_grammar.specs.AnnotatedForest.{Token, placed_from, forget}
 use Rattle.rnix_grammar.specs.Machine.{begins, ate, Runs}
 use Rattle.rnix_reader.specs.declared.mark.Mark.{Mark}
 use Rattle.rnix_reader.specs.State.{State, marked}

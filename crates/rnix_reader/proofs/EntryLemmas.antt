@@ -3,7 +3,7 @@ use Rattle.std.proofs.Common.{◌≡◌, ℕ, Bool, true, false, List, [], ◌�
 use Rattle.rnix_kinds.specs.declared.kinds.SyntaxKind.TheVariants.{NODE_PATTERN, NODE_PAT_ENTRY}
 use Rattle.rnix_grammar.specs.declared.action.Action.TheVariants as a
 use Rattle.rnix_grammar.specs.Fault.{Fault, named_twice}
-use Rattle.rnix_grammar.specs.Sketch.{Token, Sketch, ◌⊕◌, clean, extent_of}
+use Rattle.rnix_grammar.specs.AnnotatedForest.{Token, AnnotatedForest, ◌⊕◌, clean, extent_of}
 use Rattle.rnix_grammar.specs.Reports.{has_entry, repeated_if}
 use Rattle.rnix_grammar.specs.Machine.{Head, Node, Second, Operand, Frame, Machine, put, made, closed, perform}
 use Rattle.rnix_reader.specs.declared.mark.Mark.{Mark}
@@ -64,18 +64,18 @@ told_once true e f g fs ts n es = flat-failed _ e (put g.place (g.row ⊕ made f
 told_once false e f g fs ts n es = ap (λ x. flat (closed f (g ∷ fs) ts n x)) (sym (append-nil es))
 
 -- an entry has no set of its own
-pub known_entry : (h : Head) (row : Sketch) (sets : List NameSet) (More : List NameSet → Type 0) → h ≡ Node NODE_PAT_ENTRY → KnownOn h row sets More → More sets
+pub known_entry : (h : Head) (row : AnnotatedForest) (sets : List NameSet) (More : List NameSet → Type 0) → h ≡ Node NODE_PAT_ENTRY → KnownOn h row sets More → More sets
 known_entry h row sets More e k = subst (λ x. KnownOn x row sets More) e k
 
 -- a pattern has the last of the sets
-pub known_pattern : (h : Head) (row : Sketch) (sets : List NameSet) (More : List NameSet → Type 0) → h ≡ Node NODE_PATTERN → KnownOn h row sets More → Tops sets row More
+pub known_pattern : (h : Head) (row : AnnotatedForest) (sets : List NameSet) (More : List NameSet → Type 0) → h ≡ Node NODE_PATTERN → KnownOn h row sets More → Tops sets row More
 known_pattern h row sets More e k = subst (λ x. KnownOn x row sets More) e k
 
 -- an entry is complete
 pub done_entry : (f : Frame) (fs : List Frame) (ts : List Token) (n : ℕ) (m : Machine) (mark : Mark) (s : State) (names names' : Names) (s' : State) → Holding f fs ts n m mark s names
     → sort_of f.place ≡ Entry → EntryTold s names s' names' → s' ≡ flat (perform true a.CloseEntry f fs ts n m.faults)
-done_entry f [] ts n m mark s names names' s' h e told = absurd (true_is_not_false (sym (ap is_root h.well.fit.1) ∙ ap is_root e))
-done_entry f (g ∷ fs) ts n m mark s names names' s' h e told =
+done_entry f [] ts n m mark s names names' s' h e leaf_kind = absurd (true_is_not_false (sym (ap is_root h.well.fit.1) ∙ ap is_root e))
+done_entry f (g ∷ fs) ts n m mark s names names' s' h e leaf_kind =
     let st = stands_of f (g ∷ fs) ts n m mark s names h in
     let entry : f.head ≡ Node NODE_PAT_ENTRY = head_entry f.head (st.sort ∙ e) in
     let below : sort_of g.place ≡ Pattern = holds_entry (sort_of g.place) (ap (may_hold (sort_of g.place)) (sym e) ∙ h.well.fit.1) in
@@ -87,10 +87,10 @@ done_entry f (g ∷ fs) ts n m mark s names names' s' h e told =
     let named : name_of f.head f.row ≡ Some t = ap (λ x. name_of x f.row) entry ∙ begun.1 in
     let texts : texts_of names ≡ entries_of (g ∷ fs) ++ t.text ∷ [] = h.named.texts ∙ ap (λ x. entries_of (g ∷ fs) ++ text_of x) named in
     let ranges : extents_of names ≡ ranges_of (g ∷ fs) ++ extent_of (t ∷ []) ∷ [] = h.named.ranges ∙ ap (λ x. ranges_of (g ∷ fs) ++ range_of x) named in
-    let done = told.closed.entered (entries_of (g ∷ fs)) t.text (ranges_of (g ∷ fs)) (extent_of (t ∷ [])) tops.below tops.set texts ranges tops.all in
+    let done = leaf_kind.closed.entered (entries_of (g ∷ fs)) t.text (ranges_of (g ∷ fs)) (extent_of (t ∷ [])) tops.below tops.set texts ranges tops.all in
     let fault : Fault = named_twice (extent_of (t ∷ [])) t.text in
-    let again : told.again ≡ (if has_entry t.text (clean g.row) then Some fault else None) = done.3 ∙ ap (λ x. if x then Some fault else None) (tops.is t.text) in
+    let again : leaf_kind.again ≡ (if has_entry t.text (clean g.row) then Some fault else None) = done.3 ∙ ap (λ x. if x then Some fault else None) (tops.is t.text) in
     let closes : ended s ≡ flat (closed f (g ∷ fs) ts n m.faults) = done_node f (g ∷ fs) ts n m.faults mark s st h.well.fit (ap is_node e) (ap is_root e) in
-    told.state ∙ ap (λ x. told_of x (ended s)) again ∙ ap (told_of (if has_entry t.text (clean g.row) then Some fault else None)) closes
+    leaf_kind.state ∙ ap (λ x. told_of x (ended s)) again ∙ ap (told_of (if has_entry t.text (clean g.row) then Some fault else None)) closes
     ∙ told_once (has_entry t.text (clean g.row)) fault f g fs ts n m.faults
     ∙ ap (λ x. flat (closed f (g ∷ fs) ts n (m.faults ++ repeated_if x (clean g.row)))) (sym begun.1)

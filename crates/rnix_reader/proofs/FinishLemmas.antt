@@ -6,7 +6,7 @@ use Rattle.rnix_tree.specs.Draft.{wrapped-join}
 use Rattle.rnix_grammar.specs.declared.place.Place.{Place}
 use Rattle.rnix_grammar.specs.declared.place.Place.TheVariants as p
 use Rattle.rnix_grammar.specs.Fault.{Fault}
-use Rattle.rnix_grammar.specs.Sketch.{Token, Sketch, forget, head_kind}
+use Rattle.rnix_grammar.specs.AnnotatedForest.{Token, AnnotatedForest, forget, head_kind}
 use Rattle.rnix_grammar.specs.Layout.{items, from_item}
 use Rattle.rnix_grammar.specs.Machine.{Head, Node, Frame, Machine, machine, begins, opened, ate, Runs}
 use Rattle.rnix_lemmas.proofs.PlaceLemmas.{head_root, root_alone}
@@ -26,7 +26,7 @@ true_is_not_false : true ≡ false → ⊥
 true_is_not_false e = cc
 
 -- the root over all trees
-root_ended : (h : Head) (place : Place) (d : ℕ) (row : Sketch) (ms : List Mark) (ts : List Token) (n : ℕ) (es : List Fault) → h ≡ Node NODE_ROOT
+root_ended : (h : Head) (place : Place) (d : ℕ) (row : AnnotatedForest) (ms : List Mark) (ts : List Token) (n : ℕ) (es : List Fault) → h ≡ Node NODE_ROOT
     → ended (flat_with ms (machine (opened h place d row ∷ []) ts n es))
     ≡ (let y : State = record { rest = ts; trees = node NODE_ROOT (forget row) empty; open_nodes = []; faults = es; reached = n; marks = ms } in y)
 unfolding ended
@@ -48,7 +48,7 @@ finished f fs ts n m mark s names h al start runs s2 e =
     let none : fs ≡ [] = root_alone f.head f.place fs (fit_stands f fs h.well.fit) root in
     let head : f.head ≡ Node NODE_ROOT = head_root f.head (st.sort ∙ root) in
     let left : m.left ≡ ts = ap (λ x. x.left) h.machine_is in
-    let row : Sketch = ate true f.row ts in
+    let row : AnnotatedForest = ate true f.row ts in
     let whole : s ≡ flat_with [] (machine (f ∷ []) ts n m.faults) = st.state ∙ ap (λ x. popped (machine (f ∷ x) ts n m.faults)) none in
     let state : s2 ≡ (let y : State = record { rest = from_item ts; trees = node NODE_ROOT (forget row) empty; open_nodes = []; faults = m.faults; reached = n; marks = [] } in y) =
     e ∙ ap (λ x. ended (eaten x)) whole ∙ ap ended (flat-eaten [] f [] ts n m.faults) ∙ root_ended f.head f.place f.depth row [] (from_item ts) n m.faults head in

@@ -8,25 +8,25 @@ use Rattle.rnix_tree.specs.ForestCode.{join_empty}
 use Rattle.rnix_tree.proofs.ForestLemmas.{join_assoc}
 use Rattle.rnix_grammar.specs.declared.place.Place.{Place}
 use Rattle.rnix_grammar.specs.Fault.{Fault}
-use Rattle.rnix_grammar.specs.Sketch.{Token, Note, Twice, Sketch, blank, ◌⊕◌, one_branch, one_fault, row_of, forget, end_from}
+use Rattle.rnix_grammar.specs.AnnotatedForest.{Token, Note, Twice, AnnotatedForest, blank, ◌⊕◌, one_branch, one_fault, row_of, forget, end_from}
 use Rattle.rnix_grammar.specs.Layout.{from_item, trivia_before, tail_of, dressed}
 use Rattle.rnix_grammar.specs.Machine.{Node, Second, Operand, Frame, put, opened, ate, leaf, leaf_in, behind, reach, end_of, run_row, run_rest, machine, closed}
 use Rattle.rnix_lemmas.proofs.LayoutLemmas.{trivia-from_item, from_item-from_item}
-use Rattle.rnix_lemmas.proofs.SketchLemmas.{forget-⊕}
+use Rattle.rnix_lemmas.proofs.AnnotatedForestLemmas.{forget-⊕}
 use Rattle.rnix_reader.specs.declared.mark.Mark.{Mark}
 use Rattle.rnix_reader.specs.State.{eaten, bumped, skipped, started, started_at, ended, failed, marked}
 use Rattle.rnix_reader.specs.Flat.{trees_of, nodes_of, marks_of, mark_at, flat, flat_with, popped, opened_on}
 use Rattle.rnix_reader.proofs.StateLemmas.{state_is}
 
 -- more in a row
-grown : (t : Forest) (a b : Sketch) → join (join t (forget a)) (forget b) ≡ join t (forget (a ⊕ b))
+grown : (t : Forest) (a b : AnnotatedForest) → join (join t (forget a)) (forget b) ≡ join t (forget (a ⊕ b))
 grown t a b = join_assoc t (forget a) (forget b) ∙ ap (join t) (sym (forget-⊕ a b))
 
-grown_twice : (t : Forest) (a b c : Sketch) → join (join (join t (forget a)) (forget b)) (forget c) ≡ join t (forget (a ⊕ b ⊕ c))
+grown_twice : (t : Forest) (a b c : AnnotatedForest) → join (join (join t (forget a)) (forget b)) (forget c) ≡ join t (forget (a ⊕ b ⊕ c))
 grown_twice t a b c = ap (λ x. join x (forget c)) (grown t a b) ∙ grown t (a ⊕ b) c
 
 -- a node behind a row
-noded : (k : SyntaxKind) (w : Forest) (t : Forest) (a : Sketch) → wrapped k (tree_count (join t (forget a))) (join (join t (forget a)) w) ≡ join (join t (forget a)) (node k w empty)
+noded : (k : SyntaxKind) (w : Forest) (t : Forest) (a : AnnotatedForest) → wrapped k (tree_count (join t (forget a))) (join (join t (forget a)) w) ≡ join (join t (forget a)) (node k w empty)
 noded k w t a = wrapped-join k (join t (forget a)) w
 
 -- the trivia before the next item go to the innermost frame
@@ -87,7 +87,7 @@ flat-started ms k inside d f fs ts n es =
     state_is refl (g ∙ sym (join_empty (join (trees_of fs) (forget (f.row ⊕ trivia_before ts))))) (ap (λ x. (k, x) ∷ nodes_of (f ∷ fs)) here) refl refl refl
 
 -- a node over the next item
-pub flat-leaf : (ms : List Mark) (k : SyntaxKind) (c : Sketch) (f : Frame) (fs : List Frame) (ts : List Token) (n : ℕ) (es : List Fault) → forget c ≡ node k (forget (leaf true k ts)) empty
+pub flat-leaf : (ms : List Mark) (k : SyntaxKind) (c : AnnotatedForest) (f : Frame) (fs : List Frame) (ts : List Token) (n : ℕ) (es : List Fault) → forget c ≡ node k (forget (leaf true k ts)) empty
     → ended (bumped k (started k (flat_with ms (machine (f ∷ fs) ts n es)))) ≡ flat_with ms (machine (put f.place (ate true f.row ts ⊕ c) f ∷ fs) (behind true ts) (reach true n ts) es)
 unfolding ended bumped started started_at eaten
 flat-leaf ms k c f fs ts n es h =

@@ -1,18 +1,17 @@
 -- Each step of the machine keeps its frames fit, its tokens in order and the names known.
-use Rattle.std.proofs.Common.{◌≡◌, ℕ, suc, Bool, true, false, List, [], ◌∷◌, ◌++◌, Option, Some, None, refl, ap, sym, ◌∙◌, subst, if◌then◌else◌, ◌&&◌, nat_le, nat_eq}
+use Rattle.std.proofs.Common.{◌≡◌, ℕ, suc, Bool, true, false, List, [], ◌∷◌, ◌++◌, Option, refl, ap, sym, ◌∙◌, subst, if◌then◌else◌, ◌&&◌, nat_le}
 use Rattle.rnix_kinds.specs.declared.kinds.SyntaxKind.{SyntaxKind}
-use Rattle.rnix_kinds.specs.declared.kinds.SyntaxKind.TheVariants.{TOKEN_COLON, TOKEN_AT, TOKEN_IDENT, TOKEN_L_BRACE, TOKEN_INVERT, TOKEN_SUB, TOKEN_LET, TOKEN_WITH, TOKEN_ASSERT, TOKEN_IF, NODE_ERROR, NODE_IDENT, NODE_LAMBDA, NODE_PATTERN, NODE_PAT_BIND, NODE_IDENT_PARAM, NODE_LEGACY_LET}
+use Rattle.rnix_kinds.specs.declared.kinds.SyntaxKind.TheVariants.{NODE_ERROR, NODE_IDENT, NODE_LAMBDA, NODE_PATTERN, NODE_PAT_BIND, NODE_IDENT_PARAM, NODE_LEGACY_LET}
 use Rattle.rnix_grammar.specs.declared.place.Place.TheVariants as p
 use Rattle.rnix_grammar.specs.declared.begin.Begin.{Begin}
 use Rattle.rnix_grammar.specs.declared.begin.Begin.TheVariants as b
 use Rattle.rnix_grammar.specs.Fault.{Fault, too_deep}
-use Rattle.rnix_grammar.specs.Tables.{is_cur_pos, depth_limit}
-use Rattle.rnix_grammar.specs.Begins.{is_pattern, begin_name, begin_let, begin_of}
-use Rattle.rnix_grammar.specs.Sketch.{Token, Stray, TooDeep, Sketch, blank, ◌⊕◌, one_branch, one_fault, head_kind, end_from}
+use Rattle.rnix_grammar.specs.Tables.{depth_limit}
+use Rattle.rnix_grammar.specs.Begins.{begin_of}
+use Rattle.rnix_grammar.specs.AnnotatedForest.{Token, Stray, TooDeep, AnnotatedForest, blank, ◌⊕◌, one_branch, one_fault, head_kind, end_from}
 use Rattle.rnix_grammar.specs.Layout.{items, from_item}
 use Rattle.rnix_grammar.specs.Machine.{Head, Node, Second, Operand, Frame, Machine, put, opened, ate, leaf, behind, reach, run_row, run_rest, made, machine, closed, limited, begun, operand_on, reading}
 use Rattle.rnix_grammar.specs.Begins.{second_kind}
-use Rattle.rnix_lemmas.proofs.Basics.{choice}
 use Rattle.rnix_lemmas.proofs.PlaceLemmas.{BeginsInner, begin_inner}
 use Rattle.rnix_reader.specs.declared.names.Names.{Names}
 use Rattle.rnix_reader.specs.Placed.{AreInOrder}
@@ -46,12 +45,12 @@ goes f fs ts n es names w e i o = record {
 }
 
 -- what is no second name
-open_ends : (n : ℕ) (h : Head) (row : Sketch) → is_open (sort_of_head h) ≡ true → EndsAt n h row
+open_ends : (n : ℕ) (h : Head) (row : AnnotatedForest) → is_open (sort_of_head h) ≡ true → EndsAt n h row
 open_ends n (Node k) row e = tt
 open_ends n Second row e = absurd (true_is_not_false (sym e))
 open_ends n Operand row e = tt
 
-open_begins : (n : ℕ) (h : Head) (row : Sketch) → is_open (sort_of_head h) ≡ true → BeginsAt n h row
+open_begins : (n : ℕ) (h : Head) (row : AnnotatedForest) → is_open (sort_of_head h) ≡ true → BeginsAt n h row
 open_begins n (Node k) row e = tt
 open_begins n Second row e = absurd (true_is_not_false (sym e))
 open_begins n Operand row e = tt
@@ -111,7 +110,7 @@ begun_goes b.LegacyLet level d t f fs ts n es names names' fit w m o e =
     let g : Frame = put f.place (ate true f.row ts) f in
     let waits : Kept g fs names = grow_trivia f fs names f.place ts refl w in
     let over : Frame = opened Operand (p.Behind level 0) d blank in
-    let row : Sketch = ate true (leaf true NODE_LEGACY_LET ts) (behind true ts) ⊕ leaf true NODE_LEGACY_LET (behind true ts) in
+    let row : AnnotatedForest = ate true (leaf true NODE_LEGACY_LET ts) (behind true ts) ⊕ leaf true NODE_LEGACY_LET (behind true ts) in
     same_names (begun true b.LegacyLet level d t f fs ts n es) names names' e
     (goes_open (opened (Node NODE_LEGACY_LET) p.LegacyInside d row) (over ∷ (g ∷ fs)) (behind true (behind true ts)) (reach true (reach true n ts) (behind true ts)) es names refl
     (push_node over (g ∷ fs) names NODE_LEGACY_LET p.LegacyInside d row refl refl refl (push_operand g fs names level 0 d blank m waits))
@@ -120,7 +119,7 @@ begun_goes b.NameLambda level d t f fs ts n es names names' fit w m o e =
     let g : Frame = put f.place (ate true f.row ts) f in
     let waits : Kept g fs names = grow_trivia f fs names f.place ts refl w in
     let over : Frame = opened Operand (p.Behind level 16) d blank in
-    let row : Sketch = one_branch NODE_IDENT_PARAM (one_branch NODE_IDENT (leaf true NODE_IDENT ts)) in
+    let row : AnnotatedForest = one_branch NODE_IDENT_PARAM (one_branch NODE_IDENT (leaf true NODE_IDENT ts)) in
     same_names (begun true b.NameLambda level d t f fs ts n es) names names' e
     (goes_open (opened (Node NODE_LAMBDA) p.LambdaColon d row) (over ∷ (g ∷ fs)) (behind true ts) (reach true n ts) es names refl
     (push_node over (g ∷ fs) names NODE_LAMBDA p.LambdaColon d row refl refl refl (push_operand g fs names level 16 d blank m waits)) (order_behind n ts o))
@@ -129,7 +128,7 @@ begun_goes b.BoundLambda level d t f fs ts n es names names' fit w m o e =
     let waits : Kept g fs names = grow_trivia f fs names f.place ts refl w in
     let over : Frame = opened Operand (p.Behind level 16) d blank in
     let function : Frame = opened (Node NODE_LAMBDA) p.LambdaColon d blank in
-    let row : Sketch = one_branch NODE_PAT_BIND (ate true (one_branch NODE_IDENT (leaf true NODE_IDENT ts)) (behind true ts) ⊕ leaf true NODE_PAT_BIND (behind true ts)) in
+    let row : AnnotatedForest = one_branch NODE_PAT_BIND (ate true (one_branch NODE_IDENT (leaf true NODE_IDENT ts)) (behind true ts) ⊕ leaf true NODE_PAT_BIND (behind true ts)) in
     goes_open (opened (Node NODE_PATTERN) p.PatternBrace d row) (function ∷ (over ∷ (g ∷ fs))) (behind true (behind true ts)) (reach true (reach true n ts) (behind true ts)) es names' refl
     (push_pattern function (over ∷ (g ∷ fs)) names names' p.PatternBrace d row refl refl (λ name. refl) e
     (push_node over (g ∷ fs) names NODE_LAMBDA p.LambdaColon d blank refl refl refl (push_operand g fs names level 16 d blank m waits)))
@@ -163,7 +162,7 @@ limited_goes : (f : Frame) (fs : List Frame) (ts : List Token) (n : ℕ) (es : L
     → Goes (limited true f fs ts n es) names
 limited_goes f fs ts n es names w m o =
     let left : List Token = run_rest true (items ts) ts in
-    let fault : Sketch = one_fault TooDeep (run_row true (items ts) ts) in
+    let fault : AnnotatedForest = one_fault TooDeep (run_row true (items ts) ts) in
     let g : Frame = put f.place (ate true f.row ts ⊕ fault) f in
     let all = order_all n ts o in
     goes_open (put f.place (ate true g.row left) f) fs (from_item left) (end_from n (items ts)) (es ++ too_deep ∷ []) names (holds_open (sort_of f.place) Loose m)

@@ -6,7 +6,7 @@ use Rattle.rnix_kinds.specs.declared.kinds.SyntaxKind.TheVariants.{NODE_PATTERN,
 use Rattle.rnix_grammar.specs.declared.place.Place.{Place}
 use Rattle.rnix_grammar.specs.declared.place.Place.TheVariants as p
 use Rattle.rnix_grammar.specs.Fault.{Fault}
-use Rattle.rnix_grammar.specs.Sketch.{Token, Sketch, ◌⊕◌, clean, extent_of}
+use Rattle.rnix_grammar.specs.AnnotatedForest.{Token, AnnotatedForest, ◌⊕◌, clean, extent_of}
 use Rattle.rnix_grammar.specs.Layout.{trivia_before}
 use Rattle.rnix_grammar.specs.Reports.{entry_name}
 use Rattle.rnix_grammar.specs.Machine.{Head, Node, Second, Operand, Frame, put, opened, ate, made}
@@ -41,13 +41,13 @@ fit_whole : (f : Frame) (fs : List Frame) → IsFit f → Under (sort_of f.place
 fit_whole f [] w u = (w, u)
 fit_whole f (g ∷ fs) w u = (w, u.0, u.1)
 
-fit_grown : (f : Frame) (fs : List Frame) (after : Place) (g : Sketch) → sort_of after ≡ sort_of f.place → AreFit f fs → AreFit (put after (f.row ⊕ g) f) fs
+fit_grown : (f : Frame) (fs : List Frame) (after : Place) (g : AnnotatedForest) → sort_of after ≡ sort_of f.place → AreFit f fs → AreFit (put after (f.row ⊕ g) f) fs
 fit_grown f fs after g e w =
     let parts = fit_parts f fs w in
     fit_whole (put after (f.row ⊕ g) f) fs (record { sort = parts.0.sort ∙ sym e; begun = begun_more f.head f.row g parts.0.begun }) (subst (λ x. Under x fs) (sym e) parts.1)
 
 -- a row grows at its end
-pub grow : (f : Frame) (fs : List Frame) (names : Names) (after : Place) (g : Sketch) → sort_of after ≡ sort_of f.place
+pub grow : (f : Frame) (fs : List Frame) (names : Names) (after : Place) (g : AnnotatedForest) → sort_of after ≡ sort_of f.place
     → (is_pattern_sort (sort_of_head f.head) ≡ true → HasNoEntry g) → Kept f fs names → Kept (put after (f.row ⊕ g) f) fs names
 grow f fs names after g e q w =
     let same = name_more f.head f.row g (fit_first f fs w.fit).begun in
@@ -75,7 +75,7 @@ pub grow_trivia : (f : Frame) (fs : List Frame) (names : Names) (after : Place) 
 grow_trivia f fs names after ts e w = grow f fs names after (trivia_before ts) e (λ q. no_entry_trivia ts) w
 
 -- and by more behind them
-pub grow_behind : (f : Frame) (fs : List Frame) (names : Names) (after : Place) (ts : List Token) (g : Sketch) → sort_of after ≡ sort_of f.place
+pub grow_behind : (f : Frame) (fs : List Frame) (names : Names) (after : Place) (ts : List Token) (g : AnnotatedForest) → sort_of after ≡ sort_of f.place
     → (is_pattern_sort (sort_of_head f.head) ≡ true → HasNoEntry g) → Kept f fs names → Kept (put after (ate true f.row ts ⊕ g) f) fs names
 grow_behind f fs names after ts g e q w =
     grow (put after (ate true f.row ts) f) fs names after g refl q (grow_trivia f fs names after ts e w)
@@ -86,30 +86,30 @@ is_bare Pattern = false
 is_bare Entry = false
 is_bare s = true
 
-bare_known : (h : Head) (row : Sketch) (sets : List NameSet) (More : List NameSet → Type 0) → is_bare (sort_of_head h) ≡ true → More sets → KnownOn h row sets More
+bare_known : (h : Head) (row : AnnotatedForest) (sets : List NameSet) (More : List NameSet → Type 0) → is_bare (sort_of_head h) ≡ true → More sets → KnownOn h row sets More
 bare_known (Node NODE_PATTERN) row sets More e m = absurd (true_is_not_false (sym e))
 bare_known (Node k) row sets More e m = m
 bare_known Second row sets More e m = m
 bare_known Operand row sets More e m = m
 
-bare_back : (h : Head) (row : Sketch) (sets : List NameSet) (More : List NameSet → Type 0) → is_bare (sort_of_head h) ≡ true → KnownOn h row sets More → More sets
+bare_back : (h : Head) (row : AnnotatedForest) (sets : List NameSet) (More : List NameSet → Type 0) → is_bare (sort_of_head h) ≡ true → KnownOn h row sets More → More sets
 bare_back (Node NODE_PATTERN) row sets More e m = absurd (true_is_not_false (sym e))
 bare_back (Node k) row sets More e m = m
 bare_back Second row sets More e m = m
 bare_back Operand row sets More e m = m
 
-bare_name : (h : Head) (row : Sketch) → is_bare (sort_of_head h) ≡ true → name_of h row ≡ None
+bare_name : (h : Head) (row : AnnotatedForest) → is_bare (sort_of_head h) ≡ true → name_of h row ≡ None
 bare_name (Node NODE_PAT_ENTRY) row e = absurd (true_is_not_false (sym e))
 bare_name (Node k) row e = refl
 bare_name Second row e = refl
 bare_name Operand row e = refl
 
-node_begun : (k : SyntaxKind) (row : Sketch) → is_bare (sort_of_node k) ≡ true → IsBegun (Node k) row
+node_begun : (k : SyntaxKind) (row : AnnotatedForest) → is_bare (sort_of_node k) ≡ true → IsBegun (Node k) row
 node_begun NODE_PAT_ENTRY row e = absurd (true_is_not_false (sym e))
 node_begun k row e = tt
 
 -- a frame on others
-push : (f : Frame) (fs : List Frame) (names : Names) (h : Head) (place : Place) (d : ℕ) (row : Sketch) → sort_of_head h ≡ sort_of place → is_bare (sort_of_head h) ≡ true
+push : (f : Frame) (fs : List Frame) (names : Names) (h : Head) (place : Place) (d : ℕ) (row : AnnotatedForest) → sort_of_head h ≡ sort_of place → is_bare (sort_of_head h) ≡ true
     → may_hold (sort_of f.place) (sort_of place) ≡ true → IsBegun h row → Kept f fs names → Kept (opened h place d row) (f ∷ fs) names
 push f fs names h place d row s b m i w = record {
   fit = (record { sort = s; begun = i }, m, w.fit);
@@ -119,23 +119,23 @@ push f fs names h place d row s b m i w = record {
 }
 
 -- a node is opened above a frame
-pub push_node : (f : Frame) (fs : List Frame) (names : Names) (k : SyntaxKind) (place : Place) (d : ℕ) (row : Sketch) → sort_of_node k ≡ Plain → sort_of place ≡ Plain
+pub push_node : (f : Frame) (fs : List Frame) (names : Names) (k : SyntaxKind) (place : Place) (d : ℕ) (row : AnnotatedForest) → sort_of_node k ≡ Plain → sort_of place ≡ Plain
     → may_hold (sort_of f.place) Plain ≡ true → Kept f fs names → Kept (opened (Node k) place d row) (f ∷ fs) names
 push_node f fs names k place d row s e m w =
     push f fs names (Node k) place d row (s ∙ sym e) (ap is_bare s) (ap (may_hold (sort_of f.place)) e ∙ m) (node_begun k row (ap is_bare s)) w
 
 -- an operand is opened
-pub push_operand : (f : Frame) (fs : List Frame) (names : Names) (low high d : ℕ) (row : Sketch) → may_hold (sort_of f.place) Loose ≡ true → Kept f fs names
+pub push_operand : (f : Frame) (fs : List Frame) (names : Names) (low high d : ℕ) (row : AnnotatedForest) → may_hold (sort_of f.place) Loose ≡ true → Kept f fs names
     → Kept (opened Operand (p.Behind low high) d row) (f ∷ fs) names
 push_operand f fs names low high d row m w = push f fs names Operand (p.Behind low high) d row refl refl m tt w
 
 -- a second name is opened
-pub push_second : (f : Frame) (fs : List Frame) (names : Names) (d : ℕ) (row : Sketch) → may_hold (sort_of f.place) Again ≡ true → IsBegun Second row → Kept f fs names
+pub push_second : (f : Frame) (fs : List Frame) (names : Names) (d : ℕ) (row : AnnotatedForest) → may_hold (sort_of f.place) Again ≡ true → IsBegun Second row → Kept f fs names
     → Kept (opened Second p.TwiceName d row) (f ∷ fs) names
 push_second f fs names d row m i w = push f fs names Second p.TwiceName d row refl refl m i w
 
 -- a pattern is opened, with a new set
-pub push_pattern : (f : Frame) (fs : List Frame) (names names' : Names) (place : Place) (d : ℕ) (row : Sketch) → sort_of place ≡ Pattern → may_hold (sort_of f.place) Pattern ≡ true
+pub push_pattern : (f : Frame) (fs : List Frame) (names names' : Names) (place : Place) (d : ℕ) (row : AnnotatedForest) → sort_of place ≡ Pattern → may_hold (sort_of f.place) Pattern ≡ true
     → HasNoEntry row → PatternOpened names names' → Kept f fs names → Kept (opened (Node NODE_PATTERN) place d row) (f ∷ fs) names'
 push_pattern f fs names names' place d row e m none o w = record {
   fit = (record { sort = sym e; begun = tt }, ap (may_hold (sort_of f.place)) e ∙ m, w.fit);
@@ -145,7 +145,7 @@ push_pattern f fs names names' place d row e m none o w = record {
 }
 
 -- an entry is opened, with its name
-pub push_entry : (f : Frame) (fs : List Frame) (names names' : Names) (d : ℕ) (row : Sketch) (t : Token) → may_hold (sort_of f.place) Entry ≡ true
+pub push_entry : (f : Frame) (fs : List Frame) (names names' : Names) (d : ℕ) (row : AnnotatedForest) (t : Token) → may_hold (sort_of f.place) Entry ≡ true
     → entry_name (clean row) ≡ Some t → EntryOpened t.text record { start = t.start; end = t.end } names names' → Kept f fs names
     → Kept (opened (Node NODE_PAT_ENTRY) p.EntryMore d row) (f ∷ fs) names'
 push_entry f fs names names' d row t m e o w = record {
@@ -161,7 +161,7 @@ pub renamed : (f : Frame) (fs : List Frame) (names names' : Names) → names'.se
 renamed f fs names names' s t r w = record { fit = w.fit; sets = subst (Known (f ∷ fs)) (sym s) w.sets; texts = t ∙ w.texts; ranges = r ∙ w.ranges }
 
 -- an operand in the place of another
-pub instead : (f : Frame) (fs : List Frame) (names : Names) (low high d : ℕ) (row : Sketch) → f.head ≡ Operand → sort_of f.place ≡ Loose → Kept f fs names
+pub instead : (f : Frame) (fs : List Frame) (names : Names) (low high d : ℕ) (row : AnnotatedForest) → f.head ≡ Operand → sort_of f.place ≡ Loose → Kept f fs names
     → Kept (opened Operand (p.Behind low high) d row) fs names
 instead f fs names low high d row o e w = record {
   fit = fit_whole (opened Operand (p.Behind low high) d row) fs (record { sort = refl; begun = tt }) (subst (λ x. Under x fs) e (fit_parts f fs w.fit).1);
@@ -171,7 +171,7 @@ instead f fs names low high d row o e w = record {
 }
 
 -- what closes has no entry of its own
-made_quiet : (h : Head) (row : Sketch) (s : Sort) → is_bare (sort_of_head h) ≡ true → may_hold s (sort_of_head h) ≡ true → is_pattern_sort s ≡ true → HasNoEntry (made h row)
+made_quiet : (h : Head) (row : AnnotatedForest) (s : Sort) → is_bare (sort_of_head h) ≡ true → may_hold s (sort_of_head h) ≡ true → is_pattern_sort s ≡ true → HasNoEntry (made h row)
 made_quiet (Node NODE_PAT_ENTRY) row s b m q = absurd (true_is_not_false (sym b))
 made_quiet (Node k) row s b m q = λ name. refl
 made_quiet Second row s b m q = λ name. refl

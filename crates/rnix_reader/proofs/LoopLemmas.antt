@@ -4,7 +4,7 @@ use Rattle.rnix_kinds.specs.declared.kinds.SyntaxKind.TheVariants.{NODE_ROOT}
 use Rattle.rnix_grammar.specs.declared.place.Place.TheVariants as p
 use Rattle.rnix_grammar.specs.declared.action.Action.{Action}
 use Rattle.rnix_grammar.specs.declared.action.Action.TheVariants as a
-use Rattle.rnix_grammar.specs.Sketch.{Token, blank, head_kind}
+use Rattle.rnix_grammar.specs.AnnotatedForest.{Token, blank, head_kind}
 use Rattle.rnix_grammar.specs.Layout.{items}
 use Rattle.rnix_grammar.specs.Machine.{Node, Frame, Machine, opened, machine, begins, perform, step, Runs, rest, then}
 use Rattle.rnix_lemmas.proofs.Basics.{not_nil}

@@ -2,7 +2,7 @@
 use Rattle.std.proofs.Common.{◌≡◌, ◌≤◌, ℕ, List, [], ◌∷◌, ◌++◌, true, false, ap, ◌∙◌, subst, arith}
 use Rattle.rnix_kinds.specs.SyntaxKind.{is_trivia}
 use Rattle.rnix_grammar.specs.declared.until.Until.{Until}
-use Rattle.rnix_grammar.specs.Sketch.{Token, row_of, end_from}
+use Rattle.rnix_grammar.specs.AnnotatedForest.{Token, row_of, end_from}
 use Rattle.rnix_grammar.specs.Layout.{items, from_item, from_item_if, tail_of, left_after}
 use Rattle.rnix_grammar.specs.Machine.{behind, reach, end_of, run_rest, dropped}
 use Rattle.rnix_grammar.specs.Missing.{run_of}

@@ -7,12 +7,12 @@ use Rattle.rnix_grammar.specs.declared.place.Place.TheVariants as p
 use Rattle.rnix_grammar.specs.declared.action.Action.{Action}
 use Rattle.rnix_grammar.specs.declared.action.Action.TheVariants as a
 use Rattle.rnix_grammar.specs.Fault.{Fault}
-use Rattle.rnix_grammar.specs.Sketch.{Token, Note, Unwanted, Extra, Sketch, blank, ◌⊕◌, one_branch, one_fault, tokens_in, clean, head_of, head_kind, end_from, extent_of}
+use Rattle.rnix_grammar.specs.AnnotatedForest.{Token, Note, Unwanted, Extra, AnnotatedForest, blank, ◌⊕◌, one_branch, one_fault, tokens_in, clean, head_of, head_kind, end_from, extent_of}
 use Rattle.rnix_grammar.specs.Layout.{items, from_item, trivia_before, tail_of}
 use Rattle.rnix_grammar.specs.Reports.{only_token}
 use Rattle.rnix_grammar.specs.Machine.{Head, Node, Second, Operand, Frame, put, opened, ate, leaf, leaf_in, kind_of, low_of, behind, reach, end_of, run_row, run_rest, dropped, made, machine, closed, perform}
 use Rattle.rnix_grammar.specs.Missing.{run_of}
-use Rattle.rnix_lemmas.proofs.SketchLemmas.{tokens_in-row_of}
+use Rattle.rnix_lemmas.proofs.AnnotatedForestLemmas.{tokens_in-row_of}
 use Rattle.rnix_lemmas.proofs.CleanLemmas.{leaf_clean, reach_items, run_prefix, run_bared}
 use Rattle.rnix_lemmas.proofs.LayoutLemmas.{first_item, clean-trivia}
 use Rattle.rnix_lemmas.proofs.PlaceLemmas.{open_holds, next_sort}
@@ -54,13 +54,13 @@ closing_entry f g fs ts n es names names' again e c w o =
     (pop_entry f g fs names names' again (head_entry f.head (w.fit.0.sort ∙ e)) (head_pattern g.head ((fit_first g fs w.fit.2).sort ∙ below)) c w) o
 
 -- a row that may be a second name's grows
-ends_behind : (n m : ℕ) (h : Head) (row : Sketch) (ts : List Token) (g : Sketch) (us : List Token) → IsBegun h row → EndsAt n h row → tokens_in (clean g) ≡ us → m ≡ end_from n us → n ≤ m
+ends_behind : (n m : ℕ) (h : Head) (row : AnnotatedForest) (ts : List Token) (g : AnnotatedForest) (us : List Token) → IsBegun h row → EndsAt n h row → tokens_in (clean g) ≡ us → m ≡ end_from n us → n ≤ m
     → EndsAt m h (ate true row ts ⊕ g)
 ends_behind n m h row ts g us i e k r l =
     ends_more n m h (ate true row ts) g us (begun_more h row (trivia_before ts) i)
     (ends_more n n h row (trivia_before ts) [] i e (ap tokens_in (clean-trivia ts)) refl (omega arith)) k r l
 
-begins_behind : (n : ℕ) (h : Head) (row : Sketch) (ts : List Token) (g : Sketch) → IsBegun h row → BeginsAt n h row → BeginsAt n h (ate true row ts ⊕ g)
+begins_behind : (n : ℕ) (h : Head) (row : AnnotatedForest) (ts : List Token) (g : AnnotatedForest) → IsBegun h row → BeginsAt n h row → BeginsAt n h (ate true row ts ⊕ g)
 begins_behind n h row ts g i e = begins_more n h (ate true row ts) g (begun_more h row (trivia_before ts) i) (begins_more n h row (trivia_before ts) i e)
 
 -- the first of some items
@@ -94,7 +94,7 @@ entry_goes : (after : Place) (f : Frame) (fs : List Frame) (ts us : List Token) 
 entry_goes after f fs ts [] n es names names' w o e h same sort does = absurd (true_is_not_false (sym h))
 entry_goes after f fs ts (t ∷ us) n es names names' w o e h same sort does =
     let g : Frame = put after (ate true f.row ts) f in
-    let row : Sketch = one_branch NODE_IDENT (leaf true NODE_IDENT ts) in
+    let row : AnnotatedForest = one_branch NODE_IDENT (leaf true NODE_IDENT ts) in
     goes_open (opened (Node NODE_PAT_ENTRY) p.EntryMore f.depth row) (g ∷ fs) (behind true ts) (reach true n ts) es names' refl
     (push_entry g fs names names' f.depth row t (ap (λ x. may_hold x Entry) (same ∙ sort)) (ap only_token (leaf_clean NODE_IDENT ts ∙ ap (leaf_in NODE_IDENT) e)) (does t (ap head_of e))
     (grow_trivia f fs names after ts same w)) (order_behind n ts o)
@@ -107,7 +107,7 @@ twice_goes : (after : Place) (f : Frame) (fs : List Frame) (ts us : List Token) 
 twice_goes after f fs ts [] n es names names' w o e h same sort does = absurd (true_is_not_false (sym h))
 twice_goes after f fs ts (t ∷ us) n es names names' w o e h same sort does =
     let g : Frame = put after (ate true f.row ts) f in
-    let row : Sketch = leaf true NODE_ERROR ts in
+    let row : AnnotatedForest = leaf true NODE_ERROR ts in
     let tokens : tokens_in (clean row) ≡ t ∷ [] = leaf_tokens NODE_ERROR ts ∙ ap firsts e in
     let end : reach true n ts ≡ t.end = leaf_end n ts ∙ ap (λ x. end_from n (firsts x)) e in
     let ordered : AreInOrder n (t ∷ tail_of (from_item ts)) = subst (AreInOrder n) (first_item t us ts e).here (order_from n ts o) in
@@ -133,7 +133,7 @@ perform_goes a.Finish f fs ts n es names names' w e i o al g k = absurd (true_is
 perform_goes a.Settle f fs ts n es names names' w e i o al g k =
     same_names (closed f fs ts n es) names names' k (closing f fs ts n es names (ap is_bare al) (ap is_root al) w o)
 perform_goes a.Extra f fs ts n es names names' w e i o al g k =
-    let fault : Sketch = one_fault Extra (run_row true (items ts) ts) in
+    let fault : AnnotatedForest = one_fault Extra (run_row true (items ts) ts) in
     same_names (perform true a.Extra f fs ts n es) names names' k
     (goes_open (put f.place (ate true f.row ts ⊕ fault) f) fs (run_rest true (items ts) ts) (end_from n (items ts)) _ names (ap is_open al.1)
     (grow_behind f fs names f.place ts fault refl (λ q. no_entry_fault Extra (run_row true (items ts) ts)) w) (order_all n ts o).0)
@@ -150,7 +150,7 @@ perform_goes (a.MissWanted until after) f fs ts n es names names' w e i o al g k
     (goes (put after f.row f) fs ts n _ names (moved_on f fs names after (next_sort f.place after (head_kind (items ts)) al.1) w) e i o)
 perform_goes (a.Run until after) f fs ts n es names names' w e i o al g k =
     let run : List Token = run_of until (items ts) in
-    let fault : Sketch = one_fault (Unwanted until) (run_row true run ts) in
+    let fault : AnnotatedForest = one_fault (Unwanted until) (run_row true run ts) in
     let all = order_run until n ts o in
     let begun : IsBegun f.head f.row = (fit_first f fs w.fit).begun in
     same_names (perform true (a.Run until after) f fs ts n es) names names' k
@@ -159,7 +159,7 @@ perform_goes (a.Run until after) f fs ts n es names names' w e i o al g k =
     (ends_behind n (end_from n run) f.head f.row ts fault run begun e (run_tokens (Unwanted until) run (dropped run (items ts)) ts (run_prefix until (items ts))) refl all.1)
     (begins_behind names.second f.head f.row ts fault begun i) all.0)
 perform_goes (a.Leaf j after) f fs ts n es names names' w e i o al g k =
-    let row : Sketch = one_branch j (leaf true j ts) in
+    let row : AnnotatedForest = one_branch j (leaf true j ts) in
     let begun : IsBegun f.head f.row = (fit_first f fs w.fit).begun in
     same_names (perform true (a.Leaf j after) f fs ts n es) names names' k
     (goes (put after (ate true f.row ts ⊕ row) f) fs (behind true ts) (reach true n ts) es names
@@ -197,7 +197,7 @@ perform_goes a.Apply f fs ts n es names names' w e i o al g k =
     reading_goes 16 false (opened (Node NODE_APPLY) p.Past f.depth f.row) (over ∷ fs) ts n es names names'
     (push_node over fs names NODE_APPLY p.Past f.depth f.row refl refl refl (instead f fs names (low_of f.place) 15 f.depth blank loose al.1 w)) refl o k
 perform_goes a.ApplyOr f fs ts n es names names' w e i o al g k =
-    let row : Sketch = one_branch NODE_APPLY (ate true f.row ts ⊕ one_branch NODE_IDENT (leaf true NODE_IDENT ts)) in
+    let row : AnnotatedForest = one_branch NODE_APPLY (ate true f.row ts ⊕ one_branch NODE_IDENT (leaf true NODE_IDENT ts)) in
     let loose = head_loose f.head ((fit_first f fs w.fit).sort ∙ al.1) in
     same_names (perform true a.ApplyOr f fs ts n es) names names' k
     (goes_open (opened Operand (p.Behind (low_of f.place) 15) f.depth row) fs (behind true ts) (reach true n ts) es names refl

@@ -4,11 +4,11 @@ use Rattle.std.specs.Str.{bytes_eq}
 use Rattle.std.proofs.lemmas.Cmp.{nat_list_eq_equiv}
 use Rattle.rnix_kinds.specs.declared.kinds.SyntaxKind.{SyntaxKind}
 use Rattle.rnix_kinds.specs.declared.kinds.SyntaxKind.TheVariants.{NODE_IDENT, NODE_PATTERN, NODE_PAT_ENTRY}
-use Rattle.rnix_grammar.specs.Sketch.{Token, Note, Sketch, blank, token, branch, fault, ◌⊕◌, one_branch, one_fault, tokens_in, clean, end_from, extent_of}
+use Rattle.rnix_grammar.specs.AnnotatedForest.{Token, Note, AnnotatedForest, blank, token, branch, fault, ◌⊕◌, one_branch, one_fault, tokens_in, clean, end_from, extent_of}
 use Rattle.rnix_grammar.specs.Layout.{items, trivia_before}
 use Rattle.rnix_grammar.specs.Reports.{entry_name, is_same_name, has_entry}
 use Rattle.rnix_grammar.specs.Machine.{Head, Node, Second, Operand, leaf, leaf_in}
-use Rattle.rnix_lemmas.proofs.SketchLemmas.{tokens_in-⊕}
+use Rattle.rnix_lemmas.proofs.AnnotatedForestLemmas.{tokens_in-⊕}
 use Rattle.rnix_lemmas.proofs.CleanLemmas.{leaf_clean}
 use Rattle.rnix_lemmas.proofs.LayoutLemmas.{clean-⊕, clean-trivia}
 use Rattle.rnix_lemmas.proofs.StrictParts.{end_behind}
@@ -24,10 +24,10 @@ none_is_not_some : {A : Type 0} {t : A} → None ≡ Some t → ⊥
 none_is_not_some e = cc
 
 -- a row has no entry of a pattern
-abbrev pub HasNoEntry : Sketch → Type 0
+abbrev pub HasNoEntry : AnnotatedForest → Type 0
 HasNoEntry g = (name : List ℕ) → has_entry name (clean g) ≡ false
 
-has_entry-⊕ : (name : List ℕ) (f g : Sketch) → has_entry name g ≡ false → has_entry name (f ⊕ g) ≡ has_entry name f
+has_entry-⊕ : (name : List ℕ) (f g : AnnotatedForest) → has_entry name g ≡ false → has_entry name (f ⊕ g) ≡ has_entry name f
 has_entry-⊕ name blank g h = h
 has_entry-⊕ name (token k t f) g h = has_entry-⊕ name f g h
 has_entry-⊕ name (branch NODE_PAT_ENTRY c f) g h = ap (λ x. if is_same_name name (entry_name c) then true else x) (has_entry-⊕ name f g h)
@@ -39,7 +39,7 @@ pub no_entry_trivia : (ts : List Token) → HasNoEntry (trivia_before ts)
 no_entry_trivia ts name = ap (has_entry name) (clean-trivia ts)
 
 -- nor does an error node
-pub no_entry_fault : (n : Note) (c : Sketch) → HasNoEntry (one_fault n c)
+pub no_entry_fault : (n : Note) (c : AnnotatedForest) → HasNoEntry (one_fault n c)
 no_entry_fault n c name = refl
 
 -- nor does a leaf
@@ -58,7 +58,7 @@ one_more false true c = refl
 one_more false false c = refl
 
 -- one more entry adds its name
-pub has_entry-more : (name : List ℕ) (f c : Sketch) → has_entry name (f ⊕ one_branch NODE_PAT_ENTRY c) ≡ (if is_same_name name (entry_name c) then true else has_entry name f)
+pub has_entry-more : (name : List ℕ) (f c : AnnotatedForest) → has_entry name (f ⊕ one_branch NODE_PAT_ENTRY c) ≡ (if is_same_name name (entry_name c) then true else has_entry name f)
 has_entry-more name blank c = refl
 has_entry-more name (token k t f) c = has_entry-more name f c
 has_entry-more name (branch NODE_PAT_ENTRY d f) c =
@@ -72,25 +72,25 @@ pub same_text : (xs ys : List ℕ) → bytes_eq xs ys ≡ bytes_eq ys xs
 same_text xs ys = nat_list_eq_equiv.symm xs ys
 
 -- the name of an entry stays
-entry_name-⊕ : (f g : Sketch) (t : Token) → entry_name f ≡ Some t → entry_name (f ⊕ g) ≡ Some t
+entry_name-⊕ : (f g : AnnotatedForest) (t : Token) → entry_name f ≡ Some t → entry_name (f ⊕ g) ≡ Some t
 entry_name-⊕ blank g t e = absurd (none_is_not_some e)
 entry_name-⊕ (token k u f) g t e = absurd (none_is_not_some e)
 entry_name-⊕ (branch NODE_IDENT c f) g t e = e
 entry_name-⊕ (branch k c f) g t e = absurd (none_is_not_some e)
 entry_name-⊕ (fault n c f) g t e = absurd (none_is_not_some e)
 
-tokens_more : (f g : Sketch) → tokens_in (clean (f ⊕ g)) ≡ tokens_in (clean f) ++ tokens_in (clean g)
+tokens_more : (f g : AnnotatedForest) → tokens_in (clean (f ⊕ g)) ≡ tokens_in (clean f) ++ tokens_in (clean g)
 tokens_more f g = ap tokens_in (clean-⊕ f g) ∙ tokens_in-⊕ (clean f) (clean g)
 
 -- a row that is begun stays so
-pub begun_more : (h : Head) (f g : Sketch) → IsBegun h f → IsBegun h (f ⊕ g)
+pub begun_more : (h : Head) (f g : AnnotatedForest) → IsBegun h f → IsBegun h (f ⊕ g)
 begun_more (Node NODE_PAT_ENTRY) f g w = (w.0, ap entry_name (clean-⊕ f g) ∙ entry_name-⊕ (clean f) (clean g) w.0 w.1)
 begun_more (Node k) f g w = tt
 begun_more Second f g w = (w.0, w.1 ++ tokens_in (clean g), tokens_more f g ∙ ap (λ x. x ++ tokens_in (clean g)) w.2)
 begun_more Operand f g w = tt
 
 -- the name of an entry stays
-pub name_more : (h : Head) (f g : Sketch) → IsBegun h f → name_of h (f ⊕ g) ≡ name_of h f
+pub name_more : (h : Head) (f g : AnnotatedForest) → IsBegun h f → name_of h (f ⊕ g) ≡ name_of h f
 name_more (Node NODE_PAT_ENTRY) f g w = ap entry_name (clean-⊕ f g) ∙ entry_name-⊕ (clean f) (clean g) w.0 w.1 ∙ sym w.1
 name_more (Node k) f g w = refl
 name_more Second f g w = refl
@@ -102,7 +102,7 @@ is_pattern_sort Pattern = true
 is_pattern_sort s = false
 
 -- a row without more entries has the same names
-pub known_more : (h : Head) (f g : Sketch) (sets : List NameSet) (More : List NameSet → Type 0) → (is_pattern_sort (sort_of_head h) ≡ true → HasNoEntry g)
+pub known_more : (h : Head) (f g : AnnotatedForest) (sets : List NameSet) (More : List NameSet → Type 0) → (is_pattern_sort (sort_of_head h) ≡ true → HasNoEntry g)
     → KnownOn h f sets More → KnownOn h (f ⊕ g) sets More
 known_more (Node NODE_PATTERN) f g sets More q w = record {
   below = w.below;
@@ -116,7 +116,7 @@ known_more Second f g sets More q w = w
 known_more Operand f g sets More q w = w
 
 -- an entry is complete: its pattern has one more
-pub known_entry : (h : Head) (f c : Sketch) (t : Token) (below : List NameSet) (s : NameSet) (sets : List NameSet) (More : List NameSet → Type 0)
+pub known_entry : (h : Head) (f c : AnnotatedForest) (t : Token) (below : List NameSet) (s : NameSet) (sets : List NameSet) (More : List NameSet → Type 0)
     → is_pattern_sort (sort_of_head h) ≡ true → entry_name (clean c) ≡ Some t → sets ≡ below ++ s ∷ [] → More below
     → ((other : List ℕ) → has_name other s ≡ (if bytes_eq t.text other then true else has_entry other (clean f)))
     → KnownOn h (f ⊕ one_branch NODE_PAT_ENTRY c) sets More
@@ -135,14 +135,14 @@ known_entry Second f c t below s sets More q e a m is = absurd (true_is_not_fals
 known_entry Operand f c t below s sets More q e a m is = absurd (true_is_not_false (sym q))
 
 -- a second name stays where it begins
-pub begins_more : (n : ℕ) (h : Head) (f g : Sketch) → IsBegun h f → BeginsAt n h f → BeginsAt n h (f ⊕ g)
+pub begins_more : (n : ℕ) (h : Head) (f g : AnnotatedForest) → IsBegun h f → BeginsAt n h f → BeginsAt n h (f ⊕ g)
 begins_more n (Node k) f g w e = tt
 begins_more n Second f g w e =
     e ∙ ap (λ x. (extent_of x).start) w.2 ∙ sym (ap (λ x. (extent_of x).start) (tokens_more f g ∙ ap (λ x. x ++ tokens_in (clean g)) w.2))
 begins_more n Operand f g w e = tt
 
 -- and ends where the items behind it end
-pub ends_more : (n m : ℕ) (h : Head) (f g : Sketch) (us : List Token) → IsBegun h f → EndsAt n h f → tokens_in (clean g) ≡ us → m ≡ end_from n us → n ≤ m → EndsAt m h (f ⊕ g)
+pub ends_more : (n m : ℕ) (h : Head) (f g : AnnotatedForest) (us : List Token) → IsBegun h f → EndsAt n h f → tokens_in (clean g) ≡ us → m ≡ end_from n us → n ≤ m → EndsAt m h (f ⊕ g)
 ends_more n m (Node k) f g us w e i r l = tt
 ends_more n m Second f g us w e i r l =
     let old : tokens_in (clean f) ≡ w.0 ∷ w.1 = w.2 in

@@ -13,13 +13,13 @@ use Rattle.rnix_grammar.specs.declared.until.Until.TheVariants.{End}
 use Rattle.rnix_grammar.specs.declared.place.Place.{Place}
 use Rattle.rnix_grammar.specs.Fault.{unwanted, extra, bound_twice}
 use Rattle.rnix_grammar.specs.Tables.{is_wanted, stops, wanted_kinds, operand_kinds}
-use Rattle.rnix_grammar.specs.Sketch.{Token, token, row_of, forget, head_of, head_kind, kind_in, end_from, extent_of, Unwanted as UnwantedNote, Extra as ExtraNote, Stray as StrayNote}
+use Rattle.rnix_grammar.specs.AnnotatedForest.{Token, token, row_of, forget, head_of, head_kind, kind_in, end_from, extent_of, Unwanted as UnwantedNote, Extra as ExtraNote, Stray as StrayNote}
 use Rattle.rnix_grammar.specs.Layout.{items, from_item, trivia_before, tail_of, dressed, item_if}
 use Rattle.rnix_grammar.specs.Machine.{leaf_in, end_of}
 use Rattle.rnix_grammar.specs.Missing.{run_of}
 use Rattle.rnix_grammar.specs.Reports.{report}
 use Rattle.rnix_lemmas.proofs.LayoutLemmas.{first_item, items-from_item}
-use Rattle.rnix_lemmas.proofs.SketchLemmas.{forget-⊕}
+use Rattle.rnix_lemmas.proofs.AnnotatedForestLemmas.{forget-⊕}
 use Rattle.rnix_lemmas.proofs.RunLemmas.{run_begins}
 use Rattle.rnix_reader.specs.declared.cursor.PlacedToken.{PlacedToken}
 use Rattle.rnix_reader.specs.declared.mark.Mark.{Mark}

@@ -1,5 +1,6 @@
 -- The steps of the reader, one token at a time.
-use Rattle.std.proofs.Common.{◌≡◌, ℕ, true, false, List, [], ◌∷◌, Option, Some, None, refl, ap, sym, ◌∙◌}
+use Rattle.std.proofs.Common.{◌≡◌, ℕ, ◌<◌, true, List, [], ◌∷◌, Option, Some, None, drop, refl, ap, sym, ◌∙◌}
+use Rattle.std.specs.Prelude.{MatchOption}
 use Rattle.std.specs.Option.{option_map}
 use Rattle.rnix_kinds.specs.declared.kinds.SyntaxKind.{SyntaxKind}
 use Rattle.rnix_kinds.specs.SyntaxKind.{is_trivia}
@@ -8,15 +9,16 @@ use Rattle.rnix_tree.specs.Draft.{Draft, OpenNode, leaf_added, node_opened, node
 use Rattle.rnix_tree.specs.ForestCode.{join_empty}
 use Rattle.rnix_tree.proofs.ForestLemmas.{join_assoc}
 use Rattle.rnix_grammar.specs.Fault.{Fault}
-use Rattle.rnix_grammar.specs.Sketch.{Token, forget, head_of, told}
+use Rattle.rnix_grammar.specs.AnnotatedForest.{Token, forget, head_of, leaf_kind}
 use Rattle.rnix_grammar.specs.Layout.{items, from_item, from_item_if, trivia_before, trivia_if, tail_of}
 use Rattle.rnix_grammar.specs.Machine.{leaf_in, end_of}
 use Rattle.rnix_lemmas.proofs.LayoutLemmas.{items_head, items-view, from_item-from_item, trivia-from_item}
 use Rattle.rnix_reader.specs.declared.cursor.PlacedToken.{PlacedToken}
 use Rattle.rnix_reader.specs.declared.mark.Mark.{Mark}
-use Rattle.rnix_reader.specs.Placed.{token_of}
+use Rattle.rnix_reader.specs.Placed.{token_of, BeginsWithTrivia}
 use Rattle.rnix_reader.specs.State.{State, eaten, bumped, started, started_at, ended}
 use Rattle.rnix_reader.specs.Steps.{leafed}
+use Rattle.rnix_reader.proofs.CursorLemmas.{before_item}
 
 -- states with the same parts are one
 pub state_is : {r r' : List Token} {x x' : Forest} {o o' : List OpenNode} {e e' : List Fault} {n n' : ℕ} {m m' : List Mark} → r ≡ r' → x ≡ x' → o ≡ o' → e ≡ e' → n ≡ n' → m ≡ m'
@@ -43,6 +45,14 @@ none_there (u ∷ us) r e h = absurd (none_is_not_some (sym (ap (option_map toke
     none_is_not_some : None ≡ Some u → ⊥
     none_is_not_some e = cc
 
+-- the token before the next item, if there is one, is trivia
+pub first_trivia : (ts now : List Token) (at next : ℕ) (r : Option PlacedToken) → now ≡ drop at ts → from_item (drop at ts) ≡ drop next ts → at < next
+    → option_map token_of r ≡ head_of now → MatchOption r (from_item now ≡ now) (λ t. BeginsWithTrivia (token_of t) now)
+first_trivia ts now at next None v f n e = let none : now ≡ [] = none_there now None e refl in ap from_item none ∙ sym none
+first_trivia ts now at next (Some t) v f n e =
+    let there : now ≡ token_of t ∷ tail_of now = first_there now (Some t) t e refl in
+    (there, before_item ts at next (token_of t) (tail_of now) (sym v ∙ there) f n)
+
 -- the first item is the first from the first item on
 pub head_items : (ts : List Token) → head_of (from_item ts) ≡ head_of (items ts)
 head_items ts = by (from_item ts) ∙ sym (ap head_of (items-view ts))
@@ -51,17 +61,11 @@ head_items ts = by (from_item ts) ∙ sym (ap head_of (items-view ts))
     by [] = refl
     by (x ∷ xs) = refl
 
--- where no trivia are left nothing is eaten
-pub eaten-item : (s : State) (t : Token) (more : List Token) → s.rest ≡ t ∷ more → is_trivia t.kind ≡ false → eaten s ≡ s
+-- where no trivia come first, nothing is eaten
+pub eaten-settled : (s : State) → from_item s.rest ≡ s.rest → eaten s ≡ s
 unfolding eaten
-eaten-item s t more e h =
-    state_is (ap from_item e ∙ ap (λ b. from_item_if b t more (from_item more)) h ∙ sym e)
-    (ap (λ x. join s.trees (forget x)) (ap trivia_before e ∙ ap (λ b. trivia_if b t (trivia_before more)) h) ∙ join_empty s.trees) refl refl refl refl
-
--- where no token is left no trivia are
-pub eaten-end : (s : State) → s.rest ≡ [] → eaten s ≡ s
-unfolding eaten
-eaten-end s e = state_is (ap from_item e ∙ sym e) (ap (λ x. join s.trees (forget (trivia_before x))) e ∙ join_empty s.trees) refl refl refl refl
+eaten-settled s e =
+    state_is e (ap (λ x. join s.trees (forget (trivia_before x))) (sym e) ∙ ap (λ x. join s.trees (forget x)) (trivia-from_item s.rest) ∙ join_empty s.trees) refl refl refl refl
 
 -- one trivia token is eaten
 pub eaten-trivia : (s s' : State) (t : Token) (more : List Token) → s.rest ≡ t ∷ more → is_trivia t.kind ≡ true → s'.rest ≡ more → s'.trees ≡ join s.trees (leaf t.kind t.text empty)
@@ -76,12 +80,12 @@ eaten-trivia s s' t more e h r x o f n m =
 
 -- the next item as a leaf
 pub bumped-item : (k : SyntaxKind) (s s1 s' : State) (t : Token) → s1 ≡ eaten s → s1.rest ≡ t ∷ tail_of s1.rest → s'.rest ≡ tail_of s1.rest
-    → s'.trees ≡ join s1.trees (leaf (told k t) t.text empty) → s'.open_nodes ≡ s1.open_nodes → s'.faults ≡ s1.faults → s'.reached ≡ t.end → s'.marks ≡ s1.marks → s' ≡ bumped k s
+    → s'.trees ≡ join s1.trees (leaf (leaf_kind k t) t.text empty) → s'.open_nodes ≡ s1.open_nodes → s'.faults ≡ s1.faults → s'.reached ≡ t.end → s'.marks ≡ s1.marks → s' ≡ bumped k s
 unfolding bumped eaten
 bumped-item k s s1 s' t e here r x o f n m =
     let rest : s1.rest ≡ from_item s.rest = ap (λ y. y.rest) e in
     state_is (r ∙ ap tail_of rest)
-    (x ∙ ap (λ y. join y.trees (leaf (told k t) t.text empty)) e ∙ ap (λ y. join (join s.trees (forget (trivia_before s.rest))) (forget (leaf_in k y))) (sym here ∙ rest))
+    (x ∙ ap (λ y. join y.trees (leaf (leaf_kind k t) t.text empty)) e ∙ ap (λ y. join (join s.trees (forget (trivia_before s.rest))) (forget (leaf_in k y))) (sym here ∙ rest))
     (o ∙ ap (λ y. y.open_nodes) e) (f ∙ ap (λ y. y.faults) e) (n ∙ ap (end_of s.reached) (sym here ∙ rest)) (m ∙ ap (λ y. y.marks) e)
 
 -- nor is an item
@@ -110,7 +114,7 @@ opened_at k s s' d e r x o f n m = state_is r (x ∙ ap (λ y. y.finished) e) (o
 
 -- a node over the next item
 pub leafed-item : (k : SyntaxKind) (s s1 s' : State) (t : Token) (d : Draft) → s1 ≡ eaten s → s1.rest ≡ t ∷ tail_of s1.rest
-    → d ≡ node_closed (leaf_added (told k t) t.text (node_opened k (tree_count s1.trees) record { finished = s1.trees; open_nodes = s1.open_nodes }))
+    → d ≡ node_closed (leaf_added (leaf_kind k t) t.text (node_opened k (tree_count s1.trees) record { finished = s1.trees; open_nodes = s1.open_nodes }))
     → s'.rest ≡ tail_of s1.rest → s'.trees ≡ d.finished → s'.open_nodes ≡ d.open_nodes → s'.faults ≡ s1.faults → s'.reached ≡ t.end → s'.marks ≡ s1.marks → s' ≡ leafed k s
 unfolding ended started started_at
 leafed-item k s s1 s' t d e here b r x o f n m =
@@ -118,7 +122,7 @@ leafed-item k s s1 s' t d e here b r x o f n m =
     let begun : State = started_at place k s1 in
     let read : State = record {
       rest = tail_of s1.rest;
-      trees = join s1.trees (leaf (told k t) t.text empty);
+      trees = join s1.trees (leaf (leaf_kind k t) t.text empty);
       open_nodes = (k, place) ∷ s1.open_nodes;
       faults = s1.faults;
       reached = t.end;

@@ -15,11 +15,11 @@ use Rattle.rnix_grammar.specs.declared.action.Action.TheVariants as a
 use Rattle.rnix_grammar.specs.Tables.{wanted_kinds}
 use Rattle.rnix_grammar.specs.Actions.{action_at}
 use Rattle.rnix_grammar.specs.Fault.{Fault, ended as ended_fault, ended_before, bound_twice}
-use Rattle.rnix_grammar.specs.Sketch.{Token, token, Unwanted, Extra, Twice, forget, clean, tokens_in, extent_of, Sketch, blank, ◌⊕◌, one_branch, one_fault, told, told_as, head_kind, end_from}
+use Rattle.rnix_grammar.specs.AnnotatedForest.{Token, token, Unwanted, Extra, Twice, forget, clean, tokens_in, extent_of, AnnotatedForest, blank, ◌⊕◌, one_branch, one_fault, leaf_kind, leaf_kind_as, head_kind, end_from}
 use Rattle.rnix_grammar.specs.Layout.{items, from_item}
 use Rattle.rnix_grammar.specs.Reports.{report}
 use Rattle.rnix_grammar.specs.Machine.{Head, Node, Second, Operand, Frame, Machine, put, opened, ate, leaf, leaf_in, behind, reach, machine, closed, perform, step, kind_of, run_row, run_rest, low_of, made}
-use Rattle.rnix_grammar.specs.Sketch.{touches}
+use Rattle.rnix_grammar.specs.AnnotatedForest.{touches}
 use Rattle.rnix_grammar.specs.Missing.{run_of}
 use Rattle.rnix_reader.specs.declared.mark.Mark.{Mark}
 use Rattle.rnix_reader.specs.State.{State, bumped, skipped, started, started_at, ended, failed, marked}
@@ -54,12 +54,12 @@ place_named place = refl
 no_name_place : (place : Place) → sort_of place ≡ Name → ⊥
 no_name_place place e = true_is_not_false (sym (ap is_name e) ∙ place_named place)
 
-told_keeps : (k j : SyntaxKind) → (sort_of_node k ≡ Name → ⊥) → told_as k j ≡ j
+told_keeps : (k j : SyntaxKind) → (sort_of_node k ≡ Name → ⊥) → leaf_kind_as k j ≡ j
 told_keeps NODE_IDENT j h = absurd (h refl)
 told_keeps NODE_CUR_POS j h = absurd (h refl)
 told_keeps k j h = refl
 
-told_head : (h : Head) (t : Token) → (sort_of_head h ≡ Name → ⊥) → told (kind_of h) t ≡ t.kind
+told_head : (h : Head) (t : Token) → (sort_of_head h ≡ Name → ⊥) → leaf_kind (kind_of h) t ≡ t.kind
 told_head (Node k) t h = told_keeps k t.kind h
 told_head Second t h = refl
 told_head Operand t h = refl
@@ -68,7 +68,7 @@ own_leaf : (h : Head) (ts : List Token) → (sort_of_head h ≡ Name → ⊥) �
 own_leaf h [] n = refl
 own_leaf h (t ∷ ts) n = ap (λ k. token_leaf k t) (sym (told_head h t n))
   where
-    token_leaf : SyntaxKind → Token → Sketch
+    token_leaf : SyntaxKind → Token → AnnotatedForest
     token_leaf k t = token k t blank
 
 module _ (f : Frame) (fs : List Frame) (ts : List Token) (n : ℕ) (es : List Fault) (mark : Mark) (s : State) (h : Stands f fs ts n es mark s) where
@@ -321,7 +321,7 @@ checkpoint_there f fs ts n es mark s h e d same =
     ∙ ap (λ x. x && is_inside at (nodes_of (f ∷ fs))) le ∙ held
 
 -- the range of a second name
-second_start : (x n : ℕ) (h : Head) (row : Sketch) → h ≡ Second → BeginsAt x h row → EndsAt n h row
+second_start : (x n : ℕ) (h : Head) (row : AnnotatedForest) → h ≡ Second → BeginsAt x h row → EndsAt n h row
     → (x ≡ (extent_of (tokens_in (clean row))).start) × ((n ≡ (extent_of (tokens_in (clean row))).end) × ((extent_of (tokens_in (clean row))).start ≤ n))
 second_start x n h row e b w = (subst (λ y. BeginsAt x y row) e b, subst (λ y. EndsAt n y row) e w)
 

@@ -7,15 +7,15 @@ use Rattle.rnix_grammar.specs.declared.place.Place.TheVariants as p
 use Rattle.rnix_grammar.specs.declared.until.Until.{Until}
 use Rattle.rnix_grammar.specs.declared.action.Action.{Action}
 use Rattle.rnix_grammar.specs.declared.action.Action.TheVariants as a
-use Rattle.rnix_grammar.specs.declared.slot.Slot.{Slot}
-use Rattle.rnix_grammar.specs.declared.slot.Slot.TheVariants as s
+use Rattle.rnix_grammar.specs.declared.symbol.Symbol.{Symbol}
+use Rattle.rnix_grammar.specs.declared.symbol.Symbol.TheVariants as s
 use Rattle.rnix_grammar.specs.declared.begin.Begin.{Begin}
 use Rattle.rnix_grammar.specs.declared.begin.Begin.TheVariants as b
 use Rattle.rnix_grammar.specs.Fault.{Fault}
 use Rattle.rnix_grammar.specs.Tables.{stops, depth_limit}
-use Rattle.rnix_grammar.specs.Slots.{slot_at}
+use Rattle.rnix_grammar.specs.Symbols.{symbol_at}
 use Rattle.rnix_grammar.specs.Begins.{begin_of}
-use Rattle.rnix_grammar.specs.Sketch.{Token, blank, head_kind}
+use Rattle.rnix_grammar.specs.AnnotatedForest.{Token, blank, head_kind}
 use Rattle.rnix_grammar.specs.Layout.{items, from_item, tail_of}
 use Rattle.rnix_grammar.specs.Machine.{Node, Operand, Frame, Machine, put, opened, behind, closed, limited, low_of, run_rest, dropped, begun, operand_on, reading, perform}
 use Rattle.rnix_grammar.specs.Missing.{run_of}
@@ -45,12 +45,12 @@ weight_some place = leb-true 1 (weight place) (weight_there place).1
 weight_most : (place : Place) → weight place ≤ 7
 weight_most place = leb-true (weight place) 7 (weight_there place).2
 
-bonus_test : (slot : Slot) → nat_le (bonus_in slot) 30 ≡ true
+bonus_test : (symbol : Symbol) → nat_le (bonus_in symbol) 30 ≡ true
 bonus_test s.Done = refl
-bonus_test slot = refl
+bonus_test symbol = refl
 
 bonus_most : (place : Place) → bonus place ≤ 30
-bonus_most place = leb-true (bonus place) 30 (bonus_test (slot_at place))
+bonus_most place = leb-true (bonus place) 30 (bonus_test (symbol_at place))
 
 abbrev is_plain : Sort → Bool
 is_plain Plain = true
@@ -58,12 +58,12 @@ is_plain sort = false
 
 -- only in a plain node may a node begin without an item
 bonus_full : (place : Place) → is_plain (sort_of place) ≡ false → bonus place ≡ 30
-bonus_full place e = by (slot_at place) (sort_there place)
+bonus_full place e = by (symbol_at place) (sort_there place)
   where
-    by : (slot : Slot) → sort_of place ≡ sort_in slot (sort_of place) → bonus_in slot ≡ 30
+    by : (symbol : Symbol) → sort_of place ≡ sort_in symbol (sort_of place) → bonus_in symbol ≡ 30
     by (s.Attrpath behind) h = absurd (true_is_not_false (sym (ap is_plain h) ∙ e))
     by (s.Attr behind) h = absurd (true_is_not_false (sym (ap is_plain h) ∙ e))
-    by slot h = refl
+    by symbol h = refl
 
 -- what frames and items cost
 abbrev pub weight_of : List Frame → ℕ

@@ -4,7 +4,7 @@ use Rattle.rnix_kinds.specs.declared.kinds.SyntaxKind.TheVariants.{NODE_ERROR}
 use Rattle.rnix_tree.specs.Forest.{Forest, empty, join, tree_count}
 use Rattle.rnix_tree.specs.Draft.{OpenNode}
 use Rattle.rnix_grammar.specs.declared.place.Place.{Place}
-use Rattle.rnix_grammar.specs.Sketch.{forget}
+use Rattle.rnix_grammar.specs.AnnotatedForest.{forget}
 use Rattle.rnix_grammar.specs.Machine.{Head, Node, Second, Operand, Frame, Machine}
 use Rattle.rnix_reader.specs.declared.mark.Mark.{Mark}
 use Rattle.rnix_reader.specs.State.{State}

@@ -9,7 +9,7 @@ use Rattle.rnix_grammar.specs.declared.begin.Begin.{Begin}
 use Rattle.rnix_grammar.specs.declared.begin.Begin.TheVariants as b
 use Rattle.rnix_grammar.specs.declared.place.Place.TheVariants as p
 use Rattle.rnix_grammar.specs.Actions.{action_at}
-use Rattle.rnix_grammar.specs.Sketch.{Token, Sketch, tokens_in, clean, forget, extent_of, head_kind, touches}
+use Rattle.rnix_grammar.specs.AnnotatedForest.{Token, AnnotatedForest, tokens_in, clean, forget, extent_of, head_kind, touches}
 use Rattle.rnix_grammar.specs.Layout.{items}
 use Rattle.rnix_grammar.specs.Machine.{Head, Node, Second, Frame, Machine, machine, begins, ate, Runs}
 use Rattle.rnix_grammar.specs.Reports.{entry_name, has_entry}
@@ -28,7 +28,7 @@ use Rattle.rnix_grammar.specs.Sorts.{sort_of, sort_of_head, may_hold, Root}
 use Rattle.rnix_grammar.specs.Weights.{weight, bonus}
 
 -- an entry begins with its name, and a second name with a token
-abbrev pub IsBegun : Head → Sketch → Type 0
+abbrev pub IsBegun : Head → AnnotatedForest → Type 0
 IsBegun (Node NODE_PAT_ENTRY) row = (t : Token) × (entry_name (clean row) ≡ Some t)
 IsBegun Second row = (t : Token) × (us : List Token) × (tokens_in (clean row) ≡ t ∷ us)
 IsBegun head row = Unit {0}
@@ -44,7 +44,7 @@ AreFit f [] = IsFit f × (sort_of f.place ≡ Root)
 AreFit f (g ∷ fs) = IsFit f × (may_hold (sort_of g.place) (sort_of f.place) ≡ true) × AreFit g fs
 
 -- a second name ends where the last item ended
-abbrev pub EndsAt : ℕ → Head → Sketch → Type 0
+abbrev pub EndsAt : ℕ → Head → AnnotatedForest → Type 0
 EndsAt n Second row = (n ≡ (extent_of (tokens_in (clean row))).end) × ((extent_of (tokens_in (clean row))).start ≤ n)
 EndsAt n head row = Unit {0}
 
@@ -65,7 +65,7 @@ range_of None = []
 range_of (Some t) = extent_of (t ∷ []) ∷ []
 
 -- the name of an open entry
-abbrev pub name_of : Head → Sketch → Option Token
+abbrev pub name_of : Head → AnnotatedForest → Option Token
 name_of (Node NODE_PAT_ENTRY) row = entry_name (clean row)
 name_of head row = None
 
@@ -80,11 +80,11 @@ ranges_of [] = []
 ranges_of (f ∷ fs) = ranges_of fs ++ range_of (name_of f.head f.row)
 
 -- a set has the names of a pattern's entries
-abbrev pub IsOf : NameSet → Sketch → Type 0
+abbrev pub IsOf : NameSet → AnnotatedForest → Type 0
 IsOf s row = (name : List ℕ) → has_name name s ≡ has_entry name (clean row)
 
 -- the last of some sets is that of a pattern, and more holds of those below
-pub record Tops (sets : List NameSet) (row : Sketch) (More : List NameSet → Type 0) : Type 0 where
+pub record Tops (sets : List NameSet) (row : AnnotatedForest) (More : List NameSet → Type 0) : Type 0 where
   pub below : List NameSet
   pub set : NameSet
   pub all : sets ≡ below ++ set ∷ []
@@ -92,7 +92,7 @@ pub record Tops (sets : List NameSet) (row : Sketch) (More : List NameSet → Ty
   pub more : More below
 
 -- the sets that are open above others, by what is open
-abbrev pub KnownOn : Head → Sketch → List NameSet → (List NameSet → Type 0) → Type 0
+abbrev pub KnownOn : Head → AnnotatedForest → List NameSet → (List NameSet → Type 0) → Type 0
 KnownOn (Node NODE_PATTERN) row sets More = Tops sets row More
 KnownOn head row sets More = More sets
 
@@ -102,7 +102,7 @@ Known [] sets = sets ≡ []
 Known (f ∷ fs) sets = KnownOn f.head f.row sets (Known fs)
 
 -- a second name begins at a place
-abbrev pub BeginsAt : ℕ → Head → Sketch → Type 0
+abbrev pub BeginsAt : ℕ → Head → AnnotatedForest → Type 0
 BeginsAt n Second row = n ≡ (extent_of (tokens_in (clean row))).start
 BeginsAt n head row = Unit {0}
 

@@ -1,12 +1,13 @@
 -- The tokens of a text as the reader keeps them.
-use Rattle.std.specs.Prelude.{◌≡◌, ◌≤◌, ◌+◌, ◌-◌, ℕ, zero, suc, List, [], ◌∷◌, length, take, drop, refl}
+use Rattle.std.specs.Prelude.{◌≡◌, ◌≤◌, ◌+◌, ◌-◌, ℕ, zero, suc, List, [], ◌∷◌, length, take, drop, true, refl}
 use Rattle.std.specs.Coded.{Coded, code_by, coded×, coded_ℕ, coded_list}
 use Rattle.std.specs.Str.{IsCharBoundary}
 use Rattle.rnix_kinds.specs.declared.kinds.SyntaxKind.{SyntaxKind}
 use Rattle.rnix_kinds.specs.contracts.kinds.SyntaxKind.{the_row}
+use Rattle.rnix_kinds.specs.SyntaxKind.{is_trivia}
 use Rattle.rnix_kinds.specs.Lexical.Tokens.{Lexeme}
-use Rattle.rnix_grammar.specs.Sketch.{Token}
-use Rattle.rnix_grammar.specs.Layout.{from_item}
+use Rattle.rnix_grammar.specs.AnnotatedForest.{Token}
+use Rattle.rnix_grammar.specs.Layout.{from_item, tail_of}
 use Rattle.rnix_reader.specs.declared.cursor.PlacedToken.{PlacedToken}
 use Rattle.rnix_reader.specs.declared.cursor.TokenEnd.{TokenEnd}
 
@@ -50,6 +51,10 @@ AreEnds text start (t ∷ ts) = (start ≤ t.end) × IsCharBoundary text t.end �
 abbrev pub AreInOrder : ℕ → List Token → Type 0
 AreInOrder n [] = Unit {0}
 AreInOrder n (t ∷ ts) = (n ≤ t.start) × (t.start ≤ t.end) × AreInOrder t.end ts
+
+-- the token is the first of these, and it is trivia
+abbrev pub BeginsWithTrivia : Token → List Token → Type 0
+BeginsWithTrivia t ts = (ts ≡ t ∷ tail_of ts) × (is_trivia t.kind ≡ true)
 
 -- the tokens of the text from a place on are left, and the next item is at another
 pub record IsCursor (text : List ℕ) (ts : List TokenEnd) (at next : ℕ) : Type 0 where

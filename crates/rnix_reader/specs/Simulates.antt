@@ -1,7 +1,7 @@
 -- The reader simulates the machine: from the state that is a machine's it comes to the state of the machine that the step makes.
 use Rattle.std.specs.Prelude.{◌≡◌, ℕ, true, List, ◌∷◌, Result, OnOk}
 use Rattle.rnix_grammar.specs.Fault.{Fault}
-use Rattle.rnix_grammar.specs.Sketch.{Token}
+use Rattle.rnix_grammar.specs.AnnotatedForest.{Token}
 use Rattle.rnix_grammar.specs.Layout.{items}
 use Rattle.rnix_grammar.specs.Machine.{Frame, Machine, machine, operand_on, step}
 use Rattle.rnix_reader.specs.declared.mark.Mark.{Mark}

@@ -7,7 +7,7 @@ use Rattle.rnix_grammar.specs.declared.begin.Begin.{Begin}
 use Rattle.rnix_grammar.specs.declared.place.Place.{Place}
 use Rattle.rnix_grammar.specs.declared.place.Place.TheVariants.{EntryMore, LambdaColon, TwiceName}
 use Rattle.rnix_grammar.specs.Begins.{begin_of, second_kind}
-use Rattle.rnix_grammar.specs.Sketch.{Token, head_kind}
+use Rattle.rnix_grammar.specs.AnnotatedForest.{Token, head_kind}
 use Rattle.rnix_reader.specs.declared.mark.Mark.{Mark}
 use Rattle.rnix_reader.specs.State.{State, eaten, bumped, started, started_at, ended, marked}
 use Rattle.rnix_reader.specs.Flat.{mark_at}

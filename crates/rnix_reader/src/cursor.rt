@@ -1,9 +1,9 @@
 //! The tokens of a text, and how far they are read.
 
-ghost use Rattle.std.specs.Prelude.{◌≡◌, ◌≤◌, ℕ, List, length, drop, IfOk, option_map};
-ghost use Rattle.rnix_grammar.specs.Sketch.{placed_from, head_of, head_kind};
+ghost use Rattle.std.specs.Prelude.{◌≡◌, ◌≤◌, ℕ, List, length, drop, IfOk, MatchOption, option_map};
+ghost use Rattle.rnix_grammar.specs.AnnotatedForest.{placed_from, head_of, head_kind};
 ghost use Rattle.rnix_grammar.specs.Layout.{from_item, tail_of, items};
-ghost use Rattle.rnix_reader.specs.Placed.{token_of, ends_from, tokens_cut, start_of, AreEnds, AreInOrder, IsCursor};
+ghost use Rattle.rnix_reader.specs.Placed.{token_of, ends_from, tokens_cut, start_of, AreEnds, AreInOrder, BeginsWithTrivia};
 
 use rnix_kinds::{SyntaxKind, Tokenizer};
 use std::alloc::{AllocError, Global};
@@ -11,6 +11,9 @@ use std::marker::Model;
 
 // How many bytes of text there is room for a token by, before the tokens are counted.
 const BYTES_PER_TOKEN: usize = 2;
+
+// A text has fewer bytes, as a tree's text has.
+const LIMIT: usize = 1 << 32;
 
 /// A token, and the bytes that it takes.
 #[derive(Clone, Copy)]
@@ -25,8 +28,10 @@ pub(crate) struct PlacedToken<'t> {
 #[derive(Clone, Copy)]
 struct TokenEnd {
     kind: SyntaxKind,
-    end: usize,
+    end: u32,
 }
+
+const _: () = prove!(size_of::<TokenEnd>() == 8);
 
 /// The tokens that are left.
 #[derive(Drop)]
@@ -40,7 +45,7 @@ pub(crate) struct Cursor<'t> {
 
 impl<'t> Model for Cursor<'t> {
     ghost use Rattle.std.specs.Prelude.{List, drop};
-    ghost use Rattle.rnix_grammar.specs.Sketch.{Token};
+    ghost use Rattle.rnix_grammar.specs.AnnotatedForest.{Token};
     ghost use Rattle.rnix_reader.specs.Placed.{tokens_code, tokens_cut, IsCursor};
 
     ghost Value = { List Token };
@@ -58,12 +63,18 @@ fn token_ends(alloc: Global, tokens: Tokenizer<'_>) -> Result<Vec<TokenEnd>, All
 {
     let mut tokens = tokens;
     let whole = tokens.rest().len();
+    if whole >= LIMIT {
+        return Err(AllocError);
+    }
     let mut ends = Vec::with_capacity(alloc, whole / BYTES_PER_TOKEN)?;
     let mut end = 0;
     while let Some(token) = tokens.next_token() {
         let (kind, text) = token?;
         end += text.len();
-        ends.push(TokenEnd { kind, end })?;
+        ends.push(TokenEnd {
+            kind,
+            end: end as u32,
+        })?;
     }
     Ok(ends)
 }
@@ -76,7 +87,7 @@ fn start_at(tokens: &[TokenEnd], at: usize) -> usize
     if at == 0 {
         return 0;
     }
-    tokens[at - 1].end
+    tokens[at - 1].end as usize
 }
 
 // The token of the text at a place.
@@ -86,7 +97,7 @@ fn token_at<'t>(text: &'t str, tokens: &[TokenEnd], at: usize) -> Option<PlacedT
 {
     if at < tokens.len() {
         let TokenEnd { kind, end } = tokens[at];
-        let start = start_at(tokens, at);
+        let (start, end) = (start_at(tokens, at), end as usize);
         return Some(PlacedToken {
             kind,
             text: &text[start..end],
@@ -162,6 +173,16 @@ impl<'t> Cursor<'t> {
         token_at(self.text, &self.tokens, self.at)
     }
 
+    /// The next token, if it is trivia.
+    pub(crate) fn trivia(&self) -> Option<PlacedToken<'t>>
+        ensures { MatchOption result (from_item self.now ≡ self.now) (λ t. BeginsWithTrivia (token_of t) self.now) }
+    {
+        if self.at < self.next {
+            return self.token();
+        }
+        None
+    }
+
     /// The next token that is not trivia.
     pub(crate) fn item(&self) -> Option<PlacedToken<'t>>
         ensures { option_map token_of result ≡ head_of (from_item self.now) }
@@ -197,7 +218,9 @@ impl<'t> Cursor<'t> {
     {
         if self.at < self.tokens.len() {
             self.at += 1;
-            self.next = item_from(&self.tokens, self.next.max(self.at));
+            if self.next < self.at {
+                self.next = item_from(&self.tokens, self.at);
+            }
         }
     }
 

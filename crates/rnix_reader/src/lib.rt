@@ -3,6 +3,7 @@
 
 mod cursor;
 mod document;
+mod leaf_kind;
 mod mark;
 mod names;
 mod operands;
@@ -10,6 +11,5 @@ mod parser;
 mod reading;
 mod runs;
 mod steps;
-mod told;
 
 pub use document::read_tokens;

@@ -2,7 +2,7 @@
 
 ghost use Rattle.std.specs.Prelude.{◌≡◌, OnOk, None, if◌then◌else◌};
 ghost use Rattle.rnix_grammar.specs.Begins.{second_kind};
-ghost use Rattle.rnix_grammar.specs.Sketch.{head_kind};
+ghost use Rattle.rnix_grammar.specs.AnnotatedForest.{head_kind};
 ghost use Rattle.rnix_grammar.specs.Layout.{tail_of};
 ghost use Rattle.rnix_reader.specs.Placed.{token_of};
 ghost use Rattle.rnix_reader.specs.State.{state, items_left, IsNextItem};

@@ -4,14 +4,14 @@ ghost use Rattle.std.specs.Prelude.{◌≡◌, ◌<◌, length, IfOk, OnOk, IsTr
 ghost use Rattle.rnix_tree.specs.Forest.{tree_count};
 ghost use Rattle.rnix_tree.specs.Draft.{is_checkpoint_of};
 ghost use Rattle.rnix_grammar.specs.Fault.{fault_of};
-ghost use Rattle.rnix_grammar.specs.Sketch.{head_of, head_kind, touches};
+ghost use Rattle.rnix_grammar.specs.AnnotatedForest.{head_of, head_kind, touches};
 ghost use Rattle.rnix_reader.specs.Placed.{token_of, AreInOrder};
 ghost use Rattle.rnix_reader.specs.State.{State, state, items_left, eaten, bumped, started, started_at, ended, failed, marked};
 ghost use Rattle.rnix_reader.specs.Flat.{mark_at};
 
 use crate::cursor::{Cursor, PlacedToken};
+use crate::leaf_kind::leaf_kind_as;
 use crate::mark::Mark;
-use crate::told::told_as;
 use rnix_grammar::{ParseError, Place};
 use rnix_kinds::SyntaxKind;
 use rnix_tree::{Checkpoint, GreenNodeBuilder};
@@ -58,10 +58,7 @@ impl<'t> Parser<'t> {
         ensures state { OnOk result (state self.new ≡ eaten (state self.old)) }
         ensures nodes { OnOk result (self.new.builder.open_nodes ≡ self.old.builder.open_nodes) }
     {
-        while let Some(token) = self.cursor.token() {
-            if !token.kind.is_trivia() {
-                return Ok(());
-            }
+        while let Some(token) = self.cursor.trivia() {
             self.builder.token(token.kind, token.text)?;
             self.cursor.advance();
         }
@@ -135,7 +132,8 @@ impl<'t> Parser<'t> {
     {
         self.eat_trivia()?;
         if let Some(token) = self.cursor.token() {
-            self.builder.token(told_as(parent, token.kind), token.text)?;
+            self.builder
+                .token(leaf_kind_as(parent, token.kind), token.text)?;
             self.cursor.advance();
             self.reached = token.end;
         }

@@ -2,7 +2,7 @@
 
 ghost use Rattle.std.specs.Prelude.{◌≡◌, ◌≤◌, ◌<◌, [], length, OnOk, true, false};
 ghost use Rattle.rnix_grammar.specs.Tables.{stops};
-ghost use Rattle.rnix_grammar.specs.Sketch.{Token, Extra, head_kind};
+ghost use Rattle.rnix_grammar.specs.AnnotatedForest.{Token, Extra, head_kind};
 ghost use Rattle.rnix_grammar.specs.Machine.{Machine, begins, begun, reading, low_of};
 ghost use Rattle.rnix_reader.specs.Placed.{token_of, AreInOrder};
 ghost use Rattle.rnix_reader.specs.State.{state, items_left, IsNextItem};

@@ -3,15 +3,15 @@
 ghost use Rattle.std.specs.Prelude.{◌≡◌, IfOk, OnOk, false, Some};
 ghost use Rattle.rnix_tree.specs.Range.{bounds_of};
 ghost use Rattle.rnix_grammar.specs.Tables.{stops};
-ghost use Rattle.rnix_grammar.specs.Sketch.{Unwanted, Extra, extent_of};
+ghost use Rattle.rnix_grammar.specs.AnnotatedForest.{Unwanted, Extra, extent_of};
 ghost use Rattle.rnix_reader.specs.Placed.{token_of};
 ghost use Rattle.rnix_reader.specs.State.{state, items_left, skipped, IsNextItem};
 ghost use Rattle.rnix_reader.specs.Reported.{end_reported, error_over, limit_reported, next_run, reported, stray_reported};
 ghost use Rattle.rnix_reader.specs.Steps.{leafed};
 
 use crate::cursor::PlacedToken;
+use crate::leaf_kind::leaf_kind_as;
 use crate::parser::Parser;
-use crate::told::told_as;
 use rnix_grammar::{ParseError, Until, operand_kinds, stops, wanted_kinds};
 use rnix_kinds::SyntaxKind;
 use rnix_tree::TextRange;
@@ -25,8 +25,8 @@ impl<'t> Parser<'t> {
     {
         self.eat_trivia()?;
         if let Some(token) = self.cursor.token() {
-            let told = told_as(kind, token.kind);
-            self.builder.leaf_node(kind, told, token.text)?;
+            let leaf_kind = leaf_kind_as(kind, token.kind);
+            self.builder.leaf_node(kind, leaf_kind, token.text)?;
             self.cursor.advance();
             self.reached = token.end;
             return Ok(());

@@ -1,5 +1,5 @@
 use Rattle.std.proofs.Common.{ap, sym, arith}
-use Rattle.rnix_grammar.specs.Sketch.{head_kind}
+use Rattle.rnix_grammar.specs.AnnotatedForest.{head_kind}
 use Rattle.rnix_reader.proofs.CursorLemmas.{at_place, behind_all}
 use Rattle.rnix_reader.proofs.cursor.kind_at.Goals as goal
 

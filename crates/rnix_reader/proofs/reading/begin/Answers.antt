@@ -1,9 +1,9 @@
 use Rattle.std.proofs.Common.{ap, sym, ◌∙◌, true, false, [], ◌∷◌}
-use Rattle.rnix_grammar.specs.Sketch.{head_of}
+use Rattle.rnix_grammar.specs.AnnotatedForest.{head_of}
 use Rattle.rnix_kinds.specs.declared.kinds.SyntaxKind.TheVariants.{NODE_LEGACY_LET, NODE_IDENT, NODE_IDENT_PARAM, NODE_PATTERN, NODE_PAT_BIND, NODE_ERROR}
 use Rattle.rnix_grammar.specs.declared.place.Place.TheVariants as p
 use Rattle.rnix_grammar.specs.Machine.{begun}
-use Rattle.rnix_grammar.specs.Sketch.{Stray}
+use Rattle.rnix_grammar.specs.AnnotatedForest.{Stray}
 use Rattle.rnix_grammar.specs.Reports.{report}
 use Rattle.rnix_reader.specs.Placed.{token_of}
 use Rattle.rnix_reader.specs.Flat.{flat}

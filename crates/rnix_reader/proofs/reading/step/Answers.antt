@@ -6,7 +6,7 @@ use Rattle.rnix_reader.proofs.RunLemmas.{left_moved}
 use Rattle.rnix_kinds.specs.declared.kinds.SyntaxKind.TheVariants.{NODE_APPLY}
 use Rattle.rnix_grammar.specs.declared.place.Place.TheVariants as p
 use Rattle.rnix_grammar.specs.Tables.{stops}
-use Rattle.rnix_grammar.specs.Sketch.{head_kind, blank}
+use Rattle.rnix_grammar.specs.AnnotatedForest.{head_kind, blank}
 use Rattle.rnix_grammar.specs.Machine.{Node, Operand, opened, put, low_of}
 use Rattle.rnix_reader.proofs.FlatLemmas.{flat-bumped}
 use Rattle.rnix_grammar.specs.declared.action.Action.TheVariants as a

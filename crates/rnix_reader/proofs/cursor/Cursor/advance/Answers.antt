@@ -1,27 +1,31 @@
-use Rattle.std.proofs.Common.{◌≡◌, sym, ap, ◌∙◌, List, [], ℕ, max, suc, ◌<◌, drop, length, arith, add-one}
-use Rattle.rnix_grammar.specs.Layout.{from_item, tail_of}
-use Rattle.rnix_grammar.specs.Sketch.{Token}
+use Rattle.std.proofs.Common.{◌≡◌, sym, ap, ◌∙◌, List, [], ℕ, ◌<◌, length, arith, add-one}
+use Rattle.rnix_grammar.specs.Layout.{tail_of}
+use Rattle.rnix_grammar.specs.AnnotatedForest.{Token}
 use Rattle.rnix_reader.specs.declared.cursor.TokenEnd.{TokenEnd}
 use Rattle.rnix_reader.specs.Placed.{tokens_cut}
-use Rattle.rnix_reader.proofs.CursorLemmas.{behind_all, next_item, tail-drop}
+use Rattle.rnix_reader.proofs.CursorLemmas.{behind_all, item_kept, length-tokens_cut, tail-drop}
 use Rattle.rnix_reader.proofs.cursor.Cursor.advance.Goals as goal
 
 pub invariant_of-self : goal.invariant_of-self
-invariant_of-self c =
-    let text : List ℕ = c.self.inside.text.now in
-    let ts : List TokenEnd = c.self.inside.tokens.items in
-    let all : List Token = tokens_cut text 0 ts in
-    let at : ℕ = c.self.inside.at in
-    let within : at < length ts = omega (arith, c.if-self-len.true, c.len.ensures, c.self.inside.tokens.ok.0) in
-    let here : from_item (drop c.max.result all) ≡ drop c.item_from-self-inside.result all = rw (c.deref.ensures.value) at (c.item_from-self-inside.ensures text) in
-    let place : c.max.result ≡ max c.self.inside.next (suc at) = rw (add-one) at c.max.ensures in
-    record {
-      ends = c.self.invariant.ends;
-      item = rw (add-one) (sym (next_item text ts at c.self.inside.next within c.self.invariant.item) ∙ ap (λ x. from_item (drop x all)) (sym place) ∙ here);
-    }
+invariant_of-self c = record {
+  ends = c.self.invariant.ends;
+  item = rw (c.deref.ensures.value) at (c.item_from-self-inside.ensures c.self.inside.text.now);
+}
 
-pub returns-then-self-len : goal.returns-then-self-len
-returns-then-self-len c =
+pub invariant_of-self-else-self : goal.invariant_of-self-else-self
+invariant_of-self-else-self c =
+    let ts : List TokenEnd = c.self.inside.tokens.items in
+    let all : List Token = tokens_cut c.self.inside.text.now 0 ts in
+    let at : ℕ = c.self.inside.at in
+    let within : at < length all = omega (arith, c.if-self-len.true, c.len.ensures, c.self.inside.tokens.ok.0, length-tokens_cut c.self.inside.text.now 0 ts) in
+    record { ends = c.self.invariant.ends; item = rw (add-one) (item_kept all at c.self.inside.next within c.self.invariant.item (omega (arith, c.if-self.false))) }
+
+pub returns-then-self : goal.returns-then-self
+returns-then-self c =
+    rw (add-one) (sym (ap tail_of (sym c.self.view_is) ∙ tail-drop c.self.inside.at (tokens_cut c.self.inside.text.now 0 c.self.inside.tokens.items)))
+
+pub returns-else-self : goal.returns-else-self
+returns-else-self c =
     rw (add-one) (sym (ap tail_of (sym c.self.view_is) ∙ tail-drop c.self.inside.at (tokens_cut c.self.inside.text.now 0 c.self.inside.tokens.items)))
 
 pub returns-else-self-len : goal.returns-else-self-len

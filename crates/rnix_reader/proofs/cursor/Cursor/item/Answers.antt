@@ -1,5 +1,5 @@
 use Rattle.std.proofs.Common.{sym, ap, ◌∙◌}
-use Rattle.rnix_grammar.specs.Sketch.{head_of}
+use Rattle.rnix_grammar.specs.AnnotatedForest.{head_of}
 use Rattle.rnix_grammar.specs.Layout.{from_item}
 use Rattle.rnix_reader.proofs.cursor.Cursor.item.Goals as goal
 

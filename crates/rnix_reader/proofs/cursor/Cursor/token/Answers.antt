@@ -1,5 +1,5 @@
 use Rattle.std.proofs.Common.{ap, ◌∙◌}
-use Rattle.rnix_grammar.specs.Sketch.{head_of}
+use Rattle.rnix_grammar.specs.AnnotatedForest.{head_of}
 use Rattle.rnix_reader.proofs.cursor.Cursor.token.Goals as goal
 
 pub returns : goal.returns

@@ -12,7 +12,7 @@ returns-in-Some-clause-state c =
     let b = c.eat_trivia.new.self.builder in
     leafed-item c.args.kind (state c.args.self.now) (state c.eat_trivia.new.self) _ (token_of c.in-Some.token) _ c.in_ok-eat_trivia.ensures.state
     (first_there _ _ _ c.token.ensures c.in-Some.is)
-    (c.in_ok-leaf_node.ensures.ok ∙ ap (λ k. node_closed (leaf_added k c.in-Some.token.text.now (node_opened c.args.kind (tree_count b.finished) b))) c.told_as-told.ensures)
+    (c.in_ok-leaf_node.ensures.ok ∙ ap (λ k. node_closed (leaf_added k c.in-Some.token.text.now (node_opened c.args.kind (tree_count b.finished) b))) c.leaf_kind_as-leaf_kind.ensures)
     c.advance.ensures refl refl refl refl refl
 
 pub returns-clause-state : goal.returns-clause-state

@@ -1,6 +1,6 @@
 use Rattle.std.proofs.Common.{sym, ap, ◌∙◌}
 use Rattle.std.specs.Option.{option_map}
-use Rattle.rnix_grammar.specs.Sketch.{kind_in}
+use Rattle.rnix_grammar.specs.AnnotatedForest.{kind_in}
 use Rattle.rnix_grammar.specs.Tables.{stops}
 use Rattle.rnix_reader.specs.Placed.{token_of}
 use Rattle.rnix_reader.specs.State.{state}

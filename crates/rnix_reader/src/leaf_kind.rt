@@ -1,13 +1,13 @@
 //! The kinds of leaves.
 
 ghost use Rattle.std.specs.Prelude.{◌≡◌};
-ghost use Rattle.rnix_grammar.specs.Sketch.{told_as};
+ghost use Rattle.rnix_grammar.specs.AnnotatedForest.{leaf_kind_as};
 
 use rnix_kinds::SyntaxKind;
 
 /// The kind of a token's leaf below a node: the name `or` is a name like any other, and `__curPos` is not a name where it is the current position.
-pub(crate) fn told_as(parent: SyntaxKind, kind: SyntaxKind) -> SyntaxKind
-    ensures { result ≡ told_as parent kind }
+pub(crate) fn leaf_kind_as(parent: SyntaxKind, kind: SyntaxKind) -> SyntaxKind
+    ensures { result ≡ leaf_kind_as parent kind }
 {
     match (parent, kind) {
         (SyntaxKind::NODE_IDENT, SyntaxKind::TOKEN_OR) => SyntaxKind::TOKEN_IDENT,
