@@ -8,10 +8,12 @@ mod whole;
 pub use ast::Root;
 pub use rnix_grammar::ParseError;
 pub use rnix_kinds::{ParseSyntaxKindError, SyntaxKind, Token, TokenSet, Tokenizer, tokenize};
+pub use rnix_text::{ColumnUnit, EditError, Edits, LineIndex, Position};
 pub use rnix_tree::{
-    Ancestors, Checkpoint, Descendants, DescendantsWithTokens, GreenNode, GreenNodeBuilder,
-    NodeOrToken, Preorder, PreorderWithTokens, SyntaxElement, SyntaxElementChildren, SyntaxNode,
-    SyntaxNodeChildren, SyntaxToken, TextRange, TextSize, TokenAtOffset, WalkEvent,
+    Ancestors, Checkpoint, Descendants, DescendantsWithTokens, Direction, GreenNode,
+    GreenNodeBuilder, NodeOrToken, Preorder, PreorderWithTokens, Siblings, SiblingsWithTokens,
+    SyntaxElement, SyntaxElementChildren, SyntaxNode, SyntaxNodeChildren, SyntaxNodePtr,
+    SyntaxToken, TextRange, TextSize, TokenAtOffset, WalkEvent, dump,
 };
 pub use root::Parse;
 pub use whole::nodes_have_parts;

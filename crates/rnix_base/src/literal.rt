@@ -12,7 +12,7 @@ use rnix_kinds::SyntaxKind;
 use rnix_tree::{SyntaxNode, SyntaxToken};
 use std::fmt;
 use std::marker::Model;
-use std::num::ParseIntError;
+use std::num::{ParseFloatError, ParseIntError};
 use std::str::FromStr;
 
 /// What a literal is.
@@ -81,6 +81,24 @@ impl<'t> fmt::Display for Float<'t> {
     }
 }
 
+impl<'t> Float<'t> {
+    /// The number, as Rust parses its text: the nearest to it that an `f64` holds.
+    pub fn value(&self) -> Result<f64, ParseFloatError>
+        ensures { ⟦<f64 as FromStr>⟧.from_str_gives (text_at self.now) result }
+    {
+        self.syntax.text().parse()
+    }
+
+    /// The same token once more.
+    pub fn clone(&self) -> Self
+        ensures { result ≡ self.now }
+    {
+        Float {
+            syntax: self.syntax.clone(),
+        }
+    }
+}
+
 /// A whole number, as `42`.
 #[derive(Clone, Debug, PartialEq, Eq, Hash, Drop)]
 pub struct Integer<'t> {
@@ -140,6 +158,15 @@ impl<'t> fmt::Display for Integer<'t> {
 }
 
 impl<'t> Integer<'t> {
+    /// The same token once more.
+    pub fn clone(&self) -> Self
+        ensures { result ≡ self.now }
+    {
+        Integer {
+            syntax: self.syntax.clone(),
+        }
+    }
+
     /// The number, as Rust parses its text.
     pub fn value(&self) -> Result<i64, ParseIntError>
         ensures { ⟦<i64 as FromStr>⟧.from_str_gives (text_at self.now) result }
@@ -203,6 +230,17 @@ impl<'t> fmt::Display for Uri<'t> {
 
     fn fmt<W: fmt::Write>(&self, f: &mut fmt::Formatter<W>) -> fmt::Result {
         f.write_str(self.syntax.text())
+    }
+}
+
+impl<'t> Uri<'t> {
+    /// The same token once more.
+    pub fn clone(&self) -> Self
+        ensures { result ≡ self.now }
+    {
+        Uri {
+            syntax: self.syntax.clone(),
+        }
     }
 }
 

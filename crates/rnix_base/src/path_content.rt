@@ -64,6 +64,15 @@ impl<'t> AstToken<'t> for PathContent<'t> {
 }
 
 impl<'t> PathContent<'t> {
+    /// The same token once more.
+    pub fn clone(&self) -> Self
+        ensures { result ≡ self.now }
+    {
+        PathContent {
+            syntax: self.syntax.clone(),
+        }
+    }
+
     /// The text, as it is written.
     pub fn text(&self) -> &'t str
         ensures { result.now ≡ text_at self.now }

@@ -70,6 +70,17 @@ impl<'t> fmt::Display for Whitespace<'t> {
     }
 }
 
+impl<'t> Whitespace<'t> {
+    /// The same token once more.
+    pub fn clone(&self) -> Self
+        ensures { result ≡ self.now }
+    {
+        Whitespace {
+            syntax: self.syntax.clone(),
+        }
+    }
+}
+
 /// A comment, as `# so` or `/* so */`.
 #[derive(Clone, Debug, PartialEq, Eq, Hash, Drop)]
 pub struct Comment<'t> {
@@ -149,6 +160,15 @@ fn said(text: &str) -> &str
 }
 
 impl<'t> Comment<'t> {
+    /// The same token once more.
+    pub fn clone(&self) -> Self
+        ensures { result ≡ self.now }
+    {
+        Comment {
+            syntax: self.syntax.clone(),
+        }
+    }
+
     /// What the comment says: the text after `#`, or between `/*` and `*/`. A text that is neither is given whole.
     pub fn text(&self) -> &'t str
         ensures { Says (text_at self.now) result.now }
@@ -212,5 +232,16 @@ impl<'t> fmt::Display for StrContent<'t> {
 
     fn fmt<W: fmt::Write>(&self, f: &mut fmt::Formatter<W>) -> fmt::Result {
         f.write_str(self.syntax.text())
+    }
+}
+
+impl<'t> StrContent<'t> {
+    /// The same token once more.
+    pub fn clone(&self) -> Self
+        ensures { result ≡ self.now }
+    {
+        StrContent {
+            syntax: self.syntax.clone(),
+        }
     }
 }

@@ -66,6 +66,19 @@ impl<'t> fmt::Display for Attr<'t> {
     }
 }
 
+impl<'t> Attr<'t> {
+    /// The same node once more.
+    pub fn clone(&self) -> Self
+        ensures { result ≡ self.now }
+    {
+        match self {
+            Attr::Ident(node) => Attr::Ident(node.clone()),
+            Attr::Dynamic(node) => Attr::Dynamic(node.clone()),
+            Attr::Str(node) => Attr::Str(node.clone()),
+        }
+    }
+}
+
 impl<'t> From<Ident<'t>> for Attr<'t> {
     ghost from_gives = { λ node sum. sum ≡ attr.Ident node };
 
@@ -184,6 +197,20 @@ impl<'t> fmt::Display for Path<'t> {
 
     fn fmt<W: fmt::Write>(&self, f: &mut fmt::Formatter<W>) -> fmt::Result {
         f.write_str(self.syntax().text())
+    }
+}
+
+impl<'t> Path<'t> {
+    /// The same node once more.
+    pub fn clone(&self) -> Self
+        ensures { result ≡ self.now }
+    {
+        match self {
+            Path::PathAbs(node) => Path::PathAbs(node.clone()),
+            Path::PathRel(node) => Path::PathRel(node.clone()),
+            Path::PathHome(node) => Path::PathHome(node.clone()),
+            Path::PathSearch(node) => Path::PathSearch(node.clone()),
+        }
     }
 }
 

@@ -63,6 +63,18 @@ impl<'t> fmt::Display for Param<'t> {
     }
 }
 
+impl<'t> Param<'t> {
+    /// The same node once more.
+    pub fn clone(&self) -> Self
+        ensures { result ≡ self.now }
+    {
+        match self {
+            Param::Pattern(node) => Param::Pattern(node.clone()),
+            Param::IdentParam(node) => Param::IdentParam(node.clone()),
+        }
+    }
+}
+
 impl<'t> From<Pattern<'t>> for Param<'t> {
     ghost from_gives = { λ node sum. sum ≡ param.Pattern node };
 
@@ -151,6 +163,18 @@ impl<'t> fmt::Display for Entry<'t> {
 
     fn fmt<W: fmt::Write>(&self, f: &mut fmt::Formatter<W>) -> fmt::Result {
         f.write_str(self.syntax().text())
+    }
+}
+
+impl<'t> Entry<'t> {
+    /// The same node once more.
+    pub fn clone(&self) -> Self
+        ensures { result ≡ self.now }
+    {
+        match self {
+            Entry::Inherit(node) => Entry::Inherit(node.clone()),
+            Entry::AttrpathValue(node) => Entry::AttrpathValue(node.clone()),
+        }
     }
 }
 

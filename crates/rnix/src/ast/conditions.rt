@@ -75,6 +75,15 @@ impl<'t> IfElse<'t> {
     /// The kind of these nodes.
     pub const KIND: SyntaxKind = SyntaxKind::NODE_IF_ELSE;
 
+    /// The same node once more.
+    pub fn clone(&self) -> Self
+        ensures { result ≡ self.now }
+    {
+        IfElse {
+            syntax: self.syntax.clone(),
+        }
+    }
+
     /// The word `if`.
     pub fn if_token(&self) -> Option<SyntaxToken<'t>>
         ensures { result ≡ token_of (same_kind k.TOKEN_IF) self.now }
@@ -179,6 +188,15 @@ impl<'t> Assert<'t> {
     /// The kind of these nodes.
     pub const KIND: SyntaxKind = SyntaxKind::NODE_ASSERT;
 
+    /// The same node once more.
+    pub fn clone(&self) -> Self
+        ensures { result ≡ self.now }
+    {
+        Assert {
+            syntax: self.syntax.clone(),
+        }
+    }
+
     /// The word `assert`.
     pub fn assert_token(&self) -> Option<SyntaxToken<'t>>
         ensures { result ≡ token_of (same_kind k.TOKEN_ASSERT) self.now }
@@ -261,6 +279,15 @@ impl<'t> fmt::Display for With<'t> {
 impl<'t> With<'t> {
     /// The kind of these nodes.
     pub const KIND: SyntaxKind = SyntaxKind::NODE_WITH;
+
+    /// The same node once more.
+    pub fn clone(&self) -> Self
+        ensures { result ≡ self.now }
+    {
+        With {
+            syntax: self.syntax.clone(),
+        }
+    }
 
     /// The word `with`.
     pub fn with_token(&self) -> Option<SyntaxToken<'t>>

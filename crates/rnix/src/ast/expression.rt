@@ -156,3 +156,37 @@ impl<'t> fmt::Display for Expr<'t> {
         f.write_str(self.syntax().text())
     }
 }
+
+impl<'t> Expr<'t> {
+    /// The same node once more.
+    pub fn clone(&self) -> Self
+        ensures { result ≡ self.now }
+    {
+        match self {
+            Expr::Apply(node) => Expr::Apply(node.clone()),
+            Expr::Assert(node) => Expr::Assert(node.clone()),
+            Expr::Error(node) => Expr::Error(node.clone()),
+            Expr::IfElse(node) => Expr::IfElse(node.clone()),
+            Expr::Select(node) => Expr::Select(node.clone()),
+            Expr::Str(node) => Expr::Str(node.clone()),
+            Expr::PathAbs(node) => Expr::PathAbs(node.clone()),
+            Expr::PathRel(node) => Expr::PathRel(node.clone()),
+            Expr::PathHome(node) => Expr::PathHome(node.clone()),
+            Expr::PathSearch(node) => Expr::PathSearch(node.clone()),
+            Expr::Literal(node) => Expr::Literal(node.clone()),
+            Expr::Lambda(node) => Expr::Lambda(node.clone()),
+            Expr::LegacyLet(node) => Expr::LegacyLet(node.clone()),
+            Expr::LetIn(node) => Expr::LetIn(node.clone()),
+            Expr::List(node) => Expr::List(node.clone()),
+            Expr::BinOp(node) => Expr::BinOp(node.clone()),
+            Expr::Paren(node) => Expr::Paren(node.clone()),
+            Expr::Root(node) => Expr::Root(node.clone()),
+            Expr::AttrSet(node) => Expr::AttrSet(node.clone()),
+            Expr::UnaryOp(node) => Expr::UnaryOp(node.clone()),
+            Expr::Ident(node) => Expr::Ident(node.clone()),
+            Expr::With(node) => Expr::With(node.clone()),
+            Expr::HasAttr(node) => Expr::HasAttr(node.clone()),
+            Expr::CurPos(node) => Expr::CurPos(node.clone()),
+        }
+    }
+}

@@ -75,6 +75,15 @@ impl<'t> Paren<'t> {
     /// The kind of these nodes.
     pub const KIND: SyntaxKind = SyntaxKind::NODE_PAREN;
 
+    /// The same node once more.
+    pub fn clone(&self) -> Self
+        ensures { result ≡ self.now }
+    {
+        Paren {
+            syntax: self.syntax.clone(),
+        }
+    }
+
     /// The sign `(`.
     pub fn l_paren_token(&self) -> Option<SyntaxToken<'t>>
         ensures { result ≡ token_of (same_kind k.TOKEN_L_PAREN) self.now }
@@ -157,6 +166,15 @@ impl<'t> fmt::Display for List<'t> {
 impl<'t> List<'t> {
     /// The kind of these nodes.
     pub const KIND: SyntaxKind = SyntaxKind::NODE_LIST;
+
+    /// The same node once more.
+    pub fn clone(&self) -> Self
+        ensures { result ≡ self.now }
+    {
+        List {
+            syntax: self.syntax.clone(),
+        }
+    }
 
     /// The sign `[`.
     pub fn l_brack_token(&self) -> Option<SyntaxToken<'t>>
@@ -242,6 +260,15 @@ impl<'t> Root<'t> {
     /// The kind of these nodes.
     pub const KIND: SyntaxKind = SyntaxKind::NODE_ROOT;
 
+    /// The same node once more.
+    pub fn clone(&self) -> Self
+        ensures { result ≡ self.now }
+    {
+        Root {
+            syntax: self.syntax.clone(),
+        }
+    }
+
     /// The expression that the text is.
     pub fn expr(&self) -> Option<Expr<'t>>
         ensures { option_map expr_node result ≡ child_of is_expr 0 self.now }
@@ -310,4 +337,13 @@ impl<'t> fmt::Display for Error<'t> {
 impl<'t> Error<'t> {
     /// The kind of these nodes.
     pub const KIND: SyntaxKind = SyntaxKind::NODE_ERROR;
+
+    /// The same node once more.
+    pub fn clone(&self) -> Self
+        ensures { result ≡ self.now }
+    {
+        Error {
+            syntax: self.syntax.clone(),
+        }
+    }
 }

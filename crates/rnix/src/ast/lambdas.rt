@@ -77,6 +77,15 @@ impl<'t> Lambda<'t> {
     /// The kind of these nodes.
     pub const KIND: SyntaxKind = SyntaxKind::NODE_LAMBDA;
 
+    /// The same node once more.
+    pub fn clone(&self) -> Self
+        ensures { result ≡ self.now }
+    {
+        Lambda {
+            syntax: self.syntax.clone(),
+        }
+    }
+
     /// The parameter.
     pub fn param(&self) -> Option<Param<'t>>
         ensures { option_map param_node result ≡ child_of is_param 0 self.now }
@@ -159,6 +168,15 @@ impl<'t> fmt::Display for IdentParam<'t> {
 impl<'t> IdentParam<'t> {
     /// The kind of these nodes.
     pub const KIND: SyntaxKind = SyntaxKind::NODE_IDENT_PARAM;
+
+    /// The same node once more.
+    pub fn clone(&self) -> Self
+        ensures { result ≡ self.now }
+    {
+        IdentParam {
+            syntax: self.syntax.clone(),
+        }
+    }
 
     /// The name.
     pub fn ident(&self) -> Option<Ident<'t>>

@@ -75,6 +75,15 @@ impl<'t> LetIn<'t> {
     /// The kind of these nodes.
     pub const KIND: SyntaxKind = SyntaxKind::NODE_LET_IN;
 
+    /// The same node once more.
+    pub fn clone(&self) -> Self
+        ensures { result ≡ self.now }
+    {
+        LetIn {
+            syntax: self.syntax.clone(),
+        }
+    }
+
     /// The word `let`.
     pub fn let_token(&self) -> Option<SyntaxToken<'t>>
         ensures { result ≡ token_of (same_kind k.TOKEN_LET) self.now }
@@ -157,6 +166,15 @@ impl<'t> fmt::Display for LegacyLet<'t> {
 impl<'t> LegacyLet<'t> {
     /// The kind of these nodes.
     pub const KIND: SyntaxKind = SyntaxKind::NODE_LEGACY_LET;
+
+    /// The same node once more.
+    pub fn clone(&self) -> Self
+        ensures { result ≡ self.now }
+    {
+        LegacyLet {
+            syntax: self.syntax.clone(),
+        }
+    }
 
     /// The word `let`.
     pub fn let_token(&self) -> Option<SyntaxToken<'t>>

@@ -76,6 +76,15 @@ impl<'t> Ident<'t> {
     /// The kind of these nodes.
     pub const KIND: SyntaxKind = SyntaxKind::NODE_IDENT;
 
+    /// The same node once more.
+    pub fn clone(&self) -> Self
+        ensures { result ≡ self.now }
+    {
+        Ident {
+            syntax: self.syntax.clone(),
+        }
+    }
+
     /// The name itself.
     pub fn ident_token(&self) -> Option<SyntaxToken<'t>>
         ensures { result ≡ token_of (same_kind k.TOKEN_IDENT) self.now }
@@ -144,6 +153,15 @@ impl<'t> fmt::Display for Attrpath<'t> {
 impl<'t> Attrpath<'t> {
     /// The kind of these nodes.
     pub const KIND: SyntaxKind = SyntaxKind::NODE_ATTRPATH;
+
+    /// The same node once more.
+    pub fn clone(&self) -> Self
+        ensures { result ≡ self.now }
+    {
+        Attrpath {
+            syntax: self.syntax.clone(),
+        }
+    }
 
     /// The names, in order.
     pub fn attrs(&self) -> AstChildren<'t, Attr<'t>>
@@ -214,6 +232,15 @@ impl<'t> fmt::Display for Dynamic<'t> {
 impl<'t> Dynamic<'t> {
     /// The kind of these nodes.
     pub const KIND: SyntaxKind = SyntaxKind::NODE_DYNAMIC;
+
+    /// The same node once more.
+    pub fn clone(&self) -> Self
+        ensures { result ≡ self.now }
+    {
+        Dynamic {
+            syntax: self.syntax.clone(),
+        }
+    }
 
     /// The sign `${`.
     pub fn interpol_start_token(&self) -> Option<SyntaxToken<'t>>
@@ -297,6 +324,15 @@ impl<'t> fmt::Display for CurPos<'t> {
 impl<'t> CurPos<'t> {
     /// The kind of these nodes.
     pub const KIND: SyntaxKind = SyntaxKind::NODE_CUR_POS;
+
+    /// The same node once more.
+    pub fn clone(&self) -> Self
+        ensures { result ≡ self.now }
+    {
+        CurPos {
+            syntax: self.syntax.clone(),
+        }
+    }
 
     /// The word `__curPos`.
     pub fn cur_pos_token(&self) -> Option<SyntaxToken<'t>>

@@ -77,6 +77,15 @@ impl<'t> Apply<'t> {
     /// The kind of these nodes.
     pub const KIND: SyntaxKind = SyntaxKind::NODE_APPLY;
 
+    /// The same node once more.
+    pub fn clone(&self) -> Self
+        ensures { result ≡ self.now }
+    {
+        Apply {
+            syntax: self.syntax.clone(),
+        }
+    }
+
     /// The function.
     pub fn lambda(&self) -> Option<Expr<'t>>
         ensures { option_map expr_node result ≡ child_of is_expr 0 self.now }
@@ -152,6 +161,15 @@ impl<'t> fmt::Display for BinOp<'t> {
 impl<'t> BinOp<'t> {
     /// The kind of these nodes.
     pub const KIND: SyntaxKind = SyntaxKind::NODE_BIN_OP;
+
+    /// The same node once more.
+    pub fn clone(&self) -> Self
+        ensures { result ≡ self.now }
+    {
+        BinOp {
+            syntax: self.syntax.clone(),
+        }
+    }
 
     /// The operand on the left.
     pub fn lhs(&self) -> Option<Expr<'t>>
@@ -235,6 +253,15 @@ impl<'t> fmt::Display for UnaryOp<'t> {
 impl<'t> UnaryOp<'t> {
     /// The kind of these nodes.
     pub const KIND: SyntaxKind = SyntaxKind::NODE_UNARY_OP;
+
+    /// The same node once more.
+    pub fn clone(&self) -> Self
+        ensures { result ≡ self.now }
+    {
+        UnaryOp {
+            syntax: self.syntax.clone(),
+        }
+    }
 
     /// The operator.
     pub fn operator(&self) -> Option<UnaryOpKind>

@@ -72,6 +72,15 @@ impl<'t> fmt::Display for PathAbs<'t> {
 impl<'t> PathAbs<'t> {
     /// The kind of these nodes.
     pub const KIND: SyntaxKind = SyntaxKind::NODE_PATH_ABS;
+
+    /// The same node once more.
+    pub fn clone(&self) -> Self
+        ensures { result ≡ self.now }
+    {
+        PathAbs {
+            syntax: self.syntax.clone(),
+        }
+    }
 }
 
 /// A path from the file's own directory, as `./a`.
@@ -134,6 +143,15 @@ impl<'t> fmt::Display for PathRel<'t> {
 impl<'t> PathRel<'t> {
     /// The kind of these nodes.
     pub const KIND: SyntaxKind = SyntaxKind::NODE_PATH_REL;
+
+    /// The same node once more.
+    pub fn clone(&self) -> Self
+        ensures { result ≡ self.now }
+    {
+        PathRel {
+            syntax: self.syntax.clone(),
+        }
+    }
 }
 
 /// A path from the user's directory, as `~/a`.
@@ -196,6 +214,15 @@ impl<'t> fmt::Display for PathHome<'t> {
 impl<'t> PathHome<'t> {
     /// The kind of these nodes.
     pub const KIND: SyntaxKind = SyntaxKind::NODE_PATH_HOME;
+
+    /// The same node once more.
+    pub fn clone(&self) -> Self
+        ensures { result ≡ self.now }
+    {
+        PathHome {
+            syntax: self.syntax.clone(),
+        }
+    }
 }
 
 /// A path that is searched for, as `<a>`.
@@ -258,6 +285,15 @@ impl<'t> fmt::Display for PathSearch<'t> {
 impl<'t> PathSearch<'t> {
     /// The kind of these nodes.
     pub const KIND: SyntaxKind = SyntaxKind::NODE_PATH_SEARCH;
+
+    /// The same node once more.
+    pub fn clone(&self) -> Self
+        ensures { result ≡ self.now }
+    {
+        PathSearch {
+            syntax: self.syntax.clone(),
+        }
+    }
 
     /// What the path says, as it is written.
     pub fn content(&self) -> Option<PathContent<'t>>

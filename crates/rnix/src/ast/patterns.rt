@@ -76,6 +76,15 @@ impl<'t> Pattern<'t> {
     /// The kind of these nodes.
     pub const KIND: SyntaxKind = SyntaxKind::NODE_PATTERN;
 
+    /// The same node once more.
+    pub fn clone(&self) -> Self
+        ensures { result ≡ self.now }
+    {
+        Pattern {
+            syntax: self.syntax.clone(),
+        }
+    }
+
     /// The sign `@`, if it stands right below. In a tree that is read it stands in the `PatBind`.
     pub fn at_token(&self) -> Option<SyntaxToken<'t>>
         ensures { result ≡ token_of (same_kind k.TOKEN_AT) self.now }
@@ -167,6 +176,15 @@ impl<'t> PatEntry<'t> {
     /// The kind of these nodes.
     pub const KIND: SyntaxKind = SyntaxKind::NODE_PAT_ENTRY;
 
+    /// The same node once more.
+    pub fn clone(&self) -> Self
+        ensures { result ≡ self.now }
+    {
+        PatEntry {
+            syntax: self.syntax.clone(),
+        }
+    }
+
     /// The name.
     pub fn ident(&self) -> Option<Ident<'t>>
         ensures { result ≡ child_of (same_kind k.NODE_IDENT) 0 self.now }
@@ -249,6 +267,15 @@ impl<'t> fmt::Display for PatBind<'t> {
 impl<'t> PatBind<'t> {
     /// The kind of these nodes.
     pub const KIND: SyntaxKind = SyntaxKind::NODE_PAT_BIND;
+
+    /// The same node once more.
+    pub fn clone(&self) -> Self
+        ensures { result ≡ self.now }
+    {
+        PatBind {
+            syntax: self.syntax.clone(),
+        }
+    }
 
     /// The name.
     pub fn ident(&self) -> Option<Ident<'t>>

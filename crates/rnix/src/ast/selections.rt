@@ -76,6 +76,15 @@ impl<'t> Select<'t> {
     /// The kind of these nodes.
     pub const KIND: SyntaxKind = SyntaxKind::NODE_SELECT;
 
+    /// The same node once more.
+    pub fn clone(&self) -> Self
+        ensures { result ≡ self.now }
+    {
+        Select {
+            syntax: self.syntax.clone(),
+        }
+    }
+
     /// The set.
     pub fn expr(&self) -> Option<Expr<'t>>
         ensures { option_map expr_node result ≡ child_of is_expr 0 self.now }
@@ -172,6 +181,15 @@ impl<'t> fmt::Display for HasAttr<'t> {
 impl<'t> HasAttr<'t> {
     /// The kind of these nodes.
     pub const KIND: SyntaxKind = SyntaxKind::NODE_HAS_ATTR;
+
+    /// The same node once more.
+    pub fn clone(&self) -> Self
+        ensures { result ≡ self.now }
+    {
+        HasAttr {
+            syntax: self.syntax.clone(),
+        }
+    }
 
     /// The set.
     pub fn expr(&self) -> Option<Expr<'t>>

@@ -77,6 +77,15 @@ impl<'t> AttrSet<'t> {
     /// The kind of these nodes.
     pub const KIND: SyntaxKind = SyntaxKind::NODE_ATTR_SET;
 
+    /// The same node once more.
+    pub fn clone(&self) -> Self
+        ensures { result ≡ self.now }
+    {
+        AttrSet {
+            syntax: self.syntax.clone(),
+        }
+    }
+
     /// The word `rec`.
     pub fn rec_token(&self) -> Option<SyntaxToken<'t>>
         ensures { result ≡ token_of (same_kind k.TOKEN_REC) self.now }
@@ -159,6 +168,15 @@ impl<'t> fmt::Display for AttrpathValue<'t> {
 impl<'t> AttrpathValue<'t> {
     /// The kind of these nodes.
     pub const KIND: SyntaxKind = SyntaxKind::NODE_ATTRPATH_VALUE;
+
+    /// The same node once more.
+    pub fn clone(&self) -> Self
+        ensures { result ≡ self.now }
+    {
+        AttrpathValue {
+            syntax: self.syntax.clone(),
+        }
+    }
 
     /// The names that lead to the value.
     pub fn attrpath(&self) -> Option<Attrpath<'t>>
@@ -243,6 +261,15 @@ impl<'t> Inherit<'t> {
     /// The kind of these nodes.
     pub const KIND: SyntaxKind = SyntaxKind::NODE_INHERIT;
 
+    /// The same node once more.
+    pub fn clone(&self) -> Self
+        ensures { result ≡ self.now }
+    {
+        Inherit {
+            syntax: self.syntax.clone(),
+        }
+    }
+
     /// The word `inherit`.
     pub fn inherit_token(&self) -> Option<SyntaxToken<'t>>
         ensures { result ≡ token_of (same_kind k.TOKEN_INHERIT) self.now }
@@ -326,6 +353,15 @@ impl<'t> fmt::Display for InheritFrom<'t> {
 impl<'t> InheritFrom<'t> {
     /// The kind of these nodes.
     pub const KIND: SyntaxKind = SyntaxKind::NODE_INHERIT_FROM;
+
+    /// The same node once more.
+    pub fn clone(&self) -> Self
+        ensures { result ≡ self.now }
+    {
+        InheritFrom {
+            syntax: self.syntax.clone(),
+        }
+    }
 
     /// The sign `(`.
     pub fn l_paren_token(&self) -> Option<SyntaxToken<'t>>

@@ -75,6 +75,15 @@ impl<'t> fmt::Display for Str<'t> {
 impl<'t> Str<'t> {
     /// The kind of these nodes.
     pub const KIND: SyntaxKind = SyntaxKind::NODE_STRING;
+
+    /// The same node once more.
+    pub fn clone(&self) -> Self
+        ensures { result ≡ self.now }
+    {
+        Str {
+            syntax: self.syntax.clone(),
+        }
+    }
 }
 
 /// A value inside a string or a path, as `${b}`.
@@ -137,6 +146,15 @@ impl<'t> fmt::Display for Interpol<'t> {
 impl<'t> Interpol<'t> {
     /// The kind of these nodes.
     pub const KIND: SyntaxKind = SyntaxKind::NODE_INTERPOL;
+
+    /// The same node once more.
+    pub fn clone(&self) -> Self
+        ensures { result ≡ self.now }
+    {
+        Interpol {
+            syntax: self.syntax.clone(),
+        }
+    }
 
     /// The value.
     pub fn expr(&self) -> Option<Expr<'t>>
@@ -206,6 +224,15 @@ impl<'t> fmt::Display for Literal<'t> {
 impl<'t> Literal<'t> {
     /// The kind of these nodes.
     pub const KIND: SyntaxKind = SyntaxKind::NODE_LITERAL;
+
+    /// The same node once more.
+    pub fn clone(&self) -> Self
+        ensures { result ≡ self.now }
+    {
+        Literal {
+            syntax: self.syntax.clone(),
+        }
+    }
 
     /// What it is: the first number with a point, else the first whole number, else the first address.
     pub fn kind(&self) -> Option<LiteralKind<'t>>
