@@ -1,0 +1,111 @@
+//! What is said of an error.
+
+use crate::words::{add_found, add_wanted};
+use rnix::ast::{AstNode, AttrpathValue};
+use rnix::{ParseError, SyntaxKind, SyntaxNode, TextRange};
+use std::alloc::{AllocError, Global};
+use std::fmt::Write;
+
+// The error node of a range.
+fn error_node<'t>(root: &SyntaxNode<'t>, range: TextRange) -> Option<SyntaxNode<'t>> {
+    if !root.text_range().contains_range(range) {
+        return None;
+    }
+    let token = root.token_at_offset(range.start()).right_biased()?;
+    for node in token.parent()?.ancestors() {
+        if node.kind() == SyntaxKind::NODE_ERROR && node.text_range() == range {
+            return Some(node);
+        }
+    }
+    None
+}
+
+// Behind what in its node a token is missing.
+fn behind(wanted: SyntaxKind, parent: SyntaxKind) -> &'static str {
+    match (wanted, parent) {
+        (SyntaxKind::TOKEN_SEMICOLON, SyntaxKind::NODE_WITH) => " after the set of \"with\"",
+        (SyntaxKind::TOKEN_SEMICOLON, SyntaxKind::NODE_ASSERT) => " after the condition",
+        (SyntaxKind::TOKEN_SEMICOLON, SyntaxKind::NODE_INHERIT) => " after the inherited names",
+        (SyntaxKind::TOKEN_THEN, _) => " after the condition",
+        (SyntaxKind::TOKEN_ELSE, _) => " after the value for \"then\"",
+        (SyntaxKind::TOKEN_COLON, _) => " after the parameter",
+        (SyntaxKind::TOKEN_R_PAREN, _) => " to close \"(\"",
+        (SyntaxKind::TOKEN_INTERPOL_END, _) => " to close \"${\"",
+        _ => "",
+    }
+}
+
+// Adds behind what the missing token should stand; of an entry, its name is told.
+fn add_behind(
+    wanted: SyntaxKind,
+    parent: SyntaxNode<'_>,
+    text: &mut String,
+) -> Result<(), AllocError> {
+    text.push_str(behind(wanted, parent.kind()))?;
+    if let Some(path) = AttrpathValue::cast(parent).and_then(|entry| entry.attrpath()) {
+        match wanted {
+            SyntaxKind::TOKEN_SEMICOLON => write!(text, " after the value of \"{path}\"")?,
+            SyntaxKind::TOKEN_ASSIGN => write!(text, " after \"{path}\"")?,
+            _ => {}
+        }
+    }
+    Ok(())
+}
+
+// Adds where an unwanted token stands, and what it is.
+fn add_unwanted(
+    wanted: &[SyntaxKind],
+    node: &SyntaxNode<'_>,
+    text: &mut String,
+) -> Result<(), AllocError> {
+    if let (Some(kind), Some(parent)) = (wanted.first(), node.parent()) {
+        add_behind(*kind, parent, text)?;
+    }
+    if let Some(token) = node.first_token() {
+        text.push_str(", found ")?;
+        add_found(&token, text)?;
+    }
+    Ok(())
+}
+
+/// The message of an error of a tree.
+pub fn message(
+    alloc: Global,
+    error: &ParseError,
+    root: &SyntaxNode<'_>,
+) -> Result<String, AllocError> {
+    let mut text = String::new(alloc);
+    match error {
+        ParseError::UnexpectedWanted(_, range, wanted) => {
+            text.push_str("expected ")?;
+            add_wanted(wanted, &mut text)?;
+            if let Some(node) = error_node(root, *range) {
+                add_unwanted(wanted, &node, &mut text)?;
+            }
+        }
+        ParseError::UnexpectedExtra(range) => {
+            text.push_str("expected the end of the file")?;
+            if let Some(node) = error_node(root, *range) {
+                add_unwanted(&[], &node, &mut text)?;
+            }
+        }
+        ParseError::UnexpectedEOFWanted(wanted) => {
+            text.push_str("expected ")?;
+            add_wanted(wanted, &mut text)?;
+            text.push_str(", found the end of the file")?;
+        }
+        ParseError::DuplicatedArgs(_, name) => write!(text, "argument \"{name}\" stands twice")?,
+        _ => text.push_str(plain_message(error))?,
+    }
+    Ok(text)
+}
+
+// The message of an error that names nothing.
+fn plain_message(error: &ParseError) -> &'static str {
+    match error {
+        ParseError::UnexpectedDoubleBind(_) => "this set of arguments has a name already",
+        ParseError::UnexpectedEOF => "expected more, found the end of the file",
+        ParseError::RecursionLimitExceeded => "expressions are nested more than 512 deep",
+        _ => "this is not Nix",
+    }
+}

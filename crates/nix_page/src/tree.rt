@@ -1,0 +1,52 @@
+//! The tree, in which each node folds.
+
+use crate::html::write_text;
+use rnix::{NodeOrToken, SyntaxNode, SyntaxToken, TextRange, WalkEvent};
+use std::io;
+use std::io::Write;
+
+// How many bytes of a token's text are shown, if they end at a character.
+const SHOWN: usize = 40;
+
+// Writes the range of an element, for the script and for the reader.
+fn write_range<W: Write>(range: TextRange, out: &mut W) -> io::Result<()> {
+    let (start, end) = (range.start(), range.end());
+    write!(out, " data-start=\"{start}\" data-end=\"{end}\">")
+}
+
+// Writes the beginning of a node: its line, with what folds behind it.
+fn open_node<W: Write>(node: &SyntaxNode<'_>, out: &mut W) -> io::Result<()> {
+    out.write_all(b"<details open><summary")?;
+    write_range(node.text_range(), out)?;
+    out.write_all(node.kind().name().as_bytes())?;
+    out.write_all(b"</summary>\n")
+}
+
+// Writes a token with the beginning of its text.
+fn write_token<W: Write>(token: &SyntaxToken<'_>, out: &mut W) -> io::Result<()> {
+    let class = if token.kind().is_trivia() {
+        "trivia"
+    } else {
+        "token"
+    };
+    write!(out, "<div class=\"{class}\"")?;
+    write_range(token.text_range(), out)?;
+    out.write_all(token.kind().name().as_bytes())?;
+    out.write_all(b" <code>")?;
+    let text = token.text();
+    write_text(text.get(..SHOWN).unwrap_or(text), out)?;
+    out.write_all(b"</code></div>\n")
+}
+
+/// Writes a node and all that is inside it.
+pub fn write_tree<W: Write>(root: &SyntaxNode<'_>, out: &mut W) -> io::Result<()> {
+    for event in root.preorder_with_tokens() {
+        match event {
+            WalkEvent::Enter(NodeOrToken::Node(node)) => open_node(&node, out)?,
+            WalkEvent::Enter(NodeOrToken::Token(token)) => write_token(&token, out)?,
+            WalkEvent::Leave(NodeOrToken::Node(_)) => out.write_all(b"</details>\n")?,
+            WalkEvent::Leave(NodeOrToken::Token(_)) => {}
+        }
+    }
+    Ok(())
+}
