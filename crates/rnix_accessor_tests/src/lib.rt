@@ -10,6 +10,6 @@ mod expressions;
 #[cfg(test)]
 mod forms;
 #[cfg(test)]
-mod parts;
+mod leaf_kind;
 #[cfg(test)]
-mod told;
+mod parts;

@@ -25,11 +25,8 @@ fn written(
 }
 
 // The path that a text is.
-fn path_in(read: &Parse) -> Result<Option<Path<'_>>, AllocError> {
-    match read.tree().expr() {
-        Some(expr) => Ok(Path::cast(expr.syntax().clone()?)),
-        None => Ok(None),
-    }
+fn path_in(read: &Parse) -> Option<Path<'_>> {
+    Path::cast(read.tree().expr()?.syntax().clone())
 }
 
 // The parts of a path, asked for once more if they were refused.
@@ -43,7 +40,7 @@ fn written_again(alloc: Global, path: &Path<'_>) -> Result<String, AllocError> {
 // The parts of the path that a text is, and whether it is searched for.
 fn parts_of(alloc: Global, text: &str) -> Result<Option<(String, bool)>, AllocError> {
     let read = Root::parse(alloc, text)?;
-    let Some(path) = path_in(&read)? else {
+    let Some(path) = path_in(&read) else {
         return Ok(None);
     };
     let searched = path.is_search() && !path.is_interpolatable();

@@ -45,6 +45,16 @@ fn names_of_kinds_are_read(rt: HostRuntime) {
 }
 
 #[test]
+fn numbers_of_kinds_are_read(rt: HostRuntime) {
+    for (number, name) in NAMES.split(' ').enumerate() {
+        let kind = u16::try_from(number).ok().and_then(SyntaxKind::from_raw);
+        assert!(rt; kind.is_some_and(|kind| kind.name() == name));
+    }
+    assert!(rt; SyntaxKind::from_raw(SyntaxKind::NODE_WITH as u16) == Some(SyntaxKind::NODE_WITH));
+    assert!(rt; SyntaxKind::from_raw(93).is_none());
+}
+
+#[test]
 fn what_is_no_name_says_so(rt: HostRuntime) -> Result<(), Fail> {
     if let Err(error) = "INVALID".parse::<SyntaxKind>() {
         let text = format!(in rt.alloc(); "{error}")?;

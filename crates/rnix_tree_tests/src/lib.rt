@@ -6,6 +6,10 @@ mod built;
 #[cfg(test)]
 mod kinds;
 #[cfg(test)]
+mod pointers;
+#[cfg(test)]
+mod printed;
+#[cfg(test)]
 mod ranges;
 #[cfg(test)]
 mod texts;

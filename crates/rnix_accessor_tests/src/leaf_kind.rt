@@ -1,0 +1,101 @@
+//! What each accessor answers: on texts that have the parts, and on nodes that were built by hand.
+
+use crate::answers::{Answers, Tell};
+use rnix::ast::{
+    Apply, Assert, AttrSet, Attrpath, AttrpathValue, BinOp, CurPos, Dynamic, Error, HasAttr, Ident,
+    IdentParam, IfElse, Inherit, InheritFrom, Interpol, Lambda, LegacyLet, LetIn, List, Literal,
+    Paren, PatBind, PatEntry, PathAbs, PathHome, PathRel, PathSearch, Pattern, Root, Select, Str,
+    UnaryOp, With,
+};
+use rnix::{SyntaxKind, SyntaxNode};
+use std::alloc::{AllocError, Global};
+use std::process::Abort;
+use std::test::Fail;
+
+// What the accessors of a type answer of a node.
+fn leaf_kind_as<'t, T: Tell<'t>>(
+    alloc: Global,
+    node: SyntaxNode<'t>,
+) -> Result<String, AllocError> {
+    let mut answers = Answers::new(alloc);
+    match T::cast(node) {
+        Some(node) => node.tell(&mut answers),
+        None => answers.text("cast", None),
+    }
+    answers.said()
+}
+
+/// What the accessors of a node answer.
+pub fn told_of(alloc: Global, node: SyntaxNode<'_>) -> Result<String, AllocError> {
+    match node.kind() {
+        SyntaxKind::NODE_APPLY => leaf_kind_as::<Apply<'_>>(alloc, node),
+        SyntaxKind::NODE_ASSERT => leaf_kind_as::<Assert<'_>>(alloc, node),
+        SyntaxKind::NODE_ATTR_SET => leaf_kind_as::<AttrSet<'_>>(alloc, node),
+        SyntaxKind::NODE_BIN_OP => leaf_kind_as::<BinOp<'_>>(alloc, node),
+        SyntaxKind::NODE_CUR_POS => leaf_kind_as::<CurPos<'_>>(alloc, node),
+        SyntaxKind::NODE_HAS_ATTR => leaf_kind_as::<HasAttr<'_>>(alloc, node),
+        SyntaxKind::NODE_IDENT => leaf_kind_as::<Ident<'_>>(alloc, node),
+        SyntaxKind::NODE_IF_ELSE => leaf_kind_as::<IfElse<'_>>(alloc, node),
+        SyntaxKind::NODE_LAMBDA => leaf_kind_as::<Lambda<'_>>(alloc, node),
+        SyntaxKind::NODE_LEGACY_LET => leaf_kind_as::<LegacyLet<'_>>(alloc, node),
+        SyntaxKind::NODE_LET_IN => leaf_kind_as::<LetIn<'_>>(alloc, node),
+        SyntaxKind::NODE_LIST => leaf_kind_as::<List<'_>>(alloc, node),
+        SyntaxKind::NODE_PAREN => leaf_kind_as::<Paren<'_>>(alloc, node),
+        SyntaxKind::NODE_ROOT => leaf_kind_as::<Root<'_>>(alloc, node),
+        SyntaxKind::NODE_SELECT => leaf_kind_as::<Select<'_>>(alloc, node),
+        SyntaxKind::NODE_UNARY_OP => leaf_kind_as::<UnaryOp<'_>>(alloc, node),
+        SyntaxKind::NODE_WITH => leaf_kind_as::<With<'_>>(alloc, node),
+        _ => told_of_part(alloc, node),
+    }
+}
+
+// The same of literals, strings, paths, errors and of the parts of expressions.
+fn told_of_part(alloc: Global, node: SyntaxNode<'_>) -> Result<String, AllocError> {
+    match node.kind() {
+        SyntaxKind::NODE_ATTRPATH => leaf_kind_as::<Attrpath<'_>>(alloc, node),
+        SyntaxKind::NODE_ATTRPATH_VALUE => leaf_kind_as::<AttrpathValue<'_>>(alloc, node),
+        SyntaxKind::NODE_DYNAMIC => leaf_kind_as::<Dynamic<'_>>(alloc, node),
+        SyntaxKind::NODE_ERROR => leaf_kind_as::<Error<'_>>(alloc, node),
+        SyntaxKind::NODE_IDENT_PARAM => leaf_kind_as::<IdentParam<'_>>(alloc, node),
+        SyntaxKind::NODE_INHERIT => leaf_kind_as::<Inherit<'_>>(alloc, node),
+        SyntaxKind::NODE_INHERIT_FROM => leaf_kind_as::<InheritFrom<'_>>(alloc, node),
+        SyntaxKind::NODE_INTERPOL => leaf_kind_as::<Interpol<'_>>(alloc, node),
+        SyntaxKind::NODE_LITERAL => leaf_kind_as::<Literal<'_>>(alloc, node),
+        SyntaxKind::NODE_PAT_BIND => leaf_kind_as::<PatBind<'_>>(alloc, node),
+        SyntaxKind::NODE_PAT_ENTRY => leaf_kind_as::<PatEntry<'_>>(alloc, node),
+        SyntaxKind::NODE_PATTERN => leaf_kind_as::<Pattern<'_>>(alloc, node),
+        SyntaxKind::NODE_PATH_ABS => leaf_kind_as::<PathAbs<'_>>(alloc, node),
+        SyntaxKind::NODE_PATH_HOME => leaf_kind_as::<PathHome<'_>>(alloc, node),
+        SyntaxKind::NODE_PATH_REL => leaf_kind_as::<PathRel<'_>>(alloc, node),
+        SyntaxKind::NODE_PATH_SEARCH => leaf_kind_as::<PathSearch<'_>>(alloc, node),
+        SyntaxKind::NODE_STRING => leaf_kind_as::<Str<'_>>(alloc, node),
+        _ => String::from_str(alloc, "no type of nodes"),
+    }
+}
+
+// What the accessors of the first node of a kind in a text answer.
+fn leaf_kind(alloc: Global, kind: SyntaxKind, text: &str) -> Result<String, AllocError> {
+    let read = Root::parse(alloc, text)?;
+    for node in read.syntax().descendants() {
+        if node.kind() == kind {
+            return told_of(alloc, node);
+        }
+    }
+    String::from_str(alloc, "no such node")
+}
+
+/// Asserts what the accessors of the first node of a kind in a text answer, row by row.
+pub fn assert_told(
+    rt: &impl Abort,
+    alloc: Global,
+    rows: &[(SyntaxKind, &str, &str)],
+) -> Result<(), Fail> {
+    for (kind, text, wanted) in rows {
+        assert_eq!(rt;
+            leaf_kind(alloc, *kind, text)?.as_str(),
+            *wanted,
+            "in {text}"
+        );
+    }
+    Ok(())
+}

@@ -1,0 +1,28 @@
+//! Walks that leave out what is inside some nodes.
+
+use rnix::{Root, SyntaxKind, SyntaxNode, WalkEvent};
+use std::test::Fail;
+
+// How many nodes are entered where nodes of the kind are not looked into.
+fn entered_outside(node: &SyntaxNode<'_>, kind: SyntaxKind) -> usize {
+    let mut walk = node.preorder();
+    let mut entered: usize = 0;
+    while let Some(event) = walk.next() {
+        if let WalkEvent::Enter(node) = event {
+            entered = entered.saturating_add(1);
+            if node.kind() == kind {
+                walk.skip_subtree();
+            }
+        }
+    }
+    entered
+}
+
+#[test]
+fn what_is_inside_a_node_is_left_out(rt: HostRuntime) -> Result<(), Fail> {
+    let read = Root::parse(rt.alloc(), "[1 (2 + 3) 4]")?;
+    let root = read.syntax();
+    assert_eq!(rt; entered_outside(&root, SyntaxKind::NODE_ERROR), 8);
+    assert_eq!(rt; entered_outside(&root, SyntaxKind::NODE_PAREN), 5);
+    Ok(())
+}
