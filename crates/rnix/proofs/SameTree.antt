@@ -5,17 +5,17 @@ use Rattle.std.proofs.lemmas.List.Elements.{All-nil, All-cons, All-filter}
 use Rattle.std.proofs.lemmas.Option.{slice_get_within, get_or_from_slice_get}
 use Rattle.rnix_kinds.specs.declared.kinds.SyntaxKind.{SyntaxKind}
 use Rattle.rnix_tree.specs.Tree.{Tree, Located, item}
-use Rattle.rnix_tree.specs.Walk.{row_state_at, nodes_in}
+use Rattle.rnix_tree.specs.Walk.{spot_at, nodes_in}
 use Rattle.rnix_base.specs.Select.{has_kind, nodes_of, child_of}
 
 -- an element of a tree
 abbrev IsIn : Tree → Located → Type 0
 IsIn t e = e.tree ≡ t
 
-nodes_stay : (t : Tree) (ns : List ℕ) → All (IsIn t) (nodes_in (map (row_state_at t) ns))
+nodes_stay : (t : Tree) (ns : List ℕ) → All (IsIn t) (nodes_in (map (spot_at t) ns))
 nodes_stay t [] = All-nil (IsIn t)
 nodes_stay t (n ∷ ns) = case_node (item t n).is_node (nodes_stay t ns) where
-  case_node : (b : Bool) → All (IsIn t) (nodes_in (map (row_state_at t) ns)) → All (IsIn t) (if b then record { tree = t; number = n } ∷ nodes_in (map (row_state_at t) ns) else nodes_in (map (row_state_at t) ns))
+  case_node : (b : Bool) → All (IsIn t) (nodes_in (map (spot_at t) ns)) → All (IsIn t) (if b then record { tree = t; number = n } ∷ nodes_in (map (spot_at t) ns) else nodes_in (map (spot_at t) ns))
   case_node true h = All-cons (IsIn t) _ _ refl h
   case_node false h = h
 
