@@ -1,6 +1,6 @@
 //! The parts of nodes that were built by hand: without children, and with tokens that no text puts there.
 
-use crate::leaf_kind::told_of;
+use crate::told::told_of;
 use rnix::{GreenNodeBuilder, SyntaxKind, SyntaxNode};
 use std::alloc::{AllocError, Global};
 use std::process::Abort;

@@ -1,6 +1,6 @@
 //! The parts that texts have.
 
-use crate::leaf_kind::assert_told;
+use crate::told::assert_told;
 use rnix::SyntaxKind;
 use std::alloc::Global;
 use std::process::Abort;

@@ -10,6 +10,6 @@ mod expressions;
 #[cfg(test)]
 mod forms;
 #[cfg(test)]
-mod leaf_kind;
-#[cfg(test)]
 mod parts;
+#[cfg(test)]
+mod told;

@@ -91,7 +91,7 @@ pub fn written(errors: &[ParseError], room: &mut [RnixError]) -> usize
 }
 
 // Writes what is said of an error: how many bytes it has.
-fn leaf_kind(alloc: Global, error: &ParseError, room: &mut [u8]) -> i64
+fn told(alloc: Global, error: &ParseError, room: &mut [u8]) -> i64
     ensures { (result ≡ negsuc 1) ⊎ IsWritten (fault_text (fault_of error.now)) result room.old room.new }
 {
     match error.to_string(alloc) {
@@ -105,7 +105,7 @@ fn told_of(alloc: Global, errors: &[ParseError], number: usize, room: &mut [u8])
     ensures { (result ≡ negsuc 1) ⊎ TellsFault (map fault_of errors.now) number result room.old room.new }
 {
     match errors.get(number) {
-        Some(error) => leaf_kind(alloc, error, room),
+        Some(error) => told(alloc, error, room),
         None => NONE_SUCH,
     }
 }

@@ -102,9 +102,9 @@ fn dump_answers_the_error_of_the_writer(rt: HostRuntime) -> Result<(), Fail> {
     for kind in FAULTS {
         for write in 0..good.writes {
             let mut out = Output::new(alloc, write, kind);
-            let leaf_kind = dump(&root, &mut out).err().map(|error| error.kind());
+            let told = dump(&root, &mut out).err().map(|error| error.kind());
             assert!(rt;
-                leaf_kind == Some(kind.unwrap_or(ErrorKind::WriteZero)),
+                told == Some(kind.unwrap_or(ErrorKind::WriteZero)),
                 "at {write}"
             );
             assert!(rt; out.stopped(good.bytes.as_slice()));

@@ -5,7 +5,7 @@ use std::alloc::{AllocError, Global};
 use std::process::Abort;
 
 /// The answer of a test that was refused memory, or was not.
-pub(crate) fn leaf_kind(refused: bool) -> Result<(), AllocError> {
+pub(crate) fn told(refused: bool) -> Result<(), AllocError> {
     if refused {
         return Err(AllocError);
     }
