@@ -2,9 +2,7 @@
 #![tactic(auto)]
 
 mod check;
-mod message;
 mod progress;
-mod words;
 
 use check::check_text;
 use progress::Progress;
@@ -12,9 +10,9 @@ use std::io::{BufWriter, Write};
 use std::process::ExitCode;
 use std::{env, fs, io};
 
-// Some text has an error.
+// The statuses where some text has an error, and where some file cannot be read.
 const ERRORS: u8 = 1;
-// Some file cannot be read.
+
 const UNREAD: u8 = 2;
 
 // What was found in all files.
@@ -24,32 +22,24 @@ struct Tally {
     unread: usize,
 }
 
-// Checks the text on standard input.
-fn check_input<W: Write>(rt: &HostRuntime, out: &mut W) -> io::Result<Tally> {
-    let text = io::read_to_string(rt.alloc(), rt.stdin())?;
-    let errors = check_text(rt.alloc(), "<stdin>", text.as_str(), out)?;
-    Ok(Tally { errors, unread: 0 })
-}
-
 // Checks one more file. A file that cannot be read is told and counted.
 fn check_file<W: Write>(
     rt: &HostRuntime,
     name: &str,
-    tally: Tally,
+    tally: &mut Tally,
     out: &mut W,
-) -> io::Result<Tally> {
-    let (mut errors, mut unread) = (tally.errors, tally.unread);
+) -> io::Result<()> {
     match fs::read_to_string(rt, name) {
         Ok(text) => {
             let found = check_text(rt.alloc(), name, text.as_str(), out)?;
-            errors = errors.saturating_add(found);
+            tally.errors = tally.errors.saturating_add(found);
+            Ok(())
         }
         Err(error) => {
-            eprintln!(rt; "nix-check: {name}: {error}")?;
-            unread = unread.saturating_add(1);
+            tally.unread = tally.unread.saturating_add(1);
+            eprintln!(rt; "nix-check: {name}: {error}")
         }
     }
-    Ok(Tally { errors, unread })
 }
 
 // Checks the files in order.
@@ -59,7 +49,7 @@ fn check_files<W: Write>(rt: &HostRuntime, names: &[String], out: &mut W) -> io:
     for (number, name) in names.iter().enumerate() {
         progress.show(rt, number)?;
         let before = tally.errors;
-        tally = check_file(rt, name.as_str(), tally, out)?;
+        check_file(rt, name.as_str(), &mut tally, out)?;
         if tally.errors != before {
             progress.clear(rt)?;
             out.flush()?;
@@ -84,15 +74,18 @@ fn main(rt: HostRuntime) -> io::Result<ExitCode> {
         names.push(name)?;
     }
     let mut out = BufWriter::new(rt.alloc(), rt.stdout())?;
-    let tally = if names.is_empty() {
-        check_input(&rt, &mut out)?
+    let mut tally = Tally::default();
+    if names.is_empty() {
+        let text = io::read_to_string(rt.alloc(), rt.stdin())?;
+        tally.errors = check_text(rt.alloc(), "<stdin>", text.as_str(), &mut out)?;
     } else {
-        check_files(&rt, &names, &mut out)?
-    };
+        tally = check_files(&rt, &names, &mut out)?;
+    }
     write_count(tally, &mut out)?;
     out.flush()?;
-    if tally.unread > 0 {
-        return Ok(ExitCode::from(UNREAD));
-    }
-    Ok(ExitCode::from(if tally.errors > 0 { ERRORS } else { 0 }))
+    Ok(match (tally.errors, tally.unread) {
+        (0, 0) => ExitCode::SUCCESS,
+        (_, 0) => ExitCode::from(ERRORS),
+        _ => ExitCode::from(UNREAD),
+    })
 }

@@ -24,13 +24,13 @@ impl Progress {
 
     /// Shows that this many files are checked.
     pub fn show(&self, rt: &HostRuntime, done: usize) -> io::Result<()> {
-        if !self.is_shown {
-            return Ok(());
+        if self.is_shown {
+            let files = self.files;
+            let filled = done.saturating_mul(BAR.len()) / files.max(1);
+            let bar = BAR.get(..filled).unwrap_or(BAR);
+            eprint!(rt; "\r[{bar:<40}] {done} of {files}")?;
         }
-        let files = self.files;
-        let filled = done.saturating_mul(BAR.len()) / files.max(1);
-        let bar = BAR.get(..filled).unwrap_or(BAR);
-        eprint!(rt; "\r[{bar:<40}] {done} of {files}")
+        Ok(())
     }
 
     /// Takes the bar away.

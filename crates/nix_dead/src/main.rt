@@ -2,11 +2,8 @@
 #![tactic(auto)]
 
 mod dead;
-mod names;
-mod scopes;
 
-use dead::dead_names;
-use names::Name;
+use dead::{Name, dead_names};
 use rnix::Root;
 use rnix_text::{ColumnUnit, LineIndex};
 use std::io::{BufWriter, Write};

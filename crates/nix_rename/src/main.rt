@@ -2,9 +2,7 @@
 //! bound to the name at OFFSET, in bytes, is bound to NAME. It refuses where that would change what some name means.
 #![tactic(auto)]
 
-mod bound;
 mod rename;
-mod uses;
 
 use rename::{Renaming, rename};
 use rnix::Root;
@@ -29,15 +27,13 @@ fn print_renamed(rt: &HostRuntime, text: &str, offset: usize, name: &str) -> io:
     if !read.errors().is_empty() {
         return refuse(rt, "the text is not Nix", NOT_READ);
     }
-    match rename(rt.alloc(), &read.syntax(), offset, name)? {
-        Renaming::Refused(reason) => refuse(rt, reason, REFUSED),
-        Renaming::Places(places) => match places.apply(rt.alloc(), text, name) {
-            Ok(renamed) => {
-                rt.stdout().write_all(renamed.as_bytes())?;
-                Ok(ExitCode::SUCCESS)
-            }
-            Err(_) => refuse(rt, "out of memory", NOT_READ),
-        },
+    match rename(rt.alloc(), text, &read.syntax(), offset, name) {
+        Ok(Renaming::Renamed(text)) => {
+            rt.stdout().write_all(text.as_bytes())?;
+            Ok(ExitCode::SUCCESS)
+        }
+        Ok(Renaming::Refused(reason)) => refuse(rt, reason, REFUSED),
+        Err(_) => refuse(rt, "out of memory", NOT_READ),
     }
 }
 

@@ -1,0 +1,284 @@
+//! What the names of a text refer to.
+
+use crate::names::{Name, attr_text, is_scope, names_bound};
+use rnix::ast::{AstNode, Inherit};
+use rnix::{SyntaxKind, SyntaxNode, WalkEvent};
+use std::alloc::{AllocError, Global};
+use std::collections::HashMap;
+
+/// A name that a scope binds: a `let`, a `rec` set or a lambda.
+#[derive(Drop)]
+pub struct Binding<'t> {
+    /// The name, without quotes.
+    pub text: &'t str,
+    /// What writes the name: an identifier or a string.
+    pub node: SyntaxNode<'t>,
+    /// The node inside which the name is in sight.
+    pub scope: SyntaxNode<'t>,
+    /// The number of the binding that references have: its own, but where a set is written in parts, as in `a.b = 1; a.c = 2;`.
+    pub first: usize,
+    // The number of the binding that the name has around the scope.
+    outside: Option<usize>,
+}
+
+/// A name that stands for a value, or that is inherited from what is around its set or `let`.
+#[derive(Drop)]
+pub struct Reference<'t> {
+    /// The name, without quotes.
+    pub text: &'t str,
+    /// What writes the name: an identifier or a string.
+    pub node: SyntaxNode<'t>,
+    /// Whether it is inherited.
+    pub is_inherited: bool,
+    /// The number of its binding. A name without one comes from a `with`, or from outside of the text.
+    pub binding: Option<usize>,
+}
+
+// The numbers of the bindings of an open scope: from the first up to the end.
+#[derive(Clone, Copy)]
+struct Extent {
+    first: usize,
+    end: usize,
+}
+
+/// The bindings of a text in the order of their scopes, and its references in the order of the text.
+#[derive(Drop)]
+pub struct Resolution<'t> {
+    bindings: Vec<Binding<'t>>,
+    references: Vec<Reference<'t>>,
+    // The number of the innermost binding of each name that is in sight.
+    innermost: HashMap<&'t str, usize>,
+    open: Vec<Extent>,
+}
+
+impl<'t> Resolution<'t> {
+    fn new(alloc: Global) -> Self {
+        Resolution {
+            bindings: Vec::new(alloc),
+            references: Vec::new(alloc),
+            innermost: HashMap::new(alloc),
+            open: Vec::new(alloc),
+        }
+    }
+
+    /// What is bound. The number of a binding is its index here.
+    pub fn bindings(&self) -> &[Binding<'t>] {
+        &self.bindings
+    }
+
+    /// What refers to a binding, or to nothing in the text.
+    pub fn references(&self) -> &[Reference<'t>] {
+        &self.references
+    }
+
+    /// The number of the binding that a node writes, or that it refers to. What is bound by an `inherit` is both, and answers what it binds.
+    pub fn binding_at(&self, node: &SyntaxNode<'_>) -> Option<usize> {
+        for binding in &self.bindings {
+            if binding.node.text_range() == node.text_range() {
+                return Some(binding.first);
+            }
+        }
+        self.referred_at(node)
+    }
+
+    // The number of the binding that a node refers to.
+    fn referred_at(&self, node: &SyntaxNode<'_>) -> Option<usize> {
+        for reference in &self.references {
+            if reference.node.text_range() == node.text_range() {
+                return reference.binding;
+            }
+        }
+        None
+    }
+
+    /// Whether two texts have as many bindings and references, and those of one number refer to the bindings of one number.
+    pub fn is_like(&self, other: &Resolution<'_>) -> bool {
+        are_bound_alike(&self.bindings, &other.bindings)
+            && refer_alike(&self.references, &other.references)
+    }
+
+    // The innermost binding of a name.
+    fn inside(&self, text: &'t str) -> Option<usize> {
+        self.innermost.get(&text).copied()
+    }
+
+    // The binding that a name of the innermost scope has around it.
+    fn outside(&self, text: &'t str) -> Option<usize> {
+        let number = self.inside(text)?;
+        self.bindings
+            .get(number)
+            .and_then(|binding| binding.outside)
+    }
+
+    // Binds a name in the scope whose bindings begin with a number.
+    fn bind(
+        &mut self,
+        name: &Name<'t>,
+        scope: &SyntaxNode<'t>,
+        begin: usize,
+    ) -> Result<(), AllocError> {
+        let number = self.bindings.len();
+        let around = self.inside(name.text);
+        let (first, outside) = match around {
+            Some(again) if again >= begin => (again, None),
+            _ => (number, around),
+        };
+        self.bindings.push(Binding {
+            text: name.text,
+            node: name.node.clone(),
+            scope: scope.clone(),
+            first,
+            outside,
+        })?;
+        self.innermost.insert(name.text, first)?;
+        Ok(())
+    }
+
+    // Enters a scope.
+    fn enter_scope(&mut self, alloc: Global, scope: &SyntaxNode<'t>) -> Result<(), AllocError> {
+        let first = self.bindings.len();
+        for name in &names_bound(alloc, scope)? {
+            self.bind(name, scope, first)?;
+        }
+        let end = self.bindings.len();
+        self.open.push(Extent { first, end })?;
+        Ok(())
+    }
+
+    // Gives the name of a binding back what it was bound to around the scope.
+    fn unbind(&mut self, number: usize) -> Result<(), AllocError> {
+        let Some(binding) = self.bindings.get(number) else {
+            return Ok(());
+        };
+        let (text, outside) = (binding.text, binding.outside);
+        if binding.first != number {
+            return Ok(());
+        }
+        match outside {
+            Some(outside) => {
+                self.innermost.insert(text, outside)?;
+            }
+            None => {
+                self.innermost.remove(&text);
+            }
+        }
+        Ok(())
+    }
+
+    // Leaves the innermost scope.
+    fn leave_scope(&mut self) -> Result<(), AllocError> {
+        if let Some(Extent { first, end }) = self.open.pop() {
+            for number in first..end {
+                self.unbind(number)?;
+            }
+        }
+        Ok(())
+    }
+
+    // Adds the names that are inherited from around the `let` or the set.
+    fn add_inherited(&mut self, inherit: &Inherit<'t>) -> Result<(), AllocError> {
+        if inherit.from().is_some() {
+            return Ok(());
+        }
+        let binds = inherit
+            .syntax()
+            .parent()
+            .is_some_and(|parent| is_scope(&parent));
+        for attr in inherit.attrs() {
+            if let Some(text) = attr_text(&attr) {
+                let binding = if binds {
+                    self.outside(text)
+                } else {
+                    self.inside(text)
+                };
+                self.references.push(Reference {
+                    text,
+                    node: attr.syntax().clone(),
+                    is_inherited: true,
+                    binding,
+                })?;
+            }
+        }
+        Ok(())
+    }
+
+    // Adds a name that is an expression.
+    fn add_expression(&mut self, node: SyntaxNode<'t>) -> Result<(), AllocError> {
+        let text = node.text();
+        let binding = self.inside(text);
+        self.references.push(Reference {
+            text,
+            node,
+            is_inherited: false,
+            binding,
+        })?;
+        Ok(())
+    }
+
+    // What is done where a walk meets a node.
+    fn enter(&mut self, alloc: Global, node: SyntaxNode<'t>) -> Result<(), AllocError> {
+        if is_scope(&node) {
+            return self.enter_scope(alloc, &node);
+        }
+        if is_expression(&node) {
+            return self.add_expression(node);
+        }
+        match Inherit::cast(node) {
+            Some(inherit) => self.add_inherited(&inherit),
+            None => Ok(()),
+        }
+    }
+}
+
+// Whether there are as many bindings, and the same of them bind a name again.
+fn are_bound_alike(bindings: &[Binding<'_>], others: &[Binding<'_>]) -> bool {
+    for (binding, other) in bindings.iter().zip(others.iter()) {
+        if binding.first != other.first {
+            return false;
+        }
+    }
+    bindings.len() == others.len()
+}
+
+// Whether there are as many references, and they refer to the same bindings.
+fn refer_alike(references: &[Reference<'_>], others: &[Reference<'_>]) -> bool {
+    for (reference, other) in references.iter().zip(others.iter()) {
+        if reference.binding != other.binding {
+            return false;
+        }
+    }
+    references.len() == others.len()
+}
+
+// Whether a node is a name that stands for a value: it is neither bound, nor inherited, nor a part of an attribute path.
+fn is_expression(node: &SyntaxNode<'_>) -> bool {
+    let Some(parent) = node.parent() else {
+        return false;
+    };
+    match parent.kind() {
+        SyntaxKind::NODE_ATTRPATH
+        | SyntaxKind::NODE_INHERIT
+        | SyntaxKind::NODE_IDENT_PARAM
+        | SyntaxKind::NODE_PAT_BIND => false,
+        SyntaxKind::NODE_PAT_ENTRY => {
+            node.kind() == SyntaxKind::NODE_IDENT && node.prev_sibling().is_some()
+        }
+        _ => node.kind() == SyntaxKind::NODE_IDENT,
+    }
+}
+
+/// Resolves the names inside a node: a name refers to the innermost binding of its name around it, also under `with`.
+pub fn resolve<'t>(alloc: Global, root: &SyntaxNode<'t>) -> Result<Resolution<'t>, AllocError> {
+    let mut resolution = Resolution::new(alloc);
+    for event in root.preorder() {
+        match event {
+            WalkEvent::Enter(node) => resolution.enter(alloc, node)?,
+            WalkEvent::Leave(node) => {
+                if is_scope(&node) {
+                    resolution.leave_scope()?;
+                }
+            }
+        }
+    }
+    Ok(resolution)
+}
