@@ -22,12 +22,7 @@ fn first_line(text: &str, start: usize, end: usize) -> &str {
 }
 
 // A line of the text, and below it carets under a range of which only the part in this line counts.
-fn write_source<W: Write>(
-    text: &str,
-    line: usize,
-    range: TextRange,
-    out: &mut W,
-) -> io::Result<()> {
+fn write_line<W: Write>(text: &str, line: usize, range: TextRange, out: &mut W) -> io::Result<()> {
     write!(out, "  {}\n  ", first_line(text, line, text.len()))?;
     write_indent(text.get(line..range.start()).unwrap_or(""), out)?;
     out.write_all(b"^")?;
@@ -50,7 +45,7 @@ fn write_diagnostic<W: Write>(
     let start = index.offset(Position { line, column: 0 }).unwrap_or(0);
     let (line, column) = (line.saturating_add(1), column.saturating_add(1));
     writeln!(out, "{name}:{line}:{column}: error: {message}")?;
-    write_source(text, start, range, out)
+    write_line(text, start, range, out)
 }
 
 /// Writes the errors of a text, each with its place and its line, and counts them. Columns count characters, from 1.
