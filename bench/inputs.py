@@ -76,7 +76,7 @@ SHAPES = {
 }
 
 # Their trees are about as deep as they have tokens, so that each line of a printed tree is indented by as much.
-DEEP = {"sums", "calls", "plus", "angles"}
+DEEP = {"sums", "calls", "lambdas", "strings", "plus", "angles", "no-values", "semicolons"}
 
 
 def text_of(shape, size):
