@@ -101,12 +101,13 @@ fn changed(
     Ok(edits.apply(alloc)?)
 }
 
-// A new text, if each name in it refers to what it referred to before.
+// A new text, if it is without errors and each name in it refers to what it referred to before.
 fn checked(alloc: Global, names: &Resolution<'_>, text: String) -> Result<Renaming, EditError> {
     let read = Root::parse(alloc, text.as_str())?;
     let is_like = resolve(alloc, &read.syntax())?.is_like(names);
+    let is_nix = read.errors().is_empty();
     drop(read);
-    Ok(if is_like {
+    Ok(if is_nix && is_like {
         Renaming::Renamed(text)
     } else {
         Renaming::Refused("with the new name, some name would refer to something else")
