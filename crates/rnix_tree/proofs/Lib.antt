@@ -30,3 +30,4 @@ pub mod DirectionLemmas
 pub mod ChildLemmas
 pub mod CoveringLemmas
 pub mod SkipLemmas
+pub mod CountsInside

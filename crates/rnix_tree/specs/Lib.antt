@@ -21,3 +21,4 @@ pub mod SameElements
 pub mod Siblings
 pub mod ByKind
 pub mod Covering
+pub mod Inside

@@ -2,6 +2,7 @@
 
 ghost use Rattle.std.specs.Prelude.{◌≡◌, ◌<◌, ◌^◌, length};
 ghost use Rattle.rnix_tree.specs.Forest.{element_count};
+ghost use Rattle.rnix_tree.specs.Inside.{inside_count};
 ghost use Rattle.rnix_tree.specs.Range.{bounds_of};
 ghost use Rattle.rnix_tree.specs.Tree.{item_of, extent_of, text_at, part_at};
 ghost use Rattle.rnix_tree.specs.Walk.{children_of, preorder_of, nodes_in, elements_of, node_events, ancestors_of};
@@ -73,6 +74,13 @@ impl<'t> SyntaxNode<'t> {
         ensures { result.now ≡ text_at self.now }
     {
         self.green.text_at(self.number)
+    }
+
+    /// How many nodes and tokens are inside the node, itself not counted. It falls from a node to its children.
+    pub fn inside_count(&self) -> usize
+        ensures { result ≡ inside_count self.now }
+    {
+        self.green.element(self.number).below
     }
 
     /// The nodes and tokens right below the node, in order.
