@@ -1,4 +1,5 @@
 pub mod SelectLemmas
+pub mod ChildrenFit
 mod OperatorLemmas
 pub mod EscapeRows
 pub mod EscapeLemmas

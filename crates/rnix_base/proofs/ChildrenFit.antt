@@ -1,0 +1,35 @@
+-- Selected children, with what is inside them, are no more than what is inside their parent.
+use Rattle.std.proofs.Common.{◌≡◌, ℕ, zero, suc, ◌≤◌, ◌<◌, List, [], ◌∷◌, Bool, true, false, Option, Some, ap, arith}
+use Rattle.std.specs.Prelude.{if◌then◌else◌, filter, slice_get}
+use Rattle.rnix_kinds.specs.declared.kinds.SyntaxKind.{SyntaxKind}
+use Rattle.rnix_tree.specs.Tree.{Located}
+use Rattle.rnix_tree.specs.Walk.{nodes_in, children_of}
+use Rattle.rnix_tree.specs.Inside.{inside_count, nodes_count, count_if}
+use Rattle.rnix_tree.proofs.CountsInside.{child_nodes_fit}
+use Rattle.rnix_base.specs.Select.{has_kind, nodes_of, child_of}
+
+-- some of the nodes
+filter_fits : (test : Located → Bool) (es : List Located) → nodes_count (filter test es) ≤ nodes_count es
+filter_fits test [] = omega arith
+filter_fits test (e ∷ es) = case_test (test e) (filter_fits test es) where
+  case_test : (b : Bool) → nodes_count (filter test es) ≤ nodes_count es
+      → nodes_count (if b then e ∷ filter test es else filter test es) ≤ nodes_count (e ∷ es)
+  case_test true h = omega arith
+  case_test false h = omega arith
+
+-- one of the nodes
+one_fits : (es : List Located) (number : ℕ) → count_if (slice_get es number) ≤ nodes_count es
+one_fits [] number = omega arith
+one_fits (e ∷ es) zero = omega arith
+one_fits (e ∷ es) (suc number) = omega (arith, one_fits es number)
+
+-- the selected children, with what is inside them, are no more than what is inside the parent
+pub selected_fit : (kinds : SyntaxKind → Bool) (parent : Located) → nodes_count (nodes_of kinds parent) ≤ inside_count parent
+selected_fit kinds parent =
+    omega (arith, child_nodes_fit parent, filter_fits (has_kind kinds) (nodes_in (children_of parent)))
+
+-- the selected child of a number holds fewer elements than the parent
+pub child_fits : (kinds : SyntaxKind → Bool) (number : ℕ) (child parent : Located)
+    → child_of kinds number parent ≡ Some child → inside_count child < inside_count parent
+child_fits kinds number child parent h =
+    omega (arith, selected_fit kinds parent, one_fits (nodes_of kinds parent) number, ap count_if h)
