@@ -3,10 +3,13 @@ use Rattle.std.proofs.Common.{◌≡◌, ℕ, zero, suc, ◌≤◌, ◌<◌, Lis
 use Rattle.std.specs.Prelude.{if◌then◌else◌, filter, slice_get}
 use Rattle.rnix_kinds.specs.declared.kinds.SyntaxKind.{SyntaxKind}
 use Rattle.rnix_tree.specs.Tree.{Located}
-use Rattle.rnix_tree.specs.Walk.{nodes_in, children_of}
-use Rattle.rnix_tree.specs.Inside.{inside_count, nodes_count, count_if}
-use Rattle.rnix_tree.proofs.CountsInside.{child_nodes_fit}
+use Rattle.rnix_tree.specs.Walk.{Spot, nodes_in, children_of}
+use Rattle.rnix_tree.specs.Inside.{inside_count, nodes_count, spots_count, count_if}
+use Rattle.rnix_tree.proofs.CountsInside.{children_fit, child_nodes_fit}
+use Rattle.rnix_base.specs.declared.parts.InterpolPart.TheVariants.{Literal, Interpolation}
 use Rattle.rnix_base.specs.Select.{has_kind, nodes_of, child_of}
+use Rattle.rnix_base.specs.Parts.{parts_of}
+use Rattle.rnix_base.specs.Interpolated.{parts_count}
 
 -- some of the nodes
 filter_fits : (test : Located → Bool) (es : List Located) → nodes_count (filter test es) ≤ nodes_count es
@@ -33,3 +36,19 @@ pub child_fits : (kinds : SyntaxKind → Bool) (number : ℕ) (child parent : Lo
     → child_of kinds number parent ≡ Some child → inside_count child < inside_count parent
 child_fits kinds number child parent h =
     omega (arith, selected_fit kinds parent, one_fits (nodes_of kinds parent) number, ap count_if h)
+
+parts_among : (literals interpolations : SyntaxKind → Bool) (spots : List Spot) → parts_count (parts_of literals interpolations spots) ≤ spots_count spots
+parts_among literals interpolations [] = omega arith
+parts_among literals interpolations (spot ∷ spots) = case_spot spot.0 (has_kind interpolations spot.1) (has_kind literals spot.1) (parts_among literals interpolations spots) where
+  case_spot : (node interpolation literal : Bool) → parts_count (parts_of literals interpolations spots) ≤ spots_count spots
+      → parts_count (if node then (if interpolation then Interpolation spot.1 ∷ parts_of literals interpolations spots else parts_of literals interpolations spots) else (if literal then Literal spot.1 ∷ parts_of literals interpolations spots else parts_of literals interpolations spots)) ≤ spots_count (spot ∷ spots)
+  case_spot true true literal h = omega arith
+  case_spot true false literal h = omega arith
+  case_spot false interpolation true h = omega arith
+  case_spot false interpolation false h = omega arith
+
+-- the interpolations among the parts below a node, with what is inside them, are no more than what is inside the node
+pub parts_fit : (literals interpolations : SyntaxKind → Bool) (parent : Located)
+    → parts_count (parts_of literals interpolations (children_of parent)) ≤ inside_count parent
+parts_fit literals interpolations parent =
+    omega (arith, children_fit parent, parts_among literals interpolations (children_of parent))

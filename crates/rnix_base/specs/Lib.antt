@@ -1,6 +1,7 @@
 pub mod Comment
 pub mod Escapes
 pub mod Indent
+pub mod Interpolated
 pub mod Kinds
 pub mod Literal
 pub mod Normal
