@@ -1,3 +1,4 @@
+pub mod Inside
 pub mod NodeKinds
 pub mod Presence
 pub mod Reading
