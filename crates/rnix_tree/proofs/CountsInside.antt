@@ -1,4 +1,4 @@
--- The children of an element are fewer than the elements inside it, also with what is inside them.
+-- The children of an element, with what is inside them, are no more than what is inside it.
 use Rattle.std.proofs.Common.{◌≡◌, ℕ, zero, suc, ◌+◌, ◌-◌, ◌≤◌, ◌<◌, List, [], ◌∷◌, length, map, Bool, true, false, Option, Some, None, refl, ap, subst, sym, ◌∙◌, arith, inl, inr}
 use Rattle.std.specs.Prelude.{if◌then◌else◌, nat_lt, ◌==◌}
 use Rattle.std.proofs.lemmas.Bool.{cases_lt}
@@ -82,7 +82,7 @@ children_fit e =
           omega (arith, zero)
     ]
 
--- nor are the nodes among elements
+-- nodes among elements, with what is inside them, are no more than the elements
 nodes_fit : (spots : List Spot) → nodes_count (nodes_in spots) ≤ spots_count spots
 nodes_fit [] = omega arith
 nodes_fit (spot ∷ spots) =
