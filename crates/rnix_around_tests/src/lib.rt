@@ -8,4 +8,6 @@ mod elements;
 #[cfg(test)]
 mod handles;
 #[cfg(test)]
+mod kept;
+#[cfg(test)]
 mod skipping;

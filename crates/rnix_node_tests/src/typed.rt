@@ -1,7 +1,7 @@
 //! Typed nodes and tokens.
 
 use rnix::ast::{
-    AstNode, AstToken, AttrSet, BinOpKind, Comment, Expr, Ident, Integer, List, LiteralKind,
+    AstNode, AstToken, AttrSet, BinOpKind, Comment, Expr, Float, Ident, Integer, List, LiteralKind,
 };
 use rnix::{
     GreenNodeBuilder, NodeOrToken, Parse, ParseError, Root, SyntaxKind, SyntaxNode, TextRange,
@@ -94,6 +94,24 @@ fn value_in(alloc: Global, text: &str) -> Result<Option<Option<i64>>, AllocError
         Some(integer) => Some(integer.value().ok()),
         None => None,
     })
+}
+
+// The value of a text that is a number with a point or an exponent.
+fn float_in(alloc: Global, text: &str) -> Result<Option<f64>, AllocError> {
+    let read = Root::parse(alloc, text)?;
+    Ok(match read.syntax().first_token() {
+        Some(token) => Float::cast(token).and_then(|float| float.value().ok()),
+        None => None,
+    })
+}
+
+#[test]
+fn numbers_with_a_point_are_read(rt: HostRuntime) -> Result<(), Fail> {
+    assert!(rt; float_in(rt.alloc(), "1.5e-3")? == Some(0.0015));
+    assert!(rt; float_in(rt.alloc(), ".25")? == Some(0.25));
+    assert!(rt; float_in(rt.alloc(), "9.e999")? == Some(f64::INFINITY));
+    assert!(rt; float_in(rt.alloc(), "1")?.is_none());
+    Ok(())
 }
 
 #[test]
