@@ -1,5 +1,10 @@
 //! Where errors are shown, and what is said of them.
 
+ghost use Rattle.std.specs.Prelude.{map, IfOk, IsTrue};
+ghost use Rattle.rnix_tree.specs.Range.{bounds_of};
+ghost use Rattle.rnix_grammar.specs.Fault.{fault_of};
+ghost use Rattle.nix_diagnostics.specs.Shown.{range_shown, IsShownAt, IsLast, AreShown};
+
 use crate::message::message;
 use rnix::{NodeOrToken, Parse, ParseError, SyntaxKind, SyntaxNode, TextRange};
 use std::alloc::{AllocError, Global};
@@ -36,7 +41,9 @@ fn too_deep(root: &SyntaxNode<'_>, end: usize) -> Option<TextRange> {
 }
 
 // The place of an error. Where the end of the text is at fault, it is behind the last token.
-fn place(error: &ParseError, root: &SyntaxNode<'_>, end: usize) -> TextRange {
+fn place(error: &ParseError, root: &SyntaxNode<'_>, end: usize) -> TextRange
+    ensures { IsShownAt (fault_of error.now) (bounds_of result) }
+{
     let range = match error {
         ParseError::RecursionLimitExceeded => too_deep(root, end),
         _ => error.range(),
@@ -45,7 +52,9 @@ fn place(error: &ParseError, root: &SyntaxNode<'_>, end: usize) -> TextRange {
 }
 
 // Whether the last diagnostic says the same of the same place.
-fn is_said(found: &[Diagnostic], range: TextRange, message: &str) -> bool {
+fn is_said(found: &[Diagnostic], range: TextRange, message: &str) -> bool
+    ensures { IsTrue result → IsLast (bounds_of range) (map range_shown found.now) }
+{
     match found.last() {
         Some(last) => last.range == range && last.message.as_str() == message,
         None => false,
@@ -53,7 +62,9 @@ fn is_said(found: &[Diagnostic], range: TextRange, message: &str) -> bool {
 }
 
 /// The errors of a text, in the order in which they were found. What is said twice in a row of one place stands once.
-pub fn diagnostics(alloc: Global, read: &Parse) -> Result<Vec<Diagnostic>, AllocError> {
+pub fn diagnostics(alloc: Global, read: &Parse) -> Result<Vec<Diagnostic>, AllocError>
+    ensures { IfOk result (λ found. AreShown read.now.faults (map range_shown found.items)) }
+{
     let mut found = Vec::new(alloc);
     let errors = read.errors();
     if errors.is_empty() {
