@@ -1,5 +1,8 @@
 //! What the names of a text refer to.
 
+ghost use Rattle.std.specs.Prelude.{◌≡◌, IfOk, OnOk, IfSome};
+ghost use Rattle.nix_scopes.specs.Bound.{IsBoundAt, IsResolved, bindings_of, references_of};
+
 use crate::names::{Name, attr_text, is_scope, names_bound};
 use rnix::ast::{AstNode, Inherit};
 use rnix::{SyntaxKind, SyntaxNode, WalkEvent};
@@ -52,7 +55,9 @@ pub struct Resolution<'t> {
 }
 
 impl<'t> Resolution<'t> {
-    fn new(alloc: Global) -> Self {
+    fn new(alloc: Global) -> Self
+        ensures { IsResolved result }
+    {
         Resolution {
             bindings: Vec::new(alloc),
             references: Vec::new(alloc),
@@ -62,12 +67,16 @@ impl<'t> Resolution<'t> {
     }
 
     /// What is bound. The number of a binding is its index here.
-    pub fn bindings(&self) -> &[Binding<'t>] {
+    pub fn bindings(&self) -> &[Binding<'t>]
+        ensures { result.now ≡ bindings_of self.now }
+    {
         &self.bindings
     }
 
     /// What refers to a binding, or to nothing in the text.
-    pub fn references(&self) -> &[Reference<'t>] {
+    pub fn references(&self) -> &[Reference<'t>]
+        ensures { result.now ≡ references_of self.now }
+    {
         &self.references
     }
 
@@ -116,7 +125,9 @@ impl<'t> Resolution<'t> {
         name: &Name<'t>,
         scope: &SyntaxNode<'t>,
         begin: usize,
-    ) -> Result<(), AllocError> {
+    ) -> Result<(), AllocError>
+        ensures { OnOk result (IsResolved self.old → IsResolved self.new) }
+    {
         let number = self.bindings.len();
         let around = self.inside(name.text);
         let (first, outside) = match around {
@@ -135,7 +146,9 @@ impl<'t> Resolution<'t> {
     }
 
     // Enters a scope.
-    fn enter_scope(&mut self, alloc: Global, scope: &SyntaxNode<'t>) -> Result<(), AllocError> {
+    fn enter_scope(&mut self, alloc: Global, scope: &SyntaxNode<'t>) -> Result<(), AllocError>
+        ensures { OnOk result (IsResolved self.old → IsResolved self.new) }
+    {
         let first = self.bindings.len();
         for name in &names_bound(alloc, scope)? {
             self.bind(name, scope, first)?;
@@ -146,7 +159,9 @@ impl<'t> Resolution<'t> {
     }
 
     // Gives the name of a binding back what it was bound to around the scope.
-    fn unbind(&mut self, number: usize) -> Result<(), AllocError> {
+    fn unbind(&mut self, number: usize) -> Result<(), AllocError>
+        ensures { OnOk result (IsResolved self.old → IsResolved self.new) }
+    {
         let Some(binding) = self.bindings.get(number) else {
             return Ok(());
         };
@@ -166,7 +181,9 @@ impl<'t> Resolution<'t> {
     }
 
     // Leaves the innermost scope.
-    fn leave_scope(&mut self) -> Result<(), AllocError> {
+    fn leave_scope(&mut self) -> Result<(), AllocError>
+        ensures { OnOk result (IsResolved self.old → IsResolved self.new) }
+    {
         if let Some(Extent { first, end }) = self.open.pop() {
             for number in first..end {
                 self.unbind(number)?;
@@ -175,8 +192,30 @@ impl<'t> Resolution<'t> {
         Ok(())
     }
 
+    // Adds a reference to the binding that it has, if that has its name and a scope around it.
+    fn add_reference(&mut self, reference: Reference<'t>) -> Result<(), AllocError>
+        ensures { OnOk result (IsResolved self.old → IsResolved self.new) }
+    {
+        let Reference {
+            text,
+            node,
+            is_inherited,
+            binding,
+        } = reference;
+        let binding = bound(&self.bindings, binding, text, &node);
+        self.references.push(Reference {
+            text,
+            node,
+            is_inherited,
+            binding,
+        })?;
+        Ok(())
+    }
+
     // Adds the names that are inherited from around the `let` or the set.
-    fn add_inherited(&mut self, inherit: &Inherit<'t>) -> Result<(), AllocError> {
+    fn add_inherited(&mut self, inherit: &Inherit<'t>) -> Result<(), AllocError>
+        ensures { OnOk result (IsResolved self.old → IsResolved self.new) }
+    {
         if inherit.from().is_some() {
             return Ok(());
         }
@@ -191,9 +230,10 @@ impl<'t> Resolution<'t> {
                 } else {
                     self.inside(text)
                 };
-                self.references.push(Reference {
+                let node = attr.syntax().clone();
+                self.add_reference(Reference {
                     text,
-                    node: attr.syntax().clone(),
+                    node,
                     is_inherited: true,
                     binding,
                 })?;
@@ -203,20 +243,23 @@ impl<'t> Resolution<'t> {
     }
 
     // Adds a name that is an expression.
-    fn add_expression(&mut self, node: SyntaxNode<'t>) -> Result<(), AllocError> {
+    fn add_expression(&mut self, node: SyntaxNode<'t>) -> Result<(), AllocError>
+        ensures { OnOk result (IsResolved self.old → IsResolved self.new) }
+    {
         let text = node.text();
         let binding = self.inside(text);
-        self.references.push(Reference {
+        self.add_reference(Reference {
             text,
             node,
             is_inherited: false,
             binding,
-        })?;
-        Ok(())
+        })
     }
 
     // What is done where a walk meets a node.
-    fn enter(&mut self, alloc: Global, node: SyntaxNode<'t>) -> Result<(), AllocError> {
+    fn enter(&mut self, alloc: Global, node: SyntaxNode<'t>) -> Result<(), AllocError>
+        ensures { OnOk result (IsResolved self.old → IsResolved self.new) }
+    {
         if is_scope(&node) {
             return self.enter_scope(alloc, &node);
         }
@@ -227,6 +270,25 @@ impl<'t> Resolution<'t> {
             Some(inherit) => self.add_inherited(&inherit),
             None => Ok(()),
         }
+    }
+}
+
+// The number of a binding, if that has the name and the node lies in its scope.
+fn bound(
+    bindings: &[Binding<'_>],
+    number: Option<usize>,
+    text: &str,
+    node: &SyntaxNode<'_>,
+) -> Option<usize>
+    ensures { IfSome result (λ number. IsBoundAt bindings.now number text.now node.now) }
+{
+    let number = number?;
+    let binding = bindings.get(number)?;
+    let (scope, range) = (binding.scope.text_range(), node.text_range());
+    if binding.text == text && scope.contains_range(range) {
+        Some(number)
+    } else {
+        None
     }
 }
 
@@ -268,7 +330,9 @@ fn is_expression(node: &SyntaxNode<'_>) -> bool {
 }
 
 /// Resolves the names inside a node: a name refers to the innermost binding of its name around it, also under `with`.
-pub fn resolve<'t>(alloc: Global, root: &SyntaxNode<'t>) -> Result<Resolution<'t>, AllocError> {
+pub fn resolve<'t>(alloc: Global, root: &SyntaxNode<'t>) -> Result<Resolution<'t>, AllocError>
+    ensures { IfOk result IsResolved }
+{
     let mut resolution = Resolution::new(alloc);
     for event in root.preorder() {
         match event {
