@@ -1,5 +1,6 @@
-//! Text inside HTML.
+//! Texts and ranges inside HTML.
 
+use rnix::TextRange;
 use std::io;
 use std::io::Write;
 
@@ -15,4 +16,10 @@ pub fn write_text<W: Write>(text: &str, out: &mut W) -> io::Result<()> {
         }
     }
     Ok(())
+}
+
+/// Writes the range of an element as attributes, for the script, and closes its tag.
+pub fn write_range<W: Write>(range: TextRange, out: &mut W) -> io::Result<()> {
+    let (start, end) = (range.start(), range.end());
+    write!(out, " data-start=\"{start}\" data-end=\"{end}\">")
 }

@@ -1,6 +1,6 @@
 //! The source: each token in its colour, and the errors under it.
 
-use crate::html::write_text;
+use crate::html::{write_range, write_text};
 use nix_diagnostics::{Diagnostic, diagnostics};
 use rnix::{NodeOrToken, Parse, SyntaxKind, SyntaxToken, TextRange};
 use std::alloc::Global;
@@ -47,13 +47,13 @@ fn write_token<W: Write>(
     out: &mut W,
 ) -> io::Result<()> {
     let range = token.text_range();
-    let (class, start, end) = (class(token), range.start(), range.end());
-    write!(out, "<span class=\"{class}")?;
+    write!(out, "<span class=\"{}", class(token))?;
     if let Some(diagnostic) = error_over(found, range) {
         out.write_all(b" error\" title=\"")?;
         write_text(diagnostic.message.as_str(), out)?;
     }
-    write!(out, "\" data-start=\"{start}\" data-end=\"{end}\">")?;
+    out.write_all(b"\"")?;
+    write_range(range, out)?;
     write_text(token.text(), out)?;
     out.write_all(b"</span>")
 }
@@ -61,8 +61,8 @@ fn write_token<W: Write>(
 // Writes the errors as a list.
 fn write_errors<W: Write>(found: &[Diagnostic], out: &mut W) -> io::Result<()> {
     for Diagnostic { range, message } in found {
-        let (start, end) = (range.start(), range.end());
-        write!(out, "<li data-start=\"{start}\" data-end=\"{end}\">")?;
+        out.write_all(b"<li")?;
+        write_range(*range, out)?;
         write_text(message.as_str(), out)?;
         out.write_all(b"</li>\n")?;
     }

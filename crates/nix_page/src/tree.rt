@@ -1,18 +1,12 @@
 //! The tree, in which each node folds.
 
-use crate::html::write_text;
-use rnix::{NodeOrToken, SyntaxNode, SyntaxToken, TextRange, WalkEvent};
+use crate::html::{write_range, write_text};
+use rnix::{NodeOrToken, SyntaxNode, SyntaxToken, WalkEvent};
 use std::io;
 use std::io::Write;
 
 // How many bytes of a token's text are shown, if they end at a character.
 const SHOWN: usize = 40;
-
-// Writes the range of an element, for the script and for the reader.
-fn write_range<W: Write>(range: TextRange, out: &mut W) -> io::Result<()> {
-    let (start, end) = (range.start(), range.end());
-    write!(out, " data-start=\"{start}\" data-end=\"{end}\">")
-}
 
 // Writes the beginning of a node: its line, with what folds behind it.
 fn open_node<W: Write>(node: &SyntaxNode<'_>, out: &mut W) -> io::Result<()> {
