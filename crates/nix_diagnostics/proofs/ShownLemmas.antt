@@ -1,6 +1,6 @@
 -- The ranges that are shown of one error more.
 use Rattle.std.proofs.Common.{◌≡◌, List, [], ◌∷◌, ◌++◌, length, map, sym, subst, ap, refl, arith}
-use Rattle.rnix_tree.specs.Range.{Extent}
+use Rattle.rnix_green.specs.Range.{Extent}
 use Rattle.rnix_grammar.specs.declared.error.ParseError.{ParseError}
 use Rattle.rnix_grammar.specs.Fault.{Fault, fault_of}
 use Rattle.nix_diagnostics.specs.declared.diagnostic.Diagnostic.{Diagnostic}

@@ -1,6 +1,6 @@
 -- At which ranges the errors of a text are shown.
 use Rattle.std.specs.Prelude.{◌≡◌, List, [], ◌∷◌, ◌++◌, Some}
-use Rattle.rnix_tree.specs.Range.{Extent, bounds_of}
+use Rattle.rnix_green.specs.Range.{Extent, bounds_of}
 use Rattle.rnix_grammar.specs.Fault.{Fault}
 use Rattle.rnix_grammar.specs.Ranges.{range_in}
 use Rattle.nix_diagnostics.specs.declared.diagnostic.Diagnostic.{Diagnostic}

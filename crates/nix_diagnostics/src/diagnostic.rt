@@ -1,7 +1,7 @@
 //! Where errors are shown, and what is said of them.
 
 ghost use Rattle.std.specs.Prelude.{map, IfOk, IsTrue};
-ghost use Rattle.rnix_tree.specs.Range.{bounds_of};
+ghost use Rattle.rnix_green.specs.Range.{bounds_of};
 ghost use Rattle.rnix_grammar.specs.Fault.{fault_of};
 ghost use Rattle.nix_diagnostics.specs.Shown.{range_shown, IsShownAt, IsLast, AreShown};
 

@@ -1,7 +1,7 @@
 -- Which bindings references have.
 use Rattle.std.specs.Prelude.{◌≡◌, ℕ, ◌≤◌, List, Some, slice_get}
 use Rattle.std.specs.List.{All}
-use Rattle.rnix_tree.specs.Tree.{Located, extent_of}
+use Rattle.rnix_green.specs.Tree.{Located, extent_of}
 use Rattle.nix_scopes.specs.declared.resolution.Binding.{Binding}
 use Rattle.nix_scopes.specs.declared.resolution.Reference.{Reference}
 use Rattle.nix_scopes.specs.declared.resolution.Resolution.{Resolution}

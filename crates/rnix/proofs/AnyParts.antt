@@ -9,9 +9,9 @@ use Rattle.rnix_kinds.specs.declared.kinds.SyntaxKind.{SyntaxKind}
 use Rattle.rnix_kinds.specs.declared.kinds.SyntaxKind.TheVariants as k
 use Rattle.rnix_kinds.specs.SyntaxKind.{is_token}
 use Rattle.rnix_kinds.specs.Lexical.Tokens.{Lexeme}
-use Rattle.rnix_tree.specs.Equality.{same_kind-decides}
-use Rattle.rnix_tree.specs.Forest.{Forest, empty, leaf, node, text_of, element_count}
-use Rattle.rnix_tree.specs.Tree.{Item, Located, IsNodeAt, items_from, items_of, no_item, item_of, forest_of}
+use Rattle.rnix_green.specs.Equality.{same_kind-decides}
+use Rattle.rnix_green.specs.Forest.{Forest, empty, leaf, node, text_of, element_count}
+use Rattle.rnix_green.specs.Tree.{Item, Located, IsNodeAt, items_from, items_of, no_item, item_of, forest_of}
 use Rattle.rnix_base.specs.Select.{HasKind}
 use Rattle.rnix_grammar.specs.Shape.{item_kinds}
 use Rattle.rnix_grammar.specs.Derivation.{has_tokens_alone}

@@ -2,7 +2,7 @@
 use Rattle.std.proofs.Common.{refl}
 use Rattle.rnix_kinds.specs.declared.kinds.SyntaxKind.{SyntaxKind}
 use Rattle.rnix_kinds.specs.declared.kinds.SyntaxKind.TheVariants as k
-use Rattle.rnix_tree.specs.Tree.{Located}
+use Rattle.rnix_green.specs.Tree.{Located}
 use Rattle.rnix.specs.Whole.{HasParts}
 use Rattle.rnix.proofs.WholeLemmas.{RowSeen, token, expr, child, select_default_expr, bin_op_operator, unary_op_operator, lambda_param, pat_entry_default, literal_kind, path_search_content}
 

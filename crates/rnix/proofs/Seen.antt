@@ -5,12 +5,13 @@ use Rattle.std.proofs.lemmas.List.{get_or-append_right}
 use Rattle.std.proofs.lemmas.Bool.{and_parts}
 use Rattle.rnix_kinds.specs.declared.kinds.SyntaxKind.{SyntaxKind}
 use Rattle.rnix_kinds.specs.SyntaxKind.{is_token, is_trivia}
-use Rattle.rnix_tree.specs.Equality.{same_kind, same_kind-decides}
-use Rattle.rnix_tree.specs.Forest.{Forest, empty, leaf, node, text_of, element_count}
-use Rattle.rnix_tree.specs.Tree.{Tree, Item, Located, IsNodeAt, items_from, items_of, no_item, item, item_of, forest_of, part_at, children_in}
-use Rattle.rnix_tree.specs.Walk.{Spot, spot_at, tree_numbers, nodes_in, children_of}
-use Rattle.rnix_tree.proofs.PartLemmas.{IsPart, IsOne, one_leaf, one_node, part_there, one_there}
-use Rattle.rnix_tree.proofs.PieceLemmas.{length-items_from}
+use Rattle.rnix_green.specs.Equality.{same_kind, same_kind-decides}
+use Rattle.rnix_green.specs.Forest.{Forest, empty, leaf, node, text_of, element_count}
+use Rattle.rnix_green.specs.Tree.{Tree, Item, Located, IsNodeAt, items_from, items_of, no_item, item, item_of, forest_of, part_at, children_in}
+use Rattle.rnix_green.specs.Walk.{Spot, spot_at, nodes_in, children_of}
+use Rattle.rnix_green.specs.Numbers.{tree_numbers}
+use Rattle.rnix_green.proofs.PartLemmas.{IsPart, IsOne, one_leaf, one_node, part_there, one_there}
+use Rattle.rnix_green.proofs.PieceLemmas.{length-items_from}
 use Rattle.rnix_base.specs.Select.{has_kind, tokens_in, child_of, token_of}
 use Rattle.rnix_grammar.specs.Rows.{is_row}
 use Rattle.rnix_grammar.specs.Shape.{item_kinds}

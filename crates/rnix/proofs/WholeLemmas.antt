@@ -6,9 +6,9 @@ use Rattle.rnix_kinds.specs.declared.kinds.SyntaxKind.{SyntaxKind}
 use Rattle.rnix_kinds.specs.declared.kinds.SyntaxKind.TheVariants as k
 use Rattle.rnix_kinds.specs.SyntaxKind.{is_token, is_trivia}
 use Rattle.rnix_kinds.proofs.AllKinds.{implied}
-use Rattle.rnix_tree.specs.Equality.{same_kind}
-use Rattle.rnix_tree.specs.Tree.{Located, item_of}
-use Rattle.rnix_tree.specs.Walk.{children_of}
+use Rattle.rnix_green.specs.Equality.{same_kind}
+use Rattle.rnix_green.specs.Tree.{Located, item_of}
+use Rattle.rnix_green.specs.Walk.{children_of}
 use Rattle.rnix_base.specs.Kinds.{is_path_token}
 use Rattle.rnix_base.specs.Select.{has_kind, tokens_in, child_of, token_of}
 use Rattle.rnix_base.specs.Operators.{or_else, first_operator, binary_operator, unary_operator}

@@ -1,8 +1,8 @@
 -- How many elements are inside others: what the measures and invariants of a recursion over the tree cite.
 use Rattle.std.specs.Prelude.{ℕ, List}
 use Rattle.rnix_kinds.specs.declared.kinds.SyntaxKind.TheVariants as k
-use Rattle.rnix_tree.specs.Equality.{same_kind}
-use Rattle.rnix_tree.specs.Walk.{Spot}
+use Rattle.rnix_green.specs.Equality.{same_kind}
+use Rattle.rnix_green.specs.Walk.{Spot}
 use Rattle.rnix_base.specs.Parts.{parts_of}
 use Rattle.rnix_base.specs.Interpolated.{parts_count}
 pub use Rattle.rnix_tree.specs.Inside.{inside_count, nodes_count, spots_count}

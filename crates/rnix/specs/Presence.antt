@@ -1,8 +1,8 @@
 -- What stands right below a node.
 use Rattle.std.specs.Prelude.{◌≡◌, ℕ, Option, is_some, IsSome}
 use Rattle.rnix_kinds.specs.declared.kinds.SyntaxKind.{SyntaxKind}
-use Rattle.rnix_tree.specs.Equality.{same_kind}
-use Rattle.rnix_tree.specs.Tree.{Located}
+use Rattle.rnix_green.specs.Equality.{same_kind}
+use Rattle.rnix_green.specs.Tree.{Located}
 use Rattle.rnix_base.specs.Select.{child_of, token_of}
 use Rattle.rnix.specs.NodeKinds.{is_expr}
 

@@ -1,6 +1,6 @@
 -- What a text was read as.
 use Rattle.std.specs.Prelude.{List}
-use Rattle.rnix_tree.specs.Tree.{Tree}
+use Rattle.rnix_green.specs.Tree.{Tree}
 use Rattle.rnix_grammar.specs.Fault.{Fault}
 
 -- the tree, and the errors in the order in which they were found

@@ -1,8 +1,8 @@
 -- The parts of strings and paths.
 use Rattle.std.specs.Prelude.{Bool, true, false, List, [], ◌∷◌, map, Option, Some, None, if◌then◌else◌}
 use Rattle.rnix_kinds.specs.declared.kinds.SyntaxKind.TheVariants as k
-use Rattle.rnix_tree.specs.Equality.{same_kind}
-use Rattle.rnix_tree.specs.Tree.{Located, text_at}
+use Rattle.rnix_green.specs.Equality.{same_kind}
+use Rattle.rnix_green.specs.Tree.{Located, text_at}
 use Rattle.rnix_base.specs.declared.parts.InterpolPart.{InterpolPart}
 use Rattle.rnix_base.specs.declared.parts.InterpolPart.TheVariants.{Literal}
 use Rattle.rnix_base.specs.Kinds.{is_path_token}

@@ -1,7 +1,7 @@
 -- What a law says of all nodes of a tree without errors.
 use Rattle.std.specs.Prelude.{◌≡◌, true}
 use Rattle.rnix_kinds.specs.declared.kinds.SyntaxKind.{SyntaxKind}
-use Rattle.rnix_tree.specs.Tree.{Tree, Located, forest_of}
+use Rattle.rnix_green.specs.Tree.{Tree, Located, forest_of}
 use Rattle.rnix_base.specs.Select.{HasKind}
 use Rattle.rnix_grammar.specs.Derivation.{has_tokens_alone}
 use Rattle.rnix.specs.Whole.{HasParts}

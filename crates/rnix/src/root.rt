@@ -26,7 +26,7 @@ impl Model for Parse {
     ghost use Rattle.std.specs.Coded.{codes};
     ghost use Rattle.rnix_kinds.specs.contracts.kinds.SyntaxKind as kinds;
     ghost use Rattle.rnix_kinds.specs.declared.kinds.SyntaxKind.TheVariants as k;
-    ghost use Rattle.rnix_tree.specs.Tree.{tree_code};
+    ghost use Rattle.rnix_green.specs.Tree.{tree_code};
     ghost use Rattle.rnix.specs.Reading.{Reading};
 
     ghost Value = { Reading };

@@ -3,7 +3,7 @@
 ghost use Rattle.std.specs.Prelude.{ℕ, Bool, [], All, IfSome};
 ghost use Rattle.rnix_kinds.specs.declared.kinds.SyntaxKind.{SyntaxKind};
 ghost use Rattle.rnix_kinds.specs.Lexical.Tokens.{tokens_of};
-ghost use Rattle.rnix_tree.specs.Tree.{Located};
+ghost use Rattle.rnix_green.specs.Tree.{Located};
 ghost use Rattle.rnix_grammar.specs.Shape.{IsShaped};
 ghost use Rattle.rnix_grammar.specs.Parsed.{IsParsed};
 ghost use Rattle.rnix_base.specs.Select.{nodes_of, child_of};

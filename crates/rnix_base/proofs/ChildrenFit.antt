@@ -2,8 +2,8 @@
 use Rattle.std.proofs.Common.{◌≡◌, ℕ, zero, suc, ◌≤◌, ◌<◌, List, [], ◌∷◌, Bool, true, false, Option, Some, ap, arith}
 use Rattle.std.specs.Prelude.{if◌then◌else◌, filter, slice_get}
 use Rattle.rnix_kinds.specs.declared.kinds.SyntaxKind.{SyntaxKind}
-use Rattle.rnix_tree.specs.Tree.{Located}
-use Rattle.rnix_tree.specs.Walk.{Spot, nodes_in, children_of}
+use Rattle.rnix_green.specs.Tree.{Located}
+use Rattle.rnix_green.specs.Walk.{Spot, nodes_in, children_of}
 use Rattle.rnix_tree.specs.Inside.{inside_count, nodes_count, spots_count, count_if}
 use Rattle.rnix_tree.proofs.CountsInside.{children_fit, child_nodes_fit}
 use Rattle.rnix_base.specs.declared.parts.InterpolPart.TheVariants.{Literal, Interpolation}

@@ -3,8 +3,8 @@ use Rattle.std.proofs.Common.{◌<◌, ◌≤◌, ◌^◌, suc, Bool, true, fals
 use Rattle.std.specs.Prelude.{if◌then◌else◌}
 use Rattle.std.proofs.lemmas.List.Sums.{length-filter, count_by-le-length}
 use Rattle.rnix_kinds.specs.declared.kinds.SyntaxKind.{SyntaxKind}
-use Rattle.rnix_tree.specs.Tree.{Located}
-use Rattle.rnix_tree.specs.Walk.{Spot}
+use Rattle.rnix_green.specs.Tree.{Located}
+use Rattle.rnix_green.specs.Walk.{Spot}
 use Rattle.rnix_base.specs.declared.parts.InterpolPart.TheVariants.{Literal, Interpolation}
 use Rattle.rnix_base.specs.Select.{has_kind, those_of}
 use Rattle.rnix_base.specs.Parts.{parts_of}

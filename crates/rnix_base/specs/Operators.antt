@@ -2,7 +2,7 @@
 use Rattle.std.specs.Prelude.{◌≡◌, List, [], ◌∷◌, Option, Some, None}
 use Rattle.rnix_kinds.specs.declared.kinds.SyntaxKind.{SyntaxKind}
 use Rattle.rnix_kinds.specs.declared.kinds.SyntaxKind.TheVariants as k
-use Rattle.rnix_tree.specs.Tree.{Located, item_of}
+use Rattle.rnix_green.specs.Tree.{Located, item_of}
 use Rattle.rnix_base.specs.declared.operators.BinOpKind.{BinOpKind}
 use Rattle.rnix_base.specs.declared.operators.BinOpKind.TheVariants as b
 use Rattle.rnix_base.specs.declared.operators.UnaryOpKind.{UnaryOpKind}

@@ -1,8 +1,8 @@
 -- The parts of a string or of a path, selected among the children of its node.
 use Rattle.std.specs.Prelude.{ℕ, Bool, false, if◌then◌else◌, bytes_eq, codes, List, [], ◌∷◌, map}
 use Rattle.rnix_kinds.specs.declared.kinds.SyntaxKind.{SyntaxKind}
-use Rattle.rnix_tree.specs.Tree.{Located, text_at}
-use Rattle.rnix_tree.specs.Walk.{Spot, children_of}
+use Rattle.rnix_green.specs.Tree.{Located, text_at}
+use Rattle.rnix_green.specs.Walk.{Spot, children_of}
 use Rattle.rnix_base.specs.declared.parts.InterpolPart.{InterpolPart}
 use Rattle.rnix_base.specs.declared.parts.InterpolPart.TheVariants.{Literal, Interpolation}
 use Rattle.rnix_base.specs.Select.{has_kind, tokens_in}

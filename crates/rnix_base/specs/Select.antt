@@ -1,9 +1,9 @@
 -- The children of a node, selected by their kinds.
 use Rattle.std.specs.Prelude.{◌≡◌, ℕ, Bool, true, List, [], ◌∷◌, filter, find, slice_get, Option, if◌then◌else◌}
 use Rattle.rnix_kinds.specs.declared.kinds.SyntaxKind.{SyntaxKind}
-use Rattle.rnix_tree.specs.Equality.{same_kind}
-use Rattle.rnix_tree.specs.Tree.{Located, item_of}
-use Rattle.rnix_tree.specs.Walk.{Spot, nodes_in, children_of}
+use Rattle.rnix_green.specs.Equality.{same_kind}
+use Rattle.rnix_green.specs.Tree.{Located, item_of}
+use Rattle.rnix_green.specs.Walk.{Spot, nodes_in, children_of}
 
 -- whether an element has one of the kinds
 abbrev pub has_kind : (SyntaxKind → Bool) → Located → Bool

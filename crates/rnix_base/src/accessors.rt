@@ -1,7 +1,7 @@
 //! The children of a node, selected by their types and kinds.
 
 ghost use Rattle.std.specs.Prelude.{◌≡◌, ◌<◌, ◌^◌, length, option_map};
-ghost use Rattle.rnix_tree.specs.Equality.{same_kind};
+ghost use Rattle.rnix_green.specs.Equality.{same_kind};
 ghost use Rattle.rnix_base.specs.Select.{those_of, nodes_of, child_of, token_of};
 
 use crate::ast_children::AstChildren;

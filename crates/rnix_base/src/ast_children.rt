@@ -14,7 +14,7 @@ pub struct AstChildren<'t, T> {
 impl<'t, T> Model for AstChildren<'t, T> {
     ghost use Rattle.std.specs.Prelude.{List};
     ghost use Rattle.std.specs.Coded.{coded_list};
-    ghost use Rattle.rnix_tree.specs.Tree.{Located, located_code};
+    ghost use Rattle.rnix_green.specs.Tree.{Located, located_code};
 
     ghost Value = { List Located };
 

@@ -2,8 +2,8 @@
 
 ghost use Rattle.std.specs.Prelude.{◌≡◌};
 ghost use Rattle.rnix_kinds.specs.declared.kinds.SyntaxKind.TheVariants as k;
-ghost use Rattle.rnix_tree.specs.Equality.{same_kind};
-ghost use Rattle.rnix_tree.specs.Tree.{text_at};
+ghost use Rattle.rnix_green.specs.Equality.{same_kind};
+ghost use Rattle.rnix_green.specs.Tree.{text_at};
 ghost use Rattle.rnix_base.specs.Literal.{first_literal};
 
 use crate::accessors::child_token;
@@ -32,8 +32,8 @@ pub struct Float<'t> {
 impl<'t> Model for Float<'t> {
     ghost use Rattle.std.specs.Prelude.{◌≡◌, true};
     ghost use Rattle.rnix_kinds.specs.declared.kinds.SyntaxKind.TheVariants as k;
-    ghost use Rattle.rnix_tree.specs.Equality.{same_kind};
-    ghost use Rattle.rnix_tree.specs.Tree.{Located, located_code, item_of};
+    ghost use Rattle.rnix_green.specs.Equality.{same_kind};
+    ghost use Rattle.rnix_green.specs.Tree.{Located, located_code, item_of};
 
     ghost Value = { Located };
 
@@ -72,7 +72,7 @@ impl<'t> AstToken<'t> for Float<'t> {
 
 impl<'t> fmt::Display for Float<'t> {
     ghost use Rattle.std.specs.Prelude.{Some};
-    ghost use Rattle.rnix_tree.specs.Tree.{text_at};
+    ghost use Rattle.rnix_green.specs.Tree.{text_at};
 
     ghost output = { λ token. Some (text_at token) };
 
@@ -108,8 +108,8 @@ pub struct Integer<'t> {
 impl<'t> Model for Integer<'t> {
     ghost use Rattle.std.specs.Prelude.{◌≡◌, true};
     ghost use Rattle.rnix_kinds.specs.declared.kinds.SyntaxKind.TheVariants as k;
-    ghost use Rattle.rnix_tree.specs.Equality.{same_kind};
-    ghost use Rattle.rnix_tree.specs.Tree.{Located, located_code, item_of};
+    ghost use Rattle.rnix_green.specs.Equality.{same_kind};
+    ghost use Rattle.rnix_green.specs.Tree.{Located, located_code, item_of};
 
     ghost Value = { Located };
 
@@ -148,7 +148,7 @@ impl<'t> AstToken<'t> for Integer<'t> {
 
 impl<'t> fmt::Display for Integer<'t> {
     ghost use Rattle.std.specs.Prelude.{Some};
-    ghost use Rattle.rnix_tree.specs.Tree.{text_at};
+    ghost use Rattle.rnix_green.specs.Tree.{text_at};
 
     ghost output = { λ token. Some (text_at token) };
 
@@ -184,8 +184,8 @@ pub struct Uri<'t> {
 impl<'t> Model for Uri<'t> {
     ghost use Rattle.std.specs.Prelude.{◌≡◌, true};
     ghost use Rattle.rnix_kinds.specs.declared.kinds.SyntaxKind.TheVariants as k;
-    ghost use Rattle.rnix_tree.specs.Equality.{same_kind};
-    ghost use Rattle.rnix_tree.specs.Tree.{Located, located_code, item_of};
+    ghost use Rattle.rnix_green.specs.Equality.{same_kind};
+    ghost use Rattle.rnix_green.specs.Tree.{Located, located_code, item_of};
 
     ghost Value = { Located };
 
@@ -224,7 +224,7 @@ impl<'t> AstToken<'t> for Uri<'t> {
 
 impl<'t> fmt::Display for Uri<'t> {
     ghost use Rattle.std.specs.Prelude.{Some};
-    ghost use Rattle.rnix_tree.specs.Tree.{text_at};
+    ghost use Rattle.rnix_green.specs.Tree.{text_at};
 
     ghost output = { λ token. Some (text_at token) };
 

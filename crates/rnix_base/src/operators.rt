@@ -1,7 +1,7 @@
 //! The operators.
 
 ghost use Rattle.std.specs.Prelude.{◌≡◌};
-ghost use Rattle.rnix_tree.specs.Walk.{children_of};
+ghost use Rattle.rnix_green.specs.Walk.{children_of};
 ghost use Rattle.rnix_base.specs.Select.{tokens_in};
 ghost use Rattle.rnix_base.specs.Operators.{binary_operator, unary_operator, EachHasOneKind, first_operator};
 

@@ -28,7 +28,7 @@ pub struct InterpolParts<'t, T, I> {
 
 impl<'t, T, I> Model for InterpolParts<'t, T, I> {
     ghost use Rattle.std.specs.Prelude.{List};
-    ghost use Rattle.rnix_tree.specs.Walk.{Spot, spots_code};
+    ghost use Rattle.rnix_green.specs.Walk.{Spot, spots_code};
 
     ghost Value = { List Spot };
 

@@ -2,8 +2,8 @@
 
 ghost use Rattle.std.specs.Prelude.{◌≡◌, true};
 ghost use Rattle.rnix_kinds.specs.declared.kinds.SyntaxKind.TheVariants as k;
-ghost use Rattle.rnix_tree.specs.Equality.{same_kind};
-ghost use Rattle.rnix_tree.specs.Tree.{item_of, text_at};
+ghost use Rattle.rnix_green.specs.Equality.{same_kind};
+ghost use Rattle.rnix_green.specs.Tree.{item_of, text_at};
 ghost use Rattle.rnix_base.specs.Kinds.{is_path_token};
 
 use crate::token::AstToken;
@@ -20,7 +20,7 @@ pub struct PathContent<'t> {
 impl<'t> Model for PathContent<'t> {
     ghost use Rattle.std.specs.Prelude.{◌≡◌, true};
     ghost use Rattle.rnix_base.specs.Kinds.{is_path_token};
-    ghost use Rattle.rnix_tree.specs.Tree.{Located, located_code, item_of};
+    ghost use Rattle.rnix_green.specs.Tree.{Located, located_code, item_of};
 
     ghost Value = { Located };
 

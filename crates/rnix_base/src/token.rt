@@ -2,7 +2,7 @@
 
 ghost use Rattle.std.specs.Prelude.{◌≡◌, Bool, true, is_some, IfSome};
 ghost use Rattle.rnix_kinds.specs.declared.kinds.SyntaxKind.{SyntaxKind};
-ghost use Rattle.rnix_tree.specs.Tree.{Located, item_of};
+ghost use Rattle.rnix_green.specs.Tree.{Located, item_of};
 
 use rnix_kinds::SyntaxKind;
 use rnix_tree::SyntaxToken;

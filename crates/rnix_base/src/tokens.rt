@@ -2,8 +2,8 @@
 
 ghost use Rattle.std.specs.Prelude.{◌≡◌, ℕ, List, MatchOption};
 ghost use Rattle.rnix_kinds.specs.declared.kinds.SyntaxKind.TheVariants as k;
-ghost use Rattle.rnix_tree.specs.Equality.{same_kind};
-ghost use Rattle.rnix_tree.specs.Tree.{text_at};
+ghost use Rattle.rnix_green.specs.Equality.{same_kind};
+ghost use Rattle.rnix_green.specs.Tree.{text_at};
 ghost use Rattle.rnix_base.specs.Comment.{IsBlock, Says};
 
 use crate::token::AstToken;
@@ -21,8 +21,8 @@ pub struct Whitespace<'t> {
 impl<'t> Model for Whitespace<'t> {
     ghost use Rattle.std.specs.Prelude.{◌≡◌, true};
     ghost use Rattle.rnix_kinds.specs.declared.kinds.SyntaxKind.TheVariants as k;
-    ghost use Rattle.rnix_tree.specs.Equality.{same_kind};
-    ghost use Rattle.rnix_tree.specs.Tree.{Located, located_code, item_of};
+    ghost use Rattle.rnix_green.specs.Equality.{same_kind};
+    ghost use Rattle.rnix_green.specs.Tree.{Located, located_code, item_of};
 
     ghost Value = { Located };
 
@@ -61,7 +61,7 @@ impl<'t> AstToken<'t> for Whitespace<'t> {
 
 impl<'t> fmt::Display for Whitespace<'t> {
     ghost use Rattle.std.specs.Prelude.{Some};
-    ghost use Rattle.rnix_tree.specs.Tree.{text_at};
+    ghost use Rattle.rnix_green.specs.Tree.{text_at};
 
     ghost output = { λ token. Some (text_at token) };
 
@@ -90,8 +90,8 @@ pub struct Comment<'t> {
 impl<'t> Model for Comment<'t> {
     ghost use Rattle.std.specs.Prelude.{◌≡◌, true};
     ghost use Rattle.rnix_kinds.specs.declared.kinds.SyntaxKind.TheVariants as k;
-    ghost use Rattle.rnix_tree.specs.Equality.{same_kind};
-    ghost use Rattle.rnix_tree.specs.Tree.{Located, located_code, item_of};
+    ghost use Rattle.rnix_green.specs.Equality.{same_kind};
+    ghost use Rattle.rnix_green.specs.Tree.{Located, located_code, item_of};
 
     ghost Value = { Located };
 
@@ -130,7 +130,7 @@ impl<'t> AstToken<'t> for Comment<'t> {
 
 impl<'t> fmt::Display for Comment<'t> {
     ghost use Rattle.std.specs.Prelude.{Some};
-    ghost use Rattle.rnix_tree.specs.Tree.{text_at};
+    ghost use Rattle.rnix_green.specs.Tree.{text_at};
 
     ghost output = { λ token. Some (text_at token) };
 
@@ -186,8 +186,8 @@ pub struct StrContent<'t> {
 impl<'t> Model for StrContent<'t> {
     ghost use Rattle.std.specs.Prelude.{◌≡◌, true};
     ghost use Rattle.rnix_kinds.specs.declared.kinds.SyntaxKind.TheVariants as k;
-    ghost use Rattle.rnix_tree.specs.Equality.{same_kind};
-    ghost use Rattle.rnix_tree.specs.Tree.{Located, located_code, item_of};
+    ghost use Rattle.rnix_green.specs.Equality.{same_kind};
+    ghost use Rattle.rnix_green.specs.Tree.{Located, located_code, item_of};
 
     ghost Value = { Located };
 
@@ -226,7 +226,7 @@ impl<'t> AstToken<'t> for StrContent<'t> {
 
 impl<'t> fmt::Display for StrContent<'t> {
     ghost use Rattle.std.specs.Prelude.{Some};
-    ghost use Rattle.rnix_tree.specs.Tree.{text_at};
+    ghost use Rattle.rnix_green.specs.Tree.{text_at};
 
     ghost output = { λ token. Some (text_at token) };
 

@@ -1,7 +1,7 @@
 //! The elements of a tree, in preorder.
 
 ghost use Rattle.std.specs.Prelude.{length};
-ghost use Rattle.rnix_tree.specs.Walk.{elements_of};
+ghost use Rattle.rnix_green.specs.Walk.{elements_of};
 ghost use Rattle.rnix_c.specs.Answers.{Counts};
 
 use crate::answers::{NO_NUMBER, count_of};

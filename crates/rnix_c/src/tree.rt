@@ -1,7 +1,7 @@
 //! A text's tree and errors.
 
 ghost use Rattle.std.specs.Prelude.{◌≡◌, length};
-ghost use Rattle.rnix_tree.specs.Walk.{elements_of};
+ghost use Rattle.rnix_green.specs.Walk.{elements_of};
 ghost use Rattle.rnix_c.specs.Answers.{Answers, Counts, root};
 
 use crate::answers::{count_of, parsed};

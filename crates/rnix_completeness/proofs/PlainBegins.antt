@@ -6,7 +6,7 @@ use Rattle.std.proofs.lemmas.Bool.{and_parts}
 use Rattle.rnix_kinds.specs.declared.kinds.SyntaxKind.{SyntaxKind}
 use Rattle.rnix_kinds.specs.declared.kinds.SyntaxKind.TheVariants.{TOKEN_IDENT, TOKEN_OR, NODE_APPLY, NODE_BIN_OP, NODE_HAS_ATTR, NODE_IDENT, NODE_SELECT}
 use Rattle.rnix_kinds.specs.SyntaxKind.{is_fn_arg}
-use Rattle.rnix_tree.specs.Forest.{Forest, leaf, node}
+use Rattle.rnix_green.specs.Forest.{Forest, leaf, node}
 use Rattle.rnix_grammar.specs.Levels.{binding_power, left_of}
 use Rattle.rnix_grammar.specs.AnnotatedForest.{Token, AnnotatedForest, blank, token, branch, fault, forget}
 use Rattle.rnix_grammar.specs.Rows.{advance, is_expression, live, start, whole}

@@ -2,7 +2,7 @@
 use Rattle.std.specs.Prelude.{◌≡◌, true, List, [], ◌∷◌}
 use Rattle.rnix_kinds.specs.declared.kinds.SyntaxKind.TheVariants.{NODE_ROOT}
 use Rattle.rnix_kinds.specs.Lexical.Tokens.{Lexeme}
-use Rattle.rnix_tree.specs.Tree.{Tree}
+use Rattle.rnix_green.specs.Tree.{Tree}
 use Rattle.rnix_grammar.specs.declared.place.Place.TheVariants as p
 use Rattle.rnix_grammar.specs.Fault.{Fault}
 use Rattle.rnix_grammar.specs.AnnotatedForest.{placed_from, forget}

@@ -4,9 +4,9 @@ use Rattle.std.specs.List.{flat_map}
 use Rattle.std.specs.Cmp.Lexicographic.{pointwise}
 use Rattle.rnix_kinds.specs.declared.kinds.SyntaxKind.{SyntaxKind}
 use Rattle.rnix_kinds.specs.SyntaxKind.{name_of}
-use Rattle.rnix_tree.specs.Equality.{same_kind}
-use Rattle.rnix_tree.specs.Lines.{place_text}
-use Rattle.rnix_tree.specs.Range.{Extent, bounds_of}
+use Rattle.rnix_green.specs.Equality.{same_kind}
+use Rattle.rnix_green.specs.Range.{place_text}
+use Rattle.rnix_green.specs.Range.{Extent, bounds_of}
 use Rattle.rnix_grammar.specs.declared.error.ParseError.{ParseError}
 use Rattle.rnix_grammar.specs.declared.error.ParseError.TheVariants.{Unexpected, UnexpectedExtra, UnexpectedWanted, UnexpectedDoubleBind, UnexpectedEOF, UnexpectedEOFWanted, DuplicatedArgs, RecursionLimitExceeded}
 

@@ -2,11 +2,11 @@
 use Rattle.std.specs.Prelude.{◌≡◌, ℕ, ◌+◌, Bool, true, false, ◌||◌, List, [], ◌∷◌, ◌++◌, Option, Some, None, if◌then◌else◌}
 use Rattle.rnix_kinds.specs.declared.kinds.SyntaxKind.{SyntaxKind}
 use Rattle.rnix_kinds.specs.declared.kinds.SyntaxKind.TheVariants.{NODE_ERROR, NODE_IDENT, NODE_PAT_ENTRY}
-use Rattle.rnix_tree.specs.Forest.{Forest, empty, leaf, node, element_count}
-use Rattle.rnix_tree.specs.Range.{Extent}
-use Rattle.rnix_tree.specs.Tree.{Tree, Located, forest_of, item, item_of, extent_of, text_at}
-use Rattle.rnix_tree.specs.Walk.{Event, preorder_of}
-use Rattle.rnix_tree.specs.Relatives.{IsNodeIn, IsTokenIn}
+use Rattle.rnix_green.specs.Forest.{Forest, empty, leaf, node, element_count}
+use Rattle.rnix_green.specs.Range.{Extent}
+use Rattle.rnix_green.specs.Tree.{Tree, Located, forest_of, item, item_of, extent_of, text_at}
+use Rattle.rnix_green.specs.Walk.{Event, preorder_of}
+use Rattle.rnix_green.specs.Relatives.{IsNodeIn, IsTokenIn}
 use Rattle.rnix_grammar.specs.Fault.{Fault, untold, extra, unwanted, bound_twice, ended, ended_before, named_twice}
 use Rattle.rnix_grammar.specs.Shape.{name_if, with_name}
 use Rattle.rnix_grammar.specs.Tables.{is_among}

@@ -2,7 +2,7 @@
 use Rattle.std.specs.Prelude.{◌≡◌, List}
 use Rattle.rnix_kinds.specs.declared.kinds.SyntaxKind.TheVariants.{NODE_ROOT}
 use Rattle.rnix_kinds.specs.Lexical.Tokens.{Lexeme}
-use Rattle.rnix_tree.specs.Tree.{Tree}
+use Rattle.rnix_green.specs.Tree.{Tree}
 use Rattle.rnix_grammar.specs.Fault.{Fault}
 use Rattle.rnix_grammar.specs.AnnotatedForest.{AnnotatedForest, forget, tokens_in, clean, placed_from}
 use Rattle.rnix_grammar.specs.Layout.{dressed_whole}

@@ -6,8 +6,8 @@ use Rattle.std.specs.Cmp.Lexicographic.{pointwise}
 use Rattle.std.proofs.lemmas.Bool.Decides.{Decides-eqb, Decides-like, Decides-and}
 use Rattle.std.proofs.lemmas.Slice.Eq.{slice_eq-Decides, bytes_eq-Decides}
 use Rattle.rnix_kinds.specs.declared.kinds.SyntaxKind.{SyntaxKind}
-use Rattle.rnix_tree.specs.Equality.{same_kind, same_kind-decides, equivalence_from}
-use Rattle.rnix_tree.specs.Range.{Extent}
+use Rattle.rnix_green.specs.Equality.{same_kind, same_kind-decides, equivalence_from}
+use Rattle.rnix_green.specs.Range.{Extent}
 use Rattle.rnix_grammar.specs.declared.error.ParseError.{ParseError}
 use Rattle.rnix_grammar.specs.Fault.{Fault, untold, extra, unwanted, bound_twice, ended, ended_before, named_twice, too_deep, fault_of, same_extent, same_fault}
 

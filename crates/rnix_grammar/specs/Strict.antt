@@ -2,7 +2,7 @@
 use Rattle.std.specs.Prelude.{ℕ, Bool, true, false, ◌&&◌, List, [], ◌∷◌, Option, Some, None, if◌then◌else◌, nat_le}
 use Rattle.rnix_kinds.specs.declared.kinds.SyntaxKind.{SyntaxKind}
 use Rattle.rnix_kinds.specs.declared.kinds.SyntaxKind.TheVariants.{TOKEN_INVERT, NODE_APPLY, NODE_BIN_OP, NODE_CUR_POS, NODE_DYNAMIC, NODE_HAS_ATTR, NODE_IDENT, NODE_IDENT_PARAM, NODE_LAMBDA, NODE_PAT_BIND, NODE_PAT_ENTRY, NODE_PATTERN, NODE_ROOT, NODE_SELECT, NODE_UNARY_OP, NODE_WITH}
-use Rattle.rnix_tree.specs.Forest.{Forest, empty, leaf, node}
+use Rattle.rnix_green.specs.Forest.{Forest, empty, leaf, node}
 use Rattle.rnix_grammar.specs.Tables.{is_cur_pos, is_or, is_among}
 use Rattle.rnix_grammar.specs.Levels.{expression_level, inversion_level, has_attr_level, negation_level, application_level, selection_level, binding_power, left_of}
 use Rattle.rnix_grammar.specs.Symbols.{symbol_at, level_in}

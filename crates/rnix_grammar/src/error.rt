@@ -4,14 +4,14 @@ ghost use Rattle.std.specs.Prelude.{◌≡◌, ◌&&◌, IfOk, Some, option_map}
 ghost use Rattle.std.specs.Bool.{Decides};
 ghost use Rattle.std.specs.Cmp.Lexicographic.{pointwise};
 ghost use Rattle.std.specs.Fmt.{DisplaysOnOk};
-ghost use Rattle.rnix_tree.specs.Equality.{same_kind};
-ghost use Rattle.rnix_tree.specs.Range.{bounds_of};
-ghost use Rattle.rnix_tree.specs.Lines.{place_text};
+ghost use Rattle.rnix_green.specs.Equality.{same_kind};
+ghost use Rattle.rnix_green.specs.Range.{bounds_of};
+ghost use Rattle.rnix_green.specs.Range.{place_text};
 ghost use Rattle.rnix_grammar.specs.Fault.{fault_of, more_kinds_text, kinds_text, wanted_text, again_text, range_text, fault_text, unwanted, named_twice, same_extent};
 ghost use Rattle.rnix_grammar.specs.Ranges.{range_in};
 
 use rnix_kinds::SyntaxKind;
-use rnix_tree::TextRange;
+use rnix_green::TextRange;
 use std::alloc::AllocError;
 use std::error::Error;
 use std::fmt;

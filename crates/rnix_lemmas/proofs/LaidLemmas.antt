@@ -5,7 +5,7 @@ use Rattle.std.specs.Prelude.{◌&&◌, map, if◌then◌else◌}
 use Rattle.rnix_kinds.specs.declared.kinds.SyntaxKind.{SyntaxKind}
 use Rattle.rnix_kinds.specs.SyntaxKind.{is_token}
 use Rattle.rnix_kinds.specs.Lexical.Tokens.{Lexeme}
-use Rattle.rnix_tree.specs.Forest.{Forest, empty, leaf, node}
+use Rattle.rnix_green.specs.Forest.{Forest, empty, leaf, node}
 use Rattle.rnix_grammar.specs.AnnotatedForest.{Token, lexeme_of, tokens_in, forget}
 use Rattle.rnix_grammar.specs.Yield.{yield, untold}
 use Rattle.rnix_grammar.specs.Plain.{is_node, AreUntold}

@@ -6,7 +6,7 @@ use Rattle.rnix_kinds.proofs.AllKinds.{all_kinds, implied}
 use Rattle.std.specs.Prelude.{Option, Some, None, ◌&&◌, ◌||◌, if◌then◌else◌}
 use Rattle.rnix_kinds.specs.declared.kinds.SyntaxKind.{SyntaxKind}
 use Rattle.rnix_kinds.specs.declared.kinds.SyntaxKind.TheVariants.{NODE_BIN_OP, NODE_PAT_ENTRY}
-use Rattle.rnix_tree.specs.Equality.{same_kind-decides}
+use Rattle.rnix_green.specs.Equality.{same_kind-decides}
 use Rattle.rnix_grammar.specs.declared.place.Place.TheVariants as p
 use Rattle.rnix_grammar.specs.Rows.{RowState, Start, At, first, advance, is_expression, live, counts}
 use Rattle.rnix_grammar.specs.Nest.{is_flat, nests}

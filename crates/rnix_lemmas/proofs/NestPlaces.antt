@@ -4,7 +4,7 @@ use Rattle.std.specs.List.{list_all}
 use Rattle.rnix_kinds.proofs.AllKinds.{all_kinds, every}
 use Rattle.rnix_kinds.specs.declared.kinds.SyntaxKind.{SyntaxKind}
 use Rattle.rnix_kinds.specs.declared.kinds.SyntaxKind.TheVariants.{NODE_APPLY, NODE_BIN_OP, NODE_ERROR, NODE_HAS_ATTR, NODE_LEGACY_LET, NODE_PAT_BIND, NODE_SELECT}
-use Rattle.rnix_tree.specs.Equality.{same_kind, same_kind-decides}
+use Rattle.rnix_green.specs.Equality.{same_kind, same_kind-decides}
 use Rattle.rnix_grammar.specs.declared.place.Place.{Place}
 use Rattle.rnix_grammar.specs.declared.place.Place.TheVariants as p
 use Rattle.rnix_grammar.specs.Levels.{right_of}

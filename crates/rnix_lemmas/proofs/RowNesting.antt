@@ -1,6 +1,6 @@
 -- How deep a tree nests along the rows that the reader goes by.
 use Rattle.std.specs.Prelude.{ℕ, suc, max, if◌then◌else◌}
-use Rattle.rnix_tree.specs.Forest.{Forest, empty, leaf, node}
+use Rattle.rnix_green.specs.Forest.{Forest, empty, leaf, node}
 use Rattle.rnix_grammar.specs.Rows.{RowState, advance, start, counts}
 
 -- how many counted places are inside one another, in a row from a state on

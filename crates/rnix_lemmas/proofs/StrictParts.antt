@@ -4,7 +4,7 @@ use Rattle.std.proofs.lemmas.Bool.{and_parts, and_from}
 use Rattle.rnix_lemmas.proofs.LevelLemmas.{at_most_true}
 use Rattle.std.specs.Prelude.{◌&&◌, nat_le}
 use Rattle.rnix_kinds.specs.declared.kinds.SyntaxKind.{SyntaxKind}
-use Rattle.rnix_tree.specs.Forest.{Forest, node}
+use Rattle.rnix_green.specs.Forest.{Forest, node}
 use Rattle.rnix_grammar.specs.AnnotatedForest.{Token, AnnotatedForest, end_from}
 use Rattle.rnix_grammar.specs.Rows.{RowState, advance, live, start, is_infix, is_atom, is_expression}
 use Rattle.rnix_grammar.specs.Strict.{is_strict, may_stand, is_grouped, level_of, is_named, is_strict_atom, stands_at}

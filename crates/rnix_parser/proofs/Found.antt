@@ -1,7 +1,7 @@
 -- Derivations are found, and found alone.
 use Rattle.std.proofs.Common.{◌≡◌, true, List, [], ap, sym, ◌∙◌}
 use Rattle.std.proofs.lemmas.Bool.{and_parts as and_both}
-use Rattle.rnix_tree.specs.Forest.{Forest}
+use Rattle.rnix_green.specs.Forest.{Forest}
 use Rattle.rnix_grammar.specs.Fault.{Fault}
 use Rattle.rnix_grammar.specs.AnnotatedForest.{Token, AnnotatedForest, tokens_in, forget}
 use Rattle.rnix_grammar.specs.Reads.{ReadsWhole}

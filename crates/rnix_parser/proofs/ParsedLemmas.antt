@@ -3,7 +3,7 @@ use Rattle.std.proofs.Common.{◌≡◌, ◌↔◌, ◌≤◌, true, List, [], r
 use Rattle.std.proofs.lemmas.Bool.{and_parts as and_both}
 use Rattle.rnix_kinds.specs.declared.kinds.SyntaxKind.TheVariants.{NODE_ROOT}
 use Rattle.rnix_kinds.specs.Lexical.Tokens.{Lexeme}
-use Rattle.rnix_tree.specs.Forest.{Forest}
+use Rattle.rnix_green.specs.Forest.{Forest}
 use Rattle.rnix_grammar.specs.Tables.{depth_limit}
 use Rattle.rnix_grammar.specs.AnnotatedForest.{Token, AnnotatedForest, blank, forget, tokens_in, clean, placed_from, HaveLeafKinds}
 use Rattle.rnix_grammar.specs.Layout.{items}
@@ -19,7 +19,7 @@ use Rattle.rnix_grammar.specs.Nest.{nest}
 use Rattle.rnix_grammar.specs.Strict.{is_strict_expression}
 use Rattle.rnix_grammar.specs.Grammar.{IsExpression}
 use Rattle.rnix_grammar.specs.Derivation.{has_tokens_alone, IsDerivation}
-use Rattle.rnix_tree.specs.Tree.{Tree}
+use Rattle.rnix_green.specs.Tree.{Tree}
 use Rattle.rnix_grammar.specs.Stands.{StandsWhole}
 use Rattle.rnix_grammar.specs.Reading.{IsReading}
 use Rattle.rnix_grammar.specs.Parsed.{IsParsed}

@@ -1,8 +1,8 @@
 -- What the laws say: of each reading, and of each tree with its errors of which all that is promised holds.
 use Rattle.std.specs.Prelude.{◌≡◌, ℕ, List}
 use Rattle.rnix_kinds.specs.Lexical.Tokens.{Lexeme, tokens_of}
-use Rattle.rnix_tree.specs.Forest.{Forest}
-use Rattle.rnix_tree.specs.Tree.{Tree}
+use Rattle.rnix_green.specs.Forest.{Forest}
+use Rattle.rnix_green.specs.Tree.{Tree}
 use Rattle.rnix_grammar.specs.Fault.{Fault}
 use Rattle.rnix_grammar.specs.AnnotatedForest.{Token, AnnotatedForest, clean}
 use Rattle.rnix_grammar.specs.Derivation.{IsDerivation}

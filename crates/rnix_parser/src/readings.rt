@@ -2,7 +2,7 @@
 
 ghost use Rattle.std.specs.Prelude.{◌≤◌, List};
 ghost use Rattle.rnix_kinds.specs.Lexical.Tokens.{Lexeme, tokens_of};
-ghost use Rattle.rnix_tree.specs.Tree.{Tree};
+ghost use Rattle.rnix_green.specs.Tree.{Tree};
 ghost use Rattle.rnix_grammar.specs.declared.place.Place.TheVariants.{RootStart};
 ghost use Rattle.rnix_grammar.specs.Fault.{Fault};
 ghost use Rattle.rnix_grammar.specs.Tables.{depth_limit};

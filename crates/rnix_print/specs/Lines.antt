@@ -2,7 +2,7 @@
 use Rattle.std.specs.Prelude.{List, ◌++◌, ℕ, codes}
 use Rattle.std.specs.List.{flat_map}
 use Rattle.rnix_tree.specs.Lines.{lines_of}
-use Rattle.rnix_tree.specs.Tree.{Tree}
+use Rattle.rnix_green.specs.Tree.{Tree}
 use Rattle.rnix_grammar.specs.Fault.{Fault, fault_text}
 
 -- an error's line

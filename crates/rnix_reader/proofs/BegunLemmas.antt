@@ -3,7 +3,7 @@ use Rattle.std.proofs.Common.{◌≡◌, ◌≤◌, ◌<◌, arith, Bool, ℕ, s
 use Rattle.std.proofs.lemmas.Bool.{le-leb, leb-true}
 use Rattle.rnix_kinds.specs.declared.kinds.SyntaxKind.{SyntaxKind}
 use Rattle.rnix_kinds.specs.declared.kinds.SyntaxKind.TheVariants.{NODE_ERROR, NODE_IDENT, NODE_LAMBDA, NODE_IDENT_PARAM, NODE_PATTERN, NODE_PAT_BIND, NODE_LEGACY_LET}
-use Rattle.rnix_tree.specs.Forest.{empty, node}
+use Rattle.rnix_green.specs.Forest.{empty, node}
 use Rattle.rnix_grammar.specs.declared.place.Place.{Place}
 use Rattle.rnix_grammar.specs.declared.place.Place.TheVariants as p
 use Rattle.rnix_grammar.specs.declared.begin.Begin.TheVariants as b

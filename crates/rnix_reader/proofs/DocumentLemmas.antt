@@ -2,9 +2,9 @@
 use Rattle.std.proofs.Common.{◌≡◌, ℕ, true, List, [], ◌∷◌, ◌++◌, map, refl, ap, sym, ◌∙◌, subst}
 use Rattle.rnix_kinds.specs.declared.kinds.SyntaxKind.TheVariants.{NODE_ROOT}
 use Rattle.rnix_kinds.specs.Lexical.Tokens.{Lexeme}
-use Rattle.rnix_tree.specs.Forest.{Forest, empty, node, tree_count}
-use Rattle.rnix_tree.specs.Draft.{Draft, blank, node_opened}
-use Rattle.rnix_tree.specs.Tree.{Tree, forest_of}
+use Rattle.rnix_green.specs.Forest.{Forest, empty, node, tree_count}
+use Rattle.rnix_green.specs.Draft.{Draft, blank, node_opened}
+use Rattle.rnix_green.specs.Tree.{Tree, forest_of}
 use Rattle.rnix_grammar.specs.declared.error.ParseError.{ParseError}
 use Rattle.rnix_grammar.specs.declared.place.Place.TheVariants as p
 use Rattle.rnix_grammar.specs.Fault.{fault_of}

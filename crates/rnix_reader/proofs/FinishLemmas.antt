@@ -1,8 +1,8 @@
 -- The end of the text: the root is complete.
 use Rattle.std.proofs.Common.{◌≡◌, ◌<◌, ℕ, length, true, false, List, [], ◌∷◌, None, refl, ap, sym, ◌∙◌, subst}
 use Rattle.rnix_kinds.specs.declared.kinds.SyntaxKind.TheVariants.{NODE_ROOT}
-use Rattle.rnix_tree.specs.Forest.{empty, node}
-use Rattle.rnix_tree.specs.Draft.{wrapped-join}
+use Rattle.rnix_green.specs.Forest.{empty, node}
+use Rattle.rnix_green.specs.Draft.{wrapped-join}
 use Rattle.rnix_grammar.specs.declared.place.Place.{Place}
 use Rattle.rnix_grammar.specs.declared.place.Place.TheVariants as p
 use Rattle.rnix_grammar.specs.Fault.{Fault}

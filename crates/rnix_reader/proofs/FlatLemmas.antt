@@ -2,10 +2,10 @@
 use Rattle.std.proofs.Common.{◌≡◌, ℕ, true, subst, List, [], ◌∷◌, ◌++◌, refl, ap, sym, ◌∙◌}
 use Rattle.rnix_kinds.specs.declared.kinds.SyntaxKind.{SyntaxKind}
 use Rattle.rnix_kinds.specs.declared.kinds.SyntaxKind.TheVariants.{NODE_ERROR}
-use Rattle.rnix_tree.specs.Forest.{Forest, empty, node, join, tree_count}
-use Rattle.rnix_tree.specs.Draft.{wrapped, wrapped-join}
-use Rattle.rnix_tree.specs.ForestCode.{join_empty}
-use Rattle.rnix_tree.proofs.ForestLemmas.{join_assoc}
+use Rattle.rnix_green.specs.Forest.{Forest, empty, node, join, tree_count}
+use Rattle.rnix_green.specs.Draft.{wrapped, wrapped-join}
+use Rattle.rnix_green.specs.ForestCode.{join_empty}
+use Rattle.rnix_green.proofs.ForestLemmas.{join_assoc}
 use Rattle.rnix_grammar.specs.declared.place.Place.{Place}
 use Rattle.rnix_grammar.specs.Fault.{Fault}
 use Rattle.rnix_grammar.specs.AnnotatedForest.{Token, Note, Twice, AnnotatedForest, blank, ◌⊕◌, one_branch, one_fault, row_of, forget, end_from}

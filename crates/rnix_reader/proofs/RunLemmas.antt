@@ -4,10 +4,10 @@ use Rattle.std.specs.Option.{option_map}
 use Rattle.rnix_kinds.specs.declared.kinds.SyntaxKind.{SyntaxKind}
 use Rattle.rnix_kinds.specs.declared.kinds.SyntaxKind.TheVariants.{NODE_ERROR}
 use Rattle.rnix_kinds.specs.SyntaxKind.{is_trivia}
-use Rattle.rnix_tree.specs.Forest.{empty, leaf, join}
-use Rattle.rnix_tree.proofs.ForestLemmas.{join_assoc}
-use Rattle.rnix_tree.specs.Range.{Extent}
-use Rattle.rnix_tree.specs.ForestCode.{join_empty}
+use Rattle.rnix_green.specs.Forest.{empty, leaf, join}
+use Rattle.rnix_green.proofs.ForestLemmas.{join_assoc}
+use Rattle.rnix_green.specs.Range.{Extent}
+use Rattle.rnix_green.specs.ForestCode.{join_empty}
 use Rattle.rnix_grammar.specs.declared.until.Until.{Until}
 use Rattle.rnix_grammar.specs.declared.until.Until.TheVariants.{End}
 use Rattle.rnix_grammar.specs.declared.place.Place.{Place}

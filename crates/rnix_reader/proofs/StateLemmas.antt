@@ -4,10 +4,10 @@ use Rattle.std.specs.Prelude.{MatchOption}
 use Rattle.std.specs.Option.{option_map}
 use Rattle.rnix_kinds.specs.declared.kinds.SyntaxKind.{SyntaxKind}
 use Rattle.rnix_kinds.specs.SyntaxKind.{is_trivia}
-use Rattle.rnix_tree.specs.Forest.{Forest, empty, leaf, join, tree_count}
-use Rattle.rnix_tree.specs.Draft.{Draft, OpenNode, leaf_added, node_opened, node_closed}
-use Rattle.rnix_tree.specs.ForestCode.{join_empty}
-use Rattle.rnix_tree.proofs.ForestLemmas.{join_assoc}
+use Rattle.rnix_green.specs.Forest.{Forest, empty, leaf, join, tree_count}
+use Rattle.rnix_green.specs.Draft.{Draft, OpenNode, leaf_added, node_opened, node_closed}
+use Rattle.rnix_green.specs.ForestCode.{join_empty}
+use Rattle.rnix_green.proofs.ForestLemmas.{join_assoc}
 use Rattle.rnix_grammar.specs.Fault.{Fault}
 use Rattle.rnix_grammar.specs.AnnotatedForest.{Token, forget, head_of, leaf_kind}
 use Rattle.rnix_grammar.specs.Layout.{items, from_item, from_item_if, trivia_before, trivia_if, tail_of}

@@ -3,10 +3,10 @@ use Rattle.std.proofs.Common.{◌≡◌, ◌≤◌, ◌<◌, ◌&&◌, nat_le, l
 use Rattle.rnix_kinds.specs.declared.kinds.SyntaxKind.{SyntaxKind}
 use Rattle.rnix_kinds.specs.declared.kinds.SyntaxKind.TheVariants.{NODE_ERROR, NODE_ROOT, NODE_IDENT, NODE_CUR_POS, NODE_PAT_ENTRY, NODE_APPLY}
 use Rattle.std.proofs.lemmas.Bool.{le-leb}
-use Rattle.rnix_tree.specs.Forest.{tree_count}
-use Rattle.rnix_tree.specs.Draft.{Draft, OpenNode, is_inside, is_checkpoint_of}
-use Rattle.rnix_tree.specs.Range.{Extent}
-use Rattle.rnix_tree.proofs.ForestLemmas.{tree_count-join}
+use Rattle.rnix_green.specs.Forest.{tree_count}
+use Rattle.rnix_green.specs.Draft.{Draft, OpenNode, is_inside, is_checkpoint_of}
+use Rattle.rnix_green.specs.Range.{Extent}
+use Rattle.rnix_green.proofs.ForestLemmas.{tree_count-join}
 use Rattle.rnix_grammar.specs.declared.place.Place.{Place}
 use Rattle.rnix_grammar.specs.declared.place.Place.TheVariants as p
 use Rattle.rnix_grammar.specs.declared.until.Until.{Until}

@@ -1,8 +1,8 @@
 -- What the reader holds, by the machine of steps: the rows of all frames in one row, from the outermost to the innermost.
 use Rattle.std.specs.Prelude.{ℕ, List, [], ◌∷◌, ◌++◌}
 use Rattle.rnix_kinds.specs.declared.kinds.SyntaxKind.TheVariants.{NODE_ERROR}
-use Rattle.rnix_tree.specs.Forest.{Forest, empty, join, tree_count}
-use Rattle.rnix_tree.specs.Draft.{OpenNode}
+use Rattle.rnix_green.specs.Forest.{Forest, empty, join, tree_count}
+use Rattle.rnix_green.specs.Draft.{OpenNode}
 use Rattle.rnix_grammar.specs.declared.place.Place.{Place}
 use Rattle.rnix_grammar.specs.AnnotatedForest.{forget}
 use Rattle.rnix_grammar.specs.Machine.{Head, Node, Second, Operand, Frame, Machine}

@@ -1,8 +1,8 @@
 -- What the reader holds at each step of the machine.
 use Rattle.std.specs.Prelude.{◌≡◌, ◌≤◌, ◌+◌, ◌*◌, ℕ, Bool, true, false, List, [], ◌∷◌, ◌++◌, Option, Some, None, length, ◌&&◌, nat_le, if◌then◌else◌}
 use Rattle.rnix_kinds.specs.declared.kinds.SyntaxKind.TheVariants.{NODE_ROOT, NODE_PATTERN, NODE_PAT_ENTRY}
-use Rattle.rnix_tree.specs.Forest.{empty, node}
-use Rattle.rnix_tree.specs.Range.{Extent}
+use Rattle.rnix_green.specs.Forest.{empty, node}
+use Rattle.rnix_green.specs.Range.{Extent}
 use Rattle.rnix_grammar.specs.declared.action.Action.{Action}
 use Rattle.rnix_grammar.specs.declared.action.Action.TheVariants as a
 use Rattle.rnix_grammar.specs.declared.begin.Begin.{Begin}

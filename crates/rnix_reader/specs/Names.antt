@@ -4,7 +4,7 @@ use Rattle.std.specs.BTreeSet.{contains_by}
 use Rattle.std.specs.Cmp.Lexicographic.{slice_cmp}
 use Rattle.std.specs.Ordering.{nat_cmp}
 use Rattle.std.specs.Str.{bytes_eq}
-use Rattle.rnix_tree.specs.Range.{Extent, bounds_of}
+use Rattle.rnix_green.specs.Range.{Extent, bounds_of}
 use Rattle.rnix_grammar.specs.Fault.{Fault, named_twice}
 use Rattle.rnix_grammar.specs.AnnotatedForest.{Token}
 use Rattle.rnix_reader.specs.declared.names.NameSet.{NameSet}

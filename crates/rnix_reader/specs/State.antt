@@ -2,8 +2,8 @@
 -- the marks of all that is open; and its single steps.
 use Rattle.std.specs.Prelude.{◌≡◌, ℕ, List, [], ◌∷◌, ◌++◌, map, Some}
 use Rattle.rnix_kinds.specs.declared.kinds.SyntaxKind.{SyntaxKind}
-use Rattle.rnix_tree.specs.Forest.{Forest, join, tree_count}
-use Rattle.rnix_tree.specs.Draft.{Draft, OpenNode, node_closed}
+use Rattle.rnix_green.specs.Forest.{Forest, join, tree_count}
+use Rattle.rnix_green.specs.Draft.{Draft, OpenNode, node_closed}
 use Rattle.rnix_grammar.specs.Fault.{Fault, fault_of}
 use Rattle.rnix_grammar.specs.AnnotatedForest.{Token, row_of, forget, end_from, head_of}
 use Rattle.rnix_grammar.specs.Layout.{items, from_item, trivia_before, tail_of, left_after, dressed}

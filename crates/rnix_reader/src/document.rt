@@ -10,7 +10,7 @@ use crate::parser::Parser;
 use crate::reading::read_all;
 use rnix_grammar::{ParseError, Place};
 use rnix_kinds::{SyntaxKind, Tokenizer};
-use rnix_tree::{GreenNode, GreenNodeBuilder};
+use rnix_green::{GreenNode, GreenNodeBuilder};
 use std::alloc::{AllocError, Global};
 
 // How many elements of the tree there is room for, for each token.

@@ -1,12 +1,12 @@
 //! The names of the patterns that are being read.
 
 ghost use Rattle.std.specs.Prelude.{◌≡◌, [], ℕ, List, IfOk, OnOk, option_map, false};
-ghost use Rattle.rnix_tree.specs.Range.{bounds_of};
+ghost use Rattle.rnix_green.specs.Range.{bounds_of};
 ghost use Rattle.rnix_grammar.specs.Fault.{fault_of};
 ghost use Rattle.rnix_reader.specs.Names.{has_name, has_with, extents_of, PatternOpened, PatternClosed, EntryOpened, EntryClosed};
 
 use rnix_grammar::ParseError;
-use rnix_tree::TextRange;
+use rnix_green::TextRange;
 use std::alloc::{AllocError, Global};
 use std::collections::BTreeSet;
 

@@ -1,8 +1,8 @@
 //! The reader's state: each step moves a cursor over the tokens and builds the tree.
 
 ghost use Rattle.std.specs.Prelude.{◌≡◌, ◌<◌, length, IfOk, OnOk, IsTrue, option_map};
-ghost use Rattle.rnix_tree.specs.Forest.{tree_count};
-ghost use Rattle.rnix_tree.specs.Draft.{is_checkpoint_of};
+ghost use Rattle.rnix_green.specs.Forest.{tree_count};
+ghost use Rattle.rnix_green.specs.Draft.{is_checkpoint_of};
 ghost use Rattle.rnix_grammar.specs.Fault.{fault_of};
 ghost use Rattle.rnix_grammar.specs.AnnotatedForest.{head_of, head_kind, touches};
 ghost use Rattle.rnix_reader.specs.Placed.{token_of, AreInOrder};
@@ -14,7 +14,7 @@ use crate::leaf_kind::leaf_kind_as;
 use crate::mark::Mark;
 use rnix_grammar::{ParseError, Place};
 use rnix_kinds::SyntaxKind;
-use rnix_tree::{Checkpoint, GreenNodeBuilder};
+use rnix_green::{Checkpoint, GreenNodeBuilder};
 use std::alloc::AllocError;
 
 /// Reads tokens, builds the tree and keeps the errors and what is open.

@@ -23,7 +23,7 @@ use rnix_grammar::{
     SELECTION_LEVEL, Until, action_at,
 };
 use rnix_kinds::SyntaxKind;
-use rnix_tree::TextRange;
+use rnix_green::TextRange;
 use std::alloc::AllocError;
 
 // How many expressions, list items and operands of prefix operators may be nested.

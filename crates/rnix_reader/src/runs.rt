@@ -1,7 +1,7 @@
 //! Nodes that are read at once: over one item, and over runs of items that are not wanted.
 
 ghost use Rattle.std.specs.Prelude.{◌≡◌, IfOk, OnOk, false, Some};
-ghost use Rattle.rnix_tree.specs.Range.{bounds_of};
+ghost use Rattle.rnix_green.specs.Range.{bounds_of};
 ghost use Rattle.rnix_grammar.specs.Tables.{stops};
 ghost use Rattle.rnix_grammar.specs.AnnotatedForest.{Unwanted, Extra, extent_of};
 ghost use Rattle.rnix_reader.specs.Placed.{token_of};
@@ -14,7 +14,7 @@ use crate::leaf_kind::leaf_kind_as;
 use crate::parser::Parser;
 use rnix_grammar::{ParseError, Until, operand_kinds, stops, wanted_kinds};
 use rnix_kinds::SyntaxKind;
-use rnix_tree::TextRange;
+use rnix_green::TextRange;
 use std::alloc::AllocError;
 
 impl<'t> Parser<'t> {

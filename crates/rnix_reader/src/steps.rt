@@ -2,7 +2,7 @@
 
 ghost use Rattle.std.specs.Prelude.{◌≡◌, ◌<◌, length, OnOk, IsTrue};
 ghost use Rattle.rnix_kinds.specs.declared.kinds.SyntaxKind.TheVariants.{NODE_ROOT};
-ghost use Rattle.rnix_tree.specs.Draft.{is_checkpoint_of};
+ghost use Rattle.rnix_green.specs.Draft.{is_checkpoint_of};
 ghost use Rattle.rnix_grammar.specs.Fault.{ended as ended_fault};
 ghost use Rattle.rnix_reader.specs.State.{state, bumped, failed};
 ghost use Rattle.rnix_reader.specs.Steps.{moved, noded, operand_begun, entry_begun, leafed, node_begun, or_applied, node_wrapped};

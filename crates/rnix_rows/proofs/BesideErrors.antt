@@ -6,7 +6,7 @@ use Rattle.rnix_kinds.specs.declared.kinds.SyntaxKind.{SyntaxKind}
 use Rattle.rnix_kinds.specs.declared.kinds.SyntaxKind.TheVariants.{TOKEN_QUESTION, NODE_APPLY, NODE_BIN_OP, NODE_ERROR, NODE_HAS_ATTR, NODE_LITERAL, NODE_ROOT, NODE_SELECT}
 use Rattle.rnix_kinds.specs.SyntaxKind.{is_fn_arg}
 use Rattle.rnix_kinds.proofs.AllKinds.{implied}
-use Rattle.rnix_tree.specs.Equality.{same_kind-decides}
+use Rattle.rnix_green.specs.Equality.{same_kind-decides}
 use Rattle.rnix_grammar.specs.declared.place.Place.{Place}
 use Rattle.rnix_grammar.specs.declared.place.Place.TheVariants as p
 use Rattle.rnix_grammar.specs.declared.symbol.Symbol.{Symbol}

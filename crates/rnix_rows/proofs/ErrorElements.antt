@@ -2,8 +2,8 @@
 use Rattle.std.proofs.Common.{◌≡◌, ℕ, ◌+◌, true, List, [], ◌∷◌, ◌++◌, length, Some, refl, ap, sym, ◌∙◌, arith, Bool, false, None, subst, append-nil}
 use Rattle.rnix_kinds.specs.declared.kinds.SyntaxKind.{SyntaxKind}
 use Rattle.rnix_kinds.specs.declared.kinds.SyntaxKind.TheVariants.{NODE_ERROR, NODE_IDENT, NODE_PAT_ENTRY}
-use Rattle.rnix_tree.specs.Forest.{text_of, node}
-use Rattle.rnix_tree.specs.Tree.{Tree, Item, item, extent_of}
+use Rattle.rnix_green.specs.Forest.{text_of, node}
+use Rattle.rnix_green.specs.Tree.{Tree, Item, item, extent_of}
 use Rattle.rnix_grammar.specs.Fault.{Fault}
 use Rattle.rnix_grammar.specs.AnnotatedForest.{Note, Stray, Unwanted, Extra, Twice, TooDeep, AnnotatedForest, token, tokens_in, forget, is_some, HaveLeafKinds, extent_of as place_of, Token, blank, branch, clean, token_if}
 use Rattle.rnix_grammar.specs.Reports.{first_kind, report, only_token, entry_name}

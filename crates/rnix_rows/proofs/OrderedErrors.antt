@@ -4,8 +4,8 @@ use Rattle.std.specs.Prelude.{if◌then◌else◌, bytes_eq, ◌||◌}
 use Rattle.rnix_kinds.specs.declared.kinds.SyntaxKind.{SyntaxKind}
 use Rattle.rnix_kinds.specs.declared.kinds.SyntaxKind.TheVariants.{NODE_ERROR, NODE_PAT_ENTRY}
 use Rattle.rnix_kinds.specs.SyntaxKind.{is_trivia}
-use Rattle.rnix_tree.specs.Forest.{text_of, element_count}
-use Rattle.rnix_tree.specs.Tree.{Tree, Item, item}
+use Rattle.rnix_green.specs.Forest.{text_of, element_count}
+use Rattle.rnix_green.specs.Tree.{Tree, Item, item}
 use Rattle.rnix_grammar.specs.Fault.{named_twice}
 use Rattle.rnix_grammar.specs.AnnotatedForest.{Token, Note, AnnotatedForest, blank, token, branch, fault, ◌⊕◌, one_token, one_branch, one_fault, tokens_in, forget, clean, token_if, HaveLeafKinds, extent_of as place_of}
 use Rattle.rnix_grammar.specs.Reports.{entry_name, is_same_name, has_entry, repeated_if}

@@ -2,8 +2,8 @@
 use Rattle.std.proofs.Common.{◌≡◌, List, [], None, Some, refl, sym, subst, append-nil}
 use Rattle.rnix_kinds.specs.declared.kinds.SyntaxKind.TheVariants.{NODE_ROOT}
 use Rattle.rnix_kinds.specs.Lexical.Tokens.{Lexeme}
-use Rattle.rnix_tree.specs.Forest.{empty}
-use Rattle.rnix_tree.specs.Tree.{Tree, forest_of}
+use Rattle.rnix_green.specs.Forest.{empty}
+use Rattle.rnix_green.specs.Tree.{Tree, forest_of}
 use Rattle.rnix_grammar.specs.Fault.{Fault}
 use Rattle.rnix_grammar.specs.AnnotatedForest.{AnnotatedForest, blank, forget, clean}
 use Rattle.rnix_grammar.specs.Repaired.{others}

@@ -2,8 +2,8 @@
 use Rattle.std.proofs.Common.{◌≡◌, inl, inr, false, List, [], ◌∷◌, ◌++◌, refl, sym, ◌∙◌, subst, append_assoc, append-nil}
 use Rattle.rnix_kinds.specs.declared.kinds.SyntaxKind.{SyntaxKind}
 use Rattle.rnix_kinds.specs.SyntaxKind.{is_trivia}
-use Rattle.rnix_tree.specs.Forest.{Forest, empty, leaf, node, join}
-use Rattle.rnix_tree.specs.Tree.{Tree}
+use Rattle.rnix_green.specs.Forest.{Forest, empty, leaf, node, join}
+use Rattle.rnix_green.specs.Tree.{Tree}
 use Rattle.rnix_grammar.specs.Trim.{BeginsWithItem, EndsWithItem, leaf_kinds, AreNodesTrimmed}
 use Rattle.rnix_grammar.specs.Seams.{HasItem, AreTrivia, first_leaves, last_from, HaveNone, HasSeams, HaveSeams, AreTriviaBetween}
 use Rattle.rnix_lemmas.proofs.EdgeLemmas.{some, ends_behind}

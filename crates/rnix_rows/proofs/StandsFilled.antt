@@ -6,7 +6,7 @@ use Rattle.std.specs.Prelude.{◌&&◌, if◌then◌else◌}
 use Rattle.rnix_kinds.specs.declared.kinds.SyntaxKind.{SyntaxKind}
 use Rattle.rnix_kinds.specs.declared.kinds.SyntaxKind.TheVariants.{NODE_IDENT, NODE_LITERAL, TOKEN_AT, NODE_ERROR}
 use Rattle.rnix_kinds.proofs.AllKinds.{all_kinds, every}
-use Rattle.rnix_tree.specs.Equality.{same_kind, same_kind-decides}
+use Rattle.rnix_green.specs.Equality.{same_kind, same_kind-decides}
 use Rattle.rnix_grammar.specs.declared.place.Place.{Place}
 use Rattle.rnix_grammar.specs.declared.place.Place.TheVariants as p
 use Rattle.rnix_grammar.specs.Fault.{Fault}

@@ -2,7 +2,7 @@
 use Rattle.std.proofs.Common.{◌≡◌, ◌↔◌, inl, inr, ℕ, ◌+◌, ◌≤◌, false, List, [], refl, ap, sym, ◌∙◌, subst, arith}
 use Rattle.rnix_kinds.specs.declared.kinds.SyntaxKind.{SyntaxKind}
 use Rattle.rnix_kinds.specs.declared.kinds.SyntaxKind.TheVariants.{NODE_ROOT, NODE_PATTERN}
-use Rattle.rnix_tree.specs.Forest.{empty, node}
+use Rattle.rnix_green.specs.Forest.{empty, node}
 use Rattle.rnix_grammar.specs.declared.place.Place.TheVariants as places
 use Rattle.rnix_grammar.specs.Fault.{Fault}
 use Rattle.rnix_grammar.specs.AnnotatedForest.{Token, AnnotatedForest}

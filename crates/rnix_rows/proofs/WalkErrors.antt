@@ -2,9 +2,9 @@
 use Rattle.std.proofs.Common.{◌≡◌, ℕ, ◌+◌, Bool, true, false, List, [], ◌∷◌, ◌++◌, map, Option, refl, ap, sym, ◌∙◌, arith}
 use Rattle.std.specs.Prelude.{if◌then◌else◌, ◌||◌}
 use Rattle.std.proofs.lemmas.List.{map-append}
-use Rattle.rnix_tree.specs.Forest.{Forest, empty, leaf, node, element_count}
-use Rattle.rnix_tree.specs.Tree.{Tree, Item, item}
-use Rattle.rnix_tree.specs.Walk.{Step, Event, event_at, steps_from}
+use Rattle.rnix_green.specs.Forest.{Forest, empty, leaf, node, element_count}
+use Rattle.rnix_green.specs.Tree.{Tree, Item, item}
+use Rattle.rnix_green.specs.Walk.{Step, Event, event_at, steps_from}
 use Rattle.rnix_grammar.specs.Fault.{Fault, ended, ended_before, named_twice}
 use Rattle.rnix_grammar.specs.Repaired.{others}
 use Rattle.rnix_grammar.specs.Shape.{name_if, with_name}

@@ -6,7 +6,7 @@ use Rattle.rnix_kinds.proofs.AllKinds.{all_kinds, implied}
 use Rattle.rnix_kinds.specs.declared.kinds.SyntaxKind.{SyntaxKind}
 use Rattle.rnix_kinds.specs.declared.kinds.SyntaxKind.TheVariants.{TOKEN_IDENT, TOKEN_CUR_POS, TOKEN_OR, TOKEN_INTEGER, NODE_IDENT, NODE_LITERAL}
 use Rattle.rnix_kinds.specs.SyntaxKind.{is_token}
-use Rattle.rnix_tree.specs.Forest.{Forest, empty, leaf, node}
+use Rattle.rnix_green.specs.Forest.{Forest, empty, leaf, node}
 use Rattle.rnix_grammar.specs.Tables.{is_cur_pos}
 use Rattle.rnix_grammar.specs.Tables as tables
 use Rattle.rnix_grammar.specs.AnnotatedForest.{Token, Note, Stray, AnnotatedForest, blank, token, tokens_in, leaf_kind, leaf_kind_as}

@@ -4,7 +4,7 @@ use Rattle.std.specs.Prelude.{if◌then◌else◌, ◌&&◌}
 use Rattle.std.proofs.lemmas.Bool.{and_from, and_parts}
 use Rattle.rnix_kinds.specs.declared.kinds.SyntaxKind.{SyntaxKind}
 use Rattle.rnix_kinds.specs.declared.kinds.SyntaxKind.TheVariants.{NODE_APPLY, NODE_BIN_OP, NODE_DYNAMIC, NODE_HAS_ATTR, NODE_IDENT_PARAM, NODE_LAMBDA, NODE_PAT_BIND, NODE_PAT_ENTRY, NODE_SELECT}
-use Rattle.rnix_tree.specs.Forest.{Forest, leaf, node}
+use Rattle.rnix_green.specs.Forest.{Forest, leaf, node}
 use Rattle.rnix_grammar.specs.Levels.{left_of}
 use Rattle.rnix_grammar.specs.AnnotatedForest.{Token, Note, AnnotatedForest, blank, branch, fault, one_branch, tokens_in, leaf_kind}
 use Rattle.rnix_grammar.specs.Rows.{is_atom, is_simple, is_questioned, is_operand, is_expression, Start, BeforeOperator, BeforeDot, BeforeQuestion, BeforeArgument, start}

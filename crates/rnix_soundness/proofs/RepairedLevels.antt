@@ -3,7 +3,7 @@ use Rattle.std.proofs.Common.{◌≡◌, Bool, true, false, refl, ap, sym, ◌�
 use Rattle.std.specs.Prelude.{codes, if◌then◌else◌}
 use Rattle.rnix_kinds.specs.declared.kinds.SyntaxKind.{SyntaxKind}
 use Rattle.rnix_kinds.specs.declared.kinds.SyntaxKind.TheVariants.{TOKEN_INTEGER, TOKEN_INVERT, NODE_APPLY, NODE_BIN_OP, NODE_IDENT, NODE_LAMBDA, NODE_LITERAL, NODE_UNARY_OP}
-use Rattle.rnix_tree.specs.Forest.{Forest, empty, leaf, node}
+use Rattle.rnix_green.specs.Forest.{Forest, empty, leaf, node}
 use Rattle.rnix_grammar.specs.Levels.{binding_power}
 use Rattle.rnix_grammar.specs.AnnotatedForest.{Note, AnnotatedForest, blank, token, branch, fault, one_branch, tokens_in}
 use Rattle.rnix_grammar.specs.Rows.{is_simple, is_operand, Start, BeforeOperator, BeforeArgument, start}

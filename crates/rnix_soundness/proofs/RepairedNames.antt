@@ -5,7 +5,7 @@ use Rattle.std.proofs.lemmas.Bool.{and_from, or_cases}
 use Rattle.std.proofs.lemmas.Bool.Decides.{nat_tests}
 use Rattle.rnix_kinds.specs.declared.kinds.SyntaxKind.{SyntaxKind}
 use Rattle.rnix_kinds.specs.declared.kinds.SyntaxKind.TheVariants.{NODE_CUR_POS, NODE_IDENT, NODE_LAMBDA}
-use Rattle.rnix_tree.specs.Forest.{Forest}
+use Rattle.rnix_green.specs.Forest.{Forest}
 use Rattle.rnix_grammar.specs.Tables.{is_cur_pos}
 use Rattle.rnix_grammar.specs.AnnotatedForest.{Token, AnnotatedForest, blank, one_branch, tokens_in}
 use Rattle.rnix_grammar.specs.Rows.{is_simple, is_expression, RowState, Start, BeforeArgument, start}

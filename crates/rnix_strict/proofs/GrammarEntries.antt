@@ -3,7 +3,7 @@ use Rattle.std.proofs.Common.{◌≡◌, ℕ, true, false, List, refl, ap, sym, 
 use Rattle.rnix_kinds.specs.declared.kinds.SyntaxKind.{SyntaxKind}
 use Rattle.rnix_kinds.specs.declared.kinds.SyntaxKind.TheVariants.{TOKEN_ASSIGN, TOKEN_DOT, TOKEN_IDENT, TOKEN_IN, TOKEN_INHERIT, TOKEN_L_BRACE, TOKEN_LET, TOKEN_R_BRACE, TOKEN_REC, TOKEN_SEMICOLON, TOKEN_STRING_START, NODE_ATTR_SET, NODE_ATTRPATH, NODE_ATTRPATH_VALUE, NODE_DYNAMIC, NODE_IDENT, NODE_INHERIT, NODE_INHERIT_FROM, NODE_LEGACY_LET, NODE_LET_IN, NODE_STRING}
 use Rattle.rnix_kinds.specs.SyntaxKind.{is_token}
-use Rattle.rnix_tree.specs.Forest.{Forest, empty, leaf, node}
+use Rattle.rnix_green.specs.Forest.{Forest, empty, leaf, node}
 use Rattle.rnix_grammar.specs.declared.place.Place.{Place}
 use Rattle.rnix_grammar.specs.declared.place.Place.TheVariants as p
 use Rattle.rnix_grammar.specs.Rows.{is_attr, is_entry, RowState, BeforeBrace, At, advance_names, advance, to, live, whole, start}

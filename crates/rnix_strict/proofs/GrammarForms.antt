@@ -5,7 +5,7 @@ use Rattle.std.specs.Prelude.{suc, if◌then◌else◌}
 use Rattle.rnix_kinds.specs.declared.kinds.SyntaxKind.{SyntaxKind}
 use Rattle.rnix_kinds.specs.declared.kinds.SyntaxKind.TheVariants.{TOKEN_ASSERT, TOKEN_CUR_POS, TOKEN_ELSE, TOKEN_IDENT, TOKEN_IF, TOKEN_INTERPOL_END, TOKEN_INTERPOL_START, TOKEN_L_BRACK, TOKEN_L_PAREN, TOKEN_PATH_ABS, TOKEN_PATH_HOME, TOKEN_PATH_REL, TOKEN_PATH_SEARCH, TOKEN_R_BRACK, TOKEN_R_PAREN, TOKEN_SEMICOLON, TOKEN_STRING_CONTENT, TOKEN_STRING_END, TOKEN_STRING_START, TOKEN_THEN, TOKEN_WITH, NODE_ASSERT, NODE_CUR_POS, NODE_DYNAMIC, NODE_IDENT, NODE_IF_ELSE, NODE_INHERIT_FROM, NODE_INTERPOL, NODE_LIST, NODE_LITERAL, NODE_PAREN, NODE_PATH_ABS, NODE_PATH_HOME, NODE_PATH_REL, NODE_PATH_SEARCH, NODE_STRING, NODE_WITH}
 use Rattle.rnix_kinds.specs.SyntaxKind.{is_token}
-use Rattle.rnix_tree.specs.Forest.{Forest, empty, leaf, node}
+use Rattle.rnix_green.specs.Forest.{Forest, empty, leaf, node}
 use Rattle.rnix_lemmas.proofs.Basics.{true_is_not_false}
 use Rattle.rnix_lemmas.proofs.OpeningRows.{live_to}
 use Rattle.rnix_grammar.specs.declared.place.Place.TheVariants as p

@@ -3,7 +3,7 @@ use Rattle.std.proofs.Common.{◌≡◌, ℕ, Bool, true, false, List, [], ◌�
 use Rattle.std.specs.Prelude.{if◌then◌else◌}
 use Rattle.rnix_kinds.specs.declared.kinds.SyntaxKind.{SyntaxKind}
 use Rattle.rnix_kinds.specs.declared.kinds.SyntaxKind.TheVariants.{TOKEN_AT, TOKEN_COMMA, TOKEN_ELLIPSIS, TOKEN_IDENT, TOKEN_L_BRACE, TOKEN_QUESTION, TOKEN_R_BRACE, NODE_IDENT, NODE_IDENT_PARAM, NODE_PAT_BIND, NODE_PAT_ENTRY, NODE_PATTERN}
-use Rattle.rnix_tree.specs.Forest.{Forest, empty, leaf, node}
+use Rattle.rnix_green.specs.Forest.{Forest, empty, leaf, node}
 use Rattle.rnix_grammar.specs.declared.place.Place.TheVariants as p
 use Rattle.rnix_grammar.specs.Rows.{RowState, BeforeAt, At, advance_formals, advance, live, start}
 use Rattle.rnix_grammar.specs.Strict.{only_text, first_is_no_or, binds_no_or, entry_text, are_entries_new, begins_with_leaf, may_stand}

@@ -1,8 +1,8 @@
 -- The innermost element that a range lies in.
 use Rattle.std.proofs.Common.{◌≡◌, ℕ, ◌+◌, ◌≤◌, ◌<◌, [], length, find, true, false, Some, None, refl, ap, sym, ◌∙◌, arith}
-use Rattle.rnix_tree.specs.Range.{Extent}
-use Rattle.rnix_tree.specs.Tree.{Located, items_of, item_of, extent_of}
-use Rattle.rnix_tree.specs.Walk.{Spot, children_of}
+use Rattle.rnix_green.specs.Range.{Extent}
+use Rattle.rnix_green.specs.Tree.{Located, items_of, item_of, extent_of}
+use Rattle.rnix_green.specs.Walk.{Spot, children_of}
 use Rattle.rnix_tree.specs.Covering.{holds, holds_at, child_at_range, IsInnermost}
 use Rattle.rnix_tree.proofs.ChildLemmas.{IsHeldBy, found, children_within, token_childless}
 

@@ -5,13 +5,13 @@ use Rattle.std.proofs.lemmas.Bool.{cases_lt}
 use Rattle.std.proofs.lemmas.Bool.Decides.{nat_tests}
 use Rattle.std.proofs.lemmas.List.{length-map}
 use Rattle.std.proofs.lemmas.List.Sums.{length-filter, count_by-le-length}
-use Rattle.rnix_tree.specs.Tree.{Tree, Located, items_of, item, item_of}
-use Rattle.rnix_tree.specs.Walk.{spot_at, counted}
-use Rattle.rnix_tree.specs.Relatives.{IsFirst, IsLast, IsSibling}
+use Rattle.rnix_green.specs.Tree.{Tree, Located, items_of, item, item_of}
+use Rattle.rnix_green.specs.Walk.{spot_at, counted}
+use Rattle.rnix_green.specs.Relatives.{IsFirst, IsLast, IsSibling}
 use Rattle.rnix_tree.specs.Siblings.{same_parent, is_beside, numbers_below, siblings_of, siblings_if, index_of, IsBeside}
 use Rattle.rnix_tree.specs.declared.siblings.Direction.{Direction}
 use Rattle.rnix_tree.specs.declared.siblings.Direction.TheVariants.{Next, Prev}
-use Rattle.rnix_tree.proofs.NumberTests.{is_same}
+use Rattle.rnix_green.proofs.NumberTests.{is_same}
 use Rattle.rnix_tree.proofs.CountLemmas.{counted-many}
 use Rattle.rnix_tree.proofs.AncestorLemmas.{counted_more}
 

@@ -4,16 +4,17 @@ use Rattle.std.specs.Prelude.{if◌then◌else◌}
 use Rattle.std.proofs.lemmas.Bool.{cases_lt}
 use Rattle.std.proofs.lemmas.List.{map-append, get_or-append_right}
 use Rattle.rnix_kinds.specs.declared.kinds.SyntaxKind.{SyntaxKind}
-use Rattle.rnix_tree.specs.Forest.{Forest, empty, leaf, node, text_of, element_count}
-use Rattle.rnix_tree.specs.Tree.{Tree, Item, Located, items_from, items_of, no_item, item, item_of, extent_of, forest_of, part_of, part_at}
-use Rattle.rnix_tree.specs.Walk.{Event, steps_from, event_at, event_of, spot_of, place_of, preorder_of}
+use Rattle.rnix_green.specs.Forest.{Forest, empty, leaf, node, text_of, element_count}
+use Rattle.rnix_green.specs.Tree.{Tree, Item, Located, items_from, items_of, no_item, item, item_of, extent_of, forest_of, part_of, part_at}
+use Rattle.rnix_green.specs.Walk.{Event, steps_from, event_at, preorder_of}
+use Rattle.rnix_tree.specs.Spots.{event_of, spot_of, place_of}
 use Rattle.rnix_tree.specs.declared.element.NodeOrToken.{NodeOrToken}
 use Rattle.rnix_tree.specs.declared.element.NodeOrToken.TheVariants.{Node, Token}
 use Rattle.rnix_tree.specs.declared.element.WalkEvent.{WalkEvent}
 use Rattle.rnix_tree.specs.declared.element.WalkEvent.TheVariants.{Enter}
-use Rattle.rnix_tree.proofs.NumberTests.{is_above, is_not_below}
-use Rattle.rnix_tree.proofs.PartLemmas.{IsPart, IsOne, one_leaf, one_node, part_there, one_there, item_of_part}
-use Rattle.rnix_tree.proofs.PieceLemmas.{length-items_from}
+use Rattle.rnix_green.proofs.NumberTests.{is_above, is_not_below}
+use Rattle.rnix_green.proofs.PartLemmas.{IsPart, IsOne, one_leaf, one_node, part_there, one_there, item_of_part}
+use Rattle.rnix_green.proofs.PieceLemmas.{length-items_from}
 use Rattle.rnix_tree.specs.Lines.{line_of, lines_from, lines_of}
 use Rattle.rnix_tree.specs.Walked.{event_lines, entered_in, IsNested}
 

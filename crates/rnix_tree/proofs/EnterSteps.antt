@@ -2,12 +2,12 @@
 use Rattle.std.proofs.Common.{◌≡◌, ℕ, ◌+◌, ◌-◌, ◌≤◌, ◌<◌, nat_lt, ◌∷◌, ◌++◌, length, true, false, Option, Some, refl, ap, sym, ◌∙◌, subst, arith, inl, inr}
 use Rattle.std.specs.Prelude.{if◌then◌else◌}
 use Rattle.std.proofs.lemmas.Bool.{cases_lt}
-use Rattle.rnix_tree.specs.Forest.{Forest, empty, leaf, node, text_of, element_count}
-use Rattle.rnix_tree.specs.Tree.{Item}
-use Rattle.rnix_tree.specs.Walk.{steps_from}
+use Rattle.rnix_green.specs.Forest.{Forest, empty, leaf, node, text_of, element_count}
+use Rattle.rnix_green.specs.Tree.{Item}
+use Rattle.rnix_green.specs.Walk.{steps_from}
 use Rattle.rnix_tree.specs.Cursor.{from_enter, from_leave}
-use Rattle.rnix_tree.proofs.NumberTests.{below_true, below_false, same_choice}
-use Rattle.rnix_tree.proofs.SiblingLemmas.{below_fits}
+use Rattle.rnix_green.proofs.NumberTests.{below_true, below_false, same_choice}
+use Rattle.rnix_green.proofs.SiblingLemmas.{below_fits}
 use Rattle.rnix_tree.proofs.WalkRows.{at, at_inside, at_behind, at_next, at_first, enter_inside, enter_behind, enter_next, enter_here, leave_inside, leave_behind, leave_next, leave_leaf, leave_node, none_from_count, append_choice, either}
 
 -- what comes after an element is entered: it is left if nothing is inside it, or else what is inside it is entered

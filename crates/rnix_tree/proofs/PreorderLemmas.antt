@@ -2,15 +2,15 @@
 use Rattle.std.proofs.Common.{◌≡◌, ℕ, suc, ◌+◌, ◌-◌, ◌≤◌, ◌<◌, nat_lt, List, [], ◌∷◌, length, Bool, true, false, Option, Some, None, refl, ap, sym, ◌∙◌, subst, arith, inl, inr}
 use Rattle.std.specs.Prelude.{if◌then◌else◌}
 use Rattle.std.proofs.lemmas.Bool.{cases_lt}
-use Rattle.rnix_tree.specs.Forest.{Forest, empty, leaf, node, element_count}
-use Rattle.rnix_tree.specs.Tree.{Tree, items_of, item, part_at}
-use Rattle.rnix_tree.specs.Walk.{Step, steps_from}
+use Rattle.rnix_green.specs.Forest.{Forest, empty, leaf, node, element_count}
+use Rattle.rnix_green.specs.Tree.{Tree, items_of, item, part_at}
+use Rattle.rnix_green.specs.Walk.{Step, steps_from}
 use Rattle.rnix_tree.specs.Cursor.{from_enter, from_leave, steps_left, IsInside, IsNextWithin, after_enter, after_leave, behind}
 use Rattle.rnix_tree.specs.declared.walk.Next.{Next}
 use Rattle.rnix_tree.specs.declared.walk.Next.TheVariants.{Enter, Leave, Done}
-use Rattle.rnix_tree.proofs.NumberTests.{is_same, is_above, below_true}
-use Rattle.rnix_tree.proofs.SiblingLemmas.{below_fits, next_inside}
-use Rattle.rnix_tree.proofs.PartLemmas.{IsPart, IsOne, one_leaf, one_node, part_there, one_there, item_of_part, below_of_part}
+use Rattle.rnix_green.proofs.NumberTests.{is_same, is_above, below_true}
+use Rattle.rnix_green.proofs.SiblingLemmas.{below_fits, next_inside}
+use Rattle.rnix_green.proofs.PartLemmas.{IsPart, IsOne, one_leaf, one_node, part_there, one_there, item_of_part, below_of_part}
 use Rattle.rnix_tree.proofs.WalkRows.{at, enter_here, leave_leaf, leave_node}
 use Rattle.rnix_tree.proofs.EnterSteps.{enter_step}
 use Rattle.rnix_tree.proofs.LeaveSteps.{LeavesInside, inside_top, inside_inside, leave_step}

@@ -2,12 +2,12 @@
 use Rattle.std.proofs.Common.{is_some, ◌≡◌, ℕ, zero, suc, ◌+◌, ◌-◌, ◌≤◌, ◌<◌, length, Option, Some, None, true, false, refl, sym, ◌∙◌, arith, inl, inr}
 use Rattle.std.proofs.lemmas.Bool.{cases_lt}
 use Rattle.std.proofs.lemmas.Option.{same_Some}
-use Rattle.rnix_tree.specs.Tree.{Tree, items_of, item}
-use Rattle.rnix_tree.specs.Relatives.{located, IsFirst, IsLast, IsChild, IsSibling, IsNodeIn, IsSiblingNode}
+use Rattle.rnix_green.specs.Tree.{Tree, items_of, item}
+use Rattle.rnix_green.specs.Relatives.{located, IsFirst, IsLast, IsChild, IsSibling, IsNodeIn, IsSiblingNode}
 use Rattle.rnix_tree.specs.Around.{IsNodeIfAny, IsOnWayTo, FirstNodeFrom, LastNodeFrom}
-use Rattle.rnix_tree.proofs.SiblingLemmas.{next_inside}
-use Rattle.rnix_tree.proofs.ParentLemmas.{parent_is_node, parent_is_before}
-use Rattle.rnix_tree.proofs.InsideLemmas.{held, ends_inside, first_child_of, below_parent, sibling_behind, has_parent}
+use Rattle.rnix_green.proofs.SiblingLemmas.{next_inside}
+use Rattle.rnix_green.proofs.ParentLemmas.{parent_is_node, parent_is_before}
+use Rattle.rnix_green.proofs.InsideLemmas.{held, ends_inside, first_child_of, below_parent, sibling_behind, has_parent}
 
 -- an element inside another has another parent than it has
 pub not_beside : (t : Tree) (n p m : ℕ) → n < length (items_of t) → (item t n).parent ≡ Some p → n < m → m ≤ n + (item t n).below → (item t m).parent ≡ Some p → ⊥

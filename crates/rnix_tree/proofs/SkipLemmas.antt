@@ -4,14 +4,14 @@ use Rattle.std.proofs.lemmas.Bool.{cases_lt}
 use Rattle.std.proofs.lemmas.List.{append-nil}
 use Rattle.std.specs.Prelude.{if◌then◌else◌}
 use Rattle.rnix_kinds.specs.declared.kinds.SyntaxKind.{SyntaxKind}
-use Rattle.rnix_tree.specs.Forest.{Forest, empty, leaf, node, text_of, element_count}
-use Rattle.rnix_tree.specs.Tree.{Tree, items_of, item, part_at}
-use Rattle.rnix_tree.specs.Walk.{Step, Spot, Event, steps_from, event_at, from_leaving, node_events}
+use Rattle.rnix_green.specs.Forest.{Forest, empty, leaf, node, text_of, element_count}
+use Rattle.rnix_green.specs.Tree.{Tree, items_of, item, part_at}
+use Rattle.rnix_green.specs.Walk.{Step, Spot, Event, steps_from, event_at, from_leaving, node_events}
 use Rattle.rnix_tree.specs.Cursor.{from_enter, from_leave, steps_left, events_left, IsInside, IsNextWithin, around, after_skip}
 use Rattle.rnix_tree.specs.declared.walk.Next.{Next}
 use Rattle.rnix_tree.specs.declared.walk.Next.TheVariants.{Enter, Leave, Done}
-use Rattle.rnix_tree.proofs.NumberTests.{is_same, is_above}
-use Rattle.rnix_tree.proofs.PartLemmas.{IsPart, IsOne, one_leaf, one_node, part_there, one_there, item_of_part, below_of_part}
+use Rattle.rnix_green.proofs.NumberTests.{is_same, is_above}
+use Rattle.rnix_green.proofs.PartLemmas.{IsPart, IsOne, one_leaf, one_node, part_there, one_there, item_of_part, below_of_part}
 use Rattle.rnix_tree.proofs.WalkRows.{at, at_inside, at_behind, at_next, at_first, enter_inside, enter_behind, enter_next, enter_here, leave_inside, leave_behind, leave_next, leave_node}
 use Rattle.rnix_tree.proofs.PreorderLemmas.{Goes, leaves, whole_walk}
 

@@ -1,8 +1,8 @@
 -- What the steps over siblings and tokens give, by numbers.
 use Rattle.std.specs.Prelude.{◌≡◌, ◌<◌, ◌≤◌, ◌+◌, ℕ, length, List, [], Option, Some, None}
-use Rattle.rnix_tree.specs.Tree.{Tree, Located, items_of, item, item_of}
-use Rattle.rnix_tree.specs.Walk.{ancestors_of}
-use Rattle.rnix_tree.specs.Relatives.{IsNodeIn, IsTokenIn, IsSiblingNode, IsFirstToken, IsLastToken}
+use Rattle.rnix_green.specs.Tree.{Tree, Located, items_of, item, item_of}
+use Rattle.rnix_green.specs.Walk.{ancestors_of}
+use Rattle.rnix_green.specs.Relatives.{IsNodeIn, IsTokenIn, IsSiblingNode, IsFirstToken, IsLastToken}
 use Rattle.rnix_tree.specs.declared.element.NodeOrToken.{NodeOrToken}
 use Rattle.rnix_tree.specs.declared.element.NodeOrToken.TheVariants.{Node, Token}
 

@@ -1,9 +1,9 @@
 -- Elements of a kind.
 use Rattle.std.specs.Prelude.{Bool}
 use Rattle.rnix_kinds.specs.declared.kinds.SyntaxKind.{SyntaxKind}
-use Rattle.rnix_tree.specs.Equality.{same_kind}
-use Rattle.rnix_tree.specs.Tree.{Located, item_of}
-use Rattle.rnix_tree.specs.Walk.{Spot}
+use Rattle.rnix_green.specs.Equality.{same_kind}
+use Rattle.rnix_green.specs.Tree.{Located, item_of}
+use Rattle.rnix_green.specs.Walk.{Spot}
 
 -- whether an element has the kind
 abbrev pub is_of_kind : SyntaxKind → Located → Bool

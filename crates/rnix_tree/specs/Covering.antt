@@ -1,8 +1,8 @@
 -- The elements that hold a range.
 use Rattle.std.specs.Prelude.{◌≡◌, ◌≤◌, ◌+◌, ◌&&◌, ℕ, nat_le, nat_lt, Bool, true, find, Option, Some, None}
-use Rattle.rnix_tree.specs.Range.{Extent}
-use Rattle.rnix_tree.specs.Tree.{Located, item_of, extent_of}
-use Rattle.rnix_tree.specs.Walk.{Spot, children_of}
+use Rattle.rnix_green.specs.Range.{Extent}
+use Rattle.rnix_green.specs.Tree.{Located, item_of, extent_of}
+use Rattle.rnix_green.specs.Walk.{Spot, children_of}
 
 -- whether a range lies in another; an empty one strictly between its ends
 abbrev pub holds : Extent → Extent → Bool

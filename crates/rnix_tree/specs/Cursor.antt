@@ -1,21 +1,10 @@
 -- Where a walk stands, and what is left of it.
 use Rattle.std.specs.Prelude.{ℕ, zero, suc, ◌+◌, ◌-◌, ◌==◌, ◌<◌, ◌≤◌, nat_lt, List, [], ◌∷◌, ◌++◌, length, map, drop, false, Option, Some, None, if◌then◌else◌}
-use Rattle.rnix_tree.specs.Forest.{Forest, empty, leaf, node, element_count}
-use Rattle.rnix_tree.specs.Tree.{Tree, Item, items_of, item, part_at}
-use Rattle.rnix_tree.specs.Walk.{Step, Event, steps_from, event_at}
+use Rattle.rnix_green.specs.Forest.{Forest, empty, leaf, node, element_count}
+use Rattle.rnix_green.specs.Tree.{Tree, Item, items_of, item, part_at}
+use Rattle.rnix_green.specs.Walk.{Step, Event, steps_from, event_at}
 use Rattle.rnix_tree.specs.declared.walk.Next.{Next}
 use Rattle.rnix_tree.specs.declared.walk.Next.TheVariants.{Enter, Leave, Done}
-
--- the numbers that are reached by passing over what is inside each: skip comes first, and room is how many elements remain
-abbrev pub passed_over : ℕ → ℕ → ℕ → List Item → List ℕ
-passed_over n skip room [] = []
-passed_over n (suc skip) room (i ∷ is) = passed_over (n + 1) skip (room - 1) is
-passed_over n zero zero (i ∷ is) = []
-passed_over n zero (suc room) (i ∷ is) = n ∷ passed_over (n + 1) i.below room is
-
--- the elements that stand side by side from the number n up to the end
-abbrev pub siblings_between : List Item → ℕ → ℕ → List ℕ
-siblings_between is n end = passed_over n 0 (end - n) (drop n is)
 
 -- the walk over a row, numbered from n, from where the element m is entered
 abbrev pub from_enter : ℕ → ℕ → Forest → List Step

@@ -1,7 +1,7 @@
 -- How many elements are inside others.
 use Rattle.std.specs.Prelude.{ℕ, suc, ◌+◌, List, [], ◌∷◌, Option, Some, None}
-use Rattle.rnix_tree.specs.Tree.{Located, item_of}
-use Rattle.rnix_tree.specs.Walk.{Spot}
+use Rattle.rnix_green.specs.Tree.{Located, item_of}
+use Rattle.rnix_green.specs.Walk.{Spot}
 
 -- how many elements are inside an element
 abbrev pub inside_count : Located → ℕ

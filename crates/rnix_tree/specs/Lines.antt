@@ -1,15 +1,10 @@
 -- The lines that are printed of a tree's elements.
 use Rattle.std.specs.Prelude.{ℕ, suc, zero, ◌+◌, List, [], ◌++◌, length, codes}
-use Rattle.std.specs.Fmt.{decimal}
 use Rattle.rnix_kinds.specs.declared.kinds.SyntaxKind.{SyntaxKind}
 use Rattle.rnix_kinds.specs.SyntaxKind.{name_of}
-use Rattle.rnix_tree.specs.Range.{Extent}
-use Rattle.rnix_tree.specs.Forest.{Forest, empty, leaf, node, text_of}
-use Rattle.rnix_tree.specs.Tree.{Located, item_of, extent_of, part_at}
-
--- a range in decimal
-abbrev pub place_text : Extent → List ℕ
-place_text range = decimal range.start ++ codes ".." ++ decimal range.end
+use Rattle.rnix_green.specs.Range.{Extent, place_text}
+use Rattle.rnix_green.specs.Forest.{Forest, empty, leaf, node, text_of}
+use Rattle.rnix_green.specs.Tree.{Located, item_of, extent_of, part_at}
 
 -- an element's kind and range
 abbrev pub element_text : SyntaxKind → Extent → List ℕ

@@ -1,7 +1,7 @@
 -- The tokens at an offset.
 use Rattle.std.specs.Prelude.{◌≡◌, ◌<◌, ◌≤◌, ◌⊎◌, ℕ, List, [], ◌∷◌, Option, Some, None}
-use Rattle.rnix_tree.specs.Tree.{Located, item}
-use Rattle.rnix_tree.specs.Relatives.{IsTokenInside}
+use Rattle.rnix_green.specs.Tree.{Located, item}
+use Rattle.rnix_green.specs.Relatives.{IsTokenInside}
 use Rattle.rnix_tree.specs.declared.offset.TokenAtOffset.{TokenAtOffset}
 use Rattle.rnix_tree.specs.declared.offset.TokenAtOffset.TheVariants as at
 

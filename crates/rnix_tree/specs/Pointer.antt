@@ -1,9 +1,9 @@
 -- What a pointer keeps of a node, and the node that it finds in a tree.
 use Rattle.std.specs.Prelude.{◌≡◌, ◌<◌, ◌==◌, ◌&&◌, ℕ, Bool, true, length}
 use Rattle.rnix_kinds.specs.declared.kinds.SyntaxKind.{SyntaxKind}
-use Rattle.rnix_tree.specs.Equality.{same_kind}
-use Rattle.rnix_tree.specs.Range.{Extent, bounds_of}
-use Rattle.rnix_tree.specs.Tree.{Tree, Item, Located, items_of, item_of, extent_of}
+use Rattle.rnix_green.specs.Equality.{same_kind}
+use Rattle.rnix_green.specs.Range.{Extent, bounds_of}
+use Rattle.rnix_green.specs.Tree.{Tree, Item, Located, items_of, item_of, extent_of}
 use Rattle.rnix_tree.specs.declared.pointer.SyntaxNodePtr.{SyntaxNodePtr}
 
 -- a node's number in preorder, its kind and its range

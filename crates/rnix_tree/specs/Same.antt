@@ -8,10 +8,10 @@ use Rattle.std.proofs.lemmas.Bool.Decides.{Decides-eqb, Decides-like, Decides-an
 use Rattle.std.proofs.lemmas.Slice.Eq.{bytes_eq-Decides}
 use Rattle.rnix_kinds.specs.declared.kinds.SyntaxKind.{SyntaxKind}
 use Rattle.rnix_kinds.specs.SyntaxKind.{place_of}
-use Rattle.rnix_tree.specs.Equality.{same_kind, same_kind-decides, equivalence_from}
-use Rattle.rnix_tree.specs.Forest.{Forest, empty, leaf, node}
-use Rattle.rnix_tree.specs.Tree.{Located, item_of, extent_of}
-use Rattle.rnix_tree.specs.Range.{Extent}
+use Rattle.rnix_green.specs.Equality.{same_kind, same_kind-decides, equivalence_from}
+use Rattle.rnix_green.specs.Forest.{Forest, empty, leaf, node}
+use Rattle.rnix_green.specs.Tree.{Located, item_of, extent_of}
+use Rattle.rnix_green.specs.Range.{Extent}
 
 -- two rows of trees are equal
 abbrev pub same_forest : Forest → Forest → Bool

@@ -1,8 +1,8 @@
 -- The siblings of an element on one side.
 use Rattle.std.specs.Prelude.{◌-◌, ◌==◌, ℕ, zero, suc, length, map, filter, List, [], ◌∷◌, Bool, true, false, Option, Some, None}
-use Rattle.rnix_tree.specs.Tree.{Tree, Located, items_of, item, item_of}
-use Rattle.rnix_tree.specs.Walk.{Spot, spot_at, counted}
-use Rattle.rnix_tree.specs.Relatives.{IsFirst, IsLast, IsSibling}
+use Rattle.rnix_green.specs.Tree.{Tree, Located, items_of, item, item_of}
+use Rattle.rnix_green.specs.Walk.{Spot, spot_at, counted}
+use Rattle.rnix_green.specs.Relatives.{IsFirst, IsLast, IsSibling}
 use Rattle.rnix_tree.specs.declared.siblings.Direction.{Direction}
 use Rattle.rnix_tree.specs.declared.siblings.Direction.TheVariants.{Next, Prev}
 

@@ -1,6 +1,6 @@
 -- What a walk prints, as its events come.
 use Rattle.std.specs.Prelude.{◌≡◌, ◌<◌, false, ℕ, ◌+◌, ◌-◌, List, [], ◌∷◌, ◌++◌, if◌then◌else◌}
-use Rattle.rnix_tree.specs.Walk.{Event}
+use Rattle.rnix_green.specs.Walk.{Event}
 use Rattle.rnix_tree.specs.Lines.{element_line}
 
 -- the line that an event prints at a depth: one where an element is entered, none where it is left

@@ -1,6 +1,6 @@
 //! From a node outwards.
 
-use crate::green::GreenNode;
+use rnix_green::GreenNode;
 use crate::node::SyntaxNode;
 use std::marker::Model;
 
@@ -14,7 +14,7 @@ pub struct Ancestors<'t> {
 impl<'t> Model for Ancestors<'t> {
     ghost use Rattle.std.specs.Prelude.{List};
     ghost use Rattle.std.specs.Coded.{coded_list};
-    ghost use Rattle.rnix_tree.specs.Tree.{Located, located_code};
+    ghost use Rattle.rnix_green.specs.Tree.{Located, located_code};
     ghost use Rattle.rnix_tree.specs.Around.{IsNodeIfAny, ancestors_if};
 
     ghost Value = { List Located };

@@ -1,8 +1,9 @@
 //! What is of a kind, among children and siblings.
 
 ghost use Rattle.std.specs.Prelude.{◌≡◌, drop, find, option_map};
-ghost use Rattle.rnix_tree.specs.Equality.{same_kind};
-ghost use Rattle.rnix_tree.specs.Walk.{children_of, nodes_in, spot_of};
+ghost use Rattle.rnix_green.specs.Equality.{same_kind};
+ghost use Rattle.rnix_green.specs.Walk.{children_of, nodes_in};
+ghost use Rattle.rnix_tree.specs.Spots.{spot_of};
 ghost use Rattle.rnix_tree.specs.Siblings.{siblings_of};
 ghost use Rattle.rnix_tree.specs.ByKind.{is_of_kind, is_spot_of_kind};
 ghost use Rattle.rnix_tree.specs.declared.siblings.Direction.TheVariants as direction;

@@ -1,13 +1,13 @@
 //! The elements that hold a range.
 
 ghost use Rattle.std.specs.Prelude.{◌≡◌, option_map};
-ghost use Rattle.rnix_tree.specs.Range.{bounds_of};
-ghost use Rattle.rnix_tree.specs.Walk.{place_of, spot_of};
+ghost use Rattle.rnix_green.specs.Range.{bounds_of};
+ghost use Rattle.rnix_tree.specs.Spots.{place_of, spot_of};
 ghost use Rattle.rnix_tree.specs.Covering.{holds, child_at_range, IsCovering};
 
 use crate::element::{NodeOrToken, SyntaxElement};
 use crate::node::SyntaxNode;
-use crate::range::TextRange;
+use rnix_green::TextRange;
 
 // Whether a range lies in another; an empty one strictly between its ends.
 fn holds(range: TextRange, place: TextRange) -> bool

@@ -3,11 +3,11 @@
 ghost use Rattle.std.specs.Prelude.{Some};
 ghost use Rattle.std.specs.Fmt.{DisplaysOnOk};
 ghost use Rattle.rnix_tree.specs.Lines.{element_text};
-ghost use Rattle.rnix_tree.specs.Range.{bounds_of};
+ghost use Rattle.rnix_green.specs.Range.{bounds_of};
 
 use crate::element::{NodeOrToken, SyntaxElement, WalkEvent};
 use crate::node::SyntaxNode;
-use crate::range::TextRange;
+use rnix_green::TextRange;
 use crate::token::SyntaxToken;
 use rnix_kinds::SyntaxKind;
 use std::fmt;
@@ -98,7 +98,7 @@ fn write_tree<W: fmt::Write>(node: &SyntaxNode<'_>, f: &mut fmt::Formatter<W>) -
 impl<'t> fmt::Debug for SyntaxNode<'t> {
     ghost use Rattle.std.specs.Prelude.{Some};
     ghost use Rattle.rnix_tree.specs.Lines.{element_text};
-    ghost use Rattle.rnix_tree.specs.Tree.{item_of, extent_of};
+    ghost use Rattle.rnix_green.specs.Tree.{item_of, extent_of};
 
     ghost debug_output = { λ node. Some (element_text (item_of node).kind (extent_of node)) };
 

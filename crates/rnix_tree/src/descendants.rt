@@ -1,7 +1,7 @@
 //! An element and all that is inside it, in preorder.
 
 use crate::element::{NodeOrToken, SyntaxElement, element_at};
-use crate::green::GreenNode;
+use rnix_green::GreenNode;
 use crate::node::SyntaxNode;
 use std::marker::Model;
 
@@ -15,8 +15,8 @@ pub struct DescendantsWithTokens<'t> {
 
 impl<'t> Model for DescendantsWithTokens<'t> {
     ghost use Rattle.std.specs.Prelude.{List, ◌≤◌, ◌-◌, length, map};
-    ghost use Rattle.rnix_tree.specs.Tree.{items_of};
-    ghost use Rattle.rnix_tree.specs.Walk.{Spot, spots_code, spot_at, counted};
+    ghost use Rattle.rnix_green.specs.Tree.{items_of};
+    ghost use Rattle.rnix_green.specs.Walk.{Spot, spots_code, spot_at, counted};
 
     ghost Value = { List Spot };
 
@@ -31,7 +31,7 @@ impl<'t> Iterator for DescendantsWithTokens<'t> {
     type Item = SyntaxElement<'t>;
 
     ghost use Rattle.std.specs.Iterator.{YieldsFirstBy, item_count};
-    ghost use Rattle.rnix_tree.specs.Walk.{spot_of};
+    ghost use Rattle.rnix_tree.specs.Spots.{spot_of};
 
     ghost next_gives = { YieldsFirstBy spot_of (λ s. s) };
 
@@ -57,8 +57,8 @@ pub struct Descendants<'t> {
 impl<'t> Model for Descendants<'t> {
     ghost use Rattle.std.specs.Prelude.{List};
     ghost use Rattle.std.specs.Coded.{coded_list};
-    ghost use Rattle.rnix_tree.specs.Tree.{Located, located_code};
-    ghost use Rattle.rnix_tree.specs.Walk.{nodes_in};
+    ghost use Rattle.rnix_green.specs.Tree.{Located, located_code};
+    ghost use Rattle.rnix_green.specs.Walk.{nodes_in};
 
     ghost Value = { List Located };
 

@@ -1,13 +1,14 @@
 //! What stands in a tree: nodes and tokens.
 
 ghost use Rattle.std.specs.Prelude.{◌≡◌, ◌<◌, length, option_map};
-ghost use Rattle.rnix_tree.specs.Range.{bounds_of};
-ghost use Rattle.rnix_tree.specs.Tree.{items_of, item_of, extent_of};
-ghost use Rattle.rnix_tree.specs.Walk.{spot_at, spot_of, place_of, node_in, token_in, element_in, MapsEvent};
+ghost use Rattle.rnix_green.specs.Range.{bounds_of};
+ghost use Rattle.rnix_green.specs.Tree.{items_of, item_of, extent_of};
+ghost use Rattle.rnix_green.specs.Walk.{spot_at};
+ghost use Rattle.rnix_tree.specs.Spots.{spot_of, place_of, node_in, token_in, element_in, MapsEvent};
 
-use crate::green::GreenNode;
+use rnix_green::GreenNode;
 use crate::node::SyntaxNode;
-use crate::range::TextRange;
+use rnix_green::TextRange;
 use crate::token::SyntaxToken;
 use rnix_kinds::SyntaxKind;
 

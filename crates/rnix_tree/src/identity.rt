@@ -1,12 +1,12 @@
 //! Equality and hashes of nodes and tokens, and their texts.
 
 ghost use Rattle.std.specs.Prelude.{◌≡◌, fold};
-ghost use Rattle.rnix_tree.specs.Range.{bounds_of};
+ghost use Rattle.rnix_green.specs.Range.{bounds_of};
 ghost use Rattle.rnix_tree.specs.Same.{hashed_at};
 
 use crate::element::NodeOrToken;
 use crate::node::SyntaxNode;
-use crate::range::TextRange;
+use rnix_green::TextRange;
 use crate::token::SyntaxToken;
 use rnix_kinds::SyntaxKind;
 use std::fmt;
@@ -55,7 +55,7 @@ impl<'t> Hash for SyntaxNode<'t> {
 
 impl<'t> fmt::Display for SyntaxNode<'t> {
     ghost use Rattle.std.specs.Prelude.{Some};
-    ghost use Rattle.rnix_tree.specs.Tree.{text_at};
+    ghost use Rattle.rnix_green.specs.Tree.{text_at};
 
     ghost output = { λ node. Some (text_at node) };
 
@@ -97,7 +97,7 @@ impl<'t> Hash for SyntaxToken<'t> {
 
 impl<'t> fmt::Display for SyntaxToken<'t> {
     ghost use Rattle.std.specs.Prelude.{Some};
-    ghost use Rattle.rnix_tree.specs.Tree.{text_at};
+    ghost use Rattle.rnix_green.specs.Tree.{text_at};
 
     ghost output = { λ token. Some (text_at token) };
 
@@ -108,8 +108,8 @@ impl<'t> fmt::Display for SyntaxToken<'t> {
 
 impl<'t> fmt::Display for NodeOrToken<SyntaxNode<'t>, SyntaxToken<'t>> {
     ghost use Rattle.std.specs.Prelude.{Some};
-    ghost use Rattle.rnix_tree.specs.Tree.{text_at};
-    ghost use Rattle.rnix_tree.specs.Walk.{place_of};
+    ghost use Rattle.rnix_green.specs.Tree.{text_at};
+    ghost use Rattle.rnix_tree.specs.Spots.{place_of};
 
     ghost output = { λ element. Some (text_at (place_of element)) };
 

@@ -1,13 +1,13 @@
 //! From an element to those around it, beside it and inside it.
 
 ghost use Rattle.std.specs.Prelude.{◌≡◌, ◌<◌, ◌^◌, length, option_map, is_some, true};
-ghost use Rattle.rnix_tree.specs.Walk.{place_of};
-ghost use Rattle.rnix_tree.specs.Relatives.{located, parent_of, IsFirstChild, IsLastChild, IsFirstChildNode, IsLastChildNode, IsNextSibling, IsPrevSibling, IsNextSiblingNode, IsPrevSiblingNode, IsFirstToken, IsLastToken, IsNextToken, IsPrevToken};
+ghost use Rattle.rnix_tree.specs.Spots.{place_of};
+ghost use Rattle.rnix_green.specs.Relatives.{located, parent_of, IsFirstChild, IsLastChild, IsFirstChildNode, IsLastChildNode, IsNextSibling, IsPrevSibling, IsNextSiblingNode, IsPrevSiblingNode, IsFirstToken, IsLastToken, IsNextToken, IsPrevToken};
 ghost use Rattle.rnix_tree.specs.Around.{IsThereIfAny, IsNodeIfAny, IsTokenIfAny, parent_ancestors_of, nodes_around, IsFirstTokenOf, IsLastTokenOf};
 
 use crate::ancestors::Ancestors;
 use crate::element::{NodeOrToken, SyntaxElement, element_at};
-use crate::green::GreenNode;
+use rnix_green::GreenNode;
 use crate::node::SyntaxNode;
 use crate::relatives;
 use crate::token::SyntaxToken;

@@ -1,17 +1,17 @@
 //! Nodes of a tree.
 
 ghost use Rattle.std.specs.Prelude.{◌≡◌, ◌<◌, ◌^◌, length};
-ghost use Rattle.rnix_tree.specs.Forest.{element_count};
+ghost use Rattle.rnix_green.specs.Forest.{element_count};
 ghost use Rattle.rnix_tree.specs.Inside.{inside_count};
-ghost use Rattle.rnix_tree.specs.Range.{bounds_of};
-ghost use Rattle.rnix_tree.specs.Tree.{item_of, extent_of, text_at, part_at};
-ghost use Rattle.rnix_tree.specs.Walk.{children_of, preorder_of, nodes_in, elements_of, node_events, ancestors_of};
+ghost use Rattle.rnix_green.specs.Range.{bounds_of};
+ghost use Rattle.rnix_green.specs.Tree.{item_of, extent_of, text_at, part_at};
+ghost use Rattle.rnix_green.specs.Walk.{children_of, preorder_of, nodes_in, elements_of, node_events, ancestors_of};
 
 use crate::ancestors::Ancestors;
 use crate::descendants::{Descendants, DescendantsWithTokens};
-use crate::green::GreenNode;
+use rnix_green::GreenNode;
 use crate::nodes::{Preorder, SyntaxNodeChildren};
-use crate::range::TextRange;
+use rnix_green::TextRange;
 use crate::walk::{PreorderWithTokens, SyntaxElementChildren};
 use rnix_kinds::SyntaxKind;
 use std::marker::Model;
@@ -25,7 +25,7 @@ pub struct SyntaxNode<'t> {
 }
 
 impl<'t> Model for SyntaxNode<'t> {
-    ghost use Rattle.rnix_tree.specs.Tree.{Located, located_code, IsNodeAt};
+    ghost use Rattle.rnix_green.specs.Tree.{Located, located_code, IsNodeAt};
 
     ghost Value = { Located };
 

@@ -1,7 +1,7 @@
 //! Walks that give nodes alone.
 
 ghost use Rattle.std.specs.Prelude.{◌≡◌, ◌≤◌, length};
-ghost use Rattle.rnix_tree.specs.Walk.{from_leaving, node_events};
+ghost use Rattle.rnix_green.specs.Walk.{from_leaving, node_events};
 
 use crate::element::{NodeOrToken, WalkEvent};
 use crate::node::SyntaxNode;
@@ -17,8 +17,8 @@ pub struct SyntaxNodeChildren<'t> {
 impl<'t> Model for SyntaxNodeChildren<'t> {
     ghost use Rattle.std.specs.Prelude.{List};
     ghost use Rattle.std.specs.Coded.{coded_list};
-    ghost use Rattle.rnix_tree.specs.Tree.{Located, located_code};
-    ghost use Rattle.rnix_tree.specs.Walk.{nodes_in};
+    ghost use Rattle.rnix_green.specs.Tree.{Located, located_code};
+    ghost use Rattle.rnix_green.specs.Walk.{nodes_in};
 
     ghost Value = { List Located };
 
@@ -54,7 +54,7 @@ pub struct Preorder<'t> {
 
 impl<'t> Model for Preorder<'t> {
     ghost use Rattle.std.specs.Prelude.{List};
-    ghost use Rattle.rnix_tree.specs.Walk.{Event, events_code};
+    ghost use Rattle.rnix_green.specs.Walk.{Event, events_code};
 
     ghost Value = { List Event };
 
@@ -77,7 +77,8 @@ impl<'t> Iterator for Preorder<'t> {
     type Item = WalkEvent<SyntaxNode<'t>>;
 
     ghost use Rattle.std.specs.Iterator.{YieldsFirstBy, item_count};
-    ghost use Rattle.rnix_tree.specs.Walk.{node_event_of, node_events};
+    ghost use Rattle.rnix_tree.specs.Spots.{node_event_of};
+    ghost use Rattle.rnix_green.specs.Walk.{node_events};
 
     ghost next_gives = { YieldsFirstBy node_event_of node_events };
 

@@ -1,13 +1,13 @@
 //! The tokens at an offset.
 
 ghost use Rattle.std.specs.Prelude.{◌≡◌, ◌<◌, ◌≤◌, ℕ};
-ghost use Rattle.rnix_tree.specs.Tree.{item, item_of};
-ghost use Rattle.rnix_tree.specs.Relatives.{IsNodeIn};
+ghost use Rattle.rnix_green.specs.Tree.{item, item_of};
+ghost use Rattle.rnix_green.specs.Relatives.{IsNodeIn};
 ghost use Rattle.rnix_tree.specs.Offset.{AreTouched, IsHolding, left_of, right_of, ForTokens, MapsTokens};
 
-use crate::green::GreenNode;
+use rnix_green::GreenNode;
 use crate::node::SyntaxNode;
-use crate::range::TextSize;
+use rnix_green::TextSize;
 use crate::token::SyntaxToken;
 use std::mem;
 

@@ -2,14 +2,14 @@
 
 ghost use Rattle.std.specs.Prelude.{◌≡◌, SomeIff, Some};
 ghost use Rattle.std.specs.Bool.{Decides};
-ghost use Rattle.rnix_tree.specs.Range.{bounds_of};
-ghost use Rattle.rnix_tree.specs.Tree.{Located, IsNodeAt};
-ghost use Rattle.rnix_tree.specs.Kept.{item_from};
+ghost use Rattle.rnix_green.specs.Range.{bounds_of};
+ghost use Rattle.rnix_green.specs.Tree.{Located, IsNodeAt};
+ghost use Rattle.rnix_green.specs.Kept.{item_from};
 ghost use Rattle.rnix_tree.specs.Pointer.{address_of, address_in, located_at, fits, HasNode};
 
-use crate::green::{Element, GreenNode};
+use rnix_green::{Element, GreenNode};
 use crate::node::SyntaxNode;
-use crate::range::TextRange;
+use rnix_green::TextRange;
 use rnix_kinds::SyntaxKind;
 
 /// Where a node stands: its number in preorder, its kind and its range. It outlives the tree, and finds the node again in the same tree

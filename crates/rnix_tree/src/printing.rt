@@ -3,12 +3,12 @@
 ghost use Rattle.std.specs.Prelude.{OnOk};
 ghost use Rattle.std.specs.Io.KnownBytes.{Appends};
 ghost use Rattle.rnix_tree.specs.Lines.{indent, range_end, element_line, lines_of};
-ghost use Rattle.rnix_tree.specs.Range.{bounds_of};
-ghost use Rattle.rnix_tree.specs.Walk.{place_of};
+ghost use Rattle.rnix_green.specs.Range.{bounds_of};
+ghost use Rattle.rnix_tree.specs.Spots.{place_of};
 
 use crate::element::{SyntaxElement, WalkEvent};
 use crate::node::SyntaxNode;
-use crate::range::TextRange;
+use rnix_green::TextRange;
 use itoa::write_digits;
 use std::io;
 use std::io::Write;

@@ -1,11 +1,11 @@
 //! What stands beside an element and inside it, by numbers.
 
 ghost use Rattle.std.specs.Prelude.{◌≤◌, ◌<◌, ◌+◌, length};
-ghost use Rattle.rnix_tree.specs.Tree.{items_of, item};
-ghost use Rattle.rnix_tree.specs.Relatives.{IsFirst, IsLast, IsChild, IsSibling};
+ghost use Rattle.rnix_green.specs.Tree.{items_of, item};
+ghost use Rattle.rnix_green.specs.Relatives.{IsFirst, IsLast, IsChild, IsSibling};
 ghost use Rattle.rnix_tree.specs.Around.{IsThereIfAny, IsOnWayTo, FirstNodeFrom, LastNodeFrom, IsFirstTokenAmong, IsLastTokenAmong};
 
-use crate::green::GreenNode;
+use rnix_green::GreenNode;
 
 /// The element behind this one with the same parent.
 pub(crate) fn next_sibling(green: &GreenNode, number: usize) -> Option<usize>

@@ -1,13 +1,14 @@
 //! From an element along its siblings.
 
 ghost use Rattle.std.specs.Prelude.{◌≡◌, ◌<◌, ◌^◌, length};
-ghost use Rattle.rnix_tree.specs.Tree.{items_of};
-ghost use Rattle.rnix_tree.specs.Walk.{nodes_in, place_of};
+ghost use Rattle.rnix_green.specs.Tree.{items_of};
+ghost use Rattle.rnix_green.specs.Walk.{nodes_in};
+ghost use Rattle.rnix_tree.specs.Spots.{place_of};
 ghost use Rattle.rnix_tree.specs.Around.{IsThereIfAny};
 ghost use Rattle.rnix_tree.specs.Siblings.{siblings_of, index_of, IsBeside};
 
 use crate::element::{NodeOrToken, SyntaxElement, element_at};
-use crate::green::GreenNode;
+use rnix_green::GreenNode;
 use crate::node::SyntaxNode;
 use crate::relatives;
 use crate::token::SyntaxToken;
@@ -32,7 +33,7 @@ pub struct SiblingsWithTokens<'t> {
 
 impl<'t> Model for SiblingsWithTokens<'t> {
     ghost use Rattle.std.specs.Prelude.{List};
-    ghost use Rattle.rnix_tree.specs.Walk.{Spot, spots_code};
+    ghost use Rattle.rnix_green.specs.Walk.{Spot, spots_code};
     ghost use Rattle.rnix_tree.specs.Around.{IsThereIfAny};
     ghost use Rattle.rnix_tree.specs.Siblings.{siblings_if};
 
@@ -76,7 +77,7 @@ impl<'t> Iterator for SiblingsWithTokens<'t> {
     type Item = SyntaxElement<'t>;
 
     ghost use Rattle.std.specs.Iterator.{YieldsFirstBy, item_count};
-    ghost use Rattle.rnix_tree.specs.Walk.{spot_of};
+    ghost use Rattle.rnix_tree.specs.Spots.{spot_of};
 
     ghost next_gives = { YieldsFirstBy spot_of (λ s. s) };
 
@@ -101,8 +102,8 @@ pub struct Siblings<'t> {
 impl<'t> Model for Siblings<'t> {
     ghost use Rattle.std.specs.Prelude.{List};
     ghost use Rattle.std.specs.Coded.{coded_list};
-    ghost use Rattle.rnix_tree.specs.Tree.{Located, located_code};
-    ghost use Rattle.rnix_tree.specs.Walk.{nodes_in};
+    ghost use Rattle.rnix_green.specs.Tree.{Located, located_code};
+    ghost use Rattle.rnix_green.specs.Walk.{nodes_in};
 
     ghost Value = { List Located };
 

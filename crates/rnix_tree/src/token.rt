@@ -1,11 +1,11 @@
 //! Tokens of a tree.
 
 ghost use Rattle.std.specs.Prelude.{◌≡◌};
-ghost use Rattle.rnix_tree.specs.Range.{bounds_of};
-ghost use Rattle.rnix_tree.specs.Tree.{item_of, extent_of, text_at};
+ghost use Rattle.rnix_green.specs.Range.{bounds_of};
+ghost use Rattle.rnix_green.specs.Tree.{item_of, extent_of, text_at};
 
-use crate::green::GreenNode;
-use crate::range::TextRange;
+use rnix_green::GreenNode;
+use rnix_green::TextRange;
 use rnix_kinds::SyntaxKind;
 use std::marker::Model;
 
@@ -17,7 +17,7 @@ pub struct SyntaxToken<'t> {
 }
 
 impl<'t> Model for SyntaxToken<'t> {
-    ghost use Rattle.rnix_tree.specs.Tree.{Located, located_code, IsTokenAt};
+    ghost use Rattle.rnix_green.specs.Tree.{Located, located_code, IsTokenAt};
 
     ghost Value = { Located };
 

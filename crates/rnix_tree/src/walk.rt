@@ -1,12 +1,12 @@
 //! Walks over a tree, without memory and without recursion.
 
 ghost use Rattle.std.specs.Prelude.{◌≡◌, ◌<◌, ◌≤◌, length};
-ghost use Rattle.rnix_tree.specs.Tree.{items_of};
-ghost use Rattle.rnix_tree.specs.Walk.{preorder_of, from_leaving};
+ghost use Rattle.rnix_green.specs.Tree.{items_of};
+ghost use Rattle.rnix_green.specs.Walk.{preorder_of, from_leaving};
 ghost use Rattle.rnix_tree.specs.Cursor.{after_enter, after_leave, after_skip, IsNextWithin};
 
 use crate::element::{SyntaxElement, WalkEvent, element_at};
-use crate::green::GreenNode;
+use rnix_green::GreenNode;
 use std::marker::Model;
 
 /// The nodes and tokens right below a node, in order.
@@ -19,9 +19,9 @@ pub struct SyntaxElementChildren<'t> {
 
 impl<'t> Model for SyntaxElementChildren<'t> {
     ghost use Rattle.std.specs.Prelude.{List, ◌≤◌, length, map};
-    ghost use Rattle.rnix_tree.specs.Tree.{items_of};
-    ghost use Rattle.rnix_tree.specs.Walk.{Spot, spots_code, spot_at};
-    ghost use Rattle.rnix_tree.specs.Cursor.{siblings_between};
+    ghost use Rattle.rnix_green.specs.Tree.{items_of};
+    ghost use Rattle.rnix_green.specs.Walk.{Spot, spots_code, spot_at};
+    ghost use Rattle.rnix_green.specs.Numbers.{siblings_between};
 
     ghost Value = { List Spot };
 
@@ -36,7 +36,7 @@ impl<'t> Iterator for SyntaxElementChildren<'t> {
     type Item = SyntaxElement<'t>;
 
     ghost use Rattle.std.specs.Iterator.{YieldsFirstBy, item_count};
-    ghost use Rattle.rnix_tree.specs.Walk.{spot_of};
+    ghost use Rattle.rnix_tree.specs.Spots.{spot_of};
 
     ghost next_gives = { YieldsFirstBy spot_of (λ s. s) };
 
@@ -73,7 +73,7 @@ pub struct PreorderWithTokens<'t> {
 
 impl<'t> Model for PreorderWithTokens<'t> {
     ghost use Rattle.std.specs.Prelude.{List};
-    ghost use Rattle.rnix_tree.specs.Walk.{Event, events_code};
+    ghost use Rattle.rnix_green.specs.Walk.{Event, events_code};
 
     ghost Value = { List Event };
 
@@ -156,7 +156,7 @@ impl<'t> Iterator for PreorderWithTokens<'t> {
     type Item = WalkEvent<SyntaxElement<'t>>;
 
     ghost use Rattle.std.specs.Iterator.{YieldsFirstBy, item_count};
-    ghost use Rattle.rnix_tree.specs.Walk.{event_of};
+    ghost use Rattle.rnix_tree.specs.Spots.{event_of};
 
     ghost next_gives = { YieldsFirstBy event_of (λ s. s) };
 

@@ -2,7 +2,7 @@
 use Rattle.std.proofs.Common.{ℕ, zero, suc}
 use Rattle.rnix_kinds.specs.declared.kinds.SyntaxKind.{SyntaxKind}
 use Rattle.rnix_kinds.specs.declared.kinds.SyntaxKind.TheVariants.{NODE_APPLY, NODE_ATTRPATH, NODE_ATTRPATH_VALUE, NODE_ATTR_SET, NODE_BIN_OP, NODE_IDENT, NODE_IDENT_PARAM, NODE_INTERPOL, NODE_LAMBDA, NODE_LIST, NODE_PAREN, NODE_PATH_REL, NODE_PATTERN, NODE_PAT_BIND, NODE_PAT_ENTRY, NODE_SELECT}
-use Rattle.rnix_tree.specs.Range.{Extent}
+use Rattle.rnix_green.specs.Range.{Extent}
 use Rattle.rnix_grammar.specs.declared.until.Until.{Until}
 use Rattle.rnix_grammar.specs.Fault.{Fault, extra, unwanted, ended_before}
 use Rattle.rnix_grammar.specs.Tables.{wanted_kinds, operand_kinds}

@@ -7,7 +7,7 @@ use Rattle.std.proofs.lemmas.Bool.Decides.{Decides-eqb}
 use Rattle.rnix_kinds.specs.declared.kinds.SyntaxKind.{SyntaxKind}
 use Rattle.rnix_kinds.specs.declared.kinds.SyntaxKind.TheVariants.{NODE_ROOT, NODE_ERROR}
 use Rattle.rnix_kinds.specs.Lexical.Tokens.{tokens_of}
-use Rattle.rnix_tree.specs.Equality.{same_kind, same_kind-decides}
+use Rattle.rnix_green.specs.Equality.{same_kind, same_kind-decides}
 use Rattle.rnix_grammar.specs.Fault.{Fault, same_fault}
 use Rattle.rnix_grammar.specs.SameFaults.{same_fault-decides}
 use Rattle.rnix_grammar.specs.AnnotatedForest.{Token, Note, AnnotatedForest, blank, token, branch, fault, leaf_kind, tokens_in, end_from, placed_from}

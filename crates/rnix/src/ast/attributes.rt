@@ -56,7 +56,7 @@ impl<'t> AstNode<'t> for Attr<'t> {
 
 impl<'t> fmt::Display for Attr<'t> {
     ghost use Rattle.std.specs.Prelude.{Some};
-    ghost use Rattle.rnix_tree.specs.Tree.{text_at};
+    ghost use Rattle.rnix_green.specs.Tree.{text_at};
     ghost use Rattle.rnix.specs.Sums.{attr_node};
 
     ghost output = { λ node. Some (text_at (attr_node node)) };
@@ -190,7 +190,7 @@ impl<'t> AstNode<'t> for Path<'t> {
 
 impl<'t> fmt::Display for Path<'t> {
     ghost use Rattle.std.specs.Prelude.{Some};
-    ghost use Rattle.rnix_tree.specs.Tree.{text_at};
+    ghost use Rattle.rnix_green.specs.Tree.{text_at};
     ghost use Rattle.rnix.specs.Sums.{path_node};
 
     ghost output = { λ node. Some (text_at (path_node node)) };

@@ -53,7 +53,7 @@ impl<'t> AstNode<'t> for Param<'t> {
 
 impl<'t> fmt::Display for Param<'t> {
     ghost use Rattle.std.specs.Prelude.{Some};
-    ghost use Rattle.rnix_tree.specs.Tree.{text_at};
+    ghost use Rattle.rnix_green.specs.Tree.{text_at};
     ghost use Rattle.rnix.specs.Sums.{param_node};
 
     ghost output = { λ node. Some (text_at (param_node node)) };
@@ -156,7 +156,7 @@ impl<'t> AstNode<'t> for Entry<'t> {
 
 impl<'t> fmt::Display for Entry<'t> {
     ghost use Rattle.std.specs.Prelude.{Some};
-    ghost use Rattle.rnix_tree.specs.Tree.{text_at};
+    ghost use Rattle.rnix_green.specs.Tree.{text_at};
     ghost use Rattle.rnix.specs.Sums.{entry_node};
 
     ghost output = { λ node. Some (text_at (entry_node node)) };

@@ -2,7 +2,7 @@
 
 ghost use Rattle.std.specs.Prelude.{◌≡◌, option_map};
 ghost use Rattle.rnix_kinds.specs.declared.kinds.SyntaxKind.TheVariants as k;
-ghost use Rattle.rnix_tree.specs.Equality.{same_kind};
+ghost use Rattle.rnix_green.specs.Equality.{same_kind};
 ghost use Rattle.rnix_base.specs.Select.{child_of, token_of};
 ghost use Rattle.rnix.specs.NodeKinds.{is_expr};
 ghost use Rattle.rnix.specs.Sums.{expr_node};
@@ -22,7 +22,7 @@ pub struct IfElse<'t> {
 
 impl<'t> Model for IfElse<'t> {
     ghost use Rattle.rnix_kinds.specs.declared.kinds.SyntaxKind.TheVariants as k;
-    ghost use Rattle.rnix_tree.specs.Tree.{Located, located_code};
+    ghost use Rattle.rnix_green.specs.Tree.{Located, located_code};
     ghost use Rattle.rnix_base.specs.Select.{HasKind};
 
     ghost Value = { Located };
@@ -62,7 +62,7 @@ impl<'t> AstNode<'t> for IfElse<'t> {
 
 impl<'t> fmt::Display for IfElse<'t> {
     ghost use Rattle.std.specs.Prelude.{Some};
-    ghost use Rattle.rnix_tree.specs.Tree.{text_at};
+    ghost use Rattle.rnix_green.specs.Tree.{text_at};
 
     ghost output = { λ node. Some (text_at node) };
 
@@ -135,7 +135,7 @@ pub struct Assert<'t> {
 
 impl<'t> Model for Assert<'t> {
     ghost use Rattle.rnix_kinds.specs.declared.kinds.SyntaxKind.TheVariants as k;
-    ghost use Rattle.rnix_tree.specs.Tree.{Located, located_code};
+    ghost use Rattle.rnix_green.specs.Tree.{Located, located_code};
     ghost use Rattle.rnix_base.specs.Select.{HasKind};
 
     ghost Value = { Located };
@@ -175,7 +175,7 @@ impl<'t> AstNode<'t> for Assert<'t> {
 
 impl<'t> fmt::Display for Assert<'t> {
     ghost use Rattle.std.specs.Prelude.{Some};
-    ghost use Rattle.rnix_tree.specs.Tree.{text_at};
+    ghost use Rattle.rnix_green.specs.Tree.{text_at};
 
     ghost output = { λ node. Some (text_at node) };
 
@@ -227,7 +227,7 @@ pub struct With<'t> {
 
 impl<'t> Model for With<'t> {
     ghost use Rattle.rnix_kinds.specs.declared.kinds.SyntaxKind.TheVariants as k;
-    ghost use Rattle.rnix_tree.specs.Tree.{Located, located_code};
+    ghost use Rattle.rnix_green.specs.Tree.{Located, located_code};
     ghost use Rattle.rnix_base.specs.Select.{HasKind};
 
     ghost Value = { Located };
@@ -267,7 +267,7 @@ impl<'t> AstNode<'t> for With<'t> {
 
 impl<'t> fmt::Display for With<'t> {
     ghost use Rattle.std.specs.Prelude.{Some};
-    ghost use Rattle.rnix_tree.specs.Tree.{text_at};
+    ghost use Rattle.rnix_green.specs.Tree.{text_at};
 
     ghost output = { λ node. Some (text_at node) };
 

@@ -2,7 +2,7 @@
 
 ghost use Rattle.std.specs.Prelude.{◌<◌, ◌^◌, length};
 ghost use Rattle.rnix_kinds.specs.declared.kinds.SyntaxKind.TheVariants as k;
-ghost use Rattle.rnix_tree.specs.Equality.{same_kind};
+ghost use Rattle.rnix_green.specs.Equality.{same_kind};
 ghost use Rattle.rnix_base.specs.Select.{those_of, AreChildren};
 ghost use Rattle.rnix.specs.NodeKinds.{is_entry};
 

@@ -147,7 +147,7 @@ impl<'t> AstNode<'t> for Expr<'t> {
 
 impl<'t> fmt::Display for Expr<'t> {
     ghost use Rattle.std.specs.Prelude.{Some};
-    ghost use Rattle.rnix_tree.specs.Tree.{text_at};
+    ghost use Rattle.rnix_green.specs.Tree.{text_at};
     ghost use Rattle.rnix.specs.Sums.{expr_node};
 
     ghost output = { λ node. Some (text_at (expr_node node)) };

@@ -2,7 +2,7 @@
 
 ghost use Rattle.std.specs.Prelude.{◌≡◌, option_map};
 ghost use Rattle.rnix_kinds.specs.declared.kinds.SyntaxKind.TheVariants as k;
-ghost use Rattle.rnix_tree.specs.Equality.{same_kind};
+ghost use Rattle.rnix_green.specs.Equality.{same_kind};
 ghost use Rattle.rnix_base.specs.Select.{child_of, token_of};
 ghost use Rattle.rnix.specs.NodeKinds.{is_expr};
 ghost use Rattle.rnix.specs.Sums.{expr_node};
@@ -22,7 +22,7 @@ pub struct LetIn<'t> {
 
 impl<'t> Model for LetIn<'t> {
     ghost use Rattle.rnix_kinds.specs.declared.kinds.SyntaxKind.TheVariants as k;
-    ghost use Rattle.rnix_tree.specs.Tree.{Located, located_code};
+    ghost use Rattle.rnix_green.specs.Tree.{Located, located_code};
     ghost use Rattle.rnix_base.specs.Select.{HasKind};
 
     ghost Value = { Located };
@@ -62,7 +62,7 @@ impl<'t> AstNode<'t> for LetIn<'t> {
 
 impl<'t> fmt::Display for LetIn<'t> {
     ghost use Rattle.std.specs.Prelude.{Some};
-    ghost use Rattle.rnix_tree.specs.Tree.{text_at};
+    ghost use Rattle.rnix_green.specs.Tree.{text_at};
 
     ghost output = { λ node. Some (text_at node) };
 
@@ -114,7 +114,7 @@ pub struct LegacyLet<'t> {
 
 impl<'t> Model for LegacyLet<'t> {
     ghost use Rattle.rnix_kinds.specs.declared.kinds.SyntaxKind.TheVariants as k;
-    ghost use Rattle.rnix_tree.specs.Tree.{Located, located_code};
+    ghost use Rattle.rnix_green.specs.Tree.{Located, located_code};
     ghost use Rattle.rnix_base.specs.Select.{HasKind};
 
     ghost Value = { Located };
@@ -154,7 +154,7 @@ impl<'t> AstNode<'t> for LegacyLet<'t> {
 
 impl<'t> fmt::Display for LegacyLet<'t> {
     ghost use Rattle.std.specs.Prelude.{Some};
-    ghost use Rattle.rnix_tree.specs.Tree.{text_at};
+    ghost use Rattle.rnix_green.specs.Tree.{text_at};
 
     ghost output = { λ node. Some (text_at node) };
 

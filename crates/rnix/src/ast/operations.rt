@@ -2,8 +2,8 @@
 
 ghost use Rattle.std.specs.Prelude.{◌≡◌, option_map};
 ghost use Rattle.rnix_kinds.specs.declared.kinds.SyntaxKind.TheVariants as k;
-ghost use Rattle.rnix_tree.specs.Equality.{same_kind};
-ghost use Rattle.rnix_tree.specs.Walk.{children_of};
+ghost use Rattle.rnix_green.specs.Equality.{same_kind};
+ghost use Rattle.rnix_green.specs.Walk.{children_of};
 ghost use Rattle.rnix_base.specs.Select.{child_of, tokens_in};
 ghost use Rattle.rnix_base.specs.Operators.{binary_operator, unary_operator, first_operator};
 ghost use Rattle.rnix.specs.NodeKinds.{is_expr};
@@ -24,7 +24,7 @@ pub struct Apply<'t> {
 
 impl<'t> Model for Apply<'t> {
     ghost use Rattle.rnix_kinds.specs.declared.kinds.SyntaxKind.TheVariants as k;
-    ghost use Rattle.rnix_tree.specs.Tree.{Located, located_code};
+    ghost use Rattle.rnix_green.specs.Tree.{Located, located_code};
     ghost use Rattle.rnix_base.specs.Select.{HasKind};
 
     ghost Value = { Located };
@@ -64,7 +64,7 @@ impl<'t> AstNode<'t> for Apply<'t> {
 
 impl<'t> fmt::Display for Apply<'t> {
     ghost use Rattle.std.specs.Prelude.{Some};
-    ghost use Rattle.rnix_tree.specs.Tree.{text_at};
+    ghost use Rattle.rnix_green.specs.Tree.{text_at};
 
     ghost output = { λ node. Some (text_at node) };
 
@@ -109,7 +109,7 @@ pub struct BinOp<'t> {
 
 impl<'t> Model for BinOp<'t> {
     ghost use Rattle.rnix_kinds.specs.declared.kinds.SyntaxKind.TheVariants as k;
-    ghost use Rattle.rnix_tree.specs.Tree.{Located, located_code};
+    ghost use Rattle.rnix_green.specs.Tree.{Located, located_code};
     ghost use Rattle.rnix_base.specs.Select.{HasKind};
 
     ghost Value = { Located };
@@ -149,7 +149,7 @@ impl<'t> AstNode<'t> for BinOp<'t> {
 
 impl<'t> fmt::Display for BinOp<'t> {
     ghost use Rattle.std.specs.Prelude.{Some};
-    ghost use Rattle.rnix_tree.specs.Tree.{text_at};
+    ghost use Rattle.rnix_green.specs.Tree.{text_at};
 
     ghost output = { λ node. Some (text_at node) };
 
@@ -201,7 +201,7 @@ pub struct UnaryOp<'t> {
 
 impl<'t> Model for UnaryOp<'t> {
     ghost use Rattle.rnix_kinds.specs.declared.kinds.SyntaxKind.TheVariants as k;
-    ghost use Rattle.rnix_tree.specs.Tree.{Located, located_code};
+    ghost use Rattle.rnix_green.specs.Tree.{Located, located_code};
     ghost use Rattle.rnix_base.specs.Select.{HasKind};
 
     ghost Value = { Located };
@@ -241,7 +241,7 @@ impl<'t> AstNode<'t> for UnaryOp<'t> {
 
 impl<'t> fmt::Display for UnaryOp<'t> {
     ghost use Rattle.std.specs.Prelude.{Some};
-    ghost use Rattle.rnix_tree.specs.Tree.{text_at};
+    ghost use Rattle.rnix_green.specs.Tree.{text_at};
 
     ghost output = { λ node. Some (text_at node) };
 

@@ -2,7 +2,7 @@
 
 ghost use Rattle.std.specs.Prelude.{◌≡◌, ◌<◌, ◌^◌, length, option_map};
 ghost use Rattle.rnix_kinds.specs.declared.kinds.SyntaxKind.TheVariants as k;
-ghost use Rattle.rnix_tree.specs.Equality.{same_kind};
+ghost use Rattle.rnix_green.specs.Equality.{same_kind};
 ghost use Rattle.rnix_base.specs.Select.{those_of, AreChildren, child_of, token_of};
 ghost use Rattle.rnix.specs.NodeKinds.{is_expr};
 ghost use Rattle.rnix.specs.Sums.{expr_node};
@@ -23,7 +23,7 @@ pub struct Pattern<'t> {
 
 impl<'t> Model for Pattern<'t> {
     ghost use Rattle.rnix_kinds.specs.declared.kinds.SyntaxKind.TheVariants as k;
-    ghost use Rattle.rnix_tree.specs.Tree.{Located, located_code};
+    ghost use Rattle.rnix_green.specs.Tree.{Located, located_code};
     ghost use Rattle.rnix_base.specs.Select.{HasKind};
 
     ghost Value = { Located };
@@ -63,7 +63,7 @@ impl<'t> AstNode<'t> for Pattern<'t> {
 
 impl<'t> fmt::Display for Pattern<'t> {
     ghost use Rattle.std.specs.Prelude.{Some};
-    ghost use Rattle.rnix_tree.specs.Tree.{text_at};
+    ghost use Rattle.rnix_green.specs.Tree.{text_at};
 
     ghost output = { λ node. Some (text_at node) };
 
@@ -123,7 +123,7 @@ pub struct PatEntry<'t> {
 
 impl<'t> Model for PatEntry<'t> {
     ghost use Rattle.rnix_kinds.specs.declared.kinds.SyntaxKind.TheVariants as k;
-    ghost use Rattle.rnix_tree.specs.Tree.{Located, located_code};
+    ghost use Rattle.rnix_green.specs.Tree.{Located, located_code};
     ghost use Rattle.rnix_base.specs.Select.{HasKind};
 
     ghost Value = { Located };
@@ -163,7 +163,7 @@ impl<'t> AstNode<'t> for PatEntry<'t> {
 
 impl<'t> fmt::Display for PatEntry<'t> {
     ghost use Rattle.std.specs.Prelude.{Some};
-    ghost use Rattle.rnix_tree.specs.Tree.{text_at};
+    ghost use Rattle.rnix_green.specs.Tree.{text_at};
 
     ghost output = { λ node. Some (text_at node) };
 
@@ -215,7 +215,7 @@ pub struct PatBind<'t> {
 
 impl<'t> Model for PatBind<'t> {
     ghost use Rattle.rnix_kinds.specs.declared.kinds.SyntaxKind.TheVariants as k;
-    ghost use Rattle.rnix_tree.specs.Tree.{Located, located_code};
+    ghost use Rattle.rnix_green.specs.Tree.{Located, located_code};
     ghost use Rattle.rnix_base.specs.Select.{HasKind};
 
     ghost Value = { Located };
@@ -255,7 +255,7 @@ impl<'t> AstNode<'t> for PatBind<'t> {
 
 impl<'t> fmt::Display for PatBind<'t> {
     ghost use Rattle.std.specs.Prelude.{Some};
-    ghost use Rattle.rnix_tree.specs.Tree.{text_at};
+    ghost use Rattle.rnix_green.specs.Tree.{text_at};
 
     ghost output = { λ node. Some (text_at node) };
 

@@ -2,7 +2,7 @@
 
 ghost use Rattle.std.specs.Prelude.{◌≡◌, option_map};
 ghost use Rattle.rnix_kinds.specs.declared.kinds.SyntaxKind.TheVariants as k;
-ghost use Rattle.rnix_tree.specs.Equality.{same_kind};
+ghost use Rattle.rnix_green.specs.Equality.{same_kind};
 ghost use Rattle.rnix_base.specs.Select.{child_of, token_of};
 ghost use Rattle.rnix.specs.NodeKinds.{is_expr};
 ghost use Rattle.rnix.specs.Sums.{expr_node};
@@ -23,7 +23,7 @@ pub struct Select<'t> {
 
 impl<'t> Model for Select<'t> {
     ghost use Rattle.rnix_kinds.specs.declared.kinds.SyntaxKind.TheVariants as k;
-    ghost use Rattle.rnix_tree.specs.Tree.{Located, located_code};
+    ghost use Rattle.rnix_green.specs.Tree.{Located, located_code};
     ghost use Rattle.rnix_base.specs.Select.{HasKind};
 
     ghost Value = { Located };
@@ -63,7 +63,7 @@ impl<'t> AstNode<'t> for Select<'t> {
 
 impl<'t> fmt::Display for Select<'t> {
     ghost use Rattle.std.specs.Prelude.{Some};
-    ghost use Rattle.rnix_tree.specs.Tree.{text_at};
+    ghost use Rattle.rnix_green.specs.Tree.{text_at};
 
     ghost output = { λ node. Some (text_at node) };
 
@@ -129,7 +129,7 @@ pub struct HasAttr<'t> {
 
 impl<'t> Model for HasAttr<'t> {
     ghost use Rattle.rnix_kinds.specs.declared.kinds.SyntaxKind.TheVariants as k;
-    ghost use Rattle.rnix_tree.specs.Tree.{Located, located_code};
+    ghost use Rattle.rnix_green.specs.Tree.{Located, located_code};
     ghost use Rattle.rnix_base.specs.Select.{HasKind};
 
     ghost Value = { Located };
@@ -169,7 +169,7 @@ impl<'t> AstNode<'t> for HasAttr<'t> {
 
 impl<'t> fmt::Display for HasAttr<'t> {
     ghost use Rattle.std.specs.Prelude.{Some};
-    ghost use Rattle.rnix_tree.specs.Tree.{text_at};
+    ghost use Rattle.rnix_green.specs.Tree.{text_at};
 
     ghost output = { λ node. Some (text_at node) };
 

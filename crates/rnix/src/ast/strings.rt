@@ -2,7 +2,7 @@
 
 ghost use Rattle.std.specs.Prelude.{◌≡◌, option_map};
 ghost use Rattle.rnix_kinds.specs.declared.kinds.SyntaxKind.TheVariants as k;
-ghost use Rattle.rnix_tree.specs.Equality.{same_kind};
+ghost use Rattle.rnix_green.specs.Equality.{same_kind};
 ghost use Rattle.rnix_base.specs.Select.{child_of};
 ghost use Rattle.rnix_base.specs.Literal.{first_literal};
 ghost use Rattle.rnix.specs.NodeKinds.{is_expr};
@@ -23,7 +23,7 @@ pub struct Str<'t> {
 
 impl<'t> Model for Str<'t> {
     ghost use Rattle.rnix_kinds.specs.declared.kinds.SyntaxKind.TheVariants as k;
-    ghost use Rattle.rnix_tree.specs.Tree.{Located, located_code};
+    ghost use Rattle.rnix_green.specs.Tree.{Located, located_code};
     ghost use Rattle.rnix_base.specs.Select.{HasKind};
 
     ghost Value = { Located };
@@ -63,7 +63,7 @@ impl<'t> AstNode<'t> for Str<'t> {
 
 impl<'t> fmt::Display for Str<'t> {
     ghost use Rattle.std.specs.Prelude.{Some};
-    ghost use Rattle.rnix_tree.specs.Tree.{text_at};
+    ghost use Rattle.rnix_green.specs.Tree.{text_at};
 
     ghost output = { λ node. Some (text_at node) };
 
@@ -94,7 +94,7 @@ pub struct Interpol<'t> {
 
 impl<'t> Model for Interpol<'t> {
     ghost use Rattle.rnix_kinds.specs.declared.kinds.SyntaxKind.TheVariants as k;
-    ghost use Rattle.rnix_tree.specs.Tree.{Located, located_code};
+    ghost use Rattle.rnix_green.specs.Tree.{Located, located_code};
     ghost use Rattle.rnix_base.specs.Select.{HasKind};
 
     ghost Value = { Located };
@@ -134,7 +134,7 @@ impl<'t> AstNode<'t> for Interpol<'t> {
 
 impl<'t> fmt::Display for Interpol<'t> {
     ghost use Rattle.std.specs.Prelude.{Some};
-    ghost use Rattle.rnix_tree.specs.Tree.{text_at};
+    ghost use Rattle.rnix_green.specs.Tree.{text_at};
 
     ghost output = { λ node. Some (text_at node) };
 
@@ -172,7 +172,7 @@ pub struct Literal<'t> {
 
 impl<'t> Model for Literal<'t> {
     ghost use Rattle.rnix_kinds.specs.declared.kinds.SyntaxKind.TheVariants as k;
-    ghost use Rattle.rnix_tree.specs.Tree.{Located, located_code};
+    ghost use Rattle.rnix_green.specs.Tree.{Located, located_code};
     ghost use Rattle.rnix_base.specs.Select.{HasKind};
 
     ghost Value = { Located };
@@ -212,7 +212,7 @@ impl<'t> AstNode<'t> for Literal<'t> {
 
 impl<'t> fmt::Display for Literal<'t> {
     ghost use Rattle.std.specs.Prelude.{Some};
-    ghost use Rattle.rnix_tree.specs.Tree.{text_at};
+    ghost use Rattle.rnix_green.specs.Tree.{text_at};
 
     ghost output = { λ node. Some (text_at node) };
 

@@ -2,7 +2,7 @@ use Rattle.std.proofs.Common.{rules, arith, ap, subst, map, [], ◌∷◌, ◌++
 use Rattle.std.proofs.lemmas.List.{map_more}
 use Rattle.rnix_grammar.specs.Fault.{fault_of}
 use Rattle.nix_diagnostics.specs.Shown.{range_shown, IsLast}
-use Rattle.rnix_tree.specs.Range.{bounds_of}
+use Rattle.rnix_green.specs.Range.{bounds_of}
 use Rattle.nix_diagnostics.proofs.ShownLemmas.{ranges_added, nothing_shown, shown_added, shown_again}
 use Rattle.nix_diagnostics.proofs.diagnostic.diagnostics.Goals.{then-not-is_said+in_ok-push, else-not-is_said}
 use Rattle.nix_diagnostics.proofs.diagnostic.diagnostics.Goals as goal

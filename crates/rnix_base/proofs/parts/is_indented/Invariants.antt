@@ -1,5 +1,5 @@
 use Rattle.std.proofs.Common.{◌≡◌, length}
-use Rattle.rnix_tree.specs.Walk.{children_of}
+use Rattle.rnix_green.specs.Walk.{children_of}
 use Rattle.rnix_base.specs.Select.{tokens_in}
 use Rattle.rnix_base.proofs.parts.is_indented.Given as goal
 

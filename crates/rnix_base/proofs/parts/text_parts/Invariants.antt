@@ -1,5 +1,5 @@
 use Rattle.std.proofs.Common.{◌≡◌, ◌++◌, length, map}
-use Rattle.rnix_tree.specs.Tree.{text_at}
+use Rattle.rnix_green.specs.Tree.{text_at}
 use Rattle.rnix_base.specs.Parts.{part_of, parts_of, texts_below}
 use Rattle.rnix_base.proofs.parts.text_parts.Given as goal
 

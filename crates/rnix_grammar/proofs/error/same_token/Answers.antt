@@ -1,5 +1,5 @@
 use Rattle.std.proofs.Common.{◌∙◌, ◌&&◌, sym, ap}
-use Rattle.rnix_tree.specs.Range.{bounds_of}
+use Rattle.rnix_green.specs.Range.{bounds_of}
 use Rattle.rnix_grammar.specs.Fault.{same_extent}
 use Rattle.rnix_grammar.proofs.error.same_token.Goals as goal
 

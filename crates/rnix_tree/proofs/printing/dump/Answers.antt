@@ -1,8 +1,8 @@
 use Rattle.std.proofs.Common.{ℕ, List, [], ◌++◌, subst, ap, ◌∙◌, refl}
 use Rattle.std.proofs.KnownBytes.{Appends-nil, Appends-trans}
 use Rattle.std.specs.Io.KnownBytes.{Appends}
-use Rattle.rnix_tree.specs.Tree.{item_of, extent_of}
-use Rattle.rnix_tree.specs.Walk.{place_of}
+use Rattle.rnix_green.specs.Tree.{item_of, extent_of}
+use Rattle.rnix_tree.specs.Spots.{place_of}
 use Rattle.rnix_tree.specs.Lines.{line_of}
 use Rattle.rnix_tree.specs.Walked.{event_lines}
 use Rattle.rnix_tree.proofs.DumpLemmas.{entered, deeper, finished, begun}

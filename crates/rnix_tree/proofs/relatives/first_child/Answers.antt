@@ -1,5 +1,5 @@
 use Rattle.std.proofs.Common.{ap, arith}
-use Rattle.rnix_tree.specs.Tree.{Item}
+use Rattle.rnix_green.specs.Tree.{Item}
 use Rattle.rnix_tree.proofs.RelativeLemmas.{first_there, no_first}
 use Rattle.rnix_tree.proofs.relatives.first_child.Goals as goal
 

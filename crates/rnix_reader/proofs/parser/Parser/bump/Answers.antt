@@ -1,5 +1,5 @@
 use Rattle.std.proofs.Common.{ap, refl, ◌∙◌}
-use Rattle.rnix_tree.specs.Draft.{with_leaf}
+use Rattle.rnix_green.specs.Draft.{with_leaf}
 use Rattle.rnix_reader.specs.Placed.{token_of}
 use Rattle.rnix_reader.specs.State.{state}
 use Rattle.rnix_reader.proofs.StateLemmas.{first_there, none_there, bumped-item, bumped-end}

@@ -1,6 +1,6 @@
 use Rattle.std.proofs.Common.{ap, refl, ◌∙◌}
-use Rattle.rnix_tree.specs.Draft.{leaf_added, node_opened, node_closed}
-use Rattle.rnix_tree.specs.Forest.{tree_count}
+use Rattle.rnix_green.specs.Draft.{leaf_added, node_opened, node_closed}
+use Rattle.rnix_green.specs.Forest.{tree_count}
 use Rattle.rnix_reader.specs.Placed.{token_of}
 use Rattle.rnix_reader.specs.State.{state}
 use Rattle.rnix_reader.proofs.BeginLemmas.{leaf_nodes}

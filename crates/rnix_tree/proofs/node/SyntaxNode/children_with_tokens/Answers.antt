@@ -1,8 +1,8 @@
 use Rattle.std.proofs.Common.{ap, sym, arith, length, map, ◌+◌, ◌∙◌}
-use Rattle.rnix_tree.specs.Tree.{Item, Located, items_of}
-use Rattle.rnix_tree.specs.Walk.{spot_at, children_of}
-use Rattle.rnix_tree.specs.Cursor.{siblings_between}
-use Rattle.rnix_tree.proofs.PartLemmas.{children_between}
+use Rattle.rnix_green.specs.Tree.{Item, Located, items_of}
+use Rattle.rnix_green.specs.Walk.{spot_at, children_of}
+use Rattle.rnix_green.specs.Numbers.{siblings_between}
+use Rattle.rnix_green.proofs.PartLemmas.{children_between}
 use Rattle.rnix_tree.proofs.CountLemmas.{children_of-few}
 use Rattle.rnix_tree.proofs.node.SyntaxNode.children_with_tokens.Goals as goal
 

@@ -1,6 +1,6 @@
 use Rattle.std.proofs.Common.{rules, Some, option_map, ap, sym, ◌∙◌}
-use Rattle.rnix_tree.specs.Range.{bounds_of}
-use Rattle.rnix_tree.specs.Walk.{spot_of}
+use Rattle.rnix_green.specs.Range.{bounds_of}
+use Rattle.rnix_tree.specs.Spots.{spot_of}
 use Rattle.rnix_tree.specs.declared.element.NodeOrToken.TheVariants.{Node, Token}
 use Rattle.rnix_tree.proofs.CoveringLemmas.{child_smaller, reached_child, reached_token}
 use Rattle.rnix_tree.proofs.node.SyntaxNode.covering_element.Goals as goal

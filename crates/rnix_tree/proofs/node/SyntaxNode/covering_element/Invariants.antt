@@ -1,5 +1,5 @@
-use Rattle.rnix_tree.specs.Range.{bounds_of}
-use Rattle.rnix_tree.specs.Tree.{item_of}
+use Rattle.rnix_green.specs.Range.{bounds_of}
+use Rattle.rnix_green.specs.Tree.{item_of}
 use Rattle.rnix_tree.proofs.CoveringLemmas.{IsReached}
 use Rattle.rnix_tree.proofs.node.SyntaxNode.covering_element.Given as goal
 

@@ -1,5 +1,5 @@
 use Rattle.std.proofs.Common.{◌≡◌, find, length}
-use Rattle.rnix_tree.specs.Walk.{children_of}
+use Rattle.rnix_green.specs.Walk.{children_of}
 use Rattle.rnix_tree.specs.ByKind.{is_spot_of_kind}
 use Rattle.rnix_tree.proofs.node.SyntaxNode.first_child_or_token_by_kind.Given as goal
 

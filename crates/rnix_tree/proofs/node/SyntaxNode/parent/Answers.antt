@@ -1,5 +1,5 @@
 use Rattle.std.proofs.Common.{ap, sym}
-use Rattle.rnix_tree.specs.Tree.{Item}
+use Rattle.rnix_green.specs.Tree.{Item}
 use Rattle.rnix_tree.proofs.RelativeLemmas.{parent_if_any}
 use Rattle.rnix_tree.proofs.node.SyntaxNode.parent.Goals as goal
 

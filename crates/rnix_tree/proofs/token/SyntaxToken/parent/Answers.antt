@@ -1,6 +1,6 @@
 use Rattle.std.proofs.Common.{ap, sym, ◌∙◌, is_some}
-use Rattle.rnix_tree.specs.Tree.{Item}
-use Rattle.rnix_tree.specs.Relatives.{located}
+use Rattle.rnix_green.specs.Tree.{Item}
+use Rattle.rnix_green.specs.Relatives.{located}
 use Rattle.rnix_tree.proofs.RelativeLemmas.{parent_if_any, token_has_parent}
 use Rattle.rnix_tree.proofs.token.SyntaxToken.parent.Goals as goal
 

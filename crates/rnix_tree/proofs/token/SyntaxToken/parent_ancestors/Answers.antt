@@ -1,5 +1,5 @@
 use Rattle.std.proofs.Common.{length, ap, sym, arith}
-use Rattle.rnix_tree.specs.Tree.{Item}
+use Rattle.rnix_green.specs.Tree.{Item}
 use Rattle.rnix_tree.specs.Around.{ancestors_if}
 use Rattle.rnix_tree.proofs.RelativeLemmas.{parent_if_any}
 use Rattle.rnix_tree.proofs.AncestorLemmas.{ancestors_step}

@@ -1,5 +1,5 @@
 use Rattle.std.proofs.Common.{ap, map}
-use Rattle.rnix_tree.specs.Walk.{event_at}
+use Rattle.rnix_green.specs.Walk.{event_at}
 use Rattle.rnix_tree.proofs.PreorderLemmas.{whole_walk}
 use Rattle.rnix_tree.proofs.walk.PreorderWithTokens.new.Goals as goal
 

@@ -1,5 +1,5 @@
 use Rattle.std.proofs.Common.{rules, ap, map, ◌∙◌, sym, subst, true, false}
-use Rattle.rnix_tree.specs.Walk.{Spot, event_at}
+use Rattle.rnix_green.specs.Walk.{Spot, event_at}
 use Rattle.rnix_tree.specs.Cursor.{IsInside, IsNextWithin, events_left, after_enter, after_leave}
 use Rattle.rnix_tree.specs.declared.walk.Next.{Next}
 use Rattle.rnix_tree.specs.declared.walk.Next.TheVariants.{Enter, Leave}

@@ -1,0 +1,16 @@
+pub mod NumberTests
+pub mod PackedLemmas
+pub mod ForestLemmas
+pub mod PostorderLemmas
+pub mod EntriesLemmas
+pub mod KeptLemmas
+pub mod SameTree
+pub mod PieceLemmas
+pub mod ParentLemmas
+pub mod SiblingLemmas
+pub mod PartLemmas
+pub mod NestLemmas
+pub mod InsideLemmas
+pub mod StartLemmas
+pub mod ElementLemmas
+pub mod FirstFromLemmas

@@ -1,0 +1,15 @@
+use Rattle.std.proofs.Common.{◌∙◌, ◌<◌, length, sym, arith}
+use Rattle.std.specs.String.{string_bytes}
+use Rattle.rnix_green.specs.Kept.{IsKept}
+use Rattle.rnix_green.specs.Tree.{items_of}
+use Rattle.rnix_green.proofs.ElementLemmas.{length_kept, element_read, start_there, start_past}
+use Rattle.rnix_green.proofs.green.GreenNode.start_at.Goals as goal
+
+pub returns-then-number-len : goal.returns-then-number-len
+returns-then-number-len c =
+    let t = c.args.self.now in
+    let g = c.self.inside in
+    let kept : IsKept t g.elements.items (string_bytes g.text) = rw c.self.view_is at c.self.invariant in
+    let there : c.args.number < length (items_of t) =
+    omega (arith, c.if-number-len.true, c.len.ensures, g.elements.ok.0, length_kept t g.elements.items (string_bytes g.text) kept) in
+    c.place.ensures ∙ (element_read t _ _ c.args.number c.index.result.now kept there c.index.ensures).place ∙ sym (start_there t c.args.number there)

@@ -1,0 +1,121 @@
+use Rattle.std.proofs.Common.{◌≡◌, length, reverse, ◌+◌, ◌-◌, suc, take, arith, refl, ap, ◌∙◌}
+use Rattle.std.proofs.lemmas.List.{length-take-le, length_push, length-reverse, length-set}
+use Rattle.rnix_green.specs.declared.postorder.Frame.{Frame}
+use Rattle.rnix_green.specs.Entries.{made}
+use Rattle.rnix_green.specs.Packed.{packed, size_in}
+use Rattle.rnix_green.specs.Kept.{parent_or_root}
+use Rattle.rnix_green.specs.Postorder.{parent_number, frame_kept, HasMore, IsReached}
+use Rattle.rnix_green.proofs.PostorderLemmas.{length-entries_before, leaf_at, node_at, node_placed, leaf_placed, node_framed, placed_all, init_work}
+use Rattle.rnix_green.proofs.postorder.in_preorder.Goals as goal
+
+pub elements-init : goal.elements-init
+elements-init c =
+    let es = c.args.elements.items in
+    let count : c.len-left.result ≡ length es = c.len-left.ensures ∙ c.args.elements.ok.0 in
+    record {
+      few = omega (arith, ap length c.new-frames.ensures.items);
+      work =
+          init_work (made c.args.text.now es) es _ c.len-left.result c.args.text.now c.new-frames.result.items c.requires.entries_are refl count
+          c.requires.text_is c.new-frames.ensures.items;
+    }
+
+pub elements-preserved-in-Some : goal.elements-preserved-in-Some
+elements-preserved-in-Some c =
+    let es = c.elements.elements.items in
+    let old = c.elements.frames.items in
+    let closing : IsReached old c.elements.left c.in-Some.frame = rw c.deref.ensures.value at c.in-Some.ensures in
+    let shorter : c.truncate.new.self.items ≡ take (length old - 1) old =
+    c.truncate.ensures.items ∙ ap (λ n. take (n - 1) old) (c.len.ensures ∙ c.elements.frames.ok.0) in
+    let depth : c.len-in-Some.result ≡ length c.truncate.new.self.items = c.len-in-Some.ensures ∙ c.truncate.new.self.ok.0 in
+    let parent : c.innermost_number-parent.result ≡ parent_or_root (parent_number (reverse c.truncate.new.self.items)) =
+    rw c.deref-in-Some.ensures.value at c.innermost_number-parent.ensures in
+    let value : c.new.result ≡ frame_kept c.in-Some.frame c.elements.offset (parent_number (reverse c.truncate.new.self.items)) =
+    c.new.ensures ∙ ap (λ q. packed c.in-Some.frame.kind c.elements.offset q c.in-Some.frame.size) parent in
+    record {
+      few =
+          omega (
+            arith,
+            c.elements.invariant.few,
+            ap length shorter,
+            length-take-le (length old - 1) old (omega arith),
+            length-set es (c.elements.left + c.len-in-Some.result) c.new.result,
+          );
+      work =
+          node_placed (made c.args.text.now c.args.elements.items) es c.elements.left c.elements.offset (c.elements.left + c.len-in-Some.result) old _
+          c.new.result c.in-Some.frame c.elements.invariant.few closing shorter (ap (λ n. c.elements.left + n) depth) value c.elements.invariant.work;
+    }
+
+pub overflow_sub-first : goal.overflow_sub-first
+overflow_sub-first c =
+    let es = c.elements.elements.items in
+    let y = c.index.result.now in
+    let open_ : HasMore (reverse c.elements.frames.items) c.elements.left = rw c.deref.ensures.value at c.in-None.ensures in
+    let some : size_in y ≡ suc (size_in y - 1) = omega (arith, c.size-size.ensures, c.if-size-gt0.true) in
+    let r =
+    node_at (made c.args.text.now c.args.elements.items) es c.elements.left c.elements.offset _ _ y
+    record { kind = y.kind; size = size_in y; number = 0; first = 0 } (size_in y - 1) (omega (arith, c.elements.invariant.few))
+    c.if-left-eq0.false c.index.ensures some refl refl open_ c.elements.invariant.work in
+    omega (arith, r.fits, c.size-size.ensures, length-entries_before (c.elements.left - 1) es (omega (arith, c.elements.invariant.few)))
+
+pub elements-preserved-in-Continue-1 : goal.elements-preserved-in-Continue-1
+elements-preserved-in-Continue-1 c =
+    let es = c.elements.elements.items in
+    let old = c.elements.frames.items in
+    let y = c.index.result.now in
+    let open_ : HasMore (reverse old) c.elements.left = rw c.deref.ensures.value at c.in-None.ensures in
+    let depth : c.len-then-size-gt0.result ≡ length old = c.len-then-size-gt0.ensures ∙ c.elements.frames.ok.0 in
+    let some : size_in y ≡ suc (size_in y - 1) = omega (arith, c.size-size.ensures, c.if-size-gt0.true) in
+    let first = c.elements.left - 1 + 1 - c.size-size.result in
+    let frame : Frame = record { kind = c.kind-kind.result; size = c.size-size.result; number = first + c.len-then-size-gt0.result; first = first } in
+    let r =
+    node_at (made c.args.text.now c.args.elements.items) es c.elements.left c.elements.offset _ _ y frame (size_in y - 1)
+    (omega (arith, c.elements.invariant.few)) c.if-left-eq0.false c.index.ensures some c.kind-kind.ensures c.size-size.ensures open_ c.elements.invariant.work in
+    let before = length-entries_before (c.elements.left - 1) es (omega (arith, c.elements.invariant.few)) in
+    record {
+      few = omega (arith, c.elements.invariant.few, ap length c.in_ok-push-in-None.ensures.items, length_push old frame);
+      work =
+          node_framed (made c.args.text.now c.args.elements.items) es c.elements.left c.elements.offset old _ frame c.if-left-eq0.false
+          c.in_ok-push-in-None.ensures.items
+          (r.work (omega (arith, before, c.size-size.ensures)) (omega (arith, depth, length-reverse old)));
+    }
+
+pub overflow_sub-offset : goal.overflow_sub-offset
+overflow_sub-offset c =
+    let y = c.index.result.now in
+    let open_ : HasMore (reverse c.elements.frames.items) c.elements.left = rw c.deref.ensures.value at c.in-None.ensures in
+    let none : size_in y ≡ 0 = omega (arith, c.size-size.ensures, c.if-size-gt0.false) in
+    let r =
+    leaf_at (made c.args.text.now c.args.elements.items) c.elements.elements.items c.elements.left c.elements.offset _ _ y
+    (omega (arith, c.elements.invariant.few)) c.if-left-eq0.false c.index.ensures none open_ c.elements.invariant.work in
+    omega (arith, r.fits, c.place-offset.ensures)
+
+pub elements-preserved : goal.elements-preserved
+elements-preserved c =
+    let es = c.elements.elements.items in
+    let old = c.elements.frames.items in
+    let y = c.index.result.now in
+    let open_ : HasMore (reverse old) c.elements.left = rw c.deref.ensures.value at c.in-None.ensures in
+    let none : size_in y ≡ 0 = omega (arith, c.size-size.ensures, c.if-size-gt0.false) in
+    let r =
+    leaf_at (made c.args.text.now c.args.elements.items) es c.elements.left c.elements.offset _ _ y
+    (omega (arith, c.elements.invariant.few)) c.if-left-eq0.false c.index.ensures none open_ c.elements.invariant.work in
+    let depth : c.len-else-size-gt0.result ≡ length old = c.len-else-size-gt0.ensures ∙ c.elements.frames.ok.0 in
+    let parent : c.innermost_number-parent-else-size-gt0.result ≡ parent_or_root (parent_number (reverse old)) =
+    rw c.deref-else-size-gt0.ensures.value at c.innermost_number-parent-else-size-gt0.ensures in
+    let value = rw (c.kind-kind.ensures, c.place-offset.ensures, parent) at c.new-else-size-gt0.ensures in
+    record {
+      few =
+          omega (arith, c.elements.invariant.few, length-set es (c.elements.left - 1 + c.len-else-size-gt0.result) c.new-else-size-gt0.result);
+      work =
+          rw c.place-offset.ensures
+          (leaf_placed (made c.args.text.now c.args.elements.items) es c.elements.left c.elements.offset
+          (c.elements.left - 1 + c.len-else-size-gt0.result) old y.kind _ c.new-else-size-gt0.result c.elements.invariant.few c.if-left-eq0.false
+          (ap (λ n. c.elements.left - 1 + n) depth) value r);
+    }
+
+pub returns : goal.returns
+returns c =
+    let frames = c.elements.frames.items in
+    let open_ : HasMore (reverse frames) c.elements.left = rw c.deref.ensures.value at c.in-None.ensures in
+    placed_all (made c.args.text.now c.args.elements.items) c.elements.elements.items c.elements.left c.elements.offset (length frames) (reverse frames)
+    c.if-left-eq0.true (omega (arith, length-reverse frames)) open_ c.elements.invariant.work

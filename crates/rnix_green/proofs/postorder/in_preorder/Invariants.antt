@@ -1,0 +1,18 @@
+use Rattle.std.proofs.Common.{◌≤◌, ◌+◌, ◌*◌, reverse, drop, length}
+use Rattle.rnix_green.specs.Postorder.{IsWork}
+use Rattle.rnix_green.specs.Entries.{made}
+use Rattle.rnix_green.proofs.PostorderLemmas.{entries_before}
+use Rattle.rnix_green.proofs.postorder.in_preorder.Given as goal
+
+abbrev pub invariant-elements : goal.invariant-elements
+invariant-elements l =
+    let es = l.elements.items in
+    record {
+      few : l.left + length l.frames.items ≤ length es;
+      work :
+          IsWork (made l.text l.initial.elements.items) (entries_before l.left es) l.offset (reverse l.frames.items)
+          (drop (l.left + length l.frames.items) es);
+    }
+
+abbrev pub decreases-elements : goal.decreases-elements
+decreases-elements l = 2 * l.left + length l.frames.items

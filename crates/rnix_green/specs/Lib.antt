@@ -1,0 +1,14 @@
+pub mod Forest
+pub mod ForestCode
+pub mod Draft
+pub mod Range
+pub mod Packed
+pub mod Tree
+pub mod Numbers
+pub mod Walk
+pub mod Kept
+pub mod Postorder
+pub mod Entries
+pub mod Relatives
+pub mod Equality
+pub mod SameElements

@@ -1,0 +1,88 @@
+-- Trees as a list in which each node stands behind its children, and what is left to do when that list is read from its end.
+use Rattle.std.specs.Prelude.{◌≡◌, ◌≢◌, ℕ, zero, suc, ◌+◌, ◌-◌, List, [], ◌∷◌, ◌++◌, length, reverse, take, Option, Some, None, true}
+use Rattle.rnix_kinds.specs.declared.kinds.SyntaxKind.{SyntaxKind}
+use Rattle.rnix_green.specs.declared.packed.Packed.{Packed}
+use Rattle.rnix_green.specs.declared.postorder.Frame.{Frame}
+use Rattle.rnix_green.specs.Forest.{Forest, empty, leaf, node, text_of, element_count}
+use Rattle.rnix_green.specs.Packed.{packed, place_in, size_in}
+use Rattle.rnix_green.specs.Kept.{parent_or_root, kept_from}
+
+-- a leaf with the length of its text; a node with the number of elements inside it
+pub data Entry : Type 0 where
+  Leaf : SyntaxKind → ℕ → Entry
+  Node : SyntaxKind → ℕ → Entry
+
+-- what has a size is a node
+abbrev pub entry_by : ℕ → SyntaxKind → ℕ → Entry
+entry_by zero k n = Leaf k n
+entry_by (suc below) k n = Node k below
+
+-- what an element is that is not placed yet
+abbrev pub entry_of : Packed → Entry
+entry_of e = entry_by (size_in e) e.kind (place_in e)
+
+-- each leaf, and each node behind its children
+abbrev pub entries_of : Forest → List Entry
+entries_of empty = []
+entries_of (leaf k t f) = Leaf k (length t) ∷ entries_of f
+entries_of (node k c f) = entries_of c ++ (Node k (element_count c) ∷ entries_of f)
+
+-- the number of the first child, inside the innermost frame
+abbrev pub child_number : List Frame → ℕ
+child_number [] = 0
+child_number (fr ∷ frs) = fr.number + 1
+
+-- the number of the parent, inside the innermost frame
+abbrev pub parent_number : List Frame → Option ℕ
+parent_number [] = None
+parent_number (fr ∷ frs) = Some fr.number
+
+-- the entries of rows that stand side by side, the last one first
+abbrev pub entries_left : List Forest → List Entry
+entries_left [] = []
+entries_left (g ∷ gs) = entries_left gs ++ entries_of g
+
+-- the length of their text
+abbrev pub text_left : List Forest → ℕ
+text_left [] = 0
+text_left (g ∷ gs) = text_left gs + length (text_of g)
+
+-- what is kept of the node of a frame
+abbrev pub frame_kept : Frame → ℕ → Option ℕ → Packed
+frame_kept fr start parent = packed fr.kind start (parent_or_root parent) fr.size
+
+-- all elements: es in the innermost frame, and left of each frame a row that is not read
+abbrev pub around : List Frame → List Forest → List Packed → List Packed
+around [] gs es = es
+around (fr ∷ frs) [] es = es
+around (fr ∷ frs) (g ∷ gs) es =
+    around frs gs
+    (kept_from (child_number frs) (text_left gs) (parent_number frs) g ++ (frame_kept fr (text_left (g ∷ gs)) (parent_number frs) ∷ es))
+
+-- each frame knows how many entries stand left of it, and its number
+abbrev pub IsAligned : List Frame → List Forest → Type 0
+IsAligned [] [] = Unit {0}
+IsAligned [] (g ∷ gs) = ⊥
+IsAligned (fr ∷ frs) [] = ⊥
+IsAligned (fr ∷ frs) (g ∷ gs) =
+    (fr.first ≡ length (entries_left (g ∷ gs))) × (fr.number ≡ length (entries_left (g ∷ gs)) + length frs) × IsAligned frs gs
+
+-- an entry of the innermost frame is not read yet
+abbrev pub HasMore : List Frame → ℕ → Type 0
+HasMore [] n = Unit {0}
+HasMore (fr ∷ frs) n = fr.first ≢ n
+
+-- the innermost frame, whose entries are all read
+pub record IsReached (frames : List Frame) (n : ℕ) (fr : Frame) : Type 0 where
+  pub reached : fr.first ≡ n
+  pub innermost : reverse frames ≡ fr ∷ reverse (take (length frames - 1) frames)
+
+-- what is left to do: the trees that are not read, in the innermost frame and left of each frame
+pub record IsWork (forest : Forest) (prefix : List Entry) (offset : ℕ) (frames : List Frame) (done : List Packed) : Type 0 where
+  pub current : Forest
+  pub outer : List Forest
+  pub entries : prefix ≡ entries_left (current ∷ outer)
+  pub text : offset ≡ text_left (current ∷ outer)
+  pub aligned : IsAligned frames outer
+  pub elements :
+      around frames outer (kept_from (child_number frames) (text_left outer) (parent_number frames) current ++ done) ≡ kept_from 0 0 None forest

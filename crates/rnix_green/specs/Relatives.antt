@@ -1,0 +1,109 @@
+-- What stands around an element, beside it and inside it. Elements are known by their numbers in preorder.
+use Rattle.std.specs.Prelude.{◌≡◌, ◌<◌, ◌≤◌, ◌+◌, ℕ, length, Option, Some, None, true, false}
+use Rattle.rnix_green.specs.Tree.{Tree, items_of, item, Located, item_of}
+
+-- the first number above n of which P holds
+abbrev pub IsFirst : (ℕ → Type 0) → ℕ → Option ℕ → Type 0
+IsFirst P n None = (m : ℕ) → n < m → ¬ P m
+IsFirst P n (Some r) = (n < r) × P r × ((m : ℕ) → n < m → m < r → ¬ P m)
+
+-- the last number below n of which P holds
+abbrev pub IsLast : (ℕ → Type 0) → ℕ → Option ℕ → Type 0
+IsLast P n None = (m : ℕ) → m < n → ¬ P m
+IsLast P n (Some r) = (r < n) × P r × ((m : ℕ) → r < m → m < n → ¬ P m)
+
+-- an element of the same tree, if there is one, whose number is the one that P tells
+abbrev pub IsThat : Tree → (Option ℕ → Type 0) → Option Located → Type 0
+IsThat t P None = P None
+IsThat t P (Some r) = (r.tree ≡ t) × P (Some r.number)
+
+-- the element of a number, if there is one
+abbrev pub located : Tree → Option ℕ → Option Located
+located t None = None
+located t (Some n) = Some (record { tree = t; number = n })
+
+-- the element's parent
+abbrev pub parent_of : Located → Option Located
+parent_of e = located e.tree (item_of e).parent
+
+-- the number is that of a node
+pub record IsNodeIn (t : Tree) (m : ℕ) : Type 0 where
+  pub is_there : m < length (items_of t)
+  pub is_node : (item t m).is_node ≡ true
+
+-- the number is that of a token
+pub record IsTokenIn (t : Tree) (m : ℕ) : Type 0 where
+  pub is_there : m < length (items_of t)
+  pub is_token : (item t m).is_node ≡ false
+
+-- the number is that of an element right below e
+pub record IsChild (e : Located) (m : ℕ) : Type 0 where
+  pub is_there : m < length (items_of e.tree)
+  pub parent : (item e.tree m).parent ≡ Some e.number
+
+-- the number is that of an element with the parent of e; the root is alone
+pub record IsSibling (e : Located) (m : ℕ) : Type 0 where
+  pub is_there : m < length (items_of e.tree)
+  pub parent : (item e.tree m).parent ≡ (item_of e).parent
+
+-- the number is that of a token inside e
+pub record IsTokenInside (e : Located) (m : ℕ) : Type 0 where
+  pub low : e.number ≤ m
+  pub high : m ≤ e.number + (item_of e).below
+  pub token : IsTokenIn e.tree m
+
+-- the number is that of a node right below e
+abbrev pub IsChildNode : Located → ℕ → Type 0
+IsChildNode e m = IsChild e m × IsNodeIn e.tree m
+
+-- the number is that of a node with the parent of e
+abbrev pub IsSiblingNode : Located → ℕ → Type 0
+IsSiblingNode e m = IsSibling e m × IsNodeIn e.tree m
+
+-- the first element right below e
+abbrev pub IsFirstChild : Located → Option Located → Type 0
+IsFirstChild e = IsThat e.tree (IsFirst (IsChild e) e.number)
+
+-- the last element right below e
+abbrev pub IsLastChild : Located → Option Located → Type 0
+IsLastChild e = IsThat e.tree (IsLast (IsChild e) (length (items_of e.tree)))
+
+-- the first node right below e
+abbrev pub IsFirstChildNode : Located → Option Located → Type 0
+IsFirstChildNode e = IsThat e.tree (IsFirst (IsChildNode e) e.number)
+
+-- the last node right below e
+abbrev pub IsLastChildNode : Located → Option Located → Type 0
+IsLastChildNode e = IsThat e.tree (IsLast (IsChildNode e) (length (items_of e.tree)))
+
+-- the next element behind e with its parent
+abbrev pub IsNextSibling : Located → Option Located → Type 0
+IsNextSibling e = IsThat e.tree (IsFirst (IsSibling e) e.number)
+
+-- the element before e with its parent
+abbrev pub IsPrevSibling : Located → Option Located → Type 0
+IsPrevSibling e = IsThat e.tree (IsLast (IsSibling e) e.number)
+
+-- the next node behind e with its parent
+abbrev pub IsNextSiblingNode : Located → Option Located → Type 0
+IsNextSiblingNode e = IsThat e.tree (IsFirst (IsSiblingNode e) e.number)
+
+-- the node before e with its parent
+abbrev pub IsPrevSiblingNode : Located → Option Located → Type 0
+IsPrevSiblingNode e = IsThat e.tree (IsLast (IsSiblingNode e) e.number)
+
+-- the first token inside e
+abbrev pub IsFirstToken : Located → Option Located → Type 0
+IsFirstToken e = IsThat e.tree (IsFirst (IsTokenInside e) e.number)
+
+-- the last token inside e
+abbrev pub IsLastToken : Located → Option Located → Type 0
+IsLastToken e = IsThat e.tree (IsLast (IsTokenInside e) (length (items_of e.tree)))
+
+-- the next token of the tree behind the number of e
+abbrev pub IsNextToken : Located → Option Located → Type 0
+IsNextToken e = IsThat e.tree (IsFirst (IsTokenIn e.tree) e.number)
+
+-- the token of the tree before e
+abbrev pub IsPrevToken : Located → Option Located → Type 0
+IsPrevToken e = IsThat e.tree (IsLast (IsTokenIn e.tree) e.number)

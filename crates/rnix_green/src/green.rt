@@ -1,0 +1,148 @@
+//! A tree that does not change: its elements in preorder beside one text.
+
+ghost use Rattle.std.specs.Bool.{Decides};
+ghost use Rattle.std.specs.Prelude.{◌≡◌};
+ghost use Rattle.rnix_green.specs.Kept.{parent_kept};
+
+use crate::packed::Packed;
+use rnix_kinds::SyntaxKind;
+use std::alloc::AllocError;
+use std::marker::Model;
+
+/// An element: a node or a token.
+#[derive(Clone, Copy)]
+pub struct Element {
+    pub kind: SyntaxKind,
+    pub is_node: bool,
+    pub start: usize,
+    pub end: usize,
+    pub parent: Option<usize>,
+    /// How many elements are inside.
+    pub below: usize,
+}
+
+/// A whole tree. Nodes and tokens borrow it.
+#[derive(Drop)]
+pub struct GreenNode {
+    elements: Vec<Packed>,
+    text: String,
+}
+
+impl Model for GreenNode {
+    ghost use Rattle.std.specs.Prelude.{string_bytes};
+    ghost use Rattle.rnix_green.specs.Tree.{Tree, tree_code};
+
+    ghost Value = { Tree };
+
+    ghost coded = { tree_code };
+
+    ghost use Rattle.rnix_green.specs.Kept.{tree_from, IsKept};
+
+    ghost view = { λ g. tree_from g.elements.items (string_bytes g.text) };
+
+    ghost invariant = { λ g. IsKept (tree_from g.elements.items (string_bytes g.text)) g.elements.items (string_bytes g.text) };
+}
+
+// The parent that is kept of the element of a number; the first has none.
+fn parent_kept(number: usize, parent: usize) -> Option<usize>
+    ensures { result ≡ parent_kept number parent }
+{
+    if number == 0 { None } else { Some(parent) }
+}
+
+// Whether two lists hold equal elements.
+fn same_elements(a: &[Packed], b: &[Packed]) -> bool
+    ensures { Decides result (a.now ≡ b.now) }
+{
+    a == b
+}
+
+impl GreenNode {
+    ghost use Rattle.std.specs.Prelude.{◌≡◌, ◌<◌, ◌≤◌, ◌+◌, ◌^◌, ℕ, length, IfOk, string_bytes};
+    ghost use Rattle.rnix_green.specs.Tree.{item, items_of, text_at};
+    ghost use Rattle.rnix_green.specs.Kept.{item_from, tree_from, start_at, IsKept};
+
+    pub(crate) fn from_parts(elements: Vec<Packed>, text: String) -> Self
+        requires { IsKept (tree_from elements.items (string_bytes text)) elements.items (string_bytes text) }
+        ensures { result ≡ tree_from elements.items (string_bytes text) }
+    {
+        GreenNode { elements, text }
+    }
+
+    /// A copy of the whole tree.
+    pub fn try_clone(&self) -> Result<GreenNode, AllocError>
+        ensures { IfOk result (λ tree. tree ≡ self.now) }
+    {
+        let elements = self.elements.clone()?;
+        let text = self.text.clone()?;
+        Ok(GreenNode { elements, text })
+    }
+
+    // Where the element of a number starts, or the end of the text where there is none.
+    fn start_at(&self, number: usize) -> usize
+        ensures { result ≡ start_at self.now number }
+    {
+        if number < self.elements.len() {
+            self.elements[number].place()
+        } else {
+            self.text.len()
+        }
+    }
+
+    /// The element of a number.
+    pub fn element(&self, number: usize) -> Element
+        requires { number < length (items_of self.now) }
+        ensures is { item_from result ≡ item self.now number }
+        ensures ordered { result.start ≤ result.end }
+        ensures inside { number + 1 + result.below ≤ length (items_of self.now) }
+        ensures next_fits { number + 1 + result.below < 2 ^ 63 }
+    {
+        let element = self.elements[number];
+        let size = element.size();
+        let below = size.saturating_sub(1);
+        Element {
+            kind: element.kind(),
+            is_node: size > 0,
+            start: element.place(),
+            end: self.start_at(number + 1 + below),
+            parent: parent_kept(number, element.parent()),
+            below,
+        }
+    }
+
+    /// Whether the trees are equal as values.
+    pub fn is_same(&self, other: &GreenNode) -> bool
+        ensures { Decides result (self.now ≡ other.now) }
+    {
+        self.text == other.text && same_elements(&self.elements, &other.elements)
+    }
+
+    /// Where the elements from `from` up to `end` begin to start at the offset or behind it.
+    pub fn first_from(&self, from: usize, end: usize, offset: usize) -> usize
+        requires ordered { from ≤ end }
+        requires there { end ≤ length (items_of self.now) }
+        ensures low { from ≤ result }
+        ensures high { result ≤ end }
+        ensures before { (m : ℕ) → from ≤ m → m < result → (item self.now m).start < offset }
+        ensures behind { (m : ℕ) → result ≤ m → m < end → offset ≤ (item self.now m).start }
+    {
+        from + self.elements[from..end].partition_point(|element| element.place() < offset)
+    }
+
+    /// How many elements the tree has.
+    pub fn element_count(&self) -> usize
+        ensures value { result ≡ length (items_of self.now) }
+        ensures fits { result < 2 ^ 64 }
+    {
+        self.elements.len()
+    }
+
+    /// The text of the element of a number.
+    pub fn text_at(&self, number: usize) -> &str
+        requires { number < length (items_of self.now) }
+        ensures { result.now ≡ text_at record { tree = self.now; number = number } }
+    {
+        let element = self.element(number);
+        &self.text.as_str()[element.start..element.end]
+    }
+}

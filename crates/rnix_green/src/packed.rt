@@ -1,0 +1,109 @@
+//! An element as a tree keeps it, in 16 bytes.
+
+ghost use Rattle.std.specs.Prelude.{◌≡◌, ◌+◌, ◌<◌, ◌≤◌, OnOk, OnErr};
+ghost use Rattle.rnix_green.specs.Equality.{same_kind};
+ghost use Rattle.rnix_green.specs.SameElements.{same_numbers};
+ghost use Rattle.rnix_green.specs.Packed.{limit, word_of, packed, place_in, parent_in, size_in};
+
+use rnix_kinds::SyntaxKind;
+use std::alloc::AllocError;
+
+/// A text has fewer bytes and a tree fewer elements: what has more is refused as memory is.
+const LIMIT: usize = 1 << 32;
+
+/// Three numbers below the limit, and a kind.
+#[derive(Clone, Copy)]
+pub(crate) struct Packed {
+    place: u32,
+    parent: u32,
+    size: u32,
+    kind: SyntaxKind,
+}
+
+const _: () = prove!(size_of::<Packed>() == 16);
+
+fn word(number: usize) -> u32
+    ensures { result ≡ word_of number }
+{
+    (number % LIMIT) as u32
+}
+
+/// Refuses more than fits below the limit.
+pub(crate) fn room(held: usize, more: usize) -> Result<(), AllocError>
+    ensures ok { OnOk result (held + more < limit) }
+    ensures err { OnErr result (limit ≤ held + more) }
+{
+    if held < LIMIT && more < LIMIT - held {
+        Ok(())
+    } else {
+        Err(AllocError)
+    }
+}
+
+impl Packed {
+    /// An element of so many elements, itself one of them where it is a node; a token has 0.
+    pub(crate) fn new(kind: SyntaxKind, place: usize, parent: usize, size: usize) -> Packed
+        ensures { result ≡ packed kind place parent size }
+    {
+        Packed {
+            place: word(place),
+            parent: word(parent),
+            size: word(size),
+            kind,
+        }
+    }
+
+    pub(crate) fn kind(&self) -> SyntaxKind
+        ensures { result ≡ self.now.kind }
+    {
+        self.kind
+    }
+
+    /// The length of a token's text until the element is placed, and then where it starts.
+    pub(crate) fn place(&self) -> usize
+        ensures { result ≡ place_in self.now }
+    {
+        self.place as usize
+    }
+
+    /// The number of the parent; 0 at the root.
+    pub(crate) fn parent(&self) -> usize
+        ensures { result ≡ parent_in self.now }
+    {
+        self.parent as usize
+    }
+
+    /// How many elements a node has, itself one of them; 0 at a token.
+    pub(crate) fn size(&self) -> usize
+        ensures { result ≡ size_in self.now }
+    {
+        self.size as usize
+    }
+}
+
+// Whether the kinds are one.
+fn same_kind(a: SyntaxKind, b: SyntaxKind) -> bool
+    ensures { result ≡ same_kind a b }
+{
+    a == b
+}
+
+// Whether the numbers are.
+fn same_numbers(a: &Packed, b: &Packed) -> bool
+    ensures { result ≡ same_numbers a.now b.now }
+{
+    a.place == b.place && a.parent == b.parent && a.size == b.size
+}
+
+impl PartialEq for Packed {
+    ghost use Rattle.std.specs.Cmp.{partial_equiv_from_equiv};
+    ghost use Rattle.rnix_green.specs.SameElements.{same_element, elements_equal};
+
+    ghost eq = { same_element };
+
+    ghost laws = { partial_equiv_from_equiv elements_equal };
+
+    fn eq(&self, other: &Packed) -> bool {
+        same_kind(self.kind, other.kind) && same_numbers(self, other)
+    }
+}

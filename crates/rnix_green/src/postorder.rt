@@ -1,0 +1,90 @@
+//! From the order in which nodes close to the order in which they open.
+
+ghost use Rattle.std.specs.Prelude.{◌≡◌, map, reverse, IfOk, None, MatchOption};
+ghost use Rattle.rnix_green.specs.Forest.{text_of};
+ghost use Rattle.rnix_green.specs.Entries.{made};
+ghost use Rattle.rnix_green.specs.Kept.{parent_or_root, kept_from};
+ghost use Rattle.rnix_green.specs.Postorder.{entry_of, entries_of, parent_number, HasMore, IsReached};
+
+use crate::packed::Packed;
+use rnix_kinds::SyntaxKind;
+use std::alloc::AllocError;
+
+// A node whose children are being placed, the last one first: its number, and which entry is its first.
+#[derive(Clone, Copy)]
+pub(crate) struct Frame {
+    kind: SyntaxKind,
+    size: usize,
+    number: usize,
+    first: usize,
+}
+
+// The number of the innermost node; 0 where there is none.
+fn innermost_number(frames: &[Frame]) -> usize
+    ensures { result ≡ parent_or_root (parent_number (reverse frames.now)) }
+{
+    match frames.last() {
+        Some(frame) => frame.number,
+        None => 0,
+    }
+}
+
+// The innermost frame, where all its entries are read.
+fn reached(frames: &[Frame], left: usize) -> Option<Frame>
+    ensures { MatchOption result (HasMore (reverse frames.now) left) (λ frame. IsReached frames.now left frame) }
+{
+    match frames.last() {
+        Some(frame) => {
+            if frame.first == left {
+                Some(*frame)
+            } else {
+                None
+            }
+        }
+        None => None,
+    }
+}
+
+/// Puts each node before its children, by one pass from the last entry to the first. Entries that are left stand in front, placed
+/// elements at the end, and between them is one free place for each frame.
+pub(crate) fn in_preorder(mut elements: Vec<Packed>, text: &str) -> Result<Vec<Packed>, AllocError>
+    requires entries_are { map entry_of elements.items ≡ entries_of (made text.now elements.items) }
+    requires text_is { text.now ≡ text_of (made text.now elements.items) }
+    ensures { IfOk result (λ v. v.items ≡ kept_from 0 0 None (made text.now elements.items)) }
+{
+    let mut frames: Vec<Frame> = Vec::new(*elements.allocator());
+    let mut offset = text.len();
+    let mut left = elements.len();
+    'elements: loop {
+        match reached(&frames, left) {
+            Some(frame) => {
+                frames.truncate(frames.len() - 1);
+                let parent = innermost_number(&frames);
+                elements[left + frames.len()] = Packed::new(frame.kind, offset, parent, frame.size);
+            }
+            None => {
+                if left == 0 {
+                    break;
+                }
+                left -= 1;
+                let entry = elements[left];
+                let (kind, size) = (entry.kind(), entry.size());
+                if size > 0 {
+                    let first = left + 1 - size;
+                    let number = first + frames.len();
+                    frames.push(Frame {
+                        kind,
+                        size,
+                        number,
+                        first,
+                    })?;
+                } else {
+                    offset -= entry.place();
+                    let parent = innermost_number(&frames);
+                    elements[left + frames.len()] = Packed::new(kind, offset, parent, 0);
+                }
+            }
+        }
+    }
+    Ok(elements)
+}
