@@ -1,7 +1,7 @@
 //! From a node outwards.
 
-use rnix_green::GreenNode;
 use crate::node::SyntaxNode;
+use rnix_green::GreenNode;
 use std::marker::Model;
 
 /// A node and the nodes around it, the innermost first.

@@ -7,8 +7,8 @@ ghost use Rattle.rnix_green.specs.Range.{bounds_of};
 
 use crate::element::{NodeOrToken, SyntaxElement, WalkEvent};
 use crate::node::SyntaxNode;
-use rnix_green::TextRange;
 use crate::token::SyntaxToken;
+use rnix_green::TextRange;
 use rnix_kinds::SyntaxKind;
 use std::fmt;
 

@@ -1,8 +1,8 @@
 //! An element and all that is inside it, in preorder.
 
 use crate::element::{NodeOrToken, SyntaxElement, element_at};
-use rnix_green::GreenNode;
 use crate::node::SyntaxNode;
+use rnix_green::GreenNode;
 use std::marker::Model;
 
 /// A node and all nodes and tokens inside it, a node before what is inside it.

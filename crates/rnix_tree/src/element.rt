@@ -6,10 +6,9 @@ ghost use Rattle.rnix_green.specs.Tree.{items_of, item_of, extent_of};
 ghost use Rattle.rnix_green.specs.Walk.{spot_at};
 ghost use Rattle.rnix_tree.specs.Spots.{spot_of, place_of, node_in, token_in, element_in, MapsEvent};
 
-use rnix_green::GreenNode;
 use crate::node::SyntaxNode;
-use rnix_green::TextRange;
 use crate::token::SyntaxToken;
+use rnix_green::{GreenNode, TextRange};
 use rnix_kinds::SyntaxKind;
 
 /// A node or a token.

@@ -6,8 +6,8 @@ ghost use Rattle.rnix_tree.specs.Same.{hashed_at};
 
 use crate::element::NodeOrToken;
 use crate::node::SyntaxNode;
-use rnix_green::TextRange;
 use crate::token::SyntaxToken;
+use rnix_green::TextRange;
 use rnix_kinds::SyntaxKind;
 use std::fmt;
 use std::hash::{Hash, Hasher};

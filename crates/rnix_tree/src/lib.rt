@@ -27,7 +27,7 @@ pub use nodes::{Preorder, SyntaxNodeChildren};
 pub use offset::TokenAtOffset;
 pub use pointer::SyntaxNodePtr;
 pub use printing::dump;
+pub use rnix_green::{Checkpoint, GreenNode, GreenNodeBuilder, TextRange, TextSize};
 pub use siblings::{Direction, Siblings, SiblingsWithTokens};
 pub use token::SyntaxToken;
 pub use walk::{PreorderWithTokens, SyntaxElementChildren};
-pub use rnix_green::{Checkpoint, GreenNode, GreenNodeBuilder, TextRange, TextSize};

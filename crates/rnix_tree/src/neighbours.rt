@@ -7,10 +7,10 @@ ghost use Rattle.rnix_tree.specs.Around.{IsThereIfAny, IsNodeIfAny, IsTokenIfAny
 
 use crate::ancestors::Ancestors;
 use crate::element::{NodeOrToken, SyntaxElement, element_at};
-use rnix_green::GreenNode;
 use crate::node::SyntaxNode;
 use crate::relatives;
 use crate::token::SyntaxToken;
+use rnix_green::GreenNode;
 
 // The node of a number, if there is one.
 fn node_if<'t>(green: &'t GreenNode, number: Option<usize>) -> Option<SyntaxNode<'t>>

@@ -9,10 +9,9 @@ ghost use Rattle.rnix_green.specs.Walk.{children_of, preorder_of, nodes_in, elem
 
 use crate::ancestors::Ancestors;
 use crate::descendants::{Descendants, DescendantsWithTokens};
-use rnix_green::GreenNode;
 use crate::nodes::{Preorder, SyntaxNodeChildren};
-use rnix_green::TextRange;
 use crate::walk::{PreorderWithTokens, SyntaxElementChildren};
+use rnix_green::{GreenNode, TextRange};
 use rnix_kinds::SyntaxKind;
 use std::marker::Model;
 

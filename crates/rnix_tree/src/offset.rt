@@ -5,10 +5,9 @@ ghost use Rattle.rnix_green.specs.Tree.{item, item_of};
 ghost use Rattle.rnix_green.specs.Relatives.{IsNodeIn};
 ghost use Rattle.rnix_tree.specs.Offset.{AreTouched, IsHolding, left_of, right_of, ForTokens, MapsTokens};
 
-use rnix_green::GreenNode;
 use crate::node::SyntaxNode;
-use rnix_green::TextSize;
 use crate::token::SyntaxToken;
+use rnix_green::{GreenNode, TextSize};
 use std::mem;
 
 /// The tokens at an offset: two where one ends and the other begins.

@@ -7,9 +7,8 @@ ghost use Rattle.rnix_green.specs.Tree.{Located, IsNodeAt};
 ghost use Rattle.rnix_green.specs.Kept.{item_from};
 ghost use Rattle.rnix_tree.specs.Pointer.{address_of, address_in, located_at, fits, HasNode};
 
-use rnix_green::{Element, GreenNode};
 use crate::node::SyntaxNode;
-use rnix_green::TextRange;
+use rnix_green::{Element, GreenNode, TextRange};
 use rnix_kinds::SyntaxKind;
 
 /// Where a node stands: its number in preorder, its kind and its range. It outlives the tree, and finds the node again in the same tree

@@ -8,8 +8,8 @@ ghost use Rattle.rnix_tree.specs.Spots.{place_of};
 
 use crate::element::{SyntaxElement, WalkEvent};
 use crate::node::SyntaxNode;
-use rnix_green::TextRange;
 use itoa::write_digits;
+use rnix_green::TextRange;
 use std::io;
 use std::io::Write;
 

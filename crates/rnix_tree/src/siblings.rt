@@ -8,10 +8,10 @@ ghost use Rattle.rnix_tree.specs.Around.{IsThereIfAny};
 ghost use Rattle.rnix_tree.specs.Siblings.{siblings_of, index_of, IsBeside};
 
 use crate::element::{NodeOrToken, SyntaxElement, element_at};
-use rnix_green::GreenNode;
 use crate::node::SyntaxNode;
 use crate::relatives;
 use crate::token::SyntaxToken;
+use rnix_green::GreenNode;
 use std::marker::Model;
 
 /// Which way to go along siblings.

@@ -4,8 +4,7 @@ ghost use Rattle.std.specs.Prelude.{◌≡◌};
 ghost use Rattle.rnix_green.specs.Range.{bounds_of};
 ghost use Rattle.rnix_green.specs.Tree.{item_of, extent_of, text_at};
 
-use rnix_green::GreenNode;
-use rnix_green::TextRange;
+use rnix_green::{GreenNode, TextRange};
 use rnix_kinds::SyntaxKind;
 use std::marker::Model;
 
