@@ -1,6 +1,14 @@
-//! Tests of typed nodes, of their sums, and of uses of them.
+//! Tests of typed nodes, of their sums and second handles, of uses of them and recursions over them, and of the names that a user writes.
 #![tactic(auto)]
 
+#[cfg(test)]
+mod handles;
+#[cfg(test)]
+mod kept;
+#[cfg(test)]
+mod names;
+#[cfg(test)]
+mod recursion;
 #[cfg(test)]
 mod sums;
 #[cfg(test)]

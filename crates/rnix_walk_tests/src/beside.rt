@@ -1,6 +1,8 @@
 //! Along the siblings of a node.
 
-use rnix::{Direction, Root, SyntaxElement, SyntaxKind, SyntaxNode};
+use crate::parsed::Parsed;
+use rnix_kinds::SyntaxKind;
+use rnix_tree::{Direction, SyntaxElement, SyntaxNode};
 use std::process::Abort;
 use std::test::Fail;
 
@@ -45,7 +47,7 @@ fn second<'t>(root: &SyntaxNode<'t>) -> Option<SyntaxNode<'t>> {
 
 #[test]
 fn siblings_stand_on_both_sides(rt: HostRuntime) -> Result<(), Fail> {
-    let read = Root::parse(rt.alloc(), "[1 2 3]")?;
+    let read = Parsed::new(rt.alloc(), "[1 2 3]")?;
     if let Some(two) = second(&read.syntax()) {
         assert_beside(&rt, &two);
         assert_kinds(&rt, &two);

@@ -1,6 +1,9 @@
 //! What an element answers, and the elements that hold a range or an offset.
 
-use rnix::{Root, SyntaxElement, SyntaxKind, SyntaxNode, TextRange};
+use crate::parsed::Parsed;
+use rnix_green::TextRange;
+use rnix_kinds::SyntaxKind;
+use rnix_tree::{SyntaxElement, SyntaxNode};
 use std::process::Abort;
 use std::test::Fail;
 
@@ -21,7 +24,7 @@ fn first<'t>(root: &SyntaxNode<'t>) -> Option<SyntaxElement<'t>> {
 
 #[test]
 fn an_element_answers_as_its_node_does(rt: HostRuntime) -> Result<(), Fail> {
-    let read = Root::parse(rt.alloc(), "a b")?;
+    let read = Parsed::new(rt.alloc(), "a b")?;
     if let Some(element) = first(&read.syntax()) {
         assert_first(&rt, &element);
     } else {
@@ -40,7 +43,7 @@ fn is_covered(root: &SyntaxNode<'_>, start: usize, end: usize, kind: SyntaxKind)
 
 #[test]
 fn the_innermost_element_covers_a_range(rt: HostRuntime) -> Result<(), Fail> {
-    let read = Root::parse(rt.alloc(), "[1 23]")?;
+    let read = Parsed::new(rt.alloc(), "[1 23]")?;
     let root = read.syntax();
     assert!(rt; is_covered(&root, 4, 4, SyntaxKind::TOKEN_INTEGER));
     assert!(rt; is_covered(&root, 3, 3, SyntaxKind::NODE_LIST));
@@ -51,7 +54,7 @@ fn the_innermost_element_covers_a_range(rt: HostRuntime) -> Result<(), Fail> {
 
 #[test]
 fn no_token_stands_outside(rt: HostRuntime) -> Result<(), Fail> {
-    let read = Root::parse(rt.alloc(), "a b")?;
+    let read = Parsed::new(rt.alloc(), "a b")?;
     let root = read.syntax();
     assert_eq!(rt; root.token_at_offset(4).count(), 0);
     assert_eq!(rt; root.token_at_offset(3).count(), 1);

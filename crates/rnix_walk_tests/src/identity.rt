@@ -1,6 +1,8 @@
 //! Equality and hashes of nodes and tokens.
 
-use rnix::{Parse, Root, SyntaxKind, SyntaxNode, SyntaxToken};
+use crate::parsed::Parsed;
+use rnix_kinds::SyntaxKind;
+use rnix_tree::{SyntaxNode, SyntaxToken};
 use std::alloc::Global;
 use std::hash::{DefaultHasher, Hash, Hasher};
 use std::process::Abort;
@@ -14,7 +16,7 @@ fn hash_of(node: &SyntaxNode<'_>) -> u64 {
 }
 
 // The first name in a tree.
-fn name_in(read: &Parse) -> Option<SyntaxNode<'_>> {
+fn name_in(read: &Parsed) -> Option<SyntaxNode<'_>> {
     for node in read.syntax().descendants() {
         if node.kind() == SyntaxKind::NODE_IDENT {
             return Some(node);
@@ -33,8 +35,8 @@ fn assert_equal(rt: &impl Abort, a: &SyntaxNode<'_>, b: &SyntaxNode<'_>) {
 
 #[test]
 fn two_readings_of_a_text_are_equal(rt: HostRuntime) -> Result<(), Fail> {
-    let a = Root::parse(rt.alloc(), "1 + 2 * 3")?;
-    let b = Root::parse(rt.alloc(), "1 + 2 * 3")?;
+    let a = Parsed::new(rt.alloc(), "1 + 2 * 3")?;
+    let b = Parsed::new(rt.alloc(), "1 + 2 * 3")?;
     assert_equal(&rt, &a.syntax(), &b.syntax());
     Ok(())
 }
@@ -42,8 +44,8 @@ fn two_readings_of_a_text_are_equal(rt: HostRuntime) -> Result<(), Fail> {
 #[test]
 fn names_of_different_trees_are_not_equal(rt: HostRuntime) -> Result<(), Fail> {
     let (short, long) = (
-        Root::parse(rt.alloc(), "a")?,
-        Root::parse(rt.alloc(), "a ")?,
+        Parsed::new(rt.alloc(), "a")?,
+        Parsed::new(rt.alloc(), "a ")?,
     );
     let (a, b) = (name_in(&short), name_in(&long));
     assert!(rt; a.is_some() && b.is_some() && a != b);
@@ -64,7 +66,7 @@ fn token_prints(alloc: Global, token: &SyntaxToken<'_>, wanted: &str) -> Result<
 
 #[test]
 fn a_node_prints_its_text(rt: HostRuntime) -> Result<(), Fail> {
-    let read = Root::parse(rt.alloc(), "f  x")?;
+    let read = Parsed::new(rt.alloc(), "f  x")?;
     assert!(rt; prints(rt.alloc(), &read.syntax(), "f  x")?);
     if let Some(token) = read.syntax().last_token() {
         assert!(rt; token_prints(rt.alloc(), &token, "x")?);

@@ -1,4 +1,4 @@
-//! Tests of walks over trees that were read, of recursions, of what stands around an element, of second handles, and of the names that a user writes.
+//! Tests of trees that were read, without typed nodes: walks, what stands around an element, errors, deep texts.
 #![tactic(auto)]
 
 #[cfg(test)]
@@ -6,16 +6,14 @@ mod beside;
 #[cfg(test)]
 mod elements;
 #[cfg(test)]
-mod handles;
+mod errors;
 #[cfg(test)]
 mod identity;
 #[cfg(test)]
-mod kept;
-#[cfg(test)]
-mod names;
-#[cfg(test)]
-mod recursion;
+mod parsed;
 #[cfg(test)]
 mod skipping;
+#[cfg(test)]
+mod trees;
 #[cfg(test)]
 mod walks;

@@ -1,6 +1,8 @@
 //! Walks that leave out what is inside some nodes.
 
-use rnix::{Root, SyntaxKind, SyntaxNode, WalkEvent};
+use crate::parsed::Parsed;
+use rnix_kinds::SyntaxKind;
+use rnix_tree::{SyntaxNode, WalkEvent};
 use std::test::Fail;
 
 // How many nodes are entered where nodes of the kind are not looked into.
@@ -20,7 +22,7 @@ fn entered_outside(node: &SyntaxNode<'_>, kind: SyntaxKind) -> usize {
 
 #[test]
 fn what_is_inside_a_node_is_left_out(rt: HostRuntime) -> Result<(), Fail> {
-    let read = Root::parse(rt.alloc(), "[1 (2 + 3) 4]")?;
+    let read = Parsed::new(rt.alloc(), "[1 (2 + 3) 4]")?;
     let root = read.syntax();
     assert_eq!(rt; entered_outside(&root, SyntaxKind::NODE_ERROR), 8);
     assert_eq!(rt; entered_outside(&root, SyntaxKind::NODE_PAREN), 5);

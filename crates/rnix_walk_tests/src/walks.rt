@@ -1,16 +1,16 @@
 //! Walks over trees that were read, and tokens at an offset.
 
-use rnix::{
-    NodeOrToken, Parse, Root, SyntaxElement, SyntaxKind, SyntaxNode, SyntaxToken, TextRange,
-    TokenAtOffset, WalkEvent,
-};
+use crate::parsed::Parsed;
+use rnix_green::TextRange;
+use rnix_kinds::SyntaxKind;
+use rnix_tree::{NodeOrToken, SyntaxElement, SyntaxNode, SyntaxToken, TokenAtOffset, WalkEvent};
 use std::alloc::{AllocError, Global};
 use std::process::Abort;
 use std::test::Fail;
 
 // The first node of a kind at a place, in preorder.
 fn node_at<'t>(
-    read: &'t Parse,
+    read: &'t Parsed,
     kind: SyntaxKind,
     start: usize,
     end: usize,
@@ -56,8 +56,8 @@ fn texts_at(node: &SyntaxNode<'_>, offset: usize) -> Option<(usize, usize)> {
 }
 
 // A sum of a number and a product.
-fn sum(alloc: Global) -> Result<Parse, Fail> {
-    Ok(Root::parse(alloc, "1 + 2 * 3")?)
+fn sum(alloc: Global) -> Result<Parsed, Fail> {
+    Ok(Parsed::new(alloc, "1 + 2 * 3")?)
 }
 
 // Asserts how many steps each walk over the sum has.
@@ -94,7 +94,7 @@ fn texts_in(
     text: &str,
     offset: usize,
 ) -> Result<Option<(usize, usize)>, AllocError> {
-    let read = Root::parse(alloc, text)?;
+    let read = Parsed::new(alloc, text)?;
     Ok(texts_at(&read.syntax(), offset))
 }
 
@@ -128,7 +128,7 @@ fn tokens_of_a_node_stand_at_offsets(rt: HostRuntime) -> Result<(), Fail> {
 
 #[test]
 fn one_of_two_tokens_is_taken(rt: HostRuntime) -> Result<(), Fail> {
-    let read = Root::parse(rt.alloc(), "a b")?;
+    let read = Parsed::new(rt.alloc(), "a b")?;
     let root = read.syntax();
     if root.text_range() == TextRange::new(0, 3) {
         let left = root.token_at_offset(1).left_biased();

@@ -1,7 +1,7 @@
 use Rattle.std.proofs.Common.{◌≤◌}
 use Rattle.rnix.specs.Inside.{inside_count, interpolations_count}
 use Rattle.rnix.specs.Sums.{expr_node}
-use Rattle.rnix_walk_tests.proofs.recursion.+nested_strings.Given as goal
+use Rattle.rnix_node_tests.proofs.recursion.+nested_strings.Given as goal
 
 abbrev pub decreases-nested_strings : goal.decreases-nested_strings
 decreases-nested_strings l = inside_count (expr_node l.expr.now)

@@ -1,10 +1,10 @@
 //! Trees: built by hand and read from a text.
 
-use rnix::{
-    GreenNode, GreenNodeBuilder, NodeOrToken, Parse, ParseError, Root, SyntaxKind, SyntaxNode,
-    TextRange, TokenSet, WalkEvent,
-};
-use rnix_print::dump;
+use crate::parsed::Parsed;
+use rnix_grammar::ParseError;
+use rnix_green::{GreenNode, GreenNodeBuilder, TextRange};
+use rnix_kinds::{SyntaxKind, TokenSet};
+use rnix_tree::{NodeOrToken, SyntaxNode, WalkEvent, dump};
 use std::alloc::Global;
 use std::process::Abort;
 use std::test::Fail;
@@ -53,7 +53,7 @@ fn a_copied_tree_prints_the_same(rt: HostRuntime) -> Result<(), Fail> {
 }
 
 // The literal that starts at an offset.
-fn literal_at(read: &Parse, start: usize) -> Option<SyntaxNode<'_>> {
+fn literal_at(read: &Parsed, start: usize) -> Option<SyntaxNode<'_>> {
     for event in read.syntax().preorder_with_tokens() {
         if let WalkEvent::Enter(NodeOrToken::Node(node)) = event {
             if node.kind() == SyntaxKind::NODE_LITERAL && node.text_range().start() == start {
@@ -66,7 +66,7 @@ fn literal_at(read: &Parse, start: usize) -> Option<SyntaxNode<'_>> {
 
 #[test]
 fn a_node_inside_prints_from_its_place(rt: HostRuntime) -> Result<(), Fail> {
-    let read = Root::parse(rt.alloc(), "1 + 2 * 3")?;
+    let read = Parsed::new(rt.alloc(), "1 + 2 * 3")?;
     let two = literal_at(&read, 4);
     assert!(rt; two.is_some());
     if let Some(two) = two {
@@ -79,7 +79,7 @@ fn a_node_inside_prints_from_its_place(rt: HostRuntime) -> Result<(), Fail> {
 
 #[test]
 fn operators_are_found(rt: HostRuntime) -> Result<(), Fail> {
-    let read = Root::parse(rt.alloc(), "f (1 + x)")?;
+    let read = Parsed::new(rt.alloc(), "f (1 + x)")?;
     let operators: TokenSet = SyntaxKind::TOKEN_ADD | SyntaxKind::TOKEN_MUL;
     let mut found: u8 = 0;
     for event in read.syntax().preorder_with_tokens() {
@@ -96,13 +96,13 @@ fn operators_are_found(rt: HostRuntime) -> Result<(), Fail> {
 #[test]
 fn parentheses_nest_up_to_the_limit(rt: HostRuntime) -> Result<(), Fail> {
     let text = nested(rt.alloc(), 511)?;
-    let read = Root::parse(rt.alloc(), text.as_str())?;
+    let read = Parsed::new(rt.alloc(), text.as_str())?;
     assert!(rt; read.errors().is_empty());
     Ok(())
 }
 
 // Asserts that a text of 512 open parentheses nests too deep: that is the first of its 513 errors.
-fn assert_too_deep(rt: &impl Abort, read: &Parse) {
+fn assert_too_deep(rt: &impl Abort, read: &Parsed) {
     assert!(rt; read.errors().first() == Some(&ParseError::RecursionLimitExceeded));
     assert_eq!(rt; read.errors().len(), 513);
 }
@@ -110,7 +110,7 @@ fn assert_too_deep(rt: &impl Abort, read: &Parse) {
 #[test]
 fn parentheses_past_the_limit_are_errors(rt: HostRuntime) -> Result<(), Fail> {
     let text = nested(rt.alloc(), 512)?;
-    let read = Root::parse(rt.alloc(), text.as_str())?;
+    let read = Parsed::new(rt.alloc(), text.as_str())?;
     assert_too_deep(&rt, &read);
     assert_eq!(rt; read.syntax().text(), text.as_str());
     Ok(())
@@ -120,7 +120,7 @@ fn parentheses_past_the_limit_are_errors(rt: HostRuntime) -> Result<(), Fail> {
 fn open_parentheses_end_with_the_text(rt: HostRuntime) -> Result<(), Fail> {
     let mut text = String::new(rt.alloc());
     repeated(&mut text, "(", 512)?;
-    let read = Root::parse(rt.alloc(), text.as_str())?;
+    let read = Parsed::new(rt.alloc(), text.as_str())?;
     assert_too_deep(&rt, &read);
     assert!(rt; read.syntax().text_range() == TextRange::new(0, 512));
     Ok(())

@@ -1,6 +1,6 @@
 use Rattle.std.proofs.Common.{◌≤◌}
 use Rattle.rnix.specs.Inside.{inside_count, nodes_count}
-use Rattle.rnix_walk_tests.proofs.recursion.+nested_sets.Given as goal
+use Rattle.rnix_node_tests.proofs.recursion.+nested_sets.Given as goal
 
 abbrev pub decreases-nested_sets : goal.decreases-nested_sets
 decreases-nested_sets l = inside_count l.node.now

@@ -1,6 +1,6 @@
 use Rattle.std.proofs.Common.{◌≤◌}
 use Rattle.rnix.specs.Inside.{inside_count, spots_count}
-use Rattle.rnix_walk_tests.proofs.recursion.+tokens_within.Given as goal
+use Rattle.rnix_node_tests.proofs.recursion.+tokens_within.Given as goal
 
 abbrev pub decreases-tokens_within : goal.decreases-tokens_within
 decreases-tokens_within l = inside_count l.node.now

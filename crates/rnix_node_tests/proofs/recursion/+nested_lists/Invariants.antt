@@ -2,7 +2,7 @@ use Rattle.std.proofs.Common.{◌≤◌}
 use Rattle.rnix.specs.Inside.{inside_count, nodes_count, those_of}
 use Rattle.rnix.specs.NodeKinds.{is_expr}
 use Rattle.rnix.specs.Sums.{expr_node}
-use Rattle.rnix_walk_tests.proofs.recursion.+nested_lists.Given as goal
+use Rattle.rnix_node_tests.proofs.recursion.+nested_lists.Given as goal
 
 abbrev pub decreases-nested_lists : goal.decreases-nested_lists
 decreases-nested_lists l = inside_count (expr_node l.expr.now)

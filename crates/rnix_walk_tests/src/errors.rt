@@ -1,6 +1,9 @@
 //! What errors say, and which are equal.
 
-use rnix::{ParseError, Root, SyntaxKind, TextRange};
+use crate::parsed::Parsed;
+use rnix_grammar::ParseError;
+use rnix_green::TextRange;
+use rnix_kinds::SyntaxKind;
 use std::alloc::{AllocError, Global};
 use std::test::Fail;
 
@@ -80,19 +83,10 @@ fn is_copied(error: &ParseError) -> Result<bool, AllocError> {
 
 #[test]
 fn errors_of_an_empty_parenthesis_are_copied(rt: HostRuntime) -> Result<(), Fail> {
-    let read = Root::parse(rt.alloc(), "()")?;
+    let read = Parsed::new(rt.alloc(), "()")?;
     assert_eq!(rt; read.errors().len(), 2);
     for error in read.errors() {
         assert!(rt; is_copied(error)?);
     }
-    Ok(())
-}
-
-#[test]
-fn what_was_read_is_copied_with_its_errors(rt: HostRuntime) -> Result<(), Fail> {
-    let read = Root::parse(rt.alloc(), "()")?;
-    let copy = read.try_clone()?;
-    assert!(rt; copy.errors() == read.errors());
-    assert_eq!(rt; copy.syntax().text(), "()");
     Ok(())
 }
