@@ -4,6 +4,7 @@ ghost use Rattle.std.specs.Prelude.{◌≡◌, map, slice_get, [], Some, IfOk, I
 ghost use Rattle.rnix_kinds.specs.Lexical.Tokens.{tokens_of};
 ghost use Rattle.rnix_grammar.specs.Fault.{fault_of};
 ghost use Rattle.rnix_grammar.specs.Parsed.{IsParsed};
+ghost use Rattle.rnix.specs.Reading.{root_of};
 
 use crate::ast::Root;
 use rnix_grammar::ParseError;
@@ -62,14 +63,14 @@ fn copies(alloc: Global, errors: &[ParseError]) -> Result<Vec<ParseError>, Alloc
 impl Parse {
     /// The node at the root.
     pub fn syntax(&self) -> SyntaxNode<'_>
-        ensures { result ≡ record { tree = self.now.tree; number = 0 } }
+        ensures { result ≡ root_of self.now }
     {
         SyntaxNode::new_root(&self.green)
     }
 
     /// The root.
     pub fn tree(&self) -> Root<'_>
-        ensures { result ≡ record { tree = self.now.tree; number = 0 } }
+        ensures { result ≡ root_of self.now }
     {
         Root {
             syntax: SyntaxNode::new_root(&self.green),
@@ -86,7 +87,7 @@ impl Parse {
 
     /// The root, exactly if there is no error, and else the first error.
     pub fn ok(&self) -> Result<Root<'_>, &ParseError>
-        ensures root { IfOk result (λ root. (self.now.faults ≡ []) × (root ≡ record { tree = self.now.tree; number = 0 })) }
+        ensures root { IfOk result (λ root. (self.now.faults ≡ []) × (root ≡ root_of self.now)) }
         ensures error { IfErr result (λ error. slice_get self.now.faults 0 ≡ Some (fault_of error.now)) }
     {
         match self.errors.first() {

@@ -15,7 +15,7 @@ pub fn nodes_have_parts(text: &str)
     ensures read { (kind : SyntaxKind) (n : Located) → IsParsed (tokens_of text.now) n.tree [] → IsWhole kind n }
     ensures shaped { (kind : SyntaxKind) (n : Located) → IsShaped n.tree → HasTokensAlone n.tree → IsWhole kind n }
     ensures below { (n : Located) (kinds : SyntaxKind → Bool) → All (IsInTree n) (nodes_of kinds n) }
-    ensures child { (n : Located) (kinds : SyntaxKind → Bool) (number : ℕ) → IfSome (child_of kinds number n) (IsInTree n) }
+    ensures child { (n : Located) (kinds : SyntaxKind → Bool) (i : ℕ) → IfSome (child_of kinds i n) (IsInTree n) }
 {
     let _len = text.len();
 }

@@ -101,7 +101,7 @@ pub fn text_parts<'t, T: AstToken<'t>, I: AstNode<'t>>(
     alloc: Global,
     parent: &SyntaxNode<'t>,
 ) -> Result<Vec<InterpolPart<&'t str, I>>, AllocError>
-    ensures { IfOk result (λ all. map (part_of (λ t. t.now) I.node) all.items ≡ texts_below T.kinds I.kinds parent.now) }
+    ensures { IfOk result (λ ps. map (part_of (λ t. t.now) I.node) ps.items ≡ texts_below T.kinds I.kinds parent.now) }
 {
     let mut parts = parts_in::<T, I>(parent);
     let mut all = Vec::new(alloc);

@@ -56,7 +56,11 @@ AreInOrder n (t ∷ ts) = (n ≤ t.start) × (t.start ≤ t.end) × AreInOrder t
 abbrev pub BeginsWithTrivia : Token → List Token → Type 0
 BeginsWithTrivia t ts = (ts ≡ t ∷ tail_of ts) × (is_trivia t.kind ≡ true)
 
+-- the first item from a place on is at another
+abbrev pub IsItemFrom : List ℕ → List TokenEnd → ℕ → ℕ → Type 0
+IsItemFrom text ts from at = from_item (drop from (tokens_cut text 0 ts)) ≡ drop at (tokens_cut text 0 ts)
+
 -- the tokens of the text from a place on are left, and the next item is at another
 pub record IsCursor (text : List ℕ) (ts : List TokenEnd) (at next : ℕ) : Type 0 where
   pub ends : AreEnds text 0 ts
-  pub item : from_item (drop at (tokens_cut text 0 ts)) ≡ drop next (tokens_cut text 0 ts)
+  pub item : IsItemFrom text ts at next

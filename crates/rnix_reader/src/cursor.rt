@@ -3,7 +3,7 @@
 ghost use Rattle.std.specs.Prelude.{◌≡◌, ◌≤◌, ℕ, List, length, drop, IfOk, MatchOption, option_map};
 ghost use Rattle.rnix_grammar.specs.AnnotatedForest.{placed_from, head_of, head_kind};
 ghost use Rattle.rnix_grammar.specs.Layout.{from_item, tail_of, items};
-ghost use Rattle.rnix_reader.specs.Placed.{token_of, ends_from, tokens_cut, start_of, AreEnds, AreInOrder, BeginsWithTrivia};
+ghost use Rattle.rnix_reader.specs.Placed.{token_of, ends_from, tokens_cut, start_of, IsItemFrom, AreEnds, AreInOrder, BeginsWithTrivia};
 
 use rnix_kinds::{SyntaxKind, Tokenizer};
 use std::alloc::{AllocError, Global};
@@ -110,7 +110,7 @@ fn token_at<'t>(text: &'t str, tokens: &[TokenEnd], at: usize) -> Option<PlacedT
 
 // Where the first item from a place on is.
 fn item_from(tokens: &[TokenEnd], from: usize) -> usize
-    ensures { (text : List ℕ) → from_item (drop from (tokens_cut text 0 tokens.now)) ≡ drop result (tokens_cut text 0 tokens.now) }
+    ensures { (text : List ℕ) → IsItemFrom text tokens.now from result }
 {
     let mut at = from;
     while at < tokens.len() {

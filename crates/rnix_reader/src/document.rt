@@ -9,8 +9,8 @@ use crate::names::Names;
 use crate::parser::Parser;
 use crate::reading::read_all;
 use rnix_grammar::{ParseError, Place};
-use rnix_kinds::{SyntaxKind, Tokenizer};
 use rnix_green::{GreenNode, GreenNodeBuilder};
+use rnix_kinds::{SyntaxKind, Tokenizer};
 use std::alloc::{AllocError, Global};
 
 // How many elements of the tree there is room for, for each token.

@@ -13,8 +13,8 @@ use crate::cursor::{Cursor, PlacedToken};
 use crate::leaf_kind::leaf_kind_as;
 use crate::mark::Mark;
 use rnix_grammar::{ParseError, Place};
-use rnix_kinds::SyntaxKind;
 use rnix_green::{Checkpoint, GreenNodeBuilder};
+use rnix_kinds::SyntaxKind;
 use std::alloc::AllocError;
 
 /// Reads tokens, builds the tree and keeps the errors and what is open.

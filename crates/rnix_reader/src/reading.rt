@@ -22,8 +22,8 @@ use rnix_grammar::{
     APPLICATION_LEVEL, Action, Begin, EXPRESSION_LEVEL, NO_LEVEL, ParseError, Place,
     SELECTION_LEVEL, Until, action_at,
 };
-use rnix_kinds::SyntaxKind;
 use rnix_green::TextRange;
+use rnix_kinds::SyntaxKind;
 use std::alloc::AllocError;
 
 // How many expressions, list items and operands of prefix operators may be nested.

@@ -13,8 +13,8 @@ use crate::cursor::PlacedToken;
 use crate::leaf_kind::leaf_kind_as;
 use crate::parser::Parser;
 use rnix_grammar::{ParseError, Until, operand_kinds, stops, wanted_kinds};
-use rnix_kinds::SyntaxKind;
 use rnix_green::TextRange;
+use rnix_kinds::SyntaxKind;
 use std::alloc::AllocError;
 
 impl<'t> Parser<'t> {

@@ -1,11 +1,10 @@
 //! Pointers to nodes, which borrow nothing.
 
-ghost use Rattle.std.specs.Prelude.{◌≡◌, SomeIff, Some};
+ghost use Rattle.std.specs.Prelude.{◌≡◌};
 ghost use Rattle.std.specs.Bool.{Decides};
 ghost use Rattle.rnix_green.specs.Range.{bounds_of};
-ghost use Rattle.rnix_green.specs.Tree.{Located, IsNodeAt};
 ghost use Rattle.rnix_green.specs.Kept.{item_from};
-ghost use Rattle.rnix_tree.specs.Pointer.{address_of, address_in, located_at, fits, HasNode};
+ghost use Rattle.rnix_tree.specs.Pointer.{address_of, address_in, fits, HasNode, IsFoundIn, FindsItsNode};
 
 use crate::node::SyntaxNode;
 use rnix_green::{Element, GreenNode, TextRange};
@@ -66,8 +65,8 @@ impl SyntaxNodePtr {
     /// The node in the tree of `root`, whichever node of the tree that is: the node that the pointer was made of where the trees are
     /// equal, and `None` where no node has the pointer's number, kind and range.
     pub fn try_to_node<'t>(self, root: &SyntaxNode<'t>) -> Option<SyntaxNode<'t>>
-        ensures found { SomeIff result (HasNode root.now.tree (address_in self)) (located_at root.now.tree (address_in self)) }
-        ensures same { (e : Located) → IsNodeAt e → e.tree ≡ root.now.tree → address_in self ≡ address_of e → result ≡ Some e }
+        ensures found { IsFoundIn root.now.tree (address_in self) result }
+        ensures same { FindsItsNode root.now.tree (address_in self) result }
     {
         if has_node(root.green, self) {
             Some(SyntaxNode {
