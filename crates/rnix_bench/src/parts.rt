@@ -1,8 +1,9 @@
 //! The parts that are timed.
 
 use crate::walking::{count_events, count_range_bytes, follow_parents, look_up};
-use rnix::{Parse, Root, tokenize};
-use rnix_print::dump;
+use rnix_kinds::tokenize;
+use rnix_parser::parse;
+use rnix_tree::{SyntaxNode, dump};
 use std::alloc::{AllocError, Global};
 use std::io;
 use std::time::Instant;
@@ -56,26 +57,27 @@ fn count_tokens(alloc: Global, text: &str) -> Result<usize, AllocError> {
 
 // How many errors the text has.
 fn count_errors(alloc: Global, text: &str) -> Result<usize, AllocError> {
-    Ok(Root::parse(alloc, text)?.errors().len())
+    let (_tree, errors) = parse(alloc, tokenize(alloc, text))?;
+    Ok(errors.len())
 }
 
 // How many bytes the printed tree has.
-fn count_printed(alloc: Global, read: &Parse) -> io::Result<usize> {
+fn count_printed(alloc: Global, root: &SyntaxNode<'_>) -> io::Result<usize> {
     let mut out: Vec<u8> = Vec::new(alloc);
-    dump(&read.syntax(), &mut out)?;
+    dump(root, &mut out)?;
     Ok(out.len())
 }
 
 // What one turn of a part counts in a text; trees are walked and printed as they were read before.
-fn turn(alloc: Global, part: Part, text: &str, read: &Parse) -> io::Result<usize> {
+fn turn(alloc: Global, part: Part, text: &str, root: &SyntaxNode<'_>) -> io::Result<usize> {
     match part {
         Part::Tokens => Ok(count_tokens(alloc, text)?),
         Part::Parse => Ok(count_errors(alloc, text)?),
-        Part::Walk => Ok(count_events(read)),
-        Part::Ranges => Ok(count_range_bytes(read)),
-        Part::Parents => Ok(follow_parents(read)),
-        Part::Offsets => Ok(look_up(read)),
-        Part::Print => count_printed(alloc, read),
+        Part::Walk => Ok(count_events(root)),
+        Part::Ranges => Ok(count_range_bytes(root)),
+        Part::Parents => Ok(follow_parents(root)),
+        Part::Offsets => Ok(look_up(root)),
+        Part::Print => count_printed(alloc, root),
     }
 }
 
@@ -89,11 +91,13 @@ fn read_before(part: Part, text: &str) -> &str {
 
 /// One line: what a turn counted, and the fewest microseconds that one took.
 pub fn report(rt: &HostRuntime, part: Part, text: &str, turns: u64) -> io::Result<()> {
-    let read = Root::parse(rt.alloc(), read_before(part, text))?;
+    let tokens = tokenize(rt.alloc(), read_before(part, text));
+    let (tree, _errors) = parse(rt.alloc(), tokens)?;
+    let root = SyntaxNode::new_root(&tree);
     let (mut least, mut count) = (u128::MAX, 0);
     for _turn in 0..turns {
         let start = Instant::now(rt)?;
-        count = turn(rt.alloc(), part, text, &read)?;
+        count = turn(rt.alloc(), part, text, &root)?;
         least = least.min(start.elapsed(rt)?.as_micros());
     }
     println!(rt; "{count} in {least} us")

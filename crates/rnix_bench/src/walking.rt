@@ -1,6 +1,6 @@
 //! Walks over a tree, each with what it counts.
 
-use rnix::{Parse, SyntaxNode, TokenAtOffset, WalkEvent};
+use rnix_tree::{SyntaxNode, TokenAtOffset, WalkEvent};
 
 // How many chains of parents are followed, and how many offsets are looked up.
 const CHAINS: u64 = 10_000;
@@ -23,14 +23,14 @@ fn offset_in(node: &SyntaxNode<'_>, number: u64) -> usize {
 }
 
 /// How many events a walk in preorder has.
-pub fn count_events(read: &Parse) -> usize {
-    read.syntax().preorder_with_tokens().count()
+pub fn count_events(root: &SyntaxNode<'_>) -> usize {
+    root.preorder_with_tokens().count()
 }
 
 /// How many bytes the ranges of all elements have together.
-pub fn count_range_bytes(read: &Parse) -> usize {
+pub fn count_range_bytes(root: &SyntaxNode<'_>) -> usize {
     let mut bytes: usize = 0;
-    for event in read.syntax().preorder_with_tokens() {
+    for event in root.preorder_with_tokens() {
         if let WalkEvent::Enter(element) = event {
             let range = element.text_range();
             bytes = bytes.saturating_add(range.end().saturating_sub(range.start()));
@@ -40,13 +40,12 @@ pub fn count_range_bytes(read: &Parse) -> usize {
 }
 
 /// How many bytes of tokens stand at some offsets.
-pub fn look_up(read: &Parse) -> usize {
-    let root = read.syntax();
+pub fn look_up(root: &SyntaxNode<'_>) -> usize {
     let range = root.text_range();
     let (mut number, mut bytes): (u64, usize) = (1, 0);
     for _turn in 0..OFFSETS {
         number = next_number(number);
-        let offset = offset_in(&root, number);
+        let offset = offset_in(root, number);
         if range.start() <= offset && offset <= range.end() {
             if let Some(token) = root.token_at_offset(offset).left_biased() {
                 bytes = bytes.saturating_add(token.text().len());
@@ -57,13 +56,12 @@ pub fn look_up(read: &Parse) -> usize {
 }
 
 /// How many nodes stand around the tokens at some offsets.
-pub fn follow_parents(read: &Parse) -> usize {
-    let root = read.syntax();
+pub fn follow_parents(root: &SyntaxNode<'_>) -> usize {
     let range = root.text_range();
     let (mut number, mut nodes): (u64, usize) = (1, 0);
     for _turn in 0..CHAINS {
         number = next_number(number);
-        let offset = offset_in(&root, number);
+        let offset = offset_in(root, number);
         if range.start() <= offset && offset <= range.end() {
             if let TokenAtOffset::Single(token) = root.token_at_offset(offset) {
                 if let Some(parent) = token.parent() {
