@@ -122,8 +122,9 @@ impl GreenNodeBuilder {
         self.starts.reserve(1)?;
         self.text.push_str(text)?;
         let start = self.entries.len();
-        self.entries.push(Packed::new(kind, text.len(), 0, 0))?;
-        self.starts.push(start)?;
+        self.entries
+            .push_reserved(Packed::new(kind, text.len(), 0, 0));
+        self.starts.push_reserved(start);
         Ok(())
     }
 
@@ -166,7 +167,7 @@ impl GreenNodeBuilder {
         self.entries.push(Packed::new(kind, 0, 0, end - first + 1))?;
         self.pending.truncate(self.pending.len() - 1);
         self.starts.truncate(place);
-        self.starts.push(first)?;
+        self.starts.push_reserved(first);
         Ok(())
     }
 
@@ -186,9 +187,10 @@ impl GreenNodeBuilder {
         self.entries.reserve(2)?;
         self.starts.reserve(1)?;
         self.text.push_str(text)?;
-        self.entries.push(Packed::new(kind, text.len(), 0, 0))?;
-        self.entries.push(Packed::new(node, 0, 0, 2))?;
-        self.starts.push(start)?;
+        self.entries
+            .push_reserved(Packed::new(kind, text.len(), 0, 0));
+        self.entries.push_reserved(Packed::new(node, 0, 0, 2));
+        self.starts.push_reserved(start);
         Ok(())
     }
 

@@ -16,9 +16,9 @@ overflow_sub-end c =
     let f : c.start_at-first.result ≡ get_or b.starts.items c.index.result.now.place (length es) = rw (c.deref.ensures.value, count) at c.start_at-first.ensures in
     omega (arith, first_entry_le _ _ es b.pending.items b.starts.items c.index.result.now.place c.self.invariant)
 
-after : (c : goal.In_ok-push-2) →
+after : (c : goal.After-push_reserved) →
     IsBuilt (wrapped c.index.result.now.kind c.index.result.now.place (made (string_bytes c.self.inside.text) c.self.inside.entries.items))
-    (string_bytes c.self.inside.text) (map entry_of c.push.new.self.items) c.truncate.new.self.items c.push-2.new.self.items
+    (string_bytes c.self.inside.text) (map entry_of c.push.new.self.items) c.truncate.new.self.items c.push_reserved.new.self.items
 after c =
     let b = c.self.inside in
     let es = map entry_of b.entries.items in
@@ -32,7 +32,7 @@ after c =
     built-closed (made (string_bytes b.text) b.entries.items) (string_bytes b.text) b.entries.items _ b.pending.items _ b.starts.items _ (c.len.result - 1) c.start_at-first.result o _
     c.self.invariant (omega (arith, end, c.in_ok-room.ensures.ok)) e c.index.ensures (f ∙ first_entry _ _ es b.pending.items b.starts.items o.place c.self.invariant)
     (c.new.ensures ∙ ap (λ n. packed o.kind 0 0 (n - c.start_at-first.result + 1)) end) c.in_ok-push.ensures.items (rw same at c.truncate.ensures.items)
-    (rw (c.truncate-2.ensures.items, c.in_ok-reserve.ensures.items) at c.in_ok-push-2.ensures.items)
+    (rw (c.truncate-2.ensures.items, c.in_ok-reserve.ensures.items) at c.push_reserved.ensures.items)
 
 pub invariant_of-self-2 : goal.invariant_of-self-2
 invariant_of-self-2 c = settled _ _ _ _ _ (after c)

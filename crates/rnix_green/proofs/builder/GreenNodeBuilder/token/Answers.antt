@@ -7,16 +7,16 @@ use Rattle.std.specs.String.{string_bytes}
 use Rattle.rnix_green.proofs.EntriesLemmas.{built-token, settled, built_is}
 use Rattle.rnix_green.proofs.builder.GreenNodeBuilder.token.Goals as goal
 
-after : (c : goal.In_ok-push-2) →
+after : (c : goal.After-push_reserved-2) →
     IsBuilt (with_leaf c.args.kind c.args.text.now (made (string_bytes c.self.inside.text) c.self.inside.entries.items))
-    (string_bytes c.push_str.new.self) (map entry_of c.push.new.self.items) c.self.inside.pending.items c.push-2.new.self.items
+    (string_bytes c.push_str.new.self) (map entry_of c.push_reserved.new.self.items) c.self.inside.pending.items c.push_reserved-2.new.self.items
 after c =
     let b = c.self.inside in
     built-token (made (string_bytes b.text) b.entries.items) (string_bytes b.text) _ c.args.text.now b.entries.items _ b.pending.items b.starts.items _
     c.args.kind _ c.len-start.result c.self.invariant c.utf8.text (omega (arith, c.len.ensures, c.in_ok-room.ensures.ok))
     (omega (arith, c.len-2.ensures, b.entries.ok.0, c.in_ok-room-2.ensures.ok)) c.new.ensures
     (c.len-start.ensures ∙ c.reserve.new.self.ok.0 ∙ ap length c.in_ok-reserve.ensures.items) c.in_ok-push_str.ensures.bytes
-    (rw c.in_ok-reserve.ensures.items at c.in_ok-push.ensures.items) (rw c.in_ok-reserve-2.ensures.items at c.in_ok-push-2.ensures.items)
+    (rw c.in_ok-reserve.ensures.items at c.push_reserved.ensures.items) (rw c.in_ok-reserve-2.ensures.items at c.push_reserved-2.ensures.items)
 
 pub invariant_of-self-2 : goal.invariant_of-self-2
 invariant_of-self-2 c = settled _ _ _ _ _ (after c)
