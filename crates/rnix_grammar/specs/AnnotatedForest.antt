@@ -113,11 +113,11 @@ token_if true k t f = f
 token_if false k t f = token k t f
 
 -- the trees without trivia
-abbrev pub clean : AnnotatedForest → AnnotatedForest
-clean blank = blank
-clean (token k t f) = token_if (is_trivia t.kind) k t (clean f)
-clean (branch k c f) = branch k (clean c) (clean f)
-clean (fault n c f) = fault n (clean c) (clean f)
+abbrev pub without_trivia : AnnotatedForest → AnnotatedForest
+without_trivia blank = blank
+without_trivia (token k t f) = token_if (is_trivia t.kind) k t (without_trivia f)
+without_trivia (branch k c f) = branch k (without_trivia c) (without_trivia f)
+without_trivia (fault n c f) = fault n (without_trivia c) (without_trivia f)
 
 -- where the last of some tokens ends
 abbrev pub end_from : ℕ → List Token → ℕ

@@ -61,15 +61,15 @@ left_after (branch k c f) ts = left_after f (left_after c (from_item ts))
 left_after (fault n c f) ts = left_after f (rest_after (is_last n) (left_after c (from_item ts)))
 
 -- a forest of items with the trivia of the tokens that it is read from
-abbrev pub dressed : AnnotatedForest → List Token → AnnotatedForest
-dressed blank ts = blank
-dressed (token k t f) ts = trivia_before ts ⊕ token k t (dressed f (tail_of (from_item ts)))
-dressed (branch k c f) ts = trivia_before ts ⊕ branch k (dressed c (from_item ts)) (dressed f (left_after c (from_item ts)))
-dressed (fault n c f) ts =
+abbrev pub with_trivia : AnnotatedForest → List Token → AnnotatedForest
+with_trivia blank ts = blank
+with_trivia (token k t f) ts = trivia_before ts ⊕ token k t (with_trivia f (tail_of (from_item ts)))
+with_trivia (branch k c f) ts = trivia_before ts ⊕ branch k (with_trivia c (from_item ts)) (with_trivia f (left_after c (from_item ts)))
+with_trivia (fault n c f) ts =
     trivia_before ts
-    ⊕ fault n (dressed c (from_item ts))
-    (trivia_after (is_last n) (left_after c (from_item ts)) ⊕ dressed f (rest_after (is_last n) (left_after c (from_item ts))))
+    ⊕ fault n (with_trivia c (from_item ts))
+    (trivia_after (is_last n) (left_after c (from_item ts)) ⊕ with_trivia f (rest_after (is_last n) (left_after c (from_item ts))))
 
 -- a whole text: the trivia behind the last item stand in the root
-abbrev pub dressed_whole : AnnotatedForest → List Token → AnnotatedForest
-dressed_whole f ts = dressed f ts ⊕ trivia_before (left_after f ts)
+abbrev pub with_trivia_whole : AnnotatedForest → List Token → AnnotatedForest
+with_trivia_whole f ts = with_trivia f ts ⊕ trivia_before (left_after f ts)

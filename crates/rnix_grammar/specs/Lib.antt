@@ -14,7 +14,7 @@ pub mod Missing
 pub mod Stands
 pub mod Strict
 pub mod Grammar
-pub mod Clean
+pub mod WithoutTrivia
 pub mod Sorts
 pub mod Weights
 pub mod Allowed

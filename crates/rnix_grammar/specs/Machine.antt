@@ -13,8 +13,8 @@ use Rattle.rnix_grammar.specs.Fault.{Fault, ended, ended_before, too_deep}
 use Rattle.rnix_grammar.specs.Tables.{wanted_kinds, depth_limit}
 use Rattle.rnix_grammar.specs.Actions.{action_at}
 use Rattle.rnix_grammar.specs.Begins.{begin_of, second_kind}
-use Rattle.rnix_grammar.specs.AnnotatedForest.{Token, Stray, Unwanted, Extra, Twice, TooDeep, AnnotatedForest, blank, ◌⊕◌, one_token, one_branch, one_fault, row_of, tokens_in, clean, leaf_kind, end_from, head_kind, touches}
-use Rattle.rnix_grammar.specs.Layout.{items, from_item, tail_of, trivia_before, dressed, left_after}
+use Rattle.rnix_grammar.specs.AnnotatedForest.{Token, Stray, Unwanted, Extra, Twice, TooDeep, AnnotatedForest, blank, ◌⊕◌, one_token, one_branch, one_fault, row_of, tokens_in, without_trivia, leaf_kind, end_from, head_kind, touches}
+use Rattle.rnix_grammar.specs.Layout.{items, from_item, tail_of, trivia_before, with_trivia, left_after}
 use Rattle.rnix_grammar.specs.Reports.{report, repeated}
 use Rattle.rnix_grammar.specs.Missing.{run_of}
 use Rattle.rnix_grammar.specs.Levels.{expression_level, no_level, application_level, selection_level}
@@ -86,7 +86,7 @@ leaf raw parent ts = leaf_in parent (past raw ts)
 
 -- the run as leaves, with its trivia where they are read
 abbrev pub run_row : Bool → List Token → List Token → AnnotatedForest
-run_row true run ts = dressed (row_of run) (from_item ts)
+run_row true run ts = with_trivia (row_of run) (from_item ts)
 run_row false run ts = row_of run
 
 -- the tokens behind as many others
@@ -126,14 +126,14 @@ closed f [] ts n es = machine (f ∷ []) ts n es
 closed f (g ∷ fs) ts n es = machine (put g.place (g.row ⊕ made f.head f.row) g ∷ fs) ts n es
 
 -- a row without trivia
-abbrev pub cleaned : Bool → AnnotatedForest → AnnotatedForest
-cleaned true f = clean f
-cleaned false f = f
+abbrev pub without_trivia_if : Bool → AnnotatedForest → AnnotatedForest
+without_trivia_if true f = without_trivia f
+without_trivia_if false f = f
 
 -- an entry of a pattern is complete
 abbrev pub entry_closed : Bool → Frame → List Frame → List Token → ℕ → List Fault → Machine
 entry_closed raw f [] ts n es = machine (f ∷ []) ts n es
-entry_closed raw f (g ∷ fs) ts n es = closed f (g ∷ fs) ts n (es ++ repeated (cleaned raw g.row) (cleaned raw f.row))
+entry_closed raw f (g ∷ fs) ts n es = closed f (g ∷ fs) ts n (es ++ repeated (without_trivia_if raw g.row) (without_trivia_if raw f.row))
 
 -- a node is opened with a row
 abbrev pub open_on : Bool → Head → Place → AnnotatedForest → Place → Frame → List Frame → List Token → List Frame
@@ -187,7 +187,7 @@ abbrev pub perform : Bool → Action → Frame → List Frame → List Token →
 perform raw a.Close f fs ts n es = closed f fs ts n es
 perform raw a.ClosePattern f fs ts n es = closed f fs ts n es
 perform raw a.CloseEntry f fs ts n es = entry_closed raw f fs ts n es
-perform raw a.CloseTwice f fs ts n es = closed f fs ts n (es ++ report Twice (tokens_in (cleaned raw f.row)) ∷ [])
+perform raw a.CloseTwice f fs ts n es = closed f fs ts n (es ++ report Twice (tokens_in (without_trivia_if raw f.row)) ∷ [])
 perform raw a.Finish f fs ts n es = machine (f ∷ fs) ts n es
 perform raw a.Settle f fs ts n es = closed f fs ts n es
 perform raw a.Extra f fs ts n es =

@@ -6,7 +6,7 @@ use Rattle.rnix_green.specs.Forest.{Forest, empty, node}
 use Rattle.rnix_green.specs.Tree.{Tree}
 use Rattle.rnix_grammar.specs.Fault.{Fault}
 use Rattle.rnix_grammar.specs.Tables.{depth_limit}
-use Rattle.rnix_grammar.specs.AnnotatedForest.{blank, forget, clean, placed_from, HaveLeafKinds}
+use Rattle.rnix_grammar.specs.AnnotatedForest.{blank, forget, without_trivia, placed_from, HaveLeafKinds}
 use Rattle.rnix_grammar.specs.Reading.{IsReading}
 use Rattle.rnix_grammar.specs.Repaired.{repaired, held, incomplete, AreBegun, ended_count, others, AreSettled, AreNamedLists}
 use Rattle.rnix_grammar.specs.Unfinished.{AreIncompleteLast}
@@ -37,20 +37,20 @@ pub record IsParsed (tokens : List Lexeme) (tree : Tree) (faults : List Fault) :
   -- without errors exactly if each node has its shape and no entry is repeated
   pub shaped : (faults ≡ []) ↔ (IsShaped tree × IsUnrepeated tree)
   -- errors of the end of the text: exactly if a node is not whole, and at least as many
-  pub few_incomplete : incomplete (node NODE_ROOT (repaired (clean reading.annotated)) empty) ≤ ended_count faults
-  pub no_incomplete : (incomplete (node NODE_ROOT (repaired (clean reading.annotated)) empty) ≡ 0) ↔ (ended_count faults ≡ 0)
+  pub few_incomplete : incomplete (node NODE_ROOT (repaired (without_trivia reading.annotated)) empty) ≤ ended_count faults
+  pub no_incomplete : (incomplete (node NODE_ROOT (repaired (without_trivia reading.annotated)) empty) ≡ 0) ↔ (ended_count faults ≡ 0)
   -- in the repaired tree, but for numbers that stand for no token, each node's children begin a row of its kind
-  pub begun : AreBegun (node NODE_ROOT (held (clean reading.annotated)) empty)
+  pub begun : AreBegun (node NODE_ROOT (held (without_trivia reading.annotated)) empty)
   -- behind a node that is not whole no item stands, and behind an error of the end of the text no token is reported as wrong
-  pub last_incomplete : AreIncompleteLast (clean reading.annotated) []
+  pub last_incomplete : AreIncompleteLast (without_trivia reading.annotated) []
   pub settled : AreSettled faults
   -- without errors, trivia between two tokens stand in the smallest node that holds both
   pub between : faults ≡ [] → AreTriviaBetween tree
   -- without errors, no more expressions that count are inside one another than the limit
-  pub nested : faults ≡ [] → nest NODE_ROOT (forget (clean reading.annotated)) ≤ depth_limit
+  pub nested : faults ≡ [] → nest NODE_ROOT (forget (without_trivia reading.annotated)) ≤ depth_limit
   -- an expression of the strict grammar that the items have, nested no deeper than the limit, is found: there are no errors, and the tree without trivia is it
-  pub found : (derivation : Forest) → IsDerivation derivation (items (placed_from 0 tokens)) → (faults ≡ []) × (forget (clean reading.annotated) ≡ derivation)
+  pub found : (derivation : Forest) → IsDerivation derivation (items (placed_from 0 tokens)) → (faults ≡ []) × (forget (without_trivia reading.annotated) ≡ derivation)
   -- without errors of the end of the text and without repeated names, the repaired tree is an expression of the strict grammar if it has no corner
-  pub converse : ended_count faults ≡ 0 → Lacks is_repeated faults → has_no_corner NODE_ROOT (repaired (clean reading.annotated)) ≡ true → IsExpression (repaired (clean reading.annotated))
+  pub converse : ended_count faults ≡ 0 → Lacks is_repeated faults → has_no_corner NODE_ROOT (repaired (without_trivia reading.annotated)) ≡ true → IsExpression (repaired (without_trivia reading.annotated))
   -- where the pieces of its paths touch, a text is read without errors and corners exactly if its items have a derivation
-  pub exactly : ArePaths (clean reading.annotated) [] → ((faults ≡ []) × (has_no_corner NODE_ROOT (forget (clean reading.annotated)) ≡ true)) ↔ ((derivation : Forest) × IsDerivation derivation (items (placed_from 0 tokens)))
+  pub exactly : ArePaths (without_trivia reading.annotated) [] → ((faults ≡ []) × (has_no_corner NODE_ROOT (forget (without_trivia reading.annotated)) ≡ true)) ↔ ((derivation : Forest) × IsDerivation derivation (items (placed_from 0 tokens)))

@@ -6,7 +6,7 @@ use Rattle.rnix_kinds.specs.SyntaxKind.{is_trivia}
 use Rattle.rnix_green.specs.Forest.{Forest, empty, leaf, node}
 use Rattle.rnix_green.specs.Tree.{Tree, forest_of}
 use Rattle.rnix_grammar.specs.Fault.{Fault}
-use Rattle.rnix_grammar.specs.AnnotatedForest.{AnnotatedForest, blank, token, branch, fault, ◌⊕◌, one_token, one_branch, one_fault, tokens_in, clean}
+use Rattle.rnix_grammar.specs.AnnotatedForest.{AnnotatedForest, blank, token, branch, fault, ◌⊕◌, one_token, one_branch, one_fault, tokens_in, without_trivia}
 use Rattle.rnix_grammar.specs.Reports.{report, repeats}
 use Rattle.rnix_grammar.specs.Rows.{is_row}
 use Rattle.rnix_grammar.specs.Trim.{AreNodesTrimmed}
@@ -109,5 +109,5 @@ reports f = reports_behind blank f
 abbrev pub reports_within : AnnotatedForest → AnnotatedForest → List Fault
 reports_within b blank = []
 reports_within b (token k t f) = reports_within (b ⊕ one_token k t) f
-reports_within b (branch k c f) = reports_within blank c ++ (repeats k (clean b) (clean c) ++ reports_within (b ⊕ one_branch k c) f)
+reports_within b (branch k c f) = reports_within blank c ++ (repeats k (without_trivia b) (without_trivia c) ++ reports_within (b ⊕ one_branch k c) f)
 reports_within b (fault n c f) = reports_within blank c ++ (report n (tokens_in c) ∷ reports_within (b ⊕ one_fault n c) f)

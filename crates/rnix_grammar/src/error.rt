@@ -10,8 +10,8 @@ ghost use Rattle.rnix_green.specs.Range.{place_text};
 ghost use Rattle.rnix_grammar.specs.Fault.{fault_of, more_kinds_text, kinds_text, wanted_text, again_text, range_text, fault_text, unwanted, named_twice, same_extent};
 ghost use Rattle.rnix_grammar.specs.Ranges.{range_in};
 
-use rnix_kinds::SyntaxKind;
 use rnix_green::TextRange;
+use rnix_kinds::SyntaxKind;
 use std::alloc::AllocError;
 use std::error::Error;
 use std::fmt;

@@ -3,8 +3,8 @@ use Rattle.std.proofs.Common.{◌≡◌, Bool, true, false, List, [], ◌∷◌,
 use Rattle.rnix_kinds.specs.declared.kinds.SyntaxKind.{SyntaxKind}
 use Rattle.rnix_kinds.specs.declared.kinds.SyntaxKind.TheVariants.{TOKEN_IDENT, TOKEN_OR, NODE_IDENT, NODE_CUR_POS, NODE_ERROR}
 use Rattle.rnix_kinds.specs.SyntaxKind.{is_trivia}
-use Rattle.rnix_grammar.specs.AnnotatedForest.{Token, AnnotatedForest, blank, token, branch, fault, ◌⊕◌, tokens_in, clean, token_if, leaf_kind_as, HaveLeafKinds}
-use Rattle.rnix_grammar.specs.Layout.{from_item_if, from_item, trivia_if, trivia_before, item_if, items, tail_of, is_last, trivia_after, rest_after, left_after, dressed}
+use Rattle.rnix_grammar.specs.AnnotatedForest.{Token, AnnotatedForest, blank, token, branch, fault, ◌⊕◌, tokens_in, without_trivia, token_if, leaf_kind_as, HaveLeafKinds}
+use Rattle.rnix_grammar.specs.Layout.{from_item_if, from_item, trivia_if, trivia_before, item_if, items, tail_of, is_last, trivia_after, rest_after, left_after, with_trivia}
 use Rattle.rnix_lemmas.proofs.AnnotatedForestLemmas.{tokens_two}
 use Rattle.rnix_lemmas.proofs.Basics.{true_is_not_false}
 
@@ -77,49 +77,49 @@ first_item t us ts e =
     record { here = w.0; item = from_item_item ts t (tail_of (from_item ts)) w.0; left = w.1 }
 
 -- trivia go, items stay
-pub clean-⊕ : (f g : AnnotatedForest) → clean (f ⊕ g) ≡ clean f ⊕ clean g
-clean-⊕ blank g = refl
-clean-⊕ (token k t f) g =
-    elim (is_trivia t.kind) as (λ x. token_if x k t (clean (f ⊕ g)) ≡ token_if x k t (clean f) ⊕ clean g) [ true ↦ clean-⊕ f g | false ↦ ap (token k t) (clean-⊕ f g) ]
-clean-⊕ (branch k c f) g = ap (branch k (clean c)) (clean-⊕ f g)
-clean-⊕ (fault n c f) g = ap (fault n (clean c)) (clean-⊕ f g)
+pub without_trivia-⊕ : (f g : AnnotatedForest) → without_trivia (f ⊕ g) ≡ without_trivia f ⊕ without_trivia g
+without_trivia-⊕ blank g = refl
+without_trivia-⊕ (token k t f) g =
+    elim (is_trivia t.kind) as (λ x. token_if x k t (without_trivia (f ⊕ g)) ≡ token_if x k t (without_trivia f) ⊕ without_trivia g) [ true ↦ without_trivia-⊕ f g | false ↦ ap (token k t) (without_trivia-⊕ f g) ]
+without_trivia-⊕ (branch k c f) g = ap (branch k (without_trivia c)) (without_trivia-⊕ f g)
+without_trivia-⊕ (fault n c f) g = ap (fault n (without_trivia c)) (without_trivia-⊕ f g)
 
 -- trivia go
-pub clean-trivia : (ts : List Token) → clean (trivia_before ts) ≡ blank
-clean-trivia [] = refl
-clean-trivia (t ∷ ts) = advance (clean-trivia ts) (is_trivia t.kind) refl
+pub without_trivia-trivia : (ts : List Token) → without_trivia (trivia_before ts) ≡ blank
+without_trivia-trivia [] = refl
+without_trivia-trivia (t ∷ ts) = advance (without_trivia-trivia ts) (is_trivia t.kind) refl
   where
-    advance : clean (trivia_before ts) ≡ blank → (x : Bool) → is_trivia t.kind ≡ x → clean (trivia_if x t (trivia_before ts)) ≡ blank
-    advance ih true e = ap (λ y. token_if y t.kind t (clean (trivia_before ts))) e ∙ ih
+    advance : without_trivia (trivia_before ts) ≡ blank → (x : Bool) → is_trivia t.kind ≡ x → without_trivia (trivia_if x t (trivia_before ts)) ≡ blank
+    advance ih true e = ap (λ y. token_if y t.kind t (without_trivia (trivia_before ts))) e ∙ ih
     advance ih false e = refl
 
 -- and so where they stand behind a node
-clean-trivia_after : (x : Bool) (ts : List Token) → clean (trivia_after x ts) ≡ blank
-clean-trivia_after true ts = clean-trivia ts
-clean-trivia_after false ts = refl
+without_trivia-trivia_after : (x : Bool) (ts : List Token) → without_trivia (trivia_after x ts) ≡ blank
+without_trivia-trivia_after true ts = without_trivia-trivia ts
+without_trivia-trivia_after false ts = refl
 
 -- trivia before a forest
-clean-behind : (ts : List Token) (f : AnnotatedForest) → clean (trivia_before ts ⊕ f) ≡ clean f
-clean-behind ts f = clean-⊕ (trivia_before ts) f ∙ ap (λ x. x ⊕ clean f) (clean-trivia ts)
+without_trivia-behind : (ts : List Token) (f : AnnotatedForest) → without_trivia (trivia_before ts ⊕ f) ≡ without_trivia f
+without_trivia-behind ts f = without_trivia-⊕ (trivia_before ts) f ∙ ap (λ x. x ⊕ without_trivia f) (without_trivia-trivia ts)
 
 -- the items behind the node of what is too deep
 pub items-rest_after : (x : Bool) (ts : List Token) → items (rest_after x ts) ≡ items ts
 items-rest_after true ts = items-from_item ts
 items-rest_after false ts = refl
 
--- without its trivia a dressed forest is the forest
+-- without its trivia a forest with trivia is the forest
 pub record IsBared (f : AnnotatedForest) (ts us : List Token) : Type 0 where
-  pub same : clean (dressed f ts) ≡ f
+  pub same : without_trivia (with_trivia f ts) ≡ f
   pub left : items (left_after f ts) ≡ us
 
--- a forest of the first items, dressed and cleaned, is the forest, and behind it the other items are left
+-- a forest of the first items, with trivia and then without, is the forest, and behind it the other items are left
 pub bared : (f : AnnotatedForest) (ts us : List Token) → items ts ≡ tokens_in f ++ us → IsBared f ts us
 bared blank ts us e = record { same = refl; left = e }
 bared (token k t f) ts us e =
     let w : IsFirst t (tokens_in f ++ us) ts = first_item t (tokens_in f ++ us) ts e in
     let ih = bared f (tail_of (from_item ts)) us w.left in
     record {
-      same = clean-behind ts (token k t (dressed f (tail_of (from_item ts)))) ∙ ap (λ x. token_if x k t (clean (dressed f (tail_of (from_item ts))))) w.item ∙ ap (token k t) ih.same;
+      same = without_trivia-behind ts (token k t (with_trivia f (tail_of (from_item ts)))) ∙ ap (λ x. token_if x k t (without_trivia (with_trivia f (tail_of (from_item ts))))) w.item ∙ ap (token k t) ih.same;
       left = ih.left;
     }
 bared (branch k c f) ts us e =
@@ -127,20 +127,20 @@ bared (branch k c f) ts us e =
     let behind = bared f (left_after c (from_item ts)) us inside.left in
     record {
       same =
-          clean-behind ts (branch k (dressed c (from_item ts)) (dressed f (left_after c (from_item ts))))
-          ∙ ap (λ x. branch k x (clean (dressed f (left_after c (from_item ts))))) inside.same ∙ ap (branch k c) behind.same;
+          without_trivia-behind ts (branch k (with_trivia c (from_item ts)) (with_trivia f (left_after c (from_item ts))))
+          ∙ ap (λ x. branch k x (without_trivia (with_trivia f (left_after c (from_item ts))))) inside.same ∙ ap (branch k c) behind.same;
       left = behind.left;
     }
 bared (fault n c f) ts us e =
     let inside = bared c (from_item ts) (tokens_in f ++ us) (items-from_item ts ∙ e ∙ append_assoc (tokens_in c) (tokens_in f) us) in
     let rest = left_after c (from_item ts) in
     let behind = bared f (rest_after (is_last n) rest) us (items-rest_after (is_last n) rest ∙ inside.left) in
-    let later = dressed f (rest_after (is_last n) rest) in
+    let later = with_trivia f (rest_after (is_last n) rest) in
     record {
       same =
-          clean-behind ts (fault n (dressed c (from_item ts)) (trivia_after (is_last n) rest ⊕ later))
-          ∙ ap (λ x. fault n x (clean (trivia_after (is_last n) rest ⊕ later))) inside.same
-          ∙ ap (fault n c) (clean-⊕ (trivia_after (is_last n) rest) later ∙ ap (λ x. x ⊕ clean later) (clean-trivia_after (is_last n) rest) ∙ behind.same);
+          without_trivia-behind ts (fault n (with_trivia c (from_item ts)) (trivia_after (is_last n) rest ⊕ later))
+          ∙ ap (λ x. fault n x (without_trivia (trivia_after (is_last n) rest ⊕ later))) inside.same
+          ∙ ap (fault n c) (without_trivia-⊕ (trivia_after (is_last n) rest) later ∙ ap (λ x. x ⊕ without_trivia later) (without_trivia-trivia_after (is_last n) rest) ∙ behind.same);
       left = behind.left;
     }
 
@@ -160,32 +160,32 @@ rest_tokens false ts = refl
 behind_trivia : (ts us : List Token) (f : AnnotatedForest) → tokens_in f ++ us ≡ from_item ts → tokens_in (trivia_before ts ⊕ f) ++ us ≡ ts
 behind_trivia ts us f e = tokens_two (trivia_before ts) f us ∙ ap (λ x. tokens_in (trivia_before ts) ++ x) e ∙ trivia_tokens ts
 
--- the leaves of a dressed forest are the tokens
-pub dressed_tokens : (f : AnnotatedForest) (ts us : List Token) → items ts ≡ tokens_in f ++ us → tokens_in (dressed f ts) ++ left_after f ts ≡ ts
-dressed_tokens blank ts us e = refl
-dressed_tokens (token k t f) ts us e =
+-- the leaves of a forest with trivia are the tokens
+pub with_trivia_tokens : (f : AnnotatedForest) (ts us : List Token) → items ts ≡ tokens_in f ++ us → tokens_in (with_trivia f ts) ++ left_after f ts ≡ ts
+with_trivia_tokens blank ts us e = refl
+with_trivia_tokens (token k t f) ts us e =
     let w : IsFirst t (tokens_in f ++ us) ts = first_item t (tokens_in f ++ us) ts e in
     let rest = tail_of (from_item ts) in
-    behind_trivia ts (left_after f rest) (token k t (dressed f rest)) (ap (λ x. t ∷ x) (dressed_tokens f rest us w.left) ∙ sym w.here)
-dressed_tokens (branch k c f) ts us e =
+    behind_trivia ts (left_after f rest) (token k t (with_trivia f rest)) (ap (λ x. t ∷ x) (with_trivia_tokens f rest us w.left) ∙ sym w.here)
+with_trivia_tokens (branch k c f) ts us e =
     let all : items (from_item ts) ≡ tokens_in c ++ (tokens_in f ++ us) = items-from_item ts ∙ e ∙ append_assoc (tokens_in c) (tokens_in f) us in
     let inside = bared c (from_item ts) (tokens_in f ++ us) all in
     let rest = left_after c (from_item ts) in
-    behind_trivia ts (left_after f rest) (branch k (dressed c (from_item ts)) (dressed f rest))
-    (append_assoc (tokens_in (dressed c (from_item ts))) (tokens_in (dressed f rest)) (left_after f rest)
-    ∙ ap (λ x. tokens_in (dressed c (from_item ts)) ++ x) (dressed_tokens f rest us inside.left) ∙ dressed_tokens c (from_item ts) (tokens_in f ++ us) all)
-dressed_tokens (fault n c f) ts us e =
+    behind_trivia ts (left_after f rest) (branch k (with_trivia c (from_item ts)) (with_trivia f rest))
+    (append_assoc (tokens_in (with_trivia c (from_item ts))) (tokens_in (with_trivia f rest)) (left_after f rest)
+    ∙ ap (λ x. tokens_in (with_trivia c (from_item ts)) ++ x) (with_trivia_tokens f rest us inside.left) ∙ with_trivia_tokens c (from_item ts) (tokens_in f ++ us) all)
+with_trivia_tokens (fault n c f) ts us e =
     let all : items (from_item ts) ≡ tokens_in c ++ (tokens_in f ++ us) = items-from_item ts ∙ e ∙ append_assoc (tokens_in c) (tokens_in f) us in
     let inside = bared c (from_item ts) (tokens_in f ++ us) all in
     let rest = left_after c (from_item ts) in
     let later = rest_after (is_last n) rest in
-    behind_trivia ts (left_after f later) (fault n (dressed c (from_item ts)) (trivia_after (is_last n) rest ⊕ dressed f later))
-    (append_assoc (tokens_in (dressed c (from_item ts))) (tokens_in (trivia_after (is_last n) rest ⊕ dressed f later)) (left_after f later)
-    ∙ ap (λ x. tokens_in (dressed c (from_item ts)) ++ x)
-    (tokens_two (trivia_after (is_last n) rest) (dressed f later) (left_after f later)
-    ∙ ap (λ x. tokens_in (trivia_after (is_last n) rest) ++ x) (dressed_tokens f later us (items-rest_after (is_last n) rest ∙ inside.left))
+    behind_trivia ts (left_after f later) (fault n (with_trivia c (from_item ts)) (trivia_after (is_last n) rest ⊕ with_trivia f later))
+    (append_assoc (tokens_in (with_trivia c (from_item ts))) (tokens_in (trivia_after (is_last n) rest ⊕ with_trivia f later)) (left_after f later)
+    ∙ ap (λ x. tokens_in (with_trivia c (from_item ts)) ++ x)
+    (tokens_two (trivia_after (is_last n) rest) (with_trivia f later) (left_after f later)
+    ∙ ap (λ x. tokens_in (trivia_after (is_last n) rest) ++ x) (with_trivia_tokens f later us (items-rest_after (is_last n) rest ∙ inside.left))
     ∙ rest_tokens (is_last n) rest)
-    ∙ dressed_tokens c (from_item ts) (tokens_in f ++ us) all)
+    ∙ with_trivia_tokens c (from_item ts) (tokens_in f ++ us) all)
 
 -- where no item is left there is no first one
 pub nothing_from : (xs : List Token) → items_head xs ≡ [] → xs ≡ []
@@ -229,18 +229,18 @@ told_trivia_after : (p : SyntaxKind) (x : Bool) (ts : List Token) → HaveLeafKi
 told_trivia_after p true ts = told_trivia p ts
 told_trivia_after p false ts = tt
 
--- the leaves of a dressed forest are told
-pub told_dressed : (p : SyntaxKind) (f : AnnotatedForest) (ts : List Token) → HaveLeafKinds p f → HaveLeafKinds p (dressed f ts)
-told_dressed p blank ts h = tt
-told_dressed p (token k t f) ts h =
-    leaf_kind-⊕ p (trivia_before ts) (token k t (dressed f (tail_of (from_item ts)))) (told_trivia p ts) (h.0, told_dressed p f (tail_of (from_item ts)) h.1)
-told_dressed p (branch k c f) ts h =
-    leaf_kind-⊕ p (trivia_before ts) (branch k (dressed c (from_item ts)) (dressed f (left_after c (from_item ts)))) (told_trivia p ts)
-    (told_dressed k c (from_item ts) h.0, told_dressed p f (left_after c (from_item ts)) h.1)
-told_dressed p (fault n c f) ts h =
+-- the leaves of a forest with trivia are told
+pub told_with_trivia : (p : SyntaxKind) (f : AnnotatedForest) (ts : List Token) → HaveLeafKinds p f → HaveLeafKinds p (with_trivia f ts)
+told_with_trivia p blank ts h = tt
+told_with_trivia p (token k t f) ts h =
+    leaf_kind-⊕ p (trivia_before ts) (token k t (with_trivia f (tail_of (from_item ts)))) (told_trivia p ts) (h.0, told_with_trivia p f (tail_of (from_item ts)) h.1)
+told_with_trivia p (branch k c f) ts h =
+    leaf_kind-⊕ p (trivia_before ts) (branch k (with_trivia c (from_item ts)) (with_trivia f (left_after c (from_item ts)))) (told_trivia p ts)
+    (told_with_trivia k c (from_item ts) h.0, told_with_trivia p f (left_after c (from_item ts)) h.1)
+told_with_trivia p (fault n c f) ts h =
     let rest = left_after c (from_item ts) in
-    let later = dressed f (rest_after (is_last n) rest) in
-    leaf_kind-⊕ p (trivia_before ts) (fault n (dressed c (from_item ts)) (trivia_after (is_last n) rest ⊕ later)) (told_trivia p ts) (
-      told_dressed NODE_ERROR c (from_item ts) h.0,
-      leaf_kind-⊕ p (trivia_after (is_last n) rest) later (told_trivia_after p (is_last n) rest) (told_dressed p f (rest_after (is_last n) rest) h.1),
+    let later = with_trivia f (rest_after (is_last n) rest) in
+    leaf_kind-⊕ p (trivia_before ts) (fault n (with_trivia c (from_item ts)) (trivia_after (is_last n) rest ⊕ later)) (told_trivia p ts) (
+      told_with_trivia NODE_ERROR c (from_item ts) h.0,
+      leaf_kind-⊕ p (trivia_after (is_last n) rest) later (told_trivia_after p (is_last n) rest) (told_with_trivia p f (rest_after (is_last n) rest) h.1),
     )

@@ -13,7 +13,7 @@ pub mod PlaceTables
 pub mod RunLemmas
 pub mod LevelLemmas
 pub mod LayoutLemmas
-pub mod CleanLemmas
+pub mod WithoutTriviaLemmas
 pub mod AllowedLemmas
 pub mod PlaceLemmas
 pub mod EachKind

@@ -2,7 +2,7 @@
 use Rattle.std.proofs.Common.{◌≡◌, ℕ, Bool, true, false, List, [], ◌∷◌, ◌++◌, refl, ap, sym, ◌∙◌}
 use Rattle.rnix_kinds.specs.declared.kinds.SyntaxKind.{SyntaxKind}
 use Rattle.rnix_kinds.specs.SyntaxKind.{is_trivia}
-use Rattle.rnix_grammar.specs.AnnotatedForest.{Token, Note, Stray, AnnotatedForest, blank, token, branch, fault, tokens_in, clean, token_if, end_from}
+use Rattle.rnix_grammar.specs.AnnotatedForest.{Token, Note, Stray, AnnotatedForest, blank, token, branch, fault, tokens_in, without_trivia, token_if, end_from}
 use Rattle.rnix_grammar.specs.Layout.{item_if, items}
 use Rattle.rnix_grammar.specs.Reports.{report}
 use Rattle.rnix_grammar.specs.Trim.{BeginsWithItem, EndsWithItem, token_kinds}
@@ -13,12 +13,12 @@ onto_items : (x : Bool) (k : SyntaxKind) (t : Token) (f : AnnotatedForest) (us :
 onto_items true k t f us e = e
 onto_items false k t f us e = ap (λ z. t ∷ z) e
 
--- the tokens of a clean row are the items of the row's
-pub clean_tokens : (f : AnnotatedForest) → tokens_in (clean f) ≡ items (tokens_in f)
-clean_tokens blank = refl
-clean_tokens (token k t f) = onto_items (is_trivia t.kind) k t (clean f) (items (tokens_in f)) (clean_tokens f)
-clean_tokens (branch k c f) = ap (λ x. x ++ tokens_in (clean f)) (clean_tokens c) ∙ ap (λ x. items (tokens_in c) ++ x) (clean_tokens f) ∙ sym (items-++ (tokens_in c) (tokens_in f))
-clean_tokens (fault n c f) = ap (λ x. x ++ tokens_in (clean f)) (clean_tokens c) ∙ ap (λ x. items (tokens_in c) ++ x) (clean_tokens f) ∙ sym (items-++ (tokens_in c) (tokens_in f))
+-- the tokens of a row without trivia are the items of the row's
+pub without_trivia_tokens : (f : AnnotatedForest) → tokens_in (without_trivia f) ≡ items (tokens_in f)
+without_trivia_tokens blank = refl
+without_trivia_tokens (token k t f) = onto_items (is_trivia t.kind) k t (without_trivia f) (items (tokens_in f)) (without_trivia_tokens f)
+without_trivia_tokens (branch k c f) = ap (λ x. x ++ tokens_in (without_trivia f)) (without_trivia_tokens c) ∙ ap (λ x. items (tokens_in c) ++ x) (without_trivia_tokens f) ∙ sym (items-++ (tokens_in c) (tokens_in f))
+without_trivia_tokens (fault n c f) = ap (λ x. x ++ tokens_in (without_trivia f)) (without_trivia_tokens c) ∙ ap (λ x. items (tokens_in c) ++ x) (without_trivia_tokens f) ∙ sym (items-++ (tokens_in c) (tokens_in f))
 
 -- trimmed tokens end where their items do
 pub same_end : (n : ℕ) (ts : List Token) → EndsWithItem (token_kinds ts) → end_from n (items ts) ≡ end_from n ts

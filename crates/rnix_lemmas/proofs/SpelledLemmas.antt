@@ -8,7 +8,7 @@ use Rattle.rnix_kinds.specs.declared.kinds.SyntaxKind.{SyntaxKind}
 use Rattle.rnix_kinds.specs.declared.kinds.SyntaxKind.TheVariants.{TOKEN_CUR_POS, TOKEN_IDENT, TOKEN_OR}
 use Rattle.rnix_kinds.specs.SyntaxKind.{is_trivia}
 use Rattle.rnix_kinds.specs.Lexical.Tokens.{Lexeme, MayBe}
-use Rattle.rnix_grammar.specs.AnnotatedForest.{Token, AnnotatedForest, blank, token, branch, fault, token_if, tokens_in, clean, placed_from}
+use Rattle.rnix_grammar.specs.AnnotatedForest.{Token, AnnotatedForest, blank, token, branch, fault, token_if, tokens_in, without_trivia, placed_from}
 use Rattle.rnix_grammar.specs.Tables as tables
 use Rattle.rnix_grammar.specs.Named.{is_spelled, AreSpelled}
 use Rattle.rnix_lemmas.proofs.OpeningRows.{spelled_first, spelled_rest}
@@ -51,10 +51,10 @@ spelled_if true k t f h s = s
 spelled_if false k t f h s = (h, s)
 
 -- and so are those of a row without trivia
-pub clean_spelled : (f : AnnotatedForest) → AreSpelled (tokens_in f) → AreSpelled (tokens_in (clean f))
-clean_spelled blank h = tt
-clean_spelled (token k t f) h = spelled_if (is_trivia t.kind) k t (clean f) h.0 (clean_spelled f h.1)
-clean_spelled (branch k c f) h =
-    spelled-++ (tokens_in (clean c)) (tokens_in (clean f)) (clean_spelled c (spelled_first (tokens_in c) (tokens_in f) h)) (clean_spelled f (spelled_rest (tokens_in c) (tokens_in f) h))
-clean_spelled (fault n c f) h =
-    spelled-++ (tokens_in (clean c)) (tokens_in (clean f)) (clean_spelled c (spelled_first (tokens_in c) (tokens_in f) h)) (clean_spelled f (spelled_rest (tokens_in c) (tokens_in f) h))
+pub without_trivia_spelled : (f : AnnotatedForest) → AreSpelled (tokens_in f) → AreSpelled (tokens_in (without_trivia f))
+without_trivia_spelled blank h = tt
+without_trivia_spelled (token k t f) h = spelled_if (is_trivia t.kind) k t (without_trivia f) h.0 (without_trivia_spelled f h.1)
+without_trivia_spelled (branch k c f) h =
+    spelled-++ (tokens_in (without_trivia c)) (tokens_in (without_trivia f)) (without_trivia_spelled c (spelled_first (tokens_in c) (tokens_in f) h)) (without_trivia_spelled f (spelled_rest (tokens_in c) (tokens_in f) h))
+without_trivia_spelled (fault n c f) h =
+    spelled-++ (tokens_in (without_trivia c)) (tokens_in (without_trivia f)) (without_trivia_spelled c (spelled_first (tokens_in c) (tokens_in f) h)) (without_trivia_spelled f (spelled_rest (tokens_in c) (tokens_in f) h))

@@ -6,32 +6,32 @@ use Rattle.rnix_kinds.specs.Lexical.Tokens.{Lexeme, text_of as lexeme_text, AreS
 use Rattle.rnix_green.specs.Forest.{text_of}
 use Rattle.rnix_green.specs.Tree.{Tree}
 use Rattle.rnix_grammar.specs.Fault.{Fault}
-use Rattle.rnix_grammar.specs.AnnotatedForest.{Token, AnnotatedForest, blank, token, branch, fault, forget, tokens_in, clean, placed_from}
-use Rattle.rnix_grammar.specs.Layout.{items, dressed_whole}
+use Rattle.rnix_grammar.specs.AnnotatedForest.{Token, AnnotatedForest, blank, token, branch, fault, forget, tokens_in, without_trivia, placed_from}
+use Rattle.rnix_grammar.specs.Layout.{items, with_trivia_whole}
 use Rattle.rnix_grammar.specs.Machine.{ate}
-use Rattle.rnix_grammar.specs.Clean.{clean_machine, clean_frame, clean_frames}
+use Rattle.rnix_grammar.specs.WithoutTrivia.{without_trivia_machine, without_trivia_frame, without_trivia_frames}
 use Rattle.rnix_grammar.specs.Reads.{ReadsWhole}
 use Rattle.rnix_grammar.specs.Reading.{IsReading}
 use Rattle.rnix_grammar.specs.Parsed.{IsParsed}
 use Rattle.rnix_grammar.specs.Document.{IsRead}
-use Rattle.rnix_lemmas.proofs.ReportLemmas.{clean_tokens}
+use Rattle.rnix_lemmas.proofs.ReportLemmas.{without_trivia_tokens}
 use Rattle.rnix_lemmas.proofs.SpelledLemmas.{AreRuled}
-use Rattle.rnix_lemmas.proofs.CleanLemmas.{runs_clean, ate_clean}
-use Rattle.rnix_rows.proofs.DressedWhole.{dressed_whole_tokens, dressed_same, read_dressed}
+use Rattle.rnix_lemmas.proofs.WithoutTriviaLemmas.{runs_without_trivia, ate_without_trivia}
+use Rattle.rnix_rows.proofs.WithTriviaWhole.{with_trivia_whole_tokens, with_trivia_same, read_with_trivia}
 use Rattle.rnix_existence.proofs.WholeReads.{whole_reads}
 use Rattle.rnix_uniqueness.proofs.AllReads.{one_row}
 use Rattle.rnix_reader.proofs.EachText.{each_read}
 use Rattle.rnix_parser.proofs.ParsedLemmas.{all_follows}
 
 -- the items of a reading are those of the tokens
-reading_items : {ls : List Lexeme} {tree : Tree} {faults : List Fault} (r : IsReading ls tree faults) → tokens_in (clean r.annotated) ≡ items (placed_from 0 ls)
-reading_items r = clean_tokens r.annotated ∙ ap items r.leaves
+reading_items : {ls : List Lexeme} {tree : Tree} {faults : List Fault} (r : IsReading ls tree faults) → tokens_in (without_trivia r.annotated) ≡ items (placed_from 0 ls)
+reading_items r = without_trivia_tokens r.annotated ∙ ap items r.leaves
 
 -- two readings of some tokens are one
 pub one_reading : (ls : List Lexeme) (t u : Tree) (ds es : List Fault) → IsReading ls t ds → IsReading ls u es → (t ≡ u) × (ds ≡ es)
 one_reading ls t u ds es r s =
-    let same : (clean r.annotated ≡ clean s.annotated) × (ds ≡ es) = one_row (clean r.annotated) (clean s.annotated) ds es r.reads s.reads (reading_items r ∙ sym (reading_items s)) in
-    let annotated : r.annotated ≡ s.annotated = dressed_same r.annotated s.annotated (placed_from 0 ls) r.laid s.laid same.0 in
+    let same : (without_trivia r.annotated ≡ without_trivia s.annotated) × (ds ≡ es) = one_row (without_trivia r.annotated) (without_trivia s.annotated) ds es r.reads s.reads (reading_items r ∙ sym (reading_items s)) in
+    let annotated : r.annotated ≡ s.annotated = with_trivia_same r.annotated s.annotated (placed_from 0 ls) r.laid s.laid same.0 in
     (r.tree_is ∙ ap (λ (f : AnnotatedForest). record { kind = NODE_ROOT; children = forget f }) annotated ∙ sym u_is, same.1)
   where
     u_is : u ≡ record { kind = NODE_ROOT; children = forget s.annotated }
@@ -73,16 +73,16 @@ read_reading : (ls : List Lexeme) (tree : Tree) (faults : List Fault) → IsRead
 read_reading ls tree faults r =
     let ts : List Token = placed_from 0 ls in
     let g : AnnotatedForest = ate true r.root.row r.last.left in
-    let bare : clean g ≡ clean r.root.row = ate_clean r.root.row r.last.left in
-    let read : (items ts ≡ tokens_in (clean r.root.row)) × ReadsWhole (clean r.root.row) r.last.faults =
-    whole_reads (items ts) (clean_machine r.last) (clean_frame r.root) (runs_clean r.runs) (ap clean_frames r.alone) r.head r.place r.nothing in
-    let laid : g ≡ dressed_whole (clean g) ts = read_dressed ls tree faults r in
+    let bare : without_trivia g ≡ without_trivia r.root.row = ate_without_trivia r.root.row r.last.left in
+    let read : (items ts ≡ tokens_in (without_trivia r.root.row)) × ReadsWhole (without_trivia r.root.row) r.last.faults =
+    whole_reads (items ts) (without_trivia_machine r.last) (without_trivia_frame r.root) (runs_without_trivia r.runs) (ap without_trivia_frames r.alone) r.head r.place r.nothing in
+    let laid : g ≡ with_trivia_whole (without_trivia g) ts = read_with_trivia ls tree faults r in
     record {
       annotated = g;
       tree_is = r.tree_is;
-      leaves = ap tokens_in laid ∙ dressed_whole_tokens (clean g) ts (read.0 ∙ ap tokens_in (sym bare));
+      leaves = ap tokens_in laid ∙ with_trivia_whole_tokens (without_trivia g) ts (read.0 ∙ ap tokens_in (sym bare));
       laid = laid;
-      reads = subst (λ (f : AnnotatedForest). ReadsWhole f faults) (sym bare) (subst (ReadsWhole (clean r.root.row)) (sym r.faults_are) read.1);
+      reads = subst (λ (f : AnnotatedForest). ReadsWhole f faults) (sym bare) (subst (ReadsWhole (without_trivia r.root.row)) (sym r.faults_are) read.1);
     }
 
 -- the tokens of a text have a reading

@@ -5,7 +5,7 @@ use Rattle.rnix_kinds.specs.declared.kinds.SyntaxKind.TheVariants.{NODE_ROOT}
 use Rattle.rnix_kinds.specs.Lexical.Tokens.{Lexeme}
 use Rattle.rnix_green.specs.Forest.{Forest}
 use Rattle.rnix_grammar.specs.Tables.{depth_limit}
-use Rattle.rnix_grammar.specs.AnnotatedForest.{Token, AnnotatedForest, blank, forget, tokens_in, clean, placed_from, HaveLeafKinds}
+use Rattle.rnix_grammar.specs.AnnotatedForest.{Token, AnnotatedForest, blank, forget, tokens_in, without_trivia, placed_from, HaveLeafKinds}
 use Rattle.rnix_grammar.specs.Layout.{items}
 use Rattle.rnix_grammar.specs.Trim.{AreFaultsTrimmed, AreNodesTrimmed}
 use Rattle.rnix_grammar.specs.Shape.{IsShaped, IsUnrepeated, reports}
@@ -25,13 +25,13 @@ use Rattle.rnix_grammar.specs.Reading.{IsReading}
 use Rattle.rnix_grammar.specs.Parsed.{IsParsed}
 use Rattle.rnix_rows.proofs.StandsFaults.{Errors, stands_errors}
 use Rattle.rnix_rows.proofs.StandsWhole.{whole_few, whole_ended, whole_begun, incomplete_last}
-use Rattle.rnix_rows.proofs.TreeShapes.{whole_shaped, clean_reports}
+use Rattle.rnix_rows.proofs.TreeShapes.{whole_shaped, without_trivia_reports}
 use Rattle.rnix_rows.proofs.SeamLemmas.{trivia_between}
 use Rattle.rnix_soundness.proofs.ConverseNames.{converse}
-use Rattle.rnix_lemmas.proofs.SpelledLemmas.{AreRuled, spelled_from, clean_spelled}
+use Rattle.rnix_lemmas.proofs.SpelledLemmas.{AreRuled, spelled_from, without_trivia_spelled}
 use Rattle.rnix_rows.proofs.ReadsNest.{reads_nested}
 use Rattle.rnix_rows.proofs.ReadsStand.{reads_stand}
-use Rattle.rnix_rows.proofs.DressedWhole.{clean_items, laid_told, laid_trimmed, laid_bare, laid_nodes}
+use Rattle.rnix_rows.proofs.WithTriviaWhole.{without_trivia_items, laid_told, laid_trimmed, laid_bare, laid_nodes}
 use Rattle.rnix_rows.proofs.StandsTold.{stands_told, repaired_tokens}
 use Rattle.rnix_rows.proofs.StandsShapes.{AreBareRows, repaired_none, whole_rows}
 use Rattle.rnix_lemmas.proofs.EntryNames.{both_true}
@@ -70,27 +70,27 @@ pub all_follows : (ls : List Lexeme) (tree : Tree) (faults : List Fault) → Are
 all_follows ls tree faults ruled r =
     let ts : List Token = placed_from 0 ls in
     let g : AnnotatedForest = r.annotated in
-    let own : items ts ≡ tokens_in (clean g) = clean_items g ts r.leaves in
-    let stands : StandsWhole (clean g) faults = reads_stand (clean g) faults r.reads in
-    let errors : Errors (clean g) [] (reports (clean g)) faults = stands_errors stands in
-    let leaf_kind : HaveLeafKinds NODE_ROOT g = laid_told (clean g) g ts faults r.laid stands in
-    let trimmed : AreFaultsTrimmed g = laid_trimmed (clean g) g ts faults r.laid own stands in
-    let nodes : faults ≡ [] → AreNodesTrimmed (forget g) = laid_nodes (clean g) g ts faults r.laid own stands in
-    let spelled : AreSpelled (tokens_in (clean g)) = clean_spelled g (subst AreSpelled (sym r.leaves) (spelled_from 0 ls ruled)) in
-    let nested : faults ≡ [] → nest NODE_ROOT (forget (clean g)) ≤ depth_limit = λ h. reads_nested (clean g) faults r.reads ((whole_rows stands).0 h) in
-    let strict : ended_count faults ≡ 0 → Lacks is_repeated faults → has_no_corner NODE_ROOT (repaired (clean g)) ≡ true → IsExpression (repaired (clean g)) = λ n r o.
-    strict_expression (repaired (clean g))
-    (both_true (has_tokens_alone (repaired (clean g))) (is_strict_expression (repaired (clean g)))
-    (repaired_tokens NODE_ROOT (clean g) (stands_told stands) spelled) (converse (clean g) faults stands spelled n r o)) in
-    let met : (t : Forest) → IsDerivation t (items ts) → (faults ≡ []) × (forget (clean g) ≡ t) = derivation_found (clean g) (items ts) faults r.reads (sym own) in
+    let own : items ts ≡ tokens_in (without_trivia g) = without_trivia_items g ts r.leaves in
+    let stands : StandsWhole (without_trivia g) faults = reads_stand (without_trivia g) faults r.reads in
+    let errors : Errors (without_trivia g) [] (reports (without_trivia g)) faults = stands_errors stands in
+    let leaf_kind : HaveLeafKinds NODE_ROOT g = laid_told (without_trivia g) g ts faults r.laid stands in
+    let trimmed : AreFaultsTrimmed g = laid_trimmed (without_trivia g) g ts faults r.laid own stands in
+    let nodes : faults ≡ [] → AreNodesTrimmed (forget g) = laid_nodes (without_trivia g) g ts faults r.laid own stands in
+    let spelled : AreSpelled (tokens_in (without_trivia g)) = without_trivia_spelled g (subst AreSpelled (sym r.leaves) (spelled_from 0 ls ruled)) in
+    let nested : faults ≡ [] → nest NODE_ROOT (forget (without_trivia g)) ≤ depth_limit = λ h. reads_nested (without_trivia g) faults r.reads ((whole_rows stands).0 h) in
+    let strict : ended_count faults ≡ 0 → Lacks is_repeated faults → has_no_corner NODE_ROOT (repaired (without_trivia g)) ≡ true → IsExpression (repaired (without_trivia g)) = λ n r o.
+    strict_expression (repaired (without_trivia g))
+    (both_true (has_tokens_alone (repaired (without_trivia g))) (is_strict_expression (repaired (without_trivia g)))
+    (repaired_tokens NODE_ROOT (without_trivia g) (stands_told stands) spelled) (converse (without_trivia g) faults stands spelled n r o)) in
+    let met : (t : Forest) → IsDerivation t (items ts) → (faults ≡ []) × (forget (without_trivia g) ≡ t) = derivation_found (without_trivia g) (items ts) faults r.reads (sym own) in
     record {
       reading = r;
       leaf_kind = leaf_kind;
       trimmed = trimmed;
-      bare = laid_bare (clean g) g ts faults r.laid spelled stands;
-      paired = errors.reports ∙ clean_reports blank g trimmed;
+      bare = laid_bare (without_trivia g) g ts faults r.laid spelled stands;
+      paired = errors.reports ∙ without_trivia_reports blank g trimmed;
       named = errors.named;
-      shaped = subst (λ (t : Tree). (faults ≡ []) ↔ (IsShaped t × IsUnrepeated t)) (sym r.tree_is) (whole_shaped (clean g) g faults stands refl leaf_kind nodes);
+      shaped = subst (λ (t : Tree). (faults ≡ []) ↔ (IsShaped t × IsUnrepeated t)) (sym r.tree_is) (whole_shaped (without_trivia g) g faults stands refl leaf_kind nodes);
       few_incomplete = whole_few stands;
       no_incomplete = whole_ended stands;
       begun = whole_begun stands;
@@ -100,7 +100,7 @@ all_follows ls tree faults ruled r =
       nested = nested;
       found = met;
       converse = strict;
-      exactly = exact (clean g) (items ts) faults
+      exactly = exact (without_trivia g) (items ts) faults
           (record {
             tokens = sym own;
             bare = λ h. ((whole_rows stands).0 h).nodes;

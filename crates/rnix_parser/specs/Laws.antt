@@ -4,7 +4,7 @@ use Rattle.rnix_kinds.specs.Lexical.Tokens.{Lexeme, tokens_of}
 use Rattle.rnix_green.specs.Forest.{Forest}
 use Rattle.rnix_green.specs.Tree.{Tree}
 use Rattle.rnix_grammar.specs.Fault.{Fault}
-use Rattle.rnix_grammar.specs.AnnotatedForest.{Token, AnnotatedForest, clean}
+use Rattle.rnix_grammar.specs.AnnotatedForest.{Token, AnnotatedForest, without_trivia}
 use Rattle.rnix_grammar.specs.Derivation.{IsDerivation}
 use Rattle.rnix_grammar.specs.Reading.{IsReading}
 use Rattle.rnix_grammar.specs.Parsed.{IsParsed}
@@ -19,7 +19,7 @@ OfRead text P = (tree : Tree) (faults : List Fault) → IsReading (tokens_of tex
 
 -- so it is with the items and the errors of each reading
 abbrev pub OfReadings : (AnnotatedForest → List Fault → Type 0) → Type 0
-OfReadings P = (tokens : List Lexeme) (tree : Tree) (faults : List Fault) (r : IsReading tokens tree faults) → P (clean r.annotated) faults
+OfReadings P = (tokens : List Lexeme) (tree : Tree) (faults : List Fault) (r : IsReading tokens tree faults) → P (without_trivia r.annotated) faults
 
 -- two readings of some tokens are one
 abbrev pub HaveOneReading : List Lexeme → Type 0

@@ -5,9 +5,9 @@ ghost use Rattle.rnix_grammar.specs.Fault.{fault_of};
 ghost use Rattle.rnix_grammar.specs.Parsed.{IsParsed};
 
 use rnix_grammar::ParseError;
+use rnix_green::GreenNode;
 use rnix_kinds::Tokenizer;
 use rnix_reader::read_tokens;
-use rnix_green::GreenNode;
 use std::alloc::{AllocError, Global};
 
 /// The tree of the tokens that are left, with a NODE_ROOT at its top, and the errors in the order in which they were found. Ranges are bytes

@@ -3,7 +3,7 @@ use Rattle.std.proofs.Common.{◌≡◌, ℕ, Bool, true, false, List, [], ◌�
 use Rattle.rnix_kinds.specs.declared.kinds.SyntaxKind.TheVariants.{NODE_PATTERN, NODE_PAT_ENTRY}
 use Rattle.rnix_grammar.specs.declared.action.Action.TheVariants as a
 use Rattle.rnix_grammar.specs.Fault.{Fault, named_twice}
-use Rattle.rnix_grammar.specs.AnnotatedForest.{Token, AnnotatedForest, ◌⊕◌, clean, extent_of}
+use Rattle.rnix_grammar.specs.AnnotatedForest.{Token, AnnotatedForest, ◌⊕◌, without_trivia, extent_of}
 use Rattle.rnix_grammar.specs.Reports.{has_entry, repeated_if}
 use Rattle.rnix_grammar.specs.Machine.{Head, Node, Second, Operand, Frame, Machine, put, made, closed, perform}
 use Rattle.rnix_reader.specs.declared.mark.Mark.{Mark}
@@ -89,8 +89,8 @@ done_entry f (g ∷ fs) ts n m mark s names names' s' h e leaf_kind =
     let ranges : extents_of names ≡ ranges_of (g ∷ fs) ++ extent_of (t ∷ []) ∷ [] = h.named.ranges ∙ ap (λ x. ranges_of (g ∷ fs) ++ range_of x) named in
     let done = leaf_kind.closed.entered (entries_of (g ∷ fs)) t.text (ranges_of (g ∷ fs)) (extent_of (t ∷ [])) tops.below tops.set texts ranges tops.all in
     let fault : Fault = named_twice (extent_of (t ∷ [])) t.text in
-    let again : leaf_kind.again ≡ (if has_entry t.text (clean g.row) then Some fault else None) = done.3 ∙ ap (λ x. if x then Some fault else None) (tops.is t.text) in
+    let again : leaf_kind.again ≡ (if has_entry t.text (without_trivia g.row) then Some fault else None) = done.3 ∙ ap (λ x. if x then Some fault else None) (tops.is t.text) in
     let closes : ended s ≡ flat (closed f (g ∷ fs) ts n m.faults) = done_node f (g ∷ fs) ts n m.faults mark s st h.well.fit (ap is_node e) (ap is_root e) in
-    leaf_kind.state ∙ ap (λ x. told_of x (ended s)) again ∙ ap (told_of (if has_entry t.text (clean g.row) then Some fault else None)) closes
-    ∙ told_once (has_entry t.text (clean g.row)) fault f g fs ts n m.faults
-    ∙ ap (λ x. flat (closed f (g ∷ fs) ts n (m.faults ++ repeated_if x (clean g.row)))) (sym begun.1)
+    leaf_kind.state ∙ ap (λ x. told_of x (ended s)) again ∙ ap (told_of (if has_entry t.text (without_trivia g.row) then Some fault else None)) closes
+    ∙ told_once (has_entry t.text (without_trivia g.row)) fault f g fs ts n m.faults
+    ∙ ap (λ x. flat (closed f (g ∷ fs) ts n (m.faults ++ repeated_if x (without_trivia g.row)))) (sym begun.1)

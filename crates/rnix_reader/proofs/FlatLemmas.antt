@@ -9,7 +9,7 @@ use Rattle.rnix_green.proofs.ForestLemmas.{join_assoc}
 use Rattle.rnix_grammar.specs.declared.place.Place.{Place}
 use Rattle.rnix_grammar.specs.Fault.{Fault}
 use Rattle.rnix_grammar.specs.AnnotatedForest.{Token, Note, Twice, AnnotatedForest, blank, ◌⊕◌, one_branch, one_fault, row_of, forget, end_from}
-use Rattle.rnix_grammar.specs.Layout.{from_item, trivia_before, tail_of, dressed}
+use Rattle.rnix_grammar.specs.Layout.{from_item, trivia_before, tail_of, with_trivia}
 use Rattle.rnix_grammar.specs.Machine.{Node, Second, Operand, Frame, put, opened, ate, leaf, leaf_in, behind, reach, end_of, run_row, run_rest, machine, closed}
 use Rattle.rnix_lemmas.proofs.LayoutLemmas.{trivia-from_item, from_item-from_item}
 use Rattle.rnix_lemmas.proofs.AnnotatedForestLemmas.{forget-⊕}
@@ -114,7 +114,7 @@ flat-run ms note run f fs ts n es =
     let g = grown t f.row (trivia_before ts) in
     let here : Forest = join (join t (forget f.row)) (forget (trivia_before ts)) in
     state_is refl
-    (wrapped-join NODE_ERROR here (forget (dressed (row_of run) (from_item ts))) ∙ ap (λ x. join x (node NODE_ERROR (forget (dressed (row_of run) (from_item ts))) empty)) g
+    (wrapped-join NODE_ERROR here (forget (with_trivia (row_of run) (from_item ts))) ∙ ap (λ x. join x (node NODE_ERROR (forget (with_trivia (row_of run) (from_item ts))) empty)) g
     ∙ grown t r (one_fault note (run_row true run ts))) refl refl refl refl
 
 -- the innermost node is complete

@@ -6,7 +6,7 @@ use Rattle.rnix_kinds.specs.declared.kinds.SyntaxKind.TheVariants.{NODE_PATTERN,
 use Rattle.rnix_grammar.specs.declared.place.Place.{Place}
 use Rattle.rnix_grammar.specs.declared.place.Place.TheVariants as p
 use Rattle.rnix_grammar.specs.Fault.{Fault}
-use Rattle.rnix_grammar.specs.AnnotatedForest.{Token, AnnotatedForest, ◌⊕◌, clean, extent_of}
+use Rattle.rnix_grammar.specs.AnnotatedForest.{Token, AnnotatedForest, ◌⊕◌, without_trivia, extent_of}
 use Rattle.rnix_grammar.specs.Layout.{trivia_before}
 use Rattle.rnix_grammar.specs.Reports.{entry_name}
 use Rattle.rnix_grammar.specs.Machine.{Head, Node, Second, Operand, Frame, put, opened, ate, made}
@@ -146,7 +146,7 @@ push_pattern f fs names names' place d row e m none o w = record {
 
 -- an entry is opened, with its name
 pub push_entry : (f : Frame) (fs : List Frame) (names names' : Names) (d : ℕ) (row : AnnotatedForest) (t : Token) → may_hold (sort_of f.place) Entry ≡ true
-    → entry_name (clean row) ≡ Some t → EntryOpened t.text record { start = t.start; end = t.end } names names' → Kept f fs names
+    → entry_name (without_trivia row) ≡ Some t → EntryOpened t.text record { start = t.start; end = t.end } names names' → Kept f fs names
     → Kept (opened (Node NODE_PAT_ENTRY) p.EntryMore d row) (f ∷ fs) names'
 push_entry f fs names names' d row t m e o w = record {
   fit = (record { sort = refl; begun = (t, e) }, m, w.fit);

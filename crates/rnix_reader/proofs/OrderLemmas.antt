@@ -6,7 +6,7 @@ use Rattle.rnix_grammar.specs.AnnotatedForest.{Token, row_of, end_from}
 use Rattle.rnix_grammar.specs.Layout.{items, from_item, from_item_if, tail_of, left_after}
 use Rattle.rnix_grammar.specs.Machine.{behind, reach, end_of, run_rest, dropped}
 use Rattle.rnix_grammar.specs.Missing.{run_of}
-use Rattle.rnix_lemmas.proofs.CleanLemmas.{run_prefix, all_prefix}
+use Rattle.rnix_lemmas.proofs.WithoutTriviaLemmas.{run_prefix, all_prefix}
 use Rattle.rnix_lemmas.proofs.LayoutLemmas.{IsFirst, first_item, items-from_item}
 use Rattle.rnix_reader.specs.Placed.{AreInOrder}
 use Rattle.rnix_reader.proofs.CursorLemmas.{in_order_from}

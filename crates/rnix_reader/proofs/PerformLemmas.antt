@@ -7,14 +7,14 @@ use Rattle.rnix_grammar.specs.declared.place.Place.TheVariants as p
 use Rattle.rnix_grammar.specs.declared.action.Action.{Action}
 use Rattle.rnix_grammar.specs.declared.action.Action.TheVariants as a
 use Rattle.rnix_grammar.specs.Fault.{Fault}
-use Rattle.rnix_grammar.specs.AnnotatedForest.{Token, Note, Unwanted, Extra, AnnotatedForest, blank, ◌⊕◌, one_branch, one_fault, tokens_in, clean, head_of, head_kind, end_from, extent_of}
+use Rattle.rnix_grammar.specs.AnnotatedForest.{Token, Note, Unwanted, Extra, AnnotatedForest, blank, ◌⊕◌, one_branch, one_fault, tokens_in, without_trivia, head_of, head_kind, end_from, extent_of}
 use Rattle.rnix_grammar.specs.Layout.{items, from_item, trivia_before, tail_of}
 use Rattle.rnix_grammar.specs.Reports.{only_token}
 use Rattle.rnix_grammar.specs.Machine.{Head, Node, Second, Operand, Frame, put, opened, ate, leaf, leaf_in, kind_of, low_of, behind, reach, end_of, run_row, run_rest, dropped, made, machine, closed, perform}
 use Rattle.rnix_grammar.specs.Missing.{run_of}
 use Rattle.rnix_lemmas.proofs.AnnotatedForestLemmas.{tokens_in-row_of}
-use Rattle.rnix_lemmas.proofs.CleanLemmas.{leaf_clean, reach_items, run_prefix, run_bared}
-use Rattle.rnix_lemmas.proofs.LayoutLemmas.{first_item, clean-trivia}
+use Rattle.rnix_lemmas.proofs.WithoutTriviaLemmas.{leaf_without_trivia, reach_items, run_prefix, run_bared}
+use Rattle.rnix_lemmas.proofs.LayoutLemmas.{first_item, without_trivia-trivia}
 use Rattle.rnix_lemmas.proofs.PlaceLemmas.{open_holds, next_sort}
 use Rattle.rnix_reader.specs.declared.names.Names.{Names}
 use Rattle.rnix_reader.specs.Names.{PatternClosed, EntryClosed, EntryOpened}
@@ -54,11 +54,11 @@ closing_entry f g fs ts n es names names' again e c w o =
     (pop_entry f g fs names names' again (head_entry f.head (w.fit.0.sort ∙ e)) (head_pattern g.head ((fit_first g fs w.fit.2).sort ∙ below)) c w) o
 
 -- a row that may be a second name's grows
-ends_behind : (n m : ℕ) (h : Head) (row : AnnotatedForest) (ts : List Token) (g : AnnotatedForest) (us : List Token) → IsBegun h row → EndsAt n h row → tokens_in (clean g) ≡ us → m ≡ end_from n us → n ≤ m
+ends_behind : (n m : ℕ) (h : Head) (row : AnnotatedForest) (ts : List Token) (g : AnnotatedForest) (us : List Token) → IsBegun h row → EndsAt n h row → tokens_in (without_trivia g) ≡ us → m ≡ end_from n us → n ≤ m
     → EndsAt m h (ate true row ts ⊕ g)
 ends_behind n m h row ts g us i e k r l =
     ends_more n m h (ate true row ts) g us (begun_more h row (trivia_before ts) i)
-    (ends_more n n h row (trivia_before ts) [] i e (ap tokens_in (clean-trivia ts)) refl (omega arith)) k r l
+    (ends_more n n h row (trivia_before ts) [] i e (ap tokens_in (without_trivia-trivia ts)) refl (omega arith)) k r l
 
 begins_behind : (n : ℕ) (h : Head) (row : AnnotatedForest) (ts : List Token) (g : AnnotatedForest) → IsBegun h row → BeginsAt n h row → BeginsAt n h (ate true row ts ⊕ g)
 begins_behind n h row ts g i e = begins_more n h (ate true row ts) g (begun_more h row (trivia_before ts) i) (begins_more n h row (trivia_before ts) i e)
@@ -68,8 +68,8 @@ abbrev firsts : List Token → List Token
 firsts [] = []
 firsts (t ∷ ts) = t ∷ []
 
-leaf_tokens : (k : SyntaxKind) (ts : List Token) → tokens_in (clean (leaf true k ts)) ≡ firsts (items ts)
-leaf_tokens k ts = ap tokens_in (leaf_clean k ts) ∙ by (items ts)
+leaf_tokens : (k : SyntaxKind) (ts : List Token) → tokens_in (without_trivia (leaf true k ts)) ≡ firsts (items ts)
+leaf_tokens k ts = ap tokens_in (leaf_without_trivia k ts) ∙ by (items ts)
   where
     by : (us : List Token) → tokens_in (leaf_in k us) ≡ firsts us
     by [] = refl
@@ -82,9 +82,9 @@ leaf_end n ts = reach_items n ts ∙ by (items ts)
     by [] = refl
     by (t ∷ us) = refl
 
-run_tokens : (note : Note) (run us ts : List Token) → items ts ≡ run ++ us → tokens_in (clean (one_fault note (run_row true run ts))) ≡ run
+run_tokens : (note : Note) (run us ts : List Token) → items ts ≡ run ++ us → tokens_in (without_trivia (one_fault note (run_row true run ts))) ≡ run
 run_tokens note run us ts e =
-    append-nil (tokens_in (clean (run_row true run ts))) ∙ ap tokens_in (run_bared run ts us e).same ∙ tokens_in-row_of run
+    append-nil (tokens_in (without_trivia (run_row true run ts))) ∙ ap tokens_in (run_bared run ts us e).same ∙ tokens_in-row_of run
 
 -- an entry of a pattern begins
 entry_goes : (after : Place) (f : Frame) (fs : List Frame) (ts us : List Token) (n : ℕ) (es : List Fault) (names names' : Names) → Kept f fs names → AreInOrder n ts → items ts ≡ us
@@ -96,7 +96,7 @@ entry_goes after f fs ts (t ∷ us) n es names names' w o e h same sort does =
     let g : Frame = put after (ate true f.row ts) f in
     let row : AnnotatedForest = one_branch NODE_IDENT (leaf true NODE_IDENT ts) in
     goes_open (opened (Node NODE_PAT_ENTRY) p.EntryMore f.depth row) (g ∷ fs) (behind true ts) (reach true n ts) es names' refl
-    (push_entry g fs names names' f.depth row t (ap (λ x. may_hold x Entry) (same ∙ sort)) (ap only_token (leaf_clean NODE_IDENT ts ∙ ap (leaf_in NODE_IDENT) e)) (does t (ap head_of e))
+    (push_entry g fs names names' f.depth row t (ap (λ x. may_hold x Entry) (same ∙ sort)) (ap only_token (leaf_without_trivia NODE_IDENT ts ∙ ap (leaf_in NODE_IDENT) e)) (does t (ap head_of e))
     (grow_trivia f fs names after ts same w)) (order_behind n ts o)
 
 -- a second name begins
@@ -108,7 +108,7 @@ twice_goes after f fs ts [] n es names names' w o e h same sort does = absurd (t
 twice_goes after f fs ts (t ∷ us) n es names names' w o e h same sort does =
     let g : Frame = put after (ate true f.row ts) f in
     let row : AnnotatedForest = leaf true NODE_ERROR ts in
-    let tokens : tokens_in (clean row) ≡ t ∷ [] = leaf_tokens NODE_ERROR ts ∙ ap firsts e in
+    let tokens : tokens_in (without_trivia row) ≡ t ∷ [] = leaf_tokens NODE_ERROR ts ∙ ap firsts e in
     let end : reach true n ts ≡ t.end = leaf_end n ts ∙ ap (λ x. end_from n (firsts x)) e in
     let ordered : AreInOrder n (t ∷ tail_of (from_item ts)) = subst (AreInOrder n) (first_item t us ts e).here (order_from n ts o) in
     let new = does t (ap head_of e) in
@@ -165,7 +165,7 @@ perform_goes (a.Leaf j after) f fs ts n es names names' w e i o al g k =
     (goes (put after (ate true f.row ts ⊕ row) f) fs (behind true ts) (reach true n ts) es names
     (grow_behind f fs names after ts row (next_sort f.place after (head_kind (items ts)) al.1)
     (λ q. subst (λ x. HasNoEntry (one_branch x (leaf true x ts))) (sym al.2) (λ name. refl)) w)
-    (ends_behind n (reach true n ts) f.head f.row ts row (firsts (items ts)) begun e (append-nil (tokens_in (clean (leaf true j ts))) ∙ leaf_tokens j ts) (leaf_end n ts) (reach_least n ts o))
+    (ends_behind n (reach true n ts) f.head f.row ts row (firsts (items ts)) begun e (append-nil (tokens_in (without_trivia (leaf true j ts))) ∙ leaf_tokens j ts) (leaf_end n ts) (reach_least n ts o))
     (begins_behind names.second f.head f.row ts row begun i) (order_behind n ts o))
 perform_goes (a.Open j inside after) f fs ts n es names names' w e i o al g k =
     let same = next_sort f.place after (head_kind (items ts)) al.1 in

@@ -4,13 +4,13 @@ use Rattle.std.specs.Str.{bytes_eq}
 use Rattle.std.proofs.lemmas.Cmp.{nat_list_eq_equiv}
 use Rattle.rnix_kinds.specs.declared.kinds.SyntaxKind.{SyntaxKind}
 use Rattle.rnix_kinds.specs.declared.kinds.SyntaxKind.TheVariants.{NODE_IDENT, NODE_PATTERN, NODE_PAT_ENTRY}
-use Rattle.rnix_grammar.specs.AnnotatedForest.{Token, Note, AnnotatedForest, blank, token, branch, fault, ◌⊕◌, one_branch, one_fault, tokens_in, clean, end_from, extent_of}
+use Rattle.rnix_grammar.specs.AnnotatedForest.{Token, Note, AnnotatedForest, blank, token, branch, fault, ◌⊕◌, one_branch, one_fault, tokens_in, without_trivia, end_from, extent_of}
 use Rattle.rnix_grammar.specs.Layout.{items, trivia_before}
 use Rattle.rnix_grammar.specs.Reports.{entry_name, is_same_name, has_entry}
 use Rattle.rnix_grammar.specs.Machine.{Head, Node, Second, Operand, leaf, leaf_in}
 use Rattle.rnix_lemmas.proofs.AnnotatedForestLemmas.{tokens_in-⊕}
-use Rattle.rnix_lemmas.proofs.CleanLemmas.{leaf_clean}
-use Rattle.rnix_lemmas.proofs.LayoutLemmas.{clean-⊕, clean-trivia}
+use Rattle.rnix_lemmas.proofs.WithoutTriviaLemmas.{leaf_without_trivia}
+use Rattle.rnix_lemmas.proofs.LayoutLemmas.{without_trivia-⊕, without_trivia-trivia}
 use Rattle.rnix_lemmas.proofs.StrictParts.{end_behind}
 use Rattle.rnix_reader.specs.declared.names.NameSet.{NameSet}
 use Rattle.rnix_reader.specs.Names.{has_name}
@@ -25,7 +25,7 @@ none_is_not_some e = cc
 
 -- a row has no entry of a pattern
 abbrev pub HasNoEntry : AnnotatedForest → Type 0
-HasNoEntry g = (name : List ℕ) → has_entry name (clean g) ≡ false
+HasNoEntry g = (name : List ℕ) → has_entry name (without_trivia g) ≡ false
 
 has_entry-⊕ : (name : List ℕ) (f g : AnnotatedForest) → has_entry name g ≡ false → has_entry name (f ⊕ g) ≡ has_entry name f
 has_entry-⊕ name blank g h = h
@@ -36,7 +36,7 @@ has_entry-⊕ name (fault n c f) g h = has_entry-⊕ name f g h
 
 -- trivia hold no entry
 pub no_entry_trivia : (ts : List Token) → HasNoEntry (trivia_before ts)
-no_entry_trivia ts name = ap (has_entry name) (clean-trivia ts)
+no_entry_trivia ts name = ap (has_entry name) (without_trivia-trivia ts)
 
 -- nor does an error node
 pub no_entry_fault : (n : Note) (c : AnnotatedForest) → HasNoEntry (one_fault n c)
@@ -44,7 +44,7 @@ no_entry_fault n c name = refl
 
 -- nor does a leaf
 pub no_entry_leaf : (k : SyntaxKind) (ts : List Token) → HasNoEntry (leaf true k ts)
-no_entry_leaf k ts name = ap (has_entry name) (leaf_clean k ts) ∙ by (items ts)
+no_entry_leaf k ts name = ap (has_entry name) (leaf_without_trivia k ts) ∙ by (items ts)
   where
     by : (xs : List Token) → has_entry name (leaf_in k xs) ≡ false
     by [] = refl
@@ -79,19 +79,19 @@ entry_name-⊕ (branch NODE_IDENT c f) g t e = e
 entry_name-⊕ (branch k c f) g t e = absurd (none_is_not_some e)
 entry_name-⊕ (fault n c f) g t e = absurd (none_is_not_some e)
 
-tokens_more : (f g : AnnotatedForest) → tokens_in (clean (f ⊕ g)) ≡ tokens_in (clean f) ++ tokens_in (clean g)
-tokens_more f g = ap tokens_in (clean-⊕ f g) ∙ tokens_in-⊕ (clean f) (clean g)
+tokens_more : (f g : AnnotatedForest) → tokens_in (without_trivia (f ⊕ g)) ≡ tokens_in (without_trivia f) ++ tokens_in (without_trivia g)
+tokens_more f g = ap tokens_in (without_trivia-⊕ f g) ∙ tokens_in-⊕ (without_trivia f) (without_trivia g)
 
 -- a row that is begun stays so
 pub begun_more : (h : Head) (f g : AnnotatedForest) → IsBegun h f → IsBegun h (f ⊕ g)
-begun_more (Node NODE_PAT_ENTRY) f g w = (w.0, ap entry_name (clean-⊕ f g) ∙ entry_name-⊕ (clean f) (clean g) w.0 w.1)
+begun_more (Node NODE_PAT_ENTRY) f g w = (w.0, ap entry_name (without_trivia-⊕ f g) ∙ entry_name-⊕ (without_trivia f) (without_trivia g) w.0 w.1)
 begun_more (Node k) f g w = tt
-begun_more Second f g w = (w.0, w.1 ++ tokens_in (clean g), tokens_more f g ∙ ap (λ x. x ++ tokens_in (clean g)) w.2)
+begun_more Second f g w = (w.0, w.1 ++ tokens_in (without_trivia g), tokens_more f g ∙ ap (λ x. x ++ tokens_in (without_trivia g)) w.2)
 begun_more Operand f g w = tt
 
 -- the name of an entry stays
 pub name_more : (h : Head) (f g : AnnotatedForest) → IsBegun h f → name_of h (f ⊕ g) ≡ name_of h f
-name_more (Node NODE_PAT_ENTRY) f g w = ap entry_name (clean-⊕ f g) ∙ entry_name-⊕ (clean f) (clean g) w.0 w.1 ∙ sym w.1
+name_more (Node NODE_PAT_ENTRY) f g w = ap entry_name (without_trivia-⊕ f g) ∙ entry_name-⊕ (without_trivia f) (without_trivia g) w.0 w.1 ∙ sym w.1
 name_more (Node k) f g w = refl
 name_more Second f g w = refl
 name_more Operand f g w = refl
@@ -108,7 +108,7 @@ known_more (Node NODE_PATTERN) f g sets More q w = record {
   below = w.below;
   set = w.set;
   all = w.all;
-  is = λ name. w.is name ∙ sym (ap (has_entry name) (clean-⊕ f g) ∙ has_entry-⊕ name (clean f) (clean g) (q refl name));
+  is = λ name. w.is name ∙ sym (ap (has_entry name) (without_trivia-⊕ f g) ∙ has_entry-⊕ name (without_trivia f) (without_trivia g) (q refl name));
   more = w.more;
 }
 known_more (Node k) f g sets More q w = w
@@ -117,17 +117,17 @@ known_more Operand f g sets More q w = w
 
 -- an entry is complete: its pattern has one more
 pub known_entry : (h : Head) (f c : AnnotatedForest) (t : Token) (below : List NameSet) (s : NameSet) (sets : List NameSet) (More : List NameSet → Type 0)
-    → is_pattern_sort (sort_of_head h) ≡ true → entry_name (clean c) ≡ Some t → sets ≡ below ++ s ∷ [] → More below
-    → ((other : List ℕ) → has_name other s ≡ (if bytes_eq t.text other then true else has_entry other (clean f)))
+    → is_pattern_sort (sort_of_head h) ≡ true → entry_name (without_trivia c) ≡ Some t → sets ≡ below ++ s ∷ [] → More below
+    → ((other : List ℕ) → has_name other s ≡ (if bytes_eq t.text other then true else has_entry other (without_trivia f)))
     → KnownOn h (f ⊕ one_branch NODE_PAT_ENTRY c) sets More
 known_entry (Node NODE_PATTERN) f c t below s sets More q e a m is = record {
   below = below;
   set = s;
   all = a;
   is = λ name. is name
-      ∙ ap (λ x. if x then true else has_entry name (clean f)) (same_text t.text name)
-      ∙ ap (λ x. if is_same_name name x then true else has_entry name (clean f)) (sym e)
-      ∙ sym (ap (has_entry name) (clean-⊕ f (one_branch NODE_PAT_ENTRY c)) ∙ has_entry-more name (clean f) (clean c));
+      ∙ ap (λ x. if x then true else has_entry name (without_trivia f)) (same_text t.text name)
+      ∙ ap (λ x. if is_same_name name x then true else has_entry name (without_trivia f)) (sym e)
+      ∙ sym (ap (has_entry name) (without_trivia-⊕ f (one_branch NODE_PAT_ENTRY c)) ∙ has_entry-more name (without_trivia f) (without_trivia c));
   more = m;
 }
 known_entry (Node k) f c t below s sets More q e a m is = absurd (true_is_not_false (sym q))
@@ -138,17 +138,17 @@ known_entry Operand f c t below s sets More q e a m is = absurd (true_is_not_fal
 pub begins_more : (n : ℕ) (h : Head) (f g : AnnotatedForest) → IsBegun h f → BeginsAt n h f → BeginsAt n h (f ⊕ g)
 begins_more n (Node k) f g w e = tt
 begins_more n Second f g w e =
-    e ∙ ap (λ x. (extent_of x).start) w.2 ∙ sym (ap (λ x. (extent_of x).start) (tokens_more f g ∙ ap (λ x. x ++ tokens_in (clean g)) w.2))
+    e ∙ ap (λ x. (extent_of x).start) w.2 ∙ sym (ap (λ x. (extent_of x).start) (tokens_more f g ∙ ap (λ x. x ++ tokens_in (without_trivia g)) w.2))
 begins_more n Operand f g w e = tt
 
 -- and ends where the items behind it end
-pub ends_more : (n m : ℕ) (h : Head) (f g : AnnotatedForest) (us : List Token) → IsBegun h f → EndsAt n h f → tokens_in (clean g) ≡ us → m ≡ end_from n us → n ≤ m → EndsAt m h (f ⊕ g)
+pub ends_more : (n m : ℕ) (h : Head) (f g : AnnotatedForest) (us : List Token) → IsBegun h f → EndsAt n h f → tokens_in (without_trivia g) ≡ us → m ≡ end_from n us → n ≤ m → EndsAt m h (f ⊕ g)
 ends_more n m (Node k) f g us w e i r l = tt
 ends_more n m Second f g us w e i r l =
-    let old : tokens_in (clean f) ≡ w.0 ∷ w.1 = w.2 in
-    let new : tokens_in (clean (f ⊕ g)) ≡ w.0 ∷ (w.1 ++ us) = tokens_more f g ∙ ap (λ x. x ++ tokens_in (clean g)) old ∙ ap (λ x. w.0 ∷ (w.1 ++ x)) i in
+    let old : tokens_in (without_trivia f) ≡ w.0 ∷ w.1 = w.2 in
+    let new : tokens_in (without_trivia (f ⊕ g)) ≡ w.0 ∷ (w.1 ++ us) = tokens_more f g ∙ ap (λ x. x ++ tokens_in (without_trivia g)) old ∙ ap (λ x. w.0 ∷ (w.1 ++ x)) i in
     let last : n ≡ end_from w.0.end w.1 = e.0 ∙ ap (λ x. (extent_of x).end) old in
-    let end : m ≡ (extent_of (tokens_in (clean (f ⊕ g)))).end =
+    let end : m ≡ (extent_of (tokens_in (without_trivia (f ⊕ g)))).end =
     r ∙ ap (λ x. end_from x us) last ∙ sym (end_behind w.0.end w.1 us) ∙ sym (ap (λ x. (extent_of x).end) new) in
     (end, omega (arith, e.1, ap (λ x. (extent_of x).start) old, ap (λ x. (extent_of x).start) new, l))
 ends_more n m Operand f g us w e i r l = tt

@@ -14,7 +14,7 @@ use Rattle.rnix_grammar.specs.declared.place.Place.{Place}
 use Rattle.rnix_grammar.specs.Fault.{unwanted, extra, bound_twice}
 use Rattle.rnix_grammar.specs.Tables.{is_wanted, stops, wanted_kinds, operand_kinds}
 use Rattle.rnix_grammar.specs.AnnotatedForest.{Token, token, row_of, forget, head_of, head_kind, kind_in, end_from, extent_of, Unwanted as UnwantedNote, Extra as ExtraNote, Stray as StrayNote}
-use Rattle.rnix_grammar.specs.Layout.{items, from_item, trivia_before, tail_of, dressed, item_if}
+use Rattle.rnix_grammar.specs.Layout.{items, from_item, trivia_before, tail_of, with_trivia, item_if}
 use Rattle.rnix_grammar.specs.Machine.{leaf_in, end_of}
 use Rattle.rnix_grammar.specs.Missing.{run_of}
 use Rattle.rnix_grammar.specs.Reports.{report}
@@ -40,7 +40,7 @@ pub skipped-more : (t : Token) (us run : List Token) (s s' : State) → items s.
 unfolding skipped bumped
 skipped-more t us run s s' i e =
     let here : from_item s.rest ≡ t ∷ tail_of (from_item s.rest) = (first_item t us s.rest i).here in
-    let more = dressed (row_of run) (tail_of (from_item s.rest)) in
+    let more = with_trivia (row_of run) (tail_of (from_item s.rest)) in
     state_is refl
     (ap (join s.trees) (forget-⊕ (trivia_before s.rest) (token t.kind t more))
     ∙ sym (join_assoc s.trees (forget (trivia_before s.rest)) (leaf t.kind t.text (forget more)))

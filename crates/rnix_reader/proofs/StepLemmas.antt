@@ -15,7 +15,7 @@ use Rattle.rnix_grammar.specs.declared.action.Action.TheVariants as a
 use Rattle.rnix_grammar.specs.Tables.{wanted_kinds}
 use Rattle.rnix_grammar.specs.Actions.{action_at}
 use Rattle.rnix_grammar.specs.Fault.{Fault, ended as ended_fault, ended_before, bound_twice}
-use Rattle.rnix_grammar.specs.AnnotatedForest.{Token, token, Unwanted, Extra, Twice, forget, clean, tokens_in, extent_of, AnnotatedForest, blank, ◌⊕◌, one_branch, one_fault, leaf_kind, leaf_kind_as, head_kind, end_from}
+use Rattle.rnix_grammar.specs.AnnotatedForest.{Token, token, Unwanted, Extra, Twice, forget, without_trivia, tokens_in, extent_of, AnnotatedForest, blank, ◌⊕◌, one_branch, one_fault, leaf_kind, leaf_kind_as, head_kind, end_from}
 use Rattle.rnix_grammar.specs.Layout.{items, from_item}
 use Rattle.rnix_grammar.specs.Reports.{report}
 use Rattle.rnix_grammar.specs.Machine.{Head, Node, Second, Operand, Frame, Machine, put, opened, ate, leaf, leaf_in, behind, reach, machine, closed, perform, step, kind_of, run_row, run_rest, low_of, made}
@@ -322,7 +322,7 @@ checkpoint_there f fs ts n es mark s h e d same =
 
 -- the range of a second name
 second_start : (x n : ℕ) (h : Head) (row : AnnotatedForest) → h ≡ Second → BeginsAt x h row → EndsAt n h row
-    → (x ≡ (extent_of (tokens_in (clean row))).start) × ((n ≡ (extent_of (tokens_in (clean row))).end) × ((extent_of (tokens_in (clean row))).start ≤ n))
+    → (x ≡ (extent_of (tokens_in (without_trivia row))).start) × ((n ≡ (extent_of (tokens_in (without_trivia row))).end) × ((extent_of (tokens_in (without_trivia row))).start ≤ n))
 second_start x n h row e b w = (subst (λ y. BeginsAt x y row) e b, subst (λ y. EndsAt n y row) e w)
 
 -- a second name ends no earlier than it begins
@@ -344,11 +344,11 @@ done_twice f (g ∷ fs) ts n m mark s names h e =
     let o = head_again f.head (st.sort ∙ e) in
     let r = second_start names.second n f.head f.row o h.named.second h.well.ends in
     let reached : s.reached ≡ n = ap (λ x. x.reached) st.state in
-    let range : (let y : Extent = record { start = names.second; end = s.reached } in y) ≡ extent_of (tokens_in (clean f.row)) =
+    let range : (let y : Extent = record { start = names.second; end = s.reached } in y) ≡ extent_of (tokens_in (without_trivia f.row)) =
     ap (λ x. let y : Extent = record { start = x; end = s.reached } in y) r.0
-    ∙ ap (λ x. let y : Extent = record { start = (extent_of (tokens_in (clean f.row))).start; end = x } in y) (reached ∙ r.1.0) in
-    ap (λ x. failed (bound_twice x) (ended s)) range ∙ ap (failed (report Twice (tokens_in (clean f.row)))) (step-close_twice f g fs ts n m.faults mark s st o)
-    ∙ flat-failed _ (report Twice (tokens_in (clean f.row))) (put g.place (g.row ⊕ made f.head f.row) g ∷ fs) ts n m.faults
+    ∙ ap (λ x. let y : Extent = record { start = (extent_of (tokens_in (without_trivia f.row))).start; end = x } in y) (reached ∙ r.1.0) in
+    ap (λ x. failed (bound_twice x) (ended s)) range ∙ ap (failed (report Twice (tokens_in (without_trivia f.row)))) (step-close_twice f g fs ts n m.faults mark s st o)
+    ∙ flat-failed _ (report Twice (tokens_in (without_trivia f.row))) (put g.place (g.row ⊕ made f.head f.row) g ∷ fs) ts n m.faults
 
 -- an operand in a node, by the level that the code has found
 pub over_there : (f : Frame) (fs : List Frame) (ts : List Token) (n : ℕ) (es : List Fault) (mark : Mark) (s : State) (h : Stands f fs ts n es mark s)

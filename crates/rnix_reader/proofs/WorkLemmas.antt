@@ -21,7 +21,7 @@ use Rattle.rnix_grammar.specs.Machine.{Node, Operand, Frame, Machine, put, opene
 use Rattle.rnix_grammar.specs.Missing.{run_of}
 use Rattle.rnix_grammar.specs.Begins.{second_kind}
 use Rattle.rnix_lemmas.proofs.LayoutLemmas.{items-from_item}
-use Rattle.rnix_lemmas.proofs.CleanLemmas.{items_behind, run_prefix, all_prefix, run_bared}
+use Rattle.rnix_lemmas.proofs.WithoutTriviaLemmas.{items_behind, run_prefix, all_prefix, run_bared}
 use Rattle.rnix_lemmas.proofs.RunLemmas.{dropped_all, run_begins}
 use Rattle.rnix_reader.specs.declared.mark.Mark.{Mark}
 use Rattle.rnix_grammar.specs.Sorts.{Sort, Plain, sort_of, sort_in}

@@ -9,7 +9,7 @@ use Rattle.rnix_grammar.specs.declared.begin.Begin.{Begin}
 use Rattle.rnix_grammar.specs.declared.begin.Begin.TheVariants as b
 use Rattle.rnix_grammar.specs.declared.place.Place.TheVariants as p
 use Rattle.rnix_grammar.specs.Actions.{action_at}
-use Rattle.rnix_grammar.specs.AnnotatedForest.{Token, AnnotatedForest, tokens_in, clean, forget, extent_of, head_kind, touches}
+use Rattle.rnix_grammar.specs.AnnotatedForest.{Token, AnnotatedForest, tokens_in, without_trivia, forget, extent_of, head_kind, touches}
 use Rattle.rnix_grammar.specs.Layout.{items}
 use Rattle.rnix_grammar.specs.Machine.{Head, Node, Second, Frame, Machine, machine, begins, ate, Runs}
 use Rattle.rnix_grammar.specs.Reports.{entry_name, has_entry}
@@ -29,8 +29,8 @@ use Rattle.rnix_grammar.specs.Weights.{weight, bonus}
 
 -- an entry begins with its name, and a second name with a token
 abbrev pub IsBegun : Head → AnnotatedForest → Type 0
-IsBegun (Node NODE_PAT_ENTRY) row = (t : Token) × (entry_name (clean row) ≡ Some t)
-IsBegun Second row = (t : Token) × (us : List Token) × (tokens_in (clean row) ≡ t ∷ us)
+IsBegun (Node NODE_PAT_ENTRY) row = (t : Token) × (entry_name (without_trivia row) ≡ Some t)
+IsBegun Second row = (t : Token) × (us : List Token) × (tokens_in (without_trivia row) ≡ t ∷ us)
 IsBegun head row = Unit {0}
 
 -- a frame whose head stands at its place
@@ -45,7 +45,7 @@ AreFit f (g ∷ fs) = IsFit f × (may_hold (sort_of g.place) (sort_of f.place) �
 
 -- a second name ends where the last item ended
 abbrev pub EndsAt : ℕ → Head → AnnotatedForest → Type 0
-EndsAt n Second row = (n ≡ (extent_of (tokens_in (clean row))).end) × ((extent_of (tokens_in (clean row))).start ≤ n)
+EndsAt n Second row = (n ≡ (extent_of (tokens_in (without_trivia row))).end) × ((extent_of (tokens_in (without_trivia row))).start ≤ n)
 EndsAt n head row = Unit {0}
 
 -- the frames fit, a second name ends where it should, and the tokens are in order
@@ -66,7 +66,7 @@ range_of (Some t) = extent_of (t ∷ []) ∷ []
 
 -- the name of an open entry
 abbrev pub name_of : Head → AnnotatedForest → Option Token
-name_of (Node NODE_PAT_ENTRY) row = entry_name (clean row)
+name_of (Node NODE_PAT_ENTRY) row = entry_name (without_trivia row)
 name_of head row = None
 
 -- the names of all open entries, the innermost last
@@ -81,7 +81,7 @@ ranges_of (f ∷ fs) = ranges_of fs ++ range_of (name_of f.head f.row)
 
 -- a set has the names of a pattern's entries
 abbrev pub IsOf : NameSet → AnnotatedForest → Type 0
-IsOf s row = (name : List ℕ) → has_name name s ≡ has_entry name (clean row)
+IsOf s row = (name : List ℕ) → has_name name s ≡ has_entry name (without_trivia row)
 
 -- the last of some sets is that of a pattern, and more holds of those below
 pub record Tops (sets : List NameSet) (row : AnnotatedForest) (More : List NameSet → Type 0) : Type 0 where
@@ -103,7 +103,7 @@ Known (f ∷ fs) sets = KnownOn f.head f.row sets (Known fs)
 
 -- a second name begins at a place
 abbrev pub BeginsAt : ℕ → Head → AnnotatedForest → Type 0
-BeginsAt n Second row = n ≡ (extent_of (tokens_in (clean row))).start
+BeginsAt n Second row = n ≡ (extent_of (tokens_in (without_trivia row))).start
 BeginsAt n head row = Unit {0}
 
 -- the names that the reader keeps are those of the open patterns and entries

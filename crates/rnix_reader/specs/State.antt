@@ -6,7 +6,7 @@ use Rattle.rnix_green.specs.Forest.{Forest, join, tree_count}
 use Rattle.rnix_green.specs.Draft.{Draft, OpenNode, node_closed}
 use Rattle.rnix_grammar.specs.Fault.{Fault, fault_of}
 use Rattle.rnix_grammar.specs.AnnotatedForest.{Token, row_of, forget, end_from, head_of}
-use Rattle.rnix_grammar.specs.Layout.{items, from_item, trivia_before, tail_of, left_after, dressed}
+use Rattle.rnix_grammar.specs.Layout.{items, from_item, trivia_before, tail_of, left_after, with_trivia}
 use Rattle.rnix_grammar.specs.Machine.{leaf_in, end_of}
 use Rattle.rnix_reader.specs.declared.mark.Mark.{Mark}
 use Rattle.rnix_reader.specs.declared.parser.Parser.{Parser}
@@ -65,7 +65,7 @@ bumped k s = record {
 unfoldable pub skipped : List Token → State → State
 skipped run s = record {
   rest = left_after (row_of run) s.rest;
-  trees = join s.trees (forget (dressed (row_of run) s.rest));
+  trees = join s.trees (forget (with_trivia (row_of run) s.rest));
   open_nodes = s.open_nodes;
   faults = s.faults;
   reached = end_from s.reached run;

@@ -2,14 +2,14 @@
 use Rattle.std.proofs.Common.{◌≡◌, true, false, List, [], ◌∷◌, ◌++◌, refl, ap, sym, ◌∙◌, subst}
 use Rattle.rnix_kinds.specs.declared.kinds.SyntaxKind.{SyntaxKind}
 use Rattle.rnix_kinds.specs.SyntaxKind.{is_trivia}
-use Rattle.rnix_grammar.specs.AnnotatedForest.{Token, Note, TooDeep, AnnotatedForest, blank, token, branch, fault, ◌⊕◌, one_branch, one_fault, clean, token_if, leaf_kind, head_kind}
-use Rattle.rnix_grammar.specs.Layout.{from_item, from_item_if, trivia_if, trivia_before, items, tail_of, is_last, trivia_after, rest_after, left_after, dressed}
+use Rattle.rnix_grammar.specs.AnnotatedForest.{Token, Note, TooDeep, AnnotatedForest, blank, token, branch, fault, ◌⊕◌, one_branch, one_fault, without_trivia, token_if, leaf_kind, head_kind}
+use Rattle.rnix_grammar.specs.Layout.{from_item, from_item_if, trivia_if, trivia_before, items, tail_of, is_last, trivia_after, rest_after, left_after, with_trivia}
 use Rattle.rnix_grammar.specs.Machine.{ate, behind, leaf_in, leaf, run_row, run_rest}
 use Rattle.rnix_grammar.specs.Allowed.{is_there}
 use Rattle.rnix_lemmas.proofs.Basics.{true_is_not_false}
 use Rattle.rnix_lemmas.proofs.AnnotatedForestLemmas.{⊕-assoc, ⊕-blank}
 use Rattle.rnix_lemmas.proofs.LayoutLemmas.{trivia-from_item, from_item-from_item, items_head, items-view, from_item_item}
-use Rattle.rnix_lemmas.proofs.CleanLemmas.{ate_clean, added_clean, run_bared}
+use Rattle.rnix_lemmas.proofs.WithoutTriviaLemmas.{ate_without_trivia, added_without_trivia, run_bared}
 
 -- what is left behind two rows
 pub left_after-⊕ : (f g : AnnotatedForest) (ts : List Token) → left_after (f ⊕ g) ts ≡ left_after g (left_after f ts)
@@ -19,18 +19,18 @@ left_after-⊕ (branch k c f) g ts = left_after-⊕ f g (left_after c (from_item
 left_after-⊕ (fault n c f) g ts = left_after-⊕ f g (rest_after (is_last n) (left_after c (from_item ts)))
 
 -- two rows with their trivia, the second from where the first ends
-pub dressed-⊕ : (f g : AnnotatedForest) (ts : List Token) → dressed (f ⊕ g) ts ≡ dressed f ts ⊕ dressed g (left_after f ts)
-dressed-⊕ blank g ts = refl
-dressed-⊕ (token k t f) g ts =
-    let rest = tail_of (from_item ts) in rw (dressed-⊕ f g rest) (sym (⊕-assoc (trivia_before ts) (token k t (dressed f rest)) (dressed g (left_after f rest))))
-dressed-⊕ (branch k c f) g ts =
+pub with_trivia-⊕ : (f g : AnnotatedForest) (ts : List Token) → with_trivia (f ⊕ g) ts ≡ with_trivia f ts ⊕ with_trivia g (left_after f ts)
+with_trivia-⊕ blank g ts = refl
+with_trivia-⊕ (token k t f) g ts =
+    let rest = tail_of (from_item ts) in rw (with_trivia-⊕ f g rest) (sym (⊕-assoc (trivia_before ts) (token k t (with_trivia f rest)) (with_trivia g (left_after f rest))))
+with_trivia-⊕ (branch k c f) g ts =
     let rest = left_after c (from_item ts) in
-    rw (dressed-⊕ f g rest) (sym (⊕-assoc (trivia_before ts) (branch k (dressed c (from_item ts)) (dressed f rest)) (dressed g (left_after f rest))))
-dressed-⊕ (fault n c f) g ts =
+    rw (with_trivia-⊕ f g rest) (sym (⊕-assoc (trivia_before ts) (branch k (with_trivia c (from_item ts)) (with_trivia f rest)) (with_trivia g (left_after f rest))))
+with_trivia-⊕ (fault n c f) g ts =
     let later = rest_after (is_last n) (left_after c (from_item ts)) in
     let own = trivia_after (is_last n) (left_after c (from_item ts)) in
-    rw (dressed-⊕ f g later, sym (⊕-assoc own (dressed f later) (dressed g (left_after f later))))
-    (sym (⊕-assoc (trivia_before ts) (fault n (dressed c (from_item ts)) (own ⊕ dressed f later)) (dressed g (left_after f later))))
+    rw (with_trivia-⊕ f g later, sym (⊕-assoc own (with_trivia f later) (with_trivia g (left_after f later))))
+    (sym (⊕-assoc (trivia_before ts) (fault n (with_trivia c (from_item ts)) (own ⊕ with_trivia f later)) (with_trivia g (left_after f later))))
 
 -- some tree stands in a row
 abbrev pub HasTree : AnnotatedForest → Type 0
@@ -59,17 +59,17 @@ pub bare_trivia : (ts : List Token) → IsBare ts → trivia_before ts ≡ blank
 bare_trivia ts h = ap trivia_before (sym h) ∙ trivia-from_item ts
 
 -- a row is what its items and the tokens make of it, and these tokens are left behind it
-pub record IsDressed (row : AnnotatedForest) (ts us : List Token) : Type 0 where
-  pub same : dressed (clean row) ts ≡ row
-  pub left : left_after (clean row) ts ≡ us
+pub record HasTrivia (row : AnnotatedForest) (ts us : List Token) : Type 0 where
+  pub same : with_trivia (without_trivia row) ts ≡ row
+  pub left : left_after (without_trivia row) ts ≡ us
 
 -- nothing is read yet
-pub dressed_blank : (ts : List Token) → IsDressed blank ts ts
-dressed_blank ts = record { same = refl; left = refl }
+pub with_trivia_blank : (ts : List Token) → HasTrivia blank ts ts
+with_trivia_blank ts = record { same = refl; left = refl }
 
 -- what some items make of the tokens, by what they make of those from the first item on
 record IsAhead (c : AnnotatedForest) (ts : List Token) : Type 0 where
-  pub same : dressed c ts ≡ trivia_before ts ⊕ dressed c (from_item ts)
+  pub same : with_trivia c ts ≡ trivia_before ts ⊕ with_trivia c (from_item ts)
   pub left : left_after c ts ≡ left_after c (from_item ts)
 
 -- trivia come before the first tree
@@ -80,64 +80,64 @@ ahead (branch k c f) ts h = record { same = rw (from_item-from_item ts, trivia-f
 ahead (fault n c f) ts h = record { same = rw (from_item-from_item ts, trivia-from_item ts) refl; left = rw (from_item-from_item ts) refl }
 
 -- a row with trivia and trees behind it
-pub dressed_added : (row g : AnnotatedForest) (ts us vs : List Token) → IsDressed row ts us → IsDressed g (from_item us) vs → HasTree (clean g) → IsDressed (ate true row us ⊕ g) ts vs
-dressed_added row g ts us vs h j t =
-    let parts : clean (ate true row us ⊕ g) ≡ clean row ⊕ clean g = added_clean row us g refl in
-    let a : IsAhead (clean g) us = ahead (clean g) us t in
+pub with_trivia_added : (row g : AnnotatedForest) (ts us vs : List Token) → HasTrivia row ts us → HasTrivia g (from_item us) vs → HasTree (without_trivia g) → HasTrivia (ate true row us ⊕ g) ts vs
+with_trivia_added row g ts us vs h j t =
+    let parts : without_trivia (ate true row us ⊕ g) ≡ without_trivia row ⊕ without_trivia g = added_without_trivia row us g refl in
+    let a : IsAhead (without_trivia g) us = ahead (without_trivia g) us t in
     record {
-      same = rw (parts, dressed-⊕ (clean row) (clean g) ts, h.same, h.left, a.same, j.same) (sym (⊕-assoc row (trivia_before us) g));
-      left = rw (parts, left_after-⊕ (clean row) (clean g) ts, h.left, a.left) j.left;
+      same = rw (parts, with_trivia-⊕ (without_trivia row) (without_trivia g) ts, h.same, h.left, a.same, j.same) (sym (⊕-assoc row (trivia_before us) g));
+      left = rw (parts, left_after-⊕ (without_trivia row) (without_trivia g) ts, h.left, a.left) j.left;
     }
 
 -- a tree is in a row with trivia and trees behind it
-pub tree_added : (row : AnnotatedForest) (us : List Token) (g : AnnotatedForest) → HasTree (clean g) → HasTree (clean (ate true row us ⊕ g))
-tree_added row us g h = subst HasTree (sym (added_clean row us g refl)) (tree_behind (clean row) (clean g) h)
+pub tree_added : (row : AnnotatedForest) (us : List Token) (g : AnnotatedForest) → HasTree (without_trivia g) → HasTree (without_trivia (ate true row us ⊕ g))
+tree_added row us g h = subst HasTree (sym (added_without_trivia row us g refl)) (tree_behind (without_trivia row) (without_trivia g) h)
 
 -- a node over a row
-pub dressed_branch : (k : SyntaxKind) (row : AnnotatedForest) (ts us : List Token) → IsBare ts → IsDressed row ts us → IsDressed (one_branch k row) ts us
-dressed_branch k row ts us b h = record { same = rw (bare_trivia ts b, b, h.same) refl; left = ap (left_after (clean row)) b ∙ h.left }
+pub with_trivia_branch : (k : SyntaxKind) (row : AnnotatedForest) (ts us : List Token) → IsBare ts → HasTrivia row ts us → HasTrivia (one_branch k row) ts us
+with_trivia_branch k row ts us b h = record { same = rw (bare_trivia ts b, b, h.same) refl; left = ap (left_after (without_trivia row)) b ∙ h.left }
 
 -- an error node over a row, behind which trivia need not stand
-pub dressed_fault : (n : Note) (row : AnnotatedForest) (ts us : List Token) → is_last n ≡ false → IsBare ts → IsDressed row ts us → IsDressed (one_fault n row) ts us
-dressed_fault n row ts us e b h = record { same = rw (bare_trivia ts b, b, e, h.same) refl; left = rw (b, e) h.left }
+pub with_trivia_fault : (n : Note) (row : AnnotatedForest) (ts us : List Token) → is_last n ≡ false → IsBare ts → HasTrivia row ts us → HasTrivia (one_fault n row) ts us
+with_trivia_fault n row ts us e b h = record { same = rw (bare_trivia ts b, b, e, h.same) refl; left = rw (b, e) h.left }
 
 -- the node of what is too deep, with the trivia behind it
-pub dressed_last : (row : AnnotatedForest) (ts us : List Token) → IsBare ts → IsDressed row ts us → IsDressed (ate true (one_fault TooDeep row) us) ts (from_item us)
-dressed_last row ts us b h =
-    let bare : clean (ate true (one_fault TooDeep row) us) ≡ one_fault TooDeep (clean row) = ate_clean (one_fault TooDeep row) us in
+pub with_trivia_last : (row : AnnotatedForest) (ts us : List Token) → IsBare ts → HasTrivia row ts us → HasTrivia (ate true (one_fault TooDeep row) us) ts (from_item us)
+with_trivia_last row ts us b h =
+    let bare : without_trivia (ate true (one_fault TooDeep row) us) ≡ one_fault TooDeep (without_trivia row) = ate_without_trivia (one_fault TooDeep row) us in
     record {
-      same = ap (λ x. dressed x ts) bare ∙ rw (bare_trivia ts b, b, h.same, h.left) (ap (fault TooDeep row) (⊕-blank (trivia_before us)));
-      left = ap (λ x. left_after x ts) bare ∙ ap (λ x. from_item (left_after (clean row) x)) b ∙ ap from_item h.left;
+      same = ap (λ x. with_trivia x ts) bare ∙ rw (bare_trivia ts b, b, h.same, h.left) (ap (fault TooDeep row) (⊕-blank (trivia_before us)));
+      left = ap (λ x. left_after x ts) bare ∙ ap (λ x. from_item (left_after (without_trivia row) x)) b ∙ ap from_item h.left;
     }
 
 -- the next item as a leaf
-pub dressed_leaf : (k : SyntaxKind) (ts : List Token) → IsDressed (leaf true k ts) (from_item ts) (behind true ts)
-dressed_leaf k ts = by_head (from_item ts) refl
+pub with_trivia_leaf : (k : SyntaxKind) (ts : List Token) → HasTrivia (leaf true k ts) (from_item ts) (behind true ts)
+with_trivia_leaf k ts = by_head (from_item ts) refl
   where
-    by_item : (x : Token) (xs : List Token) → is_trivia x.kind ≡ false → IsDressed (token (leaf_kind k x) x blank) (x ∷ xs) xs
+    by_item : (x : Token) (xs : List Token) → is_trivia x.kind ≡ false → HasTrivia (token (leaf_kind k x) x blank) (x ∷ xs) xs
     by_item x xs e =
-        let bare : clean (token (leaf_kind k x) x blank) ≡ token (leaf_kind k x) x blank = ap (λ y. token_if y (leaf_kind k x) x blank) e in
+        let bare : without_trivia (token (leaf_kind k x) x blank) ≡ token (leaf_kind k x) x blank = ap (λ y. token_if y (leaf_kind k x) x blank) e in
         let here : from_item (x ∷ xs) ≡ x ∷ xs = ap (λ y. from_item_if y x xs (from_item xs)) e in
         record {
           same =
-              ap (λ y. dressed y (x ∷ xs)) bare ∙ ap (λ y. trivia_if y x (trivia_before xs) ⊕ token (leaf_kind k x) x blank) e;
+              ap (λ y. with_trivia y (x ∷ xs)) bare ∙ ap (λ y. trivia_if y x (trivia_before xs) ⊕ token (leaf_kind k x) x blank) e;
           left = ap (λ y. left_after y (x ∷ xs)) bare ∙ ap tail_of here;
         }
 
-    by_head : (xs : List Token) → from_item ts ≡ xs → IsDressed (leaf_in k xs) xs (tail_of xs)
-    by_head [] e = dressed_blank []
+    by_head : (xs : List Token) → from_item ts ≡ xs → HasTrivia (leaf_in k xs) xs (tail_of xs)
+    by_head [] e = with_trivia_blank []
     by_head (x ∷ xs) e = by_item x xs (from_item_item ts x xs e)
 
 -- there is one where an item is left
-pub tree_leaf : (k : SyntaxKind) (ts : List Token) → is_there (head_kind (items ts)) ≡ true → HasTree (clean (leaf true k ts))
+pub tree_leaf : (k : SyntaxKind) (ts : List Token) → is_there (head_kind (items ts)) ≡ true → HasTree (without_trivia (leaf true k ts))
 tree_leaf k ts h = by_head (from_item ts) refl (subst (λ (x : List Token). is_there (head_kind x) ≡ true) (items-view ts) h)
   where
-    by_head : (xs : List Token) → from_item ts ≡ xs → is_there (head_kind (items_head xs)) ≡ true → HasTree (clean (leaf_in k xs))
+    by_head : (xs : List Token) → from_item ts ≡ xs → is_there (head_kind (items_head xs)) ≡ true → HasTree (without_trivia (leaf_in k xs))
     by_head [] e h = absurd (true_is_not_false (sym h))
     by_head (x ∷ xs) e h = rw (from_item_item ts x xs e) tt
 
 -- the first items as leaves
-pub dressed_run : (run ts us : List Token) → items ts ≡ run ++ us → IsDressed (run_row true run ts) (from_item ts) (run_rest true run ts)
-dressed_run run ts us e =
+pub with_trivia_run : (run ts us : List Token) → items ts ≡ run ++ us → HasTrivia (run_row true run ts) (from_item ts) (run_rest true run ts)
+with_trivia_run run ts us e =
     let w = run_bared run ts us e in
-    record { same = ap (λ x. dressed x (from_item ts)) w.same; left = ap (λ x. left_after x (from_item ts)) w.same }
+    record { same = ap (λ x. with_trivia x (from_item ts)) w.same; left = ap (λ x. left_after x (from_item ts)) w.same }

@@ -5,7 +5,7 @@ use Rattle.rnix_kinds.specs.declared.kinds.SyntaxKind.TheVariants.{NODE_ERROR, N
 use Rattle.rnix_green.specs.Forest.{text_of, node}
 use Rattle.rnix_green.specs.Tree.{Tree, Item, item, extent_of}
 use Rattle.rnix_grammar.specs.Fault.{Fault}
-use Rattle.rnix_grammar.specs.AnnotatedForest.{Note, Stray, Unwanted, Extra, Twice, TooDeep, AnnotatedForest, token, tokens_in, forget, is_some, HaveLeafKinds, extent_of as place_of, Token, blank, branch, clean, token_if}
+use Rattle.rnix_grammar.specs.AnnotatedForest.{Note, Stray, Unwanted, Extra, Twice, TooDeep, AnnotatedForest, token, tokens_in, forget, is_some, HaveLeafKinds, extent_of as place_of, Token, blank, branch, without_trivia, token_if}
 use Rattle.rnix_grammar.specs.Reports.{first_kind, report, only_token, entry_name}
 use Rattle.rnix_grammar.specs.Stands.{begins_with_token}
 use Rattle.rnix_grammar.specs.Trim.{AreNamesBare, is_bare, begins_with_node}
@@ -80,7 +80,7 @@ bare_if : (b : Bool) (j : SyntaxKind) (y x : Token) → only_token (token_if b j
 bare_if true j y x h = none_some x h
 bare_if false j y x h = some_same y x h
 
-bare_name : (c : AnnotatedForest) (x : Token) → is_bare c ≡ true → only_token (clean c) ≡ Some x → IsName x c
+bare_name : (c : AnnotatedForest) (x : Token) → is_bare c ≡ true → only_token (without_trivia c) ≡ Some x → IsName x c
 bare_name blank x b h = none_some x h
 bare_name (token j y blank) x b h = subst (λ z. IsName x (token j z blank)) (sym (bare_if (is_trivia y.kind) j y x h)) (name j)
 bare_name _ x b h = absurd (true_is_not_false (sym b))
@@ -105,8 +105,8 @@ name_here t e s x _ f k h a (name j) =
 
 -- the name that the row of an entry begins with
 pub row_name : (t : Tree) (e s : ℕ) (c : AnnotatedForest) (x : Token) → (item t e).kind ≡ NODE_PAT_ENTRY → IsRowIn t (e + 1) s (Some e) (forget c) → ArePlaced s (tokens_in c)
-    → AreNamesBare c → begins_with_node c ≡ true → entry_name (clean c) ≡ Some x → IsEntryName t e (place_of (x ∷ [])) x.text
+    → AreNamesBare c → begins_with_node c ≡ true → entry_name (without_trivia c) ≡ Some x → IsEntryName t e (place_of (x ∷ [])) x.text
 row_name t e s (branch j d f) x k h a r b g =
-    let w = name_node j (clean d) (clean f) x g in
+    let w = name_node j (without_trivia d) (without_trivia f) x g in
     name_here t e s x d f k (subst (λ z. IsRowIn t (e + 1) s (Some e) (node z (forget d) (forget f))) w.0 h) (placed_first s (tokens_in d) (tokens_in f) a) (bare_name d x (r.0.0 w.0) w.1)
 row_name t e s _ x k h a r b g = absurd (true_is_not_false (sym b))

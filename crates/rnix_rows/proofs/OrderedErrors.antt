@@ -7,15 +7,15 @@ use Rattle.rnix_kinds.specs.SyntaxKind.{is_trivia}
 use Rattle.rnix_green.specs.Forest.{text_of, element_count}
 use Rattle.rnix_green.specs.Tree.{Tree, Item, item}
 use Rattle.rnix_grammar.specs.Fault.{named_twice}
-use Rattle.rnix_grammar.specs.AnnotatedForest.{Token, Note, AnnotatedForest, blank, token, branch, fault, ◌⊕◌, one_token, one_branch, one_fault, tokens_in, forget, clean, token_if, HaveLeafKinds, extent_of as place_of}
+use Rattle.rnix_grammar.specs.AnnotatedForest.{Token, Note, AnnotatedForest, blank, token, branch, fault, ◌⊕◌, one_token, one_branch, one_fault, tokens_in, forget, without_trivia, token_if, HaveLeafKinds, extent_of as place_of}
 use Rattle.rnix_grammar.specs.Reports.{entry_name, is_same_name, has_entry, repeated_if}
 use Rattle.rnix_grammar.specs.Reports.{repeats}
 use Rattle.rnix_grammar.specs.Shape.{reports_within, name_if, with_name}
 use Rattle.rnix_grammar.specs.Tables.{is_among}
 use Rattle.rnix_grammar.specs.Ranges.{is_error_node, IsEntryName, is_among_if, is_at_fault, at_fault_from, AreErrorsOf}
-use Rattle.rnix_lemmas.proofs.LayoutLemmas.{clean-⊕}
+use Rattle.rnix_lemmas.proofs.LayoutLemmas.{without_trivia-⊕}
 use Rattle.rnix_lemmas.proofs.EntryNames.{bare_name, has_branch, has-⊕, if_not}
-use Rattle.rnix_rows.proofs.TreeShapes.{Lists, clean_name, repeats_named, text_in as name_of}
+use Rattle.rnix_rows.proofs.TreeShapes.{Lists, without_trivia_name, repeats_named, text_in as name_of}
 use Rattle.rnix_rows.proofs.PlacedTokens.{ArePlaced, text_in, placed_first, placed_rest, forget-length}
 use Rattle.rnix_rows.proofs.RowsIn.{IsRowIn, row_first, row_inside, row_behind_leaf, row_behind_node}
 use Rattle.rnix_rows.proofs.ErrorElements.{errors-++, IsSound, report_error, row_name, none_some}
@@ -34,22 +34,22 @@ lists_node names b k c h = λ name. has-⊕ name b (one_branch k c) ∙ ap (λ x
     by_name name (Some x) = swapped (has_entry name b) (bytes_eq name x.text) ∙ ap (λ z. if bytes_eq name x.text then true else z) (h name)
 
 -- so with trivia
-lists_branch : (names : List (List ℕ)) (b : AnnotatedForest) (k : SyntaxKind) (c : AnnotatedForest) → HaveLeafKinds k c → Lists names (clean b) → Lists (with_name (name_if k (forget c)) names) (clean (b ⊕ one_branch k c))
+lists_branch : (names : List (List ℕ)) (b : AnnotatedForest) (k : SyntaxKind) (c : AnnotatedForest) → HaveLeafKinds k c → Lists names (without_trivia b) → Lists (with_name (name_if k (forget c)) names) (without_trivia (b ⊕ one_branch k c))
 lists_branch names b k c o h =
-    subst (λ z. Lists (with_name z names) (clean (b ⊕ one_branch k c))) (clean_name k c o)
-    (subst (Lists (with_name (name_of (bare_name k (clean c))) names)) (sym (clean-⊕ b (one_branch k c))) (lists_node names (clean b) k (clean c) h))
+    subst (λ z. Lists (with_name z names) (without_trivia (b ⊕ one_branch k c))) (without_trivia_name k c o)
+    (subst (Lists (with_name (name_of (bare_name k (without_trivia c))) names)) (sym (without_trivia-⊕ b (one_branch k c))) (lists_node names (without_trivia b) k (without_trivia c) h))
 
 -- a leaf is no entry
-lists_token : (names : List (List ℕ)) (b : AnnotatedForest) (k : SyntaxKind) (x : Token) → Lists names (clean b) → Lists names (clean (b ⊕ one_token k x))
-lists_token names b k x h = λ name. ap (has_entry name) (clean-⊕ b (one_token k x)) ∙ has-⊕ name (clean b) (token_if (is_trivia x.kind) k x blank) ∙ by name (is_trivia x.kind)
+lists_token : (names : List (List ℕ)) (b : AnnotatedForest) (k : SyntaxKind) (x : Token) → Lists names (without_trivia b) → Lists names (without_trivia (b ⊕ one_token k x))
+lists_token names b k x h = λ name. ap (has_entry name) (without_trivia-⊕ b (one_token k x)) ∙ has-⊕ name (without_trivia b) (token_if (is_trivia x.kind) k x blank) ∙ by name (is_trivia x.kind)
   where
-    by : (name : List ℕ) (i : Bool) → (if has_entry name (clean b) then true else has_entry name (token_if i k x blank)) ≡ is_among name names
-    by name true = if_not (has_entry name (clean b)) ∙ h name
-    by name false = if_not (has_entry name (clean b)) ∙ h name
+    by : (name : List ℕ) (i : Bool) → (if has_entry name (without_trivia b) then true else has_entry name (token_if i k x blank)) ≡ is_among name names
+    by name true = if_not (has_entry name (without_trivia b)) ∙ h name
+    by name false = if_not (has_entry name (without_trivia b)) ∙ h name
 
 -- nor is an error node
-lists_fault : (names : List (List ℕ)) (b : AnnotatedForest) (n : Note) (c : AnnotatedForest) → Lists names (clean b) → Lists names (clean (b ⊕ one_fault n c))
-lists_fault names b n c h = λ name. ap (has_entry name) (clean-⊕ b (one_fault n c)) ∙ has-⊕ name (clean b) (one_fault n (clean c)) ∙ if_not (has_entry name (clean b)) ∙ h name
+lists_fault : (names : List (List ℕ)) (b : AnnotatedForest) (n : Note) (c : AnnotatedForest) → Lists names (without_trivia b) → Lists names (without_trivia (b ⊕ one_fault n c))
+lists_fault names b n c h = λ name. ap (has_entry name) (without_trivia-⊕ b (one_fault n c)) ∙ has-⊕ name (without_trivia b) (one_fault n (without_trivia c)) ∙ if_not (has_entry name (without_trivia b)) ∙ h name
 
 -- what has a name is an entry
 named_entry : (k : SyntaxKind) (c : AnnotatedForest) (x : Token) → bare_name k c ≡ Some x → (k ≡ NODE_PAT_ENTRY) × (entry_name c ≡ Some x)
@@ -66,17 +66,17 @@ entry_error t n names b (Some x) l h =
 
 -- so is a node
 node_error : (t : Tree) (n : ℕ) (names : List (List ℕ)) (b : AnnotatedForest) (k : SyntaxKind) (c : AnnotatedForest) → is_error_node k ≡ false → HaveLeafKinds k c → Lists names b
-    → ((x : Token) → k ≡ NODE_PAT_ENTRY → entry_name (clean c) ≡ Some x → IsEntryName t n (place_of (x ∷ [])) x.text)
-    → AreErrorsOf t (repeats k b (clean c)) (if is_at_fault k (forget c) names then n ∷ [] else [])
+    → ((x : Token) → k ≡ NODE_PAT_ENTRY → entry_name (without_trivia c) ≡ Some x → IsEntryName t n (place_of (x ∷ [])) x.text)
+    → AreErrorsOf t (repeats k b (without_trivia c)) (if is_at_fault k (forget c) names then n ∷ [] else [])
 node_error t n names b k c e o l h =
-    let same : is_among_if (name_of (bare_name k (clean c))) names ≡ is_at_fault k (forget c) names =
-    ap (λ z. is_among_if z names) (clean_name k c o) ∙ sym (ap (λ z. z || is_among_if (name_if k (forget c)) names) e) in
-    subst (λ z. AreErrorsOf t (repeats k b (clean c)) (if z then n ∷ [] else [])) same
-    (subst (λ z. AreErrorsOf t z (if is_among_if (name_of (bare_name k (clean c))) names then n ∷ [] else [])) (sym (repeats_named k b (clean c)))
-    (entry_error t n names b (bare_name k (clean c)) l (λ x g. (let w = named_entry k (clean c) x g in h x w.0 w.1))))
+    let same : is_among_if (name_of (bare_name k (without_trivia c))) names ≡ is_at_fault k (forget c) names =
+    ap (λ z. is_among_if z names) (without_trivia_name k c o) ∙ sym (ap (λ z. z || is_among_if (name_if k (forget c)) names) e) in
+    subst (λ z. AreErrorsOf t (repeats k b (without_trivia c)) (if z then n ∷ [] else [])) same
+    (subst (λ z. AreErrorsOf t z (if is_among_if (name_of (bare_name k (without_trivia c))) names then n ∷ [] else [])) (sym (repeats_named k b (without_trivia c)))
+    (entry_error t n names b (bare_name k (without_trivia c)) l (λ x g. (let w = named_entry k (without_trivia c) x g in h x w.0 w.1))))
 
 -- the errors of a row are those of its elements
-pub row_errors : (t : Tree) (q : SyntaxKind) (n s : ℕ) (p : Option ℕ) (b : AnnotatedForest) (names : List (List ℕ)) (f : AnnotatedForest) → IsRowIn t n s p (forget f) → IsSound q s f → Lists names (clean b)
+pub row_errors : (t : Tree) (q : SyntaxKind) (n s : ℕ) (p : Option ℕ) (b : AnnotatedForest) (names : List (List ℕ)) (f : AnnotatedForest) → IsRowIn t n s p (forget f) → IsSound q s f → Lists names (without_trivia b)
     → AreErrorsOf t (reports_within b f) (at_fault_from n names (forget f))
 row_errors t q n s p b names blank h a l = tt
 row_errors t q n s p b names (token k x f) h a l =
@@ -89,8 +89,8 @@ row_errors t q n s p b names (branch k c f) h a l =
     let placed : ArePlaced s (tokens_in c) = placed_first s (tokens_in c) (tokens_in f) a.placed in
     errors-++ t (reports_within blank c) _ (at_fault_from (n + 1) [] (forget c)) _
     (row_errors t k (n + 1) s (Some n) blank [] c inside (record { placed = placed; leaf_kind = a.leaf_kind.0; bare = a.bare.1; marked = a.marked.1 }) (λ name. refl))
-    (errors-++ t (repeats k (clean b) (clean c)) _ (if is_at_fault k (forget c) names then n ∷ [] else []) _
-    (node_error t n names (clean b) k c a.marked.0 a.leaf_kind.0 l
+    (errors-++ t (repeats k (without_trivia b) (without_trivia c)) _ (if is_at_fault k (forget c) names then n ∷ [] else []) _
+    (node_error t n names (without_trivia b) k c a.marked.0 a.leaf_kind.0 l
     (λ x e g. row_name t n s c x (ap (λ (i : Item). i.kind) first ∙ e) inside placed a.bare.1 (a.bare.0.1 e) g))
     (row_errors t q (n + 1 + element_count (forget c)) (s + length (text_of (forget c))) p (b ⊕ one_branch k c) (with_name (name_if k (forget c)) names) f
     (row_behind_node t n s p k (forget c) (forget f) h)

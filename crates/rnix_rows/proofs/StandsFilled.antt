@@ -10,7 +10,7 @@ use Rattle.rnix_green.specs.Equality.{same_kind, same_kind-decides}
 use Rattle.rnix_grammar.specs.declared.place.Place.{Place}
 use Rattle.rnix_grammar.specs.declared.place.Place.TheVariants as p
 use Rattle.rnix_grammar.specs.Fault.{Fault}
-use Rattle.rnix_grammar.specs.AnnotatedForest.{Token, Note, AnnotatedForest, blank, token, branch, fault, row_of, forget, tokens_in, is_some, Stray, Unwanted, Extra, Twice, TooDeep, clean, token_if}
+use Rattle.rnix_grammar.specs.AnnotatedForest.{Token, Note, AnnotatedForest, blank, token, branch, fault, row_of, forget, tokens_in, is_some, Stray, Unwanted, Extra, Twice, TooDeep, without_trivia, token_if}
 use Rattle.rnix_grammar.specs.Layout.{is_last, items}
 use Rattle.rnix_grammar.specs.Missing.{missing, run_at}
 use Rattle.rnix_grammar.specs.Repaired.{kinds_of}
@@ -24,7 +24,7 @@ use Rattle.rnix_rows.proofs.StandsRows.{IsAside, a_number, a_run, at_end, aside,
 use Rattle.rnix_rows.proofs.StandsShapes.{AreBareRows}
 use Rattle.rnix_kinds.specs.SyntaxKind.{is_trivia}
 use Rattle.rnix_grammar.specs.Ranges.{is_error_node}
-use Rattle.rnix_lemmas.proofs.ReportLemmas.{clean_tokens}
+use Rattle.rnix_lemmas.proofs.ReportLemmas.{without_trivia_tokens}
 use Rattle.rnix_lemmas.proofs.OpeningRows.{HasRow, Opening, by_token, by_branch, by_fault, opening, no_row}
 
 -- each node of a row has trees, and none is that of what is too deep
@@ -214,27 +214,27 @@ some_tokens [] h = h
 some_tokens (t ∷ ts) h = refl
 
 -- what begins with a token without its trivia does so with them
-begins_clean : (c : AnnotatedForest) → begins_with_token (clean c) ≡ true → begins_with_token c ≡ true
-begins_clean blank h = h
-begins_clean (token k t f) h = refl
-begins_clean (branch k c f) h = h
-begins_clean (fault n c f) h = h
+begins_without_trivia : (c : AnnotatedForest) → begins_with_token (without_trivia c) ≡ true → begins_with_token c ≡ true
+begins_without_trivia blank h = h
+begins_without_trivia (token k t f) h = refl
+begins_without_trivia (branch k c f) h = h
+begins_without_trivia (fault n c f) h = h
 
 -- what has items has tokens
-marked_tokens : (n : Note) (c : AnnotatedForest) → HasTokens n (clean c) → HasTokens n c
+marked_tokens : (n : Note) (c : AnnotatedForest) → HasTokens n (without_trivia c) → HasTokens n c
 marked_tokens TooDeep c h = tt
-marked_tokens Stray c h = begins_clean c h
-marked_tokens (Unwanted until) c h = begins_clean c h
-marked_tokens Extra c h = some_tokens (tokens_in c) (sym (ap is_some (clean_tokens c)) ∙ h)
-marked_tokens Twice c h = some_tokens (tokens_in c) (sym (ap is_some (clean_tokens c)) ∙ h)
+marked_tokens Stray c h = begins_without_trivia c h
+marked_tokens (Unwanted until) c h = begins_without_trivia c h
+marked_tokens Extra c h = some_tokens (tokens_in c) (sym (ap is_some (without_trivia_tokens c)) ∙ h)
+marked_tokens Twice c h = some_tokens (tokens_in c) (sym (ap is_some (without_trivia_tokens c)) ∙ h)
 
 marked_if : (x : Bool) (k : SyntaxKind) (t : Token) (f : AnnotatedForest) → AreMarked (token_if x k t f) → AreMarked f
 marked_if true k t f h = h
 marked_if false k t f h = h
 
 -- and a row is marked with its trivia as it is without
-pub marked_clean : (f : AnnotatedForest) → AreMarked (clean f) → AreMarked f
-marked_clean blank h = tt
-marked_clean (token k t f) h = marked_clean f (marked_if (is_trivia t.kind) k t (clean f) h)
-marked_clean (branch k c f) h = (h.0, marked_clean c h.1, marked_clean f h.2)
-marked_clean (fault n c f) h = (marked_tokens n c h.0, marked_clean c h.1, marked_clean f h.2)
+pub marked_without_trivia : (f : AnnotatedForest) → AreMarked (without_trivia f) → AreMarked f
+marked_without_trivia blank h = tt
+marked_without_trivia (token k t f) h = marked_without_trivia f (marked_if (is_trivia t.kind) k t (without_trivia f) h)
+marked_without_trivia (branch k c f) h = (h.0, marked_without_trivia c h.1, marked_without_trivia f h.2)
+marked_without_trivia (fault n c f) h = (marked_tokens n c h.0, marked_without_trivia c h.1, marked_without_trivia f h.2)

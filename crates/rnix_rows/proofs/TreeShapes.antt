@@ -7,7 +7,7 @@ use Rattle.rnix_kinds.specs.SyntaxKind.{is_trivia}
 use Rattle.rnix_green.specs.Forest.{Forest}
 use Rattle.rnix_grammar.specs.declared.place.Place.TheVariants as places
 use Rattle.rnix_grammar.specs.Fault.{Fault, named_twice}
-use Rattle.rnix_grammar.specs.AnnotatedForest.{Token, AnnotatedForest, blank, token, branch, fault, ◌⊕◌, one_token, one_branch, one_fault, forget, clean, token_if, leaf_kind, HaveLeafKinds, tokens_in, extent_of}
+use Rattle.rnix_grammar.specs.AnnotatedForest.{Token, AnnotatedForest, blank, token, branch, fault, ◌⊕◌, one_token, one_branch, one_fault, forget, without_trivia, token_if, leaf_kind, HaveLeafKinds, tokens_in, extent_of}
 use Rattle.rnix_grammar.specs.Reports.{report, repeated_if, entry_name, only_token, is_same_name, has_entry, repeats}
 use Rattle.rnix_grammar.specs.Rows.{At, whole, is_row}
 use Rattle.rnix_grammar.specs.Stands.{Stands, begins_with_token}
@@ -15,14 +15,14 @@ use Rattle.rnix_grammar.specs.Repaired.{kinds_of}
 use Rattle.rnix_grammar.specs.Trim.{AreNodesTrimmed, AreFaultsTrimmed}
 use Rattle.rnix_grammar.specs.Shape.{item_kinds, begins_with_leaf, is_bind_formed, are_binds_formed, AreRows, IsShaped, leaf_text, text_if, name_in, name_if, with_name, entry_names, AreNew, AreUnrepeated, IsUnrepeated, reports_behind, reports_within}
 use Rattle.rnix_grammar.specs.Tables.{is_among}
-use Rattle.rnix_rows.proofs.DressedEdges.{told_alike}
+use Rattle.rnix_rows.proofs.WithTriviaEdges.{told_alike}
 use Rattle.rnix_lemmas.proofs.ImitateLemmas.{nowhere}
 use Rattle.rnix_rows.proofs.StandsShapes.{bare_bind, bare_binds, AreBareRows, IsBare, whole_rows}
 use Rattle.rnix_lemmas.proofs.Basics.{true_is_not_false, none_left, none_right, not_nil}
 use Rattle.rnix_lemmas.proofs.EntryNames.{bare_name, has_branch, either_assoc, has-⊕, if_not}
 use Rattle.rnix_lemmas.proofs.AnnotatedForestLemmas.{⊕-blank}
-use Rattle.rnix_lemmas.proofs.LayoutLemmas.{clean-⊕}
-use Rattle.rnix_lemmas.proofs.ReportLemmas.{clean_tokens, same_report}
+use Rattle.rnix_lemmas.proofs.LayoutLemmas.{without_trivia-⊕}
+use Rattle.rnix_lemmas.proofs.ReportLemmas.{without_trivia_tokens, same_report}
 
 -- whether a leaf is trivia, its token tells
 leaf_trivia : (p k : SyntaxKind) (t : Token) → k ≡ leaf_kind p t → is_trivia t.kind ≡ is_trivia k
@@ -34,27 +34,27 @@ by_leaf true k t f h a b e g = e
 by_leaf false k t f h a b e g = g
 
 -- the trees of a row that are no trivia
-pub clean_kinds : (p : SyntaxKind) (f : AnnotatedForest) → HaveLeafKinds p f → kinds_of (forget (clean f)) ≡ item_kinds (forget f)
-clean_kinds p blank h = refl
-clean_kinds p (token k t f) h =
-    by_leaf (is_trivia t.kind) k t (clean f) (λ x. kinds_of (forget x)) (item_kinds (forget f)) (k ∷ item_kinds (forget f)) (clean_kinds p f h.1) (ap (λ z. k ∷ z) (clean_kinds p f h.1))
+pub without_trivia_kinds : (p : SyntaxKind) (f : AnnotatedForest) → HaveLeafKinds p f → kinds_of (forget (without_trivia f)) ≡ item_kinds (forget f)
+without_trivia_kinds p blank h = refl
+without_trivia_kinds p (token k t f) h =
+    by_leaf (is_trivia t.kind) k t (without_trivia f) (λ x. kinds_of (forget x)) (item_kinds (forget f)) (k ∷ item_kinds (forget f)) (without_trivia_kinds p f h.1) (ap (λ z. k ∷ z) (without_trivia_kinds p f h.1))
     ∙ ap (λ x. if x then item_kinds (forget f) else k ∷ item_kinds (forget f)) (leaf_trivia p k t h.0)
-clean_kinds p (branch k c f) h = ap (λ z. k ∷ z) (clean_kinds p f h.1)
-clean_kinds p (fault n c f) h = ap (λ z. NODE_ERROR ∷ z) (clean_kinds p f h.1)
+without_trivia_kinds p (branch k c f) h = ap (λ z. k ∷ z) (without_trivia_kinds p f h.1)
+without_trivia_kinds p (fault n c f) h = ap (λ z. NODE_ERROR ∷ z) (without_trivia_kinds p f h.1)
 
 -- what a row begins with
-clean_begins : (p : SyntaxKind) (f : AnnotatedForest) → HaveLeafKinds p f → begins_with_token (clean f) ≡ begins_with_leaf (forget f)
-clean_begins p (token k t f) h =
-    by_leaf (is_trivia t.kind) k t (clean f) begins_with_token (begins_with_leaf (forget f)) true (clean_begins p f h.1) refl
+without_trivia_begins : (p : SyntaxKind) (f : AnnotatedForest) → HaveLeafKinds p f → begins_with_token (without_trivia f) ≡ begins_with_leaf (forget f)
+without_trivia_begins p (token k t f) h =
+    by_leaf (is_trivia t.kind) k t (without_trivia f) begins_with_token (begins_with_leaf (forget f)) true (without_trivia_begins p f h.1) refl
     ∙ ap (λ x. if x then begins_with_leaf (forget f) else true) (leaf_trivia p k t h.0)
-clean_begins p _ h = cc
+without_trivia_begins p _ h = cc
 
 -- bound names
-clean_bind : (first : Bool) (k : SyntaxKind) (c : AnnotatedForest) → HaveLeafKinds k c → bare_bind first k (clean c) ≡ is_bind_formed first k (forget c)
-clean_bind true NODE_PAT_BIND c h = ap (λ x. if x then false else true) (clean_begins NODE_PAT_BIND c h)
-clean_bind false NODE_PAT_BIND c h = clean_begins NODE_PAT_BIND c h
-clean_bind true _ c h = refl
-clean_bind false _ c h = refl
+without_trivia_bind : (first : Bool) (k : SyntaxKind) (c : AnnotatedForest) → HaveLeafKinds k c → bare_bind first k (without_trivia c) ≡ is_bind_formed first k (forget c)
+without_trivia_bind true NODE_PAT_BIND c h = ap (λ x. if x then false else true) (without_trivia_begins NODE_PAT_BIND c h)
+without_trivia_bind false NODE_PAT_BIND c h = without_trivia_begins NODE_PAT_BIND c h
+without_trivia_bind true _ c h = refl
+without_trivia_bind false _ c h = refl
 
 -- an error node is no bound name
 error_bind : (first : Bool) (c : Forest) (b : Bool) → (is_bind_formed first NODE_ERROR c && b) ≡ b
@@ -62,14 +62,14 @@ error_bind true c b = refl
 error_bind false c b = refl
 
 -- bound names in a row
-clean_binds : (p : SyntaxKind) (first : Bool) (f : AnnotatedForest) → HaveLeafKinds p f → bare_binds first (clean f) ≡ are_binds_formed first (forget f)
-clean_binds p first blank h = refl
-clean_binds p first (token k t f) h =
-    by_leaf (is_trivia t.kind) k t (clean f) (bare_binds first) (are_binds_formed first (forget f)) (are_binds_formed false (forget f)) (clean_binds p first f h.1) (clean_binds p false f h.1)
+without_trivia_binds : (p : SyntaxKind) (first : Bool) (f : AnnotatedForest) → HaveLeafKinds p f → bare_binds first (without_trivia f) ≡ are_binds_formed first (forget f)
+without_trivia_binds p first blank h = refl
+without_trivia_binds p first (token k t f) h =
+    by_leaf (is_trivia t.kind) k t (without_trivia f) (bare_binds first) (are_binds_formed first (forget f)) (are_binds_formed false (forget f)) (without_trivia_binds p first f h.1) (without_trivia_binds p false f h.1)
     ∙ ap (λ x. if x then are_binds_formed first (forget f) else are_binds_formed false (forget f)) (leaf_trivia p k t h.0)
-clean_binds p first (branch k c f) h =
-    ap (λ x. x && bare_binds false (clean f)) (clean_bind first k c h.0) ∙ ap (λ x. is_bind_formed first k (forget c) && x) (clean_binds p false f h.1)
-clean_binds p first (fault n c f) h = clean_binds p false f h.1 ∙ sym (error_bind first (forget c) (are_binds_formed false (forget f)))
+without_trivia_binds p first (branch k c f) h =
+    ap (λ x. x && bare_binds false (without_trivia f)) (without_trivia_bind first k c h.0) ∙ ap (λ x. is_bind_formed first k (forget c) && x) (without_trivia_binds p false f h.1)
+without_trivia_binds p first (fault n c f) h = without_trivia_binds p false f h.1 ∙ sym (error_bind first (forget c) (are_binds_formed false (forget f)))
 
 -- the rows of the tree are those without trivia
 rows_if : (x : Bool) (k : SyntaxKind) (t : Token) (f : AnnotatedForest) → AreBareRows (token_if x k t f) → AreBareRows f
@@ -82,11 +82,11 @@ rows_of_if true k t f h = h
 rows_of_if false k t f h = h
 
 -- with trivia each node has its row
-tree_rows : (p : SyntaxKind) (f : AnnotatedForest) → HaveLeafKinds p f → AreBareRows (clean f) → AreRows (forget f)
+tree_rows : (p : SyntaxKind) (f : AnnotatedForest) → HaveLeafKinds p f → AreBareRows (without_trivia f) → AreRows (forget f)
 tree_rows p blank h r = tt
-tree_rows p (token k t f) h r = tree_rows p f h.1 (rows_if (is_trivia t.kind) k t (clean f) r)
+tree_rows p (token k t f) h r = tree_rows p f h.1 (rows_if (is_trivia t.kind) k t (without_trivia f) r)
 tree_rows p (branch k c f) h r =
-    (ap (is_row k) (sym (clean_kinds k c h.0)) ∙ r.0, sym (clean_binds k true c h.0) ∙ r.1, tree_rows k c h.0 r.2, tree_rows p f h.1 r.3)
+    (ap (is_row k) (sym (without_trivia_kinds k c h.0)) ∙ r.0, sym (without_trivia_binds k true c h.0) ∙ r.1, tree_rows k c h.0 r.2, tree_rows p f h.1 r.3)
 tree_rows p (fault n c f) h r = absurd r
 
 -- an error node has no row
@@ -95,11 +95,11 @@ no_error_row [] h = true_is_not_false (sym h)
 no_error_row (k ∷ ks) h = true_is_not_false (sym h ∙ ap whole (nowhere ks))
 
 -- without trivia each node has its row
-bare_rows : (p : SyntaxKind) (f : AnnotatedForest) → HaveLeafKinds p f → AreRows (forget f) → AreBareRows (clean f)
+bare_rows : (p : SyntaxKind) (f : AnnotatedForest) → HaveLeafKinds p f → AreRows (forget f) → AreBareRows (without_trivia f)
 bare_rows p blank h r = tt
-bare_rows p (token k t f) h r = rows_of_if (is_trivia t.kind) k t (clean f) (bare_rows p f h.1 r)
+bare_rows p (token k t f) h r = rows_of_if (is_trivia t.kind) k t (without_trivia f) (bare_rows p f h.1 r)
 bare_rows p (branch k c f) h r =
-    (ap (is_row k) (clean_kinds k c h.0) ∙ r.0, clean_binds k true c h.0 ∙ r.1, bare_rows k c h.0 r.2, bare_rows p f h.1 r.3)
+    (ap (is_row k) (without_trivia_kinds k c h.0) ∙ r.0, without_trivia_binds k true c h.0 ∙ r.1, bare_rows k c h.0 r.2, bare_rows p f h.1 r.3)
 bare_rows p (fault n c f) h r = absurd (no_error_row (item_kinds (forget c)) r.0)
 
 -- the text of a token, if there is one
@@ -108,29 +108,29 @@ text_in None = None
 text_in (Some t) = Some t.text
 
 -- the text of a name
-clean_text : (p : SyntaxKind) (c : AnnotatedForest) → HaveLeafKinds p c → text_in (only_token (clean c)) ≡ leaf_text (forget c)
-clean_text p (token k t f) h =
-    by_leaf (is_trivia t.kind) k t (clean f) (λ x. text_in (only_token x)) (leaf_text (forget f)) (Some t.text) (clean_text p f h.1) refl
+without_trivia_text : (p : SyntaxKind) (c : AnnotatedForest) → HaveLeafKinds p c → text_in (only_token (without_trivia c)) ≡ leaf_text (forget c)
+without_trivia_text p (token k t f) h =
+    by_leaf (is_trivia t.kind) k t (without_trivia f) (λ x. text_in (only_token x)) (leaf_text (forget f)) (Some t.text) (without_trivia_text p f h.1) refl
     ∙ ap (λ x. if x then leaf_text (forget f) else Some t.text) (leaf_trivia p k t h.0)
-clean_text p _ h = cc
+without_trivia_text p _ h = cc
 
 -- the name of a node that may be one
-clean_ident : (k : SyntaxKind) (c f : AnnotatedForest) → HaveLeafKinds k c → text_in (entry_name (branch k (clean c) f)) ≡ text_if k (forget c)
-clean_ident NODE_IDENT c f h = clean_text NODE_IDENT c h
-clean_ident _ c f h = refl
+without_trivia_ident : (k : SyntaxKind) (c f : AnnotatedForest) → HaveLeafKinds k c → text_in (entry_name (branch k (without_trivia c) f)) ≡ text_if k (forget c)
+without_trivia_ident NODE_IDENT c f h = without_trivia_text NODE_IDENT c h
+without_trivia_ident _ c f h = refl
 
 -- the name that an entry begins with
-clean_entry : (p : SyntaxKind) (c : AnnotatedForest) → HaveLeafKinds p c → text_in (entry_name (clean c)) ≡ name_in (forget c)
-clean_entry p (token k t f) h =
-    by_leaf (is_trivia t.kind) k t (clean f) (λ x. text_in (entry_name x)) (name_in (forget f)) None (clean_entry p f h.1) refl
+without_trivia_entry : (p : SyntaxKind) (c : AnnotatedForest) → HaveLeafKinds p c → text_in (entry_name (without_trivia c)) ≡ name_in (forget c)
+without_trivia_entry p (token k t f) h =
+    by_leaf (is_trivia t.kind) k t (without_trivia f) (λ x. text_in (entry_name x)) (name_in (forget f)) None (without_trivia_entry p f h.1) refl
     ∙ ap (λ x. if x then name_in (forget f) else None) (leaf_trivia p k t h.0)
-clean_entry p (branch k c f) h = clean_ident k c (clean f) h.0
-clean_entry p _ h = assumption
+without_trivia_entry p (branch k c f) h = without_trivia_ident k c (without_trivia f) h.0
+without_trivia_entry p _ h = assumption
 
 -- the name of a node that may be an entry
-pub clean_name : (k : SyntaxKind) (c : AnnotatedForest) → HaveLeafKinds k c → text_in (bare_name k (clean c)) ≡ name_if k (forget c)
-clean_name NODE_PAT_ENTRY c h = clean_entry NODE_PAT_ENTRY c h
-clean_name _ c h = refl
+pub without_trivia_name : (k : SyntaxKind) (c : AnnotatedForest) → HaveLeafKinds k c → text_in (bare_name k (without_trivia c)) ≡ name_if k (forget c)
+without_trivia_name NODE_PAT_ENTRY c h = without_trivia_entry NODE_PAT_ENTRY c h
+without_trivia_name _ c h = refl
 
 -- an entry is reported by its name
 pub repeats_named : (k : SyntaxKind) (b c : AnnotatedForest) → repeats k b c ≡ repeated_if (bare_name k c) b
@@ -196,34 +196,34 @@ new_repeated names b None h e = refl
 new_repeated names b (Some t) h e = ap (λ x. if x then named_twice (extent_of (t ∷ [])) t.text ∷ [] else []) (h t.text ∙ e)
 
 -- where nothing is reported no name is repeated
-pub silent_new : (p : SyntaxKind) (g : AnnotatedForest) (b : AnnotatedForest) (names : List (List ℕ)) → HaveLeafKinds p g → Lists names b → reports_behind b (clean g) ≡ []
+pub silent_new : (p : SyntaxKind) (g : AnnotatedForest) (b : AnnotatedForest) (names : List (List ℕ)) → HaveLeafKinds p g → Lists names b → reports_behind b (without_trivia g) ≡ []
     → AreNew names (entry_names (forget g)) × AreUnrepeated (forget g)
 silent_new p blank b names h l e = (tt, tt)
 silent_new p (token k t f) b names h l e = by_trivia (is_trivia t.kind) e (silent_new p f b names h.1 l) (silent_new p f (b ⊕ one_token k t) names h.1 (lists_token names b k t l))
   where
-    by_trivia : (x : Bool) → reports_behind b (token_if x k t (clean f)) ≡ [] → (reports_behind b (clean f) ≡ [] → AreNew names (entry_names (forget f)) × AreUnrepeated (forget f))
-        → (reports_behind (b ⊕ one_token k t) (clean f) ≡ [] → AreNew names (entry_names (forget f)) × AreUnrepeated (forget f))
+    by_trivia : (x : Bool) → reports_behind b (token_if x k t (without_trivia f)) ≡ [] → (reports_behind b (without_trivia f) ≡ [] → AreNew names (entry_names (forget f)) × AreUnrepeated (forget f))
+        → (reports_behind (b ⊕ one_token k t) (without_trivia f) ≡ [] → AreNew names (entry_names (forget f)) × AreUnrepeated (forget f))
         → AreNew names (entry_names (forget f)) × AreUnrepeated (forget f)
     by_trivia true e i j = i e
     by_trivia false e i j = j e
 silent_new p (branch k c f) b names h l e =
-    let below : reports_behind blank (clean c) ≡ [] =
-    none_left (reports_behind blank (clean c)) (repeats k b (clean c) ++ reports_behind (b ⊕ one_branch k (clean c)) (clean f)) e in
-    let rest : repeats k b (clean c) ++ reports_behind (b ⊕ one_branch k (clean c)) (clean f) ≡ [] =
-    none_right (reports_behind blank (clean c)) (repeats k b (clean c) ++ reports_behind (b ⊕ one_branch k (clean c)) (clean f)) e in
-    let here : repeated_if (bare_name k (clean c)) b ≡ [] =
-    sym (repeats_named k b (clean c)) ∙ none_left (repeats k b (clean c)) (reports_behind (b ⊕ one_branch k (clean c)) (clean f)) rest in
+    let below : reports_behind blank (without_trivia c) ≡ [] =
+    none_left (reports_behind blank (without_trivia c)) (repeats k b (without_trivia c) ++ reports_behind (b ⊕ one_branch k (without_trivia c)) (without_trivia f)) e in
+    let rest : repeats k b (without_trivia c) ++ reports_behind (b ⊕ one_branch k (without_trivia c)) (without_trivia f) ≡ [] =
+    none_right (reports_behind blank (without_trivia c)) (repeats k b (without_trivia c) ++ reports_behind (b ⊕ one_branch k (without_trivia c)) (without_trivia f)) e in
+    let here : repeated_if (bare_name k (without_trivia c)) b ≡ [] =
+    sym (repeats_named k b (without_trivia c)) ∙ none_left (repeats k b (without_trivia c)) (reports_behind (b ⊕ one_branch k (without_trivia c)) (without_trivia f)) rest in
     let inside = silent_new k c blank [] h.0 (λ name. refl) below in
     let more =
-    silent_new p f (b ⊕ one_branch k (clean c)) (added names (text_in (bare_name k (clean c)))) h.1 (lists_branch names b k (clean c) l)
-    (none_right (repeats k b (clean c)) (reports_behind (b ⊕ one_branch k (clean c)) (clean f)) rest) in
-    let o : text_in (bare_name k (clean c)) ≡ name_if k (forget c) = clean_name k c h.0 in (
+    silent_new p f (b ⊕ one_branch k (without_trivia c)) (added names (text_in (bare_name k (without_trivia c)))) h.1 (lists_branch names b k (without_trivia c) l)
+    (none_right (repeats k b (without_trivia c)) (reports_behind (b ⊕ one_branch k (without_trivia c)) (without_trivia f)) rest) in
+    let o : text_in (bare_name k (without_trivia c)) ≡ name_if k (forget c) = without_trivia_name k c h.0 in (
       subst (λ (x : Option (List ℕ)). AreNew names (with_name x (entry_names (forget f)))) o
-          (new_all names (text_in (bare_name k (clean c))) (entry_names (forget f)) (repeated_new names b (bare_name k (clean c)) l here) more.0),
+          (new_all names (text_in (bare_name k (without_trivia c))) (entry_names (forget f)) (repeated_new names b (bare_name k (without_trivia c)) l here) more.0),
       (inside.0, inside.1, more.1),
     )
 silent_new p (fault n c f) b names h l e =
-    absurd (not_nil (none_right (reports_behind blank (clean c)) (report n (tokens_in (clean c)) ∷ reports_behind (b ⊕ one_fault n (clean c)) (clean f)) e))
+    absurd (not_nil (none_right (reports_behind blank (without_trivia c)) (report n (tokens_in (without_trivia c)) ∷ reports_behind (b ⊕ one_fault n (without_trivia c)) (without_trivia f)) e))
 
 -- two empty lists
 both_none : {es fs : List Fault} → es ≡ [] → fs ≡ [] → es ++ fs ≡ []
@@ -231,41 +231,41 @@ both_none {fs = fs} e h = ap (λ x. x ++ fs) e ∙ h
 
 -- where every node has its row and no name is repeated nothing is reported
 pub new_silent : (p : SyntaxKind) (g : AnnotatedForest) (b : AnnotatedForest) (names : List (List ℕ)) → HaveLeafKinds p g → Lists names b → AreRows (forget g)
-    → AreNew names (entry_names (forget g)) → AreUnrepeated (forget g) → reports_behind b (clean g) ≡ []
+    → AreNew names (entry_names (forget g)) → AreUnrepeated (forget g) → reports_behind b (without_trivia g) ≡ []
 new_silent p blank b names h l r n m = refl
 new_silent p (token k t f) b names h l r n m =
     by_trivia (is_trivia t.kind) (new_silent p f b names h.1 l r n m) (new_silent p f (b ⊕ one_token k t) names h.1 (lists_token names b k t l) r n m)
   where
-    by_trivia : (x : Bool) → reports_behind b (clean f) ≡ [] → reports_behind (b ⊕ one_token k t) (clean f) ≡ [] → reports_behind b (token_if x k t (clean f)) ≡ []
+    by_trivia : (x : Bool) → reports_behind b (without_trivia f) ≡ [] → reports_behind (b ⊕ one_token k t) (without_trivia f) ≡ [] → reports_behind b (token_if x k t (without_trivia f)) ≡ []
     by_trivia true i j = i
     by_trivia false i j = j
 new_silent p (branch k c f) b names h l r n m =
-    let o : text_in (bare_name k (clean c)) ≡ name_if k (forget c) = clean_name k c h.0 in
+    let o : text_in (bare_name k (without_trivia c)) ≡ name_if k (forget c) = without_trivia_name k c h.0 in
     let w =
-    new_first names (text_in (bare_name k (clean c))) (entry_names (forget f)) (subst (λ (x : Option (List ℕ)). AreNew names (with_name x (entry_names (forget f)))) (sym o) n) in
+    new_first names (text_in (bare_name k (without_trivia c))) (entry_names (forget f)) (subst (λ (x : Option (List ℕ)). AreNew names (with_name x (entry_names (forget f)))) (sym o) n) in
     both_none (new_silent k c blank [] h.0 (λ name. refl) r.2 m.0 m.1)
-    (both_none (repeats_named k b (clean c) ∙ new_repeated names b (bare_name k (clean c)) l w.0)
-    (new_silent p f (b ⊕ one_branch k (clean c)) (added names (text_in (bare_name k (clean c)))) h.1 (lists_branch names b k (clean c) l) r.3 w.1 m.2))
+    (both_none (repeats_named k b (without_trivia c) ∙ new_repeated names b (bare_name k (without_trivia c)) l w.0)
+    (new_silent p f (b ⊕ one_branch k (without_trivia c)) (added names (text_in (bare_name k (without_trivia c)))) h.1 (lists_branch names b k (without_trivia c) l) r.3 w.1 m.2))
 new_silent p (fault n c f) b names h l r i m = absurd (no_error_row (item_kinds (forget c)) r.0)
 
 -- a text has no error exactly if its tree has its shape and no name of a pattern is repeated
-pub whole_shaped : (f g : AnnotatedForest) (es : List Fault) → Stands NODE_ROOT 1 (At places.RootStart) (At places.RootEnd) blank 0 [] f es → clean g ≡ f → HaveLeafKinds NODE_ROOT g
+pub whole_shaped : (f g : AnnotatedForest) (es : List Fault) → Stands NODE_ROOT 1 (At places.RootStart) (At places.RootEnd) blank 0 [] f es → without_trivia g ≡ f → HaveLeafKinds NODE_ROOT g
     → (es ≡ [] → AreNodesTrimmed (forget g))
     → (es ≡ []) ↔ (IsShaped (record { kind = NODE_ROOT; children = forget g }) × IsUnrepeated (record { kind = NODE_ROOT; children = forget g }))
 whole_shaped f g es s e h t = (there, back)
   where
     there : es ≡ [] → IsShaped (record { kind = NODE_ROOT; children = forget g }) × IsUnrepeated (record { kind = NODE_ROOT; children = forget g })
     there n =
-        let w : IsBare (clean g) = subst IsBare (sym e) ((whole_rows s).0 n) in
+        let w : IsBare (without_trivia g) = subst IsBare (sym e) ((whole_rows s).0 n) in
         let new = silent_new NODE_ROOT g blank [] h (λ name. refl) w.silent in
-        (((ap (is_row NODE_ROOT) (sym (clean_kinds NODE_ROOT g h)) ∙ w.root, tree_rows NODE_ROOT g h w.nodes, t n)), (new.0, new.1, tt))
+        (((ap (is_row NODE_ROOT) (sym (without_trivia_kinds NODE_ROOT g h)) ∙ w.root, tree_rows NODE_ROOT g h w.nodes, t n)), (new.0, new.1, tt))
 
     back : IsShaped (record { kind = NODE_ROOT; children = forget g }) × IsUnrepeated (record { kind = NODE_ROOT; children = forget g }) → es ≡ []
     back w =
         let shape : IsShaped (record { kind = NODE_ROOT; children = forget g }) = w.0 in
         let new : IsUnrepeated (record { kind = NODE_ROOT; children = forget g }) = w.1 in
-        let bare : IsBare (clean g) = record {
-          root = ap (is_row NODE_ROOT) (clean_kinds NODE_ROOT g h) ∙ shape.0;
+        let bare : IsBare (without_trivia g) = record {
+          root = ap (is_row NODE_ROOT) (without_trivia_kinds NODE_ROOT g h) ∙ shape.0;
           nodes = bare_rows NODE_ROOT g h shape.1;
           silent = new_silent NODE_ROOT g blank [] h (λ name. refl) shape.1 new.0 new.1;
         } in
@@ -277,11 +277,11 @@ leaf_reports true k t b f = ap (λ z. reports_behind z f) (sym (⊕-blank b))
 leaf_reports false k t b f = refl
 
 -- what a row reports, its items report
-pub clean_reports : (b g : AnnotatedForest) → AreFaultsTrimmed g → reports_behind (clean b) (clean g) ≡ reports_within b g
-clean_reports b blank h = refl
-clean_reports b (token k t f) h =
-    leaf_reports (is_trivia t.kind) k t (clean b) (clean f) ∙ ap (λ z. reports_behind z (clean f)) (sym (clean-⊕ b (one_token k t))) ∙ clean_reports (b ⊕ one_token k t) f h
-clean_reports b (branch k c f) h =
-    rw (clean_reports blank c h.0, sym (clean-⊕ b (one_branch k c)), clean_reports (b ⊕ one_branch k c) f h.1) refl
-clean_reports b (fault n c f) h =
-    rw (clean_reports blank c h.2, clean_tokens c, same_report n (tokens_in c) h.0 h.1, sym (clean-⊕ b (one_fault n c)), clean_reports (b ⊕ one_fault n c) f h.3) refl
+pub without_trivia_reports : (b g : AnnotatedForest) → AreFaultsTrimmed g → reports_behind (without_trivia b) (without_trivia g) ≡ reports_within b g
+without_trivia_reports b blank h = refl
+without_trivia_reports b (token k t f) h =
+    leaf_reports (is_trivia t.kind) k t (without_trivia b) (without_trivia f) ∙ ap (λ z. reports_behind z (without_trivia f)) (sym (without_trivia-⊕ b (one_token k t))) ∙ without_trivia_reports (b ⊕ one_token k t) f h
+without_trivia_reports b (branch k c f) h =
+    rw (without_trivia_reports blank c h.0, sym (without_trivia-⊕ b (one_branch k c)), without_trivia_reports (b ⊕ one_branch k c) f h.1) refl
+without_trivia_reports b (fault n c f) h =
+    rw (without_trivia_reports blank c h.2, without_trivia_tokens c, same_report n (tokens_in c) h.0 h.1, sym (without_trivia-⊕ b (one_fault n c)), without_trivia_reports (b ⊕ one_fault n c) f h.3) refl

@@ -6,8 +6,8 @@ use Rattle.std.specs.Char.{encode_utf8}
 use Rattle.rnix_kinds.specs.declared.kinds.SyntaxKind.TheVariants.{NODE_IDENT, NODE_ROOT}
 use Rattle.rnix_kinds.specs.Lexical.Tokens.{tokens_of, normal_cut, cut_at, tokens_behind}
 use Rattle.rnix_kinds.specs.Lexical.Texts.{space_len, begins_space, char_len}
-use Rattle.rnix_grammar.specs.AnnotatedForest.{Token, AnnotatedForest, Extra, clean, placed_from}
-use Rattle.rnix_grammar.specs.Layout.{dressed_whole}
+use Rattle.rnix_grammar.specs.AnnotatedForest.{Token, AnnotatedForest, Extra, without_trivia, placed_from}
+use Rattle.rnix_grammar.specs.Layout.{with_trivia_whole}
 use Rattle.rnix_lemmas.proofs.Basics.{true_is_not_false}
 use Rattle.rnix_uniqueness.proofs.Refused.{Shape, done, item, node, wrong, filled, same_row, same_row_self}
 use Rattle.rnix_uniqueness.proofs.ExampleWords.{run, name, extras}
@@ -27,26 +27,26 @@ abbrev pub trees_of : Spaced → Shape → AnnotatedForest
 trees_of c f = filled NODE_ROOT f (all_tokens c)
 
 -- the trivia stand where they belong
-abbrev pub IsDressed : Spaced → Shape → Type 0
-IsDressed c f = trees_of c f ≡ dressed_whole (clean (trees_of c f)) (all_tokens c)
+abbrev pub HasTrivia : Spaced → Shape → Type 0
+HasTrivia c f = trees_of c f ≡ with_trivia_whole (without_trivia (trees_of c f)) (all_tokens c)
 
 -- So it is with the right trees, and not with the others, which have the same items in the same nodes.
 pub record IsSpaced (c : Spaced) : Type 0 where
-  pub dressed : IsDressed c c.right
-  pub same : clean (trees_of c c.other) ≡ clean (trees_of c c.right)
-  pub refused : IsDressed c c.other → ⊥
+  pub with_trivia : HasTrivia c c.right
+  pub same : without_trivia (trees_of c c.other) ≡ without_trivia (trees_of c c.right)
+  pub refused : HasTrivia c c.other → ⊥
 
 -- rows of two shapes are two
 not_same : (f g : AnnotatedForest) → same_row f g ≡ false → f ≡ g → ⊥
 not_same f g h e = true_is_not_false (sym (same_row_self f) ∙ ap (same_row f) e ∙ h)
 
 -- it is so by computing
-is_spaced : (c : Spaced) → IsDressed c c.right → clean (trees_of c c.other) ≡ clean (trees_of c c.right)
-    → same_row (trees_of c c.other) (dressed_whole (clean (trees_of c c.other)) (all_tokens c)) ≡ false → IsSpaced c
-is_spaced c dressed same h = record {
-  dressed = dressed;
+is_spaced : (c : Spaced) → HasTrivia c c.right → without_trivia (trees_of c c.other) ≡ without_trivia (trees_of c c.right)
+    → same_row (trees_of c c.other) (with_trivia_whole (without_trivia (trees_of c c.other)) (all_tokens c)) ≡ false → IsSpaced c
+is_spaced c with_trivia same h = record {
+  with_trivia = with_trivia;
   same = same;
-  refused = not_same (trees_of c c.other) (dressed_whole (clean (trees_of c c.other)) (all_tokens c)) h;
+  refused = not_same (trees_of c c.other) (with_trivia_whole (without_trivia (trees_of c c.other)) (all_tokens c)) h;
 }
 
 -- ` a)`: the space stands before the name's node, and not inside

@@ -1,10 +1,10 @@
--- What is dressed from an item on begins and ends with items, as a row of tokens and as trees.
+-- What is given trivia from an item on begins and ends with items, as a row of tokens and as trees.
 use Rattle.std.proofs.Common.{◌≡◌, Bool, true, false, List, [], ◌∷◌, ◌++◌, refl, ap, sym, ◌∙◌, subst, append_assoc}
 use Rattle.rnix_kinds.specs.declared.kinds.SyntaxKind.{SyntaxKind}
 use Rattle.rnix_kinds.specs.declared.kinds.SyntaxKind.TheVariants.{TOKEN_IDENT, TOKEN_OR, NODE_IDENT, NODE_CUR_POS, NODE_ERROR}
 use Rattle.rnix_kinds.specs.SyntaxKind.{is_trivia}
 use Rattle.rnix_grammar.specs.AnnotatedForest.{Token, AnnotatedForest, blank, token, branch, fault, ◌⊕◌, one_token, one_branch, one_fault, tokens_in, forget, leaf_kind_as, HaveLeafKinds}
-use Rattle.rnix_grammar.specs.Layout.{from_item, tail_of, items, trivia_if, trivia_before, is_last, trivia_after, rest_after, left_after, dressed}
+use Rattle.rnix_grammar.specs.Layout.{from_item, tail_of, items, trivia_if, trivia_before, is_last, trivia_after, rest_after, left_after, with_trivia}
 use Rattle.rnix_grammar.specs.Machine.{ate}
 use Rattle.rnix_grammar.specs.Trim.{BeginsWithItem, EndsWithItem, leaf_kinds, token_kinds, AreFaultsTrimmed, AreNodesTrimmed}
 use Rattle.rnix_lemmas.proofs.AnnotatedForestLemmas.{⊕-assoc, ⊕-blank}
@@ -43,34 +43,34 @@ inside : (c f : AnnotatedForest) (ts us : List Token) → items ts ≡ (tokens_i
 inside c f ts us e = bared c (from_item ts) (tokens_in f ++ us) (items-from_item ts ∙ e ∙ append_assoc (tokens_in c) (tokens_in f) us)
 
 -- trees with their trivia, behind others
-pub edged_trees : (g f : AnnotatedForest) (ts us : List Token) → items ts ≡ tokens_in f ++ us → AreFilled f → IsReady g f ts → IsEdged (g ⊕ dressed f ts)
+pub edged_trees : (g f : AnnotatedForest) (ts us : List Token) → items ts ≡ tokens_in f ++ us → AreFilled f → IsReady g f ts → IsEdged (g ⊕ with_trivia f ts)
 edged_trees g blank ts us e h (read r) = subst IsEdged (sym (⊕-blank g)) r
 edged_trees g blank ts us e h (unread r b t) = absurd t
 edged_trees g (token k x f) ts us e h r =
     let w : IsFirst x (tokens_in f ++ us) ts = first_item x (tokens_in f ++ us) ts e in
     let rest : List Token = tail_of (from_item ts) in
     let one : IsEdged (ate true g ts ⊕ one_token k x) = ready_next g (one_token k x) ts r (edged_item k x w.item) in
-    ready_more g (one_token k x) (dressed f rest) ts (edged_trees (ate true g ts ⊕ one_token k x) f rest us w.left h (read one))
+    ready_more g (one_token k x) (with_trivia f rest) ts (edged_trees (ate true g ts ⊕ one_token k x) f rest us w.left h (read one))
 edged_trees g (branch k c f) ts us e h r =
     let w : IsBared c (from_item ts) (tokens_in f ++ us) = inside c f ts us e in
     let rest : List Token = left_after c (from_item ts) in
-    let below : IsEdged (dressed c (from_item ts)) =
+    let below : IsEdged (with_trivia c (from_item ts)) =
     edged_trees blank c (from_item ts) (tokens_in f ++ us) (items-from_item ts ∙ e ∙ append_assoc (tokens_in c) (tokens_in f) us) h.1 (unread refl (bare_from ts) h.0) in
-    let x : AnnotatedForest = one_branch k (dressed c (from_item ts)) in
-    let one : IsEdged (ate true g ts ⊕ x) = ready_next g x ts r (edged_branch k (dressed c (from_item ts)) below) in
-    ready_more g x (dressed f rest) ts (edged_trees (ate true g ts ⊕ x) f rest us w.left h.2 (read one))
+    let x : AnnotatedForest = one_branch k (with_trivia c (from_item ts)) in
+    let one : IsEdged (ate true g ts ⊕ x) = ready_next g x ts r (edged_branch k (with_trivia c (from_item ts)) below) in
+    ready_more g x (with_trivia f rest) ts (edged_trees (ate true g ts ⊕ x) f rest us w.left h.2 (read one))
 edged_trees g (fault n c f) ts us e h r =
     let w : IsBared c (from_item ts) (tokens_in f ++ us) = inside c f ts us e in
     let rest : List Token = left_after c (from_item ts) in
-    let below : IsEdged (dressed c (from_item ts)) =
+    let below : IsEdged (with_trivia c (from_item ts)) =
     edged_trees blank c (from_item ts) (tokens_in f ++ us) (items-from_item ts ∙ e ∙ append_assoc (tokens_in c) (tokens_in f) us) h.2 (unread refl (bare_from ts) h.1) in
-    let x : AnnotatedForest = one_fault n (dressed c (from_item ts)) in
-    let one : IsEdged (ate true g ts ⊕ x) = ready_next g x ts r (edged_fault n (dressed c (from_item ts)) below) in
-    subst (λ (z : Bool). IsEdged (g ⊕ (trivia_before ts ⊕ fault n (dressed c (from_item ts)) (trivia_after z rest ⊕ dressed f (rest_after z rest))))) (sym h.0)
-    (ready_more g x (dressed f rest) ts (edged_trees (ate true g ts ⊕ x) f rest us w.left h.3 (read one)))
+    let x : AnnotatedForest = one_fault n (with_trivia c (from_item ts)) in
+    let one : IsEdged (ate true g ts ⊕ x) = ready_next g x ts r (edged_fault n (with_trivia c (from_item ts)) below) in
+    subst (λ (z : Bool). IsEdged (g ⊕ (trivia_before ts ⊕ fault n (with_trivia c (from_item ts)) (trivia_after z rest ⊕ with_trivia f (rest_after z rest))))) (sym h.0)
+    (ready_more g x (with_trivia f rest) ts (edged_trees (ate true g ts ⊕ x) f rest us w.left h.3 (read one)))
 
--- what is dressed from an item on begins and ends with items
-edged_from : (f : AnnotatedForest) (ts us : List Token) → items ts ≡ tokens_in f ++ us → AreFilled f → HasTree f → IsEdged (dressed f (from_item ts))
+-- what is given trivia from an item on begins and ends with items
+edged_from : (f : AnnotatedForest) (ts us : List Token) → items ts ≡ tokens_in f ++ us → AreFilled f → HasTree f → IsEdged (with_trivia f (from_item ts))
 edged_from f ts us e h t = edged_trees blank f (from_item ts) us (items-from_item ts ∙ e) h (unread refl (bare_from ts) t)
 
 -- two rows
@@ -86,32 +86,32 @@ edged_trivia [] = tt
 edged_trivia (t ∷ ts) = elim (is_trivia t.kind) as (λ x. AreEdged (trivia_if x t (trivia_before ts))) [ true ↦ edged_trivia ts | false ↦ tt ]
 
 -- where each node has trees each begins and ends with items
-pub dressed_edged : (f : AnnotatedForest) (ts us : List Token) → items ts ≡ tokens_in f ++ us → AreFilled f → AreEdged (dressed f ts)
-dressed_edged blank ts us e h = tt
-dressed_edged (token k x f) ts us e h =
+pub with_trivia_edged : (f : AnnotatedForest) (ts us : List Token) → items ts ≡ tokens_in f ++ us → AreFilled f → AreEdged (with_trivia f ts)
+with_trivia_edged blank ts us e h = tt
+with_trivia_edged (token k x f) ts us e h =
     let rest : List Token = tail_of (from_item ts) in
-    edged-⊕ (trivia_before ts) (token k x (dressed f rest)) (edged_trivia ts) (dressed_edged f rest us (first_item x (tokens_in f ++ us) ts e).left h)
-dressed_edged (branch k c f) ts us e h =
+    edged-⊕ (trivia_before ts) (token k x (with_trivia f rest)) (edged_trivia ts) (with_trivia_edged f rest us (first_item x (tokens_in f ++ us) ts e).left h)
+with_trivia_edged (branch k c f) ts us e h =
     let all : items ts ≡ tokens_in c ++ (tokens_in f ++ us) = e ∙ append_assoc (tokens_in c) (tokens_in f) us in
     let rest : List Token = left_after c (from_item ts) in
-    edged-⊕ (trivia_before ts) (branch k (dressed c (from_item ts)) (dressed f rest)) (edged_trivia ts) (
+    edged-⊕ (trivia_before ts) (branch k (with_trivia c (from_item ts)) (with_trivia f rest)) (edged_trivia ts) (
       edged_from c ts (tokens_in f ++ us) all h.1 h.0,
-      dressed_edged c (from_item ts) (tokens_in f ++ us) (items-from_item ts ∙ all) h.1,
-      dressed_edged f rest us (inside c f ts us e).left h.2,
+      with_trivia_edged c (from_item ts) (tokens_in f ++ us) (items-from_item ts ∙ all) h.1,
+      with_trivia_edged f rest us (inside c f ts us e).left h.2,
     )
-dressed_edged (fault n c f) ts us e h =
+with_trivia_edged (fault n c f) ts us e h =
     let all : items ts ≡ tokens_in c ++ (tokens_in f ++ us) = e ∙ append_assoc (tokens_in c) (tokens_in f) us in
     let rest : List Token = left_after c (from_item ts) in
-    subst (λ (z : Bool). AreEdged (trivia_before ts ⊕ fault n (dressed c (from_item ts)) (trivia_after z rest ⊕ dressed f (rest_after z rest)))) (sym h.0)
-    (edged-⊕ (trivia_before ts) (fault n (dressed c (from_item ts)) (dressed f rest)) (edged_trivia ts) (
+    subst (λ (z : Bool). AreEdged (trivia_before ts ⊕ fault n (with_trivia c (from_item ts)) (trivia_after z rest ⊕ with_trivia f (rest_after z rest)))) (sym h.0)
+    (edged-⊕ (trivia_before ts) (fault n (with_trivia c (from_item ts)) (with_trivia f rest)) (edged_trivia ts) (
       edged_from c ts (tokens_in f ++ us) all h.2 h.1,
-      dressed_edged c (from_item ts) (tokens_in f ++ us) (items-from_item ts ∙ all) h.2,
-      dressed_edged f rest us (inside c f ts us e).left h.3,
+      with_trivia_edged c (from_item ts) (tokens_in f ++ us) (items-from_item ts ∙ all) h.2,
+      with_trivia_edged f rest us (inside c f ts us e).left h.3,
     ))
 
 -- an error node begins and ends with items, or is empty
 fault_edges : (c : AnnotatedForest) (ts us : List Token) → items ts ≡ tokens_in c ++ us → AreFilled c
-    → BeginsWithItem (token_kinds (tokens_in (dressed c (from_item ts)))) × EndsWithItem (token_kinds (tokens_in (dressed c (from_item ts))))
+    → BeginsWithItem (token_kinds (tokens_in (with_trivia c (from_item ts)))) × EndsWithItem (token_kinds (tokens_in (with_trivia c (from_item ts))))
 fault_edges blank ts us e h = (tt, tt)
 fault_edges c ts us e h = let w = edged_from c ts us e h tt in (w.begins, w.ends)
 
@@ -121,27 +121,27 @@ trimmed_after true ts = faults_trimmed_trivia ts
 trimmed_after false ts = tt
 
 -- no error node begins or ends with trivia
-pub dressed_trimmed : (f : AnnotatedForest) (ts us : List Token) → items ts ≡ tokens_in f ++ us → AreFaultsFilled f → AreFaultsTrimmed (dressed f ts)
-dressed_trimmed blank ts us e h = tt
-dressed_trimmed (token k x f) ts us e h =
+pub with_trivia_trimmed : (f : AnnotatedForest) (ts us : List Token) → items ts ≡ tokens_in f ++ us → AreFaultsFilled f → AreFaultsTrimmed (with_trivia f ts)
+with_trivia_trimmed blank ts us e h = tt
+with_trivia_trimmed (token k x f) ts us e h =
     let rest : List Token = tail_of (from_item ts) in
-    faults_trimmed-⊕ (trivia_before ts) (token k x (dressed f rest)) (faults_trimmed_trivia ts) (dressed_trimmed f rest us (first_item x (tokens_in f ++ us) ts e).left h)
-dressed_trimmed (branch k c f) ts us e h =
+    faults_trimmed-⊕ (trivia_before ts) (token k x (with_trivia f rest)) (faults_trimmed_trivia ts) (with_trivia_trimmed f rest us (first_item x (tokens_in f ++ us) ts e).left h)
+with_trivia_trimmed (branch k c f) ts us e h =
     let all : items ts ≡ tokens_in c ++ (tokens_in f ++ us) = e ∙ append_assoc (tokens_in c) (tokens_in f) us in
     let rest : List Token = left_after c (from_item ts) in
-    faults_trimmed-⊕ (trivia_before ts) (branch k (dressed c (from_item ts)) (dressed f rest)) (faults_trimmed_trivia ts)
-    (dressed_trimmed c (from_item ts) (tokens_in f ++ us) (items-from_item ts ∙ all) h.0, dressed_trimmed f rest us (inside c f ts us e).left h.1)
-dressed_trimmed (fault n c f) ts us e h =
+    faults_trimmed-⊕ (trivia_before ts) (branch k (with_trivia c (from_item ts)) (with_trivia f rest)) (faults_trimmed_trivia ts)
+    (with_trivia_trimmed c (from_item ts) (tokens_in f ++ us) (items-from_item ts ∙ all) h.0, with_trivia_trimmed f rest us (inside c f ts us e).left h.1)
+with_trivia_trimmed (fault n c f) ts us e h =
     let all : items ts ≡ tokens_in c ++ (tokens_in f ++ us) = e ∙ append_assoc (tokens_in c) (tokens_in f) us in
     let rest : List Token = left_after c (from_item ts) in
     let later : List Token = rest_after (is_last n) rest in
     let edges = fault_edges c ts (tokens_in f ++ us) all h.0 in
-    faults_trimmed-⊕ (trivia_before ts) (fault n (dressed c (from_item ts)) (trivia_after (is_last n) rest ⊕ dressed f later)) (faults_trimmed_trivia ts) (
+    faults_trimmed-⊕ (trivia_before ts) (fault n (with_trivia c (from_item ts)) (trivia_after (is_last n) rest ⊕ with_trivia f later)) (faults_trimmed_trivia ts) (
       edges.0,
       edges.1,
-      dressed_trimmed c (from_item ts) (tokens_in f ++ us) (items-from_item ts ∙ all) h.1,
-      faults_trimmed-⊕ (trivia_after (is_last n) rest) (dressed f later) (trimmed_after (is_last n) rest)
-          (dressed_trimmed f later us (items-rest_after (is_last n) rest ∙ (inside c f ts us e).left) h.2),
+      with_trivia_trimmed c (from_item ts) (tokens_in f ++ us) (items-from_item ts ∙ all) h.1,
+      faults_trimmed-⊕ (trivia_after (is_last n) rest) (with_trivia f later) (trimmed_after (is_last n) rest)
+          (with_trivia_trimmed f later us (items-rest_after (is_last n) rest ∙ (inside c f ts us e).left) h.2),
     )
 
 -- kinds that are trivia at the same places
