@@ -1,6 +1,8 @@
-//! Tests of walks over trees that were read, of their nodes, of recursions, and of the names that a user writes.
+//! Tests of walks over trees that were read, their nodes, recursions, chains of calls, and the names that a user writes.
 #![tactic(auto)]
 
+#[cfg(test)]
+mod chains;
 #[cfg(test)]
 mod identity;
 #[cfg(test)]
