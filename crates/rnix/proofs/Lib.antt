@@ -1,4 +1,5 @@
 mod AnyParts
+pub mod Chains
 pub mod Inside
 mod KindParts
 pub mod SameParts

@@ -6,3 +6,4 @@ pub mod Strings
 pub mod Sums
 pub mod Whole
 pub mod WholeTree
+pub mod Chains

@@ -37,6 +37,12 @@ pub child_fits : (kinds : SyntaxKind → Bool) (number : ℕ) (child parent : Lo
 child_fits kinds number child parent h =
     omega (arith, selected_fit kinds parent, one_fits (nodes_of kinds parent) number, ap count_if h)
 
+-- the selected child of a number, if there is one, with all that is inside it, is no more than what is inside the parent
+pub child_falls : (kinds : SyntaxKind → Bool) (number : ℕ) (parent : Located) (child : Option Located)
+    → child ≡ child_of kinds number parent → count_if child ≤ inside_count parent
+child_falls kinds number parent child h =
+    omega (arith, selected_fit kinds parent, one_fits (nodes_of kinds parent) number, ap count_if h)
+
 parts_among : (literals interpolations : SyntaxKind → Bool) (spots : List Spot) → parts_count (parts_of literals interpolations spots) ≤ spots_count spots
 parts_among literals interpolations [] = omega arith
 parts_among literals interpolations (spot ∷ spots) = case_spot spot.0 (has_kind interpolations spot.1) (has_kind literals spot.1) (parts_among literals interpolations spots) where

@@ -1,6 +1,8 @@
-//! Tests of typed nodes, of their sums and second handles, of uses of them and recursions over them, and of the names that a user writes.
+//! Tests of typed nodes, of their sums and second handles, of uses of them, of recursions and loops over them, and of the names that a user writes.
 #![tactic(auto)]
 
+#[cfg(test)]
+mod chains;
 #[cfg(test)]
 mod handles;
 #[cfg(test)]

@@ -16,3 +16,4 @@ pub mod ChildLemmas
 pub mod CoveringLemmas
 pub mod SkipLemmas
 pub mod CountsInside
+pub mod ChainsFall

@@ -10,3 +10,4 @@ pub mod Siblings
 pub mod ByKind
 pub mod Covering
 pub mod Inside
+pub mod Chains
