@@ -1,8 +1,6 @@
 //! Loops along chains of calls, each on what the one before answered.
 
-use rnix::ast::{
-    AstNode, AstToken, AttrSet, AttrpathValue, Comment, Expr, HasEntry, Param, Whitespace,
-};
+use rnix::ast::{AstNode, AstToken, AttrSet, AttrpathValue, Comment, Expr, HasEntry, Whitespace};
 use rnix::{NodeOrToken, Root, SyntaxKind, SyntaxNode, SyntaxToken};
 use std::alloc::{AllocError, Global};
 use std::test::Fail;
@@ -55,13 +53,7 @@ fn parameter_count(entry: &AttrpathValue<'_>) -> usize {
     let mut count: usize = 0;
     let mut value = entry.value();
     while let Some(Expr::Lambda(lambda)) = value {
-        match lambda.param() {
-            Some(Param::IdentParam(_)) => count = count.saturating_add(1),
-            Some(Param::Pattern(pattern)) => count = count.saturating_add(
-                pattern.pat_entries().count(),
-            ),
-            None => {}
-        }
+        count = count.saturating_add(usize::from(lambda.param().is_some()));
         value = lambda.body();
     }
     count
@@ -127,17 +119,39 @@ fn last_in_last(node: &SyntaxNode<'_>) -> usize {
     count
 }
 
+// How many comments stand before the first entry, its parameters, and how many elements and nodes stand behind it.
+fn about_first(
+    alloc: Global,
+    root: &Root<'_>,
+) -> Result<Option<(usize, usize, usize, usize)>, AllocError> {
+    let Some(set) = set_within(root) else {
+        return Ok(None);
+    };
+    let Some(first) = set.attrpath_values().next() else {
+        return Ok(None);
+    };
+    let node = first.syntax();
+    let comments = comments_before(alloc, node)?.len();
+    Ok(Some((
+        comments,
+        parameter_count(&first),
+        elements_behind(node),
+        nodes_behind(node),
+    )))
+}
+
+// How many tokens come before the last one.
+fn before_last(root: &SyntaxNode<'_>) -> Option<usize> {
+    let last = root.last_token()?;
+    Some(tokens_before(&last))
+}
+
 #[test]
-fn the_comments_of_attributes_are_found(rt: HostRuntime) -> Result<(), Fail> {
+fn chains_go_along_siblings_and_bodies(rt: HostRuntime) -> Result<(), Fail> {
     let text = "{ lib }: let a = 1; in ({\n# old\n\n# one\n# two\nf = x: { a, b }: y: a; g = 2; })";
     let read = Root::parse(rt.alloc(), text)?;
-    let set = set_within(&read.tree())?;
-    let mut entries = set.attrpath_values();
-    let first = entries.next()?;
-    assert_eq!(rt; comments_before(rt.alloc(), first.syntax())?.len(), 2);
-    assert_eq!(rt; parameter_count(&first), 4);
-    assert_eq!(rt; elements_behind(first.syntax()), 4);
-    assert_eq!(rt; nodes_behind(first.syntax()), 1);
+    let found = about_first(rt.alloc(), &read.tree())?;
+    assert_eq!(rt; found, Some((2, 3, 4, 1)));
     Ok(())
 }
 
@@ -146,8 +160,7 @@ fn chains_go_outwards_and_inwards(rt: HostRuntime) -> Result<(), Fail> {
     let read = Root::parse(rt.alloc(), "{ a = { b = 1; }; }")?;
     let root = read.syntax();
     assert_eq!(rt; last_in_last(&root), 1);
-    let last = root.last_token()?;
-    assert_eq!(rt; tokens_before(&last), 18);
+    assert_eq!(rt; before_last(&root), Some(18));
     for node in root.descendants() {
         if node.kind() == SyntaxKind::NODE_LITERAL {
             assert_eq!(rt; sets_around(&node), 2);
