@@ -1,5 +1,9 @@
 //! The names that a text binds and never uses.
 
+ghost use Rattle.std.specs.Prelude.{◌≡◌, IfOk};
+ghost use Rattle.std.specs.List.Sorted.{IsNonDecreasingBy};
+ghost use Rattle.nix_dead.specs.declared.dead.Name.{Name as Dead};
+
 use nix_scopes::{Binding, Resolution, resolve};
 use rnix::{SyntaxKind, SyntaxNode};
 use std::alloc::{AllocError, Global};
@@ -34,8 +38,10 @@ fn used_bindings(alloc: Global, names: &Resolution<'_>) -> Result<Vec<bool>, All
     Ok(is_used)
 }
 
-/// The names of `let` and of parameters that nothing in their scope uses, but those that begin with `_`, in the order of their scopes.
-pub fn dead_names<'t>(alloc: Global, root: &SyntaxNode<'t>) -> Result<Vec<Name<'t>>, AllocError> {
+/// The names of `let` and of parameters that nothing in their scope uses, but those that begin with `_`, in the order of the text.
+pub fn dead_names<'t>(alloc: Global, root: &SyntaxNode<'t>) -> Result<Vec<Name<'t>>, AllocError>
+    ensures { IfOk result (λ names. IsNonDecreasingBy (λ (name : Dead). name.start) names.items) }
+{
     let names = resolve(alloc, root)?;
     let is_used = used_bindings(alloc, &names)?;
     let mut dead = Vec::new(alloc);
@@ -48,5 +54,10 @@ pub fn dead_names<'t>(alloc: Global, root: &SyntaxNode<'t>) -> Result<Vec<Name<'
             })?;
         }
     }
+    dead.sort_by_key(
+        |name: &Name<'_>| -> usize
+            ensures { result ≡ name.now.start }
+        { name.start },
+    )?;
     Ok(dead)
 }
