@@ -6,6 +6,7 @@ use Rattle.rnix_grammar.specs.Fault.{Fault, named_twice}
 use Rattle.rnix_grammar.specs.AnnotatedForest.{Token, AnnotatedForest, ◌⊕◌, without_trivia, extent_of}
 use Rattle.rnix_grammar.specs.Reports.{has_entry, repeated_if}
 use Rattle.rnix_grammar.specs.Machine.{Head, Node, Second, Operand, Frame, Machine, put, made, closed, perform}
+use Rattle.rnix_lemmas.proofs.Basics.{true_is_not_false}
 use Rattle.rnix_reader.specs.declared.mark.Mark.{Mark}
 use Rattle.rnix_reader.specs.declared.names.NameSet.{NameSet}
 use Rattle.rnix_reader.specs.declared.names.Names.{Names}
@@ -16,9 +17,6 @@ use Rattle.rnix_grammar.specs.Sorts.{Sort, Pattern, Entry, sort_of, sort_of_head
 use Rattle.rnix_reader.specs.Holds.{AreFit, IsFit, IsBegun, Holding, EntryTold, told_of, text_of, range_of, name_of, entries_of, ranges_of, Tops, Known, KnownOn}
 use Rattle.rnix_reader.proofs.FlatLemmas.{flat-failed}
 use Rattle.rnix_reader.proofs.StepLemmas.{stands_of, done_node, is_node, is_root}
-
-true_is_not_false : true ≡ false → ⊥
-true_is_not_false e = cc
 
 abbrev is_entry : Sort → Bool
 is_entry Entry = true

@@ -22,9 +22,6 @@ use Rattle.rnix_reader.proofs.StateLemmas.{state_is}
 use Rattle.rnix_reader.proofs.StepLemmas.{stands_of, open_there, is_node}
 use Rattle.rnix_reader.proofs.RunLemmas.{no_items}
 
-true_is_not_false : true ≡ false → ⊥
-true_is_not_false e = cc
-
 -- the root over all trees
 root_ended : (h : Head) (place : Place) (d : ℕ) (row : AnnotatedForest) (ms : List Mark) (ts : List Token) (n : ℕ) (es : List Fault) → h ≡ Node NODE_ROOT
     → ended (flat_with ms (machine (opened h place d row ∷ []) ts n es))

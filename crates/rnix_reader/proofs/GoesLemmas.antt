@@ -12,6 +12,7 @@ use Rattle.rnix_grammar.specs.AnnotatedForest.{Token, Stray, TooDeep, AnnotatedF
 use Rattle.rnix_grammar.specs.Layout.{items, from_item}
 use Rattle.rnix_grammar.specs.Machine.{Head, Node, Second, Operand, Frame, Machine, put, opened, ate, leaf, behind, reach, run_row, run_rest, made, machine, closed, limited, begun, operand_on, reading}
 use Rattle.rnix_grammar.specs.Begins.{second_kind}
+use Rattle.rnix_lemmas.proofs.Basics.{true_is_not_false}
 use Rattle.rnix_lemmas.proofs.PlaceLemmas.{BeginsInner, begin_inner}
 use Rattle.rnix_reader.specs.declared.names.Names.{Names}
 use Rattle.rnix_reader.specs.Placed.{AreInOrder}
@@ -21,9 +22,6 @@ use Rattle.rnix_reader.proofs.EntryLemmas.{fit_first}
 use Rattle.rnix_reader.proofs.OrderLemmas.{order_from, order_behind, order_all}
 use Rattle.rnix_reader.proofs.RowLemmas.{no_entry_leaf, no_entry_fault}
 use Rattle.rnix_reader.proofs.KeptLemmas.{Kept, grow_trivia, grow_behind, push_node, push_operand, push_pattern, pop, is_bare}
-
-true_is_not_false : true ≡ false → ⊥
-true_is_not_false e = cc
 
 -- the machine goes on
 pub record Goes (m : Machine) (names : Names) : Type 0 where

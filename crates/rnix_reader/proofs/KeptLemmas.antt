@@ -10,6 +10,7 @@ use Rattle.rnix_grammar.specs.AnnotatedForest.{Token, AnnotatedForest, ◌⊕◌
 use Rattle.rnix_grammar.specs.Layout.{trivia_before}
 use Rattle.rnix_grammar.specs.Reports.{entry_name}
 use Rattle.rnix_grammar.specs.Machine.{Head, Node, Second, Operand, Frame, put, opened, ate, made}
+use Rattle.rnix_lemmas.proofs.Basics.{true_is_not_false}
 use Rattle.rnix_reader.specs.declared.names.NameSet.{NameSet}
 use Rattle.rnix_reader.specs.declared.names.Names.{Names}
 use Rattle.rnix_reader.specs.Names.{texts_of, extents_of, PatternOpened, PatternClosed, EntryOpened, EntryClosed}
@@ -17,9 +18,6 @@ use Rattle.rnix_grammar.specs.Sorts.{Sort, Root, Pattern, Entry, Again, Loose, P
 use Rattle.rnix_reader.specs.Holds.{AreFit, IsFit, IsBegun, text_of, range_of, name_of, entries_of, ranges_of, Tops, Known, KnownOn}
 use Rattle.rnix_reader.proofs.EntryLemmas.{known_pattern, known_entry as known_in_entry, fit_first}
 use Rattle.rnix_reader.proofs.RowLemmas.{HasNoEntry, no_entry_trivia, is_pattern_sort, begun_more, name_more, known_more, known_entry}
-
-true_is_not_false : true ≡ false → ⊥
-true_is_not_false e = cc
 
 -- the frames are fit, and the names of open patterns and entries are known
 pub record Kept (f : Frame) (fs : List Frame) (names : Names) : Type 0 where

@@ -12,6 +12,7 @@ use Rattle.rnix_grammar.specs.Layout.{items, from_item, trivia_before, tail_of}
 use Rattle.rnix_grammar.specs.Reports.{only_token}
 use Rattle.rnix_grammar.specs.Machine.{Head, Node, Second, Operand, Frame, put, opened, ate, leaf, leaf_in, kind_of, low_of, behind, reach, end_of, run_row, run_rest, dropped, made, machine, closed, perform}
 use Rattle.rnix_grammar.specs.Missing.{run_of}
+use Rattle.rnix_lemmas.proofs.Basics.{true_is_not_false}
 use Rattle.rnix_lemmas.proofs.AnnotatedForestLemmas.{tokens_in-row_of}
 use Rattle.rnix_lemmas.proofs.WithoutTriviaLemmas.{leaf_without_trivia, reach_items, run_prefix, run_bared}
 use Rattle.rnix_lemmas.proofs.LayoutLemmas.{first_item, without_trivia-trivia}
@@ -29,9 +30,6 @@ use Rattle.rnix_reader.proofs.OrderLemmas.{order_from, order_behind, reach_least
 use Rattle.rnix_reader.proofs.RowLemmas.{HasNoEntry, no_entry_leaf, no_entry_fault, begun_more, begins_more, ends_more}
 use Rattle.rnix_reader.proofs.KeptLemmas.{Kept, is_bare, moved_on, grow_trivia, grow_behind, push_node, push_second, push_entry, renamed, instead, pop_pattern, pop_entry}
 use Rattle.rnix_reader.proofs.GoesLemmas.{Goes, goes, goes_open, holds_open, closed_goes, same_names, reading_goes}
-
-true_is_not_false : true ≡ false → ⊥
-true_is_not_false e = cc
 
 -- a frame is complete
 closing : (f : Frame) (fs : List Frame) (ts : List Token) (n : ℕ) (es : List Fault) (names : Names) → is_bare (sort_of f.place) ≡ true → is_root (sort_of f.place) ≡ false

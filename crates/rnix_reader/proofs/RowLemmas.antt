@@ -8,6 +8,7 @@ use Rattle.rnix_grammar.specs.AnnotatedForest.{Token, Note, AnnotatedForest, bla
 use Rattle.rnix_grammar.specs.Layout.{items, trivia_before}
 use Rattle.rnix_grammar.specs.Reports.{entry_name, is_same_name, has_entry}
 use Rattle.rnix_grammar.specs.Machine.{Head, Node, Second, Operand, leaf, leaf_in}
+use Rattle.rnix_lemmas.proofs.Basics.{true_is_not_false}
 use Rattle.rnix_lemmas.proofs.AnnotatedForestLemmas.{tokens_in-⊕}
 use Rattle.rnix_lemmas.proofs.WithoutTriviaLemmas.{leaf_without_trivia}
 use Rattle.rnix_lemmas.proofs.LayoutLemmas.{without_trivia-⊕, without_trivia-trivia}
@@ -16,9 +17,6 @@ use Rattle.rnix_reader.specs.declared.names.NameSet.{NameSet}
 use Rattle.rnix_reader.specs.Names.{has_name}
 use Rattle.rnix_grammar.specs.Sorts.{Sort, Pattern, sort_of_head}
 use Rattle.rnix_reader.specs.Holds.{IsBegun, EndsAt, BeginsAt, name_of, KnownOn}
-
-true_is_not_false : true ≡ false → ⊥
-true_is_not_false e = cc
 
 none_is_not_some : {A : Type 0} {t : A} → None ≡ Some t → ⊥
 none_is_not_some e = cc

@@ -18,6 +18,7 @@ use Rattle.rnix_grammar.specs.Layout.{items, from_item, trivia_before, tail_of, 
 use Rattle.rnix_grammar.specs.Machine.{leaf_in, end_of}
 use Rattle.rnix_grammar.specs.Missing.{run_of}
 use Rattle.rnix_grammar.specs.Reports.{report}
+use Rattle.rnix_lemmas.proofs.Basics.{true_is_not_false}
 use Rattle.rnix_lemmas.proofs.LayoutLemmas.{first_item, items-from_item}
 use Rattle.rnix_lemmas.proofs.AnnotatedForestLemmas.{forget-⊕}
 use Rattle.rnix_lemmas.proofs.RunLemmas.{run_begins}
@@ -219,9 +220,6 @@ no_item ts r e h t = absurd (false_is_not_true (sym (ap (λ x. is_there (kind_in
 -- a run that nothing stops has an item
 pub no_stop : (u : Until) (ts : List Token) (r : Option PlacedToken) → option_map token_of r ≡ head_of ts → r ≡ None → stops u (head_kind ts) ≡ false → ⊥
 no_stop u ts r e h t = absurd (true_is_not_false (sym (ap (λ x. stops u (kind_in x)) (sym e ∙ ap (option_map token_of) h)) ∙ t))
-  where
-    true_is_not_false : true ≡ false → ⊥
-    true_is_not_false e = cc
 
 -- what was unwanted stays so as the place moves
 pub wanted_still : (u : Until) (after : Place) (m : Mark) (s s1 : State) (t : Token) → stops u (head_kind (items_left s)) ≡ false → s1 ≡ moved after m s → head_of (items_left s1) ≡ Some t

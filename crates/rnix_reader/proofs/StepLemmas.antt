@@ -29,6 +29,7 @@ use Rattle.rnix_grammar.specs.Sorts.{Sort, Name, Root, Again, Loose, sort_of, so
 use Rattle.rnix_reader.specs.declared.names.Names.{Names}
 use Rattle.rnix_grammar.specs.Allowed.{Allowed}
 use Rattle.rnix_reader.specs.Holds.{AreFit, BeginsAt, EndsAt, Holding, IsHolding, action_of, is_finish}
+use Rattle.rnix_lemmas.proofs.Basics.{true_is_not_false}
 use Rattle.rnix_lemmas.proofs.AllowedLemmas.{allowed}
 use Rattle.rnix_reader.proofs.FlatLemmas.{flat-bumped, flat-marked, flat-leaf, flat-run, flat-closed, flat-twice, flat-settled, flat-opened, flat-wrapped, flat-started_at, flat-failed}
 use Rattle.rnix_reader.proofs.BegunLemmas.{first_row, name_row}
@@ -38,9 +39,6 @@ pub record Stands (f : Frame) (fs : List Frame) (ts : List Token) (n : ℕ) (es 
   pub mark_is : mark ≡ mark_of f fs
   pub state : s ≡ popped (machine (f ∷ fs) ts n es)
   pub sort : sort_of_head f.head ≡ sort_of f.place
-
-true_is_not_false : true ≡ false → ⊥
-true_is_not_false e = cc
 
 -- no place is that of a name
 abbrev is_name : Sort → Bool
@@ -141,13 +139,6 @@ module _ (f : Frame) (fs : List Frame) (ts : List Token) (n : ℕ) (es : List Fa
       ap (λ x. marked (mark_of (opened Operand inside f.depth blank) fs) (started_at x.at k (moved over mark s))) h.mark_is
       ∙ ap (λ x. marked (mark_of (opened Operand inside f.depth blank) fs) (started_at (mark_of f fs).at k x)) (at over)
       ∙ flat-wrapped k inside over f fs ts n es o
-
-  pub step-wrap : (k : SyntaxKind) (inside : Place) (high : ℕ) (s1 : State) → f.head ≡ Operand
-      → s1 ≡ marked (mark_of (opened Operand inside f.depth blank) fs) (started_at mark.at k (moved (p.Behind (low_of f.place) high) mark s))
-      → bumped k s1 ≡ flat (perform true (a.Wrap k inside high) f fs ts n es)
-  step-wrap k inside high s1 o e =
-      ap (bumped k) (e ∙ step-over k inside (p.Behind (low_of f.place) high) o)
-      ∙ flat-bumped _ k (opened (Node k) inside f.depth f.row) (opened Operand (p.Behind (low_of f.place) high) f.depth blank ∷ fs) ts n es
 
   pub step-apply_or : f.head ≡ Operand
       → ended (ended (bumped NODE_IDENT (started NODE_IDENT (started_at mark.at NODE_APPLY (moved (p.Behind (low_of f.place) 15) mark s)))))

@@ -20,6 +20,7 @@ use Rattle.rnix_grammar.specs.Layout.{items, from_item, tail_of}
 use Rattle.rnix_grammar.specs.Machine.{Node, Operand, Frame, Machine, put, opened, behind, closed, limited, low_of, run_rest, dropped, begun, operand_on, reading, perform}
 use Rattle.rnix_grammar.specs.Missing.{run_of}
 use Rattle.rnix_grammar.specs.Begins.{second_kind}
+use Rattle.rnix_lemmas.proofs.Basics.{true_is_not_false}
 use Rattle.rnix_lemmas.proofs.LayoutLemmas.{items-from_item}
 use Rattle.rnix_lemmas.proofs.WithoutTriviaLemmas.{items_behind, run_prefix, all_prefix, run_bared}
 use Rattle.rnix_lemmas.proofs.RunLemmas.{dropped_all, run_begins}
@@ -34,9 +35,6 @@ use Rattle.rnix_lemmas.proofs.AllowedLemmas.{sort_there, weight_there}
 use Rattle.rnix_reader.proofs.EntryLemmas.{fit_stands}
 use Rattle.rnix_reader.proofs.StepLemmas.{is_root}
 use Rattle.rnix_reader.proofs.RunLemmas.{no_items}
-
-true_is_not_false : true ≡ false → ⊥
-true_is_not_false e = cc
 
 -- weights are small, and not nothing
 weight_some : (place : Place) → 1 ≤ weight place

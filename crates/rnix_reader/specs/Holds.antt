@@ -158,6 +158,10 @@ opens_on level (t ∷ us) = opens_pattern (begins_with level t us)
 abbrev pub opens_at : ℕ → Bool → ℕ → List Token → Bool
 opens_at depth counted level ts = if counted && nat_le depth_limit depth then false else opens_on level ts
 
+-- the same, of the items that the reader has left
+abbrev pub opens_in : ℕ → Bool → ℕ → State → Bool
+opens_in depth counted level s = opens_at depth counted level (items_left s)
+
 -- a set of names is opened, or the names stay
 abbrev pub NamesFor : Bool → Names → Names → Type 0
 NamesFor true n n' = PatternOpened n n'

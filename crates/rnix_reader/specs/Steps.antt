@@ -56,6 +56,10 @@ binding_read s = ended (bumped NODE_PAT_BIND (leafed NODE_IDENT (started NODE_PA
 abbrev pub operand_begun : Place → ℕ → State → State
 operand_begun inside d s = marked (mark_at inside d (tree_count (eaten s).trees)) (eaten s)
 
+-- an operand begins that is a node, whose first leaf is the next item
+abbrev pub node_operand_begun : SyntaxKind → Place → Place → ℕ → State → State
+node_operand_begun k inside over d s = node_begun k inside d (operand_begun over d s)
+
 -- an operand begins that is a function, before its parameter
 abbrev pub lambda_begun : Place → ℕ → State → State
 lambda_begun over d s = noded NODE_LAMBDA LambdaColon d (operand_begun over d s)

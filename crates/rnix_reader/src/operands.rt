@@ -6,7 +6,7 @@ ghost use Rattle.rnix_grammar.specs.AnnotatedForest.{head_kind};
 ghost use Rattle.rnix_grammar.specs.Layout.{tail_of};
 ghost use Rattle.rnix_reader.specs.Placed.{token_of};
 ghost use Rattle.rnix_reader.specs.State.{state, items_left, IsNextItem};
-ghost use Rattle.rnix_reader.specs.Steps.{operand_begun, looks_behind, is_brace, begins_with, binding_read, lambda_begun, leafed, node_begun, parameter_read};
+ghost use Rattle.rnix_reader.specs.Steps.{operand_begun, looks_behind, is_brace, begins_with, binding_read, lambda_begun, leafed, node_operand_begun, parameter_read};
 
 use crate::cursor::PlacedToken;
 use crate::parser::Parser;
@@ -106,7 +106,7 @@ impl<'t> Parser<'t> {
         over: Place,
         depth: usize,
     ) -> Result<(), AllocError>
-        ensures { OnOk result (state self.new ≡ node_begun kind inside depth (operand_begun over depth (state self.old))) }
+        ensures { OnOk result (state self.new ≡ node_operand_begun kind inside over depth (state self.old)) }
     {
         self.open_operand(over, depth)?;
         self.open_node(kind, inside, depth)?;

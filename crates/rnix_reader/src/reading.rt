@@ -2,17 +2,17 @@
 
 ghost use Rattle.std.specs.Prelude.{◌≡◌, ◌≤◌, ◌<◌, [], length, OnOk, true, false};
 ghost use Rattle.rnix_grammar.specs.Tables.{stops};
-ghost use Rattle.rnix_grammar.specs.AnnotatedForest.{Token, Extra, head_kind};
+ghost use Rattle.rnix_grammar.specs.AnnotatedForest.{Token, head_kind};
 ghost use Rattle.rnix_grammar.specs.Machine.{Machine, begins, begun, reading, low_of};
 ghost use Rattle.rnix_reader.specs.Placed.{token_of, AreInOrder};
 ghost use Rattle.rnix_reader.specs.State.{state, items_left, IsNextItem};
-ghost use Rattle.rnix_reader.specs.Steps.{moved, entry_begun, second_begun};
+ghost use Rattle.rnix_reader.specs.Steps.{entry_begun, second_begun};
 ghost use Rattle.rnix_reader.specs.Flat.{flat};
 ghost use Rattle.rnix_reader.specs.Names.{texts_of, extents_of, EntryNamed};
 ghost use Rattle.rnix_grammar.specs.Allowed.{is_there};
-ghost use Rattle.rnix_reader.specs.Holds.{IsHolding, NamesAfter, IsReadTo, EntryTold, TwiceOpened, action_of, is_finish, opens_pattern, opens_on, NamesFor, opens_at};
+ghost use Rattle.rnix_reader.specs.Holds.{IsHolding, NamesAfter, IsReadTo, EntryTold, TwiceOpened, action_of, is_finish, opens_pattern, opens_on, NamesFor, opens_in};
 ghost use Rattle.rnix_reader.specs.Simulates.{Simulates, SimulatesAt, SimulatesStep, operand_next};
-ghost use Rattle.rnix_reader.specs.Reported.{reported, run_reported, second_reported};
+ghost use Rattle.rnix_reader.specs.Reported.{run_reported, extra_reported, second_reported};
 
 use crate::cursor::PlacedToken;
 use crate::mark::Mark;
@@ -111,7 +111,7 @@ fn read<'t>(
     depth: usize,
 ) -> Result<(), AllocError>
     ensures state { SimulatesAt depth result (reading true level counted) (state p.old) (state p.new) }
-    ensures names { OnOk result (NamesFor (opens_at depth counted level (items_left (state p.old))) names.old names.new) }
+    ensures names { OnOk result (NamesFor (opens_in depth counted level (state p.old)) names.old names.new) }
 {
     if !counted {
         return Ok(operand(p, names, level, depth)?);
@@ -195,7 +195,7 @@ fn run(p: &mut Parser<'_>, mark: Mark, until: Until, after: Place) -> Result<(),
 // Reads what is left after the root's expression.
 fn extra(p: &mut Parser<'_>, mark: Mark) -> Result<(), AllocError>
     requires { is_there (head_kind (items_left (state p.old))) ≡ true }
-    ensures { OnOk result (state p.new ≡ reported Extra (items_left (state p.old)) (moved mark.place mark (state p.old))) }
+    ensures { OnOk result (state p.new ≡ extra_reported mark (state p.old)) }
 {
     p.go_on(mark, mark.place)?;
     if let Some(first) = p.item() {

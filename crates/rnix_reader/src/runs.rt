@@ -3,10 +3,10 @@
 ghost use Rattle.std.specs.Prelude.{◌≡◌, IfOk, OnOk, false, Some};
 ghost use Rattle.rnix_green.specs.Range.{bounds_of};
 ghost use Rattle.rnix_grammar.specs.Tables.{stops};
-ghost use Rattle.rnix_grammar.specs.AnnotatedForest.{Unwanted, Extra, extent_of};
+ghost use Rattle.rnix_grammar.specs.AnnotatedForest.{Extra, extent_of};
 ghost use Rattle.rnix_reader.specs.Placed.{token_of};
 ghost use Rattle.rnix_reader.specs.State.{state, items_left, skipped, IsNextItem};
-ghost use Rattle.rnix_reader.specs.Reported.{end_reported, error_over, limit_reported, next_run, reported, stray_reported};
+ghost use Rattle.rnix_reader.specs.Reported.{end_reported, error_over, limit_reported, next_run, reported, stray_reported, unwanted_reported};
 ghost use Rattle.rnix_reader.specs.Steps.{leafed};
 
 use crate::cursor::PlacedToken;
@@ -72,7 +72,7 @@ impl<'t> Parser<'t> {
     ) -> Result<(), AllocError>
         requires first { IsNextItem (token_of first) (state self.old) }
         requires unwanted { stops until (Some first.kind) ≡ false }
-        ensures { OnOk result (state self.new ≡ reported (Unwanted until) (next_run until (state self.old)) (state self.old)) }
+        ensures { OnOk result (state self.new ≡ unwanted_reported until (state self.old)) }
     {
         let range = self.error_run(until, first)?;
         let wanted = wanted_kinds(until).to_vec(*self.errors.allocator())?;
