@@ -4,7 +4,7 @@ pub mod ForestLemmas
 pub mod PostorderLemmas
 pub mod EntriesLemmas
 pub mod KeptLemmas
-pub mod SameTree
+pub mod EqualTrees
 pub mod PieceLemmas
 pub mod ParentLemmas
 pub mod SiblingLemmas

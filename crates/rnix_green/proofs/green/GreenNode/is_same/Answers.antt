@@ -2,7 +2,7 @@ use Rattle.std.proofs.Common.{◌≡◌, ◌∙◌, sym, subst}
 use Rattle.std.specs.Cmp.Lexicographic.{same_text}
 use Rattle.std.specs.String.{string_bytes}
 use Rattle.rnix_green.specs.Kept.{IsKept}
-use Rattle.rnix_green.proofs.SameTree.{same_tree, same_parts}
+use Rattle.rnix_green.proofs.EqualTrees.{same_tree, same_parts}
 use Rattle.rnix_green.proofs.green.GreenNode.is_same.Goals as goal
 
 pub returns-then-eq : goal.returns-then-eq
