@@ -6,7 +6,7 @@ use Rattle.std.specs.List.Sorted.{IsPermutation}
 use Rattle.std.proofs.lemmas.List.{map-append}
 use Rattle.std.proofs.lemmas.List.Elements.{All-push}
 use Rattle.std.proofs.lemmas.List.Sorted.{IsPermutation-sym, IsPermutation-middle, IsPermutation-push_more}
-use Rattle.rnix_green.specs.Range.{Extent}
+use Rattle.rnix_tree.specs.Range.{Extent}
 use Rattle.rnix_text.specs.Changes.{Change, Draft, AreAscending, IsAdded, replacing}
 use Rattle.nix_rename.specs.Renamed.{StandsAt, change_at}
 

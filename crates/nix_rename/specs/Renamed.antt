@@ -2,8 +2,8 @@
 use Rattle.std.specs.Prelude.{◌≡◌, ℕ, ◌≤◌, List, length, map, Bool, false, nat_eq, Option, Some, None, slice_range}
 use Rattle.std.specs.List.{All, filter}
 use Rattle.std.specs.List.Sorted.{IsPermutation}
-use Rattle.rnix_green.specs.Range.{Extent}
-use Rattle.rnix_green.specs.Tree.{extent_of}
+use Rattle.rnix_tree.specs.Range.{Extent}
+use Rattle.rnix_tree.specs.Tree.{extent_of}
 use Rattle.rnix_text.specs.Changes.{Change, AreAscending, changed_from, replacing}
 use Rattle.nix_scopes.specs.declared.resolution.Binding.{Binding}
 use Rattle.nix_scopes.specs.declared.resolution.Reference.{Reference}

@@ -1,7 +1,7 @@
 //! The text in which a name is renamed with its binding.
 
 ghost use Rattle.std.specs.Prelude.{◌≡◌, ◌++◌, map, IfOk, IfSome, IsNone, string_bytes};
-ghost use Rattle.rnix_green.specs.Range.{bounds_of};
+ghost use Rattle.rnix_tree.specs.Range.{bounds_of};
 ghost use Rattle.nix_rename.specs.Renamed.{written_at, referred_at, IsChanged};
 
 use nix_scopes::{Binding, Reference, Resolution, resolve};

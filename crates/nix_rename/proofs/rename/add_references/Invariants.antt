@@ -1,5 +1,5 @@
 use Rattle.std.proofs.Common.{◌≡◌, ◌++◌, map, take}
-use Rattle.rnix_green.specs.Range.{bounds_of}
+use Rattle.rnix_tree.specs.Range.{bounds_of}
 use Rattle.nix_rename.specs.Renamed.{referred_at}
 use Rattle.nix_rename.proofs.rename.add_references.Given as goal
 

@@ -1,5 +1,5 @@
 use Rattle.std.proofs.Common.{map, take}
-use Rattle.rnix_green.specs.Range.{bounds_of}
+use Rattle.rnix_tree.specs.Range.{bounds_of}
 use Rattle.nix_rename.proofs.ChangedLemmas.{IsDrafted}
 use Rattle.nix_rename.proofs.rename.changed.Given as goal
 
