@@ -1,17 +1,17 @@
 -- The kinds of a node's children, as its tree has them.
-use Rattle.std.proofs.Common.{◌≡◌, ℕ, zero, suc, ◌+◌, ◌-◌, Bool, true, false, cond, List, [], ◌∷◌, ◌++◌, length, map, get_or, Option, Some, refl, ap, sym, ◌∙◌, arith, append_assoc, length-append}
+use Rattle.std.proofs.Common.{◌≡◌, ℕ, zero, suc, ◌+◌, ◌-◌, Bool, true, false, cond, List, [], ◌∷◌, ◌++◌, length, map, Option, Some, refl, ap, sym, ◌∙◌, arith}
 use Rattle.std.specs.Prelude.{if◌then◌else◌, is_some, slice_get, filter, find}
-use Rattle.std.proofs.lemmas.List.{get_or-append_right}
 use Rattle.std.proofs.lemmas.Bool.{and_parts}
 use Rattle.rnix_kinds.specs.declared.kinds.SyntaxKind.{SyntaxKind}
 use Rattle.rnix_kinds.specs.SyntaxKind.{is_token, is_trivia}
 use Rattle.rnix_green.specs.Equality.{same_kind, same_kind-decides}
 use Rattle.rnix_green.specs.Forest.{Forest, empty, leaf, node, text_of, element_count}
-use Rattle.rnix_green.specs.Tree.{Tree, Item, Located, IsNodeAt, items_from, items_of, no_item, item, item_of, forest_of, part_at, children_in}
+use Rattle.rnix_green.specs.Tree.{Tree, Item, Located, IsNodeAt, items_from, items_of, item, item_of, forest_of, part_at, children_in}
 use Rattle.rnix_green.specs.Walk.{Spot, spot_at, nodes_in, children_of}
 use Rattle.rnix_green.specs.Numbers.{tree_numbers}
 use Rattle.rnix_green.proofs.PartLemmas.{IsPart, IsOne, one_leaf, one_node, part_there, one_there}
 use Rattle.rnix_green.proofs.PieceLemmas.{length-items_from}
+use Rattle.rnix_tree.proofs.StandingItems.{Stands, first_item, front_stands, back_stands}
 use Rattle.rnix_base.specs.Select.{has_kind, tokens_in, child_of, token_of}
 use Rattle.rnix_grammar.specs.Rows.{is_row}
 use Rattle.rnix_grammar.specs.Shape.{item_kinds}
@@ -30,35 +30,6 @@ abbrev pub tops : Forest → List Sight
 tops empty = []
 tops (leaf k t f) = (false, k) ∷ tops f
 tops (node k c f) = (true, k) ∷ tops f
-
--- the items of a row stand in the tree from the number n on
-record Stands (t : Tree) (n : ℕ) (is : List Item) : Type 0 where
-  pub before : List Item
-  pub after : List Item
-  pub split : items_of t ≡ before ++ (is ++ after)
-  pub counted : length before ≡ n
-
-first_item : (t : Tree) (n : ℕ) (i : Item) (is : List Item) → Stands t n (i ∷ is) → item t n ≡ i
-first_item t n i is h =
-    let z : n - n ≡ 0 = omega arith in
-    ap (λ xs. get_or xs n no_item) h.split ∙ get_or-append_right h.before ((i ∷ is) ++ h.after) n n no_item h.counted (omega arith)
-    ∙ ap (λ j. get_or ((i ∷ is) ++ h.after) j no_item) z
-
-front_stands : (t : Tree) (n : ℕ) (xs ys : List Item) → Stands t n (xs ++ ys) → Stands t n xs
-front_stands t n xs ys h = record {
-  before = h.before;
-  after = ys ++ h.after;
-  split = h.split ∙ ap (λ x. h.before ++ x) (append_assoc xs ys h.after);
-  counted = h.counted;
-}
-
-back_stands : (t : Tree) (n m : ℕ) (xs ys : List Item) → n + length xs ≡ m → Stands t n (xs ++ ys) → Stands t m ys
-back_stands t n m xs ys e h = record {
-  before = h.before ++ xs;
-  after = h.after;
-  split = h.split ∙ ap (λ x. h.before ++ x) (append_assoc xs ys h.after) ∙ sym (append_assoc h.before xs (ys ++ h.after));
-  counted = omega (arith, length-append h.before xs, h.counted);
-}
 
 -- the elements of a row's trees are of their kinds
 row_seen : (t : Tree) (n s : ℕ) (p : Option ℕ) (f : Forest) → Stands t n (items_from n s p f) → map seen (map (spot_at t) (tree_numbers n f)) ≡ tops f

@@ -1,8 +1,8 @@
 -- What the walk over an element prints is its lines.
-use Rattle.std.proofs.Common.{◌≡◌, ℕ, ◌+◌, ◌-◌, ◌≤◌, ◌<◌, ◌^◌, nat_lt, true≢false, List, [], ◌∷◌, ◌++◌, length, map, get_or, true, false, Option, Some, None, refl, ap, sym, subst, ◌∙◌, arith, inl, inr, append_assoc, append-nil, length-append}
+use Rattle.std.proofs.Common.{◌≡◌, ℕ, ◌+◌, ◌-◌, ◌≤◌, ◌<◌, ◌^◌, nat_lt, true≢false, List, [], ◌∷◌, ◌++◌, length, map, get_or, true, false, Option, Some, None, refl, ap, sym, subst, ◌∙◌, arith, inl, inr, append_assoc, append-nil}
 use Rattle.std.specs.Prelude.{if◌then◌else◌}
 use Rattle.std.proofs.lemmas.Bool.{cases_lt}
-use Rattle.std.proofs.lemmas.List.{map-append, get_or-append_right}
+use Rattle.std.proofs.lemmas.List.{map-append}
 use Rattle.rnix_kinds.specs.declared.kinds.SyntaxKind.{SyntaxKind}
 use Rattle.rnix_green.specs.Forest.{Forest, empty, leaf, node, text_of, element_count}
 use Rattle.rnix_green.specs.Tree.{Tree, Item, Located, items_from, items_of, no_item, item, item_of, extent_of, forest_of, part_of, part_at}
@@ -17,38 +17,7 @@ use Rattle.rnix_green.proofs.PartLemmas.{IsPart, IsOne, one_leaf, one_node, part
 use Rattle.rnix_green.proofs.PieceLemmas.{length-items_from}
 use Rattle.rnix_tree.specs.Lines.{line_of, lines_from, lines_of}
 use Rattle.rnix_tree.specs.Walked.{event_lines, entered_in, IsNested}
-
--- the items of a row stand in the tree from the number n on
-pub record Stands (t : Tree) (n : ℕ) (is : List Item) : Type 0 where
-  pub before : List Item
-  pub after : List Item
-  pub split : items_of t ≡ before ++ (is ++ after)
-  pub counted : length before ≡ n
-
--- the first item of a row that stands from a number on is the item of that number
-first_item : (t : Tree) (n : ℕ) (i : Item) (is : List Item) → Stands t n (i ∷ is) → item t n ≡ i
-first_item t n i is h =
-    let z : n - n ≡ 0 = omega arith in
-    ap (λ xs. get_or xs n no_item) h.split ∙ get_or-append_right h.before ((i ∷ is) ++ h.after) n n no_item h.counted (omega arith)
-    ∙ ap (λ j. get_or ((i ∷ is) ++ h.after) j no_item) z
-
--- the front of a row
-front_stands : (t : Tree) (n : ℕ) (xs ys : List Item) → Stands t n (xs ++ ys) → Stands t n xs
-front_stands t n xs ys h = record {
-  before = h.before;
-  after = ys ++ h.after;
-  split = h.split ∙ ap (λ x. h.before ++ x) (append_assoc xs ys h.after);
-  counted = h.counted;
-}
-
--- what stands behind the front of a row
-back_stands : (t : Tree) (n m : ℕ) (xs ys : List Item) → n + length xs ≡ m → Stands t n (xs ++ ys) → Stands t m ys
-back_stands t n m xs ys e h = record {
-  before = h.before ++ xs;
-  after = h.after;
-  split = h.split ∙ ap (λ x. h.before ++ x) (append_assoc xs ys h.after) ∙ sym (append_assoc h.before xs (ys ++ h.after));
-  counted = omega (arith, length-append h.before xs, h.counted);
-}
+use Rattle.rnix_tree.proofs.StandingItems.{Stands, first_item, front_stands, back_stands}
 
 -- what an element's events print, around those of what is inside it
 around : (t : Tree) (n : ℕ) (i : Item) (depth : ℕ) (inside : List Event) (more : List Event) (lines : List ℕ) → item t n ≡ i

@@ -4,6 +4,7 @@ pub mod AncestorLemmas
 pub mod OffsetLemmas
 pub mod SameLemmas
 pub mod CountLemmas
+pub mod StandingItems
 pub mod WalkRows
 pub mod EnterSteps
 pub mod LeaveSteps
