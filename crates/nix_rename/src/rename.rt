@@ -1,6 +1,10 @@
 //! The text in which a name is renamed with its binding.
 
-use nix_scopes::{Binding, Resolution, resolve};
+ghost use Rattle.std.specs.Prelude.{◌≡◌, ◌++◌, map, IfOk, IfSome, IsNone, string_bytes};
+ghost use Rattle.rnix_green.specs.Range.{bounds_of};
+ghost use Rattle.nix_rename.specs.Renamed.{written_at, referred_at, IsChanged};
+
+use nix_scopes::{Binding, Reference, Resolution, resolve};
 use rnix::ast::{AstNode, Expr};
 use rnix::{Root, SyntaxKind, SyntaxNode, TextRange};
 use rnix_text::{EditError, Edits};
@@ -53,13 +57,16 @@ fn fixed(binding: &Binding<'_>) -> Option<&'static str> {
     }
 }
 
-// Adds where a name is bound, or answers why it cannot be renamed.
+// Adds where the binding of a number is written, or answers why it cannot be renamed there.
 fn add_bindings(
-    names: &Resolution<'_>,
+    bindings: &[Binding<'_>],
     number: usize,
     places: &mut Vec<TextRange>,
-) -> Result<Option<&'static str>, AllocError> {
-    for binding in names.bindings() {
+) -> Result<Option<&'static str>, AllocError>
+    ensures { IfOk result (λ reason. IsNone reason →
+        map bounds_of places.new.items ≡ map bounds_of places.old.items ++ written_at number bindings.now) }
+{
+    for binding in bindings {
         if binding.first == number {
             if let Some(reason) = fixed(binding) {
                 return Ok(Some(reason));
@@ -70,13 +77,16 @@ fn add_bindings(
     Ok(None)
 }
 
-// Adds where a binding is referred to, or answers why it cannot be renamed there.
+// Adds where the binding of a number is referred to, or answers why it cannot be renamed there.
 fn add_references(
-    names: &Resolution<'_>,
+    references: &[Reference<'_>],
     number: usize,
     places: &mut Vec<TextRange>,
-) -> Result<Option<&'static str>, AllocError> {
-    for reference in names.references() {
+) -> Result<Option<&'static str>, AllocError>
+    ensures { IfOk result (λ reason. IsNone reason →
+        map bounds_of places.new.items ≡ map bounds_of places.old.items ++ referred_at number references.now) }
+{
+    for reference in references {
         if reference.binding == Some(number) {
             if reference.is_inherited {
                 return Ok(Some("a set inherits the name: give it its own entry first"));
@@ -87,18 +97,26 @@ fn add_references(
     Ok(None)
 }
 
-// The text with a name at these places.
+// The text with a new name at these places, if the old one stands at each of them.
 fn changed(
     alloc: Global,
     text: &str,
     places: &[TextRange],
-    name: &str,
-) -> Result<String, EditError> {
+    old: &str,
+    new: &str,
+) -> Result<Option<String>, EditError>
+    ensures { IfOk result (λ made. IfSome made (λ made.
+        IsChanged text.now (map bounds_of places.now) old.now new.now (string_bytes made))) }
+{
     let mut edits = Edits::new(alloc, text);
     for place in places {
-        edits.replace(place.start()..place.end(), name)?;
+        let (start, end) = (place.start(), place.end());
+        match text.get(start..end) {
+            Some(found) if found == old => edits.replace(start..end, new)?,
+            _ => return Ok(None),
+        }
     }
-    Ok(edits.apply(alloc)?)
+    Ok(Some(edits.apply(alloc)?))
 }
 
 // A new text, if it is without errors and each name in it refers to what it referred to before.
@@ -112,6 +130,30 @@ fn checked(alloc: Global, names: &Resolution<'_>, text: String) -> Result<Renami
     } else {
         Renaming::Refused("with the new name, some name would refer to something else")
     })
+}
+
+// The text in which the binding of a number has a new name.
+fn renamed(
+    alloc: Global,
+    text: &str,
+    names: &Resolution<'_>,
+    number: usize,
+    new: &str,
+) -> Result<Renaming, EditError> {
+    let Some(binding) = names.bindings().get(number) else {
+        return Ok(Renaming::Refused("nothing in the text binds the name"));
+    };
+    let mut places = Vec::new(alloc);
+    if let Some(reason) = add_bindings(names.bindings(), number, &mut places)? {
+        return Ok(Renaming::Refused(reason));
+    }
+    if let Some(reason) = add_references(names.references(), number, &mut places)? {
+        return Ok(Renaming::Refused(reason));
+    }
+    match changed(alloc, text, &places, binding.text, new)? {
+        Some(made) => checked(alloc, names, made),
+        None => Ok(Renaming::Refused("the name is written in another way at some place")),
+    }
 }
 
 /// The text in which what the name at an offset refers to is renamed. It is refused where the text binds no such name, where others see
@@ -130,15 +172,8 @@ pub fn rename(
         return Ok(Renaming::Refused("no name stands at OFFSET"));
     };
     let names = resolve(alloc, root)?;
-    let Some(number) = names.binding_at(&node) else {
-        return Ok(Renaming::Refused("nothing in the text binds the name"));
-    };
-    let mut places = Vec::new(alloc);
-    if let Some(reason) = add_bindings(&names, number, &mut places)? {
-        return Ok(Renaming::Refused(reason));
+    match names.binding_at(&node) {
+        Some(number) => renamed(alloc, text, &names, number, new),
+        None => Ok(Renaming::Refused("nothing in the text binds the name")),
     }
-    if let Some(reason) = add_references(&names, number, &mut places)? {
-        return Ok(Renaming::Refused(reason));
-    }
-    checked(alloc, &names, changed(alloc, text, &places, new)?)
 }

@@ -1,0 +1,8 @@
+use Rattle.std.proofs.Common.{◌≡◌, ◌++◌, map, take}
+use Rattle.rnix_green.specs.Range.{bounds_of}
+use Rattle.nix_rename.specs.Renamed.{written_at}
+use Rattle.nix_rename.proofs.rename.add_bindings.Given as goal
+
+abbrev pub invariant-loop-binding : goal.invariant-loop-binding
+invariant-loop-binding l =
+    map bounds_of l.places.items ≡ map bounds_of l.fn.places.items ++ written_at l.number (take l.binding-index l.bindings)

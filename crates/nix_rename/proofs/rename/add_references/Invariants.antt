@@ -1,0 +1,8 @@
+use Rattle.std.proofs.Common.{◌≡◌, ◌++◌, map, take}
+use Rattle.rnix_green.specs.Range.{bounds_of}
+use Rattle.nix_rename.specs.Renamed.{referred_at}
+use Rattle.nix_rename.proofs.rename.add_references.Given as goal
+
+abbrev pub invariant-loop-reference : goal.invariant-loop-reference
+invariant-loop-reference l =
+    map bounds_of l.places.items ≡ map bounds_of l.fn.places.items ++ referred_at l.number (take l.reference-index l.references)
