@@ -6,6 +6,7 @@ use Rattle.rnix_grammar.specs.declared.place.Place.{Place}
 use Rattle.rnix_grammar.specs.declared.place.Place.TheVariants as p
 use Rattle.rnix_grammar.specs.declared.symbol.Symbol.{Symbol}
 use Rattle.rnix_grammar.specs.declared.symbol.Symbol.TheVariants as s
+use Rattle.rnix_grammar.specs.Symbols.{symbol_at}
 use Rattle.rnix_grammar.specs.Machine.{Head, Node, Second, Operand, Frame}
 
 -- the root, a pattern, its entry, its second name, an operand, a name alone, another node
@@ -33,25 +34,6 @@ sort_of_head (Node k) = sort_of_node k
 sort_of_head Second = Again
 sort_of_head Operand = Loose
 
--- the sort of a place
-abbrev pub sort_of : Place → Sort
-sort_of p.RootStart = Root
-sort_of p.RootEnd = Root
-sort_of p.PatternBrace = Pattern
-sort_of (p.PatternStart bound) = Pattern
-sort_of (p.PatternInside bound) = Pattern
-sort_of (p.PatternAfter bound) = Pattern
-sort_of (p.PatternClose bound) = Pattern
-sort_of (p.PatternEnd bound) = Pattern
-sort_of p.PatternPast = Pattern
-sort_of p.EntryMore = Entry
-sort_of p.EntryDefault = Entry
-sort_of p.EntryPast = Entry
-sort_of p.TwiceName = Again
-sort_of p.TwicePast = Again
-sort_of (p.Behind low high) = Loose
-sort_of place = Plain
-
 -- what may stand inside what: nothing inside a second name, no operand in a pattern itself, an entry inside a pattern, the root inside nothing
 abbrev pub may_hold : Sort → Sort → Bool
 may_hold Again s = false
@@ -78,6 +60,20 @@ sort_in s.TwiceDone own = Again
 sort_in (s.More low high) own = Loose
 sort_in symbol own = Plain
 
+-- the place behind what stands at a place
+abbrev pub behind_in : Symbol → Place → Place
+behind_in (s.Token until behind) place = behind
+behind_in (s.Operand level counted behind) place = behind
+behind_in (s.Entries closer behind) place = behind
+behind_in (s.Attr behind) place = behind
+behind_in (s.Attrpath behind) place = behind
+behind_in (s.Name behind) place = behind
+behind_in symbol place = place
+
+-- the sort of a place, by what stands there and behind it
+abbrev pub sort_of : Place → Sort
+sort_of place = sort_in (symbol_at place) (sort_in (symbol_at (behind_in (symbol_at place) place)) Plain)
+
 -- a place that is not in a second name
 abbrev pub is_open : Sort → Bool
 is_open Again = false
@@ -88,16 +84,6 @@ abbrev pub may_stand : Symbol → Sort → Bool
 may_stand (s.Token until behind) sort = is_open sort
 may_stand (s.Operand level counted behind) sort = may_hold sort Loose
 may_stand symbol sort = true
-
--- the place behind what stands at a place
-abbrev pub behind_in : Symbol → Place → Place
-behind_in (s.Token until behind) place = behind
-behind_in (s.Operand level counted behind) place = behind
-behind_in (s.Entries closer behind) place = behind
-behind_in (s.Attr behind) place = behind
-behind_in (s.Attrpath behind) place = behind
-behind_in (s.Name behind) place = behind
-behind_in symbol place = place
 
 -- the end of the text stands at one place
 abbrev pub place_in : Symbol → Place → Place
