@@ -1,20 +1,21 @@
 -- What stands in a row with its errors: the errors of a tree are those of its rows, in order.
-use Rattle.std.specs.Prelude.{◌≡◌, ℕ, suc, ◌+◌, ◌<◌, ◌≤◌, Bool, true, false, ◌||◌, ◌&&◌, List, [], ◌∷◌, ◌++◌, Option, Some, None, length, if◌then◌else◌}
+use Rattle.std.specs.Prelude.{◌≡◌, ℕ, zero, suc, ◌+◌, ◌<◌, ◌≤◌, Bool, true, false, ◌||◌, ◌&&◌, List, [], ◌∷◌, ◌++◌, Option, Some, None, length, if◌then◌else◌}
+use Rattle.std.specs.List.{list_all, list_any}
 use Rattle.rnix_kinds.specs.declared.kinds.SyntaxKind.{SyntaxKind}
-use Rattle.rnix_kinds.specs.declared.kinds.SyntaxKind.TheVariants.{NODE_IDENT, NODE_CUR_POS, NODE_ROOT, NODE_ERROR, NODE_LITERAL, NODE_ATTRPATH, NODE_PATTERN, NODE_INHERIT, NODE_INTERPOL, NODE_ATTR_SET, NODE_ATTRPATH_VALUE, NODE_WITH, NODE_ASSERT, NODE_INHERIT_FROM, NODE_PAREN, NODE_LAMBDA, NODE_IF_ELSE, NODE_PAT_BIND, NODE_STRING}
+use Rattle.rnix_kinds.specs.declared.kinds.SyntaxKind.TheVariants.{NODE_IDENT, NODE_CUR_POS, NODE_ROOT, NODE_ERROR, NODE_LITERAL, NODE_ATTRPATH, NODE_PATTERN, NODE_INHERIT, NODE_PAT_BIND}
 use Rattle.rnix_kinds.specs.SyntaxKind.{is_fn_arg}
+use Rattle.rnix_kinds.proofs.AllKinds.{all_kinds}
 use Rattle.rnix_grammar.specs.declared.level.Associativity.{Associativity}
 use Rattle.rnix_grammar.specs.declared.level.Associativity.TheVariants.{Neither}
 use Rattle.rnix_grammar.specs.declared.place.Place.{Place}
 use Rattle.rnix_grammar.specs.declared.place.Place.TheVariants.{RootStart, RootEnd, PatternEnd, PatternPast}
 use Rattle.rnix_grammar.specs.declared.until.Until.{Until}
-use Rattle.rnix_grammar.specs.declared.until.Until.TheVariants as u
 use Rattle.rnix_grammar.specs.Fault.{Fault}
 use Rattle.rnix_grammar.specs.declared.symbol.Symbol.{Symbol}
 use Rattle.rnix_grammar.specs.declared.symbol.Symbol.TheVariants.{Series}
 use Rattle.rnix_grammar.specs.Symbols.{symbol_at, level_in}
 use Rattle.rnix_grammar.specs.Levels.{has_attr_level, application_level, selection_level, operator, left_of}
-use Rattle.rnix_grammar.specs.Tables.{stops, closes, depth_limit}
+use Rattle.rnix_grammar.specs.Tables.{wanted_kinds, is_wanted, stops, closes, depth_limit}
 use Rattle.rnix_grammar.specs.AnnotatedForest.{Token, Note, Stray, Unwanted, Extra, Twice, TooDeep, AnnotatedForest, blank, token, branch, fault, ◌⊕◌, one_token, one_branch, one_fault, row_of, tokens_in, is_some, leaf_kind, head_kind}
 use Rattle.rnix_grammar.specs.Reports.{report, repeats}
 use Rattle.rnix_grammar.specs.Names.{is_named}
@@ -76,29 +77,34 @@ abbrev pub closing : RowState → SyntaxKind → Bool
 closing (At place) kind = closing_in (symbol_at place) kind
 closing row_state kind = false
 
--- which lists are wanted below which nodes
-abbrev pub is_wanted_in : Until → SyntaxKind → Bool
-is_wanted_in u.InterpolEnd NODE_INTERPOL = true
-is_wanted_in u.RBrace NODE_PATTERN = true
-is_wanted_in u.LBrace NODE_ATTR_SET = true
-is_wanted_in u.LBrace NODE_PATTERN = true
-is_wanted_in u.Semicolon NODE_INHERIT = true
-is_wanted_in u.Semicolon NODE_ATTRPATH_VALUE = true
-is_wanted_in u.Semicolon NODE_WITH = true
-is_wanted_in u.Semicolon NODE_ASSERT = true
-is_wanted_in u.RParen NODE_INHERIT_FROM = true
-is_wanted_in u.RParen NODE_PAREN = true
-is_wanted_in u.Assign NODE_ATTRPATH_VALUE = true
-is_wanted_in u.Colon NODE_LAMBDA = true
-is_wanted_in u.Then NODE_IF_ELSE = true
-is_wanted_in u.Else NODE_IF_ELSE = true
-is_wanted_in u.Ident NODE_PAT_BIND = true
-is_wanted_in u.Ident NODE_ERROR = true
-is_wanted_in u.Piece NODE_STRING = true
-is_wanted_in u.Attr NODE_ATTRPATH = true
-is_wanted_in u.Attr NODE_INHERIT = true
-is_wanted_in u.Entry NODE_PATTERN = true
-is_wanted_in until parent = false
+-- the same kinds are wanted
+abbrev pub same_wanted : Until → Until → Bool
+same_wanted a b = list_all (is_wanted a) (wanted_kinds b) && list_all (is_wanted b) (wanted_kinds a)
+
+-- a run, if one may stand, stops before these kinds
+abbrev pub stops_before : Until → Option (Until × Place) → Bool
+stops_before until None = false
+stops_before until (Some run) = same_wanted until run.0
+
+-- so it is at a state
+abbrev pub is_wanted_at : Until → RowState → Bool
+is_wanted_at until (At place) = stops_before until (run_at place)
+is_wanted_at until row_state = false
+
+-- or at one that its row comes to within so many states
+abbrev pub is_wanted_within : ℕ → Until → RowState → Bool
+is_wanted_within zero until q = false
+is_wanted_within (suc n) until q =
+    if live q then is_wanted_at until q || list_any (λ kind. is_wanted_within n until (advance q kind)) all_kinds else false
+
+-- where a row begins below a node, that of a second name below an error node
+abbrev pub begin_below : SyntaxKind → RowState
+begin_below NODE_ERROR = SecondStart
+begin_below kind = start kind
+
+-- which lists are wanted below which nodes: those that runs stop before in a row; each place of one is within seven states
+unfoldable pub is_wanted_in : Until → SyntaxKind → Bool
+is_wanted_in until parent = is_wanted_within 7 until (begin_below parent)
 
 -- the kind of `inherit` entries
 abbrev pub is_inherit : SyntaxKind → Bool

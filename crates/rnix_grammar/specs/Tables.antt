@@ -1,8 +1,10 @@
 -- What is wanted where: the kinds of tokens, and the limit of nesting.
 use Rattle.std.specs.Prelude.{ℕ, Bool, true, false, List, [], ◌∷◌, Option, Some, None, codes, if◌then◌else◌}
+use Rattle.std.specs.List.{list_any}
 use Rattle.std.specs.Str.{bytes_eq}
 use Rattle.rnix_kinds.specs.declared.kinds.SyntaxKind.{SyntaxKind}
 use Rattle.rnix_kinds.specs.declared.kinds.SyntaxKind.TheVariants.{TOKEN_R_PAREN, TOKEN_L_PAREN, TOKEN_L_BRACE, TOKEN_R_BRACE, TOKEN_L_BRACK, TOKEN_R_BRACK, TOKEN_IN, TOKEN_SEMICOLON, TOKEN_ASSIGN, TOKEN_COLON, TOKEN_THEN, TOKEN_ELSE, TOKEN_INTERPOL_START, TOKEN_INTERPOL_END, TOKEN_STRING_START, TOKEN_STRING_CONTENT, TOKEN_STRING_END, TOKEN_IDENT, TOKEN_OR, TOKEN_CUR_POS, TOKEN_REC, TOKEN_ELLIPSIS}
+use Rattle.rnix_green.specs.Equality.{same_kind}
 use Rattle.rnix_grammar.specs.declared.until.Until.{Until}
 use Rattle.rnix_grammar.specs.declared.until.Until.TheVariants.{RParen, LBrace, RBrace, Semicolon, Assign, Colon, Then, Else, InterpolEnd, StringEnd, Ident, Piece, Attr, Entry, End}
 use Rattle.rnix_grammar.specs.declared.until.Closer.{Closer}
@@ -33,27 +35,7 @@ wanted_kinds End = []
 
 -- a token of the kind is wanted
 abbrev pub is_wanted : Until → SyntaxKind → Bool
-is_wanted RParen TOKEN_R_PAREN = true
-is_wanted LBrace TOKEN_L_BRACE = true
-is_wanted RBrace TOKEN_R_BRACE = true
-is_wanted Semicolon TOKEN_SEMICOLON = true
-is_wanted Assign TOKEN_ASSIGN = true
-is_wanted Colon TOKEN_COLON = true
-is_wanted Then TOKEN_THEN = true
-is_wanted Else TOKEN_ELSE = true
-is_wanted InterpolEnd TOKEN_INTERPOL_END = true
-is_wanted StringEnd TOKEN_STRING_END = true
-is_wanted Ident TOKEN_IDENT = true
-is_wanted Piece TOKEN_STRING_END = true
-is_wanted Piece TOKEN_STRING_CONTENT = true
-is_wanted Piece TOKEN_INTERPOL_START = true
-is_wanted Attr TOKEN_IDENT = true
-is_wanted Attr TOKEN_OR = true
-is_wanted Attr TOKEN_CUR_POS = true
-is_wanted Entry TOKEN_R_BRACE = true
-is_wanted Entry TOKEN_ELLIPSIS = true
-is_wanted Entry TOKEN_IDENT = true
-is_wanted until kind = false
+is_wanted until kind = list_any (λ wanted. same_kind wanted kind) (wanted_kinds until)
 
 -- a run of other tokens stops before a token of the kind, and at the end
 abbrev pub stops : Until → Option SyntaxKind → Bool

@@ -68,34 +68,7 @@ pub fn wanted_kinds(until: Until) -> &'static [SyntaxKind]
 pub fn is_wanted(until: Until, kind: SyntaxKind) -> bool
     ensures { result ≡ is_wanted until kind }
 {
-    match until {
-        Until::RParen => matches!(kind, SyntaxKind::TOKEN_R_PAREN),
-        Until::LBrace => matches!(kind, SyntaxKind::TOKEN_L_BRACE),
-        Until::RBrace => matches!(kind, SyntaxKind::TOKEN_R_BRACE),
-        Until::Semicolon => matches!(kind, SyntaxKind::TOKEN_SEMICOLON),
-        Until::Assign => matches!(kind, SyntaxKind::TOKEN_ASSIGN),
-        Until::Colon => matches!(kind, SyntaxKind::TOKEN_COLON),
-        Until::Then => matches!(kind, SyntaxKind::TOKEN_THEN),
-        Until::Else => matches!(kind, SyntaxKind::TOKEN_ELSE),
-        Until::InterpolEnd => matches!(kind, SyntaxKind::TOKEN_INTERPOL_END),
-        Until::StringEnd => matches!(kind, SyntaxKind::TOKEN_STRING_END),
-        Until::Ident => matches!(kind, SyntaxKind::TOKEN_IDENT),
-        Until::Piece => matches!(
-            kind,
-            SyntaxKind::TOKEN_STRING_END
-                | SyntaxKind::TOKEN_STRING_CONTENT
-                | SyntaxKind::TOKEN_INTERPOL_START
-        ),
-        Until::Attr => matches!(
-            kind,
-            SyntaxKind::TOKEN_IDENT | SyntaxKind::TOKEN_OR | SyntaxKind::TOKEN_CUR_POS
-        ),
-        Until::Entry => matches!(
-            kind,
-            SyntaxKind::TOKEN_R_BRACE | SyntaxKind::TOKEN_ELLIPSIS | SyntaxKind::TOKEN_IDENT
-        ),
-        Until::End => false,
-    }
+    wanted_kinds(until).contains(&kind)
 }
 
 /// Whether a run stops before the next token that is not trivia.

@@ -1,14 +1,12 @@
--- Which node each place is in, and what is wanted and missing there.
+-- Which node each place is in, and what is missing there.
 use Rattle.std.proofs.Common.{◌≡◌, ℕ, Bool, true, false, Option, Some, None, refl, subst}
 use Rattle.rnix_kinds.specs.declared.kinds.SyntaxKind.{SyntaxKind}
 use Rattle.rnix_kinds.specs.declared.kinds.SyntaxKind.TheVariants.{NODE_ASSERT, NODE_ATTRPATH, NODE_ATTRPATH_VALUE, NODE_ATTR_SET, NODE_BIN_OP, NODE_DYNAMIC, NODE_ERROR, NODE_HAS_ATTR, NODE_IF_ELSE, NODE_INHERIT, NODE_INHERIT_FROM, NODE_INTERPOL, NODE_LAMBDA, NODE_LEGACY_LET, NODE_LET_IN, NODE_LIST, NODE_PAREN, NODE_PATTERN, NODE_PAT_BIND, NODE_PAT_ENTRY, NODE_ROOT, NODE_SELECT, NODE_STRING, NODE_UNARY_OP, NODE_WITH}
 use Rattle.rnix_grammar.specs.declared.place.Place.{Place}
 use Rattle.rnix_grammar.specs.declared.place.Place.TheVariants as p
-use Rattle.rnix_grammar.specs.declared.until.Until.{Until}
 use Rattle.rnix_grammar.specs.Fault.{Fault}
 use Rattle.rnix_grammar.specs.Levels.{inversion_level, negation_level}
-use Rattle.rnix_grammar.specs.Stands.{is_wanted_in}
-use Rattle.rnix_grammar.specs.Missing.{missing, run_at}
+use Rattle.rnix_grammar.specs.Missing.{missing}
 
 -- the kind of node that a place is in; some places are in many
 abbrev pub home : Place → Option SyntaxKind
@@ -88,39 +86,17 @@ is_pat_entry NODE_PAT_ENTRY = true
 is_pat_entry NODE_ATTRPATH = true
 is_pat_entry kind = false
 
--- a place of many nodes, or of this one
-abbrev pub IsIn : Option SyntaxKind → SyntaxKind → Type 0
-IsIn None k = is_pat_entry k ≡ false
-IsIn (Some h) k = h ≡ k
-
 -- two places of one node: the second names the first's kind, or none
 abbrev pub IsSame : Option SyntaxKind → Option SyntaxKind → Type 0
 IsSame None None = Unit {0}
 IsSame (Some j) None = is_pat_entry j ≡ false
 IsSame h (Some k) = h ≡ Some k
 
--- a string of which the end alone is missing
+-- a string of which the end alone is missing, or inherited names
 abbrev pub is_last : Place → Bool
 is_last p.StringEnd = true
+is_last p.InheritEnd = true
 is_last place = false
-
--- a run's list is wanted in a node
-abbrev pub Wants : Option (Until × Place) → Option SyntaxKind → Type 0
-Wants None h = Unit {0}
-Wants (Some u) None = ⊥
-Wants (Some u) (Some k) = is_wanted_in u.0 k ≡ true
-
-wants : (x : Place) → is_last x ≡ false → Wants (run_at x) (home x)
-wants p.StringEnd l = absurd (cc)
-wants _ l = assumption
-
-wants_in : (r : Option (Until × Place)) (h : Option SyntaxKind) (until : Until) (y : Place) (k : SyntaxKind) → Wants r h → r ≡ Some (until, y) → IsIn h k → is_wanted_in until k ≡ true
-wants_in r None until y k w e i = absurd (subst (λ (z : Option (Until × Place)). Wants z None) e w)
-wants_in r (Some j) until y k w e i = subst (λ (z : SyntaxKind). is_wanted_in until z ≡ true) i (subst (λ (z : Option (Until × Place)). Wants z (Some j)) e w)
-
--- what a run may stand before, in the node that its place is in
-pub wanted_here : (x : Place) (until : Until) (y : Place) (k : SyntaxKind) → is_last x ≡ false → run_at x ≡ Some (until, y) → IsIn (home x) k → is_wanted_in until k ≡ true
-wanted_here x until y k l h i = wants_in (run_at x) (home x) until y k (wants x l) h i
 
 -- where the text ends, a row goes on in the same node
 abbrev pub MissingLeads : Place → Option (Fault × Place) → Type 0

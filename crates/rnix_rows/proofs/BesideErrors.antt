@@ -1,18 +1,18 @@
 -- What stands beside an error node that is read, and how tightly the trees of a row bind.
 use Rattle.std.proofs.Common.{◌≡◌, ℕ, suc, ◌≤◌, ◌<◌, Bool, true, false, List, [], ◌∷◌, ◌++◌, Option, Some, None, refl, ap, sym, ◌∙◌, subst, append-nil, arith}
 use Rattle.std.proofs.lemmas.Bool.{and_parts}
+use Rattle.std.specs.List.{list_all}
 use Rattle.std.specs.Prelude.{◌||◌, ◌&&◌, if◌then◌else◌, nat_eq}
 use Rattle.rnix_kinds.specs.declared.kinds.SyntaxKind.{SyntaxKind}
 use Rattle.rnix_kinds.specs.declared.kinds.SyntaxKind.TheVariants.{TOKEN_QUESTION, NODE_APPLY, NODE_BIN_OP, NODE_ERROR, NODE_HAS_ATTR, NODE_LITERAL, NODE_ROOT, NODE_SELECT}
 use Rattle.rnix_kinds.specs.SyntaxKind.{is_fn_arg}
-use Rattle.rnix_kinds.proofs.AllKinds.{implied}
+use Rattle.rnix_kinds.proofs.AllKinds.{all_kinds, implied}
 use Rattle.rnix_green.specs.Equality.{same_kind-decides}
 use Rattle.rnix_grammar.specs.declared.place.Place.{Place}
 use Rattle.rnix_grammar.specs.declared.place.Place.TheVariants as p
 use Rattle.rnix_grammar.specs.declared.symbol.Symbol.{Symbol}
 use Rattle.rnix_grammar.specs.declared.symbol.Symbol.TheVariants as s
 use Rattle.rnix_grammar.specs.declared.until.Until.{Until}
-use Rattle.rnix_grammar.specs.declared.until.Until.TheVariants as u
 use Rattle.rnix_grammar.specs.Levels.{binding_power, left_of}
 use Rattle.rnix_grammar.specs.Machine.{dropped}
 use Rattle.rnix_grammar.specs.Missing.{run_at}
@@ -32,7 +32,7 @@ use Rattle.rnix_lemmas.proofs.LaterRowStates.{is_start}
 use Rattle.rnix_lemmas.proofs.LevelLemmas.{at_most, same_number, operates}
 use Rattle.rnix_lemmas.proofs.NestPlaces.{is_expected}
 use Rattle.rnix_lemmas.proofs.OpeningRows.{live_to}
-use Rattle.rnix_lemmas.proofs.Places.{home, is_last, IsIn, wanted_here}
+use Rattle.rnix_lemmas.proofs.Places.{home, is_last}
 use Rattle.rnix_lemmas.proofs.RunLemmas.{parted}
 use Rattle.rnix_lemmas.proofs.AnnotatedForestLemmas.{tokens_in-row_of}
 use Rattle.rnix_rows.proofs.BegunTrees.{MayBegin, Fronts, is_free, operand_begins}
@@ -82,19 +82,22 @@ dropped_own : (ts vs : List Token) → dropped ts (ts ++ vs) ≡ vs
 dropped_own [] vs = refl
 dropped_own (t ∷ ts) vs = dropped_own ts vs
 
+-- what a run stops before is wanted in each kind of node that its place may be in
+abbrev are_wanted : Place → Option (Until × Place) → Bool
+are_wanted x None = true
+are_wanted x (Some run) = list_all (λ i. if is_expected (home x) i then is_wanted_in run.0 i else true) all_kinds
+
+-- so it is with each place but those where an end alone is missing
+wanted_here : (x : Place) → is_last x ≡ false → are_wanted x (run_at x) ≡ true
+unfolding is_wanted_in
+wanted_here p.StringEnd l = absurd (true_is_not_false l)
+wanted_here p.InheritEnd l = absurd (true_is_not_false l)
+wanted_here _ l = refl
+
 -- what a run may stand before is wanted in the node that it stands in
 wanted_by : (x y : Place) (until : Until) (i : SyntaxKind) → is_last x ≡ false → run_at x ≡ Some (until, y) → is_expected (home x) i ≡ true
     → is_wanted_in until i ≡ true
-wanted_by x y until i l r o = by (home x) refl o
-  where
-    none : (until : Until) → is_wanted_in until NODE_ROOT ≡ false
-    none u.RParen = refl
-    none _ = refl
-
-    by : (h : Option SyntaxKind) → home x ≡ h → is_expected h i ≡ true → is_wanted_in until i ≡ true
-    by None e o = absurd (true_is_not_false (sym (wanted_here x until y NODE_ROOT l r
-        (subst (λ (g : Option SyntaxKind). IsIn g NODE_ROOT) (sym e) refl)) ∙ none until))
-    by (Some k) e o = wanted_here x until y i l r (subst (λ (g : Option SyntaxKind). IsIn g i) (sym e) ((same_kind-decides k i).0 o))
+wanted_by x y until i l r o = implied (is_expected (home x)) (is_wanted_in until) (ap (are_wanted x) (sym r) ∙ wanted_here x l) i o
 
 quiet_by : (h : Option SyntaxKind) (i : SyntaxKind) (w c : Bool) → (w || inherits h) ≡ true → is_expected h i ≡ true → (w ≡ true → c ≡ false)
     → (is_inherit i || (if c then false else true)) ≡ true

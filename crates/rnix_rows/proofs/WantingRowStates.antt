@@ -45,7 +45,7 @@ abbrev pub is_parted : RowState → Bool
 is_parted (At place) = is_parted_in (symbol_at place)
 is_parted row_state = false
 
--- a state where the end of a string alone is missing
+-- a state where the end of a string or of inherited names alone is missing
 abbrev pub is_last_at : RowState → Bool
 is_last_at (At place) = is_last place
 is_last_at row_state = false
@@ -96,7 +96,7 @@ behind q k = every (λ j. is_behind q j (advance q j)) refl k
 pub closed_before : (q : RowState) (k : SyntaxKind) → wants (advance q k) ≡ true → (is_closed k || is_parted q) ≡ true
 closed_before q k h = sym (ap (λ w. if w then is_closed k || is_parted q else true) h) ∙ (and_parts (if wants (advance q k) then is_closed k || is_parted q else true) _ (behind q k)).0
 
--- no tree leads to where the end of a string alone is missing
+-- no tree leads there
 pub go_further : (q : RowState) (k : SyntaxKind) → is_last_at (advance q k) ≡ false
 go_further q k =
     not_if (is_last_at (advance q k))
