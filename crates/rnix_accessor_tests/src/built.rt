@@ -1,7 +1,8 @@
 //! The parts of nodes that were built by hand: without children, and with tokens that no text puts there.
 
+use crate::hand::node_over;
 use crate::told::told_of;
-use rnix::{GreenNodeBuilder, SyntaxKind, SyntaxNode};
+use rnix::{SyntaxKind, SyntaxNode};
 use std::alloc::{AllocError, Global};
 use std::process::Abort;
 use std::test::Fail;
@@ -96,13 +97,19 @@ const OTHERS: [(SyntaxKind, &str); 10] = [
     ),
 ];
 
+// What the accessors of a node over tokens answer.
+fn told_over(
+    alloc: Global,
+    kind: SyntaxKind,
+    tokens: &[(SyntaxKind, &str)],
+) -> Result<String, AllocError> {
+    let tree = node_over(alloc, kind, tokens)?;
+    told_of(alloc, SyntaxNode::new_root(&tree))
+}
+
 // What the accessors of a node without children answer.
 fn told_of_empty(alloc: Global, kind: SyntaxKind) -> Result<String, AllocError> {
-    let mut builder = GreenNodeBuilder::new(alloc);
-    builder.start_node(kind)?;
-    builder.finish_node()?;
-    let tree = builder.finish()?;
-    told_of(alloc, SyntaxNode::new_root(&tree))
+    told_over(alloc, kind, &[])
 }
 
 // Asserts what the accessors of nodes without children answer, row by row.
@@ -128,23 +135,6 @@ fn parts_without_children_have_no_parts(rt: HostRuntime) -> Result<(), Fail> {
     assert_told_of_empty(&rt, rt.alloc(), &OTHERS)
 }
 
-// What the accessors of a node over three tokens answer.
-fn told_over(
-    alloc: Global,
-    kind: SyntaxKind,
-    tokens: [(SyntaxKind, &str); 3],
-) -> Result<String, AllocError> {
-    let [first, second, third] = tokens;
-    let mut builder = GreenNodeBuilder::new(alloc);
-    builder.start_node(kind)?;
-    builder.token(first.0, first.1)?;
-    builder.token(second.0, second.1)?;
-    builder.token(third.0, third.1)?;
-    builder.finish_node()?;
-    let tree = builder.finish()?;
-    told_of(alloc, SyntaxNode::new_root(&tree))
-}
-
 #[test]
 fn a_pattern_has_a_sign_of_its_own(rt: HostRuntime) -> Result<(), Fail> {
     let tokens = [
@@ -153,7 +143,7 @@ fn a_pattern_has_a_sign_of_its_own(rt: HostRuntime) -> Result<(), Fail> {
         (SyntaxKind::TOKEN_ELLIPSIS, "..."),
     ];
     assert_eq!(rt;
-        told_over(rt.alloc(), SyntaxKind::NODE_PATTERN, tokens)?.as_str(),
+        told_over(rt.alloc(), SyntaxKind::NODE_PATTERN, &tokens)?.as_str(),
         "at_token=@; pat_entries=-; ellipsis_token=...; pat_bind=-;"
     );
     Ok(())
@@ -170,7 +160,7 @@ fn a_literal_of_several_tokens(rt: HostRuntime) -> Result<(), Fail> {
         ((SyntaxKind::TOKEN_INTEGER, "2"), "integer=1;"),
     ];
     for (last, wanted) in rows {
-        let found = told_over(rt.alloc(), SyntaxKind::NODE_LITERAL, [uri, one, last])?;
+        let found = told_over(rt.alloc(), SyntaxKind::NODE_LITERAL, &[uri, one, last])?;
         assert_eq!(rt; found.as_str(), wanted);
     }
     Ok(())

@@ -1,7 +1,8 @@
 //! The parts of paths.
 
+use crate::hand::node_over;
 use rnix::ast::{AstNode, Expr, InterpolPart, Path, PathContent, PathRel, PathSearch};
-use rnix::{GreenNode, GreenNodeBuilder, Parse, Root, SyntaxKind, SyntaxNode};
+use rnix::{Parse, Root, SyntaxKind, SyntaxNode};
 use std::alloc::{AllocError, Global};
 use std::test::Fail;
 
@@ -102,17 +103,9 @@ fn each_kind_of_path_has_its_own_parts(rt: HostRuntime) -> Result<(), Fail> {
     Ok(())
 }
 
-// A node without children.
-fn empty(alloc: Global, kind: SyntaxKind) -> Result<GreenNode, AllocError> {
-    let mut builder = GreenNodeBuilder::new(alloc);
-    builder.start_node(kind)?;
-    builder.finish_node()?;
-    builder.finish()
-}
-
 #[test]
 fn a_path_without_children_has_no_parts(rt: HostRuntime) -> Result<(), Fail> {
-    let tree = empty(rt.alloc(), SyntaxKind::NODE_PATH_REL)?;
+    let tree = node_over(rt.alloc(), SyntaxKind::NODE_PATH_REL, &[])?;
     let relative = PathRel::cast(SyntaxNode::new_root(&tree));
     assert!(rt; relative.is_some());
     if let Some(path) = relative {
@@ -123,7 +116,7 @@ fn a_path_without_children_has_no_parts(rt: HostRuntime) -> Result<(), Fail> {
 
 #[test]
 fn a_path_without_children_has_no_content(rt: HostRuntime) -> Result<(), Fail> {
-    let tree = empty(rt.alloc(), SyntaxKind::NODE_PATH_SEARCH)?;
+    let tree = node_over(rt.alloc(), SyntaxKind::NODE_PATH_SEARCH, &[])?;
     let searched = PathSearch::cast(SyntaxNode::new_root(&tree));
     assert!(rt; searched.is_some_and(|path| path.content().is_none()));
     Ok(())
@@ -131,7 +124,7 @@ fn a_path_without_children_has_no_content(rt: HostRuntime) -> Result<(), Fail> {
 
 #[test]
 fn a_path_of_any_kind_without_children_has_no_parts(rt: HostRuntime) -> Result<(), Fail> {
-    let tree = empty(rt.alloc(), SyntaxKind::NODE_PATH_SEARCH)?;
+    let tree = node_over(rt.alloc(), SyntaxKind::NODE_PATH_SEARCH, &[])?;
     if let Some(path) = Path::cast(SyntaxNode::new_root(&tree)) {
         assert_eq!(rt; path.parts(rt.alloc())?.len(), 0);
     }

@@ -1,5 +1,6 @@
 //! The parts of strings, and what their texts stand for.
 
+use crate::hand::node_over;
 use rnix::ast::{AstNode, AstToken, Expr, InterpolPart, Str, unescape};
 use rnix::{GreenNode, GreenNodeBuilder, Root, SyntaxKind, SyntaxNode};
 use std::alloc::{AllocError, Global};
@@ -80,13 +81,12 @@ fn strings_with_interpolations(rt: HostRuntime) -> Result<(), Fail> {
 
 // A NODE_STRING over one content, between the signs of an indented string.
 fn around(alloc: Global, content: &str) -> Result<GreenNode, AllocError> {
-    let mut builder = GreenNodeBuilder::new(alloc);
-    builder.start_node(SyntaxKind::NODE_STRING)?;
-    builder.token(SyntaxKind::TOKEN_STRING_START, "''")?;
-    builder.token(SyntaxKind::TOKEN_STRING_CONTENT, content)?;
-    builder.token(SyntaxKind::TOKEN_STRING_END, "''")?;
-    builder.finish_node()?;
-    builder.finish()
+    let leaves = [
+        (SyntaxKind::TOKEN_STRING_START, "''"),
+        (SyntaxKind::TOKEN_STRING_CONTENT, content),
+        (SyntaxKind::TOKEN_STRING_END, "''"),
+    ];
+    node_over(alloc, SyntaxKind::NODE_STRING, &leaves)
 }
 
 // Lines, each behind a number of spaces.
@@ -187,10 +187,7 @@ fn other_children_are_left_out(rt: HostRuntime) -> Result<(), Fail> {
 
 #[test]
 fn a_string_without_children_has_no_parts(rt: HostRuntime) -> Result<(), Fail> {
-    let mut builder = GreenNodeBuilder::new(rt.alloc());
-    builder.start_node(SyntaxKind::NODE_STRING)?;
-    builder.finish_node()?;
-    let empty = builder.finish()?;
+    let empty = node_over(rt.alloc(), SyntaxKind::NODE_STRING, &[])?;
     if let Some(string) = Str::cast(SyntaxNode::new_root(&empty)) {
         assert_eq!(rt; string.parts().count(), 0);
         assert_eq!(rt; string.normalized_parts(rt.alloc())?.len(), 0);
