@@ -102,6 +102,7 @@ impl GreenNodeBuilder {
     }
 
     /// Opens a node behind the finished trees.
+    #[inline(always)]
     pub fn start_node(&mut self, kind: SyntaxKind) -> Result<(), AllocError>
         ensures ok { OnOk result (self.new ≡ node_opened kind (tree_count self.old.finished) self.old) }
         ensures err { OnErr result (self.new ≡ self.old) }
@@ -112,6 +113,7 @@ impl GreenNodeBuilder {
     }
 
     /// Adds a leaf. Its text may be empty.
+    #[inline(always)]
     pub fn token(&mut self, kind: SyntaxKind, text: &str) -> Result<(), AllocError>
         ensures ok { OnOk result (self.new ≡ leaf_added kind text.now self.old) }
         ensures err { OnErr result (self.new ≡ self.old) }
@@ -154,6 +156,7 @@ impl GreenNodeBuilder {
     }
 
     /// Closes the innermost open node over all trees from its place on.
+    #[inline(always)]
     pub fn finish_node(&mut self) -> Result<(), AllocError>
         requires { 0 < length self.old.open_nodes }
         ensures ok { OnOk result (self.new ≡ node_closed self.old) }
@@ -172,6 +175,7 @@ impl GreenNodeBuilder {
     }
 
     /// Adds a node over one leaf, as `start_node`, `token` and `finish_node` do.
+    #[inline(always)]
     pub fn leaf_node(
         &mut self,
         node: SyntaxKind,

@@ -53,6 +53,7 @@ impl<'t> Parser<'t> {
     }
 
     /// How an operand begins, by the next item.
+    #[inline(always)]
     pub(crate) fn beginning(&self, level: u8, first: PlacedToken<'_>) -> Begin
         requires { IsNextItem (token_of first) (state self.now) }
         ensures { result ≡ begins_with level (token_of first.entry) (tail_of (items_left (state self.now))) }
@@ -85,6 +86,7 @@ impl<'t> Parser<'t> {
     }
 
     /// Reads an operand that is a node of the next item alone.
+    #[inline(always)]
     pub(crate) fn leaf_operand(
         &mut self,
         kind: SyntaxKind,
@@ -99,6 +101,7 @@ impl<'t> Parser<'t> {
     }
 
     /// Begins an operand that is a node, whose first leaf is the next item.
+    #[inline(always)]
     pub(crate) fn node_operand(
         &mut self,
         kind: SyntaxKind,

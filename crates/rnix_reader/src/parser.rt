@@ -30,6 +30,7 @@ pub(crate) struct Parser<'t> {
 
 impl<'t> Parser<'t> {
     /// The next token that is not trivia.
+    #[inline(always)]
     pub(crate) fn item(&self) -> Option<PlacedToken<'t>>
         ensures { option_map token_of result ≡ head_of (items_left (state self.now)) }
     {
@@ -54,6 +55,7 @@ impl<'t> Parser<'t> {
     }
 
     /// Reads the trivia before the next item.
+    #[inline(always)]
     pub(crate) fn eat_trivia(&mut self) -> Result<(), AllocError>
         ensures state { OnOk result (state self.new ≡ eaten (state self.old)) }
         ensures nodes { OnOk result (self.new.builder.open_nodes ≡ self.old.builder.open_nodes) }
@@ -67,6 +69,7 @@ impl<'t> Parser<'t> {
 
     /// Opens a node at the next item.
     #[tactic(auto, unfolding(crate::specs::State::started, crate::specs::State::started_at, crate::specs::State::eaten))]
+    #[inline(always)]
     pub(crate) fn start_node(&mut self, kind: SyntaxKind) -> Result<Checkpoint, AllocError>
         ensures state { OnOk result (state self.new ≡ started kind (state self.old)) }
         ensures place { IfOk result (λ place. place ≡ tree_count (eaten (state self.old)).trees) }
@@ -80,6 +83,7 @@ impl<'t> Parser<'t> {
 
     /// Opens a node before the trees that were read from a place on.
     #[tactic(auto, unfolding(crate::specs::State::started_at))]
+    #[inline(always)]
     pub(crate) fn start_node_at(
         &mut self,
         place: Checkpoint,
@@ -94,6 +98,7 @@ impl<'t> Parser<'t> {
 
     /// Closes the innermost node.
     #[tactic(auto, unfolding(crate::specs::State::ended))]
+    #[inline(always)]
     pub(crate) fn finish_node(&mut self) -> Result<(), AllocError>
         requires { 0 < length self.old.builder.open_nodes }
         ensures { OnOk result (state self.new ≡ ended (state self.old)) }
@@ -112,6 +117,7 @@ impl<'t> Parser<'t> {
 
     /// Pushes the mark of a node or an operand, to be continued at the place.
     #[tactic(auto, unfolding(crate::specs::State::marked))]
+    #[inline(always)]
     pub(crate) fn mark(
         &mut self,
         place: Place,
@@ -126,6 +132,7 @@ impl<'t> Parser<'t> {
     }
 
     /// Reads the next item as a leaf below a node of the kind.
+    #[inline(always)]
     pub(crate) fn bump(&mut self, parent: SyntaxKind) -> Result<(), AllocError>
         ensures state { OnOk result (state self.new ≡ bumped parent (state self.old)) }
         ensures nodes { OnOk result (self.new.builder.open_nodes ≡ self.old.builder.open_nodes) }

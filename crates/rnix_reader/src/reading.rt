@@ -30,6 +30,7 @@ use std::alloc::AllocError;
 const DEPTH_LIMIT: usize = 512;
 
 // Begins an operand with its first item.
+#[inline(always)]
 fn begin<'t>(
     p: &mut Parser<'t>,
     names: &mut Names<'t>,
@@ -83,6 +84,7 @@ fn begin<'t>(
 }
 
 // Begins an operand of a level.
+#[inline(always)]
 fn operand<'t>(
     p: &mut Parser<'t>,
     names: &mut Names<'t>,
@@ -103,6 +105,7 @@ fn operand<'t>(
 }
 
 // Begins an operand of a level, which the limit of nesting counts or not, at a depth.
+#[inline(always)]
 fn read<'t>(
     p: &mut Parser<'t>,
     names: &mut Names<'t>,
@@ -215,6 +218,7 @@ fn low_of(place: Place) -> u8
 }
 
 // Takes one step in the innermost node or operand.
+#[inline(always)]
 fn step<'t>(
     p: &mut Parser<'t>,
     names: &mut Names<'t>,

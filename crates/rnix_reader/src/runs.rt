@@ -19,6 +19,7 @@ use std::alloc::AllocError;
 
 impl<'t> Parser<'t> {
     /// Makes a node of the next item.
+    #[inline(always)]
     pub(crate) fn leaf_node(&mut self, kind: SyntaxKind) -> Result<(), AllocError>
         ensures state { OnOk result (state self.new ≡ leafed kind (state self.old)) }
         ensures nodes { OnOk result (self.new.builder.open_nodes ≡ self.old.builder.open_nodes) }

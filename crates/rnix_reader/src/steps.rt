@@ -17,6 +17,7 @@ use std::alloc::AllocError;
 
 impl<'t> Parser<'t> {
     /// Continues what the mark stands for at another place.
+    #[inline(always)]
     pub(crate) fn go_on(&mut self, mark: Mark, after: Place) -> Result<(), AllocError>
         ensures state { OnOk result (state self.new ≡ moved after mark (state self.old)) }
         ensures builder { OnOk result (self.new.builder ≡ self.old.builder) }
@@ -25,6 +26,7 @@ impl<'t> Parser<'t> {
     }
 
     /// Opens a node at the next item, to be continued at the place.
+    #[inline(always)]
     pub(crate) fn open_node(
         &mut self,
         kind: SyntaxKind,
@@ -40,6 +42,7 @@ impl<'t> Parser<'t> {
     }
 
     /// Begins an operand at the next item, to be continued at the place.
+    #[inline(always)]
     pub(crate) fn open_operand(&mut self, inside: Place, depth: usize) -> Result<(), AllocError>
         ensures { OnOk result (state self.new ≡ operand_begun inside depth (state self.old)) }
     {
@@ -50,6 +53,7 @@ impl<'t> Parser<'t> {
     }
 
     /// Takes the next item as a leaf.
+    #[inline(always)]
     pub(crate) fn take(&mut self, mark: Mark, after: Place) -> Result<(), AllocError>
         ensures { OnOk result (state self.new ≡ bumped NODE_ROOT (moved after mark (state self.old))) }
     {
@@ -82,6 +86,7 @@ impl<'t> Parser<'t> {
     }
 
     /// Makes a node of the next item.
+    #[inline(always)]
     pub(crate) fn leaf(
         &mut self,
         mark: Mark,
@@ -96,6 +101,7 @@ impl<'t> Parser<'t> {
     }
 
     /// Opens a node before reading anything of it.
+    #[inline(always)]
     pub(crate) fn begin(
         &mut self,
         mark: Mark,
@@ -112,6 +118,7 @@ impl<'t> Parser<'t> {
     }
 
     /// Opens a node whose first leaf is the next item.
+    #[inline(always)]
     pub(crate) fn open(
         &mut self,
         mark: Mark,
@@ -136,6 +143,7 @@ impl<'t> Parser<'t> {
     }
 
     /// Opens a node that begins where the operand before it began.
+    #[inline(always)]
     pub(crate) fn wrap(
         &mut self,
         mark: Mark,
