@@ -4,6 +4,8 @@
 #[cfg(test)]
 mod chains;
 #[cfg(test)]
+mod hand;
+#[cfg(test)]
 mod handles;
 #[cfg(test)]
 mod kept;

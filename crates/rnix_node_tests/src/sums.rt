@@ -1,7 +1,8 @@
 //! The sums of typed nodes: which kinds each of them has, and under which variant.
 
+use crate::hand::node_over;
 use rnix::ast::{AstNode, Attr, Entry, Expr, Param, Path};
-use rnix::{GreenNode, GreenNodeBuilder, SyntaxKind, SyntaxNode};
+use rnix::{SyntaxKind, SyntaxNode};
 use std::alloc::{AllocError, Global};
 use std::test::Fail;
 
@@ -142,17 +143,9 @@ fn add_all(said: &mut String, node: &SyntaxNode<'_>) -> Result<(), AllocError> {
     add::<Entry<'_>>(said, node)
 }
 
-// A node without children.
-fn empty(alloc: Global, kind: SyntaxKind) -> Result<GreenNode, AllocError> {
-    let mut builder = GreenNodeBuilder::new(alloc);
-    builder.start_node(kind)?;
-    builder.finish_node()?;
-    builder.finish()
-}
-
 // The variants that a node without children is cast to.
 fn variants(alloc: Global, kind: SyntaxKind) -> Result<String, AllocError> {
-    let tree = empty(alloc, kind)?;
+    let tree = node_over(alloc, kind, &[])?;
     let mut said = String::new(alloc);
     add_all(&mut said, &SyntaxNode::new_root(&tree))?;
     Ok(said)

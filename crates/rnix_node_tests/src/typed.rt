@@ -1,11 +1,10 @@
 //! Typed nodes and tokens.
 
+use crate::hand::node_over;
 use rnix::ast::{
     AstNode, AstToken, AttrSet, BinOpKind, Comment, Expr, Float, Ident, Integer, List, LiteralKind,
 };
-use rnix::{
-    GreenNodeBuilder, NodeOrToken, Parse, ParseError, Root, SyntaxKind, SyntaxNode, TextRange,
-};
+use rnix::{NodeOrToken, Parse, ParseError, Root, SyntaxKind, SyntaxNode, TextRange};
 use std::alloc::{AllocError, Global};
 use std::test::Fail;
 
@@ -148,11 +147,8 @@ fn comments_say_what_they_say(rt: HostRuntime) -> Result<(), Fail> {
 
 // Whether a comment of the text says this.
 fn says(alloc: Global, text: &str, wanted: &str) -> Result<bool, Fail> {
-    let mut builder = GreenNodeBuilder::new(alloc);
-    builder.start_node(SyntaxKind::NODE_ROOT)?;
-    builder.token(SyntaxKind::TOKEN_COMMENT, text)?;
-    builder.finish_node()?;
-    let tree = builder.finish()?;
+    let leaf = (SyntaxKind::TOKEN_COMMENT, text);
+    let tree = node_over(alloc, SyntaxKind::NODE_ROOT, &[leaf])?;
     let Some(token) = SyntaxNode::new_root(&tree).first_token() else {
         return Ok(false);
     };

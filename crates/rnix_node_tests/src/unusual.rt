@@ -1,32 +1,21 @@
 //! Typed nodes and tokens that were built by hand, as no text has them.
 
+use crate::hand::node_over;
 use rnix::ast::{AstNode, AstToken, BinOp, BinOpKind, Integer};
-use rnix::{GreenNode, GreenNodeBuilder, SyntaxKind, SyntaxNode};
+use rnix::{GreenNode, SyntaxKind, SyntaxNode};
 use std::alloc::{AllocError, Global};
 use std::test::Fail;
 
-// A literal of one number.
-fn literal(alloc: Global, text: &str) -> Result<GreenNode, AllocError> {
-    let mut builder = GreenNodeBuilder::new(alloc);
-    builder.start_node(SyntaxKind::NODE_LITERAL)?;
-    builder.token(SyntaxKind::TOKEN_INTEGER, text)?;
-    builder.finish_node()?;
-    builder.finish()
-}
-
 // An operation over a comma and a plus.
 fn operation(alloc: Global) -> Result<GreenNode, AllocError> {
-    let mut builder = GreenNodeBuilder::new(alloc);
-    builder.start_node(SyntaxKind::NODE_BIN_OP)?;
-    builder.token(SyntaxKind::TOKEN_COMMA, ",")?;
-    builder.token(SyntaxKind::TOKEN_ADD, "+")?;
-    builder.finish_node()?;
-    builder.finish()
+    let leaves = [(SyntaxKind::TOKEN_COMMA, ","), (SyntaxKind::TOKEN_ADD, "+")];
+    node_over(alloc, SyntaxKind::NODE_BIN_OP, &leaves)
 }
 
 // The value of a token of a number; None where there is none.
 fn value_of(alloc: Global, text: &str) -> Result<Option<i64>, AllocError> {
-    let tree = literal(alloc, text)?;
+    let leaf = (SyntaxKind::TOKEN_INTEGER, text);
+    let tree = node_over(alloc, SyntaxKind::NODE_LITERAL, &[leaf])?;
     let Some(token) = SyntaxNode::new_root(&tree).first_token() else {
         return Ok(None);
     };
