@@ -1,6 +1,6 @@
 //! What is of a kind, among children and siblings.
 
-ghost use Rattle.std.specs.Prelude.{◌≡◌, drop, find, option_map};
+ghost use Rattle.std.specs.Prelude.{◌≡◌, ◌≤◌, length, drop, filter, find, option_map};
 ghost use Rattle.rnix_green.specs.Equality.{same_kind};
 ghost use Rattle.rnix_green.specs.Walk.{children_of, nodes_in};
 ghost use Rattle.rnix_tree.specs.Spots.{spot_of};
@@ -14,12 +14,116 @@ use crate::nodes::SyntaxNodeChildren;
 use crate::siblings::{Direction, Siblings, SiblingsWithTokens};
 use crate::walk::SyntaxElementChildren;
 use rnix_kinds::SyntaxKind;
+use std::marker::Model;
 
 // Whether the kinds are one.
 fn same_kind(a: SyntaxKind, b: SyntaxKind) -> bool
     ensures { result ≡ same_kind a b }
 {
     a == b
+}
+
+/// The nodes of a kind right below a node, in order.
+#[derive(Drop)]
+pub struct SyntaxNodeChildrenByKind<'t> {
+    nodes: SyntaxNodeChildren<'t>,
+    kind: SyntaxKind,
+}
+
+impl<'t> Model for SyntaxNodeChildrenByKind<'t> {
+    ghost use Rattle.std.specs.Prelude.{List, filter};
+    ghost use Rattle.std.specs.Coded.{coded_list};
+    ghost use Rattle.rnix_green.specs.Tree.{Located, located_code};
+    ghost use Rattle.rnix_tree.specs.ByKind.{is_of_kind};
+
+    ghost Value = { List Located };
+
+    ghost coded = { coded_list located_code };
+
+    ghost view = { λ c. filter (is_of_kind c.kind) c.nodes };
+}
+
+impl<'t> SyntaxNodeChildren<'t> {
+    /// Those of the nodes that are left that have the kind.
+    #[tactic(auto, using(crate::proofs::ListLemmas::filter_most))]
+    pub fn by_kind(self, kind: SyntaxKind) -> SyntaxNodeChildrenByKind<'t>
+        ensures children { result ≡ filter (is_of_kind kind) self.entry }
+        ensures fewer { length result ≤ length self.entry }
+    {
+        SyntaxNodeChildrenByKind { nodes: self, kind }
+    }
+}
+
+impl<'t> Iterator for SyntaxNodeChildrenByKind<'t> {
+    type Item = SyntaxNode<'t>;
+
+    ghost use Rattle.std.specs.Iterator.{YieldsFirstBy, item_count};
+
+    ghost next_gives = { YieldsFirstBy (λ node. node) (λ s. s) };
+
+    ghost remaining = { item_count (λ s. s) };
+
+    fn next(&mut self) -> Option<SyntaxNode<'t>> {
+        while let Some(node) = self.nodes.next() {
+            if same_kind(self.kind, node.kind()) {
+                return Some(node);
+            }
+        }
+        None
+    }
+}
+
+/// The nodes and tokens of a kind right below a node, in order.
+#[derive(Drop)]
+pub struct SyntaxElementChildrenByKind<'t> {
+    elements: SyntaxElementChildren<'t>,
+    kind: SyntaxKind,
+}
+
+impl<'t> Model for SyntaxElementChildrenByKind<'t> {
+    ghost use Rattle.std.specs.Prelude.{List, filter};
+    ghost use Rattle.rnix_green.specs.Walk.{Spot, spots_code};
+    ghost use Rattle.rnix_tree.specs.ByKind.{is_spot_of_kind};
+
+    ghost Value = { List Spot };
+
+    ghost coded = { spots_code };
+
+    ghost view = { λ c. filter (is_spot_of_kind c.kind) c.elements };
+}
+
+impl<'t> SyntaxElementChildren<'t> {
+    /// Those of the nodes and tokens that are left that have the kind.
+    #[tactic(auto, using(crate::proofs::ListLemmas::filter_most))]
+    pub fn by_kind(self, kind: SyntaxKind) -> SyntaxElementChildrenByKind<'t>
+        ensures children { result ≡ filter (is_spot_of_kind kind) self.entry }
+        ensures fewer { length result ≤ length self.entry }
+    {
+        SyntaxElementChildrenByKind {
+            elements: self,
+            kind,
+        }
+    }
+}
+
+impl<'t> Iterator for SyntaxElementChildrenByKind<'t> {
+    type Item = SyntaxElement<'t>;
+
+    ghost use Rattle.std.specs.Iterator.{YieldsFirstBy, item_count};
+    ghost use Rattle.rnix_tree.specs.Spots.{spot_of};
+
+    ghost next_gives = { YieldsFirstBy spot_of (λ s. s) };
+
+    ghost remaining = { item_count (λ s. s) };
+
+    fn next(&mut self) -> Option<SyntaxElement<'t>> {
+        while let Some(element) = self.elements.next() {
+            if same_kind(self.kind, element.kind()) {
+                return Some(element);
+            }
+        }
+        None
+    }
 }
 
 // The first sibling of a kind.

@@ -20,6 +20,7 @@ mod token;
 mod walk;
 
 pub use ancestors::Ancestors;
+pub use by_kind::{SyntaxElementChildrenByKind, SyntaxNodeChildrenByKind};
 pub use descendants::{Descendants, DescendantsWithTokens};
 pub use element::{NodeOrToken, SyntaxElement, WalkEvent};
 pub use node::SyntaxNode;
