@@ -67,11 +67,7 @@ begin_of level TOKEN_CUR_POS text second third = b.Leaf NODE_CUR_POS
 begin_of level TOKEN_L_BRACE text second third = if is_pattern second third then b.PatternLambda else b.Node NODE_ATTR_SET p.SetInside selection_level
 begin_of level TOKEN_INVERT text second third = begin_prefix level TOKEN_INVERT
 begin_of level TOKEN_SUB text second third = begin_prefix level TOKEN_SUB
-begin_of level TOKEN_LET text second third = begin_scope level TOKEN_LET second
-begin_of level TOKEN_WITH text second third = begin_scope level TOKEN_WITH second
-begin_of level TOKEN_ASSERT text second third = begin_scope level TOKEN_ASSERT second
-begin_of level TOKEN_IF text second third = begin_scope level TOKEN_IF second
-begin_of level kind text second third = b.Stray
+begin_of level kind text second third = begin_scope level kind second
 
 -- the kind of the second item
 abbrev pub second_kind : List Token → Option SyntaxKind

@@ -199,10 +199,6 @@ pub fn begin_of(
             }
         }
         SyntaxKind::TOKEN_INVERT | SyntaxKind::TOKEN_SUB => begin_prefix(level, kind),
-        SyntaxKind::TOKEN_LET
-        | SyntaxKind::TOKEN_WITH
-        | SyntaxKind::TOKEN_ASSERT
-        | SyntaxKind::TOKEN_IF => begin_scope(level, kind, second),
-        _ => Begin::Stray,
+        _ => begin_scope(level, kind, second),
     }
 }
