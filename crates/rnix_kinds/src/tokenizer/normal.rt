@@ -19,6 +19,7 @@ use super::word::{uri, word};
 use crate::kinds::SyntaxKind;
 
 // An operator, or an error over one character.
+#[inline(always)]
 fn symbol(text: &str) -> Cut
     requires { 0 < length text.now }
     ensures { result ≡ first_that_fits (operator text.now ∷ []) (one_error text.now) }

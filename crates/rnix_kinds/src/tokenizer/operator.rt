@@ -78,6 +78,7 @@ pub fn closing_brace(top: Option<Mode>) -> Cut
 }
 
 /// An operator or a bracket, the longest that fits.
+#[inline(always)]
 pub fn operator(text: &str) -> Option<Cut>
     ensures { result ≡ operator text.now }
 {
