@@ -1,5 +1,6 @@
 //! Trees that were built by hand, with empty nodes and empty leaves.
 
+use crate::steps::{Step, built};
 use rnix_kinds::SyntaxKind;
 use rnix_tree::{GreenNode, GreenNodeBuilder, SyntaxNode, TextRange, TokenAtOffset, WalkEvent};
 use std::alloc::{AllocError, Global};
@@ -7,27 +8,29 @@ use std::test::Fail;
 
 // A ROOT over an empty LIST, the name `a`, an empty LIST and the name `b`.
 fn lists(alloc: Global) -> Result<GreenNode, AllocError> {
-    let mut builder = GreenNodeBuilder::new(alloc);
-    builder.start_node(SyntaxKind::NODE_ROOT)?;
-    builder.start_node(SyntaxKind::NODE_LIST)?;
-    builder.finish_node()?;
-    builder.token(SyntaxKind::TOKEN_IDENT, "a")?;
-    builder.start_node(SyntaxKind::NODE_LIST)?;
-    builder.finish_node()?;
-    builder.token(SyntaxKind::TOKEN_IDENT, "b")?;
-    builder.finish_node()?;
-    builder.finish()
+    let steps = [
+        Step::Start(SyntaxKind::NODE_ROOT),
+        Step::Start(SyntaxKind::NODE_LIST),
+        Step::Finish,
+        Step::Leaf(SyntaxKind::TOKEN_IDENT, "a"),
+        Step::Start(SyntaxKind::NODE_LIST),
+        Step::Finish,
+        Step::Leaf(SyntaxKind::TOKEN_IDENT, "b"),
+        Step::Finish,
+    ];
+    built(alloc, &steps)
 }
 
 // A ROOT over an empty leaf, `a` and an empty leaf.
-fn leaves(alloc: Global) -> Result<GreenNode, Fail> {
-    let mut builder = GreenNodeBuilder::new(alloc);
-    builder.start_node(SyntaxKind::NODE_ROOT)?;
-    builder.token(SyntaxKind::TOKEN_ERROR, "")?;
-    builder.token(SyntaxKind::TOKEN_IDENT, "a")?;
-    builder.token(SyntaxKind::TOKEN_ERROR, "")?;
-    builder.finish_node()?;
-    Ok(builder.finish()?)
+fn leaves(alloc: Global) -> Result<GreenNode, AllocError> {
+    let steps = [
+        Step::Start(SyntaxKind::NODE_ROOT),
+        Step::Leaf(SyntaxKind::TOKEN_ERROR, ""),
+        Step::Leaf(SyntaxKind::TOKEN_IDENT, "a"),
+        Step::Leaf(SyntaxKind::TOKEN_ERROR, ""),
+        Step::Finish,
+    ];
+    built(alloc, &steps)
 }
 
 #[test]
@@ -97,31 +100,45 @@ fn a_checkpoint_behind_leaves_that_a_node_closes_over(rt: HostRuntime) -> Result
     Ok(())
 }
 
-#[test]
-fn deep_lists_are_walked(rt: HostRuntime) -> Result<(), Fail> {
-    let mut builder = GreenNodeBuilder::new(rt.alloc());
-    for _level in 0..100_000u32 {
+// So many lists, each in the one before it.
+fn deep_lists(alloc: Global, levels: u32) -> Result<GreenNode, AllocError> {
+    let mut builder = GreenNodeBuilder::new(alloc);
+    for _level in 0..levels {
         builder.start_node(SyntaxKind::NODE_LIST)?;
     }
-    for _level in 0..100_000u32 {
+    closed(builder, levels)
+}
+
+// The tree of a builder, once so many nodes are closed. Where others are open, there is none.
+fn closed(mut builder: GreenNodeBuilder, levels: u32) -> Result<GreenNode, AllocError> {
+    for _level in 0..levels {
         if builder.open_nodes() > 0 {
             builder.finish_node()?;
         }
     }
-    if !builder.is_complete() {
-        assert!(rt; false);
-        return Ok(());
+    if builder.is_complete() {
+        return builder.finish();
     }
-    let tree = builder.finish()?;
-    let root = SyntaxNode::new_root(&tree);
-    assert_eq!(rt; root.preorder_with_tokens().count(), 200_000);
+    Err(AllocError)
+}
+
+// How many nodes are left in a walk.
+fn left(root: &SyntaxNode<'_>) -> u32 {
     let mut left: u32 = 0;
     for event in root.preorder() {
         if let WalkEvent::Leave(_) = event {
             left = left.saturating_add(1);
         }
     }
-    assert_eq!(rt; left, 100_000);
+    left
+}
+
+#[test]
+fn deep_lists_are_walked(rt: HostRuntime) -> Result<(), Fail> {
+    let tree = deep_lists(rt.alloc(), 100_000)?;
+    let root = SyntaxNode::new_root(&tree);
+    assert_eq!(rt; root.preorder_with_tokens().count(), 200_000);
+    assert_eq!(rt; left(&root), 100_000);
     let copy = tree.try_clone()?;
     assert!(rt; SyntaxNode::new_root(&copy) == root);
     Ok(())
@@ -158,27 +175,31 @@ fn any_kind_stands_on_leaves_and_nodes(rt: HostRuntime) -> Result<(), Fail> {
     Ok(())
 }
 
-// A ROOT over an IDENT with the name `a`: by single calls, or by one.
-fn over_a_name(alloc: Global, at_once: bool) -> Result<GreenNode, Fail> {
-    let mut builder = GreenNodeBuilder::new(alloc);
-    builder.start_node(SyntaxKind::NODE_ROOT)?;
-    if at_once {
-        builder.leaf_node(SyntaxKind::NODE_IDENT, SyntaxKind::TOKEN_IDENT, "a")?;
-    } else {
-        builder.start_node(SyntaxKind::NODE_IDENT)?;
-        builder.token(SyntaxKind::TOKEN_IDENT, "a")?;
-        builder.finish_node()?;
-    }
-    builder.finish_node()?;
-    Ok(builder.finish()?)
+// A ROOT over an IDENT with the name `a`, by single calls.
+fn by_single_calls(alloc: Global) -> Result<GreenNode, AllocError> {
+    let steps = [
+        Step::Start(SyntaxKind::NODE_ROOT),
+        Step::Start(SyntaxKind::NODE_IDENT),
+        Step::Leaf(SyntaxKind::TOKEN_IDENT, "a"),
+        Step::Finish,
+        Step::Finish,
+    ];
+    built(alloc, &steps)
+}
+
+// The same, with one call for the IDENT.
+fn at_once(alloc: Global) -> Result<GreenNode, AllocError> {
+    let steps = [
+        Step::Start(SyntaxKind::NODE_ROOT),
+        Step::LeafNode(SyntaxKind::NODE_IDENT, SyntaxKind::TOKEN_IDENT, "a"),
+        Step::Finish,
+    ];
+    built(alloc, &steps)
 }
 
 #[test]
 fn a_node_over_one_leaf_is_made_at_once(rt: HostRuntime) -> Result<(), Fail> {
-    let (once, single) = (
-        over_a_name(rt.alloc(), true)?,
-        over_a_name(rt.alloc(), false)?,
-    );
+    let (once, single) = (at_once(rt.alloc())?, by_single_calls(rt.alloc())?);
     let root = SyntaxNode::new_root(&once);
     assert!(rt; root == SyntaxNode::new_root(&single));
     assert!(rt;

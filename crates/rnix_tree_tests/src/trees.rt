@@ -1,8 +1,9 @@
 //! Trees: built by hand and read from a text.
 
 use crate::parsed::Parsed;
+use crate::steps::{Step, built};
 use rnix_grammar::ParseError;
-use rnix_green::{GreenNode, GreenNodeBuilder, TextRange};
+use rnix_green::TextRange;
 use rnix_kinds::{SyntaxKind, TokenSet};
 use rnix_tree::{NodeOrToken, SyntaxNode, WalkEvent, dump};
 use std::alloc::Global;
@@ -33,19 +34,14 @@ fn nested(alloc: Global, turns: usize) -> Result<String, Fail> {
     Ok(text)
 }
 
-// A ROOT over one leaf.
-fn small(alloc: Global) -> Result<GreenNode, Fail> {
-    let mut builder = GreenNodeBuilder::new(alloc);
-    builder.start_node(SyntaxKind::NODE_ROOT)?;
-    builder.token(SyntaxKind::TOKEN_IDENT, "a")?;
-    builder.finish_node()?;
-    Ok(builder.finish()?)
-}
-
 #[test]
 fn a_copied_tree_prints_the_same(rt: HostRuntime) -> Result<(), Fail> {
-    let tree = small(rt.alloc())?;
-    let copy = tree.try_clone()?;
+    let steps = [
+        Step::Start(SyntaxKind::NODE_ROOT),
+        Step::Leaf(SyntaxKind::TOKEN_IDENT, "a"),
+        Step::Finish,
+    ];
+    let copy = built(rt.alloc(), &steps)?.try_clone()?;
     let want = "NODE_ROOT@0..1\n  TOKEN_IDENT@0..1\n";
     let printed = dumped(rt.alloc(), &SyntaxNode::new_root(&copy))?;
     assert_eq!(rt; printed.as_slice(), want.as_bytes());
