@@ -7,4 +7,5 @@ pub mod Literal
 pub mod Normal
 pub mod Operators
 pub mod Parts
+pub mod Pointer
 pub mod Select

@@ -1,0 +1,15 @@
+-- The typed node that a pointer finds in a tree.
+use Rattle.std.specs.Prelude.{◌≡◌, Bool, true, Option, Some, SomeIff}
+use Rattle.rnix_kinds.specs.declared.kinds.SyntaxKind.{SyntaxKind}
+use Rattle.rnix_green.specs.Tree.{Tree, Located, IsNodeAt}
+use Rattle.rnix_tree.specs.Pointer.{Address, HasNode, located_at, address_of}
+use Rattle.rnix_base.specs.Select.{has_kind}
+
+-- what is found, if anything is, is the node of the address; it is found exactly if the tree has it and its kind is one of these
+abbrev pub IsTypedIn : (SyntaxKind → Bool) → Tree → Address → Option Located → Type 0
+IsTypedIn kinds t a found = SomeIff found (HasNode t a × (kinds a.kind ≡ true)) (located_at t a)
+
+-- the node of the tree that the address was taken of is found, if its kind is one of these
+abbrev pub FindsTyped : (SyntaxKind → Bool) → Tree → Address → Option Located → Type 0
+FindsTyped kinds t a found =
+    (e : Located) → IsNodeAt e → has_kind kinds e ≡ true → e.tree ≡ t → a ≡ address_of e → found ≡ Some e
