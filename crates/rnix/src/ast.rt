@@ -38,5 +38,5 @@ pub use self::string_parts::{InterpolPart, StrParts};
 pub use self::strings::{Interpol, Literal, Str};
 pub use rnix_base::{
     AstChildren, AstNode, AstToken, BinOpKind, Comment, Float, Integer, LiteralKind, PathContent,
-    StrContent, UnaryOpKind, Uri, Whitespace, unescape,
+    StrContent, UnaryOpKind, Uri, Whitespace, to_ast, unescape,
 };

@@ -12,8 +12,9 @@ pub use rnix_text::{ColumnUnit, EditError, Edits, LineIndex, Position};
 pub use rnix_tree::{
     Ancestors, Checkpoint, Descendants, DescendantsWithTokens, Direction, GreenNode,
     GreenNodeBuilder, NodeOrToken, Preorder, PreorderWithTokens, Siblings, SiblingsWithTokens,
-    SyntaxElement, SyntaxElementChildren, SyntaxNode, SyntaxNodeChildren, SyntaxNodePtr,
-    SyntaxToken, TextRange, TextSize, TokenAtOffset, WalkEvent, dump,
+    SyntaxElement, SyntaxElementChildren, SyntaxElementChildrenByKind, SyntaxNode,
+    SyntaxNodeChildren, SyntaxNodeChildrenByKind, SyntaxNodePtr, SyntaxToken, TextRange, TextSize,
+    TokenAtOffset, WalkEvent, dump,
 };
 pub use root::Parse;
 pub use whole::nodes_have_parts;
