@@ -39,6 +39,7 @@ pub type Token<'a> = (SyntaxKind, &'a str);
 
 /// The token that begins the text.
 #[tactic(auto, unfolding(crate::specs::Lexical::Tokens::cut_at))]
+#[inline(always)]
 fn cut_at(text: &str, top: Option<Mode>, ahead: &mut Ahead) -> Cut
     requires some { 0 < length text.now }
     requires room { HasRoom top }
@@ -104,6 +105,7 @@ impl<'a> Tokenizer<'a> {
     }
 
     /// The next token. After a refusal the same token comes next.
+    #[inline(always)]
     pub fn next_token(&mut self) -> Option<Result<Token<'a>, AllocError>>
         ensures { GivesNext self.old result self.new }
     {

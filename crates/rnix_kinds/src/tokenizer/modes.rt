@@ -58,6 +58,7 @@ impl Modes {
     }
 
     /// What a token does to the modes. A refusal leaves them as they were.
+    #[inline(always)]
     pub fn change(&mut self, change: Change) -> Result<(), AllocError>
         ensures ok { OnOk result (self.new ≡ changed change self.old) }
         ensures err { OnErr result (self.new ≡ self.old) }

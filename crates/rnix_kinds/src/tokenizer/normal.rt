@@ -39,6 +39,7 @@ fn goes_past_name(b: u8) -> bool
 }
 
 // What begins with a letter or `_`.
+#[inline(always)]
 fn named(text: &str, ahead: &mut Ahead) -> Cut
     requires first { begins_word (slice_index text.now 0) ≡ true }
     requires ahead { IsAhead ahead.old text.now }
@@ -58,6 +59,7 @@ fn named(text: &str, ahead: &mut Ahead) -> Cut
 }
 
 // What begins with a digit, `.`, `+` or `-`. A path goes on with a path character.
+#[inline(always)]
 fn stepped(text: &str, ahead: &mut Ahead) -> Cut
     requires some { 0 < length text.now }
     requires ahead { IsAhead ahead.old text.now }
@@ -82,6 +84,7 @@ fn stepped(text: &str, ahead: &mut Ahead) -> Cut
 }
 
 // What begins with `<`.
+#[inline(always)]
 fn angled(text: &str, ahead: &mut Ahead) -> Cut
     requires some { 0 < length text.now }
     requires ahead { IsAhead ahead.old text.now }
@@ -95,6 +98,7 @@ fn angled(text: &str, ahead: &mut Ahead) -> Cut
 }
 
 // What begins with `"`, `$` or `'`.
+#[inline(always)]
 fn opened(text: &str) -> Cut
     requires { 0 < length text.now }
     ensures { result ≡ first_that_fits (opener text.now ∷ operator text.now ∷ []) (one_error text.now) }
@@ -106,6 +110,7 @@ fn opened(text: &str) -> Cut
 }
 
 // What begins with a control character, or with no character of ASCII.
+#[inline(always)]
 fn other(text: &str) -> Cut
     requires { 0 < length text.now }
     ensures { result ≡ first_that_fits (space text.now ∷ operator text.now ∷ []) (one_error text.now) }
@@ -117,6 +122,7 @@ fn other(text: &str) -> Cut
 }
 
 /// The token of the first rule that fits.
+#[inline(always)]
 pub fn normal(text: &str, top: Option<Mode>, ahead: &mut Ahead) -> Cut
     requires some { 0 < length text.now }
     requires room { HasRoom top }

@@ -19,6 +19,7 @@ pub fn ellipsis(text: &str) -> Option<Cut>
 }
 
 /// What opens a string or an interpolation.
+#[inline(always)]
 pub fn opener(text: &str) -> Option<Cut>
     ensures { result ≡ opener text.now }
 {
@@ -44,6 +45,7 @@ pub fn opener(text: &str) -> Option<Cut>
 }
 
 /// A `{`, which an interpolation counts.
+#[inline(always)]
 pub fn opening_brace(top: Option<Mode>) -> Cut
     requires { HasRoom top }
     ensures { result ≡ opening_brace top }
@@ -59,6 +61,7 @@ pub fn opening_brace(top: Option<Mode>) -> Cut
 }
 
 /// A `}`. An interpolation ends at one too many.
+#[inline(always)]
 pub fn closing_brace(top: Option<Mode>) -> Cut
     ensures { result ≡ closing_brace top }
 {

@@ -59,6 +59,7 @@ fn first_segment(text: &str, start: PathStart, from: usize) -> Cut
 }
 
 /// `//`, an absolute path, or a division.
+#[inline(always)]
 pub fn slash(text: &str) -> Cut
     requires { slice_index text.now 0 ≡ 47 }
     ensures { Some result ≡ slash text.now }
@@ -74,6 +75,7 @@ pub fn slash(text: &str) -> Cut
 }
 
 /// A path from the home folder, or an error over `~` and the next character.
+#[inline(always)]
 pub fn home(text: &str) -> Cut
     requires { slice_index text.now 0 ≡ 126 }
     ensures { Some result ≡ home text.now }
@@ -139,6 +141,7 @@ pub fn path_goes_on(text: &str) -> bool
 }
 
 /// What goes on a path behind an interpolation: a segment, or another interpolation.
+#[inline(always)]
 pub fn path(text: &str, start: PathStart) -> Cut
     requires { path_goes_on text.now ≡ true }
     ensures { result ≡ path_cut start text.now }

@@ -24,6 +24,7 @@ pub fn space(text: &str) -> Option<Cut>
 }
 
 /// A comment up to the end of its line.
+#[inline(always)]
 pub fn line_comment(text: &str) -> Cut
     ensures { result ≡ plain TOKEN_COMMENT (run_end (class_test Line) 0 text.now) }
 {
@@ -31,6 +32,7 @@ pub fn line_comment(text: &str) -> Cut
 }
 
 /// A comment through `*/`. Without a `*/` the rest of the text is an error.
+#[inline(always)]
 pub fn block_comment(text: &str) -> Cut
     requires { 2 ≤ length text.now }
     ensures { result ≡ block_comment (before_pair 42 47 (drop 2 text.now)) text.now }

@@ -38,6 +38,7 @@ fn piece_len(rest: &[u8], multiline: bool) -> usize
 }
 
 /// The length of the pieces before the closer or `${`.
+#[inline(always)]
 fn content_len(bytes: &[u8], multiline: bool) -> usize
     ensures value { result ≡ content_len multiline bytes.now }
     ensures within { result ≤ length bytes.now }
@@ -57,6 +58,7 @@ fn content_len(bytes: &[u8], multiline: bool) -> usize
 }
 
 /// What stands inside a string: its content, an interpolation, its end, or an error where the text ends first.
+#[inline(always)]
 pub fn string(text: &str, multiline: bool) -> Cut
     ensures { result ≡ string_cut multiline text.now }
 {

@@ -26,6 +26,7 @@ pub fn uri(text: &str, scheme: usize) -> Option<Cut>
 }
 
 // The kind of a keyword, or of a name.
+#[inline(always)]
 fn kind_of_word(word: &str) -> SyntaxKind
     ensures { result ≡ kind_of_word word.now }
 {
@@ -45,6 +46,7 @@ fn kind_of_word(word: &str) -> SyntaxKind
 }
 
 /// A keyword or a name; `end` is where it ends.
+#[inline(always)]
 pub fn word(text: &str, end: usize) -> Cut
     requires first { begins_word (slice_index text.now 0) ≡ true }
     requires end { end ≡ run_end (class_test Class.Name) 0 text.now }
