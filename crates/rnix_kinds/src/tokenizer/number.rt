@@ -45,6 +45,7 @@ fn fraction(text: &str, at: usize) -> Cut
 }
 
 /// A number.
+#[inline(always)]
 pub fn number(text: &str) -> Option<Cut>
     ensures { result ≡ number text.now }
 {

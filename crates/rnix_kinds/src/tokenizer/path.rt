@@ -104,6 +104,7 @@ fn goes_on_as_path(text: &str, len: usize) -> bool
 }
 
 /// A relative path; `step` is the run of path characters other than `/`.
+#[inline(always)]
 pub fn relative(text: &str, step: usize) -> Option<Cut>
     requires { step ≡ prefix_len (class_test Class.Step) text.now }
     ensures { result ≡ relative text.now }
@@ -116,6 +117,7 @@ pub fn relative(text: &str, step: usize) -> Option<Cut>
 }
 
 /// A search path; `angle` is the run of path characters and `<`.
+#[inline(always)]
 pub fn search_path(text: &str, angle: usize) -> Option<Cut>
     requires { slice_index text.now 0 ≡ 60 → angle ≡ prefix_len (class_test Class.Angle) text.now }
     ensures { result ≡ search_path text.now }

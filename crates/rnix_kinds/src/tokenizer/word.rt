@@ -11,6 +11,7 @@ use super::text::{Class, byte_at, is_in, run_end};
 use crate::kinds::SyntaxKind;
 
 /// A URI; `scheme` is the run of the bytes that its scheme may have.
+#[inline(always)]
 pub fn uri(text: &str, scheme: usize) -> Option<Cut>
     requires { scheme ≡ prefix_len (class_test Class.Scheme) text.now }
     ensures { result ≡ uri text.now }
