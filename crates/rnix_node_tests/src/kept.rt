@@ -93,7 +93,8 @@ fn pointers_keep_the_type_of_their_nodes(rt: HostRuntime) -> Result<(), Fail> {
 // Whether a pointer to a function is one to an expression as well, and to a binding.
 fn casts(pointer: AstPtr<pointee::Lambda>) -> (bool, bool) {
     let expression = pointer.cast::<pointee::Expr>();
-    (expression.is_some(), pointer.cast::<pointee::LetIn>().is_some())
+    let binding = pointer.cast::<pointee::LetIn>();
+    (expression.is_some(), binding.is_some())
 }
 
 #[test]
