@@ -32,12 +32,7 @@ fn class(token: &SyntaxToken<'_>) -> &'static str {
 
 // The first error over a token.
 fn error_over<'e>(found: &'e [Diagnostic], range: TextRange) -> Option<&'e Diagnostic> {
-    for diagnostic in found {
-        if diagnostic.range.contains_range(range) {
-            return Some(diagnostic);
-        }
-    }
-    None
+    found.iter().find(|error| error.range.contains_range(range))
 }
 
 // Writes a token, marked with the first error that it belongs to.

@@ -12,12 +12,15 @@ nav { border-left: 1px solid #d0d7de; background: #f6f8fa }
 pre { margin: 0; font: inherit; white-space: pre-wrap }
 details { padding-left: 1em }
 details > div { padding-left: 2em }
-summary, div, #source span, li { cursor: pointer }
-.keyword { color: #cf222e } .string { color: #0a3069 } .comment { color: #6e7781; font-style: italic }
-.number { color: #0550ae } .path { color: #116329 } .sign { color: #6639ba }
-.trivia { color: #8c959f } .token code { color: #0a3069 }
+[data-start] { cursor: pointer }
+.keyword, #errors { color: #cf222e }
+.string, .token code { color: #0a3069 }
+.number { color: #0550ae }
+.path { color: #116329 }
+.sign { color: #6639ba }
+.comment { color: #6e7781; font-style: italic }
+.trivia { color: #8c959f }
 .error, .wrong { text-decoration: underline wavy #cf222e }
-#errors { color: #cf222e }
 .marked { background: #fff1a8 }
 </style>
 <main>

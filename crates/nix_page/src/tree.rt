@@ -12,22 +12,16 @@ const SHOWN: usize = 40;
 fn open_node<W: Write>(node: &SyntaxNode<'_>, out: &mut W) -> io::Result<()> {
     out.write_all(b"<details open><summary")?;
     write_range(node.text_range(), out)?;
-    out.write_all(node.kind().name().as_bytes())?;
-    out.write_all(b"</summary>\n")
+    writeln!(out, "{}</summary>", node.kind().name())
 }
 
 // Writes a token with the beginning of its text.
 fn write_token<W: Write>(token: &SyntaxToken<'_>, out: &mut W) -> io::Result<()> {
-    let class = if token.kind().is_trivia() {
-        "trivia"
-    } else {
-        "token"
-    };
+    let (kind, text) = (token.kind(), token.text());
+    let class = if kind.is_trivia() { "trivia" } else { "token" };
     write!(out, "<div class=\"{class}\"")?;
     write_range(token.text_range(), out)?;
-    out.write_all(token.kind().name().as_bytes())?;
-    out.write_all(b" <code>")?;
-    let text = token.text();
+    write!(out, "{} <code>", kind.name())?;
     write_text(text.get(..SHOWN).unwrap_or(text), out)?;
     out.write_all(b"</code></div>\n")
 }

@@ -8,34 +8,18 @@ use Rattle.rnix_text.specs.Changes.{Change, AreAscending, changed_from, replacin
 use Rattle.nix_scopes.specs.declared.resolution.Binding.{Binding}
 use Rattle.nix_scopes.specs.declared.resolution.Reference.{Reference}
 
--- whether the binding is the one of the number, or another part of it
-abbrev pub has_number : ℕ → Binding → Bool
-has_number number binding = nat_eq binding.first number
-
 -- whether this is the number, if it is one
 abbrev pub is_number : ℕ → Option ℕ → Bool
 is_number number None = false
 is_number number (Some other) = nat_eq other number
 
--- whether the reference is one to the binding of the number
-abbrev pub has_binding : ℕ → Reference → Bool
-has_binding number reference = is_number number reference.binding
-
--- where a binding is written
-abbrev pub binding_extent : Binding → Extent
-binding_extent binding = extent_of binding.node
-
--- where a reference is written
-abbrev pub reference_extent : Reference → Extent
-reference_extent reference = extent_of reference.node
-
--- where the binding of a number is written
+-- where the binding of a number is written, in each of its parts
 abbrev pub written_at : ℕ → List Binding → List Extent
-written_at number bindings = map binding_extent (filter (has_number number) bindings)
+written_at number bindings = map (λ part. extent_of part.node) (filter (λ part. nat_eq part.first number) bindings)
 
 -- where the binding of a number is referred to
 abbrev pub referred_at : ℕ → List Reference → List Extent
-referred_at number references = map reference_extent (filter (has_binding number) references)
+referred_at number references = map (λ place. extent_of place.node) (filter (λ place. is_number number place.binding) references)
 
 -- a name stands at a place of the text
 abbrev pub StandsAt : List ℕ → List ℕ → Extent → Type 0

@@ -123,9 +123,7 @@ fn changed(
 fn checked(alloc: Global, names: &Resolution<'_>, text: String) -> Result<Renaming, EditError> {
     let read = Root::parse(alloc, text.as_str())?;
     let is_like = resolve(alloc, &read.syntax())?.is_like(names);
-    let is_nix = read.errors().is_empty();
-    drop(read);
-    Ok(if is_nix && is_like {
+    Ok(if read.errors().is_empty() && is_like {
         Renaming::Renamed(text)
     } else {
         Renaming::Refused("with the new name, some name would refer to something else")

@@ -15,6 +15,7 @@ mod operations;
 mod path_parts;
 mod paths;
 mod patterns;
+pub mod pointee;
 mod selections;
 mod sets;
 mod string_parts;
@@ -37,6 +38,6 @@ pub use self::sets::{AttrSet, AttrpathValue, Inherit, InheritFrom};
 pub use self::string_parts::{InterpolPart, StrParts};
 pub use self::strings::{Interpol, Literal, Str};
 pub use rnix_base::{
-    AstChildren, AstNode, AstToken, BinOpKind, Comment, Float, Integer, LiteralKind, PathContent,
-    StrContent, UnaryOpKind, Uri, Whitespace, to_ast, unescape,
+    AstChildren, AstNode, AstPtr, AstToken, BinOpKind, Comment, Float, Integer, LiteralKind,
+    PathContent, Pointee, StrContent, UnaryOpKind, Uri, Whitespace, unescape,
 };

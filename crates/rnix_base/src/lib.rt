@@ -24,6 +24,6 @@ pub use normal::{indented_parts, quoted_parts};
 pub use operators::{BinOpKind, UnaryOpKind, first_binary, first_unary};
 pub use parts::{InterpolPart, InterpolParts, all_parts, is_indented, parts_in, text_parts};
 pub use path_content::PathContent;
-pub use pointer::to_ast;
+pub use pointer::{AstPtr, Pointee};
 pub use token::AstToken;
 pub use tokens::{Comment, StrContent, Whitespace};

@@ -1,17 +1,70 @@
 //! Pointers to typed nodes.
 
-ghost use Rattle.std.specs.Prelude.{option_map};
-ghost use Rattle.rnix_tree.specs.Pointer.{address_in};
-ghost use Rattle.rnix_base.specs.Pointer.{IsTypedIn, FindsTyped};
+ghost use Rattle.std.specs.Prelude.{◌≡◌, true, is_some, option_map, IfSome};
+ghost use Rattle.rnix_tree.specs.Pointer.{address_of, address_in};
+ghost use Rattle.rnix_base.specs.Pointer.{address_under, IsTypedIn, FindsTyped};
 
 use crate::node::AstNode;
 use rnix_tree::{SyntaxNode, SyntaxNodePtr};
+use std::marker::PhantomData;
 
-/// The node that the pointer finds in the tree of `root`, as a value of the type. A pointer made of a typed node finds it again in its own
-/// tree, or an equal one.
-pub fn to_ast<'t, T: AstNode<'t>>(pointer: SyntaxNodePtr, root: &SyntaxNode<'t>) -> Option<T>
-    ensures found { IsTypedIn T.kinds root.now.tree (address_in pointer) (option_map T.node result) }
-    ensures same { FindsTyped T.kinds root.now.tree (address_in pointer) (option_map T.node result) }
-{
-    T::cast(pointer.try_to_node(root)?)
+/// What names a type of nodes without the lifetime of their tree.
+pub trait Pointee<'t> {
+    /// The type, in a tree of that lifetime.
+    type Node: AstNode<'t>;
+}
+
+/// Where a typed node stands: a `SyntaxNodePtr` that keeps the type.
+#[derive_where(Clone, Copy, Debug, PartialEq, Eq, Hash)]
+pub struct AstPtr<T> {
+    raw: SyntaxNodePtr,
+    pointee: PhantomData<T>,
+}
+
+impl<T> AstPtr<T> {
+    /// The pointer to a typed node.
+    pub fn new<'t>(node: &T::Node) -> Self
+    where
+        T: Pointee<'t>,
+        ensures address { address_under result ≡ address_of (T.Node.node node.now) }
+        ensures kind { T.Node.kinds (address_under result).kind ≡ true }
+    {
+        AstPtr {
+            raw: SyntaxNodePtr::new(node.syntax()),
+            pointee: PhantomData,
+        }
+    }
+
+    /// The pointer without the type.
+    pub fn syntax_node_ptr(self) -> SyntaxNodePtr
+        ensures { address_in result ≡ address_under self }
+    {
+        self.raw
+    }
+
+    /// The pointer as one of another type, exactly if the node's kind is one of that type's.
+    pub fn cast<'t, U: Pointee<'t>>(self) -> Option<AstPtr<U>>
+        ensures some { is_some result ≡ U.Node.kinds (address_under self).kind }
+        ensures same { IfSome result (λ pointer. address_under pointer ≡ address_under self) }
+    {
+        if U::Node::can_cast(self.raw.kind()) {
+            Some(AstPtr {
+                raw: self.raw,
+                pointee: PhantomData,
+            })
+        } else {
+            None
+        }
+    }
+
+    /// The typed node in the tree of `root`, whichever node of the tree that is: the node that the pointer was made of where the trees are
+    /// equal, and `None` where no node of the type has the pointer's number, kind and range.
+    pub fn try_to_node<'t>(self, root: &SyntaxNode<'t>) -> Option<T::Node>
+    where
+        T: Pointee<'t>,
+        ensures found { IsTypedIn T.Node.kinds root.now.tree (address_under self) (option_map T.Node.node result) }
+        ensures same { FindsTyped T.Node.kinds root.now.tree (address_under self) (option_map T.Node.node result) }
+    {
+        T::Node::cast(self.raw.try_to_node(root)?)
+    }
 }
