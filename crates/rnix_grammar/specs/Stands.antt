@@ -1,10 +1,8 @@
 -- What stands in a row with its errors: the errors of a tree are those of its rows, in order.
-use Rattle.std.specs.Prelude.{◌≡◌, ℕ, zero, suc, ◌+◌, ◌<◌, ◌≤◌, Bool, true, false, ◌||◌, ◌&&◌, List, [], ◌∷◌, ◌++◌, Option, Some, None, length, if◌then◌else◌}
-use Rattle.std.specs.List.{list_all, list_any}
+use Rattle.std.specs.Prelude.{◌≡◌, ℕ, suc, ◌+◌, ◌<◌, ◌≤◌, Bool, true, false, ◌||◌, ◌&&◌, List, [], ◌∷◌, ◌++◌, Option, Some, None, length, if◌then◌else◌}
 use Rattle.rnix_kinds.specs.declared.kinds.SyntaxKind.{SyntaxKind}
 use Rattle.rnix_kinds.specs.declared.kinds.SyntaxKind.TheVariants.{NODE_IDENT, NODE_CUR_POS, NODE_ROOT, NODE_ERROR, NODE_LITERAL, NODE_ATTRPATH, NODE_PATTERN, NODE_INHERIT, NODE_PAT_BIND}
 use Rattle.rnix_kinds.specs.SyntaxKind.{is_fn_arg}
-use Rattle.rnix_kinds.proofs.AllKinds.{all_kinds}
 use Rattle.rnix_grammar.specs.declared.level.Associativity.{Associativity}
 use Rattle.rnix_grammar.specs.declared.level.Associativity.TheVariants.{Neither}
 use Rattle.rnix_grammar.specs.declared.place.Place.{Place}
@@ -15,7 +13,7 @@ use Rattle.rnix_grammar.specs.declared.symbol.Symbol.{Symbol}
 use Rattle.rnix_grammar.specs.declared.symbol.Symbol.TheVariants.{Series}
 use Rattle.rnix_grammar.specs.Symbols.{symbol_at, level_in}
 use Rattle.rnix_grammar.specs.Levels.{has_attr_level, application_level, selection_level, operator, left_of}
-use Rattle.rnix_grammar.specs.Tables.{wanted_kinds, is_wanted, stops, closes, depth_limit}
+use Rattle.rnix_grammar.specs.Tables.{stops, closes, depth_limit}
 use Rattle.rnix_grammar.specs.AnnotatedForest.{Token, Note, Stray, Unwanted, Extra, Twice, TooDeep, AnnotatedForest, blank, token, branch, fault, ◌⊕◌, one_token, one_branch, one_fault, row_of, tokens_in, is_some, leaf_kind, head_kind}
 use Rattle.rnix_grammar.specs.Reports.{report, repeats}
 use Rattle.rnix_grammar.specs.Names.{is_named}
@@ -77,34 +75,13 @@ abbrev pub closing : RowState → SyntaxKind → Bool
 closing (At place) kind = closing_in (symbol_at place) kind
 closing row_state kind = false
 
--- the same kinds are wanted
-abbrev pub same_wanted : Until → Until → Bool
-same_wanted a b = list_all (is_wanted a) (wanted_kinds b) && list_all (is_wanted b) (wanted_kinds a)
-
--- a run, if one may stand, stops before these kinds
-abbrev pub stops_before : Until → Option (Until × Place) → Bool
-stops_before until None = false
-stops_before until (Some run) = same_wanted until run.0
-
--- so it is at a state
-abbrev pub is_wanted_at : Until → RowState → Bool
-is_wanted_at until (At place) = stops_before until (run_at place)
-is_wanted_at until row_state = false
-
--- or at one that its row comes to within so many states
-abbrev pub is_wanted_within : ℕ → Until → RowState → Bool
-is_wanted_within zero until q = false
-is_wanted_within (suc n) until q =
-    if live q then is_wanted_at until q || list_any (λ kind. is_wanted_within n until (advance q kind)) all_kinds else false
-
--- where a row begins below a node, that of a second name below an error node
-abbrev pub begin_below : SyntaxKind → RowState
-begin_below NODE_ERROR = SecondStart
-begin_below kind = start kind
-
--- which lists are wanted below which nodes: those that runs stop before in a row; each place of one is within seven states
-unfoldable pub is_wanted_in : Until → SyntaxKind → Bool
-is_wanted_in until parent = is_wanted_within 7 until (begin_below parent)
+-- A state of the row of a node of the kind: one where it begins, or to which it comes by a child or behind a run of items that are not
+-- wanted. The row of a second name is that of an error node.
+pub data IsInRow : SyntaxKind → RowState → Type 0 where
+  begin : {k : SyntaxKind} → IsInRow k (start k)
+  begin_second : IsInRow NODE_ERROR SecondStart
+  behind_child : {k : SyntaxKind} {q r : RowState} (c : SyntaxKind) → IsInRow k q → advance q c ≡ r → IsInRow k r
+  behind_run : {k : SyntaxKind} {x y : Place} {until : Until} → IsInRow k (At x) → run_at x ≡ Some (until, y) → IsInRow k (At y)
 
 -- the kind of `inherit` entries
 abbrev pub is_inherit : SyntaxKind → Bool
@@ -123,7 +100,7 @@ IsBeside Stray parent depth q r before count [] after = ⊥
 IsBeside Stray parent depth q r before count (t ∷ ts) after = (ts ≡ []) × (is_fn_arg t.kind ≡ false) × (closing q t.kind ≡ false) × (advance q NODE_LITERAL ≡ r) × (live r ≡ true)
 IsBeside (Unwanted until) parent depth q r before count [] after = ⊥
 IsBeside (Unwanted until) parent depth q r before count (t ∷ ts) after =
-    AreUnwanted until (t ∷ ts) × (stops until (head_kind after) ≡ true) × (is_wanted_in until parent ≡ true)
+    AreUnwanted until (t ∷ ts) × (stops until (head_kind after) ≡ true) × IsInRow parent q
     × ((is_inherit parent || (if continues t.kind (last_kind before) then false else true)) ≡ true)
     × (x : Place) × (y : Place) × (q ≡ At x) × (r ≡ At y) × (run_at x ≡ Some (until, y))
 IsBeside Extra parent depth q r before count [] after = ⊥

@@ -1,12 +1,11 @@
 -- What stands beside an error node that is read, and how tightly the trees of a row bind.
 use Rattle.std.proofs.Common.{◌≡◌, ℕ, suc, ◌≤◌, ◌<◌, Bool, true, false, List, [], ◌∷◌, ◌++◌, Option, Some, None, refl, ap, sym, ◌∙◌, subst, append-nil, arith}
 use Rattle.std.proofs.lemmas.Bool.{and_parts}
-use Rattle.std.specs.List.{list_all}
 use Rattle.std.specs.Prelude.{◌||◌, ◌&&◌, if◌then◌else◌, nat_eq}
 use Rattle.rnix_kinds.specs.declared.kinds.SyntaxKind.{SyntaxKind}
-use Rattle.rnix_kinds.specs.declared.kinds.SyntaxKind.TheVariants.{TOKEN_QUESTION, NODE_APPLY, NODE_BIN_OP, NODE_ERROR, NODE_HAS_ATTR, NODE_LITERAL, NODE_ROOT, NODE_SELECT}
+use Rattle.rnix_kinds.specs.declared.kinds.SyntaxKind.TheVariants.{NODE_APPLY, NODE_ATTRPATH, NODE_BIN_OP, NODE_ERROR, NODE_HAS_ATTR, NODE_IDENT, NODE_IDENT_PARAM, NODE_INHERIT, NODE_LITERAL, NODE_PAT_BIND, NODE_PAT_ENTRY, NODE_ROOT, NODE_SELECT, TOKEN_ASSERT, TOKEN_ASSIGN, TOKEN_AT, TOKEN_COMMA, TOKEN_ELLIPSIS, TOKEN_IF, TOKEN_INHERIT, TOKEN_INTERPOL_START, TOKEN_L_BRACE, TOKEN_L_PAREN, TOKEN_QUESTION, TOKEN_REC, TOKEN_STRING_START, TOKEN_THEN, TOKEN_WITH}
 use Rattle.rnix_kinds.specs.SyntaxKind.{is_fn_arg}
-use Rattle.rnix_kinds.proofs.AllKinds.{all_kinds, implied}
+use Rattle.rnix_kinds.proofs.AllKinds.{implied}
 use Rattle.rnix_green.specs.Equality.{same_kind-decides}
 use Rattle.rnix_grammar.specs.declared.place.Place.{Place}
 use Rattle.rnix_grammar.specs.declared.place.Place.TheVariants as p
@@ -19,10 +18,10 @@ use Rattle.rnix_grammar.specs.Missing.{run_at}
 use Rattle.rnix_grammar.specs.ExpectedItems.{expects_in, IsExpected, stands_expected}
 use Rattle.rnix_grammar.specs.Operands.{follows, IsFollowed, IsOperand, level_at}
 use Rattle.rnix_grammar.specs.Reads.{IsWrong}
-use Rattle.rnix_grammar.specs.Rows.{is_infix, RowState, Start, BeforeOperator, BeforeQuestion, BeforeArgument, At, advance, live, first}
+use Rattle.rnix_grammar.specs.Rows.{is_infix, RowState, Start, BeforeOperator, BeforeQuestion, BeforeArgument, At, advance, live, first, start}
 use Rattle.rnix_grammar.specs.AnnotatedForest.{Token, Note, Stray, Unwanted, Extra, Twice, TooDeep, AnnotatedForest, blank, fault, one_branch, one_fault, row_of, tokens_in, head_kind}
 use Rattle.rnix_grammar.specs.Symbols.{symbol_at, level_in}
-use Rattle.rnix_grammar.specs.Stands.{continues, last_kind, closing_in, closing, is_wanted_in, is_inherit, AreUnwanted, IsBeside, IsTight, IsArgument, IsLeveled, IsOpened}
+use Rattle.rnix_grammar.specs.Stands.{continues, last_kind, closing_in, closing, IsInRow, begin, begin_second, behind_child, behind_run, is_inherit, AreUnwanted, IsBeside, IsTight, IsArgument, IsLeveled, IsOpened}
 use Rattle.rnix_grammar.specs.Tables.{stops}
 use Rattle.rnix_grammar.specs.TokenKinds.{is_or}
 use Rattle.rnix_grammar.specs.TreeLevels.{is_or_row, row_level, is_atom_row}
@@ -82,22 +81,65 @@ dropped_own : (ts vs : List Token) → dropped ts (ts ++ vs) ≡ vs
 dropped_own [] vs = refl
 dropped_own (t ∷ ts) vs = dropped_own ts vs
 
--- what a run stops before is wanted in each kind of node that its place may be in
-abbrev are_wanted : Place → Option (Until × Place) → Bool
-are_wanted x None = true
-are_wanted x (Some run) = list_all (λ i. if is_expected (home x) i then is_wanted_in run.0 i else true) all_kinds
+-- the state behind some children
+abbrev behind : RowState → List SyntaxKind → RowState
+behind q [] = q
+behind q (k ∷ ks) = behind (advance q k) ks
+
+-- a row comes to the state behind its children
+by_children : (i : SyntaxKind) (q : RowState) (ks : List SyntaxKind) (r : RowState) → IsInRow i q → behind q ks ≡ r → IsInRow i r
+by_children i q [] r h e = subst (IsInRow i) e h
+by_children i q (k ∷ ks) r h e = by_children i (advance q k) ks r (behind_child k h refl) e
+
+-- so from where the row begins
+led : (i : SyntaxKind) (ks : List SyntaxKind) (x : Place) → behind (start i) ks ≡ At x → IsInRow i (At x)
+led i ks x e = by_children i (start i) ks (At x) begin e
+
+-- a place where a run may stand is one of the rows of its kind of node
+abbrev IsAtHome : Place → Option SyntaxKind → Option (Until × Place) → Type 0
+IsAtHome x i None = Unit {0}
+IsAtHome x None (Some found) = ⊥
+IsAtHome x (Some i) (Some found) = IsInRow i (At x)
 
 -- so it is with each place but those where an end alone is missing
-wanted_here : (x : Place) → is_last x ≡ false → are_wanted x (run_at x) ≡ true
-unfolding is_wanted_in
-wanted_here p.StringEnd l = absurd (true_is_not_false l)
-wanted_here p.InheritEnd l = absurd (true_is_not_false l)
-wanted_here _ l = refl
+at_home : (x : Place) → is_last x ≡ false → IsAtHome x (home x) (run_at x)
+at_home p.StringEnd l = absurd (true_is_not_false l)
+at_home p.InheritEnd l = absurd (true_is_not_false l)
+at_home p.InheritName l = behind_run (led NODE_INHERIT (TOKEN_INHERIT ∷ []) p.InheritStart refl) refl
+at_home p.TwiceName l = behind_child TOKEN_AT begin_second refl
+at_home p.ParenEnd l = led _ (TOKEN_L_PAREN ∷ NODE_IDENT ∷ []) _ refl
+at_home p.InterpolEnd l = led _ (TOKEN_INTERPOL_START ∷ NODE_IDENT ∷ []) _ refl
+at_home p.StringInside l = led _ (TOKEN_STRING_START ∷ []) _ refl
+at_home p.SetBrace l = led _ (TOKEN_REC ∷ []) _ refl
+at_home p.InheritStart l = led _ (TOKEN_INHERIT ∷ []) _ refl
+at_home p.InheritNames l = led _ (TOKEN_INHERIT ∷ NODE_IDENT ∷ []) _ refl
+at_home p.FromEnd l = led _ (TOKEN_L_PAREN ∷ NODE_IDENT ∷ []) _ refl
+at_home p.ValueAssign l = led _ (NODE_ATTRPATH ∷ []) _ refl
+at_home p.ValueEnd l = led _ (NODE_ATTRPATH ∷ TOKEN_ASSIGN ∷ NODE_IDENT ∷ []) _ refl
+at_home p.AttrpathStart l = begin
+at_home p.WithEnd l = led _ (TOKEN_WITH ∷ NODE_IDENT ∷ []) _ refl
+at_home p.AssertEnd l = led _ (TOKEN_ASSERT ∷ NODE_IDENT ∷ []) _ refl
+at_home p.IfThen l = led _ (TOKEN_IF ∷ NODE_IDENT ∷ []) _ refl
+at_home p.IfElse l = led _ (TOKEN_IF ∷ NODE_IDENT ∷ TOKEN_THEN ∷ NODE_IDENT ∷ []) _ refl
+at_home p.LambdaColon l = led _ (NODE_IDENT_PARAM ∷ []) _ refl
+at_home p.PatternBrace l = led _ (NODE_PAT_BIND ∷ []) _ refl
+at_home (p.PatternStart false) l = led _ (TOKEN_L_BRACE ∷ []) _ refl
+at_home (p.PatternStart true) l = led _ (NODE_PAT_BIND ∷ TOKEN_L_BRACE ∷ []) _ refl
+at_home (p.PatternInside false) l = led _ (TOKEN_L_BRACE ∷ NODE_PAT_ENTRY ∷ TOKEN_COMMA ∷ []) _ refl
+at_home (p.PatternInside true) l = led _ (NODE_PAT_BIND ∷ TOKEN_L_BRACE ∷ NODE_PAT_ENTRY ∷ TOKEN_COMMA ∷ []) _ refl
+at_home (p.PatternAfter false) l = led _ (TOKEN_L_BRACE ∷ NODE_PAT_ENTRY ∷ []) _ refl
+at_home (p.PatternAfter true) l = led _ (NODE_PAT_BIND ∷ TOKEN_L_BRACE ∷ NODE_PAT_ENTRY ∷ []) _ refl
+at_home (p.PatternClose false) l = led _ (TOKEN_L_BRACE ∷ TOKEN_ELLIPSIS ∷ []) _ refl
+at_home (p.PatternClose true) l = led _ (NODE_PAT_BIND ∷ TOKEN_L_BRACE ∷ TOKEN_ELLIPSIS ∷ []) _ refl
+at_home p.BindName l = led _ (TOKEN_AT ∷ []) _ refl
+at_home _ l = tt
 
--- what a run may stand before is wanted in the node that it stands in
-wanted_by : (x y : Place) (until : Until) (i : SyntaxKind) → is_last x ≡ false → run_at x ≡ Some (until, y) → is_expected (home x) i ≡ true
-    → is_wanted_in until i ≡ true
-wanted_by x y until i l r o = implied (is_expected (home x)) (is_wanted_in until) (ap (are_wanted x) (sym r) ∙ wanted_here x l) i o
+-- a run stands in a row of the node that it stands in
+in_row : (x : Place) (i : SyntaxKind) (h : Option SyntaxKind) (o : Option (Until × Place)) (found : Until × Place) → IsAtHome x h o → o ≡ Some found
+    → is_expected h i ≡ true → IsInRow i (At x)
+in_row x i h None found r e o = absurd (cc)
+in_row x i None (Some other) found r e o = absurd r
+in_row x i (Some k) (Some other) found r e o = subst (λ (j : SyntaxKind). IsInRow j (At x)) ((same_kind-decides k i).0 o) r
 
 quiet_by : (h : Option SyntaxKind) (i : SyntaxKind) (w c : Bool) → (w || inherits h) ≡ true → is_expected h i ≡ true → (w ≡ true → c ≡ false)
     → (is_inherit i || (if c then false else true)) ≡ true
@@ -129,7 +171,7 @@ beside (Unwanted until) i d a c n q r b f (t ∷ ts) vs w o h =
     let run = parted until (t ∷ (ts ++ vs)) in (
       subst (AreUnwanted until) (sym w.1) run.unwanted,
       ap (λ us. stops until (head_kind us)) (sym (dropped_own (t ∷ ts) vs) ∙ ap (λ us. dropped us (t ∷ (ts ++ vs))) w.1) ∙ run.stops,
-      wanted_by w.2 w.3 until i (further_by (is_last w.2) t (ts ++ vs) k.further) w.6 k.expected,
+      subst (IsInRow i) (sym w.4) (in_row w.2 i (home w.2) (run_at w.2) (until, w.3) (at_home w.2 (further_by (is_last w.2) t (ts ++ vs) k.further)) w.6 k.expected),
       quiet_by (home w.2) i (wants (At w.2)) (continues t.kind (last_kind b)) (run_facts w.2 w.3 until w.6).3 k.expected (λ v. k.calm v t.kind refl),
       w.2,
       w.3,

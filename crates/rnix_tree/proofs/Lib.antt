@@ -11,6 +11,7 @@ pub mod LeaveSteps
 pub mod PreorderLemmas
 pub mod LineLemmas
 pub mod DumpLemmas
+pub mod DebugLemmas
 pub mod PointerLemmas
 pub mod DirectionLemmas
 pub mod ChildLemmas

@@ -1,14 +1,23 @@
 -- The lines that are printed of a tree's elements.
-use Rattle.std.specs.Prelude.{ℕ, suc, zero, ◌+◌, List, [], ◌++◌, length, codes}
+use Rattle.std.specs.Prelude.{ℕ, suc, zero, ◌+◌, nat_lt, List, [], ◌++◌, take, length, codes, Option, Some, if◌then◌else◌}
+use Rattle.std.specs.Fmt.{◌++?◌, debug_str}
 use Rattle.rnix_kinds.specs.declared.kinds.SyntaxKind.{SyntaxKind}
 use Rattle.rnix_kinds.specs.SyntaxKind.{name_of}
 use Rattle.rnix_green.specs.Range.{Extent, place_text}
 use Rattle.rnix_green.specs.Forest.{Forest, empty, leaf, node, text_of}
-use Rattle.rnix_green.specs.Tree.{Located, item_of, extent_of, part_at}
+use Rattle.rnix_green.specs.Tree.{Located, item_of, extent_of, text_at, part_at}
 
 -- an element's kind and range
 abbrev pub element_text : SyntaxKind → Extent → List ℕ
 element_text kind range = name_of kind ++ codes "@" ++ place_text range
+
+-- a token's text as it is shown: where it has 25 bytes or more, its first 21 and an ellipsis
+abbrev pub shown : List ℕ → List ℕ
+shown text = if nat_lt (length text) 25 then text else take 21 text ++ codes " ..."
+
+-- a token's kind, its range, and its text in quotes; nothing is said of one of which more than ASCII is shown
+abbrev pub token_text : Located → Option (List ℕ)
+token_text e = Some (element_text (item_of e).kind (extent_of e)) ++? Some (codes " ") ++? debug_str (shown (text_at e))
 
 -- two spaces for each level
 abbrev pub indent : ℕ → List ℕ

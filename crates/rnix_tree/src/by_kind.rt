@@ -155,29 +155,19 @@ fn first_element<'t>(
 
 impl<'t> SyntaxNode<'t> {
     /// The first node of a kind right below this one.
+    #[tactic(auto, using(crate::proofs::ListLemmas::found_itself))]
     pub fn first_child_by_kind(&self, kind: SyntaxKind) -> Option<SyntaxNode<'t>>
         ensures { result ≡ find (is_of_kind kind) (nodes_in (children_of self.now)) }
     {
-        let mut nodes = self.children();
-        while let Some(node) = nodes.next() {
-            if same_kind(kind, node.kind()) {
-                return Some(node);
-            }
-        }
-        None
+        self.children().by_kind(kind).next()
     }
 
     /// The first node or token of a kind right below this one.
+    #[tactic(auto, using(crate::proofs::ListLemmas::found_first))]
     pub fn first_child_or_token_by_kind(&self, kind: SyntaxKind) -> Option<SyntaxElement<'t>>
         ensures { option_map spot_of result ≡ find (is_spot_of_kind kind) (children_of self.now) }
     {
-        let mut elements = self.children_with_tokens();
-        while let Some(element) = elements.next() {
-            if same_kind(kind, element.kind()) {
-                return Some(element);
-            }
-        }
-        None
+        self.children_with_tokens().by_kind(kind).next()
     }
 
     /// The next node of a kind with the same parent.

@@ -1,8 +1,8 @@
 //! What `{:?}` and `{:#?}` print of nodes and tokens.
 
-ghost use Rattle.std.specs.Prelude.{Some};
-ghost use Rattle.std.specs.Fmt.{DisplaysOnOk};
-ghost use Rattle.rnix_tree.specs.Lines.{element_text};
+ghost use Rattle.std.specs.Prelude.{◌≤◌, length, Some};
+ghost use Rattle.std.specs.Fmt.{DisplaysOnOk, debug_str};
+ghost use Rattle.rnix_tree.specs.Lines.{element_text, shown, token_text};
 ghost use Rattle.rnix_green.specs.Range.{bounds_of};
 
 use crate::element::{NodeOrToken, SyntaxElement, WalkEvent};
@@ -11,6 +11,7 @@ use crate::token::SyntaxToken;
 use rnix_green::TextRange;
 use rnix_kinds::SyntaxKind;
 use std::fmt;
+use std::fmt::{InlineText, Write};
 
 // A token's text is printed whole if it has fewer bytes.
 const LONG: usize = 25;
@@ -20,6 +21,9 @@ const CUT: usize = 21;
 
 // What stands behind a text that was cut.
 const MORE: &str = " ...";
+
+// How many bytes such a text has with it, at most: a character has no more than four.
+const START_LEN: usize = 28;
 
 // A kind with its range.
 fn write_place<W: fmt::Write>(
@@ -34,34 +38,36 @@ fn write_place<W: fmt::Write>(
 }
 
 // The start of a long text, in quotes.
-fn write_start<W: fmt::Write>(text: &str, f: &mut fmt::Formatter<W>) -> fmt::Result {
+fn write_start<W: fmt::Write>(text: &str, f: &mut fmt::Formatter<W>) -> fmt::Result
+    requires { 25 ≤ length text.now }
+    ensures { DisplaysOnOk W.write_str_gives f.old result (debug_str (shown text.now)) f.new }
+{
     let cut = text.ceil_char_boundary(CUT);
-    let mut bytes = [0u8; LONG + MORE.len()];
-    for (place, byte) in bytes
-        .iter_mut()
-        .zip(text[..cut].bytes().chain(MORE.bytes()))
-    {
-        *place = byte;
-    }
-    match bytes
-        .get(..cut.saturating_add(MORE.len()))
-        .map(str::from_utf8)
-    {
-        Some(Ok(start)) => write!(f, "{start:?}"),
-        _ => Err(fmt::Error),
-    }
+    let mut start = InlineText::<START_LEN>::new();
+    start.write_str(&text[..cut])?;
+    start.write_str(MORE)?;
+    let start = start.as_str();
+    write!(f, "{start:?}")
 }
 
-// A token: its kind, its range, and its text in quotes.
-fn write_token<W: fmt::Write>(token: &SyntaxToken<'_>, f: &mut fmt::Formatter<W>) -> fmt::Result {
-    write_place(token.kind(), token.text_range(), f)?;
-    f.write_str(" ")?;
-    let text = token.text();
+// A token's text in quotes.
+fn write_text<W: fmt::Write>(text: &str, f: &mut fmt::Formatter<W>) -> fmt::Result
+    ensures { DisplaysOnOk W.write_str_gives f.old result (debug_str (shown text.now)) f.new }
+{
     if text.len() < LONG {
         write!(f, "{text:?}")
     } else {
         write_start(text, f)
     }
+}
+
+// A token: its kind, its range, and its text in quotes.
+fn write_token<W: fmt::Write>(token: &SyntaxToken<'_>, f: &mut fmt::Formatter<W>) -> fmt::Result
+    ensures { DisplaysOnOk W.write_str_gives f.old result (token_text token.now) f.new }
+{
+    write_place(token.kind(), token.text_range(), f)?;
+    f.write_str(" ")?;
+    write_text(token.text(), f)
 }
 
 // An element on a line of its own, behind two spaces for each level.
@@ -112,6 +118,10 @@ impl<'t> fmt::Debug for SyntaxNode<'t> {
 }
 
 impl<'t> fmt::Debug for SyntaxToken<'t> {
+    ghost use Rattle.rnix_tree.specs.Lines.{token_text};
+
+    ghost debug_output = { token_text };
+
     fn fmt<W: fmt::Write>(&self, f: &mut fmt::Formatter<W>) -> fmt::Result {
         write_token(self, f)
     }

@@ -1,0 +1,40 @@
+-- The start of a long text is shown up to a character's end.
+use Rattle.std.proofs.Common.{◌≡◌, ℕ, ◌≤◌, ◌<◌, ◌+◌, Bool, true, false, List, [], ◌∷◌, ◌++◌, length, take, codes, get_or, Option, Some, None, refl, ap, sym, subst, ◌∙◌, arith, inl, inr}
+use Rattle.std.specs.Prelude.{if◌then◌else◌}
+use Rattle.std.specs.Char.{is_ascii}
+use Rattle.std.specs.Fmt.{debug_str, debug_escape}
+use Rattle.std.specs.List.{list_all, flat_map}
+use Rattle.std.specs.Str.{IsCharBoundary, IsUtf8}
+use Rattle.std.proofs.lemmas.Bool.{cases_lt, and_parts}
+use Rattle.std.proofs.lemmas.Bool.Decides.{nat_tests}
+use Rattle.std.proofs.lemmas.List.Folds.{list_all-append, list_all_more}
+use Rattle.std.proofs.lemmas.Str.{IsCharBoundary-after_ascii}
+use Rattle.rnix_green.proofs.NumberTests.{is_not_below}
+use Rattle.rnix_tree.specs.Lines.{shown}
+
+-- the byte behind which a text of ASCII is cut is a character's end
+ends_there : (text : List ℕ) → IsUtf8 text → 25 ≤ length text → list_all is_ascii (take 21 text ++ codes " ...") ≡ true → IsCharBoundary text 21
+ends_there text utf8 long e =
+    let front : list_all is_ascii (take 21 text) ≡ true =
+    (and_parts (list_all is_ascii (take 21 text)) (list_all is_ascii (codes " ...")) (sym (list_all-append is_ascii (take 21 text) (codes " ...")) ∙ e)).0 in
+    let last : is_ascii (get_or text 20 0) ≡ true =
+    (and_parts (list_all is_ascii (take 20 text)) (is_ascii (get_or text 20 0)) (sym (list_all_more is_ascii text 20 0 (omega arith)) ∙ front)).1 in
+    IsCharBoundary-after_ascii text 20 utf8 (omega arith) (grind (arith, nat_tests))
+
+-- so a text whose start is ASCII is cut there
+cut_there : (text : List ℕ) (cut : ℕ) → IsUtf8 text → 25 ≤ length text → 21 ≤ cut → ((i : ℕ) → 21 ≤ i → i < cut → ¬ IsCharBoundary text i)
+    → list_all is_ascii (take 21 text ++ codes " ...") ≡ true → cut ≡ 21
+cut_there text cut utf8 long low nearest e = elim (cases_lt 21 cut) [
+  | inl far ↦ absurd (nearest 21 (omega arith) far (ends_there text utf8 long e))
+  | inr near ↦ omega arith
+]
+
+-- what is said of the text up to a character's end is said of what is shown
+pub start_shown : (P : Option (List ℕ) → Type 0) (text : List ℕ) (cut : ℕ) → IsUtf8 text → 25 ≤ length text → 21 ≤ cut
+    → ((i : ℕ) → 21 ≤ i → i < cut → ¬ IsCharBoundary text i) → P None → P (debug_str (take cut text ++ codes " ...")) → P (debug_str (shown text))
+start_shown P text cut utf8 long low nearest none h =
+    subst (λ b. P (debug_str (if b then text else take 21 text ++ codes " ..."))) (sym (is_not_below (length text) 25 long)) (by (list_all is_ascii (take 21 text ++ codes " ...")) refl)
+  where
+    by : (b : Bool) → list_all is_ascii (take 21 text ++ codes " ...") ≡ b → P (debug_str (take 21 text ++ codes " ..."))
+    by true e = subst (λ n. P (debug_str (take n text ++ codes " ..."))) (cut_there text cut utf8 long low nearest e) h
+    by false e = subst P (sym (ap (λ b. if b then Some (34 ∷ (flat_map (debug_escape 34) (take 21 text ++ codes " ...") ++ 34 ∷ [])) else None) e)) none
