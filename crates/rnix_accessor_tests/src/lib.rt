@@ -1,4 +1,4 @@
-//! Tests of what each accessor answers, on texts that have the parts and on nodes that were built by hand; of the parts of strings and paths.
+//! Tests of what each accessor answers, on texts that have the parts and on nodes and tokens that were built by hand.
 #![tactic(auto)]
 
 #[cfg(test)]
@@ -14,8 +14,6 @@ mod hand;
 #[cfg(test)]
 mod parts;
 #[cfg(test)]
-mod paths;
-#[cfg(test)]
-mod strings;
-#[cfg(test)]
 mod told;
+#[cfg(test)]
+mod unusual;

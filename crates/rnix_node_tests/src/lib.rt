@@ -1,10 +1,7 @@
-//! Tests of typed nodes, of their sums and second handles, of uses of them, of recursions and loops over them, and of the names that a user writes.
+//! Tests of typed nodes and tokens, of their sums and second handles, of strings and paths, of what a program keeps of a text, and of the
+//! names that a user writes.
 #![tactic(auto)]
 
-#[cfg(test)]
-mod chains;
-#[cfg(test)]
-mod hand;
 #[cfg(test)]
 mod handles;
 #[cfg(test)]
@@ -12,14 +9,10 @@ mod kept;
 #[cfg(test)]
 mod names;
 #[cfg(test)]
-mod recursion;
+mod paths;
+#[cfg(test)]
+mod strings;
 #[cfg(test)]
 mod sums;
 #[cfg(test)]
 mod typed;
-#[cfg(test)]
-mod unusual;
-#[cfg(test)]
-mod uses;
-#[cfg(test)]
-mod whole;

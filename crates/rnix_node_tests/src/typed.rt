@@ -1,10 +1,9 @@
 //! Typed nodes and tokens.
 
-use crate::hand::node_over;
 use rnix::ast::{
     AstNode, AstToken, AttrSet, BinOpKind, Comment, Expr, Float, Ident, Integer, List, LiteralKind,
 };
-use rnix::{NodeOrToken, Parse, ParseError, Root, SyntaxKind, SyntaxNode, TextRange};
+use rnix::{NodeOrToken, Parse, ParseError, Root, TextRange};
 use std::alloc::{AllocError, Global};
 use std::test::Fail;
 
@@ -142,27 +141,5 @@ fn comments_say_what_they_say(rt: HostRuntime) -> Result<(), Fail> {
         }
     }
     assert!(rt; found == 3);
-    Ok(())
-}
-
-// Whether a comment of the text says this.
-fn says(alloc: Global, text: &str, wanted: &str) -> Result<bool, Fail> {
-    let leaf = (SyntaxKind::TOKEN_COMMENT, text);
-    let tree = node_over(alloc, SyntaxKind::NODE_ROOT, &[leaf])?;
-    let Some(token) = SyntaxNode::new_root(&tree).first_token() else {
-        return Ok(false);
-    };
-    let Some(comment) = Comment::cast(token) else {
-        return Ok(false);
-    };
-    Ok(comment.text() == wanted)
-}
-
-#[test]
-fn comments_of_other_forms_are_given_whole(rt: HostRuntime) -> Result<(), Fail> {
-    assert!(rt; says(rt.alloc(), "/**/", "")?);
-    assert!(rt; says(rt.alloc(), "#", "")?);
-    assert!(rt; says(rt.alloc(), "/*/", "/*/")?);
-    assert!(rt; says(rt.alloc(), "a", "a")?);
     Ok(())
 }

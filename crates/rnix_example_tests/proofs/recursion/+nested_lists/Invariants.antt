@@ -1,0 +1,14 @@
+use Rattle.std.proofs.Common.{◌≤◌}
+use Rattle.rnix.specs.Inside.{inside_count, nodes_count, those_of}
+use Rattle.rnix.specs.NodeKinds.{is_expr}
+use Rattle.rnix.specs.Sums.{expr_node}
+use Rattle.rnix_example_tests.proofs.recursion.+nested_lists.Given as goal
+
+abbrev pub decreases-nested_lists : goal.decreases-nested_lists
+decreases-nested_lists l = inside_count (expr_node l.expr.now)
+
+abbrev pub invariant-loop-item : goal.invariant-loop-item
+invariant-loop-item l =
+    (goal.iterator-loop-item).can_next l.item-iterator ×
+    (goal.iterator-loop-item).is_finite l.item-iterator ×
+    (nodes_count (those_of is_expr l.item-iterator) ≤ inside_count (expr_node l.expr))

@@ -1,0 +1,103 @@
+//! The parts of paths.
+
+use rnix::ast::{AstNode, Expr, InterpolPart, Path, PathContent};
+use rnix::{Parse, Root, SyntaxNode};
+use std::alloc::{AllocError, Global};
+use std::test::Fail;
+
+// Parts one behind another: texts in parentheses, interpolations as they are written.
+fn written(
+    alloc: Global,
+    parts: &[InterpolPart<'_, PathContent<'_>>],
+) -> Result<String, AllocError> {
+    let mut said = String::new(alloc);
+    for part in parts {
+        match part {
+            InterpolPart::Literal(content) => {
+                said.push('(')?;
+                said.push_str(content.text())?;
+                said.push(')')?;
+            }
+            InterpolPart::Interpolation(node) => said.push_str(node.syntax().text())?,
+        }
+    }
+    Ok(said)
+}
+
+// The path that a text is.
+fn path_in(read: &Parse) -> Option<Path<'_>> {
+    Path::cast(read.tree().expr()?.syntax().clone())
+}
+
+// The parts of a path, asked for once more if they were refused.
+fn written_again(alloc: Global, path: &Path<'_>) -> Result<String, AllocError> {
+    match path.parts(alloc) {
+        Ok(parts) => written(alloc, &parts),
+        Err(_refused) => written(alloc, &path.parts(alloc)?),
+    }
+}
+
+// The parts of the path that a text is, and whether it is searched for.
+fn parts_of(alloc: Global, text: &str) -> Result<Option<(String, bool)>, AllocError> {
+    let read = Root::parse(alloc, text)?;
+    let Some(path) = path_in(&read) else {
+        return Ok(None);
+    };
+    let searched = path.is_search() && !path.is_interpolatable();
+    Ok(Some((written_again(alloc, &path)?, searched)))
+}
+
+// Whether the text is a path of these parts.
+fn are_parts(alloc: Global, text: &str, parts: &str, searched: bool) -> Result<bool, AllocError> {
+    Ok(match parts_of(alloc, text)? {
+        Some(found) => found.0.as_str() == parts && found.1 == searched,
+        None => false,
+    })
+}
+
+#[test]
+fn paths_have_parts(rt: HostRuntime) -> Result<(), Fail> {
+    let rows = [
+        ("./a ${x}", "(./a)${x}", false),
+        ("./a${x}~/b", "(./a)${x}(~/b)", false),
+        ("./a/${\"hello\"}", "(./a/)${\"hello\"}", false),
+        ("/foo/bar", "(/foo/bar)", false),
+        ("~/a", "(~/a)", false),
+        ("<nixpkgs>", "(<nixpkgs>)", true),
+    ];
+    for (text, parts, searched) in rows {
+        assert!(rt; are_parts(rt.alloc(), text, parts, searched)?, "of {text}");
+    }
+    Ok(())
+}
+
+// The parts of a path, as its own type gives them; no text of another node.
+fn own_parts(alloc: Global, node: SyntaxNode<'_>) -> Result<String, AllocError> {
+    match Expr::cast(node) {
+        Some(Expr::PathAbs(path)) => written(alloc, &path.parts(alloc)?),
+        Some(Expr::PathRel(path)) => written(alloc, &path.parts(alloc)?),
+        Some(Expr::PathHome(path)) => written(alloc, &path.parts(alloc)?),
+        Some(Expr::PathSearch(path)) => match path.content() {
+            Some(content) => String::from_str(alloc, content.text()),
+            None => String::from_str(alloc, "no content"),
+        },
+        _ => Ok(String::new(alloc)),
+    }
+}
+
+// The parts of all paths in a text, one behind another.
+fn all_parts(alloc: Global, text: &str) -> Result<String, AllocError> {
+    let read = Root::parse(alloc, text)?;
+    let mut said = String::new(alloc);
+    for node in read.syntax().descendants() {
+        said.push_str(own_parts(alloc, node)?.as_str())?;
+    }
+    Ok(said)
+}
+
+#[test]
+fn each_kind_of_path_has_its_own_parts(rt: HostRuntime) -> Result<(), Fail> {
+    let said = all_parts(rt.alloc(), "[ /a${b} ./c ~/d <e> ]")?;
+    assert_eq!(rt; said.as_str(), "(/a)${b}(./c)(~/d)<e>");
+    Ok(())
+}
