@@ -12,6 +12,7 @@ pub mod PreorderLemmas
 pub mod LineLemmas
 pub mod DumpLemmas
 pub mod DebugLemmas
+pub mod TextLemmas
 pub mod PointerLemmas
 pub mod DirectionLemmas
 pub mod ChildLemmas

@@ -1,11 +1,13 @@
 -- The lines that are printed of a tree's elements.
-use Rattle.std.specs.Prelude.{ℕ, suc, zero, ◌+◌, nat_lt, List, [], ◌++◌, take, length, codes, Option, Some, if◌then◌else◌}
+use Rattle.std.specs.Prelude.{ℕ, ◌+◌, nat_lt, List, [], ◌++◌, take, length, codes, Option, Some, if◌then◌else◌}
+use Rattle.std.specs.List.{repeat}
 use Rattle.std.specs.Fmt.{◌++?◌, debug_str}
 use Rattle.rnix_kinds.specs.declared.kinds.SyntaxKind.{SyntaxKind}
 use Rattle.rnix_kinds.specs.SyntaxKind.{name_of}
 use Rattle.rnix_green.specs.Range.{Extent, place_text}
-use Rattle.rnix_green.specs.Forest.{Forest, empty, leaf, node, text_of}
-use Rattle.rnix_green.specs.Tree.{Located, item_of, extent_of, text_at, part_at}
+use Rattle.rnix_green.specs.Forest.{Forest, empty, leaf, node, text_of, element_count}
+use Rattle.rnix_green.specs.Walk.{Spot, spot_at}
+use Rattle.rnix_green.specs.Tree.{Tree, Located, item_of, extent_of, text_at, part_at}
 
 -- an element's kind and range
 abbrev pub element_text : SyntaxKind → Extent → List ℕ
@@ -21,8 +23,7 @@ token_text e = Some (element_text (item_of e).kind (extent_of e)) ++? Some (code
 
 -- two spaces for each level
 abbrev pub indent : ℕ → List ℕ
-indent zero = []
-indent (suc depth) = codes "  " ++ indent depth
+indent depth = repeat depth (codes "  ")
 
 -- the end of an element's line: its range
 abbrev pub range_end : Extent → List ℕ
@@ -47,3 +48,22 @@ lines_from depth s (node k c f) =
 -- the lines of an element and what is inside it, where the element itself is not indented
 abbrev pub lines_of : Located → List ℕ
 lines_of e = lines_from 0 (item_of e).start (part_at e)
+
+-- what `{:?}` prints of a node or a token
+abbrev pub spot_text : Spot → Option (List ℕ)
+spot_text spot = if spot.0 then Some (element_text (item_of spot.1).kind (extent_of spot.1)) else token_text spot.1
+
+-- the line of an element with its text: the indent of its depth, and what `{:?}` prints of it
+abbrev pub text_line : ℕ → Spot → Option (List ℕ)
+text_line depth spot = Some (indent depth) ++? spot_text spot ++? Some (codes "\n")
+
+-- such lines of a row of trees at a depth, numbered from n: each element's line comes before those of what is inside it, one deeper
+abbrev pub text_lines_from : Tree → ℕ → ℕ → Forest → Option (List ℕ)
+text_lines_from t depth n empty = Some []
+text_lines_from t depth n (leaf k u f) = text_line depth (spot_at t n) ++? text_lines_from t depth (n + 1) f
+text_lines_from t depth n (node k c f) =
+    text_line depth (spot_at t n) ++? text_lines_from t (depth + 1) (n + 1) c ++? text_lines_from t depth (n + 1 + element_count c) f
+
+-- such lines of an element and what is inside it, where the element itself is not indented
+abbrev pub text_lines_of : Located → Option (List ℕ)
+text_lines_of e = text_lines_from e.tree 0 e.number (part_at e)

@@ -1,8 +1,10 @@
 //! What `{:?}` and `{:#?}` print of nodes and tokens.
 
-ghost use Rattle.std.specs.Prelude.{◌≤◌, length, Some};
-ghost use Rattle.std.specs.Fmt.{DisplaysOnOk, debug_str};
-ghost use Rattle.rnix_tree.specs.Lines.{element_text, shown, token_text};
+ghost use Rattle.std.specs.Prelude.{◌≡◌, ◌≤◌, length, Some, IfSome, IfOk};
+ghost use Rattle.std.specs.Fmt.{DisplaysOnOk, DisplaysStyledOnOk, debug_str};
+ghost use Rattle.std.specs.Fmt.InlineText.{inline_text};
+ghost use Rattle.rnix_tree.specs.Lines.{element_text, shown, token_text, spot_text, text_line, text_lines_of};
+ghost use Rattle.rnix_tree.specs.Spots.{spot_of};
 ghost use Rattle.rnix_green.specs.Range.{bounds_of};
 
 use crate::element::{NodeOrToken, SyntaxElement, WalkEvent};
@@ -24,6 +26,9 @@ const MORE: &str = " ...";
 
 // How many bytes such a text has with it, at most: a character has no more than four.
 const START_LEN: usize = 28;
+
+// More bytes than are shown of an element: a byte is escaped by no more than six.
+const TEXT_LEN: usize = 256;
 
 // A kind with its range.
 fn write_place<W: fmt::Write>(
@@ -70,24 +75,36 @@ fn write_token<W: fmt::Write>(token: &SyntaxToken<'_>, f: &mut fmt::Formatter<W>
     write_text(token.text(), f)
 }
 
+// What `{:?}` prints of an element.
+fn text_of(element: &SyntaxElement<'_>) -> Result<InlineText<TEXT_LEN>, fmt::Error>
+    ensures { IfOk result (λ text. IfSome (spot_text (spot_of element.now)) (λ bs. inline_text text ≡ bs)) }
+{
+    let mut f = fmt::Formatter::new(InlineText::<TEXT_LEN>::new());
+    match element {
+        NodeOrToken::Node(node) => write_place(node.kind(), node.text_range(), &mut f)?,
+        NodeOrToken::Token(token) => write_token(token, &mut f)?,
+    }
+    Ok(f.into_inner())
+}
+
 // An element on a line of its own, behind two spaces for each level.
 fn write_line<W: fmt::Write>(
     element: &SyntaxElement<'_>,
     depth: usize,
     f: &mut fmt::Formatter<W>,
-) -> fmt::Result {
-    for _level in 0..depth {
-        f.write_str("  ")?;
-    }
-    match element {
-        NodeOrToken::Node(node) => write_place(node.kind(), node.text_range(), f)?,
-        NodeOrToken::Token(token) => write_token(token, f)?,
-    }
+) -> fmt::Result
+    ensures { DisplaysStyledOnOk W.write_str_gives f.old result (text_line depth (spot_of element.now)) f.new }
+{
+    let text = text_of(element)?;
+    f.write_repeated("  ", depth)?;
+    f.write_str(text.as_str())?;
     f.write_str("\n")
 }
 
 // The node and all that is inside it, in preorder, one line for each element.
-fn write_tree<W: fmt::Write>(node: &SyntaxNode<'_>, f: &mut fmt::Formatter<W>) -> fmt::Result {
+fn write_tree<W: fmt::Write>(node: &SyntaxNode<'_>, f: &mut fmt::Formatter<W>) -> fmt::Result
+    ensures { DisplaysStyledOnOk W.write_str_gives f.old result (text_lines_of node.now) f.new }
+{
     let mut depth: usize = 0;
     for event in node.preorder_with_tokens() {
         match event {
@@ -102,13 +119,19 @@ fn write_tree<W: fmt::Write>(node: &SyntaxNode<'_>, f: &mut fmt::Formatter<W>) -
 }
 
 impl<'t> fmt::Debug for SyntaxNode<'t> {
-    ghost use Rattle.std.specs.Prelude.{Some};
-    ghost use Rattle.rnix_tree.specs.Lines.{element_text};
+    ghost use Rattle.std.specs.Prelude.{◌≡◌, true, Some};
+    ghost use Rattle.std.specs.Fmt.{DisplaysOnOk, DisplaysStyledOnOk, spec_alternate, formatter_spec};
+    ghost use Rattle.rnix_tree.specs.Lines.{element_text, text_lines_of};
     ghost use Rattle.rnix_green.specs.Tree.{item_of, extent_of};
 
     ghost debug_output = { λ node. Some (element_text (item_of node).kind (extent_of node)) };
 
-    fn fmt<W: fmt::Write>(&self, f: &mut fmt::Formatter<W>) -> fmt::Result {
+    fn fmt<W: fmt::Write>(&self, f: &mut fmt::Formatter<W>) -> fmt::Result
+        ensures writes { DisplaysOnOk W.write_str_gives f.old result
+            (Some (element_text (item_of self.now).kind (extent_of self.now))) f.new }
+        ensures tree { spec_alternate (formatter_spec f.old) ≡ true
+            → DisplaysStyledOnOk W.write_str_gives f.old result (text_lines_of self.now) f.new }
+    {
         if f.alternate() {
             write_tree(self, f)
         } else {

@@ -1,0 +1,30 @@
+use Rattle.std.proofs.Common.{◌≡◌, Some, Ok, IfSome, subst, sym, ap, refl, ◌∙◌}
+use Rattle.std.proofs.Output.{displays_on_ok_of_eq}
+use Rattle.std.specs.Fmt.{formatter_writer}
+use Rattle.std.specs.Fmt.InlineText.{inline_text, IsIntact, AppendsIfIntact}
+use Rattle.rnix_green.specs.Range.{bounds_of}
+use Rattle.rnix_green.specs.Tree.{item_of, extent_of}
+use Rattle.rnix_tree.specs.Lines.{element_text, spot_text, token_text}
+use Rattle.rnix_tree.specs.Spots.{spot_of}
+use Rattle.rnix_tree.proofs.TextLemmas.{inline_told}
+use Rattle.rnix_tree.proofs.debug.text_of.Goals.{in-Node+in_ok-write_place-in-Node, in-Token+in_ok-write_token-in-Token}
+use Rattle.rnix_tree.proofs.debug.text_of.Goals as goal
+
+pub returns : goal.returns
+returns c =
+    let f = c.new-f.result in
+    let intact = subst IsIntact (sym c.new-f.ensures.writer) c.new.ensures.intact in
+    let none = ap inline_text c.new-f.ensures.writer ∙ c.new.ensures.text in
+    elim c.match-element.branch [
+      | in-Node+in_ok-write_place-in-Node w ↦
+          subst (λ e. IfSome (spot_text (spot_of e)) (λ bs. inline_text c.into_inner.result ≡ bs)) (sym w.in-Node.is)
+          (inline_told f w.write_place.new.f (Ok w.in_ok-write_place-in-Node.field-0) (Some (element_text (item_of w.in-Node.node).kind (extent_of w.in-Node.node))) c.into_inner.result
+          c.new-f.ensures.plain intact none refl
+          (displays_on_ok_of_eq AppendsIfIntact _ _ (Ok w.in_ok-write_place-in-Node.field-0) _ _
+          (ap Some (ap (λ k. element_text k (bounds_of w.text_range.result)) w.kind.ensures ∙ ap (element_text (item_of w.in-Node.node).kind) w.text_range.ensures))
+          w.in_ok-write_place-in-Node.ensures) (c.into_inner.ensures ∙ ap formatter_writer w.f-is))
+      | in-Token+in_ok-write_token-in-Token w ↦
+          subst (λ e. IfSome (spot_text (spot_of e)) (λ bs. inline_text c.into_inner.result ≡ bs)) (sym w.in-Token.is)
+          (inline_told f w.write_token.new.f (Ok w.in_ok-write_token-in-Token.field-0) (token_text w.in-Token.token) c.into_inner.result
+          c.new-f.ensures.plain intact none refl w.in_ok-write_token-in-Token.ensures (c.into_inner.ensures ∙ ap formatter_writer w.f-is))
+    ]
