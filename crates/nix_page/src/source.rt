@@ -1,34 +1,11 @@
-//! The source: each token in its colour, and the errors under it.
+//! The source: each token in the colour of its kind, and the errors under it.
 
 use crate::html::{write_range, write_text};
 use nix_diagnostics::{Diagnostic, diagnostics};
-use rnix::{NodeOrToken, Parse, SyntaxKind, SyntaxToken, TextRange};
+use rnix::{NodeOrToken, Parse, SyntaxToken, TextRange};
 use std::alloc::Global;
 use std::io;
 use std::io::Write;
-
-// The class of a token's colour.
-fn class(token: &SyntaxToken<'_>) -> &'static str {
-    match token.kind() {
-        SyntaxKind::TOKEN_COMMENT => "comment",
-        SyntaxKind::TOKEN_STRING_START
-        | SyntaxKind::TOKEN_STRING_CONTENT
-        | SyntaxKind::TOKEN_STRING_END
-        | SyntaxKind::TOKEN_URI => "string",
-        SyntaxKind::TOKEN_PATH_ABS
-        | SyntaxKind::TOKEN_PATH_HOME
-        | SyntaxKind::TOKEN_PATH_REL
-        | SyntaxKind::TOKEN_PATH_SEARCH => "path",
-        SyntaxKind::TOKEN_INTEGER | SyntaxKind::TOKEN_FLOAT => "number",
-        SyntaxKind::TOKEN_IDENT => "name",
-        SyntaxKind::TOKEN_ERROR => "wrong",
-        _
-            if token
-                .text()
-                .starts_with(|first: char| first.is_ascii_alphabetic()) => "keyword",
-        _ => "sign",
-    }
-}
 
 // The first error over a token.
 fn error_over<'e>(found: &'e [Diagnostic], range: TextRange) -> Option<&'e Diagnostic> {
@@ -42,7 +19,7 @@ fn write_token<W: Write>(
     out: &mut W,
 ) -> io::Result<()> {
     let range = token.text_range();
-    write!(out, "<span class=\"{}", class(token))?;
+    write!(out, "<span class=\"{}", token.kind().name())?;
     if let Some(diagnostic) = error_over(found, range) {
         out.write_all(b" error\" title=\"")?;
         write_text(diagnostic.message.as_str(), out)?;

@@ -13,14 +13,16 @@ pre { margin: 0; font: inherit; white-space: pre-wrap }
 details { padding-left: 1em }
 details > div { padding-left: 2em }
 [data-start] { cursor: pointer }
-.keyword, #errors { color: #cf222e }
-.string, .token code { color: #0a3069 }
-.number { color: #0550ae }
-.path { color: #116329 }
-.sign { color: #6639ba }
-.comment { color: #6e7781; font-style: italic }
+#source { color: #6639ba }
+.TOKEN_IDENT { color: #24292f }
+.TOKEN_INTEGER, .TOKEN_FLOAT { color: #0550ae }
+.TOKEN_PATH_ABS, .TOKEN_PATH_HOME, .TOKEN_PATH_REL, .TOKEN_PATH_SEARCH { color: #116329 }
+.TOKEN_STRING_START, .TOKEN_STRING_CONTENT, .TOKEN_STRING_END, .TOKEN_URI, .token code { color: #0a3069 }
+.TOKEN_ASSERT, .TOKEN_ELSE, .TOKEN_IF, .TOKEN_IN, .TOKEN_INHERIT, .TOKEN_LET, .TOKEN_OR, .TOKEN_REC, .TOKEN_THEN, .TOKEN_WITH,
+#errors { color: #cf222e }
+.TOKEN_COMMENT { color: #6e7781; font-style: italic }
 .trivia { color: #8c959f }
-.error, .wrong { text-decoration: underline wavy #cf222e }
+.error, .TOKEN_ERROR { text-decoration: underline wavy #cf222e }
 .marked { background: #fff1a8 }
 </style>
 <main>
@@ -31,28 +33,18 @@ pub const MIDDLE: &str = "</main>
 <nav>
 ";
 
-/// What stands behind the tree: a click on an element marks its source, and one in the source its token in the tree.
+/// What stands behind the tree: a click on an element marks all that stands in its range, in the source and in the tree.
 pub const TAIL: &str = "</nav>
 <script>
-const tokens = [...document.querySelectorAll('#source span')];
-const leaves = [...document.querySelectorAll('nav div')];
-const extent = element => [+element.dataset.start, +element.dataset.end];
-function mark(clicked) {
-  document.querySelectorAll('.marked').forEach(element => element.classList.remove('marked'));
-  const [start, end] = extent(clicked);
-  const inside = element => extent(element)[0] >= start && extent(element)[1] <= end;
-  const marked = tokens.filter(inside);
-  marked.forEach(element => element.classList.add('marked'));
-  clicked.classList.add('marked');
-  if (clicked.closest('main')) {
-    leaves.filter(inside).forEach(element => { element.classList.add('marked'); element.scrollIntoView({ block: 'nearest' }); });
-  } else if (marked.length) {
-    marked[0].scrollIntoView({ block: 'nearest' });
-  }
-}
 document.addEventListener('click', event => {
   const clicked = event.target.closest('[data-start]');
-  if (clicked) mark(clicked);
+  if (!clicked) return;
+  const { start, end } = clicked.dataset;
+  for (const element of document.querySelectorAll('[data-start]')) {
+    element.classList.toggle('marked', +element.dataset.start >= +start && +element.dataset.end <= +end);
+  }
+  const other = clicked.closest('main') ? 'nav' : '#source';
+  document.querySelector(other + ' .marked')?.scrollIntoView({ block: 'nearest' });
 });
 </script>
 </html>
