@@ -2,6 +2,7 @@ pub mod NumberTests
 pub mod PackedLemmas
 pub mod ForestLemmas
 pub mod PostorderLemmas
+pub mod PairLemmas
 pub mod EntriesLemmas
 pub mod KeptLemmas
 pub mod EqualTrees

@@ -19,6 +19,19 @@ pub(crate) struct Frame {
     first: usize,
 }
 
+impl Frame {
+    fn new(kind: SyntaxKind, size: usize, number: usize, first: usize) -> Frame
+        ensures { result ≡ record { kind = kind; size = size; number = number; first = first } }
+    {
+        Frame {
+            kind,
+            size,
+            number,
+            first,
+        }
+    }
+}
+
 // The number of the innermost node; 0 where there is none.
 fn innermost_number(frames: &[Frame]) -> usize
     ensures { result ≡ parent_or_root (parent_number (reverse frames.now)) }
@@ -46,7 +59,7 @@ fn reached(frames: &[Frame], left: usize) -> Option<Frame>
 }
 
 /// Puts each node before its children, by one pass from the last entry to the first. Entries that are left stand in front, placed
-/// elements at the end, and between them is one free place for each frame.
+/// elements at the end, and between them is one free place for each frame. A node that has one token alone needs no frame.
 pub(crate) fn in_preorder(mut elements: Vec<Packed>, text: &str) -> Result<Vec<Packed>, AllocError>
     requires entries_are { map entry_of elements.items ≡ entries_of (made text.now elements.items) }
     requires text_is { text.now ≡ text_of (made text.now elements.items) }
@@ -69,15 +82,16 @@ pub(crate) fn in_preorder(mut elements: Vec<Packed>, text: &str) -> Result<Vec<P
                 left -= 1;
                 let entry = elements[left];
                 let (kind, size) = (entry.kind(), entry.size());
-                if size > 0 {
+                if size == 2 && elements[left - 1].size() == 0 {
+                    left -= 1;
+                    let token = elements[left];
+                    offset -= token.place();
+                    let number = left + frames.len();
+                    elements[number + 1] = Packed::new(token.kind(), offset, number, 0);
+                    elements[number] = Packed::new(kind, offset, innermost_number(&frames), 2);
+                } else if size > 0 {
                     let first = left + 1 - size;
-                    let number = first + frames.len();
-                    frames.push(Frame {
-                        kind,
-                        size,
-                        number,
-                        first,
-                    })?;
+                    frames.push(Frame::new(kind, size, first + frames.len(), first))?;
                 } else {
                     offset -= entry.place();
                     let parent = innermost_number(&frames);

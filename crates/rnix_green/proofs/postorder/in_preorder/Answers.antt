@@ -1,11 +1,13 @@
 use Rattle.std.proofs.Common.{◌≡◌, length, reverse, ◌+◌, ◌-◌, suc, take, arith, refl, ap, ◌∙◌}
 use Rattle.std.proofs.lemmas.List.{length-take-le, length_push, length-reverse, length-set}
+use Rattle.std.proofs.Math.ListN.{set}
 use Rattle.rnix_green.specs.declared.postorder.Frame.{Frame}
 use Rattle.rnix_green.specs.Entries.{made}
 use Rattle.rnix_green.specs.Packed.{packed, size_in}
 use Rattle.rnix_green.specs.Kept.{parent_or_root}
 use Rattle.rnix_green.specs.Postorder.{parent_number, frame_kept, HasMore, IsReached}
 use Rattle.rnix_green.proofs.PostorderLemmas.{length-entries_before, leaf_at, node_at, node_placed, leaf_placed, node_framed, placed_all, init_work}
+use Rattle.rnix_green.proofs.PairLemmas.{token_again, pair_fits, pair_read, pair_placed}
 use Rattle.rnix_green.proofs.postorder.in_preorder.Goals as goal
 
 pub elements-init : goal.elements-init
@@ -45,6 +47,60 @@ elements-preserved-in-Some c =
           c.new.result c.in-Some.frame c.elements.invariant.few closing shorter (ap (λ n. c.elements.left + n) depth) value c.elements.invariant.work;
     }
 
+pub overflow_sub-left-then-size-eq2 : goal.overflow_sub-left-then-size-eq2
+overflow_sub-left-then-size-eq2 c =
+    let open_ : HasMore (reverse c.elements.frames.items) c.elements.left = rw c.deref.ensures.value at c.in-None.ensures in
+    pair_fits (made c.args.text.now c.args.elements.items) c.elements.elements.items c.elements.left c.elements.offset c.elements.frames.items
+    c.index.result.now c.elements.invariant.few c.if-left-eq0.false c.index.ensures (omega (arith, c.size-size.ensures, c.if-size-eq2.true)) open_
+    c.elements.invariant.work
+
+pub overflow_sub-offset : goal.overflow_sub-offset
+overflow_sub-offset c =
+    let es = c.elements.elements.items in
+    let y = c.index-then-size-eq0.result.now in
+    let open_ : HasMore (reverse c.elements.frames.items) c.elements.left = rw c.deref.ensures.value at c.in-None.ensures in
+    let two : size_in c.index.result.now ≡ 2 = omega (arith, c.size-size.ensures, c.if-size-eq2.true) in
+    let none : size_in y ≡ 0 =
+    token_again es (c.elements.left - 1 - 1) c.index-then-size-eq2.result.now y (omega (arith, c.elements.invariant.few)) c.index-then-size-eq2.ensures
+    c.index-then-size-eq0.ensures (omega (arith, c.size.ensures, c.if-size-eq0.true)) in
+    let r =
+    pair_read (made c.args.text.now c.args.elements.items) es c.elements.left c.elements.offset c.elements.frames.items c.index.result.now y
+    c.elements.invariant.few c.if-left-eq0.false c.index.ensures c.index-then-size-eq0.ensures two none open_ c.elements.invariant.work in
+    omega (arith, r.fits, c.place-offset.ensures)
+
+pub elements-preserved-then-size-eq0 : goal.elements-preserved-then-size-eq0
+elements-preserved-then-size-eq0 c =
+    let es = c.elements.elements.items in
+    let old = c.elements.frames.items in
+    let y = c.index-then-size-eq0.result.now in
+    let token = c.new-then-size-eq0.result in
+    let kept = c.new-then-size-eq0-2.result in
+    let number = c.elements.left - 1 - 1 + c.len-then-size-eq0.result in
+    let open_ : HasMore (reverse old) c.elements.left = rw c.deref.ensures.value at c.in-None.ensures in
+    let two : size_in c.index.result.now ≡ 2 = omega (arith, c.size-size.ensures, c.if-size-eq2.true) in
+    let none : size_in y ≡ 0 =
+    token_again es (c.elements.left - 1 - 1) c.index-then-size-eq2.result.now y (omega (arith, c.elements.invariant.few)) c.index-then-size-eq2.ensures
+    c.index-then-size-eq0.ensures (omega (arith, c.size.ensures, c.if-size-eq0.true)) in
+    let depth : c.len-then-size-eq0.result ≡ length old = c.len-then-size-eq0.ensures ∙ c.elements.frames.ok.0 in
+    let parent : c.innermost_number.result ≡ parent_or_root (parent_number (reverse old)) =
+    rw c.deref-then-size-eq0.ensures.value at c.innermost_number.ensures in
+    let token_is = rw (c.kind.ensures, c.place-offset.ensures) at c.new-then-size-eq0.ensures in
+    let kept_is = rw (c.kind-kind.ensures, c.place-offset.ensures, parent) at c.new-then-size-eq0-2.ensures in
+    record {
+      few =
+          omega (
+            arith,
+            c.elements.invariant.few,
+            length-set es (number + 1) token,
+            length-set (set es (number + 1) token) number kept,
+          );
+      work =
+          rw c.place-offset.ensures
+          (pair_placed (made c.args.text.now c.args.elements.items) es c.elements.left c.elements.offset number old c.index.result.now y token kept
+          c.elements.invariant.few c.if-left-eq0.false c.index.ensures c.index-then-size-eq0.ensures two none open_
+          (ap (λ n. c.elements.left - 1 - 1 + n) depth) token_is kept_is c.elements.invariant.work);
+    }
+
 pub overflow_sub-first : goal.overflow_sub-first
 overflow_sub-first c =
     let es = c.elements.elements.items in
@@ -67,27 +123,28 @@ elements-preserved-in-Continue-1 c =
     let some : size_in y ≡ suc (size_in y - 1) = omega (arith, c.size-size.ensures, c.if-size-gt0.true) in
     let first = c.elements.left - 1 + 1 - c.size-size.result in
     let frame : Frame = record { kind = c.kind-kind.result; size = c.size-size.result; number = first + c.len-then-size-gt0.result; first = first } in
+    let push_is = rw c.new-then-size-gt0.ensures at c.in_ok-push-in-None.ensures.items in
     let r =
     node_at (made c.args.text.now c.args.elements.items) es c.elements.left c.elements.offset _ _ y frame (size_in y - 1)
     (omega (arith, c.elements.invariant.few)) c.if-left-eq0.false c.index.ensures some c.kind-kind.ensures c.size-size.ensures open_ c.elements.invariant.work in
     let before = length-entries_before (c.elements.left - 1) es (omega (arith, c.elements.invariant.few)) in
     record {
-      few = omega (arith, c.elements.invariant.few, ap length c.in_ok-push-in-None.ensures.items, length_push old frame);
+      few = omega (arith, c.elements.invariant.few, ap length push_is, length_push old frame);
       work =
           node_framed (made c.args.text.now c.args.elements.items) es c.elements.left c.elements.offset old _ frame c.if-left-eq0.false
-          c.in_ok-push-in-None.ensures.items
+          push_is
           (r.work (omega (arith, before, c.size-size.ensures)) (omega (arith, depth, length-reverse old)));
     }
 
-pub overflow_sub-offset : goal.overflow_sub-offset
-overflow_sub-offset c =
+pub overflow_sub-offset-else-size-gt0 : goal.overflow_sub-offset-else-size-gt0
+overflow_sub-offset-else-size-gt0 c =
     let y = c.index.result.now in
     let open_ : HasMore (reverse c.elements.frames.items) c.elements.left = rw c.deref.ensures.value at c.in-None.ensures in
     let none : size_in y ≡ 0 = omega (arith, c.size-size.ensures, c.if-size-gt0.false) in
     let r =
     leaf_at (made c.args.text.now c.args.elements.items) c.elements.elements.items c.elements.left c.elements.offset _ _ y
     (omega (arith, c.elements.invariant.few)) c.if-left-eq0.false c.index.ensures none open_ c.elements.invariant.work in
-    omega (arith, r.fits, c.place-offset.ensures)
+    omega (arith, r.fits, c.place-offset-else-size-gt0.ensures)
 
 pub elements-preserved : goal.elements-preserved
 elements-preserved c =
@@ -102,12 +159,12 @@ elements-preserved c =
     let depth : c.len-else-size-gt0.result ≡ length old = c.len-else-size-gt0.ensures ∙ c.elements.frames.ok.0 in
     let parent : c.innermost_number-parent-else-size-gt0.result ≡ parent_or_root (parent_number (reverse old)) =
     rw c.deref-else-size-gt0.ensures.value at c.innermost_number-parent-else-size-gt0.ensures in
-    let value = rw (c.kind-kind.ensures, c.place-offset.ensures, parent) at c.new-else-size-gt0.ensures in
+    let value = rw (c.kind-kind.ensures, c.place-offset-else-size-gt0.ensures, parent) at c.new-else-size-gt0.ensures in
     record {
       few =
           omega (arith, c.elements.invariant.few, length-set es (c.elements.left - 1 + c.len-else-size-gt0.result) c.new-else-size-gt0.result);
       work =
-          rw c.place-offset.ensures
+          rw c.place-offset-else-size-gt0.ensures
           (leaf_placed (made c.args.text.now c.args.elements.items) es c.elements.left c.elements.offset
           (c.elements.left - 1 + c.len-else-size-gt0.result) old y.kind _ c.new-else-size-gt0.result c.elements.invariant.few c.if-left-eq0.false
           (ap (λ n. c.elements.left - 1 + n) depth) value r);
