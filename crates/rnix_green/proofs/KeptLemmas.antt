@@ -1,5 +1,5 @@
 -- The elements and the text of a tree give the tree back.
-use Rattle.std.proofs.Common.{◌≡◌, ℕ, zero, suc, ◌+◌, ◌-◌, ◌<◌, List, [], ◌∷◌, ◌++◌, length, take, drop, Option, Some, None, true, map, refl, ap, sym, ◌∙◌, arith, length-append, append_assoc}
+use Rattle.std.proofs.Common.{◌≡◌, ℕ, zero, suc, ◌+◌, ◌-◌, ◌<◌, List, [], ◌∷◌, ◌++◌, length, take, drop, Option, Some, None, true, map, refl, ap, sym, subst, ◌∙◌, arith, length-append, append_assoc}
 use Rattle.std.proofs.lemmas.List.{take_at, drop_at, append-nil, drop-drop, map-append, length-map}
 use Rattle.rnix_green.specs.declared.packed.Packed.{Packed}
 use Rattle.rnix_green.specs.Forest.{Forest, empty, leaf, node, join, element_count, tree_count, text_of}
@@ -10,7 +10,7 @@ use Rattle.rnix_green.specs.declared.builder.OpenNode.{OpenNode as Pending}
 use Rattle.rnix_green.specs.Draft.{is_one_node, is_complete_of}
 use Rattle.std.specs.Prelude.{slice_get}
 use Rattle.rnix_green.specs.Postorder.{Entry, Node, entries_of}
-use Rattle.rnix_green.specs.Entries.{IsBuilt, open_pairs, is_node_last, is_node_entry}
+use Rattle.rnix_green.specs.Entries.{IsBuilt, IsBuilder, made, open_pairs, is_node_last, is_node_entry}
 use Rattle.rnix_green.specs.ForestCode.{join_empty}
 use Rattle.rnix_green.proofs.EntriesLemmas.{first_elements-join, elements_after-join}
 use Rattle.rnix_green.proofs.PackedLemmas.{packed_again}
@@ -112,6 +112,13 @@ finished_kept (node k c empty) text es os st elements h o e =
     }
 finished_kept (node k c (leaf j t f)) text es os st elements h o e = absurd (cc)
 finished_kept (node k c (node j d f)) text es os st elements h o e = absurd (cc)
+
+-- and so beside a copy of the text
+pub copied_kept : (text cut copy : List ℕ) (entries : List Packed) (os : List Pending) (st : List ℕ) (elements : List Packed) → IsBuilder text entries os st →
+    is_one_node (made text entries) ≡ true → cut ≡ text → copy ≡ cut → elements ≡ kept_from 0 0 None (made cut entries) → IsKept (as_tree (made text entries)) elements copy
+copied_kept text cut copy entries os st elements h o c p e =
+    subst (IsKept (as_tree (made text entries)) elements) (sym (p ∙ c))
+    (finished_kept _ text _ os st elements h o (e ∙ ap (λ t. kept_from 0 0 None (made t entries)) c))
 
 -- what is kept of a row of one node stands for it
 pub finished_is : (f : Forest) (text : List ℕ) (elements : List Packed) (t : Tree) → is_one_node f ≡ true → IsKept (as_tree f) elements text →

@@ -4,6 +4,7 @@ pub mod ForestLemmas
 pub mod PostorderLemmas
 pub mod PairLemmas
 pub mod EntriesLemmas
+pub mod TextLemmas
 pub mod KeptLemmas
 pub mod EqualTrees
 pub mod PieceLemmas

@@ -1,5 +1,5 @@
 -- What a builder holds: the finished trees, and the open nodes, the innermost first, each with its kind and the place of its first child.
-use Rattle.std.specs.Prelude.{◌≡◌, ℕ, List, [], ◌∷◌, Bool, true, false, nat_le, ◌&&◌, refl}
+use Rattle.std.specs.Prelude.{◌≡◌, ℕ, List, [], ◌∷◌, length, take, drop, Bool, true, false, nat_le, ◌&&◌, refl}
 use Rattle.std.proofs.Common.{ap, ◌∙◌}
 use Rattle.std.specs.Coded.{Coded, code_by, coded×, coded_ℕ, coded_list}
 use Rattle.rnix_kinds.specs.declared.kinds.SyntaxKind.{SyntaxKind}
@@ -22,9 +22,35 @@ draft_code =
     code_by (Forest × List OpenNode) (coded× forest_code (coded_list (coded× the_row.coded coded_ℕ)))
     (λ d. (d.finished, d.open_nodes)) (λ p. record { finished = p.0; open_nodes = p.1 }) (λ _. refl)
 
+-- a draft of a text that is there, and the part of the text that has no leaves yet
+pub record TextDraft : Type 0 where
+  pub draft : Draft
+  pub left : List ℕ
+
+-- such a draft as lists and numbers
+abbrev pub text_draft_code : Coded TextDraft
+text_draft_code =
+    code_by (Draft × List ℕ) (coded× draft_code (coded_list coded_ℕ)) (λ d. (d.draft, d.left)) (λ p. record { draft = p.0; left = p.1 }) (λ _. refl)
+
 -- no trees, no open node
 abbrev pub blank : Draft
 blank = record { finished = empty; open_nodes = [] }
+
+-- no trees, no open node, and a whole text
+abbrev pub blank_of : List ℕ → TextDraft
+blank_of t = record { draft = blank; left = t }
+
+-- a draft with as much of the text left
+abbrev pub with_draft : Draft → TextDraft → TextDraft
+with_draft d t = record { draft = d; left = t.left }
+
+-- a draft with a part less of the text
+abbrev pub taken : Draft → List ℕ → TextDraft → TextDraft
+taken d part t = record { draft = d; left = drop (length part) t.left }
+
+-- the text that is left begins with a part
+abbrev pub IsNext : List ℕ → TextDraft → Type 0
+IsNext part t = take (length part) t.left ≡ part
 
 -- one more leaf behind the trees
 abbrev pub with_leaf : SyntaxKind → List ℕ → Forest → Forest

@@ -1,5 +1,6 @@
 -- What a builder keeps: one list of what was added and closed, in that order, beside the text.
 use Rattle.std.specs.Prelude.{◌≡◌, Bool, true, false, Option, Some, slice_get, ℕ, ◌+◌, ◌-◌, ◌≤◌, ◌<◌, List, [], ◌∷◌, length, take, drop, map, reverse}
+use Rattle.std.specs.Str.{IsUtf8}
 use Rattle.rnix_kinds.specs.declared.kinds.SyntaxKind.{SyntaxKind}
 use Rattle.rnix_green.specs.declared.builder.OpenNode.{OpenNode as Pending}
 use Rattle.rnix_green.specs.Forest.{Forest, empty, leaf, node, join, tree_count, element_count, text_of, HasText}
@@ -66,3 +67,10 @@ is_node_last es = is_node_entry (slice_get es (length es - 1))
 -- the text, the elements and the open nodes are those of one builder
 abbrev pub IsBuilder : List ℕ → List Packed → List Pending → List ℕ → Type 0
 IsBuilder text es pending starts = IsBuilt (made text es) text (map entry_of es) pending starts
+
+-- the elements and the open nodes are those of one builder of the first bytes of a text, which is shorter than the limit
+pub record IsTextBuilder (text : List ℕ) (taken : ℕ) (es : List Packed) (pending : List Pending) (starts : List ℕ) : Type 0 where
+  pub characters : IsUtf8 text
+  pub within : taken ≤ length text
+  pub short : length text < limit
+  pub built : IsBuilder (take taken text) es pending starts

@@ -16,15 +16,15 @@ use std::marker::Model;
 
 // An open node, and how many finished trees stand before its first child.
 #[derive(Clone, Copy)]
-struct OpenNode {
-    kind: SyntaxKind,
-    place: usize,
+pub(crate) struct OpenNode {
+    pub(crate) kind: SyntaxKind,
+    pub(crate) place: usize,
 }
 
 /// How many trees were finished at some moment: a place at which a node can be opened later.
 #[derive(Clone, Copy, Debug)]
 pub struct Checkpoint {
-    place: usize,
+    pub(crate) place: usize,
 }
 
 impl Model for Checkpoint {
@@ -73,8 +73,8 @@ fn ends_with_node(entries: &[Packed]) -> bool
     }
 }
 
-// The entry at which the tree of that place begins, or the end where there is none.
-fn start_at(starts: &[usize], place: usize, end: usize) -> usize
+/// The entry at which the tree of that place begins, or the end where there is none.
+pub(crate) fn start_at(starts: &[usize], place: usize, end: usize) -> usize
     ensures { result ≡ slice_index_or starts.now place end }
 {
     starts.get(place).copied().unwrap_or(end)

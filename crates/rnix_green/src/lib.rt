@@ -6,7 +6,9 @@ mod green;
 mod packed;
 mod postorder;
 mod range;
+mod text_builder;
 
 pub use builder::{Checkpoint, GreenNodeBuilder};
 pub use green::{Element, GreenNode};
 pub use range::{TextRange, TextSize};
+pub use text_builder::TextBuilder;

@@ -1,5 +1,5 @@
 -- Each text has one reading.
-use Rattle.std.proofs.Common.{◌≡◌, ℕ, ◌+◌, true, List, [], ◌∷◌, ◌++◌, length, refl, ap, sym, ◌∙◌, subst, append_assoc}
+use Rattle.std.proofs.Common.{◌≡◌, ℕ, true, List, [], ◌∷◌, ◌++◌, refl, ap, sym, ◌∙◌, subst, append_assoc}
 use Rattle.std.specs.Prelude.{flat_map}
 use Rattle.rnix_kinds.specs.declared.kinds.SyntaxKind.TheVariants.{NODE_ROOT}
 use Rattle.rnix_kinds.specs.Lexical.Tokens.{Lexeme, text_of as lexeme_text, AreSound, tokens_of}
@@ -20,7 +20,9 @@ use Rattle.rnix_lemmas.proofs.WithoutTriviaLemmas.{runs_without_trivia, ate_with
 use Rattle.rnix_rows.proofs.WithTriviaWhole.{with_trivia_whole_tokens, with_trivia_same, read_with_trivia}
 use Rattle.rnix_existence.proofs.WholeReads.{whole_reads}
 use Rattle.rnix_uniqueness.proofs.AllReads.{one_row}
+use Rattle.rnix_reader.specs.Placed.{texts_in}
 use Rattle.rnix_reader.proofs.EachText.{each_read}
+use Rattle.rnix_reader.proofs.TextLemmas.{placed_text}
 use Rattle.rnix_parser.proofs.ParsedLemmas.{all_follows}
 
 -- the items of a reading are those of the tokens
@@ -37,10 +39,6 @@ one_reading ls t u ds es r s =
     u_is : u ≡ record { kind = NODE_ROOT; children = forget s.annotated }
     u_is = s.tree_is
 
--- the texts of some tokens, joined
-abbrev pub texts_in : List Token → List ℕ
-texts_in ts = flat_map (λ (t : Token). t.text) ts
-
 texts-++ : (ts us : List Token) → texts_in (ts ++ us) ≡ texts_in ts ++ texts_in us
 texts-++ [] us = refl
 texts-++ (t ∷ ts) us = ap (λ z. t.text ++ z) (texts-++ ts us) ∙ sym (append_assoc t.text (texts_in ts) (texts_in us))
@@ -51,10 +49,6 @@ annotated_text blank = refl
 annotated_text (token k t f) = ap (λ z. t.text ++ z) (annotated_text f)
 annotated_text (branch k c f) = ap (λ z. z ++ text_of (forget f)) (annotated_text c) ∙ ap (λ z. texts_in (tokens_in c) ++ z) (annotated_text f) ∙ sym (texts-++ (tokens_in c) (tokens_in f))
 annotated_text (fault n c f) = ap (λ z. z ++ text_of (forget f)) (annotated_text c) ∙ ap (λ z. texts_in (tokens_in c) ++ z) (annotated_text f) ∙ sym (texts-++ (tokens_in c) (tokens_in f))
-
-placed_text : (n : ℕ) (ls : List Lexeme) → texts_in (placed_from n ls) ≡ flat_map lexeme_text ls
-placed_text n [] = refl
-placed_text n (l ∷ ls) = ap (λ z. l.1 ++ z) (placed_text (n + length l.1) ls)
 
 -- the text of a reading is that of its tokens
 pub reading_text : (ls : List Lexeme) (tree : Tree) (faults : List Fault) → IsReading ls tree faults → text_of tree.children ≡ flat_map lexeme_text ls

@@ -1,5 +1,6 @@
 pub mod CursorLemmas
 pub mod StateLemmas
+pub mod TextLemmas
 pub mod RunLemmas
 pub mod FlatLemmas
 pub mod NameLemmas

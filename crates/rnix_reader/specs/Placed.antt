@@ -1,5 +1,5 @@
 -- The tokens of a text as the reader keeps them.
-use Rattle.std.specs.Prelude.{◌≡◌, ◌≤◌, ◌+◌, ◌-◌, ℕ, zero, suc, List, [], ◌∷◌, length, take, drop, true, refl}
+use Rattle.std.specs.Prelude.{◌≡◌, ◌≤◌, ◌+◌, ◌-◌, ℕ, zero, suc, List, [], ◌∷◌, length, take, drop, flat_map, true, refl}
 use Rattle.std.specs.Coded.{Coded, code_by, coded×, coded_ℕ, coded_list}
 use Rattle.std.specs.Str.{IsCharBoundary}
 use Rattle.rnix_kinds.specs.declared.kinds.SyntaxKind.{SyntaxKind}
@@ -21,6 +21,10 @@ tokens_code =
     coded_list
     (code_by (SyntaxKind × (List ℕ × (ℕ × ℕ))) (coded× the_row.coded (coded× (coded_list coded_ℕ) (coded× coded_ℕ coded_ℕ)))
     (λ t. (t.kind, (t.text, (t.start, t.end)))) (λ p. record { kind = p.0; text = p.1.0; start = p.1.1.0; end = p.1.1.1 }) (λ _. refl))
+
+-- the texts of some tokens, joined
+abbrev pub texts_in : List Token → List ℕ
+texts_in ts = flat_map (λ (t : Token). t.text) ts
 
 -- the kinds and the ends of tokens, the first of which begins at a place
 abbrev pub ends_from : ℕ → List Lexeme → List TokenEnd

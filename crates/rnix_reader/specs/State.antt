@@ -24,8 +24,8 @@ pub record State : Type 0 where
 abbrev pub state : Parser → State
 state p = record {
   rest = p.cursor;
-  trees = p.builder.finished;
-  open_nodes = p.builder.open_nodes;
+  trees = p.builder.draft.finished;
+  open_nodes = p.builder.draft.open_nodes;
   faults = map fault_of p.errors.items;
   reached = p.reached;
   marks = p.marks.items;

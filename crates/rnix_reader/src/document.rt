@@ -9,7 +9,7 @@ use crate::names::Names;
 use crate::parser::Parser;
 use crate::reading::read_all;
 use rnix_grammar::{ParseError, Place};
-use rnix_green::{GreenNode, GreenNodeBuilder};
+use rnix_green::{GreenNode, TextBuilder};
 use rnix_kinds::{SyntaxKind, Tokenizer};
 use std::alloc::{AllocError, Global};
 
@@ -24,10 +24,10 @@ pub fn read_tokens(
 ) -> Result<(GreenNode, Vec<ParseError>), AllocError>
     ensures { IfOk result (λ read. IsRead tokens.entry read.0 (map fault_of read.1.items)) }
 {
-    let bytes = tokens.rest().len();
+    let text = tokens.rest();
     let cursor = Cursor::new(alloc, tokens)?;
-    let mut builder = GreenNodeBuilder::new(alloc);
-    builder.reserve(cursor.len().saturating_mul(ELEMENTS_PER_TOKEN), bytes)?;
+    let mut builder = TextBuilder::new(alloc, text)?;
+    builder.reserve(cursor.len().saturating_mul(ELEMENTS_PER_TOKEN))?;
     let mut p = Parser {
         cursor,
         builder,

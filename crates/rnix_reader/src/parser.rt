@@ -1,19 +1,13 @@
 //! The reader's state: each step moves a cursor over the tokens and builds the tree.
 
-ghost use Rattle.std.specs.Prelude.{◌≡◌, ◌<◌, length, IfOk, OnOk, IsTrue, option_map};
-ghost use Rattle.rnix_green.specs.Forest.{tree_count};
-ghost use Rattle.rnix_green.specs.Draft.{is_checkpoint_of};
-ghost use Rattle.rnix_grammar.specs.Fault.{fault_of};
-ghost use Rattle.rnix_grammar.specs.AnnotatedForest.{head_of, head_kind, touches};
-ghost use Rattle.rnix_reader.specs.Placed.{token_of, AreInOrder};
-ghost use Rattle.rnix_reader.specs.State.{State, state, items_left, eaten, bumped, started, started_at, ended, failed, marked};
-ghost use Rattle.rnix_reader.specs.Flat.{mark_at};
+ghost use Rattle.std.specs.Prelude.{◌≡◌};
+ghost use Rattle.rnix_reader.specs.Placed.{texts_in};
 
 use crate::cursor::{Cursor, PlacedToken};
 use crate::leaf_kind::leaf_kind_as;
 use crate::mark::Mark;
 use rnix_grammar::{ParseError, Place};
-use rnix_green::{Checkpoint, GreenNodeBuilder};
+use rnix_green::{Checkpoint, TextBuilder};
 use rnix_kinds::SyntaxKind;
 use std::alloc::AllocError;
 
@@ -21,14 +15,24 @@ use std::alloc::AllocError;
 #[derive(Drop)]
 pub(crate) struct Parser<'t> {
     pub(crate) cursor: Cursor<'t>,
-    pub(crate) builder: GreenNodeBuilder,
+    pub(crate) builder: TextBuilder<'t>,
     pub(crate) errors: Vec<ParseError>,
     /// Where the last item ended, in bytes.
     pub(crate) reached: usize,
     pub(crate) marks: Vec<Mark>,
+    ghost left: { builder.left ≡ texts_in cursor },
 }
 
 impl<'t> Parser<'t> {
+    ghost use Rattle.std.specs.Prelude.{◌<◌, length, IfOk, OnOk, IsTrue, option_map};
+    ghost use Rattle.rnix_green.specs.Forest.{tree_count};
+    ghost use Rattle.rnix_green.specs.Draft.{is_checkpoint_of};
+    ghost use Rattle.rnix_grammar.specs.Fault.{fault_of};
+    ghost use Rattle.rnix_grammar.specs.AnnotatedForest.{head_of, head_kind, touches};
+    ghost use Rattle.rnix_reader.specs.Placed.{token_of, AreInOrder};
+    ghost use Rattle.rnix_reader.specs.State.{State, state, items_left, eaten, bumped, started, started_at, ended, failed, marked};
+    ghost use Rattle.rnix_reader.specs.Flat.{mark_at};
+
     /// The next token that is not trivia.
     #[inline(always)]
     pub(crate) fn item(&self) -> Option<PlacedToken<'t>>
@@ -58,7 +62,7 @@ impl<'t> Parser<'t> {
     #[inline(always)]
     pub(crate) fn eat_trivia(&mut self) -> Result<(), AllocError>
         ensures state { OnOk result (state self.new ≡ eaten (state self.old)) }
-        ensures nodes { OnOk result (self.new.builder.open_nodes ≡ self.old.builder.open_nodes) }
+        ensures nodes { OnOk result (self.new.builder.draft.open_nodes ≡ self.old.builder.draft.open_nodes) }
     {
         while let Some(token) = self.cursor.trivia() {
             self.builder.token(token.kind, token.text)?;
@@ -73,7 +77,7 @@ impl<'t> Parser<'t> {
     pub(crate) fn start_node(&mut self, kind: SyntaxKind) -> Result<Checkpoint, AllocError>
         ensures state { OnOk result (state self.new ≡ started kind (state self.old)) }
         ensures place { IfOk result (λ place. place ≡ tree_count (eaten (state self.old)).trees) }
-        ensures open { OnOk result (0 < length self.new.builder.open_nodes) }
+        ensures open { OnOk result (0 < length self.new.builder.draft.open_nodes) }
     {
         self.eat_trivia()?;
         let place = self.builder.checkpoint();
@@ -89,9 +93,9 @@ impl<'t> Parser<'t> {
         place: Checkpoint,
         kind: SyntaxKind,
     ) -> Result<(), AllocError>
-        requires { IsTrue (is_checkpoint_of self.old.builder place) }
+        requires { IsTrue (is_checkpoint_of self.old.builder.draft place) }
         ensures state { OnOk result (state self.new ≡ started_at place kind (state self.old)) }
-        ensures open { OnOk result (0 < length self.new.builder.open_nodes) }
+        ensures open { OnOk result (0 < length self.new.builder.draft.open_nodes) }
     {
         self.builder.start_node_at(place, kind)
     }
@@ -100,7 +104,7 @@ impl<'t> Parser<'t> {
     #[tactic(auto, unfolding(crate::specs::State::ended))]
     #[inline(always)]
     pub(crate) fn finish_node(&mut self) -> Result<(), AllocError>
-        requires { 0 < length self.old.builder.open_nodes }
+        requires { 0 < length self.old.builder.draft.open_nodes }
         ensures { OnOk result (state self.new ≡ ended (state self.old)) }
     {
         self.builder.finish_node()
@@ -135,7 +139,7 @@ impl<'t> Parser<'t> {
     #[inline(always)]
     pub(crate) fn bump(&mut self, parent: SyntaxKind) -> Result<(), AllocError>
         ensures state { OnOk result (state self.new ≡ bumped parent (state self.old)) }
-        ensures nodes { OnOk result (self.new.builder.open_nodes ≡ self.old.builder.open_nodes) }
+        ensures nodes { OnOk result (self.new.builder.draft.open_nodes ≡ self.old.builder.draft.open_nodes) }
     {
         self.eat_trivia()?;
         if let Some(token) = self.cursor.token() {

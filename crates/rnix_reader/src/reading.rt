@@ -127,7 +127,7 @@ fn read<'t>(
 
 // Completes an entry of a pattern.
 fn close_entry<'t>(p: &mut Parser<'t>, names: &mut Names<'t>) -> Result<(), AllocError>
-    requires { 0 < length p.old.builder.open_nodes }
+    requires { 0 < length p.old.builder.draft.open_nodes }
     ensures { OnOk result (EntryTold (state p.old) names.old (state p.new) names.new) }
 {
     p.finish_node()?;
@@ -139,7 +139,7 @@ fn close_entry<'t>(p: &mut Parser<'t>, names: &mut Names<'t>) -> Result<(), Allo
 
 // Completes the second name of a pattern.
 fn close_twice(p: &mut Parser<'_>, start: usize) -> Result<(), AllocError>
-    requires open { 0 < length p.old.builder.open_nodes }
+    requires open { 0 < length p.old.builder.draft.open_nodes }
     requires order { start ≤ (state p.old).reached }
     ensures { OnOk result (state p.new ≡ second_reported start (state p.old)) }
 {

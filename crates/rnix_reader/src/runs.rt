@@ -22,7 +22,7 @@ impl<'t> Parser<'t> {
     #[inline(always)]
     pub(crate) fn leaf_node(&mut self, kind: SyntaxKind) -> Result<(), AllocError>
         ensures state { OnOk result (state self.new ≡ leafed kind (state self.old)) }
-        ensures nodes { OnOk result (self.new.builder.open_nodes ≡ self.old.builder.open_nodes) }
+        ensures nodes { OnOk result (self.new.builder.draft.open_nodes ≡ self.old.builder.draft.open_nodes) }
     {
         self.eat_trivia()?;
         if let Some(token) = self.cursor.token() {
@@ -40,7 +40,7 @@ impl<'t> Parser<'t> {
     // Reads items up to one that stops the run.
     fn skip(&mut self, until: Until) -> Result<(), AllocError>
         ensures state { OnOk result (state self.new ≡ skipped (next_run until (state self.old)) (state self.old)) }
-        ensures nodes { OnOk result (self.new.builder.open_nodes ≡ self.old.builder.open_nodes) }
+        ensures nodes { OnOk result (self.new.builder.draft.open_nodes ≡ self.old.builder.draft.open_nodes) }
     {
         while let Some(item) = self.item() {
             if stops(until, Some(item.kind)) {

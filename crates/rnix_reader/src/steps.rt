@@ -34,7 +34,7 @@ impl<'t> Parser<'t> {
         depth: usize,
     ) -> Result<(), AllocError>
         ensures state { OnOk result (state self.new ≡ noded kind inside depth (state self.old)) }
-        ensures open { OnOk result (0 < length self.new.builder.open_nodes) }
+        ensures open { OnOk result (0 < length self.new.builder.draft.open_nodes) }
     {
         let at = self.start_node(kind)?;
         self.mark(inside, depth, at)?;
@@ -151,7 +151,7 @@ impl<'t> Parser<'t> {
         kind: SyntaxKind,
         inside: Place,
     ) -> Result<(), AllocError>
-        requires { IsTrue (is_checkpoint_of self.old.builder mark.at) }
+        requires { IsTrue (is_checkpoint_of self.old.builder.draft mark.at) }
         ensures state { OnOk result (state self.new ≡ node_wrapped kind inside over mark (state self.old)) }
     {
         let depth = mark.depth;
@@ -164,7 +164,7 @@ impl<'t> Parser<'t> {
 
     /// Applies the operand before it to the name `or`.
     pub(crate) fn apply_or(&mut self, mark: Mark, over: Place) -> Result<(), AllocError>
-        requires { IsTrue (is_checkpoint_of self.old.builder mark.at) }
+        requires { IsTrue (is_checkpoint_of self.old.builder.draft mark.at) }
         ensures { OnOk result (state self.new ≡ or_applied over mark (state self.old)) }
     {
         let at = mark.at;

@@ -1,0 +1,184 @@
+//! Building the tree of a text that is there, from left to right: its leaves take the text.
+
+ghost use Rattle.std.specs.Prelude.{◌≡◌, ◌<◌, length, IsTrue, IfOk, OnOk, OnErr};
+ghost use Rattle.rnix_green.specs.Forest.{tree_count};
+ghost use Rattle.rnix_green.specs.Draft.{blank_of, with_draft, taken, leaf_added, leaf_node_added, node_opened, node_closed, is_checkpoint_of, is_complete_of, IsNext};
+ghost use Rattle.rnix_green.specs.Tree.{forest_of};
+
+use crate::builder::{Checkpoint, OpenNode, start_at};
+use crate::green::GreenNode;
+use crate::packed::{Packed, room};
+use crate::postorder::in_preorder;
+use rnix_kinds::SyntaxKind;
+use std::alloc::{AllocError, Global};
+use std::marker::Model;
+
+/// Builds the tree of a text, which is copied once, at the end. A call that is refused memory leaves the builder as it was. A text of
+/// 2^32 bytes or as many elements are refused so.
+#[derive(Drop)]
+pub struct TextBuilder<'t> {
+    text: &'t str,
+    // How many bytes of the text have leaves.
+    taken: usize,
+    // The elements of the finished trees: each node stands behind its children.
+    entries: Vec<Packed>,
+    pending: Vec<OpenNode>,
+    // The entry at which each finished tree begins.
+    starts: Vec<usize>,
+}
+
+impl<'t> Model for TextBuilder<'t> {
+    ghost use Rattle.std.specs.Prelude.{take, drop};
+    ghost use Rattle.rnix_green.specs.Draft.{TextDraft, text_draft_code};
+
+    ghost Value = { TextDraft };
+
+    ghost coded = { text_draft_code };
+
+    ghost use Rattle.rnix_green.specs.Entries.{made, IsTextBuilder, open_pairs};
+
+    ghost view = { λ b. record { draft = record { finished = made (take b.taken b.text.now) b.entries.items; open_nodes = open_pairs b.pending.items }; left = drop b.taken b.text.now } };
+
+    ghost invariant = { λ b. IsTextBuilder b.text.now b.taken b.entries.items b.pending.items b.starts.items };
+}
+
+impl<'t> TextBuilder<'t> {
+    /// A builder of no trees.
+    pub fn new(alloc: Global, text: &'t str) -> Result<Self, AllocError>
+        ensures { IfOk result (λ builder. builder ≡ blank_of text.now) }
+    {
+        room(text.len(), 0)?;
+        Ok(TextBuilder {
+            text,
+            taken: 0,
+            entries: Vec::new(alloc),
+            pending: Vec::new(alloc),
+            starts: Vec::new(alloc),
+        })
+    }
+
+    /// Makes room for so many more elements.
+    pub fn reserve(&mut self, elements: usize) -> Result<(), AllocError>
+        ensures { self.new ≡ self.old }
+    {
+        self.entries.reserve_exact(elements)
+    }
+
+    /// Opens a node behind the finished trees.
+    #[inline(always)]
+    pub fn start_node(&mut self, kind: SyntaxKind) -> Result<(), AllocError>
+        ensures ok { OnOk result (self.new ≡ with_draft (node_opened kind (tree_count self.old.draft.finished) self.old.draft) self.old) }
+        ensures err { OnErr result (self.new ≡ self.old) }
+    {
+        let place = self.starts.len();
+        self.pending.push(OpenNode { kind, place })?;
+        Ok(())
+    }
+
+    /// Adds a leaf, whose text is the next part of the text.
+    #[inline(always)]
+    pub fn token(&mut self, kind: SyntaxKind, part: &str) -> Result<(), AllocError>
+        requires { IsNext part.now self.old }
+        ensures ok { OnOk result (self.new ≡ taken (leaf_added kind part.now self.old.draft) part.now self.old) }
+        ensures err { OnErr result (self.new ≡ self.old) }
+    {
+        room(self.entries.len(), 1)?;
+        self.entries.reserve(1)?;
+        self.starts.reserve(1)?;
+        let start = self.entries.len();
+        self.entries
+            .push_reserved(Packed::new(kind, part.len(), 0, 0));
+        self.starts.push_reserved(start);
+        self.taken += part.len();
+        Ok(())
+    }
+
+    /// The place behind the finished trees.
+    pub fn checkpoint(&self) -> Checkpoint
+        ensures place { result ≡ tree_count self.now.draft.finished }
+        ensures inside { IsTrue (is_checkpoint_of self.now.draft result) }
+    {
+        Checkpoint {
+            place: self.starts.len(),
+        }
+    }
+
+    /// Opens a node whose first child is the first tree after the checkpoint.
+    pub fn start_node_at(
+        &mut self,
+        checkpoint: Checkpoint,
+        kind: SyntaxKind,
+    ) -> Result<(), AllocError>
+        requires { IsTrue (is_checkpoint_of self.old.draft checkpoint) }
+        ensures ok { OnOk result (self.new ≡ with_draft (node_opened kind checkpoint self.old.draft) self.old) }
+        ensures err { OnErr result (self.new ≡ self.old) }
+    {
+        let place = checkpoint.place;
+        self.pending.push(OpenNode { kind, place })?;
+        Ok(())
+    }
+
+    /// Closes the innermost open node over all trees from its place on.
+    #[inline(always)]
+    pub fn finish_node(&mut self) -> Result<(), AllocError>
+        requires { 0 < length self.old.draft.open_nodes }
+        ensures ok { OnOk result (self.new ≡ with_draft (node_closed self.old.draft) self.old) }
+        ensures err { OnErr result (self.new ≡ self.old) }
+    {
+        let OpenNode { kind, place } = self.pending[self.pending.len() - 1];
+        let end = self.entries.len();
+        let first = start_at(&self.starts, place, end);
+        room(end, 1)?;
+        self.starts.reserve(1)?;
+        self.entries.push(Packed::new(kind, 0, 0, end - first + 1))?;
+        self.pending.truncate(self.pending.len() - 1);
+        self.starts.truncate(place);
+        self.starts.push_reserved(first);
+        Ok(())
+    }
+
+    /// Adds a node over one leaf, as `start_node`, `token` and `finish_node` do.
+    #[inline(always)]
+    pub fn leaf_node(
+        &mut self,
+        node: SyntaxKind,
+        kind: SyntaxKind,
+        part: &str,
+    ) -> Result<(), AllocError>
+        requires { IsNext part.now self.old }
+        ensures ok { OnOk result (self.new ≡ taken (leaf_node_added node kind part.now self.old.draft) part.now self.old) }
+        ensures err { OnErr result (self.new ≡ self.old) }
+    {
+        let start = self.entries.len();
+        room(start, 2)?;
+        self.entries.reserve(2)?;
+        self.starts.reserve(1)?;
+        self.entries
+            .push_reserved(Packed::new(kind, part.len(), 0, 0));
+        self.entries.push_reserved(Packed::new(node, 0, 0, 2));
+        self.starts.push_reserved(start);
+        self.taken += part.len();
+        Ok(())
+    }
+
+    /// The finished tree, of the text that its leaves took. Where memory is refused there is neither tree nor builder.
+    pub fn finish(self) -> Result<GreenNode, AllocError>
+        requires { IsTrue (is_complete_of self.draft) }
+        ensures { IfOk result (λ tree. forest_of tree ≡ self.entry.draft.finished) }
+    {
+        let TextBuilder {
+            text,
+            taken,
+            entries,
+            pending,
+            starts,
+        } = self;
+        drop(pending);
+        drop(starts);
+        let alloc = *entries.allocator();
+        let text = &text[..taken];
+        let elements = in_preorder(entries, text)?;
+        let copy = String::from_str(alloc, text)?;
+        Ok(GreenNode::from_parts(elements, copy))
+    }
+}
