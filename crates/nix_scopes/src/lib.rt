@@ -2,6 +2,8 @@
 #![tactic(auto)]
 
 mod names;
+mod occurrences;
 mod resolution;
 
+pub use occurrences::name_at;
 pub use resolution::{Binding, Reference, Resolution, resolve};

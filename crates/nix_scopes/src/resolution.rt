@@ -80,8 +80,14 @@ impl<'t> Resolution<'t> {
         &self.references
     }
 
-    /// The number of the binding that a node writes, or that it refers to. What is bound by an `inherit` is both, and answers what it binds.
-    pub fn binding_at(&self, node: &SyntaxNode<'_>) -> Option<usize> {
+    /// The binding that a node writes, or that it refers to; its first part, where it has several. What is bound by an `inherit` is both,
+    /// and answers what it binds.
+    pub fn binding_at(&self, node: &SyntaxNode<'_>) -> Option<&Binding<'t>> {
+        self.bindings.get(self.number_at(node)?)
+    }
+
+    // The number of the binding that a node writes, or that it refers to.
+    fn number_at(&self, node: &SyntaxNode<'_>) -> Option<usize> {
         for binding in &self.bindings {
             if binding.node.text_range() == node.text_range() {
                 return Some(binding.first);

@@ -1,7 +1,7 @@
 use Rattle.std.proofs.Common.{◌≡◌, ◌++◌, map, take}
 use Rattle.rnix_green.specs.Range.{bounds_of}
-use Rattle.nix_rename.specs.Renamed.{referred_at}
-use Rattle.nix_rename.proofs.rename.add_references.Given as goal
+use Rattle.nix_scopes.specs.Occurrences.{referred_at}
+use Rattle.nix_scopes.proofs.occurrences.add_referred.Given as goal
 
 abbrev pub invariant-loop-reference : goal.invariant-loop-reference
 invariant-loop-reference l =

@@ -1,7 +1,7 @@
 use Rattle.std.proofs.Common.{◌≡◌, ◌++◌, map, take}
 use Rattle.rnix_green.specs.Range.{bounds_of}
-use Rattle.nix_rename.specs.Renamed.{written_at}
-use Rattle.nix_rename.proofs.rename.add_bindings.Given as goal
+use Rattle.nix_scopes.specs.Occurrences.{written_at}
+use Rattle.nix_scopes.proofs.occurrences.add_written.Given as goal
 
 abbrev pub invariant-loop-binding : goal.invariant-loop-binding
 invariant-loop-binding l =

@@ -1,0 +1,67 @@
+//! The name at an offset, and where a binding is written and referred to.
+
+ghost use Rattle.std.specs.Prelude.{◌≡◌, ◌++◌, map, IfOk, OnOk};
+ghost use Rattle.rnix_green.specs.Range.{bounds_of};
+ghost use Rattle.nix_scopes.specs.Occurrences.{written_at, referred_at, occurrences_of};
+
+use crate::resolution::{Binding, Reference, Resolution};
+use rnix::{SyntaxKind, SyntaxNode, TextRange};
+use std::alloc::{AllocError, Global};
+
+/// The name at an offset, or right before it.
+pub fn name_at<'t>(root: &SyntaxNode<'t>, offset: usize) -> Option<SyntaxNode<'t>> {
+    let mut name = None;
+    for token in root.token_at_offset(offset) {
+        if let Some(node) = token.parent() {
+            if node.kind() == SyntaxKind::NODE_IDENT {
+                name = Some(node);
+            }
+        }
+    }
+    name
+}
+
+// Adds where the binding of a number is written.
+fn add_written(
+    bindings: &[Binding<'_>],
+    number: usize,
+    places: &mut Vec<TextRange>,
+) -> Result<(), AllocError>
+    ensures { OnOk result (map bounds_of places.new.items ≡ map bounds_of places.old.items ++ written_at number bindings.now) }
+{
+    for binding in bindings {
+        if binding.first == number {
+            places.push(binding.node.text_range())?;
+        }
+    }
+    Ok(())
+}
+
+// Adds where the binding of a number is referred to.
+fn add_referred(
+    references: &[Reference<'_>],
+    number: usize,
+    places: &mut Vec<TextRange>,
+) -> Result<(), AllocError>
+    ensures { OnOk result (map bounds_of places.new.items ≡ map bounds_of places.old.items ++ referred_at number references.now) }
+{
+    for reference in references {
+        if reference.binding == Some(number) {
+            places.push(reference.node.text_range())?;
+        }
+    }
+    Ok(())
+}
+
+impl Resolution<'_> {
+    /// Where the binding of a number is written, in each of its parts, and then where it is referred to. The range of a name in quotes has
+    /// the quotes.
+    pub fn occurrences(&self, alloc: Global, number: usize) -> Result<Vec<TextRange>, AllocError>
+        ensures { IfOk result (λ places. map bounds_of places.items ≡ occurrences_of number self.now) }
+    {
+        let mut places = Vec::new(alloc);
+        add_written(self.bindings(), number, &mut places)?;
+        add_referred(self.references(), number, &mut places)?;
+        Ok(places)
+    }
+}
