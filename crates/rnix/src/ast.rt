@@ -20,6 +20,7 @@ mod selections;
 mod sets;
 mod string_parts;
 mod strings;
+mod typed_node;
 
 pub use self::attributes::{Attr, Path};
 pub use self::binders::{Entry, Param};
@@ -37,6 +38,7 @@ pub use self::selections::{HasAttr, Select};
 pub use self::sets::{AttrSet, AttrpathValue, Inherit, InheritFrom};
 pub use self::string_parts::{InterpolPart, StrParts};
 pub use self::strings::{Interpol, Literal, Str};
+pub use self::typed_node::{NodeType, TypedNode};
 pub use rnix_base::{
     AstChildren, AstNode, AstPtr, AstToken, BinOpKind, Comment, Float, Integer, LiteralKind,
     PathContent, Pointee, StrContent, UnaryOpKind, Uri, Whitespace, unescape,

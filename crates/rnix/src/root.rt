@@ -72,9 +72,7 @@ impl Parse {
     pub fn tree(&self) -> Root<'_>
         ensures { result ≡ root_of self.now }
     {
-        Root {
-            syntax: SyntaxNode::new_root(&self.green),
-        }
+        Root::new(SyntaxNode::new_root(&self.green))
     }
 
     /// The errors, in the order in which they were found. Of what `Root::parse` gave there are none exactly if each node has the shape of its

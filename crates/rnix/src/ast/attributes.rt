@@ -38,9 +38,9 @@ impl<'t> AstNode<'t> for Attr<'t> {
 
     fn cast(syntax: SyntaxNode<'t>) -> Option<Self> {
         match syntax.kind() {
-            SyntaxKind::NODE_IDENT => Some(Attr::Ident(Ident { syntax })),
-            SyntaxKind::NODE_DYNAMIC => Some(Attr::Dynamic(Dynamic { syntax })),
-            SyntaxKind::NODE_STRING => Some(Attr::Str(Str { syntax })),
+            SyntaxKind::NODE_IDENT => Some(Attr::Ident(Ident::new(syntax))),
+            SyntaxKind::NODE_DYNAMIC => Some(Attr::Dynamic(Dynamic::new(syntax))),
+            SyntaxKind::NODE_STRING => Some(Attr::Str(Str::new(syntax))),
             _ => None,
         }
     }
@@ -170,10 +170,10 @@ impl<'t> AstNode<'t> for Path<'t> {
 
     fn cast(syntax: SyntaxNode<'t>) -> Option<Self> {
         match syntax.kind() {
-            SyntaxKind::NODE_PATH_ABS => Some(Path::PathAbs(PathAbs { syntax })),
-            SyntaxKind::NODE_PATH_REL => Some(Path::PathRel(PathRel { syntax })),
-            SyntaxKind::NODE_PATH_HOME => Some(Path::PathHome(PathHome { syntax })),
-            SyntaxKind::NODE_PATH_SEARCH => Some(Path::PathSearch(PathSearch { syntax })),
+            SyntaxKind::NODE_PATH_ABS => Some(Path::PathAbs(PathAbs::new(syntax))),
+            SyntaxKind::NODE_PATH_REL => Some(Path::PathRel(PathRel::new(syntax))),
+            SyntaxKind::NODE_PATH_HOME => Some(Path::PathHome(PathHome::new(syntax))),
+            SyntaxKind::NODE_PATH_SEARCH => Some(Path::PathSearch(PathSearch::new(syntax))),
             _ => None,
         }
     }

@@ -37,8 +37,8 @@ impl<'t> AstNode<'t> for Param<'t> {
 
     fn cast(syntax: SyntaxNode<'t>) -> Option<Self> {
         match syntax.kind() {
-            SyntaxKind::NODE_PATTERN => Some(Param::Pattern(Pattern { syntax })),
-            SyntaxKind::NODE_IDENT_PARAM => Some(Param::IdentParam(IdentParam { syntax })),
+            SyntaxKind::NODE_PATTERN => Some(Param::Pattern(Pattern::new(syntax))),
+            SyntaxKind::NODE_IDENT_PARAM => Some(Param::IdentParam(IdentParam::new(syntax))),
             _ => None,
         }
     }
@@ -140,8 +140,10 @@ impl<'t> AstNode<'t> for Entry<'t> {
 
     fn cast(syntax: SyntaxNode<'t>) -> Option<Self> {
         match syntax.kind() {
-            SyntaxKind::NODE_INHERIT => Some(Entry::Inherit(Inherit { syntax })),
-            SyntaxKind::NODE_ATTRPATH_VALUE => Some(Entry::AttrpathValue(AttrpathValue { syntax })),
+            SyntaxKind::NODE_INHERIT => Some(Entry::Inherit(Inherit::new(syntax))),
+            SyntaxKind::NODE_ATTRPATH_VALUE => Some(Entry::AttrpathValue(AttrpathValue::new(
+                syntax,
+            ))),
             _ => None,
         }
     }

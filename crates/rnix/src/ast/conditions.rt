@@ -8,81 +8,24 @@ ghost use Rattle.rnix.specs.NodeKinds.{is_expr};
 ghost use Rattle.rnix.specs.Sums.{expr_node};
 
 use crate::ast::expression::Expr;
-use rnix_base::{AstNode, child_at, first_token};
+use crate::ast::pointee;
+use crate::ast::typed_node::{NodeType, TypedNode};
+use rnix_base::{child_at, first_token};
 use rnix_kinds::SyntaxKind;
-use rnix_tree::{SyntaxNode, SyntaxToken};
-use std::fmt;
-use std::marker::Model;
+use rnix_tree::SyntaxToken;
 
 /// One of two values, as `if a then b else c`.
-#[derive(Clone, Debug, PartialEq, Eq, Hash, Drop)]
-pub struct IfElse<'t> {
-    pub(crate) syntax: SyntaxNode<'t>,
-}
+pub type IfElse<'t> = TypedNode<'t, pointee::IfElse>;
 
-impl<'t> Model for IfElse<'t> {
-    ghost use Rattle.rnix_kinds.specs.declared.kinds.SyntaxKind.TheVariants as k;
-    ghost use Rattle.rnix_green.specs.Tree.{Located, located_code};
-    ghost use Rattle.rnix_base.specs.Select.{HasKind};
+impl NodeType for pointee::IfElse {
+    ghost KIND = { k.NODE_IF_ELSE };
 
-    ghost Value = { Located };
-
-    ghost coded = { located_code };
-
-    ghost view = { λ n. n.syntax };
-
-    ghost inverse = { λ e. record { syntax = e } };
-
-    ghost invariant = { λ n. HasKind k.NODE_IF_ELSE n.syntax };
-}
-
-impl<'t> AstNode<'t> for IfElse<'t> {
-    ghost kinds = { same_kind k.NODE_IF_ELSE };
-
-    ghost node = { λ n. n };
-
-    fn can_cast(kind: SyntaxKind) -> bool
-        ensures { result ≡ same_kind k.NODE_IF_ELSE kind }
-    {
-        kind == Self::KIND
-    }
-
-    fn cast(syntax: SyntaxNode<'t>) -> Option<Self> {
-        if Self::can_cast(syntax.kind()) {
-            Some(IfElse { syntax })
-        } else {
-            None
-        }
-    }
-
-    fn syntax(&self) -> &SyntaxNode<'t> {
-        &self.syntax
-    }
-}
-
-impl<'t> fmt::Display for IfElse<'t> {
-    ghost use Rattle.std.specs.Prelude.{Some};
-    ghost use Rattle.rnix_green.specs.Tree.{text_at};
-
-    ghost output = { λ node. Some (text_at node) };
-
-    fn fmt<W: fmt::Write>(&self, f: &mut fmt::Formatter<W>) -> fmt::Result {
-        f.write_str(self.syntax.text())
-    }
+    const KIND: SyntaxKind = SyntaxKind::NODE_IF_ELSE;
 }
 
 impl<'t> IfElse<'t> {
     /// The kind of these nodes.
     pub const KIND: SyntaxKind = SyntaxKind::NODE_IF_ELSE;
-
-    /// The same node once more.
-    pub fn clone(&self) -> Self
-        ensures { result ≡ self.now }
-    {
-        IfElse {
-            syntax: self.syntax.clone(),
-        }
-    }
 
     /// The word `if`.
     pub fn if_token(&self) -> Option<SyntaxToken<'t>>
@@ -128,74 +71,17 @@ impl<'t> IfElse<'t> {
 }
 
 /// A value under a condition, as `assert a; b`.
-#[derive(Clone, Debug, PartialEq, Eq, Hash, Drop)]
-pub struct Assert<'t> {
-    pub(crate) syntax: SyntaxNode<'t>,
-}
+pub type Assert<'t> = TypedNode<'t, pointee::Assert>;
 
-impl<'t> Model for Assert<'t> {
-    ghost use Rattle.rnix_kinds.specs.declared.kinds.SyntaxKind.TheVariants as k;
-    ghost use Rattle.rnix_green.specs.Tree.{Located, located_code};
-    ghost use Rattle.rnix_base.specs.Select.{HasKind};
+impl NodeType for pointee::Assert {
+    ghost KIND = { k.NODE_ASSERT };
 
-    ghost Value = { Located };
-
-    ghost coded = { located_code };
-
-    ghost view = { λ n. n.syntax };
-
-    ghost inverse = { λ e. record { syntax = e } };
-
-    ghost invariant = { λ n. HasKind k.NODE_ASSERT n.syntax };
-}
-
-impl<'t> AstNode<'t> for Assert<'t> {
-    ghost kinds = { same_kind k.NODE_ASSERT };
-
-    ghost node = { λ n. n };
-
-    fn can_cast(kind: SyntaxKind) -> bool
-        ensures { result ≡ same_kind k.NODE_ASSERT kind }
-    {
-        kind == Self::KIND
-    }
-
-    fn cast(syntax: SyntaxNode<'t>) -> Option<Self> {
-        if Self::can_cast(syntax.kind()) {
-            Some(Assert { syntax })
-        } else {
-            None
-        }
-    }
-
-    fn syntax(&self) -> &SyntaxNode<'t> {
-        &self.syntax
-    }
-}
-
-impl<'t> fmt::Display for Assert<'t> {
-    ghost use Rattle.std.specs.Prelude.{Some};
-    ghost use Rattle.rnix_green.specs.Tree.{text_at};
-
-    ghost output = { λ node. Some (text_at node) };
-
-    fn fmt<W: fmt::Write>(&self, f: &mut fmt::Formatter<W>) -> fmt::Result {
-        f.write_str(self.syntax.text())
-    }
+    const KIND: SyntaxKind = SyntaxKind::NODE_ASSERT;
 }
 
 impl<'t> Assert<'t> {
     /// The kind of these nodes.
     pub const KIND: SyntaxKind = SyntaxKind::NODE_ASSERT;
-
-    /// The same node once more.
-    pub fn clone(&self) -> Self
-        ensures { result ≡ self.now }
-    {
-        Assert {
-            syntax: self.syntax.clone(),
-        }
-    }
 
     /// The word `assert`.
     pub fn assert_token(&self) -> Option<SyntaxToken<'t>>
@@ -220,74 +106,17 @@ impl<'t> Assert<'t> {
 }
 
 /// A value that may name what is in a set, as `with a; b`.
-#[derive(Clone, Debug, PartialEq, Eq, Hash, Drop)]
-pub struct With<'t> {
-    pub(crate) syntax: SyntaxNode<'t>,
-}
+pub type With<'t> = TypedNode<'t, pointee::With>;
 
-impl<'t> Model for With<'t> {
-    ghost use Rattle.rnix_kinds.specs.declared.kinds.SyntaxKind.TheVariants as k;
-    ghost use Rattle.rnix_green.specs.Tree.{Located, located_code};
-    ghost use Rattle.rnix_base.specs.Select.{HasKind};
+impl NodeType for pointee::With {
+    ghost KIND = { k.NODE_WITH };
 
-    ghost Value = { Located };
-
-    ghost coded = { located_code };
-
-    ghost view = { λ n. n.syntax };
-
-    ghost inverse = { λ e. record { syntax = e } };
-
-    ghost invariant = { λ n. HasKind k.NODE_WITH n.syntax };
-}
-
-impl<'t> AstNode<'t> for With<'t> {
-    ghost kinds = { same_kind k.NODE_WITH };
-
-    ghost node = { λ n. n };
-
-    fn can_cast(kind: SyntaxKind) -> bool
-        ensures { result ≡ same_kind k.NODE_WITH kind }
-    {
-        kind == Self::KIND
-    }
-
-    fn cast(syntax: SyntaxNode<'t>) -> Option<Self> {
-        if Self::can_cast(syntax.kind()) {
-            Some(With { syntax })
-        } else {
-            None
-        }
-    }
-
-    fn syntax(&self) -> &SyntaxNode<'t> {
-        &self.syntax
-    }
-}
-
-impl<'t> fmt::Display for With<'t> {
-    ghost use Rattle.std.specs.Prelude.{Some};
-    ghost use Rattle.rnix_green.specs.Tree.{text_at};
-
-    ghost output = { λ node. Some (text_at node) };
-
-    fn fmt<W: fmt::Write>(&self, f: &mut fmt::Formatter<W>) -> fmt::Result {
-        f.write_str(self.syntax.text())
-    }
+    const KIND: SyntaxKind = SyntaxKind::NODE_WITH;
 }
 
 impl<'t> With<'t> {
     /// The kind of these nodes.
     pub const KIND: SyntaxKind = SyntaxKind::NODE_WITH;
-
-    /// The same node once more.
-    pub fn clone(&self) -> Self
-        ensures { result ≡ self.now }
-    {
-        With {
-            syntax: self.syntax.clone(),
-        }
-    }
 
     /// The word `with`.
     pub fn with_token(&self) -> Option<SyntaxToken<'t>>

@@ -8,81 +8,24 @@ ghost use Rattle.rnix.specs.NodeKinds.{is_expr};
 ghost use Rattle.rnix.specs.Sums.{expr_node};
 
 use crate::ast::expression::Expr;
-use rnix_base::{AstChildren, AstNode, child_at, children, first_token};
+use crate::ast::pointee;
+use crate::ast::typed_node::{NodeType, TypedNode};
+use rnix_base::{AstChildren, child_at, children, first_token};
 use rnix_kinds::SyntaxKind;
-use rnix_tree::{SyntaxNode, SyntaxToken};
-use std::fmt;
-use std::marker::Model;
+use rnix_tree::SyntaxToken;
 
 /// An expression in parentheses, as `(a)`.
-#[derive(Clone, Debug, PartialEq, Eq, Hash, Drop)]
-pub struct Paren<'t> {
-    pub(crate) syntax: SyntaxNode<'t>,
-}
+pub type Paren<'t> = TypedNode<'t, pointee::Paren>;
 
-impl<'t> Model for Paren<'t> {
-    ghost use Rattle.rnix_kinds.specs.declared.kinds.SyntaxKind.TheVariants as k;
-    ghost use Rattle.rnix_green.specs.Tree.{Located, located_code};
-    ghost use Rattle.rnix_base.specs.Select.{HasKind};
+impl NodeType for pointee::Paren {
+    ghost KIND = { k.NODE_PAREN };
 
-    ghost Value = { Located };
-
-    ghost coded = { located_code };
-
-    ghost view = { λ n. n.syntax };
-
-    ghost inverse = { λ e. record { syntax = e } };
-
-    ghost invariant = { λ n. HasKind k.NODE_PAREN n.syntax };
-}
-
-impl<'t> AstNode<'t> for Paren<'t> {
-    ghost kinds = { same_kind k.NODE_PAREN };
-
-    ghost node = { λ n. n };
-
-    fn can_cast(kind: SyntaxKind) -> bool
-        ensures { result ≡ same_kind k.NODE_PAREN kind }
-    {
-        kind == Self::KIND
-    }
-
-    fn cast(syntax: SyntaxNode<'t>) -> Option<Self> {
-        if Self::can_cast(syntax.kind()) {
-            Some(Paren { syntax })
-        } else {
-            None
-        }
-    }
-
-    fn syntax(&self) -> &SyntaxNode<'t> {
-        &self.syntax
-    }
-}
-
-impl<'t> fmt::Display for Paren<'t> {
-    ghost use Rattle.std.specs.Prelude.{Some};
-    ghost use Rattle.rnix_green.specs.Tree.{text_at};
-
-    ghost output = { λ node. Some (text_at node) };
-
-    fn fmt<W: fmt::Write>(&self, f: &mut fmt::Formatter<W>) -> fmt::Result {
-        f.write_str(self.syntax.text())
-    }
+    const KIND: SyntaxKind = SyntaxKind::NODE_PAREN;
 }
 
 impl<'t> Paren<'t> {
     /// The kind of these nodes.
     pub const KIND: SyntaxKind = SyntaxKind::NODE_PAREN;
-
-    /// The same node once more.
-    pub fn clone(&self) -> Self
-        ensures { result ≡ self.now }
-    {
-        Paren {
-            syntax: self.syntax.clone(),
-        }
-    }
 
     /// The sign `(`.
     pub fn l_paren_token(&self) -> Option<SyntaxToken<'t>>
@@ -107,74 +50,17 @@ impl<'t> Paren<'t> {
 }
 
 /// A list, as `[ a b ]`.
-#[derive(Clone, Debug, PartialEq, Eq, Hash, Drop)]
-pub struct List<'t> {
-    pub(crate) syntax: SyntaxNode<'t>,
-}
+pub type List<'t> = TypedNode<'t, pointee::List>;
 
-impl<'t> Model for List<'t> {
-    ghost use Rattle.rnix_kinds.specs.declared.kinds.SyntaxKind.TheVariants as k;
-    ghost use Rattle.rnix_green.specs.Tree.{Located, located_code};
-    ghost use Rattle.rnix_base.specs.Select.{HasKind};
+impl NodeType for pointee::List {
+    ghost KIND = { k.NODE_LIST };
 
-    ghost Value = { Located };
-
-    ghost coded = { located_code };
-
-    ghost view = { λ n. n.syntax };
-
-    ghost inverse = { λ e. record { syntax = e } };
-
-    ghost invariant = { λ n. HasKind k.NODE_LIST n.syntax };
-}
-
-impl<'t> AstNode<'t> for List<'t> {
-    ghost kinds = { same_kind k.NODE_LIST };
-
-    ghost node = { λ n. n };
-
-    fn can_cast(kind: SyntaxKind) -> bool
-        ensures { result ≡ same_kind k.NODE_LIST kind }
-    {
-        kind == Self::KIND
-    }
-
-    fn cast(syntax: SyntaxNode<'t>) -> Option<Self> {
-        if Self::can_cast(syntax.kind()) {
-            Some(List { syntax })
-        } else {
-            None
-        }
-    }
-
-    fn syntax(&self) -> &SyntaxNode<'t> {
-        &self.syntax
-    }
-}
-
-impl<'t> fmt::Display for List<'t> {
-    ghost use Rattle.std.specs.Prelude.{Some};
-    ghost use Rattle.rnix_green.specs.Tree.{text_at};
-
-    ghost output = { λ node. Some (text_at node) };
-
-    fn fmt<W: fmt::Write>(&self, f: &mut fmt::Formatter<W>) -> fmt::Result {
-        f.write_str(self.syntax.text())
-    }
+    const KIND: SyntaxKind = SyntaxKind::NODE_LIST;
 }
 
 impl<'t> List<'t> {
     /// The kind of these nodes.
     pub const KIND: SyntaxKind = SyntaxKind::NODE_LIST;
-
-    /// The same node once more.
-    pub fn clone(&self) -> Self
-        ensures { result ≡ self.now }
-    {
-        List {
-            syntax: self.syntax.clone(),
-        }
-    }
 
     /// The sign `[`.
     pub fn l_brack_token(&self) -> Option<SyntaxToken<'t>>
@@ -200,74 +86,17 @@ impl<'t> List<'t> {
 }
 
 /// The root of a tree: the whole text.
-#[derive(Clone, Debug, PartialEq, Eq, Hash, Drop)]
-pub struct Root<'t> {
-    pub(crate) syntax: SyntaxNode<'t>,
-}
+pub type Root<'t> = TypedNode<'t, pointee::Root>;
 
-impl<'t> Model for Root<'t> {
-    ghost use Rattle.rnix_kinds.specs.declared.kinds.SyntaxKind.TheVariants as k;
-    ghost use Rattle.rnix_green.specs.Tree.{Located, located_code};
-    ghost use Rattle.rnix_base.specs.Select.{HasKind};
+impl NodeType for pointee::Root {
+    ghost KIND = { k.NODE_ROOT };
 
-    ghost Value = { Located };
-
-    ghost coded = { located_code };
-
-    ghost view = { λ n. n.syntax };
-
-    ghost inverse = { λ e. record { syntax = e } };
-
-    ghost invariant = { λ n. HasKind k.NODE_ROOT n.syntax };
-}
-
-impl<'t> AstNode<'t> for Root<'t> {
-    ghost kinds = { same_kind k.NODE_ROOT };
-
-    ghost node = { λ n. n };
-
-    fn can_cast(kind: SyntaxKind) -> bool
-        ensures { result ≡ same_kind k.NODE_ROOT kind }
-    {
-        kind == Self::KIND
-    }
-
-    fn cast(syntax: SyntaxNode<'t>) -> Option<Self> {
-        if Self::can_cast(syntax.kind()) {
-            Some(Root { syntax })
-        } else {
-            None
-        }
-    }
-
-    fn syntax(&self) -> &SyntaxNode<'t> {
-        &self.syntax
-    }
-}
-
-impl<'t> fmt::Display for Root<'t> {
-    ghost use Rattle.std.specs.Prelude.{Some};
-    ghost use Rattle.rnix_green.specs.Tree.{text_at};
-
-    ghost output = { λ node. Some (text_at node) };
-
-    fn fmt<W: fmt::Write>(&self, f: &mut fmt::Formatter<W>) -> fmt::Result {
-        f.write_str(self.syntax.text())
-    }
+    const KIND: SyntaxKind = SyntaxKind::NODE_ROOT;
 }
 
 impl<'t> Root<'t> {
     /// The kind of these nodes.
     pub const KIND: SyntaxKind = SyntaxKind::NODE_ROOT;
-
-    /// The same node once more.
-    pub fn clone(&self) -> Self
-        ensures { result ≡ self.now }
-    {
-        Root {
-            syntax: self.syntax.clone(),
-        }
-    }
 
     /// The expression that the text is.
     pub fn expr(&self) -> Option<Expr<'t>>
@@ -278,72 +107,15 @@ impl<'t> Root<'t> {
 }
 
 /// Text that could not be read, as `)` before all else.
-#[derive(Clone, Debug, PartialEq, Eq, Hash, Drop)]
-pub struct Error<'t> {
-    pub(crate) syntax: SyntaxNode<'t>,
-}
+pub type Error<'t> = TypedNode<'t, pointee::Error>;
 
-impl<'t> Model for Error<'t> {
-    ghost use Rattle.rnix_kinds.specs.declared.kinds.SyntaxKind.TheVariants as k;
-    ghost use Rattle.rnix_green.specs.Tree.{Located, located_code};
-    ghost use Rattle.rnix_base.specs.Select.{HasKind};
+impl NodeType for pointee::Error {
+    ghost KIND = { k.NODE_ERROR };
 
-    ghost Value = { Located };
-
-    ghost coded = { located_code };
-
-    ghost view = { λ n. n.syntax };
-
-    ghost inverse = { λ e. record { syntax = e } };
-
-    ghost invariant = { λ n. HasKind k.NODE_ERROR n.syntax };
-}
-
-impl<'t> AstNode<'t> for Error<'t> {
-    ghost kinds = { same_kind k.NODE_ERROR };
-
-    ghost node = { λ n. n };
-
-    fn can_cast(kind: SyntaxKind) -> bool
-        ensures { result ≡ same_kind k.NODE_ERROR kind }
-    {
-        kind == Self::KIND
-    }
-
-    fn cast(syntax: SyntaxNode<'t>) -> Option<Self> {
-        if Self::can_cast(syntax.kind()) {
-            Some(Error { syntax })
-        } else {
-            None
-        }
-    }
-
-    fn syntax(&self) -> &SyntaxNode<'t> {
-        &self.syntax
-    }
-}
-
-impl<'t> fmt::Display for Error<'t> {
-    ghost use Rattle.std.specs.Prelude.{Some};
-    ghost use Rattle.rnix_green.specs.Tree.{text_at};
-
-    ghost output = { λ node. Some (text_at node) };
-
-    fn fmt<W: fmt::Write>(&self, f: &mut fmt::Formatter<W>) -> fmt::Result {
-        f.write_str(self.syntax.text())
-    }
+    const KIND: SyntaxKind = SyntaxKind::NODE_ERROR;
 }
 
 impl<'t> Error<'t> {
     /// The kind of these nodes.
     pub const KIND: SyntaxKind = SyntaxKind::NODE_ERROR;
-
-    /// The same node once more.
-    pub fn clone(&self) -> Self
-        ensures { result ≡ self.now }
-    {
-        Error {
-            syntax: self.syntax.clone(),
-        }
-    }
 }

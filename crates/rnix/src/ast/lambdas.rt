@@ -10,81 +10,24 @@ ghost use Rattle.rnix.specs.Sums.{expr_node, param_node};
 use crate::ast::binders::Param;
 use crate::ast::expression::Expr;
 use crate::ast::names::Ident;
-use rnix_base::{AstNode, child_at, first_child, first_token};
+use crate::ast::pointee;
+use crate::ast::typed_node::{NodeType, TypedNode};
+use rnix_base::{child_at, first_child, first_token};
 use rnix_kinds::SyntaxKind;
-use rnix_tree::{SyntaxNode, SyntaxToken};
-use std::fmt;
-use std::marker::Model;
+use rnix_tree::SyntaxToken;
 
 /// A function, as `a: b` or `{ a }: b`.
-#[derive(Clone, Debug, PartialEq, Eq, Hash, Drop)]
-pub struct Lambda<'t> {
-    pub(crate) syntax: SyntaxNode<'t>,
-}
+pub type Lambda<'t> = TypedNode<'t, pointee::Lambda>;
 
-impl<'t> Model for Lambda<'t> {
-    ghost use Rattle.rnix_kinds.specs.declared.kinds.SyntaxKind.TheVariants as k;
-    ghost use Rattle.rnix_green.specs.Tree.{Located, located_code};
-    ghost use Rattle.rnix_base.specs.Select.{HasKind};
+impl NodeType for pointee::Lambda {
+    ghost KIND = { k.NODE_LAMBDA };
 
-    ghost Value = { Located };
-
-    ghost coded = { located_code };
-
-    ghost view = { λ n. n.syntax };
-
-    ghost inverse = { λ e. record { syntax = e } };
-
-    ghost invariant = { λ n. HasKind k.NODE_LAMBDA n.syntax };
-}
-
-impl<'t> AstNode<'t> for Lambda<'t> {
-    ghost kinds = { same_kind k.NODE_LAMBDA };
-
-    ghost node = { λ n. n };
-
-    fn can_cast(kind: SyntaxKind) -> bool
-        ensures { result ≡ same_kind k.NODE_LAMBDA kind }
-    {
-        kind == Self::KIND
-    }
-
-    fn cast(syntax: SyntaxNode<'t>) -> Option<Self> {
-        if Self::can_cast(syntax.kind()) {
-            Some(Lambda { syntax })
-        } else {
-            None
-        }
-    }
-
-    fn syntax(&self) -> &SyntaxNode<'t> {
-        &self.syntax
-    }
-}
-
-impl<'t> fmt::Display for Lambda<'t> {
-    ghost use Rattle.std.specs.Prelude.{Some};
-    ghost use Rattle.rnix_green.specs.Tree.{text_at};
-
-    ghost output = { λ node. Some (text_at node) };
-
-    fn fmt<W: fmt::Write>(&self, f: &mut fmt::Formatter<W>) -> fmt::Result {
-        f.write_str(self.syntax.text())
-    }
+    const KIND: SyntaxKind = SyntaxKind::NODE_LAMBDA;
 }
 
 impl<'t> Lambda<'t> {
     /// The kind of these nodes.
     pub const KIND: SyntaxKind = SyntaxKind::NODE_LAMBDA;
-
-    /// The same node once more.
-    pub fn clone(&self) -> Self
-        ensures { result ≡ self.now }
-    {
-        Lambda {
-            syntax: self.syntax.clone(),
-        }
-    }
 
     /// The parameter.
     pub fn param(&self) -> Option<Param<'t>>
@@ -109,74 +52,17 @@ impl<'t> Lambda<'t> {
 }
 
 /// A parameter that is a name, as `a` in `a: b`.
-#[derive(Clone, Debug, PartialEq, Eq, Hash, Drop)]
-pub struct IdentParam<'t> {
-    pub(crate) syntax: SyntaxNode<'t>,
-}
+pub type IdentParam<'t> = TypedNode<'t, pointee::IdentParam>;
 
-impl<'t> Model for IdentParam<'t> {
-    ghost use Rattle.rnix_kinds.specs.declared.kinds.SyntaxKind.TheVariants as k;
-    ghost use Rattle.rnix_green.specs.Tree.{Located, located_code};
-    ghost use Rattle.rnix_base.specs.Select.{HasKind};
+impl NodeType for pointee::IdentParam {
+    ghost KIND = { k.NODE_IDENT_PARAM };
 
-    ghost Value = { Located };
-
-    ghost coded = { located_code };
-
-    ghost view = { λ n. n.syntax };
-
-    ghost inverse = { λ e. record { syntax = e } };
-
-    ghost invariant = { λ n. HasKind k.NODE_IDENT_PARAM n.syntax };
-}
-
-impl<'t> AstNode<'t> for IdentParam<'t> {
-    ghost kinds = { same_kind k.NODE_IDENT_PARAM };
-
-    ghost node = { λ n. n };
-
-    fn can_cast(kind: SyntaxKind) -> bool
-        ensures { result ≡ same_kind k.NODE_IDENT_PARAM kind }
-    {
-        kind == Self::KIND
-    }
-
-    fn cast(syntax: SyntaxNode<'t>) -> Option<Self> {
-        if Self::can_cast(syntax.kind()) {
-            Some(IdentParam { syntax })
-        } else {
-            None
-        }
-    }
-
-    fn syntax(&self) -> &SyntaxNode<'t> {
-        &self.syntax
-    }
-}
-
-impl<'t> fmt::Display for IdentParam<'t> {
-    ghost use Rattle.std.specs.Prelude.{Some};
-    ghost use Rattle.rnix_green.specs.Tree.{text_at};
-
-    ghost output = { λ node. Some (text_at node) };
-
-    fn fmt<W: fmt::Write>(&self, f: &mut fmt::Formatter<W>) -> fmt::Result {
-        f.write_str(self.syntax.text())
-    }
+    const KIND: SyntaxKind = SyntaxKind::NODE_IDENT_PARAM;
 }
 
 impl<'t> IdentParam<'t> {
     /// The kind of these nodes.
     pub const KIND: SyntaxKind = SyntaxKind::NODE_IDENT_PARAM;
-
-    /// The same node once more.
-    pub fn clone(&self) -> Self
-        ensures { result ≡ self.now }
-    {
-        IdentParam {
-            syntax: self.syntax.clone(),
-        }
-    }
 
     /// The name.
     pub fn ident(&self) -> Option<Ident<'t>>

@@ -9,81 +9,24 @@ ghost use Rattle.rnix.specs.Sums.{expr_node};
 
 use crate::ast::attributes::Attr;
 use crate::ast::expression::Expr;
-use rnix_base::{AstChildren, AstNode, child_at, children, first_token};
+use crate::ast::pointee;
+use crate::ast::typed_node::{NodeType, TypedNode};
+use rnix_base::{AstChildren, child_at, children, first_token};
 use rnix_kinds::SyntaxKind;
-use rnix_tree::{SyntaxNode, SyntaxToken};
-use std::fmt;
-use std::marker::Model;
+use rnix_tree::SyntaxToken;
 
 /// A name, as `a`.
-#[derive(Clone, Debug, PartialEq, Eq, Hash, Drop)]
-pub struct Ident<'t> {
-    pub(crate) syntax: SyntaxNode<'t>,
-}
+pub type Ident<'t> = TypedNode<'t, pointee::Ident>;
 
-impl<'t> Model for Ident<'t> {
-    ghost use Rattle.rnix_kinds.specs.declared.kinds.SyntaxKind.TheVariants as k;
-    ghost use Rattle.rnix_green.specs.Tree.{Located, located_code};
-    ghost use Rattle.rnix_base.specs.Select.{HasKind};
+impl NodeType for pointee::Ident {
+    ghost KIND = { k.NODE_IDENT };
 
-    ghost Value = { Located };
-
-    ghost coded = { located_code };
-
-    ghost view = { λ n. n.syntax };
-
-    ghost inverse = { λ e. record { syntax = e } };
-
-    ghost invariant = { λ n. HasKind k.NODE_IDENT n.syntax };
-}
-
-impl<'t> AstNode<'t> for Ident<'t> {
-    ghost kinds = { same_kind k.NODE_IDENT };
-
-    ghost node = { λ n. n };
-
-    fn can_cast(kind: SyntaxKind) -> bool
-        ensures { result ≡ same_kind k.NODE_IDENT kind }
-    {
-        kind == Self::KIND
-    }
-
-    fn cast(syntax: SyntaxNode<'t>) -> Option<Self> {
-        if Self::can_cast(syntax.kind()) {
-            Some(Ident { syntax })
-        } else {
-            None
-        }
-    }
-
-    fn syntax(&self) -> &SyntaxNode<'t> {
-        &self.syntax
-    }
-}
-
-impl<'t> fmt::Display for Ident<'t> {
-    ghost use Rattle.std.specs.Prelude.{Some};
-    ghost use Rattle.rnix_green.specs.Tree.{text_at};
-
-    ghost output = { λ node. Some (text_at node) };
-
-    fn fmt<W: fmt::Write>(&self, f: &mut fmt::Formatter<W>) -> fmt::Result {
-        f.write_str(self.syntax.text())
-    }
+    const KIND: SyntaxKind = SyntaxKind::NODE_IDENT;
 }
 
 impl<'t> Ident<'t> {
     /// The kind of these nodes.
     pub const KIND: SyntaxKind = SyntaxKind::NODE_IDENT;
-
-    /// The same node once more.
-    pub fn clone(&self) -> Self
-        ensures { result ≡ self.now }
-    {
-        Ident {
-            syntax: self.syntax.clone(),
-        }
-    }
 
     /// The name itself.
     pub fn ident_token(&self) -> Option<SyntaxToken<'t>>
@@ -94,74 +37,17 @@ impl<'t> Ident<'t> {
 }
 
 /// The names that lead to a value in a set, as `a.b`.
-#[derive(Clone, Debug, PartialEq, Eq, Hash, Drop)]
-pub struct Attrpath<'t> {
-    pub(crate) syntax: SyntaxNode<'t>,
-}
+pub type Attrpath<'t> = TypedNode<'t, pointee::Attrpath>;
 
-impl<'t> Model for Attrpath<'t> {
-    ghost use Rattle.rnix_kinds.specs.declared.kinds.SyntaxKind.TheVariants as k;
-    ghost use Rattle.rnix_green.specs.Tree.{Located, located_code};
-    ghost use Rattle.rnix_base.specs.Select.{HasKind};
+impl NodeType for pointee::Attrpath {
+    ghost KIND = { k.NODE_ATTRPATH };
 
-    ghost Value = { Located };
-
-    ghost coded = { located_code };
-
-    ghost view = { λ n. n.syntax };
-
-    ghost inverse = { λ e. record { syntax = e } };
-
-    ghost invariant = { λ n. HasKind k.NODE_ATTRPATH n.syntax };
-}
-
-impl<'t> AstNode<'t> for Attrpath<'t> {
-    ghost kinds = { same_kind k.NODE_ATTRPATH };
-
-    ghost node = { λ n. n };
-
-    fn can_cast(kind: SyntaxKind) -> bool
-        ensures { result ≡ same_kind k.NODE_ATTRPATH kind }
-    {
-        kind == Self::KIND
-    }
-
-    fn cast(syntax: SyntaxNode<'t>) -> Option<Self> {
-        if Self::can_cast(syntax.kind()) {
-            Some(Attrpath { syntax })
-        } else {
-            None
-        }
-    }
-
-    fn syntax(&self) -> &SyntaxNode<'t> {
-        &self.syntax
-    }
-}
-
-impl<'t> fmt::Display for Attrpath<'t> {
-    ghost use Rattle.std.specs.Prelude.{Some};
-    ghost use Rattle.rnix_green.specs.Tree.{text_at};
-
-    ghost output = { λ node. Some (text_at node) };
-
-    fn fmt<W: fmt::Write>(&self, f: &mut fmt::Formatter<W>) -> fmt::Result {
-        f.write_str(self.syntax.text())
-    }
+    const KIND: SyntaxKind = SyntaxKind::NODE_ATTRPATH;
 }
 
 impl<'t> Attrpath<'t> {
     /// The kind of these nodes.
     pub const KIND: SyntaxKind = SyntaxKind::NODE_ATTRPATH;
-
-    /// The same node once more.
-    pub fn clone(&self) -> Self
-        ensures { result ≡ self.now }
-    {
-        Attrpath {
-            syntax: self.syntax.clone(),
-        }
-    }
 
     /// The names, in order.
     pub fn attrs(&self) -> AstChildren<'t, Attr<'t>>
@@ -173,74 +59,17 @@ impl<'t> Attrpath<'t> {
 }
 
 /// A name that is computed, as `${a}`.
-#[derive(Clone, Debug, PartialEq, Eq, Hash, Drop)]
-pub struct Dynamic<'t> {
-    pub(crate) syntax: SyntaxNode<'t>,
-}
+pub type Dynamic<'t> = TypedNode<'t, pointee::Dynamic>;
 
-impl<'t> Model for Dynamic<'t> {
-    ghost use Rattle.rnix_kinds.specs.declared.kinds.SyntaxKind.TheVariants as k;
-    ghost use Rattle.rnix_green.specs.Tree.{Located, located_code};
-    ghost use Rattle.rnix_base.specs.Select.{HasKind};
+impl NodeType for pointee::Dynamic {
+    ghost KIND = { k.NODE_DYNAMIC };
 
-    ghost Value = { Located };
-
-    ghost coded = { located_code };
-
-    ghost view = { λ n. n.syntax };
-
-    ghost inverse = { λ e. record { syntax = e } };
-
-    ghost invariant = { λ n. HasKind k.NODE_DYNAMIC n.syntax };
-}
-
-impl<'t> AstNode<'t> for Dynamic<'t> {
-    ghost kinds = { same_kind k.NODE_DYNAMIC };
-
-    ghost node = { λ n. n };
-
-    fn can_cast(kind: SyntaxKind) -> bool
-        ensures { result ≡ same_kind k.NODE_DYNAMIC kind }
-    {
-        kind == Self::KIND
-    }
-
-    fn cast(syntax: SyntaxNode<'t>) -> Option<Self> {
-        if Self::can_cast(syntax.kind()) {
-            Some(Dynamic { syntax })
-        } else {
-            None
-        }
-    }
-
-    fn syntax(&self) -> &SyntaxNode<'t> {
-        &self.syntax
-    }
-}
-
-impl<'t> fmt::Display for Dynamic<'t> {
-    ghost use Rattle.std.specs.Prelude.{Some};
-    ghost use Rattle.rnix_green.specs.Tree.{text_at};
-
-    ghost output = { λ node. Some (text_at node) };
-
-    fn fmt<W: fmt::Write>(&self, f: &mut fmt::Formatter<W>) -> fmt::Result {
-        f.write_str(self.syntax.text())
-    }
+    const KIND: SyntaxKind = SyntaxKind::NODE_DYNAMIC;
 }
 
 impl<'t> Dynamic<'t> {
     /// The kind of these nodes.
     pub const KIND: SyntaxKind = SyntaxKind::NODE_DYNAMIC;
-
-    /// The same node once more.
-    pub fn clone(&self) -> Self
-        ensures { result ≡ self.now }
-    {
-        Dynamic {
-            syntax: self.syntax.clone(),
-        }
-    }
 
     /// The sign `${`.
     pub fn interpol_start_token(&self) -> Option<SyntaxToken<'t>>
@@ -265,74 +94,17 @@ impl<'t> Dynamic<'t> {
 }
 
 /// The place where it stands, `__curPos`.
-#[derive(Clone, Debug, PartialEq, Eq, Hash, Drop)]
-pub struct CurPos<'t> {
-    pub(crate) syntax: SyntaxNode<'t>,
-}
+pub type CurPos<'t> = TypedNode<'t, pointee::CurPos>;
 
-impl<'t> Model for CurPos<'t> {
-    ghost use Rattle.rnix_kinds.specs.declared.kinds.SyntaxKind.TheVariants as k;
-    ghost use Rattle.rnix_green.specs.Tree.{Located, located_code};
-    ghost use Rattle.rnix_base.specs.Select.{HasKind};
+impl NodeType for pointee::CurPos {
+    ghost KIND = { k.NODE_CUR_POS };
 
-    ghost Value = { Located };
-
-    ghost coded = { located_code };
-
-    ghost view = { λ n. n.syntax };
-
-    ghost inverse = { λ e. record { syntax = e } };
-
-    ghost invariant = { λ n. HasKind k.NODE_CUR_POS n.syntax };
-}
-
-impl<'t> AstNode<'t> for CurPos<'t> {
-    ghost kinds = { same_kind k.NODE_CUR_POS };
-
-    ghost node = { λ n. n };
-
-    fn can_cast(kind: SyntaxKind) -> bool
-        ensures { result ≡ same_kind k.NODE_CUR_POS kind }
-    {
-        kind == Self::KIND
-    }
-
-    fn cast(syntax: SyntaxNode<'t>) -> Option<Self> {
-        if Self::can_cast(syntax.kind()) {
-            Some(CurPos { syntax })
-        } else {
-            None
-        }
-    }
-
-    fn syntax(&self) -> &SyntaxNode<'t> {
-        &self.syntax
-    }
-}
-
-impl<'t> fmt::Display for CurPos<'t> {
-    ghost use Rattle.std.specs.Prelude.{Some};
-    ghost use Rattle.rnix_green.specs.Tree.{text_at};
-
-    ghost output = { λ node. Some (text_at node) };
-
-    fn fmt<W: fmt::Write>(&self, f: &mut fmt::Formatter<W>) -> fmt::Result {
-        f.write_str(self.syntax.text())
-    }
+    const KIND: SyntaxKind = SyntaxKind::NODE_CUR_POS;
 }
 
 impl<'t> CurPos<'t> {
     /// The kind of these nodes.
     pub const KIND: SyntaxKind = SyntaxKind::NODE_CUR_POS;
-
-    /// The same node once more.
-    pub fn clone(&self) -> Self
-        ensures { result ≡ self.now }
-    {
-        CurPos {
-            syntax: self.syntax.clone(),
-        }
-    }
 
     /// The word `__curPos`.
     pub fn cur_pos_token(&self) -> Option<SyntaxToken<'t>>

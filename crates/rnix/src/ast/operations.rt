@@ -2,7 +2,6 @@
 
 ghost use Rattle.std.specs.Prelude.{◌≡◌, option_map};
 ghost use Rattle.rnix_kinds.specs.declared.kinds.SyntaxKind.TheVariants as k;
-ghost use Rattle.rnix_green.specs.Equality.{same_kind};
 ghost use Rattle.rnix_green.specs.Walk.{children_of};
 ghost use Rattle.rnix_base.specs.Select.{child_of, tokens_in};
 ghost use Rattle.rnix_base.specs.Operators.{binary_operator, unary_operator, first_operator};
@@ -10,81 +9,23 @@ ghost use Rattle.rnix.specs.NodeKinds.{is_expr};
 ghost use Rattle.rnix.specs.Sums.{expr_node};
 
 use crate::ast::expression::Expr;
-use rnix_base::{AstNode, BinOpKind, UnaryOpKind, child_at, first_binary, first_unary};
+use crate::ast::pointee;
+use crate::ast::typed_node::{NodeType, TypedNode};
+use rnix_base::{BinOpKind, UnaryOpKind, child_at, first_binary, first_unary};
 use rnix_kinds::SyntaxKind;
-use rnix_tree::SyntaxNode;
-use std::fmt;
-use std::marker::Model;
 
 /// A function with its argument, as `f a`.
-#[derive(Clone, Debug, PartialEq, Eq, Hash, Drop)]
-pub struct Apply<'t> {
-    pub(crate) syntax: SyntaxNode<'t>,
-}
+pub type Apply<'t> = TypedNode<'t, pointee::Apply>;
 
-impl<'t> Model for Apply<'t> {
-    ghost use Rattle.rnix_kinds.specs.declared.kinds.SyntaxKind.TheVariants as k;
-    ghost use Rattle.rnix_green.specs.Tree.{Located, located_code};
-    ghost use Rattle.rnix_base.specs.Select.{HasKind};
+impl NodeType for pointee::Apply {
+    ghost KIND = { k.NODE_APPLY };
 
-    ghost Value = { Located };
-
-    ghost coded = { located_code };
-
-    ghost view = { λ n. n.syntax };
-
-    ghost inverse = { λ e. record { syntax = e } };
-
-    ghost invariant = { λ n. HasKind k.NODE_APPLY n.syntax };
-}
-
-impl<'t> AstNode<'t> for Apply<'t> {
-    ghost kinds = { same_kind k.NODE_APPLY };
-
-    ghost node = { λ n. n };
-
-    fn can_cast(kind: SyntaxKind) -> bool
-        ensures { result ≡ same_kind k.NODE_APPLY kind }
-    {
-        kind == Self::KIND
-    }
-
-    fn cast(syntax: SyntaxNode<'t>) -> Option<Self> {
-        if Self::can_cast(syntax.kind()) {
-            Some(Apply { syntax })
-        } else {
-            None
-        }
-    }
-
-    fn syntax(&self) -> &SyntaxNode<'t> {
-        &self.syntax
-    }
-}
-
-impl<'t> fmt::Display for Apply<'t> {
-    ghost use Rattle.std.specs.Prelude.{Some};
-    ghost use Rattle.rnix_green.specs.Tree.{text_at};
-
-    ghost output = { λ node. Some (text_at node) };
-
-    fn fmt<W: fmt::Write>(&self, f: &mut fmt::Formatter<W>) -> fmt::Result {
-        f.write_str(self.syntax.text())
-    }
+    const KIND: SyntaxKind = SyntaxKind::NODE_APPLY;
 }
 
 impl<'t> Apply<'t> {
     /// The kind of these nodes.
     pub const KIND: SyntaxKind = SyntaxKind::NODE_APPLY;
-
-    /// The same node once more.
-    pub fn clone(&self) -> Self
-        ensures { result ≡ self.now }
-    {
-        Apply {
-            syntax: self.syntax.clone(),
-        }
-    }
 
     /// The function.
     pub fn lambda(&self) -> Option<Expr<'t>>
@@ -102,74 +43,17 @@ impl<'t> Apply<'t> {
 }
 
 /// Two operands with an operator between them, as `a + b`.
-#[derive(Clone, Debug, PartialEq, Eq, Hash, Drop)]
-pub struct BinOp<'t> {
-    pub(crate) syntax: SyntaxNode<'t>,
-}
+pub type BinOp<'t> = TypedNode<'t, pointee::BinOp>;
 
-impl<'t> Model for BinOp<'t> {
-    ghost use Rattle.rnix_kinds.specs.declared.kinds.SyntaxKind.TheVariants as k;
-    ghost use Rattle.rnix_green.specs.Tree.{Located, located_code};
-    ghost use Rattle.rnix_base.specs.Select.{HasKind};
+impl NodeType for pointee::BinOp {
+    ghost KIND = { k.NODE_BIN_OP };
 
-    ghost Value = { Located };
-
-    ghost coded = { located_code };
-
-    ghost view = { λ n. n.syntax };
-
-    ghost inverse = { λ e. record { syntax = e } };
-
-    ghost invariant = { λ n. HasKind k.NODE_BIN_OP n.syntax };
-}
-
-impl<'t> AstNode<'t> for BinOp<'t> {
-    ghost kinds = { same_kind k.NODE_BIN_OP };
-
-    ghost node = { λ n. n };
-
-    fn can_cast(kind: SyntaxKind) -> bool
-        ensures { result ≡ same_kind k.NODE_BIN_OP kind }
-    {
-        kind == Self::KIND
-    }
-
-    fn cast(syntax: SyntaxNode<'t>) -> Option<Self> {
-        if Self::can_cast(syntax.kind()) {
-            Some(BinOp { syntax })
-        } else {
-            None
-        }
-    }
-
-    fn syntax(&self) -> &SyntaxNode<'t> {
-        &self.syntax
-    }
-}
-
-impl<'t> fmt::Display for BinOp<'t> {
-    ghost use Rattle.std.specs.Prelude.{Some};
-    ghost use Rattle.rnix_green.specs.Tree.{text_at};
-
-    ghost output = { λ node. Some (text_at node) };
-
-    fn fmt<W: fmt::Write>(&self, f: &mut fmt::Formatter<W>) -> fmt::Result {
-        f.write_str(self.syntax.text())
-    }
+    const KIND: SyntaxKind = SyntaxKind::NODE_BIN_OP;
 }
 
 impl<'t> BinOp<'t> {
     /// The kind of these nodes.
     pub const KIND: SyntaxKind = SyntaxKind::NODE_BIN_OP;
-
-    /// The same node once more.
-    pub fn clone(&self) -> Self
-        ensures { result ≡ self.now }
-    {
-        BinOp {
-            syntax: self.syntax.clone(),
-        }
-    }
 
     /// The operand on the left.
     pub fn lhs(&self) -> Option<Expr<'t>>
@@ -194,74 +78,17 @@ impl<'t> BinOp<'t> {
 }
 
 /// An operator before its operand, as `-a`.
-#[derive(Clone, Debug, PartialEq, Eq, Hash, Drop)]
-pub struct UnaryOp<'t> {
-    pub(crate) syntax: SyntaxNode<'t>,
-}
+pub type UnaryOp<'t> = TypedNode<'t, pointee::UnaryOp>;
 
-impl<'t> Model for UnaryOp<'t> {
-    ghost use Rattle.rnix_kinds.specs.declared.kinds.SyntaxKind.TheVariants as k;
-    ghost use Rattle.rnix_green.specs.Tree.{Located, located_code};
-    ghost use Rattle.rnix_base.specs.Select.{HasKind};
+impl NodeType for pointee::UnaryOp {
+    ghost KIND = { k.NODE_UNARY_OP };
 
-    ghost Value = { Located };
-
-    ghost coded = { located_code };
-
-    ghost view = { λ n. n.syntax };
-
-    ghost inverse = { λ e. record { syntax = e } };
-
-    ghost invariant = { λ n. HasKind k.NODE_UNARY_OP n.syntax };
-}
-
-impl<'t> AstNode<'t> for UnaryOp<'t> {
-    ghost kinds = { same_kind k.NODE_UNARY_OP };
-
-    ghost node = { λ n. n };
-
-    fn can_cast(kind: SyntaxKind) -> bool
-        ensures { result ≡ same_kind k.NODE_UNARY_OP kind }
-    {
-        kind == Self::KIND
-    }
-
-    fn cast(syntax: SyntaxNode<'t>) -> Option<Self> {
-        if Self::can_cast(syntax.kind()) {
-            Some(UnaryOp { syntax })
-        } else {
-            None
-        }
-    }
-
-    fn syntax(&self) -> &SyntaxNode<'t> {
-        &self.syntax
-    }
-}
-
-impl<'t> fmt::Display for UnaryOp<'t> {
-    ghost use Rattle.std.specs.Prelude.{Some};
-    ghost use Rattle.rnix_green.specs.Tree.{text_at};
-
-    ghost output = { λ node. Some (text_at node) };
-
-    fn fmt<W: fmt::Write>(&self, f: &mut fmt::Formatter<W>) -> fmt::Result {
-        f.write_str(self.syntax.text())
-    }
+    const KIND: SyntaxKind = SyntaxKind::NODE_UNARY_OP;
 }
 
 impl<'t> UnaryOp<'t> {
     /// The kind of these nodes.
     pub const KIND: SyntaxKind = SyntaxKind::NODE_UNARY_OP;
-
-    /// The same node once more.
-    pub fn clone(&self) -> Self
-        ensures { result ≡ self.now }
-    {
-        UnaryOp {
-            syntax: self.syntax.clone(),
-        }
-    }
 
     /// The operator.
     pub fn operator(&self) -> Option<UnaryOpKind>

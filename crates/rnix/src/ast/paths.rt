@@ -2,298 +2,68 @@
 
 ghost use Rattle.std.specs.Prelude.{◌≡◌};
 ghost use Rattle.rnix_kinds.specs.declared.kinds.SyntaxKind.TheVariants as k;
-ghost use Rattle.rnix_green.specs.Equality.{same_kind};
 ghost use Rattle.rnix_base.specs.Kinds.{is_path_token};
 ghost use Rattle.rnix_base.specs.Select.{token_of};
 
-use rnix_base::{AstNode, PathContent, child_token};
+use crate::ast::pointee;
+use crate::ast::typed_node::{NodeType, TypedNode};
+use rnix_base::{PathContent, child_token};
 use rnix_kinds::SyntaxKind;
-use rnix_tree::SyntaxNode;
-use std::fmt;
-use std::marker::Model;
 
 /// A path from the root, as `/a/b`.
-#[derive(Clone, Debug, PartialEq, Eq, Hash, Drop)]
-pub struct PathAbs<'t> {
-    pub(crate) syntax: SyntaxNode<'t>,
-}
+pub type PathAbs<'t> = TypedNode<'t, pointee::PathAbs>;
 
-impl<'t> Model for PathAbs<'t> {
-    ghost use Rattle.rnix_kinds.specs.declared.kinds.SyntaxKind.TheVariants as k;
-    ghost use Rattle.rnix_green.specs.Tree.{Located, located_code};
-    ghost use Rattle.rnix_base.specs.Select.{HasKind};
+impl NodeType for pointee::PathAbs {
+    ghost KIND = { k.NODE_PATH_ABS };
 
-    ghost Value = { Located };
-
-    ghost coded = { located_code };
-
-    ghost view = { λ n. n.syntax };
-
-    ghost inverse = { λ e. record { syntax = e } };
-
-    ghost invariant = { λ n. HasKind k.NODE_PATH_ABS n.syntax };
-}
-
-impl<'t> AstNode<'t> for PathAbs<'t> {
-    ghost kinds = { same_kind k.NODE_PATH_ABS };
-
-    ghost node = { λ n. n };
-
-    fn can_cast(kind: SyntaxKind) -> bool
-        ensures { result ≡ same_kind k.NODE_PATH_ABS kind }
-    {
-        kind == Self::KIND
-    }
-
-    fn cast(syntax: SyntaxNode<'t>) -> Option<Self> {
-        if Self::can_cast(syntax.kind()) {
-            Some(PathAbs { syntax })
-        } else {
-            None
-        }
-    }
-
-    fn syntax(&self) -> &SyntaxNode<'t> {
-        &self.syntax
-    }
-}
-
-impl<'t> fmt::Display for PathAbs<'t> {
-    ghost use Rattle.std.specs.Prelude.{Some};
-    ghost use Rattle.rnix_green.specs.Tree.{text_at};
-
-    ghost output = { λ node. Some (text_at node) };
-
-    fn fmt<W: fmt::Write>(&self, f: &mut fmt::Formatter<W>) -> fmt::Result {
-        f.write_str(self.syntax.text())
-    }
+    const KIND: SyntaxKind = SyntaxKind::NODE_PATH_ABS;
 }
 
 impl<'t> PathAbs<'t> {
     /// The kind of these nodes.
     pub const KIND: SyntaxKind = SyntaxKind::NODE_PATH_ABS;
-
-    /// The same node once more.
-    pub fn clone(&self) -> Self
-        ensures { result ≡ self.now }
-    {
-        PathAbs {
-            syntax: self.syntax.clone(),
-        }
-    }
 }
 
 /// A path from the file's own directory, as `./a`.
-#[derive(Clone, Debug, PartialEq, Eq, Hash, Drop)]
-pub struct PathRel<'t> {
-    pub(crate) syntax: SyntaxNode<'t>,
-}
+pub type PathRel<'t> = TypedNode<'t, pointee::PathRel>;
 
-impl<'t> Model for PathRel<'t> {
-    ghost use Rattle.rnix_kinds.specs.declared.kinds.SyntaxKind.TheVariants as k;
-    ghost use Rattle.rnix_green.specs.Tree.{Located, located_code};
-    ghost use Rattle.rnix_base.specs.Select.{HasKind};
+impl NodeType for pointee::PathRel {
+    ghost KIND = { k.NODE_PATH_REL };
 
-    ghost Value = { Located };
-
-    ghost coded = { located_code };
-
-    ghost view = { λ n. n.syntax };
-
-    ghost inverse = { λ e. record { syntax = e } };
-
-    ghost invariant = { λ n. HasKind k.NODE_PATH_REL n.syntax };
-}
-
-impl<'t> AstNode<'t> for PathRel<'t> {
-    ghost kinds = { same_kind k.NODE_PATH_REL };
-
-    ghost node = { λ n. n };
-
-    fn can_cast(kind: SyntaxKind) -> bool
-        ensures { result ≡ same_kind k.NODE_PATH_REL kind }
-    {
-        kind == Self::KIND
-    }
-
-    fn cast(syntax: SyntaxNode<'t>) -> Option<Self> {
-        if Self::can_cast(syntax.kind()) {
-            Some(PathRel { syntax })
-        } else {
-            None
-        }
-    }
-
-    fn syntax(&self) -> &SyntaxNode<'t> {
-        &self.syntax
-    }
-}
-
-impl<'t> fmt::Display for PathRel<'t> {
-    ghost use Rattle.std.specs.Prelude.{Some};
-    ghost use Rattle.rnix_green.specs.Tree.{text_at};
-
-    ghost output = { λ node. Some (text_at node) };
-
-    fn fmt<W: fmt::Write>(&self, f: &mut fmt::Formatter<W>) -> fmt::Result {
-        f.write_str(self.syntax.text())
-    }
+    const KIND: SyntaxKind = SyntaxKind::NODE_PATH_REL;
 }
 
 impl<'t> PathRel<'t> {
     /// The kind of these nodes.
     pub const KIND: SyntaxKind = SyntaxKind::NODE_PATH_REL;
-
-    /// The same node once more.
-    pub fn clone(&self) -> Self
-        ensures { result ≡ self.now }
-    {
-        PathRel {
-            syntax: self.syntax.clone(),
-        }
-    }
 }
 
 /// A path from the user's directory, as `~/a`.
-#[derive(Clone, Debug, PartialEq, Eq, Hash, Drop)]
-pub struct PathHome<'t> {
-    pub(crate) syntax: SyntaxNode<'t>,
-}
+pub type PathHome<'t> = TypedNode<'t, pointee::PathHome>;
 
-impl<'t> Model for PathHome<'t> {
-    ghost use Rattle.rnix_kinds.specs.declared.kinds.SyntaxKind.TheVariants as k;
-    ghost use Rattle.rnix_green.specs.Tree.{Located, located_code};
-    ghost use Rattle.rnix_base.specs.Select.{HasKind};
+impl NodeType for pointee::PathHome {
+    ghost KIND = { k.NODE_PATH_HOME };
 
-    ghost Value = { Located };
-
-    ghost coded = { located_code };
-
-    ghost view = { λ n. n.syntax };
-
-    ghost inverse = { λ e. record { syntax = e } };
-
-    ghost invariant = { λ n. HasKind k.NODE_PATH_HOME n.syntax };
-}
-
-impl<'t> AstNode<'t> for PathHome<'t> {
-    ghost kinds = { same_kind k.NODE_PATH_HOME };
-
-    ghost node = { λ n. n };
-
-    fn can_cast(kind: SyntaxKind) -> bool
-        ensures { result ≡ same_kind k.NODE_PATH_HOME kind }
-    {
-        kind == Self::KIND
-    }
-
-    fn cast(syntax: SyntaxNode<'t>) -> Option<Self> {
-        if Self::can_cast(syntax.kind()) {
-            Some(PathHome { syntax })
-        } else {
-            None
-        }
-    }
-
-    fn syntax(&self) -> &SyntaxNode<'t> {
-        &self.syntax
-    }
-}
-
-impl<'t> fmt::Display for PathHome<'t> {
-    ghost use Rattle.std.specs.Prelude.{Some};
-    ghost use Rattle.rnix_green.specs.Tree.{text_at};
-
-    ghost output = { λ node. Some (text_at node) };
-
-    fn fmt<W: fmt::Write>(&self, f: &mut fmt::Formatter<W>) -> fmt::Result {
-        f.write_str(self.syntax.text())
-    }
+    const KIND: SyntaxKind = SyntaxKind::NODE_PATH_HOME;
 }
 
 impl<'t> PathHome<'t> {
     /// The kind of these nodes.
     pub const KIND: SyntaxKind = SyntaxKind::NODE_PATH_HOME;
-
-    /// The same node once more.
-    pub fn clone(&self) -> Self
-        ensures { result ≡ self.now }
-    {
-        PathHome {
-            syntax: self.syntax.clone(),
-        }
-    }
 }
 
 /// A path that is searched for, as `<a>`.
-#[derive(Clone, Debug, PartialEq, Eq, Hash, Drop)]
-pub struct PathSearch<'t> {
-    pub(crate) syntax: SyntaxNode<'t>,
-}
+pub type PathSearch<'t> = TypedNode<'t, pointee::PathSearch>;
 
-impl<'t> Model for PathSearch<'t> {
-    ghost use Rattle.rnix_kinds.specs.declared.kinds.SyntaxKind.TheVariants as k;
-    ghost use Rattle.rnix_green.specs.Tree.{Located, located_code};
-    ghost use Rattle.rnix_base.specs.Select.{HasKind};
+impl NodeType for pointee::PathSearch {
+    ghost KIND = { k.NODE_PATH_SEARCH };
 
-    ghost Value = { Located };
-
-    ghost coded = { located_code };
-
-    ghost view = { λ n. n.syntax };
-
-    ghost inverse = { λ e. record { syntax = e } };
-
-    ghost invariant = { λ n. HasKind k.NODE_PATH_SEARCH n.syntax };
-}
-
-impl<'t> AstNode<'t> for PathSearch<'t> {
-    ghost kinds = { same_kind k.NODE_PATH_SEARCH };
-
-    ghost node = { λ n. n };
-
-    fn can_cast(kind: SyntaxKind) -> bool
-        ensures { result ≡ same_kind k.NODE_PATH_SEARCH kind }
-    {
-        kind == Self::KIND
-    }
-
-    fn cast(syntax: SyntaxNode<'t>) -> Option<Self> {
-        if Self::can_cast(syntax.kind()) {
-            Some(PathSearch { syntax })
-        } else {
-            None
-        }
-    }
-
-    fn syntax(&self) -> &SyntaxNode<'t> {
-        &self.syntax
-    }
-}
-
-impl<'t> fmt::Display for PathSearch<'t> {
-    ghost use Rattle.std.specs.Prelude.{Some};
-    ghost use Rattle.rnix_green.specs.Tree.{text_at};
-
-    ghost output = { λ node. Some (text_at node) };
-
-    fn fmt<W: fmt::Write>(&self, f: &mut fmt::Formatter<W>) -> fmt::Result {
-        f.write_str(self.syntax.text())
-    }
+    const KIND: SyntaxKind = SyntaxKind::NODE_PATH_SEARCH;
 }
 
 impl<'t> PathSearch<'t> {
     /// The kind of these nodes.
     pub const KIND: SyntaxKind = SyntaxKind::NODE_PATH_SEARCH;
-
-    /// The same node once more.
-    pub fn clone(&self) -> Self
-        ensures { result ≡ self.now }
-    {
-        PathSearch {
-            syntax: self.syntax.clone(),
-        }
-    }
 
     /// What the path says, as it is written.
     pub fn content(&self) -> Option<PathContent<'t>>

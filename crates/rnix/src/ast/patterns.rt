@@ -9,81 +9,24 @@ ghost use Rattle.rnix.specs.Sums.{expr_node};
 
 use crate::ast::expression::Expr;
 use crate::ast::names::Ident;
-use rnix_base::{AstChildren, AstNode, child_at, children, first_child, first_token};
+use crate::ast::pointee;
+use crate::ast::typed_node::{NodeType, TypedNode};
+use rnix_base::{AstChildren, child_at, children, first_child, first_token};
 use rnix_kinds::SyntaxKind;
-use rnix_tree::{SyntaxNode, SyntaxToken};
-use std::fmt;
-use std::marker::Model;
+use rnix_tree::SyntaxToken;
 
 /// A parameter that is a set, as `{ a, b ? c, ... }` in `{ a, b ? c, ... }: d`.
-#[derive(Clone, Debug, PartialEq, Eq, Hash, Drop)]
-pub struct Pattern<'t> {
-    pub(crate) syntax: SyntaxNode<'t>,
-}
+pub type Pattern<'t> = TypedNode<'t, pointee::Pattern>;
 
-impl<'t> Model for Pattern<'t> {
-    ghost use Rattle.rnix_kinds.specs.declared.kinds.SyntaxKind.TheVariants as k;
-    ghost use Rattle.rnix_green.specs.Tree.{Located, located_code};
-    ghost use Rattle.rnix_base.specs.Select.{HasKind};
+impl NodeType for pointee::Pattern {
+    ghost KIND = { k.NODE_PATTERN };
 
-    ghost Value = { Located };
-
-    ghost coded = { located_code };
-
-    ghost view = { λ n. n.syntax };
-
-    ghost inverse = { λ e. record { syntax = e } };
-
-    ghost invariant = { λ n. HasKind k.NODE_PATTERN n.syntax };
-}
-
-impl<'t> AstNode<'t> for Pattern<'t> {
-    ghost kinds = { same_kind k.NODE_PATTERN };
-
-    ghost node = { λ n. n };
-
-    fn can_cast(kind: SyntaxKind) -> bool
-        ensures { result ≡ same_kind k.NODE_PATTERN kind }
-    {
-        kind == Self::KIND
-    }
-
-    fn cast(syntax: SyntaxNode<'t>) -> Option<Self> {
-        if Self::can_cast(syntax.kind()) {
-            Some(Pattern { syntax })
-        } else {
-            None
-        }
-    }
-
-    fn syntax(&self) -> &SyntaxNode<'t> {
-        &self.syntax
-    }
-}
-
-impl<'t> fmt::Display for Pattern<'t> {
-    ghost use Rattle.std.specs.Prelude.{Some};
-    ghost use Rattle.rnix_green.specs.Tree.{text_at};
-
-    ghost output = { λ node. Some (text_at node) };
-
-    fn fmt<W: fmt::Write>(&self, f: &mut fmt::Formatter<W>) -> fmt::Result {
-        f.write_str(self.syntax.text())
-    }
+    const KIND: SyntaxKind = SyntaxKind::NODE_PATTERN;
 }
 
 impl<'t> Pattern<'t> {
     /// The kind of these nodes.
     pub const KIND: SyntaxKind = SyntaxKind::NODE_PATTERN;
-
-    /// The same node once more.
-    pub fn clone(&self) -> Self
-        ensures { result ≡ self.now }
-    {
-        Pattern {
-            syntax: self.syntax.clone(),
-        }
-    }
 
     /// The sign `@`, if it stands right below. In a tree that is read it stands in the `PatBind`.
     pub fn at_token(&self) -> Option<SyntaxToken<'t>>
@@ -116,74 +59,17 @@ impl<'t> Pattern<'t> {
 }
 
 /// An entry of a parameter, as `a` or `b ? c`.
-#[derive(Clone, Debug, PartialEq, Eq, Hash, Drop)]
-pub struct PatEntry<'t> {
-    pub(crate) syntax: SyntaxNode<'t>,
-}
+pub type PatEntry<'t> = TypedNode<'t, pointee::PatEntry>;
 
-impl<'t> Model for PatEntry<'t> {
-    ghost use Rattle.rnix_kinds.specs.declared.kinds.SyntaxKind.TheVariants as k;
-    ghost use Rattle.rnix_green.specs.Tree.{Located, located_code};
-    ghost use Rattle.rnix_base.specs.Select.{HasKind};
+impl NodeType for pointee::PatEntry {
+    ghost KIND = { k.NODE_PAT_ENTRY };
 
-    ghost Value = { Located };
-
-    ghost coded = { located_code };
-
-    ghost view = { λ n. n.syntax };
-
-    ghost inverse = { λ e. record { syntax = e } };
-
-    ghost invariant = { λ n. HasKind k.NODE_PAT_ENTRY n.syntax };
-}
-
-impl<'t> AstNode<'t> for PatEntry<'t> {
-    ghost kinds = { same_kind k.NODE_PAT_ENTRY };
-
-    ghost node = { λ n. n };
-
-    fn can_cast(kind: SyntaxKind) -> bool
-        ensures { result ≡ same_kind k.NODE_PAT_ENTRY kind }
-    {
-        kind == Self::KIND
-    }
-
-    fn cast(syntax: SyntaxNode<'t>) -> Option<Self> {
-        if Self::can_cast(syntax.kind()) {
-            Some(PatEntry { syntax })
-        } else {
-            None
-        }
-    }
-
-    fn syntax(&self) -> &SyntaxNode<'t> {
-        &self.syntax
-    }
-}
-
-impl<'t> fmt::Display for PatEntry<'t> {
-    ghost use Rattle.std.specs.Prelude.{Some};
-    ghost use Rattle.rnix_green.specs.Tree.{text_at};
-
-    ghost output = { λ node. Some (text_at node) };
-
-    fn fmt<W: fmt::Write>(&self, f: &mut fmt::Formatter<W>) -> fmt::Result {
-        f.write_str(self.syntax.text())
-    }
+    const KIND: SyntaxKind = SyntaxKind::NODE_PAT_ENTRY;
 }
 
 impl<'t> PatEntry<'t> {
     /// The kind of these nodes.
     pub const KIND: SyntaxKind = SyntaxKind::NODE_PAT_ENTRY;
-
-    /// The same node once more.
-    pub fn clone(&self) -> Self
-        ensures { result ≡ self.now }
-    {
-        PatEntry {
-            syntax: self.syntax.clone(),
-        }
-    }
 
     /// The name.
     pub fn ident(&self) -> Option<Ident<'t>>
@@ -208,74 +94,17 @@ impl<'t> PatEntry<'t> {
 }
 
 /// The name of a whole parameter, as `a @` in `a @ { b }: c`.
-#[derive(Clone, Debug, PartialEq, Eq, Hash, Drop)]
-pub struct PatBind<'t> {
-    pub(crate) syntax: SyntaxNode<'t>,
-}
+pub type PatBind<'t> = TypedNode<'t, pointee::PatBind>;
 
-impl<'t> Model for PatBind<'t> {
-    ghost use Rattle.rnix_kinds.specs.declared.kinds.SyntaxKind.TheVariants as k;
-    ghost use Rattle.rnix_green.specs.Tree.{Located, located_code};
-    ghost use Rattle.rnix_base.specs.Select.{HasKind};
+impl NodeType for pointee::PatBind {
+    ghost KIND = { k.NODE_PAT_BIND };
 
-    ghost Value = { Located };
-
-    ghost coded = { located_code };
-
-    ghost view = { λ n. n.syntax };
-
-    ghost inverse = { λ e. record { syntax = e } };
-
-    ghost invariant = { λ n. HasKind k.NODE_PAT_BIND n.syntax };
-}
-
-impl<'t> AstNode<'t> for PatBind<'t> {
-    ghost kinds = { same_kind k.NODE_PAT_BIND };
-
-    ghost node = { λ n. n };
-
-    fn can_cast(kind: SyntaxKind) -> bool
-        ensures { result ≡ same_kind k.NODE_PAT_BIND kind }
-    {
-        kind == Self::KIND
-    }
-
-    fn cast(syntax: SyntaxNode<'t>) -> Option<Self> {
-        if Self::can_cast(syntax.kind()) {
-            Some(PatBind { syntax })
-        } else {
-            None
-        }
-    }
-
-    fn syntax(&self) -> &SyntaxNode<'t> {
-        &self.syntax
-    }
-}
-
-impl<'t> fmt::Display for PatBind<'t> {
-    ghost use Rattle.std.specs.Prelude.{Some};
-    ghost use Rattle.rnix_green.specs.Tree.{text_at};
-
-    ghost output = { λ node. Some (text_at node) };
-
-    fn fmt<W: fmt::Write>(&self, f: &mut fmt::Formatter<W>) -> fmt::Result {
-        f.write_str(self.syntax.text())
-    }
+    const KIND: SyntaxKind = SyntaxKind::NODE_PAT_BIND;
 }
 
 impl<'t> PatBind<'t> {
     /// The kind of these nodes.
     pub const KIND: SyntaxKind = SyntaxKind::NODE_PAT_BIND;
-
-    /// The same node once more.
-    pub fn clone(&self) -> Self
-        ensures { result ≡ self.now }
-    {
-        PatBind {
-            syntax: self.syntax.clone(),
-        }
-    }
 
     /// The name.
     pub fn ident(&self) -> Option<Ident<'t>>

@@ -4,6 +4,7 @@ use crate::ast;
 use rnix_base::Pointee;
 
 /// `ast::Expr`.
+#[derive(Drop)]
 pub enum Expr {}
 
 impl<'t> Pointee<'t> for Expr {
@@ -11,6 +12,7 @@ impl<'t> Pointee<'t> for Expr {
 }
 
 /// `ast::Attr`.
+#[derive(Drop)]
 pub enum Attr {}
 
 impl<'t> Pointee<'t> for Attr {
@@ -18,6 +20,7 @@ impl<'t> Pointee<'t> for Attr {
 }
 
 /// `ast::Path`.
+#[derive(Drop)]
 pub enum Path {}
 
 impl<'t> Pointee<'t> for Path {
@@ -25,6 +28,7 @@ impl<'t> Pointee<'t> for Path {
 }
 
 /// `ast::Param`.
+#[derive(Drop)]
 pub enum Param {}
 
 impl<'t> Pointee<'t> for Param {
@@ -32,6 +36,7 @@ impl<'t> Pointee<'t> for Param {
 }
 
 /// `ast::Entry`.
+#[derive(Drop)]
 pub enum Entry {}
 
 impl<'t> Pointee<'t> for Entry {
@@ -39,6 +44,7 @@ impl<'t> Pointee<'t> for Entry {
 }
 
 /// `ast::Ident`.
+#[derive(Drop)]
 pub enum Ident {}
 
 impl<'t> Pointee<'t> for Ident {
@@ -46,6 +52,7 @@ impl<'t> Pointee<'t> for Ident {
 }
 
 /// `ast::Attrpath`.
+#[derive(Drop)]
 pub enum Attrpath {}
 
 impl<'t> Pointee<'t> for Attrpath {
@@ -53,6 +60,7 @@ impl<'t> Pointee<'t> for Attrpath {
 }
 
 /// `ast::Dynamic`.
+#[derive(Drop)]
 pub enum Dynamic {}
 
 impl<'t> Pointee<'t> for Dynamic {
@@ -60,6 +68,7 @@ impl<'t> Pointee<'t> for Dynamic {
 }
 
 /// `ast::CurPos`.
+#[derive(Drop)]
 pub enum CurPos {}
 
 impl<'t> Pointee<'t> for CurPos {
@@ -67,6 +76,7 @@ impl<'t> Pointee<'t> for CurPos {
 }
 
 /// `ast::Select`.
+#[derive(Drop)]
 pub enum Select {}
 
 impl<'t> Pointee<'t> for Select {
@@ -74,6 +84,7 @@ impl<'t> Pointee<'t> for Select {
 }
 
 /// `ast::HasAttr`.
+#[derive(Drop)]
 pub enum HasAttr {}
 
 impl<'t> Pointee<'t> for HasAttr {
@@ -81,6 +92,7 @@ impl<'t> Pointee<'t> for HasAttr {
 }
 
 /// `ast::Apply`.
+#[derive(Drop)]
 pub enum Apply {}
 
 impl<'t> Pointee<'t> for Apply {
@@ -88,6 +100,7 @@ impl<'t> Pointee<'t> for Apply {
 }
 
 /// `ast::BinOp`.
+#[derive(Drop)]
 pub enum BinOp {}
 
 impl<'t> Pointee<'t> for BinOp {
@@ -95,6 +108,7 @@ impl<'t> Pointee<'t> for BinOp {
 }
 
 /// `ast::UnaryOp`.
+#[derive(Drop)]
 pub enum UnaryOp {}
 
 impl<'t> Pointee<'t> for UnaryOp {
@@ -102,6 +116,7 @@ impl<'t> Pointee<'t> for UnaryOp {
 }
 
 /// `ast::IfElse`.
+#[derive(Drop)]
 pub enum IfElse {}
 
 impl<'t> Pointee<'t> for IfElse {
@@ -109,6 +124,7 @@ impl<'t> Pointee<'t> for IfElse {
 }
 
 /// `ast::Assert`.
+#[derive(Drop)]
 pub enum Assert {}
 
 impl<'t> Pointee<'t> for Assert {
@@ -116,6 +132,7 @@ impl<'t> Pointee<'t> for Assert {
 }
 
 /// `ast::With`.
+#[derive(Drop)]
 pub enum With {}
 
 impl<'t> Pointee<'t> for With {
@@ -123,6 +140,7 @@ impl<'t> Pointee<'t> for With {
 }
 
 /// `ast::Paren`.
+#[derive(Drop)]
 pub enum Paren {}
 
 impl<'t> Pointee<'t> for Paren {
@@ -130,6 +148,7 @@ impl<'t> Pointee<'t> for Paren {
 }
 
 /// `ast::List`.
+#[derive(Drop)]
 pub enum List {}
 
 impl<'t> Pointee<'t> for List {
@@ -137,6 +156,7 @@ impl<'t> Pointee<'t> for List {
 }
 
 /// `ast::Root`.
+#[derive(Drop)]
 pub enum Root {}
 
 impl<'t> Pointee<'t> for Root {
@@ -144,6 +164,7 @@ impl<'t> Pointee<'t> for Root {
 }
 
 /// `ast::Error`.
+#[derive(Drop)]
 pub enum Error {}
 
 impl<'t> Pointee<'t> for Error {
@@ -151,6 +172,7 @@ impl<'t> Pointee<'t> for Error {
 }
 
 /// `ast::AttrSet`.
+#[derive(Drop)]
 pub enum AttrSet {}
 
 impl<'t> Pointee<'t> for AttrSet {
@@ -158,6 +180,7 @@ impl<'t> Pointee<'t> for AttrSet {
 }
 
 /// `ast::AttrpathValue`.
+#[derive(Drop)]
 pub enum AttrpathValue {}
 
 impl<'t> Pointee<'t> for AttrpathValue {
@@ -165,6 +188,7 @@ impl<'t> Pointee<'t> for AttrpathValue {
 }
 
 /// `ast::Inherit`.
+#[derive(Drop)]
 pub enum Inherit {}
 
 impl<'t> Pointee<'t> for Inherit {
@@ -172,6 +196,7 @@ impl<'t> Pointee<'t> for Inherit {
 }
 
 /// `ast::InheritFrom`.
+#[derive(Drop)]
 pub enum InheritFrom {}
 
 impl<'t> Pointee<'t> for InheritFrom {
@@ -179,6 +204,7 @@ impl<'t> Pointee<'t> for InheritFrom {
 }
 
 /// `ast::LetIn`.
+#[derive(Drop)]
 pub enum LetIn {}
 
 impl<'t> Pointee<'t> for LetIn {
@@ -186,6 +212,7 @@ impl<'t> Pointee<'t> for LetIn {
 }
 
 /// `ast::LegacyLet`.
+#[derive(Drop)]
 pub enum LegacyLet {}
 
 impl<'t> Pointee<'t> for LegacyLet {
@@ -193,6 +220,7 @@ impl<'t> Pointee<'t> for LegacyLet {
 }
 
 /// `ast::Lambda`.
+#[derive(Drop)]
 pub enum Lambda {}
 
 impl<'t> Pointee<'t> for Lambda {
@@ -200,6 +228,7 @@ impl<'t> Pointee<'t> for Lambda {
 }
 
 /// `ast::IdentParam`.
+#[derive(Drop)]
 pub enum IdentParam {}
 
 impl<'t> Pointee<'t> for IdentParam {
@@ -207,6 +236,7 @@ impl<'t> Pointee<'t> for IdentParam {
 }
 
 /// `ast::Pattern`.
+#[derive(Drop)]
 pub enum Pattern {}
 
 impl<'t> Pointee<'t> for Pattern {
@@ -214,6 +244,7 @@ impl<'t> Pointee<'t> for Pattern {
 }
 
 /// `ast::PatEntry`.
+#[derive(Drop)]
 pub enum PatEntry {}
 
 impl<'t> Pointee<'t> for PatEntry {
@@ -221,6 +252,7 @@ impl<'t> Pointee<'t> for PatEntry {
 }
 
 /// `ast::PatBind`.
+#[derive(Drop)]
 pub enum PatBind {}
 
 impl<'t> Pointee<'t> for PatBind {
@@ -228,6 +260,7 @@ impl<'t> Pointee<'t> for PatBind {
 }
 
 /// `ast::Str`.
+#[derive(Drop)]
 pub enum Str {}
 
 impl<'t> Pointee<'t> for Str {
@@ -235,6 +268,7 @@ impl<'t> Pointee<'t> for Str {
 }
 
 /// `ast::Interpol`.
+#[derive(Drop)]
 pub enum Interpol {}
 
 impl<'t> Pointee<'t> for Interpol {
@@ -242,6 +276,7 @@ impl<'t> Pointee<'t> for Interpol {
 }
 
 /// `ast::Literal`.
+#[derive(Drop)]
 pub enum Literal {}
 
 impl<'t> Pointee<'t> for Literal {
@@ -249,6 +284,7 @@ impl<'t> Pointee<'t> for Literal {
 }
 
 /// `ast::PathAbs`.
+#[derive(Drop)]
 pub enum PathAbs {}
 
 impl<'t> Pointee<'t> for PathAbs {
@@ -256,6 +292,7 @@ impl<'t> Pointee<'t> for PathAbs {
 }
 
 /// `ast::PathRel`.
+#[derive(Drop)]
 pub enum PathRel {}
 
 impl<'t> Pointee<'t> for PathRel {
@@ -263,6 +300,7 @@ impl<'t> Pointee<'t> for PathRel {
 }
 
 /// `ast::PathHome`.
+#[derive(Drop)]
 pub enum PathHome {}
 
 impl<'t> Pointee<'t> for PathHome {
@@ -270,6 +308,7 @@ impl<'t> Pointee<'t> for PathHome {
 }
 
 /// `ast::PathSearch`.
+#[derive(Drop)]
 pub enum PathSearch {}
 
 impl<'t> Pointee<'t> for PathSearch {

@@ -9,81 +9,24 @@ ghost use Rattle.rnix.specs.Sums.{expr_node};
 
 use crate::ast::expression::Expr;
 use crate::ast::names::Attrpath;
-use rnix_base::{AstNode, child_at, first_child, first_token};
+use crate::ast::pointee;
+use crate::ast::typed_node::{NodeType, TypedNode};
+use rnix_base::{child_at, first_child, first_token};
 use rnix_kinds::SyntaxKind;
-use rnix_tree::{SyntaxNode, SyntaxToken};
-use std::fmt;
-use std::marker::Model;
+use rnix_tree::SyntaxToken;
 
 /// A value of a set, as `a.b` or `a.b or c`.
-#[derive(Clone, Debug, PartialEq, Eq, Hash, Drop)]
-pub struct Select<'t> {
-    pub(crate) syntax: SyntaxNode<'t>,
-}
+pub type Select<'t> = TypedNode<'t, pointee::Select>;
 
-impl<'t> Model for Select<'t> {
-    ghost use Rattle.rnix_kinds.specs.declared.kinds.SyntaxKind.TheVariants as k;
-    ghost use Rattle.rnix_green.specs.Tree.{Located, located_code};
-    ghost use Rattle.rnix_base.specs.Select.{HasKind};
+impl NodeType for pointee::Select {
+    ghost KIND = { k.NODE_SELECT };
 
-    ghost Value = { Located };
-
-    ghost coded = { located_code };
-
-    ghost view = { λ n. n.syntax };
-
-    ghost inverse = { λ e. record { syntax = e } };
-
-    ghost invariant = { λ n. HasKind k.NODE_SELECT n.syntax };
-}
-
-impl<'t> AstNode<'t> for Select<'t> {
-    ghost kinds = { same_kind k.NODE_SELECT };
-
-    ghost node = { λ n. n };
-
-    fn can_cast(kind: SyntaxKind) -> bool
-        ensures { result ≡ same_kind k.NODE_SELECT kind }
-    {
-        kind == Self::KIND
-    }
-
-    fn cast(syntax: SyntaxNode<'t>) -> Option<Self> {
-        if Self::can_cast(syntax.kind()) {
-            Some(Select { syntax })
-        } else {
-            None
-        }
-    }
-
-    fn syntax(&self) -> &SyntaxNode<'t> {
-        &self.syntax
-    }
-}
-
-impl<'t> fmt::Display for Select<'t> {
-    ghost use Rattle.std.specs.Prelude.{Some};
-    ghost use Rattle.rnix_green.specs.Tree.{text_at};
-
-    ghost output = { λ node. Some (text_at node) };
-
-    fn fmt<W: fmt::Write>(&self, f: &mut fmt::Formatter<W>) -> fmt::Result {
-        f.write_str(self.syntax.text())
-    }
+    const KIND: SyntaxKind = SyntaxKind::NODE_SELECT;
 }
 
 impl<'t> Select<'t> {
     /// The kind of these nodes.
     pub const KIND: SyntaxKind = SyntaxKind::NODE_SELECT;
-
-    /// The same node once more.
-    pub fn clone(&self) -> Self
-        ensures { result ≡ self.now }
-    {
-        Select {
-            syntax: self.syntax.clone(),
-        }
-    }
 
     /// The set.
     pub fn expr(&self) -> Option<Expr<'t>>
@@ -122,74 +65,17 @@ impl<'t> Select<'t> {
 }
 
 /// Whether a set has a value, as `a ? b`.
-#[derive(Clone, Debug, PartialEq, Eq, Hash, Drop)]
-pub struct HasAttr<'t> {
-    pub(crate) syntax: SyntaxNode<'t>,
-}
+pub type HasAttr<'t> = TypedNode<'t, pointee::HasAttr>;
 
-impl<'t> Model for HasAttr<'t> {
-    ghost use Rattle.rnix_kinds.specs.declared.kinds.SyntaxKind.TheVariants as k;
-    ghost use Rattle.rnix_green.specs.Tree.{Located, located_code};
-    ghost use Rattle.rnix_base.specs.Select.{HasKind};
+impl NodeType for pointee::HasAttr {
+    ghost KIND = { k.NODE_HAS_ATTR };
 
-    ghost Value = { Located };
-
-    ghost coded = { located_code };
-
-    ghost view = { λ n. n.syntax };
-
-    ghost inverse = { λ e. record { syntax = e } };
-
-    ghost invariant = { λ n. HasKind k.NODE_HAS_ATTR n.syntax };
-}
-
-impl<'t> AstNode<'t> for HasAttr<'t> {
-    ghost kinds = { same_kind k.NODE_HAS_ATTR };
-
-    ghost node = { λ n. n };
-
-    fn can_cast(kind: SyntaxKind) -> bool
-        ensures { result ≡ same_kind k.NODE_HAS_ATTR kind }
-    {
-        kind == Self::KIND
-    }
-
-    fn cast(syntax: SyntaxNode<'t>) -> Option<Self> {
-        if Self::can_cast(syntax.kind()) {
-            Some(HasAttr { syntax })
-        } else {
-            None
-        }
-    }
-
-    fn syntax(&self) -> &SyntaxNode<'t> {
-        &self.syntax
-    }
-}
-
-impl<'t> fmt::Display for HasAttr<'t> {
-    ghost use Rattle.std.specs.Prelude.{Some};
-    ghost use Rattle.rnix_green.specs.Tree.{text_at};
-
-    ghost output = { λ node. Some (text_at node) };
-
-    fn fmt<W: fmt::Write>(&self, f: &mut fmt::Formatter<W>) -> fmt::Result {
-        f.write_str(self.syntax.text())
-    }
+    const KIND: SyntaxKind = SyntaxKind::NODE_HAS_ATTR;
 }
 
 impl<'t> HasAttr<'t> {
     /// The kind of these nodes.
     pub const KIND: SyntaxKind = SyntaxKind::NODE_HAS_ATTR;
-
-    /// The same node once more.
-    pub fn clone(&self) -> Self
-        ensures { result ≡ self.now }
-    {
-        HasAttr {
-            syntax: self.syntax.clone(),
-        }
-    }
 
     /// The set.
     pub fn expr(&self) -> Option<Expr<'t>>

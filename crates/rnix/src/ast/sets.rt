@@ -10,81 +10,24 @@ ghost use Rattle.rnix.specs.Sums.{expr_node};
 use crate::ast::attributes::Attr;
 use crate::ast::expression::Expr;
 use crate::ast::names::Attrpath;
-use rnix_base::{AstChildren, AstNode, child_at, children, first_child, first_token};
+use crate::ast::pointee;
+use crate::ast::typed_node::{NodeType, TypedNode};
+use rnix_base::{AstChildren, child_at, children, first_child, first_token};
 use rnix_kinds::SyntaxKind;
-use rnix_tree::{SyntaxNode, SyntaxToken};
-use std::fmt;
-use std::marker::Model;
+use rnix_tree::SyntaxToken;
 
 /// A set, as `{ a = b; }` or `rec { a = b; }`.
-#[derive(Clone, Debug, PartialEq, Eq, Hash, Drop)]
-pub struct AttrSet<'t> {
-    pub(crate) syntax: SyntaxNode<'t>,
-}
+pub type AttrSet<'t> = TypedNode<'t, pointee::AttrSet>;
 
-impl<'t> Model for AttrSet<'t> {
-    ghost use Rattle.rnix_kinds.specs.declared.kinds.SyntaxKind.TheVariants as k;
-    ghost use Rattle.rnix_green.specs.Tree.{Located, located_code};
-    ghost use Rattle.rnix_base.specs.Select.{HasKind};
+impl NodeType for pointee::AttrSet {
+    ghost KIND = { k.NODE_ATTR_SET };
 
-    ghost Value = { Located };
-
-    ghost coded = { located_code };
-
-    ghost view = { λ n. n.syntax };
-
-    ghost inverse = { λ e. record { syntax = e } };
-
-    ghost invariant = { λ n. HasKind k.NODE_ATTR_SET n.syntax };
-}
-
-impl<'t> AstNode<'t> for AttrSet<'t> {
-    ghost kinds = { same_kind k.NODE_ATTR_SET };
-
-    ghost node = { λ n. n };
-
-    fn can_cast(kind: SyntaxKind) -> bool
-        ensures { result ≡ same_kind k.NODE_ATTR_SET kind }
-    {
-        kind == Self::KIND
-    }
-
-    fn cast(syntax: SyntaxNode<'t>) -> Option<Self> {
-        if Self::can_cast(syntax.kind()) {
-            Some(AttrSet { syntax })
-        } else {
-            None
-        }
-    }
-
-    fn syntax(&self) -> &SyntaxNode<'t> {
-        &self.syntax
-    }
-}
-
-impl<'t> fmt::Display for AttrSet<'t> {
-    ghost use Rattle.std.specs.Prelude.{Some};
-    ghost use Rattle.rnix_green.specs.Tree.{text_at};
-
-    ghost output = { λ node. Some (text_at node) };
-
-    fn fmt<W: fmt::Write>(&self, f: &mut fmt::Formatter<W>) -> fmt::Result {
-        f.write_str(self.syntax.text())
-    }
+    const KIND: SyntaxKind = SyntaxKind::NODE_ATTR_SET;
 }
 
 impl<'t> AttrSet<'t> {
     /// The kind of these nodes.
     pub const KIND: SyntaxKind = SyntaxKind::NODE_ATTR_SET;
-
-    /// The same node once more.
-    pub fn clone(&self) -> Self
-        ensures { result ≡ self.now }
-    {
-        AttrSet {
-            syntax: self.syntax.clone(),
-        }
-    }
 
     /// The word `rec`.
     pub fn rec_token(&self) -> Option<SyntaxToken<'t>>
@@ -109,74 +52,17 @@ impl<'t> AttrSet<'t> {
 }
 
 /// An entry with its value, as `a.b = c;`.
-#[derive(Clone, Debug, PartialEq, Eq, Hash, Drop)]
-pub struct AttrpathValue<'t> {
-    pub(crate) syntax: SyntaxNode<'t>,
-}
+pub type AttrpathValue<'t> = TypedNode<'t, pointee::AttrpathValue>;
 
-impl<'t> Model for AttrpathValue<'t> {
-    ghost use Rattle.rnix_kinds.specs.declared.kinds.SyntaxKind.TheVariants as k;
-    ghost use Rattle.rnix_green.specs.Tree.{Located, located_code};
-    ghost use Rattle.rnix_base.specs.Select.{HasKind};
+impl NodeType for pointee::AttrpathValue {
+    ghost KIND = { k.NODE_ATTRPATH_VALUE };
 
-    ghost Value = { Located };
-
-    ghost coded = { located_code };
-
-    ghost view = { λ n. n.syntax };
-
-    ghost inverse = { λ e. record { syntax = e } };
-
-    ghost invariant = { λ n. HasKind k.NODE_ATTRPATH_VALUE n.syntax };
-}
-
-impl<'t> AstNode<'t> for AttrpathValue<'t> {
-    ghost kinds = { same_kind k.NODE_ATTRPATH_VALUE };
-
-    ghost node = { λ n. n };
-
-    fn can_cast(kind: SyntaxKind) -> bool
-        ensures { result ≡ same_kind k.NODE_ATTRPATH_VALUE kind }
-    {
-        kind == Self::KIND
-    }
-
-    fn cast(syntax: SyntaxNode<'t>) -> Option<Self> {
-        if Self::can_cast(syntax.kind()) {
-            Some(AttrpathValue { syntax })
-        } else {
-            None
-        }
-    }
-
-    fn syntax(&self) -> &SyntaxNode<'t> {
-        &self.syntax
-    }
-}
-
-impl<'t> fmt::Display for AttrpathValue<'t> {
-    ghost use Rattle.std.specs.Prelude.{Some};
-    ghost use Rattle.rnix_green.specs.Tree.{text_at};
-
-    ghost output = { λ node. Some (text_at node) };
-
-    fn fmt<W: fmt::Write>(&self, f: &mut fmt::Formatter<W>) -> fmt::Result {
-        f.write_str(self.syntax.text())
-    }
+    const KIND: SyntaxKind = SyntaxKind::NODE_ATTRPATH_VALUE;
 }
 
 impl<'t> AttrpathValue<'t> {
     /// The kind of these nodes.
     pub const KIND: SyntaxKind = SyntaxKind::NODE_ATTRPATH_VALUE;
-
-    /// The same node once more.
-    pub fn clone(&self) -> Self
-        ensures { result ≡ self.now }
-    {
-        AttrpathValue {
-            syntax: self.syntax.clone(),
-        }
-    }
 
     /// The names that lead to the value.
     pub fn attrpath(&self) -> Option<Attrpath<'t>>
@@ -201,74 +87,17 @@ impl<'t> AttrpathValue<'t> {
 }
 
 /// Entries that are taken from around the set or from another one, as `inherit a b;` or `inherit (c) a b;`.
-#[derive(Clone, Debug, PartialEq, Eq, Hash, Drop)]
-pub struct Inherit<'t> {
-    pub(crate) syntax: SyntaxNode<'t>,
-}
+pub type Inherit<'t> = TypedNode<'t, pointee::Inherit>;
 
-impl<'t> Model for Inherit<'t> {
-    ghost use Rattle.rnix_kinds.specs.declared.kinds.SyntaxKind.TheVariants as k;
-    ghost use Rattle.rnix_green.specs.Tree.{Located, located_code};
-    ghost use Rattle.rnix_base.specs.Select.{HasKind};
+impl NodeType for pointee::Inherit {
+    ghost KIND = { k.NODE_INHERIT };
 
-    ghost Value = { Located };
-
-    ghost coded = { located_code };
-
-    ghost view = { λ n. n.syntax };
-
-    ghost inverse = { λ e. record { syntax = e } };
-
-    ghost invariant = { λ n. HasKind k.NODE_INHERIT n.syntax };
-}
-
-impl<'t> AstNode<'t> for Inherit<'t> {
-    ghost kinds = { same_kind k.NODE_INHERIT };
-
-    ghost node = { λ n. n };
-
-    fn can_cast(kind: SyntaxKind) -> bool
-        ensures { result ≡ same_kind k.NODE_INHERIT kind }
-    {
-        kind == Self::KIND
-    }
-
-    fn cast(syntax: SyntaxNode<'t>) -> Option<Self> {
-        if Self::can_cast(syntax.kind()) {
-            Some(Inherit { syntax })
-        } else {
-            None
-        }
-    }
-
-    fn syntax(&self) -> &SyntaxNode<'t> {
-        &self.syntax
-    }
-}
-
-impl<'t> fmt::Display for Inherit<'t> {
-    ghost use Rattle.std.specs.Prelude.{Some};
-    ghost use Rattle.rnix_green.specs.Tree.{text_at};
-
-    ghost output = { λ node. Some (text_at node) };
-
-    fn fmt<W: fmt::Write>(&self, f: &mut fmt::Formatter<W>) -> fmt::Result {
-        f.write_str(self.syntax.text())
-    }
+    const KIND: SyntaxKind = SyntaxKind::NODE_INHERIT;
 }
 
 impl<'t> Inherit<'t> {
     /// The kind of these nodes.
     pub const KIND: SyntaxKind = SyntaxKind::NODE_INHERIT;
-
-    /// The same node once more.
-    pub fn clone(&self) -> Self
-        ensures { result ≡ self.now }
-    {
-        Inherit {
-            syntax: self.syntax.clone(),
-        }
-    }
 
     /// The word `inherit`.
     pub fn inherit_token(&self) -> Option<SyntaxToken<'t>>
@@ -294,74 +123,17 @@ impl<'t> Inherit<'t> {
 }
 
 /// The set that entries are taken from, as `(c)`.
-#[derive(Clone, Debug, PartialEq, Eq, Hash, Drop)]
-pub struct InheritFrom<'t> {
-    pub(crate) syntax: SyntaxNode<'t>,
-}
+pub type InheritFrom<'t> = TypedNode<'t, pointee::InheritFrom>;
 
-impl<'t> Model for InheritFrom<'t> {
-    ghost use Rattle.rnix_kinds.specs.declared.kinds.SyntaxKind.TheVariants as k;
-    ghost use Rattle.rnix_green.specs.Tree.{Located, located_code};
-    ghost use Rattle.rnix_base.specs.Select.{HasKind};
+impl NodeType for pointee::InheritFrom {
+    ghost KIND = { k.NODE_INHERIT_FROM };
 
-    ghost Value = { Located };
-
-    ghost coded = { located_code };
-
-    ghost view = { λ n. n.syntax };
-
-    ghost inverse = { λ e. record { syntax = e } };
-
-    ghost invariant = { λ n. HasKind k.NODE_INHERIT_FROM n.syntax };
-}
-
-impl<'t> AstNode<'t> for InheritFrom<'t> {
-    ghost kinds = { same_kind k.NODE_INHERIT_FROM };
-
-    ghost node = { λ n. n };
-
-    fn can_cast(kind: SyntaxKind) -> bool
-        ensures { result ≡ same_kind k.NODE_INHERIT_FROM kind }
-    {
-        kind == Self::KIND
-    }
-
-    fn cast(syntax: SyntaxNode<'t>) -> Option<Self> {
-        if Self::can_cast(syntax.kind()) {
-            Some(InheritFrom { syntax })
-        } else {
-            None
-        }
-    }
-
-    fn syntax(&self) -> &SyntaxNode<'t> {
-        &self.syntax
-    }
-}
-
-impl<'t> fmt::Display for InheritFrom<'t> {
-    ghost use Rattle.std.specs.Prelude.{Some};
-    ghost use Rattle.rnix_green.specs.Tree.{text_at};
-
-    ghost output = { λ node. Some (text_at node) };
-
-    fn fmt<W: fmt::Write>(&self, f: &mut fmt::Formatter<W>) -> fmt::Result {
-        f.write_str(self.syntax.text())
-    }
+    const KIND: SyntaxKind = SyntaxKind::NODE_INHERIT_FROM;
 }
 
 impl<'t> InheritFrom<'t> {
     /// The kind of these nodes.
     pub const KIND: SyntaxKind = SyntaxKind::NODE_INHERIT_FROM;
-
-    /// The same node once more.
-    pub fn clone(&self) -> Self
-        ensures { result ≡ self.now }
-    {
-        InheritFrom {
-            syntax: self.syntax.clone(),
-        }
-    }
 
     /// The sign `(`.
     pub fn l_paren_token(&self) -> Option<SyntaxToken<'t>>
