@@ -45,6 +45,7 @@ pub fn is_pattern(second: Option<SyntaxKind>, third: Option<SyntaxKind>) -> bool
 }
 
 // Whether a name is read as the current position.
+#[inline(always)]
 fn is_cur_pos(name: &str) -> bool
     ensures { result ≡ is_cur_pos name.now }
 {
@@ -52,6 +53,7 @@ fn is_cur_pos(name: &str) -> bool
 }
 
 // What a name begins.
+#[inline(always)]
 fn begin_name(text: &str, second: Option<SyntaxKind>) -> Begin
     ensures { result ≡ begin_name text.now second }
 {
@@ -79,6 +81,7 @@ fn begin_let(second: Option<SyntaxKind>) -> Begin
 }
 
 // What a keyword begins: an expression that is not an operand of operators.
+#[inline(always)]
 fn begin_keyword(kind: SyntaxKind, second: Option<SyntaxKind>) -> Begin
     ensures { result ≡ begin_keyword kind second }
 {
@@ -96,6 +99,7 @@ fn begin_keyword(kind: SyntaxKind, second: Option<SyntaxKind>) -> Begin
 }
 
 // What a keyword begins, where any expression may stand.
+#[inline(always)]
 fn begin_scope(level: u8, kind: SyntaxKind, second: Option<SyntaxKind>) -> Begin
     ensures { result ≡ begin_scope level kind second }
 {
@@ -107,6 +111,7 @@ fn begin_scope(level: u8, kind: SyntaxKind, second: Option<SyntaxKind>) -> Begin
 }
 
 // What a prefix operator begins.
+#[inline(always)]
 fn begin_prefix(level: u8, kind: SyntaxKind) -> Begin
     ensures { result ≡ begin_prefix level kind }
 {
@@ -138,6 +143,7 @@ fn begin_prefix(level: u8, kind: SyntaxKind) -> Begin
 }
 
 /// How an operand of a level begins, by the next three tokens that are not trivia.
+#[inline(always)]
 pub fn begin_of(
     level: u8,
     first: Token<'_>,

@@ -38,6 +38,7 @@ pub enum Associativity {
 }
 
 /// The level of a binary operator, and which way it groups.
+#[inline(always)]
 pub fn operator(kind: SyntaxKind) -> Option<(u8, Associativity)>
     ensures table { result ≡ operator kind }
     ensures within { IfSome result (λ found. (1 ≤ found.0) × (found.0 ≤ concatenation_level)) }
@@ -62,6 +63,7 @@ pub fn operator(kind: SyntaxKind) -> Option<(u8, Associativity)>
 }
 
 // How tightly a token that is no binary operator binds what stands before it.
+#[inline(always)]
 fn plain_binding_power(kind: SyntaxKind) -> u8
     ensures { result ≡ plain_binding_power kind }
 {
@@ -79,6 +81,7 @@ fn plain_binding_power(kind: SyntaxKind) -> u8
 }
 
 /// How tightly a token binds what stands before it: its level, and no level for one that ends an expression.
+#[inline(always)]
 pub fn binding_power(kind: SyntaxKind) -> u8
     ensures { result ≡ binding_power kind }
 {
@@ -89,6 +92,7 @@ pub fn binding_power(kind: SyntaxKind) -> u8
 }
 
 /// The loosest level of the right operand of an operator.
+#[inline(never)]
 pub fn right_of(kind: SyntaxKind) -> u8
     ensures { result ≡ right_of kind }
 {
@@ -100,6 +104,7 @@ pub fn right_of(kind: SyntaxKind) -> u8
 }
 
 /// The tightest level of an operator that may follow the node of an operator.
+#[inline(never)]
 pub fn high_of(kind: SyntaxKind) -> u8
     ensures { result ≡ high_of kind }
 {

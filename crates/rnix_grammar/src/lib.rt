@@ -14,5 +14,6 @@ pub use action::{Action, action_at};
 pub use begin::{Begin, begin_of};
 pub use error::ParseError;
 pub use level::{APPLICATION_LEVEL, EXPRESSION_LEVEL, NO_LEVEL, SELECTION_LEVEL};
+pub use operand::goes_on;
 pub use place::Place;
 pub use until::{Until, operand_kinds, stops, wanted_kinds};

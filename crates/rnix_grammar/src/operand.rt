@@ -2,7 +2,7 @@
 
 ghost use Rattle.std.specs.Prelude.{◌≡◌};
 ghost use Rattle.rnix_grammar.specs.Levels.{binding_power};
-ghost use Rattle.rnix_grammar.specs.Actions.{follow, more_action};
+ghost use Rattle.rnix_grammar.specs.Actions.{follow, goes_on, more_action};
 
 use crate::action::Action;
 use crate::level::{APPLICATION_LEVEL, HAS_ATTR_LEVEL, NO_LEVEL, binding_power, high_of, right_of};
@@ -39,6 +39,15 @@ fn follow(kind: SyntaxKind) -> Action
     }
 }
 
+/// Whether a token goes on with an operand, which operators of the levels from the first to the second continue.
+#[inline(always)]
+pub fn goes_on(low: u8, high: u8, kind: SyntaxKind) -> bool
+    ensures { result ≡ goes_on low high kind }
+{
+    let level = binding_power(kind);
+    level != NO_LEVEL && low <= level && level <= high
+}
+
 /// What the reader does after an operand, which operators of the levels from the first to the second continue.
 pub fn more_action(low: u8, high: u8, next: Option<SyntaxKind>) -> Action
     ensures { result ≡ more_action low high next }
@@ -46,8 +55,7 @@ pub fn more_action(low: u8, high: u8, next: Option<SyntaxKind>) -> Action
     match next {
         None => Action::Settle,
         Some(kind) => {
-            let level = binding_power(kind);
-            if level != NO_LEVEL && low <= level && level <= high {
+            if goes_on(low, high, kind) {
                 follow(kind)
             } else {
                 Action::Settle

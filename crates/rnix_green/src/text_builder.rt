@@ -71,7 +71,8 @@ impl<'t> TextBuilder<'t> {
         ensures err { OnErr result (self.new ≡ self.old) }
     {
         let place = self.starts.len();
-        self.pending.push(OpenNode { kind, place })?;
+        self.pending.reserve(1)?;
+        self.pending.push_reserved(OpenNode { kind, place });
         Ok(())
     }
 
@@ -114,7 +115,8 @@ impl<'t> TextBuilder<'t> {
         ensures err { OnErr result (self.new ≡ self.old) }
     {
         let place = checkpoint.place;
-        self.pending.push(OpenNode { kind, place })?;
+        self.pending.reserve(1)?;
+        self.pending.push_reserved(OpenNode { kind, place });
         Ok(())
     }
 

@@ -310,6 +310,7 @@ impl SyntaxKind {
     }
 
     /// Whether the token is a literal by itself: a number, a path or a URI.
+    #[inline(always)]
     pub fn is_literal(self) -> bool
         ensures { result ≡ is_literal self }
     {
@@ -326,6 +327,7 @@ impl SyntaxKind {
     }
 
     /// Whether the token may begin the argument of a function.
+    #[inline(always)]
     pub fn is_fn_arg(self) -> bool
         ensures { result ≡ is_fn_arg self }
     {

@@ -14,6 +14,7 @@ pub mod KeptLemmas
 pub mod GoesLemmas
 pub mod PerformLemmas
 pub mod LoopLemmas
+pub mod CompletionLemmas
 pub mod FinishLemmas
 pub mod DocumentLemmas
 pub mod BeginLemmas

@@ -12,7 +12,7 @@ use Rattle.rnix_reader.specs.declared.mark.Mark.{Mark}
 use Rattle.rnix_reader.specs.declared.names.Names.{Names}
 use Rattle.rnix_reader.specs.Placed.{AreInOrder}
 use Rattle.rnix_reader.specs.Names.{texts_of, extents_of}
-use Rattle.rnix_reader.specs.State.{State}
+use Rattle.rnix_reader.specs.State.{State, with_marks}
 use Rattle.rnix_reader.specs.Flat.{marks_of, mark_of, flat, popped}
 use Rattle.rnix_reader.specs.Holds.{Holds, Holding, IsHolding, NamesAfter, action_of, is_finish, work}
 use Rattle.rnix_grammar.specs.Allowed.{Allowed}
@@ -54,10 +54,6 @@ last_same (a ∷ xs) (b ∷ ys) x y e =
     let heads : a ≡ b = cc in
     let more = last_same xs ys x y tails in
     (ap (λ z. a ∷ z) more.0 ∙ ap (λ z. z ∷ ys) heads, more.1)
-
--- the innermost mark is taken
-abbrev pub with_marks : List Mark → State → State
-with_marks ms s = record { rest = s.rest; trees = s.trees; open_nodes = s.open_nodes; faults = s.faults; reached = s.reached; marks = ms }
 
 -- the innermost mark is taken
 pub takes : (m : Machine) (s s' : State) (names : Names) (mark : Mark) → Holds m s names → s.marks ≡ s'.marks ++ mark ∷ [] → s' ≡ with_marks s'.marks s → IsHolding m mark s' names

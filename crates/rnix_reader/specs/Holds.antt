@@ -21,7 +21,7 @@ use Rattle.rnix_reader.specs.declared.names.NameSet.{NameSet}
 use Rattle.rnix_reader.specs.declared.names.Names.{Names}
 use Rattle.rnix_reader.specs.Placed.{AreInOrder}
 use Rattle.rnix_reader.specs.Names.{has_name, texts_of, extents_of, PatternOpened, PatternClosed, EntryNamed, EntryClosed}
-use Rattle.rnix_reader.specs.State.{State, items_left, IsNextItem, ended, failed}
+use Rattle.rnix_reader.specs.State.{State, items_left, with_marks, IsNextItem, ended, failed}
 use Rattle.rnix_reader.specs.Steps.{begins_with}
 use Rattle.rnix_reader.specs.Flat.{flat, popped, mark_of}
 use Rattle.rnix_grammar.specs.Sorts.{sort_of, sort_of_head, may_hold, Root}
@@ -227,3 +227,8 @@ work s = 100 * length (items_left s) + weights s.marks + bonus_on (items_left s)
 -- the machine has come as far as the reader
 abbrev pub IsGoing : List Token → State → Names → Type 0
 IsGoing ts s names = (m : Machine) × Runs true (begins ts) m × Holds m s names
+
+-- the innermost mark that is not complete is taken: with it on the stack the machine has come as far as the reader, and no more is to do than before
+abbrev pub IsNextMark : List Token → Names → State → State → Option Mark → Type 0
+IsNextMark ts names s s' None = ⊥
+IsNextMark ts names s s' (Some mark) = IsGoing ts (with_marks (s'.marks ++ mark ∷ []) s') names × (work (with_marks (s'.marks ++ mark ∷ []) s') ≤ work s)

@@ -31,6 +31,10 @@ state p = record {
   marks = p.marks.items;
 }
 
+-- with other marks
+abbrev pub with_marks : List Mark → State → State
+with_marks ms s = record { rest = s.rest; trees = s.trees; open_nodes = s.open_nodes; faults = s.faults; reached = s.reached; marks = ms }
+
 -- the tokens that are left and are no trivia
 abbrev pub items_left : State → List Token
 items_left s = items s.rest

@@ -213,6 +213,7 @@ impl<'t> Cursor<'t> {
     }
 
     /// Moves past the next token.
+    #[inline(always)]
     pub(crate) fn advance(&mut self)
         ensures { self.new ≡ tail_of self.old }
     {

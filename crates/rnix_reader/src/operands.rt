@@ -33,6 +33,7 @@ fn is_brace(kind: SyntaxKind) -> bool
 
 impl<'t> Parser<'t> {
     // The kind of the second item, where it matters to an operand that begins with a token of the kind.
+    #[inline(always)]
     fn second_of(&self, kind: SyntaxKind) -> Option<SyntaxKind>
         ensures { result ≡ (if looks_behind kind then head_kind (tail_of (items_left (state self.now))) else None) }
     {
@@ -43,6 +44,7 @@ impl<'t> Parser<'t> {
     }
 
     // The kind of the third item, where it matters.
+    #[inline(always)]
     fn third_of(&self, kind: SyntaxKind) -> Option<SyntaxKind>
         ensures { result ≡ (if is_brace kind then second_kind (tail_of (items_left (state self.now))) else None) }
     {

@@ -131,7 +131,8 @@ impl<'t> Parser<'t> {
         ensures state { OnOk result (state self.new ≡ marked (mark_at place depth at) (state self.old)) }
         ensures builder { OnOk result (self.new.builder ≡ self.old.builder) }
     {
-        self.marks.push(Mark { place, depth, at })?;
+        self.marks.reserve(1)?;
+        self.marks.push_reserved(Mark { place, depth, at });
         Ok(())
     }
 

@@ -1,6 +1,9 @@
 //! Reading by the grammar's table: one step after another, until the root is complete.
 
-ghost use Rattle.std.specs.Prelude.{◌≡◌, ◌≤◌, ◌<◌, [], length, OnOk, true, false};
+ghost use Rattle.std.specs.Prelude.{◌≡◌, ◌≤◌, ◌<◌, [], List, Bool, Option, length, IfOk, OnOk, true, false};
+ghost use Rattle.rnix_kinds.specs.declared.kinds.SyntaxKind.{SyntaxKind};
+ghost use Rattle.rnix_grammar.specs.declared.action.Action.TheVariants.{Close, Settle};
+ghost use Rattle.rnix_grammar.specs.Actions.{action_at};
 ghost use Rattle.rnix_grammar.specs.Tables.{stops};
 ghost use Rattle.rnix_grammar.specs.AnnotatedForest.{Token, head_kind};
 ghost use Rattle.rnix_grammar.specs.Machine.{Machine, begins, begun, reading, low_of};
@@ -10,7 +13,7 @@ ghost use Rattle.rnix_reader.specs.Steps.{entry_begun, second_begun};
 ghost use Rattle.rnix_reader.specs.Flat.{flat};
 ghost use Rattle.rnix_reader.specs.Names.{texts_of, extents_of, EntryNamed};
 ghost use Rattle.rnix_grammar.specs.Allowed.{is_there};
-ghost use Rattle.rnix_reader.specs.Holds.{IsHolding, NamesAfter, IsReadTo, EntryTold, TwiceOpened, action_of, is_finish, opens_pattern, opens_on, NamesFor, opens_in};
+ghost use Rattle.rnix_reader.specs.Holds.{IsGoing, IsHolding, IsNextMark, NamesAfter, IsReadTo, EntryTold, TwiceOpened, action_of, is_finish, opens_pattern, opens_on, NamesFor, opens_in};
 ghost use Rattle.rnix_reader.specs.Simulates.{Simulates, SimulatesAt, SimulatesStep, operand_next};
 ghost use Rattle.rnix_reader.specs.Reported.{run_reported, extra_reported, second_reported};
 
@@ -20,7 +23,7 @@ use crate::names::Names;
 use crate::parser::Parser;
 use rnix_grammar::{
     APPLICATION_LEVEL, Action, Begin, EXPRESSION_LEVEL, NO_LEVEL, ParseError, Place,
-    SELECTION_LEVEL, Until, action_at,
+    SELECTION_LEVEL, Until, action_at, goes_on,
 };
 use rnix_green::TextRange;
 use rnix_kinds::SyntaxKind;
@@ -84,7 +87,7 @@ fn begin<'t>(
 }
 
 // Begins an operand of a level.
-#[inline(always)]
+#[inline(never)]
 fn operand<'t>(
     p: &mut Parser<'t>,
     names: &mut Names<'t>,
@@ -276,6 +279,43 @@ fn step<'t>(
     Ok(())
 }
 
+// Whether the row is complete at the place.
+#[inline(always)]
+fn is_past(place: Place) -> bool
+    ensures { (next : Option SyntaxKind) (touches : Bool) → result ≡ true → action_at place next touches ≡ Close }
+{
+    matches!(place, Place::Past | Place::Operated(_))
+}
+
+// Whether the place is behind an operand, and nothing goes on with it.
+#[inline(always)]
+fn is_settled(place: Place, next: Option<SyntaxKind>) -> bool
+    ensures { (touches : Bool) → result ≡ true → action_at place next touches ≡ Settle }
+{
+    match (place, next) {
+        (Place::Behind(low, high), Some(kind)) => !goes_on(low, high, kind),
+        (Place::Behind(_, _), None) => true,
+        _ => false,
+    }
+}
+
+// Takes the mark of the innermost node or operand that is not complete, and completes what is open above it.
+#[inline(always)]
+fn take_incomplete<'t>(p: &mut Parser<'t>, names: &Names<'t>) -> Result<Option<Mark>, AllocError>
+    requires { (first : List Token) × IsGoing first (state p.old) names.now }
+    ensures { (first : List Token) → IsGoing first (state p.old) names.now →
+        IfOk result (λ mark. IsNextMark first names.now (state p.old) (state p.new) mark) }
+{
+    while let Some(mark) = p.marks.pop() {
+        if is_past(mark.place) {
+            p.finish_node()?;
+        } else if !is_settled(mark.place, p.peek()) {
+            return Ok(Some(mark));
+        }
+    }
+    Ok(None)
+}
+
 /// Reads until the root is complete.
 pub(crate) fn read_all<'t>(p: &mut Parser<'t>, names: &mut Names<'t>) -> Result<(), AllocError>
     requires state { state p.old ≡ flat (begins (state p.old).rest) }
@@ -285,7 +325,7 @@ pub(crate) fn read_all<'t>(p: &mut Parser<'t>, names: &mut Names<'t>) -> Result<
     requires ranges { extents_of names.old ≡ [] }
     ensures { OnOk result (IsReadTo (state p.old).rest (state p.new)) }
 {
-    while let Some(mark) = p.marks.pop() {
+    while let Some(mark) = take_incomplete(p, names)? {
         let action = action_at(mark.place, p.peek(), p.touches());
         if let Action::Finish = action {
             p.eat_trivia()?;

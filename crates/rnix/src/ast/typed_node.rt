@@ -11,7 +11,7 @@ use rnix_tree::SyntaxNode;
 use std::fmt;
 use std::marker::{Model, PhantomData};
 
-/// What names a type of nodes of one kind, as `pointee::LetIn`.
+/// What names a kind of nodes, as `pointee::LetIn` does.
 pub trait NodeType: Drop {
     ghost KIND: { SyntaxKind };
 
@@ -19,7 +19,7 @@ pub trait NodeType: Drop {
     const KIND: SyntaxKind;
 }
 
-/// A node of one kind, which its type names.
+/// A node of one kind. `LetIn` and the like are its names at each kind.
 #[derive(Drop)]
 #[derive_where(Clone, Debug, PartialEq, Eq, Hash)]
 pub struct TypedNode<'t, K: NodeType> {
