@@ -1,11 +1,12 @@
 -- How an operand begins, on what the reader holds.
-use Rattle.std.proofs.Common.{◌≡◌, ◌≤◌, ◌<◌, arith, Bool, ℕ, suc, true, false, None, if◌then◌else◌, nat_le, List, [], ◌∷◌, refl, ap, sym, ◌∙◌}
+use Rattle.std.proofs.Common.{◌≡◌, ◌≤◌, ◌<◌, arith, Bool, ℕ, suc, true, false, None, Some, is_some, if◌then◌else◌, nat_le, List, [], ◌∷◌, refl, ap, sym, ◌∙◌}
 use Rattle.std.proofs.lemmas.Bool.{le-leb, leb-true}
 use Rattle.rnix_kinds.specs.declared.kinds.SyntaxKind.{SyntaxKind}
 use Rattle.rnix_kinds.specs.declared.kinds.SyntaxKind.TheVariants.{NODE_ERROR, NODE_IDENT, NODE_LAMBDA, NODE_IDENT_PARAM, NODE_PATTERN, NODE_PAT_BIND, NODE_LEGACY_LET}
 use Rattle.rnix_green.specs.Forest.{empty, node}
 use Rattle.rnix_grammar.specs.declared.place.Place.{Place}
 use Rattle.rnix_grammar.specs.declared.place.Place.TheVariants as p
+use Rattle.rnix_grammar.specs.declared.begin.Begin.{Begin}
 use Rattle.rnix_grammar.specs.declared.begin.Begin.TheVariants as b
 use Rattle.rnix_grammar.specs.Tables.{depth_limit}
 use Rattle.rnix_grammar.specs.Fault.{Fault, too_deep, ended as ended_fault}
@@ -13,11 +14,12 @@ use Rattle.rnix_grammar.specs.AnnotatedForest.{Token, Stray, TooDeep, AnnotatedF
 use Rattle.rnix_grammar.specs.Layout.{items, from_item, tail_of}
 use Rattle.rnix_grammar.specs.Reports.{report}
 use Rattle.rnix_grammar.specs.Machine.{Head, Node, Operand, Frame, put, opened, ate, leaf, leaf_in, behind, reach, end_of, machine, begun, operand_on, reading, limited, run_row, run_rest, past}
+use Rattle.rnix_lemmas.proofs.Basics.{true_is_not_false}
 use Rattle.rnix_lemmas.proofs.LayoutLemmas.{trivia-from_item, from_item-from_item, items-from_item}
 use Rattle.rnix_reader.specs.declared.mark.Mark.{Mark}
 use Rattle.rnix_reader.specs.State.{State, items_left, eaten, bumped, skipped, started, ended, failed, marked}
 use Rattle.rnix_reader.specs.Flat.{flat, flat_with}
-use Rattle.rnix_reader.specs.Steps.{noded, operand_begun}
+use Rattle.rnix_reader.specs.Steps.{noded, operand_begun, begins_with}
 use Rattle.rnix_reader.proofs.RunLemmas.{none_left}
 use Rattle.rnix_reader.proofs.FlatLemmas.{flat-eaten, flat-run, flat-bumped, flat-started, flat-leaf, flat-closed, flat-opened, flat-operand, flat-failed}
 
@@ -32,6 +34,18 @@ pub operand_none : (level d : ℕ) (f : Frame) (fs : List Frame) (ts : List Toke
 operand_none level d f fs ts n es s s' e h k =
     let none : items ts ≡ [] = sym (ap (λ x. items x.rest) e) ∙ none_left (items s.rest) h in
     k ∙ ap (failed ended_fault) e ∙ flat-failed _ ended_fault (f ∷ fs) ts n es ∙ ap (λ x. flat (operand_on true level d f fs ts x n es)) (sym none)
+
+-- an operand begins as its first items tell
+pub operand_some : (level d : ℕ) (how : Begin) (t : Token) (f : Frame) (fs : List Frame) (ts : List Token) (n : ℕ) (es : List Fault) (s : State) → s ≡ flat (machine (f ∷ fs) ts n es)
+    → head_of (items s.rest) ≡ Some t → how ≡ begins_with level t (tail_of (items s.rest)) → flat (begun true how level d t f fs ts n es) ≡ flat (operand_on true level d f fs ts (items ts) n es)
+operand_some level d how t f fs ts n es s e h b =
+    by (items ts) (ap (λ x. head_of (items x.rest)) (sym e) ∙ h) (b ∙ ap (λ x. begins_with level t (tail_of (items x.rest))) e)
+  where
+    by : (us : List Token) → head_of us ≡ Some t → how ≡ begins_with level t (tail_of us) → flat (begun true how level d t f fs ts n es) ≡ flat (operand_on true level d f fs ts us n es)
+    by [] h b = absurd (true_is_not_false (sym (ap is_some h)))
+    by (u ∷ us) h b =
+        let same : t ≡ u = cc in
+        ap (λ x. flat (begun true x level d t f fs ts n es)) b ∙ ap (λ x. flat (begun true (begins_with level x us) level d x f fs ts n es)) same
 
 -- what is nested too deep
 pub read_deep : (level depth : ℕ) (f : Frame) (fs : List Frame) (ts : List Token) (n : ℕ) (es : List Fault) (s s' : State) → s ≡ flat (machine (f ∷ fs) ts n es) → f.depth ≡ depth

@@ -3,6 +3,7 @@
 ghost use Rattle.std.specs.Prelude.{◌≡◌, ◌≤◌, ◌<◌, [], List, Bool, Option, length, IfOk, OnOk, true, false};
 ghost use Rattle.rnix_kinds.specs.declared.kinds.SyntaxKind.{SyntaxKind};
 ghost use Rattle.rnix_grammar.specs.declared.action.Action.TheVariants.{Close, Settle};
+ghost use Rattle.rnix_grammar.specs.declared.begin.Begin.TheVariants.{Leaf};
 ghost use Rattle.rnix_grammar.specs.Actions.{action_at};
 ghost use Rattle.rnix_grammar.specs.Tables.{stops};
 ghost use Rattle.rnix_grammar.specs.AnnotatedForest.{Token, head_kind};
@@ -32,8 +33,23 @@ use std::alloc::AllocError;
 // How many expressions, list items and operands of prefix operators may be nested.
 const DEPTH_LIMIT: usize = 512;
 
-// Begins an operand with its first item.
+// Begins an operand that is one token.
 #[inline(always)]
+fn begin_leaf<'t>(
+    p: &mut Parser<'t>,
+    kind: SyntaxKind,
+    level: u8,
+    depth: usize,
+    first: PlacedToken<'t>,
+) -> Result<(), AllocError>
+    ensures { Simulates result (begun true (Leaf kind) level depth (token_of first.entry)) (state p.old) (state p.new) }
+{
+    p.leaf_operand(kind, Place::Behind(level, SELECTION_LEVEL), depth)?;
+    Ok(())
+}
+
+// Begins an operand with its first item.
+#[inline(never)]
 fn begin<'t>(
     p: &mut Parser<'t>,
     names: &mut Names<'t>,
@@ -48,7 +64,7 @@ fn begin<'t>(
 {
     let over = Place::Behind(level, SELECTION_LEVEL);
     match how {
-        Begin::Leaf(kind) => p.leaf_operand(kind, over, depth)?,
+        Begin::Leaf(kind) => begin_leaf(p, kind, level, depth, first)?,
         Begin::Node(kind, place, high) => {
             p.node_operand(kind, place, Place::Behind(level, high), depth)?;
         }
@@ -99,8 +115,10 @@ fn operand<'t>(
 {
     match p.item() {
         Some(first) => {
-            let how = p.beginning(level, first);
-            begin(p, names, how, level, depth, first)?;
+            match p.beginning(level, first) {
+                Begin::Leaf(kind) => begin_leaf(p, kind, level, depth, first)?,
+                how => begin(p, names, how, level, depth, first)?,
+            }
         }
         None => p.fail(ParseError::UnexpectedEOF)?,
     }

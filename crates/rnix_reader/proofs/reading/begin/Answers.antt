@@ -9,14 +9,15 @@ use Rattle.rnix_reader.specs.Placed.{token_of}
 use Rattle.rnix_reader.specs.Flat.{flat}
 use Rattle.rnix_reader.specs.State.{state, bumped, started, ended, failed}
 use Rattle.rnix_reader.specs.Steps.{noded}
-use Rattle.rnix_reader.proofs.BegunLemmas.{left_operand, begun-leaf, begun-node, begun-legacy, begun-name, begun-bound, begun-pattern, begun-stray}
+use Rattle.rnix_reader.proofs.BegunLemmas.{left_operand, begun-node, begun-legacy, begun-name, begun-bound, begun-pattern, begun-stray}
 use Rattle.rnix_reader.proofs.reading.begin.Goals as goal
 
 pub stray-requires : goal.stray-requires
 stray-requires c = ap head_of (left_operand _ _ (state c.args.p.now) _ c.in_ok-open_operand-in-Stray.ensures) ∙ c.requires
 
-pub returns-in_ok-leaf_operand-in-Leaf-clause-state : goal.returns-in_ok-leaf_operand-in-Leaf-clause-state
-returns-in_ok-leaf_operand-in-Leaf-clause-state c f fs ts n es e = c.in_ok-leaf_operand-in-Leaf.ensures ∙ begun-leaf f fs ts n es c.in-Leaf.kind c.args.level c.args.depth (token_of c.args.first) (state c.args.p.now) e ∙ ap (λ x. flat (begun true x c.args.level c.args.depth (token_of c.args.first) f fs ts n es)) (sym c.in-Leaf.is)
+pub returns-in_ok-begin_leaf-in-Leaf-clause-state : goal.returns-in_ok-begin_leaf-in-Leaf-clause-state
+returns-in_ok-begin_leaf-in-Leaf-clause-state c f fs ts n es e =
+    c.in_ok-begin_leaf-in-Leaf.ensures f fs ts n es e ∙ ap (λ x. flat (begun true x c.args.level c.args.depth (token_of c.args.first) f fs ts n es)) (sym c.in-Leaf.is)
 
 pub returns-in_ok-node_operand-in-Node-clause-state : goal.returns-in_ok-node_operand-in-Node-clause-state
 returns-in_ok-node_operand-in-Node-clause-state c f fs ts n es e = c.in_ok-node_operand-in-Node.ensures ∙ begun-node f fs ts n es c.in-Node.kind c.in-Node.place c.in-Node.high c.args.level c.args.depth (token_of c.args.first) (state c.args.p.now) e ∙ ap (λ x. flat (begun true x c.args.level c.args.depth (token_of c.args.first) f fs ts n es)) (sym c.in-Node.is)
