@@ -44,12 +44,14 @@ pub fn is_pattern(second: Option<SyntaxKind>, third: Option<SyntaxKind>) -> bool
     }
 }
 
-// Whether a name is read as the current position.
+const CUR_POS: &str = "__curPos";
+
+// Whether a name is read as the current position; most are told by their length.
 #[inline(always)]
 fn is_cur_pos(name: &str) -> bool
     ensures { result ≡ is_cur_pos name.now }
 {
-    name == "__curPos"
+    name.len() == CUR_POS.len() && name == CUR_POS
 }
 
 // What a name begins.

@@ -120,7 +120,7 @@ fn operand<'t>(
                 how => begin(p, names, how, level, depth, first)?,
             }
         }
-        None => p.fail(ParseError::UnexpectedEOF)?,
+        None => p.fail_at_end()?,
     }
     Ok(())
 }

@@ -67,7 +67,7 @@ impl<'t> Parser<'t> {
         ensures { OnOk result (state self.new ≡ failed ended_fault (moved after mark (state self.old))) }
     {
         self.go_on(mark, after)?;
-        self.fail(ParseError::UnexpectedEOF)?;
+        self.fail_at_end()?;
         Ok(())
     }
 

@@ -7,9 +7,9 @@ use Rattle.rnix_reader.specs.Flat.{flat}
 use Rattle.rnix_reader.proofs.BegunLemmas.{operand_none, operand_some}
 use Rattle.rnix_reader.proofs.reading.operand.Goals as goal
 
-pub returns-in_ok-fail-in-None-clause-state : goal.returns-in_ok-fail-in-None-clause-state
-returns-in_ok-fail-in-None-clause-state c f fs ts n es e =
-    operand_none c.args.level c.args.depth f fs ts n es (state c.args.p.now) _ e (sym c.item.ensures ∙ ap (option_map token_of) c.in-None.is) c.in_ok-fail-in-None.ensures
+pub returns-in_ok-fail_at_end-in-None-clause-state : goal.returns-in_ok-fail_at_end-in-None-clause-state
+returns-in_ok-fail_at_end-in-None-clause-state c f fs ts n es e =
+    operand_none c.args.level c.args.depth f fs ts n es (state c.args.p.now) _ e (sym c.item.ensures ∙ ap (option_map token_of) c.in-None.is) c.in_ok-fail_at_end-in-None.ensures
 
 pub returns-in_ok-begin_leaf-in-Leaf-clause-state : goal.returns-in_ok-begin_leaf-in-Leaf-clause-state
 returns-in_ok-begin_leaf-in-Leaf-clause-state c f fs ts n es e =
