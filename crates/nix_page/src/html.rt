@@ -1,8 +1,7 @@
 //! Texts and ranges inside HTML.
 
 use rnix::TextRange;
-use std::io;
-use std::io::Write;
+use std::io::{self, Write};
 
 /// Writes a text so that a browser shows each of its characters, in an element or between quotes.
 pub fn write_text<W: Write>(text: &str, out: &mut W) -> io::Result<()> {

@@ -8,9 +8,8 @@ mod tree;
 
 use rnix::Root;
 use source::write_source;
-use std::io;
-use std::io::{BufWriter, Read, Write};
-use style::{HEAD, MIDDLE, TAIL};
+use std::io::{self, BufWriter, Read, Write};
+use style::{HEAD, TAIL};
 use tree::write_tree;
 
 fn main(rt: HostRuntime) -> io::Result<()> {
@@ -19,7 +18,6 @@ fn main(rt: HostRuntime) -> io::Result<()> {
     let mut out = BufWriter::new(rt.alloc(), rt.stdout())?;
     out.write_all(HEAD.as_bytes())?;
     write_source(rt.alloc(), &read, &mut out)?;
-    out.write_all(MIDDLE.as_bytes())?;
     write_tree(&read.syntax(), &mut out)?;
     out.write_all(TAIL.as_bytes())?;
     out.flush()

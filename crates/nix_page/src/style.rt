@@ -9,7 +9,7 @@ pub const HEAD: &str = "<!DOCTYPE html>
 body { margin: 0; display: grid; grid-template-columns: 1fr 1fr; height: 100vh; font: 14px/1.5 monospace; color: #24292f }
 main, nav { overflow: auto; padding: 1em }
 nav { border-left: 1px solid #d0d7de; background: #f6f8fa }
-pre { margin: 0; font: inherit; white-space: pre-wrap }
+pre { margin: 0; font: inherit; white-space: pre-wrap; overflow-wrap: anywhere }
 details { padding-left: 1em }
 details > div { padding-left: 2em }
 [data-start] { cursor: pointer }
@@ -20,22 +20,17 @@ details > div { padding-left: 2em }
 .TOKEN_STRING_START, .TOKEN_STRING_CONTENT, .TOKEN_STRING_END, .TOKEN_URI, .token code { color: #0a3069 }
 .TOKEN_ASSERT, .TOKEN_ELSE, .TOKEN_IF, .TOKEN_IN, .TOKEN_INHERIT, .TOKEN_LET, .TOKEN_OR, .TOKEN_REC, .TOKEN_THEN, .TOKEN_WITH,
 #errors { color: #cf222e }
-.TOKEN_COMMENT { color: #6e7781; font-style: italic }
-.trivia { color: #8c959f }
-.error, .TOKEN_ERROR { text-decoration: underline wavy #cf222e }
+.TOKEN_COMMENT { color: #57606a; font-style: italic }
+.trivia { color: #57606a }
+.error, .TOKEN_ERROR { text-decoration: underline wavy #cf222e; text-decoration-skip-ink: none }
+.TOKEN_WHITESPACE { text-decoration: none }
+.missing::after { content: '\\a0' }
 .marked { background: #fff1a8 }
 </style>
-<main>
 ";
 
-/// What stands between the errors and the tree.
-pub const MIDDLE: &str = "</main>
-<nav>
-";
-
-/// What stands behind the tree: a click on an element marks all that stands in its range, in the source and in the tree.
-pub const TAIL: &str = "</nav>
-<script>
+/// What stands behind the tree: a click on an element marks all that stands in its range, in the source and in the tree, and shows it.
+pub const TAIL: &str = "<script>
 document.addEventListener('click', event => {
   const clicked = event.target.closest('[data-start]');
   if (!clicked) return;
@@ -44,7 +39,9 @@ document.addEventListener('click', event => {
     element.classList.toggle('marked', +element.dataset.start >= +start && +element.dataset.end <= +end);
   }
   const other = clicked.closest('main') ? 'nav' : '#source';
-  document.querySelector(other + ' .marked')?.scrollIntoView({ block: 'nearest' });
+  const first = document.querySelector(other + ' .marked');
+  for (let node = first?.parentElement.closest('details'); node; node = node.parentElement.closest('details')) node.open = true;
+  first?.scrollIntoView({ block: 'nearest' });
 });
 </script>
 </html>

@@ -2,10 +2,9 @@
 
 use crate::html::{write_range, write_text};
 use rnix::{NodeOrToken, SyntaxNode, SyntaxToken, WalkEvent};
-use std::io;
-use std::io::Write;
+use std::io::{self, Write};
 
-// How many bytes of a token's text are shown, if they end at a character.
+// How many bytes of a token's text are shown at most.
 const SHOWN: usize = 40;
 
 // Writes the beginning of a node: its line, with what folds behind it.
@@ -19,15 +18,18 @@ fn open_node<W: Write>(node: &SyntaxNode<'_>, out: &mut W) -> io::Result<()> {
 fn write_token<W: Write>(token: &SyntaxToken<'_>, out: &mut W) -> io::Result<()> {
     let (kind, text) = (token.kind(), token.text());
     let class = if kind.is_trivia() { "trivia" } else { "token" };
+    let (shown, rest) = text.split_at(text.floor_char_boundary(SHOWN));
+    let more = if rest.is_empty() { "" } else { "…" };
     write!(out, "<div class=\"{class}\"")?;
     write_range(token.text_range(), out)?;
     write!(out, "{} <code>", kind.name())?;
-    write_text(text.get(..SHOWN).unwrap_or(text), out)?;
-    out.write_all(b"</code></div>\n")
+    write_text(shown, out)?;
+    writeln!(out, "{more}</code></div>")
 }
 
 /// Writes a node and all that is inside it.
 pub fn write_tree<W: Write>(root: &SyntaxNode<'_>, out: &mut W) -> io::Result<()> {
+    out.write_all(b"<nav>\n")?;
     for event in root.preorder_with_tokens() {
         match event {
             WalkEvent::Enter(NodeOrToken::Node(node)) => open_node(&node, out)?,
@@ -36,5 +38,5 @@ pub fn write_tree<W: Write>(root: &SyntaxNode<'_>, out: &mut W) -> io::Result<()
             WalkEvent::Leave(NodeOrToken::Token(_)) => {}
         }
     }
-    Ok(())
+    out.write_all(b"</nav>\n")
 }
