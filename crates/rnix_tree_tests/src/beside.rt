@@ -1,58 +1,39 @@
 //! Along the siblings of a node.
 
+use crate::found::{is_element, is_node};
 use crate::parsed::Parsed;
 use rnix_kinds::SyntaxKind;
-use rnix_tree::{Direction, SyntaxElement, SyntaxNode};
-use std::process::Abort;
+use rnix_tree::{Direction, SyntaxNode};
 use std::test::Fail;
 
-// Whether there is a node of this text.
-fn is_node(found: Option<SyntaxNode<'_>>, text: &str) -> bool {
-    match found {
-        Some(node) => node.text() == text,
-        None => false,
-    }
+// Whether the numbers of what stands before the node and on each side of it are those of the `2` of `[1 2 3]`.
+fn are_counted(two: &SyntaxNode<'_>) -> bool {
+    two.index() == 3
+        && two.siblings(Direction::Next).count() == 2
+        && two.siblings_with_tokens(Direction::Next).count() == 4
+        && two.siblings_with_tokens(Direction::Prev).count() == 4
 }
 
-// Whether there is an element which starts there.
-fn is_at(found: Option<SyntaxElement<'_>>, start: usize) -> bool {
-    match found {
-        Some(element) => element.text_range().start() == start,
-        None => false,
-    }
-}
-
-// Asserts what stands beside the `2` of `[1 2 3]`.
-fn assert_beside(rt: &impl Abort, two: &SyntaxNode<'_>) {
-    assert_eq!(rt; two.index(), 3);
-    assert_eq!(rt; two.siblings(Direction::Next).count(), 2);
-    assert_eq!(rt; two.siblings_with_tokens(Direction::Next).count(), 4);
-    assert_eq!(rt; two.siblings_with_tokens(Direction::Prev).count(), 4);
-}
-
-// Asserts what is found of a kind beside it.
-fn assert_kinds(rt: &impl Abort, two: &SyntaxNode<'_>) {
-    assert!(rt; is_node(two.next_sibling_by_kind(SyntaxKind::NODE_LITERAL), "3"));
-    assert!(rt; is_node(two.prev_sibling_by_kind(SyntaxKind::NODE_LITERAL), "1"));
+// Whether what is found of a kind beside the node is what stands beside the `2`.
+fn are_of_kind(two: &SyntaxNode<'_>) -> bool {
     let close = two.next_sibling_or_token_by_kind(SyntaxKind::TOKEN_R_BRACK);
-    assert!(rt; is_at(close, 6));
+    is_node(two.next_sibling_by_kind(SyntaxKind::NODE_LITERAL), "3")
+        && is_node(two.prev_sibling_by_kind(SyntaxKind::NODE_LITERAL), "1")
+        && is_element(close, SyntaxKind::TOKEN_R_BRACK, 6)
 }
 
-// The `2` of `[1 2 3]`.
-fn second<'t>(root: &SyntaxNode<'t>) -> Option<SyntaxNode<'t>> {
-    root.first_child_by_kind(SyntaxKind::NODE_LIST)?
+// Whether both are so of the `2`.
+fn stand_beside_two(root: &SyntaxNode<'_>) -> Option<(bool, bool)> {
+    let two = root
+        .first_child_by_kind(SyntaxKind::NODE_LIST)?
         .first_child()?
-        .next_sibling()
+        .next_sibling()?;
+    Some((are_counted(&two), are_of_kind(&two)))
 }
 
 #[test]
 fn siblings_stand_on_both_sides(rt: HostRuntime) -> Result<(), Fail> {
     let read = Parsed::new(rt.alloc(), "[1 2 3]")?;
-    if let Some(two) = second(&read.syntax()) {
-        assert_beside(&rt, &two);
-        assert_kinds(&rt, &two);
-    } else {
-        assert!(rt; false);
-    }
+    assert!(rt; stand_beside_two(&read.syntax()) == Some((true, true)));
     Ok(())
 }

@@ -1,63 +1,68 @@
-//! What an element answers, and the elements that hold a range or an offset.
+//! What an element answers, and the elements that hold a range.
 
+use crate::found::{is_node, is_token};
 use crate::parsed::Parsed;
 use rnix_green::TextRange;
 use rnix_kinds::SyntaxKind;
 use rnix_tree::{SyntaxElement, SyntaxNode};
-use std::process::Abort;
 use std::test::Fail;
 
-// Asserts what the element answers that is the `a` of `a b`.
-fn assert_first(rt: &impl Abort, element: &SyntaxElement<'_>) {
-    assert!(rt; element.prev_sibling_or_token().is_none());
-    assert!(rt; element.next_sibling_or_token().is_some());
-    assert!(rt; element.first_token().is_some());
-    assert_eq!(rt; element.ancestors().count(), 3);
-    assert_eq!(rt; element.index(), 0);
+// Whether what stands around the element is what stands around the first `a` of `a b`.
+fn stands_first(element: &SyntaxElement<'_>) -> bool {
+    element.prev_sibling_or_token().is_none()
+        && element.next_sibling_or_token().is_some()
+        && is_token(element.first_token(), "a")
+        && is_node(element.parent(), "a b")
+        && element.ancestors().count() == 3
+        && element.index() == 0
 }
 
-// The `a` of `a b`.
-fn first<'t>(root: &SyntaxNode<'t>) -> Option<SyntaxElement<'t>> {
-    let node = root.first_child()?.first_child()?;
-    Some(SyntaxElement::from(node))
+// Whether the element is a node and no token.
+fn is_no_token(element: SyntaxElement<'_>) -> bool {
+    element.as_node().is_some()
+        && element.as_token().is_none()
+        && element.clone().into_token().is_none()
+        && element.into_node().is_some()
+}
+
+// Whether both are so of the `a`.
+fn answers_as_node(root: &SyntaxNode<'_>) -> Option<(bool, bool)> {
+    let element = SyntaxElement::from(root.first_child()?.first_child()?);
+    Some((stands_first(&element), is_no_token(element)))
 }
 
 #[test]
 fn an_element_answers_as_its_node_does(rt: HostRuntime) -> Result<(), Fail> {
     let read = Parsed::new(rt.alloc(), "a b")?;
-    if let Some(element) = first(&read.syntax()) {
-        assert_first(&rt, &element);
-    } else {
-        assert!(rt; false);
-    }
+    assert!(rt; answers_as_node(&read.syntax()) == Some((true, true)));
     Ok(())
 }
 
-// Whether an element of this kind covers the bytes.
-fn is_covered(root: &SyntaxNode<'_>, start: usize, end: usize, kind: SyntaxKind) -> bool {
-    match root.covering_element(TextRange::new(start.min(end), end)) {
-        Some(element) => element.kind() == kind,
-        None => false,
-    }
+// The kind of the element that covers the bytes.
+fn covering_kind(root: &SyntaxNode<'_>, start: usize, end: usize) -> Option<SyntaxKind> {
+    let range = TextRange::new(start.min(end), end);
+    Some(root.covering_element(range)?.kind())
+}
+
+// The kinds of the elements that cover some bytes of `[1 23]`.
+fn covering_kinds(root: &SyntaxNode<'_>) -> [Option<SyntaxKind>; 4] {
+    [
+        covering_kind(root, 4, 4),
+        covering_kind(root, 3, 3),
+        covering_kind(root, 2, 4),
+        covering_kind(root, 3, 7),
+    ]
 }
 
 #[test]
 fn the_innermost_element_covers_a_range(rt: HostRuntime) -> Result<(), Fail> {
+    let wanted = [
+        Some(SyntaxKind::TOKEN_INTEGER),
+        Some(SyntaxKind::NODE_LIST),
+        Some(SyntaxKind::NODE_LIST),
+        None,
+    ];
     let read = Parsed::new(rt.alloc(), "[1 23]")?;
-    let root = read.syntax();
-    assert!(rt; is_covered(&root, 4, 4, SyntaxKind::TOKEN_INTEGER));
-    assert!(rt; is_covered(&root, 3, 3, SyntaxKind::NODE_LIST));
-    assert!(rt; is_covered(&root, 2, 4, SyntaxKind::NODE_LIST));
-    assert!(rt; !is_covered(&root, 3, 7, SyntaxKind::NODE_ROOT));
-    Ok(())
-}
-
-#[test]
-fn no_token_stands_outside(rt: HostRuntime) -> Result<(), Fail> {
-    let read = Parsed::new(rt.alloc(), "a b")?;
-    let root = read.syntax();
-    assert_eq!(rt; root.token_at_offset(4).count(), 0);
-    assert_eq!(rt; root.token_at_offset(3).count(), 1);
-    assert_eq!(rt; root.token_at_offset(1).count(), 2);
+    assert!(rt; covering_kinds(&read.syntax()) == wanted);
     Ok(())
 }

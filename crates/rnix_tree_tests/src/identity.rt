@@ -1,11 +1,9 @@
-//! Equality and hashes of nodes and tokens.
+//! Equality and hashes of nodes and tokens, and what is printed of them.
 
 use crate::parsed::Parsed;
-use rnix_kinds::SyntaxKind;
-use rnix_tree::{SyntaxNode, SyntaxToken};
-use std::alloc::Global;
+use rnix_tree::SyntaxNode;
+use std::alloc::{AllocError, Global};
 use std::hash::{DefaultHasher, Hash, Hasher};
-use std::process::Abort;
 use std::test::Fail;
 
 // The hash of a node.
@@ -15,61 +13,47 @@ fn hash_of(node: &SyntaxNode<'_>) -> u64 {
     state.finish()
 }
 
-// The first name in a tree.
-fn name_in(read: &Parsed) -> Option<SyntaxNode<'_>> {
-    for node in read.syntax().descendants() {
-        if node.kind() == SyntaxKind::NODE_IDENT {
-            return Some(node);
-        }
-    }
-    None
-}
-
-// Asserts that two roots are equal, with their hashes and their first tokens, and that the last token is another one.
-fn assert_equal(rt: &impl Abort, a: &SyntaxNode<'_>, b: &SyntaxNode<'_>) {
-    assert!(rt; a == b);
-    assert_eq!(rt; hash_of(a), hash_of(b));
-    assert!(rt; a.first_token() == b.first_token());
-    assert!(rt; a.first_token() != a.last_token());
+// Whether two roots are equal, with their hashes and their first tokens, and the last token is another one.
+fn are_equal(a: &SyntaxNode<'_>, b: &SyntaxNode<'_>) -> bool {
+    a == b
+        && hash_of(a) == hash_of(b)
+        && a.first_token() == b.first_token()
+        && a.first_token() != a.last_token()
 }
 
 #[test]
 fn two_readings_of_a_text_are_equal(rt: HostRuntime) -> Result<(), Fail> {
     let a = Parsed::new(rt.alloc(), "1 + 2 * 3")?;
     let b = Parsed::new(rt.alloc(), "1 + 2 * 3")?;
-    assert_equal(&rt, &a.syntax(), &b.syntax());
+    assert!(rt; are_equal(&a.syntax(), &b.syntax()));
     Ok(())
+}
+
+// Whether the first nodes below two roots have one text, and are not equal.
+fn differ(a: &SyntaxNode<'_>, b: &SyntaxNode<'_>) -> Option<bool> {
+    let (a, b) = (a.first_child()?, b.first_child()?);
+    Some(a.text() == b.text() && a != b)
 }
 
 #[test]
 fn names_of_different_trees_are_not_equal(rt: HostRuntime) -> Result<(), Fail> {
-    let (short, long) = (
-        Parsed::new(rt.alloc(), "a")?,
-        Parsed::new(rt.alloc(), "a ")?,
-    );
-    let (a, b) = (name_in(&short), name_in(&long));
-    assert!(rt; a.is_some() && b.is_some() && a != b);
+    let short = Parsed::new(rt.alloc(), "a")?;
+    let long = Parsed::new(rt.alloc(), "a ")?;
+    assert!(rt; differ(&short.syntax(), &long.syntax()) == Some(true));
     Ok(())
 }
 
-// Whether a node prints this text.
-fn prints(alloc: Global, node: &SyntaxNode<'_>, wanted: &str) -> Result<bool, Fail> {
-    let text = format!(in alloc; "{node}")?;
-    Ok(text.as_str() == wanted)
-}
-
-// Whether a token prints this text.
-fn token_prints(alloc: Global, token: &SyntaxToken<'_>, wanted: &str) -> Result<bool, Fail> {
-    let text = format!(in alloc; "{token}")?;
-    Ok(text.as_str() == wanted)
+// What is printed of a node and of the last token in it.
+fn printed(alloc: Global, node: &SyntaxNode<'_>) -> Result<String, AllocError> {
+    match node.last_token() {
+        Some(token) => format!(in alloc; "{node}/{token}"),
+        None => format!(in alloc; "{node}"),
+    }
 }
 
 #[test]
 fn a_node_prints_its_text(rt: HostRuntime) -> Result<(), Fail> {
     let read = Parsed::new(rt.alloc(), "f  x")?;
-    assert!(rt; prints(rt.alloc(), &read.syntax(), "f  x")?);
-    if let Some(token) = read.syntax().last_token() {
-        assert!(rt; token_prints(rt.alloc(), &token, "x")?);
-    }
+    assert!(rt; printed(rt.alloc(), &read.syntax())?.as_str() == "f  x/x");
     Ok(())
 }

@@ -1,6 +1,7 @@
 //! Kinds and sets of kinds.
 
 use rnix_kinds::{SyntaxKind, TokenSet, same_sets};
+use std::alloc::{AllocError, Global};
 use std::test::Fail;
 
 // The names of all kinds, a space between two.
@@ -34,58 +35,84 @@ fn holds_only(set: TokenSet, names: &[&str]) -> bool {
     true
 }
 
-#[test]
-fn names_of_kinds_are_read(rt: HostRuntime) {
-    assert!(rt; "TOKEN_COMMENT".parse() == Ok(SyntaxKind::TOKEN_COMMENT));
-    assert!(rt; "NODE_ROOT".parse() == Ok(SyntaxKind::NODE_ROOT));
-    assert!(rt; "NODE_HAS_ATTR".parse() == Ok(SyntaxKind::NODE_HAS_ATTR));
-    for text in ["INVALID", "token_comment", ""] {
-        assert!(rt; text.parse::<SyntaxKind>().is_err());
+// The kind of a number, if it is the one that has the name.
+fn numbered(number: usize, name: &str) -> Option<SyntaxKind> {
+    let kind = SyntaxKind::from_raw(u16::try_from(number).ok()?)?;
+    if kind.name() == name && name.parse() == Ok(kind) {
+        return Some(kind);
     }
+    None
 }
 
 #[test]
-fn numbers_of_kinds_are_read(rt: HostRuntime) {
+fn kinds_have_numbers_and_names(rt: HostRuntime) {
+    let mut last = None;
     for (number, name) in NAMES.split(' ').enumerate() {
-        let kind = u16::try_from(number).ok().and_then(SyntaxKind::from_raw);
-        assert!(rt; kind.is_some_and(|kind| kind.name() == name));
+        last = numbered(number, name);
+        assert!(rt; last.is_some(), "of {name}");
     }
-    assert!(rt; SyntaxKind::from_raw(SyntaxKind::NODE_WITH as u16) == Some(SyntaxKind::NODE_WITH));
+    assert!(rt; last == Some(SyntaxKind::NODE_WITH));
+    assert!(rt; SyntaxKind::from_raw(SyntaxKind::NODE_WITH as u16) == last);
     assert!(rt; SyntaxKind::from_raw(93).is_none());
+}
+
+// What is said of a text that is no kind.
+fn refusal(alloc: Global, text: &str) -> Result<Option<String>, AllocError> {
+    match text.parse::<SyntaxKind>() {
+        Ok(_kind) => Ok(None),
+        Err(error) => Ok(Some(format!(in alloc; "{error}")?)),
+    }
 }
 
 #[test]
 fn what_is_no_name_says_so(rt: HostRuntime) -> Result<(), Fail> {
-    if let Err(error) = "INVALID".parse::<SyntaxKind>() {
-        let text = format!(in rt.alloc(); "{error}")?;
-        assert_eq!(rt; text.as_str(), "invalid SyntaxKind");
+    for text in ["INVALID", "token_comment", ""] {
+        let said = refusal(rt.alloc(), text)?;
+        assert!(rt; said.is_some_and(|said| said.as_str() == "invalid SyntaxKind"));
     }
     Ok(())
 }
 
 #[test]
 fn sets_hold_what_was_joined(rt: HostRuntime) {
-    assert_eq!(rt; NAMES.split(' ').count(), 93);
-    let both = SyntaxKind::TOKEN_ADD | SyntaxKind::TOKEN_SUB;
-    assert!(rt; holds_only(both, &["TOKEN_ADD", "TOKEN_SUB"]));
-    assert!(rt; holds_only(() | SyntaxKind::TOKEN_MUL, &["TOKEN_MUL"]));
-    assert!(rt; holds_only(SyntaxKind::TOKEN_MUL | (), &["TOKEN_MUL"]));
+    let (add, mul) = (SyntaxKind::TOKEN_ADD, SyntaxKind::TOKEN_MUL);
+    let both = add | SyntaxKind::TOKEN_SUB;
     let three = ["TOKEN_ADD", "TOKEN_MUL", "TOKEN_SUB"];
-    assert!(rt; holds_only(both | SyntaxKind::TOKEN_MUL, &three));
-    assert!(rt; holds_only(SyntaxKind::TOKEN_MUL | both, &three));
-    assert!(rt; holds_only(both | TokenSet::new(SyntaxKind::TOKEN_MUL), &three));
-    assert!(rt; holds_only(TokenSet::EMPTY, &[]));
+    let rows: [(TokenSet, &[&str]); 7] = [
+        (both, &["TOKEN_ADD", "TOKEN_SUB"]),
+        (() | mul, &["TOKEN_MUL"]),
+        (mul | (), &["TOKEN_MUL"]),
+        (both | mul, &three),
+        (mul | both, &three),
+        (both | TokenSet::new(mul), &three),
+        (TokenSet::EMPTY, &[]),
+    ];
+    for (set, names) in rows {
+        assert!(rt; holds_only(set, names));
+    }
+}
+
+// Whether the set of two kinds is the same whichever way they are joined.
+fn is_same(both: TokenSet, first: SyntaxKind, last: SyntaxKind) -> bool {
+    (last | first == both && both | first == both && last | both == both)
+        && TokenSet::from_slice(&[last, first, last]) == both
+        && TokenSet::EMPTY | both == both
+        && same_sets(both, last | first)
+}
+
+// Whether the set of two kinds is no set of fewer kinds.
+fn is_no_other(both: TokenSet, first: SyntaxKind, last: SyntaxKind) -> bool {
+    both != TokenSet::new(first)
+        && first | () != () | last
+        && TokenSet::from_slice(&[]) == TokenSet::EMPTY
+        && !same_sets(both, TokenSet::EMPTY)
 }
 
 #[test]
 fn sets_of_the_same_kinds_are_equal(rt: HostRuntime) {
     let (first, last) = (SyntaxKind::TOKEN_ADD, SyntaxKind::NODE_WITH);
-    let both = first | last;
-    assert!(rt; last | first == both && both | first == both && last | both == both);
-    assert!(rt; TokenSet::from_slice(&[last, first, last]) == both);
-    assert!(rt; TokenSet::EMPTY | both == both && TokenSet::from_slice(&[]) == TokenSet::EMPTY);
-    assert!(rt; both != TokenSet::new(first) && first | () != () | last);
-    assert!(rt; same_sets(both, last | first) && !same_sets(both, TokenSet::EMPTY));
+    assert!(rt; is_same(first | last, first, last));
+    assert!(rt; is_no_other(first | last, first, last));
 }
 
 #[test]

@@ -1,4 +1,4 @@
-//! Tests of kinds, of the tokenizer, of trees that were built by hand or read, of walks, errors, ranges, lines and edits, and of runs.
+//! Tests of kinds, of trees that were built by hand or read, of walks, errors, ranges, lines and edits, and of runs.
 #![tactic(auto)]
 
 #[cfg(test)]
@@ -13,6 +13,8 @@ mod ends;
 mod errors;
 #[cfg(test)]
 mod faults;
+#[cfg(test)]
+mod found;
 #[cfg(test)]
 mod identity;
 #[cfg(test)]
@@ -33,8 +35,6 @@ mod skipping;
 mod steps;
 #[cfg(test)]
 mod texts;
-#[cfg(test)]
-mod tokens;
 #[cfg(test)]
 mod trees;
 #[cfg(test)]

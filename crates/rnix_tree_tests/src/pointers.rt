@@ -7,13 +7,6 @@ use std::alloc::{AllocError, Global};
 use std::collections::HashMap;
 use std::test::Fail;
 
-// What a program keeps of a node that it has found.
-#[derive(Clone, Copy)]
-struct Found<'t> {
-    text: &'t str,
-    pointer: SyntaxNodePtr,
-}
-
 // A ROOT over two lists: one of a name, and one that is empty.
 fn lists(alloc: Global, name: &str) -> Result<GreenNode, AllocError> {
     let steps = [
@@ -28,53 +21,9 @@ fn lists(alloc: Global, name: &str) -> Result<GreenNode, AllocError> {
     built(alloc, &steps)
 }
 
-// Each node with its text and its pointer, in preorder.
-fn all_nodes<'t>(alloc: Global, root: &SyntaxNode<'t>) -> Result<Vec<Found<'t>>, AllocError> {
-    let mut found = Vec::new(alloc);
-    for node in root.descendants() {
-        found.push(Found {
-            text: node.text(),
-            pointer: SyntaxNodePtr::new(&node),
-        })?;
-    }
-    Ok(found)
-}
-
-// Whether what was kept says what the node answers.
-fn is_kept(kept: &Found<'_>, node: &SyntaxNode<'_>) -> bool {
-    kept.text == node.text()
-        && kept.pointer.kind() == node.kind()
-        && kept.pointer.text_range() == node.text_range()
-}
-
-// Whether a pointer finds a node that is equal to this one.
-fn is_found(pointer: SyntaxNodePtr, root: &SyntaxNode<'_>, node: &SyntaxNode<'_>) -> bool {
-    match pointer.try_to_node(root) {
-        Some(found) => found == *node,
-        None => false,
-    }
-}
-
-#[test]
-fn pointers_find_their_nodes(rt: HostRuntime) -> Result<(), Fail> {
-    let (tree, copy) = (lists(rt.alloc(), "a")?, lists(rt.alloc(), "a")?);
-    let (root, other) = (SyntaxNode::new_root(&tree), SyntaxNode::new_root(&copy));
-    for (node, kept) in root.descendants().zip(&all_nodes(rt.alloc(), &root)?) {
-        assert!(rt; is_kept(kept, &node));
-        assert!(rt; is_found(kept.pointer, &root, &node));
-        assert!(rt; is_found(kept.pointer, &other, &node));
-    }
-    Ok(())
-}
-
-#[test]
-fn another_tree_has_no_such_node(rt: HostRuntime) -> Result<(), Fail> {
-    let (tree, longer) = (lists(rt.alloc(), "a")?, lists(rt.alloc(), "ab")?);
-    let (root, other) = (SyntaxNode::new_root(&tree), SyntaxNode::new_root(&longer));
-    for kept in &all_nodes(rt.alloc(), &root)? {
-        assert!(rt; kept.pointer.try_to_node(&other).is_none());
-    }
-    Ok(())
+// A pointer to the last node below the root.
+fn to_last(root: &SyntaxNode<'_>) -> Option<SyntaxNodePtr> {
+    Some(SyntaxNodePtr::new(&root.last_child()?))
 }
 
 // Where each node of a tree stands in preorder, by its pointer.
@@ -89,22 +38,19 @@ fn numbers(
     Ok(numbers)
 }
 
-// A pointer to the last node below the root.
-fn to_last(root: &SyntaxNode<'_>) -> Option<SyntaxNodePtr> {
-    Some(SyntaxNodePtr::new(&root.last_child()?))
+// The number of the last list, found by its pointer, if all nodes have numbers of their own.
+fn last_number(alloc: Global, root: &SyntaxNode<'_>) -> Result<Option<usize>, AllocError> {
+    let numbers = numbers(alloc, root)?;
+    Ok(match to_last(root) {
+        Some(last) if numbers.len() == 3 => numbers.get(&last).copied(),
+        _ => None,
+    })
 }
 
 #[test]
 fn pointers_are_keys(rt: HostRuntime) -> Result<(), Fail> {
     let tree = lists(rt.alloc(), "a")?;
-    let root = SyntaxNode::new_root(&tree);
-    let numbers = numbers(rt.alloc(), &root)?;
-    let last = to_last(&root);
-    assert_eq!(rt; numbers.len(), 3);
-    assert!(rt; last.is_some());
-    if let Some(last) = last {
-        assert!(rt; numbers.get(&last).copied() == Some(2));
-    }
+    assert!(rt; last_number(rt.alloc(), &SyntaxNode::new_root(&tree))? == Some(2));
     Ok(())
 }
 
@@ -114,15 +60,19 @@ fn outliving(alloc: Global) -> Result<Option<SyntaxNodePtr>, AllocError> {
     Ok(to_last(&SyntaxNode::new_root(&tree)))
 }
 
+// Whether a pointer to the last list of a tree finds that list in an equal tree, and none in another one.
+fn finds(pointer: SyntaxNodePtr, same: &SyntaxNode<'_>, other: &SyntaxNode<'_>) -> bool {
+    pointer.kind() == SyntaxKind::NODE_LIST
+        && pointer.text_range() == TextRange::empty(1)
+        && pointer.try_to_node(same) == same.last_child()
+        && pointer.try_to_node(other).is_none()
+}
+
 #[test]
 fn pointers_outlive_their_tree(rt: HostRuntime) -> Result<(), Fail> {
-    let second = outliving(rt.alloc())?;
-    assert!(rt; second.is_some());
-    if let Some(second) = second {
-        assert!(rt; second.text_range() == TextRange::empty(1));
-        let again = lists(rt.alloc(), "a")?;
-        let found = second.try_to_node(&SyntaxNode::new_root(&again));
-        assert!(rt; found.is_some_and(|list| list.text().is_empty()));
-    }
+    let pointer = outliving(rt.alloc())?;
+    let (same, other) = (lists(rt.alloc(), "a")?, lists(rt.alloc(), "ab")?);
+    let (same, other) = (SyntaxNode::new_root(&same), SyntaxNode::new_root(&other));
+    assert!(rt; pointer.is_some_and(|pointer| finds(pointer, &same, &other)));
     Ok(())
 }

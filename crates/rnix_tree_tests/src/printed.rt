@@ -20,39 +20,37 @@ fn quoted(alloc: Global, text: &str) -> Result<GreenNode, AllocError> {
     built(alloc, &steps)
 }
 
-// What is printed of a node, with its inside or without.
-fn shown(alloc: Global, node: &SyntaxNode<'_>, with_inside: bool) -> Result<String, AllocError> {
-    if with_inside {
-        return format!(in alloc; "{node:#?}");
-    }
-    format!(in alloc; "{node:?}")
+// What is printed of a node, without its inside and with it.
+fn shown(alloc: Global, node: &SyntaxNode<'_>) -> Result<String, AllocError> {
+    format!(in alloc; "{node:?}\n{node:#?}")
 }
 
 #[test]
 fn a_tree_is_printed_line_by_line(rt: HostRuntime) -> Result<(), Fail> {
     let tree = quoted(rt.alloc(), "a\n")?;
-    let root = SyntaxNode::new_root(&tree);
-    assert_eq!(rt; shown(rt.alloc(), &root, false)?.as_str(), "NODE_ROOT@0..4");
     let lines = "\
+NODE_ROOT@0..4
 NODE_ROOT@0..4
   NODE_STRING@0..4
     TOKEN_STRING_START@0..1 \"\\\"\"
     TOKEN_STRING_CONTENT@1..3 \"a\\n\"
     TOKEN_STRING_END@3..4 \"\\\"\"
 ";
-    assert_eq!(rt; shown(rt.alloc(), &root, true)?.as_str(), lines);
+    assert_eq!(rt;
+        shown(rt.alloc(), &SyntaxNode::new_root(&tree))?.as_str(),
+        lines
+    );
     Ok(())
 }
 
-// What is printed of the second token of a tree.
-fn second_shown(alloc: Global, root: &SyntaxNode<'_>) -> Result<Option<String>, AllocError> {
-    let Some(first) = root.first_token() else {
-        return Ok(None);
-    };
-    let Some(second) = first.next_token() else {
-        return Ok(None);
-    };
-    Ok(Some(format!(in alloc; "{second:?}")?))
+// What is printed of the second token of a string in quotes.
+fn second_shown(alloc: Global, text: &str) -> Result<String, AllocError> {
+    let tree = quoted(alloc, text)?;
+    let first = SyntaxNode::new_root(&tree).first_token();
+    match first.and_then(|first| first.next_token()) {
+        Some(second) => format!(in alloc; "{second:?}"),
+        None => Ok(String::new(alloc)),
+    }
 }
 
 #[test]
@@ -72,25 +70,41 @@ fn a_long_text_is_cut(rt: HostRuntime) -> Result<(), Fail> {
         ),
     ];
     for (text, wanted) in rows {
-        let tree = quoted(rt.alloc(), text)?;
-        let found = second_shown(rt.alloc(), &SyntaxNode::new_root(&tree))?;
-        assert!(rt; found.is_some_and(|found| found.as_str() == wanted));
+        assert_eq!(rt; second_shown(rt.alloc(), text)?.as_str(), wanted);
     }
     Ok(())
 }
 
+// What is printed of the last node below a root, and then of the root.
+fn dumped(alloc: Global, root: &SyntaxNode<'_>) -> Result<Vec<u8>, Fail> {
+    let mut out = Vec::new(alloc);
+    if let Some(last) = root.last_child() {
+        dump(&last, &mut out)?;
+    }
+    dump(root, &mut out)?;
+    Ok(out)
+}
+
 #[test]
 fn a_dump_has_a_line_for_each_element(rt: HostRuntime) -> Result<(), Fail> {
-    let tree = quoted(rt.alloc(), "a")?;
-    let mut out = Vec::new(rt.alloc());
-    dump(&SyntaxNode::new_root(&tree), &mut out)?;
+    let steps = [
+        Step::Start(SyntaxKind::NODE_ROOT),
+        Step::Leaf(SyntaxKind::TOKEN_WHITESPACE, "  "),
+        Step::Start(SyntaxKind::NODE_LITERAL),
+        Step::Leaf(SyntaxKind::TOKEN_INTEGER, "12"),
+        Step::Finish,
+        Step::Finish,
+    ];
     let lines = "\
-NODE_ROOT@0..3
-  NODE_STRING@0..3
-    TOKEN_STRING_START@0..1
-    TOKEN_STRING_CONTENT@1..2
-    TOKEN_STRING_END@2..3
+NODE_LITERAL@2..4
+  TOKEN_INTEGER@2..4
+NODE_ROOT@0..4
+  TOKEN_WHITESPACE@0..2
+  NODE_LITERAL@2..4
+    TOKEN_INTEGER@2..4
 ";
-    assert!(rt; out.as_slice() == lines.as_bytes());
+    let tree = built(rt.alloc(), &steps)?;
+    let found = dumped(rt.alloc(), &SyntaxNode::new_root(&tree))?;
+    assert!(rt; found.as_slice() == lines.as_bytes());
     Ok(())
 }

@@ -14,61 +14,77 @@ struct Name<'t> {
     range: TextRange,
 }
 
-// The names that stand behind an offset.
-fn names_behind<'t>(
-    alloc: Global,
-    names: &[Name<'t>],
-    offset: usize,
-) -> Result<Vec<Name<'t>>, AllocError> {
-    let mut behind = Vec::new(alloc);
+// The last of the names that stands behind an offset.
+fn last_behind<'t>(names: &[Name<'t>], offset: usize) -> Option<Name<'t>> {
+    let mut last = None;
     for name in names {
         if offset <= name.range.start() {
-            behind.push(*name)?;
+            last = Some(*name);
         }
     }
-    Ok(behind)
+    last
+}
+
+// The text of a name that stands there.
+fn text_there<'t>(name: Option<Name<'t>>, range: TextRange) -> Option<&'t str> {
+    let name = name?;
+    if name.range == range {
+        return Some(name.text);
+    }
+    None
 }
 
 #[test]
-fn ranges_stand_beside_references(rt: HostRuntime) -> Result<(), Fail> {
+fn ranges_stand_beside_references(rt: HostRuntime) {
+    let (a, b) = (TextRange::at(0, 1), TextRange::new(4, 5));
     let names = [
         Name {
             text: "a",
-            range: TextRange::at(0, 1),
+            range: a,
         },
         Name {
             text: "b",
-            range: TextRange::new(4, 5),
+            range: b,
         },
     ];
-    let behind = names_behind(rt.alloc(), &names, 2)?;
-    assert!(rt; behind.len() == 1);
-    assert!(rt; behind.iter().all(|name| name.text == "b" && name.range == TextRange::at(4, 1)));
-    Ok(())
+    assert!(rt; text_there(last_behind(&names, 2), b) == Some("b"));
+}
+
+// The text that is kept of a range, of `ab` and an empty one behind it.
+fn kept(alloc: Global, range: TextRange) -> Result<Option<&'static str>, AllocError> {
+    let mut texts = HashMap::new(alloc);
+    texts.insert(TextRange::up_to(2), "ab")?;
+    texts.insert(TextRange::empty(2), "")?;
+    Ok(texts.get(&range).copied())
 }
 
 #[test]
 fn ranges_are_keys(rt: HostRuntime) -> Result<(), Fail> {
-    let mut names = HashMap::new(rt.alloc());
-    names.insert(TextRange::up_to(2), "ab")?;
-    names.insert(TextRange::empty(2), "")?;
-    assert!(rt; names.get(&TextRange::new(0, 2)).copied() == Some("ab"));
-    assert!(rt; names.get(&TextRange::default()).copied() == None);
+    assert!(rt; kept(rt.alloc(), TextRange::new(0, 2))? == Some("ab"));
+    assert!(rt; kept(rt.alloc(), TextRange::default())? == None);
     Ok(())
 }
 
+// Whether the ranges from 1 to 4 and from 3 to 6 meet as they should, and touch the one from 4 to 6.
+fn meet(left: TextRange, right: TextRange) -> bool {
+    let touched = TextRange::new(4, 6);
+    left.intersect(right) == Some(TextRange::new(3, 4))
+        && left.intersect(touched) == Some(TextRange::empty(4))
+        && left.intersect(TextRange::new(5, 6)) == None
+        && left.cover(right) == TextRange::new(1, 6)
+        && left.cover_offset(9) == TextRange::new(1, 9)
+        && left.ordering(right) == Ordering::Equal
+        && left.ordering(touched) == Ordering::Less
+}
+
+// Whether the left one is moved to the right one, and not before the start of the text.
+fn are_moved(left: TextRange, right: TextRange) -> bool {
+    left.checked_sub(2) == None && left.checked_add(2) == Some(right) && Range::from(left) == (1..4)
+}
+
 #[test]
-fn ranges_meet(rt: HostRuntime) -> Result<(), Fail> {
+fn ranges_meet(rt: HostRuntime) {
     let (left, right) = (TextRange::new(1, 4), TextRange::new(3, 6));
-    assert!(rt; left.intersect(right) == Some(TextRange::new(3, 4)));
-    assert!(rt; left.intersect(TextRange::new(4, 6)) == Some(TextRange::empty(4)));
-    assert!(rt; left.intersect(TextRange::new(5, 6)) == None);
-    assert!(rt; left.cover(right) == TextRange::new(1, 6));
-    assert!(rt; left.cover_offset(9) == TextRange::new(1, 9));
-    assert!(rt; left.ordering(right) == Ordering::Equal);
-    assert!(rt; left.ordering(TextRange::new(4, 6)) == Ordering::Less);
-    assert!(rt; left.checked_sub(2) == None);
-    assert!(rt; left.checked_add(2) == Some(right));
-    assert!(rt; Range::from(left) == (1..4));
-    Ok(())
+    assert!(rt; meet(left, right));
+    assert!(rt; are_moved(left, right));
 }
