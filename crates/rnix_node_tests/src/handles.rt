@@ -45,12 +45,3 @@ fn a_node_is_cast_again_and_again(rt: HostRuntime) -> Result<(), Fail> {
     }
     Ok(())
 }
-
-#[test]
-fn what_was_read_is_copied_with_its_errors(rt: HostRuntime) -> Result<(), Fail> {
-    let read = Root::parse(rt.alloc(), "()")?;
-    let copy = read.try_clone()?;
-    assert!(rt; copy.errors() == read.errors());
-    assert_eq!(rt; copy.syntax().text(), "()");
-    Ok(())
-}

@@ -1,7 +1,7 @@
 //! The parts of paths.
 
-use rnix::ast::{AstNode, Expr, InterpolPart, Path, PathContent};
-use rnix::{Parse, Root, SyntaxNode};
+use rnix::ast::{AstNode, InterpolPart, Path, PathContent};
+use rnix::{Parse, Root};
 use std::alloc::{AllocError, Global};
 use std::test::Fail;
 
@@ -68,36 +68,5 @@ fn paths_have_parts(rt: HostRuntime) -> Result<(), Fail> {
     for (text, parts, searched) in rows {
         assert!(rt; are_parts(rt.alloc(), text, parts, searched)?, "of {text}");
     }
-    Ok(())
-}
-
-// The parts of a path, as its own type gives them; no text of another node.
-fn own_parts(alloc: Global, node: SyntaxNode<'_>) -> Result<String, AllocError> {
-    match Expr::cast(node) {
-        Some(Expr::PathAbs(path)) => written(alloc, &path.parts(alloc)?),
-        Some(Expr::PathRel(path)) => written(alloc, &path.parts(alloc)?),
-        Some(Expr::PathHome(path)) => written(alloc, &path.parts(alloc)?),
-        Some(Expr::PathSearch(path)) => match path.content() {
-            Some(content) => String::from_str(alloc, content.text()),
-            None => String::from_str(alloc, "no content"),
-        },
-        _ => Ok(String::new(alloc)),
-    }
-}
-
-// The parts of all paths in a text, one behind another.
-fn all_parts(alloc: Global, text: &str) -> Result<String, AllocError> {
-    let read = Root::parse(alloc, text)?;
-    let mut said = String::new(alloc);
-    for node in read.syntax().descendants() {
-        said.push_str(own_parts(alloc, node)?.as_str())?;
-    }
-    Ok(said)
-}
-
-#[test]
-fn each_kind_of_path_has_its_own_parts(rt: HostRuntime) -> Result<(), Fail> {
-    let said = all_parts(rt.alloc(), "[ /a${b} ./c ~/d <e> ]")?;
-    assert_eq!(rt; said.as_str(), "(/a)${b}(./c)(~/d)<e>");
     Ok(())
 }

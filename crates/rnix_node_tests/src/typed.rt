@@ -1,76 +1,65 @@
 //! Typed nodes and tokens.
 
 use rnix::ast::{
-    AstNode, AstToken, AttrSet, BinOpKind, Comment, Expr, Float, Ident, Integer, List, LiteralKind,
+    AstNode, AstToken, AttrSet, Comment, Expr, Float, Ident, Integer, List, LiteralKind,
 };
 use rnix::{NodeOrToken, Parse, ParseError, Root, TextRange};
 use std::alloc::{AllocError, Global};
 use std::test::Fail;
 
-// The operator of the whole text, and that of its operand on the right.
-fn operators(read: &Parse) -> Option<(BinOpKind, BinOpKind)> {
-    let Expr::BinOp(outer) = read.tree().expr()? else {
-        return None;
-    };
-    let Expr::BinOp(inner) = outer.rhs()? else {
-        return None;
-    };
-    Some((outer.operator()?, inner.operator()?))
-}
-
-#[test]
-fn operators_are_told(rt: HostRuntime) -> Result<(), Fail> {
-    let read = Root::parse(rt.alloc(), "1 + 2 * 3")?;
-    assert!(rt; operators(&read) == Some((BinOpKind::Add, BinOpKind::Mul)));
-    Ok(())
+// The range of the first error of a text, if that is an unexpected token; None where the text has no errors.
+fn extra_in(alloc: Global, text: &str) -> Result<Option<TextRange>, AllocError> {
+    let read = Root::parse(alloc, text)?;
+    Ok(match read.ok() {
+        Err(ParseError::UnexpectedExtra(range)) => Some(*range),
+        Err(_error) => Some(TextRange::default()),
+        Ok(_root) => None,
+    })
 }
 
 #[test]
 fn the_first_error_is_told(rt: HostRuntime) -> Result<(), Fail> {
-    let read = Root::parse(rt.alloc(), "a == b == c")?;
-    let extra = match read.ok() {
-        Err(ParseError::UnexpectedExtra(range)) => Some(*range),
-        _ => None,
-    };
-    assert!(rt; extra == Some(TextRange::new(7, 11)));
-    let read = Root::parse(rt.alloc(), "a")?;
-    assert!(rt; read.ok().is_ok());
+    assert!(rt; extra_in(rt.alloc(), "a == b == c")? == Some(TextRange::new(7, 11)));
+    assert!(rt; extra_in(rt.alloc(), "a")? == None);
     Ok(())
 }
 
-// Whether the expression of a text is a list.
-fn is_list(read: &Parse) -> bool {
-    match read.tree().expr() {
-        Some(expr) => List::try_from(expr).is_ok(),
-        None => false,
-    }
-}
-
-// Whether the expression of a text is a set.
-fn is_set(read: &Parse) -> bool {
-    match read.tree().expr() {
-        Some(expr) => AttrSet::try_from(expr).is_ok(),
-        None => false,
-    }
+// Whether an expression is a list, and whether it is a set.
+fn is_list_or_set(read: &Parse) -> Option<(bool, bool)> {
+    let is_list = List::try_from(read.tree().expr()?).is_ok();
+    let is_set = AttrSet::try_from(read.tree().expr()?).is_ok();
+    Some((is_list, is_set))
 }
 
 #[test]
 fn an_expression_is_of_one_type(rt: HostRuntime) -> Result<(), Fail> {
     let read = Root::parse(rt.alloc(), "[ a ]")?;
-    assert!(rt; is_list(&read));
-    assert!(rt; !is_set(&read));
+    assert!(rt; is_list_or_set(&read) == Some((true, false)));
     Ok(())
+}
+
+// The first name of a text, as an expression.
+fn first_name(read: &Parse) -> Option<Expr<'_>> {
+    for node in read.syntax().descendants() {
+        if let Some(name) = Ident::cast(node) {
+            return Some(Expr::from(name));
+        }
+    }
+    None
+}
+
+// What is printed of the first name.
+fn first_name_printed(alloc: Global, read: &Parse) -> Result<String, AllocError> {
+    match first_name(read) {
+        Some(name) => format!(in alloc; "{name}"),
+        None => Ok(String::new(alloc)),
+    }
 }
 
 #[test]
 fn a_name_is_an_expression(rt: HostRuntime) -> Result<(), Fail> {
     let read = Root::parse(rt.alloc(), "[ a ]")?;
-    for node in read.syntax().descendants() {
-        if let Some(name) = Ident::cast(node) {
-            let text = format!(in rt.alloc(); "{}", Expr::from(name))?;
-            assert_eq!(rt; text.as_str(), "a");
-        }
-    }
+    assert!(rt; first_name_printed(rt.alloc(), &read)?.as_str() == "a");
     Ok(())
 }
 
@@ -105,41 +94,50 @@ fn float_in(alloc: Global, text: &str) -> Result<Option<f64>, AllocError> {
 
 #[test]
 fn numbers_with_a_point_are_read(rt: HostRuntime) -> Result<(), Fail> {
-    assert!(rt; float_in(rt.alloc(), "1.5e-3")? == Some(0.0015));
-    assert!(rt; float_in(rt.alloc(), ".25")? == Some(0.25));
-    assert!(rt; float_in(rt.alloc(), "9.e999")? == Some(f64::INFINITY));
-    assert!(rt; float_in(rt.alloc(), "1")?.is_none());
+    let rows = [
+        ("1.5e-3", Some(0.0015)),
+        (".25", Some(0.25)),
+        ("9.e999", Some(f64::INFINITY)),
+        ("1", None),
+    ];
+    for (text, wanted) in rows {
+        assert!(rt; float_in(rt.alloc(), text)? == wanted, "of {text}");
+    }
     Ok(())
 }
 
 #[test]
 fn numbers_are_read(rt: HostRuntime) -> Result<(), Fail> {
-    let largest = value_in(rt.alloc(), "9223372036854775807")?;
-    assert!(rt; largest == Some(Some(9223372036854775807)));
-    let larger = value_in(rt.alloc(), "9223372036854775808")?;
-    assert!(rt; larger == Some(None));
+    let rows = [
+        ("9223372036854775807", Some(Some(9223372036854775807))),
+        ("9223372036854775808", Some(None)),
+    ];
+    for (text, wanted) in rows {
+        assert!(rt; value_in(rt.alloc(), text)? == wanted, "of {text}");
+    }
     Ok(())
+}
+
+// The comments of the children of the root, a bar between two.
+fn comments_in(alloc: Global, text: &str) -> Result<String, AllocError> {
+    let read = Root::parse(alloc, text)?;
+    let mut said = String::new(alloc);
+    for element in read.syntax().children_with_tokens() {
+        if let NodeOrToken::Token(token) = element {
+            if let Some(comment) = Comment::cast(token) {
+                said.push_str(comment.text())?;
+                said.push('|')?;
+            }
+        }
+    }
+    Ok(said)
 }
 
 #[test]
 fn comments_say_what_they_say(rt: HostRuntime) -> Result<(), Fail> {
     let text =
         "# comment bruh\n/* this is a multiline comment wow\nasdfasdf\nasdfasdf */\n1 + 1\n/* last one */\n";
-    let read = Root::parse(rt.alloc(), text)?;
-    let wanted = [
-        " comment bruh",
-        " this is a multiline comment wow\nasdfasdf\nasdfasdf ",
-        " last one ",
-    ];
-    let mut found = 0;
-    for element in read.syntax().children_with_tokens() {
-        if let NodeOrToken::Token(token) = element {
-            if let Some(comment) = Comment::cast(token) {
-                assert!(rt; wanted.get(found).copied() == Some(comment.text()));
-                found = 3usize.min(found.saturating_add(1));
-            }
-        }
-    }
-    assert!(rt; found == 3);
+    let wanted = " comment bruh| this is a multiline comment wow\nasdfasdf\nasdfasdf | last one |";
+    assert_eq!(rt; comments_in(rt.alloc(), text)?.as_str(), wanted);
     Ok(())
 }
