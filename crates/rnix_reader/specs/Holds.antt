@@ -228,7 +228,8 @@ work s = 100 * length (items_left s) + weights s.marks + bonus_on (items_left s)
 abbrev pub IsGoing : List Token → State → Names → Type 0
 IsGoing ts s names = (m : Machine) × Runs true (begins ts) m × Holds m s names
 
--- the innermost mark that is not complete is taken: with it on the stack the machine has come as far as the reader, and no more is to do than before
+-- the innermost mark that is not complete is taken: with it on the stack the machine has come as far as the reader, and no more is to do than
+-- before
 abbrev pub IsNextMark : List Token → Names → State → State → Option Mark → Type 0
 IsNextMark ts names s s' None = ⊥
 IsNextMark ts names s s' (Some mark) = IsGoing ts (with_marks (s'.marks ++ mark ∷ []) s') names × (work (with_marks (s'.marks ++ mark ∷ []) s') ≤ work s)
