@@ -29,14 +29,6 @@ fn path_in(read: &Parse) -> Option<Path<'_>> {
     Path::cast(read.tree().expr()?.syntax().clone())
 }
 
-// The parts of a path, asked for once more if they were refused.
-fn written_again(alloc: Global, path: &Path<'_>) -> Result<String, AllocError> {
-    match path.parts(alloc) {
-        Ok(parts) => written(alloc, &parts),
-        Err(_refused) => written(alloc, &path.parts(alloc)?),
-    }
-}
-
 // The parts of the path that a text is, and whether it is searched for.
 fn parts_of(alloc: Global, text: &str) -> Result<Option<(String, bool)>, AllocError> {
     let read = Root::parse(alloc, text)?;
@@ -44,7 +36,7 @@ fn parts_of(alloc: Global, text: &str) -> Result<Option<(String, bool)>, AllocEr
         return Ok(None);
     };
     let searched = path.is_search() && !path.is_interpolatable();
-    Ok(Some((written_again(alloc, &path)?, searched)))
+    Ok(Some((written(alloc, &path.parts(alloc)?)?, searched)))
 }
 
 // Whether the text is a path of these parts.
