@@ -124,30 +124,6 @@ fn entries_have_names_and_values(rt: HostRuntime) -> Result<(), Fail> {
 }
 
 #[test]
-fn entries_are_inherited(rt: HostRuntime) -> Result<(), Fail> {
-    let text = "{ inherit (set) z a; b = c; }";
-    let rows = [
-        (
-            SyntaxKind::NODE_ATTR_SET,
-            text,
-            "rec_token=-; l_curly_token={; entries=(inherit (set) z a;)(b = c;); \
-             attrpath_values=(b = c;); inherits=(inherit (set) z a;); r_curly_token=};",
-        ),
-        (
-            SyntaxKind::NODE_INHERIT,
-            text,
-            "inherit_token=inherit; from=(set); attrs=(z)(a);",
-        ),
-        (
-            SyntaxKind::NODE_INHERIT_FROM,
-            text,
-            "l_paren_token=(; expr=set; r_paren_token=);",
-        ),
-    ];
-    assert_told(&rt, rt.alloc(), &rows)
-}
-
-#[test]
 fn functions_and_their_arguments(rt: HostRuntime) -> Result<(), Fail> {
     let rows = [
         (SyntaxKind::NODE_APPLY, "a b", "lambda=a; argument=b;"),
@@ -191,35 +167,6 @@ fn patterns_have_entries_and_a_name(rt: HostRuntime) -> Result<(), Fail> {
         ),
         (SyntaxKind::NODE_PAT_BIND, "{ a }@b: c", "ident=b;"),
         (SyntaxKind::NODE_PAT_BIND, "b@{ a }: c", "ident=b;"),
-    ];
-    assert_told(&rt, rt.alloc(), &rows)
-}
-
-#[test]
-fn parameters_have_parts(rt: HostRuntime) -> Result<(), Fail> {
-    let (defaulted, named) = ("{ b ? 1 }: b", "a@{b}: c");
-    let rows = [
-        (
-            SyntaxKind::NODE_LAMBDA,
-            defaulted,
-            "param={ b ? 1 }; token_colon=:; body=b;",
-        ),
-        (
-            SyntaxKind::NODE_PATTERN,
-            defaulted,
-            "at_token=-; pat_entries=(b ? 1); ellipsis_token=-; pat_bind=-;",
-        ),
-        (
-            SyntaxKind::NODE_PAT_ENTRY,
-            defaulted,
-            "ident=b; question_token=?; default=1;",
-        ),
-        (
-            SyntaxKind::NODE_PATTERN,
-            named,
-            "at_token=-; pat_entries=(b); ellipsis_token=-; pat_bind=a@;",
-        ),
-        (SyntaxKind::NODE_PAT_BIND, named, "ident=a;"),
     ];
     assert_told(&rt, rt.alloc(), &rows)
 }
