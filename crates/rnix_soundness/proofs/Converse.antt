@@ -1,40 +1,22 @@
 -- A row without errors of the end, repeated names and corners is strict, once its errors are repaired and its names stand where they may.
-use Rattle.std.proofs.Common.{◌≡◌, ℕ, suc, Bool, true, false, List, [], ◌∷◌, ◌++◌, Some, refl, ap, sym, ◌∙◌, subst}
-use Rattle.std.specs.Prelude.{codes, if◌then◌else◌, ◌&&◌}
-use Rattle.std.specs.Str.{bytes_eq}
-use Rattle.std.proofs.lemmas.Bool.{and_from, and_parts, false_from_ne_true}
-use Rattle.rnix_kinds.proofs.AllKinds.{implied}
-use Rattle.rnix_kinds.specs.declared.kinds.SyntaxKind.{SyntaxKind}
-use Rattle.rnix_kinds.specs.declared.kinds.SyntaxKind.TheVariants.{TOKEN_AT, NODE_IDENT, NODE_LITERAL, NODE_PAT_BIND, NODE_PAT_ENTRY, TOKEN_INTEGER}
-use Rattle.rnix_green.specs.Forest.{Forest, empty, leaf, node}
-use Rattle.rnix_grammar.specs.declared.place.Place.{Place}
+use Rattle.std.{specs.Str.bytes_eq, proofs.Common.{◌≡◌, ℕ, suc, Bool, true, false, List, [], ◌∷◌, ◌++◌, Some, refl, ap, sym, ◌∙◌, subst, codes, if◌then◌else◌}}
+use Rattle.std.proofs.{Common.◌&&◌, lemmas.Bool.{and_from, and_parts, false_from_ne_true}}
+use Rattle.rnix_kinds.specs.declared.kinds.SyntaxKind.{SyntaxKind, TheVariants.{TOKEN_AT, NODE_IDENT, NODE_LITERAL, NODE_PAT_BIND, NODE_PAT_ENTRY}}
+use Rattle.{rnix_kinds.{specs.declared.kinds.SyntaxKind.TheVariants.TOKEN_INTEGER, proofs.AllKinds.implied}, rnix_green.specs.Forest.{Forest, empty, leaf}}
+use Rattle.{rnix_green.specs.Forest.node, rnix_grammar.specs.{declared.{place.Place.Place, until.Until.Until}, Fault.{Fault, named_twice}}}
+use Rattle.rnix_grammar.specs.AnnotatedForest.{Token, Note, Stray, Unwanted, Extra, Twice, TooDeep, AnnotatedForest, blank, branch, ◌⊕◌, one_token, one_branch}
+use Rattle.rnix_grammar.specs.{AnnotatedForest.{one_fault, tokens_in, leaf_kind, extent_of}, Reports.{report, repeated, repeated_if, entry_name, is_same_name}}
+use Rattle.rnix_grammar.specs.{Reports.{has_entry, repeats}, Rows.{is_expression, RowState, Start, At, advance, first, first_bind, live, whole, start}}
+use Rattle.rnix_grammar.specs.{Stands.{Stands, end, leaf as leafed, missing_part, wrong, second, inner, IsBeside}, Strict.{may_stand, is_grouped, is_strict}}
+use Rattle.rnix_grammar.specs.{Strict.{entry_text, are_entries_new, first_is_no_or, binds_no_or}, Tables.is_among, Repaired.{repaired, patch, is_ended}}
+use Rattle.rnix_grammar.specs.{Corners.{is_corner, has_no_corner}, Names.is_name_at, Named.{is_spelled, AreSpelled, AreNamed, is_repeated, Lacks}}
+use Rattle.{rnix_grammar.specs.{BehindErrors.{go_run, go_error}, Missing.missing}, rnix_lemmas.proofs.{Basics.true_is_not_false, OpeningRows.{HasRow, Opening}}}
+use Rattle.rnix_lemmas.proofs.{OpeningRows.{by_token, by_branch, by_fault, opened, is_place, spelled_first, spelled_rest}, MissingFacts.missing_ended}
+use Rattle.{rnix_lemmas.proofs.{EntryNames.{has-⊕, if_not}, NestRowStates.beside_goes}, rnix_soundness.proofs.SimilarRowStates.{Similar, similar_same}}
+use Rattle.rnix_soundness.proofs.{SimilarRowStates.{similar_two, similar_run, similar_past}, HomeRowStates.{IsHome, home_go, home_start, home_run, home_past}}
+use Rattle.rnix_soundness.proofs.{FirstTrees.{IsLed, led, token_first, no_operand}, RepairedNames.named_no_or, RepairedStands.{IsThere, stands_there}}
+use Rattle.rnix_soundness.proofs.{RepairedStands.number_stands, RepairedGroups.grouped}
 use Rattle.rnix_grammar.specs.declared.place.Place.TheVariants as p
-use Rattle.rnix_grammar.specs.declared.until.Until.{Until}
-use Rattle.rnix_grammar.specs.Fault.{Fault, named_twice}
-use Rattle.rnix_grammar.specs.AnnotatedForest.{Token, Note, Stray, Unwanted, Extra, Twice, TooDeep, AnnotatedForest, blank, branch, ◌⊕◌, one_token, one_branch, one_fault, tokens_in, leaf_kind, extent_of}
-use Rattle.rnix_grammar.specs.Reports.{report, repeated, repeated_if, entry_name, is_same_name, has_entry}
-use Rattle.rnix_grammar.specs.Rows.{is_expression, RowState, Start, At, advance, first, first_bind, live, whole, start}
-use Rattle.rnix_grammar.specs.Stands.{Stands, end, leaf as leafed, missing_part, wrong, second, inner, IsBeside}
-use Rattle.rnix_grammar.specs.Reports.{repeats}
-use Rattle.rnix_grammar.specs.Strict.{may_stand, is_grouped, is_strict, entry_text, are_entries_new, first_is_no_or, binds_no_or}
-use Rattle.rnix_grammar.specs.Tables.{is_among}
-use Rattle.rnix_grammar.specs.Repaired.{repaired, patch, is_ended}
-use Rattle.rnix_grammar.specs.Corners.{is_corner, has_no_corner}
-use Rattle.rnix_grammar.specs.Names.{is_name_at}
-use Rattle.rnix_grammar.specs.Named.{is_spelled, AreSpelled, AreNamed, is_repeated, Lacks}
-use Rattle.rnix_grammar.specs.BehindErrors.{go_run, go_error}
-use Rattle.rnix_grammar.specs.Missing.{missing}
-use Rattle.rnix_lemmas.proofs.Basics.{true_is_not_false}
-use Rattle.rnix_soundness.proofs.SimilarRowStates.{Similar, similar_same, similar_two, similar_run, similar_past}
-use Rattle.rnix_soundness.proofs.HomeRowStates.{IsHome, home_go, home_start, home_run, home_past}
-use Rattle.rnix_lemmas.proofs.OpeningRows.{HasRow, Opening, by_token, by_branch, by_fault, opened, is_place, spelled_first, spelled_rest}
-use Rattle.rnix_soundness.proofs.FirstTrees.{IsLed, led, token_first, no_operand}
-use Rattle.rnix_soundness.proofs.RepairedNames.{named_no_or}
-use Rattle.rnix_soundness.proofs.RepairedStands.{IsThere, stands_there, number_stands}
-use Rattle.rnix_soundness.proofs.RepairedGroups.{grouped}
-use Rattle.rnix_lemmas.proofs.MissingFacts.{missing_ended}
-use Rattle.rnix_lemmas.proofs.EntryNames.{has-⊕, if_not}
-use Rattle.rnix_lemmas.proofs.NestRowStates.{beside_goes}
 
 -- errors of two rows
 pub misses_first : (test : Fault → Bool) (ds es : List Fault) → Lacks test (ds ++ es) → Lacks test ds

@@ -1,25 +1,12 @@
 -- A text without errors of its end, without repeated names and without corners is strict, once its errors are repaired.
-use Rattle.std.proofs.Common.{◌≡◌, ℕ, ◌+◌, Bool, true, false, List, [], ◌∷◌, ◌++◌, Some, None, refl, sym, subst, arith}
-use Rattle.std.specs.Prelude.{if◌then◌else◌}
-use Rattle.std.proofs.lemmas.Bool.{and_parts}
-use Rattle.rnix_kinds.specs.declared.kinds.SyntaxKind.{SyntaxKind}
-use Rattle.rnix_kinds.specs.declared.kinds.SyntaxKind.TheVariants.{NODE_CUR_POS, NODE_IDENT, NODE_ROOT}
+use Rattle.std.proofs.{Common.{◌≡◌, ℕ, ◌+◌, Bool, true, false, List, [], ◌∷◌, ◌++◌, Some, None, refl, sym, subst, arith, if◌then◌else◌}, lemmas.Bool.and_parts}
+use Rattle.{rnix_kinds.specs.declared.kinds.SyntaxKind.{SyntaxKind, TheVariants.{NODE_CUR_POS, NODE_IDENT, NODE_ROOT}}, rnix_grammar.specs.Fault.Fault}
+use Rattle.rnix_grammar.specs.{AnnotatedForest.{Token, Twice, AnnotatedForest, blank, tokens_in, is_some}, Reports.{report, only_token, repeats}, Rows.RowState}
+use Rattle.rnix_grammar.specs.{Rows.At, Stands.{Stands, end, leaf, missing_part, wrong, second, inner, is_formed}, Names.{is_named_in, is_named}}
+use Rattle.rnix_grammar.specs.{Named.{AreSpelled, AreNamed, is_repeated, Lacks}, Repaired.{repaired, is_ended, ended_count}, Corners.has_no_corner}
+use Rattle.{rnix_grammar.specs.Strict.is_strict_expression, rnix_lemmas.proofs.NestRowStates.beside_goes, rnix_soundness.proofs.Converse.no_missing_part}
+use Rattle.rnix_soundness.proofs.{Converse.{misses_first, misses_rest, row}, SimilarRowStates.similar_same, HomeRowStates.home_start}
 use Rattle.rnix_grammar.specs.declared.place.Place.TheVariants as p
-use Rattle.rnix_grammar.specs.Fault.{Fault}
-use Rattle.rnix_grammar.specs.AnnotatedForest.{Token, Twice, AnnotatedForest, blank, tokens_in, is_some}
-use Rattle.rnix_grammar.specs.Reports.{report, only_token}
-use Rattle.rnix_grammar.specs.Rows.{RowState, At}
-use Rattle.rnix_grammar.specs.Stands.{Stands, end, leaf, missing_part, wrong, second, inner, is_formed}
-use Rattle.rnix_grammar.specs.Reports.{repeats}
-use Rattle.rnix_grammar.specs.Names.{is_named_in, is_named}
-use Rattle.rnix_grammar.specs.Named.{AreSpelled, AreNamed, is_repeated, Lacks}
-use Rattle.rnix_grammar.specs.Repaired.{repaired, is_ended, ended_count}
-use Rattle.rnix_grammar.specs.Corners.{has_no_corner}
-use Rattle.rnix_grammar.specs.Strict.{is_strict_expression}
-use Rattle.rnix_soundness.proofs.Converse.{no_missing_part, misses_first, misses_rest, row}
-use Rattle.rnix_soundness.proofs.SimilarRowStates.{similar_same}
-use Rattle.rnix_soundness.proofs.HomeRowStates.{home_start}
-use Rattle.rnix_lemmas.proofs.NestRowStates.{beside_goes}
 
 -- a node that is formed is named
 formed_named : (q : RowState) (k : SyntaxKind) (c : AnnotatedForest) → is_formed q k c ≡ true → is_named q k c ≡ true

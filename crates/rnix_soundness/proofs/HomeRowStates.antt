@@ -1,18 +1,10 @@
 -- Each row is at a state of its kind, and no right operand at a level beyond the tightest.
-use Rattle.std.proofs.Common.{◌≡◌, Bool, true, Some, refl, ap, subst}
-use Rattle.std.specs.Prelude.{◌&&◌, nat_le}
-use Rattle.std.specs.List.{list_all}
-use Rattle.rnix_kinds.proofs.AllKinds.{all_kinds, every}
-use Rattle.rnix_kinds.specs.declared.kinds.SyntaxKind.{SyntaxKind}
-use Rattle.rnix_grammar.specs.declared.place.Place.{Place}
+use Rattle.std.{specs.List.list_all, proofs.Common.{◌≡◌, Bool, true, Some, refl, ap, subst, ◌&&◌, nat_le}}
+use Rattle.{rnix_kinds.{specs.declared.kinds.SyntaxKind.SyntaxKind, proofs.AllKinds.{all_kinds, every}}, rnix_grammar.specs.declared.place.Place.Place}
+use Rattle.rnix_grammar.specs.{declared.until.Until.Until, Symbols.symbol_at, Rows.{RowState, Start, At, first, advance, start}, BehindErrors.go_run}
+use Rattle.{rnix_grammar.specs.Missing.run_at, rnix_lemmas.proofs.{NestPlaces.{IsExpected, start_expected, go_expected}, RowStateCases.{Usual, Next}}}
+use Rattle.rnix_lemmas.proofs.RowStateCases.{case_symbol}
 use Rattle.rnix_grammar.specs.declared.place.Place.TheVariants as p
-use Rattle.rnix_grammar.specs.declared.until.Until.{Until}
-use Rattle.rnix_grammar.specs.Symbols.{symbol_at}
-use Rattle.rnix_grammar.specs.Rows.{RowState, Start, At, first, advance, start}
-use Rattle.rnix_grammar.specs.BehindErrors.{go_run}
-use Rattle.rnix_grammar.specs.Missing.{run_at}
-use Rattle.rnix_lemmas.proofs.NestPlaces.{IsExpected, start_expected, go_expected}
-use Rattle.rnix_lemmas.proofs.RowStateCases.{Usual, Next, case_symbol}
 
 -- the level of a right operand is positive, and at most the tightest
 abbrev pub is_bounded : RowState → Bool

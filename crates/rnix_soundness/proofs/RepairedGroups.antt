@@ -1,28 +1,19 @@
 -- The first tree of a node whose errors are repaired stands where it may.
-use Rattle.std.proofs.Common.{◌≡◌, ℕ, ◌≤◌, Bool, true, false, [], refl, ap, sym, ◌∙◌, subst, arith}
-use Rattle.std.specs.Prelude.{if◌then◌else◌, ◌&&◌}
-use Rattle.std.proofs.lemmas.Bool.{and_from, and_parts}
-use Rattle.rnix_kinds.specs.declared.kinds.SyntaxKind.{SyntaxKind}
-use Rattle.rnix_kinds.specs.declared.kinds.SyntaxKind.TheVariants.{NODE_APPLY, NODE_BIN_OP, NODE_DYNAMIC, NODE_HAS_ATTR, NODE_IDENT_PARAM, NODE_LAMBDA, NODE_PAT_BIND, NODE_PAT_ENTRY, NODE_SELECT}
-use Rattle.rnix_green.specs.Forest.{Forest, leaf, node}
-use Rattle.rnix_grammar.specs.Levels.{left_of}
-use Rattle.rnix_grammar.specs.AnnotatedForest.{Token, Note, AnnotatedForest, blank, branch, fault, one_branch, tokens_in, leaf_kind}
-use Rattle.rnix_grammar.specs.Rows.{is_atom, is_simple, is_questioned, is_operand, is_expression, Start, BeforeOperator, BeforeDot, BeforeQuestion, BeforeArgument, start}
-use Rattle.rnix_grammar.specs.TreeLevels.{level_of, calls_or}
+use Rattle.std.proofs.{Common.{◌≡◌, ℕ, ◌≤◌, Bool, true, false, [], refl, ap, sym, ◌∙◌, subst, arith, if◌then◌else◌, ◌&&◌}, lemmas.Bool.{and_from, and_parts}}
+use Rattle.rnix_kinds.specs.declared.kinds.SyntaxKind.{SyntaxKind, TheVariants.{NODE_APPLY, NODE_BIN_OP, NODE_DYNAMIC, NODE_HAS_ATTR, NODE_IDENT_PARAM}}
+use Rattle.rnix_kinds.{specs.declared.kinds.SyntaxKind.TheVariants.{NODE_LAMBDA, NODE_PAT_BIND, NODE_PAT_ENTRY, NODE_SELECT}, proofs.AllKinds.implied}
+use Rattle.{rnix_green.specs.Forest.{Forest, leaf, node}, rnix_grammar.specs.{Levels.left_of, AnnotatedForest.{Token, Note, AnnotatedForest, blank, branch}}}
+use Rattle.rnix_grammar.specs.{AnnotatedForest.{fault, one_branch, tokens_in, leaf_kind}, Rows.{is_atom, is_simple, is_questioned, is_operand, is_expression}}
+use Rattle.rnix_grammar.specs.{Rows.{Start, BeforeOperator, BeforeDot, BeforeQuestion, BeforeArgument, start}, TreeLevels.{level_of, calls_or}}
+use Rattle.rnix_grammar.specs.{Strict.{stands_at, is_strict_atom, is_grouped, first_stands, first_is_atom, first_is_no_or, are_entries_new}, Repaired.repaired}
+use Rattle.rnix_grammar.specs.{Repaired.patch, Corners.{holds_no_lambda, is_corner, has_no_corner}, Names.{is_plain, is_no_or, is_named, is_name_at}}
+use Rattle.{rnix_grammar.specs.Named.{is_spelled, AreSpelled, AreNamed}, rnix_lemmas.proofs.{Basics.{true_is_not_false, choice}, LevelLemmas.at_most_true}}
+use Rattle.rnix_lemmas.proofs.{LevelLemmas.{questioned_operand, operand_expression}, OpeningRows.{HasRow, Opening, by_token, by_branch, by_fault, opened}}
+use Rattle.{rnix_lemmas.proofs.OpeningRows.{is_number, to_live, live_to, row_behind, spelled_first, spelled_rest}, rnix_soundness.proofs.FirstTrees.IsLed}
+use Rattle.rnix_soundness.proofs.{FirstTrees.{led, token_first, no_operand, numbered, patch_number}, RepairedLevels.{is_lambda, second_atom, calls_behind}}
+use Rattle.rnix_soundness.proofs.RepairedNames.{simple_expression, named_plain, named_no_or, no_lambda, same_least, stands_level}
 use Rattle.rnix_grammar.specs.Strict as strict
 use Rattle.rnix_grammar.specs.Corners as corners
-use Rattle.rnix_grammar.specs.Strict.{stands_at, is_strict_atom, is_grouped, first_stands, first_is_atom, first_is_no_or, are_entries_new}
-use Rattle.rnix_grammar.specs.Repaired.{repaired, patch}
-use Rattle.rnix_grammar.specs.Corners.{holds_no_lambda, is_corner, has_no_corner}
-use Rattle.rnix_grammar.specs.Names.{is_plain, is_no_or, is_named, is_name_at}
-use Rattle.rnix_grammar.specs.Named.{is_spelled, AreSpelled, AreNamed}
-use Rattle.rnix_kinds.proofs.AllKinds.{implied}
-use Rattle.rnix_lemmas.proofs.Basics.{true_is_not_false, choice}
-use Rattle.rnix_lemmas.proofs.LevelLemmas.{at_most_true, questioned_operand, operand_expression}
-use Rattle.rnix_lemmas.proofs.OpeningRows.{HasRow, Opening, by_token, by_branch, by_fault, opened, is_number, to_live, live_to, row_behind, spelled_first, spelled_rest}
-use Rattle.rnix_soundness.proofs.FirstTrees.{IsLed, led, token_first, no_operand, numbered, patch_number}
-use Rattle.rnix_soundness.proofs.RepairedLevels.{is_lambda, second_atom, calls_behind}
-use Rattle.rnix_soundness.proofs.RepairedNames.{simple_expression, named_plain, named_no_or, no_lambda, same_least, stands_level}
 
 -- the first tree of some nodes
 strict_atom : (k : SyntaxKind) (c : Forest) → is_lambda k ≡ false → is_atom k ≡ true → strict.is_named k c ≡ true → is_strict_atom k c ≡ true

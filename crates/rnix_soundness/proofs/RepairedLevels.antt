@@ -1,20 +1,14 @@
 -- A tree binds as tightly where its errors are repaired.
-use Rattle.std.proofs.Common.{◌≡◌, Bool, true, false, refl, ap, sym, ◌∙◌}
-use Rattle.std.specs.Prelude.{codes, if◌then◌else◌}
-use Rattle.rnix_kinds.specs.declared.kinds.SyntaxKind.{SyntaxKind}
-use Rattle.rnix_kinds.specs.declared.kinds.SyntaxKind.TheVariants.{TOKEN_INTEGER, TOKEN_INVERT, NODE_APPLY, NODE_BIN_OP, NODE_IDENT, NODE_LAMBDA, NODE_LITERAL, NODE_UNARY_OP}
-use Rattle.rnix_green.specs.Forest.{Forest, empty, leaf, node}
-use Rattle.rnix_grammar.specs.Levels.{binding_power}
-use Rattle.rnix_grammar.specs.AnnotatedForest.{Note, AnnotatedForest, blank, token, branch, fault, one_branch, tokens_in}
-use Rattle.rnix_grammar.specs.Rows.{is_simple, is_operand, Start, BeforeOperator, BeforeArgument, start}
-use Rattle.rnix_grammar.specs.Stands.{IsArgument}
-use Rattle.rnix_grammar.specs.TreeLevels.{is_or_leaf, is_or_row, calls_or, operator_in, prefix_in, level_of, is_atom_row}
+use Rattle.std.proofs.Common.{◌≡◌, Bool, true, false, refl, ap, sym, ◌∙◌, codes, if◌then◌else◌}
+use Rattle.rnix_kinds.specs.declared.kinds.SyntaxKind.{SyntaxKind, TheVariants.{TOKEN_INTEGER, TOKEN_INVERT, NODE_APPLY, NODE_BIN_OP, NODE_IDENT, NODE_LAMBDA}}
+use Rattle.{rnix_kinds.specs.declared.kinds.SyntaxKind.TheVariants.{NODE_LITERAL, NODE_UNARY_OP}, rnix_green.specs.Forest.{Forest, empty, leaf, node}}
+use Rattle.rnix_grammar.specs.{Levels.binding_power, AnnotatedForest.{Note, AnnotatedForest, blank, token, branch, fault, one_branch, tokens_in}}
+use Rattle.rnix_grammar.specs.{Rows.{is_simple, is_operand, Start, BeforeOperator, BeforeArgument, start}, Stands.IsArgument, TreeLevels.is_or_leaf}
+use Rattle.rnix_grammar.specs.{TreeLevels.{is_or_row, calls_or, operator_in, prefix_in, level_of, is_atom_row}, Repaired.{repaired, patch}, Named.AreSpelled}
+use Rattle.rnix_lemmas.proofs.{Basics.true_is_not_false, OpeningRows.{spelled_first, spelled_rest, HasRow, is_number, Opening, by_token, by_branch, by_fault}}
+use Rattle.{rnix_lemmas.proofs.OpeningRows.{opened, to_live, row_behind}, rnix_soundness.proofs.FirstTrees.{IsLed, led, token_first, IsName, name, named}}
+use Rattle.rnix_soundness.proofs.FirstTrees.{patch_number}
 use Rattle.rnix_grammar.specs.Strict as strict
-use Rattle.rnix_grammar.specs.Repaired.{repaired, patch}
-use Rattle.rnix_grammar.specs.Named.{AreSpelled}
-use Rattle.rnix_lemmas.proofs.Basics.{true_is_not_false}
-use Rattle.rnix_lemmas.proofs.OpeningRows.{spelled_first, spelled_rest, HasRow, is_number, Opening, by_token, by_branch, by_fault, opened, to_live, row_behind}
-use Rattle.rnix_soundness.proofs.FirstTrees.{IsLed, led, token_first, IsName, name, named, patch_number}
 
 -- a call calls `or` in both trees
 same_or_row : (k : SyntaxKind) {c : AnnotatedForest} (f : AnnotatedForest) → HasRow k (start k) blank c → AreSpelled (tokens_in c) → strict.is_or_name k (repaired c) ≡ is_or_row (branch k c f)

@@ -1,27 +1,14 @@
 -- Names, levels and corners of trees whose errors are repaired.
-use Rattle.std.proofs.Common.{◌≡◌, ◌⊎◌, inl, inr, ℕ, ◌≤◌, true, false, refl, ap, sym, ◌∙◌, subst, arith}
-use Rattle.std.specs.Prelude.{if◌then◌else◌, ◌&&◌, ◌||◌, nat_eq, nat_le}
-use Rattle.std.proofs.lemmas.Bool.{and_from, or_cases}
-use Rattle.std.proofs.lemmas.Bool.Decides.{nat_tests}
-use Rattle.rnix_kinds.specs.declared.kinds.SyntaxKind.{SyntaxKind}
-use Rattle.rnix_kinds.specs.declared.kinds.SyntaxKind.TheVariants.{NODE_CUR_POS, NODE_IDENT, NODE_LAMBDA}
-use Rattle.rnix_green.specs.Forest.{Forest}
-use Rattle.rnix_grammar.specs.Tables.{is_cur_pos}
-use Rattle.rnix_grammar.specs.AnnotatedForest.{Token, AnnotatedForest, blank, one_branch, tokens_in}
-use Rattle.rnix_grammar.specs.Rows.{is_simple, is_expression, RowState, Start, BeforeArgument, start}
-use Rattle.rnix_grammar.specs.TreeLevels.{is_or_row, is_or_leaf, level_of}
-use Rattle.rnix_grammar.specs.Strict as strict
-use Rattle.rnix_grammar.specs.Strict.{stands_at, is_or_name}
-use Rattle.rnix_grammar.specs.Repaired.{repaired}
-use Rattle.rnix_grammar.specs.Corners.{holds_no_lambda, is_corner}
-use Rattle.rnix_grammar.specs.Names.{is_plain, is_no_or, is_named, is_name_at}
-use Rattle.rnix_grammar.specs.Named.{AreSpelled}
-use Rattle.rnix_lemmas.proofs.Basics.{true_is_not_false, not_if}
-use Rattle.rnix_kinds.proofs.AllKinds.{implied}
-use Rattle.rnix_lemmas.proofs.LevelLemmas.{at_most_true}
-use Rattle.rnix_lemmas.proofs.OpeningRows.{HasRow}
-use Rattle.rnix_soundness.proofs.FirstTrees.{IsLed, led, token_first, IsName, name, named, position_spelled}
+use Rattle.std.proofs.Common.{◌≡◌, ◌⊎◌, inl, inr, ℕ, ◌≤◌, true, false, refl, ap, sym, ◌∙◌, subst, arith, if◌then◌else◌, ◌&&◌, ◌||◌, nat_eq, nat_le}
+use Rattle.std.proofs.lemmas.Bool.{and_from, or_cases, Decides.nat_tests}
+use Rattle.rnix_kinds.{specs.declared.kinds.SyntaxKind.{SyntaxKind, TheVariants.{NODE_CUR_POS, NODE_IDENT, NODE_LAMBDA}}, proofs.AllKinds.implied}
+use Rattle.{rnix_green.specs.Forest.Forest, rnix_grammar.specs.{Tables.is_cur_pos, AnnotatedForest.{Token, AnnotatedForest, blank, one_branch, tokens_in}}}
+use Rattle.rnix_grammar.specs.{Rows.{is_simple, is_expression, RowState, Start, BeforeArgument, start}, TreeLevels.{is_or_row, is_or_leaf, level_of}}
+use Rattle.rnix_grammar.specs.{Strict.{stands_at, is_or_name}, Repaired.repaired, Corners.{holds_no_lambda, is_corner}, Names.{is_plain, is_no_or, is_named}}
+use Rattle.{rnix_grammar.specs.{Names.is_name_at, Named.AreSpelled}, rnix_lemmas.proofs.{Basics.{true_is_not_false, not_if}, LevelLemmas.at_most_true}}
+use Rattle.{rnix_lemmas.proofs.OpeningRows.HasRow, rnix_soundness.proofs.FirstTrees.{IsLed, led, token_first, IsName, name, named, position_spelled}}
 use Rattle.rnix_soundness.proofs.RepairedLevels.{is_lambda, same_level}
+use Rattle.rnix_grammar.specs.Strict as strict
 
 -- what may be called is an expression
 pub simple_expression : (k : SyntaxKind) → is_simple k ≡ true → is_expression k ≡ true

@@ -1,33 +1,18 @@
 -- A tree whose errors are repaired may stand where it stands.
-use Rattle.std.proofs.Common.{◌≡◌, Bool, true, false, refl, ap, sym, ◌∙◌, subst}
-use Rattle.std.specs.Prelude.{ℕ, Option, Some, None, codes, if◌then◌else◌, ◌&&◌, ◌||◌, nat_eq, nat_le}
+use Rattle.std.proofs.Common.{◌≡◌, Bool, true, false, refl, ap, sym, ◌∙◌, subst, ℕ, Option, Some, None, codes, if◌then◌else◌, ◌&&◌, ◌||◌, nat_eq, nat_le}
 use Rattle.std.proofs.lemmas.Bool.{and_parts, and_from, or_right}
-use Rattle.rnix_kinds.specs.declared.kinds.SyntaxKind.{SyntaxKind}
-use Rattle.rnix_kinds.specs.declared.kinds.SyntaxKind.TheVariants.{NODE_APPLY, NODE_BIN_OP, NODE_LITERAL, NODE_PAT_BIND, TOKEN_INTEGER}
-use Rattle.rnix_green.specs.Forest.{Forest, empty, leaf}
-use Rattle.rnix_grammar.specs.declared.place.Place.{Place}
+use Rattle.rnix_kinds.specs.declared.kinds.SyntaxKind.{SyntaxKind, TheVariants.{NODE_APPLY, NODE_BIN_OP, NODE_LITERAL, NODE_PAT_BIND, TOKEN_INTEGER}}
+use Rattle.{rnix_kinds.proofs.AllKinds.implied, rnix_green.specs.Forest.{Forest, empty, leaf}, rnix_grammar.specs.declared.place.Place.Place}
+use Rattle.rnix_grammar.specs.{declared.symbol.Symbol.Symbol, Symbols.{symbol_at, level_in}, AnnotatedForest.{Token, AnnotatedForest, blank, one_branch}}
+use Rattle.rnix_grammar.specs.{AnnotatedForest.{tokens_in, is_some}, Rows.{is_simple, fits, RowState, Start, BeforeArgument, At, to, advance, advance_symbol}}
+use Rattle.rnix_grammar.specs.{Rows.{live, start}, Stands.{IsTight, IsArgument, IsLeveled, begins_with_token, is_bind_at, is_formed}, TreeLevels.is_or_row}
+use Rattle.rnix_grammar.specs.{Strict.{may_stand, stands_at, stands_in, begins_with_leaf, is_or_name}, Repaired.repaired, Corners.{holds_no_lambda, is_corner}}
+use Rattle.{rnix_grammar.specs.{Names.{is_named, is_name_in, is_plain}, Named.AreSpelled}, rnix_lemmas.proofs.Basics.{true_is_not_false, some_same}}
+use Rattle.rnix_lemmas.proofs.{NestPlaces.{is_expected, owner}, OpeningRows.{HasRow, Opening, by_fault, opened, live_to, no_closing}, NodeKinds.fits_expression}
+use Rattle.rnix_soundness.proofs.{FirstTrees.patch_number, HomeRowStates.IsHome, RepairedLevels.same_or, RepairedNames.{simple_expression, named_plain}}
+use Rattle.rnix_soundness.proofs.RepairedNames.{named_called, no_lambda, same_least, least_in, stands_level}
 use Rattle.rnix_grammar.specs.declared.place.Place.TheVariants as p
-use Rattle.rnix_grammar.specs.declared.symbol.Symbol.{Symbol}
 use Rattle.rnix_grammar.specs.declared.symbol.Symbol.TheVariants as s
-use Rattle.rnix_grammar.specs.Symbols.{symbol_at, level_in}
-use Rattle.rnix_grammar.specs.AnnotatedForest.{Token, AnnotatedForest, blank, one_branch, tokens_in, is_some}
-use Rattle.rnix_grammar.specs.Rows.{is_simple, fits, RowState, Start, BeforeArgument, At, to, advance, advance_symbol, live, start}
-use Rattle.rnix_grammar.specs.Stands.{IsTight, IsArgument, IsLeveled, begins_with_token, is_bind_at, is_formed}
-use Rattle.rnix_grammar.specs.TreeLevels.{is_or_row}
-use Rattle.rnix_grammar.specs.Strict.{may_stand, stands_at, stands_in, begins_with_leaf, is_or_name}
-use Rattle.rnix_grammar.specs.Repaired.{repaired}
-use Rattle.rnix_grammar.specs.Corners.{holds_no_lambda, is_corner}
-use Rattle.rnix_grammar.specs.Names.{is_named, is_name_in, is_plain}
-use Rattle.rnix_grammar.specs.Named.{AreSpelled}
-use Rattle.rnix_lemmas.proofs.Basics.{true_is_not_false, some_same}
-use Rattle.rnix_soundness.proofs.FirstTrees.{patch_number}
-use Rattle.rnix_kinds.proofs.AllKinds.{implied}
-use Rattle.rnix_lemmas.proofs.NestPlaces.{is_expected, owner}
-use Rattle.rnix_soundness.proofs.HomeRowStates.{IsHome}
-use Rattle.rnix_lemmas.proofs.OpeningRows.{HasRow, Opening, by_fault, opened, live_to, no_closing}
-use Rattle.rnix_soundness.proofs.RepairedLevels.{same_or}
-use Rattle.rnix_soundness.proofs.RepairedNames.{simple_expression, named_plain, named_called, no_lambda, same_least, least_in, stands_level}
-use Rattle.rnix_lemmas.proofs.NodeKinds.{fits_expression}
 
 -- where operands of a positive level stand no operand is a lambda, and no level is beyond the tightest
 abbrev is_bound : SyntaxKind → Option ℕ → Bool

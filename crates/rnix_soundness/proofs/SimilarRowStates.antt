@@ -1,17 +1,10 @@
 -- Spots from which rows go on alike, and where the same trees may stand.
 use Rattle.std.proofs.Common.{◌≡◌, true, Option, Some, None, refl, ap, sym, ◌∙◌, subst}
-use Rattle.rnix_kinds.specs.declared.kinds.SyntaxKind.{SyntaxKind}
-use Rattle.rnix_kinds.specs.declared.kinds.SyntaxKind.TheVariants.{NODE_PAT_BIND}
-use Rattle.rnix_green.specs.Forest.{Forest}
-use Rattle.rnix_grammar.specs.declared.place.Place.{Place}
+use Rattle.{rnix_kinds.specs.declared.kinds.SyntaxKind.{SyntaxKind, TheVariants.NODE_PAT_BIND}, rnix_green.specs.Forest.Forest}
+use Rattle.rnix_grammar.specs.{declared.{place.Place.Place, until.Until.Until}, Symbols.{symbol_at, level_in}, Rows.{RowState, At, advance, live}}
+use Rattle.{rnix_grammar.specs.{Strict.{may_stand, stands_in}, Missing.run_at}, rnix_lemmas.proofs.{Basics.true_is_not_false, ImitateLemmas.Imitates}}
+use Rattle.rnix_lemmas.proofs.ImitateLemmas.{imitates_self, imitates_both, run_imitates, second_imitates}
 use Rattle.rnix_grammar.specs.declared.place.Place.TheVariants as p
-use Rattle.rnix_grammar.specs.declared.until.Until.{Until}
-use Rattle.rnix_grammar.specs.Symbols.{symbol_at, level_in}
-use Rattle.rnix_grammar.specs.Rows.{RowState, At, advance, live}
-use Rattle.rnix_grammar.specs.Strict.{may_stand, stands_in}
-use Rattle.rnix_grammar.specs.Missing.{run_at}
-use Rattle.rnix_lemmas.proofs.Basics.{true_is_not_false}
-use Rattle.rnix_lemmas.proofs.ImitateLemmas.{Imitates, imitates_self, imitates_both, run_imitates, second_imitates}
 
 -- from the first state a row goes on as from the second, wherever it may go on from there
 pub record Similar (x y : RowState) : Type 0 where

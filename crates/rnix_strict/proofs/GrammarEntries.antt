@@ -1,20 +1,17 @@
 -- Paths of attributes, entries, sets and lets that pass the strict test are those of the grammar.
 use Rattle.std.proofs.Common.{◌≡◌, ℕ, true, false, List, refl, ap, sym, ◌∙◌, subst}
-use Rattle.rnix_kinds.specs.declared.kinds.SyntaxKind.{SyntaxKind}
-use Rattle.rnix_kinds.specs.declared.kinds.SyntaxKind.TheVariants.{TOKEN_ASSIGN, TOKEN_DOT, TOKEN_IDENT, TOKEN_IN, TOKEN_INHERIT, TOKEN_L_BRACE, TOKEN_LET, TOKEN_R_BRACE, TOKEN_REC, TOKEN_SEMICOLON, TOKEN_STRING_START, NODE_ATTR_SET, NODE_ATTRPATH, NODE_ATTRPATH_VALUE, NODE_DYNAMIC, NODE_IDENT, NODE_INHERIT, NODE_INHERIT_FROM, NODE_LEGACY_LET, NODE_LET_IN, NODE_STRING}
-use Rattle.rnix_kinds.specs.SyntaxKind.{is_token}
-use Rattle.rnix_green.specs.Forest.{Forest, empty, leaf, node}
-use Rattle.rnix_grammar.specs.declared.place.Place.{Place}
+use Rattle.rnix_kinds.specs.declared.kinds.SyntaxKind.{SyntaxKind, TheVariants.{TOKEN_ASSIGN, TOKEN_DOT, TOKEN_IDENT, TOKEN_IN, TOKEN_INHERIT, TOKEN_L_BRACE}}
+use Rattle.rnix_kinds.specs.declared.kinds.SyntaxKind.TheVariants.{TOKEN_LET, TOKEN_R_BRACE, TOKEN_REC, TOKEN_SEMICOLON, TOKEN_STRING_START, NODE_ATTR_SET}
+use Rattle.rnix_kinds.specs.declared.kinds.SyntaxKind.TheVariants.{NODE_ATTRPATH, NODE_ATTRPATH_VALUE, NODE_DYNAMIC, NODE_IDENT, NODE_INHERIT}
+use Rattle.rnix_kinds.specs.{declared.kinds.SyntaxKind.TheVariants.{NODE_INHERIT_FROM, NODE_LEGACY_LET, NODE_LET_IN, NODE_STRING}, SyntaxKind.is_token}
+use Rattle.{rnix_green.specs.Forest.{Forest, empty, leaf, node}, rnix_grammar.specs.{declared.place.Place.Place, Rows.{is_attr, is_entry, RowState}}}
+use Rattle.rnix_grammar.specs.{Rows.{BeforeBrace, At, advance_names, advance, to, live, whole, start}, Plain.is_node, Grammar.{Strict, legacy_let, let_in}}
+use Rattle.rnix_grammar.specs.Grammar.{Atom, set, rec_set, Pieces, Attr, named_attr, string_attr, Attrpath, last_attr, attr_dot, Entries, entries_end}
+use Rattle.rnix_grammar.specs.Grammar.{inheriting, binding, Binding, bind, Inherit, inherit_names, inherit_from, Names, names_end, inherited}
+use Rattle.rnix_lemmas.proofs.{Basics.true_is_not_false, OpeningRows.live_to, EveryKind.{only, only_both, never, whenever_both, not_together}}
+use Rattle.rnix_strict.proofs.{GrammarRows.{Gathers, in_set, in_legacy, in_let, names_go}, GrammarViews.{Leads, leads, Ends, ends, Means, Held, no_token}}
+use Rattle.rnix_strict.proofs.{GrammarViews.{at_past, of_leaf, of_child, of_operand, of_past}, GrammarForms.{leaf_rest, node_rest, node_means}}
 use Rattle.rnix_grammar.specs.declared.place.Place.TheVariants as p
-use Rattle.rnix_grammar.specs.Rows.{is_attr, is_entry, RowState, BeforeBrace, At, advance_names, advance, to, live, whole, start}
-use Rattle.rnix_grammar.specs.Plain.{is_node}
-use Rattle.rnix_grammar.specs.Grammar.{Strict, legacy_let, let_in, Atom, set, rec_set, Pieces, Attr, named_attr, string_attr, Attrpath, last_attr, attr_dot, Entries, entries_end, inheriting, binding, Binding, bind, Inherit, inherit_names, inherit_from, Names, names_end, inherited}
-use Rattle.rnix_lemmas.proofs.Basics.{true_is_not_false}
-use Rattle.rnix_lemmas.proofs.OpeningRows.{live_to}
-use Rattle.rnix_lemmas.proofs.EveryKind.{only, only_both, never, whenever_both, not_together}
-use Rattle.rnix_strict.proofs.GrammarRows.{Gathers, in_set, in_legacy, in_let, names_go}
-use Rattle.rnix_strict.proofs.GrammarViews.{Leads, leads, Ends, ends, Means, Held, no_token, at_past, of_leaf, of_child, of_operand, of_past}
-use Rattle.rnix_strict.proofs.GrammarForms.{leaf_rest, node_rest, node_means}
 
 -- names of attributes
 attr_token : (k : SyntaxKind) → is_token k ≡ true → is_attr k ≡ true → ⊥

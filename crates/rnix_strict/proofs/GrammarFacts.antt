@@ -1,23 +1,12 @@
 -- Facts for the strict grammar: what fits at looser levels, and rows that pass the test, tree by tree.
-use Rattle.std.proofs.Common.{◌≡◌, ℕ, ◌≤◌, Bool, true, false, List, refl, ap, ◌∙◌, arith, sym}
-use Rattle.std.specs.Prelude.{◌&&◌, Some, None, if◌then◌else◌}
-use Rattle.std.proofs.lemmas.Bool.{and_from}
-use Rattle.rnix_kinds.specs.declared.kinds.SyntaxKind.{SyntaxKind}
-use Rattle.rnix_kinds.specs.declared.kinds.SyntaxKind.TheVariants.{NODE_IDENT, NODE_PAT_BIND}
-use Rattle.rnix_kinds.proofs.AllKinds.{implied}
-use Rattle.rnix_kinds.specs.SyntaxKind.{is_token}
-use Rattle.rnix_green.specs.Forest.{Forest, empty, leaf, node}
-use Rattle.rnix_lemmas.proofs.Basics.{true_is_not_false, choice}
-use Rattle.rnix_grammar.specs.declared.place.Place.{Place}
+use Rattle.std.proofs.{Common.{◌≡◌, ℕ, ◌≤◌, Bool, true, false, List, refl, ap, ◌∙◌, arith, sym, ◌&&◌, Some, None, if◌then◌else◌}, lemmas.Bool.and_from}
+use Rattle.rnix_kinds.{specs.{declared.kinds.SyntaxKind.{SyntaxKind, TheVariants.{NODE_IDENT, NODE_PAT_BIND}}, SyntaxKind.is_token}, proofs.AllKinds.implied}
+use Rattle.{rnix_green.specs.Forest.{Forest, empty, leaf, node}, rnix_grammar.specs.{declared.place.Place.Place, Tables.{is_cur_pos, is_or}}}
+use Rattle.rnix_grammar.specs.{TokenKinds.is_path_piece, Symbols.{symbol_at, level_in}, Rows.{is_expression, is_infix, is_plain_literal, is_attr, fits}}
+use Rattle.rnix_grammar.specs.{Rows.{RowState, Start, BeforeArgument, At, advance_symbol, advance, to, live, whole, start}, Strict.{only_text, is_or_name}}
+use Rattle.rnix_grammar.specs.{Strict.{stands_at, stands_in, may_stand, is_grouped, is_strict}, Derivation.has_tokens_alone}
+use Rattle.rnix_lemmas.proofs.{Basics.{true_is_not_false, choice}, StrictParts.{standing, stands_so}}
 use Rattle.rnix_grammar.specs.declared.symbol.Symbol.TheVariants as s
-use Rattle.rnix_grammar.specs.Tables.{is_cur_pos}
-use Rattle.rnix_grammar.specs.TokenKinds.{is_path_piece}
-use Rattle.rnix_grammar.specs.Symbols.{symbol_at, level_in}
-use Rattle.rnix_grammar.specs.Rows.{is_expression, is_infix, is_plain_literal, is_attr, fits, RowState, Start, BeforeArgument, At, advance_symbol, advance, to, live, whole, start}
-use Rattle.rnix_grammar.specs.Strict.{only_text, is_or_name, stands_at, stands_in, may_stand, is_grouped, is_strict}
-use Rattle.rnix_grammar.specs.Tables.{is_or}
-use Rattle.rnix_grammar.specs.Derivation.{has_tokens_alone}
-use Rattle.rnix_lemmas.proofs.StrictParts.{standing, stands_so}
 
 -- what stands at a level stands at each looser one
 pub stands_looser : (n m : ℕ) (k : SyntaxKind) (c : Forest) → n ≤ m → stands_at m k c ≡ true → stands_at n k c ≡ true

@@ -1,26 +1,22 @@
 -- Rows that pass the strict test are forms of the grammar: what is no operator's tree and no pattern.
-use Rattle.std.proofs.Common.{◌≡◌, ℕ, Bool, true, false, List, refl, ap, subst, arith, sym, ◌∙◌}
-use Rattle.std.proofs.lemmas.Bool.Decides.{nat_tests}
-use Rattle.std.specs.Prelude.{suc, if◌then◌else◌}
-use Rattle.rnix_kinds.specs.declared.kinds.SyntaxKind.{SyntaxKind}
-use Rattle.rnix_kinds.specs.declared.kinds.SyntaxKind.TheVariants.{TOKEN_ASSERT, TOKEN_CUR_POS, TOKEN_ELSE, TOKEN_IDENT, TOKEN_IF, TOKEN_INTERPOL_END, TOKEN_INTERPOL_START, TOKEN_L_BRACK, TOKEN_L_PAREN, TOKEN_PATH_ABS, TOKEN_PATH_HOME, TOKEN_PATH_REL, TOKEN_PATH_SEARCH, TOKEN_R_BRACK, TOKEN_R_PAREN, TOKEN_SEMICOLON, TOKEN_STRING_CONTENT, TOKEN_STRING_END, TOKEN_STRING_START, TOKEN_THEN, TOKEN_WITH, NODE_ASSERT, NODE_CUR_POS, NODE_DYNAMIC, NODE_IDENT, NODE_IF_ELSE, NODE_INHERIT_FROM, NODE_INTERPOL, NODE_LIST, NODE_LITERAL, NODE_PAREN, NODE_PATH_ABS, NODE_PATH_HOME, NODE_PATH_REL, NODE_PATH_SEARCH, NODE_STRING, NODE_WITH}
-use Rattle.rnix_kinds.specs.SyntaxKind.{is_token}
-use Rattle.rnix_green.specs.Forest.{Forest, empty, leaf, node}
-use Rattle.rnix_lemmas.proofs.Basics.{true_is_not_false}
-use Rattle.rnix_lemmas.proofs.OpeningRows.{live_to}
+use Rattle.std.proofs.{Common.{◌≡◌, ℕ, Bool, true, false, List, refl, ap, subst, arith, sym, ◌∙◌, suc, if◌then◌else◌}, lemmas.Bool.Decides.nat_tests}
+use Rattle.rnix_kinds.specs.declared.kinds.SyntaxKind.{SyntaxKind, TheVariants.{TOKEN_ASSERT, TOKEN_CUR_POS, TOKEN_ELSE, TOKEN_IDENT, TOKEN_IF}}
+use Rattle.rnix_kinds.specs.declared.kinds.SyntaxKind.TheVariants.{TOKEN_INTERPOL_END, TOKEN_INTERPOL_START, TOKEN_L_BRACK, TOKEN_L_PAREN, TOKEN_PATH_ABS}
+use Rattle.rnix_kinds.specs.declared.kinds.SyntaxKind.TheVariants.{TOKEN_PATH_HOME, TOKEN_PATH_REL, TOKEN_PATH_SEARCH, TOKEN_R_BRACK, TOKEN_R_PAREN}
+use Rattle.rnix_kinds.specs.declared.kinds.SyntaxKind.TheVariants.{TOKEN_SEMICOLON, TOKEN_STRING_CONTENT, TOKEN_STRING_END, TOKEN_STRING_START, TOKEN_THEN}
+use Rattle.rnix_kinds.specs.declared.kinds.SyntaxKind.TheVariants.{TOKEN_WITH, NODE_ASSERT, NODE_CUR_POS, NODE_DYNAMIC, NODE_IDENT, NODE_IF_ELSE}
+use Rattle.rnix_kinds.specs.declared.kinds.SyntaxKind.TheVariants.{NODE_INHERIT_FROM, NODE_INTERPOL, NODE_LIST, NODE_LITERAL, NODE_PAREN, NODE_PATH_ABS}
+use Rattle.rnix_kinds.specs.declared.kinds.SyntaxKind.TheVariants.{NODE_PATH_HOME, NODE_PATH_REL, NODE_PATH_SEARCH, NODE_STRING, NODE_WITH}
+use Rattle.{rnix_kinds.specs.SyntaxKind.is_token, rnix_green.specs.Forest.{Forest, empty, leaf, node}, rnix_grammar.specs.declared.until.Closer.Closer}
+use Rattle.rnix_grammar.specs.{Tables.closes, Rows.{is_plain_literal, fits, RowState, At, advance, to, live, start}, Corners.{node_count, is_one}}
+use Rattle.rnix_grammar.specs.{Plain.is_node, Grammar.{Strict, with_scope, assertion, if_else, Atom, paren, list, path_abs, path_rel, path_home, path_search}}
+use Rattle.rnix_grammar.specs.Grammar.{literal, Items, list_end, item, Pieces, string_end, content, interpolated, PathEnd, path_end, path_on, PathPieces}
+use Rattle.rnix_grammar.specs.Grammar.{pieces_end, piece, piece_on, Interpol, interpol, Attr, dynamic_attr, Source, source}
+use Rattle.rnix_lemmas.proofs.{Basics.true_is_not_false, OpeningRows.live_to, NodeKinds.fits_expression, PlaceTests.closer_leaf, EveryKind.never}
+use Rattle.{rnix_lemmas.proofs.EveryKind.not_together, rnix_strict.proofs.{GrammarRows.{item_stays, dynamic_stays}, GrammarViews.{Leads, leads, Ends, ends}}}
+use Rattle.rnix_strict.proofs.GrammarViews.{Means, Held, strict_of, at_past, operand_stands, of_leaf, of_operand, of_past}
 use Rattle.rnix_grammar.specs.declared.place.Place.TheVariants as p
-use Rattle.rnix_grammar.specs.declared.until.Closer.{Closer}
 use Rattle.rnix_grammar.specs.declared.until.Closer.TheVariants as c
-use Rattle.rnix_grammar.specs.Tables.{closes}
-use Rattle.rnix_grammar.specs.Rows.{is_plain_literal, fits, RowState, At, advance, to, live, start}
-use Rattle.rnix_grammar.specs.Corners.{node_count, is_one}
-use Rattle.rnix_grammar.specs.Plain.{is_node}
-use Rattle.rnix_grammar.specs.Grammar.{Strict, with_scope, assertion, if_else, Atom, paren, list, path_abs, path_rel, path_home, path_search, literal, Items, list_end, item, Pieces, string_end, content, interpolated, PathEnd, path_end, path_on, PathPieces, pieces_end, piece, piece_on, Interpol, interpol, Attr, dynamic_attr, Source, source}
-use Rattle.rnix_lemmas.proofs.NodeKinds.{fits_expression}
-use Rattle.rnix_lemmas.proofs.PlaceTests.{closer_leaf}
-use Rattle.rnix_lemmas.proofs.EveryKind.{never, not_together}
-use Rattle.rnix_strict.proofs.GrammarRows.{item_stays, dynamic_stays}
-use Rattle.rnix_strict.proofs.GrammarViews.{Leads, leads, Ends, ends, Means, Held, strict_of, at_past, operand_stands, of_leaf, of_operand, of_past}
 
 pub leaf_rest : (q : RowState) (k : SyntaxKind) (t : List ℕ) (f : Forest) → Held q (leaf k t f) → Held (advance q k) f
 leaf_rest q k t f h = h.2

@@ -1,23 +1,17 @@
 -- Trees that operators make, applications and functions that pass the strict test are those of the grammar.
-use Rattle.std.proofs.Common.{◌≡◌, Bool, true, false, refl, ap, sym, ◌∙◌, subst}
-use Rattle.std.specs.Prelude.{if◌then◌else◌}
-use Rattle.rnix_kinds.specs.declared.kinds.SyntaxKind.{SyntaxKind}
-use Rattle.rnix_kinds.specs.declared.kinds.SyntaxKind.TheVariants.{TOKEN_COLON, TOKEN_DOT, TOKEN_IDENT, TOKEN_INVERT, TOKEN_OR, TOKEN_QUESTION, TOKEN_SUB, NODE_APPLY, NODE_ATTRPATH, NODE_BIN_OP, NODE_HAS_ATTR, NODE_IDENT, NODE_IDENT_PARAM, NODE_LAMBDA, NODE_PAT_BIND, NODE_PATTERN, NODE_SELECT, NODE_UNARY_OP}
-use Rattle.rnix_kinds.specs.SyntaxKind.{is_token}
-use Rattle.rnix_green.specs.Forest.{Forest, empty, leaf, node}
+use Rattle.std.proofs.Common.{◌≡◌, Bool, true, false, refl, ap, sym, ◌∙◌, subst, if◌then◌else◌}
+use Rattle.rnix_kinds.specs.declared.kinds.SyntaxKind.{SyntaxKind, TheVariants.{TOKEN_COLON, TOKEN_DOT, TOKEN_IDENT, TOKEN_INVERT, TOKEN_OR, TOKEN_QUESTION}}
+use Rattle.rnix_kinds.specs.declared.kinds.SyntaxKind.TheVariants.{TOKEN_SUB, NODE_APPLY, NODE_ATTRPATH, NODE_BIN_OP, NODE_HAS_ATTR, NODE_IDENT}
+use Rattle.rnix_kinds.specs.declared.kinds.SyntaxKind.TheVariants.{NODE_IDENT_PARAM, NODE_LAMBDA, NODE_PAT_BIND, NODE_PATTERN, NODE_SELECT, NODE_UNARY_OP}
+use Rattle.{rnix_kinds.specs.SyntaxKind.is_token, rnix_green.specs.Forest.{Forest, empty, leaf, node}, rnix_grammar.specs.Levels.{binding_power, left_of}}
+use Rattle.rnix_grammar.specs.{Levels.right_of, Rows.{is_atom, is_simple, is_questioned, is_operand, is_infix, BeforeOperator, BeforeDot, BeforeQuestion}}
+use Rattle.rnix_grammar.specs.{Rows.{BeforeArgument, At, advance, to, live, start}, Strict.{only_text, operator_of, is_or_name, level_of, stands_at}}
+use Rattle.rnix_grammar.specs.{Strict.{is_strict_atom, first_stands, first_is_atom, is_grouped, may_stand}, Tables.is_or, Plain.is_node, Grammar.Strict}
+use Rattle.rnix_grammar.specs.Grammar.{select, select_or, apply_or, apply, negate, has_attr, binary, invert, lambda, Atom, Parameter}
+use Rattle.{rnix_lemmas.proofs.{Basics.true_is_not_false, OpeningRows.live_to, EveryKind.{never, not_together}}, rnix_strict.proofs.GrammarFacts.infix_token}
+use Rattle.rnix_strict.proofs.GrammarViews.{Leads, leads, Ends, ends, Means, Held, strict_of, no_token, at_past, of_optional, of_leaf, of_child, of_operand}
+use Rattle.rnix_strict.proofs.{GrammarViews.{of_end, of_past, atom_of}, GrammarForms.{leaf_rest, node_rest, node_means}}
 use Rattle.rnix_grammar.specs.declared.place.Place.TheVariants as p
-use Rattle.rnix_grammar.specs.Levels.{binding_power, left_of, right_of}
-use Rattle.rnix_grammar.specs.Rows.{is_atom, is_simple, is_questioned, is_operand, is_infix, BeforeOperator, BeforeDot, BeforeQuestion, BeforeArgument, At, advance, to, live, start}
-use Rattle.rnix_grammar.specs.Strict.{only_text, operator_of, is_or_name, level_of, stands_at, is_strict_atom, first_stands, first_is_atom, is_grouped, may_stand}
-use Rattle.rnix_grammar.specs.Tables.{is_or}
-use Rattle.rnix_grammar.specs.Plain.{is_node}
-use Rattle.rnix_grammar.specs.Grammar.{Strict, select, select_or, apply_or, apply, negate, has_attr, binary, invert, lambda, Atom, Parameter}
-use Rattle.rnix_lemmas.proofs.Basics.{true_is_not_false}
-use Rattle.rnix_lemmas.proofs.OpeningRows.{live_to}
-use Rattle.rnix_lemmas.proofs.EveryKind.{never, not_together}
-use Rattle.rnix_strict.proofs.GrammarFacts.{infix_token}
-use Rattle.rnix_strict.proofs.GrammarViews.{Leads, leads, Ends, ends, Means, Held, strict_of, no_token, at_past, of_optional, of_leaf, of_child, of_operand, of_end, of_past, atom_of}
-use Rattle.rnix_strict.proofs.GrammarForms.{leaf_rest, node_rest, node_means}
 
 -- a tree of two, with `.`, `?` or an operator between, stands as the grammar says
 pub select_form : (f : Forest) → Held (start NODE_SELECT) f → first_is_atom f ≡ true → Strict 16 NODE_SELECT f

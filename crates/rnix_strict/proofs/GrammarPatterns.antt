@@ -1,20 +1,15 @@
 -- Parameters and patterns that pass the strict test are those of the grammar.
-use Rattle.std.proofs.Common.{◌≡◌, ℕ, Bool, true, false, List, [], ◌∷◌, refl, sym}
-use Rattle.std.specs.Prelude.{if◌then◌else◌}
-use Rattle.rnix_kinds.specs.declared.kinds.SyntaxKind.{SyntaxKind}
-use Rattle.rnix_kinds.specs.declared.kinds.SyntaxKind.TheVariants.{TOKEN_AT, TOKEN_COMMA, TOKEN_ELLIPSIS, TOKEN_IDENT, TOKEN_L_BRACE, TOKEN_QUESTION, TOKEN_R_BRACE, NODE_IDENT, NODE_IDENT_PARAM, NODE_PAT_BIND, NODE_PAT_ENTRY, NODE_PATTERN}
-use Rattle.rnix_green.specs.Forest.{Forest, empty, leaf, node}
+use Rattle.std.proofs.Common.{◌≡◌, ℕ, Bool, true, false, List, [], ◌∷◌, refl, sym, if◌then◌else◌}
+use Rattle.rnix_kinds.specs.declared.kinds.SyntaxKind.{SyntaxKind, TheVariants.{TOKEN_AT, TOKEN_COMMA, TOKEN_ELLIPSIS, TOKEN_IDENT, TOKEN_L_BRACE}}
+use Rattle.rnix_kinds.specs.declared.kinds.SyntaxKind.TheVariants.{TOKEN_QUESTION, TOKEN_R_BRACE, NODE_IDENT, NODE_IDENT_PARAM, NODE_PAT_BIND, NODE_PAT_ENTRY}
+use Rattle.{rnix_kinds.specs.{declared.kinds.SyntaxKind.TheVariants.NODE_PATTERN, SyntaxKind.is_token}, rnix_green.specs.Forest.{Forest, empty, leaf, node}}
+use Rattle.rnix_grammar.specs.{Rows.{RowState, BeforeAt, At, advance_formals, advance, live, start}, Strict.{only_text, first_is_no_or, binds_no_or}}
+use Rattle.rnix_grammar.specs.{Strict.{entry_text, are_entries_new, begins_with_leaf, may_stand}, Tables.{is_or, is_among}, Plain.is_node, Grammar.PatternEnd}
+use Rattle.rnix_grammar.specs.Grammar.{pattern_end, bound_behind, Parameter, parameter, pattern, bound_pattern, Formals, formals_end, ellipsis, last_entry}
+use Rattle.{rnix_grammar.specs.Grammar.{entry_comma, Formal, entry, default_entry}, rnix_lemmas.proofs.{Basics.true_is_not_false, EveryKind.never}}
+use Rattle.{rnix_lemmas.proofs.EveryKind.not_together, rnix_strict.proofs.GrammarViews.{Leads, leads, Ends, ends, Held, of_optional, of_leaf, of_child}}
+use Rattle.rnix_strict.proofs.{GrammarViews.{of_operand, of_end, of_past, IsBind, binds_before, binds_behind}, GrammarForms.{leaf_rest, node_rest, node_means}}
 use Rattle.rnix_grammar.specs.declared.place.Place.TheVariants as p
-use Rattle.rnix_grammar.specs.Rows.{RowState, BeforeAt, At, advance_formals, advance, live, start}
-use Rattle.rnix_grammar.specs.Strict.{only_text, first_is_no_or, binds_no_or, entry_text, are_entries_new, begins_with_leaf, may_stand}
-use Rattle.rnix_grammar.specs.Tables.{is_or, is_among}
-use Rattle.rnix_kinds.specs.SyntaxKind.{is_token}
-use Rattle.rnix_grammar.specs.Plain.{is_node}
-use Rattle.rnix_grammar.specs.Grammar.{PatternEnd, pattern_end, bound_behind, Parameter, parameter, pattern, bound_pattern, Formals, formals_end, ellipsis, last_entry, entry_comma, Formal, entry, default_entry}
-use Rattle.rnix_lemmas.proofs.Basics.{true_is_not_false}
-use Rattle.rnix_lemmas.proofs.EveryKind.{never, not_together}
-use Rattle.rnix_strict.proofs.GrammarViews.{Leads, leads, Ends, ends, Held, of_optional, of_leaf, of_child, of_operand, of_end, of_past, IsBind, binds_before, binds_behind}
-use Rattle.rnix_strict.proofs.GrammarForms.{leaf_rest, node_rest, node_means}
 
 -- names that are not `or`
 other_name : (t : List ℕ) → (if is_or t then false else true) ≡ true → is_or t ≡ false

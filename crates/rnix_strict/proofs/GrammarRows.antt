@@ -1,24 +1,17 @@
 -- Rows of the strict grammar that pass the test, form by form.
-use Rattle.std.proofs.Common.{◌≡◌, ℕ, Bool, true, false, List, ◌∷◌, refl, ap, ◌∙◌, arith, sym}
-use Rattle.std.specs.Prelude.{if◌then◌else◌, nat_le}
-use Rattle.std.proofs.lemmas.Bool.{and_parts}
-use Rattle.rnix_kinds.specs.declared.kinds.SyntaxKind.{SyntaxKind}
-use Rattle.rnix_kinds.specs.declared.kinds.SyntaxKind.TheVariants.{TOKEN_IDENT, TOKEN_INTERPOL_END, TOKEN_R_BRACK, NODE_APPLY, NODE_ATTRPATH, NODE_ATTRPATH_VALUE, NODE_BIN_OP, NODE_HAS_ATTR, NODE_IDENT, NODE_INHERIT, NODE_LAMBDA, NODE_PAT_ENTRY, NODE_SELECT}
-use Rattle.rnix_green.specs.Forest.{Forest, empty, leaf, node}
-use Rattle.rnix_lemmas.proofs.Basics.{true_is_not_false, choice}
-use Rattle.rnix_grammar.specs.declared.place.Place.{Place}
+use Rattle.std.proofs.{Common.{◌≡◌, ℕ, Bool, true, false, List, ◌∷◌, refl, ap, ◌∙◌, arith, sym, if◌then◌else◌, nat_le}, lemmas.Bool.and_parts}
+use Rattle.rnix_kinds.specs.declared.kinds.SyntaxKind.{SyntaxKind, TheVariants.{TOKEN_IDENT, TOKEN_INTERPOL_END, TOKEN_R_BRACK, NODE_APPLY, NODE_ATTRPATH}}
+use Rattle.rnix_kinds.specs.declared.kinds.SyntaxKind.TheVariants.{NODE_ATTRPATH_VALUE, NODE_BIN_OP, NODE_HAS_ATTR, NODE_IDENT, NODE_INHERIT, NODE_LAMBDA}
+use Rattle.{rnix_kinds.specs.declared.kinds.SyntaxKind.TheVariants.{NODE_PAT_ENTRY, NODE_SELECT}, rnix_green.specs.Forest.{Forest, empty, leaf, node}}
+use Rattle.rnix_grammar.specs.{declared.place.Place.Place, Tables.{is_cur_pos, is_or, is_among}, Levels.{binding_power, left_of, right_of}, Rows.is_atom}
+use Rattle.rnix_grammar.specs.Rows.{is_simple, is_expression, is_infix, is_attr, fits, BeforeOperator, BeforeDot, BeforeQuestion, BeforeArgument, At, advance}
+use Rattle.rnix_grammar.specs.{Rows.{to, start}, Strict.{is_named, first_stands, is_or_name, is_strict_atom, is_grouped, entry_text, are_entries_new}}
+use Rattle.rnix_grammar.specs.{Strict.{may_stand, stands_at}, Grammar.{name, PatternEnd, pattern_end, bound_behind}}
+use Rattle.rnix_lemmas.proofs.{Basics.{true_is_not_false, choice}, LevelLemmas.{atom_simple, atom_fits, operates, at_most_true, fits_looser}}
+use Rattle.rnix_lemmas.proofs.{NodeKinds.fits_expression, StrictParts.{left_least, atom_level, atom_stands, stands_so}}
+use Rattle.rnix_strict.proofs.GrammarFacts.{infix_token, stands_no_or, may_start, may_argument, Passes, Good, StandsAt, good, stands, passes_end}
+use Rattle.rnix_strict.proofs.GrammarFacts.{passes_leaf_to, passes_leaf, passes_node_to, passes_node, passes_operand}
 use Rattle.rnix_grammar.specs.declared.place.Place.TheVariants as p
-use Rattle.rnix_grammar.specs.Tables.{is_cur_pos}
-use Rattle.rnix_grammar.specs.Levels.{binding_power, left_of, right_of}
-use Rattle.rnix_grammar.specs.Rows.{is_atom, is_simple, is_expression, is_infix, is_attr, fits, BeforeOperator, BeforeDot, BeforeQuestion, BeforeArgument, At, advance, to, start}
-use Rattle.rnix_grammar.specs.Strict.{is_named, first_stands, is_or_name, is_strict_atom, is_grouped, entry_text, are_entries_new, may_stand, stands_at}
-use Rattle.rnix_grammar.specs.Tables.{is_or, is_among}
-use Rattle.rnix_grammar.specs.Grammar.{name, PatternEnd, pattern_end, bound_behind}
-use Rattle.rnix_lemmas.proofs.LevelLemmas.{atom_simple, atom_fits, operates, at_most_true, fits_looser}
-use Rattle.rnix_lemmas.proofs.NodeKinds.{fits_expression}
-use Rattle.rnix_lemmas.proofs.StrictParts.{left_least}
-use Rattle.rnix_lemmas.proofs.StrictParts.{atom_level, atom_stands, stands_so}
-use Rattle.rnix_strict.proofs.GrammarFacts.{infix_token, stands_no_or, may_start, may_argument, Passes, Good, StandsAt, good, stands, passes_end, passes_leaf_to, passes_leaf, passes_node_to, passes_node, passes_operand}
 
 -- what an atom, an attribute, a parameter, an entry and the rest of a pattern are to the test
 pub record PassesAtom (k : SyntaxKind) (c : Forest) : Type 0 where

@@ -1,24 +1,20 @@
 -- The trees that pass the strict test are those of the grammar.
-use Rattle.std.proofs.Common.{◌≡◌, ◌↔◌, true, refl, sym}
-use Rattle.std.proofs.lemmas.Bool.{and_parts}
-use Rattle.rnix_kinds.specs.declared.kinds.SyntaxKind.{SyntaxKind}
-use Rattle.rnix_kinds.specs.declared.kinds.SyntaxKind.TheVariants.{NODE_APPLY, NODE_ASSERT, NODE_ATTRPATH, NODE_ATTRPATH_VALUE, NODE_ATTR_SET, NODE_BIN_OP, NODE_CUR_POS, NODE_DYNAMIC, NODE_HAS_ATTR, NODE_IDENT, NODE_IDENT_PARAM, NODE_IF_ELSE, NODE_INHERIT, NODE_INHERIT_FROM, NODE_INTERPOL, NODE_LAMBDA, NODE_LEGACY_LET, NODE_LET_IN, NODE_LIST, NODE_LITERAL, NODE_PAREN, NODE_PATH_ABS, NODE_PATH_HOME, NODE_PATH_REL, NODE_PATH_SEARCH, NODE_PATTERN, NODE_PAT_BIND, NODE_PAT_ENTRY, NODE_SELECT, NODE_STRING, NODE_UNARY_OP, NODE_WITH}
-use Rattle.rnix_kinds.specs.SyntaxKind.{is_token}
-use Rattle.rnix_green.specs.Forest.{Forest, empty, leaf, node}
-use Rattle.rnix_lemmas.proofs.Basics.{true_is_not_false}
+use Rattle.std.proofs.{Common.{◌≡◌, ◌↔◌, true, refl, sym}, lemmas.Bool.and_parts}
+use Rattle.rnix_kinds.specs.declared.kinds.SyntaxKind.{SyntaxKind, TheVariants.{NODE_APPLY, NODE_ASSERT, NODE_ATTRPATH, NODE_ATTRPATH_VALUE, NODE_ATTR_SET}}
+use Rattle.rnix_kinds.specs.declared.kinds.SyntaxKind.TheVariants.{NODE_BIN_OP, NODE_CUR_POS, NODE_DYNAMIC, NODE_HAS_ATTR, NODE_IDENT, NODE_IDENT_PARAM}
+use Rattle.rnix_kinds.specs.declared.kinds.SyntaxKind.TheVariants.{NODE_IF_ELSE, NODE_INHERIT, NODE_INHERIT_FROM, NODE_INTERPOL, NODE_LAMBDA, NODE_LEGACY_LET}
+use Rattle.rnix_kinds.specs.declared.kinds.SyntaxKind.TheVariants.{NODE_LET_IN, NODE_LIST, NODE_LITERAL, NODE_PAREN, NODE_PATH_ABS, NODE_PATH_HOME}
+use Rattle.rnix_kinds.specs.declared.kinds.SyntaxKind.TheVariants.{NODE_PATH_REL, NODE_PATH_SEARCH, NODE_PATTERN, NODE_PAT_BIND, NODE_PAT_ENTRY, NODE_SELECT}
+use Rattle.rnix_kinds.specs.{declared.kinds.SyntaxKind.TheVariants.{NODE_STRING, NODE_UNARY_OP, NODE_WITH}, SyntaxKind.is_token}
+use Rattle.{rnix_green.specs.Forest.{Forest, empty, leaf, node}, rnix_grammar.specs.{Rows.{RowState, At, advance, live, start}, Strict.{is_grouped, is_strict}}}
+use Rattle.rnix_grammar.specs.{Strict.is_strict_expression, Derivation.{has_tokens_alone, is_strict_tree}, Plain.is_node, Grammar.{IsExpression, expression}}
+use Rattle.{rnix_lemmas.proofs.{Basics.true_is_not_false, StrictParts.{Parts, parts}}, rnix_strict.proofs.{GrammarStrict.expression_strict, GrammarViews.Means}}
+use Rattle.rnix_strict.proofs.{GrammarViews.{Held, of_end, of_operand}, GrammarForms.{paren_form, source_form, interpol_form, with_form, assert_form, if_form}}
+use Rattle.rnix_strict.proofs.GrammarForms.{name_form, position_form, search_form, literal_form, string_form, abs_form, rel_form, home_form, list_form}
+use Rattle.rnix_strict.proofs.{GrammarForms.dynamic_form, GrammarEntries.{attrpath_form, binding_form, inherit_form, set_form, legacy_form, let_form}}
+use Rattle.rnix_strict.proofs.{GrammarOperators.{select_form, has_form, binary_form, apply_form, prefix_form, lambda_form}, GrammarPatterns.parameter_form}
+use Rattle.rnix_strict.proofs.GrammarPatterns.{entry_form, bind_form, pattern_form}
 use Rattle.rnix_grammar.specs.declared.place.Place.TheVariants as p
-use Rattle.rnix_grammar.specs.Rows.{RowState, At, advance, live, start}
-use Rattle.rnix_grammar.specs.Strict.{is_grouped, is_strict, is_strict_expression}
-use Rattle.rnix_grammar.specs.Derivation.{has_tokens_alone, is_strict_tree}
-use Rattle.rnix_grammar.specs.Plain.{is_node}
-use Rattle.rnix_grammar.specs.Grammar.{IsExpression, expression}
-use Rattle.rnix_lemmas.proofs.StrictParts.{Parts, parts}
-use Rattle.rnix_strict.proofs.GrammarStrict.{expression_strict}
-use Rattle.rnix_strict.proofs.GrammarViews.{Means, Held, of_end, of_operand}
-use Rattle.rnix_strict.proofs.GrammarForms.{paren_form, source_form, interpol_form, with_form, assert_form, if_form, name_form, position_form, search_form, literal_form, string_form, abs_form, rel_form, home_form, list_form, dynamic_form}
-use Rattle.rnix_strict.proofs.GrammarEntries.{attrpath_form, binding_form, inherit_form, set_form, legacy_form, let_form}
-use Rattle.rnix_strict.proofs.GrammarOperators.{select_form, has_form, binary_form, apply_form, prefix_form, lambda_form}
-use Rattle.rnix_strict.proofs.GrammarPatterns.{parameter_form, entry_form, bind_form, pattern_form}
 
 -- a kind that has a row is that of a node
 node_row : (k : SyntaxKind) (f : Forest) → is_strict (start k) f ≡ true → is_node k ≡ true

@@ -1,28 +1,18 @@
 -- Rows that pass the strict test, seen from their beginning on.
-use Rattle.rnix_kinds.proofs.AllKinds.{all_kinds}
-use Rattle.std.proofs.Common.{◌≡◌, ℕ, Bool, true, false, List, refl, ap, sym, ◌∙◌, subst}
-use Rattle.std.specs.List.{list_all}
-use Rattle.std.specs.Prelude.{Some, nat_eq, if◌then◌else◌}
-use Rattle.rnix_kinds.specs.declared.kinds.SyntaxKind.{SyntaxKind}
-use Rattle.rnix_kinds.specs.declared.kinds.SyntaxKind.TheVariants.{TOKEN_AT, TOKEN_CUR_POS, TOKEN_IDENT, TOKEN_STRING_START, NODE_ATTR_SET, NODE_ATTRPATH, NODE_ATTRPATH_VALUE, NODE_CUR_POS, NODE_DYNAMIC, NODE_IDENT, NODE_IDENT_PARAM, NODE_INHERIT, NODE_INHERIT_FROM, NODE_INTERPOL, NODE_LIST, NODE_LITERAL, NODE_PAREN, NODE_PAT_BIND, NODE_PAT_ENTRY, NODE_PATTERN, NODE_PATH_ABS, NODE_PATH_HOME, NODE_PATH_REL, NODE_PATH_SEARCH, NODE_STRING}
-use Rattle.rnix_kinds.specs.SyntaxKind.{is_token, place_of}
-use Rattle.rnix_green.specs.Forest.{Forest, empty, leaf, node}
-use Rattle.rnix_grammar.specs.declared.place.Place.{Place}
+use Rattle.std.{specs.List.list_all, proofs.Common.{◌≡◌, ℕ, Bool, true, false, List, refl, ap, sym, ◌∙◌, subst, Some, nat_eq, if◌then◌else◌}}
+use Rattle.rnix_kinds.specs.declared.kinds.SyntaxKind.{SyntaxKind, TheVariants.{TOKEN_AT, TOKEN_CUR_POS, TOKEN_IDENT, TOKEN_STRING_START, NODE_ATTR_SET}}
+use Rattle.rnix_kinds.specs.declared.kinds.SyntaxKind.TheVariants.{NODE_ATTRPATH, NODE_ATTRPATH_VALUE, NODE_CUR_POS, NODE_DYNAMIC, NODE_IDENT, NODE_IDENT_PARAM}
+use Rattle.rnix_kinds.specs.declared.kinds.SyntaxKind.TheVariants.{NODE_INHERIT, NODE_INHERIT_FROM, NODE_INTERPOL, NODE_LIST, NODE_LITERAL, NODE_PAREN}
+use Rattle.rnix_kinds.specs.declared.kinds.SyntaxKind.TheVariants.{NODE_PAT_BIND, NODE_PAT_ENTRY, NODE_PATTERN, NODE_PATH_ABS, NODE_PATH_HOME, NODE_PATH_REL}
+use Rattle.rnix_kinds.specs.{declared.kinds.SyntaxKind.TheVariants.{NODE_PATH_SEARCH, NODE_STRING}, SyntaxKind.{is_token, place_of}}
+use Rattle.{rnix_kinds.proofs.AllKinds.all_kinds, rnix_green.specs.Forest.{Forest, empty, leaf, node}, rnix_grammar.specs.declared.place.Place.Place}
+use Rattle.rnix_grammar.specs.{Tables.{is_cur_pos, is_or}, Symbols.{symbol_at, level_in}, Rows.{is_expression, fits, RowState, At, advance_symbol, advance, to}}
+use Rattle.rnix_grammar.specs.{Rows.{live, is_end, whole}, Strict.{is_named, is_strict_atom, entry_text, level_of, stands_at, stands_in, may_stand}}
+use Rattle.rnix_grammar.specs.{Strict.is_plain_name, Plain.is_node, Grammar.{name, Strict, looser, atom, Atom, string, named, current_position, Pieces}}
+use Rattle.{rnix_grammar.specs.Grammar.{Interpol, Attr, Attrpath, Binding, Inherit, Source, Parameter, Formal}, rnix_lemmas.proofs.Basics.true_is_not_false}
+use Rattle.rnix_lemmas.proofs.{EveryKind.{only, never}, NodeKinds.fits_expression, StrictParts.standing, OpeningRows.live_to}
 use Rattle.rnix_grammar.specs.declared.place.Place.TheVariants as p
 use Rattle.rnix_grammar.specs.declared.symbol.Symbol.TheVariants as s
-use Rattle.rnix_grammar.specs.Tables.{is_cur_pos}
-use Rattle.rnix_grammar.specs.Symbols.{symbol_at, level_in}
-use Rattle.rnix_grammar.specs.Rows.{is_expression, fits, RowState, At, advance_symbol, advance, to, live, is_end, whole}
-use Rattle.rnix_grammar.specs.Strict.{is_named, is_strict_atom, entry_text, level_of, stands_at, stands_in, may_stand}
-use Rattle.rnix_grammar.specs.Tables.{is_or}
-use Rattle.rnix_grammar.specs.Plain.{is_node}
-use Rattle.rnix_grammar.specs.Grammar.{name, Strict, looser, atom, Atom, string, named, current_position, Pieces, Interpol, Attr, Attrpath, Binding, Inherit, Source, Parameter, Formal}
-use Rattle.rnix_grammar.specs.Strict.{is_plain_name}
-use Rattle.rnix_lemmas.proofs.Basics.{true_is_not_false}
-use Rattle.rnix_lemmas.proofs.EveryKind.{only, never}
-use Rattle.rnix_lemmas.proofs.NodeKinds.{fits_expression}
-use Rattle.rnix_lemmas.proofs.StrictParts.{standing}
-use Rattle.rnix_lemmas.proofs.OpeningRows.{live_to}
 
 -- rows that begin with a leaf of a kind; rows that are empty
 pub data Leads (w : SyntaxKind) (Q : Forest → Type 0) : Forest → Type 0 where

@@ -1,16 +1,16 @@
 -- Trees that are strict, and trees that are not.
-use Rattle.std.proofs.Common.{◌≡◌, ℕ, true, false, List, refl}
-use Rattle.std.specs.Prelude.{codes}
-use Rattle.rnix_kinds.specs.declared.kinds.SyntaxKind.{SyntaxKind}
-use Rattle.rnix_kinds.specs.declared.kinds.SyntaxKind.TheVariants.{TOKEN_IDENT, TOKEN_CUR_POS, TOKEN_INTEGER, TOKEN_ADD, TOKEN_SUB, TOKEN_MUL, TOKEN_EQUAL, TOKEN_INVERT, TOKEN_COLON, TOKEN_COMMA, TOKEN_QUESTION, TOKEN_AT, TOKEN_DOT, TOKEN_OR, TOKEN_L_BRACE, TOKEN_R_BRACE, TOKEN_L_BRACK, TOKEN_R_BRACK, TOKEN_L_PAREN, TOKEN_R_PAREN, TOKEN_INTERPOL_START, TOKEN_INTERPOL_END, TOKEN_CONCAT, NODE_APPLY, NODE_ATTRPATH, NODE_BIN_OP, NODE_CUR_POS, NODE_DYNAMIC, NODE_HAS_ATTR, NODE_IDENT, NODE_IDENT_PARAM, NODE_LAMBDA, NODE_LIST, NODE_LITERAL, NODE_PAREN, NODE_PATTERN, NODE_PAT_BIND, NODE_PAT_ENTRY, NODE_ROOT, NODE_SELECT, NODE_UNARY_OP, TOKEN_LESS, TOKEN_IMPLICATION}
-use Rattle.rnix_green.specs.Forest.{Forest, empty, leaf, node}
-use Rattle.rnix_grammar.specs.declared.place.Place.TheVariants.{RootStart, AttrpathStart, InheritName, BindName}
-use Rattle.rnix_grammar.specs.AnnotatedForest.{Token, AnnotatedForest, Stray, Extra, one_token, one_fault}
-use Rattle.rnix_grammar.specs.Rows.{Start, BeforeArgument, At}
-use Rattle.rnix_grammar.specs.Strict.{is_strict_expression}
-use Rattle.rnix_grammar.specs.Repaired.{repaired}
-use Rattle.rnix_grammar.specs.Nest.{nest}
-use Rattle.rnix_grammar.specs.Names.{is_named}
+use Rattle.std.proofs.Common.{◌≡◌, ℕ, true, false, List, refl, codes}
+use Rattle.rnix_kinds.specs.declared.kinds.SyntaxKind.{SyntaxKind, TheVariants.{TOKEN_IDENT, TOKEN_CUR_POS, TOKEN_INTEGER, TOKEN_ADD, TOKEN_SUB, TOKEN_MUL}}
+use Rattle.rnix_kinds.specs.declared.kinds.SyntaxKind.TheVariants.{TOKEN_EQUAL, TOKEN_INVERT, TOKEN_COLON, TOKEN_COMMA, TOKEN_QUESTION, TOKEN_AT, TOKEN_DOT}
+use Rattle.rnix_kinds.specs.declared.kinds.SyntaxKind.TheVariants.{TOKEN_OR, TOKEN_L_BRACE, TOKEN_R_BRACE, TOKEN_L_BRACK, TOKEN_R_BRACK, TOKEN_L_PAREN}
+use Rattle.rnix_kinds.specs.declared.kinds.SyntaxKind.TheVariants.{TOKEN_R_PAREN, TOKEN_INTERPOL_START, TOKEN_INTERPOL_END, TOKEN_CONCAT, NODE_APPLY}
+use Rattle.rnix_kinds.specs.declared.kinds.SyntaxKind.TheVariants.{NODE_ATTRPATH, NODE_BIN_OP, NODE_CUR_POS, NODE_DYNAMIC, NODE_HAS_ATTR, NODE_IDENT}
+use Rattle.rnix_kinds.specs.declared.kinds.SyntaxKind.TheVariants.{NODE_IDENT_PARAM, NODE_LAMBDA, NODE_LIST, NODE_LITERAL, NODE_PAREN, NODE_PATTERN}
+use Rattle.rnix_kinds.specs.declared.kinds.SyntaxKind.TheVariants.{NODE_PAT_BIND, NODE_PAT_ENTRY, NODE_ROOT, NODE_SELECT, NODE_UNARY_OP, TOKEN_LESS}
+use Rattle.{rnix_kinds.specs.declared.kinds.SyntaxKind.TheVariants.TOKEN_IMPLICATION, rnix_green.specs.Forest.{Forest, empty, leaf, node}}
+use Rattle.rnix_grammar.specs.{declared.place.Place.TheVariants.{RootStart, AttrpathStart, InheritName, BindName}, AnnotatedForest.{Token, AnnotatedForest}}
+use Rattle.rnix_grammar.specs.{AnnotatedForest.{Stray, Extra, one_token, one_fault}, Rows.{Start, BeforeArgument, At}, Strict.is_strict_expression}
+use Rattle.rnix_grammar.specs.{Repaired.repaired, Nest.nest, Names.is_named}
 
 -- a number, a name, an operator's tree
 abbrev named : List ℕ → Forest → Forest
