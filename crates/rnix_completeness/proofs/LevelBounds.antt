@@ -1,21 +1,12 @@
 -- How tightly a strict tree binds, and how tight an operator may follow it.
-use Rattle.std.proofs.Common.{◌≡◌, ℕ, zero, suc, ◌≤◌, Bool, true, false, Option, Some, None, refl, ap, ◌∙◌, subst, arith}
-use Rattle.std.specs.List.{list_all}
-use Rattle.std.specs.Prelude.{◌&&◌, if◌then◌else◌, nat_le}
-use Rattle.std.proofs.lemmas.Bool.{and_parts}
-use Rattle.rnix_kinds.proofs.AllKinds.{all_kinds, implied}
-use Rattle.rnix_kinds.specs.declared.kinds.SyntaxKind.{SyntaxKind}
-use Rattle.rnix_kinds.specs.declared.kinds.SyntaxKind.TheVariants.{TOKEN_INVERT, NODE_APPLY, NODE_BIN_OP, NODE_UNARY_OP}
-use Rattle.rnix_grammar.specs.Levels.{binding_power, high_of, left_of}
-use Rattle.rnix_grammar.specs.AnnotatedForest.{AnnotatedForest, token, branch, fault, forget}
-use Rattle.rnix_grammar.specs.Rows.{is_infix, is_operand, BeforeOperator, advance, live, start}
-use Rattle.rnix_grammar.specs.Strict.{calls_or, is_strict, level_of, operator_of, prefix_level, stands_at}
-use Rattle.rnix_grammar.specs.Plain.{AreUntold}
-use Rattle.rnix_lemmas.proofs.EveryKind.{whenever_both}
-use Rattle.rnix_lemmas.proofs.LevelLemmas.{at_most, at_most_true}
-use Rattle.rnix_lemmas.proofs.OpeningRows.{live_to, to_live}
-use Rattle.rnix_lemmas.proofs.PlainTables.{loose, below, is_bound, high_in, operator_high, prefix_high}
-use Rattle.rnix_lemmas.proofs.StrictParts.{Parts, parts, standing}
+use Rattle.std.{specs.List.list_all, proofs.Common.{◌≡◌, ℕ, zero, suc, ◌≤◌, Bool, true, false, Option, Some, None, refl, ap, ◌∙◌, subst, arith, ◌&&◌}}
+use Rattle.std.proofs.{Common.{if◌then◌else◌, nat_le}, lemmas.Bool.and_parts}
+use Rattle.rnix_kinds.specs.declared.kinds.SyntaxKind.{SyntaxKind, TheVariants.{TOKEN_INVERT, NODE_APPLY, NODE_BIN_OP, NODE_UNARY_OP}}
+use Rattle.{rnix_kinds.proofs.AllKinds.{all_kinds, implied}, rnix_grammar.specs.{Levels.{binding_power, high_of, left_of}, AnnotatedForest.AnnotatedForest}}
+use Rattle.rnix_grammar.specs.{AnnotatedForest.{token, branch, fault, forget}, Rows.{is_infix, is_operand, BeforeOperator, advance, live, start}}
+use Rattle.rnix_grammar.specs.{Strict.{calls_or, is_strict, level_of, operator_of, prefix_level, stands_at}, Plain.AreUntold}
+use Rattle.rnix_lemmas.proofs.{EveryKind.whenever_both, LevelLemmas.{at_most, at_most_true}, OpeningRows.{live_to, to_live}, PlainTables.{loose, below}}
+use Rattle.rnix_lemmas.proofs.{PlainTables.{is_bound, high_in, operator_high, prefix_high}, StrictParts.{Parts, parts, standing}}
 
 -- each operator whose left operand may stand at the first level is at most of the second
 abbrev covers : ℕ → ℕ → Bool

@@ -1,21 +1,11 @@
 -- The entries of a strict pattern repeat no name, and how names begin parameters, entries and patterns.
-use Rattle.std.proofs.Common.{◌≡◌, ℕ, Bool, true, false, List, [], ◌∷◌, refl, ap, sym, ◌∙◌, subst}
-use Rattle.std.proofs.lemmas.Bool.{and_parts}
-use Rattle.std.specs.Prelude.{if◌then◌else◌}
-use Rattle.rnix_kinds.specs.declared.kinds.SyntaxKind.{SyntaxKind}
-use Rattle.rnix_grammar.specs.Fault.{named_twice}
-use Rattle.rnix_grammar.specs.Tables.{is_among}
-use Rattle.rnix_grammar.specs.AnnotatedForest.{Token, AnnotatedForest, blank, token, branch, fault, ◌⊕◌, one_token, one_branch, forget, extent_of}
-use Rattle.rnix_grammar.specs.Reports.{repeated, repeats, entry_name, is_same_name, has_entry}
-use Rattle.rnix_grammar.specs.Rows.{RowState, advance, live, whole, start}
-use Rattle.rnix_grammar.specs.Strict.{is_strict, is_or_name, begins_with_leaf, first_is_no_or, entry_text, are_entries_new}
-use Rattle.rnix_grammar.specs.Plain.{AreUntold, is_node}
-use Rattle.std.specs.Str.{bytes_eq}
-use Rattle.rnix_kinds.specs.declared.kinds.SyntaxKind.TheVariants.{TOKEN_IDENT, NODE_IDENT, NODE_PAT_ENTRY}
-use Rattle.rnix_lemmas.proofs.Basics.{true_is_not_false}
-use Rattle.rnix_lemmas.proofs.EntryNames.{has-⊕}
-use Rattle.rnix_lemmas.proofs.StrictParts.{Parts, parts}
-use Rattle.rnix_completeness.proofs.PlainNames.{strict_node, IsIdent, only_ident}
+use Rattle.std.{specs.Str.bytes_eq, proofs.{Common.{◌≡◌, ℕ, Bool, true, false, List, [], ◌∷◌, refl, ap, sym, ◌∙◌, subst, if◌then◌else◌}, lemmas.Bool.and_parts}}
+use Rattle.rnix_kinds.specs.declared.kinds.SyntaxKind.{SyntaxKind, TheVariants.{TOKEN_IDENT, NODE_IDENT, NODE_PAT_ENTRY}}
+use Rattle.rnix_grammar.specs.{Fault.named_twice, Tables.is_among, AnnotatedForest.{Token, AnnotatedForest, blank, token, branch, fault, ◌⊕◌, one_token}}
+use Rattle.rnix_grammar.specs.{AnnotatedForest.{one_branch, forget, extent_of}, Reports.{repeated, repeats, entry_name, is_same_name, has_entry}, Rows.RowState}
+use Rattle.rnix_grammar.specs.{Rows.{advance, live, whole, start}, Strict.{is_strict, is_or_name, begins_with_leaf, first_is_no_or, entry_text}}
+use Rattle.{rnix_grammar.specs.{Strict.are_entries_new, Plain.{AreUntold, is_node}}, rnix_lemmas.proofs.{Basics.true_is_not_false, EntryNames.has-⊕}}
+use Rattle.{rnix_lemmas.proofs.StrictParts.{Parts, parts}, rnix_completeness.proofs.PlainNames.{strict_node, IsIdent, only_ident}}
 
 -- no entry of a pattern repeats a name of one before it
 abbrev pub AreNew : AnnotatedForest → AnnotatedForest → Type 0

@@ -1,26 +1,14 @@
 -- Strict rows of one token, and the tokens of leaves.
-use Rattle.rnix_kinds.proofs.AllKinds.{implied}
-use Rattle.std.proofs.Common.{◌≡◌, ◌⊎◌, inl, inr, ℕ, Bool, true, false, List, Option, Some, refl, ap, sym, ◌∙◌, subst, None}
-use Rattle.std.specs.Prelude.{if◌then◌else◌, ◌&&◌}
-use Rattle.std.proofs.lemmas.Bool.{and_parts}
-use Rattle.rnix_kinds.specs.declared.kinds.SyntaxKind.{SyntaxKind}
-use Rattle.rnix_kinds.specs.declared.kinds.SyntaxKind.TheVariants.{TOKEN_IDENT, TOKEN_OR, NODE_IDENT, TOKEN_CUR_POS, NODE_CUR_POS, TOKEN_AT, TOKEN_COLON}
+use Rattle.std.{specs.Cmp.Derive.both_true, proofs.Common.{◌≡◌, ◌⊎◌, inl, inr, ℕ, Bool, true, false, List, Option, Some, refl, ap, sym, ◌∙◌, subst, None}}
+use Rattle.std.proofs.{Common.{if◌then◌else◌, ◌&&◌}, lemmas.Bool.and_parts}
+use Rattle.rnix_kinds.specs.declared.kinds.SyntaxKind.{SyntaxKind, TheVariants.{TOKEN_IDENT, TOKEN_OR, NODE_IDENT, TOKEN_CUR_POS, NODE_CUR_POS, TOKEN_AT}}
+use Rattle.{rnix_kinds.{specs.declared.kinds.SyntaxKind.TheVariants.TOKEN_COLON, proofs.AllKinds.implied}, rnix_grammar.specs.Tables.{is_or, is_cur_pos}}
+use Rattle.rnix_grammar.specs.{AnnotatedForest.{Token, AnnotatedForest, blank, token, branch, fault, one_token, forget}, Rows.{At, advance, live, whole, start}}
+use Rattle.rnix_grammar.specs.{Rows.{fits, RowState, Start, first, is_expression}, Strict.{is_strict, is_or_name}, Yield.untold, Plain.{is_node, AreUntold}}
+use Rattle.{rnix_grammar.specs.Begins.begin_name, rnix_lemmas.proofs.{EveryKind.whenever_two, Basics.{true_is_not_false, not_if}, NodeKinds.fits_expression}}
+use Rattle.rnix_lemmas.proofs.{NodeKinds.is_error, PlainTables.loose, StrictParts.parts, OpeningRows.live_to}
 use Rattle.rnix_grammar.specs.declared.place.Place.TheVariants as p
-use Rattle.rnix_grammar.specs.Tables.{is_or, is_cur_pos}
-use Rattle.rnix_grammar.specs.AnnotatedForest.{Token, AnnotatedForest, blank, token, branch, fault, one_token, forget}
-use Rattle.rnix_grammar.specs.Rows.{At, advance, live, whole, start, fits, RowState, Start, first, is_expression}
-use Rattle.rnix_grammar.specs.Strict.{is_strict, is_or_name}
-use Rattle.rnix_grammar.specs.Yield.{untold}
-use Rattle.rnix_grammar.specs.Plain.{is_node, AreUntold}
-use Rattle.rnix_lemmas.proofs.EveryKind.{whenever_two}
-use Rattle.rnix_lemmas.proofs.Basics.{true_is_not_false, not_if}
-use Rattle.rnix_lemmas.proofs.NodeKinds.{fits_expression, is_error}
-use Rattle.rnix_lemmas.proofs.PlainTables.{loose}
-use Rattle.rnix_lemmas.proofs.StrictParts.{parts}
 use Rattle.rnix_grammar.specs.declared.begin.Begin.TheVariants as b
-use Rattle.rnix_grammar.specs.Begins.{begin_name}
-use Rattle.std.specs.Cmp.Derive.{both_true}
-use Rattle.rnix_lemmas.proofs.OpeningRows.{live_to}
 
 -- a name: its token is `or`, or an identifier
 pub record IsName (c : AnnotatedForest) : Type 0 where

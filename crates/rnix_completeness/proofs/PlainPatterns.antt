@@ -1,20 +1,13 @@
 -- Before the rest of a strict pattern `{` begins one.
-use Rattle.rnix_kinds.proofs.AllKinds.{implied}
 use Rattle.std.proofs.Common.{◌≡◌, Bool, true, false, List, ◌++◌, Some, refl, ap, sym, ◌∙◌, subst, append_assoc}
-use Rattle.rnix_kinds.specs.declared.kinds.SyntaxKind.{SyntaxKind}
-use Rattle.rnix_kinds.specs.declared.kinds.SyntaxKind.TheVariants.{TOKEN_AT, TOKEN_ELLIPSIS, TOKEN_IDENT, TOKEN_R_BRACE, NODE_IDENT, NODE_LAMBDA, NODE_PAT_BIND, NODE_PAT_ENTRY}
+use Rattle.rnix_kinds.specs.declared.kinds.SyntaxKind.{SyntaxKind, TheVariants.{TOKEN_AT, TOKEN_ELLIPSIS, TOKEN_IDENT, TOKEN_R_BRACE, NODE_IDENT, NODE_LAMBDA}}
+use Rattle.rnix_kinds.{specs.declared.kinds.SyntaxKind.TheVariants.{NODE_PAT_BIND, NODE_PAT_ENTRY}, proofs.AllKinds.implied}
+use Rattle.rnix_grammar.specs.{Begins.{is_pattern, second_kind}, AnnotatedForest.{Token, AnnotatedForest, blank, token, branch, fault, tokens_in, head_kind}}
+use Rattle.rnix_grammar.specs.{AnnotatedForest.forget, Rows.{At, advance, live, start}, Strict.{is_grouped, is_strict, begins_with_leaf, binds_no_or}}
+use Rattle.{rnix_grammar.specs.{Strict.first_is_no_or, Plain.{is_node, AreUntold}}, rnix_lemmas.proofs.{EveryKind.{only, only_both}, Basics.true_is_not_false}}
+use Rattle.{rnix_lemmas.proofs.StrictParts.{Parts, parts}, rnix_completeness.proofs.{PlainNames.strict_node, FirstTokens.next_at, PlainEntries.IsNamed}}
+use Rattle.rnix_completeness.proofs.PlainEntries.{named_row}
 use Rattle.rnix_grammar.specs.declared.place.Place.TheVariants as p
-use Rattle.rnix_grammar.specs.Begins.{is_pattern, second_kind}
-use Rattle.rnix_grammar.specs.AnnotatedForest.{Token, AnnotatedForest, blank, token, branch, fault, tokens_in, head_kind, forget}
-use Rattle.rnix_grammar.specs.Rows.{At, advance, live, start}
-use Rattle.rnix_grammar.specs.Strict.{is_grouped, is_strict, begins_with_leaf, binds_no_or, first_is_no_or}
-use Rattle.rnix_grammar.specs.Plain.{is_node, AreUntold}
-use Rattle.rnix_lemmas.proofs.EveryKind.{only, only_both}
-use Rattle.rnix_lemmas.proofs.Basics.{true_is_not_false}
-use Rattle.rnix_lemmas.proofs.StrictParts.{Parts, parts}
-use Rattle.rnix_completeness.proofs.PlainNames.{strict_node}
-use Rattle.rnix_completeness.proofs.FirstTokens.{next_at}
-use Rattle.rnix_completeness.proofs.PlainEntries.{IsNamed, named_row}
 
 -- `{` begins a pattern before these items
 abbrev pub opens_pattern : List Token → Bool

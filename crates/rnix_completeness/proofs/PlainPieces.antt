@@ -1,10 +1,8 @@
 -- The pieces of a path touch one another, place by place.
 use Rattle.std.proofs.Common.{◌≡◌, ℕ, Bool, true, List, refl}
-use Rattle.rnix_kinds.specs.declared.kinds.SyntaxKind.{SyntaxKind}
-use Rattle.rnix_grammar.specs.declared.place.Place.{Place}
+use Rattle.{rnix_kinds.specs.declared.kinds.SyntaxKind.SyntaxKind, rnix_grammar.specs.{declared.place.Place.Place, AnnotatedForest.{Token, AnnotatedForest}}}
+use Rattle.rnix_grammar.specs.{AnnotatedForest.{blank, token, branch, fault}, Plain.{joins, joins_first}}
 use Rattle.rnix_grammar.specs.declared.place.Place.TheVariants as p
-use Rattle.rnix_grammar.specs.AnnotatedForest.{Token, AnnotatedForest, blank, token, branch, fault}
-use Rattle.rnix_grammar.specs.Plain.{joins, joins_first}
 
 -- the pieces of a path behind a place of its row
 abbrev pub joins_at : Place → ℕ → AnnotatedForest → List Token → Bool

@@ -1,26 +1,15 @@
 -- What may follow the node of a strict row that has come to a state, and what stays as the row goes on.
-use Rattle.std.proofs.Common.{◌≡◌, ℕ, Bool, true, false, Option, Some, None, refl, ap, sym, ◌∙◌, subst, arith}
-use Rattle.std.specs.Cmp.Derive.{both_true}
-use Rattle.std.specs.Prelude.{if◌then◌else◌, nat_eq, nat_le, ◌&&◌}
-use Rattle.std.proofs.lemmas.Bool.{and_parts}
-use Rattle.std.proofs.lemmas.Bool.Decides.{nat_tests}
-use Rattle.rnix_kinds.proofs.AllKinds.{implied}
-use Rattle.rnix_kinds.specs.SyntaxKind.{place_of}
-use Rattle.rnix_kinds.specs.declared.kinds.SyntaxKind.{SyntaxKind}
-use Rattle.rnix_kinds.specs.declared.kinds.SyntaxKind.TheVariants.{TOKEN_DOT, TOKEN_INTERPOL_START, TOKEN_INVERT, TOKEN_SUB, NODE_ATTRPATH, NODE_BIN_OP, NODE_DYNAMIC, NODE_PATTERN, NODE_PAT_ENTRY, NODE_ROOT, NODE_UNARY_OP}
-use Rattle.rnix_grammar.specs.declared.place.Place.{Place}
+use Rattle.std.{specs.Cmp.Derive.both_true, proofs.Common.{◌≡◌, ℕ, Bool, true, false, Option, Some, None, refl, ap, sym, ◌∙◌, subst, arith, if◌then◌else◌}}
+use Rattle.std.proofs.{Common.{nat_eq, nat_le, ◌&&◌}, lemmas.Bool.{and_parts, Decides.nat_tests}}
+use Rattle.rnix_kinds.specs.{SyntaxKind.place_of, declared.kinds.SyntaxKind.{SyntaxKind, TheVariants.{TOKEN_DOT, TOKEN_INTERPOL_START, TOKEN_INVERT}}}
+use Rattle.rnix_kinds.specs.declared.kinds.SyntaxKind.TheVariants.{TOKEN_SUB, NODE_ATTRPATH, NODE_BIN_OP, NODE_DYNAMIC, NODE_PATTERN, NODE_PAT_ENTRY, NODE_ROOT}
+use Rattle.{rnix_kinds.{specs.declared.kinds.SyntaxKind.TheVariants.NODE_UNARY_OP, proofs.AllKinds.implied}, rnix_grammar.specs.declared.place.Place.Place}
+use Rattle.rnix_grammar.specs.{Levels.{high_of, right_of}, AnnotatedForest.{Token, AnnotatedForest, blank, token, branch, fault}, Rows.{RowState, Start}}
+use Rattle.rnix_grammar.specs.Rows.{BeforeOperator, BeforeDot, BeforeQuestion, BeforeArgument, BeforeBrace, At, first, fits, advance, live, to, is_infix}
+use Rattle.{rnix_grammar.specs.{Rows.is_operand, Plain.{is_node, is_path}}, rnix_lemmas.proofs.{Basics.{true_is_not_false, not_if}, EveryKind.whenever_two}}
+use Rattle.rnix_lemmas.proofs.{EveryKind.at_most, LevelLemmas.at_most_true, OpeningRows.to_live, Places.{home, tight}, PlainTables.{loose, below, high_in}}
+use Rattle.{rnix_lemmas.proofs.PlainTables.{is_no_dot, operator_high, prefix_high, is_no_at, is_no_interpol}, rnix_completeness.proofs.LevelBounds.loose_more}
 use Rattle.rnix_grammar.specs.declared.place.Place.TheVariants as p
-use Rattle.rnix_grammar.specs.Levels.{high_of, right_of}
-use Rattle.rnix_grammar.specs.AnnotatedForest.{Token, AnnotatedForest, blank, token, branch, fault}
-use Rattle.rnix_grammar.specs.Rows.{RowState, Start, BeforeOperator, BeforeDot, BeforeQuestion, BeforeArgument, BeforeBrace, At, first, fits, advance, live, to, is_infix, is_operand}
-use Rattle.rnix_grammar.specs.Plain.{is_node, is_path}
-use Rattle.rnix_lemmas.proofs.Basics.{true_is_not_false, not_if}
-use Rattle.rnix_lemmas.proofs.EveryKind.{whenever_two, at_most}
-use Rattle.rnix_lemmas.proofs.LevelLemmas.{at_most_true}
-use Rattle.rnix_lemmas.proofs.OpeningRows.{to_live}
-use Rattle.rnix_lemmas.proofs.Places.{home, tight}
-use Rattle.rnix_lemmas.proofs.PlainTables.{loose, below, high_in, is_no_dot, operator_high, prefix_high, is_no_at, is_no_interpol}
-use Rattle.rnix_completeness.proofs.LevelBounds.{loose_more}
 
 -- what is asked of the next item: nothing, that it is not one kind, or that it is at most an operator of a level
 pub data Ask : Type 0 where

@@ -1,26 +1,14 @@
 -- A leaf of a strict row stands where it is the place's own, and where the row ends the next item is not.
-use Rattle.std.proofs.Common.{◌≡◌, ℕ, Bool, true, false, List, [], ◌∷◌, Some, refl, ap, sym, ◌∙◌}
-use Rattle.std.specs.Prelude.{◌||◌, if◌then◌else◌, nat_eq}
-use Rattle.std.specs.List.{list_all}
-use Rattle.rnix_kinds.proofs.AllKinds.{all_kinds}
-use Rattle.rnix_kinds.specs.declared.kinds.SyntaxKind.{SyntaxKind}
-use Rattle.rnix_grammar.specs.declared.place.Place.{Place}
-use Rattle.rnix_grammar.specs.declared.place.Place.TheVariants as p
-use Rattle.rnix_grammar.specs.declared.symbol.Symbol.{Symbol}
-use Rattle.rnix_grammar.specs.declared.symbol.Symbol.TheVariants as s
-use Rattle.rnix_grammar.specs.Tables.{is_wanted, closes}
-use Rattle.rnix_grammar.specs.Symbols.{symbol_at}
-use Rattle.rnix_grammar.specs.AnnotatedForest.{Token, blank, head_kind}
+use Rattle.std.{specs.List.list_all, proofs.Common.{◌≡◌, ℕ, Bool, true, false, List, [], ◌∷◌, Some, refl, ap, sym, ◌∙◌, ◌||◌, if◌then◌else◌, nat_eq}}
+use Rattle.{rnix_kinds.{specs.declared.kinds.SyntaxKind.SyntaxKind, proofs.AllKinds.all_kinds}, rnix_grammar.specs.declared.place.Place.Place}
+use Rattle.rnix_grammar.specs.{declared.symbol.Symbol.Symbol, Tables.{is_wanted, closes}, Symbols.symbol_at, AnnotatedForest.{Token, blank, head_kind}}
 use Rattle.rnix_grammar.specs.Rows.{RowState, BeforeArgument, At, fits, advance, advance_symbol, is_entry, is_expression, is_simple, live, to, whole}
-use Rattle.rnix_grammar.specs.Plain.{is_node, goes_on_path}
-use Rattle.rnix_grammar.specs.ExpectedItems.{expects, expects_in, IsExpected}
-use Rattle.rnix_grammar.specs.TokenKinds.{is_inherit_token}
-use Rattle.rnix_lemmas.proofs.Basics.{true_is_not_false}
-use Rattle.rnix_lemmas.proofs.EveryKind.{never, whenever_both}
-use Rattle.rnix_lemmas.proofs.LevelLemmas.{simple_negated, negated_questioned, questioned_operand, operand_expression}
-use Rattle.rnix_lemmas.proofs.NodeKinds.{expression_node, fits_expression, entry_node, not_both}
-use Rattle.rnix_lemmas.proofs.OpeningRows.{live_to}
+use Rattle.rnix_grammar.specs.{Plain.{is_node, goes_on_path}, ExpectedItems.{expects, expects_in, IsExpected}, TokenKinds.is_inherit_token}
+use Rattle.rnix_lemmas.proofs.{Basics.true_is_not_false, EveryKind.{never, whenever_both}, LevelLemmas.{simple_negated, negated_questioned, questioned_operand}}
+use Rattle.rnix_lemmas.proofs.{LevelLemmas.operand_expression, NodeKinds.{expression_node, fits_expression, entry_node, not_both}, OpeningRows.live_to}
 use Rattle.rnix_completeness.proofs.RowAsks.{ask, heed, heeds, holds}
+use Rattle.rnix_grammar.specs.declared.place.Place.TheVariants as p
+use Rattle.rnix_grammar.specs.declared.symbol.Symbol.TheVariants as s
 
 -- what may be called is an expression
 pub simple_expression : (k : SyntaxKind) → is_simple k ≡ true → is_expression k ≡ true

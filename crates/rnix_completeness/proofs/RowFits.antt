@@ -1,31 +1,17 @@
 -- What is known of a strict row from a state on, and how it goes on behind each of its trees.
-use Rattle.std.proofs.Common.{◌≡◌, ℕ, suc, ◌+◌, ◌≤◌, true, false, List, ◌++◌, ap, sym, ◌∙◌, subst, arith, Bool, [], refl}
-use Rattle.std.proofs.lemmas.Bool.{and_parts}
-use Rattle.std.specs.Prelude.{if◌then◌else◌, nat_eq, max}
-use Rattle.rnix_kinds.specs.declared.kinds.SyntaxKind.{SyntaxKind}
-use Rattle.rnix_grammar.specs.Tables.{depth_limit}
-use Rattle.rnix_grammar.specs.AnnotatedForest.{Token, AnnotatedForest, blank, token, branch, ◌⊕◌, one_token, one_branch, tokens_in, head_kind, forget, end_from, touches}
-use Rattle.rnix_grammar.specs.Rows.{RowState, At, advance, start, counts, Start, first, live}
-use Rattle.rnix_grammar.specs.Strict.{is_strict, is_grouped}
-use Rattle.rnix_grammar.specs.Plain.{joins, is_node, is_path, is_joined, AreUntold, ArePaths, joins_first}
-use Rattle.rnix_lemmas.proofs.RowNesting.{nesting}
-use Rattle.rnix_lemmas.proofs.StrictParts.{parts, Parts}
-use Rattle.std.proofs.lemmas.Bool.Decides.{nat_tests}
-use Rattle.rnix_kinds.proofs.AllKinds.{implied}
-use Rattle.rnix_kinds.specs.declared.kinds.SyntaxKind.TheVariants.{TOKEN_PATH_ABS, TOKEN_PATH_HOME, TOKEN_PATH_REL, NODE_ATTRPATH, NODE_ATTRPATH_VALUE, NODE_DYNAMIC, NODE_PATH_ABS, NODE_PATH_HOME, NODE_PATH_REL, NODE_PATTERN, NODE_ROOT}
-use Rattle.rnix_grammar.specs.Reads.{deeper}
-use Rattle.rnix_grammar.specs.Corners.{node_count}
-use Rattle.std.specs.Cmp.Derive.{both_true}
-use Rattle.std.specs.Prelude.{◌&&◌}
-use Rattle.rnix_lemmas.proofs.Basics.{true_is_not_false, not_if}
-use Rattle.rnix_lemmas.proofs.EveryKind.{only, whenever_two}
-use Rattle.rnix_lemmas.proofs.NodeKinds.{is_error}
-use Rattle.rnix_lemmas.proofs.PlainPlaces.{reaches}
-use Rattle.rnix_completeness.proofs.PlainPieces.{joins_branch, joins_there, joins_at, joins_plain}
-use Rattle.rnix_completeness.proofs.PlainNames.{strict_node, is_sound, unnamed}
-use Rattle.rnix_completeness.proofs.PlainEntries.{AreNew, entries_new}
-use Rattle.rnix_completeness.proofs.RowAsks.{heed, heed_on, by_token, by_branch, in_pattern, in_dynamic, in_path, stays}
-use Rattle.rnix_completeness.proofs.RowGroups.{Grouped, branch_grouped, leaf_grouped}
+use Rattle.std.{specs.Cmp.Derive.both_true, proofs.Common.{◌≡◌, ℕ, suc, ◌+◌, ◌≤◌, true, false, List, ◌++◌, ap, sym, ◌∙◌, subst, arith, Bool, [], refl}}
+use Rattle.std.proofs.{Common.{if◌then◌else◌, nat_eq, max, ◌&&◌}, lemmas.Bool.{and_parts, Decides.nat_tests}}
+use Rattle.rnix_kinds.specs.declared.kinds.SyntaxKind.{SyntaxKind, TheVariants.{TOKEN_PATH_ABS, TOKEN_PATH_HOME, TOKEN_PATH_REL, NODE_ATTRPATH}}
+use Rattle.rnix_kinds.specs.declared.kinds.SyntaxKind.TheVariants.{NODE_ATTRPATH_VALUE, NODE_DYNAMIC, NODE_PATH_ABS, NODE_PATH_HOME, NODE_PATH_REL}
+use Rattle.{rnix_kinds.{specs.declared.kinds.SyntaxKind.TheVariants.{NODE_PATTERN, NODE_ROOT}, proofs.AllKinds.implied}, rnix_grammar.specs.Tables.depth_limit}
+use Rattle.rnix_grammar.specs.AnnotatedForest.{Token, AnnotatedForest, blank, token, branch, ◌⊕◌, one_token, one_branch, tokens_in, head_kind, forget, end_from}
+use Rattle.rnix_grammar.specs.{AnnotatedForest.touches, Rows.{RowState, At, advance, start, counts, Start, first, live}, Strict.{is_strict, is_grouped}}
+use Rattle.rnix_grammar.specs.{Plain.{joins, is_node, is_path, is_joined, AreUntold, ArePaths, joins_first}, Reads.deeper, Corners.node_count}
+use Rattle.rnix_lemmas.proofs.{RowNesting.nesting, StrictParts.{parts, Parts}, Basics.{true_is_not_false, not_if}, EveryKind.{only, whenever_two}}
+use Rattle.{rnix_lemmas.proofs.{NodeKinds.is_error, PlainPlaces.reaches}, rnix_completeness.proofs.PlainPieces.{joins_branch, joins_there, joins_at}}
+use Rattle.rnix_completeness.proofs.{PlainPieces.joins_plain, PlainNames.{strict_node, is_sound, unnamed}, PlainEntries.{AreNew, entries_new}, RowAsks.heed}
+use Rattle.rnix_completeness.proofs.{RowAsks.{heed_on, by_token, by_branch, in_pattern, in_dynamic, in_path, stays}, RowGroups.{Grouped, branch_grouped}}
+use Rattle.rnix_completeness.proofs.RowGroups.{leaf_grouped}
 
 -- what is nested in a row's trees is nested in the row
 max_right : (d m n l : ℕ) → d + max m n ≤ l → d + n ≤ l

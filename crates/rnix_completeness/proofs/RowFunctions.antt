@@ -1,24 +1,15 @@
 -- A strict function begins as its first three items say.
-use Rattle.std.proofs.Common.{◌≡◌, true, false, List, ◌∷◌, ◌++◌, Some, refl, ap, sym, ◌∙◌, subst, append_assoc}
-use Rattle.std.proofs.lemmas.Bool.{and_parts}
-use Rattle.std.specs.Prelude.{if◌then◌else◌}
-use Rattle.rnix_kinds.specs.declared.kinds.SyntaxKind.TheVariants.{TOKEN_IDENT, TOKEN_L_BRACE, TOKEN_R_BRACE, NODE_ATTR_SET, NODE_IDENT, NODE_IDENT_PARAM, NODE_LAMBDA, NODE_PATTERN, NODE_PAT_BIND}
+use Rattle.std.proofs.{Common.{◌≡◌, true, false, List, ◌∷◌, ◌++◌, Some, refl, ap, sym, ◌∙◌, subst, append_assoc, if◌then◌else◌}, lemmas.Bool.and_parts}
+use Rattle.rnix_kinds.specs.declared.kinds.SyntaxKind.TheVariants.{TOKEN_IDENT, TOKEN_L_BRACE, TOKEN_R_BRACE, NODE_ATTR_SET, NODE_IDENT, NODE_IDENT_PARAM}
+use Rattle.{rnix_kinds.specs.declared.kinds.SyntaxKind.TheVariants.{NODE_LAMBDA, NODE_PATTERN, NODE_PAT_BIND}, rnix_grammar.specs.Begins.{begin_of, begin_name}}
+use Rattle.rnix_grammar.specs.{Begins.{is_pattern, second_kind}, Operands.{kind_of, IsBegun}, AnnotatedForest.{Token, AnnotatedForest, blank, token, branch}}
+use Rattle.rnix_grammar.specs.{AnnotatedForest.{fault, one_token, one_branch, tokens_in, head_kind, forget}, Rows.{BeforeAt, At, advance, live, start}}
+use Rattle.{rnix_grammar.specs.{Strict.{begins_with_leaf, is_strict}, Plain.AreUntold}, rnix_lemmas.proofs.{Basics.{true_is_not_false, not_if}, EveryKind.only}}
+use Rattle.{rnix_lemmas.proofs.{EveryKind.only_both, NodeKinds.not_both, StrictParts.{Parts, parts}}, rnix_completeness.proofs.PlainNames.past_blank}
+use Rattle.rnix_completeness.proofs.{PlainNames.strict_node, PlainEntries.{IsNamed, named_first, named_row}, PlainPatterns.{bind_no_or, param_node}}
+use Rattle.rnix_completeness.proofs.{PlainPatterns.pattern_opens, FirstTokens.{next_at, next_kind}}
 use Rattle.rnix_grammar.specs.declared.place.Place.TheVariants as p
 use Rattle.rnix_grammar.specs.declared.begin.Begin.TheVariants as b
-use Rattle.rnix_grammar.specs.Begins.{begin_of, begin_name, is_pattern, second_kind}
-use Rattle.rnix_grammar.specs.Operands.{kind_of, IsBegun}
-use Rattle.rnix_grammar.specs.AnnotatedForest.{Token, AnnotatedForest, blank, token, branch, fault, one_token, one_branch, tokens_in, head_kind, forget}
-use Rattle.rnix_grammar.specs.Rows.{BeforeAt, At, advance, live, start}
-use Rattle.rnix_grammar.specs.Strict.{begins_with_leaf, is_strict}
-use Rattle.rnix_grammar.specs.Plain.{AreUntold}
-use Rattle.rnix_lemmas.proofs.Basics.{true_is_not_false, not_if}
-use Rattle.rnix_lemmas.proofs.EveryKind.{only, only_both}
-use Rattle.rnix_lemmas.proofs.NodeKinds.{not_both}
-use Rattle.rnix_lemmas.proofs.StrictParts.{Parts, parts}
-use Rattle.rnix_completeness.proofs.PlainNames.{past_blank, strict_node}
-use Rattle.rnix_completeness.proofs.PlainEntries.{IsNamed, named_first, named_row}
-use Rattle.rnix_completeness.proofs.PlainPatterns.{bind_no_or, param_node, pattern_opens}
-use Rattle.rnix_completeness.proofs.FirstTokens.{next_at, next_kind}
 
 -- a function of a name
 param_row : (c f g : AnnotatedForest) (us : List Token) → IsNamed (At p.Past) c → is_strict (At p.LambdaColon) (forget f) ≡ true → AreUntold f → IsBegun 0 (branch NODE_LAMBDA (branch NODE_IDENT_PARAM c f) g) (tokens_in (branch NODE_IDENT_PARAM c f) ++ us)

@@ -1,34 +1,21 @@
 -- The first tree of a strict operator, call or selection stands before an item that follows it.
-use Rattle.std.proofs.Common.{◌≡◌, ℕ, ◌≤◌, Bool, true, false, List, ◌++◌, Some, refl, ap, sym, ◌∙◌, subst, arith}
-use Rattle.std.proofs.lemmas.Bool.{and_parts}
-use Rattle.std.specs.Prelude.{◌&&◌, ◌||◌, if◌then◌else◌, nat_le}
-use Rattle.rnix_kinds.specs.declared.kinds.SyntaxKind.{SyntaxKind}
-use Rattle.rnix_kinds.specs.declared.kinds.SyntaxKind.TheVariants.{TOKEN_AT, TOKEN_DOT, TOKEN_IDENT, TOKEN_INVERT, TOKEN_OR, TOKEN_QUESTION, NODE_APPLY, NODE_BIN_OP, NODE_HAS_ATTR, NODE_IDENT, NODE_LAMBDA, NODE_PAT_BIND, NODE_SELECT, NODE_UNARY_OP}
-use Rattle.rnix_kinds.specs.SyntaxKind.{is_fn_arg}
-use Rattle.rnix_green.specs.Forest.{Forest}
-use Rattle.rnix_grammar.specs.declared.place.Place.TheVariants as p
-use Rattle.rnix_grammar.specs.Levels.{binding_power, left_of, right_of}
-use Rattle.rnix_grammar.specs.Tables as t
-use Rattle.rnix_grammar.specs.TokenKinds.{is_or, is_dot, is_question}
+use Rattle.std.{specs.Cmp.Derive.both_true, proofs.Common.{◌≡◌, ℕ, ◌≤◌, Bool, true, false, List, ◌++◌, Some, refl, ap, sym, ◌∙◌, subst, arith, ◌&&◌, ◌||◌}}
+use Rattle.std.proofs.{Common.{if◌then◌else◌, nat_le}, lemmas.Bool.and_parts}
+use Rattle.rnix_kinds.specs.declared.kinds.SyntaxKind.{SyntaxKind, TheVariants.{TOKEN_AT, TOKEN_DOT, TOKEN_IDENT, TOKEN_INVERT, TOKEN_OR, TOKEN_QUESTION}}
+use Rattle.rnix_kinds.specs.declared.kinds.SyntaxKind.TheVariants.{NODE_APPLY, NODE_BIN_OP, NODE_HAS_ATTR, NODE_IDENT, NODE_LAMBDA, NODE_PAT_BIND, NODE_SELECT}
+use Rattle.rnix_kinds.{specs.{declared.kinds.SyntaxKind.TheVariants.NODE_UNARY_OP, SyntaxKind.is_fn_arg}, proofs.AllKinds.implied}
+use Rattle.{rnix_green.specs.Forest.Forest, rnix_grammar.specs.{Levels.{binding_power, left_of, right_of}, TokenKinds.{is_or, is_dot, is_question}}}
 use Rattle.rnix_grammar.specs.AnnotatedForest.{Token, AnnotatedForest, blank, token, branch, fault, ◌⊕◌, one_token, one_branch, tokens_in, head_kind, forget}
-use Rattle.rnix_grammar.specs.Rows.{RowState, Start, BeforeOperator, BeforeDot, BeforeQuestion, BeforeArgument, SecondStart, At, first, advance, is_atom, is_infix, is_operand, is_questioned, is_simple, live, start, to, fits}
-use Rattle.rnix_grammar.specs.Strict.{is_or_name, is_grouped, is_strict, is_strict_atom, first_is_no_or, operator_of, stands_at, prefix_level}
+use Rattle.rnix_grammar.specs.Rows.{RowState, Start, BeforeOperator, BeforeDot, BeforeQuestion, BeforeArgument, SecondStart, At, first, advance, is_atom}
+use Rattle.rnix_grammar.specs.{Rows.{is_infix, is_operand, is_questioned, is_simple, live, start, to, fits}, Strict.{is_or_name, is_grouped, is_strict}}
+use Rattle.rnix_grammar.specs.{Strict.{is_strict_atom, first_is_no_or, operator_of, stands_at, prefix_level}, TreeLevels.{operator_in, prefix_in, is_or_row}}
+use Rattle.rnix_grammar.specs.{TreeLevels.{is_or_leaf, calls_or, level_of, row_level, is_atom_row}, Operands.{follows, IsFollowed}, Plain.{is_node, AreUntold}}
+use Rattle.rnix_lemmas.proofs.{Basics.{true_is_not_false, not_if}, EveryKind.{only, whenever_two, tokens_alone}, LevelLemmas.at_most_true, NodeKinds.not_both}
+use Rattle.{rnix_lemmas.proofs.{OpeningRows.{live_to, to_live}, StrictParts.{standing, parts}}, rnix_completeness.proofs.FirstTokens.Begins}
+use Rattle.rnix_completeness.proofs.{PlainNames.{IsName, only_name}, PlainBegins.is_wrapper, RowExpects.{simple_node, is_leaf}}
+use Rattle.rnix_grammar.specs.declared.place.Place.TheVariants as p
+use Rattle.rnix_grammar.specs.Tables as t
 use Rattle.rnix_grammar.specs.Strict as st
-use Rattle.rnix_grammar.specs.TreeLevels.{operator_in, prefix_in, is_or_row, is_or_leaf, calls_or, level_of, row_level, is_atom_row}
-use Rattle.rnix_grammar.specs.Operands.{follows, IsFollowed}
-use Rattle.rnix_grammar.specs.Plain.{is_node, AreUntold}
-use Rattle.rnix_lemmas.proofs.Basics.{true_is_not_false, not_if}
-use Rattle.rnix_lemmas.proofs.EveryKind.{only, whenever_two, tokens_alone}
-use Rattle.rnix_kinds.proofs.AllKinds.{implied}
-use Rattle.std.specs.Cmp.Derive.{both_true}
-use Rattle.rnix_lemmas.proofs.LevelLemmas.{at_most_true}
-use Rattle.rnix_lemmas.proofs.NodeKinds.{not_both}
-use Rattle.rnix_lemmas.proofs.OpeningRows.{live_to, to_live}
-use Rattle.rnix_lemmas.proofs.StrictParts.{standing, parts}
-use Rattle.rnix_completeness.proofs.FirstTokens.{Begins}
-use Rattle.rnix_completeness.proofs.PlainNames.{IsName, only_name}
-use Rattle.rnix_completeness.proofs.PlainBegins.{is_wrapper}
-use Rattle.rnix_completeness.proofs.RowExpects.{simple_node, is_leaf}
 
 or_kind : (w : Bool) (k : SyntaxKind) → k ≡ (if w then TOKEN_OR else TOKEN_IDENT) → w ≡ is_or k
 or_kind true k e = sym (ap is_or e)

@@ -1,28 +1,13 @@
 -- A strict expression begins as its first three items say, binds as tightly as its place asks, and what follows does not go on with it.
-use Rattle.std.proofs.Common.{◌≡◌, ℕ, zero, suc, ◌≤◌, Bool, true, false, List, [], ◌∷◌, ◌++◌, Option, Some, None, refl, sym, ◌∙◌, subst, append_assoc, arith}
-use Rattle.std.proofs.lemmas.Bool.{and_parts}
-use Rattle.std.proofs.lemmas.Bool.Decides.{nat_tests}
-use Rattle.std.specs.Prelude.{◌&&◌, if◌then◌else◌, nat_le}
-use Rattle.rnix_kinds.specs.declared.kinds.SyntaxKind.{SyntaxKind}
-use Rattle.rnix_kinds.specs.declared.kinds.SyntaxKind.TheVariants.{TOKEN_DOT, NODE_BIN_OP}
-use Rattle.rnix_grammar.specs.Levels.{binding_power}
-use Rattle.rnix_grammar.specs.Operands.{first_tree, follows, goes_on, IsBegun, IsOperand, level_at}
-use Rattle.rnix_grammar.specs.AnnotatedForest.{Token, AnnotatedForest, blank, token, branch, fault, one_branch, tokens_in, head_kind, forget}
-use Rattle.rnix_grammar.specs.Rows.{RowState, Start, advance, live, start, whole}
-use Rattle.rnix_grammar.specs.Strict.{is_grouped, is_strict, stands_at}
-use Rattle.rnix_grammar.specs.Plain.{is_node, AreUntold}
-use Rattle.rnix_lemmas.proofs.Basics.{true_is_not_false}
-use Rattle.rnix_lemmas.proofs.EveryKind.{no_kind, whenever_two}
-use Rattle.std.specs.Cmp.Derive.{both_true}
-use Rattle.rnix_lemmas.proofs.LevelLemmas.{at_most, binding_power_max}
-use Rattle.rnix_lemmas.proofs.NodeKinds.{not_both}
-use Rattle.rnix_lemmas.proofs.PlainTables.{loose, below, high_in, is_bound}
-use Rattle.rnix_lemmas.proofs.StrictParts.{Parts, parts, standing}
-use Rattle.rnix_completeness.proofs.RowGroups.{level_more}
-use Rattle.rnix_completeness.proofs.RowBehind.{Wanted, wanted, wrapped_next}
-use Rattle.rnix_completeness.proofs.PlainBegins.{is_wrapper, wrapped_stands}
-use Rattle.rnix_completeness.proofs.RowBegun.{led_begun}
-use Rattle.rnix_completeness.proofs.RowFits.{Fit}
+use Rattle.std.{specs.Cmp.Derive.both_true, proofs.Common.{◌≡◌, ℕ, zero, suc, ◌≤◌, Bool, true, false, List, [], ◌∷◌, ◌++◌, Option, Some, None, refl, sym, ◌∙◌}}
+use Rattle.std.proofs.{Common.{subst, append_assoc, arith, ◌&&◌, if◌then◌else◌, nat_le}, lemmas.Bool.{and_parts, Decides.nat_tests}}
+use Rattle.{rnix_kinds.specs.declared.kinds.SyntaxKind.{SyntaxKind, TheVariants.{TOKEN_DOT, NODE_BIN_OP}}, rnix_grammar.specs.Levels.binding_power}
+use Rattle.rnix_grammar.specs.{Operands.{first_tree, follows, goes_on, IsBegun, IsOperand, level_at}, AnnotatedForest.{Token, AnnotatedForest, blank, token}}
+use Rattle.rnix_grammar.specs.{AnnotatedForest.{branch, fault, one_branch, tokens_in, head_kind, forget}, Rows.{RowState, Start, advance, live, start, whole}}
+use Rattle.{rnix_grammar.specs.{Strict.{is_grouped, is_strict, stands_at}, Plain.{is_node, AreUntold}}, rnix_lemmas.proofs.Basics.true_is_not_false}
+use Rattle.rnix_lemmas.proofs.{EveryKind.{no_kind, whenever_two}, LevelLemmas.{at_most, binding_power_max}, NodeKinds.not_both, PlainTables.{loose, below}}
+use Rattle.{rnix_lemmas.proofs.{PlainTables.{high_in, is_bound}, StrictParts.{Parts, parts, standing}}, rnix_completeness.proofs.RowGroups.level_more}
+use Rattle.rnix_completeness.proofs.{RowBehind.{Wanted, wanted, wrapped_next}, PlainBegins.{is_wrapper, wrapped_stands}, RowBegun.led_begun, RowFits.Fit}
 
 -- what is loose enough ends a name too
 wide : (m : ℕ) (next : Option SyntaxKind) → loose m next ≡ true → loose 16 next ≡ true

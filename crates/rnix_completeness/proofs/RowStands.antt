@@ -1,43 +1,20 @@
 -- A node of a strict row stands where the next item is the place's own, or where it is not, as its kind does.
-use Rattle.std.proofs.Common.{◌≡◌, ℕ, Bool, true, false, List, [], ◌∷◌, ◌++◌, Option, Some, None, refl, ap, sym, ◌∙◌, subst}
-use Rattle.std.proofs.lemmas.Bool.{and_parts}
-use Rattle.std.specs.Cmp.Derive.{both_true}
-use Rattle.std.specs.Prelude.{◌&&◌, ◌||◌, if◌then◌else◌, nat_eq}
-use Rattle.rnix_kinds.proofs.AllKinds.{implied}
-use Rattle.rnix_kinds.specs.declared.kinds.SyntaxKind.{SyntaxKind}
-use Rattle.rnix_kinds.specs.declared.kinds.SyntaxKind.TheVariants.{TOKEN_AT, TOKEN_IDENT, NODE_IDENT, NODE_PAT_BIND, NODE_PAT_ENTRY}
-use Rattle.rnix_kinds.specs.SyntaxKind.{is_fn_arg}
-use Rattle.rnix_grammar.specs.declared.place.Place.{Place}
+use Rattle.std.{specs.Cmp.Derive.both_true, proofs.Common.{◌≡◌, ℕ, Bool, true, false, List, [], ◌∷◌, ◌++◌, Option, Some, None, refl, ap, sym, ◌∙◌, subst, ◌&&◌}}
+use Rattle.std.proofs.{Common.{◌||◌, if◌then◌else◌, nat_eq}, lemmas.Bool.and_parts}
+use Rattle.rnix_kinds.specs.declared.kinds.SyntaxKind.{SyntaxKind, TheVariants.{TOKEN_AT, TOKEN_IDENT, NODE_IDENT, NODE_PAT_BIND, NODE_PAT_ENTRY}}
+use Rattle.{rnix_kinds.{specs.SyntaxKind.is_fn_arg, proofs.AllKinds.implied}, rnix_grammar.specs.declared.{place.Place.Place, symbol.Symbol.Symbol}}
+use Rattle.rnix_grammar.specs.{declared.until.Closer.Closer, ExpectedItems.{expects, expects_end, expects_in, IsExpected, stands_expected, stands_expected_in}}
+use Rattle.rnix_grammar.specs.{Symbols.symbol_at, Tables.{closes, is_wanted}, TokenKinds.{is_inherit_token, is_or, is_piece_start}, AnnotatedForest.Token}
+use Rattle.rnix_grammar.specs.{AnnotatedForest.{AnnotatedForest, branch, one_branch, tokens_in, head_kind, forget, end_from, touches}, Rows.RowState}
+use Rattle.rnix_grammar.specs.{Rows.{BeforeArgument, At, advance, advance_symbol, is_entry, live, start, to}, TreeLevels.is_or_row, Strict.first_is_no_or}
+use Rattle.{rnix_grammar.specs.{Strict.{is_grouped, is_strict}, Plain.{is_node, joins, AreUntold}}, rnix_lemmas.proofs.Basics.{true_is_not_false, some_same}}
+use Rattle.rnix_lemmas.proofs.{Basics.not_if, EveryKind.{whenever_two, only, only_both}, NodeKinds.not_both, OpeningRows.live_to, StrictParts.{Parts, parts}}
+use Rattle.{rnix_lemmas.proofs.PlaceTests.{closer_leaf, wanted_leaf}, rnix_completeness.proofs.FirstTokens.{may_begin, Begins, node_begins}}
+use Rattle.rnix_completeness.proofs.{PlainNames.{IsIdent, only_ident}, PlainEntries.{IsNamed, named_row}, PlainPatterns.bind_begins, PlainPieces.joins_branch}
+use Rattle.rnix_completeness.proofs.{RowAsks.in_path, RowBehind.argument_begins, RowFits.Fit, RowGroups.{calls_with, Grouped}, RowExpects.path_more}
 use Rattle.rnix_grammar.specs.declared.place.Place.TheVariants as p
-use Rattle.rnix_grammar.specs.declared.symbol.Symbol.{Symbol}
 use Rattle.rnix_grammar.specs.declared.symbol.Symbol.TheVariants as s
-use Rattle.rnix_grammar.specs.declared.until.Closer.{Closer}
 use Rattle.rnix_grammar.specs.declared.until.Closer.TheVariants as c
-use Rattle.rnix_grammar.specs.ExpectedItems.{expects, expects_end, expects_in, IsExpected, stands_expected, stands_expected_in}
-use Rattle.rnix_grammar.specs.Symbols.{symbol_at}
-use Rattle.rnix_grammar.specs.Tables.{closes, is_wanted}
-use Rattle.rnix_grammar.specs.TokenKinds.{is_inherit_token, is_or, is_piece_start}
-use Rattle.rnix_grammar.specs.AnnotatedForest.{Token, AnnotatedForest, branch, one_branch, tokens_in, head_kind, forget, end_from, touches}
-use Rattle.rnix_grammar.specs.Rows.{RowState, BeforeArgument, At, advance, advance_symbol, is_entry, live, start, to}
-use Rattle.rnix_grammar.specs.TreeLevels.{is_or_row}
-use Rattle.rnix_grammar.specs.Strict.{first_is_no_or, is_grouped, is_strict}
-use Rattle.rnix_grammar.specs.Plain.{is_node, joins, AreUntold}
-use Rattle.rnix_lemmas.proofs.Basics.{true_is_not_false, some_same, not_if}
-use Rattle.rnix_lemmas.proofs.EveryKind.{whenever_two, only, only_both}
-use Rattle.rnix_lemmas.proofs.NodeKinds.{not_both}
-use Rattle.rnix_lemmas.proofs.OpeningRows.{live_to}
-use Rattle.rnix_lemmas.proofs.StrictParts.{Parts, parts}
-use Rattle.rnix_lemmas.proofs.PlaceTests.{closer_leaf, wanted_leaf}
-use Rattle.rnix_completeness.proofs.FirstTokens.{may_begin, Begins, node_begins}
-use Rattle.rnix_completeness.proofs.PlainNames.{IsIdent, only_ident}
-use Rattle.rnix_completeness.proofs.PlainEntries.{IsNamed, named_row}
-use Rattle.rnix_completeness.proofs.PlainPatterns.{bind_begins}
-use Rattle.rnix_completeness.proofs.PlainPieces.{joins_branch}
-use Rattle.rnix_completeness.proofs.RowAsks.{in_path}
-use Rattle.rnix_completeness.proofs.RowBehind.{argument_begins}
-use Rattle.rnix_completeness.proofs.RowFits.{Fit}
-use Rattle.rnix_completeness.proofs.RowGroups.{calls_with, Grouped}
-use Rattle.rnix_completeness.proofs.RowExpects.{path_more}
 
 -- the next item is a symbol's own
 abbrev expects_at : Symbol → ℕ → List Token → Bool

@@ -1,34 +1,18 @@
 -- A strict tree is a reading of its items, without errors.
 use Rattle.std.proofs.Common.{◌≡◌, ◌⊎◌, inl, inr, ℕ, suc, ◌+◌, ◌≤◌, ◌<◌, Bool, true, false, List, [], ◌∷◌, ◌++◌, refl, ap, sym, ◌∙◌, subst, arith}
-use Rattle.std.proofs.lemmas.Bool.{and_parts}
-use Rattle.std.specs.Prelude.{if◌then◌else◌, max, nat_eq}
-use Rattle.rnix_kinds.proofs.AllKinds.{implied}
-use Rattle.rnix_kinds.specs.declared.kinds.SyntaxKind.{SyntaxKind}
-use Rattle.rnix_kinds.specs.declared.kinds.SyntaxKind.TheVariants.{TOKEN_CUR_POS, TOKEN_IDENT, TOKEN_OR, NODE_CUR_POS, NODE_ERROR, NODE_IDENT, NODE_PAT_ENTRY, NODE_ROOT}
-use Rattle.rnix_grammar.specs.declared.place.Place.{Place}
+use Rattle.std.proofs.{Common.{if◌then◌else◌, max, nat_eq}, lemmas.Bool.and_parts}
+use Rattle.rnix_kinds.specs.declared.kinds.SyntaxKind.{SyntaxKind, TheVariants.{TOKEN_CUR_POS, TOKEN_IDENT, TOKEN_OR, NODE_CUR_POS, NODE_ERROR, NODE_IDENT}}
+use Rattle.rnix_kinds.{specs.declared.kinds.SyntaxKind.TheVariants.{NODE_PAT_ENTRY, NODE_ROOT}, proofs.AllKinds.implied}
+use Rattle.rnix_grammar.specs.{declared.place.Place.Place, ExpectedItems.IsExpected, Reads.{deeper, end, inner, leaf, IsOver, Reads, ReadsWhole}}
+use Rattle.rnix_grammar.specs.{Reports.repeats, Rows.{RowState, Start, At, first, counts, fits, advance, live, start}, AnnotatedForest.{Token, AnnotatedForest}}
+use Rattle.rnix_grammar.specs.AnnotatedForest.{blank, token, branch, fault, ◌⊕◌, one_token, one_branch, tokens_in, forget, end_from, leaf_kind, leaf_kind_as}
+use Rattle.rnix_grammar.specs.{Strict.{is_strict, is_strict_expression}, Tables.depth_limit, Plain.{is_node, goes_on_path, joins, AreUntold, ArePaths}}
+use Rattle.rnix_lemmas.proofs.{Basics.{true_is_not_false, not_if}, EveryKind.tokens_alone, NodeKinds.{expression_node, fits_expression, is_error, not_both}}
+use Rattle.rnix_lemmas.proofs.{NodeKinds.told_plain, OpeningRows.{live_to, to_live}, RowNesting.nesting, StrictParts.{Parts, parts, end_behind}}
+use Rattle.rnix_completeness.proofs.{PlainNames.{past_blank, strict_node, IsName, only_name}, RowAsks.{in_path, in_pattern}, RowExpects.over_blank}
+use Rattle.rnix_completeness.proofs.{RowExpects.expected_leaf, RowGroups.{followed_branch, followed_leaf}, RowFits.{Fit, branch_fit, inner_fit, joins_on}}
+use Rattle.rnix_completeness.proofs.{RowFits.{leaf_fit, leaf_kind_known}, RowBehind.{argument_begins, calm}, RowStands.expected_branch, RowOperands.operand_of}
 use Rattle.rnix_grammar.specs.declared.place.Place.TheVariants as p
-use Rattle.rnix_grammar.specs.ExpectedItems.{IsExpected}
-use Rattle.rnix_grammar.specs.Reads.{deeper, end, inner, leaf, IsOver, Reads, ReadsWhole}
-use Rattle.rnix_grammar.specs.Reports.{repeats}
-use Rattle.rnix_grammar.specs.Rows.{RowState, Start, At, first, counts, fits, advance, live, start}
-use Rattle.rnix_grammar.specs.AnnotatedForest.{Token, AnnotatedForest, blank, token, branch, fault, ◌⊕◌, one_token, one_branch, tokens_in, forget, end_from, leaf_kind, leaf_kind_as}
-use Rattle.rnix_grammar.specs.Strict.{is_strict, is_strict_expression}
-use Rattle.rnix_grammar.specs.Tables.{depth_limit}
-use Rattle.rnix_grammar.specs.Plain.{is_node, goes_on_path, joins, AreUntold, ArePaths}
-use Rattle.rnix_lemmas.proofs.Basics.{true_is_not_false, not_if}
-use Rattle.rnix_lemmas.proofs.EveryKind.{tokens_alone}
-use Rattle.rnix_lemmas.proofs.NodeKinds.{expression_node, fits_expression, is_error, not_both, told_plain}
-use Rattle.rnix_lemmas.proofs.OpeningRows.{live_to, to_live}
-use Rattle.rnix_lemmas.proofs.RowNesting.{nesting}
-use Rattle.rnix_lemmas.proofs.StrictParts.{Parts, parts, end_behind}
-use Rattle.rnix_completeness.proofs.PlainNames.{past_blank, strict_node, IsName, only_name}
-use Rattle.rnix_completeness.proofs.RowAsks.{in_path, in_pattern}
-use Rattle.rnix_completeness.proofs.RowExpects.{over_blank, expected_leaf}
-use Rattle.rnix_completeness.proofs.RowGroups.{followed_branch, followed_leaf}
-use Rattle.rnix_completeness.proofs.RowFits.{Fit, branch_fit, inner_fit, joins_on, leaf_fit, leaf_kind_known}
-use Rattle.rnix_completeness.proofs.RowBehind.{argument_begins, calm}
-use Rattle.rnix_completeness.proofs.RowStands.{expected_branch}
-use Rattle.rnix_completeness.proofs.RowOperands.{operand_of}
 
 -- where a row ends
 abbrev run_over : RowState → AnnotatedForest → RowState

@@ -1,27 +1,18 @@
 -- What ends behind a step at an open node ends before it, symbol by symbol: attributes, inherited names, attribute paths and names.
-use Rattle.std.proofs.Common.{◌≡◌, ℕ, Bool, true, false, List, [], ◌∷◌, Some, None, refl, ap, sym, ◌∙◌, subst}
-use Rattle.std.specs.Prelude.{nat_eq, if◌then◌else◌, ◌||◌}
-use Rattle.rnix_kinds.specs.declared.kinds.SyntaxKind.{SyntaxKind}
-use Rattle.rnix_kinds.specs.declared.kinds.SyntaxKind.TheVariants.{NODE_ATTRPATH, NODE_DYNAMIC, NODE_IDENT, NODE_INHERIT_FROM, NODE_STRING, TOKEN_CUR_POS, TOKEN_DOT, TOKEN_IDENT, TOKEN_INTERPOL_START, TOKEN_L_PAREN, TOKEN_OR, TOKEN_SEMICOLON, TOKEN_STRING_START}
-use Rattle.rnix_grammar.specs.declared.place.Place.{Place}
+use Rattle.std.proofs.Common.{◌≡◌, ℕ, Bool, true, false, List, [], ◌∷◌, Some, None, refl, ap, sym, ◌∙◌, subst, nat_eq, if◌then◌else◌, ◌||◌}
+use Rattle.rnix_kinds.specs.declared.kinds.SyntaxKind.{SyntaxKind, TheVariants.{NODE_ATTRPATH, NODE_DYNAMIC, NODE_IDENT, NODE_INHERIT_FROM, NODE_STRING}}
+use Rattle.rnix_kinds.specs.declared.kinds.SyntaxKind.TheVariants.{TOKEN_CUR_POS, TOKEN_DOT, TOKEN_IDENT, TOKEN_INTERPOL_START, TOKEN_L_PAREN, TOKEN_OR}
+use Rattle.{rnix_kinds.specs.declared.kinds.SyntaxKind.TheVariants.{TOKEN_SEMICOLON, TOKEN_STRING_START}, rnix_grammar.specs.declared.place.Place.Place}
+use Rattle.rnix_grammar.specs.{declared.symbol.Symbol.Symbol, Fault.Fault, Tables.is_wanted, Symbols.{level_in, is_counted}, Actions.attr_action}
+use Rattle.rnix_grammar.specs.{Actions.{names_action, source_action, more_attrs_action, name_action}, TokenKinds.is_l_paren, AnnotatedForest.Token}
+use Rattle.rnix_grammar.specs.{AnnotatedForest.{AnnotatedForest, head_kind}, Machine.Frame, Missing.run_in, Rows.{At, is_attr, advance_symbol, advance_source}}
+use Rattle.rnix_grammar.specs.{Rows.{advance_names, to}, ExpectedItems.{expects, expects_in, expects_end, stands_expected_in, begins_attr}}
+use Rattle.rnix_existence.proofs.{OpenFrames.{closing, EndsBy}, SymbolSteps.{Known, takes, misses, misses_wanted, runs, names, opens, begins, over, over_end}}
 use Rattle.rnix_grammar.specs.declared.place.Place.TheVariants as p
-use Rattle.rnix_grammar.specs.declared.symbol.Symbol.{Symbol}
 use Rattle.rnix_grammar.specs.declared.symbol.Symbol.TheVariants as s
 use Rattle.rnix_grammar.specs.declared.until.Until.TheVariants as u
 use Rattle.rnix_grammar.specs.declared.action.Action.TheVariants as a
-use Rattle.rnix_grammar.specs.Fault.{Fault}
-use Rattle.rnix_grammar.specs.Tables.{is_wanted}
-use Rattle.rnix_grammar.specs.Symbols.{level_in, is_counted}
-use Rattle.rnix_grammar.specs.Actions.{attr_action, names_action, source_action, more_attrs_action, name_action}
-use Rattle.rnix_grammar.specs.TokenKinds.{is_l_paren}
-use Rattle.rnix_grammar.specs.AnnotatedForest.{Token, AnnotatedForest, head_kind}
-use Rattle.rnix_grammar.specs.Machine.{Frame}
-use Rattle.rnix_grammar.specs.Missing.{run_in}
-use Rattle.rnix_grammar.specs.Rows.{At, is_attr, advance_symbol, advance_source, advance_names, to}
-use Rattle.rnix_grammar.specs.ExpectedItems.{expects, expects_in, expects_end, stands_expected_in, begins_attr}
-use Rattle.rnix_existence.proofs.OpenFrames.{closing, EndsBy}
 use Rattle.rnix_existence.proofs.NodeOpens as opening
-use Rattle.rnix_existence.proofs.SymbolSteps.{Known, takes, misses, misses_wanted, runs, names, opens, begins, over, over_end}
 
 -- where attributes stand among other things: its own items beside those that attributes begin with, and what attributes lead to
 pub record Attrs (symbol : Symbol) (x again y : Place) : Type 0 where

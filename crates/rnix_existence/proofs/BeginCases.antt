@@ -1,31 +1,17 @@
 -- Each way in which an operand begins leads to a whole operand.
 use Rattle.std.proofs.Common.{◌≡◌, ℕ, true, false, List, [], ◌∷◌, ◌++◌, refl, ap, sym, ◌∙◌, subst, append_assoc, append-nil}
-use Rattle.rnix_kinds.specs.declared.kinds.SyntaxKind.{SyntaxKind}
-use Rattle.rnix_kinds.specs.declared.kinds.SyntaxKind.TheVariants.{TOKEN_LET, TOKEN_L_BRACE, TOKEN_IDENT, TOKEN_AT, NODE_IDENT, NODE_IDENT_PARAM, NODE_LAMBDA, NODE_LEGACY_LET, NODE_PATTERN, NODE_PAT_BIND}
-use Rattle.rnix_grammar.specs.declared.place.Place.{Place}
+use Rattle.rnix_kinds.specs.declared.kinds.SyntaxKind.{SyntaxKind, TheVariants.{TOKEN_LET, TOKEN_L_BRACE, TOKEN_IDENT, TOKEN_AT, NODE_IDENT, NODE_IDENT_PARAM}}
+use Rattle.rnix_kinds.specs.declared.kinds.SyntaxKind.TheVariants.{NODE_LAMBDA, NODE_LEGACY_LET, NODE_PATTERN, NODE_PAT_BIND}
+use Rattle.rnix_grammar.specs.{declared.{place.Place.Place, begin.Begin.Begin}, Fault.Fault, Begins.{begin_of, second_kind}, AnnotatedForest.{Token, Stray}}
+use Rattle.rnix_grammar.specs.AnnotatedForest.{AnnotatedForest, blank, ◌⊕◌, one_token, one_branch, one_fault, tokens_in, leaf_kind, leaf_kind_as, head_kind}
+use Rattle.rnix_grammar.specs.{AnnotatedForest.end_from, Machine.{Node, Operand, Frame, put, opened, begun}, Reports.report, Rows.{fits, RowState, Start}}
+use Rattle.rnix_grammar.specs.{Rows.{BeforeAt, BeforeBrace, At, advance, start}, Operands.{kind_of, IsBegun}, Reads.{Reads, end, leaf, inner}}
+use Rattle.rnix_lemmas.proofs.{Basics.{true_is_not_false, some_same}, AnnotatedForestLemmas.tokens_two, LevelLemmas.atom_fits, FollowLemmas.{Stops, stops_all}}
+use Rattle.{rnix_lemmas.proofs.FollowLemmas.{stops_at, followed_loose}, rnix_existence.proofs.{OpenFrames.{a_node, an_error, Ends}, RowFronts.end_two}}
+use Rattle.rnix_existence.proofs.{OperandTrees.{past_over, fit_new}, OperandEnds.{OpenEnds, open_ends}, OperandWraps.alone_tokens, BeginLevels.fits_starts}
+use Rattle.rnix_existence.proofs.{BeginLevels.BeginsTree, OperandKept.none_some, BeginEnds.{BeginEnds, tree_ends, first_leaf, leaf_node}}
 use Rattle.rnix_grammar.specs.declared.place.Place.TheVariants as p
-use Rattle.rnix_grammar.specs.declared.begin.Begin.{Begin}
 use Rattle.rnix_grammar.specs.declared.begin.Begin.TheVariants as b
-use Rattle.rnix_grammar.specs.Fault.{Fault}
-use Rattle.rnix_grammar.specs.Begins.{begin_of, second_kind}
-use Rattle.rnix_grammar.specs.AnnotatedForest.{Token, Stray, AnnotatedForest, blank, ◌⊕◌, one_token, one_branch, one_fault, tokens_in, leaf_kind, leaf_kind_as, head_kind, end_from}
-use Rattle.rnix_grammar.specs.Machine.{Node, Operand, Frame, put, opened, begun}
-use Rattle.rnix_grammar.specs.Reports.{report}
-use Rattle.rnix_grammar.specs.Rows.{fits, RowState, Start, BeforeAt, BeforeBrace, At, advance, start}
-use Rattle.rnix_grammar.specs.Operands.{kind_of, IsBegun}
-use Rattle.rnix_grammar.specs.Reads.{Reads, end, leaf, inner}
-use Rattle.rnix_lemmas.proofs.Basics.{true_is_not_false, some_same}
-use Rattle.rnix_lemmas.proofs.AnnotatedForestLemmas.{tokens_two}
-use Rattle.rnix_lemmas.proofs.LevelLemmas.{atom_fits}
-use Rattle.rnix_lemmas.proofs.FollowLemmas.{Stops, stops_all, stops_at, followed_loose}
-use Rattle.rnix_existence.proofs.OpenFrames.{a_node, an_error, Ends}
-use Rattle.rnix_existence.proofs.RowFronts.{end_two}
-use Rattle.rnix_existence.proofs.OperandTrees.{past_over, fit_new}
-use Rattle.rnix_existence.proofs.OperandEnds.{OpenEnds, open_ends}
-use Rattle.rnix_existence.proofs.OperandWraps.{alone_tokens}
-use Rattle.rnix_existence.proofs.BeginLevels.{fits_starts, BeginsTree}
-use Rattle.rnix_existence.proofs.OperandKept.{none_some}
-use Rattle.rnix_existence.proofs.BeginEnds.{BeginEnds, tree_ends, first_leaf, leaf_node}
 
 -- a node that begins with some trees, whose row goes on, is the first tree of an operand
 pub node_ends : (level high d : ℕ) (k : SyntaxKind) (z : Place) (x : AnnotatedForest) (g : Frame) (fs : List Frame) (ts us : List Token) (n m : ℕ) (row : AnnotatedForest) (zs es gs hs : List Fault) → fits level k ≡ true

@@ -1,19 +1,11 @@
 -- What is still to come where an operand has begun: the whole operand, and what comes behind it.
 use Rattle.std.proofs.Common.{◌≡◌, ℕ, true, false, List, [], ◌∷◌, ◌++◌, Some, refl, ap, sym, ◌∙◌, subst, append_assoc}
-use Rattle.rnix_kinds.specs.declared.kinds.SyntaxKind.{SyntaxKind}
+use Rattle.{rnix_kinds.specs.declared.kinds.SyntaxKind.SyntaxKind, rnix_grammar.specs.{Fault.Fault, AnnotatedForest.{Token, AnnotatedForest, blank, token}}}
+use Rattle.rnix_grammar.specs.{AnnotatedForest.{◌⊕◌, one_token, one_branch, tokens_in, leaf_kind, end_from}, Machine.{Operand, Frame, put, opened}, Rows.fits}
+use Rattle.rnix_grammar.specs.{Rows.{RowState, Start, At, advance, live, start}, TreeLevels.is_or_row, ExpectedItems.IsExpected, Operands.first_tree}
+use Rattle.{rnix_grammar.specs.{Operands.{IsFollowed, IsBegun, IsOperand}, Reads.{Reads, end, leaf}}, rnix_lemmas.proofs.FollowLemmas.Stops}
+use Rattle.rnix_existence.proofs.{OpenFrames.{seen_kind, Lone, a_node, Ends}, OperandTrees.past_over, OperandEnds.{OperandEnds, operand_ends}}
 use Rattle.rnix_grammar.specs.declared.place.Place.TheVariants as p
-use Rattle.rnix_grammar.specs.Fault.{Fault}
-use Rattle.rnix_grammar.specs.AnnotatedForest.{Token, AnnotatedForest, blank, token, ◌⊕◌, one_token, one_branch, tokens_in, leaf_kind, end_from}
-use Rattle.rnix_grammar.specs.Machine.{Operand, Frame, put, opened}
-use Rattle.rnix_grammar.specs.Rows.{fits, RowState, Start, At, advance, live, start}
-use Rattle.rnix_grammar.specs.TreeLevels.{is_or_row}
-use Rattle.rnix_grammar.specs.ExpectedItems.{IsExpected}
-use Rattle.rnix_grammar.specs.Operands.{first_tree, IsFollowed, IsBegun, IsOperand}
-use Rattle.rnix_grammar.specs.Reads.{Reads, end, leaf}
-use Rattle.rnix_lemmas.proofs.FollowLemmas.{Stops}
-use Rattle.rnix_existence.proofs.OpenFrames.{seen_kind, Lone, a_node, Ends}
-use Rattle.rnix_existence.proofs.OperandTrees.{past_over}
-use Rattle.rnix_existence.proofs.OperandEnds.{OperandEnds, operand_ends}
 
 -- a whole operand of a level above a frame that waits for it, and what comes behind it: gs are the errors before it, and hs all errors
 pub record BeginEnds (level d : ℕ) (g : Frame) (fs : List Frame) (ts : List Token) (n : ℕ) (row : AnnotatedForest) (gs hs : List Fault) : Type 0 where

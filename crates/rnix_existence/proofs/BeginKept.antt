@@ -1,25 +1,15 @@
 -- Steps that begin an operand keep what is known of the frames.
-use Rattle.std.proofs.Common.{◌≡◌, ℕ, suc, ◌≤◌, ◌<◌, Bool, true, false, List, [], ◌∷◌, Some, refl, arith}
-use Rattle.std.specs.Prelude.{if◌then◌else◌, nat_le}
+use Rattle.std.proofs.Common.{◌≡◌, ℕ, suc, ◌≤◌, ◌<◌, Bool, true, false, List, [], ◌∷◌, Some, refl, arith, if◌then◌else◌, nat_le}
 use Rattle.std.proofs.lemmas.Bool.Decides.{nat_tests}
-use Rattle.rnix_kinds.specs.declared.kinds.SyntaxKind.{SyntaxKind}
-use Rattle.rnix_kinds.specs.declared.kinds.SyntaxKind.TheVariants.{NODE_IDENT, NODE_IDENT_PARAM, NODE_LAMBDA, NODE_LEGACY_LET, NODE_PATTERN, NODE_PAT_BIND}
-use Rattle.rnix_grammar.specs.declared.place.Place.{Place}
+use Rattle.rnix_kinds.specs.declared.kinds.SyntaxKind.{SyntaxKind, TheVariants.{NODE_IDENT, NODE_IDENT_PARAM, NODE_LAMBDA, NODE_LEGACY_LET, NODE_PATTERN}}
+use Rattle.{rnix_kinds.specs.declared.kinds.SyntaxKind.TheVariants.NODE_PAT_BIND, rnix_grammar.specs.declared.{place.Place.Place, begin.Begin.Begin}}
+use Rattle.rnix_grammar.specs.{Fault.Fault, Tables.depth_limit, Begins.{begin_of, second_kind}, AnnotatedForest.{Token, Stray, TooDeep, AnnotatedForest, blank}}
+use Rattle.rnix_grammar.specs.{AnnotatedForest.{◌⊕◌, one_token, one_branch, one_fault, row_of, leaf_kind, head_kind}, Machine.{Node, Operand, Frame, put}}
+use Rattle.{rnix_grammar.specs.Machine.{opened, leaf, behind, begun, limited, operand_on, reading}, rnix_lemmas.proofs.FirstTrees.{a_node, an_error}}
+use Rattle.{rnix_lemmas.proofs.FollowLemmas.atom_tight, rnix_existence.proofs.Frames.{row_at, MayGrow, an_operand, AtNode, Reading, node, operand}}
+use Rattle.rnix_existence.proofs.{Growing.{atom_grows, loose_grows}, PlaceRows.IsRow, BeginLevels.{BeginsTree, begun_tree}, BelowKept.{grown, stayed, waits}}
 use Rattle.rnix_grammar.specs.declared.place.Place.TheVariants as p
-use Rattle.rnix_grammar.specs.declared.begin.Begin.{Begin}
 use Rattle.rnix_grammar.specs.declared.begin.Begin.TheVariants as b
-use Rattle.rnix_grammar.specs.Fault.{Fault}
-use Rattle.rnix_grammar.specs.Tables.{depth_limit}
-use Rattle.rnix_grammar.specs.Begins.{begin_of, second_kind}
-use Rattle.rnix_grammar.specs.AnnotatedForest.{Token, Stray, TooDeep, AnnotatedForest, blank, ◌⊕◌, one_token, one_branch, one_fault, row_of, leaf_kind, head_kind}
-use Rattle.rnix_grammar.specs.Machine.{Node, Operand, Frame, put, opened, leaf, behind, begun, limited, operand_on, reading}
-use Rattle.rnix_lemmas.proofs.FirstTrees.{a_node, an_error}
-use Rattle.rnix_lemmas.proofs.FollowLemmas.{atom_tight}
-use Rattle.rnix_existence.proofs.Frames.{row_at, MayGrow, an_operand, AtNode, Reading, node, operand}
-use Rattle.rnix_existence.proofs.Growing.{atom_grows, loose_grows}
-use Rattle.rnix_existence.proofs.PlaceRows.{IsRow}
-use Rattle.rnix_existence.proofs.BeginLevels.{BeginsTree, begun_tree}
-use Rattle.rnix_existence.proofs.BelowKept.{grown, stayed, waits}
 
 -- a node is open for an operand that a node below waits for
 on_operand : (k : SyntaxKind) (z : Place) (d level high : ℕ) (x : AnnotatedForest) (g : Frame) (fs : List Frame) → AtNode g fs → IsRow k z → d ≤ depth_limit

@@ -1,27 +1,19 @@
 -- How an operand begins: its first tree, and what may go on with it.
-use Rattle.std.proofs.Common.{◌≡◌, ℕ, ◌≤◌, Bool, true, false, List, Option, Some, refl, ap, sym, subst, arith}
-use Rattle.std.specs.Prelude.{if◌then◌else◌, nat_eq, nat_le}
+use Rattle.std.proofs.Common.{◌≡◌, ℕ, ◌≤◌, Bool, true, false, List, Option, Some, refl, ap, sym, subst, arith, if◌then◌else◌, nat_eq, nat_le}
 use Rattle.std.proofs.lemmas.Bool.Decides.{nat_tests}
-use Rattle.rnix_kinds.specs.declared.kinds.SyntaxKind.{SyntaxKind}
-use Rattle.rnix_kinds.specs.declared.kinds.SyntaxKind.TheVariants.{TOKEN_L_PAREN, TOKEN_L_BRACK, TOKEN_REC, TOKEN_STRING_START, TOKEN_PATH_ABS, TOKEN_PATH_REL, TOKEN_PATH_HOME, TOKEN_PATH_SEARCH, TOKEN_FLOAT, TOKEN_INTEGER, TOKEN_URI, TOKEN_IDENT, TOKEN_CUR_POS, TOKEN_L_BRACE, TOKEN_COLON, TOKEN_AT, TOKEN_LET, TOKEN_INVERT, TOKEN_SUB, NODE_ATTR_SET, NODE_CUR_POS, NODE_IDENT, NODE_UNARY_OP, NODE_ROOT, NODE_ATTRPATH, NODE_ATTRPATH_VALUE}
-use Rattle.rnix_grammar.specs.declared.place.Place.{Place}
+use Rattle.rnix_kinds.specs.declared.kinds.SyntaxKind.{SyntaxKind, TheVariants.{TOKEN_L_PAREN, TOKEN_L_BRACK, TOKEN_REC, TOKEN_STRING_START, TOKEN_PATH_ABS}}
+use Rattle.rnix_kinds.specs.declared.kinds.SyntaxKind.TheVariants.{TOKEN_PATH_REL, TOKEN_PATH_HOME, TOKEN_PATH_SEARCH, TOKEN_FLOAT, TOKEN_INTEGER, TOKEN_URI}
+use Rattle.rnix_kinds.specs.declared.kinds.SyntaxKind.TheVariants.{TOKEN_IDENT, TOKEN_CUR_POS, TOKEN_L_BRACE, TOKEN_COLON, TOKEN_AT, TOKEN_LET, TOKEN_INVERT}
+use Rattle.rnix_kinds.specs.declared.kinds.SyntaxKind.TheVariants.{TOKEN_SUB, NODE_ATTR_SET, NODE_CUR_POS, NODE_IDENT, NODE_UNARY_OP, NODE_ROOT, NODE_ATTRPATH}
+use Rattle.{rnix_kinds.specs.declared.kinds.SyntaxKind.TheVariants.NODE_ATTRPATH_VALUE, rnix_grammar.specs.declared.{place.Place.Place, begin.Begin.Begin}}
+use Rattle.rnix_grammar.specs.{Begins.{is_pattern, begin_name, begin_let, begin_keyword, begin_scope, begin_of}, Tables.is_cur_pos, AnnotatedForest.Token}
+use Rattle.rnix_grammar.specs.{AnnotatedForest.{AnnotatedForest, blank, token, one_token, one_branch, leaf_kind_as}, Rows.{is_atom, is_expression, is_loose}}
+use Rattle.rnix_grammar.specs.{Rows.{fits, Start, At, advance, start}, TokenKinds.is_or, TreeLevels.{is_or_row, level_of}, Operands.first_tree}
+use Rattle.rnix_lemmas.proofs.{Basics.true_is_not_false, LevelLemmas.{atom_fits, at_most, same_number}, FollowLemmas.{Stops, stops_all, stops_at, atom_tight}}
+use Rattle.rnix_lemmas.proofs.{FollowLemmas.{followed_negated, followed_inverted, followed_loose}, NodeKinds.{is_error, fits_expression}, NestTrees.is_formal}
+use Rattle.rnix_existence.proofs.{Frames.{row_at, MayGrow}, Growing.{no_name, atom_grows, loose_grows, prefix_fits, prefix_grows}}
 use Rattle.rnix_grammar.specs.declared.place.Place.TheVariants as p
-use Rattle.rnix_grammar.specs.declared.begin.Begin.{Begin}
 use Rattle.rnix_grammar.specs.declared.begin.Begin.TheVariants as b
-use Rattle.rnix_grammar.specs.Begins.{is_pattern, begin_name, begin_let, begin_keyword, begin_scope, begin_of}
-use Rattle.rnix_grammar.specs.Tables.{is_cur_pos}
-use Rattle.rnix_grammar.specs.AnnotatedForest.{Token, AnnotatedForest, blank, token, one_token, one_branch, leaf_kind_as}
-use Rattle.rnix_grammar.specs.Rows.{is_atom, is_expression, is_loose, fits, Start, At, advance, start}
-use Rattle.rnix_grammar.specs.TokenKinds.{is_or}
-use Rattle.rnix_grammar.specs.TreeLevels.{is_or_row, level_of}
-use Rattle.rnix_grammar.specs.Operands.{first_tree}
-use Rattle.rnix_lemmas.proofs.Basics.{true_is_not_false}
-use Rattle.rnix_lemmas.proofs.LevelLemmas.{atom_fits, at_most, same_number}
-use Rattle.rnix_lemmas.proofs.FollowLemmas.{Stops, stops_all, stops_at, atom_tight, followed_negated, followed_inverted, followed_loose}
-use Rattle.rnix_lemmas.proofs.NodeKinds.{is_error, fits_expression}
-use Rattle.rnix_lemmas.proofs.NestTrees.{is_formal}
-use Rattle.rnix_existence.proofs.Frames.{row_at, MayGrow}
-use Rattle.rnix_existence.proofs.Growing.{no_name, atom_grows, loose_grows, prefix_fits, prefix_grows}
 
 expression_starts : (k : SyntaxKind) → is_expression k ≡ true → start k ≡ Start k
 expression_starts NODE_ROOT h = absurd (true_is_not_false (sym h))

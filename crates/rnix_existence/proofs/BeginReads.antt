@@ -1,39 +1,20 @@
 -- Steps that read an operand in the row of an open frame.
 use Rattle.std.proofs.Common.{◌≡◌, ℕ, suc, ◌≤◌, Bool, true, false, List, [], ◌∷◌, ◌++◌, Some, refl, ap, sym, ◌∙◌, subst, append_assoc, append-nil, arith}
-use Rattle.std.specs.Prelude.{if◌then◌else◌, nat_le, nat_eq}
-use Rattle.std.proofs.lemmas.Bool.Decides.{nat_tests}
-use Rattle.rnix_kinds.proofs.AllKinds.{implied}
-use Rattle.rnix_kinds.specs.declared.kinds.SyntaxKind.{SyntaxKind}
-use Rattle.rnix_kinds.specs.declared.kinds.SyntaxKind.TheVariants.{NODE_LITERAL}
-use Rattle.rnix_grammar.specs.declared.place.Place.{Place}
+use Rattle.std.proofs.{Common.{if◌then◌else◌, nat_le, nat_eq}, lemmas.Bool.Decides.nat_tests}
+use Rattle.rnix_kinds.{specs.declared.kinds.SyntaxKind.{SyntaxKind, TheVariants.NODE_LITERAL}, proofs.AllKinds.implied}
+use Rattle.rnix_grammar.specs.{declared.{place.Place.Place, until.Closer.Closer}, Fault.{Fault, ended, too_deep}, Symbols.{symbol_at, level_in, is_counted}}
+use Rattle.rnix_grammar.specs.{Tables.{closes, depth_limit}, Begins.{begin_of, second_kind}, AnnotatedForest.{Token, TooDeep, AnnotatedForest, blank, ◌⊕◌}}
+use Rattle.rnix_grammar.specs.{AnnotatedForest.{one_fault, row_of, tokens_in, head_kind, end_from}, Machine.{Machine, Frame, kind_of, put, operand_on, limited}}
+use Rattle.rnix_grammar.specs.{Rows.{is_expression, fits, At, to, advance_symbol, counts}, Missing.{missing, missing_in}, ExpectedItems.{expects, expects_in}}
+use Rattle.rnix_grammar.specs.{ExpectedItems.{expects_end, stands_expected_in}, Reads.{Reads, missing_part, wrong, IsRoom, deeper}}
+use Rattle.rnix_lemmas.proofs.{Basics.{true_is_not_false, not_nil, not_if, none_left, none_right}, AnnotatedForestLemmas.{⊕-blank, tokens_in-row_of}}
+use Rattle.rnix_lemmas.proofs.{LevelLemmas.atom_fits, RunLemmas.dropped_all, NodeKinds.fits_expression, OpenHeads.is_open}
+use Rattle.rnix_existence.proofs.{OpenFrames.{Lone, Ends, EndsBy}, RowFronts.prepended, OperandTrees.{Takes, placed}, BeginLevels.begun_tree}
+use Rattle.rnix_existence.proofs.{BeginKept.below_limit, BeginEnds.BeginEnds, BeginCases.begun_ends}
 use Rattle.rnix_grammar.specs.declared.place.Place.TheVariants as p
-use Rattle.rnix_grammar.specs.declared.until.Closer.{Closer}
 use Rattle.rnix_grammar.specs.declared.until.Closer.TheVariants as c
 use Rattle.rnix_grammar.specs.declared.symbol.Symbol.TheVariants as s
 use Rattle.rnix_grammar.specs.declared.action.Action.TheVariants as a
-use Rattle.rnix_grammar.specs.Fault.{Fault, ended, too_deep}
-use Rattle.rnix_grammar.specs.Symbols.{symbol_at, level_in, is_counted}
-use Rattle.rnix_grammar.specs.Tables.{closes, depth_limit}
-use Rattle.rnix_grammar.specs.Begins.{begin_of, second_kind}
-use Rattle.rnix_grammar.specs.AnnotatedForest.{Token, TooDeep, AnnotatedForest, blank, ◌⊕◌, one_fault, row_of, tokens_in, head_kind, end_from}
-use Rattle.rnix_grammar.specs.Machine.{Machine, Frame, kind_of, put, operand_on, limited}
-use Rattle.rnix_grammar.specs.Rows.{is_expression, fits, At, to, advance_symbol, counts}
-use Rattle.rnix_grammar.specs.Missing.{missing, missing_in}
-use Rattle.rnix_grammar.specs.ExpectedItems.{expects, expects_in, expects_end, stands_expected_in}
-use Rattle.rnix_grammar.specs.Reads.{Reads, missing_part, wrong, IsRoom, deeper}
-use Rattle.rnix_lemmas.proofs.Basics.{true_is_not_false, not_nil, not_if, none_left, none_right}
-use Rattle.rnix_lemmas.proofs.AnnotatedForestLemmas.{⊕-blank, tokens_in-row_of}
-use Rattle.rnix_lemmas.proofs.LevelLemmas.{atom_fits}
-use Rattle.rnix_lemmas.proofs.RunLemmas.{dropped_all}
-use Rattle.rnix_lemmas.proofs.NodeKinds.{fits_expression}
-use Rattle.rnix_lemmas.proofs.OpenHeads.{is_open}
-use Rattle.rnix_existence.proofs.OpenFrames.{Lone, Ends, EndsBy}
-use Rattle.rnix_existence.proofs.RowFronts.{prepended}
-use Rattle.rnix_existence.proofs.OperandTrees.{Takes, placed}
-use Rattle.rnix_existence.proofs.BeginLevels.{begun_tree}
-use Rattle.rnix_existence.proofs.BeginKept.{below_limit}
-use Rattle.rnix_existence.proofs.BeginEnds.{BeginEnds}
-use Rattle.rnix_existence.proofs.BeginCases.{begun_ends}
 
 -- an operand that begins as its first items say becomes a whole one
 pub begin_ends : (level d : ℕ) (t : Token) (us : List Token) (g : Frame) (fs : List Frame) (n : ℕ) (gs : List Fault) (row : AnnotatedForest) (es : List Fault)

@@ -1,25 +1,15 @@
 -- What ends behind a step at an open node or a second name ends before it, whatever stands there.
 use Rattle.std.proofs.Common.{◌≡◌, ◌⊎◌, inl, inr, ℕ, Bool, true, false, List, [], ◌∷◌, Option, Some, None, refl, ap, sym, subst}
-use Rattle.rnix_grammar.specs.declared.place.Place.{Place}
+use Rattle.rnix_grammar.specs.{declared.{place.Place.Place, symbol.Symbol.Symbol}, Fault.Fault, Symbols.symbol_at, Actions.{action_at, done_at}}
+use Rattle.{rnix_grammar.specs.{AnnotatedForest.{Token, leaf_kind, head_kind, touches}, Machine.{Frame, kind_of}}, rnix_lemmas.proofs.OpenHeads.is_open}
+use Rattle.rnix_existence.proofs.{OpenFrames.EndsBy, Frames.{row_at, Other, Below, AtNode, AtSecond}, BelowKept.alone, BeginReads.{read_ends, series_ends}}
+use Rattle.rnix_existence.proofs.{SymbolSteps.{Known, known_node, over_all, silent, formal}, SymbolTable.{at_token, at_series, at_entries, at_pieces}}
+use Rattle.rnix_existence.proofs.{SymbolTable.{at_first_piece, at_more_pieces}, AttrTable.{at_attr, at_names, at_source, at_more_attrs, at_attrpath, at_name}}
+use Rattle.rnix_existence.proofs.PatternTable.{at_formals, at_braces, at_comma, at_bind, at_default, at_or, at_end}
 use Rattle.rnix_grammar.specs.declared.place.Place.TheVariants as p
-use Rattle.rnix_grammar.specs.declared.symbol.Symbol.{Symbol}
 use Rattle.rnix_grammar.specs.declared.symbol.Symbol.TheVariants as s
 use Rattle.rnix_grammar.specs.declared.action.Action.TheVariants as a
-use Rattle.rnix_grammar.specs.Fault.{Fault}
-use Rattle.rnix_grammar.specs.Symbols.{symbol_at}
-use Rattle.rnix_grammar.specs.Actions.{action_at, done_at}
-use Rattle.rnix_grammar.specs.AnnotatedForest.{Token, leaf_kind, head_kind, touches}
-use Rattle.rnix_grammar.specs.Machine.{Frame, kind_of}
-use Rattle.rnix_lemmas.proofs.OpenHeads.{is_open}
-use Rattle.rnix_existence.proofs.OpenFrames.{EndsBy}
-use Rattle.rnix_existence.proofs.Frames.{row_at, Other, Below, AtNode, AtSecond}
-use Rattle.rnix_existence.proofs.BelowKept.{alone}
-use Rattle.rnix_existence.proofs.BeginReads.{read_ends, series_ends}
 use Rattle.rnix_existence.proofs.NodeOpens as opening
-use Rattle.rnix_existence.proofs.SymbolSteps.{Known, known_node, over_all, silent, formal}
-use Rattle.rnix_existence.proofs.SymbolTable.{at_token, at_series, at_entries, at_pieces, at_first_piece, at_more_pieces}
-use Rattle.rnix_existence.proofs.AttrTable.{at_attr, at_names, at_source, at_more_attrs, at_attrpath, at_name}
-use Rattle.rnix_existence.proofs.PatternTable.{at_formals, at_braces, at_comma, at_bind, at_default, at_or, at_end}
 
 -- where a row ends, or is not one of a node: in an entry of a pattern, or in another
 abbrev EndsIn : Symbol → Option Bool → Type 0

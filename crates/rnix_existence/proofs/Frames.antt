@@ -1,19 +1,10 @@
 -- What is known of the frames while the items of a text are read.
-use Rattle.std.proofs.Common.{◌≡◌, ◌⊎◌, ℕ, ◌≤◌, Bool, true, false, List, [], ◌∷◌, Option, Some, None}
-use Rattle.std.specs.Prelude.{if◌then◌else◌, nat_le}
-use Rattle.rnix_kinds.specs.declared.kinds.SyntaxKind.{SyntaxKind}
-use Rattle.rnix_grammar.specs.declared.place.Place.{Place}
+use Rattle.std.proofs.Common.{◌≡◌, ◌⊎◌, ℕ, ◌≤◌, Bool, true, false, List, [], ◌∷◌, Option, Some, None, if◌then◌else◌, nat_le}
+use Rattle.{rnix_kinds.specs.declared.kinds.SyntaxKind.SyntaxKind, rnix_grammar.specs.{declared.place.Place.Place, Levels.{binding_power, left_of}}}
+use Rattle.rnix_grammar.specs.{Tables.depth_limit, AnnotatedForest.{AnnotatedForest, blank, ◌⊕◌, one_branch}, Machine.{Head, Node, Second, Operand, Frame}}
+use Rattle.rnix_grammar.specs.{Rows.{is_atom, is_simple, is_questioned, is_operand, is_infix, fits}, TreeLevels.{row_level, is_or_row}}
+use Rattle.{rnix_lemmas.proofs.{NodeKinds.is_error, NestTrees.is_formal, FirstTrees.IsSingle}, rnix_existence.proofs.OpenFrames.seen_kind}
 use Rattle.rnix_grammar.specs.declared.place.Place.TheVariants as p
-use Rattle.rnix_grammar.specs.Levels.{binding_power, left_of}
-use Rattle.rnix_grammar.specs.Tables.{depth_limit}
-use Rattle.rnix_grammar.specs.AnnotatedForest.{AnnotatedForest, blank, ◌⊕◌, one_branch}
-use Rattle.rnix_grammar.specs.Machine.{Head, Node, Second, Operand, Frame}
-use Rattle.rnix_grammar.specs.Rows.{is_atom, is_simple, is_questioned, is_operand, is_infix, fits}
-use Rattle.rnix_grammar.specs.TreeLevels.{row_level, is_or_row}
-use Rattle.rnix_lemmas.proofs.NodeKinds.{is_error}
-use Rattle.rnix_lemmas.proofs.NestTrees.{is_formal}
-use Rattle.rnix_lemmas.proofs.FirstTrees.{IsSingle}
-use Rattle.rnix_existence.proofs.OpenFrames.{seen_kind}
 
 -- whether a place of a node's row is in an entry of a pattern; none behind an operand, in a second name, or for a right operand above level 16
 abbrev pub row_at : Place → Option Bool

@@ -1,18 +1,10 @@
 -- Which trees may be operands, and how they may go on, by their kinds and levels.
-use Rattle.std.proofs.Common.{◌≡◌, ℕ, suc, ◌≤◌, Bool, true, false, refl, sym, subst, arith}
-use Rattle.std.specs.Prelude.{if◌then◌else◌, nat_eq, nat_le}
-use Rattle.std.proofs.lemmas.Bool.Decides.{nat_tests}
-use Rattle.rnix_kinds.specs.declared.kinds.SyntaxKind.{SyntaxKind}
-use Rattle.rnix_kinds.specs.declared.kinds.SyntaxKind.TheVariants.{NODE_BIN_OP, NODE_HAS_ATTR, NODE_IDENT, NODE_UNARY_OP}
-use Rattle.rnix_grammar.specs.Levels.{binding_power, high_of}
-use Rattle.rnix_grammar.specs.AnnotatedForest.{AnnotatedForest, one_branch}
-use Rattle.rnix_grammar.specs.Rows.{is_atom, is_simple, is_questioned, is_infix, is_expression, fits}
-use Rattle.rnix_grammar.specs.TreeLevels.{row_level, is_or_row}
-use Rattle.rnix_lemmas.proofs.Basics.{true_is_not_false}
-use Rattle.rnix_lemmas.proofs.NodeKinds.{is_error}
-use Rattle.rnix_lemmas.proofs.LevelLemmas.{sided, left_rule, next_left, operates, atom_simple, simple_negated, negated_questioned, questioned_operand, atom_fits, simple_fits}
-use Rattle.rnix_existence.proofs.OpenFrames.{seen_kind}
-use Rattle.rnix_existence.proofs.Frames.{MayGrow}
+use Rattle.std.proofs.{Common.{◌≡◌, ℕ, suc, ◌≤◌, Bool, true, false, refl, sym, subst, arith, if◌then◌else◌, nat_eq, nat_le}, lemmas.Bool.Decides.nat_tests}
+use Rattle.rnix_kinds.specs.declared.kinds.SyntaxKind.{SyntaxKind, TheVariants.{NODE_BIN_OP, NODE_HAS_ATTR, NODE_IDENT, NODE_UNARY_OP}}
+use Rattle.rnix_grammar.specs.{Levels.{binding_power, high_of}, AnnotatedForest.{AnnotatedForest, one_branch}, Rows.{is_atom, is_simple, is_questioned}}
+use Rattle.{rnix_grammar.specs.{Rows.{is_infix, is_expression, fits}, TreeLevels.{row_level, is_or_row}}, rnix_lemmas.proofs.Basics.true_is_not_false}
+use Rattle.rnix_lemmas.proofs.{NodeKinds.is_error, LevelLemmas.{sided, left_rule, next_left, operates, atom_simple, simple_negated, negated_questioned}}
+use Rattle.{rnix_lemmas.proofs.LevelLemmas.{questioned_operand, atom_fits, simple_fits}, rnix_existence.proofs.{OpenFrames.seen_kind, Frames.MayGrow}}
 
 -- a node whose leaves keep their tokens' kinds is not the name `or`
 pub no_name : (k : SyntaxKind) (c : AnnotatedForest) → is_error k ≡ false → is_or_row (one_branch k c) ≡ false

@@ -1,26 +1,16 @@
 -- Steps at an open node or a second name keep what is known of the frames.
 use Rattle.std.proofs.Common.{◌≡◌, ◌⊎◌, inl, inr, ℕ, Bool, false, List, [], ◌∷◌, ◌++◌, Option, Some, None, refl, ap, sym, ◌∙◌, subst}
-use Rattle.rnix_kinds.specs.declared.kinds.SyntaxKind.{SyntaxKind}
-use Rattle.rnix_kinds.specs.declared.kinds.SyntaxKind.TheVariants.{NODE_IDENT, NODE_PAT_ENTRY, TOKEN_IDENT}
-use Rattle.rnix_grammar.specs.declared.place.Place.{Place}
+use Rattle.rnix_kinds.specs.declared.kinds.SyntaxKind.{SyntaxKind, TheVariants.{NODE_IDENT, NODE_PAT_ENTRY, TOKEN_IDENT}}
+use Rattle.rnix_grammar.specs.{declared.{place.Place.Place, action.Action.Action}, Fault.Fault, Actions.{action_at, name_action}, AnnotatedForest.Token}
+use Rattle.rnix_grammar.specs.AnnotatedForest.{Extra, Twice, Unwanted, AnnotatedForest, blank, ◌⊕◌, one_branch, one_fault, row_of, tokens_in, head_kind}
+use Rattle.rnix_grammar.specs.{Machine.{Node, Frame, put, opened, leaf, kind_of, made, closed, entry_closed, perform}, Missing.run_of, Reports.report}
+use Rattle.{rnix_grammar.specs.Reports.repeated, rnix_lemmas.proofs.{LevelLemmas.at_most, AnnotatedForestLemmas.⊕-blank, FirstTrees.{IsSingle, a_node}}}
+use Rattle.{rnix_lemmas.proofs.NestTrees.is_formal, rnix_existence.proofs.Frames.{row_at, MayGrow, One, Below, a_row, an_operand, AtNode, AtSecond, Reading}}
+use Rattle.rnix_existence.proofs.{Frames.{node, operand, second}, PlaceRows.{IsRow, Leads, leads}, BelowKept.{grown, stayed, waits, landed_kept}}
+use Rattle.rnix_existence.proofs.BeginKept.{reading_kept}
 use Rattle.rnix_grammar.specs.declared.place.Place.TheVariants as p
 use Rattle.rnix_grammar.specs.declared.until.Until.TheVariants as u
-use Rattle.rnix_grammar.specs.declared.action.Action.{Action}
 use Rattle.rnix_grammar.specs.declared.action.Action.TheVariants as a
-use Rattle.rnix_grammar.specs.Fault.{Fault}
-use Rattle.rnix_grammar.specs.Actions.{action_at, name_action}
-use Rattle.rnix_grammar.specs.AnnotatedForest.{Token, Extra, Twice, Unwanted, AnnotatedForest, blank, ◌⊕◌, one_branch, one_fault, row_of, tokens_in, head_kind}
-use Rattle.rnix_grammar.specs.Machine.{Node, Frame, put, opened, leaf, kind_of, made, closed, entry_closed, perform}
-use Rattle.rnix_grammar.specs.Missing.{run_of}
-use Rattle.rnix_grammar.specs.Reports.{report, repeated}
-use Rattle.rnix_lemmas.proofs.LevelLemmas.{at_most}
-use Rattle.rnix_lemmas.proofs.AnnotatedForestLemmas.{⊕-blank}
-use Rattle.rnix_lemmas.proofs.FirstTrees.{IsSingle, a_node}
-use Rattle.rnix_lemmas.proofs.NestTrees.{is_formal}
-use Rattle.rnix_existence.proofs.Frames.{row_at, MayGrow, One, Below, a_row, an_operand, AtNode, AtSecond, Reading, node, operand, second}
-use Rattle.rnix_existence.proofs.PlaceRows.{IsRow, Leads, leads}
-use Rattle.rnix_existence.proofs.BelowKept.{grown, stayed, waits, landed_kept}
-use Rattle.rnix_existence.proofs.BeginKept.{reading_kept}
 
 -- a node opens at a place for it
 opened_kept : (f : Frame) (fs : List Frame) (k : SyntaxKind) (z y : Place) (x : AnnotatedForest) → AtNode f fs → IsRow k z → row_at y ≡ row_at f.place

@@ -1,27 +1,16 @@
 -- What ends behind a step that opens or closes a node or a second name ends before it.
 use Rattle.std.proofs.Common.{◌≡◌, ℕ, suc, Bool, true, false, List, [], ◌∷◌, ◌++◌, Option, None, refl, ap, sym, ◌∙◌, subst, append_assoc, append-nil}
-use Rattle.std.specs.Prelude.{if◌then◌else◌}
-use Rattle.rnix_kinds.specs.declared.kinds.SyntaxKind.{SyntaxKind}
-use Rattle.rnix_kinds.specs.declared.kinds.SyntaxKind.TheVariants.{NODE_IDENT, NODE_PAT_ENTRY, TOKEN_AT, TOKEN_IDENT}
-use Rattle.rnix_grammar.specs.declared.place.Place.{Place}
+use Rattle.std.proofs.Common.{if◌then◌else◌}
+use Rattle.rnix_kinds.specs.declared.kinds.SyntaxKind.{SyntaxKind, TheVariants.{NODE_IDENT, NODE_PAT_ENTRY, TOKEN_AT, TOKEN_IDENT}}
+use Rattle.rnix_grammar.specs.{declared.place.Place.Place, Fault.Fault, Symbols.{symbol_at, level_in}, AnnotatedForest.{Token, Twice, AnnotatedForest, blank}}
+use Rattle.rnix_grammar.specs.{AnnotatedForest.{token, ◌⊕◌, one_token, one_branch, one_fault, tokens_in, leaf_kind, leaf_kind_as, end_from}, Reports.report}
+use Rattle.rnix_grammar.specs.{Reports.{repeated, repeats}, Machine.{Head, Node, Second, Frame, opened, put, made, closed}, Rows.{RowState, Start, SecondStart}}
+use Rattle.rnix_grammar.specs.{Rows.{At, advance, first, start, counts}, Operands.IsOperand, ExpectedItems.{expects, stands_expected_in}, Reads.{Reads, IsOver}}
+use Rattle.{rnix_grammar.specs.Reads.{end, leaf, second, inner}, rnix_lemmas.proofs.{Basics.true_is_not_false, AnnotatedForestLemmas.{⊕-blank, tokens_two}}}
+use Rattle.{rnix_lemmas.proofs.OpenHeads.is_open, rnix_existence.proofs.{OpenFrames.{closing, Ends, open_frame, EndsBy}, RowFronts.{end_two, prepended}}}
+use Rattle.rnix_existence.proofs.{OperandEnds.{OpenEnds, open_ends}, RowSteps.past_over}
 use Rattle.rnix_grammar.specs.declared.place.Place.TheVariants as p
 use Rattle.rnix_grammar.specs.declared.action.Action.TheVariants as a
-use Rattle.rnix_grammar.specs.Fault.{Fault}
-use Rattle.rnix_grammar.specs.Symbols.{symbol_at, level_in}
-use Rattle.rnix_grammar.specs.AnnotatedForest.{Token, Twice, AnnotatedForest, blank, token, ◌⊕◌, one_token, one_branch, one_fault, tokens_in, leaf_kind, leaf_kind_as, end_from}
-use Rattle.rnix_grammar.specs.Reports.{report, repeated, repeats}
-use Rattle.rnix_grammar.specs.Machine.{Head, Node, Second, Frame, opened, put, made, closed}
-use Rattle.rnix_grammar.specs.Rows.{RowState, Start, SecondStart, At, advance, first, start, counts}
-use Rattle.rnix_grammar.specs.Operands.{IsOperand}
-use Rattle.rnix_grammar.specs.ExpectedItems.{expects, stands_expected_in}
-use Rattle.rnix_grammar.specs.Reads.{Reads, IsOver, end, leaf, second, inner}
-use Rattle.rnix_lemmas.proofs.Basics.{true_is_not_false}
-use Rattle.rnix_lemmas.proofs.AnnotatedForestLemmas.{⊕-blank, tokens_two}
-use Rattle.rnix_lemmas.proofs.OpenHeads.{is_open}
-use Rattle.rnix_existence.proofs.OpenFrames.{closing, Ends, open_frame, EndsBy}
-use Rattle.rnix_existence.proofs.RowFronts.{end_two, prepended}
-use Rattle.rnix_existence.proofs.OperandEnds.{OpenEnds, open_ends}
-use Rattle.rnix_existence.proofs.RowSteps.{past_over}
 
 -- a node that begins at a place for it
 pub opens_by : (f : Frame) (fs : List Frame) (ts us : List Token) (n m : ℕ) (row : AnnotatedForest) (es : List Fault) (k : SyntaxKind) (z y : Place) (x : AnnotatedForest)

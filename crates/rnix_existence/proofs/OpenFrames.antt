@@ -1,19 +1,11 @@
 -- What is still to come of each open frame, seen from where the text is read to its end.
 use Rattle.std.proofs.Common.{◌≡◌, ℕ, ◌≤◌, true, false, List, [], ◌∷◌, ◌++◌}
-use Rattle.rnix_kinds.specs.declared.kinds.SyntaxKind.{SyntaxKind}
-use Rattle.rnix_kinds.specs.declared.kinds.SyntaxKind.TheVariants.{NODE_ROOT, NODE_LITERAL}
+use Rattle.{rnix_kinds.specs.declared.kinds.SyntaxKind.{SyntaxKind, TheVariants.{NODE_ROOT, NODE_LITERAL}}, rnix_grammar.specs.declared.action.Action.Action}
+use Rattle.rnix_grammar.specs.{Fault.Fault, AnnotatedForest.{Token, Stray, Twice, AnnotatedForest, blank, branch, ◌⊕◌, one_branch, one_fault, row_of}}
+use Rattle.rnix_grammar.specs.{AnnotatedForest.{tokens_in, end_from}, Reports.{report, repeats}, Machine.{Head, Node, Second, Operand, Frame, put, kind_of}}
+use Rattle.rnix_grammar.specs.{Machine.{made, perform}, Rows.{fits, RowState, At, start}, TreeLevels.{row_level, is_or_row}, Operands.{first_tree, goes_on}}
+use Rattle.{rnix_grammar.specs.Reads.{Reads, IsOver}, rnix_lemmas.proofs.{FollowLemmas.Stops, OpenHeads.is_open}}
 use Rattle.rnix_grammar.specs.declared.place.Place.TheVariants as p
-use Rattle.rnix_grammar.specs.declared.action.Action.{Action}
-use Rattle.rnix_grammar.specs.Fault.{Fault}
-use Rattle.rnix_grammar.specs.AnnotatedForest.{Token, Stray, Twice, AnnotatedForest, blank, branch, ◌⊕◌, one_branch, one_fault, row_of, tokens_in, end_from}
-use Rattle.rnix_grammar.specs.Reports.{report, repeats}
-use Rattle.rnix_grammar.specs.Machine.{Head, Node, Second, Operand, Frame, put, kind_of, made, perform}
-use Rattle.rnix_grammar.specs.Rows.{fits, RowState, At, start}
-use Rattle.rnix_grammar.specs.TreeLevels.{row_level, is_or_row}
-use Rattle.rnix_grammar.specs.Operands.{first_tree, goes_on}
-use Rattle.rnix_grammar.specs.Reads.{Reads, IsOver}
-use Rattle.rnix_lemmas.proofs.FollowLemmas.{Stops}
-use Rattle.rnix_lemmas.proofs.OpenHeads.{is_open}
 
 -- the kind by which a row goes on behind a tree: an error node counts as a literal
 abbrev pub seen_kind : AnnotatedForest → SyntaxKind

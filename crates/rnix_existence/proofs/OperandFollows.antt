@@ -1,22 +1,12 @@
 -- What goes on with an operand follows its tree, and where nothing does the operand is whole.
-use Rattle.std.proofs.Common.{◌≡◌, ℕ, ◌≤◌, Bool, true, false, List, [], ◌∷◌, Some, refl, ap, sym, ◌∙◌, subst, append-nil, arith}
-use Rattle.std.specs.Prelude.{◌||◌, ◌&&◌, if◌then◌else◌, nat_eq, nat_le}
-use Rattle.std.proofs.lemmas.Bool.Decides.{nat_tests}
-use Rattle.rnix_kinds.proofs.AllKinds.{implied}
-use Rattle.rnix_kinds.specs.declared.kinds.SyntaxKind.{SyntaxKind}
-use Rattle.rnix_kinds.specs.declared.kinds.SyntaxKind.TheVariants.{TOKEN_QUESTION}
-use Rattle.rnix_kinds.specs.SyntaxKind.{is_fn_arg}
-use Rattle.rnix_grammar.specs.Levels.{binding_power, left_of}
-use Rattle.rnix_grammar.specs.Actions as a
-use Rattle.rnix_grammar.specs.TokenKinds.{is_or, is_question, is_dot}
-use Rattle.rnix_grammar.specs.AnnotatedForest.{Token, AnnotatedForest, head_kind}
-use Rattle.rnix_grammar.specs.Rows.{is_infix, fits}
-use Rattle.rnix_grammar.specs.TreeLevels.{row_level, is_or_row, is_atom_row}
-use Rattle.rnix_grammar.specs.Operands.{follows, goes_on}
-use Rattle.rnix_lemmas.proofs.Basics.{true_is_not_false, not_if}
-use Rattle.rnix_lemmas.proofs.LevelLemmas.{at_most_true}
-use Rattle.rnix_lemmas.proofs.FollowLemmas.{Stops, follows_binding_power}
+use Rattle.std.proofs.Common.{◌≡◌, ℕ, ◌≤◌, Bool, true, false, List, [], ◌∷◌, Some, refl, ap, sym, ◌∙◌, subst, append-nil, arith, ◌||◌, ◌&&◌, if◌then◌else◌}
+use Rattle.std.proofs.{Common.{nat_eq, nat_le}, lemmas.Bool.Decides.nat_tests}
+use Rattle.rnix_kinds.{specs.{declared.kinds.SyntaxKind.{SyntaxKind, TheVariants.TOKEN_QUESTION}, SyntaxKind.is_fn_arg}, proofs.AllKinds.implied}
+use Rattle.rnix_grammar.specs.{Levels.{binding_power, left_of}, TokenKinds.{is_or, is_question, is_dot}, AnnotatedForest.{Token, AnnotatedForest, head_kind}}
+use Rattle.rnix_grammar.specs.{Rows.{is_infix, fits}, TreeLevels.{row_level, is_or_row, is_atom_row}, Operands.{follows, goes_on}}
+use Rattle.rnix_lemmas.proofs.{Basics.{true_is_not_false, not_if}, LevelLemmas.at_most_true, FollowLemmas.{Stops, follows_binding_power}}
 use Rattle.rnix_existence.proofs.OpenFrames.{seen_kind, Lone, Grows}
+use Rattle.rnix_grammar.specs.Actions as a
 
 -- an operator follows what may be its left operand
 pub operator_follows : (k : SyntaxKind) (x : AnnotatedForest) → is_infix k ≡ true → left_of k ≤ row_level x → follows k x ≡ true

@@ -1,30 +1,17 @@
 -- Steps at an operand keep what is known of the frames.
-use Rattle.std.proofs.Common.{◌≡◌, ℕ, ◌≤◌, Bool, true, false, List, [], ◌∷◌, Some, None, refl, ap, sym, ◌∙◌, subst, arith}
-use Rattle.std.specs.Prelude.{if◌then◌else◌, ◌&&◌, nat_le}
+use Rattle.std.proofs.Common.{◌≡◌, ℕ, ◌≤◌, Bool, true, false, List, [], ◌∷◌, Some, None, refl, ap, sym, ◌∙◌, subst, arith, if◌then◌else◌, ◌&&◌, nat_le}
 use Rattle.std.proofs.lemmas.Bool.{and_parts}
-use Rattle.rnix_kinds.specs.declared.kinds.SyntaxKind.{SyntaxKind}
-use Rattle.rnix_kinds.specs.declared.kinds.SyntaxKind.TheVariants.{TOKEN_DOT, TOKEN_OR, TOKEN_QUESTION, NODE_SELECT, NODE_APPLY, NODE_HAS_ATTR, NODE_BIN_OP, NODE_IDENT}
-use Rattle.rnix_grammar.specs.declared.place.Place.{Place}
+use Rattle.rnix_kinds.specs.declared.kinds.SyntaxKind.{SyntaxKind, TheVariants.{TOKEN_DOT, TOKEN_OR, TOKEN_QUESTION, NODE_SELECT, NODE_APPLY, NODE_HAS_ATTR}}
+use Rattle.{rnix_kinds.specs.declared.kinds.SyntaxKind.TheVariants.{NODE_BIN_OP, NODE_IDENT}, rnix_grammar.specs.declared.place.Place.Place}
+use Rattle.rnix_grammar.specs.{declared.action.Action.Action, Fault.Fault, Levels.{binding_power, right_of, high_of}, Actions.{follow, goes_on, more_action}}
+use Rattle.rnix_grammar.specs.{Actions.action_at, AnnotatedForest.{Token, AnnotatedForest, blank, ◌⊕◌, one_token, one_branch, leaf_kind, head_kind}}
+use Rattle.rnix_grammar.specs.{Machine.{Node, Operand, Frame, opened, leaf, low_of, perform}, Rows.{is_atom, is_infix}, TokenKinds.is_or, TreeLevels.row_level}
+use Rattle.{rnix_grammar.specs.TreeLevels.{operator_in, calls_or, is_atom_row}, rnix_lemmas.proofs.{AnnotatedForestLemmas.⊕-assoc, LevelLemmas.at_most}}
+use Rattle.rnix_lemmas.proofs.{LevelLemmas.{at_most_true, right_within}, FirstTrees.{IsSingle, a_node, an_error, single_operator, single_calls}}
+use Rattle.rnix_existence.proofs.{OpenFrames.seen_kind, Frames.{MayGrow, an_operand, AtNode, AtOperand, Reading, node, operand}, Growing.simple_grows}
+use Rattle.rnix_existence.proofs.{Growing.{question_grows, operator_grows}, PlaceRows.IsRow, BelowKept.landed_kept, BeginKept.reading_kept}
 use Rattle.rnix_grammar.specs.declared.place.Place.TheVariants as p
-use Rattle.rnix_grammar.specs.declared.action.Action.{Action}
 use Rattle.rnix_grammar.specs.declared.action.Action.TheVariants as a
-use Rattle.rnix_grammar.specs.Fault.{Fault}
-use Rattle.rnix_grammar.specs.Levels.{binding_power, right_of, high_of}
-use Rattle.rnix_grammar.specs.Actions.{follow, goes_on, more_action, action_at}
-use Rattle.rnix_grammar.specs.AnnotatedForest.{Token, AnnotatedForest, blank, ◌⊕◌, one_token, one_branch, leaf_kind, head_kind}
-use Rattle.rnix_grammar.specs.Machine.{Node, Operand, Frame, opened, leaf, low_of, perform}
-use Rattle.rnix_grammar.specs.Rows.{is_atom, is_infix}
-use Rattle.rnix_grammar.specs.TokenKinds.{is_or}
-use Rattle.rnix_grammar.specs.TreeLevels.{row_level, operator_in, calls_or, is_atom_row}
-use Rattle.rnix_lemmas.proofs.AnnotatedForestLemmas.{⊕-assoc}
-use Rattle.rnix_lemmas.proofs.LevelLemmas.{at_most, at_most_true, right_within}
-use Rattle.rnix_lemmas.proofs.FirstTrees.{IsSingle, a_node, an_error, single_operator, single_calls}
-use Rattle.rnix_existence.proofs.OpenFrames.{seen_kind}
-use Rattle.rnix_existence.proofs.Frames.{MayGrow, an_operand, AtNode, AtOperand, Reading, node, operand}
-use Rattle.rnix_existence.proofs.Growing.{simple_grows, question_grows, operator_grows}
-use Rattle.rnix_existence.proofs.PlaceRows.{IsRow}
-use Rattle.rnix_existence.proofs.BelowKept.{landed_kept}
-use Rattle.rnix_existence.proofs.BeginKept.{reading_kept}
 
 -- no kind is none
 pub none_some : {k : SyntaxKind} → None ≡ Some k → ⊥

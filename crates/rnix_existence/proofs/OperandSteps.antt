@@ -1,35 +1,17 @@
 -- Steps at an operand: what ends behind each of them ends before it.
-use Rattle.std.proofs.Common.{◌≡◌, ℕ, true, false, List, [], ◌∷◌, ◌++◌, Some, None, refl, ap, sym, ◌∙◌, subst, append_assoc}
-use Rattle.std.specs.Prelude.{◌||◌, ◌&&◌, if◌then◌else◌}
-use Rattle.rnix_kinds.specs.declared.kinds.SyntaxKind.{SyntaxKind}
-use Rattle.rnix_kinds.specs.declared.kinds.SyntaxKind.TheVariants.{TOKEN_OR, NODE_APPLY, NODE_IDENT}
-use Rattle.rnix_kinds.specs.SyntaxKind.{is_fn_arg}
-use Rattle.rnix_grammar.specs.declared.place.Place.{Place}
+use Rattle.std.proofs.Common.{◌≡◌, ℕ, true, false, List, [], ◌∷◌, ◌++◌, Some, None, refl, ap, sym, ◌∙◌, subst, append_assoc, ◌||◌, ◌&&◌, if◌then◌else◌}
+use Rattle.rnix_kinds.specs.{declared.kinds.SyntaxKind.{SyntaxKind, TheVariants.{TOKEN_OR, NODE_APPLY, NODE_IDENT}}, SyntaxKind.is_fn_arg}
+use Rattle.rnix_grammar.specs.{declared.place.Place.Place, Fault.Fault, Actions.goes_on, TokenKinds.is_or, AnnotatedForest.{Token, AnnotatedForest, blank}}
+use Rattle.rnix_grammar.specs.{AnnotatedForest.{token, ◌⊕◌, one_token, one_branch, tokens_in, leaf_kind, leaf_kind_as, head_kind, end_from}, Machine.Head}
+use Rattle.rnix_grammar.specs.{Machine.{Node, Operand, Frame, put, opened, made, low_of, operand_on}, Rows.{RowState, Start, BeforeArgument, At, to, advance}}
+use Rattle.rnix_grammar.specs.{Rows.{live, start}, Reports.repeats, ExpectedItems.IsExpected, Operands.{first_tree, follows, IsFollowed, IsOperand}, Reads.end}
+use Rattle.{rnix_grammar.specs.Reads.{leaf, inner}, rnix_lemmas.proofs.{Basics.true_is_not_false, AnnotatedForestLemmas.{⊕-assoc, tokens_two}}}
+use Rattle.{rnix_lemmas.proofs.FollowLemmas.{Stops, stops_simple}, rnix_existence.proofs.OpenFrames.{seen_kind, Ends, operand_frame, EndsBy}}
+use Rattle.rnix_existence.proofs.{Frames.AtOperand, BelowKept.alone, RowFronts.end_two, OperandTrees.{past_over, Takes, placed}, OperandEnds.OpenEnds}
+use Rattle.rnix_existence.proofs.{OperandEnds.open_ends, OperandWraps.wrapped_ends, OperandFollows.grown_none, BeginEnds.{BeginEnds, first_leaf}}
+use Rattle.rnix_existence.proofs.BeginReads.{begin_ends}
 use Rattle.rnix_grammar.specs.declared.place.Place.TheVariants as p
 use Rattle.rnix_grammar.specs.declared.action.Action.TheVariants as a
-use Rattle.rnix_grammar.specs.Fault.{Fault}
-use Rattle.rnix_grammar.specs.Actions.{goes_on}
-use Rattle.rnix_grammar.specs.TokenKinds.{is_or}
-use Rattle.rnix_grammar.specs.AnnotatedForest.{Token, AnnotatedForest, blank, token, ◌⊕◌, one_token, one_branch, tokens_in, leaf_kind, leaf_kind_as, head_kind, end_from}
-use Rattle.rnix_grammar.specs.Machine.{Head, Node, Operand, Frame, put, opened, made, low_of, operand_on}
-use Rattle.rnix_grammar.specs.Rows.{RowState, Start, BeforeArgument, At, to, advance, live, start}
-use Rattle.rnix_grammar.specs.Reports.{repeats}
-use Rattle.rnix_grammar.specs.ExpectedItems.{IsExpected}
-use Rattle.rnix_grammar.specs.Operands.{first_tree, follows, IsFollowed, IsOperand}
-use Rattle.rnix_grammar.specs.Reads.{end, leaf, inner}
-use Rattle.rnix_lemmas.proofs.Basics.{true_is_not_false}
-use Rattle.rnix_lemmas.proofs.AnnotatedForestLemmas.{⊕-assoc, tokens_two}
-use Rattle.rnix_lemmas.proofs.FollowLemmas.{Stops, stops_simple}
-use Rattle.rnix_existence.proofs.OpenFrames.{seen_kind, Ends, operand_frame, EndsBy}
-use Rattle.rnix_existence.proofs.Frames.{AtOperand}
-use Rattle.rnix_existence.proofs.BelowKept.{alone}
-use Rattle.rnix_existence.proofs.RowFronts.{end_two}
-use Rattle.rnix_existence.proofs.OperandTrees.{past_over, Takes, placed}
-use Rattle.rnix_existence.proofs.OperandEnds.{OpenEnds, open_ends}
-use Rattle.rnix_existence.proofs.OperandWraps.{wrapped_ends}
-use Rattle.rnix_existence.proofs.OperandFollows.{grown_none}
-use Rattle.rnix_existence.proofs.BeginEnds.{BeginEnds, first_leaf}
-use Rattle.rnix_existence.proofs.BeginReads.{begin_ends}
 
 -- the operand is complete
 pub settle_ends : (f : Frame) (fs : List Frame) (ts : List Token) (n : ℕ) (gs : List Fault) (r : AtOperand f fs)

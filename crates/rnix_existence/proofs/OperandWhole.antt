@@ -1,32 +1,18 @@
 -- Each step at an operand: what ends behind it ends before it.
-use Rattle.std.proofs.Common.{◌≡◌, ℕ, Bool, true, false, List, [], ◌∷◌, refl, ap, sym, ◌∙◌, subst, arith}
-use Rattle.std.specs.Prelude.{if◌then◌else◌, nat_eq}
+use Rattle.std.proofs.Common.{◌≡◌, ℕ, Bool, true, false, List, [], ◌∷◌, refl, ap, sym, ◌∙◌, subst, arith, if◌then◌else◌, nat_eq}
 use Rattle.std.proofs.lemmas.Bool.Decides.{nat_tests}
-use Rattle.rnix_kinds.proofs.AllKinds.{implied}
-use Rattle.rnix_kinds.specs.declared.kinds.SyntaxKind.{SyntaxKind}
-use Rattle.rnix_kinds.specs.SyntaxKind.{is_fn_arg}
-use Rattle.rnix_kinds.specs.declared.kinds.SyntaxKind.TheVariants.{NODE_SELECT, NODE_HAS_ATTR, NODE_BIN_OP}
-use Rattle.rnix_grammar.specs.declared.place.Place.{Place}
+use Rattle.rnix_kinds.specs.{declared.kinds.SyntaxKind.{SyntaxKind, TheVariants.{NODE_SELECT, NODE_HAS_ATTR, NODE_BIN_OP}}, SyntaxKind.is_fn_arg}
+use Rattle.{rnix_kinds.proofs.AllKinds.implied, rnix_grammar.specs.{declared.{place.Place.Place, action.Action.Action}, Fault.Fault, Levels.binding_power}}
+use Rattle.rnix_grammar.specs.{Levels.{right_of, high_of}, Actions.{follow, goes_on, more_action, action_at}, TokenKinds.is_or, AnnotatedForest.{Token, token}}
+use Rattle.rnix_grammar.specs.{AnnotatedForest.{◌⊕◌, one_branch, leaf_kind, leaf_kind_as, head_kind, touches}, Machine.Frame, Rows.{is_atom, BeforeOperator}}
+use Rattle.{rnix_grammar.specs.{Rows.{BeforeDot, BeforeQuestion, BeforeArgument, At, to, advance}, Operands.follows}, rnix_lemmas.proofs.Basics.not_if}
+use Rattle.rnix_lemmas.proofs.{Basics.some_same, FollowLemmas.{stops_simple, stops_at, followed_question, followed_infix}, FirstTrees.single_operator}
+use Rattle.rnix_existence.proofs.{OpenFrames.{seen_kind, EndsBy}, Frames.AtOperand, OperandKept.{FollowsBy, by_dot, by_or, by_question, by_operator}}
+use Rattle.rnix_existence.proofs.{OperandKept.{by_argument, Between, between, none_some, atom_row}, OperandFollows.{operator_follows, question_follows}}
+use Rattle.rnix_existence.proofs.{OperandFollows.{argument_is, argument_follows}, OperandSteps.{settle_ends, wrap_ends, apply_ends, apply_or_ends}}
 use Rattle.rnix_grammar.specs.declared.place.Place.TheVariants as p
-use Rattle.rnix_grammar.specs.declared.action.Action.{Action}
 use Rattle.rnix_grammar.specs.declared.action.Action.TheVariants as a
-use Rattle.rnix_grammar.specs.Fault.{Fault}
-use Rattle.rnix_grammar.specs.Levels.{binding_power, right_of, high_of}
-use Rattle.rnix_grammar.specs.Actions.{follow, goes_on, more_action, action_at}
-use Rattle.rnix_grammar.specs.TokenKinds.{is_or}
-use Rattle.rnix_grammar.specs.AnnotatedForest.{Token, token, ◌⊕◌, one_branch, leaf_kind, leaf_kind_as, head_kind, touches}
-use Rattle.rnix_grammar.specs.Machine.{Frame}
-use Rattle.rnix_grammar.specs.Rows.{is_atom, BeforeOperator, BeforeDot, BeforeQuestion, BeforeArgument, At, to, advance}
-use Rattle.rnix_grammar.specs.Operands.{follows}
-use Rattle.rnix_lemmas.proofs.Basics.{not_if, some_same}
-use Rattle.rnix_lemmas.proofs.FollowLemmas.{stops_simple, stops_at, followed_question, followed_infix}
-use Rattle.rnix_lemmas.proofs.FirstTrees.{single_operator}
-use Rattle.rnix_existence.proofs.OpenFrames.{seen_kind, EndsBy}
-use Rattle.rnix_existence.proofs.Frames.{AtOperand}
-use Rattle.rnix_existence.proofs.OperandKept.{FollowsBy, by_dot, by_or, by_question, by_operator, by_argument, Between, between, none_some, atom_row}
 use Rattle.rnix_existence.proofs.OperandKept as o
-use Rattle.rnix_existence.proofs.OperandFollows.{operator_follows, question_follows, argument_is, argument_follows}
-use Rattle.rnix_existence.proofs.OperandSteps.{settle_ends, wrap_ends, apply_ends, apply_or_ends}
 
 -- a token that begins an argument is not the name `or`
 argument_no_or : (k : SyntaxKind) → binding_power k ≡ 15 → is_or k ≡ false

@@ -1,20 +1,11 @@
 -- A node whose first tree was an operand is itself one.
 use Rattle.std.proofs.Common.{◌≡◌, ℕ, true, List, ◌∷◌, ◌++◌, refl, ap, sym, ◌∙◌, subst, append-nil}
-use Rattle.rnix_kinds.specs.declared.kinds.SyntaxKind.{SyntaxKind}
+use Rattle.{rnix_kinds.specs.declared.kinds.SyntaxKind.SyntaxKind, rnix_grammar.specs.{Fault.Fault, AnnotatedForest.{Token, AnnotatedForest, blank, ◌⊕◌}}}
+use Rattle.rnix_grammar.specs.{AnnotatedForest.{one_branch, tokens_in, end_from}, Machine.{Operand, Frame, opened}, Rows.{fits, RowState, Start, advance, live}}
+use Rattle.{rnix_grammar.specs.{Rows.start, Operands.first_tree, Reads.{Reads, IsOver}}, rnix_lemmas.proofs.AnnotatedForestLemmas.tokens_two}
+use Rattle.{rnix_lemmas.proofs.{FollowLemmas.Stops, FirstTrees.{IsSingle, first_in}}, rnix_existence.proofs.OpenFrames.{seen_kind, Lone, a_node, Ends}}
+use Rattle.rnix_existence.proofs.{RowFronts.end_two, OperandTrees.first_placed, OperandEnds.{OperandEnds, operand_ends, regrown, grown_ends}}
 use Rattle.rnix_grammar.specs.declared.place.Place.TheVariants as p
-use Rattle.rnix_grammar.specs.Fault.{Fault}
-use Rattle.rnix_grammar.specs.AnnotatedForest.{Token, AnnotatedForest, blank, ◌⊕◌, one_branch, tokens_in, end_from}
-use Rattle.rnix_grammar.specs.Machine.{Operand, Frame, opened}
-use Rattle.rnix_grammar.specs.Rows.{fits, RowState, Start, advance, live, start}
-use Rattle.rnix_grammar.specs.Operands.{first_tree}
-use Rattle.rnix_grammar.specs.Reads.{Reads, IsOver}
-use Rattle.rnix_lemmas.proofs.AnnotatedForestLemmas.{tokens_two}
-use Rattle.rnix_lemmas.proofs.FollowLemmas.{Stops}
-use Rattle.rnix_lemmas.proofs.FirstTrees.{IsSingle, first_in}
-use Rattle.rnix_existence.proofs.OpenFrames.{seen_kind, Lone, a_node, Ends}
-use Rattle.rnix_existence.proofs.RowFronts.{end_two}
-use Rattle.rnix_existence.proofs.OperandTrees.{first_placed}
-use Rattle.rnix_existence.proofs.OperandEnds.{OperandEnds, operand_ends, regrown, grown_ends}
 
 -- a tree without the empty row behind it
 pub alone_tokens : (k : SyntaxKind) (c : AnnotatedForest) → tokens_in (one_branch k c) ≡ tokens_in c

@@ -1,29 +1,19 @@
 -- What ends behind a step at an open node ends before it, symbol by symbol: patterns, defaults and ends.
-use Rattle.std.proofs.Common.{◌≡◌, ℕ, Bool, true, false, List, [], ◌∷◌, Some, None, refl, ap, sym, ◌∙◌}
-use Rattle.std.specs.Prelude.{nat_eq, if◌then◌else◌}
-use Rattle.rnix_kinds.specs.declared.kinds.SyntaxKind.{SyntaxKind}
-use Rattle.rnix_kinds.specs.declared.kinds.SyntaxKind.TheVariants.{NODE_PAT_BIND, NODE_PAT_ENTRY, TOKEN_AT, TOKEN_COMMA, TOKEN_ELLIPSIS, TOKEN_IDENT, TOKEN_OR, TOKEN_QUESTION, TOKEN_R_BRACE}
-use Rattle.rnix_grammar.specs.declared.place.Place.{Place}
+use Rattle.std.proofs.Common.{◌≡◌, ℕ, Bool, true, false, List, [], ◌∷◌, Some, None, refl, ap, sym, ◌∙◌, nat_eq, if◌then◌else◌}
+use Rattle.rnix_kinds.specs.declared.kinds.SyntaxKind.{SyntaxKind, TheVariants.{NODE_PAT_BIND, NODE_PAT_ENTRY, TOKEN_AT, TOKEN_COMMA, TOKEN_ELLIPSIS}}
+use Rattle.rnix_kinds.specs.declared.kinds.SyntaxKind.TheVariants.{TOKEN_IDENT, TOKEN_OR, TOKEN_QUESTION, TOKEN_R_BRACE}
+use Rattle.rnix_grammar.specs.{declared.{place.Place.Place, symbol.Symbol.Symbol}, Fault.Fault, Tables.is_wanted, Symbols.{level_in, is_counted}}
+use Rattle.rnix_grammar.specs.Actions.{token_action, formals_action, braces_action, comma_action, bind_action, default_action, or_action, end_action}
+use Rattle.rnix_grammar.specs.{TokenKinds.is_comma, AnnotatedForest.{Token, AnnotatedForest, head_kind}, Machine.{Frame, Node}, Missing.run_in}
+use Rattle.{rnix_grammar.specs.{Rows.{advance_formals, advance_symbol}, ExpectedItems.{expects_in, stands_expected_in}}, rnix_lemmas.proofs.PlaceTables.bind_is}
+use Rattle.{rnix_lemmas.proofs.PlaceTables.end_is, rnix_existence.proofs.{OpenFrames.{closing, EndsBy}, SymbolSteps.{Known, takes, misses, misses_wanted}}}
+use Rattle.rnix_existence.proofs.SymbolSteps.{runs, opens, begins_entry, over, over_end}
 use Rattle.rnix_grammar.specs.declared.place.Place.TheVariants as p
-use Rattle.rnix_grammar.specs.declared.symbol.Symbol.{Symbol}
 use Rattle.rnix_grammar.specs.declared.symbol.Symbol.TheVariants as s
 use Rattle.rnix_grammar.specs.declared.until.Until.TheVariants as u
 use Rattle.rnix_grammar.specs.declared.action.Action.TheVariants as a
-use Rattle.rnix_grammar.specs.Fault.{Fault}
-use Rattle.rnix_grammar.specs.Tables.{is_wanted}
-use Rattle.rnix_grammar.specs.Symbols.{level_in, is_counted}
-use Rattle.rnix_grammar.specs.Actions.{token_action, formals_action, braces_action, comma_action, bind_action, default_action, or_action, end_action}
-use Rattle.rnix_grammar.specs.TokenKinds.{is_comma}
-use Rattle.rnix_grammar.specs.AnnotatedForest.{Token, AnnotatedForest, head_kind}
-use Rattle.rnix_grammar.specs.Machine.{Frame, Node}
-use Rattle.rnix_grammar.specs.Missing.{run_in}
-use Rattle.rnix_grammar.specs.Rows.{advance_formals, advance_symbol}
-use Rattle.rnix_grammar.specs.ExpectedItems.{expects_in, stands_expected_in}
-use Rattle.rnix_lemmas.proofs.PlaceTables.{bind_is, end_is}
-use Rattle.rnix_existence.proofs.OpenFrames.{closing, EndsBy}
 use Rattle.rnix_existence.proofs.RowSteps as row
 use Rattle.rnix_existence.proofs.NodeOpens as opening
-use Rattle.rnix_existence.proofs.SymbolSteps.{Known, takes, misses, misses_wanted, runs, opens, begins_entry, over, over_end}
 
 -- where entries of a pattern stand: its own items, and what they lead to
 record Formal (symbol : Symbol) (x : Place) (bound : Bool) : Type 0 where

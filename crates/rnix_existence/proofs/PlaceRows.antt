@@ -1,16 +1,9 @@
 -- What is done at a place of a node's row leaves it in its row, and opens nodes at places of theirs.
-use Rattle.std.proofs.Common.{◌≡◌, Bool, true, false, Option, Some, None, refl, ap, sym}
-use Rattle.std.specs.Prelude.{if◌then◌else◌, nat_le}
-use Rattle.rnix_kinds.specs.declared.kinds.SyntaxKind.{SyntaxKind}
-use Rattle.rnix_grammar.specs.declared.place.Place.{Place}
+use Rattle.std.proofs.Common.{◌≡◌, Bool, true, false, Option, Some, None, refl, ap, sym, if◌then◌else◌, nat_le}
+use Rattle.{rnix_kinds.specs.declared.kinds.SyntaxKind.SyntaxKind, rnix_grammar.specs.{declared.{place.Place.Place, action.Action.Action}, Actions.action_at}}
+use Rattle.{rnix_lemmas.proofs.{NodeKinds.is_error, EachKind.each_next, NestTrees.is_formal}, rnix_existence.proofs.Frames.row_at}
 use Rattle.rnix_grammar.specs.declared.place.Place.TheVariants as p
-use Rattle.rnix_grammar.specs.declared.action.Action.{Action}
 use Rattle.rnix_grammar.specs.declared.action.Action.TheVariants as a
-use Rattle.rnix_grammar.specs.Actions.{action_at}
-use Rattle.rnix_lemmas.proofs.NodeKinds.{is_error}
-use Rattle.rnix_lemmas.proofs.EachKind.{each_next}
-use Rattle.rnix_lemmas.proofs.NestTrees.{is_formal}
-use Rattle.rnix_existence.proofs.Frames.{row_at}
 
 -- a node of a kind may be open at a place
 abbrev pub IsRow : SyntaxKind → Place → Type 0

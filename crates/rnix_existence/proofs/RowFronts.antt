@@ -1,18 +1,11 @@
 -- What is read in the row of an open frame, in front of what is still to come of it.
 use Rattle.std.proofs.Common.{◌≡◌, ℕ, true, List, [], ◌∷◌, ◌++◌, ap, sym, ◌∙◌, subst, append_assoc, append-nil}
-use Rattle.rnix_kinds.specs.declared.kinds.SyntaxKind.{SyntaxKind}
-use Rattle.rnix_grammar.specs.declared.place.Place.{Place}
+use Rattle.{rnix_kinds.specs.declared.kinds.SyntaxKind.SyntaxKind, rnix_grammar.specs.{declared.place.Place.Place, Fault.Fault, AnnotatedForest.Token}}
+use Rattle.rnix_grammar.specs.{AnnotatedForest.{AnnotatedForest, ◌⊕◌, tokens_in, end_from}, Machine.{Frame, put, kind_of, made}, Rows.{RowState, At}}
+use Rattle.{rnix_grammar.specs.Reads.Reads, rnix_lemmas.proofs.{Basics.true_is_not_false, AnnotatedForestLemmas.{⊕-assoc, tokens_two, tokens_in-⊕}}}
+use Rattle.{rnix_lemmas.proofs.{StrictParts.end_behind, OpenHeads.is_open}, rnix_existence.proofs.OpenFrames.{closing, Ends, root_frame, open_frame}}
+use Rattle.rnix_existence.proofs.OpenFrames.{operand_frame}
 use Rattle.rnix_grammar.specs.declared.place.Place.TheVariants as p
-use Rattle.rnix_grammar.specs.Fault.{Fault}
-use Rattle.rnix_grammar.specs.AnnotatedForest.{Token, AnnotatedForest, ◌⊕◌, tokens_in, end_from}
-use Rattle.rnix_grammar.specs.Machine.{Frame, put, kind_of, made}
-use Rattle.rnix_grammar.specs.Rows.{RowState, At}
-use Rattle.rnix_grammar.specs.Reads.{Reads}
-use Rattle.rnix_lemmas.proofs.Basics.{true_is_not_false}
-use Rattle.rnix_lemmas.proofs.AnnotatedForestLemmas.{⊕-assoc, tokens_two, tokens_in-⊕}
-use Rattle.rnix_lemmas.proofs.StrictParts.{end_behind}
-use Rattle.rnix_lemmas.proofs.OpenHeads.{is_open}
-use Rattle.rnix_existence.proofs.OpenFrames.{closing, Ends, root_frame, open_frame, operand_frame}
 
 -- where two rows end, one behind the other
 pub end_two : (n : ℕ) (f g : AnnotatedForest) → end_from n (tokens_in (f ⊕ g)) ≡ end_from (end_from n (tokens_in f)) (tokens_in g)

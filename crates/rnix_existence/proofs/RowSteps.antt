@@ -1,27 +1,15 @@
 -- What ends behind a step in the row of an open frame ends before it: one item, what is missing, a run, what is left behind the root.
 use Rattle.std.proofs.Common.{◌≡◌, ℕ, true, false, List, [], ◌∷◌, ◌++◌, Option, Some, None, refl, ap, sym, ◌∙◌, subst, append_assoc, append-nil}
-use Rattle.rnix_kinds.specs.declared.kinds.SyntaxKind.TheVariants.{NODE_IDENT}
-use Rattle.rnix_grammar.specs.declared.place.Place.{Place}
+use Rattle.{rnix_kinds.specs.declared.kinds.SyntaxKind.TheVariants.NODE_IDENT, rnix_grammar.specs.declared.{place.Place.Place, until.Until.Until}}
+use Rattle.rnix_grammar.specs.{Fault.{Fault, ended, ended_before}, Tables.{is_wanted, wanted_kinds}, Symbols.{symbol_at, level_in}, AnnotatedForest.Token}
+use Rattle.rnix_grammar.specs.AnnotatedForest.{Note, Unwanted, Extra, AnnotatedForest, blank, ◌⊕◌, one_token, one_branch, one_fault, row_of, tokens_in, is_some}
+use Rattle.rnix_grammar.specs.{AnnotatedForest.{leaf_kind, end_from}, Reports.report, Machine.{Frame, put, kind_of, dropped}, Missing.{run_of, missing, run_at}}
+use Rattle.rnix_grammar.specs.{Rows.{At, advance, start, counts}, Operands.IsOperand, ExpectedItems.{expects, expects_end, stands_expected_in}, Reads.Reads}
+use Rattle.{rnix_grammar.specs.Reads.{IsRoom, IsWrong, end, leaf, missing_part, wrong, inner}, rnix_lemmas.proofs.Basics.{true_is_not_false, none_left}}
+use Rattle.rnix_lemmas.proofs.{Basics.none_right, AnnotatedForestLemmas.{⊕-blank, tokens_in-row_of}, RunLemmas.{parted, run_begins, dropped_all}}
+use Rattle.{rnix_lemmas.proofs.OpenHeads.is_open, rnix_existence.proofs.{OpenFrames.{Ends, EndsBy}, RowFronts.prepended}}
 use Rattle.rnix_grammar.specs.declared.place.Place.TheVariants as p
-use Rattle.rnix_grammar.specs.declared.until.Until.{Until}
 use Rattle.rnix_grammar.specs.declared.action.Action.TheVariants as a
-use Rattle.rnix_grammar.specs.Fault.{Fault, ended, ended_before}
-use Rattle.rnix_grammar.specs.Tables.{is_wanted, wanted_kinds}
-use Rattle.rnix_grammar.specs.Symbols.{symbol_at, level_in}
-use Rattle.rnix_grammar.specs.AnnotatedForest.{Token, Note, Unwanted, Extra, AnnotatedForest, blank, ◌⊕◌, one_token, one_branch, one_fault, row_of, tokens_in, is_some, leaf_kind, end_from}
-use Rattle.rnix_grammar.specs.Reports.{report}
-use Rattle.rnix_grammar.specs.Machine.{Frame, put, kind_of, dropped}
-use Rattle.rnix_grammar.specs.Missing.{run_of, missing, run_at}
-use Rattle.rnix_grammar.specs.Rows.{At, advance, start, counts}
-use Rattle.rnix_grammar.specs.Operands.{IsOperand}
-use Rattle.rnix_grammar.specs.ExpectedItems.{expects, expects_end, stands_expected_in}
-use Rattle.rnix_grammar.specs.Reads.{Reads, IsRoom, IsWrong, end, leaf, missing_part, wrong, inner}
-use Rattle.rnix_lemmas.proofs.Basics.{true_is_not_false, none_left, none_right}
-use Rattle.rnix_lemmas.proofs.AnnotatedForestLemmas.{⊕-blank, tokens_in-row_of}
-use Rattle.rnix_lemmas.proofs.RunLemmas.{parted, run_begins, dropped_all}
-use Rattle.rnix_lemmas.proofs.OpenHeads.{is_open}
-use Rattle.rnix_existence.proofs.OpenFrames.{Ends, EndsBy}
-use Rattle.rnix_existence.proofs.RowFronts.{prepended}
 
 -- the next item as a leaf
 pub takes : (f : Frame) (fs : List Frame) (t : Token) (ts : List Token) (n : ℕ) (gs : List Fault) (y : Place)

@@ -1,30 +1,14 @@
 -- Steps at an open node by what stands at its place: the premises of each kind of step, where the symbol is known.
-use Rattle.std.proofs.Common.{◌≡◌, ℕ, Bool, true, false, List, [], ◌∷◌, Some, None, refl, ap, sym, ◌∙◌}
-use Rattle.std.specs.Prelude.{nat_eq}
-use Rattle.rnix_kinds.specs.declared.kinds.SyntaxKind.{SyntaxKind}
-use Rattle.rnix_kinds.specs.declared.kinds.SyntaxKind.TheVariants.{NODE_IDENT, NODE_PAT_ENTRY, TOKEN_IDENT}
-use Rattle.rnix_grammar.specs.declared.place.Place.{Place}
+use Rattle.std.proofs.Common.{◌≡◌, ℕ, Bool, true, false, List, [], ◌∷◌, Some, None, refl, ap, sym, ◌∙◌, nat_eq}
+use Rattle.rnix_kinds.specs.declared.kinds.SyntaxKind.{SyntaxKind, TheVariants.{NODE_IDENT, NODE_PAT_ENTRY, TOKEN_IDENT}}
+use Rattle.rnix_grammar.specs.{declared.{place.Place.Place, symbol.Symbol.Symbol, until.Until.Until}, Fault.{Fault, ended, ended_before}, Tables.is_wanted}
+use Rattle.rnix_grammar.specs.{Tables.wanted_kinds, Symbols.{symbol_at, level_in, is_counted}, AnnotatedForest.{Token, AnnotatedForest, leaf_kind}}
+use Rattle.rnix_grammar.specs.{AnnotatedForest.leaf_kind_as, Machine.{Node, Frame, kind_of}, Missing.{missing_in, run_in}, Rows.{Start, At, advance}}
+use Rattle.rnix_grammar.specs.{Rows.{advance_symbol, is_end, start}, ExpectedItems.{expects, expects_in, expects_end, stands_expected_in}, Reports.repeats}
+use Rattle.{rnix_grammar.specs.Reads.IsOver, rnix_lemmas.proofs.{Basics.{true_is_not_false, some_same}, EveryKind.only, NodeKinds.told_plain}}
+use Rattle.{rnix_lemmas.proofs.{NestTrees.is_formal, OpenHeads.is_open}, rnix_existence.proofs.{OpenFrames.{closing, EndsBy}, Frames.{row_at, AtNode}}}
 use Rattle.rnix_grammar.specs.declared.place.Place.TheVariants as p
-use Rattle.rnix_grammar.specs.declared.symbol.Symbol.{Symbol}
-use Rattle.rnix_grammar.specs.declared.until.Until.{Until}
 use Rattle.rnix_grammar.specs.declared.action.Action.TheVariants as a
-use Rattle.rnix_grammar.specs.Fault.{Fault, ended, ended_before}
-use Rattle.rnix_grammar.specs.Tables.{is_wanted, wanted_kinds}
-use Rattle.rnix_grammar.specs.Symbols.{symbol_at, level_in, is_counted}
-use Rattle.rnix_grammar.specs.AnnotatedForest.{Token, AnnotatedForest, leaf_kind, leaf_kind_as}
-use Rattle.rnix_grammar.specs.Machine.{Node, Frame, kind_of}
-use Rattle.rnix_grammar.specs.Missing.{missing_in, run_in}
-use Rattle.rnix_grammar.specs.Rows.{Start, At, advance, advance_symbol, is_end, start}
-use Rattle.rnix_grammar.specs.ExpectedItems.{expects, expects_in, expects_end, stands_expected_in}
-use Rattle.rnix_grammar.specs.Reports.{repeats}
-use Rattle.rnix_grammar.specs.Reads.{IsOver}
-use Rattle.rnix_lemmas.proofs.Basics.{true_is_not_false, some_same}
-use Rattle.rnix_lemmas.proofs.EveryKind.{only}
-use Rattle.rnix_lemmas.proofs.NodeKinds.{told_plain}
-use Rattle.rnix_lemmas.proofs.NestTrees.{is_formal}
-use Rattle.rnix_lemmas.proofs.OpenHeads.{is_open}
-use Rattle.rnix_existence.proofs.OpenFrames.{closing, EndsBy}
-use Rattle.rnix_existence.proofs.Frames.{row_at, AtNode}
 use Rattle.rnix_existence.proofs.RowSteps as row
 use Rattle.rnix_existence.proofs.NodeOpens as opening
 

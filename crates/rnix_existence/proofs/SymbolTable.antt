@@ -1,28 +1,19 @@
 -- What ends behind a step at an open node ends before it, symbol by symbol: tokens, series, entries, strings, paths and attributes.
-use Rattle.std.proofs.Common.{◌≡◌, ℕ, Bool, true, false, List, [], ◌∷◌, Some, refl, ap, sym, ◌∙◌}
-use Rattle.std.specs.Prelude.{nat_eq, if◌then◌else◌, ◌||◌, ◌&&◌}
-use Rattle.rnix_kinds.specs.declared.kinds.SyntaxKind.{SyntaxKind}
-use Rattle.rnix_kinds.specs.declared.kinds.SyntaxKind.TheVariants.{NODE_ATTRPATH_VALUE, NODE_INHERIT, NODE_INTERPOL, TOKEN_INHERIT, TOKEN_INTERPOL_START, TOKEN_PATH_ABS, TOKEN_PATH_HOME, TOKEN_PATH_REL, TOKEN_STRING_CONTENT, TOKEN_STRING_END}
-use Rattle.rnix_grammar.specs.declared.place.Place.{Place}
+use Rattle.std.proofs.Common.{◌≡◌, ℕ, Bool, true, false, List, [], ◌∷◌, Some, refl, ap, sym, ◌∙◌, nat_eq, if◌then◌else◌, ◌||◌, ◌&&◌}
+use Rattle.rnix_kinds.specs.declared.kinds.SyntaxKind.{SyntaxKind, TheVariants.{NODE_ATTRPATH_VALUE, NODE_INHERIT, NODE_INTERPOL, TOKEN_INHERIT}}
+use Rattle.rnix_kinds.specs.declared.kinds.SyntaxKind.TheVariants.{TOKEN_INTERPOL_START, TOKEN_PATH_ABS, TOKEN_PATH_HOME, TOKEN_PATH_REL, TOKEN_STRING_CONTENT}
+use Rattle.{rnix_kinds.specs.declared.kinds.SyntaxKind.TheVariants.TOKEN_STRING_END, rnix_grammar.specs.declared.{place.Place.Place, until.Until.Until}}
+use Rattle.rnix_grammar.specs.{declared.until.Closer.Closer, Fault.Fault, Tables.{is_wanted, closes}, Actions.{token_action, series_action, entries_action}}
+use Rattle.rnix_grammar.specs.{Actions.{pieces_action, first_piece_action, more_pieces_action}, AnnotatedForest.{Token, AnnotatedForest, head_kind, touches}}
+use Rattle.rnix_grammar.specs.{Machine.Frame, TokenKinds.{is_piece_start, is_inherit_token}, Rows.{At, is_entry, advance_symbol, to}, ExpectedItems.expects_in}
+use Rattle.{rnix_lemmas.proofs.PlaceTables.pieces_is, rnix_existence.proofs.{OpenFrames.{closing, EndsBy}, SymbolSteps.{Known, takes, misses, misses_wanted}}}
+use Rattle.rnix_existence.proofs.SymbolSteps.{runs, opens, begins, over, over_end}
 use Rattle.rnix_grammar.specs.declared.place.Place.TheVariants as p
 use Rattle.rnix_grammar.specs.declared.symbol.Symbol.TheVariants as s
-use Rattle.rnix_grammar.specs.declared.until.Until.{Until}
 use Rattle.rnix_grammar.specs.declared.until.Until.TheVariants as u
-use Rattle.rnix_grammar.specs.declared.until.Closer.{Closer}
 use Rattle.rnix_grammar.specs.declared.until.Closer.TheVariants as c
 use Rattle.rnix_grammar.specs.declared.action.Action.TheVariants as a
-use Rattle.rnix_grammar.specs.Fault.{Fault}
-use Rattle.rnix_grammar.specs.Tables.{is_wanted, closes}
-use Rattle.rnix_grammar.specs.Actions.{token_action, series_action, entries_action, pieces_action, first_piece_action, more_pieces_action}
-use Rattle.rnix_grammar.specs.AnnotatedForest.{Token, AnnotatedForest, head_kind, touches}
-use Rattle.rnix_grammar.specs.Machine.{Frame}
-use Rattle.rnix_grammar.specs.TokenKinds.{is_piece_start, is_inherit_token}
-use Rattle.rnix_grammar.specs.Rows.{At, is_entry, advance_symbol, to}
-use Rattle.rnix_grammar.specs.ExpectedItems.{expects_in}
-use Rattle.rnix_lemmas.proofs.PlaceTables.{pieces_is}
-use Rattle.rnix_existence.proofs.OpenFrames.{closing, EndsBy}
 use Rattle.rnix_existence.proofs.NodeOpens as opening
-use Rattle.rnix_existence.proofs.SymbolSteps.{Known, takes, misses, misses_wanted, runs, opens, begins, over, over_end}
 
 -- where a token is wanted
 pub at_token : (f : Frame) (fs : List Frame) (ts : List Token) (n : ℕ) (gs : List Fault) (until : Until) (y : Place) → Known f (s.Token until y)

@@ -1,20 +1,12 @@
 -- What the machine of steps makes of a list of items satisfies the rules of readings.
 use Rattle.std.proofs.Common.{◌≡◌, ℕ, false, List, [], ◌∷◌, ◌++◌, refl, ap, sym, ◌∙◌, subst, append-nil, arith}
-use Rattle.rnix_kinds.specs.declared.kinds.SyntaxKind.TheVariants.{NODE_ROOT}
-use Rattle.rnix_grammar.specs.declared.place.Place.{Place}
+use Rattle.{rnix_kinds.specs.declared.kinds.SyntaxKind.TheVariants.NODE_ROOT, rnix_grammar.specs.{declared.place.Place.Place, Fault.Fault}}
+use Rattle.rnix_grammar.specs.{AnnotatedForest.{Token, AnnotatedForest, blank, tokens_in, touches}, Machine.{Machine, Node, Frame, opened, step_on, begins}}
+use Rattle.rnix_grammar.specs.{Machine.{Runs, rest, then as further}, Rows.At, Reads.{Reads, end, ReadsWhole}}
+use Rattle.{rnix_lemmas.proofs.AnnotatedForestLemmas.⊕-blank, rnix_existence.proofs.{OpenFrames.{Ends, root_frame}, Frames.{no_frame, Reading, node, operand}}}
+use Rattle.rnix_existence.proofs.{Frames.second, NodeKept.{node_kept, second_kept}, OperandKept.operand_kept, OperandWhole.operand_step, FrameEnds.node_ends}
+use Rattle.rnix_existence.proofs.FrameEnds.{second_ends}
 use Rattle.rnix_grammar.specs.declared.place.Place.TheVariants as p
-use Rattle.rnix_grammar.specs.Fault.{Fault}
-use Rattle.rnix_grammar.specs.AnnotatedForest.{Token, AnnotatedForest, blank, tokens_in, touches}
-use Rattle.rnix_grammar.specs.Machine.{Machine, Node, Frame, opened, step_on, begins, Runs, rest, then as further}
-use Rattle.rnix_grammar.specs.Rows.{At}
-use Rattle.rnix_grammar.specs.Reads.{Reads, end, ReadsWhole}
-use Rattle.rnix_lemmas.proofs.AnnotatedForestLemmas.{⊕-blank}
-use Rattle.rnix_existence.proofs.OpenFrames.{Ends, root_frame}
-use Rattle.rnix_existence.proofs.Frames.{no_frame, Reading, node, operand, second}
-use Rattle.rnix_existence.proofs.NodeKept.{node_kept, second_kept}
-use Rattle.rnix_existence.proofs.OperandKept.{operand_kept}
-use Rattle.rnix_existence.proofs.OperandWhole.{operand_step}
-use Rattle.rnix_existence.proofs.FrameEnds.{node_ends, second_ends}
 
 -- a machine ends as a row, with the errors that are still to come, so that all its errors are these
 pub record EndsWith (m : Machine) (row : AnnotatedForest) (all : List Fault) : Type 0 where

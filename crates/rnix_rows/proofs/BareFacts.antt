@@ -1,16 +1,9 @@
 -- Where no attribute path stands: behind what is missing, and behind an operand.
-use Rattle.std.proofs.Common.{◌≡◌, Bool, true, false, Option, Some, None, refl, subst, ap}
-use Rattle.std.specs.Prelude.{if◌then◌else◌, nat_eq, nat_le}
-use Rattle.rnix_kinds.specs.declared.kinds.SyntaxKind.{SyntaxKind}
-use Rattle.rnix_kinds.specs.declared.kinds.SyntaxKind.TheVariants.{NODE_ATTRPATH, NODE_LITERAL, NODE_PAREN}
-use Rattle.rnix_grammar.specs.declared.place.Place.{Place}
+use Rattle.std.proofs.Common.{◌≡◌, Bool, true, false, Option, Some, None, refl, subst, ap, if◌then◌else◌, nat_eq, nat_le}
+use Rattle.rnix_kinds.specs.declared.kinds.SyntaxKind.{SyntaxKind, TheVariants.{NODE_ATTRPATH, NODE_LITERAL, NODE_PAREN}}
+use Rattle.rnix_grammar.specs.{declared.place.Place.Place, Fault.Fault, Symbols.symbol_at, Rows.{fits, RowState, Start, At, advance, first, live, to}}
+use Rattle.{rnix_grammar.specs.Missing.missing, rnix_lemmas.proofs.{Basics.no_way, NestRowStates.is_pathless}}
 use Rattle.rnix_grammar.specs.declared.place.Place.TheVariants as p
-use Rattle.rnix_grammar.specs.Fault.{Fault}
-use Rattle.rnix_grammar.specs.Symbols.{symbol_at}
-use Rattle.rnix_grammar.specs.Rows.{fits, RowState, Start, At, advance, first, live, to}
-use Rattle.rnix_grammar.specs.Missing.{missing}
-use Rattle.rnix_lemmas.proofs.Basics.{no_way}
-use Rattle.rnix_lemmas.proofs.NestRowStates.{is_pathless}
 
 -- no attribute path stands at a state
 abbrev pub is_bare : RowState → Bool

@@ -1,30 +1,21 @@
 -- What the first item of an operand is, by the kind of the operand's first tree; so it is at each state where a node stands.
-use Rattle.std.proofs.Common.{◌≡◌, ℕ, Bool, true, false, List, [], ◌∷◌, ◌++◌, Option, Some, None, refl, ap, sym, subst, append-nil}
-use Rattle.std.specs.List.{list_all}
-use Rattle.std.specs.Prelude.{if◌then◌else◌, nat_eq, nat_le}
-use Rattle.rnix_kinds.specs.declared.kinds.SyntaxKind.{SyntaxKind}
-use Rattle.rnix_kinds.specs.declared.kinds.SyntaxKind.TheVariants.{TOKEN_AT, TOKEN_COLON, TOKEN_IDENT, TOKEN_INVERT, TOKEN_SUB, TOKEN_LET, TOKEN_WITH, TOKEN_ASSERT, TOKEN_IF, TOKEN_L_BRACE, NODE_APPLY, NODE_ATTRPATH, NODE_ATTRPATH_VALUE, NODE_BIN_OP, NODE_CUR_POS, NODE_ERROR, NODE_HAS_ATTR, NODE_IDENT, NODE_IDENT_PARAM, NODE_LAMBDA, NODE_PATTERN, NODE_PAT_BIND, NODE_PAT_ENTRY, NODE_ROOT, NODE_SELECT}
-use Rattle.rnix_kinds.specs.SyntaxKind.{is_fn_arg}
-use Rattle.rnix_kinds.proofs.AllKinds.{all_kinds, every, implied}
-use Rattle.rnix_grammar.specs.declared.begin.Begin.{Begin}
+use Rattle.std.{specs.List.list_all, proofs.Common.{◌≡◌, ℕ, Bool, true, false, List, [], ◌∷◌, ◌++◌, Option, Some, None, refl, ap, sym, subst, append-nil}}
+use Rattle.std.proofs.Common.{if◌then◌else◌, nat_eq, nat_le}
+use Rattle.rnix_kinds.specs.declared.kinds.SyntaxKind.{SyntaxKind, TheVariants.{TOKEN_AT, TOKEN_COLON, TOKEN_IDENT, TOKEN_INVERT, TOKEN_SUB, TOKEN_LET}}
+use Rattle.rnix_kinds.specs.declared.kinds.SyntaxKind.TheVariants.{TOKEN_WITH, TOKEN_ASSERT, TOKEN_IF, TOKEN_L_BRACE, NODE_APPLY, NODE_ATTRPATH}
+use Rattle.rnix_kinds.specs.declared.kinds.SyntaxKind.TheVariants.{NODE_ATTRPATH_VALUE, NODE_BIN_OP, NODE_CUR_POS, NODE_ERROR, NODE_HAS_ATTR, NODE_IDENT}
+use Rattle.rnix_kinds.specs.declared.kinds.SyntaxKind.TheVariants.{NODE_IDENT_PARAM, NODE_LAMBDA, NODE_PATTERN, NODE_PAT_BIND, NODE_PAT_ENTRY, NODE_ROOT}
+use Rattle.rnix_kinds.{specs.{declared.kinds.SyntaxKind.TheVariants.NODE_SELECT, SyntaxKind.is_fn_arg}, proofs.AllKinds.{all_kinds, every, implied}}
+use Rattle.rnix_grammar.specs.{declared.{begin.Begin.Begin, place.Place.Place, symbol.Symbol.Symbol}, Begins.{begin_name, begin_let, begin_of, is_pattern}}
+use Rattle.rnix_grammar.specs.{Begins.second_kind, Names.{is_plain, is_no_or, is_position, is_name_in, is_name_of, is_name_at, is_named_by}}
+use Rattle.rnix_grammar.specs.{ExpectedItems.{IsExpected, stands_expected}, Operands.{first_tree, kind_of, IsBegun, IsOperand, level_at}, Rows.RowState}
+use Rattle.rnix_grammar.specs.{Rows.{Start, BeforeArgument, At, first, advance, live, start}, AnnotatedForest.{Token, AnnotatedForest, branch, one_branch}}
+use Rattle.rnix_grammar.specs.{AnnotatedForest.{tokens_in, head_kind}, Symbols.{symbol_at, level_in}, Tables.{is_cur_pos, is_wanted}, TokenKinds.{is_or, is_at}}
+use Rattle.{rnix_grammar.specs.TreeLevels.is_or_row, rnix_lemmas.proofs.{Basics.{true_is_not_false, not_if, choice}, FirstTrees.{a_node, first_in}}}
 use Rattle.rnix_grammar.specs.declared.begin.Begin.TheVariants as b
-use Rattle.rnix_grammar.specs.declared.place.Place.{Place}
 use Rattle.rnix_grammar.specs.declared.place.Place.TheVariants as p
-use Rattle.rnix_grammar.specs.declared.symbol.Symbol.{Symbol}
 use Rattle.rnix_grammar.specs.declared.symbol.Symbol.TheVariants as s
 use Rattle.rnix_grammar.specs.declared.until.Until.TheVariants as u
-use Rattle.rnix_grammar.specs.Begins.{begin_name, begin_let, begin_of, is_pattern, second_kind}
-use Rattle.rnix_grammar.specs.Names.{is_plain, is_no_or, is_position, is_name_in, is_name_of, is_name_at, is_named_by}
-use Rattle.rnix_grammar.specs.ExpectedItems.{IsExpected, stands_expected}
-use Rattle.rnix_grammar.specs.Operands.{first_tree, kind_of, IsBegun, IsOperand, level_at}
-use Rattle.rnix_grammar.specs.Rows.{RowState, Start, BeforeArgument, At, first, advance, live, start}
-use Rattle.rnix_grammar.specs.AnnotatedForest.{Token, AnnotatedForest, branch, one_branch, tokens_in, head_kind}
-use Rattle.rnix_grammar.specs.Symbols.{symbol_at, level_in}
-use Rattle.rnix_grammar.specs.Tables.{is_cur_pos, is_wanted}
-use Rattle.rnix_grammar.specs.TokenKinds.{is_or, is_at}
-use Rattle.rnix_grammar.specs.TreeLevels.{is_or_row}
-use Rattle.rnix_lemmas.proofs.Basics.{true_is_not_false, not_if, choice}
-use Rattle.rnix_lemmas.proofs.FirstTrees.{a_node, first_in}
 
 -- the first item of a pattern that stands before a function's body
 abbrev pub begins_pattern : SyntaxKind → Bool

@@ -1,43 +1,25 @@
 -- What stands beside an error node that is read, and how tightly the trees of a row bind.
 use Rattle.std.proofs.Common.{◌≡◌, ℕ, suc, ◌≤◌, ◌<◌, Bool, true, false, List, [], ◌∷◌, ◌++◌, Option, Some, None, refl, ap, sym, ◌∙◌, subst, append-nil, arith}
-use Rattle.std.proofs.lemmas.Bool.{and_parts}
-use Rattle.std.specs.Prelude.{◌||◌, ◌&&◌, if◌then◌else◌, nat_eq}
-use Rattle.rnix_kinds.specs.declared.kinds.SyntaxKind.{SyntaxKind}
-use Rattle.rnix_kinds.specs.declared.kinds.SyntaxKind.TheVariants.{NODE_APPLY, NODE_ATTRPATH, NODE_BIN_OP, NODE_ERROR, NODE_HAS_ATTR, NODE_IDENT, NODE_IDENT_PARAM, NODE_INHERIT, NODE_LITERAL, NODE_PAT_BIND, NODE_PAT_ENTRY, NODE_ROOT, NODE_SELECT, TOKEN_ASSERT, TOKEN_ASSIGN, TOKEN_AT, TOKEN_COMMA, TOKEN_ELLIPSIS, TOKEN_IF, TOKEN_INHERIT, TOKEN_INTERPOL_START, TOKEN_L_BRACE, TOKEN_L_PAREN, TOKEN_QUESTION, TOKEN_REC, TOKEN_STRING_START, TOKEN_THEN, TOKEN_WITH}
-use Rattle.rnix_kinds.specs.SyntaxKind.{is_fn_arg}
-use Rattle.rnix_kinds.proofs.AllKinds.{implied}
-use Rattle.rnix_green.specs.Equality.{same_kind-decides}
-use Rattle.rnix_grammar.specs.declared.place.Place.{Place}
-use Rattle.rnix_grammar.specs.declared.place.Place.TheVariants as p
-use Rattle.rnix_grammar.specs.declared.symbol.Symbol.{Symbol}
-use Rattle.rnix_grammar.specs.declared.symbol.Symbol.TheVariants as s
-use Rattle.rnix_grammar.specs.declared.until.Until.{Until}
-use Rattle.rnix_grammar.specs.Levels.{binding_power, left_of}
-use Rattle.rnix_grammar.specs.Machine.{dropped}
-use Rattle.rnix_grammar.specs.Missing.{run_at}
-use Rattle.rnix_grammar.specs.ExpectedItems.{expects_in, IsExpected, stands_expected}
-use Rattle.rnix_grammar.specs.Operands.{follows, IsFollowed, IsOperand, level_at}
-use Rattle.rnix_grammar.specs.Reads.{IsWrong}
+use Rattle.std.proofs.{Common.{◌||◌, ◌&&◌, if◌then◌else◌, nat_eq}, lemmas.Bool.and_parts}
+use Rattle.rnix_kinds.specs.declared.kinds.SyntaxKind.{SyntaxKind, TheVariants.{NODE_APPLY, NODE_ATTRPATH, NODE_BIN_OP, NODE_ERROR, NODE_HAS_ATTR, NODE_IDENT}}
+use Rattle.rnix_kinds.specs.declared.kinds.SyntaxKind.TheVariants.{NODE_IDENT_PARAM, NODE_INHERIT, NODE_LITERAL, NODE_PAT_BIND, NODE_PAT_ENTRY, NODE_ROOT}
+use Rattle.rnix_kinds.specs.declared.kinds.SyntaxKind.TheVariants.{NODE_SELECT, TOKEN_ASSERT, TOKEN_ASSIGN, TOKEN_AT, TOKEN_COMMA, TOKEN_ELLIPSIS, TOKEN_IF}
+use Rattle.rnix_kinds.specs.declared.kinds.SyntaxKind.TheVariants.{TOKEN_INHERIT, TOKEN_INTERPOL_START, TOKEN_L_BRACE, TOKEN_L_PAREN, TOKEN_QUESTION, TOKEN_REC}
+use Rattle.rnix_kinds.specs.{declared.kinds.SyntaxKind.TheVariants.{TOKEN_STRING_START, TOKEN_THEN, TOKEN_WITH}, SyntaxKind.is_fn_arg}
+use Rattle.{rnix_kinds.proofs.AllKinds.implied, rnix_green.specs.Equality.same_kind-decides, rnix_grammar.specs.declared.place.Place.Place}
+use Rattle.rnix_grammar.specs.{declared.{symbol.Symbol.Symbol, until.Until.Until}, Levels.{binding_power, left_of}, Machine.dropped, Missing.run_at}
+use Rattle.rnix_grammar.specs.{ExpectedItems.{expects_in, IsExpected, stands_expected}, Operands.{follows, IsFollowed, IsOperand, level_at}, Reads.IsWrong}
 use Rattle.rnix_grammar.specs.Rows.{is_infix, RowState, Start, BeforeOperator, BeforeQuestion, BeforeArgument, At, advance, live, first, start}
-use Rattle.rnix_grammar.specs.AnnotatedForest.{Token, Note, Stray, Unwanted, Extra, Twice, TooDeep, AnnotatedForest, blank, fault, one_branch, one_fault, row_of, tokens_in, head_kind}
-use Rattle.rnix_grammar.specs.Symbols.{symbol_at, level_in}
-use Rattle.rnix_grammar.specs.Stands.{continues, last_kind, closing_in, closing, IsInRow, begin, begin_second, behind_child, behind_run, is_inherit, AreUnwanted, IsBeside, IsTight, IsArgument, IsLeveled, IsOpened}
-use Rattle.rnix_grammar.specs.Tables.{stops}
-use Rattle.rnix_grammar.specs.TokenKinds.{is_or}
-use Rattle.rnix_grammar.specs.TreeLevels.{is_or_row, row_level, is_atom_row}
-use Rattle.rnix_lemmas.proofs.Basics.{true_is_not_false, not_if, not_nil}
-use Rattle.rnix_lemmas.proofs.FollowLemmas.{Follows, by_operator, by_question, by_argument, by_name, follows_by}
-use Rattle.rnix_lemmas.proofs.LaterRowStates.{is_start}
-use Rattle.rnix_lemmas.proofs.LevelLemmas.{at_most, same_number, operates}
-use Rattle.rnix_lemmas.proofs.NestPlaces.{is_expected}
-use Rattle.rnix_lemmas.proofs.OpeningRows.{live_to}
-use Rattle.rnix_lemmas.proofs.Places.{home, is_last}
-use Rattle.rnix_lemmas.proofs.RunLemmas.{parted}
-use Rattle.rnix_lemmas.proofs.AnnotatedForestLemmas.{tokens_in-row_of}
-use Rattle.rnix_rows.proofs.BegunTrees.{MayBegin, Fronts, is_free, operand_begins}
-use Rattle.rnix_rows.proofs.KeptRows.{Kept, inherits, run_facts}
-use Rattle.rnix_rows.proofs.NodeForms.{start_uncounted}
-use Rattle.rnix_rows.proofs.WantingRowStates.{wants}
+use Rattle.rnix_grammar.specs.AnnotatedForest.{Token, Note, Stray, Unwanted, Extra, Twice, TooDeep, AnnotatedForest, blank, fault, one_branch, one_fault}
+use Rattle.rnix_grammar.specs.{AnnotatedForest.{row_of, tokens_in, head_kind}, Symbols.{symbol_at, level_in}, Stands.{continues, last_kind, closing_in}}
+use Rattle.rnix_grammar.specs.Stands.{closing, IsInRow, begin, begin_second, behind_child, behind_run, is_inherit, AreUnwanted, IsBeside, IsTight, IsArgument}
+use Rattle.rnix_grammar.specs.{Stands.{IsLeveled, IsOpened}, Tables.stops, TokenKinds.is_or, TreeLevels.{is_or_row, row_level, is_atom_row}}
+use Rattle.rnix_lemmas.proofs.{Basics.{true_is_not_false, not_if, not_nil}, FollowLemmas.{Follows, by_operator, by_question, by_argument, by_name, follows_by}}
+use Rattle.rnix_lemmas.proofs.{LaterRowStates.is_start, LevelLemmas.{at_most, same_number, operates}, NestPlaces.is_expected, OpeningRows.live_to, Places.home}
+use Rattle.{rnix_lemmas.proofs.{Places.is_last, RunLemmas.parted, AnnotatedForestLemmas.tokens_in-row_of}, rnix_rows.proofs.BegunTrees.{MayBegin, Fronts}}
+use Rattle.rnix_rows.proofs.{BegunTrees.{is_free, operand_begins}, KeptRows.{Kept, inherits, run_facts}, NodeForms.start_uncounted, WantingRowStates.wants}
+use Rattle.rnix_grammar.specs.declared.place.Place.TheVariants as p
+use Rattle.rnix_grammar.specs.declared.symbol.Symbol.TheVariants as s
 
 -- only operands stand where a number may, at a place
 literal_level : (x : Place) → live (advance (At x) NODE_LITERAL) ≡ true → is_free (level_in (symbol_at x)) ≡ false

@@ -1,20 +1,13 @@
 -- The errors of error nodes and of entries that repeat a name are of their elements: they have their ranges, and tell what these begin with.
 use Rattle.std.proofs.Common.{◌≡◌, ℕ, ◌+◌, true, List, [], ◌∷◌, ◌++◌, length, Some, refl, ap, sym, ◌∙◌, arith, Bool, false, None, subst, append-nil}
-use Rattle.rnix_kinds.specs.declared.kinds.SyntaxKind.{SyntaxKind}
-use Rattle.rnix_kinds.specs.declared.kinds.SyntaxKind.TheVariants.{NODE_ERROR, NODE_IDENT, NODE_PAT_ENTRY}
-use Rattle.rnix_green.specs.Forest.{text_of, node}
-use Rattle.rnix_green.specs.Tree.{Tree, Item, item, extent_of}
-use Rattle.rnix_grammar.specs.Fault.{Fault}
-use Rattle.rnix_grammar.specs.AnnotatedForest.{Note, Stray, Unwanted, Extra, Twice, TooDeep, AnnotatedForest, token, tokens_in, forget, is_some, HaveLeafKinds, extent_of as place_of, Token, blank, branch, without_trivia, token_if}
-use Rattle.rnix_grammar.specs.Reports.{first_kind, report, only_token, entry_name}
-use Rattle.rnix_grammar.specs.Stands.{begins_with_token}
-use Rattle.rnix_grammar.specs.Trim.{AreNamesBare, is_bare, begins_with_node}
-use Rattle.rnix_grammar.specs.Ranges.{BeginsWith, IsErrorOf, AreErrorsOf, IsEntryName}
-use Rattle.rnix_lemmas.proofs.Basics.{true_is_not_false, some_same}
-use Rattle.rnix_rows.proofs.StandsFilled.{HasTokens, AreMarked}
-use Rattle.rnix_rows.proofs.PlacedTokens.{ArePlaced, between, row_extent, placed_first}
-use Rattle.rnix_rows.proofs.RowsIn.{IsRowIn, row_first, row_text}
-use Rattle.rnix_kinds.specs.SyntaxKind.{is_trivia}
+use Rattle.rnix_kinds.specs.{declared.kinds.SyntaxKind.{SyntaxKind, TheVariants.{NODE_ERROR, NODE_IDENT, NODE_PAT_ENTRY}}, SyntaxKind.is_trivia}
+use Rattle.{rnix_green.specs.{Forest.{text_of, node}, Tree.{Tree, Item, item, extent_of}}, rnix_grammar.specs.{Fault.Fault, AnnotatedForest.{Note, Stray}}}
+use Rattle.rnix_grammar.specs.AnnotatedForest.{Unwanted, Extra, Twice, TooDeep, AnnotatedForest, token, tokens_in, forget, is_some, HaveLeafKinds}
+use Rattle.rnix_grammar.specs.{AnnotatedForest.{extent_of as place_of, Token, blank, branch, without_trivia, token_if}, Reports.{first_kind, report}}
+use Rattle.rnix_grammar.specs.{Reports.{only_token, entry_name}, Stands.begins_with_token, Trim.{AreNamesBare, is_bare, begins_with_node}, Ranges.BeginsWith}
+use Rattle.{rnix_grammar.specs.Ranges.{IsErrorOf, AreErrorsOf, IsEntryName}, rnix_lemmas.proofs.Basics.{true_is_not_false, some_same}}
+use Rattle.rnix_rows.proofs.{StandsFilled.{HasTokens, AreMarked}, PlacedTokens.{ArePlaced, between, row_extent, placed_first}, RowsIn.{IsRowIn, row_first}}
+use Rattle.rnix_rows.proofs.RowsIn.{row_text}
 
 -- errors and elements, one list behind another
 pub errors-++ : (t : Tree) (es fs : List Fault) (ms ns : List ℕ) → AreErrorsOf t es ms → AreErrorsOf t fs ns → AreErrorsOf t (es ++ fs) (ms ++ ns)

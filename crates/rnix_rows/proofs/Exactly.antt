@@ -1,23 +1,11 @@
 -- What is read without an error and a corner is a derivation of its items.
-use Rattle.std.proofs.Common.{◌≡◌, ◌≤◌, ℕ, Bool, true, false, List, [], ◌∷◌, ◌++◌, refl, ap, sym, ◌∙◌, subst, append-nil, append_assoc}
+use Rattle.std.proofs.Common.{◌≡◌, ◌≤◌, ℕ, Bool, true, false, List, [], ◌∷◌, ◌++◌, refl, ap, sym, ◌∙◌, subst, append-nil, append_assoc, map, if◌then◌else◌}
 use Rattle.std.proofs.lemmas.List.{map-append}
-use Rattle.std.specs.Prelude.{map, if◌then◌else◌}
-use Rattle.rnix_kinds.specs.declared.kinds.SyntaxKind.{SyntaxKind}
-use Rattle.rnix_kinds.specs.declared.kinds.SyntaxKind.TheVariants.{TOKEN_CUR_POS, TOKEN_IDENT, TOKEN_OR, NODE_CUR_POS, NODE_IDENT, NODE_ROOT}
+use Rattle.rnix_kinds.specs.declared.kinds.SyntaxKind.{SyntaxKind, TheVariants.{TOKEN_CUR_POS, TOKEN_IDENT, TOKEN_OR, NODE_CUR_POS, NODE_IDENT, NODE_ROOT}}
 use Rattle.rnix_grammar.specs.AnnotatedForest.{Token, lexeme_of, AnnotatedForest, blank, token, branch, fault, tokens_in, forget, leaf_kind_as, HaveLeafKinds}
-use Rattle.rnix_grammar.specs.Named.{is_spelled, AreSpelled}
-use Rattle.rnix_grammar.specs.Yield.{untold, yield}
-use Rattle.rnix_grammar.specs.Tables.{is_or, depth_limit}
-use Rattle.rnix_grammar.specs.Grammar.{IsExpression}
-use Rattle.rnix_grammar.specs.Derivation.{beyond, laid, IsDerivation}
-use Rattle.rnix_grammar.specs.declared.place.Place.TheVariants.{RootStart}
-use Rattle.rnix_grammar.specs.Rows.{At}
-use Rattle.rnix_grammar.specs.Plain.{ArePaths}
-use Rattle.rnix_lemmas.proofs.RowNesting.{nesting}
-use Rattle.rnix_grammar.specs.Nest.{nest}
-use Rattle.rnix_lemmas.proofs.Basics.{true_is_not_false}
-use Rattle.rnix_lemmas.proofs.OpeningRows.{spelled_first, spelled_rest}
-use Rattle.rnix_lemmas.proofs.NestTrees.{HaveRows, rows_nest}
+use Rattle.rnix_grammar.specs.{Named.{is_spelled, AreSpelled}, Yield.{untold, yield}, Tables.{is_or, depth_limit}, Grammar.IsExpression, Derivation.beyond}
+use Rattle.rnix_grammar.specs.{Derivation.{laid, IsDerivation}, declared.place.Place.TheVariants.RootStart, Rows.At, Plain.ArePaths, Nest.nest}
+use Rattle.rnix_lemmas.proofs.{RowNesting.nesting, Basics.true_is_not_false, OpeningRows.{spelled_first, spelled_rest}, NestTrees.{HaveRows, rows_nest}}
 use Rattle.rnix_rows.proofs.StandsShapes.{AreBareRows, IsBare}
 
 -- the trees of a row without error nodes, over its tokens, are the row

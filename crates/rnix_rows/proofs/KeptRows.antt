@@ -1,30 +1,16 @@
 -- What is known along a row that is read: whose row it is, that the next item does not go on with what stands before it, and how many items are before it.
 use Rattle.std.proofs.Common.{◌≡◌, ℕ, suc, ◌+◌, ◌≤◌, ◌<◌, Bool, true, false, List, [], ◌∷◌, ◌++◌, length, Option, Some, None, refl, ap, sym, ◌∙◌, subst, arith}
-use Rattle.std.specs.Prelude.{◌||◌, if◌then◌else◌}
-use Rattle.rnix_kinds.specs.declared.kinds.SyntaxKind.{SyntaxKind}
-use Rattle.rnix_kinds.specs.declared.kinds.SyntaxKind.TheVariants.{NODE_ERROR, NODE_LITERAL}
-use Rattle.rnix_grammar.specs.declared.place.Place.{Place}
+use Rattle.std.proofs.Common.{◌||◌, if◌then◌else◌}
+use Rattle.{rnix_kinds.specs.declared.kinds.SyntaxKind.{SyntaxKind, TheVariants.{NODE_ERROR, NODE_LITERAL}}, rnix_grammar.specs.declared.place.Place.Place}
+use Rattle.rnix_grammar.specs.{declared.until.Until.Until, Fault.Fault, Missing.{missing, run_at}, ExpectedItems.IsExpected, Operands.IsFollowed, Reads.IsWrong}
+use Rattle.rnix_grammar.specs.{Rows.{RowState, Start, At, advance, live}, AnnotatedForest.{Token, Note, Stray, Unwanted, Extra, Twice, TooDeep}}
+use Rattle.rnix_grammar.specs.{AnnotatedForest.{AnnotatedForest, blank, token, fault, ◌⊕◌, one_token, one_fault, row_of, head_kind}, Stands.is_attrpath}
+use Rattle.{rnix_grammar.specs.{Stands.{is_inherit, seen_as, last_from}, TokenKinds.is_dot}, rnix_lemmas.proofs.Basics.{true_is_not_false, none_right}}
+use Rattle.rnix_lemmas.proofs.{FirstTrees.{IsSingle, an_error}, LaterRowStates.{is_start, go_later}, NestPlaces.{is_expected, IsExpected as IsInRow}}
+use Rattle.{rnix_lemmas.proofs.{NestPlaces.go_expected, Places.{home, is_last, IsSame, missing_leads_on}, RowKinds.has_row}, rnix_rows.proofs.BegunTrees.Fronts}
+use Rattle.rnix_rows.proofs.{NodeForms.start_uncounted, QuietRows.{goes_on_error, Calm, Settled, none_next, calm_behind, calm_leaf, calm_tree, settled, Made}}
+use Rattle.rnix_rows.proofs.{QuietRows.{made_leaf, made_tree, is_operated, made_elsewhere, made_lost}, WantingRowStates.{wants, is_last_at, go_further}}
 use Rattle.rnix_grammar.specs.declared.place.Place.TheVariants as p
-use Rattle.rnix_grammar.specs.declared.until.Until.{Until}
-use Rattle.rnix_grammar.specs.Fault.{Fault}
-use Rattle.rnix_grammar.specs.Missing.{missing, run_at}
-use Rattle.rnix_grammar.specs.ExpectedItems.{IsExpected}
-use Rattle.rnix_grammar.specs.Operands.{IsFollowed}
-use Rattle.rnix_grammar.specs.Reads.{IsWrong}
-use Rattle.rnix_grammar.specs.Rows.{RowState, Start, At, advance, live}
-use Rattle.rnix_grammar.specs.AnnotatedForest.{Token, Note, Stray, Unwanted, Extra, Twice, TooDeep, AnnotatedForest, blank, token, fault, ◌⊕◌, one_token, one_fault, row_of, head_kind}
-use Rattle.rnix_grammar.specs.Stands.{is_attrpath, is_inherit, seen_as, last_from}
-use Rattle.rnix_grammar.specs.TokenKinds.{is_dot}
-use Rattle.rnix_lemmas.proofs.Basics.{true_is_not_false, none_right}
-use Rattle.rnix_lemmas.proofs.FirstTrees.{IsSingle, an_error}
-use Rattle.rnix_lemmas.proofs.LaterRowStates.{is_start, go_later}
-use Rattle.rnix_lemmas.proofs.NestPlaces.{is_expected, IsExpected as IsInRow, go_expected}
-use Rattle.rnix_lemmas.proofs.Places.{home, is_last, IsSame, missing_leads_on}
-use Rattle.rnix_lemmas.proofs.RowKinds.{has_row}
-use Rattle.rnix_rows.proofs.BegunTrees.{Fronts}
-use Rattle.rnix_rows.proofs.NodeForms.{start_uncounted}
-use Rattle.rnix_rows.proofs.QuietRows.{goes_on_error, Calm, Settled, none_next, calm_behind, calm_leaf, calm_tree, settled, Made, made_leaf, made_tree, is_operated, made_elsewhere, made_lost}
-use Rattle.rnix_rows.proofs.WantingRowStates.{wants, is_last_at, go_further}
 
 -- so much is known of the row of a kind of node at a state, with the trees before it, its other trees and the items that are left: it is inside more
 -- nodes than counted places, and at least as many items as such places come before it, one fewer where the row begins

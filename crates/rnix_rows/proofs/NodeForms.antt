@@ -1,33 +1,19 @@
 -- Nodes that are read hold items, but for attribute paths, and names stand where they may.
-use Rattle.std.proofs.Common.{◌≡◌, ℕ, Bool, true, false, List, [], ◌∷◌, ◌++◌, Some, refl, ap, sym, ◌∙◌, subst, append_assoc}
-use Rattle.std.specs.Prelude.{◌||◌, if◌then◌else◌}
-use Rattle.rnix_kinds.proofs.AllKinds.{implied}
-use Rattle.rnix_kinds.specs.declared.kinds.SyntaxKind.{SyntaxKind}
-use Rattle.rnix_kinds.specs.declared.kinds.SyntaxKind.TheVariants.{TOKEN_AT, TOKEN_IDENT, NODE_ATTRPATH, NODE_CUR_POS, NODE_IDENT, NODE_INHERIT, NODE_LITERAL, NODE_PATTERN, NODE_PAT_BIND}
-use Rattle.rnix_grammar.specs.declared.place.Place.{Place}
+use Rattle.std.proofs.Common.{◌≡◌, ℕ, Bool, true, false, List, [], ◌∷◌, ◌++◌, Some, refl, ap, sym, ◌∙◌, subst, append_assoc, ◌||◌, if◌then◌else◌}
+use Rattle.rnix_kinds.specs.declared.kinds.SyntaxKind.{SyntaxKind, TheVariants.{TOKEN_AT, TOKEN_IDENT, NODE_ATTRPATH, NODE_CUR_POS, NODE_IDENT, NODE_INHERIT}}
+use Rattle.rnix_kinds.{specs.declared.kinds.SyntaxKind.TheVariants.{NODE_LITERAL, NODE_PATTERN, NODE_PAT_BIND}, proofs.AllKinds.implied}
+use Rattle.rnix_grammar.specs.{declared.{place.Place.Place, symbol.Symbol.Symbol, until.Until.Until}, Fault.{Fault, ended_before}, Missing.{missing, run_at}}
+use Rattle.rnix_grammar.specs.{ExpectedItems.{expects, expects_end, IsExpected, stands_expected, stands_expected_in}, Reads.{Reads, end, leaf, missing_part}}
+use Rattle.rnix_grammar.specs.{Reads.{wrong, second, inner, IsWrong, IsOver}, Rows.{RowState, Start, At, fits, first, advance, advance_symbol, live, start}}
+use Rattle.rnix_grammar.specs.{Rows.{whole, counts}, AnnotatedForest.{Token, Note, Stray, Unwanted, Extra, Twice, TooDeep, AnnotatedForest, blank, token}}
+use Rattle.rnix_grammar.specs.{AnnotatedForest.{branch, tokens_in, is_some, leaf_kind_as, head_kind}, Symbols.symbol_at, Stands.{begins_with_token, suits}}
+use Rattle.{rnix_grammar.specs.{Stands.is_filled, Tables.wanted_kinds, TokenKinds.{is_at, is_dot}}, rnix_lemmas.proofs.Basics.{true_is_not_false, not_if}}
+use Rattle.rnix_lemmas.proofs.{Basics.some_same, EveryKind.{never, whenever_two}, LaterRowStates.is_start, NodeKinds.fits_expression, OpeningRows.HasRow}
+use Rattle.rnix_lemmas.proofs.{OpeningRows.{Opening, by_token, by_branch, by_fault, is_place, opened, no_row, live_to}, AnnotatedForestLemmas.tokens_in-row_of}
+use Rattle.rnix_rows.proofs.{BegunTrees.{MayBegin, Names, Fronts, begins_pattern}, WantingRowStates.{is_listed_in, is_listed, starts_first}}
 use Rattle.rnix_grammar.specs.declared.place.Place.TheVariants as p
-use Rattle.rnix_grammar.specs.declared.symbol.Symbol.{Symbol}
 use Rattle.rnix_grammar.specs.declared.symbol.Symbol.TheVariants as s
-use Rattle.rnix_grammar.specs.declared.until.Until.{Until}
 use Rattle.rnix_grammar.specs.declared.until.Until.TheVariants as u
-use Rattle.rnix_grammar.specs.Fault.{Fault, ended_before}
-use Rattle.rnix_grammar.specs.Missing.{missing, run_at}
-use Rattle.rnix_grammar.specs.ExpectedItems.{expects, expects_end, IsExpected, stands_expected, stands_expected_in}
-use Rattle.rnix_grammar.specs.Reads.{Reads, end, leaf, missing_part, wrong, second, inner, IsWrong, IsOver}
-use Rattle.rnix_grammar.specs.Rows.{RowState, Start, At, fits, first, advance, advance_symbol, live, start, whole, counts}
-use Rattle.rnix_grammar.specs.AnnotatedForest.{Token, Note, Stray, Unwanted, Extra, Twice, TooDeep, AnnotatedForest, blank, token, branch, tokens_in, is_some, leaf_kind_as, head_kind}
-use Rattle.rnix_grammar.specs.Symbols.{symbol_at}
-use Rattle.rnix_grammar.specs.Stands.{begins_with_token, suits, is_filled}
-use Rattle.rnix_grammar.specs.Tables.{wanted_kinds}
-use Rattle.rnix_grammar.specs.TokenKinds.{is_at, is_dot}
-use Rattle.rnix_lemmas.proofs.Basics.{true_is_not_false, not_if, some_same}
-use Rattle.rnix_lemmas.proofs.EveryKind.{never, whenever_two}
-use Rattle.rnix_lemmas.proofs.LaterRowStates.{is_start}
-use Rattle.rnix_lemmas.proofs.NodeKinds.{fits_expression}
-use Rattle.rnix_lemmas.proofs.OpeningRows.{HasRow, Opening, by_token, by_branch, by_fault, is_place, opened, no_row, live_to}
-use Rattle.rnix_lemmas.proofs.AnnotatedForestLemmas.{tokens_in-row_of}
-use Rattle.rnix_rows.proofs.BegunTrees.{MayBegin, Names, Fronts, begins_pattern}
-use Rattle.rnix_rows.proofs.WantingRowStates.{is_listed_in, is_listed, starts_first}
 
 some_left : (ts us : List Token) → is_some ts ≡ true → is_some (ts ++ us) ≡ true
 some_left [] us h = absurd (true_is_not_false (sym h))

@@ -1,21 +1,10 @@
 -- The errors of a whole text, and the elements of its tree that they are of.
 use Rattle.std.proofs.Common.{◌≡◌, List, [], None, Some, refl, sym, subst, append-nil}
-use Rattle.rnix_kinds.specs.declared.kinds.SyntaxKind.TheVariants.{NODE_ROOT}
-use Rattle.rnix_kinds.specs.Lexical.Tokens.{Lexeme}
-use Rattle.rnix_green.specs.Forest.{empty}
-use Rattle.rnix_green.specs.Tree.{Tree, forest_of}
-use Rattle.rnix_grammar.specs.Fault.{Fault}
-use Rattle.rnix_grammar.specs.AnnotatedForest.{AnnotatedForest, blank, forget, without_trivia}
-use Rattle.rnix_grammar.specs.Repaired.{others}
-use Rattle.rnix_grammar.specs.Stands.{StandsWhole}
-use Rattle.rnix_grammar.specs.Parsed.{IsParsed}
-use Rattle.rnix_grammar.specs.Ranges.{of_nodes, error_nodes, at_fault_from, at_fault, AreErrorsOf}
-use Rattle.rnix_rows.proofs.StandsFilled.{stands_marked, marked_without_trivia}
-use Rattle.rnix_rows.proofs.PlacedTokens.{ArePlaced, placed_all}
-use Rattle.rnix_rows.proofs.RowsIn.{IsRowIn, row_whole, row_inside}
-use Rattle.rnix_rows.proofs.ErrorElements.{IsSound}
-use Rattle.rnix_rows.proofs.WalkErrors.{node_errors, walk_errors}
-use Rattle.rnix_rows.proofs.OrderedErrors.{row_errors}
+use Rattle.{rnix_kinds.specs.{declared.kinds.SyntaxKind.TheVariants.NODE_ROOT, Lexical.Tokens.Lexeme}, rnix_green.specs.{Forest.empty, Tree.{Tree, forest_of}}}
+use Rattle.rnix_grammar.specs.{Fault.Fault, AnnotatedForest.{AnnotatedForest, blank, forget, without_trivia}, Repaired.others, Stands.StandsWhole}
+use Rattle.rnix_grammar.specs.{Parsed.IsParsed, Ranges.{of_nodes, error_nodes, at_fault_from, at_fault, AreErrorsOf}}
+use Rattle.rnix_rows.proofs.{StandsFilled.{stands_marked, marked_without_trivia}, PlacedTokens.{ArePlaced, placed_all}, RowsIn.{IsRowIn, row_whole, row_inside}}
+use Rattle.rnix_rows.proofs.{ErrorElements.IsSound, WalkErrors.{node_errors, walk_errors}, OrderedErrors.row_errors}
 
 -- the tree of a forest
 abbrev pub tree_of : AnnotatedForest → Tree

@@ -1,28 +1,12 @@
 -- The rows of a tree at each of its elements.
-use Rattle.std.proofs.Common.{◌≡◌, ℕ, ◌+◌, Bool, true, false, List, [], ◌∷◌, refl, ap, sym, ◌∙◌, subst}
-use Rattle.std.proofs.lemmas.Bool.{and_parts}
-use Rattle.std.specs.Prelude.{if◌then◌else◌, ◌==◌, nat_lt}
-use Rattle.rnix_kinds.specs.declared.kinds.SyntaxKind.{SyntaxKind}
-use Rattle.rnix_kinds.specs.declared.kinds.SyntaxKind.TheVariants.{NODE_ERROR, NODE_ROOT}
-use Rattle.rnix_kinds.specs.SyntaxKind.{is_token}
-use Rattle.rnix_kinds.specs.Lexical.Tokens.{Lexeme}
-use Rattle.rnix_green.specs.Forest.{Forest, empty, leaf, node, element_count}
-use Rattle.rnix_green.specs.Tree.{Tree, forest_of, part_of}
-use Rattle.rnix_grammar.specs.Fault.{Fault}
-use Rattle.rnix_grammar.specs.AnnotatedForest.{AnnotatedForest, blank, token, branch, fault, forget, tokens_in, HaveLeafKinds}
-use Rattle.rnix_grammar.specs.Rows.{is_row, whole, start, advance}
-use Rattle.rnix_grammar.specs.Shape.{item_kinds, AreRows, IsShaped}
-use Rattle.rnix_grammar.specs.Named.{AreSpelled}
-use Rattle.rnix_grammar.specs.Derivation.{has_tokens_alone}
-use Rattle.rnix_grammar.specs.Parsed.{IsParsed}
-use Rattle.rnix_lemmas.proofs.Basics.{not_if}
-use Rattle.rnix_lemmas.proofs.EntryNames.{both_true}
+use Rattle.std.proofs.{Common.{◌≡◌, ℕ, ◌+◌, Bool, true, false, List, [], ◌∷◌, refl, ap, sym, ◌∙◌, subst, if◌then◌else◌, ◌==◌, nat_lt}, lemmas.Bool.and_parts}
+use Rattle.rnix_kinds.specs.{declared.kinds.SyntaxKind.{SyntaxKind, TheVariants.{NODE_ERROR, NODE_ROOT}}, SyntaxKind.is_token, Lexical.Tokens.Lexeme}
+use Rattle.{rnix_kinds.proofs.AllKinds.implied, rnix_green.specs.{Forest.{Forest, empty, leaf, node, element_count}, Tree.{Tree, forest_of, part_of}}}
+use Rattle.rnix_grammar.specs.{Fault.Fault, AnnotatedForest.{AnnotatedForest, blank, token, branch, fault, forget, tokens_in, HaveLeafKinds}, Rows.is_row}
+use Rattle.rnix_grammar.specs.{Rows.{whole, start, advance}, Shape.{item_kinds, AreRows, IsShaped}, Named.AreSpelled, Derivation.has_tokens_alone}
+use Rattle.{rnix_grammar.specs.Parsed.IsParsed, rnix_lemmas.proofs.{Basics.not_if, EntryNames.both_true, SpelledLemmas.{AreRuled, spelled_from}}}
+use Rattle.rnix_lemmas.proofs.{RowKinds.{has_row, starts_row}, ImitateLemmas.run_live, OpeningRows.{spelled_first, spelled_rest}}
 use Rattle.rnix_rows.proofs.StandsTold.{told_token, spelled_token}
-use Rattle.rnix_lemmas.proofs.SpelledLemmas.{AreRuled, spelled_from}
-use Rattle.rnix_kinds.proofs.AllKinds.{implied}
-use Rattle.rnix_lemmas.proofs.RowKinds.{has_row, starts_row}
-use Rattle.rnix_lemmas.proofs.ImitateLemmas.{run_live}
-use Rattle.rnix_lemmas.proofs.OpeningRows.{spelled_first, spelled_rest}
 
 -- each node has a row of its kind
 abbrev pub HasRows : Forest → Type 0

@@ -1,9 +1,7 @@
 -- Tokens that stand one behind another, and the text that they have.
 use Rattle.std.proofs.Common.{◌≡◌, ℕ, ◌+◌, true, List, [], ◌∷◌, ◌++◌, length, refl, ap, sym, ◌∙◌, arith, length-append, subst}
-use Rattle.rnix_kinds.specs.Lexical.Tokens.{Lexeme}
-use Rattle.rnix_green.specs.Forest.{text_of}
-use Rattle.rnix_green.specs.Range.{Extent}
-use Rattle.rnix_grammar.specs.AnnotatedForest.{Token, AnnotatedForest, blank, token, branch, fault, tokens_in, forget, placed_from, is_some, extent_of, end_from}
+use Rattle.{rnix_kinds.specs.Lexical.Tokens.Lexeme, rnix_green.specs.{Forest.text_of, Range.Extent}, rnix_grammar.specs.AnnotatedForest.Token}
+use Rattle.rnix_grammar.specs.AnnotatedForest.{AnnotatedForest, blank, token, branch, fault, tokens_in, forget, placed_from, is_some, extent_of, end_from}
 use Rattle.rnix_lemmas.proofs.Basics.{true_is_not_false}
 
 -- each token stands behind the one before, the first at the given place

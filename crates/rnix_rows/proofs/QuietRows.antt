@@ -1,34 +1,21 @@
 -- Which items go on with a complete node, and what is so of a row where the next item goes on with none of its trees.
-use Rattle.std.proofs.Common.{◌≡◌, ℕ, ◌≤◌, ◌<◌, Bool, true, false, List, [], ◌∷◌, Some, refl, ap, sym, ◌∙◌, subst, arith, Option, None}
-use Rattle.std.proofs.lemmas.Bool.Decides.{nat_tests}
-use Rattle.std.specs.List.{list_all}
-use Rattle.std.specs.Prelude.{◌&&◌, if◌then◌else◌, nat_eq, nat_le, ◌||◌}
-use Rattle.rnix_kinds.specs.declared.kinds.SyntaxKind.{SyntaxKind}
-use Rattle.rnix_kinds.specs.declared.kinds.SyntaxKind.TheVariants.{TOKEN_INVERT, NODE_APPLY, NODE_ATTRPATH, NODE_BIN_OP, NODE_LITERAL, NODE_UNARY_OP, TOKEN_SUB}
-use Rattle.rnix_kinds.proofs.AllKinds.{all_kinds, implied}
-use Rattle.rnix_grammar.specs.Levels.{binding_power, right_of, high_of}
-use Rattle.rnix_grammar.specs.AnnotatedForest.{Token, Note, AnnotatedForest, blank, token, branch, fault, ◌⊕◌, one_branch, one_fault, head_kind, one_token}
-use Rattle.rnix_grammar.specs.Rows.{is_simple, is_negated, is_questioned, is_operand, is_expression, is_infix, fits, RowState, Start, BeforeOperator, At, advance, advance_symbol, live, start, whole}
-use Rattle.rnix_grammar.specs.Stands.{continues_kind, is_attrpath, continues, seen_as, last_from, last_kind}
-use Rattle.rnix_grammar.specs.TreeLevels.{operator_in, prefix_in, calls_or}
-use Rattle.rnix_grammar.specs.Operands.{follows, goes_on, IsFollowed, IsOperand, level_at}
-use Rattle.rnix_lemmas.proofs.Basics.{true_is_not_false, some_same}
-use Rattle.rnix_lemmas.proofs.FollowLemmas.{goes_after, FollowedTo, followed_infix, followed_inverted, followed_negated, follows_token}
-use Rattle.rnix_lemmas.proofs.LevelLemmas.{operates, operand_binding_power, questioned_operand, negated_questioned, simple_negated}
-use Rattle.rnix_grammar.specs.declared.place.Place.{Place}
+use Rattle.std.{specs.List.list_all, proofs.Common.{◌≡◌, ℕ, ◌≤◌, ◌<◌, Bool, true, false, List, [], ◌∷◌, Some, refl, ap, sym, ◌∙◌, subst, arith, Option, None}}
+use Rattle.std.proofs.{Common.{◌&&◌, if◌then◌else◌, nat_eq, nat_le, ◌||◌}, lemmas.Bool.Decides.nat_tests}
+use Rattle.rnix_kinds.specs.declared.kinds.SyntaxKind.{SyntaxKind, TheVariants.{TOKEN_INVERT, NODE_APPLY, NODE_ATTRPATH, NODE_BIN_OP, NODE_LITERAL}}
+use Rattle.rnix_kinds.{specs.declared.kinds.SyntaxKind.TheVariants.{NODE_UNARY_OP, TOKEN_SUB}, proofs.AllKinds.{all_kinds, implied}}
+use Rattle.rnix_grammar.specs.{Levels.{binding_power, right_of, high_of}, AnnotatedForest.{Token, Note, AnnotatedForest, blank, token, branch, fault, ◌⊕◌}}
+use Rattle.rnix_grammar.specs.{AnnotatedForest.{one_branch, one_fault, head_kind, one_token}, Rows.{is_simple, is_negated, is_questioned, is_operand}}
+use Rattle.rnix_grammar.specs.Rows.{is_expression, is_infix, fits, RowState, Start, BeforeOperator, At, advance, advance_symbol, live, start, whole}
+use Rattle.rnix_grammar.specs.{Stands.{continues_kind, is_attrpath, continues, seen_as, last_from, last_kind}, TreeLevels.{operator_in, prefix_in, calls_or}}
+use Rattle.rnix_grammar.specs.{Operands.{follows, goes_on, IsFollowed, IsOperand, level_at}, declared.{place.Place.Place, symbol.Symbol.Symbol}, Fault.Fault}
+use Rattle.rnix_grammar.specs.{Fault.ended, Missing.missing, ExpectedItems.{expects_in, IsExpected}, Symbols.{symbol_at, level_in}, TokenKinds.is_dot}
+use Rattle.rnix_lemmas.proofs.{Basics.{true_is_not_false, some_same}, FollowLemmas.{goes_after, FollowedTo, followed_infix, followed_inverted}}
+use Rattle.rnix_lemmas.proofs.{FollowLemmas.{followed_negated, follows_token}, LevelLemmas.{operates, operand_binding_power, questioned_operand}}
+use Rattle.rnix_lemmas.proofs.{LevelLemmas.{negated_questioned, simple_negated}, EveryKind.never, FirstTrees.{IsSingle, single_operator}, OpeningRows.live_to}
+use Rattle.{rnix_lemmas.proofs.{OpeningRows.to_live, RowKinds.has_row}, rnix_rows.proofs.WantingRowStates.{wants, is_parted_in, is_parted, is_closed}}
+use Rattle.rnix_rows.proofs.WantingRowStates.{closed_continues, closed_before}
 use Rattle.rnix_grammar.specs.declared.place.Place.TheVariants as p
-use Rattle.rnix_grammar.specs.declared.symbol.Symbol.{Symbol}
 use Rattle.rnix_grammar.specs.declared.symbol.Symbol.TheVariants as s
-use Rattle.rnix_grammar.specs.Fault.{Fault, ended}
-use Rattle.rnix_grammar.specs.Missing.{missing}
-use Rattle.rnix_grammar.specs.ExpectedItems.{expects_in, IsExpected}
-use Rattle.rnix_grammar.specs.Symbols.{symbol_at, level_in}
-use Rattle.rnix_grammar.specs.TokenKinds.{is_dot}
-use Rattle.rnix_lemmas.proofs.EveryKind.{never}
-use Rattle.rnix_lemmas.proofs.FirstTrees.{IsSingle, single_operator}
-use Rattle.rnix_lemmas.proofs.OpeningRows.{live_to, to_live}
-use Rattle.rnix_lemmas.proofs.RowKinds.{has_row}
-use Rattle.rnix_rows.proofs.WantingRowStates.{wants, is_parted_in, is_parted, is_closed, closed_continues, closed_before}
 
 -- the next of some items goes on with a node, if it goes on with the node's kind
 abbrev pub GoesOn : SyntaxKind → AnnotatedForest → List Token → Type 0

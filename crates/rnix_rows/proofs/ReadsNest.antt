@@ -1,35 +1,18 @@
 -- What is read nests no deeper than may be, error nodes aside, and what is nested too deep is inside as many counted places as may be.
-use Rattle.std.proofs.Common.{◌≡◌, ℕ, suc, ◌+◌, ◌<◌, ◌≤◌, Bool, true, false, List, [], ◌++◌, Option, Some, None, refl, ap, sym, ◌∙◌, subst, arith}
-use Rattle.std.specs.Prelude.{max, if◌then◌else◌}
-use Rattle.rnix_kinds.proofs.AllKinds.{implied}
-use Rattle.rnix_kinds.specs.declared.kinds.SyntaxKind.{SyntaxKind}
-use Rattle.rnix_kinds.specs.declared.kinds.SyntaxKind.TheVariants.{NODE_ATTRPATH_VALUE, NODE_ROOT}
-use Rattle.rnix_grammar.specs.declared.place.Place.{Place}
-use Rattle.rnix_grammar.specs.declared.place.Place.TheVariants.{RootStart}
-use Rattle.rnix_grammar.specs.declared.symbol.Symbol.{Symbol}
+use Rattle.std.proofs.Common.{◌≡◌, ℕ, suc, ◌+◌, ◌<◌, ◌≤◌, Bool, true, false, List, [], ◌++◌, Option, Some, None, refl, ap, sym, ◌∙◌, subst, arith, max}
+use Rattle.std.proofs.Common.{if◌then◌else◌}
+use Rattle.rnix_kinds.{specs.declared.kinds.SyntaxKind.{SyntaxKind, TheVariants.{NODE_ATTRPATH_VALUE, NODE_ROOT}}, proofs.AllKinds.implied}
+use Rattle.rnix_grammar.specs.{declared.{place.Place.{Place, TheVariants.RootStart}, symbol.Symbol.Symbol}, Fault.Fault, Symbols.{symbol_at, level_in}}
+use Rattle.rnix_grammar.specs.{Tables.{is_wanted, closes, depth_limit}, AnnotatedForest.{Token, Note, Stray, Unwanted, Extra, Twice, TooDeep, AnnotatedForest}}
+use Rattle.rnix_grammar.specs.{AnnotatedForest.{blank, token, branch, fault, one_branch, is_some, tokens_in, forget}, Rows.{is_entry, RowState, At, to}}
+use Rattle.rnix_grammar.specs.{Rows.{advance, advance_symbol, live, start, counts}, BehindErrors.{go_run, go_unwanted, go_error}, ExpectedItems.expects_end}
+use Rattle.rnix_grammar.specs.{ExpectedItems.{stands_expected_in, stands_expected, IsExpected}, Operands.{IsBegun, IsOperand, level_at}, Reads.{Reads, end}}
+use Rattle.rnix_grammar.specs.{Reads.{leaf, missing_part, wrong, second, inner, deeper, IsWrong, ReadsWhole}, Nesting.{depth_of, IsLimited, AreLimited}}
+use Rattle.{rnix_grammar.specs.Nest.nest, rnix_lemmas.proofs.{Basics.{true_is_not_false, not_nil, none_left, none_right}, EveryKind.{never, only_both}}}
+use Rattle.rnix_lemmas.proofs.{RowKinds.{has_row, no_wanted, no_closing}, OpeningRows.{is_place, live_to}, NestRowStates.is_pathless, RowEndings.row_tokens}
+use Rattle.{rnix_lemmas.proofs.RowNesting.nesting, rnix_rows.proofs.{BareFacts.{is_bare, missing_bare, literal_bare}, NodeForms.{unplaced_start, row_some}}}
+use Rattle.rnix_rows.proofs.{StandsShapes.{AreBareRows, IsBare}, Exactly.bare_nest}
 use Rattle.rnix_grammar.specs.declared.symbol.Symbol.TheVariants as s
-use Rattle.rnix_grammar.specs.Fault.{Fault}
-use Rattle.rnix_grammar.specs.Symbols.{symbol_at, level_in}
-use Rattle.rnix_grammar.specs.Tables.{is_wanted, closes, depth_limit}
-use Rattle.rnix_grammar.specs.AnnotatedForest.{Token, Note, Stray, Unwanted, Extra, Twice, TooDeep, AnnotatedForest, blank, token, branch, fault, one_branch, is_some, tokens_in, forget}
-use Rattle.rnix_grammar.specs.Rows.{is_entry, RowState, At, to, advance, advance_symbol, live, start, counts}
-use Rattle.rnix_grammar.specs.BehindErrors.{go_run, go_unwanted, go_error}
-use Rattle.rnix_grammar.specs.ExpectedItems.{expects_end, stands_expected_in, stands_expected, IsExpected}
-use Rattle.rnix_grammar.specs.Operands.{IsBegun, IsOperand, level_at}
-use Rattle.rnix_grammar.specs.Reads.{Reads, end, leaf, missing_part, wrong, second, inner, deeper, IsWrong, ReadsWhole}
-use Rattle.rnix_grammar.specs.Nesting.{depth_of, IsLimited, AreLimited}
-use Rattle.rnix_grammar.specs.Nest.{nest}
-use Rattle.rnix_lemmas.proofs.Basics.{true_is_not_false, not_nil, none_left, none_right}
-use Rattle.rnix_lemmas.proofs.EveryKind.{never, only_both}
-use Rattle.rnix_lemmas.proofs.RowKinds.{has_row, no_wanted, no_closing}
-use Rattle.rnix_lemmas.proofs.OpeningRows.{is_place, live_to}
-use Rattle.rnix_lemmas.proofs.NestRowStates.{is_pathless}
-use Rattle.rnix_lemmas.proofs.RowEndings.{row_tokens}
-use Rattle.rnix_lemmas.proofs.RowNesting.{nesting}
-use Rattle.rnix_rows.proofs.BareFacts.{is_bare, missing_bare, literal_bare}
-use Rattle.rnix_rows.proofs.NodeForms.{unplaced_start, row_some}
-use Rattle.rnix_rows.proofs.StandsShapes.{AreBareRows, IsBare}
-use Rattle.rnix_rows.proofs.Exactly.{bare_nest}
 
 -- an error node goes on where it stands
 wrong_goes : (n : Note) (d : ℕ) (q r : RowState) (ts vs : List Token) → IsWrong n d q r ts vs → go_error q n ≡ r

@@ -1,39 +1,22 @@
 -- What is read stands as it may.
 use Rattle.std.proofs.Common.{◌≡◌, ℕ, suc, ◌+◌, ◌≤◌, ◌<◌, Bool, true, false, List, [], ◌∷◌, ◌++◌, length, Some, refl, ap, sym, ◌∙◌, subst, append_assoc, arith}
-use Rattle.std.proofs.lemmas.Bool.{and_from}
-use Rattle.std.specs.Prelude.{◌||◌, if◌then◌else◌}
-use Rattle.rnix_kinds.specs.declared.kinds.SyntaxKind.{SyntaxKind}
-use Rattle.rnix_kinds.specs.declared.kinds.SyntaxKind.TheVariants.{NODE_ATTRPATH, NODE_ERROR, NODE_PATTERN}
-use Rattle.rnix_kinds.proofs.AllKinds.{every}
-use Rattle.rnix_green.specs.Equality.{same_kind-decides}
-use Rattle.rnix_grammar.specs.declared.place.Place.{Place}
-use Rattle.rnix_grammar.specs.declared.place.Place.TheVariants as p
-use Rattle.rnix_grammar.specs.declared.symbol.Symbol.{Symbol}
-use Rattle.rnix_grammar.specs.declared.symbol.Symbol.TheVariants as s
-use Rattle.rnix_grammar.specs.Fault.{Fault}
-use Rattle.rnix_grammar.specs.ExpectedItems.{IsExpected, stands_expected}
-use Rattle.rnix_grammar.specs.Operands.{follows}
-use Rattle.rnix_grammar.specs.Reads.{Reads, ReadsWhole, end as at_end, leaf as a_leaf, missing_part as a_missing, wrong as an_error, second as a_name, inner as a_tree, deeper}
-use Rattle.rnix_grammar.specs.Rows.{RowState, At, SecondStart, advance, live, start, whole, counts}
-use Rattle.rnix_grammar.specs.AnnotatedForest.{Token, Twice, AnnotatedForest, blank, branch, fault, ◌⊕◌, one_token, one_branch, one_fault, row_of, tokens_in, is_some, head_kind}
-use Rattle.rnix_grammar.specs.Symbols.{symbol_at, is_counted}
-use Rattle.rnix_grammar.specs.Stands.{Stands, StandsWhole, end, leaf, missing_part, wrong, second, inner, is_attrpath, continues_kind, suits, is_filled, is_formed}
-use Rattle.rnix_grammar.specs.TokenKinds.{is_dot}
-use Rattle.rnix_lemmas.proofs.Basics.{true_is_not_false, not_if}
-use Rattle.rnix_lemmas.proofs.FirstTrees.{a_node}
-use Rattle.rnix_lemmas.proofs.ImitateLemmas.{start_half}
-use Rattle.rnix_lemmas.proofs.LaterRowStates.{is_start}
-use Rattle.rnix_lemmas.proofs.NestPlaces.{start_expected}
-use Rattle.rnix_lemmas.proofs.OpeningRows.{is_place}
-use Rattle.rnix_lemmas.proofs.RowEndings.{none_behind}
-use Rattle.rnix_lemmas.proofs.AnnotatedForestLemmas.{⊕-assoc, ⊕-blank, tokens_in-row_of}
-use Rattle.rnix_rows.proofs.BegunTrees.{Fronts, Known, node_known}
-use Rattle.rnix_rows.proofs.BesideErrors.{beside, token_opened, node_leveled}
-use Rattle.rnix_rows.proofs.KeptRows.{Kept, kept_leaf, kept_tree, kept_wrong, kept_lost, kept_second}
+use Rattle.std.proofs.{Common.{◌||◌, if◌then◌else◌}, lemmas.Bool.and_from}
+use Rattle.rnix_kinds.{specs.declared.kinds.SyntaxKind.{SyntaxKind, TheVariants.{NODE_ATTRPATH, NODE_ERROR, NODE_PATTERN}}, proofs.AllKinds.every}
+use Rattle.{rnix_green.specs.Equality.same_kind-decides, rnix_grammar.specs.{declared.{place.Place.Place, symbol.Symbol.Symbol}, Fault.Fault}}
+use Rattle.rnix_grammar.specs.{ExpectedItems.{IsExpected, stands_expected}, Operands.follows, Reads.{Reads, ReadsWhole, end as at_end, leaf as a_leaf}}
+use Rattle.rnix_grammar.specs.{Reads.{missing_part as a_missing, wrong as an_error, second as a_name, inner as a_tree, deeper}, Rows.{RowState, At}}
+use Rattle.rnix_grammar.specs.{Rows.{SecondStart, advance, live, start, whole, counts}, AnnotatedForest.{Token, Twice, AnnotatedForest, blank, branch, fault}}
+use Rattle.rnix_grammar.specs.{AnnotatedForest.{◌⊕◌, one_token, one_branch, one_fault, row_of, tokens_in, is_some, head_kind}, Symbols.{symbol_at, is_counted}}
+use Rattle.rnix_grammar.specs.Stands.{Stands, StandsWhole, end, leaf, missing_part, wrong, second, inner, is_attrpath, continues_kind, suits, is_filled}
+use Rattle.{rnix_grammar.specs.{Stands.is_formed, TokenKinds.is_dot}, rnix_lemmas.proofs.{Basics.{true_is_not_false, not_if}, FirstTrees.a_node}}
+use Rattle.rnix_lemmas.proofs.{ImitateLemmas.start_half, LaterRowStates.is_start, NestPlaces.start_expected, OpeningRows.is_place, RowEndings.none_behind}
+use Rattle.{rnix_lemmas.proofs.AnnotatedForestLemmas.{⊕-assoc, ⊕-blank, tokens_in-row_of}, rnix_rows.proofs.BegunTrees.{Fronts, Known, node_known}}
+use Rattle.rnix_rows.proofs.{BesideErrors.{beside, token_opened, node_leveled}, KeptRows.{Kept, kept_leaf, kept_tree, kept_wrong, kept_lost, kept_second}}
 use Rattle.rnix_rows.proofs.NodeForms.{start_uncounted, start_unplaced, unplaced_start, row_some, node_filled, node_suits, is_path, path_ends, no_dot}
-use Rattle.rnix_rows.proofs.QuietRows.{Made, other, made_start, made_end, settled}
-use Rattle.rnix_rows.proofs.StandsRows.{stands_row}
-use Rattle.rnix_rows.proofs.WantingRowStates.{is_last_at, is_listed_in, is_listed, starts_first}
+use Rattle.rnix_rows.proofs.{QuietRows.{Made, other, made_start, made_end, settled}, StandsRows.stands_row, WantingRowStates.{is_last_at, is_listed_in}}
+use Rattle.rnix_rows.proofs.WantingRowStates.{is_listed, starts_first}
+use Rattle.rnix_grammar.specs.declared.place.Place.TheVariants as p
+use Rattle.rnix_grammar.specs.declared.symbol.Symbol.TheVariants as s
 
 start_further : (k : SyntaxKind) → is_last_at (start k) ≡ false
 start_further k = not_if (is_last_at (start k)) (every (λ j. if is_last_at (start j) then false else true) refl k)

@@ -1,11 +1,8 @@
 -- Rows of a tree: where their elements stand in it, and where their text is.
-use Rattle.std.proofs.Common.{◌≡◌, ℕ, suc, ◌+◌, ◌-◌, ◌<◌, ◌≤◌, List, [], ◌++◌, length, take, drop, Option, Some, None, refl, ap, sym, ◌∙◌, arith, length-append, append_assoc, append-nil}
-use Rattle.std.proofs.lemmas.List.{take_at, drop_at}
-use Rattle.rnix_kinds.specs.declared.kinds.SyntaxKind.{SyntaxKind}
-use Rattle.rnix_green.specs.Forest.{Forest, leaf, node, text_of, element_count}
-use Rattle.rnix_green.specs.Tree.{Tree, Item, items_of, forest_of, item, text_at}
-use Rattle.rnix_green.proofs.NestLemmas.{at, inside, beyond, behind}
-use Rattle.rnix_green.proofs.PieceLemmas.{length-items_from}
+use Rattle.std.proofs.Common.{◌≡◌, ℕ, suc, ◌+◌, ◌-◌, ◌<◌, ◌≤◌, List, [], ◌++◌, length, take, drop, Option, Some, None, refl, ap, sym, ◌∙◌, arith, length-append}
+use Rattle.std.proofs.{Common.{append_assoc, append-nil}, lemmas.List.{take_at, drop_at}}
+use Rattle.{rnix_kinds.specs.declared.kinds.SyntaxKind.SyntaxKind, rnix_green.specs.{Forest.{Forest, leaf, node, text_of, element_count}, Tree.{Tree, Item}}}
+use Rattle.rnix_green.{specs.Tree.{items_of, forest_of, item, text_at}, proofs.{NestLemmas.{at, inside, beyond, behind}, PieceLemmas.length-items_from}}
 
 -- the elements from the number n on are those of a row, and the text from the offset s on is theirs
 pub record IsRowIn (t : Tree) (n s : ℕ) (p : Option ℕ) (f : Forest) : Type 0 where

@@ -1,13 +1,9 @@
 -- Where no node begins or ends with trivia, trivia between two tokens are children of the smallest node that holds both.
 use Rattle.std.proofs.Common.{◌≡◌, inl, inr, false, List, [], ◌∷◌, ◌++◌, refl, sym, ◌∙◌, subst, append_assoc, append-nil}
-use Rattle.rnix_kinds.specs.declared.kinds.SyntaxKind.{SyntaxKind}
-use Rattle.rnix_kinds.specs.SyntaxKind.{is_trivia}
-use Rattle.rnix_green.specs.Forest.{Forest, empty, leaf, node, join}
-use Rattle.rnix_green.specs.Tree.{Tree}
-use Rattle.rnix_grammar.specs.Trim.{BeginsWithItem, EndsWithItem, leaf_kinds, AreNodesTrimmed}
-use Rattle.rnix_grammar.specs.Seams.{HasItem, AreTrivia, first_leaves, last_from, HaveNone, HasSeams, HaveSeams, AreTriviaBetween}
-use Rattle.rnix_lemmas.proofs.EdgeLemmas.{some, ends_behind}
-use Rattle.rnix_lemmas.proofs.Basics.{true_is_not_false}
+use Rattle.{rnix_kinds.specs.{declared.kinds.SyntaxKind.SyntaxKind, SyntaxKind.is_trivia}, rnix_green.specs.Forest.{Forest, empty, leaf, node, join}}
+use Rattle.{rnix_green.specs.Tree.Tree, rnix_grammar.specs.{Trim.{BeginsWithItem, EndsWithItem, leaf_kinds, AreNodesTrimmed}, Seams.{HasItem, AreTrivia}}}
+use Rattle.{rnix_grammar.specs.Seams.{first_leaves, last_from, HaveNone, HasSeams, HaveSeams, AreTriviaBetween}, rnix_lemmas.proofs.EdgeLemmas.some}
+use Rattle.rnix_lemmas.proofs.{EdgeLemmas.ends_behind, Basics.true_is_not_false}
 
 -- the parts of a trimmed row are trimmed
 trimmed_parts : (f g : Forest) → AreNodesTrimmed (join f g) → AreNodesTrimmed f × AreNodesTrimmed g

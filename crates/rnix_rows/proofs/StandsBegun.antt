@@ -1,23 +1,14 @@
 -- In a repaired row, but for numbers that stand for no token, each node's children begin a row of its kind.
-use Rattle.std.proofs.Common.{◌≡◌, ℕ, true, false, List, [], ◌∷◌, refl, ap, sym, ◌∙◌, subst}
-use Rattle.std.specs.Prelude.{if◌then◌else◌}
-use Rattle.std.proofs.lemmas.Bool.{and_parts}
-use Rattle.rnix_kinds.specs.declared.kinds.SyntaxKind.{SyntaxKind}
-use Rattle.rnix_kinds.specs.declared.kinds.SyntaxKind.TheVariants.{NODE_ATTRPATH}
-use Rattle.rnix_green.specs.Forest.{Forest, empty}
+use Rattle.std.proofs.{Common.{◌≡◌, ℕ, true, false, List, [], ◌∷◌, refl, ap, sym, ◌∙◌, subst, if◌then◌else◌}, lemmas.Bool.and_parts}
+use Rattle.{rnix_kinds.specs.declared.kinds.SyntaxKind.{SyntaxKind, TheVariants.NODE_ATTRPATH}, rnix_green.specs.Forest.{Forest, empty}}
+use Rattle.rnix_grammar.specs.{Fault.Fault, AnnotatedForest.{Token, Note, Stray, Twice, TooDeep, AnnotatedForest, fault, tokens_in, is_some}, Rows.RowState}
+use Rattle.rnix_grammar.specs.{Rows.{At, advance, whole, live, start, run, IsBeginning}, Stands.{Stands, end, leaf, missing_part, wrong, second, inner, suits}}
+use Rattle.{rnix_grammar.specs.{Stands.is_formed, Repaired.{patch, held, kinds_of, AreBegun}}, rnix_lemmas.proofs.AnnotatedForestLemmas.tokens_in-row_of}
+use Rattle.rnix_lemmas.proofs.{Completable.IsCompletable, ImitateLemmas.{Imitates, imitates_self, imitates_same, imitates_both, second_imitates, patched}}
+use Rattle.rnix_lemmas.proofs.{ImitateLemmas.{beside_imitates, imitates_completable}, RowEndings.{beside_last, row_tokens}, Basics.{true_is_not_false, not_nil}}
+use Rattle.{rnix_lemmas.proofs.Basics.{none_right, none_left}, rnix_rows.proofs.{BareFacts.{is_bare, missing_bare, literal_bare, no_path}, StandsRows.IsAside}}
+use Rattle.rnix_rows.proofs.StandsRows.{a_number, a_run, at_end, aside, stands_completable}
 use Rattle.rnix_grammar.specs.declared.place.Place.TheVariants as places
-use Rattle.rnix_grammar.specs.Fault.{Fault}
-use Rattle.rnix_grammar.specs.AnnotatedForest.{Token, Note, Stray, Twice, TooDeep, AnnotatedForest, fault, tokens_in, is_some}
-use Rattle.rnix_grammar.specs.Rows.{RowState, At, advance, whole, live, start, run, IsBeginning}
-use Rattle.rnix_grammar.specs.Stands.{Stands, end, leaf, missing_part, wrong, second, inner, suits, is_formed}
-use Rattle.rnix_grammar.specs.Repaired.{patch, held, kinds_of, AreBegun}
-use Rattle.rnix_rows.proofs.BareFacts.{is_bare, missing_bare, literal_bare, no_path}
-use Rattle.rnix_lemmas.proofs.AnnotatedForestLemmas.{tokens_in-row_of}
-use Rattle.rnix_lemmas.proofs.Completable.{IsCompletable}
-use Rattle.rnix_lemmas.proofs.ImitateLemmas.{Imitates, imitates_self, imitates_same, imitates_both, second_imitates, patched, beside_imitates, imitates_completable}
-use Rattle.rnix_rows.proofs.StandsRows.{IsAside, a_number, a_run, at_end, aside, stands_completable}
-use Rattle.rnix_lemmas.proofs.RowEndings.{beside_last, row_tokens}
-use Rattle.rnix_lemmas.proofs.Basics.{true_is_not_false, not_nil, none_right, none_left}
 
 -- a node without tokens is an attribute path
 pub path_alone : (q : RowState) (k : SyntaxKind) (c : AnnotatedForest) → is_formed q k c ≡ true → tokens_in c ≡ [] → k ≡ NODE_ATTRPATH

@@ -1,18 +1,12 @@
 -- The errors of a row that stands as it may.
 use Rattle.std.proofs.Common.{◌≡◌, ◌⊎◌, inl, inr, ℕ, true, false, List, [], ◌∷◌, ◌++◌, Option, Some, None, refl, ap, sym, ◌∙◌, subst, append_assoc}
-use Rattle.std.specs.Prelude.{if◌then◌else◌}
-use Rattle.rnix_kinds.specs.declared.kinds.SyntaxKind.{SyntaxKind}
-use Rattle.rnix_kinds.specs.declared.kinds.SyntaxKind.TheVariants.{NODE_PAT_ENTRY}
-use Rattle.rnix_grammar.specs.Fault.{Fault, named_twice}
-use Rattle.rnix_grammar.specs.AnnotatedForest.{Token, Note, Stray, Twice, TooDeep, AnnotatedForest, blank, branch, fault, ◌⊕◌, one_token, one_fault, row_of, tokens_in, extent_of}
-use Rattle.rnix_grammar.specs.Reports.{report, repeated_if, entry_name, has_entry, repeats}
-use Rattle.rnix_grammar.specs.Rows.{RowState}
-use Rattle.rnix_grammar.specs.Stands.{Stands, end, leaf, missing_part, wrong, second, inner, IsBeside}
-use Rattle.rnix_grammar.specs.Repaired.{is_ended, others, is_misplaced, NoneMisplaced, AreSettled, IsNamedList, AreNamedLists}
-use Rattle.rnix_grammar.specs.Shape.{reports_behind}
-use Rattle.rnix_lemmas.proofs.AnnotatedForestLemmas.{tokens_in-row_of}
-use Rattle.rnix_lemmas.proofs.MissingFacts.{missing_ended}
-use Rattle.rnix_lemmas.proofs.Basics.{true_is_not_false, not_nil, none_right, none_left}
+use Rattle.std.proofs.Common.{if◌then◌else◌}
+use Rattle.{rnix_kinds.specs.declared.kinds.SyntaxKind.{SyntaxKind, TheVariants.NODE_PAT_ENTRY}, rnix_grammar.specs.Fault.{Fault, named_twice}}
+use Rattle.rnix_grammar.specs.AnnotatedForest.{Token, Note, Stray, Twice, TooDeep, AnnotatedForest, blank, branch, fault, ◌⊕◌, one_token, one_fault, row_of}
+use Rattle.rnix_grammar.specs.{AnnotatedForest.{tokens_in, extent_of}, Reports.{report, repeated_if, entry_name, has_entry, repeats}, Rows.RowState}
+use Rattle.rnix_grammar.specs.{Stands.{Stands, end, leaf, missing_part, wrong, second, inner, IsBeside}, Repaired.{is_ended, others, is_misplaced}}
+use Rattle.rnix_grammar.specs.{Repaired.{NoneMisplaced, AreSettled, IsNamedList, AreNamedLists}, Shape.reports_behind}
+use Rattle.rnix_lemmas.proofs.{AnnotatedForestLemmas.tokens_in-row_of, MissingFacts.missing_ended, Basics.{true_is_not_false, not_nil, none_right, none_left}}
 
 -- the others of two lists
 pub others-++ : (es fs : List Fault) → others (es ++ fs) ≡ others es ++ others fs

@@ -1,31 +1,16 @@
 -- Which nodes of a row that stands have trees: those inside error nodes, and all where there is no error; which error nodes have tokens.
-use Rattle.std.proofs.Common.{◌≡◌, ℕ, Bool, true, false, List, [], ◌∷◌, Option, Some, None, refl, ap, sym, ◌∙◌, subst}
-use Rattle.std.proofs.lemmas.Bool.{and_parts}
-use Rattle.std.specs.List.{list_all}
-use Rattle.std.specs.Prelude.{◌&&◌, if◌then◌else◌}
-use Rattle.rnix_kinds.specs.declared.kinds.SyntaxKind.{SyntaxKind}
-use Rattle.rnix_kinds.specs.declared.kinds.SyntaxKind.TheVariants.{NODE_IDENT, NODE_LITERAL, TOKEN_AT, NODE_ERROR}
-use Rattle.rnix_kinds.proofs.AllKinds.{all_kinds, every}
-use Rattle.rnix_green.specs.Equality.{same_kind, same_kind-decides}
-use Rattle.rnix_grammar.specs.declared.place.Place.{Place}
+use Rattle.std.{specs.List.list_all, proofs.Common.{◌≡◌, ℕ, Bool, true, false, List, [], ◌∷◌, Option, Some, None, refl, ap, sym, ◌∙◌, subst, ◌&&◌}}
+use Rattle.std.proofs.{Common.if◌then◌else◌, lemmas.Bool.and_parts}
+use Rattle.rnix_kinds.specs.{declared.kinds.SyntaxKind.{SyntaxKind, TheVariants.{NODE_IDENT, NODE_LITERAL, TOKEN_AT, NODE_ERROR}}, SyntaxKind.is_trivia}
+use Rattle.{rnix_kinds.proofs.AllKinds.{all_kinds, every}, rnix_green.specs.Equality.{same_kind, same_kind-decides}}
+use Rattle.rnix_grammar.specs.{declared.place.Place.Place, Fault.Fault, AnnotatedForest.{Token, Note, AnnotatedForest, blank, token, branch, fault, row_of}}
+use Rattle.rnix_grammar.specs.{AnnotatedForest.{forget, tokens_in, is_some, Stray, Unwanted, Extra, Twice, TooDeep, without_trivia, token_if}, Layout.is_last}
+use Rattle.rnix_grammar.specs.{Layout.items, Missing.{missing, run_at}, Repaired.kinds_of, Rows.{RowState, Start, SecondStart, At, run, advance, live, start}}
+use Rattle.rnix_grammar.specs.{Rows.whole, Stands.{Stands, end, leaf, missing_part, wrong, second, inner, is_filled, suits, begins_with_token, IsBeside}}
+use Rattle.{rnix_grammar.specs.Ranges.is_error_node, rnix_lemmas.proofs.{Basics.true_is_not_false, ImitateLemmas.start_half, RowKinds.has_row}}
+use Rattle.rnix_lemmas.proofs.{ReportLemmas.without_trivia_tokens, OpeningRows.{HasRow, Opening, by_token, by_branch, by_fault, opening, no_row}}
+use Rattle.rnix_rows.proofs.{DressLemmas.HasTree, StandsRows.{IsAside, a_number, a_run, at_end, aside, stands_row}, StandsShapes.AreBareRows}
 use Rattle.rnix_grammar.specs.declared.place.Place.TheVariants as p
-use Rattle.rnix_grammar.specs.Fault.{Fault}
-use Rattle.rnix_grammar.specs.AnnotatedForest.{Token, Note, AnnotatedForest, blank, token, branch, fault, row_of, forget, tokens_in, is_some, Stray, Unwanted, Extra, Twice, TooDeep, without_trivia, token_if}
-use Rattle.rnix_grammar.specs.Layout.{is_last, items}
-use Rattle.rnix_grammar.specs.Missing.{missing, run_at}
-use Rattle.rnix_grammar.specs.Repaired.{kinds_of}
-use Rattle.rnix_grammar.specs.Rows.{RowState, Start, SecondStart, At, run, advance, live, start, whole}
-use Rattle.rnix_grammar.specs.Stands.{Stands, end, leaf, missing_part, wrong, second, inner, is_filled, suits, begins_with_token, IsBeside}
-use Rattle.rnix_lemmas.proofs.Basics.{true_is_not_false}
-use Rattle.rnix_lemmas.proofs.ImitateLemmas.{start_half}
-use Rattle.rnix_lemmas.proofs.RowKinds.{has_row}
-use Rattle.rnix_rows.proofs.DressLemmas.{HasTree}
-use Rattle.rnix_rows.proofs.StandsRows.{IsAside, a_number, a_run, at_end, aside, stands_row}
-use Rattle.rnix_rows.proofs.StandsShapes.{AreBareRows}
-use Rattle.rnix_kinds.specs.SyntaxKind.{is_trivia}
-use Rattle.rnix_grammar.specs.Ranges.{is_error_node}
-use Rattle.rnix_lemmas.proofs.ReportLemmas.{without_trivia_tokens}
-use Rattle.rnix_lemmas.proofs.OpeningRows.{HasRow, Opening, by_token, by_branch, by_fault, opening, no_row}
 
 -- each node of a row has trees, and none is that of what is too deep
 abbrev pub AreFilled : AnnotatedForest → Type 0

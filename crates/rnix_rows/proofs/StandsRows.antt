@@ -1,29 +1,18 @@
 -- The rows of a forest without trivia that stands as it may, and of its repaired tree.
 use Rattle.std.proofs.Common.{◌≡◌, ◌⊎◌, inl, inr, ℕ, ◌+◌, ◌≤◌, Bool, true, false, List, [], ◌∷◌, ◌++◌, Option, Some, None, refl, ap, sym, ◌∙◌, subst, arith}
-use Rattle.std.specs.Prelude.{if◌then◌else◌}
-use Rattle.rnix_kinds.specs.declared.kinds.SyntaxKind.{SyntaxKind}
-use Rattle.rnix_kinds.specs.declared.kinds.SyntaxKind.TheVariants.{NODE_LITERAL, NODE_PATTERN}
-use Rattle.rnix_green.specs.Forest.{Forest}
-use Rattle.rnix_grammar.specs.declared.place.Place.{Place}
+use Rattle.std.proofs.Common.{if◌then◌else◌}
+use Rattle.{rnix_kinds.specs.declared.kinds.SyntaxKind.{SyntaxKind, TheVariants.{NODE_LITERAL, NODE_PATTERN}}, rnix_green.specs.Forest.Forest}
+use Rattle.rnix_grammar.specs.{declared.place.Place.Place, Fault.Fault, AnnotatedForest.{Token, Note, Stray, Unwanted, Extra, Twice, TooDeep, AnnotatedForest}}
+use Rattle.rnix_grammar.specs.{AnnotatedForest.{tokens_in, is_some}, Reports.{report, repeats}, Rows.{RowState, At, advance, whole, live, start, run}}
+use Rattle.rnix_grammar.specs.{Stands.{Stands, end, leaf, missing_part, wrong, second, inner, IsBeside}, Repaired.{patch, repaired, kinds_of, incomplete}}
+use Rattle.rnix_grammar.specs.{Repaired.{is_ended, ended_count}, declared.until.Until.Until, Layout.is_last, Missing.{missing, run_at}}
+use Rattle.rnix_lemmas.proofs.{MissingFacts.missing_ended, Completable.{IsCompletable, completed_at, lost_inside}, Owing.{owes, owing, owing_half, owing_goes}}
+use Rattle.rnix_lemmas.proofs.{RowEnds.{is_final, lost_final, final_full, final_goes, lost_half}, RowKinds.{has_row, starts_row}, ImitateLemmas.Imitates}
+use Rattle.rnix_lemmas.proofs.ImitateLemmas.{imitates_self, imitates_same, imitates_both, second_imitates, patched, run_patch, beside_imitates}
+use Rattle.rnix_lemmas.proofs.{ImitateLemmas.{beside_completable, pattern_goes, start_half, start_place}, Basics.{true_is_not_false, not_nil, none_right}}
+use Rattle.{rnix_lemmas.proofs.{Basics.none_left, RowEndings.row_tokens}, rnix_rows.proofs.StandsFaults.{HasEnded, AreCalm, plain_report, calm_second}}
+use Rattle.rnix_rows.proofs.StandsFaults.{calm_repeats, stands_errors}
 use Rattle.rnix_grammar.specs.declared.place.Place.TheVariants as places
-use Rattle.rnix_grammar.specs.Fault.{Fault}
-use Rattle.rnix_grammar.specs.AnnotatedForest.{Token, Note, Stray, Unwanted, Extra, Twice, TooDeep, AnnotatedForest, tokens_in, is_some}
-use Rattle.rnix_grammar.specs.Reports.{report, repeats}
-use Rattle.rnix_grammar.specs.Rows.{RowState, At, advance, whole, live, start, run}
-use Rattle.rnix_grammar.specs.Stands.{Stands, end, leaf, missing_part, wrong, second, inner, IsBeside}
-use Rattle.rnix_grammar.specs.Repaired.{patch, repaired, kinds_of, incomplete, is_ended, ended_count}
-use Rattle.rnix_grammar.specs.declared.until.Until.{Until}
-use Rattle.rnix_grammar.specs.Layout.{is_last}
-use Rattle.rnix_grammar.specs.Missing.{missing, run_at}
-use Rattle.rnix_lemmas.proofs.MissingFacts.{missing_ended}
-use Rattle.rnix_rows.proofs.StandsFaults.{HasEnded, AreCalm, plain_report, calm_second, calm_repeats, stands_errors}
-use Rattle.rnix_lemmas.proofs.Completable.{IsCompletable, completed_at, lost_inside}
-use Rattle.rnix_lemmas.proofs.Owing.{owes, owing, owing_half, owing_goes}
-use Rattle.rnix_lemmas.proofs.RowEnds.{is_final, lost_final, final_full, final_goes, lost_half}
-use Rattle.rnix_lemmas.proofs.RowKinds.{has_row, starts_row}
-use Rattle.rnix_lemmas.proofs.ImitateLemmas.{Imitates, imitates_self, imitates_same, imitates_both, second_imitates, patched, run_patch, beside_imitates, beside_completable, pattern_goes, start_half, start_place}
-use Rattle.rnix_lemmas.proofs.Basics.{true_is_not_false, not_nil, none_right, none_left}
-use Rattle.rnix_lemmas.proofs.RowEndings.{row_tokens}
 
 -- how an error node over tokens stands at a state
 pub data IsAside (n : Note) (q r : RowState) (ts : List Token) : Type 0 where

@@ -1,24 +1,14 @@
 -- A row that stands has no error exactly if each of its nodes has its shape, and nothing in it is reported.
-use Rattle.std.proofs.Common.{◌≡◌, ◌↔◌, inl, inr, ℕ, ◌+◌, Bool, true, false, List, [], ◌∷◌, ◌++◌, refl, ap, sym, ◌∙◌, subst, arith}
+use Rattle.std.proofs.Common.{◌≡◌, ◌↔◌, inl, inr, ℕ, ◌+◌, Bool, true, false, List, [], ◌∷◌, ◌++◌, refl, ap, sym, ◌∙◌, subst, arith, if◌then◌else◌, ◌&&◌}
 use Rattle.std.proofs.lemmas.Bool.{and_parts}
-use Rattle.std.specs.Prelude.{if◌then◌else◌, ◌&&◌}
-use Rattle.rnix_kinds.specs.declared.kinds.SyntaxKind.{SyntaxKind}
-use Rattle.rnix_kinds.specs.declared.kinds.SyntaxKind.TheVariants.{NODE_ROOT, NODE_PATTERN, NODE_PAT_BIND}
-use Rattle.rnix_green.specs.Forest.{node, leaf as leaf_in}
+use Rattle.{rnix_kinds.specs.declared.kinds.SyntaxKind.{SyntaxKind, TheVariants.{NODE_ROOT, NODE_PATTERN, NODE_PAT_BIND}}, rnix_green.specs.Forest.node}
+use Rattle.{rnix_green.specs.Forest.leaf as leaf_in, rnix_grammar.specs.{Fault.Fault, AnnotatedForest.{Token, AnnotatedForest, blank, token, branch, fault}}}
+use Rattle.rnix_grammar.specs.{AnnotatedForest.{forget, Twice, tokens_in, is_some}, Rows.{RowState, Start, At, advance, whole, live, start, run, is_row}}
+use Rattle.rnix_grammar.specs.{Stands.{Stands, end, leaf, missing_part, wrong, second, inner, begins_with_token, is_bind_at, is_formed}, Reports.repeats}
+use Rattle.rnix_grammar.specs.{Reports.report, Repaired.{repaired, kinds_of, incomplete, is_ended, ended_count, others}, Shape.{reports_behind, reports}}
+use Rattle.rnix_lemmas.proofs.{ImitateLemmas.imitates_self, Basics.{true_is_not_false, not_nil, none_left, none_right}, LaterRowStates.{is_start, go_later}}
+use Rattle.{rnix_lemmas.proofs.EntryNames.both_true, rnix_rows.proofs.{StandsFaults.stands_errors, StandsRows.{half, stands_counts}}}
 use Rattle.rnix_grammar.specs.declared.place.Place.TheVariants as places
-use Rattle.rnix_grammar.specs.Fault.{Fault}
-use Rattle.rnix_grammar.specs.AnnotatedForest.{Token, AnnotatedForest, blank, token, branch, fault, forget, Twice, tokens_in, is_some}
-use Rattle.rnix_grammar.specs.Rows.{RowState, Start, At, advance, whole, live, start, run, is_row}
-use Rattle.rnix_grammar.specs.Stands.{Stands, end, leaf, missing_part, wrong, second, inner, begins_with_token, is_bind_at, is_formed}
-use Rattle.rnix_grammar.specs.Reports.{repeats, report}
-use Rattle.rnix_grammar.specs.Repaired.{repaired, kinds_of, incomplete, is_ended, ended_count, others}
-use Rattle.rnix_grammar.specs.Shape.{reports_behind, reports}
-use Rattle.rnix_rows.proofs.StandsFaults.{stands_errors}
-use Rattle.rnix_rows.proofs.StandsRows.{half, stands_counts}
-use Rattle.rnix_lemmas.proofs.ImitateLemmas.{imitates_self}
-use Rattle.rnix_lemmas.proofs.Basics.{true_is_not_false, not_nil, none_left, none_right}
-use Rattle.rnix_lemmas.proofs.LaterRowStates.{is_start, go_later}
-use Rattle.rnix_lemmas.proofs.EntryNames.{both_true}
 
 -- a bound name stands first where a row begins, and behind the first child at a place
 abbrev pub is_at : RowState → Bool

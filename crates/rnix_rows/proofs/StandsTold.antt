@@ -1,25 +1,15 @@
 -- Leaves have the kinds of tokens, also in a repaired tree; in a row that stands each has the kind of its token, and each name holds that alone.
 use Rattle.std.proofs.Common.{◌≡◌, ℕ, true, List, refl, ap, ◌∙◌, [], ◌∷◌, Some, None, sym, subst}
-use Rattle.rnix_kinds.specs.declared.kinds.SyntaxKind.{SyntaxKind}
-use Rattle.rnix_kinds.specs.declared.kinds.SyntaxKind.TheVariants.{TOKEN_CUR_POS, TOKEN_IDENT, TOKEN_OR, NODE_CUR_POS, NODE_IDENT, NODE_ERROR, NODE_LITERAL, NODE_PAT_ENTRY}
-use Rattle.rnix_kinds.specs.SyntaxKind.{is_token}
+use Rattle.rnix_kinds.specs.declared.kinds.SyntaxKind.{SyntaxKind, TheVariants.{TOKEN_CUR_POS, TOKEN_IDENT, TOKEN_OR, NODE_CUR_POS, NODE_IDENT, NODE_ERROR}}
+use Rattle.rnix_kinds.specs.{declared.kinds.SyntaxKind.TheVariants.{NODE_LITERAL, NODE_PAT_ENTRY}, SyntaxKind.is_token}
 use Rattle.rnix_grammar.specs.AnnotatedForest.{Note, Stray, AnnotatedForest, blank, token, branch, fault, tokens_in, leaf_kind_as, HaveLeafKinds, Token, row_of}
-use Rattle.rnix_grammar.specs.Repaired.{repaired, patch}
-use Rattle.rnix_grammar.specs.Named.{is_spelled, AreSpelled}
-use Rattle.rnix_grammar.specs.Derivation.{has_tokens_alone}
-use Rattle.rnix_lemmas.proofs.EntryNames.{both_true}
-use Rattle.rnix_lemmas.proofs.OpeningRows.{spelled_first, spelled_rest, Opening, by_token, by_branch, by_fault, opening, is_place}
-use Rattle.rnix_grammar.specs.declared.place.Place.{Place}
+use Rattle.rnix_grammar.specs.{Repaired.{repaired, patch}, Named.{is_spelled, AreSpelled}, Derivation.has_tokens_alone, declared.place.Place.Place, Fault.Fault}
+use Rattle.rnix_grammar.specs.{Missing.{missing, run_at}, Rows.{RowState, Start, At, first, advance, live, whole, start}, Stands.{Stands, end, leaf}}
+use Rattle.rnix_grammar.specs.{Stands.{missing_part, wrong, second, inner}, Trim.{is_bare, begins_with_node, HasBareName, AreNamesBare}}
+use Rattle.rnix_lemmas.proofs.{EntryNames.both_true, OpeningRows.{spelled_first, spelled_rest, Opening, by_token, by_branch, by_fault, opening, is_place}}
+use Rattle.{rnix_lemmas.proofs.{Basics.true_is_not_false, EveryKind.never, RowKinds.has_row}, rnix_rows.proofs.StandsRows.{IsAside, a_number, a_run, at_end}}
+use Rattle.rnix_rows.proofs.StandsRows.{aside, stands_row}
 use Rattle.rnix_grammar.specs.declared.place.Place.TheVariants as places
-use Rattle.rnix_grammar.specs.Fault.{Fault}
-use Rattle.rnix_grammar.specs.Missing.{missing, run_at}
-use Rattle.rnix_grammar.specs.Rows.{RowState, Start, At, first, advance, live, whole, start}
-use Rattle.rnix_grammar.specs.Stands.{Stands, end, leaf, missing_part, wrong, second, inner}
-use Rattle.rnix_grammar.specs.Trim.{is_bare, begins_with_node, HasBareName, AreNamesBare}
-use Rattle.rnix_lemmas.proofs.Basics.{true_is_not_false}
-use Rattle.rnix_lemmas.proofs.EveryKind.{never}
-use Rattle.rnix_lemmas.proofs.RowKinds.{has_row}
-use Rattle.rnix_rows.proofs.StandsRows.{IsAside, a_number, a_run, at_end, aside, stands_row}
 
 -- a token's leaf has the kind of a token
 pub told_token : (p k : SyntaxKind) → is_token k ≡ true → is_token (leaf_kind_as p k) ≡ true

@@ -1,19 +1,11 @@
 -- What holds of the repaired tree of a whole text that stands; behind a node that is not whole no item stands.
 use Rattle.std.proofs.Common.{◌≡◌, ◌↔◌, inl, inr, ℕ, ◌+◌, ◌≤◌, false, List, [], refl, ap, sym, ◌∙◌, subst, arith}
-use Rattle.rnix_kinds.specs.declared.kinds.SyntaxKind.{SyntaxKind}
-use Rattle.rnix_kinds.specs.declared.kinds.SyntaxKind.TheVariants.{NODE_ROOT, NODE_PATTERN}
-use Rattle.rnix_green.specs.Forest.{empty, node}
+use Rattle.{rnix_kinds.specs.declared.kinds.SyntaxKind.{SyntaxKind, TheVariants.{NODE_ROOT, NODE_PATTERN}}, rnix_green.specs.Forest.{empty, node}}
+use Rattle.rnix_grammar.specs.{Fault.Fault, AnnotatedForest.{Token, AnnotatedForest}, Rows.{RowState, At, run, is_row, start, whole}, Repaired.{repaired, held}}
+use Rattle.rnix_grammar.specs.{Repaired.{kinds_of, incomplete, AreBegun, ended_count}, Stands.{Stands, StandsWhole, end, leaf, missing_part, wrong, second}}
+use Rattle.{rnix_grammar.specs.{Stands.inner, Unfinished.AreIncompleteLast}, rnix_lemmas.proofs.ImitateLemmas.imitates_self}
+use Rattle.rnix_rows.proofs.{StandsFaults.stands_errors, StandsRows.{ended_or, half, stands_counts}, StandsBegun.{beginning, stands_begun}}
 use Rattle.rnix_grammar.specs.declared.place.Place.TheVariants as places
-use Rattle.rnix_grammar.specs.Fault.{Fault}
-use Rattle.rnix_grammar.specs.AnnotatedForest.{Token, AnnotatedForest}
-use Rattle.rnix_grammar.specs.Rows.{RowState, At, run, is_row, start, whole}
-use Rattle.rnix_grammar.specs.Repaired.{repaired, held, kinds_of, incomplete, AreBegun, ended_count}
-use Rattle.rnix_grammar.specs.Stands.{Stands, StandsWhole, end, leaf, missing_part, wrong, second, inner}
-use Rattle.rnix_grammar.specs.Unfinished.{AreIncompleteLast}
-use Rattle.rnix_rows.proofs.StandsFaults.{stands_errors}
-use Rattle.rnix_lemmas.proofs.ImitateLemmas.{imitates_self}
-use Rattle.rnix_rows.proofs.StandsRows.{ended_or, half, stands_counts}
-use Rattle.rnix_rows.proofs.StandsBegun.{beginning, stands_begun}
 
 -- the nodes of the repaired tree that are not whole are no more than the errors of the end of the text
 pub whole_few : {f : AnnotatedForest} {es : List Fault} → StandsWhole f es → incomplete (node NODE_ROOT (repaired f) empty) ≤ ended_count es

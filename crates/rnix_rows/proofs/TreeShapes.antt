@@ -1,28 +1,17 @@
 -- The shape of a whole tree, with its trivia; a tree reports what its items report, where no error node begins or ends with trivia.
-use Rattle.std.proofs.Common.{◌≡◌, ◌↔◌, ℕ, Bool, true, false, List, [], ◌∷◌, ◌++◌, Option, Some, None, refl, ap, sym, ◌∙◌, subst}
-use Rattle.std.specs.Prelude.{if◌then◌else◌, ◌&&◌, bytes_eq}
-use Rattle.rnix_kinds.specs.declared.kinds.SyntaxKind.{SyntaxKind}
-use Rattle.rnix_kinds.specs.declared.kinds.SyntaxKind.TheVariants.{NODE_ROOT, NODE_ERROR, NODE_IDENT, NODE_PAT_BIND, NODE_PAT_ENTRY}
-use Rattle.rnix_kinds.specs.SyntaxKind.{is_trivia}
-use Rattle.rnix_green.specs.Forest.{Forest}
+use Rattle.std.proofs.Common.{◌≡◌, ◌↔◌, ℕ, Bool, true, false, List, [], ◌∷◌, ◌++◌, Option, Some, None, refl, ap, sym, ◌∙◌, subst, if◌then◌else◌, ◌&&◌, bytes_eq}
+use Rattle.rnix_kinds.specs.declared.kinds.SyntaxKind.{SyntaxKind, TheVariants.{NODE_ROOT, NODE_ERROR, NODE_IDENT, NODE_PAT_BIND, NODE_PAT_ENTRY}}
+use Rattle.{rnix_kinds.specs.SyntaxKind.is_trivia, rnix_green.specs.Forest.Forest, rnix_grammar.specs.{Fault.{Fault, named_twice}, AnnotatedForest.Token}}
+use Rattle.rnix_grammar.specs.AnnotatedForest.{AnnotatedForest, blank, token, branch, fault, ◌⊕◌, one_token, one_branch, one_fault, forget, without_trivia}
+use Rattle.rnix_grammar.specs.{AnnotatedForest.{token_if, leaf_kind, HaveLeafKinds, tokens_in, extent_of}, Reports.{report, repeated_if, entry_name}}
+use Rattle.rnix_grammar.specs.{Reports.{only_token, is_same_name, has_entry, repeats}, Rows.{At, whole, is_row}, Stands.{Stands, begins_with_token}}
+use Rattle.rnix_grammar.specs.{Repaired.kinds_of, Trim.{AreNodesTrimmed, AreFaultsTrimmed}, Shape.{item_kinds, begins_with_leaf, is_bind_formed}}
+use Rattle.rnix_grammar.specs.Shape.{are_binds_formed, AreRows, IsShaped, leaf_text, text_if, name_in, name_if, with_name, entry_names, AreNew, AreUnrepeated}
+use Rattle.{rnix_grammar.specs.{Shape.{IsUnrepeated, reports_behind, reports_within}, Tables.is_among}, rnix_lemmas.proofs.ImitateLemmas.nowhere}
+use Rattle.rnix_lemmas.proofs.{Basics.{true_is_not_false, none_left, none_right, not_nil}, EntryNames.{bare_name, has_branch, either_assoc, has-⊕, if_not}}
+use Rattle.rnix_lemmas.proofs.{AnnotatedForestLemmas.⊕-blank, LayoutLemmas.without_trivia-⊕, ReportLemmas.{without_trivia_tokens, same_report}}
+use Rattle.rnix_rows.proofs.{WithTriviaEdges.told_alike, StandsShapes.{bare_bind, bare_binds, AreBareRows, IsBare, whole_rows}}
 use Rattle.rnix_grammar.specs.declared.place.Place.TheVariants as places
-use Rattle.rnix_grammar.specs.Fault.{Fault, named_twice}
-use Rattle.rnix_grammar.specs.AnnotatedForest.{Token, AnnotatedForest, blank, token, branch, fault, ◌⊕◌, one_token, one_branch, one_fault, forget, without_trivia, token_if, leaf_kind, HaveLeafKinds, tokens_in, extent_of}
-use Rattle.rnix_grammar.specs.Reports.{report, repeated_if, entry_name, only_token, is_same_name, has_entry, repeats}
-use Rattle.rnix_grammar.specs.Rows.{At, whole, is_row}
-use Rattle.rnix_grammar.specs.Stands.{Stands, begins_with_token}
-use Rattle.rnix_grammar.specs.Repaired.{kinds_of}
-use Rattle.rnix_grammar.specs.Trim.{AreNodesTrimmed, AreFaultsTrimmed}
-use Rattle.rnix_grammar.specs.Shape.{item_kinds, begins_with_leaf, is_bind_formed, are_binds_formed, AreRows, IsShaped, leaf_text, text_if, name_in, name_if, with_name, entry_names, AreNew, AreUnrepeated, IsUnrepeated, reports_behind, reports_within}
-use Rattle.rnix_grammar.specs.Tables.{is_among}
-use Rattle.rnix_rows.proofs.WithTriviaEdges.{told_alike}
-use Rattle.rnix_lemmas.proofs.ImitateLemmas.{nowhere}
-use Rattle.rnix_rows.proofs.StandsShapes.{bare_bind, bare_binds, AreBareRows, IsBare, whole_rows}
-use Rattle.rnix_lemmas.proofs.Basics.{true_is_not_false, none_left, none_right, not_nil}
-use Rattle.rnix_lemmas.proofs.EntryNames.{bare_name, has_branch, either_assoc, has-⊕, if_not}
-use Rattle.rnix_lemmas.proofs.AnnotatedForestLemmas.{⊕-blank}
-use Rattle.rnix_lemmas.proofs.LayoutLemmas.{without_trivia-⊕}
-use Rattle.rnix_lemmas.proofs.ReportLemmas.{without_trivia_tokens, same_report}
 
 -- whether a leaf is trivia, its token tells
 leaf_trivia : (p k : SyntaxKind) (t : Token) → k ≡ leaf_kind p t → is_trivia t.kind ≡ is_trivia k

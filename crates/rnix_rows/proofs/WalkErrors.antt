@@ -1,15 +1,10 @@
 -- The errors of error nodes are, one by one, of the error nodes that a walk leaves.
-use Rattle.std.proofs.Common.{◌≡◌, ℕ, ◌+◌, Bool, true, false, List, [], ◌∷◌, ◌++◌, map, Option, refl, ap, sym, ◌∙◌, arith}
-use Rattle.std.specs.Prelude.{if◌then◌else◌, ◌||◌}
+use Rattle.std.proofs.Common.{◌≡◌, ℕ, ◌+◌, Bool, true, false, List, [], ◌∷◌, ◌++◌, map, Option, refl, ap, sym, ◌∙◌, arith, if◌then◌else◌, ◌||◌}
 use Rattle.std.proofs.lemmas.List.{map-append}
-use Rattle.rnix_green.specs.Forest.{Forest, empty, leaf, node, element_count}
-use Rattle.rnix_green.specs.Tree.{Tree, Item, item}
-use Rattle.rnix_green.specs.Walk.{Step, Event, event_at, steps_from}
-use Rattle.rnix_grammar.specs.Fault.{Fault, ended, ended_before, named_twice}
-use Rattle.rnix_grammar.specs.Repaired.{others}
-use Rattle.rnix_grammar.specs.Shape.{name_if, with_name}
-use Rattle.rnix_grammar.specs.Ranges.{of_nodes, is_error_node, leaves_error, errors_left, is_among_if, at_fault_from, AreErrorsOf}
-use Rattle.rnix_rows.proofs.RowsIn.{IsRowIn, row_first, row_inside, row_behind_leaf, row_behind_node}
+use Rattle.rnix_green.specs.{Forest.{Forest, empty, leaf, node, element_count}, Tree.{Tree, Item, item}, Walk.{Step, Event, event_at, steps_from}}
+use Rattle.rnix_grammar.specs.{Fault.{Fault, ended, ended_before, named_twice}, Repaired.others, Shape.{name_if, with_name}, Ranges.{of_nodes, is_error_node}}
+use Rattle.{rnix_grammar.specs.Ranges.{leaves_error, errors_left, is_among_if, at_fault_from, AreErrorsOf}, rnix_rows.proofs.RowsIn.{IsRowIn, row_first}}
+use Rattle.rnix_rows.proofs.RowsIn.{row_inside, row_behind_leaf, row_behind_node}
 
 -- those of some elements that are error nodes
 abbrev errors_among : Tree → List ℕ → List ℕ

@@ -1,21 +1,11 @@
 -- Which states want a token or what a run of others may stand before, and what stands before such states.
-use Rattle.std.proofs.Common.{◌≡◌, Bool, true, false, refl, ap, sym, ◌∙◌}
-use Rattle.std.proofs.lemmas.Bool.{and_parts}
-use Rattle.std.specs.List.{list_all}
-use Rattle.std.specs.Prelude.{◌||◌, ◌&&◌, if◌then◌else◌, nat_eq}
-use Rattle.rnix_kinds.specs.declared.kinds.SyntaxKind.{SyntaxKind}
-use Rattle.rnix_kinds.specs.declared.kinds.SyntaxKind.TheVariants.{NODE_ATTRPATH}
-use Rattle.rnix_kinds.proofs.AllKinds.{all_kinds, every, implied}
-use Rattle.rnix_grammar.specs.declared.place.Place.TheVariants as p
-use Rattle.rnix_grammar.specs.declared.symbol.Symbol.{Symbol}
-use Rattle.rnix_grammar.specs.declared.symbol.Symbol.TheVariants as s
-use Rattle.rnix_grammar.specs.Symbols.{symbol_at}
-use Rattle.rnix_grammar.specs.Rows.{is_operand, is_expression, fits, RowState, Start, At, to, advance, live, start}
-use Rattle.rnix_grammar.specs.Stands.{continues_kind}
-use Rattle.rnix_lemmas.proofs.Basics.{not_if}
-use Rattle.rnix_lemmas.proofs.Places.{is_last}
-use Rattle.rnix_lemmas.proofs.LaterRowStates.{is_start}
+use Rattle.std.{specs.List.list_all, proofs.{Common.{◌≡◌, Bool, true, false, refl, ap, sym, ◌∙◌, ◌||◌, ◌&&◌, if◌then◌else◌, nat_eq}, lemmas.Bool.and_parts}}
+use Rattle.rnix_kinds.{specs.declared.kinds.SyntaxKind.{SyntaxKind, TheVariants.NODE_ATTRPATH}, proofs.AllKinds.{all_kinds, every, implied}}
+use Rattle.rnix_grammar.specs.{declared.symbol.Symbol.Symbol, Symbols.symbol_at, Rows.{is_operand, is_expression, fits, RowState, Start, At, to, advance, live}}
+use Rattle.{rnix_grammar.specs.{Rows.start, Stands.continues_kind}, rnix_lemmas.proofs.{Basics.not_if, Places.is_last, LaterRowStates.is_start}}
 use Rattle.rnix_lemmas.proofs.NodeKinds.{fits_expression}
+use Rattle.rnix_grammar.specs.declared.place.Place.TheVariants as p
+use Rattle.rnix_grammar.specs.declared.symbol.Symbol.TheVariants as s
 
 -- a token is wanted in a symbol, or what a run of others may stand before, inherited names aside, or the end of the text
 abbrev pub wants_in : Symbol → Bool

@@ -1,32 +1,21 @@
 -- Where the trivia of the open rows stand is told by their items and the tokens.
-use Rattle.std.proofs.Common.{◌≡◌, ℕ, suc, Bool, true, false, List, [], ◌∷◌, ◌++◌, Option, refl, sym, ap, ◌∙◌, subst}
-use Rattle.std.specs.Prelude.{if◌then◌else◌, nat_le}
-use Rattle.rnix_kinds.specs.declared.kinds.SyntaxKind.{SyntaxKind}
-use Rattle.rnix_kinds.specs.declared.kinds.SyntaxKind.TheVariants.{NODE_ERROR, NODE_IDENT, NODE_IDENT_PARAM, NODE_APPLY, NODE_LEGACY_LET, NODE_PATTERN, NODE_PAT_BIND}
-use Rattle.rnix_grammar.specs.declared.place.Place.{Place}
+use Rattle.std.proofs.Common.{◌≡◌, ℕ, suc, Bool, true, false, List, [], ◌∷◌, ◌++◌, Option, refl, sym, ap, ◌∙◌, subst, if◌then◌else◌, nat_le}
+use Rattle.rnix_kinds.specs.declared.kinds.SyntaxKind.{SyntaxKind, TheVariants.{NODE_ERROR, NODE_IDENT, NODE_IDENT_PARAM, NODE_APPLY, NODE_LEGACY_LET}}
+use Rattle.{rnix_kinds.specs.declared.kinds.SyntaxKind.TheVariants.{NODE_PATTERN, NODE_PAT_BIND}, rnix_grammar.specs.declared.place.Place.Place}
+use Rattle.rnix_grammar.specs.{declared.{until.Until.Until, action.Action.Action, begin.Begin.Begin}, Fault.Fault, Tables.depth_limit, Actions.action_at}
+use Rattle.rnix_grammar.specs.{Begins.{begin_of, second_kind}, AnnotatedForest.{Token, Stray, Unwanted, Extra, Twice, TooDeep, AnnotatedForest, blank, ◌⊕◌}}
+use Rattle.rnix_grammar.specs.{AnnotatedForest.{one_branch, one_fault, without_trivia, head_kind, touches}, Layout.{from_item, tail_of, trivia_before, items}}
+use Rattle.rnix_grammar.specs.{Layout.{left_after, with_trivia_whole}, Reports.repeated, Machine.{Head, Node, Second, Operand, Frame, Machine, put, opened}}
+use Rattle.rnix_grammar.specs.Machine.{ate, behind, leaf, run_row, dropped, run_rest, made, kind_of, low_of, closed, entry_closed, limited, begun, operand_on}
+use Rattle.rnix_grammar.specs.{Machine.{reading, perform, step_on, step, begins, Runs, rest, then as further}, Missing.run_of, Sorts.{Loose, sort_of, StandsOn}}
+use Rattle.{rnix_grammar.specs.{Sorts.AreKept, Allowed.{Allowed, is_there}}, rnix_lemmas.proofs.{AnnotatedForestLemmas.⊕-assoc, LayoutLemmas.without_trivia-⊕}}
+use Rattle.rnix_lemmas.proofs.{WithoutTriviaLemmas.{items_behind, ate_without_trivia, run_prefix, all_prefix}, AllowedLemmas.allowed, PlaceLemmas.BeginsInner}
+use Rattle.{rnix_lemmas.proofs.PlaceLemmas.{begin_inner, step_kept, begins_kept}, rnix_rows.proofs.DressLemmas.{HasTree, tree_behind, IsBare, bare_from}}
+use Rattle.rnix_rows.proofs.DressLemmas.{bare_trivia, HasTrivia, with_trivia_blank, with_trivia_added, tree_added, with_trivia_branch, with_trivia_fault}
+use Rattle.rnix_rows.proofs.DressLemmas.{with_trivia_last, with_trivia_leaf, tree_leaf, with_trivia_run}
 use Rattle.rnix_grammar.specs.declared.place.Place.TheVariants as p
-use Rattle.rnix_grammar.specs.declared.until.Until.{Until}
-use Rattle.rnix_grammar.specs.declared.action.Action.{Action}
 use Rattle.rnix_grammar.specs.declared.action.Action.TheVariants as a
-use Rattle.rnix_grammar.specs.declared.begin.Begin.{Begin}
 use Rattle.rnix_grammar.specs.declared.begin.Begin.TheVariants as b
-use Rattle.rnix_grammar.specs.Fault.{Fault}
-use Rattle.rnix_grammar.specs.Tables.{depth_limit}
-use Rattle.rnix_grammar.specs.Actions.{action_at}
-use Rattle.rnix_grammar.specs.Begins.{begin_of, second_kind}
-use Rattle.rnix_grammar.specs.AnnotatedForest.{Token, Stray, Unwanted, Extra, Twice, TooDeep, AnnotatedForest, blank, ◌⊕◌, one_branch, one_fault, without_trivia, head_kind, touches}
-use Rattle.rnix_grammar.specs.Layout.{from_item, tail_of, trivia_before, items, left_after, with_trivia_whole}
-use Rattle.rnix_grammar.specs.Reports.{repeated}
-use Rattle.rnix_grammar.specs.Machine.{Head, Node, Second, Operand, Frame, Machine, put, opened, ate, behind, leaf, run_row, dropped, run_rest, made, kind_of, low_of, closed, entry_closed, limited, begun, operand_on, reading, perform, step_on, step, begins, Runs, rest, then as further}
-use Rattle.rnix_grammar.specs.Missing.{run_of}
-use Rattle.rnix_grammar.specs.Sorts.{Loose, sort_of, StandsOn, AreKept}
-use Rattle.rnix_grammar.specs.Allowed.{Allowed, is_there}
-use Rattle.rnix_lemmas.proofs.AnnotatedForestLemmas.{⊕-assoc}
-use Rattle.rnix_lemmas.proofs.LayoutLemmas.{without_trivia-⊕}
-use Rattle.rnix_lemmas.proofs.WithoutTriviaLemmas.{items_behind, ate_without_trivia, run_prefix, all_prefix}
-use Rattle.rnix_lemmas.proofs.AllowedLemmas.{allowed}
-use Rattle.rnix_lemmas.proofs.PlaceLemmas.{BeginsInner, begin_inner, step_kept, begins_kept}
-use Rattle.rnix_rows.proofs.DressLemmas.{HasTree, tree_behind, IsBare, bare_from, bare_trivia, HasTrivia, with_trivia_blank, with_trivia_added, tree_added, with_trivia_branch, with_trivia_fault, with_trivia_last, with_trivia_leaf, tree_leaf, with_trivia_run}
 
 -- a row that waits for a tree: it has the trivia before the tree, which begins with the tokens vs
 pub record IsAwaiting (row : AnnotatedForest) (ts vs : List Token) : Type 0 where

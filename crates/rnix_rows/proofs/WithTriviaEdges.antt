@@ -1,16 +1,13 @@
 -- What is given trivia from an item on begins and ends with items, as a row of tokens and as trees.
 use Rattle.std.proofs.Common.{◌≡◌, Bool, true, false, List, [], ◌∷◌, ◌++◌, refl, ap, sym, ◌∙◌, subst, append_assoc}
-use Rattle.rnix_kinds.specs.declared.kinds.SyntaxKind.{SyntaxKind}
-use Rattle.rnix_kinds.specs.declared.kinds.SyntaxKind.TheVariants.{TOKEN_IDENT, TOKEN_OR, NODE_IDENT, NODE_CUR_POS, NODE_ERROR}
-use Rattle.rnix_kinds.specs.SyntaxKind.{is_trivia}
-use Rattle.rnix_grammar.specs.AnnotatedForest.{Token, AnnotatedForest, blank, token, branch, fault, ◌⊕◌, one_token, one_branch, one_fault, tokens_in, forget, leaf_kind_as, HaveLeafKinds}
-use Rattle.rnix_grammar.specs.Layout.{from_item, tail_of, items, trivia_if, trivia_before, is_last, trivia_after, rest_after, left_after, with_trivia}
-use Rattle.rnix_grammar.specs.Machine.{ate}
-use Rattle.rnix_grammar.specs.Trim.{BeginsWithItem, EndsWithItem, leaf_kinds, token_kinds, AreFaultsTrimmed, AreNodesTrimmed}
-use Rattle.rnix_lemmas.proofs.AnnotatedForestLemmas.{⊕-assoc, ⊕-blank}
-use Rattle.rnix_lemmas.proofs.LayoutLemmas.{IsFirst, first_item, IsBared, bared, items-from_item, items-rest_after}
-use Rattle.rnix_lemmas.proofs.EdgeLemmas.{token_kinds-++, some, IsEdged, edged_led, edged_added, edged_branch, edged_fault, faults_trimmed-⊕, faults_trimmed_trivia}
-use Rattle.rnix_rows.proofs.DressLemmas.{HasTree, IsBare, bare_from, bare_trivia}
+use Rattle.rnix_kinds.specs.declared.kinds.SyntaxKind.{SyntaxKind, TheVariants.{TOKEN_IDENT, TOKEN_OR, NODE_IDENT, NODE_CUR_POS, NODE_ERROR}}
+use Rattle.{rnix_kinds.specs.SyntaxKind.is_trivia, rnix_grammar.specs.AnnotatedForest.{Token, AnnotatedForest, blank, token, branch, fault, ◌⊕◌, one_token}}
+use Rattle.rnix_grammar.specs.{AnnotatedForest.{one_branch, one_fault, tokens_in, forget, leaf_kind_as, HaveLeafKinds}, Layout.{from_item, tail_of, items}}
+use Rattle.rnix_grammar.specs.{Layout.{trivia_if, trivia_before, is_last, trivia_after, rest_after, left_after, with_trivia}, Machine.ate, Trim.BeginsWithItem}
+use Rattle.rnix_grammar.specs.Trim.{EndsWithItem, leaf_kinds, token_kinds, AreFaultsTrimmed, AreNodesTrimmed}
+use Rattle.rnix_lemmas.proofs.{AnnotatedForestLemmas.{⊕-assoc, ⊕-blank}, LayoutLemmas.{IsFirst, first_item, IsBared, bared, items-from_item, items-rest_after}}
+use Rattle.rnix_lemmas.proofs.EdgeLemmas.{token_kinds-++, some, IsEdged, edged_led, edged_added, edged_branch, edged_fault, faults_trimmed-⊕}
+use Rattle.{rnix_lemmas.proofs.EdgeLemmas.faults_trimmed_trivia, rnix_rows.proofs.DressLemmas.{HasTree, IsBare, bare_from, bare_trivia}}
 use Rattle.rnix_rows.proofs.StandsFilled.{AreFilled, AreFaultsFilled}
 
 -- each node of a row has tokens, and begins and ends with an item

@@ -1,11 +1,8 @@
 -- Names hold their tokens alone with trivia around them too.
 use Rattle.std.proofs.Common.{◌≡◌, Bool, true, false, List, [], ◌∷◌, refl, sym}
-use Rattle.rnix_kinds.specs.SyntaxKind.{is_trivia}
-use Rattle.rnix_grammar.specs.AnnotatedForest.{Token, AnnotatedForest, blank, token, branch, fault, ◌⊕◌}
-use Rattle.rnix_grammar.specs.Layout.{from_item, tail_of, trivia_if, trivia_before, is_last, trivia_after, rest_after, left_after, with_trivia}
-use Rattle.rnix_grammar.specs.Trim.{is_bare, begins_with_node, AreNamesBare}
-use Rattle.rnix_lemmas.proofs.Basics.{true_is_not_false}
-use Rattle.rnix_lemmas.proofs.LayoutLemmas.{trivia-from_item}
+use Rattle.{rnix_kinds.specs.SyntaxKind.is_trivia, rnix_grammar.specs.AnnotatedForest.{Token, AnnotatedForest, blank, token, branch, fault, ◌⊕◌}}
+use Rattle.rnix_grammar.specs.{Layout.{from_item, tail_of, trivia_if, trivia_before, is_last, trivia_after, rest_after, left_after, with_trivia}, Trim.is_bare}
+use Rattle.{rnix_grammar.specs.Trim.{begins_with_node, AreNamesBare}, rnix_lemmas.proofs.{Basics.true_is_not_false, LayoutLemmas.trivia-from_item}}
 
 -- two rows
 pub bare-⊕ : (f g : AnnotatedForest) → AreNamesBare f → AreNamesBare g → AreNamesBare (f ⊕ g)

@@ -1,27 +1,14 @@
 -- What is so of a whole text's trees, where their items and the tokens tell where the trivia stand, and if its items stand.
 use Rattle.std.proofs.Common.{◌≡◌, true, List, [], ◌++◌, ap, sym, ◌∙◌, append-nil, subst}
-use Rattle.rnix_kinds.specs.declared.kinds.SyntaxKind.{SyntaxKind}
-use Rattle.rnix_kinds.specs.Lexical.Tokens.{Lexeme}
-use Rattle.rnix_green.specs.Tree.{Tree}
-use Rattle.rnix_grammar.specs.Fault.{Fault}
-use Rattle.rnix_grammar.specs.AnnotatedForest.{Token, AnnotatedForest, tokens_in, without_trivia, placed_from, HaveLeafKinds, forget}
-use Rattle.rnix_grammar.specs.Layout.{trivia_before, from_item, items, left_after, with_trivia, with_trivia_whole}
-use Rattle.rnix_grammar.specs.Machine.{ate}
-use Rattle.rnix_grammar.specs.Document.{IsRead}
-use Rattle.rnix_lemmas.proofs.AnnotatedForestLemmas.{tokens_in-⊕}
-use Rattle.rnix_lemmas.proofs.LayoutLemmas.{items-view, IsBared, bared, with_trivia_tokens, trivia_tokens, nothing_from, leaf_kind-⊕, told_trivia, told_with_trivia}
-use Rattle.rnix_lemmas.proofs.ReportLemmas.{without_trivia_tokens}
-use Rattle.rnix_rows.proofs.WithTrivia.{whole_with_trivia}
-use Rattle.rnix_kinds.specs.declared.kinds.SyntaxKind.TheVariants.{NODE_ROOT}
-use Rattle.rnix_grammar.specs.Named.{AreSpelled}
-use Rattle.rnix_grammar.specs.Stands.{StandsWhole}
-use Rattle.rnix_grammar.specs.Trim.{AreFaultsTrimmed, AreNamesBare, AreNodesTrimmed}
-use Rattle.rnix_lemmas.proofs.EdgeLemmas.{faults_trimmed-⊕, faults_trimmed_trivia}
-use Rattle.rnix_rows.proofs.StandsShapes.{whole_rows}
-use Rattle.rnix_rows.proofs.StandsFilled.{rows_filled, stands_filled}
-use Rattle.rnix_rows.proofs.StandsTold.{stands_told, stands_bare}
-use Rattle.rnix_rows.proofs.WithTriviaEdges.{edged-⊕, edged_trivia, with_trivia_edged, with_trivia_trimmed, nodes_trimmed}
-use Rattle.rnix_rows.proofs.WithTriviaNames.{bare-⊕, bare_trivia, with_trivia_bare}
+use Rattle.{rnix_kinds.specs.{declared.kinds.SyntaxKind.{SyntaxKind, TheVariants.NODE_ROOT}, Lexical.Tokens.Lexeme}, rnix_green.specs.Tree.Tree}
+use Rattle.rnix_grammar.specs.{Fault.Fault, AnnotatedForest.{Token, AnnotatedForest, tokens_in, without_trivia, placed_from, HaveLeafKinds, forget}}
+use Rattle.rnix_grammar.specs.{Layout.{trivia_before, from_item, items, left_after, with_trivia, with_trivia_whole}, Machine.ate, Document.IsRead}
+use Rattle.rnix_grammar.specs.{Named.AreSpelled, Stands.StandsWhole, Trim.{AreFaultsTrimmed, AreNamesBare, AreNodesTrimmed}}
+use Rattle.rnix_lemmas.proofs.{AnnotatedForestLemmas.tokens_in-⊕, LayoutLemmas.{items-view, IsBared, bared, with_trivia_tokens, trivia_tokens, nothing_from}}
+use Rattle.rnix_lemmas.proofs.{LayoutLemmas.{leaf_kind-⊕, told_trivia, told_with_trivia}, ReportLemmas.without_trivia_tokens, EdgeLemmas.faults_trimmed-⊕}
+use Rattle.{rnix_lemmas.proofs.EdgeLemmas.faults_trimmed_trivia, rnix_rows.proofs.{WithTrivia.whole_with_trivia, StandsShapes.whole_rows}}
+use Rattle.rnix_rows.proofs.{StandsFilled.{rows_filled, stands_filled}, StandsTold.{stands_told, stands_bare}, WithTriviaEdges.{edged-⊕, edged_trivia}}
+use Rattle.rnix_rows.proofs.{WithTriviaEdges.{with_trivia_edged, with_trivia_trimmed, nodes_trimmed}, WithTriviaNames.{bare-⊕, bare_trivia, with_trivia_bare}}
 
 -- all items, with nothing behind them
 pub all_items : (f : AnnotatedForest) (ts : List Token) → items ts ≡ tokens_in f → items ts ≡ tokens_in f ++ []

@@ -1,20 +1,10 @@
 -- Each reading of some items is what the steps make of them; so there is one reading.
 use Rattle.std.proofs.Common.{◌≡◌, false, ℕ, zero, suc, ◌≤◌, List, [], ◌∷◌, refl, sym, subst, append-nil, arith}
-use Rattle.rnix_kinds.specs.declared.kinds.SyntaxKind.{SyntaxKind}
-use Rattle.rnix_kinds.specs.declared.kinds.SyntaxKind.TheVariants.{NODE_ROOT}
-use Rattle.rnix_grammar.specs.declared.place.Place.{Place}
-use Rattle.rnix_grammar.specs.declared.place.Place.TheVariants.{RootStart, RootEnd}
-use Rattle.rnix_grammar.specs.Fault.{Fault}
-use Rattle.rnix_grammar.specs.AnnotatedForest.{Token, AnnotatedForest, blank, tokens_in, end_from}
-use Rattle.rnix_grammar.specs.Machine.{Node, machine, opened, begins, Runs}
-use Rattle.rnix_grammar.specs.Rows.{At}
-use Rattle.rnix_grammar.specs.Reads.{Reads, end, leaf, missing_part, wrong, second, inner, ReadsWhole}
-use Rattle.rnix_uniqueness.proofs.Ended.{ended_with, ended_once}
-use Rattle.rnix_uniqueness.proofs.StepReads.{ReadsRow}
-use Rattle.rnix_uniqueness.proofs.ReadingHeights.{height, AllRows, Trees}
-use Rattle.rnix_uniqueness.proofs.TreeReads.{tree_runs, no_tree}
-use Rattle.rnix_uniqueness.proofs.RowTrees.{row_end}
-use Rattle.rnix_uniqueness.proofs.RowReads.{row_next}
+use Rattle.{rnix_kinds.specs.declared.kinds.SyntaxKind.{SyntaxKind, TheVariants.NODE_ROOT}, rnix_grammar.specs.declared.place.Place.Place}
+use Rattle.rnix_grammar.specs.{declared.place.Place.TheVariants.{RootStart, RootEnd}, Fault.Fault, AnnotatedForest.{Token, AnnotatedForest, blank, tokens_in}}
+use Rattle.rnix_grammar.specs.{AnnotatedForest.end_from, Machine.{Node, machine, opened, begins, Runs}, Rows.At, Reads.{Reads, end, leaf, missing_part, wrong}}
+use Rattle.{rnix_grammar.specs.Reads.{second, inner, ReadsWhole}, rnix_uniqueness.proofs.{Ended.{ended_with, ended_once}, StepReads.ReadsRow}}
+use Rattle.rnix_uniqueness.proofs.{ReadingHeights.{height, AllRows, Trees}, TreeReads.{tree_runs, no_tree}, RowTrees.row_end, RowReads.row_next}
 
 -- no reading is lower than none
 above : (a : ℕ) → suc a ≤ 0 → ⊥

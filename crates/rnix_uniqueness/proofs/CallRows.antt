@@ -1,38 +1,20 @@
 -- Calls are read as operands, of a tree with an argument and with the name `or`, if smaller trees are read.
-use Rattle.std.proofs.Common.{◌≡◌, ℕ, ◌≤◌, Bool, true, false, List, [], ◌∷◌, ◌++◌, Some, None, refl, ap, sym, ◌∙◌, subst, append_assoc, append-nil, arith}
-use Rattle.std.specs.Prelude.{◌||◌, ◌&&◌, if◌then◌else◌}
-use Rattle.std.proofs.lemmas.Bool.{and_parts}
-use Rattle.rnix_kinds.proofs.AllKinds.{implied}
-use Rattle.rnix_kinds.specs.declared.kinds.SyntaxKind.{SyntaxKind}
-use Rattle.rnix_kinds.specs.declared.kinds.SyntaxKind.TheVariants.{TOKEN_FLOAT, TOKEN_OR, NODE_APPLY, NODE_IDENT}
-use Rattle.rnix_kinds.specs.SyntaxKind.{is_fn_arg}
+use Rattle.std.proofs.Common.{◌≡◌, ℕ, ◌≤◌, Bool, true, false, List, [], ◌∷◌, ◌++◌, Some, None, refl, ap, sym, ◌∙◌, subst, append_assoc, append-nil, arith, ◌||◌}
+use Rattle.std.proofs.{Common.{◌&&◌, if◌then◌else◌}, lemmas.Bool.and_parts}
+use Rattle.rnix_kinds.specs.{declared.kinds.SyntaxKind.{SyntaxKind, TheVariants.{TOKEN_FLOAT, TOKEN_OR, NODE_APPLY, NODE_IDENT}}, SyntaxKind.is_fn_arg}
+use Rattle.{rnix_kinds.proofs.AllKinds.implied, rnix_grammar.specs.{Fault.Fault, Actions.{follow as follow_of, more_action}, Levels.binding_power}}
+use Rattle.rnix_grammar.specs.{TokenKinds.is_or, AnnotatedForest.{Token, Stray, AnnotatedForest, blank, branch, fault, ◌⊕◌, one_token, one_branch, one_fault}}
+use Rattle.rnix_grammar.specs.{AnnotatedForest.{row_of, tokens_in, leaf_kind, head_kind, end_from}, Reports.{report, repeats}, Machine.{Node, Operand, Frame}}
+use Rattle.rnix_grammar.specs.{Machine.{machine, opened, perform, operand_on, rest as here}, Rows.{RowState, Start, BeforeArgument, At, is_simple}}
+use Rattle.rnix_grammar.specs.{Rows.{is_expression, start, to, whole}, TreeLevels.{row_level, is_or_row}, ExpectedItems.IsExpected, Operands.{follows, IsBegun}}
+use Rattle.{rnix_grammar.specs.{Operands.{IsFollowed, IsOperand, goes_on}, Reads.IsOver}, rnix_lemmas.proofs.{Basics.true_is_not_false, EveryKind.alike}}
+use Rattle.rnix_lemmas.proofs.{EveryKind.{never, only}, OpeningRows.live_to, StrictParts.end_behind, FirstTrees.{IsSingle, first_in, single_calls}}
+use Rattle.{rnix_lemmas.proofs.FollowLemmas.{followed_call, followed_tight, follows_level, follows_token}, rnix_uniqueness.proofs.Runs.{runs_on, runs_from}}
+use Rattle.rnix_uniqueness.proofs.{Runs.step_to, StepReads.{IsOperandRead, ReadsTree}, ReadingHeights.{Short, Trees, Front, by_leaf, by_stray, by_node}}
+use Rattle.rnix_uniqueness.proofs.{ReadingHeights.front_of, FirstItems.{Ended, past_ends, name_item}, OperandGoesOn.{goes, settles, begun_same}}
+use Rattle.rnix_uniqueness.proofs.{ItemRows.stray_reads, OperatorRows.{Leading, leading, leading_reads, unreported}}
 use Rattle.rnix_grammar.specs.declared.place.Place.TheVariants as p
 use Rattle.rnix_grammar.specs.declared.action.Action.TheVariants as a
-use Rattle.rnix_grammar.specs.Fault.{Fault}
-use Rattle.rnix_grammar.specs.Actions.{follow as follow_of, more_action}
-use Rattle.rnix_grammar.specs.Levels.{binding_power}
-use Rattle.rnix_grammar.specs.TokenKinds.{is_or}
-use Rattle.rnix_grammar.specs.AnnotatedForest.{Token, Stray, AnnotatedForest, blank, branch, fault, ◌⊕◌, one_token, one_branch, one_fault, row_of, tokens_in, leaf_kind, head_kind, end_from}
-use Rattle.rnix_grammar.specs.Reports.{report, repeats}
-use Rattle.rnix_grammar.specs.Machine.{Node, Operand, Frame, machine, opened, perform, operand_on, rest as here}
-use Rattle.rnix_grammar.specs.Rows.{RowState, Start, BeforeArgument, At, is_simple, is_expression, start, to, whole}
-use Rattle.rnix_grammar.specs.TreeLevels.{row_level, is_or_row}
-use Rattle.rnix_grammar.specs.ExpectedItems.{IsExpected}
-use Rattle.rnix_grammar.specs.Operands.{follows, IsBegun, IsFollowed, IsOperand, goes_on}
-use Rattle.rnix_grammar.specs.Reads.{IsOver}
-use Rattle.rnix_lemmas.proofs.Basics.{true_is_not_false}
-use Rattle.rnix_lemmas.proofs.EveryKind.{alike, never, only}
-use Rattle.rnix_lemmas.proofs.OpeningRows.{live_to}
-use Rattle.rnix_lemmas.proofs.StrictParts.{end_behind}
-use Rattle.rnix_lemmas.proofs.FirstTrees.{IsSingle, first_in, single_calls}
-use Rattle.rnix_lemmas.proofs.FollowLemmas.{followed_call, followed_tight, follows_level, follows_token}
-use Rattle.rnix_uniqueness.proofs.Runs.{runs_on, runs_from, step_to}
-use Rattle.rnix_uniqueness.proofs.StepReads.{IsOperandRead, ReadsTree}
-use Rattle.rnix_uniqueness.proofs.ReadingHeights.{Short, Trees, Front, by_leaf, by_stray, by_node, front_of}
-use Rattle.rnix_uniqueness.proofs.FirstItems.{Ended, past_ends, name_item}
-use Rattle.rnix_uniqueness.proofs.OperandGoesOn.{goes, settles, begun_same}
-use Rattle.rnix_uniqueness.proofs.ItemRows.{stray_reads}
-use Rattle.rnix_uniqueness.proofs.OperatorRows.{Leading, leading, leading_reads, unreported}
 
 -- how the first item of an argument goes on with a tree
 passes : (i : SyntaxKind) → is_fn_arg i ≡ true → follow_of i ≡ a.Apply

@@ -1,10 +1,8 @@
 -- Steps from one machine end in one machine.
 use Rattle.std.proofs.Common.{◌≡◌, ℕ, false, List, [], ◌∷◌, refl, ap, sym, ◌∙◌}
-use Rattle.rnix_kinds.specs.declared.kinds.SyntaxKind.TheVariants.{NODE_ROOT}
-use Rattle.rnix_grammar.specs.declared.place.Place.TheVariants as p
-use Rattle.rnix_grammar.specs.Fault.{Fault}
-use Rattle.rnix_grammar.specs.AnnotatedForest.{Token, AnnotatedForest, blank}
+use Rattle.{rnix_kinds.specs.declared.kinds.SyntaxKind.TheVariants.NODE_ROOT, rnix_grammar.specs.{Fault.Fault, AnnotatedForest.{Token, AnnotatedForest, blank}}}
 use Rattle.rnix_grammar.specs.Machine.{Node, Frame, Machine, machine, opened, begins, step, Runs, rest as here, then as further}
+use Rattle.rnix_grammar.specs.declared.place.Place.TheVariants as p
 
 -- from where no step changes anything, all steps lead back
 leads_back : {a b c : Machine} → Runs false c b → c ≡ a → step false a ≡ a → a ≡ b

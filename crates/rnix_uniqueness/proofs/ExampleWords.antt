@@ -1,13 +1,11 @@
 -- Words for trees and errors of examples.
 use Rattle.std.proofs.Common.{ℕ, zero, suc}
-use Rattle.rnix_kinds.specs.declared.kinds.SyntaxKind.{SyntaxKind}
-use Rattle.rnix_kinds.specs.declared.kinds.SyntaxKind.TheVariants.{NODE_APPLY, NODE_ATTRPATH, NODE_ATTRPATH_VALUE, NODE_ATTR_SET, NODE_BIN_OP, NODE_IDENT, NODE_IDENT_PARAM, NODE_INTERPOL, NODE_LAMBDA, NODE_LIST, NODE_PAREN, NODE_PATH_REL, NODE_PATTERN, NODE_PAT_BIND, NODE_PAT_ENTRY, NODE_SELECT}
-use Rattle.rnix_green.specs.Range.{Extent}
-use Rattle.rnix_grammar.specs.declared.until.Until.{Until}
-use Rattle.rnix_grammar.specs.Fault.{Fault, extra, unwanted, ended_before}
-use Rattle.rnix_grammar.specs.Tables.{wanted_kinds, operand_kinds}
-use Rattle.rnix_grammar.specs.AnnotatedForest.{Stray, Unwanted, Extra}
-use Rattle.rnix_uniqueness.proofs.Refused.{Shape, done, item, node, wrong}
+use Rattle.rnix_kinds.specs.declared.kinds.SyntaxKind.{SyntaxKind, TheVariants.{NODE_APPLY, NODE_ATTRPATH, NODE_ATTRPATH_VALUE, NODE_ATTR_SET, NODE_BIN_OP}}
+use Rattle.rnix_kinds.specs.declared.kinds.SyntaxKind.TheVariants.{NODE_IDENT, NODE_IDENT_PARAM, NODE_INTERPOL, NODE_LAMBDA, NODE_LIST, NODE_PAREN}
+use Rattle.rnix_kinds.specs.declared.kinds.SyntaxKind.TheVariants.{NODE_PATH_REL, NODE_PATTERN, NODE_PAT_BIND, NODE_PAT_ENTRY, NODE_SELECT}
+use Rattle.{rnix_green.specs.Range.Extent, rnix_grammar.specs.{declared.until.Until.Until, Fault.{Fault, extra, unwanted, ended_before}, Tables.wanted_kinds}}
+use Rattle.{rnix_grammar.specs.{Tables.operand_kinds, AnnotatedForest.{Stray, Unwanted, Extra}}, rnix_uniqueness.proofs.Refused.{Shape, done, item, node}}
+use Rattle.rnix_uniqueness.proofs.Refused.{wrong}
 
 -- a tree, before those behind it
 abbrev pub Grows : Type 0

@@ -1,16 +1,13 @@
 -- Broken texts, how they are read, and plainly wrong readings of them: how operands begin, how far they go, and their errors.
-use Rattle.std.proofs.Common.{[], ◌∷◌, refl}
-use Rattle.std.specs.Prelude.{codes}
-use Rattle.std.specs.Str.{chars}
-use Rattle.std.specs.Char.{encode_utf8}
-use Rattle.rnix_kinds.specs.declared.kinds.SyntaxKind.TheVariants.{NODE_IDENT_PARAM, NODE_IF_ELSE, NODE_LAMBDA, NODE_LEGACY_LET, NODE_LET_IN, NODE_UNARY_OP, NODE_WITH, TOKEN_COLON, TOKEN_COMMA, TOKEN_DOT, TOKEN_IF, TOKEN_LET, TOKEN_L_BRACE, TOKEN_L_PAREN, TOKEN_R_PAREN, TOKEN_SUB, TOKEN_WITH}
-use Rattle.rnix_kinds.specs.Lexical.Tokens.{normal_cut, cut_at, tokens_behind}
-use Rattle.rnix_kinds.specs.Lexical.Texts.{space_len, begins_space, char_len}
-use Rattle.rnix_grammar.specs.declared.until.Until.TheVariants.{RParen, RBrace, Semicolon, Assign, Colon, Then, Else, Attr, Entry}
-use Rattle.rnix_grammar.specs.Fault.{ended, named_twice, too_deep}
-use Rattle.rnix_grammar.specs.AnnotatedForest.{TooDeep}
-use Rattle.rnix_uniqueness.proofs.Refused.{done, item, node, wrong, Case, IsTold, is_told}
-use Rattle.rnix_uniqueness.proofs.ExampleWords.{nothing, paren, run, name, path, path_of, no_path, wrong_path, call, select, binary, function, function_of, entry, set, binding, no_list, stray, unwanteds, extras, within, is_extra, no_operand, instead, missing}
+use Rattle.std.{specs.{Str.chars, Char.encode_utf8}, proofs.Common.{[], ◌∷◌, refl, codes}}
+use Rattle.rnix_kinds.specs.declared.kinds.SyntaxKind.TheVariants.{NODE_IDENT_PARAM, NODE_IF_ELSE, NODE_LAMBDA, NODE_LEGACY_LET, NODE_LET_IN, NODE_UNARY_OP}
+use Rattle.rnix_kinds.specs.declared.kinds.SyntaxKind.TheVariants.{NODE_WITH, TOKEN_COLON, TOKEN_COMMA, TOKEN_DOT, TOKEN_IF, TOKEN_LET, TOKEN_L_BRACE}
+use Rattle.rnix_kinds.specs.{declared.kinds.SyntaxKind.TheVariants.{TOKEN_L_PAREN, TOKEN_R_PAREN, TOKEN_SUB, TOKEN_WITH}, Lexical.Tokens.{normal_cut, cut_at}}
+use Rattle.rnix_kinds.specs.Lexical.{Tokens.tokens_behind, Texts.{space_len, begins_space, char_len}}
+use Rattle.rnix_grammar.specs.{declared.until.Until.TheVariants.{RParen, RBrace, Semicolon, Assign, Colon, Then, Else, Attr, Entry}, Fault.{ended, named_twice}}
+use Rattle.{rnix_grammar.specs.{Fault.too_deep, AnnotatedForest.TooDeep}, rnix_uniqueness.proofs.Refused.{done, item, node, wrong, Case, IsTold, is_told}}
+use Rattle.rnix_uniqueness.proofs.ExampleWords.{nothing, paren, run, name, path, path_of, no_path, wrong_path, call, select, binary, function, function_of}
+use Rattle.rnix_uniqueness.proofs.ExampleWords.{entry, set, binding, no_list, stray, unwanteds, extras, within, is_extra, no_operand, instead, missing}
 
 -- `if[]`: not a call of a stray `if`
 abbrev condition : Case

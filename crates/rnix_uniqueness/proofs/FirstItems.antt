@@ -1,23 +1,13 @@
 -- What a row goes on with behind a state that is no place: an item, or a name.
-use Rattle.std.proofs.Common.{◌≡◌, ℕ, Bool, true, false, List, [], ◌++◌, Option, Some, None, refl, ap, sym, ◌∙◌, subst}
-use Rattle.std.specs.Prelude.{if◌then◌else◌}
-use Rattle.std.specs.List.{list_all}
-use Rattle.rnix_kinds.proofs.AllKinds.{all_kinds, implied}
-use Rattle.rnix_kinds.specs.declared.kinds.SyntaxKind.{SyntaxKind}
-use Rattle.rnix_kinds.specs.declared.kinds.SyntaxKind.TheVariants.{TOKEN_IDENT, NODE_IDENT, NODE_LITERAL, NODE_ROOT}
-use Rattle.rnix_grammar.specs.declared.place.Place.TheVariants as p
-use Rattle.rnix_grammar.specs.Fault.{Fault}
-use Rattle.rnix_grammar.specs.Missing.{missing, run_at}
-use Rattle.rnix_grammar.specs.AnnotatedForest.{Token, Note, Stray, Unwanted, Extra, Twice, TooDeep, AnnotatedForest, blank, token, branch, ◌⊕◌, one_token, one_branch, tokens_in, leaf_kind, end_from}
-use Rattle.rnix_grammar.specs.Reports.{repeats}
-use Rattle.rnix_grammar.specs.Rows.{RowState, Start, At, first, advance, live, start, whole}
-use Rattle.rnix_grammar.specs.Operands.{IsFollowed}
-use Rattle.rnix_grammar.specs.Reads.{Reads, end, leaf, missing_part, wrong, second, inner, deeper, IsWrong}
-use Rattle.rnix_lemmas.proofs.Basics.{true_is_not_false, not_if}
-use Rattle.rnix_lemmas.proofs.EveryKind.{only}
-use Rattle.rnix_lemmas.proofs.PlaceTests.{same_place}
-use Rattle.rnix_lemmas.proofs.RowKinds.{has_row, starts_row}
+use Rattle.std.{specs.List.list_all, proofs.Common.{◌≡◌, ℕ, Bool, true, false, List, [], ◌++◌, Option, Some, None, refl, ap, sym, ◌∙◌, subst, if◌then◌else◌}}
+use Rattle.rnix_kinds.{specs.declared.kinds.SyntaxKind.{SyntaxKind, TheVariants.{TOKEN_IDENT, NODE_IDENT, NODE_LITERAL, NODE_ROOT}}, proofs.AllKinds.all_kinds}
+use Rattle.{rnix_kinds.proofs.AllKinds.implied, rnix_grammar.specs.{Fault.Fault, Missing.{missing, run_at}, AnnotatedForest.{Token, Note, Stray, Unwanted}}}
+use Rattle.rnix_grammar.specs.AnnotatedForest.{Extra, Twice, TooDeep, AnnotatedForest, blank, token, branch, ◌⊕◌, one_token, one_branch, tokens_in, leaf_kind}
+use Rattle.rnix_grammar.specs.{AnnotatedForest.end_from, Reports.repeats, Rows.{RowState, Start, At, first, advance, live, start, whole}, Operands.IsFollowed}
+use Rattle.{rnix_grammar.specs.Reads.{Reads, end, leaf, missing_part, wrong, second, inner, deeper, IsWrong}, rnix_lemmas.proofs.Basics.true_is_not_false}
+use Rattle.rnix_lemmas.proofs.{Basics.not_if, EveryKind.only, PlaceTests.same_place, RowKinds.{has_row, starts_row}}
 use Rattle.rnix_uniqueness.proofs.ReadingHeights.{Short, Front, by_leaf, by_stray, by_node, front_of}
+use Rattle.rnix_grammar.specs.declared.place.Place.TheVariants as p
 
 -- a kind without rows begins at no place
 plain_start : (k : SyntaxKind) → has_row k ≡ false → start k ≡ Start k

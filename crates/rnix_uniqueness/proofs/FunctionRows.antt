@@ -1,31 +1,18 @@
 -- Functions are read as operands, if smaller rows are read.
 use Rattle.std.proofs.Common.{◌≡◌, ◌⊎◌, inl, inr, ℕ, true, false, List, [], ◌∷◌, ◌++◌, refl, ap, sym, ◌∙◌, subst, append_assoc}
-use Rattle.rnix_kinds.specs.declared.kinds.SyntaxKind.{SyntaxKind}
-use Rattle.rnix_kinds.specs.declared.kinds.SyntaxKind.TheVariants.{TOKEN_AT, TOKEN_IDENT, TOKEN_L_BRACE, NODE_IDENT, NODE_IDENT_PARAM, NODE_LAMBDA, NODE_PATTERN, NODE_PAT_BIND}
-use Rattle.rnix_grammar.specs.declared.place.Place.{Place}
+use Rattle.rnix_kinds.specs.declared.kinds.SyntaxKind.{SyntaxKind, TheVariants.{TOKEN_AT, TOKEN_IDENT, TOKEN_L_BRACE, NODE_IDENT, NODE_IDENT_PARAM}}
+use Rattle.{rnix_kinds.specs.declared.kinds.SyntaxKind.TheVariants.{NODE_LAMBDA, NODE_PATTERN, NODE_PAT_BIND}, rnix_grammar.specs.declared.place.Place.Place}
+use Rattle.rnix_grammar.specs.{declared.begin.Begin.Begin, Fault.Fault, Begins.{begin_of, second_kind}, AnnotatedForest.{Token, AnnotatedForest, blank, token}}
+use Rattle.rnix_grammar.specs.{AnnotatedForest.{branch, ◌⊕◌, one_token, one_branch, tokens_in, leaf_kind, leaf_kind_as, head_kind, end_from}, Machine.Node}
+use Rattle.rnix_grammar.specs.{Machine.{Operand, Frame, machine, opened, begun, operand_on, Runs}, Rows.{RowState, Start, BeforeAt, At, first, advance, live}}
+use Rattle.{rnix_grammar.specs.{Rows.{start, whole}, Reports.repeats, Operands.kind_of, Reads.IsOver}, rnix_lemmas.proofs.Basics.true_is_not_false}
+use Rattle.rnix_lemmas.proofs.{EveryKind.{only, only_both}, FollowLemmas.followed_atom, RowKinds.has_row, StrictParts.end_behind}
+use Rattle.rnix_uniqueness.proofs.{Runs.{runs_on, runs_to, runs_from}, StepReads.{IsOperandRead, ReadsTree}, ReadingHeights.{Short, AllRows, Front, by_leaf}}
+use Rattle.rnix_uniqueness.proofs.{ReadingHeights.{by_stray, by_node, front_of, short_to}, RowClasses.{row_class, ReadOn, read_on}, RowEnds.node_read}
+use Rattle.rnix_uniqueness.proofs.{RowEnds.operand_read, FirstItems.{row_of_kind, past_ends, item_next, item_alone, name_next}, OperandBegins.BegunBy}
+use Rattle.rnix_uniqueness.proofs.OperandBegins.{begin_for, begins_special}
 use Rattle.rnix_grammar.specs.declared.place.Place.TheVariants as p
-use Rattle.rnix_grammar.specs.declared.begin.Begin.{Begin}
 use Rattle.rnix_grammar.specs.declared.begin.Begin.TheVariants as b
-use Rattle.rnix_grammar.specs.Fault.{Fault}
-use Rattle.rnix_grammar.specs.Begins.{begin_of, second_kind}
-use Rattle.rnix_grammar.specs.AnnotatedForest.{Token, AnnotatedForest, blank, token, branch, ◌⊕◌, one_token, one_branch, tokens_in, leaf_kind, leaf_kind_as, head_kind, end_from}
-use Rattle.rnix_grammar.specs.Machine.{Node, Operand, Frame, machine, opened, begun, operand_on, Runs}
-use Rattle.rnix_grammar.specs.Rows.{RowState, Start, BeforeAt, At, first, advance, live, start, whole}
-use Rattle.rnix_grammar.specs.Reports.{repeats}
-use Rattle.rnix_grammar.specs.Operands.{kind_of}
-use Rattle.rnix_grammar.specs.Reads.{IsOver}
-use Rattle.rnix_lemmas.proofs.Basics.{true_is_not_false}
-use Rattle.rnix_lemmas.proofs.EveryKind.{only, only_both}
-use Rattle.rnix_lemmas.proofs.FollowLemmas.{followed_atom}
-use Rattle.rnix_lemmas.proofs.RowKinds.{has_row}
-use Rattle.rnix_lemmas.proofs.StrictParts.{end_behind}
-use Rattle.rnix_uniqueness.proofs.Runs.{runs_on, runs_to, runs_from}
-use Rattle.rnix_uniqueness.proofs.StepReads.{IsOperandRead, ReadsTree}
-use Rattle.rnix_uniqueness.proofs.ReadingHeights.{Short, AllRows, Front, by_leaf, by_stray, by_node, front_of, short_to}
-use Rattle.rnix_uniqueness.proofs.RowClasses.{row_class, ReadOn, read_on}
-use Rattle.rnix_uniqueness.proofs.RowEnds.{node_read, operand_read}
-use Rattle.rnix_uniqueness.proofs.FirstItems.{row_of_kind, past_ends, item_next, item_alone, name_next}
-use Rattle.rnix_uniqueness.proofs.OperandBegins.{BegunBy, begin_for, begins_special}
 
 -- the steps read the rest of a function's row behind its parameter
 abbrev Body : SyntaxKind → ℕ → ℕ → AnnotatedForest → List Token → AnnotatedForest → List Fault → Type 0

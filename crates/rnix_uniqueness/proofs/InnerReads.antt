@@ -1,33 +1,18 @@
 -- A node that stands at a place of a row is read there, if smaller rows and trees are read.
-use Rattle.std.proofs.Common.{◌≡◌, ℕ, suc, true, false, List, [], ◌++◌, Option, Some, refl, ap, sym, ◌∙◌, subst, append-nil}
-use Rattle.std.specs.Prelude.{if◌then◌else◌}
-use Rattle.rnix_kinds.specs.declared.kinds.SyntaxKind.{SyntaxKind}
-use Rattle.rnix_kinds.specs.declared.kinds.SyntaxKind.TheVariants.{TOKEN_AT, TOKEN_IDENT, NODE_IDENT, NODE_PAT_BIND, NODE_PAT_ENTRY}
-use Rattle.rnix_grammar.specs.declared.place.Place.{Place}
+use Rattle.std.proofs.Common.{◌≡◌, ℕ, suc, true, false, List, [], ◌++◌, Option, Some, refl, ap, sym, ◌∙◌, subst, append-nil, if◌then◌else◌}
+use Rattle.rnix_kinds.specs.declared.kinds.SyntaxKind.{SyntaxKind, TheVariants.{TOKEN_AT, TOKEN_IDENT, NODE_IDENT, NODE_PAT_BIND, NODE_PAT_ENTRY}}
+use Rattle.rnix_grammar.specs.{declared.{place.Place.Place, action.Action.Action}, Fault.Fault, Tables.is_wanted, Symbols.{symbol_at, level_in, is_counted}}
+use Rattle.rnix_grammar.specs.{Actions.done_at, AnnotatedForest.{Token, AnnotatedForest, blank, token, one_token, one_branch, tokens_in, leaf_kind}}
+use Rattle.rnix_grammar.specs.{AnnotatedForest.{leaf_kind_as, head_kind, end_from, touches}, Rows.{RowState, At, Start, first, fits, is_expression, live}}
+use Rattle.rnix_grammar.specs.{Rows.{start, whole}, Reports.repeats, Operands.{IsBegun, IsOperand}, Reads.{IsRoom, deeper, IsOver}}
+use Rattle.rnix_lemmas.proofs.{Basics.true_is_not_false, EveryKind.{only, only_both}, NodeKinds.{told_plain, fits_expression}, RowKinds.has_row}
+use Rattle.rnix_uniqueness.proofs.{ReadingHeights.{Short, AllRows, Trees, Front, by_leaf, by_stray, by_node, front_of, short_to}, RowClasses.class_of}
+use Rattle.rnix_uniqueness.proofs.{RowClasses.{row_class, read_on}, RowEnds.is_inner, FirstItems.{row_of_kind, item_next, name_item, name_next}}
+use Rattle.rnix_uniqueness.proofs.{OperatorRows.unreported, PlacedNodes.{IsOpener, NodeRead, operand, begins, opens, name, binds, entry}, RowTrees.ReadsOne}
+use Rattle.rnix_uniqueness.proofs.RowTrees.{one_operand, one_begun, one_opened, one_named, one_entry}
 use Rattle.rnix_grammar.specs.declared.place.Place.TheVariants as p
 use Rattle.rnix_grammar.specs.declared.until.Until.TheVariants as u
-use Rattle.rnix_grammar.specs.declared.action.Action.{Action}
 use Rattle.rnix_grammar.specs.declared.action.Action.TheVariants as a
-use Rattle.rnix_grammar.specs.Fault.{Fault}
-use Rattle.rnix_grammar.specs.Tables.{is_wanted}
-use Rattle.rnix_grammar.specs.Symbols.{symbol_at, level_in, is_counted}
-use Rattle.rnix_grammar.specs.Actions.{done_at}
-use Rattle.rnix_grammar.specs.AnnotatedForest.{Token, AnnotatedForest, blank, token, one_token, one_branch, tokens_in, leaf_kind, leaf_kind_as, head_kind, end_from, touches}
-use Rattle.rnix_grammar.specs.Rows.{RowState, At, Start, first, fits, is_expression, live, start, whole}
-use Rattle.rnix_grammar.specs.Reports.{repeats}
-use Rattle.rnix_grammar.specs.Operands.{IsBegun, IsOperand}
-use Rattle.rnix_grammar.specs.Reads.{IsRoom, deeper, IsOver}
-use Rattle.rnix_lemmas.proofs.Basics.{true_is_not_false}
-use Rattle.rnix_lemmas.proofs.EveryKind.{only, only_both}
-use Rattle.rnix_lemmas.proofs.NodeKinds.{told_plain, fits_expression}
-use Rattle.rnix_lemmas.proofs.RowKinds.{has_row}
-use Rattle.rnix_uniqueness.proofs.ReadingHeights.{Short, AllRows, Trees, Front, by_leaf, by_stray, by_node, front_of, short_to}
-use Rattle.rnix_uniqueness.proofs.RowClasses.{class_of, row_class, read_on}
-use Rattle.rnix_uniqueness.proofs.RowEnds.{is_inner}
-use Rattle.rnix_uniqueness.proofs.FirstItems.{row_of_kind, item_next, name_item, name_next}
-use Rattle.rnix_uniqueness.proofs.OperatorRows.{unreported}
-use Rattle.rnix_uniqueness.proofs.PlacedNodes.{IsOpener, NodeRead, operand, begins, opens, name, binds, entry}
-use Rattle.rnix_uniqueness.proofs.RowTrees.{ReadsOne, one_operand, one_begun, one_opened, one_named, one_entry}
 
 -- what is to be shown of a node at a place
 abbrev InnerOne : SyntaxKind → ℕ → ℕ → Place → Place → AnnotatedForest → List Token → SyntaxKind → List Fault → AnnotatedForest → Type 0

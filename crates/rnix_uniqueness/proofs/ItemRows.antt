@@ -1,25 +1,15 @@
 -- Expressions that begin with an item are read as operands, if smaller rows are read.
 use Rattle.std.proofs.Common.{◌≡◌, ℕ, true, false, List, [], ◌∷◌, ◌++◌, Some, refl, ap, sym, ◌∙◌, subst, append-nil}
-use Rattle.rnix_kinds.proofs.AllKinds.{implied}
-use Rattle.rnix_kinds.specs.declared.kinds.SyntaxKind.{SyntaxKind}
-use Rattle.rnix_kinds.specs.declared.kinds.SyntaxKind.TheVariants.{TOKEN_L_BRACE, TOKEN_LET, NODE_ERROR, NODE_LEGACY_LET}
+use Rattle.rnix_kinds.specs.declared.kinds.SyntaxKind.{SyntaxKind, TheVariants.{TOKEN_L_BRACE, TOKEN_LET, NODE_ERROR, NODE_LEGACY_LET}}
+use Rattle.{rnix_kinds.proofs.AllKinds.implied, rnix_grammar.specs.{Fault.Fault, Begins.{begin_of, second_kind}, AnnotatedForest.{Token, Stray}}}
+use Rattle.rnix_grammar.specs.AnnotatedForest.{AnnotatedForest, blank, token, ◌⊕◌, one_token, one_branch, one_fault, row_of, tokens_in, leaf_kind, head_kind}
+use Rattle.rnix_grammar.specs.{AnnotatedForest.end_from, Reports.report, Machine.{Operand, Frame, machine, opened, begun, rest as here}, Rows.{RowState, Start}}
+use Rattle.{rnix_grammar.specs.{Rows.{BeforeBrace, At, first, advance, live}, Reads.IsOver}, rnix_lemmas.proofs.EveryKind.{alike, only}}
+use Rattle.{rnix_lemmas.proofs.FollowLemmas.{FollowedTo, atom_tight, followed_atom, followed_loose}, rnix_uniqueness.proofs.Runs.{runs_to, runs_from}}
+use Rattle.rnix_uniqueness.proofs.{StepReads.{IsOperandRead, ReadsTree}, ReadingHeights.{Short, AllRows, Front, front_of, short_to}, RowClasses.class_of}
+use Rattle.rnix_uniqueness.proofs.{RowClasses.read_on, RowEnds.operand_read, FirstItems.{is_bare, item_next, past_ends}, OperandBegins.{is_led, LedBy, by_leaf}}
+use Rattle.rnix_uniqueness.proofs.OperandBegins.{by_node, begins_led, begins_special, followed_led}
 use Rattle.rnix_grammar.specs.declared.place.Place.TheVariants as p
-use Rattle.rnix_grammar.specs.Fault.{Fault}
-use Rattle.rnix_grammar.specs.Begins.{begin_of, second_kind}
-use Rattle.rnix_grammar.specs.AnnotatedForest.{Token, Stray, AnnotatedForest, blank, token, ◌⊕◌, one_token, one_branch, one_fault, row_of, tokens_in, leaf_kind, head_kind, end_from}
-use Rattle.rnix_grammar.specs.Reports.{report}
-use Rattle.rnix_grammar.specs.Machine.{Operand, Frame, machine, opened, begun, rest as here}
-use Rattle.rnix_grammar.specs.Rows.{RowState, Start, BeforeBrace, At, first, advance, live}
-use Rattle.rnix_grammar.specs.Reads.{IsOver}
-use Rattle.rnix_lemmas.proofs.EveryKind.{alike, only}
-use Rattle.rnix_lemmas.proofs.FollowLemmas.{FollowedTo, atom_tight, followed_atom, followed_loose}
-use Rattle.rnix_uniqueness.proofs.Runs.{runs_to, runs_from}
-use Rattle.rnix_uniqueness.proofs.StepReads.{IsOperandRead, ReadsTree}
-use Rattle.rnix_uniqueness.proofs.ReadingHeights.{Short, AllRows, Front, front_of, short_to}
-use Rattle.rnix_uniqueness.proofs.RowClasses.{class_of, read_on}
-use Rattle.rnix_uniqueness.proofs.RowEnds.{operand_read}
-use Rattle.rnix_uniqueness.proofs.FirstItems.{is_bare, item_next, past_ends}
-use Rattle.rnix_uniqueness.proofs.OperandBegins.{is_led, LedBy, by_leaf, by_node, begins_led, begins_special, followed_led}
 
 -- an item that begins no operand
 pub stray_reads : (t : Token) (d n : ℕ) (us : List Token) → ReadsTree d n (t ∷ []) (one_fault Stray (row_of (t ∷ []))) us (report Stray (t ∷ []) ∷ [])

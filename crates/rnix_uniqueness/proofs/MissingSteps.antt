@@ -1,26 +1,16 @@
 -- What is done at a place where the text ends, and where the next item is not the place's own.
-use Rattle.std.proofs.Common.{◌≡◌, ℕ, ◌<◌, Bool, true, false, List, [], ◌∷◌, ◌++◌, Option, Some, None, refl, ap, ◌∙◌, arith}
+use Rattle.std.proofs.Common.{◌≡◌, ℕ, ◌<◌, Bool, true, false, List, [], ◌∷◌, ◌++◌, Option, Some, None, refl, ap, ◌∙◌, arith, ◌||◌, if◌then◌else◌, nat_le}
 use Rattle.std.proofs.lemmas.Bool.Decides.{nat_tests}
-use Rattle.std.specs.Prelude.{◌||◌, if◌then◌else◌, nat_le}
-use Rattle.rnix_kinds.specs.declared.kinds.SyntaxKind.{SyntaxKind}
-use Rattle.rnix_kinds.specs.declared.kinds.SyntaxKind.TheVariants.{TOKEN_IDENT, TOKEN_OR, TOKEN_STRING_END, NODE_INHERIT_FROM}
-use Rattle.rnix_grammar.specs.declared.place.Place.{Place}
+use Rattle.rnix_kinds.specs.declared.kinds.SyntaxKind.{SyntaxKind, TheVariants.{TOKEN_IDENT, TOKEN_OR, TOKEN_STRING_END, NODE_INHERIT_FROM}}
+use Rattle.rnix_grammar.specs.{declared.{place.Place.Place, symbol.Symbol.Symbol, until.Until.Until}, Fault.{Fault, ended}, Tables.{is_wanted, depth_limit}}
+use Rattle.rnix_grammar.specs.{Actions.{done_at, attr_action, formals_action, name_action, pieces_action, token_action}, TokenKinds.{is_comma, is_l_paren}}
+use Rattle.rnix_grammar.specs.{AnnotatedForest.AnnotatedForest, Machine.{Head, Frame, machine, opened, perform, limited}, Missing.{missing_in, run_in}}
+use Rattle.{rnix_grammar.specs.{Symbols.is_counted, ExpectedItems.{begins_attr, expects_in, expects_end}}, rnix_lemmas.proofs.Basics.true_is_not_false}
+use Rattle.rnix_lemmas.proofs.Basics.{some_same}
 use Rattle.rnix_grammar.specs.declared.place.Place.TheVariants as p
-use Rattle.rnix_grammar.specs.declared.symbol.Symbol.{Symbol}
 use Rattle.rnix_grammar.specs.declared.symbol.Symbol.TheVariants as s
-use Rattle.rnix_grammar.specs.declared.until.Until.{Until}
 use Rattle.rnix_grammar.specs.declared.until.Until.TheVariants as u
 use Rattle.rnix_grammar.specs.declared.action.Action.TheVariants as a
-use Rattle.rnix_grammar.specs.Fault.{Fault, ended}
-use Rattle.rnix_grammar.specs.Tables.{is_wanted, depth_limit}
-use Rattle.rnix_grammar.specs.Actions.{done_at, attr_action, formals_action, name_action, pieces_action, token_action}
-use Rattle.rnix_grammar.specs.TokenKinds.{is_comma, is_l_paren}
-use Rattle.rnix_grammar.specs.AnnotatedForest.{AnnotatedForest}
-use Rattle.rnix_grammar.specs.Machine.{Head, Frame, machine, opened, perform, limited}
-use Rattle.rnix_grammar.specs.Missing.{missing_in, run_in}
-use Rattle.rnix_grammar.specs.Symbols.{is_counted}
-use Rattle.rnix_grammar.specs.ExpectedItems.{begins_attr, expects_in, expects_end}
-use Rattle.rnix_lemmas.proofs.Basics.{true_is_not_false, some_same}
 
 -- what is missing is reported once
 misses_one : (d e : Fault) (z y : Place) (x : Head) (n m : ℕ) (b : AnnotatedForest) (fs : List Frame) (gs : List Fault)

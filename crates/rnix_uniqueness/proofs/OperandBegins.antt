@@ -1,21 +1,15 @@
 -- What the first items of an operand begin.
-use Rattle.std.proofs.Common.{◌≡◌, ℕ, Bool, true, false, List, Option, Some, None, refl, ap, sym, ◌∙◌, subst}
-use Rattle.std.specs.Prelude.{if◌then◌else◌, nat_eq, nat_le}
-use Rattle.rnix_kinds.specs.declared.kinds.SyntaxKind.{SyntaxKind}
-use Rattle.rnix_kinds.specs.declared.kinds.SyntaxKind.TheVariants.{TOKEN_AT, TOKEN_COLON, TOKEN_IDENT, TOKEN_INVERT, TOKEN_L_BRACE, TOKEN_LET, TOKEN_SUB, NODE_APPLY, NODE_BIN_OP, NODE_HAS_ATTR, NODE_IDENT_PARAM, NODE_LAMBDA, NODE_LEGACY_LET, NODE_PATTERN, NODE_SELECT, NODE_UNARY_OP}
-use Rattle.rnix_grammar.specs.declared.place.Place.{Place}
+use Rattle.std.proofs.Common.{◌≡◌, ℕ, Bool, true, false, List, Option, Some, None, refl, ap, sym, ◌∙◌, subst, if◌then◌else◌, nat_eq, nat_le}
+use Rattle.rnix_kinds.specs.declared.kinds.SyntaxKind.{SyntaxKind, TheVariants.{TOKEN_AT, TOKEN_COLON, TOKEN_IDENT, TOKEN_INVERT, TOKEN_L_BRACE, TOKEN_LET}}
+use Rattle.rnix_kinds.specs.declared.kinds.SyntaxKind.TheVariants.{TOKEN_SUB, NODE_APPLY, NODE_BIN_OP, NODE_HAS_ATTR, NODE_IDENT_PARAM, NODE_LAMBDA}
+use Rattle.rnix_kinds.specs.declared.kinds.SyntaxKind.TheVariants.{NODE_LEGACY_LET, NODE_PATTERN, NODE_SELECT, NODE_UNARY_OP}
+use Rattle.rnix_grammar.specs.{declared.{place.Place.Place, begin.Begin.Begin}, Tables.is_cur_pos, Begins.{begin_of, begin_name, begin_let, is_pattern}}
+use Rattle.rnix_grammar.specs.{Begins.second_kind, AnnotatedForest.{Token, AnnotatedForest, blank, token, branch, one_branch, leaf_kind_as, head_kind}, Rows.At}
+use Rattle.rnix_grammar.specs.{Rows.{first, is_atom, is_expression}, TreeLevels.level_of, Operands.{first_tree, kind_of}}
+use Rattle.rnix_lemmas.proofs.{Basics.{true_is_not_false, choice}, FollowLemmas.{FollowedTo, atom_tight, followed_atom, followed_negated, followed_inverted}}
+use Rattle.{rnix_lemmas.proofs.FollowLemmas.followed_loose, rnix_uniqueness.proofs.RowClasses.row_class}
 use Rattle.rnix_grammar.specs.declared.place.Place.TheVariants as p
-use Rattle.rnix_grammar.specs.declared.begin.Begin.{Begin}
 use Rattle.rnix_grammar.specs.declared.begin.Begin.TheVariants as b
-use Rattle.rnix_grammar.specs.Tables.{is_cur_pos}
-use Rattle.rnix_grammar.specs.Begins.{begin_of, begin_name, begin_let, is_pattern, second_kind}
-use Rattle.rnix_grammar.specs.AnnotatedForest.{Token, AnnotatedForest, blank, token, branch, one_branch, leaf_kind_as, head_kind}
-use Rattle.rnix_grammar.specs.Rows.{At, first, is_atom, is_expression}
-use Rattle.rnix_grammar.specs.TreeLevels.{level_of}
-use Rattle.rnix_grammar.specs.Operands.{first_tree, kind_of}
-use Rattle.rnix_lemmas.proofs.Basics.{true_is_not_false, choice}
-use Rattle.rnix_lemmas.proofs.FollowLemmas.{FollowedTo, atom_tight, followed_atom, followed_negated, followed_inverted, followed_loose}
-use Rattle.rnix_uniqueness.proofs.RowClasses.{row_class}
 
 -- the kinds of expressions that begin with one item
 abbrev pub is_led : SyntaxKind → Bool

@@ -1,16 +1,9 @@
 -- An operand goes on with an item, or ends, and begins as its first tree does.
-use Rattle.std.proofs.lemmas.Bool.{and_parts}
-use Rattle.std.proofs.Common.{◌≡◌, ℕ, ◌≤◌, Bool, true, false, List, [], ◌∷◌, Some, refl, ap, sym, ◌∙◌}
-use Rattle.std.specs.Prelude.{◌&&◌, if◌then◌else◌, nat_le}
-use Rattle.rnix_kinds.specs.declared.kinds.SyntaxKind.{SyntaxKind}
+use Rattle.std.proofs.{lemmas.Bool.and_parts, Common.{◌≡◌, ℕ, ◌≤◌, Bool, true, false, List, [], ◌∷◌, Some, refl, ap, sym, ◌∙◌, ◌&&◌, if◌then◌else◌, nat_le}}
+use Rattle.{rnix_kinds.specs.declared.kinds.SyntaxKind.SyntaxKind, rnix_grammar.specs.Actions.{follow, more_action, goes_on as goes_between}}
+use Rattle.rnix_grammar.specs.{Levels.binding_power, AnnotatedForest.{Token, AnnotatedForest, head_kind}, Operands.{follows, first_tree, IsBegun, goes_on}}
+use Rattle.rnix_lemmas.proofs.{Basics.true_is_not_false, LevelLemmas.{at_most, at_most_true}, FollowLemmas.FollowedTo}
 use Rattle.rnix_grammar.specs.declared.action.Action.TheVariants as a
-use Rattle.rnix_grammar.specs.Actions.{follow, more_action, goes_on as goes_between}
-use Rattle.rnix_grammar.specs.Levels.{binding_power}
-use Rattle.rnix_grammar.specs.AnnotatedForest.{Token, AnnotatedForest, head_kind}
-use Rattle.rnix_grammar.specs.Operands.{follows, first_tree, IsBegun, goes_on}
-use Rattle.rnix_lemmas.proofs.Basics.{true_is_not_false}
-use Rattle.rnix_lemmas.proofs.LevelLemmas.{at_most, at_most_true}
-use Rattle.rnix_lemmas.proofs.FollowLemmas.{FollowedTo}
 
 -- an item goes on with a tree, as far as the tree's level
 pub goes : (level high : ℕ) (i : SyntaxKind) (x : AnnotatedForest) → FollowedTo high x → follows i x ≡ true → level ≤ binding_power i → more_action level high (Some i) ≡ follow i

@@ -1,36 +1,20 @@
 -- Operators, selections and tests for attributes are read as operands, if smaller rows and trees are read.
 use Rattle.std.proofs.Common.{◌≡◌, ℕ, ◌≤◌, Bool, true, false, List, [], ◌∷◌, ◌++◌, Some, refl, ap, sym, ◌∙◌, subst, append-nil, append_assoc, arith}
-use Rattle.rnix_kinds.proofs.AllKinds.{implied}
-use Rattle.rnix_kinds.specs.declared.kinds.SyntaxKind.{SyntaxKind}
-use Rattle.rnix_kinds.specs.declared.kinds.SyntaxKind.TheVariants.{TOKEN_ADD, TOKEN_DOT, TOKEN_QUESTION, NODE_BIN_OP, NODE_HAS_ATTR, NODE_LITERAL, NODE_SELECT}
-use Rattle.rnix_grammar.specs.declared.place.Place.{Place}
+use Rattle.rnix_kinds.specs.declared.kinds.SyntaxKind.{SyntaxKind, TheVariants.{TOKEN_ADD, TOKEN_DOT, TOKEN_QUESTION, NODE_BIN_OP, NODE_HAS_ATTR, NODE_LITERAL}}
+use Rattle.{rnix_kinds.{specs.declared.kinds.SyntaxKind.TheVariants.NODE_SELECT, proofs.AllKinds.implied}, rnix_grammar.specs.declared.place.Place.Place}
+use Rattle.rnix_grammar.specs.{Fault.Fault, Actions.follow as follow_of, Levels.{binding_power, right_of, high_of}, AnnotatedForest.{Token, Stray}}
+use Rattle.rnix_grammar.specs.AnnotatedForest.{AnnotatedForest, blank, token, ◌⊕◌, one_token, one_branch, one_fault, row_of, tokens_in, leaf_kind, end_from}
+use Rattle.rnix_grammar.specs.{Reports.{report, repeats}, Machine.{Node, Operand, Frame, machine, opened, perform, operand_on}, Rows.{RowState, Start}}
+use Rattle.rnix_grammar.specs.Rows.{BeforeOperator, BeforeDot, BeforeQuestion, At, is_atom, is_questioned, is_operand, is_infix, is_expression, advance, live}
+use Rattle.rnix_grammar.specs.{Rows.to, TreeLevels.row_level, Operands.{follows, first_tree, IsBegun, IsFollowed}, Reads.IsOver}
+use Rattle.rnix_lemmas.proofs.{EveryKind.{alike, only}, NodeKinds.{is_error, told_plain}, OpeningRows.{is_place, live_to}, AnnotatedForestLemmas.⊕-assoc}
+use Rattle.rnix_lemmas.proofs.{StrictParts.end_behind, FirstTrees.{IsSingle, a_node, an_error, first_in, single_operator}, FollowLemmas.FollowedTo}
+use Rattle.rnix_lemmas.proofs.FollowLemmas.{followed_infix, followed_question, followed_tight, follows_level, follows_token}
+use Rattle.rnix_uniqueness.proofs.{Runs.{runs_on, runs_to, runs_from, step_to}, StepReads.{IsOperandRead, ReadsTree}, ReadingHeights.{Short, AllRows, Trees}}
+use Rattle.rnix_uniqueness.proofs.{ReadingHeights.{Front, by_leaf, by_stray, by_node, front_of, short_to}, RowClasses.{class_of, row_class, ReadOn, read_on}}
+use Rattle.rnix_uniqueness.proofs.{RowEnds.{quiet, operand_read}, FirstItems.{is_bare, Item, item_next}, OperandGoesOn.{goes, begun_same}, ItemRows.stray_reads}
 use Rattle.rnix_grammar.specs.declared.place.Place.TheVariants as p
 use Rattle.rnix_grammar.specs.declared.action.Action.TheVariants as a
-use Rattle.rnix_grammar.specs.Fault.{Fault}
-use Rattle.rnix_grammar.specs.Actions.{follow as follow_of}
-use Rattle.rnix_grammar.specs.Levels.{binding_power, right_of, high_of}
-use Rattle.rnix_grammar.specs.AnnotatedForest.{Token, Stray, AnnotatedForest, blank, token, ◌⊕◌, one_token, one_branch, one_fault, row_of, tokens_in, leaf_kind, end_from}
-use Rattle.rnix_grammar.specs.Reports.{report, repeats}
-use Rattle.rnix_grammar.specs.Machine.{Node, Operand, Frame, machine, opened, perform, operand_on}
-use Rattle.rnix_grammar.specs.Rows.{RowState, Start, BeforeOperator, BeforeDot, BeforeQuestion, At, is_atom, is_questioned, is_operand, is_infix, is_expression, advance, live, to}
-use Rattle.rnix_grammar.specs.TreeLevels.{row_level}
-use Rattle.rnix_grammar.specs.Operands.{follows, first_tree, IsBegun, IsFollowed}
-use Rattle.rnix_grammar.specs.Reads.{IsOver}
-use Rattle.rnix_lemmas.proofs.EveryKind.{alike, only}
-use Rattle.rnix_lemmas.proofs.NodeKinds.{is_error, told_plain}
-use Rattle.rnix_lemmas.proofs.OpeningRows.{is_place, live_to}
-use Rattle.rnix_lemmas.proofs.AnnotatedForestLemmas.{⊕-assoc}
-use Rattle.rnix_lemmas.proofs.StrictParts.{end_behind}
-use Rattle.rnix_lemmas.proofs.FirstTrees.{IsSingle, a_node, an_error, first_in, single_operator}
-use Rattle.rnix_lemmas.proofs.FollowLemmas.{FollowedTo, followed_infix, followed_question, followed_tight, follows_level, follows_token}
-use Rattle.rnix_uniqueness.proofs.Runs.{runs_on, runs_to, runs_from, step_to}
-use Rattle.rnix_uniqueness.proofs.StepReads.{IsOperandRead, ReadsTree}
-use Rattle.rnix_uniqueness.proofs.ReadingHeights.{Short, AllRows, Trees, Front, by_leaf, by_stray, by_node, front_of, short_to}
-use Rattle.rnix_uniqueness.proofs.RowClasses.{class_of, row_class, ReadOn, read_on}
-use Rattle.rnix_uniqueness.proofs.RowEnds.{quiet, operand_read}
-use Rattle.rnix_uniqueness.proofs.FirstItems.{is_bare, Item, item_next}
-use Rattle.rnix_uniqueness.proofs.OperandGoesOn.{goes, begun_same}
-use Rattle.rnix_uniqueness.proofs.ItemRows.{stray_reads}
 
 -- the first tree of a row, read, and the rest of the row
 pub record Leading (m : ℕ) (k : SyntaxKind) (d n : ℕ) (q s : RowState) (us : List Token) (c : AnnotatedForest) (es : List Fault) : Type 0 where

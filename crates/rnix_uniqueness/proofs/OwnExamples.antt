@@ -1,16 +1,13 @@
 -- Broken texts, how they are read, and plainly wrong readings of them: the items that a place has for itself.
-use Rattle.std.proofs.Common.{[], ◌∷◌, refl}
-use Rattle.std.specs.Prelude.{codes}
-use Rattle.std.specs.Str.{chars}
-use Rattle.std.specs.Char.{encode_utf8}
-use Rattle.rnix_kinds.specs.declared.kinds.SyntaxKind.TheVariants.{NODE_DYNAMIC, NODE_HAS_ATTR, NODE_INHERIT, NODE_LIST, NODE_PAT_BIND, NODE_PAT_ENTRY, NODE_SELECT, TOKEN_AT, TOKEN_COMMA, TOKEN_INHERIT, TOKEN_INTERPOL_START, TOKEN_QUESTION, TOKEN_R_BRACK, TOKEN_R_PAREN}
-use Rattle.rnix_kinds.specs.Lexical.Tokens.{normal_cut, cut_at, tokens_behind}
-use Rattle.rnix_kinds.specs.Lexical.Texts.{space_len, begins_space, char_len, before_pair}
-use Rattle.rnix_grammar.specs.declared.until.Until.TheVariants.{RParen, RBrace, Semicolon, Assign, Colon, InterpolEnd, Ident, Attr}
-use Rattle.rnix_grammar.specs.Fault.{bound_twice, ended}
-use Rattle.rnix_grammar.specs.AnnotatedForest.{Twice}
-use Rattle.rnix_uniqueness.proofs.Refused.{done, item, node, wrong, Case, IsTold, is_told}
-use Rattle.rnix_uniqueness.proofs.ExampleWords.{paren, path_of, run, name, path, wrong_path, call, select, function_of, entry, interpol, no_interpol, pieces, set, binding, no_list, stray, unwanteds, extras, within, is_extra, no_operand, instead, missing}
+use Rattle.std.{specs.{Str.chars, Char.encode_utf8}, proofs.Common.{[], ◌∷◌, refl, codes}}
+use Rattle.rnix_kinds.specs.declared.kinds.SyntaxKind.TheVariants.{NODE_DYNAMIC, NODE_HAS_ATTR, NODE_INHERIT, NODE_LIST, NODE_PAT_BIND, NODE_PAT_ENTRY}
+use Rattle.rnix_kinds.specs.declared.kinds.SyntaxKind.TheVariants.{NODE_SELECT, TOKEN_AT, TOKEN_COMMA, TOKEN_INHERIT, TOKEN_INTERPOL_START, TOKEN_QUESTION}
+use Rattle.rnix_kinds.specs.{declared.kinds.SyntaxKind.TheVariants.{TOKEN_R_BRACK, TOKEN_R_PAREN}, Lexical.Tokens.{normal_cut, cut_at, tokens_behind}}
+use Rattle.{rnix_kinds.specs.Lexical.Texts.{space_len, begins_space, char_len, before_pair}, rnix_grammar.specs.declared.until.Until.TheVariants.RParen}
+use Rattle.rnix_grammar.specs.{declared.until.Until.TheVariants.{RBrace, Semicolon, Assign, Colon, InterpolEnd, Ident, Attr}, Fault.{bound_twice, ended}}
+use Rattle.{rnix_grammar.specs.AnnotatedForest.Twice, rnix_uniqueness.proofs.{Refused.{done, item, node, wrong, Case, IsTold, is_told}, ExampleWords.paren}}
+use Rattle.rnix_uniqueness.proofs.ExampleWords.{path_of, run, name, path, wrong_path, call, select, function_of, entry, interpol, no_interpol, pieces, set}
+use Rattle.rnix_uniqueness.proofs.ExampleWords.{binding, no_list, stray, unwanteds, extras, within, is_extra, no_operand, instead, missing}
 
 -- `{a,b}:a)`: not with a run from the comma to the brace
 abbrev formals : Case

@@ -1,28 +1,16 @@
 -- A token that is a place's own and goes on with its row is a leaf of it.
-use Rattle.std.proofs.Common.{◌≡◌, ℕ, Bool, true, false, Some, refl, ap, sym, ◌∙◌}
-use Rattle.std.specs.Prelude.{if◌then◌else◌, ◌||◌}
-use Rattle.rnix_kinds.specs.declared.kinds.SyntaxKind.{SyntaxKind}
-use Rattle.rnix_kinds.specs.declared.kinds.SyntaxKind.TheVariants.{NODE_INHERIT, TOKEN_CUR_POS, TOKEN_IDENT, TOKEN_INHERIT, TOKEN_PATH_ABS, NODE_ATTRPATH_VALUE, TOKEN_ADD, TOKEN_OR, TOKEN_STRING_CONTENT, NODE_CUR_POS, NODE_IDENT}
-use Rattle.rnix_grammar.specs.declared.place.Place.{Place}
+use Rattle.std.proofs.Common.{◌≡◌, ℕ, Bool, true, false, Some, refl, ap, sym, ◌∙◌, if◌then◌else◌, ◌||◌}
+use Rattle.rnix_kinds.specs.declared.kinds.SyntaxKind.{SyntaxKind, TheVariants.{NODE_INHERIT, TOKEN_CUR_POS, TOKEN_IDENT, TOKEN_INHERIT, TOKEN_PATH_ABS}}
+use Rattle.rnix_kinds.specs.declared.kinds.SyntaxKind.TheVariants.{NODE_ATTRPATH_VALUE, TOKEN_ADD, TOKEN_OR, TOKEN_STRING_CONTENT, NODE_CUR_POS, NODE_IDENT}
+use Rattle.rnix_grammar.specs.{declared.{place.Place.Place, until.Closer.Closer}, Tables.{closes, is_wanted}, Actions.{entries_action, action_at, done_at}}
+use Rattle.rnix_grammar.specs.{Actions.{token_action, series_action}, TokenKinds.is_inherit_token, Rows.{fits, At, Nowhere, advance, to, is_entry}}
+use Rattle.rnix_grammar.specs.{Rows.advance_symbol, Plain.is_node, declared.{symbol.Symbol.Symbol, until.Until.Until}, Symbols.symbol_at}
+use Rattle.{rnix_grammar.specs.{AnnotatedForest.leaf_kind_as, ExpectedItems.expects_in}, rnix_lemmas.proofs.Basics.true_is_not_false}
+use Rattle.rnix_lemmas.proofs.{NodeKinds.{expression_node, fits_expression, not_both}, PlaceTables.pieces_is, PlaceTests.{same_place, no_place, to_test}}
 use Rattle.rnix_grammar.specs.declared.place.Place.TheVariants as p
-use Rattle.rnix_grammar.specs.declared.until.Closer.{Closer}
 use Rattle.rnix_grammar.specs.declared.until.Closer.TheVariants as c
 use Rattle.rnix_grammar.specs.declared.action.Action.TheVariants as a
-use Rattle.rnix_grammar.specs.Tables.{closes, is_wanted}
-use Rattle.rnix_grammar.specs.Actions.{entries_action, action_at, done_at, token_action, series_action}
-use Rattle.rnix_grammar.specs.TokenKinds.{is_inherit_token}
-use Rattle.rnix_grammar.specs.Rows.{fits, At, Nowhere, advance, to, is_entry, advance_symbol}
-use Rattle.rnix_grammar.specs.Plain.{is_node}
-use Rattle.rnix_grammar.specs.declared.symbol.Symbol.{Symbol}
 use Rattle.rnix_grammar.specs.declared.symbol.Symbol.TheVariants as s
-use Rattle.rnix_grammar.specs.declared.until.Until.{Until}
-use Rattle.rnix_grammar.specs.Symbols.{symbol_at}
-use Rattle.rnix_grammar.specs.AnnotatedForest.{leaf_kind_as}
-use Rattle.rnix_grammar.specs.ExpectedItems.{expects_in}
-use Rattle.rnix_lemmas.proofs.Basics.{true_is_not_false}
-use Rattle.rnix_lemmas.proofs.NodeKinds.{expression_node, fits_expression, not_both}
-use Rattle.rnix_lemmas.proofs.PlaceTables.{pieces_is}
-use Rattle.rnix_lemmas.proofs.PlaceTests.{same_place, no_place, to_test}
 
 -- what is no node fits no level
 fits_none : (n : ℕ) (k : SyntaxKind) → is_node k ≡ false → fits n k ≡ false

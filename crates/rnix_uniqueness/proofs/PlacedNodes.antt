@@ -1,38 +1,22 @@
 -- How a node that stands at a place is read there.
-use Rattle.std.proofs.Common.{◌≡◌, ℕ, Bool, true, false, List, [], ◌∷◌, Option, Some, None, refl, ap, sym, ◌∙◌}
-use Rattle.std.specs.Prelude.{if◌then◌else◌, nat_eq}
-use Rattle.std.specs.List.{list_all}
+use Rattle.std.{specs.List.list_all, proofs.Common.{◌≡◌, ℕ, Bool, true, false, List, [], ◌∷◌, Option, Some, None, refl, ap, sym, ◌∙◌, if◌then◌else◌, nat_eq}}
 use Rattle.std.proofs.lemmas.Bool.{and_parts}
-use Rattle.rnix_kinds.proofs.AllKinds.{all_kinds}
-use Rattle.rnix_kinds.specs.SyntaxKind.{place_of}
-use Rattle.rnix_kinds.specs.declared.kinds.SyntaxKind.{SyntaxKind}
-use Rattle.rnix_kinds.specs.declared.kinds.SyntaxKind.TheVariants.{TOKEN_AT, TOKEN_COMMA, TOKEN_DOT, TOKEN_IDENT, TOKEN_INHERIT, TOKEN_INTERPOL_START, TOKEN_L_PAREN, TOKEN_OR, TOKEN_QUESTION, TOKEN_SEMICOLON, TOKEN_STRING_START, NODE_ATTRPATH, NODE_ATTRPATH_VALUE, NODE_DYNAMIC, NODE_IDENT, NODE_INHERIT, NODE_INHERIT_FROM, NODE_INTERPOL, NODE_PAT_BIND, NODE_PAT_ENTRY, NODE_STRING}
-use Rattle.rnix_grammar.specs.declared.place.Place.{Place}
+use Rattle.rnix_kinds.specs.{SyntaxKind.place_of, declared.kinds.SyntaxKind.{SyntaxKind, TheVariants.{TOKEN_AT, TOKEN_COMMA, TOKEN_DOT, TOKEN_IDENT}}}
+use Rattle.rnix_kinds.specs.declared.kinds.SyntaxKind.TheVariants.{TOKEN_INHERIT, TOKEN_INTERPOL_START, TOKEN_L_PAREN, TOKEN_OR, TOKEN_QUESTION}
+use Rattle.rnix_kinds.specs.declared.kinds.SyntaxKind.TheVariants.{TOKEN_SEMICOLON, TOKEN_STRING_START, NODE_ATTRPATH, NODE_ATTRPATH_VALUE, NODE_DYNAMIC}
+use Rattle.rnix_kinds.specs.declared.kinds.SyntaxKind.TheVariants.{NODE_IDENT, NODE_INHERIT, NODE_INHERIT_FROM, NODE_INTERPOL, NODE_PAT_BIND, NODE_PAT_ENTRY}
+use Rattle.{rnix_kinds.{specs.declared.kinds.SyntaxKind.TheVariants.NODE_STRING, proofs.AllKinds.all_kinds}, rnix_grammar.specs.declared.place.Place.Place}
+use Rattle.rnix_grammar.specs.{declared.{symbol.Symbol.Symbol, until.Closer.Closer}, Tables.{is_wanted, closes}, Symbols.{symbol_at, level_in, is_counted}}
+use Rattle.rnix_grammar.specs.{Actions.{done_at, entries_action, attr_action, formals_action, name_action, names_action, source_action}, AnnotatedForest.Token}
+use Rattle.rnix_grammar.specs.{AnnotatedForest.{head_kind, touches}, Rows.{is_attr, is_entry, fits, Start, At, first, advance, advance_symbol, live, start, to}}
+use Rattle.rnix_grammar.specs.{TokenKinds.{is_piece_start, is_at, is_inherit_token}, ExpectedItems.{expects_in, expects_end, expects, stands_expected_in}}
+use Rattle.rnix_lemmas.proofs.{Basics.true_is_not_false, EveryKind.only, NodeKinds.is_error, RowKinds.{has_row, no_wanted, no_closing}, PlaceTables.pieces_is}
+use Rattle.{rnix_lemmas.proofs.PlaceTests.{same_place, no_place, to_test}, rnix_uniqueness.proofs.{MissingSteps.or_parts, OwnTokens.inherit_entry}}
+use Rattle.rnix_uniqueness.proofs.{RowClasses.{class_of, row_class}, RowEnds.is_inner, FirstItems.is_bare}
 use Rattle.rnix_grammar.specs.declared.place.Place.TheVariants as p
-use Rattle.rnix_grammar.specs.declared.symbol.Symbol.{Symbol}
 use Rattle.rnix_grammar.specs.declared.symbol.Symbol.TheVariants as s
 use Rattle.rnix_grammar.specs.declared.until.Until.TheVariants as u
-use Rattle.rnix_grammar.specs.declared.until.Closer.{Closer}
 use Rattle.rnix_grammar.specs.declared.action.Action.TheVariants as a
-use Rattle.rnix_grammar.specs.Tables.{is_wanted, closes}
-use Rattle.rnix_grammar.specs.Symbols.{symbol_at, level_in, is_counted}
-use Rattle.rnix_grammar.specs.Actions.{done_at, entries_action, attr_action, formals_action, name_action, names_action, source_action}
-use Rattle.rnix_grammar.specs.AnnotatedForest.{Token, head_kind, touches}
-use Rattle.rnix_grammar.specs.Rows.{is_attr, is_entry, fits, Start, At, first, advance, advance_symbol, live, start, to}
-use Rattle.rnix_grammar.specs.TokenKinds.{is_piece_start, is_at, is_inherit_token}
-use Rattle.rnix_grammar.specs.ExpectedItems.{expects_in, expects_end, expects, stands_expected_in}
-use Rattle.rnix_lemmas.proofs.Basics.{true_is_not_false}
-use Rattle.rnix_lemmas.proofs.EveryKind.{only}
-use Rattle.rnix_lemmas.proofs.NodeKinds.{is_error}
-use Rattle.rnix_lemmas.proofs.RowKinds.{has_row, no_wanted, no_closing}
-use Rattle.rnix_lemmas.proofs.PlaceTables.{pieces_is}
-use Rattle.rnix_lemmas.proofs.PlaceTests.{same_place}
-use Rattle.rnix_lemmas.proofs.PlaceTests.{no_place, to_test}
-use Rattle.rnix_uniqueness.proofs.MissingSteps.{or_parts}
-use Rattle.rnix_uniqueness.proofs.OwnTokens.{inherit_entry}
-use Rattle.rnix_uniqueness.proofs.RowClasses.{class_of, row_class}
-use Rattle.rnix_uniqueness.proofs.RowEnds.{is_inner}
-use Rattle.rnix_uniqueness.proofs.FirstItems.{is_bare}
 
 -- the next item, or the end of the text, is a symbol's own
 abbrev pub own_next : Symbol → Bool → Option SyntaxKind → Bool

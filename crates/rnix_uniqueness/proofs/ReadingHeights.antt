@@ -1,18 +1,11 @@
 -- Readings by how high their derivations are, and how a row goes on behind a state that is no place.
 use Rattle.std.proofs.Common.{◌≡◌, ℕ, suc, ◌+◌, ◌≤◌, true, false, List, [], ◌∷◌, ◌++◌, Some, length, refl, ap, sym, ◌∙◌, subst, arith}
-use Rattle.rnix_kinds.specs.declared.kinds.SyntaxKind.{SyntaxKind}
-use Rattle.rnix_kinds.specs.declared.kinds.SyntaxKind.TheVariants.{NODE_LITERAL}
-use Rattle.rnix_grammar.specs.declared.place.Place.{Place}
-use Rattle.rnix_grammar.specs.Fault.{Fault}
-use Rattle.rnix_grammar.specs.AnnotatedForest.{Token, Note, Stray, Unwanted, Extra, Twice, TooDeep, AnnotatedForest, blank, token, branch, fault, ◌⊕◌, one_token, one_branch, one_fault, row_of, tokens_in, leaf_kind, head_kind, end_from}
-use Rattle.rnix_grammar.specs.Reports.{report, repeats}
-use Rattle.rnix_grammar.specs.Rows.{RowState, At, fits, advance, live, whole, start, counts}
-use Rattle.rnix_grammar.specs.ExpectedItems.{IsExpected, stands_expected}
-use Rattle.rnix_grammar.specs.Operands.{IsFollowed, IsOperand, level_at}
-use Rattle.rnix_grammar.specs.Reads.{Reads, end, leaf, missing_part, wrong, second, inner, deeper, IsOver, IsWrong}
-use Rattle.rnix_lemmas.proofs.Basics.{true_is_not_false}
-use Rattle.rnix_lemmas.proofs.OpeningRows.{is_place}
-use Rattle.rnix_uniqueness.proofs.StepReads.{ReadsRow, ReadsTree}
+use Rattle.{rnix_kinds.specs.declared.kinds.SyntaxKind.{SyntaxKind, TheVariants.NODE_LITERAL}, rnix_grammar.specs.{declared.place.Place.Place, Fault.Fault}}
+use Rattle.rnix_grammar.specs.AnnotatedForest.{Token, Note, Stray, Unwanted, Extra, Twice, TooDeep, AnnotatedForest, blank, token, branch, fault, ◌⊕◌}
+use Rattle.rnix_grammar.specs.{AnnotatedForest.{one_token, one_branch, one_fault, row_of, tokens_in, leaf_kind, head_kind, end_from}, Reports.{report, repeats}}
+use Rattle.rnix_grammar.specs.{Rows.{RowState, At, fits, advance, live, whole, start, counts}, ExpectedItems.{IsExpected, stands_expected}, Operands.IsFollowed}
+use Rattle.rnix_grammar.specs.{Operands.{IsOperand, level_at}, Reads.{Reads, end, leaf, missing_part, wrong, second, inner, deeper, IsOver, IsWrong}}
+use Rattle.{rnix_lemmas.proofs.{Basics.true_is_not_false, OpeningRows.is_place}, rnix_uniqueness.proofs.StepReads.{ReadsRow, ReadsTree}}
 
 -- how many steps a reading takes to say
 abbrev pub height : {p : SyntaxKind} {d n : ℕ} {q s : RowState} {b : AnnotatedForest} {us : List Token} {f : AnnotatedForest} {es : List Fault} → Reads p d n q s b us f es → ℕ

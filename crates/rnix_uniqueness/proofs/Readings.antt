@@ -1,10 +1,8 @@
 -- Readings of two broken texts, written out rule by rule.
-use Rattle.std.proofs.Common.{[], ◌∷◌, refl, arith}
-use Rattle.std.specs.Prelude.{codes}
+use Rattle.std.proofs.Common.{[], ◌∷◌, refl, arith, codes}
 use Rattle.rnix_kinds.specs.declared.kinds.SyntaxKind.TheVariants.{TOKEN_SUB, TOKEN_IDENT, TOKEN_R_PAREN, NODE_UNARY_OP, NODE_IDENT}
-use Rattle.rnix_grammar.specs.Fault.{extra, ended}
-use Rattle.rnix_grammar.specs.AnnotatedForest.{Token, Extra, one_token, one_branch, fault, branch, blank}
-use Rattle.rnix_grammar.specs.Reads.{ReadsWhole, end, leaf, missing_part, wrong, inner}
+use Rattle.rnix_grammar.specs.{Fault.{extra, ended}, AnnotatedForest.{Token, Extra, one_token, one_branch, fault, branch, blank}, Reads.{ReadsWhole, end, leaf}}
+use Rattle.rnix_grammar.specs.Reads.{missing_part, wrong, inner}
 
 -- the only item of `-`
 abbrev sub : Token

@@ -1,22 +1,12 @@
 -- Readings that are refused: the steps make another one of the same items.
-use Rattle.std.proofs.Common.{◌≡◌, ℕ, zero, suc, ◌+◌, ◌≤◌, Bool, true, false, ◌&&◌, ◌==◌, List, [], ◌∷◌, ◌++◌, length, refl, ap, sym, ◌∙◌, subst, append-nil, append_assoc, arith}
-use Rattle.std.specs.Prelude.{if◌then◌else◌}
-use Rattle.std.specs.Cmp.Lexicographic.{pointwise, pointwise_decides}
-use Rattle.std.proofs.lemmas.Bool.{and_parts, and_from}
+use Rattle.std.{specs.Cmp.Lexicographic.{pointwise, pointwise_decides}, proofs.Common.{◌≡◌, ℕ, zero, suc, ◌+◌, ◌≤◌, Bool, true, false, ◌&&◌, ◌==◌, List, []}}
+use Rattle.std.proofs.{Common.{◌∷◌, ◌++◌, length, refl, ap, sym, ◌∙◌, subst, append-nil, append_assoc, arith, if◌then◌else◌}, lemmas.Bool.{and_parts, and_from}}
 use Rattle.std.proofs.lemmas.Bool.Decides.{Decides-eqb}
-use Rattle.rnix_kinds.specs.declared.kinds.SyntaxKind.{SyntaxKind}
-use Rattle.rnix_kinds.specs.declared.kinds.SyntaxKind.TheVariants.{NODE_ROOT, NODE_ERROR}
-use Rattle.rnix_kinds.specs.Lexical.Tokens.{tokens_of}
-use Rattle.rnix_green.specs.Equality.{same_kind, same_kind-decides}
-use Rattle.rnix_grammar.specs.Fault.{Fault, same_fault}
-use Rattle.rnix_grammar.specs.SameFaults.{same_fault-decides}
+use Rattle.rnix_kinds.specs.{declared.kinds.SyntaxKind.{SyntaxKind, TheVariants.{NODE_ROOT, NODE_ERROR}}, Lexical.Tokens.tokens_of}
+use Rattle.{rnix_green.specs.Equality.{same_kind, same_kind-decides}, rnix_grammar.specs.{Fault.{Fault, same_fault}, SameFaults.same_fault-decides}}
 use Rattle.rnix_grammar.specs.AnnotatedForest.{Token, Note, AnnotatedForest, blank, token, branch, fault, leaf_kind, tokens_in, end_from, placed_from}
-use Rattle.rnix_grammar.specs.Layout.{items, tail_of}
-use Rattle.rnix_grammar.specs.Machine.{Machine, begins, step, Runs, rest as here, then as further}
-use Rattle.rnix_grammar.specs.Reads.{ReadsWhole}
-use Rattle.rnix_lemmas.proofs.Basics.{true_is_not_false, not_if}
-use Rattle.rnix_uniqueness.proofs.Ended.{ended_with, ended_once}
-use Rattle.rnix_uniqueness.proofs.AllReads.{reads_runs}
+use Rattle.rnix_grammar.specs.{Layout.{items, tail_of}, Machine.{Machine, begins, step, Runs, rest as here, then as further}, Reads.ReadsWhole}
+use Rattle.{rnix_lemmas.proofs.Basics.{true_is_not_false, not_if}, rnix_uniqueness.proofs.{Ended.{ended_with, ended_once}, AllReads.reads_runs}}
 
 -- a row of trees without its items: each leaf takes the next one
 pub data Shape : Type 0 where

@@ -1,22 +1,11 @@
 -- The rows of entries of patterns, of second names and of the root have places of their own, and a row stays among its places.
-use Rattle.std.proofs.Common.{◌≡◌, ℕ, Bool, true, false, List, Option, Some, None, refl, ap, sym, ◌∙◌, subst, arith}
-use Rattle.std.specs.Prelude.{nat_eq}
-use Rattle.std.proofs.lemmas.Bool.Decides.{nat_tests}
-use Rattle.rnix_kinds.proofs.AllKinds.{every}
-use Rattle.rnix_kinds.specs.declared.kinds.SyntaxKind.{SyntaxKind}
-use Rattle.rnix_kinds.specs.declared.kinds.SyntaxKind.TheVariants.{NODE_ERROR, NODE_LITERAL, NODE_PAT_ENTRY, NODE_ROOT}
-use Rattle.rnix_grammar.specs.declared.place.Place.{Place}
+use Rattle.std.proofs.{Common.{◌≡◌, ℕ, Bool, true, false, List, Option, Some, None, refl, ap, sym, ◌∙◌, subst, arith, nat_eq}, lemmas.Bool.Decides.nat_tests}
+use Rattle.rnix_kinds.{specs.declared.kinds.SyntaxKind.{SyntaxKind, TheVariants.{NODE_ERROR, NODE_LITERAL, NODE_PAT_ENTRY, NODE_ROOT}}, proofs.AllKinds.every}
+use Rattle.rnix_grammar.specs.{declared.place.Place.Place, Fault.Fault, Missing.{missing, run_at}, Rows.{RowState, At, Nowhere, fits, advance, to}}
+use Rattle.rnix_grammar.specs.{AnnotatedForest.{Token, Note, Stray, Unwanted, Extra, Twice, TooDeep, AnnotatedForest, tokens_in, end_from}, Reads.{Reads, end}}
+use Rattle.{rnix_grammar.specs.Reads.{leaf, missing_part, wrong, second, inner, IsOver, IsWrong}, rnix_lemmas.proofs.Basics.true_is_not_false}
+use Rattle.{rnix_lemmas.proofs.{LevelLemmas.same_number, Places.home}, rnix_uniqueness.proofs.{StepReads.ReadsRow, ReadingHeights.{Short, AllRows}}}
 use Rattle.rnix_grammar.specs.declared.place.Place.TheVariants as p
-use Rattle.rnix_grammar.specs.Fault.{Fault}
-use Rattle.rnix_grammar.specs.Missing.{missing, run_at}
-use Rattle.rnix_grammar.specs.Rows.{RowState, At, Nowhere, fits, advance, to}
-use Rattle.rnix_grammar.specs.AnnotatedForest.{Token, Note, Stray, Unwanted, Extra, Twice, TooDeep, AnnotatedForest, tokens_in, end_from}
-use Rattle.rnix_grammar.specs.Reads.{Reads, end, leaf, missing_part, wrong, second, inner, IsOver, IsWrong}
-use Rattle.rnix_lemmas.proofs.Basics.{true_is_not_false}
-use Rattle.rnix_lemmas.proofs.LevelLemmas.{same_number}
-use Rattle.rnix_lemmas.proofs.Places.{home}
-use Rattle.rnix_uniqueness.proofs.StepReads.{ReadsRow}
-use Rattle.rnix_uniqueness.proofs.ReadingHeights.{Short, AllRows}
 
 -- the class of a kind's row: that of other nodes, of entries, of second names, or of the root
 abbrev pub class_of : Option SyntaxKind → ℕ

@@ -1,26 +1,15 @@
 -- Where a row ends, its node is complete and goes to the frame below.
 use Rattle.std.proofs.Common.{◌≡◌, ℕ, zero, suc, Bool, true, false, List, [], ◌∷◌, ◌++◌, Some, None, refl, ap, sym, ◌∙◌, append-nil, append_assoc, arith}
-use Rattle.std.specs.Prelude.{if◌then◌else◌, nat_le}
-use Rattle.rnix_kinds.proofs.AllKinds.{every}
-use Rattle.rnix_kinds.specs.declared.kinds.SyntaxKind.{SyntaxKind}
-use Rattle.rnix_kinds.specs.declared.kinds.SyntaxKind.TheVariants.{NODE_PAT_ENTRY}
-use Rattle.rnix_grammar.specs.declared.place.Place.{Place}
+use Rattle.std.proofs.Common.{if◌then◌else◌, nat_le}
+use Rattle.rnix_kinds.{specs.declared.kinds.SyntaxKind.{SyntaxKind, TheVariants.NODE_PAT_ENTRY}, proofs.AllKinds.every}
+use Rattle.rnix_grammar.specs.{declared.{place.Place.Place, action.Action.Action}, Fault.Fault, Actions.action_at, Symbols.symbol_at, AnnotatedForest.Token}
+use Rattle.rnix_grammar.specs.AnnotatedForest.{Twice, AnnotatedForest, blank, ◌⊕◌, one_branch, one_fault, tokens_in, head_kind, end_from, touches}
+use Rattle.rnix_grammar.specs.{Machine.{Head, Node, Second, Operand, Frame, machine, put, opened, perform, step, Runs, rest as here}, Reports.report}
+use Rattle.rnix_grammar.specs.{Reports.{repeated, repeats}, Rows.{At, whole}, ExpectedItems.expects_in, Reads.IsOver}
+use Rattle.{rnix_lemmas.proofs.{Basics.true_is_not_false, LevelLemmas.at_most}, rnix_uniqueness.proofs.{Runs.{runs_on, runs_to, step_to}, RowClasses.class_of}}
+use Rattle.rnix_uniqueness.proofs.RowClasses.{row_class, ReadOn}
 use Rattle.rnix_grammar.specs.declared.place.Place.TheVariants as p
-use Rattle.rnix_grammar.specs.declared.action.Action.{Action}
 use Rattle.rnix_grammar.specs.declared.action.Action.TheVariants as a
-use Rattle.rnix_grammar.specs.Fault.{Fault}
-use Rattle.rnix_grammar.specs.Actions.{action_at}
-use Rattle.rnix_grammar.specs.Symbols.{symbol_at}
-use Rattle.rnix_grammar.specs.AnnotatedForest.{Token, Twice, AnnotatedForest, blank, ◌⊕◌, one_branch, one_fault, tokens_in, head_kind, end_from, touches}
-use Rattle.rnix_grammar.specs.Machine.{Head, Node, Second, Operand, Frame, machine, put, opened, perform, step, Runs, rest as here}
-use Rattle.rnix_grammar.specs.Reports.{report, repeated, repeats}
-use Rattle.rnix_grammar.specs.Rows.{At, whole}
-use Rattle.rnix_grammar.specs.ExpectedItems.{expects_in}
-use Rattle.rnix_grammar.specs.Reads.{IsOver}
-use Rattle.rnix_lemmas.proofs.Basics.{true_is_not_false}
-use Rattle.rnix_lemmas.proofs.LevelLemmas.{at_most}
-use Rattle.rnix_uniqueness.proofs.Runs.{runs_on, runs_to, step_to}
-use Rattle.rnix_uniqueness.proofs.RowClasses.{class_of, row_class, ReadOn}
 
 -- how a row of a class ends
 abbrev is_ending : ℕ → Action → Bool

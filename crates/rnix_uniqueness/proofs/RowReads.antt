@@ -1,29 +1,15 @@
 -- A row from a place is read, if smaller rows and trees are.
 use Rattle.std.proofs.Common.{◌≡◌, ℕ, suc, ◌≤◌, true, false, List, [], ◌∷◌, ◌++◌, refl, ap, sym, ◌∙◌, subst}
-use Rattle.rnix_kinds.specs.declared.kinds.SyntaxKind.{SyntaxKind}
-use Rattle.rnix_kinds.specs.declared.kinds.SyntaxKind.TheVariants.{TOKEN_AT, NODE_ERROR}
-use Rattle.rnix_grammar.specs.declared.place.Place.{Place}
+use Rattle.{rnix_kinds.specs.declared.kinds.SyntaxKind.{SyntaxKind, TheVariants.{TOKEN_AT, NODE_ERROR}}, rnix_grammar.specs.declared.place.Place.Place}
+use Rattle.rnix_grammar.specs.{Fault.Fault, Symbols.{symbol_at, level_in}, AnnotatedForest.{Token, Twice, AnnotatedForest, blank, token, branch, fault, ◌⊕◌}}
+use Rattle.rnix_grammar.specs.{AnnotatedForest.{one_token, one_branch, one_fault, row_of, tokens_in, leaf_kind, end_from}, Reports.{report, repeats}}
+use Rattle.rnix_grammar.specs.{Rows.{RowState, At, SecondStart, advance, live, start}, ExpectedItems.{expects, stands_expected_in}, Operands.IsOperand}
+use Rattle.{rnix_grammar.specs.Reads.{Reads, end, leaf, missing_part, wrong, second, inner, deeper, IsOver, IsWrong}, rnix_lemmas.proofs.EveryKind.only}
+use Rattle.rnix_lemmas.proofs.{AnnotatedForestLemmas.tokens_in-row_of, PlaceTests.same_place, PlainPlaces.{Reaches, reaches}}
+use Rattle.rnix_uniqueness.proofs.{StepReads.ReadsRow, ReadingHeights.{height, Short, AllRows, Trees, front_of, short_to, less, less_left, less_right}}
+use Rattle.rnix_uniqueness.proofs.{PlacedNodes.node_read_at, RowTrees.{ReadsOne, row_end, row_on, row_lost, one_leaf, one_second}, RowClasses.read_on}
+use Rattle.rnix_uniqueness.proofs.{FirstItems.{row_of_kind, item_next}, InnerReads.inner_one, WrongReads.{WrongOne, wrong_one}}
 use Rattle.rnix_grammar.specs.declared.place.Place.TheVariants as p
-use Rattle.rnix_grammar.specs.Fault.{Fault}
-use Rattle.rnix_grammar.specs.Symbols.{symbol_at, level_in}
-use Rattle.rnix_grammar.specs.AnnotatedForest.{Token, Twice, AnnotatedForest, blank, token, branch, fault, ◌⊕◌, one_token, one_branch, one_fault, row_of, tokens_in, leaf_kind, end_from}
-use Rattle.rnix_grammar.specs.Reports.{report, repeats}
-use Rattle.rnix_grammar.specs.Rows.{RowState, At, SecondStart, advance, live, start}
-use Rattle.rnix_grammar.specs.ExpectedItems.{expects, stands_expected_in}
-use Rattle.rnix_grammar.specs.Operands.{IsOperand}
-use Rattle.rnix_grammar.specs.Reads.{Reads, end, leaf, missing_part, wrong, second, inner, deeper, IsOver, IsWrong}
-use Rattle.rnix_lemmas.proofs.EveryKind.{only}
-use Rattle.rnix_lemmas.proofs.AnnotatedForestLemmas.{tokens_in-row_of}
-use Rattle.rnix_lemmas.proofs.PlaceTests.{same_place}
-use Rattle.rnix_lemmas.proofs.PlainPlaces.{Reaches, reaches}
-use Rattle.rnix_uniqueness.proofs.StepReads.{ReadsRow}
-use Rattle.rnix_uniqueness.proofs.ReadingHeights.{height, Short, AllRows, Trees, front_of, short_to, less, less_left, less_right}
-use Rattle.rnix_uniqueness.proofs.PlacedNodes.{node_read_at}
-use Rattle.rnix_uniqueness.proofs.RowTrees.{ReadsOne, row_end, row_on, row_lost, one_leaf, one_second}
-use Rattle.rnix_uniqueness.proofs.RowClasses.{read_on}
-use Rattle.rnix_uniqueness.proofs.FirstItems.{row_of_kind, item_next}
-use Rattle.rnix_uniqueness.proofs.InnerReads.{inner_one}
-use Rattle.rnix_uniqueness.proofs.WrongReads.{WrongOne, wrong_one}
 
 -- the rest of a row behind a place
 shift : (m : ℕ) {p : SyntaxKind} {d n e : ℕ} {q s : RowState} {x : Place} {b c : AnnotatedForest} {us : List Token} {f : AnnotatedForest} {es : List Fault} (r : Reads p d n q s b us f es) → height r ≤ m → q ≡ At x → b ≡ c → n ≡ e

@@ -1,37 +1,19 @@
 -- How the steps read one more tree of a row, and the rest of the row behind it.
 use Rattle.std.proofs.Common.{◌≡◌, ℕ, suc, ◌<◌, ◌≤◌, Bool, true, false, List, [], ◌∷◌, ◌++◌, Some, refl, ap, sym, ◌∙◌, subst, append-nil, append_assoc, arith}
-use Rattle.std.proofs.lemmas.Bool.Decides.{nat_tests}
-use Rattle.std.specs.Prelude.{if◌then◌else◌, nat_le}
-use Rattle.rnix_kinds.specs.declared.kinds.SyntaxKind.{SyntaxKind}
-use Rattle.rnix_kinds.specs.declared.kinds.SyntaxKind.TheVariants.{TOKEN_AT, NODE_IDENT, NODE_PAT_ENTRY, NODE_ERROR}
-use Rattle.rnix_grammar.specs.declared.place.Place.{Place}
+use Rattle.std.proofs.{Common.{if◌then◌else◌, nat_le}, lemmas.Bool.Decides.nat_tests}
+use Rattle.rnix_kinds.specs.declared.kinds.SyntaxKind.{SyntaxKind, TheVariants.{TOKEN_AT, NODE_IDENT, NODE_PAT_ENTRY, NODE_ERROR}}
+use Rattle.rnix_grammar.specs.{declared.place.Place.Place, Fault.{Fault, too_deep}, Tables.depth_limit, Symbols.{symbol_at, is_counted}, Actions.action_at}
+use Rattle.rnix_grammar.specs.AnnotatedForest.{Token, AnnotatedForest, blank, ◌⊕◌, one_token, tokens_in, leaf_kind, head_kind, end_from, touches, Unwanted}
+use Rattle.rnix_grammar.specs.{AnnotatedForest.{Extra, Twice, TooDeep, branch, token, one_branch, one_fault, row_of}, Machine.{Head, Operand, Frame, machine}}
+use Rattle.rnix_grammar.specs.{Machine.{opened, kind_of, limited, operand_on, perform, Runs, rest as here, Second, dropped}, Missing.{missing, run_of, run_at}}
+use Rattle.rnix_grammar.specs.{Rows.{At, advance}, ExpectedItems.{expects, expects_end}, Operands.{IsBegun, goes_on}, TreeLevels.row_level, Reads.IsRoom}
+use Rattle.{rnix_grammar.specs.{Reads.deeper, declared.until.Until.Until, Reports.{report, repeats}}, rnix_lemmas.proofs.AnnotatedForestLemmas.⊕-assoc}
+use Rattle.rnix_lemmas.proofs.{AnnotatedForestLemmas.⊕-blank, StrictParts.end_behind, OpenHeads.is_open, RunLemmas.dropped_all}
+use Rattle.rnix_uniqueness.proofs.{Runs.{runs_on, runs_to, step_to}, StepReads.{ReadsRow, ReadsTree, IsOperandRead}, OwnTokens.takes_at, MissingSteps.misses_in}
+use Rattle.rnix_uniqueness.proofs.{MissingSteps.runs_in, OperandGoesOn.settles, RowClasses.{class_of, row_class, ReadOn}, RowEnds.{is_inner, node_read}}
+use Rattle.rnix_uniqueness.proofs.RowEnds.{closes_second}
 use Rattle.rnix_grammar.specs.declared.place.Place.TheVariants as p
 use Rattle.rnix_grammar.specs.declared.action.Action.TheVariants as a
-use Rattle.rnix_grammar.specs.Fault.{Fault, too_deep}
-use Rattle.rnix_grammar.specs.Tables.{depth_limit}
-use Rattle.rnix_grammar.specs.Symbols.{symbol_at, is_counted}
-use Rattle.rnix_grammar.specs.Actions.{action_at}
-use Rattle.rnix_grammar.specs.AnnotatedForest.{Token, AnnotatedForest, blank, ◌⊕◌, one_token, tokens_in, leaf_kind, head_kind, end_from, touches, Unwanted, Extra, Twice, TooDeep, branch, token, one_branch, one_fault, row_of}
-use Rattle.rnix_grammar.specs.Machine.{Head, Operand, Frame, machine, opened, kind_of, limited, operand_on, perform, Runs, rest as here, Second, dropped}
-use Rattle.rnix_grammar.specs.Missing.{missing, run_of, run_at}
-use Rattle.rnix_grammar.specs.Rows.{At, advance}
-use Rattle.rnix_grammar.specs.ExpectedItems.{expects, expects_end}
-use Rattle.rnix_grammar.specs.Operands.{IsBegun, goes_on}
-use Rattle.rnix_grammar.specs.TreeLevels.{row_level}
-use Rattle.rnix_grammar.specs.Reads.{IsRoom, deeper}
-use Rattle.rnix_grammar.specs.declared.until.Until.{Until}
-use Rattle.rnix_grammar.specs.Reports.{report, repeats}
-use Rattle.rnix_lemmas.proofs.AnnotatedForestLemmas.{⊕-assoc, ⊕-blank}
-use Rattle.rnix_lemmas.proofs.StrictParts.{end_behind}
-use Rattle.rnix_lemmas.proofs.OpenHeads.{is_open}
-use Rattle.rnix_lemmas.proofs.RunLemmas.{dropped_all}
-use Rattle.rnix_uniqueness.proofs.Runs.{runs_on, runs_to, step_to}
-use Rattle.rnix_uniqueness.proofs.StepReads.{ReadsRow, ReadsTree, IsOperandRead}
-use Rattle.rnix_uniqueness.proofs.OwnTokens.{takes_at}
-use Rattle.rnix_uniqueness.proofs.MissingSteps.{misses_in, runs_in}
-use Rattle.rnix_uniqueness.proofs.OperandGoesOn.{settles}
-use Rattle.rnix_uniqueness.proofs.RowClasses.{class_of, row_class, ReadOn}
-use Rattle.rnix_uniqueness.proofs.RowEnds.{is_inner, node_read, closes_second}
 
 -- The steps read a tree of some items on, from a place of a row to another.
 abbrev pub ReadsOne : SyntaxKind → ℕ → ℕ → Place → Place → AnnotatedForest → List Token → List Token → AnnotatedForest → List Fault → Type 0

@@ -1,19 +1,12 @@
 -- Expressions are read as operands, if the rows and the expressions in them are read.
 use Rattle.std.proofs.Common.{◌≡◌, ℕ, suc, ◌≤◌, true, false, List, refl, sym, ◌∙◌, arith}
-use Rattle.rnix_kinds.specs.declared.kinds.SyntaxKind.{SyntaxKind}
-use Rattle.rnix_kinds.specs.declared.kinds.SyntaxKind.TheVariants.{NODE_APPLY, NODE_BIN_OP, NODE_HAS_ATTR, NODE_LAMBDA, NODE_LEGACY_LET, NODE_ROOT, NODE_SELECT}
-use Rattle.rnix_grammar.specs.Fault.{Fault}
-use Rattle.rnix_grammar.specs.AnnotatedForest.{Token, AnnotatedForest, blank, one_branch, tokens_in, end_from}
-use Rattle.rnix_grammar.specs.Rows.{RowState, Start, fits, start, whole}
-use Rattle.rnix_grammar.specs.Reads.{Reads, end, leaf, missing_part, wrong, second, inner, IsOver}
-use Rattle.rnix_lemmas.proofs.Basics.{true_is_not_false}
-use Rattle.rnix_lemmas.proofs.ImitateLemmas.{start_half}
-use Rattle.rnix_uniqueness.proofs.StepReads.{ReadsTree}
-use Rattle.rnix_uniqueness.proofs.ReadingHeights.{height, Short, AllRows, Trees, Front, front, short_to}
-use Rattle.rnix_uniqueness.proofs.ItemRows.{led_reads, legacy_reads}
-use Rattle.rnix_uniqueness.proofs.OperatorRows.{binary_reads, question_reads, selected_reads}
-use Rattle.rnix_uniqueness.proofs.CallRows.{called_reads}
-use Rattle.rnix_uniqueness.proofs.FunctionRows.{lambda_reads}
+use Rattle.rnix_kinds.specs.declared.kinds.SyntaxKind.{SyntaxKind, TheVariants.{NODE_APPLY, NODE_BIN_OP, NODE_HAS_ATTR, NODE_LAMBDA, NODE_LEGACY_LET}}
+use Rattle.{rnix_kinds.specs.declared.kinds.SyntaxKind.TheVariants.{NODE_ROOT, NODE_SELECT}, rnix_grammar.specs.{Fault.Fault, AnnotatedForest.Token}}
+use Rattle.rnix_grammar.specs.{AnnotatedForest.{AnnotatedForest, blank, one_branch, tokens_in, end_from}, Rows.{RowState, Start, fits, start, whole}}
+use Rattle.{rnix_grammar.specs.Reads.{Reads, end, leaf, missing_part, wrong, second, inner, IsOver}, rnix_lemmas.proofs.Basics.true_is_not_false}
+use Rattle.{rnix_lemmas.proofs.ImitateLemmas.start_half, rnix_uniqueness.proofs.{StepReads.ReadsTree, ReadingHeights.{height, Short, AllRows, Trees, Front}}}
+use Rattle.rnix_uniqueness.proofs.{ReadingHeights.{front, short_to}, ItemRows.{led_reads, legacy_reads}, OperatorRows.{binary_reads, question_reads}}
+use Rattle.rnix_uniqueness.proofs.{OperatorRows.selected_reads, CallRows.called_reads, FunctionRows.lambda_reads}
 
 -- an expression of each kind is read
 kind_reads : (m : ℕ) → AllRows m → Trees m → (k : SyntaxKind) (d n : ℕ) (s : RowState) (us : List Token) (c : AnnotatedForest) (es : List Fault)

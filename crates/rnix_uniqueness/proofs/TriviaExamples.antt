@@ -1,16 +1,9 @@
 -- Where white space stands in the trees of some texts, and where it does not.
-use Rattle.std.proofs.Common.{◌≡◌, false, List, ℕ, refl, ap, sym, ◌∙◌}
-use Rattle.std.specs.Prelude.{codes}
-use Rattle.std.specs.Str.{chars}
-use Rattle.std.specs.Char.{encode_utf8}
-use Rattle.rnix_kinds.specs.declared.kinds.SyntaxKind.TheVariants.{NODE_IDENT, NODE_ROOT}
-use Rattle.rnix_kinds.specs.Lexical.Tokens.{tokens_of, normal_cut, cut_at, tokens_behind}
-use Rattle.rnix_kinds.specs.Lexical.Texts.{space_len, begins_space, char_len}
-use Rattle.rnix_grammar.specs.AnnotatedForest.{Token, AnnotatedForest, Extra, without_trivia, placed_from}
-use Rattle.rnix_grammar.specs.Layout.{with_trivia_whole}
-use Rattle.rnix_lemmas.proofs.Basics.{true_is_not_false}
-use Rattle.rnix_uniqueness.proofs.Refused.{Shape, done, item, node, wrong, filled, same_row, same_row_self}
-use Rattle.rnix_uniqueness.proofs.ExampleWords.{run, name, extras}
+use Rattle.std.{specs.{Str.chars, Char.encode_utf8}, proofs.Common.{◌≡◌, false, List, ℕ, refl, ap, sym, ◌∙◌, codes}}
+use Rattle.rnix_kinds.specs.{declared.kinds.SyntaxKind.TheVariants.{NODE_IDENT, NODE_ROOT}, Lexical.Tokens.{tokens_of, normal_cut, cut_at, tokens_behind}}
+use Rattle.{rnix_kinds.specs.Lexical.Texts.{space_len, begins_space, char_len}, rnix_grammar.specs.AnnotatedForest.{Token, AnnotatedForest, Extra}}
+use Rattle.{rnix_grammar.specs.{AnnotatedForest.{without_trivia, placed_from}, Layout.with_trivia_whole}, rnix_lemmas.proofs.Basics.true_is_not_false}
+use Rattle.rnix_uniqueness.proofs.{Refused.{Shape, done, item, node, wrong, filled, same_row, same_row_self}, ExampleWords.{run, name, extras}}
 
 -- a text, trees of all its tokens, and other trees of them that are the same without trivia
 pub record Spaced : Type 0 where

@@ -1,32 +1,16 @@
 -- An error node that stands at a place of a row is read there.
-use Rattle.std.proofs.Common.{◌≡◌, ℕ, Bool, true, false, List, [], ◌∷◌, ◌++◌, Option, Some, length, refl, ap, sym, ◌∙◌, subst, append-nil}
-use Rattle.std.specs.Prelude.{if◌then◌else◌}
-use Rattle.rnix_kinds.specs.declared.kinds.SyntaxKind.{SyntaxKind}
-use Rattle.rnix_kinds.specs.declared.kinds.SyntaxKind.TheVariants.{NODE_LITERAL}
-use Rattle.rnix_grammar.specs.declared.place.Place.{Place}
+use Rattle.std.proofs.Common.{◌≡◌, ℕ, Bool, true, false, List, [], ◌∷◌, ◌++◌, Option, Some, length, refl, ap, sym, ◌∙◌, subst, append-nil, if◌then◌else◌}
+use Rattle.{rnix_kinds.specs.declared.kinds.SyntaxKind.{SyntaxKind, TheVariants.NODE_LITERAL}, rnix_grammar.specs.declared.place.Place.Place}
+use Rattle.rnix_grammar.specs.{declared.{symbol.Symbol.Symbol, until.Until.Until}, Tables.depth_limit, Symbols.{symbol_at, level_in, is_counted}}
+use Rattle.rnix_grammar.specs.{Missing.{run_at, run_of}, AnnotatedForest.{touches, Token, Note, Stray, Unwanted, Extra, Twice, TooDeep, AnnotatedForest}}
+use Rattle.rnix_grammar.specs.{AnnotatedForest.{one_fault, row_of, is_some, head_kind}, Reports.report, Rows.{RowState, At, Nowhere, fits, advance}}
+use Rattle.rnix_grammar.specs.{Rows.{advance_symbol, live, to}, ExpectedItems.expects, Operands.IsOperand, Reads.{deeper, IsRoom, IsWrong}}
+use Rattle.rnix_lemmas.proofs.{Basics.true_is_not_false, PlaceTests.{same_place, to_test, no_place}, PlainPlaces.{Reaches, reaches}, RowKinds.no_wanted}
+use Rattle.{rnix_lemmas.proofs.RowKinds.no_closing, rnix_uniqueness.proofs.{ItemRows.stray_reads, PlacedNodes.{own_next, own_at, Operands, series_read}}}
+use Rattle.rnix_uniqueness.proofs.{RowTrees.{ReadsOne, one_operand, one_unwanted, one_extra, one_deep}, ReadingHeights.lone_token}
 use Rattle.rnix_grammar.specs.declared.place.Place.TheVariants as p
-use Rattle.rnix_grammar.specs.declared.symbol.Symbol.{Symbol}
 use Rattle.rnix_grammar.specs.declared.symbol.Symbol.TheVariants as s
-use Rattle.rnix_grammar.specs.declared.until.Until.{Until}
 use Rattle.rnix_grammar.specs.declared.action.Action.TheVariants as a
-use Rattle.rnix_grammar.specs.Tables.{depth_limit}
-use Rattle.rnix_grammar.specs.Symbols.{symbol_at, level_in, is_counted}
-use Rattle.rnix_grammar.specs.Missing.{run_at, run_of}
-use Rattle.rnix_grammar.specs.AnnotatedForest.{touches, Token, Note, Stray, Unwanted, Extra, Twice, TooDeep, AnnotatedForest, one_fault, row_of, is_some, head_kind}
-use Rattle.rnix_grammar.specs.Reports.{report}
-use Rattle.rnix_grammar.specs.Rows.{RowState, At, Nowhere, fits, advance, advance_symbol, live, to}
-use Rattle.rnix_grammar.specs.ExpectedItems.{expects}
-use Rattle.rnix_grammar.specs.Operands.{IsOperand}
-use Rattle.rnix_grammar.specs.Reads.{deeper, IsRoom, IsWrong}
-use Rattle.rnix_lemmas.proofs.Basics.{true_is_not_false}
-use Rattle.rnix_lemmas.proofs.PlaceTests.{same_place}
-use Rattle.rnix_lemmas.proofs.PlaceTests.{to_test, no_place}
-use Rattle.rnix_lemmas.proofs.PlainPlaces.{Reaches, reaches}
-use Rattle.rnix_lemmas.proofs.RowKinds.{no_wanted, no_closing}
-use Rattle.rnix_uniqueness.proofs.ItemRows.{stray_reads}
-use Rattle.rnix_uniqueness.proofs.PlacedNodes.{own_next, own_at, Operands, series_read}
-use Rattle.rnix_uniqueness.proofs.RowTrees.{ReadsOne, one_operand, one_unwanted, one_extra, one_deep}
-use Rattle.rnix_uniqueness.proofs.ReadingHeights.{lone_token}
 
 -- where an error node stands for an operand, an operand is read
 literal_in : (symbol : Symbol) (x y : Place) (touch : Bool) (next : Option SyntaxKind) → advance_symbol symbol x NODE_LITERAL ≡ At y
