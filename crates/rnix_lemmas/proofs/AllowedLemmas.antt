@@ -1,22 +1,13 @@
 -- The grammar's tables do what is allowed.
 use Rattle.std.proofs.Common.{◌≡◌, ℕ, Bool, true, false, Option, Some, None, refl, sym, ap, arith, nat_le, if◌then◌else◌}
-use Rattle.rnix_kinds.specs.declared.kinds.SyntaxKind.{SyntaxKind}
-use Rattle.rnix_kinds.specs.declared.kinds.SyntaxKind.TheVariants.{TOKEN_INHERIT}
-use Rattle.rnix_grammar.specs.declared.place.Place.{Place}
+use Rattle.{rnix_kinds.specs.declared.kinds.SyntaxKind.{SyntaxKind, TheVariants.TOKEN_INHERIT}, rnix_grammar.specs.declared.place.Place.Place}
+use Rattle.rnix_grammar.specs.{declared.{until.{Until.Until, Closer.Closer}, symbol.Symbol.Symbol, action.Action.Action}, Tables.{is_wanted, closes}}
+use Rattle.rnix_grammar.specs.{Symbols.symbol_at, Actions.{token_action, series_action, entries_action, more_pieces_action, bind_action, follow, goes_on}}
+use Rattle.rnix_grammar.specs.{Actions.{done_at, action_at}, Sorts.{Loose, Plain, sort_of, may_hold, is_open, sort_in, may_stand, behind_in, place_in}}
+use Rattle.{rnix_grammar.specs.{Weights.{steps_with, weight, full_bonus, bonus_in, bonus}, Allowed.Allowed}, rnix_lemmas.proofs.EachKind.each_kind}
 use Rattle.rnix_grammar.specs.declared.place.Place.TheVariants as p
-use Rattle.rnix_grammar.specs.declared.until.Until.{Until}
-use Rattle.rnix_grammar.specs.declared.until.Closer.{Closer}
-use Rattle.rnix_grammar.specs.declared.symbol.Symbol.{Symbol}
 use Rattle.rnix_grammar.specs.declared.symbol.Symbol.TheVariants as s
-use Rattle.rnix_grammar.specs.declared.action.Action.{Action}
 use Rattle.rnix_grammar.specs.declared.action.Action.TheVariants as a
-use Rattle.rnix_grammar.specs.Tables.{is_wanted, closes}
-use Rattle.rnix_grammar.specs.Symbols.{symbol_at}
-use Rattle.rnix_grammar.specs.Actions.{token_action, series_action, entries_action, more_pieces_action, bind_action, follow, goes_on, done_at, action_at}
-use Rattle.rnix_grammar.specs.Sorts.{Loose, Plain, sort_of, may_hold, is_open, sort_in, may_stand, behind_in, place_in}
-use Rattle.rnix_grammar.specs.Weights.{steps_with, weight, full_bonus, bonus_in, bonus}
-use Rattle.rnix_lemmas.proofs.EachKind.{each_kind}
-use Rattle.rnix_grammar.specs.Allowed.{Allowed}
 
 -- what a place is by what stands there
 record StandsAt (symbol : Symbol) (place : Place) : Type 0 where

@@ -1,8 +1,7 @@
 -- Rows of sketches, one after another.
 use Rattle.std.proofs.Common.{◌≡◌, List, [], ◌∷◌, ◌++◌, refl, ap, sym, ◌∙◌, append_assoc}
-use Rattle.rnix_green.specs.Forest.{leaf, node, join}
+use Rattle.{rnix_kinds.specs.declared.kinds.SyntaxKind.TheVariants.NODE_ERROR, rnix_green.specs.Forest.{leaf, node, join}}
 use Rattle.rnix_grammar.specs.AnnotatedForest.{Token, AnnotatedForest, blank, token, branch, fault, ◌⊕◌, row_of, tokens_in, forget}
-use Rattle.rnix_kinds.specs.declared.kinds.SyntaxKind.TheVariants.{NODE_ERROR}
 
 -- three rows
 pub ⊕-assoc : (f g h : AnnotatedForest) → (f ⊕ g) ⊕ h ≡ f ⊕ (g ⊕ h)

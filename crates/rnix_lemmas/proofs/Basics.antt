@@ -1,6 +1,5 @@
 -- Small facts that many proofs take.
-use Rattle.std.proofs.Common.{◌∙◌, ◌≡◌, Bool, true, false, List, [], ◌∷◌, ◌++◌, Some, refl, sym}
-use Rattle.std.specs.Prelude.{if◌then◌else◌}
+use Rattle.std.proofs.Common.{◌∙◌, ◌≡◌, Bool, true, false, List, [], ◌∷◌, ◌++◌, Some, refl, sym, if◌then◌else◌}
 
 -- a test has one answer
 pub true_is_not_false : true ≡ false → ⊥

@@ -1,9 +1,6 @@
 -- What is shown for each listed kind holds of every kind.
 use Rattle.std.proofs.Common.{ℕ, zero, suc, List, [], ◌∷◌, Option, Some, None, get_or, subst}
-use Rattle.rnix_kinds.specs.declared.kinds.SyntaxKind.{SyntaxKind}
-use Rattle.rnix_kinds.specs.declared.kinds.SyntaxKind.TheVariants.{TOKEN_ADD}
-use Rattle.rnix_kinds.specs.SyntaxKind.{place_of}
-use Rattle.rnix_kinds.proofs.AllKinds.{all_kinds, kind_at_place}
+use Rattle.rnix_kinds.{specs.{declared.kinds.SyntaxKind.{SyntaxKind, TheVariants.TOKEN_ADD}, SyntaxKind.place_of}, proofs.AllKinds.{all_kinds, kind_at_place}}
 
 -- each of some kinds is so
 abbrev pub Each : (SyntaxKind → Type 0) → List SyntaxKind → Type 0

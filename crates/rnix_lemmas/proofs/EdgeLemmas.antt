@@ -1,11 +1,8 @@
 -- The first and the last token of a row.
 use Rattle.std.proofs.Common.{◌≡◌, true, false, List, [], ◌∷◌, ◌++◌, refl, ap, sym, ◌∙◌, subst, append-nil}
-use Rattle.rnix_kinds.specs.declared.kinds.SyntaxKind.{SyntaxKind}
-use Rattle.rnix_kinds.specs.SyntaxKind.{is_trivia}
-use Rattle.rnix_grammar.specs.AnnotatedForest.{Token, Note, AnnotatedForest, blank, token, branch, fault, ◌⊕◌, one_branch, one_fault, tokens_in}
-use Rattle.rnix_grammar.specs.Layout.{trivia_before, trivia_if}
-use Rattle.rnix_grammar.specs.Machine.{ate}
-use Rattle.rnix_grammar.specs.Trim.{BeginsWithItem, EndsWithItem, token_kinds, AreFaultsTrimmed}
+use Rattle.{rnix_kinds.specs.{declared.kinds.SyntaxKind.SyntaxKind, SyntaxKind.is_trivia}, rnix_grammar.specs.AnnotatedForest.{Token, Note, AnnotatedForest}}
+use Rattle.rnix_grammar.specs.{AnnotatedForest.{blank, token, branch, fault, ◌⊕◌, one_branch, one_fault, tokens_in}, Layout.{trivia_before, trivia_if}}
+use Rattle.rnix_grammar.specs.{Machine.ate, Trim.{BeginsWithItem, EndsWithItem, token_kinds, AreFaultsTrimmed}}
 use Rattle.rnix_lemmas.proofs.AnnotatedForestLemmas.{tokens_in-⊕}
 
 -- some kinds

@@ -1,13 +1,8 @@
 -- What a test of all kinds says of each kind.
-use Rattle.std.proofs.Common.{◌≡◌, ◌≤◌, ℕ, Bool, true, false, ap, sym, ◌∙◌, arith}
+use Rattle.std.{specs.List.list_all, proofs.Common.{◌≡◌, ◌≤◌, ℕ, Bool, true, false, ap, sym, ◌∙◌, arith, ◌&&◌, if◌then◌else◌, nat_eq, nat_le}}
 use Rattle.std.proofs.lemmas.Bool.Decides.{nat_tests}
-use Rattle.std.specs.List.{list_all}
-use Rattle.std.specs.Prelude.{◌&&◌, if◌then◌else◌, nat_eq, nat_le}
-use Rattle.rnix_kinds.specs.SyntaxKind.{is_token, place_of}
-use Rattle.rnix_kinds.specs.declared.kinds.SyntaxKind.{SyntaxKind}
-use Rattle.rnix_kinds.proofs.AllKinds.{same_place, every, all_kinds, implied}
-use Rattle.rnix_grammar.specs.Plain.{is_node}
-use Rattle.rnix_lemmas.proofs.Basics.{true_is_not_false, not_if}
+use Rattle.rnix_kinds.{specs.{SyntaxKind.{is_token, place_of}, declared.kinds.SyntaxKind.SyntaxKind}, proofs.AllKinds.{same_place, every, all_kinds, implied}}
+use Rattle.{rnix_grammar.specs.Plain.is_node, rnix_lemmas.proofs.Basics.{true_is_not_false, not_if}}
 
 -- two tests that are never passed together are not both passed
 pub not_together : {v w : Bool} → (v && w) ≡ false → v ≡ true → w ≡ true → ⊥

@@ -1,10 +1,7 @@
 -- Rows that begin with one tree.
 use Rattle.std.proofs.Common.{◌≡◌, refl}
-use Rattle.rnix_kinds.specs.declared.kinds.SyntaxKind.{SyntaxKind}
-use Rattle.rnix_kinds.specs.declared.kinds.SyntaxKind.TheVariants.{NODE_LAMBDA}
-use Rattle.rnix_grammar.specs.AnnotatedForest.{Token, Note, AnnotatedForest, blank, token, branch, fault, ◌⊕◌}
-use Rattle.rnix_grammar.specs.TreeLevels.{operator_in, calls_or, is_or_row}
-use Rattle.rnix_grammar.specs.Operands.{first_tree}
+use Rattle.{rnix_kinds.specs.declared.kinds.SyntaxKind.{SyntaxKind, TheVariants.NODE_LAMBDA}, rnix_grammar.specs.AnnotatedForest.{Token, Note, AnnotatedForest}}
+use Rattle.rnix_grammar.specs.{AnnotatedForest.{blank, token, branch, fault, ◌⊕◌}, TreeLevels.{operator_in, calls_or, is_or_row}, Operands.first_tree}
 
 -- one tree
 pub data IsSingle : AnnotatedForest → Type 0 where

@@ -1,22 +1,11 @@
 -- Which items go on with a tree, by the tree's level.
-use Rattle.rnix_kinds.proofs.AllKinds.{all_kinds, every, implied}
-use Rattle.std.specs.List.{list_all}
-use Rattle.std.proofs.lemmas.Bool.{and_from}
-use Rattle.rnix_lemmas.proofs.EntryNames.{if_not}
-use Rattle.std.proofs.Common.{◌≡◌, ℕ, ◌≤◌, Bool, true, false, refl, sym, ◌∙◌, subst, arith}
-use Rattle.std.specs.Prelude.{◌||◌, ◌&&◌, if◌then◌else◌, nat_eq, nat_le}
-use Rattle.rnix_kinds.specs.declared.kinds.SyntaxKind.{SyntaxKind}
-use Rattle.rnix_kinds.specs.declared.kinds.SyntaxKind.TheVariants.{NODE_PAREN}
-use Rattle.rnix_kinds.specs.SyntaxKind.{is_fn_arg}
-use Rattle.rnix_grammar.specs.Levels.{binding_power, left_of, high_of}
-use Rattle.rnix_grammar.specs.TokenKinds.{is_or, is_question, is_dot}
-use Rattle.rnix_grammar.specs.Rows.{is_atom, is_infix}
-use Rattle.rnix_grammar.specs.AnnotatedForest.{Token, AnnotatedForest, blank, token, branch, fault}
-use Rattle.rnix_grammar.specs.TreeLevels.{row_level, level_of, is_atom_row}
-use Rattle.rnix_grammar.specs.Operands.{follows}
-use Rattle.rnix_lemmas.proofs.Basics.{true_is_not_false, not_if}
-use Rattle.rnix_lemmas.proofs.LevelLemmas.{within, at_most, same_number, at_most_true, binding_power_max, operates}
-use Rattle.rnix_lemmas.proofs.StrictParts.{left_least}
+use Rattle.std.{specs.List.list_all, proofs.{lemmas.Bool.and_from, Common.{◌≡◌, ℕ, ◌≤◌, Bool, true, false, refl, sym, ◌∙◌, subst, arith, ◌||◌, ◌&&◌}}}
+use Rattle.std.proofs.Common.{if◌then◌else◌, nat_eq, nat_le}
+use Rattle.rnix_kinds.{specs.{declared.kinds.SyntaxKind.{SyntaxKind, TheVariants.NODE_PAREN}, SyntaxKind.is_fn_arg}, proofs.AllKinds.{all_kinds, every}}
+use Rattle.{rnix_kinds.proofs.AllKinds.implied, rnix_grammar.specs.{Levels.{binding_power, left_of, high_of}, TokenKinds.{is_or, is_question, is_dot}}}
+use Rattle.rnix_grammar.specs.{Rows.{is_atom, is_infix}, AnnotatedForest.{Token, AnnotatedForest, blank, token, branch, fault}, TreeLevels.row_level}
+use Rattle.{rnix_grammar.specs.{TreeLevels.{level_of, is_atom_row}, Operands.follows}, rnix_lemmas.proofs.{EntryNames.if_not, Basics.true_is_not_false}}
+use Rattle.rnix_lemmas.proofs.{Basics.not_if, LevelLemmas.{within, at_most, same_number, at_most_true, binding_power_max, operates}, StrictParts.left_least}
 
 -- how an item goes on with a tree of a level that is an atom or not: as an operator, by `?`, as an argument, or by `.` or `or`
 pub data Follows (j : SyntaxKind) (v : ℕ) (w : Bool) : Type 0 where

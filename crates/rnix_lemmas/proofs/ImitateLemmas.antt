@@ -1,26 +1,15 @@
 -- How a repaired row comes as far as the row that is read: a run of unwanted tokens may leave the row at another place, where the same goes on.
-use Rattle.std.proofs.Common.{◌≡◌, ℕ, Bool, true, false, List, [], ◌∷◌, Option, Some, None, refl, ap, sym, ◌∙◌, subst}
-use Rattle.std.specs.Prelude.{if◌then◌else◌, nat_eq, nat_le}
-use Rattle.rnix_kinds.specs.declared.kinds.SyntaxKind.{SyntaxKind}
-use Rattle.rnix_kinds.specs.declared.kinds.SyntaxKind.TheVariants.{TOKEN_R_BRACE, NODE_IDENT, NODE_LITERAL, NODE_LAMBDA, NODE_PATTERN, NODE_ROOT}
-use Rattle.rnix_green.specs.Forest.{Forest}
-use Rattle.rnix_grammar.specs.declared.place.Place.{Place}
+use Rattle.std.proofs.Common.{◌≡◌, ℕ, Bool, true, false, List, [], ◌∷◌, Option, Some, None, refl, ap, sym, ◌∙◌, subst, if◌then◌else◌, nat_eq, nat_le}
+use Rattle.rnix_kinds.specs.declared.kinds.SyntaxKind.{SyntaxKind, TheVariants.{TOKEN_R_BRACE, NODE_IDENT, NODE_LITERAL, NODE_LAMBDA, NODE_PATTERN, NODE_ROOT}}
+use Rattle.{rnix_green.specs.Forest.Forest, rnix_grammar.specs.{declared.{place.Place.Place, until.Until.Until, symbol.Symbol.Symbol}, Tables.is_wanted}}
+use Rattle.rnix_grammar.specs.{Symbols.symbol_at, AnnotatedForest.{Token, Note, Stray, Unwanted, Extra, Twice, TooDeep, AnnotatedForest}, Rows.{fits, is_attr}}
+use Rattle.rnix_grammar.specs.Rows.{RowState, Start, At, Nowhere, to, first, advance_source, advance_names, advance_comma, advance_symbol, advance, whole, live}
+use Rattle.{rnix_grammar.specs.{Rows.{start, run}, Stands.IsBeside, Repaired.{patch, kinds_of}, Missing.run_at}, rnix_lemmas.proofs.Completable.IsCompletable}
+use Rattle.rnix_lemmas.proofs.{Completable.{completed_at, run_inside}, Owing.owing, RowKinds.{has_row, no_wanted, no_closing}, Basics.true_is_not_false}
+use Rattle.rnix_lemmas.proofs.Basics.{no_way}
 use Rattle.rnix_grammar.specs.declared.place.Place.TheVariants as p
-use Rattle.rnix_grammar.specs.declared.until.Until.{Until}
 use Rattle.rnix_grammar.specs.declared.until.Until.TheVariants as u
-use Rattle.rnix_grammar.specs.declared.symbol.Symbol.{Symbol}
 use Rattle.rnix_grammar.specs.declared.symbol.Symbol.TheVariants as s
-use Rattle.rnix_grammar.specs.Tables.{is_wanted}
-use Rattle.rnix_grammar.specs.Symbols.{symbol_at}
-use Rattle.rnix_grammar.specs.AnnotatedForest.{Token, Note, Stray, Unwanted, Extra, Twice, TooDeep, AnnotatedForest}
-use Rattle.rnix_grammar.specs.Rows.{fits, is_attr, RowState, Start, At, Nowhere, to, first, advance_source, advance_names, advance_comma, advance_symbol, advance, whole, live, start, run}
-use Rattle.rnix_grammar.specs.Stands.{IsBeside}
-use Rattle.rnix_grammar.specs.Repaired.{patch, kinds_of}
-use Rattle.rnix_grammar.specs.Missing.{run_at}
-use Rattle.rnix_lemmas.proofs.Completable.{IsCompletable, completed_at, run_inside}
-use Rattle.rnix_lemmas.proofs.Owing.{owing}
-use Rattle.rnix_lemmas.proofs.RowKinds.{has_row, no_wanted, no_closing}
-use Rattle.rnix_lemmas.proofs.Basics.{true_is_not_false, no_way}
 
 -- where the second state goes on the first goes on as well, and they end together
 pub record Imitates (q0 q : RowState) : Type 0 where

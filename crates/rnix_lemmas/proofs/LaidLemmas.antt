@@ -1,15 +1,9 @@
 -- A tree over its items has them as its tokens, each as it is written.
-use Rattle.std.proofs.Common.{◌≡◌, ℕ, Bool, true, false, List, [], ◌∷◌, ◌++◌, refl, ap, sym, ◌∙◌, append-nil, append_assoc}
+use Rattle.std.proofs.Common.{◌≡◌, ℕ, Bool, true, false, List, [], ◌∷◌, ◌++◌, refl, ap, sym, ◌∙◌, append-nil, append_assoc, ◌&&◌, map, if◌then◌else◌}
 use Rattle.std.proofs.lemmas.Bool.{and_parts}
-use Rattle.std.specs.Prelude.{◌&&◌, map, if◌then◌else◌}
-use Rattle.rnix_kinds.specs.declared.kinds.SyntaxKind.{SyntaxKind}
-use Rattle.rnix_kinds.specs.SyntaxKind.{is_token}
-use Rattle.rnix_kinds.specs.Lexical.Tokens.{Lexeme}
-use Rattle.rnix_green.specs.Forest.{Forest, empty, leaf, node}
-use Rattle.rnix_grammar.specs.AnnotatedForest.{Token, lexeme_of, tokens_in, forget}
-use Rattle.rnix_grammar.specs.Yield.{yield, untold}
-use Rattle.rnix_grammar.specs.Plain.{is_node, AreUntold}
-use Rattle.rnix_grammar.specs.Derivation.{beyond, laid, has_tokens_alone}
+use Rattle.{rnix_kinds.specs.{declared.kinds.SyntaxKind.SyntaxKind, SyntaxKind.is_token, Lexical.Tokens.Lexeme}, rnix_green.specs.Forest.{Forest, empty, leaf}}
+use Rattle.{rnix_green.specs.Forest.node, rnix_grammar.specs.{AnnotatedForest.{Token, lexeme_of, tokens_in, forget}, Yield.{yield, untold}, Plain.is_node}}
+use Rattle.rnix_grammar.specs.{Plain.AreUntold, Derivation.{beyond, laid, has_tokens_alone}}
 
 -- a row over items, and what is left of them
 pub record IsLaid (f : Forest) (ts : List Token) (ls : List Lexeme) : Type 0 where

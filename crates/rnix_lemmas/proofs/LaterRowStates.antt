@@ -1,16 +1,9 @@
 -- No row comes back to where it begins.
-use Rattle.std.proofs.Common.{◌≡◌, Bool, true, false, refl}
-use Rattle.std.specs.Prelude.{if◌then◌else◌}
-use Rattle.std.specs.List.{list_all}
-use Rattle.rnix_kinds.proofs.AllKinds.{all_kinds, every}
-use Rattle.rnix_kinds.specs.declared.kinds.SyntaxKind.{SyntaxKind}
-use Rattle.rnix_grammar.specs.declared.symbol.Symbol.{Symbol}
-use Rattle.rnix_grammar.specs.declared.symbol.Symbol.TheVariants as s
-use Rattle.rnix_grammar.specs.Symbols.{symbol_at}
-use Rattle.rnix_grammar.specs.Rows.{RowState, Start, At, first, advance}
-use Rattle.rnix_lemmas.proofs.Basics.{not_if}
-use Rattle.rnix_lemmas.proofs.EachKind.{each_kind}
+use Rattle.std.{specs.List.list_all, proofs.Common.{◌≡◌, Bool, true, false, refl, if◌then◌else◌}}
+use Rattle.{rnix_kinds.{specs.declared.kinds.SyntaxKind.SyntaxKind, proofs.AllKinds.{all_kinds, every}}, rnix_grammar.specs.declared.symbol.Symbol.Symbol}
+use Rattle.{rnix_grammar.specs.{Symbols.symbol_at, Rows.{RowState, Start, At, first, advance}}, rnix_lemmas.proofs.{Basics.not_if, EachKind.each_kind}}
 use Rattle.rnix_lemmas.proofs.RowStateCases.{Usual, Next, case_symbol}
+use Rattle.rnix_grammar.specs.declared.symbol.Symbol.TheVariants as s
 
 -- a state that the row of a kind of node begins at
 abbrev pub is_start : RowState → Bool

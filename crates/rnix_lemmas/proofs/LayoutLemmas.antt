@@ -1,12 +1,10 @@
 -- A forest of items with its trivia.
 use Rattle.std.proofs.Common.{◌≡◌, Bool, true, false, List, [], ◌∷◌, ◌++◌, refl, ap, sym, ◌∙◌, append_assoc}
-use Rattle.rnix_kinds.specs.declared.kinds.SyntaxKind.{SyntaxKind}
-use Rattle.rnix_kinds.specs.declared.kinds.SyntaxKind.TheVariants.{TOKEN_IDENT, TOKEN_OR, NODE_IDENT, NODE_CUR_POS, NODE_ERROR}
-use Rattle.rnix_kinds.specs.SyntaxKind.{is_trivia}
-use Rattle.rnix_grammar.specs.AnnotatedForest.{Token, AnnotatedForest, blank, token, branch, fault, ◌⊕◌, tokens_in, without_trivia, token_if, leaf_kind_as, HaveLeafKinds}
-use Rattle.rnix_grammar.specs.Layout.{from_item_if, from_item, trivia_if, trivia_before, item_if, items, tail_of, is_last, trivia_after, rest_after, left_after, with_trivia}
-use Rattle.rnix_lemmas.proofs.AnnotatedForestLemmas.{tokens_two}
-use Rattle.rnix_lemmas.proofs.Basics.{true_is_not_false}
+use Rattle.rnix_kinds.specs.declared.kinds.SyntaxKind.{SyntaxKind, TheVariants.{TOKEN_IDENT, TOKEN_OR, NODE_IDENT, NODE_CUR_POS, NODE_ERROR}}
+use Rattle.{rnix_kinds.specs.SyntaxKind.is_trivia, rnix_grammar.specs.AnnotatedForest.{Token, AnnotatedForest, blank, token, branch, fault, ◌⊕◌, tokens_in}}
+use Rattle.rnix_grammar.specs.{AnnotatedForest.{without_trivia, token_if, leaf_kind_as, HaveLeafKinds}, Layout.{from_item_if, from_item, trivia_if}}
+use Rattle.rnix_grammar.specs.Layout.{trivia_before, item_if, items, tail_of, is_last, trivia_after, rest_after, left_after, with_trivia}
+use Rattle.rnix_lemmas.proofs.{AnnotatedForestLemmas.tokens_two, Basics.true_is_not_false}
 
 -- no trivia stand before the first item
 pub trivia-from_item : (ts : List Token) → trivia_before (from_item ts) ≡ blank

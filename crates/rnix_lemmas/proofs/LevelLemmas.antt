@@ -1,17 +1,10 @@
 -- Kinds of operands and powers of tokens.
-use Rattle.rnix_kinds.proofs.AllKinds.{all_kinds, every, implied}
-use Rattle.std.specs.List.{list_all}
-use Rattle.std.proofs.lemmas.Bool.{and_parts, and_from, cases_lt, agree_below_at}
-use Rattle.std.proofs.lemmas.Bool.Decides.{nat_tests}
-use Rattle.std.proofs.Common.{◌≡◌, ◌⊎◌, inl, inr, ℕ, zero, suc, ◌+◌, ◌≤◌, ◌<◌, Bool, true, false, refl, ap, sym, ◌∙◌, arith}
-use Rattle.std.specs.Prelude.{◌||◌, ◌&&◌, if◌then◌else◌, nat_eq, nat_le, nat_lt}
-use Rattle.rnix_kinds.specs.declared.kinds.SyntaxKind.{SyntaxKind}
-use Rattle.rnix_kinds.specs.declared.kinds.SyntaxKind.TheVariants.{NODE_BIN_OP}
-use Rattle.rnix_lemmas.proofs.EveryKind.{whenever_two}
+use Rattle.std.{specs.List.list_all, proofs.{lemmas.Bool.{and_parts, and_from, cases_lt, agree_below_at, Decides.nat_tests}, Common.{◌≡◌, ◌⊎◌, inl, inr, ℕ}}}
+use Rattle.std.proofs.Common.{zero, suc, ◌+◌, ◌≤◌, ◌<◌, Bool, true, false, refl, ap, sym, ◌∙◌, arith, ◌||◌, ◌&&◌, if◌then◌else◌, nat_eq, nat_le, nat_lt}
+use Rattle.rnix_kinds.{specs.declared.kinds.SyntaxKind.{SyntaxKind, TheVariants.NODE_BIN_OP}, proofs.AllKinds.{all_kinds, every, implied}}
+use Rattle.rnix_grammar.specs.{Levels.{binding_power, left_of, right_of, high_of}, Rows.{is_atom, is_simple, is_negated, is_questioned, is_operand}}
+use Rattle.{rnix_grammar.specs.{Rows.{is_expression, fits, is_infix}, Stands.continues_kind}, rnix_lemmas.proofs.EveryKind.whenever_two}
 use Rattle.rnix_lemmas.proofs.EveryKind as every
-use Rattle.rnix_grammar.specs.Levels.{binding_power, left_of, right_of, high_of}
-use Rattle.rnix_grammar.specs.Rows.{is_atom, is_simple, is_negated, is_questioned, is_operand, is_expression, fits, is_infix}
-use Rattle.rnix_grammar.specs.Stands.{continues_kind}
 
 -- each class is in the next
 pub atom_simple : (k : SyntaxKind) → is_atom k ≡ true → is_simple k ≡ true

@@ -1,19 +1,11 @@
 -- What nests by the kinds of nodes is what counts at the places of rows.
-use Rattle.std.proofs.Common.{◌≡◌, Bool, true, false, refl, ap, sym, ◌∙◌, subst}
+use Rattle.std.{specs.List.list_all, proofs.Common.{◌≡◌, Bool, true, false, refl, ap, sym, ◌∙◌, subst, Option, Some, None, ◌&&◌, ◌||◌, if◌then◌else◌}}
 use Rattle.std.proofs.lemmas.Bool.{and_from, or_parts}
-use Rattle.std.specs.List.{list_all}
-use Rattle.rnix_kinds.proofs.AllKinds.{all_kinds, implied}
-use Rattle.std.specs.Prelude.{Option, Some, None, ◌&&◌, ◌||◌, if◌then◌else◌}
-use Rattle.rnix_kinds.specs.declared.kinds.SyntaxKind.{SyntaxKind}
-use Rattle.rnix_kinds.specs.declared.kinds.SyntaxKind.TheVariants.{NODE_BIN_OP, NODE_PAT_ENTRY}
-use Rattle.rnix_green.specs.Equality.{same_kind-decides}
-use Rattle.rnix_grammar.specs.declared.place.Place.TheVariants as p
-use Rattle.rnix_grammar.specs.Rows.{RowState, Start, At, first, advance, is_expression, live, counts}
-use Rattle.rnix_grammar.specs.Nest.{is_flat, nests}
-use Rattle.rnix_lemmas.proofs.Basics.{true_is_not_false, not_if, choice}
-use Rattle.rnix_lemmas.proofs.EveryKind.{whenever_two}
-use Rattle.rnix_lemmas.proofs.RowKinds.{has_row}
+use Rattle.rnix_kinds.{specs.declared.kinds.SyntaxKind.{SyntaxKind, TheVariants.{NODE_BIN_OP, NODE_PAT_ENTRY}}, proofs.AllKinds.{all_kinds, implied}}
+use Rattle.{rnix_green.specs.Equality.same_kind-decides, rnix_grammar.specs.Rows.{RowState, Start, At, first, advance, is_expression, live, counts}}
+use Rattle.{rnix_grammar.specs.Nest.{is_flat, nests}, rnix_lemmas.proofs.{Basics.{true_is_not_false, not_if, choice}, EveryKind.whenever_two, RowKinds.has_row}}
 use Rattle.rnix_lemmas.proofs.NestPlaces.{is_expected, owner, IsExpected}
+use Rattle.rnix_grammar.specs.declared.place.Place.TheVariants as p
 
 -- a state where the row of an entry of a pattern begins
 abbrev pub is_formal_start : RowState → Bool

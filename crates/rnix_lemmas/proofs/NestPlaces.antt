@@ -1,18 +1,12 @@
 -- Which states are in the rows of which kinds.
-use Rattle.std.proofs.Common.{◌≡◌, Bool, true, Option, Some, None, refl, subst}
-use Rattle.std.specs.List.{list_all}
-use Rattle.rnix_kinds.proofs.AllKinds.{all_kinds, every}
-use Rattle.rnix_kinds.specs.declared.kinds.SyntaxKind.{SyntaxKind}
-use Rattle.rnix_kinds.specs.declared.kinds.SyntaxKind.TheVariants.{NODE_APPLY, NODE_BIN_OP, NODE_ERROR, NODE_HAS_ATTR, NODE_LEGACY_LET, NODE_PAT_BIND, NODE_SELECT}
-use Rattle.rnix_green.specs.Equality.{same_kind, same_kind-decides}
-use Rattle.rnix_grammar.specs.declared.place.Place.{Place}
+use Rattle.std.{specs.List.list_all, proofs.Common.{◌≡◌, Bool, true, Option, Some, None, refl, subst}}
+use Rattle.rnix_kinds.specs.declared.kinds.SyntaxKind.{SyntaxKind, TheVariants.{NODE_APPLY, NODE_BIN_OP, NODE_ERROR, NODE_HAS_ATTR, NODE_LEGACY_LET}}
+use Rattle.rnix_kinds.{specs.declared.kinds.SyntaxKind.TheVariants.{NODE_PAT_BIND, NODE_SELECT}, proofs.AllKinds.{all_kinds, every}}
+use Rattle.{rnix_green.specs.Equality.{same_kind, same_kind-decides}, rnix_grammar.specs.{declared.place.Place.Place, Levels.right_of, Symbols.symbol_at}}
+use Rattle.rnix_grammar.specs.Rows.{RowState, Start, BeforeOperator, BeforeDot, BeforeQuestion, BeforeArgument, BeforeAt, BeforeBrace, SecondStart, At, Nowhere}
+use Rattle.{rnix_grammar.specs.Rows.{first, advance, is_infix, start}, rnix_lemmas.proofs.{EachKind.each_kind, Places.home, RowStateCases.{case_to, Leads}}}
+use Rattle.rnix_lemmas.proofs.RowStateCases.{case_leads}
 use Rattle.rnix_grammar.specs.declared.place.Place.TheVariants as p
-use Rattle.rnix_grammar.specs.Levels.{right_of}
-use Rattle.rnix_grammar.specs.Symbols.{symbol_at}
-use Rattle.rnix_grammar.specs.Rows.{RowState, Start, BeforeOperator, BeforeDot, BeforeQuestion, BeforeArgument, BeforeAt, BeforeBrace, SecondStart, At, Nowhere, first, advance, is_infix, start}
-use Rattle.rnix_lemmas.proofs.EachKind.{each_kind}
-use Rattle.rnix_lemmas.proofs.Places.{home}
-use Rattle.rnix_lemmas.proofs.RowStateCases.{case_to, Leads, case_leads}
 
 -- the kind of node in whose row a state is; some states are in those of many
 abbrev pub owner : RowState → Option SyntaxKind

@@ -1,12 +1,9 @@
 -- Which symbols are for no attribute path, and where a row goes on behind an error node.
 use Rattle.std.proofs.Common.{◌≡◌, ℕ, Bool, true, false, List, [], ◌∷◌, sym, ap, ◌∙◌}
-use Rattle.rnix_kinds.specs.declared.kinds.SyntaxKind.{SyntaxKind}
-use Rattle.rnix_grammar.specs.declared.symbol.Symbol.{Symbol}
+use Rattle.{rnix_kinds.specs.declared.kinds.SyntaxKind.SyntaxKind, rnix_grammar.specs.{declared.symbol.Symbol.Symbol, AnnotatedForest.{Token, Note, Stray}}}
+use Rattle.rnix_grammar.specs.{AnnotatedForest.{Unwanted, Extra, Twice, TooDeep, AnnotatedForest}, Rows.RowState, Stands.IsBeside, BehindErrors.go_run}
+use Rattle.rnix_grammar.specs.BehindErrors.{go_unwanted, go_error}
 use Rattle.rnix_grammar.specs.declared.symbol.Symbol.TheVariants as s
-use Rattle.rnix_grammar.specs.AnnotatedForest.{Token, Note, Stray, Unwanted, Extra, Twice, TooDeep, AnnotatedForest}
-use Rattle.rnix_grammar.specs.Rows.{RowState}
-use Rattle.rnix_grammar.specs.Stands.{IsBeside}
-use Rattle.rnix_grammar.specs.BehindErrors.{go_run, go_unwanted, go_error}
 
 -- no attribute path is to be read here
 abbrev pub is_pathless : Symbol → Bool

@@ -1,26 +1,13 @@
 -- Nesting by the kinds of nodes is nesting along the rows, for trees whose nodes have rows of their kinds.
-use Rattle.std.proofs.Common.{◌≡◌, ℕ, suc, Bool, true, false, List, [], ◌∷◌, refl, ap, sym, ◌∙◌, subst, arith}
+use Rattle.std.proofs.Common.{◌≡◌, ℕ, suc, Bool, true, false, List, [], ◌∷◌, refl, ap, sym, ◌∙◌, subst, arith, ◌&&◌, if◌then◌else◌, max}
 use Rattle.std.proofs.lemmas.Bool.{and_parts}
-use Rattle.std.specs.Prelude.{◌&&◌, if◌then◌else◌, max}
-use Rattle.rnix_kinds.proofs.AllKinds.{implied}
-use Rattle.rnix_kinds.specs.declared.kinds.SyntaxKind.{SyntaxKind}
-use Rattle.rnix_kinds.specs.declared.kinds.SyntaxKind.TheVariants.{NODE_IDENT, NODE_PAT_ENTRY, NODE_ROOT, TOKEN_IDENT}
-use Rattle.rnix_green.specs.Forest.{Forest, empty, leaf, node}
+use Rattle.rnix_kinds.{specs.declared.kinds.SyntaxKind.{SyntaxKind, TheVariants.{NODE_IDENT, NODE_PAT_ENTRY, NODE_ROOT, TOKEN_IDENT}}, proofs.AllKinds.implied}
+use Rattle.{rnix_green.specs.Forest.{Forest, empty, leaf, node}, rnix_grammar.specs.Rows.{RowState, Start, At, Nowhere, first, first_child, advance, live}}
+use Rattle.rnix_grammar.specs.{Rows.{whole, start, run, is_row, counts}, Repaired.kinds_of, Strict.{is_strict, is_strict_expression}, Nest.{is_flat, nests}}
+use Rattle.{rnix_grammar.specs.Nest.nest, rnix_lemmas.proofs.{RowNesting.nesting, Basics.{true_is_not_false, choice}, EachKind.each_kind, EveryKind.only}}
+use Rattle.rnix_lemmas.proofs.{EveryKind.never, ImitateLemmas.run_live, RowKinds.{has_row, starts_row}, StrictParts.parts, NestPlaces.IsExpected}
+use Rattle.rnix_lemmas.proofs.{NestPlaces.{start_expected, go_expected}, NestKinds.{is_formal_start, counts_nests}, LaterRowStates.{is_start, go_later}}
 use Rattle.rnix_grammar.specs.declared.place.Place.TheVariants as p
-use Rattle.rnix_grammar.specs.Rows.{RowState, Start, At, Nowhere, first, first_child, advance, live, whole, start, run, is_row, counts}
-use Rattle.rnix_grammar.specs.Repaired.{kinds_of}
-use Rattle.rnix_grammar.specs.Strict.{is_strict, is_strict_expression}
-use Rattle.rnix_lemmas.proofs.RowNesting.{nesting}
-use Rattle.rnix_grammar.specs.Nest.{is_flat, nests, nest}
-use Rattle.rnix_lemmas.proofs.Basics.{true_is_not_false, choice}
-use Rattle.rnix_lemmas.proofs.EachKind.{each_kind}
-use Rattle.rnix_lemmas.proofs.EveryKind.{only, never}
-use Rattle.rnix_lemmas.proofs.ImitateLemmas.{run_live}
-use Rattle.rnix_lemmas.proofs.RowKinds.{has_row, starts_row}
-use Rattle.rnix_lemmas.proofs.StrictParts.{parts}
-use Rattle.rnix_lemmas.proofs.NestPlaces.{IsExpected, start_expected, go_expected}
-use Rattle.rnix_lemmas.proofs.NestKinds.{is_formal_start, counts_nests}
-use Rattle.rnix_lemmas.proofs.LaterRowStates.{is_start, go_later}
 
 -- each node in a row from a state on goes on with the row, and has a row of its kind
 abbrev pub Goes : RowState → Forest → Type 0

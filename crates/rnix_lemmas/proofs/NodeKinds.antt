@@ -1,13 +1,8 @@
 -- What kinds of nodes are: those whose leaves keep their kinds, expressions, attributes and entries.
 use Rattle.std.proofs.Common.{◌≡◌, ℕ, Bool, true, false, refl, sym, ◌∙◌, arith}
-use Rattle.rnix_kinds.specs.declared.kinds.SyntaxKind.{SyntaxKind}
-use Rattle.rnix_kinds.specs.declared.kinds.SyntaxKind.TheVariants.{NODE_ERROR, NODE_IDENT, NODE_CUR_POS}
-use Rattle.rnix_kinds.proofs.AllKinds.{implied}
-use Rattle.rnix_grammar.specs.AnnotatedForest.{leaf_kind_as}
-use Rattle.rnix_grammar.specs.Rows.{fits, is_expression, is_attr, is_entry}
-use Rattle.rnix_lemmas.proofs.Basics.{true_is_not_false}
-use Rattle.rnix_lemmas.proofs.LevelLemmas.{fits_looser}
-use Rattle.rnix_grammar.specs.Plain.{is_node}
+use Rattle.rnix_kinds.{specs.declared.kinds.SyntaxKind.{SyntaxKind, TheVariants.{NODE_ERROR, NODE_IDENT, NODE_CUR_POS}}, proofs.AllKinds.implied}
+use Rattle.rnix_grammar.specs.{AnnotatedForest.leaf_kind_as, Rows.{fits, is_expression, is_attr, is_entry}, Plain.is_node}
+use Rattle.rnix_lemmas.proofs.{Basics.true_is_not_false, LevelLemmas.fits_looser}
 
 -- error nodes, and nodes of one name, whose leaf may have another kind than its token
 abbrev pub is_error : SyntaxKind → Bool

@@ -1,21 +1,12 @@
 -- How a row goes on where no run of tokens may stand, and which kinds begin no row.
-use Rattle.std.proofs.Common.{◌≡◌, ℕ, suc, Bool, true, false, List, [], ◌∷◌, ◌++◌, refl, ap, sym, ◌∙◌, subst}
-use Rattle.rnix_kinds.specs.declared.kinds.SyntaxKind.{SyntaxKind}
-use Rattle.rnix_kinds.specs.declared.kinds.SyntaxKind.TheVariants.{TOKEN_IDENT, NODE_LITERAL}
-use Rattle.rnix_kinds.specs.SyntaxKind.{is_token}
-use Rattle.rnix_grammar.specs.declared.place.Place.{Place}
-use Rattle.rnix_grammar.specs.declared.until.Closer.{Closer}
-use Rattle.rnix_grammar.specs.declared.until.Closer.TheVariants as c
-use Rattle.rnix_grammar.specs.Fault.{Fault}
-use Rattle.rnix_grammar.specs.Tables.{closes}
-use Rattle.rnix_grammar.specs.AnnotatedForest.{Token, Note, Stray, Unwanted, Extra, Twice, TooDeep, AnnotatedForest, blank, token, branch, fault, ◌⊕◌, one_branch, one_fault, leaf_kind}
-use Rattle.rnix_grammar.specs.Rows.{RowState, Start, At, to, advance, first, live, start}
-use Rattle.rnix_grammar.specs.Stands.{Stands, end, leaf as leafed, missing_part, wrong, second, inner, IsBeside, IsLeveled, IsOpened}
-use Rattle.std.specs.Prelude.{if◌then◌else◌}
-use Rattle.std.specs.List.{list_all}
-use Rattle.rnix_kinds.proofs.AllKinds.{all_kinds, implied}
-use Rattle.rnix_grammar.specs.Named.{AreSpelled}
+use Rattle.std.{specs.List.list_all, proofs.Common.{◌≡◌, ℕ, suc, Bool, true, false, List, [], ◌∷◌, ◌++◌, refl, ap, sym, ◌∙◌, subst, if◌then◌else◌}}
+use Rattle.rnix_kinds.{specs.{declared.kinds.SyntaxKind.{SyntaxKind, TheVariants.{TOKEN_IDENT, NODE_LITERAL}}, SyntaxKind.is_token}, proofs.AllKinds.all_kinds}
+use Rattle.{rnix_kinds.proofs.AllKinds.implied, rnix_grammar.specs.{declared.{place.Place.Place, until.Closer.Closer}, Fault.Fault, Tables.closes}}
+use Rattle.rnix_grammar.specs.AnnotatedForest.{Token, Note, Stray, Unwanted, Extra, Twice, TooDeep, AnnotatedForest, blank, token, branch, fault, ◌⊕◌}
+use Rattle.rnix_grammar.specs.{AnnotatedForest.{one_branch, one_fault, leaf_kind}, Rows.{RowState, Start, At, to, advance, first, live, start}, Stands.Stands}
+use Rattle.rnix_grammar.specs.{Stands.{end, leaf as leafed, missing_part, wrong, second, inner, IsBeside, IsLeveled, IsOpened}, Named.AreSpelled}
 use Rattle.rnix_lemmas.proofs.Basics.{true_is_not_false}
+use Rattle.rnix_grammar.specs.declared.until.Closer.TheVariants as c
 
 -- the tokens of the first of two rows
 pub spelled_first : (ts us : List Token) → AreSpelled (ts ++ us) → AreSpelled ts

@@ -1,19 +1,12 @@
 -- Rows that do not end without a token, and that no node pays it.
-use Rattle.std.proofs.Common.{◌≡◌, Bool, true, false, refl, ap, ◌∙◌}
-use Rattle.std.specs.Prelude.{if◌then◌else◌}
-use Rattle.rnix_kinds.specs.declared.kinds.SyntaxKind.{SyntaxKind}
-use Rattle.rnix_kinds.specs.declared.kinds.SyntaxKind.TheVariants.{NODE_ATTRPATH}
-use Rattle.rnix_grammar.specs.declared.place.Place.{Place}
-use Rattle.rnix_grammar.specs.declared.place.Place.TheVariants as p
-use Rattle.rnix_grammar.specs.declared.until.Until.{Until}
-use Rattle.rnix_grammar.specs.declared.symbol.Symbol.{Symbol}
-use Rattle.rnix_grammar.specs.declared.symbol.Symbol.TheVariants as s
-use Rattle.rnix_kinds.proofs.AllKinds.{implied}
-use Rattle.rnix_grammar.specs.declared.until.Closer.{Closer}
-use Rattle.rnix_grammar.specs.Tables.{is_wanted, closes}
-use Rattle.rnix_grammar.specs.Symbols.{symbol_at}
-use Rattle.rnix_grammar.specs.Rows.{fits, is_attr, is_entry, RowState, At, Nowhere, to, advance_pieces, advance_names, advance_source, advance_attrpath, advance_formals, advance_comma, advance_symbol, advance, is_end, whole}
+use Rattle.std.proofs.Common.{◌≡◌, Bool, true, false, refl, ap, ◌∙◌, if◌then◌else◌}
+use Rattle.rnix_kinds.{specs.declared.kinds.SyntaxKind.{SyntaxKind, TheVariants.NODE_ATTRPATH}, proofs.AllKinds.implied}
+use Rattle.rnix_grammar.specs.{declared.{place.Place.Place, until.{Until.Until, Closer.Closer}, symbol.Symbol.Symbol}, Tables.{is_wanted, closes}}
+use Rattle.rnix_grammar.specs.{Symbols.symbol_at, Rows.{fits, is_attr, is_entry, RowState, At, Nowhere, to, advance_pieces, advance_names, advance_source}}
+use Rattle.rnix_grammar.specs.Rows.{advance_attrpath, advance_formals, advance_comma, advance_symbol, advance, is_end, whole}
 use Rattle.rnix_lemmas.proofs.RowKinds.{has_row, no_wanted, no_closing}
+use Rattle.rnix_grammar.specs.declared.place.Place.TheVariants as p
+use Rattle.rnix_grammar.specs.declared.symbol.Symbol.TheVariants as s
 
 -- the row goes on
 abbrev goes_further : Symbol → Bool

@@ -1,24 +1,16 @@
 -- Each frame stands at a place of its sort and may stand inside the one below, and the lowest is the root.
-use Rattle.std.proofs.Common.{◌≡◌, ℕ, suc, Bool, true, false, List, [], ◌∷◌, Option, Some, None, refl, sym, ap, ◌∙◌}
-use Rattle.std.specs.Prelude.{if◌then◌else◌, nat_le, nat_eq}
-use Rattle.rnix_kinds.specs.declared.kinds.SyntaxKind.{SyntaxKind}
-use Rattle.rnix_kinds.specs.declared.kinds.SyntaxKind.TheVariants.{TOKEN_COLON, TOKEN_AT, TOKEN_IDENT, TOKEN_L_BRACE, TOKEN_INVERT, TOKEN_SUB, TOKEN_LET, NODE_APPLY, NODE_ROOT}
-use Rattle.rnix_grammar.specs.declared.place.Place.{Place}
+use Rattle.std.proofs.Common.{◌≡◌, ℕ, suc, Bool, true, false, List, [], ◌∷◌, Option, Some, None, refl, sym, ap, ◌∙◌, if◌then◌else◌, nat_le, nat_eq}
+use Rattle.rnix_kinds.specs.declared.kinds.SyntaxKind.{SyntaxKind, TheVariants.{TOKEN_COLON, TOKEN_AT, TOKEN_IDENT, TOKEN_L_BRACE, TOKEN_INVERT, TOKEN_SUB}}
+use Rattle.{rnix_kinds.specs.declared.kinds.SyntaxKind.TheVariants.{TOKEN_LET, NODE_APPLY, NODE_ROOT}, rnix_grammar.specs.declared.place.Place.Place}
+use Rattle.rnix_grammar.specs.{declared.{action.Action.Action, begin.Begin.Begin}, Fault.Fault, Tables.{is_cur_pos, depth_limit}, Actions.action_at}
+use Rattle.rnix_grammar.specs.{Begins.{is_pattern, begin_name, begin_let, begin_of, second_kind}, AnnotatedForest.{Token, blank, head_kind, touches}}
+use Rattle.rnix_grammar.specs.Machine.{Head, Node, Second, Operand, Frame, Machine, put, opened, ate, seen, low_of, closed, entry_closed, limited, begun}
+use Rattle.rnix_grammar.specs.{Machine.{operand_on, reading, perform, step_on, step, begins}, Sorts.{Sort, Root, Entry, Again, Loose, Plain, sort_of}}
+use Rattle.rnix_grammar.specs.{Sorts.{sort_of_head, sort_of_node, may_hold, is_open, StandsOn, AreKept}, Allowed.{Allowed, IsNext, is_there}}
+use Rattle.rnix_lemmas.proofs.{AllowedLemmas.allowed, Basics.{choice, true_is_not_false}}
 use Rattle.rnix_grammar.specs.declared.place.Place.TheVariants as p
-use Rattle.rnix_grammar.specs.declared.action.Action.{Action}
 use Rattle.rnix_grammar.specs.declared.action.Action.TheVariants as a
-use Rattle.rnix_grammar.specs.declared.begin.Begin.{Begin}
 use Rattle.rnix_grammar.specs.declared.begin.Begin.TheVariants as b
-use Rattle.rnix_grammar.specs.Fault.{Fault}
-use Rattle.rnix_grammar.specs.Tables.{is_cur_pos, depth_limit}
-use Rattle.rnix_grammar.specs.Actions.{action_at}
-use Rattle.rnix_grammar.specs.Begins.{is_pattern, begin_name, begin_let, begin_of, second_kind}
-use Rattle.rnix_grammar.specs.AnnotatedForest.{Token, blank, head_kind, touches}
-use Rattle.rnix_grammar.specs.Machine.{Head, Node, Second, Operand, Frame, Machine, put, opened, ate, seen, low_of, closed, entry_closed, limited, begun, operand_on, reading, perform, step_on, step, begins}
-use Rattle.rnix_grammar.specs.Sorts.{Sort, Root, Entry, Again, Loose, Plain, sort_of, sort_of_head, sort_of_node, may_hold, is_open, StandsOn, AreKept}
-use Rattle.rnix_grammar.specs.Allowed.{Allowed, IsNext, is_there}
-use Rattle.rnix_lemmas.proofs.AllowedLemmas.{allowed}
-use Rattle.rnix_lemmas.proofs.Basics.{choice, true_is_not_false}
 
 -- a node that begins an operand is plain, and two items begin one only where a second is left
 abbrev pub BeginsInner : Option SyntaxKind → Begin → Type 0

@@ -1,9 +1,8 @@
 -- What is known of a place by the symbol that stands there.
 use Rattle.std.proofs.Common.{◌≡◌, Bool, refl}
-use Rattle.rnix_grammar.specs.declared.place.Place.{Place}
+use Rattle.rnix_grammar.specs.{declared.place.Place.Place, Symbols.symbol_at}
 use Rattle.rnix_grammar.specs.declared.place.Place.TheVariants as p
 use Rattle.rnix_grammar.specs.declared.symbol.Symbol.TheVariants as s
-use Rattle.rnix_grammar.specs.Symbols.{symbol_at}
 
 -- the text ends at one place
 pub end_is : (x : Place) → symbol_at x ≡ s.End → x ≡ p.RootEnd

@@ -1,15 +1,9 @@
 -- Where a test leads to a place, and what tests of places pass.
 use Rattle.std.proofs.Common.{◌≡◌, Bool, true, false, refl, sym}
-use Rattle.rnix_kinds.specs.declared.kinds.SyntaxKind.{SyntaxKind}
-use Rattle.rnix_grammar.specs.declared.place.Place.{Place}
-use Rattle.rnix_grammar.specs.declared.until.Until.{Until}
-use Rattle.rnix_grammar.specs.declared.until.Closer.{Closer}
-use Rattle.rnix_grammar.specs.declared.until.Closer.TheVariants as c
-use Rattle.rnix_grammar.specs.Tables.{is_wanted, closes}
-use Rattle.rnix_grammar.specs.Rows.{At, Nowhere, to}
-use Rattle.rnix_grammar.specs.Plain.{is_node}
-use Rattle.rnix_lemmas.proofs.EveryKind.{tokens_alone}
+use Rattle.{rnix_kinds.specs.declared.kinds.SyntaxKind.SyntaxKind, rnix_grammar.specs.declared.{place.Place.Place, until.{Until.Until, Closer.Closer}}}
+use Rattle.{rnix_grammar.specs.{Tables.{is_wanted, closes}, Rows.{At, Nowhere, to}, Plain.is_node}, rnix_lemmas.proofs.EveryKind.tokens_alone}
 use Rattle.rnix_lemmas.proofs.Basics.{true_is_not_false}
+use Rattle.rnix_grammar.specs.declared.until.Closer.TheVariants as c
 use Rattle.rnix_grammar.specs.declared.until.Until.TheVariants as u
 
 -- equal states stand at one place

@@ -1,11 +1,8 @@
 -- What may follow a tree of each kind.
-use Rattle.std.proofs.Common.{ℕ, zero, suc, Bool, true, false, Option, Some, None}
-use Rattle.std.specs.Prelude.{if◌then◌else◌, nat_le}
-use Rattle.rnix_kinds.specs.declared.kinds.SyntaxKind.{SyntaxKind}
-use Rattle.rnix_kinds.specs.declared.kinds.SyntaxKind.TheVariants.{TOKEN_AT, TOKEN_COLON, TOKEN_DOT, TOKEN_INTERPOL_START, TOKEN_INVERT, NODE_APPLY, NODE_BIN_OP, NODE_HAS_ATTR, NODE_LAMBDA, NODE_SELECT, NODE_UNARY_OP}
-use Rattle.rnix_grammar.specs.Levels.{binding_power, high_of}
-use Rattle.rnix_grammar.specs.Rows.{is_loose}
-use Rattle.rnix_grammar.specs.AnnotatedForest.{AnnotatedForest, token, branch}
+use Rattle.std.proofs.Common.{ℕ, zero, suc, Bool, true, false, Option, Some, None, if◌then◌else◌, nat_le}
+use Rattle.rnix_kinds.specs.declared.kinds.SyntaxKind.{SyntaxKind, TheVariants.{TOKEN_AT, TOKEN_COLON, TOKEN_DOT, TOKEN_INTERPOL_START, TOKEN_INVERT}}
+use Rattle.rnix_kinds.specs.declared.kinds.SyntaxKind.TheVariants.{NODE_APPLY, NODE_BIN_OP, NODE_HAS_ATTR, NODE_LAMBDA, NODE_SELECT, NODE_UNARY_OP}
+use Rattle.rnix_grammar.specs.{Levels.{binding_power, high_of}, Rows.is_loose, AnnotatedForest.{AnnotatedForest, token, branch}}
 
 -- the tokens that make more of a name or a path before them
 abbrev pub is_bound : SyntaxKind → Bool

@@ -1,12 +1,8 @@
 -- What is trimmed is reported as its items are.
 use Rattle.std.proofs.Common.{◌≡◌, ℕ, Bool, true, false, List, [], ◌∷◌, ◌++◌, refl, ap, sym, ◌∙◌}
-use Rattle.rnix_kinds.specs.declared.kinds.SyntaxKind.{SyntaxKind}
-use Rattle.rnix_kinds.specs.SyntaxKind.{is_trivia}
-use Rattle.rnix_grammar.specs.AnnotatedForest.{Token, Note, Stray, AnnotatedForest, blank, token, branch, fault, tokens_in, without_trivia, token_if, end_from}
-use Rattle.rnix_grammar.specs.Layout.{item_if, items}
-use Rattle.rnix_grammar.specs.Reports.{report}
-use Rattle.rnix_grammar.specs.Trim.{BeginsWithItem, EndsWithItem, token_kinds}
-use Rattle.rnix_lemmas.proofs.LayoutLemmas.{items-++}
+use Rattle.{rnix_kinds.specs.{declared.kinds.SyntaxKind.SyntaxKind, SyntaxKind.is_trivia}, rnix_grammar.specs.AnnotatedForest.{Token, Note, Stray}}
+use Rattle.rnix_grammar.specs.{AnnotatedForest.{AnnotatedForest, blank, token, branch, fault, tokens_in, without_trivia, token_if, end_from}, Layout.item_if}
+use Rattle.{rnix_grammar.specs.{Layout.items, Reports.report, Trim.{BeginsWithItem, EndsWithItem, token_kinds}}, rnix_lemmas.proofs.LayoutLemmas.items-++}
 
 -- a leaf goes where its token is no item
 onto_items : (x : Bool) (k : SyntaxKind) (t : Token) (f : AnnotatedForest) (us : List Token) → tokens_in f ≡ us → tokens_in (token_if x k t f) ≡ item_if x t us

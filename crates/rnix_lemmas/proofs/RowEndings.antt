@@ -1,13 +1,9 @@
 -- Where rows of children end.
 use Rattle.std.proofs.Common.{◌≡◌, ℕ, true, false, List, [], ◌∷◌, refl, ap, sym, ◌∙◌}
-use Rattle.rnix_kinds.specs.declared.kinds.SyntaxKind.{SyntaxKind}
-use Rattle.rnix_grammar.specs.Fault.{Fault}
-use Rattle.rnix_grammar.specs.AnnotatedForest.{Token, Note, Stray, Unwanted, Extra, Twice, TooDeep, AnnotatedForest, row_of, tokens_in}
-use Rattle.rnix_grammar.specs.Rows.{RowState, whole}
-use Rattle.rnix_grammar.specs.Stands.{Stands, end, leaf, missing_part, wrong, second, inner, IsBeside}
-use Rattle.rnix_lemmas.proofs.AnnotatedForestLemmas.{tokens_in-row_of}
-use Rattle.rnix_lemmas.proofs.ImitateLemmas.{start_half}
-use Rattle.rnix_lemmas.proofs.Basics.{true_is_not_false, not_nil, none_right, none_left}
+use Rattle.{rnix_kinds.specs.declared.kinds.SyntaxKind.SyntaxKind, rnix_grammar.specs.{Fault.Fault, AnnotatedForest.{Token, Note, Stray, Unwanted, Extra}}}
+use Rattle.rnix_grammar.specs.{AnnotatedForest.{Twice, TooDeep, AnnotatedForest, row_of, tokens_in}, Rows.{RowState, whole}, Stands.{Stands, end, leaf}}
+use Rattle.{rnix_grammar.specs.Stands.{missing_part, wrong, second, inner, IsBeside}, rnix_lemmas.proofs.AnnotatedForestLemmas.tokens_in-row_of}
+use Rattle.rnix_lemmas.proofs.{ImitateLemmas.start_half, Basics.{true_is_not_false, not_nil, none_right, none_left}}
 
 -- an error node with no token is the last of the text
 pub beside_last : (n : Note) (p : SyntaxKind) (a : ℕ) (q r : RowState) (b : AnnotatedForest) (i : ℕ) (ts vs : List Token) → ts ≡ [] → IsBeside n p a q r b i ts vs → vs ≡ []

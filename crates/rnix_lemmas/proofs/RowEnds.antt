@@ -1,19 +1,10 @@
 -- What may follow where something is missing from a row.
-use Rattle.std.proofs.Common.{◌≡◌, Bool, true, false, Option, Some, None, refl, subst}
-use Rattle.rnix_kinds.specs.declared.kinds.SyntaxKind.{SyntaxKind}
-use Rattle.rnix_grammar.specs.declared.place.Place.{Place}
+use Rattle.std.proofs.Common.{◌≡◌, Bool, true, false, Option, Some, None, refl, subst, if◌then◌else◌}
+use Rattle.{rnix_kinds.{specs.declared.kinds.SyntaxKind.SyntaxKind, proofs.AllKinds.implied}, rnix_grammar.specs.declared.place.Place.Place}
+use Rattle.rnix_grammar.specs.{declared.symbol.Symbol.Symbol, Fault.Fault, Symbols.symbol_at, Rows.{At, advance_more_attrs, advance, is_end, whole, live}}
+use Rattle.{rnix_grammar.specs.Missing.{missing_in, missing}, rnix_lemmas.proofs.{Basics.not_if, Owing.owes, RowKinds.has_row}}
 use Rattle.rnix_grammar.specs.declared.place.Place.TheVariants as p
-use Rattle.rnix_grammar.specs.declared.symbol.Symbol.{Symbol}
 use Rattle.rnix_grammar.specs.declared.symbol.Symbol.TheVariants as s
-use Rattle.rnix_grammar.specs.Fault.{Fault}
-use Rattle.rnix_grammar.specs.Symbols.{symbol_at}
-use Rattle.rnix_grammar.specs.Rows.{At, advance_more_attrs, advance, is_end, whole, live}
-use Rattle.rnix_grammar.specs.Missing.{missing_in, missing}
-use Rattle.rnix_lemmas.proofs.Basics.{not_if}
-use Rattle.rnix_kinds.proofs.AllKinds.{implied}
-use Rattle.std.specs.Prelude.{if◌then◌else◌}
-use Rattle.rnix_lemmas.proofs.Owing.{owes}
-use Rattle.rnix_lemmas.proofs.RowKinds.{has_row}
 
 -- nothing but a token may follow
 abbrev pub is_final : Place → Bool

@@ -1,18 +1,10 @@
 -- The kinds of nodes that have rows: none is a token that is wanted, or that closes a row.
-use Rattle.std.proofs.Common.{◌≡◌, Bool, true, false, refl}
-use Rattle.rnix_kinds.specs.declared.kinds.SyntaxKind.{SyntaxKind}
-use Rattle.rnix_kinds.specs.declared.kinds.SyntaxKind.TheVariants.{NODE_ROOT, NODE_ERROR}
-use Rattle.rnix_kinds.specs.SyntaxKind.{is_token}
-use Rattle.rnix_kinds.proofs.AllKinds.{all_kinds, implied}
-use Rattle.std.specs.Prelude.{if◌then◌else◌}
-use Rattle.std.specs.List.{list_all}
-use Rattle.rnix_grammar.specs.declared.until.Until.{Until}
+use Rattle.std.{specs.List.list_all, proofs.Common.{◌≡◌, Bool, true, false, refl, if◌then◌else◌}}
+use Rattle.rnix_kinds.{specs.{declared.kinds.SyntaxKind.{SyntaxKind, TheVariants.{NODE_ROOT, NODE_ERROR}}, SyntaxKind.is_token}, proofs.AllKinds.all_kinds}
+use Rattle.{rnix_kinds.proofs.AllKinds.implied, rnix_grammar.specs.{declared.until.{Until.Until, Closer.Closer}, Tables.{is_wanted, closes}, Rows.advance}}
+use Rattle.{rnix_grammar.specs.Rows.{live, start}, rnix_lemmas.proofs.Basics.not_if}
 use Rattle.rnix_grammar.specs.declared.until.Until.TheVariants as u
-use Rattle.rnix_grammar.specs.declared.until.Closer.{Closer}
 use Rattle.rnix_grammar.specs.declared.until.Closer.TheVariants as c
-use Rattle.rnix_grammar.specs.Tables.{is_wanted, closes}
-use Rattle.rnix_grammar.specs.Rows.{advance, live, start}
-use Rattle.rnix_lemmas.proofs.Basics.{not_if}
 
 -- the kinds of nodes that have rows
 abbrev pub has_row : SyntaxKind → Bool

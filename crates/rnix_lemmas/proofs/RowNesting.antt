@@ -1,7 +1,6 @@
 -- How deep a tree nests along the rows that the reader goes by.
-use Rattle.std.specs.Prelude.{ℕ, suc, max, if◌then◌else◌}
-use Rattle.rnix_green.specs.Forest.{Forest, empty, leaf, node}
-use Rattle.rnix_grammar.specs.Rows.{RowState, advance, start, counts}
+use Rattle.std.proofs.Common.{ℕ, suc, max, if◌then◌else◌}
+use Rattle.{rnix_green.specs.Forest.{Forest, empty, leaf, node}, rnix_grammar.specs.Rows.{RowState, advance, start, counts}}
 
 -- how many counted places are inside one another, in a row from a state on
 abbrev pub nesting : RowState → Forest → ℕ

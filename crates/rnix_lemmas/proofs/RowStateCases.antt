@@ -1,14 +1,9 @@
 -- What holds at each state that one more child may lead to holds behind the child.
-use Rattle.std.proofs.Common.{Bool, true, false}
-use Rattle.std.specs.Prelude.{if◌then◌else◌}
-use Rattle.rnix_kinds.specs.declared.kinds.SyntaxKind.{SyntaxKind}
-use Rattle.rnix_grammar.specs.declared.place.Place.{Place}
+use Rattle.std.proofs.Common.{Bool, true, false, if◌then◌else◌}
+use Rattle.{rnix_kinds.specs.declared.kinds.SyntaxKind.SyntaxKind, rnix_grammar.specs.{declared.{place.Place.Place, symbol.Symbol.Symbol}, Tables.is_wanted}}
+use Rattle.{rnix_grammar.specs.{Tables.closes, Rows.{is_entry, fits, RowState, At, Nowhere, to, advance_symbol}}, rnix_lemmas.proofs.EachKind.each_kind}
 use Rattle.rnix_grammar.specs.declared.place.Place.TheVariants as p
-use Rattle.rnix_grammar.specs.declared.symbol.Symbol.{Symbol}
 use Rattle.rnix_grammar.specs.declared.symbol.Symbol.TheVariants as s
-use Rattle.rnix_lemmas.proofs.EachKind.{each_kind}
-use Rattle.rnix_grammar.specs.Tables.{is_wanted, closes}
-use Rattle.rnix_grammar.specs.Rows.{is_entry, fits, RowState, At, Nowhere, to, advance_symbol}
 
 -- it holds behind a test
 pub case_to : (A : RowState → Type 0) → A Nowhere → (b : Bool) (q : RowState) → A q → A (to b q)

@@ -1,11 +1,6 @@
 -- Runs of items that are not wanted.
-use Rattle.std.proofs.Common.{◌≡◌, Bool, true, false, List, [], ◌∷◌, ◌++◌, refl, ap}
-use Rattle.std.specs.Prelude.{if◌then◌else◌}
-use Rattle.rnix_grammar.specs.declared.until.Until.{Until}
-use Rattle.rnix_grammar.specs.Tables.{is_wanted, stops}
-use Rattle.rnix_grammar.specs.AnnotatedForest.{Token, head_kind}
-use Rattle.rnix_grammar.specs.Machine.{dropped}
-use Rattle.rnix_grammar.specs.Missing.{run_of}
+use Rattle.std.proofs.Common.{◌≡◌, Bool, true, false, List, [], ◌∷◌, ◌++◌, refl, ap, if◌then◌else◌}
+use Rattle.rnix_grammar.specs.{declared.until.Until.Until, Tables.{is_wanted, stops}, AnnotatedForest.{Token, head_kind}, Machine.dropped, Missing.run_of}
 use Rattle.rnix_grammar.specs.Stands.{AreUnwanted}
 
 -- what a run and the items behind it are

@@ -1,17 +1,11 @@
 -- The tokens of a text are spelled as their kinds say, by the lexical rules.
-use Rattle.std.proofs.Common.{◌≡◌, ℕ, ◌+◌, Bool, true, false, List, [], ◌∷◌, ◌++◌, length, refl, ap}
-use Rattle.std.specs.Prelude.{codes, if◌then◌else◌}
-use Rattle.std.specs.List.{All}
-use Rattle.std.proofs.lemmas.List.Elements.{All-head, All-tail}
-use Rattle.std.proofs.lemmas.Slice.Eq.{bytes_eq-Decides}
-use Rattle.rnix_kinds.specs.declared.kinds.SyntaxKind.{SyntaxKind}
-use Rattle.rnix_kinds.specs.declared.kinds.SyntaxKind.TheVariants.{TOKEN_CUR_POS, TOKEN_IDENT, TOKEN_OR}
-use Rattle.rnix_kinds.specs.SyntaxKind.{is_trivia}
-use Rattle.rnix_kinds.specs.Lexical.Tokens.{Lexeme, MayBe}
-use Rattle.rnix_grammar.specs.AnnotatedForest.{Token, AnnotatedForest, blank, token, branch, fault, token_if, tokens_in, without_trivia, placed_from}
-use Rattle.rnix_grammar.specs.Tables as tables
-use Rattle.rnix_grammar.specs.Named.{is_spelled, AreSpelled}
+use Rattle.std.{specs.List.All, proofs.Common.{◌≡◌, ℕ, ◌+◌, Bool, true, false, List, [], ◌∷◌, ◌++◌, length, refl, ap, codes, if◌then◌else◌}}
+use Rattle.std.proofs.lemmas.{List.Elements.{All-head, All-tail}, Slice.Eq.bytes_eq-Decides}
+use Rattle.rnix_kinds.specs.{declared.kinds.SyntaxKind.{SyntaxKind, TheVariants.{TOKEN_CUR_POS, TOKEN_IDENT, TOKEN_OR}}, SyntaxKind.is_trivia}
+use Rattle.{rnix_kinds.specs.Lexical.Tokens.{Lexeme, MayBe}, rnix_grammar.specs.AnnotatedForest.{Token, AnnotatedForest, blank, token, branch, fault, token_if}}
+use Rattle.rnix_grammar.specs.{AnnotatedForest.{tokens_in, without_trivia, placed_from}, Named.{is_spelled, AreSpelled}}
 use Rattle.rnix_lemmas.proofs.OpeningRows.{spelled_first, spelled_rest}
+use Rattle.rnix_grammar.specs.Tables as tables
 
 -- the word `or` is found
 or_is : (text : List ℕ) → text ≡ codes "or" → tables.is_or text ≡ true

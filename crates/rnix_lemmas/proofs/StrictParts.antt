@@ -1,18 +1,9 @@
 -- The parts of strict rows, and the levels at which strict trees stand.
-use Rattle.std.proofs.Common.{◌≡◌, ℕ, ◌≤◌, true, List, [], ◌∷◌, ◌++◌, refl, arith}
-use Rattle.std.proofs.lemmas.Bool.{and_parts, and_from}
-use Rattle.rnix_lemmas.proofs.LevelLemmas.{at_most_true}
-use Rattle.std.specs.Prelude.{◌&&◌, nat_le}
-use Rattle.rnix_kinds.specs.declared.kinds.SyntaxKind.{SyntaxKind}
-use Rattle.rnix_green.specs.Forest.{Forest, node}
-use Rattle.rnix_grammar.specs.AnnotatedForest.{Token, AnnotatedForest, end_from}
-use Rattle.rnix_grammar.specs.Rows.{RowState, advance, live, start, is_infix, is_atom, is_expression}
-use Rattle.rnix_grammar.specs.Strict.{is_strict, may_stand, is_grouped, level_of, is_named, is_strict_atom, stands_at}
-use Rattle.rnix_kinds.specs.declared.kinds.SyntaxKind.TheVariants.{NODE_LAMBDA, NODE_PAREN}
-use Rattle.rnix_grammar.specs.Levels.{binding_power, left_of}
-use Rattle.rnix_lemmas.proofs.EveryKind.{at_most}
-use Rattle.rnix_lemmas.proofs.PlainTables.{high_in}
-use Rattle.std.proofs.lemmas.Bool.Decides.{nat_tests}
+use Rattle.std.proofs.{Common.{◌≡◌, ℕ, ◌≤◌, true, List, [], ◌∷◌, ◌++◌, refl, arith, ◌&&◌, nat_le}, lemmas.Bool.{and_parts, and_from, Decides.nat_tests}}
+use Rattle.{rnix_kinds.specs.declared.kinds.SyntaxKind.{SyntaxKind, TheVariants.{NODE_LAMBDA, NODE_PAREN}}, rnix_green.specs.Forest.{Forest, node}}
+use Rattle.rnix_grammar.specs.{AnnotatedForest.{Token, AnnotatedForest, end_from}, Rows.{RowState, advance, live, start, is_infix, is_atom, is_expression}}
+use Rattle.rnix_grammar.specs.{Strict.{is_strict, may_stand, is_grouped, level_of, is_named, is_strict_atom, stands_at}, Levels.{binding_power, left_of}}
+use Rattle.rnix_lemmas.proofs.{LevelLemmas.at_most_true, EveryKind.at_most, PlainTables.high_in}
 
 -- what a strict row that begins with a node is
 pub record Parts (q : RowState) (j : SyntaxKind) (c f : Forest) : Type 0 where

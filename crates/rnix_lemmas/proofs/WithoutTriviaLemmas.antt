@@ -1,27 +1,19 @@
 -- A step without its trivia is the step of the items alone.
-use Rattle.std.proofs.Common.{◌≡◌, ℕ, suc, Bool, true, false, List, [], ◌∷◌, ◌++◌, refl, ap, sym, ◌∙◌}
-use Rattle.std.specs.Prelude.{if◌then◌else◌, nat_le}
-use Rattle.rnix_kinds.specs.declared.kinds.SyntaxKind.{SyntaxKind}
-use Rattle.rnix_kinds.specs.declared.kinds.SyntaxKind.TheVariants.{NODE_IDENT, NODE_PAT_ENTRY, NODE_LAMBDA, NODE_IDENT_PARAM, NODE_PATTERN, NODE_PAT_BIND, NODE_LEGACY_LET, NODE_APPLY, NODE_ERROR}
-use Rattle.rnix_grammar.specs.declared.place.Place.{Place}
-use Rattle.rnix_grammar.specs.declared.place.Place.TheVariants as p
-use Rattle.rnix_grammar.specs.declared.until.Until.{Until}
-use Rattle.rnix_grammar.specs.declared.action.Action.{Action}
-use Rattle.rnix_grammar.specs.declared.action.Action.TheVariants as a
-use Rattle.rnix_grammar.specs.declared.begin.Begin.{Begin}
-use Rattle.rnix_grammar.specs.declared.begin.Begin.TheVariants as b
-use Rattle.rnix_grammar.specs.Fault.{Fault}
-use Rattle.rnix_grammar.specs.Tables.{is_wanted, depth_limit}
-use Rattle.rnix_grammar.specs.Actions.{action_at}
-use Rattle.rnix_grammar.specs.Begins.{begin_of, second_kind}
-use Rattle.rnix_grammar.specs.AnnotatedForest.{Token, Stray, Unwanted, Extra, Twice, TooDeep, AnnotatedForest, blank, ◌⊕◌, one_branch, one_fault, row_of, tokens_in, without_trivia, token_if, leaf_kind, head_kind, touches}
-use Rattle.rnix_grammar.specs.Layout.{items, from_item, tail_of, trivia_before}
-use Rattle.rnix_grammar.specs.Reports.{report, repeated}
-use Rattle.rnix_grammar.specs.Machine.{Head, Node, Second, Operand, Frame, Machine, put, opened, ate, behind, end_of, reach, leaf_in, leaf, run_row, dropped, run_rest, kind_of, made, low_of, machine, closed, entry_closed, limited, begun, operand_on, reading, perform, step_on, step, Runs, rest, then as further}
-use Rattle.rnix_grammar.specs.Missing.{run_of}
-use Rattle.rnix_grammar.specs.WithoutTrivia.{without_trivia_frame, without_trivia_frames, without_trivia_machine}
-use Rattle.rnix_lemmas.proofs.AnnotatedForestLemmas.{⊕-blank, tokens_in-row_of}
+use Rattle.std.proofs.Common.{◌≡◌, ℕ, suc, Bool, true, false, List, [], ◌∷◌, ◌++◌, refl, ap, sym, ◌∙◌, if◌then◌else◌, nat_le}
+use Rattle.rnix_kinds.specs.declared.kinds.SyntaxKind.{SyntaxKind, TheVariants.{NODE_IDENT, NODE_PAT_ENTRY, NODE_LAMBDA, NODE_IDENT_PARAM, NODE_PATTERN}}
+use Rattle.rnix_kinds.specs.declared.kinds.SyntaxKind.TheVariants.{NODE_PAT_BIND, NODE_LEGACY_LET, NODE_APPLY, NODE_ERROR}
+use Rattle.rnix_grammar.specs.{declared.{place.Place.Place, until.Until.Until, action.Action.Action, begin.Begin.Begin}, Fault.Fault, Tables.is_wanted}
+use Rattle.rnix_grammar.specs.{Tables.depth_limit, Actions.action_at, Begins.{begin_of, second_kind}, AnnotatedForest.{Token, Stray, Unwanted, Extra, Twice}}
+use Rattle.rnix_grammar.specs.AnnotatedForest.{TooDeep, AnnotatedForest, blank, ◌⊕◌, one_branch, one_fault, row_of, tokens_in, without_trivia, token_if}
+use Rattle.rnix_grammar.specs.{AnnotatedForest.{leaf_kind, head_kind, touches}, Layout.{items, from_item, tail_of, trivia_before}, Reports.{report, repeated}}
+use Rattle.rnix_grammar.specs.Machine.{Head, Node, Second, Operand, Frame, Machine, put, opened, ate, behind, end_of, reach, leaf_in, leaf, run_row, dropped}
+use Rattle.rnix_grammar.specs.Machine.{run_rest, kind_of, made, low_of, machine, closed, entry_closed, limited, begun, operand_on, reading, perform, step_on}
+use Rattle.rnix_grammar.specs.{Machine.{step, Runs, rest, then as further}, Missing.run_of, WithoutTrivia.{without_trivia_frame, without_trivia_frames}}
+use Rattle.{rnix_grammar.specs.WithoutTrivia.without_trivia_machine, rnix_lemmas.proofs.AnnotatedForestLemmas.{⊕-blank, tokens_in-row_of}}
 use Rattle.rnix_lemmas.proofs.LayoutLemmas.{items_head, items-view, items-from_item, from_item_item, without_trivia-⊕, without_trivia-trivia, IsBared, bared}
+use Rattle.rnix_grammar.specs.declared.place.Place.TheVariants as p
+use Rattle.rnix_grammar.specs.declared.action.Action.TheVariants as a
+use Rattle.rnix_grammar.specs.declared.begin.Begin.TheVariants as b
 
 -- the items behind the first
 pub items_behind : (ts : List Token) → items (behind true ts) ≡ tail_of (items ts)
