@@ -1,0 +1,128 @@
+//! One line of a text, with carets under a range in it.
+
+use rnix::TextRange;
+use std::io::{self, Write};
+
+// The most columns of a line that are printed before the first caret, and from it on.
+const COLUMNS_BEFORE: usize = 60;
+
+const COLUMNS_AFTER: usize = 60;
+// Printed where the line goes on beyond what is printed.
+const CUT: &str = "…";
+// Printed for characters that a terminal would act on.
+const REPLACEMENT: char = '\u{fffd}';
+
+// The columns of a terminal that a character takes. A tab counts as one, since it is printed above the carets and before them alike.
+fn columns_of(letter: char) -> usize {
+    match letter {
+        '\u{300}'..='\u{36f}' | '\u{200b}'..='\u{200d}' | '\u{fe00}'..='\u{fe0f}' => 0,
+        '\u{1100}'..='\u{115f}'
+        | '\u{2e80}'..='\u{303e}'
+        | '\u{3041}'..='\u{a4cf}'
+        | '\u{ac00}'..='\u{d7a3}'
+        | '\u{f900}'..='\u{faff}'
+        | '\u{fe30}'..='\u{fe6f}'
+        | '\u{ff00}'..='\u{ff60}'
+        | '\u{ffe0}'..='\u{ffe6}'
+        | '\u{1f300}'..='\u{1f64f}'
+        | '\u{1f900}'..='\u{1f9ff}'
+        | '\u{20000}'..='\u{3fffd}' => 2,
+        _ => 1,
+    }
+}
+
+// The character that is printed for one: control characters as their pictures, and none that changes the direction of the text.
+fn printed(letter: char) -> char {
+    match letter {
+        '\t' => letter,
+        '\0'..='\u{1f}' => char::from_u32(0x2400 | u32::from(letter)).unwrap_or(REPLACEMENT),
+        '\u{7f}'..='\u{9f}' | '\u{202a}'..='\u{202e}' | '\u{2066}'..='\u{2069}' => REPLACEMENT,
+        _ => letter,
+    }
+}
+
+// Where the part of a line begins that is printed before an offset.
+fn start_of_part(text: &str, offset: usize) -> usize {
+    let mut start = offset;
+    let mut columns: usize = 0;
+    for (at, letter) in text.get(..offset).unwrap_or("").char_indices().rev() {
+        columns = columns.saturating_add(columns_of(letter).max(1));
+        if letter == '\n' || columns > COLUMNS_BEFORE {
+            break;
+        }
+        start = at;
+    }
+    start
+}
+
+// Where the part of a line ends that is printed from an offset on.
+fn end_of_part(text: &str, offset: usize) -> usize {
+    let mut end = offset;
+    let mut columns: usize = 0;
+    for letter in text.get(offset..).unwrap_or("").chars() {
+        columns = columns.saturating_add(columns_of(letter).max(1));
+        if letter == '\n' || columns > COLUMNS_AFTER {
+            break;
+        }
+        end = end.saturating_add(letter.len_utf8());
+    }
+    end
+}
+
+// Prints some characters.
+fn write_letters<W: Write>(part: &str, out: &mut W) -> io::Result<()> {
+    for letter in part.chars() {
+        write!(out, "{}", printed(letter))?;
+    }
+    Ok(())
+}
+
+// Prints as many spaces as the characters take columns. A tab stays a tab.
+fn write_spaces<W: Write>(part: &str, out: &mut W) -> io::Result<()> {
+    for letter in part.chars() {
+        out.write_all(match (letter, columns_of(letter)) {
+            ('\t', _) => b"\t",
+            (_, 0) => b"",
+            (_, 1) => b" ",
+            _ => b"  ",
+        })?;
+    }
+    Ok(())
+}
+
+// Prints a caret for each column of the characters, and at least one.
+fn write_carets<W: Write>(part: &str, out: &mut W) -> io::Result<()> {
+    if part.is_empty() {
+        return out.write_all(b"^");
+    }
+    for letter in part.chars() {
+        out.write_all(if columns_of(letter) == 2 { b"^^" } else { b"^" })?;
+    }
+    Ok(())
+}
+
+/// Prints the line in which a range of bytes begins, at most 120 columns of it, and below it carets under the part of the range that is printed.
+pub fn write_excerpt<W: Write>(text: &str, range: TextRange, out: &mut W) -> io::Result<()> {
+    let (start, end) = (
+        start_of_part(text, range.start()),
+        end_of_part(text, range.start()),
+    );
+    let before = text.get(start..range.start()).unwrap_or("");
+    let marked_end = end.min(range.end());
+    let marked = text
+        .get(range.start()..marked_end)
+        .unwrap_or("")
+        .trim_end_matches('\r');
+    let behind = text.get(end..).unwrap_or("");
+    let is_cut_before = !text.get(..start).unwrap_or("").ends_with('\n') && start > 0;
+    let is_cut_behind = !behind.is_empty() && !behind.starts_with('\n');
+    let line = text.get(start..end).unwrap_or("").trim_end_matches('\r');
+    out.write_all(b"  ")?;
+    out.write_all(if is_cut_before { CUT.as_bytes() } else { b"" })?;
+    write_letters(line, out)?;
+    out.write_all(if is_cut_behind { CUT.as_bytes() } else { b"" })?;
+    out.write_all(if is_cut_before { b"\n   " } else { b"\n  " })?;
+    write_spaces(before, out)?;
+    write_carets(marked, out)?;
+    out.write_all(b"\n")
+}
