@@ -6,7 +6,7 @@ use Rattle.rnix_kinds.specs.declared.kinds.SyntaxKind.TheVariants.{NODE_ATTRPATH
 use Rattle.{rnix_kinds.{specs.declared.kinds.SyntaxKind.TheVariants.{NODE_PATTERN, NODE_ROOT}, proofs.AllKinds.implied}, rnix_grammar.specs.Tables.depth_limit}
 use Rattle.rnix_grammar.specs.AnnotatedForest.{Token, AnnotatedForest, blank, token, branch, ◌⊕◌, one_token, one_branch, tokens_in, head_kind, forget, end_from}
 use Rattle.rnix_grammar.specs.{AnnotatedForest.touches, Rows.{RowState, At, advance, start, counts, Start, first, live}, Strict.{is_strict, is_grouped}}
-use Rattle.rnix_grammar.specs.{Plain.{joins, is_node, is_path, is_joined, AreUntold, ArePaths, joins_first}, Reads.deeper, Corners.node_count}
+use Rattle.rnix_grammar.specs.{Plain.{joins, is_node, is_path, is_joined, AreUntold, ArePaths, joins_first}, PlaceReads.deeper, Corners.node_count}
 use Rattle.rnix_lemmas.proofs.{RowNesting.nesting, StrictParts.{parts, Parts}, Basics.{true_is_not_false, not_if}, EveryKind.{only, whenever_two}}
 use Rattle.{rnix_lemmas.proofs.{NodeKinds.is_error, PlainPlaces.reaches}, rnix_completeness.proofs.PlainPieces.{joins_branch, joins_there, joins_at}}
 use Rattle.rnix_completeness.proofs.{PlainPieces.joins_plain, PlainNames.{strict_node, is_sound, unnamed}, PlainEntries.{AreNew, entries_new}, RowAsks.heed}

@@ -3,7 +3,7 @@ use Rattle.std.proofs.Common.{◌≡◌, ◌⊎◌, inl, inr, ℕ, suc, ◌+◌,
 use Rattle.std.proofs.{Common.{if◌then◌else◌, max, nat_eq}, lemmas.Bool.and_parts}
 use Rattle.rnix_kinds.specs.declared.kinds.SyntaxKind.{SyntaxKind, TheVariants.{TOKEN_CUR_POS, TOKEN_IDENT, TOKEN_OR, NODE_CUR_POS, NODE_ERROR, NODE_IDENT}}
 use Rattle.rnix_kinds.{specs.declared.kinds.SyntaxKind.TheVariants.{NODE_PAT_ENTRY, NODE_ROOT}, proofs.AllKinds.implied}
-use Rattle.rnix_grammar.specs.{declared.place.Place.Place, ExpectedItems.IsExpected, Reads.{deeper, end, inner, leaf, IsOver, Reads, ReadsWhole}}
+use Rattle.rnix_grammar.specs.{declared.place.Place.Place, ExpectedItems.IsExpected, PlaceReads.{deeper, end, inner, leaf, IsOver, Reads, ReadsWhole}}
 use Rattle.rnix_grammar.specs.{Reports.repeats, Rows.{RowState, Start, At, first, counts, fits, advance, live, start}, AnnotatedForest.{Token, AnnotatedForest}}
 use Rattle.rnix_grammar.specs.AnnotatedForest.{blank, token, branch, fault, ◌⊕◌, one_token, one_branch, tokens_in, forget, end_from, leaf_kind, leaf_kind_as}
 use Rattle.rnix_grammar.specs.{Strict.{is_strict, is_strict_expression}, Tables.depth_limit, Plain.{is_node, goes_on_path, joins, AreUntold, ArePaths}}

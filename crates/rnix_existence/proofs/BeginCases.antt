@@ -5,7 +5,7 @@ use Rattle.rnix_kinds.specs.declared.kinds.SyntaxKind.TheVariants.{NODE_LAMBDA, 
 use Rattle.rnix_grammar.specs.{declared.{place.Place.Place, begin.Begin.Begin}, Fault.Fault, Begins.{begin_of, second_kind}, AnnotatedForest.{Token, Stray}}
 use Rattle.rnix_grammar.specs.AnnotatedForest.{AnnotatedForest, blank, ◌⊕◌, one_token, one_branch, one_fault, tokens_in, leaf_kind, leaf_kind_as, head_kind}
 use Rattle.rnix_grammar.specs.{AnnotatedForest.end_from, Machine.{Node, Operand, Frame, put, opened, begun}, Reports.report, Rows.{fits, RowState, Start}}
-use Rattle.rnix_grammar.specs.{Rows.{BeforeAt, BeforeBrace, At, advance, start}, Operands.{kind_of, IsBegun}, Reads.{Reads, end, leaf, inner}}
+use Rattle.rnix_grammar.specs.{Rows.{BeforeAt, BeforeBrace, At, advance, start}, Operands.{kind_of, IsBegun}, PlaceReads.{Reads, end, leaf, inner}}
 use Rattle.rnix_lemmas.proofs.{Basics.{true_is_not_false, some_same}, AnnotatedForestLemmas.tokens_two, LevelLemmas.atom_fits, FollowLemmas.{Stops, stops_all}}
 use Rattle.{rnix_lemmas.proofs.FollowLemmas.{stops_at, followed_loose}, rnix_existence.proofs.{OpenFrames.{a_node, an_error, Ends}, RowFronts.end_two}}
 use Rattle.rnix_existence.proofs.{OperandTrees.{past_over, fit_new}, OperandEnds.{OpenEnds, open_ends}, OperandWraps.alone_tokens, BeginLevels.fits_starts}

@@ -3,7 +3,7 @@ use Rattle.std.proofs.Common.{◌≡◌, ℕ, true, false, List, [], ◌∷◌, 
 use Rattle.{rnix_kinds.specs.declared.kinds.SyntaxKind.SyntaxKind, rnix_grammar.specs.{Fault.Fault, AnnotatedForest.{Token, AnnotatedForest, blank, token}}}
 use Rattle.rnix_grammar.specs.{AnnotatedForest.{◌⊕◌, one_token, one_branch, tokens_in, leaf_kind, end_from}, Machine.{Operand, Frame, put, opened}, Rows.fits}
 use Rattle.rnix_grammar.specs.{Rows.{RowState, Start, At, advance, live, start}, TreeLevels.is_or_row, ExpectedItems.IsExpected, Operands.first_tree}
-use Rattle.{rnix_grammar.specs.{Operands.{IsFollowed, IsBegun, IsOperand}, Reads.{Reads, end, leaf}}, rnix_lemmas.proofs.FollowLemmas.Stops}
+use Rattle.{rnix_grammar.specs.{Operands.{IsFollowed, IsBegun, IsOperand}, PlaceReads.{Reads, end, leaf}}, rnix_lemmas.proofs.FollowLemmas.Stops}
 use Rattle.rnix_existence.proofs.{OpenFrames.{seen_kind, Lone, a_node, Ends}, OperandTrees.past_over, OperandEnds.{OperandEnds, operand_ends}}
 use Rattle.rnix_grammar.specs.declared.place.Place.TheVariants as p
 

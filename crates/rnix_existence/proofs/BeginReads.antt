@@ -6,7 +6,7 @@ use Rattle.rnix_grammar.specs.{declared.{place.Place.Place, until.Closer.Closer}
 use Rattle.rnix_grammar.specs.{Tables.{closes, depth_limit}, Begins.{begin_of, second_kind}, AnnotatedForest.{Token, TooDeep, AnnotatedForest, blank, ◌⊕◌}}
 use Rattle.rnix_grammar.specs.{AnnotatedForest.{one_fault, row_of, tokens_in, head_kind, end_from}, Machine.{Machine, Frame, kind_of, put, operand_on, limited}}
 use Rattle.rnix_grammar.specs.{Rows.{is_expression, fits, At, to, advance_symbol, counts}, Missing.{missing, missing_in}, ExpectedItems.{expects, expects_in}}
-use Rattle.rnix_grammar.specs.{ExpectedItems.{expects_end, stands_expected_in}, Reads.{Reads, missing_part, wrong, IsRoom, deeper}}
+use Rattle.rnix_grammar.specs.{ExpectedItems.{expects_end, stands_expected_in}, PlaceReads.{Reads, missing_part, wrong, IsRoom, deeper}}
 use Rattle.rnix_lemmas.proofs.{Basics.{true_is_not_false, not_nil, not_if, none_left, none_right}, AnnotatedForestLemmas.{⊕-blank, tokens_in-row_of}}
 use Rattle.rnix_lemmas.proofs.{LevelLemmas.atom_fits, RunLemmas.dropped_all, NodeKinds.fits_expression, OpenHeads.is_open}
 use Rattle.rnix_existence.proofs.{OpenFrames.{Lone, Ends, EndsBy}, RowFronts.prepended, OperandTrees.{Takes, placed}, BeginLevels.begun_tree}

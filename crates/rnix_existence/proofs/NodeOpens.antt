@@ -5,8 +5,8 @@ use Rattle.rnix_kinds.specs.declared.kinds.SyntaxKind.{SyntaxKind, TheVariants.{
 use Rattle.rnix_grammar.specs.{declared.place.Place.Place, Fault.Fault, Symbols.{symbol_at, level_in}, AnnotatedForest.{Token, Twice, AnnotatedForest, blank}}
 use Rattle.rnix_grammar.specs.{AnnotatedForest.{token, ◌⊕◌, one_token, one_branch, one_fault, tokens_in, leaf_kind, leaf_kind_as, end_from}, Reports.report}
 use Rattle.rnix_grammar.specs.{Reports.{repeated, repeats}, Machine.{Head, Node, Second, Frame, opened, put, made, closed}, Rows.{RowState, Start, SecondStart}}
-use Rattle.rnix_grammar.specs.{Rows.{At, advance, first, start, counts}, Operands.IsOperand, ExpectedItems.{expects, stands_expected_in}, Reads.{Reads, IsOver}}
-use Rattle.{rnix_grammar.specs.Reads.{end, leaf, second, inner}, rnix_lemmas.proofs.{Basics.true_is_not_false, AnnotatedForestLemmas.{⊕-blank, tokens_two}}}
+use Rattle.rnix_grammar.specs.{Rows.{At, advance, first, start, counts}, Operands.IsOperand, ExpectedItems.{expects, stands_expected_in}, PlaceReads.{Reads, IsOver}}
+use Rattle.{rnix_grammar.specs.PlaceReads.{end, leaf, second, inner}, rnix_lemmas.proofs.{Basics.true_is_not_false, AnnotatedForestLemmas.{⊕-blank, tokens_two}}}
 use Rattle.{rnix_lemmas.proofs.OpenHeads.is_open, rnix_existence.proofs.{OpenFrames.{closing, Ends, open_frame, EndsBy}, RowFronts.{end_two, prepended}}}
 use Rattle.rnix_existence.proofs.{OperandEnds.{OpenEnds, open_ends}, RowSteps.past_over}
 use Rattle.rnix_grammar.specs.declared.place.Place.TheVariants as p

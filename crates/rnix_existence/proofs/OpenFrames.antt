@@ -4,7 +4,7 @@ use Rattle.{rnix_kinds.specs.declared.kinds.SyntaxKind.{SyntaxKind, TheVariants.
 use Rattle.rnix_grammar.specs.{Fault.Fault, AnnotatedForest.{Token, Stray, Twice, AnnotatedForest, blank, branch, ◌⊕◌, one_branch, one_fault, row_of}}
 use Rattle.rnix_grammar.specs.{AnnotatedForest.{tokens_in, end_from}, Reports.{report, repeats}, Machine.{Head, Node, Second, Operand, Frame, put, kind_of}}
 use Rattle.rnix_grammar.specs.{Machine.{made, perform}, Rows.{fits, RowState, At, start}, TreeLevels.{row_level, is_or_row}, Operands.{first_tree, goes_on}}
-use Rattle.{rnix_grammar.specs.Reads.{Reads, IsOver}, rnix_lemmas.proofs.{FollowLemmas.Stops, OpenHeads.is_open}}
+use Rattle.{rnix_grammar.specs.PlaceReads.{Reads, IsOver}, rnix_lemmas.proofs.{FollowLemmas.Stops, OpenHeads.is_open}}
 use Rattle.rnix_grammar.specs.declared.place.Place.TheVariants as p
 
 -- the kind by which a row goes on behind a tree: an error node counts as a literal

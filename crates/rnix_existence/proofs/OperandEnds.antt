@@ -1,7 +1,7 @@
 -- What is still to come of an operand.
 use Rattle.std.proofs.Common.{◌≡◌, ℕ, true, List, ◌∷◌, ◌++◌, refl, ap, sym, ◌∙◌, subst, append_assoc}
 use Rattle.rnix_grammar.specs.{Fault.Fault, AnnotatedForest.{Token, AnnotatedForest, ◌⊕◌, tokens_in, end_from}, Machine.{Head, Operand, Frame, put, kind_of}}
-use Rattle.{rnix_grammar.specs.{Machine.made, Rows.{RowState, At}, Operands.first_tree, Reads.{Reads, IsOver}}, rnix_lemmas.proofs.Basics.true_is_not_false}
+use Rattle.{rnix_grammar.specs.{Machine.made, Rows.{RowState, At}, Operands.first_tree, PlaceReads.{Reads, IsOver}}, rnix_lemmas.proofs.Basics.true_is_not_false}
 use Rattle.{rnix_lemmas.proofs.{FollowLemmas.Stops, OpenHeads.is_open}, rnix_existence.proofs.OpenFrames.{Lone, Grows, closing, Ends, root_frame, open_frame}}
 use Rattle.rnix_existence.proofs.OpenFrames.{operand_frame}
 use Rattle.rnix_grammar.specs.declared.place.Place.TheVariants as p

@@ -4,8 +4,8 @@ use Rattle.rnix_kinds.specs.{declared.kinds.SyntaxKind.{SyntaxKind, TheVariants.
 use Rattle.rnix_grammar.specs.{declared.place.Place.Place, Fault.Fault, Actions.goes_on, TokenKinds.is_or, AnnotatedForest.{Token, AnnotatedForest, blank}}
 use Rattle.rnix_grammar.specs.{AnnotatedForest.{token, ◌⊕◌, one_token, one_branch, tokens_in, leaf_kind, leaf_kind_as, head_kind, end_from}, Machine.Head}
 use Rattle.rnix_grammar.specs.{Machine.{Node, Operand, Frame, put, opened, made, low_of, operand_on}, Rows.{RowState, Start, BeforeArgument, At, to, advance}}
-use Rattle.rnix_grammar.specs.{Rows.{live, start}, Reports.repeats, ExpectedItems.IsExpected, Operands.{first_tree, follows, IsFollowed, IsOperand}, Reads.end}
-use Rattle.{rnix_grammar.specs.Reads.{leaf, inner}, rnix_lemmas.proofs.{Basics.true_is_not_false, AnnotatedForestLemmas.{⊕-assoc, tokens_two}}}
+use Rattle.rnix_grammar.specs.{Rows.{live, start}, Reports.repeats, ExpectedItems.IsExpected, Operands.{first_tree, follows, IsFollowed, IsOperand}, PlaceReads.end}
+use Rattle.{rnix_grammar.specs.PlaceReads.{leaf, inner}, rnix_lemmas.proofs.{Basics.true_is_not_false, AnnotatedForestLemmas.{⊕-assoc, tokens_two}}}
 use Rattle.{rnix_lemmas.proofs.FollowLemmas.{Stops, stops_simple}, rnix_existence.proofs.OpenFrames.{seen_kind, Ends, operand_frame, EndsBy}}
 use Rattle.rnix_existence.proofs.{Frames.AtOperand, BelowKept.alone, RowFronts.end_two, OperandTrees.{past_over, Takes, placed}, OperandEnds.OpenEnds}
 use Rattle.rnix_existence.proofs.{OperandEnds.open_ends, OperandWraps.wrapped_ends, OperandFollows.grown_none, BeginEnds.{BeginEnds, first_leaf}}

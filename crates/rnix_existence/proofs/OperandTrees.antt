@@ -3,7 +3,7 @@ use Rattle.std.proofs.Common.{◌≡◌, ℕ, Bool, true, false, List, [], ◌�
 use Rattle.{rnix_kinds.specs.declared.kinds.SyntaxKind.{SyntaxKind, TheVariants.{NODE_LITERAL, NODE_PAT_ENTRY}}, rnix_grammar.specs.Fault.Fault}
 use Rattle.rnix_grammar.specs.AnnotatedForest.{Token, Stray, AnnotatedForest, blank, ◌⊕◌, one_branch, one_fault, row_of, tokens_in, head_kind, end_from}
 use Rattle.rnix_grammar.specs.{Rows.{is_expression, fits, RowState, Start, At, advance, live}, Reports.repeats, TreeLevels.is_or_row, ExpectedItems.IsExpected}
-use Rattle.rnix_grammar.specs.{ExpectedItems.stands_expected, Operands.{IsFollowed, IsOperand, level_at}, Reads.{Reads, wrong, inner, IsRoom, IsOver, deeper}}
+use Rattle.rnix_grammar.specs.{ExpectedItems.stands_expected, Operands.{IsFollowed, IsOperand, level_at}, PlaceReads.{Reads, wrong, inner, IsRoom, IsOver, deeper}}
 use Rattle.{rnix_lemmas.proofs.{Basics.true_is_not_false, NodeKinds.fits_expression}, rnix_existence.proofs.OpenFrames.{seen_kind, Lone, a_node, an_error}}
 use Rattle.rnix_grammar.specs.declared.place.Place.TheVariants as p
 

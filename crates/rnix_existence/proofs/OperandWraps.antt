@@ -2,7 +2,7 @@
 use Rattle.std.proofs.Common.{◌≡◌, ℕ, true, List, ◌∷◌, ◌++◌, refl, ap, sym, ◌∙◌, subst, append-nil}
 use Rattle.{rnix_kinds.specs.declared.kinds.SyntaxKind.SyntaxKind, rnix_grammar.specs.{Fault.Fault, AnnotatedForest.{Token, AnnotatedForest, blank, ◌⊕◌}}}
 use Rattle.rnix_grammar.specs.{AnnotatedForest.{one_branch, tokens_in, end_from}, Machine.{Operand, Frame, opened}, Rows.{fits, RowState, Start, advance, live}}
-use Rattle.{rnix_grammar.specs.{Rows.start, Operands.first_tree, Reads.{Reads, IsOver}}, rnix_lemmas.proofs.AnnotatedForestLemmas.tokens_two}
+use Rattle.{rnix_grammar.specs.{Rows.start, Operands.first_tree, PlaceReads.{Reads, IsOver}}, rnix_lemmas.proofs.AnnotatedForestLemmas.tokens_two}
 use Rattle.{rnix_lemmas.proofs.{FollowLemmas.Stops, FirstTrees.{IsSingle, first_in}}, rnix_existence.proofs.OpenFrames.{seen_kind, Lone, a_node, Ends}}
 use Rattle.rnix_existence.proofs.{RowFronts.end_two, OperandTrees.first_placed, OperandEnds.{OperandEnds, operand_ends, regrown, grown_ends}}
 use Rattle.rnix_grammar.specs.declared.place.Place.TheVariants as p

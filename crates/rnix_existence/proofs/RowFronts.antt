@@ -2,7 +2,7 @@
 use Rattle.std.proofs.Common.{◌≡◌, ℕ, true, List, [], ◌∷◌, ◌++◌, ap, sym, ◌∙◌, subst, append_assoc, append-nil}
 use Rattle.{rnix_kinds.specs.declared.kinds.SyntaxKind.SyntaxKind, rnix_grammar.specs.{declared.place.Place.Place, Fault.Fault, AnnotatedForest.Token}}
 use Rattle.rnix_grammar.specs.{AnnotatedForest.{AnnotatedForest, ◌⊕◌, tokens_in, end_from}, Machine.{Frame, put, kind_of, made}, Rows.{RowState, At}}
-use Rattle.{rnix_grammar.specs.Reads.Reads, rnix_lemmas.proofs.{Basics.true_is_not_false, AnnotatedForestLemmas.{⊕-assoc, tokens_two, tokens_in-⊕}}}
+use Rattle.{rnix_grammar.specs.PlaceReads.Reads, rnix_lemmas.proofs.{Basics.true_is_not_false, AnnotatedForestLemmas.{⊕-assoc, tokens_two, tokens_in-⊕}}}
 use Rattle.{rnix_lemmas.proofs.{StrictParts.end_behind, OpenHeads.is_open}, rnix_existence.proofs.OpenFrames.{closing, Ends, root_frame, open_frame}}
 use Rattle.rnix_existence.proofs.OpenFrames.{operand_frame}
 use Rattle.rnix_grammar.specs.declared.place.Place.TheVariants as p

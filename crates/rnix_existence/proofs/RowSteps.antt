@@ -4,8 +4,8 @@ use Rattle.{rnix_kinds.specs.declared.kinds.SyntaxKind.TheVariants.NODE_IDENT, r
 use Rattle.rnix_grammar.specs.{Fault.{Fault, ended, ended_before}, Tables.{is_wanted, wanted_kinds}, Symbols.{symbol_at, level_in}, AnnotatedForest.Token}
 use Rattle.rnix_grammar.specs.AnnotatedForest.{Note, Unwanted, Extra, AnnotatedForest, blank, ◌⊕◌, one_token, one_branch, one_fault, row_of, tokens_in, is_some}
 use Rattle.rnix_grammar.specs.{AnnotatedForest.{leaf_kind, end_from}, Reports.report, Machine.{Frame, put, kind_of, dropped}, Missing.{run_of, missing, run_at}}
-use Rattle.rnix_grammar.specs.{Rows.{At, advance, start, counts}, Operands.IsOperand, ExpectedItems.{expects, expects_end, stands_expected_in}, Reads.Reads}
-use Rattle.{rnix_grammar.specs.Reads.{IsRoom, IsWrong, end, leaf, missing_part, wrong, inner}, rnix_lemmas.proofs.Basics.{true_is_not_false, none_left}}
+use Rattle.rnix_grammar.specs.{Rows.{At, advance, start, counts}, Operands.IsOperand, ExpectedItems.{expects, expects_end, stands_expected_in}, PlaceReads.Reads}
+use Rattle.{rnix_grammar.specs.PlaceReads.{IsRoom, IsWrong, end, leaf, missing_part, wrong, inner}, rnix_lemmas.proofs.Basics.{true_is_not_false, none_left}}
 use Rattle.rnix_lemmas.proofs.{Basics.none_right, AnnotatedForestLemmas.{⊕-blank, tokens_in-row_of}, RunLemmas.{parted, run_begins, dropped_all}}
 use Rattle.{rnix_lemmas.proofs.OpenHeads.is_open, rnix_existence.proofs.{OpenFrames.{Ends, EndsBy}, RowFronts.prepended}}
 use Rattle.rnix_grammar.specs.declared.place.Place.TheVariants as p

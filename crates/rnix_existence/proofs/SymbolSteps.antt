@@ -5,7 +5,7 @@ use Rattle.rnix_grammar.specs.{declared.{place.Place.Place, symbol.Symbol.Symbol
 use Rattle.rnix_grammar.specs.{Tables.wanted_kinds, Symbols.{symbol_at, level_in, is_counted}, AnnotatedForest.{Token, AnnotatedForest, leaf_kind}}
 use Rattle.rnix_grammar.specs.{AnnotatedForest.leaf_kind_as, Machine.{Node, Frame, kind_of}, Missing.{missing_in, run_in}, Rows.{Start, At, advance}}
 use Rattle.rnix_grammar.specs.{Rows.{advance_symbol, is_end, start}, ExpectedItems.{expects, expects_in, expects_end, stands_expected_in}, Reports.repeats}
-use Rattle.{rnix_grammar.specs.Reads.IsOver, rnix_lemmas.proofs.{Basics.{true_is_not_false, some_same}, EveryKind.only, NodeKinds.told_plain}}
+use Rattle.{rnix_grammar.specs.PlaceReads.IsOver, rnix_lemmas.proofs.{Basics.{true_is_not_false, some_same}, EveryKind.only, NodeKinds.told_plain}}
 use Rattle.{rnix_lemmas.proofs.{NestTrees.is_formal, OpenHeads.is_open}, rnix_existence.proofs.{OpenFrames.{closing, EndsBy}, Frames.{row_at, AtNode}}}
 use Rattle.rnix_grammar.specs.declared.place.Place.TheVariants as p
 use Rattle.rnix_grammar.specs.declared.action.Action.TheVariants as a

@@ -2,7 +2,7 @@
 use Rattle.std.proofs.Common.{◌≡◌, ℕ, false, List, [], ◌∷◌, ◌++◌, refl, ap, sym, ◌∙◌, subst, append-nil, arith}
 use Rattle.{rnix_kinds.specs.declared.kinds.SyntaxKind.TheVariants.NODE_ROOT, rnix_grammar.specs.{declared.place.Place.Place, Fault.Fault}}
 use Rattle.rnix_grammar.specs.{AnnotatedForest.{Token, AnnotatedForest, blank, tokens_in, touches}, Machine.{Machine, Node, Frame, opened, step_on, begins}}
-use Rattle.rnix_grammar.specs.{Machine.{Runs, rest, then as further}, Rows.At, Reads.{Reads, end, ReadsWhole}}
+use Rattle.rnix_grammar.specs.{Machine.{Runs, rest, then as further}, Rows.At, PlaceReads.{Reads, end, ReadsWhole}}
 use Rattle.{rnix_lemmas.proofs.AnnotatedForestLemmas.⊕-blank, rnix_existence.proofs.{OpenFrames.{Ends, root_frame}, Frames.{no_frame, Reading, node, operand}}}
 use Rattle.rnix_existence.proofs.{Frames.second, NodeKept.{node_kept, second_kept}, OperandKept.operand_kept, OperandWhole.operand_step, FrameEnds.node_ends}
 use Rattle.rnix_existence.proofs.FrameEnds.{second_ends}

@@ -35,7 +35,10 @@ pub mod Unfinished
 pub mod Document
 pub mod ExpectedItems
 pub mod Operands
+pub mod Rules
+pub mod Beginnings
 pub mod Reads
+pub mod PlaceReads
 pub mod Reading
 pub mod Ranges
 pub mod TokenKinds

@@ -4,7 +4,7 @@ use Rattle.std.proofs.lemmas.Bool.{and_parts as and_both}
 use Rattle.rnix_green.specs.Forest.{Forest}
 use Rattle.rnix_grammar.specs.Fault.{Fault}
 use Rattle.rnix_grammar.specs.AnnotatedForest.{Token, AnnotatedForest, tokens_in, forget}
-use Rattle.rnix_grammar.specs.Reads.{ReadsWhole}
+use Rattle.rnix_grammar.specs.PlaceReads.{ReadsWhole}
 use Rattle.rnix_grammar.specs.Strict.{is_strict_expression}
 use Rattle.rnix_grammar.specs.Derivation.{laid, has_tokens_alone, IsDerivation}
 use Rattle.rnix_lemmas.proofs.LaidLemmas.{IsLaidWhole, laid_whole}

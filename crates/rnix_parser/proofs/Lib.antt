@@ -1,3 +1,4 @@
 pub mod ParsedLemmas
 pub mod Found
 pub mod OneReading
+pub mod Witnesses

@@ -10,7 +10,7 @@ use Rattle.rnix_grammar.specs.AnnotatedForest.{Token, AnnotatedForest, blank, to
 use Rattle.rnix_grammar.specs.Layout.{items, with_trivia_whole}
 use Rattle.rnix_grammar.specs.Machine.{ate}
 use Rattle.rnix_grammar.specs.WithoutTrivia.{without_trivia_machine, without_trivia_frame, without_trivia_frames}
-use Rattle.rnix_grammar.specs.Reads.{ReadsWhole}
+use Rattle.rnix_grammar.specs.PlaceReads.{ReadsWhole}
 use Rattle.rnix_grammar.specs.Reading.{IsReading}
 use Rattle.rnix_grammar.specs.Parsed.{IsParsed}
 use Rattle.rnix_grammar.specs.Document.{IsRead}
@@ -20,6 +20,7 @@ use Rattle.rnix_lemmas.proofs.WithoutTriviaLemmas.{runs_without_trivia, ate_with
 use Rattle.rnix_rows.proofs.WithTriviaWhole.{with_trivia_whole_tokens, with_trivia_same, read_with_trivia}
 use Rattle.rnix_existence.proofs.WholeReads.{whole_reads}
 use Rattle.rnix_uniqueness.proofs.AllReads.{one_row}
+use Rattle.rnix_proof_rules.proofs.ReadsAlike.{whole_new, whole_old}
 use Rattle.rnix_reader.specs.Placed.{texts_in}
 use Rattle.rnix_reader.proofs.EachText.{each_read}
 use Rattle.rnix_reader.proofs.TextLemmas.{placed_text}
@@ -32,7 +33,8 @@ reading_items r = without_trivia_tokens r.annotated ∙ ap items r.leaves
 -- two readings of some tokens are one
 pub one_reading : (ls : List Lexeme) (t u : Tree) (ds es : List Fault) → IsReading ls t ds → IsReading ls u es → (t ≡ u) × (ds ≡ es)
 one_reading ls t u ds es r s =
-    let same : (without_trivia r.annotated ≡ without_trivia s.annotated) × (ds ≡ es) = one_row (without_trivia r.annotated) (without_trivia s.annotated) ds es r.reads s.reads (reading_items r ∙ sym (reading_items s)) in
+    let same : (without_trivia r.annotated ≡ without_trivia s.annotated) × (ds ≡ es) = one_row (without_trivia r.annotated) (without_trivia s.annotated) ds es
+    (whole_old (without_trivia r.annotated) ds r.reads) (whole_old (without_trivia s.annotated) es s.reads) (reading_items r ∙ sym (reading_items s)) in
     let annotated : r.annotated ≡ s.annotated = with_trivia_same r.annotated s.annotated (placed_from 0 ls) r.laid s.laid same.0 in
     (r.tree_is ∙ ap (λ (f : AnnotatedForest). record { kind = NODE_ROOT; children = forget f }) annotated ∙ sym u_is, same.1)
   where
@@ -76,7 +78,7 @@ read_reading ls tree faults r =
       tree_is = r.tree_is;
       leaves = ap tokens_in laid ∙ with_trivia_whole_tokens (without_trivia g) ts (read.0 ∙ ap tokens_in (sym bare));
       laid = laid;
-      reads = subst (λ (f : AnnotatedForest). ReadsWhole f faults) (sym bare) (subst (ReadsWhole (without_trivia r.root.row)) (sym r.faults_are) read.1);
+      reads = whole_new (without_trivia g) faults (subst (λ (f : AnnotatedForest). ReadsWhole f faults) (sym bare) (subst (ReadsWhole (without_trivia r.root.row)) (sym r.faults_are) read.1));
     }
 
 -- the tokens of a text have a reading

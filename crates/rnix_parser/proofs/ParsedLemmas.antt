@@ -21,6 +21,7 @@ use Rattle.rnix_grammar.specs.Grammar.{IsExpression}
 use Rattle.rnix_grammar.specs.Derivation.{has_tokens_alone, IsDerivation}
 use Rattle.rnix_green.specs.Tree.{Tree}
 use Rattle.rnix_grammar.specs.Stands.{StandsWhole}
+use Rattle.rnix_grammar.specs.PlaceReads.{ReadsWhole}
 use Rattle.rnix_grammar.specs.Reading.{IsReading}
 use Rattle.rnix_grammar.specs.Parsed.{IsParsed}
 use Rattle.rnix_rows.proofs.StandsFaults.{Errors, stands_errors}
@@ -39,6 +40,7 @@ use Rattle.rnix_soundness.proofs.StrictCorners.{strict_no_corner}
 use Rattle.rnix_rows.proofs.Exactly.{derived}
 use Rattle.rnix_strict.proofs.GrammarStrict.{expression_strict}
 use Rattle.rnix_strict.proofs.GrammarTrees.{strict_expression}
+use Rattle.rnix_proof_rules.proofs.ReadsAlike.{whole_old}
 use Rattle.rnix_parser.proofs.Found.{derivation_found}
 
 -- a tree without trivia, and its errors, as they must be to be a derivation
@@ -71,18 +73,19 @@ all_follows ls tree faults ruled r =
     let ts : List Token = placed_from 0 ls in
     let g : AnnotatedForest = r.annotated in
     let own : items ts ≡ tokens_in (without_trivia g) = without_trivia_items g ts r.leaves in
-    let stands : StandsWhole (without_trivia g) faults = reads_stand (without_trivia g) faults r.reads in
+    let reads : ReadsWhole (without_trivia g) faults = whole_old (without_trivia g) faults r.reads in
+    let stands : StandsWhole (without_trivia g) faults = reads_stand (without_trivia g) faults reads in
     let errors : Errors (without_trivia g) [] (reports (without_trivia g)) faults = stands_errors stands in
     let leaf_kind : HaveLeafKinds NODE_ROOT g = laid_told (without_trivia g) g ts faults r.laid stands in
     let trimmed : AreFaultsTrimmed g = laid_trimmed (without_trivia g) g ts faults r.laid own stands in
     let nodes : faults ≡ [] → AreNodesTrimmed (forget g) = laid_nodes (without_trivia g) g ts faults r.laid own stands in
     let spelled : AreSpelled (tokens_in (without_trivia g)) = without_trivia_spelled g (subst AreSpelled (sym r.leaves) (spelled_from 0 ls ruled)) in
-    let nested : faults ≡ [] → nest NODE_ROOT (forget (without_trivia g)) ≤ depth_limit = λ h. reads_nested (without_trivia g) faults r.reads ((whole_rows stands).0 h) in
+    let nested : faults ≡ [] → nest NODE_ROOT (forget (without_trivia g)) ≤ depth_limit = λ h. reads_nested (without_trivia g) faults reads ((whole_rows stands).0 h) in
     let strict : ended_count faults ≡ 0 → Lacks is_repeated faults → has_no_corner NODE_ROOT (repaired (without_trivia g)) ≡ true → IsExpression (repaired (without_trivia g)) = λ n r o.
     strict_expression (repaired (without_trivia g))
     (both_true (has_tokens_alone (repaired (without_trivia g))) (is_strict_expression (repaired (without_trivia g)))
     (repaired_tokens NODE_ROOT (without_trivia g) (stands_told stands) spelled) (converse (without_trivia g) faults stands spelled n r o)) in
-    let met : (t : Forest) → IsDerivation t (items ts) → (faults ≡ []) × (forget (without_trivia g) ≡ t) = derivation_found (without_trivia g) (items ts) faults r.reads (sym own) in
+    let met : (t : Forest) → IsDerivation t (items ts) → (faults ≡ []) × (forget (without_trivia g) ≡ t) = derivation_found (without_trivia g) (items ts) faults reads (sym own) in
     record {
       reading = r;
       leaf_kind = leaf_kind;

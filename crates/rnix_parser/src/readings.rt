@@ -1,8 +1,9 @@
 //! Each text has one reading, and what follows from it.
 
-ghost use Rattle.std.specs.Prelude.{◌≤◌, List};
+ghost use Rattle.std.specs.Prelude.{◌≡◌, ◌≤◌, List};
 ghost use Rattle.rnix_kinds.specs.Lexical.Tokens.{Lexeme, tokens_of};
-ghost use Rattle.rnix_green.specs.Tree.{Tree};
+ghost use Rattle.rnix_green.specs.Forest.{text_of};
+ghost use Rattle.rnix_green.specs.Tree.{Tree, forest_of};
 ghost use Rattle.rnix_grammar.specs.declared.place.Place.TheVariants.{RootStart};
 ghost use Rattle.rnix_grammar.specs.Fault.{Fault};
 ghost use Rattle.rnix_grammar.specs.Tables.{depth_limit};
@@ -46,3 +47,10 @@ pub fn error_forms()
     ensures shallow { OfReadings (λ annotated faults. depth_of (At RootStart) annotated ≤ depth_limit) }
     ensures limited { OfReadings (λ annotated faults. AreLimited 0 (At RootStart) annotated) }
 {}
+
+/// The text of the tree that a text is read as is that text, byte for byte.
+pub fn tree_text(text: &str)
+    ensures { OfRead text.now (λ tree faults. text_of (forest_of tree) ≡ text.now) }
+{
+    let _len = text.len();
+}

@@ -8,7 +8,7 @@ use Rattle.rnix_kinds.specs.declared.kinds.SyntaxKind.TheVariants.{TOKEN_INHERIT
 use Rattle.rnix_kinds.specs.{declared.kinds.SyntaxKind.TheVariants.{TOKEN_STRING_START, TOKEN_THEN, TOKEN_WITH}, SyntaxKind.is_fn_arg}
 use Rattle.{rnix_kinds.proofs.AllKinds.implied, rnix_green.specs.Equality.same_kind-decides, rnix_grammar.specs.declared.place.Place.Place}
 use Rattle.rnix_grammar.specs.{declared.{symbol.Symbol.Symbol, until.Until.Until}, Levels.{binding_power, left_of}, Machine.dropped, Missing.run_at}
-use Rattle.rnix_grammar.specs.{ExpectedItems.{expects_in, IsExpected, stands_expected}, Operands.{follows, IsFollowed, IsOperand, level_at}, Reads.IsWrong}
+use Rattle.rnix_grammar.specs.{ExpectedItems.{expects_in, IsExpected, stands_expected}, Operands.{follows, IsFollowed, IsOperand, level_at}, PlaceReads.IsWrong}
 use Rattle.rnix_grammar.specs.Rows.{is_infix, RowState, Start, BeforeOperator, BeforeQuestion, BeforeArgument, At, advance, live, first, start}
 use Rattle.rnix_grammar.specs.AnnotatedForest.{Token, Note, Stray, Unwanted, Extra, Twice, TooDeep, AnnotatedForest, blank, fault, one_branch, one_fault}
 use Rattle.rnix_grammar.specs.{AnnotatedForest.{row_of, tokens_in, head_kind}, Symbols.{symbol_at, level_in}, Stands.{continues, last_kind, closing_in}}

@@ -2,7 +2,7 @@
 use Rattle.std.proofs.Common.{◌≡◌, ℕ, suc, ◌+◌, ◌≤◌, ◌<◌, Bool, true, false, List, [], ◌∷◌, ◌++◌, length, Option, Some, None, refl, ap, sym, ◌∙◌, subst, arith}
 use Rattle.std.proofs.Common.{◌||◌, if◌then◌else◌}
 use Rattle.{rnix_kinds.specs.declared.kinds.SyntaxKind.{SyntaxKind, TheVariants.{NODE_ERROR, NODE_LITERAL}}, rnix_grammar.specs.declared.place.Place.Place}
-use Rattle.rnix_grammar.specs.{declared.until.Until.Until, Fault.Fault, Missing.{missing, run_at}, ExpectedItems.IsExpected, Operands.IsFollowed, Reads.IsWrong}
+use Rattle.rnix_grammar.specs.{declared.until.Until.Until, Fault.Fault, Missing.{missing, run_at}, ExpectedItems.IsExpected, Operands.IsFollowed, PlaceReads.IsWrong}
 use Rattle.rnix_grammar.specs.{Rows.{RowState, Start, At, advance, live}, AnnotatedForest.{Token, Note, Stray, Unwanted, Extra, Twice, TooDeep}}
 use Rattle.rnix_grammar.specs.{AnnotatedForest.{AnnotatedForest, blank, token, fault, ◌⊕◌, one_token, one_fault, row_of, head_kind}, Stands.is_attrpath}
 use Rattle.{rnix_grammar.specs.{Stands.{is_inherit, seen_as, last_from}, TokenKinds.is_dot}, rnix_lemmas.proofs.Basics.{true_is_not_false, none_right}}

@@ -3,8 +3,8 @@ use Rattle.std.proofs.Common.{◌≡◌, ℕ, Bool, true, false, List, [], ◌�
 use Rattle.rnix_kinds.specs.declared.kinds.SyntaxKind.{SyntaxKind, TheVariants.{TOKEN_AT, TOKEN_IDENT, NODE_ATTRPATH, NODE_CUR_POS, NODE_IDENT, NODE_INHERIT}}
 use Rattle.rnix_kinds.{specs.declared.kinds.SyntaxKind.TheVariants.{NODE_LITERAL, NODE_PATTERN, NODE_PAT_BIND}, proofs.AllKinds.implied}
 use Rattle.rnix_grammar.specs.{declared.{place.Place.Place, symbol.Symbol.Symbol, until.Until.Until}, Fault.{Fault, ended_before}, Missing.{missing, run_at}}
-use Rattle.rnix_grammar.specs.{ExpectedItems.{expects, expects_end, IsExpected, stands_expected, stands_expected_in}, Reads.{Reads, end, leaf, missing_part}}
-use Rattle.rnix_grammar.specs.{Reads.{wrong, second, inner, IsWrong, IsOver}, Rows.{RowState, Start, At, fits, first, advance, advance_symbol, live, start}}
+use Rattle.rnix_grammar.specs.{ExpectedItems.{expects, expects_end, IsExpected, stands_expected, stands_expected_in}, PlaceReads.{Reads, end, leaf, missing_part}}
+use Rattle.rnix_grammar.specs.{PlaceReads.{wrong, second, inner, IsWrong, IsOver}, Rows.{RowState, Start, At, fits, first, advance, advance_symbol, live, start}}
 use Rattle.rnix_grammar.specs.{Rows.{whole, counts}, AnnotatedForest.{Token, Note, Stray, Unwanted, Extra, Twice, TooDeep, AnnotatedForest, blank, token}}
 use Rattle.rnix_grammar.specs.{AnnotatedForest.{branch, tokens_in, is_some, leaf_kind_as, head_kind}, Symbols.symbol_at, Stands.{begins_with_token, suits}}
 use Rattle.{rnix_grammar.specs.{Stands.is_filled, Tables.wanted_kinds, TokenKinds.{is_at, is_dot}}, rnix_lemmas.proofs.Basics.{true_is_not_false, not_if}}

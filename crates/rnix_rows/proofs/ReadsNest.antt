@@ -6,8 +6,8 @@ use Rattle.rnix_grammar.specs.{declared.{place.Place.{Place, TheVariants.RootSta
 use Rattle.rnix_grammar.specs.{Tables.{is_wanted, closes, depth_limit}, AnnotatedForest.{Token, Note, Stray, Unwanted, Extra, Twice, TooDeep, AnnotatedForest}}
 use Rattle.rnix_grammar.specs.{AnnotatedForest.{blank, token, branch, fault, one_branch, is_some, tokens_in, forget}, Rows.{is_entry, RowState, At, to}}
 use Rattle.rnix_grammar.specs.{Rows.{advance, advance_symbol, live, start, counts}, BehindErrors.{go_run, go_unwanted, go_error}, ExpectedItems.expects_end}
-use Rattle.rnix_grammar.specs.{ExpectedItems.{stands_expected_in, stands_expected, IsExpected}, Operands.{IsBegun, IsOperand, level_at}, Reads.{Reads, end}}
-use Rattle.rnix_grammar.specs.{Reads.{leaf, missing_part, wrong, second, inner, deeper, IsWrong, ReadsWhole}, Nesting.{depth_of, IsLimited, AreLimited}}
+use Rattle.rnix_grammar.specs.{ExpectedItems.{stands_expected_in, stands_expected, IsExpected}, Operands.{IsBegun, IsOperand, level_at}, PlaceReads.{Reads, end}}
+use Rattle.rnix_grammar.specs.{PlaceReads.{leaf, missing_part, wrong, second, inner, deeper, IsWrong, ReadsWhole}, Nesting.{depth_of, IsLimited, AreLimited}}
 use Rattle.{rnix_grammar.specs.Nest.nest, rnix_lemmas.proofs.{Basics.{true_is_not_false, not_nil, none_left, none_right}, EveryKind.{never, only_both}}}
 use Rattle.rnix_lemmas.proofs.{RowKinds.{has_row, no_wanted, no_closing}, OpeningRows.{is_place, live_to}, NestRowStates.is_pathless, RowEndings.row_tokens}
 use Rattle.{rnix_lemmas.proofs.RowNesting.nesting, rnix_rows.proofs.{BareFacts.{is_bare, missing_bare, literal_bare}, NodeForms.{unplaced_start, row_some}}}

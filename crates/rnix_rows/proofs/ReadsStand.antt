@@ -3,8 +3,8 @@ use Rattle.std.proofs.Common.{◌≡◌, ℕ, suc, ◌+◌, ◌≤◌, ◌<◌, 
 use Rattle.std.proofs.{Common.{◌||◌, if◌then◌else◌}, lemmas.Bool.and_from}
 use Rattle.rnix_kinds.{specs.declared.kinds.SyntaxKind.{SyntaxKind, TheVariants.{NODE_ATTRPATH, NODE_ERROR, NODE_PATTERN}}, proofs.AllKinds.every}
 use Rattle.{rnix_green.specs.Equality.same_kind-decides, rnix_grammar.specs.{declared.{place.Place.Place, symbol.Symbol.Symbol}, Fault.Fault}}
-use Rattle.rnix_grammar.specs.{ExpectedItems.{IsExpected, stands_expected}, Operands.follows, Reads.{Reads, ReadsWhole, end as at_end, leaf as a_leaf}}
-use Rattle.rnix_grammar.specs.{Reads.{missing_part as a_missing, wrong as an_error, second as a_name, inner as a_tree, deeper}, Rows.{RowState, At}}
+use Rattle.rnix_grammar.specs.{ExpectedItems.{IsExpected, stands_expected}, Operands.follows, PlaceReads.{Reads, ReadsWhole, end as at_end, leaf as a_leaf}}
+use Rattle.rnix_grammar.specs.{PlaceReads.{missing_part as a_missing, wrong as an_error, second as a_name, inner as a_tree, deeper}, Rows.{RowState, At}}
 use Rattle.rnix_grammar.specs.{Rows.{SecondStart, advance, live, start, whole, counts}, AnnotatedForest.{Token, Twice, AnnotatedForest, blank, branch, fault}}
 use Rattle.rnix_grammar.specs.{AnnotatedForest.{◌⊕◌, one_token, one_branch, one_fault, row_of, tokens_in, is_some, head_kind}, Symbols.{symbol_at, is_counted}}
 use Rattle.rnix_grammar.specs.Stands.{Stands, StandsWhole, end, leaf, missing_part, wrong, second, inner, is_attrpath, continues_kind, suits, is_filled}

@@ -2,8 +2,8 @@
 use Rattle.std.proofs.Common.{◌≡◌, false, ℕ, zero, suc, ◌≤◌, List, [], ◌∷◌, refl, sym, subst, append-nil, arith}
 use Rattle.{rnix_kinds.specs.declared.kinds.SyntaxKind.{SyntaxKind, TheVariants.NODE_ROOT}, rnix_grammar.specs.declared.place.Place.Place}
 use Rattle.rnix_grammar.specs.{declared.place.Place.TheVariants.{RootStart, RootEnd}, Fault.Fault, AnnotatedForest.{Token, AnnotatedForest, blank, tokens_in}}
-use Rattle.rnix_grammar.specs.{AnnotatedForest.end_from, Machine.{Node, machine, opened, begins, Runs}, Rows.At, Reads.{Reads, end, leaf, missing_part, wrong}}
-use Rattle.{rnix_grammar.specs.Reads.{second, inner, ReadsWhole}, rnix_uniqueness.proofs.{Ended.{ended_with, ended_once}, StepReads.ReadsRow}}
+use Rattle.rnix_grammar.specs.{AnnotatedForest.end_from, Machine.{Node, machine, opened, begins, Runs}, Rows.At, PlaceReads.{Reads, end, leaf, missing_part, wrong}}
+use Rattle.{rnix_grammar.specs.PlaceReads.{second, inner, ReadsWhole}, rnix_uniqueness.proofs.{Ended.{ended_with, ended_once}, StepReads.ReadsRow}}
 use Rattle.rnix_uniqueness.proofs.{ReadingHeights.{height, AllRows, Trees}, TreeReads.{tree_runs, no_tree}, RowTrees.row_end, RowReads.row_next}
 
 -- no reading is lower than none

@@ -7,7 +7,7 @@ use Rattle.rnix_grammar.specs.{TokenKinds.is_or, AnnotatedForest.{Token, Stray, 
 use Rattle.rnix_grammar.specs.{AnnotatedForest.{row_of, tokens_in, leaf_kind, head_kind, end_from}, Reports.{report, repeats}, Machine.{Node, Operand, Frame}}
 use Rattle.rnix_grammar.specs.{Machine.{machine, opened, perform, operand_on, rest as here}, Rows.{RowState, Start, BeforeArgument, At, is_simple}}
 use Rattle.rnix_grammar.specs.{Rows.{is_expression, start, to, whole}, TreeLevels.{row_level, is_or_row}, ExpectedItems.IsExpected, Operands.{follows, IsBegun}}
-use Rattle.{rnix_grammar.specs.{Operands.{IsFollowed, IsOperand, goes_on}, Reads.IsOver}, rnix_lemmas.proofs.{Basics.true_is_not_false, EveryKind.alike}}
+use Rattle.{rnix_grammar.specs.{Operands.{IsFollowed, IsOperand, goes_on}, PlaceReads.IsOver}, rnix_lemmas.proofs.{Basics.true_is_not_false, EveryKind.alike}}
 use Rattle.rnix_lemmas.proofs.{EveryKind.{never, only}, OpeningRows.live_to, StrictParts.end_behind, FirstTrees.{IsSingle, first_in, single_calls}}
 use Rattle.{rnix_lemmas.proofs.FollowLemmas.{followed_call, followed_tight, follows_level, follows_token}, rnix_uniqueness.proofs.Runs.{runs_on, runs_from}}
 use Rattle.rnix_uniqueness.proofs.{Runs.step_to, StepReads.{IsOperandRead, ReadsTree}, ReadingHeights.{Short, Trees, Front, by_leaf, by_stray, by_node}}

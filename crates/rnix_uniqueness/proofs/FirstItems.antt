@@ -4,7 +4,7 @@ use Rattle.rnix_kinds.{specs.declared.kinds.SyntaxKind.{SyntaxKind, TheVariants.
 use Rattle.{rnix_kinds.proofs.AllKinds.implied, rnix_grammar.specs.{Fault.Fault, Missing.{missing, run_at}, AnnotatedForest.{Token, Note, Stray, Unwanted}}}
 use Rattle.rnix_grammar.specs.AnnotatedForest.{Extra, Twice, TooDeep, AnnotatedForest, blank, token, branch, ◌⊕◌, one_token, one_branch, tokens_in, leaf_kind}
 use Rattle.rnix_grammar.specs.{AnnotatedForest.end_from, Reports.repeats, Rows.{RowState, Start, At, first, advance, live, start, whole}, Operands.IsFollowed}
-use Rattle.{rnix_grammar.specs.Reads.{Reads, end, leaf, missing_part, wrong, second, inner, deeper, IsWrong}, rnix_lemmas.proofs.Basics.true_is_not_false}
+use Rattle.{rnix_grammar.specs.PlaceReads.{Reads, end, leaf, missing_part, wrong, second, inner, deeper, IsWrong}, rnix_lemmas.proofs.Basics.true_is_not_false}
 use Rattle.rnix_lemmas.proofs.{Basics.not_if, EveryKind.only, PlaceTests.same_place, RowKinds.{has_row, starts_row}}
 use Rattle.rnix_uniqueness.proofs.ReadingHeights.{Short, Front, by_leaf, by_stray, by_node, front_of}
 use Rattle.rnix_grammar.specs.declared.place.Place.TheVariants as p

@@ -5,7 +5,7 @@ use Rattle.{rnix_kinds.specs.declared.kinds.SyntaxKind.TheVariants.{NODE_LAMBDA,
 use Rattle.rnix_grammar.specs.{declared.begin.Begin.Begin, Fault.Fault, Begins.{begin_of, second_kind}, AnnotatedForest.{Token, AnnotatedForest, blank, token}}
 use Rattle.rnix_grammar.specs.{AnnotatedForest.{branch, ◌⊕◌, one_token, one_branch, tokens_in, leaf_kind, leaf_kind_as, head_kind, end_from}, Machine.Node}
 use Rattle.rnix_grammar.specs.{Machine.{Operand, Frame, machine, opened, begun, operand_on, Runs}, Rows.{RowState, Start, BeforeAt, At, first, advance, live}}
-use Rattle.{rnix_grammar.specs.{Rows.{start, whole}, Reports.repeats, Operands.kind_of, Reads.IsOver}, rnix_lemmas.proofs.Basics.true_is_not_false}
+use Rattle.{rnix_grammar.specs.{Rows.{start, whole}, Reports.repeats, Operands.kind_of, PlaceReads.IsOver}, rnix_lemmas.proofs.Basics.true_is_not_false}
 use Rattle.rnix_lemmas.proofs.{EveryKind.{only, only_both}, FollowLemmas.followed_atom, RowKinds.has_row, StrictParts.end_behind}
 use Rattle.rnix_uniqueness.proofs.{Runs.{runs_on, runs_to, runs_from}, StepReads.{IsOperandRead, ReadsTree}, ReadingHeights.{Short, AllRows, Front, by_leaf}}
 use Rattle.rnix_uniqueness.proofs.{ReadingHeights.{by_stray, by_node, front_of, short_to}, RowClasses.{row_class, ReadOn, read_on}, RowEnds.node_read}

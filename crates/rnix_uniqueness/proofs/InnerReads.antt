@@ -4,7 +4,7 @@ use Rattle.rnix_kinds.specs.declared.kinds.SyntaxKind.{SyntaxKind, TheVariants.{
 use Rattle.rnix_grammar.specs.{declared.{place.Place.Place, action.Action.Action}, Fault.Fault, Tables.is_wanted, Symbols.{symbol_at, level_in, is_counted}}
 use Rattle.rnix_grammar.specs.{Actions.done_at, AnnotatedForest.{Token, AnnotatedForest, blank, token, one_token, one_branch, tokens_in, leaf_kind}}
 use Rattle.rnix_grammar.specs.{AnnotatedForest.{leaf_kind_as, head_kind, end_from, touches}, Rows.{RowState, At, Start, first, fits, is_expression, live}}
-use Rattle.rnix_grammar.specs.{Rows.{start, whole}, Reports.repeats, Operands.{IsBegun, IsOperand}, Reads.{IsRoom, deeper, IsOver}}
+use Rattle.rnix_grammar.specs.{Rows.{start, whole}, Reports.repeats, Operands.{IsBegun, IsOperand}, PlaceReads.{IsRoom, deeper, IsOver}}
 use Rattle.rnix_lemmas.proofs.{Basics.true_is_not_false, EveryKind.{only, only_both}, NodeKinds.{told_plain, fits_expression}, RowKinds.has_row}
 use Rattle.rnix_uniqueness.proofs.{ReadingHeights.{Short, AllRows, Trees, Front, by_leaf, by_stray, by_node, front_of, short_to}, RowClasses.class_of}
 use Rattle.rnix_uniqueness.proofs.{RowClasses.{row_class, read_on}, RowEnds.is_inner, FirstItems.{row_of_kind, item_next, name_item, name_next}}

@@ -4,7 +4,7 @@ use Rattle.rnix_kinds.specs.declared.kinds.SyntaxKind.{SyntaxKind, TheVariants.{
 use Rattle.{rnix_kinds.proofs.AllKinds.implied, rnix_grammar.specs.{Fault.Fault, Begins.{begin_of, second_kind}, AnnotatedForest.{Token, Stray}}}
 use Rattle.rnix_grammar.specs.AnnotatedForest.{AnnotatedForest, blank, token, ◌⊕◌, one_token, one_branch, one_fault, row_of, tokens_in, leaf_kind, head_kind}
 use Rattle.rnix_grammar.specs.{AnnotatedForest.end_from, Reports.report, Machine.{Operand, Frame, machine, opened, begun, rest as here}, Rows.{RowState, Start}}
-use Rattle.{rnix_grammar.specs.{Rows.{BeforeBrace, At, first, advance, live}, Reads.IsOver}, rnix_lemmas.proofs.EveryKind.{alike, only}}
+use Rattle.{rnix_grammar.specs.{Rows.{BeforeBrace, At, first, advance, live}, PlaceReads.IsOver}, rnix_lemmas.proofs.EveryKind.{alike, only}}
 use Rattle.{rnix_lemmas.proofs.FollowLemmas.{FollowedTo, atom_tight, followed_atom, followed_loose}, rnix_uniqueness.proofs.Runs.{runs_to, runs_from}}
 use Rattle.rnix_uniqueness.proofs.{StepReads.{IsOperandRead, ReadsTree}, ReadingHeights.{Short, AllRows, Front, front_of, short_to}, RowClasses.class_of}
 use Rattle.rnix_uniqueness.proofs.{RowClasses.read_on, RowEnds.operand_read, FirstItems.{is_bare, item_next, past_ends}, OperandBegins.{is_led, LedBy, by_leaf}}

@@ -20,9 +20,6 @@ pub mod InnerReads
 pub mod WrongReads
 pub mod RowReads
 pub mod AllReads
-pub mod Refused
+pub mod OnlyReading
 pub mod ExampleWords
 pub mod Examples
-pub mod OwnExamples
-pub mod TriviaExamples
-pub mod Readings

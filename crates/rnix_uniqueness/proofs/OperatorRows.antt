@@ -6,7 +6,7 @@ use Rattle.rnix_grammar.specs.{Fault.Fault, Actions.follow as follow_of, Levels.
 use Rattle.rnix_grammar.specs.AnnotatedForest.{AnnotatedForest, blank, token, ◌⊕◌, one_token, one_branch, one_fault, row_of, tokens_in, leaf_kind, end_from}
 use Rattle.rnix_grammar.specs.{Reports.{report, repeats}, Machine.{Node, Operand, Frame, machine, opened, perform, operand_on}, Rows.{RowState, Start}}
 use Rattle.rnix_grammar.specs.Rows.{BeforeOperator, BeforeDot, BeforeQuestion, At, is_atom, is_questioned, is_operand, is_infix, is_expression, advance, live}
-use Rattle.rnix_grammar.specs.{Rows.to, TreeLevels.row_level, Operands.{follows, first_tree, IsBegun, IsFollowed}, Reads.IsOver}
+use Rattle.rnix_grammar.specs.{Rows.to, TreeLevels.row_level, Operands.{follows, first_tree, IsBegun, IsFollowed}, PlaceReads.IsOver}
 use Rattle.rnix_lemmas.proofs.{EveryKind.{alike, only}, NodeKinds.{is_error, told_plain}, OpeningRows.{is_place, live_to}, AnnotatedForestLemmas.⊕-assoc}
 use Rattle.rnix_lemmas.proofs.{StrictParts.end_behind, FirstTrees.{IsSingle, a_node, an_error, first_in, single_operator}, FollowLemmas.FollowedTo}
 use Rattle.rnix_lemmas.proofs.FollowLemmas.{followed_infix, followed_question, followed_tight, follows_level, follows_token}

@@ -4,7 +4,7 @@ use Rattle.{rnix_kinds.specs.declared.kinds.SyntaxKind.{SyntaxKind, TheVariants.
 use Rattle.rnix_grammar.specs.AnnotatedForest.{Token, Note, Stray, Unwanted, Extra, Twice, TooDeep, AnnotatedForest, blank, token, branch, fault, ◌⊕◌}
 use Rattle.rnix_grammar.specs.{AnnotatedForest.{one_token, one_branch, one_fault, row_of, tokens_in, leaf_kind, head_kind, end_from}, Reports.{report, repeats}}
 use Rattle.rnix_grammar.specs.{Rows.{RowState, At, fits, advance, live, whole, start, counts}, ExpectedItems.{IsExpected, stands_expected}, Operands.IsFollowed}
-use Rattle.rnix_grammar.specs.{Operands.{IsOperand, level_at}, Reads.{Reads, end, leaf, missing_part, wrong, second, inner, deeper, IsOver, IsWrong}}
+use Rattle.rnix_grammar.specs.{Operands.{IsOperand, level_at}, PlaceReads.{Reads, end, leaf, missing_part, wrong, second, inner, deeper, IsOver, IsWrong}}
 use Rattle.{rnix_lemmas.proofs.{Basics.true_is_not_false, OpeningRows.is_place}, rnix_uniqueness.proofs.StepReads.{ReadsRow, ReadsTree}}
 
 -- how many steps a reading takes to say

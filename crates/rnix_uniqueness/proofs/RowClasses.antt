@@ -2,8 +2,8 @@
 use Rattle.std.proofs.{Common.{◌≡◌, ℕ, Bool, true, false, List, Option, Some, None, refl, ap, sym, ◌∙◌, subst, arith, nat_eq}, lemmas.Bool.Decides.nat_tests}
 use Rattle.rnix_kinds.{specs.declared.kinds.SyntaxKind.{SyntaxKind, TheVariants.{NODE_ERROR, NODE_LITERAL, NODE_PAT_ENTRY, NODE_ROOT}}, proofs.AllKinds.every}
 use Rattle.rnix_grammar.specs.{declared.place.Place.Place, Fault.Fault, Missing.{missing, run_at}, Rows.{RowState, At, Nowhere, fits, advance, to}}
-use Rattle.rnix_grammar.specs.{AnnotatedForest.{Token, Note, Stray, Unwanted, Extra, Twice, TooDeep, AnnotatedForest, tokens_in, end_from}, Reads.{Reads, end}}
-use Rattle.{rnix_grammar.specs.Reads.{leaf, missing_part, wrong, second, inner, IsOver, IsWrong}, rnix_lemmas.proofs.Basics.true_is_not_false}
+use Rattle.rnix_grammar.specs.{AnnotatedForest.{Token, Note, Stray, Unwanted, Extra, Twice, TooDeep, AnnotatedForest, tokens_in, end_from}, PlaceReads.{Reads, end}}
+use Rattle.{rnix_grammar.specs.PlaceReads.{leaf, missing_part, wrong, second, inner, IsOver, IsWrong}, rnix_lemmas.proofs.Basics.true_is_not_false}
 use Rattle.{rnix_lemmas.proofs.{LevelLemmas.same_number, Places.home}, rnix_uniqueness.proofs.{StepReads.ReadsRow, ReadingHeights.{Short, AllRows}}}
 use Rattle.rnix_grammar.specs.declared.place.Place.TheVariants as p
 

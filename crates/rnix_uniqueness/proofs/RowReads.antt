@@ -4,7 +4,7 @@ use Rattle.{rnix_kinds.specs.declared.kinds.SyntaxKind.{SyntaxKind, TheVariants.
 use Rattle.rnix_grammar.specs.{Fault.Fault, Symbols.{symbol_at, level_in}, AnnotatedForest.{Token, Twice, AnnotatedForest, blank, token, branch, fault, ◌⊕◌}}
 use Rattle.rnix_grammar.specs.{AnnotatedForest.{one_token, one_branch, one_fault, row_of, tokens_in, leaf_kind, end_from}, Reports.{report, repeats}}
 use Rattle.rnix_grammar.specs.{Rows.{RowState, At, SecondStart, advance, live, start}, ExpectedItems.{expects, stands_expected_in}, Operands.IsOperand}
-use Rattle.{rnix_grammar.specs.Reads.{Reads, end, leaf, missing_part, wrong, second, inner, deeper, IsOver, IsWrong}, rnix_lemmas.proofs.EveryKind.only}
+use Rattle.{rnix_grammar.specs.PlaceReads.{Reads, end, leaf, missing_part, wrong, second, inner, deeper, IsOver, IsWrong}, rnix_lemmas.proofs.EveryKind.only}
 use Rattle.rnix_lemmas.proofs.{AnnotatedForestLemmas.tokens_in-row_of, PlaceTests.same_place, PlainPlaces.{Reaches, reaches}}
 use Rattle.rnix_uniqueness.proofs.{StepReads.ReadsRow, ReadingHeights.{height, Short, AllRows, Trees, front_of, short_to, less, less_left, less_right}}
 use Rattle.rnix_uniqueness.proofs.{PlacedNodes.node_read_at, RowTrees.{ReadsOne, row_end, row_on, row_lost, one_leaf, one_second}, RowClasses.read_on}

@@ -6,8 +6,8 @@ use Rattle.rnix_grammar.specs.{declared.place.Place.Place, Fault.{Fault, too_dee
 use Rattle.rnix_grammar.specs.AnnotatedForest.{Token, AnnotatedForest, blank, ◌⊕◌, one_token, tokens_in, leaf_kind, head_kind, end_from, touches, Unwanted}
 use Rattle.rnix_grammar.specs.{AnnotatedForest.{Extra, Twice, TooDeep, branch, token, one_branch, one_fault, row_of}, Machine.{Head, Operand, Frame, machine}}
 use Rattle.rnix_grammar.specs.{Machine.{opened, kind_of, limited, operand_on, perform, Runs, rest as here, Second, dropped}, Missing.{missing, run_of, run_at}}
-use Rattle.rnix_grammar.specs.{Rows.{At, advance}, ExpectedItems.{expects, expects_end}, Operands.{IsBegun, goes_on}, TreeLevels.row_level, Reads.IsRoom}
-use Rattle.{rnix_grammar.specs.{Reads.deeper, declared.until.Until.Until, Reports.{report, repeats}}, rnix_lemmas.proofs.AnnotatedForestLemmas.⊕-assoc}
+use Rattle.rnix_grammar.specs.{Rows.{At, advance}, ExpectedItems.{expects, expects_end}, Operands.{IsBegun, goes_on}, TreeLevels.row_level, PlaceReads.IsRoom}
+use Rattle.{rnix_grammar.specs.{PlaceReads.deeper, declared.until.Until.Until, Reports.{report, repeats}}, rnix_lemmas.proofs.AnnotatedForestLemmas.⊕-assoc}
 use Rattle.rnix_lemmas.proofs.{AnnotatedForestLemmas.⊕-blank, StrictParts.end_behind, OpenHeads.is_open, RunLemmas.dropped_all}
 use Rattle.rnix_uniqueness.proofs.{Runs.{runs_on, runs_to, step_to}, StepReads.{ReadsRow, ReadsTree, IsOperandRead}, OwnTokens.takes_at, MissingSteps.misses_in}
 use Rattle.rnix_uniqueness.proofs.{MissingSteps.runs_in, OperandGoesOn.settles, RowClasses.{class_of, row_class, ReadOn}, RowEnds.{is_inner, node_read}}

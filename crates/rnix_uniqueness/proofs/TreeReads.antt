@@ -3,7 +3,7 @@ use Rattle.std.proofs.Common.{◌≡◌, ℕ, suc, ◌≤◌, true, false, List,
 use Rattle.rnix_kinds.specs.declared.kinds.SyntaxKind.{SyntaxKind, TheVariants.{NODE_APPLY, NODE_BIN_OP, NODE_HAS_ATTR, NODE_LAMBDA, NODE_LEGACY_LET}}
 use Rattle.{rnix_kinds.specs.declared.kinds.SyntaxKind.TheVariants.{NODE_ROOT, NODE_SELECT}, rnix_grammar.specs.{Fault.Fault, AnnotatedForest.Token}}
 use Rattle.rnix_grammar.specs.{AnnotatedForest.{AnnotatedForest, blank, one_branch, tokens_in, end_from}, Rows.{RowState, Start, fits, start, whole}}
-use Rattle.{rnix_grammar.specs.Reads.{Reads, end, leaf, missing_part, wrong, second, inner, IsOver}, rnix_lemmas.proofs.Basics.true_is_not_false}
+use Rattle.{rnix_grammar.specs.PlaceReads.{Reads, end, leaf, missing_part, wrong, second, inner, IsOver}, rnix_lemmas.proofs.Basics.true_is_not_false}
 use Rattle.{rnix_lemmas.proofs.ImitateLemmas.start_half, rnix_uniqueness.proofs.{StepReads.ReadsTree, ReadingHeights.{height, Short, AllRows, Trees, Front}}}
 use Rattle.rnix_uniqueness.proofs.{ReadingHeights.{front, short_to}, ItemRows.{led_reads, legacy_reads}, OperatorRows.{binary_reads, question_reads}}
 use Rattle.rnix_uniqueness.proofs.{OperatorRows.selected_reads, CallRows.called_reads, FunctionRows.lambda_reads}

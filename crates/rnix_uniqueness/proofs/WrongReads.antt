@@ -4,7 +4,7 @@ use Rattle.{rnix_kinds.specs.declared.kinds.SyntaxKind.{SyntaxKind, TheVariants.
 use Rattle.rnix_grammar.specs.{declared.{symbol.Symbol.Symbol, until.Until.Until}, Tables.depth_limit, Symbols.{symbol_at, level_in, is_counted}}
 use Rattle.rnix_grammar.specs.{Missing.{run_at, run_of}, AnnotatedForest.{touches, Token, Note, Stray, Unwanted, Extra, Twice, TooDeep, AnnotatedForest}}
 use Rattle.rnix_grammar.specs.{AnnotatedForest.{one_fault, row_of, is_some, head_kind}, Reports.report, Rows.{RowState, At, Nowhere, fits, advance}}
-use Rattle.rnix_grammar.specs.{Rows.{advance_symbol, live, to}, ExpectedItems.expects, Operands.IsOperand, Reads.{deeper, IsRoom, IsWrong}}
+use Rattle.rnix_grammar.specs.{Rows.{advance_symbol, live, to}, ExpectedItems.expects, Operands.IsOperand, PlaceReads.{deeper, IsRoom, IsWrong}}
 use Rattle.rnix_lemmas.proofs.{Basics.true_is_not_false, PlaceTests.{same_place, to_test, no_place}, PlainPlaces.{Reaches, reaches}, RowKinds.no_wanted}
 use Rattle.{rnix_lemmas.proofs.RowKinds.no_closing, rnix_uniqueness.proofs.{ItemRows.stray_reads, PlacedNodes.{own_next, own_at, Operands, series_read}}}
 use Rattle.rnix_uniqueness.proofs.{RowTrees.{ReadsOne, one_operand, one_unwanted, one_extra, one_deep}, ReadingHeights.lone_token}
