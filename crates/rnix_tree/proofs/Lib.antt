@@ -20,3 +20,4 @@ pub mod CoveringLemmas
 pub mod SkipLemmas
 pub mod CountsInside
 pub mod ChainsFall
+pub mod DigitLemmas

@@ -6,6 +6,7 @@ mod by_kind;
 mod covering;
 mod debug;
 mod descendants;
+mod digits;
 mod element;
 mod identity;
 mod neighbours;

@@ -6,9 +6,9 @@ ghost use Rattle.rnix_tree.specs.Lines.{indent, range_end, element_line, lines_o
 ghost use Rattle.rnix_green.specs.Range.{bounds_of};
 ghost use Rattle.rnix_tree.specs.Spots.{place_of};
 
+use crate::digits::write_digits;
 use crate::element::{SyntaxElement, WalkEvent};
 use crate::node::SyntaxNode;
-use itoa::write_digits;
 use rnix_green::TextRange;
 use std::io;
 use std::io::Write;

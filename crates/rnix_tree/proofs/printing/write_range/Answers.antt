@@ -30,12 +30,12 @@ write_digits-start-requires g c =
     let fits : c.end.result < 2 ^ 64 = search rules in
     let also : c.start.result < 2 ^ 64 = search rules in
     let p : ℕ = c.write_digits-end.result in
-    let bs : List ℕ = c.write_digits-end.new.buf in (
+    let bs : List ℕ = c.write_digits-end.new.bytes in (
       omega (arith, decimal_short c.end.result fits, decimal_short c.start.result also, c.write_digits-end.ensures.start),
       omega (
         arith,
         c.write_digits-end.ensures.start,
-        c.write_digits-end.auto.buf,
+        c.write_digits-end.auto.bytes,
         length-set bs (p - 1) 46,
         length-set (set bs (p - 1) 46) (p - 2) 46,
       ),
@@ -59,12 +59,12 @@ returns g c =
     let also : c.start.result < 2 ^ 64 = search rules in
     let p : ℕ = c.write_digits-end.result in
     let q : ℕ = c.write_digits-start.result in
-    let bs : List ℕ = c.write_digits-end.new.buf in
-    let ds : List ℕ = c.write_digits-start.new.buf in
+    let bs : List ℕ = c.write_digits-end.new.bytes in
+    let ds : List ℕ = c.write_digits-start.new.bytes in
     let e : List ℕ = decimal c.end.result in
     let s : List ℕ = decimal c.start.result in
-    let long : length bs ≡ 44 = omega (arith, c.write_digits-end.auto.buf) in
-    let also_long : length ds ≡ 44 = omega (arith, c.write_digits-end.auto.buf, c.write_digits-start.auto.buf, length-set bs (p - 1) 46, length-set (set bs (p - 1) 46) (p - 2) 46) in
+    let long : length bs ≡ 44 = omega (arith, c.write_digits-end.auto.bytes) in
+    let also_long : length ds ≡ 44 = omega (arith, c.write_digits-end.auto.bytes, c.write_digits-start.auto.bytes, length-set bs (p - 1) 46, length-set (set bs (p - 1) 46) (p - 2) 46) in
     subst (λ (xs : List ℕ). Appends (g.W.Write.contents c.args.out.now) (g.W.Write.contents c.write_all.new.self) xs)
     (range_bytes s e bs ds p q long also_long c.write_digits-end.ensures.start c.write_digits-start.ensures.start
     (omega (arith, decimal_short c.end.result fits, c.write_digits-end.ensures.start))

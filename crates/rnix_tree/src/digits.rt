@@ -1,0 +1,46 @@
+//! The digits of a number, written into a slice from their end.
+
+ghost use Rattle.std.specs.Prelude.{◌≡◌, ◌+◌, ◌/◌, ◌%◌, ◌<◌, ◌≤◌, ◌∷◌, ◌++◌, length, drop};
+ghost use Rattle.std.specs.Fmt.{decimal};
+
+// Writes two digits.
+#[inline(always)]
+fn write_pair(pair: u64, bytes: &mut [u8], at: usize)
+    requires { (pair < 100) × (at + 2 ≤ length bytes.old) }
+    ensures { drop at bytes.new ≡ (48 + pair / 10) ∷ (48 + pair % 10) ∷ drop (at + 2) bytes.old }
+{
+    bytes[at] = b'0' + (pair / 10) as u8;
+    bytes[at + 1] = b'0' + (pair % 10) as u8;
+}
+
+// Writes the one or two digits of a number below 100 so that they end at `end`, and returns where they start.
+#[inline(always)]
+fn write_first(number: u64, bytes: &mut [u8], end: usize) -> usize
+    requires { (number < 100) × (length (decimal number) ≤ end) × (end ≤ length bytes.old) }
+    ensures start { result + length (decimal number) ≡ end }
+    ensures written { drop result bytes.new ≡ decimal number ++ drop end bytes.old }
+{
+    if number < 10 {
+        bytes[end - 1] = b'0' + number as u8;
+        return end - 1;
+    }
+    write_pair(number, bytes, end - 2);
+    end - 2
+}
+
+/// Writes the digits of a number so that they end at the index `end`, and returns the index at which they start.
+#[inline]
+pub(crate) fn write_digits(number: u64, bytes: &mut [u8], end: usize) -> usize
+    requires { (length (decimal number) ≤ end) × (end ≤ length bytes.old) }
+    ensures start { result + length (decimal number) ≡ end }
+    ensures written { drop result bytes.new ≡ decimal number ++ drop end bytes.old }
+{
+    let mut left = number;
+    let mut at = end;
+    while left >= 100 {
+        write_pair(left % 100, bytes, at - 2);
+        left /= 100;
+        at -= 2;
+    }
+    write_first(left, bytes, at)
+}
