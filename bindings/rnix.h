@@ -34,7 +34,7 @@ uint32_t rnix_version(void);
 /* Why a call is refused. */
 enum rnix_refusal {
     RNIX_NOT_UTF8 = -1,  /* the text is not UTF-8 */
-    RNIX_NO_MEMORY = -2, /* malloc or realloc answered NULL */
+    RNIX_NO_MEMORY = -2, /* malloc or realloc answered NULL, or the text has 2^32 bytes or its tree as many elements: no room helps then */
     RNIX_NONE_SUCH = -3  /* there is no such kind, name, error or string */
 };
 
