@@ -1,16 +1,8 @@
 -- Derivations are found, and found alone.
-use Rattle.std.proofs.Common.{◌≡◌, true, List, [], ap, sym, ◌∙◌}
-use Rattle.std.proofs.lemmas.Bool.{and_parts as and_both}
-use Rattle.rnix_green.specs.Forest.{Forest}
-use Rattle.rnix_grammar.specs.Fault.{Fault}
-use Rattle.rnix_grammar.specs.AnnotatedForest.{Token, AnnotatedForest, tokens_in, forget}
-use Rattle.rnix_grammar.specs.PlaceReads.{ReadsWhole}
-use Rattle.rnix_grammar.specs.Strict.{is_strict_expression}
-use Rattle.rnix_grammar.specs.Derivation.{laid, has_tokens_alone, IsDerivation}
-use Rattle.rnix_lemmas.proofs.LaidLemmas.{IsLaidWhole, laid_whole}
-use Rattle.rnix_lemmas.proofs.NestTrees.{strict_nest}
-use Rattle.rnix_completeness.proofs.StrictReads.{strict_reads}
-use Rattle.rnix_uniqueness.proofs.AllReads.{one_row}
+use Rattle.{std.proofs.{Common.{◌≡◌, true, List, [], ap, sym, ◌∙◌}, lemmas.Bool.and_parts as and_both}, rnix_green.specs.Forest.Forest}
+use Rattle.rnix_grammar.specs.{Fault.Fault, AnnotatedForest.{Token, AnnotatedForest, tokens_in, forget}, PlaceReads.ReadsWhole, Strict.is_strict_expression}
+use Rattle.{rnix_grammar.specs.Derivation.{laid, has_tokens_alone, IsDerivation}, rnix_lemmas.proofs.LaidLemmas.{IsLaidWhole, laid_whole}}
+use Rattle.{rnix_lemmas.proofs.NestTrees.strict_nest, rnix_completeness.proofs.StrictReads.strict_reads, rnix_uniqueness.proofs.AllReads.one_row}
 use Rattle.rnix_strict.proofs.GrammarStrict.{expression_strict}
 
 -- a derivation over its items

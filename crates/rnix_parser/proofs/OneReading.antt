@@ -1,30 +1,14 @@
 -- Each text has one reading.
-use Rattle.std.proofs.Common.{◌≡◌, ℕ, true, List, [], ◌∷◌, ◌++◌, refl, ap, sym, ◌∙◌, subst, append_assoc}
-use Rattle.std.specs.Prelude.{flat_map}
-use Rattle.rnix_kinds.specs.declared.kinds.SyntaxKind.TheVariants.{NODE_ROOT}
-use Rattle.rnix_kinds.specs.Lexical.Tokens.{Lexeme, text_of as lexeme_text, AreSound, tokens_of}
-use Rattle.rnix_green.specs.Forest.{text_of}
-use Rattle.rnix_green.specs.Tree.{Tree}
-use Rattle.rnix_grammar.specs.Fault.{Fault}
-use Rattle.rnix_grammar.specs.AnnotatedForest.{Token, AnnotatedForest, blank, token, branch, fault, forget, tokens_in, without_trivia, placed_from}
-use Rattle.rnix_grammar.specs.Layout.{items, with_trivia_whole}
-use Rattle.rnix_grammar.specs.Machine.{ate}
-use Rattle.rnix_grammar.specs.WithoutTrivia.{without_trivia_machine, without_trivia_frame, without_trivia_frames}
-use Rattle.rnix_grammar.specs.PlaceReads.{ReadsWhole}
-use Rattle.rnix_grammar.specs.Reading.{IsReading}
-use Rattle.rnix_grammar.specs.Parsed.{IsParsed}
-use Rattle.rnix_grammar.specs.Document.{IsRead}
-use Rattle.rnix_lemmas.proofs.ReportLemmas.{without_trivia_tokens}
-use Rattle.rnix_lemmas.proofs.SpelledLemmas.{AreRuled}
-use Rattle.rnix_lemmas.proofs.WithoutTriviaLemmas.{runs_without_trivia, ate_without_trivia}
-use Rattle.rnix_rows.proofs.WithTriviaWhole.{with_trivia_whole_tokens, with_trivia_same, read_with_trivia}
-use Rattle.rnix_existence.proofs.WholeReads.{whole_reads}
-use Rattle.rnix_uniqueness.proofs.AllReads.{one_row}
-use Rattle.rnix_proof_rules.proofs.ReadsAlike.{whole_new, whole_old}
-use Rattle.rnix_reader.specs.Placed.{texts_in}
-use Rattle.rnix_reader.proofs.EachText.{each_read}
-use Rattle.rnix_reader.proofs.TextLemmas.{placed_text}
-use Rattle.rnix_parser.proofs.ParsedLemmas.{all_follows}
+use Rattle.std.{proofs.Common.{◌≡◌, ℕ, true, List, [], ◌∷◌, ◌++◌, refl, ap, sym, ◌∙◌, subst, append_assoc}, specs.Prelude.flat_map}
+use Rattle.rnix_kinds.specs.{declared.kinds.SyntaxKind.TheVariants.NODE_ROOT, Lexical.Tokens.{Lexeme, text_of as lexeme_text, AreSound, tokens_of}}
+use Rattle.{rnix_green.specs.{Forest.text_of, Tree.Tree}, rnix_grammar.specs.{Fault.Fault, AnnotatedForest.{Token, AnnotatedForest, blank, token, branch}}}
+use Rattle.rnix_grammar.specs.{AnnotatedForest.{fault, forget, tokens_in, without_trivia, placed_from}, Layout.{items, with_trivia_whole}, Machine.ate}
+use Rattle.rnix_grammar.specs.{WithoutTrivia.{without_trivia_machine, without_trivia_frame, without_trivia_frames}, PlaceReads.ReadsWhole, Reading.IsReading}
+use Rattle.{rnix_grammar.specs.{Parsed.IsParsed, Document.IsRead}, rnix_lemmas.proofs.{ReportLemmas.without_trivia_tokens, SpelledLemmas.AreRuled}}
+use Rattle.{rnix_lemmas.proofs.WithoutTriviaLemmas.{runs_without_trivia, ate_without_trivia}, rnix_rows.proofs.WithTriviaWhole.with_trivia_whole_tokens}
+use Rattle.{rnix_rows.proofs.WithTriviaWhole.{with_trivia_same, read_with_trivia}, rnix_existence.proofs.WholeReads.whole_reads}
+use Rattle.{rnix_uniqueness.proofs.AllReads.one_row, rnix_proof_rules.proofs.ReadsAlike.{whole_new, whole_old}, rnix_reader.specs.Placed.texts_in}
+use Rattle.{rnix_reader.proofs.{EachText.each_read, TextLemmas.placed_text}, rnix_parser.proofs.ParsedLemmas.all_follows}
 
 -- the items of a reading are those of the tokens
 reading_items : {ls : List Lexeme} {tree : Tree} {faults : List Fault} (r : IsReading ls tree faults) → tokens_in (without_trivia r.annotated) ≡ items (placed_from 0 ls)

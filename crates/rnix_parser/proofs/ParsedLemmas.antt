@@ -1,47 +1,18 @@
 -- All that is promised of a text follows from its reading.
-use Rattle.std.proofs.Common.{◌≡◌, ◌↔◌, ◌≤◌, true, List, [], refl, ap, sym, ◌∙◌, subst}
-use Rattle.std.proofs.lemmas.Bool.{and_parts as and_both}
-use Rattle.rnix_kinds.specs.declared.kinds.SyntaxKind.TheVariants.{NODE_ROOT}
-use Rattle.rnix_kinds.specs.Lexical.Tokens.{Lexeme}
-use Rattle.rnix_green.specs.Forest.{Forest}
-use Rattle.rnix_grammar.specs.Tables.{depth_limit}
-use Rattle.rnix_grammar.specs.AnnotatedForest.{Token, AnnotatedForest, blank, forget, tokens_in, without_trivia, placed_from, HaveLeafKinds}
-use Rattle.rnix_grammar.specs.Layout.{items}
-use Rattle.rnix_grammar.specs.Trim.{AreFaultsTrimmed, AreNodesTrimmed}
-use Rattle.rnix_grammar.specs.Shape.{IsShaped, IsUnrepeated, reports}
-use Rattle.rnix_grammar.specs.Seams.{AreTriviaBetween}
-use Rattle.rnix_grammar.specs.Named.{AreSpelled, is_repeated, Lacks}
-use Rattle.rnix_grammar.specs.Repaired.{repaired, ended_count}
-use Rattle.rnix_grammar.specs.Corners.{has_no_corner}
-use Rattle.rnix_grammar.specs.Fault.{Fault}
-use Rattle.rnix_grammar.specs.Plain.{ArePaths}
-use Rattle.rnix_grammar.specs.Nest.{nest}
-use Rattle.rnix_grammar.specs.Strict.{is_strict_expression}
-use Rattle.rnix_grammar.specs.Grammar.{IsExpression}
-use Rattle.rnix_grammar.specs.Derivation.{has_tokens_alone, IsDerivation}
-use Rattle.rnix_green.specs.Tree.{Tree}
-use Rattle.rnix_grammar.specs.Stands.{StandsWhole}
-use Rattle.rnix_grammar.specs.PlaceReads.{ReadsWhole}
-use Rattle.rnix_grammar.specs.Reading.{IsReading}
-use Rattle.rnix_grammar.specs.Parsed.{IsParsed}
-use Rattle.rnix_rows.proofs.StandsFaults.{Errors, stands_errors}
-use Rattle.rnix_rows.proofs.StandsWhole.{whole_few, whole_ended, whole_begun, incomplete_last}
-use Rattle.rnix_rows.proofs.TreeShapes.{whole_shaped, without_trivia_reports}
-use Rattle.rnix_rows.proofs.SeamLemmas.{trivia_between}
-use Rattle.rnix_soundness.proofs.ConverseNames.{converse}
-use Rattle.rnix_lemmas.proofs.SpelledLemmas.{AreRuled, spelled_from, without_trivia_spelled}
-use Rattle.rnix_rows.proofs.ReadsNest.{reads_nested}
-use Rattle.rnix_rows.proofs.ReadsStand.{reads_stand}
-use Rattle.rnix_rows.proofs.WithTriviaWhole.{without_trivia_items, laid_told, laid_trimmed, laid_bare, laid_nodes}
-use Rattle.rnix_rows.proofs.StandsTold.{stands_told, repaired_tokens}
-use Rattle.rnix_rows.proofs.StandsShapes.{AreBareRows, repaired_none, whole_rows}
-use Rattle.rnix_lemmas.proofs.EntryNames.{both_true}
-use Rattle.rnix_soundness.proofs.StrictCorners.{strict_no_corner}
-use Rattle.rnix_rows.proofs.Exactly.{derived}
-use Rattle.rnix_strict.proofs.GrammarStrict.{expression_strict}
-use Rattle.rnix_strict.proofs.GrammarTrees.{strict_expression}
-use Rattle.rnix_proof_rules.proofs.ReadsAlike.{whole_old}
-use Rattle.rnix_parser.proofs.Found.{derivation_found}
+use Rattle.std.proofs.{Common.{◌≡◌, ◌↔◌, ◌≤◌, true, List, [], refl, ap, sym, ◌∙◌, subst}, lemmas.Bool.and_parts as and_both}
+use Rattle.{rnix_kinds.specs.{declared.kinds.SyntaxKind.TheVariants.NODE_ROOT, Lexical.Tokens.Lexeme}, rnix_green.specs.{Forest.Forest, Tree.Tree}}
+use Rattle.rnix_grammar.specs.{Tables.depth_limit, AnnotatedForest.{Token, AnnotatedForest, blank, forget, tokens_in, without_trivia, placed_from}}
+use Rattle.rnix_grammar.specs.{AnnotatedForest.HaveLeafKinds, Layout.items, Trim.{AreFaultsTrimmed, AreNodesTrimmed}, Shape.{IsShaped, IsUnrepeated, reports}}
+use Rattle.rnix_grammar.specs.{Seams.AreTriviaBetween, Named.{AreSpelled, is_repeated, Lacks}, Repaired.{repaired, ended_count}, Corners.has_no_corner}
+use Rattle.rnix_grammar.specs.{Fault.Fault, Plain.ArePaths, Nest.nest, Strict.is_strict_expression, Grammar.IsExpression, Derivation.has_tokens_alone}
+use Rattle.rnix_grammar.specs.{Derivation.IsDerivation, Stands.StandsWhole, PlaceReads.ReadsWhole, Reading.IsReading, Parsed.IsParsed}
+use Rattle.rnix_rows.proofs.{StandsFaults.{Errors, stands_errors}, StandsWhole.{whole_few, whole_ended, whole_begun, incomplete_last}, TreeShapes.whole_shaped}
+use Rattle.rnix_rows.proofs.{TreeShapes.without_trivia_reports, SeamLemmas.trivia_between, ReadsNest.reads_nested, ReadsStand.reads_stand}
+use Rattle.rnix_rows.proofs.{WithTriviaWhole.{without_trivia_items, laid_told, laid_trimmed, laid_bare, laid_nodes}, StandsTold.{stands_told, repaired_tokens}}
+use Rattle.{rnix_rows.proofs.{StandsShapes.{AreBareRows, repaired_none, whole_rows}, Exactly.derived}, rnix_soundness.proofs.ConverseNames.converse}
+use Rattle.{rnix_soundness.proofs.StrictCorners.strict_no_corner, rnix_lemmas.proofs.SpelledLemmas.{AreRuled, spelled_from, without_trivia_spelled}}
+use Rattle.{rnix_lemmas.proofs.EntryNames.both_true, rnix_strict.proofs.{GrammarStrict.expression_strict, GrammarTrees.strict_expression}}
+use Rattle.{rnix_proof_rules.proofs.ReadsAlike.whole_old, rnix_parser.proofs.Found.derivation_found}
 
 -- a tree without trivia, and its errors, as they must be to be a derivation
 record IsFit (f : AnnotatedForest) (ts : List Token) (es : List Fault) : Type 0 where

@@ -1,24 +1,11 @@
 -- Wrong trees of broken texts, and proofs that none of them is what the text is read as, whatever its errors.
-use Rattle.std.proofs.Common.{◌≡◌, true, false, Bool, List, ℕ, [], ◌∷◌, refl, ap, sym, ◌∙◌}
-use Rattle.std.specs.Prelude.{codes, ◌&&◌}
-use Rattle.std.specs.Str.{chars}
-use Rattle.std.specs.Char.{encode_utf8}
-use Rattle.rnix_kinds.specs.declared.kinds.SyntaxKind.{SyntaxKind}
+use Rattle.std.{proofs.Common.{◌≡◌, true, false, Bool, List, ℕ, [], refl, ap, sym, ◌∙◌}, specs.{Prelude.{codes, ◌&&◌}, Str.chars, Char.encode_utf8}}
+use Rattle.rnix_kinds.specs.Lexical.{Tokens.{tokens_of, normal_cut, cut_at, tokens_behind}, Texts.{space_len, begins_space, char_len}}
+use Rattle.{rnix_green.specs.{Equality.same_kind, Forest.{Forest, empty, leaf, node}, Tree.Tree}, rnix_grammar.specs.{Fault.Fault, AnnotatedForest.Token}}
+use Rattle.rnix_grammar.specs.{AnnotatedForest.{AnnotatedForest, forget, tokens_in, without_trivia, placed_from}, Layout.{items, with_trivia_whole}}
+use Rattle.{rnix_grammar.specs.{Reading.IsReading, Parsed.IsParsed}, rnix_lemmas.proofs.{Basics.true_is_not_false, ReportLemmas.without_trivia_tokens}}
+use Rattle.{rnix_proof_rules.proofs.ReadsAlike.whole_old, rnix_uniqueness.proofs.OnlyReading.{Case, Holds, trees_in, items_of}}
 use Rattle.rnix_kinds.specs.declared.kinds.SyntaxKind.TheVariants as k
-use Rattle.rnix_kinds.specs.Lexical.Tokens.{tokens_of, normal_cut, cut_at, tokens_behind}
-use Rattle.rnix_kinds.specs.Lexical.Texts.{space_len, begins_space, char_len}
-use Rattle.rnix_green.specs.Equality.{same_kind}
-use Rattle.rnix_green.specs.Forest.{Forest, empty, leaf, node}
-use Rattle.rnix_green.specs.Tree.{Tree}
-use Rattle.rnix_grammar.specs.Fault.{Fault}
-use Rattle.rnix_grammar.specs.AnnotatedForest.{Token, AnnotatedForest, forget, tokens_in, without_trivia, placed_from}
-use Rattle.rnix_grammar.specs.Layout.{items, with_trivia_whole}
-use Rattle.rnix_grammar.specs.Reading.{IsReading}
-use Rattle.rnix_grammar.specs.Parsed.{IsParsed}
-use Rattle.rnix_lemmas.proofs.Basics.{true_is_not_false}
-use Rattle.rnix_lemmas.proofs.ReportLemmas.{without_trivia_tokens}
-use Rattle.rnix_proof_rules.proofs.ReadsAlike.{whole_old}
-use Rattle.rnix_uniqueness.proofs.OnlyReading.{Case, Holds, trees_in, items_of}
 use Rattle.rnix_uniqueness.proofs.Examples as of
 
 -- two forests have the same kinds in the same nodes

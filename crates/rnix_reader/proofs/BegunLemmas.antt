@@ -1,27 +1,18 @@
 -- How an operand begins, on what the reader holds.
 use Rattle.std.proofs.Common.{◌≡◌, ◌≤◌, ◌<◌, arith, Bool, ℕ, suc, true, false, None, Some, is_some, if◌then◌else◌, nat_le, List, [], ◌∷◌, refl, ap, sym, ◌∙◌}
-use Rattle.std.proofs.lemmas.Bool.{le-leb, leb-true}
-use Rattle.rnix_kinds.specs.declared.kinds.SyntaxKind.{SyntaxKind}
-use Rattle.rnix_kinds.specs.declared.kinds.SyntaxKind.TheVariants.{NODE_ERROR, NODE_IDENT, NODE_LAMBDA, NODE_IDENT_PARAM, NODE_PATTERN, NODE_PAT_BIND, NODE_LEGACY_LET}
-use Rattle.rnix_green.specs.Forest.{empty, node}
-use Rattle.rnix_grammar.specs.declared.place.Place.{Place}
+use Rattle.{std.proofs.lemmas.Bool.{le-leb, leb-true}, rnix_kinds.specs.declared.kinds.SyntaxKind.{SyntaxKind, TheVariants.{NODE_ERROR, NODE_IDENT}}}
+use Rattle.rnix_kinds.specs.declared.kinds.SyntaxKind.TheVariants.{NODE_LAMBDA, NODE_IDENT_PARAM, NODE_PATTERN, NODE_PAT_BIND, NODE_LEGACY_LET}
+use Rattle.{rnix_green.specs.Forest.{empty, node}, rnix_grammar.specs.{declared.{place.Place.Place, begin.Begin.Begin}, Tables.depth_limit, Fault.Fault}}
+use Rattle.rnix_grammar.specs.{Fault.{too_deep, ended as ended_fault}, AnnotatedForest.{Token, Stray, TooDeep, AnnotatedForest, head_of, end_from, blank, ◌⊕◌}}
+use Rattle.rnix_grammar.specs.{AnnotatedForest.{one_branch, one_fault, forget}, Layout.{items, from_item, tail_of}, Reports.report, Machine.{Head, Node}}
+use Rattle.rnix_grammar.specs.Machine.{Operand, Frame, put, opened, ate, leaf, leaf_in, behind, reach, end_of, machine, begun, operand_on, reading, limited}
+use Rattle.{rnix_grammar.specs.Machine.{run_row, run_rest, past}, rnix_lemmas.proofs.{Basics.true_is_not_false, LayoutLemmas.trivia-from_item}}
+use Rattle.{rnix_lemmas.proofs.LayoutLemmas.{from_item-from_item, items-from_item}, rnix_reader.specs.{declared.mark.Mark.Mark, State.{State, items_left}}}
+use Rattle.rnix_reader.specs.{State.{eaten, bumped, skipped, started, ended, failed, marked}, Flat.{flat, flat_with}, Steps.{noded, operand_begun, begins_with}}
+use Rattle.rnix_reader.proofs.{RunLemmas.none_left, FlatLemmas.{flat-eaten, flat-run, flat-bumped, flat-started, flat-leaf, flat-closed, flat-opened}}
+use Rattle.rnix_reader.proofs.FlatLemmas.{flat-operand, flat-failed}
 use Rattle.rnix_grammar.specs.declared.place.Place.TheVariants as p
-use Rattle.rnix_grammar.specs.declared.begin.Begin.{Begin}
 use Rattle.rnix_grammar.specs.declared.begin.Begin.TheVariants as b
-use Rattle.rnix_grammar.specs.Tables.{depth_limit}
-use Rattle.rnix_grammar.specs.Fault.{Fault, too_deep, ended as ended_fault}
-use Rattle.rnix_grammar.specs.AnnotatedForest.{Token, Stray, TooDeep, AnnotatedForest, head_of, end_from, blank, ◌⊕◌, one_branch, one_fault, forget}
-use Rattle.rnix_grammar.specs.Layout.{items, from_item, tail_of}
-use Rattle.rnix_grammar.specs.Reports.{report}
-use Rattle.rnix_grammar.specs.Machine.{Head, Node, Operand, Frame, put, opened, ate, leaf, leaf_in, behind, reach, end_of, machine, begun, operand_on, reading, limited, run_row, run_rest, past}
-use Rattle.rnix_lemmas.proofs.Basics.{true_is_not_false}
-use Rattle.rnix_lemmas.proofs.LayoutLemmas.{trivia-from_item, from_item-from_item, items-from_item}
-use Rattle.rnix_reader.specs.declared.mark.Mark.{Mark}
-use Rattle.rnix_reader.specs.State.{State, items_left, eaten, bumped, skipped, started, ended, failed, marked}
-use Rattle.rnix_reader.specs.Flat.{flat, flat_with}
-use Rattle.rnix_reader.specs.Steps.{noded, operand_begun, begins_with}
-use Rattle.rnix_reader.proofs.RunLemmas.{none_left}
-use Rattle.rnix_reader.proofs.FlatLemmas.{flat-eaten, flat-run, flat-bumped, flat-started, flat-leaf, flat-closed, flat-opened, flat-operand, flat-failed}
 
 -- the items are left where an operand begins
 pub left_operand : (over : Place) (d : ℕ) (s s' : State) → s' ≡ operand_begun over d s → items s'.rest ≡ items s.rest

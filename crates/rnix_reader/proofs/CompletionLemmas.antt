@@ -1,19 +1,10 @@
 -- Completing what is complete: the machine goes with the reader, and there is less to do.
-use Rattle.std.proofs.Common.{◌≡◌, ◌<◌, ℕ, length, true, false, List, [], ◌∷◌, ◌++◌, Bool, Option, refl, ap, sym, ◌∙◌, subst}
-use Rattle.rnix_kinds.specs.declared.kinds.SyntaxKind.{SyntaxKind}
-use Rattle.rnix_grammar.specs.declared.action.Action.{Action}
+use Rattle.{std.proofs.Common.{◌≡◌, ◌<◌, length, true, false, List, [], ◌∷◌, ◌++◌, refl, ap, sym, ◌∙◌}, rnix_grammar.specs.declared.action.Action.Action}
+use Rattle.{rnix_grammar.specs.{AnnotatedForest.Token, Machine.{Machine, begins, step}}, rnix_lemmas.proofs.Basics.{not_nil, none_right}}
+use Rattle.rnix_reader.specs.{declared.{mark.Mark.Mark, names.Names.Names}, State.{State, with_marks, ended}, Flat.{flat, marks_of, mark_of}, Holds.IsHolding}
+use Rattle.rnix_reader.{specs.Holds.{IsGoing, NamesAfter, action_of, is_finish, work}, proofs.{LoopLemmas.{takes, goes_on, less, runs_on}, StepLemmas.given}}
+use Rattle.rnix_reader.proofs.StepLemmas.{stepped, stands_of, open_there, is_node, is_root, done_node, done_loose}
 use Rattle.rnix_grammar.specs.declared.action.Action.TheVariants as a
-use Rattle.rnix_grammar.specs.Actions.{action_at}
-use Rattle.rnix_grammar.specs.AnnotatedForest.{Token, head_kind, touches}
-use Rattle.rnix_grammar.specs.Machine.{Machine, begins, step}
-use Rattle.rnix_lemmas.proofs.Basics.{not_nil, none_right}
-use Rattle.rnix_reader.specs.declared.mark.Mark.{Mark}
-use Rattle.rnix_reader.specs.declared.names.Names.{Names}
-use Rattle.rnix_reader.specs.State.{State, with_marks, items_left, ended}
-use Rattle.rnix_reader.specs.Flat.{flat, marks_of, mark_of}
-use Rattle.rnix_reader.specs.Holds.{Holds, IsHolding, IsGoing, NamesAfter, action_of, is_finish, work}
-use Rattle.rnix_reader.proofs.LoopLemmas.{takes, goes_on, less, runs_on}
-use Rattle.rnix_reader.proofs.StepLemmas.{given, stepped, stands_of, open_there, is_node, is_root, done_node, done_loose}
 
 -- something is open
 pub something_open : (first : List Token) (s : State) (names : Names) → IsGoing first s names → s.marks ≡ [] → ⊥

@@ -1,21 +1,12 @@
 -- The tokens from a place on.
-use Rattle.std.proofs.Common.{◌≡◌, ℕ, zero, suc, ◌+◌, ◌-◌, ◌<◌, ◌≤◌, Bool, true, false, List, [], ◌∷◌, ◌++◌, take, drop, length, get_or, IsUtf8, Some, refl, ap, sym, ◌∙◌, subst, arith, length-append, length-drop, drop-drop}
-use Rattle.std.proofs.Math.Nat.{add-sub_cancel_left}
-use Rattle.std.proofs.Math.Seq.{take-append_seam, drop-append_seam}
-use Rattle.std.proofs.lemmas.List.{drop_all}
-use Rattle.std.proofs.lemmas.List.Concat.{flat_map-cons}
-use Rattle.std.proofs.lemmas.List.Elements.{All-head, All-tail}
-use Rattle.std.proofs.lemmas.Str.{IsUtf8-nil, IsUtf8-append, IsCharBoundary-start, IsCharBoundary-from_drop}
-use Rattle.std.specs.List.{flat_map, All}
-use Rattle.std.specs.Str.{IsCharBoundary}
-use Rattle.rnix_kinds.specs.declared.kinds.SyntaxKind.{SyntaxKind}
-use Rattle.rnix_kinds.specs.SyntaxKind.{is_trivia}
-use Rattle.rnix_kinds.specs.Lexical.Tokens.{Lexeme, AreSound, text_of}
-use Rattle.rnix_grammar.specs.AnnotatedForest.{Token, head_of, head_kind, placed_from}
-use Rattle.rnix_grammar.specs.Layout.{from_item, from_item_if, items, tail_of}
-use Rattle.rnix_lemmas.proofs.LayoutLemmas.{items-view, items_head}
-use Rattle.rnix_reader.specs.declared.cursor.TokenEnd.{TokenEnd}
-use Rattle.rnix_reader.specs.Placed.{ends_from, token_cut, tokens_cut, start_of, AreEnds, AreInOrder}
+use Rattle.std.proofs.Common.{◌≡◌, ℕ, zero, suc, ◌+◌, ◌-◌, ◌<◌, ◌≤◌, Bool, true, false, List, [], ◌∷◌, ◌++◌, take, drop, length, get_or, IsUtf8, Some, refl, ap}
+use Rattle.std.proofs.{Common.{sym, ◌∙◌, subst, arith, length-append, length-drop, drop-drop}, Math.{Nat.add-sub_cancel_left, Seq.take-append_seam}}
+use Rattle.std.proofs.{Math.Seq.drop-append_seam, lemmas.{List.{drop_all, Concat.flat_map-cons, Elements.{All-head, All-tail}}, Str.IsUtf8-nil}}
+use Rattle.std.{proofs.lemmas.Str.{IsUtf8-append, IsCharBoundary-start, IsCharBoundary-from_drop}, specs.{List.{flat_map, All}, Str.IsCharBoundary}}
+use Rattle.rnix_kinds.specs.{declared.kinds.SyntaxKind.SyntaxKind, SyntaxKind.is_trivia, Lexical.Tokens.{Lexeme, AreSound, text_of}}
+use Rattle.rnix_grammar.specs.{AnnotatedForest.{Token, head_of, head_kind, placed_from}, Layout.{from_item, from_item_if, items, tail_of}}
+use Rattle.{rnix_lemmas.proofs.LayoutLemmas.{items-view, items_head}, rnix_reader.specs.{declared.cursor.TokenEnd.TokenEnd, Placed.{ends_from, token_cut}}}
+use Rattle.rnix_reader.specs.Placed.{tokens_cut, start_of, AreEnds, AreInOrder}
 
 -- the tokens are as many as their ends
 pub length-tokens_cut : (text : List ℕ) (n : ℕ) (ts : List TokenEnd) → length (tokens_cut text n ts) ≡ length ts

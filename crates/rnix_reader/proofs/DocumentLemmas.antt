@@ -1,21 +1,11 @@
 -- A whole text.
 use Rattle.std.proofs.Common.{◌≡◌, ℕ, true, List, [], ◌∷◌, ◌++◌, map, refl, ap, sym, ◌∙◌, subst}
-use Rattle.rnix_kinds.specs.declared.kinds.SyntaxKind.TheVariants.{NODE_ROOT}
-use Rattle.rnix_kinds.specs.Lexical.Tokens.{Lexeme}
-use Rattle.rnix_green.specs.Forest.{Forest, empty, node, tree_count}
-use Rattle.rnix_green.specs.Draft.{Draft, blank, node_opened}
-use Rattle.rnix_green.specs.Tree.{Tree, forest_of}
-use Rattle.rnix_grammar.specs.declared.error.ParseError.{ParseError}
-use Rattle.rnix_grammar.specs.declared.place.Place.TheVariants as p
-use Rattle.rnix_grammar.specs.Fault.{fault_of}
-use Rattle.rnix_grammar.specs.AnnotatedForest.{Token, placed_from, forget}
-use Rattle.rnix_grammar.specs.Machine.{begins, ate, Runs}
-use Rattle.rnix_reader.specs.declared.mark.Mark.{Mark}
-use Rattle.rnix_reader.specs.State.{State, marked}
-use Rattle.rnix_reader.specs.Flat.{flat, mark_at}
-use Rattle.rnix_reader.specs.Holds.{IsReadTo}
-use Rattle.rnix_grammar.specs.Document.{IsRead}
+use Rattle.{rnix_kinds.specs.{declared.kinds.SyntaxKind.TheVariants.NODE_ROOT, Lexical.Tokens.Lexeme}, rnix_green.specs.Forest.{Forest, empty, node}}
+use Rattle.rnix_green.specs.{Forest.tree_count, Draft.{Draft, blank, node_opened}, Tree.{Tree, forest_of}}
+use Rattle.rnix_grammar.specs.{declared.error.ParseError.ParseError, Fault.fault_of, AnnotatedForest.{Token, placed_from, forget}, Machine.{begins, ate, Runs}}
+use Rattle.{rnix_grammar.specs.Document.IsRead, rnix_reader.specs.{declared.mark.Mark.Mark, State.{State, marked}, Flat.{flat, mark_at}, Holds.IsReadTo}}
 use Rattle.rnix_reader.proofs.StateLemmas.{state_is}
+use Rattle.rnix_grammar.specs.declared.place.Place.TheVariants as p
 
 -- the root is open, and nothing is read
 pub opened_root : (r : List Token) (b b0 : Draft) (errors : List ParseError) (marks : List Mark) (at : ℕ) (s : State) → b0 ≡ blank → b ≡ node_opened NODE_ROOT (tree_count b0.finished) b0

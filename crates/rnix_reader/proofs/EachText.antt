@@ -1,26 +1,13 @@
 -- The steps read each list of tokens to its end.
 use Rattle.std.proofs.Common.{◌≡◌, ◌<◌, ℕ, zero, suc, Bool, true, false, List, [], ◌∷◌, refl, ap, sym, ◌∙◌, subst, arith}
-use Rattle.rnix_kinds.specs.declared.kinds.SyntaxKind.TheVariants.{NODE_ROOT}
-use Rattle.rnix_kinds.specs.Lexical.Tokens.{Lexeme}
-use Rattle.rnix_green.specs.Tree.{Tree}
+use Rattle.{rnix_kinds.specs.{declared.kinds.SyntaxKind.TheVariants.NODE_ROOT, Lexical.Tokens.Lexeme}, rnix_green.specs.Tree.Tree}
+use Rattle.rnix_grammar.specs.{declared.action.Action.Action, Fault.Fault, AnnotatedForest.{Token, placed_from, forget, head_kind, touches}, Layout.items}
+use Rattle.rnix_grammar.specs.{Actions.action_at, Sorts.{sort_of, AreKept}, Machine.{Node, Frame, Machine, machine, begins, ate, perform, Runs, rest as here}}
+use Rattle.{rnix_grammar.specs.{Machine.then as further, Document.IsRead, Allowed.Allowed}, rnix_lemmas.proofs.Basics.true_is_not_false}
+use Rattle.rnix_lemmas.proofs.{PlaceLemmas.{head_root, root_alone, root_lowest, step_kept, begins_kept}, AllowedLemmas.allowed}
+use Rattle.rnix_reader.{specs.Holds.is_finish, proofs.{StepLemmas.is_root, RunLemmas.no_items, WorkLemmas.{cost, cost_of, perform_less}}}
 use Rattle.rnix_grammar.specs.declared.place.Place.TheVariants as p
-use Rattle.rnix_grammar.specs.declared.action.Action.{Action}
 use Rattle.rnix_grammar.specs.declared.action.Action.TheVariants as a
-use Rattle.rnix_grammar.specs.Fault.{Fault}
-use Rattle.rnix_grammar.specs.AnnotatedForest.{Token, placed_from, forget, head_kind, touches}
-use Rattle.rnix_grammar.specs.Layout.{items}
-use Rattle.rnix_grammar.specs.Actions.{action_at}
-use Rattle.rnix_grammar.specs.Sorts.{sort_of, AreKept}
-use Rattle.rnix_grammar.specs.Machine.{Node, Frame, Machine, machine, begins, ate, perform, Runs, rest as here, then as further}
-use Rattle.rnix_grammar.specs.Document.{IsRead}
-use Rattle.rnix_lemmas.proofs.Basics.{true_is_not_false}
-use Rattle.rnix_lemmas.proofs.PlaceLemmas.{head_root, root_alone, root_lowest, step_kept, begins_kept}
-use Rattle.rnix_grammar.specs.Allowed.{Allowed}
-use Rattle.rnix_reader.specs.Holds.{is_finish}
-use Rattle.rnix_lemmas.proofs.AllowedLemmas.{allowed}
-use Rattle.rnix_reader.proofs.StepLemmas.{is_root}
-use Rattle.rnix_reader.proofs.RunLemmas.{no_items}
-use Rattle.rnix_reader.proofs.WorkLemmas.{cost, cost_of, perform_less}
 
 -- some steps lead a machine to where the root alone is open and nothing is left
 pub record IsThrough (m : Machine) : Type 0 where

@@ -1,22 +1,13 @@
 -- The end of a pattern's entry: it is told if an earlier entry has its name.
 use Rattle.std.proofs.Common.{◌≡◌, ℕ, Bool, true, false, List, [], ◌∷◌, ◌++◌, Some, None, refl, ap, sym, ◌∙◌, subst, append-nil, if◌then◌else◌}
-use Rattle.rnix_kinds.specs.declared.kinds.SyntaxKind.TheVariants.{NODE_PATTERN, NODE_PAT_ENTRY}
+use Rattle.{rnix_kinds.specs.declared.kinds.SyntaxKind.TheVariants.{NODE_PATTERN, NODE_PAT_ENTRY}, rnix_grammar.specs.Fault.{Fault, named_twice}}
+use Rattle.rnix_grammar.specs.{AnnotatedForest.{Token, AnnotatedForest, ◌⊕◌, without_trivia, extent_of}, Reports.{has_entry, repeated_if}, Machine.{Head, Node}}
+use Rattle.rnix_grammar.specs.{Machine.{Second, Operand, Frame, Machine, put, made, closed, perform}, Sorts.{Sort, Pattern, Entry, sort_of, sort_of_head}}
+use Rattle.{rnix_grammar.specs.Sorts.{may_hold, StandsOn}, rnix_lemmas.proofs.Basics.true_is_not_false, rnix_reader.specs.declared.mark.Mark.Mark}
+use Rattle.rnix_reader.specs.{declared.names.{NameSet.NameSet, Names.Names}, Names.{texts_of, extents_of}, State.{State, ended}, Flat.flat, Holds.AreFit}
+use Rattle.rnix_reader.specs.Holds.{IsFit, IsBegun, Holding, EntryTold, told_of, text_of, range_of, name_of, entries_of, ranges_of, Tops, Known, KnownOn}
+use Rattle.rnix_reader.proofs.{FlatLemmas.flat-failed, StepLemmas.{stands_of, done_node, is_node, is_root}}
 use Rattle.rnix_grammar.specs.declared.action.Action.TheVariants as a
-use Rattle.rnix_grammar.specs.Fault.{Fault, named_twice}
-use Rattle.rnix_grammar.specs.AnnotatedForest.{Token, AnnotatedForest, ◌⊕◌, without_trivia, extent_of}
-use Rattle.rnix_grammar.specs.Reports.{has_entry, repeated_if}
-use Rattle.rnix_grammar.specs.Machine.{Head, Node, Second, Operand, Frame, Machine, put, made, closed, perform}
-use Rattle.rnix_lemmas.proofs.Basics.{true_is_not_false}
-use Rattle.rnix_reader.specs.declared.mark.Mark.{Mark}
-use Rattle.rnix_reader.specs.declared.names.NameSet.{NameSet}
-use Rattle.rnix_reader.specs.declared.names.Names.{Names}
-use Rattle.rnix_reader.specs.Names.{texts_of, extents_of}
-use Rattle.rnix_reader.specs.State.{State, ended}
-use Rattle.rnix_reader.specs.Flat.{flat}
-use Rattle.rnix_grammar.specs.Sorts.{Sort, Pattern, Entry, sort_of, sort_of_head, may_hold, StandsOn}
-use Rattle.rnix_reader.specs.Holds.{AreFit, IsFit, IsBegun, Holding, EntryTold, told_of, text_of, range_of, name_of, entries_of, ranges_of, Tops, Known, KnownOn}
-use Rattle.rnix_reader.proofs.FlatLemmas.{flat-failed}
-use Rattle.rnix_reader.proofs.StepLemmas.{stands_of, done_node, is_node, is_root}
 
 abbrev is_entry : Sort → Bool
 is_entry Entry = true

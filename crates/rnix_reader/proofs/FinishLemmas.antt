@@ -1,26 +1,12 @@
 -- The end of the text: the root is complete.
-use Rattle.std.proofs.Common.{◌≡◌, ◌<◌, ℕ, length, true, false, List, [], ◌∷◌, None, refl, ap, sym, ◌∙◌, subst}
-use Rattle.rnix_kinds.specs.declared.kinds.SyntaxKind.TheVariants.{NODE_ROOT}
-use Rattle.rnix_green.specs.Forest.{empty, node}
-use Rattle.rnix_green.specs.Draft.{wrapped-join}
-use Rattle.rnix_grammar.specs.declared.place.Place.{Place}
+use Rattle.std.proofs.Common.{◌≡◌, ◌<◌, ℕ, length, true, List, [], ◌∷◌, None, refl, ap, sym, ◌∙◌, subst}
+use Rattle.{rnix_kinds.specs.declared.kinds.SyntaxKind.TheVariants.NODE_ROOT, rnix_green.specs.{Forest.{empty, node}, Draft.wrapped-join}}
+use Rattle.rnix_grammar.specs.{declared.place.Place.Place, Fault.Fault, AnnotatedForest.{Token, AnnotatedForest, forget, head_kind}, Layout.{items, from_item}}
+use Rattle.rnix_grammar.specs.{Machine.{Head, Node, Frame, Machine, machine, begins, opened, ate, Runs}, Sorts.{Root, sort_of}}
+use Rattle.{rnix_lemmas.proofs.PlaceLemmas.{head_root, root_alone}, rnix_reader.proofs.{EntryLemmas.fit_stands, FlatLemmas.flat-eaten, StateLemmas.state_is}}
+use Rattle.rnix_reader.{proofs.{StepLemmas.{stands_of, open_there, is_node}, RunLemmas.no_items}, specs.declared.{mark.Mark.Mark, names.Names.Names}}
+use Rattle.rnix_reader.specs.{State.{State, eaten, ended}, Flat.{flat_with, popped}, Holds.{Holding, IsReadTo}}
 use Rattle.rnix_grammar.specs.declared.place.Place.TheVariants as p
-use Rattle.rnix_grammar.specs.Fault.{Fault}
-use Rattle.rnix_grammar.specs.AnnotatedForest.{Token, AnnotatedForest, forget, head_kind}
-use Rattle.rnix_grammar.specs.Layout.{items, from_item}
-use Rattle.rnix_grammar.specs.Machine.{Head, Node, Frame, Machine, machine, begins, opened, ate, Runs}
-use Rattle.rnix_lemmas.proofs.PlaceLemmas.{head_root, root_alone}
-use Rattle.rnix_reader.proofs.EntryLemmas.{fit_stands}
-use Rattle.rnix_reader.specs.declared.mark.Mark.{Mark}
-use Rattle.rnix_reader.specs.declared.names.Names.{Names}
-use Rattle.rnix_reader.specs.State.{State, eaten, ended}
-use Rattle.rnix_reader.specs.Flat.{flat_with, popped}
-use Rattle.rnix_grammar.specs.Sorts.{Root, sort_of}
-use Rattle.rnix_reader.specs.Holds.{Holding, IsReadTo}
-use Rattle.rnix_reader.proofs.FlatLemmas.{flat-eaten}
-use Rattle.rnix_reader.proofs.StateLemmas.{state_is}
-use Rattle.rnix_reader.proofs.StepLemmas.{stands_of, open_there, is_node}
-use Rattle.rnix_reader.proofs.RunLemmas.{no_items}
 
 -- the root over all trees
 root_ended : (h : Head) (place : Place) (d : ℕ) (row : AnnotatedForest) (ms : List Mark) (ts : List Token) (n : ℕ) (es : List Fault) → h ≡ Node NODE_ROOT

@@ -1,22 +1,13 @@
 -- The reader's single steps on what it holds of a machine.
-use Rattle.std.proofs.Common.{◌≡◌, ℕ, true, subst, List, [], ◌∷◌, ◌++◌, refl, ap, sym, ◌∙◌}
-use Rattle.rnix_kinds.specs.declared.kinds.SyntaxKind.{SyntaxKind}
-use Rattle.rnix_kinds.specs.declared.kinds.SyntaxKind.TheVariants.{NODE_ERROR}
-use Rattle.rnix_green.specs.Forest.{Forest, empty, node, join, tree_count}
-use Rattle.rnix_green.specs.Draft.{wrapped, wrapped-join}
-use Rattle.rnix_green.specs.ForestCode.{join_empty}
-use Rattle.rnix_green.proofs.ForestLemmas.{join_assoc}
-use Rattle.rnix_grammar.specs.declared.place.Place.{Place}
-use Rattle.rnix_grammar.specs.Fault.{Fault}
-use Rattle.rnix_grammar.specs.AnnotatedForest.{Token, Note, Twice, AnnotatedForest, blank, ◌⊕◌, one_branch, one_fault, row_of, forget, end_from}
-use Rattle.rnix_grammar.specs.Layout.{from_item, trivia_before, tail_of, with_trivia}
-use Rattle.rnix_grammar.specs.Machine.{Node, Second, Operand, Frame, put, opened, ate, leaf, leaf_in, behind, reach, end_of, run_row, run_rest, machine, closed}
-use Rattle.rnix_lemmas.proofs.LayoutLemmas.{trivia-from_item, from_item-from_item}
-use Rattle.rnix_lemmas.proofs.AnnotatedForestLemmas.{forget-⊕}
-use Rattle.rnix_reader.specs.declared.mark.Mark.{Mark}
-use Rattle.rnix_reader.specs.State.{eaten, bumped, skipped, started, started_at, ended, failed, marked}
-use Rattle.rnix_reader.specs.Flat.{trees_of, nodes_of, marks_of, mark_at, flat, flat_with, popped, opened_on}
-use Rattle.rnix_reader.proofs.StateLemmas.{state_is}
+use Rattle.{std.proofs.Common.{◌≡◌, ℕ, true, subst, List, [], ◌∷◌, ◌++◌, refl, ap, sym, ◌∙◌}, rnix_kinds.specs.declared.kinds.SyntaxKind.SyntaxKind}
+use Rattle.{rnix_kinds.specs.declared.kinds.SyntaxKind.TheVariants.NODE_ERROR, rnix_green.specs.{Forest.{Forest, empty, node, join, tree_count}, Draft.wrapped}}
+use Rattle.{rnix_green.{specs.{Draft.wrapped-join, ForestCode.join_empty}, proofs.ForestLemmas.join_assoc}, rnix_grammar.specs.declared.place.Place.Place}
+use Rattle.rnix_grammar.specs.{Fault.Fault, AnnotatedForest.{Token, Note, Twice, AnnotatedForest, blank, ◌⊕◌, one_branch, one_fault, row_of, forget, end_from}}
+use Rattle.rnix_grammar.specs.{Layout.{from_item, trivia_before, tail_of, with_trivia}, Machine.{Node, Second, Operand, Frame, put, opened, ate, leaf, leaf_in}}
+use Rattle.{rnix_grammar.specs.Machine.{behind, reach, end_of, run_row, run_rest, machine, closed}, rnix_lemmas.proofs.LayoutLemmas.trivia-from_item}
+use Rattle.{rnix_lemmas.proofs.{LayoutLemmas.from_item-from_item, AnnotatedForestLemmas.forget-⊕}, rnix_reader.specs.{declared.mark.Mark.Mark, State.eaten}}
+use Rattle.rnix_reader.specs.{State.{bumped, skipped, started, started_at, ended, failed, marked}, Flat.{trees_of, nodes_of, marks_of, mark_at, flat}}
+use Rattle.rnix_reader.{specs.Flat.{flat_with, popped, opened_on}, proofs.StateLemmas.state_is}
 
 -- more in a row
 grown : (t : Forest) (a b : AnnotatedForest) → join (join t (forget a)) (forget b) ≡ join t (forget (a ⊕ b))

@@ -1,27 +1,17 @@
 -- Each step of the machine keeps its frames fit, its tokens in order and the names known.
 use Rattle.std.proofs.Common.{◌≡◌, ℕ, suc, Bool, true, false, List, [], ◌∷◌, ◌++◌, Option, refl, ap, sym, ◌∙◌, subst, if◌then◌else◌, ◌&&◌, nat_le}
-use Rattle.rnix_kinds.specs.declared.kinds.SyntaxKind.{SyntaxKind}
-use Rattle.rnix_kinds.specs.declared.kinds.SyntaxKind.TheVariants.{NODE_ERROR, NODE_IDENT, NODE_LAMBDA, NODE_PATTERN, NODE_PAT_BIND, NODE_IDENT_PARAM, NODE_LEGACY_LET}
-use Rattle.rnix_grammar.specs.declared.place.Place.TheVariants as p
-use Rattle.rnix_grammar.specs.declared.begin.Begin.{Begin}
-use Rattle.rnix_grammar.specs.declared.begin.Begin.TheVariants as b
-use Rattle.rnix_grammar.specs.Fault.{Fault, too_deep}
-use Rattle.rnix_grammar.specs.Tables.{depth_limit}
-use Rattle.rnix_grammar.specs.Begins.{begin_of}
-use Rattle.rnix_grammar.specs.AnnotatedForest.{Token, Stray, TooDeep, AnnotatedForest, blank, ◌⊕◌, one_branch, one_fault, head_kind, end_from}
-use Rattle.rnix_grammar.specs.Layout.{items, from_item}
-use Rattle.rnix_grammar.specs.Machine.{Head, Node, Second, Operand, Frame, Machine, put, opened, ate, leaf, behind, reach, run_row, run_rest, made, machine, closed, limited, begun, operand_on, reading}
-use Rattle.rnix_grammar.specs.Begins.{second_kind}
-use Rattle.rnix_lemmas.proofs.Basics.{true_is_not_false}
-use Rattle.rnix_lemmas.proofs.PlaceLemmas.{BeginsInner, begin_inner}
-use Rattle.rnix_reader.specs.declared.names.Names.{Names}
-use Rattle.rnix_reader.specs.Placed.{AreInOrder}
-use Rattle.rnix_grammar.specs.Sorts.{Sort, Again, Loose, Plain, sort_of, sort_of_head, sort_of_node, may_hold, is_open}
-use Rattle.rnix_reader.specs.Holds.{BeginsAt, EndsAt, IsWell, AreNamed, NamesFor, opens_pattern, opens_on}
-use Rattle.rnix_reader.proofs.EntryLemmas.{fit_first}
-use Rattle.rnix_reader.proofs.OrderLemmas.{order_from, order_behind, order_all}
-use Rattle.rnix_reader.proofs.RowLemmas.{no_entry_leaf, no_entry_fault}
+use Rattle.rnix_kinds.specs.declared.kinds.SyntaxKind.{SyntaxKind, TheVariants.{NODE_ERROR, NODE_IDENT, NODE_LAMBDA, NODE_PATTERN, NODE_PAT_BIND}}
+use Rattle.{rnix_kinds.specs.declared.kinds.SyntaxKind.TheVariants.{NODE_IDENT_PARAM, NODE_LEGACY_LET}, rnix_grammar.specs.declared.begin.Begin.Begin}
+use Rattle.rnix_grammar.specs.{Fault.{Fault, too_deep}, Tables.depth_limit, Begins.{begin_of, second_kind}, AnnotatedForest.{Token, Stray, TooDeep}}
+use Rattle.rnix_grammar.specs.{AnnotatedForest.{AnnotatedForest, blank, ◌⊕◌, one_branch, one_fault, head_kind, end_from}, Layout.{items, from_item}}
+use Rattle.rnix_grammar.specs.Machine.{Head, Node, Second, Operand, Frame, Machine, put, opened, ate, leaf, behind, reach, run_row, run_rest, made, machine}
+use Rattle.rnix_grammar.specs.{Machine.{closed, limited, begun, operand_on, reading}, Sorts.{Sort, Again, Loose, Plain, sort_of, sort_of_head, sort_of_node}}
+use Rattle.{rnix_grammar.specs.Sorts.{may_hold, is_open}, rnix_lemmas.proofs.{Basics.true_is_not_false, PlaceLemmas.{BeginsInner, begin_inner}}}
+use Rattle.rnix_reader.specs.{declared.names.Names.Names, Placed.AreInOrder, Holds.{BeginsAt, EndsAt, IsWell, AreNamed, NamesFor, opens_pattern, opens_on}}
+use Rattle.rnix_reader.proofs.{EntryLemmas.fit_first, OrderLemmas.{order_from, order_behind, order_all}, RowLemmas.{no_entry_leaf, no_entry_fault}}
 use Rattle.rnix_reader.proofs.KeptLemmas.{Kept, grow_trivia, grow_behind, push_node, push_operand, push_pattern, pop, is_bare}
+use Rattle.rnix_grammar.specs.declared.place.Place.TheVariants as p
+use Rattle.rnix_grammar.specs.declared.begin.Begin.TheVariants as b
 
 -- the machine goes on
 pub record Goes (m : Machine) (names : Names) : Type 0 where

@@ -1,23 +1,14 @@
 -- Frames that are opened, grow and close: each stays fit, and the names stay known.
 use Rattle.std.proofs.Common.{◌≡◌, ℕ, Bool, true, false, List, [], ◌∷◌, ◌++◌, Option, Some, None, refl, ap, sym, ◌∙◌, subst, append-nil, if◌then◌else◌}
-use Rattle.std.specs.Str.{bytes_eq}
-use Rattle.rnix_kinds.specs.declared.kinds.SyntaxKind.{SyntaxKind}
-use Rattle.rnix_kinds.specs.declared.kinds.SyntaxKind.TheVariants.{NODE_PATTERN, NODE_PAT_ENTRY}
-use Rattle.rnix_grammar.specs.declared.place.Place.{Place}
-use Rattle.rnix_grammar.specs.declared.place.Place.TheVariants as p
-use Rattle.rnix_grammar.specs.Fault.{Fault}
-use Rattle.rnix_grammar.specs.AnnotatedForest.{Token, AnnotatedForest, ◌⊕◌, without_trivia, extent_of}
-use Rattle.rnix_grammar.specs.Layout.{trivia_before}
-use Rattle.rnix_grammar.specs.Reports.{entry_name}
-use Rattle.rnix_grammar.specs.Machine.{Head, Node, Second, Operand, Frame, put, opened, ate, made}
-use Rattle.rnix_lemmas.proofs.Basics.{true_is_not_false}
-use Rattle.rnix_reader.specs.declared.names.NameSet.{NameSet}
-use Rattle.rnix_reader.specs.declared.names.Names.{Names}
-use Rattle.rnix_reader.specs.Names.{texts_of, extents_of, PatternOpened, PatternClosed, EntryOpened, EntryClosed}
-use Rattle.rnix_grammar.specs.Sorts.{Sort, Root, Pattern, Entry, Again, Loose, Plain, sort_of, sort_of_head, sort_of_node, may_hold}
-use Rattle.rnix_reader.specs.Holds.{AreFit, IsFit, IsBegun, text_of, range_of, name_of, entries_of, ranges_of, Tops, Known, KnownOn}
-use Rattle.rnix_reader.proofs.EntryLemmas.{known_pattern, known_entry as known_in_entry, fit_first}
+use Rattle.{std.specs.Str.bytes_eq, rnix_kinds.specs.declared.kinds.SyntaxKind.{SyntaxKind, TheVariants.{NODE_PATTERN, NODE_PAT_ENTRY}}}
+use Rattle.rnix_grammar.specs.{declared.place.Place.Place, Fault.Fault, AnnotatedForest.{Token, AnnotatedForest, ◌⊕◌, without_trivia, extent_of}}
+use Rattle.rnix_grammar.specs.{Layout.trivia_before, Reports.entry_name, Machine.{Head, Node, Second, Operand, Frame, put, opened, ate, made}, Sorts.Sort}
+use Rattle.rnix_grammar.specs.Sorts.{Root, Pattern, Entry, Again, Loose, Plain, sort_of, sort_of_head, sort_of_node, may_hold}
+use Rattle.{rnix_lemmas.proofs.Basics.true_is_not_false, rnix_reader.specs.{declared.names.{NameSet.NameSet, Names.Names}, Names.{texts_of, extents_of}}}
+use Rattle.rnix_reader.specs.{Names.{PatternOpened, PatternClosed, EntryOpened, EntryClosed}, Holds.{AreFit, IsFit, IsBegun, text_of, range_of, name_of}}
+use Rattle.rnix_reader.{specs.Holds.{entries_of, ranges_of, Tops, Known, KnownOn}, proofs.EntryLemmas.{known_pattern, known_entry as known_in_entry, fit_first}}
 use Rattle.rnix_reader.proofs.RowLemmas.{HasNoEntry, no_entry_trivia, is_pattern_sort, begun_more, name_more, known_more, known_entry}
+use Rattle.rnix_grammar.specs.declared.place.Place.TheVariants as p
 
 -- the frames are fit, and the names of open patterns and entries are known
 pub record Kept (f : Frame) (fs : List Frame) (names : Names) : Type 0 where

@@ -1,26 +1,14 @@
 -- Reading step by step: the machine goes with the reader.
 use Rattle.std.proofs.Common.{◌≡◌, ◌<◌, ℕ, true, false, Bool, List, [], ◌∷◌, ◌++◌, refl, ap, sym, ◌∙◌, subst, arith}
-use Rattle.rnix_kinds.specs.declared.kinds.SyntaxKind.TheVariants.{NODE_ROOT}
+use Rattle.{rnix_kinds.specs.declared.kinds.SyntaxKind.TheVariants.NODE_ROOT, rnix_grammar.specs.{declared.action.Action.Action, AnnotatedForest.Token}}
+use Rattle.rnix_grammar.specs.{AnnotatedForest.{blank, head_kind}, Layout.items, Machine.{Node, Frame, Machine, opened, machine, begins, perform, step, Runs}}
+use Rattle.{rnix_grammar.specs.{Machine.{rest, then}, Allowed.Allowed}, rnix_lemmas.proofs.Basics.not_nil, rnix_reader.specs.declared.mark.Mark.Mark}
+use Rattle.rnix_reader.specs.{declared.names.Names.Names, Placed.AreInOrder, Names.{texts_of, extents_of}, State.{State, with_marks}, Flat.{marks_of, mark_of}}
+use Rattle.rnix_reader.{specs.{Flat.{flat, popped}, Holds.{Holds, Holding, IsHolding, NamesAfter, action_of, is_finish, work}}, proofs.StepLemmas.given}
+use Rattle.rnix_reader.proofs.{StepLemmas.step_is, KeptLemmas.Kept, GoesLemmas.Goes, PerformLemmas.perform_goes, WorkLemmas.{cost_of, work_is, perform_less}}
+use Rattle.rnix_reader.proofs.WorkLemmas.{fit_bottom}
 use Rattle.rnix_grammar.specs.declared.place.Place.TheVariants as p
-use Rattle.rnix_grammar.specs.declared.action.Action.{Action}
 use Rattle.rnix_grammar.specs.declared.action.Action.TheVariants as a
-use Rattle.rnix_grammar.specs.AnnotatedForest.{Token, blank, head_kind}
-use Rattle.rnix_grammar.specs.Layout.{items}
-use Rattle.rnix_grammar.specs.Machine.{Node, Frame, Machine, opened, machine, begins, perform, step, Runs, rest, then}
-use Rattle.rnix_lemmas.proofs.Basics.{not_nil}
-use Rattle.rnix_reader.specs.declared.mark.Mark.{Mark}
-use Rattle.rnix_reader.specs.declared.names.Names.{Names}
-use Rattle.rnix_reader.specs.Placed.{AreInOrder}
-use Rattle.rnix_reader.specs.Names.{texts_of, extents_of}
-use Rattle.rnix_reader.specs.State.{State, with_marks}
-use Rattle.rnix_reader.specs.Flat.{marks_of, mark_of, flat, popped}
-use Rattle.rnix_reader.specs.Holds.{Holds, Holding, IsHolding, NamesAfter, action_of, is_finish, work}
-use Rattle.rnix_grammar.specs.Allowed.{Allowed}
-use Rattle.rnix_reader.proofs.StepLemmas.{given, step_is}
-use Rattle.rnix_reader.proofs.KeptLemmas.{Kept}
-use Rattle.rnix_reader.proofs.GoesLemmas.{Goes}
-use Rattle.rnix_reader.proofs.PerformLemmas.{perform_goes}
-use Rattle.rnix_reader.proofs.WorkLemmas.{cost_of, work_is, perform_less, fit_bottom}
 
 -- one more step
 pub runs_on : (raw : Bool) (a m : Machine) → Runs raw a m → Runs raw a (step raw m)

@@ -1,17 +1,8 @@
 -- A set of names with one more.
-use Rattle.std.proofs.Common.{◌≡◌, ℕ, Bool, true, false, List, refl, sym, ◌∙◌, subst, cond}
+use Rattle.std.proofs.{Common.{◌≡◌, ℕ, Bool, true, false, List, refl, sym, ◌∙◌, subst, cond}, lemmas.Cmp.{nat_list_eq_equiv, eq_by_cmp_equiv}}
+use Rattle.std.{proofs.lemmas.{Cmp.nat_list_cmp_total, Slice.Eq.bytes_eq-Decides, Map.Text.is_eq-slice_cmp}, specs.{BTreeSet.BTreeSet, Borrow.Bor}}
+use Rattle.std.specs.{List.list_any, Map.{IsKeyTest, AreApart}, Set.KeepsOthers, Str.bytes_eq, Ordering.{is_eq, nat_cmp}, Cmp.Lexicographic.slice_cmp}
 use Rattle.std.specs.BTreeSet as sorted
-use Rattle.std.specs.BTreeSet.{BTreeSet}
-use Rattle.std.specs.Borrow.{Bor}
-use Rattle.std.specs.List.{list_any}
-use Rattle.std.specs.Map.{IsKeyTest, AreApart}
-use Rattle.std.specs.Set.{KeepsOthers}
-use Rattle.std.specs.Str.{bytes_eq}
-use Rattle.std.specs.Ordering.{is_eq, nat_cmp}
-use Rattle.std.specs.Cmp.Lexicographic.{slice_cmp}
-use Rattle.std.proofs.lemmas.Cmp.{nat_list_eq_equiv, eq_by_cmp_equiv, nat_list_cmp_total}
-use Rattle.std.proofs.lemmas.Slice.Eq.{bytes_eq-Decides}
-use Rattle.std.proofs.lemmas.Map.Text.{is_eq-slice_cmp}
 
 apart : (bs cs ks : List ℕ) → bytes_eq bs cs ≡ false → is_eq (slice_cmp nat_cmp bs ks) ≡ true → is_eq (slice_cmp nat_cmp cs ks) ≡ false
 apart bs cs ks n y = is_eq-slice_cmp cs ks ∙ nat_list_eq_equiv.symm cs ks ∙ sym (nat_list_eq_equiv.congr bs ks cs (sym (is_eq-slice_cmp bs ks) ∙ y)) ∙ n

@@ -1,15 +1,9 @@
 -- Tokens that are left stay in order.
-use Rattle.std.proofs.Common.{◌≡◌, ◌≤◌, ℕ, List, [], ◌∷◌, ◌++◌, true, false, ap, ◌∙◌, subst, arith}
-use Rattle.rnix_kinds.specs.SyntaxKind.{is_trivia}
-use Rattle.rnix_grammar.specs.declared.until.Until.{Until}
-use Rattle.rnix_grammar.specs.AnnotatedForest.{Token, row_of, end_from}
-use Rattle.rnix_grammar.specs.Layout.{items, from_item, from_item_if, tail_of, left_after}
-use Rattle.rnix_grammar.specs.Machine.{behind, reach, end_of, run_rest, dropped}
-use Rattle.rnix_grammar.specs.Missing.{run_of}
-use Rattle.rnix_lemmas.proofs.WithoutTriviaLemmas.{run_prefix, all_prefix}
-use Rattle.rnix_lemmas.proofs.LayoutLemmas.{IsFirst, first_item, items-from_item}
-use Rattle.rnix_reader.specs.Placed.{AreInOrder}
-use Rattle.rnix_reader.proofs.CursorLemmas.{in_order_from}
+use Rattle.{std.proofs.Common.{◌≡◌, ◌≤◌, ℕ, List, [], ◌∷◌, ◌++◌, true, false, ap, ◌∙◌, subst, arith}, rnix_kinds.specs.SyntaxKind.is_trivia}
+use Rattle.rnix_grammar.specs.{declared.until.Until.Until, AnnotatedForest.{Token, row_of, end_from}, Layout.{items, from_item, from_item_if, tail_of}}
+use Rattle.rnix_grammar.specs.{Layout.left_after, Machine.{behind, reach, end_of, run_rest, dropped}, Missing.run_of}
+use Rattle.rnix_lemmas.proofs.{WithoutTriviaLemmas.{run_prefix, all_prefix}, LayoutLemmas.{IsFirst, first_item, items-from_item}}
+use Rattle.rnix_reader.{specs.Placed.AreInOrder, proofs.CursorLemmas.in_order_from}
 
 -- from the first item on tokens are in order
 pub order_from : (n : ℕ) (ts : List Token) → AreInOrder n ts → AreInOrder n (from_item ts)

@@ -1,35 +1,22 @@
 -- What each action makes of the frames.
 use Rattle.std.proofs.Common.{◌≡◌, ◌≤◌, ℕ, true, false, List, [], ◌∷◌, ◌++◌, Option, Some, refl, ap, sym, ◌∙◌, subst, arith, append-nil}
-use Rattle.rnix_kinds.specs.declared.kinds.SyntaxKind.{SyntaxKind}
-use Rattle.rnix_kinds.specs.declared.kinds.SyntaxKind.TheVariants.{NODE_ERROR, NODE_IDENT, NODE_PAT_ENTRY, NODE_APPLY}
-use Rattle.rnix_grammar.specs.declared.place.Place.{Place}
+use Rattle.rnix_kinds.specs.declared.kinds.SyntaxKind.{SyntaxKind, TheVariants.{NODE_ERROR, NODE_IDENT, NODE_PAT_ENTRY, NODE_APPLY}}
+use Rattle.rnix_grammar.specs.{declared.{place.Place.Place, action.Action.Action}, Fault.Fault, AnnotatedForest.{Token, Note, Unwanted, Extra, AnnotatedForest}}
+use Rattle.rnix_grammar.specs.AnnotatedForest.{blank, ◌⊕◌, one_branch, one_fault, tokens_in, without_trivia, head_of, head_kind, end_from, extent_of}
+use Rattle.rnix_grammar.specs.{Layout.{items, from_item, trivia_before, tail_of}, Reports.only_token, Machine.{Head, Node, Second, Operand, Frame, put, opened}}
+use Rattle.rnix_grammar.specs.Machine.{ate, leaf, leaf_in, kind_of, low_of, behind, reach, end_of, run_row, run_rest, dropped, made, machine, closed, perform}
+use Rattle.rnix_grammar.specs.{Missing.run_of, Sorts.{Pattern, Entry, Again, Loose, sort_of, may_hold, is_open}, Allowed.{Allowed, is_there}}
+use Rattle.rnix_lemmas.proofs.{Basics.true_is_not_false, AnnotatedForestLemmas.tokens_in-row_of, WithoutTriviaLemmas.{leaf_without_trivia, reach_items}}
+use Rattle.rnix_lemmas.proofs.{WithoutTriviaLemmas.{run_prefix, run_bared}, LayoutLemmas.{first_item, without_trivia-trivia}, PlaceLemmas.open_holds}
+use Rattle.{rnix_lemmas.proofs.PlaceLemmas.next_sort, rnix_reader.specs.{declared.names.Names.Names, Names.{PatternClosed, EntryClosed, EntryOpened}}}
+use Rattle.rnix_reader.specs.{Placed.AreInOrder, Flat.{mark_of, popped}, Holds.{IsBegun, BeginsAt, EndsAt, NamesAfter, TwiceOpened, is_finish}}
+use Rattle.rnix_reader.proofs.{StepLemmas.{head_loose, is_root}, EntryLemmas.{fit_first, head_entry, head_pattern, holds_entry}, OrderLemmas.order_from}
+use Rattle.rnix_reader.proofs.{OrderLemmas.{order_behind, reach_least, order_run, order_all}, RowLemmas.{HasNoEntry, no_entry_leaf, no_entry_fault, begun_more}}
+use Rattle.rnix_reader.proofs.{RowLemmas.{begins_more, ends_more}, KeptLemmas.{Kept, is_bare, moved_on, grow_trivia, grow_behind, push_node, push_second}}
+use Rattle.rnix_reader.proofs.{KeptLemmas.{push_entry, renamed, instead, pop_pattern, pop_entry}, GoesLemmas.{Goes, goes, goes_open, holds_open, closed_goes}}
+use Rattle.rnix_reader.proofs.GoesLemmas.{same_names, reading_goes}
 use Rattle.rnix_grammar.specs.declared.place.Place.TheVariants as p
-use Rattle.rnix_grammar.specs.declared.action.Action.{Action}
 use Rattle.rnix_grammar.specs.declared.action.Action.TheVariants as a
-use Rattle.rnix_grammar.specs.Fault.{Fault}
-use Rattle.rnix_grammar.specs.AnnotatedForest.{Token, Note, Unwanted, Extra, AnnotatedForest, blank, ◌⊕◌, one_branch, one_fault, tokens_in, without_trivia, head_of, head_kind, end_from, extent_of}
-use Rattle.rnix_grammar.specs.Layout.{items, from_item, trivia_before, tail_of}
-use Rattle.rnix_grammar.specs.Reports.{only_token}
-use Rattle.rnix_grammar.specs.Machine.{Head, Node, Second, Operand, Frame, put, opened, ate, leaf, leaf_in, kind_of, low_of, behind, reach, end_of, run_row, run_rest, dropped, made, machine, closed, perform}
-use Rattle.rnix_grammar.specs.Missing.{run_of}
-use Rattle.rnix_lemmas.proofs.Basics.{true_is_not_false}
-use Rattle.rnix_lemmas.proofs.AnnotatedForestLemmas.{tokens_in-row_of}
-use Rattle.rnix_lemmas.proofs.WithoutTriviaLemmas.{leaf_without_trivia, reach_items, run_prefix, run_bared}
-use Rattle.rnix_lemmas.proofs.LayoutLemmas.{first_item, without_trivia-trivia}
-use Rattle.rnix_lemmas.proofs.PlaceLemmas.{open_holds, next_sort}
-use Rattle.rnix_reader.specs.declared.names.Names.{Names}
-use Rattle.rnix_reader.specs.Names.{PatternClosed, EntryClosed, EntryOpened}
-use Rattle.rnix_reader.specs.Placed.{AreInOrder}
-use Rattle.rnix_reader.specs.Flat.{mark_of, popped}
-use Rattle.rnix_grammar.specs.Sorts.{Pattern, Entry, Again, Loose, sort_of, may_hold, is_open}
-use Rattle.rnix_grammar.specs.Allowed.{Allowed, is_there}
-use Rattle.rnix_reader.specs.Holds.{IsBegun, BeginsAt, EndsAt, NamesAfter, TwiceOpened, is_finish}
-use Rattle.rnix_reader.proofs.StepLemmas.{head_loose, is_root}
-use Rattle.rnix_reader.proofs.EntryLemmas.{fit_first, head_entry, head_pattern, holds_entry}
-use Rattle.rnix_reader.proofs.OrderLemmas.{order_from, order_behind, reach_least, order_run, order_all}
-use Rattle.rnix_reader.proofs.RowLemmas.{HasNoEntry, no_entry_leaf, no_entry_fault, begun_more, begins_more, ends_more}
-use Rattle.rnix_reader.proofs.KeptLemmas.{Kept, is_bare, moved_on, grow_trivia, grow_behind, push_node, push_second, push_entry, renamed, instead, pop_pattern, pop_entry}
-use Rattle.rnix_reader.proofs.GoesLemmas.{Goes, goes, goes_open, holds_open, closed_goes, same_names, reading_goes}
 
 -- a frame is complete
 closing : (f : Frame) (fs : List Frame) (ts : List Token) (n : ℕ) (es : List Fault) (names : Names) → is_bare (sort_of f.place) ≡ true → is_root (sort_of f.place) ≡ false

@@ -1,21 +1,12 @@
 -- Rows that grow: what they begin with stays, and what is known of them.
 use Rattle.std.proofs.Common.{◌≡◌, ◌≤◌, ℕ, Bool, true, false, List, [], ◌∷◌, ◌++◌, Some, None, refl, ap, sym, ◌∙◌, arith, if◌then◌else◌}
-use Rattle.std.specs.Str.{bytes_eq}
-use Rattle.std.proofs.lemmas.Cmp.{nat_list_eq_equiv}
-use Rattle.rnix_kinds.specs.declared.kinds.SyntaxKind.{SyntaxKind}
-use Rattle.rnix_kinds.specs.declared.kinds.SyntaxKind.TheVariants.{NODE_IDENT, NODE_PATTERN, NODE_PAT_ENTRY}
-use Rattle.rnix_grammar.specs.AnnotatedForest.{Token, Note, AnnotatedForest, blank, token, branch, fault, ◌⊕◌, one_branch, one_fault, tokens_in, without_trivia, end_from, extent_of}
-use Rattle.rnix_grammar.specs.Layout.{items, trivia_before}
-use Rattle.rnix_grammar.specs.Reports.{entry_name, is_same_name, has_entry}
-use Rattle.rnix_grammar.specs.Machine.{Head, Node, Second, Operand, leaf, leaf_in}
-use Rattle.rnix_lemmas.proofs.Basics.{true_is_not_false}
-use Rattle.rnix_lemmas.proofs.AnnotatedForestLemmas.{tokens_in-⊕}
-use Rattle.rnix_lemmas.proofs.WithoutTriviaLemmas.{leaf_without_trivia}
-use Rattle.rnix_lemmas.proofs.LayoutLemmas.{without_trivia-⊕, without_trivia-trivia}
-use Rattle.rnix_lemmas.proofs.StrictParts.{end_behind}
-use Rattle.rnix_reader.specs.declared.names.NameSet.{NameSet}
-use Rattle.rnix_reader.specs.Names.{has_name}
-use Rattle.rnix_grammar.specs.Sorts.{Sort, Pattern, sort_of_head}
+use Rattle.{std.{proofs.lemmas.Cmp.nat_list_eq_equiv, specs.Str.bytes_eq}, rnix_kinds.specs.declared.kinds.SyntaxKind.{SyntaxKind, TheVariants.NODE_IDENT}}
+use Rattle.{rnix_kinds.specs.declared.kinds.SyntaxKind.TheVariants.{NODE_PATTERN, NODE_PAT_ENTRY}, rnix_grammar.specs.AnnotatedForest.{Token, Note}}
+use Rattle.rnix_grammar.specs.AnnotatedForest.{AnnotatedForest, blank, token, branch, fault, ◌⊕◌, one_branch, one_fault, tokens_in, without_trivia, end_from}
+use Rattle.rnix_grammar.specs.{AnnotatedForest.extent_of, Layout.{items, trivia_before}, Reports.{entry_name, is_same_name, has_entry}, Machine.{Head, Node}}
+use Rattle.{rnix_grammar.specs.{Machine.{Second, Operand, leaf, leaf_in}, Sorts.{Sort, Pattern, sort_of_head}}, rnix_lemmas.proofs.Basics.true_is_not_false}
+use Rattle.rnix_lemmas.proofs.{AnnotatedForestLemmas.tokens_in-⊕, WithoutTriviaLemmas.leaf_without_trivia, LayoutLemmas.without_trivia-⊕}
+use Rattle.{rnix_lemmas.proofs.{LayoutLemmas.without_trivia-trivia, StrictParts.end_behind}, rnix_reader.specs.{declared.names.NameSet.NameSet, Names.has_name}}
 use Rattle.rnix_reader.specs.Holds.{IsBegun, EndsAt, BeginsAt, name_of, KnownOn}
 
 none_is_not_some : {A : Type 0} {t : A} → None ≡ Some t → ⊥

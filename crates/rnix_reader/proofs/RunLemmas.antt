@@ -1,35 +1,15 @@
 -- Runs of items.
 use Rattle.std.proofs.Common.{◌≡◌, ◌≤◌, ◌<◌, ℕ, true, false, List, [], ◌∷◌, length, Option, Some, None, refl, ap, sym, ◌∙◌, subst, arith, if◌then◌else◌}
-use Rattle.std.specs.Option.{option_map}
-use Rattle.rnix_kinds.specs.declared.kinds.SyntaxKind.{SyntaxKind}
-use Rattle.rnix_kinds.specs.declared.kinds.SyntaxKind.TheVariants.{NODE_ERROR}
-use Rattle.rnix_kinds.specs.SyntaxKind.{is_trivia}
-use Rattle.rnix_green.specs.Forest.{empty, leaf, join}
-use Rattle.rnix_green.proofs.ForestLemmas.{join_assoc}
-use Rattle.rnix_green.specs.Range.{Extent}
-use Rattle.rnix_green.specs.ForestCode.{join_empty}
-use Rattle.rnix_grammar.specs.declared.until.Until.{Until}
-use Rattle.rnix_grammar.specs.declared.until.Until.TheVariants.{End}
-use Rattle.rnix_grammar.specs.declared.place.Place.{Place}
-use Rattle.rnix_grammar.specs.Fault.{unwanted, extra, bound_twice}
-use Rattle.rnix_grammar.specs.Tables.{is_wanted, stops, wanted_kinds, operand_kinds}
-use Rattle.rnix_grammar.specs.AnnotatedForest.{Token, token, row_of, forget, head_of, head_kind, kind_in, end_from, extent_of, Unwanted as UnwantedNote, Extra as ExtraNote, Stray as StrayNote}
-use Rattle.rnix_grammar.specs.Layout.{items, from_item, trivia_before, tail_of, with_trivia, item_if}
-use Rattle.rnix_grammar.specs.Machine.{leaf_in, end_of}
-use Rattle.rnix_grammar.specs.Missing.{run_of}
-use Rattle.rnix_grammar.specs.Reports.{report}
-use Rattle.rnix_lemmas.proofs.Basics.{true_is_not_false}
-use Rattle.rnix_lemmas.proofs.LayoutLemmas.{first_item, items-from_item}
-use Rattle.rnix_lemmas.proofs.AnnotatedForestLemmas.{forget-⊕}
-use Rattle.rnix_lemmas.proofs.RunLemmas.{run_begins}
-use Rattle.rnix_reader.specs.declared.cursor.PlacedToken.{PlacedToken}
-use Rattle.rnix_reader.specs.declared.mark.Mark.{Mark}
-use Rattle.rnix_reader.specs.Steps.{moved}
-use Rattle.rnix_grammar.specs.Allowed.{is_there}
-use Rattle.rnix_reader.specs.Placed.{token_of, AreInOrder}
-use Rattle.rnix_reader.specs.State.{State, items_left, eaten, bumped, skipped, started, started_at, ended, failed, marked}
-use Rattle.rnix_reader.proofs.CursorLemmas.{in_order_from}
-use Rattle.rnix_reader.proofs.StateLemmas.{state_is}
+use Rattle.{std.specs.Option.option_map, rnix_kinds.specs.{declared.kinds.SyntaxKind.{SyntaxKind, TheVariants.NODE_ERROR}, SyntaxKind.is_trivia}}
+use Rattle.rnix_green.{specs.{Forest.{empty, leaf, join}, Range.Extent, ForestCode.join_empty}, proofs.ForestLemmas.join_assoc}
+use Rattle.rnix_grammar.specs.{declared.{until.Until.{Until, TheVariants.End}, place.Place.Place}, Fault.{unwanted, extra, bound_twice}, Tables.is_wanted}
+use Rattle.rnix_grammar.specs.{Tables.{stops, wanted_kinds, operand_kinds}, AnnotatedForest.{Token, token, row_of, forget, head_of, head_kind, kind_in}}
+use Rattle.rnix_grammar.specs.{AnnotatedForest.{end_from, extent_of, Unwanted as UnwantedNote, Extra as ExtraNote, Stray as StrayNote}, Layout.items}
+use Rattle.rnix_grammar.specs.{Layout.{from_item, trivia_before, tail_of, with_trivia, item_if}, Machine.{leaf_in, end_of}, Missing.run_of, Reports.report}
+use Rattle.{rnix_grammar.specs.Allowed.is_there, rnix_lemmas.proofs.{Basics.true_is_not_false, LayoutLemmas.{first_item, items-from_item}}}
+use Rattle.{rnix_lemmas.proofs.{AnnotatedForestLemmas.forget-⊕, RunLemmas.run_begins}, rnix_reader.specs.declared.cursor.PlacedToken.PlacedToken}
+use Rattle.rnix_reader.specs.{declared.mark.Mark.Mark, Steps.moved, Placed.{token_of, AreInOrder}, State.{State, items_left, eaten, bumped, skipped, started}}
+use Rattle.rnix_reader.{specs.State.{started_at, ended, failed, marked}, proofs.{CursorLemmas.in_order_from, StateLemmas.state_is}}
 
 -- nothing is skipped
 pub skipped-none : (s : State) → skipped [] s ≡ s

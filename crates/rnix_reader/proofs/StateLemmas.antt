@@ -1,24 +1,12 @@
 -- The steps of the reader, one token at a time.
-use Rattle.std.proofs.Common.{◌≡◌, ℕ, ◌<◌, true, List, [], ◌∷◌, Option, Some, None, drop, refl, ap, sym, ◌∙◌}
-use Rattle.std.specs.Prelude.{MatchOption}
-use Rattle.std.specs.Option.{option_map}
-use Rattle.rnix_kinds.specs.declared.kinds.SyntaxKind.{SyntaxKind}
-use Rattle.rnix_kinds.specs.SyntaxKind.{is_trivia}
-use Rattle.rnix_green.specs.Forest.{Forest, empty, leaf, join, tree_count}
-use Rattle.rnix_green.specs.Draft.{Draft, OpenNode, leaf_added, node_opened, node_closed}
-use Rattle.rnix_green.specs.ForestCode.{join_empty}
-use Rattle.rnix_green.proofs.ForestLemmas.{join_assoc}
-use Rattle.rnix_grammar.specs.Fault.{Fault}
-use Rattle.rnix_grammar.specs.AnnotatedForest.{Token, forget, head_of, leaf_kind}
-use Rattle.rnix_grammar.specs.Layout.{items, from_item, from_item_if, trivia_before, trivia_if, tail_of}
-use Rattle.rnix_grammar.specs.Machine.{leaf_in, end_of}
-use Rattle.rnix_lemmas.proofs.LayoutLemmas.{items_head, items-view, from_item-from_item, trivia-from_item}
-use Rattle.rnix_reader.specs.declared.cursor.PlacedToken.{PlacedToken}
-use Rattle.rnix_reader.specs.declared.mark.Mark.{Mark}
-use Rattle.rnix_reader.specs.Placed.{token_of, BeginsWithTrivia}
-use Rattle.rnix_reader.specs.State.{State, eaten, bumped, started, started_at, ended}
-use Rattle.rnix_reader.specs.Steps.{leafed}
-use Rattle.rnix_reader.proofs.CursorLemmas.{before_item}
+use Rattle.std.{proofs.Common.{◌≡◌, ℕ, ◌<◌, true, List, [], ◌∷◌, Option, Some, None, drop, refl, ap, sym, ◌∙◌}, specs.{Prelude.MatchOption, Option.option_map}}
+use Rattle.{rnix_kinds.specs.{declared.kinds.SyntaxKind.SyntaxKind, SyntaxKind.is_trivia}, rnix_green.specs.Forest.{Forest, empty, leaf, join, tree_count}}
+use Rattle.rnix_green.{specs.{Draft.{Draft, OpenNode, leaf_added, node_opened, node_closed}, ForestCode.join_empty}, proofs.ForestLemmas.join_assoc}
+use Rattle.rnix_grammar.specs.{Fault.Fault, AnnotatedForest.{Token, forget, head_of, leaf_kind}, Layout.{items, from_item, from_item_if, trivia_before}}
+use Rattle.{rnix_grammar.specs.{Layout.{trivia_if, tail_of}, Machine.{leaf_in, end_of}}, rnix_lemmas.proofs.LayoutLemmas.{items_head, items-view}}
+use Rattle.{rnix_lemmas.proofs.LayoutLemmas.{from_item-from_item, trivia-from_item}, rnix_reader.specs.declared.cursor.PlacedToken.PlacedToken}
+use Rattle.rnix_reader.specs.{declared.mark.Mark.Mark, Placed.{token_of, BeginsWithTrivia}, State.{State, eaten, bumped, started, started_at, ended}}
+use Rattle.rnix_reader.{specs.Steps.leafed, proofs.CursorLemmas.before_item}
 
 -- states with the same parts are one
 pub state_is : {r r' : List Token} {x x' : Forest} {o o' : List OpenNode} {e e' : List Fault} {n n' : ℕ} {m m' : List Mark} → r ≡ r' → x ≡ x' → o ≡ o' → e ≡ e' → n ≡ n' → m ≡ m'

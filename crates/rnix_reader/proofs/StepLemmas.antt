@@ -1,38 +1,21 @@
 -- Each step of the reader is the machine's.
-use Rattle.std.proofs.Common.{◌≡◌, ◌≤◌, ◌<◌, ◌&&◌, nat_le, length, arith, ℕ, Bool, true, false, List, [], ◌∷◌, refl, ap, sym, ◌∙◌, subst}
-use Rattle.rnix_kinds.specs.declared.kinds.SyntaxKind.{SyntaxKind}
-use Rattle.rnix_kinds.specs.declared.kinds.SyntaxKind.TheVariants.{NODE_ERROR, NODE_ROOT, NODE_IDENT, NODE_CUR_POS, NODE_PAT_ENTRY, NODE_APPLY}
-use Rattle.std.proofs.lemmas.Bool.{le-leb}
-use Rattle.rnix_green.specs.Forest.{tree_count}
-use Rattle.rnix_green.specs.Draft.{Draft, OpenNode, is_inside, is_checkpoint_of}
-use Rattle.rnix_green.specs.Range.{Extent}
-use Rattle.rnix_green.proofs.ForestLemmas.{tree_count-join}
-use Rattle.rnix_grammar.specs.declared.place.Place.{Place}
-use Rattle.rnix_grammar.specs.declared.place.Place.TheVariants as p
-use Rattle.rnix_grammar.specs.declared.until.Until.{Until}
-use Rattle.rnix_grammar.specs.declared.action.Action.{Action}
-use Rattle.rnix_grammar.specs.declared.action.Action.TheVariants as a
-use Rattle.rnix_grammar.specs.Tables.{wanted_kinds}
-use Rattle.rnix_grammar.specs.Actions.{action_at}
-use Rattle.rnix_grammar.specs.Fault.{Fault, ended as ended_fault, ended_before, bound_twice}
-use Rattle.rnix_grammar.specs.AnnotatedForest.{Token, token, Unwanted, Extra, Twice, forget, without_trivia, tokens_in, extent_of, AnnotatedForest, blank, ◌⊕◌, one_branch, one_fault, leaf_kind, leaf_kind_as, head_kind, end_from}
-use Rattle.rnix_grammar.specs.Layout.{items, from_item}
-use Rattle.rnix_grammar.specs.Reports.{report}
-use Rattle.rnix_grammar.specs.Machine.{Head, Node, Second, Operand, Frame, Machine, put, opened, ate, leaf, leaf_in, behind, reach, machine, closed, perform, step, kind_of, run_row, run_rest, low_of, made}
-use Rattle.rnix_grammar.specs.AnnotatedForest.{touches}
-use Rattle.rnix_grammar.specs.Missing.{run_of}
-use Rattle.rnix_reader.specs.declared.mark.Mark.{Mark}
-use Rattle.rnix_reader.specs.State.{State, bumped, skipped, started, started_at, ended, failed, marked}
-use Rattle.rnix_reader.specs.Steps.{moved, noded}
-use Rattle.rnix_reader.specs.Flat.{trees_of, nodes_of, mark_of, mark_at, opened_on, flat, popped}
-use Rattle.rnix_grammar.specs.Sorts.{Sort, Name, Root, Again, Loose, sort_of, sort_of_head, sort_of_node}
-use Rattle.rnix_reader.specs.declared.names.Names.{Names}
-use Rattle.rnix_grammar.specs.Allowed.{Allowed}
-use Rattle.rnix_reader.specs.Holds.{AreFit, BeginsAt, EndsAt, Holding, IsHolding, action_of, is_finish}
-use Rattle.rnix_lemmas.proofs.Basics.{true_is_not_false}
+use Rattle.std.proofs.{Common.{◌≡◌, ◌≤◌, ◌<◌, ◌&&◌, nat_le, length, arith, ℕ, Bool, true, false, List, [], ◌∷◌, refl, ap, sym, ◌∙◌, subst}, lemmas.Bool.le-leb}
+use Rattle.rnix_kinds.specs.declared.kinds.SyntaxKind.{SyntaxKind, TheVariants.{NODE_ERROR, NODE_ROOT, NODE_IDENT, NODE_CUR_POS, NODE_PAT_ENTRY, NODE_APPLY}}
+use Rattle.rnix_green.{specs.{Forest.tree_count, Draft.{Draft, OpenNode, is_inside, is_checkpoint_of}, Range.Extent}, proofs.ForestLemmas.tree_count-join}
+use Rattle.rnix_grammar.specs.{declared.{place.Place.Place, until.Until.Until, action.Action.Action}, Tables.wanted_kinds, Actions.action_at, Fault.Fault}
+use Rattle.rnix_grammar.specs.{Fault.{ended as ended_fault, ended_before, bound_twice}, AnnotatedForest.{Token, token, Unwanted, Extra, Twice, forget}}
+use Rattle.rnix_grammar.specs.AnnotatedForest.{without_trivia, tokens_in, extent_of, AnnotatedForest, blank, ◌⊕◌, one_branch, one_fault, leaf_kind}
+use Rattle.rnix_grammar.specs.{AnnotatedForest.{leaf_kind_as, head_kind, end_from, touches}, Layout.{items, from_item}, Reports.report, Machine.{Head, Node}}
+use Rattle.rnix_grammar.specs.Machine.{Second, Operand, Frame, Machine, put, opened, ate, leaf, leaf_in, behind, reach, machine, closed, perform, step, kind_of}
+use Rattle.rnix_grammar.specs.{Machine.{run_row, run_rest, low_of, made}, Missing.run_of, Sorts.{Sort, Name, Root, Again, Loose, sort_of, sort_of_head}}
+use Rattle.{rnix_grammar.specs.{Sorts.sort_of_node, Allowed.Allowed}, rnix_reader.specs.{declared.{mark.Mark.Mark, names.Names.Names}, State.{State, bumped}}}
+use Rattle.rnix_reader.specs.{State.{skipped, started, started_at, ended, failed, marked}, Steps.{moved, noded}, Flat.{trees_of, nodes_of, mark_of, mark_at}}
+use Rattle.rnix_reader.specs.{Flat.{opened_on, flat, popped}, Holds.{AreFit, BeginsAt, EndsAt, Holding, IsHolding, action_of, is_finish}}
+use Rattle.rnix_reader.proofs.FlatLemmas.{flat-bumped, flat-marked, flat-leaf, flat-run, flat-closed, flat-twice, flat-settled, flat-opened, flat-wrapped}
+use Rattle.{rnix_reader.proofs.{FlatLemmas.{flat-started_at, flat-failed}, BegunLemmas.{first_row, name_row}}, rnix_lemmas.proofs.Basics.true_is_not_false}
 use Rattle.rnix_lemmas.proofs.AllowedLemmas.{allowed}
-use Rattle.rnix_reader.proofs.FlatLemmas.{flat-bumped, flat-marked, flat-leaf, flat-run, flat-closed, flat-twice, flat-settled, flat-opened, flat-wrapped, flat-started_at, flat-failed}
-use Rattle.rnix_reader.proofs.BegunLemmas.{first_row, name_row}
+use Rattle.rnix_grammar.specs.declared.place.Place.TheVariants as p
+use Rattle.rnix_grammar.specs.declared.action.Action.TheVariants as a
 
 -- the reader stands at the innermost frame
 pub record Stands (f : Frame) (fs : List Frame) (ts : List Token) (n : ℕ) (es : List Fault) (mark : Mark) (s : State) : Type 0 where

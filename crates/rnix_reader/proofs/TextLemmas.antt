@@ -1,10 +1,6 @@
 -- The text that the builder has left is that of the tokens that are left.
-use Rattle.std.proofs.Common.{◌≡◌, ℕ, ◌+◌, List, [], ◌∷◌, ◌++◌, length, take, refl, ap, ◌∙◌}
-use Rattle.std.specs.Prelude.{flat_map}
-use Rattle.std.proofs.Math.Seq.{take-append_seam}
-use Rattle.rnix_kinds.specs.Lexical.Tokens.{Lexeme, text_of}
-use Rattle.rnix_grammar.specs.AnnotatedForest.{Token, placed_from}
-use Rattle.rnix_grammar.specs.Layout.{tail_of}
+use Rattle.std.{proofs.{Common.{◌≡◌, ℕ, ◌+◌, List, [], ◌∷◌, ◌++◌, length, take, refl, ap, ◌∙◌}, Math.Seq.take-append_seam}, specs.Prelude.flat_map}
+use Rattle.{rnix_kinds.specs.Lexical.Tokens.{Lexeme, text_of}, rnix_grammar.specs.{AnnotatedForest.{Token, placed_from}, Layout.tail_of}}
 use Rattle.rnix_reader.specs.Placed.{texts_in}
 
 -- the text of the next token comes next

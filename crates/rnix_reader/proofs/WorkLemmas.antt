@@ -1,40 +1,19 @@
 -- Each step of the machine leaves less to do.
-use Rattle.std.proofs.Common.{◌≡◌, ◌≤◌, ◌<◌, ◌+◌, ◌*◌, ℕ, suc, length, true, false, Bool, List, [], ◌∷◌, ◌++◌, None, refl, ap, sym, ◌∙◌, subst, arith, nat_le, if◌then◌else◌}
-use Rattle.std.proofs.lemmas.Bool.{leb-true}
-use Rattle.rnix_kinds.specs.declared.kinds.SyntaxKind.TheVariants.{NODE_APPLY}
-use Rattle.rnix_grammar.specs.declared.place.Place.{Place}
+use Rattle.std.proofs.Common.{◌≡◌, ◌≤◌, ◌<◌, ◌+◌, ◌*◌, ℕ, suc, length, true, false, Bool, List, [], ◌∷◌, ◌++◌, None, refl, ap, sym, ◌∙◌, subst, arith, nat_le}
+use Rattle.{std.proofs.{Common.if◌then◌else◌, lemmas.Bool.leb-true}, rnix_kinds.specs.declared.kinds.SyntaxKind.TheVariants.NODE_APPLY}
+use Rattle.rnix_grammar.specs.{declared.{place.Place.Place, until.Until.Until, action.Action.Action, symbol.Symbol.Symbol, begin.Begin.Begin}, Fault.Fault}
+use Rattle.rnix_grammar.specs.{Tables.{stops, depth_limit}, Symbols.symbol_at, Begins.{begin_of, second_kind}, AnnotatedForest.{Token, blank, head_kind}}
+use Rattle.rnix_grammar.specs.{Layout.{items, from_item, tail_of}, Machine.{Node, Operand, Frame, Machine, put, opened, behind, closed, limited, low_of}}
+use Rattle.rnix_grammar.specs.{Machine.{run_rest, dropped, begun, operand_on, reading, perform}, Missing.run_of, Sorts.{Sort, Plain, sort_of, sort_in}}
+use Rattle.{rnix_grammar.specs.{Weights.{weight, bonus_in, bonus}, Allowed.{Allowed, IsNext, is_there}}, rnix_lemmas.proofs.Basics.true_is_not_false}
+use Rattle.rnix_lemmas.proofs.{LayoutLemmas.items-from_item, WithoutTriviaLemmas.{items_behind, run_prefix, all_prefix, run_bared}, RunLemmas.dropped_all}
+use Rattle.rnix_lemmas.proofs.{RunLemmas.run_begins, PlaceLemmas.root_lowest, AllowedLemmas.{sort_there, weight_there}}
+use Rattle.rnix_reader.specs.{declared.mark.Mark.Mark, Flat.{marks_of, mark_of, flat}, Holds.{AreFit, is_finish, weights, bonus_on, work}}
+use Rattle.rnix_reader.proofs.{EntryLemmas.fit_stands, StepLemmas.is_root, RunLemmas.no_items}
 use Rattle.rnix_grammar.specs.declared.place.Place.TheVariants as p
-use Rattle.rnix_grammar.specs.declared.until.Until.{Until}
-use Rattle.rnix_grammar.specs.declared.action.Action.{Action}
 use Rattle.rnix_grammar.specs.declared.action.Action.TheVariants as a
-use Rattle.rnix_grammar.specs.declared.symbol.Symbol.{Symbol}
 use Rattle.rnix_grammar.specs.declared.symbol.Symbol.TheVariants as s
-use Rattle.rnix_grammar.specs.declared.begin.Begin.{Begin}
 use Rattle.rnix_grammar.specs.declared.begin.Begin.TheVariants as b
-use Rattle.rnix_grammar.specs.Fault.{Fault}
-use Rattle.rnix_grammar.specs.Tables.{stops, depth_limit}
-use Rattle.rnix_grammar.specs.Symbols.{symbol_at}
-use Rattle.rnix_grammar.specs.Begins.{begin_of}
-use Rattle.rnix_grammar.specs.AnnotatedForest.{Token, blank, head_kind}
-use Rattle.rnix_grammar.specs.Layout.{items, from_item, tail_of}
-use Rattle.rnix_grammar.specs.Machine.{Node, Operand, Frame, Machine, put, opened, behind, closed, limited, low_of, run_rest, dropped, begun, operand_on, reading, perform}
-use Rattle.rnix_grammar.specs.Missing.{run_of}
-use Rattle.rnix_grammar.specs.Begins.{second_kind}
-use Rattle.rnix_lemmas.proofs.Basics.{true_is_not_false}
-use Rattle.rnix_lemmas.proofs.LayoutLemmas.{items-from_item}
-use Rattle.rnix_lemmas.proofs.WithoutTriviaLemmas.{items_behind, run_prefix, all_prefix, run_bared}
-use Rattle.rnix_lemmas.proofs.RunLemmas.{dropped_all, run_begins}
-use Rattle.rnix_reader.specs.declared.mark.Mark.{Mark}
-use Rattle.rnix_grammar.specs.Sorts.{Sort, Plain, sort_of, sort_in}
-use Rattle.rnix_grammar.specs.Weights.{weight, bonus_in, bonus}
-use Rattle.rnix_grammar.specs.Allowed.{Allowed, IsNext, is_there}
-use Rattle.rnix_reader.specs.Flat.{marks_of, mark_of, flat}
-use Rattle.rnix_reader.specs.Holds.{AreFit, is_finish, weights, bonus_on, work}
-use Rattle.rnix_lemmas.proofs.PlaceLemmas.{root_lowest}
-use Rattle.rnix_lemmas.proofs.AllowedLemmas.{sort_there, weight_there}
-use Rattle.rnix_reader.proofs.EntryLemmas.{fit_stands}
-use Rattle.rnix_reader.proofs.StepLemmas.{is_root}
-use Rattle.rnix_reader.proofs.RunLemmas.{no_items}
 
 -- weights are small, and not nothing
 weight_some : (place : Place) → 1 ≤ weight place

@@ -1,6 +1,4 @@
-use Rattle.std.proofs.lemmas.Bool.Decides.{Decides-at}
-use Rattle.rnix_grammar.specs.Fault.{fault_of, same_fault}
-use Rattle.rnix_grammar.specs.SameFaults.{same_fault-decides}
+use Rattle.{std.proofs.lemmas.Bool.Decides.Decides-at, rnix_grammar.specs.{Fault.{fault_of, same_fault}, SameFaults.same_fault-decides}}
 use Rattle.rnix_grammar.proofs.error.same_errors.Goals as goal
 
 pub returns : goal.returns

@@ -1,6 +1,4 @@
-use Rattle.std.proofs.Common.{◌∙◌, ◌&&◌, sym, ap}
-use Rattle.rnix_green.specs.Range.{bounds_of}
-use Rattle.rnix_grammar.specs.Fault.{same_extent}
+use Rattle.{std.proofs.Common.{◌∙◌, ◌&&◌, sym, ap}, rnix_green.specs.Range.bounds_of, rnix_grammar.specs.Fault.same_extent}
 use Rattle.rnix_grammar.proofs.error.same_token.Goals as goal
 
 pub returns-then-eq : goal.returns-then-eq

@@ -1,6 +1,4 @@
-use Rattle.std.proofs.Common.{take}
-use Rattle.std.specs.Fmt.{HasWritten, IsPlainFormatter}
-use Rattle.rnix_grammar.specs.Fault.{more_kinds_text}
+use Rattle.{std.{proofs.Common.take, specs.Fmt.{HasWritten, IsPlainFormatter}}, rnix_grammar.specs.Fault.more_kinds_text}
 use Rattle.rnix_grammar.proofs.error.write_more_kinds.Given as goal
 
 abbrev pub invariant-loop-kind : goal.invariant-loop-kind

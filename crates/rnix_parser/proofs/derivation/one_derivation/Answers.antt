@@ -1,6 +1,4 @@
-use Rattle.rnix_grammar.specs.AnnotatedForest.{placed_from}
-use Rattle.rnix_grammar.specs.Layout.{items}
-use Rattle.rnix_kinds.specs.Lexical.Tokens.{tokens_of}
+use Rattle.{rnix_grammar.specs.{AnnotatedForest.placed_from, Layout.items}, rnix_kinds.specs.Lexical.Tokens.tokens_of}
 use Rattle.rnix_parser.proofs.Found.{derivation_alone}
 use Rattle.rnix_parser.proofs.derivation.one_derivation.Goals as goal
 

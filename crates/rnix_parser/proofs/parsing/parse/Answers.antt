@@ -1,5 +1,4 @@
-use Rattle.std.proofs.lemmas.Result.{IfOk-weaker}
-use Rattle.rnix_parser.proofs.OneReading.{read_parsed}
+use Rattle.{std.proofs.lemmas.Result.IfOk-weaker, rnix_parser.proofs.OneReading.read_parsed}
 use Rattle.rnix_parser.proofs.parsing.parse.Goals as goal
 
 pub returns : goal.returns

@@ -1,6 +1,4 @@
-use Rattle.rnix_grammar.specs.AnnotatedForest.{without_trivia}
-use Rattle.rnix_rows.proofs.ParsedRanges.{parsed_order, parsed_nodes}
-use Rattle.rnix_rows.proofs.ReadsStand.{reads_stand}
+use Rattle.{rnix_grammar.specs.AnnotatedForest.without_trivia, rnix_rows.proofs.{ParsedRanges.{parsed_order, parsed_nodes}, ReadsStand.reads_stand}}
 use Rattle.rnix_proof_rules.proofs.ReadsAlike.{whole_old}
 use Rattle.rnix_parser.proofs.ranges.ranges_of_errors.Goals as goal
 

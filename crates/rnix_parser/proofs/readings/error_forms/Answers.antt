@@ -1,6 +1,4 @@
-use Rattle.rnix_grammar.specs.AnnotatedForest.{without_trivia}
-use Rattle.rnix_rows.proofs.ReadsNest.{reads_shallow, reads_limited}
-use Rattle.rnix_rows.proofs.ReadsStand.{reads_stand}
+use Rattle.{rnix_grammar.specs.AnnotatedForest.without_trivia, rnix_rows.proofs.{ReadsNest.{reads_shallow, reads_limited}, ReadsStand.reads_stand}}
 use Rattle.rnix_proof_rules.proofs.ReadsAlike.{whole_old}
 use Rattle.rnix_parser.proofs.readings.error_forms.Goals as goal
 

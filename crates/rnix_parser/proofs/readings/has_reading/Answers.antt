@@ -1,5 +1,4 @@
-use Rattle.rnix_kinds.specs.Lexical.Tokens.{tokens_of}
-use Rattle.rnix_parser.proofs.OneReading.{has_reading}
+use Rattle.{rnix_kinds.specs.Lexical.Tokens.tokens_of, rnix_parser.proofs.OneReading.has_reading}
 use Rattle.rnix_parser.proofs.readings.has_reading.Goals as goal
 
 pub returns : goal.returns

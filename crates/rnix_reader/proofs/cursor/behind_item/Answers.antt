@@ -1,6 +1,4 @@
-use Rattle.std.proofs.Common.{ap, sym, ◌∙◌, add-one, arith}
-use Rattle.rnix_grammar.specs.Layout.{from_item, tail_of}
-use Rattle.rnix_reader.specs.Placed.{tokens_cut}
+use Rattle.{std.proofs.Common.{ap, sym, ◌∙◌, add-one, arith}, rnix_grammar.specs.Layout.{from_item, tail_of}, rnix_reader.specs.Placed.tokens_cut}
 use Rattle.rnix_reader.proofs.CursorLemmas.{behind_all, tail-drop}
 use Rattle.rnix_reader.proofs.cursor.behind_item.Goals as goal
 

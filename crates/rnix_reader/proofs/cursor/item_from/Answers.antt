@@ -1,6 +1,5 @@
-use Rattle.std.proofs.Common.{ap, sym, ◌∙◌, add-one, arith}
-use Rattle.rnix_grammar.specs.Layout.{from_item}
-use Rattle.rnix_reader.proofs.CursorLemmas.{at_place, at_item, behind_all, from_trivia}
+use Rattle.{std.proofs.Common.{ap, sym, ◌∙◌, add-one, arith}, rnix_grammar.specs.Layout.from_item, rnix_reader.proofs.CursorLemmas.{at_place, at_item}}
+use Rattle.rnix_reader.proofs.CursorLemmas.{behind_all, from_trivia}
 use Rattle.rnix_reader.proofs.cursor.item_from.Goals as goal
 
 pub returns-then-not-is_trivia : goal.returns-then-not-is_trivia

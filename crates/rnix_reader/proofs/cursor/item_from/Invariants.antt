@@ -1,6 +1,4 @@
-use Rattle.std.proofs.Common.{◌≡◌, ◌-◌, ℕ, List, length, drop}
-use Rattle.rnix_grammar.specs.Layout.{from_item}
-use Rattle.rnix_reader.specs.Placed.{tokens_cut}
+use Rattle.{std.proofs.Common.{◌≡◌, ◌-◌, ℕ, List, length, drop}, rnix_grammar.specs.Layout.from_item, rnix_reader.specs.Placed.tokens_cut}
 use Rattle.rnix_reader.proofs.cursor.item_from.Given as goal
 
 abbrev pub invariant-loop-at : goal.invariant-loop-at

@@ -1,6 +1,4 @@
-use Rattle.std.proofs.Common.{ap, sym, arith}
-use Rattle.rnix_grammar.specs.AnnotatedForest.{head_kind}
-use Rattle.rnix_reader.proofs.CursorLemmas.{at_place, behind_all}
+use Rattle.{std.proofs.Common.{ap, sym, arith}, rnix_grammar.specs.AnnotatedForest.head_kind, rnix_reader.proofs.CursorLemmas.{at_place, behind_all}}
 use Rattle.rnix_reader.proofs.cursor.kind_at.Goals as goal
 
 pub returns-then-at-tokens : goal.returns-then-at-tokens

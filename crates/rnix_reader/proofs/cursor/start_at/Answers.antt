@@ -1,6 +1,4 @@
-use Rattle.std.proofs.Common.{◌≡◌, ◌-◌, suc, sym, ap, ◌∙◌, arith}
-use Rattle.rnix_reader.specs.Placed.{start_of}
-use Rattle.rnix_reader.proofs.CursorLemmas.{start_behind}
+use Rattle.{std.proofs.Common.{◌≡◌, ◌-◌, suc, sym, ap, ◌∙◌, arith}, rnix_reader.{specs.Placed.start_of, proofs.CursorLemmas.start_behind}}
 use Rattle.rnix_reader.proofs.cursor.start_at.Goals as goal
 
 pub returns : goal.returns

@@ -1,8 +1,5 @@
-use Rattle.std.proofs.Common.{sym, ap, arith}
-use Rattle.rnix_kinds.specs.declared.kinds.SyntaxKind.TheVariants.{TOKEN_ADD}
-use Rattle.rnix_grammar.specs.AnnotatedForest.{head_of}
-use Rattle.rnix_reader.specs.declared.cursor.TokenEnd.{TokenEnd}
-use Rattle.rnix_reader.proofs.CursorLemmas.{IsCut, behind_all, cut_at_token, token_found}
+use Rattle.{std.proofs.Common.{sym, ap, arith}, rnix_kinds.specs.declared.kinds.SyntaxKind.TheVariants.TOKEN_ADD, rnix_grammar.specs.AnnotatedForest.head_of}
+use Rattle.rnix_reader.{specs.declared.cursor.TokenEnd.TokenEnd, proofs.CursorLemmas.{IsCut, behind_all, cut_at_token, token_found}}
 use Rattle.rnix_reader.proofs.cursor.token_at.Goals as goal
 
 pub range-requires-clause-start_le_end : goal.range-requires-clause-start_le_end

@@ -1,7 +1,4 @@
-use Rattle.std.proofs.Common.{◌≡◌, ◌+◌, ◌++◌, length}
-use Rattle.std.specs.List.{flat_map}
-use Rattle.rnix_kinds.specs.Lexical.Tokens.{text_of}
-use Rattle.rnix_reader.specs.Placed.{ends_from}
+use Rattle.{std.{proofs.Common.{◌≡◌, ◌+◌, ◌++◌, length}, specs.List.flat_map}, rnix_kinds.specs.Lexical.Tokens.text_of, rnix_reader.specs.Placed.ends_from}
 use Rattle.rnix_reader.proofs.cursor.token_ends.Given as goal
 
 abbrev pub invariant-loop-token : goal.invariant-loop-token

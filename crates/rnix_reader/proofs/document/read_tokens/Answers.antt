@@ -1,9 +1,5 @@
-use Rattle.std.proofs.Common.{ap, sym, ◌∙◌}
-use Rattle.rnix_green.specs.Draft.{TextDraft}
-use Rattle.rnix_reader.specs.Placed.{texts_in}
-use Rattle.rnix_reader.specs.State.{state}
-use Rattle.rnix_reader.proofs.DocumentLemmas.{opened_root, read_made, rest_marked}
-use Rattle.rnix_reader.proofs.TextLemmas.{placed_text}
+use Rattle.{std.proofs.Common.{ap, sym, ◌∙◌}, rnix_green.specs.Draft.TextDraft, rnix_reader.specs.{Placed.texts_in, State.state}}
+use Rattle.rnix_reader.proofs.{DocumentLemmas.{opened_root, read_made, rest_marked}, TextLemmas.placed_text}
 use Rattle.rnix_reader.proofs.document.read_tokens.Goals as goal
 
 pub invariant_of-p : goal.invariant_of-p

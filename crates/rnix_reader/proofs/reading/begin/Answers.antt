@@ -1,15 +1,8 @@
-use Rattle.std.proofs.Common.{ap, sym, ◌∙◌, true, false, [], ◌∷◌}
-use Rattle.rnix_grammar.specs.AnnotatedForest.{head_of}
+use Rattle.{std.proofs.Common.{ap, sym, ◌∙◌, true, false, [], ◌∷◌}, rnix_grammar.specs.{AnnotatedForest.{head_of, Stray}, Machine.begun, Reports.report}}
 use Rattle.rnix_kinds.specs.declared.kinds.SyntaxKind.TheVariants.{NODE_LEGACY_LET, NODE_IDENT, NODE_IDENT_PARAM, NODE_PATTERN, NODE_PAT_BIND, NODE_ERROR}
+use Rattle.rnix_reader.{specs.{Placed.token_of, Flat.flat, State.{state, bumped, started, ended, failed}, Steps.noded}, proofs.BegunLemmas.left_operand}
+use Rattle.rnix_reader.proofs.BegunLemmas.{begun-node, begun-legacy, begun-name, begun-bound, begun-pattern, begun-stray}
 use Rattle.rnix_grammar.specs.declared.place.Place.TheVariants as p
-use Rattle.rnix_grammar.specs.Machine.{begun}
-use Rattle.rnix_grammar.specs.AnnotatedForest.{Stray}
-use Rattle.rnix_grammar.specs.Reports.{report}
-use Rattle.rnix_reader.specs.Placed.{token_of}
-use Rattle.rnix_reader.specs.Flat.{flat}
-use Rattle.rnix_reader.specs.State.{state, bumped, started, ended, failed}
-use Rattle.rnix_reader.specs.Steps.{noded}
-use Rattle.rnix_reader.proofs.BegunLemmas.{left_operand, begun-node, begun-legacy, begun-name, begun-bound, begun-pattern, begun-stray}
 use Rattle.rnix_reader.proofs.reading.begin.Goals as goal
 
 pub stray-requires : goal.stray-requires

@@ -1,7 +1,4 @@
-use Rattle.std.proofs.Common.{◌∙◌}
-use Rattle.rnix_reader.specs.Placed.{token_of}
-use Rattle.rnix_reader.specs.State.{state}
-use Rattle.rnix_reader.proofs.BegunLemmas.{begun-leaf}
+use Rattle.{std.proofs.Common.◌∙◌, rnix_reader.{specs.{Placed.token_of, State.state}, proofs.BegunLemmas.begun-leaf}}
 use Rattle.rnix_reader.proofs.reading.begin_leaf.Goals as goal
 
 pub returns : goal.returns

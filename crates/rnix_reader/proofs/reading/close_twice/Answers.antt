@@ -1,6 +1,4 @@
-use Rattle.std.proofs.Common.{sym, subst, ◌≤◌}
-use Rattle.rnix_reader.specs.State.{state}
-use Rattle.rnix_reader.proofs.RunLemmas.{reached_ended, twice_made}
+use Rattle.{std.proofs.Common.{sym, subst, ◌≤◌}, rnix_reader.{specs.State.state, proofs.RunLemmas.{reached_ended, twice_made}}}
 use Rattle.rnix_reader.proofs.reading.close_twice.Goals as goal
 
 pub new-requires : goal.new-requires

@@ -1,5 +1,4 @@
-use Rattle.rnix_reader.specs.State.{state}
-use Rattle.rnix_reader.proofs.RunLemmas.{extra_moved, not_none}
+use Rattle.rnix_reader.{specs.State.state, proofs.RunLemmas.{extra_moved, not_none}}
 use Rattle.rnix_reader.proofs.reading.extra.Goals as goal
 
 pub returns-in_ok-extra : goal.returns-in_ok-extra

@@ -1,10 +1,5 @@
-use Rattle.std.proofs.Common.{sym, ap, ◌∙◌, true}
-use Rattle.std.specs.Option.{option_map}
-use Rattle.rnix_reader.specs.Placed.{token_of}
-use Rattle.rnix_reader.specs.State.{state}
-use Rattle.rnix_grammar.specs.Machine.{begun}
-use Rattle.rnix_reader.specs.Flat.{flat}
-use Rattle.rnix_reader.proofs.BegunLemmas.{operand_none, operand_some}
+use Rattle.{std.{proofs.Common.{sym, ap, ◌∙◌, true}, specs.Option.option_map}, rnix_reader.specs.{Placed.token_of, State.state, Flat.flat}}
+use Rattle.{rnix_reader.proofs.BegunLemmas.{operand_none, operand_some}, rnix_grammar.specs.Machine.begun}
 use Rattle.rnix_reader.proofs.reading.operand.Goals as goal
 
 pub returns-in_ok-fail_at_end-in-None-clause-state : goal.returns-in_ok-fail_at_end-in-None-clause-state

@@ -1,7 +1,4 @@
-use Rattle.std.proofs.Common.{sym, ap, ◌∙◌, add-one, true}
-use Rattle.rnix_grammar.specs.Machine.{reading}
-use Rattle.rnix_reader.specs.State.{state}
-use Rattle.rnix_reader.specs.Flat.{flat}
+use Rattle.{std.proofs.Common.{sym, ap, ◌∙◌, add-one, true}, rnix_grammar.specs.Machine.reading, rnix_reader.specs.{State.state, Flat.flat}}
 use Rattle.rnix_reader.proofs.BegunLemmas.{read_deep, read_on, deep_from, not_deep_from}
 use Rattle.rnix_reader.proofs.reading.read.Goals as goal
 

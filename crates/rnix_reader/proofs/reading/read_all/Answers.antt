@@ -1,12 +1,8 @@
-use Rattle.std.proofs.Common.{◌≡◌, sym, ap, ◌∙◌, refl, subst, true, ◌<◌, ◌∷◌, ◌++◌, [], length, arith}
-use Rattle.rnix_grammar.specs.Actions.{action_at}
-use Rattle.rnix_grammar.specs.Machine.{Machine, step, rest}
-use Rattle.rnix_reader.specs.State.{State, state, with_marks, ended}
-use Rattle.rnix_reader.specs.Holds.{IsHolding, IsNextMark, IsReadTo, action_of}
+use Rattle.{std.proofs.Common.{◌≡◌, sym, ap, ◌∙◌, refl, subst, true, ◌<◌, ◌∷◌, ◌++◌, [], length, arith}, rnix_grammar.specs.Actions.action_at}
+use Rattle.{rnix_grammar.specs.Machine.{Machine, step, rest}, rnix_reader.specs.{State.{State, state, with_marks, ended}, Holds.{IsHolding, IsNextMark}}}
+use Rattle.rnix_reader.{specs.Holds.{IsReadTo, action_of}, proofs.{StepLemmas.given, FinishLemmas.{finished, root_open}, LoopLemmas.{starts, takes, goes_on}}}
+use Rattle.rnix_reader.proofs.LoopLemmas.{less, runs_on, not_finish}
 use Rattle.rnix_grammar.specs.declared.action.Action.TheVariants as a
-use Rattle.rnix_reader.proofs.StepLemmas.{given}
-use Rattle.rnix_reader.proofs.FinishLemmas.{finished, root_open}
-use Rattle.rnix_reader.proofs.LoopLemmas.{starts, takes, goes_on, less, runs_on, not_finish}
 use Rattle.rnix_reader.proofs.reading.read_all.Goals as goal
 
 pub loop-mark-init : goal.loop-mark-init

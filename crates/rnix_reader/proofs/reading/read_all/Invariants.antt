@@ -1,5 +1,4 @@
-use Rattle.rnix_reader.specs.State.{state}
-use Rattle.rnix_reader.specs.Holds.{IsGoing, work}
+use Rattle.rnix_reader.specs.{State.state, Holds.{IsGoing, work}}
 use Rattle.rnix_reader.proofs.reading.read_all.Given as goal
 
 abbrev pub invariant-loop-mark : goal.invariant-loop-mark

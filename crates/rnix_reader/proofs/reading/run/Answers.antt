@@ -1,6 +1,4 @@
-use Rattle.rnix_reader.specs.Placed.{token_of}
-use Rattle.rnix_reader.specs.State.{state}
-use Rattle.rnix_reader.proofs.RunLemmas.{item_there, wanted_still, run_moved, not_stopped}
+use Rattle.rnix_reader.{specs.{Placed.token_of, State.state}, proofs.RunLemmas.{item_there, wanted_still, run_moved, not_stopped}}
 use Rattle.rnix_reader.proofs.reading.run.Goals as goal
 
 pub unwanted-requires-clause-unwanted : goal.unwanted-requires-clause-unwanted

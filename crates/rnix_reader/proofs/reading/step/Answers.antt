@@ -1,18 +1,12 @@
-use Rattle.std.proofs.Common.{sym, ap, ◌∙◌, refl, subst, false, ◌∷◌, ◌&&◌, nat_le, if◌then◌else◌}
-use Rattle.rnix_grammar.specs.Tables.{depth_limit}
-use Rattle.rnix_grammar.specs.Layout.{items}
-use Rattle.rnix_reader.specs.Holds.{NamesAfter, NamesFor, opens_on}
-use Rattle.rnix_reader.proofs.RunLemmas.{left_moved}
-use Rattle.rnix_kinds.specs.declared.kinds.SyntaxKind.TheVariants.{NODE_APPLY}
+use Rattle.{std.proofs.Common.{sym, ap, ◌∙◌, refl, subst, false, ◌∷◌, ◌&&◌, nat_le, if◌then◌else◌}, rnix_grammar.specs.Tables.{depth_limit, stops}}
+use Rattle.rnix_grammar.specs.{Layout.items, AnnotatedForest.{head_kind, blank}, Machine.{Node, Operand, opened, put, low_of}}
+use Rattle.rnix_reader.{specs.{Holds.{NamesAfter, NamesFor, opens_on}, State.{state, bumped}}, proofs.{RunLemmas.left_moved, FlatLemmas.flat-bumped}}
+use Rattle.rnix_reader.proofs.StepLemmas.{stepped, given, open_there, twice_there, twice_order, done_twice, checkpoint_there, over_there, applied_there}
+use Rattle.rnix_reader.proofs.StepLemmas.{left_wrapped, same_items, at, no_finish, is_node, is_root, stands_of, done_node, done_loose, step-take, step-miss}
+use Rattle.rnix_reader.proofs.StepLemmas.{step-miss_wanted, step-run, step-extra, step-leaf, step-open, step-begin, step-entry, step-twice}
+use Rattle.{rnix_reader.proofs.EntryLemmas.done_entry, rnix_kinds.specs.declared.kinds.SyntaxKind.TheVariants.NODE_APPLY}
 use Rattle.rnix_grammar.specs.declared.place.Place.TheVariants as p
-use Rattle.rnix_grammar.specs.Tables.{stops}
-use Rattle.rnix_grammar.specs.AnnotatedForest.{head_kind, blank}
-use Rattle.rnix_grammar.specs.Machine.{Node, Operand, opened, put, low_of}
-use Rattle.rnix_reader.proofs.FlatLemmas.{flat-bumped}
 use Rattle.rnix_grammar.specs.declared.action.Action.TheVariants as a
-use Rattle.rnix_reader.specs.State.{state, bumped}
-use Rattle.rnix_reader.proofs.StepLemmas.{stepped, given, open_there, twice_there, twice_order, done_twice, checkpoint_there, over_there, applied_there, left_wrapped, same_items, at, no_finish, is_node, is_root, stands_of, done_node, done_loose, step-take, step-miss, step-miss_wanted, step-run, step-extra, step-leaf, step-open, step-begin, step-entry, step-twice}
-use Rattle.rnix_reader.proofs.EntryLemmas.{done_entry}
 use Rattle.rnix_reader.proofs.reading.step.Goals as goal
 
 pub finish_node-requires : goal.finish_node-requires

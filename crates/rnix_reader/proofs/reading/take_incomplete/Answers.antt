@@ -1,10 +1,6 @@
-use Rattle.std.proofs.Common.{rules, ◌≡◌, ◌≤◌, List, ◌∷◌, ◌++◌, sym, ap, ◌∙◌, refl, subst, arith}
-use Rattle.rnix_grammar.specs.declared.action.Action.TheVariants as a
-use Rattle.rnix_grammar.specs.Actions.{action_at}
-use Rattle.rnix_grammar.specs.AnnotatedForest.{Token, head_kind, touches}
-use Rattle.rnix_reader.specs.State.{State, state, with_marks, items_left}
-use Rattle.rnix_reader.specs.Holds.{IsGoing, action_of, work}
-use Rattle.rnix_reader.proofs.CompletionLemmas.{something_open, row_open, row_completes, operand_completes}
+use Rattle.{std.proofs.Common.{rules, ◌≤◌, sym, ap, ◌∙◌, refl, subst, arith}, rnix_grammar.specs.{Actions.action_at, AnnotatedForest.{head_kind, touches}}}
+use Rattle.rnix_reader.{specs.{State.{State, state, with_marks, items_left}, Holds.{IsGoing, work}}, proofs.CompletionLemmas.{something_open, row_open}}
+use Rattle.rnix_reader.proofs.CompletionLemmas.{row_completes, operand_completes}
 use Rattle.rnix_reader.proofs.reading.take_incomplete.Goals as goal
 
 pub finish_node-requires : goal.finish_node-requires

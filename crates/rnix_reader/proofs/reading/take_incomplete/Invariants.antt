@@ -1,7 +1,4 @@
-use Rattle.std.proofs.Common.{◌≤◌, List}
-use Rattle.rnix_grammar.specs.AnnotatedForest.{Token}
-use Rattle.rnix_reader.specs.State.{state}
-use Rattle.rnix_reader.specs.Holds.{IsGoing, work}
+use Rattle.{std.proofs.Common.{◌≤◌, List}, rnix_grammar.specs.AnnotatedForest.Token, rnix_reader.specs.{State.state, Holds.{IsGoing, work}}}
 use Rattle.rnix_reader.proofs.reading.take_incomplete.Given as goal
 
 abbrev pub invariant-loop-mark : goal.invariant-loop-mark

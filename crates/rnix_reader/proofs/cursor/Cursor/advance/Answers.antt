@@ -1,9 +1,5 @@
-use Rattle.std.proofs.Common.{◌≡◌, sym, ap, ◌∙◌, List, [], ℕ, ◌<◌, length, arith, add-one}
-use Rattle.rnix_grammar.specs.Layout.{tail_of}
-use Rattle.rnix_grammar.specs.AnnotatedForest.{Token}
-use Rattle.rnix_reader.specs.declared.cursor.TokenEnd.{TokenEnd}
-use Rattle.rnix_reader.specs.Placed.{tokens_cut}
-use Rattle.rnix_reader.proofs.CursorLemmas.{behind_all, item_kept, length-tokens_cut, tail-drop}
+use Rattle.{std.proofs.Common.{◌≡◌, sym, ap, ◌∙◌, List, [], ℕ, ◌<◌, length, arith, add-one}, rnix_grammar.specs.{Layout.tail_of, AnnotatedForest.Token}}
+use Rattle.rnix_reader.{specs.{declared.cursor.TokenEnd.TokenEnd, Placed.tokens_cut}, proofs.CursorLemmas.{behind_all, item_kept, length-tokens_cut, tail-drop}}
 use Rattle.rnix_reader.proofs.cursor.Cursor.advance.Goals as goal
 
 pub invariant_of-self : goal.invariant_of-self

@@ -1,7 +1,4 @@
-use Rattle.std.proofs.Common.{sym, ap, ◌∙◌}
-use Rattle.rnix_grammar.specs.AnnotatedForest.{head_kind}
-use Rattle.rnix_grammar.specs.Layout.{from_item}
-use Rattle.rnix_reader.proofs.CursorLemmas.{head_item}
+use Rattle.{std.proofs.Common.{sym, ap, ◌∙◌}, rnix_grammar.specs.{AnnotatedForest.head_kind, Layout.from_item}, rnix_reader.proofs.CursorLemmas.head_item}
 use Rattle.rnix_reader.proofs.cursor.Cursor.first.Goals as goal
 
 pub returns : goal.returns

@@ -1,6 +1,4 @@
-use Rattle.std.proofs.Common.{sym, ap, ◌∙◌}
-use Rattle.rnix_grammar.specs.AnnotatedForest.{head_of}
-use Rattle.rnix_grammar.specs.Layout.{from_item}
+use Rattle.{std.proofs.Common.{sym, ap, ◌∙◌}, rnix_grammar.specs.{AnnotatedForest.head_of, Layout.from_item}}
 use Rattle.rnix_reader.proofs.cursor.Cursor.item.Goals as goal
 
 pub returns : goal.returns

@@ -1,6 +1,4 @@
-use Rattle.std.proofs.Common.{ap, arith, length, length-drop}
-use Rattle.rnix_reader.specs.Placed.{tokens_cut}
-use Rattle.rnix_reader.proofs.CursorLemmas.{length-tokens_cut}
+use Rattle.{std.proofs.Common.{ap, arith, length, length-drop}, rnix_reader.{specs.Placed.tokens_cut, proofs.CursorLemmas.length-tokens_cut}}
 use Rattle.rnix_reader.proofs.cursor.Cursor.len.Goals as goal
 
 pub returns : goal.returns

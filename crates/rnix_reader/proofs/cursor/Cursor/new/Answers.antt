@@ -1,6 +1,4 @@
-use Rattle.std.proofs.Common.{sym, ap, subst, ◌∙◌}
-use Rattle.rnix_reader.specs.Placed.{tokens_cut, AreEnds}
-use Rattle.rnix_reader.proofs.CursorLemmas.{sound_ends, sound_tokens}
+use Rattle.{std.proofs.Common.{sym, ap, subst, ◌∙◌}, rnix_reader.{specs.Placed.{tokens_cut, AreEnds}, proofs.CursorLemmas.{sound_ends, sound_tokens}}}
 use Rattle.rnix_reader.proofs.cursor.Cursor.new.Goals as goal
 
 pub invariant_of-result : goal.invariant_of-result

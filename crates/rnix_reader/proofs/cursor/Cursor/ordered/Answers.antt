@@ -1,6 +1,4 @@
-use Rattle.std.proofs.Common.{subst}
-use Rattle.rnix_reader.specs.Placed.{AreInOrder}
-use Rattle.rnix_reader.proofs.CursorLemmas.{in_order_drop, cut_in_order}
+use Rattle.{std.proofs.Common.subst, rnix_reader.{specs.Placed.AreInOrder, proofs.CursorLemmas.{in_order_drop, cut_in_order}}}
 use Rattle.rnix_reader.proofs.cursor.Cursor.ordered.Goals as goal
 
 pub returns : goal.returns

@@ -1,6 +1,4 @@
-use Rattle.std.proofs.Common.{sym, ap, ◌∙◌}
-use Rattle.rnix_grammar.specs.Layout.{from_item}
-use Rattle.rnix_reader.proofs.CursorLemmas.{behind_second_item}
+use Rattle.{std.proofs.Common.{sym, ap, ◌∙◌}, rnix_grammar.specs.Layout.from_item, rnix_reader.proofs.CursorLemmas.behind_second_item}
 use Rattle.rnix_reader.proofs.cursor.Cursor.third.Goals as goal
 
 pub returns : goal.returns

@@ -1,5 +1,4 @@
-use Rattle.std.proofs.Common.{ap, ◌∙◌}
-use Rattle.rnix_grammar.specs.AnnotatedForest.{head_of}
+use Rattle.{std.proofs.Common.{ap, ◌∙◌}, rnix_grammar.specs.AnnotatedForest.head_of}
 use Rattle.rnix_reader.proofs.cursor.Cursor.token.Goals as goal
 
 pub returns : goal.returns

@@ -1,9 +1,5 @@
-use Rattle.std.proofs.Common.{◌≡◌, List, sym, subst, arith}
-use Rattle.rnix_grammar.specs.Layout.{from_item}
-use Rattle.rnix_grammar.specs.AnnotatedForest.{Token}
-use Rattle.rnix_reader.specs.Placed.{tokens_cut}
-use Rattle.rnix_reader.proofs.CursorLemmas.{at_next_item}
-use Rattle.rnix_reader.proofs.StateLemmas.{first_trivia}
+use Rattle.{std.proofs.Common.{◌≡◌, List, sym, subst, arith}, rnix_grammar.specs.{Layout.from_item, AnnotatedForest.Token}, rnix_reader.specs.Placed.tokens_cut}
+use Rattle.rnix_reader.proofs.{CursorLemmas.at_next_item, StateLemmas.first_trivia}
 use Rattle.rnix_reader.proofs.cursor.Cursor.trivia.Goals as goal
 
 pub returns-then-self : goal.returns-then-self

@@ -1,6 +1,4 @@
-use Rattle.std.proofs.Common.{ap, ◌∙◌}
-use Rattle.rnix_grammar.specs.Begins.{begin_of}
-use Rattle.rnix_reader.proofs.BeginLemmas.{begin_alone}
+use Rattle.{std.proofs.Common.{ap, ◌∙◌}, rnix_grammar.specs.Begins.begin_of, rnix_reader.proofs.BeginLemmas.begin_alone}
 use Rattle.rnix_reader.proofs.parser.Parser.beginning.Goals as goal
 
 pub returns : goal.returns

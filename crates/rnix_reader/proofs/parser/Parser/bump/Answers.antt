@@ -1,9 +1,5 @@
-use Rattle.std.proofs.Common.{ap, refl, ◌∙◌}
-use Rattle.rnix_green.specs.Draft.{with_leaf}
-use Rattle.rnix_reader.specs.Placed.{token_of}
-use Rattle.rnix_reader.specs.State.{state}
-use Rattle.rnix_reader.proofs.StateLemmas.{first_there, none_there, bumped-item, bumped-end}
-use Rattle.rnix_reader.proofs.TextLemmas.{next_text}
+use Rattle.{std.proofs.Common.{ap, refl, ◌∙◌}, rnix_green.specs.Draft.with_leaf, rnix_reader.specs.{Placed.token_of, State.state}}
+use Rattle.rnix_reader.proofs.{StateLemmas.{first_there, none_there, bumped-item, bumped-end}, TextLemmas.next_text}
 use Rattle.rnix_reader.proofs.parser.Parser.bump.Goals as goal
 
 pub token-requires-in-Some : goal.token-requires-in-Some

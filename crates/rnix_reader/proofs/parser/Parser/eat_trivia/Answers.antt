@@ -1,7 +1,4 @@
-use Rattle.std.proofs.Common.{sym, ap, ◌∙◌, refl}
-use Rattle.rnix_reader.specs.Placed.{token_of}
-use Rattle.rnix_reader.specs.State.{state}
-use Rattle.rnix_reader.proofs.StateLemmas.{eaten-settled, eaten-trivia}
+use Rattle.{std.proofs.Common.{sym, ap, ◌∙◌, refl}, rnix_reader.{specs.{Placed.token_of, State.state}, proofs.StateLemmas.{eaten-settled, eaten-trivia}}}
 use Rattle.rnix_reader.proofs.TextLemmas.{next_text}
 use Rattle.rnix_reader.proofs.parser.Parser.eat_trivia.Goals as goal
 

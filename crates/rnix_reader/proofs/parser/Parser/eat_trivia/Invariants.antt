@@ -1,5 +1,4 @@
-use Rattle.std.proofs.Common.{◌≡◌, length}
-use Rattle.rnix_reader.specs.State.{state, eaten}
+use Rattle.{std.proofs.Common.{◌≡◌, length}, rnix_reader.specs.State.{state, eaten}}
 use Rattle.rnix_reader.proofs.parser.Parser.eat_trivia.Given as goal
 
 abbrev pub invariant-loop-token : goal.invariant-loop-token

@@ -1,6 +1,4 @@
-use Rattle.rnix_reader.specs.Placed.{token_of}
-use Rattle.rnix_reader.specs.State.{state}
-use Rattle.rnix_reader.proofs.RunLemmas.{run_made, run_reach, run_extent}
+use Rattle.rnix_reader.{specs.{Placed.token_of, State.state}, proofs.RunLemmas.{run_made, run_reach, run_extent}}
 use Rattle.rnix_reader.proofs.parser.Parser.error_run.Goals as goal
 
 pub new-requires : goal.new-requires

@@ -1,5 +1,4 @@
-use Rattle.rnix_reader.specs.State.{state}
-use Rattle.rnix_reader.proofs.RunLemmas.{extra_made}
+use Rattle.rnix_reader.{specs.State.state, proofs.RunLemmas.extra_made}
 use Rattle.rnix_reader.proofs.parser.Parser.extra.Goals as goal
 
 pub returns : goal.returns

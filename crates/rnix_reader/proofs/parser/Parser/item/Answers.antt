@@ -1,5 +1,4 @@
-use Rattle.std.proofs.Common.{◌∙◌}
-use Rattle.rnix_reader.proofs.StateLemmas.{head_items}
+use Rattle.{std.proofs.Common.◌∙◌, rnix_reader.proofs.StateLemmas.head_items}
 use Rattle.rnix_reader.proofs.parser.Parser.item.Goals as goal
 
 pub returns : goal.returns

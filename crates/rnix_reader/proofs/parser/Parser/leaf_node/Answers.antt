@@ -1,10 +1,5 @@
-use Rattle.std.proofs.Common.{ap, refl, ◌∙◌}
-use Rattle.rnix_green.specs.Draft.{leaf_added, node_opened, node_closed}
-use Rattle.rnix_green.specs.Forest.{tree_count}
-use Rattle.rnix_reader.specs.Placed.{token_of}
-use Rattle.rnix_reader.specs.State.{state}
-use Rattle.rnix_reader.proofs.BeginLemmas.{leaf_nodes}
-use Rattle.rnix_reader.proofs.StateLemmas.{first_there, none_there, leafed-item, leafed-end}
+use Rattle.{std.proofs.Common.{ap, refl, ◌∙◌}, rnix_green.specs.{Draft.{leaf_added, node_opened, node_closed}, Forest.tree_count}}
+use Rattle.rnix_reader.{specs.{Placed.token_of, State.state}, proofs.{BeginLemmas.leaf_nodes, StateLemmas.{first_there, none_there, leafed-item, leafed-end}}}
 use Rattle.rnix_reader.proofs.TextLemmas.{next_text}
 use Rattle.rnix_reader.proofs.parser.Parser.leaf_node.Goals as goal
 

@@ -1,10 +1,5 @@
-use Rattle.std.proofs.Common.{sym, ap, ◌∙◌}
-use Rattle.std.specs.Option.{option_map}
-use Rattle.rnix_grammar.specs.AnnotatedForest.{kind_in}
-use Rattle.rnix_grammar.specs.Tables.{stops}
-use Rattle.rnix_reader.specs.Placed.{token_of}
-use Rattle.rnix_reader.specs.State.{state}
-use Rattle.rnix_reader.proofs.RunLemmas.{item_there, skip_turn, skip_end, skip_none, shorter}
+use Rattle.{std.{proofs.Common.{sym, ap, ◌∙◌}, specs.Option.option_map}, rnix_grammar.specs.{AnnotatedForest.kind_in, Tables.stops}}
+use Rattle.rnix_reader.{specs.{Placed.token_of, State.state}, proofs.RunLemmas.{item_there, skip_turn, skip_end, skip_none, shorter}}
 use Rattle.rnix_reader.proofs.parser.Parser.skip.Goals as goal
 
 pub returns-then-stops-clause-state : goal.returns-then-stops-clause-state

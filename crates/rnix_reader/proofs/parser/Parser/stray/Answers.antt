@@ -1,7 +1,4 @@
-use Rattle.std.proofs.Common.{◌≡◌, ap, ◌∙◌}
-use Rattle.rnix_grammar.specs.Tables.{operand_kinds}
-use Rattle.rnix_reader.specs.Placed.{token_of}
-use Rattle.rnix_reader.specs.State.{state, failed}
+use Rattle.{std.proofs.Common.{◌≡◌, ap, ◌∙◌}, rnix_grammar.specs.Tables.operand_kinds, rnix_reader.specs.{Placed.token_of, State.{state, failed}}}
 use Rattle.rnix_reader.proofs.RunLemmas.{item_in_order, stray_report}
 use Rattle.rnix_reader.proofs.parser.Parser.stray.Goals as goal
 

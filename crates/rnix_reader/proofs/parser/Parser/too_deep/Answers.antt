@@ -1,8 +1,5 @@
-use Rattle.std.proofs.Common.{ap, ◌∙◌}
-use Rattle.rnix_grammar.specs.declared.until.Until.TheVariants.{End}
-use Rattle.rnix_grammar.specs.Fault.{too_deep}
-use Rattle.rnix_reader.specs.State.{state, failed, eaten}
-use Rattle.rnix_reader.proofs.RunLemmas.{run_made, all_made}
+use Rattle.{std.proofs.Common.{ap, ◌∙◌}, rnix_grammar.specs.{declared.until.Until.TheVariants.End, Fault.too_deep}, rnix_reader.specs.State.{state, failed}}
+use Rattle.rnix_reader.{specs.State.eaten, proofs.RunLemmas.{run_made, all_made}}
 use Rattle.rnix_reader.proofs.parser.Parser.too_deep.Goals as goal
 
 pub returns : goal.returns

@@ -1,7 +1,4 @@
-use Rattle.std.proofs.Common.{◌≡◌, ap, ◌∙◌}
-use Rattle.rnix_grammar.specs.Tables.{wanted_kinds}
-use Rattle.rnix_reader.specs.Placed.{token_of}
-use Rattle.rnix_reader.specs.State.{state, items_left, failed}
+use Rattle.{std.proofs.Common.{◌≡◌, ap, ◌∙◌}, rnix_grammar.specs.Tables.wanted_kinds, rnix_reader.specs.{Placed.token_of, State.{state, items_left, failed}}}
 use Rattle.rnix_reader.proofs.RunLemmas.{run_report}
 use Rattle.rnix_reader.proofs.parser.Parser.unwanted.Goals as goal
 
