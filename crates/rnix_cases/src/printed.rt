@@ -1,5 +1,6 @@
 //! What the cases of each list are compared with.
 
+use crate::list::Case;
 use rnix::ast::{AstNode, Expr, InterpolPart};
 use rnix::{Root, tokenize};
 use rnix_print::run;
@@ -13,11 +14,13 @@ pub enum List {
     Tokens,
     Trees,
     Strings,
+    /// Trees of texts on which rnix and Nix 2.8 differ or nearly do. The first line of what is wanted says what Nix does.
+    Nix,
 }
 
 impl List {
     /// All of them, in the order in which they are replayed.
-    pub const ALL: [List; 3] = [List::Tokens, List::Trees, List::Strings];
+    pub const ALL: [List; 4] = [List::Tokens, List::Trees, List::Strings, List::Nix];
 
     /// The file that holds it.
     pub fn name(self) -> &'static str {
@@ -25,6 +28,15 @@ impl List {
             List::Tokens => "tokens",
             List::Trees => "trees",
             List::Strings => "strings",
+            List::Nix => "nix",
+        }
+    }
+
+    /// The part of what is stored for a case that this library prints.
+    pub fn wanted(self, case: Case<'_>) -> &str {
+        match (self, case.wanted.split_once('\n')) {
+            (List::Nix, Some((_nix, tree))) => tree,
+            _ => case.wanted,
         }
     }
 }
@@ -78,7 +90,7 @@ pub fn printed(alloc: Global, list: List, text: &str) -> io::Result<Vec<u8>> {
     let mut out = Vec::new(alloc);
     match list {
         List::Tokens => print_tokens(alloc, text, &mut out)?,
-        List::Trees => print_tree(alloc, text, &mut out)?,
+        List::Trees | List::Nix => print_tree(alloc, text, &mut out)?,
         List::Strings => print_string(alloc, text, &mut out)?,
     }
     Ok(out)
