@@ -1,13 +1,7 @@
 -- Changes of places of a text, one after the other.
-use Rattle.std.proofs.Common.{◌≡◌, ℕ, ◌≤◌, ◌<◌, suc, List, [], ◌∷◌, ◌++◌, length, map, sym, subst, ◌∙◌, arith}
-use Rattle.std.specs.Prelude.{slice_range}
-use Rattle.std.specs.List.{All}
-use Rattle.std.specs.List.Sorted.{IsPermutation}
-use Rattle.std.proofs.lemmas.List.{map-append}
-use Rattle.std.proofs.lemmas.List.Elements.{All-push}
-use Rattle.std.proofs.lemmas.List.Sorted.{IsPermutation-sym, IsPermutation-middle, IsPermutation-push_more}
-use Rattle.rnix_green.specs.Range.{Extent}
-use Rattle.rnix_text.specs.Changes.{Change, Draft, AreAscending, IsAdded, replacing}
+use Rattle.std.proofs.{Common.{◌≡◌, ℕ, ◌≤◌, ◌<◌, suc, List, [], ◌∷◌, ◌++◌, length, map, sym, subst, ◌∙◌, arith}, lemmas.List.{map-append, Elements.All-push}}
+use Rattle.std.{proofs.lemmas.List.Sorted.{IsPermutation-sym, IsPermutation-middle, IsPermutation-push_more}, specs.{Prelude.slice_range, List.All}}
+use Rattle.{std.specs.List.Sorted.IsPermutation, rnix_green.specs.Range.Extent, rnix_text.specs.Changes.{Change, Draft, AreAscending, IsAdded, replacing}}
 use Rattle.nix_rename.specs.Renamed.{StandsAt, change_at}
 
 -- the rest of a list of which something holds

@@ -1,27 +1,12 @@
 -- Each element of a tree without errors has its parts: what is no node has the kind of a token, of which no parts are wanted.
 use Rattle.std.proofs.Common.{◌≡◌, ℕ, ◌+◌, ◌<◌, Bool, true, false, ◌||◌, List, [], Option, Some, None, refl, ap, sym, ◌∙◌, subst, inl, inr, length}
-use Rattle.std.specs.List.{list_all}
-use Rattle.std.proofs.lemmas.Bool.{and_parts, cases_lt}
-use Rattle.std.proofs.lemmas.List.{get_or_past}
-use Rattle.std.proofs.lemmas.List.Folds.{list_all-append}
-use Rattle.std.proofs.lemmas.List.Sums.{AllPass-from_list_all}
-use Rattle.rnix_kinds.specs.declared.kinds.SyntaxKind.{SyntaxKind}
+use Rattle.std.{proofs.lemmas.{Bool.{and_parts, cases_lt}, List.{get_or_past, Folds.list_all-append, Sums.AllPass-from_list_all}}, specs.List.list_all}
+use Rattle.{rnix_kinds.specs.{declared.kinds.SyntaxKind.SyntaxKind, SyntaxKind.is_token, Lexical.Tokens.Lexeme}, rnix_green.specs.Equality.same_kind-decides}
+use Rattle.rnix_green.specs.{Forest.{Forest, empty, leaf, node, text_of, element_count}, Tree.{Item, Located, IsNodeAt, items_from, items_of, no_item, item_of}}
+use Rattle.{rnix_green.specs.Tree.forest_of, rnix_base.specs.Select.HasKind, rnix_grammar.specs.{Shape.item_kinds, Derivation.has_tokens_alone}}
+use Rattle.{rnix_grammar.specs.Parsed.IsParsed, rnix_lemmas.proofs.{SpelledLemmas.AreRuled, EntryNames.both_true}, rnix_rows.proofs.PartRows.HasRows}
+use Rattle.{rnix_rows.proofs.PartRows.{HasTokens, shaped_rows, parsed_tokens}, rnix.{specs.Whole.HasParts, proofs.{Seen.{node_in, sees}, KindParts.parts}}}
 use Rattle.rnix_kinds.specs.declared.kinds.SyntaxKind.TheVariants as k
-use Rattle.rnix_kinds.specs.SyntaxKind.{is_token}
-use Rattle.rnix_kinds.specs.Lexical.Tokens.{Lexeme}
-use Rattle.rnix_green.specs.Equality.{same_kind-decides}
-use Rattle.rnix_green.specs.Forest.{Forest, empty, leaf, node, text_of, element_count}
-use Rattle.rnix_green.specs.Tree.{Item, Located, IsNodeAt, items_from, items_of, no_item, item_of, forest_of}
-use Rattle.rnix_base.specs.Select.{HasKind}
-use Rattle.rnix_grammar.specs.Shape.{item_kinds}
-use Rattle.rnix_grammar.specs.Derivation.{has_tokens_alone}
-use Rattle.rnix_grammar.specs.Parsed.{IsParsed}
-use Rattle.rnix_lemmas.proofs.SpelledLemmas.{AreRuled}
-use Rattle.rnix_lemmas.proofs.EntryNames.{both_true}
-use Rattle.rnix_rows.proofs.PartRows.{HasRows, HasTokens, shaped_rows, parsed_tokens}
-use Rattle.rnix.specs.Whole.{HasParts}
-use Rattle.rnix.proofs.Seen.{node_in, sees}
-use Rattle.rnix.proofs.KindParts.{parts}
 
 -- a node of a tree whose nodes have their rows
 node_parts : (n : Located) → HasRows (forest_of n.tree) → HasTokens (forest_of n.tree) → IsNodeAt n → HasParts (item_of n).kind n

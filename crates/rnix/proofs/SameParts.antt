@@ -1,9 +1,6 @@
 -- Parts that are seen as themselves.
-use Rattle.std.proofs.Common.{◌≡◌, ◌∙◌, List, [], ◌∷◌, Vec, Result, Ok, Err, refl, sym, ap, map}
-use Rattle.std.specs.Prelude.{IfOk}
-use Rattle.rnix_base.specs.declared.parts.InterpolPart.{InterpolPart}
-use Rattle.rnix_base.specs.declared.parts.InterpolPart.TheVariants.{Literal, Interpolation}
-use Rattle.rnix_base.specs.Parts.{part_of}
+use Rattle.std.{proofs.Common.{◌≡◌, ◌∙◌, List, [], ◌∷◌, Vec, Result, Ok, Err, refl, sym, ap, map}, specs.Prelude.IfOk}
+use Rattle.rnix_base.specs.{declared.parts.InterpolPart.{InterpolPart, TheVariants.{Literal, Interpolation}}, Parts.part_of}
 
 all_same : {T I : Type 0} (parts : List (InterpolPart T I)) → map (part_of (λ t. t) (λ i. i)) parts ≡ parts
 all_same [] = refl

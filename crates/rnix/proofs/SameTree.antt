@@ -1,11 +1,7 @@
 -- What is selected among the children of a node stands in the node's tree.
-use Rattle.std.proofs.Common.{◌≡◌, ℕ, Bool, true, false, List, [], ◌∷◌, map, Option, Some, None, refl, subst}
-use Rattle.std.specs.Prelude.{if◌then◌else◌, All, IfSome}
-use Rattle.std.proofs.lemmas.List.Elements.{All-nil, All-cons, All-filter}
-use Rattle.std.proofs.lemmas.Option.{slice_get_within, get_or_from_slice_get}
-use Rattle.rnix_kinds.specs.declared.kinds.SyntaxKind.{SyntaxKind}
-use Rattle.rnix_green.specs.Tree.{Tree, Located, item}
-use Rattle.rnix_green.specs.Walk.{spot_at, nodes_in}
+use Rattle.std.proofs.{Common.{◌≡◌, ℕ, Bool, true, false, List, [], ◌∷◌, map, Option, Some, None, refl, subst}, lemmas.List.Elements.{All-nil, All-cons}}
+use Rattle.std.{proofs.lemmas.{List.Elements.All-filter, Option.{slice_get_within, get_or_from_slice_get}}, specs.Prelude.{if◌then◌else◌, All, IfSome}}
+use Rattle.{rnix_kinds.specs.declared.kinds.SyntaxKind.SyntaxKind, rnix_green.specs.{Tree.{Tree, Located, item}, Walk.{spot_at, nodes_in}}}
 use Rattle.rnix_base.specs.Select.{has_kind, nodes_of, child_of}
 
 -- an element of a tree

@@ -1,25 +1,14 @@
 -- What parts a node has whose row is seen.
-use Rattle.std.proofs.Common.{◌≡◌, ℕ, suc, Bool, true, false, cond, List, [], ◌∷◌, Option, Some, None, refl, ap, sym, ◌∙◌}
+use Rattle.std.proofs.{Common.{◌≡◌, ℕ, suc, Bool, true, false, cond, List, [], ◌∷◌, Option, Some, None, refl, ap, sym, ◌∙◌}, lemmas.Bool.and_parts}
 use Rattle.std.specs.Prelude.{◌&&◌, ◌||◌, if◌then◌else◌, not, is_some, IsSome, slice_get, filter, find, option_map}
-use Rattle.std.proofs.lemmas.Bool.{and_parts}
-use Rattle.rnix_kinds.specs.declared.kinds.SyntaxKind.{SyntaxKind}
-use Rattle.rnix_kinds.specs.declared.kinds.SyntaxKind.TheVariants as k
-use Rattle.rnix_kinds.specs.SyntaxKind.{is_token, is_trivia}
-use Rattle.rnix_kinds.proofs.AllKinds.{implied}
-use Rattle.rnix_green.specs.Equality.{same_kind}
-use Rattle.rnix_green.specs.Tree.{Located, item_of}
-use Rattle.rnix_green.specs.Walk.{children_of}
-use Rattle.rnix_base.specs.Kinds.{is_path_token}
-use Rattle.rnix_base.specs.Select.{has_kind, tokens_in, child_of, token_of}
-use Rattle.rnix_base.specs.Operators.{or_else, first_operator, binary_operator, unary_operator}
-use Rattle.rnix_base.specs.Literal.{first_literal}
-use Rattle.rnix_base.specs.declared.literal.LiteralKind.TheVariants as literal
-use Rattle.rnix_grammar.specs.Rows.{is_row}
-use Rattle.rnix_lemmas.proofs.Basics.{true_is_not_false, not_if}
-use Rattle.rnix_rows.proofs.RowCounts.{row_has, row_first, row_nth, row_is}
-use Rattle.rnix.specs.NodeKinds.{is_expr, is_param}
-use Rattle.rnix.specs.Presence.{HasToken, HasNode, HasExpr, AreTogether}
+use Rattle.rnix_kinds.{specs.{declared.kinds.SyntaxKind.SyntaxKind, SyntaxKind.{is_token, is_trivia}}, proofs.AllKinds.implied}
+use Rattle.{rnix_green.specs.{Equality.same_kind, Tree.{Located, item_of}, Walk.children_of}, rnix_base.specs.{Kinds.is_path_token, Select.has_kind}}
+use Rattle.rnix_base.specs.{Select.{tokens_in, child_of, token_of}, Operators.{or_else, first_operator, binary_operator, unary_operator}, Literal.first_literal}
+use Rattle.{rnix_grammar.specs.Rows.is_row, rnix_lemmas.proofs.Basics.{true_is_not_false, not_if}, rnix_rows.proofs.RowCounts.{row_has, row_first, row_nth}}
+use Rattle.{rnix_rows.proofs.RowCounts.row_is, rnix.specs.{NodeKinds.{is_expr, is_param}, Presence.{HasToken, HasNode, HasExpr, AreTogether}}}
 use Rattle.rnix.proofs.Seen.{AreItems, AreNodes, exact_items, exact_nodes, Sees}
+use Rattle.rnix_kinds.specs.declared.kinds.SyntaxKind.TheVariants as k
+use Rattle.rnix_base.specs.declared.literal.LiteralKind.TheVariants as literal
 
 -- expressions and parameters are nodes
 expr_nodes : AreNodes is_expr

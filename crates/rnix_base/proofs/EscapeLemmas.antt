@@ -1,17 +1,11 @@
 -- The first piece of a text.
-use Rattle.std.proofs.Common.{◌≡◌, ◌≢◌, ◌+◌, ◌-◌, ◌<◌, ◌≤◌, ◌++◌, ◌∙◌, ℕ, zero, suc, Bool, true, false, ◌==◌, List, [], ◌∷◌, Option, Some, None, refl, sym, ap, inl, inr, length, drop, get_or, codes, nat_lt, arith, length-append, add-one}
-use Rattle.std.specs.Prelude.{encode_utf8, slice_index}
-use Rattle.std.specs.List.{list_all}
-use Rattle.std.specs.Char.{len_utf8}
-use Rattle.std.specs.Option.{MatchOption}
-use Rattle.std.specs.Str.Pattern.{StripsPrefix, FindsTextPrefix, LacksTextAt, HasPrefixMatch}
+use Rattle.std.proofs.Common.{◌≡◌, ◌≢◌, ◌+◌, ◌-◌, ◌<◌, ◌≤◌, ◌++◌, ◌∙◌, ℕ, zero, suc, Bool, true, false, ◌==◌, List, [], ◌∷◌, Option, Some, None, refl, sym, ap}
+use Rattle.std.proofs.{Common.{inl, inr, length, drop, get_or, codes, nat_lt, arith, length-append, add-one}, lemmas.Bool.{and_parts, cases_lt}}
+use Rattle.std.proofs.lemmas.{Bool.Decides.nat_tests, List.{drop_more, get_or_past, append-nil, nil_from_length}, Str.{inside_one, length-encode}}
+use Rattle.std.{proofs.lemmas.Str.{len_utf8_ascii, len_utf8_bounds}, specs.{Prelude.{encode_utf8, slice_index}, List.list_all, Char.len_utf8}}
+use Rattle.{std.specs.{Option.MatchOption, Str.Pattern.{StripsPrefix, FindsTextPrefix, LacksTextAt, HasPrefixMatch}}, rnix_kinds.specs.Lexical.Texts.stands_at}
+use Rattle.{rnix_kinds.specs.Lexical.Texts.begins, rnix_base.specs.Escapes.{Piece, escaped, itself, first_piece, values, unescaped, Begins, Escapes}}
 use denote.Ref.{Bor}
-use Rattle.std.proofs.lemmas.Bool.{and_parts, cases_lt}
-use Rattle.std.proofs.lemmas.List.{drop_more, get_or_past, append-nil, nil_from_length}
-use Rattle.std.proofs.lemmas.Bool.Decides.{nat_tests}
-use Rattle.std.proofs.lemmas.Str.{inside_one, length-encode, len_utf8_ascii, len_utf8_bounds}
-use Rattle.rnix_kinds.specs.Lexical.Texts.{stands_at, begins}
-use Rattle.rnix_base.specs.Escapes.{Piece, escaped, itself, first_piece, values, unescaped, Begins, Escapes}
 
 -- the bytes of a character: a first byte, and none below 128 behind it
 pub record IsCharacter (bytes : List ℕ) : Type 0 where

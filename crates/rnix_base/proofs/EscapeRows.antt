@@ -1,6 +1,5 @@
 -- What certain texts stand for.
-use Rattle.std.proofs.Common.{◌≡◌, true, false, refl, codes}
-use Rattle.rnix_base.specs.Escapes.{unescaped, values}
+use Rattle.{std.proofs.Common.{◌≡◌, true, false, refl, codes}, rnix_base.specs.Escapes.{unescaped, values}}
 
 -- escapes between `"`
 quotes : unescaped false (codes "\\\"Hello\\\"") ≡ codes "\"Hello\""

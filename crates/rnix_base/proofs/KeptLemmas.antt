@@ -1,12 +1,7 @@
 -- What the lines of a text do not lose, character by character.
 use Rattle.std.proofs.Common.{◌≡◌, ◌-◌, ◌<◌, ◌≤◌, ◌++◌, ◌∙◌, ℕ, suc, true, false, ◌==◌, List, [], ◌∷◌, Some, refl, sym, ap, inl, inr, length, get_or, arith}
-use Rattle.std.specs.Prelude.{encode_utf8, if◌then◌else◌}
-use Rattle.std.proofs.lemmas.Bool.{cases_lt}
-use Rattle.std.proofs.lemmas.List.{append-nil, append_assoc}
-use Rattle.std.proofs.lemmas.Bool.Decides.{nat_tests}
-use Rattle.std.proofs.lemmas.Str.{encode_ascii, char_from_byte}
-use Rattle.rnix_base.specs.Normal.{is_byte}
-use Rattle.rnix_base.specs.Indent.{is_lost, left_after, kept, left_behind}
+use Rattle.std.proofs.lemmas.{Bool.{cases_lt, Decides.nat_tests}, List.{append-nil, append_assoc}, Str.{encode_ascii, char_from_byte}}
+use Rattle.{std.specs.Prelude.{encode_utf8, if◌then◌else◌}, rnix_base.specs.{Normal.is_byte, Indent.{is_lost, left_after, kept, left_behind}}}
 use Rattle.rnix_base.proofs.EscapeLemmas.{IsCharacter, is_character}
 
 kept_byte : (least left b : ℕ) (rest : List ℕ) → kept least left (b ∷ rest) ≡ (if is_lost left (Some b) then [] else b ∷ []) ++ kept least (left_after least left (Some b)) rest

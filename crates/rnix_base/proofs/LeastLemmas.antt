@@ -1,13 +1,9 @@
 -- The least indentation of a row, symbol by symbol.
-use Rattle.std.proofs.Common.{◌≡◌, ◌+◌, ◌≤◌, ◌++◌, ◌∙◌, ℕ, suc, min, Bool, true, false, not, cond, ◌||◌, nat_lt, List, [], ◌∷◌, Option, Some, None, refl, sym, ap, map, arith}
-use Rattle.std.specs.Prelude.{if◌then◌else◌}
-use Rattle.std.specs.List.{fold}
-use Rattle.std.proofs.lemmas.Bool.Decides.{nat_tests}
-use Rattle.rnix_base.specs.declared.indent.Indent.{Indent}
-use Rattle.rnix_base.specs.declared.parts.InterpolPart.TheVariants.{Literal, Interpolation}
-use Rattle.rnix_base.specs.Normal.{Parts, Symbol, symbols, is_gap, is_feed, before_line, lines, indentation, has_text, least_indentation}
-use Rattle.rnix_base.specs.Indent.{indent_after, indent_behind, indent_of, no_indent}
-use Rattle.rnix_base.proofs.LineLemmas.{lines_feed, lines_more}
+use Rattle.std.proofs.Common.{◌≡◌, ◌+◌, ◌≤◌, ◌++◌, ◌∙◌, ℕ, suc, min, Bool, true, false, not, cond, ◌||◌, nat_lt, List, [], ◌∷◌, Option, Some, None, refl, sym}
+use Rattle.std.{proofs.{Common.{ap, map, arith}, lemmas.Bool.Decides.nat_tests}, specs.{Prelude.if◌then◌else◌, List.fold}}
+use Rattle.rnix_base.specs.{declared.{indent.Indent.Indent, parts.InterpolPart.TheVariants.{Literal, Interpolation}}, Normal.{Parts, Symbol, symbols, is_gap}}
+use Rattle.rnix_base.specs.{Normal.{is_feed, before_line, lines, indentation, has_text, least_indentation}, Indent.{indent_after, indent_behind, indent_of}}
+use Rattle.rnix_base.{specs.Indent.no_indent, proofs.LineLemmas.{lines_feed, lines_more}}
 
 -- the least indentation of lines of which the first is read up to here: it has so many spaces, or text
 unfoldable pub least_from : Option ℕ → List (List Symbol) → ℕ

@@ -1,10 +1,8 @@
 -- The first part of a string, opened.
-use Rattle.std.proofs.Common.{◌≡◌, ℕ, suc, true, false, ◌==◌, List, [], ◌∷◌, Some, refl, sym, length, drop, map, set}
-use Rattle.std.specs.List.{slice_get}
+use Rattle.std.{proofs.Common.{◌≡◌, ℕ, true, false, ◌==◌, List, [], ◌∷◌, Some, refl, sym, length, set}, specs.List.slice_get}
+use Rattle.rnix_base.specs.{declared.parts.InterpolPart.{InterpolPart, TheVariants.Literal}, Normal.{Parts, borrowed, opens_blank, behind_blank}}
+use Rattle.rnix_base.specs.Normal.{literal_if_some, opened}
 use denote.Ref.{Bor}
-use Rattle.rnix_base.specs.declared.parts.InterpolPart.{InterpolPart}
-use Rattle.rnix_base.specs.declared.parts.InterpolPart.TheVariants.{Literal}
-use Rattle.rnix_base.specs.Normal.{Parts, borrowed, opens_blank, behind_blank, literal_if_some, opened}
 
 literal_some : {I : Type 0} (text : List ℕ) → (length text == 0) ≡ false → literal_if_some {I = I} text ≡ Literal text ∷ []
 literal_some [] e = absurd (cc)

@@ -1,9 +1,6 @@
 -- The normalized parts of certain strings.
-use Rattle.std.proofs.Common.{◌≡◌, [], ◌∷◌, refl, codes}
-use Rattle.std.specs.Prelude.{ℕ}
-use Rattle.rnix_base.specs.declared.parts.InterpolPart.TheVariants.{Literal, Interpolation}
-use Rattle.rnix_base.specs.Escapes.{values}
-use Rattle.rnix_base.specs.Normal.{indented_parts, symbols, lines, least_indentation, text_of, with_texts, closed}
+use Rattle.{std.{proofs.Common.{◌≡◌, [], ◌∷◌, refl, codes}, specs.Prelude.ℕ}, rnix_base.specs.declared.parts.InterpolPart.TheVariants.{Literal, Interpolation}}
+use Rattle.rnix_base.specs.{Escapes.values, Normal.{indented_parts, symbols, lines, least_indentation, text_of, with_texts, closed}}
 
 -- only a line feed
 first_feed : indented_parts {I = ℕ} (Literal (codes "\n") ∷ []) ≡ ([])

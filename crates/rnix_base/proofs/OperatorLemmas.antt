@@ -1,18 +1,10 @@
 -- No operator is that of two kinds.
-use Rattle.std.specs.Prelude.{◌≡◌, ℕ, Bool, false, Option, Some, None, find, nat_eq}
-use Rattle.std.specs.Option.{unwrap_or}
-use Rattle.std.proofs.Common.{ap, sym, refl, ◌∙◌}
-use Rattle.rnix_kinds.specs.declared.kinds.SyntaxKind.{SyntaxKind}
+use Rattle.std.{specs.{Prelude.{◌≡◌, ℕ, Bool, false, Option, Some, None, find, nat_eq}, Option.unwrap_or}, proofs.Common.{ap, sym, refl, ◌∙◌}}
+use Rattle.rnix_kinds.{specs.declared.kinds.SyntaxKind.SyntaxKind, proofs.AllKinds.all_kinds}
+use Rattle.rnix_base.specs.{contracts.operators.{BinOpKind.the_type as binary_type, UnaryOpKind.the_type as unary_type}, declared.operators.BinOpKind.BinOpKind}
+use Rattle.rnix_base.specs.{declared.operators.UnaryOpKind.UnaryOpKind, Operators.{binary_operator, unary_operator, EachHasOneKind}}
 use Rattle.rnix_kinds.specs.declared.kinds.SyntaxKind.TheVariants as k
-use Rattle.rnix_kinds.proofs.AllKinds.{all_kinds}
 use denote.Enum.Declared.{tag_of}
-use Rattle.rnix_base.specs.contracts.operators.BinOpKind.{the_type as binary_type}
-use Rattle.rnix_base.specs.contracts.operators.UnaryOpKind.{the_type as unary_type}
-use Rattle.rnix_base.specs.declared.operators.BinOpKind.{BinOpKind}
-use Rattle.rnix_base.specs.declared.operators.BinOpKind.TheVariants as b
-use Rattle.rnix_base.specs.declared.operators.UnaryOpKind.{UnaryOpKind}
-use Rattle.rnix_base.specs.declared.operators.UnaryOpKind.TheVariants as u
-use Rattle.rnix_base.specs.Operators.{binary_operator, unary_operator, EachHasOneKind}
 
 -- the operator is this one, by its number
 abbrev is_of : {A : Type 0} → (A → ℕ) → A → Option A → Bool

@@ -1,12 +1,9 @@
 -- The texts of the parts, of a row of symbols.
-use Rattle.std.proofs.Common.{◌≡◌, ◌≢◌, ◌<◌, ◌≤◌, ◌++◌, ◌∙◌, ℕ, suc, Bool, true, false, ◌==◌, List, [], ◌∷◌, Some, None, refl, sym, ap, map, arith, append_assoc, append-nil}
-use Rattle.std.specs.Prelude.{if◌then◌else◌, option_to_list}
-use Rattle.std.proofs.lemmas.Bool.Decides.{nat_tests}
-use Rattle.rnix_base.specs.declared.parts.InterpolPart.TheVariants.{Literal, Interpolation}
-use Rattle.rnix_base.specs.Escapes.{unescaped}
-use Rattle.rnix_base.specs.Normal.{Parts, Symbol, symbols, lines, least_indentation, unindented, text_of, with_texts, with_text, without_last_spaces, opened, closed, indented_parts}
-use Rattle.rnix_base.specs.Indent.{is_lost, left_after, kept, left_behind, indent_of, no_indent}
-use Rattle.rnix_base.proofs.LineLemmas.{row_kept, row_kept-lines, kept_step}
+use Rattle.std.proofs.Common.{◌≡◌, ◌≢◌, ◌<◌, ◌≤◌, ◌++◌, ◌∙◌, ℕ, suc, Bool, true, false, ◌==◌, List, [], ◌∷◌, Some, None, refl, sym, ap, map, arith}
+use Rattle.std.{proofs.{Common.{append_assoc, append-nil}, lemmas.Bool.Decides.nat_tests}, specs.Prelude.{if◌then◌else◌, option_to_list}}
+use Rattle.rnix_base.specs.{declared.parts.InterpolPart.TheVariants.{Literal, Interpolation}, Escapes.unescaped, Normal.{Parts, Symbol, symbols, lines}}
+use Rattle.rnix_base.specs.Normal.{least_indentation, unindented, text_of, with_texts, with_text, without_last_spaces, opened, closed, indented_parts}
+use Rattle.rnix_base.{specs.Indent.{is_lost, left_after, kept, left_behind, indent_of, no_indent}, proofs.LineLemmas.{row_kept, row_kept-lines, kept_step}}
 use Rattle.rnix_base.proofs.LeastLemmas.{least-parts}
 
 -- the parts without indentation, part by part

@@ -1,13 +1,7 @@
 -- How many children are selected.
-use Rattle.std.proofs.Common.{◌<◌, ◌≤◌, ◌^◌, suc, Bool, true, false, List, [], ◌∷◌, length, arith}
-use Rattle.std.specs.Prelude.{if◌then◌else◌}
-use Rattle.std.proofs.lemmas.List.Sums.{length-filter, count_by-le-length}
-use Rattle.rnix_kinds.specs.declared.kinds.SyntaxKind.{SyntaxKind}
-use Rattle.rnix_green.specs.Tree.{Located}
-use Rattle.rnix_green.specs.Walk.{Spot}
-use Rattle.rnix_base.specs.declared.parts.InterpolPart.TheVariants.{Literal, Interpolation}
-use Rattle.rnix_base.specs.Select.{has_kind, those_of}
-use Rattle.rnix_base.specs.Parts.{parts_of}
+use Rattle.std.proofs.{Common.{◌<◌, ◌≤◌, ◌^◌, suc, Bool, true, false, List, [], ◌∷◌, length, arith}, lemmas.List.Sums.{length-filter, count_by-le-length}}
+use Rattle.{std.specs.Prelude.if◌then◌else◌, rnix_kinds.specs.declared.kinds.SyntaxKind.SyntaxKind, rnix_green.specs.{Tree.Located, Walk.Spot}}
+use Rattle.rnix_base.specs.{declared.parts.InterpolPart.TheVariants.{Literal, Interpolation}, Select.{has_kind, those_of}, Parts.parts_of}
 
 -- no more elements have certain kinds than there are
 pub those_fit : (kinds : SyntaxKind → Bool) (elements : List Located) → length elements < 2 ^ 64 → length (those_of kinds elements) < 2 ^ 64

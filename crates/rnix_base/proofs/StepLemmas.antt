@@ -1,13 +1,9 @@
 -- The parts of a string in memory, one after another.
-use Rattle.std.proofs.Common.{◌≡◌, ◌≢◌, ◌++◌, ◌∙◌, ℕ, true, List, [], ◌∷◌, refl, sym, ap, length, map, arith, append-nil, String, string_bytes}
-use Rattle.std.proofs.lemmas.List.{map_push}
-use denote.Ref.{Bor}
-use Rattle.rnix_base.specs.declared.parts.InterpolPart.{InterpolPart}
-use Rattle.rnix_base.specs.declared.parts.InterpolPart.TheVariants.{Literal, Interpolation}
-use Rattle.rnix_base.specs.Escapes.{unescaped}
-use Rattle.rnix_base.specs.Normal.{Parts, with_text, borrowed, owned, without_last_spaces, quoted_parts}
-use Rattle.rnix_base.specs.Indent.{kept, left_behind}
+use Rattle.std.proofs.Common.{◌≡◌, ◌≢◌, ◌++◌, ◌∙◌, ℕ, true, List, [], ◌∷◌, refl, sym, ap, length, arith, append-nil, String, string_bytes}
+use Rattle.{std.proofs.lemmas.List.map_push, rnix_base.specs.declared.parts.InterpolPart.{InterpolPart, TheVariants.{Literal, Interpolation}}}
+use Rattle.rnix_base.specs.{Escapes.unescaped, Normal.{Parts, with_text, borrowed, owned, without_last_spaces, quoted_parts}, Indent.{kept, left_behind}}
 use Rattle.rnix_base.proofs.PartLemmas.{last_text, indented_from}
+use denote.Ref.{Bor}
 
 -- the next part
 pub interpolation_next : {I : Type 0} (n left : ℕ) (rest more : List (InterpolPart (Bor (List ℕ)) I)) (part : InterpolPart (Bor (List ℕ)) I) (i : I) → rest ≡ part ∷ more → part ≡ Interpolation i

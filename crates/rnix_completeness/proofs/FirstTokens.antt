@@ -1,13 +1,13 @@
 -- What strict rows begin with: the tokens by which a node of each kind may begin, and those that may be next at a state.
-use Rattle.std.{specs.List.list_all, proofs.Common.{◌≡◌, ℕ, Bool, true, false, List, ◌++◌, Option, Some, refl, ap, sym, ◌∙◌, append_assoc, get_or, arith, ◌&&◌}}
-use Rattle.std.proofs.{Common.{◌||◌, if◌then◌else◌, nat_eq}, lemmas.Bool.{and_parts, Decides.nat_tests}}
-use Rattle.rnix_kinds.specs.{SyntaxKind.place_of, declared.kinds.SyntaxKind.{SyntaxKind, TheVariants.{TOKEN_CUR_POS, TOKEN_IDENT, TOKEN_OR, NODE_ATTRPATH}}}
-use Rattle.rnix_kinds.specs.declared.kinds.SyntaxKind.TheVariants.{NODE_ATTRPATH_VALUE, NODE_DYNAMIC, NODE_IDENT, NODE_INHERIT, NODE_INHERIT_FROM}
-use Rattle.rnix_kinds.{specs.declared.kinds.SyntaxKind.TheVariants.{NODE_INTERPOL, NODE_STRING}, proofs.AllKinds.{all_kinds, every, implied, kind_at_place}}
-use Rattle.rnix_grammar.specs.{ExpectedItems.begins_attr, Tables.{closes, is_or, is_wanted}, AnnotatedForest.{Token, AnnotatedForest, blank, token, branch}}
-use Rattle.rnix_grammar.specs.{AnnotatedForest.{fault, tokens_in, head_kind, forget}, Rows.{RowState, first, advance, live, start, whole}, Strict.is_strict}
-use Rattle.{rnix_grammar.specs.{Yield.untold, Plain.{is_node, AreUntold}}, rnix_lemmas.proofs.{Basics.{choice, true_is_not_false}, EveryKind.{no_kind, same}}}
-use Rattle.{rnix_lemmas.proofs.StrictParts.{Parts, parts}, rnix_completeness.proofs.PlainNames.strict_node}
+use Rattle.std.{specs.List.list_all, proofs.Common.{◌≡◌, ℕ, Bool, true, false, List, ◌++◌, Option, Some, refl, ap, sym, ◌∙◌, append_assoc, ◌&&◌, ◌||◌}}
+use Rattle.{std.proofs.{Common.{if◌then◌else◌, nat_eq}, lemmas.Bool.and_parts}, rnix_kinds.specs.{SyntaxKind.place_of, declared.kinds.SyntaxKind.SyntaxKind}}
+use Rattle.rnix_kinds.specs.declared.kinds.SyntaxKind.TheVariants.{TOKEN_CUR_POS, TOKEN_IDENT, TOKEN_OR, NODE_ATTRPATH, NODE_ATTRPATH_VALUE, NODE_DYNAMIC}
+use Rattle.rnix_kinds.specs.declared.kinds.SyntaxKind.TheVariants.{NODE_IDENT, NODE_INHERIT, NODE_INHERIT_FROM, NODE_INTERPOL, NODE_STRING}
+use Rattle.{rnix_kinds.proofs.AllKinds.{all_kinds, every, implied}, rnix_grammar.specs.{ExpectedItems.begins_attr, Tables.{closes, is_or, is_wanted}}}
+use Rattle.rnix_grammar.specs.{AnnotatedForest.{Token, AnnotatedForest, blank, token, branch, fault, tokens_in, head_kind, forget}, Rows.{RowState, first}}
+use Rattle.rnix_grammar.specs.{Rows.{advance, live, start, whole}, Strict.is_strict, Yield.untold, Plain.{is_node, AreUntold}}
+use Rattle.rnix_lemmas.proofs.{Basics.{choice, true_is_not_false}, EveryKind.{no_kind, same}, StrictParts.{Parts, parts}}
+use Rattle.rnix_completeness.proofs.PlainNames.{strict_node}
 use Rattle.rnix_grammar.specs.declared.until.Closer.TheVariants as c
 use Rattle.rnix_grammar.specs.declared.until.Until.TheVariants as u
 

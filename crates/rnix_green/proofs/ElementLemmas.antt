@@ -1,21 +1,12 @@
 -- What is kept of an element tells what it shows.
-use Rattle.std.proofs.Common.{◌≡◌, ℕ, zero, suc, ◌+◌, ◌-◌, ◌≤◌, ◌<◌, List, [], ◌∷◌, ◌++◌, length, map, get_or, Option, Some, None, Bool, true, false, nat_lt, cond, refl, ap, sym, ◌∙◌, subst, arith, length-append, inl, inr}
-use Rattle.std.proofs.lemmas.Bool.{cases_lt}
-use Rattle.std.proofs.lemmas.List.{get_or-map, length-map, map-append, get_or-append_right, get_or_past}
-use Rattle.rnix_kinds.specs.declared.kinds.SyntaxKind.{SyntaxKind}
-use Rattle.rnix_green.specs.declared.packed.Packed.{Packed}
-use Rattle.rnix_green.specs.Packed.{limit, packed, place_in, parent_in, size_in}
-use Rattle.rnix_green.specs.Forest.{Forest, empty, leaf, node, text_of, element_count}
-use Rattle.rnix_green.specs.Tree.{Tree, Item, items_from, items_of, forest_of, no_item, item}
-use Rattle.rnix_green.specs.Kept.{item_from, parent_or_root, parent_kept, size_of, kept_of, start_at, IsKept}
-use Rattle.rnix_green.proofs.NumberTests.{is_below}
-use Rattle.rnix_green.proofs.PackedLemmas.{packed_again}
-use Rattle.rnix_green.proofs.PieceLemmas.{length-items_from}
-use Rattle.rnix_green.proofs.ParentLemmas.{parent_is_before}
-use Rattle.rnix_green.proofs.SiblingLemmas.{below_fits, next_inside}
-use Rattle.rnix_green.proofs.NestLemmas.{at, inside, beyond, behind}
-use Rattle.rnix_green.proofs.InsideLemmas.{elements_in_all, has_parent, leaf_holds_nothing}
-use Rattle.rnix_green.proofs.StartLemmas.{in_text}
+use Rattle.std.proofs.Common.{◌≡◌, ℕ, zero, suc, ◌+◌, ◌-◌, ◌≤◌, ◌<◌, List, [], ◌∷◌, ◌++◌, length, map, get_or, Option, Some, None, Bool, true, false, nat_lt}
+use Rattle.std.proofs.{Common.{cond, refl, ap, sym, ◌∙◌, subst, arith, length-append}, lemmas.List.{get_or-map, length-map, map-append, get_or-append_right}}
+use Rattle.{std.proofs.lemmas.List.get_or_past, rnix_kinds.specs.declared.kinds.SyntaxKind.SyntaxKind, rnix_green.specs.declared.packed.Packed.Packed}
+use Rattle.rnix_green.specs.{Packed.{limit, place_in, parent_in, size_in}, Forest.{Forest, empty, leaf, node, text_of, element_count}, Tree.{Tree, Item}}
+use Rattle.rnix_green.specs.{Tree.{items_from, items_of, forest_of, no_item, item}, Kept.{item_from, parent_or_root, parent_kept, size_of, kept_of, start_at}}
+use Rattle.rnix_green.{specs.Kept.IsKept, proofs.{NumberTests.is_below, PackedLemmas.packed_again, PieceLemmas.length-items_from}}
+use Rattle.rnix_green.proofs.{ParentLemmas.parent_is_before, SiblingLemmas.{below_fits, next_inside}, NestLemmas.{at, inside, beyond, behind}}
+use Rattle.rnix_green.proofs.{InsideLemmas.{elements_in_all, has_parent, leaf_holds_nothing}, StartLemmas.in_text}
 
 -- as many as the tree has
 pub length_kept : (t : Tree) (es : List Packed) (text : List ℕ) → IsKept t es text → length es ≡ length (items_of t)

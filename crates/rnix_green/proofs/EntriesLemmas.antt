@@ -1,18 +1,12 @@
 -- How the entries of a builder make trees.
-use Rattle.std.proofs.Common.{◌≡◌, ℕ, zero, suc, ◌+◌, ◌-◌, ◌≤◌, ◌<◌, List, [], ◌∷◌, ◌++◌, length, take, drop, get_or, map, true, refl, ap, sym, ◌∙◌, arith, append_assoc, length-append, inl, inr}
-use Rattle.std.proofs.lemmas.List.{take_all, take_more, reverse-append, length-map, length-reverse, map-append, take_at, drop_at, append-nil, length_push, length-take-le, get_or_past}
-use Rattle.std.proofs.lemmas.Bool.{cases_lt, and_parts}
-use Rattle.std.specs.Str.{IsUtf8}
-use Rattle.rnix_kinds.specs.declared.kinds.SyntaxKind.{SyntaxKind}
-use Rattle.rnix_green.specs.declared.builder.OpenNode.{OpenNode as Pending}
-use Rattle.rnix_green.specs.Forest.{Forest, empty, leaf, node, join, tree_count, element_count, first_trees, trees_after, text_of, HasText}
-use Rattle.rnix_green.specs.Draft.{Draft, with_leaf, wrapped, closed_over, is_complete_of, is_nothing, is_one_node, wrapped-join}
-use Rattle.rnix_green.specs.Kept.{first_elements, elements_after}
-use Rattle.rnix_green.specs.declared.packed.Packed.{Packed}
-use Rattle.rnix_green.specs.Packed.{limit, packed}
-use Rattle.rnix_green.specs.Postorder.{Entry, Leaf, Node, entry_of, entries_of}
-use Rattle.rnix_green.specs.Entries.{built_onto, built, wrapped_last, starts_from, open_pairs, IsNested, IsBuilt}
-use Rattle.rnix_green.specs.ForestCode.{join_empty}
+use Rattle.std.proofs.Common.{◌≡◌, ℕ, zero, suc, ◌+◌, ◌-◌, ◌≤◌, ◌<◌, List, [], ◌∷◌, ◌++◌, length, take, drop, get_or, map, true, refl, ap, sym, ◌∙◌, arith}
+use Rattle.std.proofs.{Common.{append_assoc, length-append, inl, inr}, lemmas.List.{take_all, take_more, reverse-append, length-map, length-reverse}}
+use Rattle.std.proofs.lemmas.{List.{map-append, take_at, drop_at, append-nil, length_push, length-take-le, get_or_past}, Bool.{cases_lt, and_parts}}
+use Rattle.{std.specs.Str.IsUtf8, rnix_kinds.specs.declared.kinds.SyntaxKind.SyntaxKind, rnix_green.specs.declared.builder.OpenNode.OpenNode as Pending}
+use Rattle.rnix_green.specs.{declared.packed.Packed.Packed, Forest.{Forest, empty, leaf, node, join, tree_count, element_count, first_trees, trees_after}}
+use Rattle.rnix_green.specs.{Forest.{text_of, HasText}, Draft.{Draft, with_leaf, wrapped, closed_over, is_complete_of, is_nothing, is_one_node, wrapped-join}}
+use Rattle.rnix_green.specs.{Kept.{first_elements, elements_after}, Packed.{limit, packed}, Postorder.{Entry, Leaf, Node, entry_of, entries_of}}
+use Rattle.rnix_green.specs.{Entries.{built_onto, built, wrapped_last, starts_from, open_pairs, IsNested, IsBuilt}, ForestCode.join_empty}
 use Rattle.rnix_green.proofs.ForestLemmas.{tree_count-join, tree_count-first, element_count-join, text_of-join, join_assoc, join_first_after}
 use Rattle.rnix_green.proofs.PostorderLemmas.{entries_of-join, length-post_of, packed_leaf, packed_node}
 

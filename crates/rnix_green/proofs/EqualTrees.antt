@@ -1,10 +1,6 @@
 -- Trees are equal exactly if their elements and their texts are.
-use Rattle.std.proofs.Common.{◌≡◌, ℕ, List, None, ap, sym, ◌∙◌}
-use Rattle.rnix_green.specs.declared.packed.Packed.{Packed}
-use Rattle.rnix_green.specs.Forest.{text_of}
-use Rattle.rnix_green.specs.Tree.{Tree, forest_of}
-use Rattle.rnix_green.specs.Kept.{IsKept, kept_from, tree_from}
-use Rattle.rnix_green.proofs.KeptLemmas.{tree_from_kept}
+use Rattle.{std.proofs.Common.{◌≡◌, ℕ, List, None, ap, sym, ◌∙◌}, rnix_green.specs.{declared.packed.Packed.Packed, Forest.text_of, Tree.{Tree, forest_of}}}
+use Rattle.rnix_green.{specs.Kept.{IsKept, kept_from, tree_from}, proofs.KeptLemmas.tree_from_kept}
 
 module _ (t u : Tree) (es fs : List Packed) (text other : List ℕ) (kept : IsKept t es text) (also : IsKept u fs other) where
   pub same_tree : es ≡ fs → text ≡ other → t ≡ u

@@ -1,16 +1,9 @@
 -- Where the elements of a tree begin to start at an offset or behind it.
-use Rattle.std.proofs.Common.{◌≡◌, ℕ, ◌+◌, ◌-◌, ◌≤◌, ◌<◌, List, length, get_or, take, drop, Bool, true, false, None, nat_lt, ap, sym, ◌∙◌, arith, inl, inr, length-drop, length-take-le, get_or-drop}
-use Rattle.std.proofs.lemmas.List.{get_or-take}
-use Rattle.rnix_kinds.specs.declared.kinds.SyntaxKind.TheVariants.{TOKEN_ERROR}
-use Rattle.std.proofs.lemmas.Bool.{cases_lt}
-use Rattle.std.specs.List.Sorted.{IsPartitionedBy, IsPartitionPoint}
-use Rattle.rnix_green.specs.declared.packed.Packed.{Packed}
-use Rattle.rnix_green.specs.Packed.{packed, place_in}
-use Rattle.rnix_green.specs.Tree.{Tree, items_of, item, forest_of}
-use Rattle.rnix_green.specs.Kept.{IsKept}
-use Rattle.rnix_green.proofs.ElementLemmas.{length_kept, element_of}
-use Rattle.rnix_green.proofs.NumberTests.{below_true, below_false, is_below}
-use Rattle.rnix_green.proofs.StartLemmas.{in_order}
+use Rattle.std.proofs.Common.{◌≡◌, ℕ, ◌+◌, ◌-◌, ◌≤◌, ◌<◌, List, length, get_or, take, drop, Bool, true, false, None, nat_lt, ap, ◌∙◌, arith, inl, inr}
+use Rattle.std.{proofs.{Common.{length-drop, length-take-le, get_or-drop}, lemmas.{List.get_or-take, Bool.cases_lt}}, specs.List.Sorted.IsPartitionedBy}
+use Rattle.{std.specs.List.Sorted.IsPartitionPoint, rnix_kinds.specs.declared.kinds.SyntaxKind.TheVariants.TOKEN_ERROR}
+use Rattle.rnix_green.specs.{declared.packed.Packed.Packed, Packed.{packed, place_in}, Tree.{Tree, items_of, item, forest_of}, Kept.IsKept}
+use Rattle.rnix_green.proofs.{ElementLemmas.{length_kept, element_of}, NumberTests.{below_true, below_false, is_below}, StartLemmas.in_order}
 use Rattle.rnix_green.proofs.InsideLemmas.{elements_in_all}
 
 -- an element starts before the offset

@@ -1,6 +1,6 @@
 -- Lemmas on forests.
-use Rattle.std.proofs.Common.{◌≡◌, ℕ, zero, suc, ◌+◌, ◌≤◌, ◌++◌, refl, ap, sym, append_assoc, arith}
-use Rattle.rnix_green.specs.Forest.{Forest, empty, leaf, node, join, tree_count, first_trees, trees_after, text_of, element_count}
+use Rattle.{std.proofs.Common.{◌≡◌, ℕ, zero, suc, ◌+◌, ◌≤◌, ◌++◌, refl, ap, sym, append_assoc, arith}, rnix_green.specs.Forest.{Forest, empty, leaf, node}}
+use Rattle.rnix_green.specs.Forest.{join, tree_count, first_trees, trees_after, text_of, element_count}
 
 -- three rows
 pub join_assoc : (f g h : Forest) → join (join f g) h ≡ join f (join g h)

@@ -1,11 +1,9 @@
 -- What is inside an element of a tree, and what is around it.
 use Rattle.std.proofs.Common.{◌≡◌, ℕ, zero, suc, ◌+◌, ◌-◌, ◌≤◌, ◌<◌, length, Option, Some, None, true, false, refl, ap, sym, ◌∙◌, arith, inl, inr}
-use Rattle.rnix_green.specs.Forest.{Forest, empty, leaf, node, text_of, element_count}
-use Rattle.rnix_green.specs.Tree.{Tree, Item, items_of, forest_of, item}
-use Rattle.rnix_green.proofs.PieceLemmas.{length-items_from}
-use Rattle.rnix_green.proofs.SiblingLemmas.{below_fits}
-use Rattle.rnix_green.proofs.PartLemmas.{IsPart, IsOne, one_leaf, one_node, item_of_part, below_of_part, part_there, one_there}
-use Rattle.rnix_green.proofs.NestLemmas.{at, inside, beyond, behind, first_parent, Parented, of_row, of_node, parented, next_parent, parent_over}
+use Rattle.rnix_green.specs.{Forest.{Forest, empty, leaf, node, text_of, element_count}, Tree.{Tree, Item, items_of, forest_of, item}}
+use Rattle.rnix_green.proofs.{PieceLemmas.length-items_from, SiblingLemmas.below_fits, PartLemmas.{IsPart, IsOne, one_leaf, one_node, item_of_part}}
+use Rattle.rnix_green.proofs.{PartLemmas.{below_of_part, part_there, one_there}, NestLemmas.{at, inside, beyond, behind, first_parent, Parented, of_row}}
+use Rattle.rnix_green.proofs.NestLemmas.{of_node, parented, next_parent, parent_over}
 
 -- how many elements a tree has
 pub elements_in_all : (t : Tree) → length (items_of t) ≡ element_count (forest_of t)

@@ -1,20 +1,12 @@
 -- The elements and the text of a tree give the tree back.
-use Rattle.std.proofs.Common.{◌≡◌, ℕ, zero, suc, ◌+◌, ◌-◌, ◌<◌, List, [], ◌∷◌, ◌++◌, length, take, drop, Option, Some, None, true, map, refl, ap, sym, subst, ◌∙◌, arith, length-append, append_assoc}
-use Rattle.std.proofs.lemmas.List.{take_at, drop_at, append-nil, drop-drop, map-append, length-map}
-use Rattle.rnix_green.specs.declared.packed.Packed.{Packed}
-use Rattle.rnix_green.specs.Forest.{Forest, empty, leaf, node, join, element_count, tree_count, text_of}
-use Rattle.rnix_green.specs.Packed.{limit, word_of, packed, place_in}
-use Rattle.rnix_green.specs.Kept.{parent_or_root, kept_of, kept_from, first_elements, elements_after, tree_before, start_of_first, forest_from, as_tree, tree_from, IsKept}
-use Rattle.rnix_green.specs.Tree.{Tree, items_from, items_of, forest_of}
-use Rattle.rnix_green.specs.declared.builder.OpenNode.{OpenNode as Pending}
-use Rattle.rnix_green.specs.Draft.{is_one_node, is_complete_of}
-use Rattle.std.specs.Prelude.{slice_get}
-use Rattle.rnix_green.specs.Postorder.{Entry, Node, entries_of}
-use Rattle.rnix_green.specs.Entries.{IsBuilt, IsBuilder, made, open_pairs, is_node_last, is_node_entry}
-use Rattle.rnix_green.specs.ForestCode.{join_empty}
-use Rattle.rnix_green.proofs.EntriesLemmas.{first_elements-join, elements_after-join}
-use Rattle.rnix_green.proofs.PackedLemmas.{packed_again}
-use Rattle.rnix_green.proofs.PostorderLemmas.{length-post_of}
+use Rattle.std.proofs.Common.{◌≡◌, ℕ, zero, suc, ◌+◌, ◌-◌, ◌<◌, List, [], ◌∷◌, ◌++◌, length, take, drop, Option, Some, None, true, map, refl, ap, sym, subst}
+use Rattle.std.proofs.{Common.{◌∙◌, arith, length-append, append_assoc}, lemmas.List.{take_at, drop_at, append-nil, drop-drop, map-append, length-map}}
+use Rattle.{std.specs.Prelude.slice_get, rnix_green.specs.{declared.{packed.Packed.Packed, builder.OpenNode.OpenNode as Pending}, Forest.{Forest, empty, leaf}}}
+use Rattle.rnix_green.specs.{Forest.{node, join, element_count, tree_count, text_of}, Packed.{limit, word_of, packed, place_in}, Kept.{parent_or_root, kept_of}}
+use Rattle.rnix_green.specs.{Kept.{kept_from, first_elements, elements_after, tree_before, start_of_first, forest_from, as_tree, tree_from, IsKept}, Tree.Tree}
+use Rattle.rnix_green.specs.{Tree.{items_from, items_of, forest_of}, Draft.{is_one_node, is_complete_of}, Postorder.{Entry, Node, entries_of}, Entries.IsBuilt}
+use Rattle.rnix_green.specs.{Entries.{IsBuilder, made, open_pairs, is_node_last, is_node_entry}, ForestCode.join_empty}
+use Rattle.rnix_green.proofs.{EntriesLemmas.{first_elements-join, elements_after-join}, PackedLemmas.packed_again, PostorderLemmas.length-post_of}
 use Rattle.rnix_green.proofs.PieceLemmas.{length-items_from}
 
 -- the first element of a row starts where the row does, or where what follows does

@@ -1,12 +1,8 @@
 -- How the elements of a tree lie inside one another, by their numbers.
 use Rattle.std.proofs.Common.{◌≡◌, ℕ, zero, suc, ◌+◌, ◌-◌, ◌≤◌, ◌<◌, length, get_or, Option, Some, None, refl, ap, sym, subst, ◌∙◌, arith, ◌⊎◌, inl, inr}
-use Rattle.std.proofs.lemmas.Bool.{cases_lt}
-use Rattle.std.proofs.lemmas.Option.{same_Some}
-use Rattle.std.proofs.lemmas.List.{get_or_append_left, get_or-append_right}
-use Rattle.rnix_kinds.specs.declared.kinds.SyntaxKind.{SyntaxKind}
-use Rattle.rnix_green.specs.Forest.{Forest, empty, leaf, node, text_of, element_count}
-use Rattle.rnix_green.specs.Tree.{Item, items_from, no_item}
-use Rattle.rnix_green.proofs.PieceLemmas.{length-items_from}
+use Rattle.std.proofs.lemmas.{Bool.cases_lt, Option.same_Some, List.{get_or_append_left, get_or-append_right}}
+use Rattle.{rnix_kinds.specs.declared.kinds.SyntaxKind.SyntaxKind, rnix_green.specs.{Forest.{Forest, empty, leaf, node, text_of, element_count}, Tree.Item}}
+use Rattle.rnix_green.{specs.Tree.{items_from, no_item}, proofs.PieceLemmas.length-items_from}
 
 -- the element of an index in a row
 abbrev pub at : ℕ → ℕ → Option ℕ → Forest → ℕ → Item

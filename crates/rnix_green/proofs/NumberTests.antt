@@ -1,7 +1,5 @@
 -- Tests of numbers, both ways.
-use Rattle.std.proofs.Common.{◌≡◌, ℕ, ◌<◌, ◌≤◌, ◌==◌, nat_lt, Bool, true, false, refl, arith}
-use Rattle.std.specs.Prelude.{if◌then◌else◌}
-use Rattle.std.proofs.lemmas.Bool.Decides.{nat_tests}
+use Rattle.std.{proofs.{Common.{◌≡◌, ℕ, ◌<◌, ◌≤◌, ◌==◌, nat_lt, Bool, true, false, refl, arith}, lemmas.Bool.Decides.nat_tests}, specs.Prelude.if◌then◌else◌}
 
 -- a test of an order tells it
 pub below_true : (a b : ℕ) → nat_lt a b ≡ true → a < b

@@ -1,7 +1,5 @@
 -- A number below the limit is what is packed of it.
-use Rattle.std.proofs.Common.{◌≡◌, ℕ, ◌+◌, ◌*◌, ◌<◌, ◌^◌, ◌%◌, ap, sym, ◌∙◌, arith}
-use Rattle.std.proofs.lemmas.Nat.{mod-mul-add}
-use Rattle.rnix_green.specs.Packed.{limit, word_of}
+use Rattle.{std.proofs.{Common.{◌≡◌, ℕ, ◌+◌, ◌*◌, ◌<◌, ◌^◌, ◌%◌, ap, sym, ◌∙◌, arith}, lemmas.Nat.mod-mul-add}, rnix_green.specs.Packed.{limit, word_of}}
 
 -- what is packed is read again
 pub packed_again : (n : ℕ) → n < limit → word_of n ≡ n

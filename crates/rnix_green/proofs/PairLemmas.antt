@@ -1,15 +1,9 @@
 -- The steps that read and place a node that has one token alone.
-use Rattle.std.proofs.Common.{◌≡◌, ◌≢◌, ℕ, zero, suc, ◌+◌, ◌-◌, ◌≤◌, ◌<◌, List, [], ◌∷◌, ◌++◌, length, get_or, take, drop, reverse, refl, ap, sym, ◌∙◌, subst, arith}
-use Rattle.std.proofs.lemmas.List.{length_push, length-reverse, length-set, reverse-append}
-use Rattle.std.proofs.Math.ListN.{set}
-use Rattle.std.proofs.Math.Seq.{take-append_seam}
-use Rattle.rnix_green.specs.declared.packed.Packed.{Packed}
-use Rattle.rnix_green.specs.declared.postorder.Frame.{Frame}
-use Rattle.rnix_green.specs.Kept.{parent_or_root}
-use Rattle.rnix_green.specs.Forest.{Forest}
-use Rattle.rnix_green.specs.Packed.{packed, place_in, size_in}
-use Rattle.rnix_green.specs.Postorder.{parent_number, frame_kept, HasMore, IsWork}
-use Rattle.rnix_green.proofs.PostorderLemmas.{IsLeafRead, entries_before, length-entries_before, leaf_at, node_at, node_framed, leaf_placed, node_placed}
+use Rattle.std.proofs.Common.{◌≡◌, ◌≢◌, ℕ, zero, suc, ◌+◌, ◌-◌, ◌≤◌, ◌<◌, List, [], ◌∷◌, ◌++◌, length, get_or, take, drop, reverse, refl, ap, sym, ◌∙◌, subst}
+use Rattle.std.proofs.{Common.arith, lemmas.List.{length_push, length-reverse, length-set, reverse-append}, Math.{ListN.set, Seq.take-append_seam}}
+use Rattle.rnix_green.specs.{declared.{packed.Packed.Packed, postorder.Frame.Frame}, Kept.parent_or_root, Forest.Forest, Packed.{packed, place_in, size_in}}
+use Rattle.rnix_green.{specs.Postorder.{parent_number, frame_kept, HasMore, IsWork}, proofs.PostorderLemmas.{IsLeafRead, entries_before, length-entries_before}}
+use Rattle.rnix_green.proofs.PostorderLemmas.{leaf_at, node_at, node_framed, leaf_placed, node_placed}
 
 same_read : (es : List Packed) (i : ℕ) (x y : Packed) → i < length es → x ≡ get_or es i x → y ≡ get_or es i y → x ≡ y
 same_read [] i x y l a b = absurd (omega arith)

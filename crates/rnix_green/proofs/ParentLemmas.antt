@@ -1,11 +1,8 @@
 -- An element's parent is a node before it.
-use Rattle.std.proofs.Common.{◌≡◌, ℕ, zero, suc, ◌+◌, ◌-◌, ◌≤◌, ◌<◌, List, ◌∷◌, ◌++◌, length, get_or, Option, Some, None, true, ap, sym, ◌∙◌, arith, ◌⊎◌, inl, inr}
-use Rattle.std.proofs.lemmas.Bool.{cases_lt}
-use Rattle.std.proofs.lemmas.List.{get_or_append_left, get_or-append_right}
-use Rattle.std.proofs.lemmas.Grind.{get_or_tail, get_or_head}
-use Rattle.rnix_green.specs.Forest.{Forest, empty, leaf, node, text_of, element_count}
-use Rattle.rnix_green.specs.Tree.{Tree, Item, items_from, items_of, forest_of, no_item, item, IsNodeAt}
-use Rattle.rnix_green.proofs.PieceLemmas.{length-items_from}
+use Rattle.std.proofs.Common.{◌≡◌, ℕ, zero, suc, ◌+◌, ◌-◌, ◌≤◌, ◌<◌, List, ◌∷◌, ◌++◌, length, get_or, Option, Some, None, true, ap, sym, ◌∙◌, arith, ◌⊎◌, inl}
+use Rattle.std.proofs.{Common.inr, lemmas.{Bool.cases_lt, List.{get_or_append_left, get_or-append_right}, Grind.{get_or_tail, get_or_head}}}
+use Rattle.rnix_green.specs.{Forest.{Forest, empty, leaf, node, text_of, element_count}, Tree.{Tree, Item, items_from, items_of, forest_of, no_item, item}}
+use Rattle.rnix_green.{specs.Tree.IsNodeAt, proofs.PieceLemmas.length-items_from}
 
 -- q is the number of a node among the elements from number n on, before the place m
 pub record IsNodeBefore (n m q : ℕ) (is : List Item) : Type 0 where

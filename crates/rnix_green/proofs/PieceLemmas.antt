@@ -1,11 +1,8 @@
 -- Where the text of an element lies in the text of its tree.
-use Rattle.std.proofs.Common.{◌≡◌, ℕ, zero, suc, ◌+◌, ◌-◌, ◌≤◌, ◌<◌, List, [], ◌++◌, length, get_or, Option, Some, None, refl, ap, sym, ◌∙◌, subst, arith, length-append, append_assoc, inl, inr}
-use Rattle.std.proofs.lemmas.Bool.{cases_lt}
-use Rattle.std.proofs.lemmas.List.{get_or_append_left, get_or-append_right}
-use Rattle.std.proofs.lemmas.Str.{IsUtf8-append, IsUtf8-nil, IsCharBoundary-at_seam}
-use Rattle.std.specs.Str.{IsUtf8, IsCharBoundary}
-use Rattle.rnix_green.specs.Forest.{Forest, empty, leaf, node, text_of, element_count, HasText}
-use Rattle.rnix_green.specs.Tree.{Tree, Item, items_from, items_of, forest_of, no_item, item}
+use Rattle.std.proofs.Common.{◌≡◌, ℕ, zero, suc, ◌+◌, ◌-◌, ◌≤◌, ◌<◌, List, [], ◌++◌, length, get_or, Option, Some, None, refl, ap, sym, ◌∙◌, subst, arith}
+use Rattle.std.proofs.{Common.{length-append, append_assoc, inl, inr}, lemmas.{Bool.cases_lt, List.{get_or_append_left, get_or-append_right}}}
+use Rattle.{std.{proofs.lemmas.Str.{IsUtf8-append, IsUtf8-nil, IsCharBoundary-at_seam}, specs.Str.{IsUtf8, IsCharBoundary}}, rnix_green.specs.Forest.Forest}
+use Rattle.rnix_green.specs.{Forest.{empty, leaf, node, text_of, element_count, HasText}, Tree.{Tree, Item, items_from, items_of, forest_of, no_item, item}}
 
 -- as many items as elements
 pub length-items_from : (n s : ℕ) (p : Option ℕ) (f : Forest) → length (items_from n s p f) ≡ element_count f

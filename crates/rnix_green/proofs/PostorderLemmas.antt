@@ -1,17 +1,12 @@
 -- The steps of reading a list of entries from its end.
-use Rattle.std.proofs.Common.{◌≡◌, ◌≢◌, ℕ, suc, ◌+◌, ◌-◌, ◌≤◌, ◌<◌, List, [], ◌∷◌, ◌++◌, length, get_or, take, drop, reverse, map, Option, Some, None, true, false, refl, ap, sym, ◌∙◌, subst, arith, length-append, append_assoc}
-use Rattle.std.proofs.lemmas.List.{append-nil, same_from_push, length_push, take_all, take_more, length-take-le, length-map, length-reverse, reverse-append, map-append, take-set-le, drop-set}
-use Rattle.std.proofs.Math.ListN.{set, drop_of_length-le}
-use Rattle.rnix_kinds.specs.declared.kinds.SyntaxKind.{SyntaxKind}
-use Rattle.rnix_green.specs.declared.packed.Packed.{Packed}
-use Rattle.rnix_green.specs.declared.postorder.Frame.{Frame}
-use Rattle.rnix_green.specs.Kept.{parent_or_root, kept_of, kept_from}
-use Rattle.rnix_green.specs.Forest.{Forest, empty, leaf, node, join, text_of, element_count}
-use Rattle.rnix_green.specs.Packed.{limit, packed, place_in, size_in}
-use Rattle.rnix_green.specs.Tree.{Item, items_from}
-use Rattle.rnix_green.specs.Postorder.{Entry, Leaf, Node, entry_by, entry_of, entries_of, child_number, parent_number, entries_left, text_left, frame_kept, around, IsAligned, HasMore, IsReached, IsWork}
-use Rattle.rnix_green.proofs.PackedLemmas.{packed_again}
-use Rattle.rnix_green.proofs.ForestLemmas.{text_of-join}
+use Rattle.std.proofs.Common.{◌≡◌, ◌≢◌, ℕ, suc, ◌+◌, ◌-◌, ◌≤◌, ◌<◌, List, [], ◌∷◌, ◌++◌, length, get_or, take, drop, reverse, map, Option, Some, None, true}
+use Rattle.std.proofs.{Common.{false, refl, ap, sym, ◌∙◌, subst, arith, length-append, append_assoc}, lemmas.List.{append-nil, same_from_push, length_push}}
+use Rattle.std.proofs.lemmas.List.{take_all, take_more, length-take-le, length-map, length-reverse, reverse-append, map-append, take-set-le, drop-set}
+use Rattle.{std.proofs.Math.ListN.{set, drop_of_length-le}, rnix_kinds.specs.declared.kinds.SyntaxKind.SyntaxKind}
+use Rattle.rnix_green.specs.{declared.{packed.Packed.Packed, postorder.Frame.Frame}, Kept.{parent_or_root, kept_of, kept_from}, Forest.{Forest, empty, leaf}}
+use Rattle.rnix_green.specs.{Forest.{node, join, text_of, element_count}, Packed.{limit, packed, place_in, size_in}, Tree.items_from, Postorder.{Entry, Leaf}}
+use Rattle.rnix_green.specs.Postorder.{Node, entry_by, entry_of, entries_of, child_number, parent_number, entries_left, text_left, frame_kept, around}
+use Rattle.rnix_green.{specs.Postorder.{IsAligned, HasMore, IsReached, IsWork}, proofs.{PackedLemmas.packed_again, ForestLemmas.text_of-join}}
 
 -- as many entries as elements
 pub length-post_of : (f : Forest) → length (entries_of f) ≡ element_count f

@@ -1,8 +1,6 @@
 -- Where the elements of a tree start: in preorder no start comes before an earlier one.
-use Rattle.std.proofs.Common.{subst, ◌≡◌, ℕ, zero, suc, ◌+◌, ◌-◌, ◌≤◌, ◌<◌, ◌++◌, length, Option, Some, false, refl, ap, sym, ◌∙◌, arith, inl, inr, length-append}
-use Rattle.std.proofs.lemmas.Bool.{cases_lt}
-use Rattle.rnix_green.specs.Forest.{Forest, empty, leaf, node, text_of, element_count}
-use Rattle.rnix_green.specs.Tree.{Item}
+use Rattle.std.proofs.Common.{subst, ◌≡◌, ℕ, zero, suc, ◌+◌, ◌-◌, ◌≤◌, ◌<◌, ◌++◌, length, Option, Some, false, refl, ap, sym, ◌∙◌, arith, inl, inr}
+use Rattle.{std.proofs.{Common.length-append, lemmas.Bool.cases_lt}, rnix_green.specs.{Forest.{Forest, empty, leaf, node, text_of, element_count}, Tree.Item}}
 use Rattle.rnix_green.proofs.NestLemmas.{at, inside, beyond, behind}
 
 -- an element lies in the text of its row

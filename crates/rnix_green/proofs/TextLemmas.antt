@@ -1,7 +1,6 @@
 -- How a text is taken part by part.
-use Rattle.std.proofs.Common.{◌≡◌, ℕ, ◌+◌, ◌-◌, ◌≤◌, List, ◌++◌, length, take, drop, ap, sym, ◌∙◌, arith, length-append}
-use Rattle.std.specs.Prelude.{slice_range}
-use Rattle.std.proofs.lemmas.List.{take-append-drop, take-append-le, drop-take, drop-drop, length-take-le, length-drop}
+use Rattle.std.proofs.{Common.{◌≡◌, ℕ, ◌+◌, ◌-◌, ◌≤◌, List, ◌++◌, length, take, drop, ap, sym, ◌∙◌, arith, length-append}, lemmas.List.take-append-drop}
+use Rattle.std.{proofs.lemmas.List.{take-append-le, drop-take, drop-drop, length-take-le, length-drop}, specs.Prelude.slice_range}
 
 -- a text is no shorter than what it begins with
 pub begins_short : (part left : List ℕ) → take (length part) left ≡ part → length part ≤ length left

@@ -1,14 +1,8 @@
 -- Every kind stands in the list of all, so what holds of all kinds is shown by one computation.
 use Rattle.std.proofs.Common.{◌≡◌, ◌<◌, ◌≤◌, ◌+◌, ℕ, zero, suc, Bool, true, List, [], ◌∷◌, refl, ap, sym, ◌∙◌, get_or, arith, inl, inr}
-use Rattle.std.specs.Prelude.{if◌then◌else◌, nat_lt, ◌==◌, ◌&&◌, slice_get, Option, Some, None, IfSome, IfNone}
-use Rattle.std.proofs.lemmas.Option.{slice_get_cases}
-use Rattle.std.specs.List.{All, list_all}
-use Rattle.std.proofs.lemmas.Bool.Decides.{nat_tests}
-use Rattle.std.proofs.lemmas.Bool.{and_parts}
-use Rattle.rnix_kinds.specs.declared.kinds.SyntaxKind.{SyntaxKind}
-use Rattle.rnix_kinds.specs.declared.kinds.SyntaxKind.TheVariants.{TOKEN_ADD}
-use Rattle.rnix_kinds.specs.declared.kinds.TheConstants.{ALL}
-use Rattle.rnix_kinds.specs.SyntaxKind.{name_of, kind_count, place_of}
+use Rattle.std.{proofs.lemmas.{Option.slice_get_cases, Bool.{Decides.nat_tests, and_parts}}, specs.Prelude.{if◌then◌else◌, nat_lt, ◌==◌, ◌&&◌, slice_get}}
+use Rattle.{std.specs.{Prelude.{Option, Some, None, IfSome, IfNone}, List.{All, list_all}}, rnix_kinds.specs.declared.kinds.SyntaxKind.SyntaxKind}
+use Rattle.rnix_kinds.specs.{declared.kinds.{SyntaxKind.TheVariants.TOKEN_ADD, TheConstants.ALL}, SyntaxKind.{name_of, kind_count, place_of}}
 
 -- all kinds, in the order of their declaration
 abbrev pub all_kinds : List SyntaxKind

@@ -1,25 +1,14 @@
 -- Sets of kinds, and the numbers that they are kept as.
-use Rattle.std.proofs.Common.{true, false, Bool, ◌≡◌, inl, inr, ℕ, zero, suc, ◌*◌, ◌^◌, ◌%◌, ◌<◌, max, refl, ap, sym, ◌∙◌, arith, bit_and, bit_or, List, [], ◌∷◌, ◌++◌}
-use Rattle.std.specs.Prelude.{nat_eq, not, ◌==◌, ◌||◌, ◌&&◌}
-use Rattle.std.specs.Int.{bit_at}
-use Rattle.std.specs.Bool.{Decides}
-use Rattle.std.specs.List.{Contains, list_any}
-use Rattle.std.specs.Ordering.{eq_by_cmp}
-use Rattle.std.specs.Cmp.{eq_by_cmp_equiv}
-use Rattle.std.specs.FinSet.{contains, union, insert, empty, IsAntisymmetric, nat_cmp-IsAntisymmetric, same_set, contains-from_list, contains-insert, contains-union, contains-empty, from_list_push}
-use Rattle.std.proofs.lemmas.Map.Views.{Contains-from_any, list_any-from_Contains}
-use Rattle.std.proofs.lemmas.Nat.{pow_pos}
-use Rattle.std.proofs.Math.Pow.{pow-lt}
-use Rattle.std.proofs.lemmas.Nat.Bits.{and_pow, bit_at-lt, bit_at_or, bit_at-zero, bit_at-pow_same, bit_at-pow_other}
-use Rattle.std.proofs.lemmas.Bool.Decides.{eqb_tells, Decides-eqb, Decides-like}
-use Rattle.rnix_kinds.specs.declared.kinds.SyntaxKind.{SyntaxKind}
-use Rattle.rnix_kinds.specs.declared.kinds.TheConstants.{ALL}
-use Rattle.rnix_kinds.specs.contracts.kinds.SyntaxKind.{the_type}
-use denote.Enum.Declared.{tag_of}
-use Rattle.rnix_kinds.specs.SyntaxKind.{kind_count, place_of}
-use Rattle.rnix_kinds.specs.TokenSet.{kind_cmp, KindSet, set_of}
-use Rattle.rnix_kinds.specs.KindNumbers.{as_bit, kinds_of, number_of, same_number, kind_cmp_total, tied_in_place, contains-set_of, contains-kinds_of, bit_at-number_of}
+use Rattle.std.proofs.Common.{true, false, Bool, ◌≡◌, inl, inr, ℕ, zero, suc, ◌*◌, ◌^◌, ◌%◌, ◌<◌, max, refl, ap, sym, ◌∙◌, arith, bit_and, bit_or, List, []}
+use Rattle.std.proofs.{Common.{◌∷◌, ◌++◌}, lemmas.{Map.Views.{Contains-from_any, list_any-from_Contains}, Nat.{pow_pos, Bits.{and_pow, bit_at-lt, bit_at_or}}}}
+use Rattle.std.proofs.{lemmas.{Nat.Bits.{bit_at-zero, bit_at-pow_same, bit_at-pow_other}, Bool.Decides.{eqb_tells, Decides-eqb, Decides-like}}, Math.Pow.pow-lt}
+use Rattle.std.specs.{Prelude.{nat_eq, not, ◌==◌, ◌||◌, ◌&&◌}, Int.bit_at, Bool.Decides, List.{Contains, list_any}, Ordering.eq_by_cmp, Cmp.eq_by_cmp_equiv}
+use Rattle.std.specs.FinSet.{contains, union, insert, empty, IsAntisymmetric, nat_cmp-IsAntisymmetric, same_set, contains-from_list, contains-insert}
+use Rattle.{std.specs.FinSet.{contains-union, contains-empty, from_list_push}, rnix_kinds.specs.declared.kinds.{SyntaxKind.SyntaxKind, TheConstants.ALL}}
+use Rattle.rnix_kinds.specs.{contracts.kinds.SyntaxKind.the_type, SyntaxKind.{kind_count, place_of}, TokenSet.{kind_cmp, KindSet, set_of}, KindNumbers.as_bit}
+use Rattle.rnix_kinds.specs.KindNumbers.{kinds_of, number_of, same_number, kind_cmp_total, tied_in_place, contains-set_of, contains-kinds_of, bit_at-number_of}
 use Rattle.rnix_kinds.proofs.AllKinds.{every, place_in_range, kind_at_place, same_place}
+use denote.Enum.Declared.{tag_of}
 
 -- two kinds that tie are one
 pub kind_cmp_same : IsAntisymmetric kind_cmp

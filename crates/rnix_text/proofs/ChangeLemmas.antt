@@ -1,11 +1,7 @@
 -- Changes in order: what stands around a place among them, and another one that is put there.
 use Rattle.std.proofs.Common.{◌≡◌, ℕ, zero, suc, ◌≤◌, ◌<◌, nat_le, List, [], ◌∷◌, ◌++◌, length, map, get_or, Bool, true, false, refl, ap, sym, subst, arith}
-use Rattle.std.specs.List.{All, insert}
-use Rattle.std.specs.List.Sorted.{IsPartitionedBy, IsPartitionPoint}
-use Rattle.std.proofs.lemmas.Bool.Decides.{nat_tests}
-use Rattle.rnix_text.specs.declared.edits.Edit.{Edit}
-use Rattle.rnix_text.specs.Edit.{change_of}
-use Rattle.rnix_text.specs.Changes.{Change, AreAscending, AreInOrder, IsBetween, Overlaps, IsAdded, IsMet}
+use Rattle.std.{proofs.lemmas.Bool.Decides.nat_tests, specs.List.{All, insert, Sorted.{IsPartitionedBy, IsPartitionPoint}}}
+use Rattle.rnix_text.specs.{declared.edits.Edit.Edit, Edit.change_of, Changes.{Change, AreAscending, AreInOrder, IsBetween, Overlaps, IsAdded, IsMet}}
 
 none : {X : Type 0} (P : X → Type 0) → All P []
 none P k d l = absurd (omega (arith, l))

@@ -1,11 +1,8 @@
 -- Marks that pass a test which, where it passes behind a byte, passes in front of it.
-use Rattle.std.proofs.Common.{◌≡◌, ℕ, zero, suc, ◌-◌, ◌≤◌, ◌<◌, ◌⊎◌, inl, inr, List, [], ◌∷◌, length, get_or, Bool, true, false, refl, ap, sym, ◌∙◌, subst, arith}
-use Rattle.std.specs.Prelude.{if◌then◌else◌}
-use Rattle.std.specs.List.Sorted.{IsPartitionedBy, IsPartitionPoint}
-use Rattle.std.proofs.lemmas.Bool.{false_from_ne_true, both_ways}
-use Rattle.rnix_text.specs.declared.mark.ColumnUnit.{ColumnUnit}
-use Rattle.rnix_text.specs.declared.mark.Mark.{Mark}
-use Rattle.rnix_text.specs.Marks.{is_plain, first_mark, mark_behind, marks_behind, marks_of, last_of}
+use Rattle.std.proofs.Common.{◌≡◌, ℕ, zero, suc, ◌-◌, ◌≤◌, ◌<◌, ◌⊎◌, inl, inr, List, [], ◌∷◌, length, get_or, Bool, true, false, refl, ap, sym, ◌∙◌, subst}
+use Rattle.std.{proofs.{Common.arith, lemmas.Bool.{false_from_ne_true, both_ways}}, specs.{Prelude.if◌then◌else◌, List.Sorted.IsPartitionedBy}}
+use Rattle.{std.specs.List.Sorted.IsPartitionPoint, rnix_text.specs.{declared.mark.{ColumnUnit.ColumnUnit, Mark.Mark}, Marks.{is_plain, first_mark}}}
+use Rattle.rnix_text.specs.Marks.{mark_behind, marks_behind, marks_of, last_of}
 
 found : (test : Mark → Bool) (xs : List Mark) (m : Mark) (r : ℕ) (d : Mark) → test m ≡ true → r ≤ length (m ∷ xs)
     → IsPartitionPoint (λ y. test y ≡ true) (λ y. test y ≡ false) (m ∷ xs) r → (0 < r) × (get_or (m ∷ xs) (r - 1) d ≡ last_of test m xs)

@@ -1,14 +1,8 @@
 -- Where single bytes lead.
 use Rattle.std.proofs.Common.{◌≡◌, ℕ, suc, ◌+◌, ◌*◌, ◌≤◌, ◌==◌, not, List, [], ◌∷◌, length, fold, Bool, true, false, refl, ap, ◌∙◌, arith}
-use Rattle.std.specs.Prelude.{if◌then◌else◌}
-use Rattle.std.proofs.lemmas.Bool.{eqb-true, not-true, and_parts}
-use Rattle.std.proofs.lemmas.Bool.Decides.{nat_tests}
-use Rattle.rnix_text.specs.declared.mark.ColumnUnit.{ColumnUnit}
-use Rattle.rnix_text.specs.declared.mark.ColumnUnit.TheVariants.{Bytes, Chars, Utf16}
-use Rattle.rnix_text.specs.declared.mark.Position.{Position}
-use Rattle.rnix_text.specs.declared.mark.Mark.{Mark}
-use Rattle.rnix_text.specs.Positions.{newline, weight, step}
-use Rattle.rnix_text.specs.Marks.{is_plain, is_up_to}
+use Rattle.std.{proofs.lemmas.Bool.{eqb-true, not-true, and_parts, Decides.nat_tests}, specs.Prelude.if◌then◌else◌}
+use Rattle.rnix_text.specs.{declared.mark.{ColumnUnit.{ColumnUnit, TheVariants.{Bytes, Chars, Utf16}}, Position.Position, Mark.Mark}, Positions.newline}
+use Rattle.rnix_text.specs.{Positions.{weight, step}, Marks.{is_plain, is_up_to}}
 
 -- a position is another one or in front of it
 pub record IsUpTo (p q : Position) : Type 0 where

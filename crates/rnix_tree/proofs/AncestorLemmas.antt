@@ -1,13 +1,8 @@
 -- The nodes around an element.
 use Rattle.std.proofs.Common.{◌≡◌, ℕ, zero, suc, ◌+◌, ◌-◌, ◌≤◌, ◌<◌, [], ◌∷◌, length, Option, Some, None, refl, ap, sym, ◌∙◌, arith, inl, inr}
-use Rattle.std.proofs.lemmas.Bool.{cases_lt}
-use Rattle.std.proofs.lemmas.Option.{same_Some}
-use Rattle.std.specs.Prelude.{if◌then◌else◌}
-use Rattle.rnix_green.specs.Tree.{Tree, Located, items_of, item}
-use Rattle.rnix_green.specs.Walk.{holders, ancestors_of, counted}
-use Rattle.rnix_tree.specs.Around.{ancestors_if}
-use Rattle.rnix_green.proofs.NumberTests.{is_below, is_not_below}
-use Rattle.rnix_green.proofs.InsideLemmas.{held, ends_inside, below_parent, has_parent}
+use Rattle.{std.{proofs.lemmas.{Bool.cases_lt, Option.same_Some}, specs.Prelude.if◌then◌else◌}, rnix_green.specs.Tree.{Tree, Located, items_of, item}}
+use Rattle.rnix_green.{specs.Walk.{holders, ancestors_of, counted}, proofs.{NumberTests.{is_below, is_not_below}, InsideLemmas.{held, ends_inside}}}
+use Rattle.{rnix_green.proofs.InsideLemmas.{below_parent, has_parent}, rnix_tree.specs.Around.ancestors_if}
 
 -- one number more
 pub counted_more : (n end : ℕ) → n < end → counted n (end - n) ≡ n ∷ counted (n + 1) (end - (n + 1))

@@ -1,12 +1,8 @@
 -- Behind what a call along siblings or tokens answers there are fewer elements than behind the element that it was asked of, or before it fewer than before that.
-use Rattle.std.proofs.Common.{◌≡◌, ℕ, suc, ◌+◌, ◌-◌, ◌≤◌, ◌<◌, length, Option, Some, None, refl, ap, arith, inl, inr}
-use Rattle.std.proofs.lemmas.Bool.{cases_lt}
-use Rattle.std.proofs.lemmas.List.{get_or_past}
-use Rattle.rnix_green.specs.Tree.{Located, items_of, item_of, no_item}
-use Rattle.rnix_green.specs.Relatives.{located, parent_of, IsFirst, IsLast, IsThat, IsTokenIn, IsChild, IsChildNode, IsSibling, IsSiblingNode}
-use Rattle.rnix_green.specs.Relatives.{IsNextSibling, IsPrevSibling, IsNextSiblingNode, IsPrevSiblingNode, IsNextToken, IsPrevToken}
-use Rattle.rnix_green.specs.Relatives.{IsFirstChild, IsFirstChildNode, IsLastChild, IsLastChildNode}
-use Rattle.rnix_green.proofs.ParentLemmas.{parent_is_before}
+use Rattle.std.proofs.{Common.{◌≡◌, ℕ, ◌≤◌, ◌<◌, length, Option, Some, None, refl, ap, arith, inl, inr}, lemmas.{Bool.cases_lt, List.get_or_past}}
+use Rattle.rnix_green.specs.{Tree.{Located, items_of, item_of, no_item}, Relatives.{located, parent_of, IsFirst, IsLast, IsThat, IsTokenIn, IsChild}}
+use Rattle.rnix_green.specs.Relatives.{IsChildNode, IsSibling, IsSiblingNode, IsNextSibling, IsPrevSibling, IsNextSiblingNode, IsPrevSiblingNode, IsNextToken}
+use Rattle.rnix_green.{specs.Relatives.{IsPrevToken, IsFirstChild, IsFirstChildNode, IsLastChild, IsLastChildNode}, proofs.ParentLemmas.parent_is_before}
 use Rattle.rnix_tree.specs.Chains.{behind_count, before_count, behind_if, before_if}
 
 -- the first element behind e of which P holds, where P holds of elements of the tree

@@ -1,10 +1,7 @@
 -- The innermost element that a range lies in.
-use Rattle.std.proofs.Common.{◌≡◌, ℕ, ◌+◌, ◌≤◌, ◌<◌, [], length, find, true, false, Some, None, refl, ap, sym, ◌∙◌, arith}
-use Rattle.rnix_green.specs.Range.{Extent}
-use Rattle.rnix_green.specs.Tree.{Located, items_of, item_of, extent_of}
-use Rattle.rnix_green.specs.Walk.{Spot, children_of}
-use Rattle.rnix_tree.specs.Covering.{holds, holds_at, child_at_range, IsInnermost}
-use Rattle.rnix_tree.proofs.ChildLemmas.{IsHeldBy, found, children_within, token_childless}
+use Rattle.{std.proofs.Common.{◌≡◌, ◌+◌, ◌≤◌, ◌<◌, length, find, true, false, Some, None, refl, ap, ◌∙◌, arith}, rnix_green.specs.{Range.Extent, Tree.Located}}
+use Rattle.{rnix_green.specs.{Tree.{items_of, item_of, extent_of}, Walk.{Spot, children_of}}, rnix_tree.specs.Covering.{holds, holds_at, child_at_range}}
+use Rattle.rnix_tree.{specs.Covering.IsInnermost, proofs.ChildLemmas.{IsHeldBy, found, children_within, token_childless}}
 
 -- c is e or inside it, and the range lies in c
 pub record IsReached (range : Extent) (e c : Located) : Type 0 where

@@ -1,15 +1,8 @@
 -- The start of a long text is shown up to a character's end.
-use Rattle.std.proofs.Common.{◌≡◌, ℕ, ◌≤◌, ◌<◌, ◌+◌, Bool, true, false, List, [], ◌∷◌, ◌++◌, length, take, codes, get_or, Option, Some, None, refl, ap, sym, subst, ◌∙◌, arith, inl, inr}
-use Rattle.std.specs.Prelude.{if◌then◌else◌}
-use Rattle.std.specs.Char.{is_ascii}
-use Rattle.std.specs.Fmt.{debug_str, debug_escape}
-use Rattle.std.specs.List.{list_all, flat_map}
-use Rattle.std.specs.Str.{IsCharBoundary, IsUtf8}
-use Rattle.std.proofs.lemmas.Bool.{cases_lt, and_parts}
-use Rattle.std.proofs.lemmas.Bool.Decides.{nat_tests}
-use Rattle.std.proofs.lemmas.List.Folds.{list_all-append, list_all_more}
-use Rattle.std.proofs.lemmas.Str.{IsCharBoundary-after_ascii}
-use Rattle.rnix_green.proofs.NumberTests.{is_not_below}
+use Rattle.std.proofs.Common.{◌≡◌, ℕ, ◌≤◌, ◌<◌, ◌+◌, Bool, true, false, List, [], ◌∷◌, ◌++◌, length, take, codes, get_or, Option, Some, None, refl, ap, sym}
+use Rattle.std.proofs.{Common.{subst, ◌∙◌, arith, inl, inr}, lemmas.{Bool.{cases_lt, and_parts, Decides.nat_tests}, List.Folds.list_all-append}}
+use Rattle.std.{proofs.lemmas.{List.Folds.list_all_more, Str.IsCharBoundary-after_ascii}, specs.{Prelude.if◌then◌else◌, Char.is_ascii, Fmt.debug_str}}
+use Rattle.{std.specs.{Fmt.debug_escape, List.{list_all, flat_map}, Str.{IsCharBoundary, IsUtf8}}, rnix_green.proofs.NumberTests.is_not_below}
 use Rattle.rnix_tree.specs.Lines.{shown}
 
 -- the byte behind which a text of ASCII is cut is a character's end

@@ -1,7 +1,6 @@
 -- The digits of a number, two at a time.
 use Rattle.std.proofs.Common.{◌≡◌, ℕ, ◌+◌, ◌/◌, ◌%◌, ◌^◌, ◌<◌, ◌≤◌, List, [], ◌∷◌, ◌++◌, length, ap, ◌∙◌, arith, append_assoc, length-append}
-use Rattle.std.proofs.lemmas.Fmt.{decimal_digit, decimal_step}
-use Rattle.std.specs.Fmt.{decimal}
+use Rattle.std.{proofs.lemmas.Fmt.{decimal_digit, decimal_step}, specs.Fmt.decimal}
 
 -- two digits
 abbrev pub pair : ℕ → List ℕ

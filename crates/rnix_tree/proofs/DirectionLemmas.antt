@@ -1,19 +1,10 @@
 -- Walks along siblings.
-use Rattle.std.proofs.Common.{◌≡◌, ℕ, zero, suc, ◌+◌, ◌-◌, ◌==◌, ◌≤◌, ◌<◌, [], ◌∷◌, length, map, Bool, true, false, Option, Some, None, refl, ap, sym, ◌∙◌, arith, inl, inr}
-use Rattle.std.specs.Prelude.{filter, cond}
-use Rattle.std.proofs.lemmas.Bool.{cases_lt}
-use Rattle.std.proofs.lemmas.Bool.Decides.{nat_tests}
-use Rattle.std.proofs.lemmas.List.{length-map}
-use Rattle.std.proofs.lemmas.List.Sums.{length-filter, count_by-le-length}
-use Rattle.rnix_green.specs.Tree.{Tree, Located, items_of, item, item_of}
-use Rattle.rnix_green.specs.Walk.{spot_at, counted}
-use Rattle.rnix_green.specs.Relatives.{IsFirst, IsLast, IsSibling}
-use Rattle.rnix_tree.specs.Siblings.{same_parent, is_beside, numbers_below, siblings_of, siblings_if, index_of, IsBeside}
-use Rattle.rnix_tree.specs.declared.siblings.Direction.{Direction}
-use Rattle.rnix_tree.specs.declared.siblings.Direction.TheVariants.{Next, Prev}
-use Rattle.rnix_green.proofs.NumberTests.{is_same}
-use Rattle.rnix_tree.proofs.CountLemmas.{counted-many}
-use Rattle.rnix_tree.proofs.AncestorLemmas.{counted_more}
+use Rattle.std.proofs.Common.{◌≡◌, ℕ, zero, suc, ◌+◌, ◌-◌, ◌≤◌, ◌<◌, [], ◌∷◌, length, map, Bool, true, false, Option, Some, None, refl, ap, sym, ◌∙◌, arith}
+use Rattle.std.proofs.{Common.{inl, inr}, lemmas.{Bool.{cases_lt, Decides.nat_tests}, List.{length-map, Sums.{length-filter, count_by-le-length}}}}
+use Rattle.{std.specs.Prelude.{filter, cond}, rnix_green.specs.{Tree.{Tree, Located, items_of, item, item_of}, Walk.{spot_at, counted}, Relatives.IsFirst}}
+use Rattle.{rnix_green.{specs.Relatives.{IsLast, IsSibling}, proofs.NumberTests.is_same}, rnix_tree.specs.Siblings.{same_parent, is_beside, numbers_below}}
+use Rattle.rnix_tree.specs.{Siblings.{siblings_of, siblings_if, index_of, IsBeside}, declared.siblings.Direction.{Direction, TheVariants.{Next, Prev}}}
+use Rattle.rnix_tree.proofs.{CountLemmas.counted-many, AncestorLemmas.counted_more}
 
 -- equal parents pass the test, and others fail it
 same_passes : (p q : Option ℕ) → p ≡ q → same_parent p q ≡ true

@@ -1,22 +1,12 @@
 -- What the walk over an element prints is its lines.
-use Rattle.std.proofs.Common.{◌≡◌, ℕ, ◌+◌, ◌-◌, ◌≤◌, ◌<◌, ◌^◌, nat_lt, true≢false, List, [], ◌∷◌, ◌++◌, length, map, get_or, true, false, Option, Some, None, refl, ap, sym, subst, ◌∙◌, arith, inl, inr, append_assoc, append-nil}
-use Rattle.std.specs.Prelude.{if◌then◌else◌}
-use Rattle.std.proofs.lemmas.Bool.{cases_lt}
-use Rattle.std.proofs.lemmas.List.{map-append}
-use Rattle.rnix_kinds.specs.declared.kinds.SyntaxKind.{SyntaxKind}
-use Rattle.rnix_green.specs.Forest.{Forest, empty, leaf, node, text_of, element_count}
-use Rattle.rnix_green.specs.Tree.{Tree, Item, Located, items_from, items_of, no_item, item, item_of, extent_of, forest_of, part_of, part_at}
-use Rattle.rnix_green.specs.Walk.{Event, steps_from, event_at, preorder_of}
-use Rattle.rnix_tree.specs.Spots.{event_of, spot_of, place_of}
-use Rattle.rnix_tree.specs.declared.element.NodeOrToken.{NodeOrToken}
-use Rattle.rnix_tree.specs.declared.element.NodeOrToken.TheVariants.{Node, Token}
-use Rattle.rnix_tree.specs.declared.element.WalkEvent.{WalkEvent}
-use Rattle.rnix_tree.specs.declared.element.WalkEvent.TheVariants.{Enter}
-use Rattle.rnix_green.proofs.NumberTests.{is_above, is_not_below}
-use Rattle.rnix_green.proofs.PartLemmas.{IsPart, IsOne, one_leaf, one_node, part_there, one_there, item_of_part}
-use Rattle.rnix_green.proofs.PieceLemmas.{length-items_from}
-use Rattle.rnix_tree.specs.Lines.{line_of, lines_from, lines_of}
-use Rattle.rnix_tree.specs.Walked.{event_lines, entered_in, IsNested}
+use Rattle.std.proofs.Common.{◌≡◌, ℕ, ◌+◌, ◌-◌, ◌≤◌, ◌<◌, ◌^◌, nat_lt, true≢false, List, [], ◌∷◌, ◌++◌, length, map, get_or, true, false, Option, Some, None}
+use Rattle.std.proofs.{Common.{refl, ap, sym, subst, ◌∙◌, arith, inl, inr, append_assoc, append-nil}, lemmas.{Bool.cases_lt, List.map-append}}
+use Rattle.{std.specs.Prelude.if◌then◌else◌, rnix_kinds.specs.declared.kinds.SyntaxKind.SyntaxKind, rnix_green.specs.Forest.{Forest, empty, leaf, node}}
+use Rattle.rnix_green.specs.{Forest.{text_of, element_count}, Tree.{Tree, Item, Located, items_from, items_of, no_item, item, item_of, extent_of, forest_of}}
+use Rattle.rnix_green.{specs.{Tree.{part_of, part_at}, Walk.{Event, steps_from, event_at, preorder_of}}, proofs.NumberTests.{is_above, is_not_below}}
+use Rattle.rnix_green.proofs.{PartLemmas.{IsPart, IsOne, one_leaf, one_node, part_there, one_there, item_of_part}, PieceLemmas.length-items_from}
+use Rattle.rnix_tree.specs.{Spots.{event_of, spot_of, place_of}, declared.element.{NodeOrToken.{NodeOrToken, TheVariants.{Node, Token}}, WalkEvent.WalkEvent}}
+use Rattle.rnix_tree.specs.{declared.element.WalkEvent.TheVariants.Enter, Lines.{line_of, lines_from, lines_of}, Walked.{event_lines, entered_in, IsNested}}
 use Rattle.rnix_tree.proofs.StandingItems.{Stands, first_item, front_stands, back_stands}
 
 -- what an element's events print, around those of what is inside it

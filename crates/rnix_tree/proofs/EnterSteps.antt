@@ -1,14 +1,10 @@
 -- What comes after an element is entered, in a walk over a row.
 use Rattle.std.proofs.Common.{◌≡◌, ℕ, ◌+◌, ◌-◌, ◌≤◌, ◌<◌, nat_lt, ◌∷◌, ◌++◌, length, true, false, Option, Some, refl, ap, sym, ◌∙◌, subst, arith, inl, inr}
-use Rattle.std.specs.Prelude.{if◌then◌else◌}
-use Rattle.std.proofs.lemmas.Bool.{cases_lt}
-use Rattle.rnix_green.specs.Forest.{Forest, empty, leaf, node, text_of, element_count}
-use Rattle.rnix_green.specs.Tree.{Item}
-use Rattle.rnix_green.specs.Walk.{steps_from}
-use Rattle.rnix_tree.specs.Cursor.{from_enter, from_leave}
-use Rattle.rnix_green.proofs.NumberTests.{below_true, below_false, same_choice}
-use Rattle.rnix_green.proofs.SiblingLemmas.{below_fits}
-use Rattle.rnix_tree.proofs.WalkRows.{at, at_inside, at_behind, at_next, at_first, enter_inside, enter_behind, enter_next, enter_here, leave_inside, leave_behind, leave_next, leave_leaf, leave_node, none_from_count, append_choice, either}
+use Rattle.{std.{proofs.lemmas.Bool.cases_lt, specs.Prelude.if◌then◌else◌}, rnix_green.specs.Forest.{Forest, empty, leaf, node, text_of, element_count}}
+use Rattle.rnix_green.{specs.{Tree.Item, Walk.steps_from}, proofs.{NumberTests.{below_true, below_false, same_choice}, SiblingLemmas.below_fits}}
+use Rattle.rnix_tree.{specs.Cursor.{from_enter, from_leave}, proofs.WalkRows.{at, at_inside, at_behind, at_next, at_first, enter_inside, enter_behind}}
+use Rattle.rnix_tree.proofs.WalkRows.{enter_next, enter_here, leave_inside, leave_behind, leave_next, leave_leaf, leave_node, none_from_count, append_choice}
+use Rattle.rnix_tree.proofs.WalkRows.{either}
 
 -- what comes after an element is entered: it is left if nothing is inside it, or else what is inside it is entered
 pub enter_step : (n s : ℕ) (p : Option ℕ) (f : Forest) (m : ℕ) → n ≤ m → m < n + element_count f

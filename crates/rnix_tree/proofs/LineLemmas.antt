@@ -1,11 +1,7 @@
 -- Lines that are printed one after another.
-use Rattle.std.proofs.Common.{◌≡◌, ℕ, zero, suc, ◌+◌, ◌-◌, ◌*◌, ◌≤◌, ◌<◌, List, ◌∷◌, ◌++◌, [], take, drop, set, length, refl, ap, sym, ◌∙◌, codes, subst, Option, arith, ◌^◌, append_assoc}
-use Rattle.std.proofs.KnownBytes.{Appends-trans}
-use Rattle.std.proofs.lemmas.List.{drop-set, length-set, length-drop, take_all}
-use Rattle.std.proofs.lemmas.Fmt.{length-decimal-le}
-use Rattle.std.specs.Prelude.{decimal}
-use Rattle.std.specs.Io.KnownBytes.{Appends}
-use Rattle.rnix_tree.specs.Lines.{indent}
+use Rattle.std.proofs.Common.{◌≡◌, ℕ, zero, suc, ◌+◌, ◌-◌, ◌*◌, ◌≤◌, ◌<◌, List, ◌∷◌, ◌++◌, [], take, drop, set, length, refl, ap, sym, ◌∙◌, codes, subst}
+use Rattle.std.proofs.{Common.{Option, arith, ◌^◌, append_assoc}, KnownBytes.Appends-trans, lemmas.List.{drop-set, length-set, length-drop, take_all}}
+use Rattle.{std.{proofs.lemmas.Fmt.length-decimal-le, specs.{Prelude.decimal, Io.KnownBytes.Appends}}, rnix_tree.specs.Lines.indent}
 
 -- the indent of a sum is both indents
 pub indent_sum : (m n : ℕ) → indent (m + n) ≡ indent m ++ indent n

@@ -1,8 +1,6 @@
 -- Lists by their first element.
 use Rattle.std.proofs.Common.{◌≡◌, ◌≤◌, Bool, true, false, List, [], ◌∷◌, length, filter, find, Option, Some, None, option_map, refl, ap, sym, ◌∙◌, arith}
-use Rattle.std.specs.Iterator.{YieldsFirstBy}
-use Rattle.std.specs.Prelude.{cond, slice_get}
-use Rattle.std.proofs.lemmas.List.Sums.{length-filter, count_by-le-length}
+use Rattle.std.{proofs.lemmas.List.Sums.{length-filter, count_by-le-length}, specs.{Iterator.YieldsFirstBy, Prelude.{cond, slice_get}}}
 
 -- lists with the same first element and the same rest
 pub cons_same : {X : Type 0} {x y : X} {xs ys : List X} → x ≡ y → xs ≡ ys → x ∷ xs ≡ y ∷ ys

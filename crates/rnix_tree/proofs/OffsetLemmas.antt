@@ -1,12 +1,8 @@
 -- Which tokens stand at an offset.
-use Rattle.std.proofs.Common.{get_or, ◌≡◌, ℕ, ◌+◌, ◌-◌, ◌≤◌, ◌<◌, ◌⊎◌, length, Some, None, false, ap, sym, subst, ◌∙◌, arith, inl, inr}
-use Rattle.std.proofs.lemmas.Bool.{cases_lt}
-use Rattle.rnix_green.specs.Tree.{Tree, Item, items_from, items_of, item, no_item, forest_of}
-use Rattle.rnix_green.specs.Relatives.{IsNodeIn, IsTokenInside}
-use Rattle.rnix_tree.specs.Offset.{IsTouched, IsHolding}
-use Rattle.rnix_green.proofs.SiblingLemmas.{next_inside}
-use Rattle.rnix_green.proofs.InsideLemmas.{inner_of, elements_in_all, leaf_holds_nothing}
-use Rattle.rnix_green.proofs.StartLemmas.{in_order, in_text, has_left}
+use Rattle.std.proofs.{Common.{get_or, ◌≡◌, ℕ, ◌+◌, ◌-◌, ◌≤◌, ◌<◌, ◌⊎◌, length, Some, None, false, ap, sym, subst, ◌∙◌, arith, inl, inr}, lemmas.Bool.cases_lt}
+use Rattle.rnix_green.specs.{Tree.{Tree, Item, items_from, items_of, item, no_item, forest_of}, Relatives.{IsNodeIn, IsTokenInside}}
+use Rattle.rnix_green.proofs.{SiblingLemmas.next_inside, InsideLemmas.{inner_of, elements_in_all, leaf_holds_nothing}, StartLemmas.{in_order, in_text}}
+use Rattle.{rnix_green.proofs.StartLemmas.has_left, rnix_tree.specs.Offset.{IsTouched, IsHolding}}
 
 -- an element before another in preorder
 order : (t : Tree) (i j : ℕ) → i < j → j < length (items_of t) → ((item t i).start ≤ (item t j).start) × (i + (item t i).below < j → (item t i).end ≤ (item t j).start)

@@ -1,11 +1,7 @@
 -- When a tree has the node that a pointer keeps.
-use Rattle.std.proofs.Common.{◌≡◌, ◌<◌, Bool, length, ap, sym, subst}
-use Rattle.std.specs.Prelude.{◌==◌, ◌&&◌}
-use Rattle.std.specs.Bool.{Decides}
-use Rattle.std.proofs.lemmas.Bool.Decides.{Decides-eqb, Decides-like, Decides-and}
-use Rattle.rnix_green.specs.Equality.{same_kind, same_kind-decides}
+use Rattle.std.{proofs.{Common.{◌≡◌, ◌<◌, Bool, length, ap, sym, subst}, lemmas.Bool.Decides.{Decides-eqb, Decides-like, Decides-and}}, specs.Prelude.◌==◌}
+use Rattle.{std.specs.{Prelude.◌&&◌, Bool.Decides}, rnix_green.specs.{Equality.{same_kind, same_kind-decides}, Tree.{Tree, Item, items_of, item}}}
 use Rattle.rnix_tree.specs.Pointer.{Address, fits, HasNode}
-use Rattle.rnix_green.specs.Tree.{Tree, Item, items_of, item}
 
 -- a tree has the node of an address exactly if the element of its number fits
 pub fits-decides : (t : Tree) (a : Address) (r : Bool) → a.number < length (items_of t) → r ≡ fits (item t a.number) a → Decides r (HasNode t a)

@@ -1,19 +1,12 @@
 -- The steps of a walk in preorder.
-use Rattle.std.proofs.Common.{◌≡◌, ℕ, suc, ◌+◌, ◌-◌, ◌≤◌, ◌<◌, nat_lt, List, [], ◌∷◌, length, Bool, true, false, Option, Some, None, refl, ap, sym, ◌∙◌, subst, arith, inl, inr}
-use Rattle.std.specs.Prelude.{if◌then◌else◌}
-use Rattle.std.proofs.lemmas.Bool.{cases_lt}
-use Rattle.rnix_green.specs.Forest.{Forest, empty, leaf, node, element_count}
-use Rattle.rnix_green.specs.Tree.{Tree, items_of, item, part_at}
-use Rattle.rnix_green.specs.Walk.{Step, steps_from}
-use Rattle.rnix_tree.specs.Cursor.{from_enter, from_leave, steps_left, IsInside, IsNextWithin, after_enter, after_leave, behind}
-use Rattle.rnix_tree.specs.declared.walk.Next.{Next}
-use Rattle.rnix_tree.specs.declared.walk.Next.TheVariants.{Enter, Leave, Done}
-use Rattle.rnix_green.proofs.NumberTests.{is_same, is_above, below_true}
-use Rattle.rnix_green.proofs.SiblingLemmas.{below_fits, next_inside}
-use Rattle.rnix_green.proofs.PartLemmas.{IsPart, IsOne, one_leaf, one_node, part_there, one_there, item_of_part, below_of_part}
-use Rattle.rnix_tree.proofs.WalkRows.{at, enter_here, leave_leaf, leave_node}
-use Rattle.rnix_tree.proofs.EnterSteps.{enter_step}
-use Rattle.rnix_tree.proofs.LeaveSteps.{LeavesInside, inside_top, inside_inside, leave_step}
+use Rattle.std.proofs.Common.{◌≡◌, ℕ, suc, ◌+◌, ◌-◌, ◌≤◌, ◌<◌, nat_lt, List, [], ◌∷◌, length, Bool, true, false, Option, Some, None, refl, ap, sym, ◌∙◌, subst}
+use Rattle.{std.{proofs.{Common.{arith, inl, inr}, lemmas.Bool.cases_lt}, specs.Prelude.if◌then◌else◌}, rnix_green.specs.Forest.{Forest, empty, leaf, node}}
+use Rattle.rnix_green.{specs.{Forest.element_count, Tree.{Tree, items_of, item, part_at}, Walk.{Step, steps_from}}, proofs.NumberTests.{is_same, is_above}}
+use Rattle.rnix_green.proofs.{NumberTests.below_true, SiblingLemmas.{below_fits, next_inside}, PartLemmas.{IsPart, IsOne, one_leaf, one_node, part_there}}
+use Rattle.{rnix_green.proofs.PartLemmas.{one_there, item_of_part, below_of_part}, rnix_tree.specs.Cursor.{from_enter, from_leave, steps_left, IsInside}}
+use Rattle.rnix_tree.specs.{Cursor.{IsNextWithin, after_enter, after_leave, behind}, declared.walk.Next.{Next, TheVariants.{Enter, Leave, Done}}}
+use Rattle.rnix_tree.proofs.{WalkRows.{at, enter_here, leave_leaf, leave_node}, EnterSteps.enter_step, LeaveSteps.{LeavesInside, inside_top, inside_inside}}
+use Rattle.rnix_tree.proofs.LeaveSteps.{leave_step}
 
 -- the walk over a whole part
 pub record Goes (t : Tree) (root : ℕ) (here : Next) (step : Step) (next : Next) : Type 0 where

@@ -1,13 +1,9 @@
 -- What stands beside an element and inside it.
 use Rattle.std.proofs.Common.{is_some, ◌≡◌, ℕ, zero, suc, ◌+◌, ◌-◌, ◌≤◌, ◌<◌, length, Option, Some, None, true, false, refl, sym, ◌∙◌, arith, inl, inr}
-use Rattle.std.proofs.lemmas.Bool.{cases_lt}
-use Rattle.std.proofs.lemmas.Option.{same_Some}
-use Rattle.rnix_green.specs.Tree.{Tree, items_of, item}
-use Rattle.rnix_green.specs.Relatives.{located, IsFirst, IsLast, IsChild, IsSibling, IsNodeIn, IsSiblingNode}
+use Rattle.{std.proofs.lemmas.{Bool.cases_lt, Option.same_Some}, rnix_green.specs.{Tree.{Tree, items_of, item}, Relatives.{located, IsFirst, IsLast, IsChild}}}
+use Rattle.rnix_green.{specs.Relatives.{IsSibling, IsNodeIn, IsSiblingNode}, proofs.{SiblingLemmas.next_inside, ParentLemmas.parent_is_node}}
+use Rattle.rnix_green.proofs.{ParentLemmas.parent_is_before, InsideLemmas.{held, ends_inside, first_child_of, below_parent, sibling_behind, has_parent}}
 use Rattle.rnix_tree.specs.Around.{IsNodeIfAny, IsOnWayTo, FirstNodeFrom, LastNodeFrom}
-use Rattle.rnix_green.proofs.SiblingLemmas.{next_inside}
-use Rattle.rnix_green.proofs.ParentLemmas.{parent_is_node, parent_is_before}
-use Rattle.rnix_green.proofs.InsideLemmas.{held, ends_inside, first_child_of, below_parent, sibling_behind, has_parent}
 
 -- an element inside another has another parent than it has
 pub not_beside : (t : Tree) (n p m : ℕ) → n < length (items_of t) → (item t n).parent ≡ Some p → n < m → m ≤ n + (item t n).below → (item t m).parent ≡ Some p → ⊥

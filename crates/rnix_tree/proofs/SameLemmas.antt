@@ -1,9 +1,6 @@
 -- Elements of equal trees.
-use Rattle.std.proofs.Common.{◌≡◌, ℕ, Bool, ap}
-use Rattle.std.specs.Bool.{Decides}
-use Rattle.std.proofs.lemmas.Bool.Decides.{Decides-like, same_from_decides}
-use Rattle.rnix_tree.specs.Same.{same_located, same_located-decides}
-use Rattle.rnix_green.specs.Tree.{Tree, Located}
+use Rattle.std.{proofs.{Common.{◌≡◌, ℕ, Bool, ap}, lemmas.Bool.Decides.{Decides-like, same_from_decides}}, specs.Bool.Decides}
+use Rattle.{rnix_tree.specs.Same.{same_located, same_located-decides}, rnix_green.specs.Tree.{Tree, Located}}
 
 -- elements of one number are equal where their trees are
 pub same_where : (t u : Tree) (n m : ℕ) (r : Bool) → Decides r (t ≡ u) → n ≡ m → r ≡ same_located record { tree = t; number = n } record { tree = u; number = m }

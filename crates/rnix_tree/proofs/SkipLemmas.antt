@@ -1,19 +1,13 @@
 -- Passing over what is left inside an element, in a walk.
-use Rattle.std.proofs.Common.{◌≡◌, ℕ, zero, suc, ◌+◌, ◌-◌, ◌≤◌, ◌<◌, List, [], ◌∷◌, ◌++◌, length, map, Bool, true, false, Option, Some, None, refl, ap, sym, ◌∙◌, subst, arith, ◌⊎◌, inl, inr, append_assoc}
-use Rattle.std.proofs.lemmas.Bool.{cases_lt}
-use Rattle.std.proofs.lemmas.List.{append-nil}
-use Rattle.std.specs.Prelude.{if◌then◌else◌}
-use Rattle.rnix_kinds.specs.declared.kinds.SyntaxKind.{SyntaxKind}
-use Rattle.rnix_green.specs.Forest.{Forest, empty, leaf, node, text_of, element_count}
-use Rattle.rnix_green.specs.Tree.{Tree, items_of, item, part_at}
-use Rattle.rnix_green.specs.Walk.{Step, Spot, Event, steps_from, event_at, from_leaving, node_events}
-use Rattle.rnix_tree.specs.Cursor.{from_enter, from_leave, steps_left, events_left, IsInside, IsNextWithin, around, after_skip}
-use Rattle.rnix_tree.specs.declared.walk.Next.{Next}
-use Rattle.rnix_tree.specs.declared.walk.Next.TheVariants.{Enter, Leave, Done}
-use Rattle.rnix_green.proofs.NumberTests.{is_same, is_above}
-use Rattle.rnix_green.proofs.PartLemmas.{IsPart, IsOne, one_leaf, one_node, part_there, one_there, item_of_part, below_of_part}
-use Rattle.rnix_tree.proofs.WalkRows.{at, at_inside, at_behind, at_next, at_first, enter_inside, enter_behind, enter_next, enter_here, leave_inside, leave_behind, leave_next, leave_node}
-use Rattle.rnix_tree.proofs.PreorderLemmas.{Goes, leaves, whole_walk}
+use Rattle.std.proofs.Common.{◌≡◌, ℕ, zero, suc, ◌+◌, ◌-◌, ◌≤◌, ◌<◌, List, [], ◌∷◌, ◌++◌, length, map, Bool, true, false, Option, Some, None, refl, ap, sym}
+use Rattle.std.{proofs.{Common.{◌∙◌, subst, arith, ◌⊎◌, inl, inr, append_assoc}, lemmas.{Bool.cases_lt, List.append-nil}}, specs.Prelude.if◌then◌else◌}
+use Rattle.{rnix_kinds.specs.declared.kinds.SyntaxKind.SyntaxKind, rnix_green.specs.{Forest.{Forest, empty, leaf, node, text_of, element_count}, Tree.Tree}}
+use Rattle.rnix_green.specs.{Tree.{items_of, item, part_at}, Walk.{Step, Spot, Event, steps_from, event_at, from_leaving, node_events}}
+use Rattle.rnix_green.proofs.{NumberTests.{is_same, is_above}, PartLemmas.{IsPart, IsOne, one_leaf, one_node, part_there, one_there, item_of_part}}
+use Rattle.{rnix_green.proofs.PartLemmas.below_of_part, rnix_tree.specs.Cursor.{from_enter, from_leave, steps_left, events_left, IsInside, IsNextWithin}}
+use Rattle.rnix_tree.{specs.{Cursor.{around, after_skip}, declared.walk.Next.{Next, TheVariants.{Enter, Leave, Done}}}, proofs.WalkRows.{at, at_inside}}
+use Rattle.rnix_tree.proofs.WalkRows.{at_behind, at_next, at_first, enter_inside, enter_behind, enter_next, enter_here, leave_inside, leave_behind, leave_next}
+use Rattle.rnix_tree.proofs.{WalkRows.leave_node, PreorderLemmas.{leaves, whole_walk}}
 
 -- the steps of a row leave as many elements as they enter
 balanced : (n : ℕ) (f : Forest) (d : ℕ) (rest : List Step) → from_leaving d (steps_from n f ++ rest) ≡ from_leaving d rest

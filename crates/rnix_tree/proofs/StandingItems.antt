@@ -1,7 +1,6 @@
 -- The items of a row that stand in a tree from a number on.
 use Rattle.std.proofs.Common.{◌≡◌, ℕ, ◌+◌, ◌-◌, List, ◌∷◌, ◌++◌, length, get_or, ap, sym, ◌∙◌, arith, append_assoc, length-append}
-use Rattle.std.proofs.lemmas.List.{get_or-append_right}
-use Rattle.rnix_green.specs.Tree.{Tree, Item, items_of, no_item, item}
+use Rattle.{std.proofs.lemmas.List.get_or-append_right, rnix_green.specs.Tree.{Tree, Item, items_of, no_item, item}}
 
 -- the items of a row stand in the tree from the number n on
 pub record Stands (t : Tree) (n : ℕ) (is : List Item) : Type 0 where

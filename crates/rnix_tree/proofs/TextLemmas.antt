@@ -1,22 +1,12 @@
 -- What the walk over an element prints with texts is its lines with texts.
-use Rattle.std.proofs.Common.{◌≡◌, ℕ, ◌+◌, ◌-◌, List, [], ◌∷◌, ◌++◌, map, true, false, codes, Option, Some, None, Result, refl, ap, sym, subst, ◌∙◌, arith, append_assoc, append-nil, IfSome, IsOk}
-use Rattle.std.proofs.lemmas.List.{map-append}
-use Rattle.std.specs.Fmt.{◌++?◌, IsFlush, IsPlainFormatter, DisplaysOnOk, DisplaysStyledOnOk, HasWrittenStyled, WritesStyledOnOk, WritesInCalls, formatter_writer}
-use Rattle.std.specs.Fmt.InlineText.{AppendsIfIntact, IsIntact, inline_text}
-use Rattle.std.specs.List.{FoldsTo, concat}
-use Rattle.std.specs.declared.fmt.Error.{Error}
-use Rattle.std.specs.declared.fmt.Formatter.{Formatter}
-use Rattle.std.specs.declared.fmt.InlineText.{InlineText}
-use Rattle.std.proofs.Output.{has_written_styled_append}
-use Rattle.rnix_green.specs.Forest.{Forest, empty, leaf, node, element_count}
-use Rattle.rnix_green.specs.Tree.{Tree, Located, part_at}
-use Rattle.rnix_green.specs.Walk.{Event, steps_from, spot_at, event_at, preorder_of}
-use Rattle.rnix_tree.specs.Spots.{event_of, spot_of}
-use Rattle.rnix_tree.specs.declared.element.NodeOrToken.{NodeOrToken}
-use Rattle.rnix_tree.specs.declared.element.WalkEvent.{WalkEvent}
-use Rattle.rnix_tree.specs.declared.element.WalkEvent.TheVariants.{Enter}
-use Rattle.rnix_tree.specs.Lines.{text_line, text_lines_from, text_lines_of}
-use Rattle.rnix_tree.specs.Walked.{event_texts}
+use Rattle.std.proofs.Common.{◌≡◌, ℕ, ◌+◌, ◌-◌, List, [], ◌∷◌, ◌++◌, map, true, false, codes, Option, Some, None, Result, refl, ap, sym, subst, ◌∙◌, arith}
+use Rattle.std.{proofs.{Common.{append_assoc, append-nil, IfSome, IsOk}, lemmas.List.map-append, Output.has_written_styled_append}, specs.Fmt.{◌++?◌, IsFlush}}
+use Rattle.std.specs.Fmt.{IsPlainFormatter, DisplaysOnOk, DisplaysStyledOnOk, HasWrittenStyled, WritesStyledOnOk, WritesInCalls, formatter_writer}
+use Rattle.std.specs.{Fmt.InlineText.{AppendsIfIntact, IsIntact, inline_text}, List.{FoldsTo, concat}, declared.fmt.{Error.Error, Formatter.Formatter}}
+use Rattle.{std.specs.declared.fmt.InlineText.InlineText, rnix_green.specs.{Forest.{Forest, empty, leaf, node, element_count}, Tree.{Tree, Located, part_at}}}
+use Rattle.{rnix_green.specs.Walk.{Event, steps_from, spot_at, event_at, preorder_of}, rnix_tree.specs.Spots.{event_of, spot_of}}
+use Rattle.rnix_tree.specs.{declared.element.{NodeOrToken.NodeOrToken, WalkEvent.{WalkEvent, TheVariants.Enter}}, Lines.{text_line, text_lines_from}}
+use Rattle.rnix_tree.specs.{Lines.text_lines_of, Walked.event_texts}
 
 -- texts that may be unknown, one behind another
 pub nothing_first : (o : Option (List ℕ)) → Some [] ++? o ≡ o

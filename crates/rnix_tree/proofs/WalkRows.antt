@@ -1,15 +1,9 @@
 -- An element of a row, and what comes from it on, where the row begins with another tree.
 use Rattle.std.proofs.Common.{◌≡◌, ℕ, ◌+◌, ◌-◌, ◌≤◌, ◌<◌, nat_lt, List, [], ◌∷◌, ◌++◌, length, get_or, Bool, true, false, Option, Some, refl, ap, ◌∙◌, arith}
-use Rattle.std.specs.Prelude.{if◌then◌else◌}
-use Rattle.std.proofs.lemmas.List.{get_or_append_left, get_or-append_right}
-use Rattle.std.proofs.lemmas.Grind.{get_or_tail}
-use Rattle.rnix_kinds.specs.declared.kinds.SyntaxKind.{SyntaxKind}
-use Rattle.rnix_green.specs.Forest.{Forest, empty, leaf, node, text_of, element_count}
-use Rattle.rnix_green.specs.Tree.{Item, items_from, no_item}
-use Rattle.rnix_green.specs.Walk.{Step, steps_from}
-use Rattle.rnix_tree.specs.Cursor.{from_enter, from_leave}
-use Rattle.rnix_green.proofs.NumberTests.{is_same, is_above, is_below, is_not_below}
-use Rattle.rnix_green.proofs.PieceLemmas.{length-items_from}
+use Rattle.std.{proofs.lemmas.{List.{get_or_append_left, get_or-append_right}, Grind.get_or_tail}, specs.Prelude.if◌then◌else◌}
+use Rattle.{rnix_kinds.specs.declared.kinds.SyntaxKind.SyntaxKind, rnix_green.specs.{Forest.{Forest, empty, leaf, node, text_of, element_count}, Tree.Item}}
+use Rattle.rnix_green.{specs.{Tree.{items_from, no_item}, Walk.{Step, steps_from}}, proofs.NumberTests.{is_same, is_above, is_below, is_not_below}}
+use Rattle.{rnix_green.proofs.PieceLemmas.length-items_from, rnix_tree.specs.Cursor.{from_enter, from_leave}}
 
 -- the element m of a row that is numbered from n
 abbrev pub at : ℕ → ℕ → Option ℕ → Forest → ℕ → Item

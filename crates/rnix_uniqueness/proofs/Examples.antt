@@ -1,16 +1,10 @@
 -- How some broken texts are read: each has one reading, which is computed.
-use Rattle.std.proofs.Common.{[], ◌∷◌, refl}
-use Rattle.std.specs.Prelude.{codes}
-use Rattle.std.specs.Str.{chars}
-use Rattle.std.specs.Char.{encode_utf8}
-use Rattle.rnix_kinds.specs.declared.kinds.SyntaxKind.TheVariants.{NODE_IF_ELSE, NODE_PAT_BIND, TOKEN_R_BRACK}
-use Rattle.rnix_kinds.specs.Lexical.Tokens.{normal_cut, cut_at, tokens_behind}
-use Rattle.rnix_kinds.specs.Lexical.Texts.{space_len, begins_space, char_len}
-use Rattle.rnix_grammar.specs.declared.until.Until.TheVariants.{RParen, Colon, Then, Else}
-use Rattle.rnix_grammar.specs.Fault.{ended, bound_twice}
-use Rattle.rnix_grammar.specs.AnnotatedForest.{Twice}
-use Rattle.rnix_uniqueness.proofs.OnlyReading.{done, item, node, wrong, Case, Holds, holds}
-use Rattle.rnix_uniqueness.proofs.ExampleWords.{paren, run, name, path, select, binary, function, function_of, entry, no_list, unwanteds, extras, within, is_extra, instead, missing}
+use Rattle.std.{proofs.Common.{[], ◌∷◌, refl}, specs.{Prelude.codes, Str.chars, Char.encode_utf8}}
+use Rattle.rnix_kinds.specs.{declared.kinds.SyntaxKind.TheVariants.{NODE_IF_ELSE, NODE_PAT_BIND, TOKEN_R_BRACK}, Lexical.Tokens.{normal_cut, cut_at}}
+use Rattle.rnix_kinds.specs.Lexical.{Tokens.tokens_behind, Texts.{space_len, begins_space, char_len}}
+use Rattle.rnix_grammar.specs.{declared.until.Until.TheVariants.{RParen, Colon, Then, Else}, Fault.{ended, bound_twice}, AnnotatedForest.Twice}
+use Rattle.rnix_uniqueness.proofs.{OnlyReading.{done, item, node, wrong, Case, Holds, holds}, ExampleWords.{paren, name, path, select, binary, function}}
+use Rattle.rnix_uniqueness.proofs.ExampleWords.{function_of, entry, no_list, unwanteds, extras, within, is_extra, instead, missing}
 
 -- `if[]`: an `if` whose condition is a list, before the end of the text
 abbrev pub condition : Case

@@ -1,10 +1,6 @@
 -- The table of the classes says of each of the 256 bytes what the classes say.
-use Rattle.std.proofs.Common.{◌≡◌, ℕ, zero, suc, ◌<◌, Bool, true, false, ◌&&◌, refl, inl, inr, arith}
-use Rattle.std.specs.Bool.{beq}
-use Rattle.std.proofs.lemmas.Bool.{and_parts, cases_eq}
-use Rattle.rnix_kinds.specs.declared.tokenizer.text.Class.{Class}
-use Rattle.rnix_kinds.specs.Lexical.Classes.{class_test}
-use Rattle.rnix_kinds.specs.Lexical.ClassTable.{has_flag}
+use Rattle.std.{proofs.{Common.{◌≡◌, ℕ, zero, suc, ◌<◌, Bool, true, false, ◌&&◌, refl, inl, inr, arith}, lemmas.Bool.{and_parts, cases_eq}}, specs.Bool.beq}
+use Rattle.rnix_kinds.specs.{declared.tokenizer.text.Class.Class, Lexical.{Classes.class_test, ClassTable.has_flag}}
 
 -- two tests say the same of the first n numbers
 unfoldable pub agree : (ℕ → Bool) → (ℕ → Bool) → ℕ → Bool

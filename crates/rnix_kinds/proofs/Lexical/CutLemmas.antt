@@ -1,36 +1,24 @@
 -- Every rule cuts off a text that is not empty, at a character's end.
-use Rattle.std.proofs.Common.{◌≡◌, ℕ, ◌+◌, ◌<◌, Bool, true, false, not, cond, ◌&&◌, ◌||◌, ◌==◌, nat_lt, List, [], ◌∷◌, length, get_or, take, drop, IsUtf8, Option, Some, None, refl, sym, subst, inl, inr, arith, zero-add, eqb-true, false-eqb}
-use Rattle.std.specs.Prelude.{if◌then◌else◌, codes}
-use Rattle.std.proofs.lemmas.Bool.{and_parts}
-use Rattle.std.proofs.lemmas.Bool.Decides.{nat_tests}
-use Rattle.std.proofs.lemmas.List.Sums.{prefix_len_passes}
-use Rattle.std.proofs.lemmas.Str.{IsCharBoundary-start, IsCharBoundary-end}
-use Rattle.std.specs.List.{prefix_len, list_all}
-use Rattle.std.specs.Char.{is_ascii_digit, is_ascii_alphabetic}
-use Rattle.std.specs.Str.{IsCharBoundary}
-use Rattle.rnix_kinds.specs.declared.kinds.SyntaxKind.{SyntaxKind}
-use Rattle.rnix_kinds.specs.declared.kinds.SyntaxKind.TheVariants.{TOKEN_PATH_SEARCH, TOKEN_ERROR, TOKEN_FLOAT, TOKEN_STRING_END}
-use Rattle.rnix_kinds.specs.declared.tokenizer.rule.Cut.{Cut}
-use Rattle.rnix_kinds.specs.declared.tokenizer.rule.PathStart.{PathStart}
-use Rattle.rnix_kinds.specs.declared.tokenizer.rule.PathStart.TheVariants.{Root as StartSlash, Relative as StartName, Home as StartTilde}
-use Rattle.rnix_kinds.specs.Lexical.PathKinds.{kind_of_path}
-use Rattle.rnix_kinds.specs.declared.tokenizer.rule.Mode.{Mode}
-use Rattle.rnix_kinds.specs.declared.tokenizer.rule.Mode.TheVariants.{Quoted, Interpolation, Path}
-use Rattle.rnix_kinds.specs.declared.tokenizer.rule.Change.{Change}
-use Rattle.rnix_kinds.specs.declared.tokenizer.rule.Change.TheVariants.{Stay, Open, Close}
-use Rattle.rnix_kinds.specs.declared.tokenizer.text.Class.{Class}
-use Rattle.rnix_kinds.specs.declared.tokenizer.text.Class.TheVariants.{Digit, Name, Step, Scheme, Angle, Uri, Line}
-use Rattle.rnix_kinds.specs.Lexical.Texts.{stands_at, begins, run_end, space_len}
-use Rattle.rnix_kinds.specs.Lexical.Classes.{class_test, is_path, is_uri}
-use Rattle.rnix_kinds.specs.Lexical.Plain.{plain, space, comment, uri, word}
+use Rattle.std.proofs.Common.{◌≡◌, ℕ, ◌+◌, ◌<◌, Bool, true, false, not, cond, ◌&&◌, ◌||◌, ◌==◌, nat_lt, List, [], ◌∷◌, length, get_or, take, drop, IsUtf8}
+use Rattle.std.proofs.{Common.{Option, Some, None, refl, sym, subst, inl, inr, arith, zero-add, eqb-true, false-eqb}, lemmas.Bool.and_parts}
+use Rattle.std.proofs.lemmas.{Bool.Decides.nat_tests, List.Sums.prefix_len_passes, Str.{IsCharBoundary-start, IsCharBoundary-end}}
+use Rattle.std.specs.{Prelude.{if◌then◌else◌, codes}, List.{prefix_len, list_all}, Char.{is_ascii_digit, is_ascii_alphabetic}, Str.IsCharBoundary}
+use Rattle.rnix_kinds.specs.declared.kinds.SyntaxKind.{SyntaxKind, TheVariants.{TOKEN_PATH_SEARCH, TOKEN_ERROR, TOKEN_FLOAT, TOKEN_STRING_END}}
+use Rattle.rnix_kinds.specs.declared.tokenizer.rule.{Cut.Cut, PathStart.{PathStart, TheVariants.{Root as StartSlash, Relative as StartName}}}
+use Rattle.rnix_kinds.specs.declared.tokenizer.rule.{PathStart.TheVariants.Home as StartTilde, Mode.{Mode, TheVariants.{Quoted, Interpolation, Path}}}
+use Rattle.rnix_kinds.specs.declared.tokenizer.{rule.Change.{Change, TheVariants.{Stay, Open, Close}}, text.Class.{Class, TheVariants.{Digit, Name, Step}}}
+use Rattle.rnix_kinds.specs.{declared.tokenizer.text.Class.TheVariants.{Scheme, Angle, Uri, Line}, Lexical.{PathKinds.kind_of_path, Texts.{stands_at, begins}}}
+use Rattle.rnix_kinds.specs.Lexical.{Texts.{run_end, space_len}, Classes.{class_test, is_path, is_uri}, Plain.{plain, space, comment, uri, word}}
 use Rattle.rnix_kinds.specs.Lexical.Paths.{is_broken, segment, first_segment, slash, home, relative, goes_on_as_path, search_path, path_goes_on, path_cut}
-use Rattle.rnix_kinds.specs.Lexical.Strings.{piece_len, content_len, string_cut}
-use Rattle.rnix_kinds.proofs.Lexical.StringsLemmas.{content_len-le, content_len-stops}
-use Rattle.rnix_kinds.specs.Lexical.Tokens.{CountsUp, opens_alone, opens, IsPathBegun, IsCutOf, IsPathGoingOn, first_that_fits, normal_rules, normal_cut, cut_at}
-use Rattle.rnix_kinds.specs.Lexical.Numbers.{number, digits_to, fraction, exponent, exponent_digits}
-use Rattle.rnix_kinds.specs.Lexical.Operators.{ellipsis, opener, brace, operator, operators, first_row}
-use Rattle.rnix_kinds.proofs.Lexical.WordsLemmas.{IsCharBoundary-space_len, IsCharBoundary-char_len, char_len_some}
-use Rattle.rnix_kinds.proofs.Lexical.CutParts.{FitsWell, if_fits, if_good, is_free, free_named, free_if, free_path, path_opens, interpolation_next, good_named, good_plain, is_plain_byte, byte_end, stands_end, run_boundary, run_some, alphabetic_uri, letter_name, word_named, exponent_mark, exponent_sign, block_good, opening_brace_good, closing_brace_good, path_some, slash_path, slash_is_path, step_path, positive_from, none_from, or_right, tilde_good, search_boundary, content_boundary, closer_cut}
+use Rattle.rnix_kinds.specs.Lexical.{Strings.{piece_len, content_len, string_cut}, Tokens.{CountsUp, opens_alone, opens, IsPathBegun, IsCutOf, IsPathGoingOn}}
+use Rattle.rnix_kinds.specs.Lexical.{Tokens.{first_that_fits, normal_rules, normal_cut, cut_at}, Numbers.{number, digits_to, fraction, exponent}}
+use Rattle.rnix_kinds.specs.Lexical.{Numbers.exponent_digits, Operators.{ellipsis, opener, brace, operator, operators, first_row}}
+use Rattle.rnix_kinds.proofs.Lexical.{StringsLemmas.{content_len-le, content_len-stops}, WordsLemmas.{IsCharBoundary-space_len, IsCharBoundary-char_len}}
+use Rattle.rnix_kinds.proofs.Lexical.{WordsLemmas.char_len_some, CutParts.{FitsWell, if_fits, if_good, is_free, free_named, free_if, free_path, path_opens}}
+use Rattle.rnix_kinds.proofs.Lexical.CutParts.{interpolation_next, good_named, good_plain, is_plain_byte, byte_end, stands_end, run_boundary, run_some}
+use Rattle.rnix_kinds.proofs.Lexical.CutParts.{alphabetic_uri, letter_name, word_named, exponent_mark, exponent_sign, block_good, opening_brace_good}
+use Rattle.rnix_kinds.proofs.Lexical.CutParts.{closing_brace_good, path_some, slash_path, slash_is_path, step_path, positive_from, none_from, or_right}
+use Rattle.rnix_kinds.proofs.Lexical.CutParts.{tilde_good, search_boundary, content_boundary, closer_cut}
 
 module _ (top : Option Mode) (text : List ℕ) (utf8 : IsUtf8 text) (some : 0 < length text) where
   good_begins : (kind : SyntaxKind) (bytes : List ℕ) → is_free kind ≡ true → 0 < length bytes → list_all is_plain_byte bytes ≡ true → begins bytes text ≡ true → IsCutOf top text (plain kind (length bytes))

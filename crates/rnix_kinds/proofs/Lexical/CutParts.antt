@@ -1,33 +1,17 @@
 -- Where the parts of a cut end, and what its kind says of its text.
-use Rattle.std.proofs.Common.{◌≡◌, ℕ, zero, suc, ◌+◌, ◌-◌, ◌<◌, Bool, true, false, cond, ◌&&◌, ◌||◌, ◌==◌, nat_lt, List, [], ◌∷◌, length, get_or, take, drop, IsUtf8, Option, Some, None, refl, sym, ap, ◌∙◌, subst, inl, inr, arith, add-zero, get_or-drop, length-drop, eqb-true, false-eqb}
-use Rattle.std.specs.Prelude.{codes}
-use Rattle.std.proofs.lemmas.Slice.Eq.{bytes_eq-Decides}
-use Rattle.std.proofs.lemmas.Bool.{cases_lt, and_parts}
-use Rattle.std.proofs.lemmas.Bool.Decides.{nat_tests}
-use Rattle.std.proofs.lemmas.List.Sums.{prefix_len_passes}
-use Rattle.std.proofs.lemmas.Str.{IsUtf8-drop, IsCharBoundary-end, IsCharBoundary-before_ascii, IsCharBoundary-after_ascii, IsCharBoundary-from_rest}
-use Rattle.std.specs.List.{prefix_len, list_all}
-use Rattle.std.specs.Char.{is_ascii_alphabetic}
-use Rattle.std.specs.Str.{IsCharBoundary, bytes_eq}
-use Rattle.rnix_kinds.specs.declared.kinds.SyntaxKind.{SyntaxKind}
-use Rattle.rnix_kinds.specs.declared.kinds.SyntaxKind.TheVariants.{TOKEN_ELSE, TOKEN_IF, TOKEN_IN, TOKEN_INHERIT, TOKEN_LET, TOKEN_REC, TOKEN_THEN, TOKEN_WITH, TOKEN_CUR_POS, TOKEN_OR, TOKEN_IDENT, TOKEN_ERROR, TOKEN_STRING_END}
-use Rattle.rnix_kinds.specs.declared.tokenizer.rule.Cut.{Cut}
-use Rattle.rnix_kinds.specs.declared.tokenizer.rule.PathStart.{PathStart}
-use Rattle.rnix_kinds.specs.declared.tokenizer.rule.PathStart.TheVariants.{Root as StartSlash, Relative as StartName, Home as StartTilde}
-use Rattle.rnix_kinds.specs.Lexical.PathKinds.{kind_of_path}
-use Rattle.rnix_kinds.specs.declared.tokenizer.rule.Mode.{Mode}
-use Rattle.rnix_kinds.specs.declared.tokenizer.rule.Mode.TheVariants.{Quoted, Interpolation, Path}
-use Rattle.rnix_kinds.specs.declared.tokenizer.rule.Change.TheVariants.{Close}
-use Rattle.rnix_kinds.specs.declared.tokenizer.text.Class.{Class}
-use Rattle.rnix_kinds.specs.declared.tokenizer.text.Class.TheVariants.{Name, Step, Angle}
-use Rattle.rnix_kinds.specs.SyntaxKind.{is_token}
-use Rattle.rnix_kinds.specs.Lexical.Texts.{stands_at, begins, run_end, before_pair, char_len}
-use Rattle.rnix_kinds.specs.Lexical.Classes.{class_test, is_path, is_uri}
-use Rattle.rnix_kinds.specs.Lexical.Plain.{plain, block_comment, word, kind_of_word}
-use Rattle.rnix_kinds.specs.Lexical.Strings.{piece_len, content_len}
-use Rattle.rnix_kinds.proofs.Lexical.StringsLemmas.{content_len-stops}
-use Rattle.rnix_kinds.specs.Lexical.Tokens.{MayBe, opens_path, IsCutOf}
-use Rattle.rnix_kinds.specs.Lexical.Operators.{opening_brace, closing_brace}
+use Rattle.std.proofs.Common.{◌≡◌, ℕ, zero, suc, ◌+◌, ◌-◌, ◌<◌, Bool, true, false, cond, ◌&&◌, ◌||◌, ◌==◌, nat_lt, List, [], ◌∷◌, length, get_or, take, drop}
+use Rattle.std.proofs.Common.{IsUtf8, Option, Some, None, refl, sym, ap, ◌∙◌, subst, inl, inr, arith, add-zero, get_or-drop, length-drop, eqb-true, false-eqb}
+use Rattle.std.proofs.lemmas.{Slice.Eq.bytes_eq-Decides, Bool.{cases_lt, and_parts, Decides.nat_tests}, List.Sums.prefix_len_passes, Str.IsUtf8-drop}
+use Rattle.std.{proofs.lemmas.Str.{IsCharBoundary-end, IsCharBoundary-before_ascii, IsCharBoundary-after_ascii, IsCharBoundary-from_rest}, specs.Prelude.codes}
+use Rattle.std.specs.{List.{prefix_len, list_all}, Char.is_ascii_alphabetic, Str.{IsCharBoundary, bytes_eq}}
+use Rattle.rnix_kinds.specs.declared.kinds.SyntaxKind.{SyntaxKind, TheVariants.{TOKEN_ELSE, TOKEN_IF, TOKEN_IN, TOKEN_INHERIT, TOKEN_LET, TOKEN_REC}}
+use Rattle.rnix_kinds.specs.declared.kinds.SyntaxKind.TheVariants.{TOKEN_THEN, TOKEN_WITH, TOKEN_CUR_POS, TOKEN_OR, TOKEN_IDENT, TOKEN_ERROR, TOKEN_STRING_END}
+use Rattle.rnix_kinds.specs.declared.tokenizer.rule.{Cut.Cut, PathStart.{PathStart, TheVariants.{Root as StartSlash, Relative as StartName}}}
+use Rattle.rnix_kinds.specs.declared.tokenizer.rule.{PathStart.TheVariants.Home as StartTilde, Mode.{Mode, TheVariants.{Quoted, Interpolation, Path}}}
+use Rattle.rnix_kinds.specs.declared.tokenizer.{rule.Change.TheVariants.Close, text.Class.{Class, TheVariants.{Name, Step, Angle}}}
+use Rattle.rnix_kinds.specs.Lexical.{PathKinds.kind_of_path, Texts.{stands_at, begins, run_end, before_pair, char_len}, Classes.{class_test, is_path, is_uri}}
+use Rattle.rnix_kinds.specs.Lexical.{Plain.{plain, block_comment, word, kind_of_word}, Strings.{piece_len, content_len}, Tokens.{MayBe, opens_path, IsCutOf}}
+use Rattle.rnix_kinds.{specs.{Lexical.Operators.{opening_brace, closing_brace}, SyntaxKind.is_token}, proofs.Lexical.StringsLemmas.content_len-stops}
 use Rattle.rnix_kinds.proofs.Lexical.WordsLemmas.{within_from_byte, IsCharBoundary-run, IsCharBoundary-char_len, before_pair-le, before_pair-found}
 
 -- if the rule fits, its cut is good

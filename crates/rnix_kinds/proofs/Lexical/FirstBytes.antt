@@ -1,23 +1,13 @@
 -- Which rules the first bytes of a text leave.
-use Rattle.std.proofs.Common.{◌≡◌, ℕ, zero, suc, ◌<◌, Bool, true, false, ◌&&◌, ◌||◌, ◌==◌, nat_lt, cond, List, [], ◌∷◌, length, get_or, take, drop, Option, Some, None, refl, sym, ◌∙◌, inl, inr, arith}
-use Rattle.std.proofs.lemmas.Bool.{cases_lt, and_parts}
-use Rattle.std.proofs.lemmas.Bool.Decides.{nat_tests}
-use Rattle.std.proofs.lemmas.List.{get_or_past}
-use Rattle.std.proofs.lemmas.List.Sums.{prefix_len_passes, prefix_len_stops}
-use Rattle.std.specs.List.{prefix_len}
-use Rattle.std.specs.Char.{is_whitespace, is_ascii_alphabetic, is_ascii_digit}
-use Rattle.rnix_kinds.specs.declared.kinds.SyntaxKind.TheVariants.{TOKEN_COMMENT, TOKEN_WHITESPACE}
-use Rattle.rnix_kinds.specs.declared.tokenizer.rule.Cut.{Cut}
-use Rattle.rnix_kinds.specs.declared.tokenizer.text.Class.TheVariants.{Name, Step, Scheme, Line}
-use Rattle.rnix_kinds.specs.Lexical.Classes.{class_test, is_path}
-use Rattle.rnix_kinds.specs.Lexical.Texts.{before_pair, space_len, run_end}
-use Rattle.rnix_kinds.specs.Lexical.Plain.{plain, block_comment, space, kind_of_word, comment, uri, word, begins_word, goes_past_name}
-use Rattle.rnix_kinds.specs.Lexical.Paths.{slash, home, relative, search_path, goes_on_as_path}
-use Rattle.rnix_kinds.specs.Lexical.Numbers.{number}
-use Rattle.rnix_kinds.specs.Lexical.Operators.{ellipsis, opener, opening_brace, closing_brace, brace, operator}
-use Rattle.rnix_kinds.specs.declared.tokenizer.rule.Mode.{Mode}
-use Rattle.rnix_kinds.specs.Lexical.Tokens.{first_that_fits, normal_rules, one_error, normal_cut}
-use Rattle.rnix_kinds.proofs.Lexical.WordsLemmas.{space_len-stop, space_len-step}
+use Rattle.std.proofs.Common.{◌≡◌, ℕ, zero, suc, ◌<◌, Bool, true, false, ◌&&◌, ◌||◌, ◌==◌, nat_lt, cond, List, [], ◌∷◌, length, get_or, take, drop, Option}
+use Rattle.std.proofs.{Common.{Some, None, refl, sym, ◌∙◌, inl, inr, arith}, lemmas.{Bool.{cases_lt, and_parts, Decides.nat_tests}, List.get_or_past}}
+use Rattle.std.{proofs.lemmas.List.Sums.{prefix_len_passes, prefix_len_stops}, specs.{List.prefix_len, Char.{is_whitespace, is_ascii_alphabetic}}}
+use Rattle.{std.specs.Char.is_ascii_digit, rnix_kinds.specs.declared.{kinds.SyntaxKind.TheVariants.{TOKEN_COMMENT, TOKEN_WHITESPACE}, tokenizer.rule.Cut.Cut}}
+use Rattle.rnix_kinds.specs.{declared.tokenizer.{rule.Mode.Mode, text.Class.TheVariants.{Name, Step, Scheme, Line}}, Lexical.Classes.{class_test, is_path}}
+use Rattle.rnix_kinds.specs.Lexical.{Texts.{before_pair, space_len, run_end}, Plain.{plain, block_comment, space, kind_of_word, comment, uri, word}}
+use Rattle.rnix_kinds.specs.Lexical.{Plain.{begins_word, goes_past_name}, Paths.{slash, home, relative, search_path, goes_on_as_path}, Numbers.number}
+use Rattle.rnix_kinds.specs.Lexical.{Operators.{ellipsis, opener, opening_brace, closing_brace, brace, operator}, Tokens.{first_that_fits, normal_rules}}
+use Rattle.rnix_kinds.{specs.Lexical.Tokens.{one_error, normal_cut}, proofs.Lexical.WordsLemmas.{space_len-stop, space_len-step}}
 
 no_cut : (a b : Bool) (cut : Cut) → b ≡ false → cond (a && b) (Some cut) None ≡ None
 no_cut true b cut e = rw e refl

@@ -1,13 +1,7 @@
 -- The stack of modes as a list.
-use Rattle.std.proofs.Common.{◌≡◌, ℕ, ◌-◌, ◌<◌, List, [], ◌∷◌, ◌++◌, length, refl, subst, arith, length-append}
-use Rattle.std.specs.Prelude.{reverse}
-use Rattle.std.proofs.Math.ListN.{set}
-use Rattle.std.proofs.Math.Seq.{set-append_seam}
-use Rattle.std.proofs.lemmas.List.{reverse-append, reverse-reverse, length-reverse}
-use Rattle.rnix_kinds.specs.declared.tokenizer.rule.Mode.{Mode}
-use Rattle.rnix_kinds.specs.declared.tokenizer.rule.Mode.TheVariants.{Interpolation}
-use Rattle.rnix_kinds.specs.declared.tokenizer.rule.Change.TheVariants.{Count}
-use Rattle.rnix_kinds.specs.Lexical.Tokens.{changed}
+use Rattle.std.proofs.{Common.{◌≡◌, ℕ, ◌-◌, ◌<◌, List, [], ◌∷◌, ◌++◌, length, refl, subst, arith, length-append}, Math.{ListN.set, Seq.set-append_seam}}
+use Rattle.std.{proofs.lemmas.List.{reverse-append, reverse-reverse, length-reverse}, specs.Prelude.reverse}
+use Rattle.rnix_kinds.specs.{declared.tokenizer.rule.{Mode.{Mode, TheVariants.Interpolation}, Change.TheVariants.Count}, Lexical.Tokens.changed}
 
 count_on_top : (b : ℕ) (ns : List Mode) → 0 < length ns → reverse (set (reverse ns) (length (reverse ns) - 1) (Interpolation b)) ≡ changed (Count b) ns
 count_on_top b [] h = absurd (omega arith)

@@ -1,15 +1,8 @@
 -- The first operator that fits is the longest.
 use Rattle.std.proofs.Common.{◌≡◌, ℕ, ◌≤◌, Bool, true, false, not, ◌&&◌, cond, nat_lt, List, [], ◌∷◌, length, Some, refl, subst, inl, inr, arith}
-use Rattle.std.proofs.lemmas.Bool.{and_parts}
-use Rattle.std.proofs.lemmas.Bool.Decides.{nat_tests}
-use Rattle.std.proofs.lemmas.Option.{same_Some}
-use Rattle.std.specs.List.{list_all}
-use Rattle.rnix_kinds.specs.declared.kinds.SyntaxKind.{SyntaxKind}
-use Rattle.rnix_kinds.specs.declared.tokenizer.rule.Cut.{Cut}
-use Rattle.rnix_kinds.specs.Lexical.Texts.{begins}
-use Rattle.rnix_kinds.specs.Lexical.Plain.{plain}
-use Rattle.rnix_kinds.specs.Lexical.Operators.{operators, first_row, operator}
-use Rattle.rnix_kinds.specs.Lexical.Longest.{IsLongest, FitsRow}
+use Rattle.std.{proofs.lemmas.{Bool.{and_parts, Decides.nat_tests}, Option.same_Some}, specs.List.list_all}
+use Rattle.rnix_kinds.specs.{declared.{kinds.SyntaxKind.SyntaxKind, tokenizer.rule.Cut.Cut}, Lexical.{Texts.begins, Plain.plain, Operators.operators}}
+use Rattle.rnix_kinds.specs.Lexical.{Operators.{first_row, operator}, Longest.{IsLongest, FitsRow}}
 
 -- no row is longer than one before it
 abbrev is_no_longer : ℕ → List ℕ × SyntaxKind → Bool

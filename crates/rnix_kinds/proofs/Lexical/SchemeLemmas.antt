@@ -1,9 +1,6 @@
 -- Where a scheme ends: its bytes are the path characters but `/` and `_`.
-use Rattle.std.proofs.Common.{◌≡◌, ◌==◌, ℕ, suc, ◌+◌, Bool, true, false, not, List, [], ◌∷◌, refl, arith, get_or}
-use Rattle.std.proofs.lemmas.Bool.Decides.{nat_tests}
-use Rattle.std.specs.List.{prefix_len}
-use Rattle.rnix_kinds.specs.declared.tokenizer.text.Class.TheVariants.{Step, Scheme}
-use Rattle.rnix_kinds.specs.Lexical.Classes.{class_test}
+use Rattle.std.proofs.{Common.{◌≡◌, ◌==◌, ℕ, suc, ◌+◌, Bool, true, false, not, List, [], ◌∷◌, refl, arith, get_or}, lemmas.Bool.Decides.nat_tests}
+use Rattle.{std.specs.List.prefix_len, rnix_kinds.specs.{declared.tokenizer.text.Class.TheVariants.{Step, Scheme}, Lexical.Classes.class_test}}
 use Rattle.rnix_kinds.specs.Lexical.Longest.{IsScheme}
 
 abbrev is_no_underscore : ℕ → Bool

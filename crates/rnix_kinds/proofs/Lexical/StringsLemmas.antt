@@ -1,12 +1,8 @@
 -- Rows of the pieces of a string.
 use Rattle.std.proofs.Common.{◌≡◌, ℕ, zero, suc, ◌+◌, ◌<◌, ◌≤◌, Bool, true, false, List, [], ◌∷◌, length, drop, refl, ap, arith}
-use Rattle.std.proofs.lemmas.Bool.Decides.{nat_tests}
-use Rattle.std.proofs.lemmas.List.{drop-drop}
-use Rattle.std.specs.List.{prefix_len}
-use Rattle.rnix_kinds.specs.declared.tokenizer.text.Class.TheVariants.{Content}
-use Rattle.rnix_kinds.specs.Lexical.Classes.{class_test}
-use Rattle.rnix_kinds.specs.Lexical.Texts.{run_end}
-use Rattle.rnix_kinds.specs.Lexical.Strings.{piece_len, content_from, content_len}
+use Rattle.std.{proofs.lemmas.{Bool.Decides.nat_tests, List.drop-drop}, specs.List.prefix_len}
+use Rattle.rnix_kinds.specs.{declared.tokenizer.text.Class.TheVariants.Content, Lexical.{Classes.class_test, Texts.run_end, Strings.{piece_len, content_from}}}
+use Rattle.rnix_kinds.specs.Lexical.Strings.{content_len}
 
 -- a piece is passed as a whole
 content_from-inside : (m : Bool) (inside : ℕ) (xs : List ℕ) → inside ≤ length xs → content_from m inside xs ≡ inside + content_from m 0 (drop inside xs)

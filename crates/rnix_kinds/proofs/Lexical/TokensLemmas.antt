@@ -1,17 +1,10 @@
 -- The tokens of a text, one after another.
-use Rattle.std.proofs.Common.{◌≡◌, ℕ, zero, suc, ◌-◌, ◌<◌, ◌≤◌, Bool, true, false, cond, List, [], ◌∷◌, length, take, drop, refl, ap, sym, subst, inl, inr, ◌∙◌, arith, ◌^◌}
-use Rattle.std.specs.Prelude.{codes}
-use Rattle.rnix_kinds.specs.declared.kinds.SyntaxKind.TheVariants.{TOKEN_INTERPOL_START}
-use Rattle.rnix_kinds.specs.declared.tokenizer.rule.PathStart.{PathStart}
-use Rattle.rnix_kinds.specs.declared.tokenizer.rule.Cut.{Cut}
-use Rattle.rnix_kinds.specs.declared.tokenizer.rule.Mode.{Mode}
-use Rattle.rnix_kinds.specs.declared.tokenizer.rule.Mode.TheVariants.{Quoted, Interpolation, Path}
-use Rattle.rnix_kinds.specs.declared.tokenizer.rule.Change.{Change}
-use Rattle.rnix_kinds.specs.declared.tokenizer.rule.Change.TheVariants.{Stay, Open, Close, Count}
-use Rattle.rnix_kinds.specs.Lexical.Texts.{begins}
-use Rattle.rnix_kinds.specs.Lexical.Paths.{path_goes_on, path_cut}
-use Rattle.rnix_kinds.specs.Lexical.Operators.{HasRoom}
-use Rattle.rnix_kinds.specs.Lexical.Tokens.{cut_at, top, without_ended_paths, changed, tokens_behind, tokens_under, CountsFit, IsPathGoingOn, CountsUp, IsPathBegun, OpensBefore, InterpolatesFirst, OpensFirst}
+use Rattle.std.proofs.Common.{◌≡◌, ℕ, zero, suc, ◌-◌, ◌<◌, ◌≤◌, Bool, true, false, cond, List, [], ◌∷◌, length, take, drop, refl, ap, sym, subst, inl, inr, ◌∙◌}
+use Rattle.{std.{proofs.Common.{arith, ◌^◌}, specs.Prelude.codes}, rnix_kinds.specs.declared.kinds.SyntaxKind.TheVariants.TOKEN_INTERPOL_START}
+use Rattle.rnix_kinds.specs.declared.tokenizer.rule.{PathStart.PathStart, Cut.Cut, Mode.{Mode, TheVariants.{Quoted, Interpolation, Path}}, Change.Change}
+use Rattle.rnix_kinds.specs.{declared.tokenizer.rule.Change.TheVariants.{Stay, Open, Close, Count}, Lexical.{Texts.begins, Paths.{path_goes_on, path_cut}}}
+use Rattle.rnix_kinds.specs.Lexical.{Operators.HasRoom, Tokens.{cut_at, top, without_ended_paths, changed, tokens_behind, tokens_under, CountsFit}}
+use Rattle.rnix_kinds.specs.Lexical.Tokens.{IsPathGoingOn, CountsUp, IsPathBegun, OpensBefore, InterpolatesFirst, OpensFirst}
 
 tokens_behind-passed : (passed : ℕ) (modes : List Mode) (text : List ℕ) → tokens_behind passed modes text ≡ tokens_under modes (drop passed text)
 unfolding tokens_behind

@@ -1,20 +1,14 @@
 -- Facts on the words on texts.
-use Rattle.std.proofs.Common.{eqb-true, eq-eqb, ◌≡◌, ℕ, zero, suc, ◌+◌, ◌-◌, ◌<◌, ◌≤◌, Bool, true, false, cond, ◌&&◌, ◌==◌, nat_lt, List, [], ◌∷◌, ◌++◌, length, get_or, drop, IsUtf8, refl, sym, ap, ◌∙◌, subst, inl, inr, arith, add-one, add-zero, zero-add, get_or-drop, append_assoc, length-append, length-drop}
-use Rattle.std.proofs.lemmas.Bool.{cases_lt, and_parts}
-use Rattle.std.proofs.lemmas.Bool.Decides.{nat_tests}
-use Rattle.std.proofs.lemmas.List.{drop_more, get_or_past}
-use Rattle.std.proofs.lemmas.List.Sums.{prefix_len-le-length, prefix_len_passes, prefix_len_stops}
-use Rattle.std.proofs.lemmas.Str.{chars-nil, encode_ascii, encodes-chars, scalars-chars, len_utf8_bounds, IsCharBoundary-past_char, IsCharBoundary-at_seam, IsCharBoundary-start, IsCharBoundary-end, IsCharBoundary-before_ascii, IsCharBoundary-after_ascii}
-use Rattle.std.specs.List.{prefix_len, take_while}
-use Rattle.std.specs.Char.{is_whitespace, len_utf8}
+use Rattle.std.proofs.Common.{eqb-true, eq-eqb, ◌≡◌, ℕ, zero, suc, ◌+◌, ◌-◌, ◌<◌, ◌≤◌, Bool, true, false, cond, ◌&&◌, ◌==◌, nat_lt, List, [], ◌∷◌, ◌++◌, length}
+use Rattle.std.proofs.Common.{get_or, drop, IsUtf8, refl, sym, ap, ◌∙◌, subst, inl, inr, arith, add-one, add-zero, zero-add, get_or-drop, append_assoc}
+use Rattle.std.proofs.{Common.{length-append, length-drop}, lemmas.{Bool.{cases_lt, and_parts, Decides.nat_tests}, List.{drop_more, get_or_past}}}
+use Rattle.std.proofs.lemmas.{List.Sums.{prefix_len-le-length, prefix_len_passes, prefix_len_stops}, Str.{chars-nil, encode_ascii, encodes-chars}}
+use Rattle.std.proofs.lemmas.Str.{scalars-chars, len_utf8_bounds, IsCharBoundary-past_char, IsCharBoundary-at_seam, IsCharBoundary-start, IsCharBoundary-end}
+use Rattle.std.{proofs.lemmas.Str.{IsCharBoundary-before_ascii, IsCharBoundary-after_ascii}, specs.{List.{prefix_len, take_while}, Char.is_whitespace}}
+use Rattle.std.specs.{Char.len_utf8, Str.{chars, encode_utf8_all, all_scalars, skip_leading_whitespace, trim_start, IsCharBoundary}}
+use Rattle.rnix_kinds.specs.declared.tokenizer.{ahead.Ahead.Ahead, text.Class.{Class, TheVariants.{Digit, Name, Path, Step, Scheme, Angle, Uri, Line, Content}}}
+use Rattle.rnix_kinds.specs.Lexical.{Classes.class_test, Ahead.{IsRunEnd, IsAhead}, Texts.{before_pair, is_blank, space_len, char_len}}
 use lib.Utf8.{encode}
-use Rattle.std.specs.Str.{chars, encode_utf8_all, all_scalars, skip_leading_whitespace, trim_start, IsCharBoundary}
-use Rattle.rnix_kinds.specs.declared.tokenizer.ahead.Ahead.{Ahead}
-use Rattle.rnix_kinds.specs.declared.tokenizer.text.Class.{Class}
-use Rattle.rnix_kinds.specs.declared.tokenizer.text.Class.TheVariants.{Digit, Name, Path, Step, Scheme, Angle, Uri, Line, Content}
-use Rattle.rnix_kinds.specs.Lexical.Classes.{class_test}
-use Rattle.rnix_kinds.specs.Lexical.Ahead.{IsRunEnd, IsAhead}
-use Rattle.rnix_kinds.specs.Lexical.Texts.{before_pair, is_blank, space_len, char_len}
 
 -- one turn of `before_pair`, at an index
 pub before_pair-turn : (a b : ℕ) (xs : List ℕ) (i : ℕ) → i < length xs

@@ -1,6 +1,4 @@
-use Rattle.std.proofs.Common.{rules, ◌≡◌, ◌+◌, ◌++◌, [], ◌∷◌, map, take}
-use Rattle.std.proofs.lemmas.List.{map_more}
-use Rattle.rnix_green.specs.Range.{bounds_of}
+use Rattle.{std.proofs.{Common.{rules, ◌≡◌, ◌+◌, ◌++◌, [], ◌∷◌, map, take}, lemmas.List.map_more}, rnix_green.specs.Range.bounds_of}
 use Rattle.nix_rename.proofs.ChangedLemmas.{drafted_found}
 use Rattle.nix_rename.proofs.rename.changed.Goals as goal
 

@@ -1,6 +1,4 @@
-use Rattle.std.proofs.Common.{map, take}
-use Rattle.rnix_green.specs.Range.{bounds_of}
-use Rattle.nix_rename.proofs.ChangedLemmas.{IsDrafted}
+use Rattle.{std.proofs.Common.{map, take}, rnix_green.specs.Range.bounds_of, nix_rename.proofs.ChangedLemmas.IsDrafted}
 use Rattle.nix_rename.proofs.rename.changed.Given as goal
 
 abbrev pub invariant-loop-place : goal.invariant-loop-place

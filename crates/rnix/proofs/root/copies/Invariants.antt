@@ -1,5 +1,4 @@
-use Rattle.std.proofs.Common.{◌≡◌, take, map}
-use Rattle.rnix_grammar.specs.Fault.{fault_of}
+use Rattle.{std.proofs.Common.{◌≡◌, take, map}, rnix_grammar.specs.Fault.fault_of}
 use Rattle.rnix.proofs.root.copies.Given as goal
 
 abbrev pub invariant-loop-error : goal.invariant-loop-error

@@ -1,9 +1,5 @@
-use Rattle.std.proofs.Common.{[]}
-use Rattle.rnix_kinds.specs.Lexical.Tokens.{tokens_of}
-use Rattle.rnix_kinds.proofs.Lexical.Laws.{AreSound-tokens_under}
-use Rattle.rnix_rows.proofs.PartRows.{shaped_rows}
-use Rattle.rnix.proofs.SameTree.{children_stay, child_stays}
-use Rattle.rnix.proofs.AnyParts.{kind_parts, read_parts}
+use Rattle.{std.proofs.Common.[], rnix_kinds.{specs.Lexical.Tokens.tokens_of, proofs.Lexical.Laws.AreSound-tokens_under}, rnix_rows.proofs.PartRows.shaped_rows}
+use Rattle.rnix.proofs.{SameTree.{children_stay, child_stays}, AnyParts.{kind_parts, read_parts}}
 use Rattle.rnix.proofs.whole.nodes_have_parts.Goals as goal
 
 pub returns : goal.returns

@@ -1,6 +1,4 @@
-use Rattle.std.proofs.Common.{◌≡◌, length}
-use Rattle.std.specs.Prelude.{slice_get}
-use Rattle.rnix_base.specs.Select.{those_of, child_of}
+use Rattle.{std.{proofs.Common.{◌≡◌, length}, specs.Prelude.slice_get}, rnix_base.specs.Select.{those_of, child_of}}
 use Rattle.rnix_base.proofs.accessors.child_at.Given as goal
 
 abbrev pub invariant-loop-node : goal.invariant-loop-node

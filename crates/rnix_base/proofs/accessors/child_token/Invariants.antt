@@ -1,5 +1,4 @@
-use Rattle.std.proofs.Common.{◌≡◌, find, length}
-use Rattle.rnix_base.specs.Select.{has_kind, tokens_in, token_of}
+use Rattle.{std.proofs.Common.{◌≡◌, find, length}, rnix_base.specs.Select.{has_kind, tokens_in, token_of}}
 use Rattle.rnix_base.proofs.accessors.child_token.Given as goal
 
 abbrev pub invariant-loop-element : goal.invariant-loop-element

@@ -1,7 +1,6 @@
-use Rattle.std.proofs.Common.{◌∙◌, ◌++◌, ap}
-use Rattle.rnix_base.proofs.EscapeLemmas.{is_character, character_escapes, letter_escapes}
+use Rattle.{std.proofs.Common.{◌∙◌, ◌++◌, ap}, rnix_base.proofs.{EscapeLemmas.{is_character, character_escapes, letter_escapes}, escapes.escape.Goals.in-n}}
+use Rattle.rnix_base.proofs.escapes.escape.Goals.{in-r, in-t, in_default}
 use Rattle.rnix_base.proofs.escapes.escape.Goals as goal
-use Rattle.rnix_base.proofs.escapes.escape.Goals.{in-n, in-r, in-t, in_default}
 
 pub returns : goal.returns
 returns c =

@@ -1,7 +1,4 @@
-use Rattle.std.proofs.Common.{arith, sym, ◌∙◌, subst}
-use Rattle.std.specs.Str.{IsCharBoundary}
-use Rattle.std.proofs.Math.Nat.{zero-add}
-use Rattle.std.proofs.lemmas.Str.{IsCharBoundary-past_char}
+use Rattle.std.{proofs.{Common.{arith, sym, ◌∙◌, subst}, Math.Nat.zero-add, lemmas.Str.IsCharBoundary-past_char}, specs.Str.IsCharBoundary}
 use Rattle.rnix_base.proofs.escapes.first_char.Goals as goal
 
 pub split_at-requires : goal.split_at-requires

@@ -1,5 +1,5 @@
-use Rattle.std.proofs.Common.{true, codes}
-use Rattle.rnix_base.proofs.EscapeLemmas.{strip_gives, primes_begin, dollar_begins, escape_begins, char_begins, primes_end, primes_free}
+use Rattle.{std.proofs.Common.{true, codes}, rnix_base.proofs.EscapeLemmas.{strip_gives, primes_begin, dollar_begins, escape_begins, char_begins, primes_end}}
+use Rattle.rnix_base.proofs.EscapeLemmas.{primes_free}
 use Rattle.rnix_base.proofs.escapes.indented_piece.Goals as goal
 
 pub returns-in-Some : goal.returns-in-Some

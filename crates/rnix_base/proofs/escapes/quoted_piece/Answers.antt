@@ -1,5 +1,4 @@
-use Rattle.std.proofs.Common.{false, codes}
-use Rattle.rnix_base.proofs.EscapeLemmas.{strip_gives, escape_begins, char_begins, quote_end, quote_free}
+use Rattle.{std.proofs.Common.{false, codes}, rnix_base.proofs.EscapeLemmas.{strip_gives, escape_begins, char_begins, quote_end, quote_free}}
 use Rattle.rnix_base.proofs.escapes.quoted_piece.Goals as goal
 
 pub returns-then-starts_with : goal.returns-then-starts_with

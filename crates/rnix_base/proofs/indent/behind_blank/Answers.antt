@@ -1,5 +1,4 @@
-use Rattle.std.proofs.Common.{arith}
-use Rattle.std.proofs.lemmas.Str.{IsCharBoundary-after_ascii}
+use Rattle.std.proofs.{Common.arith, lemmas.Str.IsCharBoundary-after_ascii}
 use Rattle.rnix_base.proofs.indent.behind_blank.Goals as goal
 
 pub range_from-requires : goal.range_from-requires

@@ -1,6 +1,4 @@
-use Rattle.std.proofs.Common.{◌≡◌, take}
-use Rattle.rnix_base.specs.Normal.{borrowed}
-use Rattle.rnix_base.specs.Indent.{indent_of, no_indent}
+use Rattle.{std.proofs.Common.{◌≡◌, take}, rnix_base.specs.{Normal.borrowed, Indent.{indent_of, no_indent}}}
 use Rattle.rnix_base.proofs.indent.least_indentation.Given as goal
 
 abbrev pub invariant-loop-part : goal.invariant-loop-part

@@ -1,6 +1,4 @@
-use Rattle.std.proofs.Common.{◌≡◌, ◌+◌, ◌≤◌, length, take}
-use Rattle.std.specs.List.{suffix_len}
-use Rattle.rnix_base.specs.Normal.{is_space}
+use Rattle.{std.{proofs.Common.{◌≡◌, ◌+◌, ◌≤◌, length, take}, specs.List.suffix_len}, rnix_base.specs.Normal.is_space}
 use Rattle.rnix_base.proofs.indent.trimmed_len.Given as goal
 
 abbrev pub invariant-loop-end : goal.invariant-loop-end

@@ -1,11 +1,8 @@
-use Rattle.std.proofs.Common.{◌≡◌, ◌++◌, ◌∙◌, ap, sym, arith, string_bytes}
-use Rattle.std.specs.Prelude.{encode_utf8, Some, false}
-use Rattle.std.proofs.lemmas.Bool.Decides.{nat_tests}
-use Rattle.std.proofs.lemmas.List.{append-nil, nil_from_length}
-use Rattle.rnix_base.specs.Indent.{kept, left_behind, is_lost}
-use Rattle.rnix_base.proofs.KeptLemmas.{lost_char, stays_char, not_lost, kept-nil, left_behind-nil, grown}
+use Rattle.std.proofs.{Common.{◌≡◌, ◌++◌, ◌∙◌, ap, sym, arith, string_bytes}, lemmas.{Bool.Decides.nat_tests, List.{append-nil, nil_from_length}}}
+use Rattle.{std.specs.Prelude.{encode_utf8, Some, false}, rnix_base.{specs.Indent.{kept, left_behind, is_lost}, proofs.KeptLemmas.{lost_char, stays_char}}}
+use Rattle.rnix_base.proofs.{KeptLemmas.{not_lost, kept-nil, left_behind-nil, grown}, indent.unindented.Goals.else-c-eq32-via-then-c-eq32+else-left-gt0}
+use Rattle.rnix_base.proofs.indent.unindented.Goals.{else-c-eq32-via-else-c-eq32}
 use Rattle.rnix_base.proofs.indent.unindented.Goals as goal
-use Rattle.rnix_base.proofs.indent.unindented.Goals.{else-c-eq32-via-then-c-eq32+else-left-gt0, else-c-eq32-via-else-c-eq32}
 
 pub loop-c-preserved-then-left-gt0 : goal.loop-c-preserved-then-left-gt0
 loop-c-preserved-then-left-gt0 c =

@@ -1,5 +1,4 @@
-use Rattle.std.proofs.Common.{◌≡◌, ◌++◌, length, string_bytes}
-use Rattle.rnix_base.specs.Indent.{kept, left_behind}
+use Rattle.{std.proofs.Common.{◌≡◌, ◌++◌, length, string_bytes}, rnix_base.specs.Indent.{kept, left_behind}}
 use Rattle.rnix_base.proofs.indent.unindented.Given as goal
 
 abbrev pub invariant-loop-c : goal.invariant-loop-c

@@ -1,6 +1,4 @@
-use Rattle.std.proofs.Common.{◌≡◌, ◌+◌, ◌-◌, arith, subst}
-use Rattle.std.specs.Str.{IsCharBoundary}
-use Rattle.std.proofs.lemmas.Str.{IsCharBoundary-after_ascii}
+use Rattle.std.{proofs.{Common.{◌≡◌, ◌+◌, ◌-◌, arith, subst}, lemmas.Str.IsCharBoundary-after_ascii}, specs.Str.IsCharBoundary}
 use Rattle.rnix_base.proofs.indent.without_last_spaces.Goals as goal
 
 pub range-requires-clause-end_boundary : goal.range-requires-clause-end_boundary

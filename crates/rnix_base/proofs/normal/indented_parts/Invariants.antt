@@ -1,6 +1,4 @@
-use Rattle.std.proofs.Common.{◌≡◌, ◌++◌, length}
-use Rattle.std.specs.Vec.Iter.{into_iter_items, into_iter_len}
-use Rattle.rnix_base.specs.Normal.{borrowed, owned}
+use Rattle.{std.{proofs.Common.{◌≡◌, ◌++◌, length}, specs.Vec.Iter.{into_iter_items, into_iter_len}}, rnix_base.specs.Normal.{borrowed, owned}}
 use Rattle.rnix_base.proofs.PartLemmas.{indented_from}
 use Rattle.rnix_base.proofs.normal.indented_parts.Given as goal
 

@@ -1,7 +1,5 @@
-use Rattle.std.proofs.Common.{[], ◌∷◌, ap, refl, length, arith}
-use Rattle.rnix_base.specs.declared.parts.InterpolPart.TheVariants.{Interpolation}
-use Rattle.rnix_base.proofs.KeptLemmas.{grown}
-use Rattle.rnix_base.proofs.StepLemmas.{quoted_next, pushed}
+use Rattle.{std.proofs.Common.{[], ◌∷◌, ap, refl, length, arith}, rnix_base.specs.declared.parts.InterpolPart.TheVariants.Interpolation}
+use Rattle.rnix_base.proofs.{KeptLemmas.grown, StepLemmas.{quoted_next, pushed}}
 use Rattle.rnix_base.proofs.normal.quoted_parts.Goals as goal
 
 pub loop-part-preserved : goal.loop-part-preserved

@@ -1,5 +1,4 @@
-use Rattle.std.proofs.Common.{◌≡◌, ◌++◌, length, map}
-use Rattle.rnix_base.specs.Parts.{part_of, parts_of, parts_below}
+use Rattle.{std.proofs.Common.{◌≡◌, ◌++◌, length, map}, rnix_base.specs.Parts.{part_of, parts_of, parts_below}}
 use Rattle.rnix_base.proofs.parts.all_parts.Given as goal
 
 abbrev pub invariant-loop-part : goal.invariant-loop-part

@@ -1,6 +1,4 @@
-use Rattle.std.proofs.Common.{◌≡◌, length}
-use Rattle.rnix_green.specs.Walk.{children_of}
-use Rattle.rnix_base.specs.Select.{tokens_in}
+use Rattle.{std.proofs.Common.{◌≡◌, length}, rnix_green.specs.Walk.children_of, rnix_base.specs.Select.tokens_in}
 use Rattle.rnix_base.proofs.parts.is_indented.Given as goal
 
 abbrev pub invariant-loop-element : goal.invariant-loop-element

@@ -1,6 +1,4 @@
-use Rattle.std.proofs.Common.{◌≡◌, ◌++◌, length, map}
-use Rattle.rnix_green.specs.Tree.{text_at}
-use Rattle.rnix_base.specs.Parts.{part_of, parts_of, texts_below}
+use Rattle.{std.proofs.Common.{◌≡◌, ◌++◌, length, map}, rnix_green.specs.Tree.text_at, rnix_base.specs.Parts.{part_of, parts_of, texts_below}}
 use Rattle.rnix_base.proofs.parts.text_parts.Given as goal
 
 abbrev pub invariant-loop-part : goal.invariant-loop-part

@@ -1,5 +1,4 @@
-use Rattle.std.proofs.Common.{refl, inr, rules}
-use Rattle.std.proofs.lemmas.Str.{encode_ascii}
+use Rattle.std.proofs.{Common.{refl, inr, rules}, lemmas.Str.encode_ascii}
 use Rattle.rnix_base.proofs.tokens.said.Goals as goal
 
 pub returns-in-None : goal.returns-in-None

@@ -1,7 +1,4 @@
-use Rattle.std.proofs.Common.{◌≤◌}
-use Rattle.rnix.specs.Inside.{inside_count, nodes_count, those_of}
-use Rattle.rnix.specs.NodeKinds.{is_expr}
-use Rattle.rnix.specs.Sums.{expr_node}
+use Rattle.{std.proofs.Common.◌≤◌, rnix.specs.{Inside.{inside_count, nodes_count, those_of}, NodeKinds.is_expr, Sums.expr_node}}
 use Rattle.rnix_example_tests.proofs.recursion.+nested_lists.Given as goal
 
 abbrev pub decreases-nested_lists : goal.decreases-nested_lists

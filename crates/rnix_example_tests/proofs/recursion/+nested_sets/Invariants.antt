@@ -1,5 +1,4 @@
-use Rattle.std.proofs.Common.{◌≤◌}
-use Rattle.rnix.specs.Inside.{inside_count, nodes_count}
+use Rattle.{std.proofs.Common.◌≤◌, rnix.specs.Inside.{inside_count, nodes_count}}
 use Rattle.rnix_example_tests.proofs.recursion.+nested_sets.Given as goal
 
 abbrev pub decreases-nested_sets : goal.decreases-nested_sets

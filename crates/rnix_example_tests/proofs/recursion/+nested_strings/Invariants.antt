@@ -1,6 +1,4 @@
-use Rattle.std.proofs.Common.{◌≤◌}
-use Rattle.rnix.specs.Inside.{inside_count, interpolations_count}
-use Rattle.rnix.specs.Sums.{expr_node}
+use Rattle.{std.proofs.Common.◌≤◌, rnix.specs.{Inside.{inside_count, interpolations_count}, Sums.expr_node}}
 use Rattle.rnix_example_tests.proofs.recursion.+nested_strings.Given as goal
 
 abbrev pub decreases-nested_strings : goal.decreases-nested_strings

@@ -1,5 +1,4 @@
-use Rattle.std.proofs.Common.{◌≤◌}
-use Rattle.rnix.specs.Inside.{inside_count, spots_count}
+use Rattle.{std.proofs.Common.◌≤◌, rnix.specs.Inside.{inside_count, spots_count}}
 use Rattle.rnix_example_tests.proofs.recursion.+tokens_within.Given as goal
 
 abbrev pub decreases-tokens_within : goal.decreases-tokens_within

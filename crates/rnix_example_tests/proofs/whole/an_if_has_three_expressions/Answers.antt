@@ -1,9 +1,6 @@
 -- The text has no errors, and the node stands in its tree.
-use Rattle.std.proofs.Common.{◌≡◌, [], ap, sym, ◌∙◌, subst}
-use Rattle.std.specs.Prelude.{IfSome, option_map}
-use Rattle.rnix_grammar.specs.Parsed.{IsParsed}
-use Rattle.rnix.specs.NodeKinds.{is_expr}
-use Rattle.rnix.specs.Sums.{expr_node}
+use Rattle.{std.{proofs.Common.{◌≡◌, [], ap, sym, ◌∙◌, subst}, specs.Prelude.{IfSome, option_map}}, rnix_grammar.specs.Parsed.IsParsed}
+use Rattle.rnix.specs.{NodeKinds.is_expr, Sums.expr_node}
 use Rattle.rnix_example_tests.proofs.whole.an_if_has_three_expressions.Goals as goal
 
 pub branches-requires : goal.branches-requires

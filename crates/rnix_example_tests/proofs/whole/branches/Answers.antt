@@ -1,8 +1,6 @@
 -- The expressions of an `if` are there.
-use Rattle.std.proofs.Common.{◌≡◌, Option, Some, None, refl, ap, ◌∙◌, subst}
-use Rattle.std.specs.Prelude.{IsSome, is_some, option_map}
+use Rattle.{std.{proofs.Common.{◌≡◌, Option, Some, None, refl, ap, ◌∙◌, subst}, specs.Prelude.{IsSome, is_some, option_map}}, rnix_base.specs.Select.HasKind}
 use Rattle.rnix_kinds.specs.declared.kinds.SyntaxKind.TheVariants as k
-use Rattle.rnix_base.specs.Select.{HasKind}
 use Rattle.rnix_example_tests.proofs.whole.branches.Goals as goal
 
 is_given : {A B : Type 0} (f : A → B) (r : Option A) (c : Option B) → option_map f r ≡ c → IsSome c → IsSome r

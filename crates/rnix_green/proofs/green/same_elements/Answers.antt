@@ -1,5 +1,4 @@
-use Rattle.std.proofs.lemmas.Slice.Eq.{slice_eq-Decides}
-use Rattle.rnix_green.specs.SameElements.{same_element-decides}
+use Rattle.{std.proofs.lemmas.Slice.Eq.slice_eq-Decides, rnix_green.specs.SameElements.same_element-decides}
 use Rattle.rnix_green.proofs.green.same_elements.Goals as goal
 
 pub returns : goal.returns

@@ -1,13 +1,8 @@
-use Rattle.std.proofs.Common.{◌≡◌, length, reverse, ◌+◌, ◌-◌, suc, take, arith, refl, ap, ◌∙◌}
-use Rattle.std.proofs.lemmas.List.{length-take-le, length_push, length-reverse, length-set}
-use Rattle.std.proofs.Math.ListN.{set}
-use Rattle.rnix_green.specs.declared.postorder.Frame.{Frame}
-use Rattle.rnix_green.specs.Entries.{made}
-use Rattle.rnix_green.specs.Packed.{packed, size_in}
-use Rattle.rnix_green.specs.Kept.{parent_or_root}
-use Rattle.rnix_green.specs.Postorder.{parent_number, frame_kept, HasMore, IsReached}
-use Rattle.rnix_green.proofs.PostorderLemmas.{length-entries_before, leaf_at, node_at, node_placed, leaf_placed, node_framed, placed_all, init_work}
-use Rattle.rnix_green.proofs.PairLemmas.{token_again, pair_fits, pair_read, pair_placed}
+use Rattle.std.proofs.{Common.{◌≡◌, length, reverse, ◌+◌, ◌-◌, suc, take, arith, refl, ap, ◌∙◌}, lemmas.List.{length-take-le, length_push, length-reverse}}
+use Rattle.{std.proofs.{lemmas.List.length-set, Math.ListN.set}, rnix_green.specs.{declared.postorder.Frame.Frame, Entries.made, Packed.{packed, size_in}}}
+use Rattle.rnix_green.{specs.{Kept.parent_or_root, Postorder.{parent_number, frame_kept, HasMore, IsReached}}, proofs.PostorderLemmas.length-entries_before}
+use Rattle.rnix_green.proofs.{PostorderLemmas.{leaf_at, node_at, node_placed, leaf_placed, node_framed, placed_all, init_work}, PairLemmas.token_again}
+use Rattle.rnix_green.proofs.PairLemmas.{pair_fits, pair_read, pair_placed}
 use Rattle.rnix_green.proofs.postorder.in_preorder.Goals as goal
 
 pub elements-init : goal.elements-init

@@ -1,6 +1,4 @@
-use Rattle.std.proofs.Common.{◌≤◌, ◌+◌, ◌*◌, reverse, drop, length}
-use Rattle.rnix_green.specs.Postorder.{IsWork}
-use Rattle.rnix_green.specs.Entries.{made}
+use Rattle.{std.proofs.Common.{◌≤◌, ◌+◌, ◌*◌, reverse, drop, length}, rnix_green.specs.{Postorder.IsWork, Entries.made}}
 use Rattle.rnix_green.proofs.PostorderLemmas.{entries_before}
 use Rattle.rnix_green.proofs.postorder.in_preorder.Given as goal
 

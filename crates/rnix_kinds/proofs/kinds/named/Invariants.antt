@@ -1,6 +1,4 @@
-use Rattle.std.proofs.Common.{◌≡◌}
-use Rattle.std.specs.List.{AllWithin}
-use Rattle.rnix_kinds.specs.SyntaxKind.{name_of}
+use Rattle.{std.{proofs.Common.◌≡◌, specs.List.AllWithin}, rnix_kinds.specs.SyntaxKind.name_of}
 use Rattle.rnix_kinds.proofs.kinds.named.Given as goal
 
 abbrev pub invariant-loop-kind : goal.invariant-loop-kind

@@ -1,8 +1,4 @@
-use Rattle.std.proofs.Common.{sym, subst}
-use Rattle.std.specs.Prelude.{◌≡◌, Bool}
-use Rattle.std.specs.Bool.{Decides}
-use Rattle.std.specs.FinSet.{contains}
-use Rattle.rnix_kinds.specs.declared.kinds.SyntaxKind.{SyntaxKind}
+use Rattle.{std.{proofs.Common.{sym, subst}, specs.{Prelude.{◌≡◌, Bool}, Bool.Decides, FinSet.contains}}, rnix_kinds.specs.declared.kinds.SyntaxKind.SyntaxKind}
 use Rattle.rnix_kinds.proofs.KindSets.{same_number-decides, same_number-members}
 use Rattle.rnix_kinds.proofs.token_set.same_sets.Goals as goal
 

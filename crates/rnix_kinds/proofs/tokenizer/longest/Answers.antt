@@ -1,7 +1,5 @@
-use Rattle.std.proofs.Common.{lit<}
-use Rattle.rnix_kinds.proofs.Lexical.LongestLemmas.{prefix_len-IsLongest, content_len-IsLongest, before_pair-IsFirstPair}
-use Rattle.rnix_kinds.proofs.Lexical.OperatorsLemmas.{operator-IsLongest}
-use Rattle.rnix_kinds.proofs.Lexical.SchemeLemmas.{scheme_ends}
+use Rattle.{std.proofs.Common.lit<, rnix_kinds.proofs.Lexical.LongestLemmas.{prefix_len-IsLongest, content_len-IsLongest, before_pair-IsFirstPair}}
+use Rattle.rnix_kinds.proofs.Lexical.{OperatorsLemmas.operator-IsLongest, SchemeLemmas.scheme_ends}
 use Rattle.rnix_kinds.proofs.tokenizer.longest.Goals as goal
 
 pub returns : goal.returns

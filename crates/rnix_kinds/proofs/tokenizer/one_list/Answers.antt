@@ -1,6 +1,5 @@
-use Rattle.std.proofs.Common.{[]}
-use Rattle.rnix_kinds.specs.Lexical.Tokens.{tokens_of}
-use Rattle.rnix_kinds.proofs.Lexical.Laws.{AreTokens-tokens_under, AreTokens-unique, AreSound-tokens_under}
+use Rattle.{std.proofs.Common.[], rnix_kinds.{specs.Lexical.Tokens.tokens_of, proofs.Lexical.Laws.{AreTokens-tokens_under, AreTokens-unique}}}
+use Rattle.rnix_kinds.proofs.Lexical.Laws.{AreSound-tokens_under}
 use Rattle.rnix_kinds.proofs.tokenizer.one_list.Goals as goal
 
 pub returns : goal.returns

@@ -1,7 +1,4 @@
-use Rattle.std.proofs.Common.{◌++◌, map, ap}
-use Rattle.std.proofs.lemmas.Str.{IsCharBoundary-start}
-use Rattle.rnix_text.specs.Edit.{change_of}
-use Rattle.rnix_text.specs.Changes.{changed_from}
+use Rattle.{std.proofs.{Common.{◌++◌, map, ap}, lemmas.Str.IsCharBoundary-start}, rnix_text.specs.{Edit.change_of, Changes.changed_from}}
 use Rattle.rnix_text.proofs.edits.changed.Goals as goal
 
 pub loop-edit-init : goal.loop-edit-init

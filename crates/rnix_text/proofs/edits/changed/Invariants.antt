@@ -1,7 +1,5 @@
-use Rattle.std.proofs.Common.{◌≡◌, ◌++◌, drop, map, string_bytes}
-use Rattle.std.specs.Str.{IsCharBoundary}
-use Rattle.rnix_text.specs.Edit.{change_of}
-use Rattle.rnix_text.specs.Changes.{AreInOrder, changed_from}
+use Rattle.{std.{proofs.Common.{◌≡◌, ◌++◌, drop, map, string_bytes}, specs.Str.IsCharBoundary}, rnix_text.specs.{Edit.change_of, Changes.AreInOrder}}
+use Rattle.rnix_text.specs.Changes.{changed_from}
 use Rattle.rnix_text.proofs.edits.changed.Given as goal
 
 abbrev pub invariant-loop-edit : goal.invariant-loop-edit

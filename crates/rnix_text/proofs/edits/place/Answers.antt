@@ -1,6 +1,4 @@
-use Rattle.std.proofs.Common.{rules, ◌<◌, length, ap, arith}
-use Rattle.std.proofs.lemmas.List.{get_or_read}
-use Rattle.std.proofs.lemmas.List.Sorted.{IsPartitionPoint-from_clause}
+use Rattle.std.proofs.{Common.{rules, ◌<◌, length, ap, arith}, lemmas.List.{get_or_read, Sorted.IsPartitionPoint-from_clause}}
 use Rattle.rnix_text.proofs.ChangeLemmas.{ends_by, parted, placed, met_there}
 use Rattle.rnix_text.proofs.edits.place.Goals as goal
 

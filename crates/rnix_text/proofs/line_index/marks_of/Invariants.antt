@@ -1,5 +1,4 @@
-use Rattle.std.proofs.Common.{◌≡◌, ◌*◌, ◌≤◌, ◌++◌, drop}
-use Rattle.rnix_text.specs.Marks.{marks_behind, marks_of}
+use Rattle.{std.proofs.Common.{◌≡◌, ◌*◌, ◌≤◌, ◌++◌, drop}, rnix_text.specs.Marks.{marks_behind, marks_of}}
 use Rattle.rnix_text.proofs.line_index.marks_of.Given as goal
 
 abbrev pub invariant-loop-byte : goal.invariant-loop-byte

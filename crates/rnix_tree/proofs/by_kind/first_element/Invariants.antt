@@ -1,5 +1,4 @@
-use Rattle.std.proofs.Common.{◌≡◌, find, length}
-use Rattle.rnix_tree.specs.ByKind.{is_spot_of_kind}
+use Rattle.{std.proofs.Common.{◌≡◌, find, length}, rnix_tree.specs.ByKind.is_spot_of_kind}
 use Rattle.rnix_tree.proofs.by_kind.first_element.Given as goal
 
 abbrev pub invariant-loop-element : goal.invariant-loop-element

@@ -1,6 +1,4 @@
-use Rattle.std.proofs.Common.{◌≡◌, List, ℕ, Ok, IfSome, subst, sym, refl}
-use Rattle.rnix_tree.specs.Lines.{indent, spot_text}
-use Rattle.rnix_tree.specs.Spots.{spot_of}
+use Rattle.{std.proofs.Common.{◌≡◌, List, ℕ, Ok, IfSome, subst, sym, refl}, rnix_tree.specs.{Lines.{indent, spot_text}, Spots.spot_of}}
 use Rattle.rnix_tree.proofs.TextLemmas.{line_written}
 use Rattle.rnix_tree.proofs.debug.write_line.Goals as goal
 

@@ -1,5 +1,4 @@
-use Rattle.std.proofs.Common.{◌≡◌, ◌-◌, List, ℕ, ◌++◌, Option, take, codes, subst, refl, ap, ◌∙◌, arith}
-use Rattle.std.specs.Fmt.{DisplaysOnOk, debug_str}
+use Rattle.std.{proofs.Common.{◌≡◌, ◌-◌, List, ℕ, ◌++◌, Option, take, codes, subst, refl, ap, ◌∙◌, arith}, specs.Fmt.{DisplaysOnOk, debug_str}}
 use Rattle.rnix_tree.proofs.DebugLemmas.{start_shown}
 use Rattle.rnix_tree.proofs.debug.write_start.Goals as goal
 

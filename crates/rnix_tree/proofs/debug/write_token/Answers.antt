@@ -1,9 +1,5 @@
-use Rattle.std.proofs.Common.{Some, Ok, codes, refl, ap, ◌∙◌}
-use Rattle.std.proofs.Output.{displays_on_IsOk_append, displays_on_ok_of_eq}
-use Rattle.std.specs.Fmt.{debug_str}
-use Rattle.rnix_green.specs.Range.{bounds_of}
-use Rattle.rnix_green.specs.Tree.{item_of, extent_of}
-use Rattle.rnix_tree.specs.Lines.{element_text, shown}
+use Rattle.std.{proofs.{Common.{Some, Ok, codes, refl, ap, ◌∙◌}, Output.{displays_on_IsOk_append, displays_on_ok_of_eq}}, specs.Fmt.debug_str}
+use Rattle.{rnix_green.specs.{Range.bounds_of, Tree.{item_of, extent_of}}, rnix_tree.specs.Lines.{element_text, shown}}
 use Rattle.rnix_tree.proofs.debug.write_token.Goals as goal
 
 pub returns : goal.returns

@@ -1,6 +1,4 @@
-use Rattle.std.proofs.Common.{◌≡◌, ℕ, List, Option, IfSome, ◌+◌, ◌<◌, ◌^◌}
-use Rattle.std.specs.Fmt.{◌++?◌, IsFlush, HasWrittenStyled}
-use Rattle.rnix_green.specs.Walk.{preorder_of}
+use Rattle.{std.{proofs.Common.{◌≡◌, ℕ, List, Option, IfSome, ◌+◌, ◌<◌, ◌^◌}, specs.Fmt.{◌++?◌, IsFlush, HasWrittenStyled}}, rnix_green.specs.Walk.preorder_of}
 use Rattle.rnix_tree.specs.Walked.{event_texts, entered_in, IsNested}
 use Rattle.rnix_tree.proofs.debug.write_tree.Given as goal
 

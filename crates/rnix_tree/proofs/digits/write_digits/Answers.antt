@@ -1,5 +1,4 @@
-use Rattle.std.proofs.Common.{◌≡◌, ◌+◌, ◌-◌, arith, append_assoc}
-use Rattle.rnix_tree.proofs.DigitLemmas.{decimal_pair, length_pair}
+use Rattle.{std.proofs.Common.{◌≡◌, ◌+◌, ◌-◌, arith, append_assoc}, rnix_tree.proofs.DigitLemmas.{decimal_pair, length_pair}}
 use Rattle.rnix_tree.proofs.digits.write_digits.Goals as goal
 
 pub overflow_sub-at : goal.overflow_sub-at

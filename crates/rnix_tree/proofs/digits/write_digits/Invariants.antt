@@ -1,5 +1,4 @@
-use Rattle.std.proofs.Common.{◌≡◌, ◌+◌, ◌≤◌, ◌++◌, length, drop}
-use Rattle.std.specs.Fmt.{decimal}
+use Rattle.std.{proofs.Common.{◌≡◌, ◌+◌, ◌≤◌, ◌++◌, length, drop}, specs.Fmt.decimal}
 use Rattle.rnix_tree.proofs.digits.write_digits.Given as goal
 
 -- the digits that are left and those that are written are those of the number

@@ -1,7 +1,5 @@
-use Rattle.std.proofs.Common.{◌≡◌, ◌+◌, ◌-◌, arith}
-use Rattle.std.proofs.lemmas.Fmt.{decimal_digit}
-use Rattle.std.proofs.lemmas.List.{drop-set}
-use Rattle.rnix_tree.proofs.DigitLemmas.{length_one, decimal_two, length_two}
+use Rattle.{std.proofs.{Common.{◌≡◌, ◌+◌, ◌-◌, arith}, lemmas.{Fmt.decimal_digit, List.drop-set}}, rnix_tree.proofs.DigitLemmas.{length_one, decimal_two}}
+use Rattle.rnix_tree.proofs.DigitLemmas.{length_two}
 use Rattle.rnix_tree.proofs.digits.write_first.Goals as goal
 
 pub overflow_sub-bytes : goal.overflow_sub-bytes

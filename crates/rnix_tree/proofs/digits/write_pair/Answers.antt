@@ -1,5 +1,4 @@
-use Rattle.std.proofs.Common.{◌≡◌, ◌+◌, ◌/◌, ◌%◌, set, arith, length-set}
-use Rattle.std.proofs.lemmas.List.{set_comm, drop-set}
+use Rattle.std.proofs.{Common.{◌≡◌, ◌+◌, ◌%◌, set, arith, length-set}, lemmas.List.{set_comm, drop-set}}
 use Rattle.rnix_tree.proofs.digits.write_pair.Goals as goal
 
 pub returns : goal.returns

@@ -1,6 +1,4 @@
-use Rattle.std.proofs.Common.{◌≡◌, ap, arith}
-use Rattle.rnix_green.specs.Tree.{Item, item}
-use Rattle.rnix_tree.proofs.OffsetLemmas.{only_last, last_is_token}
+use Rattle.{std.proofs.Common.{◌≡◌, ap, arith}, rnix_green.specs.Tree.{Item, item}, rnix_tree.proofs.OffsetLemmas.{only_last, last_is_token}}
 use Rattle.rnix_tree.proofs.offset.token_before.Goals as goal
 
 pub returns-clause-token : goal.returns-clause-token

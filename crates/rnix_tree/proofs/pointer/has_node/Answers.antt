@@ -1,6 +1,4 @@
-use Rattle.std.proofs.Common.{ap, ◌∙◌, arith}
-use Rattle.rnix_tree.specs.Pointer.{address_in, fits}
-use Rattle.rnix_tree.proofs.PointerLemmas.{fits-decides}
+use Rattle.{std.proofs.Common.{ap, ◌∙◌, arith}, rnix_tree.{specs.Pointer.{address_in, fits}, proofs.PointerLemmas.fits-decides}}
 use Rattle.rnix_tree.proofs.pointer.has_node.Goals as goal
 
 pub returns-then-pointer-element_count : goal.returns-then-pointer-element_count

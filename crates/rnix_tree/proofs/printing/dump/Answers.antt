@@ -1,11 +1,6 @@
-use Rattle.std.proofs.Common.{ℕ, List, [], ◌++◌, subst, ap, ◌∙◌, refl}
-use Rattle.std.proofs.KnownBytes.{Appends-nil, Appends-trans}
-use Rattle.std.specs.Io.KnownBytes.{Appends}
-use Rattle.rnix_green.specs.Tree.{item_of, extent_of}
-use Rattle.rnix_tree.specs.Spots.{place_of}
-use Rattle.rnix_tree.specs.Lines.{line_of}
-use Rattle.rnix_tree.specs.Walked.{event_lines}
-use Rattle.rnix_tree.proofs.DumpLemmas.{entered, deeper, finished, begun}
+use Rattle.std.{proofs.{Common.{ℕ, List, [], ◌++◌, subst, ap, ◌∙◌, refl}, KnownBytes.{Appends-nil, Appends-trans}}, specs.Io.KnownBytes.Appends}
+use Rattle.{rnix_green.specs.Tree.{item_of, extent_of}, rnix_tree.{specs.{Spots.place_of, Lines.line_of, Walked.event_lines}, proofs.DumpLemmas.entered}}
+use Rattle.rnix_tree.proofs.DumpLemmas.{deeper, finished, begun}
 use Rattle.rnix_tree.proofs.printing.dump.Goals as goal
 
 pub loop-event-init : goal.loop-event-init

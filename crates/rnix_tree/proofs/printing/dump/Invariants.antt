@@ -1,6 +1,4 @@
-use Rattle.std.proofs.Common.{◌≡◌, ℕ, List, ◌++◌, ◌+◌, ◌<◌, ◌^◌}
-use Rattle.std.specs.Io.KnownBytes.{Appends}
-use Rattle.rnix_green.specs.Walk.{preorder_of}
+use Rattle.{std.{proofs.Common.{◌≡◌, ℕ, List, ◌++◌, ◌+◌, ◌<◌, ◌^◌}, specs.Io.KnownBytes.Appends}, rnix_green.specs.Walk.preorder_of}
 use Rattle.rnix_tree.specs.Walked.{event_lines, entered_in, IsNested}
 use Rattle.rnix_tree.proofs.printing.dump.Given as goal
 

@@ -1,7 +1,5 @@
-use Rattle.std.proofs.Common.{◌≡◌, ℕ, ◌+◌, ◌-◌, [], ◌++◌, sym, ap, ◌∙◌, refl, arith, append_assoc}
-use Rattle.std.proofs.KnownBytes.{Appends-nil, Appends-trans}
-use Rattle.rnix_tree.specs.Lines.{indent}
-use Rattle.rnix_tree.proofs.LineLemmas.{appends_then, indent_sum, indent_front}
+use Rattle.std.proofs.{Common.{◌≡◌, ℕ, ◌+◌, ◌-◌, [], ◌++◌, sym, ap, ◌∙◌, refl, arith, append_assoc}, KnownBytes.{Appends-nil, Appends-trans}}
+use Rattle.rnix_tree.{specs.Lines.indent, proofs.LineLemmas.{appends_then, indent_sum, indent_front}}
 use Rattle.rnix_tree.proofs.printing.write_indent.Goals as goal
 
 pub loop-left-init : goal.loop-left-init

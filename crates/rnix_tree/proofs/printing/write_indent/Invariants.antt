@@ -1,6 +1,4 @@
-use Rattle.std.proofs.Common.{◌≡◌, List, ℕ, ◌++◌}
-use Rattle.std.specs.Io.KnownBytes.{Appends}
-use Rattle.rnix_tree.specs.Lines.{indent}
+use Rattle.{std.{proofs.Common.{◌≡◌, List, ℕ, ◌++◌}, specs.Io.KnownBytes.Appends}, rnix_tree.specs.Lines.indent}
 use Rattle.rnix_tree.proofs.printing.write_indent.Given as goal
 
 abbrev pub invariant-loop-left : goal.invariant-loop-left

@@ -1,8 +1,5 @@
-use Rattle.std.proofs.Common.{◌≡◌, ℕ, ◌<◌, ◌-◌, ◌^◌, ◌++◌, List, length, codes, arith, rules, subst, set, ap, ◌∙◌}
-use Rattle.std.proofs.lemmas.List.{length-set}
-use Rattle.std.specs.Prelude.{decimal}
-use Rattle.std.specs.Io.KnownBytes.{Appends}
-use Rattle.rnix_tree.proofs.LineLemmas.{decimal_short, range_bytes}
+use Rattle.std.proofs.{Common.{◌≡◌, ℕ, ◌<◌, ◌-◌, ◌^◌, ◌++◌, List, length, codes, arith, rules, subst, set, ap, ◌∙◌}, lemmas.List.length-set}
+use Rattle.{std.specs.{Prelude.decimal, Io.KnownBytes.Appends}, rnix_tree.proofs.LineLemmas.{decimal_short, range_bytes}}
 use Rattle.rnix_tree.proofs.printing.write_range.Goals as goal
 
 pub write_digits-end-requires : goal.write_digits-end-requires

@@ -1,8 +1,5 @@
-use Rattle.std.proofs.Common.{◌<◌, ◌∙◌, length, sym, ap, arith}
-use Rattle.rnix_green.specs.Tree.{Item, items_of}
-use Rattle.rnix_green.proofs.SiblingLemmas.{next_inside}
-use Rattle.rnix_green.proofs.ParentLemmas.{parent_is_before}
-use Rattle.rnix_tree.proofs.RelativeLemmas.{climb_step, climb_goes}
+use Rattle.{std.proofs.Common.{◌<◌, ◌∙◌, length, sym, ap, arith}, rnix_green.{specs.Tree.{Item, items_of}, proofs.SiblingLemmas.next_inside}}
+use Rattle.{rnix_green.proofs.ParentLemmas.parent_is_before, rnix_tree.proofs.RelativeLemmas.{climb_step, climb_goes}}
 use Rattle.rnix_tree.proofs.relatives.child_over.Goals as goal
 
 pub element-requires : goal.element-requires

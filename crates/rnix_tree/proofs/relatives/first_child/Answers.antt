@@ -1,6 +1,4 @@
-use Rattle.std.proofs.Common.{ap, arith}
-use Rattle.rnix_green.specs.Tree.{Item}
-use Rattle.rnix_tree.proofs.RelativeLemmas.{first_there, no_first}
+use Rattle.{std.proofs.Common.{ap, arith}, rnix_green.specs.Tree.Item, rnix_tree.proofs.RelativeLemmas.{first_there, no_first}}
 use Rattle.rnix_tree.proofs.relatives.first_child.Goals as goal
 
 pub returns-then-element-gt0 : goal.returns-then-element-gt0

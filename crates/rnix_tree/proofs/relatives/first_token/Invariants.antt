@@ -1,5 +1,4 @@
-use Rattle.std.proofs.Common.{ℕ, ◌≤◌, ◌<◌}
-use Rattle.rnix_green.specs.Relatives.{IsTokenIn}
+use Rattle.{std.proofs.Common.{ℕ, ◌≤◌, ◌<◌}, rnix_green.specs.Relatives.IsTokenIn}
 use Rattle.rnix_tree.proofs.relatives.first_token.Given as goal
 
 abbrev pub invariant-loop-number : goal.invariant-loop-number

@@ -1,6 +1,4 @@
-use Rattle.std.proofs.Common.{◌≡◌, ◌+◌, ap, subst, arith}
-use Rattle.rnix_green.specs.Tree.{Item, item}
-use Rattle.rnix_tree.specs.Around.{IsOnWayTo}
+use Rattle.{std.proofs.Common.{◌≡◌, ◌+◌, ap, subst, arith}, rnix_green.specs.Tree.{Item, item}, rnix_tree.specs.Around.IsOnWayTo}
 use Rattle.rnix_tree.proofs.RelativeLemmas.{last_there, no_last}
 use Rattle.rnix_tree.proofs.relatives.last_child.Goals as goal
 

@@ -1,8 +1,5 @@
-use Rattle.std.proofs.Common.{◌≡◌, ◌<◌, ◌+◌, ◌∙◌, Some, length, sym, ap, subst, arith}
-use Rattle.rnix_green.specs.Tree.{Item, items_of, item}
-use Rattle.rnix_green.specs.Relatives.{IsFirst, IsSibling}
-use Rattle.rnix_green.proofs.InsideLemmas.{below_parent}
-use Rattle.rnix_tree.proofs.RelativeLemmas.{no_next_of_root, next_there, no_next}
+use Rattle.{std.proofs.Common.{◌≡◌, ◌<◌, ◌+◌, ◌∙◌, Some, length, sym, ap, subst, arith}, rnix_green.specs.{Tree.{Item, items_of, item}, Relatives.IsFirst}}
+use Rattle.{rnix_green.{specs.Relatives.IsSibling, proofs.InsideLemmas.below_parent}, rnix_tree.proofs.RelativeLemmas.{no_next_of_root, next_there, no_next}}
 use Rattle.rnix_tree.proofs.relatives.next_sibling.Goals as goal
 
 pub returns-in_default : goal.returns-in_default

@@ -1,6 +1,4 @@
-use Rattle.std.proofs.Common.{◌≡◌, ◌<◌, ◌∙◌, Some, length, sym, ap, arith}
-use Rattle.rnix_green.specs.Tree.{Item, items_of, item}
-use Rattle.rnix_green.proofs.InsideLemmas.{below_parent}
+use Rattle.{std.proofs.Common.{◌≡◌, ◌<◌, ◌∙◌, Some, length, sym, ap, arith}, rnix_green.{specs.Tree.{Item, items_of, item}, proofs.InsideLemmas.below_parent}}
 use Rattle.rnix_tree.proofs.RelativeLemmas.{no_prev_of_root, no_prev, prev_there}
 use Rattle.rnix_tree.proofs.relatives.prev_sibling.Goals as goal
 

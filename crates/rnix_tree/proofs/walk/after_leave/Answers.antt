@@ -1,6 +1,5 @@
-use Rattle.std.proofs.Common.{◌≡◌, ◌<◌, arith, ap, sym, ◌∙◌, Some}
-use Rattle.rnix_green.specs.Tree.{Item, item}
-use Rattle.rnix_green.proofs.ParentLemmas.{parent_is_node, parent_is_before}
+use Rattle.{std.proofs.Common.{◌≡◌, ◌<◌, arith, ap, sym, ◌∙◌, Some}, rnix_green.{specs.Tree.{Item, item}, proofs.ParentLemmas.parent_is_node}}
+use Rattle.rnix_green.proofs.ParentLemmas.{parent_is_before}
 use Rattle.rnix_tree.proofs.walk.after_leave.Goals as goal
 
 pub overflow_add-parent : goal.overflow_add-parent

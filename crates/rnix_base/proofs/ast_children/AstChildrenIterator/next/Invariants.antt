@@ -1,5 +1,4 @@
-use Rattle.std.proofs.Common.{◌≡◌, length}
-use Rattle.rnix_base.specs.Select.{those_of}
+use Rattle.{std.proofs.Common.{◌≡◌, length}, rnix_base.specs.Select.those_of}
 use Rattle.rnix_base.proofs.ast_children.AstChildrenIterator.next.Given as goal
 
 abbrev pub invariant-loop-node : goal.invariant-loop-node

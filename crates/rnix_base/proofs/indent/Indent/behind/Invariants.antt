@@ -1,5 +1,4 @@
-use Rattle.std.proofs.Common.{◌≡◌, take}
-use Rattle.rnix_base.specs.Indent.{indent_behind}
+use Rattle.{std.proofs.Common.{◌≡◌, take}, rnix_base.specs.Indent.indent_behind}
 use Rattle.rnix_base.proofs.indent.Indent.behind.Given as goal
 
 abbrev pub invariant-loop-b : goal.invariant-loop-b

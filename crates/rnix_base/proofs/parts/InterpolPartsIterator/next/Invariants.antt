@@ -1,5 +1,4 @@
-use Rattle.std.proofs.Common.{◌≡◌, length}
-use Rattle.rnix_base.specs.Parts.{parts_of}
+use Rattle.{std.proofs.Common.{◌≡◌, length}, rnix_base.specs.Parts.parts_of}
 use Rattle.rnix_base.proofs.parts.InterpolPartsIterator.next.Given as goal
 
 abbrev pub invariant-loop-element : goal.invariant-loop-element

@@ -1,11 +1,5 @@
-use Rattle.std.proofs.Common.{ap, ◌∙◌, ◌≡◌, true, map, None}
-use Rattle.std.specs.String.{string_bytes}
-use Rattle.rnix_green.specs.Draft.{Draft, is_one_node}
-use Rattle.rnix_green.specs.Entries.{made}
-use Rattle.rnix_green.specs.Kept.{IsKept, as_tree, kept_from}
-use Rattle.rnix_green.specs.Postorder.{entry_of}
-use Rattle.rnix_green.proofs.EntriesLemmas.{complete-parts}
-use Rattle.rnix_green.proofs.KeptLemmas.{finished_kept, kept, finished_is}
+use Rattle.{std.{proofs.Common.{ap, ◌∙◌, ◌≡◌, true, None}, specs.String.string_bytes}, rnix_green.specs.{Draft.{Draft, is_one_node}, Entries.made, Kept.IsKept}}
+use Rattle.rnix_green.{specs.Kept.{as_tree, kept_from}, proofs.{EntriesLemmas.complete-parts, KeptLemmas.{finished_kept, kept, finished_is}}}
 use Rattle.rnix_green.proofs.builder.GreenNodeBuilder.finish.Goals as goal
 
 whole : (c : goal.In_ok-elements) →

@@ -1,11 +1,6 @@
-use Rattle.std.proofs.Common.{arith, ◌≡◌, ◌+◌, ◌-◌, ◌<◌, length, map, sym, ap, ◌∙◌, get_or}
-use Rattle.std.proofs.lemmas.List.{length-map}
-use Rattle.std.specs.String.{string_bytes}
-use Rattle.rnix_green.specs.Entries.{made, open_pairs, IsBuilt}
-use Rattle.rnix_green.specs.Draft.{wrapped}
-use Rattle.rnix_green.specs.Packed.{packed}
-use Rattle.rnix_green.specs.Postorder.{entry_of}
-use Rattle.rnix_green.proofs.EntriesLemmas.{first_entry, first_entry_le, built-closed, length-open_pairs, settled, built_is, closed_view}
+use Rattle.std.{proofs.{Common.{arith, ◌≡◌, ◌+◌, ◌-◌, ◌<◌, length, map, sym, ap, ◌∙◌, get_or}, lemmas.List.length-map}, specs.String.string_bytes}
+use Rattle.rnix_green.{specs.{Entries.{made, open_pairs, IsBuilt}, Draft.wrapped, Packed.packed, Postorder.entry_of}, proofs.EntriesLemmas.first_entry}
+use Rattle.rnix_green.proofs.EntriesLemmas.{first_entry_le, built-closed, length-open_pairs, settled, built_is, closed_view}
 use Rattle.rnix_green.proofs.builder.GreenNodeBuilder.finish_node.Goals as goal
 
 pub overflow_sub-end : goal.overflow_sub-end

@@ -1,7 +1,4 @@
-use Rattle.std.proofs.Common.{arith, ap, ◌∙◌, map}
-use Rattle.rnix_green.specs.Entries.{is_node_last}
-use Rattle.rnix_green.specs.Postorder.{entry_of}
-use Rattle.rnix_green.proofs.KeptLemmas.{complete_is}
+use Rattle.{std.proofs.Common.{arith, ap, ◌∙◌, map}, rnix_green.{specs.{Entries.is_node_last, Postorder.entry_of}, proofs.KeptLemmas.complete_is}}
 use Rattle.rnix_green.proofs.builder.GreenNodeBuilder.is_complete.Goals as goal
 
 pub returns : goal.returns

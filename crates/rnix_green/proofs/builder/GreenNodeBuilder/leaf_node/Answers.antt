@@ -1,10 +1,6 @@
-use Rattle.std.proofs.Common.{ap, arith, ◌∙◌, map, length}
-use Rattle.rnix_green.specs.Entries.{made, IsBuilt, open_pairs}
-use Rattle.rnix_green.specs.Draft.{Draft, with_leaf, wrapped}
-use Rattle.rnix_green.specs.Forest.{Forest, tree_count}
-use Rattle.rnix_green.specs.Postorder.{entry_of}
-use Rattle.std.specs.String.{string_bytes}
-use Rattle.rnix_green.proofs.EntriesLemmas.{built-leaf_node, settled, built_is}
+use Rattle.{std.{proofs.Common.{ap, arith, ◌∙◌, map}, specs.String.string_bytes}, rnix_green.specs.{Entries.{made, IsBuilt, open_pairs}, Draft.Draft}}
+use Rattle.rnix_green.{specs.{Draft.{with_leaf, wrapped}, Forest.{Forest, tree_count}, Postorder.entry_of}, proofs.EntriesLemmas.{built-leaf_node, settled}}
+use Rattle.rnix_green.proofs.EntriesLemmas.{built_is}
 use Rattle.rnix_green.proofs.builder.GreenNodeBuilder.leaf_node.Goals as goal
 
 after : (c : goal.After-push_reserved-3) →

@@ -1,10 +1,5 @@
-use Rattle.std.proofs.Common.{ap, arith, ◌∙◌, map, length}
-use Rattle.rnix_green.specs.Entries.{made, IsBuilt, open_pairs}
-use Rattle.rnix_green.specs.Draft.{Draft, with_leaf}
-use Rattle.rnix_green.specs.Forest.{Forest}
-use Rattle.rnix_green.specs.Postorder.{entry_of}
-use Rattle.std.specs.String.{string_bytes}
-use Rattle.rnix_green.proofs.EntriesLemmas.{built-token, settled, built_is}
+use Rattle.{std.{proofs.Common.{ap, arith, ◌∙◌, map, length}, specs.String.string_bytes}, rnix_green.specs.{Entries.{made, IsBuilt, open_pairs}, Draft.Draft}}
+use Rattle.rnix_green.{specs.{Draft.with_leaf, Forest.Forest, Postorder.entry_of}, proofs.EntriesLemmas.{built-token, settled, built_is}}
 use Rattle.rnix_green.proofs.builder.GreenNodeBuilder.token.Goals as goal
 
 after : (c : goal.After-push_reserved-2) →

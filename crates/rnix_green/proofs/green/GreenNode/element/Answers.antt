@@ -1,10 +1,5 @@
-use Rattle.std.proofs.Common.{◌≡◌, ◌∙◌, ◌-◌, ◌+◌, length, sym, ap, arith}
-use Rattle.std.specs.String.{string_bytes}
-use Rattle.rnix_green.specs.Packed.{size_in}
-use Rattle.rnix_green.specs.Kept.{start_at, IsKept}
-use Rattle.rnix_green.specs.Tree.{items_of}
-use Rattle.rnix_green.proofs.SiblingLemmas.{next_inside}
-use Rattle.rnix_green.proofs.ElementLemmas.{length_kept, element_read, below_read, read_in_order, item_read}
+use Rattle.{std.{proofs.Common.{◌≡◌, ◌∙◌, ◌-◌, ◌+◌, ap, arith}, specs.String.string_bytes}, rnix_green.specs.{Packed.size_in, Kept.{start_at, IsKept}}}
+use Rattle.rnix_green.proofs.{SiblingLemmas.next_inside, ElementLemmas.{length_kept, element_read, below_read, read_in_order, item_read}}
 use Rattle.rnix_green.proofs.green.GreenNode.element.Goals as goal
 
 pub overflow_add-number-2 : goal.overflow_add-number-2

@@ -1,7 +1,4 @@
-use Rattle.std.proofs.Common.{rules, subst, sym}
-use Rattle.std.proofs.lemmas.List.Sorted.{IsPartitionPoint-from_clause}
-use Rattle.std.specs.String.{string_bytes}
-use Rattle.rnix_green.specs.Kept.{IsKept}
+use Rattle.{std.{proofs.{Common.{rules, subst, sym}, lemmas.List.Sorted.IsPartitionPoint-from_clause}, specs.String.string_bytes}, rnix_green.specs.Kept.IsKept}
 use Rattle.rnix_green.proofs.FirstFromLemmas.{starts_before, partitioned, before, behind}
 use Rattle.rnix_green.proofs.green.GreenNode.first_from.Goals as goal
 

@@ -1,7 +1,4 @@
-use Rattle.std.proofs.Common.{◌≡◌, ◌∙◌, sym, subst}
-use Rattle.std.specs.Cmp.Lexicographic.{same_text}
-use Rattle.std.specs.String.{string_bytes}
-use Rattle.rnix_green.specs.Kept.{IsKept}
+use Rattle.{std.{proofs.Common.{◌≡◌, ◌∙◌, sym, subst}, specs.{Cmp.Lexicographic.same_text, String.string_bytes}}, rnix_green.specs.Kept.IsKept}
 use Rattle.rnix_green.proofs.EqualTrees.{same_tree, same_parts}
 use Rattle.rnix_green.proofs.green.GreenNode.is_same.Goals as goal
 

@@ -1,8 +1,5 @@
-use Rattle.std.proofs.Common.{◌∙◌, ◌<◌, length, sym, arith}
-use Rattle.std.specs.String.{string_bytes}
-use Rattle.rnix_green.specs.Kept.{IsKept}
-use Rattle.rnix_green.specs.Tree.{items_of}
-use Rattle.rnix_green.proofs.ElementLemmas.{length_kept, element_read, start_there, start_past}
+use Rattle.{std.{proofs.Common.{◌∙◌, ◌<◌, length, sym, arith}, specs.String.string_bytes}, rnix_green.specs.{Kept.IsKept, Tree.items_of}}
+use Rattle.rnix_green.proofs.ElementLemmas.{length_kept, element_read, start_there}
 use Rattle.rnix_green.proofs.green.GreenNode.start_at.Goals as goal
 
 pub returns-then-number-len : goal.returns-then-number-len

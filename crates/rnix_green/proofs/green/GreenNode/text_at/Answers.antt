@@ -1,9 +1,5 @@
-use Rattle.std.proofs.Common.{◌∙◌, ap, sym, subst, take, drop, ◌-◌}
-use Rattle.std.specs.String.{string_bytes}
-use Rattle.rnix_green.specs.Kept.{IsKept}
-use Rattle.rnix_green.specs.Tree.{forest_of}
-use Rattle.rnix_green.specs.Forest.{text_of}
-use Rattle.rnix_green.proofs.PieceLemmas.{IsCut, cut_of}
+use Rattle.{std.{proofs.Common.{◌∙◌, ap, sym, subst, take, drop, ◌-◌}, specs.String.string_bytes}, rnix_green.specs.{Kept.IsKept, Tree.forest_of}}
+use Rattle.rnix_green.{specs.Forest.text_of, proofs.PieceLemmas.{IsCut, cut_of}}
 use Rattle.rnix_green.proofs.green.GreenNode.text_at.Goals as goal
 
 pub range-requires-clause-start_boundary : goal.range-requires-clause-start_boundary

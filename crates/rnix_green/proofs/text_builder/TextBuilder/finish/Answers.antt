@@ -1,12 +1,6 @@
-use Rattle.std.proofs.Common.{ap, sym, subst, ◌∙◌, ◌≡◌, true, take}
-use Rattle.std.specs.Str.{IsUtf8}
-use Rattle.std.proofs.lemmas.Str.{IsCharBoundary-from_take}
-use Rattle.rnix_green.specs.Draft.{TextDraft, is_one_node}
-use Rattle.rnix_green.specs.Entries.{made}
-use Rattle.rnix_green.proofs.EntriesLemmas.{complete-parts}
-use Rattle.rnix_green.proofs.KeptLemmas.{copied_kept, kept, finished_is}
-use Rattle.rnix_green.proofs.PieceLemmas.{text_of-IsUtf8}
-use Rattle.rnix_green.proofs.TextLemmas.{first_range}
+use Rattle.std.{proofs.{Common.{ap, sym, subst, ◌∙◌, ◌≡◌, true, take}, lemmas.Str.IsCharBoundary-from_take}, specs.Str.IsUtf8}
+use Rattle.rnix_green.{specs.{Draft.{TextDraft, is_one_node}, Entries.made}, proofs.{EntriesLemmas.complete-parts, KeptLemmas.{copied_kept, kept, finished_is}}}
+use Rattle.rnix_green.proofs.{PieceLemmas.text_of-IsUtf8, TextLemmas.first_range}
 use Rattle.rnix_green.proofs.text_builder.TextBuilder.finish.Goals as goal
 
 pub range-text-requires-clause-end_boundary : goal.range-text-requires-clause-end_boundary

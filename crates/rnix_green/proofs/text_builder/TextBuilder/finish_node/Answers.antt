@@ -1,9 +1,5 @@
-use Rattle.std.proofs.Common.{arith, ◌≡◌, ◌+◌, ◌-◌, ◌<◌, length, map, take, drop, sym, ap, ◌∙◌, get_or}
-use Rattle.std.proofs.lemmas.List.{length-map}
-use Rattle.rnix_green.specs.Entries.{made, open_pairs, IsBuilt}
-use Rattle.rnix_green.specs.Draft.{Draft, TextDraft, wrapped}
-use Rattle.rnix_green.specs.Packed.{packed}
-use Rattle.rnix_green.specs.Postorder.{entry_of}
+use Rattle.std.proofs.{Common.{arith, ◌≡◌, ◌+◌, ◌-◌, ◌<◌, length, map, take, drop, sym, ap, ◌∙◌, get_or}, lemmas.List.length-map}
+use Rattle.rnix_green.specs.{Entries.{made, open_pairs, IsBuilt}, Draft.{Draft, TextDraft, wrapped}, Packed.packed, Postorder.entry_of}
 use Rattle.rnix_green.proofs.EntriesLemmas.{first_entry, first_entry_le, built-closed, length-open_pairs, settled, built_is, closed_view}
 use Rattle.rnix_green.proofs.text_builder.TextBuilder.finish_node.Goals as goal
 

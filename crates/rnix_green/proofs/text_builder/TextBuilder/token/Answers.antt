@@ -1,11 +1,6 @@
-use Rattle.std.proofs.Common.{◌≡◌, List, ℕ, ◌+◌, ◌≤◌, ap, arith, ◌∙◌, map, length, take, drop}
-use Rattle.std.proofs.lemmas.List.{length-take-le}
-use Rattle.rnix_green.specs.Entries.{made, IsBuilt, open_pairs}
-use Rattle.rnix_green.specs.Draft.{TextDraft, with_leaf}
-use Rattle.rnix_green.specs.Forest.{Forest}
-use Rattle.rnix_green.specs.Postorder.{entry_of}
-use Rattle.rnix_green.proofs.EntriesLemmas.{built-token, settled, built_is}
-use Rattle.rnix_green.proofs.TextLemmas.{taken_within, taken_more, left_more}
+use Rattle.{std.proofs.{Common.{◌≡◌, List, ℕ, ◌+◌, ◌≤◌, ap, arith, ◌∙◌, map, length, take, drop}, lemmas.List.length-take-le}, rnix_green.specs.Entries.made}
+use Rattle.rnix_green.{specs.{Entries.{IsBuilt, open_pairs}, Draft.{TextDraft, with_leaf}, Forest.Forest, Postorder.entry_of}, proofs.EntriesLemmas.built-token}
+use Rattle.rnix_green.proofs.{EntriesLemmas.{settled, built_is}, TextLemmas.{taken_within, taken_more, left_more}}
 use Rattle.rnix_green.proofs.text_builder.TextBuilder.token.Goals as goal
 
 next : (c : goal.After-self-1) → take (length c.args.part.now) (drop c.self.inside.taken c.self.inside.text.now) ≡ c.args.part.now

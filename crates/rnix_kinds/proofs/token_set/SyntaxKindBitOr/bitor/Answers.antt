@@ -1,7 +1,4 @@
-use Rattle.std.proofs.Common.{[], ◌∷◌, ◌∙◌}
-use Rattle.std.specs.FinSet.{union}
-use Rattle.rnix_kinds.specs.TokenSet.{set_of}
-use Rattle.rnix_kinds.proofs.KindSets.{one-union}
+use Rattle.{std.{proofs.Common.{[], ◌∷◌, ◌∙◌}, specs.FinSet.union}, rnix_kinds.{specs.TokenSet.set_of, proofs.KindSets.one-union}}
 use Rattle.rnix_kinds.proofs.token_set.SyntaxKindBitOr.bitor.Goals as goal
 
 pub returns : goal.returns

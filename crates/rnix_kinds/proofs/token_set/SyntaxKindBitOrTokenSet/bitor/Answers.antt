@@ -1,6 +1,4 @@
-use Rattle.std.proofs.Common.{◌∙◌}
-use Rattle.std.specs.FinSet.{union}
-use Rattle.rnix_kinds.proofs.KindSets.{one-union}
+use Rattle.{std.{proofs.Common.◌∙◌, specs.FinSet.union}, rnix_kinds.proofs.KindSets.one-union}
 use Rattle.rnix_kinds.proofs.token_set.SyntaxKindBitOrTokenSet.bitor.Goals as goal
 
 pub returns : goal.returns

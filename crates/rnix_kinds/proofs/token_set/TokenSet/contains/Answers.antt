@@ -1,6 +1,4 @@
-use Rattle.std.proofs.Common.{◌∙◌, ap}
-use Rattle.std.specs.FinSet.{contains}
-use Rattle.rnix_kinds.proofs.KindSets.{tests_bit}
+use Rattle.{std.{proofs.Common.{◌∙◌, ap}, specs.FinSet.contains}, rnix_kinds.proofs.KindSets.tests_bit}
 use Rattle.rnix_kinds.proofs.token_set.TokenSet.contains.Goals as goal
 
 pub returns : goal.returns

@@ -1,10 +1,5 @@
-use Rattle.std.proofs.Common.{sym, subst, ◌∙◌, ap, arith, take}
-use Rattle.std.proofs.lemmas.List.{take_more, take_all}
-use Rattle.std.specs.Bool.{Decides}
-use Rattle.std.specs.List.{Contains}
-use Rattle.std.specs.FinSet.{contains, union}
-use Rattle.rnix_kinds.specs.TokenSet.{KindSet, set_of}
-use Rattle.rnix_kinds.proofs.KindSets.{contains-decides, kinds_of-zero, union-one, set_of_more}
+use Rattle.std.{proofs.{Common.{sym, subst, ◌∙◌, ap, arith, take}, lemmas.List.{take_more, take_all}}, specs.{Bool.Decides, List.Contains, FinSet.contains}}
+use Rattle.{std.specs.FinSet.union, rnix_kinds.{specs.TokenSet.{KindSet, set_of}, proofs.KindSets.{contains-decides, kinds_of-zero, union-one, set_of_more}}}
 use Rattle.rnix_kinds.proofs.token_set.TokenSet.from_slice.Goals as goal
 
 pub loop-kind-init : goal.loop-kind-init

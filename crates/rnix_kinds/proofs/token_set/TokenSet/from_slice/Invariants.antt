@@ -1,5 +1,4 @@
-use Rattle.std.proofs.Common.{◌≡◌, take}
-use Rattle.rnix_kinds.specs.TokenSet.{set_of}
+use Rattle.{std.proofs.Common.{◌≡◌, take}, rnix_kinds.specs.TokenSet.set_of}
 use Rattle.rnix_kinds.proofs.token_set.TokenSet.from_slice.Given as goal
 
 abbrev pub invariant-loop-kind : goal.invariant-loop-kind

@@ -1,8 +1,4 @@
-use Rattle.std.proofs.Common.{◌∙◌}
-use Rattle.std.proofs.lemmas.Nat.{or_lt}
-use Rattle.std.specs.FinSet.{union}
-use Rattle.rnix_kinds.specs.SyntaxKind.{kind_count}
-use Rattle.rnix_kinds.proofs.KindSets.{kinds_of-or}
+use Rattle.{std.{proofs.{Common.◌∙◌, lemmas.Nat.or_lt}, specs.FinSet.union}, rnix_kinds.{specs.SyntaxKind.kind_count, proofs.KindSets.kinds_of-or}}
 use Rattle.rnix_kinds.proofs.token_set.TokenSet.union.Goals as goal
 
 pub invariant_of-result : goal.invariant_of-result

@@ -1,6 +1,4 @@
-use Rattle.std.proofs.Common.{◌∙◌}
-use Rattle.std.specs.FinSet.{union}
-use Rattle.rnix_kinds.proofs.KindSets.{union-one}
+use Rattle.{std.{proofs.Common.◌∙◌, specs.FinSet.union}, rnix_kinds.proofs.KindSets.union-one}
 use Rattle.rnix_kinds.proofs.token_set.TokenSetBitOrSyntaxKind.bitor.Goals as goal
 
 pub returns : goal.returns

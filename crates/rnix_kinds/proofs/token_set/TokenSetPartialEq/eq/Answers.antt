@@ -1,6 +1,4 @@
-use Rattle.std.proofs.Common.{sym, ◌∙◌}
-use Rattle.std.specs.Prelude.{◌==◌}
-use Rattle.rnix_kinds.specs.KindNumbers.{same_number, number_of-kinds_of}
+use Rattle.{std.{proofs.Common.{sym, ◌∙◌}, specs.Prelude.◌==◌}, rnix_kinds.specs.KindNumbers.{same_number, number_of-kinds_of}}
 use Rattle.rnix_kinds.proofs.token_set.TokenSetPartialEq.eq.Goals as goal
 
 pub returns : goal.returns

@@ -1,5 +1,4 @@
-use Rattle.std.proofs.Common.{subst, List}
-use Rattle.rnix_kinds.specs.Lexical.Tokens.{Lexeme, AreSound}
+use Rattle.{std.proofs.Common.{subst, List}, rnix_kinds.specs.Lexical.Tokens.{Lexeme, AreSound}}
 use Rattle.rnix_kinds.proofs.tokenizer.Tokenizer.rest.Goals as goal
 
 pub returns : goal.returns

@@ -1,13 +1,8 @@
-use Rattle.std.proofs.Common.{◌≡◌, [], None, false, get_or, sym, ap, ◌∙◌, zero-add}
-use Rattle.std.specs.List.{prefix_len}
-use Rattle.rnix_kinds.specs.declared.tokenizer.text.Class.TheVariants.{Name}
-use Rattle.rnix_kinds.specs.Lexical.Classes.{class_test}
-use Rattle.rnix_kinds.specs.Lexical.Paths.{relative}
-use Rattle.rnix_kinds.specs.Lexical.Plain.{uri, word, goes_past_name}
-use Rattle.rnix_kinds.specs.Lexical.Tokens.{one_error}
-use Rattle.rnix_kinds.proofs.Lexical.FirstBytes.{relative-None-named, uri-None-named, third_fits}
-use Rattle.rnix_kinds.proofs.tokenizer.normal.named.Goals as goal
+use Rattle.std.{proofs.Common.{◌≡◌, [], None, false, get_or, sym, ap, ◌∙◌, zero-add}, specs.List.prefix_len}
+use Rattle.rnix_kinds.specs.{declared.tokenizer.text.Class.TheVariants.Name, Lexical.{Classes.class_test, Paths.relative, Plain.{uri, word, goes_past_name}}}
+use Rattle.rnix_kinds.{specs.Lexical.Tokens.one_error, proofs.Lexical.FirstBytes.{relative-None-named, uri-None-named, third_fits}}
 use Rattle.rnix_kinds.proofs.tokenizer.normal.named.Goals.{then-goes_past_name+in_default+in_default-uri, else-goes_past_name}
+use Rattle.rnix_kinds.proofs.tokenizer.normal.named.Goals as goal
 
 pub returns-clause-cut : goal.returns-clause-cut
 returns-clause-cut c =

@@ -1,12 +1,7 @@
-use Rattle.std.proofs.Common.{◌≡◌, ◌∷◌, [], None, sym, ap, ◌∙◌}
-use Rattle.rnix_kinds.specs.Lexical.Classes.{is_path}
-use Rattle.rnix_kinds.specs.Lexical.Operators.{ellipsis, operator}
-use Rattle.rnix_kinds.specs.Lexical.Paths.{relative}
-use Rattle.rnix_kinds.specs.Lexical.Numbers.{number}
-use Rattle.rnix_kinds.specs.Lexical.Tokens.{one_error}
-use Rattle.rnix_kinds.proofs.Lexical.FirstBytes.{relative-None-short, ellipsis-None-short, third_fits, none_of_three}
+use Rattle.{std.proofs.Common.{◌≡◌, ◌∷◌, [], None, sym, ap, ◌∙◌}, rnix_kinds.specs.Lexical.{Classes.is_path, Operators.{ellipsis, operator}, Paths.relative}}
+use Rattle.rnix_kinds.{specs.Lexical.{Numbers.number, Tokens.one_error}, proofs.Lexical.FirstBytes.{relative-None-short, ellipsis-None-short, third_fits}}
+use Rattle.rnix_kinds.proofs.{Lexical.FirstBytes.none_of_three, tokenizer.normal.stepped.Goals.{then-is_in+in_default+in_default-relative, else-is_in}}
 use Rattle.rnix_kinds.proofs.tokenizer.normal.stepped.Goals as goal
-use Rattle.rnix_kinds.proofs.tokenizer.normal.stepped.Goals.{then-is_in+in_default+in_default-relative, else-is_in}
 
 pub returns-in-Some-number-clause-cut : goal.returns-in-Some-number-clause-cut
 returns-in-Some-number-clause-cut c =

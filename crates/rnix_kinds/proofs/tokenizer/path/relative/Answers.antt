@@ -1,6 +1,4 @@
-use Rattle.std.proofs.Common.{arith}
-use Rattle.std.proofs.lemmas.List.Sums.{prefix_len-le-length}
-use Rattle.rnix_kinds.specs.declared.tokenizer.text.Class.TheVariants.{Step}
+use Rattle.{std.proofs.{Common.arith, lemmas.List.Sums.prefix_len-le-length}, rnix_kinds.specs.declared.tokenizer.text.Class.TheVariants.Step}
 use Rattle.rnix_kinds.specs.Lexical.Classes.{class_test}
 use Rattle.rnix_kinds.proofs.tokenizer.path.relative.Goals as goal
 

@@ -1,5 +1,4 @@
-use Rattle.std.proofs.Common.{◌≡◌, ◌+◌, ◌-◌, ◌≤◌, length, drop}
-use Rattle.rnix_kinds.specs.Lexical.Strings.{content_len}
+use Rattle.{std.proofs.Common.{◌≡◌, ◌+◌, ◌-◌, ◌≤◌, length, drop}, rnix_kinds.specs.Lexical.Strings.content_len}
 use Rattle.rnix_kinds.proofs.tokenizer.string.content_len.Given as goal
 
 abbrev pub invariant-loop-at : goal.invariant-loop-at

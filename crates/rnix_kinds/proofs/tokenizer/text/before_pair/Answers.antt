@@ -1,9 +1,7 @@
-use Rattle.std.proofs.Common.{arith}
-use Rattle.std.proofs.lemmas.List.{drop_all}
-use Rattle.std.proofs.lemmas.Bool.Decides.{nat_tests}
-use Rattle.rnix_kinds.proofs.Lexical.WordsLemmas.{before_pair-turn, before_pair-nil}
+use Rattle.{std.proofs.{Common.arith, lemmas.{List.drop_all, Bool.Decides.nat_tests}}, rnix_kinds.proofs.Lexical.WordsLemmas.before_pair-turn}
+use Rattle.rnix_kinds.proofs.{Lexical.WordsLemmas.before_pair-nil, tokenizer.text.before_pair.Goals.else-bytes-at-via-then-bytes-at+else-byte_of-b}
+use Rattle.rnix_kinds.proofs.tokenizer.text.before_pair.Goals.{else-bytes-at-via-else-bytes-at}
 use Rattle.rnix_kinds.proofs.tokenizer.text.before_pair.Goals as goal
-use Rattle.rnix_kinds.proofs.tokenizer.text.before_pair.Goals.{else-bytes-at-via-then-bytes-at+else-byte_of-b, else-bytes-at-via-else-bytes-at}
 
 pub returns-then-byte_of-b-clause-value : goal.returns-then-byte_of-b-clause-value
 returns-then-byte_of-b-clause-value c =

@@ -1,5 +1,4 @@
-use Rattle.std.proofs.Common.{◌≡◌, ◌+◌, drop}
-use Rattle.rnix_kinds.specs.Lexical.Texts.{before_pair}
+use Rattle.{std.proofs.Common.{◌≡◌, ◌+◌, drop}, rnix_kinds.specs.Lexical.Texts.before_pair}
 use Rattle.rnix_kinds.proofs.tokenizer.text.before_pair.Given as goal
 
 abbrev pub invariant-loop-at : goal.invariant-loop-at

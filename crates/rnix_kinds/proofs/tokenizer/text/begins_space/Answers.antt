@@ -1,8 +1,5 @@
-use Rattle.std.proofs.lemmas.Str.{chars_past_char, chars-nil}
-use Rattle.std.proofs.Common.{◌∙◌, sym, ◌≡◌, ◌++◌, [], ◌∷◌, List, ℕ, false, length, arith, Bool, ◌||◌, true, refl}
-use Rattle.std.specs.Prelude.{encode_utf8}
-use Rattle.std.specs.Char.{is_whitespace}
-use Rattle.rnix_kinds.specs.Lexical.Texts.{begins_space}
+use Rattle.std.proofs.{lemmas.Str.{chars_past_char, chars-nil}, Common.{◌∙◌, sym, ◌≡◌, ◌++◌, [], ◌∷◌, List, ℕ, false, length, arith, Bool, ◌||◌, true, refl}}
+use Rattle.{std.specs.{Prelude.encode_utf8, Char.is_whitespace}, rnix_kinds.specs.Lexical.Texts.begins_space}
 use Rattle.rnix_kinds.proofs.tokenizer.text.begins_space.Goals as goal
 
 or-false : (b : Bool) → (b || false) ≡ b

@@ -1,7 +1,4 @@
-use Rattle.std.proofs.lemmas.Str.{chars_past_char}
-use Rattle.std.proofs.Common.{◌∙◌, sym, ◌≡◌, ◌++◌}
-use Rattle.std.specs.Prelude.{encode_utf8}
-use Rattle.rnix_kinds.specs.Lexical.Texts.{char_len}
+use Rattle.{std.{proofs.{lemmas.Str.chars_past_char, Common.{◌∙◌, sym, ◌≡◌, ◌++◌}}, specs.Prelude.encode_utf8}, rnix_kinds.specs.Lexical.Texts.char_len}
 use Rattle.rnix_kinds.proofs.tokenizer.text.char_len.Goals as goal
 
 pub returns-in-Some-clause-value : goal.returns-in-Some-clause-value

@@ -1,6 +1,4 @@
-use Rattle.std.proofs.Common.{◌≡◌, ◌<◌, ◌∙◌, sym, subst, arith, get_or}
-use Rattle.std.specs.List.{prefix_len}
-use Rattle.rnix_kinds.specs.Lexical.Texts.{is_blank}
+use Rattle.{std.{proofs.Common.{◌≡◌, ◌<◌, ◌∙◌, sym, subst, arith, get_or}, specs.List.prefix_len}, rnix_kinds.specs.Lexical.Texts.is_blank}
 use Rattle.rnix_kinds.proofs.Lexical.WordsLemmas.{space_len-trim_start, space_len-blanks}
 use Rattle.rnix_kinds.proofs.tokenizer.text.space_len.Goals as goal
 

@@ -1,8 +1,5 @@
-use Rattle.std.proofs.Common.{rules, ◌≤◌, length, map, refl, sym, subst}
-use Rattle.rnix_text.specs.declared.edits.Edit.{Edit}
-use Rattle.rnix_text.specs.Edit.{change_of, IsPlace}
-use Rattle.rnix_text.specs.Changes.{AreInOrder, IsBetween}
-use Rattle.rnix_text.proofs.ChangeLemmas.{ascending, added_in_order}
+use Rattle.{std.proofs.Common.{rules, ◌≤◌, length, map, refl, sym, subst}, rnix_text.specs.{declared.edits.Edit.Edit, Edit.{change_of, IsPlace}}}
+use Rattle.rnix_text.{specs.Changes.{AreInOrder, IsBetween}, proofs.ChangeLemmas.{ascending, added_in_order}}
 use Rattle.rnix_text.proofs.edits.Edits.replace.Goals as goal
 
 pub place-requires-clause-ascending : goal.place-requires-clause-ascending

@@ -1,8 +1,5 @@
-use Rattle.std.proofs.Common.{rules, ◌≤◌, ◌∙◌, ap, sym, subst, arith}
-use Rattle.std.specs.Str.{IsCharBoundary}
-use Rattle.rnix_text.specs.declared.mark.Mark.{Mark}
-use Rattle.rnix_text.specs.Marks.{position_behind}
-use Rattle.rnix_text.proofs.PositionLemmas.{text_counted, column_fits}
+use Rattle.{std.{proofs.Common.{rules, ◌≤◌, ◌∙◌, ap, sym, subst, arith}, specs.Str.IsCharBoundary}, rnix_text.specs.declared.mark.Mark.Mark}
+use Rattle.rnix_text.{specs.Marks.position_behind, proofs.PositionLemmas.{text_counted, column_fits}}
 use Rattle.rnix_text.proofs.line_index.LineIndex.position.Goals as goal
 
 pub position_of-requires-clause-order : goal.position_of-requires-clause-order

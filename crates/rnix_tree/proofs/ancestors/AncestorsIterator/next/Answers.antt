@@ -1,8 +1,5 @@
-use Rattle.std.proofs.Common.{rules, subst, ap, sym, ◌∙◌, ◌∷◌}
-use Rattle.rnix_green.specs.Tree.{Item}
-use Rattle.rnix_tree.specs.Around.{ancestors_if, IsNodeIfAny}
-use Rattle.rnix_tree.proofs.RelativeLemmas.{parent_if_any}
-use Rattle.rnix_tree.proofs.AncestorLemmas.{ancestors_step}
+use Rattle.{std.proofs.Common.{rules, subst, ap, sym, ◌∙◌, ◌∷◌}, rnix_green.specs.Tree.Item, rnix_tree.specs.Around.{ancestors_if, IsNodeIfAny}}
+use Rattle.rnix_tree.proofs.{RelativeLemmas.parent_if_any, AncestorLemmas.ancestors_step}
 use Rattle.rnix_tree.proofs.ancestors.AncestorsIterator.next.Goals as goal
 
 pub invariant_of-self : goal.invariant_of-self

@@ -1,5 +1,4 @@
-use Rattle.std.proofs.Common.{◌≡◌, filter, length}
-use Rattle.rnix_tree.specs.ByKind.{is_of_kind}
+use Rattle.{std.proofs.Common.{◌≡◌, filter, length}, rnix_tree.specs.ByKind.is_of_kind}
 use Rattle.rnix_tree.proofs.by_kind.SyntaxNodeChildrenByKindIterator.next.Given as goal
 
 abbrev pub invariant-loop-node : goal.invariant-loop-node

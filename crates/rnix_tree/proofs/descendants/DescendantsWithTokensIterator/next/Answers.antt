@@ -1,6 +1,4 @@
-use Rattle.std.proofs.Common.{rules, ap, map, ◌∙◌, sym, refl}
-use Rattle.rnix_green.specs.Walk.{spot_at}
-use Rattle.rnix_tree.proofs.ListLemmas.{cons_same}
+use Rattle.{std.proofs.Common.{rules, ap, map, ◌∙◌, sym, refl}, rnix_green.specs.Walk.spot_at, rnix_tree.proofs.ListLemmas.cons_same}
 use Rattle.rnix_tree.proofs.AncestorLemmas.{counted_more}
 use Rattle.rnix_tree.proofs.descendants.DescendantsWithTokensIterator.next.Goals as goal
 

@@ -1,5 +1,4 @@
-use Rattle.std.proofs.Common.{arith}
-use Rattle.rnix_tree.proofs.CountLemmas.{ancestors_of-few}
+use Rattle.{std.proofs.Common.arith, rnix_tree.proofs.CountLemmas.ancestors_of-few}
 use Rattle.rnix_tree.proofs.node.SyntaxNode.ancestors.Goals as goal
 
 pub returns-clause-fits : goal.returns-clause-fits

@@ -1,6 +1,4 @@
-use Rattle.std.proofs.Common.{◌≡◌, find, length}
-use Rattle.rnix_green.specs.Range.{bounds_of}
-use Rattle.rnix_tree.specs.Covering.{holds_at, child_at_range}
+use Rattle.{std.proofs.Common.{◌≡◌, find, length}, rnix_green.specs.Range.bounds_of, rnix_tree.specs.Covering.{holds_at, child_at_range}}
 use Rattle.rnix_tree.proofs.node.SyntaxNode.child_or_token_at_range.Given as goal
 
 abbrev pub invariant-loop-element : goal.invariant-loop-element

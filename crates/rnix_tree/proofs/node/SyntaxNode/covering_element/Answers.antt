@@ -1,8 +1,5 @@
-use Rattle.std.proofs.Common.{rules, Some, option_map, ap, sym, ◌∙◌}
-use Rattle.rnix_green.specs.Range.{bounds_of}
-use Rattle.rnix_tree.specs.Spots.{spot_of}
-use Rattle.rnix_tree.specs.declared.element.NodeOrToken.TheVariants.{Node, Token}
-use Rattle.rnix_tree.proofs.CoveringLemmas.{child_smaller, reached_child, reached_token}
+use Rattle.{std.proofs.Common.{rules, Some, option_map, ap, sym, ◌∙◌}, rnix_green.specs.Range.bounds_of, rnix_tree.specs.Spots.spot_of}
+use Rattle.rnix_tree.{specs.declared.element.NodeOrToken.TheVariants.Node, proofs.CoveringLemmas.{child_smaller, reached_child, reached_token}}
 use Rattle.rnix_tree.proofs.node.SyntaxNode.covering_element.Goals as goal
 
 pub loop-child-smaller : goal.loop-child-smaller

@@ -1,6 +1,4 @@
-use Rattle.rnix_green.specs.Range.{bounds_of}
-use Rattle.rnix_green.specs.Tree.{item_of}
-use Rattle.rnix_tree.proofs.CoveringLemmas.{IsReached}
+use Rattle.{rnix_green.specs.{Range.bounds_of, Tree.item_of}, rnix_tree.proofs.CoveringLemmas.IsReached}
 use Rattle.rnix_tree.proofs.node.SyntaxNode.covering_element.Given as goal
 
 abbrev pub invariant-loop-child : goal.invariant-loop-child

@@ -1,7 +1,4 @@
-use Rattle.std.proofs.Common.{◌≡◌, length, ap, arith}
-use Rattle.std.proofs.Common.{◌+◌, ◌-◌, map}
-use Rattle.std.proofs.lemmas.List.{length-map}
-use Rattle.rnix_green.specs.Walk.{spot_at, counted}
+use Rattle.{std.proofs.{Common.{◌≡◌, length, ap, arith, ◌+◌, ◌-◌, map}, lemmas.List.length-map}, rnix_green.specs.Walk.{spot_at, counted}}
 use Rattle.rnix_tree.proofs.CountLemmas.{counted-many}
 use Rattle.rnix_tree.proofs.node.SyntaxNode.descendants_with_tokens.Goals as goal
 

@@ -1,6 +1,4 @@
-use Rattle.std.proofs.Common.{ap, sym}
-use Rattle.rnix_green.specs.Tree.{Item}
-use Rattle.rnix_tree.proofs.RelativeLemmas.{parent_if_any}
+use Rattle.{std.proofs.Common.{ap, sym}, rnix_green.specs.Tree.Item, rnix_tree.proofs.RelativeLemmas.parent_if_any}
 use Rattle.rnix_tree.proofs.node.SyntaxNode.parent.Goals as goal
 
 pub node_if-requires : goal.node_if-requires

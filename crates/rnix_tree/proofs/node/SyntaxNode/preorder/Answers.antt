@@ -1,5 +1,4 @@
-use Rattle.std.proofs.Common.{arith}
-use Rattle.rnix_tree.proofs.CountLemmas.{node_events-few}
+use Rattle.{std.proofs.Common.arith, rnix_tree.proofs.CountLemmas.node_events-few}
 use Rattle.rnix_tree.proofs.node.SyntaxNode.preorder.Goals as goal
 
 pub returns-clause-fits : goal.returns-clause-fits

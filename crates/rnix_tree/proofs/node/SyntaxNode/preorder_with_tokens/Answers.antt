@@ -1,10 +1,5 @@
-use Rattle.std.proofs.Common.{length, ap, arith}
-use Rattle.rnix_green.specs.Tree.{Item}
-use Rattle.rnix_tree.proofs.CountLemmas.{preorder_of-twice}
-use Rattle.std.proofs.Common.{◌≡◌, ◌<◌, ◌^◌, suc, ap, sym, subst, ◌∙◌, arith}
-use Rattle.rnix_green.specs.Forest.{element_count}
-use Rattle.rnix_green.specs.Tree.{Item, Located, item, part_at}
-use Rattle.rnix_green.proofs.PartLemmas.{below_of_part, part_there, one_there}
+use Rattle.{std.proofs.Common.{length, ap, arith, ◌≡◌, ◌<◌, ◌^◌, suc, sym, subst, ◌∙◌}, rnix_green.specs.Tree.{Item, Located, item, part_at}}
+use Rattle.{rnix_green.{specs.Forest.element_count, proofs.PartLemmas.{below_of_part, part_there, one_there}}, rnix_tree.proofs.CountLemmas.preorder_of-twice}
 use Rattle.rnix_tree.proofs.node.SyntaxNode.preorder_with_tokens.Goals as goal
 
 pub returns-clause-count : goal.returns-clause-count

@@ -1,7 +1,4 @@
-use Rattle.std.proofs.Common.{ap, sym, subst, arith}
-use Rattle.rnix_green.specs.Tree.{Item}
-use Rattle.rnix_green.specs.Relatives.{IsNodeIn}
-use Rattle.rnix_tree.specs.Offset.{IsTouched}
+use Rattle.{std.proofs.Common.{ap, sym, subst, arith}, rnix_green.specs.{Tree.Item, Relatives.IsNodeIn}, rnix_tree.specs.Offset.IsTouched}
 use Rattle.rnix_tree.proofs.OffsetLemmas.{touched_inside}
 use Rattle.rnix_tree.proofs.node.SyntaxNode.token_at_offset.Goals as goal
 

@@ -1,9 +1,5 @@
-use Rattle.std.proofs.Common.{refl, ◌≡◌, ◌⊎◌, ap, sym, ◌∙◌, subst, ℕ}
-use Rattle.rnix_green.specs.Range.{Extent}
-use Rattle.rnix_green.specs.Tree.{Located, item_of}
-use Rattle.rnix_green.specs.Relatives.{IsNodeIn}
-use Rattle.rnix_tree.specs.Offset.{IsTouched}
-use Rattle.rnix_tree.proofs.OffsetLemmas.{one_at_start, one_at_end, both_are_one, two}
+use Rattle.{std.proofs.Common.{◌≡◌, ◌⊎◌, ap, sym, ◌∙◌, subst, ℕ}, rnix_green.specs.{Range.Extent, Tree.{Located, item_of}, Relatives.IsNodeIn}}
+use Rattle.rnix_tree.{specs.Offset.IsTouched, proofs.OffsetLemmas.{one_at_start, one_at_end, both_are_one, two}}
 use Rattle.rnix_tree.proofs.node.SyntaxNode.tokens_inside.Goals as goal
 
 pub returns-then-offset-start : goal.returns-then-offset-start

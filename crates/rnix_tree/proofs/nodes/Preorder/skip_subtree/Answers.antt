@@ -1,5 +1,4 @@
-use Rattle.std.proofs.Common.{◌≤◌, length, ap, sym, subst, ◌∙◌}
-use Rattle.rnix_green.specs.Walk.{from_leaving, node_events}
+use Rattle.{std.proofs.Common.{◌≤◌, length, ap, sym, subst, ◌∙◌}, rnix_green.specs.Walk.{from_leaving, node_events}}
 use Rattle.rnix_tree.proofs.SkipLemmas.{node_events-shorter}
 use Rattle.rnix_tree.proofs.nodes.Preorder.skip_subtree.Goals as goal
 

@@ -1,5 +1,4 @@
-use Rattle.std.proofs.Common.{◌≡◌, length}
-use Rattle.rnix_green.specs.Walk.{node_events}
+use Rattle.{std.proofs.Common.{◌≡◌, length}, rnix_green.specs.Walk.node_events}
 use Rattle.rnix_tree.proofs.nodes.PreorderIterator.next.Given as goal
 
 abbrev pub invariant-loop-event : goal.invariant-loop-event

@@ -1,5 +1,4 @@
-use Rattle.std.proofs.Common.{◌≡◌, length}
-use Rattle.rnix_green.specs.Walk.{nodes_in}
+use Rattle.{std.proofs.Common.{◌≡◌, length}, rnix_green.specs.Walk.nodes_in}
 use Rattle.rnix_tree.proofs.nodes.SyntaxNodeChildrenIterator.next.Given as goal
 
 abbrev pub invariant-loop-element : goal.invariant-loop-element

@@ -1,5 +1,4 @@
-use Rattle.std.proofs.Common.{arith}
-use Rattle.rnix_tree.proofs.DirectionLemmas.{siblings_of-few}
+use Rattle.{std.proofs.Common.arith, rnix_tree.proofs.DirectionLemmas.siblings_of-few}
 use Rattle.rnix_tree.proofs.siblings.SiblingsWithTokens.new.Goals as goal
 
 pub returns-clause-fits : goal.returns-clause-fits

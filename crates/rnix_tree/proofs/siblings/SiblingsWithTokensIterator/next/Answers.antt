@@ -1,6 +1,4 @@
-use Rattle.std.proofs.Common.{rules, subst, ap, sym, ◌∙◌, ◌∷◌}
-use Rattle.rnix_tree.specs.Around.{IsThereIfAny}
-use Rattle.rnix_tree.specs.Siblings.{siblings_if}
+use Rattle.{std.proofs.Common.{rules, subst, ap, sym, ◌∙◌, ◌∷◌}, rnix_tree.specs.{Around.IsThereIfAny, Siblings.siblings_if}}
 use Rattle.rnix_tree.proofs.DirectionLemmas.{sibling_step}
 use Rattle.rnix_tree.proofs.siblings.SiblingsWithTokensIterator.next.Goals as goal
 

@@ -1,5 +1,4 @@
-use Rattle.std.proofs.lemmas.Iterator.Consumers.{count_from_yields_List, YieldsList-from_first}
-use Rattle.rnix_tree.specs.Spots.{spot_of}
+use Rattle.{std.proofs.lemmas.Iterator.Consumers.{count_from_yields_List, YieldsList-from_first}, rnix_tree.specs.Spots.spot_of}
 use Rattle.rnix_tree.proofs.DirectionLemmas.{index_counted}
 use Rattle.rnix_tree.proofs.token.SyntaxToken.index.Goals as goal
 

@@ -1,7 +1,5 @@
-use Rattle.std.proofs.Common.{ap, sym, ◌∙◌, is_some}
-use Rattle.rnix_green.specs.Tree.{Item}
-use Rattle.rnix_green.specs.Relatives.{located}
-use Rattle.rnix_tree.proofs.RelativeLemmas.{parent_if_any, token_has_parent}
+use Rattle.{std.proofs.Common.{ap, sym, ◌∙◌, is_some}, rnix_green.specs.{Tree.Item, Relatives.located}, rnix_tree.proofs.RelativeLemmas.parent_if_any}
+use Rattle.rnix_tree.proofs.RelativeLemmas.{token_has_parent}
 use Rattle.rnix_tree.proofs.token.SyntaxToken.parent.Goals as goal
 
 pub node_if-requires : goal.node_if-requires

@@ -1,9 +1,5 @@
-use Rattle.std.proofs.Common.{length, ap, sym, arith}
-use Rattle.rnix_green.specs.Tree.{Item}
-use Rattle.rnix_tree.specs.Around.{ancestors_if}
-use Rattle.rnix_tree.proofs.RelativeLemmas.{parent_if_any}
-use Rattle.rnix_tree.proofs.AncestorLemmas.{ancestors_step}
-use Rattle.rnix_tree.proofs.CountLemmas.{ancestors_of-few}
+use Rattle.{std.proofs.Common.{length, ap, sym, arith}, rnix_green.specs.Tree.Item, rnix_tree.{specs.Around.ancestors_if, proofs.RelativeLemmas.parent_if_any}}
+use Rattle.rnix_tree.proofs.{AncestorLemmas.ancestors_step, CountLemmas.ancestors_of-few}
 use Rattle.rnix_tree.proofs.token.SyntaxToken.parent_ancestors.Goals as goal
 
 pub invariant_of-result : goal.invariant_of-result

@@ -1,6 +1,4 @@
-use Rattle.std.proofs.Common.{ap, map}
-use Rattle.rnix_green.specs.Walk.{event_at}
-use Rattle.rnix_tree.proofs.PreorderLemmas.{whole_walk}
+use Rattle.{std.proofs.Common.{ap, map}, rnix_green.specs.Walk.event_at, rnix_tree.proofs.PreorderLemmas.whole_walk}
 use Rattle.rnix_tree.proofs.walk.PreorderWithTokens.new.Goals as goal
 
 pub returns : goal.returns

@@ -1,6 +1,4 @@
-use Rattle.std.proofs.Common.{◌≡◌, ◌≤◌, length, ap, sym, subst, ◌∙◌}
-use Rattle.rnix_green.specs.Walk.{from_leaving}
-use Rattle.rnix_tree.specs.Cursor.{IsNextWithin, events_left}
+use Rattle.{std.proofs.Common.{◌≤◌, length, ap, sym, subst, ◌∙◌}, rnix_green.specs.Walk.from_leaving, rnix_tree.specs.Cursor.{IsNextWithin, events_left}}
 use Rattle.rnix_tree.proofs.SkipLemmas.{skips, from_leaving-shorter}
 use Rattle.rnix_tree.proofs.walk.PreorderWithTokens.skip_subtree.Goals as goal
 

@@ -1,10 +1,6 @@
-use Rattle.std.proofs.Common.{rules, ap, map, ◌∙◌, sym, subst, true, false}
-use Rattle.rnix_green.specs.Walk.{Spot, event_at}
-use Rattle.rnix_tree.specs.Cursor.{IsInside, IsNextWithin, events_left, after_enter, after_leave}
-use Rattle.rnix_tree.specs.declared.walk.Next.{Next}
-use Rattle.rnix_tree.specs.declared.walk.Next.TheVariants.{Enter, Leave}
-use Rattle.rnix_tree.proofs.ListLemmas.{cons_same}
-use Rattle.rnix_tree.proofs.PreorderLemmas.{Goes, enters, leaves}
+use Rattle.{std.proofs.Common.{rules, ap, map, ◌∙◌, sym, subst, true, false}, rnix_green.specs.Walk.{Spot, event_at}, rnix_tree.specs.Cursor.IsInside}
+use Rattle.rnix_tree.specs.{Cursor.{IsNextWithin, events_left, after_enter, after_leave}, declared.walk.Next.{Next, TheVariants.{Enter, Leave}}}
+use Rattle.rnix_tree.proofs.{ListLemmas.cons_same, PreorderLemmas.{Goes, enters, leaves}}
 use Rattle.rnix_tree.proofs.walk.PreorderWithTokensIterator.next.Goals as goal
 
 entered : (c : goal.After-element_at) →

@@ -1,8 +1,5 @@
-use Rattle.std.proofs.Common.{rules, ap, map, ◌∙◌, sym, refl}
-use Rattle.rnix_green.specs.Tree.{Item, items_of}
-use Rattle.rnix_green.specs.Walk.{spot_at}
-use Rattle.rnix_tree.proofs.ListLemmas.{cons_same}
-use Rattle.rnix_green.proofs.SiblingLemmas.{next_sibling, no_sibling}
+use Rattle.{std.proofs.Common.{rules, ap, map, ◌∙◌, sym, refl}, rnix_green.{specs.{Tree.{Item, items_of}, Walk.spot_at}, proofs.SiblingLemmas.next_sibling}}
+use Rattle.{rnix_green.proofs.SiblingLemmas.no_sibling, rnix_tree.proofs.ListLemmas.cons_same}
 use Rattle.rnix_tree.proofs.walk.SyntaxElementChildrenIterator.next.Goals as goal
 
 pub returns-then-number-self-clause-steps : goal.returns-then-number-self-clause-steps

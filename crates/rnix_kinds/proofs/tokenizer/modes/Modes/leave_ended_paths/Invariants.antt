@@ -1,5 +1,4 @@
-use Rattle.std.proofs.Common.{◌≡◌, length}
-use Rattle.rnix_kinds.specs.Lexical.Tokens.{without_ended_paths}
+use Rattle.{std.proofs.Common.{◌≡◌, length}, rnix_kinds.specs.Lexical.Tokens.without_ended_paths}
 use Rattle.rnix_kinds.proofs.tokenizer.modes.Modes.leave_ended_paths.Given as goal
 
 abbrev pub invariant-loop-self : goal.invariant-loop-self
