@@ -11,7 +11,6 @@ pub mod Reports
 pub mod Machine
 pub mod Rows
 pub mod Missing
-pub mod Stands
 pub mod Strict
 pub mod Grammar
 pub mod WithoutTrivia
@@ -25,6 +24,7 @@ pub mod Seams
 pub mod Parsed
 pub mod Corners
 pub mod BehindErrors
+pub mod ErrorNodes
 pub mod Named
 pub mod Names
 pub mod Plain

@@ -2,10 +2,10 @@
 use Rattle.std.specs.Prelude.{◌≡◌, ℕ, Bool, true, false, List, [], ◌∷◌, if◌then◌else◌}
 use Rattle.rnix_kinds.specs.declared.kinds.SyntaxKind.{SyntaxKind}
 use Rattle.rnix_kinds.specs.SyntaxKind.{is_token}
-use Rattle.rnix_kinds.specs.declared.kinds.SyntaxKind.TheVariants.{TOKEN_IDENT, TOKEN_OR, TOKEN_CUR_POS}
+use Rattle.rnix_kinds.specs.declared.kinds.SyntaxKind.TheVariants.{TOKEN_IDENT, TOKEN_OR, TOKEN_CUR_POS, NODE_PAT_BIND}
 use Rattle.rnix_grammar.specs.Fault.{Fault, named_twice}
 use Rattle.rnix_grammar.specs.AnnotatedForest.{Token, AnnotatedForest, blank, token, branch, fault}
-use Rattle.rnix_grammar.specs.Rows.{RowState, advance, start}
+use Rattle.rnix_grammar.specs.Rows.{RowState, At, advance, start}
 use Rattle.rnix_grammar.specs.Names.{is_named}
 use Rattle.rnix_grammar.specs.Tables.{is_or}
 use Rattle.rnix_grammar.specs.BehindErrors.{go_error}
@@ -22,11 +22,26 @@ abbrev pub AreSpelled : List Token → Type 0
 AreSpelled [] = Unit {0}
 AreSpelled (t ∷ ts) = (is_spelled t.kind t.text ≡ true) × AreSpelled ts
 
--- each name and each current position of a row, from a state on, stands where it may
+-- a row begins with a token
+abbrev pub begins_with_token : AnnotatedForest → Bool
+begins_with_token (token k t f) = true
+begins_with_token f = false
+
+-- the name that a pattern is bound to stands before `@` where the pattern begins, and behind it where the pattern ends
+abbrev pub is_bind_at : RowState → AnnotatedForest → Bool
+is_bind_at (At place) c = begins_with_token c
+is_bind_at row_state c = if begins_with_token c then false else true
+
+-- such a name stands where it may, and so do other names and the current position
+abbrev pub suits : RowState → SyntaxKind → AnnotatedForest → Bool
+suits row_state NODE_PAT_BIND c = is_bind_at row_state c
+suits row_state kind c = is_named row_state kind c
+
+-- so does each of a row, from a state on
 abbrev pub AreNamed : RowState → AnnotatedForest → Type 0
 AreNamed q blank = Unit {0}
 AreNamed q (token k t f) = AreNamed (advance q k) f
-AreNamed q (branch k c f) = (is_named q k c ≡ true) × AreNamed (start k) c × AreNamed (advance q k) f
+AreNamed q (branch k c f) = (suits q k c ≡ true) × AreNamed (start k) c × AreNamed (advance q k) f
 AreNamed q (fault n c f) = AreNamed (go_error q n) f
 
 -- a name is repeated

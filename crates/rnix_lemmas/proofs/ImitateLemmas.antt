@@ -2,9 +2,9 @@
 use Rattle.std.proofs.Common.{◌≡◌, ℕ, Bool, true, false, List, [], ◌∷◌, Option, Some, None, refl, ap, sym, ◌∙◌, subst, if◌then◌else◌, nat_eq, nat_le}
 use Rattle.rnix_kinds.specs.declared.kinds.SyntaxKind.{SyntaxKind, TheVariants.{TOKEN_R_BRACE, NODE_IDENT, NODE_LITERAL, NODE_LAMBDA, NODE_PATTERN, NODE_ROOT}}
 use Rattle.{rnix_green.specs.Forest.Forest, rnix_grammar.specs.{declared.{place.Place.Place, until.Until.Until, symbol.Symbol.Symbol}, Tables.is_wanted}}
-use Rattle.rnix_grammar.specs.{Symbols.symbol_at, AnnotatedForest.{Token, Note, Stray, Unwanted, Extra, Twice, TooDeep, AnnotatedForest}, Rows.{fits, is_attr}}
+use Rattle.rnix_grammar.specs.{Symbols.symbol_at, AnnotatedForest.{Token, Note, Stray, Unwanted, Extra, Twice, TooDeep}, Rows.{fits, is_attr}}
 use Rattle.rnix_grammar.specs.Rows.{RowState, Start, At, Nowhere, to, first, advance_source, advance_names, advance_comma, advance_symbol, advance, whole, live}
-use Rattle.{rnix_grammar.specs.{Rows.{start, run}, Stands.IsBeside, Repaired.{patch, kinds_of}, Missing.run_at}, rnix_lemmas.proofs.Completable.IsCompletable}
+use Rattle.{rnix_grammar.specs.{Rows.{start, run}, PlaceReads.IsWrong, Repaired.{patch, kinds_of}, Missing.run_at}, rnix_lemmas.proofs.Completable.IsCompletable}
 use Rattle.rnix_lemmas.proofs.{Completable.{completed_at, run_inside}, Owing.owing, RowKinds.{has_row, no_wanted, no_closing}, Basics.true_is_not_false}
 use Rattle.rnix_lemmas.proofs.Basics.{no_way}
 use Rattle.rnix_grammar.specs.declared.place.Place.TheVariants as p
@@ -81,17 +81,14 @@ literal_imitates : {q0 q r : RowState} → Imitates q0 q → advance q NODE_LITE
 literal_imitates {q0 = q0} {r = r} m g l = imitates_same (advance q0 NODE_LITERAL) r (m.goes NODE_LITERAL (ap live g ∙ l) ∙ g)
 
 -- behind the patch of an error node the same goes on as behind the error node
-pub beside_imitates : (n : Note) (p : SyntaxKind) (a : ℕ) (q0 q r : RowState) (b : AnnotatedForest) (i : ℕ) (ts vs : List Token) → IsBeside n p a q r b i ts vs → Imitates q0 q → Imitates (patched n q0) r
-beside_imitates Stray p a q0 q r b i [] vs h m = absurd h
-beside_imitates Stray p a q0 q r b i (t ∷ ts) vs h m = literal_imitates m h.3 h.4
-beside_imitates (Unwanted until) p a q0 q r b i [] vs h m = absurd h
-beside_imitates (Unwanted until) p a q0 q r b i (t ∷ ts) vs h m =
-    let on : Imitates q0 (At h.4) = subst (Imitates q0) h.6 m in
-    subst (Imitates q0) (sym h.7) (imitates_both on (run_imitates h.4 h.5 until h.8))
-beside_imitates Extra p a q0 q r b i [] vs h m = absurd h
-beside_imitates Extra p a q0 q r b i (t ∷ ts) vs h m = subst (Imitates q0) (sym h.4) m
-beside_imitates Twice p a q0 q r b i ts vs h m = absurd h
-beside_imitates TooDeep p a q0 q r b i ts vs h m = literal_imitates m h.3 h.4
+pub wrong_imitates : (note : Note) (d : ℕ) (q0 q r : RowState) (ts vs : List Token) → IsWrong note d q r ts vs → Imitates q0 q → Imitates (patched note q0) r
+wrong_imitates Stray d q0 q r ts vs w m = literal_imitates m w.3 w.4
+wrong_imitates (Unwanted until) d q0 q r ts vs w m =
+    let on : Imitates q0 (At w.2) = subst (Imitates q0) w.4 m in
+    subst (Imitates q0) (sym w.5) (imitates_both on (run_imitates w.2 w.3 until w.6))
+wrong_imitates Extra d q0 q r ts vs w m = subst (Imitates q0) (sym w.3) m
+wrong_imitates Twice d q0 q r ts vs w m = absurd w
+wrong_imitates TooDeep d q0 q r ts vs w m = literal_imitates m w.3 w.4
 
 -- behind a dead state nothing goes on
 pub nowhere : (ks : List SyntaxKind) → run Nowhere ks ≡ Nowhere
@@ -113,15 +110,12 @@ pub imitates_completable : {q0 q : RowState} → Imitates q0 q → IsCompletable
 imitates_completable m w = (w.0, imitates_run m w.0 w.1)
 
 -- what an error node stands in can be completed where what follows can
-pub beside_completable : (n : Note) (p : SyntaxKind) (a : ℕ) (q r : RowState) (b : AnnotatedForest) (i : ℕ) (ts vs : List Token) → IsBeside n p a q r b i ts vs → IsCompletable r → IsCompletable q
-beside_completable Stray p a q r b i [] vs h w = absurd h
-beside_completable Stray p a q r b i (t ∷ ts) vs h w = (NODE_LITERAL ∷ w.0, ap (λ x. whole (run x w.0)) h.3 ∙ w.1)
-beside_completable (Unwanted until) p a q r b i [] vs h w = absurd h
-beside_completable (Unwanted until) p a q r b i (t ∷ ts) vs h w = subst IsCompletable (sym h.6) (completed_at h.4 (run_inside h.4 h.5 until h.8))
-beside_completable Extra p a q r b i [] vs h w = absurd h
-beside_completable Extra p a q r b i (t ∷ ts) vs h w = subst IsCompletable h.4 w
-beside_completable Twice p a q r b i ts vs h w = absurd h
-beside_completable TooDeep p a q r b i ts vs h w = (NODE_LITERAL ∷ w.0, ap (λ x. whole (run x w.0)) h.3 ∙ w.1)
+pub wrong_completable : (note : Note) (d : ℕ) (q r : RowState) (ts vs : List Token) → IsWrong note d q r ts vs → IsCompletable r → IsCompletable q
+wrong_completable Stray d q r ts vs w m = (NODE_LITERAL ∷ m.0, ap (λ x. whole (run x m.0)) w.3 ∙ m.1)
+wrong_completable (Unwanted until) d q r ts vs w m = subst IsCompletable (sym w.4) (completed_at w.2 (run_inside w.2 w.3 until w.6))
+wrong_completable Extra d q r ts vs w m = subst IsCompletable w.3 m
+wrong_completable Twice d q r ts vs w m = absurd w
+wrong_completable TooDeep d q r ts vs w m = (NODE_LITERAL ∷ m.0, ap (λ x. whole (run x m.0)) w.3 ∙ m.1)
 
 -- what is no operand fits no level
 unfit_by : (n : ℕ) → (if nat_eq n 0 then false else (if nat_le n 12 then false else (if nat_eq n 13 then false else (if nat_eq n 14 then false else false)))) ≡ false

@@ -1,9 +1,9 @@
 -- Kinds of operands and powers of tokens.
 use Rattle.std.{specs.List.list_all, proofs.{lemmas.Bool.{and_parts, and_from, cases_lt, agree_below_at, Decides.nat_tests}, Common.{◌≡◌, ◌⊎◌, inl, inr, ℕ}}}
-use Rattle.std.proofs.Common.{zero, suc, ◌+◌, ◌≤◌, ◌<◌, Bool, true, false, refl, ap, sym, ◌∙◌, arith, ◌||◌, ◌&&◌, if◌then◌else◌, nat_eq, nat_le, nat_lt}
-use Rattle.rnix_kinds.{specs.declared.kinds.SyntaxKind.{SyntaxKind, TheVariants.NODE_BIN_OP}, proofs.AllKinds.{all_kinds, every, implied}}
+use Rattle.std.proofs.Common.{zero, suc, ◌+◌, ◌≤◌, ◌<◌, Bool, true, false, refl, ap, sym, ◌∙◌, arith, ◌||◌, ◌&&◌, if◌then◌else◌, nat_eq, nat_le}
+use Rattle.rnix_kinds.{specs.declared.kinds.SyntaxKind.{SyntaxKind}, proofs.AllKinds.{all_kinds, every, implied}}
 use Rattle.rnix_grammar.specs.{Levels.{binding_power, left_of, right_of, high_of}, Rows.{is_atom, is_simple, is_negated, is_questioned, is_operand}}
-use Rattle.{rnix_grammar.specs.{Rows.{is_expression, fits, is_infix}, Stands.continues_kind}, rnix_lemmas.proofs.EveryKind.whenever_two}
+use Rattle.{rnix_grammar.specs.Rows.{is_expression, fits, is_infix}, rnix_lemmas.proofs.EveryKind.whenever_two}
 use Rattle.rnix_lemmas.proofs.EveryKind as every
 
 -- each class is in the next
@@ -84,43 +84,20 @@ within l m n h = let q = and_parts (nat_le l m) (nat_le m n) h in (at_most l m q
 pub binding_power_max : (j : SyntaxKind) → binding_power j ≤ 16
 binding_power_max j = at_most (binding_power j) 16 (every (λ k. nat_le (binding_power k) 16) refl j)
 
--- the power of what goes on with an operator's tree
-pub record Loose (j : SyntaxKind) : Type 0 where
-  pub positive : 1 ≤ binding_power j
-  pub most : binding_power j ≤ 13
-
--- what goes on with the tree of a binary operator binds loosely
-pub operand_binding_power : (j : SyntaxKind) → continues_kind j NODE_BIN_OP ≡ true → Loose j
-operand_binding_power j h =
-    let q = within 1 (binding_power j) 13 (implied (λ k. continues_kind k NODE_BIN_OP) (λ k. nat_le 1 (binding_power k) && nat_le (binding_power k) 13) refl j h) in record { positive = q.0; most = q.1 }
-
 -- what goes on behind an operator and its right operand
 pub record Operates (k : SyntaxKind) : Type 0 where
   pub positive : 1 ≤ binding_power k
   pub most : binding_power k ≤ 12
-  pub bounded : (j : SyntaxKind) → continues_kind j NODE_BIN_OP ≡ true → binding_power j < right_of k → binding_power j ≤ high_of k
   pub high : high_of k ≤ binding_power k
-  pub right : (binding_power k ≤ right_of k) × (right_of k ≤ 12) × (1 ≤ right_of k)
-
--- of what goes on with an operator's tree, what is looser than its right operand may follow it
-bounded_all : (k j : SyntaxKind) → is_infix k ≡ true → continues_kind j NODE_BIN_OP ≡ true → binding_power j < right_of k → binding_power j ≤ high_of k
-bounded_all k j h c l =
-    let w : nat_lt (binding_power j) (right_of k) ≡ true = grind (arith, nat_tests, l) in
-    at_most (binding_power j) (high_of k)
-    (whenever_two (λ k j. is_infix k && (continues_kind j NODE_BIN_OP && nat_lt (binding_power j) (right_of k))) (λ k j. nat_le (binding_power j) (high_of k)) refl k j
-    (and_from _ _ h (and_from _ _ c w)))
 
 -- a binary operator has a level of its own
 pub operates : (k : SyntaxKind) → is_infix k ≡ true → Operates k
 operates k h =
     let q = within 1 (binding_power k) 12 (implied is_infix (λ o. nat_le 1 (binding_power o) && nat_le (binding_power o) 12) refl k h) in
-    let r = within (binding_power k) (right_of k) 12 (implied is_infix (λ o. nat_le (binding_power o) (right_of o) && nat_le (right_of o) 12) refl k h) in
     record {
       positive = q.0;
       most = q.1;
-      bounded = λ j c l. bounded_all k j h c l;
       high = at_most (high_of k) (binding_power k) (implied is_infix (λ o. nat_le (high_of o) (binding_power o)) refl k h);
-      right = (r.0, r.1, omega (arith, q.0, r.0));
     }
 
 -- the levels whose operators group to the left

@@ -1,10 +1,15 @@
 -- How a row goes on where no run of tokens may stand, and which kinds begin no row.
-use Rattle.std.{specs.List.list_all, proofs.Common.{◌≡◌, ℕ, suc, Bool, true, false, List, [], ◌∷◌, ◌++◌, refl, ap, sym, ◌∙◌, subst, if◌then◌else◌}}
-use Rattle.rnix_kinds.{specs.{declared.kinds.SyntaxKind.{SyntaxKind, TheVariants.{TOKEN_IDENT, NODE_LITERAL}}, SyntaxKind.is_token}, proofs.AllKinds.all_kinds}
-use Rattle.{rnix_kinds.proofs.AllKinds.implied, rnix_grammar.specs.{declared.{place.Place.Place, until.Closer.Closer}, Fault.Fault, Tables.closes}}
+use Rattle.std.{specs.List.list_all, proofs.Common.{◌≡◌, ℕ, ◌≤◌, Bool, true, false, List, [], ◌∷◌, ◌++◌, Some, refl, ap, sym, ◌∙◌, subst, ◌||◌, ◌&&◌}}
+use Rattle.std.proofs.Common.{if◌then◌else◌}
+use Rattle.rnix_kinds.{specs.{declared.kinds.SyntaxKind.{SyntaxKind, TheVariants.{TOKEN_IDENT, TOKEN_OR, NODE_LITERAL}}, SyntaxKind.{is_fn_arg, is_token}}}
+use Rattle.rnix_kinds.proofs.AllKinds.{all_kinds, implied}
+use Rattle.rnix_grammar.specs.{declared.{until.Closer.Closer}, Fault.Fault, Tables.closes}
 use Rattle.rnix_grammar.specs.AnnotatedForest.{Token, Note, Stray, Unwanted, Extra, Twice, TooDeep, AnnotatedForest, blank, token, branch, fault, ◌⊕◌}
-use Rattle.rnix_grammar.specs.{AnnotatedForest.{one_branch, one_fault, leaf_kind}, Rows.{RowState, Start, At, to, advance, first, live, start}, Stands.Stands}
-use Rattle.rnix_grammar.specs.{Stands.{end, leaf as leafed, missing_part, wrong, second, inner, IsBeside, IsLeveled, IsOpened}, Named.AreSpelled}
+use Rattle.rnix_grammar.specs.AnnotatedForest.{one_branch, one_fault, leaf_kind, head_kind}
+use Rattle.rnix_grammar.specs.Rows.{RowState, Start, BeforeArgument, At, to, advance, first, live, start, whole, counts}
+use Rattle.rnix_grammar.specs.PlaceReads.{Reads, IsWrong, deeper, end, leaf as leafed, missing_part, wrong, second, inner}
+use Rattle.rnix_grammar.specs.{ExpectedItems.{IsExpected, stands_expected}, Operands.{follows, IsFollowed, IsOperand, level_at}, TokenKinds.is_or}
+use Rattle.rnix_grammar.specs.{TreeLevels.{is_or_row, row_level, is_atom_row}, Named.AreSpelled}
 use Rattle.rnix_lemmas.proofs.Basics.{true_is_not_false}
 use Rattle.rnix_grammar.specs.declared.until.Closer.TheVariants as c
 
@@ -21,11 +26,12 @@ spelled_rest (t ∷ ts) us h = spelled_rest ts us h.1
 -- a whole row from a state on
 pub record HasRow (k : SyntaxKind) (q : RowState) (b : AnnotatedForest) (f : AnnotatedForest) : Type 0 where
   pub depth : ℕ
-  pub last : Place
-  pub count : ℕ
+  pub behind : ℕ
+  pub last : RowState
   pub left : List Token
   pub faults : List Fault
-  pub stands : Stands k depth q (At last) b count left f faults
+  pub reads : Reads k depth behind q last b left f faults
+  pub over : whole last ≡ true
 
 -- an error node that stands for an operand
 abbrev pub is_number : Note → Bool
@@ -33,10 +39,33 @@ is_number Stray = true
 is_number TooDeep = true
 is_number n = false
 
+-- a tree binds as tightly as its state asks; behind the name of a function, `or` is an argument of an atom alone
+pub record IsLeveled (q : RowState) (b x : AnnotatedForest) : Type 0 where
+  pub tight : (level : ℕ) → level_at q x ≡ Some level → level ≤ row_level x
+  pub atom : q ≡ BeforeArgument → is_or_row x ≡ true → is_atom_row b ≡ true
+
+-- so it is with each node that is read
+pub leveled : (q : RowState) (b : AnnotatedForest) (k : SyntaxKind) (c : AnnotatedForest) (n : ℕ) (ws vs : List Token) → IsExpected q n ws (stands_expected q k c)
+    → IsFollowed q b (head_kind ws) → IsOperand (level_at q (one_branch k c)) (one_branch k c) vs → IsLeveled q b (one_branch k c)
+leveled q b k c n ws vs own fo op = record {
+  tight = λ level e. (subst (λ o. IsOperand o (one_branch k c) vs) e op).0;
+  atom = λ e o.
+      called ws (subst (λ w. IsExpected BeforeArgument n ws w) o (subst (λ z. IsExpected z n ws (stands_expected z k c)) e own))
+      (subst (λ z. IsFollowed z b (head_kind ws)) e fo);
+}
+  where
+    atom : (j : SyntaxKind) → is_or j ≡ true → ((is_fn_arg j || is_or j) && follows j b) ≡ true → is_atom_row b ≡ true
+    atom TOKEN_OR e f = f
+    atom _ e f = absurd (true_is_not_false (sym e))
+
+    called : (ts : List Token) → IsExpected BeforeArgument n ts true → IsFollowed BeforeArgument b (head_kind ts) → is_atom_row b ≡ true
+    called [] o f = absurd o
+    called (t ∷ ts) o f = atom t.kind o f
+
 -- how a row goes on where no run of tokens may stand
 pub data Opening : SyntaxKind → RowState → AnnotatedForest → AnnotatedForest → Type 0 where
   by_token : {p : SyntaxKind} {q : RowState} {b : AnnotatedForest} {k : SyntaxKind} {t : Token} {f : AnnotatedForest}
-      → k ≡ leaf_kind p t → IsOpened q b k → live (advance q k) ≡ true → Opening p q b (token k t f)
+      → k ≡ leaf_kind p t → IsFollowed q b (Some k) → live (advance q k) ≡ true → Opening p q b (token k t f)
   by_branch : {p : SyntaxKind} {q : RowState} {b : AnnotatedForest} {k : SyntaxKind} {c f : AnnotatedForest}
       → HasRow k (start k) blank c → IsLeveled q b (one_branch k c) → live (advance q k) ≡ true → HasRow p (advance q k) (b ⊕ one_branch k c) f → Opening p q b (branch k c f)
   by_fault : {p : SyntaxKind} {q : RowState} {b : AnnotatedForest} {n : Note} {c f : AnnotatedForest}
@@ -47,52 +76,55 @@ abbrev pub is_place : RowState → Bool
 is_place (At x) = true
 is_place q = false
 
--- no error node but a number stands where no run may
-number_beside : (n : Note) (p : SyntaxKind) (a : ℕ) (q r : RowState) (b : AnnotatedForest) (i : ℕ) (ts vs : List Token) → IsBeside n p a q r b i ts vs → is_place q ≡ false
-    → (is_number n ≡ true) × (advance q NODE_LITERAL ≡ r) × (live r ≡ true)
-number_beside Stray p a q r b i [] vs h n = absurd h
-number_beside Stray p a q r b i (t ∷ ts) vs h n = (refl, h.3, h.4)
-number_beside (Unwanted until) p a q r b i [] vs h n = absurd h
-number_beside (Unwanted until) p a q r b i (t ∷ ts) vs h n = absurd (true_is_not_false (sym (ap is_place h.6) ∙ n))
-number_beside Extra p a q r b i [] vs h n = absurd h
-number_beside Extra p a q r b i (t ∷ ts) vs h n = absurd (true_is_not_false (sym (ap is_place h.3) ∙ n))
-number_beside Twice p a q r b i ts vs h n = absurd h
-number_beside TooDeep p a q r b i ts vs h n = (refl, h.3, h.4)
+-- where a row has come to no place it is not whole, and nothing counts
+pub unplaced : (q : RowState) → is_place q ≡ false → (whole q ≡ false) × (counts q ≡ false)
+unplaced (At x) h = absurd (true_is_not_false h)
+unplaced _ h = (refl, refl)
 
--- a row that ends at a place goes on in one of these ways
-pub opening : {p : SyntaxKind} {a : ℕ} {q q' : RowState} {b : AnnotatedForest} {i : ℕ} {us : List Token} {f : AnnotatedForest} {es : List Fault} → Stands p a q q' b i us f es
-    → (x : Place) → q' ≡ At x → is_place q ≡ false → Opening p q b f
-opening end x e n = absurd (true_is_not_false (sym (ap is_place e) ∙ n))
-opening {q = q} {b = b} (leafed {k = k} h op w l c j s) x e n = by_token h op (ap live w ∙ l)
-opening (missing_part u v l s z) x e n = absurd (true_is_not_false n)
-opening {p = p} {a = a} {q = q} {q' = q'} {b = b} {i = i} (wrong {r = r} {d = d} {j = j} {us = us} {vs = vs} {c = c} {f = f} {es = es} note ts h w beside l m s z) x e n =
-    let o = number_beside note p a q r b i ts vs beside n in
+-- no error node but a number stands where no run may
+pub number_wrong : (note : Note) (d : ℕ) (q r : RowState) (ts vs : List Token) → IsWrong note d q r ts vs → is_place q ≡ false
+    → (is_number note ≡ true) × (advance q NODE_LITERAL ≡ r) × (live r ≡ true)
+number_wrong Stray d q r ts vs w n = (refl, w.3, w.4)
+number_wrong (Unwanted until) d q r ts vs w n = absurd (true_is_not_false (sym (ap is_place w.4) ∙ n))
+number_wrong Extra d q r ts vs w n = absurd (true_is_not_false (sym (ap is_place w.2) ∙ n))
+number_wrong Twice d q r ts vs w n = absurd w
+number_wrong TooDeep d q r ts vs w n = (refl, w.3, w.4)
+
+-- so a whole row goes on
+pub opening : {p : SyntaxKind} {d n : ℕ} {q q' : RowState} {b : AnnotatedForest} {us : List Token} {f : AnnotatedForest} {es : List Fault} → Reads p d n q q' b us f es
+    → whole q' ≡ true → is_place q ≡ false → Opening p q b f
+opening {q = q} end e n = absurd (true_is_not_false (sym e ∙ (unplaced q n).0))
+opening (leafed h _ _ fo w l _ _ _) e n = by_token h fo (ap live w ∙ l)
+opening (missing_part _ _ _ _ _ _) e n = absurd (true_is_not_false n)
+opening {p = p} {d = d} {q = q} {q' = q'} {b = b} {us = us} (wrong {m = m} {r = r} {g = g} {vs = vs} {c = c} {f = f} {es = es} note ts _ _ _ _ w l _ s _) e n =
+    let o = number_wrong note d q r ts vs w n in
     by_fault o.0 (ap live o.1 ∙ o.2)
     (record {
-      depth = a;
-      last = x;
-      count = j;
+      depth = d;
+      behind = m;
+      last = q';
       left = us;
       faults = es;
-      stands = subst (λ v. Stands p a (advance q NODE_LITERAL) v (b ⊕ one_fault note c) j us f es) e
-          (subst (λ v. Stands p a (advance q NODE_LITERAL) q' v j us f es) l (subst (λ v. Stands p a v q' d j us f es) (sym o.1) s));
+      reads = subst (λ v. Reads p d m (advance q NODE_LITERAL) q' v us f es) l (subst (λ v. Reads p d m v q' g us f es) (sym o.1) s);
+      over = e;
     })
-opening (second w s y o q r l k v z) x e n = absurd (true_is_not_false (sym (ap is_place q) ∙ n))
-opening {p = p} {a = a} {q = q} {q' = q'} {b = b} (inner {x = y} {d = d} {i = i} {j = j} {us = us} {vs = vs} {c = c} {f = f} {ds = ds} {es = es} {k = k} w s y' form lev h l o m v z) x e n =
-    by_branch (record { depth = suc a; last = y; count = i; left = vs; faults = ds; stands = s }) lev (ap live h ∙ l)
+opening (second _ _ _ _ q _ _ _ _) e n = absurd (true_is_not_false (sym (ap is_place q) ∙ n))
+opening {p = p} {d = d} {n = i} {q = q} {q' = q'} {b = b} {us = us}
+    (inner {m = m} {s = y} {g = g} {vs = vs} {ws = ws} {c = c} {f = f} {ds = ds} {es = es} {k = k} _ _ s _ over own _ fo op h l o v _) e n =
+    by_branch (record { depth = deeper q d; behind = i; last = y; left = vs; faults = ds; reads = s; over = over.0 }) (leveled q b k c i ws vs own fo op) (ap live h ∙ l)
     (record {
-      depth = a;
-      last = x;
-      count = j;
+      depth = d;
+      behind = m;
+      last = q';
       left = us;
       faults = es;
-      stands = subst (λ u. Stands p a (advance q k) u (b ⊕ one_branch k c) j us f es) e
-          (subst (λ u. Stands p a (advance q k) q' u j us f es) o (subst (λ u. Stands p a u q' d j us f es) (sym h) v));
+      reads = subst (λ u. Reads p d m (advance q k) q' u us f es) o (subst (λ u. Reads p d m u q' g us f es) (sym h) v);
+      over = e;
     })
 
 -- and so for a whole row
 pub opened : {k : SyntaxKind} {q : RowState} {b f : AnnotatedForest} → HasRow k q b f → is_place q ≡ false → Opening k q b f
-opened h n = opening h.stands h.last refl n
+opened h n = opening h.reads h.over n
 
 -- no token has a row
 abbrev pub is_rowless : SyntaxKind → Bool

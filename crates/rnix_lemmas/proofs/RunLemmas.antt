@@ -1,7 +1,7 @@
 -- Runs of items that are not wanted.
 use Rattle.std.proofs.Common.{◌≡◌, Bool, true, false, List, [], ◌∷◌, ◌++◌, refl, ap, if◌then◌else◌}
 use Rattle.rnix_grammar.specs.{declared.until.Until.Until, Tables.{is_wanted, stops}, AnnotatedForest.{Token, head_kind}, Machine.dropped, Missing.run_of}
-use Rattle.rnix_grammar.specs.Stands.{AreUnwanted}
+use Rattle.rnix_grammar.specs.ErrorNodes.{AreUnwanted}
 
 -- what a run and the items behind it are
 pub record Parted (until : Until) (ts run : List Token) : Type 0 where

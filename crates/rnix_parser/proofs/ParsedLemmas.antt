@@ -5,11 +5,11 @@ use Rattle.rnix_grammar.specs.{Tables.depth_limit, AnnotatedForest.{Token, Annot
 use Rattle.rnix_grammar.specs.{AnnotatedForest.HaveLeafKinds, Layout.items, Trim.{AreFaultsTrimmed, AreNodesTrimmed}, Shape.{IsShaped, IsUnrepeated, reports}}
 use Rattle.rnix_grammar.specs.{Seams.AreTriviaBetween, Named.{AreSpelled, is_repeated, Lacks}, Repaired.{repaired, ended_count}, Corners.has_no_corner}
 use Rattle.rnix_grammar.specs.{Fault.Fault, Plain.ArePaths, Nest.nest, Strict.is_strict_expression, Grammar.IsExpression, Derivation.has_tokens_alone}
-use Rattle.rnix_grammar.specs.{Derivation.IsDerivation, Stands.StandsWhole, PlaceReads.ReadsWhole, Reading.IsReading, Parsed.IsParsed}
-use Rattle.rnix_rows.proofs.{StandsFaults.{Errors, stands_errors}, StandsWhole.{whole_few, whole_ended, whole_begun, incomplete_last}, TreeShapes.whole_shaped}
-use Rattle.rnix_rows.proofs.{TreeShapes.without_trivia_reports, SeamLemmas.trivia_between, ReadsNest.reads_nested, ReadsStand.reads_stand}
-use Rattle.rnix_rows.proofs.{WithTriviaWhole.{without_trivia_items, laid_told, laid_trimmed, laid_bare, laid_nodes}, StandsTold.{stands_told, repaired_tokens}}
-use Rattle.{rnix_rows.proofs.{StandsShapes.{AreBareRows, repaired_none, whole_rows}, Exactly.derived}, rnix_soundness.proofs.ConverseNames.converse}
+use Rattle.rnix_grammar.specs.{Derivation.IsDerivation, PlaceReads.ReadsWhole, Reading.IsReading, Parsed.IsParsed}
+use Rattle.rnix_rows.proofs.{ReadsFaults.{Errors, reads_errors}, ReadsWhole.{whole_few, whole_ended, whole_begun, whole_last}, TreeShapes.whole_shaped}
+use Rattle.rnix_rows.proofs.{TreeShapes.without_trivia_reports, SeamLemmas.trivia_between, ReadsNest.reads_nested, NamedRows.are_named}
+use Rattle.rnix_rows.proofs.{WithTriviaWhole.{without_trivia_items, laid_told, laid_trimmed, laid_bare, laid_nodes}, ReadsTold.{reads_told, repaired_tokens}}
+use Rattle.{rnix_rows.proofs.{ReadsShapes.{AreBareRows, repaired_none, whole_rows}, Exactly.derived}, rnix_soundness.proofs.Converse.converse}
 use Rattle.{rnix_soundness.proofs.StrictCorners.strict_no_corner, rnix_lemmas.proofs.SpelledLemmas.{AreRuled, spelled_from, without_trivia_spelled}}
 use Rattle.{rnix_lemmas.proofs.EntryNames.both_true, rnix_strict.proofs.{GrammarStrict.expression_strict, GrammarTrees.strict_expression}}
 use Rattle.{rnix_proof_rules.proofs.ReadsAlike.whole_old, rnix_parser.proofs.Found.derivation_found}
@@ -45,30 +45,29 @@ all_follows ls tree faults ruled r =
     let g : AnnotatedForest = r.annotated in
     let own : items ts ≡ tokens_in (without_trivia g) = without_trivia_items g ts r.leaves in
     let reads : ReadsWhole (without_trivia g) faults = whole_old (without_trivia g) faults r.reads in
-    let stands : StandsWhole (without_trivia g) faults = reads_stand (without_trivia g) faults reads in
-    let errors : Errors (without_trivia g) [] (reports (without_trivia g)) faults = stands_errors stands in
-    let leaf_kind : HaveLeafKinds NODE_ROOT g = laid_told (without_trivia g) g ts faults r.laid stands in
-    let trimmed : AreFaultsTrimmed g = laid_trimmed (without_trivia g) g ts faults r.laid own stands in
-    let nodes : faults ≡ [] → AreNodesTrimmed (forget g) = laid_nodes (without_trivia g) g ts faults r.laid own stands in
+    let errors : Errors (without_trivia g) [] (reports (without_trivia g)) faults = reads_errors reads in
+    let leaf_kind : HaveLeafKinds NODE_ROOT g = laid_told (without_trivia g) g ts faults r.laid reads in
+    let trimmed : AreFaultsTrimmed g = laid_trimmed (without_trivia g) g ts faults r.laid own reads in
+    let nodes : faults ≡ [] → AreNodesTrimmed (forget g) = laid_nodes (without_trivia g) g ts faults r.laid own reads in
     let spelled : AreSpelled (tokens_in (without_trivia g)) = without_trivia_spelled g (subst AreSpelled (sym r.leaves) (spelled_from 0 ls ruled)) in
-    let nested : faults ≡ [] → nest NODE_ROOT (forget (without_trivia g)) ≤ depth_limit = λ h. reads_nested (without_trivia g) faults reads ((whole_rows stands).0 h) in
+    let nested : faults ≡ [] → nest NODE_ROOT (forget (without_trivia g)) ≤ depth_limit = λ h. reads_nested (without_trivia g) faults reads ((whole_rows reads).0 h) in
     let strict : ended_count faults ≡ 0 → Lacks is_repeated faults → has_no_corner NODE_ROOT (repaired (without_trivia g)) ≡ true → IsExpression (repaired (without_trivia g)) = λ n r o.
     strict_expression (repaired (without_trivia g))
     (both_true (has_tokens_alone (repaired (without_trivia g))) (is_strict_expression (repaired (without_trivia g)))
-    (repaired_tokens NODE_ROOT (without_trivia g) (stands_told stands) spelled) (converse (without_trivia g) faults stands spelled n r o)) in
+    (repaired_tokens NODE_ROOT (without_trivia g) (reads_told reads) spelled) (converse (without_trivia g) faults reads (are_named reads) spelled n r o)) in
     let met : (t : Forest) → IsDerivation t (items ts) → (faults ≡ []) × (forget (without_trivia g) ≡ t) = derivation_found (without_trivia g) (items ts) faults reads (sym own) in
     record {
       reading = r;
       leaf_kind = leaf_kind;
       trimmed = trimmed;
-      bare = laid_bare (without_trivia g) g ts faults r.laid spelled stands;
+      bare = laid_bare (without_trivia g) g ts faults r.laid spelled reads;
       paired = errors.reports ∙ without_trivia_reports blank g trimmed;
       named = errors.named;
-      shaped = subst (λ (t : Tree). (faults ≡ []) ↔ (IsShaped t × IsUnrepeated t)) (sym r.tree_is) (whole_shaped (without_trivia g) g faults stands refl leaf_kind nodes);
-      few_incomplete = whole_few stands;
-      no_incomplete = whole_ended stands;
-      begun = whole_begun stands;
-      last_incomplete = incomplete_last stands;
+      shaped = subst (λ (t : Tree). (faults ≡ []) ↔ (IsShaped t × IsUnrepeated t)) (sym r.tree_is) (whole_shaped (without_trivia g) g faults reads refl leaf_kind nodes);
+      few_incomplete = whole_few reads;
+      no_incomplete = whole_ended reads;
+      begun = whole_begun reads;
+      last_incomplete = whole_last reads;
       settled = errors.settled;
       between = λ h. subst AreTriviaBetween (sym r.tree_is) (trivia_between (record { kind = NODE_ROOT; children = forget g }) (nodes h));
       nested = nested;
@@ -77,8 +76,8 @@ all_follows ls tree faults ruled r =
       exactly = exact (without_trivia g) (items ts) faults
           (record {
             tokens = sym own;
-            bare = λ h. ((whole_rows stands).0 h).nodes;
-            leaf_kind = stands_told stands;
+            bare = λ h. ((whole_rows reads).0 h).nodes;
+            leaf_kind = reads_told reads;
             spelled = spelled;
             nested = nested;
             strict = λ h o. strict (ap ended_count h) (subst (Lacks is_repeated) (sym h) tt) o;

@@ -1,6 +1,7 @@
 //! Each text has one reading, and what follows from it.
 
 ghost use Rattle.std.specs.Prelude.{◌≡◌, ◌≤◌, List};
+ghost use Rattle.rnix_kinds.specs.declared.kinds.SyntaxKind.TheVariants.{NODE_ROOT};
 ghost use Rattle.rnix_kinds.specs.Lexical.Tokens.{Lexeme, tokens_of};
 ghost use Rattle.rnix_green.specs.Forest.{text_of};
 ghost use Rattle.rnix_green.specs.Tree.{Tree, forest_of};
@@ -8,7 +9,8 @@ ghost use Rattle.rnix_grammar.specs.declared.place.Place.TheVariants.{RootStart}
 ghost use Rattle.rnix_grammar.specs.Fault.{Fault};
 ghost use Rattle.rnix_grammar.specs.Tables.{depth_limit};
 ghost use Rattle.rnix_grammar.specs.Rows.{At};
-ghost use Rattle.rnix_grammar.specs.Stands.{StandsWhole};
+ghost use Rattle.rnix_grammar.specs.Named.{AreNamed};
+ghost use Rattle.rnix_grammar.specs.ErrorNodes.{AreErrorNodes};
 ghost use Rattle.rnix_grammar.specs.Nesting.{depth_of, AreLimited};
 ghost use Rattle.rnix_grammar.specs.Reading.{IsReading};
 ghost use Rattle.rnix_grammar.specs.Parsed.{IsParsed};
@@ -40,10 +42,11 @@ pub fn all_follows(text: &str)
     let _len = text.len();
 }
 
-/// Where each error node of a reading may stand and what it may not begin with, and how tightly operands bind; at most 512 counted places are
-/// inside one another, error nodes aside, and what is nested too deep is inside exactly 512.
+/// What each error node of a reading holds, and in which nodes it stands; names stand where they may; at most 512 counted places are inside one
+/// another, error nodes aside, and what is nested too deep is inside exactly 512.
 pub fn error_forms()
-    ensures stands { OfReadings (λ annotated faults. StandsWhole annotated faults) }
+    ensures nodes { OfReadings (λ annotated faults. AreErrorNodes NODE_ROOT annotated) }
+    ensures named { OfReadings (λ annotated faults. AreNamed (At RootStart) annotated) }
     ensures shallow { OfReadings (λ annotated faults. depth_of (At RootStart) annotated ≤ depth_limit) }
     ensures limited { OfReadings (λ annotated faults. AreLimited 0 (At RootStart) annotated) }
 {}

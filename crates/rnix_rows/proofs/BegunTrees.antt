@@ -2,10 +2,10 @@
 use Rattle.std.{specs.List.list_all, proofs.Common.{◌≡◌, ℕ, Bool, true, false, List, [], ◌∷◌, ◌++◌, Option, Some, None, refl, ap, sym, subst, append-nil}}
 use Rattle.std.proofs.Common.{if◌then◌else◌, nat_eq, nat_le}
 use Rattle.rnix_kinds.specs.declared.kinds.SyntaxKind.{SyntaxKind, TheVariants.{TOKEN_AT, TOKEN_COLON, TOKEN_IDENT, TOKEN_INVERT, TOKEN_SUB, TOKEN_LET}}
-use Rattle.rnix_kinds.specs.declared.kinds.SyntaxKind.TheVariants.{TOKEN_WITH, TOKEN_ASSERT, TOKEN_IF, TOKEN_L_BRACE, NODE_APPLY, NODE_ATTRPATH}
-use Rattle.rnix_kinds.specs.declared.kinds.SyntaxKind.TheVariants.{NODE_ATTRPATH_VALUE, NODE_BIN_OP, NODE_CUR_POS, NODE_ERROR, NODE_HAS_ATTR, NODE_IDENT}
+use Rattle.rnix_kinds.specs.declared.kinds.SyntaxKind.TheVariants.{TOKEN_L_BRACE, NODE_APPLY, NODE_ATTRPATH}
+use Rattle.rnix_kinds.specs.declared.kinds.SyntaxKind.TheVariants.{NODE_ATTRPATH_VALUE, NODE_BIN_OP, NODE_CUR_POS, NODE_HAS_ATTR, NODE_IDENT}
 use Rattle.rnix_kinds.specs.declared.kinds.SyntaxKind.TheVariants.{NODE_IDENT_PARAM, NODE_LAMBDA, NODE_PATTERN, NODE_PAT_BIND, NODE_PAT_ENTRY, NODE_ROOT}
-use Rattle.rnix_kinds.{specs.{declared.kinds.SyntaxKind.TheVariants.NODE_SELECT, SyntaxKind.is_fn_arg}, proofs.AllKinds.{all_kinds, every, implied}}
+use Rattle.rnix_kinds.{specs.{declared.kinds.SyntaxKind.TheVariants.NODE_SELECT}, proofs.AllKinds.{all_kinds, every, implied}}
 use Rattle.rnix_grammar.specs.{declared.{begin.Begin.Begin, place.Place.Place, symbol.Symbol.Symbol}, Begins.{begin_name, begin_let, begin_of, is_pattern}}
 use Rattle.rnix_grammar.specs.{Begins.second_kind, Names.{is_plain, is_no_or, is_position, is_name_in, is_name_of, is_name_at, is_named_by}}
 use Rattle.rnix_grammar.specs.{ExpectedItems.{IsExpected, stands_expected}, Operands.{first_tree, kind_of, IsBegun, IsOperand, level_at}, Rows.RowState}
@@ -31,7 +31,6 @@ may_begin NODE_IDENT_PARAM kind text = is_wanted u.Ident kind
 may_begin NODE_PATTERN kind text = begins_pattern kind
 may_begin NODE_PAT_BIND kind text = if is_or kind then false else true
 may_begin NODE_PAT_ENTRY kind text = if is_or kind then false else true
-may_begin NODE_ERROR kind text = if is_fn_arg kind then false else true
 may_begin k kind text = true
 
 -- so may the first of some items, if there is one

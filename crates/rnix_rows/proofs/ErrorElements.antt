@@ -4,9 +4,9 @@ use Rattle.rnix_kinds.specs.{declared.kinds.SyntaxKind.{SyntaxKind, TheVariants.
 use Rattle.{rnix_green.specs.{Forest.{text_of, node}, Tree.{Tree, Item, item, extent_of}}, rnix_grammar.specs.{Fault.Fault, AnnotatedForest.{Note, Stray}}}
 use Rattle.rnix_grammar.specs.AnnotatedForest.{Unwanted, Extra, Twice, TooDeep, AnnotatedForest, token, tokens_in, forget, is_some, HaveLeafKinds}
 use Rattle.rnix_grammar.specs.{AnnotatedForest.{extent_of as place_of, Token, blank, branch, without_trivia, token_if}, Reports.{first_kind, report}}
-use Rattle.rnix_grammar.specs.{Reports.{only_token, entry_name}, Stands.begins_with_token, Trim.{AreNamesBare, is_bare, begins_with_node}, Ranges.BeginsWith}
+use Rattle.rnix_grammar.specs.{Reports.{only_token, entry_name}, Named.begins_with_token, Trim.{AreNamesBare, is_bare, begins_with_node}, Ranges.BeginsWith}
 use Rattle.{rnix_grammar.specs.Ranges.{IsErrorOf, AreErrorsOf, IsEntryName}, rnix_lemmas.proofs.Basics.{true_is_not_false, some_same}}
-use Rattle.rnix_rows.proofs.{StandsFilled.{HasTokens, AreMarked}, PlacedTokens.{ArePlaced, between, row_extent, placed_first}, RowsIn.{IsRowIn, row_first}}
+use Rattle.rnix_rows.proofs.{ReadsFilled.{HasTokens, AreMarked}, PlacedTokens.{ArePlaced, between, row_extent, placed_first}, RowsIn.{IsRowIn, row_first}}
 use Rattle.rnix_rows.proofs.RowsIn.{row_text}
 
 -- errors and elements, one list behind another

@@ -6,7 +6,7 @@ use Rattle.rnix_grammar.specs.AnnotatedForest.{Token, lexeme_of, AnnotatedForest
 use Rattle.rnix_grammar.specs.{Named.{is_spelled, AreSpelled}, Yield.{untold, yield}, Tables.{is_or, depth_limit}, Grammar.IsExpression, Derivation.beyond}
 use Rattle.rnix_grammar.specs.{Derivation.{laid, IsDerivation}, declared.place.Place.TheVariants.RootStart, Rows.At, Plain.ArePaths, Nest.nest}
 use Rattle.rnix_lemmas.proofs.{RowNesting.nesting, Basics.true_is_not_false, OpeningRows.{spelled_first, spelled_rest}, NestTrees.{HaveRows, rows_nest}}
-use Rattle.rnix_rows.proofs.StandsShapes.{AreBareRows, IsBare}
+use Rattle.rnix_rows.proofs.ReadsShapes.{AreBareRows, IsBare}
 
 -- the trees of a row without error nodes, over its tokens, are the row
 pub beyond_row : (f : AnnotatedForest) (us : List Token) → AreBareRows f → beyond (forget f) (tokens_in f ++ us) ≡ us

@@ -6,7 +6,7 @@ use Rattle.rnix_grammar.specs.{Fault.Fault, AnnotatedForest.{AnnotatedForest, bl
 use Rattle.rnix_grammar.specs.{Rows.{whole, start, advance}, Shape.{item_kinds, AreRows, IsShaped}, Named.AreSpelled, Derivation.has_tokens_alone}
 use Rattle.{rnix_grammar.specs.Parsed.IsParsed, rnix_lemmas.proofs.{Basics.not_if, EntryNames.both_true, SpelledLemmas.{AreRuled, spelled_from}}}
 use Rattle.rnix_lemmas.proofs.{RowKinds.{has_row, starts_row}, ImitateLemmas.run_live, OpeningRows.{spelled_first, spelled_rest}}
-use Rattle.rnix_rows.proofs.StandsTold.{told_token, spelled_token}
+use Rattle.rnix_rows.proofs.ReadsTold.{told_token, spelled_token}
 
 -- each node has a row of its kind
 abbrev pub HasRows : Forest → Type 0

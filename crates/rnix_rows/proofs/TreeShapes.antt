@@ -4,14 +4,13 @@ use Rattle.rnix_kinds.specs.declared.kinds.SyntaxKind.{SyntaxKind, TheVariants.{
 use Rattle.{rnix_kinds.specs.SyntaxKind.is_trivia, rnix_green.specs.Forest.Forest, rnix_grammar.specs.{Fault.{Fault, named_twice}, AnnotatedForest.Token}}
 use Rattle.rnix_grammar.specs.AnnotatedForest.{AnnotatedForest, blank, token, branch, fault, ◌⊕◌, one_token, one_branch, one_fault, forget, without_trivia}
 use Rattle.rnix_grammar.specs.{AnnotatedForest.{token_if, leaf_kind, HaveLeafKinds, tokens_in, extent_of}, Reports.{report, repeated_if, entry_name}}
-use Rattle.rnix_grammar.specs.{Reports.{only_token, is_same_name, has_entry, repeats}, Rows.{At, whole, is_row}, Stands.{Stands, begins_with_token}}
+use Rattle.rnix_grammar.specs.{Reports.{only_token, is_same_name, has_entry, repeats}, Rows.{whole, is_row}, PlaceReads.ReadsWhole, Named.begins_with_token}
 use Rattle.rnix_grammar.specs.{Repaired.kinds_of, Trim.{AreNodesTrimmed, AreFaultsTrimmed}, Shape.{item_kinds, begins_with_leaf, is_bind_formed}}
 use Rattle.rnix_grammar.specs.Shape.{are_binds_formed, AreRows, IsShaped, leaf_text, text_if, name_in, name_if, with_name, entry_names, AreNew, AreUnrepeated}
 use Rattle.{rnix_grammar.specs.{Shape.{IsUnrepeated, reports_behind, reports_within}, Tables.is_among}, rnix_lemmas.proofs.ImitateLemmas.nowhere}
 use Rattle.rnix_lemmas.proofs.{Basics.{true_is_not_false, none_left, none_right, not_nil}, EntryNames.{bare_name, has_branch, either_assoc, has-⊕, if_not}}
 use Rattle.rnix_lemmas.proofs.{AnnotatedForestLemmas.⊕-blank, LayoutLemmas.without_trivia-⊕, ReportLemmas.{without_trivia_tokens, same_report}}
-use Rattle.rnix_rows.proofs.{WithTriviaEdges.told_alike, StandsShapes.{bare_bind, bare_binds, AreBareRows, IsBare, whole_rows}}
-use Rattle.rnix_grammar.specs.declared.place.Place.TheVariants as places
+use Rattle.rnix_rows.proofs.{WithTriviaEdges.told_alike, ReadsShapes.{bare_bind, bare_binds, AreBareRows, IsBare, whole_rows}}
 
 -- whether a leaf is trivia, its token tells
 leaf_trivia : (p k : SyntaxKind) (t : Token) → k ≡ leaf_kind p t → is_trivia t.kind ≡ is_trivia k
@@ -238,7 +237,7 @@ new_silent p (branch k c f) b names h l r n m =
 new_silent p (fault n c f) b names h l r i m = absurd (no_error_row (item_kinds (forget c)) r.0)
 
 -- a text has no error exactly if its tree has its shape and no name of a pattern is repeated
-pub whole_shaped : (f g : AnnotatedForest) (es : List Fault) → Stands NODE_ROOT 1 (At places.RootStart) (At places.RootEnd) blank 0 [] f es → without_trivia g ≡ f → HaveLeafKinds NODE_ROOT g
+pub whole_shaped : (f g : AnnotatedForest) (es : List Fault) → ReadsWhole f es → without_trivia g ≡ f → HaveLeafKinds NODE_ROOT g
     → (es ≡ [] → AreNodesTrimmed (forget g))
     → (es ≡ []) ↔ (IsShaped (record { kind = NODE_ROOT; children = forget g }) × IsUnrepeated (record { kind = NODE_ROOT; children = forget g }))
 whole_shaped f g es s e h t = (there, back)

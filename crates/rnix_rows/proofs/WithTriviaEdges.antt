@@ -8,7 +8,7 @@ use Rattle.rnix_grammar.specs.Trim.{EndsWithItem, leaf_kinds, token_kinds, AreFa
 use Rattle.rnix_lemmas.proofs.{AnnotatedForestLemmas.{⊕-assoc, ⊕-blank}, LayoutLemmas.{IsFirst, first_item, IsBared, bared, items-from_item, items-rest_after}}
 use Rattle.rnix_lemmas.proofs.EdgeLemmas.{token_kinds-++, some, IsEdged, edged_led, edged_added, edged_branch, edged_fault, faults_trimmed-⊕}
 use Rattle.{rnix_lemmas.proofs.EdgeLemmas.faults_trimmed_trivia, rnix_rows.proofs.DressLemmas.{HasTree, IsBare, bare_from, bare_trivia}}
-use Rattle.rnix_rows.proofs.StandsFilled.{AreFilled, AreFaultsFilled}
+use Rattle.rnix_rows.proofs.ReadsFilled.{AreFilled, AreFaultsFilled}
 
 -- each node of a row has tokens, and begins and ends with an item
 abbrev pub AreEdged : AnnotatedForest → Type 0

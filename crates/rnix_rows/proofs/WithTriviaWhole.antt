@@ -3,11 +3,11 @@ use Rattle.std.proofs.Common.{◌≡◌, true, List, [], ◌++◌, ap, sym, ◌�
 use Rattle.{rnix_kinds.specs.{declared.kinds.SyntaxKind.{SyntaxKind, TheVariants.NODE_ROOT}, Lexical.Tokens.Lexeme}, rnix_green.specs.Tree.Tree}
 use Rattle.rnix_grammar.specs.{Fault.Fault, AnnotatedForest.{Token, AnnotatedForest, tokens_in, without_trivia, placed_from, HaveLeafKinds, forget}}
 use Rattle.rnix_grammar.specs.{Layout.{trivia_before, from_item, items, left_after, with_trivia, with_trivia_whole}, Machine.ate, Document.IsRead}
-use Rattle.rnix_grammar.specs.{Named.AreSpelled, Stands.StandsWhole, Trim.{AreFaultsTrimmed, AreNamesBare, AreNodesTrimmed}}
+use Rattle.rnix_grammar.specs.{Named.AreSpelled, PlaceReads.ReadsWhole, Trim.{AreFaultsTrimmed, AreNamesBare, AreNodesTrimmed}}
 use Rattle.rnix_lemmas.proofs.{AnnotatedForestLemmas.tokens_in-⊕, LayoutLemmas.{items-view, IsBared, bared, with_trivia_tokens, trivia_tokens, nothing_from}}
 use Rattle.rnix_lemmas.proofs.{LayoutLemmas.{leaf_kind-⊕, told_trivia, told_with_trivia}, ReportLemmas.without_trivia_tokens, EdgeLemmas.faults_trimmed-⊕}
-use Rattle.{rnix_lemmas.proofs.EdgeLemmas.faults_trimmed_trivia, rnix_rows.proofs.{WithTrivia.whole_with_trivia, StandsShapes.whole_rows}}
-use Rattle.rnix_rows.proofs.{StandsFilled.{rows_filled, stands_filled}, StandsTold.{stands_told, stands_bare}, WithTriviaEdges.{edged-⊕, edged_trivia}}
+use Rattle.{rnix_lemmas.proofs.EdgeLemmas.faults_trimmed_trivia, rnix_rows.proofs.{WithTrivia.whole_with_trivia, ReadsShapes.whole_rows}}
+use Rattle.rnix_rows.proofs.{ReadsFilled.{rows_filled, reads_filled}, ReadsTold.{reads_told, reads_bare}, WithTriviaEdges.{edged-⊕, edged_trivia}}
 use Rattle.rnix_rows.proofs.{WithTriviaEdges.{with_trivia_edged, with_trivia_trimmed, nodes_trimmed}, WithTriviaNames.{bare-⊕, bare_trivia, with_trivia_bare}}
 
 -- all items, with nothing behind them
@@ -41,23 +41,23 @@ pub read_with_trivia : (ls : List Lexeme) (tree : Tree) (faults : List Fault) (r
 read_with_trivia ls tree faults r = whole_with_trivia (placed_from 0 ls) r.last r.root r.runs r.alone r.nothing
 
 -- each leaf has the kind that its token has below its parent
-pub laid_told : (f g : AnnotatedForest) (ts : List Token) (es : List Fault) → g ≡ with_trivia_whole f ts → StandsWhole f es → HaveLeafKinds NODE_ROOT g
-laid_told f g ts es e s = subst (HaveLeafKinds NODE_ROOT) (sym e) (with_trivia_whole_told NODE_ROOT f ts (stands_told s))
+pub laid_told : (f g : AnnotatedForest) (ts : List Token) (es : List Fault) → g ≡ with_trivia_whole f ts → ReadsWhole f es → HaveLeafKinds NODE_ROOT g
+laid_told f g ts es e s = subst (HaveLeafKinds NODE_ROOT) (sym e) (with_trivia_whole_told NODE_ROOT f ts (reads_told s))
 
 -- no error node begins or ends with trivia
-pub laid_trimmed : (f g : AnnotatedForest) (ts : List Token) (es : List Fault) → g ≡ with_trivia_whole f ts → items ts ≡ tokens_in f → StandsWhole f es → AreFaultsTrimmed g
+pub laid_trimmed : (f g : AnnotatedForest) (ts : List Token) (es : List Fault) → g ≡ with_trivia_whole f ts → items ts ≡ tokens_in f → ReadsWhole f es → AreFaultsTrimmed g
 laid_trimmed f g ts es e i s =
     subst AreFaultsTrimmed (sym e)
-    (faults_trimmed-⊕ (with_trivia f ts) (trivia_before (left_after f ts)) (with_trivia_trimmed f ts [] (all_items f ts i) (stands_filled s)) (faults_trimmed_trivia (left_after f ts)))
+    (faults_trimmed-⊕ (with_trivia f ts) (trivia_before (left_after f ts)) (with_trivia_trimmed f ts [] (all_items f ts i) (reads_filled s)) (faults_trimmed_trivia (left_after f ts)))
 
 -- names hold their tokens alone, and an entry of a pattern begins with its name
-pub laid_bare : (f g : AnnotatedForest) (ts : List Token) (es : List Fault) → g ≡ with_trivia_whole f ts → AreSpelled (tokens_in f) → StandsWhole f es → AreNamesBare g
+pub laid_bare : (f g : AnnotatedForest) (ts : List Token) (es : List Fault) → g ≡ with_trivia_whole f ts → AreSpelled (tokens_in f) → ReadsWhole f es → AreNamesBare g
 laid_bare f g ts es e a s =
-    subst AreNamesBare (sym e) (bare-⊕ (with_trivia f ts) (trivia_before (left_after f ts)) (with_trivia_bare f ts (stands_bare s a)) (bare_trivia (left_after f ts)))
+    subst AreNamesBare (sym e) (bare-⊕ (with_trivia f ts) (trivia_before (left_after f ts)) (with_trivia_bare f ts (reads_bare s a)) (bare_trivia (left_after f ts)))
 
 -- without errors no node begins or ends with trivia
-pub laid_nodes : (f g : AnnotatedForest) (ts : List Token) (es : List Fault) → g ≡ with_trivia_whole f ts → items ts ≡ tokens_in f → StandsWhole f es → es ≡ [] → AreNodesTrimmed (forget g)
+pub laid_nodes : (f g : AnnotatedForest) (ts : List Token) (es : List Fault) → g ≡ with_trivia_whole f ts → items ts ≡ tokens_in f → ReadsWhole f es → es ≡ [] → AreNodesTrimmed (forget g)
 laid_nodes f g ts es e i s n =
     subst (λ (x : AnnotatedForest). AreNodesTrimmed (forget x)) (sym e)
-    (nodes_trimmed NODE_ROOT (with_trivia_whole f ts) (with_trivia_whole_told NODE_ROOT f ts (stands_told s))
+    (nodes_trimmed NODE_ROOT (with_trivia_whole f ts) (with_trivia_whole_told NODE_ROOT f ts (reads_told s))
     (edged-⊕ (with_trivia f ts) (trivia_before (left_after f ts)) (with_trivia_edged f ts [] (all_items f ts i) (rows_filled f ((whole_rows s).0 n).nodes)) (edged_trivia (left_after f ts))))

@@ -1,5 +1,5 @@
 -- A row without errors of the end, repeated names and corners is strict, once its errors are repaired and its names stand where they may.
-use Rattle.std.{specs.Str.bytes_eq, proofs.Common.{◌≡◌, ℕ, suc, Bool, true, false, List, [], ◌∷◌, ◌++◌, Some, refl, ap, sym, ◌∙◌, subst, codes, if◌then◌else◌}}
+use Rattle.std.{specs.Str.bytes_eq, proofs.Common.{◌≡◌, ℕ, Bool, true, false, List, [], ◌∷◌, ◌++◌, Some, refl, ap, sym, ◌∙◌, subst, codes, if◌then◌else◌}}
 use Rattle.std.proofs.{Common.◌&&◌, lemmas.Bool.{and_from, and_parts, false_from_ne_true}}
 use Rattle.rnix_kinds.specs.declared.kinds.SyntaxKind.{SyntaxKind, TheVariants.{TOKEN_AT, NODE_IDENT, NODE_LITERAL, NODE_PAT_BIND, NODE_PAT_ENTRY}}
 use Rattle.{rnix_kinds.{specs.declared.kinds.SyntaxKind.TheVariants.TOKEN_INTEGER, proofs.AllKinds.implied}, rnix_green.specs.Forest.{Forest, empty, leaf}}
@@ -7,29 +7,30 @@ use Rattle.{rnix_green.specs.Forest.node, rnix_grammar.specs.{declared.{place.Pl
 use Rattle.rnix_grammar.specs.AnnotatedForest.{Token, Note, Stray, Unwanted, Extra, Twice, TooDeep, AnnotatedForest, blank, branch, ◌⊕◌, one_token, one_branch}
 use Rattle.rnix_grammar.specs.{AnnotatedForest.{one_fault, tokens_in, leaf_kind, extent_of}, Reports.{report, repeated, repeated_if, entry_name, is_same_name}}
 use Rattle.rnix_grammar.specs.{Reports.{has_entry, repeats}, Rows.{is_expression, RowState, Start, At, advance, first, first_bind, live, whole, start}}
-use Rattle.rnix_grammar.specs.{Stands.{Stands, end, leaf as leafed, missing_part, wrong, second, inner, IsBeside}, Strict.{may_stand, is_grouped, is_strict}}
-use Rattle.rnix_grammar.specs.{Strict.{entry_text, are_entries_new, first_is_no_or, binds_no_or}, Tables.is_among, Repaired.{repaired, patch, is_ended}}
+use Rattle.rnix_grammar.specs.{PlaceReads.{Reads, ReadsWhole, end, leaf as leafed, missing_part, wrong, second, inner, IsWrong, deeper}, Strict.{may_stand, is_grouped, is_strict}}
+use Rattle.rnix_grammar.specs.{Strict.{entry_text, are_entries_new, first_is_no_or, binds_no_or}, Tables.is_among, Repaired.{repaired, patch, is_ended, ended_count}}
 use Rattle.rnix_grammar.specs.{Corners.{is_corner, has_no_corner}, Names.is_name_at, Named.{is_spelled, AreSpelled, AreNamed, is_repeated, Lacks}}
-use Rattle.{rnix_grammar.specs.{BehindErrors.{go_run, go_error}, Missing.missing}, rnix_lemmas.proofs.{Basics.true_is_not_false, OpeningRows.{HasRow, Opening}}}
+use Rattle.{rnix_grammar.specs.{BehindErrors.{go_run, go_error}, Missing.missing}, rnix_lemmas.proofs.{Basics.true_is_not_false, OpeningRows.{HasRow, Opening, number_wrong, leveled}}}
 use Rattle.rnix_lemmas.proofs.{OpeningRows.{by_token, by_branch, by_fault, opened, is_place, spelled_first, spelled_rest}, MissingFacts.missing_ended}
-use Rattle.{rnix_lemmas.proofs.{EntryNames.{has-⊕, if_not}, NestRowStates.beside_goes}, rnix_soundness.proofs.SimilarRowStates.{Similar, similar_same}}
+use Rattle.{rnix_lemmas.proofs.{EntryNames.{has-⊕, if_not}, NestRowStates.wrong_goes}, rnix_soundness.proofs.SimilarRowStates.{Similar, similar_same}}
 use Rattle.rnix_soundness.proofs.{SimilarRowStates.{similar_two, similar_run, similar_past}, HomeRowStates.{IsHome, home_go, home_start, home_run, home_past}}
-use Rattle.rnix_soundness.proofs.{FirstTrees.{IsLed, led, token_first, no_operand}, RepairedNames.named_no_or, RepairedStands.{IsThere, stands_there}}
+use Rattle.rnix_soundness.proofs.{FirstTrees.{IsLed, led, token_first, no_operand}, RepairedNames.named_no_or, RepairedStands.{IsThere, stands_there, suits_named}}
 use Rattle.rnix_soundness.proofs.{RepairedStands.number_stands, RepairedGroups.grouped}
+use Rattle.{rnix_kinds.specs.declared.kinds.SyntaxKind.TheVariants.NODE_ROOT, std.proofs.Common.{◌+◌, arith}, rnix_grammar.specs.Strict.is_strict_expression}
 use Rattle.rnix_grammar.specs.declared.place.Place.TheVariants as p
 
 -- errors of two rows
-pub misses_first : (test : Fault → Bool) (ds es : List Fault) → Lacks test (ds ++ es) → Lacks test ds
+misses_first : (test : Fault → Bool) (ds es : List Fault) → Lacks test (ds ++ es) → Lacks test ds
 misses_first test [] es h = tt
 misses_first test (d ∷ ds) es h = (h.0, misses_first test ds es h.1)
 
 -- and the second
-pub misses_rest : (test : Fault → Bool) (ds es : List Fault) → Lacks test (ds ++ es) → Lacks test es
+misses_rest : (test : Fault → Bool) (ds es : List Fault) → Lacks test (ds ++ es) → Lacks test es
 misses_rest test [] es h = h
 misses_rest test (d ∷ ds) es h = misses_rest test ds es h.1
 
 -- nothing is missing where no error of the end is
-pub no_missing_part : (x y : Place) {e : Fault} {es fs : List Fault} {A : Type 0} → missing x ≡ Some (e, y) → fs ≡ e ∷ es → Lacks is_ended fs → A
+no_missing_part : (x y : Place) {e : Fault} {es fs : List Fault} {A : Type 0} → missing x ≡ Some (e, y) → fs ≡ e ∷ es → Lacks is_ended fs → A
 no_missing_part x y {e = e} {es = es} l z h =
     let w : Lacks is_ended (e ∷ es) = subst (Lacks is_ended) z h in
     absurd (true_is_not_false (sym (missing_ended x y e l).0 ∙ w.0))
@@ -100,21 +101,21 @@ other_entries NODE_PAT_ENTRY names b d c f r w e h l rest =
 other_entries k names b d c f r w e h l rest = rest names (tracks_same names b d (one_branch k c) e (λ n. refl) h)
 
 -- no entry of a row has the name of one before it
-entries : {q₀ : SyntaxKind} {a : ℕ} {q q' : RowState} {b : AnnotatedForest} {i : ℕ} {us : List Token} {f : AnnotatedForest} {es : List Fault} → Stands q₀ a q q' b i us f es
+entries : {q₀ : SyntaxKind} {d n : ℕ} {q q' : RowState} {b : AnnotatedForest} {us : List Token} {f : AnnotatedForest} {es : List Fault} → Reads q₀ d n q q' b us f es
     → (names : List (List ℕ)) → Tracks names b → AreSpelled (tokens_in f) → Lacks is_ended es → Lacks is_repeated es → are_entries_new names (repaired f) ≡ true
 entries end names h w n l = refl
-entries {b = b} (leafed {c = d} {k = k} {t = t} e op g v c j s) names h w n l = entries s names (tracks_same names b d (one_token k t) c (λ m. refl) h) w.1 n l
-entries (missing_part {x = x} {y = y} u v k s z) names h w n l = no_missing_part x y k z n
-entries {b = b} (wrong {d = d} {c = c} {f = f} {es = es} note ts e v beside o j s z) names h w n l =
+entries {b = b} (leafed {c = d} {k = k} {t = t} e _ _ op g v c _ s) names h w n l = entries s names (tracks_same names b d (one_token k t) c (λ m. refl) h) w.1 n l
+entries (missing_part {x = x} {y = y} u v k _ s z) names h w n l = no_missing_part x y k z n
+entries {b = b} (wrong {g = d} {c = c} {f = f} {es = es} note ts e v _ _ beside o _ s z) names h w n l =
     patched_entries note names (repaired f)
     (entries s names (tracks_same names b d (one_fault note c) o (λ m. refl) h) (spelled_rest (tokens_in c) (tokens_in f) w)
     (misses_rest is_ended (report note ts ∷ []) es (subst (Lacks is_ended) z n)) (misses_rest is_repeated (report note ts ∷ []) es (subst (Lacks is_repeated) z l)))
-entries {b = b} (second {d = d} {c = c} {f = f} {ds = ds} {es = es} v s x o q r m j y z) names h w n l =
+entries {b = b} (second {g = d} {c = c} {f = f} {ds = ds} {es = es} v s _ x q r m y z) names h w n l =
     entries y names (tracks_same names b d (one_fault Twice c) m (λ x. refl) h) (spelled_rest (tokens_in c) (tokens_in f) w)
     (misses_rest is_ended (ds ++ report Twice (tokens_in c) ∷ []) es (subst (Lacks is_ended) z n)) (misses_rest is_repeated (ds ++ report Twice (tokens_in c) ∷ []) es (subst (Lacks is_repeated) z l))
-entries {a = a} {b = b} (inner {x = x} {d = d} {i = i} {vs = vs} {c = c} {f = f} {ds = ds} {es = es} {k = k} v s x' form lev g m o j y z) names h w n l =
+entries {d = d₀} {n = n₀} {q = q} {b = b} (inner {s = x} {g = d} {vs = vs} {c = c} {f = f} {ds = ds} {es = es} {k = k} v _ s _ over _ _ _ _ g m o y z) names h w n l =
     let all : Lacks is_repeated ((ds ++ repeats k b c) ++ es) = subst (Lacks is_repeated) z l in
-    other_entries k names b d c (repaired f) (record { depth = suc a; last = x; count = i; left = vs; faults = ds; stands = s }) (spelled_first (tokens_in c) (tokens_in f) w) o h
+    other_entries k names b d c (repaired f) (record { depth = deeper q d₀; behind = n₀; last = x; left = vs; faults = ds; reads = s; over = over.0 }) (spelled_first (tokens_in c) (tokens_in f) w) o h
     (misses_rest is_repeated ds (repeats k b c) (misses_first is_repeated (ds ++ repeats k b c) es all))
     (λ more t. entries y more t (spelled_rest (tokens_in c) (tokens_in f) w) (misses_rest is_ended (ds ++ repeats k b c) es (subst (Lacks is_ended) z n))
     (misses_rest is_repeated (ds ++ repeats k b c) es all))
@@ -124,32 +125,27 @@ abbrev is_bind_name : RowState → Bool
 is_bind_name (At p.BindName) = true
 is_bind_name q = false
 
-bind_beside : (m : Note) (k : SyntaxKind) (a : ℕ) (q r : RowState) (b : AnnotatedForest) (i : ℕ) (ts vs : List Token) → IsBeside m k a q r b i ts vs → q ≡ At p.BindName → (until : Until) × (m ≡ Unwanted until) × (r ≡ At p.BindName)
-bind_beside Stray k a q r b i [] vs h e = absurd h
-bind_beside Stray k a q r b i (t ∷ ts) vs h e = absurd (true_is_not_false (sym h.4 ∙ ap live (sym h.3) ∙ ap (λ z. live (advance z NODE_LITERAL)) e))
-bind_beside (Unwanted until) k a q r b i [] vs h e = absurd h
-bind_beside (Unwanted until) k a q r b i (t ∷ ts) vs h e =
-    let there : At h.4 ≡ At p.BindName = sym h.6 ∙ e in
-    (until, refl, h.7 ∙ sym (ap go_run h.8) ∙ ap (λ z. go_error z (Unwanted until)) there)
-bind_beside Extra k a q r b i [] vs h e = absurd h
-bind_beside Extra k a q r b i (t ∷ ts) vs h e = absurd (true_is_not_false (sym (ap is_bind_name e) ∙ ap is_bind_name h.3))
-bind_beside Twice k a q r b i ts vs h e = absurd h
-bind_beside TooDeep k a q r b i ts vs h e = absurd (true_is_not_false (sym h.4 ∙ ap live (sym h.3) ∙ ap (λ z. live (advance z NODE_LITERAL)) e))
+bind_wrong : (m : Note) (d : ℕ) (q r : RowState) (ts vs : List Token) → IsWrong m d q r ts vs → q ≡ At p.BindName → (until : Until) × (m ≡ Unwanted until) × (r ≡ At p.BindName)
+bind_wrong Stray d q r ts vs w e = absurd (true_is_not_false (sym w.4 ∙ ap live (sym w.3) ∙ ap (λ z. live (advance z NODE_LITERAL)) e))
+bind_wrong (Unwanted until) d q r ts vs w e = (until, refl, w.5 ∙ sym (ap go_run w.6) ∙ ap (λ z. go_error z (Unwanted until)) (sym w.4 ∙ e))
+bind_wrong Extra d q r ts vs w e = absurd (true_is_not_false (sym (ap is_bind_name e) ∙ ap is_bind_name w.2))
+bind_wrong Twice d q r ts vs w e = absurd w
+bind_wrong TooDeep d q r ts vs w e = absurd (true_is_not_false (sym w.4 ∙ ap live (sym w.3) ∙ ap (λ z. live (advance z NODE_LITERAL)) e))
 
-bound_name : {k : SyntaxKind} {a : ℕ} {q q' : RowState} {b : AnnotatedForest} {i : ℕ} {us : List Token} {f : AnnotatedForest} {es : List Fault} → Stands k a q q' b i us f es
+bound_name : {k : SyntaxKind} {d n : ℕ} {q q' : RowState} {b : AnnotatedForest} {us : List Token} {f : AnnotatedForest} {es : List Fault} → Reads k d n q q' b us f es
     → q ≡ At p.BindName → AreSpelled (tokens_in f) → AreNamed q f → Lacks is_ended es → first_is_no_or (repaired f) ≡ true
 bound_name end e w n l = refl
-bound_name (leafed h op g v c j s) e w n l = refl
-bound_name (missing_part {x = x} {y = y} u v k s z) e w n l = no_missing_part x y k z l
-bound_name {k = k} {a = a} {q = q} {b = b} {i = i} (wrong {r = r} {vs = vs} {c = c} {f = f} {es = es} note ts h v beside o j s z) e w n l =
-    let there = bind_beside note k a q r b i ts vs beside e in
+bound_name (leafed h _ _ op g v c _ s) e w n l = refl
+bound_name (missing_part {x = x} {y = y} u v k _ s z) e w n l = no_missing_part x y k z l
+bound_name {k = k} {d = d₀} {q = q} (wrong {r = r} {vs = vs} {c = c} {f = f} {es = es} note ts h v _ _ beside o _ s z) e w n l =
+    let there = bind_wrong note d₀ q r ts vs beside e in
     let same : go_error q note ≡ r = ap (go_error q) there.1 ∙ ap (λ z. go_error z (Unwanted there.0)) e ∙ sym there.2 in
     ap (λ m. first_is_no_or (patch m (repaired f))) there.1
     ∙ bound_name s there.2 (spelled_rest (tokens_in c) (tokens_in f) w) (subst (λ u. AreNamed u f) same n) (misses_rest is_ended (report note ts ∷ []) es (subst (Lacks is_ended) z l))
-bound_name (second v s x o q r m j y z) e w n l = absurd (true_is_not_false (sym (ap is_bind_name e) ∙ ap is_bind_name q))
-bound_name {a = a} {q = q} (inner {x = x} {i = i} {vs = vs} {c = c} {f = f} {ds = ds} {k = j} v s x' form lev g m o d y z) e w n l =
-    named_no_or q j (record { depth = suc a; last = x; count = i; left = vs; faults = ds; stands = s }) (spelled_first (tokens_in c) (tokens_in f) w)
-    (λ t h. sym (ap (λ u. is_name_at u t) e) ∙ h) n.0
+bound_name (second v s _ x q r m y z) e w n l = absurd (true_is_not_false (sym (ap is_bind_name e) ∙ ap is_bind_name q))
+bound_name {d = d₀} {n = n₀} {q = q} (inner {s = x} {vs = vs} {c = c} {f = f} {ds = ds} {k = j} v _ s _ over _ _ _ _ g m o y z) e w n l =
+    named_no_or q j (record { depth = deeper q d₀; behind = n₀; last = x; left = vs; faults = ds; reads = s; over = over.0 }) (spelled_first (tokens_in c) (tokens_in f) w)
+    (λ t h. sym (ap (λ u. is_name_at u t) e) ∙ h) (suits_named q j c n.0)
 
 bind_kind : (k : SyntaxKind) → live (first_bind k) ≡ true → (is_expression k ≡ false) → first_bind k ≡ At p.BindName
 bind_kind TOKEN_AT l n = refl
@@ -158,31 +154,22 @@ bind_kind _ l n = cc
 no_expression : (parent k : SyntaxKind) (t : Token) → k ≡ leaf_kind parent t → is_spelled t.kind t.text ≡ true → is_expression k ≡ false
 no_expression parent k t e w = false_from_ne_true (is_expression k) (λ h. no_operand parent t.kind t.text w (subst (λ z. is_expression z ≡ true) e h))
 
-binds : {k : SyntaxKind} {a : ℕ} {q q' : RowState} {b : AnnotatedForest} {i : ℕ} {us : List Token} {f : AnnotatedForest} {es : List Fault} → Stands k a q q' b i us f es
+binds : {k : SyntaxKind} {d n : ℕ} {q q' : RowState} {b : AnnotatedForest} {us : List Token} {f : AnnotatedForest} {es : List Fault} → Reads k d n q q' b us f es
     → q ≡ Start NODE_PAT_BIND → AreSpelled (tokens_in f) → AreNamed q f → Lacks is_ended es → binds_no_or (repaired f) ≡ true
 binds end e w n l = refl
-binds {k = p₀} {q = q} (leafed {r = r} {f = f} {k = k} {t = t} h op g v c j s) e w n l =
+binds {k = p₀} {q = q} (leafed {r = r} {f = f} {k = k} {t = t} h _ _ op g v c _ s) e w n l =
     let there : advance q k ≡ first_bind k = ap (λ z. advance z k) e in
     let alive : live (first_bind k) ≡ true = ap live (sym there ∙ g) ∙ v in
     let at : r ≡ At p.BindName = sym g ∙ there ∙ bind_kind k alive (no_expression p₀ k t h w.0) in
     bound_name s at w.1 (subst (λ u. AreNamed u f) g n) l
-binds (missing_part {x = x} {y = y} u v k s z) e w n l = no_missing_part x y k z l
-binds {k = k} {a = a} {q = q} {b = b} {i = i} (wrong {r = r} {vs = vs} {f = f} note ts h v beside o j s z) e w n l =
-    absurd (dead note ts beside)
-  where
-    dead : (m : Note) (ts : List Token) → IsBeside m k a q r b i ts vs → ⊥
-    dead Stray [] h = h
-    dead Stray (t ∷ ts) h = true_is_not_false (sym h.4 ∙ ap live (sym h.3) ∙ ap (λ z. live (advance z NODE_LITERAL)) e)
-    dead (Unwanted until) [] h = h
-    dead (Unwanted until) (t ∷ ts) h = true_is_not_false (sym (ap is_place h.6) ∙ ap is_place e)
-    dead Extra [] h = h
-    dead Extra (t ∷ ts) h = true_is_not_false (sym (ap is_place h.3) ∙ ap is_place e)
-    dead Twice ts h = h
-    dead TooDeep ts h = true_is_not_false (sym h.4 ∙ ap live (sym h.3) ∙ ap (λ z. live (advance z NODE_LITERAL)) e)
-binds (second v s x o q r m j y z) e w n l = absurd (true_is_not_false (sym (ap is_place q) ∙ ap is_place e))
-binds {a = a} {q = q} (inner {x = x} {i = i} {vs = vs} {c = c} {f = f} {ds = ds} {k = j} v s x' form lev g m o d y z) e w n l =
-    named_no_or q j (record { depth = suc a; last = x; count = i; left = vs; faults = ds; stands = s }) (spelled_first (tokens_in c) (tokens_in f) w)
-    (λ t h. sym (ap (λ u. is_name_at u t) e) ∙ h) n.0
+binds (missing_part {x = x} {y = y} u v k _ s z) e w n l = no_missing_part x y k z l
+binds {k = k} {d = d₀} {q = q} (wrong {r = r} {vs = vs} {f = f} note ts h v _ _ beside o _ s z) e w n l =
+    absurd (true_is_not_false (sym (number_wrong note d₀ q r ts vs beside (ap is_place e)).2 ∙ ap live (sym (number_wrong note d₀ q r ts vs beside (ap is_place e)).1)
+    ∙ ap (λ z. live (advance z NODE_LITERAL)) e))
+binds (second v s _ x q r m y z) e w n l = absurd (true_is_not_false (sym (ap is_place q) ∙ ap is_place e))
+binds {d = d₀} {n = n₀} {q = q} (inner {s = x} {vs = vs} {c = c} {f = f} {ds = ds} {k = j} v _ s _ over _ _ _ _ g m o y z) e w n l =
+    named_no_or q j (record { depth = deeper q d₀; behind = n₀; last = x; left = vs; faults = ds; reads = s; over = over.0 }) (spelled_first (tokens_in c) (tokens_in f) w)
+    (λ t h. sym (ap (λ u. is_name_at u t) e) ∙ h) (suits_named q j c n.0)
 
 -- a tree and the rest of a row
 strict_node : (s q : RowState) (k : SyntaxKind) (c f : Forest) → Similar s q → live (advance q k) ≡ true → may_stand q k c ≡ true → is_grouped k c ≡ true → is_strict (start k) c ≡ true
@@ -200,21 +187,18 @@ strict_leaf s q k t f sim l r =
     and_from (live (advance s k)) (is_strict (advance s k) f) (ap live same ∙ l) (ap (λ z. is_strict z f) same ∙ r)
 
 -- behind an error node the row goes on
-strict_fault : (m : Note) (k : SyntaxKind) (a : ℕ) (s q r : RowState) (b : AnnotatedForest) (i : ℕ) (ts vs : List Token) (f : Forest) → IsBeside m k a q r b i ts vs → Similar s q → IsHome k q
+strict_fault : (m : Note) (k : SyntaxKind) (d : ℕ) (s q r : RowState) (ts vs : List Token) (f : Forest) → IsWrong m d q r ts vs → Similar s q → IsHome k q
     → ((z : RowState) → Similar z r → IsHome k r → is_strict z f ≡ true) → is_strict s (patch m f) ≡ true
-strict_fault Stray k a s q r b i [] vs f h sim home rest = absurd h
-strict_fault Stray k a s q r b i (t ∷ ts) vs f h sim home rest =
+strict_fault Stray k d s q r ts vs f h sim home rest =
     strict_node s q NODE_LITERAL (leaf TOKEN_INTEGER (codes "0") empty) f sim (ap live h.3 ∙ h.4) (number_stands k q home) refl refl
     (ap (λ z. is_strict z f) h.3 ∙ rest r (similar_same r) (subst (IsHome k) h.3 (home_go k q NODE_LITERAL home)))
-strict_fault (Unwanted until) k a s q r b i [] vs f h sim home rest = absurd h
-strict_fault (Unwanted until) k a s q r b i (t ∷ ts) vs f h sim home rest =
-    let from : Similar s (At h.4) = subst (Similar s) h.6 sim in
-    let here : IsHome k (At h.4) = subst (IsHome k) h.6 home in
-    rest s (subst (Similar s) (sym h.7) (similar_two from (similar_run h.4 h.5 until h.8))) (subst (IsHome k) (sym h.7) (home_run k h.4 h.5 until h.8 here))
-strict_fault Extra k a s q r b i [] vs f h sim home rest = absurd h
-strict_fault Extra k a s q r b i (t ∷ ts) vs f h sim home rest = rest s (subst (Similar s) (sym h.4) sim) (subst (IsHome k) (sym h.4) home)
-strict_fault Twice k a s q r b i ts vs f h sim home rest = absurd h
-strict_fault TooDeep k a s q r b i ts vs f h sim home rest =
+strict_fault (Unwanted until) k d s q r ts vs f h sim home rest =
+    let from : Similar s (At h.2) = subst (Similar s) h.4 sim in
+    let here : IsHome k (At h.2) = subst (IsHome k) h.4 home in
+    rest s (subst (Similar s) (sym h.5) (similar_two from (similar_run h.2 h.3 until h.6))) (subst (IsHome k) (sym h.5) (home_run k h.2 h.3 until h.6 here))
+strict_fault Extra k d s q r ts vs f h sim home rest = rest s (subst (Similar s) (sym h.3) sim) (subst (IsHome k) (sym h.3) home)
+strict_fault Twice k d s q r ts vs f h sim home rest = absurd h
+strict_fault TooDeep k d s q r ts vs f h sim home rest =
     strict_node s q NODE_LITERAL (leaf TOKEN_INTEGER (codes "0") empty) f sim (ap live h.3 ∙ h.4) (number_stands k q home) refl refl
     (ap (λ z. is_strict z f) h.3 ∙ rest r (similar_same r) (subst (IsHome k) h.3 (home_go k q NODE_LITERAL home)))
 
@@ -224,23 +208,23 @@ corners_behind Stray k f h = h
 corners_behind _ k f h = assumption
 
 -- a row whose errors are repaired is strict
-pub row : {k : SyntaxKind} {a : ℕ} {q q' : RowState} {b : AnnotatedForest} {i : ℕ} {us : List Token} {f : AnnotatedForest} {es : List Fault} → Stands k a q q' b i us f es → (s : RowState) → Similar s q → whole q' ≡ true
+row : {k : SyntaxKind} {d n : ℕ} {q q' : RowState} {b : AnnotatedForest} {us : List Token} {f : AnnotatedForest} {es : List Fault} → Reads k d n q q' b us f es → (s : RowState) → Similar s q → whole q' ≡ true
     → IsHome k q → AreSpelled (tokens_in f) → AreNamed q f → has_no_corner k (repaired f) ≡ true → Lacks is_ended es → Lacks is_repeated es → is_strict s (repaired f) ≡ true
 row end s sim done home w n o l m = sim.like.ends ∙ done
-row {k = k₀} {q = q} (leafed {r = r} {f = f} {k = k} {t = t} h op g v c j y) s sim done home w n o l m =
+row {k = k₀} {q = q} (leafed {r = r} {f = f} {k = k} {t = t} h _ _ op g v c _ y) s sim done home w n o l m =
     strict_leaf s q k t.text (repaired f) sim (ap live g ∙ v)
     (ap (λ z. is_strict z (repaired f)) g ∙ row y r (similar_same r) done (subst (IsHome k₀) g (home_go k₀ q k home)) w.1 (subst (λ z. AreNamed z f) g n) o l m)
-row (missing_part {x = x} {y = y} u v g j z) s sim done home w n o l m = no_missing_part x y g z l
-row {k = k} {a = a} {q = q} {b = b} {i = i} (wrong {r = r} {vs = vs} {c = c} {f = f} {es = es} note ts h v beside x j y z) s sim done home w n o l m =
-    strict_fault note k a s q r b i ts vs (repaired f) beside sim home
-    (λ u like there. row y u like done there (spelled_rest (tokens_in c) (tokens_in f) w) (subst (λ e. AreNamed e f) (beside_goes note k a q r b i ts vs beside) n)
+row (missing_part {x = x} {y = y} u v g _ j z) s sim done home w n o l m = no_missing_part x y g z l
+row {k = k} {d = d₀} {q = q} (wrong {r = r} {vs = vs} {c = c} {f = f} {es = es} note ts h v _ _ beside x _ y z) s sim done home w n o l m =
+    strict_fault note k d₀ s q r ts vs (repaired f) beside sim home
+    (λ u like there. row y u like done there (spelled_rest (tokens_in c) (tokens_in f) w) (subst (λ e. AreNamed e f) (wrong_goes note d₀ q r ts vs beside) n)
     (corners_behind note k (repaired f) o) (misses_rest is_ended (report note ts ∷ []) es (subst (Lacks is_ended) z l))
     (misses_rest is_repeated (report note ts ∷ []) es (subst (Lacks is_repeated) z m)))
-row {k = k} {q = q₁} (second {c = c} {f = f} {ds = ds} {es = es} v y x par q r d j g z) s sim done home w n o l m =
+row {k = k} {q = q₁} (second {c = c} {f = f} {ds = ds} {es = es} v y _ x q r d g z) s sim done home w n o l m =
     row g s (subst (Similar s) (sym r) (similar_past s (subst (Similar s) q sim))) done (subst (IsHome k) (sym r) (home_past k q₁ q home))
     (spelled_rest (tokens_in c) (tokens_in f) w) (subst (λ u. AreNamed u f) (sym r) n) o
     (misses_rest is_ended (ds ++ report Twice (tokens_in c) ∷ []) es (subst (Lacks is_ended) z l)) (misses_rest is_repeated (ds ++ report Twice (tokens_in c) ∷ []) es (subst (Lacks is_repeated) z m))
-row {k = k₀} {a = a} {q = q} {b = b} (inner {r = r} {x = x} {i = i} {vs = vs} {c = c} {f = f} {ds = ds} {es = es} {k = k} v y whole_there form lev g alive d j rest z) s sim done home w n o l m =
+row {k = k₀} {d = d₀} {n = n₀} {q = q} {b = b} (inner {r = r} {s = x} {vs = vs} {ws = ws} {c = c} {f = f} {ds = ds} {es = es} {k = k} v _ y _ whole_there own _ fo op g alive d rest z) s sim done home w n o l m =
     let first_parts = and_parts (if is_corner k₀ k (repaired c) then false else true) (has_no_corner k (repaired c) && has_no_corner k₀ (repaired f)) o in
     let more_parts = and_parts (has_no_corner k (repaired c)) (has_no_corner k₀ (repaired f)) first_parts.1 in
     let all : Lacks is_ended ((ds ++ repeats k b c) ++ es) = subst (Lacks is_ended) z l in
@@ -248,12 +232,26 @@ row {k = k₀} {a = a} {q = q} {b = b} (inner {r = r} {x = x} {i = i} {vs = vs} 
     let l₁ : Lacks is_ended ds = misses_first is_ended ds (repeats k b c) (misses_first is_ended (ds ++ repeats k b c) es all) in
     let m₁ : Lacks is_repeated ds = misses_first is_repeated ds (repeats k b c) (misses_first is_repeated (ds ++ repeats k b c) es new) in
     let w₁ : AreSpelled (tokens_in c) = spelled_first (tokens_in c) (tokens_in f) w in
-    let has : HasRow k (start k) blank c = record { depth = suc a; last = x; count = i; left = vs; faults = ds; stands = y } in
-    let there : IsThere k₀ q b k c = record { row = has; spelled = w₁; formed = form; leveled = lev; goes = ap live g ∙ alive; named = n.0; home = home; no_corner = first_parts.0 } in
+    let has : HasRow k (start k) blank c = record { depth = deeper q d₀; behind = n₀; last = x; left = vs; faults = ds; reads = y; over = whole_there.0 } in
+    let there : IsThere k₀ q b k c = record { row = has; spelled = w₁; leveled = leveled q b k c n₀ ws vs own fo op; goes = ap live g ∙ alive; suited = n.0; home = home; no_corner = first_parts.0 } in
     strict_node s q k (repaired c) (repaired f) sim (ap live g ∙ alive) (stands_there k₀ q b k c there)
     (grouped k₀ k c has w₁ n.1 more_parts.0 first_parts.0 (entries y [] (λ u. refl) w₁ l₁ m₁)
     (λ e. binds y (ap start e) w₁ n.1 l₁))
-    (row y (start k) (similar_same (start k)) whole_there (home_start k) w₁ n.1 more_parts.0 l₁ m₁)
+    (row y (start k) (similar_same (start k)) whole_there.0 (home_start k) w₁ n.1 more_parts.0 l₁ m₁)
     (ap (λ u. is_strict u (repaired f)) g
     ∙ row rest r (similar_same r) done (subst (IsHome k₀) g (home_go k₀ q k home)) (spelled_rest (tokens_in c) (tokens_in f) w) (subst (λ u. AreNamed u f) g n.2) more_parts.1
     (misses_rest is_ended (ds ++ repeats k b c) es all) (misses_rest is_repeated (ds ++ repeats k b c) es new))
+
+-- no error of the end is counted
+none_counted : (es : List Fault) → ended_count es ≡ 0 → Lacks is_ended es
+none_counted [] h = tt
+none_counted (e ∷ es) h = by (is_ended e) refl h (none_counted es)
+  where
+    by : (w : Bool) → is_ended e ≡ w → (if w then 1 else 0) + ended_count es ≡ 0 → (ended_count es ≡ 0 → Lacks is_ended es) → (is_ended e ≡ false) × Lacks is_ended es
+    by true m n more = absurd (omega (arith, n))
+    by false m n more = (m, more (omega (arith, n)))
+
+-- the repaired tree of a text is strict, if no error is of its end or of a repeated name, and no tree is a corner
+pub converse : (f : AnnotatedForest) (faults : List Fault) → ReadsWhole f faults → AreNamed (At p.RootStart) f → AreSpelled (tokens_in f) → ended_count faults ≡ 0
+    → Lacks is_repeated faults → has_no_corner NODE_ROOT (repaired f) ≡ true → is_strict_expression (repaired f) ≡ true
+converse f faults h named w e m o = row h (At p.RootStart) (similar_same (At p.RootStart)) refl (home_start NODE_ROOT) w named o (none_counted faults e) m

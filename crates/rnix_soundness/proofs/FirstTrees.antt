@@ -1,17 +1,18 @@
 -- Rows that begin with a token, and what stands for an operand that is none.
-use Rattle.std.{specs.List.list_all, proofs.Common.{◌≡◌, ℕ, true, false, List, refl, ap, sym, ◌∙◌, codes, if◌then◌else◌}}
+use Rattle.std.{specs.List.list_all, proofs.Common.{◌≡◌, ℕ, true, false, List, Some, refl, ap, sym, ◌∙◌, codes, if◌then◌else◌}}
 use Rattle.rnix_kinds.specs.declared.kinds.SyntaxKind.{SyntaxKind, TheVariants.{TOKEN_IDENT, TOKEN_CUR_POS, TOKEN_OR, TOKEN_INTEGER, NODE_IDENT, NODE_LITERAL}}
 use Rattle.{rnix_kinds.{specs.SyntaxKind.is_token, proofs.AllKinds.{all_kinds, implied}}, rnix_green.specs.Forest.{Forest, empty, leaf, node}}
 use Rattle.rnix_grammar.specs.{Tables.is_cur_pos, AnnotatedForest.{Token, Note, Stray, AnnotatedForest, blank, token, tokens_in, leaf_kind, leaf_kind_as}}
-use Rattle.rnix_grammar.specs.{Rows.{is_expression, RowState, Start, advance, first, live}, Stands.IsOpened, Names.is_position, TokenKinds.is_or}
+use Rattle.rnix_grammar.specs.{Rows.{is_expression, RowState, Start, advance, first, live}, Names.is_position, TokenKinds.is_or}
 use Rattle.{rnix_grammar.specs.{Named.{is_spelled, AreSpelled}, Repaired.patch}, rnix_lemmas.proofs.{Basics.{true_is_not_false, not_if}, EveryKind.never}}
 use Rattle.rnix_lemmas.proofs.{EveryKind.whenever_two, OpeningRows.{HasRow, Opening, by_token, by_branch, by_fault, opened, is_place, is_number, is_rowless}}
 use Rattle.rnix_lemmas.proofs.OpeningRows.{no_row}
+use Rattle.rnix_grammar.specs.Operands.{IsFollowed}
 use Rattle.rnix_grammar.specs.Tables as tables
 
 -- a row that begins with a token
 pub data IsLed (p : SyntaxKind) (q : RowState) (b : AnnotatedForest) : AnnotatedForest → Type 0 where
-  led : {k : SyntaxKind} {t : Token} {f : AnnotatedForest} → k ≡ leaf_kind p t → IsOpened q b k → live (advance q k) ≡ true → IsLed p q b (token k t f)
+  led : {k : SyntaxKind} {t : Token} {f : AnnotatedForest} → k ≡ leaf_kind p t → IsFollowed q b (Some k) → live (advance q k) ≡ true → IsLed p q b (token k t f)
 
 -- a row begins with a token where nothing that has a row may stand first
 pub token_first : {p : SyntaxKind} {q : RowState} {b f : AnnotatedForest} → is_place q ≡ false

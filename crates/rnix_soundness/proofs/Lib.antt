@@ -6,5 +6,4 @@ pub mod RepairedNames
 pub mod RepairedStands
 pub mod RepairedGroups
 pub mod Converse
-pub mod ConverseNames
 pub mod StrictCorners

@@ -1,5 +1,5 @@
 -- The first tree of a node whose errors are repaired stands where it may.
-use Rattle.std.proofs.{Common.{◌≡◌, ℕ, ◌≤◌, Bool, true, false, [], refl, ap, sym, ◌∙◌, subst, arith, if◌then◌else◌, ◌&&◌}, lemmas.Bool.{and_from, and_parts}}
+use Rattle.std.proofs.{Common.{◌≡◌, ℕ, ◌≤◌, Bool, true, false, [], refl, ap, sym, ◌∙◌, subst, arith, if◌then◌else◌, ◌&&◌, Some, nat_le}, lemmas.Bool.{and_from, and_parts}}
 use Rattle.rnix_kinds.specs.declared.kinds.SyntaxKind.{SyntaxKind, TheVariants.{NODE_APPLY, NODE_BIN_OP, NODE_DYNAMIC, NODE_HAS_ATTR, NODE_IDENT_PARAM}}
 use Rattle.rnix_kinds.{specs.declared.kinds.SyntaxKind.TheVariants.{NODE_LAMBDA, NODE_PAT_BIND, NODE_PAT_ENTRY, NODE_SELECT}, proofs.AllKinds.implied}
 use Rattle.{rnix_green.specs.Forest.{Forest, leaf, node}, rnix_grammar.specs.{Levels.left_of, AnnotatedForest.{Token, Note, AnnotatedForest, blank, branch}}}
@@ -12,6 +12,10 @@ use Rattle.rnix_lemmas.proofs.{LevelLemmas.{questioned_operand, operand_expressi
 use Rattle.{rnix_lemmas.proofs.OpeningRows.{is_number, to_live, live_to, row_behind, spelled_first, spelled_rest}, rnix_soundness.proofs.FirstTrees.IsLed}
 use Rattle.rnix_soundness.proofs.{FirstTrees.{led, token_first, no_operand, numbered, patch_number}, RepairedLevels.{is_lambda, second_atom, calls_behind}}
 use Rattle.rnix_soundness.proofs.RepairedNames.{simple_expression, named_plain, named_no_or, no_lambda, same_least, stands_level}
+use Rattle.rnix_grammar.specs.{Levels.right_of, Operands.IsFollowed, Rows.{is_infix, At, advance, live}, TreeLevels.row_level}
+use Rattle.{rnix_kinds.specs.declared.kinds.SyntaxKind.TheVariants.TOKEN_QUESTION, rnix_lemmas.proofs.LevelLemmas.at_most}
+use Rattle.rnix_soundness.proofs.RepairedStands.{suits_named}
+use Rattle.rnix_grammar.specs.declared.place.Place.TheVariants as p
 use Rattle.rnix_grammar.specs.Strict as strict
 use Rattle.rnix_grammar.specs.Corners as corners
 
@@ -30,7 +34,7 @@ FirstIs parent (branch k c f) = ((if is_corner parent k (repaired c) then false 
 FirstIs parent f = Unit {0}
 
 first_is : (parent : SyntaxKind) (f : AnnotatedForest) → AreNamed (Start parent) f → has_no_corner parent (repaired f) ≡ true → FirstIs parent f
-first_is parent (branch k c f) n h = ((and_parts (if is_corner parent k (repaired c) then false else true) (has_no_corner k (repaired c) && has_no_corner parent (repaired f)) h).0, n.0)
+first_is parent (branch k c f) n h = ((and_parts (if is_corner parent k (repaired c) then false else true) (has_no_corner k (repaired c) && has_no_corner parent (repaired f)) h).0, suits_named (Start parent) k c n.0)
 first_is parent _ n h = cc
 
 -- the first tree stands at a level
@@ -42,16 +46,30 @@ first_at parent k level c r w tight plain f e l =
 told_first : (parent k : SyntaxKind) (t : Token) → k ≡ leaf_kind parent t → is_spelled t.kind t.text ≡ true → is_expression k ≡ true → ⊥
 told_first parent k t e w h = no_operand parent t.kind t.text w (subst (λ z. is_expression z ≡ true) e h)
 
+then_part : (w u v : Bool) → w ≡ true → (if w then u else v) ≡ true → u ≡ true
+then_part true u v e h = h
+then_part false u v e h = absurd (true_is_not_false (sym e))
+
+-- what stands before an operator binds as tightly as it asks
+left_operand : (j : SyntaxKind) (b : AnnotatedForest) → live (advance BeforeOperator j) ≡ true → IsFollowed BeforeOperator b (Some j) → left_of j ≤ row_level b
+left_operand j b l f =
+    at_most (left_of j) (row_level b) (then_part (is_infix j) (nat_le (left_of j) (row_level b)) _ (live_to (is_infix j) (At (p.Right (right_of j))) l) f)
+
+-- and so does what stands before `?`
+asked : (j : SyntaxKind) (b : AnnotatedForest) → live (advance BeforeQuestion j) ≡ true → IsFollowed BeforeQuestion b (Some j) → 13 ≤ row_level b
+asked TOKEN_QUESTION b l f = at_most 13 (row_level b) f
+asked _ b l f = absurd (true_is_not_false (sym l))
+
 operator_first : (c : AnnotatedForest) → HasRow NODE_BIN_OP (Start NODE_BIN_OP) blank c → AreSpelled (tokens_in c) → FirstIs NODE_BIN_OP c → is_grouped NODE_BIN_OP (repaired c) ≡ true
 operator_first c h w n = by (opened h refl) w n
   where
     behind : (k : SyntaxKind) (d : AnnotatedForest) {f : AnnotatedForest} → HasRow k (start k) blank d → AreSpelled (tokens_in d) → FirstIs NODE_BIN_OP (branch k d blank) → is_operand k ≡ true
         → IsLed NODE_BIN_OP BeforeOperator (one_branch k d) f → is_grouped NODE_BIN_OP (node k (repaired d) (repaired f)) ≡ true
-    behind k d r w n o (led {k = j} z l y) = first_at NODE_BIN_OP k (left_of j) d r w refl (λ t e. e) n (operand_expression k o) l
+    behind k d r w n o (led {k = j} z l y) = first_at NODE_BIN_OP k (left_of j) d r w refl (λ t e. e) n (operand_expression k o) (left_operand j (one_branch k d) y l)
 
     number : (m : Note) (d : AnnotatedForest) {f : AnnotatedForest} → is_number m ≡ true → IsLed NODE_BIN_OP BeforeOperator (fault m d blank) f
         → is_grouped NODE_BIN_OP (patch m (repaired f)) ≡ true
-    number m d e (led {k = j} {t = t} {f = f} z l y) = ap (is_grouped NODE_BIN_OP) (patch_number m (leaf j t.text (repaired f)) e) ∙ at_most_true (left_of j) 16 l
+    number m d e (led {k = j} {t = t} {f = f} z l y) = ap (is_grouped NODE_BIN_OP) (patch_number m (leaf j t.text (repaired f)) e) ∙ at_most_true (left_of j) 16 (left_operand j (fault m d blank) y l)
 
     by : {g : AnnotatedForest} → Opening NODE_BIN_OP (Start NODE_BIN_OP) blank g → AreSpelled (tokens_in g) → FirstIs NODE_BIN_OP g → is_grouped NODE_BIN_OP (repaired g) ≡ true
     by (by_token {k = k} {t = t} e op l) w n = absurd (told_first NODE_BIN_OP k t e w.0 (operand_expression k (live_to (is_operand k) BeforeOperator l)))
@@ -65,7 +83,7 @@ question_first c h w n = by (opened h refl) w n
   where
     behind : (k : SyntaxKind) (d : AnnotatedForest) {f : AnnotatedForest} → HasRow k (start k) blank d → AreSpelled (tokens_in d) → FirstIs NODE_HAS_ATTR (branch k d blank) → is_questioned k ≡ true
         → IsLed NODE_HAS_ATTR BeforeQuestion (one_branch k d) f → is_grouped NODE_HAS_ATTR (node k (repaired d) (repaired f)) ≡ true
-    behind k d r w n o (led z l y) = first_at NODE_HAS_ATTR k 13 d r w refl (λ t e. e) n (operand_expression k (questioned_operand k o)) l
+    behind k d r w n o (led {k = j} z l y) = first_at NODE_HAS_ATTR k 13 d r w refl (λ t e. e) n (operand_expression k (questioned_operand k o)) (asked j (one_branch k d) y l)
 
     by : {g : AnnotatedForest} → Opening NODE_HAS_ATTR (Start NODE_HAS_ATTR) blank g → AreSpelled (tokens_in g) → FirstIs NODE_HAS_ATTR g → is_grouped NODE_HAS_ATTR (repaired g) ≡ true
     by (by_token {k = k} {t = t} e op l) w n = absurd (told_first NODE_HAS_ATTR k t e w.0

@@ -3,7 +3,7 @@ use Rattle.std.proofs.Common.{◌≡◌, Bool, true, false, refl, ap, sym, ◌�
 use Rattle.rnix_kinds.specs.declared.kinds.SyntaxKind.{SyntaxKind, TheVariants.{TOKEN_INTEGER, TOKEN_INVERT, NODE_APPLY, NODE_BIN_OP, NODE_IDENT, NODE_LAMBDA}}
 use Rattle.{rnix_kinds.specs.declared.kinds.SyntaxKind.TheVariants.{NODE_LITERAL, NODE_UNARY_OP}, rnix_green.specs.Forest.{Forest, empty, leaf, node}}
 use Rattle.rnix_grammar.specs.{Levels.binding_power, AnnotatedForest.{Note, AnnotatedForest, blank, token, branch, fault, one_branch, tokens_in}}
-use Rattle.rnix_grammar.specs.{Rows.{is_simple, is_operand, Start, BeforeOperator, BeforeArgument, start}, Stands.IsArgument, TreeLevels.is_or_leaf}
+use Rattle.rnix_grammar.specs.{Rows.{is_simple, is_operand, Start, BeforeOperator, BeforeArgument, start}, TreeLevels.is_or_leaf}
 use Rattle.rnix_grammar.specs.{TreeLevels.{is_or_row, calls_or, operator_in, prefix_in, level_of, is_atom_row}, Repaired.{repaired, patch}, Named.AreSpelled}
 use Rattle.rnix_lemmas.proofs.{Basics.true_is_not_false, OpeningRows.{spelled_first, spelled_rest, HasRow, is_number, Opening, by_token, by_branch, by_fault}}
 use Rattle.{rnix_lemmas.proofs.OpeningRows.{opened, to_live, row_behind}, rnix_soundness.proofs.FirstTrees.{IsLed, led, token_first, IsName, name, named}}
@@ -92,12 +92,7 @@ same_level _ h w n = cc
 pub second_atom : {b f : AnnotatedForest} → HasRow NODE_APPLY BeforeArgument b f → AreSpelled (tokens_in f) → second_or (repaired f) ≡ true → is_atom_row b ≡ true
 second_atom {b = b} h = by (opened h refl)
   where
-    argument : (w : Bool) (x : AnnotatedForest) → w ≡ true → IsArgument w b x → is_atom_row b ≡ true
-    argument true x e l = l
-    argument false x e l = absurd (true_is_not_false (sym e))
-
     by : {g : AnnotatedForest} → Opening NODE_APPLY BeforeArgument b g → AreSpelled (tokens_in g) → second_or (repaired g) ≡ true → is_atom_row b ≡ true
     by (by_token e op l) w o = absurd (true_is_not_false (sym o))
-    by (by_branch {k = k} {c = c} {f = f} r lev l s) w o =
-        argument (is_or_row (one_branch k c)) (one_branch k c) (sym (same_or k r (spelled_first (tokens_in c) (tokens_in f) w)) ∙ o) lev
+    by (by_branch {k = k} {c = c} {f = f} r lev l s) w o = lev.atom refl (sym (same_or k r (spelled_first (tokens_in c) (tokens_in f) w)) ∙ o)
     by (by_fault {n = n} {f = f} e l r) w o = absurd (true_is_not_false (sym o ∙ ap second_or (patch_number n (repaired f) e)))

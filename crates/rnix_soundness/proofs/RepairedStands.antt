@@ -1,14 +1,14 @@
 -- A tree whose errors are repaired may stand where it stands.
-use Rattle.std.proofs.Common.{◌≡◌, Bool, true, false, refl, ap, sym, ◌∙◌, subst, ℕ, Option, Some, None, codes, if◌then◌else◌, ◌&&◌, ◌||◌, nat_eq, nat_le}
+use Rattle.std.proofs.Common.{◌≡◌, Bool, true, false, refl, ap, sym, ◌∙◌, ℕ, Option, Some, None, codes, if◌then◌else◌, ◌&&◌, ◌||◌, nat_eq, nat_le}
 use Rattle.std.proofs.lemmas.Bool.{and_parts, and_from, or_right}
 use Rattle.rnix_kinds.specs.declared.kinds.SyntaxKind.{SyntaxKind, TheVariants.{NODE_APPLY, NODE_BIN_OP, NODE_LITERAL, NODE_PAT_BIND, TOKEN_INTEGER}}
 use Rattle.{rnix_kinds.proofs.AllKinds.implied, rnix_green.specs.Forest.{Forest, empty, leaf}, rnix_grammar.specs.declared.place.Place.Place}
 use Rattle.rnix_grammar.specs.{declared.symbol.Symbol.Symbol, Symbols.{symbol_at, level_in}, AnnotatedForest.{Token, AnnotatedForest, blank, one_branch}}
-use Rattle.rnix_grammar.specs.{AnnotatedForest.{tokens_in, is_some}, Rows.{is_simple, fits, RowState, Start, BeforeArgument, At, to, advance, advance_symbol}}
-use Rattle.rnix_grammar.specs.{Rows.{live, start}, Stands.{IsTight, IsArgument, IsLeveled, begins_with_token, is_bind_at, is_formed}, TreeLevels.is_or_row}
+use Rattle.rnix_grammar.specs.{AnnotatedForest.{tokens_in}, Rows.{is_simple, fits, RowState, Start, BeforeArgument, At, to, advance, advance_symbol}}
+use Rattle.rnix_grammar.specs.{Rows.{live, start}, Reports.only_token, TreeLevels.is_or_row}
 use Rattle.rnix_grammar.specs.{Strict.{may_stand, stands_at, stands_in, begins_with_leaf, is_or_name}, Repaired.repaired, Corners.{holds_no_lambda, is_corner}}
-use Rattle.{rnix_grammar.specs.{Names.{is_named, is_name_in, is_plain}, Named.AreSpelled}, rnix_lemmas.proofs.Basics.{true_is_not_false, some_same}}
-use Rattle.rnix_lemmas.proofs.{NestPlaces.{is_expected, owner}, OpeningRows.{HasRow, Opening, by_fault, opened, live_to, no_closing}, NodeKinds.fits_expression}
+use Rattle.{rnix_grammar.specs.{Names.{is_named, is_named_in, is_name_in, is_plain}, Named.{AreSpelled, begins_with_token, is_bind_at, suits}}, rnix_lemmas.proofs.Basics.{true_is_not_false, some_same}}
+use Rattle.rnix_lemmas.proofs.{NestPlaces.{is_expected, owner}, OpeningRows.{HasRow, IsLeveled, Opening, by_fault, opened, live_to, no_closing}, NodeKinds.fits_expression}
 use Rattle.rnix_soundness.proofs.{FirstTrees.patch_number, HomeRowStates.IsHome, RepairedLevels.same_or, RepairedNames.{simple_expression, named_plain}}
 use Rattle.rnix_soundness.proofs.RepairedNames.{named_called, no_lambda, same_least, least_in, stands_level}
 use Rattle.rnix_grammar.specs.declared.place.Place.TheVariants as p
@@ -26,14 +26,18 @@ bound_home k (p.Right level) h =
     (and_parts (nat_le 1 level) (nat_le level 16) h.bounded).1
 bound_home k x h = implied (is_expected (owner (At x))) (λ k. is_bound k (level_in (symbol_at x))) refl k h.expected
 
+-- a node that suits its state is named as it may be there
+pub suits_named : (q : RowState) (k : SyntaxKind) (c : AnnotatedForest) → suits q k c ≡ true → is_named q k c ≡ true
+suits_named q NODE_PAT_BIND c h = elim (only_token c) as (λ o. is_named_in q NODE_PAT_BIND o ≡ true) [ None ↦ refl | Some t ↦ refl ]
+suits_named q k c h = h
+
 -- what is known of a tree where it stands
 pub record IsThere (parent : SyntaxKind) (q : RowState) (b : AnnotatedForest) (k : SyntaxKind) (c : AnnotatedForest) : Type 0 where
   pub row : HasRow k (start k) blank c
   pub spelled : AreSpelled (tokens_in c)
-  pub formed : is_formed q k c ≡ true
   pub leveled : IsLeveled q b (one_branch k c)
   pub goes : live (advance q k) ≡ true
-  pub named : is_named q k c ≡ true
+  pub suited : suits q k c ≡ true
   pub home : IsHome parent q
   pub no_corner : (if is_corner parent k (repaired c) then false else true) ≡ true
 
@@ -58,9 +62,9 @@ stands_symbol parent x b k c None e h = refl
 stands_symbol parent x b k c (Some level) e h =
     let f = symbol_fits (symbol_at x) x level k e h.row h.goes in
     let bound : is_bound parent (Some level) ≡ true = sym (ap (is_bound parent) e) ∙ bound_home parent x h.home in
-    stands_level level k (repaired c) (fits_expression level k f.0) (named_plain (At x) k h.row h.spelled f.1 h.named)
+    stands_level level k (repaired c) (fits_expression level k f.0) (named_plain (At x) k h.row h.spelled f.1 (suits_named (At x) k c h.suited))
     (least_in parent k level h.row h.spelled (and_parts (nat_eq level 0 || holds_no_lambda parent) (nat_le level 16) bound).0 h.no_corner
-    (subst (λ z. IsTight z (one_branch k c)) e h.leveled))
+    (h.leveled.tight level e))
 
 -- an argument
 stands_argument : (parent : SyntaxKind) (b : AnnotatedForest) (k : SyntaxKind) (c : AnnotatedForest) → IsThere parent BeforeArgument b k c → (if is_or_name k (repaired c) then true else stands_at 16 k (repaired c)) ≡ true
@@ -72,11 +76,10 @@ stands_argument parent b k c h = by (is_or_row (one_branch k c)) refl
     by : (w : Bool) → is_or_row (one_branch k c) ≡ w → (if is_or_name k (repaired c) then true else stands_at 16 k (repaired c)) ≡ true
     by true e = ap (λ z. if z then true else stands_at 16 k (repaired c)) (same ∙ e)
     by false e =
-        let l : IsArgument false b (one_branch k c) = subst (λ z. IsArgument z b (one_branch k c)) e h.leveled in
         ap (λ z. if z then true else stands_at 16 k (repaired c)) (same ∙ e)
-        ∙ stands_level 16 k (repaired c) (simple_expression k (live_to (is_simple k) (At p.Past) h.goes)) (named_called k h.row h.spelled e h.named)
+        ∙ stands_level 16 k (repaired c) (simple_expression k (live_to (is_simple k) (At p.Past) h.goes)) (named_called k h.row h.spelled e (suits_named BeforeArgument k c h.suited))
         (same_least k 16 h.row h.spelled (no_lambda parent k (repaired c)
-        (implied (is_expected (Some NODE_APPLY)) holds_no_lambda refl parent h.home.expected) h.no_corner) l.1)
+        (implied (is_expected (Some NODE_APPLY)) holds_no_lambda refl parent h.home.expected) h.no_corner) (h.leveled.tight 16 (ap (λ z. if z then None else Some 16) e)))
 
 -- the name that a pattern is bound to
 same_begin : {c : AnnotatedForest} → HasRow NODE_PAT_BIND (Start NODE_PAT_BIND) blank c → begins_with_leaf (repaired c) ≡ begins_with_token c
@@ -112,7 +115,7 @@ asked parent _ b k c h = refl
 
 -- a node stands where its repaired tree may
 pub stands_there : (parent : SyntaxKind) (q : RowState) (b : AnnotatedForest) (k : SyntaxKind) (c : AnnotatedForest) → IsThere parent q b k c → may_stand q k (repaired c) ≡ true
-stands_there parent q b NODE_PAT_BIND c h = bind_stands q c h.row (and_parts (is_some (tokens_in c)) (is_bind_at q c) h.formed).1
+stands_there parent q b NODE_PAT_BIND c h = bind_stands q c h.row h.suited
 stands_there parent q b k c h = may_by q k (repaired c) refl (asked parent q b k c h)
 
 -- and so may a number

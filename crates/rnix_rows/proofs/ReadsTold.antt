@@ -1,14 +1,14 @@
--- Leaves have the kinds of tokens, also in a repaired tree; in a row that stands each has the kind of its token, and each name holds that alone.
+-- Leaves have the kinds of tokens, also in a repaired tree; in a row that is read each has the kind of its token, and each name holds that alone.
 use Rattle.std.proofs.Common.{◌≡◌, ℕ, true, List, refl, ap, ◌∙◌, [], ◌∷◌, Some, None, sym, subst}
 use Rattle.rnix_kinds.specs.declared.kinds.SyntaxKind.{SyntaxKind, TheVariants.{TOKEN_CUR_POS, TOKEN_IDENT, TOKEN_OR, NODE_CUR_POS, NODE_IDENT, NODE_ERROR}}
 use Rattle.rnix_kinds.specs.{declared.kinds.SyntaxKind.TheVariants.{NODE_LITERAL, NODE_PAT_ENTRY}, SyntaxKind.is_token}
 use Rattle.rnix_grammar.specs.AnnotatedForest.{Note, Stray, AnnotatedForest, blank, token, branch, fault, tokens_in, leaf_kind_as, HaveLeafKinds, Token, row_of}
-use Rattle.rnix_grammar.specs.{Repaired.{repaired, patch}, Named.{is_spelled, AreSpelled}, Derivation.has_tokens_alone, declared.place.Place.Place, Fault.Fault}
-use Rattle.rnix_grammar.specs.{Missing.{missing, run_at}, Rows.{RowState, Start, At, first, advance, live, whole, start}, Stands.{Stands, end, leaf}}
-use Rattle.rnix_grammar.specs.{Stands.{missing_part, wrong, second, inner}, Trim.{is_bare, begins_with_node, HasBareName, AreNamesBare}}
+use Rattle.rnix_grammar.specs.{Repaired.{repaired, patch}, Named.{is_spelled, AreSpelled}, Derivation.has_tokens_alone, Fault.Fault}
+use Rattle.rnix_grammar.specs.{Missing.{missing, run_at}, Rows.{RowState, Start, At, first, advance, live, whole, start}, PlaceReads.{Reads, end, leaf}}
+use Rattle.rnix_grammar.specs.{PlaceReads.{missing_part, wrong, second, inner}, Trim.{is_bare, begins_with_node, HasBareName, AreNamesBare}}
 use Rattle.rnix_lemmas.proofs.{EntryNames.both_true, OpeningRows.{spelled_first, spelled_rest, Opening, by_token, by_branch, by_fault, opening, is_place}}
-use Rattle.{rnix_lemmas.proofs.{Basics.true_is_not_false, EveryKind.never, RowKinds.has_row}, rnix_rows.proofs.StandsRows.{IsAside, a_number, a_run, at_end}}
-use Rattle.rnix_rows.proofs.StandsRows.{aside, stands_row}
+use Rattle.{rnix_lemmas.proofs.{Basics.true_is_not_false, EveryKind.never, RowKinds.has_row}, rnix_rows.proofs.ReadsRows.{IsAside, a_number, a_run, at_end}}
+use Rattle.rnix_rows.proofs.ReadsRows.{aside, reads_row}
 use Rattle.rnix_grammar.specs.declared.place.Place.TheVariants as places
 
 -- a token's leaf has the kind of a token
@@ -43,14 +43,14 @@ told_row : (ts : List Token) → HaveLeafKinds NODE_ERROR (row_of ts)
 told_row [] = tt
 told_row (t ∷ ts) = (refl, told_row ts)
 
--- so each leaf is told in a row that stands
-pub stands_told : {p : SyntaxKind} {a : ℕ} {q q' : RowState} {b : AnnotatedForest} {i : ℕ} {us : List Token} {f : AnnotatedForest} {es : List Fault} → Stands p a q q' b i us f es → HaveLeafKinds p f
-stands_told end = tt
-stands_told (leaf h tight g l c j s) = (h, stands_told s)
-stands_told (missing_part u x l s z) = stands_told s
-stands_told {p = p} (wrong {f = f} note ts h v x d j s z) = (subst (λ (y : AnnotatedForest). HaveLeafKinds NODE_ERROR y) (sym h) (told_row ts), stands_told s)
-stands_told (second v s y o e r d j x z) = (stands_told s, stands_told x)
-stands_told (inner v s y form tight g l d j x z) = (stands_told s, stands_told x)
+-- so each leaf is told in a row that is read
+pub reads_told : {p : SyntaxKind} {d n : ℕ} {q q' : RowState} {b : AnnotatedForest} {us : List Token} {f : AnnotatedForest} {es : List Fault} → Reads p d n q q' b us f es → HaveLeafKinds p f
+reads_told end = tt
+reads_told (leaf h _ _ _ g l c _ s) = (h, reads_told s)
+reads_told (missing_part u x l _ s z) = reads_told s
+reads_told {p = p} (wrong {f = f} note ts h v _ _ x d _ s z) = (subst (λ (y : AnnotatedForest). HaveLeafKinds NODE_ERROR y) (sym h) (told_row ts), reads_told s)
+reads_told (second v s _ y e r d x z) = (reads_told s, reads_told x)
+reads_told (inner v _ s _ y _ _ _ _ g l d x z) = (reads_told s, reads_told x)
 
 -- something is not nothing
 some_none : {A : Type 0} {x : A} → Some x ≡ None → ⊥
@@ -64,16 +64,16 @@ past_aside (a_run x y until n t e f w) =
     some_none (sym w ∙ ap run_at (sym same))
 past_aside (at_end t e) = absurd (cc)
 
-past_blank : {p : SyntaxKind} {a : ℕ} {q q' : RowState} {b : AnnotatedForest} {i : ℕ} {us : List Token} {f : AnnotatedForest} {es : List Fault} → Stands p a q q' b i us f es → q ≡ At places.Past → f ≡ blank
+past_blank : {p : SyntaxKind} {d n : ℕ} {q q' : RowState} {b : AnnotatedForest} {us : List Token} {f : AnnotatedForest} {es : List Fault} → Reads p d n q q' b us f es → q ≡ At places.Past → f ≡ blank
 past_blank end h = refl
-past_blank {q = q} (leaf {k = k} e tight g l c j s) h = absurd (true_is_not_false (sym l ∙ sym (ap live g) ∙ ap (λ x. live (advance x k)) h))
-past_blank (missing_part {x = x} {y = y} {e = e} u n l s z) h =
+past_blank {q = q} (leaf {k = k} e _ _ _ g l c _ s) h = absurd (true_is_not_false (sym l ∙ sym (ap live g) ∙ ap (λ x. live (advance x k)) h))
+past_blank (missing_part {x = x} {y = y} {e = e} u n l _ s z) h =
     let same : x ≡ places.Past = cc in
     absurd (some_none (sym l ∙ ap missing same))
-past_blank {p = p} {a = a} {q = q} {b = b} {i = i} (wrong {r = r} {vs = vs} note ts e v w d j s z) h =
-    absurd (past_aside (subst (λ x. IsAside note x r ts) h (aside note p a q r b i ts vs w)))
-past_blank (second v s y o e r d j x z) h = let same : At (places.PatternEnd true) ≡ At places.Past = sym e ∙ h in absurd (cc)
-past_blank {q = q} (inner {k = k} v s y form tight g l d j x z) h = absurd (true_is_not_false (sym l ∙ sym (ap live g) ∙ ap (λ x. live (advance x k)) h))
+past_blank {d = d₀} {q = q} (wrong {r = r} {vs = vs} note ts e v _ _ w d _ s z) h =
+    absurd (past_aside (subst (λ x. IsAside note x r ts) h (aside note d₀ q r ts vs w)))
+past_blank (second v s _ y e r d x z) h = let same : At (places.PatternEnd true) ≡ At places.Past = sym e ∙ h in absurd (cc)
+past_blank {q = q} (inner {k = k} v _ s _ y _ _ _ _ g l d x z) h = absurd (true_is_not_false (sym l ∙ sym (ap live g) ∙ ap (λ x. live (advance x k)) h))
 
 -- the node of a name holds nothing but a token
 name_past : (k : SyntaxKind) → live (advance (Start NODE_IDENT) k) ≡ true → advance (Start NODE_IDENT) k ≡ At places.Past
@@ -83,22 +83,22 @@ name_past _ l = absurd (true_is_not_false (sym l))
 one_bare : (k : SyntaxKind) (t : Token) (f : AnnotatedForest) → f ≡ blank → is_bare (token k t f) ≡ true
 one_bare k t f e = ap (λ x. is_bare (token k t x)) e
 
-name_bare : {p : SyntaxKind} {a : ℕ} {q q' : RowState} {b : AnnotatedForest} {i : ℕ} {us : List Token} {f : AnnotatedForest} {es : List Fault}
-    → Stands p a q q' b i us f es → whole q' ≡ true → q ≡ Start NODE_IDENT → is_bare f ≡ true
+name_bare : {p : SyntaxKind} {d n : ℕ} {q q' : RowState} {b : AnnotatedForest} {us : List Token} {f : AnnotatedForest} {es : List Fault}
+    → Reads p d n q q' b us f es → whole q' ≡ true → q ≡ Start NODE_IDENT → is_bare f ≡ true
 name_bare end w e = refl
-name_bare (leaf {f = f} {k = k} {t = t} h tight g l c j s) w e =
+name_bare (leaf {f = f} {k = k} {t = t} h _ _ _ g l c _ s) w e =
     let from : advance (Start NODE_IDENT) k ≡ _ = ap (λ x. advance x k) (sym e) ∙ g in
     one_bare k t f (past_blank s (sym from ∙ name_past k (ap live from ∙ l)))
-name_bare (missing_part u n l s z) w e = absurd (true_is_not_false (ap is_place e))
-name_bare {p = p} {a = a} {q = q} {b = b} {i = i} (wrong {r = r} {vs = vs} note ts h v x d j s z) w e = absurd (by (aside note p a q r b i ts vs x) e)
+name_bare (missing_part u n l _ s z) w e = absurd (true_is_not_false (ap is_place e))
+name_bare {d = d₀} {q = q} (wrong {r = r} {vs = vs} note ts h v _ _ x d _ s z) w e = absurd (by (aside note d₀ q r ts vs x) e)
   where
     by : {n : Note} {q r : RowState} {ts : List Token} → IsAside n q r ts → q ≡ Start NODE_IDENT → ⊥
     by (a_number g l) e = true_is_not_false (sym l ∙ sym (ap live g) ∙ ap (λ x. live (advance x NODE_LITERAL)) e)
     by (a_run x y until n t f g w) e = true_is_not_false (sym (ap is_place f) ∙ ap is_place e)
     by (at_end t f) e = true_is_not_false (sym (ap is_place f) ∙ ap is_place e)
-name_bare (second v s y o q r d j x z) w e = absurd (true_is_not_false (sym (ap is_place q) ∙ ap is_place e))
-name_bare (inner {k = k} v s y form tight g l d j x z) w e =
-    absurd (never (λ j. live (advance (Start NODE_IDENT) j)) has_row refl k (ap (λ x. live (advance x k)) (sym e) ∙ ap live g ∙ l) (stands_row k s refl y))
+name_bare (second v s _ y q r d x z) w e = absurd (true_is_not_false (sym (ap is_place q) ∙ ap is_place e))
+name_bare (inner {k = k} v _ s _ y _ _ _ _ g l d x z) w e =
+    absurd (never (λ j. live (advance (Start NODE_IDENT) j)) has_row refl k (ap (λ x. live (advance x k)) (sym e) ∙ ap live g ∙ l) (reads_row k s refl y.0))
 
 -- an entry of a pattern begins with its name
 entry_opens : {q : RowState} {b f : AnnotatedForest} → Opening NODE_PAT_ENTRY q b f → q ≡ Start NODE_PAT_ENTRY → AreSpelled (tokens_in f) → begins_with_node f ≡ true
@@ -108,26 +108,26 @@ entry_opens (by_branch c lev l r) h a = refl
 entry_opens (by_fault n l r) h a = absurd (true_is_not_false (sym l ∙ ap (λ x. live (advance x NODE_LITERAL)) h))
 
 -- so it is at each node of a kind
-bare_node : (k : SyntaxKind) {a : ℕ} {x : Place} {i : ℕ} {us : List Token} {c : AnnotatedForest} {es : List Fault}
-    → Stands k a (start k) (At x) blank i us c es → whole (At x) ≡ true → AreSpelled (tokens_in c) → HasBareName k c
-bare_node k {a = a} {x = x} {i = i} {us = us} {c = c} {es = es} s w h = (λ e. name_bare s w (ap start e), λ e. by e)
+bare_node : (k : SyntaxKind) {d n : ℕ} {s : RowState} {us : List Token} {c : AnnotatedForest} {es : List Fault} → Reads k d n (start k) s blank us c es
+    → whole s ≡ true → AreSpelled (tokens_in c) → HasBareName k c
+bare_node k {d = d} {n = n} {s = s} {us = us} {c = c} {es = es} r w h = (λ e. name_bare r w (ap start e), λ e. by e)
   where
     by : k ≡ NODE_PAT_ENTRY → begins_with_node c ≡ true
-    by e = entry_opens (opening (subst (λ (j : SyntaxKind). Stands j a (start j) (At x) blank i us c es) e s) x refl refl) refl h
+    by e = entry_opens (opening (subst (λ (j : SyntaxKind). Reads j d n (start j) s blank us c es) e r) w refl) refl h
 
 -- a run has no names
 bare_row : (ts : List Token) → AreNamesBare (row_of ts)
 bare_row [] = tt
 bare_row (t ∷ ts) = bare_row ts
 
--- the names of a row that stands are bare
-pub stands_bare : {p : SyntaxKind} {a : ℕ} {q q' : RowState} {b : AnnotatedForest} {i : ℕ} {us : List Token} {f : AnnotatedForest} {es : List Fault}
-    → Stands p a q q' b i us f es → AreSpelled (tokens_in f) → AreNamesBare f
-stands_bare end h = tt
-stands_bare (leaf e tight g l c j s) h = stands_bare s h.1
-stands_bare (missing_part u x l s z) h = stands_bare s h
-stands_bare (wrong {c = c} {f = f} note ts e v x d j s z) h = (subst AreNamesBare (sym e) (bare_row ts), stands_bare s (spelled_rest (tokens_in c) (tokens_in f) h))
-stands_bare (second {c = c} {f = f} v s y o e r d j x z) h = (stands_bare s (spelled_first (tokens_in c) (tokens_in f) h), stands_bare x (spelled_rest (tokens_in c) (tokens_in f) h))
-stands_bare (inner {c = c} {f = f} {k = k} v s y form tight g l d j x z) h =
+-- the names of a row that is read are bare
+pub reads_bare : {p : SyntaxKind} {d n : ℕ} {q q' : RowState} {b : AnnotatedForest} {us : List Token} {f : AnnotatedForest} {es : List Fault}
+    → Reads p d n q q' b us f es → AreSpelled (tokens_in f) → AreNamesBare f
+reads_bare end h = tt
+reads_bare (leaf e _ _ _ g l c _ s) h = reads_bare s h.1
+reads_bare (missing_part u x l _ s z) h = reads_bare s h
+reads_bare (wrong {c = c} {f = f} note ts e v _ _ x d _ s z) h = (subst AreNamesBare (sym e) (bare_row ts), reads_bare s (spelled_rest (tokens_in c) (tokens_in f) h))
+reads_bare (second {c = c} {f = f} v s _ y e r d x z) h = (reads_bare s (spelled_first (tokens_in c) (tokens_in f) h), reads_bare x (spelled_rest (tokens_in c) (tokens_in f) h))
+reads_bare (inner {c = c} {f = f} {k = k} v _ s _ y _ _ _ _ g l d x z) h =
     let own : AreSpelled (tokens_in c) = spelled_first (tokens_in c) (tokens_in f) h in
-    (bare_node k s y own, stands_bare s own, stands_bare x (spelled_rest (tokens_in c) (tokens_in f) h))
+    (bare_node k s y.0 own, reads_bare s own, reads_bare x (spelled_rest (tokens_in c) (tokens_in f) h))

@@ -1,17 +1,17 @@
--- The rows of a forest without trivia that stands as it may, and of its repaired tree.
+-- The rows of a forest without trivia that is read, and of its repaired tree.
 use Rattle.std.proofs.Common.{◌≡◌, ◌⊎◌, inl, inr, ℕ, ◌+◌, ◌≤◌, Bool, true, false, List, [], ◌∷◌, ◌++◌, Option, Some, None, refl, ap, sym, ◌∙◌, subst, arith}
 use Rattle.std.proofs.Common.{if◌then◌else◌}
 use Rattle.{rnix_kinds.specs.declared.kinds.SyntaxKind.{SyntaxKind, TheVariants.{NODE_LITERAL, NODE_PATTERN}}, rnix_green.specs.Forest.Forest}
 use Rattle.rnix_grammar.specs.{declared.place.Place.Place, Fault.Fault, AnnotatedForest.{Token, Note, Stray, Unwanted, Extra, Twice, TooDeep, AnnotatedForest}}
 use Rattle.rnix_grammar.specs.{AnnotatedForest.{tokens_in, is_some}, Reports.{report, repeats}, Rows.{RowState, At, advance, whole, live, start, run}}
-use Rattle.rnix_grammar.specs.{Stands.{Stands, end, leaf, missing_part, wrong, second, inner, IsBeside}, Repaired.{patch, repaired, kinds_of, incomplete}}
+use Rattle.rnix_grammar.specs.{PlaceReads.{Reads, end, leaf, missing_part, wrong, second, inner, IsWrong}, Repaired.{patch, repaired, kinds_of, incomplete}}
 use Rattle.rnix_grammar.specs.{Repaired.{is_ended, ended_count}, declared.until.Until.Until, Layout.is_last, Missing.{missing, run_at}}
 use Rattle.rnix_lemmas.proofs.{MissingFacts.missing_ended, Completable.{IsCompletable, completed_at, lost_inside}, Owing.{owes, owing, owing_half, owing_goes}}
 use Rattle.rnix_lemmas.proofs.{RowEnds.{is_final, lost_final, final_full, final_goes, lost_half}, RowKinds.{has_row, starts_row}, ImitateLemmas.Imitates}
-use Rattle.rnix_lemmas.proofs.ImitateLemmas.{imitates_self, imitates_same, imitates_both, second_imitates, patched, run_patch, beside_imitates}
-use Rattle.rnix_lemmas.proofs.{ImitateLemmas.{beside_completable, pattern_goes, start_half, start_place}, Basics.{true_is_not_false, not_nil, none_right}}
-use Rattle.{rnix_lemmas.proofs.{Basics.none_left, RowEndings.row_tokens}, rnix_rows.proofs.StandsFaults.{HasEnded, AreCalm, plain_report, calm_second}}
-use Rattle.rnix_rows.proofs.StandsFaults.{calm_repeats, stands_errors}
+use Rattle.rnix_lemmas.proofs.ImitateLemmas.{imitates_self, imitates_same, imitates_both, second_imitates, patched, run_patch, wrong_imitates}
+use Rattle.rnix_lemmas.proofs.{ImitateLemmas.{wrong_completable, pattern_goes, start_half, start_place}, Basics.{true_is_not_false, not_nil, none_right}}
+use Rattle.{rnix_grammar.specs.ErrorNodes.AreErrorNodes, rnix_lemmas.proofs.{Basics.none_left, RowEndings.row_tokens}, rnix_rows.proofs.ReadsFaults.{HasEnded, AreCalm, plain_report, calm_second}}
+use Rattle.rnix_rows.proofs.ReadsFaults.{calm_repeats, reads_errors}
 use Rattle.rnix_grammar.specs.declared.place.Place.TheVariants as places
 
 -- how an error node over tokens stands at a state
@@ -20,13 +20,13 @@ pub data IsAside (n : Note) (q r : RowState) (ts : List Token) : Type 0 where
   a_run : (x y : Place) (until : Until) → is_last n ≡ false → is_some ts ≡ true → q ≡ At x → r ≡ At y → run_at x ≡ Some (until, y) → IsAside n q r ts
   at_end : is_some ts ≡ true → q ≡ At places.RootEnd → IsAside n q r ts
 
--- each stands so
-pub aside : (n : Note) (p : SyntaxKind) (a : ℕ) (q r : RowState) (b : AnnotatedForest) (i : ℕ) (ts vs : List Token) → IsBeside n p a q r b i ts vs → IsAside n q r ts
-aside Stray p a q r b i (t ∷ ts) vs h = a_number h.3 h.4
-aside (Unwanted until) p a q r b i (t ∷ ts) vs h = a_run h.4 h.5 until refl refl h.6 h.7 h.8
-aside Extra p a q r b i (t ∷ ts) vs h = at_end refl h.3
-aside TooDeep p a q r b i ts vs h = a_number h.3 h.4
-aside _ p a q r b i _ vs h = absurd h
+-- each is so
+pub aside : (note : Note) (d : ℕ) (q r : RowState) (ts vs : List Token) → IsWrong note d q r ts vs → IsAside note q r ts
+aside Stray d q r ts vs w = a_number w.3 w.4
+aside (Unwanted until) d q r ts vs w = a_run w.2 w.3 until refl w.0 w.4 w.5 w.6
+aside Extra d q r ts vs w = at_end w.0 w.2
+aside Twice d q r ts vs w = absurd w
+aside TooDeep d q r ts vs w = a_number w.3 w.4
 
 -- a row with an error node begins as its kind's rows do
 aside_row : {n : Note} {q r : RowState} {ts : List Token} (k : SyntaxKind) → IsAside n q r ts → q ≡ start k → has_row k ≡ true
@@ -35,25 +35,25 @@ aside_row k (a_run x y until n t f g w) e = start_place k x (sym f ∙ e)
 aside_row k (at_end t f) e = start_place k places.RootEnd (sym f ∙ e)
 
 -- a node that is complete is of a kind with rows
-pub stands_row : {p : SyntaxKind} {a : ℕ} {q q' : RowState} {b : AnnotatedForest} {i : ℕ} {us : List Token} {f : AnnotatedForest} {es : List Fault} (k : SyntaxKind)
-    → Stands p a q q' b i us f es → q ≡ start k → whole q' ≡ true → has_row k ≡ true
-stands_row k end e w = absurd (true_is_not_false (sym w ∙ ap whole e ∙ start_half k))
-stands_row k (leaf {k = j} h tight g l c m s) e w = starts_row k j (ap (λ x. live (advance x j)) (sym e) ∙ ap live g ∙ l)
-stands_row k (missing_part {x = x} u n l s z) e w = start_place k x e
-stands_row {p = p} {a = a} {q = q} {b = b} {i = i} k (wrong {r = r} {vs = vs} n ts h v x d j s z) e w = aside_row k (aside n p a q r b i ts vs x) e
-stands_row k (second v s y p q r d j x z) e w = start_place k (places.PatternEnd true) (sym q ∙ e)
-stands_row k (inner {k = j} v s y form tight g l d m x z) e w = starts_row k j (ap (λ x. live (advance x j)) (sym e) ∙ ap live g ∙ l)
+pub reads_row : {p : SyntaxKind} {d n : ℕ} {q q' : RowState} {b : AnnotatedForest} {us : List Token} {f : AnnotatedForest} {es : List Fault} (k : SyntaxKind)
+    → Reads p d n q q' b us f es → q ≡ start k → whole q' ≡ true → has_row k ≡ true
+reads_row k end e w = absurd (true_is_not_false (sym w ∙ ap whole e ∙ start_half k))
+reads_row k (leaf {k = j} h _ _ _ g l c _ s) e w = starts_row k j (ap (λ x. live (advance x j)) (sym e) ∙ ap live g ∙ l)
+reads_row k (missing_part {x = x} u n l _ s z) e w = start_place k x e
+reads_row {d = d₀} {q = q} k (wrong {r = r} {vs = vs} n ts h v _ _ x d _ s z) e w = aside_row k (aside n d₀ q r ts vs x) e
+reads_row k (second v s _ y q r d x z) e w = start_place k (places.PatternEnd true) (sym q ∙ e)
+reads_row k (inner {k = j} v _ s _ y _ _ _ _ g l d x z) e w = starts_row k j (ap (λ x. live (advance x j)) (sym e) ∙ ap live g ∙ l)
 
 -- a row that ends whole can be completed from where it begins
-pub stands_completable : {p : SyntaxKind} {a : ℕ} {q q' : RowState} {b : AnnotatedForest} {i : ℕ} {us : List Token} {f : AnnotatedForest} {es : List Fault}
-    → Stands p a q q' b i us f es → whole q' ≡ true → IsCompletable q
-stands_completable end w = ([], w)
-stands_completable (leaf {k = k} h tight g l c j s) w = let m = stands_completable s w in (k ∷ m.0, ap (λ x. whole (run x m.0)) g ∙ m.1)
-stands_completable (missing_part {x = x} {y = y} {e = e} u n l s z) w = completed_at x (lost_inside x y e l)
-stands_completable {p = p} {a = a} {q = q} {b = b} {i = i} (wrong {r = r} {vs = vs} n ts h v x d j s z) w =
-    beside_completable n p a q r b i ts vs x (stands_completable s w)
-stands_completable (second v s y p q r d j x z) w = subst IsCompletable (sym q) (completed_at (places.PatternEnd true) refl)
-stands_completable (inner {k = k} v s y form tight g l d j x z) w = let m = stands_completable x w in (k ∷ m.0, ap (λ x. whole (run x m.0)) g ∙ m.1)
+pub reads_completable : {p : SyntaxKind} {d n : ℕ} {q q' : RowState} {b : AnnotatedForest} {us : List Token} {f : AnnotatedForest} {es : List Fault}
+    → Reads p d n q q' b us f es → whole q' ≡ true → IsCompletable q
+reads_completable end w = ([], w)
+reads_completable (leaf {k = k} h _ _ _ g l c _ s) w = let m = reads_completable s w in (k ∷ m.0, ap (λ x. whole (run x m.0)) g ∙ m.1)
+reads_completable (missing_part {x = x} {y = y} {e = e} u n l _ s z) w = completed_at x (lost_inside x y e l)
+reads_completable {d = d₀} {q = q} (wrong {r = r} {vs = vs} n ts h v _ _ x d _ s z) w =
+    wrong_completable n d₀ q r ts vs x (reads_completable s w)
+reads_completable (second v s _ y q r d x z) w = subst IsCompletable (sym q) (completed_at (places.PatternEnd true) refl)
+reads_completable (inner {k = k} v _ s _ y _ _ _ _ g l d x z) w = let m = reads_completable x w in (k ∷ m.0, ap (λ x. whole (run x m.0)) g ∙ m.1)
 
 -- a patch pays no token
 owing_patch : (n : Note) (q : RowState) (f : Forest) → owing q ≡ true → ((r : RowState) → owing r ≡ true → owing (run r (kinds_of f)) ≡ true) → owing (run q (kinds_of (patch n f))) ≡ true
@@ -62,15 +62,15 @@ owing_patch TooDeep q f o h = h (advance q NODE_LITERAL) (owing_goes q NODE_LITE
 owing_patch _ q f o h = h q o
 
 -- what holds no token pays none
-pub owing_rest : {p : SyntaxKind} {a : ℕ} {q q' : RowState} {b : AnnotatedForest} {i : ℕ} {us : List Token} {f : AnnotatedForest} {es : List Fault}
-    → Stands p a q q' b i us f es → tokens_in f ≡ [] → (q0 : RowState) → owing q0 ≡ true → owing (run q0 (kinds_of (repaired f))) ≡ true
+pub owing_rest : {p : SyntaxKind} {d n : ℕ} {q q' : RowState} {b : AnnotatedForest} {us : List Token} {f : AnnotatedForest} {es : List Fault}
+    → Reads p d n q q' b us f es → tokens_in f ≡ [] → (q0 : RowState) → owing q0 ≡ true → owing (run q0 (kinds_of (repaired f))) ≡ true
 owing_rest end n q0 o = o
-owing_rest (leaf h tight g l c j s) n q0 o = absurd (not_nil n)
-owing_rest (missing_part u x l s z) n q0 o = owing_rest s n q0 o
-owing_rest (wrong {c = c} {f = f} note ts h v x d j s z) n q0 o = owing_patch note q0 (repaired f) o (owing_rest s (none_right (tokens_in c) (tokens_in f) n))
-owing_rest (second {c = c} {f = f} v s y p q r d j x z) n q0 o = owing_rest x (none_right (tokens_in c) (tokens_in f) n) q0 o
-owing_rest (inner {c = c} {f = f} {k = k} v s y form tight g l d j x z) n q0 o =
-    owing_rest x (none_right (tokens_in c) (tokens_in f) n) (advance q0 k) (owing_goes q0 k o (stands_row k s refl y))
+owing_rest (leaf h _ _ _ g l c _ s) n q0 o = absurd (not_nil n)
+owing_rest (missing_part u x l _ s z) n q0 o = owing_rest s n q0 o
+owing_rest (wrong {c = c} {f = f} note ts h v _ _ x d _ s z) n q0 o = owing_patch note q0 (repaired f) o (owing_rest s (none_right (tokens_in c) (tokens_in f) n))
+owing_rest (second {c = c} {f = f} v s _ y q r d x z) n q0 o = owing_rest x (none_right (tokens_in c) (tokens_in f) n) q0 o
+owing_rest (inner {c = c} {f = f} {k = k} v _ s _ y _ _ _ _ g l d x z) n q0 o =
+    owing_rest x (none_right (tokens_in c) (tokens_in f) n) (advance q0 k) (owing_goes q0 k o (reads_row k s refl y.0))
 
 -- where nothing but a token may follow, nothing without one follows
 final_aside : {n : Note} {q r : RowState} {ts : List Token} (y : Place) → IsAside n q r ts → ts ≡ [] → q ≡ At y → is_final y ≡ true → ⊥
@@ -83,24 +83,24 @@ some_is_not_none : {e : Fault} {y : Place} {o : Option (Fault × Place)} → o �
 some_is_not_none h k = cc
 
 -- so a row without tokens is empty there, when it is repaired
-final_rest : {p : SyntaxKind} {a : ℕ} {q q' : RowState} {b : AnnotatedForest} {i : ℕ} {us : List Token} {f : AnnotatedForest} {es : List Fault} (y : Place)
-    → Stands p a q q' b i us f es → q ≡ At y → is_final y ≡ true → tokens_in f ≡ [] → kinds_of (repaired f) ≡ []
+final_rest : {p : SyntaxKind} {d n : ℕ} {q q' : RowState} {b : AnnotatedForest} {us : List Token} {f : AnnotatedForest} {es : List Fault} (y : Place)
+    → Reads p d n q q' b us f es → q ≡ At y → is_final y ≡ true → tokens_in f ≡ [] → kinds_of (repaired f) ≡ []
 final_rest y end e m n = refl
-final_rest y (leaf h tight g l c j s) e m n = absurd (not_nil n)
-final_rest y (missing_part {x = x} u v l s z) e m n =
+final_rest y (leaf h _ _ _ g l c _ s) e m n = absurd (not_nil n)
+final_rest y (missing_part {x = x} u v l _ s z) e m n =
     let same : x ≡ y = cc in
     absurd (some_is_not_none l (ap missing same ∙ final_full y m))
-final_rest {p = p} {a = a} {q = q} {b = b} {i = i} y (wrong {r = r} {vs = vs} {c = c} {f = f} note ts h v x d j s z) e m n =
-    absurd (final_aside y (aside note p a q r b i ts vs x) (row_tokens c ts h (none_left (tokens_in c) (tokens_in f) n)) e m)
-final_rest y (second v s w p q r d j x z) e m n =
+final_rest {d = d₀} {q = q} y (wrong {r = r} {vs = vs} {c = c} {f = f} note ts h v _ _ x d _ s z) e m n =
+    absurd (final_aside y (aside note d₀ q r ts vs x) (row_tokens c ts h (none_left (tokens_in c) (tokens_in f) n)) e m)
+final_rest y (second v s _ w q r d x z) e m n =
     let same : places.PatternEnd true ≡ y = let both : At (places.PatternEnd true) ≡ At y = sym q ∙ e in cc in
     absurd (true_is_not_false (sym m ∙ ap is_final (sym same)))
-final_rest y (inner {k = k} v s w form tight g l d j x z) e m n =
-    absurd (true_is_not_false (sym l ∙ ap live (sym g) ∙ ap (λ x. live (advance x k)) e ∙ final_goes y k m (stands_row k s refl w)))
+final_rest y (inner {k = k} v _ s _ w _ _ _ _ g l d x z) e m n =
+    absurd (true_is_not_false (sym l ∙ ap live (sym g) ∙ ap (λ x. live (advance x k)) e ∙ final_goes y k m (reads_row k s refl w.0)))
 
 -- a row with a part that is missing is not whole, however it is repaired
-lost_by : {p : SyntaxKind} {a : ℕ} {x y : Place} {q0 q' : RowState} {b : AnnotatedForest} {i : ℕ} {us : List Token} {f : AnnotatedForest} {es : List Fault} {e : Fault} (o : Bool)
-    → owes x ≡ o → Imitates q0 (At x) → missing x ≡ Some (e, y) → tokens_in f ≡ [] → Stands p a (At y) q' b i us f es → whole (run q0 (kinds_of (repaired f))) ≡ false
+lost_by : {p : SyntaxKind} {d n : ℕ} {x y : Place} {q0 q' : RowState} {b : AnnotatedForest} {us : List Token} {f : AnnotatedForest} {es : List Fault} {e : Fault} (o : Bool)
+    → owes x ≡ o → Imitates q0 (At x) → missing x ≡ Some (e, y) → tokens_in f ≡ [] → Reads p d n (At y) q' b us f es → whole (run q0 (kinds_of (repaired f))) ≡ false
 lost_by {q0 = q0} {f = f} true h m l n s = owing_half (run q0 (kinds_of (repaired f))) (owing_rest s n q0 (m.owes h))
 lost_by {x = x} {y = y} {q0 = q0} {e = e} false h m l n s =
     ap (λ ks. whole (run q0 ks)) (final_rest y s refl (lost_final x y e l h) n) ∙ m.ends ∙ lost_half x y e l
@@ -146,29 +146,29 @@ same_counts : {m m' n n' : ℕ} {L : Type 0} → m ≡ m' → n ≡ n' → Count
 same_counts {m = m} {m' = m'} {n = n} {n' = n'} {L = L} e h c = subst (λ (x : ℕ). Counts x n' L) e (subst (λ (x : ℕ). Counts m x L) h c)
 
 -- the nodes that are not whole are no more than the errors of the end, and are some where these are
-pub stands_counts : {p : SyntaxKind} {a : ℕ} {q q' : RowState} {b : AnnotatedForest} {i : ℕ} {us : List Token} {f : AnnotatedForest} {es : List Fault} (q0 : RowState)
-    → Stands p a q q' b i us f es → whole q' ≡ true → Imitates q0 q
+pub reads_counts : {p : SyntaxKind} {d n : ℕ} {q q' : RowState} {b : AnnotatedForest} {us : List Token} {f : AnnotatedForest} {es : List Fault} (q0 : RowState)
+    → Reads p d n q q' b us f es → whole q' ≡ true → Imitates q0 q → AreErrorNodes p f
     → Counts (half (whole (run q0 (kinds_of (repaired f)))) + incomplete (repaired f)) (ended_count es) ((p ≡ NODE_PATTERN) × (us ≡ []))
-stands_counts q0 end w m =
+reads_counts q0 end w m o =
     let all : half (whole q0) ≡ 0 = ap half (m.ends ∙ w) in
     record { few = omega (arith, all); none = λ h. inl refl }
-stands_counts {p = p} {us = us} q0 (leaf {r = r} {f = f} {es = es} {k = k} h tight g l c j s) w m =
+reads_counts {p = p} {us = us} q0 (leaf {r = r} {f = f} {es = es} {k = k} h _ _ _ g l c _ s) w m o =
     let on : advance q0 k ≡ r = m.goes k (ap live g ∙ l) ∙ g in
-    stands_counts (advance q0 k) s w (imitates_same (advance q0 k) r on)
-stands_counts q0 (missing_part {x = x} {y = y} {f = f} {e = e} {es = es} u n l s z) w m =
+    reads_counts (advance q0 k) s w (imitates_same (advance q0 k) r on) o
+reads_counts q0 (missing_part {x = x} {y = y} {f = f} {e = e} {es = es} u n l _ s z) w m o =
     let not : whole (run q0 (kinds_of (repaired f))) ≡ false = lost_by (owes x) refl m l n s in
     let one : half (whole (run q0 (kinds_of (repaired f)))) ≡ 1 = ap half not in
     let all = ap ended_count z ∙ lost_counted e es (missing_ended x y e l).0 in
-    let ih = stands_counts (At y) s w (imitates_self (At y)) in
+    let ih = reads_counts (At y) s w (imitates_self (At y)) o in
     let fewer : half (whole (run (At y) (kinds_of (repaired f)))) + incomplete (repaired f) ≤ ended_count es = ih.few in
     same_counts refl (sym all) (record { few = omega (arith, one, fewer); none = λ h. absurd (omega (arith, one, h)) })
-stands_counts {p = p} {a = a} {q = q} {b = b} {i = i} q0 (wrong {r = r} {vs = vs} {f = f} {es = es} n ts h v x d j s z) w m =
-    let ih = stands_counts (patched n q0) s w (beside_imitates n p a q0 q r b i ts vs x m) in
+reads_counts {d = d₀} {q = q} q0 (wrong {r = r} {vs = vs} {f = f} {es = es} n ts h v _ _ x d _ s z) w m o =
+    let ih = reads_counts (patched n q0) s w (wrong_imitates n d₀ q0 q r ts vs x m) o.2 in
     same_counts (ap (λ o. half (whole o) + incomplete (repaired f)) (sym (run_patch n q0 (repaired f))) ∙ ap (λ o. half (whole (run q0 (kinds_of (patch n (repaired f))))) + o) (sym (incomplete_patch n (repaired f))))
     (sym (ap ended_count z ∙ ap (λ x. (if x then 1 else 0) + ended_count es) (plain_report n ts) ∙ omega arith)) ih
-stands_counts {us = us} q0 (second {vs = vs} {c = c} {f = f} {ds = ds} {es = es} v s y p q r d j x z) w m =
+reads_counts {us = us} q0 (second {vs = vs} {c = c} {f = f} {ds = ds} {es = es} v s _ y q r d x z) w m o =
     let on : Imitates q0 (At places.PatternPast) = imitates_both (subst (Imitates q0) q m) second_imitates in
-    let ih = stands_counts q0 x w (subst (Imitates q0) (sym r) on) in
+    let ih = reads_counts q0 x w (subst (Imitates q0) (sym r) on) o.2 in
     let one : ended_count (report Twice (tokens_in c) ∷ []) ≡ 0 = calm_count (report Twice (tokens_in c) ∷ []) (calm_second (tokens_in c)) in
     let sum : ended_count ((ds ++ report Twice (tokens_in c) ∷ []) ++ es) ≡ ended_count ds + ended_count es =
     ended_count-++ (ds ++ report Twice (tokens_in c) ∷ []) es ∙ ap (λ k. k + ended_count es) (ended_count-++ ds (report Twice (tokens_in c) ∷ []) ∙ ap (λ k. ended_count ds + k) one ∙ omega arith) in
@@ -178,13 +178,13 @@ stands_counts {us = us} q0 (second {vs = vs} {c = c} {f = f} {ds = ds} {es = es}
       none = λ h.
           elim (ended_or ds) [
             | inl n ↦ elim (ih.none h) [ inl k ↦ inl (omega (arith, n, k)) | inr k ↦ inr k ]
-            | inr n ↦ inr (p, none_right (tokens_in f) us (sym v ∙ (stands_errors s).last n))
+            | inr n ↦ inr (o.0.1, none_right (tokens_in f) us (sym v ∙ (reads_errors s).last n))
           ];
     })
-stands_counts {q = q} {b = b} {us = us} q0 (inner {r = r} {vs = vs} {c = c} {f = f} {ds = ds} {es = es} {k = k} v s y form tight g l d j x z) w m =
+reads_counts {q = q} {b = b} {us = us} q0 (inner {r = r} {vs = vs} {c = c} {f = f} {ds = ds} {es = es} {k = k} v _ s _ y _ _ _ _ g l d x z) w m o =
     let on : advance q0 k ≡ r = m.goes k (ap live g ∙ l) ∙ g in
-    let here = stands_counts (advance q0 k) x w (imitates_same (advance q0 k) r on) in
-    let below = stands_counts (start k) s y (imitates_self (start k)) in
+    let here = reads_counts (advance q0 k) x w (imitates_same (advance q0 k) r on) o.1 in
+    let below = reads_counts (start k) s y.0 (imitates_self (start k)) o.0 in
     let none : ended_count (repeats k b c) ≡ 0 = calm_count (repeats k b c) (calm_repeats k b c) in
     let sum : ended_count ((ds ++ repeats k b c) ++ es) ≡ ended_count ds + ended_count es =
     ended_count-++ (ds ++ repeats k b c) es ∙ ap (λ o. o + ended_count es) (ended_count-++ ds (repeats k b c) ∙ ap (λ o. ended_count ds + o) none ∙ omega arith) in

@@ -1,14 +1,12 @@
--- A row that stands has no error exactly if each of its nodes has its shape, and nothing in it is reported.
+-- A row that is read has no error exactly if each of its nodes has its shape, and nothing in it is reported.
 use Rattle.std.proofs.Common.{◌≡◌, ◌↔◌, inl, inr, ℕ, ◌+◌, Bool, true, false, List, [], ◌∷◌, ◌++◌, refl, ap, sym, ◌∙◌, subst, arith, if◌then◌else◌, ◌&&◌}
-use Rattle.std.proofs.lemmas.Bool.{and_parts}
 use Rattle.{rnix_kinds.specs.declared.kinds.SyntaxKind.{SyntaxKind, TheVariants.{NODE_ROOT, NODE_PATTERN, NODE_PAT_BIND}}, rnix_green.specs.Forest.node}
 use Rattle.{rnix_green.specs.Forest.leaf as leaf_in, rnix_grammar.specs.{Fault.Fault, AnnotatedForest.{Token, AnnotatedForest, blank, token, branch, fault}}}
-use Rattle.rnix_grammar.specs.{AnnotatedForest.{forget, Twice, tokens_in, is_some}, Rows.{RowState, Start, At, advance, whole, live, start, run, is_row}}
-use Rattle.rnix_grammar.specs.{Stands.{Stands, end, leaf, missing_part, wrong, second, inner, begins_with_token, is_bind_at, is_formed}, Reports.repeats}
+use Rattle.rnix_grammar.specs.{AnnotatedForest.{forget, Twice, tokens_in}, Rows.{RowState, Start, At, advance, whole, live, start, run, is_row}}
+use Rattle.rnix_grammar.specs.{PlaceReads.{Reads, ReadsWhole, end, leaf, missing_part, wrong, second, inner}, Named.{AreNamed, begins_with_token, is_bind_at, suits}, ErrorNodes.AreErrorNodes, Reports.repeats}
 use Rattle.rnix_grammar.specs.{Reports.report, Repaired.{repaired, kinds_of, incomplete, is_ended, ended_count, others}, Shape.{reports_behind, reports}}
 use Rattle.rnix_lemmas.proofs.{ImitateLemmas.imitates_self, Basics.{true_is_not_false, not_nil, none_left, none_right}, LaterRowStates.{is_start, go_later}}
-use Rattle.{rnix_lemmas.proofs.EntryNames.both_true, rnix_rows.proofs.{StandsFaults.stands_errors, StandsRows.{half, stands_counts}}}
-use Rattle.rnix_grammar.specs.declared.place.Place.TheVariants as places
+use Rattle.{rnix_lemmas.proofs.EntryNames.both_true, rnix_rows.proofs.{NamedRows.are_named, ErrorNodeRows.whole_error_nodes, ReadsFaults.reads_errors, ReadsRows.{half, reads_counts}}}
 
 -- a bound name stands first where a row begins, and behind the first child at a place
 abbrev pub is_at : RowState → Bool
@@ -51,8 +49,8 @@ by_row_state true _ c a h = cc
 by_row_state false _ c a h = cc
 
 -- so it is formed by whether it is the first child
-pub formed_bare : (first : Bool) (q : RowState) (k : SyntaxKind) (c : AnnotatedForest) → Agrees first q → live (advance q k) ≡ true → is_formed q k c ≡ true → bare_bind first k c ≡ true
-formed_bare first q NODE_PAT_BIND c a l h = by_row_state first q c (a l) (and_parts (is_some (tokens_in c)) (is_bind_at q c) h).1
+pub formed_bare : (first : Bool) (q : RowState) (k : SyntaxKind) (c : AnnotatedForest) → Agrees first q → live (advance q k) ≡ true → suits q k c ≡ true → bare_bind first k c ≡ true
+formed_bare first q NODE_PAT_BIND c a l h = by_row_state first q c (a l) h
 formed_bare true q _ c a l h = refl
 formed_bare false q _ c a l h = refl
 
@@ -77,23 +75,23 @@ pub record IsBareRow (first : Bool) (q q' : RowState) (f : AnnotatedForest) : Ty
   pub reaches : run q (kinds_of (forget f)) ≡ q'
 
 -- without errors every node has its row
-pub stands_rows : {p : SyntaxKind} {a : ℕ} {q q' : RowState} {b : AnnotatedForest} {i : ℕ} {us : List Token} {f : AnnotatedForest} {es : List Fault} (first : Bool)
-    → Stands p a q q' b i us f es → es ≡ [] → Agrees first q → IsBareRow first q q' f
-stands_rows first end n g = record { nodes = tt; binds = refl; reaches = refl }
-stands_rows {q = q} first (leaf {f = f} {k = k} h tight g l c j s) n m =
-    let w = stands_rows false s n (subst (Agrees false) g (agrees_later q k)) in
+pub reads_rows : {p : SyntaxKind} {d n : ℕ} {q q' : RowState} {b : AnnotatedForest} {us : List Token} {f : AnnotatedForest} {es : List Fault} (first : Bool)
+    → Reads p d n q q' b us f es → es ≡ [] → AreNamed q f → Agrees first q → IsBareRow first q q' f
+reads_rows first end n w g = record { nodes = tt; binds = refl; reaches = refl }
+reads_rows {q = q} first (leaf {f = f} {k = k} h _ _ _ g l c _ s) n names m =
+    let w = reads_rows false s n (subst (λ x. AreNamed x f) g names) (subst (Agrees false) g (agrees_later q k)) in
     record { nodes = w.nodes; binds = w.binds; reaches = ap (λ x. run x (kinds_of (forget f))) g ∙ w.reaches }
-stands_rows first (missing_part u x l s z) n m = absurd (not_nil (sym z ∙ n))
-stands_rows first (wrong note ts h v x d j s z) n m = absurd (not_nil (sym z ∙ n))
-stands_rows first (second {c = c} {ds = ds} {es = es} v s y o e r d j x z) n m =
+reads_rows first (missing_part u x l _ s z) n names m = absurd (not_nil (sym z ∙ n))
+reads_rows first (wrong note ts h v _ _ x d _ s z) n names m = absurd (not_nil (sym z ∙ n))
+reads_rows first (second {c = c} {ds = ds} {es = es} v s _ y e r d x z) n names m =
     absurd (not_nil (none_right ds (report Twice (tokens_in c) ∷ []) (none_left (ds ++ report Twice (tokens_in c) ∷ []) es (sym z ∙ n))))
-stands_rows {q = q} {b = b} first (inner {c = c} {f = f} {ds = ds} {es = es} {k = k} v s y form tight g l d j x z) n m =
+reads_rows {q = q} {b = b} first (inner {c = c} {f = f} {ds = ds} {es = es} {k = k} v _ s _ y _ _ _ _ g l d x z) n names m =
     let all : (ds ++ repeats k b c) ++ es ≡ [] = sym z ∙ n in
-    let below = stands_rows true s (none_left ds (repeats k b c) (none_left (ds ++ repeats k b c) es all)) (agrees_start k) in
-    let w = stands_rows false x (none_right (ds ++ repeats k b c) es all) (subst (Agrees false) g (agrees_later q k)) in
+    let below = reads_rows true s (none_left ds (repeats k b c) (none_left (ds ++ repeats k b c) es all)) names.1 (agrees_start k) in
+    let w = reads_rows false x (none_right (ds ++ repeats k b c) es all) (subst (λ x. AreNamed x f) g names.2) (subst (Agrees false) g (agrees_later q k)) in
     record {
-      nodes = (ap whole below.reaches ∙ y, below.binds, below.nodes, w.nodes);
-      binds = both_true (bare_bind first k c) (bare_binds false f) (formed_bare first q k c m (ap live g ∙ l) form) w.binds;
+      nodes = (ap whole below.reaches ∙ y.0, below.binds, below.nodes, w.nodes);
+      binds = both_true (bare_bind first k c) (bare_binds false f) (formed_bare first q k c m (ap live g ∙ l) names.0) w.binds;
       reaches = ap (λ x. run x (kinds_of (forget f))) g ∙ w.reaches;
     }
 
@@ -124,13 +122,13 @@ none_in_all (e ∷ es) h k = by_first (is_ended e) refl
     by_first false i = absurd (not_nil (ap (λ x. if x then others es else e ∷ others es) (sym i) ∙ k))
 
 -- where every node has its row and nothing is reported there is no error
-pub rows_stand : {p : SyntaxKind} {a : ℕ} {q q' : RowState} {b : AnnotatedForest} {i : ℕ} {us : List Token} {f : AnnotatedForest} {es : List Fault}
-    → Stands p a q q' b i us f es → whole q' ≡ true → ((p ≡ NODE_PATTERN) → ⊥) → AreBareRows f → whole (run q (kinds_of (forget f))) ≡ true → reports_behind b f ≡ [] → es ≡ []
-rows_stand {q = q} {f = f} {es = es} s w not r h n =
+pub rows_read : {p : SyntaxKind} {d n : ℕ} {q q' : RowState} {b : AnnotatedForest} {us : List Token} {f : AnnotatedForest} {es : List Fault}
+    → Reads p d n q q' b us f es → whole q' ≡ true → ((p ≡ NODE_PATTERN) → ⊥) → AreErrorNodes p f → AreBareRows f → whole (run q (kinds_of (forget f))) ≡ true → reports_behind b f ≡ [] → es ≡ []
+rows_read {q = q} {f = f} {es = es} s w not o r h n =
     let row : half (whole (run q (kinds_of (repaired f)))) ≡ 0 = ap (λ x. half (whole (run q (kinds_of x)))) (repaired_none f r) ∙ ap half h in
     let all : incomplete (repaired f) ≡ 0 = ap incomplete (repaired_none f r) ∙ incomplete_none f r in
-    let counts = stands_counts q s w (imitates_self q) in
-    none_in_all es (elim (counts.none (omega (arith, row, all))) [ inl e ↦ e | inr e ↦ absurd (not e.0) ]) ((stands_errors s).reports ∙ n)
+    let counts = reads_counts q s w (imitates_self q) o in
+    none_in_all es (elim (counts.none (omega (arith, row, all))) [ inl e ↦ e | inr e ↦ absurd (not e.0) ]) ((reads_errors s).reports ∙ n)
 
 -- a whole text without trivia: no error exactly if the root and each node below it have their rows, and nothing is reported
 pub record IsBare (f : AnnotatedForest) : Type 0 where
@@ -139,10 +137,10 @@ pub record IsBare (f : AnnotatedForest) : Type 0 where
   pub silent : reports f ≡ []
 
 -- a whole text has no error exactly if it is so
-pub whole_rows : {a : ℕ} {i : ℕ} {us : List Token} {f : AnnotatedForest} {es : List Fault} → Stands NODE_ROOT a (At places.RootStart) (At places.RootEnd) blank i us f es → (es ≡ []) ↔ IsBare f
-whole_rows {f = f} {es = es} s = (there, λ w. rows_stand s refl (λ e. cc) w.nodes w.root w.silent)
+pub whole_rows : {f : AnnotatedForest} {es : List Fault} → ReadsWhole f es → (es ≡ []) ↔ IsBare f
+whole_rows {f = f} {es = es} s = (there, λ w. rows_read s refl (λ e. cc) (whole_error_nodes s) w.nodes w.root w.silent)
   where
     there : es ≡ [] → IsBare f
     there n =
-        let w = stands_rows true s n (agrees_start NODE_ROOT) in
-        record { root = ap whole w.reaches; nodes = w.nodes; silent = sym (stands_errors s).reports ∙ ap others n }
+        let w = reads_rows true s n (are_named s) (agrees_start NODE_ROOT) in
+        record { root = ap whole w.reaches; nodes = w.nodes; silent = sym (reads_errors s).reports ∙ ap others n }

@@ -1,10 +1,10 @@
--- The errors of a row that stands as it may.
+-- The errors of a row that is read.
 use Rattle.std.proofs.Common.{◌≡◌, ◌⊎◌, inl, inr, ℕ, true, false, List, [], ◌∷◌, ◌++◌, Option, Some, None, refl, ap, sym, ◌∙◌, subst, append_assoc}
 use Rattle.std.proofs.Common.{if◌then◌else◌}
 use Rattle.{rnix_kinds.specs.declared.kinds.SyntaxKind.{SyntaxKind, TheVariants.NODE_PAT_ENTRY}, rnix_grammar.specs.Fault.{Fault, named_twice}}
-use Rattle.rnix_grammar.specs.AnnotatedForest.{Token, Note, Stray, Twice, TooDeep, AnnotatedForest, blank, branch, fault, ◌⊕◌, one_token, one_fault, row_of}
+use Rattle.rnix_grammar.specs.AnnotatedForest.{Token, Note, Stray, Unwanted, Extra, Twice, TooDeep, AnnotatedForest, blank, branch, fault, ◌⊕◌, one_token, one_fault, row_of}
 use Rattle.rnix_grammar.specs.{AnnotatedForest.{tokens_in, extent_of}, Reports.{report, repeated_if, entry_name, has_entry, repeats}, Rows.RowState}
-use Rattle.rnix_grammar.specs.{Stands.{Stands, end, leaf, missing_part, wrong, second, inner, IsBeside}, Repaired.{is_ended, others, is_misplaced}}
+use Rattle.rnix_grammar.specs.{PlaceReads.{Reads, end, leaf, missing_part, wrong, second, inner, IsWrong}, Repaired.{is_ended, others, is_misplaced}}
 use Rattle.rnix_grammar.specs.{Repaired.{NoneMisplaced, AreSettled, IsNamedList, AreNamedLists}, Shape.reports_behind}
 use Rattle.rnix_lemmas.proofs.{AnnotatedForestLemmas.tokens_in-row_of, MissingFacts.missing_ended, Basics.{true_is_not_false, not_nil, none_right, none_left}}
 
@@ -99,9 +99,12 @@ calm_repeats NODE_PAT_ENTRY b c = by (entry_name c)
 calm_repeats _ b c = calm_none
 
 -- an error node with no token is nested too deep
-empty_report : (n : Note) (p : SyntaxKind) (a : ℕ) (q r : RowState) (b : AnnotatedForest) (i : ℕ) (us : List Token) → IsBeside n p a q r b i [] us → is_misplaced (report n []) ≡ false
-empty_report TooDeep p a q r b i us h = refl
-empty_report _ p a q r b i us h = absurd h
+empty_report : (note : Note) (d : ℕ) (q r : RowState) (vs : List Token) → IsWrong note d q r [] vs → is_misplaced (report note []) ≡ false
+empty_report Stray d q r vs w = absurd (cc)
+empty_report (Unwanted until) d q r vs w = absurd (true_is_not_false (sym w.0))
+empty_report Extra d q r vs w = absurd (true_is_not_false (sym w.0))
+empty_report Twice d q r vs w = absurd w
+empty_report TooDeep d q r vs w = refl
 
 -- What is so of the errors of a row: those that are not of the end of the text are those of the error nodes and of repeated entries, as these close;
 -- each list of wanted kinds is one of those that tokens are wanted by; where no token is, none is wrong; behind an error of the end of the text no item
@@ -131,14 +134,14 @@ joined c f g us vs ds os es ps rs t v h o w = record {
 }
 
 -- so it is with each row
-pub stands_errors : {p : SyntaxKind} {a : ℕ} {q q' : RowState} {b : AnnotatedForest} {i : ℕ} {us : List Token} {f : AnnotatedForest} {es : List Fault}
-    → Stands p a q q' b i us f es → Errors f us (reports_behind b f) es
-stands_errors end = record { reports = refl; named = tt; none = λ n. tt; last = λ h. absurd h; settled = tt }
-stands_errors (leaf {f = f} h tight g l c j s) =
-    let w = stands_errors s in
+pub reads_errors : {p : SyntaxKind} {d n : ℕ} {q q' : RowState} {b : AnnotatedForest} {us : List Token} {f : AnnotatedForest} {es : List Fault}
+    → Reads p d n q q' b us f es → Errors f us (reports_behind b f) es
+reads_errors end = record { reports = refl; named = tt; none = λ n. tt; last = λ h. absurd h; settled = tt }
+reads_errors (leaf {f = f} h _ _ _ g l c _ s) =
+    let w = reads_errors s in
     record { reports = w.reports ∙ ap (λ x. reports_behind x f) c; named = w.named; none = λ n. absurd (not_nil n); last = w.last; settled = w.settled }
-stands_errors {b = b} {us = us} {f = f} (missing_part {x = x} {y = y} {e = e} {es = es} u n l s z) =
-    let w = stands_errors s in
+reads_errors {b = b} {us = us} {f = f} (missing_part {x = x} {y = y} {e = e} {es = es} u n l _ s z) =
+    let w = reads_errors s in
     let missing = missing_ended x y e l in
     subst (Errors f us (reports_behind b f)) (sym z) (record {
       reports = ap (λ x. if x then others es else e ∷ others es) missing.0 ∙ w.reports;
@@ -147,8 +150,8 @@ stands_errors {b = b} {us = us} {f = f} (missing_part {x = x} {y = y} {e = e} {e
       last = λ h. u;
       settled = (w.settled, λ h. w.none n);
     })
-stands_errors {p = p} {a = a} {q = q} {b = b} {i = i} {us = us} (wrong {r = r} {vs = vs} {c = c} {f = f} {es = es} n ts h v x d j s z) =
-    let w = stands_errors s in
+reads_errors {d = d₀} {q = q} {b = b} {us = us} (wrong {r = r} {vs = vs} {c = c} {f = f} {es = es} n ts h v _ _ x d _ s z) =
+    let w = reads_errors s in
     let same : tokens_in c ≡ ts = ap tokens_in h ∙ tokens_in-row_of ts in
     subst (Errors (fault n c f) us (reports_behind b (fault n c f))) (sym z) (record {
       reports = ap (λ x. if x then others es else report n ts ∷ others es) (plain_report n ts) ∙ ap (λ x. report n ts ∷ x) (w.reports ∙ ap (λ x. reports_behind x f) d)
@@ -157,17 +160,17 @@ stands_errors {p = p} {a = a} {q = q} {b = b} {i = i} {us = us} (wrong {r = r} {
       named = (named_report n ts, w.named);
       none = λ o.
           (let none : ts ≡ [] = sym same ∙ none_left (tokens_in c) (tokens_in f) o in (
-            ap (λ x. is_misplaced (report n x)) none ∙ empty_report n p a q r b i vs (subst (λ (x : List Token). IsBeside n p a q r b i x vs) none x),
+            ap (λ x. is_misplaced (report n x)) none ∙ empty_report n d₀ q r vs (subst (λ (x : List Token). IsWrong n d₀ q r x vs) none x),
             w.none (none_right (tokens_in c) (tokens_in f) o),
           ));
       last = λ o. elim o [ inl e ↦ absurd (true_is_not_false (sym e ∙ plain_report n ts)) | inr e ↦ w.last e ];
       settled = (w.settled, λ e. absurd (true_is_not_false (sym e ∙ plain_report n ts)));
     })
-stands_errors {b = b} {us = us} (second {vs = vs} {c = c} {f = f} {ds = ds} {es = es} v s y o q r d j x z) =
+reads_errors {b = b} {us = us} (second {vs = vs} {c = c} {f = f} {ds = ds} {es = es} v s _ y q r d x z) =
     subst (Errors (fault Twice c f) us (reports_behind b (fault Twice c f))) (sym z)
-    (joined c f (fault Twice c f) us vs ds (report Twice (tokens_in c) ∷ []) es _ _ refl v (stands_errors s) (calm_second (tokens_in c))
-    (subst (λ z. Errors f us (reports_behind z f) es) d (stands_errors x)))
-stands_errors {b = b} {us = us} (inner {vs = vs} {c = c} {f = f} {ds = ds} {es = es} {k = k} v s y form tight g l d j x z) =
+    (joined c f (fault Twice c f) us vs ds (report Twice (tokens_in c) ∷ []) es _ _ refl v (reads_errors s) (calm_second (tokens_in c))
+    (subst (λ z. Errors f us (reports_behind z f) es) d (reads_errors x)))
+reads_errors {b = b} {us = us} (inner {vs = vs} {c = c} {f = f} {ds = ds} {es = es} {k = k} v _ s _ y _ _ _ _ g l d x z) =
     subst (Errors (branch k c f) us (reports_behind b (branch k c f))) (sym z)
-    (joined c f (branch k c f) us vs ds (repeats k b c) es _ _ refl v (stands_errors s) (calm_repeats k b c)
-    (subst (λ z. Errors f us (reports_behind z f) es) d (stands_errors x)))
+    (joined c f (branch k c f) us vs ds (repeats k b c) es _ _ refl v (reads_errors s) (calm_repeats k b c)
+    (subst (λ z. Errors f us (reports_behind z f) es) d (reads_errors x)))

@@ -1,15 +1,15 @@
--- Which nodes of a row that stands have trees: those inside error nodes, and all where there is no error; which error nodes have tokens.
+-- Which nodes of a row that is read have trees: those inside error nodes, and all where there is no error; which error nodes have tokens.
 use Rattle.std.{specs.List.list_all, proofs.Common.{◌≡◌, ℕ, Bool, true, false, List, [], ◌∷◌, Option, Some, None, refl, ap, sym, ◌∙◌, subst, ◌&&◌}}
 use Rattle.std.proofs.{Common.if◌then◌else◌, lemmas.Bool.and_parts}
-use Rattle.rnix_kinds.specs.{declared.kinds.SyntaxKind.{SyntaxKind, TheVariants.{NODE_IDENT, NODE_LITERAL, TOKEN_AT, NODE_ERROR}}, SyntaxKind.is_trivia}
-use Rattle.{rnix_kinds.proofs.AllKinds.{all_kinds, every}, rnix_green.specs.Equality.{same_kind, same_kind-decides}}
+use Rattle.rnix_kinds.specs.{declared.kinds.SyntaxKind.{SyntaxKind, TheVariants.{NODE_IDENT, NODE_LITERAL}}, SyntaxKind.is_trivia}
+use Rattle.{rnix_kinds.proofs.AllKinds.{all_kinds, every, implied}, rnix_green.specs.Equality.{same_kind, same_kind-decides}}
 use Rattle.rnix_grammar.specs.{declared.place.Place.Place, Fault.Fault, AnnotatedForest.{Token, Note, AnnotatedForest, blank, token, branch, fault, row_of}}
 use Rattle.rnix_grammar.specs.{AnnotatedForest.{forget, tokens_in, is_some, Stray, Unwanted, Extra, Twice, TooDeep, without_trivia, token_if}, Layout.is_last}
 use Rattle.rnix_grammar.specs.{Layout.items, Missing.{missing, run_at}, Repaired.kinds_of, Rows.{RowState, Start, SecondStart, At, run, advance, live, start}}
-use Rattle.rnix_grammar.specs.{Rows.whole, Stands.{Stands, end, leaf, missing_part, wrong, second, inner, is_filled, suits, begins_with_token, IsBeside}}
-use Rattle.{rnix_grammar.specs.Ranges.is_error_node, rnix_lemmas.proofs.{Basics.true_is_not_false, ImitateLemmas.start_half, RowKinds.has_row}}
-use Rattle.rnix_lemmas.proofs.{ReportLemmas.without_trivia_tokens, OpeningRows.{HasRow, Opening, by_token, by_branch, by_fault, opening, no_row}}
-use Rattle.rnix_rows.proofs.{DressLemmas.HasTree, StandsRows.{IsAside, a_number, a_run, at_end, aside, stands_row}, StandsShapes.AreBareRows}
+use Rattle.rnix_grammar.specs.{Rows.whole, PlaceReads.{Reads, end, leaf, missing_part, wrong, second, inner, IsWrong}, Named.begins_with_token}
+use Rattle.{rnix_grammar.specs.Ranges.is_error_node, rnix_lemmas.proofs.{Basics.{true_is_not_false, not_if}, ImitateLemmas.start_half, RowKinds.has_row}}
+use Rattle.{rnix_lemmas.proofs.{ReportLemmas.without_trivia_tokens, OpeningRows.is_place}, rnix_rows.proofs.BareRows.row_some}
+use Rattle.rnix_rows.proofs.{DressLemmas.HasTree, ReadsRows.{IsAside, a_number, a_run, at_end, aside, reads_row}, ReadsShapes.AreBareRows}
 use Rattle.rnix_grammar.specs.declared.place.Place.TheVariants as p
 
 -- each node of a row has trees, and none is that of what is too deep
@@ -107,29 +107,29 @@ calm_fault (a_run x y until n t e f w) h =
 calm_fault (at_end t e) h = absurd (true_is_not_false (sym h ∙ ap is_calm e))
 
 -- the row of a name, and that of a second name, have trees wherever they have nodes
-pub calm_filled : {p : SyntaxKind} {a : ℕ} {q q' : RowState} {b : AnnotatedForest} {i : ℕ} {us : List Token} {f : AnnotatedForest} {es : List Fault}
-    → Stands p a q q' b i us f es → is_calm q ≡ true → AreFilled f
+pub calm_filled : {p : SyntaxKind} {d n : ℕ} {q q' : RowState} {b : AnnotatedForest} {us : List Token} {f : AnnotatedForest} {es : List Fault}
+    → Reads p d n q q' b us f es → is_calm q ≡ true → AreFilled f
 calm_filled end m = tt
-calm_filled {q = q} (leaf {k = k} h tight g l c j s) m = calm_filled s (sym (ap is_calm g) ∙ (calm_goes q k m (ap live g ∙ l)).0)
-calm_filled (missing_part {x = x} {y = y} {e = e} u n l s z) m = calm_filled s (ap is_calm_behind (sym l) ∙ (and_parts (is_calm_behind (missing x)) (is_calm_behind (run_at x)) (calm (At x) m).1).0)
-calm_filled {p = p} {a = a} {q = q} {b = b} {i = i} (wrong {r = r} {vs = vs} note ts h v w d j s z) m =
-    let x : IsCalmFault note r ts = calm_fault (aside note p a q r b i ts vs w) m in
+calm_filled {q = q} (leaf {k = k} h _ _ _ g l c _ s) m = calm_filled s (sym (ap is_calm g) ∙ (calm_goes q k m (ap live g ∙ l)).0)
+calm_filled (missing_part {x = x} {y = y} {e = e} u n l _ s z) m = calm_filled s (ap is_calm_behind (sym l) ∙ (and_parts (is_calm_behind (missing x)) (is_calm_behind (run_at x)) (calm (At x) m).1).0)
+calm_filled {d = d₀} {q = q} (wrong {r = r} {vs = vs} note ts h v _ _ w d _ s z) m =
+    let x : IsCalmFault note r ts = calm_fault (aside note d₀ q r ts vs w) m in
     (x.last, subst HasTree (sym h) (row_tree ts x.some), subst AreFilled (sym h) (row_filled ts), calm_filled s x.calm)
-calm_filled (second v s y o e r d j x z) m = absurd (true_is_not_false (sym m ∙ ap is_calm e))
-calm_filled {q = q} (inner {c = c} {k = k} v s y form tight g l d j x z) m =
+calm_filled (second v s _ y e r d x z) m = absurd (true_is_not_false (sym m ∙ ap is_calm e))
+calm_filled {q = q} (inner {c = c} {k = k} v _ s _ y _ _ _ _ g l d x z) m =
     let live_ : live (advance q k) ≡ true = ap live g ∙ l in
-    let name : k ≡ NODE_IDENT = calm_name q k m live_ (stands_row k s refl y) in
-    let some : is_some (tokens_in c) ≡ true = ap (λ w. is_filled w c) (sym name) ∙ (and_parts (is_filled k c) (suits q k c) form).0 in
+    let name : k ≡ NODE_IDENT = calm_name q k m live_ (reads_row k s refl y.0) in
+    let some : is_some (tokens_in c) ≡ true = row_some s (ap (λ z. is_place (start z)) name) y.0 in
     (tokens_tree c some, calm_filled s (ap (λ w. is_calm (start w)) name), calm_filled x (sym (ap is_calm g) ∙ (calm_goes q k m live_).0))
 
--- so no error node of a row that stands has an empty node
-pub stands_filled : {p : SyntaxKind} {a : ℕ} {q q' : RowState} {b : AnnotatedForest} {i : ℕ} {us : List Token} {f : AnnotatedForest} {es : List Fault} → Stands p a q q' b i us f es → AreFaultsFilled f
-stands_filled end = tt
-stands_filled (leaf h tight g l c j s) = stands_filled s
-stands_filled (missing_part u x l s z) = stands_filled s
-stands_filled (wrong note ts h v x d j s z) = (subst AreFilled (sym h) (row_filled ts), subst AreFaultsFilled (sym h) (row_faults ts), stands_filled s)
-stands_filled (second v s y o e r d j x z) = (calm_filled s refl, stands_filled s, stands_filled x)
-stands_filled (inner v s y form tight g l d j x z) = (stands_filled s, stands_filled x)
+-- so no error node of a row that is read has an empty node
+pub reads_filled : {p : SyntaxKind} {d n : ℕ} {q q' : RowState} {b : AnnotatedForest} {us : List Token} {f : AnnotatedForest} {es : List Fault} → Reads p d n q q' b us f es → AreFaultsFilled f
+reads_filled end = tt
+reads_filled (leaf h _ _ _ g l c _ s) = reads_filled s
+reads_filled (missing_part u x l _ s z) = reads_filled s
+reads_filled (wrong note ts h v _ _ x d _ s z) = (subst AreFilled (sym h) (row_filled ts), subst AreFaultsFilled (sym h) (row_faults ts), reads_filled s)
+reads_filled (second v s _ y e r d x z) = (calm_filled s refl, reads_filled s, reads_filled x)
+reads_filled (inner v _ s _ y _ _ _ _ g l d x z) = (reads_filled s, reads_filled x)
 
 -- an error node begins with a token, or at least has some, unless it is what is too deep
 abbrev pub HasTokens : Note → AnnotatedForest → Type 0
@@ -145,53 +145,39 @@ AreMarked (token k t f) = AreMarked f
 AreMarked (branch k c f) = (is_error_node k ≡ false) × AreMarked c × AreMarked f
 AreMarked (fault n c f) = HasTokens n c × AreMarked c × AreMarked f
 
--- what is beside an error node
-beside_some : (p : SyntaxKind) (a : ℕ) (q r : RowState) (b : AnnotatedForest) (i : ℕ) (n : Note) (ts us : List Token) → IsBeside n p a q r b i ts us → HasTokens n (row_of ts)
-beside_some p a q r b i TooDeep ts us h = tt
-beside_some p a q r b i Stray (t ∷ ts) us h = refl
-beside_some p a q r b i (Unwanted until) (t ∷ ts) us h = refl
-beside_some p a q r b i Extra (t ∷ ts) us h = refl
-beside_some p a q r b i _ _ us h = absurd h
+-- of what an error node is
+wrong_some : (note : Note) (d : ℕ) (q r : RowState) (ts vs : List Token) → IsWrong note d q r ts vs → HasTokens note (row_of ts)
+wrong_some TooDeep d q r ts vs w = tt
+wrong_some Stray d q r [] vs w = absurd (cc)
+wrong_some Stray d q r (t ∷ ts) vs w = refl
+wrong_some (Unwanted until) d q r [] vs w = absurd (true_is_not_false (sym w.0))
+wrong_some (Unwanted until) d q r (t ∷ ts) vs w = refl
+wrong_some Extra d q r [] vs w = absurd (true_is_not_false (sym w.0))
+wrong_some Extra d q r (t ∷ ts) vs w = refl
+wrong_some Twice d q r ts vs w = absurd w
 
 -- leaves alone
 marked-row_of : (ts : List Token) → AreMarked (row_of ts)
 marked-row_of [] = tt
 marked-row_of (t ∷ ts) = marked-row_of ts
 
--- a second name has tokens
-second_some : {c : AnnotatedForest} → Opening NODE_ERROR SecondStart blank c → is_some (tokens_in c) ≡ true
-second_some (by_token e op l) = refl
-second_some (by_branch {k = k} {c = c} row lev l more) = absurd (by k l row)
-  where
-    by : (k : SyntaxKind) → live (advance SecondStart k) ≡ true → HasRow k (start k) blank c → ⊥
-    by TOKEN_AT l row = no_row TOKEN_AT refl row
-    by _ l row = true_is_not_false (sym l)
-second_some (by_fault e l more) = absurd (true_is_not_false (sym l))
-
--- an error node without a note has no row
-no_error : {c : AnnotatedForest} → Opening NODE_ERROR (Start NODE_ERROR) blank c → ⊥
-no_error (by_token e op l) = true_is_not_false (sym l)
-no_error (by_branch row lev l more) = true_is_not_false (sym l)
-no_error (by_fault e l more) = true_is_not_false (sym l)
-
-not_error : (k : SyntaxKind) {a : ℕ} {x : Place} {c : AnnotatedForest} {i : ℕ} {us : List Token} {es : List Fault}
-    → Stands k a (start k) (At x) blank i us c es → is_error_node k ≡ false
-not_error NODE_ERROR {x = x} s = absurd (no_error (opening s x refl refl))
-not_error _ s = refl
-
--- a row that stands is marked
-pub stands_marked : {p : SyntaxKind} {a : ℕ} {q q' : RowState} {b : AnnotatedForest} {i : ℕ} {us : List Token} {f : AnnotatedForest} {es : List Fault}
-    → Stands p a q q' b i us f es → AreMarked f
-stands_marked end = tt
-stands_marked (leaf h tight g l c j s) = stands_marked s
-stands_marked (missing_part u n l s z) = stands_marked s
-stands_marked {p = p} {a = a} {q = q} {b = b} {i = i} (wrong {r = r} {vs = vs} n ts h v w d j s z) = (
-  subst (HasTokens n) (sym h) (beside_some p a q r b i n ts vs w),
+-- a row that is read is marked
+pub reads_marked : {p : SyntaxKind} {d n : ℕ} {q q' : RowState} {b : AnnotatedForest} {us : List Token} {f : AnnotatedForest} {es : List Fault}
+    → Reads p d n q q' b us f es → AreMarked f
+reads_marked end = tt
+reads_marked (leaf h _ _ _ g l c _ s) = reads_marked s
+reads_marked (missing_part u n l _ s z) = reads_marked s
+reads_marked {d = d₀} {q = q} (wrong {r = r} {vs = vs} n ts h v _ _ w d _ s z) = (
+  subst (HasTokens n) (sym h) (wrong_some n d₀ q r ts vs w),
   subst AreMarked (sym h) (marked-row_of ts),
-  stands_marked s,
+  reads_marked s,
 )
-stands_marked (second {x = x} v s w p q r d j z o) = (second_some (opening s x refl refl), stands_marked s, stands_marked z)
-stands_marked (inner {k = k} v s w form tight h l d j z o) = (not_error k s, stands_marked s, stands_marked z)
+reads_marked (second v s _ w q r d z o) = (row_some s refl w.0, reads_marked s, reads_marked z)
+reads_marked (inner {k = k} v _ s _ w _ _ _ _ h l d z o) = (
+  not_if (is_error_node k) (implied has_row (λ j. if is_error_node j then false else true) refl k (reads_row k s refl w.0)),
+  reads_marked s,
+  reads_marked z,
+)
 
 -- some items are some tokens
 some_tokens : (ts : List Token) → is_some (items ts) ≡ true → is_some ts ≡ true
