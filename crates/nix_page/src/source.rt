@@ -6,49 +6,91 @@ use rnix::{NodeOrToken, Parse, TextRange};
 use std::alloc::Global;
 use std::io::{self, Write};
 
-// Begins a span, marked with an error if there is one.
-fn open_span<W: Write>(class: &str, error: Option<&Diagnostic>, out: &mut W) -> io::Result<()> {
-    write!(out, "<span class=\"{class}")?;
-    if let Some(error) = error {
-        out.write_all(b" error\" title=\"")?;
-        write_text(error.message.as_str(), out)?;
-    }
+// Begins a span with the message of an error, and leaves its tag open.
+fn open_span<W: Write>(class: &str, error: &Diagnostic, out: &mut W) -> io::Result<()> {
+    write!(out, "<span class=\"{class}\" title=\"")?;
+    write_text(error.message.as_str(), out)?;
     out.write_all(b"\"")
 }
 
-// Marks a place with the first error for which something is missing there.
-fn write_missing<W: Write>(offset: usize, found: &[Diagnostic], out: &mut W) -> io::Result<()> {
-    let place = TextRange::empty(offset);
-    if let Some(error) = found.iter().find(|error| error.range == place) {
-        open_span("missing", Some(error), out)?;
-        write_range(place, out)?;
-        out.write_all(b"</span>")?;
-    }
-    Ok(())
+// The errors of a text, in the order of their places, while its tokens are written.
+#[derive(Drop)]
+struct Errors<'a> {
+    // Those that begin at the next token or later.
+    ahead: &'a [Diagnostic],
+    // Where those end that have begun and not ended, the innermost last.
+    open: Vec<usize>,
 }
 
-// Writes the tokens, each marked with the first error that it belongs to.
-fn write_tokens<W: Write>(read: &Parse, found: &[Diagnostic], out: &mut W) -> io::Result<()> {
+impl<'a> Errors<'a> {
+    // Ends the spans of the errors that lie before an offset.
+    fn close<W: Write>(&mut self, offset: usize, out: &mut W) -> io::Result<()> {
+        let ends = self.open.iter().rev();
+        let closed = ends.take_while(|end| **end <= offset).count();
+        for _span in 0..closed {
+            out.write_all(b"</span>")?;
+        }
+        self.open.truncate(self.open.len().saturating_sub(closed));
+        Ok(())
+    }
+
+    // Begins the spans of the errors that begin at an offset, each with its message. Of those for which something is missing there, the
+    // first is shown.
+    fn open<W: Write>(&mut self, offset: usize, out: &mut W) -> io::Result<()> {
+        let begun = self
+            .ahead
+            .iter()
+            .take_while(|error| error.range.start() <= offset)
+            .count();
+        let (here, ahead) = self.ahead.split_at(begun);
+        self.ahead = ahead;
+        if let Some(missing) = here.iter().find(|error| error.range.is_empty()) {
+            open_span("missing error", missing, out)?;
+            write_range(missing.range, out)?;
+            out.write_all(b"</span>")?;
+        }
+        for error in here.iter().filter(|error| !error.range.is_empty()) {
+            open_span("error", error, out)?;
+            out.write_all(b">")?;
+            self.open.push(error.range.end())?;
+        }
+        Ok(())
+    }
+}
+
+// Writes the tokens, with a span around those of each error.
+fn write_tokens<W: Write>(read: &Parse, errors: &mut Errors<'_>, out: &mut W) -> io::Result<()> {
     let root = read.syntax();
     for element in root.descendants_with_tokens() {
         if let NodeOrToken::Token(token) = element {
             let range = token.text_range();
-            let error = found.iter().find(|error| error.range.contains_range(range));
-            write_missing(range.start(), found, out)?;
-            open_span(token.kind().name(), error, out)?;
+            errors.close(range.start(), out)?;
+            errors.open(range.start(), out)?;
+            let class = token.kind().name();
+            write!(out, "<span class=\"{class}\"")?;
             write_range(range, out)?;
             write_text(token.text(), out)?;
             out.write_all(b"</span>")?;
         }
     }
-    write_missing(root.text_range().end(), found, out)
+    errors.close(root.text_range().end(), out)?;
+    errors.open(root.text_range().end(), out)
 }
 
-/// Writes the tokens of a text, and then its errors.
+/// Writes the tokens of a text, and then its errors in the order of their places. Each message is written twice, however many tokens it is of.
 pub fn write_source<W: Write>(alloc: Global, read: &Parse, out: &mut W) -> io::Result<()> {
-    let found = diagnostics(alloc, read)?;
+    let mut found = diagnostics(alloc, read)?;
+    // Of two that begin at one place, the longer one is around the other.
+    found.sort_by_key(|error| (
+        error.range.start(),
+        usize::MAX.saturating_sub(error.range.end()),
+    ))?;
     out.write_all(b"<main>\n<pre id=\"source\">")?;
-    write_tokens(read, &found, out)?;
+    let mut errors = Errors {
+        ahead: &found,
+        open: Vec::new(alloc),
+    };
+    write_tokens(read, &mut errors, out)?;
     out.write_all(b"</pre>\n<ul id=\"errors\">\n")?;
     for Diagnostic { range, message } in &found {
         out.write_all(b"<li")?;

@@ -22,8 +22,8 @@ details > div { padding-left: 2em }
 #errors { color: #cf222e }
 .TOKEN_COMMENT { color: #57606a; font-style: italic }
 .trivia { color: #57606a }
-.error, .TOKEN_ERROR { text-decoration: underline wavy #cf222e; text-decoration-skip-ink: none }
-.TOKEN_WHITESPACE { text-decoration: none }
+.error > [data-start], .missing, .TOKEN_ERROR { text-decoration: underline wavy #cf222e; text-decoration-skip-ink: none }
+.error > .TOKEN_WHITESPACE { text-decoration: none }
 .missing::after { content: '\\a0' }
 .marked { background: #fff1a8 }
 </style>
