@@ -3,14 +3,20 @@
 ghost use Rattle.std.specs.Prelude.{◌≡◌, ◌+◌, ◌/◌, ◌%◌, ◌<◌, ◌≤◌, ◌∷◌, ◌++◌, length, drop};
 ghost use Rattle.std.specs.Fmt.{decimal};
 
+// The two digits of each number below 100, in order.
+static PAIRS: [u8; 200] =
+    *b"00010203040506070809101112131415161718192021222324252627282930313233343536373839404142434445464748495051525354555657585960616263646566676869707172737475767778798081828384858687888990919293949596979899";
+
 // Writes two digits.
 #[inline(always)]
 fn write_pair(pair: u64, bytes: &mut [u8], at: usize)
     requires { (pair < 100) × (at + 2 ≤ length bytes.old) }
     ensures { drop at bytes.new ≡ (48 + pair / 10) ∷ (48 + pair % 10) ∷ drop (at + 2) bytes.old }
 {
-    bytes[at] = b'0' + (pair / 10) as u8;
-    bytes[at + 1] = b'0' + (pair % 10) as u8;
+    let from = pair as usize * 2;
+    let (tens, ones) = (PAIRS[from], PAIRS[from + 1]);
+    bytes[at] = tens;
+    bytes[at + 1] = ones;
 }
 
 // Writes the one or two digits of a number below 100 so that they end at `end`, and returns where they start.

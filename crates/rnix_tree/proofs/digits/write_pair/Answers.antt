@@ -1,12 +1,17 @@
-use Rattle.std.proofs.{Common.{◌≡◌, ◌+◌, ◌%◌, set, arith, length-set}, lemmas.List.{set_comm, drop-set}}
+use Rattle.std.proofs.Common.{◌≡◌, ◌+◌, ◌%◌, set, arith, length-set}
+use Rattle.std.proofs.lemmas.List.{set_comm, drop-set}
+use Rattle.rnix_tree.proofs.DigitLemmas.{pairs_at}
 use Rattle.rnix_tree.proofs.digits.write_pair.Goals as goal
 
 pub returns : goal.returns
 returns c =
+    let pair = pairs_at c.args.pair c.requires.0 in
     let at = c.args.at in
     let bytes = c.args.bytes.now in
     let e : at + 1 + 1 ≡ at + 2 = omega arith in
     rw (
+      pair.0,
+      pair.1,
       set_comm bytes at (at + 1) _ _ (λ x. omega arith),
       drop-set (set bytes (at + 1) (48 + c.args.pair % 10)) at _ (omega (arith, length-set bytes (at + 1) (48 + c.args.pair % 10))),
       drop-set bytes (at + 1) _ (omega arith),
