@@ -2,6 +2,7 @@
 #![tactic(auto)]
 
 pub mod ast;
+pub mod laws;
 mod root;
 mod whole;
 

@@ -141,3 +141,19 @@ fn comments_say_what_they_say(rt: HostRuntime) -> Result<(), Fail> {
     assert_eq!(rt; comments_in(rt.alloc(), text)?.as_str(), wanted);
     Ok(())
 }
+
+// What is printed of the expression of a text for debugging.
+fn expression_debugged(alloc: Global, text: &str) -> Result<String, AllocError> {
+    let read = Root::parse(alloc, text)?;
+    match read.tree().expr() {
+        Some(expr) => format!(in alloc; "{expr:?}"),
+        None => Ok(String::new(alloc)),
+    }
+}
+
+#[test]
+fn a_debug_print_names_the_type(rt: HostRuntime) -> Result<(), Fail> {
+    let printed = expression_debugged(rt.alloc(), "let in a")?;
+    assert!(rt; printed.as_str() == "LetIn(LetIn { syntax: NODE_LET_IN@0..8 })");
+    Ok(())
+}

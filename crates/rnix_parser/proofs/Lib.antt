@@ -2,3 +2,4 @@ pub mod ParsedLemmas
 pub mod Found
 pub mod OneReading
 pub mod Witnesses
+pub mod SignificantTrees

@@ -1,1 +1,2 @@
+pub mod Significant
 pub mod Laws

@@ -1,14 +1,41 @@
 //! Derivations of the strict grammar.
 
+ghost use Rattle.std.specs.Prelude.{◌≡◌, ◌≤◌, ◌↔◌, true, []};
+ghost use Rattle.rnix_kinds.specs.declared.kinds.SyntaxKind.TheVariants.{NODE_ROOT};
 ghost use Rattle.rnix_kinds.specs.Lexical.Tokens.{tokens_of};
+ghost use Rattle.rnix_green.specs.Forest.{Forest};
 ghost use Rattle.rnix_grammar.specs.AnnotatedForest.{placed_from};
+ghost use Rattle.rnix_grammar.specs.Corners.{has_no_corner};
+ghost use Rattle.rnix_grammar.specs.Derivation.{laid, IsDerivation};
+ghost use Rattle.rnix_grammar.specs.Grammar.{IsExpression};
 ghost use Rattle.rnix_grammar.specs.Layout.{items};
-ghost use Rattle.rnix_parser.specs.Laws.{HaveOneDerivation};
+ghost use Rattle.rnix_grammar.specs.Nest.{nest};
+ghost use Rattle.rnix_grammar.specs.Plain.{ArePaths};
+ghost use Rattle.rnix_grammar.specs.Tables.{depth_limit};
+ghost use Rattle.rnix_parser.specs.Laws.{HaveOneDerivation, OfParsed};
+ghost use Rattle.rnix_parser.specs.Significant.{significant};
 
 /// A text has one derivation at most: two strict trees of its items, neither nested deeper than the limit, each path with all the pieces that
 /// touch it, are equal.
 pub fn one_derivation(text: &str)
     ensures { HaveOneDerivation (items (placed_from 0 (tokens_of text.now))) }
+{
+    let _len = text.len();
+}
+
+/// The tree that a text is parsed to, without its trivia, as a derivation of the text's items. A derivation is found: then there are no errors, and
+/// this tree is it. Without errors it is nested no deeper than the limit, and is an expression of the strict grammar unless it uses one of the
+/// extensions that are accepted beyond it; it is a derivation exactly if, besides, the pieces of its paths touch.
+pub fn tree_derivation(text: &str)
+    ensures found { OfParsed text.now (λ tree faults. (d : Forest) → IsDerivation d (items (placed_from 0 (tokens_of text.now)))
+        → (faults ≡ []) × (significant tree.children ≡ d)) }
+    ensures nested { OfParsed text.now (λ tree faults. faults ≡ [] → nest NODE_ROOT (significant tree.children) ≤ depth_limit) }
+    ensures strict { OfParsed text.now (λ tree faults. faults ≡ [] → has_no_corner NODE_ROOT (significant tree.children) ≡ true
+        → IsExpression (significant tree.children)) }
+    ensures exactly { OfParsed text.now (λ tree faults.
+        ((faults ≡ []) × (has_no_corner NODE_ROOT (significant tree.children) ≡ true)
+            × ArePaths (laid (significant tree.children) (items (placed_from 0 (tokens_of text.now)))) [])
+        ↔ IsDerivation (significant tree.children) (items (placed_from 0 (tokens_of text.now)))) }
 {
     let _len = text.len();
 }

@@ -6,7 +6,7 @@ mod parsing;
 mod ranges;
 mod readings;
 
-pub use derivation::one_derivation;
+pub use derivation::{one_derivation, tree_derivation};
 pub use parsing::parse;
 pub use ranges::ranges_of_errors;
 pub use readings::{all_follows, error_forms, has_reading, one_reading, one_text, tree_text};

@@ -21,6 +21,8 @@ impl NodeType for pointee::IfElse {
     ghost KIND = { k.NODE_IF_ELSE };
 
     const KIND: SyntaxKind = SyntaxKind::NODE_IF_ELSE;
+
+    const NAME: &'static str = "IfElse";
 }
 
 impl<'t> IfElse<'t> {
@@ -77,6 +79,8 @@ impl NodeType for pointee::Assert {
     ghost KIND = { k.NODE_ASSERT };
 
     const KIND: SyntaxKind = SyntaxKind::NODE_ASSERT;
+
+    const NAME: &'static str = "Assert";
 }
 
 impl<'t> Assert<'t> {
@@ -112,6 +116,8 @@ impl NodeType for pointee::With {
     ghost KIND = { k.NODE_WITH };
 
     const KIND: SyntaxKind = SyntaxKind::NODE_WITH;
+
+    const NAME: &'static str = "With";
 }
 
 impl<'t> With<'t> {

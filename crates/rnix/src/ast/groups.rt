@@ -21,6 +21,8 @@ impl NodeType for pointee::Paren {
     ghost KIND = { k.NODE_PAREN };
 
     const KIND: SyntaxKind = SyntaxKind::NODE_PAREN;
+
+    const NAME: &'static str = "Paren";
 }
 
 impl<'t> Paren<'t> {
@@ -56,6 +58,8 @@ impl NodeType for pointee::List {
     ghost KIND = { k.NODE_LIST };
 
     const KIND: SyntaxKind = SyntaxKind::NODE_LIST;
+
+    const NAME: &'static str = "List";
 }
 
 impl<'t> List<'t> {
@@ -92,6 +96,8 @@ impl NodeType for pointee::Root {
     ghost KIND = { k.NODE_ROOT };
 
     const KIND: SyntaxKind = SyntaxKind::NODE_ROOT;
+
+    const NAME: &'static str = "Root";
 }
 
 impl<'t> Root<'t> {
@@ -113,6 +119,8 @@ impl NodeType for pointee::Error {
     ghost KIND = { k.NODE_ERROR };
 
     const KIND: SyntaxKind = SyntaxKind::NODE_ERROR;
+
+    const NAME: &'static str = "Error";
 }
 
 impl<'t> Error<'t> {

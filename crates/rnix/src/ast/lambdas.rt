@@ -23,6 +23,8 @@ impl NodeType for pointee::Lambda {
     ghost KIND = { k.NODE_LAMBDA };
 
     const KIND: SyntaxKind = SyntaxKind::NODE_LAMBDA;
+
+    const NAME: &'static str = "Lambda";
 }
 
 impl<'t> Lambda<'t> {
@@ -58,6 +60,8 @@ impl NodeType for pointee::IdentParam {
     ghost KIND = { k.NODE_IDENT_PARAM };
 
     const KIND: SyntaxKind = SyntaxKind::NODE_IDENT_PARAM;
+
+    const NAME: &'static str = "IdentParam";
 }
 
 impl<'t> IdentParam<'t> {

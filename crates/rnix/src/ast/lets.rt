@@ -21,6 +21,8 @@ impl NodeType for pointee::LetIn {
     ghost KIND = { k.NODE_LET_IN };
 
     const KIND: SyntaxKind = SyntaxKind::NODE_LET_IN;
+
+    const NAME: &'static str = "LetIn";
 }
 
 impl<'t> LetIn<'t> {
@@ -56,6 +58,8 @@ impl NodeType for pointee::LegacyLet {
     ghost KIND = { k.NODE_LEGACY_LET };
 
     const KIND: SyntaxKind = SyntaxKind::NODE_LEGACY_LET;
+
+    const NAME: &'static str = "LegacyLet";
 }
 
 impl<'t> LegacyLet<'t> {

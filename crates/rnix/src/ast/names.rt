@@ -22,6 +22,8 @@ impl NodeType for pointee::Ident {
     ghost KIND = { k.NODE_IDENT };
 
     const KIND: SyntaxKind = SyntaxKind::NODE_IDENT;
+
+    const NAME: &'static str = "Ident";
 }
 
 impl<'t> Ident<'t> {
@@ -43,6 +45,8 @@ impl NodeType for pointee::Attrpath {
     ghost KIND = { k.NODE_ATTRPATH };
 
     const KIND: SyntaxKind = SyntaxKind::NODE_ATTRPATH;
+
+    const NAME: &'static str = "Attrpath";
 }
 
 impl<'t> Attrpath<'t> {
@@ -65,6 +69,8 @@ impl NodeType for pointee::Dynamic {
     ghost KIND = { k.NODE_DYNAMIC };
 
     const KIND: SyntaxKind = SyntaxKind::NODE_DYNAMIC;
+
+    const NAME: &'static str = "Dynamic";
 }
 
 impl<'t> Dynamic<'t> {
@@ -100,6 +106,8 @@ impl NodeType for pointee::CurPos {
     ghost KIND = { k.NODE_CUR_POS };
 
     const KIND: SyntaxKind = SyntaxKind::NODE_CUR_POS;
+
+    const NAME: &'static str = "CurPos";
 }
 
 impl<'t> CurPos<'t> {

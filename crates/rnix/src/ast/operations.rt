@@ -21,6 +21,8 @@ impl NodeType for pointee::Apply {
     ghost KIND = { k.NODE_APPLY };
 
     const KIND: SyntaxKind = SyntaxKind::NODE_APPLY;
+
+    const NAME: &'static str = "Apply";
 }
 
 impl<'t> Apply<'t> {
@@ -49,6 +51,8 @@ impl NodeType for pointee::BinOp {
     ghost KIND = { k.NODE_BIN_OP };
 
     const KIND: SyntaxKind = SyntaxKind::NODE_BIN_OP;
+
+    const NAME: &'static str = "BinOp";
 }
 
 impl<'t> BinOp<'t> {
@@ -84,6 +88,8 @@ impl NodeType for pointee::UnaryOp {
     ghost KIND = { k.NODE_UNARY_OP };
 
     const KIND: SyntaxKind = SyntaxKind::NODE_UNARY_OP;
+
+    const NAME: &'static str = "UnaryOp";
 }
 
 impl<'t> UnaryOp<'t> {

@@ -17,6 +17,8 @@ impl NodeType for pointee::PathAbs {
     ghost KIND = { k.NODE_PATH_ABS };
 
     const KIND: SyntaxKind = SyntaxKind::NODE_PATH_ABS;
+
+    const NAME: &'static str = "PathAbs";
 }
 
 impl<'t> PathAbs<'t> {
@@ -31,6 +33,8 @@ impl NodeType for pointee::PathRel {
     ghost KIND = { k.NODE_PATH_REL };
 
     const KIND: SyntaxKind = SyntaxKind::NODE_PATH_REL;
+
+    const NAME: &'static str = "PathRel";
 }
 
 impl<'t> PathRel<'t> {
@@ -45,6 +49,8 @@ impl NodeType for pointee::PathHome {
     ghost KIND = { k.NODE_PATH_HOME };
 
     const KIND: SyntaxKind = SyntaxKind::NODE_PATH_HOME;
+
+    const NAME: &'static str = "PathHome";
 }
 
 impl<'t> PathHome<'t> {
@@ -59,6 +65,8 @@ impl NodeType for pointee::PathSearch {
     ghost KIND = { k.NODE_PATH_SEARCH };
 
     const KIND: SyntaxKind = SyntaxKind::NODE_PATH_SEARCH;
+
+    const NAME: &'static str = "PathSearch";
 }
 
 impl<'t> PathSearch<'t> {

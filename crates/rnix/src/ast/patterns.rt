@@ -22,6 +22,8 @@ impl NodeType for pointee::Pattern {
     ghost KIND = { k.NODE_PATTERN };
 
     const KIND: SyntaxKind = SyntaxKind::NODE_PATTERN;
+
+    const NAME: &'static str = "Pattern";
 }
 
 impl<'t> Pattern<'t> {
@@ -65,6 +67,8 @@ impl NodeType for pointee::PatEntry {
     ghost KIND = { k.NODE_PAT_ENTRY };
 
     const KIND: SyntaxKind = SyntaxKind::NODE_PAT_ENTRY;
+
+    const NAME: &'static str = "PatEntry";
 }
 
 impl<'t> PatEntry<'t> {
@@ -100,6 +104,8 @@ impl NodeType for pointee::PatBind {
     ghost KIND = { k.NODE_PAT_BIND };
 
     const KIND: SyntaxKind = SyntaxKind::NODE_PAT_BIND;
+
+    const NAME: &'static str = "PatBind";
 }
 
 impl<'t> PatBind<'t> {

@@ -22,6 +22,8 @@ impl NodeType for pointee::Select {
     ghost KIND = { k.NODE_SELECT };
 
     const KIND: SyntaxKind = SyntaxKind::NODE_SELECT;
+
+    const NAME: &'static str = "Select";
 }
 
 impl<'t> Select<'t> {
@@ -71,6 +73,8 @@ impl NodeType for pointee::HasAttr {
     ghost KIND = { k.NODE_HAS_ATTR };
 
     const KIND: SyntaxKind = SyntaxKind::NODE_HAS_ATTR;
+
+    const NAME: &'static str = "HasAttr";
 }
 
 impl<'t> HasAttr<'t> {

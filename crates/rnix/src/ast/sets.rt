@@ -23,6 +23,8 @@ impl NodeType for pointee::AttrSet {
     ghost KIND = { k.NODE_ATTR_SET };
 
     const KIND: SyntaxKind = SyntaxKind::NODE_ATTR_SET;
+
+    const NAME: &'static str = "AttrSet";
 }
 
 impl<'t> AttrSet<'t> {
@@ -58,6 +60,8 @@ impl NodeType for pointee::AttrpathValue {
     ghost KIND = { k.NODE_ATTRPATH_VALUE };
 
     const KIND: SyntaxKind = SyntaxKind::NODE_ATTRPATH_VALUE;
+
+    const NAME: &'static str = "AttrpathValue";
 }
 
 impl<'t> AttrpathValue<'t> {
@@ -93,6 +97,8 @@ impl NodeType for pointee::Inherit {
     ghost KIND = { k.NODE_INHERIT };
 
     const KIND: SyntaxKind = SyntaxKind::NODE_INHERIT;
+
+    const NAME: &'static str = "Inherit";
 }
 
 impl<'t> Inherit<'t> {
@@ -129,6 +135,8 @@ impl NodeType for pointee::InheritFrom {
     ghost KIND = { k.NODE_INHERIT_FROM };
 
     const KIND: SyntaxKind = SyntaxKind::NODE_INHERIT_FROM;
+
+    const NAME: &'static str = "InheritFrom";
 }
 
 impl<'t> InheritFrom<'t> {

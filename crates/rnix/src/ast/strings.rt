@@ -20,6 +20,8 @@ impl NodeType for pointee::Str {
     ghost KIND = { k.NODE_STRING };
 
     const KIND: SyntaxKind = SyntaxKind::NODE_STRING;
+
+    const NAME: &'static str = "Str";
 }
 
 impl<'t> Str<'t> {
@@ -34,6 +36,8 @@ impl NodeType for pointee::Interpol {
     ghost KIND = { k.NODE_INTERPOL };
 
     const KIND: SyntaxKind = SyntaxKind::NODE_INTERPOL;
+
+    const NAME: &'static str = "Interpol";
 }
 
 impl<'t> Interpol<'t> {
@@ -55,6 +59,8 @@ impl NodeType for pointee::Literal {
     ghost KIND = { k.NODE_LITERAL };
 
     const KIND: SyntaxKind = SyntaxKind::NODE_LITERAL;
+
+    const NAME: &'static str = "Literal";
 }
 
 impl<'t> Literal<'t> {

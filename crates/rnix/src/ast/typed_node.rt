@@ -17,11 +17,14 @@ pub trait NodeType: Drop {
 
     /// The kind.
     const KIND: SyntaxKind;
+
+    /// The name of the type of these nodes, as `{:?}` prints it.
+    const NAME: &'static str;
 }
 
 /// A node of one kind. `LetIn` and the like are its names at each kind.
 #[derive(Drop)]
-#[derive_where(Clone, Debug, PartialEq, Eq, Hash)]
+#[derive_where(Clone, PartialEq, Eq, Hash)]
 pub struct TypedNode<'t, K: NodeType> {
     pub(crate) syntax: SyntaxNode<'t>,
     of: PhantomData<K>,
@@ -81,6 +84,12 @@ impl<'t, K: NodeType> fmt::Display for TypedNode<'t, K> {
 
     fn fmt<W: fmt::Write>(&self, f: &mut fmt::Formatter<W>) -> fmt::Result {
         f.write_str(self.syntax.text())
+    }
+}
+
+impl<'t, K: NodeType> fmt::Debug for TypedNode<'t, K> {
+    fn fmt<W: fmt::Write>(&self, f: &mut fmt::Formatter<W>) -> fmt::Result {
+        f.debug_struct(K::NAME).field("syntax", &self.syntax).finish()
     }
 }
 

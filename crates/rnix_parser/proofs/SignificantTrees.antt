@@ -1,0 +1,92 @@
+-- The tree of a text, without its trivia, is what its items are read as.
+use Rattle.std.proofs.Common.{◌≡◌, ◌↔◌, ◌≤◌, Bool, true, false, List, [], refl, ap, sym, ◌∙◌, subst}
+use Rattle.std.proofs.lemmas.Bool.{and_parts as and_both}
+use Rattle.rnix_kinds.specs.declared.kinds.SyntaxKind.{SyntaxKind, TheVariants.{TOKEN_CUR_POS, TOKEN_IDENT, TOKEN_OR, NODE_CUR_POS, NODE_ERROR, NODE_IDENT, NODE_ROOT}}
+use Rattle.rnix_kinds.specs.{Lexical.Tokens.Lexeme, SyntaxKind.is_trivia}
+use Rattle.rnix_green.specs.{Forest.{Forest, node}, Tree.Tree}
+use Rattle.rnix_grammar.specs.AnnotatedForest.{Token, AnnotatedForest, blank, token, branch, fault, forget, without_trivia, token_if, placed_from, leaf_kind_as, HaveLeafKinds}
+use Rattle.rnix_grammar.specs.{Corners.has_no_corner, Derivation.{laid, has_tokens_alone, IsDerivation}, Fault.Fault, Grammar.IsExpression, Layout.items, Nest.nest}
+use Rattle.rnix_grammar.specs.{Parsed.IsParsed, Plain.ArePaths, Repaired.{repaired, ended_count}, Named.{is_repeated, Lacks}, Strict.is_strict_expression, Tables.depth_limit}
+use Rattle.rnix_rows.proofs.{Exactly.laid_same, ReadsShapes.{AreBareRows, repaired_none, whole_rows}, WithTriviaWhole.without_trivia_items}
+use Rattle.rnix_strict.proofs.GrammarStrict.{expression_strict}
+use Rattle.rnix_soundness.proofs.StrictCorners.{strict_no_corner}
+use Rattle.rnix_proof_rules.proofs.ReadsAlike.{whole_old}
+use Rattle.rnix_parser.specs.Significant.{leaf_unless, significant}
+
+-- a leaf is trivia exactly if its token is
+leaf_trivia : (q k : SyntaxKind) → is_trivia (leaf_kind_as q k) ≡ is_trivia k
+leaf_trivia NODE_IDENT TOKEN_OR = refl
+leaf_trivia NODE_IDENT TOKEN_CUR_POS = refl
+leaf_trivia NODE_CUR_POS TOKEN_IDENT = refl
+leaf_trivia _ _ = refl
+
+-- a token that stands unless it is trivia is such a leaf
+forget_token_if : (b : Bool) (k : SyntaxKind) (t : Token) (f : AnnotatedForest) → forget (token_if b k t f) ≡ leaf_unless b k t.text (forget f)
+forget_token_if true k t f = refl
+forget_token_if false k t f = refl
+
+-- trivia may be left out before or after the annotations are
+significant_forget : (q : SyntaxKind) (f : AnnotatedForest) → HaveLeafKinds q f → significant (forget f) ≡ forget (without_trivia f)
+significant_forget q blank h = refl
+significant_forget q (token k t f) h =
+    ap (λ b. leaf_unless b k t.text (significant (forget f))) (ap is_trivia h.0 ∙ leaf_trivia q t.kind)
+    ∙ ap (leaf_unless (is_trivia t.kind) k t.text) (significant_forget q f h.1) ∙ sym (forget_token_if (is_trivia t.kind) k t (without_trivia f))
+significant_forget q (branch k c f) h =
+    ap (λ z. node k z (significant (forget f))) (significant_forget k c h.0) ∙ ap (node k (forget (without_trivia c))) (significant_forget q f h.1)
+significant_forget q (fault n c f) h =
+    ap (λ z. node NODE_ERROR z (significant (forget f))) (significant_forget NODE_ERROR c h.0) ∙ ap (node NODE_ERROR (forget (without_trivia c))) (significant_forget q f h.1)
+
+-- the tree of a text, without its trivia
+pub significant_tree : {ls : List Lexeme} {tree : Tree} {faults : List Fault} (p : IsParsed ls tree faults)
+    → significant tree.children ≡ forget (without_trivia p.reading.annotated)
+significant_tree p = ap (λ (t : Tree). significant t.children) p.reading.tree_is ∙ significant_forget NODE_ROOT p.reading.annotated p.leaf_kind
+
+-- a derivation is found
+pub tree_found : {ls : List Lexeme} {tree : Tree} {faults : List Fault} → IsParsed ls tree faults
+    → (d : Forest) → IsDerivation d (items (placed_from 0 ls)) → (faults ≡ []) × (significant tree.children ≡ d)
+tree_found p d h = let r = p.found d h in (r.0, significant_tree p ∙ r.1)
+
+-- without errors the limit of nesting holds
+pub tree_nested : {ls : List Lexeme} {tree : Tree} {faults : List Fault} → IsParsed ls tree faults
+    → faults ≡ [] → nest NODE_ROOT (significant tree.children) ≤ depth_limit
+tree_nested p h = subst (λ f. nest NODE_ROOT f ≤ depth_limit) (sym (significant_tree p)) (p.nested h)
+
+-- without errors no node is an error node
+bare : {ls : List Lexeme} {tree : Tree} {faults : List Fault} (p : IsParsed ls tree faults) → faults ≡ [] → AreBareRows (without_trivia p.reading.annotated)
+bare {faults = faults} p h =
+    let f = without_trivia p.reading.annotated in
+    ((whole_rows (whole_old f faults p.reading.reads)).0 h).nodes
+
+-- without errors and extensions it is an expression of the strict grammar
+pub tree_strict : {ls : List Lexeme} {tree : Tree} {faults : List Fault} → IsParsed ls tree faults
+    → faults ≡ [] → has_no_corner NODE_ROOT (significant tree.children) ≡ true → IsExpression (significant tree.children)
+tree_strict {tree = tree} p h o =
+    let f = without_trivia p.reading.annotated in
+    let same : repaired f ≡ significant tree.children = repaired_none f (bare p h) ∙ sym (significant_tree p) in
+    subst IsExpression same (p.converse (ap ended_count h) (subst (Lacks is_repeated) (sym h) tt) (ap (has_no_corner NODE_ROOT) same ∙ o))
+
+-- the tree is laid over its items as it was read
+laid_tree : {ls : List Lexeme} {tree : Tree} {faults : List Fault} (p : IsParsed ls tree faults) → faults ≡ []
+    → laid (significant tree.children) (items (placed_from 0 ls)) ≡ without_trivia p.reading.annotated
+laid_tree {ls = ls} p h =
+    let f = without_trivia p.reading.annotated in
+    rw (significant_tree p, without_trivia_items p.reading.annotated (placed_from 0 ls) p.reading.leaves) (laid_same f (bare p h))
+
+-- and is a derivation exactly if there are no errors and no extensions and the pieces of its paths touch
+pub tree_exactly : {ls : List Lexeme} {tree : Tree} {faults : List Fault} → IsParsed ls tree faults
+    → ((faults ≡ []) × (has_no_corner NODE_ROOT (significant tree.children) ≡ true) × ArePaths (laid (significant tree.children) (items (placed_from 0 ls))) [])
+    ↔ IsDerivation (significant tree.children) (items (placed_from 0 ls))
+tree_exactly {ls = ls} {tree = tree} {faults = faults} p = (there, back)
+  where
+    there : (faults ≡ []) × (has_no_corner NODE_ROOT (significant tree.children) ≡ true) × ArePaths (laid (significant tree.children) (items (placed_from 0 ls))) []
+        → IsDerivation (significant tree.children) (items (placed_from 0 ls))
+    there h =
+        let paths = subst (λ f. ArePaths f []) (laid_tree p h.0) h.2 in
+        let d = (p.exactly paths).0 (h.0, ap (has_no_corner NODE_ROOT) (sym (significant_tree p)) ∙ h.1) in
+        subst (λ t. IsDerivation t (items (placed_from 0 ls))) (sym (tree_found p d.0 d.1).1) d.1
+
+    back : IsDerivation (significant tree.children) (items (placed_from 0 ls))
+        → (faults ≡ []) × (has_no_corner NODE_ROOT (significant tree.children) ≡ true) × ArePaths (laid (significant tree.children) (items (placed_from 0 ls))) []
+    back d =
+        let t = significant tree.children in
+        ((tree_found p t d).0, strict_no_corner t (and_both (has_tokens_alone t) (is_strict_expression t) (expression_strict t d.strict)).1, d.joined)
