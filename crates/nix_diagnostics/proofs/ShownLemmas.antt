@@ -1,32 +1,28 @@
--- The ranges that are shown of one error more.
-use Rattle.std.proofs.Common.{◌≡◌, List, [], ◌∷◌, ◌++◌, length, map, sym, subst, ap, refl, arith}
-use Rattle.rnix_green.specs.Range.{Extent}
+-- What shows some errors, and one error more.
+use Rattle.std.proofs.Common.{◌≡◌, List, [], ◌∷◌, ◌++◌, length, map, sym, subst, arith}
+use Rattle.rnix_green.specs.Range.{bounds_of}
+use Rattle.rnix_green.specs.Tree.{Located}
 use Rattle.rnix_grammar.specs.declared.error.ParseError.{ParseError}
 use Rattle.rnix_grammar.specs.Fault.{Fault, fault_of}
 use Rattle.nix_diagnostics.specs.declared.diagnostic.Diagnostic.{Diagnostic}
-use Rattle.nix_diagnostics.specs.Shown.{range_shown, IsShownAt, IsLast, AreShown, none, shown, said}
+use Rattle.nix_diagnostics.specs.Shown.{place_of, IsWorded, IsLastAt, AreShown, none, shown, shared}
 
--- a diagnostic more is a range more
-pub ranges_added : (old : List Diagnostic) (d : Diagnostic) → map range_shown (old ++ d ∷ []) ≡ map range_shown old ++ range_shown d ∷ []
-ranges_added [] d = refl
-ranges_added (o ∷ old) d = ap (λ ranges. range_shown o ∷ ranges) (ranges_added old d)
+-- no diagnostics show no errors
+pub nothing_shown : (root : Located) (errors : List ParseError) (faults : List Fault) (ds : List Diagnostic) → length errors ≡ 0 →
+    map fault_of errors ≡ faults → ds ≡ [] → AreShown root faults ds
+nothing_shown root [] faults ds no_error is no_ds = subst (λ f. AreShown root f ds) is (subst (λ r. AreShown root [] r) (sym no_ds) none)
+nothing_shown root (e ∷ es) faults ds no_error is no_ds = absurd (omega (arith, no_error))
 
--- of no errors no ranges are shown
-pub nothing_shown : (errors : List ParseError) (faults : List Fault) (ranges : List Extent) → length errors ≡ 0 → map fault_of errors ≡ faults →
-    ranges ≡ [] → AreShown faults ranges
-nothing_shown [] faults ranges no_error is no_range = subst (λ f. AreShown f ranges) is (subst (λ r. AreShown [] r) (sym no_range) none)
-nothing_shown (e ∷ es) faults ranges no_error is no_range = absurd (omega (arith, no_error))
+-- one error more is shown by a diagnostic that is added
+pub shown_added : (root : Located) (faults more : List Fault) (ds next : List Diagnostic) (fault : Fault) (d : Diagnostic) → AreShown root faults ds →
+    bounds_of d.range ≡ place_of root fault → IsWorded d → more ≡ faults ++ fault ∷ [] → next ≡ ds ++ d ∷ [] → AreShown root more next
+shown_added root faults more ds next fault d are at worded is added =
+    subst (λ f. AreShown root f next) (sym is)
+    (subst (λ r. AreShown root (faults ++ fault ∷ []) r) (sym added) (shown faults ds fault d are at worded))
 
--- one error more is shown at a range that is added
-pub shown_added : (faults more : List Fault) (ranges next : List Extent) (fault : Fault) (range : Extent) → AreShown faults ranges → IsShownAt fault range →
-    more ≡ faults ++ fault ∷ [] → next ≡ ranges ++ range ∷ [] → AreShown more next
-shown_added faults more ranges next fault range are at is added =
-    subst (λ f. AreShown f next) (sym is) (subst (λ r. AreShown (faults ++ fault ∷ []) r) (sym added) (shown faults ranges fault range are at))
-
--- one error more is shown at the range that stands last
-pub shown_again : (faults more : List Fault) (ranges next : List Extent) (fault : Fault) (range : Extent) → AreShown faults ranges → IsShownAt fault range →
-    more ≡ faults ++ fault ∷ [] → next ≡ ranges → IsLast range ranges → AreShown more next
-shown_again faults more ranges next fault range are at is same last =
-    subst (λ f. AreShown f next) (sym is) (subst (λ r. AreShown (faults ++ fault ∷ []) r) (sym same)
-    (subst (λ r. AreShown (faults ++ fault ∷ []) r) (sym last.is)
-    (said faults last.front fault range (subst (λ r. AreShown faults r) last.is are) at)))
+-- one error more is shown by the last diagnostic
+pub shown_again : (root : Located) (faults more : List Fault) (ds next : List Diagnostic) (fault : Fault) → AreShown root faults ds →
+    IsLastAt (place_of root fault) ds → more ≡ faults ++ fault ∷ [] → next ≡ ds → AreShown root more next
+shown_again root faults more ds next fault are last is same =
+    subst (λ f. AreShown root f next) (sym is)
+    (subst (λ r. AreShown root (faults ++ fault ∷ []) r) (sym same) (shared faults ds fault are last))

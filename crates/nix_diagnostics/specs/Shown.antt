@@ -1,27 +1,62 @@
--- At which ranges the errors of a text are shown.
-use Rattle.std.specs.Prelude.{◌≡◌, List, [], ◌∷◌, ◌++◌, Some}
+-- Where the errors of a text have to be shown, and how a list of diagnostics shows them.
+use Rattle.std.specs.Prelude.{◌≡◌, ℕ, ◌-◌, ◌<◌, ◌==◌, ◌&&◌, Bool, List, [], ◌∷◌, ◌++◌, length, slice_get, find, Option, Some, None, option_map, string_bytes, if◌then◌else◌}
+use Rattle.rnix_kinds.specs.SyntaxKind.{is_trivia}
 use Rattle.rnix_green.specs.Range.{Extent, bounds_of}
-use Rattle.rnix_grammar.specs.Fault.{Fault}
-use Rattle.rnix_grammar.specs.Ranges.{range_in}
+use Rattle.rnix_green.specs.Tree.{Located, item_of, extent_of}
+use Rattle.rnix_green.specs.Walk.{Spot, elements_of, nodes_in}
+use Rattle.rnix_grammar.specs.Fault.{Fault, too_deep}
+use Rattle.rnix_grammar.specs.Ranges.{range_in, is_error_node}
 use Rattle.nix_diagnostics.specs.declared.diagnostic.Diagnostic.{Diagnostic}
 
--- the range of a diagnostic
-abbrev pub range_shown : Diagnostic → Extent
-range_shown d = bounds_of d.range
+-- the end of a token that is not trivia, and else the end so far
+abbrev pub end_after : ℕ → Spot → ℕ
+end_after end spot = if spot.0 then end else (if is_trivia (item_of spot.1).kind then end else (item_of spot.1).end)
 
--- an error that has a range is shown there
-abbrev pub IsShownAt : Fault → Extent → Type 0
-IsShownAt fault range = (own : Extent) → range_in fault ≡ Some own → range ≡ own
+-- the end of the last token of a walk that is not trivia, and else the end so far
+abbrev pub last_end : ℕ → List Spot → ℕ
+last_end end [] = end
+last_end end (spot ∷ spots) = last_end (end_after end spot) spots
 
--- the errors are shown at the ranges, in their order: each adds its range, or is shown at the one that was added last
-pub data AreShown : List Fault → List Extent → Type 0 where
-  none : AreShown [] []
-  shown : (faults : List Fault) (ranges : List Extent) (fault : Fault) (range : Extent) →
-      AreShown faults ranges → IsShownAt fault range → AreShown (faults ++ fault ∷ []) (ranges ++ range ∷ [])
-  said : (faults : List Fault) (ranges : List Extent) (fault : Fault) (range : Extent) →
-      AreShown faults (ranges ++ range ∷ []) → IsShownAt fault range → AreShown (faults ++ fault ∷ []) (ranges ++ range ∷ [])
+-- where the last token inside an element ends that is not trivia, and 0 where there is none
+abbrev pub end_of_items : Located → ℕ
+end_of_items root = last_end 0 (elements_of root)
 
--- the range stands last among others
-pub record IsLast (range : Extent) (ranges : List Extent) : Type 0 where
-  pub front : List Extent
-  pub is : ranges ≡ front ++ range ∷ []
+-- an error node that ends at an offset
+abbrev pub is_error_up_to : ℕ → Located → Bool
+is_error_up_to end e = is_error_node (item_of e).kind && (item_of e).end == end
+
+-- the range of the first error node that ends at an offset, if there is one
+abbrev pub error_range : ℕ → Located → Option Extent
+error_range end root = option_map extent_of (find (is_error_up_to end) (nodes_in (elements_of root)))
+
+-- a range, and else the empty one at an offset
+abbrev pub range_or : ℕ → Option Extent → Extent
+range_or end None = record { start = end; end = end }
+range_or end (Some range) = range
+
+-- the range of an error, if it is at a part of the text: of the limit of nesting, that of the first error node that ends with the last token
+abbrev pub own_range : Located → Fault → Option Extent
+own_range root too_deep = error_range (end_of_items root) root
+own_range root fault = range_in fault
+
+-- where an error has to be shown: at its range, and else at the end of the last token that is not trivia
+abbrev pub place_of : Located → Fault → Extent
+place_of root fault = range_or (end_of_items root) (own_range root fault)
+
+-- a diagnostic has something to say
+abbrev pub IsWorded : Diagnostic → Type 0
+IsWorded d = 0 < length (string_bytes d.message)
+
+-- the last of some diagnostics stands at a range
+pub record IsLastAt (range : Extent) (ds : List Diagnostic) : Type 0 where
+  pub d : Diagnostic
+  pub is_last : slice_get ds (length ds - 1) ≡ Some d
+  pub is_at : bounds_of d.range ≡ range
+
+-- diagnostics show errors, in their order: each error has a diagnostic of its own, or shares the last one, which stands at its place
+pub data AreShown (root : Located) : List Fault → List Diagnostic → Type 0 where
+  none : AreShown root [] []
+  shown : (faults : List Fault) (ds : List Diagnostic) (fault : Fault) (d : Diagnostic) →
+      AreShown root faults ds → bounds_of d.range ≡ place_of root fault → IsWorded d → AreShown root (faults ++ fault ∷ []) (ds ++ d ∷ [])
+  shared : (faults : List Fault) (ds : List Diagnostic) (fault : Fault) →
+      AreShown root faults ds → IsLastAt (place_of root fault) ds → AreShown root (faults ++ fault ∷ []) ds

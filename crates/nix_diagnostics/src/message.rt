@@ -1,7 +1,9 @@
 //! What is said of an error.
 
-use crate::words::{add_found, add_wanted};
-use rnix::ast::{AstNode, AttrpathValue};
+ghost use Rattle.std.specs.Prelude.{◌<◌, length, IfOk, string_bytes};
+
+use crate::words::{LONGEST, add_found, add_wanted};
+use rnix::ast::{AstNode, Attrpath, AttrpathValue};
 use rnix::{ParseError, SyntaxKind, SyntaxNode, TextRange};
 use std::alloc::{AllocError, Global};
 use std::fmt::Write;
@@ -35,6 +37,18 @@ fn behind(wanted: SyntaxKind, parent: SyntaxKind) -> &'static str {
     }
 }
 
+// Adds behind what of its entry a token is missing. A long name is not quoted.
+fn add_entry(wanted: SyntaxKind, path: &Attrpath<'_>, text: &mut String) -> Result<(), AllocError> {
+    let name = path.syntax().text();
+    match wanted {
+        SyntaxKind::TOKEN_SEMICOLON if name.len() > LONGEST => text.push_str(" after the value"),
+        SyntaxKind::TOKEN_SEMICOLON => write!(text, " after the value of \"{name}\""),
+        SyntaxKind::TOKEN_ASSIGN if name.len() > LONGEST => text.push_str(" after the name"),
+        SyntaxKind::TOKEN_ASSIGN => write!(text, " after \"{name}\""),
+        _ => Ok(()),
+    }
+}
+
 // Adds behind what the missing token should stand; of an entry, its name is told.
 fn add_behind(
     wanted: SyntaxKind,
@@ -42,14 +56,10 @@ fn add_behind(
     text: &mut String,
 ) -> Result<(), AllocError> {
     text.push_str(behind(wanted, parent.kind()))?;
-    if let Some(path) = AttrpathValue::cast(parent).and_then(|entry| entry.attrpath()) {
-        match wanted {
-            SyntaxKind::TOKEN_SEMICOLON => write!(text, " after the value of \"{path}\"")?,
-            SyntaxKind::TOKEN_ASSIGN => write!(text, " after \"{path}\"")?,
-            _ => {}
-        }
+    match AttrpathValue::cast(parent).and_then(|entry| entry.attrpath()) {
+        Some(path) => add_entry(wanted, &path, text),
+        None => Ok(()),
     }
-    Ok(())
 }
 
 // Adds where an unwanted token stands, and what it is.
@@ -68,44 +78,56 @@ fn add_unwanted(
     Ok(())
 }
 
-/// The message of an error of a tree.
-pub fn message(
-    alloc: Global,
-    error: &ParseError,
-    root: &SyntaxNode<'_>,
-) -> Result<String, AllocError> {
+// The words with which the message of an error begins.
+fn headline(error: &ParseError) -> &'static str
+    ensures { 0 < length result.now }
+{
+    match error {
+        ParseError::UnexpectedWanted(..) | ParseError::UnexpectedEOFWanted(_) => "expected ",
+        ParseError::UnexpectedExtra(_) => "expected the end of the file",
+        ParseError::DuplicatedArgs(..) => "argument ",
+        ParseError::UnexpectedDoubleBind(_) => "this set of arguments has a name already",
+        ParseError::UnexpectedEOF => "expected more, found the end of the file",
+        ParseError::RecursionLimitExceeded => "expressions are nested more than 512 deep",
+        ParseError::Unexpected(_) => "this is not Nix",
+    }
+}
+
+// What follows the headline: what was wanted, where, and what was found.
+fn details(alloc: Global, error: &ParseError, root: &SyntaxNode<'_>) -> Result<String, AllocError> {
     let mut text = String::new(alloc);
     match error {
         ParseError::UnexpectedWanted(_, range, wanted) => {
-            text.push_str("expected ")?;
             add_wanted(wanted, &mut text)?;
             if let Some(node) = error_node(root, *range) {
                 add_unwanted(wanted, &node, &mut text)?;
             }
         }
         ParseError::UnexpectedExtra(range) => {
-            text.push_str("expected the end of the file")?;
             if let Some(node) = error_node(root, *range) {
                 add_unwanted(&[], &node, &mut text)?;
             }
         }
         ParseError::UnexpectedEOFWanted(wanted) => {
-            text.push_str("expected ")?;
             add_wanted(wanted, &mut text)?;
             text.push_str(", found the end of the file")?;
         }
-        ParseError::DuplicatedArgs(_, name) => write!(text, "argument \"{name}\" stands twice")?,
-        _ => text.push_str(plain_message(error))?,
+        ParseError::DuplicatedArgs(_, name) => write!(text, "\"{name}\" stands twice")?,
+        _ => {}
     }
     Ok(text)
 }
 
-// The message of an error that names nothing.
-fn plain_message(error: &ParseError) -> &'static str {
-    match error {
-        ParseError::UnexpectedDoubleBind(_) => "this set of arguments has a name already",
-        ParseError::UnexpectedEOF => "expected more, found the end of the file",
-        ParseError::RecursionLimitExceeded => "expressions are nested more than 512 deep",
-        _ => "this is not Nix",
-    }
+/// The message of an error of a tree.
+pub fn message(
+    alloc: Global,
+    error: &ParseError,
+    root: &SyntaxNode<'_>,
+) -> Result<String, AllocError>
+    ensures { IfOk result (λ text. 0 < length (string_bytes text)) }
+{
+    let mut text = String::new(alloc);
+    text.push_str(headline(error))?;
+    text.push_str(details(alloc, error, root)?.as_str())?;
+    Ok(text)
 }

@@ -4,8 +4,8 @@ use rnix::{SyntaxKind, SyntaxToken};
 use std::alloc::AllocError;
 use std::fmt::Write;
 
-// A token with a longer text, or one of several lines, is told by its sort alone.
-const LONGEST: usize = 40;
+/// Longer texts are not quoted in a message.
+pub const LONGEST: usize = 40;
 
 // What a message calls a token that is missing.
 fn word(kind: SyntaxKind) -> &'static str {

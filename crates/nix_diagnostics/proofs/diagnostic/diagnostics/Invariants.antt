@@ -1,7 +1,7 @@
 use Rattle.std.proofs.Common.{take, map}
 use Rattle.rnix_grammar.specs.Fault.{fault_of}
-use Rattle.nix_diagnostics.specs.Shown.{range_shown, AreShown}
+use Rattle.nix_diagnostics.specs.Shown.{AreShown}
 use Rattle.nix_diagnostics.proofs.diagnostic.diagnostics.Given as goal
 
 abbrev pub invariant-loop-error : goal.invariant-loop-error
-invariant-loop-error l = AreShown (map fault_of (take l.error-index l.errors)) (map range_shown l.found.items)
+invariant-loop-error l = AreShown l.root (map fault_of (take l.error-index l.errors)) l.found.items
