@@ -2,13 +2,14 @@
 use Rattle.std.specs.Prelude.{◌≡◌, ℕ, suc, ◌<◌, true, false, List, [], ◌∷◌, ◌++◌, Some, length, if◌then◌else◌}
 use Rattle.rnix_kinds.specs.declared.kinds.SyntaxKind.{SyntaxKind}
 use Rattle.rnix_kinds.specs.declared.kinds.SyntaxKind.TheVariants.{NODE_ROOT, NODE_ERROR, NODE_LITERAL}
+use Rattle.rnix_grammar.specs.declared.rules.Part.TheVariants.{BoundAlready, TextEnd}
 use Rattle.rnix_grammar.specs.Fault.{Fault}
 use Rattle.rnix_grammar.specs.Tables.{wanted_kinds, depth_limit}
 use Rattle.rnix_grammar.specs.AnnotatedForest.{Token, Note, Stray, Unwanted, Extra, Twice, TooDeep, AnnotatedForest, blank, token, branch, fault, ◌⊕◌, one_token, one_branch, one_fault, row_of, tokens_in, is_some, leaf_kind, head_kind, end_from}
 use Rattle.rnix_grammar.specs.Reports.{report, repeats}
 use Rattle.rnix_grammar.specs.Missing.{run_of}
 use Rattle.rnix_grammar.specs.Beginnings.{IsOperandOf}
-use Rattle.rnix_grammar.specs.Rules.{Row, done, ◌·◌, text_end, bound_already, row, second_name, after, may_end, missing, run_at, expects_end, IsExpected, stands_expected, level_at, counts, IsFollowed}
+use Rattle.rnix_grammar.specs.Rules.{Row, done, ◌·◌, row, second_name, after, may_end, missing, run_at, expects_end, IsExpected, stands_expected, level_at, counts, IsFollowed}
 
 -- one more operand may stand here, inside so many counted places
 abbrev pub IsRoom : Row → ℕ → Type 0
@@ -26,7 +27,7 @@ IsOver q n us = (may_end q ≡ true) × IsExpected q n us false
 abbrev pub IsWrong : Note → ℕ → Row → Row → List Token → List Token → Type 0
 IsWrong Stray d q r ts us = (length ts ≡ 1) × IsRoom q d × IsOperandOf (level_at q blank) (one_fault Stray (row_of ts)) us × (after q NODE_LITERAL ≡ r)
 IsWrong (Unwanted until) d q r ts us = (is_some ts ≡ true) × (ts ≡ run_of until (ts ++ us)) × (run_at q ≡ Some (wanted_kinds until, r))
-IsWrong Extra d q r ts us = (is_some ts ≡ true) × (us ≡ []) × (q ≡ text_end · done) × (r ≡ q)
+IsWrong Extra d q r ts us = (is_some ts ≡ true) × (us ≡ []) × (q ≡ TextEnd · done) × (r ≡ q)
 IsWrong Twice d q r ts us = ⊥
 IsWrong TooDeep d q r ts us = (us ≡ []) × (counts q ≡ true) × (d ≡ depth_limit) × (after q NODE_LITERAL ≡ r)
 
@@ -61,8 +62,8 @@ pub data Reads : SyntaxKind → ℕ → ℕ → Row → Row → AnnotatedForest 
   second : {p : SyntaxKind} {d n : ℕ} {q' s : Row} {b c f : AnnotatedForest} {us : List Token} {ds es : List Fault}
       → Reads NODE_ERROR d n second_name s blank (tokens_in f ++ us) c ds → IsOver s (end_from n (tokens_in c)) (tokens_in f ++ us)
       → Reads p d (end_from n (tokens_in c)) done q' (b ⊕ one_fault Twice c) us f es
-      → Reads p d n bound_already q' b us (fault Twice c f) ((ds ++ report Twice (tokens_in c) ∷ []) ++ es)
+      → Reads p d n (BoundAlready · done) q' b us (fault Twice c f) ((ds ++ report Twice (tokens_in c) ∷ []) ++ es)
 
 -- a list of items is read as these trees below the root, with these errors
 abbrev pub ReadsWhole : AnnotatedForest → List Fault → Type 0
-ReadsWhole f faults = Reads NODE_ROOT 0 0 (row NODE_ROOT) (text_end · done) blank [] f faults
+ReadsWhole f faults = Reads NODE_ROOT 0 0 (row NODE_ROOT) (TextEnd · done) blank [] f faults

@@ -7,6 +7,7 @@ mod error;
 mod level;
 mod operand;
 mod place;
+mod rules;
 mod symbol;
 mod until;
 
@@ -16,4 +17,5 @@ pub use error::ParseError;
 pub use level::{APPLICATION_LEVEL, EXPRESSION_LEVEL, NO_LEVEL, SELECTION_LEVEL};
 pub use operand::goes_on;
 pub use place::Place;
+pub use rules::{Part, ROWS};
 pub use until::{Until, operand_kinds, stops, wanted_kinds};

@@ -2,7 +2,7 @@
 use Rattle.std.proofs.Common.{◌≡◌, ℕ, Bool, true, false, List, [], ◌∷◌, ◌++◌, Option, Some, None, refl, sym, ap, ◌∙◌}
 use Rattle.std.specs.Prelude.{if◌then◌else◌, nat_eq, nat_le}
 use Rattle.rnix_kinds.specs.declared.kinds.SyntaxKind.{SyntaxKind}
-use Rattle.rnix_kinds.specs.declared.kinds.SyntaxKind.TheVariants.{TOKEN_ADD, TOKEN_L_BRACE, TOKEN_IDENT, TOKEN_INVERT, TOKEN_SUB, TOKEN_WITH, TOKEN_ASSERT, TOKEN_IF, TOKEN_COLON, TOKEN_AT, NODE_ATTR_SET, NODE_CUR_POS, NODE_IDENT, NODE_ERROR}
+use Rattle.rnix_kinds.specs.declared.kinds.SyntaxKind.TheVariants.{TOKEN_INVERT, TOKEN_SUB, TOKEN_WITH, TOKEN_ASSERT, TOKEN_IF, TOKEN_COLON, TOKEN_AT, NODE_ATTR_SET, NODE_CUR_POS, NODE_IDENT, NODE_ERROR}
 use Rattle.rnix_grammar.specs.declared.begin.Begin.{Begin}
 use Rattle.rnix_grammar.specs.declared.begin.Begin.TheVariants as b
 use Rattle.rnix_grammar.specs.Tables.{is_cur_pos}

@@ -2,14 +2,14 @@
 use Rattle.std.proofs.Common.{◌≡◌, ◌∙◌, ℕ, Bool, true, false, List, [], ◌∷◌, Option, Some, refl, sym}
 use Rattle.std.specs.Prelude.{if◌then◌else◌, nat_eq}
 use Rattle.rnix_kinds.specs.declared.kinds.SyntaxKind.{SyntaxKind}
-use Rattle.rnix_kinds.specs.declared.kinds.SyntaxKind.TheVariants.{TOKEN_AT}
 use Rattle.rnix_grammar.specs.declared.place.Place.{Place}
 use Rattle.rnix_grammar.specs.declared.place.Place.TheVariants as p
+use Rattle.rnix_grammar.specs.declared.rules.Part.TheVariants.{Child, Atom, First, Suffix, Binary, Argument, BoundAlready, TextEnd}
 use Rattle.rnix_grammar.specs.AnnotatedForest.{Token, AnnotatedForest, is_some}
 use Rattle.rnix_grammar.specs.Rows.{RowState, Start, BeforeOperator, BeforeDot, BeforeQuestion, BeforeArgument, At, Nowhere, first, advance, whole, live}
 use Rattle.rnix_grammar.specs.ExpectedItems as e
 use Rattle.rnix_grammar.specs.Operands as o
-use Rattle.rnix_grammar.specs.Rules.{Row, never, done, ◌·◌, ◌/◌, child, suffix, binary, argument, end_or, text_end, after, may_end, expects, IsExpected, IsFollowed}
+use Rattle.rnix_grammar.specs.Rules.{Row, never, done, ◌·◌, ◌/◌, after, may_end, expects, IsExpected, IsFollowed}
 use Rattle.rnix_lemmas.proofs.EachKind.{each_kind}
 use Rattle.rnix_lemmas.proofs.Basics.{true_is_not_false}
 use Rattle.rnix_proof_rules.proofs.RowsAreRules.{rest_at, rest_of}
@@ -37,17 +37,21 @@ state_live _ h = refl
 
 -- nothing is asked of the next item
 abbrev pub is_free : Row → Bool
-is_free (child is · r) = true
-is_free (suffix token · r) = true
-is_free (binary · r) = true
+is_free (Child kind · r) = true
+is_free (Atom · r) = true
+is_free (First m · r) = true
+is_free (Suffix token · r) = true
+is_free (Binary · r) = true
 is_free (r / s) = true
 is_free r = false
 
 -- so it is as expected
 free_expected : (r : Row) (n : ℕ) (ts : List Token) (own : Bool) → is_free r ≡ true → IsExpected r n ts own
-free_expected (child is · r) n ts own h = tt
-free_expected (suffix token · r) n ts own h = tt
-free_expected (binary · r) n ts own h = tt
+free_expected (Child kind · r) n ts own h = tt
+free_expected (Atom · r) n ts own h = tt
+free_expected (First m · r) n ts own h = tt
+free_expected (Suffix token · r) n ts own h = tt
+free_expected (Binary · r) n ts own h = tt
 free_expected (r / s) n ts own h = tt
 free_expected never n ts own h = absurd (cc)
 free_expected done n ts own h = absurd (cc)
@@ -102,15 +106,15 @@ over_new _ n ts w h = absurd (cc)
 
 -- nothing is asked of the trees before
 abbrev pub is_alone : Row → Bool
-is_alone (suffix token · r) = false
-is_alone (binary · r) = false
-is_alone (argument · r) = false
+is_alone (Suffix token · r) = false
+is_alone (Binary · r) = false
+is_alone (Argument · r) = false
 is_alone r = true
 
 alone_followed : (r : Row) (x : AnnotatedForest) (next : Option SyntaxKind) → is_alone r ≡ true → IsFollowed r x next
-alone_followed (suffix token · r) x next h = absurd (cc)
-alone_followed (binary · r) x next h = absurd (cc)
-alone_followed (argument · r) x next h = absurd (cc)
+alone_followed (Suffix token · r) x next h = absurd (cc)
+alone_followed (Binary · r) x next h = absurd (cc)
+alone_followed (Argument · r) x next h = absurd (cc)
 alone_followed (_ · r) x next h = tt
 alone_followed _ x next h = tt
 
@@ -135,7 +139,7 @@ followed_old _ x next h = tt
 
 -- the text ends at one place
 abbrev pub is_text_end : Row → Bool
-is_text_end (text_end · r) = true
+is_text_end (TextEnd · r) = true
 is_text_end r = false
 
 pub text_end_is : (q : RowState) → is_text_end (rest_of q) ≡ true → q ≡ At p.RootEnd
@@ -148,7 +152,7 @@ text_end_is _ h = absurd (cc)
 
 -- a pattern that has a name before it ends at one place
 abbrev pub is_bound : Row → Bool
-is_bound (end_or TOKEN_AT · r) = true
+is_bound (BoundAlready · r) = true
 is_bound r = false
 
 pub bound_is : (q : RowState) → is_bound (rest_of q) ≡ true → q ≡ At (p.PatternEnd true)

@@ -8,6 +8,7 @@ use Rattle.rnix_grammar.specs.declared.place.Place.TheVariants as p
 use Rattle.rnix_grammar.specs.declared.place.Place.TheVariants.{PatternPast}
 use Rattle.rnix_grammar.specs.declared.until.Until.{Until}
 use Rattle.rnix_grammar.specs.declared.until.Until.TheVariants as u
+use Rattle.rnix_grammar.specs.declared.rules.Part.TheVariants.{Argument, TextEnd}
 use Rattle.rnix_grammar.specs.Fault.{Fault}
 use Rattle.rnix_grammar.specs.Tables.{wanted_kinds}
 use Rattle.rnix_grammar.specs.AnnotatedForest.{Token, Note, Stray, Unwanted, Extra, Twice, TooDeep, AnnotatedForest, blank, token, branch, fault, ◌⊕◌, one_token, one_branch, one_fault, row_of, tokens_in, is_some, leaf_kind, head_kind, end_from}
@@ -21,7 +22,7 @@ use Rattle.rnix_grammar.specs.Beginnings.{BeginsAs, IsOperandOf}
 use Rattle.rnix_grammar.specs.Operands as o
 use Rattle.rnix_grammar.specs.PlaceReads as old
 use Rattle.rnix_grammar.specs.Reads as new
-use Rattle.rnix_grammar.specs.Rules.{Row, done, ◌·◌, text_end, bound_already, second_name, row, after, may_end, missing, run_at, IsExpected, expects_end, level_at, counts}
+use Rattle.rnix_grammar.specs.Rules.{Row, done, ◌·◌, second_name, row, after, may_end, missing, run_at, IsExpected, expects_end, level_at, counts}
 use Rattle.rnix_grammar.specs.Rules as rules
 use Rattle.rnix_grammar.specs.TreeLevels.{is_or_row}
 use Rattle.rnix_lemmas.proofs.Basics.{true_is_not_false}
@@ -217,7 +218,7 @@ reads_live {d = d} {q = q} {us = us} (new.wrong {r = r} {f = f} note ts hx hw hi
 reads_live (new.second hs ho h) l = refl
 
 -- an argument has an item
-argument_some : (w : Bool) (x : AnnotatedForest) (ts vs : List Token) (n : ℕ) → rules.expects (rules.argument · done) n ts ≡ w
+argument_some : (w : Bool) (x : AnnotatedForest) (ts vs : List Token) (n : ℕ) → rules.expects (Argument · done) n ts ≡ w
     → IsOperandOf (if w then None else Some 16) x vs → tokens_in x ++ vs ≡ ts → is_some ts ≡ true
 argument_some w x (t ∷ ts) vs n h i e = refl
 argument_some true x [] vs n h i e = absurd (true_is_not_false (sym h))
@@ -226,7 +227,7 @@ argument_some false x [] vs n h i e = absurd (subst (BeginsAs 16 x) e i.1)
 inner_some : (q : RowState) (r : Row) (k : SyntaxKind) (c : AnnotatedForest) (n : ℕ) (vs : List Token) → rest_of q ≡ r → IsExpected r n (tokens_in c ++ vs) (rules.stands_expected r k c)
     → IsOperandOf (level_at r (one_branch k c)) (one_branch k c) vs → q ≡ BeforeArgument → is_some (tokens_in c ++ vs) ≡ true
 inner_some q r k c n vs e h i a =
-    let j : r ≡ rules.argument · done = sym e ∙ ap rest_of a in
+    let j : r ≡ Argument · done = sym e ∙ ap rest_of a in
     argument_some (is_or_row (one_branch k c)) (one_branch k c) (tokens_in c ++ vs) vs n
     (subst (λ r. IsExpected r n (tokens_in c ++ vs) (rules.stands_expected r k c)) j h)
     (subst (λ r. IsOperandOf (level_at r (one_branch k c)) (one_branch k c) vs) j i) (ap (λ z. z ++ vs) (append-nil (tokens_in c)))
@@ -337,5 +338,5 @@ whole_new f es h = reads_new h
 
 pub whole_old : (f : AnnotatedForest) (es : List Fault) → new.ReadsWhole f es → old.ReadsWhole f es
 whole_old f es h =
-    let o : ReadsOld NODE_ROOT 0 0 (At p.RootStart) (text_end · done) blank [] f es = reads_old h (At p.RootStart) refl refl in
+    let o : ReadsOld NODE_ROOT 0 0 (At p.RootStart) (TextEnd · done) blank [] f es = reads_old h (At p.RootStart) refl refl in
     subst (λ q. old.Reads NODE_ROOT 0 0 (At p.RootStart) q blank [] f es) (text_end_is o.0 (ap is_text_end o.1)) o.2
