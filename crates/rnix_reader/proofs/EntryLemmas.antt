@@ -1,11 +1,11 @@
 -- The end of a pattern's entry: it is told if an earlier entry has its name.
 use Rattle.std.proofs.Common.{◌≡◌, ℕ, Bool, true, false, List, [], ◌∷◌, ◌++◌, Some, None, refl, ap, sym, ◌∙◌, subst, append-nil, if◌then◌else◌}
-use Rattle.{rnix_kinds.specs.declared.kinds.SyntaxKind.TheVariants.{NODE_PATTERN, NODE_PAT_ENTRY}, rnix_grammar.specs.Fault.{Fault, named_twice}}
-use Rattle.rnix_grammar.specs.{AnnotatedForest.{Token, AnnotatedForest, ◌⊕◌, without_trivia, extent_of}, Reports.{has_entry, repeated_if}, Machine.{Head, Node}}
-use Rattle.rnix_grammar.specs.{Machine.{Second, Operand, Frame, Machine, put, made, closed, perform}, Sorts.{Sort, Pattern, Entry, sort_of, sort_of_head}}
-use Rattle.{rnix_grammar.specs.Sorts.{may_hold, StandsOn}, rnix_lemmas.proofs.Basics.true_is_not_false, rnix_reader.specs.declared.mark.Mark.Mark}
-use Rattle.rnix_reader.specs.{declared.names.{NameSet.NameSet, Names.Names}, Names.{texts_of, extents_of}, State.{State, ended}, Flat.flat, Holds.AreFit}
-use Rattle.rnix_reader.specs.Holds.{IsFit, IsBegun, Holding, EntryTold, told_of, text_of, range_of, name_of, entries_of, ranges_of, Tops, Known, KnownOn}
+use Rattle.{rnix_kinds.specs.declared.kinds.SyntaxKind.TheVariants.{NODE_PATTERN, NODE_PAT_ENTRY}, rnix_grammar.specs.{declared.place.Place.Place, Fault.Fault}}
+use Rattle.rnix_grammar.specs.{Fault.named_twice, AnnotatedForest.{Token, AnnotatedForest, ◌⊕◌, without_trivia, extent_of}, Reports.{has_entry, repeated_if}}
+use Rattle.rnix_grammar.specs.{Machine.{Head, Node, Second, Operand, Frame, Machine, put, made, closed, perform}, Sorts.{Sort, Pattern, Entry, sort_of}}
+use Rattle.{rnix_grammar.specs.Sorts.{sort_of_head, may_hold, StandsOn}, rnix_lemmas.proofs.Basics.true_is_not_false, rnix_reader.specs.declared.mark.Mark.Mark}
+use Rattle.rnix_reader.specs.{declared.names.{NameSet.NameSet, Names.Names}, Names.{texts_of, extents_of}, State.{State, ended}, Flat.flat, Holds.IsBegun}
+use Rattle.rnix_reader.specs.Holds.{Holding, EntryTold, told_of, text_of, range_of, name_of, entries_of, ranges_of, Tops, Known, KnownOn}
 use Rattle.rnix_reader.proofs.{FlatLemmas.flat-failed, StepLemmas.{stands_of, done_node, is_node, is_root}}
 use Rattle.rnix_grammar.specs.declared.action.Action.TheVariants as a
 
@@ -36,15 +36,10 @@ pub holds_entry : (s : Sort) → may_hold s Entry ≡ true → s ≡ Pattern
 holds_entry Pattern e = refl
 holds_entry _ e = cc
 
--- frames that fit stand on one another
-pub fit_stands : (f : Frame) (fs : List Frame) → AreFit f fs → StandsOn f.head f.place fs
-fit_stands f [] w = (w.0.sort, w.1)
-fit_stands f (g ∷ fs) w = (w.0.sort, w.1, fit_stands g fs w.2)
-
--- the innermost of frames that fit does
-pub fit_first : (g : Frame) (fs : List Frame) → AreFit g fs → IsFit g
-fit_first g [] w = w.0
-fit_first g (f ∷ fs) w = w.0
+-- a head stands at a place of its sort
+pub head_sort : (head : Head) (place : Place) (fs : List Frame) → StandsOn head place fs → sort_of_head head ≡ sort_of place
+head_sort head place [] w = w.0
+head_sort head place (f ∷ fs) w = w.0
 
 -- what is told
 told_once : (b : Bool) (e : Fault) (f g : Frame) (fs : List Frame) (ts : List Token) (n : ℕ) (es : List Fault)
@@ -68,10 +63,10 @@ done_entry f (g ∷ fs) ts n m mark s names names' s' h e leaf_kind =
     let st = stands_of f (g ∷ fs) ts n m mark s names h in
     let entry : f.head ≡ Node NODE_PAT_ENTRY = head_entry f.head (st.sort ∙ e) in
     let below : sort_of g.place ≡ Pattern = holds_entry (sort_of g.place) (ap (may_hold (sort_of g.place)) (sym e) ∙ h.well.fit.1) in
-    let pattern : g.head ≡ Node NODE_PATTERN = head_pattern g.head ((fit_first g fs h.well.fit.2).sort ∙ below) in
+    let pattern : g.head ≡ Node NODE_PATTERN = head_pattern g.head (head_sort g.head g.place fs h.well.fit.2 ∙ below) in
     let tops : Tops names.sets.items g.row (Known fs) =
     known_pattern g.head g.row names.sets.items (Known fs) pattern (known_entry f.head f.row names.sets.items (Known (g ∷ fs)) entry h.named.sets) in
-    let begun : IsBegun (Node NODE_PAT_ENTRY) f.row = subst (λ x. IsBegun x f.row) entry h.well.fit.0.begun in
+    let begun : IsBegun (Node NODE_PAT_ENTRY) f.row = subst (λ x. IsBegun x f.row) entry h.named.begun.0 in
     let t : Token = begun.0 in
     let named : name_of f.head f.row ≡ Some t = ap (λ x. name_of x f.row) entry ∙ begun.1 in
     let texts : texts_of names ≡ entries_of (g ∷ fs) ++ t.text ∷ [] = h.named.texts ∙ ap (λ x. entries_of (g ∷ fs) ++ text_of x) named in

@@ -3,9 +3,9 @@ use Rattle.std.proofs.Common.{◌≡◌, ◌<◌, ℕ, length, true, List, [], �
 use Rattle.{rnix_kinds.specs.declared.kinds.SyntaxKind.TheVariants.NODE_ROOT, rnix_green.specs.{Forest.{empty, node}, Draft.wrapped-join}}
 use Rattle.rnix_grammar.specs.{declared.place.Place.Place, Fault.Fault, AnnotatedForest.{Token, AnnotatedForest, forget, head_kind}, Layout.{items, from_item}}
 use Rattle.rnix_grammar.specs.{Machine.{Head, Node, Frame, Machine, machine, begins, opened, ate, Runs}, Sorts.{Root, sort_of}}
-use Rattle.{rnix_lemmas.proofs.PlaceLemmas.{head_root, root_alone}, rnix_reader.proofs.{EntryLemmas.fit_stands, FlatLemmas.flat-eaten, StateLemmas.state_is}}
-use Rattle.rnix_reader.{proofs.{StepLemmas.{stands_of, open_there, is_node}, RunLemmas.no_items}, specs.declared.{mark.Mark.Mark, names.Names.Names}}
-use Rattle.rnix_reader.specs.{State.{State, eaten, ended}, Flat.{flat_with, popped}, Holds.{Holding, IsReadTo}}
+use Rattle.{rnix_lemmas.proofs.PlaceLemmas.{head_root, root_alone}, rnix_reader.specs.{declared.{mark.Mark.Mark, names.Names.Names}, State.{State, eaten}}}
+use Rattle.rnix_reader.{specs.{State.ended, Flat.{flat_with, popped}, Holds.{Holding, IsReadTo}}, proofs.{FlatLemmas.flat-eaten, StateLemmas.state_is}}
+use Rattle.rnix_reader.proofs.{StepLemmas.{stands_of, open_there, is_node}, RunLemmas.no_items}
 use Rattle.rnix_grammar.specs.declared.place.Place.TheVariants as p
 
 -- the root over all trees
@@ -28,7 +28,7 @@ pub finished : (f : Frame) (fs : List Frame) (ts : List Token) (n : ℕ) (m : Ma
 finished f fs ts n m mark s names h al start runs s2 e =
     let st = stands_of f fs ts n m mark s names h in
     let root : sort_of f.place ≡ Root = ap sort_of al.0 in
-    let none : fs ≡ [] = root_alone f.head f.place fs (fit_stands f fs h.well.fit) root in
+    let none : fs ≡ [] = root_alone f.head f.place fs h.well.fit root in
     let head : f.head ≡ Node NODE_ROOT = head_root f.head (st.sort ∙ root) in
     let left : m.left ≡ ts = ap (λ x. x.left) h.machine_is in
     let row : AnnotatedForest = ate true f.row ts in

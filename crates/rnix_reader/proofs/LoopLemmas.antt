@@ -2,10 +2,10 @@
 use Rattle.std.proofs.Common.{◌≡◌, ◌<◌, ℕ, true, false, Bool, List, [], ◌∷◌, ◌++◌, refl, ap, sym, ◌∙◌, subst, arith}
 use Rattle.{rnix_kinds.specs.declared.kinds.SyntaxKind.TheVariants.NODE_ROOT, rnix_grammar.specs.{declared.action.Action.Action, AnnotatedForest.Token}}
 use Rattle.rnix_grammar.specs.{AnnotatedForest.{blank, head_kind}, Layout.items, Machine.{Node, Frame, Machine, opened, machine, begins, perform, step, Runs}}
-use Rattle.{rnix_grammar.specs.{Machine.{rest, then}, Allowed.Allowed}, rnix_lemmas.proofs.Basics.not_nil, rnix_reader.specs.declared.mark.Mark.Mark}
-use Rattle.rnix_reader.specs.{declared.names.Names.Names, Placed.AreInOrder, Names.{texts_of, extents_of}, State.{State, with_marks}, Flat.{marks_of, mark_of}}
-use Rattle.rnix_reader.{specs.{Flat.{flat, popped}, Holds.{Holds, Holding, IsHolding, NamesAfter, action_of, is_finish, work}}, proofs.StepLemmas.given}
-use Rattle.rnix_reader.proofs.{StepLemmas.step_is, KeptLemmas.Kept, GoesLemmas.Goes, PerformLemmas.perform_goes, WorkLemmas.{cost_of, work_is, perform_less}}
+use Rattle.{rnix_grammar.specs.{Machine.{rest, then}, Allowed.Allowed, Sorts.AreKept}, rnix_lemmas.proofs.{Basics.not_nil, PlaceLemmas.step_kept}}
+use Rattle.rnix_reader.specs.{declared.{mark.Mark.Mark, names.Names.Names}, Placed.AreInOrder, Names.{texts_of, extents_of}, State.{State, with_marks}}
+use Rattle.rnix_reader.specs.{Flat.{marks_of, mark_of, flat, popped}, Holds.{Holds, Holding, IsHolding, NamesAfter, action_of, is_finish, work}}
+use Rattle.rnix_reader.proofs.{StepLemmas.{given, step_is}, GoesLemmas.Goes, PerformLemmas.perform_goes, WorkLemmas.{cost_of, work_is, perform_less}}
 use Rattle.rnix_reader.proofs.WorkLemmas.{fit_bottom}
 use Rattle.rnix_grammar.specs.declared.place.Place.TheVariants as p
 use Rattle.rnix_grammar.specs.declared.action.Action.TheVariants as a
@@ -23,8 +23,8 @@ starts s names e o k t r = record {
   under = [];
   frames = refl;
   state = e;
-  well = record { fit = (record { sort = refl; begun = tt }, refl); ends = tt; order = o };
-  named = record { sets = k; texts = t; ranges = r; second = tt };
+  well = record { fit = (refl, refl); begins = tt; ends = tt; order = o };
+  named = record { begun = (tt, tt); sets = k; texts = t; ranges = r };
 }
 
 -- a list with a last element is not empty
@@ -71,11 +71,18 @@ goes_on m mark s s' names names' action w a g e n = given (Holds (step true m) s
     by x xs ts k h al =
         let known : NamesAfter action (mark_of x xs) (popped (machine (x ∷ xs) ts k m.faults)) names names' =
         subst (λ y. NamesAfter action (mark_of x xs) y names names') (h.state ∙ ap popped h.machine_is) (subst (λ y. NamesAfter action y s names names') h.mark_is n) in
-        let kept : Kept x xs names = record { fit = h.well.fit; sets = h.named.sets; texts = h.named.texts; ranges = h.named.ranges } in
         let done : Goes (step true m) names' =
         subst (λ y. Goes y names') (sym (step_is x xs ts k m mark s names action h a))
-        (perform_goes action x xs ts k m.faults names names' kept h.well.ends h.named.second h.well.order al g known) in
-        record { top = done.top; under = done.under; frames = done.frames; state = e; well = done.well; named = done.named }
+        (perform_goes action x xs ts k m.faults names names' h.named h.well.fit h.well.ends h.well.begins h.well.order al g known) in
+        let fit : AreKept (step true m).frames = step_kept true m (subst AreKept (sym (ap (λ y. y.frames) h.machine_is)) h.well.fit) in
+        record {
+          top = done.top;
+          under = done.under;
+          frames = done.frames;
+          state = e;
+          well = record { fit = subst AreKept done.frames fit; begins = done.begins; ends = done.ends; order = done.order };
+          named = done.named;
+        }
 
 -- each step leaves less to do
 pub less : (m : Machine) (mark : Mark) (s s' s'' : State) (names : Names) (action : Action) → Holds m s names → s.marks ≡ s'.marks ++ mark ∷ [] → s' ≡ with_marks s'.marks s

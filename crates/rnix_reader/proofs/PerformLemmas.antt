@@ -5,38 +5,37 @@ use Rattle.rnix_grammar.specs.{declared.{place.Place.Place, action.Action.Action
 use Rattle.rnix_grammar.specs.AnnotatedForest.{blank, ◌⊕◌, one_branch, one_fault, tokens_in, without_trivia, head_of, head_kind, end_from, extent_of}
 use Rattle.rnix_grammar.specs.{Layout.{items, from_item, trivia_before, tail_of}, Reports.only_token, Machine.{Head, Node, Second, Operand, Frame, put, opened}}
 use Rattle.rnix_grammar.specs.Machine.{ate, leaf, leaf_in, kind_of, low_of, behind, reach, end_of, run_row, run_rest, dropped, made, machine, closed, perform}
-use Rattle.rnix_grammar.specs.{Missing.run_of, Sorts.{Pattern, Entry, Again, Loose, sort_of, may_hold, is_open}, Allowed.{Allowed, is_there}}
+use Rattle.rnix_grammar.specs.{Missing.run_of, Sorts.{Pattern, Entry, Loose, sort_of, may_hold, is_open, StandsOn}, Allowed.{Allowed, is_there}}
 use Rattle.rnix_lemmas.proofs.{Basics.true_is_not_false, AnnotatedForestLemmas.tokens_in-row_of, WithoutTriviaLemmas.{leaf_without_trivia, reach_items}}
-use Rattle.rnix_lemmas.proofs.{WithoutTriviaLemmas.{run_prefix, run_bared}, LayoutLemmas.{first_item, without_trivia-trivia}, PlaceLemmas.open_holds}
-use Rattle.{rnix_lemmas.proofs.PlaceLemmas.next_sort, rnix_reader.specs.{declared.names.Names.Names, Names.{PatternClosed, EntryClosed, EntryOpened}}}
-use Rattle.rnix_reader.specs.{Placed.AreInOrder, Flat.{mark_of, popped}, Holds.{IsBegun, BeginsAt, EndsAt, NamesAfter, TwiceOpened, is_finish}}
-use Rattle.rnix_reader.proofs.{StepLemmas.{head_loose, is_root}, EntryLemmas.{fit_first, head_entry, head_pattern, holds_entry}, OrderLemmas.order_from}
-use Rattle.rnix_reader.proofs.{OrderLemmas.{order_behind, reach_least, order_run, order_all}, RowLemmas.{HasNoEntry, no_entry_leaf, no_entry_fault, begun_more}}
-use Rattle.rnix_reader.proofs.{RowLemmas.{begins_more, ends_more}, KeptLemmas.{Kept, is_bare, moved_on, grow_trivia, grow_behind, push_node, push_second}}
-use Rattle.rnix_reader.proofs.{KeptLemmas.{push_entry, renamed, instead, pop_pattern, pop_entry}, GoesLemmas.{Goes, goes, goes_open, holds_open, closed_goes}}
-use Rattle.rnix_reader.proofs.GoesLemmas.{same_names, reading_goes}
+use Rattle.rnix_lemmas.proofs.{WithoutTriviaLemmas.{run_prefix, run_bared}, LayoutLemmas.{first_item, without_trivia-trivia}}
+use Rattle.rnix_reader.specs.{declared.names.Names.Names, Names.{PatternClosed, EntryClosed, EntryOpened}, Placed.AreInOrder, Flat.{mark_of, popped}}
+use Rattle.rnix_reader.{specs.Holds.{IsBegun, AreNamed, BeginsAt, EndsAt, NamesAfter, TwiceOpened, is_finish}, proofs.StepLemmas.{head_loose, is_root}}
+use Rattle.rnix_reader.proofs.{EntryLemmas.{head_sort, head_entry, head_pattern, holds_entry}, OrderLemmas.{order_from, order_behind, reach_least, order_run}}
+use Rattle.rnix_reader.proofs.{OrderLemmas.order_all, RowLemmas.{HasNoEntry, no_entry_leaf, no_entry_fault, begun_more, begins_more, ends_more}}
+use Rattle.rnix_reader.proofs.KeptLemmas.{is_bare, moved_on, grow_trivia, grow_behind, push_node, push_second, push_entry, renamed, instead, pop_pattern}
+use Rattle.rnix_reader.proofs.{KeptLemmas.pop_entry, GoesLemmas.{Goes, goes, goes_open, holder_open, closed_goes, same_names, reading_goes}}
 use Rattle.rnix_grammar.specs.declared.place.Place.TheVariants as p
 use Rattle.rnix_grammar.specs.declared.action.Action.TheVariants as a
 
 -- a frame is complete
 closing : (f : Frame) (fs : List Frame) (ts : List Token) (n : ℕ) (es : List Fault) (names : Names) → is_bare (sort_of f.place) ≡ true → is_root (sort_of f.place) ≡ false
-    → Kept f fs names → AreInOrder n ts → Goes (closed f fs ts n es) names
-closing f [] ts n es names b r w o = absurd (true_is_not_false (sym (ap is_root w.fit.1) ∙ r))
-closing f (g ∷ fs) ts n es names b r w o = closed_goes f g fs ts n es names b w o
+    → StandsOn f.head f.place fs → AreNamed f fs names → AreInOrder n ts → Goes (closed f fs ts n es) names
+closing f [] ts n es names b r st w o = absurd (true_is_not_false (sym (ap is_root st.1) ∙ r))
+closing f (g ∷ fs) ts n es names b r st w o = closed_goes f g fs ts n es names st b w o
 
 closing_pattern : (f : Frame) (fs : List Frame) (ts : List Token) (n : ℕ) (es : List Fault) (names names' : Names) → sort_of f.place ≡ Pattern → PatternClosed names names'
-    → Kept f fs names → AreInOrder n ts → Goes (closed f fs ts n es) names'
-closing_pattern f [] ts n es names names' e c w o = absurd (true_is_not_false (sym (ap is_root w.fit.1) ∙ ap is_root e))
-closing_pattern f (g ∷ fs) ts n es names names' e c w o =
-    goes_open (put g.place (g.row ⊕ made f.head f.row) g) fs ts n es names' (holds_open (sort_of g.place) (sort_of f.place) w.fit.1)
-    (pop_pattern f g fs names names' (head_pattern f.head (w.fit.0.sort ∙ e)) c w) o
+    → StandsOn f.head f.place fs → AreNamed f fs names → AreInOrder n ts → Goes (closed f fs ts n es) names'
+closing_pattern f [] ts n es names names' e c st w o = absurd (true_is_not_false (sym (ap is_root st.1) ∙ ap is_root e))
+closing_pattern f (g ∷ fs) ts n es names names' e c st w o =
+    goes_open (put g.place (g.row ⊕ made f.head f.row) g) fs ts n es names' (holder_open g fs (sort_of f.place) st.2 st.1)
+    (pop_pattern f g fs names names' (head_pattern f.head (st.0 ∙ e)) c w) o
 
 closing_entry : (f g : Frame) (fs : List Frame) (ts : List Token) (n : ℕ) (es : List Fault) (names names' : Names) (again : Option Fault) → sort_of f.place ≡ Entry → EntryClosed again names names'
-    → Kept f (g ∷ fs) names → AreInOrder n ts → Goes (closed f (g ∷ fs) ts n es) names'
-closing_entry f g fs ts n es names names' again e c w o =
-    let below : sort_of g.place ≡ Pattern = holds_entry (sort_of g.place) (ap (may_hold (sort_of g.place)) (sym e) ∙ w.fit.1) in
-    goes_open (put g.place (g.row ⊕ made f.head f.row) g) fs ts n es names' (ap is_open below)
-    (pop_entry f g fs names names' again (head_entry f.head (w.fit.0.sort ∙ e)) (head_pattern g.head ((fit_first g fs w.fit.2).sort ∙ below)) c w) o
+    → StandsOn f.head f.place (g ∷ fs) → AreNamed f (g ∷ fs) names → AreInOrder n ts → Goes (closed f (g ∷ fs) ts n es) names'
+closing_entry f g fs ts n es names names' again e c st w o =
+    let below : sort_of g.place ≡ Pattern = holds_entry (sort_of g.place) (ap (may_hold (sort_of g.place)) (sym e) ∙ st.1) in
+    goes_open (put g.place (g.row ⊕ made f.head f.row) g) fs ts n es names' (holder_open g fs (sort_of f.place) st.2 st.1)
+    (pop_entry f g fs names names' again (head_entry f.head (st.0 ∙ e)) (head_pattern g.head (head_sort g.head g.place fs st.2 ∙ below)) c w) o
 
 -- a row that may be a second name's grows
 ends_behind : (n m : ℕ) (h : Head) (row : AnnotatedForest) (ts : List Token) (g : AnnotatedForest) (us : List Token) → IsBegun h row → EndsAt n h row → tokens_in (without_trivia g) ≡ us → m ≡ end_from n us → n ≤ m
@@ -72,25 +71,25 @@ run_tokens note run us ts e =
     append-nil (tokens_in (without_trivia (run_row true run ts))) ∙ ap tokens_in (run_bared run ts us e).same ∙ tokens_in-row_of run
 
 -- an entry of a pattern begins
-entry_goes : (after : Place) (f : Frame) (fs : List Frame) (ts us : List Token) (n : ℕ) (es : List Fault) (names names' : Names) → Kept f fs names → AreInOrder n ts → items ts ≡ us
-    → is_there (head_kind us) ≡ true → sort_of after ≡ sort_of f.place → sort_of f.place ≡ Pattern
+entry_goes : (after : Place) (f : Frame) (fs : List Frame) (ts us : List Token) (n : ℕ) (es : List Fault) (names names' : Names) → AreNamed f fs names → AreInOrder n ts → items ts ≡ us
+    → is_there (head_kind us) ≡ true
     → ((t : Token) → head_of (items ts) ≡ Some t → EntryOpened t.text record { start = t.start; end = t.end } names names')
     → Goes (perform true (a.Entry after) f fs ts n es) names'
-entry_goes after f fs ts [] n es names names' w o e h same sort does = absurd (true_is_not_false (sym h))
-entry_goes after f fs ts (t ∷ us) n es names names' w o e h same sort does =
+entry_goes after f fs ts [] n es names names' w o e h does = absurd (true_is_not_false (sym h))
+entry_goes after f fs ts (t ∷ us) n es names names' w o e h does =
     let g : Frame = put after (ate true f.row ts) f in
     let row : AnnotatedForest = one_branch NODE_IDENT (leaf true NODE_IDENT ts) in
     goes_open (opened (Node NODE_PAT_ENTRY) p.EntryMore f.depth row) (g ∷ fs) (behind true ts) (reach true n ts) es names' refl
-    (push_entry g fs names names' f.depth row t (ap (λ x. may_hold x Entry) (same ∙ sort)) (ap only_token (leaf_without_trivia NODE_IDENT ts ∙ ap (leaf_in NODE_IDENT) e)) (does t (ap head_of e))
-    (grow_trivia f fs names after ts same w)) (order_behind n ts o)
+    (push_entry g fs names names' f.depth row t (ap only_token (leaf_without_trivia NODE_IDENT ts ∙ ap (leaf_in NODE_IDENT) e)) (does t (ap head_of e))
+    (grow_trivia f fs names after ts w)) (order_behind n ts o)
 
 -- a second name begins
-twice_goes : (after : Place) (f : Frame) (fs : List Frame) (ts us : List Token) (n : ℕ) (es : List Fault) (names names' : Names) → Kept f fs names → AreInOrder n ts → items ts ≡ us
-    → is_there (head_kind us) ≡ true → sort_of after ≡ sort_of f.place → sort_of f.place ≡ Pattern
+twice_goes : (after : Place) (f : Frame) (fs : List Frame) (ts us : List Token) (n : ℕ) (es : List Fault) (names names' : Names) → AreNamed f fs names → AreInOrder n ts → items ts ≡ us
+    → is_there (head_kind us) ≡ true
     → ((t : Token) → head_of (items ts) ≡ Some t → TwiceOpened t.start names names')
     → Goes (perform true (a.Twice after) f fs ts n es) names'
-twice_goes after f fs ts [] n es names names' w o e h same sort does = absurd (true_is_not_false (sym h))
-twice_goes after f fs ts (t ∷ us) n es names names' w o e h same sort does =
+twice_goes after f fs ts [] n es names names' w o e h does = absurd (true_is_not_false (sym h))
+twice_goes after f fs ts (t ∷ us) n es names names' w o e h does =
     let g : Frame = put after (ate true f.row ts) f in
     let row : AnnotatedForest = leaf true NODE_ERROR ts in
     let tokens : tokens_in (without_trivia row) ≡ t ∷ [] = leaf_tokens NODE_ERROR ts ∙ ap firsts e in
@@ -99,91 +98,88 @@ twice_goes after f fs ts (t ∷ us) n es names names' w o e h same sort does =
     let new = does t (ap head_of e) in
     goes (opened Second p.TwiceName f.depth row) (g ∷ fs) (behind true ts) (reach true n ts) es names'
     (renamed (opened Second p.TwiceName f.depth row) (g ∷ fs) names names' new.sets new.texts new.ranges
-    (push_second g fs names f.depth row (ap (λ x. may_hold x Again) (same ∙ sort)) (t, [], tokens) (grow_trivia f fs names after ts same w)))
+    (push_second g fs names f.depth row (t, [], tokens) (grow_trivia f fs names after ts w)))
     (end ∙ sym (ap (λ x. (extent_of x).end) tokens), omega (arith, ordered.1, end, ap (λ x. (extent_of x).start) tokens))
     (new.second ∙ sym (ap (λ x. (extent_of x).start) tokens)) (order_behind n ts o)
 
 -- each action leaves a machine that goes on
-pub perform_goes : (action : Action) (f : Frame) (fs : List Frame) (ts : List Token) (n : ℕ) (es : List Fault) (names names' : Names) → Kept f fs names → EndsAt n f.head f.row
+pub perform_goes : (action : Action) (f : Frame) (fs : List Frame) (ts : List Token) (n : ℕ) (es : List Fault) (names names' : Names) → AreNamed f fs names → StandsOn f.head f.place fs → EndsAt n f.head f.row
     → BeginsAt names.second f.head f.row → AreInOrder n ts → Allowed f.place (head_kind (items ts)) action → is_finish action ≡ false
     → NamesAfter action (mark_of f fs) (popped (machine (f ∷ fs) ts n es)) names names' → Goes (perform true action f fs ts n es) names'
-perform_goes a.Close f fs ts n es names names' w e i o al g k =
-    same_names (closed f fs ts n es) names names' k (closing f fs ts n es names (ap is_bare al.0) (ap is_root al.0) w o)
-perform_goes a.ClosePattern f fs ts n es names names' w e i o al g k = closing_pattern f fs ts n es names names' al k w o
-perform_goes a.CloseEntry f [] ts n es names names' w e i o al g k = absurd (true_is_not_false (sym (ap is_root w.fit.1) ∙ ap is_root al))
-perform_goes a.CloseEntry f (g' ∷ fs) ts n es names names' w e i o al g k = closing_entry f g' fs ts n _ names names' k.0 al k.1 w o
-perform_goes a.CloseTwice f fs ts n es names names' w e i o al g k =
-    same_names (perform true a.CloseTwice f fs ts n es) names names' k (closing f fs ts n _ names (ap is_bare al) (ap is_root al) w o)
-perform_goes a.Finish f fs ts n es names names' w e i o al g k = absurd (true_is_not_false g)
-perform_goes a.Settle f fs ts n es names names' w e i o al g k =
-    same_names (closed f fs ts n es) names names' k (closing f fs ts n es names (ap is_bare al) (ap is_root al) w o)
-perform_goes a.Extra f fs ts n es names names' w e i o al g k =
+perform_goes a.Close f fs ts n es names names' w st e i o al g k =
+    same_names (closed f fs ts n es) names names' k (closing f fs ts n es names (ap is_bare al.0) (ap is_root al.0) st w o)
+perform_goes a.ClosePattern f fs ts n es names names' w st e i o al g k = closing_pattern f fs ts n es names names' al k st w o
+perform_goes a.CloseEntry f [] ts n es names names' w st e i o al g k = absurd (true_is_not_false (sym (ap is_root st.1) ∙ ap is_root al))
+perform_goes a.CloseEntry f (g' ∷ fs) ts n es names names' w st e i o al g k = closing_entry f g' fs ts n _ names names' k.0 al k.1 st w o
+perform_goes a.CloseTwice f fs ts n es names names' w st e i o al g k =
+    same_names (perform true a.CloseTwice f fs ts n es) names names' k (closing f fs ts n _ names (ap is_bare al) (ap is_root al) st w o)
+perform_goes a.Finish f fs ts n es names names' w st e i o al g k = absurd (true_is_not_false g)
+perform_goes a.Settle f fs ts n es names names' w st e i o al g k =
+    same_names (closed f fs ts n es) names names' k (closing f fs ts n es names (ap is_bare al) (ap is_root al) st w o)
+perform_goes a.Extra f fs ts n es names names' w st e i o al g k =
     let fault : AnnotatedForest = one_fault Extra (run_row true (items ts) ts) in
     same_names (perform true a.Extra f fs ts n es) names names' k
-    (goes_open (put f.place (ate true f.row ts ⊕ fault) f) fs (run_rest true (items ts) ts) (end_from n (items ts)) _ names (ap is_open al.1)
-    (grow_behind f fs names f.place ts fault refl (λ q. no_entry_fault Extra (run_row true (items ts) ts)) w) (order_all n ts o).0)
-perform_goes (a.Take after) f fs ts n es names names' w e i o al g k =
-    let same = next_sort f.place after (head_kind (items ts)) al.1 in
+    (goes_open (put f.place (ate true f.row ts ⊕ fault) f) fs (run_rest true (items ts) ts) (end_from n (items ts)) _ names (ap is_open (head_sort f.head f.place fs st ∙ al.1))
+    (grow_behind f fs names f.place ts fault (λ q. no_entry_fault Extra (run_row true (items ts) ts)) w) (order_all n ts o).0)
+perform_goes (a.Take after) f fs ts n es names names' w st e i o al g k =
     same_names (perform true (a.Take after) f fs ts n es) names names' k
-    (goes_open (put after (ate true f.row ts ⊕ leaf true (kind_of f.head) ts) f) fs (behind true ts) (reach true n ts) es names (ap is_open same ∙ al.2)
-    (grow_behind f fs names after ts (leaf true (kind_of f.head) ts) same (λ q. no_entry_leaf (kind_of f.head) ts) w) (order_behind n ts o))
-perform_goes (a.Miss after) f fs ts n es names names' w e i o al g k =
+    (goes_open (put after (ate true f.row ts ⊕ leaf true (kind_of f.head) ts) f) fs (behind true ts) (reach true n ts) es names (ap is_open (head_sort f.head f.place fs st) ∙ al.2)
+    (grow_behind f fs names after ts (leaf true (kind_of f.head) ts) (λ q. no_entry_leaf (kind_of f.head) ts) w) (order_behind n ts o))
+perform_goes (a.Miss after) f fs ts n es names names' w st e i o al g k =
     same_names (perform true (a.Miss after) f fs ts n es) names names' k
-    (goes (put after f.row f) fs ts n _ names (moved_on f fs names after (next_sort f.place after (head_kind (items ts)) al.1) w) e i o)
-perform_goes (a.MissWanted until after) f fs ts n es names names' w e i o al g k =
+    (goes (put after f.row f) fs ts n _ names (moved_on f fs names after w) e i o)
+perform_goes (a.MissWanted until after) f fs ts n es names names' w st e i o al g k =
     same_names (perform true (a.MissWanted until after) f fs ts n es) names names' k
-    (goes (put after f.row f) fs ts n _ names (moved_on f fs names after (next_sort f.place after (head_kind (items ts)) al.1) w) e i o)
-perform_goes (a.Run until after) f fs ts n es names names' w e i o al g k =
+    (goes (put after f.row f) fs ts n _ names (moved_on f fs names after w) e i o)
+perform_goes (a.Run until after) f fs ts n es names names' w st e i o al g k =
     let run : List Token = run_of until (items ts) in
     let fault : AnnotatedForest = one_fault (Unwanted until) (run_row true run ts) in
     let all = order_run until n ts o in
-    let begun : IsBegun f.head f.row = (fit_first f fs w.fit).begun in
+    let begun : IsBegun f.head f.row = w.begun.0 in
     same_names (perform true (a.Run until after) f fs ts n es) names names' k
     (goes (put after (ate true f.row ts ⊕ fault) f) fs (run_rest true run ts) (end_from n run) _ names
-    (grow_behind f fs names after ts fault (next_sort f.place after (head_kind (items ts)) al.1) (λ q. no_entry_fault (Unwanted until) (run_row true run ts)) w)
+    (grow_behind f fs names after ts fault (λ q. no_entry_fault (Unwanted until) (run_row true run ts)) w)
     (ends_behind n (end_from n run) f.head f.row ts fault run begun e (run_tokens (Unwanted until) run (dropped run (items ts)) ts (run_prefix until (items ts))) refl all.1)
     (begins_behind names.second f.head f.row ts fault begun i) all.0)
-perform_goes (a.Leaf j after) f fs ts n es names names' w e i o al g k =
+perform_goes (a.Leaf j after) f fs ts n es names names' w st e i o al g k =
     let row : AnnotatedForest = one_branch j (leaf true j ts) in
-    let begun : IsBegun f.head f.row = (fit_first f fs w.fit).begun in
+    let begun : IsBegun f.head f.row = w.begun.0 in
     same_names (perform true (a.Leaf j after) f fs ts n es) names names' k
     (goes (put after (ate true f.row ts ⊕ row) f) fs (behind true ts) (reach true n ts) es names
-    (grow_behind f fs names after ts row (next_sort f.place after (head_kind (items ts)) al.1)
+    (grow_behind f fs names after ts row
     (λ q. subst (λ x. HasNoEntry (one_branch x (leaf true x ts))) (sym al.2) (λ name. refl)) w)
     (ends_behind n (reach true n ts) f.head f.row ts row (firsts (items ts)) begun e (append-nil (tokens_in (without_trivia (leaf true j ts))) ∙ leaf_tokens j ts) (leaf_end n ts) (reach_least n ts o))
     (begins_behind names.second f.head f.row ts row begun i) (order_behind n ts o))
-perform_goes (a.Open j inside after) f fs ts n es names names' w e i o al g k =
-    let same = next_sort f.place after (head_kind (items ts)) al.1 in
+perform_goes (a.Open j inside after) f fs ts n es names names' w st e i o al g k =
     let h : Frame = put after (ate true f.row ts) f in
     same_names (perform true (a.Open j inside after) f fs ts n es) names names' k
-    (goes_open (opened (Node j) inside f.depth (leaf true j ts)) (h ∷ fs) (behind true ts) (reach true n ts) es names (ap is_open al.3)
-    (push_node h fs names j inside f.depth (leaf true j ts) al.2 al.3 (open_holds (sort_of after) (ap is_open same ∙ al.4)) (grow_trivia f fs names after ts same w)) (order_behind n ts o))
-perform_goes (a.Begin j inside after) f fs ts n es names names' w e i o al g k =
+    (goes_open (opened (Node j) inside f.depth (leaf true j ts)) (h ∷ fs) (behind true ts) (reach true n ts) es names (ap is_open al.2)
+    (push_node h fs names j inside f.depth (leaf true j ts) al.2 (grow_trivia f fs names after ts w)) (order_behind n ts o))
+perform_goes (a.Begin j inside after) f fs ts n es names names' w st e i o al g k =
     let h : Frame = put after (ate true f.row ts) f in
     same_names (perform true (a.Begin j inside after) f fs ts n es) names names' k
-    (goes_open (opened (Node j) inside f.depth blank) (h ∷ fs) (from_item ts) n es names (ap is_open al.2)
-    (push_node h fs names j inside f.depth blank al.1 al.2 (open_holds (sort_of after) (ap is_open al.0 ∙ al.3)) (grow_trivia f fs names after ts al.0 w)) (order_from n ts o))
-perform_goes (a.Entry after) f fs ts n es names names' w e i o al g k =
-    entry_goes after f fs ts (items ts) n es names names' w o refl (ap is_there al.0) (next_sort f.place after (head_kind (items ts)) al.1) al.2 k
-perform_goes (a.Twice after) f fs ts n es names names' w e i o al g k =
-    twice_goes after f fs ts (items ts) n es names names' w o refl al.0 (next_sort f.place after (head_kind (items ts)) al.1) al.2 k
-perform_goes (a.Read level counted after) f fs ts n es names names' w e i o al g k =
-    let same = next_sort f.place after (head_kind (items ts)) al.0 in
-    reading_goes level counted (put after f.row f) fs ts n es names names' (moved_on f fs names after same w) (ap (λ x. may_hold x Loose) same ∙ al.1) o k
-perform_goes (a.Wrap j inside high) f fs ts n es names names' w e i o al g k =
+    (goes_open (opened (Node j) inside f.depth blank) (h ∷ fs) (from_item ts) n es names (ap is_open al.1)
+    (push_node h fs names j inside f.depth blank al.1 (grow_trivia f fs names after ts w)) (order_from n ts o))
+perform_goes (a.Entry after) f fs ts n es names names' w st e i o al g k =
+    entry_goes after f fs ts (items ts) n es names names' w o refl (ap is_there al.0) k
+perform_goes (a.Twice after) f fs ts n es names names' w st e i o al g k =
+    twice_goes after f fs ts (items ts) n es names names' w o refl al.0 k
+perform_goes (a.Read level counted after) f fs ts n es names names' w st e i o al g k =
+    reading_goes level counted (put after f.row f) fs ts n es names names' (moved_on f fs names after w) (holder_open f fs Loose st al.1) o k
+perform_goes (a.Wrap j inside high) f fs ts n es names names' w st e i o al g k =
     let over : Frame = opened Operand (p.Behind (low_of f.place) high) f.depth blank in
-    let loose = head_loose f.head ((fit_first f fs w.fit).sort ∙ al.1) in
+    let loose = head_loose f.head (head_sort f.head f.place fs st ∙ al.1) in
     same_names (perform true (a.Wrap j inside high) f fs ts n es) names names' k
-    (goes_open (opened (Node j) inside f.depth (ate true f.row ts ⊕ leaf true j ts)) (over ∷ fs) (behind true ts) (reach true n ts) es names (ap is_open al.3)
-    (push_node over fs names j inside f.depth (ate true f.row ts ⊕ leaf true j ts) al.2 al.3 refl (instead f fs names (low_of f.place) high f.depth blank loose al.1 w)) (order_behind n ts o))
-perform_goes a.Apply f fs ts n es names names' w e i o al g k =
+    (goes_open (opened (Node j) inside f.depth (ate true f.row ts ⊕ leaf true j ts)) (over ∷ fs) (behind true ts) (reach true n ts) es names (ap is_open al.2)
+    (push_node over fs names j inside f.depth (ate true f.row ts ⊕ leaf true j ts) al.2 (instead f fs names (low_of f.place) high f.depth blank loose w)) (order_behind n ts o))
+perform_goes a.Apply f fs ts n es names names' w st e i o al g k =
     let over : Frame = opened Operand (p.Behind (low_of f.place) 15) f.depth blank in
-    let loose = head_loose f.head ((fit_first f fs w.fit).sort ∙ al.1) in
+    let loose = head_loose f.head (head_sort f.head f.place fs st ∙ al.1) in
     reading_goes 16 false (opened (Node NODE_APPLY) p.Past f.depth f.row) (over ∷ fs) ts n es names names'
-    (push_node over fs names NODE_APPLY p.Past f.depth f.row refl refl refl (instead f fs names (low_of f.place) 15 f.depth blank loose al.1 w)) refl o k
-perform_goes a.ApplyOr f fs ts n es names names' w e i o al g k =
+    (push_node over fs names NODE_APPLY p.Past f.depth f.row refl (instead f fs names (low_of f.place) 15 f.depth blank loose w)) refl o k
+perform_goes a.ApplyOr f fs ts n es names names' w st e i o al g k =
     let row : AnnotatedForest = one_branch NODE_APPLY (ate true f.row ts ⊕ one_branch NODE_IDENT (leaf true NODE_IDENT ts)) in
-    let loose = head_loose f.head ((fit_first f fs w.fit).sort ∙ al.1) in
+    let loose = head_loose f.head (head_sort f.head f.place fs st ∙ al.1) in
     same_names (perform true a.ApplyOr f fs ts n es) names names' k
     (goes_open (opened Operand (p.Behind (low_of f.place) 15) f.depth row) fs (behind true ts) (reach true n ts) es names refl
-    (instead f fs names (low_of f.place) 15 f.depth row loose al.1 w) (order_behind n ts o))
+    (instead f fs names (low_of f.place) 15 f.depth row loose w) (order_behind n ts o))

@@ -8,9 +8,9 @@ use Rattle.rnix_grammar.specs.AnnotatedForest.{without_trivia, tokens_in, extent
 use Rattle.rnix_grammar.specs.{AnnotatedForest.{leaf_kind_as, head_kind, end_from, touches}, Layout.{items, from_item}, Reports.report, Machine.{Head, Node}}
 use Rattle.rnix_grammar.specs.Machine.{Second, Operand, Frame, Machine, put, opened, ate, leaf, leaf_in, behind, reach, machine, closed, perform, step, kind_of}
 use Rattle.rnix_grammar.specs.{Machine.{run_row, run_rest, low_of, made}, Missing.run_of, Sorts.{Sort, Name, Root, Again, Loose, sort_of, sort_of_head}}
-use Rattle.{rnix_grammar.specs.{Sorts.sort_of_node, Allowed.Allowed}, rnix_reader.specs.{declared.{mark.Mark.Mark, names.Names.Names}, State.{State, bumped}}}
-use Rattle.rnix_reader.specs.{State.{skipped, started, started_at, ended, failed, marked}, Steps.{moved, noded}, Flat.{trees_of, nodes_of, mark_of, mark_at}}
-use Rattle.rnix_reader.specs.{Flat.{opened_on, flat, popped}, Holds.{AreFit, BeginsAt, EndsAt, Holding, IsHolding, action_of, is_finish}}
+use Rattle.{rnix_grammar.specs.{Sorts.{sort_of_node, StandsOn}, Allowed.Allowed}, rnix_reader.specs.{declared.{mark.Mark.Mark, names.Names.Names}, State.State}}
+use Rattle.rnix_reader.specs.{State.{bumped, skipped, started, started_at, ended, failed, marked}, Steps.{moved, noded}, Flat.{trees_of, nodes_of, mark_of}}
+use Rattle.rnix_reader.specs.{Flat.{mark_at, opened_on, flat, popped}, Holds.{BeginsAt, EndsAt, Holding, IsHolding, action_of, is_finish}}
 use Rattle.rnix_reader.proofs.FlatLemmas.{flat-bumped, flat-marked, flat-leaf, flat-run, flat-closed, flat-twice, flat-settled, flat-opened, flat-wrapped}
 use Rattle.{rnix_reader.proofs.{FlatLemmas.{flat-started_at, flat-failed}, BegunLemmas.{first_row, name_row}}, rnix_lemmas.proofs.Basics.true_is_not_false}
 use Rattle.rnix_lemmas.proofs.AllowedLemmas.{allowed}
@@ -147,8 +147,8 @@ module _ (f g : Frame) (fs : List Frame) (ts : List Token) (n : ℕ) (es : List 
 
 -- what the reader holds stands there
 pub stands_of : (f : Frame) (fs : List Frame) (ts : List Token) (n : ℕ) (m : Machine) (mark : Mark) (s : State) (names : Names) → Holding f fs ts n m mark s names → Stands f fs ts n m.faults mark s
-stands_of f [] ts n m mark s names h = record { mark_is = h.mark_is; state = h.state ∙ ap popped h.machine_is; sort = h.well.fit.0.sort }
-stands_of f (g ∷ fs) ts n m mark s names h = record { mark_is = h.mark_is; state = h.state ∙ ap popped h.machine_is; sort = h.well.fit.0.sort }
+stands_of f [] ts n m mark s names h = record { mark_is = h.mark_is; state = h.state ∙ ap popped h.machine_is; sort = h.well.fit.0 }
+stands_of f (g ∷ fs) ts n m mark s names h = record { mark_is = h.mark_is; state = h.state ∙ ap popped h.machine_is; sort = h.well.fit.0 }
 
 -- the action at the innermost frame
 same_action : (f : Frame) (fs : List Frame) (ts : List Token) (n : ℕ) (es : List Fault) (mark : Mark) (s : State) → Stands f fs ts n es mark s
@@ -223,7 +223,7 @@ is_root Root = true
 is_root s = false
 
 -- a node that is not the root is complete
-pub done_node : (f : Frame) (fs : List Frame) (ts : List Token) (n : ℕ) (es : List Fault) (mark : Mark) (s : State) → Stands f fs ts n es mark s → AreFit f fs
+pub done_node : (f : Frame) (fs : List Frame) (ts : List Token) (n : ℕ) (es : List Fault) (mark : Mark) (s : State) → Stands f fs ts n es mark s → StandsOn f.head f.place fs
     → is_node (sort_of f.place) ≡ true → is_root (sort_of f.place) ≡ false → ended s ≡ flat (closed f fs ts n es)
 done_node f [] ts n es mark s h w e r = absurd (true_is_not_false (sym (ap is_root w.1) ∙ r))
 done_node f (g ∷ fs) ts n es mark s h w e r =
@@ -231,7 +231,7 @@ done_node f (g ∷ fs) ts n es mark s h w e r =
     step-close f g fs ts n es mark s h k.0 k.1
 
 -- an operand is complete
-pub done_loose : (f : Frame) (fs : List Frame) (ts : List Token) (n : ℕ) (es : List Fault) (mark : Mark) (s : State) → Stands f fs ts n es mark s → AreFit f fs
+pub done_loose : (f : Frame) (fs : List Frame) (ts : List Token) (n : ℕ) (es : List Fault) (mark : Mark) (s : State) → Stands f fs ts n es mark s → StandsOn f.head f.place fs
     → sort_of f.place ≡ Loose → s ≡ flat (closed f fs ts n es)
 done_loose f [] ts n es mark s h w e = absurd (true_is_not_false (sym (ap is_root w.1) ∙ ap is_root e))
 done_loose f (g ∷ fs) ts n es mark s h w e = step-settle f g fs ts n es mark s h (head_loose f.head (h.sort ∙ e))
@@ -304,7 +304,7 @@ pub twice_order : (f : Frame) (fs : List Frame) (ts : List Token) (n : ℕ) (m :
     → sort_of f.place ≡ Again → names.second ≤ s.reached
 twice_order f fs ts n m mark s names h e =
     let st = stands_of f fs ts n m mark s names h in
-    let r = second_start names.second n f.head f.row (head_again f.head (st.sort ∙ e)) h.named.second h.well.ends in
+    let r = second_start names.second n f.head f.row (head_again f.head (st.sort ∙ e)) h.well.begins h.well.ends in
     let reached : s.reached ≡ n = ap (λ x. x.reached) st.state in
     omega (arith, r.0, r.1.1, reached)
 
@@ -316,7 +316,7 @@ done_twice f [] ts n m mark s names h e = absurd (true_is_not_false (sym (ap is_
 done_twice f (g ∷ fs) ts n m mark s names h e =
     let st = stands_of f (g ∷ fs) ts n m mark s names h in
     let o = head_again f.head (st.sort ∙ e) in
-    let r = second_start names.second n f.head f.row o h.named.second h.well.ends in
+    let r = second_start names.second n f.head f.row o h.well.begins h.well.ends in
     let reached : s.reached ≡ n = ap (λ x. x.reached) st.state in
     let range : (let y : Extent = record { start = names.second; end = s.reached } in y) ≡ extent_of (tokens_in (without_trivia f.row)) =
     ap (λ x. let y : Extent = record { start = x; end = s.reached } in y) r.0

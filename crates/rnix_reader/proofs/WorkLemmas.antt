@@ -5,11 +5,11 @@ use Rattle.rnix_grammar.specs.{declared.{place.Place.Place, until.Until.Until, a
 use Rattle.rnix_grammar.specs.{Tables.{stops, depth_limit}, Symbols.symbol_at, Begins.{begin_of, second_kind}, AnnotatedForest.{Token, blank, head_kind}}
 use Rattle.rnix_grammar.specs.{Layout.{items, from_item, tail_of}, Machine.{Node, Operand, Frame, Machine, put, opened, behind, closed, limited, low_of}}
 use Rattle.rnix_grammar.specs.{Machine.{run_rest, dropped, begun, operand_on, reading, perform}, Missing.run_of, Sorts.{Sort, Plain, sort_of, sort_in}}
-use Rattle.{rnix_grammar.specs.{Weights.{weight, bonus_in, bonus}, Allowed.{Allowed, IsNext, is_there}}, rnix_lemmas.proofs.Basics.true_is_not_false}
-use Rattle.rnix_lemmas.proofs.{LayoutLemmas.items-from_item, WithoutTriviaLemmas.{items_behind, run_prefix, all_prefix, run_bared}, RunLemmas.dropped_all}
-use Rattle.rnix_lemmas.proofs.{RunLemmas.run_begins, PlaceLemmas.root_lowest, AllowedLemmas.{sort_there, weight_there}}
-use Rattle.rnix_reader.specs.{declared.mark.Mark.Mark, Flat.{marks_of, mark_of, flat}, Holds.{AreFit, is_finish, weights, bonus_on, work}}
-use Rattle.rnix_reader.proofs.{EntryLemmas.fit_stands, StepLemmas.is_root, RunLemmas.no_items}
+use Rattle.rnix_grammar.specs.{Sorts.StandsOn, Weights.{weight, bonus_in, bonus}, Allowed.{Allowed, IsNext, is_there}}
+use Rattle.rnix_lemmas.proofs.{Basics.true_is_not_false, LayoutLemmas.items-from_item, WithoutTriviaLemmas.{items_behind, run_prefix, all_prefix, run_bared}}
+use Rattle.rnix_lemmas.proofs.{RunLemmas.{dropped_all, run_begins}, PlaceLemmas.root_lowest, AllowedLemmas.{sort_there, weight_there}}
+use Rattle.rnix_reader.{specs.{declared.mark.Mark.Mark, Flat.{marks_of, mark_of, flat}, Holds.{is_finish, weights, bonus_on, work}}, proofs.StepLemmas.is_root}
+use Rattle.rnix_reader.proofs.RunLemmas.{no_items}
 use Rattle.rnix_grammar.specs.declared.place.Place.TheVariants as p
 use Rattle.rnix_grammar.specs.declared.action.Action.TheVariants as a
 use Rattle.rnix_grammar.specs.declared.symbol.Symbol.TheVariants as s
@@ -251,5 +251,5 @@ perform_less a.ApplyOr f fs ts n es w al g =
     omega (arith, there (items ts) al.0, left_behind ts, bonus_small (items (behind true ts)) (p.Behind (low_of f.place) 15))
 
 -- frames that fit stand on the root
-pub fit_bottom : (f : Frame) (fs : List Frame) → AreFit f fs → fs ≡ [] → is_root (sort_of f.place) ≡ true
-fit_bottom f fs w e = ap is_root (root_lowest f.head f.place fs (fit_stands f fs w) e).1
+pub fit_bottom : (f : Frame) (fs : List Frame) → StandsOn f.head f.place fs → fs ≡ [] → is_root (sort_of f.place) ≡ true
+fit_bottom f fs w e = ap is_root (root_lowest f.head f.place fs w e).1

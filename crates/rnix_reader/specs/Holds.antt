@@ -24,7 +24,7 @@ use Rattle.rnix_reader.specs.Names.{has_name, texts_of, extents_of, PatternOpene
 use Rattle.rnix_reader.specs.State.{State, items_left, with_marks, IsNextItem, ended, failed}
 use Rattle.rnix_reader.specs.Steps.{begins_with}
 use Rattle.rnix_reader.specs.Flat.{flat, popped, mark_of}
-use Rattle.rnix_grammar.specs.Sorts.{sort_of, sort_of_head, may_hold, Root}
+use Rattle.rnix_grammar.specs.Sorts.{StandsOn}
 use Rattle.rnix_grammar.specs.Weights.{weight, bonus}
 
 -- an entry begins with its name, and a second name with a token
@@ -33,24 +33,25 @@ IsBegun (Node NODE_PAT_ENTRY) row = (t : Token) × (entry_name (without_trivia r
 IsBegun Second row = (t : Token) × (us : List Token) × (tokens_in (without_trivia row) ≡ t ∷ us)
 IsBegun head row = Unit {0}
 
--- a frame whose head stands at its place
-pub record IsFit (f : Frame) : Type 0 where
-  pub sort : sort_of_head f.head ≡ sort_of f.place
-  pub begun : IsBegun f.head f.row
-
--- each frame may stand inside the one below, and the root is the last
-abbrev pub AreFit : Frame → List Frame → Type 0
-AreFit f [] = IsFit f × (sort_of f.place ≡ Root)
-AreFit f (g ∷ fs) = IsFit f × (may_hold (sort_of g.place) (sort_of f.place) ≡ true) × AreFit g fs
+-- all frames
+abbrev pub AreBegun : List Frame → Type 0
+AreBegun [] = Unit {0}
+AreBegun (f ∷ fs) = IsBegun f.head f.row × AreBegun fs
 
 -- a second name ends where the last item ended
 abbrev pub EndsAt : ℕ → Head → AnnotatedForest → Type 0
 EndsAt n Second row = (n ≡ (extent_of (tokens_in (without_trivia row))).end) × ((extent_of (tokens_in (without_trivia row))).start ≤ n)
 EndsAt n head row = Unit {0}
 
--- the frames fit, a second name ends where it should, and the tokens are in order
-pub record IsWell (f : Frame) (fs : List Frame) (ts : List Token) (n : ℕ) : Type 0 where
-  pub fit : AreFit f fs
+-- a second name begins at a place
+abbrev pub BeginsAt : ℕ → Head → AnnotatedForest → Type 0
+BeginsAt n Second row = n ≡ (extent_of (tokens_in (without_trivia row))).start
+BeginsAt n head row = Unit {0}
+
+-- the frames stand on one another, a second name has its range, and the tokens are in order
+pub record IsWell (f : Frame) (fs : List Frame) (ts : List Token) (n second : ℕ) : Type 0 where
+  pub fit : StandsOn f.head f.place fs
+  pub begins : BeginsAt second f.head f.row
   pub ends : EndsAt n f.head f.row
   pub order : AreInOrder n ts
 
@@ -101,17 +102,12 @@ abbrev pub Known : List Frame → List NameSet → Type 0
 Known [] sets = sets ≡ []
 Known (f ∷ fs) sets = KnownOn f.head f.row sets (Known fs)
 
--- a second name begins at a place
-abbrev pub BeginsAt : ℕ → Head → AnnotatedForest → Type 0
-BeginsAt n Second row = n ≡ (extent_of (tokens_in (without_trivia row))).start
-BeginsAt n head row = Unit {0}
-
 -- the names that the reader keeps are those of the open patterns and entries
-pub record AreNamed (names : Names) (f : Frame) (fs : List Frame) : Type 0 where
+pub record AreNamed (f : Frame) (fs : List Frame) (names : Names) : Type 0 where
+  pub begun : AreBegun (f ∷ fs)
   pub sets : Known (f ∷ fs) names.sets.items
   pub texts : texts_of names ≡ entries_of (f ∷ fs)
   pub ranges : extents_of names ≡ ranges_of (f ∷ fs)
-  pub second : BeginsAt names.second f.head f.row
 
 -- the reader stands where the machine does
 pub record Holds (m : Machine) (s : State) (names : Names) : Type 0 where
@@ -119,16 +115,16 @@ pub record Holds (m : Machine) (s : State) (names : Names) : Type 0 where
   pub under : List Frame
   pub frames : m.frames ≡ top ∷ under
   pub state : s ≡ flat m
-  pub well : IsWell top under m.left m.reached
-  pub named : AreNamed names top under
+  pub well : IsWell top under m.left m.reached names.second
+  pub named : AreNamed top under names
 
 -- and the innermost mark is taken
 pub record Holding (top : Frame) (under : List Frame) (ts : List Token) (n : ℕ) (m : Machine) (mark : Mark) (s : State) (names : Names) : Type 0 where
   pub machine_is : m ≡ machine (top ∷ under) ts n m.faults
   pub mark_is : mark ≡ mark_of top under
   pub state : s ≡ popped m
-  pub well : IsWell top under ts n
-  pub named : AreNamed names top under
+  pub well : IsWell top under ts n names.second
+  pub named : AreNamed top under names
 
 -- so it is for some innermost frame
 abbrev pub IsHolding : Machine → Mark → State → Names → Type 0
