@@ -1,2 +1,4 @@
 pub mod Bound
+pub mod Names
+pub mod References
 pub mod Occurrences

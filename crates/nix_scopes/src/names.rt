@@ -1,5 +1,9 @@
 //! The names that nodes bind.
 
+ghost use Rattle.std.specs.Prelude.{◌≡◌, option_map};
+ghost use Rattle.rnix.specs.Strings.{string_parts};
+ghost use Rattle.nix_scopes.specs.Names.{has_escape, plain_text, attr_text};
+
 use rnix::ast::{
     AstNode, AstToken, Attr, AttrSet, Entry, HasEntry, InterpolPart, Lambda, LegacyLet, LetIn,
     Param, Str,
@@ -14,34 +18,41 @@ pub struct Name<'t> {
     pub node: SyntaxNode<'t>,
 }
 
+// Whether a text has a backslash.
+fn has_escape(text: &str) -> bool
+    ensures { result ≡ has_escape text.now }
+{
+    text.as_bytes().contains(&b'\\')
+}
+
 // The text of a string that is a name: without escapes and interpolations.
-fn plain_text<'t>(string: &Str<'t>) -> Option<&'t str> {
+fn plain_text<'t>(string: &Str<'t>) -> Option<&'t str>
+    ensures { option_map (λ text. text.now) result ≡ plain_text (string_parts string.now) }
+{
     let mut parts = string.parts();
     match (parts.next(), parts.next()) {
-        (Some(InterpolPart::Literal(text)), None) => {
-            let text = text.syntax().text();
-            if text.contains('\\') {
-                None
-            } else {
-                Some(text)
-            }
+        (Some(InterpolPart::Literal(token)), None) => {
+            let text = token.syntax().text();
+            if has_escape(text) { None } else { Some(text) }
         }
         _ => None,
     }
 }
 
-/// The name that an attribute is, if it is written out.
-pub fn attr_text<'t>(attr: &Attr<'t>) -> Option<&'t str> {
-    match attr {
-        Attr::Ident(ident) => Some(ident.syntax().text()),
-        Attr::Str(string) => plain_text(string),
-        Attr::Dynamic(_) => None,
+/// The name that a node writes in a set, if it is written out.
+pub fn attr_text<'t>(node: &SyntaxNode<'t>) -> Option<&'t str>
+    ensures { option_map (λ text. text.now) result ≡ attr_text node.now }
+{
+    match node.kind() {
+        SyntaxKind::NODE_IDENT => Some(node.text()),
+        SyntaxKind::NODE_STRING => plain_text(&Str::cast(node.clone())?),
+        _ => None,
     }
 }
 
 // Adds the name that an attribute is, if it is written out.
 fn add_attr<'t>(attr: &Attr<'t>, names: &mut Vec<Name<'t>>) -> Result<(), AllocError> {
-    if let Some(text) = attr_text(attr) {
+    if let Some(text) = attr_text(attr.syntax()) {
         let node = attr.syntax().clone();
         names.push(Name { text, node })?;
     }

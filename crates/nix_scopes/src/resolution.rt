@@ -1,11 +1,14 @@
 //! What the names of a text refer to.
 
-ghost use Rattle.std.specs.Prelude.{◌≡◌, IfOk, OnOk, IfSome};
-ghost use Rattle.nix_scopes.specs.Bound.{IsBoundAt, IsResolved, bindings_of, references_of};
+ghost use Rattle.std.specs.Prelude.{◌≡◌, [], ◌∷◌, IfOk, OnOk, IfSome};
+ghost use Rattle.rnix_green.specs.Tree.{text_at};
+ghost use Rattle.nix_scopes.specs.Bound.{IsBoundAt, IsResolved, bindings_of, references_of, name_of, listed, Adds};
+ghost use Rattle.nix_scopes.specs.Names.{attr_text, named_if};
+ghost use Rattle.nix_scopes.specs.References.{is_behind_node, stands_for_value, is_expression, inherited_at, references_at, references_in};
 
 use crate::names::{Name, attr_text, is_scope, names_bound};
 use rnix::ast::{AstNode, Inherit};
-use rnix::{SyntaxKind, SyntaxNode, WalkEvent};
+use rnix::{Direction, SyntaxKind, SyntaxNode, WalkEvent};
 use std::alloc::{AllocError, Global};
 use std::collections::HashMap;
 
@@ -56,7 +59,8 @@ pub struct Resolution<'t> {
 
 impl<'t> Resolution<'t> {
     fn new(alloc: Global) -> Self
-        ensures { IsResolved result }
+        ensures bound { IsResolved result }
+        ensures references { listed result ≡ [] }
     {
         Resolution {
             bindings: Vec::new(alloc),
@@ -132,7 +136,8 @@ impl<'t> Resolution<'t> {
         scope: &SyntaxNode<'t>,
         begin: usize,
     ) -> Result<(), AllocError>
-        ensures { OnOk result (IsResolved self.old → IsResolved self.new) }
+        ensures bound { OnOk result (IsResolved self.old → IsResolved self.new) }
+        ensures references { OnOk result (listed self.new ≡ listed self.old) }
     {
         let number = self.bindings.len();
         let around = self.inside(name.text);
@@ -151,10 +156,14 @@ impl<'t> Resolution<'t> {
         Ok(())
     }
 
-    // Enters a scope.
+    // Enters a node: if it is a scope, its names come into sight.
     fn enter_scope(&mut self, alloc: Global, scope: &SyntaxNode<'t>) -> Result<(), AllocError>
-        ensures { OnOk result (IsResolved self.old → IsResolved self.new) }
+        ensures bound { OnOk result (IsResolved self.old → IsResolved self.new) }
+        ensures references { OnOk result (listed self.new ≡ listed self.old) }
     {
+        if !is_scope(scope) {
+            return Ok(());
+        }
         let first = self.bindings.len();
         for name in &names_bound(alloc, scope)? {
             self.bind(name, scope, first)?;
@@ -166,7 +175,8 @@ impl<'t> Resolution<'t> {
 
     // Gives the name of a binding back what it was bound to around the scope.
     fn unbind(&mut self, number: usize) -> Result<(), AllocError>
-        ensures { OnOk result (IsResolved self.old → IsResolved self.new) }
+        ensures bound { OnOk result (IsResolved self.old → IsResolved self.new) }
+        ensures references { OnOk result (listed self.new ≡ listed self.old) }
     {
         let Some(binding) = self.bindings.get(number) else {
             return Ok(());
@@ -186,10 +196,14 @@ impl<'t> Resolution<'t> {
         Ok(())
     }
 
-    // Leaves the innermost scope.
-    fn leave_scope(&mut self) -> Result<(), AllocError>
-        ensures { OnOk result (IsResolved self.old → IsResolved self.new) }
+    // Leaves a node: if it is a scope, it is the innermost one.
+    fn leave_scope(&mut self, node: &SyntaxNode<'_>) -> Result<(), AllocError>
+        ensures bound { OnOk result (IsResolved self.old → IsResolved self.new) }
+        ensures references { OnOk result (listed self.new ≡ listed self.old) }
     {
+        if !is_scope(node) {
+            return Ok(());
+        }
         if let Some(Extent { first, end }) = self.open.pop() {
             for number in first..end {
                 self.unbind(number)?;
@@ -200,7 +214,8 @@ impl<'t> Resolution<'t> {
 
     // Adds a reference to the binding that it has, if that has its name and a scope around it.
     fn add_reference(&mut self, reference: Reference<'t>) -> Result<(), AllocError>
-        ensures { OnOk result (IsResolved self.old → IsResolved self.new) }
+        ensures bound { OnOk result (IsResolved self.old → IsResolved self.new) }
+        ensures references { OnOk result (Adds self.old self.new (name_of reference.entry ∷ [])) }
     {
         let Reference {
             text,
@@ -218,9 +233,31 @@ impl<'t> Resolution<'t> {
         Ok(())
     }
 
+    // Adds a name that is inherited, if it is written out.
+    fn add_inherited(&mut self, node: &SyntaxNode<'t>, binds: bool) -> Result<(), AllocError>
+        ensures bound { OnOk result (IsResolved self.old → IsResolved self.new) }
+        ensures references { OnOk result (Adds self.old self.new (named_if node.now (attr_text node.now))) }
+    {
+        let Some(text) = attr_text(node) else {
+            return Ok(());
+        };
+        let binding = if binds {
+            self.outside(text)
+        } else {
+            self.inside(text)
+        };
+        self.add_reference(Reference {
+            text,
+            node: node.clone(),
+            is_inherited: true,
+            binding,
+        })
+    }
+
     // Adds the names that are inherited from around the `let` or the set.
-    fn add_inherited(&mut self, inherit: &Inherit<'t>) -> Result<(), AllocError>
-        ensures { OnOk result (IsResolved self.old → IsResolved self.new) }
+    fn add_all_inherited(&mut self, inherit: &Inherit<'t>) -> Result<(), AllocError>
+        ensures bound { OnOk result (IsResolved self.old → IsResolved self.new) }
+        ensures references { OnOk result (Adds self.old self.new (inherited_at inherit.now)) }
     {
         if inherit.from().is_some() {
             return Ok(());
@@ -230,27 +267,15 @@ impl<'t> Resolution<'t> {
             .parent()
             .is_some_and(|parent| is_scope(&parent));
         for attr in inherit.attrs() {
-            if let Some(text) = attr_text(&attr) {
-                let binding = if binds {
-                    self.outside(text)
-                } else {
-                    self.inside(text)
-                };
-                let node = attr.syntax().clone();
-                self.add_reference(Reference {
-                    text,
-                    node,
-                    is_inherited: true,
-                    binding,
-                })?;
-            }
+            self.add_inherited(attr.syntax(), binds)?;
         }
         Ok(())
     }
 
     // Adds a name that is an expression.
     fn add_expression(&mut self, node: SyntaxNode<'t>) -> Result<(), AllocError>
-        ensures { OnOk result (IsResolved self.old → IsResolved self.new) }
+        ensures bound { OnOk result (IsResolved self.old → IsResolved self.new) }
+        ensures references { OnOk result (Adds self.old self.new (record { text = text_at node.entry; node = node.entry } ∷ [])) }
     {
         let text = node.text();
         let binding = self.inside(text);
@@ -262,20 +287,28 @@ impl<'t> Resolution<'t> {
         })
     }
 
-    // What is done where a walk meets a node.
-    fn enter(&mut self, alloc: Global, node: SyntaxNode<'t>) -> Result<(), AllocError>
-        ensures { OnOk result (IsResolved self.old → IsResolved self.new) }
+    // Adds the references that a node is or has.
+    fn add_references(&mut self, node: SyntaxNode<'t>) -> Result<(), AllocError>
+        ensures bound { OnOk result (IsResolved self.old → IsResolved self.new) }
+        ensures references { OnOk result (Adds self.old self.new (references_at node.entry)) }
     {
-        if is_scope(&node) {
-            return self.enter_scope(alloc, &node);
-        }
         if is_expression(&node) {
             return self.add_expression(node);
         }
         match Inherit::cast(node) {
-            Some(inherit) => self.add_inherited(&inherit),
+            Some(inherit) => self.add_all_inherited(&inherit),
             None => Ok(()),
         }
+    }
+
+    // What is done where a walk meets a node.
+    fn enter(&mut self, alloc: Global, node: SyntaxNode<'t>) -> Result<(), AllocError>
+        ensures bound { OnOk result (IsResolved self.old → IsResolved self.new) }
+        ensures references { OnOk result (Adds self.old self.new (references_at node.entry)) }
+    {
+        self.enter_scope(alloc, &node)?;
+        self.add_references(node)?;
+        Ok(())
     }
 }
 
@@ -318,36 +351,49 @@ fn refer_alike(references: &[Reference<'_>], others: &[Reference<'_>]) -> bool {
     references.len() == others.len()
 }
 
-// Whether a node is a name that stands for a value: it is neither bound, nor inherited, nor a part of an attribute path.
-fn is_expression(node: &SyntaxNode<'_>) -> bool {
-    let Some(parent) = node.parent() else {
-        return false;
-    };
-    match parent.kind() {
+// Whether another node comes before this one in its parent.
+fn is_behind_node(node: &SyntaxNode<'_>) -> bool
+    ensures { result ≡ is_behind_node node.now }
+{
+    let mut nodes = node.siblings(Direction::Prev);
+    let _itself = nodes.next();
+    nodes.next().is_some()
+}
+
+// Whether a name in a parent of a kind stands for a value: it is neither bound, nor inherited, nor a part of an attribute path.
+fn stands_for_value(parent: SyntaxKind, node: &SyntaxNode<'_>) -> bool
+    ensures { result ≡ stands_for_value parent node.now }
+{
+    match parent {
         SyntaxKind::NODE_ATTRPATH
         | SyntaxKind::NODE_INHERIT
         | SyntaxKind::NODE_IDENT_PARAM
         | SyntaxKind::NODE_PAT_BIND => false,
-        SyntaxKind::NODE_PAT_ENTRY => {
-            node.kind() == SyntaxKind::NODE_IDENT && node.prev_sibling().is_some()
-        }
-        _ => node.kind() == SyntaxKind::NODE_IDENT,
+        SyntaxKind::NODE_PAT_ENTRY => is_behind_node(node),
+        _ => true,
     }
+}
+
+// Whether a node is a name that stands for a value.
+fn is_expression(node: &SyntaxNode<'_>) -> bool
+    ensures { result ≡ is_expression node.now }
+{
+    let Some(parent) = node.parent() else {
+        return false;
+    };
+    node.kind() == SyntaxKind::NODE_IDENT && stands_for_value(parent.kind(), node)
 }
 
 /// Resolves the names inside a node: a name refers to the innermost binding of its name around it, also under `with`.
 pub fn resolve<'t>(alloc: Global, root: &SyntaxNode<'t>) -> Result<Resolution<'t>, AllocError>
-    ensures { IfOk result IsResolved }
+    ensures bound { IfOk result IsResolved }
+    ensures references { IfOk result (λ names. listed names ≡ references_in root.now) }
 {
     let mut resolution = Resolution::new(alloc);
     for event in root.preorder() {
         match event {
             WalkEvent::Enter(node) => resolution.enter(alloc, node)?,
-            WalkEvent::Leave(node) => {
-                if is_scope(&node) {
-                    resolution.leave_scope()?;
-                }
-            }
+            WalkEvent::Leave(node) => resolution.leave_scope(&node)?,
         }
     }
     Ok(resolution)

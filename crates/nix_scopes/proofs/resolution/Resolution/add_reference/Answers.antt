@@ -3,8 +3,8 @@ use Rattle.nix_scopes.specs.Bound.{IsBoundAt}
 use Rattle.nix_scopes.proofs.BoundLemmas.{reference_added, bound_if}
 use Rattle.nix_scopes.proofs.resolution.Resolution.add_reference.Goals as goal
 
-pub returns : goal.returns
-returns c =
+pub returns-clause-bound : goal.returns-clause-bound
+returns-clause-bound c =
     let own = c.args.self.now in
     let reference = c.args.reference in
     let found = c.bound-binding.result in

@@ -1,0 +1,58 @@
+-- Which names are references: those at the places of expressions, and those that are inherited from around their set.
+use Rattle.std.specs.Prelude.{◌&&◌, Bool, true, false, List, [], ◌∷◌, Option, Some, None, flat_map, if◌then◌else◌}
+use Rattle.rnix_kinds.specs.declared.kinds.SyntaxKind.{SyntaxKind}
+use Rattle.rnix_kinds.specs.declared.kinds.SyntaxKind.TheVariants as k
+use Rattle.rnix_green.specs.Equality.{same_kind}
+use Rattle.rnix_green.specs.Tree.{Located, item_of, text_at}
+use Rattle.rnix_green.specs.Walk.{nodes_in, elements_of}
+use Rattle.rnix_green.specs.Relatives.{parent_of}
+use Rattle.rnix_tree.specs.declared.siblings.Direction.TheVariants.{Prev}
+use Rattle.rnix_tree.specs.Siblings.{siblings_of}
+use Rattle.rnix_base.specs.Select.{nodes_of, child_of}
+use Rattle.rnix.specs.NodeKinds.{is_attr}
+use Rattle.nix_scopes.specs.Names.{Named, names_written}
+
+-- whether there are two
+abbrev pub has_two : List Located → Bool
+has_two (a ∷ b ∷ others) = true
+has_two others = false
+
+-- whether another node comes before this one among the children of its parent
+abbrev pub is_behind_node : Located → Bool
+is_behind_node e = has_two (nodes_in (siblings_of Prev e))
+
+-- whether an identifier whose parent has the kind is an expression: names are selected, inherited and bound too; behind the name of an entry
+-- of a pattern comes its default
+abbrev pub stands_for_value : SyntaxKind → Located → Bool
+stands_for_value k.NODE_ATTRPATH e = false
+stands_for_value k.NODE_INHERIT e = false
+stands_for_value k.NODE_IDENT_PARAM e = false
+stands_for_value k.NODE_PAT_BIND e = false
+stands_for_value k.NODE_PAT_ENTRY e = is_behind_node e
+stands_for_value _ e = true
+
+-- the same, where there is a parent
+abbrev pub stands_in : Option Located → Located → Bool
+stands_in None e = false
+stands_in (Some parent) e = stands_for_value (item_of parent).kind e
+
+-- whether a node is a name at the place of an expression
+abbrev pub is_expression : Located → Bool
+is_expression e = same_kind (item_of e).kind k.NODE_IDENT && stands_in (parent_of e) e
+
+-- the names of an `inherit`, where they come from no expression of its own
+abbrev pub inherited_from : Option Located → Located → List Named
+inherited_from (Some from) e = []
+inherited_from None e = names_written (nodes_of is_attr e)
+
+-- the names that an `inherit` takes from what is around its set
+abbrev pub inherited_at : Located → List Named
+inherited_at e = inherited_from (child_of (same_kind k.NODE_INHERIT_FROM) 0 e) e
+
+-- the references that a node is, or has as an `inherit`
+abbrev pub references_at : Located → List Named
+references_at e = if is_expression e then record { text = text_at e; node = e } ∷ [] else (if same_kind k.NODE_INHERIT (item_of e).kind then inherited_at e else [])
+
+-- the references inside a node, in the order of the nodes that are or have them
+abbrev pub references_in : Located → List Named
+references_in root = flat_map references_at (nodes_in (elements_of root))
