@@ -34,7 +34,7 @@ pub fn tree_derivation(text: &str)
         → IsExpression (significant tree.children)) }
     ensures exactly { OfParsed text.now (λ tree faults.
         ((faults ≡ []) × (has_no_corner NODE_ROOT (significant tree.children) ≡ true)
-            × ArePaths (laid (significant tree.children) (items (placed_from 0 (tokens_of text.now)))) [])
+        × ArePaths (laid (significant tree.children) (items (placed_from 0 (tokens_of text.now)))) [])
         ↔ IsDerivation (significant tree.children) (items (placed_from 0 (tokens_of text.now)))) }
 {
     let _len = text.len();

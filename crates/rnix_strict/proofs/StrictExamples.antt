@@ -76,62 +76,62 @@ strictness ts = map (λ t. is_strict_expression (t empty)) ts
 
 -- strict, with the text of each
 strict_trees : strictness
-    ( binary TOKEN_ADD one (binary TOKEN_MUL one one) -- 1 + 1 * 1
-    ∷ binary TOKEN_SUB (binary TOKEN_ADD one one) one -- 1 + 1 - 1
-    ∷ binary TOKEN_CONCAT one (binary TOKEN_CONCAT one one) -- 1 ++ (1 ++ 1) without parentheses
-    ∷ binary TOKEN_IMPLICATION one (binary TOKEN_IMPLICATION one one) -- 1 -> 1 -> 1
-    ∷ binary TOKEN_EQUAL (parens (binary TOKEN_EQUAL one one)) one -- (1 == 1) == 1
-    ∷ binary TOKEN_EQUAL (binary TOKEN_LESS one one) one -- 1 < 1 == 1
-    ∷ minus (minus one) -- --1
-    ∷ nots (binary TOKEN_ADD one one) -- !1 + 1
-    ∷ nots (asked one) -- !1 ? b
-    ∷ asked (minus one) -- -1 ? b
-    ∷ asked (asked one) -- 1 ? b ? b
-    ∷ lambda one -- a: 1
-    ∷ lambda (lambda one) -- a: a: 1
-    ∷ applied (applied one one) one -- 1 1 1
-    ∷ applied (named (codes "a")) (named (codes "or")) -- a or
-    ∷ applied one (applied one (named (codes "or"))) -- 1 (1 or), where `or` is an argument
-    ∷ selected (path (codes "or")) -- a.or
-    ∷ selected (λ f. path (codes "b") (leaf TOKEN_OR (codes "or") (named (codes "c") f))) -- a.b or c
-    ∷ selected (dynamic one) -- a.${1}
-    ∷ (λ f. node NODE_CUR_POS (leaf TOKEN_CUR_POS (codes "__curPos") empty) f) -- __curPos
-    ∷ list (λ f. named (codes "a") (parens (named (codes "b")) f)) -- [a (b)]
-    ∷ list (applied (named (codes "a")) (named (codes "or"))) -- [a or]
-    ∷ patterned (braces (λ f. entry (codes "a") (leaf TOKEN_COMMA (codes ",") (default_entry f)))) -- {a, b ? 1}: a
-    ∷ patterned (λ f. bound_before (braces (λ g. g) f)) -- x@{}: a
-    ∷ patterned (λ f. braces (λ g. g) (bound_behind f)) -- {}@x: a
-    ∷ (λ f. leaf NODE_PAREN (codes "x") f) -- a leaf with the kind of a node stands for one
+    (binary TOKEN_ADD one (binary TOKEN_MUL one one)  -- 1 + 1 * 1
+    ∷ binary TOKEN_SUB (binary TOKEN_ADD one one) one  -- 1 + 1 - 1
+    ∷ binary TOKEN_CONCAT one (binary TOKEN_CONCAT one one)  -- 1 ++ (1 ++ 1) without parentheses
+    ∷ binary TOKEN_IMPLICATION one (binary TOKEN_IMPLICATION one one)  -- 1 -> 1 -> 1
+    ∷ binary TOKEN_EQUAL (parens (binary TOKEN_EQUAL one one)) one  -- (1 == 1) == 1
+    ∷ binary TOKEN_EQUAL (binary TOKEN_LESS one one) one  -- 1 < 1 == 1
+    ∷ minus (minus one)  -- --1
+    ∷ nots (binary TOKEN_ADD one one)  -- !1 + 1
+    ∷ nots (asked one)  -- !1 ? b
+    ∷ asked (minus one)  -- -1 ? b
+    ∷ asked (asked one)  -- 1 ? b ? b
+    ∷ lambda one  -- a: 1
+    ∷ lambda (lambda one)  -- a: a: 1
+    ∷ applied (applied one one) one  -- 1 1 1
+    ∷ applied (named (codes "a")) (named (codes "or"))  -- a or
+    ∷ applied one (applied one (named (codes "or")))  -- 1 (1 or), where `or` is an argument
+    ∷ selected (path (codes "or"))  -- a.or
+    ∷ selected (λ f. path (codes "b") (leaf TOKEN_OR (codes "or") (named (codes "c") f)))  -- a.b or c
+    ∷ selected (dynamic one)  -- a.${1}
+    ∷ (λ f. node NODE_CUR_POS (leaf TOKEN_CUR_POS (codes "__curPos") empty) f)  -- __curPos
+    ∷ list (λ f. named (codes "a") (parens (named (codes "b")) f))  -- [a (b)]
+    ∷ list (applied (named (codes "a")) (named (codes "or")))  -- [a or]
+    ∷ patterned (braces (λ f. entry (codes "a") (leaf TOKEN_COMMA (codes ",") (default_entry f))))  -- {a, b ? 1}: a
+    ∷ patterned (λ f. bound_before (braces (λ g. g) f))  -- x@{}: a
+    ∷ patterned (λ f. braces (λ g. g) (bound_behind f))  -- {}@x: a
+    ∷ (λ f. leaf NODE_PAREN (codes "x") f)  -- a leaf with the kind of a node stands for one
     ∷ [])
     ≡ true ∷ true ∷ true ∷ true ∷ true ∷ true ∷ true ∷ true ∷ true ∷ true ∷ true ∷ true ∷ true ∷ true ∷ true ∷ true ∷ true ∷ true ∷ true ∷ true ∷ true ∷ true ∷ true ∷ true ∷ true ∷ true ∷ []
 strict_trees = refl
 
 -- not strict
 other_trees : strictness
-    ( binary TOKEN_MUL (binary TOKEN_ADD one one) one -- 1 + 1 as a factor
-    ∷ binary TOKEN_SUB one (binary TOKEN_ADD one one) -- 1 - (1 + 1) without parentheses
-    ∷ binary TOKEN_EQUAL (binary TOKEN_EQUAL one one) one -- 1 == 1 == 1, grouped to the left
-    ∷ binary TOKEN_EQUAL one (binary TOKEN_EQUAL one one) -- 1 == 1 == 1, grouped to the right
-    ∷ minus (binary TOKEN_ADD one one) -- -(1 + 1) without parentheses
-    ∷ binary TOKEN_ADD one (nots one) -- 1 + !1
-    ∷ minus (nots one) -- -!1
-    ∷ binary TOKEN_ADD one (lambda one) -- 1 + a: 1
-    ∷ binary TOKEN_ADD (lambda one) one -- a lambda as a first operand
-    ∷ applied one (lambda one) -- 1 a: 1
-    ∷ applied one (applied one one) -- 1 (1 1) without parentheses
-    ∷ named (codes "or") -- or
-    ∷ applied (named (codes "or")) one -- or 1
-    ∷ applied (applied one one) (named (codes "or")) -- 1 1 or, where `or` is no argument of a call
-    ∷ named (codes "__curPos") -- a name `__curPos`
-    ∷ (λ f. node NODE_CUR_POS (leaf TOKEN_CUR_POS (codes "a") empty) f) -- a position `a`
-    ∷ selected (λ f. path (codes "b") (leaf TOKEN_OR (codes "or") (applied one one f))) -- a.b or (1 1) without parentheses
-    ∷ list (applied one one) -- [(1 1)] without parentheses
-    ∷ selected (dynamic (λ f. f)) -- a.${}
-    ∷ selected (dynamic (λ f. one (one f))) -- a.${1 1}, not as a call
-    ∷ patterned (braces (λ f. entry (codes "b") (leaf TOKEN_COMMA (codes ",") (default_entry f)))) -- {b, b ? 1}: a
-    ∷ patterned (braces (entry (codes "or"))) -- {or}: a
-    ∷ patterned (λ f. braces (λ g. g) (bound_before f)) -- {}x@: a
-    ∷ patterned (λ f. bound_before (braces (λ g. g) (bound_behind f))) -- x@{}@x: a
+    (binary TOKEN_MUL (binary TOKEN_ADD one one) one  -- 1 + 1 as a factor
+    ∷ binary TOKEN_SUB one (binary TOKEN_ADD one one)  -- 1 - (1 + 1) without parentheses
+    ∷ binary TOKEN_EQUAL (binary TOKEN_EQUAL one one) one  -- 1 == 1 == 1, grouped to the left
+    ∷ binary TOKEN_EQUAL one (binary TOKEN_EQUAL one one)  -- 1 == 1 == 1, grouped to the right
+    ∷ minus (binary TOKEN_ADD one one)  -- -(1 + 1) without parentheses
+    ∷ binary TOKEN_ADD one (nots one)  -- 1 + !1
+    ∷ minus (nots one)  -- -!1
+    ∷ binary TOKEN_ADD one (lambda one)  -- 1 + a: 1
+    ∷ binary TOKEN_ADD (lambda one) one  -- a lambda as a first operand
+    ∷ applied one (lambda one)  -- 1 a: 1
+    ∷ applied one (applied one one)  -- 1 (1 1) without parentheses
+    ∷ named (codes "or")  -- or
+    ∷ applied (named (codes "or")) one  -- or 1
+    ∷ applied (applied one one) (named (codes "or"))  -- 1 1 or, where `or` is no argument of a call
+    ∷ named (codes "__curPos")  -- a name `__curPos`
+    ∷ (λ f. node NODE_CUR_POS (leaf TOKEN_CUR_POS (codes "a") empty) f)  -- a position `a`
+    ∷ selected (λ f. path (codes "b") (leaf TOKEN_OR (codes "or") (applied one one f)))  -- a.b or (1 1) without parentheses
+    ∷ list (applied one one)  -- [(1 1)] without parentheses
+    ∷ selected (dynamic (λ f. f))  -- a.${}
+    ∷ selected (dynamic (λ f. one (one f)))  -- a.${1 1}, not as a call
+    ∷ patterned (braces (λ f. entry (codes "b") (leaf TOKEN_COMMA (codes ",") (default_entry f))))  -- {b, b ? 1}: a
+    ∷ patterned (braces (entry (codes "or")))  -- {or}: a
+    ∷ patterned (λ f. braces (λ g. g) (bound_before f))  -- {}x@: a
+    ∷ patterned (λ f. bound_before (braces (λ g. g) (bound_behind f)))  -- x@{}@x: a
     ∷ [])
     ≡ false ∷ false ∷ false ∷ false ∷ false ∷ false ∷ false ∷ false ∷ false ∷ false ∷ false ∷ false ∷ false ∷ false ∷ false ∷ false ∷ false ∷ false ∷ false ∷ false ∷ false ∷ false ∷ false ∷ false ∷ []
 other_trees = refl
@@ -147,7 +147,7 @@ abbrev cur_pos_leaf : AnnotatedForest
 cur_pos_leaf = one_token TOKEN_IDENT (record { kind = TOKEN_IDENT; text = codes "__curPos"; start = 0; end = 8 })
 
 names :
-    ( is_named (At RootStart) NODE_IDENT or_leaf
+    (is_named (At RootStart) NODE_IDENT or_leaf
     ∷ is_named BeforeArgument NODE_IDENT or_leaf
     ∷ is_named (At AttrpathStart) NODE_IDENT or_leaf
     ∷ is_named (Start NODE_IDENT_PARAM) NODE_IDENT or_leaf
@@ -170,11 +170,11 @@ extra_repaired = refl
 
 -- how many expressions that count are inside one another
 depths : map (λ t. nest NODE_ROOT (t empty))
-    ( binary TOKEN_ADD one (binary TOKEN_MUL one one) -- 1 + 1 * 1
-    ∷ minus (parens (applied (parens (binary TOKEN_ADD one one)) one)) -- -((1 + 1) 1)
-    ∷ lambda (list (λ f. one (parens one f))) -- a: [1 (1)]
-    ∷ selected (dynamic one) -- a.${1}
-    ∷ patterned (braces default_entry) -- {b ? 1}: a
+    (binary TOKEN_ADD one (binary TOKEN_MUL one one)  -- 1 + 1 * 1
+    ∷ minus (parens (applied (parens (binary TOKEN_ADD one one)) one))  -- -((1 + 1) 1)
+    ∷ lambda (list (λ f. one (parens one f)))  -- a: [1 (1)]
+    ∷ selected (dynamic one)  -- a.${1}
+    ∷ patterned (braces default_entry)  -- {b ? 1}: a
     ∷ [])
     ≡ 1 ∷ 4 ∷ 4 ∷ 2 ∷ 2 ∷ []
 depths = refl

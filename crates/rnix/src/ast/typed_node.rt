@@ -89,7 +89,9 @@ impl<'t, K: NodeType> fmt::Display for TypedNode<'t, K> {
 
 impl<'t, K: NodeType> fmt::Debug for TypedNode<'t, K> {
     fn fmt<W: fmt::Write>(&self, f: &mut fmt::Formatter<W>) -> fmt::Result {
-        f.debug_struct(K::NAME).field("syntax", &self.syntax).finish()
+        f.debug_struct(K::NAME)
+            .field("syntax", &self.syntax)
+            .finish()
     }
 }
 
