@@ -46,11 +46,11 @@ operand_takes x level counted y e = record {
 }
 
 -- so it does where more operands may stand
-pub series_takes : (x : Place) (level : ℕ) (closer : Closer) → symbol_at x ≡ s.Series level closer → Takes (At x) level (At x)
-series_takes x level closer e = record {
+pub series_takes : (x y : Place) (level : ℕ) (closer : Closer) → symbol_at x ≡ s.Series level closer → x ≡ y → Takes (At x) level (At y)
+series_takes x y level closer e i = record {
   leveled = λ z h. ap level_in e;
   expected = λ k d h. ap (λ w. stands_expected_in w k) e;
-  goes = λ k h. ap (λ w. advance_symbol w x k) e ∙ ap (λ w. if w then At p.Past else to (fits level k) (At x)) (closes_none closer k (fits_expression level k h)) ∙ ap (λ w. to w (At x)) h;
+  goes = λ k h. ap (λ w. advance_symbol w x k) e ∙ ap (λ w. if w then At p.Past else to (fits level k) (At x)) (closes_none closer k (fits_expression level k h)) ∙ ap (λ w. to w (At x)) h ∙ ap At i;
   live = refl;
 }
 
@@ -118,7 +118,7 @@ read_ends f fs ts n gs level counted y o d e =
     own (t ∷ us) = ap (λ w. expects_in w (nat_eq t.start n) t.kind) e
 
 -- one more operand, where the next item does not close the row
-pub series_ends : (f : Frame) (fs : List Frame) (t : Token) (ts : List Token) (n : ℕ) (gs : List Fault) (level : ℕ) (closer : Closer) → is_open f.head ≡ true → f.depth ≤ depth_limit
-    → symbol_at f.place ≡ s.Series level closer → closes closer t.kind ≡ false → EndsBy (a.Read level true f.place) f fs (t ∷ ts) n gs
-series_ends f fs t ts n gs level closer o d e h =
-    reading_ends f fs (t ∷ ts) n gs level true f.place o d (series_takes f.place level closer e) (ap is_counted e) (ap (λ w. expects_in w (nat_eq t.start n) t.kind) e ∙ h) (λ v. absurd (not_nil v))
+pub series_ends : (f : Frame) (fs : List Frame) (t : Token) (ts : List Token) (n : ℕ) (gs : List Fault) (level : ℕ) (closer : Closer) (counted : Bool) (y : Place) → is_open f.head ≡ true
+    → f.depth ≤ depth_limit → symbol_at f.place ≡ s.Series level closer → closes closer t.kind ≡ false → true ≡ counted → f.place ≡ y → EndsBy (a.Read level counted y) f fs (t ∷ ts) n gs
+series_ends f fs t ts n gs level closer counted y o d e h c i =
+    reading_ends f fs (t ∷ ts) n gs level counted y o d (series_takes f.place y level closer e i) (ap is_counted e ∙ c) (ap (λ w. expects_in w (nat_eq t.start n) t.kind) e ∙ h) (λ v. absurd (not_nil v))

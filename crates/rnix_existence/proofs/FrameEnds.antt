@@ -1,89 +1,107 @@
 -- What ends behind a step at an open node or a second name ends before it, whatever stands there.
-use Rattle.std.proofs.Common.{◌≡◌, ◌⊎◌, inl, inr, ℕ, Bool, true, false, List, [], ◌∷◌, Option, Some, None, refl, ap, sym, subst}
-use Rattle.rnix_grammar.specs.{declared.{place.Place.Place, symbol.Symbol.Symbol}, Fault.Fault, Symbols.symbol_at, Actions.{action_at, done_at}}
-use Rattle.{rnix_grammar.specs.{AnnotatedForest.{Token, leaf_kind, head_kind, touches}, Machine.{Frame, kind_of}}, rnix_lemmas.proofs.OpenHeads.is_open}
-use Rattle.rnix_existence.proofs.{OpenFrames.EndsBy, Frames.{row_at, Other, Below, AtNode, AtSecond}, BelowKept.alone, BeginReads.{read_ends, series_ends}}
-use Rattle.rnix_existence.proofs.{SymbolSteps.{Known, known_node, over_all, silent, formal}, SymbolTable.{at_token, at_series, at_entries, at_pieces}}
-use Rattle.rnix_existence.proofs.{SymbolTable.{at_first_piece, at_more_pieces}, AttrTable.{at_attr, at_names, at_source, at_more_attrs, at_attrpath, at_name}}
-use Rattle.rnix_existence.proofs.PatternTable.{at_formals, at_braces, at_comma, at_bind, at_default, at_or, at_end}
+use Rattle.std.proofs.Common.{◌≡◌, inl, inr, ℕ, ◌≤◌, Bool, true, false, List, [], ◌∷◌, Some, None, refl, ap, sym, ◌∙◌, subst}
+use Rattle.rnix_kinds.specs.declared.kinds.SyntaxKind.{SyntaxKind, TheVariants.{NODE_IDENT, NODE_PAT_ENTRY}}
+use Rattle.rnix_grammar.specs.declared.{place.Place.Place, symbol.Symbol.Symbol, action.Action.Action}
+use Rattle.rnix_grammar.specs.{Fault.{Fault, ended, ended_before}, Tables.{depth_limit, wanted_kinds}, Symbols.{symbol_at, level_in}, Actions.action_at}
+use Rattle.rnix_grammar.specs.{AnnotatedForest.{Token, AnnotatedForest, leaf_kind, head_kind, touches}, Machine.{Node, Second, Frame, kind_of}}
+use Rattle.rnix_grammar.specs.{Rows.{At, advance, whole}, Reports.repeats, PlaceReads.IsOver}
+use Rattle.rnix_lemmas.proofs.{Basics.{true_is_not_false, some_same}, EveryKind.only, NodeKinds.told_plain, NestTrees.is_formal, OpenHeads.is_open}
+use Rattle.rnix_existence.proofs.{OpenFrames.{closing, EndsBy}, Frames.{row_at, Other, Below, AtNode, AtSecond}, BelowKept.alone}
+use Rattle.rnix_existence.proofs.{BeginReads.{read_ends, series_ends}, StepTable.{is_own, own_same, MayRead, Suits, is_in_row, suits}}
+use Rattle.rnix_existence.proofs.{RowSteps.{takes, misses, runs_by, left_over, names}, NodeOpens.{opens, begins_node, begins_entry, begins_second, closes, closes_entry, closes_twice}}
 use Rattle.rnix_grammar.specs.declared.place.Place.TheVariants as p
 use Rattle.rnix_grammar.specs.declared.symbol.Symbol.TheVariants as s
 use Rattle.rnix_grammar.specs.declared.action.Action.TheVariants as a
-use Rattle.rnix_existence.proofs.NodeOpens as opening
 
--- where a row ends, or is not one of a node: in an entry of a pattern, or in another
-abbrev EndsIn : Symbol → Option Bool → Type 0
-EndsIn s.Done row = row ≡ Some false
-EndsIn s.PatternDone row = row ≡ Some false
-EndsIn s.FirstPiece row = row ≡ Some false
-EndsIn s.MorePieces row = row ≡ Some false
-EndsIn s.MoreAttrs row = row ≡ Some false
-EndsIn (s.Bind bound) row = row ≡ Some false
-EndsIn s.Or row = row ≡ Some false
-EndsIn s.EntryDone row = row ≡ Some true
-EndsIn s.Default row = row ≡ Some true
-EndsIn s.TwiceDone row = row ≡ None
-EndsIn (s.More low high) row = row ≡ None
-EndsIn symbol row = Unit {0}
+-- what is known of the innermost frame, if it is a node or a second name
+record IsInnermost (f : Frame) (fs : List Frame) : Type 0 where
+  wide : is_open f.head ≡ true
+  plain : (t : Token) → leaf_kind (kind_of f.head) t ≡ t.kind
+  in_row : is_in_row f.place ≡ true
+  shallow : (level : ℕ) → level_in (symbol_at f.place) ≡ Some level → f.depth ≤ depth_limit
+  silent : row_at f.place ≡ Some false → (b c : AnnotatedForest) → closing f.head b c ≡ []
+  formal : row_at f.place ≡ Some true → f.head ≡ Node NODE_PAT_ENTRY
+  second : row_at f.place ≡ None → (f.head ≡ Second) × Below Other fs
 
-ends_in : (x : Place) → EndsIn (symbol_at x) (row_at x)
-ends_in (p.Right level) = tt
-ends_in _ = assumption
+-- a row may end where it is whole and what comes next is not its own
+over : (x : Place) (n : ℕ) (ts : List Token) → whole (At x) ≡ true → is_own x (touches n ts) (head_kind ts) ≡ false → IsOver (At x) n ts
+over x n ts w own = (w, own_same x n ts ∙ own)
 
-none_some : {b : Bool} {x : Option Bool} → x ≡ Some b → x ≡ None → ⊥
-none_some e h = cc
+-- a second name is complete
+ends_second : (f : Frame) (fs : List Frame) (ts : List Token) (n : ℕ) (gs : List Fault) → (f.head ≡ Second) × Below Other fs → IsOver (At f.place) n ts → EndsBy a.CloseTwice f fs ts n gs
+ends_second f [] ts n gs h o = absurd (alone h.1)
+ends_second f (g ∷ fs) ts n gs h o = closes_twice f g fs ts n gs h.0 o
 
-by_symbol : (symbol : Symbol) (f : Frame) (fs : List Frame) (ts : List Token) (n : ℕ) (gs : List Fault) (r : AtNode f fs) → symbol_at f.place ≡ symbol
-    → EndsIn symbol (row_at f.place)
-    → Known f symbol → EndsBy (done_at symbol f.place (head_kind ts) (touches n ts)) f fs ts n gs
-by_symbol s.Done f fs ts n gs r e i w = opening.closes f fs ts n gs w.wide (over_all f s.Done ts n e refl refl (λ b k. refl)) (silent f fs r i)
-by_symbol s.EntryDone f fs ts n gs r e i w = opening.closes_entry f fs ts n gs (formal f fs r i) (over_all f s.EntryDone ts n e refl refl (λ b k. refl))
-by_symbol s.PatternDone f fs ts n gs r e i w =
-    opening.closes f fs ts n gs w.wide (over_all f s.PatternDone ts n e refl refl (λ b k. refl)) (silent f fs r i)
-by_symbol s.TwiceDone f fs ts n gs r e i w = absurd (none_some r.node.home i)
-by_symbol s.End f fs ts n gs r e i w = at_end f fs ts n gs w
-by_symbol (s.Token until y) f fs ts n gs r e i w = at_token f fs ts n gs until y w
-by_symbol (s.Operand level counted y) f fs ts n gs r e i w = read_ends f fs ts n gs level counted y w.wide r.node.shallow e
-by_symbol (s.Series level closer) f fs ts n gs r e i w =
-    at_series f fs ts n gs level closer w
-    (λ t us h o. subst (λ (z : List Token). EndsBy (a.Read level true f.place) f fs z n gs) (sym h)
-    (series_ends f fs t us n gs level closer w.wide r.node.shallow e o))
-by_symbol (s.Entries closer y) f fs ts n gs r e i w = at_entries f fs ts n gs closer y w
-by_symbol s.Pieces f fs ts n gs r e i w = at_pieces f fs ts n gs w
-by_symbol s.FirstPiece f fs ts n gs r e i w = at_first_piece f fs ts n gs w (silent f fs r i)
-by_symbol s.MorePieces f fs ts n gs r e i w = at_more_pieces f fs ts n gs w (silent f fs r i)
-by_symbol s.Source f fs ts n gs r e i w = at_source f fs ts n gs w
-by_symbol s.Names f fs ts n gs r e i w = at_names f fs ts n gs w
-by_symbol (s.Attr y) f fs ts n gs r e i w = at_attr f fs ts n gs y w
-by_symbol s.MoreAttrs f fs ts n gs r e i w = at_more_attrs f fs ts n gs w (silent f fs r i)
-by_symbol (s.Attrpath y) f fs ts n gs r e i w = at_attrpath f fs ts n gs y w
-by_symbol (s.Name y) f fs ts n gs r e i w = at_name f fs ts n gs y w
-by_symbol (s.Braces bound) f fs ts n gs r e i w = at_braces f fs ts n gs bound w
-by_symbol (s.Formals bound) f fs ts n gs r e i w = at_formals f fs ts n gs bound w
-by_symbol (s.Comma bound) f fs ts n gs r e i w = at_comma f fs ts n gs bound w
-by_symbol (s.Bind bound) f fs ts n gs r e i w = at_bind f fs ts n gs bound w (silent f fs r i)
-by_symbol s.Default f fs ts n gs r e i w = at_default f fs ts n gs w (formal f fs r i)
-by_symbol s.Or f fs ts n gs r e i w = at_or f fs ts n gs w (silent f fs r i)
-by_symbol (s.More low high) f fs ts n gs r e i w = absurd (none_some r.node.home i)
+-- an operand
+ends_read : (symbol : Symbol) (f : Frame) (fs : List Frame) (ts : List Token) (n : ℕ) (gs : List Fault) (level : ℕ) (counted : Bool) (y : Place) → IsInnermost f fs
+    → symbol_at f.place ≡ symbol → MayRead symbol f.place (head_kind ts) level counted y → EndsBy (a.Read level counted y) f fs ts n gs
+ends_read (s.Operand l c z) f fs ts n gs level counted y r e w = read_ends f fs ts n gs level counted y r.wide (r.shallow l (ap level_in e)) (cc)
+ends_read (s.Series l closer) f fs (t ∷ ts) n gs level counted y r e w = series_ends f fs t ts n gs level closer counted y r.wide (r.shallow l (ap level_in e)) (cc) w.3 w.1 w.2
+ends_read _ f fs ts n gs level counted y r e w = absurd w
+
+-- what suits its place stands in the row
+ends_by : (action : Action) (f : Frame) (fs : List Frame) (ts : List Token) (n : ℕ) (gs : List Fault) → IsInnermost f fs → Suits f.place (touches n ts) (head_kind ts) action
+    → EndsBy action f fs ts n gs
+ends_by a.Close f fs ts n gs r w = closes f fs ts n gs r.wide (over f.place n ts w.0 w.1) (r.silent w.2)
+ends_by a.ClosePattern f fs ts n gs r w = closes f fs ts n gs r.wide (over f.place n ts w.0 w.1) (r.silent w.2)
+ends_by a.CloseEntry f fs ts n gs r w = closes_entry f fs ts n gs (r.formal w.2) (over f.place n ts w.0 w.1)
+ends_by a.CloseTwice f fs ts n gs r w = ends_second f fs ts n gs (r.second w.2) (over f.place n ts w.0 w.1)
+ends_by a.Finish f fs ts n gs r w = λ row es ends. (es, (ends, refl))
+ends_by a.Extra f fs (t ∷ ts) n gs r w = left_over f fs t ts n gs r.wide w
+ends_by (a.Take y) f fs (t ∷ ts) n gs r w = takes f fs t ts n gs y r.wide w.0 (ap (advance (At f.place)) (r.plain t) ∙ w.1)
+ends_by (a.Miss y) f fs [] n gs r w = misses f fs n gs ended y r.wide w
+ends_by (a.MissWanted until y) f fs [] n gs r w = misses f fs n gs (ended_before (wanted_kinds until)) y r.wide w
+ends_by (a.Run until y) f fs (t ∷ ts) n gs r w = runs_by f fs t ts n gs until y r.wide w.0 w.1 w.2
+ends_by (a.Leaf NODE_IDENT y) f fs (t ∷ ts) n gs r w = names f fs t ts n gs y r.wide w.0 w.1
+ends_by (a.Open k z y) f fs (t ∷ ts) n gs r w = opens f fs t ts n gs k z y r.wide w.1 w.2 w.0
+ends_by (a.Begin k z y) f fs ts n gs r w = begins_node f fs ts n gs k z y r.wide w.1 w.0
+ends_by (a.Entry y) f fs (t ∷ ts) n gs r w = begins_entry f fs t ts n gs y r.wide w.1 w.0
+ends_by (a.Twice y) f fs (t ∷ ts) n gs r w = subst (λ (z : Place). EndsBy (a.Twice z) f fs (t ∷ ts) n gs) (sym w.2) (begins_second f fs t ts n gs r.wide w.0 w.1)
+ends_by (a.Read level counted y) f fs ts n gs r w = ends_read (symbol_at f.place) f fs ts n gs level counted y r refl w
+ends_by _ f fs [] n gs r w = absurd w
+ends_by _ f fs (t ∷ ts) n gs r w = absurd w
+
+-- an open node is such a frame
+node_innermost : (f : Frame) (fs : List Frame) → AtNode f fs → IsInnermost f fs
+node_innermost f fs r = record {
+  wide = ap is_open r.node.is;
+  plain = λ t. ap (λ h. leaf_kind (kind_of h) t) r.node.is ∙ told_plain r.kind t.kind r.node.sound;
+  in_row = in_row f.place (is_formal r.kind) r.node.home;
+  shallow = λ level e. r.node.shallow;
+  silent = λ h b c. ap (λ z. closing z b c) r.node.is ∙ not_formal r.kind b c (some_same (is_formal r.kind) false (sym r.node.home ∙ h));
+  formal = λ h. r.node.is ∙ ap Node (only is_formal NODE_PAT_ENTRY refl r.kind (some_same (is_formal r.kind) true (sym r.node.home ∙ h)));
+  second = λ h. absurd (cc);
+}
+  where
+    in_row : (x : Place) (b : Bool) → row_at x ≡ Some b → is_in_row x ≡ true
+    in_row (p.Behind low high) b h = absurd (cc)
+    in_row _ b h = refl
+
+    not_formal : (k : SyntaxKind) (b c : AnnotatedForest) → is_formal k ≡ false → repeats k b c ≡ []
+    not_formal NODE_PAT_ENTRY b c h = absurd (true_is_not_false h)
+    not_formal _ b c h = refl
+
+-- so is a second name
+second_innermost : (f : Frame) (fs : List Frame) → AtSecond f fs → IsInnermost f fs
+second_innermost f fs r = record {
+  wide = ap is_open r.head;
+  plain = λ t. ap (λ h. leaf_kind (kind_of h) t) r.head;
+  in_row = here.0;
+  shallow = λ level e. absurd (cc here.1);
+  silent = λ h b c. absurd (cc here.2);
+  formal = λ h. absurd (cc here.2);
+  second = λ h. (r.head, r.below);
+}
+  where
+    here : (is_in_row f.place ≡ true) × (level_in (symbol_at f.place) ≡ None) × (row_at f.place ≡ None)
+    here = elim r.place [ inl e ↦ (ap is_in_row e, ap (λ z. level_in (symbol_at z)) e, ap row_at e) | inr e ↦ (ap is_in_row e, ap (λ z. level_in (symbol_at z)) e, ap row_at e) ]
 
 -- what ends behind a step at an open node ends before it
-pub node_ends : (f : Frame) (fs : List Frame) (ts : List Token) (n : ℕ) (gs : List Fault) → AtNode f fs
-    → EndsBy (action_at f.place (head_kind ts) (touches n ts)) f fs ts n gs
-node_ends f fs ts n gs r = by_symbol (symbol_at f.place) f fs ts n gs r refl (ends_in f.place) (known_node f fs (symbol_at f.place) r refl)
+pub node_ends : (f : Frame) (fs : List Frame) (ts : List Token) (n : ℕ) (gs : List Fault) → AtNode f fs → EndsBy (action_at f.place (head_kind ts) (touches n ts)) f fs ts n gs
+node_ends f fs ts n gs r =
+    let i = node_innermost f fs r in ends_by (action_at f.place (head_kind ts) (touches n ts)) f fs ts n gs i (suits f.place (touches n ts) (head_kind ts) i.in_row)
 
 -- what ends behind a step at a second name ends before it
-pub second_ends : (f : Frame) (fs : List Frame) (ts : List Token) (n : ℕ) (gs : List Fault) → AtSecond f fs
-    → EndsBy (action_at f.place (head_kind ts) (touches n ts)) f fs ts n gs
-second_ends f fs ts n gs r = by r.place
-  where
-    named : (e : f.place ≡ p.TwiceName) → Known f (s.Name p.TwicePast)
-    named e = record { wide = ap is_open r.head; plain = λ t. ap (λ h. leaf_kind (kind_of h) t) r.head; here = ap symbol_at e }
-
-    ended : (hs : List Frame) → Below Other hs → f.place ≡ p.TwicePast → EndsBy a.CloseTwice f hs ts n gs
-    ended [] b e = absurd (alone b)
-    ended (g ∷ hs) b e = opening.closes_twice f g hs ts n gs r.head (over_all f s.TwiceDone ts n (ap symbol_at e) refl refl (λ b k. refl))
-
-    by : (f.place ≡ p.TwiceName) ⊎ (f.place ≡ p.TwicePast) → EndsBy (action_at f.place (head_kind ts) (touches n ts)) f fs ts n gs
-    by (inl e) =
-        subst (λ (z : Symbol). EndsBy (done_at z f.place (head_kind ts) (touches n ts)) f fs ts n gs) (sym (ap symbol_at e)) (at_name f fs ts n gs p.TwicePast (named e))
-    by (inr e) = subst (λ (z : Symbol). EndsBy (done_at z f.place (head_kind ts) (touches n ts)) f fs ts n gs) (sym (ap symbol_at e)) (ended fs r.below e)
+pub second_ends : (f : Frame) (fs : List Frame) (ts : List Token) (n : ℕ) (gs : List Fault) → AtSecond f fs → EndsBy (action_at f.place (head_kind ts) (touches n ts)) f fs ts n gs
+second_ends f fs ts n gs r =
+    let i = second_innermost f fs r in ends_by (action_at f.place (head_kind ts) (touches n ts)) f fs ts n gs i (suits f.place (touches n ts) (head_kind ts) i.in_row)

@@ -8,12 +8,9 @@ pub mod BeginKept
 pub mod NodeKept
 pub mod OperandKept
 pub mod RowFronts
+pub mod StepTable
 pub mod RowSteps
 pub mod NodeOpens
-pub mod SymbolSteps
-pub mod SymbolTable
-pub mod AttrTable
-pub mod PatternTable
 pub mod OperandTrees
 pub mod OperandEnds
 pub mod OperandWraps

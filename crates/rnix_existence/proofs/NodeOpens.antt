@@ -1,14 +1,15 @@
 -- What ends behind a step that opens or closes a node or a second name ends before it.
-use Rattle.std.proofs.Common.{◌≡◌, ℕ, suc, Bool, true, false, List, [], ◌∷◌, ◌++◌, Option, None, refl, ap, sym, ◌∙◌, subst, append_assoc, append-nil}
+use Rattle.std.proofs.Common.{◌≡◌, ℕ, suc, Bool, true, List, [], ◌∷◌, ◌++◌, Option, refl, ap, sym, ◌∙◌, subst, append_assoc, append-nil}
 use Rattle.std.proofs.Common.{if◌then◌else◌}
 use Rattle.rnix_kinds.specs.declared.kinds.SyntaxKind.{SyntaxKind, TheVariants.{NODE_IDENT, NODE_PAT_ENTRY, TOKEN_AT, TOKEN_IDENT}}
-use Rattle.rnix_grammar.specs.{declared.place.Place.Place, Fault.Fault, Symbols.{symbol_at, level_in}, AnnotatedForest.{Token, Twice, AnnotatedForest, blank}}
+use Rattle.rnix_grammar.specs.{declared.place.Place.Place, Fault.Fault, AnnotatedForest.{Token, Twice, AnnotatedForest, blank}}
 use Rattle.rnix_grammar.specs.{AnnotatedForest.{token, ◌⊕◌, one_token, one_branch, one_fault, tokens_in, leaf_kind, leaf_kind_as, end_from}, Reports.report}
 use Rattle.rnix_grammar.specs.{Reports.{repeated, repeats}, Machine.{Head, Node, Second, Frame, opened, put, made, closed}, Rows.{RowState, Start, SecondStart}}
-use Rattle.rnix_grammar.specs.{Rows.{At, advance, first, start, counts}, Operands.IsOperand, ExpectedItems.{expects, stands_expected_in}, PlaceReads.{Reads, IsOver}}
+use Rattle.rnix_grammar.specs.{Rows.{At, advance, first, start}, Operands.IsOperand, PlaceReads.{Reads, IsOver}}
 use Rattle.{rnix_grammar.specs.PlaceReads.{end, leaf, second, inner}, rnix_lemmas.proofs.{Basics.true_is_not_false, AnnotatedForestLemmas.{⊕-blank, tokens_two}}}
 use Rattle.{rnix_lemmas.proofs.OpenHeads.is_open, rnix_existence.proofs.{OpenFrames.{closing, Ends, open_frame, EndsBy}, RowFronts.{end_two, prepended}}}
-use Rattle.rnix_existence.proofs.{OperandEnds.{OpenEnds, open_ends}, RowSteps.past_over}
+use Rattle.{std.proofs.Common.{Some, nat_eq}, rnix_grammar.specs.AnnotatedForest.{head_kind, touches}}
+use Rattle.rnix_existence.proofs.{OperandEnds.{OpenEnds, open_ends}, OperandTrees.past_over, StepTable.{IsAt, own_same}}
 use Rattle.rnix_grammar.specs.declared.place.Place.TheVariants as p
 use Rattle.rnix_grammar.specs.declared.action.Action.TheVariants as a
 
@@ -16,9 +17,8 @@ use Rattle.rnix_grammar.specs.declared.action.Action.TheVariants as a
 pub opens_by : (f : Frame) (fs : List Frame) (ts us : List Token) (n m : ℕ) (row : AnnotatedForest) (es : List Fault) (k : SyntaxKind) (z y : Place) (x : AnnotatedForest)
     → is_open f.head ≡ true → ts ≡ tokens_in x ++ us → m ≡ end_from n (tokens_in x)
     → ((vs : List Token) (s : RowState) (r : AnnotatedForest) (cs : List Fault) → us ≡ tokens_in r ++ vs → Reads k f.depth m (At z) s x vs r cs → Reads k f.depth n (start k) s blank vs (x ⊕ r) cs)
-    → counts (At f.place) ≡ false → level_in (symbol_at f.place) ≡ None → expects f.place n ts ≡ stands_expected_in (symbol_at f.place) k → advance (At f.place) k ≡ At y
-    → Ends (opened (Node k) z f.depth x ∷ (put y f.row f ∷ fs)) us m row es → Ends (f ∷ fs) ts n row es
-opens_by f fs ts us n m row es k z y x o e l reads c v w g ends = by (open_ends (opened (Node k) z f.depth x) (put y f.row f) fs us m row es refl ends)
+    → IsAt f.place (touches n ts) (head_kind ts) k y → Ends (opened (Node k) z f.depth x ∷ (put y f.row f ∷ fs)) us m row es → Ends (f ∷ fs) ts n row es
+opens_by f fs ts us n m row es k z y x o e l reads w ends = by (open_ends (opened (Node k) z f.depth x) (put y f.row f) fs us m row es refl ends)
   where
     by : OpenEnds (opened (Node k) z f.depth x) (put y f.row f) fs us m row es → Ends (f ∷ fs) ts n row es
     by q =
@@ -29,46 +29,43 @@ opens_by f fs ts us n m row es k z y x o e l reads c v w g ends = by (open_ends 
         (prepended f fs ts q.left n q.reached row (q.inside ++ repeats k f.row (x ⊕ q.rest)) q.behind y (one_branch k (x ⊕ q.rest)) o
         (all ∙ ap (λ z. z ++ q.left) (sym (append-nil (tokens_in (x ⊕ q.rest))))) (reach ∙ ap (end_from n) (sym (append-nil (tokens_in (x ⊕ q.rest)))))
         (λ vs s r cs h i. inner h all
-        (subst (λ (z : Bool). Reads k (if z then suc f.depth else f.depth) n (start k) q.row_state blank q.left (x ⊕ q.rest) q.inside) (sym c) (reads q.left q.row_state q.rest q.inside q.items q.reads))
-        reach q.over w (λ x. absurd (true_is_not_false (sym x ∙ c))) tt (subst (λ (z : Option ℕ). IsOperand z (one_branch k (x ⊕ q.rest)) q.left) (sym v) tt) g refl refl i refl) q.ends)
+        (subst (λ (z : Bool). Reads k (if z then suc f.depth else f.depth) n (start k) q.row_state blank q.left (x ⊕ q.rest) q.inside) (sym w.0) (reads q.left q.row_state q.rest q.inside q.items q.reads))
+        reach q.over (own_same f.place n ts ∙ w.2) (λ x. absurd (true_is_not_false (sym x ∙ w.0))) tt (subst (λ (z : Option ℕ). IsOperand z (one_branch k (x ⊕ q.rest)) q.left) (sym w.1) tt) w.3 refl refl i refl) q.ends)
 
 -- a node opens with the next item
 pub opens : (f : Frame) (fs : List Frame) (t : Token) (ts : List Token) (n : ℕ) (gs : List Fault) (k : SyntaxKind) (z y : Place)
-    → is_open f.head ≡ true → start k ≡ Start k → advance (Start k) (leaf_kind k t) ≡ At z → counts (At f.place) ≡ false → level_in (symbol_at f.place) ≡ None
-    → expects f.place n (t ∷ ts) ≡ stands_expected_in (symbol_at f.place) k → advance (At f.place) k ≡ At y → EndsBy (a.Open k z y) f fs (t ∷ ts) n gs
-opens f fs t ts n gs k z y o e i c v w g row es ends = (
+    → is_open f.head ≡ true → start k ≡ Start k → first k (leaf_kind k t) ≡ At z → IsAt f.place (nat_eq t.start n) (Some t.kind) k y → EndsBy (a.Open k z y) f fs (t ∷ ts) n gs
+opens f fs t ts n gs k z y o e i w row es ends = (
   es,
   (
     opens_by f fs (t ∷ ts) ts n t.end row es k z y (one_token (leaf_kind k t) t) o refl refl
-        (λ vs s r cs h q. subst (λ (x : RowState). Reads k f.depth n x s blank vs (token (leaf_kind k t) t r) cs) (sym e) (leaf refl h tt tt i refl refl refl q)) c v w g ends,
+        (λ vs s r cs h q. subst (λ (x : RowState). Reads k f.depth n x s blank vs (token (leaf_kind k t) t r) cs) (sym e) (leaf refl h tt tt i refl refl refl q)) w ends,
     refl,
   ),
 )
 
 -- a node begins with nothing read
 pub begins_node : (f : Frame) (fs : List Frame) (ts : List Token) (n : ℕ) (gs : List Fault) (k : SyntaxKind) (z y : Place)
-    → is_open f.head ≡ true → start k ≡ At z → counts (At f.place) ≡ false → level_in (symbol_at f.place) ≡ None
-    → expects f.place n ts ≡ stands_expected_in (symbol_at f.place) k → advance (At f.place) k ≡ At y → EndsBy (a.Begin k z y) f fs ts n gs
-begins_node f fs ts n gs k z y o i c v w g row es ends = (
+    → is_open f.head ≡ true → start k ≡ At z → IsAt f.place (touches n ts) (head_kind ts) k y → EndsBy (a.Begin k z y) f fs ts n gs
+begins_node f fs ts n gs k z y o i w row es ends = (
   es,
   (
     opens_by f fs ts ts n n row es k z y blank o refl refl
-        (λ vs s r cs h q. subst (λ (x : RowState). Reads k f.depth n x s blank vs r cs) (sym i) q) c v w g ends,
+        (λ vs s r cs h q. subst (λ (x : RowState). Reads k f.depth n x s blank vs r cs) (sym i) q) w ends,
     refl,
   ),
 )
 
 -- an entry of a pattern begins with its name
 pub begins_entry : (f : Frame) (fs : List Frame) (t : Token) (ts : List Token) (n : ℕ) (gs : List Fault) (y : Place)
-    → is_open f.head ≡ true → t.kind ≡ TOKEN_IDENT → counts (At f.place) ≡ false → level_in (symbol_at f.place) ≡ None
-    → expects f.place n (t ∷ ts) ≡ stands_expected_in (symbol_at f.place) NODE_PAT_ENTRY → advance (At f.place) NODE_PAT_ENTRY ≡ At y → EndsBy (a.Entry y) f fs (t ∷ ts) n gs
-begins_entry f fs t ts n gs y o i c v w g row es ends =
+    → is_open f.head ≡ true → t.kind ≡ TOKEN_IDENT → IsAt f.place (nat_eq t.start n) (Some t.kind) NODE_PAT_ENTRY y → EndsBy (a.Entry y) f fs (t ∷ ts) n gs
+begins_entry f fs t ts n gs y o i w row es ends =
     let x : AnnotatedForest = one_branch NODE_IDENT (one_token (leaf_kind NODE_IDENT t) t) in (
       es,
       (
         opens_by f fs (t ∷ ts) ts n t.end row es NODE_PAT_ENTRY p.EntryMore y x o refl refl
-            (λ vs s r cs h q. inner h refl (leaf refl refl tt tt (ap (λ z. first NODE_IDENT (leaf_kind_as NODE_IDENT z)) i) refl refl refl end) refl (refl, past_over t.end ts) tt
-            (λ z. absurd (true_is_not_false (sym z))) tt tt refl refl refl q refl) c v w g ends,
+            (λ vs s r cs h q. inner h refl (leaf refl refl tt tt (ap (λ z. first NODE_IDENT (leaf_kind_as NODE_IDENT z)) i) refl refl refl end) refl (past_over t.end ts) tt
+            (λ z. absurd (true_is_not_false (sym z))) tt tt refl refl refl q refl) w ends,
         refl,
       ),
     )
@@ -131,7 +128,3 @@ closes_twice f g fs ts n gs h w row es ends = (
     sym (append_assoc gs (report Twice (tokens_in f.row) ∷ []) es),
   ),
 )
-
--- nothing is done
-pub stays : (f : Frame) (fs : List Frame) (ts : List Token) (n : ℕ) (gs : List Fault) → EndsBy a.Finish f fs ts n gs
-stays f fs ts n gs row es ends = (es, (ends, refl))

@@ -1,13 +1,14 @@
 -- What ends behind a step in the row of an open frame ends before it: one item, what is missing, a run, what is left behind the root.
-use Rattle.std.proofs.Common.{◌≡◌, ℕ, true, false, List, [], ◌∷◌, ◌++◌, Option, Some, None, refl, ap, sym, ◌∙◌, subst, append_assoc, append-nil}
+use Rattle.std.proofs.Common.{◌≡◌, ℕ, true, false, List, [], ◌∷◌, ◌++◌, Option, Some, refl, ap, sym, ◌∙◌, subst, append_assoc, append-nil}
 use Rattle.{rnix_kinds.specs.declared.kinds.SyntaxKind.TheVariants.NODE_IDENT, rnix_grammar.specs.declared.{place.Place.Place, until.Until.Until}}
-use Rattle.rnix_grammar.specs.{Fault.{Fault, ended, ended_before}, Tables.{is_wanted, wanted_kinds}, Symbols.{symbol_at, level_in}, AnnotatedForest.Token}
+use Rattle.rnix_grammar.specs.{Fault.{Fault}, Tables.{is_wanted}, AnnotatedForest.Token}
 use Rattle.rnix_grammar.specs.AnnotatedForest.{Note, Unwanted, Extra, AnnotatedForest, blank, ◌⊕◌, one_token, one_branch, one_fault, row_of, tokens_in, is_some}
-use Rattle.rnix_grammar.specs.{AnnotatedForest.{leaf_kind, end_from}, Reports.report, Machine.{Frame, put, kind_of, dropped}, Missing.{run_of, missing, run_at}}
-use Rattle.rnix_grammar.specs.{Rows.{At, advance, start, counts}, Operands.IsOperand, ExpectedItems.{expects, expects_end, stands_expected_in}, PlaceReads.Reads}
-use Rattle.{rnix_grammar.specs.PlaceReads.{IsRoom, IsWrong, end, leaf, missing_part, wrong, inner}, rnix_lemmas.proofs.Basics.{true_is_not_false, none_left}}
+use Rattle.rnix_grammar.specs.{AnnotatedForest.{leaf_kind, end_from}, Reports.report, Machine.{Frame, put, kind_of, dropped}, Missing.{run_of, run_at}}
+use Rattle.rnix_grammar.specs.{Rows.{At, advance}, Operands.IsOperand, ExpectedItems.{expects}, PlaceReads.Reads}
+use Rattle.{rnix_grammar.specs.PlaceReads.{IsWrong, end, leaf, missing_part, wrong, inner}, rnix_lemmas.proofs.Basics.{true_is_not_false, none_left}}
 use Rattle.rnix_lemmas.proofs.{Basics.none_right, AnnotatedForestLemmas.{⊕-blank, tokens_in-row_of}, RunLemmas.{parted, run_begins, dropped_all}}
-use Rattle.{rnix_lemmas.proofs.OpenHeads.is_open, rnix_existence.proofs.{OpenFrames.{Ends, EndsBy}, RowFronts.prepended}}
+use Rattle.{std.proofs.Common.nat_eq, rnix_grammar.specs.Rows.first}
+use Rattle.{rnix_lemmas.proofs.OpenHeads.is_open, rnix_existence.proofs.{OpenFrames.{Ends, EndsBy}, RowFronts.prepended, StepTable.{IsAt, IsMissing}, OperandTrees.past_over}}
 use Rattle.rnix_grammar.specs.declared.place.Place.TheVariants as p
 use Rattle.rnix_grammar.specs.declared.action.Action.TheVariants as a
 
@@ -18,34 +19,16 @@ takes f fs t ts n gs y o w g row es ends =
     (es, (prepended f fs (t ∷ ts) ts n t.end row [] es y (one_token (leaf_kind (kind_of f.head) t) t) o refl refl (λ vs s r cs e h. leaf refl e w tt g refl refl refl h) ends, refl))
 
 -- what is missing where the text ends
-pub misses : (f : Frame) (fs : List Frame) (n : ℕ) (row : AnnotatedForest) (es : List Fault) (e : Fault) (y : Place)
-    → is_open f.head ≡ true → missing f.place ≡ Some (e, y) → (expects_end (symbol_at f.place) ≡ false → IsRoom (At f.place) f.depth)
-    → Ends (put y f.row f ∷ fs) [] n row es → Ends (f ∷ fs) [] n row (e ∷ es)
-misses f fs n row es e y o l room ends =
-    prepended f fs [] [] n n row (e ∷ []) es y blank o refl refl
-    (λ vs s r cs h x. missing_part (none_right (tokens_in r) vs (sym h)) (none_left (tokens_in r) vs (sym h)) l room
-    (subst (λ (z : AnnotatedForest). Reads (kind_of f.head) f.depth n (At y) s z vs r cs) (⊕-blank f.row) x) refl)
-    (subst (λ (z : AnnotatedForest). Ends (put y z f ∷ fs) [] n row es) (sym (⊕-blank f.row)) ends)
-
--- where the end of the text is the place's own
-pub expected_end : (x : Place) (d : ℕ) → expects_end (symbol_at x) ≡ true → expects_end (symbol_at x) ≡ false → IsRoom (At x) d
-expected_end x d h e = absurd (true_is_not_false (sym h ∙ e))
-
--- something is missing
-pub misses_part : (f : Frame) (fs : List Frame) (n : ℕ) (gs : List Fault) (y : Place)
-    → is_open f.head ≡ true → missing f.place ≡ Some (ended, y) → expects_end (symbol_at f.place) ≡ true → EndsBy (a.Miss y) f fs [] n gs
-misses_part f fs n gs y o l w row es ends = (ended ∷ es, (misses f fs n row es ended y o l (expected_end f.place f.depth w) ends, sym (append_assoc gs (ended ∷ []) es)))
-
--- one of some tokens is missing
-pub misses_wanted : (f : Frame) (fs : List Frame) (n : ℕ) (gs : List Fault) (until : Until) (y : Place)
-    → is_open f.head ≡ true → missing f.place ≡ Some (ended_before (wanted_kinds until), y) → expects_end (symbol_at f.place) ≡ true → EndsBy (a.MissWanted until y) f fs [] n gs
-misses_wanted f fs n gs until y o l w row es ends = (
-  ended_before (wanted_kinds until) ∷ es,
-  (
-    misses f fs n row es (ended_before (wanted_kinds until)) y o l (expected_end f.place f.depth w) ends,
-    sym (append_assoc gs (ended_before (wanted_kinds until) ∷ []) es),
-  ),
-)
+pub misses : (f : Frame) (fs : List Frame) (n : ℕ) (gs : List Fault) (e : Fault) (y : Place) → is_open f.head ≡ true → IsMissing f.place e y → (row : AnnotatedForest) (es : List Fault)
+    → Ends (put y f.row f ∷ fs) [] n row es → (ds : List Fault) × (Ends (f ∷ fs) [] n row ds × (gs ++ ds ≡ (gs ++ e ∷ []) ++ es))
+misses f fs n gs e y o l row es ends = (e ∷ es, (whole, sym (append_assoc gs (e ∷ []) es)))
+  where
+    whole : Ends (f ∷ fs) [] n row (e ∷ es)
+    whole =
+        prepended f fs [] [] n n row (e ∷ []) es y blank o refl refl
+        (λ vs s r cs h x. missing_part (none_right (tokens_in r) vs (sym h)) (none_left (tokens_in r) vs (sym h)) l.0 (λ z. absurd (true_is_not_false (sym l.1 ∙ z)))
+        (subst (λ (z : AnnotatedForest). Reads (kind_of f.head) f.depth n (At y) s z vs r cs) (⊕-blank f.row) x) refl)
+        (subst (λ (z : AnnotatedForest). Ends (put y z f ∷ fs) [] n row es) (sym (⊕-blank f.row)) ends)
 
 one_row : (ts : List Token) → tokens_in (row_of ts) ++ [] ≡ ts
 one_row ts = append-nil (tokens_in (row_of ts)) ∙ tokens_in-row_of ts
@@ -85,21 +68,15 @@ left_over f fs t ts n gs o e row es ends = (
   ),
 )
 
--- no item is the own one of a row that is complete
-pub past_over : (n : ℕ) (ts : List Token) → expects p.Past n ts ≡ false
-past_over n [] = refl
-past_over n (t ∷ ts) = refl
-
 -- a name as a node
-pub names : (f : Frame) (fs : List Frame) (t : Token) (ts : List Token) (n : ℕ) (gs : List Fault) (y : Place)
-    → is_open f.head ≡ true → expects f.place n (t ∷ ts) ≡ stands_expected_in (symbol_at f.place) NODE_IDENT → counts (At f.place) ≡ false → level_in (symbol_at f.place) ≡ None
-    → advance (start NODE_IDENT) (leaf_kind NODE_IDENT t) ≡ At p.Past → advance (At f.place) NODE_IDENT ≡ At y → EndsBy (a.Leaf NODE_IDENT y) f fs (t ∷ ts) n gs
-names f fs t ts n gs y o w c v k g row es ends = (
+pub names : (f : Frame) (fs : List Frame) (t : Token) (ts : List Token) (n : ℕ) (gs : List Fault) (y : Place) → is_open f.head ≡ true
+    → IsAt f.place (nat_eq t.start n) (Some t.kind) NODE_IDENT y → first NODE_IDENT (leaf_kind NODE_IDENT t) ≡ At p.Past → EndsBy (a.Leaf NODE_IDENT y) f fs (t ∷ ts) n gs
+names f fs t ts n gs y o w k row es ends = (
   es,
   (
     prepended f fs (t ∷ ts) ts n t.end row [] es y (one_branch NODE_IDENT (one_token (leaf_kind NODE_IDENT t) t)) o refl refl
-        (λ vs s r cs h z. inner h refl (leaf refl refl tt tt k refl refl refl end) refl (refl, past_over t.end ts) w (λ x. absurd (true_is_not_false (sym x ∙ c))) tt
-        (subst (λ (z : Option ℕ). IsOperand z (one_branch NODE_IDENT (one_token (leaf_kind NODE_IDENT t) t)) ts) (sym v) tt) g refl refl z refl) ends,
+        (λ vs s r cs h z. inner h refl (leaf refl refl tt tt k refl refl refl end) refl (past_over t.end ts) w.2 (λ x. absurd (true_is_not_false (sym x ∙ w.0))) tt
+        (subst (λ (z : Option ℕ). IsOperand z (one_branch NODE_IDENT (one_token (leaf_kind NODE_IDENT t) t)) ts) (sym w.1) tt) w.3 refl refl z refl) ends,
     refl,
   ),
 )
