@@ -117,14 +117,14 @@ inner_operand m trees q d n level x y b k c vs ds s r over fit act room op =
 pub inner_one : (m : ℕ) → AllRows m → Trees m → (q : SyntaxKind) (d n : ℕ) (x y : Place) (b : AnnotatedForest) (k : SyntaxKind) (c : AnnotatedForest) (vs : List Token) (ds : List Fault) (s : RowState)
     → Short m k (deeper (At x) d) n (start k) s blank vs c ds → IsOver s (end_from n (tokens_in c)) vs → IsRoom (At x) d
     → IsOperand (level_in (symbol_at x)) (one_branch k c) vs
-    → NodeRead (symbol_at x) x y (touches n (tokens_in c ++ vs)) (head_kind (tokens_in c ++ vs)) k
+    → NodeRead x y (touches n (tokens_in c ++ vs)) (head_kind (tokens_in c ++ vs)) k
     → ReadsOne q d n x y b (tokens_in c) vs (one_branch k c) (ds ++ repeats k b c)
 inner_one m rows trees q d n x y b k c vs ds s short over room op way = by way short op
   where
     flat : (j : SyntaxKind) → is_counted (symbol_at x) ≡ false → Short m j (deeper (At x) d) n (start j) s blank vs c ds → Short m j d n (start j) s blank vs c ds
     flat j e h = subst (λ (v : ℕ). Short m j v n (start j) s blank vs c ds) (ap (λ w. if w then suc d else d) e) h
 
-    by : {j : SyntaxKind} → NodeRead (symbol_at x) x y (touches n (tokens_in c ++ vs)) (head_kind (tokens_in c ++ vs)) j
+    by : {j : SyntaxKind} → NodeRead x y (touches n (tokens_in c ++ vs)) (head_kind (tokens_in c ++ vs)) j
         → Short m j (deeper (At x) d) n (start j) s blank vs c ds
         → IsOperand (level_in (symbol_at x)) (one_branch j c) vs → InnerOne q d n x y b vs j ds c
     by {j = j} (operand w) h o = inner_operand m trees q d n w.level x y b j c vs ds s h over w.fit w.act room (subst (λ (v : Option ℕ). IsOperand v (one_branch j c) vs) w.is o)

@@ -9,8 +9,8 @@ use Rattle.rnix_grammar.specs.{Machine.{opened, kind_of, limited, operand_on, pe
 use Rattle.rnix_grammar.specs.{Rows.{At, advance}, ExpectedItems.{expects, expects_end}, Operands.{IsBegun, goes_on}, TreeLevels.row_level, PlaceReads.IsRoom}
 use Rattle.{rnix_grammar.specs.{PlaceReads.deeper, declared.until.Until.Until, Reports.{report, repeats}}, rnix_lemmas.proofs.AnnotatedForestLemmas.⊕-assoc}
 use Rattle.rnix_lemmas.proofs.{AnnotatedForestLemmas.⊕-blank, StrictParts.end_behind, OpenHeads.is_open, RunLemmas.dropped_all}
-use Rattle.rnix_uniqueness.proofs.{Runs.{runs_on, runs_to, step_to}, StepReads.{ReadsRow, ReadsTree, IsOperandRead}, OwnTokens.takes_at, MissingSteps.misses_in}
-use Rattle.rnix_uniqueness.proofs.{MissingSteps.runs_in, OperandGoesOn.settles, RowClasses.{class_of, row_class, ReadOn}, RowEnds.{is_inner, node_read}}
+use Rattle.rnix_uniqueness.proofs.{Runs.{runs_on, runs_to, step_to}, StepReads.{ReadsRow, ReadsTree, IsOperandRead}, OwnTokens.{takes_at, runs_at}, MissingSteps.misses_in}
+use Rattle.rnix_uniqueness.proofs.{OperandGoesOn.settles, RowClasses.{class_of, row_class, ReadOn}, RowEnds.{is_inner, node_read}}
 use Rattle.rnix_uniqueness.proofs.RowEnds.{closes_second}
 use Rattle.rnix_grammar.specs.declared.place.Place.TheVariants as p
 use Rattle.rnix_grammar.specs.declared.action.Action.TheVariants as a
@@ -136,7 +136,7 @@ pub one_unwanted : (q : SyntaxKind) (d n : ℕ) (x y : Place) (b : AnnotatedFore
     → expects x n (t ∷ ts ++ vs) ≡ false → ReadsOne q d n x y b (t ∷ ts) vs (one_fault (Unwanted until) (row_of (t ∷ ts))) (report (Unwanted until) (t ∷ ts) ∷ [])
 one_unwanted q d n x y b until t ts vs r a o h fs gs oh e =
     step_to
-    (ap (λ v. perform false v (opened h x d b) fs (t ∷ ts ++ vs) n gs) (runs_in (symbol_at x) x y until t.kind (touches n (t ∷ ts ++ vs)) a o)
+    (ap (λ v. perform false v (opened h x d b) fs (t ∷ ts ++ vs) n gs) (runs_at x y until t.kind (touches n (t ∷ ts ++ vs)) a o)
     ∙ ap (λ (v : List Token). machine (opened h y d (b ⊕ one_fault (Unwanted until) (row_of v)) ∷ fs) (dropped v (t ∷ ts ++ vs)) (end_from n v) (gs ++ report (Unwanted until) v ∷ [])) (sym r)
     ∙ ap (λ v. machine (opened h y d (b ⊕ one_fault (Unwanted until) (row_of (t ∷ ts))) ∷ fs) v (end_from n (t ∷ ts)) (gs ++ report (Unwanted until) (t ∷ ts) ∷ [])) (dropped_front (t ∷ ts) vs))
     here

@@ -1,33 +1,31 @@
 -- An error node that stands at a place of a row is read there.
-use Rattle.std.proofs.Common.{◌≡◌, ℕ, Bool, true, false, List, [], ◌∷◌, ◌++◌, Option, Some, length, refl, ap, sym, ◌∙◌, subst, append-nil, if◌then◌else◌}
+use Rattle.std.proofs.Common.{◌≡◌, ℕ, true, false, List, [], ◌∷◌, ◌++◌, Option, Some, None, length, refl, ap, sym, ◌∙◌, subst, append-nil}
 use Rattle.{rnix_kinds.specs.declared.kinds.SyntaxKind.{SyntaxKind, TheVariants.NODE_LITERAL}, rnix_grammar.specs.declared.place.Place.Place}
-use Rattle.rnix_grammar.specs.{declared.{symbol.Symbol.Symbol, until.Until.Until}, Tables.depth_limit, Symbols.{symbol_at, level_in, is_counted}}
+use Rattle.rnix_grammar.specs.{declared.{until.Until.Until}, Tables.depth_limit, Symbols.{symbol_at, level_in, is_counted}}
 use Rattle.rnix_grammar.specs.{Missing.{run_at, run_of}, AnnotatedForest.{touches, Token, Note, Stray, Unwanted, Extra, Twice, TooDeep, AnnotatedForest}}
-use Rattle.rnix_grammar.specs.{AnnotatedForest.{one_fault, row_of, is_some, head_kind}, Reports.report, Rows.{RowState, At, Nowhere, fits, advance}}
-use Rattle.rnix_grammar.specs.{Rows.{advance_symbol, live, to}, ExpectedItems.expects, Operands.IsOperand, PlaceReads.{deeper, IsRoom, IsWrong}}
-use Rattle.rnix_lemmas.proofs.{Basics.true_is_not_false, PlaceTests.{same_place, to_test, no_place}, PlainPlaces.{Reaches, reaches}, RowKinds.no_wanted}
-use Rattle.{rnix_lemmas.proofs.RowKinds.no_closing, rnix_uniqueness.proofs.{ItemRows.stray_reads, PlacedNodes.{own_next, own_at, Operands, series_read}}}
+use Rattle.rnix_grammar.specs.{AnnotatedForest.{one_fault, row_of, is_some, head_kind}, Reports.report, Rows.{RowState, At, Nowhere, advance}}
+use Rattle.rnix_grammar.specs.{Rows.{live}, ExpectedItems.expects, Operands.IsOperand, PlaceReads.{deeper, IsRoom, IsWrong}}
+use Rattle.rnix_lemmas.proofs.{Basics.true_is_not_false, PlaceTests.{same_place, no_place}, PlainPlaces.{Reaches, reaches}}
+use Rattle.{rnix_uniqueness.proofs.{ItemRows.stray_reads, PlacedNodes.{own_at, Operands, operand_read_in}}}
 use Rattle.rnix_uniqueness.proofs.{RowTrees.{ReadsOne, one_operand, one_unwanted, one_extra, one_deep}, ReadingHeights.lone_token}
 use Rattle.rnix_grammar.specs.declared.place.Place.TheVariants as p
-use Rattle.rnix_grammar.specs.declared.symbol.Symbol.TheVariants as s
 use Rattle.rnix_grammar.specs.declared.action.Action.TheVariants as a
 
--- where an error node stands for an operand, an operand is read
-literal_in : (symbol : Symbol) (x y : Place) (touch : Bool) (next : Option SyntaxKind) → advance_symbol symbol x NODE_LITERAL ≡ At y
-    → own_next symbol touch next ≡ false → Operands symbol x y touch next NODE_LITERAL
-literal_in (s.Operand level counted z) x y touch next h o =
-    let q = to_test (fits level NODE_LITERAL) z y h in record { level = level; is = refl; fit = q.0; act = ap (λ w. a.Read level counted w) q.1 }
-literal_in (s.Series level closer) x y touch next h o = series_read level closer x y touch next NODE_LITERAL refl o h
-literal_in (s.Token until z) x y touch next h o = absurd (no_place y (sym (ap (λ w. to w (At z)) (no_wanted until NODE_LITERAL refl)) ∙ h))
-literal_in (s.Entries closer z) x y touch next h o = absurd (no_place y (sym (ap (λ w. if w then At z else Nowhere) (no_closing closer NODE_LITERAL refl)) ∙ h))
-literal_in (s.Bind true) x y touch next h o = absurd (no_place y h)
-literal_in (s.Bind false) x y touch next h o = absurd (no_place y h)
-literal_in _ x y touch next h o = absurd (no_place y h)
+-- no error node stands for an operand where none may stand
+no_literal : (x : Place) → level_in (symbol_at x) ≡ None → advance (At x) NODE_LITERAL ≡ Nowhere
+no_literal (p.Right level) e = absurd (cc)
+no_literal (p.PatternEnd true) e = refl
+no_literal (p.PatternEnd false) e = refl
+no_literal _ e = cc
 
--- so at a place
+-- where an error node stands for an operand, an operand is read
 literal_at : (x y : Place) (n : ℕ) (ts : List Token) → advance (At x) NODE_LITERAL ≡ At y → expects x n ts ≡ false
     → Operands (symbol_at x) x y (touches n ts) (head_kind ts) NODE_LITERAL
-literal_at x y n ts h o = literal_in (symbol_at x) x y (touches n ts) (head_kind ts) h (sym (own_at x n ts) ∙ o)
+literal_at x y n ts h o = by (level_in (symbol_at x)) refl
+  where
+    by : (l : Option ℕ) → level_in (symbol_at x) ≡ l → Operands (symbol_at x) x y (touches n ts) (head_kind ts) NODE_LITERAL
+    by None e = absurd (no_place y (sym (no_literal x e) ∙ h))
+    by (Some l) e = operand_read_in (symbol_at x) x y (touches n ts) (head_kind ts) NODE_LITERAL l e refl (sym (own_at x n ts) ∙ o) h
 
 -- an item that begins no operand
 stray_one : (q : SyntaxKind) (d n : ℕ) (x z : Place) (b : AnnotatedForest) (ts vs : List Token) → length ts ≡ 1 → expects x n (ts ++ vs) ≡ false → IsRoom (At x) d
