@@ -1,5 +1,5 @@
 -- How a node that stands at a place is read there.
-use Rattle.std.{specs.List.list_all, proofs.Common.{◌≡◌, arith, ℕ, Bool, true, false, List, [], ◌∷◌, Option, Some, None, refl, ap, sym, ◌∙◌, subst, if◌then◌else◌, nat_eq}}
+use Rattle.std.{specs.List.list_all, proofs.Common.{◌≡◌, ◌⊎◌, inl, inr, arith, ℕ, Bool, true, false, List, [], ◌∷◌, Option, Some, None, refl, ap, sym, ◌∙◌, subst, if◌then◌else◌, nat_eq}}
 use Rattle.std.proofs.lemmas.Bool.Decides.{nat_tests}
 use Rattle.rnix_kinds.specs.{SyntaxKind.place_of, declared.kinds.SyntaxKind.{SyntaxKind, TheVariants.{TOKEN_AT}}}
 use Rattle.rnix_kinds.specs.declared.kinds.SyntaxKind.TheVariants.{TOKEN_INHERIT, TOKEN_INTERPOL_START, TOKEN_L_PAREN}
@@ -9,7 +9,7 @@ use Rattle.{rnix_kinds.{specs.declared.kinds.SyntaxKind.TheVariants.NODE_STRING,
 use Rattle.rnix_grammar.specs.{declared.symbol.Symbol.Symbol, Tables.{is_wanted}, Symbols.{symbol_at, level_in, is_counted}}
 use Rattle.rnix_grammar.specs.{Actions.{done_at, action_at}, AnnotatedForest.{Token, head_kind, touches}}
 use Rattle.rnix_grammar.specs.{Rows.{RowState, fits, Start, At, first, advance, advance_symbol, live, start, to}, ExpectedItems.{expects_in, expects_end, expects, stands_expected_in}}
-use Rattle.rnix_lemmas.proofs.{Basics.{true_is_not_false, some_same}, NodeKinds.is_error, RowKinds.{has_row, no_closing}, PlaceTests.to_test, EachKind.{Each, each_kind, each_next}}
+use Rattle.rnix_lemmas.proofs.{Basics.{true_is_not_false}, NodeKinds.is_error, RowKinds.{has_row, no_closing}, PlaceTests.to_test, EachKind.{Each, each_kind, each_next}}
 use Rattle.rnix_uniqueness.proofs.{RowClasses.{class_of, row_class}, RowEnds.is_inner, FirstItems.is_bare, OwnTokens.AtPlace}
 use Rattle.rnix_grammar.specs.declared.place.Place.TheVariants as p
 use Rattle.rnix_grammar.specs.declared.symbol.Symbol.TheVariants as s
@@ -39,20 +39,6 @@ pub record Operands (symbol : Symbol) (x y : Place) (touch : Bool) (next : Optio
   pub fit : fits level k ≡ true
   pub act : done_at symbol x next touch ≡ a.Read level (is_counted symbol) y
 
--- how a node that stands at a place is read before an item
-pub data NodeRead (x y : Place) (touch : Bool) (next : Option SyntaxKind) : SyntaxKind → Type 0 where
-  operand : {k : SyntaxKind} → Operands (symbol_at x) x y touch next k → NodeRead x y touch next k
-  begins : {k : SyntaxKind} (z : Place) → start k ≡ At z → row_class z ≡ class_of (Some k) → is_inner k ≡ true → is_counted (symbol_at x) ≡ false
-      → action_at x next touch ≡ a.Begin k z y → NodeRead x y touch next k
-  opens : {k : SyntaxKind} (i : SyntaxKind) (z : Place) → IsOpener k i z → is_counted (symbol_at x) ≡ false → (next ≡ Some i → action_at x next touch ≡ a.Open k z y)
-      → NodeRead x y touch next k
-  name : is_counted (symbol_at x) ≡ false → ((j : SyntaxKind) → next ≡ Some j → is_wanted u.Attr j ≡ true → action_at x next touch ≡ a.Leaf NODE_IDENT y)
-      → NodeRead x y touch next NODE_IDENT
-  binds : is_counted (symbol_at x) ≡ false → ((j : SyntaxKind) → next ≡ Some j → (j ≡ TOKEN_AT) × (action_at x next touch ≡ a.Open NODE_PAT_BIND p.BindName y))
-      → NodeRead x y touch next NODE_PAT_BIND
-  entry : is_counted (symbol_at x) ≡ false → ((j : SyntaxKind) → next ≡ Some j → is_wanted u.Entry j ≡ true)
-      → ((j : SyntaxKind) → next ≡ Some j → is_wanted u.Attr j ≡ true → action_at x next touch ≡ a.Entry y) → NodeRead x y touch next NODE_PAT_ENTRY
-
 -- where a node that is no token stands for an operand of a symbol, an operand is read
 pub operand_read_in : (symbol : Symbol) (x y : Place) (touch : Bool) (next : Option SyntaxKind) (k : SyntaxKind) (l : ℕ) → level_in symbol ≡ Some l → has_row k ≡ true
     → own_next symbol touch next ≡ false → advance_symbol symbol x k ≡ At y → Operands symbol x y touch next k
@@ -71,11 +57,11 @@ stands_none (s.Series level closer) k l e = refl
 stands_none _ k l e = absurd (cc)
 
 -- where a test holds
-abbrev Where : Bool → Type 0 → Type 0
+abbrev pub Where : Bool → Type 0 → Type 0
 Where true P = P
 Where false P = Unit {0}
 
-where_one : {P : Type 0} (w : Bool) → w ≡ true → Where w P → P
+pub where_one : {P : Type 0} (w : Bool) → w ≡ true → Where w P → P
 where_one true e h = h
 where_one false e h = absurd (true_is_not_false (sym e))
 
@@ -91,7 +77,7 @@ where_same false true e h = absurd (true_is_not_false (sym e))
 where_same false false e h = h
 
 -- the token that opens a node of a kind, and the place behind it
-abbrev opener : SyntaxKind → Option (SyntaxKind × Place)
+abbrev pub opener : SyntaxKind → Option (SyntaxKind × Place)
 opener NODE_STRING = Some (TOKEN_STRING_START, p.StringInside)
 opener NODE_INTERPOL = Some (TOKEN_INTERPOL_START, p.InterpolInside)
 opener NODE_DYNAMIC = Some (TOKEN_INTERPOL_START, p.DynamicInside)
@@ -99,22 +85,30 @@ opener NODE_INHERIT = Some (TOKEN_INHERIT, p.InheritStart)
 opener NODE_INHERIT_FROM = Some (TOKEN_L_PAREN, p.FromInside)
 opener k = None
 
+-- what holds of the next item, if there is one
+abbrev pub IfNext : Option SyntaxKind → (SyntaxKind → Type 0) → Type 0
+IfNext None P = Unit {0}
+IfNext (Some j) P = P j
+
+-- equal kinds are found so
+pub same_kinds : (i j : SyntaxKind) → i ≡ j → nat_eq (place_of i) (place_of j) ≡ true
+same_kinds i j e = ap (λ k. nat_eq (place_of i) (place_of k)) (sym e) ∙ self (place_of i)
+  where
+    self : (n : ℕ) → nat_eq n n ≡ true
+    self n = grind (arith, nat_tests)
+
 -- such a token opens a node
-abbrev Opens : Option (SyntaxKind × Place) → SyntaxKind → Option SyntaxKind → Place → Action → Type 0
+abbrev pub Opens : Option (SyntaxKind × Place) → SyntaxKind → Option SyntaxKind → Place → Action → Type 0
 Opens None k next y act = ⊥
-Opens (Some w) k None y act = IsOpener k w.0 w.1
-Opens (Some w) k (Some j) y act = IsOpener k w.0 w.1 × Where (nat_eq (place_of w.0) (place_of j)) (act ≡ a.Open k w.1 y)
+Opens (Some w) k next y act = IsOpener k w.0 w.1 × IfNext next (λ j. Where (nat_eq (place_of w.0) (place_of j)) (act ≡ a.Open k w.1 y))
 
 -- what is done before an item where a node stands that is no operand, and behind which the row goes on at a place
-abbrev Read : SyntaxKind → Option SyntaxKind → Place → Action → Type 0
+abbrev pub Read : SyntaxKind → Option SyntaxKind → Place → Action → Type 0
 Read NODE_ATTRPATH next y act = act ≡ a.Begin NODE_ATTRPATH p.AttrpathStart y
 Read NODE_ATTRPATH_VALUE next y act = act ≡ a.Begin NODE_ATTRPATH_VALUE p.ValuePath y
-Read NODE_IDENT None y act = Unit {0}
-Read NODE_IDENT (Some j) y act = Where (is_wanted u.Attr j) (act ≡ a.Leaf NODE_IDENT y)
-Read NODE_PAT_BIND None y act = Unit {0}
-Read NODE_PAT_BIND (Some j) y act = (j ≡ TOKEN_AT) × (act ≡ a.Open NODE_PAT_BIND p.BindName y)
-Read NODE_PAT_ENTRY None y act = Unit {0}
-Read NODE_PAT_ENTRY (Some j) y act = (is_wanted u.Entry j ≡ true) × Where (is_wanted u.Attr j) (act ≡ a.Entry y)
+Read NODE_IDENT next y act = IfNext next (λ j. Where (is_wanted u.Attr j) (act ≡ a.Leaf NODE_IDENT y))
+Read NODE_PAT_BIND next y act = IfNext next (λ j. (j ≡ TOKEN_AT) × (act ≡ a.Open NODE_PAT_BIND p.BindName y))
+Read NODE_PAT_ENTRY next y act = IfNext next (λ j. (is_wanted u.Entry j ≡ true) × Where (is_wanted u.Attr j) (act ≡ a.Entry y))
 Read k next y act = Opens (opener k) k next y act
 
 -- so it is at a place, if the item is the place's own where it is to be
@@ -137,29 +131,9 @@ all_read (p.PatternEnd true) touch k = each_kind (IsAllRead (p.PatternEnd true) 
 all_read (p.PatternEnd false) touch k = each_kind (IsAllRead (p.PatternEnd false) touch) (assumption) k
 all_read x touch k = each_kind (IsAllRead x touch) (assumption) k
 
--- so a node that a token opens is read
-opened_so : (x y : Place) (touch : Bool) (o : Option (SyntaxKind × Place)) (next : Option SyntaxKind) (k : SyntaxKind) → is_counted (symbol_at x) ≡ false
-    → Opens o k next y (action_at x next touch) → NodeRead x y touch next k
-opened_so x y touch None next k c w = absurd w
-opened_so x y touch (Some v) None k c w = opens v.0 v.1 w c (λ q. absurd (cc))
-opened_so x y touch (Some v) (Some j) k c w =
-    opens v.0 v.1 w.0 c (λ q. where_one (nat_eq (place_of v.0) (place_of j)) (ap (λ i. nat_eq (place_of v.0) (place_of i)) (some_same j v.0 q) ∙ self (place_of v.0)) w.1)
-  where
-    self : (n : ℕ) → nat_eq n n ≡ true
-    self n = grind (arith, nat_tests)
-
--- so is each
-read_so : (x y : Place) (touch : Bool) (next : Option SyntaxKind) (k : SyntaxKind) → is_counted (symbol_at x) ≡ false → Read k next y (action_at x next touch) → NodeRead x y touch next k
-read_so x y touch next NODE_ATTRPATH c w = begins p.AttrpathStart refl refl refl c w
-read_so x y touch next NODE_ATTRPATH_VALUE c w = begins p.ValuePath refl refl refl c w
-read_so x y touch None NODE_IDENT c w = name c (λ j q. absurd (cc))
-read_so x y touch (Some i) NODE_IDENT c w = name c (λ j q h. where_one (is_wanted u.Attr i) (ap (is_wanted u.Attr) (some_same i j q) ∙ h) w)
-read_so x y touch None NODE_PAT_BIND c w = binds c (λ j q. absurd (cc))
-read_so x y touch (Some i) NODE_PAT_BIND c w = binds c (λ j q. (sym (some_same i j q) ∙ w.0, w.1))
-read_so x y touch None NODE_PAT_ENTRY c w = entry c (λ j q. absurd (cc)) (λ j q. absurd (cc))
-read_so x y touch (Some i) NODE_PAT_ENTRY c w =
-    entry c (λ j q. ap (is_wanted u.Entry) (sym (some_same i j q)) ∙ w.0) (λ j q h. where_one (is_wanted u.Attr i) (ap (is_wanted u.Attr) (some_same i j q) ∙ h) w.1)
-read_so x y touch next k c w = opened_so x y touch (opener k) next k c w
+-- how a node that stands at a place is read before an item: as an operand, or by its kind
+abbrev pub NodeRead : Place → Place → Bool → Option SyntaxKind → SyntaxKind → Type 0
+NodeRead x y touch next k = Operands (symbol_at x) x y touch next k ⊎ ((is_counted (symbol_at x) ≡ false) × Read k next y (action_at x next touch))
 
 -- a node with a row that stands at a place is read so
 pub node_read_at : (x y : Place) (n : ℕ) (ts : List Token) (k : SyntaxKind) → has_row k ≡ true → advance (At x) k ≡ At y → expects x n ts ≡ stands_expected_in (symbol_at x) k
@@ -178,9 +152,8 @@ node_read_at x y n ts k r h o = by (level_in (symbol_at x)) refl
     uncounted _ e = refl
 
     by : (l : Option ℕ) → level_in (symbol_at x) ≡ l → NodeRead x y touch (head_kind ts) k
-    by (Some l) e = operand (operand_read_in (symbol_at x) x y touch (head_kind ts) k l e r (own ∙ stands_none (symbol_at x) k l e) h)
+    by (Some l) e = inl (operand_read_in (symbol_at x) x y touch (head_kind ts) k l e r (own ∙ stands_none (symbol_at x) k l e) h)
     by None e =
         let w : AllRead None true (At y) x touch k =
         subst (λ q. AllRead None true q x touch k) h (subst (λ b. AllRead None b (advance (At x) k) x touch k) r (subst (λ l. AllRead l (has_row k) (advance (At x) k) x touch k) e (all_read x touch k))) in
-        read_so x y touch (head_kind ts) k (uncounted (symbol_at x) e)
-        (where_same (own_next (symbol_at x) touch (head_kind ts)) (stands_expected_in (symbol_at x) k) own (each_next (ReadAt x y touch k) w.0 w.1 (head_kind ts)))
+        inr (uncounted (symbol_at x) e, where_same (own_next (symbol_at x) touch (head_kind ts)) (stands_expected_in (symbol_at x) k) own (each_next (ReadAt x y touch k) w.0 w.1 (head_kind ts)))

@@ -68,7 +68,7 @@ row_next m rows trees {k = q} {d = d} {n = n} {x = x} {y = y} {b = b} {us = us} 
     on z =
         subst (λ (fs : List Fault). ReadsRow q d n x y b us (branch k c f) fs) (sym i)
         (row_on q d n x z.place y b (tokens_in c) us (one_branch k c) f (ds ++ repeats k b c) es
-        (inner_one m rows trees q d n x z.place b k c (tokens_in f ++ us) ds s
+        (inner_one m q d n x z.place b (tokens_in f ++ us) rows trees k c ds s
         (subst (λ (w : List Token). Short m k (deeper (At x) d) n (start k) s blank w c ds) v (record { reads = r; short = less_left (height r) (height r') m h }))
         (subst (λ (w : List Token). IsOver s (end_from n (tokens_in c)) w) v (subst (λ (w : ℕ). IsOver s w vs) e over))
         room (subst (λ (w : List Token). IsOperand (level_in (symbol_at x)) (one_branch k c) w) v op)
