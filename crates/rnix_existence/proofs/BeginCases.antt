@@ -3,7 +3,7 @@ use Rattle.std.proofs.Common.{◌≡◌, ℕ, true, false, List, [], ◌∷◌, 
 use Rattle.rnix_kinds.specs.declared.kinds.SyntaxKind.{SyntaxKind, TheVariants.{TOKEN_LET, TOKEN_L_BRACE, TOKEN_IDENT, TOKEN_AT, NODE_IDENT, NODE_IDENT_PARAM}}
 use Rattle.rnix_kinds.specs.declared.kinds.SyntaxKind.TheVariants.{NODE_LAMBDA, NODE_LEGACY_LET, NODE_PATTERN, NODE_PAT_BIND}
 use Rattle.rnix_grammar.specs.{declared.{place.Place.Place, begin.Begin.Begin}, Fault.Fault, Begins.{begin_of, second_kind}, AnnotatedForest.{Token, Stray}}
-use Rattle.rnix_grammar.specs.AnnotatedForest.{AnnotatedForest, blank, ◌⊕◌, one_token, one_branch, one_fault, tokens_in, leaf_kind, leaf_kind_as, head_kind}
+use Rattle.rnix_grammar.specs.AnnotatedForest.{AnnotatedForest, blank, token, ◌⊕◌, one_token, one_branch, one_fault, tokens_in, leaf_kind, leaf_kind_as, head_kind}
 use Rattle.rnix_grammar.specs.{AnnotatedForest.end_from, Machine.{Node, Operand, Frame, put, opened, begun}, Reports.report, Rows.{fits, RowState, Start}}
 use Rattle.rnix_grammar.specs.{Rows.{BeforeAt, BeforeBrace, At, advance, start}, Operands.{kind_of, IsBegun}, PlaceReads.{Reads, end, leaf, inner}}
 use Rattle.rnix_lemmas.proofs.{Basics.{true_is_not_false, some_same}, AnnotatedForestLemmas.tokens_two, LevelLemmas.atom_fits, FollowLemmas.{Stops, stops_all}}
@@ -115,7 +115,7 @@ begun_ends (b.Leaf k) level d t us g fs n gs row es e h ends =
     st = fits_starts 0 k (atom_fits 0 k h.atom)
 begun_ends (b.Node k z high) level d t us g fs n gs row es e h ends =
     node_ends level high d k z (one_token (leaf_kind k t) t) g fs (t ∷ us) us n t.end row [] es gs (gs ++ es) h.fit refl refl
-    (λ left s rest ds v y. first_leaf k t (fits_starts level k h.fit) h.goes refl y) (λ rest. h.stops t rest) (λ rest. ap kind_of e ∙ sym (h.first (leaf_kind k t) t rest)) ends refl
+    (λ left s rest ds v y. first_leaf k t (fits_starts level k h.fit) h.goes refl y) (λ rest. stops_at high (one_branch k (token (leaf_kind k t) t rest)) (h.follow t rest)) (λ rest. ap kind_of e ∙ sym (h.first (leaf_kind k t) t rest)) ends refl
 begun_ends b.LegacyLet level d t [] g fs n gs row es e h ends = absurd (none_some h.1)
 begun_ends b.LegacyLet level d t (u ∷ us) g fs n gs row es e h ends = legacy level d t u us g fs n gs row es h.0 (some_same u.kind TOKEN_L_BRACE h.1) h.2 (λ x. ap kind_of e) ends
 begun_ends b.NameLambda level d t us g fs n gs row es e h ends = named level d t us g fs n gs row es h (λ c rest. ap kind_of e) ends

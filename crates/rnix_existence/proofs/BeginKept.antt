@@ -6,8 +6,8 @@ use Rattle.{rnix_kinds.specs.declared.kinds.SyntaxKind.TheVariants.NODE_PAT_BIND
 use Rattle.rnix_grammar.specs.{Fault.Fault, Tables.depth_limit, Begins.{begin_of, second_kind}, AnnotatedForest.{Token, Stray, TooDeep, AnnotatedForest, blank}}
 use Rattle.rnix_grammar.specs.{AnnotatedForest.{◌⊕◌, one_token, one_branch, one_fault, row_of, leaf_kind, head_kind}, Machine.{Node, Operand, Frame, put}}
 use Rattle.{rnix_grammar.specs.Machine.{opened, leaf, behind, begun, limited, operand_on, reading}, rnix_lemmas.proofs.FirstTrees.{a_node, an_error}}
-use Rattle.{rnix_lemmas.proofs.FollowLemmas.atom_tight, rnix_existence.proofs.Frames.{row_at, MayGrow, an_operand, AtNode, Reading, node, operand}}
-use Rattle.rnix_existence.proofs.{Growing.{atom_grows, loose_grows}, PlaceRows.IsRow, BeginLevels.{BeginsTree, begun_tree}, BelowKept.{grown, stayed, waits}}
+use Rattle.{rnix_lemmas.proofs.FollowLemmas.{atom_tight, followed_loose}, rnix_existence.proofs.Frames.{row_at, MayGrow, an_operand, AtNode, Reading, node, operand}}
+use Rattle.rnix_existence.proofs.{Growing.{atom_grows, grows_by}, PlaceRows.IsRow, BeginLevels.{BeginsTree, begun_tree}, BelowKept.{grown, stayed, waits}}
 use Rattle.rnix_grammar.specs.declared.place.Place.TheVariants as p
 use Rattle.rnix_grammar.specs.declared.begin.Begin.TheVariants as b
 
@@ -59,7 +59,7 @@ begun_kept (b.Node k z high) level d t ts g fs n gs w r s l =
 begun_kept b.LegacyLet level d t ts g fs n gs w r s l =
     let x : AnnotatedForest = leaf false NODE_LEGACY_LET (t ∷ ts) ⊕ leaf false NODE_LEGACY_LET (behind false (t ∷ ts)) in
     node (on_operand NODE_LEGACY_LET p.LegacyInside d level 0 x g fs r (refl, refl) s
-    (λ rest. loose_grows level (one_branch NODE_LEGACY_LET (x ⊕ rest)) w.2 refl refl))
+    (λ rest. grows_by level 0 (one_branch NODE_LEGACY_LET (x ⊕ rest)) refl (omega (arith, w.2)) (omega arith) (followed_loose (one_branch NODE_LEGACY_LET (x ⊕ rest)) refl refl) refl))
 begun_kept b.NameLambda level d t ts g fs n gs w r s l =
     node (lambda_kept d level (one_branch NODE_IDENT_PARAM (one_branch NODE_IDENT (leaf false NODE_IDENT (t ∷ ts)))) g fs r s l)
 begun_kept b.BoundLambda level d t ts g fs n gs w r s l =

@@ -1,17 +1,16 @@
 -- How an operand begins: its first tree, and what may go on with it.
-use Rattle.std.proofs.Common.{◌≡◌, ℕ, ◌≤◌, Bool, true, false, List, Option, Some, refl, ap, sym, subst, arith, if◌then◌else◌, nat_eq, nat_le}
-use Rattle.std.proofs.lemmas.Bool.Decides.{nat_tests}
+use Rattle.std.proofs.Common.{◌≡◌, ℕ, ◌≤◌, Bool, true, false, List, Option, Some, refl, ap, sym, ◌∙◌, subst, arith, if◌then◌else◌, nat_eq, nat_le}
 use Rattle.rnix_kinds.specs.declared.kinds.SyntaxKind.{SyntaxKind, TheVariants.{TOKEN_L_PAREN, TOKEN_L_BRACK, TOKEN_REC, TOKEN_STRING_START, TOKEN_PATH_ABS}}
 use Rattle.rnix_kinds.specs.declared.kinds.SyntaxKind.TheVariants.{TOKEN_PATH_REL, TOKEN_PATH_HOME, TOKEN_PATH_SEARCH, TOKEN_FLOAT, TOKEN_INTEGER, TOKEN_URI}
 use Rattle.rnix_kinds.specs.declared.kinds.SyntaxKind.TheVariants.{TOKEN_IDENT, TOKEN_CUR_POS, TOKEN_L_BRACE, TOKEN_COLON, TOKEN_AT, TOKEN_LET, TOKEN_INVERT}
 use Rattle.rnix_kinds.specs.declared.kinds.SyntaxKind.TheVariants.{TOKEN_SUB, NODE_ATTR_SET, NODE_CUR_POS, NODE_IDENT, NODE_UNARY_OP, NODE_ROOT, NODE_ATTRPATH}
 use Rattle.{rnix_kinds.specs.declared.kinds.SyntaxKind.TheVariants.NODE_ATTRPATH_VALUE, rnix_grammar.specs.declared.{place.Place.Place, begin.Begin.Begin}}
 use Rattle.rnix_grammar.specs.{Begins.{is_pattern, begin_name, begin_let, begin_keyword, begin_scope, begin_of}, Tables.is_cur_pos, AnnotatedForest.Token}
-use Rattle.rnix_grammar.specs.{AnnotatedForest.{AnnotatedForest, blank, token, one_token, one_branch, leaf_kind_as}, Rows.{is_atom, is_expression, is_loose}}
-use Rattle.rnix_grammar.specs.{Rows.{fits, Start, At, advance, start}, TokenKinds.is_or, TreeLevels.{is_or_row, level_of}, Operands.first_tree}
-use Rattle.rnix_lemmas.proofs.{Basics.true_is_not_false, LevelLemmas.{atom_fits, at_most, same_number}, FollowLemmas.{Stops, stops_all, stops_at, atom_tight}}
+use Rattle.rnix_grammar.specs.{AnnotatedForest.{AnnotatedForest, token, one_token, one_branch, leaf_kind_as}, Rows.{is_atom, is_expression, is_loose}}
+use Rattle.rnix_grammar.specs.{Rows.{fits, Start, At, advance, start}, TokenKinds.is_or, TreeLevels.{is_or_row, is_atom_row, level_of, row_level}, Operands.first_tree}
+use Rattle.rnix_lemmas.proofs.{Basics.true_is_not_false, LevelLemmas.{atom_fits, fits_looser, at_most, same_number}, FollowLemmas.{FollowedTo, followed_atom, atom_tight}}
 use Rattle.rnix_lemmas.proofs.{FollowLemmas.{followed_negated, followed_inverted, followed_loose}, NodeKinds.{is_error, fits_expression}, NestTrees.is_formal}
-use Rattle.rnix_existence.proofs.{Frames.{row_at, MayGrow}, Growing.{no_name, atom_grows, loose_grows, prefix_fits, prefix_grows}}
+use Rattle.rnix_existence.proofs.{Frames.{row_at, MayGrow}, Growing.{no_name, grows_by}}
 use Rattle.rnix_grammar.specs.declared.place.Place.TheVariants as p
 use Rattle.rnix_grammar.specs.declared.begin.Begin.TheVariants as b
 
@@ -39,7 +38,7 @@ pub record BeginsNode (k : SyntaxKind) (z : Place) (high level : ℕ) (kind : Sy
   pub home : row_at z ≡ Some (is_formal k)
   pub fit : fits level k ≡ true
   pub first : (j : SyntaxKind) (t : Token) (r : AnnotatedForest) → first_tree (one_branch k (token j t r)) ≡ k
-  pub stops : (t : Token) (r : AnnotatedForest) → Stops high (one_branch k (token (leaf_kind_as k kind) t r))
+  pub follow : (t : Token) (r : AnnotatedForest) → FollowedTo high (one_branch k (token (leaf_kind_as k kind) t r))
   pub grows : level ≤ 16 → (t : Token) (r : AnnotatedForest) → MayGrow level high (one_branch k (token (leaf_kind_as k kind) t r))
 
 -- what is known of the first items, and of the tree that begins so
@@ -52,19 +51,30 @@ BeginsTree b.BoundLambda level kind second = (kind ≡ TOKEN_IDENT) × (second �
 BeginsTree b.PatternLambda level kind second = kind ≡ TOKEN_L_BRACE
 BeginsTree b.Stray level kind second = Unit {0}
 
+-- a node of a level that it fits, up to which the level is
+levelled : (k : SyntaxKind) (z : Place) (high level tight : ℕ) (kind : SyntaxKind) → is_error k ≡ false → row_at z ≡ Some (is_formal k) → advance (start k) (leaf_kind_as k kind) ≡ At z
+    → ((j : SyntaxKind) (t : Token) (r : AnnotatedForest) → first_tree (one_branch k (token j t r)) ≡ k) → fits level k ≡ true → fits tight k ≡ true → high ≤ tight → (level ≤ 16 → level ≤ tight)
+    → ((t : Token) (r : AnnotatedForest) → row_level (one_branch k (token (leaf_kind_as k kind) t r)) ≡ tight)
+    → ((x : AnnotatedForest) → row_level x ≡ tight → is_atom_row x ≡ is_atom k → FollowedTo high x) → BeginsNode k z high level kind
+levelled k z high level tight kind sound home goes first fit own h most e follow = record {
+  goes = goes;
+  sound = sound;
+  home = home;
+  fit = fit;
+  first = first;
+  follow = λ t r. follow (one_branch k (token (leaf_kind_as k kind) t r)) (e t r) refl;
+  grows = λ l t r.
+      (let c : AnnotatedForest = token (leaf_kind_as k kind) t r in
+      grows_by level high (one_branch k c) (ap (λ n. fits n k) (e t r) ∙ own) (omega (arith, e t r, most l)) (omega (arith, e t r, h)) (follow (one_branch k c) (e t r) refl) (no_name k c sound));
+}
+
 -- an atom
 atom : (k : SyntaxKind) (z : Place) (level : ℕ) (kind : SyntaxKind) → is_atom k ≡ true → is_error k ≡ false → row_at z ≡ Some (is_formal k)
     → advance (start k) (leaf_kind_as k kind) ≡ At z → ((j : SyntaxKind) (t : Token) (r : AnnotatedForest) → first_tree (one_branch k (token j t r)) ≡ k)
     → BeginsNode k z 16 level kind
-atom k z level kind h sound home goes first = record {
-  goes = goes;
-  sound = sound;
-  home = home;
-  fit = atom_fits level k h;
-  first = first;
-  stops = λ t r. stops_all (one_branch k (token (leaf_kind_as k kind) t r));
-  grows = λ l t r. let c : AnnotatedForest = token (leaf_kind_as k kind) t r in atom_grows level (one_branch k c) h (atom_tight k c h) (no_name k c sound) l;
-}
+atom k z level kind h sound home goes first =
+    levelled k z 16 level 16 kind sound home goes first (atom_fits level k h) (atom_fits 16 k h) (omega arith) (λ l. l) (λ t r. atom_tight k (token (leaf_kind_as k kind) t r) h)
+    (λ x e a. followed_atom x e (a ∙ h))
 
 -- what reaches as far as it can
 loose : (k : SyntaxKind) (z : Place) (level : ℕ) (kind : SyntaxKind) → is_expression k ≡ true → is_atom k ≡ false
@@ -72,15 +82,9 @@ loose : (k : SyntaxKind) (z : Place) (level : ℕ) (kind : SyntaxKind) → is_ex
     → row_at z ≡ Some (is_formal k) → advance (start k) (leaf_kind_as k kind) ≡ At z
     → ((j : SyntaxKind) (t : Token) (r : AnnotatedForest) → first_tree (one_branch k (token j t r)) ≡ k)
     → level ≡ 0 → BeginsNode k z 0 level kind
-loose k z level kind h a v sound home goes first e = record {
-  goes = goes;
-  sound = sound;
-  home = home;
-  fit = (loose_grows level (one_branch k blank) e h (no_name k blank sound)).fit;
-  first = first;
-  stops = λ t r. let c : AnnotatedForest = token (leaf_kind_as k kind) t r in stops_at 0 (one_branch k c) (followed_loose (one_branch k c) (v c) a);
-  grows = λ l t r. loose_grows level (one_branch k (token (leaf_kind_as k kind) t r)) e h (no_name k (token (leaf_kind_as k kind) t r) sound);
-}
+loose k z level kind h a v sound home goes first e =
+    levelled k z 0 level 0 kind sound home goes first (ap (λ n. fits n k) e ∙ h) h (omega arith) (λ l. omega (arith, e)) (λ t r. v (token (leaf_kind_as k kind) t r))
+    (λ x u w. followed_loose x u (w ∙ a))
 
 name_tree : (level : ℕ) (w : Bool) (second : Option SyntaxKind)
     → BeginsTree (if w then b.Leaf NODE_CUR_POS else b.Leaf NODE_IDENT) level TOKEN_IDENT second
@@ -97,33 +101,22 @@ brace_begins : (level : ℕ) (w : Bool) (second : Option SyntaxKind)
 brace_begins level true second = refl
 brace_begins level false second = atom _ _ _ _ refl refl refl refl (λ j t r. refl)
 
+-- the node of a prefix operator fits each level up to that of `-`
+prefix_fits : (n : ℕ) → n ≤ 14 → fits n NODE_UNARY_OP ≡ true
+prefix_fits n h = fits_looser n 14 NODE_UNARY_OP h refl
+
 invert_begins : (level : ℕ) (w : Bool) (second : Option SyntaxKind) → nat_le level 9 ≡ w
     → BeginsTree (if w then b.Node NODE_UNARY_OP p.Inverted 8 else b.Stray) level TOKEN_INVERT second
 invert_begins level true second e =
-    let fit : fits level NODE_UNARY_OP ≡ true = prefix_fits level (grind (arith, nat_tests, e)) in
-    record {
-      goes = refl;
-      sound = refl;
-      home = refl;
-      fit = fit;
-      first = λ j t r. refl;
-      stops = λ t r. let x : AnnotatedForest = one_branch NODE_UNARY_OP (token TOKEN_INVERT t r) in stops_at 8 x (followed_inverted x refl refl);
-      grows = λ l t r. prefix_grows level 8 (one_branch NODE_UNARY_OP (token TOKEN_INVERT t r)) fit refl refl (at_most level 9 e) (omega arith) refl;
-    }
+    let most : level ≤ 9 = at_most level 9 e in
+    levelled NODE_UNARY_OP p.Inverted 8 level 9 TOKEN_INVERT refl refl refl (λ j t r. refl) (prefix_fits level (omega (arith, most))) refl (omega arith) (λ l. most) (λ t r. refl) followed_inverted
 invert_begins level false second e = tt
 
 negate_begins : (level : ℕ) (w : Bool) (second : Option SyntaxKind) → nat_le level 14 ≡ w
     → BeginsTree (if w then b.Node NODE_UNARY_OP p.Negated 13 else b.Stray) level TOKEN_SUB second
-negate_begins level true second e = record {
-  goes = refl;
-  sound = refl;
-  home = refl;
-  fit = prefix_fits level e;
-  first = λ j t r. refl;
-  stops = λ t r. let x : AnnotatedForest = one_branch NODE_UNARY_OP (token TOKEN_SUB t r) in stops_at 13 x (followed_negated x refl refl);
-  grows =
-      λ l t r. prefix_grows level 13 (one_branch NODE_UNARY_OP (token TOKEN_SUB t r)) (prefix_fits level e) refl refl (at_most level 14 e) (omega arith) refl;
-}
+negate_begins level true second e =
+    let most : level ≤ 14 = at_most level 14 e in
+    levelled NODE_UNARY_OP p.Negated 13 level 14 TOKEN_SUB refl refl refl (λ j t r. refl) (prefix_fits level most) refl (omega arith) (λ l. most) (λ t r. refl) followed_negated
 negate_begins level false second e = tt
 
 -- a node that reaches as far as it can stands at the loosest level

@@ -1,9 +1,9 @@
 -- What is known of the frames while the items of a text are read.
 use Rattle.std.proofs.Common.{◌≡◌, ◌⊎◌, ℕ, ◌≤◌, Bool, true, false, List, [], ◌∷◌, Option, Some, None, if◌then◌else◌, nat_le}
-use Rattle.{rnix_kinds.specs.declared.kinds.SyntaxKind.SyntaxKind, rnix_grammar.specs.{declared.place.Place.Place, Levels.{binding_power, left_of}}}
+use Rattle.{rnix_kinds.specs.declared.kinds.SyntaxKind.SyntaxKind, rnix_grammar.specs.{declared.place.Place.Place}}
 use Rattle.rnix_grammar.specs.{Tables.depth_limit, AnnotatedForest.{AnnotatedForest, blank, ◌⊕◌, one_branch}, Machine.{Head, Node, Second, Operand, Frame}}
-use Rattle.rnix_grammar.specs.{Rows.{is_atom, is_simple, is_questioned, is_operand, is_infix, fits}, TreeLevels.{row_level, is_or_row}}
-use Rattle.{rnix_lemmas.proofs.{NodeKinds.is_error, NestTrees.is_formal, FirstTrees.IsSingle}, rnix_existence.proofs.OpenFrames.seen_kind}
+use Rattle.rnix_grammar.specs.{Rows.{fits}, TreeLevels.{row_level, is_or_row}}
+use Rattle.{rnix_lemmas.proofs.{FollowLemmas.FollowedTo, NodeKinds.is_error, NestTrees.is_formal, FirstTrees.IsSingle}, rnix_existence.proofs.OpenFrames.seen_kind}
 use Rattle.rnix_grammar.specs.declared.place.Place.TheVariants as p
 
 -- whether a place of a node's row is in an entry of a pattern; none behind an operand, in a second name, or for a right operand above level 16
@@ -20,14 +20,9 @@ row_at place = Some false
 -- One tree may be an operand of a level, and go on with what binds no tighter than another level.
 pub record MayGrow (low high : ℕ) (x : AnnotatedForest) : Type 0 where
   pub fit : fits low (seen_kind x) ≡ true
-  pub atom : 16 ≤ high → is_atom (seen_kind x) ≡ true
-  pub simple : 15 ≤ high → is_simple (seen_kind x) ≡ true
-  pub questioned : 13 ≤ high → is_questioned (seen_kind x) ≡ true
-  pub operand : 1 ≤ high → is_operand (seen_kind x) ≡ true
+  pub tight : fits high (seen_kind x) ≡ true
   pub least : low ≤ row_level x
-  pub left : (j : SyntaxKind) → is_infix j ≡ true → binding_power j ≤ high → left_of j ≤ row_level x
-  pub asked : 13 ≤ high → 13 ≤ row_level x
-  pub called : 15 ≤ high → 15 ≤ row_level x
+  pub follow : FollowedTo high x
   pub no_or : is_or_row x ≡ false
 
 -- an open node of a kind, at a place, inside so many counted places

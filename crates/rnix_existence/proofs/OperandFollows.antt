@@ -1,38 +1,16 @@
 -- What goes on with an operand follows its tree, and where nothing does the operand is whole.
-use Rattle.std.proofs.Common.{◌≡◌, ℕ, ◌≤◌, Bool, true, false, List, [], ◌∷◌, Some, refl, ap, sym, ◌∙◌, subst, append-nil, arith, ◌||◌, ◌&&◌, if◌then◌else◌}
+use Rattle.std.proofs.Common.{◌≡◌, ℕ, ◌≤◌, Bool, true, false, List, [], ◌∷◌, Some, refl, sym, ◌∙◌, subst, append-nil, arith, ◌&&◌}
 use Rattle.std.proofs.{Common.{nat_eq, nat_le}, lemmas.Bool.Decides.nat_tests}
-use Rattle.rnix_kinds.{specs.{declared.kinds.SyntaxKind.{SyntaxKind, TheVariants.TOKEN_QUESTION}, SyntaxKind.is_fn_arg}, proofs.AllKinds.implied}
-use Rattle.rnix_grammar.specs.{Levels.{binding_power, left_of}, TokenKinds.{is_or, is_question, is_dot}, AnnotatedForest.{Token, AnnotatedForest, head_kind}}
-use Rattle.rnix_grammar.specs.{Rows.{is_infix, fits}, TreeLevels.{row_level, is_or_row, is_atom_row}, Operands.{follows, goes_on}}
-use Rattle.rnix_lemmas.proofs.{Basics.{true_is_not_false, not_if}, LevelLemmas.at_most_true, FollowLemmas.{Stops, follows_binding_power}}
+use Rattle.rnix_kinds.{specs.{declared.kinds.SyntaxKind.{SyntaxKind}, SyntaxKind.is_fn_arg}, proofs.AllKinds.implied}
+use Rattle.rnix_grammar.specs.{Levels.{binding_power}, AnnotatedForest.{Token, AnnotatedForest, head_kind}}
+use Rattle.rnix_grammar.specs.{Rows.{fits}, TreeLevels.{row_level, is_or_row}, Operands.{follows, goes_on}}
+use Rattle.rnix_lemmas.proofs.{Basics.{true_is_not_false}, LevelLemmas.at_most_true, FollowLemmas.{Stops, follows_binding_power}}
 use Rattle.rnix_existence.proofs.OpenFrames.{seen_kind, Lone, Grows}
 use Rattle.rnix_grammar.specs.Actions as a
-
--- an operator follows what may be its left operand
-pub operator_follows : (k : SyntaxKind) (x : AnnotatedForest) → is_infix k ≡ true → left_of k ≤ row_level x → follows k x ≡ true
-operator_follows k x h l =
-    ap (λ w. if w then nat_le (left_of k) (row_level x) else (if is_question k then nat_le 13 (row_level x) else (if is_fn_arg k then nat_le 15 (row_level x) else ((is_dot k || is_or k) && is_atom_row x)))) h
-    ∙ at_most_true (left_of k) (row_level x) l
-
--- `?` follows what binds as tightly
-pub question_follows : (x : AnnotatedForest) → 13 ≤ row_level x → follows TOKEN_QUESTION x ≡ true
-question_follows x h = at_most_true 13 (row_level x) h
 
 -- a token of level 15 begins an argument
 pub argument_is : (k : SyntaxKind) → binding_power k ≡ 15 → is_fn_arg k ≡ true
 argument_is k h = implied (λ o. nat_eq (binding_power o) 15) is_fn_arg refl k (grind (arith, nat_tests, h))
-
--- and follows what may be called
-pub argument_follows : (k : SyntaxKind) (x : AnnotatedForest) → binding_power k ≡ 15 → 15 ≤ row_level x → follows k x ≡ true
-argument_follows k x h l =
-    ap (λ w. if w then nat_le (left_of k) (row_level x) else (if is_question k then nat_le 13 (row_level x) else (if is_fn_arg k then nat_le 15 (row_level x) else ((is_dot k || is_or k) && is_atom_row x))))
-    (not_if (is_infix k) (implied (λ o. nat_eq (binding_power o) 15) (λ o. if is_infix o then false else true) refl k e))
-    ∙ ap (λ w. if w then nat_le 13 (row_level x) else (if is_fn_arg k then nat_le 15 (row_level x) else ((is_dot k || is_or k) && is_atom_row x)))
-    (not_if (is_question k) (implied (λ o. nat_eq (binding_power o) 15) (λ o. if is_question o then false else true) refl k e))
-    ∙ ap (λ w. if w then nat_le 15 (row_level x) else ((is_dot k || is_or k) && is_atom_row x)) (argument_is k h) ∙ at_most_true 15 (row_level x) l
-  where
-    e : nat_eq (binding_power k) 15 ≡ true
-    e = grind (arith, nat_tests, h)
 
 -- what does not go on between two levels does not go on with a tree, if nothing tighter follows that
 pub calm_behind : (low high : ℕ) (x : AnnotatedForest) (ts : List Token) → ((j : SyntaxKind) → head_kind ts ≡ Some j → a.goes_on low high j ≡ false) → Stops high x → goes_on low x ts ≡ false

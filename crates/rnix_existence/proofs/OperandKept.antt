@@ -5,22 +5,18 @@ use Rattle.rnix_kinds.specs.declared.kinds.SyntaxKind.{SyntaxKind, TheVariants.{
 use Rattle.{rnix_kinds.specs.declared.kinds.SyntaxKind.TheVariants.{NODE_BIN_OP, NODE_IDENT}, rnix_grammar.specs.declared.place.Place.Place}
 use Rattle.rnix_grammar.specs.{declared.action.Action.Action, Fault.Fault, Levels.{binding_power, right_of, high_of}, Actions.{follow, goes_on, more_action}}
 use Rattle.rnix_grammar.specs.{Actions.action_at, AnnotatedForest.{Token, AnnotatedForest, blank, ◌⊕◌, one_token, one_branch, leaf_kind, head_kind}}
-use Rattle.rnix_grammar.specs.{Machine.{Node, Operand, Frame, opened, leaf, low_of, perform}, Rows.{is_atom, is_infix}, TokenKinds.is_or, TreeLevels.row_level}
-use Rattle.{rnix_grammar.specs.TreeLevels.{operator_in, calls_or, is_atom_row}, rnix_lemmas.proofs.{AnnotatedForestLemmas.⊕-assoc, LevelLemmas.at_most}}
-use Rattle.rnix_lemmas.proofs.{LevelLemmas.{at_most_true, right_within}, FirstTrees.{IsSingle, a_node, an_error, single_operator, single_calls}}
-use Rattle.rnix_existence.proofs.{OpenFrames.seen_kind, Frames.{MayGrow, an_operand, AtNode, AtOperand, Reading, node, operand}, Growing.simple_grows}
-use Rattle.rnix_existence.proofs.{Growing.{question_grows, operator_grows}, PlaceRows.IsRow, BelowKept.landed_kept, BeginKept.reading_kept}
+use Rattle.rnix_grammar.specs.{Machine.{Node, Operand, Frame, opened, leaf, low_of, perform}, Rows.{is_infix}, TokenKinds.is_or, TreeLevels.row_level}
+use Rattle.{rnix_grammar.specs.TreeLevels.{operator_in, calls_or}, rnix_lemmas.proofs.{AnnotatedForestLemmas.⊕-assoc, LevelLemmas.at_most}}
+use Rattle.rnix_lemmas.proofs.{LevelLemmas.{at_most_true, right_within}, FirstTrees.{a_node, single_operator, single_calls}}
+use Rattle.rnix_existence.proofs.{Frames.{MayGrow, an_operand, AtNode, AtOperand, Reading, node, operand}, Growing.{grows_by, call_grows}}
+use Rattle.rnix_lemmas.proofs.FollowLemmas.{followed_tight, followed_question}
+use Rattle.rnix_existence.proofs.{Growing.operator_grows, PlaceRows.IsRow, BelowKept.landed_kept, BeginKept.reading_kept}
 use Rattle.rnix_grammar.specs.declared.place.Place.TheVariants as p
 use Rattle.rnix_grammar.specs.declared.action.Action.TheVariants as a
 
 -- no kind is none
 pub none_some : {k : SyntaxKind} → None ≡ Some k → ⊥
 none_some e = cc
-
--- an atom alone is one
-pub atom_row : (x : AnnotatedForest) → IsSingle x → is_atom (seen_kind x) ≡ true → is_atom_row x ≡ true
-atom_row _ a_node h = h
-atom_row _ an_error h = refl
 
 -- what a test of levels tells
 pub record Between (low high : ℕ) (k : SyntaxKind) : Type 0 where
@@ -63,14 +59,6 @@ wrapped_kept f fs k z x high r i grows = record {
   below = an_operand r.low high refl (ap (λ y. p.Behind (low_of y) high) r.place) refl r.shallow grows r.below;
 }
 
--- a call binds at least as tightly as application
-call_level : (c : AnnotatedForest) → 15 ≤ row_level (one_branch NODE_APPLY c)
-call_level c = by (calls_or c)
-  where
-    by : (w : Bool) → 15 ≤ (if w then 16 else 15)
-    by true = omega arith
-    by false = omega arith
-
 -- an operand goes on with a token
 goes : (k : SyntaxKind) (action : Action) → FollowsBy k action
     → (f : Frame) (fs : List Frame) (t : Token) (ts : List Token) (n : ℕ) (gs : List Fault) (r : AtOperand f fs)
@@ -78,10 +66,10 @@ goes : (k : SyntaxKind) (action : Action) → FollowsBy k action
 goes k action by_dot f fs t ts n gs r e x =
     let row : AnnotatedForest = f.row ⊕ leaf false NODE_SELECT (t ∷ ts) in
     node (wrapped_kept f fs NODE_SELECT p.SelectPath row 15 r (refl, refl)
-    (λ rest. simple_grows r.low (one_branch NODE_SELECT (row ⊕ rest)) refl x.least (omega arith) refl))
+    (λ rest. let s : AnnotatedForest = one_branch NODE_SELECT (row ⊕ rest) in grows_by r.low 15 s refl x.least (omega arith) (followed_tight s refl refl) refl))
 goes k action by_question f fs t ts n gs r e x =
     let row : AnnotatedForest = f.row ⊕ leaf false NODE_HAS_ATTR (t ∷ ts) in
-    node (wrapped_kept f fs NODE_HAS_ATTR p.HasPath row 13 r (refl, refl) (λ rest. question_grows r.low (row ⊕ rest) x.least))
+    node (wrapped_kept f fs NODE_HAS_ATTR p.HasPath row 13 r (refl, refl) (λ rest. let s : AnnotatedForest = one_branch NODE_HAS_ATTR (row ⊕ rest) in grows_by r.low 13 s refl x.least (omega arith) (followed_question s refl refl) refl))
 goes k action (by_operator h) f fs t ts n gs r e x =
     let leaves : AnnotatedForest = one_token (leaf_kind NODE_BIN_OP t) t in
     node (wrapped_kept f fs NODE_BIN_OP (p.Right (right_of k)) (f.row ⊕ leaves) (high_of k) r
@@ -98,14 +86,15 @@ goes k action by_or f fs t ts n gs r e x =
       head = refl;
       place = ap (λ y. p.Behind (low_of y) 15) r.place;
       single = a_node;
-      grows = simple_grows r.low (one_branch NODE_APPLY (f.row ⊕ name)) refl (omega (arith, level, x.least)) (call_level (f.row ⊕ name)) refl;
+      grows = call_grows r.low (f.row ⊕ name) (omega (arith, level, x.least));
       shallow = r.shallow;
       below = r.below;
     })
 goes k action (by_argument h) f fs t ts n gs r e x =
     reading_kept 16 false (opened (Node NODE_APPLY) p.Past f.depth f.row) (opened Operand (p.Behind (low_of f.place) 15) f.depth blank ∷ fs) (t ∷ ts) n gs
     (wrapped_kept f fs NODE_APPLY p.Past f.row 15 r (refl, refl)
-    (λ rest. let level = call_level (f.row ⊕ rest) in simple_grows r.low (one_branch NODE_APPLY (f.row ⊕ rest)) refl (omega (arith, x.least, h, level)) level refl))
+    (λ rest. call_grows r.low (f.row ⊕ rest)
+    (elim (calls_or (f.row ⊕ rest)) as (λ w. r.low ≤ (if w then 16 else 15)) [ true ↦ omega (arith, x.least, h) | false ↦ omega (arith, x.least, h) ])))
     (omega arith)
 
 -- what is done at an operand

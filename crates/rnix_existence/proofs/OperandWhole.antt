@@ -4,12 +4,12 @@ use Rattle.std.proofs.lemmas.Bool.Decides.{nat_tests}
 use Rattle.rnix_kinds.specs.{declared.kinds.SyntaxKind.{SyntaxKind, TheVariants.{NODE_SELECT, NODE_HAS_ATTR, NODE_BIN_OP}}, SyntaxKind.is_fn_arg}
 use Rattle.{rnix_kinds.proofs.AllKinds.implied, rnix_grammar.specs.{declared.{place.Place.Place, action.Action.Action}, Fault.Fault, Levels.binding_power}}
 use Rattle.rnix_grammar.specs.{Levels.{right_of, high_of}, Actions.{follow, goes_on, more_action, action_at}, TokenKinds.is_or, AnnotatedForest.{Token, token}}
-use Rattle.rnix_grammar.specs.{AnnotatedForest.{◌⊕◌, one_branch, leaf_kind, leaf_kind_as, head_kind, touches}, Machine.Frame, Rows.{is_atom, BeforeOperator}}
-use Rattle.{rnix_grammar.specs.{Rows.{BeforeDot, BeforeQuestion, BeforeArgument, At, to, advance}, Operands.follows}, rnix_lemmas.proofs.Basics.not_if}
-use Rattle.rnix_lemmas.proofs.{Basics.some_same, FollowLemmas.{stops_simple, stops_at, followed_question, followed_infix}, FirstTrees.single_operator}
+use Rattle.rnix_grammar.specs.{AnnotatedForest.{◌⊕◌, one_branch, leaf_kind, leaf_kind_as, head_kind, touches}, Machine.Frame, Rows.{BeforeOperator}}
+use Rattle.{rnix_grammar.specs.{Rows.{BeforeDot, BeforeQuestion, BeforeArgument, At, to, advance}, Operands.follows, TreeLevels.is_atom_row}, rnix_lemmas.proofs.Basics.not_if}
+use Rattle.rnix_lemmas.proofs.{Basics.some_same, LevelLemmas.fits_looser, FollowLemmas.{stops_simple, stops_at, followed_question, followed_infix}, FirstTrees.single_operator}
 use Rattle.rnix_existence.proofs.{OpenFrames.{seen_kind, EndsBy}, Frames.AtOperand, OperandKept.{FollowsBy, by_dot, by_or, by_question, by_operator}}
-use Rattle.rnix_existence.proofs.{OperandKept.{by_argument, Between, between, none_some, atom_row}, OperandFollows.{operator_follows, question_follows}}
-use Rattle.rnix_existence.proofs.{OperandFollows.{argument_is, argument_follows}, OperandSteps.{settle_ends, wrap_ends, apply_ends, apply_or_ends}}
+use Rattle.rnix_existence.proofs.{OperandKept.{by_argument, Between, between, none_some}, Growing.atom_seen}
+use Rattle.rnix_existence.proofs.{OperandFollows.argument_is, OperandSteps.{settle_ends, wrap_ends, apply_ends, apply_or_ends}}
 use Rattle.rnix_grammar.specs.declared.place.Place.TheVariants as p
 use Rattle.rnix_grammar.specs.declared.action.Action.TheVariants as a
 use Rattle.rnix_existence.proofs.OperandKept as o
@@ -22,31 +22,27 @@ argument_no_or k h = not_if (is_or k) (implied (λ o. nat_eq (binding_power o) 1
 goes : (k : SyntaxKind) (action : Action) → FollowsBy k action → (f : Frame) (fs : List Frame) (t : Token) (ts : List Token) (n : ℕ) (gs : List Fault) (r : AtOperand f fs)
     → t.kind ≡ k → Between r.low r.high k → EndsBy action f fs (t ∷ ts) n gs
 goes k action by_dot f fs t ts n gs r e x =
-    let at : is_atom (seen_kind f.row) ≡ true = r.grows.atom (omega (arith, x.most)) in
-    wrap_ends f fs t ts n gs NODE_SELECT BeforeDot p.SelectPath 15 r refl (ap (λ w. to w BeforeDot) at) refl (λ us. tt)
-    (subst (λ (j : SyntaxKind). follows j f.row ≡ true) (sym e) (atom_row f.row r.single at))
+    let fo : is_atom_row f.row ≡ true = (r.grows.follow k).0 x.positive x.most in
+    wrap_ends f fs t ts n gs NODE_SELECT BeforeDot p.SelectPath 15 r refl (ap (λ w. to w BeforeDot) (atom_seen f.row fo)) refl (λ us. tt) (subst (λ (j : SyntaxKind). follows j f.row ≡ true) (sym e) fo)
     (ap (λ j. advance BeforeDot (leaf_kind_as NODE_SELECT j)) e) (λ c. refl) (λ rest. stops_simple (one_branch NODE_SELECT (f.row ⊕ token (leaf_kind NODE_SELECT t) t rest)) refl) (λ b c. refl)
 goes k action by_question f fs t ts n gs r e x =
     wrap_ends f fs t ts n gs NODE_HAS_ATTR BeforeQuestion p.HasPath 13 r refl
-    (ap (λ w. to w BeforeQuestion) (r.grows.questioned (omega (arith, x.most)))) refl (λ us. tt)
-    (subst (λ (j : SyntaxKind). follows j f.row ≡ true) (sym e) (question_follows f.row (r.grows.asked (omega (arith, x.most)))))
+    (ap (λ w. to w BeforeQuestion) (fits_looser 13 r.high (seen_kind f.row) x.most r.grows.tight)) refl (λ us. tt)
+    (subst (λ (j : SyntaxKind). follows j f.row ≡ true) (sym e) ((r.grows.follow k).0 x.positive x.most))
     (ap (λ j. advance BeforeQuestion (leaf_kind_as NODE_HAS_ATTR j)) e) (λ c. refl)
     (λ rest. stops_at 13 (one_branch NODE_HAS_ATTR (f.row ⊕ token (leaf_kind NODE_HAS_ATTR t) t rest)) (followed_question (one_branch NODE_HAS_ATTR (f.row ⊕ token (leaf_kind NODE_HAS_ATTR t) t rest)) refl refl)) (λ b c. refl)
 goes k action (by_operator h) f fs t ts n gs r e x =
     wrap_ends f fs t ts n gs NODE_BIN_OP BeforeOperator (p.Right (right_of k)) (high_of k) r refl
-    (ap (λ w. to w BeforeOperator) (r.grows.operand (omega (arith, x.most, x.positive)))) refl (λ us. tt)
-    (subst (λ (j : SyntaxKind). follows j f.row ≡ true) (sym e) (operator_follows k f.row h (r.grows.left k h x.most)))
+    (ap (λ w. to w BeforeOperator) (fits_looser 1 r.high (seen_kind f.row) (omega (arith, x.most, x.positive)) r.grows.tight)) refl (λ us. tt)
+    (subst (λ (j : SyntaxKind). follows j f.row ≡ true) (sym e) ((r.grows.follow k).0 x.positive x.most))
     (ap (λ j. advance BeforeOperator (leaf_kind_as NODE_BIN_OP j)) e ∙ ap (λ w. to w (At (p.Right (right_of k)))) h) (λ c. refl)
     (λ rest. stops_at (high_of k) (one_branch NODE_BIN_OP (f.row ⊕ token (leaf_kind NODE_BIN_OP t) t rest))
     (followed_infix k h (one_branch NODE_BIN_OP (f.row ⊕ token (leaf_kind NODE_BIN_OP t) t rest)) (ap binding_power (single_operator f.row rest (leaf_kind NODE_BIN_OP t) t r.single ∙ e)) refl)) (λ b c. refl)
 goes k action by_or f fs t ts n gs r e x =
-    let at : is_atom (seen_kind f.row) ≡ true = r.grows.atom (omega (arith, x.most)) in
-    apply_or_ends f fs t ts n gs r (ap (λ w. to w BeforeArgument) (r.grows.simple (omega (arith, x.most)))) e
-    (atom_row f.row r.single at)
+    apply_or_ends f fs t ts n gs r (ap (λ w. to w BeforeArgument) (fits_looser 15 r.high (seen_kind f.row) (omega (arith, x.most)) r.grows.tight)) e ((r.grows.follow k).0 x.positive x.most)
 goes k action (by_argument h) f fs t ts n gs r e x =
-    apply_ends f fs t ts n gs r (ap (λ w. to w BeforeArgument) (r.grows.simple (omega (arith, x.most, h))))
-    (ap is_or e ∙ argument_no_or k h) (ap is_fn_arg e ∙ argument_is k h)
-    (subst (λ (j : SyntaxKind). follows j f.row ≡ true) (sym e) (argument_follows k f.row h (r.grows.called (omega (arith, x.most, h)))))
+    apply_ends f fs t ts n gs r (ap (λ w. to w BeforeArgument) (fits_looser 15 r.high (seen_kind f.row) (omega (arith, x.most, h)) r.grows.tight))
+    (ap is_or e ∙ argument_no_or k h) (ap is_fn_arg e ∙ argument_is k h) (subst (λ (j : SyntaxKind). follows j f.row ≡ true) (sym e) ((r.grows.follow k).0 x.positive x.most))
 
 -- a step at an operand
 pub more_ends : (f : Frame) (fs : List Frame) (ts : List Token) (n : ℕ) (gs : List Fault) (r : AtOperand f fs) → EndsBy (more_action r.low r.high (head_kind ts)) f fs ts n gs
