@@ -3,8 +3,4 @@ pub mod GrammarFacts
 pub mod GrammarRows
 pub mod GrammarStrict
 pub mod GrammarViews
-pub mod GrammarForms
-pub mod GrammarEntries
-pub mod GrammarOperators
-pub mod GrammarPatterns
 pub mod GrammarTrees
