@@ -5,7 +5,7 @@ use Rattle.rnix_reader.specs.{State.{bumped, started, started_at, ended}, Steps.
 
 -- a leaf's node leaves what is open
 pub leaf_nodes : (k : SyntaxKind) (s s' : State) → s' ≡ ended (bumped k (started k s)) → s'.open_nodes ≡ s.open_nodes
-unfolding ended bumped started started_at eaten
+unfolding ended bumped started_at eaten
 leaf_nodes k s s' e = ap (λ x. x.open_nodes) e
 
 -- what is not looked at does not matter

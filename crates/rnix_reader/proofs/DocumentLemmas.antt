@@ -2,8 +2,8 @@
 use Rattle.std.proofs.Common.{◌≡◌, ℕ, true, List, [], ◌∷◌, ◌++◌, map, refl, ap, sym, ◌∙◌, subst}
 use Rattle.{rnix_kinds.specs.{declared.kinds.SyntaxKind.TheVariants.NODE_ROOT, Lexical.Tokens.Lexeme}, rnix_green.specs.Forest.{Forest, empty, node}}
 use Rattle.rnix_green.specs.{Forest.tree_count, Draft.{Draft, blank, node_opened}, Tree.{Tree, forest_of}}
-use Rattle.rnix_grammar.specs.{declared.error.ParseError.ParseError, Fault.fault_of, AnnotatedForest.{Token, placed_from, forget}, Machine.{begins, ate, Runs}}
-use Rattle.{rnix_grammar.specs.Document.IsRead, rnix_reader.specs.{declared.mark.Mark.Mark, State.{State, marked}, Flat.{flat, mark_at}, Holds.IsReadTo}}
+use Rattle.rnix_grammar.specs.{declared.error.ParseError.ParseError, Fault.{Fault, fault_of}, AnnotatedForest.{Token, placed_from, forget}, Machine.{begins, ate}}
+use Rattle.{rnix_grammar.specs.Document.IsRead, rnix_reader.specs.{declared.mark.Mark.Mark, State.{State, marked}, Flat.{flat, mark_at}, Holds.{IsReadTo, IsThrough}}}
 use Rattle.rnix_reader.proofs.StateLemmas.{state_is}
 use Rattle.rnix_grammar.specs.declared.place.Place.TheVariants as p
 
@@ -26,19 +26,26 @@ tree_is_node t f e =
     let trees : t.children ≡ f = cc in
     ap (λ x. let y : Tree = record { kind = x; children = t.children } in y) kinds ∙ ap (λ x. let y : Tree = record { kind = NODE_ROOT; children = x } in y) trees
 
--- the tree of a whole text that is read is as promised
-pub read_made : (ls : List Lexeme) (ts : List Token) (s : State) (tree : Tree) → ts ≡ placed_from 0 ls → IsReadTo ts s → forest_of tree ≡ s.trees → IsRead ls tree s.faults
-read_made ls ts s tree e r t = record {
-  root = r.root;
-  last = r.last;
-  runs = subst (λ x. Runs true (begins x) r.last) e r.runs;
-  alone = r.alone;
-  head = r.head;
-  place = r.place;
-  nothing = r.nothing;
-  tree_is = tree_is_node tree (forget (ate true r.root.row r.last.left)) (t ∙ r.trees);
-  faults_are = r.faults;
+-- where the text is read its tree and its errors are as promised
+pub read_of : (ls : List Lexeme) (t : IsThrough (begins (placed_from 0 ls))) (tree : Tree) (faults : List Fault)
+    → tree ≡ record { kind = NODE_ROOT; children = forget (ate true t.root.row t.last.left) } → faults ≡ t.last.faults → IsRead ls tree faults
+read_of ls t tree faults e f = record {
+  root = t.root;
+  last = t.last;
+  runs = t.runs;
+  alone = t.alone;
+  head = t.head;
+  place = t.place;
+  nothing = t.nothing;
+  tree_is = e;
+  faults_are = f;
 }
+
+-- and so with what the reader holds
+pub read_made : (ls : List Lexeme) (ts : List Token) (s : State) (tree : Tree) → ts ≡ placed_from 0 ls → IsReadTo ts s → forest_of tree ≡ s.trees → IsRead ls tree s.faults
+read_made ls ts s tree e r t =
+    let all : IsReadTo (placed_from 0 ls) s = subst (λ x. IsReadTo x s) e r in
+    read_of ls all.through tree s.faults (tree_is_node tree (forget (ate true all.through.root.row all.through.last.left)) (t ∙ all.trees)) all.faults
 
 -- one more mark leaves the tokens
 pub rest_marked : (m : Mark) (s s' : State) → s' ≡ marked m s → s'.rest ≡ s.rest

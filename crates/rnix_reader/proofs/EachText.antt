@@ -2,22 +2,11 @@
 use Rattle.std.proofs.Common.{◌≡◌, ◌<◌, ℕ, zero, suc, Bool, true, false, List, [], ◌∷◌, refl, ap, sym, ◌∙◌, subst, arith}
 use Rattle.{rnix_kinds.specs.{declared.kinds.SyntaxKind.TheVariants.NODE_ROOT, Lexical.Tokens.Lexeme}, rnix_green.specs.Tree.Tree}
 use Rattle.rnix_grammar.specs.{declared.action.Action.Action, Fault.Fault, AnnotatedForest.{Token, placed_from, forget, head_kind, touches}, Layout.items}
-use Rattle.rnix_grammar.specs.{Actions.action_at, Sorts.{sort_of, AreKept}, Machine.{Node, Frame, Machine, machine, begins, ate, perform, Runs, rest as here}}
+use Rattle.rnix_grammar.specs.{Actions.action_at, Sorts.{sort_of, AreKept}, Machine.{Frame, Machine, machine, begins, ate, perform, rest as here}}
 use Rattle.{rnix_grammar.specs.{Machine.then as further, Document.IsRead, Allowed.Allowed}, rnix_lemmas.proofs.Basics.true_is_not_false}
 use Rattle.rnix_lemmas.proofs.{PlaceLemmas.{head_root, root_alone, root_lowest, step_kept, begins_kept}, AllowedLemmas.allowed}
-use Rattle.rnix_reader.{specs.Holds.is_finish, proofs.{StepLemmas.is_root, RunLemmas.no_items, WorkLemmas.{cost, cost_of, perform_less}}}
-use Rattle.rnix_grammar.specs.declared.place.Place.TheVariants as p
+use Rattle.rnix_reader.{specs.{Performed.is_finish, Holds.IsThrough}, proofs.{SortLemmas.is_root, DocumentLemmas.read_of, RunLemmas.no_items, WorkLemmas.{cost, cost_of, perform_less}}}
 use Rattle.rnix_grammar.specs.declared.action.Action.TheVariants as a
-
--- some steps lead a machine to where the root alone is open and nothing is left
-pub record IsThrough (m : Machine) : Type 0 where
-  pub last : Machine
-  pub runs : Runs true m last
-  pub root : Frame
-  pub alone : last.frames ≡ root ∷ []
-  pub head : root.head ≡ Node NODE_ROOT
-  pub place : root.place ≡ p.RootEnd
-  pub nothing : items last.left ≡ []
 
 finish_is : (action : Action) → is_finish action ≡ true → action ≡ a.Finish
 finish_is a.Finish e = refl
@@ -67,20 +56,6 @@ each_read ls = by (through (suc (cost (items ts) (begins ts).frames)) (begins ts
     ts = placed_from 0 ls
 
     by : IsThrough (begins ts) → (tree : Tree) × ((faults : List Fault) × IsRead ls tree faults)
-    by t = (
-      record { kind = NODE_ROOT; children = forget (ate true t.root.row t.last.left) },
-      (
-        t.last.faults,
-        record {
-          root = t.root;
-          last = t.last;
-          runs = t.runs;
-          alone = t.alone;
-          head = t.head;
-          place = t.place;
-          nothing = t.nothing;
-          tree_is = refl;
-          faults_are = refl;
-        },
-      ),
-    )
+    by t =
+        let tree : Tree = record { kind = NODE_ROOT; children = forget (ate true t.root.row t.last.left) } in
+        (tree, (t.last.faults, read_of ls t tree t.last.faults refl refl))

@@ -7,7 +7,7 @@ use Rattle.rnix_grammar.specs.{AnnotatedForest.{AnnotatedForest, blank, ◌⊕�
 use Rattle.rnix_grammar.specs.Machine.{Head, Node, Second, Operand, Frame, Machine, put, opened, ate, leaf, behind, reach, run_row, run_rest, made, machine}
 use Rattle.rnix_grammar.specs.{Machine.{closed, limited, begun, operand_on, reading}, Sorts.{Sort, Again, sort_of, sort_of_head, may_hold, is_open, StandsOn}}
 use Rattle.{rnix_lemmas.proofs.{Basics.true_is_not_false, PlaceLemmas.{BeginsInner, begin_inner}}, rnix_reader.specs.declared.names.Names.Names}
-use Rattle.rnix_reader.{specs.{Placed.AreInOrder, Holds.{BeginsAt, EndsAt, AreNamed, NamesFor, opens_pattern, opens_on}}, proofs.EntryLemmas.head_sort}
+use Rattle.rnix_reader.{specs.{Placed.AreInOrder, Holds.{BeginsAt, EndsAt, AreNamed}, Performed.{NamesFor, opens_pattern, opens_on}}, proofs.SortLemmas.head_sort}
 use Rattle.rnix_reader.proofs.{OrderLemmas.{order_from, order_behind, order_all}, RowLemmas.{no_entry_leaf, no_entry_fault}, KeptLemmas.grow_trivia}
 use Rattle.rnix_reader.proofs.KeptLemmas.{grow_behind, push_node, push_operand, push_pattern, pop, is_bare}
 use Rattle.rnix_grammar.specs.declared.place.Place.TheVariants as p

@@ -5,14 +5,14 @@ use Rattle.rnix_grammar.specs.{declared.place.Place.Place, Fault.Fault, Annotate
 use Rattle.rnix_grammar.specs.{Layout.trivia_before, Reports.entry_name, Machine.{Head, Node, Second, Operand, Frame, put, opened, ate, made}, Sorts.Sort}
 use Rattle.rnix_grammar.specs.Sorts.{Pattern, Entry, Plain, sort_of, sort_of_head, sort_of_node, may_hold, StandsOn}
 use Rattle.{rnix_lemmas.proofs.Basics.true_is_not_false, rnix_reader.specs.{declared.names.{NameSet.NameSet, Names.Names}, Names.{texts_of, extents_of}}}
-use Rattle.rnix_reader.specs.{Names.{PatternOpened, PatternClosed, EntryOpened, EntryClosed}, Holds.{AreNamed, IsBegun, text_of, range_of, name_of, entries_of}}
-use Rattle.rnix_reader.{specs.Holds.{ranges_of, Tops, Known, KnownOn}, proofs.EntryLemmas.{known_pattern, known_entry as known_in_entry, head_sort}}
-use Rattle.rnix_reader.proofs.RowLemmas.{HasNoEntry, no_entry_trivia, is_pattern_sort, begun_more, name_more, known_more, known_entry}
+use Rattle.rnix_reader.specs.{Names.{PatternOpened, PatternClosed, EntryOpened}, Holds.{AreNamed, IsBegun, text_of, range_of, name_of, entries_of}}
+use Rattle.rnix_reader.{specs.Holds.{ranges_of, Tops, Known, KnownOn}, proofs.{EntryLemmas.{known_pattern, IsEntry}, SortLemmas.{is_pattern, head_sort}}}
+use Rattle.rnix_reader.proofs.RowLemmas.{HasNoEntry, no_entry_trivia, begun_more, name_more, known_more, known_entry}
 use Rattle.rnix_grammar.specs.declared.place.Place.TheVariants as p
 
 -- a row grows at its end
 pub grow : (f : Frame) (fs : List Frame) (names : Names) (after : Place) (g : AnnotatedForest)
-    → (is_pattern_sort (sort_of_head f.head) ≡ true → HasNoEntry g) → AreNamed f fs names → AreNamed (put after (f.row ⊕ g) f) fs names
+    → (is_pattern (sort_of_head f.head) ≡ true → HasNoEntry g) → AreNamed f fs names → AreNamed (put after (f.row ⊕ g) f) fs names
 grow f fs names after g q w =
     let same = name_more f.head f.row g w.begun.0 in
     record {
@@ -33,7 +33,7 @@ grow_trivia f fs names after ts w = grow f fs names after (trivia_before ts) (λ
 
 -- and by more behind them
 pub grow_behind : (f : Frame) (fs : List Frame) (names : Names) (after : Place) (ts : List Token) (g : AnnotatedForest)
-    → (is_pattern_sort (sort_of_head f.head) ≡ true → HasNoEntry g) → AreNamed f fs names → AreNamed (put after (ate true f.row ts ⊕ g) f) fs names
+    → (is_pattern (sort_of_head f.head) ≡ true → HasNoEntry g) → AreNamed f fs names → AreNamed (put after (ate true f.row ts ⊕ g) f) fs names
 grow_behind f fs names after ts g q w =
     grow (put after (ate true f.row ts) f) fs names after g q (grow_trivia f fs names after ts w)
 
@@ -127,7 +127,7 @@ instead f fs names low high d row o w = record {
 }
 
 -- what closes has no entry of its own
-made_quiet : (h : Head) (row : AnnotatedForest) (s : Sort) → is_bare (sort_of_head h) ≡ true → may_hold s (sort_of_head h) ≡ true → is_pattern_sort s ≡ true → HasNoEntry (made h row)
+made_quiet : (h : Head) (row : AnnotatedForest) (s : Sort) → is_bare (sort_of_head h) ≡ true → may_hold s (sort_of_head h) ≡ true → is_pattern s ≡ true → HasNoEntry (made h row)
 made_quiet (Node NODE_PAT_ENTRY) row s b m q = absurd (true_is_not_false (sym b))
 made_quiet (Node k) row s b m q = λ name. refl
 made_quiet Second row s b m q = λ name. refl
@@ -147,7 +147,7 @@ pop f g fs names st b w =
       ranges = w.ranges ∙ ap (λ x. ranges_of (g ∷ fs) ++ range_of x) none ∙ append-nil (ranges_of (g ∷ fs));
     } in
     grow g fs names g.place (made f.head f.row)
-    (λ q. made_quiet f.head f.row (sort_of g.place) bare (ap (may_hold (sort_of g.place)) st.0 ∙ st.1) (ap is_pattern_sort (sym (head_sort g.head g.place fs st.2)) ∙ q)) kept
+    (λ q. made_quiet f.head f.row (sort_of g.place) bare (ap (may_hold (sort_of g.place)) st.0 ∙ st.1) (ap is_pattern (sym (head_sort g.head g.place fs st.2)) ∙ q)) kept
 
 -- a pattern is complete, and its set is dropped
 pub pop_pattern : (f g : Frame) (fs : List Frame) (names names' : Names) → f.head ≡ Node NODE_PATTERN → PatternClosed names names' → AreNamed f (g ∷ fs) names
@@ -164,23 +164,15 @@ pop_pattern f g fs names names' e c w =
     grow g fs names' g.place (made f.head f.row) (λ q. subst (λ h. HasNoEntry (made h f.row)) (sym e) (λ name. refl)) kept
 
 -- an entry is complete, and its name is in the set
-pub pop_entry : (f g : Frame) (fs : List Frame) (names names' : Names) (again : Option Fault) → f.head ≡ Node NODE_PAT_ENTRY → g.head ≡ Node NODE_PATTERN → EntryClosed again names names'
-    → AreNamed f (g ∷ fs) names → AreNamed (put g.place (g.row ⊕ made f.head f.row) g) fs names'
-pop_entry f g fs names names' again entry pattern c w =
-    let tops : Tops names.sets.items g.row (Known fs) =
-    known_pattern g.head g.row names.sets.items (Known fs) pattern (known_in_entry f.head f.row names.sets.items (Known (g ∷ fs)) entry w.sets) in
-    let begun : IsBegun (Node NODE_PAT_ENTRY) f.row = subst (λ x. IsBegun x f.row) entry w.begun.0 in
-    let t : Token = begun.0 in
-    let named : name_of f.head f.row ≡ Some t = ap (λ x. name_of x f.row) entry ∙ begun.1 in
-    let texts : texts_of names ≡ entries_of (g ∷ fs) ++ t.text ∷ [] = w.texts ∙ ap (λ x. entries_of (g ∷ fs) ++ text_of x) named in
-    let ranges : extents_of names ≡ ranges_of (g ∷ fs) ++ extent_of (t ∷ []) ∷ [] = w.ranges ∙ ap (λ x. ranges_of (g ∷ fs) ++ range_of x) named in
-    let done = c.entered (entries_of (g ∷ fs)) t.text (ranges_of (g ∷ fs)) (extent_of (t ∷ [])) tops.below tops.set texts ranges tops.all in
+pub pop_entry : (f g : Frame) (fs : List Frame) (names names' : Names) (again : Option Fault) → IsEntry f g fs names names' again → AreNamed f (g ∷ fs) names
+    → AreNamed (put g.place (g.row ⊕ made f.head f.row) g) fs names'
+pop_entry f g fs names names' again q w =
     let same = name_more g.head g.row (made f.head f.row) w.begun.1.0 in
     record {
       begun = (begun_more g.head g.row (made f.head f.row) w.begun.1.0, w.begun.1.1);
-      sets = subst (λ h. KnownOn g.head (g.row ⊕ made h f.row) names'.sets.items (Known fs)) (sym entry)
-          (known_entry g.head g.row f.row t tops.below done.0.set names'.sets.items (Known fs) (ap (λ h. is_pattern_sort (sort_of_head h)) pattern) begun.1 done.0.sets tops.more
-          (λ other. done.0.has other ∙ ap (λ x. if bytes_eq t.text other then true else x) (tops.is other)));
-      texts = done.1 ∙ ap (λ x. entries_of fs ++ text_of x) (sym same);
-      ranges = done.2 ∙ ap (λ x. ranges_of fs ++ range_of x) (sym same);
+      sets = subst (λ h. KnownOn g.head (g.row ⊕ made h f.row) names'.sets.items (Known fs)) (sym q.entry)
+          (known_entry g.head g.row f.row q.name q.tops.below q.entered.set names'.sets.items (Known fs) (ap (λ h. is_pattern (sort_of_head h)) q.pattern) q.named q.entered.sets q.tops.more
+          (λ other. q.entered.has other ∙ ap (λ x. if bytes_eq q.name.text other then true else x) (q.tops.is other)));
+      texts = q.texts ∙ ap (λ x. entries_of fs ++ text_of x) (sym same);
+      ranges = q.ranges ∙ ap (λ x. ranges_of fs ++ range_of x) (sym same);
     }

@@ -1,3 +1,4 @@
+pub mod SortLemmas
 pub mod CursorLemmas
 pub mod StateLemmas
 pub mod TextLemmas
@@ -14,8 +15,6 @@ pub mod KeptLemmas
 pub mod GoesLemmas
 pub mod PerformLemmas
 pub mod LoopLemmas
-pub mod CompletionLemmas
-pub mod FinishLemmas
 pub mod DocumentLemmas
 pub mod BeginLemmas
 pub mod EachText

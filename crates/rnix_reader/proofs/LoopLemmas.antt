@@ -1,102 +1,139 @@
 -- Reading step by step: the machine goes with the reader.
-use Rattle.std.proofs.Common.{◌≡◌, ◌<◌, ℕ, true, false, Bool, List, [], ◌∷◌, ◌++◌, refl, ap, sym, ◌∙◌, subst, arith}
-use Rattle.{rnix_kinds.specs.declared.kinds.SyntaxKind.TheVariants.NODE_ROOT, rnix_grammar.specs.{declared.action.Action.Action, AnnotatedForest.Token}}
-use Rattle.rnix_grammar.specs.{AnnotatedForest.{blank, head_kind}, Layout.items, Machine.{Node, Frame, Machine, opened, machine, begins, perform, step, Runs}}
-use Rattle.{rnix_grammar.specs.{Machine.{rest, then}, Allowed.Allowed, Sorts.AreKept}, rnix_lemmas.proofs.{Basics.not_nil, PlaceLemmas.step_kept}}
-use Rattle.rnix_reader.specs.{declared.{mark.Mark.Mark, names.Names.Names}, Placed.AreInOrder, Names.{texts_of, extents_of}, State.{State, with_marks}}
-use Rattle.rnix_reader.specs.{Flat.{marks_of, mark_of, flat, popped}, Holds.{Holds, Holding, IsHolding, NamesAfter, action_of, is_finish, work}}
-use Rattle.rnix_reader.proofs.{StepLemmas.{given, step_is}, GoesLemmas.Goes, PerformLemmas.perform_goes, WorkLemmas.{cost_of, work_is, perform_less}}
-use Rattle.rnix_reader.proofs.WorkLemmas.{fit_bottom}
+use Rattle.std.proofs.Common.{◌≡◌, ◌<◌, ℕ, Bool, true, false, List, [], ◌∷◌, ◌++◌, length, refl, ap, sym, ◌∙◌, subst, arith}
+use Rattle.{rnix_kinds.specs.declared.kinds.SyntaxKind.TheVariants.NODE_ROOT, rnix_green.specs.{Forest.{empty, node}, Draft.wrapped-join}}
+use Rattle.rnix_grammar.specs.{declared.{action.Action.Action, place.Place.Place}, AnnotatedForest.{Token, AnnotatedForest, blank, forget, head_kind, touches}, Layout.{items, from_item}, Fault.Fault, Allowed.Allowed, Sorts.{sort_of, AreKept}}
+use Rattle.rnix_grammar.specs.Machine.{Head, Node, Machine, opened, ate, machine, begins, step, Runs, rest as here, then as further}
+use Rattle.rnix_lemmas.proofs.{Basics.{not_nil, none_right}, PlaceLemmas.{step_kept, head_root, root_alone}, AllowedLemmas.allowed}
+use Rattle.rnix_reader.specs.{declared.{mark.Mark.Mark, names.Names.Names}, Placed.AreInOrder, Names.{texts_of, extents_of}, State.{State, with_marks, eaten, ended}}
+use Rattle.rnix_reader.specs.{Flat.{marks_of, mark_of, flat, flat_with, popped}, Holds.{IsGoing, IsReadTo, work}, Performed.{Performed, NamesAfter, IsReady, action_of, is_finish}}
+use Rattle.rnix_reader.proofs.{StateLemmas.state_is, SortLemmas.head_sort, FlatLemmas.flat-eaten, StepLemmas.{ready, performs}, GoesLemmas.Goes, PerformLemmas.perform_goes, RunLemmas.no_items}
+use Rattle.rnix_reader.proofs.WorkLemmas.{work_is, perform_less, fit_bottom}
 use Rattle.rnix_grammar.specs.declared.place.Place.TheVariants as p
 use Rattle.rnix_grammar.specs.declared.action.Action.TheVariants as a
 
 -- one more step
-pub runs_on : (raw : Bool) (a m : Machine) → Runs raw a m → Runs raw a (step raw m)
-runs_on raw a m rest = then rest
-runs_on raw a m (then r) = then (runs_on raw (step raw a) m r)
+runs_on : (raw : Bool) (a m : Machine) → Runs raw a m → Runs raw a (step raw m)
+runs_on raw a m here = further here
+runs_on raw a m (further r) = further (runs_on raw (step raw a) m r)
 
 -- the text is about to be read
 pub starts : (s : State) (names : Names) → s ≡ flat (begins s.rest) → AreInOrder 0 s.rest → names.sets.items ≡ [] → texts_of names ≡ [] → extents_of names ≡ []
-    → Holds (begins s.rest) s names
+    → IsGoing s.rest s names
 starts s names e o k t r = record {
   top = opened (Node NODE_ROOT) p.RootStart 0 blank;
   under = [];
-  frames = refl;
+  left = s.rest;
+  reached = 0;
+  faults = [];
+  runs = here;
   state = e;
   well = record { fit = (refl, refl); begins = tt; ends = tt; order = o };
   named = record { begun = (tt, tt); sets = k; texts = t; ranges = r };
 }
 
--- a list with a last element is not empty
-longer : {A : Type 0} (xs : List A) (y : A) → xs ++ y ∷ [] ≡ [] → ⊥
-longer [] y e = not_nil e
-longer (x ∷ xs) y e = not_nil e
+-- something is open
+pub something_open : (first : List Token) (s : State) (names : Names) → IsGoing first s names → s.marks ≡ [] → ⊥
+something_open first s names g e = not_nil (none_right (marks_of g.under) (mark_of g.top g.under ∷ []) (sym (ap (λ x. x.marks) g.state) ∙ e))
 
 -- equal lists have the same last element
-pub last_same : {A : Type 0} (xs ys : List A) (x y : A) → xs ++ x ∷ [] ≡ ys ++ y ∷ [] → (xs ≡ ys) × (x ≡ y)
+last_same : {A : Type 0} (xs ys : List A) (x y : A) → xs ++ x ∷ [] ≡ ys ++ y ∷ [] → (xs ≡ ys) × (x ≡ y)
 last_same [] [] x y e = (refl, cc)
-last_same [] (b ∷ ys) x y e = absurd (longer ys y (cc))
-last_same (a ∷ xs) [] x y e = absurd (longer xs x (cc))
+last_same [] (b ∷ ys) x y e = absurd (not_nil (none_right ys (y ∷ []) (cc)))
+last_same (a ∷ xs) [] x y e = absurd (not_nil (none_right xs (x ∷ []) (cc)))
 last_same (a ∷ xs) (b ∷ ys) x y e =
     let tails : xs ++ x ∷ [] ≡ ys ++ y ∷ [] = cc in
     let heads : a ≡ b = cc in
     let more = last_same xs ys x y tails in
     (ap (λ z. a ∷ z) more.0 ∙ ap (λ z. z ∷ ys) heads, more.1)
 
--- the innermost mark is taken
-pub takes : (m : Machine) (s s' : State) (names : Names) (mark : Mark) → Holds m s names → s.marks ≡ s'.marks ++ mark ∷ [] → s' ≡ with_marks s'.marks s → IsHolding m mark s' names
-takes m s s' names mark h e k =
-    let whole : m ≡ machine (h.top ∷ h.under) m.left m.reached m.faults = ap (λ x. machine x m.left m.reached m.faults) h.frames in
-    let marks : s'.marks ++ mark ∷ [] ≡ marks_of h.under ++ mark_of h.top h.under ∷ [] = sym e ∙ ap (λ x. x.marks) h.state ∙ ap (λ x. marks_of x.frames) whole in
-    let two = last_same s'.marks (marks_of h.under) mark (mark_of h.top h.under) marks in (
-      h.top,
-      h.under,
-      m.left,
-      m.reached,
-      record {
-        machine_is = whole;
-        mark_is = two.1;
-        state = k ∙ ap (λ x. with_marks s'.marks x) (h.state ∙ ap flat whole) ∙ ap (λ x. with_marks x (flat (machine (h.top ∷ h.under) m.left m.reached m.faults))) two.0 ∙ ap popped (sym whole);
-        well = h.well;
-        named = h.named;
-      },
-    )
-
--- frames stay fit, and names stay known, through each step of the machine
-pub goes_on : (m : Machine) (mark : Mark) (s s' : State) (names names' : Names) (action : Action) → IsHolding m mark s names → action ≡ action_of mark s → is_finish action ≡ false
-    → s' ≡ flat (step true m) → NamesAfter action mark s names names' → Holds (step true m) s' names'
-goes_on m mark s s' names names' action w a g e n = given (Holds (step true m) s' names') m mark s names action action a refl by w
-  where
-    by : (x : Frame) (xs : List Frame) (ts : List Token) (k : ℕ) → Holding x xs ts k m mark s names → Allowed x.place (head_kind (items ts)) action → Holds (step true m) s' names'
-    by x xs ts k h al =
-        let known : NamesAfter action (mark_of x xs) (popped (machine (x ∷ xs) ts k m.faults)) names names' =
-        subst (λ y. NamesAfter action (mark_of x xs) y names names') (h.state ∙ ap popped h.machine_is) (subst (λ y. NamesAfter action y s names names') h.mark_is n) in
-        let done : Goes (step true m) names' =
-        subst (λ y. Goes y names') (sym (step_is x xs ts k m mark s names action h a))
-        (perform_goes action x xs ts k m.faults names names' h.named h.well.fit h.well.ends h.well.begins h.well.order al g known) in
-        let fit : AreKept (step true m).frames = step_kept true m (subst AreKept (sym (ap (λ y. y.frames) h.machine_is)) h.well.fit) in
-        record {
-          top = done.top;
-          under = done.under;
-          frames = done.frames;
-          state = e;
-          well = record { fit = subst AreKept done.frames fit; begins = done.begins; ends = done.ends; order = done.order };
-          named = done.named;
-        }
-
--- each step leaves less to do
-pub less : (m : Machine) (mark : Mark) (s s' s'' : State) (names : Names) (action : Action) → Holds m s names → s.marks ≡ s'.marks ++ mark ∷ [] → s' ≡ with_marks s'.marks s
-    → action ≡ action_of mark s' → is_finish action ≡ false → s'' ≡ flat (step true m) → work s'' < work s
-less m mark s s' s'' names action h e k a g f =
-    given (work s'' < work s) m mark s' names action action a refl (λ x xs ts n w al. by x xs ts n w al) (takes m s s' names mark h e k)
-  where
-    by : (x : Frame) (xs : List Frame) (ts : List Token) (n : ℕ) → Holding x xs ts n m mark s' names → Allowed x.place (head_kind (items ts)) action → work s'' < work s
-    by x xs ts n w al =
-        let after : work s'' ≡ cost_of (perform true action x xs ts n m.faults) = ap work (f ∙ ap flat (step_is x xs ts n m mark s' names action w a)) ∙ work_is (perform true action x xs ts n m.faults) in
-        let before : work s ≡ cost_of (machine (x ∷ xs) ts n m.faults) = ap work (h.state ∙ ap flat w.machine_is) ∙ work_is (machine (x ∷ xs) ts n m.faults) in
-        omega (arith, after, before, perform_less action x xs ts n m.faults (fit_bottom x xs w.well.fit) al g)
-
 -- another action does not end the text
 pub not_finish : (action : Action) → (action ≡ a.Finish → ⊥) → is_finish action ≡ false
 not_finish a.Finish h = absurd (h refl)
 not_finish action h = refl
+
+-- the root over all trees
+root_ended : (h : Head) (place : Place) (d : ℕ) (row : AnnotatedForest) (ts : List Token) (n : ℕ) (es : List Fault) → h ≡ Node NODE_ROOT
+    → ended (flat_with [] (machine (opened h place d row ∷ []) ts n es))
+    ≡ (let y : State = record { rest = ts; trees = node NODE_ROOT (forget row) empty; open_nodes = []; faults = es; reached = n; marks = [] } in y)
+unfolding ended
+root_ended h place d row ts n es e = rw e (state_is refl (wrapped-join NODE_ROOT empty (forget row)) refl refl refl refl)
+
+-- what follows where the innermost mark is taken: an action may be performed, and it leaves less to do, or the text is read
+pub record Turn (first : List Token) (s : State) (names : Names) (mark : Mark) (s1 : State) (action : Action) : Type 0 where
+  pub ready : IsReady action mark s1 names
+  pub goes : (s' : State) (names' : Names) → is_finish action ≡ false → Performed action mark s1 names s' names' → NamesAfter action mark s1 names names'
+      → IsGoing first s' names' × (work s' < work s)
+  pub root : action ≡ a.Finish → 0 < length s1.open_nodes
+  pub finished : (s' : State) → action ≡ a.Finish → s' ≡ ended (eaten s1) → IsReadTo first s'
+
+module _ (first : List Token) (s : State) (names : Names) (g : IsGoing first s names) where
+  abbrev before : Machine
+  before = machine (g.top ∷ g.under) g.left g.reached g.faults
+
+  abbrev action : Action
+  action = action_of g.top.place (popped before)
+
+  may : Allowed g.top.place (head_kind (items g.left)) action
+  may = allowed g.top.place (head_kind (items g.left)) (touches g.reached (items g.left))
+
+  -- a step is taken
+  going : (s' : State) (names' : Names) → is_finish action ≡ false → Performed action (mark_of g.top g.under) (popped before) names s' names'
+      → NamesAfter action (mark_of g.top g.under) (popped before) names names' → IsGoing first s' names' × (work s' < work s)
+  going s' names' q d k =
+      let after : Machine = step true before in
+      let done : Goes after names' = perform_goes action g.top g.under g.left g.reached g.faults names names' g.named g.well may q k in
+      let whole : after ≡ machine (done.top ∷ done.under) after.left after.reached after.faults = ap (λ x. machine x after.left after.reached after.faults) done.frames in
+      let state : s' ≡ flat after = performs g.top g.under g.left g.reached g.faults names g.well action s' names' g.named may q d in (
+        record {
+          top = done.top;
+          under = done.under;
+          left = after.left;
+          reached = after.reached;
+          faults = after.faults;
+          runs = subst (Runs true (begins first)) whole (runs_on true (begins first) before g.runs);
+          state = state ∙ ap flat whole;
+          well = record { fit = subst AreKept done.frames (step_kept true before g.well.fit); begins = done.begins; ends = done.ends; order = done.order };
+          named = done.named;
+        },
+        omega (
+          arith,
+          ap work state ∙ work_is after,
+          ap work g.state ∙ work_is before,
+          perform_less action g.top g.under g.left g.reached g.faults (fit_bottom g.top g.under g.well.fit) may q,
+        ),
+      )
+
+  -- the text is read
+  read : (s' : State) → action ≡ a.Finish → s' ≡ ended (eaten (popped before)) → IsReadTo first s'
+  read s' q e =
+      let end : Allowed g.top.place (head_kind (items g.left)) a.Finish = subst (Allowed g.top.place (head_kind (items g.left))) q may in
+      let none : g.under ≡ [] = root_alone g.top.head g.top.place g.under g.well.fit (ap sort_of end.0) in
+      let head = head_root g.top.head (head_sort g.top.head g.top.place g.under g.well.fit ∙ ap sort_of end.0) in
+      let state = e ∙ ap (λ x. ended (eaten (popped (machine (g.top ∷ x) g.left g.reached g.faults)))) none ∙ ap ended (flat-eaten [] g.top [] g.left g.reached g.faults)
+      ∙ root_ended g.top.head g.top.place g.top.depth (ate true g.top.row g.left) (from_item g.left) g.reached g.faults head in
+      record {
+        through = record {
+          last = before;
+          runs = g.runs;
+          root = g.top;
+          alone = ap (λ x. g.top ∷ x) none;
+          head = head;
+          place = end.0;
+          nothing = no_items (items g.left) end.1;
+        };
+        trees = ap (λ x. x.trees) state;
+        nodes = ap (λ x. x.open_nodes) state;
+        faults = ap (λ x. x.faults) state;
+      }
+
+  concrete : Turn first s names (mark_of g.top g.under) (popped before) action
+  concrete =
+      let needs : IsReady action (mark_of g.top g.under) (popped before) names = ready g.top g.under g.left g.reached g.faults names g.well action may in
+      record { ready = needs; goes = going; root = λ e. subst (λ x. IsReady x (mark_of g.top g.under) (popped before) names) e needs; finished = read }
+
+  -- so it is for the mark that is taken
+  pub turn : (mark : Mark) (s1 : State) (x : Action) → s.marks ≡ s1.marks ++ mark ∷ [] → s1 ≡ with_marks s1.marks s → x ≡ action_of mark.place s1 → Turn first s names mark s1 x
+  turn mark s1 x e k a =
+      let two = last_same s1.marks (marks_of g.under) mark (mark_of g.top g.under) (sym e ∙ ap (λ x. x.marks) g.state) in
+      let same : s1 ≡ popped before = k ∙ ap (with_marks s1.marks) g.state ∙ ap (λ x. with_marks x (flat before)) two.0 in
+      rw (a, same, two.1) concrete

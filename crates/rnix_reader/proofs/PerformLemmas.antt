@@ -5,12 +5,12 @@ use Rattle.rnix_grammar.specs.{declared.{place.Place.Place, action.Action.Action
 use Rattle.rnix_grammar.specs.AnnotatedForest.{blank, ◌⊕◌, one_branch, one_fault, tokens_in, without_trivia, head_of, head_kind, end_from, extent_of}
 use Rattle.rnix_grammar.specs.{Layout.{items, from_item, trivia_before, tail_of}, Reports.only_token, Machine.{Head, Node, Second, Operand, Frame, put, opened}}
 use Rattle.rnix_grammar.specs.Machine.{ate, leaf, leaf_in, kind_of, low_of, behind, reach, end_of, run_row, run_rest, dropped, made, machine, closed, perform}
-use Rattle.rnix_grammar.specs.{Missing.run_of, Sorts.{Pattern, Entry, Loose, sort_of, may_hold, is_open, StandsOn}, Allowed.{Allowed, is_there}}
+use Rattle.rnix_grammar.specs.{Missing.run_of, Sorts.{Pattern, Entry, Loose, sort_of, is_open, StandsOn}, Allowed.{Allowed, is_there}}
 use Rattle.rnix_lemmas.proofs.{Basics.true_is_not_false, AnnotatedForestLemmas.tokens_in-row_of, WithoutTriviaLemmas.{leaf_without_trivia, reach_items}}
 use Rattle.rnix_lemmas.proofs.{WithoutTriviaLemmas.{run_prefix, run_bared}, LayoutLemmas.{first_item, without_trivia-trivia}}
 use Rattle.rnix_reader.specs.{declared.names.Names.Names, Names.{PatternClosed, EntryClosed, EntryOpened}, Placed.AreInOrder, Flat.{mark_of, popped}}
-use Rattle.rnix_reader.{specs.Holds.{IsBegun, AreNamed, BeginsAt, EndsAt, NamesAfter, TwiceOpened, is_finish}, proofs.StepLemmas.{head_loose, is_root}}
-use Rattle.rnix_reader.proofs.{EntryLemmas.{head_sort, head_entry, head_pattern, holds_entry}, OrderLemmas.{order_from, order_behind, reach_least, order_run}}
+use Rattle.rnix_reader.{specs.{Holds.{IsBegun, AreNamed, IsWell, BeginsAt, EndsAt}, Performed.{NamesAfter, TwiceOpened, is_finish}, State.{marked, started_at}}, proofs.SortLemmas.{head_loose, is_root, head_sort, head_pattern}}
+use Rattle.rnix_reader.proofs.{EntryLemmas.entry_there, OrderLemmas.{order_from, order_behind, reach_least, order_run}}
 use Rattle.rnix_reader.proofs.{OrderLemmas.order_all, RowLemmas.{HasNoEntry, no_entry_leaf, no_entry_fault, begun_more, begins_more, ends_more}}
 use Rattle.rnix_reader.proofs.KeptLemmas.{is_bare, moved_on, grow_trivia, grow_behind, push_node, push_second, push_entry, renamed, instead, pop_pattern}
 use Rattle.rnix_reader.proofs.{KeptLemmas.pop_entry, GoesLemmas.{Goes, goes, goes_open, holder_open, closed_goes, same_names, reading_goes}}
@@ -33,9 +33,8 @@ closing_pattern f (g ∷ fs) ts n es names names' e c st w o =
 closing_entry : (f g : Frame) (fs : List Frame) (ts : List Token) (n : ℕ) (es : List Fault) (names names' : Names) (again : Option Fault) → sort_of f.place ≡ Entry → EntryClosed again names names'
     → StandsOn f.head f.place (g ∷ fs) → AreNamed f (g ∷ fs) names → AreInOrder n ts → Goes (closed f (g ∷ fs) ts n es) names'
 closing_entry f g fs ts n es names names' again e c st w o =
-    let below : sort_of g.place ≡ Pattern = holds_entry (sort_of g.place) (ap (may_hold (sort_of g.place)) (sym e) ∙ st.1) in
     goes_open (put g.place (g.row ⊕ made f.head f.row) g) fs ts n es names' (holder_open g fs (sort_of f.place) st.2 st.1)
-    (pop_entry f g fs names names' again (head_entry f.head (st.0 ∙ e)) (head_pattern g.head (head_sort g.head g.place fs st.2 ∙ below)) c w) o
+    (pop_entry f g fs names names' again (entry_there f g fs names names' again st e w c) w) o
 
 -- a row that may be a second name's grows
 ends_behind : (n m : ℕ) (h : Head) (row : AnnotatedForest) (ts : List Token) (g : AnnotatedForest) (us : List Token) → IsBegun h row → EndsAt n h row → tokens_in (without_trivia g) ≡ us → m ≡ end_from n us → n ≤ m
@@ -103,83 +102,84 @@ twice_goes after f fs ts (t ∷ us) n es names names' w o e h does =
     (new.second ∙ sym (ap (λ x. (extent_of x).start) tokens)) (order_behind n ts o)
 
 -- each action leaves a machine that goes on
-pub perform_goes : (action : Action) (f : Frame) (fs : List Frame) (ts : List Token) (n : ℕ) (es : List Fault) (names names' : Names) → AreNamed f fs names → StandsOn f.head f.place fs → EndsAt n f.head f.row
-    → BeginsAt names.second f.head f.row → AreInOrder n ts → Allowed f.place (head_kind (items ts)) action → is_finish action ≡ false
+pub perform_goes : (action : Action) (f : Frame) (fs : List Frame) (ts : List Token) (n : ℕ) (es : List Fault) (names names' : Names) → AreNamed f fs names → IsWell f fs ts n names.second
+    → Allowed f.place (head_kind (items ts)) action → is_finish action ≡ false
     → NamesAfter action (mark_of f fs) (popped (machine (f ∷ fs) ts n es)) names names' → Goes (perform true action f fs ts n es) names'
-perform_goes a.Close f fs ts n es names names' w st e i o al g k =
-    same_names (closed f fs ts n es) names names' k (closing f fs ts n es names (ap is_bare al.0) (ap is_root al.0) st w o)
-perform_goes a.ClosePattern f fs ts n es names names' w st e i o al g k = closing_pattern f fs ts n es names names' al k st w o
-perform_goes a.CloseEntry f [] ts n es names names' w st e i o al g k = absurd (true_is_not_false (sym (ap is_root st.1) ∙ ap is_root al))
-perform_goes a.CloseEntry f (g' ∷ fs) ts n es names names' w st e i o al g k = closing_entry f g' fs ts n _ names names' k.0 al k.1 st w o
-perform_goes a.CloseTwice f fs ts n es names names' w st e i o al g k =
-    same_names (perform true a.CloseTwice f fs ts n es) names names' k (closing f fs ts n _ names (ap is_bare al) (ap is_root al) st w o)
-perform_goes a.Finish f fs ts n es names names' w st e i o al g k = absurd (true_is_not_false g)
-perform_goes a.Settle f fs ts n es names names' w st e i o al g k =
-    same_names (closed f fs ts n es) names names' k (closing f fs ts n es names (ap is_bare al) (ap is_root al) st w o)
-perform_goes a.Extra f fs ts n es names names' w st e i o al g k =
+unfolding marked started_at
+perform_goes a.Close f fs ts n es names names' w v al g k =
+    same_names (closed f fs ts n es) names names' k (closing f fs ts n es names (ap is_bare al.0) (ap is_root al.0) v.fit w v.order)
+perform_goes a.ClosePattern f fs ts n es names names' w v al g k = closing_pattern f fs ts n es names names' al k v.fit w v.order
+perform_goes a.CloseEntry f [] ts n es names names' w v al g k = absurd (true_is_not_false (sym (ap is_root v.fit.1) ∙ ap is_root al))
+perform_goes a.CloseEntry f (g' ∷ fs) ts n es names names' w v al g k = closing_entry f g' fs ts n _ names names' k.0 al k.1 v.fit w v.order
+perform_goes a.CloseTwice f fs ts n es names names' w v al g k =
+    same_names (perform true a.CloseTwice f fs ts n es) names names' k (closing f fs ts n _ names (ap is_bare al) (ap is_root al) v.fit w v.order)
+perform_goes a.Finish f fs ts n es names names' w v al g k = absurd (true_is_not_false g)
+perform_goes a.Settle f fs ts n es names names' w v al g k =
+    same_names (closed f fs ts n es) names names' k (closing f fs ts n es names (ap is_bare al) (ap is_root al) v.fit w v.order)
+perform_goes a.Extra f fs ts n es names names' w v al g k =
     let fault : AnnotatedForest = one_fault Extra (run_row true (items ts) ts) in
     same_names (perform true a.Extra f fs ts n es) names names' k
-    (goes_open (put f.place (ate true f.row ts ⊕ fault) f) fs (run_rest true (items ts) ts) (end_from n (items ts)) _ names (ap is_open (head_sort f.head f.place fs st ∙ al.1))
-    (grow_behind f fs names f.place ts fault (λ q. no_entry_fault Extra (run_row true (items ts) ts)) w) (order_all n ts o).0)
-perform_goes (a.Take after) f fs ts n es names names' w st e i o al g k =
+    (goes_open (put f.place (ate true f.row ts ⊕ fault) f) fs (run_rest true (items ts) ts) (end_from n (items ts)) _ names (ap is_open (head_sort f.head f.place fs v.fit ∙ al.1))
+    (grow_behind f fs names f.place ts fault (λ q. no_entry_fault Extra (run_row true (items ts) ts)) w) (order_all n ts v.order).0)
+perform_goes (a.Take after) f fs ts n es names names' w v al g k =
     same_names (perform true (a.Take after) f fs ts n es) names names' k
-    (goes_open (put after (ate true f.row ts ⊕ leaf true (kind_of f.head) ts) f) fs (behind true ts) (reach true n ts) es names (ap is_open (head_sort f.head f.place fs st) ∙ al.2)
-    (grow_behind f fs names after ts (leaf true (kind_of f.head) ts) (λ q. no_entry_leaf (kind_of f.head) ts) w) (order_behind n ts o))
-perform_goes (a.Miss after) f fs ts n es names names' w st e i o al g k =
+    (goes_open (put after (ate true f.row ts ⊕ leaf true (kind_of f.head) ts) f) fs (behind true ts) (reach true n ts) es names (ap is_open (head_sort f.head f.place fs v.fit) ∙ al.2)
+    (grow_behind f fs names after ts (leaf true (kind_of f.head) ts) (λ q. no_entry_leaf (kind_of f.head) ts) w) (order_behind n ts v.order))
+perform_goes (a.Miss after) f fs ts n es names names' w v al g k =
     same_names (perform true (a.Miss after) f fs ts n es) names names' k
-    (goes (put after f.row f) fs ts n _ names (moved_on f fs names after w) e i o)
-perform_goes (a.MissWanted until after) f fs ts n es names names' w st e i o al g k =
+    (goes (put after f.row f) fs ts n _ names (moved_on f fs names after w) v.ends v.begins v.order)
+perform_goes (a.MissWanted until after) f fs ts n es names names' w v al g k =
     same_names (perform true (a.MissWanted until after) f fs ts n es) names names' k
-    (goes (put after f.row f) fs ts n _ names (moved_on f fs names after w) e i o)
-perform_goes (a.Run until after) f fs ts n es names names' w st e i o al g k =
+    (goes (put after f.row f) fs ts n _ names (moved_on f fs names after w) v.ends v.begins v.order)
+perform_goes (a.Run until after) f fs ts n es names names' w v al g k =
     let run : List Token = run_of until (items ts) in
     let fault : AnnotatedForest = one_fault (Unwanted until) (run_row true run ts) in
-    let all = order_run until n ts o in
+    let all = order_run until n ts v.order in
     let begun : IsBegun f.head f.row = w.begun.0 in
     same_names (perform true (a.Run until after) f fs ts n es) names names' k
     (goes (put after (ate true f.row ts ⊕ fault) f) fs (run_rest true run ts) (end_from n run) _ names
     (grow_behind f fs names after ts fault (λ q. no_entry_fault (Unwanted until) (run_row true run ts)) w)
-    (ends_behind n (end_from n run) f.head f.row ts fault run begun e (run_tokens (Unwanted until) run (dropped run (items ts)) ts (run_prefix until (items ts))) refl all.1)
-    (begins_behind names.second f.head f.row ts fault begun i) all.0)
-perform_goes (a.Leaf j after) f fs ts n es names names' w st e i o al g k =
+    (ends_behind n (end_from n run) f.head f.row ts fault run begun v.ends (run_tokens (Unwanted until) run (dropped run (items ts)) ts (run_prefix until (items ts))) refl all.1)
+    (begins_behind names.second f.head f.row ts fault begun v.begins) all.0)
+perform_goes (a.Leaf j after) f fs ts n es names names' w v al g k =
     let row : AnnotatedForest = one_branch j (leaf true j ts) in
     let begun : IsBegun f.head f.row = w.begun.0 in
     same_names (perform true (a.Leaf j after) f fs ts n es) names names' k
     (goes (put after (ate true f.row ts ⊕ row) f) fs (behind true ts) (reach true n ts) es names
     (grow_behind f fs names after ts row
     (λ q. subst (λ x. HasNoEntry (one_branch x (leaf true x ts))) (sym al.2) (λ name. refl)) w)
-    (ends_behind n (reach true n ts) f.head f.row ts row (firsts (items ts)) begun e (append-nil (tokens_in (without_trivia (leaf true j ts))) ∙ leaf_tokens j ts) (leaf_end n ts) (reach_least n ts o))
-    (begins_behind names.second f.head f.row ts row begun i) (order_behind n ts o))
-perform_goes (a.Open j inside after) f fs ts n es names names' w st e i o al g k =
+    (ends_behind n (reach true n ts) f.head f.row ts row (firsts (items ts)) begun v.ends (append-nil (tokens_in (without_trivia (leaf true j ts))) ∙ leaf_tokens j ts) (leaf_end n ts) (reach_least n ts v.order))
+    (begins_behind names.second f.head f.row ts row begun v.begins) (order_behind n ts v.order))
+perform_goes (a.Open j inside after) f fs ts n es names names' w v al g k =
     let h : Frame = put after (ate true f.row ts) f in
     same_names (perform true (a.Open j inside after) f fs ts n es) names names' k
     (goes_open (opened (Node j) inside f.depth (leaf true j ts)) (h ∷ fs) (behind true ts) (reach true n ts) es names (ap is_open al.2)
-    (push_node h fs names j inside f.depth (leaf true j ts) al.2 (grow_trivia f fs names after ts w)) (order_behind n ts o))
-perform_goes (a.Begin j inside after) f fs ts n es names names' w st e i o al g k =
+    (push_node h fs names j inside f.depth (leaf true j ts) al.2 (grow_trivia f fs names after ts w)) (order_behind n ts v.order))
+perform_goes (a.Begin j inside after) f fs ts n es names names' w v al g k =
     let h : Frame = put after (ate true f.row ts) f in
     same_names (perform true (a.Begin j inside after) f fs ts n es) names names' k
     (goes_open (opened (Node j) inside f.depth blank) (h ∷ fs) (from_item ts) n es names (ap is_open al.1)
-    (push_node h fs names j inside f.depth blank al.1 (grow_trivia f fs names after ts w)) (order_from n ts o))
-perform_goes (a.Entry after) f fs ts n es names names' w st e i o al g k =
-    entry_goes after f fs ts (items ts) n es names names' w o refl (ap is_there al.0) k
-perform_goes (a.Twice after) f fs ts n es names names' w st e i o al g k =
-    twice_goes after f fs ts (items ts) n es names names' w o refl al.0 k
-perform_goes (a.Read level counted after) f fs ts n es names names' w st e i o al g k =
-    reading_goes level counted (put after f.row f) fs ts n es names names' (moved_on f fs names after w) (holder_open f fs Loose st al.1) o k
-perform_goes (a.Wrap j inside high) f fs ts n es names names' w st e i o al g k =
+    (push_node h fs names j inside f.depth blank al.1 (grow_trivia f fs names after ts w)) (order_from n ts v.order))
+perform_goes (a.Entry after) f fs ts n es names names' w v al g k =
+    entry_goes after f fs ts (items ts) n es names names' w v.order refl (ap is_there al.0) k
+perform_goes (a.Twice after) f fs ts n es names names' w v al g k =
+    twice_goes after f fs ts (items ts) n es names names' w v.order refl al.0 k
+perform_goes (a.Read level counted after) f fs ts n es names names' w v al g k =
+    reading_goes level counted (put after f.row f) fs ts n es names names' (moved_on f fs names after w) (holder_open f fs Loose v.fit al.1) v.order k
+perform_goes (a.Wrap j inside high) f fs ts n es names names' w v al g k =
     let over : Frame = opened Operand (p.Behind (low_of f.place) high) f.depth blank in
-    let loose = head_loose f.head (head_sort f.head f.place fs st ∙ al.1) in
+    let loose = head_loose f.head (head_sort f.head f.place fs v.fit ∙ al.1) in
     same_names (perform true (a.Wrap j inside high) f fs ts n es) names names' k
     (goes_open (opened (Node j) inside f.depth (ate true f.row ts ⊕ leaf true j ts)) (over ∷ fs) (behind true ts) (reach true n ts) es names (ap is_open al.2)
-    (push_node over fs names j inside f.depth (ate true f.row ts ⊕ leaf true j ts) al.2 (instead f fs names (low_of f.place) high f.depth blank loose w)) (order_behind n ts o))
-perform_goes a.Apply f fs ts n es names names' w st e i o al g k =
+    (push_node over fs names j inside f.depth (ate true f.row ts ⊕ leaf true j ts) al.2 (instead f fs names (low_of f.place) high f.depth blank loose w)) (order_behind n ts v.order))
+perform_goes a.Apply f fs ts n es names names' w v al g k =
     let over : Frame = opened Operand (p.Behind (low_of f.place) 15) f.depth blank in
-    let loose = head_loose f.head (head_sort f.head f.place fs st ∙ al.1) in
+    let loose = head_loose f.head (head_sort f.head f.place fs v.fit ∙ al.1) in
     reading_goes 16 false (opened (Node NODE_APPLY) p.Past f.depth f.row) (over ∷ fs) ts n es names names'
-    (push_node over fs names NODE_APPLY p.Past f.depth f.row refl (instead f fs names (low_of f.place) 15 f.depth blank loose w)) refl o k
-perform_goes a.ApplyOr f fs ts n es names names' w st e i o al g k =
+    (push_node over fs names NODE_APPLY p.Past f.depth f.row refl (instead f fs names (low_of f.place) 15 f.depth blank loose w)) refl v.order k
+perform_goes a.ApplyOr f fs ts n es names names' w v al g k =
     let row : AnnotatedForest = one_branch NODE_APPLY (ate true f.row ts ⊕ one_branch NODE_IDENT (leaf true NODE_IDENT ts)) in
-    let loose = head_loose f.head (head_sort f.head f.place fs st ∙ al.1) in
+    let loose = head_loose f.head (head_sort f.head f.place fs v.fit ∙ al.1) in
     same_names (perform true a.ApplyOr f fs ts n es) names names' k
     (goes_open (opened Operand (p.Behind (low_of f.place) 15) f.depth row) fs (behind true ts) (reach true n ts) es names refl
-    (instead f fs names (low_of f.place) 15 f.depth row loose w) (order_behind n ts o))
+    (instead f fs names (low_of f.place) 15 f.depth row loose w) (order_behind n ts v.order))

@@ -4,10 +4,10 @@ use Rattle.{std.{proofs.lemmas.Cmp.nat_list_eq_equiv, specs.Str.bytes_eq}, rnix_
 use Rattle.{rnix_kinds.specs.declared.kinds.SyntaxKind.TheVariants.{NODE_PATTERN, NODE_PAT_ENTRY}, rnix_grammar.specs.AnnotatedForest.{Token, Note}}
 use Rattle.rnix_grammar.specs.AnnotatedForest.{AnnotatedForest, blank, token, branch, fault, ◌⊕◌, one_branch, one_fault, tokens_in, without_trivia, end_from}
 use Rattle.rnix_grammar.specs.{AnnotatedForest.extent_of, Layout.{items, trivia_before}, Reports.{entry_name, is_same_name, has_entry}, Machine.{Head, Node}}
-use Rattle.{rnix_grammar.specs.{Machine.{Second, Operand, leaf, leaf_in}, Sorts.{Sort, Pattern, sort_of_head}}, rnix_lemmas.proofs.Basics.true_is_not_false}
+use Rattle.{rnix_grammar.specs.{Machine.{Second, Operand, leaf, leaf_in}, Sorts.sort_of_head}, rnix_lemmas.proofs.Basics.true_is_not_false}
 use Rattle.rnix_lemmas.proofs.{AnnotatedForestLemmas.tokens_in-⊕, WithoutTriviaLemmas.leaf_without_trivia, LayoutLemmas.without_trivia-⊕}
 use Rattle.{rnix_lemmas.proofs.{LayoutLemmas.without_trivia-trivia, StrictParts.end_behind}, rnix_reader.specs.{declared.names.NameSet.NameSet, Names.has_name}}
-use Rattle.rnix_reader.specs.Holds.{IsBegun, EndsAt, BeginsAt, name_of, KnownOn}
+use Rattle.rnix_reader.{specs.Holds.{IsBegun, EndsAt, BeginsAt, name_of, KnownOn}, proofs.SortLemmas.is_pattern}
 
 none_is_not_some : {A : Type 0} {t : A} → None ≡ Some t → ⊥
 none_is_not_some e = cc
@@ -85,13 +85,8 @@ name_more (Node k) f g w = refl
 name_more Second f g w = refl
 name_more Operand f g w = refl
 
--- a place of a pattern
-abbrev pub is_pattern_sort : Sort → Bool
-is_pattern_sort Pattern = true
-is_pattern_sort s = false
-
 -- a row without more entries has the same names
-pub known_more : (h : Head) (f g : AnnotatedForest) (sets : List NameSet) (More : List NameSet → Type 0) → (is_pattern_sort (sort_of_head h) ≡ true → HasNoEntry g)
+pub known_more : (h : Head) (f g : AnnotatedForest) (sets : List NameSet) (More : List NameSet → Type 0) → (is_pattern (sort_of_head h) ≡ true → HasNoEntry g)
     → KnownOn h f sets More → KnownOn h (f ⊕ g) sets More
 known_more (Node NODE_PATTERN) f g sets More q w = record {
   below = w.below;
@@ -106,7 +101,7 @@ known_more Operand f g sets More q w = w
 
 -- an entry is complete: its pattern has one more
 pub known_entry : (h : Head) (f c : AnnotatedForest) (t : Token) (below : List NameSet) (s : NameSet) (sets : List NameSet) (More : List NameSet → Type 0)
-    → is_pattern_sort (sort_of_head h) ≡ true → entry_name (without_trivia c) ≡ Some t → sets ≡ below ++ s ∷ [] → More below
+    → is_pattern (sort_of_head h) ≡ true → entry_name (without_trivia c) ≡ Some t → sets ≡ below ++ s ∷ [] → More below
     → ((other : List ℕ) → has_name other s ≡ (if bytes_eq t.text other then true else has_entry other (without_trivia f)))
     → KnownOn h (f ⊕ one_branch NODE_PAT_ENTRY c) sets More
 known_entry (Node NODE_PATTERN) f c t below s sets More q e a m is = record {

@@ -8,7 +8,7 @@ use Rattle.rnix_grammar.specs.{AnnotatedForest.{end_from, extent_of, Unwanted as
 use Rattle.rnix_grammar.specs.{Layout.{from_item, trivia_before, tail_of, with_trivia, item_if}, Machine.{leaf_in, end_of}, Missing.run_of, Reports.report}
 use Rattle.{rnix_grammar.specs.Allowed.is_there, rnix_lemmas.proofs.{Basics.true_is_not_false, LayoutLemmas.{first_item, items-from_item}}}
 use Rattle.{rnix_lemmas.proofs.{AnnotatedForestLemmas.forget-⊕, RunLemmas.run_begins}, rnix_reader.specs.declared.cursor.PlacedToken.PlacedToken}
-use Rattle.rnix_reader.specs.{declared.mark.Mark.Mark, Steps.moved, Placed.{token_of, AreInOrder}, State.{State, items_left, eaten, bumped, skipped, started}}
+use Rattle.rnix_reader.specs.{Steps.operand_begun, Placed.{token_of, AreInOrder}, State.{State, items_left, eaten, bumped, skipped, started}}
 use Rattle.rnix_reader.{specs.State.{started_at, ended, failed, marked}, proofs.{CursorLemmas.in_order_from, StateLemmas.state_is}}
 
 -- nothing is skipped
@@ -18,7 +18,7 @@ skipped-none s = state_is refl (join_empty s.trees) refl refl refl refl
 
 -- one item of a run
 pub skipped-more : (t : Token) (us run : List Token) (s s' : State) → items s.rest ≡ t ∷ us → s' ≡ bumped NODE_ERROR s → skipped (t ∷ run) s ≡ skipped run s'
-unfolding skipped bumped
+unfolding skipped bumped eaten
 skipped-more t us run s s' i e =
     let here : from_item s.rest ≡ t ∷ tail_of (from_item s.rest) = (first_item t us s.rest i).here in
     let more = with_trivia (row_of run) (tail_of (from_item s.rest)) in
@@ -33,7 +33,7 @@ skipped-more t us run s s' i e =
 
 -- what is left behind an item
 pub left_bumped : (k : SyntaxKind) (t : Token) (us : List Token) (s s' : State) → items s.rest ≡ t ∷ us → s' ≡ bumped k s → items s'.rest ≡ us
-unfolding bumped
+unfolding bumped eaten
 left_bumped k t us s s' i e = ap (λ x. items x.rest) e ∙ (first_item t us s.rest i).left
 
 -- where a run stops and goes on
@@ -97,12 +97,12 @@ shorter t s s' h e =
 
 -- what is left where a node is opened
 pub left_started : (k : SyntaxKind) (s : State) → items (started k s).rest ≡ items s.rest
-unfolding started started_at eaten
+unfolding started_at eaten
 left_started k s = items-from_item s.rest
 
 -- a run as a node reaches as far as its tokens
 pub reached_run : (run : List Token) (s : State) → (ended (skipped run (started NODE_ERROR s))).reached ≡ end_from s.reached run
-unfolding ended skipped started started_at eaten
+unfolding ended skipped started_at eaten
 reached_run run s = refl
 
 -- tokens in order end behind their first
@@ -185,11 +185,6 @@ twice_made start s s1 s2 range a r c =
     c ∙ ap (λ x. failed (bound_twice x) s1) (r ∙ ap (λ x. let y : Extent = record { start = start; end = x } in y) (reached_ended s s1 a))
     ∙ ap (failed (bound_twice record { start = start; end = s.reached })) a
 
--- what is left where a mark is put
-pub left_moved : (after : Place) (m : Mark) (s : State) → items_left (moved after m s) ≡ items_left s
-unfolding marked
-left_moved after m s = refl
-
 -- nothing is no item
 pub no_item : (ts : List Token) (r : Option PlacedToken) → option_map token_of r ≡ head_of ts → r ≡ None → is_there (head_kind ts) ≡ true → ⊥
 no_item ts r e h t = absurd (false_is_not_true (sym (ap (λ x. is_there (kind_in x)) (sym e ∙ ap (option_map token_of) h)) ∙ t))
@@ -201,36 +196,7 @@ no_item ts r e h t = absurd (false_is_not_true (sym (ap (λ x. is_there (kind_in
 pub no_stop : (u : Until) (ts : List Token) (r : Option PlacedToken) → option_map token_of r ≡ head_of ts → r ≡ None → stops u (head_kind ts) ≡ false → ⊥
 no_stop u ts r e h t = absurd (true_is_not_false (sym (ap (λ x. stops u (kind_in x)) (sym e ∙ ap (option_map token_of) h)) ∙ t))
 
--- what was unwanted stays so as the place moves
-pub wanted_still : (u : Until) (after : Place) (m : Mark) (s s1 : State) (t : Token) → stops u (head_kind (items_left s)) ≡ false → s1 ≡ moved after m s → head_of (items_left s1) ≡ Some t
-    → is_wanted u t.kind ≡ false
-wanted_still u after m s s1 t h e i =
-    ap (λ x. stops u (kind_in x)) (sym i) ∙ ap (λ x. stops u (head_kind (items_left x))) e ∙ ap (λ x. stops u (head_kind x)) (left_moved after m s) ∙ h
-
--- a run that is read from a moved place
-pub run_moved : (u : Until) (after : Place) (m : Mark) (s s1 s2 : State) → s1 ≡ moved after m s
-    → s2 ≡ failed (report (UnwantedNote u) (run_of u (items_left s1))) (ended (skipped (run_of u (items_left s1)) (started NODE_ERROR s1)))
-    → s2 ≡ failed (report (UnwantedNote u) (run_of u (items_left s))) (ended (skipped (run_of u (items_left s)) (started NODE_ERROR (moved after m s))))
-run_moved u after m s s1 s2 e h =
-    h ∙ ap (λ x. failed (report (UnwantedNote u) (run_of u (items_left x))) (ended (skipped (run_of u (items_left x)) (started NODE_ERROR x)))) e
-    ∙ ap (λ x. failed (report (UnwantedNote u) (run_of u x)) (ended (skipped (run_of u x) (started NODE_ERROR (moved after m s))))) (left_moved after m s)
-
--- so with the tokens behind the root's expression
-pub extra_moved : (after : Place) (m : Mark) (s s1 s2 : State) → s1 ≡ moved after m s
-    → s2 ≡ failed (report ExtraNote (items_left s1)) (ended (skipped (items_left s1) (started NODE_ERROR s1)))
-    → s2 ≡ failed (report ExtraNote (items_left s)) (ended (skipped (items_left s) (started NODE_ERROR (moved after m s))))
-extra_moved after m s s1 s2 e h =
-    h ∙ ap (λ x. failed (report ExtraNote (items_left x)) (ended (skipped (items_left x) (started NODE_ERROR x)))) e
-    ∙ ap (λ x. failed (report ExtraNote x) (ended (skipped x (started NODE_ERROR (moved after m s))))) (left_moved after m s)
-
--- an item is there where nothing stops a run, as the place moves
-pub not_stopped : (u : Until) (after : Place) (m : Mark) (s s1 : State) (r : Option PlacedToken) → stops u (head_kind (items_left s)) ≡ false → s1 ≡ moved after m s
-    → option_map token_of r ≡ head_of (items_left s1) → r ≡ None → ⊥
-not_stopped u after m s s1 r h e i n =
-    no_stop u (items_left s1) r i n (ap (λ x. stops u (head_kind (items_left x))) e ∙ ap (λ x. stops u (head_kind x)) (left_moved after m s) ∙ h)
-
--- an item stays there as the place moves
-pub not_none : (after : Place) (m : Mark) (s s1 : State) (r : Option PlacedToken) → is_there (head_kind (items_left s)) ≡ true → s1 ≡ moved after m s
-    → option_map token_of r ≡ head_of (items_left s1) → r ≡ None → ⊥
-not_none after m s s1 r h e i n =
-    no_item (items_left s1) r i n (ap (λ x. is_there (head_kind (items_left x))) e ∙ ap (λ x. is_there (head_kind x)) (left_moved after m s) ∙ h)
+-- the items are left where an operand begins
+pub left_operand : (over : Place) (d : ℕ) (s s' : State) → s' ≡ operand_begun over d s → items s'.rest ≡ items s.rest
+unfolding marked eaten
+left_operand over d s s' e = ap (λ x. items x.rest) e ∙ items-from_item s.rest

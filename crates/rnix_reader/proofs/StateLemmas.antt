@@ -5,7 +5,7 @@ use Rattle.rnix_green.{specs.{Draft.{Draft, OpenNode, leaf_added, node_opened, n
 use Rattle.rnix_grammar.specs.{Fault.Fault, AnnotatedForest.{Token, forget, head_of, leaf_kind}, Layout.{items, from_item, from_item_if, trivia_before}}
 use Rattle.{rnix_grammar.specs.{Layout.{trivia_if, tail_of}, Machine.{leaf_in, end_of}}, rnix_lemmas.proofs.LayoutLemmas.{items_head, items-view}}
 use Rattle.{rnix_lemmas.proofs.LayoutLemmas.{from_item-from_item, trivia-from_item}, rnix_reader.specs.declared.cursor.PlacedToken.PlacedToken}
-use Rattle.rnix_reader.specs.{declared.mark.Mark.Mark, Placed.{token_of, BeginsWithTrivia}, State.{State, eaten, bumped, started, started_at, ended}}
+use Rattle.rnix_reader.specs.{declared.mark.Mark.Mark, Placed.{token_of, BeginsWithTrivia}, State.{State, eaten, taken, bumped, started_at, ended}}
 use Rattle.rnix_reader.{specs.Steps.leafed, proofs.CursorLemmas.before_item}
 
 -- states with the same parts are one
@@ -69,22 +69,16 @@ eaten-trivia s s' t more e h r x o f n m =
 -- the next item as a leaf
 pub bumped-item : (k : SyntaxKind) (s s1 s' : State) (t : Token) → s1 ≡ eaten s → s1.rest ≡ t ∷ tail_of s1.rest → s'.rest ≡ tail_of s1.rest
     → s'.trees ≡ join s1.trees (leaf (leaf_kind k t) t.text empty) → s'.open_nodes ≡ s1.open_nodes → s'.faults ≡ s1.faults → s'.reached ≡ t.end → s'.marks ≡ s1.marks → s' ≡ bumped k s
-unfolding bumped eaten
+unfolding bumped
 bumped-item k s s1 s' t e here r x o f n m =
-    let rest : s1.rest ≡ from_item s.rest = ap (λ y. y.rest) e in
-    state_is (r ∙ ap tail_of rest)
-    (x ∙ ap (λ y. join y.trees (leaf (leaf_kind k t) t.text empty)) e ∙ ap (λ y. join (join s.trees (forget (trivia_before s.rest))) (forget (leaf_in k y))) (sym here ∙ rest))
-    (o ∙ ap (λ y. y.open_nodes) e) (f ∙ ap (λ y. y.faults) e) (n ∙ ap (end_of s.reached) (sym here ∙ rest)) (m ∙ ap (λ y. y.marks) e)
+    state_is r (x ∙ ap (λ y. join s1.trees (forget (leaf_in k y))) (sym here)) o f (n ∙ ap (end_of s1.reached) (sym here)) m ∙ ap (taken k) e
 
 -- nor is an item
 pub bumped-end : (k : SyntaxKind) (s s1 : State) → s1 ≡ eaten s → s1.rest ≡ [] → s1 ≡ bumped k s
-unfolding bumped eaten
+unfolding bumped
 bumped-end k s s1 e none =
-    let rest : from_item s.rest ≡ [] = sym (ap (λ y. y.rest) e) ∙ none in
-    state_is (none ∙ ap tail_of (sym rest))
-    (ap (λ y. y.trees) e ∙ sym (join_empty (join s.trees (forget (trivia_before s.rest))))
-    ∙ ap (λ y. join (join s.trees (forget (trivia_before s.rest))) (forget (leaf_in k y))) (sym rest))
-    (ap (λ y. y.open_nodes) e) (ap (λ y. y.faults) e) (ap (λ y. y.reached) e ∙ ap (end_of s.reached) (sym rest)) (ap (λ y. y.marks) e)
+    state_is (none ∙ ap tail_of (sym none)) (sym (join_empty s1.trees) ∙ ap (λ y. join s1.trees (forget (leaf_in k y))) (sym none)) refl refl
+    (ap (end_of s1.reached) (sym none)) refl ∙ ap (taken k) e
 
 -- behind trivia that are read none are left
 eaten-opened : (k : SyntaxKind) (n : ℕ) (s s1 : State) → s1 ≡ eaten s → eaten (started_at n k s1) ≡ started_at n k s1
@@ -104,7 +98,7 @@ opened_at k s s' d e r x o f n m = state_is r (x ∙ ap (λ y. y.finished) e) (o
 pub leafed-item : (k : SyntaxKind) (s s1 s' : State) (t : Token) (d : Draft) → s1 ≡ eaten s → s1.rest ≡ t ∷ tail_of s1.rest
     → d ≡ node_closed (leaf_added (leaf_kind k t) t.text (node_opened k (tree_count s1.trees) record { finished = s1.trees; open_nodes = s1.open_nodes }))
     → s'.rest ≡ tail_of s1.rest → s'.trees ≡ d.finished → s'.open_nodes ≡ d.open_nodes → s'.faults ≡ s1.faults → s'.reached ≡ t.end → s'.marks ≡ s1.marks → s' ≡ leafed k s
-unfolding ended started started_at
+unfolding ended started_at
 leafed-item k s s1 s' t d e here b r x o f n m =
     let place : ℕ = tree_count s1.trees in
     let begun : State = started_at place k s1 in
@@ -124,7 +118,6 @@ leafed-item k s s1 s' t d e here b r x o f n m =
 pub leafed-end : (k : SyntaxKind) (s s1 s2 s' : State) (d : Draft) → s1 ≡ eaten s → s1.rest ≡ []
     → d ≡ node_opened k (tree_count s1.trees) record { finished = s1.trees; open_nodes = s1.open_nodes } → s2.rest ≡ s1.rest → s2.trees ≡ d.finished → s2.open_nodes ≡ d.open_nodes
     → s2.faults ≡ s1.faults → s2.reached ≡ s1.reached → s2.marks ≡ s1.marks → s' ≡ ended s2 → s' ≡ leafed k s
-unfolding started
 leafed-end k s s1 s2 s' d e none b r x o f n m closed =
     let begun : s2 ≡ started_at (tree_count s1.trees) k s1 = opened_at k s1 s2 d b r x o f n m in
     let same : s2 ≡ eaten s2 = begun ∙ sym (eaten-opened k (tree_count s1.trees) s s1 e) ∙ ap eaten (sym begun) in

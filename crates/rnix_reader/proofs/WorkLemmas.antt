@@ -8,7 +8,7 @@ use Rattle.rnix_grammar.specs.{Machine.{run_rest, dropped, begun, operand_on, re
 use Rattle.rnix_grammar.specs.{Sorts.StandsOn, Weights.{weight, bonus_in, bonus}, Allowed.{Allowed, IsNext, is_there}}
 use Rattle.rnix_lemmas.proofs.{Basics.true_is_not_false, LayoutLemmas.items-from_item, WithoutTriviaLemmas.{items_behind, run_prefix, all_prefix, run_bared}}
 use Rattle.rnix_lemmas.proofs.{RunLemmas.{dropped_all, run_begins}, PlaceLemmas.root_lowest, AllowedLemmas.{sort_there, weight_there}}
-use Rattle.rnix_reader.{specs.{declared.mark.Mark.Mark, Flat.{marks_of, mark_of, flat}, Holds.{is_finish, weights, bonus_on, work}}, proofs.StepLemmas.is_root}
+use Rattle.rnix_reader.{specs.{declared.mark.Mark.Mark, Flat.{marks_of, mark_of, flat}, Performed.is_finish, Holds.{weights, bonus_on, work}}, proofs.SortLemmas.is_root}
 use Rattle.rnix_reader.proofs.RunLemmas.{no_items}
 use Rattle.rnix_grammar.specs.declared.place.Place.TheVariants as p
 use Rattle.rnix_grammar.specs.declared.action.Action.TheVariants as a

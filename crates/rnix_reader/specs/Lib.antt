@@ -4,5 +4,5 @@ pub mod Names
 pub mod Flat
 pub mod Steps
 pub mod Reported
+pub mod Performed
 pub mod Holds
-pub mod Simulates

@@ -1,16 +1,14 @@
 -- The errors that the reader's steps report, and the error nodes that they are of.
 use Rattle.std.specs.Prelude.{ℕ, List, [], ◌∷◌}
 use Rattle.rnix_kinds.specs.declared.kinds.SyntaxKind.TheVariants.{NODE_ERROR}
-use Rattle.rnix_grammar.specs.declared.place.Place.{Place}
 use Rattle.rnix_grammar.specs.declared.until.Until.{Until}
 use Rattle.rnix_grammar.specs.Fault.{ended_before, bound_twice, too_deep}
 use Rattle.rnix_grammar.specs.Tables.{wanted_kinds}
 use Rattle.rnix_grammar.specs.AnnotatedForest.{Token, Note, Stray, Unwanted, Extra}
 use Rattle.rnix_grammar.specs.Missing.{run_of}
 use Rattle.rnix_grammar.specs.Reports.{report}
-use Rattle.rnix_reader.specs.declared.mark.Mark.{Mark}
 use Rattle.rnix_reader.specs.State.{State, items_left, eaten, skipped, started, ended, failed}
-use Rattle.rnix_reader.specs.Steps.{moved, leafed}
+use Rattle.rnix_reader.specs.Steps.{leafed}
 
 -- the items that come next, up to one that stops a run
 abbrev pub next_run : Until → State → List Token
@@ -24,17 +22,13 @@ error_over run s = ended (skipped run (started NODE_ERROR s))
 abbrev pub reported : Note → List Token → State → State
 reported note run s = failed (report note run) (error_over run s)
 
--- an error node over the items that come next where others are wanted, and its error; what is open goes on behind it
-abbrev pub run_reported : Until → Place → Mark → State → State
-run_reported until after m s = reported (Unwanted until) (next_run until s) (moved after m s)
-
--- such a run is reported, and what is open stays where it is
+-- so it is with the items that come next where others are wanted
 abbrev pub unwanted_reported : Until → State → State
 unwanted_reported until s = reported (Unwanted until) (next_run until s) s
 
--- all that is left behind the root's expression is reported
-abbrev pub extra_reported : Mark → State → State
-extra_reported m s = reported Extra (items_left s) (moved m.place m s)
+-- and with all that is left behind the root's expression
+abbrev pub extra_reported : State → State
+extra_reported s = reported Extra (items_left s) s
 
 -- an error node over an item that begins no operand, and its error
 abbrev pub stray_reported : Token → State → State

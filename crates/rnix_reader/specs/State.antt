@@ -54,18 +54,22 @@ eaten s = record {
   marks = s.marks;
 }
 
--- and the next item, as a leaf below a node of the kind
-unfoldable pub bumped : SyntaxKind → State → State
-bumped k s = record {
-  rest = tail_of (from_item s.rest);
-  trees = join (join s.trees (forget (trivia_before s.rest))) (forget (leaf_in k (from_item s.rest)));
+-- the next token is a leaf below a node of the kind
+abbrev pub taken : SyntaxKind → State → State
+taken k s = record {
+  rest = tail_of s.rest;
+  trees = join s.trees (forget (leaf_in k s.rest));
   open_nodes = s.open_nodes;
   faults = s.faults;
-  reached = end_of s.reached (from_item s.rest);
+  reached = end_of s.reached s.rest;
   marks = s.marks;
 }
 
--- and a run of items, as leaves of their own kinds
+-- the trivia before the next item are read, and it, as a leaf below a node of the kind
+unfoldable pub bumped : SyntaxKind → State → State
+bumped k s = taken k (eaten s)
+
+-- a run of items is read, as leaves of their own kinds
 unfoldable pub skipped : List Token → State → State
 skipped run s = record {
   rest = left_after (row_of run) s.rest;
@@ -87,9 +91,13 @@ started_at place k s = record {
   marks = s.marks;
 }
 
+-- a node is opened behind the trees
+abbrev pub started_here : SyntaxKind → State → State
+started_here k s = started_at (tree_count s.trees) k s
+
 -- a node is opened at the next item
-unfoldable pub started : SyntaxKind → State → State
-started k s = started_at (tree_count (eaten s).trees) k (eaten s)
+abbrev pub started : SyntaxKind → State → State
+started k s = started_here k (eaten s)
 
 -- a draft in place of the trees and the open nodes
 abbrev pub closed_on : Draft → State → State

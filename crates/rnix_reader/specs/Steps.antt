@@ -9,16 +9,20 @@ use Rattle.rnix_grammar.specs.declared.place.Place.TheVariants.{EntryMore, Lambd
 use Rattle.rnix_grammar.specs.Begins.{begin_of, second_kind}
 use Rattle.rnix_grammar.specs.AnnotatedForest.{Token, head_kind}
 use Rattle.rnix_reader.specs.declared.mark.Mark.{Mark}
-use Rattle.rnix_reader.specs.State.{State, eaten, bumped, started, started_at, ended, marked}
+use Rattle.rnix_reader.specs.State.{State, eaten, bumped, started, started_here, started_at, ended, marked}
 use Rattle.rnix_reader.specs.Flat.{mark_at}
 
 -- what is open goes on at another place
 abbrev pub moved : Place → Mark → State → State
 moved after m s = marked (mark_at after m.depth m.at) s
 
+-- a node is open behind the trees, and goes on at a place
+abbrev pub node_here : SyntaxKind → Place → ℕ → State → State
+node_here k inside d s = marked (mark_at inside d (tree_count s.trees)) (started_here k s)
+
 -- a node is open from the next item on
 abbrev pub noded : SyntaxKind → Place → ℕ → State → State
-noded k inside d s = marked (mark_at inside d (tree_count (eaten s).trees)) (started k s)
+noded k inside d s = node_here k inside d (eaten s)
 
 -- a node is open from the next item on, which is its first leaf
 abbrev pub node_begun : SyntaxKind → Place → ℕ → State → State
@@ -52,9 +56,13 @@ parameter_read s = ended (leafed NODE_IDENT (started NODE_IDENT_PARAM s))
 abbrev pub binding_read : State → State
 binding_read s = ended (bumped NODE_PAT_BIND (leafed NODE_IDENT (started NODE_PAT_BIND s)))
 
+-- an operand begins behind the trees
+abbrev pub operand_here : Place → ℕ → State → State
+operand_here inside d s = marked (mark_at inside d (tree_count s.trees)) s
+
 -- an operand begins with the next item
 abbrev pub operand_begun : Place → ℕ → State → State
-operand_begun inside d s = marked (mark_at inside d (tree_count (eaten s).trees)) (eaten s)
+operand_begun inside d s = operand_here inside d (eaten s)
 
 -- an operand begins that is a node, whose first leaf is the next item
 abbrev pub node_operand_begun : SyntaxKind → Place → Place → ℕ → State → State

@@ -72,7 +72,7 @@ impl<'t> Parser<'t> {
     }
 
     /// Opens a node at the next item.
-    #[tactic(auto, unfolding(crate::specs::State::started, crate::specs::State::started_at, crate::specs::State::eaten))]
+    #[tactic(auto, unfolding(crate::specs::State::started_at, crate::specs::State::eaten))]
     #[inline(always)]
     pub(crate) fn start_node(&mut self, kind: SyntaxKind) -> Result<Checkpoint, AllocError>
         ensures state { OnOk result (state self.new ≡ started kind (state self.old)) }

@@ -1,22 +1,20 @@
 //! Reading by the grammar's table: one step after another, until the root is complete.
 
-ghost use Rattle.std.specs.Prelude.{◌≡◌, ◌≤◌, ◌<◌, [], List, Bool, Option, length, IfOk, OnOk, true, false};
+ghost use Rattle.std.specs.Prelude.{◌≡◌, ◌≤◌, ◌<◌, [], Bool, List, Option, length, OnOk, true};
 ghost use Rattle.rnix_kinds.specs.declared.kinds.SyntaxKind.{SyntaxKind};
 ghost use Rattle.rnix_grammar.specs.declared.action.Action.TheVariants.{Close, Settle};
 ghost use Rattle.rnix_grammar.specs.declared.begin.Begin.TheVariants.{Leaf};
 ghost use Rattle.rnix_grammar.specs.Actions.{action_at};
-ghost use Rattle.rnix_grammar.specs.Tables.{stops};
-ghost use Rattle.rnix_grammar.specs.AnnotatedForest.{Token, head_kind};
-ghost use Rattle.rnix_grammar.specs.Machine.{Machine, begins, begun, reading, low_of};
+ghost use Rattle.rnix_grammar.specs.AnnotatedForest.{Token};
+ghost use Rattle.rnix_grammar.specs.Machine.{begins, low_of};
+ghost use Rattle.rnix_reader.specs.Flat.{flat};
+ghost use Rattle.rnix_reader.specs.Holds.{IsReadTo};
+ghost use Rattle.rnix_reader.specs.Names.{texts_of, extents_of, EntryNamed};
+ghost use Rattle.rnix_reader.specs.Performed.{EntryTold, IsReady, NamesAfter, NamesFor, Performed, TwiceOpened, action_of, begun_as, expression_read, is_finish, opens_in, opens_on, opens_pattern, operand_read};
 ghost use Rattle.rnix_reader.specs.Placed.{token_of, AreInOrder};
+ghost use Rattle.rnix_reader.specs.Reported.{second_reported};
 ghost use Rattle.rnix_reader.specs.State.{state, items_left, IsNextItem};
 ghost use Rattle.rnix_reader.specs.Steps.{entry_begun, second_begun};
-ghost use Rattle.rnix_reader.specs.Flat.{flat};
-ghost use Rattle.rnix_reader.specs.Names.{texts_of, extents_of, EntryNamed};
-ghost use Rattle.rnix_grammar.specs.Allowed.{is_there};
-ghost use Rattle.rnix_reader.specs.Holds.{IsGoing, IsHolding, IsNextMark, NamesAfter, IsReadTo, EntryTold, TwiceOpened, action_of, is_finish, opens_pattern, opens_on, NamesFor, opens_in};
-ghost use Rattle.rnix_reader.specs.Simulates.{Simulates, SimulatesAt, SimulatesStep, operand_next};
-ghost use Rattle.rnix_reader.specs.Reported.{run_reported, extra_reported, second_reported};
 
 use crate::cursor::PlacedToken;
 use crate::mark::Mark;
@@ -42,7 +40,7 @@ fn begin_leaf<'t>(
     depth: usize,
     first: PlacedToken<'t>,
 ) -> Result<(), AllocError>
-    ensures { Simulates result (begun true (Leaf kind) level depth (token_of first.entry)) (state p.old) (state p.new) }
+    ensures { OnOk result (state p.new ≡ begun_as (Leaf kind) level depth (token_of first.entry) (state p.old)) }
 {
     p.leaf_operand(kind, Place::Behind(level, SELECTION_LEVEL), depth)?;
     Ok(())
@@ -59,7 +57,7 @@ fn begin<'t>(
     first: PlacedToken<'t>,
 ) -> Result<(), AllocError>
     requires { IsNextItem (token_of first) (state p.old) }
-    ensures state { Simulates result (begun true how level depth (token_of first.entry)) (state p.old) (state p.new) }
+    ensures state { OnOk result (state p.new ≡ begun_as how level depth (token_of first.entry) (state p.old)) }
     ensures names { OnOk result (NamesFor (opens_pattern how) names.old names.new) }
 {
     let over = Place::Behind(level, SELECTION_LEVEL);
@@ -110,7 +108,7 @@ fn operand<'t>(
     level: u8,
     depth: usize,
 ) -> Result<(), AllocError>
-    ensures state { Simulates result (operand_next level depth) (state p.old) (state p.new) }
+    ensures state { OnOk result (state p.new ≡ operand_read level depth (state p.old)) }
     ensures names { OnOk result (NamesFor (opens_on level (items_left (state p.old))) names.old names.new) }
 {
     match p.item() {
@@ -134,7 +132,7 @@ fn read<'t>(
     counted: bool,
     depth: usize,
 ) -> Result<(), AllocError>
-    ensures state { SimulatesAt depth result (reading true level counted) (state p.old) (state p.new) }
+    ensures state { OnOk result (state p.new ≡ expression_read level counted depth (state p.old)) }
     ensures names { OnOk result (NamesFor (opens_in depth counted level (state p.old)) names.old names.new) }
 {
     if !counted {
@@ -204,30 +202,6 @@ fn open_twice<'t>(
     Ok(())
 }
 
-// Reads a run of items where others are wanted.
-fn run(p: &mut Parser<'_>, mark: Mark, until: Until, after: Place) -> Result<(), AllocError>
-    requires { stops until (head_kind (items_left (state p.old))) ≡ false }
-    ensures { OnOk result (state p.new ≡ run_reported until after mark (state p.old)) }
-{
-    p.go_on(mark, after)?;
-    if let Some(first) = p.item() {
-        p.unwanted(until, first)?;
-    }
-    Ok(())
-}
-
-// Reads what is left after the root's expression.
-fn extra(p: &mut Parser<'_>, mark: Mark) -> Result<(), AllocError>
-    requires { is_there (head_kind (items_left (state p.old))) ≡ true }
-    ensures { OnOk result (state p.new ≡ extra_reported mark (state p.old)) }
-{
-    p.go_on(mark, mark.place)?;
-    if let Some(first) = p.item() {
-        p.extra(first)?;
-    }
-    Ok(())
-}
-
 // The loosest level of an operator that may continue an operand.
 fn low_of(place: Place) -> u8
     ensures { result ≡ low_of place }
@@ -246,10 +220,8 @@ fn step<'t>(
     mark: Mark,
     action: Action,
 ) -> Result<(), AllocError>
-    requires holding { (m : Machine) × IsHolding m mark (state p.old) names.old }
-    requires action { action ≡ action_of mark (state p.old) }
-    requires going { is_finish action ≡ false }
-    ensures state { SimulatesStep result mark names.old (state p.old) (state p.new) }
+    requires { IsReady action mark (state p.old) names.old }
+    ensures state { OnOk result (Performed action mark (state p.old) names.old (state p.new) names.new) }
     ensures names { OnOk result (NamesAfter action mark (state p.old) names.old names.new) }
 {
     let low = low_of(mark.place);
@@ -263,11 +235,17 @@ fn step<'t>(
         Action::CloseTwice => close_twice(p, names.second)?,
         Action::Finish => {}
         Action::Settle => {}
-        Action::Extra => extra(p, mark)?,
+        Action::Extra => {
+            p.go_on(mark, mark.place)?;
+            p.extra()?;
+        }
         Action::Take(after) => p.take(mark, after)?,
         Action::Miss(after) => p.miss(mark, after)?,
         Action::MissWanted(until, after) => p.miss_wanted(mark, until, after)?,
-        Action::Run(until, after) => run(p, mark, until, after)?,
+        Action::Run(until, after) => {
+            p.go_on(mark, after)?;
+            p.unwanted(until)?;
+        }
         Action::Leaf(kind, after) => p.leaf(mark, kind, after)?,
         Action::Open(kind, inside, after) => p.open(mark, kind, inside, after)?,
         Action::Begin(kind, inside, after) => p.begin(mark, kind, inside, after)?,
@@ -317,21 +295,19 @@ fn is_settled(place: Place, next: Option<SyntaxKind>) -> bool
     }
 }
 
-// Takes the mark of the innermost node or operand that is not complete, and completes what is open above it.
+// The action at a place; the most frequent ones are found without the table.
 #[inline(always)]
-fn take_incomplete<'t>(p: &mut Parser<'t>, names: &Names<'t>) -> Result<Option<Mark>, AllocError>
-    requires { (first : List Token) × IsGoing first (state p.old) names.now }
-    ensures { (first : List Token) → IsGoing first (state p.old) names.now →
-        IfOk result (λ mark. IsNextMark first names.now (state p.old) (state p.new) mark) }
+fn next_action(p: &Parser<'_>, place: Place) -> Action
+    ensures { result ≡ action_of place (state p.now) }
 {
-    while let Some(mark) = p.marks.pop() {
-        if is_past(mark.place) {
-            p.finish_node()?;
-        } else if !is_settled(mark.place, p.peek()) {
-            return Ok(Some(mark));
-        }
+    if is_past(place) {
+        return Action::Close;
     }
-    Ok(None)
+    let next = p.peek();
+    if is_settled(place, next) {
+        return Action::Settle;
+    }
+    action_at(place, next, p.touches())
 }
 
 /// Reads until the root is complete.
@@ -343,8 +319,8 @@ pub(crate) fn read_all<'t>(p: &mut Parser<'t>, names: &mut Names<'t>) -> Result<
     requires ranges { extents_of names.old ≡ [] }
     ensures { OnOk result (IsReadTo (state p.old).rest (state p.new)) }
 {
-    while let Some(mark) = take_incomplete(p, names)? {
-        let action = action_at(mark.place, p.peek(), p.touches());
+    while let Some(mark) = p.marks.pop() {
+        let action = next_action(p, mark.place);
         if let Action::Finish = action {
             p.eat_trivia()?;
             p.finish_node()?;

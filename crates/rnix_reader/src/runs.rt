@@ -1,12 +1,13 @@
 //! Nodes that are read at once: over one item, and over runs of items that are not wanted.
 
-ghost use Rattle.std.specs.Prelude.{◌≡◌, IfOk, OnOk, false, Some};
+ghost use Rattle.std.specs.Prelude.{◌≡◌, IfOk, OnOk, false, true, Some};
 ghost use Rattle.rnix_green.specs.Range.{bounds_of};
 ghost use Rattle.rnix_grammar.specs.Tables.{stops};
-ghost use Rattle.rnix_grammar.specs.AnnotatedForest.{Extra, extent_of};
+ghost use Rattle.rnix_grammar.specs.Allowed.{is_there};
+ghost use Rattle.rnix_grammar.specs.AnnotatedForest.{extent_of, head_kind};
 ghost use Rattle.rnix_reader.specs.Placed.{token_of};
 ghost use Rattle.rnix_reader.specs.State.{state, items_left, skipped, IsNextItem};
-ghost use Rattle.rnix_reader.specs.Reported.{end_reported, error_over, limit_reported, next_run, reported, stray_reported, unwanted_reported};
+ghost use Rattle.rnix_reader.specs.Reported.{end_reported, error_over, extra_reported, limit_reported, next_run, stray_reported, unwanted_reported};
 ghost use Rattle.rnix_reader.specs.Steps.{leafed};
 
 use crate::cursor::PlacedToken;
@@ -66,28 +67,27 @@ impl<'t> Parser<'t> {
     }
 
     /// Makes an error node of a run of items where others are wanted, and reports it.
-    pub(crate) fn unwanted(
-        &mut self,
-        until: Until,
-        first: PlacedToken<'_>,
-    ) -> Result<(), AllocError>
-        requires first { IsNextItem (token_of first) (state self.old) }
-        requires unwanted { stops until (Some first.kind) ≡ false }
+    pub(crate) fn unwanted(&mut self, until: Until) -> Result<(), AllocError>
+        requires { stops until (head_kind (items_left (state self.old))) ≡ false }
         ensures { OnOk result (state self.new ≡ unwanted_reported until (state self.old)) }
     {
-        let range = self.error_run(until, first)?;
-        let wanted = wanted_kinds(until).to_vec(*self.errors.allocator())?;
-        self.fail(ParseError::UnexpectedWanted(first.kind, range, wanted))?;
+        if let Some(first) = self.item() {
+            let range = self.error_run(until, first)?;
+            let wanted = wanted_kinds(until).to_vec(*self.errors.allocator())?;
+            self.fail(ParseError::UnexpectedWanted(first.kind, range, wanted))?;
+        }
         Ok(())
     }
 
     /// Makes an error node of all that is left after the root's expression, and reports it.
-    pub(crate) fn extra(&mut self, first: PlacedToken<'_>) -> Result<(), AllocError>
-        requires { IsNextItem (token_of first) (state self.old) }
-        ensures { OnOk result (state self.new ≡ reported Extra (items_left (state self.old)) (state self.old)) }
+    pub(crate) fn extra(&mut self) -> Result<(), AllocError>
+        requires { is_there (head_kind (items_left (state self.old))) ≡ true }
+        ensures { OnOk result (state self.new ≡ extra_reported (state self.old)) }
     {
-        let range = self.error_run(Until::End, first)?;
-        self.fail(ParseError::UnexpectedExtra(range))?;
+        if let Some(first) = self.item() {
+            let range = self.error_run(Until::End, first)?;
+            self.fail(ParseError::UnexpectedExtra(range))?;
+        }
         Ok(())
     }
 
