@@ -1,17 +1,17 @@
 -- What the first item of an operand is, by the kind of the operand's first tree; so it is at each state where a node stands.
-use Rattle.std.{specs.List.list_all, proofs.Common.{◌≡◌, ℕ, Bool, true, false, List, [], ◌∷◌, ◌++◌, Option, Some, None, refl, ap, sym, subst, append-nil}}
+use Rattle.std.{proofs.Common.{◌≡◌, ℕ, Bool, true, false, List, [], ◌∷◌, ◌++◌, Option, Some, None, refl, ap, sym, subst, append-nil}}
 use Rattle.std.proofs.Common.{if◌then◌else◌, nat_eq, nat_le}
 use Rattle.rnix_kinds.specs.declared.kinds.SyntaxKind.{SyntaxKind, TheVariants.{TOKEN_AT, TOKEN_COLON, TOKEN_IDENT, TOKEN_INVERT, TOKEN_SUB, TOKEN_LET}}
 use Rattle.rnix_kinds.specs.declared.kinds.SyntaxKind.TheVariants.{TOKEN_L_BRACE, NODE_APPLY, NODE_ATTRPATH}
 use Rattle.rnix_kinds.specs.declared.kinds.SyntaxKind.TheVariants.{NODE_ATTRPATH_VALUE, NODE_BIN_OP, NODE_CUR_POS, NODE_HAS_ATTR, NODE_IDENT}
 use Rattle.rnix_kinds.specs.declared.kinds.SyntaxKind.TheVariants.{NODE_IDENT_PARAM, NODE_LAMBDA, NODE_PATTERN, NODE_PAT_BIND, NODE_PAT_ENTRY, NODE_ROOT}
-use Rattle.rnix_kinds.{specs.{declared.kinds.SyntaxKind.TheVariants.NODE_SELECT}, proofs.AllKinds.{all_kinds, every, implied}}
+use Rattle.rnix_kinds.{specs.{declared.kinds.SyntaxKind.TheVariants.NODE_SELECT}, proofs.AllKinds.{all_kinds, implied}}
 use Rattle.rnix_grammar.specs.{declared.{begin.Begin.Begin, place.Place.Place, symbol.Symbol.Symbol}, Begins.{begin_name, begin_let, begin_of, is_pattern}}
-use Rattle.rnix_grammar.specs.{Begins.second_kind, Names.{is_plain, is_no_or, is_position, is_name_in, is_name_of, is_name_at, is_named_by}}
-use Rattle.rnix_grammar.specs.{ExpectedItems.{IsExpected, stands_expected}, Operands.{first_tree, kind_of, IsBegun, IsOperand, level_at}, Rows.RowState}
+use Rattle.rnix_grammar.specs.{Begins.second_kind, Names.{is_position, is_name_in, is_name_of, is_name_at, is_named_by}}
+use Rattle.rnix_grammar.specs.{ExpectedItems.{IsExpected, stands_expected, expects_in, stands_expected_in}, Operands.{first_tree, kind_of, IsBegun, IsOperand, level_at}, Rows.RowState}
 use Rattle.rnix_grammar.specs.{Rows.{Start, BeforeArgument, At, first, advance, live, start}, AnnotatedForest.{Token, AnnotatedForest, branch, one_branch}}
-use Rattle.rnix_grammar.specs.{AnnotatedForest.{tokens_in, head_kind}, Symbols.{symbol_at, level_in}, Tables.{is_cur_pos, is_wanted}, TokenKinds.{is_or, is_at}}
-use Rattle.{rnix_grammar.specs.TreeLevels.is_or_row, rnix_lemmas.proofs.{Basics.{true_is_not_false, not_if, choice}, FirstTrees.{a_node, first_in}}}
+use Rattle.rnix_grammar.specs.{AnnotatedForest.{tokens_in, head_kind}, Symbols.{symbol_at, level_in}, Tables.{is_cur_pos, is_wanted}, TokenKinds.{is_or}}
+use Rattle.{rnix_grammar.specs.{AnnotatedForest.blank, TreeLevels.is_or_row}, rnix_lemmas.proofs.{EachKind.{Each, each_kind}, Basics.{true_is_not_false, not_if, choice}, FirstTrees.{a_node, first_in}}}
 use Rattle.rnix_grammar.specs.declared.begin.Begin.TheVariants as b
 use Rattle.rnix_grammar.specs.declared.place.Place.TheVariants as p
 use Rattle.rnix_grammar.specs.declared.symbol.Symbol.TheVariants as s
@@ -106,32 +106,22 @@ fronts_of NODE_ATTRPATH_VALUE c ts h = tt
 fronts_of k c ts h = choice (λ (i : SyntaxKind). MayBegin i ts) (begins_with_node k) {x = first_tree (one_branch k c)} {y = NODE_ROOT} h (root_begins ts)
 
 -- a name that is neither `or` nor `__curPos` may stand wherever a name may
-plain_symbol : (symbol : Symbol) (t : Token) → is_plain t ≡ true → is_no_or t ≡ true → is_name_in symbol t ≡ true
-plain_symbol s.Source t h n = refl
-plain_symbol s.Names t h n = refl
-plain_symbol (s.Attr y) t h n = refl
-plain_symbol (s.Name y) t h n = n
-plain_symbol _ t h n = h
+plain_symbol : (symbol : Symbol) (t : Token) → is_or t.kind ≡ false → is_cur_pos t.text ≡ false → is_name_in symbol t ≡ true
+plain_symbol s.Source t e g = refl
+plain_symbol _ t e g = cc
 
-plain_first : (k : SyntaxKind) (t : Token) → is_plain t ≡ true → is_no_or t ≡ true → is_name_of k t ≡ true
-plain_first NODE_IDENT_PARAM t h n = n
-plain_first NODE_PAT_ENTRY t h n = n
-plain_first NODE_PAT_BIND t h n = n
-plain_first _ t h n = h
+plain_first : (k : SyntaxKind) (t : Token) → is_or t.kind ≡ false → is_cur_pos t.text ≡ false → is_name_of k t ≡ true
+plain_first NODE_IDENT_PARAM t e g = cc
+plain_first _ t e g = cc
 
-plain_called : (v w : Bool) → (if v then false else (if w then false else true)) ≡ true → (if v then true else (if w then false else true)) ≡ true
-plain_called true w h = refl
-plain_called false w h = h
+plain_named : (q : RowState) (t : Token) → is_or t.kind ≡ false → is_cur_pos t.text ≡ false → is_name_at q t ≡ true
+plain_named (At x) t e g = plain_symbol (symbol_at x) t e g
+plain_named (Start k) t e g = plain_first k t e g
+plain_named _ t e g = cc
 
-plain_no_or : (v w : Bool) → (if v then false else (if w then false else true)) ≡ true → (if v then false else true) ≡ true
-plain_no_or true w h = h
-plain_no_or false w h = refl
-
-plain_named : (q : RowState) (t : Token) → is_plain t ≡ true → is_name_at q t ≡ true
-plain_named (At x) t h = plain_symbol (symbol_at x) t h (plain_no_or (is_or t.kind) (is_cur_pos t.text) h)
-plain_named (Start k) t h = plain_first k t h (plain_no_or (is_or t.kind) (is_cur_pos t.text) h)
-plain_named BeforeArgument t h = plain_called (is_or t.kind) (is_cur_pos t.text) h
-plain_named _ t h = h
+plain_parts : (v w : Bool) → (if v then false else (if w then false else true)) ≡ true → (v ≡ false) × (w ≡ false)
+plain_parts true w h = absurd (true_is_not_false (sym h))
+plain_parts false w h = (refl, not_if w h)
 
 -- what is known of a node that begins with the next item
 abbrev pub Known : RowState → SyntaxKind → AnnotatedForest → List Token → Type 0
@@ -143,7 +133,7 @@ operand_known q k c ts h = (names k ts h, fronts_of k c ts h)
   where
     names : (k : SyntaxKind) (ts : List Token) → MayBegin (first_tree (one_branch k c)) ts → Names q k ts
     names k [] h = tt
-    names NODE_IDENT (t ∷ ts) h = plain_named q t h
+    names NODE_IDENT (t ∷ ts) h = let e = plain_parts (is_or t.kind) (is_cur_pos t.text) h in plain_named q t e.0 e.1
     names NODE_CUR_POS (t ∷ ts) h = h
     names _ (t ∷ ts) h = refl
 
@@ -152,44 +142,6 @@ abbrev is_told : SyntaxKind → Bool
 is_told NODE_IDENT = true
 is_told NODE_CUR_POS = true
 is_told k = begins_with_node k
-
--- of others
-other_known : (q : RowState) (k : SyntaxKind) (c : AnnotatedForest) (ts : List Token) → is_told k ≡ false → Known q k c ts
-other_known q k c ts h = (names k ts h, fronts k h)
-  where
-    names : (k : SyntaxKind) (ts : List Token) → is_told k ≡ false → Names q k ts
-    names k [] h = tt
-    names NODE_IDENT (t ∷ ts) h = absurd (true_is_not_false h)
-    names NODE_CUR_POS (t ∷ ts) h = absurd (true_is_not_false h)
-    names _ (t ∷ ts) h = refl
-
-    fronts : (k : SyntaxKind) → is_told k ≡ false → Fronts (start k) c ts
-    fronts NODE_ROOT h = tt
-    fronts NODE_ATTRPATH h = tt
-    fronts NODE_ATTRPATH_VALUE h = tt
-    fronts k h =
-        let plain : begins_with_node k ≡ false = cc in
-        subst (λ (w : Bool). MayBegin (if w then first_tree (one_branch k c) else NODE_ROOT) ts) (sym plain) (root_begins ts)
-
--- of a name, where a name that is not `or` is one
-name_known : (q : RowState) (c : AnnotatedForest) (ts : List Token) → ((t : Token) → is_no_or t ≡ true → is_name_at q t ≡ true) → MayBegin NODE_PAT_ENTRY ts
-    → Known q NODE_IDENT c ts
-name_known q c [] n h = (tt, tt)
-name_known q c (t ∷ ts) n h = (n t h, refl)
-
--- what begins a parameter is no `or`
-no_or : (test : SyntaxKind → Bool) → list_all (λ k. if test k then (if is_or k then false else true) else true) all_kinds ≡ true → (k : SyntaxKind)
-    → test k ≡ true
-    → (if is_or k then false else true) ≡ true
-no_or test h k e = implied test (λ i. if is_or i then false else true) h k e
-
-parameter_begins : (ts : List Token) → MayBegin NODE_IDENT_PARAM ts → MayBegin NODE_PAT_ENTRY ts
-parameter_begins [] h = tt
-parameter_begins (t ∷ ts) h = no_or (is_wanted u.Ident) refl t.kind h
-
-pattern_begins : (ts : List Token) → MayBegin NODE_PATTERN ts → MayBegin NODE_PAT_BIND ts
-pattern_begins [] h = tt
-pattern_begins (t ∷ ts) h = no_or begins_pattern refl t.kind h
 
 -- functions, parameters and their parts, which begin with a name or a brace
 abbrev is_parameter : SyntaxKind → Bool
@@ -200,16 +152,82 @@ is_parameter NODE_PAT_BIND = true
 is_parameter NODE_PAT_ENTRY = true
 is_parameter k = false
 
--- of the first node of such a node
-parameter_known : (i k : SyntaxKind) (c f : AnnotatedForest) (ts : List Token) → is_parameter i ≡ true → live (first i k) ≡ true
-    → Fronts (Start i) (branch k c f) ts → Known (Start i) k c ts
-parameter_known NODE_LAMBDA NODE_IDENT_PARAM c f ts w l h = operand_known (Start NODE_LAMBDA) NODE_IDENT_PARAM c ts h
-parameter_known NODE_LAMBDA NODE_PATTERN c f ts w l h = operand_known (Start NODE_LAMBDA) NODE_PATTERN c ts h
-parameter_known NODE_PATTERN NODE_PAT_BIND c f ts w l h = operand_known (Start NODE_PATTERN) NODE_PAT_BIND c ts (pattern_begins ts h)
-parameter_known NODE_IDENT_PARAM NODE_IDENT c f ts w l h = name_known (Start NODE_IDENT_PARAM) c ts (λ t n. n) (parameter_begins ts h)
-parameter_known NODE_PAT_BIND NODE_IDENT c f ts w l h = name_known (Start NODE_PAT_BIND) c ts (λ t n. n) h
-parameter_known NODE_PAT_ENTRY NODE_IDENT c f ts w l h = name_known (Start NODE_PAT_ENTRY) c ts (λ t n. n) h
-parameter_known i k c f ts w l h = other_known (Start i) k c ts (cc)
+-- no level is asked for
+abbrev pub is_free : Option ℕ → Bool
+is_free None = true
+is_free (Some level) = false
+
+-- states where a name or a parameter may stand, and no operand
+abbrev is_settled : RowState → Bool
+is_settled (Start i) = is_parameter i
+is_settled (At x) = is_free (level_in (symbol_at x))
+is_settled q = false
+
+-- two tests have one answer
+abbrev is_same : Bool → Bool → Bool
+is_same true w = w
+is_same false w = if w then false else true
+
+same_true : (v w : Bool) → v ≡ w → is_same v w ≡ true
+same_true true w e = sym e
+same_true false w e = ap (λ z. if z then false else true) (sym e)
+
+-- an item may be the first of a node in a row there: as it is the place's own, or not, or as the row begins
+abbrev may_stand : RowState → Bool → SyntaxKind → AnnotatedForest → SyntaxKind → List ℕ → Bool
+may_stand (Start i) touch k f kind text = may_begin (first_tree (one_branch i f)) kind text
+may_stand (At x) touch k f kind text = is_same (expects_in (symbol_at x) touch kind) (stands_expected_in (symbol_at x) k)
+may_stand q touch k f kind text = false
+
+-- what holds where a test does
+abbrev Where : Bool → Type 0 → Type 0
+Where true P = P
+Where false P = Unit {0}
+
+where_one : {P : Type 0} (w : Bool) → w ≡ true → Where w P → P
+where_one true e h = h
+where_one false e h = absurd (true_is_not_false (sym e))
+
+-- so much is known by the first item's kind
+abbrev KnownBy : RowState → Bool → SyntaxKind → AnnotatedForest → AnnotatedForest → Token → List Token → SyntaxKind → Type 0
+KnownBy q touch k c f t ts j = Where (may_stand q touch k (branch k c f) j t.text) (Known q k c (record { kind = j; text = t.text; start = t.start; end = t.end } ∷ ts))
+
+-- at such a state it is known by each
+abbrev IsKnown : RowState → Bool → AnnotatedForest → AnnotatedForest → Token → List Token → Type 0
+IsKnown q touch c f t ts = Where (is_settled q) (Each (λ k. Where (live (advance q k)) (Each (KnownBy q touch k c f t ts) all_kinds)) all_kinds)
+
+each_known : (q : RowState) (touch : Bool) (c f : AnnotatedForest) (t : Token) (ts : List Token) → IsKnown q touch c f t ts
+each_known (Start i) touch c f t ts = each_kind (λ i. IsKnown (Start i) touch c f t ts) (assumption) i
+each_known (At p.PathMore) true c f t ts = assumption
+each_known (At p.PathMore) false c f t ts = assumption
+each_known (At (p.PatternEnd true)) touch c f t ts = assumption
+each_known (At (p.PatternEnd false)) touch c f t ts = assumption
+each_known (At x) touch c f t ts = assumption
+each_known q touch c f t ts = assumption
+
+-- where nothing is left nothing need be known
+none_known : (q : RowState) (k : SyntaxKind) (c : AnnotatedForest) → Known q k c []
+none_known q NODE_ROOT c = (tt, tt)
+none_known q _ c = (tt, tt)
+
+-- so it is of the first items
+settled_known : (q : RowState) (touch : Bool) (k : SyntaxKind) (c f : AnnotatedForest) (t : Token) (ts : List Token) → is_settled q ≡ true → live (advance q k) ≡ true
+    → may_stand q touch k (branch k c f) t.kind t.text ≡ true → Known q k c (t ∷ ts)
+settled_known q touch k c f t ts s l h =
+    where_one (may_stand q touch k (branch k c f) t.kind t.text) h
+    (each_kind (KnownBy q touch k c f t ts) (where_one (live (advance q k)) l
+    (each_kind (λ k. Where (live (advance q k)) (Each (KnownBy q touch k c f t ts) all_kinds)) (where_one (is_settled q) s (each_known q touch c f t ts)) k)) t.kind)
+
+-- of the first node of a function or a parameter
+parameter_known : (i k : SyntaxKind) (c f : AnnotatedForest) (ts : List Token) → is_parameter i ≡ true → live (first i k) ≡ true → MayBegin (first_tree (one_branch i (branch k c f))) ts
+    → Known (Start i) k c ts
+parameter_known i k c f [] s l h = none_known (Start i) k c
+parameter_known i k c f (t ∷ ts) s l h = settled_known (Start i) true k c f t ts s l h
+
+-- of others
+other_known : (q : RowState) (k : SyntaxKind) (c : AnnotatedForest) (ts : List Token) → is_told k ≡ false → Known q k c ts
+other_known q k c [] h = none_known q k c
+other_known q k c (t ∷ ts) h =
+    where_one (if is_told k then false else true) (ap (λ w. if w then false else true) h) (each_kind (λ k. Where (if is_told k then false else true) (Known q k c (t ∷ ts))) (assumption) k)
 
 -- of an operator's first operand, or of what is called or selected from
 operand_first : (i k : SyntaxKind) (c f : AnnotatedForest) (ts : List Token) → MayBegin (first_tree (branch k c f)) ts → Known (Start i) k c ts
@@ -226,86 +244,14 @@ first_known NODE_PATTERN k c f ts l h = parameter_known NODE_PATTERN k c f ts re
 first_known NODE_IDENT_PARAM k c f ts l h = parameter_known NODE_IDENT_PARAM k c f ts refl l h
 first_known NODE_PAT_BIND k c f ts l h = parameter_known NODE_PAT_BIND k c f ts refl l h
 first_known NODE_PAT_ENTRY k c f ts l h = parameter_known NODE_PAT_ENTRY k c f ts refl l h
-first_known i k c f ts l h = other_known (Start i) k c ts (not_if (is_told k)
-    (implied (λ j. live (first i j)) (λ j. if is_told j then false else true) refl k l))
+first_known i k c f ts l h = other_known (Start i) k c ts (not_if (is_told k) (implied (λ j. live (first i j)) (λ j. if is_told j then false else true) refl k l))
 
--- an item of its own begins what stands at a place, where no operand does
-own_begins : (x : Place) (test : SyntaxKind → Bool) (n : ℕ) (ts : List Token)
-    → ((t : Token) (us : List Token) → IsExpected (At x) n (t ∷ us) true → test t.kind ≡ true)
-    → list_all (λ k. if test k then (if is_or k then false else true) else true) all_kinds ≡ true → IsExpected (At x) n ts true → MayBegin NODE_PAT_ENTRY ts
-own_begins x test n [] own h o = tt
-own_begins x test n (t ∷ ts) own h o = no_or test h t.kind (own t ts o)
-
--- no level is asked for
-abbrev pub is_free : Option ℕ → Bool
-is_free None = true
-is_free (Some level) = false
-
--- of a name, where every name may be one
-any_known : (q : RowState) (c : AnnotatedForest) (ts : List Token) → ((t : Token) → is_name_at q t ≡ true) → Known q NODE_IDENT c ts
-any_known q c [] n = (tt, tt)
-any_known q c (t ∷ ts) n = (n t, refl)
-
--- places of names, entries and bound names
-abbrev is_name_place : Place → Bool
-is_name_place p.BindName = true
-is_name_place p.TwiceName = true
-is_name_place p.InheritStart = true
-is_name_place p.InheritNames = true
-is_name_place p.InheritName = true
-is_name_place p.AttrpathStart = true
-is_name_place (p.PatternStart bound) = true
-is_name_place (p.PatternInside bound) = true
-is_name_place (p.PatternEnd bound) = true
-is_name_place x = false
-
--- of what stands at such a place
-name_place_known : (x : Place) (k : SyntaxKind) (c : AnnotatedForest) (n : ℕ) (ts : List Token) → is_name_place x ≡ true → live (advance (At x) k) ≡ true
-    → IsExpected (At x) n ts (stands_expected (At x) k c)
-    → Known (At x) k c ts
-name_place_known p.BindName NODE_IDENT c n ts w l o =
-    name_known (At p.BindName) c ts (λ t h. h) (own_begins p.BindName (is_wanted u.Ident) n ts (λ t us w. w) refl o)
-name_place_known p.TwiceName NODE_IDENT c n ts w l o =
-    name_known (At p.TwiceName) c ts (λ t h. h) (own_begins p.TwiceName (is_wanted u.Ident) n ts (λ t us w. w) refl o)
-name_place_known p.InheritStart NODE_IDENT c n ts w l o = any_known (At p.InheritStart) c ts (λ t. refl)
-name_place_known p.InheritNames NODE_IDENT c n ts w l o = any_known (At p.InheritNames) c ts (λ t. refl)
-name_place_known p.InheritName NODE_IDENT c n ts w l o = any_known (At p.InheritName) c ts (λ t. refl)
-name_place_known p.AttrpathStart NODE_IDENT c n ts w l o = any_known (At p.AttrpathStart) c ts (λ t. refl)
-name_place_known (p.PatternStart bound) NODE_PAT_ENTRY c n ts w l o =
-    operand_known (At (p.PatternStart bound)) NODE_PAT_ENTRY c ts (own_begins (p.PatternStart bound) (is_wanted u.Entry) n ts (λ t us w. w) refl o)
-name_place_known (p.PatternInside bound) NODE_PAT_ENTRY c n ts w l o =
-    operand_known (At (p.PatternInside bound)) NODE_PAT_ENTRY c ts (own_begins (p.PatternInside bound) (is_wanted u.Entry) n ts (λ t us w. w) refl o)
-name_place_known (p.PatternEnd false) NODE_PAT_BIND c n ts w l o =
-    operand_known (At (p.PatternEnd false)) NODE_PAT_BIND c ts (own_begins (p.PatternEnd false) is_at n ts (λ t us w. w) refl o)
-name_place_known x k c n ts w l o = other_known (At x) k c ts (cc)
-
--- nothing need be known of what stands at another place where no operand does
-is_dull : Place → SyntaxKind → Bool
-is_dull x k = if is_free (level_in (symbol_at x)) then (if is_name_place x then true else
-    (if live (advance (At x) k) then (if is_told k then false else true) else true)) else true
-
-dull : (x : Place) (k : SyntaxKind) → is_dull x k ≡ true
-unfolding is_dull
-dull p.RootStart k = refl
-dull x k = every (is_dull x) refl k
-
-not_told : (u v w z : Bool) → (if u then (if v then true else (if w then (if z then false else true) else true)) else true) ≡ true → u ≡ true → v ≡ false
-    → w ≡ true → z ≡ false
-not_told true false true z h d e f = not_if z h
-not_told u v w z h d e f = absurd (cc)
-
+-- of a node at a place where no operand stands
 place_known : (x : Place) (k : SyntaxKind) (c : AnnotatedForest) (n : ℕ) (ts : List Token) → is_free (level_in (symbol_at x)) ≡ true → live (advance (At x) k) ≡ true
-    → IsExpected (At x) n ts (stands_expected (At x) k c)
-    → Known (At x) k c ts
-unfolding is_dull
-place_known x k c n ts e l o = by (is_name_place x) refl
-  where
-    rest : is_name_place x ≡ false → is_told k ≡ false
-    rest w = not_told (is_free (level_in (symbol_at x))) (is_name_place x) (live (advance (At x) k)) (is_told k) (dull x k) e w l
-
-    by : (w : Bool) → is_name_place x ≡ w → Known (At x) k c ts
-    by true w = name_place_known x k c n ts w l o
-    by false w = other_known (At x) k c ts (rest w)
+    → IsExpected (At x) n ts (stands_expected (At x) k c) → Known (At x) k c ts
+place_known x k c n [] e l o = none_known (At x) k c
+place_known x k c n (t ∷ ts) e l o =
+    settled_known (At x) (nat_eq t.start n) k c blank t ts e l (same_true (expects_in (symbol_at x) (nat_eq t.start n) t.kind) (stands_expected_in (symbol_at x) k) o)
 
 by_level : (q : RowState) (k : SyntaxKind) (c : AnnotatedForest) (vs : List Token) (o : Option ℕ) → (is_free o ≡ true → Known q k c (tokens_in c ++ vs))
     → IsOperand o (one_branch k c) vs
