@@ -4,7 +4,7 @@ use Rattle.rnix_kinds.specs.Lexical.{Tokens.{tokens_of, normal_cut, cut_at, toke
 use Rattle.{rnix_green.specs.{Equality.same_kind, Forest.{Forest, empty, leaf, node}, Tree.Tree}, rnix_grammar.specs.{Fault.Fault, AnnotatedForest.Token}}
 use Rattle.rnix_grammar.specs.{AnnotatedForest.{AnnotatedForest, forget, tokens_in, without_trivia, placed_from}, Layout.{items, with_trivia_whole}}
 use Rattle.{rnix_grammar.specs.{Reading.IsReading, Parsed.IsParsed}, rnix_lemmas.proofs.{Basics.true_is_not_false, ReportLemmas.without_trivia_tokens}}
-use Rattle.{rnix_proof_rules.proofs.ReadsAlike.whole_old, rnix_uniqueness.proofs.OnlyReading.{Case, Holds, trees_in, items_of}}
+use Rattle.{rnix_proof_rules.proofs.ReadsAlike.whole_old, rnix_uniqueness.proofs.OnlyReading.{Case, Holds, IsMade, holds, trees_in, items_of}}
 use Rattle.rnix_kinds.specs.declared.kinds.SyntaxKind.TheVariants as k
 use Rattle.rnix_uniqueness.proofs.Examples as of
 
@@ -33,10 +33,10 @@ abbrev root : Forest → Tree
 root f = record { kind = k.NODE_ROOT; children = f }
 
 -- no errors make a tree of other kinds what such a text is read as
-refute : (c : Case) → Holds c → (wrong : Forest) → alike wrong (tree_of c) ≡ false → alike (tree_of c) (tree_of c) ≡ true
+refute : (c : Case) → IsMade c → (wrong : Forest) → alike wrong (tree_of c) ≡ false → alike (tree_of c) (tree_of c) ≡ true
     → (faults : List Fault) → IsParsed (tokens_of c.text) (root wrong) faults → ⊥
-refute c only wrong differ same faults p =
-    true_is_not_false (sym same ∙ ap (λ (f : Forest). alike f (tree_of c)) (sym (read_as c only (root wrong) faults p.reading)) ∙ differ)
+refute c made wrong differ same faults p =
+    true_is_not_false (sym same ∙ ap (λ (f : Forest). alike f (tree_of c)) (sym (read_as c (holds c made) (root wrong) faults p.reading)) ∙ differ)
 
 -- so it is with a text and a tree
 abbrev IsRefuted : List ℕ → Forest → Type 0
@@ -61,20 +61,20 @@ space f = leaf k.TOKEN_WHITESPACE (codes " ") f
 -- `a.b)`: not the name `a` with extra items after it
 pub selection : IsRefuted (codes "a.b)") (name (codes "a") (error (leaf k.TOKEN_DOT (codes ".") (leaf k.TOKEN_IDENT (codes "b") (paren empty))) empty))
 unfolding chars encode_utf8 tokens_behind normal_cut cut_at space_len begins_space char_len
-selection = refute of.selection of.selection_holds _ refl refl
+selection = refute of.selection refl _ refl refl
 
 -- `if[]`: not a call of a stray `if`
 pub condition : IsRefuted (codes "if[]")
     (node k.NODE_APPLY (error (leaf k.TOKEN_IF (codes "if") empty) (node k.NODE_LIST (leaf k.TOKEN_L_BRACK (codes "[") (bracket empty)) empty)) empty)
 unfolding chars encode_utf8 tokens_behind normal_cut cut_at space_len begins_space char_len
-condition = refute of.condition of.condition_holds _ refl refl
+condition = refute of.condition refl _ refl refl
 
 -- `x: x+b)`: not a sum of a function and `b`
 pub body : IsRefuted (codes "x: x+b)") (node k.NODE_BIN_OP
     (node k.NODE_LAMBDA (node k.NODE_IDENT_PARAM (name (codes "x") empty) (leaf k.TOKEN_COLON (codes ":") (space (name (codes "x") empty))))
     (leaf k.TOKEN_ADD (codes "+") (name (codes "b") empty))) (error (paren empty) empty))
 unfolding chars encode_utf8 tokens_behind normal_cut cut_at space_len begins_space char_len
-body = refute of.body of.body_holds _ refl refl
+body = refute of.body refl _ refl refl
 
 -- `{a,b}:a)`: not with a run of unwanted items from the comma to the brace
 pub formals : IsRefuted (codes "{a,b}:a)") (node k.NODE_LAMBDA
@@ -82,7 +82,7 @@ pub formals : IsRefuted (codes "{a,b}:a)") (node k.NODE_LAMBDA
     (error (leaf k.TOKEN_COMMA (codes ",") (leaf k.TOKEN_IDENT (codes "b") empty)) (leaf k.TOKEN_R_BRACE (codes "}") empty))))
     (leaf k.TOKEN_COLON (codes ":") (name (codes "a") empty))) (error (paren empty) empty))
 unfolding chars encode_utf8 tokens_behind normal_cut cut_at space_len begins_space char_len
-formals = refute of.formals of.formals_holds _ refl refl
+formals = refute of.formals refl _ refl refl
 
 -- `a @ { } @ b`: not with a run of unwanted items after the pattern in place of its second name
 pub second_name : IsRefuted (codes "a @ { } @ b") (node k.NODE_LAMBDA
@@ -90,39 +90,39 @@ pub second_name : IsRefuted (codes "a @ { } @ b") (node k.NODE_LAMBDA
     (space (leaf k.TOKEN_L_BRACE (codes "{") (space (leaf k.TOKEN_R_BRACE (codes "}") empty)))))
     (space (error (leaf k.TOKEN_AT (codes "@") (space (leaf k.TOKEN_IDENT (codes "b") empty))) empty))) empty)
 unfolding chars encode_utf8 tokens_behind normal_cut cut_at space_len begins_space char_len
-second_name = refute of.second_name of.second_name_holds _ refl refl
+second_name = refute of.second_name refl _ refl refl
 
 -- `[])`: not a list that holds its bracket and the parenthesis as stray items
 pub closed_list : IsRefuted (codes "[])") (node k.NODE_LIST (leaf k.TOKEN_L_BRACK (codes "[") (error (bracket empty) (error (paren empty) empty))) empty)
 unfolding chars encode_utf8 tokens_behind normal_cut cut_at space_len begins_space char_len
-closed_list = refute of.closed_list of.closed_list_holds _ refl refl
+closed_list = refute of.closed_list refl _ refl refl
 
 -- `(a]])`: not with two runs of unwanted items before the parenthesis that closes
 pub whole_run : IsRefuted (codes "(a]])")
     (node k.NODE_PAREN (leaf k.TOKEN_L_PAREN (codes "(") (name (codes "a") (error (bracket empty) (error (bracket empty) (paren empty))))) empty)
 unfolding chars encode_utf8 tokens_behind normal_cut cut_at space_len begins_space char_len
-whole_run = refute of.whole_run of.whole_run_holds _ refl refl
+whole_run = refute of.whole_run refl _ refl refl
 
 -- `(a`: not with a name that is nested too deep
 pub shallow : IsRefuted (codes "(a") (node k.NODE_PAREN (leaf k.TOKEN_L_PAREN (codes "(") (error (leaf k.TOKEN_IDENT (codes "a") empty) empty)) empty)
 unfolding chars encode_utf8 tokens_behind normal_cut cut_at space_len begins_space char_len
-shallow = refute of.shallow of.shallow_holds _ refl refl
+shallow = refute of.shallow refl _ refl refl
 
 -- ` a)`: the space is not inside the name's node
 pub space_first : IsRefuted (codes " a)") (node k.NODE_IDENT (space (leaf k.TOKEN_IDENT (codes "a") empty)) (error (paren empty) empty))
 unfolding chars encode_utf8 tokens_behind normal_cut cut_at space_len begins_space char_len
-space_first = refute of.space_first of.space_first_holds _ refl refl
+space_first = refute of.space_first refl _ refl refl
 
 -- `a )`: the space is not inside the error node, and not inside the name's node
 pub space_between : IsRefuted (codes "a )") (name (codes "a") (error (space (paren empty)) empty))
 unfolding chars encode_utf8 tokens_behind normal_cut cut_at space_len begins_space char_len
-space_between = refute of.space_between of.space_between_holds _ refl refl
+space_between = refute of.space_between refl _ refl refl
 
 pub space_in_name : IsRefuted (codes "a )") (node k.NODE_IDENT (leaf k.TOKEN_IDENT (codes "a") (space empty)) (error (paren empty) empty))
 unfolding chars encode_utf8 tokens_behind normal_cut cut_at space_len begins_space char_len
-space_in_name = refute of.space_between of.space_between_holds _ refl refl
+space_in_name = refute of.space_between refl _ refl refl
 
 -- `a) `: the space is not inside the error node
 pub space_last : IsRefuted (codes "a) ") (name (codes "a") (error (paren (space empty)) empty))
 unfolding chars encode_utf8 tokens_behind normal_cut cut_at space_len begins_space char_len
-space_last = refute of.space_last of.space_last_holds _ refl refl
+space_last = refute of.space_last refl _ refl refl

@@ -1,122 +1,50 @@
--- How some broken texts are read: each has one reading, which is computed.
-use Rattle.std.{proofs.Common.{[], ◌∷◌, refl}, specs.{Prelude.codes, Str.chars, Char.encode_utf8}}
-use Rattle.rnix_kinds.specs.{declared.kinds.SyntaxKind.TheVariants.{NODE_IF_ELSE, NODE_PAT_BIND, TOKEN_R_BRACK}, Lexical.Tokens.{normal_cut, cut_at}}
-use Rattle.rnix_kinds.specs.Lexical.{Tokens.tokens_behind, Texts.{space_len, begins_space, char_len}}
+-- How some broken texts are read.
+use Rattle.std.{proofs.Common.{[], ◌∷◌}, specs.Prelude.codes}
+use Rattle.rnix_kinds.specs.declared.kinds.SyntaxKind.TheVariants.{NODE_IF_ELSE, NODE_PAT_BIND, TOKEN_R_BRACK}
 use Rattle.rnix_grammar.specs.{declared.until.Until.TheVariants.{RParen, Colon, Then, Else}, Fault.{ended, bound_twice}, AnnotatedForest.Twice}
-use Rattle.rnix_uniqueness.proofs.{OnlyReading.{done, item, node, wrong, Case, Holds, holds}, ExampleWords.{paren, name, path, select, binary, function}}
+use Rattle.rnix_uniqueness.proofs.{OnlyReading.{done, item, node, wrong, Case}, ExampleWords.{paren, name, path, select, binary, function}}
 use Rattle.rnix_uniqueness.proofs.ExampleWords.{function_of, entry, no_list, unwanteds, extras, within, is_extra, instead, missing}
 
 -- `if[]`: an `if` whose condition is a list, before the end of the text
 abbrev pub condition : Case
-condition = record {
-  text = codes "if[]";
-  right = (node NODE_IF_ELSE (item (no_list done)) done, missing Then ∷ ended ∷ missing Else ∷ ended ∷ []);
-}
-
-pub condition_holds : Holds condition
-unfolding chars encode_utf8 tokens_behind normal_cut cut_at space_len begins_space char_len
-condition_holds = holds condition 60 refl
+condition = record { text = codes "if[]"; right = (node NODE_IF_ELSE (item (no_list done)) done, missing Then ∷ ended ∷ missing Else ∷ ended ∷ []) }
 
 -- `a.b)`: a selection with an extra item after it
 abbrev pub selection : Case
-selection = record {
-  text = codes "a.b)";
-  right = (select name path (extras 1), is_extra 3 4 ∷ []);
-}
-
-pub selection_holds : Holds selection
-unfolding chars encode_utf8 tokens_behind normal_cut cut_at space_len begins_space char_len
-selection_holds = holds selection 60 refl
+selection = record { text = codes "a.b)"; right = (select name path (extras 1), is_extra 3 4 ∷ []) }
 
 -- `x: x+b)`: a function whose body is a sum, with an extra item after it
 abbrev pub body : Case
-body = record {
-  text = codes "x: x+b)";
-  right = (function (binary name name) (extras 1), is_extra 6 7 ∷ []);
-}
-
-pub body_holds : Holds body
-unfolding chars encode_utf8 tokens_behind normal_cut cut_at space_len begins_space char_len
-body_holds = holds body 60 refl
+body = record { text = codes "x: x+b)"; right = (function (binary name name) (extras 1), is_extra 6 7 ∷ []) }
 
 -- `(a`: a name in a parenthesis
 abbrev pub shallow : Case
-shallow = record {
-  text = codes "(a";
-  right = (paren (name done) done, missing RParen ∷ []);
-}
-
-pub shallow_holds : Holds shallow
-unfolding chars encode_utf8 tokens_behind normal_cut cut_at space_len begins_space char_len
-shallow_holds = holds shallow 60 refl
+shallow = record { text = codes "(a"; right = (paren (name done) done, missing RParen ∷ []) }
 
 -- `{a,b}:a)`: a function of a pattern with two entries, with an extra item after it
 abbrev pub formals : Case
-formals = record {
-  text = codes "{a,b}:a)";
-  right = (function_of (item (entry (item (entry (item done))))) (item (name done)) (extras 1), is_extra 7 8 ∷ []);
-}
-
-pub formals_holds : Holds formals
-unfolding chars encode_utf8 tokens_behind normal_cut cut_at space_len begins_space char_len
-formals_holds = holds formals 60 refl
+formals = record { text = codes "{a,b}:a)"; right = (function_of (item (entry (item (entry (item done))))) (item (name done)) (extras 1), is_extra 7 8 ∷ []) }
 
 -- `a @ { } @ b`: a function of a pattern with a second name
 abbrev pub second_name : Case
-second_name = record {
-  text = codes "a @ { } @ b";
-  right = (
-    function_of (node NODE_PAT_BIND (name (item done)) (item (item (wrong Twice (item (name done)) done)))) done done,
-    bound_twice (within 8 11) ∷ missing Colon ∷ ended ∷ [],
-  );
-}
-
-pub second_name_holds : Holds second_name
-unfolding chars encode_utf8 tokens_behind normal_cut cut_at space_len begins_space char_len
-second_name_holds = holds second_name 60 refl
+second_name = record { text = codes "a @ { } @ b"; right = (function_of (node NODE_PAT_BIND (name (item done)) (item (item (wrong Twice (item (name done)) done)))) done done, bound_twice (within 8 11) ∷ missing Colon ∷ ended ∷ []) }
 
 -- `[])`: a list with an extra item after it
 abbrev pub closed_list : Case
-closed_list = record {
-  text = codes "[])";
-  right = (no_list (extras 1), is_extra 2 3 ∷ []);
-}
-
-pub closed_list_holds : Holds closed_list
-unfolding chars encode_utf8 tokens_behind normal_cut cut_at space_len begins_space char_len
-closed_list_holds = holds closed_list 60 refl
+closed_list = record { text = codes "[])"; right = (no_list (extras 1), is_extra 2 3 ∷ []) }
 
 -- `(a]])`: one run of unwanted items before the parenthesis that closes
 abbrev pub whole_run : Case
-whole_run = record {
-  text = codes "(a]])";
-  right = (paren (name (unwanteds RParen 2 (item done))) done, instead RParen TOKEN_R_BRACK 2 4 ∷ []);
-}
-
-pub whole_run_holds : Holds whole_run
-unfolding chars encode_utf8 tokens_behind normal_cut cut_at space_len begins_space char_len
-whole_run_holds = holds whole_run 60 refl
+whole_run = record { text = codes "(a]])"; right = (paren (name (unwanteds RParen 2 (item done))) done, instead RParen TOKEN_R_BRACK 2 4 ∷ []) }
 
 -- ` a)`: white space before a name
 abbrev pub space_first : Case
 space_first = record { text = codes " a)"; right = (name (extras 1), is_extra 2 3 ∷ []) }
 
-pub space_first_holds : Holds space_first
-unfolding chars encode_utf8 tokens_behind normal_cut cut_at space_len begins_space char_len
-space_first_holds = holds space_first 60 refl
-
 -- `a )`: white space before an extra item
 abbrev pub space_between : Case
 space_between = record { text = codes "a )"; right = (name (extras 1), is_extra 2 3 ∷ []) }
 
-pub space_between_holds : Holds space_between
-unfolding chars encode_utf8 tokens_behind normal_cut cut_at space_len begins_space char_len
-space_between_holds = holds space_between 60 refl
-
 -- `a) `: white space after an extra item
 abbrev pub space_last : Case
 space_last = record { text = codes "a) "; right = (name (extras 1), is_extra 1 2 ∷ []) }
-
-pub space_last_holds : Holds space_last
-unfolding chars encode_utf8 tokens_behind normal_cut cut_at space_len begins_space char_len
-space_last_holds = holds space_last 60 refl

@@ -79,9 +79,11 @@ same ts f g n es fs r e w =
     let h = ended_once ts f n es (ended_with g k fs) r (subst (λ (z : List Token). Runs false (begins z) (ended_with g k fs)) e (reads_runs g fs w)) refl in
     (sym h.0, sym h.1)
 
--- it holds of a text if so many steps make its reading
-pub holds : (c : Case) (n : ℕ) → steps n (begins (items_of c)) ≡ end_with (items_of c) c.right → Holds c
-holds c n e f faults h w = same (items_of c) (trees_in c.right (items_of c)) f (end_from 0 (items_of c)) c.right.1 faults runs h w
-  where
-    runs : Runs false (begins (items_of c)) (end_with (items_of c) c.right)
-    runs = subst (Runs false (begins (items_of c))) e (steps_run n (begins (items_of c)))
+-- the steps make its reading of a text, of which each of the examples needs fewer
+abbrev pub IsMade : Case → Type 0
+IsMade c = steps 60 (begins (items_of c)) ≡ end_with (items_of c) c.right
+
+-- so the text is read so
+pub holds : (c : Case) → IsMade c → Holds c
+holds c e f faults h w =
+    same (items_of c) (trees_in c.right (items_of c)) f (end_from 0 (items_of c)) c.right.1 faults (subst (Runs false (begins (items_of c))) e (steps_run 60 (begins (items_of c)))) h w
