@@ -52,14 +52,11 @@ told_passes test TOKEN_CUR_POS text h = h
 told_passes test _ text h = h
 
 leaf_child : (test : SyntaxKind → Bool) (q : RowState) (k : SyntaxKind) → next_passes test q ≡ true → live (advance q k) ≡ true → is_node k ≡ false → leaf_passes test k ≡ true
-leaf_child test q k h l n =
-    sym (ap (λ w. if w then node_passes test k else leaf_passes test k) n)
+leaf_child test q k h l n = sym (ap (λ w. if w then node_passes test k else leaf_passes test k) n)
     ∙ implied (λ i. live (advance q i)) (λ i. if is_node i then node_passes test i else leaf_passes test i) h k l
 
 node_child : (test : SyntaxKind → Bool) (q : RowState) (k i : SyntaxKind) → next_passes test q ≡ true → live (advance q k) ≡ true → is_node k ≡ true → may_begin k i ≡ true → test i ≡ true
-node_child test q k i h l n b =
-    implied (may_begin k) test
-    (sym (ap (λ w. if w then node_passes test k else leaf_passes test k) n)
+node_child test q k i h l n b = implied (may_begin k) test (sym (ap (λ w. if w then node_passes test k else leaf_passes test k) n)
     ∙ implied (λ j. live (advance q j)) (λ j. if is_node j then node_passes test j else leaf_passes test j) h k l) i b
 
 -- a row whose first token passes a test
@@ -95,8 +92,7 @@ node_begins (fault n c f) j h v = absurd v
 pub next_at : (test : Option SyntaxKind → Bool) (q : RowState) → next_passes (λ i. test (Some i)) q ≡ true → (f : AnnotatedForest) (us : List Token) → is_strict q (forget f) ≡ true → AreUntold f
     → (whole q ≡ true → test (head_kind us) ≡ true) → test (head_kind (tokens_in f ++ us)) ≡ true
 next_at test q n blank us h v w = w h
-next_at test q n (token i t f) us h v w =
-    ap (λ k. test (Some k)) v.1
+next_at test q n (token i t f) us h v w = ap (λ k. test (Some k)) v.1
     ∙ told_passes (λ k. test (Some k)) i t.text (leaf_child (λ k. test (Some k)) q i n (and_parts (live (advance q i)) (is_strict (advance q i) (forget f)) h).0 v.0)
 next_at test q n (branch k c f) us h v w =
     let m : Parts q k (forget c) (forget f) = parts q k (forget c) (forget f) h in

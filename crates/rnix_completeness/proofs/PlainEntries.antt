@@ -76,8 +76,7 @@ named_first j n o (branch i c f) b h v e = by (o i (strict_node i c v.0 m.inner)
     m = parts (start j) i (forget c) (forget f) h
 
     by : i ≡ NODE_IDENT → IsNamed (advance (start j) NODE_IDENT) (branch i c f)
-    by s =
-        read (only_ident c (subst (λ (z : SyntaxKind). is_strict (start z) (forget c) ≡ true) s m.inner) v.0
+    by s = read (only_ident c (subst (λ (z : SyntaxKind). is_strict (start z) (forget c) ≡ true) s m.inner) v.0
         (subst (λ (z : SyntaxKind). (if is_or_name z (forget c) then false else true) ≡ true) s e))
       where
         read : IsIdent c → IsNamed (advance (start j) NODE_IDENT) (branch i c f)

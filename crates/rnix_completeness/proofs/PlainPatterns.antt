@@ -36,8 +36,7 @@ end_opens (fault n c f) vs h v e = absurd v
 
 entry_opens : (c f : AnnotatedForest) (vs : List Token) → IsNamed (At p.EntryMore) c → is_strict (At (p.PatternAfter false)) (forget f) ≡ true → AreUntold f
     → opens_pattern (tokens_in (branch NODE_PAT_ENTRY c f) ++ vs) ≡ true
-entry_opens c f vs w h v =
-    ap (λ z. opens_pattern (tokens_in (branch NODE_PAT_ENTRY z f) ++ vs)) w.is
+entry_opens c f vs w h v = ap (λ z. opens_pattern (tokens_in (branch NODE_PAT_ENTRY z f) ++ vs)) w.is
     ∙ ap (λ z. is_pattern (Some w.name.kind) (head_kind z)) (append_assoc (tokens_in w.more) (tokens_in f) vs)
     ∙ ap (λ z. is_pattern (Some z) (head_kind (tokens_in w.more ++ (tokens_in f ++ vs)))) w.kind
     ∙ next_at (λ o. is_pattern (Some TOKEN_IDENT) o) (At p.EntryMore) refl w.more (tokens_in f ++ vs) w.strict w.spelled
@@ -48,16 +47,14 @@ pub pattern_opens : (c : AnnotatedForest) (vs : List Token) → is_strict (At (p
     → opens_pattern (tokens_in c ++ vs) ≡ true
 pattern_opens blank vs h v e = absurd (true_is_not_false (sym h))
 pattern_opens (token TOKEN_R_BRACE t f) vs h v e = ap (λ z. is_pattern (Some z) (head_kind (tokens_in f ++ vs))) v.1 ∙ end_opens f vs h v.2 e
-pattern_opens (token TOKEN_ELLIPSIS t f) vs h v e =
-    ap (λ z. is_pattern (Some z) (head_kind (tokens_in f ++ vs))) v.1
+pattern_opens (token TOKEN_ELLIPSIS t f) vs h v e = ap (λ z. is_pattern (Some z) (head_kind (tokens_in f ++ vs))) v.1
     ∙ next_at (λ o. is_pattern (Some TOKEN_ELLIPSIS) o) (At (p.PatternClose false)) refl f vs h v.2 (λ m. absurd (true_is_not_false (sym m)))
 pattern_opens (token NODE_PAT_ENTRY t f) vs h v e = absurd (true_is_not_false v.0)
 pattern_opens (token _ t f) vs h v e = absurd (true_is_not_false (sym h))
 pattern_opens (branch k c f) vs h v e =
     let m : Parts (At (p.PatternStart false)) k (forget c) (forget f) = parts (At (p.PatternStart false)) k (forget c) (forget f) h in
     let e = only_both (λ i. live (advance (At (p.PatternStart false)) i)) is_node NODE_PAT_ENTRY refl k m.live (strict_node k c v.0 m.inner) in
-    subst (λ z. opens_pattern (tokens_in (branch z c f) ++ vs) ≡ true) (sym e)
-    (entry_opens c f vs
+    subst (λ z. opens_pattern (tokens_in (branch z c f) ++ vs) ≡ true) (sym e) (entry_opens c f vs
     (named_row NODE_PAT_ENTRY refl (only _ NODE_IDENT refl) c (subst (λ z. is_strict (start z) (forget c) ≡ true) e m.inner) v.0 (subst (λ z. is_grouped z (forget c) ≡ true) e m.grouped))
     (subst (λ z. is_strict (advance (At (p.PatternStart false)) z) (forget f) ≡ true) e m.more) v.1)
 pattern_opens (fault n c f) vs h v e = absurd v

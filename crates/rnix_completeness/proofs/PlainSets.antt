@@ -42,12 +42,10 @@ abbrev is_no_tail : Option SyntaxKind → Bool
 is_no_tail o = if is_pattern (Some TOKEN_IDENT) o then false else true
 
 name_opens : (c : AnnotatedForest) (vs : List Token) → IsName c → is_no_tail (head_kind vs) ≡ true → opens_pattern (tokens_in c ++ vs) ≡ false
-name_opens c vs w h =
-    ap (λ z. opens_pattern (tokens_in z ++ vs)) w.is
-    ∙ elim w.kind as (λ v. is_pattern (Some w.token.kind) (head_kind vs) ≡ false) [
-      | inl e ↦ ap (λ z. is_pattern (Some z) (head_kind vs)) e ∙ not_if (is_pattern (Some TOKEN_IDENT) (head_kind vs)) h
-      | inr e ↦ ap (λ z. is_pattern (Some z) (head_kind vs)) e ∙ no_formal TOKEN_OR (head_kind vs) refl
-    ]
+name_opens c vs w h = ap (λ z. opens_pattern (tokens_in z ++ vs)) w.is ∙ elim w.kind as (λ v. is_pattern (Some w.token.kind) (head_kind vs) ≡ false) [
+  | inl e ↦ ap (λ z. is_pattern (Some z) (head_kind vs)) e ∙ not_if (is_pattern (Some TOKEN_IDENT) (head_kind vs)) h
+  | inr e ↦ ap (λ z. is_pattern (Some z) (head_kind vs)) e ∙ no_formal TOKEN_OR (head_kind vs) refl
+]
 
 attr_opens : (j : SyntaxKind) (c : AnnotatedForest) (vs : List Token) → is_attr j ≡ true → is_strict (start j) (forget c) ≡ true → AreUntold c → is_no_tail (head_kind vs) ≡ true
     → opens_pattern (tokens_in c ++ vs) ≡ false
@@ -63,8 +61,7 @@ path_opens (token i t f) vs h v e =
 path_opens (branch j c f) vs h v e =
     let q : Parts (At p.AttrpathStart) j (forget c) (forget f) = parts (At p.AttrpathStart) j (forget c) (forget f) h in
     let m : is_attr j ≡ true = live_to (is_attr j) (At p.AttrpathMore) q.live in
-    ap opens_pattern (append_assoc (tokens_in c) (tokens_in f) vs)
-    ∙ attr_opens j c (tokens_in f ++ vs) m q.inner v.0
+    ap opens_pattern (append_assoc (tokens_in c) (tokens_in f) vs) ∙ attr_opens j c (tokens_in f ++ vs) m q.inner v.0
     (next_at is_no_tail (At p.AttrpathMore) refl f vs (subst (λ (z : RowState). is_strict z (forget f) ≡ true) (ap (λ z. to z (At p.AttrpathMore)) m) q.more) v.1 (λ w. e))
 path_opens (fault n c f) vs h v e = absurd v
 
@@ -87,8 +84,7 @@ set_opens (token TOKEN_R_BRACE t f) us h v l =
 set_opens (token _ t f) us h v l = absurd (not_alone refl v.0 h)
 set_opens (branch NODE_INHERIT c f) us h v l =
     ap opens_pattern (append_assoc (tokens_in c) (tokens_in f) us) ∙ first_opens NODE_INHERIT c (tokens_in f ++ us) refl (parts (At p.SetInside) NODE_INHERIT (forget c) (forget f) h).inner v.0
-set_opens (branch NODE_ATTRPATH_VALUE c f) us h v l =
-    ap opens_pattern (append_assoc (tokens_in c) (tokens_in f) us)
+set_opens (branch NODE_ATTRPATH_VALUE c f) us h v l = ap opens_pattern (append_assoc (tokens_in c) (tokens_in f) us)
     ∙ value_opens c (tokens_in f ++ us) (parts (At p.SetInside) NODE_ATTRPATH_VALUE (forget c) (forget f) h).inner v.0
 set_opens (branch TOKEN_R_BRACE c f) us h v l = absurd (not_both TOKEN_R_BRACE refl (strict_node TOKEN_R_BRACE c v.0 (parts (At p.SetInside) TOKEN_R_BRACE (forget c) (forget f) h).inner))
 set_opens (branch _ c f) us h v l = absurd (true_is_not_false (sym h))

@@ -79,11 +79,9 @@ abbrev is_told_by : SyntaxKind → SyntaxKind → Bool
 is_told_by k i = is_expression k && ((if is_special k then false else true) && (live (advance (start k) i) && (if is_node i then false else true)))
 
 token_tells : (w : Bool) (k i : SyntaxKind) (t : Token) (level : ℕ) (ts : List Token) → is_operand k ≡ w → (w ≡ false → level ≡ 0) → is_told_by k i ≡ true → t.kind ≡ i → Tells k level t ts
-token_tells true k i t level ts o z h e =
-    tells_by k level t ts i e
+token_tells true k i t level ts o z h e = tells_by k level t ts i e
     (same _ k (whenever_two (λ j u. is_operand j && is_told_by j u) (λ j u. nat_eq (place_of (kind_of (begin_of level u t.text (head_kind ts) (second_kind ts)))) (place_of j)) refl k i (both_true o h)))
-token_tells false k i t level ts o z h e =
-    subst (λ n. Tells k n t ts) (sym (z refl))
+token_tells false k i t level ts o z h e = subst (λ n. Tells k n t ts) (sym (z refl))
     (tells_by k 0 t ts i e (same _ k (whenever_two is_told_by (λ j u. nat_eq (place_of (kind_of (begin_of 0 u t.text (head_kind ts) (second_kind ts)))) (place_of j)) refl k i h)))
 
 -- an expression that is no operand stands where any may
@@ -154,7 +152,6 @@ led_begun k (branch i c d) f level us w s h v n =
     by (lambda_alone k i (standing level k (forget (branch i c d)) s).expression w (strict_node i c v.0 m.inner) m.live)
   where
     by : k ≡ NODE_LAMBDA → IsBegun level (branch k (branch i c d) f) (tokens_in (branch i c d) ++ us)
-    by e =
-        subst (λ z. IsBegun level (branch z (branch i c d) f) (tokens_in (branch i c d) ++ us)) (sym e)
+    by e = subst (λ z. IsBegun level (branch z (branch i c d) f) (tokens_in (branch i c d) ++ us)) (sym e)
         (lambda_begun (branch i c d) f level us (subst (λ z. stands_at level z (forget (branch i c d)) ≡ true) e s) (subst (λ z. is_strict (start z) (forget (branch i c d)) ≡ true) e h) v)
 led_begun k (fault i c d) f level us w s h v n = absurd v

@@ -125,11 +125,9 @@ dynamic_next (fault n b f) us h v l = absurd v
 -- what may follow an item of a series stands behind it
 series_next : (x : Place) (k : SyntaxKind) (level : ℕ) (f : AnnotatedForest) (us : List Token) → is_series (symbol_at x) ≡ true → level_in (symbol_at x) ≡ Some level → is_node k ≡ true → live (advance (At x) k) ≡ true
     → is_strict (advance (At x) k) (forget f) ≡ true → AreUntold f → (in_dynamic (At x) ≡ true → node_count (forget f) ≤ 0) → loose (below level) (head_kind (tokens_in f ++ us)) ≡ true
-series_next p.ListInside k level f us s e n l h v o =
-    subst (λ m. loose (below m) (head_kind (tokens_in f ++ us)) ≡ true) (some_same 16 level e)
+series_next p.ListInside k level f us s e n l h v o = subst (λ m. loose (below m) (head_kind (tokens_in f ++ us)) ≡ true) (some_same 16 level e)
     (list_next f us (subst (λ q. is_strict q (forget f) ≡ true) (series_on 16 c.RBrack p.ListInside k n l).0 h) v)
-series_next p.DynamicInside k level f us s e n l h v o =
-    subst (λ m. loose (below m) (head_kind (tokens_in f ++ us)) ≡ true) (some_same 0 level e)
+series_next p.DynamicInside k level f us s e n l h v o = subst (λ m. loose (below m) (head_kind (tokens_in f ++ us)) ≡ true) (some_same 0 level e)
     (dynamic_next f us (subst (λ q. is_strict q (forget f) ≡ true) (series_on 0 c.InterpolEnd p.DynamicInside k n l).0 h) v (o refl))
 series_next _ k level f us s e n l h v o = absurd (true_is_not_false (sym s))
 
@@ -241,8 +239,7 @@ wanted {q = At x} {us = us} k c f w v l level e = record {
 
     by : (o : Bool) → is_series (symbol_at x) ≡ o → loose (below level) (head_kind (tokens_in f ++ us)) ≡ true
     by true s = series_next x k level f us s e v l m.more w.spelled.1 (λ r. omega (arith, w.lone r))
-    by false s =
-        subst (λ o. heeds (ask_behind o k) (head_kind (tokens_in f ++ us)) ≡ true) e
+    by false s = subst (λ o. heeds (ask_behind o k) (head_kind (tokens_in f ++ us)) ≡ true) e
         (behind (ask x) (ask_behind (level_in (symbol_at x)) k) (advance (At x) k) f us (calm_place x k s v l) m.more w.spelled.1 w.heeds)
 wanted {q = BeforeArgument} {us = us} k c f w v l level e = by (is_or_row (one_branch k c)) refl e
   where
@@ -254,12 +251,10 @@ wanted {q = BeforeArgument} {us = us} k c f w v l level e = by (is_or_row (one_b
 
     by : (o : Bool) → is_or_row (one_branch k c) ≡ o → (if o then None else Some 16) ≡ Some level → Wanted level k c (head_kind (tokens_in f ++ us))
     by true o r = absurd (cc)
-    by false o r =
-        subst (λ i. Wanted i k c (head_kind (tokens_in f ++ us))) (some_same 16 level r)
-        (record {
-          stands = argument_stands k (forget c) h m.may (or_same k c blank w.spelled.0 m.inner ∙ o);
-          next = subst (λ z. loose 15 (head_kind (tokens_in z ++ us)) ≡ true) (sym (past_blank f (subst (λ z. is_strict z (forget f) ≡ true) (to_live (is_simple k) (At p.Past) l) m.more) w.spelled.1)) w.heeds;
-        })
+    by false o r = subst (λ i. Wanted i k c (head_kind (tokens_in f ++ us))) (some_same 16 level r) (record {
+      stands = argument_stands k (forget c) h m.may (or_same k c blank w.spelled.0 m.inner ∙ o);
+      next = subst (λ z. loose 15 (head_kind (tokens_in z ++ us)) ≡ true) (sym (past_blank f (subst (λ z. is_strict z (forget f) ≡ true) (to_live (is_simple k) (At p.Past) l) m.more) w.spelled.1)) w.heeds;
+    })
 wanted k c f w v l level e = absurd (cc)
 
 -- what an operand is before may follow its row
@@ -281,9 +276,7 @@ calm {q = At x} {us = us} k c f w v l = by (level_in (symbol_at x)) refl
 
     by : (o : Option ℕ) → level_in (symbol_at x) ≡ o → heed (start k) c (head_kind (tokens_in f ++ us)) ≡ true
     by (Some level) e = wanted_calm (wanted k c f w v l level e) w.spelled.0 m.inner
-    by None e =
-        start_heed k c (head_kind (tokens_in f ++ us))
-        (subst (λ o. heeds (ask_behind o k) (head_kind (tokens_in f ++ us)) ≡ true) e
+    by None e = start_heed k c (head_kind (tokens_in f ++ us)) (subst (λ o. heeds (ask_behind o k) (head_kind (tokens_in f ++ us)) ≡ true) e
         (behind (ask x) (ask_behind (level_in (symbol_at x)) k) (advance (At x) k) f us (calm_place x k (no_series (symbol_at x) e) v l) m.more w.spelled.1 w.heeds))
 calm {q = BeforeArgument} {us = us} k c f w v l = by (is_or_row (one_branch k c)) refl
   where
@@ -298,7 +291,6 @@ calm {q = Start j} {us = us} k c f w v l = by (is_wrapper j) refl
   where
     by : (o : Bool) → is_wrapper j ≡ o → heed (start k) c (head_kind (tokens_in f ++ us)) ≡ true
     by true o = let r = wrapped_next j k c f us o w.spelled w.grouped.1 w.strict in calm_start k c (head_kind (tokens_in f ++ us)) r.0 r.1
-    by false o =
-        start_heed k c (head_kind (tokens_in f ++ us))
+    by false o = start_heed k c (head_kind (tokens_in f ++ us))
         (behind any (ask_behind None k) (first j k) f us (calm_first j k o v l) (parts (Start j) k (forget c) (forget f) w.strict).more w.spelled.1 refl)
 calm {q = q} k c f w v l = absurd (not_both k (tokens_alone (λ i. live (advance q i)) refl k l) v)

@@ -132,9 +132,9 @@ start_new NODE_PATTERN c v h e = entries_new [] blank c (λ x n. refl) v h
 start_new _ c v h e = absurd (true_is_not_false (sym e))
 
 start_grouped : (k : SyntaxKind) (c : AnnotatedForest) → is_grouped k (forget c) ≡ true → Grouped (start k) blank c
-start_grouped NODE_ROOT c h = tt
-start_grouped NODE_ATTRPATH c h = tt
-start_grouped NODE_ATTRPATH_VALUE c h = tt
+start_grouped NODE_ROOT c h = refl
+start_grouped NODE_ATTRPATH c h = refl
+start_grouped NODE_ATTRPATH_VALUE c h = refl
 start_grouped _ c h = (refl, h)
 
 start_room : (w : Bool) (d m r l : ℕ) → d + max (if w then suc m else m) r ≤ l → (if w then suc d else d) + m ≤ l

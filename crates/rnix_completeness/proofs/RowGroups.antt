@@ -1,21 +1,21 @@
 -- The first tree of a strict operator, call or selection stands before an item that follows it.
 use Rattle.std.{specs.Cmp.Derive.both_true, proofs.Common.{◌≡◌, ℕ, ◌≤◌, Bool, true, false, List, ◌++◌, Some, refl, ap, sym, ◌∙◌, subst, arith, ◌&&◌, ◌||◌}}
-use Rattle.std.proofs.{Common.{if◌then◌else◌, nat_le}, lemmas.Bool.and_parts}
-use Rattle.rnix_kinds.specs.declared.kinds.SyntaxKind.{SyntaxKind, TheVariants.{TOKEN_AT, TOKEN_DOT, TOKEN_IDENT, TOKEN_INVERT, TOKEN_OR, TOKEN_QUESTION}}
-use Rattle.rnix_kinds.specs.declared.kinds.SyntaxKind.TheVariants.{NODE_APPLY, NODE_BIN_OP, NODE_HAS_ATTR, NODE_IDENT, NODE_LAMBDA, NODE_PAT_BIND, NODE_SELECT}
-use Rattle.rnix_kinds.{specs.{declared.kinds.SyntaxKind.TheVariants.NODE_UNARY_OP, SyntaxKind.is_fn_arg}, proofs.AllKinds.implied}
-use Rattle.{rnix_green.specs.Forest.Forest, rnix_grammar.specs.{Levels.{binding_power, left_of, right_of}, TokenKinds.{is_or, is_dot, is_question}}}
-use Rattle.rnix_grammar.specs.AnnotatedForest.{Token, AnnotatedForest, blank, token, branch, fault, ◌⊕◌, one_token, one_branch, tokens_in, head_kind, forget}
-use Rattle.rnix_grammar.specs.Rows.{RowState, Start, BeforeOperator, BeforeDot, BeforeQuestion, BeforeArgument, SecondStart, At, first, advance, is_atom}
-use Rattle.rnix_grammar.specs.{Rows.{is_infix, is_operand, is_questioned, is_simple, live, start, to, fits}, Strict.{is_or_name, is_grouped, is_strict}}
-use Rattle.rnix_grammar.specs.{Strict.{is_strict_atom, first_is_no_or, operator_of, stands_at, prefix_level}, TreeLevels.{operator_in, prefix_in, is_or_row}}
-use Rattle.rnix_grammar.specs.{TreeLevels.{is_or_leaf, calls_or, level_of, row_level, is_atom_row}, Operands.{follows, IsFollowed}, Plain.{is_node, AreUntold}}
-use Rattle.rnix_lemmas.proofs.{Basics.{true_is_not_false, not_if}, EveryKind.{only, whenever_two, tokens_alone}, LevelLemmas.at_most_true, NodeKinds.not_both}
-use Rattle.{rnix_lemmas.proofs.{OpeningRows.{live_to, to_live}, StrictParts.{standing, parts}}, rnix_completeness.proofs.FirstTokens.Begins}
-use Rattle.rnix_completeness.proofs.{PlainNames.{IsName, only_name}, PlainBegins.is_wrapper, RowExpects.{simple_node, is_leaf}}
-use Rattle.rnix_grammar.specs.declared.place.Place.TheVariants as p
-use Rattle.rnix_grammar.specs.Tables as t
+use Rattle.{std.proofs.{Common.{if◌then◌else◌, nat_le}, lemmas.Bool.and_parts}, rnix_kinds.specs.declared.kinds.SyntaxKind.{SyntaxKind, TheVariants.TOKEN_AT}}
+use Rattle.rnix_kinds.specs.declared.kinds.SyntaxKind.TheVariants.{TOKEN_DOT, TOKEN_IDENT, TOKEN_INVERT, TOKEN_OR, TOKEN_QUESTION, NODE_APPLY, NODE_BIN_OP}
+use Rattle.rnix_kinds.specs.declared.kinds.SyntaxKind.TheVariants.{NODE_HAS_ATTR, NODE_IDENT, NODE_LAMBDA, NODE_PAT_BIND, NODE_SELECT, NODE_UNARY_OP}
+use Rattle.{rnix_kinds.{specs.SyntaxKind.is_fn_arg, proofs.AllKinds.implied}, rnix_green.specs.Forest.Forest, rnix_grammar.specs.Levels.binding_power}
+use Rattle.rnix_grammar.specs.{Levels.{left_of, right_of}, TokenKinds.{is_or, is_dot, is_question}, AnnotatedForest.{Token, AnnotatedForest, blank, token}}
+use Rattle.rnix_grammar.specs.{AnnotatedForest.{branch, fault, ◌⊕◌, one_token, one_branch, tokens_in, head_kind, forget}, Rows.{RowState, Start}}
+use Rattle.rnix_grammar.specs.Rows.{BeforeOperator, BeforeDot, BeforeQuestion, BeforeArgument, SecondStart, At, first, advance, is_atom, is_infix, is_operand}
+use Rattle.rnix_grammar.specs.{Rows.{is_questioned, is_simple, live, start, to, fits}, Strict.{is_or_name, is_grouped, is_strict, is_strict_atom}}
+use Rattle.rnix_grammar.specs.{Strict.{first_is_no_or, operator_of, stands_at, prefix_level}, TreeLevels.{operator_in, prefix_in, is_or_row, is_or_leaf}}
+use Rattle.rnix_grammar.specs.{TreeLevels.{calls_or, level_of, row_level, is_atom_row}, Operands.{follows, IsFollowed}, Plain.{is_node, AreUntold}}
+use Rattle.rnix_lemmas.proofs.{Basics.true_is_not_false, EveryKind.{only, whenever_two, tokens_alone}, LevelLemmas.at_most_true, NodeKinds.not_both}
+use Rattle.rnix_lemmas.proofs.{OpeningRows.{live_to, to_live}, StrictParts.{standing, parts}, LaterRowStates.{is_start, go_later}}
+use Rattle.rnix_completeness.proofs.{FirstTokens.Begins, PlainNames.{IsName, only_name}, PlainBegins.is_wrapper, RowExpects.{simple_node, is_leaf}}
 use Rattle.rnix_grammar.specs.Strict as st
+use Rattle.rnix_grammar.specs.Tables as t
+use Rattle.rnix_grammar.specs.declared.place.Place.TheVariants as p
 
 or_kind : (w : Bool) (k : SyntaxKind) → k ≡ (if w then TOKEN_OR else TOKEN_IDENT) → w ≡ is_or k
 or_kind true k e = sym (ap is_or e)
@@ -26,10 +26,8 @@ pub or_same : (j : SyntaxKind) (d f : AnnotatedForest) → AreUntold d → is_st
 or_same NODE_IDENT d f v h = by (only_name d h v)
   where
     by : IsName d → t.is_or (st.only_text (forget d)) ≡ is_or_leaf d
-    by w =
-        ap (λ z. t.is_or (st.only_text (forget z))) w.is
-        ∙ or_kind (t.is_or w.token.text) w.token.kind (subst (λ (z : AnnotatedForest). AreUntold z) w.is v).1
-        ∙ ap is_or_leaf (sym w.is)
+    by w = ap (λ z. t.is_or (st.only_text (forget z))) w.is
+        ∙ or_kind (t.is_or w.token.text) w.token.kind (subst (λ (z : AnnotatedForest). AreUntold z) w.is v).1 ∙ ap is_or_leaf (sym w.is)
 or_same _ d f v h = refl
 
 operator_same : (c : AnnotatedForest) → operator_of (forget c) ≡ operator_in c
@@ -63,17 +61,25 @@ level_more NODE_UNARY_OP c v h = prefix_same c h
 level_more NODE_APPLY c v h = let e = ap {B = ℕ} (λ w. if w then 16 else 15) (calls_same c v h) in omega (arith, e)
 level_more _ c v h = omega arith
 
+-- the trees of a row before a state and behind, where the row does not begin, are grouped
+abbrev is_led : RowState → AnnotatedForest → AnnotatedForest → Bool
+is_led BeforeOperator g (token k t f) = nat_le (left_of k) (row_level g)
+is_led BeforeDot g f = is_atom_row g
+is_led BeforeQuestion g f = nat_le 13 (row_level g)
+is_led BeforeArgument g f = if is_or_row f then is_atom_row g else nat_le 15 (row_level g)
+is_led (At p.BindName) g f = first_is_no_or (forget f)
+is_led (At p.TwiceName) g f = false
+is_led SecondStart g f = false
+is_led q g f = true
+
 -- what is known of the trees of a row before a state and behind
 abbrev pub Grouped : RowState → AnnotatedForest → AnnotatedForest → Type 0
 Grouped (Start j) g f = (g ≡ blank) × (is_grouped j (forget f) ≡ true)
-Grouped BeforeOperator g (token k t f) = nat_le (left_of k) (row_level g) ≡ true
-Grouped BeforeDot g f = is_atom_row g ≡ true
-Grouped BeforeQuestion g f = nat_le 13 (row_level g) ≡ true
-Grouped BeforeArgument g f = (if is_or_row f then is_atom_row g else nat_le 15 (row_level g)) ≡ true
-Grouped (At p.BindName) g f = first_is_no_or (forget f) ≡ true
-Grouped (At p.TwiceName) g f = ⊥
-Grouped SecondStart g f = ⊥
-Grouped q g f = Unit {0}
+Grouped q g f = is_led q g f ≡ true
+
+later : (q : RowState) (g f : AnnotatedForest) → is_start q ≡ false → is_led q g f ≡ true → Grouped q g f
+later (Start j) g f n h = absurd (true_is_not_false n)
+later _ g f n h = h
 
 tight : (m : ℕ) (k : SyntaxKind) (c : AnnotatedForest) → stands_at m k (forget c) ≡ true → AreUntold c → is_strict (start k) (forget c) ≡ true → nat_le m (level_of k c) ≡ true
 tight m k c s v h = let l = level_more k c v h in let o = (standing m k (forget c) s).low in at_most_true m (level_of k c) (omega (arith, l, o))
@@ -84,10 +90,10 @@ atom_is NODE_LAMBDA c h = refl
 atom_is k c h = (and_parts (is_atom k) (st.is_named k c) h).0
 
 binary_grouped : (k : SyntaxKind) (c f : AnnotatedForest) → is_grouped NODE_BIN_OP (forget (branch k c f)) ≡ true → AreUntold c → is_strict (start k) (forget c) ≡ true → Grouped BeforeOperator (one_branch k c) f
-binary_grouped k c blank s v h = tt
+binary_grouped k c blank s v h = refl
 binary_grouped k c (token j t f) s v h = tight (left_of j) k c s v h
-binary_grouped k c (branch j d f) s v h = tt
-binary_grouped k c (fault j d f) s v h = tt
+binary_grouped k c (branch j d f) s v h = refl
+binary_grouped k c (fault j d f) s v h = refl
 
 apply_grouped : (k : SyntaxKind) (c f : AnnotatedForest) → is_grouped NODE_APPLY (forget (branch k c f)) ≡ true → AreUntold (branch k c f) → is_strict (start NODE_APPLY) (forget (branch k c f)) ≡ true
     → Grouped BeforeArgument (one_branch k c) f
@@ -99,41 +105,17 @@ apply_grouped k c f s v h = by (st.calls_or (forget (branch k c f))) (is_or_row 
     by true false e s = absurd (true_is_not_false e)
     by false true e s = absurd (true_is_not_false (sym e))
 
--- the states at which more is known of a row
-abbrev is_grouping : RowState → Bool
-is_grouping (Start j) = true
-is_grouping BeforeOperator = true
-is_grouping BeforeDot = true
-is_grouping BeforeQuestion = true
-is_grouping BeforeArgument = true
-is_grouping (At p.BindName) = true
-is_grouping (At p.TwiceName) = true
-is_grouping SecondStart = true
-is_grouping q = false
-
-plain : (q : RowState) (g f : AnnotatedForest) → is_grouping q ≡ false → Grouped q g f
-plain (Start j) g f h = absurd (true_is_not_false h)
-plain BeforeOperator g f h = absurd (true_is_not_false h)
-plain BeforeDot g f h = absurd (true_is_not_false h)
-plain BeforeQuestion g f h = absurd (true_is_not_false h)
-plain BeforeArgument g f h = absurd (true_is_not_false h)
-plain (At p.BindName) g f h = absurd (true_is_not_false h)
-plain (At p.TwiceName) g f h = absurd (true_is_not_false h)
-plain SecondStart g f h = absurd (true_is_not_false h)
-plain _ g f h = tt
-
 abbrev is_no_bind : SyntaxKind → Bool
 is_no_bind NODE_PAT_BIND = false
 is_no_bind kind = true
 
-closed_plain : (j k : SyntaxKind) → is_wrapper j ≡ false → is_node k ≡ true → is_grouping (first j k) ≡ false
-closed_plain j k o n = not_if (is_grouping (first j k)) (whenever_two (λ i u. (if is_wrapper i then false else true) && is_node u) (λ i u. if is_grouping (first i u) then false else true) refl j k
-    (both_true (ap (λ w. if w then false else true) o) n))
+closed_led : (j k : SyntaxKind) (g f : AnnotatedForest) → is_wrapper j ≡ false → is_node k ≡ true → Grouped (first j k) g f
+closed_led j k g f o n = later (first j k) g f (go_later (Start j) k)
+    (whenever_two (λ i u. (if is_wrapper i then false else true) && is_node u) (λ i u. is_led (first i u) g f) refl j k (both_true (ap (λ w. if w then false else true) o) n))
 
-leaf_plain : (j k : SyntaxKind) → is_no_bind j ≡ true → is_leaf k ≡ true → live (first j k) ≡ true → is_grouping (first j k) ≡ false
-leaf_plain j k o n l =
-    not_if (is_grouping (first j k))
-    (whenever_two (λ i u. is_no_bind i && (is_leaf u && live (first i u))) (λ i u. if is_grouping (first i u) then false else true) refl j k (both_true o (both_true n l)))
+leaf_led : (j k : SyntaxKind) (g f : AnnotatedForest) → is_no_bind j ≡ true → is_leaf k ≡ true → live (first j k) ≡ true → Grouped (first j k) g f
+leaf_led j k g f o n l = later (first j k) g f (go_later (Start j) k)
+    (whenever_two (λ i u. is_no_bind i && (is_leaf u && live (first i u))) (λ i u. is_led (first i u) g f) refl j k (both_true o (both_true n l)))
 
 -- what is known behind the first tree, if it is a node
 first_grouped : (j k : SyntaxKind) (c f : AnnotatedForest) → is_grouped j (forget (branch k c f)) ≡ true → AreUntold (branch k c f) → is_strict (Start j) (forget (branch k c f)) ≡ true → is_node k ≡ true
@@ -142,22 +124,22 @@ first_grouped NODE_BIN_OP k c f s v h n = let m = parts (start NODE_BIN_OP) k (f
 first_grouped NODE_HAS_ATTR k c f s v h n = let m = parts (start NODE_HAS_ATTR) k (forget c) (forget f) h in subst (λ z. Grouped z (one_branch k c) f) (sym (to_live (is_questioned k) BeforeQuestion m.live)) (tight 13 k c s v.0 m.inner)
 first_grouped NODE_SELECT k c f s v h n = let m = parts (start NODE_SELECT) k (forget c) (forget f) h in subst (λ z. Grouped z (one_branch k c) f) (sym (to_live (is_atom k) BeforeDot m.live)) (atom_is k (forget c) s)
 first_grouped NODE_APPLY k c f s v h n = let m = parts (start NODE_APPLY) k (forget c) (forget f) h in subst (λ z. Grouped z (one_branch k c) f) (sym (to_live (is_simple k) BeforeArgument m.live)) (apply_grouped k c f s v h)
-first_grouped j k c f s v h n = plain (first j k) (one_branch k c) f (closed_plain j k refl n)
+first_grouped j k c f s v h n = closed_led j k (one_branch k c) f refl n
 
 -- and if it is a token
 token_grouped : (j k : SyntaxKind) (t : Token) (f : AnnotatedForest) → is_grouped j (forget (token k t f)) ≡ true → is_node k ≡ false → live (first j k) ≡ true → Grouped (first j k) (one_token k t) f
 token_grouped NODE_PAT_BIND TOKEN_AT t f s n l = s
 token_grouped NODE_PAT_BIND NODE_IDENT t f s n l = absurd (true_is_not_false n)
 token_grouped NODE_PAT_BIND _ t f s n l = absurd (true_is_not_false (sym l))
-token_grouped j k t f s n l = plain (first j k) (one_token k t) f (leaf_plain j k refl (ap (λ w. if w then false else true) n) l)
+token_grouped j k t f s n l = leaf_led j k (one_token k t) f refl (ap (λ w. if w then false else true) n) l
 
 -- behind each other state nothing more is known
 rest_grouped : (q : RowState) (k : SyntaxKind) (g h e : AnnotatedForest) (z : AnnotatedForest) → live (advance q k) ≡ true → Grouped q g e → ((j : SyntaxKind) → q ≡ Start j → Grouped (advance q k) h z) → Grouped (advance q k) h z
 rest_grouped (Start j) k g h e z l u s = s j refl
-rest_grouped SecondStart k g h e z l u s = absurd u
-rest_grouped (At (p.Right level)) k g h e z l u s = subst (λ v. Grouped v h z) (sym (to_live (fits level k) (At (p.Operated level)) l)) tt
+rest_grouped SecondStart k g h e z l u s = absurd (true_is_not_false (sym u))
+rest_grouped (At (p.Right level)) k g h e z l u s = subst (λ v. Grouped v h z) (sym (to_live (fits level k) (At (p.Operated level)) l)) refl
 rest_grouped (At (p.PatternEnd true)) k g h e z l u s = absurd (true_is_not_false (sym l))
-rest_grouped q k g h e z l u s = plain (advance q k) h z (not_if (is_grouping (advance q k)) (implied (λ i. live (advance q i)) (λ i. if is_grouping (advance q i) then false else true) refl k l))
+rest_grouped q k g h e z l u s = later (advance q k) h z (go_later q k) (implied (λ i. live (advance q i)) (λ i. is_led (advance q i) h z) refl k l)
 
 -- what is known of a row stays known behind a node
 pub branch_grouped : (q : RowState) (k : SyntaxKind) (g c f : AnnotatedForest) → Grouped q g (branch k c f) → AreUntold (branch k c f) → is_strict q (forget (branch k c f)) ≡ true → is_node k ≡ true → Grouped (advance q k) (g ⊕ one_branch k c) f

@@ -57,8 +57,7 @@ no_closer c.In k i h = not_if (closes c.In i) (whenever_two may_begin (λ j u. i
 no_closer closer k i h = not_if (closes closer i) (whenever_two may_begin (λ j u. if closes closer u then false else true) refl k i h)
 
 entry_own : (closer : Closer) (z : Place) (k i : SyntaxKind) → is_entry k ≡ true → may_begin k i ≡ true → (closes closer i || is_inherit_token i) ≡ stands_expected_in (s.Entries closer z) k
-entry_own closer z k i e b =
-    ap (λ w. w || is_inherit_token i) (no_closer closer k i b)
+entry_own closer z k i e b = ap (λ w. w || is_inherit_token i) (no_closer closer k i b)
     ∙ alike_so (is_inherit_token i) (stands_expected_in (s.Entries closer z) k)
     (whenever_two (λ j u. is_entry j && may_begin j u) (λ j u. alike (is_inherit_token u) (stands_expected_in (s.Entries closer z) j)) refl k i (both_true e b))
 
@@ -80,7 +79,7 @@ entry_stands symbol n k c vs e h u g o =
 
 named_at : (x z : Place) (g c f : AnnotatedForest) → symbol_at x ≡ s.Name z → Grouped (At x) g (branch NODE_IDENT c f) → first_is_no_or (forget (branch NODE_IDENT c f)) ≡ true
 named_at p.BindName z g c f e u = u
-named_at p.TwiceName z g c f e u = absurd u
+named_at p.TwiceName z g c f e u = absurd (true_is_not_false (sym u))
 named_at _ z g c f e u = absurd (cc)
 
 symbol_stands : {p : SyntaxKind} {x : Place} {d n : ℕ} {g : AnnotatedForest} {us : List Token} (symbol : Symbol) (k : SyntaxKind) (c f : AnnotatedForest) → Fit p (At x) d n g (branch k c f) us → symbol_at x ≡ symbol → is_node k ≡ true
@@ -94,8 +93,7 @@ symbol_stands {x = x} {n = n} {us = us} (s.Entries closer behind) k c f w e v l 
     begins_own (s.Entries closer behind) n c (tokens_in f ++ us) (may_begin k) (stands_expected_in (s.Entries closer behind) k) (node_begins c k m.inner w.spelled.0)
     (λ i b. entry_own closer behind k i (entry_kind closer behind x k v l) b)
 symbol_stands {x = x} {n = n} {us = us} s.MorePieces k c f w e v l m =
-    begins_own s.MorePieces n c (tokens_in f ++ us) (may_begin k) true (node_begins c k m.inner w.spelled.0)
-    (λ i b. ap (λ o. o && is_piece_start i)
+    begins_own s.MorePieces n c (tokens_in f ++ us) (may_begin k) true (node_begins c k m.inner w.spelled.0) (λ i b. ap (λ o. o && is_piece_start i)
     (and_parts (touches n (tokens_in c ++ (tokens_in f ++ us))) (joins (end_from n (tokens_in c)) f us) (joins_branch x n k c f us (w.joined (ap (λ y. in_path (At y)) (path_more x e))))).0
     ∙ whenever_two (λ j u. is_node j && (live (advance_symbol s.MorePieces x j) && may_begin j u)) (λ j u. is_piece_start u) refl k i (both_true v (both_true l b)))
 symbol_stands {x = x} {n = n} {g = g} {us = us} (s.Name behind) NODE_IDENT c f w e v l m =

@@ -29,8 +29,7 @@ path_over : (n : ℕ) (us : List Token) (q : RowState) → (in_path q ≡ true �
 path_over n us q h e = not_if (goes_on_path n us) (subst (λ z. in_path z ≡ true → joins_on z n blank us ≡ true) e h refl)
 
 path_near : (n : ℕ) (us : List Token) (q : RowState) (k : SyntaxKind) (t : Token) (f : AnnotatedForest) → (in_path q ≡ true → joins_on q n (token k t f) us ≡ true) → q ≡ At p.PathMore → nat_eq t.start n ≡ true
-path_near n us q k t f h e =
-    (and_parts (nat_eq t.start n) (joins t.end f us) (subst (λ z. in_path z ≡ true → joins_on z n (token k t f) us ≡ true) e h refl)).0
+path_near n us q k t f h e = (and_parts (nat_eq t.start n) (joins t.end f us) (subst (λ z. in_path z ≡ true → joins_on z n (token k t f) us ≡ true) e h refl)).0
 
 -- a token, and the rest of a row
 leaf_read : (p : SyntaxKind) (q : RowState) (d n : ℕ) (g : AnnotatedForest) (us : List Token) (k : SyntaxKind) (t : Token) (f : AnnotatedForest) → Fit p q d n g (token k t f) us → live (advance q k) ≡ true
@@ -139,8 +138,7 @@ root_over (fault n c f) v h = absurd v
 
 -- a strict tree, its pieces of paths joined, that nests no deeper than the limit, is a reading of its items, without errors
 pub strict_reads : (f : AnnotatedForest) → is_strict_expression (forget f) ≡ true → AreUntold f → ArePaths f [] → nesting (At p.RootStart) (forget f) ≤ depth_limit → ReadsWhole f []
-strict_reads f h v q room =
-    subst (λ (z : RowState). Reads NODE_ROOT 0 0 (At p.RootStart) z blank [] f []) (root_over f v h)
+strict_reads f h v q room = subst (λ (z : RowState). Reads NODE_ROOT 0 0 (At p.RootStart) z blank [] f []) (root_over f v h)
     (strict_row f NODE_ROOT (At p.RootStart) 0 0 blank [] (record {
       sound = refl;
       started = refl;
@@ -152,5 +150,5 @@ strict_reads f h v q room =
       lone = λ e. absurd (true_is_not_false (sym e));
       new = λ e. absurd (true_is_not_false (sym e));
       heeds = refl;
-      grouped = tt;
+      grouped = refl;
     })).0

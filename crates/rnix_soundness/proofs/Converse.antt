@@ -106,8 +106,7 @@ entries : {q₀ : SyntaxKind} {d n : ℕ} {q q' : RowState} {b : AnnotatedForest
 entries end names h w n l = refl
 entries {b = b} (leafed {c = d} {k = k} {t = t} e _ _ op g v c _ s) names h w n l = entries s names (tracks_same names b d (one_token k t) c (λ m. refl) h) w.1 n l
 entries (missing_part {x = x} {y = y} u v k _ s z) names h w n l = no_missing_part x y k z n
-entries {b = b} (wrong {g = d} {c = c} {f = f} {es = es} note ts e v _ _ beside o _ s z) names h w n l =
-    patched_entries note names (repaired f)
+entries {b = b} (wrong {g = d} {c = c} {f = f} {es = es} note ts e v _ _ beside o _ s z) names h w n l = patched_entries note names (repaired f)
     (entries s names (tracks_same names b d (one_fault note c) o (λ m. refl) h) (spelled_rest (tokens_in c) (tokens_in f) w)
     (misses_rest is_ended (report note ts ∷ []) es (subst (Lacks is_ended) z n)) (misses_rest is_repeated (report note ts ∷ []) es (subst (Lacks is_repeated) z l)))
 entries {b = b} (second {g = d} {c = c} {f = f} {ds = ds} {es = es} v s _ x q r m y z) names h w n l =
@@ -235,10 +234,8 @@ row {k = k₀} {d = d₀} {n = n₀} {q = q} {b = b} (inner {r = r} {s = x} {vs 
     let has : HasRow k (start k) blank c = record { depth = deeper q d₀; behind = n₀; last = x; left = vs; faults = ds; reads = y; over = whole_there.0 } in
     let there : IsThere k₀ q b k c = record { row = has; spelled = w₁; leveled = leveled q b k c n₀ ws vs own fo op; goes = ap live g ∙ alive; suited = n.0; home = home; no_corner = first_parts.0 } in
     strict_node s q k (repaired c) (repaired f) sim (ap live g ∙ alive) (stands_there k₀ q b k c there)
-    (grouped k₀ k c has w₁ n.1 more_parts.0 first_parts.0 (entries y [] (λ u. refl) w₁ l₁ m₁)
-    (λ e. binds y (ap start e) w₁ n.1 l₁))
-    (row y (start k) (similar_same (start k)) whole_there.0 (home_start k) w₁ n.1 more_parts.0 l₁ m₁)
-    (ap (λ u. is_strict u (repaired f)) g
+    (grouped k₀ k c has w₁ n.1 more_parts.0 first_parts.0 (entries y [] (λ u. refl) w₁ l₁ m₁) (λ e. binds y (ap start e) w₁ n.1 l₁))
+    (row y (start k) (similar_same (start k)) whole_there.0 (home_start k) w₁ n.1 more_parts.0 l₁ m₁) (ap (λ u. is_strict u (repaired f)) g
     ∙ row rest r (similar_same r) done (subst (IsHome k₀) g (home_go k₀ q k home)) (spelled_rest (tokens_in c) (tokens_in f) w) (subst (λ u. AreNamed u f) g n.2) more_parts.1
     (misses_rest is_ended (ds ++ repeats k b c) es all) (misses_rest is_repeated (ds ++ repeats k b c) es new))
 

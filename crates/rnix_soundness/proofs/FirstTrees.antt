@@ -55,8 +55,7 @@ spelled_token kind text h = h
 
 -- no token is told as an expression
 pub no_operand : (p kind : SyntaxKind) (text : List ℕ) → is_spelled kind text ≡ true → is_expression (leaf_kind_as p kind) ≡ true → ⊥
-no_operand p kind text h e =
-    never is_token is_expression refl kind (spelled_token kind text h)
+no_operand p kind text h e = never is_token is_expression refl kind (spelled_token kind text h)
     (whenever_two (λ p k. is_expression (leaf_kind_as p k)) (λ p k. is_expression k) refl p kind e)
 
 -- a number before some trees

@@ -1,23 +1,21 @@
 -- The first tree of a node whose errors are repaired stands where it may.
-use Rattle.std.proofs.{Common.{◌≡◌, ℕ, ◌≤◌, Bool, true, false, [], refl, ap, sym, ◌∙◌, subst, arith, if◌then◌else◌, ◌&&◌, Some, nat_le}, lemmas.Bool.{and_from, and_parts}}
-use Rattle.rnix_kinds.specs.declared.kinds.SyntaxKind.{SyntaxKind, TheVariants.{NODE_APPLY, NODE_BIN_OP, NODE_DYNAMIC, NODE_HAS_ATTR, NODE_IDENT_PARAM}}
-use Rattle.rnix_kinds.{specs.declared.kinds.SyntaxKind.TheVariants.{NODE_LAMBDA, NODE_PAT_BIND, NODE_PAT_ENTRY, NODE_SELECT}, proofs.AllKinds.implied}
-use Rattle.{rnix_green.specs.Forest.{Forest, leaf, node}, rnix_grammar.specs.{Levels.left_of, AnnotatedForest.{Token, Note, AnnotatedForest, blank, branch}}}
-use Rattle.rnix_grammar.specs.{AnnotatedForest.{fault, one_branch, tokens_in, leaf_kind}, Rows.{is_atom, is_simple, is_questioned, is_operand, is_expression}}
-use Rattle.rnix_grammar.specs.{Rows.{Start, BeforeOperator, BeforeDot, BeforeQuestion, BeforeArgument, start}, TreeLevels.{level_of, calls_or}}
-use Rattle.rnix_grammar.specs.{Strict.{stands_at, is_strict_atom, is_grouped, first_stands, first_is_atom, first_is_no_or, are_entries_new}, Repaired.repaired}
-use Rattle.rnix_grammar.specs.{Repaired.patch, Corners.{holds_no_lambda, is_corner, has_no_corner}, Names.{is_plain, is_no_or, is_named, is_name_at}}
-use Rattle.{rnix_grammar.specs.Named.{is_spelled, AreSpelled, AreNamed}, rnix_lemmas.proofs.{Basics.{true_is_not_false, choice}, LevelLemmas.at_most_true}}
-use Rattle.rnix_lemmas.proofs.{LevelLemmas.{questioned_operand, operand_expression}, OpeningRows.{HasRow, Opening, by_token, by_branch, by_fault, opened}}
-use Rattle.{rnix_lemmas.proofs.OpeningRows.{is_number, to_live, live_to, row_behind, spelled_first, spelled_rest}, rnix_soundness.proofs.FirstTrees.IsLed}
-use Rattle.rnix_soundness.proofs.{FirstTrees.{led, token_first, no_operand, numbered, patch_number}, RepairedLevels.{is_lambda, second_atom, calls_behind}}
-use Rattle.rnix_soundness.proofs.RepairedNames.{simple_expression, named_plain, named_no_or, no_lambda, same_least, stands_level}
-use Rattle.rnix_grammar.specs.{Levels.right_of, Operands.IsFollowed, Rows.{is_infix, At, advance, live}, TreeLevels.row_level}
-use Rattle.{rnix_kinds.specs.declared.kinds.SyntaxKind.TheVariants.TOKEN_QUESTION, rnix_lemmas.proofs.LevelLemmas.at_most}
-use Rattle.rnix_soundness.proofs.RepairedStands.{suits_named}
-use Rattle.rnix_grammar.specs.declared.place.Place.TheVariants as p
-use Rattle.rnix_grammar.specs.Strict as strict
+use Rattle.std.proofs.{Common.{◌≡◌, ℕ, ◌≤◌, Bool, true, false, [], refl, ap, sym, ◌∙◌, arith, if◌then◌else◌, ◌&&◌, Some, nat_le}, lemmas.Bool.and_from}
+use Rattle.{std.proofs.lemmas.Bool.and_parts, rnix_kinds.specs.declared.kinds.SyntaxKind.{SyntaxKind, TheVariants.{NODE_APPLY, NODE_BIN_OP, NODE_DYNAMIC}}}
+use Rattle.rnix_kinds.specs.declared.kinds.SyntaxKind.TheVariants.{NODE_HAS_ATTR, NODE_IDENT_PARAM, NODE_LAMBDA, NODE_PAT_BIND, NODE_PAT_ENTRY, NODE_SELECT}
+use Rattle.{rnix_kinds.{specs.declared.kinds.SyntaxKind.TheVariants.TOKEN_QUESTION, proofs.AllKinds.implied}, rnix_green.specs.Forest.{Forest, node}}
+use Rattle.rnix_grammar.specs.{Levels.{left_of, right_of}, AnnotatedForest.{Token, Note, AnnotatedForest, blank, branch, fault, one_branch, tokens_in}}
+use Rattle.rnix_grammar.specs.Rows.{is_atom, is_simple, is_questioned, is_operand, is_expression, Start, BeforeOperator, BeforeDot, BeforeQuestion}
+use Rattle.rnix_grammar.specs.{Rows.{BeforeArgument, start, is_infix, At, advance, live}, TreeLevels.{level_of, calls_or, row_level}, Strict.stands_at}
+use Rattle.rnix_grammar.specs.{Strict.{is_strict_atom, is_grouped, first_stands, first_is_atom, first_is_no_or, are_entries_new}, Repaired.repaired}
+use Rattle.rnix_grammar.specs.{Corners.{holds_no_lambda, is_corner, has_no_corner}, Names.{is_plain, is_no_or, is_named, is_name_at}, Named.AreSpelled}
+use Rattle.{rnix_grammar.specs.{Named.AreNamed, Operands.IsFollowed}, rnix_lemmas.proofs.{Basics.{true_is_not_false, choice}, LevelLemmas.at_most_true}}
+use Rattle.rnix_lemmas.proofs.{LevelLemmas.{questioned_operand, operand_expression, at_most}, OpeningRows.{HasRow, Opening, by_token, by_branch, by_fault}}
+use Rattle.{rnix_lemmas.proofs.OpeningRows.{opened, live_to, spelled_first, spelled_rest}, rnix_soundness.proofs.FirstTrees.{IsLed, led, token_first, numbered}}
+use Rattle.rnix_soundness.proofs.{FirstTrees.patch_number, RepairedLevels.{is_lambda, second_atom, calls_behind, by_first, simple_expression}}
+use Rattle.rnix_soundness.proofs.{RepairedNames.{named_plain, named_no_or, no_lambda, same_least, stands_level}, RepairedStands.suits_named}
 use Rattle.rnix_grammar.specs.Corners as corners
+use Rattle.rnix_grammar.specs.Strict as strict
+use Rattle.rnix_grammar.specs.declared.place.Place.TheVariants as p
 
 -- the first tree of some nodes
 strict_atom : (k : SyntaxKind) (c : Forest) → is_lambda k ≡ false → is_atom k ≡ true → strict.is_named k c ≡ true → is_strict_atom k c ≡ true
@@ -43,9 +41,6 @@ first_at : (parent k : SyntaxKind) (level : ℕ) (c : AnnotatedForest) → HasRo
 first_at parent k level c r w tight plain f e l =
     stands_level level k (repaired c) e (named_plain (Start parent) k r w plain f.1) (same_least k level r w (no_lambda parent k (repaired c) tight f.0) l)
 
-told_first : (parent k : SyntaxKind) (t : Token) → k ≡ leaf_kind parent t → is_spelled t.kind t.text ≡ true → is_expression k ≡ true → ⊥
-told_first parent k t e w h = no_operand parent t.kind t.text w (subst (λ z. is_expression z ≡ true) e h)
-
 then_part : (w u v : Bool) → w ≡ true → (if w then u else v) ≡ true → u ≡ true
 then_part true u v e h = h
 then_part false u v e h = absurd (true_is_not_false (sym e))
@@ -61,73 +56,43 @@ asked TOKEN_QUESTION b l f = at_most 13 (row_level b) f
 asked _ b l f = absurd (true_is_not_false (sym l))
 
 operator_first : (c : AnnotatedForest) → HasRow NODE_BIN_OP (Start NODE_BIN_OP) blank c → AreSpelled (tokens_in c) → FirstIs NODE_BIN_OP c → is_grouped NODE_BIN_OP (repaired c) ≡ true
-operator_first c h w n = by (opened h refl) w n
+operator_first = by_first NODE_BIN_OP is_operand BeforeOperator (λ c f. FirstIs NODE_BIN_OP c → is_grouped NODE_BIN_OP f ≡ true) (λ k. refl) operand_expression
+    (λ k c f o r s w n. behind k c r (spelled_first (tokens_in c) (tokens_in f) w) n o (token_first refl refl s)) (λ m c f s w n. number m c (token_first refl refl s))
   where
     behind : (k : SyntaxKind) (d : AnnotatedForest) {f : AnnotatedForest} → HasRow k (start k) blank d → AreSpelled (tokens_in d) → FirstIs NODE_BIN_OP (branch k d blank) → is_operand k ≡ true
         → IsLed NODE_BIN_OP BeforeOperator (one_branch k d) f → is_grouped NODE_BIN_OP (node k (repaired d) (repaired f)) ≡ true
     behind k d r w n o (led {k = j} z l y) = first_at NODE_BIN_OP k (left_of j) d r w refl (λ t e. e) n (operand_expression k o) (left_operand j (one_branch k d) y l)
 
-    number : (m : Note) (d : AnnotatedForest) {f : AnnotatedForest} → is_number m ≡ true → IsLed NODE_BIN_OP BeforeOperator (fault m d blank) f
-        → is_grouped NODE_BIN_OP (patch m (repaired f)) ≡ true
-    number m d e (led {k = j} {t = t} {f = f} z l y) = ap (is_grouped NODE_BIN_OP) (patch_number m (leaf j t.text (repaired f)) e) ∙ at_most_true (left_of j) 16 (left_operand j (fault m d blank) y l)
-
-    by : {g : AnnotatedForest} → Opening NODE_BIN_OP (Start NODE_BIN_OP) blank g → AreSpelled (tokens_in g) → FirstIs NODE_BIN_OP g → is_grouped NODE_BIN_OP (repaired g) ≡ true
-    by (by_token {k = k} {t = t} e op l) w n = absurd (told_first NODE_BIN_OP k t e w.0 (operand_expression k (live_to (is_operand k) BeforeOperator l)))
-    by (by_branch {k = k} {c = d} {f = f} r lev l s) w n =
-        behind k d r (spelled_first (tokens_in d) (tokens_in f) w) n (live_to (is_operand k) BeforeOperator l)
-        (token_first refl refl (row_behind (to_live (is_operand k) BeforeOperator l) s))
-    by (by_fault {n = m} {c = d} e l r) w n = number m d e (token_first refl refl r)
+    number : (m : Note) (d : AnnotatedForest) {f : AnnotatedForest} → IsLed NODE_BIN_OP BeforeOperator (fault m d blank) f → is_grouped NODE_BIN_OP (numbered (repaired f)) ≡ true
+    number m d (led {k = j} z l y) = at_most_true (left_of j) 16 (left_operand j (fault m d blank) y l)
 
 question_first : (c : AnnotatedForest) → HasRow NODE_HAS_ATTR (Start NODE_HAS_ATTR) blank c → AreSpelled (tokens_in c) → FirstIs NODE_HAS_ATTR c → is_grouped NODE_HAS_ATTR (repaired c) ≡ true
-question_first c h w n = by (opened h refl) w n
+question_first = by_first NODE_HAS_ATTR is_questioned BeforeQuestion (λ c f. FirstIs NODE_HAS_ATTR c → is_grouped NODE_HAS_ATTR f ≡ true) (λ k. refl) (λ k o. operand_expression k (questioned_operand k o))
+    (λ k c f o r s w n. behind k c r (spelled_first (tokens_in c) (tokens_in f) w) n (operand_expression k (questioned_operand k o)) (token_first refl refl s)) (λ m c f s w n. refl)
   where
-    behind : (k : SyntaxKind) (d : AnnotatedForest) {f : AnnotatedForest} → HasRow k (start k) blank d → AreSpelled (tokens_in d) → FirstIs NODE_HAS_ATTR (branch k d blank) → is_questioned k ≡ true
+    behind : (k : SyntaxKind) (d : AnnotatedForest) {f : AnnotatedForest} → HasRow k (start k) blank d → AreSpelled (tokens_in d) → FirstIs NODE_HAS_ATTR (branch k d blank) → is_expression k ≡ true
         → IsLed NODE_HAS_ATTR BeforeQuestion (one_branch k d) f → is_grouped NODE_HAS_ATTR (node k (repaired d) (repaired f)) ≡ true
-    behind k d r w n o (led {k = j} z l y) = first_at NODE_HAS_ATTR k 13 d r w refl (λ t e. e) n (operand_expression k (questioned_operand k o)) (asked j (one_branch k d) y l)
-
-    by : {g : AnnotatedForest} → Opening NODE_HAS_ATTR (Start NODE_HAS_ATTR) blank g → AreSpelled (tokens_in g) → FirstIs NODE_HAS_ATTR g → is_grouped NODE_HAS_ATTR (repaired g) ≡ true
-    by (by_token {k = k} {t = t} e op l) w n = absurd (told_first NODE_HAS_ATTR k t e w.0
-        (operand_expression k (questioned_operand k (live_to (is_questioned k) BeforeQuestion l))))
-    by (by_branch {k = k} {c = d} {f = f} r lev l s) w n =
-        behind k d r (spelled_first (tokens_in d) (tokens_in f) w) n (live_to (is_questioned k) BeforeQuestion l)
-        (token_first refl refl (row_behind (to_live (is_questioned k) BeforeQuestion l) s))
-    by (by_fault {n = m} {f = f} e l r) w n = ap (is_grouped NODE_HAS_ATTR) (patch_number m (repaired f) e)
+    behind k d r w n o (led {k = j} z l y) = first_at NODE_HAS_ATTR k 13 d r w refl (λ t e. e) n o (asked j (one_branch k d) y l)
 
 atom_expression : (k : SyntaxKind) → is_atom k ≡ true → is_expression k ≡ true
 atom_expression = implied is_atom is_expression refl
 
 select_first : (c : AnnotatedForest) → HasRow NODE_SELECT (Start NODE_SELECT) blank c → AreSpelled (tokens_in c) → FirstIs NODE_SELECT c → is_grouped NODE_SELECT (repaired c) ≡ true
-select_first c h w n = by (opened h refl) w n
-  where
-    by : {g : AnnotatedForest} → Opening NODE_SELECT (Start NODE_SELECT) blank g → AreSpelled (tokens_in g) → FirstIs NODE_SELECT g → is_grouped NODE_SELECT (repaired g) ≡ true
-    by (by_token {k = k} {t = t} e op l) w n = absurd (told_first NODE_SELECT k t e w.0 (atom_expression k (live_to (is_atom k) BeforeDot l)))
-    by (by_branch {k = k} {c = d} {f = f} r lev l s) w n =
-        strict_atom k (repaired d) (no_lambda NODE_SELECT k (repaired d) refl n.0) (live_to (is_atom k) BeforeDot l)
-        (named_plain (Start NODE_SELECT) k r (spelled_first (tokens_in d) (tokens_in f) w) (λ t e. e) n.1)
-    by (by_fault {n = m} {f = f} e l r) w n = ap (is_grouped NODE_SELECT) (patch_number m (repaired f) e)
+select_first = by_first NODE_SELECT is_atom BeforeDot (λ c f. FirstIs NODE_SELECT c → is_grouped NODE_SELECT f ≡ true) (λ k. refl) atom_expression
+    (λ k c f o r s w n. strict_atom k (repaired c) (no_lambda NODE_SELECT k (repaired c) refl n.0) o (named_plain (Start NODE_SELECT) k r (spelled_first (tokens_in c) (tokens_in f) w) (λ t e. e) n.1))
+    (λ m c f s w n. refl)
 
 apply_first : (c : AnnotatedForest) → HasRow NODE_APPLY (Start NODE_APPLY) blank c → AreSpelled (tokens_in c) → FirstIs NODE_APPLY c → is_grouped NODE_APPLY (repaired c) ≡ true
-apply_first c h w n = by (opened h refl) w n
+apply_first = by_first NODE_APPLY is_simple BeforeArgument (λ c f. FirstIs NODE_APPLY c → is_grouped NODE_APPLY f ≡ true) (λ k. refl) simple_expression
+    (λ k c f o r s w n. by_call k c f o r s w n (strict.calls_or (node k (repaired c) (repaired f))) refl)
+    (λ m c f s w n. choice (λ z. z ≡ true) (strict.calls_or (numbered (repaired f))) refl refl)
   where
-    by : {g : AnnotatedForest} → Opening NODE_APPLY (Start NODE_APPLY) blank g → AreSpelled (tokens_in g) → FirstIs NODE_APPLY g → is_grouped NODE_APPLY (repaired g) ≡ true
-    by (by_token {k = k} {t = t} e op l) w n = absurd (told_first NODE_APPLY k t e w.0 (simple_expression k (live_to (is_simple k) BeforeArgument l)))
-    by (by_branch {k = k} {c = d} {f = f} r lev l s) w n = by_call (strict.calls_or (node k (repaired d) (repaired f))) refl
-      where
-        simple : is_simple k ≡ true
-        simple = live_to (is_simple k) BeforeArgument l
-
-        inside : AreSpelled (tokens_in d)
-        inside = spelled_first (tokens_in d) (tokens_in f) w
-
-        by_call : (v : Bool) → strict.calls_or (node k (repaired d) (repaired f)) ≡ v
-            → (if v then first_is_atom (node k (repaired d) (repaired f)) else first_stands 15 (node k (repaired d) (repaired f))) ≡ true
-        by_call true e =
-            strict_atom k (repaired d) (no_lambda NODE_APPLY k (repaired d) refl n.0)
-            (second_atom (row_behind (to_live (is_simple k) BeforeArgument l) s) (spelled_rest (tokens_in d) (tokens_in f) w) (sym (calls_behind k (repaired d) (repaired f)) ∙ e))
-            (named_plain (Start NODE_APPLY) k r inside (λ t e. e) n.1)
-        by_call false e = first_at NODE_APPLY k 15 d r inside refl (λ t e. e) n (simple_expression k simple) (simple_level k d simple)
-    by (by_fault {n = m} {f = f} e l r) w n =
-        ap (is_grouped NODE_APPLY) (patch_number m (repaired f) e) ∙ choice (λ z. z ≡ true) (strict.calls_or (numbered (repaired f))) refl refl
+    by_call : (k : SyntaxKind) (c f : AnnotatedForest) → is_simple k ≡ true → HasRow k (start k) blank c → HasRow NODE_APPLY BeforeArgument (one_branch k c) f → AreSpelled (tokens_in (branch k c f)) → FirstIs NODE_APPLY (branch k c f)
+        → (v : Bool) → strict.calls_or (node k (repaired c) (repaired f)) ≡ v → (if v then first_is_atom (node k (repaired c) (repaired f)) else first_stands 15 (node k (repaired c) (repaired f))) ≡ true
+    by_call k c f o r s w n true e =
+        strict_atom k (repaired c) (no_lambda NODE_APPLY k (repaired c) refl n.0) (second_atom s (spelled_rest (tokens_in c) (tokens_in f) w) (sym (calls_behind k (repaired c) (repaired f)) ∙ e))
+        (named_plain (Start NODE_APPLY) k r (spelled_first (tokens_in c) (tokens_in f) w) (λ t e. e) n.1)
+    by_call k c f o r s w n false e = first_at NODE_APPLY k 15 c r (spelled_first (tokens_in c) (tokens_in f) w) refl (λ t e. e) n (simple_expression k o) (simple_level k c o)
 
 -- the name that a parameter or an entry is
 name_first : (parent : SyntaxKind) (c : AnnotatedForest) → HasRow parent (Start parent) blank c → AreSpelled (tokens_in c) → FirstIs parent c

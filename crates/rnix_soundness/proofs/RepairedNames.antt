@@ -1,18 +1,13 @@
 -- Names, levels and corners of trees whose errors are repaired.
 use Rattle.std.proofs.Common.{◌≡◌, ◌⊎◌, inl, inr, ℕ, ◌≤◌, true, false, refl, ap, sym, ◌∙◌, subst, arith, if◌then◌else◌, ◌&&◌, ◌||◌, nat_eq, nat_le}
-use Rattle.std.proofs.lemmas.Bool.{and_from, or_cases, Decides.nat_tests}
-use Rattle.rnix_kinds.{specs.declared.kinds.SyntaxKind.{SyntaxKind, TheVariants.{NODE_CUR_POS, NODE_IDENT, NODE_LAMBDA}}, proofs.AllKinds.implied}
-use Rattle.{rnix_green.specs.Forest.Forest, rnix_grammar.specs.{Tables.is_cur_pos, AnnotatedForest.{Token, AnnotatedForest, blank, one_branch, tokens_in}}}
-use Rattle.rnix_grammar.specs.{Rows.{is_simple, is_expression, RowState, Start, BeforeArgument, start}, TreeLevels.{is_or_row, is_or_leaf, level_of}}
-use Rattle.rnix_grammar.specs.{Strict.{stands_at, is_or_name}, Repaired.repaired, Corners.{holds_no_lambda, is_corner}, Names.{is_plain, is_no_or, is_named}}
-use Rattle.{rnix_grammar.specs.{Names.is_name_at, Named.AreSpelled}, rnix_lemmas.proofs.{Basics.{true_is_not_false, not_if}, LevelLemmas.at_most_true}}
-use Rattle.{rnix_lemmas.proofs.OpeningRows.HasRow, rnix_soundness.proofs.FirstTrees.{IsLed, led, token_first, IsName, name, named, position_spelled}}
-use Rattle.rnix_soundness.proofs.RepairedLevels.{is_lambda, same_level}
+use Rattle.{std.proofs.lemmas.Bool.{and_from, or_cases, Decides.nat_tests}, rnix_kinds.specs.declared.kinds.SyntaxKind.{SyntaxKind, TheVariants.NODE_CUR_POS}}
+use Rattle.{rnix_kinds.specs.declared.kinds.SyntaxKind.TheVariants.{NODE_IDENT, NODE_LAMBDA}, rnix_green.specs.Forest.Forest}
+use Rattle.rnix_grammar.specs.{Tables.is_cur_pos, AnnotatedForest.{Token, AnnotatedForest, blank, one_branch, tokens_in}, Rows.{is_expression, RowState, Start}}
+use Rattle.rnix_grammar.specs.{Rows.{BeforeArgument, start}, TreeLevels.{is_or_row, is_or_leaf, level_of}, Strict.{stands_at, is_or_name}, Repaired.repaired}
+use Rattle.rnix_grammar.specs.{Corners.{holds_no_lambda, is_corner}, Names.{is_plain, is_no_or, is_named, is_name_at}, Named.AreSpelled}
+use Rattle.{rnix_lemmas.proofs.{Basics.{true_is_not_false, not_if}, LevelLemmas.at_most_true, OpeningRows.HasRow}, rnix_soundness.proofs.FirstTrees.IsLed}
+use Rattle.rnix_soundness.proofs.{FirstTrees.{led, token_first, IsName, name, named, position_spelled}, RepairedLevels.{is_lambda, same_level}}
 use Rattle.rnix_grammar.specs.Strict as strict
-
--- what may be called is an expression
-pub simple_expression : (k : SyntaxKind) → is_simple k ≡ true → is_expression k ≡ true
-simple_expression = implied is_simple is_expression refl
 
 -- a name that stands where an operand does
 pub named_plain : (q : RowState) (k : SyntaxKind) {c : AnnotatedForest} → HasRow k (start k) blank c → AreSpelled (tokens_in c) → ((t : Token) → is_name_at q t ≡ true → is_plain t ≡ true)
@@ -34,8 +29,7 @@ pub named_called : (k : SyntaxKind) {c : AnnotatedForest} → HasRow k (start k)
 named_called NODE_IDENT h w o n = by (named h w) o n
   where
     by : {g : AnnotatedForest} → IsName g → is_or_leaf g ≡ false → is_named BeforeArgument NODE_IDENT g ≡ true → strict.is_named NODE_IDENT (repaired g) ≡ true
-    by (name {t = t} e) o n =
-        ap (λ z. if z then false else (if is_cur_pos t.text then false else true)) (e ∙ o)
+    by (name {t = t} e) o n = ap (λ z. if z then false else (if is_cur_pos t.text then false else true)) (e ∙ o)
         ∙ sym (ap (λ z. if z then true else (if is_cur_pos t.text then false else true)) o) ∙ n
 named_called NODE_CUR_POS h w o n = by (token_first refl refl h) w n
   where
@@ -74,6 +68,5 @@ least_in parent k {c = c} level h w b n l = by (or_cases (nat_eq level 0) (holds
 
 -- an expression with a name that may be one stands at each level that it binds at
 pub stands_level : (level : ℕ) (k : SyntaxKind) (c : Forest) → is_expression k ≡ true → strict.is_named k c ≡ true → level ≤ strict.level_of k c → stands_at level k c ≡ true
-stands_level level k c e n l =
-    and_from (is_expression k) (strict.is_named k c && nat_le level (strict.level_of k c)) e
+stands_level level k c e n l = and_from (is_expression k) (strict.is_named k c && nat_le level (strict.level_of k c)) e
     (and_from (strict.is_named k c) (nat_le level (strict.level_of k c)) n (at_most_true level (strict.level_of k c) l))

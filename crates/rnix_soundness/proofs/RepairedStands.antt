@@ -9,7 +9,7 @@ use Rattle.rnix_grammar.specs.{Rows.{live, start}, Reports.only_token, TreeLevel
 use Rattle.rnix_grammar.specs.{Strict.{may_stand, stands_at, stands_in, begins_with_leaf, is_or_name}, Repaired.repaired, Corners.{holds_no_lambda, is_corner}}
 use Rattle.{rnix_grammar.specs.{Names.{is_named, is_named_in, is_name_in, is_plain}, Named.{AreSpelled, begins_with_token, is_bind_at, suits}}, rnix_lemmas.proofs.Basics.{true_is_not_false, some_same}}
 use Rattle.rnix_lemmas.proofs.{NestPlaces.{is_expected, owner}, OpeningRows.{HasRow, IsLeveled, Opening, by_fault, opened, live_to, no_closing}, NodeKinds.fits_expression}
-use Rattle.rnix_soundness.proofs.{FirstTrees.patch_number, HomeRowStates.IsHome, RepairedLevels.same_or, RepairedNames.{simple_expression, named_plain}}
+use Rattle.rnix_soundness.proofs.{FirstTrees.patch_number, HomeRowStates.IsHome, RepairedLevels.{same_or, simple_expression}, RepairedNames.named_plain}
 use Rattle.rnix_soundness.proofs.RepairedNames.{named_called, no_lambda, same_least, least_in, stands_level}
 use Rattle.rnix_grammar.specs.declared.place.Place.TheVariants as p
 use Rattle.rnix_grammar.specs.declared.symbol.Symbol.TheVariants as s
@@ -20,8 +20,7 @@ is_bound k None = true
 is_bound k (Some level) = (nat_eq level 0 || holds_no_lambda k) && nat_le level 16
 
 bound_home : (k : SyntaxKind) (x : Place) → IsHome k (At x) → is_bound k (level_in (symbol_at x)) ≡ true
-bound_home k (p.Right level) h =
-    and_from (nat_eq level 0 || holds_no_lambda k) (nat_le level 16)
+bound_home k (p.Right level) h = and_from (nat_eq level 0 || holds_no_lambda k) (nat_le level 16)
     (or_right (nat_eq level 0) (holds_no_lambda k) (implied (is_expected (Some NODE_BIN_OP)) holds_no_lambda refl k h.expected))
     (and_parts (nat_le 1 level) (nat_le level 16) h.bounded).1
 bound_home k x h = implied (is_expected (owner (At x))) (λ k. is_bound k (level_in (symbol_at x))) refl k h.expected
@@ -43,11 +42,9 @@ pub record IsThere (parent : SyntaxKind) (q : RowState) (b : AnnotatedForest) (k
 
 -- where an operand of a level stands what goes on the row fits it, and a name there is plain
 symbol_fits : (symbol : Symbol) (x : Place) (level : ℕ) (k : SyntaxKind) {c : AnnotatedForest} → level_in symbol ≡ Some level → HasRow k (start k) blank c
-    → live (advance_symbol symbol x k) ≡ true
-    → (fits level k ≡ true) × ((t : Token) → is_name_in symbol t ≡ true → is_plain t ≡ true)
+    → live (advance_symbol symbol x k) ≡ true → (fits level k ≡ true) × ((t : Token) → is_name_in symbol t ≡ true → is_plain t ≡ true)
 symbol_fits (s.Operand v counted behind) x level k e h g = (
-  live_to (fits level k) (At behind)
-      (ap (λ z. live (to (fits z k) (At behind))) (sym (some_same v level e)) ∙ g),
+  live_to (fits level k) (At behind) (ap (λ z. live (to (fits z k) (At behind))) (sym (some_same v level e)) ∙ g),
   λ t n. n,
 )
 symbol_fits (s.Series v closer) x level k e h g =
@@ -75,8 +72,7 @@ stands_argument parent b k c h = by (is_or_row (one_branch k c)) refl
 
     by : (w : Bool) → is_or_row (one_branch k c) ≡ w → (if is_or_name k (repaired c) then true else stands_at 16 k (repaired c)) ≡ true
     by true e = ap (λ z. if z then true else stands_at 16 k (repaired c)) (same ∙ e)
-    by false e =
-        ap (λ z. if z then true else stands_at 16 k (repaired c)) (same ∙ e)
+    by false e = ap (λ z. if z then true else stands_at 16 k (repaired c)) (same ∙ e)
         ∙ stands_level 16 k (repaired c) (simple_expression k (live_to (is_simple k) (At p.Past) h.goes)) (named_called k h.row h.spelled e (suits_named BeforeArgument k c h.suited))
         (same_least k 16 h.row h.spelled (no_lambda parent k (repaired c)
         (implied (is_expected (Some NODE_APPLY)) holds_no_lambda refl parent h.home.expected) h.no_corner) (h.leveled.tight 16 (ap (λ z. if z then None else Some 16) e)))

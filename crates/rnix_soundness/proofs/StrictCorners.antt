@@ -28,8 +28,7 @@ abbrev Follows : SyntaxKind → RowState → Forest → Type 0
 Follows k q f = IsHome k q × (is_start q ≡ true → is_grouped k f ≡ true)
 
 lambda_here : (k : SyntaxKind) (q : RowState) (c f : Forest) → Follows k q (node NODE_LAMBDA c f) → live (advance q NODE_LAMBDA) ≡ true
-    → may_stand q NODE_LAMBDA c ≡ true
-    → holds_no_lambda k ≡ true → ⊥
+    → may_stand q NODE_LAMBDA c ≡ true → holds_no_lambda k ≡ true → ⊥
 lambda_here k (Start j) c f h l m n =
     let same : j ≡ k = (same_kind-decides j k).0 h.0.expected in
     lambda_first k c f (h.1 refl) (ap (λ z. live (first z NODE_LAMBDA)) (sym same) ∙ l) n

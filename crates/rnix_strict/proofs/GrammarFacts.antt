@@ -102,7 +102,6 @@ passes_node {q = q} {k = k} l m g h = passes_node_to q (advance q k) k refl l m 
 
 -- a row that begins with an operand
 pub passes_operand : {x behind : Place} {level : ℕ} {counted : Bool} {k : SyntaxKind} {c f : Forest} → symbol_at x ≡ s.Operand level counted behind
-    → StandsAt level k c → Passes (At behind) f
-    → Passes (At x) (node k c f)
+    → StandsAt level k c → Passes (At behind) f → Passes (At x) (node k c f)
 passes_operand {x = x} {behind = behind} {level = level} {k = k} {c = c} e w h =
     passes_node_to (At x) (At behind) k (ap (λ z. advance_symbol z x k) e ∙ ap (λ z. to z (At behind)) w.fit) refl (may_operand x level k c (ap level_in e) w.stands) w.good h

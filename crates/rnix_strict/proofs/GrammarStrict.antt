@@ -25,9 +25,7 @@ mutual
       let r = strict_stands h in record { fit = fits_looser n m k l r.fit; stands = stands_looser n m k c l r.stands; good = r.good }
   strict_stands (atom h) = atom_stands_at (atom_passes h)
   strict_stands (select a q) = select_good (atom_passes a) (passes_leaf refl refl (passes_node refl refl (attr_good (attrpath_passes q)) (passes_end refl)))
-  strict_stands (select_or a q h) =
-      select_good (atom_passes a)
-      (passes_leaf refl refl (passes_node refl refl (attr_good (attrpath_passes q))
+  strict_stands (select_or a q h) = select_good (atom_passes a) (passes_leaf refl refl (passes_node refl refl (attr_good (attrpath_passes q))
       (passes_leaf refl refl (passes_operand refl (strict_stands h) (passes_end refl)))))
   strict_stands (apply_or a h) = apply_or_good (atom_passes a) h
   strict_stands (apply h i) = apply_good (strict_stands h) (strict_stands i)
@@ -37,24 +35,17 @@ mutual
   strict_stands (invert h) = stands refl refl refl (passes_leaf refl refl (passes_operand refl (strict_stands h) (passes_end refl)))
   strict_stands (lambda {j = j} h i) =
       let r = parameter_passes h in
-      stands refl refl refl
-      (passes_node_to (start NODE_LAMBDA) (At p.LambdaColon) j r.goes refl r.may r.good
+      stands refl refl refl (passes_node_to (start NODE_LAMBDA) (At p.LambdaColon) j r.goes refl r.may r.good
       (passes_leaf refl refl (passes_operand refl (strict_stands i) (passes_end refl))))
   strict_stands (legacy_let h) =
       stands refl refl refl (passes_leaf refl refl (passes_leaf refl refl (entries_pass h p.LegacyInside in_legacy (passes_leaf refl refl (passes_end refl)))))
-  strict_stands (let_in h i) =
-      stands refl refl refl (passes_leaf refl refl (entries_pass h p.LetInside in_let
+  strict_stands (let_in h i) = stands refl refl refl (passes_leaf refl refl (entries_pass h p.LetInside in_let
       (passes_leaf refl refl (passes_operand refl (strict_stands i) (passes_end refl)))))
-  strict_stands (with_scope h i) =
-      stands refl refl refl (passes_leaf refl refl (passes_operand refl (strict_stands h)
+  strict_stands (with_scope h i) = stands refl refl refl (passes_leaf refl refl (passes_operand refl (strict_stands h)
       (passes_leaf refl refl (passes_operand refl (strict_stands i) (passes_end refl)))))
-  strict_stands (assertion h i) =
-      stands refl refl refl (passes_leaf refl refl (passes_operand refl (strict_stands h)
+  strict_stands (assertion h i) = stands refl refl refl (passes_leaf refl refl (passes_operand refl (strict_stands h)
       (passes_leaf refl refl (passes_operand refl (strict_stands i) (passes_end refl)))))
-  strict_stands (if_else h i j) =
-      stands refl refl refl
-      (passes_leaf refl refl
-      (passes_operand refl (strict_stands h)
+  strict_stands (if_else h i j) = stands refl refl refl (passes_leaf refl refl (passes_operand refl (strict_stands h)
       (passes_leaf refl refl (passes_operand refl (strict_stands i) (passes_leaf refl refl (passes_operand refl (strict_stands j) (passes_end refl)))))))
 
   pub atom_passes : {k : SyntaxKind} {c : Forest} → Atom k c → PassesAtom k c
@@ -121,8 +112,7 @@ mutual
   entries_pass (binding {c = c} h r) x o w = passes_node_to (At x) (At x) NODE_ATTRPATH_VALUE o.bind_stays refl (o.bind_may c) (binding_good h) (entries_pass r x o w)
 
   binding_good : {f : Forest} → Binding f → Good NODE_ATTRPATH_VALUE f
-  binding_good (bind q h) =
-      good refl (passes_node refl refl (attr_good (attrpath_passes q))
+  binding_good (bind q h) = good refl (passes_node refl refl (attr_good (attrpath_passes q))
       (passes_leaf refl refl (passes_operand refl (strict_stands h) (passes_leaf refl refl (passes_end refl)))))
 
   inherit_good : {f : Forest} → Inherit f → Good NODE_INHERIT f

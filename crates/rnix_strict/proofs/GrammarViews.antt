@@ -178,8 +178,7 @@ one w q r s e a step v u (leaf k t f) h = by (step (λ x. Held x f) k h.1)
 one w q r s e a step v u (node k c f) h = by (step (λ x. (binds x k c ≡ true) × Held x f) k (h.3, h.4))
   where
     by : ((w ≡ k) × ((binds r k c ≡ true) × Held r f)) ⊎ ((binds (after s k) k c ≡ true) × Held (after s k) f) → One (is_token w) w r (View r) (node k c f) ⊎ View s (node k c f)
-    by (inl x) =
-        inl (subst (λ j. One (is_token j) j r (View r) (node k c f)) (sym x.0)
+    by (inl x) = inl (subst (λ j. One (is_token j) j r (View r) (node k c f)) (sym x.0)
         (subst (λ b. One b k r (View r) (node k c f)) (sym (not_if (is_token k) h.0)) (heads h.1 x.1.0 (v f x.1.1))))
     by (inr y) = inr (u (node k c f) (h.0, h.1, λ i. sym (a k c) ∙ h.2 i, y.0, y.1))
 
@@ -241,8 +240,7 @@ expressed : (b : SyntaxKind → Bool) (q r : Row) → may_end q ≡ false → ((
     → ((H : Row → Type 0) (k : SyntaxKind) → H (after q k) → H (only (b k) r)) → (V : Forest → Type 0) → ((f : Forest) → Held r f → V f)
     → (f : Forest) → Held q f → First (asks q) V f
 expressed b q r d e step V v empty h = absurd (true_is_not_false (sym h ∙ d))
-expressed b q r d e step V v (leaf k t f) h =
-    absurd (no_kind_both is_token is_expression refl k h.0 (e k (kept (b k) r f (step (λ x. Held x f) k h.1)).0))
+expressed b q r d e step V v (leaf k t f) h = absurd (no_kind_both is_token is_expression refl k h.0 (e k (kept (b k) r f (step (λ x. Held x f) k h.1)).0))
 expressed b q r d e step V v (node k c f) h = let x = kept (b k) r f (step (λ x. Held x f) k h.4) in first (h.2 (e k x.0)) h.1 (v f x.1)
 
 operand : {n : ℕ} {Q : Forest → Type 0} {f : Forest} → First (stands_at n) Q f → Stands n Q f
@@ -307,33 +305,27 @@ wanted w r = child w (p.Wanted w · r) r refl (λ k c. refl) (λ H k h. h)
 -- each row is so
 pub view : (r : Row) (f : Forest) → Held r f → View r f
 view never f h = lost f h
-view ((p.Child w · r) / s) f h =
-    one w ((p.Child w · r) / s) r s (λ h. absurd (true_is_not_false (sym h))) (λ k c. refl)
+view ((p.Child w · r) / s) f h = one w ((p.Child w · r) / s) r s (λ h. absurd (true_is_not_false (sym h))) (λ k c. refl)
     (λ H k h. one_of_two (chosen w k (λ v. H (or_else (only v r) (after s k))) (one_or_else H r (after s k)) (λ h. h) h)) (view r) (view s) f h
 view (p.Child w · r) f h = child w (p.Child w · r) r refl (λ k c. refl) (λ H k h. h) (view r) f h
 view (p.Wanted w · r) f h = wanted w r (view r) f h
 view (p.Suffix w · r) f h = child w (p.Suffix w · r) r refl (λ k c. refl) (λ H k h. h) (view r) f h
 view (p.Attrpath · r) f h = child K.NODE_ATTRPATH (p.Attrpath · r) r refl (λ k c. refl) (λ H k h. h) (view r) f h
 view (p.EndOr w · r) f h = one w (p.EndOr w · r) r done (λ h. h) (λ k c. refl) (λ H k h. chosen w k (λ v. H (only v r)) (λ h. h) (λ h. h) h) (view r) (over_here done (λ k. refl)) f h
-view (p.Optional w · p.Names · r) f h =
-    one w (p.Optional w · p.Names · r) (p.Names · r) (p.Names · r) (λ h. h) (λ k c. refl)
+view (p.Optional w · p.Names · r) f h = one w (p.Optional w · p.Names · r) (p.Names · r) (p.Names · r) (λ h. h) (λ k c. refl)
     (λ H k h. chosen w k (λ v. H (if v then p.Names · r else after (p.Names · r) k)) (λ h. h) (λ h. h) h) (view (p.Names · r)) (view (p.Names · r)) f h
 view (p.Atom · r) f h = expressed is_atom (p.Atom · r) r refl (implied is_atom is_expression refl) (λ H k h. h) (View r) (view r) f h
 view (p.First n · r) f h = expressed (fits n) (p.First n · r) r refl (fits_expression n) (λ H k h. h) (View r) (view r) f h
 view (p.Argument · r) f h = expressed is_simple (p.Argument · r) r refl (implied is_simple is_expression refl) (λ H k h. h) (View r) (view r) f h
 view (p.Operand n counted · r) f h = operand (expressed (fits n) (p.Operand n counted · r) r refl (fits_expression n) (λ H k h. h) (View r) (view r) f h)
 view (p.Binary · r) f h = operated r (View r) (view r) f h
-view (p.Many n w · r) f h =
-    several (fits n) (p.Many n w · r) (p.Wanted w · r) (One (is_token w) w r (View r)) refl (λ k c. refl)
+view (p.Many n w · r) f h = several (fits n) (p.Many n w · r) (p.Wanted w · r) (One (is_token w) w r (View r)) refl (λ k c. refl)
     (λ H k h. closing H (same_kind w k) (fits n k) (p.Many n w · r) r h) (wanted w r (view r)) f h
-view (p.Entries w · r) f h =
-    several is_entry (p.Entries w · r) (p.Wanted w · r) (One (is_token w) w r (View r)) refl (λ k c. refl)
+view (p.Entries w · r) f h = several is_entry (p.Entries w · r) (p.Wanted w · r) (One (is_token w) w r (View r)) refl (λ k c. refl)
     (λ H k h. closing H (same_kind w k) (is_entry k) (p.Entries w · r) r h) (wanted w r (view r)) f h
-view (p.Names · p.Wanted w · r) f h =
-    several is_attr (p.Names · p.Wanted w · r) (p.Wanted w · r) (One (is_token w) w r (View r)) refl (λ k c. refl)
+view (p.Names · p.Wanted w · r) f h = several is_attr (p.Names · p.Wanted w · r) (p.Wanted w · r) (One (is_token w) w r (View r)) refl (λ k c. refl)
     (λ H k h. going H (is_attr k) (p.Names · p.Wanted w · r) (only (same_kind w k) r) h) (wanted w r (view r)) f h
-view (p.Pieces · p.Wanted w · r) f h =
-    several is_piece (p.Pieces · p.Wanted w · r) (p.Wanted w · r) (One (is_token w) w r (View r)) refl (λ k c. refl)
+view (p.Pieces · p.Wanted w · r) f h = several is_piece (p.Pieces · p.Wanted w · r) (p.Wanted w · r) (One (is_token w) w r (View r)) refl (λ k c. refl)
     (λ H k h. piece_on H (p.Wanted w · r) k h) (wanted w r (view r)) f h
 view (p.PathPieces · r) f h =
     several goes_on (p.PathPieces · r) done Ends refl (λ k c. refl) (λ H k h. closing H false (goes_on k) (p.PathPieces · r) done h) (over_here done (λ k. refl)) f h
