@@ -7,8 +7,8 @@ use Rattle.rnix_grammar.specs.AnnotatedForest.{AnnotatedForest, blank, token, �
 use Rattle.rnix_grammar.specs.{AnnotatedForest.end_from, Machine.{Node, Operand, Frame, put, opened, begun}, Reports.report, Rows.{fits, RowState, Start}}
 use Rattle.rnix_grammar.specs.{Rows.{BeforeAt, BeforeBrace, At, advance, start}, Operands.{kind_of, IsBegun}, PlaceReads.{Reads, end, leaf, inner}}
 use Rattle.rnix_lemmas.proofs.{Basics.{true_is_not_false, some_same}, AnnotatedForestLemmas.tokens_two, LevelLemmas.atom_fits, FollowLemmas.{Stops, stops_all}}
-use Rattle.{rnix_lemmas.proofs.FollowLemmas.{stops_at, followed_loose}, rnix_existence.proofs.{OpenFrames.{a_node, an_error, Ends}, RowFronts.end_two}}
-use Rattle.rnix_existence.proofs.{OperandTrees.{past_over, fit_new}, OperandEnds.{OpenEnds, open_ends}, OperandWraps.alone_tokens, BeginLevels.fits_starts}
+use Rattle.{rnix_lemmas.proofs.FollowLemmas.{FollowedTo, stops_at, followed_loose}, rnix_existence.proofs.{OpenFrames.{a_node, an_error, Ends}, RowFronts.end_two}}
+use Rattle.rnix_existence.proofs.{OperandTrees.{past_over, fit_new}, OperandEnds.{OpenEnds, open_ends}, OperandWraps.alone_tokens, BeginLevels.{begun_start, own_first, begun_fits, followed_begun}}
 use Rattle.rnix_existence.proofs.{BeginLevels.BeginsTree, OperandKept.none_some, BeginEnds.{BeginEnds, tree_ends, first_leaf, leaf_node}}
 use Rattle.rnix_grammar.specs.declared.place.Place.TheVariants as p
 use Rattle.rnix_grammar.specs.declared.begin.Begin.TheVariants as b
@@ -109,13 +109,12 @@ pub begun_ends : (begin : Begin) (level d : ℕ) (t : Token) (us : List Token) (
     → BeginEnds level d g fs (t ∷ us) n row gs ((begun false begin level d t g fs (t ∷ us) n gs).faults ++ es)
 begun_ends (b.Leaf k) level d t us g fs n gs row es e h ends =
     tree_ends level 16 d g fs (t ∷ us) us n t.end row (one_branch k (one_token (leaf_kind k t) t)) [] es gs (gs ++ es) (stops_all (one_branch k (one_token (leaf_kind k t) t))) refl refl
-    (ap kind_of e ∙ sym (h.first (leaf_kind k t) t blank)) (leaf_node k t st h.goes) ends refl
-  where
-    st : start k ≡ Start k
-    st = fits_starts 0 k (atom_fits 0 k h.atom)
+    (ap kind_of e ∙ sym (own_first k (leaf_kind k t) t blank h.1)) (leaf_node k t (begun_start k h.1) h.0) ends refl
 begun_ends (b.Node k z high) level d t us g fs n gs row es e h ends =
-    node_ends level high d k z (one_token (leaf_kind k t) t) g fs (t ∷ us) us n t.end row [] es gs (gs ++ es) h.fit refl refl
-    (λ left s rest ds v y. first_leaf k t (fits_starts level k h.fit) h.goes refl y) (λ rest. stops_at high (one_branch k (token (leaf_kind k t) t rest)) (h.follow t rest)) (λ rest. ap kind_of e ∙ sym (h.first (leaf_kind k t) t rest)) ends refl
+    node_ends level high d k z (one_token (leaf_kind k t) t) g fs (t ∷ us) us n t.end row [] es gs (gs ++ es) (begun_fits k t.kind level h.1 h.2) refl refl
+    (λ left s rest ds v y. first_leaf k t (begun_start k h.1) h.0 refl y)
+    (λ rest. let x : AnnotatedForest = one_branch k (token (leaf_kind k t) t rest) in stops_at high x (subst (λ (v : ℕ). FollowedTo v x) h.5 (followed_begun k t.kind t rest h.1)))
+    (λ rest. ap kind_of e ∙ sym (own_first k (leaf_kind k t) t rest h.1)) ends refl
 begun_ends b.LegacyLet level d t [] g fs n gs row es e h ends = absurd (none_some h.1)
 begun_ends b.LegacyLet level d t (u ∷ us) g fs n gs row es e h ends = legacy level d t u us g fs n gs row es h.0 (some_same u.kind TOKEN_L_BRACE h.1) h.2 (λ x. ap kind_of e) ends
 begun_ends b.NameLambda level d t us g fs n gs row es e h ends = named level d t us g fs n gs row es h (λ c rest. ap kind_of e) ends

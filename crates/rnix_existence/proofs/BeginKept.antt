@@ -1,13 +1,13 @@
 -- Steps that begin an operand keep what is known of the frames.
-use Rattle.std.proofs.Common.{◌≡◌, ℕ, suc, ◌≤◌, ◌<◌, Bool, true, false, List, [], ◌∷◌, Some, refl, arith, if◌then◌else◌, nat_le}
+use Rattle.std.proofs.Common.{◌≡◌, ℕ, suc, ◌≤◌, ◌<◌, Bool, true, false, List, [], ◌∷◌, Some, refl, subst, arith, if◌then◌else◌, nat_le}
 use Rattle.std.proofs.lemmas.Bool.Decides.{nat_tests}
 use Rattle.rnix_kinds.specs.declared.kinds.SyntaxKind.{SyntaxKind, TheVariants.{NODE_IDENT, NODE_IDENT_PARAM, NODE_LAMBDA, NODE_LEGACY_LET, NODE_PATTERN}}
 use Rattle.{rnix_kinds.specs.declared.kinds.SyntaxKind.TheVariants.NODE_PAT_BIND, rnix_grammar.specs.declared.{place.Place.Place, begin.Begin.Begin}}
 use Rattle.rnix_grammar.specs.{Fault.Fault, Tables.depth_limit, Begins.{begin_of, second_kind}, AnnotatedForest.{Token, Stray, TooDeep, AnnotatedForest, blank}}
-use Rattle.rnix_grammar.specs.{AnnotatedForest.{◌⊕◌, one_token, one_branch, one_fault, row_of, leaf_kind, head_kind}, Machine.{Node, Operand, Frame, put}}
+use Rattle.rnix_grammar.specs.{AnnotatedForest.{◌⊕◌, token, one_token, one_branch, one_fault, row_of, leaf_kind, head_kind}, Machine.{Node, Operand, Frame, put}}
 use Rattle.{rnix_grammar.specs.Machine.{opened, leaf, behind, begun, limited, operand_on, reading}, rnix_lemmas.proofs.FirstTrees.{a_node, an_error}}
 use Rattle.{rnix_lemmas.proofs.FollowLemmas.{atom_tight, followed_loose}, rnix_existence.proofs.Frames.{row_at, MayGrow, an_operand, AtNode, Reading, node, operand}}
-use Rattle.rnix_existence.proofs.{Growing.{atom_grows, grows_by}, PlaceRows.IsRow, BeginLevels.{BeginsTree, begun_tree}, BelowKept.{grown, stayed, waits}}
+use Rattle.rnix_existence.proofs.{Growing.{atom_grows, grows_by}, PlaceRows.IsRow, BeginLevels.{BeginsTree, leaf_no_or, begun_grows, begun_tree}, BelowKept.{grown, stayed, waits}}
 use Rattle.rnix_grammar.specs.declared.place.Place.TheVariants as p
 use Rattle.rnix_grammar.specs.declared.begin.Begin.TheVariants as b
 
@@ -50,12 +50,13 @@ begun_kept (b.Leaf k) level d t ts g fs n gs w r s l = operand (record {
   place = refl;
   single = a_node;
   grows =
-      atom_grows level (one_branch k (one_token (leaf_kind k t) t)) w.atom (atom_tight k (one_token (leaf_kind k t) t) w.atom) (w.no_or (leaf_kind k t) t refl) l;
+      atom_grows level (one_branch k (one_token (leaf_kind k t) t)) w.2 (atom_tight k (one_token (leaf_kind k t) t) w.2) (leaf_no_or k (leaf_kind k t) t w.3) l;
   shallow = s;
   below = waits (put g.place g.row g) fs (stayed g fs g.place r refl);
 })
 begun_kept (b.Node k z high) level d t ts g fs n gs w r s l =
-    node (on_operand k z d level high (one_token (leaf_kind k t) t) g fs r (w.sound, w.home) s (λ rest. w.grows l t rest))
+    node (on_operand k z d level high (one_token (leaf_kind k t) t) g fs r (w.3, w.4) s
+    (λ rest. subst (λ (v : ℕ). MayGrow level v (one_branch k (token (leaf_kind k t) t rest))) w.5 (begun_grows k t.kind level t rest w.1 w.2 w.3 l)))
 begun_kept b.LegacyLet level d t ts g fs n gs w r s l =
     let x : AnnotatedForest = leaf false NODE_LEGACY_LET (t ∷ ts) ⊕ leaf false NODE_LEGACY_LET (behind false (t ∷ ts)) in
     node (on_operand NODE_LEGACY_LET p.LegacyInside d level 0 x g fs r (refl, refl) s
