@@ -1,14 +1,13 @@
 -- What the trees that may be arguments begin with, and at which levels first operands stand.
 use Rattle.std.{specs.Cmp.Derive.both_true, proofs.Common.{◌≡◌, ℕ, ◌≤◌, Bool, true, false, List, refl, ap, sym, ◌∙◌, subst, arith, ◌&&◌, if◌then◌else◌, nat_le}}
-use Rattle.std.proofs.lemmas.Bool.{and_parts}
-use Rattle.rnix_kinds.specs.declared.kinds.SyntaxKind.{SyntaxKind, TheVariants.{TOKEN_IDENT, TOKEN_OR, NODE_APPLY, NODE_BIN_OP, NODE_HAS_ATTR, NODE_IDENT}}
-use Rattle.{rnix_kinds.specs.{declared.kinds.SyntaxKind.TheVariants.NODE_SELECT, SyntaxKind.is_fn_arg}, rnix_green.specs.Forest.{Forest, leaf, node}}
-use Rattle.rnix_grammar.specs.{Levels.{binding_power, left_of}, AnnotatedForest.{Token, AnnotatedForest, blank, token, branch, fault, forget}, Rows.advance}
-use Rattle.rnix_grammar.specs.{Rows.{is_expression, live, start, whole}, Strict.{calls_or, is_grouped, is_named, is_strict, is_strict_atom, level_of}}
-use Rattle.rnix_grammar.specs.{Strict.{operator_of, stands_at}, Tables.{is_or, is_cur_pos}, Yield.untold, Plain.{is_node, AreUntold}}
-use Rattle.rnix_lemmas.proofs.{Basics.true_is_not_false, EveryKind.{at_most, no_kind, only_both, whenever_two}, LevelLemmas.at_most_true, StrictParts.Parts}
-use Rattle.{rnix_lemmas.proofs.StrictParts.{parts, Standing, standing, stands_so, atom_stands}, rnix_completeness.proofs.PlainNames.strict_node}
-use Rattle.rnix_completeness.proofs.FirstTokens.{Begins, begins_on, leaf_passes, told_passes}
+use Rattle.{std.proofs.lemmas.Bool.and_parts, rnix_kinds.specs.declared.kinds.SyntaxKind.{SyntaxKind, TheVariants.{TOKEN_IDENT, TOKEN_OR, NODE_APPLY}}}
+use Rattle.rnix_kinds.specs.{declared.kinds.SyntaxKind.TheVariants.{NODE_BIN_OP, NODE_HAS_ATTR, NODE_IDENT, NODE_SELECT}, SyntaxKind.is_fn_arg}
+use Rattle.{rnix_green.specs.Forest.{Forest, leaf, node}, rnix_grammar.specs.{Levels.{binding_power, left_of}, AnnotatedForest.{Token, AnnotatedForest, blank}}}
+use Rattle.rnix_grammar.specs.{AnnotatedForest.{token, branch, fault, forget}, Rows.{advance, is_expression, live, start, whole}, Strict.{calls_or, is_grouped}}
+use Rattle.rnix_grammar.specs.{Strict.{is_named, is_strict, is_strict_atom, level_of, operator_of, stands_at}, Tables.{is_or, is_cur_pos}, Yield.untold}
+use Rattle.{rnix_grammar.specs.Plain.{is_node, AreUntold}, rnix_lemmas.proofs.{Basics.true_is_not_false, EveryKind.{at_most, no_kind, only_both, whenever_two}}}
+use Rattle.rnix_lemmas.proofs.{LevelLemmas.at_most_true, StrictParts.{Parts, parts, Standing, standing, stands_so, atom_stands}}
+use Rattle.rnix_completeness.proofs.{PlainNames.strict_node, FirstTokens.{Begins, begins_on, leaf_passes, told_passes}}
 
 -- the kinds whose rows begin with an operand
 abbrev pub is_wrapper : SyntaxKind → Bool

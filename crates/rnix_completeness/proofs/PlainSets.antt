@@ -1,14 +1,13 @@
 -- Before the rest of a strict set `{` begins no pattern.
 use Rattle.std.proofs.Common.{if◌then◌else◌, ◌≡◌, inl, inr, Bool, true, false, List, ◌∷◌, ◌++◌, Option, Some, None, refl, ap, sym, ◌∙◌, subst, append_assoc}
-use Rattle.std.proofs.lemmas.Bool.{and_parts}
-use Rattle.rnix_kinds.specs.declared.kinds.SyntaxKind.{SyntaxKind, TheVariants.{TOKEN_AT, TOKEN_COLON, TOKEN_ELLIPSIS, TOKEN_IDENT, TOKEN_OR, TOKEN_R_BRACE}}
-use Rattle.rnix_kinds.specs.declared.kinds.SyntaxKind.TheVariants.{NODE_ATTRPATH, NODE_ATTRPATH_VALUE, NODE_DYNAMIC, NODE_IDENT, NODE_INHERIT, NODE_STRING}
-use Rattle.{rnix_kinds.proofs.AllKinds.implied, rnix_grammar.specs.{Begins.{is_pattern, second_kind}, AnnotatedForest.{Token, AnnotatedForest, blank, token}}}
-use Rattle.rnix_grammar.specs.{AnnotatedForest.{branch, fault, tokens_in, head_kind, forget}, Rows.{RowState, At, advance, live, start, to, is_attr}}
-use Rattle.{rnix_grammar.specs.{Strict.is_strict, Plain.AreUntold}, rnix_lemmas.proofs.{EveryKind.not_alone, Basics.{true_is_not_false, not_if}}}
-use Rattle.rnix_lemmas.proofs.{PlainTables.loose, StrictParts.{Parts, parts}, NodeKinds.{attr_node, not_both}, OpeningRows.live_to}
-use Rattle.rnix_completeness.proofs.{PlainNames.{IsName, only_name, strict_node, past_blank}, FirstTokens.{Begins, may_begin, node_begins, node_passes}}
-use Rattle.rnix_completeness.proofs.{FirstTokens.next_at, PlainPatterns.opens_pattern}
+use Rattle.{std.proofs.lemmas.Bool.and_parts, rnix_kinds.specs.declared.kinds.SyntaxKind.{SyntaxKind, TheVariants.{TOKEN_AT, TOKEN_COLON, TOKEN_ELLIPSIS}}}
+use Rattle.rnix_kinds.specs.declared.kinds.SyntaxKind.TheVariants.{TOKEN_IDENT, TOKEN_OR, TOKEN_R_BRACE, NODE_ATTRPATH, NODE_ATTRPATH_VALUE, NODE_DYNAMIC}
+use Rattle.rnix_kinds.{specs.declared.kinds.SyntaxKind.TheVariants.{NODE_IDENT, NODE_INHERIT, NODE_STRING}, proofs.AllKinds.implied}
+use Rattle.rnix_grammar.specs.{Begins.{is_pattern, second_kind}, AnnotatedForest.{Token, AnnotatedForest, blank, token, branch, fault, tokens_in, head_kind}}
+use Rattle.rnix_grammar.specs.{AnnotatedForest.forget, Rows.{RowState, At, advance, live, start, to, is_attr}, Strict.is_strict, Plain.AreUntold}
+use Rattle.rnix_lemmas.proofs.{EveryKind.not_alone, Basics.{true_is_not_false, not_if}, PlainTables.loose, StrictParts.{Parts, parts}, NodeKinds.attr_node}
+use Rattle.{rnix_lemmas.proofs.{NodeKinds.not_both, OpeningRows.live_to}, rnix_completeness.proofs.PlainNames.{IsName, only_name, strict_node, past_blank}}
+use Rattle.rnix_completeness.proofs.{FirstTokens.{Begins, may_begin, node_begins, node_passes, next_at}, RowFunctions.opens_pattern}
 use Rattle.rnix_grammar.specs.declared.place.Place.TheVariants as p
 
 -- with these it begins none, whatever comes next

@@ -1,19 +1,18 @@
 -- A strict expression that begins with no operand begins as its first three items say.
 use Rattle.std.{specs.Cmp.Derive.both_true, proofs.Common.{◌≡◌, ℕ, ◌≤◌, Bool, true, false, List, ◌++◌, refl, ap, sym, ◌∙◌, subst, arith, ◌&&◌, if◌then◌else◌}}
-use Rattle.std.proofs.{Common.nat_eq, lemmas.Bool.and_parts}
-use Rattle.rnix_kinds.specs.{SyntaxKind.place_of, declared.kinds.SyntaxKind.{SyntaxKind, TheVariants.{TOKEN_CUR_POS, TOKEN_IDENT, TOKEN_INVERT, TOKEN_LET}}}
-use Rattle.rnix_kinds.specs.declared.kinds.SyntaxKind.TheVariants.{TOKEN_L_BRACE, TOKEN_REC, TOKEN_SUB, NODE_ATTR_SET, NODE_CUR_POS, NODE_IDENT, NODE_LAMBDA}
-use Rattle.rnix_kinds.specs.declared.kinds.SyntaxKind.TheVariants.{NODE_LEGACY_LET, NODE_LET_IN, NODE_PAREN, NODE_UNARY_OP}
-use Rattle.{rnix_green.specs.{Equality.same_kind, Forest.{Forest, leaf}}, rnix_grammar.specs.{Begins.{begin_of, begin_let, second_kind}, Operands.first_tree}}
-use Rattle.rnix_grammar.specs.{Operands.{kind_of, IsBegun}, AnnotatedForest.{Token, AnnotatedForest, blank, token, branch, fault, tokens_in, head_kind, forget}}
-use Rattle.rnix_grammar.specs.{Rows.{BeforeBrace, At, first, advance, is_expression, is_operand, to, live, start, whole}, Strict.{is_named, is_strict}}
-use Rattle.{rnix_grammar.specs.{Strict.{level_of, stands_at}, Yield.untold, Plain.{is_node, AreUntold}}, rnix_lemmas.proofs.Basics.{true_is_not_false, not_if}}
-use Rattle.rnix_lemmas.proofs.{EveryKind.{same, no_kind, whenever_two}, NodeKinds.not_both, OpeningRows.live_to, PlainTables.loose, StrictParts.{Parts, parts}}
-use Rattle.{rnix_lemmas.proofs.StrictParts.{Standing, standing}, rnix_completeness.proofs.{FirstTokens.{next_at, next_kind}, PlainBegins.is_wrapper}}
-use Rattle.rnix_completeness.proofs.{PlainBegins.name_leaf, PlainNames.{strict_node, plain_name, is_name, untold_plain}, PlainPatterns.param_node}
-use Rattle.rnix_completeness.proofs.{PlainSets.set_opens, RowFunctions.lambda_row}
-use Rattle.rnix_grammar.specs.declared.place.Place.TheVariants as p
+use Rattle.{std.proofs.{Common.nat_eq, lemmas.Bool.and_parts}, rnix_kinds.specs.{SyntaxKind.place_of, declared.kinds.SyntaxKind.SyntaxKind}}
+use Rattle.rnix_kinds.specs.declared.kinds.SyntaxKind.TheVariants.{TOKEN_CUR_POS, TOKEN_IDENT, TOKEN_INVERT, TOKEN_LET, TOKEN_L_BRACE, TOKEN_REC, TOKEN_SUB}
+use Rattle.rnix_kinds.specs.declared.kinds.SyntaxKind.TheVariants.{NODE_ATTR_SET, NODE_CUR_POS, NODE_IDENT, NODE_LAMBDA, NODE_LEGACY_LET, NODE_LET_IN}
+use Rattle.{rnix_kinds.specs.declared.kinds.SyntaxKind.TheVariants.{NODE_PAREN, NODE_UNARY_OP}, rnix_green.specs.{Equality.same_kind, Forest.{Forest, leaf}}}
+use Rattle.rnix_grammar.specs.{Begins.{begin_of, begin_let, second_kind}, Operands.{first_tree, kind_of, IsBegun}, AnnotatedForest.{Token, AnnotatedForest}}
+use Rattle.rnix_grammar.specs.{AnnotatedForest.{blank, token, branch, fault, tokens_in, head_kind, forget}, Rows.{BeforeBrace, At, first, advance}}
+use Rattle.rnix_grammar.specs.{Rows.{is_expression, is_operand, to, live, start, whole}, Strict.{is_named, is_strict, level_of, stands_at}, Yield.untold}
+use Rattle.{rnix_grammar.specs.Plain.{is_node, AreUntold}, rnix_lemmas.proofs.{Basics.{true_is_not_false, not_if}, EveryKind.{same, no_kind, whenever_two}}}
+use Rattle.rnix_lemmas.proofs.{NodeKinds.not_both, OpeningRows.live_to, PlainTables.loose, StrictParts.{Parts, parts, Standing, standing}}
+use Rattle.rnix_completeness.proofs.{FirstTokens.{next_at, next_kind}, PlainBegins.{is_wrapper, name_leaf}, PlainNames.{strict_node, plain_name, is_name}}
+use Rattle.rnix_completeness.proofs.{PlainNames.untold_plain, RowFunctions.{param_node, lambda_row}, PlainSets.set_opens}
 use Rattle.rnix_grammar.specs.declared.begin.Begin.TheVariants as b
+use Rattle.rnix_grammar.specs.declared.place.Place.TheVariants as p
 
 -- an operand of a level that begins with a token before these items begins a tree of the kind
 abbrev Tells : SyntaxKind → ℕ → Token → List Token → Type 0

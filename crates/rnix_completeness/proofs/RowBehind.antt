@@ -1,23 +1,22 @@
 -- What stands behind a node of a strict row may follow it.
 use Rattle.std.{specs.Cmp.Derive.both_true, proofs.Common.{◌≡◌, ℕ, ◌≤◌, Bool, true, false, List, ◌++◌, Option, Some, None, refl, ap, sym, ◌∙◌, subst}}
-use Rattle.std.proofs.{Common.{append_assoc, arith, ◌&&◌, if◌then◌else◌}, lemmas.Bool.and_parts}
-use Rattle.rnix_kinds.specs.declared.kinds.SyntaxKind.{SyntaxKind, TheVariants.{TOKEN_OR, NODE_APPLY, NODE_BIN_OP, NODE_HAS_ATTR, NODE_IDENT, NODE_PATH_ABS}}
-use Rattle.rnix_kinds.specs.declared.kinds.SyntaxKind.TheVariants.{NODE_PATH_HOME, NODE_PATH_REL, NODE_PAT_BIND, NODE_SELECT, NODE_UNARY_OP}
-use Rattle.{rnix_kinds.{specs.SyntaxKind.is_fn_arg, proofs.AllKinds.implied}, rnix_green.specs.Forest.Forest, rnix_grammar.specs.declared.place.Place.Place}
-use Rattle.rnix_grammar.specs.{declared.{symbol.Symbol.Symbol, until.Closer.Closer}, Corners.node_count, Levels.left_of, Operands.level_at, Symbols.symbol_at}
-use Rattle.rnix_grammar.specs.{Symbols.level_in, Tables.closes, AnnotatedForest.{Token, AnnotatedForest, blank, token, branch, fault, one_branch, tokens_in}}
-use Rattle.rnix_grammar.specs.{AnnotatedForest.{head_kind, forget}, TokenKinds.is_or, TreeLevels.{is_or_row, is_or_leaf}, Rows.{RowState, Start}}
-use Rattle.rnix_grammar.specs.Rows.{BeforeOperator, BeforeDot, BeforeQuestion, BeforeArgument, At, first, fits, advance, advance_symbol, is_expression, is_atom}
-use Rattle.rnix_grammar.specs.{Rows.{is_infix, is_operand, is_questioned, is_simple, live, start, to, whole}, Strict.{is_grouped, is_or_name, is_strict}}
-use Rattle.rnix_grammar.specs.{Strict.{is_strict_atom, may_stand, stands_at, stands_in}, Plain.{is_node, AreUntold}, Yield.untold}
-use Rattle.rnix_lemmas.proofs.{Basics.{true_is_not_false, not_if, some_same}, EveryKind.{tokens_alone, whenever_two, whenever_both}, LevelLemmas.at_most_true}
-use Rattle.rnix_lemmas.proofs.{NodeKinds.{not_both, fits_expression}, OpeningRows.{live_to, to_live}, PlaceTests.closer_leaf, PlainTables.{loose, below}}
-use Rattle.rnix_lemmas.proofs.{PlainTables.{is_bound, high_in}, StrictParts.{Parts, parts, Standing, standing, atom_level}}
-use Rattle.rnix_completeness.proofs.{FirstTokens.{Begins, begins_on, leaf_passes, next_at, next_passes, told_passes}, LevelBounds.{below_high, bounds}}
-use Rattle.rnix_completeness.proofs.{LevelBounds.{loose_one, loose_more}, PlainBegins.{first_argument, is_wrapper}, PlainNames.{past_blank, strict_node}}
-use Rattle.rnix_completeness.proofs.{PlainNames.{IsName, only_name, unnamed}, RowAsks.{Ask, any, no_at, loosest, ask, ask_of, heed, heeds, holds, is_told}}
-use Rattle.rnix_completeness.proofs.{RowAsks.{loose_no_interpol, weaker, weaker_so, in_dynamic}, RowFits.Fit, RowGroups.{calls_with, or_same, calls_same}}
-use Rattle.rnix_completeness.proofs.RowExpects.{is_leaf, simple_node, simple_expression}
+use Rattle.{std.proofs.{Common.{append_assoc, arith, ◌&&◌, if◌then◌else◌}, lemmas.Bool.and_parts}, rnix_kinds.specs.declared.kinds.SyntaxKind.SyntaxKind}
+use Rattle.rnix_kinds.specs.declared.kinds.SyntaxKind.TheVariants.{TOKEN_OR, NODE_APPLY, NODE_BIN_OP, NODE_HAS_ATTR, NODE_IDENT, NODE_PATH_ABS, NODE_PATH_HOME}
+use Rattle.rnix_kinds.specs.{declared.kinds.SyntaxKind.TheVariants.{NODE_PATH_REL, NODE_PAT_BIND, NODE_SELECT, NODE_UNARY_OP}, SyntaxKind.is_fn_arg}
+use Rattle.{rnix_kinds.proofs.AllKinds.implied, rnix_green.specs.Forest.Forest, rnix_grammar.specs.declared.{place.Place.Place, symbol.Symbol.Symbol}}
+use Rattle.rnix_grammar.specs.{declared.until.Closer.Closer, Corners.node_count, Levels.left_of, Operands.level_at, Symbols.{symbol_at, level_in}}
+use Rattle.rnix_grammar.specs.{Tables.closes, AnnotatedForest.{Token, AnnotatedForest, blank, token, branch, fault, one_branch, tokens_in, head_kind, forget}}
+use Rattle.rnix_grammar.specs.{TokenKinds.is_or, TreeLevels.{is_or_row, is_or_leaf}, Rows.{RowState, Start, BeforeOperator, BeforeDot, BeforeQuestion}}
+use Rattle.rnix_grammar.specs.Rows.{BeforeArgument, At, first, fits, advance, advance_symbol, is_expression, is_atom, is_infix, is_operand, is_questioned}
+use Rattle.rnix_grammar.specs.{Rows.{is_simple, live, start, to, whole}, Strict.{is_grouped, is_or_name, is_strict, is_strict_atom, may_stand, stands_at}}
+use Rattle.{rnix_grammar.specs.{Strict.stands_in, Plain.{is_node, AreUntold}, Yield.untold}, rnix_lemmas.proofs.Basics.{true_is_not_false, not_if, some_same}}
+use Rattle.rnix_lemmas.proofs.{EveryKind.{tokens_alone, whenever_two, whenever_both}, LevelLemmas.at_most_true, NodeKinds.{not_both, fits_expression}}
+use Rattle.rnix_lemmas.proofs.{OpeningRows.{live_to, to_live}, PlaceTests.closer_leaf, PlainTables.{loose, below, is_bound, high_in}, StrictParts.Parts}
+use Rattle.{rnix_lemmas.proofs.StrictParts.{parts, Standing, standing, atom_level}, rnix_completeness.proofs.FirstTokens.{Begins, begins_on, leaf_passes}}
+use Rattle.rnix_completeness.proofs.{FirstTokens.{next_at, next_passes, told_passes}, LevelBounds.{below_high, bounds, loose_one, loose_more}}
+use Rattle.rnix_completeness.proofs.{PlainBegins.{first_argument, is_wrapper}, PlainNames.{past_blank, strict_node, IsName, only_name, unnamed}, RowAsks.Ask}
+use Rattle.rnix_completeness.proofs.RowAsks.{any, no_at, loosest, ask, ask_of, heed, heeds, holds, is_told, loose_no_interpol, weaker, weaker_so, in_dynamic}
+use Rattle.rnix_completeness.proofs.{RowFits.Fit, RowGroups.{calls_with, or_same, calls_same}, RowExpects.{is_leaf, simple_node, simple_expression}}
 use Rattle.rnix_grammar.specs.declared.place.Place.TheVariants as p
 use Rattle.rnix_grammar.specs.declared.symbol.Symbol.TheVariants as s
 use Rattle.rnix_grammar.specs.declared.until.Closer.TheVariants as c

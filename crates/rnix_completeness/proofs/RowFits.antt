@@ -1,17 +1,43 @@
 -- What is known of a strict row from a state on, and how it goes on behind each of its trees.
-use Rattle.std.{specs.Cmp.Derive.both_true, proofs.Common.{◌≡◌, ℕ, suc, ◌+◌, ◌≤◌, true, false, List, ◌++◌, ap, sym, ◌∙◌, subst, arith, Bool, [], refl}}
-use Rattle.std.proofs.{Common.{if◌then◌else◌, nat_eq, max, ◌&&◌}, lemmas.Bool.{and_parts, Decides.nat_tests}}
-use Rattle.rnix_kinds.specs.declared.kinds.SyntaxKind.{SyntaxKind, TheVariants.{TOKEN_PATH_ABS, TOKEN_PATH_HOME, TOKEN_PATH_REL, NODE_ATTRPATH}}
-use Rattle.rnix_kinds.specs.declared.kinds.SyntaxKind.TheVariants.{NODE_ATTRPATH_VALUE, NODE_DYNAMIC, NODE_PATH_ABS, NODE_PATH_HOME, NODE_PATH_REL}
-use Rattle.{rnix_kinds.{specs.declared.kinds.SyntaxKind.TheVariants.{NODE_PATTERN, NODE_ROOT}, proofs.AllKinds.implied}, rnix_grammar.specs.Tables.depth_limit}
-use Rattle.rnix_grammar.specs.AnnotatedForest.{Token, AnnotatedForest, blank, token, branch, ◌⊕◌, one_token, one_branch, tokens_in, head_kind, forget, end_from}
-use Rattle.rnix_grammar.specs.{AnnotatedForest.touches, Rows.{RowState, At, advance, start, counts, Start, first, live}, Strict.{is_strict, is_grouped}}
-use Rattle.rnix_grammar.specs.{Plain.{joins, is_node, is_path, is_joined, AreUntold, ArePaths, joins_first}, PlaceReads.deeper, Corners.node_count}
+use Rattle.std.proofs.Common.{◌≡◌, ℕ, Bool, true, List, refl, suc, ◌+◌, ◌≤◌, false, ◌++◌, ap, sym, ◌∙◌, subst, arith, [], if◌then◌else◌, nat_eq, max, ◌&&◌}
+use Rattle.{std.{proofs.lemmas.Bool.{and_parts, Decides.nat_tests}, specs.Cmp.Derive.both_true}, rnix_kinds.specs.declared.kinds.SyntaxKind.SyntaxKind}
+use Rattle.rnix_kinds.specs.declared.kinds.SyntaxKind.TheVariants.{TOKEN_PATH_ABS, TOKEN_PATH_HOME, TOKEN_PATH_REL, NODE_ATTRPATH, NODE_ATTRPATH_VALUE}
+use Rattle.rnix_kinds.specs.declared.kinds.SyntaxKind.TheVariants.{NODE_DYNAMIC, NODE_PATH_ABS, NODE_PATH_HOME, NODE_PATH_REL, NODE_PATTERN, NODE_ROOT}
+use Rattle.{rnix_kinds.proofs.AllKinds.implied, rnix_grammar.specs.{declared.place.Place.Place, AnnotatedForest.{Token, AnnotatedForest, blank, token, branch}}}
+use Rattle.rnix_grammar.specs.{AnnotatedForest.{fault, ◌⊕◌, one_token, one_branch, tokens_in, head_kind, forget, end_from, touches}, Plain.{joins, joins_first}}
+use Rattle.rnix_grammar.specs.{Plain.{is_node, is_path, is_joined, AreUntold, ArePaths}, Tables.depth_limit, Rows.{RowState, At, advance, start, counts, Start}}
+use Rattle.rnix_grammar.specs.{Rows.{first, live}, Strict.{is_strict, is_grouped}, PlaceReads.deeper, Corners.node_count}
 use Rattle.rnix_lemmas.proofs.{RowNesting.nesting, StrictParts.{parts, Parts}, Basics.{true_is_not_false, not_if}, EveryKind.{only, whenever_two}}
-use Rattle.{rnix_lemmas.proofs.{NodeKinds.is_error, PlainPlaces.reaches}, rnix_completeness.proofs.PlainPieces.{joins_branch, joins_there, joins_at}}
-use Rattle.rnix_completeness.proofs.{PlainPieces.joins_plain, PlainNames.{strict_node, is_sound, unnamed}, PlainEntries.{AreNew, entries_new}, RowAsks.heed}
-use Rattle.rnix_completeness.proofs.{RowAsks.{heed_on, by_token, by_branch, in_pattern, in_dynamic, in_path, stays}, RowGroups.{Grouped, branch_grouped}}
-use Rattle.rnix_completeness.proofs.RowGroups.{leaf_grouped}
+use Rattle.{rnix_lemmas.proofs.{NodeKinds.is_error, PlainPlaces.reaches}, rnix_completeness.proofs.PlainNames.{strict_node, is_sound, unnamed, AreNew}}
+use Rattle.rnix_completeness.proofs.{PlainNames.entries_new, RowAsks.{heed, heed_on, by_token, by_branch, in_pattern, in_dynamic, in_path, stays}}
+use Rattle.rnix_completeness.proofs.RowGroups.{Grouped, branch_grouped, leaf_grouped}
+use Rattle.rnix_grammar.specs.declared.place.Place.TheVariants as p
+
+-- the pieces of a path behind a place of its row
+abbrev pub joins_at : Place → ℕ → AnnotatedForest → List Token → Bool
+joins_at p.PathFirst n f us = joins_first n f us
+joins_at place n f us = joins n f us
+
+-- where a token stands next in a path it touches what is before it
+pub joins_plain : (x : Place) (n : ℕ) (j : SyntaxKind) (t : Token) (f : AnnotatedForest) (us : List Token) → joins_at x n (token j t f) us ≡ true → joins n (token j t f) us ≡ true
+joins_plain p.PathFirst n j t f us h = h
+joins_plain _ n j t f us h = h
+
+-- where a node stands next in a path its pieces touch
+pub joins_branch : (x : Place) (n : ℕ) (j : SyntaxKind) (c f : AnnotatedForest) (us : List Token) → joins_at x n (branch j c f) us ≡ true → joins n (branch j c f) us ≡ true
+joins_branch p.PathFirst n j c f us h = h
+joins_branch _ n j c f us h = h
+
+first_joins : (n : ℕ) (f : AnnotatedForest) (us : List Token) → joins n f us ≡ true → joins_first n f us ≡ true
+first_joins n blank us h = refl
+first_joins n (token k t f) us h = h
+first_joins n (branch k c f) us h = h
+first_joins n (fault m c f) us h = h
+
+-- pieces that touch do so at every place
+pub joins_there : (y : Place) (n : ℕ) (f : AnnotatedForest) (us : List Token) → joins n f us ≡ true → joins_at y n f us ≡ true
+joins_there p.PathFirst n f us h = first_joins n f us h
+joins_there _ n f us h = h
 
 -- what is nested in a row's trees is nested in the row
 max_right : (d m n l : ℕ) → d + max m n ≤ l → d + n ≤ l

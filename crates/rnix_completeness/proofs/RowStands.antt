@@ -1,17 +1,17 @@
 -- A node of a strict row stands where the next item is the place's own, or where it is not, as its kind does.
 use Rattle.std.{specs.Cmp.Derive.both_true, proofs.Common.{◌≡◌, ℕ, Bool, true, false, List, [], ◌∷◌, ◌++◌, Option, Some, None, refl, ap, sym, ◌∙◌, subst, ◌&&◌}}
-use Rattle.std.proofs.{Common.{◌||◌, if◌then◌else◌, nat_eq}, lemmas.Bool.and_parts}
-use Rattle.rnix_kinds.specs.declared.kinds.SyntaxKind.{SyntaxKind, TheVariants.{TOKEN_AT, TOKEN_IDENT, NODE_IDENT, NODE_PAT_BIND, NODE_PAT_ENTRY}}
-use Rattle.{rnix_kinds.{specs.SyntaxKind.is_fn_arg, proofs.AllKinds.implied}, rnix_grammar.specs.declared.{place.Place.Place, symbol.Symbol.Symbol}}
-use Rattle.rnix_grammar.specs.{declared.until.Closer.Closer, ExpectedItems.{expects, expects_end, expects_in, IsExpected, stands_expected, stands_expected_in}}
-use Rattle.rnix_grammar.specs.{Symbols.symbol_at, Tables.{closes, is_wanted}, TokenKinds.{is_inherit_token, is_or, is_piece_start}, AnnotatedForest.Token}
-use Rattle.rnix_grammar.specs.{AnnotatedForest.{AnnotatedForest, branch, one_branch, tokens_in, head_kind, forget, end_from, touches}, Rows.RowState}
-use Rattle.rnix_grammar.specs.{Rows.{BeforeArgument, At, advance, advance_symbol, is_entry, live, start, to}, TreeLevels.is_or_row, Strict.first_is_no_or}
-use Rattle.{rnix_grammar.specs.{Strict.{is_grouped, is_strict}, Plain.{is_node, joins, AreUntold}}, rnix_lemmas.proofs.Basics.{true_is_not_false, some_same}}
-use Rattle.rnix_lemmas.proofs.{Basics.not_if, EveryKind.{whenever_two, only, only_both}, NodeKinds.not_both, OpeningRows.live_to, StrictParts.{Parts, parts}}
-use Rattle.{rnix_lemmas.proofs.PlaceTests.{closer_leaf, wanted_leaf}, rnix_completeness.proofs.FirstTokens.{may_begin, Begins, node_begins}}
-use Rattle.rnix_completeness.proofs.{PlainNames.{IsIdent, only_ident}, PlainEntries.{IsNamed, named_row}, PlainPatterns.bind_begins, PlainPieces.joins_branch}
-use Rattle.rnix_completeness.proofs.{RowAsks.in_path, RowBehind.argument_begins, RowFits.Fit, RowGroups.{calls_with, Grouped}, RowExpects.path_more}
+use Rattle.{std.proofs.{Common.{◌||◌, if◌then◌else◌, nat_eq}, lemmas.Bool.and_parts}, rnix_kinds.specs.declared.kinds.SyntaxKind.SyntaxKind}
+use Rattle.rnix_kinds.specs.{declared.kinds.SyntaxKind.TheVariants.{TOKEN_AT, TOKEN_IDENT, NODE_IDENT, NODE_PAT_BIND, NODE_PAT_ENTRY}, SyntaxKind.is_fn_arg}
+use Rattle.{rnix_kinds.proofs.AllKinds.implied, rnix_grammar.specs.declared.{place.Place.Place, symbol.Symbol.Symbol, until.Closer.Closer}}
+use Rattle.rnix_grammar.specs.{ExpectedItems.{expects, expects_end, expects_in, IsExpected, stands_expected, stands_expected_in}, Symbols.symbol_at}
+use Rattle.rnix_grammar.specs.{Tables.{closes, is_wanted}, TokenKinds.{is_inherit_token, is_or, is_piece_start}, AnnotatedForest.{Token, AnnotatedForest}}
+use Rattle.rnix_grammar.specs.{AnnotatedForest.{branch, one_branch, tokens_in, head_kind, forget, end_from, touches}, Rows.{RowState, BeforeArgument, At}}
+use Rattle.rnix_grammar.specs.{Rows.{advance, advance_symbol, is_entry, live, start, to}, TreeLevels.is_or_row, Strict.{first_is_no_or, is_grouped, is_strict}}
+use Rattle.{rnix_grammar.specs.Plain.{is_node, joins, AreUntold}, rnix_lemmas.proofs.{Basics.{true_is_not_false, some_same, not_if}, EveryKind.whenever_two}}
+use Rattle.rnix_lemmas.proofs.{EveryKind.{only, only_both}, NodeKinds.not_both, OpeningRows.live_to, StrictParts.{Parts, parts}, PlaceTests.closer_leaf}
+use Rattle.{rnix_lemmas.proofs.PlaceTests.wanted_leaf, rnix_completeness.proofs.{FirstTokens.{may_begin, Begins, node_begins}, PlainNames.IsIdent}}
+use Rattle.rnix_completeness.proofs.{PlainNames.{only_ident, IsNamed, named_row}, RowFunctions.bind_begins, RowFits.{joins_branch, Fit}, RowAsks.in_path}
+use Rattle.rnix_completeness.proofs.{RowBehind.argument_begins, RowGroups.{calls_with, Grouped}, RowExpects.path_more}
 use Rattle.rnix_grammar.specs.declared.place.Place.TheVariants as p
 use Rattle.rnix_grammar.specs.declared.symbol.Symbol.TheVariants as s
 use Rattle.rnix_grammar.specs.declared.until.Closer.TheVariants as c

@@ -1,12 +1,12 @@
 -- A strict tree is a reading of its items, without errors.
 use Rattle.std.proofs.Common.{◌≡◌, ◌⊎◌, inl, inr, ℕ, suc, ◌+◌, ◌≤◌, ◌<◌, Bool, true, false, List, [], ◌∷◌, ◌++◌, refl, ap, sym, ◌∙◌, subst, arith}
-use Rattle.std.proofs.{Common.{if◌then◌else◌, max, nat_eq}, lemmas.Bool.and_parts}
-use Rattle.rnix_kinds.specs.declared.kinds.SyntaxKind.{SyntaxKind, TheVariants.{TOKEN_CUR_POS, TOKEN_IDENT, TOKEN_OR, NODE_CUR_POS, NODE_ERROR, NODE_IDENT}}
-use Rattle.rnix_kinds.{specs.declared.kinds.SyntaxKind.TheVariants.{NODE_PAT_ENTRY, NODE_ROOT}, proofs.AllKinds.implied}
-use Rattle.rnix_grammar.specs.{declared.place.Place.Place, ExpectedItems.IsExpected, PlaceReads.{deeper, end, inner, leaf, IsOver, Reads, ReadsWhole}}
-use Rattle.rnix_grammar.specs.{Reports.repeats, Rows.{RowState, Start, At, first, counts, fits, advance, live, start}, AnnotatedForest.{Token, AnnotatedForest}}
-use Rattle.rnix_grammar.specs.AnnotatedForest.{blank, token, branch, fault, ◌⊕◌, one_token, one_branch, tokens_in, forget, end_from, leaf_kind, leaf_kind_as}
-use Rattle.rnix_grammar.specs.{Strict.{is_strict, is_strict_expression}, Tables.depth_limit, Plain.{is_node, goes_on_path, joins, AreUntold, ArePaths}}
+use Rattle.{std.proofs.{Common.{if◌then◌else◌, max, nat_eq}, lemmas.Bool.and_parts}, rnix_kinds.specs.declared.kinds.SyntaxKind.SyntaxKind}
+use Rattle.rnix_kinds.specs.declared.kinds.SyntaxKind.TheVariants.{TOKEN_CUR_POS, TOKEN_IDENT, TOKEN_OR, NODE_CUR_POS, NODE_ERROR, NODE_IDENT, NODE_PAT_ENTRY}
+use Rattle.{rnix_kinds.{specs.declared.kinds.SyntaxKind.TheVariants.NODE_ROOT, proofs.AllKinds.implied}, rnix_grammar.specs.declared.place.Place.Place}
+use Rattle.rnix_grammar.specs.{ExpectedItems.IsExpected, PlaceReads.{deeper, end, inner, leaf, IsOver, Reads, ReadsWhole}, Reports.repeats, Rows.RowState}
+use Rattle.rnix_grammar.specs.{Rows.{Start, At, first, counts, fits, advance, live, start}, AnnotatedForest.{Token, AnnotatedForest, blank, token, branch}}
+use Rattle.rnix_grammar.specs.{AnnotatedForest.{fault, ◌⊕◌, one_token, one_branch, tokens_in, forget, end_from, leaf_kind, leaf_kind_as}, Strict.is_strict}
+use Rattle.rnix_grammar.specs.{Strict.is_strict_expression, Tables.depth_limit, Plain.{is_node, goes_on_path, joins, AreUntold, ArePaths}}
 use Rattle.rnix_lemmas.proofs.{Basics.{true_is_not_false, not_if}, EveryKind.tokens_alone, NodeKinds.{expression_node, fits_expression, is_error, not_both}}
 use Rattle.rnix_lemmas.proofs.{NodeKinds.told_plain, OpeningRows.{live_to, to_live}, RowNesting.nesting, StrictParts.{Parts, parts, end_behind}}
 use Rattle.rnix_completeness.proofs.{PlainNames.{past_blank, strict_node, IsName, only_name}, RowAsks.{in_path, in_pattern}, RowExpects.over_blank}

@@ -1,22 +1,21 @@
 -- A row without errors of the end, repeated names and corners is strict, once its errors are repaired and its names stand where they may.
-use Rattle.std.{specs.Str.bytes_eq, proofs.Common.{◌≡◌, ℕ, Bool, true, false, List, [], ◌∷◌, ◌++◌, Some, refl, ap, sym, ◌∙◌, subst, codes, if◌then◌else◌}}
-use Rattle.std.proofs.{Common.◌&&◌, lemmas.Bool.{and_from, and_parts, false_from_ne_true}}
-use Rattle.rnix_kinds.specs.declared.kinds.SyntaxKind.{SyntaxKind, TheVariants.{TOKEN_AT, NODE_IDENT, NODE_LITERAL, NODE_PAT_BIND, NODE_PAT_ENTRY}}
-use Rattle.{rnix_kinds.{specs.declared.kinds.SyntaxKind.TheVariants.TOKEN_INTEGER, proofs.AllKinds.implied}, rnix_green.specs.Forest.{Forest, empty, leaf}}
-use Rattle.{rnix_green.specs.Forest.node, rnix_grammar.specs.{declared.{place.Place.Place, until.Until.Until}, Fault.{Fault, named_twice}}}
-use Rattle.rnix_grammar.specs.AnnotatedForest.{Token, Note, Stray, Unwanted, Extra, Twice, TooDeep, AnnotatedForest, blank, branch, ◌⊕◌, one_token, one_branch}
-use Rattle.rnix_grammar.specs.{AnnotatedForest.{one_fault, tokens_in, leaf_kind, extent_of}, Reports.{report, repeated, repeated_if, entry_name, is_same_name}}
-use Rattle.rnix_grammar.specs.{Reports.{has_entry, repeats}, Rows.{is_expression, RowState, Start, At, advance, first, first_bind, live, whole, start}}
-use Rattle.rnix_grammar.specs.{PlaceReads.{Reads, ReadsWhole, end, leaf as leafed, missing_part, wrong, second, inner, IsWrong, deeper}, Strict.{may_stand, is_grouped, is_strict}}
-use Rattle.rnix_grammar.specs.{Strict.{entry_text, are_entries_new, first_is_no_or, binds_no_or}, Tables.is_among, Repaired.{repaired, patch, is_ended, ended_count}}
+use Rattle.std.{specs.Str.bytes_eq, proofs.Common.{◌≡◌, ℕ, Bool, true, false, List, [], ◌∷◌, ◌++◌, Some, refl, ap, sym, ◌∙◌, subst, codes, if◌then◌else◌, ◌&&◌}}
+use Rattle.{std.proofs.{Common.{◌+◌, arith}, lemmas.Bool.{and_from, and_parts, false_from_ne_true}}, rnix_kinds.specs.declared.kinds.SyntaxKind.SyntaxKind}
+use Rattle.rnix_kinds.specs.declared.kinds.SyntaxKind.TheVariants.{TOKEN_AT, NODE_IDENT, NODE_LITERAL, NODE_PAT_BIND, NODE_PAT_ENTRY, TOKEN_INTEGER, NODE_ROOT}
+use Rattle.{rnix_kinds.proofs.AllKinds.implied, rnix_green.specs.Forest.{Forest, empty, leaf, node}, rnix_grammar.specs.declared.place.Place.Place}
+use Rattle.rnix_grammar.specs.{declared.until.Until.Until, Fault.{Fault, named_twice}, AnnotatedForest.{Token, Note, Stray, Unwanted, Extra, Twice, TooDeep}}
+use Rattle.rnix_grammar.specs.AnnotatedForest.{AnnotatedForest, blank, branch, ◌⊕◌, one_token, one_branch, one_fault, tokens_in, leaf_kind, extent_of}
+use Rattle.rnix_grammar.specs.{Reports.{report, repeated, repeated_if, entry_name, is_same_name, has_entry, repeats}, Rows.{is_expression, RowState, Start, At}}
+use Rattle.rnix_grammar.specs.{Rows.{advance, first, first_bind, live, whole, start}, PlaceReads.{Reads, ReadsWhole, end, leaf as leafed, missing_part, wrong}}
+use Rattle.rnix_grammar.specs.{PlaceReads.{second, inner, IsWrong, deeper}, Strict.{may_stand, is_grouped, is_strict, entry_text, are_entries_new}}
+use Rattle.rnix_grammar.specs.{Strict.{first_is_no_or, binds_no_or, is_strict_expression}, Tables.is_among, Repaired.{repaired, patch, is_ended, ended_count}}
 use Rattle.rnix_grammar.specs.{Corners.{is_corner, has_no_corner}, Names.is_name_at, Named.{is_spelled, AreSpelled, AreNamed, is_repeated, Lacks}}
-use Rattle.{rnix_grammar.specs.{BehindErrors.{go_run, go_error}, Missing.missing}, rnix_lemmas.proofs.{Basics.true_is_not_false, OpeningRows.{HasRow, Opening, number_wrong, leveled}}}
-use Rattle.rnix_lemmas.proofs.{OpeningRows.{by_token, by_branch, by_fault, opened, is_place, spelled_first, spelled_rest}, MissingFacts.missing_ended}
-use Rattle.{rnix_lemmas.proofs.{EntryNames.{has-⊕, if_not}, NestRowStates.wrong_goes}, rnix_soundness.proofs.SimilarRowStates.{Similar, similar_same}}
-use Rattle.rnix_soundness.proofs.{SimilarRowStates.{similar_two, similar_run, similar_past}, HomeRowStates.{IsHome, home_go, home_start, home_run, home_past}}
-use Rattle.rnix_soundness.proofs.{FirstTrees.{IsLed, led, token_first, no_operand}, RepairedNames.named_no_or, RepairedStands.{IsThere, stands_there, suits_named}}
-use Rattle.rnix_soundness.proofs.{RepairedStands.number_stands, RepairedGroups.grouped}
-use Rattle.{rnix_kinds.specs.declared.kinds.SyntaxKind.TheVariants.NODE_ROOT, std.proofs.Common.{◌+◌, arith}, rnix_grammar.specs.Strict.is_strict_expression}
+use Rattle.{rnix_grammar.specs.{BehindErrors.{go_run, go_error}, Missing.missing}, rnix_lemmas.proofs.{Basics.true_is_not_false, OpeningRows.{HasRow, Opening}}}
+use Rattle.rnix_lemmas.proofs.OpeningRows.{number_wrong, leveled, by_token, by_branch, by_fault, opened, is_place, spelled_first, spelled_rest}
+use Rattle.rnix_lemmas.proofs.{MissingFacts.missing_ended, EntryNames.{has-⊕, if_not}, NestRowStates.wrong_goes}
+use Rattle.rnix_soundness.proofs.RepairedRowStates.{Similar, similar_same, similar_two, similar_run, similar_past, IsHome, home_go, home_start, home_run}
+use Rattle.rnix_soundness.proofs.{RepairedRowStates.home_past, FirstTrees.{IsLed, led, token_first, no_operand}, RepairedLevels.named_no_or}
+use Rattle.rnix_soundness.proofs.{RepairedStands.{IsThere, stands_there, suits_named, number_stands}, RepairedGroups.grouped}
 use Rattle.rnix_grammar.specs.declared.place.Place.TheVariants as p
 
 -- errors of two rows

@@ -3,11 +3,9 @@ use Rattle.std.{specs.List.list_all, proofs.Common.{◌≡◌, ℕ, true, false,
 use Rattle.rnix_kinds.specs.declared.kinds.SyntaxKind.{SyntaxKind, TheVariants.{TOKEN_IDENT, TOKEN_CUR_POS, TOKEN_OR, TOKEN_INTEGER, NODE_IDENT, NODE_LITERAL}}
 use Rattle.{rnix_kinds.{specs.SyntaxKind.is_token, proofs.AllKinds.{all_kinds, implied}}, rnix_green.specs.Forest.{Forest, empty, leaf, node}}
 use Rattle.rnix_grammar.specs.{Tables.is_cur_pos, AnnotatedForest.{Token, Note, Stray, AnnotatedForest, blank, token, tokens_in, leaf_kind, leaf_kind_as}}
-use Rattle.rnix_grammar.specs.{Rows.{is_expression, RowState, Start, advance, first, live}, Names.is_position, TokenKinds.is_or}
-use Rattle.{rnix_grammar.specs.{Named.{is_spelled, AreSpelled}, Repaired.patch}, rnix_lemmas.proofs.{Basics.{true_is_not_false, not_if}, EveryKind.never}}
-use Rattle.rnix_lemmas.proofs.{EveryKind.whenever_two, OpeningRows.{HasRow, Opening, by_token, by_branch, by_fault, opened, is_place, is_number, is_rowless}}
-use Rattle.rnix_lemmas.proofs.OpeningRows.{no_row}
-use Rattle.rnix_grammar.specs.Operands.{IsFollowed}
+use Rattle.rnix_grammar.specs.{Rows.{is_expression, RowState, Start, advance, first, live}, Names.is_position, TokenKinds.is_or, Named.{is_spelled, AreSpelled}}
+use Rattle.{rnix_grammar.specs.{Repaired.patch, Operands.IsFollowed}, rnix_lemmas.proofs.{Basics.{true_is_not_false, not_if}, EveryKind.{never, whenever_two}}}
+use Rattle.rnix_lemmas.proofs.OpeningRows.{HasRow, Opening, by_token, by_branch, by_fault, opened, is_place, is_number, is_rowless, no_row}
 use Rattle.rnix_grammar.specs.Tables as tables
 
 -- a row that begins with a token

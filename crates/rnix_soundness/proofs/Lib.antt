@@ -1,8 +1,6 @@
-pub mod SimilarRowStates
-pub mod HomeRowStates
-pub mod FirstTrees
 pub mod RepairedLevels
-pub mod RepairedNames
+pub mod RepairedRowStates
+pub mod FirstTrees
 pub mod RepairedStands
 pub mod RepairedGroups
 pub mod Converse

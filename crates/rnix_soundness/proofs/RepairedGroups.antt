@@ -11,8 +11,8 @@ use Rattle.rnix_grammar.specs.{Corners.{holds_no_lambda, is_corner, has_no_corne
 use Rattle.{rnix_grammar.specs.{Named.AreNamed, Operands.IsFollowed}, rnix_lemmas.proofs.{Basics.{true_is_not_false, choice}, LevelLemmas.at_most_true}}
 use Rattle.rnix_lemmas.proofs.{LevelLemmas.{questioned_operand, operand_expression, at_most}, OpeningRows.{HasRow, Opening, by_token, by_branch, by_fault}}
 use Rattle.{rnix_lemmas.proofs.OpeningRows.{opened, live_to, spelled_first, spelled_rest}, rnix_soundness.proofs.FirstTrees.{IsLed, led, token_first, numbered}}
-use Rattle.rnix_soundness.proofs.{FirstTrees.patch_number, RepairedLevels.{is_lambda, second_atom, calls_behind, by_first, simple_expression}}
-use Rattle.rnix_soundness.proofs.{RepairedNames.{named_plain, named_no_or, no_lambda, same_least, stands_level}, RepairedStands.suits_named}
+use Rattle.rnix_soundness.proofs.{FirstTrees.patch_number, RepairedLevels.{is_lambda, second_atom, calls_behind, by_first, simple_expression, named_plain}}
+use Rattle.rnix_soundness.proofs.{RepairedLevels.{named_no_or, no_lambda, same_least, stands_level}, RepairedStands.suits_named}
 use Rattle.rnix_grammar.specs.Corners as corners
 use Rattle.rnix_grammar.specs.Strict as strict
 use Rattle.rnix_grammar.specs.declared.place.Place.TheVariants as p

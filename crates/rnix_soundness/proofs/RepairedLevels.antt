@@ -1,13 +1,16 @@
--- A tree binds as tightly where its errors are repaired.
-use Rattle.{std.proofs.Common.{subst, ◌≡◌, Bool, true, false, refl, ap, sym, ◌∙◌, codes, if◌then◌else◌}, rnix_kinds.proofs.AllKinds.implied}
-use Rattle.rnix_kinds.specs.declared.kinds.SyntaxKind.{SyntaxKind, TheVariants.{TOKEN_INTEGER, TOKEN_INVERT, NODE_APPLY, NODE_BIN_OP, NODE_IDENT, NODE_LAMBDA}}
-use Rattle.{rnix_kinds.specs.declared.kinds.SyntaxKind.TheVariants.{NODE_LITERAL, NODE_UNARY_OP}, rnix_green.specs.Forest.{Forest, empty, leaf, node}}
-use Rattle.rnix_grammar.specs.{AnnotatedForest.{one_fault, Note, AnnotatedForest, blank, token, branch, fault, one_branch, tokens_in}, Rows.{RowState, advance}}
-use Rattle.rnix_grammar.specs.{Rows.{live, to, is_expression, is_simple, is_operand, Start, BeforeOperator, BeforeArgument, start}, Levels.binding_power}
-use Rattle.rnix_grammar.specs.{TreeLevels.{is_or_leaf, is_or_row, calls_or, operator_in, prefix_in, level_of, is_atom_row}, Repaired.repaired, Named.AreSpelled}
-use Rattle.rnix_lemmas.proofs.OpeningRows.{live_to, spelled_first, spelled_rest, HasRow, Opening, by_token, by_branch, by_fault, opened, to_live, row_behind}
-use Rattle.{rnix_lemmas.proofs.{LevelLemmas.operand_expression, Basics.true_is_not_false}, rnix_soundness.proofs.FirstTrees.{no_operand, numbered, IsLed, led}}
-use Rattle.rnix_soundness.proofs.FirstTrees.{token_first, IsName, name, named, patch_number}
+-- Where its errors are repaired a tree binds as tightly, and its names and corners are the same.
+use Rattle.std.proofs.Common.{subst, ◌≡◌, Bool, true, false, refl, ap, sym, ◌∙◌, codes, if◌then◌else◌, ◌⊎◌, inl, inr, ℕ, ◌≤◌, arith, ◌&&◌, ◌||◌, nat_eq, nat_le}
+use Rattle.{std.proofs.lemmas.Bool.{and_from, or_cases, Decides.nat_tests}, rnix_kinds.{proofs.AllKinds.implied, specs.declared.kinds.SyntaxKind.SyntaxKind}}
+use Rattle.rnix_kinds.specs.declared.kinds.SyntaxKind.TheVariants.{TOKEN_INTEGER, TOKEN_INVERT, NODE_APPLY, NODE_BIN_OP, NODE_IDENT, NODE_LAMBDA, NODE_LITERAL}
+use Rattle.{rnix_kinds.specs.declared.kinds.SyntaxKind.TheVariants.{NODE_UNARY_OP, NODE_CUR_POS}, rnix_green.specs.Forest.{Forest, empty, leaf, node}}
+use Rattle.rnix_grammar.specs.{AnnotatedForest.{one_fault, Note, AnnotatedForest, blank, token, branch, fault, one_branch, tokens_in, Token}, Rows.RowState}
+use Rattle.rnix_grammar.specs.Rows.{advance, live, to, is_expression, is_simple, is_operand, Start, BeforeOperator, BeforeArgument, start}
+use Rattle.rnix_grammar.specs.{Levels.binding_power, TreeLevels.{is_or_leaf, is_or_row, calls_or, operator_in, prefix_in, level_of, is_atom_row}}
+use Rattle.rnix_grammar.specs.{Repaired.repaired, Named.AreSpelled, Tables.is_cur_pos, Strict.{stands_at, is_or_name}, Corners.{holds_no_lambda, is_corner}}
+use Rattle.{rnix_grammar.specs.Names.{is_plain, is_no_or, is_named, is_name_at}, rnix_lemmas.proofs.OpeningRows.{live_to, spelled_first, spelled_rest, HasRow}}
+use Rattle.rnix_lemmas.proofs.{OpeningRows.{Opening, by_token, by_branch, by_fault, opened, to_live, row_behind}, LevelLemmas.operand_expression}
+use Rattle.{rnix_lemmas.proofs.{LevelLemmas.at_most_true, Basics.{true_is_not_false, not_if}}, rnix_soundness.proofs.FirstTrees.{no_operand, numbered, IsLed}}
+use Rattle.rnix_soundness.proofs.FirstTrees.{led, token_first, IsName, name, named, patch_number, position_spelled}
 use Rattle.rnix_grammar.specs.Strict as strict
 
 -- what may be called is an expression
@@ -109,3 +112,65 @@ second_atom {b = b} h = by (opened h refl)
     by (by_token e op l) w o = absurd (true_is_not_false (sym o))
     by (by_branch {k = k} {c = c} {f = f} r lev l s) w o = lev.atom refl (sym (same_or k r (spelled_first (tokens_in c) (tokens_in f) w)) ∙ o)
     by (by_fault {n = n} {f = f} e l r) w o = absurd (true_is_not_false (sym o ∙ ap second_or (patch_number n (repaired f) e)))
+
+-- a name that stands where an operand does
+pub named_plain : (q : RowState) (k : SyntaxKind) {c : AnnotatedForest} → HasRow k (start k) blank c → AreSpelled (tokens_in c) → ((t : Token) → is_name_at q t ≡ true → is_plain t ≡ true)
+    → is_named q k c ≡ true → strict.is_named k (repaired c) ≡ true
+named_plain q NODE_IDENT h w plain n = by (named h w) n
+  where
+    by : {g : AnnotatedForest} → IsName g → is_named q NODE_IDENT g ≡ true → strict.is_named NODE_IDENT (repaired g) ≡ true
+    by (name {t = t} e) n = ap (λ z. if z then false else (if is_cur_pos t.text then false else true)) e ∙ plain t n
+named_plain q NODE_CUR_POS h w plain n = by (token_first refl refl h) w n
+  where
+    by : {g : AnnotatedForest} → IsLed NODE_CUR_POS (Start NODE_CUR_POS) blank g → AreSpelled (tokens_in g) → is_named q NODE_CUR_POS g ≡ true
+        → strict.is_named NODE_CUR_POS (repaired g) ≡ true
+    by (led {t = t} e op l) w n = position_spelled t.kind t.text w.0 n
+named_plain q _ h w plain n = refl
+
+-- a name that is an argument and not `or`
+pub named_called : (k : SyntaxKind) {c : AnnotatedForest} → HasRow k (start k) blank c → AreSpelled (tokens_in c) → is_or_row (one_branch k c) ≡ false → is_named BeforeArgument k c ≡ true
+    → strict.is_named k (repaired c) ≡ true
+named_called NODE_IDENT h w o n = by (named h w) o n
+  where
+    by : {g : AnnotatedForest} → IsName g → is_or_leaf g ≡ false → is_named BeforeArgument NODE_IDENT g ≡ true → strict.is_named NODE_IDENT (repaired g) ≡ true
+    by (name {t = t} e) o n = ap (λ z. if z then false else (if is_cur_pos t.text then false else true)) (e ∙ o)
+        ∙ sym (ap (λ z. if z then true else (if is_cur_pos t.text then false else true)) o) ∙ n
+named_called NODE_CUR_POS h w o n = by (token_first refl refl h) w n
+  where
+    by : {g : AnnotatedForest} → IsLed NODE_CUR_POS (Start NODE_CUR_POS) blank g → AreSpelled (tokens_in g) → is_named BeforeArgument NODE_CUR_POS g ≡ true
+        → strict.is_named NODE_CUR_POS (repaired g) ≡ true
+    by (led {t = t} e op l) w n = position_spelled t.kind t.text w.0 n
+named_called _ h w o n = refl
+
+-- a name that is not `or`
+pub named_no_or : (q : RowState) (k : SyntaxKind) {c : AnnotatedForest} → HasRow k (start k) blank c → AreSpelled (tokens_in c) → ((t : Token) → is_name_at q t ≡ true → is_no_or t ≡ true)
+    → is_named q k c ≡ true → (if is_or_name k (repaired c) then false else true) ≡ true
+named_no_or q NODE_IDENT h w plain n = by (named h w) n
+  where
+    by : {g : AnnotatedForest} → IsName g → is_named q NODE_IDENT g ≡ true → (if is_or_name NODE_IDENT (repaired g) then false else true) ≡ true
+    by (name {t = t} e) n = ap (λ z. if z then false else true) e ∙ plain t n
+named_no_or q _ h w plain n = refl
+
+-- no tree is a corner
+pub no_lambda : (parent k : SyntaxKind) (c : Forest) → holds_no_lambda parent ≡ true → (if is_corner parent k c then false else true) ≡ true → is_lambda k ≡ false
+no_lambda parent NODE_LAMBDA c h n = absurd (true_is_not_false (sym h ∙ not_if (holds_no_lambda parent) n))
+no_lambda parent _ c h n = refl
+
+-- a tree binds at least as tightly as in the row
+pub same_least : (k : SyntaxKind) {c : AnnotatedForest} (level : ℕ) → HasRow k (start k) blank c → AreSpelled (tokens_in c) → is_lambda k ≡ false → level ≤ level_of k c → level ≤ strict.level_of k (repaired c)
+same_least k level h w n l = subst (λ z. level ≤ z) (sym (same_level k h w n)) l
+
+-- a tree stands at a level, if it is no lambda or any tree may stand there
+pub least_in : (parent k : SyntaxKind) {c : AnnotatedForest} (level : ℕ) → HasRow k (start k) blank c → AreSpelled (tokens_in c)
+    → (nat_eq level 0 || holds_no_lambda parent) ≡ true
+    → (if is_corner parent k (repaired c) then false else true) ≡ true → level ≤ level_of k c → level ≤ strict.level_of k (repaired c)
+least_in parent k {c = c} level h w b n l = by (or_cases (nat_eq level 0) (holds_no_lambda parent) b)
+  where
+    by : (nat_eq level 0 ≡ true) ⊎ (holds_no_lambda parent ≡ true) → level ≤ strict.level_of k (repaired c)
+    by (inl e) = grind (arith, nat_tests, e)
+    by (inr e) = same_least k level h w (no_lambda parent k (repaired c) e n) l
+
+-- an expression with a name that may be one stands at each level that it binds at
+pub stands_level : (level : ℕ) (k : SyntaxKind) (c : Forest) → is_expression k ≡ true → strict.is_named k c ≡ true → level ≤ strict.level_of k c → stands_at level k c ≡ true
+stands_level level k c e n l = and_from (is_expression k) (strict.is_named k c && nat_le level (strict.level_of k c)) e
+    (and_from (strict.is_named k c) (nat_le level (strict.level_of k c)) n (at_most_true level (strict.level_of k c) l))

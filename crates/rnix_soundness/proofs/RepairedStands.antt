@@ -1,16 +1,16 @@
 -- A tree whose errors are repaired may stand where it stands.
 use Rattle.std.proofs.Common.{◌≡◌, Bool, true, false, refl, ap, sym, ◌∙◌, ℕ, Option, Some, None, codes, if◌then◌else◌, ◌&&◌, ◌||◌, nat_eq, nat_le}
-use Rattle.std.proofs.lemmas.Bool.{and_parts, and_from, or_right}
-use Rattle.rnix_kinds.specs.declared.kinds.SyntaxKind.{SyntaxKind, TheVariants.{NODE_APPLY, NODE_BIN_OP, NODE_LITERAL, NODE_PAT_BIND, TOKEN_INTEGER}}
-use Rattle.{rnix_kinds.proofs.AllKinds.implied, rnix_green.specs.Forest.{Forest, empty, leaf}, rnix_grammar.specs.declared.place.Place.Place}
-use Rattle.rnix_grammar.specs.{declared.symbol.Symbol.Symbol, Symbols.{symbol_at, level_in}, AnnotatedForest.{Token, AnnotatedForest, blank, one_branch}}
-use Rattle.rnix_grammar.specs.{AnnotatedForest.{tokens_in}, Rows.{is_simple, fits, RowState, Start, BeforeArgument, At, to, advance, advance_symbol}}
-use Rattle.rnix_grammar.specs.{Rows.{live, start}, Reports.only_token, TreeLevels.is_or_row}
+use Rattle.{std.proofs.lemmas.Bool.{and_parts, and_from, or_right}, rnix_kinds.specs.declared.kinds.SyntaxKind.{SyntaxKind, TheVariants.NODE_APPLY}}
+use Rattle.rnix_kinds.{specs.declared.kinds.SyntaxKind.TheVariants.{NODE_BIN_OP, NODE_LITERAL, NODE_PAT_BIND, TOKEN_INTEGER}, proofs.AllKinds.implied}
+use Rattle.{rnix_green.specs.Forest.{Forest, empty, leaf}, rnix_grammar.specs.{declared.{place.Place.Place, symbol.Symbol.Symbol}, Symbols.symbol_at}}
+use Rattle.rnix_grammar.specs.{Symbols.level_in, AnnotatedForest.{Token, AnnotatedForest, blank, one_branch, tokens_in}, Rows.{is_simple, fits, RowState}}
+use Rattle.rnix_grammar.specs.{Rows.{Start, BeforeArgument, At, to, advance, advance_symbol, live, start}, Reports.only_token, TreeLevels.is_or_row}
 use Rattle.rnix_grammar.specs.{Strict.{may_stand, stands_at, stands_in, begins_with_leaf, is_or_name}, Repaired.repaired, Corners.{holds_no_lambda, is_corner}}
-use Rattle.{rnix_grammar.specs.{Names.{is_named, is_named_in, is_name_in, is_plain}, Named.{AreSpelled, begins_with_token, is_bind_at, suits}}, rnix_lemmas.proofs.Basics.{true_is_not_false, some_same}}
-use Rattle.rnix_lemmas.proofs.{NestPlaces.{is_expected, owner}, OpeningRows.{HasRow, IsLeveled, Opening, by_fault, opened, live_to, no_closing}, NodeKinds.fits_expression}
-use Rattle.rnix_soundness.proofs.{FirstTrees.patch_number, HomeRowStates.IsHome, RepairedLevels.{same_or, simple_expression}, RepairedNames.named_plain}
-use Rattle.rnix_soundness.proofs.RepairedNames.{named_called, no_lambda, same_least, least_in, stands_level}
+use Rattle.rnix_grammar.specs.{Names.{is_named, is_named_in, is_name_in, is_plain}, Named.{AreSpelled, begins_with_token, is_bind_at, suits}}
+use Rattle.rnix_lemmas.proofs.{Basics.{true_is_not_false, some_same}, NestPlaces.{is_expected, owner}, OpeningRows.{HasRow, IsLeveled, Opening, by_fault}}
+use Rattle.{rnix_lemmas.proofs.{OpeningRows.{opened, live_to, no_closing}, NodeKinds.fits_expression}, rnix_soundness.proofs.FirstTrees.patch_number}
+use Rattle.rnix_soundness.proofs.{RepairedRowStates.IsHome, RepairedLevels.{same_or, simple_expression, named_plain, named_called, no_lambda, same_least}}
+use Rattle.rnix_soundness.proofs.RepairedLevels.{least_in, stands_level}
 use Rattle.rnix_grammar.specs.declared.place.Place.TheVariants as p
 use Rattle.rnix_grammar.specs.declared.symbol.Symbol.TheVariants as s
 

@@ -1,12 +1,12 @@
 -- A strict tree has no corner.
 use Rattle.std.proofs.{Common.{◌≡◌, true, false, refl, ap, sym, ◌∙◌, arith, if◌then◌else◌, ◌&&◌, nat_le}, lemmas.Bool.{and_from, and_parts, false_from_ne_true}}
-use Rattle.std.proofs.lemmas.Bool.Decides.{nat_tests}
-use Rattle.rnix_kinds.specs.declared.kinds.SyntaxKind.{SyntaxKind, TheVariants.{NODE_APPLY, NODE_BIN_OP, NODE_DYNAMIC, NODE_LAMBDA, NODE_ROOT}}
-use Rattle.{rnix_green.specs.{Forest.{Forest, empty, leaf, node}, Equality.same_kind-decides}, rnix_grammar.specs.{declared.place.Place.Place, Levels.left_of}}
-use Rattle.rnix_grammar.specs.{Rows.{RowState, Start, At, first, advance, live, start}, Strict.{may_stand, is_grouped, is_strict, is_strict_expression}}
-use Rattle.rnix_grammar.specs.{Strict.{calls_or, operator_of}, Corners.{holds_no_lambda, is_corner, has_no_corner}}
-use Rattle.rnix_lemmas.proofs.{Basics.{true_is_not_false, both_fail}, EveryKind.{never, no_kind}, LaterRowStates.{is_start, go_later}, NestPlaces.is_expected}
-use Rattle.{rnix_lemmas.proofs.{NestPlaces.owner, StrictParts.{Parts, parts}}, rnix_soundness.proofs.HomeRowStates.{IsHome, home_go, home_start}}
+use Rattle.{std.proofs.lemmas.Bool.Decides.nat_tests, rnix_kinds.specs.declared.kinds.SyntaxKind.{SyntaxKind, TheVariants.{NODE_APPLY, NODE_BIN_OP}}}
+use Rattle.{rnix_kinds.specs.declared.kinds.SyntaxKind.TheVariants.{NODE_DYNAMIC, NODE_LAMBDA, NODE_ROOT}, rnix_green.specs.Forest.{Forest, empty, leaf, node}}
+use Rattle.{rnix_green.specs.Equality.same_kind-decides, rnix_grammar.specs.{declared.place.Place.Place, Levels.left_of, Rows.{RowState, Start, At, first}}}
+use Rattle.rnix_grammar.specs.{Rows.{advance, live, start}, Strict.{may_stand, is_grouped, is_strict, is_strict_expression, calls_or, operator_of}}
+use Rattle.{rnix_grammar.specs.Corners.{holds_no_lambda, is_corner, has_no_corner}, rnix_lemmas.proofs.{Basics.{true_is_not_false, both_fail}, EveryKind.never}}
+use Rattle.rnix_lemmas.proofs.{EveryKind.no_kind, LaterRowStates.{is_start, go_later}, NestPlaces.{is_expected, owner}, StrictParts.{Parts, parts}}
+use Rattle.rnix_soundness.proofs.RepairedRowStates.{IsHome, home_go, home_start}
 use Rattle.rnix_grammar.specs.declared.place.Place.TheVariants as p
 
 -- a lambda stands at no place of a node that may hold none

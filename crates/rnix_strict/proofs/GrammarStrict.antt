@@ -1,7 +1,7 @@
 -- The trees of the strict grammar pass the test.
-use Rattle.std.proofs.Common.{◌≡◌, ℕ, Bool, true, List, ◌∷◌, refl, ap, if◌then◌else◌}
-use Rattle.rnix_kinds.specs.declared.kinds.SyntaxKind.{SyntaxKind, TheVariants.{TOKEN_AT, TOKEN_COMMA, TOKEN_R_BRACE, NODE_ATTRPATH_VALUE, NODE_INHERIT}}
-use Rattle.rnix_kinds.specs.declared.kinds.SyntaxKind.TheVariants.{NODE_INHERIT_FROM, NODE_INTERPOL, NODE_LAMBDA, NODE_LITERAL, NODE_PAT_BIND, NODE_ROOT}
+use Rattle.{std.proofs.Common.{◌≡◌, ℕ, Bool, true, List, ◌∷◌, refl, ap, if◌then◌else◌}, rnix_kinds.specs.declared.kinds.SyntaxKind.SyntaxKind}
+use Rattle.rnix_kinds.specs.declared.kinds.SyntaxKind.TheVariants.{TOKEN_AT, TOKEN_COMMA, TOKEN_R_BRACE, NODE_ATTRPATH_VALUE, NODE_INHERIT, NODE_INHERIT_FROM}
+use Rattle.rnix_kinds.specs.declared.kinds.SyntaxKind.TheVariants.{NODE_INTERPOL, NODE_LAMBDA, NODE_LITERAL, NODE_PAT_BIND, NODE_ROOT}
 use Rattle.{rnix_green.specs.Forest.{Forest, empty, leaf, node}, rnix_grammar.specs.{declared.place.Place.Place, Rows.{advance_first_piece, At, to, start}}}
 use Rattle.rnix_grammar.specs.{Strict.is_strict, Derivation.{is_strict_tree, has_tokens_alone}, Grammar.{name, Strict, looser, atom, select, select_or}}
 use Rattle.rnix_grammar.specs.Grammar.{apply_or, apply, negate, has_attr, binary, invert, lambda, legacy_let, let_in, with_scope, assertion, if_else, Atom}
@@ -11,11 +11,11 @@ use Rattle.rnix_grammar.specs.Grammar.{piece_on, Interpol, interpol, Attr, named
 use Rattle.rnix_grammar.specs.Grammar.{entries_end, inheriting, binding, Binding, bind, Inherit, inherit_names, inherit_from, Source, source, Names, names_end}
 use Rattle.rnix_grammar.specs.Grammar.{inherited, Parameter, parameter, pattern, bound_pattern, Formals, formals_end, ellipsis, last_entry, entry_comma, Formal}
 use Rattle.{rnix_grammar.specs.Grammar.{entry, default_entry, IsExpression, expression}, rnix_lemmas.proofs.{EntryNames.both_true, LevelLemmas.fits_looser}}
-use Rattle.rnix_strict.proofs.GrammarFacts.{stands_looser, literal_token, piece_token, may_operand, may_attr, Passes, Good, StandsAt, good, stands, passes_end}
-use Rattle.rnix_strict.proofs.{GrammarFacts.{passes_leaf_to, passes_leaf, passes_node_to, passes_node, passes_operand}, GrammarRows.{PassesAtom, PassesAttr}}
-use Rattle.rnix_strict.proofs.GrammarRows.{PassesParameter, PassesFormal, PassesFormals, PassesNames, Gathers, in_set, in_legacy, in_let, atom_row, name_good}
-use Rattle.rnix_strict.proofs.GrammarRows.{no_or, value_name, item_stays, dynamic_stays, names_go, source_goes, atom_stands_at, select_good, attr_good}
-use Rattle.rnix_strict.proofs.GrammarRows.{apply_or_good, apply_good, has_good, binary_good, pattern_end_passes, end_new, new_entry}
+use Rattle.rnix_strict.proofs.GrammarRows.{stands_looser, literal_token, piece_token, may_operand, may_attr, Passes, Good, StandsAt, good, stands, passes_end}
+use Rattle.rnix_strict.proofs.GrammarRows.{passes_leaf_to, passes_leaf, passes_node_to, passes_node, passes_operand, PassesAtom, PassesAttr, PassesParameter}
+use Rattle.rnix_strict.proofs.GrammarRows.{PassesFormal, PassesFormals, PassesNames, Gathers, in_set, in_legacy, in_let, atom_row, name_good, no_or, value_name}
+use Rattle.rnix_strict.proofs.GrammarRows.{item_stays, dynamic_stays, names_go, source_goes, atom_stands_at, select_good, attr_good, apply_or_good, apply_good}
+use Rattle.rnix_strict.proofs.GrammarRows.{has_good, binary_good, pattern_end_passes, end_new, new_entry}
 use Rattle.rnix_grammar.specs.declared.place.Place.TheVariants as p
 
 mutual

@@ -1,6 +1,5 @@
-pub mod StrictExamples
-pub mod GrammarFacts
 pub mod GrammarRows
+pub mod StrictExamples
 pub mod GrammarStrict
 pub mod GrammarViews
 pub mod GrammarTrees

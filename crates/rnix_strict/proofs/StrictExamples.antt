@@ -1,6 +1,5 @@
 -- Trees that are strict and trees that are not, which names may stand where, and how deep trees nest.
-use Rattle.std.proofs.Common.{◌≡◌, ℕ, Bool, true, false, List, [], ◌∷◌, map, refl, codes}
-use Rattle.rnix_kinds.specs.declared.kinds.SyntaxKind.{SyntaxKind}
+use Rattle.{std.proofs.Common.{◌≡◌, ℕ, Bool, true, false, List, [], ◌∷◌, map, refl, codes}, rnix_kinds.specs.declared.kinds.SyntaxKind.SyntaxKind}
 use Rattle.rnix_kinds.specs.declared.kinds.SyntaxKind.TheVariants.{TOKEN_IDENT, TOKEN_CUR_POS, TOKEN_INTEGER, TOKEN_ADD, TOKEN_SUB, TOKEN_MUL, TOKEN_EQUAL}
 use Rattle.rnix_kinds.specs.declared.kinds.SyntaxKind.TheVariants.{TOKEN_INVERT, TOKEN_COLON, TOKEN_COMMA, TOKEN_QUESTION, TOKEN_AT, TOKEN_DOT, TOKEN_OR}
 use Rattle.rnix_kinds.specs.declared.kinds.SyntaxKind.TheVariants.{TOKEN_L_BRACE, TOKEN_R_BRACE, TOKEN_L_BRACK, TOKEN_R_BRACK, TOKEN_L_PAREN, TOKEN_R_PAREN}
@@ -8,9 +7,9 @@ use Rattle.rnix_kinds.specs.declared.kinds.SyntaxKind.TheVariants.{TOKEN_INTERPO
 use Rattle.rnix_kinds.specs.declared.kinds.SyntaxKind.TheVariants.{NODE_BIN_OP, NODE_CUR_POS, NODE_DYNAMIC, NODE_HAS_ATTR, NODE_IDENT, NODE_IDENT_PARAM}
 use Rattle.rnix_kinds.specs.declared.kinds.SyntaxKind.TheVariants.{NODE_LAMBDA, NODE_LIST, NODE_LITERAL, NODE_PAREN, NODE_PATTERN, NODE_PAT_BIND}
 use Rattle.rnix_kinds.specs.declared.kinds.SyntaxKind.TheVariants.{NODE_PAT_ENTRY, NODE_ROOT, NODE_SELECT, NODE_UNARY_OP, TOKEN_LESS, TOKEN_IMPLICATION}
-use Rattle.{rnix_green.specs.Forest.{Forest, empty, leaf, node}, rnix_grammar.specs.declared.place.Place.TheVariants.{RootStart, AttrpathStart, InheritName, BindName}}
-use Rattle.rnix_grammar.specs.{AnnotatedForest.{Token, AnnotatedForest, Stray, Extra, one_token, one_fault}, Rows.{Start, BeforeArgument, At}}
-use Rattle.rnix_grammar.specs.{Strict.is_strict_expression, Repaired.repaired, Nest.nest, Names.is_named}
+use Rattle.{rnix_green.specs.Forest.{Forest, empty, leaf, node}, rnix_grammar.specs.declared.place.Place.TheVariants.{RootStart, AttrpathStart, InheritName}}
+use Rattle.rnix_grammar.specs.{declared.place.Place.TheVariants.BindName, AnnotatedForest.{Token, AnnotatedForest, Stray, Extra, one_token, one_fault}}
+use Rattle.rnix_grammar.specs.{Rows.{Start, BeforeArgument, At}, Strict.is_strict_expression, Repaired.repaired, Nest.nest, Names.is_named}
 
 -- trees, each in front of some others
 abbrev named : List ℕ → Forest → Forest
