@@ -1,17 +1,17 @@
 -- Calls are read as operands, of a tree with an argument and with the name `or`, if smaller trees are read.
-use Rattle.std.proofs.Common.{◌≡◌, ℕ, ◌≤◌, Bool, true, false, List, [], ◌∷◌, ◌++◌, Some, None, refl, ap, sym, ◌∙◌, subst, append_assoc, append-nil, arith, ◌||◌}
+use Rattle.std.proofs.Common.{◌≡◌, ℕ, ◌≤◌, Bool, true, false, List, [], ◌∷◌, ◌++◌, Some, None, refl, ap, sym, ◌∙◌, subst, append-nil, arith, ◌||◌}
 use Rattle.std.proofs.{Common.{◌&&◌, if◌then◌else◌}, lemmas.Bool.and_parts}
 use Rattle.rnix_kinds.specs.{declared.kinds.SyntaxKind.{SyntaxKind, TheVariants.{TOKEN_FLOAT, TOKEN_OR, NODE_APPLY, NODE_IDENT}}, SyntaxKind.is_fn_arg}
-use Rattle.{rnix_kinds.proofs.AllKinds.implied, rnix_grammar.specs.{Fault.Fault, Actions.{follow as follow_of, more_action}, Levels.binding_power}}
+use Rattle.{rnix_kinds.proofs.AllKinds.implied, rnix_grammar.specs.{Fault.Fault, Actions.{follow as follow_of}, Levels.binding_power}}
 use Rattle.rnix_grammar.specs.{TokenKinds.is_or, AnnotatedForest.{Token, Stray, AnnotatedForest, blank, branch, fault, ◌⊕◌, one_token, one_branch, one_fault}}
 use Rattle.rnix_grammar.specs.{AnnotatedForest.{row_of, tokens_in, leaf_kind, head_kind, end_from}, Reports.{report, repeats}, Machine.{Node, Operand, Frame}}
-use Rattle.rnix_grammar.specs.{Machine.{machine, opened, perform, operand_on, rest as here}, Rows.{RowState, Start, BeforeArgument, At, is_simple}}
+use Rattle.rnix_grammar.specs.{Machine.{machine, opened, perform, rest as here}, Rows.{RowState, Start, BeforeArgument, At, is_simple}}
 use Rattle.rnix_grammar.specs.{Rows.{is_expression, start, to, whole}, TreeLevels.{row_level, is_or_row}, ExpectedItems.IsExpected, Operands.{follows, IsBegun}}
 use Rattle.{rnix_grammar.specs.{Operands.{IsFollowed, IsOperand, goes_on}, PlaceReads.IsOver}, rnix_lemmas.proofs.{Basics.true_is_not_false, EveryKind.alike}}
-use Rattle.rnix_lemmas.proofs.{EveryKind.{never, only}, OpeningRows.live_to, StrictParts.end_behind, FirstTrees.{IsSingle, first_in, single_calls}}
-use Rattle.{rnix_lemmas.proofs.FollowLemmas.{followed_call, followed_tight, follows_level, follows_token}, rnix_uniqueness.proofs.Runs.{runs_on, runs_from}}
+use Rattle.rnix_lemmas.proofs.{EveryKind.{never, only}, OpeningRows.live_to, FirstTrees.{IsSingle, first_in, single_calls}}
+use Rattle.{rnix_lemmas.proofs.FollowLemmas.{followed_call, followed_tight, follows_token}, rnix_uniqueness.proofs.Runs.{runs_on, runs_to}}
 use Rattle.rnix_uniqueness.proofs.{Runs.step_to, StepReads.{IsOperandRead, ReadsTree}, ReadingHeights.{Short, Trees, Front, by_leaf, by_stray, by_node}}
-use Rattle.rnix_uniqueness.proofs.{ReadingHeights.front_of, FirstItems.{Ended, past_ends, name_item}, OperandGoesOn.{goes, settles, begun_same}}
+use Rattle.rnix_uniqueness.proofs.{ReadingHeights.front_of, FirstItems.{Ended, past_ends, name_item}, OperandGoesOn.{settles, continued}}
 use Rattle.rnix_uniqueness.proofs.{ItemRows.stray_reads, OperatorRows.{Leading, leading, leading_reads, unreported}}
 use Rattle.rnix_grammar.specs.declared.place.Place.TheVariants as p
 use Rattle.rnix_grammar.specs.declared.action.Action.TheVariants as a
@@ -31,80 +31,30 @@ called : (zs xs : List Token) (x v : AnnotatedForest) (i : SyntaxKind) (d n : �
     → ReadsTree d n zs x (xs ++ us) es → ReadsTree d (end_from n zs) xs v us ds
     → is_or_row v ≡ false → 16 ≤ row_level v → IsBegun 16 v (xs ++ us) → goes_on 16 v us ≡ false
     → ReadsTree d n (zs ++ xs) (one_branch NODE_APPLY (x ⊕ v)) us (es ++ ds)
-called zs xs x v i d n us es ds one next arg follow tree passed plain tight begun over level F fs gs low begins = by (tree level F fs gs (omega (arith, least, follows_level i x follow)) first)
+called zs xs x v i d n us es ds one next arg follow tree passed plain tight begun over =
+    continued zs xs x z i a.Apply 15 d n us es ds follow next (passes i arg) (first_in x v one) (omega (arith, level, alike is_fn_arg binding_power (λ j. 15) refl i arg)) (followed_call z level refl) tree
+    (λ level other f fs gs.
+    let below : List Frame = opened (Node NODE_APPLY) p.Past d x ∷ (opened Operand (p.Behind level 15) d blank ∷ (f ∷ fs)) in
+    let q : IsOperandRead 16 d (end_from n zs) xs v us ds _ _ gs = passed 16 (opened (Node NODE_APPLY) p.Past d x) (opened Operand (p.Behind level 15) d blank ∷ (f ∷ fs)) gs tight begun in
+    runs_on q.runs
+    (step_to (ap (λ w. perform false w (opened Operand (p.Behind 16 q.high) d v) below us (end_from (end_from n zs) xs) (gs ++ ds)) (settles 16 q.high v us q.followed over)) (step_to refl here)))
   where
     z : AnnotatedForest
     z = one_branch NODE_APPLY (x ⊕ v)
 
-    ts : List Token
-    ts = xs ++ us
-
-    m : ℕ
-    m = end_from n zs
-
-    least : level ≤ binding_power i
-    least = omega (arith, low, call_level x v false one plain, alike is_fn_arg binding_power (λ j. 15) refl i arg)
-
-    first : IsBegun level x (zs ++ ts)
-    first = begun_same level z x (zs ++ ts) (first_in x v one) (subst (λ (w : List Token). IsBegun level z w) (append_assoc zs xs us) begins)
-
-    G : Frame
-    G = opened (Node NODE_APPLY) p.Past d x
-
-    H : Frame
-    H = opened Operand (p.Behind level 15) d blank
-
-    by : IsOperandRead level d n zs x ts es F fs gs → IsOperandRead level d n (zs ++ xs) z us (es ++ ds) F fs gs
-    by r = also (passed 16 G (H ∷ (F ∷ fs)) (gs ++ es) tight begun)
-      where
-        also : IsOperandRead 16 d m xs v us ds G (H ∷ (F ∷ fs)) (gs ++ es) → IsOperandRead level d n (zs ++ xs) z us (es ++ ds) F fs gs
-        also q = record {
-          high = 15;
-          followed = followed_call z (call_level x v false one plain) refl;
-          runs =
-              runs_from (ap (λ w. operand_on false level d F fs w w n gs) (append_assoc zs xs us))
-              (runs_on r.runs
-              (step_to
-              (ap (λ w. perform false w (opened Operand (p.Behind level r.high) d x) (F ∷ fs) ts m (gs ++ es))
-              (ap (λ w. more_action level r.high w) next ∙ goes level r.high i x r.followed follow least ∙ passes i arg))
-              (runs_on q.runs
-              (step_to
-              (ap (λ w. perform false w (opened Operand (p.Behind 16 q.high) d v) (G ∷ (H ∷ (F ∷ fs))) us (end_from m xs) ((gs ++ es) ++ ds)) (settles 16 q.high v us q.followed over))
-              (step_to
-              (ap (λ w. machine (opened Operand (p.Behind level 15) d z ∷ (F ∷ fs)) us (end_from m xs) w) (append_assoc gs es ds)
-              ∙ ap (λ w. machine (opened Operand (p.Behind level 15) d z ∷ (F ∷ fs)) us w (gs ++ (es ++ ds))) (sym (end_behind n zs xs))) here)))));
-        }
+    level : row_level z ≡ 15
+    level = call_level x v false one plain
 
 -- a tree and the name `or`
 called_or : (zs : List Token) (x : AnnotatedForest) (t : Token) (d n : ℕ) (us : List Token) (es : List Fault) → IsSingle x → t.kind ≡ TOKEN_OR → follows t.kind x ≡ true
     → is_or_row (one_branch NODE_IDENT (one_token (leaf_kind NODE_IDENT t) t)) ≡ true → ReadsTree d n zs x (t ∷ us) es
     → ReadsTree d n (zs ++ (t ∷ [])) (one_branch NODE_APPLY (x ⊕ one_branch NODE_IDENT (one_token (leaf_kind NODE_IDENT t) t))) us (es ++ [])
-called_or zs x t d n us es one kind follow named tree level F fs gs low begins = by (tree level F fs gs (omega (arith, least, follows_level t.kind x follow)) first)
-  where
-    v : AnnotatedForest
-    v = one_branch NODE_IDENT (one_token (leaf_kind NODE_IDENT t) t)
-
-    z : AnnotatedForest
-    z = one_branch NODE_APPLY (x ⊕ v)
-
-    least : level ≤ binding_power t.kind
-    least = omega (arith, low, call_level x v true one named, ap binding_power kind)
-
-    first : IsBegun level x (zs ++ (t ∷ us))
-    first = begun_same level z x (zs ++ (t ∷ us)) (first_in x v one) (subst (λ (w : List Token). IsBegun level z w) (append_assoc zs (t ∷ []) us) begins)
-
-    by : IsOperandRead level d n zs x (t ∷ us) es F fs gs → IsOperandRead level d n (zs ++ (t ∷ [])) z us (es ++ []) F fs gs
-    by r = record {
-      high = 15;
-      followed = followed_tight z (call_level x v true one named) refl;
-      runs =
-          runs_from (ap (λ w. operand_on false level d F fs w w n gs) (append_assoc zs (t ∷ []) us))
-          (runs_on r.runs
-          (step_to
-          (ap (λ w. perform false w (opened Operand (p.Behind level r.high) d x) (F ∷ fs) (t ∷ us) (end_from n zs) (gs ++ es)) (goes level r.high t.kind x r.followed follow least ∙ ap follow_of kind)
-          ∙ ap (λ w. machine (opened Operand (p.Behind level 15) d z ∷ (F ∷ fs)) us t.end (gs ++ w)) (sym (append-nil es))
-          ∙ ap (λ w. machine (opened Operand (p.Behind level 15) d z ∷ (F ∷ fs)) us w (gs ++ (es ++ []))) (sym (end_behind n zs (t ∷ [])))) here));
-    }
+called_or zs x t d n us es one kind follow named tree =
+    let v : AnnotatedForest = one_branch NODE_IDENT (one_token (leaf_kind NODE_IDENT t) t) in
+    let z : AnnotatedForest = one_branch NODE_APPLY (x ⊕ v) in
+    let level : row_level z ≡ 16 = call_level x v true one named in
+    continued zs (t ∷ []) x z t.kind a.ApplyOr 15 d n us es [] follow refl (ap follow_of kind) (first_in x v one) (omega (arith, level, ap binding_power kind)) (followed_tight z level refl) tree
+    (λ level other f fs gs. runs_to (ap (λ w. machine (opened Operand (p.Behind level 15) d z ∷ (f ∷ fs)) us t.end w) (sym (append-nil gs))) here)
 
 -- what goes on with a tree as an argument, by the first item
 followed : (i : SyntaxKind) (x : AnnotatedForest) → ((is_fn_arg i || is_or i) && follows i x) ≡ true → ((is_fn_arg i || is_or i) ≡ true) × (follows i x ≡ true)

@@ -1,8 +1,12 @@
 -- An operand goes on with an item, or ends, and begins as its first tree does.
-use Rattle.std.proofs.{lemmas.Bool.and_parts, Common.{◌≡◌, ℕ, ◌≤◌, Bool, true, false, List, [], ◌∷◌, Some, refl, ap, sym, ◌∙◌, ◌&&◌, if◌then◌else◌, nat_le}}
+use Rattle.std.proofs.{lemmas.Bool.and_parts, Common.{◌≡◌, ◌++◌, subst, append_assoc, arith, ℕ, ◌≤◌, Bool, true, false, List, [], ◌∷◌, Some, refl, ap, sym, ◌∙◌, ◌&&◌, if◌then◌else◌, nat_le}}
 use Rattle.{rnix_kinds.specs.declared.kinds.SyntaxKind.SyntaxKind, rnix_grammar.specs.Actions.{follow, more_action, goes_on as goes_between}}
 use Rattle.rnix_grammar.specs.{Levels.binding_power, AnnotatedForest.{Token, AnnotatedForest, head_kind}, Operands.{follows, first_tree, IsBegun, goes_on}}
-use Rattle.rnix_lemmas.proofs.{Basics.true_is_not_false, LevelLemmas.{at_most, at_most_true}, FollowLemmas.FollowedTo}
+use Rattle.rnix_grammar.specs.{declared.action.Action.Action, Fault.Fault, AnnotatedForest.end_from, TreeLevels.row_level}
+use Rattle.rnix_grammar.specs.Machine.{Operand, Frame, machine, opened, perform, operand_on, Runs}
+use Rattle.rnix_lemmas.proofs.{Basics.true_is_not_false, LevelLemmas.{at_most, at_most_true}, FollowLemmas.{FollowedTo, follows_level}, StrictParts.end_behind}
+use Rattle.rnix_uniqueness.proofs.{Runs.{runs_on, runs_to, runs_from, step_to}, StepReads.{IsOperandRead, ReadsTree}}
+use Rattle.rnix_grammar.specs.declared.place.Place.TheVariants as p
 use Rattle.rnix_grammar.specs.declared.action.Action.TheVariants as a
 
 -- an item goes on with a tree, as far as the tree's level
@@ -31,3 +35,26 @@ settles level high x (t ∷ ts) b h = by (goes_between level high t.kind) refl
 pub begun_same : (level : ℕ) (x y : AnnotatedForest) (ts : List Token) → first_tree x ≡ first_tree y → IsBegun level x ts → IsBegun level y ts
 begun_same level x y [] e h = h
 begun_same level x y (t ∷ ts) e h = h ∙ e
+
+-- a tree with which an item goes on is the first of another that is read, if the steps read the rest of that
+pub continued : (zs xs : List Token) (x z : AnnotatedForest) (i : SyntaxKind) (action : Action) (high d n : ℕ) (us : List Token) (es ds : List Fault) → follows i x ≡ true
+    → head_kind (xs ++ us) ≡ Some i → follow i ≡ action → first_tree z ≡ first_tree x → row_level z ≤ binding_power i → FollowedTo high z → ReadsTree d n zs x (xs ++ us) es
+    → ((level other : ℕ) (f : Frame) (fs : List Frame) (gs : List Fault) → Runs false (perform false action (opened Operand (p.Behind level other) d x) (f ∷ fs) (xs ++ us) (end_from n zs) gs)
+    (machine (opened Operand (p.Behind level high) d z ∷ (f ∷ fs)) us (end_from (end_from n zs) xs) (gs ++ ds))) → ReadsTree d n (zs ++ xs) z us (es ++ ds)
+continued zs xs x z i action high d n us es ds goes_so next act same least followed tree rest level f fs gs low begins =
+    by (tree level f fs gs (omega (arith, low, least, follows_level i x goes_so)) (begun_same level z x (zs ++ (xs ++ us)) same (subst (IsBegun level z) (append_assoc zs xs us) begins)))
+  where
+    by : IsOperandRead level d n zs x (xs ++ us) es f fs gs → IsOperandRead level d n (zs ++ xs) z us (es ++ ds) f fs gs
+    by r = record {
+      high = high;
+      followed = followed;
+      runs =
+          runs_from (ap (λ w. operand_on false level d f fs w w n gs) (append_assoc zs xs us))
+          (runs_on r.runs
+          (step_to
+          (ap (λ w. perform false w (opened Operand (p.Behind level r.high) d x) (f ∷ fs) (xs ++ us) (end_from n zs) (gs ++ es))
+          (ap (more_action level r.high) next ∙ goes level r.high i x r.followed goes_so (omega (arith, low, least)) ∙ act))
+          (runs_to
+          (ap (λ w. machine (opened Operand (p.Behind level high) d z ∷ (f ∷ fs)) us (end_from (end_from n zs) xs) w) (append_assoc gs es ds)
+          ∙ ap (λ w. machine (opened Operand (p.Behind level high) d z ∷ (f ∷ fs)) us w (gs ++ (es ++ ds))) (sym (end_behind n zs xs))) (rest level r.high f fs (gs ++ es)))));
+    }

@@ -1,18 +1,18 @@
 -- Operators, selections and tests for attributes are read as operands, if smaller rows and trees are read.
-use Rattle.std.proofs.Common.{◌≡◌, ℕ, ◌≤◌, Bool, true, false, List, [], ◌∷◌, ◌++◌, Some, refl, ap, sym, ◌∙◌, subst, append-nil, append_assoc, arith}
+use Rattle.std.proofs.Common.{◌≡◌, ℕ, Bool, true, false, List, [], ◌∷◌, ◌++◌, Some, refl, ap, sym, ◌∙◌, subst, append-nil, arith}
 use Rattle.rnix_kinds.specs.declared.kinds.SyntaxKind.{SyntaxKind, TheVariants.{TOKEN_ADD, TOKEN_DOT, TOKEN_QUESTION, NODE_BIN_OP, NODE_HAS_ATTR, NODE_LITERAL}}
 use Rattle.{rnix_kinds.{specs.declared.kinds.SyntaxKind.TheVariants.NODE_SELECT, proofs.AllKinds.implied}, rnix_grammar.specs.declared.place.Place.Place}
 use Rattle.rnix_grammar.specs.{Fault.Fault, Actions.follow as follow_of, Levels.{binding_power, right_of, high_of}, AnnotatedForest.{Token, Stray}}
 use Rattle.rnix_grammar.specs.AnnotatedForest.{AnnotatedForest, blank, token, ◌⊕◌, one_token, one_branch, one_fault, row_of, tokens_in, leaf_kind, end_from}
-use Rattle.rnix_grammar.specs.{Reports.{report, repeats}, Machine.{Node, Operand, Frame, machine, opened, perform, operand_on}, Rows.{RowState, Start}}
+use Rattle.rnix_grammar.specs.{Reports.{report, repeats}, Machine.{Node, Operand, machine, opened}, Rows.{RowState, Start}}
 use Rattle.rnix_grammar.specs.Rows.{BeforeOperator, BeforeDot, BeforeQuestion, At, is_atom, is_questioned, is_operand, is_infix, is_expression, advance, live}
-use Rattle.rnix_grammar.specs.{Rows.to, TreeLevels.row_level, Operands.{follows, first_tree, IsBegun, IsFollowed}, PlaceReads.IsOver}
+use Rattle.rnix_grammar.specs.{Rows.to, TreeLevels.row_level, Operands.{follows, first_tree, IsFollowed}, PlaceReads.IsOver}
 use Rattle.rnix_lemmas.proofs.{EveryKind.{alike, only}, NodeKinds.{is_error, told_plain}, OpeningRows.{is_place, live_to}, AnnotatedForestLemmas.⊕-assoc}
 use Rattle.rnix_lemmas.proofs.{StrictParts.end_behind, FirstTrees.{IsSingle, a_node, an_error, first_in, single_operator}, FollowLemmas.FollowedTo}
-use Rattle.rnix_lemmas.proofs.FollowLemmas.{followed_infix, followed_question, followed_tight, follows_level, follows_token}
-use Rattle.rnix_uniqueness.proofs.{Runs.{runs_on, runs_to, runs_from, step_to}, StepReads.{IsOperandRead, ReadsTree}, ReadingHeights.{Short, AllRows, Trees}}
+use Rattle.rnix_lemmas.proofs.FollowLemmas.{followed_infix, followed_question, followed_tight, follows_token}
+use Rattle.rnix_uniqueness.proofs.{Runs.{runs_to, runs_from}, StepReads.{ReadsTree}, ReadingHeights.{Short, AllRows, Trees}}
 use Rattle.rnix_uniqueness.proofs.{ReadingHeights.{Front, by_leaf, by_stray, by_node, front_of, short_to}, RowClasses.{class_of, row_class, ReadOn, read_on}}
-use Rattle.rnix_uniqueness.proofs.{RowEnds.{quiet, operand_read}, FirstItems.{is_bare, Item, item_next}, OperandGoesOn.{goes, begun_same}, ItemRows.stray_reads}
+use Rattle.rnix_uniqueness.proofs.{RowEnds.{quiet, operand_read}, FirstItems.{is_bare, Item, item_next}, OperandGoesOn.continued, ItemRows.stray_reads}
 use Rattle.rnix_grammar.specs.declared.place.Place.TheVariants as p
 use Rattle.rnix_grammar.specs.declared.action.Action.TheVariants as a
 
@@ -113,47 +113,20 @@ joined : {k : SyntaxKind} {q : RowState} {test : SyntaxKind → Bool} {z : Synta
     (d n : ℕ) (us : List Token) (es ds : List Fault) → IsSingle x → live (advance q t.kind) ≡ true → ReadsTree d n zs x (t ∷ (tokens_in f ++ us)) es
     → follows t.kind x ≡ true
     → ReadOn k d t.end (z t.kind) (x ⊕ one_token t.kind t) us f ds → ReadsTree d n (zs ++ (t ∷ tokens_in f)) (one_branch k (x ⊕ token t.kind t f)) us (es ++ ds)
-joined {k = k} {z = z} {high = high} w zs x t f d n us es ds one live tree follow row level F fs gs low begins = by (tree level F fs gs (omega (arith, least, follows_level t.kind x follow)) begun)
+joined {k = k} {z = z} {high = high} w zs x t f d n us es ds one live tree follow row =
+    continued zs (t ∷ tokens_in f) x v t.kind (a.Wrap k (z t.kind) (high t.kind)) (high t.kind) d n us es ds follow refl (w.action t.kind live)
+    (w.first (x ⊕ token t.kind t f) ∙ first_in x (token t.kind t f) one) (omega (arith, tight)) (w.followed t.kind (x ⊕ token t.kind t f) live tight) tree
+    (λ level other g fs gs.
+    runs_from
+    (ap (λ q. machine (opened (Node k) (z t.kind) d (x ⊕ one_token q t) ∷ (opened Operand (p.Behind level (high t.kind)) d blank ∷ (g ∷ fs))) (tokens_in f ++ us) t.end gs) (told_plain k t.kind w.known.0))
+    (runs_to (ap (λ q. machine (opened Operand (p.Behind level (high t.kind)) d (one_branch k q) ∷ (g ∷ fs)) us (end_from t.end (tokens_in f)) (gs ++ ds)) (⊕-assoc x (one_token t.kind t) f))
+    (operand_read k d t.end (z t.kind) (x ⊕ one_token t.kind t) us f ds row (w.home t.kind) w.known.1 (p.Behind level (high t.kind)) d (g ∷ fs) gs)))
   where
-    ts : List Token
-    ts = tokens_in f ++ us
-
     v : AnnotatedForest
     v = one_branch k (x ⊕ token t.kind t f)
 
     tight : row_level v ≡ binding_power t.kind
     tight = w.level t.kind x t f one live
-
-    least : level ≤ binding_power t.kind
-    least = omega (arith, low, tight)
-
-    begun : IsBegun level x (zs ++ (t ∷ ts))
-    begun =
-        begun_same level v x (zs ++ (t ∷ ts)) (w.first (x ⊕ token t.kind t f) ∙ first_in x (token t.kind t f) one)
-        (subst (λ (q : List Token). IsBegun level v q) (append_assoc zs (t ∷ tokens_in f) us) begins)
-
-    below : Frame
-    below = opened Operand (p.Behind level (high t.kind)) d blank
-
-    e : ℕ
-    e = end_from t.end (tokens_in f)
-
-    by : IsOperandRead level d n zs x (t ∷ ts) es F fs gs → IsOperandRead level d n (zs ++ (t ∷ tokens_in f)) v us (es ++ ds) F fs gs
-    by r = record {
-      high = high t.kind;
-      followed = w.followed t.kind (x ⊕ token t.kind t f) live tight;
-      runs =
-          runs_from (ap (λ q. operand_on false level d F fs q q n gs) (append_assoc zs (t ∷ tokens_in f) us))
-          (runs_on r.runs
-          (step_to
-          (ap (λ q. perform false q (opened Operand (p.Behind level r.high) d x) (F ∷ fs) (t ∷ ts) (end_from n zs) (gs ++ es)) (goes level r.high t.kind x r.followed follow least ∙ w.action t.kind live)
-          ∙ ap (λ q. machine (opened (Node k) (z t.kind) d (x ⊕ one_token q t) ∷ (below ∷ (F ∷ fs))) ts t.end (gs ++ es)) (told_plain k t.kind w.known.0))
-          (runs_to
-          (ap (λ q. machine (opened Operand (p.Behind level (high t.kind)) d (one_branch k q) ∷ (F ∷ fs)) us e ((gs ++ es) ++ ds)) (⊕-assoc x (one_token t.kind t) f)
-          ∙ ap (λ q. machine (opened Operand (p.Behind level (high t.kind)) d v ∷ (F ∷ fs)) us e q) (append_assoc gs es ds)
-          ∙ ap (λ q. machine (opened Operand (p.Behind level (high t.kind)) d v ∷ (F ∷ fs)) us q (gs ++ (es ++ ds))) (sym (end_behind n zs (t ∷ tokens_in f))))
-          (operand_read k d t.end (z t.kind) (x ⊕ one_token t.kind t) us f ds row (w.home t.kind) w.known.1 (p.Behind level (high t.kind)) d (F ∷ fs) (gs ++ es)))));
-    }
 
 -- such a node is read
 joined_reads : (m : ℕ) → AllRows m → Trees m → (k : SyntaxKind) (q : RowState) (test : SyntaxKind → Bool) (z : SyntaxKind → Place) (high : SyntaxKind
