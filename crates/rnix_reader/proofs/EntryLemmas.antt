@@ -4,8 +4,8 @@ use Rattle.rnix_kinds.specs.declared.kinds.SyntaxKind.TheVariants.{NODE_PATTERN,
 use Rattle.rnix_grammar.specs.{Fault.{Fault, named_twice}, AnnotatedForest.{Token, AnnotatedForest, without_trivia, extent_of}, Reports.{entry_name, has_entry, repeated_if}}
 use Rattle.rnix_grammar.specs.{Machine.{Head, Node, Frame, machine, closed, perform}, Sorts.{Pattern, Entry, sort_of, may_hold, StandsOn}}
 use Rattle.{rnix_lemmas.proofs.Basics.true_is_not_false, rnix_reader.specs.declared.names.{NameSet.NameSet, Names.Names}}
-use Rattle.rnix_reader.specs.{Names.{has_name, texts_of, extents_of, EntryClosed, Entered}, State.{State, ended, failed}, Flat.{flat, popped}, Performed.{EntryTold, told_of}}
-use Rattle.rnix_reader.specs.Holds.{IsBegun, AreNamed, text_of, range_of, name_of, entries_of, ranges_of, Tops, Known, KnownOn}
+use Rattle.rnix_reader.specs.{Names.{has_name, entries_in, entry_at, EntryClosed, Entered}, State.{State, ended, failed}, Flat.{flat, popped}, Performed.{EntryTold, told_of}}
+use Rattle.rnix_reader.specs.Holds.{IsBegun, AreNamed, named_by, name_of, entries_of, Tops, Known, KnownOn}
 use Rattle.rnix_reader.proofs.{FlatLemmas.closes, SortLemmas.{is_loose, is_root, head_sort, head_entry, head_pattern, holds_entry}}
 use Rattle.rnix_grammar.specs.declared.action.Action.TheVariants as a
 
@@ -21,8 +21,7 @@ pub record IsEntry (f g : Frame) (fs : List Frame) (names names' : Names) (again
   pub named : entry_name (without_trivia f.row) ≡ Some name
   pub tops : Tops names.sets.items g.row (Known fs)
   pub entered : Entered name.text tops.below tops.set names'
-  pub texts : texts_of names' ≡ entries_of (g ∷ fs)
-  pub ranges : extents_of names' ≡ ranges_of (g ∷ fs)
+  pub entries : entries_in names' ≡ entries_of (g ∷ fs)
   pub told : again ≡ (if has_name name.text tops.set then Some (named_twice (extent_of (name ∷ [])) name.text) else None)
 
 -- so it is at an entry's place
@@ -37,19 +36,9 @@ entry_there f g fs names names' again st e w c =
     let begun : IsBegun (Node NODE_PAT_ENTRY) f.row = subst (λ x. IsBegun x f.row) entry w.begun.0 in
     let t : Token = begun.0 in
     let named : name_of f.head f.row ≡ Some t = ap (λ x. name_of x f.row) entry ∙ begun.1 in
-    let done = c.entered (entries_of (g ∷ fs)) t.text (ranges_of (g ∷ fs)) (extent_of (t ∷ [])) tops.below tops.set
-    (w.texts ∙ ap (λ x. entries_of (g ∷ fs) ++ text_of x) named) (w.ranges ∙ ap (λ x. ranges_of (g ∷ fs) ++ range_of x) named) tops.all in
-    record {
-      entry = entry;
-      pattern = pattern;
-      name = t;
-      named = begun.1;
-      tops = tops;
-      entered = done.0;
-      texts = done.1;
-      ranges = done.2;
-      told = done.3;
-    }
+    let all : entries_in names ≡ entries_of (g ∷ fs) ++ entry_at t ∷ [] = w.entries ∙ ap (λ x. entries_of (g ∷ fs) ++ named_by x) named in
+    let done = c.entered (entries_of (g ∷ fs)) t.text (extent_of (t ∷ [])) tops.below tops.set all tops.all in
+    record { entry = entry; pattern = pattern; name = t; named = begun.1; tops = tops; entered = done.0; entries = done.1; told = done.2 }
 
 -- what is told
 told_once : (b : Bool) (e : Fault) (f g : Frame) (fs : List Frame) (ts : List Token) (n : ℕ) (es : List Fault)

@@ -4,7 +4,7 @@ use Rattle.{rnix_kinds.specs.declared.kinds.SyntaxKind.TheVariants.NODE_ROOT, rn
 use Rattle.rnix_grammar.specs.{declared.{action.Action.Action, place.Place.Place}, AnnotatedForest.{Token, AnnotatedForest, blank, forget, head_kind, touches}, Layout.{items, from_item}, Fault.Fault, Allowed.Allowed, Sorts.{sort_of, AreKept}}
 use Rattle.rnix_grammar.specs.Machine.{Head, Node, Machine, opened, ate, machine, begins, step, Runs, rest as here, then as further}
 use Rattle.rnix_lemmas.proofs.{Basics.{not_nil, none_right}, PlaceLemmas.{step_kept, head_root, root_alone}, AllowedLemmas.allowed}
-use Rattle.rnix_reader.specs.{declared.{mark.Mark.Mark, names.Names.Names}, Placed.AreInOrder, Names.{texts_of, extents_of}, State.{State, with_marks, eaten, ended}}
+use Rattle.rnix_reader.specs.{declared.{mark.Mark.Mark, names.Names.Names}, Placed.AreInOrder, Names.entries_in, State.{State, with_marks, eaten, ended}}
 use Rattle.rnix_reader.specs.{Flat.{marks_of, mark_of, flat, flat_with, popped}, Holds.{IsGoing, IsReadTo, work}, Performed.{Performed, NamesAfter, IsReady, action_of, is_finish}}
 use Rattle.rnix_reader.proofs.{StateLemmas.state_is, SortLemmas.head_sort, FlatLemmas.flat-eaten, StepLemmas.{ready, performs}, GoesLemmas.Goes, PerformLemmas.perform_goes, RunLemmas.no_items}
 use Rattle.rnix_reader.proofs.WorkLemmas.{work_is, perform_less, fit_bottom}
@@ -17,9 +17,9 @@ runs_on raw a m here = further here
 runs_on raw a m (further r) = further (runs_on raw (step raw a) m r)
 
 -- the text is about to be read
-pub starts : (s : State) (names : Names) → s ≡ flat (begins s.rest) → AreInOrder 0 s.rest → names.sets.items ≡ [] → texts_of names ≡ [] → extents_of names ≡ []
+pub starts : (s : State) (names : Names) → s ≡ flat (begins s.rest) → AreInOrder 0 s.rest → names.sets.items ≡ [] → entries_in names ≡ []
     → IsGoing s.rest s names
-starts s names e o k t r = record {
+starts s names e o k t = record {
   top = opened (Node NODE_ROOT) p.RootStart 0 blank;
   under = [];
   left = s.rest;
@@ -27,8 +27,8 @@ starts s names e o k t r = record {
   faults = [];
   runs = here;
   state = e;
-  well = record { fit = (refl, refl); begins = tt; ends = tt; order = o };
-  named = record { begun = (tt, tt); sets = k; texts = t; ranges = r };
+  well = record { fit = (refl, refl); range = tt; order = o };
+  named = record { begun = (tt, tt); sets = k; entries = t };
 }
 
 -- something is open
@@ -92,7 +92,7 @@ module _ (first : List Token) (s : State) (names : Names) (g : IsGoing first s n
           faults = after.faults;
           runs = subst (Runs true (begins first)) whole (runs_on true (begins first) before g.runs);
           state = state ∙ ap flat whole;
-          well = record { fit = subst AreKept done.frames (step_kept true before g.well.fit); begins = done.begins; ends = done.ends; order = done.order };
+          well = record { fit = subst AreKept done.frames (step_kept true before g.well.fit); range = done.range; order = done.order };
           named = done.named;
         },
         omega (

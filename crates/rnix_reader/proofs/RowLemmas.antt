@@ -3,11 +3,12 @@ use Rattle.std.proofs.Common.{◌≡◌, ◌≤◌, ℕ, Bool, true, false, List
 use Rattle.{std.{proofs.lemmas.Cmp.nat_list_eq_equiv, specs.Str.bytes_eq}, rnix_kinds.specs.declared.kinds.SyntaxKind.{SyntaxKind, TheVariants.NODE_IDENT}}
 use Rattle.{rnix_kinds.specs.declared.kinds.SyntaxKind.TheVariants.{NODE_PATTERN, NODE_PAT_ENTRY}, rnix_grammar.specs.AnnotatedForest.{Token, Note}}
 use Rattle.rnix_grammar.specs.AnnotatedForest.{AnnotatedForest, blank, token, branch, fault, ◌⊕◌, one_branch, one_fault, tokens_in, without_trivia, end_from}
-use Rattle.rnix_grammar.specs.{AnnotatedForest.extent_of, Layout.{items, trivia_before}, Reports.{entry_name, is_same_name, has_entry}, Machine.{Head, Node}}
+use Rattle.{rnix_green.specs.Range.Extent, rnix_grammar.specs.AnnotatedForest.extent_of}
+use Rattle.rnix_grammar.specs.{Layout.{items, trivia_before}, Reports.{entry_name, is_same_name, has_entry}, Machine.{Head, Node}}
 use Rattle.{rnix_grammar.specs.{Machine.{Second, Operand, leaf, leaf_in}, Sorts.sort_of_head}, rnix_lemmas.proofs.Basics.true_is_not_false}
 use Rattle.rnix_lemmas.proofs.{AnnotatedForestLemmas.tokens_in-⊕, WithoutTriviaLemmas.leaf_without_trivia, LayoutLemmas.without_trivia-⊕}
 use Rattle.{rnix_lemmas.proofs.{LayoutLemmas.without_trivia-trivia, StrictParts.end_behind}, rnix_reader.specs.{declared.names.NameSet.NameSet, Names.has_name}}
-use Rattle.rnix_reader.{specs.Holds.{IsBegun, EndsAt, BeginsAt, name_of, KnownOn}, proofs.SortLemmas.is_pattern}
+use Rattle.rnix_reader.{specs.Holds.{IsBegun, HasRange, name_of, KnownOn}, proofs.SortLemmas.is_pattern}
 
 none_is_not_some : {A : Type 0} {t : A} → None ≡ Some t → ⊥
 none_is_not_some e = cc
@@ -118,21 +119,12 @@ known_entry (Node k) f c t below s sets More q e a m is = absurd (true_is_not_fa
 known_entry Second f c t below s sets More q e a m is = absurd (true_is_not_false (sym q))
 known_entry Operand f c t below s sets More q e a m is = absurd (true_is_not_false (sym q))
 
--- a second name stays where it begins
-pub begins_more : (n : ℕ) (h : Head) (f g : AnnotatedForest) → IsBegun h f → BeginsAt n h f → BeginsAt n h (f ⊕ g)
-begins_more n (Node k) f g w e = tt
-begins_more n Second f g w e =
-    e ∙ ap (λ x. (extent_of x).start) w.2 ∙ sym (ap (λ x. (extent_of x).start) (tokens_more f g ∙ ap (λ x. x ++ tokens_in (without_trivia g)) w.2))
-begins_more n Operand f g w e = tt
-
--- and ends where the items behind it end
-pub ends_more : (n m : ℕ) (h : Head) (f g : AnnotatedForest) (us : List Token) → IsBegun h f → EndsAt n h f → tokens_in (without_trivia g) ≡ us → m ≡ end_from n us → n ≤ m → EndsAt m h (f ⊕ g)
-ends_more n m (Node k) f g us w e i r l = tt
-ends_more n m Second f g us w e i r l =
-    let old : tokens_in (without_trivia f) ≡ w.0 ∷ w.1 = w.2 in
-    let new : tokens_in (without_trivia (f ⊕ g)) ≡ w.0 ∷ (w.1 ++ us) = tokens_more f g ∙ ap (λ x. x ++ tokens_in (without_trivia g)) old ∙ ap (λ x. w.0 ∷ (w.1 ++ x)) i in
-    let last : n ≡ end_from w.0.end w.1 = e.0 ∙ ap (λ x. (extent_of x).end) old in
-    let end : m ≡ (extent_of (tokens_in (without_trivia (f ⊕ g)))).end =
-    r ∙ ap (λ x. end_from x us) last ∙ sym (end_behind w.0.end w.1 us) ∙ sym (ap (λ x. (extent_of x).end) new) in
-    (end, omega (arith, e.1, ap (λ x. (extent_of x).start) old, ap (λ x. (extent_of x).start) new, l))
-ends_more n m Operand f g us w e i r l = tt
+-- a second name stays where it begins, and ends where the items behind it end
+pub range_more : (n m k : ℕ) (h : Head) (f g : AnnotatedForest) (us : List Token) → IsBegun h f → HasRange n m h f → tokens_in (without_trivia g) ≡ us → k ≡ end_from m us → m ≤ k → HasRange n k h (f ⊕ g)
+range_more n m k (Node j) f g us w e i r l = tt
+range_more n m k Second f g us w e i r l =
+    let old : (let x : Extent = record { start = n; end = m } in x) ≡ extent_of (w.0 ∷ w.1) = e.0 ∙ ap extent_of w.2 in
+    let new : tokens_in (without_trivia (f ⊕ g)) ≡ w.0 ∷ (w.1 ++ us) = tokens_more f g ∙ ap (λ x. x ++ tokens_in (without_trivia g)) w.2 ∙ ap (λ x. w.0 ∷ (w.1 ++ x)) i in
+    let end : k ≡ end_from w.0.end (w.1 ++ us) = r ∙ ap (λ x. end_from x.end us) old ∙ sym (end_behind w.0.end w.1 us) in
+    (ap (λ x. let y : Extent = record { start = x.start; end = k } in y) old ∙ ap (λ x. let y : Extent = record { start = w.0.start; end = x } in y) end ∙ sym (ap extent_of new), omega (arith, e.1, l))
+range_more n m k Operand f g us w e i r l = tt

@@ -1,12 +1,12 @@
 -- Each step of the reader is the machine's.
-use Rattle.std.proofs.{Common.{◌≡◌, ◌≤◌, ◌<◌, nat_le, length, arith, ℕ, true, false, List, [], ◌∷◌, refl, ap, ◌∙◌}, lemmas.Bool.le-leb}
+use Rattle.std.proofs.{Common.{◌≡◌, ◌≤◌, ◌<◌, nat_le, length, arith, ℕ, true, false, List, [], ◌∷◌, refl, ap, ◌∙◌, subst}, lemmas.Bool.le-leb}
 use Rattle.rnix_kinds.specs.declared.kinds.SyntaxKind.{SyntaxKind, TheVariants.{NODE_ERROR, NODE_ROOT, NODE_IDENT, NODE_PAT_ENTRY, NODE_APPLY}}
-use Rattle.rnix_green.{specs.{Forest.tree_count, Draft.{OpenNode, is_inside}, Range.Extent, ForestCode.join_empty}, proofs.ForestLemmas.tree_count-join}
+use Rattle.rnix_green.{specs.{Forest.tree_count, Draft.{OpenNode, is_inside}, ForestCode.join_empty}, proofs.ForestLemmas.tree_count-join}
 use Rattle.rnix_grammar.specs.{declared.{place.Place.Place, action.Action.Action}, Fault.{Fault, bound_twice}, Layout.{items, from_item}, Missing.run_of, Reports.report}
-use Rattle.rnix_grammar.specs.AnnotatedForest.{Token, Unwanted, Extra, Twice, AnnotatedForest, forget, without_trivia, tokens_in, extent_of, blank, ◌⊕◌, one_branch, head_kind}
+use Rattle.rnix_grammar.specs.AnnotatedForest.{Token, Unwanted, Extra, Twice, AnnotatedForest, forget, without_trivia, tokens_in, blank, ◌⊕◌, one_branch, head_kind}
 use Rattle.rnix_grammar.specs.Machine.{Head, Node, Second, Operand, Frame, put, opened, ate, leaf, behind, reach, machine, perform, low_of}
 use Rattle.{rnix_grammar.specs.{Sorts.{Again, Loose, sort_of, sort_of_head}, Allowed.Allowed}, rnix_lemmas.proofs.Basics.true_is_not_false}
-use Rattle.rnix_reader.specs.{declared.names.Names.Names, State.{State, bumped, started_at, ended, failed, marked}, Steps.{noded, node_here, node_wrapped, leafed}, Holds.{BeginsAt, EndsAt, IsWell, AreNamed}}
+use Rattle.rnix_reader.specs.{declared.names.Names.Names, State.{State, bumped, started_at, ended, failed, marked}, Steps.{noded, node_here, node_wrapped, leafed}, Holds.{HasRange, IsWell, AreNamed}}
 use Rattle.rnix_reader.specs.{Flat.{trees_of, nodes_of, mark_of, opened_on, flat, popped}, Performed.{Performed, IsReady, IsCheckpoint, expression_read, is_finish}}
 use Rattle.rnix_reader.proofs.{SortLemmas.{is_loose, is_root, is_name, head_loose, head_again, head_sort, place_named, own_leaf}, BegunLemmas.expression_is, EntryLemmas.done_entry}
 use Rattle.rnix_reader.proofs.FlatLemmas.{flat-eaten, flat-bumped, flat-next, flat-noded, flat-leafed, flat-first, flat-run, flat-wrapped, flat-closed, closes, settles, closed_failed}
@@ -29,13 +29,6 @@ inside (f ∷ fs) n l =
     let all = tree_count-join (trees_of fs) (forget f.row) in
     inside_head f.head (tree_count (trees_of fs)) n (nodes_of fs) (omega (arith, l, all)) (inside fs n (omega (arith, l, all)))
 
--- the range of a second name
-second_range : (h : Head) (row : AnnotatedForest) (second n : ℕ) → h ≡ Second → BeginsAt second h row → EndsAt n h row
-    → ((let x : Extent = record { start = second; end = n } in x) ≡ extent_of (tokens_in (without_trivia row))) × (second ≤ n)
-second_range Second row second n h b e = (rw (b, e.0) refl, omega (arith, b, e.1))
-second_range (Node k) row second n h b e = absurd (cc)
-second_range Operand row second n h b e = absurd (cc)
-
 module _ (f : Frame) (fs : List Frame) (ts : List Token) (n : ℕ) (es : List Fault) (names : Names) (w : IsWell f fs ts n names.second) where
   -- what the reader holds, whose innermost mark is taken
   abbrev held : State
@@ -53,8 +46,8 @@ module _ (f : Frame) (fs : List Frame) (ts : List Token) (n : ℕ) (es : List Fa
       let le : nat_le at (tree_count (trees_of (f ∷ fs))) ≡ true = le-leb at (tree_count (trees_of (f ∷ fs))) (omega (arith, tree_count-join (trees_of fs) (forget f.row))) in
       rw le (inside_head f.head at at (nodes_of fs) (omega arith) (inside fs at (omega arith)))
 
-  again : sort_of f.place ≡ Again → ((let x : Extent = record { start = names.second; end = n } in x) ≡ extent_of (tokens_in (without_trivia f.row))) × (names.second ≤ n)
-  again e = second_range f.head f.row names.second n (head_again f.head (sort ∙ e)) w.begins w.ends
+  again : sort_of f.place ≡ Again → HasRange names.second n Second f.row
+  again e = subst (λ x. HasRange names.second n x f.row) (head_again f.head (sort ∙ e)) w.range
 
   -- what an action needs is there
   pub ready : (action : Action) → Allowed f.place (head_kind (items ts)) action → IsReady action (mark_of f fs) held names

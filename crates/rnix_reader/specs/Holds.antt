@@ -15,7 +15,7 @@ use Rattle.rnix_reader.specs.declared.mark.Mark.{Mark}
 use Rattle.rnix_reader.specs.declared.names.NameSet.{NameSet}
 use Rattle.rnix_reader.specs.declared.names.Names.{Names}
 use Rattle.rnix_reader.specs.Placed.{AreInOrder}
-use Rattle.rnix_reader.specs.Names.{has_name, texts_of, extents_of}
+use Rattle.rnix_reader.specs.Names.{has_name, entries_in, entry_at}
 use Rattle.rnix_reader.specs.State.{State, items_left}
 use Rattle.rnix_reader.specs.Flat.{flat}
 
@@ -30,32 +30,21 @@ abbrev pub AreBegun : List Frame → Type 0
 AreBegun [] = Unit {0}
 AreBegun (f ∷ fs) = IsBegun f.head f.row × AreBegun fs
 
--- a second name ends where the last item ended
-abbrev pub EndsAt : ℕ → Head → AnnotatedForest → Type 0
-EndsAt n Second row = (n ≡ (extent_of (tokens_in (without_trivia row))).end) × ((extent_of (tokens_in (without_trivia row))).start ≤ n)
-EndsAt n head row = Unit {0}
+-- a second name takes the bytes between two places
+abbrev pub HasRange : ℕ → ℕ → Head → AnnotatedForest → Type 0
+HasRange start end Second row = ((let x : Extent = record { start = start; end = end } in x) ≡ extent_of (tokens_in (without_trivia row))) × (start ≤ end)
+HasRange start end head row = Unit {0}
 
--- a second name begins at a place
-abbrev pub BeginsAt : ℕ → Head → AnnotatedForest → Type 0
-BeginsAt n Second row = n ≡ (extent_of (tokens_in (without_trivia row))).start
-BeginsAt n head row = Unit {0}
-
--- the frames stand on one another, a second name has its range, and the tokens are in order
+-- the frames stand on one another, a second name ends where the last item ended, and the tokens are in order
 pub record IsWell (f : Frame) (fs : List Frame) (ts : List Token) (n second : ℕ) : Type 0 where
   pub fit : StandsOn f.head f.place fs
-  pub begins : BeginsAt second f.head f.row
-  pub ends : EndsAt n f.head f.row
+  pub range : HasRange second n f.head f.row
   pub order : AreInOrder n ts
 
--- the name of an entry, which may be absent
-abbrev pub text_of : Option Token → List (List ℕ)
-text_of None = []
-text_of (Some t) = t.text ∷ []
-
--- the range of a name that may be absent
-abbrev pub range_of : Option Token → List Extent
-range_of None = []
-range_of (Some t) = extent_of (t ∷ []) ∷ []
+-- the name of an entry, which may be absent, with its range
+abbrev pub named_by : Option Token → List (List ℕ × Extent)
+named_by None = []
+named_by (Some t) = entry_at t ∷ []
 
 -- the name of an open entry
 abbrev pub name_of : Head → AnnotatedForest → Option Token
@@ -63,14 +52,9 @@ name_of (Node NODE_PAT_ENTRY) row = entry_name (without_trivia row)
 name_of head row = None
 
 -- the names of all open entries, the innermost last
-abbrev pub entries_of : List Frame → List (List ℕ)
+abbrev pub entries_of : List Frame → List (List ℕ × Extent)
 entries_of [] = []
-entries_of (f ∷ fs) = entries_of fs ++ text_of (name_of f.head f.row)
-
--- their ranges
-abbrev pub ranges_of : List Frame → List Extent
-ranges_of [] = []
-ranges_of (f ∷ fs) = ranges_of fs ++ range_of (name_of f.head f.row)
+entries_of (f ∷ fs) = entries_of fs ++ named_by (name_of f.head f.row)
 
 -- a set has the names of a pattern's entries
 abbrev pub IsOf : NameSet → AnnotatedForest → Type 0
@@ -98,8 +82,7 @@ Known (f ∷ fs) sets = KnownOn f.head f.row sets (Known fs)
 pub record AreNamed (f : Frame) (fs : List Frame) (names : Names) : Type 0 where
   pub begun : AreBegun (f ∷ fs)
   pub sets : Known (f ∷ fs) names.sets.items
-  pub texts : texts_of names ≡ entries_of (f ∷ fs)
-  pub ranges : extents_of names ≡ ranges_of (f ∷ fs)
+  pub entries : entries_in names ≡ entries_of (f ∷ fs)
 
 -- the machine has come as far as the reader
 pub record IsGoing (first : List Token) (s : State) (names : Names) : Type 0 where

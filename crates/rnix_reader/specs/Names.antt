@@ -18,40 +18,37 @@ has_name name s = contains_by (λ x. slice_cmp nat_cmp name x.now) s.names
 abbrev pub has_with : List ℕ → List ℕ → NameSet → Bool
 has_with other text s = if bytes_eq text other then true else has_name other s
 
--- the names of open entries
-abbrev pub texts_of : Names → List (List ℕ)
-texts_of n = map (λ x. x.now) n.entries.items
-
--- their ranges
-abbrev pub extents_of : Names → List Extent
-extents_of n = map bounds_of n.ranges.items
+-- the names of open entries, with their ranges
+abbrev pub entries_in : Names → List (List ℕ × Extent)
+entries_in n = map (λ e. (e.text.now, bounds_of e.range)) n.entries.items
 
 -- a pattern is open, with no names
 pub record PatternOpened (n n' : Names) : Type 0 where
   pub set : NameSet
   pub none : (name : List ℕ) → has_name name set ≡ false
   pub sets : n'.sets.items ≡ n.sets.items ++ set ∷ []
-  pub entries : texts_of n' ≡ texts_of n
-  pub ranges : extents_of n' ≡ extents_of n
+  pub entries : entries_in n' ≡ entries_in n
   pub second : n'.second ≡ n.second
 
 -- the innermost pattern is complete
 pub record PatternClosed (n n' : Names) : Type 0 where
   pub sets : (below : List NameSet) (s : NameSet) → n.sets.items ≡ below ++ s ∷ [] → n'.sets.items ≡ below
-  pub entries : texts_of n' ≡ texts_of n
-  pub ranges : extents_of n' ≡ extents_of n
+  pub entries : entries_in n' ≡ entries_in n
   pub second : n'.second ≡ n.second
 
 -- an entry is open
-pub record EntryOpened (text : List ℕ) (range : Extent) (n n' : Names) : Type 0 where
+pub record EntryOpened (entry : List ℕ × Extent) (n n' : Names) : Type 0 where
   pub sets : n'.sets.items ≡ n.sets.items
-  pub entries : texts_of n' ≡ texts_of n ++ text ∷ []
-  pub ranges : extents_of n' ≡ extents_of n ++ range ∷ []
+  pub entries : entries_in n' ≡ entries_in n ++ entry ∷ []
   pub second : n'.second ≡ n.second
+
+-- the name and the range of a token
+abbrev pub entry_at : Token → List ℕ × Extent
+entry_at t = (t.text, record { start = t.start; end = t.end })
 
 -- the entry that begins with this token is open
 abbrev pub EntryNamed : Token → Names → Names → Type 0
-EntryNamed t n n' = EntryOpened t.text record { start = t.start; end = t.end } n n'
+EntryNamed t n n' = EntryOpened (entry_at t) n n'
 
 -- it is complete: the pattern has one more name
 pub record Entered (text : List ℕ) (below : List NameSet) (s : NameSet) (n' : Names) : Type 0 where
@@ -61,7 +58,7 @@ pub record Entered (text : List ℕ) (below : List NameSet) (s : NameSet) (n' : 
 
 -- an entry is complete, and an error is told if it repeats a name
 pub record EntryClosed (again : Option Fault) (n n' : Names) : Type 0 where
-  pub entered : (texts : List (List ℕ)) (text : List ℕ) (ranges : List Extent) (range : Extent) (below : List NameSet) (s : NameSet)
-      → texts_of n ≡ texts ++ text ∷ [] → extents_of n ≡ ranges ++ range ∷ [] → n.sets.items ≡ below ++ s ∷ []
-      → Entered text below s n' × (texts_of n' ≡ texts) × (extents_of n' ≡ ranges) × (again ≡ (if has_name text s then Some (named_twice range text) else None))
+  pub entered : (entries : List (List ℕ × Extent)) (text : List ℕ) (range : Extent) (below : List NameSet) (s : NameSet)
+      → entries_in n ≡ entries ++ (text, range) ∷ [] → n.sets.items ≡ below ++ s ∷ []
+      → Entered text below s n' × (entries_in n' ≡ entries) × (again ≡ (if has_name text s then Some (named_twice range text) else None))
   pub second : n'.second ≡ n.second

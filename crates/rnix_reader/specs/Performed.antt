@@ -18,7 +18,7 @@ use Rattle.rnix_grammar.specs.Machine.{low_of}
 use Rattle.rnix_grammar.specs.Tables.{depth_limit, stops}
 use Rattle.rnix_reader.specs.declared.mark.Mark.{Mark}
 use Rattle.rnix_reader.specs.declared.names.Names.{Names}
-use Rattle.rnix_reader.specs.Names.{texts_of, extents_of, PatternOpened, PatternClosed, EntryNamed, EntryClosed}
+use Rattle.rnix_reader.specs.Names.{entries_in, PatternOpened, PatternClosed, EntryNamed, EntryClosed}
 use Rattle.rnix_reader.specs.State.{State, items_left, IsNextItem, bumped, ended, failed}
 use Rattle.rnix_reader.specs.Steps.{moved, noded, node_begun, leafed, entry_begun, second_begun, node_wrapped, or_applied, parameter_read, binding_read, operand_begun, node_operand_begun, lambda_begun, begins_with}
 use Rattle.rnix_reader.specs.Reported.{unwanted_reported, extra_reported, stray_reported, limit_reported, end_reported, second_reported}
@@ -137,8 +137,7 @@ NamesFor false n n' = n' ≡ n
 -- a second name is open
 pub record TwiceOpened (start : ℕ) (n n' : Names) : Type 0 where
   pub sets : n'.sets.items ≡ n.sets.items
-  pub texts : texts_of n' ≡ texts_of n
-  pub ranges : extents_of n' ≡ extents_of n
+  pub entries : entries_in n' ≡ entries_in n
   pub second : n'.second ≡ start
 
 -- what an action makes of the names, by the state before it

@@ -3,7 +3,7 @@
 ghost use Rattle.std.specs.Prelude.{◌≡◌, [], ℕ, List, IfOk, OnOk, option_map, false};
 ghost use Rattle.rnix_green.specs.Range.{bounds_of};
 ghost use Rattle.rnix_grammar.specs.Fault.{fault_of};
-ghost use Rattle.rnix_reader.specs.Names.{has_name, has_with, extents_of, PatternOpened, PatternClosed, EntryOpened, EntryClosed};
+ghost use Rattle.rnix_reader.specs.Names.{has_name, has_with, PatternOpened, PatternClosed, EntryOpened, EntryClosed};
 
 use rnix_grammar::ParseError;
 use rnix_green::TextRange;
@@ -42,14 +42,19 @@ impl<'t> NameSet<'t> {
     }
 }
 
+/// The name of an open entry of a pattern, and its range.
+#[derive(Clone, Copy)]
+pub(crate) struct Entry<'t> {
+    pub(crate) text: &'t str,
+    pub(crate) range: TextRange,
+}
+
 /// The names of open patterns and entries.
 #[derive(Drop)]
 pub(crate) struct Names<'t> {
     /// The names so far of each open pattern.
     pub(crate) sets: Vec<NameSet<'t>>,
-    /// The name of each open entry of a pattern, and its range in `ranges`.
-    pub(crate) entries: Vec<&'t str>,
-    pub(crate) ranges: Vec<TextRange>,
+    pub(crate) entries: Vec<Entry<'t>>,
     /// Where the second name of a pattern begins, while it is open.
     pub(crate) second: usize,
 }
@@ -59,12 +64,10 @@ impl<'t> Names<'t> {
     pub(crate) fn new(alloc: Global) -> Self
         ensures sets { result.sets.items ≡ [] }
         ensures entries { result.entries.items ≡ [] }
-        ensures ranges { extents_of result ≡ [] }
     {
         Names {
             sets: Vec::new(alloc),
             entries: Vec::new(alloc),
-            ranges: Vec::new(alloc),
             second: 0,
         }
     }
@@ -87,10 +90,9 @@ impl<'t> Names<'t> {
 
     /// Opens an entry.
     pub(crate) fn open_entry(&mut self, text: &'t str, range: TextRange) -> Result<(), AllocError>
-        ensures { OnOk result (EntryOpened text.now (bounds_of range) self.old self.new) }
+        ensures { OnOk result (EntryOpened (text.now, bounds_of range) self.old self.new) }
     {
-        self.entries.push(text)?;
-        self.ranges.push(range)?;
+        self.entries.push(Entry { text, range })?;
         Ok(())
     }
 
@@ -98,10 +100,7 @@ impl<'t> Names<'t> {
     pub(crate) fn close_entry(&mut self) -> Result<Option<ParseError>, AllocError>
         ensures { IfOk result (λ again. EntryClosed (option_map fault_of again) self.old self.new) }
     {
-        let Some(text) = self.entries.pop() else {
-            return Ok(None);
-        };
-        let Some(range) = self.ranges.pop() else {
+        let Some(Entry { text, range }) = self.entries.pop() else {
             return Ok(None);
         };
         let Some(mut set) = self.sets.pop() else {

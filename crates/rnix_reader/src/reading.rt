@@ -9,7 +9,7 @@ ghost use Rattle.rnix_grammar.specs.AnnotatedForest.{Token};
 ghost use Rattle.rnix_grammar.specs.Machine.{begins, low_of};
 ghost use Rattle.rnix_reader.specs.Flat.{flat};
 ghost use Rattle.rnix_reader.specs.Holds.{IsReadTo};
-ghost use Rattle.rnix_reader.specs.Names.{texts_of, extents_of, EntryNamed};
+ghost use Rattle.rnix_reader.specs.Names.{entries_in, EntryNamed};
 ghost use Rattle.rnix_reader.specs.Performed.{EntryTold, IsReady, NamesAfter, NamesFor, Performed, TwiceOpened, action_of, begun_as, expression_read, is_finish, opens_in, opens_on, opens_pattern, operand_read};
 ghost use Rattle.rnix_reader.specs.Placed.{token_of, AreInOrder};
 ghost use Rattle.rnix_reader.specs.Reported.{second_reported};
@@ -315,8 +315,7 @@ pub(crate) fn read_all<'t>(p: &mut Parser<'t>, names: &mut Names<'t>) -> Result<
     requires state { state p.old ≡ flat (begins (state p.old).rest) }
     requires order { AreInOrder 0 (state p.old).rest }
     requires sets { names.old.sets.items ≡ [] }
-    requires texts { texts_of names.old ≡ [] }
-    requires ranges { extents_of names.old ≡ [] }
+    requires entries { entries_in names.old ≡ [] }
     ensures { OnOk result (IsReadTo (state p.old).rest (state p.new)) }
 {
     while let Some(mark) = p.marks.pop() {

@@ -3,7 +3,7 @@ use Rattle.rnix_reader.{specs.{State.{state, with_marks, ended}}, proofs.LoopLem
 use Rattle.rnix_reader.proofs.reading.read_all.Goals as goal
 
 pub loop-mark-init : goal.loop-mark-init
-loop-mark-init c = starts (state c.args.p.now) c.args.names.now c.requires.state c.requires.order c.requires.sets c.requires.texts c.requires.ranges
+loop-mark-init c = starts (state c.args.p.now) c.args.names.now c.requires.state c.requires.order c.requires.sets c.requires.entries
 
 pub finish_node-requires : goal.finish_node-requires
 finish_node-requires c =
