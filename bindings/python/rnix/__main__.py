@@ -3,36 +3,39 @@
 It ends with 0 if no text has errors, with 1 if one has, and with 2 if something is refused.
 """
 
+from __future__ import annotations
+
 import sys
+from typing import Iterator
 
 import rnix
 
 
-def lines(tree):
-    """The lines of a text's errors and of its tree."""
+def lines(tree: rnix.Tree) -> Iterator[str]:
+    """Returns the lines of a text's errors and of its tree."""
     for error in tree.errors:
         yield f"error: {error}\n"
-    depths = {}
-    for element in tree.walk():
+    depths: dict[rnix.Element, int] = {}
+    for element in tree.root.walk():
         around = element.parent
         depth = depths[element] = 0 if around is None else depths[around] + 1
-        start, end = element.range
-        yield f"{'  ' * depth}{element.kind}@{start}..{end}\n"
+        yield f"{'  ' * depth}{element.kind}@{element.start}..{element.end}\n"
 
 
-def read(name):
-    """The bytes of a file, or of standard input."""
+def read(name: str | None) -> bytes:
+    """Returns the bytes of a file, or of standard input."""
     if name is None:
         return sys.stdin.buffer.read()
     with open(name, "rb") as file:
         return file.read()
 
 
-def main():
+def main() -> int:
     """Prints each tree, and answers the status."""
     status = 0
     try:
-        for name in sys.argv[1:] or [None]:
+        names: list[str | None] = [*sys.argv[1:]]
+        for name in names or [None]:
             tree = rnix.parse(read(name))
             sys.stdout.writelines(lines(tree))
             status = 1 if tree.errors else status

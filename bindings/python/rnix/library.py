@@ -1,8 +1,11 @@
 """The shared library, and its functions as `bindings/rnix.h` describes them."""
 
+from __future__ import annotations
+
 import ctypes
 import os
 import pathlib
+from typing import Any, Callable
 
 VERSION = 1
 NOT_UTF8, NO_MEMORY, NONE_SUCH = -1, -2, -3
@@ -48,10 +51,10 @@ class Part(ctypes.Structure):
 
 
 class Refused(Exception):
-    """A call that was refused: the text is not UTF-8, or no memory is left."""
+    """A call that was refused: the text is not UTF-8."""
 
 
-def _path():
+def _path() -> str:
     """Where the library is: RNIX_LIBRARY, beside this file, or where bindings/build puts it."""
     here = pathlib.Path(__file__).resolve().parent
     named = os.environ.get("RNIX_LIBRARY")
@@ -62,12 +65,12 @@ def _path():
     raise ImportError(f"librnix.so is not at {' or '.join(map(str, places))}: run bindings/build, or set RNIX_LIBRARY")
 
 
-def _text(*more):
+def _text(*more: Any) -> list[Any]:
     """The types of a call's arguments: a text, and what is behind it."""
     return [ctypes.c_char_p, ctypes.c_size_t, *more]
 
 
-def _array(kind):
+def _array(kind: Any) -> list[Any]:
     """The types of an array's arguments."""
     return [ctypes.POINTER(kind), ctypes.c_size_t]
 
@@ -86,7 +89,7 @@ _ARGUMENTS = {
 }
 
 
-def _load():
+def _load() -> ctypes.CDLL:
     """The library, with the types of its functions."""
     library = ctypes.CDLL(_path())
     library.rnix_version.argtypes = []
@@ -103,7 +106,7 @@ def _load():
 LIBRARY = _load()
 
 
-def answered(answer):
+def answered(answer: int) -> int:
     """An answer that is no refusal."""
     if answer == NOT_UTF8:
         raise Refused("the text is not UTF-8")
@@ -114,25 +117,35 @@ def answered(answer):
     return answer
 
 
-def listed(kind, call, guess=0):
-    """All things that a call writes: an array of the type. The call takes an array and its room; the guess is how many there may be."""
+def listed(kind: Any, call: Callable[[Any, int], Any], guess: int = 0) -> tuple[Any, int]:
+    """All things that a call writes: an array of the type, and how many of its first there are.
+
+    The call takes an array and its room; the guess is how many there may be.
+    """
     room = (kind * guess)()
     count = answered(call(room, guess))
     if count > guess:
         room = (kind * count)()
         answered(call(room, count))
-    elif count < guess:
-        room = (kind * count).from_buffer_copy(room)
-    return room
+    return room, count
 
 
-def _kind_names():
+def _kind_names() -> tuple[str, ...]:
     """The names of the kinds, by their numbers."""
-    names = []
+    names: list[str] = []
     room = ctypes.create_string_buffer(64)
     while (count := LIBRARY.rnix_kind_name(len(names), room, len(room))) != NONE_SUCH:
         names.append(room.raw[: answered(count)].decode("ascii"))
-    return names
+    return tuple(names)
 
 
 KINDS = _kind_names()
+
+
+def source_of(text: str | bytes | bytearray | memoryview) -> bytes:
+    """The bytes of a text; what is no text raises TypeError."""
+    if isinstance(text, str):
+        return text.encode()
+    if isinstance(text, (bytes, bytearray, memoryview)):
+        return bytes(text)
+    raise TypeError(f"a text is a str or bytes, and no {type(text).__name__}")

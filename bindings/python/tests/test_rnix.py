@@ -5,6 +5,7 @@ import pathlib
 import re
 import subprocess
 import sys
+import tempfile
 import threading
 import unittest
 
@@ -12,7 +13,7 @@ from cases import stored
 
 import rnix
 from rnix import __main__ as printer
-from rnix import errors, library
+from rnix import ast, errors, library
 
 BINDINGS = pathlib.Path(__file__).resolve().parents[2]
 
@@ -27,32 +28,66 @@ class StoredCases(unittest.TestCase):
 
     def test_tokens_are_those_of_the_tokenizer(self):
         for text, wanted in stored("tokens"):
-            found = "".join(f"{token.kind} {token.end - token.start}\n" for token in rnix.tokens(text))
+            found = "".join(f"{token.kind} {token.end - token.start}\n" for token in rnix.tokenize(text))
             self.assertEqual(found, wanted, text)
 
     def test_strings_have_the_stored_parts(self):
         for text, wanted in stored("strings"):
-            string = next(child for child in rnix.parse(text).children if child.kind == "NODE_STRING")
             found = ""
-            for part in string.string_parts():
+            for part in rnix.parts(rnix.parse(text).root.expr):
                 name, said = ("literal", part) if isinstance(part, str) else ("interpolation", part.text)
                 found += f"{name} {len(said.encode())}\n{said}\n"
             self.assertEqual(found, wanted, text)
+
+    def test_walks_agree_with_each_other(self):
+        for text, _ in list(stored("trees"))[::17]:
+            tree = rnix.parse(text)
+            tokens = list(tree.root.find(rnix.Token))
+            self.assertEqual("".join(token.text for token in tokens), tree.text)
+            for token in tokens:
+                self.assertTrue(all(tree.token_at(offset) == token for offset in range(*token.range)))
+            for node in tree.root.find(rnix.Node):
+                children = list(node)
+                self.assertTrue(all(child.parent == node for child in children))
+                for left, right in zip(children, children[1:]):
+                    self.assertEqual((left.next_sibling, right.previous_sibling), (right, left))
+                self.assertEqual(node.children, [child for child in children if not isinstance(child, rnix.Token)])
 
 
 class Trees(unittest.TestCase):
     def test_elements_tell_what_they_are(self):
         tree = rnix.parse('let a = "ä"; in a')
-        self.assertEqual((tree.kind, tree.range, tree.text), ("NODE_ROOT", (0, 18), 'let a = "ä"; in a'))
-        self.assertIsNone(tree.parent)
-        (whole,) = tree.children
-        self.assertEqual(whole.kind, "NODE_LET_IN")
-        string = next(element for element in tree.walk() if element.kind == "NODE_STRING")
-        self.assertEqual((string.text, string.range, string.is_token), ('"ä"', (8, 12), False))
+        root = tree.root
+        self.assertEqual((root.kind, root.range, str(root)), ("NODE_ROOT", (0, 18), 'let a = "ä"; in a'))
+        self.assertIsNone(root.parent)
+        (whole,) = root
+        self.assertIsInstance(whole, ast.LetIn)
+        (string,) = root.find("NODE_STRING")
+        self.assertEqual((string.text, string.range, string.position), ('"ä"', (8, 12), (1, 9)))
+        self.assertEqual(tree.position(16), (1, 16))
         self.assertEqual([node.kind for node in string.ancestors][-1], "NODE_ROOT")
-        self.assertEqual("".join(element.text for element in tree.walk() if element.is_token), tree.text)
-        self.assertEqual({child.parent for child in whole.children}, {whole})
+        self.assertEqual({child.parent for child in whole}, {whole})
         self.assertEqual(repr(string), "<NODE_STRING@8..12>")
+
+    def test_typed_nodes_have_their_parts(self):
+        match rnix.parse("{ a, b ? 1, ... } @ c: rec { x.${y} = a; inherit (d) z; }").root.expr:
+            case ast.Lambda(param=ast.Pattern(pat_entries=[first, second], pat_bind=bind), body=ast.AttrSet() as body):
+                self.assertEqual([str(first.ident), str(second.default), str(bind.ident)], ["a", "1", "c"])
+            case other:
+                self.fail(repr(other))
+        value, inherit = body.entries
+        self.assertEqual([type(attr) for attr in value.attrpath.attrs], [ast.Ident, ast.Dynamic])
+        self.assertEqual((str(inherit.source.expr), body.inherits), ("d", [inherit]))
+        self.assertIsInstance(value.value, ast.Expr)
+        call = rnix.parse("f 1.5").root.expr
+        self.assertEqual((str(call.function), call.argument.value), ("f", 1.5))
+        self.assertEqual(rnix.parse("!(a -> b)").root.expr.operator, "!")
+        self.assertEqual(next(rnix.parse("a -> b").root.find(ast.BinOp)).operator, "->")
+
+    def test_each_kind_of_node_has_its_class(self):
+        for name in rnix.KINDS:
+            if name.startswith("NODE_"):
+                self.assertEqual(next(one for one in vars(ast).values() if getattr(one, "KIND", "") == name).KIND, name)
 
     def test_errors_tell_what_is_wanted(self):
         (error,) = rnix.parse("a (b").errors
@@ -75,26 +110,31 @@ class Trees(unittest.TestCase):
         answer = library.LIBRARY.rnix_error_text(text, len(text), len(said), room, len(room))
         self.assertEqual(answer, library.NONE_SUCH)
 
-    def test_only_strings_have_parts(self):
-        tree = rnix.parse('"a${b}"')
-        self.assertRaises(LookupError, tree.string_parts)
-        text, inner = tree.children[0].string_parts()
-        self.assertEqual((text, inner.text), ("a", "${b}"))
+    def test_strings_and_paths_have_parts(self):
+        string = rnix.parse('"a${b}"').root.expr
+        text, inner = rnix.parts(string)
+        self.assertEqual((text, str(inner.expr), rnix.value(string)), ("a", "b", None))
+        self.assertEqual(rnix.value(rnix.parse("''\n  a\n    b''").root.expr), "a\n  b")
+        self.assertEqual(list(map(str, rnix.path_parts(rnix.parse("./a/${b}.nix").root.expr))), ["./a/", "${b}", ".nix"])
 
-    def test_other_bytes_are_refused(self):
+    def test_other_bytes_and_other_things_are_refused(self):
         for text in (b"\xff", b"a\xc3", "ä".encode("latin-1")):
             self.assertRaises(rnix.Refused, rnix.parse, text)
-            self.assertRaises(rnix.Refused, rnix.tokens, text)
+            self.assertRaises(rnix.Refused, rnix.tokenize, text)
+        for thing in (5, None, ["a"]):
+            self.assertRaises(TypeError, rnix.parse, thing)
+            self.assertRaises(TypeError, rnix.tokenize, thing)
 
     def test_an_empty_text_has_a_root(self):
         tree = rnix.parse("")
-        self.assertEqual((len(list(tree.walk())), tree.children, rnix.tokens("")), (1, [], []))
+        self.assertEqual((len(list(tree.root.walk())), list(tree.root), rnix.tokenize("")), (1, [], []))
         self.assertEqual(str(tree.errors[0]), "unexpected end of file")
+        self.assertIsNone(tree.token_at(0))
 
     def test_a_megabyte_of_parentheses_is_read(self):
         tree = rnix.parse("(" * 2**20)
         self.assertTrue(any(error.variant == "RecursionLimitExceeded" for error in tree.errors))
-        self.assertEqual(sum(element.is_token for element in tree.walk()), 2**20)
+        self.assertEqual(sum(isinstance(element, rnix.Token) for element in tree.root.walk()), 2**20)
 
     def test_four_threads_read_at_once(self):
         text = '{ a = [ 1 (b: c.d or e) "x${y}" ]; }' * 50
@@ -111,6 +151,33 @@ class Trees(unittest.TestCase):
         for text, status in ((b"1 + 2", 0), (b"(", 1), (b"\xff", 2)):
             run = subprocess.run([sys.executable, "-m", "rnix"], input=text, capture_output=True, check=False)
             self.assertEqual(run.returncode, status)
+
+
+class Edits(unittest.TestCase):
+    def test_a_value_is_replaced_and_all_else_stays(self):
+        text = '{ # ä\n  version = "1.0"; }'
+        edits = rnix.Edits(text)
+        edits.replace(next(rnix.parse(text).root.find(ast.Str)), '"1.1"')
+        edits.replace((0, 0), "# new\n")
+        self.assertEqual(edits.apply(), '# new\n{ # ä\n  version = "1.1"; }')
+
+    def test_edits_that_do_not_fit_are_refused(self):
+        edits = rnix.Edits("aäb")
+        edits.replace((0, 1), "x")
+        for bad in ((2, 3), (3, 5), (0, 3), (3, 1)):
+            self.assertRaises(rnix.EditError, edits.replace, bad, "")
+        edits.replace((1, 1), "1")
+        edits.replace((1, 1), "2")
+        self.assertEqual(edits.apply(), "x12äb")
+
+    def test_the_example_updates_pins(self):
+        text = '{\n  version = "1.0"; # pinned\n  src.hash = "old"; name = "a";\n}\n'
+        with tempfile.TemporaryDirectory() as folder:
+            file = pathlib.Path(folder) / "package.nix"
+            file.write_text(text)
+            example = BINDINGS / "python" / "examples" / "pins.py"
+            subprocess.run([sys.executable, example, file, "version=1.1", "src.hash=new"], check=True)
+            self.assertEqual(file.read_text(), text.replace("1.0", "1.1").replace("old", "new"))
 
 
 class Header(unittest.TestCase):

@@ -1,16 +1,35 @@
 //! Prints the errors and the tree of each file, or of standard input, as nix-tree does: tree [FILE..]
 //! It ends with 0 if no text has errors, with 1 if one has, and with 2 if something is refused.
 
+use rnix::{Root, WalkEvent};
 use std::error::Error;
 use std::io::{self, Read, Write};
 use std::process::ExitCode;
-use std::{env, fs};
+use std::{env, fs, str};
 
-// Prints a text's tree, and answers whether it has errors.
+// Prints a text's errors and its tree, and answers whether it has errors.
 fn print(text: &[u8], out: &mut impl Write) -> Result<bool, Box<dyn Error>> {
-    let tree = rnix_proved::parse(text)?;
-    write!(out, "{tree}")?;
-    Ok(!tree.errors().is_empty())
+    let parse = Root::try_parse(str::from_utf8(text)?)?;
+    for error in parse.errors() {
+        writeln!(out, "error: {error}")?;
+    }
+    let mut depth = 0;
+    for event in parse.syntax().preorder_with_tokens() {
+        let WalkEvent::Enter(element) = event else {
+            depth -= 1;
+            continue;
+        };
+        writeln!(
+            out,
+            "{:width$}{:?}@{:?}",
+            "",
+            element.kind(),
+            element.text_range(),
+            width = 2 * depth
+        )?;
+        depth += 1;
+    }
+    Ok(!parse.errors().is_empty())
 }
 
 fn print_all(files: &[String]) -> Result<bool, Box<dyn Error>> {

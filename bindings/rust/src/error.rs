@@ -1,15 +1,16 @@
 //! The errors of a text, and refusals.
 
-use crate::{ffi, SyntaxKind};
+use crate::SyntaxKind::{self, *};
+use crate::{ffi, TextRange, TextSize};
 use std::fmt;
-use std::ops::Range;
 
 /// Why a text was not read.
 #[derive(Clone, Copy, Debug, PartialEq, Eq)]
+#[non_exhaustive]
 pub enum Refused {
     /// The text is not UTF-8.
     NotUtf8,
-    /// No memory is left.
+    /// No memory is left, or the text has 2^32 bytes.
     NoMemory,
 }
 
@@ -24,122 +25,106 @@ impl fmt::Display for Refused {
 
 impl std::error::Error for Refused {}
 
-/// A set of kinds.
-#[derive(Clone, Copy, PartialEq, Eq, Hash)]
-pub struct KindSet {
-    bits: [u64; 2],
-}
-
-impl KindSet {
-    /// Whether the kind is in the set.
-    pub fn contains(self, kind: SyntaxKind) -> bool {
-        let number = kind as usize;
-        self.bits[number / 64] >> (number % 64) & 1 == 1
-    }
-
-    /// The kinds in the set, in their order.
-    pub fn iter(self) -> impl Iterator<Item = SyntaxKind> {
-        SyntaxKind::ALL.iter().copied().filter(move |kind| self.contains(*kind))
-    }
-}
-
-impl fmt::Debug for KindSet {
-    fn fmt(&self, f: &mut fmt::Formatter<'_>) -> fmt::Result {
-        f.debug_set().entries(self.iter()).finish()
-    }
-}
-
-/// What an error of a text is.
-#[derive(Clone, Debug, PartialEq, Eq)]
-pub enum ErrorKind {
+/// An error of a text.
+#[derive(Clone, Debug, PartialEq)]
+#[non_exhaustive]
+pub enum ParseError {
     /// No cause is told. The parser never makes it.
-    Unexpected(Range<usize>),
+    Unexpected(TextRange),
     /// Tokens follow the expression.
-    UnexpectedExtra(Range<usize>),
-    /// A token of the first kind stands where one of a set of kinds is wanted.
-    UnexpectedWanted(SyntaxKind, Range<usize>, KindSet),
+    UnexpectedExtra(TextRange),
+    /// A token of the first kind stands where one of the others is wanted.
+    UnexpectedWanted(SyntaxKind, TextRange, Box<[SyntaxKind]>),
     /// A pattern is bound to two names.
-    UnexpectedDoubleBind(Range<usize>),
+    UnexpectedDoubleBind(TextRange),
     /// The text ends where more is wanted.
-    UnexpectedEof,
-    /// The text ends where one of a set of kinds is wanted.
-    UnexpectedEofWanted(KindSet),
-    /// Two entries of a pattern have one name: the range of the second.
-    DuplicatedArgs(Range<usize>),
+    UnexpectedEOF,
+    /// The text ends where one of these kinds is wanted.
+    UnexpectedEOFWanted(Box<[SyntaxKind]>),
+    /// Two entries of a pattern have one name: the place of the second, and the name.
+    DuplicatedArgs(TextRange, String),
     /// Expressions are nested too deep.
     RecursionLimitExceeded,
 }
 
-/// An error of a text, displayed as `nix-tree` does.
-#[derive(Clone, Debug, PartialEq, Eq)]
-pub struct Error {
-    kind: ErrorKind,
-    message: String,
-}
-
-impl Error {
-    /// What the error is.
-    pub fn kind(&self) -> &ErrorKind {
-        &self.kind
-    }
-
-    /// The range of its error node in the tree, or of the repeated name; None where the text ends or nests too deep.
-    pub fn range(&self) -> Option<Range<usize>> {
-        match &self.kind {
-            ErrorKind::Unexpected(range)
-            | ErrorKind::UnexpectedExtra(range)
-            | ErrorKind::UnexpectedWanted(_, range, _)
-            | ErrorKind::UnexpectedDoubleBind(range)
-            | ErrorKind::DuplicatedArgs(range) => Some(range.clone()),
-            ErrorKind::UnexpectedEof | ErrorKind::UnexpectedEofWanted(_) | ErrorKind::RecursionLimitExceeded => None,
+impl fmt::Display for ParseError {
+    fn fmt(&self, f: &mut fmt::Formatter<'_>) -> fmt::Result {
+        match self {
+            ParseError::Unexpected(range) => write!(f, "error node at {range:?}"),
+            ParseError::UnexpectedExtra(range) => write!(f, "unexpected token at {range:?}"),
+            ParseError::UnexpectedWanted(found, range, wanted) => {
+                write!(f, "unexpected {found:?} at {range:?}, wanted any of {wanted:?}")
+            }
+            ParseError::UnexpectedDoubleBind(range) => write!(f, "unexpected double bind at {range:?}"),
+            ParseError::UnexpectedEOF => f.write_str("unexpected end of file"),
+            ParseError::UnexpectedEOFWanted(wanted) => write!(f, "unexpected end of file, wanted any of {wanted:?}"),
+            ParseError::DuplicatedArgs(range, name) => write!(f, "argument `{name}` is duplicated in {range:?}"),
+            ParseError::RecursionLimitExceeded => f.write_str("recursion limit exceeded"),
         }
     }
 }
 
-impl fmt::Display for Error {
-    fn fmt(&self, f: &mut fmt::Formatter<'_>) -> fmt::Result {
-        f.write_str(&self.message)
-    }
+impl std::error::Error for ParseError {}
+
+// The lists of more than one wanted kind, in the order of rnix; the library gives sets.
+const LISTS: [&[SyntaxKind]; 4] = [
+    &[
+        TOKEN_L_PAREN,
+        TOKEN_REC,
+        TOKEN_L_BRACE,
+        TOKEN_L_BRACK,
+        TOKEN_STRING_START,
+        TOKEN_IDENT,
+    ],
+    &[TOKEN_STRING_END, TOKEN_STRING_CONTENT, TOKEN_INTERPOL_START],
+    &[TOKEN_IDENT, TOKEN_OR, TOKEN_CUR_POS],
+    &[TOKEN_R_BRACE, TOKEN_ELLIPSIS, TOKEN_IDENT],
+];
+
+// Whether a kind is in a set of the library.
+fn is_in(set: &[u64; 2], kind: SyntaxKind) -> bool {
+    let number = kind as usize;
+    set[number / 64] >> (number % 64) & 1 == 1
 }
 
-impl std::error::Error for Error {}
+// The kinds of a set of the library.
+fn kinds_of(set: &[u64; 2]) -> Box<[SyntaxKind]> {
+    let kinds: Vec<SyntaxKind> = SyntaxKind::ALL
+        .iter()
+        .copied()
+        .filter(|kind| is_in(set, *kind))
+        .collect();
+    let is_set = |list: &&&[SyntaxKind]| list.len() == kinds.len() && list.iter().all(|kind| is_in(set, *kind));
+    LISTS
+        .iter()
+        .find(is_set)
+        .map_or(kinds.clone().into(), |list| (*list).into())
+}
 
-// What an error is that the library gave in numbers.
-fn kind_of(fault: &ffi::Fault) -> ErrorKind {
-    let range = fault.start as usize..fault.end as usize;
-    let wanted = KindSet { bits: fault.wanted };
+// The error that the library gave in numbers.
+fn error_of(text: &str, fault: &ffi::Fault) -> ParseError {
+    let wanted = kinds_of(&fault.wanted);
+    let offset = |offset: u64| TextSize::try_from(offset as usize).unwrap_or_default();
+    let range = || TextRange::new(offset(fault.start), offset(fault.end));
     match fault.variant {
-        0 => ErrorKind::Unexpected(range),
-        1 => ErrorKind::UnexpectedExtra(range),
-        2 => ErrorKind::UnexpectedWanted(SyntaxKind::at(fault.found), range, wanted),
-        3 => ErrorKind::UnexpectedDoubleBind(range),
-        4 => ErrorKind::UnexpectedEof,
-        5 => ErrorKind::UnexpectedEofWanted(wanted),
-        6 => ErrorKind::DuplicatedArgs(range),
-        _ => ErrorKind::RecursionLimitExceeded,
+        0 => ParseError::Unexpected(range()),
+        1 => ParseError::UnexpectedExtra(range()),
+        2 => ParseError::UnexpectedWanted(SyntaxKind::at(fault.found), range(), wanted),
+        3 => ParseError::UnexpectedDoubleBind(range()),
+        4 => ParseError::UnexpectedEOF,
+        5 => ParseError::UnexpectedEOFWanted(wanted),
+        6 => ParseError::DuplicatedArgs(range(), text[range()].to_owned()),
+        _ => ParseError::RecursionLimitExceeded,
     }
 }
 
-// For how many bytes of an error's text there is room at first.
-const USUAL_TEXT: usize = 128;
-
-/// The errors of a text that has so many.
-pub(crate) fn errors_of(text: &str, count: usize) -> Result<Vec<Error>, Refused> {
-    // SAFETY: both calls fill their array as `listed` asks.
+/// Returns the errors of a text that has so many.
+pub(crate) fn errors_of(text: &str, count: usize) -> Result<Vec<ParseError>, Refused> {
+    // SAFETY: the call fills its array as `listed` asks.
     let faults = unsafe {
         ffi::listed(count, |room, len| {
             ffi::rnix_errors(text.as_ptr(), text.len(), room, len)
         })
     }?;
-    let lines = unsafe {
-        ffi::listed(count.saturating_mul(USUAL_TEXT), |room, len| {
-            ffi::rnix_error_texts(text.as_ptr(), text.len(), room, len)
-        })
-    }?;
-    let lines = String::from_utf8(lines).map_err(|_| Refused::NotUtf8)?;
-    let errors = faults.iter().zip(lines.lines()).map(|(fault, line)| Error {
-        kind: kind_of(fault),
-        message: line.to_owned(),
-    });
-    Ok(errors.collect())
+    Ok(faults.iter().map(|fault| error_of(text, fault)).collect())
 }

@@ -1,6 +1,6 @@
 //! The functions of the library, as `bindings/rnix.h` describes them, and safe calls of those that fill an array.
 
-use crate::Refused;
+use crate::error::Refused;
 use std::mem::MaybeUninit;
 
 /// The interface that this file describes.
@@ -67,7 +67,6 @@ extern "C" {
         error_count: *mut u64,
     ) -> i64;
     pub fn rnix_errors(text: *const u8, len: usize, errors: *mut Fault, room: usize) -> i64;
-    pub fn rnix_error_texts(text: *const u8, len: usize, buffer: *mut u8, room: usize) -> i64;
     pub fn rnix_string_text(text: *const u8, len: usize, element: usize, buffer: *mut u8, room: usize) -> i64;
     pub fn rnix_string_parts(text: *const u8, len: usize, element: usize, parts: *mut Part, room: usize) -> i64;
 }
@@ -105,11 +104,12 @@ pub unsafe fn listed<T: Copy>(guess: usize, call: impl Fn(*mut T, usize) -> i64)
 #[cfg(test)]
 mod tests {
     use super::*;
-    use crate::SyntaxKind;
+    use crate::{ParseError, Root, SyntaxKind};
     use std::mem::{align_of, size_of};
 
     extern "C" {
         fn rnix_kind_name(kind: u32, buffer: *mut u8, room: usize) -> i64;
+        fn rnix_error_texts(text: *const u8, len: usize, buffer: *mut u8, room: usize) -> i64;
     }
 
     #[test]
@@ -131,5 +131,29 @@ mod tests {
         let end = SyntaxKind::ALL.len() as u32;
         // SAFETY: there is no room, so nothing is written.
         assert!(unsafe { rnix_kind_name(end, std::ptr::null_mut(), 0) } < 0);
+    }
+    #[test]
+    fn errors_are_displayed_as_by_the_library() {
+        for text in [
+            "",
+            "()",
+            "a)",
+            "{ a, a }: a",
+            "a @ { b } @ c: d",
+            "{ a =",
+            "\"${",
+            "inherit",
+            "{ a ? }: b",
+            "let in",
+            "[",
+            "{ a. = 1; }",
+        ] {
+            let errors: Vec<ParseError> = Root::parse(text).errors().to_vec();
+            let shown: String = errors.iter().map(|error| format!("{error}\n")).collect();
+            // SAFETY: the call fills its array as `listed` asks.
+            let texts =
+                unsafe { listed(64, |room, len| rnix_error_texts(text.as_ptr(), text.len(), room, len)) }.unwrap();
+            assert_eq!(shown, String::from_utf8(texts).unwrap(), "{text}");
+        }
     }
 }

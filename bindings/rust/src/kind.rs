@@ -1,13 +1,15 @@
 //! The kinds of tokens and nodes.
 
 use std::fmt;
+use std::str::FromStr;
 
 macro_rules! kinds {
     ($($name:ident,)*) => {
         /// What a token or a node is. The kinds of tokens come before those of nodes.
         #[allow(non_camel_case_types, missing_docs)]
         #[derive(Clone, Copy, Debug, PartialEq, Eq, PartialOrd, Ord, Hash)]
-        #[repr(u32)]
+        #[repr(u16)]
+        #[non_exhaustive]
         pub enum SyntaxKind {
             $($name,)*
         }
@@ -16,8 +18,8 @@ macro_rules! kinds {
             /// Every kind, by its number.
             pub const ALL: &'static [SyntaxKind] = &[$(SyntaxKind::$name,)*];
 
-            /// The kind's own name, as `TOKEN_ADD`.
-            pub fn name(self) -> &'static str {
+            /// Returns the kind's own name, as `TOKEN_ADD`.
+            pub const fn name(self) -> &'static str {
                 match self {
                     $(SyntaxKind::$name => stringify!($name),)*
                 }
@@ -123,14 +125,66 @@ kinds! {
 }
 
 impl SyntaxKind {
-    /// Whether it is a comment or white space.
+    /// Tells whether it is a comment or white space.
     pub fn is_trivia(self) -> bool {
         matches!(self, SyntaxKind::TOKEN_COMMENT | SyntaxKind::TOKEN_WHITESPACE)
     }
 
-    /// The kind of a number that the library gave.
+    /// Tells whether it is the first token of a number, a path or an address.
+    pub fn is_literal(self) -> bool {
+        use SyntaxKind::*;
+        matches!(
+            self,
+            TOKEN_FLOAT
+                | TOKEN_INTEGER
+                | TOKEN_PATH_ABS
+                | TOKEN_PATH_REL
+                | TOKEN_PATH_HOME
+                | TOKEN_PATH_SEARCH
+                | TOKEN_URI
+        )
+    }
+
+    /// Tells whether an argument of a function may begin with it.
+    pub fn is_fn_arg(self) -> bool {
+        use SyntaxKind::*;
+        self.is_literal()
+            || matches!(
+                self,
+                TOKEN_REC
+                    | TOKEN_L_BRACE
+                    | TOKEN_L_BRACK
+                    | TOKEN_L_PAREN
+                    | TOKEN_STRING_START
+                    | TOKEN_IDENT
+                    | TOKEN_CUR_POS
+            )
+    }
+
+    // The kind of a number that the library gave.
     pub(crate) fn at(number: u32) -> SyntaxKind {
         SyntaxKind::ALL[number as usize]
+    }
+}
+
+/// The error for a text that is the name of no kind.
+#[derive(Clone, Debug, PartialEq, Eq)]
+pub struct ParseSyntaxKindError;
+
+impl fmt::Display for ParseSyntaxKindError {
+    fn fmt(&self, f: &mut fmt::Formatter<'_>) -> fmt::Result {
+        f.write_str("invalid SyntaxKind")
+    }
+}
+
+impl std::error::Error for ParseSyntaxKindError {}
+
+impl FromStr for SyntaxKind {
+    type Err = ParseSyntaxKindError;
+
+    fn from_str(name: &str) -> Result<SyntaxKind, ParseSyntaxKindError> {
+        let named = SyntaxKind::ALL.iter().find(|kind| kind.name() == name);
+        named.copied().ok_or(ParseSyntaxKindError)
     }
 }
 

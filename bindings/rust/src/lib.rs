@@ -1,31 +1,52 @@
-//! A lossless parser of the Nix language. [`parse`] gives a [`Tree`] that keeps every byte of the text, and the errors of the text.
+//! A lossless parser of the Nix language, with the names of the crate rnix 0.14.0 for all that reads. A text gives a tree that keeps every byte,
+//! comments and broken parts included, and a list of errors.
 //!
-//! The parser is proved code behind a C interface (`bindings/rnix.h`); this crate copies its answer into a list of elements, and nodes and tokens
-//! are numbers in that list. Ranges are half-open and in bytes.
+//! The parser is proved code behind a C interface (`bindings/rnix.h`). What it answers is copied once; nodes and tokens are numbers in that list,
+//! with a share of it. Ranges are half-open and in bytes.
 //!
 //! ```
-//! let tree = rnix_proved::parse("let a = 1; in a")?;
-//! let root = tree.root();
-//! assert_eq!(root.text(), "let a = 1; in a");
-//! assert_eq!(root.children().next().unwrap().kind(), rnix_proved::SyntaxKind::NODE_LET_IN);
-//! assert!(tree.errors().is_empty());
-//! # Ok::<(), rnix_proved::Refused>(())
+//! use rnix::ast::{Expr, HasEntry};
+//! use rnix::rowan::ast::AstNode;
+//!
+//! let parse = rnix::Root::parse("let a = 1; in a");
+//! assert!(parse.errors().is_empty());
+//! let Some(Expr::LetIn(let_in)) = parse.tree().expr() else { panic!() };
+//! assert_eq!(let_in.body().unwrap().to_string(), "a");
+//! assert_eq!(let_in.entries().next().unwrap().syntax().text(), "a = 1;");
 //! ```
+//!
+//! Trees do not change: there is no `clone_for_update`, `splice_children`, `detach` or `replace_with`. [`Edits`] makes the edited text.
 
-mod element;
+#[macro_use]
+mod macros;
+pub mod ast;
+mod edits;
 mod error;
 mod ffi;
 mod kind;
-mod print;
-mod strings;
-mod token;
+mod language;
+mod line_index;
+mod parse;
+pub mod rowan;
+mod syntax;
+mod text_size;
+mod tokenizer;
 mod tree;
-mod walk;
 
-pub use element::{Element, Node};
-pub use error::{Error, ErrorKind, KindSet, Refused};
-pub use kind::SyntaxKind;
-pub use strings::StringPart;
-pub use token::{tokenize, Lexeme, Token};
-pub use tree::{parse, Tree};
-pub use walk::{Ancestors, Children, Descendants, Preorder, WalkEvent};
+pub use ast::Root;
+pub use edits::{EditError, Edits};
+pub use error::{ParseError, Refused};
+pub use kind::{ParseSyntaxKindError, SyntaxKind};
+pub use language::NixLanguage;
+pub use line_index::{ColumnUnit, LineIndex, Position};
+pub use parse::Parse;
+pub use syntax::children::{SyntaxElementChildren, SyntaxNodeChildren};
+pub use syntax::element::{NodeOrToken, SyntaxElement};
+pub use syntax::node::SyntaxNode;
+pub use syntax::offset::TokenAtOffset;
+pub use syntax::pointer::{AstPtr, SyntaxNodePtr};
+pub use syntax::text::SyntaxText;
+pub use syntax::token::SyntaxToken;
+pub use syntax::walk::{Direction, WalkEvent};
+pub use text_size::{TextRange, TextSize};
+pub use tokenizer::{tokenize, try_tokenize, Token};

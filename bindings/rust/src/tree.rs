@@ -1,15 +1,28 @@
-//! Trees.
+//! A text with the elements of its tree, which nodes and tokens share.
 
-use crate::error::errors_of;
-use crate::{ffi, Element, Error, Node, Refused, Token};
-use std::str;
+use crate::error::{errors_of, ParseError, Refused};
+use crate::{ffi, SyntaxKind, TextRange, TextSize};
 
-/// A text, its tree, and its errors. A tree does not change, and threads may share it.
+/// The number of the parent of the root: there is none.
+const NO_PARENT: u32 = u32::MAX;
+
+/// An element of a tree: 20 bytes.
+#[derive(Clone, Copy, Debug)]
+struct Record {
+    start: u32,
+    end: u32,
+    parent: u32,
+    // How many elements are inside it.
+    inside: u32,
+    kind: SyntaxKind,
+    is_token: bool,
+}
+
+/// A text and its elements in preorder: an element is its number there, from 0, the root.
 #[derive(Debug)]
-pub struct Tree {
-    text: String,
-    elements: Vec<ffi::Element>,
-    errors: Vec<Error>,
+pub(crate) struct Tree {
+    text: Box<str>,
+    records: Box<[Record]>,
 }
 
 // For how many elements there is room at first: mostly there are fewer than bytes.
@@ -17,82 +30,122 @@ fn usual_count(text: &str) -> usize {
     text.len().saturating_add(8)
 }
 
-/// Reads a text: a string, or bytes that should be UTF-8. Each text has a tree, also where it has errors.
-///
-/// # Errors
-/// Bytes that are not UTF-8, and want of memory.
-///
-/// # Panics
-/// If `librnix.a` is of another version than this crate.
-pub fn parse(text: impl AsRef<[u8]>) -> Result<Tree, Refused> {
-    // SAFETY: the function reads and writes nothing.
-    assert_eq!(
-        unsafe { ffi::rnix_version() },
-        ffi::VERSION,
-        "librnix.a is of another version than this crate"
-    );
-    let text = str::from_utf8(text.as_ref()).map_err(|_| Refused::NotUtf8)?;
-    let mut error_count = 0;
-    let count: *mut u64 = &mut error_count;
-    // SAFETY: the call fills its array as `listed` asks; it is given no room for errors, and `count` points to a number of this function.
-    let elements = unsafe {
-        ffi::listed(usual_count(text), |room, len| {
-            ffi::rnix_parse(text.as_ptr(), text.len(), room, len, std::ptr::null_mut(), 0, count)
-        })
-    }?;
-    let errors = match error_count as usize {
-        0 => Vec::new(),
-        count => errors_of(text, count)?,
-    };
-    Ok(Tree {
-        text: text.to_owned(),
-        elements,
-        errors,
-    })
+// A record of what the library gave. Its numbers have 32 bits, as the text has fewer than 2^32 bytes and the tree fewer elements.
+fn record(element: &ffi::Element) -> Record {
+    Record {
+        start: element.start as u32,
+        end: element.end as u32,
+        parent: if element.parent == ffi::NO_NUMBER {
+            NO_PARENT
+        } else {
+            element.parent as u32
+        },
+        inside: element.inside as u32,
+        kind: SyntaxKind::at(element.kind),
+        is_token: element.is_token == 1,
+    }
 }
 
 impl Tree {
-    /// The text.
-    pub fn text(&self) -> &str {
-        &self.text
+    /// Reads a text.
+    pub(crate) fn read(text: &str) -> Result<(Tree, Vec<ParseError>), Refused> {
+        // SAFETY: the function reads and writes nothing.
+        let version = unsafe { ffi::rnix_version() };
+        assert_eq!(version, ffi::VERSION, "librnix.a is of another version than this crate");
+        let mut error_count = 0;
+        let count: *mut u64 = &mut error_count;
+        // SAFETY: the call fills its array as `listed` asks; it is given no room for errors, and `count` points to a number of this function.
+        let elements = unsafe {
+            ffi::listed(usual_count(text), |room, len| {
+                ffi::rnix_parse(text.as_ptr(), text.len(), room, len, std::ptr::null_mut(), 0, count)
+            })
+        }?;
+        let errors = match error_count as usize {
+            0 => Vec::new(),
+            count => errors_of(text, count)?,
+        };
+        let tree = Tree {
+            text: text.into(),
+            records: elements.iter().map(record).collect(),
+        };
+        Ok((tree, errors))
     }
 
-    /// The node at the root.
-    pub fn root(&self) -> Node<'_> {
-        Node { tree: self, number: 0 }
+    fn record(&self, number: u32) -> &Record {
+        &self.records[number as usize]
     }
 
-    /// The errors, in the order in which they were found.
-    pub fn errors(&self) -> &[Error] {
-        &self.errors
+    /// Returns how many elements there are.
+    pub(crate) fn count(&self) -> u32 {
+        self.records.len() as u32
     }
 
-    /// How many elements there are, with the root.
-    pub fn element_count(&self) -> usize {
-        self.elements.len()
+    /// Tells whether an element is a token.
+    pub(crate) fn is_token(&self, number: u32) -> bool {
+        self.record(number).is_token
     }
 
-    /// The element of a number in preorder, from 0, the root; None if there are not so many. It is the number that `Element::number` answers.
-    pub fn element(&self, number: usize) -> Option<Element<'_>> {
-        (number < self.elements.len()).then(|| self.element_at(number))
+    /// Returns the kind of an element.
+    pub(crate) fn kind(&self, number: u32) -> SyntaxKind {
+        self.record(number).kind
     }
 
-    pub(crate) fn record(&self, number: usize) -> &ffi::Element {
-        &self.elements[number]
+    /// Returns the range of an element.
+    pub(crate) fn range(&self, number: u32) -> TextRange {
+        let record = self.record(number);
+        TextRange::new(TextSize::new(record.start), TextSize::new(record.end))
     }
 
-    // The element of a number that is there.
-    pub(crate) fn element_at(&self, number: usize) -> Element<'_> {
-        if self.record(number).is_token == 1 {
-            Element::Token(Token { tree: self, number })
-        } else {
-            Element::Node(Node { tree: self, number })
+    /// Returns the text of an element.
+    pub(crate) fn text(&self, number: u32) -> &str {
+        &self.text[self.range(number)]
+    }
+
+    /// Returns the node around an element, if it is not the root.
+    pub(crate) fn parent(&self, number: u32) -> Option<u32> {
+        let parent = self.record(number).parent;
+        (parent != NO_PARENT).then_some(parent)
+    }
+
+    /// Returns the number behind an element and all that is inside it.
+    pub(crate) fn end(&self, number: u32) -> u32 {
+        number + 1 + self.record(number).inside
+    }
+
+    /// Returns the first element inside a node.
+    pub(crate) fn first_child(&self, number: u32) -> Option<u32> {
+        (number + 1 < self.end(number)).then_some(number + 1)
+    }
+
+    /// Returns the last element right below a node: the outermost one inside it that ends with it.
+    pub(crate) fn last_child(&self, number: u32) -> Option<u32> {
+        self.first_child(number)?;
+        Some(self.below(number, self.end(number) - 1))
+    }
+
+    /// Returns the next element with the same parent.
+    pub(crate) fn next_sibling(&self, number: u32) -> Option<u32> {
+        let next = self.end(number);
+        (next < self.end(self.parent(number)?)).then_some(next)
+    }
+
+    /// Returns the element before it with the same parent.
+    pub(crate) fn prev_sibling(&self, number: u32) -> Option<u32> {
+        let parent = self.parent(number)?;
+        (parent + 1 < number).then(|| self.below(parent, number - 1))
+    }
+
+    // The element right below a node that holds an element inside it.
+    fn below(&self, node: u32, inside: u32) -> u32 {
+        let mut number = inside;
+        while let Some(parent) = self.parent(number).filter(|parent| *parent != node) {
+            number = parent;
         }
+        number
     }
 
-    // How many elements start before the offset. They are the first ones, since starts ascend in preorder.
-    pub(crate) fn count_before(&self, offset: usize) -> usize {
-        self.elements
-            .partition_point(|element| (element.start as usize) < offset)
+    /// Returns how many of the elements start before an offset. They are the first ones, since starts ascend in preorder.
+    pub(crate) fn count_before(&self, offset: TextSize) -> u32 {
+        self.records.partition_point(|record| record.start < offset.into()) as u32
     }
 }

@@ -1,104 +1,264 @@
-//! Errors, refusals, threads, and the numbers of the interface.
+//! What programs do with trees, and what they may rely on.
 
-use rnix_proved::{parse, tokenize, Error, ErrorKind, Refused, SyntaxKind, Tree};
+use rnix::ast::{self, Attr, BinOpKind, Entry, Expr, HasEntry, InterpolPart, LiteralKind, Param};
+use rnix::rowan::ast::{support, AstNode};
+use rnix::SyntaxKind::{self, *};
+use rnix::{
+    match_ast, AstPtr, ParseError, Root, SyntaxNode, SyntaxNodePtr, SyntaxToken, TextRange, TextSize, WalkEvent, T,
+};
+use std::collections::HashSet;
 use std::thread;
 
-fn shared_by_threads<T: Send + Sync>() {}
+fn shared_by_threads<T: Send + Sync + 'static>() {}
 
 #[test]
-fn trees_and_errors_go_between_threads() {
-    shared_by_threads::<Tree>();
-    shared_by_threads::<Error>();
-    shared_by_threads::<rnix_proved::Node<'static>>();
+fn nodes_go_between_threads() {
+    shared_by_threads::<SyntaxNode>();
+    shared_by_threads::<SyntaxToken>();
+    shared_by_threads::<ast::Expr>();
+    shared_by_threads::<ParseError>();
+    shared_by_threads::<rnix::Parse<Root>>();
+    let body = Root::parse("a: b").tree().expr().unwrap();
+    assert_eq!(thread::spawn(move || body.to_string()).join().unwrap(), "a: b");
+}
+
+fn range(start: u32, end: u32) -> TextRange {
+    TextRange::new(start.into(), end.into())
 }
 
 #[test]
-fn errors_tell_what_is_wanted() {
-    let tree = parse("a (b").unwrap();
-    let [error] = tree.errors() else {
-        panic!("{:?}", tree.errors())
-    };
+fn errors_are_those_of_rnix() {
+    let errors = |text| Root::parse(text).errors().to_vec();
+    let operand = [
+        TOKEN_L_PAREN,
+        TOKEN_REC,
+        TOKEN_L_BRACE,
+        TOKEN_L_BRACK,
+        TOKEN_STRING_START,
+        TOKEN_IDENT,
+    ];
     assert_eq!(
-        error.to_string(),
-        "unexpected end of file, wanted any of [TOKEN_R_PAREN]"
+        errors("a (b"),
+        [ParseError::UnexpectedEOFWanted([TOKEN_R_PAREN].into())]
     );
-    let ErrorKind::UnexpectedEofWanted(wanted) = error.kind() else {
-        panic!("{error:?}")
-    };
-    assert_eq!(wanted.iter().collect::<Vec<_>>(), [SyntaxKind::TOKEN_R_PAREN]);
-    assert_eq!(error.range(), None);
+    assert_eq!(
+        errors("()"),
+        [ParseError::UnexpectedWanted(TOKEN_R_PAREN, range(1, 2), operand.into())][..]
+    );
+    assert_eq!(
+        errors("{ a, a }: a"),
+        [ParseError::DuplicatedArgs(range(5, 6), "a".into())]
+    );
+    assert_eq!(errors("a)"), [ParseError::UnexpectedExtra(range(1, 2))]);
+    assert_eq!(errors(""), [ParseError::UnexpectedEOF]);
+    assert_eq!(
+        Root::parse("()").ok().unwrap_err().to_string(),
+        errors("()")[0].to_string()
+    );
+    assert_eq!(
+        errors("{ a.")[0].to_string(),
+        "unexpected end of file, wanted any of [TOKEN_IDENT, TOKEN_OR, TOKEN_CUR_POS]"
+    );
+}
 
-    let tree = parse("{ a, a }: a").unwrap();
-    assert_eq!(tree.errors()[0].kind(), &ErrorKind::DuplicatedArgs(5..6));
+#[test]
+fn names_of_rowan_mean_what_they_mean_there() {
+    let root = Root::parse("let a = 1; in a + 2").syntax();
+    let token = root.token_at_offset(14.into()).right_biased().unwrap();
+    assert_eq!(
+        (token.text(), token.kind(), token.text_range()),
+        ("a", TOKEN_IDENT, range(14, 15))
+    );
+    let around: Vec<_> = token.parent_ancestors().map(|node| node.kind()).collect();
+    assert_eq!(around, [NODE_IDENT, NODE_BIN_OP, NODE_LET_IN, NODE_ROOT]);
+    let sum = token.parent().unwrap().parent().unwrap();
+    assert_eq!(sum.ancestors().next().unwrap(), sum);
+    assert_eq!(root.covering_element(range(14, 17)).kind(), NODE_BIN_OP);
+    assert_eq!(sum.first_child().unwrap().next_sibling().unwrap().kind(), NODE_LITERAL);
+    assert_eq!(
+        sum.first_child_or_token_by_kind(&|kind| kind == T![+])
+            .unwrap()
+            .text_range(),
+        range(16, 17)
+    );
+    assert_eq!(sum.text().slice(TextSize::new(2)..).to_string(), "+ 2");
+    assert_eq!(
+        format!("{sum:?} {token:?}"),
+        "NODE_BIN_OP@14..19 TOKEN_IDENT@14..15 \"a\""
+    );
+    let mut walk = root.preorder();
+    let entered = std::iter::from_fn(|| walk.next())
+        .filter(|event| matches!(event, WalkEvent::Enter(_)))
+        .count();
+    assert_eq!(entered, root.descendants().count());
+    assert_eq!(
+        format!("{:#?}", Root::parse("a").syntax()),
+        "NODE_ROOT@0..1\n  NODE_IDENT@0..1\n    TOKEN_IDENT@0..1 \"a\"\n"
+    );
+}
 
-    let tree = parse("()").unwrap();
-    let ErrorKind::UnexpectedWanted(found, range, wanted) = tree.errors()[0].kind() else {
+#[test]
+fn long_tokens_are_shown_in_part() {
+    let long = Root::parse("abcdefghijklmnopqrstuvwxyz")
+        .syntax()
+        .first_token()
+        .unwrap();
+    assert_eq!(format!("{long:?}"), "TOKEN_IDENT@0..26 \"abcdefghijklmnopqrstu ...\"");
+}
+
+#[test]
+fn typed_nodes_find_their_parts() {
+    let Some(Expr::Lambda(function)) = Root::parse("{ a, b ? 1, ... } @ c: rec { x.${y} = a; inherit (d) z; }")
+        .tree()
+        .expr()
+    else {
         panic!()
     };
-    assert_eq!((*found, range.clone()), (SyntaxKind::TOKEN_R_PAREN, 1..2));
-    assert!(wanted.contains(SyntaxKind::TOKEN_IDENT) && !wanted.contains(SyntaxKind::TOKEN_R_PAREN));
+    let Some(Param::Pattern(pattern)) = function.param() else {
+        panic!()
+    };
+    let names: Vec<_> = pattern
+        .pat_entries()
+        .map(|entry| entry.ident().unwrap().to_string())
+        .collect();
+    assert_eq!(names, ["a", "b"]);
+    assert_eq!(
+        pattern.pat_entries().nth(1).unwrap().default().unwrap().to_string(),
+        "1"
+    );
+    assert!(pattern.ellipsis_token().is_some() && pattern.pat_bind().is_some());
+    let Some(Expr::AttrSet(set)) = function.body() else {
+        panic!()
+    };
+    assert!(set.rec_token().is_some());
+    let entry = set.attrpath_values().next().unwrap();
+    let attrs: Vec<Attr> = entry.attrpath().unwrap().attrs().collect();
+    assert!(matches!(&attrs[..], [Attr::Ident(_), Attr::Dynamic(_)]));
+    let Some(Entry::Inherit(inherit)) = set.entries().nth(1) else {
+        panic!()
+    };
+    assert_eq!(inherit.from().unwrap().expr().unwrap().to_string(), "d");
+    assert_eq!(set.inherits().next(), Some(inherit));
+    let Some(Expr::BinOp(sum)) = Root::parse("1.5 ++ 2").tree().expr() else {
+        panic!()
+    };
+    assert_eq!(sum.operator(), Some(BinOpKind::Concat));
+    let Some(Expr::Literal(number)) = sum.lhs() else {
+        panic!()
+    };
+    let LiteralKind::Float(number) = number.kind() else {
+        panic!()
+    };
+    assert_eq!(number.value(), Ok(1.5));
+    assert_eq!(ast::BinOp::try_from(sum.rhs().unwrap()), Err(()));
+    assert_eq!(support::token(sum.syntax(), T![++]).unwrap().text(), "++");
 }
 
 #[test]
-fn other_bytes_are_refused() {
-    assert_eq!(parse(b"\xff").unwrap_err(), Refused::NotUtf8);
-    assert_eq!(tokenize(b"a\xc3").unwrap_err(), Refused::NotUtf8);
+fn strings_and_paths_have_parts() {
+    let Some(Expr::Str(string)) = Root::parse("let x = ''\n  a\n    ${b}c\\n\n''; in x")
+        .syntax()
+        .descendants()
+        .find_map(Expr::cast_str)
+    else {
+        panic!()
+    };
+    let parts = string.normalized_parts();
+    assert_eq!(parts[0], InterpolPart::Literal("a\n  ".into()));
+    assert_eq!(parts[2], InterpolPart::Literal("c\\n\n".into()));
+    let InterpolPart::Interpolation(interpol) = &parts[1] else {
+        panic!()
+    };
+    assert_eq!(interpol.expr().unwrap().to_string(), "b");
+    assert_eq!(string.parts().count(), 3);
+    let Some(Expr::PathRel(path)) = Root::parse("./a/${b}.nix").tree().expr() else {
+        panic!()
+    };
+    assert_eq!(path.parts().len(), 3);
+    let path = ast::Path::cast(path.syntax().clone()).unwrap();
+    assert!(path.is_interpolatable() && !path.is_search());
+}
+
+// The strings of a tree as expressions.
+trait CastStr: Sized {
+    fn cast_str(node: SyntaxNode) -> Option<Self>;
+}
+
+impl CastStr for Expr {
+    fn cast_str(node: SyntaxNode) -> Option<Expr> {
+        ast::Str::cast(node).map(Expr::Str)
+    }
 }
 
 #[test]
-fn an_empty_text_has_a_root() {
-    let tree = parse("").unwrap();
-    assert_eq!(tree.element_count(), 1);
-    assert_eq!(tree.root().kind(), SyntaxKind::NODE_ROOT);
-    assert_eq!(tree.root().first_token(), None);
-    assert_eq!(tree.to_string(), "error: unexpected end of file\nNODE_ROOT@0..0\n");
-    assert!(tokenize("").unwrap().is_empty());
+fn pointers_find_their_nodes_again() {
+    let text = "[ (a) ((a)) { b = a; } ]";
+    let (root, other) = (Root::parse(text).syntax(), Root::parse(text).syntax());
+    for node in root.descendants() {
+        let pointer = SyntaxNodePtr::new(&node);
+        assert_eq!(pointer.to_node(&root), node);
+        assert_eq!(pointer.to_node(&other).text_range(), node.text_range());
+        assert_ne!(pointer.to_node(&other), node);
+        if let Some(name) = ast::Ident::cast(node) {
+            assert_eq!(AstPtr::new(&name).to_node(&root), name);
+        }
+    }
+    assert!(SyntaxNodePtr::new(&root.last_child().unwrap())
+        .try_to_node(&Root::parse("a").syntax())
+        .is_none());
+}
+
+#[test]
+fn nodes_are_equal_in_one_tree() {
+    let parse = Root::parse("a a");
+    assert_eq!(parse.syntax(), parse.clone().syntax());
+    let names: HashSet<_> = parse.syntax().descendants().filter_map(ast::Ident::cast).collect();
+    assert_eq!(names.len(), 2);
+}
+
+#[test]
+fn kinds_are_matched() {
+    let of_root = |text| {
+        let node = Root::parse(text).tree().expr().unwrap().syntax().clone();
+        match_ast! {
+            match node {
+                ast::Apply(call) => call.argument().map(|argument| argument.to_string()),
+                ast::Ident(name) => Some(name.to_string()),
+                _ => None,
+            }
+        }
+    };
+    assert_eq!(
+        (of_root("f x"), of_root("y"), of_root("1")),
+        (Some("x".into()), Some("y".into()), None)
+    );
+    assert_eq!(
+        (T!['{'], T!["//"], T![TOKEN_URI]),
+        (TOKEN_L_BRACE, TOKEN_UPDATE, TOKEN_URI)
+    );
+    assert_eq!("NODE_ROOT".parse::<SyntaxKind>(), Ok(NODE_ROOT));
+    assert!("node_root".parse::<SyntaxKind>().is_err());
 }
 
 #[test]
 fn a_megabyte_of_parentheses_is_read() {
     let text = "(".repeat(1 << 20);
-    let tree = parse(&text).unwrap();
-    assert!(tree
-        .errors()
-        .iter()
-        .any(|error| *error.kind() == ErrorKind::RecursionLimitExceeded));
-    assert_eq!(
-        tree.root()
-            .descendants_with_tokens()
-            .filter(|one| one.into_token().is_some())
-            .count(),
-        1 << 20
-    );
+    let parse = Root::parse(&text);
+    assert!(parse.errors().contains(&ParseError::RecursionLimitExceeded));
+    assert_eq!(parse.syntax().text(), text.as_str());
 }
 
 #[test]
 fn four_threads_read_at_once() {
     let text = "{ a = [ 1 (b: c.d or e) \"x${y}\" ]; }".repeat(50);
-    let wanted = parse(&text).unwrap().to_string();
+    let wanted = format!("{:#?}", Root::parse(&text).syntax());
     thread::scope(|scope| {
         for _ in 0..4 {
             scope.spawn(|| {
                 for _ in 0..50 {
-                    assert_eq!(parse(&text).unwrap().to_string(), wanted);
+                    assert_eq!(format!("{:#?}", Root::parse(&text).syntax()), wanted);
                 }
             });
         }
     });
-}
-
-#[test]
-fn walks_find_what_stands_at_a_place() {
-    let tree = parse("let a = 1; in a + 2").unwrap();
-    let token = tree.token_at(4).unwrap();
-    assert_eq!((token.text(), token.kind()), ("a", SyntaxKind::TOKEN_IDENT));
-    let around: Vec<_> = token.ancestors().map(|node| node.kind()).collect();
-    use SyntaxKind::*;
-    assert_eq!(
-        around,
-        [NODE_IDENT, NODE_ATTRPATH, NODE_ATTRPATH_VALUE, NODE_LET_IN, NODE_ROOT]
-    );
-    assert_eq!(tree.root().covering_node(15..17).unwrap().kind(), NODE_BIN_OP);
-    assert_eq!(tree.element(token.number()), Some(token.element()));
-    assert_eq!(token.prev_token().unwrap().kind(), TOKEN_WHITESPACE);
 }

@@ -1,0 +1,19 @@
+"""Prints where each name of a text stands, with its line and column: names.py < FILE"""
+
+from __future__ import annotations
+
+import sys
+
+import rnix
+
+
+def main() -> None:
+    """Prints a line for each name."""
+    tree = rnix.parse(sys.stdin.buffer.read())
+    for name in tree.root.find(rnix.ast.Ident):
+        line, column = name.position
+        print(f"{line}:{column}: {name}")
+
+
+if __name__ == "__main__":
+    main()

@@ -1,0 +1,45 @@
+"""What strings and paths stand for."""
+
+from __future__ import annotations
+
+import ctypes
+
+from rnix import library
+from rnix.ast import Interpol, PathAbs, PathHome, PathRel, PathSearch, Str
+from rnix.library import LIBRARY
+from rnix.tree import Group
+
+# A string read alone is the first element below the root.
+_ALONE = 1
+
+_INTERPOL = Group(Interpol)
+
+
+def parts(string: Str) -> list[str | Interpol]:
+    """Returns the parts of a string as Nix means them: texts without indentation and escapes, and interpolations. The string is read anew, alone."""
+    source = string.text.encode()
+    length = len(source)
+    value, value_len = library.listed(
+        ctypes.c_char,
+        lambda room, room_len: LIBRARY.rnix_string_text(source, length, _ALONE, room, room_len),
+        guess=length,
+    )
+    found, count = library.listed(
+        library.Part,
+        lambda room, room_len: LIBRARY.rnix_string_parts(source, length, _ALONE, room, room_len),
+        guess=2 + length // 8,
+    )
+    said = value.raw[:value_len]
+    inner = iter(string._children(_INTERPOL))
+    return [next(inner) if part.is_interpolation else said[part.start : part.end].decode() for part in found[:count]]
+
+
+def value(string: Str) -> str | None:
+    """Returns what a string stands for, if it has no interpolations."""
+    found = parts(string)
+    return "".join(part for part in found if isinstance(part, str)) if all(isinstance(part, str) for part in found) else None
+
+
+def path_parts(path: PathAbs | PathRel | PathHome | PathSearch) -> list[str | Interpol]:
+    """Returns the parts of a path, as they are written."""
+    return [child if isinstance(child, Interpol) else child.text for child in path]

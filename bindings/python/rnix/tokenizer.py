@@ -1,0 +1,29 @@
+"""The tokens of a text, without a tree."""
+
+from __future__ import annotations
+
+from typing import NamedTuple
+
+from rnix import library
+from rnix.library import KINDS, LIBRARY
+
+
+class Lexeme(NamedTuple):
+    """A token: the name of its kind, and its range in bytes."""
+
+    kind: str
+    start: int
+    end: int
+
+
+def tokenize(text: str | bytes) -> list[Lexeme]:
+    """Returns the tokens of a text, in order; joined, they are the text."""
+    source = library.source_of(text)
+    found, count = library.listed(
+        library.Token,
+        lambda room, room_len: LIBRARY.rnix_tokens(source, len(source), room, room_len),
+        guess=len(source),
+    )
+    words = memoryview(found).cast("B").cast("Q")[: 3 * count]
+    columns = (words[column::3].tolist() for column in range(3))
+    return [Lexeme(KINDS[kind & 0xFFFFFFFF], start, end) for start, end, kind in zip(*columns)]

@@ -1,0 +1,44 @@
+//! Prints the names that a `let` binds and that stand nowhere in it as values, a line each: dead < FILE
+//! It looks at names alone: one that an inner expression binds again counts as used where that one is.
+
+use rnix::ast::{Attr, AttrpathValue, HasEntry, Ident, LetIn};
+use rnix::rowan::ast::AstNode;
+use rnix::{ColumnUnit, LineIndex, Root, SyntaxKind};
+use std::collections::HashSet;
+use std::io::{self, Read};
+
+// The name that an entry binds, if it is a plain one.
+fn bound(entry: &AttrpathValue) -> Option<Ident> {
+    match entry.attrpath()?.attrs().next()? {
+        Attr::Ident(name) => Some(name),
+        _ => None,
+    }
+}
+
+// The names that stand as values in a `let`.
+fn used(let_in: &LetIn) -> HashSet<String> {
+    let names = let_in.syntax().descendants().filter_map(Ident::cast);
+    let is_value = |name: &Ident| match name.syntax().parent().map(|around| around.kind()) {
+        Some(SyntaxKind::NODE_ATTRPATH | SyntaxKind::NODE_PAT_ENTRY | SyntaxKind::NODE_IDENT_PARAM) => false,
+        _ => true,
+    };
+    names.filter(is_value).map(|name| name.to_string()).collect()
+}
+
+fn main() -> io::Result<()> {
+    let mut text = String::new();
+    io::stdin().read_to_string(&mut text)?;
+    let lines = LineIndex::new(&text, ColumnUnit::Chars);
+    for let_in in Root::parse(&text).syntax().descendants().filter_map(LetIn::cast) {
+        let used = used(&let_in);
+        for name in let_in.attrpath_values().filter_map(|entry| bound(&entry)) {
+            if used.contains(&name.to_string()) {
+                continue;
+            }
+            if let Some(place) = lines.position(name.syntax().text_range().start().into()) {
+                println!("{}:{}: {name} is not used", place.line + 1, place.column + 1);
+            }
+        }
+    }
+    Ok(())
+}

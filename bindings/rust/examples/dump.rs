@@ -1,0 +1,15 @@
+//! Prints the tree of standard input with the text of each token: dump < FILE
+
+use rnix::Root;
+use std::io::{self, Read};
+
+fn main() -> io::Result<()> {
+    let mut text = String::new();
+    io::stdin().read_to_string(&mut text)?;
+    let parse = Root::parse(&text);
+    for error in parse.errors() {
+        println!("error: {error}");
+    }
+    print!("{:#?}", parse.syntax());
+    Ok(())
+}

@@ -1,0 +1,140 @@
+//! How accessors find what they give, and the types of nodes that have them.
+
+use super::{AstNode, AstToken, Float, Integer, Literal, LiteralKind, Uri};
+use crate::rowan::ast::AstChildren;
+use crate::{NodeOrToken, SyntaxKind, SyntaxToken};
+
+// The tokens right below a node.
+pub(super) fn tokens(node: &impl AstNode) -> impl Iterator<Item = SyntaxToken> {
+    node.syntax().children_with_tokens().filter_map(NodeOrToken::into_token)
+}
+
+// The first token of a kind.
+pub(super) fn token(node: &impl AstNode, kind: SyntaxKind) -> Option<SyntaxToken> {
+    tokens(node).find(|token| token.kind() == kind)
+}
+
+// The first token of a type.
+pub(super) fn token_of_type<T: AstToken>(node: &impl AstNode) -> Option<T> {
+    tokens(node).find_map(T::cast)
+}
+
+// What the first token is that is an operator.
+pub(super) fn operator<K>(node: &impl AstNode, from_kind: impl Fn(SyntaxKind) -> Option<K>) -> Option<K> {
+    tokens(node).find_map(|token| from_kind(token.kind()))
+}
+
+// What a literal is.
+pub(super) fn literal(node: &Literal) -> LiteralKind {
+    let float = || token_of_type::<Float>(node).map(LiteralKind::Float);
+    let integer = || token_of_type::<Integer>(node).map(LiteralKind::Integer);
+    let uri = || token_of_type::<Uri>(node).map(LiteralKind::Uri);
+    let found = float().or_else(integer).or_else(uri);
+    found.expect("a literal has a number or an address")
+}
+
+// The child of a type that has a number, from 0 on.
+pub(super) fn nth<N: AstNode>(node: &impl AstNode, number: usize) -> Option<N> {
+    children(node).nth(number)
+}
+
+// The children of a type.
+pub(super) fn children<N: AstNode>(node: &impl AstNode) -> AstChildren<N> {
+    AstChildren::of(node.syntax())
+}
+
+// A type of nodes of one kind.
+macro_rules! node {
+    ($(#[$meta:meta])* $name:ident = $kind:ident) => {
+        $(#[$meta])*
+        #[derive(Clone, Debug, PartialEq, Eq, Hash)]
+        pub struct $name(crate::SyntaxNode);
+
+        impl $name {
+            /// The kind of its nodes.
+            pub const KIND: crate::SyntaxKind = crate::SyntaxKind::$kind;
+        }
+
+        impl crate::rowan::ast::AstNode for $name {
+            type Language = crate::NixLanguage;
+
+            fn can_cast(kind: crate::SyntaxKind) -> bool {
+                kind == Self::KIND
+            }
+
+            fn cast(node: crate::SyntaxNode) -> Option<Self> {
+                (node.kind() == Self::KIND).then_some($name(node))
+            }
+
+            fn syntax(&self) -> &crate::SyntaxNode {
+                &self.0
+            }
+        }
+
+        impl std::fmt::Display for $name {
+            fn fmt(&self, f: &mut std::fmt::Formatter<'_>) -> std::fmt::Result {
+                std::fmt::Display::fmt(&self.0, f)
+            }
+        }
+    };
+}
+
+// A type of nodes of several kinds.
+macro_rules! sum {
+    ($(#[$meta:meta])* $name:ident = $($member:ident)|+) => {
+        $(#[$meta])*
+        #[allow(missing_docs)]
+        #[derive(Clone, Debug, PartialEq, Eq, Hash)]
+        pub enum $name {
+            $($member($member),)+
+        }
+
+        impl crate::rowan::ast::AstNode for $name {
+            type Language = crate::NixLanguage;
+
+            fn can_cast(kind: crate::SyntaxKind) -> bool {
+                matches!(kind, $($member::KIND)|+)
+            }
+
+            fn cast(node: crate::SyntaxNode) -> Option<Self> {
+                match node.kind() {
+                    $($member::KIND => Some($name::$member($member(node))),)+
+                    _ => None,
+                }
+            }
+
+            fn syntax(&self) -> &crate::SyntaxNode {
+                match self {
+                    $($name::$member(node) => &node.0,)+
+                }
+            }
+        }
+
+        impl std::fmt::Display for $name {
+            fn fmt(&self, f: &mut std::fmt::Formatter<'_>) -> std::fmt::Result {
+                std::fmt::Display::fmt(crate::rowan::ast::AstNode::syntax(self), f)
+            }
+        }
+
+        $(
+            impl From<$member> for $name {
+                fn from(node: $member) -> $name {
+                    $name::$member(node)
+                }
+            }
+
+            impl TryFrom<$name> for $member {
+                type Error = ();
+
+                fn try_from(node: $name) -> Result<$member, ()> {
+                    match node {
+                        $name::$member(node) => Ok(node),
+                        _ => Err(()),
+                    }
+                }
+            }
+        )+
+    };
+}
+
+pub(super) use {node, sum};

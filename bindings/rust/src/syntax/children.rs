@@ -1,0 +1,117 @@
+//! What stands right below a node, and beside an element.
+
+use super::element::SyntaxElement;
+use super::node::SyntaxNode;
+use super::walk::Direction;
+use crate::tree::Tree;
+use std::fmt;
+use std::iter::FusedIterator;
+use std::sync::Arc;
+
+/// The nodes and tokens right below a node, in order.
+#[derive(Clone)]
+pub struct SyntaxElementChildren {
+    tree: Arc<Tree>,
+    next: u32,
+    end: u32,
+}
+
+impl SyntaxElementChildren {
+    pub(crate) fn of(node: &SyntaxNode) -> SyntaxElementChildren {
+        SyntaxElementChildren {
+            tree: Arc::clone(&node.tree),
+            next: node.number + 1,
+            end: node.tree.end(node.number),
+        }
+    }
+
+    // The number of the next child.
+    fn next_number(&mut self) -> Option<u32> {
+        let number = (self.next < self.end).then_some(self.next)?;
+        self.next = self.tree.end(number);
+        Some(number)
+    }
+}
+
+impl Iterator for SyntaxElementChildren {
+    type Item = SyntaxElement;
+
+    fn next(&mut self) -> Option<SyntaxElement> {
+        let number = self.next_number()?;
+        Some(SyntaxElement::at(&self.tree, number))
+    }
+}
+
+impl FusedIterator for SyntaxElementChildren {}
+
+impl fmt::Debug for SyntaxElementChildren {
+    fn fmt(&self, f: &mut fmt::Formatter<'_>) -> fmt::Result {
+        f.debug_list().entries(self.clone()).finish()
+    }
+}
+
+/// The nodes right below a node, in order.
+#[derive(Clone)]
+pub struct SyntaxNodeChildren {
+    elements: SyntaxElementChildren,
+}
+
+impl SyntaxNodeChildren {
+    pub(crate) fn of(node: &SyntaxNode) -> SyntaxNodeChildren {
+        SyntaxNodeChildren {
+            elements: SyntaxElementChildren::of(node),
+        }
+    }
+}
+
+impl Iterator for SyntaxNodeChildren {
+    type Item = SyntaxNode;
+
+    fn next(&mut self) -> Option<SyntaxNode> {
+        loop {
+            let number = self.elements.next_number()?;
+            if !self.elements.tree.is_token(number) {
+                return Some(SyntaxNode::at(&self.elements.tree, number));
+            }
+        }
+    }
+}
+
+impl FusedIterator for SyntaxNodeChildren {}
+
+impl fmt::Debug for SyntaxNodeChildren {
+    fn fmt(&self, f: &mut fmt::Formatter<'_>) -> fmt::Result {
+        f.debug_list().entries(self.clone()).finish()
+    }
+}
+
+/// A node or token and those with the same parent in a direction.
+#[derive(Clone, Debug)]
+pub struct Siblings {
+    next: Option<SyntaxElement>,
+    direction: Direction,
+}
+
+impl Siblings {
+    pub(crate) fn from(first: SyntaxElement, direction: Direction) -> Siblings {
+        Siblings {
+            next: Some(first),
+            direction,
+        }
+    }
+}
+
+impl Iterator for Siblings {
+    type Item = SyntaxElement;
+
+    fn next(&mut self) -> Option<SyntaxElement> {
+        let element = self.next.take()?;
+        self.next = match self.direction {
+            Direction::Next => element.next_sibling_or_token(),
+            Direction::Prev => element.prev_sibling_or_token(),
+        };
+        Some(element)
+    }
+}
+
+impl FusedIterator for Siblings {}

@@ -1,0 +1,158 @@
+//! What is a node or a token.
+
+use super::node::{Ancestors, SyntaxNode};
+use super::token::SyntaxToken;
+use crate::tree::Tree;
+use crate::{SyntaxKind, TextRange};
+use std::fmt;
+use std::sync::Arc;
+
+/// A node or a token.
+#[derive(Clone, Copy, Debug, PartialEq, Eq, PartialOrd, Ord, Hash)]
+pub enum NodeOrToken<N, T> {
+    /// A node.
+    Node(N),
+    /// A token.
+    Token(T),
+}
+
+/// A node or a token of a tree.
+pub type SyntaxElement = NodeOrToken<SyntaxNode, SyntaxToken>;
+
+impl<N, T> NodeOrToken<N, T> {
+    /// Returns the node, if it is one.
+    pub fn into_node(self) -> Option<N> {
+        match self {
+            NodeOrToken::Node(node) => Some(node),
+            NodeOrToken::Token(_) => None,
+        }
+    }
+
+    /// Returns the token, if it is one.
+    pub fn into_token(self) -> Option<T> {
+        match self {
+            NodeOrToken::Node(_) => None,
+            NodeOrToken::Token(token) => Some(token),
+        }
+    }
+
+    /// Lends the node, if it is one.
+    pub fn as_node(&self) -> Option<&N> {
+        self.as_ref().into_node()
+    }
+
+    /// Lends the token, if it is one.
+    pub fn as_token(&self) -> Option<&T> {
+        self.as_ref().into_token()
+    }
+
+    fn as_ref(&self) -> NodeOrToken<&N, &T> {
+        match self {
+            NodeOrToken::Node(node) => NodeOrToken::Node(node),
+            NodeOrToken::Token(token) => NodeOrToken::Token(token),
+        }
+    }
+}
+
+impl<N: fmt::Display, T: fmt::Display> fmt::Display for NodeOrToken<N, T> {
+    fn fmt(&self, f: &mut fmt::Formatter<'_>) -> fmt::Result {
+        match self {
+            NodeOrToken::Node(node) => node.fmt(f),
+            NodeOrToken::Token(token) => token.fmt(f),
+        }
+    }
+}
+
+impl SyntaxElement {
+    pub(crate) fn at(tree: &Arc<Tree>, number: u32) -> SyntaxElement {
+        let tree = Arc::clone(tree);
+        if tree.is_token(number) {
+            NodeOrToken::Token(SyntaxToken { tree, number })
+        } else {
+            NodeOrToken::Node(SyntaxNode { tree, number })
+        }
+    }
+
+    pub(crate) fn place(&self) -> (&Arc<Tree>, u32) {
+        match self {
+            NodeOrToken::Node(node) => (&node.tree, node.number),
+            NodeOrToken::Token(token) => (&token.tree, token.number),
+        }
+    }
+
+    /// Returns its kind.
+    pub fn kind(&self) -> SyntaxKind {
+        let (tree, number) = self.place();
+        tree.kind(number)
+    }
+
+    /// Returns its range in the text.
+    pub fn text_range(&self) -> TextRange {
+        let (tree, number) = self.place();
+        tree.range(number)
+    }
+
+    /// Returns how many elements with the same parent stand before it.
+    pub fn index(&self) -> usize {
+        match self {
+            NodeOrToken::Node(node) => node.index(),
+            NodeOrToken::Token(token) => token.index(),
+        }
+    }
+
+    /// Returns the node around it; `None` of the root.
+    pub fn parent(&self) -> Option<SyntaxNode> {
+        match self {
+            NodeOrToken::Node(node) => node.parent(),
+            NodeOrToken::Token(token) => token.parent(),
+        }
+    }
+
+    /// Goes over the node itself, or the node around the token, and all nodes around that, from the inside out.
+    pub fn ancestors(&self) -> Ancestors {
+        match self {
+            NodeOrToken::Node(node) => node.ancestors(),
+            NodeOrToken::Token(token) => token.parent_ancestors(),
+        }
+    }
+
+    /// Returns the first token inside a node, or the token itself.
+    pub fn first_token(&self) -> Option<SyntaxToken> {
+        match self {
+            NodeOrToken::Node(node) => node.first_token(),
+            NodeOrToken::Token(token) => Some(token.clone()),
+        }
+    }
+
+    /// Returns the last token inside a node, or the token itself.
+    pub fn last_token(&self) -> Option<SyntaxToken> {
+        match self {
+            NodeOrToken::Node(node) => node.last_token(),
+            NodeOrToken::Token(token) => Some(token.clone()),
+        }
+    }
+
+    /// Returns the next element with the same parent.
+    pub fn next_sibling_or_token(&self) -> Option<SyntaxElement> {
+        let (tree, number) = self.place();
+        Some(SyntaxElement::at(tree, tree.next_sibling(number)?))
+    }
+
+    /// Returns the element before it with the same parent.
+    pub fn prev_sibling_or_token(&self) -> Option<SyntaxElement> {
+        let (tree, number) = self.place();
+        Some(SyntaxElement::at(tree, tree.prev_sibling(number)?))
+    }
+}
+
+impl From<SyntaxNode> for SyntaxElement {
+    fn from(node: SyntaxNode) -> SyntaxElement {
+        NodeOrToken::Node(node)
+    }
+}
+
+impl From<SyntaxToken> for SyntaxElement {
+    fn from(token: SyntaxToken) -> SyntaxElement {
+        NodeOrToken::Token(token)
+    }
+}

@@ -1,0 +1,289 @@
+//! Nodes.
+
+use super::children::{Siblings, SyntaxElementChildren, SyntaxNodeChildren};
+use super::element::{NodeOrToken, SyntaxElement};
+use super::offset::TokenAtOffset;
+use super::text::SyntaxText;
+use super::token::SyntaxToken;
+use super::walk::{Direction, Preorder, PreorderWithTokens, WalkEvent};
+use crate::tree::Tree;
+use crate::{SyntaxKind, TextRange, TextSize};
+use std::fmt;
+use std::hash::{Hash, Hasher};
+use std::iter::FusedIterator;
+use std::sync::Arc;
+
+/// A node of a tree. It owns a share of the tree, so a clone costs a count; two are equal if they are the same node of the same tree.
+#[derive(Clone)]
+pub struct SyntaxNode {
+    pub(crate) tree: Arc<Tree>,
+    pub(crate) number: u32,
+}
+
+impl SyntaxNode {
+    pub(crate) fn at(tree: &Arc<Tree>, number: u32) -> SyntaxNode {
+        SyntaxNode {
+            tree: Arc::clone(tree),
+            number,
+        }
+    }
+
+    // The element of a number.
+    fn element_at(&self, number: u32) -> SyntaxElement {
+        SyntaxElement::at(&self.tree, number)
+    }
+
+    /// Returns its kind.
+    pub fn kind(&self) -> SyntaxKind {
+        self.tree.kind(self.number)
+    }
+
+    /// Returns its range in the text.
+    pub fn text_range(&self) -> TextRange {
+        self.tree.range(self.number)
+    }
+
+    /// Returns how many elements with the same parent stand before it.
+    pub fn index(&self) -> usize {
+        self.siblings_with_tokens(Direction::Prev).skip(1).count()
+    }
+
+    /// Returns its text.
+    pub fn text(&self) -> SyntaxText {
+        SyntaxText::of(self)
+    }
+
+    /// Returns the node around it; `None` of the root.
+    pub fn parent(&self) -> Option<SyntaxNode> {
+        Some(SyntaxNode::at(&self.tree, self.tree.parent(self.number)?))
+    }
+
+    /// Goes over it and the nodes around it, from the inside out.
+    pub fn ancestors(&self) -> Ancestors {
+        Ancestors {
+            next: Some(self.clone()),
+        }
+    }
+
+    /// Goes over the nodes right below it.
+    pub fn children(&self) -> SyntaxNodeChildren {
+        SyntaxNodeChildren::of(self)
+    }
+
+    /// Goes over the nodes and tokens right below it.
+    pub fn children_with_tokens(&self) -> SyntaxElementChildren {
+        SyntaxElementChildren::of(self)
+    }
+
+    /// Returns the first node right below it.
+    pub fn first_child(&self) -> Option<SyntaxNode> {
+        self.children().next()
+    }
+
+    /// Returns the first node right below it whose kind passes a test.
+    pub fn first_child_by_kind(&self, matcher: &impl Fn(SyntaxKind) -> bool) -> Option<SyntaxNode> {
+        self.children().find(|node| matcher(node.kind()))
+    }
+
+    /// Returns the last node right below it.
+    pub fn last_child(&self) -> Option<SyntaxNode> {
+        let last = self.last_child_or_token()?;
+        match last {
+            NodeOrToken::Node(node) => Some(node),
+            NodeOrToken::Token(token) => token
+                .siblings_with_tokens(Direction::Prev)
+                .find_map(NodeOrToken::into_node),
+        }
+    }
+
+    /// Returns the first node or token right below it.
+    pub fn first_child_or_token(&self) -> Option<SyntaxElement> {
+        Some(self.element_at(self.tree.first_child(self.number)?))
+    }
+
+    /// Returns the first node or token right below it whose kind passes a test.
+    pub fn first_child_or_token_by_kind(&self, matcher: &impl Fn(SyntaxKind) -> bool) -> Option<SyntaxElement> {
+        self.children_with_tokens().find(|element| matcher(element.kind()))
+    }
+
+    /// Returns the last node or token right below it.
+    pub fn last_child_or_token(&self) -> Option<SyntaxElement> {
+        Some(self.element_at(self.tree.last_child(self.number)?))
+    }
+
+    /// Returns the next node with the same parent.
+    pub fn next_sibling(&self) -> Option<SyntaxNode> {
+        self.siblings(Direction::Next).nth(1)
+    }
+
+    /// Returns the next node with the same parent whose kind passes a test.
+    pub fn next_sibling_by_kind(&self, matcher: &impl Fn(SyntaxKind) -> bool) -> Option<SyntaxNode> {
+        self.siblings(Direction::Next).skip(1).find(|node| matcher(node.kind()))
+    }
+
+    /// Returns the node before it with the same parent.
+    pub fn prev_sibling(&self) -> Option<SyntaxNode> {
+        self.siblings(Direction::Prev).nth(1)
+    }
+
+    /// Returns the next node or token with the same parent.
+    pub fn next_sibling_or_token(&self) -> Option<SyntaxElement> {
+        Some(self.element_at(self.tree.next_sibling(self.number)?))
+    }
+
+    /// Returns the next node or token with the same parent whose kind passes a test.
+    pub fn next_sibling_or_token_by_kind(&self, matcher: &impl Fn(SyntaxKind) -> bool) -> Option<SyntaxElement> {
+        let mut behind = self.siblings_with_tokens(Direction::Next).skip(1);
+        behind.find(|element| matcher(element.kind()))
+    }
+
+    /// Returns the node or token before it with the same parent.
+    pub fn prev_sibling_or_token(&self) -> Option<SyntaxElement> {
+        Some(self.element_at(self.tree.prev_sibling(self.number)?))
+    }
+
+    /// Returns the first token inside it.
+    pub fn first_token(&self) -> Option<SyntaxToken> {
+        let mut inside = self.number..self.tree.end(self.number);
+        let number = inside.find(|number| self.tree.is_token(*number))?;
+        Some(SyntaxToken {
+            tree: Arc::clone(&self.tree),
+            number,
+        })
+    }
+
+    /// Returns the last token inside it.
+    pub fn last_token(&self) -> Option<SyntaxToken> {
+        let mut inside = (self.number..self.tree.end(self.number)).rev();
+        let number = inside.find(|number| self.tree.is_token(*number))?;
+        Some(SyntaxToken {
+            tree: Arc::clone(&self.tree),
+            number,
+        })
+    }
+
+    /// Goes over it and the nodes with the same parent in a direction.
+    pub fn siblings(&self, direction: Direction) -> impl Iterator<Item = SyntaxNode> {
+        self.siblings_with_tokens(direction).filter_map(NodeOrToken::into_node)
+    }
+
+    /// Goes over it and the nodes and tokens with the same parent in a direction.
+    pub fn siblings_with_tokens(&self, direction: Direction) -> Siblings {
+        Siblings::from(self.clone().into(), direction)
+    }
+
+    /// Goes over it and the nodes inside it, in preorder.
+    pub fn descendants(&self) -> impl Iterator<Item = SyntaxNode> {
+        self.descendants_with_tokens().filter_map(NodeOrToken::into_node)
+    }
+
+    /// Goes over it and the nodes and tokens inside it, in preorder.
+    pub fn descendants_with_tokens(&self) -> impl Iterator<Item = SyntaxElement> {
+        let tree = Arc::clone(&self.tree);
+        (self.number..self.tree.end(self.number)).map(move |number| SyntaxElement::at(&tree, number))
+    }
+
+    /// Enters and leaves it and the nodes inside it.
+    pub fn preorder(&self) -> Preorder {
+        Preorder::of(self)
+    }
+
+    /// Enters and leaves it and the nodes and tokens inside it.
+    pub fn preorder_with_tokens(&self) -> PreorderWithTokens {
+        PreorderWithTokens::of(self)
+    }
+
+    /// Returns the tokens that an offset is in or between.
+    ///
+    /// # Panics
+    /// If the offset is outside the node's range.
+    pub fn token_at_offset(&self, offset: TextSize) -> TokenAtOffset<SyntaxToken> {
+        TokenAtOffset::of(self, offset)
+    }
+
+    /// Returns the innermost node or token whose range holds a range.
+    ///
+    /// # Panics
+    /// If the range is not inside the node's.
+    pub fn covering_element(&self, range: TextRange) -> SyntaxElement {
+        assert!(
+            self.text_range().contains_range(range),
+            "the range {range:?} is not inside {self:?}"
+        );
+        let mut around = self.clone();
+        loop {
+            match around.child_or_token_at_range(range) {
+                Some(NodeOrToken::Node(node)) => around = node,
+                Some(token) => return token,
+                None => return around.into(),
+            }
+        }
+    }
+
+    /// Returns the first node or token right below it whose range holds a range.
+    pub fn child_or_token_at_range(&self, range: TextRange) -> Option<SyntaxElement> {
+        self.children_with_tokens()
+            .find(|element| element.text_range().contains_range(range))
+    }
+}
+
+impl PartialEq for SyntaxNode {
+    fn eq(&self, other: &SyntaxNode) -> bool {
+        self.number == other.number && Arc::ptr_eq(&self.tree, &other.tree)
+    }
+}
+
+impl Eq for SyntaxNode {}
+
+impl Hash for SyntaxNode {
+    fn hash<H: Hasher>(&self, state: &mut H) {
+        Arc::as_ptr(&self.tree).hash(state);
+        self.number.hash(state);
+    }
+}
+
+impl fmt::Display for SyntaxNode {
+    fn fmt(&self, f: &mut fmt::Formatter<'_>) -> fmt::Result {
+        f.write_str(self.tree.text(self.number))
+    }
+}
+
+/// `KIND@start..end`; with `{:#?}` a line for it and for each node and token inside it, indented by two blanks for each node around it.
+impl fmt::Debug for SyntaxNode {
+    fn fmt(&self, f: &mut fmt::Formatter<'_>) -> fmt::Result {
+        if !f.alternate() {
+            return write!(f, "{:?}@{:?}", self.kind(), self.text_range());
+        }
+        let mut depth = 0;
+        for event in self.preorder_with_tokens() {
+            let WalkEvent::Enter(element) = event else {
+                depth -= 1;
+                continue;
+            };
+            match element {
+                NodeOrToken::Node(node) => writeln!(f, "{:width$}{node:?}", "", width = 2 * depth)?,
+                NodeOrToken::Token(token) => writeln!(f, "{:width$}{token:?}", "", width = 2 * depth)?,
+            }
+            depth += 1;
+        }
+        Ok(())
+    }
+}
+
+/// A node and the nodes around it, from the inside out.
+#[derive(Clone, Debug)]
+pub struct Ancestors {
+    pub(crate) next: Option<SyntaxNode>,
+}
+
+impl Iterator for Ancestors {
+    type Item = SyntaxNode;
+
+    fn next(&mut self) -> Option<SyntaxNode> {
+        let node = self.next.take()?;
+        self.next = node.parent();
+        Some(node)
+    }
+}
+
+impl FusedIterator for Ancestors {}
