@@ -3,6 +3,7 @@
 from __future__ import annotations
 
 import ctypes
+import mmap
 import os
 import pathlib
 from typing import Any, Callable
@@ -117,15 +118,21 @@ def answered(answer: int) -> int:
     return answer
 
 
+def _room(kind: Any, count: int) -> Any:
+    """An array of the type with room for so many, whose pages cost nothing until they are written."""
+    size = ctypes.sizeof(kind) * count
+    return (kind * count).from_buffer(mmap.mmap(-1, size)) if size > mmap.PAGESIZE else (kind * count)()
+
+
 def listed(kind: Any, call: Callable[[Any, int], Any], guess: int = 0) -> tuple[Any, int]:
     """All things that a call writes: an array of the type, and how many of its first there are.
 
     The call takes an array and its room; the guess is how many there may be.
     """
-    room = (kind * guess)()
+    room = _room(kind, guess)
     count = answered(call(room, guess))
     if count > guess:
-        room = (kind * count)()
+        room = _room(kind, count)
         answered(call(room, count))
     return room, count
 

@@ -6,27 +6,39 @@ import ctypes
 
 from rnix import library
 from rnix.ast import Interpol, PathAbs, PathHome, PathRel, PathSearch, Str
-from rnix.library import LIBRARY
+from rnix.library import KINDS, LIBRARY
 from rnix.tree import Group
 
 # A string read alone is the first element below the root.
 _ALONE = 1
 
 _INTERPOL = Group(Interpol)
+_END, _ERROR = KINDS.index("TOKEN_STRING_END"), KINDS.index("NODE_ERROR")
+
+
+def _is_whole(string: Str) -> bool:
+    """Whether all of a string was read as the grammar asks: then it is read alone as it is read in its text."""
+    inside = string.tree._kinds[string._number + 1 : string._behind()].tolist()
+    return _END in inside and _ERROR not in inside
 
 
 def parts(string: Str) -> list[str | Interpol]:
-    """Returns the parts of a string as Nix means them: texts without indentation and escapes, and interpolations. The string is read anew, alone."""
-    source = string.text.encode()
-    length = len(source)
+    """Returns the parts of a string as Nix means them: texts without indentation and escapes, and interpolations.
+
+    The string is read anew, alone; one that has errors with its whole text.
+    """
+    alone = _is_whole(string)
+    source = string.text.encode() if alone else string.tree.source
+    number = _ALONE if alone else string._number
+    length = string.end - string.start
     value, value_len = library.listed(
         ctypes.c_char,
-        lambda room, room_len: LIBRARY.rnix_string_text(source, length, _ALONE, room, room_len),
+        lambda room, room_len: LIBRARY.rnix_string_text(source, len(source), number, room, room_len),
         guess=length,
     )
     found, count = library.listed(
         library.Part,
-        lambda room, room_len: LIBRARY.rnix_string_parts(source, length, _ALONE, room, room_len),
+        lambda room, room_len: LIBRARY.rnix_string_parts(source, len(source), number, room, room_len),
         guess=2 + length // 8,
     )
     said = value.raw[:value_len]

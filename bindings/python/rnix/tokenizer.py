@@ -24,6 +24,6 @@ def tokenize(text: str | bytes) -> list[Lexeme]:
         lambda room, room_len: LIBRARY.rnix_tokens(source, len(source), room, room_len),
         guess=len(source),
     )
-    words = memoryview(found).cast("B").cast("Q")[: 3 * count]
-    columns = (words[column::3].tolist() for column in range(3))
-    return [Lexeme(KINDS[kind & 0xFFFFFFFF], start, end) for start, end, kind in zip(*columns)]
+    longs = memoryview(found).cast("B").cast("Q")[: 3 * count]
+    kinds = memoryview(found).cast("B").cast("I")[4 : 6 * count : 6]
+    return [Lexeme(KINDS[kind], start, end) for start, end, kind in zip(longs[0::3], longs[1::3], kinds)]

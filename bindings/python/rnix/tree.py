@@ -16,15 +16,17 @@ if TYPE_CHECKING:
 T = TypeVar("T")
 E = TypeVar("E", bound="Element")
 
-# An element is five numbers of 64 bits: where it begins and ends, its parent, how many elements are inside it, its kind and whether it is a token.
-_WORDS = 5
-_TOKEN_BIT = 1 << 32
+# An element is four numbers of 64 bits, where it begins and ends, its parent, and how many elements are inside it, and two of 32: its kind, and
+# whether it is a token.
+_LONGS = 5
+_WORDS = 2 * _LONGS
+_KIND = _WORDS - 2
 
 
 class Tree:
     """The tree of a text, and its errors. It does not change, so threads may share it."""
 
-    __slots__ = ("_classes", "_kinds", "_starts", "_ends", "_parents", "_insides", "errors", "source")
+    __slots__ = ("_kinds", "_starts", "_ends", "_parents", "_insides", "errors", "source")
 
     def __init__(self, source: bytes) -> None:
         count = ctypes.c_uint64(0)
@@ -33,11 +35,10 @@ class Tree:
             lambda room, room_len: LIBRARY.rnix_parse(source, len(source), room, room_len, None, 0, ctypes.byref(count)),
             guess=len(source) + 8,
         )
-        words = memoryview(room).cast("B").cast("Q")[: _WORDS * length]
-        columns: list[list[int]] = [words[column::_WORDS].tolist() for column in range(_WORDS)]
-        self._starts, self._ends, self._parents, self._insides, kinds = columns
-        self._kinds = [kind & (_TOKEN_BIT - 1) for kind in kinds]
-        self._classes = [_CLASSES[kind] for kind in self._kinds]
+        whole = memoryview(room).cast("B")[: ctypes.sizeof(library.Element) * length]
+        longs = whole.cast("Q")
+        self._starts, self._ends, self._parents, self._insides = (longs[column::_LONGS] for column in range(_LONGS - 1))
+        self._kinds = whole.cast("I")[_KIND::_WORDS]
         self.source = source
         self.errors: list[ParseError] = errors_of(source, count.value) if count.value else []
 
@@ -53,7 +54,7 @@ class Tree:
         return root
 
     def _at(self, number: int) -> Element:
-        return self._classes[number](self, number)
+        return _CLASSES[self._kinds[number]](self, number)
 
     def position(self, offset: int) -> tuple[int, int]:
         """Returns the line and the column of an offset in bytes, both from 1; the column counts characters."""
@@ -192,7 +193,7 @@ class Node(Element):
         number, behind = self._number + 1, self._behind()
         tree = self.tree
         while number < behind:
-            yield tree._classes[number](tree, number)
+            yield _CLASSES[tree._kinds[number]](tree, number)
             number += 1 + tree._insides[number]
 
     @property
@@ -207,10 +208,9 @@ class Node(Element):
 
     def walk(self) -> Iterator[Element]:
         """Goes over it and the nodes and tokens inside it, in preorder."""
-        tree = self.tree
-        classes = tree._classes
-        for number in range(self._number, self._behind()):
-            yield classes[number](tree, number)
+        tree, first = self.tree, self._number
+        for number, kind in enumerate(tree._kinds[first : self._behind()], first):
+            yield _CLASSES[kind](tree, number)
 
     @overload
     def find(self, wanted: str) -> Iterator[Element]: ...
@@ -218,11 +218,12 @@ class Node(Element):
     def find(self, wanted: type[E] | tuple[type[E], ...]) -> Iterator[E]: ...
     def find(self, wanted: str | type[E] | tuple[type[E], ...]) -> Iterator[Element]:
         """Goes over the nodes and tokens inside it, itself included, of a kind, a class or several classes, in preorder."""
-        if isinstance(wanted, str):
-            number = KINDS.index(wanted)
-            inside = range(self._number, self._behind())
-            return (self.tree._at(at) for at in inside if self.tree._kinds[at] == number)
-        return (element for element in self.walk() if isinstance(element, wanted))
+        is_wanted = [name == wanted if isinstance(wanted, str) else issubclass(one, wanted) for name, one in zip(KINDS, _CLASSES)]
+        classes = [one if is_one else None for one, is_one in zip(_CLASSES, is_wanted)]
+        tree, first = self.tree, self._number
+        for number, kind in enumerate(tree._kinds[first : self._behind()], first):
+            if (one := classes[kind]) is not None:
+                yield one(tree, number)
 
     def _nth(self, group: Group[T], number: int) -> T | None:
         """The child of these classes that has a number, from 0 on."""

@@ -94,7 +94,6 @@ pub unsafe fn listed<T: Copy>(guess: usize, call: impl Fn(*mut T, usize) -> i64)
         if count <= room.len() {
             // SAFETY: the call has written the first `count`.
             unsafe { list.set_len(count) };
-            list.shrink_to_fit();
             return Ok(list);
         }
         wanted = count;

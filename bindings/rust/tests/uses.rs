@@ -42,8 +42,8 @@ fn errors_are_those_of_rnix() {
         [ParseError::UnexpectedEOFWanted([TOKEN_R_PAREN].into())]
     );
     assert_eq!(
-        errors("()"),
-        [ParseError::UnexpectedWanted(TOKEN_R_PAREN, range(1, 2), operand.into())][..]
+        errors("( ) a)"),
+        [ParseError::UnexpectedWanted(TOKEN_R_PAREN, range(2, 3), operand.into())]
     );
     assert_eq!(
         errors("{ a, a }: a"),
@@ -177,6 +177,17 @@ fn strings_and_paths_have_parts() {
     assert_eq!(path.parts().len(), 3);
     let path = ast::Path::cast(path.syntax().clone()).unwrap();
     assert!(path.is_interpolatable() && !path.is_search());
+}
+
+#[test]
+fn strings_with_errors_have_the_parts_of_their_nodes() {
+    let root = Root::parse("\"a${b}c${\"d${}f\"}g\"").syntax();
+    let inner = root.descendants().filter_map(ast::Str::cast).nth(1).unwrap();
+    let parts = inner.normalized_parts();
+    assert_eq!(
+        (&parts[0], &parts[2]),
+        (&InterpolPart::Literal("d".into()), &InterpolPart::Literal("g".into()))
+    );
 }
 
 // The strings of a tree as expressions.

@@ -1,24 +1,26 @@
 //! Parts of strings.
 
+use super::support::token;
 use super::{AstToken, Interpol, InterpolPart, Str, StrContent};
 use crate::error::Refused;
 use crate::rowan::ast::AstNode as _;
-use crate::{ffi, NodeOrToken};
+use crate::{ffi, NodeOrToken, SyntaxKind};
 
 // A string read alone is the first element below the root.
-const ALONE: usize = 1;
+const ALONE: u32 = 1;
 
-// What the library gives of a string: its text, and its parts as ranges of that, in order.
-fn read_alone(text: &str) -> Result<(String, Vec<ffi::Part>), Refused> {
+// What the library gives of the string that is an element of a text: its text, and its parts as ranges of that, in order.
+fn read(text: &str, number: u32, len: usize) -> Result<(String, Vec<ffi::Part>), Refused> {
+    let element = number as usize;
     // SAFETY: both calls fill their array as `listed` asks.
     let value = unsafe {
-        ffi::listed(text.len(), |room, len| {
-            ffi::rnix_string_text(text.as_ptr(), text.len(), ALONE, room, len)
+        ffi::listed(len, |room, room_len| {
+            ffi::rnix_string_text(text.as_ptr(), text.len(), element, room, room_len)
         })
     }?;
     let parts = unsafe {
-        ffi::listed(text.len() / 4 + 2, |room, len| {
-            ffi::rnix_string_parts(text.as_ptr(), text.len(), ALONE, room, len)
+        ffi::listed(len / 4 + 2, |room, room_len| {
+            ffi::rnix_string_parts(text.as_ptr(), text.len(), element, room, room_len)
         })
     }?;
     let value = String::from_utf8(value).map_err(|_| Refused::NotUtf8)?;
@@ -34,14 +36,31 @@ impl Str {
         })
     }
 
+    // Whether all of it was read as the grammar asks: then it is read alone as it is read in its text.
+    fn is_whole(&self) -> bool {
+        let ends = token(self, SyntaxKind::TOKEN_STRING_END).is_some();
+        ends && self
+            .syntax()
+            .descendants()
+            .all(|node| node.kind() != SyntaxKind::NODE_ERROR)
+    }
+
     /// Returns its parts as Nix means them: without the indentation of a string in `''`, and with what escapes stand for. The string is read
-    /// anew, alone.
+    /// anew, alone; one that has errors with its whole text.
     ///
     /// # Panics
     /// If no memory is left.
     pub fn normalized_parts(&self) -> Vec<InterpolPart<String>> {
-        let (value, parts) = read_alone(self.syntax().text().as_str()).unwrap_or_else(|refused| panic!("{refused}"));
-        let mut interpolations = self.syntax().children().filter_map(Interpol::cast);
+        let node = self.syntax();
+        let own = node.text();
+        let len = own.as_str().len();
+        let read = if self.is_whole() {
+            read(own.as_str(), ALONE, len)
+        } else {
+            read(node.tree.text(0), node.number, len)
+        };
+        let (value, parts) = read.unwrap_or_else(|refused| panic!("{refused}"));
+        let mut interpolations = node.children().filter_map(Interpol::cast);
         let part = |part: &ffi::Part| match part.is_interpolation {
             0 => Some(InterpolPart::Literal(
                 value[part.start as usize..part.end as usize].to_owned(),

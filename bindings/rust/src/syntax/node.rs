@@ -174,7 +174,12 @@ impl SyntaxNode {
 
     /// Goes over it and the nodes inside it, in preorder.
     pub fn descendants(&self) -> impl Iterator<Item = SyntaxNode> {
-        self.descendants_with_tokens().filter_map(NodeOrToken::into_node)
+        let tree = Arc::clone(&self.tree);
+        let mut inside = self.number..tree.end(self.number);
+        std::iter::from_fn(move || {
+            let number = inside.find(|number| !tree.is_token(*number))?;
+            Some(SyntaxNode::at(&tree, number))
+        })
     }
 
     /// Goes over it and the nodes and tokens inside it, in preorder.

@@ -1,6 +1,6 @@
 //! Walks that enter and leave.
 
-use super::element::{NodeOrToken, SyntaxElement};
+use super::element::SyntaxElement;
 use super::node::SyntaxNode;
 use std::iter::FusedIterator;
 
@@ -32,44 +32,59 @@ impl<T> WalkEvent<T> {
     }
 }
 
+// What is done next, by the number of an element.
+type Next = Option<WalkEvent<u32>>;
+
 /// A walk that enters and leaves a node and the nodes and tokens inside it.
 #[derive(Clone, Debug)]
 pub struct PreorderWithTokens {
     root: SyntaxNode,
-    next: Option<WalkEvent<SyntaxElement>>,
+    next: Next,
 }
 
 impl PreorderWithTokens {
     pub(crate) fn of(root: &SyntaxNode) -> PreorderWithTokens {
         PreorderWithTokens {
             root: root.clone(),
-            next: Some(WalkEvent::Enter(root.clone().into())),
+            next: Some(WalkEvent::Enter(root.number)),
         }
     }
 
     /// Leaves out what is inside the node that was entered last.
     pub fn skip_subtree(&mut self) {
-        self.next = match self.next.take() {
-            Some(WalkEvent::Enter(first)) => first.parent().map(|around| WalkEvent::Leave(around.into())),
+        self.next = match self.next {
+            Some(WalkEvent::Enter(first)) => self.root.tree.parent(first).map(WalkEvent::Leave),
             next => next,
         };
     }
 
     // What is done behind an element that was entered or left.
-    fn after(&self, event: &WalkEvent<SyntaxElement>) -> Option<WalkEvent<SyntaxElement>> {
-        let element = match event {
-            WalkEvent::Enter(NodeOrToken::Node(node)) => {
-                let leave = || WalkEvent::Leave(node.clone().into());
-                return Some(node.first_child_or_token().map_or_else(leave, WalkEvent::Enter));
+    fn after(&self, event: WalkEvent<u32>) -> Next {
+        let tree = &self.root.tree;
+        let number = match event {
+            WalkEvent::Enter(number) => {
+                let first = tree.first_child(number).map(WalkEvent::Enter);
+                return first.or(Some(WalkEvent::Leave(number)));
             }
-            WalkEvent::Enter(token) => return Some(WalkEvent::Leave(token.clone())),
-            WalkEvent::Leave(element) => element,
+            WalkEvent::Leave(number) => number,
         };
-        if element.place().1 == self.root.number {
+        if number == self.root.number {
             return None;
         }
-        let leave = || element.parent().map(|around| WalkEvent::Leave(around.into()));
-        element.next_sibling_or_token().map(WalkEvent::Enter).or_else(leave)
+        let around = tree.parent(number)?;
+        let next = tree.end(number);
+        Some(if next < tree.end(around) {
+            WalkEvent::Enter(next)
+        } else {
+            WalkEvent::Leave(around)
+        })
+    }
+
+    // The next event, by number.
+    fn step(&mut self) -> Next {
+        let event = self.next?;
+        self.next = self.after(event);
+        Some(event)
     }
 }
 
@@ -77,9 +92,8 @@ impl Iterator for PreorderWithTokens {
     type Item = WalkEvent<SyntaxElement>;
 
     fn next(&mut self) -> Option<WalkEvent<SyntaxElement>> {
-        let event = self.next.take()?;
-        self.next = self.after(&event);
-        Some(event)
+        let event = self.step()?;
+        Some(event.map(|number| SyntaxElement::at(&self.root.tree, number)))
     }
 }
 
@@ -108,10 +122,14 @@ impl Iterator for Preorder {
     type Item = WalkEvent<SyntaxNode>;
 
     fn next(&mut self) -> Option<WalkEvent<SyntaxNode>> {
-        self.elements.find_map(|event| match event {
-            WalkEvent::Enter(element) => element.into_node().map(WalkEvent::Enter),
-            WalkEvent::Leave(element) => element.into_node().map(WalkEvent::Leave),
-        })
+        loop {
+            let event = self.elements.step()?;
+            let (WalkEvent::Enter(number) | WalkEvent::Leave(number)) = event;
+            let tree = &self.elements.root.tree;
+            if !tree.is_token(number) {
+                return Some(event.map(|number| SyntaxNode::at(tree, number)));
+            }
+        }
     }
 }
 
