@@ -2,7 +2,7 @@
 //! It looks at names alone: one that an inner expression binds again counts as used where that one is.
 
 use rnix::ast::{Attr, AttrpathValue, HasEntry, Ident, LetIn};
-use rnix::rowan::ast::AstNode;
+use rnix::syntax::ast::AstNode;
 use rnix::{ColumnUnit, LineIndex, Root, SyntaxKind};
 use std::collections::HashSet;
 use std::io::{self, Read};

@@ -1,7 +1,7 @@
 //! Gives every name of a text that is spelled so another spelling, strings and comments aside: rename OLD NEW < FILE
 
 use rnix::ast::Ident;
-use rnix::rowan::ast::AstNode;
+use rnix::syntax::ast::AstNode;
 use rnix::{Edits, Root};
 use std::env;
 use std::error::Error;

@@ -15,12 +15,12 @@ pub use nodes::*;
 pub use operators::{BinOpKind, UnaryOpKind};
 pub use tokens::{Comment, Float, Integer, PathContent, StrContent, Uri, Whitespace};
 
-use crate::{rowan, NixLanguage, SyntaxKind, SyntaxToken};
+use crate::{syntax, NixLanguage, SyntaxKind, SyntaxToken};
 
-/// A type of nodes. Its calls are those of [`rowan::ast::AstNode`].
-pub trait AstNode: rowan::ast::AstNode<Language = NixLanguage> {}
+/// A type of nodes. Its calls are those of [`syntax::ast::AstNode`].
+pub trait AstNode: syntax::ast::AstNode<Language = NixLanguage> {}
 
-impl<T: rowan::ast::AstNode<Language = NixLanguage>> AstNode for T {}
+impl<T: syntax::ast::AstNode<Language = NixLanguage>> AstNode for T {}
 
 /// A type of tokens.
 pub trait AstToken {

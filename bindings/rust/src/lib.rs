@@ -6,7 +6,7 @@
 //!
 //! ```
 //! use rnix::ast::{Expr, HasEntry};
-//! use rnix::rowan::ast::AstNode;
+//! use rnix::syntax::ast::AstNode;
 //!
 //! let parse = rnix::Root::parse("let a = 1; in a");
 //! assert!(parse.errors().is_empty());
@@ -27,8 +27,7 @@ mod kind;
 mod language;
 mod line_index;
 mod parse;
-pub mod rowan;
-mod syntax;
+pub mod syntax;
 mod text_size;
 mod tokenizer;
 mod tree;

@@ -54,7 +54,7 @@ macro_rules! T {
 ///
 /// ```
 /// use rnix::{ast, match_ast};
-/// # use rnix::rowan::ast::AstNode;
+/// # use rnix::syntax::ast::AstNode;
 /// # let node = rnix::Root::parse("a: b").tree().expr().unwrap().syntax().clone();
 /// let is_function = match_ast! {
 ///     match node {

@@ -1,7 +1,7 @@
 //! Edits, and lines and columns.
 
 use rnix::ast::{self, HasEntry};
-use rnix::rowan::ast::AstNode;
+use rnix::syntax::ast::AstNode;
 use rnix::{ColumnUnit, EditError, Edits, LineIndex, Position, Root};
 
 #[test]

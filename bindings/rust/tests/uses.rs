@@ -1,7 +1,7 @@
 //! What programs do with trees, and what they may rely on.
 
 use rnix::ast::{self, Attr, BinOpKind, Entry, Expr, HasEntry, InterpolPart, LiteralKind, Param};
-use rnix::rowan::ast::{support, AstNode};
+use rnix::syntax::ast::{support, AstNode};
 use rnix::SyntaxKind::{self, *};
 use rnix::{
     match_ast, AstPtr, ParseError, Root, SyntaxNode, SyntaxNodePtr, SyntaxToken, TextRange, TextSize, WalkEvent, T,

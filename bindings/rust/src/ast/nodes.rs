@@ -5,7 +5,7 @@ use super::operators::{BinOpKind, UnaryOpKind};
 use super::support::{children, literal, node, nth, operator, sum, token, token_of_type};
 use super::tokens::PathContent;
 use super::AstNode;
-use crate::rowan::ast::AstChildren;
+use crate::syntax::ast::AstChildren;
 use crate::{SyntaxKind, SyntaxToken};
 
 sum! {

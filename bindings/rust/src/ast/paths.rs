@@ -1,7 +1,7 @@
 //! Parts of paths.
 
 use super::{AstNode, AstToken, Interpol, InterpolPart, Path, PathAbs, PathContent, PathHome, PathRel};
-use crate::rowan::ast::AstNode as _;
+use crate::syntax::ast::AstNode as _;
 use crate::NodeOrToken;
 
 // The parts of a path, in order.

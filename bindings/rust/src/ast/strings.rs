@@ -3,7 +3,7 @@
 use super::support::token;
 use super::{AstToken, Interpol, InterpolPart, Str, StrContent};
 use crate::error::Refused;
-use crate::rowan::ast::AstNode as _;
+use crate::syntax::ast::AstNode as _;
 use crate::{ffi, NodeOrToken, SyntaxKind};
 
 // A string read alone is the first element below the root.

@@ -1,7 +1,7 @@
 //! How accessors find what they give, and the types of nodes that have them.
 
 use super::{AstNode, AstToken, Float, Integer, Literal, LiteralKind, Uri};
-use crate::rowan::ast::AstChildren;
+use crate::syntax::ast::AstChildren;
 use crate::{NodeOrToken, SyntaxKind, SyntaxToken};
 
 // The tokens right below a node.
@@ -55,7 +55,7 @@ macro_rules! node {
             pub const KIND: crate::SyntaxKind = crate::SyntaxKind::$kind;
         }
 
-        impl crate::rowan::ast::AstNode for $name {
+        impl crate::syntax::ast::AstNode for $name {
             type Language = crate::NixLanguage;
 
             fn can_cast(kind: crate::SyntaxKind) -> bool {
@@ -89,7 +89,7 @@ macro_rules! sum {
             $($member($member),)+
         }
 
-        impl crate::rowan::ast::AstNode for $name {
+        impl crate::syntax::ast::AstNode for $name {
             type Language = crate::NixLanguage;
 
             fn can_cast(kind: crate::SyntaxKind) -> bool {
@@ -112,7 +112,7 @@ macro_rules! sum {
 
         impl std::fmt::Display for $name {
             fn fmt(&self, f: &mut std::fmt::Formatter<'_>) -> std::fmt::Result {
-                std::fmt::Display::fmt(crate::rowan::ast::AstNode::syntax(self), f)
+                std::fmt::Display::fmt(crate::syntax::ast::AstNode::syntax(self), f)
             }
         }
 

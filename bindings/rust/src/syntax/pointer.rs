@@ -1,7 +1,7 @@
 //! Places of nodes, kept without the tree.
 
 use super::node::SyntaxNode;
-use crate::rowan::ast::AstNode;
+use crate::syntax::ast::AstNode;
 use crate::{NixLanguage, SyntaxKind, TextRange};
 use std::fmt;
 use std::hash::{Hash, Hasher};
