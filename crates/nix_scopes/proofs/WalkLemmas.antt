@@ -14,7 +14,7 @@ abbrev pub entered : List NodeEvent → List Located
 entered [] = []
 entered (e ∷ es) = if e.0 then e.1 ∷ entered es else entered es
 
-node_events-append : (xs ys : List Event) → node_events (xs ++ ys) ≡ node_events xs ++ node_events ys
+pub node_events-append : (xs ys : List Event) → node_events (xs ++ ys) ≡ node_events xs ++ node_events ys
 node_events-append [] ys = refl
 node_events-append (x ∷ xs) ys =
     elim x.1.0 as (λ b. (if b then (x.0, x.1.1) ∷ node_events (xs ++ ys) else node_events (xs ++ ys)) ≡ (if b then (x.0, x.1.1) ∷ node_events xs else node_events xs) ++ node_events ys) [
@@ -86,7 +86,7 @@ row_entered t n (node k c f) =
     (map (spot_at t) (counted (n + 1) (element_count c + element_count f))) (first ∙ both ∙ sym second)
 
 -- an element that is not in the row is no part of it
-absent_part : (m n : ℕ) (f : Forest) → n + element_count f ≤ m → part_of m n f ≡ empty
+pub absent_part : (m n : ℕ) (f : Forest) → n + element_count f ≤ m → part_of m n f ≡ empty
 absent_part m n empty l = refl
 absent_part m n (leaf k t f) l =
     ap (λ b. if b then leaf k t empty else part_of m (n + 1) f) (is_above m n (omega arith)) ∙ absent_part m (n + 1) f (omega arith)
@@ -114,31 +114,9 @@ walk_entered e = elim (cases_lt e.number (length (items_of e.tree))) [
       ap (λ f. entered (node_events (map (event_at e.tree) (steps_from e.number f)))) none ∙ sym walked
 ]
 
--- a walk begins where nothing is listed
-pub listing_begun : {X : Type 0} (f : Located → List X) (none : List X) (events : List Event) (e : Located) → none ≡ [] → events ≡ preorder_of e →
-    none ++ flat_map f (entered (node_events events)) ≡ flat_map f (nodes_in (elements_of e))
-listing_begun f none events e empty_is walk =
-    ap (λ xs. xs ++ flat_map f (entered (node_events events))) empty_is
-    ∙ ap (λ es. flat_map f (entered (node_events es))) walk ∙ ap (flat_map f) (walk_entered e)
-
 -- one more of the elements is listed
 pub listing_next : {X : Type 0} (f : Located → List X) (so_far new all : List X) (before after : List Located) (e same : Located) →
     so_far ++ flat_map f before ≡ all → before ≡ e ∷ after → same ≡ e → new ≡ so_far ++ f same → new ++ flat_map f after ≡ all
 listing_next f so_far new all before after e same is first same_is added =
     subst (λ xs. xs ++ flat_map f after ≡ all) (sym (added ∙ ap (λ x. so_far ++ f x) same_is))
     (append_assoc so_far (f e) _ ∙ subst (λ es. so_far ++ flat_map f es ≡ all) first is)
-
--- one node more is entered
-pub listing_entered : {X : Type 0} (f : Located → List X) (so_far new all : List X) (before after : List Event) (e : Located) →
-    so_far ++ flat_map f (entered (node_events before)) ≡ all → node_events before ≡ (true, e) ∷ node_events after → new ≡ so_far ++ f e →
-    new ++ flat_map f (entered (node_events after)) ≡ all
-listing_entered f so_far new all before after e is first added =
-    subst (λ xs. xs ++ flat_map f (entered (node_events after)) ≡ all) (sym added)
-    (append_assoc so_far (f e) _ ∙ subst (λ es. so_far ++ flat_map f (entered es) ≡ all) first is)
-
--- one node more is left
-pub listing_left : {X : Type 0} (f : Located → List X) (so_far new all : List X) (before after : List Event) (e : Located) →
-    so_far ++ flat_map f (entered (node_events before)) ≡ all → node_events before ≡ (false, e) ∷ node_events after → new ≡ so_far →
-    new ++ flat_map f (entered (node_events after)) ≡ all
-listing_left f so_far new all before after e is first same =
-    subst (λ xs. xs ++ flat_map f (entered (node_events after)) ≡ all) (sym same) (subst (λ es. so_far ++ flat_map f (entered es) ≡ all) first is)

@@ -1,23 +1,11 @@
--- Which bindings references have.
-use Rattle.std.specs.Prelude.{◌≡◌, ℕ, ◌≤◌, List, ◌++◌, map, Some, slice_get}
+-- What is bound and what refers to it, as a resolution lists it.
+use Rattle.std.specs.Prelude.{◌≡◌, List, map, Some}
 use Rattle.std.specs.List.{All}
-use Rattle.rnix_green.specs.Tree.{Located, extent_of}
 use Rattle.nix_scopes.specs.declared.resolution.Binding.{Binding}
 use Rattle.nix_scopes.specs.declared.resolution.Reference.{Reference}
 use Rattle.nix_scopes.specs.declared.resolution.Resolution.{Resolution}
 use Rattle.nix_scopes.specs.Names.{Named}
-
--- the binding of a number has the name, and the node lies in its scope
-pub record IsBoundAt (bindings : List Binding) (number : ℕ) (text : List ℕ) (node : Located) : Type 0 where
-  pub binding : Binding
-  pub is_there : slice_get bindings number ≡ Some binding
-  pub name : binding.text.now ≡ text
-  pub start : (extent_of binding.scope).start ≤ (extent_of node).start
-  pub end : (extent_of node).end ≤ (extent_of binding.scope).end
-
--- if the reference has a binding, that has its name, and the reference lies in the scope
-abbrev pub IsBound : List Binding → Reference → Type 0
-IsBound bindings reference = (number : ℕ) → reference.binding ≡ Some number → IsBoundAt bindings number reference.text.now reference.node
+use Rattle.nix_scopes.specs.Scopes.{Bound, Resolved, number_in}
 
 -- the bindings that were found
 abbrev pub bindings_of : Resolution → List Binding
@@ -27,9 +15,28 @@ bindings_of r = r.bindings.items
 abbrev pub references_of : Resolution → List Reference
 references_of r = r.references.items
 
--- each reference is bound, if at all, by its name in a scope around it
-abbrev pub IsResolved : Resolution → Type 0
-IsResolved r = All (IsBound (bindings_of r)) (references_of r)
+-- what a binding binds
+abbrev pub bound_of : Binding → Bound
+bound_of binding = record { text = binding.text.now; node = binding.node; scope = binding.scope }
+
+-- what a reference is found to be
+abbrev pub resolved_of : Reference → Resolved
+resolved_of reference =
+    record {
+      text = reference.text.now;
+      node = reference.node;
+      is_inherited = reference.is_inherited;
+      binding = reference.binding;
+      is_open = reference.is_open;
+    }
+
+-- the first binding of a binding's name in its scope is the one that it names as the first
+abbrev pub IsFirstOf : List Binding → Binding → Type 0
+IsFirstOf bindings binding = number_in (map bound_of bindings) binding.text.now binding.scope ≡ Some binding.first
+
+-- so it is of each of these
+abbrev pub AreFirst : List Binding → Type 0
+AreFirst bindings = All (IsFirstOf bindings) bindings
 
 -- the name that a reference is
 abbrev pub name_of : Reference → Named
@@ -38,7 +45,3 @@ name_of reference = record { text = reference.text.now; node = reference.node }
 -- the names of the references that were found
 abbrev pub listed : Resolution → List Named
 listed r = map name_of (references_of r)
-
--- these references, and no others, are added
-abbrev pub Adds : Resolution → Resolution → List Named → Type 0
-Adds old new names = listed new ≡ listed old ++ names

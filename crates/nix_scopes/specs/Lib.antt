@@ -1,4 +1,7 @@
-pub mod Bound
 pub mod Names
 pub mod References
+pub mod Binders
+pub mod Scopes
+pub mod Bound
 pub mod Occurrences
+pub mod Resolving

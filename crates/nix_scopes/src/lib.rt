@@ -1,9 +1,14 @@
 //! The names that a text binds, and the binding that each name in it refers to.
 #![tactic(auto)]
 
+mod environment;
 mod names;
 mod occurrences;
+mod places;
 mod resolution;
+mod resolving;
+mod scopes;
 
 pub use occurrences::name_at;
-pub use resolution::{Binding, Reference, Resolution, resolve};
+pub use resolution::{Binding, Reference, Resolution};
+pub use resolving::resolve;

@@ -1,12 +1,17 @@
 //! The names that nodes bind.
 
-ghost use Rattle.std.specs.Prelude.{◌≡◌, option_map};
+ghost use Rattle.std.specs.Prelude.{◌≡◌, ◌++◌, map, option_map, IfOk, OnOk};
+ghost use Rattle.rnix_kinds.specs.declared.kinds.SyntaxKind.TheVariants as k;
+ghost use Rattle.rnix_green.specs.Equality.{same_kind};
+ghost use Rattle.rnix_base.specs.Select.{child_of};
+ghost use Rattle.rnix.specs.NodeKinds.{is_param};
 ghost use Rattle.rnix.specs.Strings.{string_parts};
-ghost use Rattle.nix_scopes.specs.Names.{has_escape, plain_text, attr_text};
+ghost use Rattle.nix_scopes.specs.Names.{has_escape, plain_text, attr_text, named_if};
+ghost use Rattle.nix_scopes.specs.Binders.{named, ident_name, path_name, inherit_names, entry_names, entries_names, bind_name, pattern_names, param_names, lambda_names, names_bound};
 
 use rnix::ast::{
-    AstNode, AstToken, Attr, AttrSet, Entry, HasEntry, InterpolPart, Lambda, LegacyLet, LetIn,
-    Param, Str,
+    AstNode, AstToken, Attr, AttrpathValue, Ident, IdentParam, Inherit, InterpolPart, Lambda,
+    Pattern, Str,
 };
 use rnix::{SyntaxKind, SyntaxNode};
 use std::alloc::{AllocError, Global};
@@ -51,45 +56,66 @@ pub fn attr_text<'t>(node: &SyntaxNode<'t>) -> Option<&'t str>
 }
 
 // Adds the name that an attribute is, if it is written out.
-fn add_attr<'t>(attr: &Attr<'t>, names: &mut Vec<Name<'t>>) -> Result<(), AllocError> {
-    if let Some(text) = attr_text(attr.syntax()) {
-        let node = attr.syntax().clone();
+fn add_attr<'t>(attr: &SyntaxNode<'t>, names: &mut Vec<Name<'t>>) -> Result<(), AllocError>
+    ensures { OnOk result (map named names.new.items ≡ map named names.old.items ++ named_if attr.now (attr_text attr.now)) }
+{
+    if let Some(text) = attr_text(attr) {
+        let node = attr.clone();
         names.push(Name { text, node })?;
     }
     Ok(())
 }
 
-// Adds the name that an entry binds, or the names that it inherits.
-fn add_entry<'t>(entry: &Entry<'t>, names: &mut Vec<Name<'t>>) -> Result<(), AllocError> {
-    match entry {
-        Entry::AttrpathValue(value) => {
-            if let Some(attr) = value.attrpath().and_then(|path| path.attrs().next()) {
-                add_attr(&attr, names)?;
-            }
-        }
-        Entry::Inherit(inherit) => {
-            for attr in inherit.attrs() {
-                add_attr(&attr, names)?;
-            }
-        }
+// Adds the names that an `inherit` binds.
+fn add_inherit<'t>(inherit: &Inherit<'t>, names: &mut Vec<Name<'t>>) -> Result<(), AllocError>
+    ensures { OnOk result (map named names.new.items ≡ map named names.old.items ++ inherit_names inherit.now) }
+{
+    for attr in inherit.attrs() {
+        add_attr(attr.syntax(), names)?;
     }
     Ok(())
 }
 
-fn add_entries<'t, H: HasEntry<'t>>(
-    scope: &H,
-    names: &mut Vec<Name<'t>>,
-) -> Result<(), AllocError> {
-    for entry in scope.entries() {
-        add_entry(&entry, names)?;
+// Adds the first name of a path, which an entry with a value binds.
+fn add_path<'t>(value: &AttrpathValue<'t>, names: &mut Vec<Name<'t>>) -> Result<(), AllocError>
+    ensures { OnOk result (map named names.new.items ≡ map named names.old.items ++ path_name (child_of (same_kind k.NODE_ATTRPATH) 0 value.now)) }
+{
+    let Some(path) = value.attrpath() else {
+        return Ok(());
+    };
+    match path.attrs().next() {
+        Some(attr) => add_attr(attr.syntax(), names),
+        None => Ok(()),
+    }
+}
+
+// Adds the names that a node binds that is an entry.
+fn add_entry<'t>(entry: SyntaxNode<'t>, names: &mut Vec<Name<'t>>) -> Result<(), AllocError>
+    ensures { OnOk result (map named names.new.items ≡ map named names.old.items ++ entry_names entry.entry) }
+{
+    if let Some(inherit) = Inherit::cast(entry.clone()) {
+        return add_inherit(&inherit, names);
+    }
+    match AttrpathValue::cast(entry) {
+        Some(value) => add_path(&value, names),
+        None => Ok(()),
+    }
+}
+
+// Adds the names that the entries of a node bind.
+fn add_entries<'t>(scope: &SyntaxNode<'t>, names: &mut Vec<Name<'t>>) -> Result<(), AllocError>
+    ensures { OnOk result (map named names.new.items ≡ map named names.old.items ++ entries_names scope.now) }
+{
+    for entry in scope.children() {
+        add_entry(entry, names)?;
     }
     Ok(())
 }
 
-fn add_ident<'t, T: AstNode<'t>>(
-    ident: Option<T>,
-    names: &mut Vec<Name<'t>>,
-) -> Result<(), AllocError> {
+// Adds the name that an identifier is.
+fn add_ident<'t>(ident: Option<Ident<'t>>, names: &mut Vec<Name<'t>>) -> Result<(), AllocError>
+    ensures { OnOk result (map named names.new.items ≡ map named names.old.items ++ ident_name ident.entry) }
+{
     if let Some(ident) = ident {
         let node = ident.syntax().clone();
         let text = node.text();
@@ -98,42 +124,58 @@ fn add_ident<'t, T: AstNode<'t>>(
     Ok(())
 }
 
-fn add_param<'t>(param: &Param<'t>, names: &mut Vec<Name<'t>>) -> Result<(), AllocError> {
-    match param {
-        Param::IdentParam(param) => add_ident(param.ident(), names),
-        Param::Pattern(pattern) => {
-            add_ident(pattern.pat_bind().and_then(|bind| bind.ident()), names)?;
-            for entry in pattern.pat_entries() {
-                add_ident(entry.ident(), names)?;
-            }
-            Ok(())
-        }
+// Adds the name of a whole pattern.
+fn add_pat_bind<'t>(pattern: &Pattern<'t>, names: &mut Vec<Name<'t>>) -> Result<(), AllocError>
+    ensures { OnOk result (map named names.new.items ≡ map named names.old.items ++ bind_name (child_of (same_kind k.NODE_PAT_BIND) 0 pattern.now)) }
+{
+    match pattern.pat_bind() {
+        Some(bind) => add_ident(bind.ident(), names),
+        None => Ok(()),
     }
 }
 
-/// Whether the node's names are in sight inside it.
-pub fn is_scope(node: &SyntaxNode<'_>) -> bool {
-    match node.kind() {
-        SyntaxKind::NODE_LET_IN | SyntaxKind::NODE_LEGACY_LET | SyntaxKind::NODE_LAMBDA => true,
-        SyntaxKind::NODE_ATTR_SET => {
-            node.first_token()
-                .is_some_and(|token| token.kind() == SyntaxKind::TOKEN_REC)
-        }
-        _ => false,
+// Adds the names that a pattern binds.
+fn add_pattern<'t>(pattern: &Pattern<'t>, names: &mut Vec<Name<'t>>) -> Result<(), AllocError>
+    ensures { OnOk result (map named names.new.items ≡ map named names.old.items ++ pattern_names pattern.now) }
+{
+    add_pat_bind(pattern, names)?;
+    for entry in pattern.pat_entries() {
+        add_ident(entry.ident(), names)?;
+    }
+    Ok(())
+}
+
+// Adds the names that a parameter binds.
+fn add_param<'t>(param: SyntaxNode<'t>, names: &mut Vec<Name<'t>>) -> Result<(), AllocError>
+    ensures { OnOk result (map named names.new.items ≡ map named names.old.items ++ param_names param.entry) }
+{
+    if let Some(pattern) = Pattern::cast(param.clone()) {
+        return add_pattern(&pattern, names);
+    }
+    match IdentParam::cast(param) {
+        Some(param) => add_ident(param.ident(), names),
+        None => Ok(()),
+    }
+}
+
+// Adds the names that the parameter of a function binds.
+fn add_lambda<'t>(lambda: &Lambda<'t>, names: &mut Vec<Name<'t>>) -> Result<(), AllocError>
+    ensures { OnOk result (map named names.new.items ≡ map named names.old.items ++ lambda_names (child_of is_param 0 lambda.now)) }
+{
+    match lambda.param() {
+        Some(param) => add_param(param.syntax().clone(), names),
+        None => Ok(()),
     }
 }
 
 /// The names that a scope binds, in order; the name of a whole pattern is the first.
-pub fn names_bound<'t>(alloc: Global, scope: &SyntaxNode<'t>) -> Result<Vec<Name<'t>>, AllocError> {
+pub fn names_bound<'t>(alloc: Global, scope: &SyntaxNode<'t>) -> Result<Vec<Name<'t>>, AllocError>
+    ensures { IfOk result (λ names. map named names.items ≡ names_bound scope.now) }
+{
     let mut names = Vec::new(alloc);
-    if let Some(scope) = LetIn::cast(scope.clone()) {
-        add_entries(&scope, &mut names)?;
-    } else if let Some(scope) = LegacyLet::cast(scope.clone()) {
-        add_entries(&scope, &mut names)?;
-    } else if let Some(set) = AttrSet::cast(scope.clone()) {
-        add_entries(&set, &mut names)?;
-    } else if let Some(param) = Lambda::cast(scope.clone()).and_then(|lambda| lambda.param()) {
-        add_param(&param, &mut names)?;
+    match Lambda::cast(scope.clone()) {
+        Some(lambda) => add_lambda(&lambda, &mut names)?,
+        None => add_entries(scope, &mut names)?,
     }
     Ok(names)
 }

@@ -1,0 +1,14 @@
+use Rattle.std.proofs.Common.{◌≡◌, ◌++◌, map}
+use Rattle.std.specs.Prelude.{flat_map}
+use Rattle.rnix_kinds.specs.declared.kinds.SyntaxKind.TheVariants as k
+use Rattle.rnix_green.specs.Equality.{same_kind}
+use Rattle.rnix_base.specs.Select.{those_of}
+use Rattle.nix_scopes.specs.Binders.{named, own_name, pattern_names}
+use Rattle.nix_scopes.proofs.names.add_pattern.Given as goal
+
+abbrev pub invariant-loop-entry : goal.invariant-loop-entry
+invariant-loop-entry l = record {
+  next : (goal.iterator-loop-entry).can_next l.entry-iterator;
+  ends : (goal.iterator-loop-entry).is_finite l.entry-iterator;
+  listing : map named l.names.items ++ flat_map own_name (those_of (same_kind k.NODE_PAT_ENTRY) l.entry-iterator) ≡ map named l.fn.names.items ++ pattern_names l.pattern;
+}

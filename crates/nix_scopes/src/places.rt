@@ -1,0 +1,50 @@
+//! What stands at the place of an expression, and what stands in the body of a `with`.
+
+ghost use Rattle.std.specs.Prelude.{◌≡◌};
+ghost use Rattle.nix_scopes.specs.References.{is_behind_node, stands_for_value, is_expression};
+ghost use Rattle.nix_scopes.specs.Scopes.{is_with_body};
+
+use rnix::{Direction, SyntaxKind, SyntaxNode};
+
+// Whether another node comes before this one in its parent.
+fn is_behind_node(node: &SyntaxNode<'_>) -> bool
+    ensures { result ≡ is_behind_node node.now }
+{
+    let mut nodes = node.siblings(Direction::Prev);
+    let _itself = nodes.next();
+    nodes.next().is_some()
+}
+
+// Whether a name in a parent of a kind stands for a value: it is neither bound, nor inherited, nor a part of an attribute path.
+fn stands_for_value(parent: SyntaxKind, node: &SyntaxNode<'_>) -> bool
+    ensures { result ≡ stands_for_value parent node.now }
+{
+    match parent {
+        SyntaxKind::NODE_ATTRPATH
+        | SyntaxKind::NODE_INHERIT
+        | SyntaxKind::NODE_IDENT_PARAM
+        | SyntaxKind::NODE_PAT_BIND => false,
+        SyntaxKind::NODE_PAT_ENTRY => is_behind_node(node),
+        _ => true,
+    }
+}
+
+/// Whether a node is a name that stands for a value.
+pub fn is_expression(node: &SyntaxNode<'_>) -> bool
+    ensures { result ≡ is_expression node.now }
+{
+    let Some(parent) = node.parent() else {
+        return false;
+    };
+    node.kind() == SyntaxKind::NODE_IDENT && stands_for_value(parent.kind(), node)
+}
+
+/// Whether a node is the body of a `with`.
+pub fn is_with_body(node: &SyntaxNode<'_>) -> bool
+    ensures { result ≡ is_with_body node.now }
+{
+    let Some(parent) = node.parent() else {
+        return false;
+    };
+    parent.kind() == SyntaxKind::NODE_WITH && is_behind_node(node)
+}

@@ -1,0 +1,34 @@
+//! Which nodes are scopes.
+
+ghost use Rattle.std.specs.Prelude.{◌≡◌};
+ghost use Rattle.nix_scopes.specs.Binders.{is_recursive, is_binder, is_scope};
+
+use rnix::ast::{AstNode, AttrSet};
+use rnix::{SyntaxKind, SyntaxNode};
+
+// Whether a node is a set with `rec`.
+fn is_recursive(node: &SyntaxNode<'_>) -> bool
+    ensures { result ≡ is_recursive node.now }
+{
+    match AttrSet::cast(node.clone()) {
+        Some(set) => set.rec_token().is_some(),
+        None => false,
+    }
+}
+
+// Whether a node of the kind binds names.
+fn is_binder(kind: SyntaxKind) -> bool
+    ensures { result ≡ is_binder kind }
+{
+    matches!(
+        kind,
+        SyntaxKind::NODE_LET_IN | SyntaxKind::NODE_LEGACY_LET | SyntaxKind::NODE_LAMBDA
+    )
+}
+
+/// Whether the node's names are in sight inside it.
+pub fn is_scope(node: &SyntaxNode<'_>) -> bool
+    ensures { result ≡ is_scope node.now }
+{
+    is_binder(node.kind()) || is_recursive(node)
+}
