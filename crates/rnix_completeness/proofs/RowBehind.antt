@@ -13,10 +13,10 @@ use Rattle.{rnix_grammar.specs.{Strict.stands_in, Plain.{is_node, AreUntold}, Yi
 use Rattle.rnix_lemmas.proofs.{EveryKind.{tokens_alone, whenever_two, whenever_both}, LevelLemmas.at_most_true, NodeKinds.{not_both, fits_expression}}
 use Rattle.rnix_lemmas.proofs.{OpeningRows.{live_to, to_live}, PlaceTests.closer_leaf, PlainTables.{loose, below, is_bound, high_in}, StrictParts.Parts}
 use Rattle.{rnix_lemmas.proofs.StrictParts.{parts, Standing, standing, atom_level}, rnix_completeness.proofs.FirstTokens.{Begins, begins_on, leaf_passes}}
-use Rattle.rnix_completeness.proofs.{FirstTokens.{next_at, next_passes, told_passes}, LevelBounds.{below_high, bounds, loose_one, loose_more}}
-use Rattle.rnix_completeness.proofs.{PlainBegins.{first_argument, is_wrapper}, PlainNames.{past_blank, strict_node, IsName, only_name, unnamed}, RowAsks.Ask}
-use Rattle.rnix_completeness.proofs.RowAsks.{any, no_at, loosest, ask, ask_of, heed, heeds, holds, is_told, loose_no_interpol, weaker, weaker_so, in_dynamic}
-use Rattle.rnix_completeness.proofs.{RowFits.Fit, RowGroups.{calls_with, or_same, calls_same}, RowExpects.{is_leaf, simple_node, simple_expression}}
+use Rattle.rnix_completeness.proofs.{FirstTokens.{next_at, next_passes, told_passes, first_argument, is_wrapper}, RowAsks.{below_high, bounds, loose_one}}
+use Rattle.rnix_completeness.proofs.RowAsks.{loose_more, Ask, any, no_at, loosest, ask, ask_of, heed, heeds, holds, is_told, loose_no_interpol, weaker}
+use Rattle.rnix_completeness.proofs.{RowAsks.{weaker_so, in_dynamic, is_leaf, simple_node, simple_expression}, PlainNames.{past_blank, strict_node, IsName}}
+use Rattle.rnix_completeness.proofs.{PlainNames.{only_name, unnamed}, RowFits.Fit, RowGroups.{calls_with, or_same, calls_same}}
 use Rattle.rnix_grammar.specs.declared.place.Place.TheVariants as p
 use Rattle.rnix_grammar.specs.declared.symbol.Symbol.TheVariants as s
 use Rattle.rnix_grammar.specs.declared.until.Closer.TheVariants as c

@@ -12,7 +12,7 @@ use Rattle.rnix_grammar.specs.{Strict.{first_is_no_or, operator_of, stands_at, p
 use Rattle.rnix_grammar.specs.{TreeLevels.{calls_or, level_of, row_level, is_atom_row}, Operands.{follows, IsFollowed}, Plain.{is_node, AreUntold}}
 use Rattle.rnix_lemmas.proofs.{Basics.true_is_not_false, EveryKind.{only, whenever_two, tokens_alone}, LevelLemmas.at_most_true, NodeKinds.not_both}
 use Rattle.rnix_lemmas.proofs.{OpeningRows.{live_to, to_live}, StrictParts.{standing, parts}, LaterRowStates.{is_start, go_later}}
-use Rattle.rnix_completeness.proofs.{FirstTokens.Begins, PlainNames.{IsName, only_name}, PlainBegins.is_wrapper, RowExpects.{simple_node, is_leaf}}
+use Rattle.rnix_completeness.proofs.{FirstTokens.{Begins, is_wrapper}, PlainNames.{IsName, only_name}, RowAsks.{simple_node, is_leaf}}
 use Rattle.rnix_grammar.specs.Strict as st
 use Rattle.rnix_grammar.specs.Tables as t
 use Rattle.rnix_grammar.specs.declared.place.Place.TheVariants as p

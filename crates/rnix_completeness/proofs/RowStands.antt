@@ -11,7 +11,7 @@ use Rattle.{rnix_grammar.specs.Plain.{is_node, joins, AreUntold}, rnix_lemmas.pr
 use Rattle.rnix_lemmas.proofs.{EveryKind.{only, only_both}, NodeKinds.not_both, OpeningRows.live_to, StrictParts.{Parts, parts}, PlaceTests.closer_leaf}
 use Rattle.{rnix_lemmas.proofs.PlaceTests.wanted_leaf, rnix_completeness.proofs.{FirstTokens.{may_begin, Begins, node_begins}, PlainNames.IsIdent}}
 use Rattle.rnix_completeness.proofs.{PlainNames.{only_ident, IsNamed, named_row}, RowFunctions.bind_begins, RowFits.{joins_branch, Fit}, RowAsks.in_path}
-use Rattle.rnix_completeness.proofs.{RowBehind.argument_begins, RowGroups.{calls_with, Grouped}, RowExpects.path_more}
+use Rattle.rnix_completeness.proofs.{RowAsks.path_more, RowBehind.argument_begins, RowGroups.{calls_with, Grouped}}
 use Rattle.rnix_grammar.specs.declared.place.Place.TheVariants as p
 use Rattle.rnix_grammar.specs.declared.symbol.Symbol.TheVariants as s
 use Rattle.rnix_grammar.specs.declared.until.Closer.TheVariants as c

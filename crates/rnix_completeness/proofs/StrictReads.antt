@@ -9,9 +9,9 @@ use Rattle.rnix_grammar.specs.{AnnotatedForest.{fault, ◌⊕◌, one_token, one
 use Rattle.rnix_grammar.specs.{Strict.is_strict_expression, Tables.depth_limit, Plain.{is_node, goes_on_path, joins, AreUntold, ArePaths}}
 use Rattle.rnix_lemmas.proofs.{Basics.{true_is_not_false, not_if}, EveryKind.tokens_alone, NodeKinds.{expression_node, fits_expression, is_error, not_both}}
 use Rattle.rnix_lemmas.proofs.{NodeKinds.told_plain, OpeningRows.{live_to, to_live}, RowNesting.nesting, StrictParts.{Parts, parts, end_behind}}
-use Rattle.rnix_completeness.proofs.{PlainNames.{past_blank, strict_node, IsName, only_name}, RowAsks.{in_path, in_pattern}, RowExpects.over_blank}
-use Rattle.rnix_completeness.proofs.{RowExpects.expected_leaf, RowGroups.{followed_branch, followed_leaf}, RowFits.{Fit, branch_fit, inner_fit, joins_on}}
-use Rattle.rnix_completeness.proofs.{RowFits.{leaf_fit, leaf_kind_known}, RowBehind.{argument_begins, calm}, RowStands.expected_branch, RowOperands.operand_of}
+use Rattle.rnix_completeness.proofs.{PlainNames.{past_blank, strict_node, IsName, only_name}, RowAsks.{in_path, in_pattern, over_blank, expected_leaf}}
+use Rattle.rnix_completeness.proofs.{RowGroups.{followed_branch, followed_leaf}, RowFits.{Fit, branch_fit, inner_fit, joins_on, leaf_fit, leaf_kind_known}}
+use Rattle.rnix_completeness.proofs.{RowBehind.{argument_begins, calm}, RowStands.expected_branch, RowOperands.operand_of}
 use Rattle.rnix_grammar.specs.declared.place.Place.TheVariants as p
 
 -- where a row ends

@@ -1,5 +1,5 @@
 -- All that is promised of a text follows from its reading.
-use Rattle.std.proofs.{Common.{◌≡◌, ◌↔◌, ◌≤◌, true, List, [], refl, ap, sym, ◌∙◌, subst}, lemmas.Bool.and_parts as and_both}
+use Rattle.std.proofs.{Common.{◌≡◌, ◌↔◌, ◌≤◌, true, List, [], refl, ap, sym, ◌∙◌, subst}}
 use Rattle.{rnix_kinds.specs.{declared.kinds.SyntaxKind.TheVariants.NODE_ROOT, Lexical.Tokens.Lexeme}, rnix_green.specs.{Forest.Forest, Tree.Tree}}
 use Rattle.rnix_grammar.specs.{Tables.depth_limit, AnnotatedForest.{Token, AnnotatedForest, blank, forget, tokens_in, without_trivia, placed_from}}
 use Rattle.rnix_grammar.specs.{AnnotatedForest.HaveLeafKinds, Layout.items, Trim.{AreFaultsTrimmed, AreNodesTrimmed}, Shape.{IsShaped, IsUnrepeated, reports}}
@@ -10,8 +10,8 @@ use Rattle.rnix_rows.proofs.{ReadsFaults.{Errors, reads_errors}, ReadsWhole.{who
 use Rattle.rnix_rows.proofs.{TreeShapes.without_trivia_reports, SeamLemmas.trivia_between, ReadsNest.reads_nested, NamedRows.are_named}
 use Rattle.rnix_rows.proofs.{WithTriviaWhole.{without_trivia_items, laid_told, laid_trimmed, laid_bare, laid_nodes}, ReadsTold.{reads_told, repaired_tokens}}
 use Rattle.{rnix_rows.proofs.{ReadsShapes.{AreBareRows, repaired_none, whole_rows}, Exactly.derived}, rnix_soundness.proofs.Converse.converse}
-use Rattle.{rnix_soundness.proofs.StrictCorners.strict_no_corner, rnix_lemmas.proofs.SpelledLemmas.{AreRuled, spelled_from, without_trivia_spelled}}
-use Rattle.{rnix_lemmas.proofs.EntryNames.both_true, rnix_strict.proofs.{GrammarStrict.expression_strict, GrammarTrees.strict_expression}}
+use Rattle.{rnix_lemmas.proofs.SpelledLemmas.{AreRuled, spelled_from, without_trivia_spelled}}
+use Rattle.{rnix_lemmas.proofs.EntryNames.both_true, rnix_strict.proofs.{GrammarStrict.expression_no_corner, GrammarTrees.strict_expression}}
 use Rattle.{rnix_proof_rules.proofs.ReadsAlike.whole_old, rnix_parser.proofs.Found.derivation_found}
 
 -- a tree without trivia, and its errors, as they must be to be a derivation
@@ -36,7 +36,7 @@ exact f ts es w paths = (there, back)
     back : ((t : Forest) × IsDerivation t ts) → (es ≡ []) × (has_no_corner NODE_ROOT (forget f) ≡ true)
     back h =
         let r = w.found h.0 h.1 in
-        (r.0, ap (has_no_corner NODE_ROOT) r.1 ∙ strict_no_corner h.0 (and_both (has_tokens_alone h.0) (is_strict_expression h.0) (expression_strict h.0 h.1.strict)).1)
+        (r.0, ap (has_no_corner NODE_ROOT) r.1 ∙ expression_no_corner h.0 h.1.strict)
 
 -- all that is promised of a tree and its errors follows from their being a reading
 pub all_follows : (ls : List Lexeme) (tree : Tree) (faults : List Fault) → AreRuled ls → IsReading ls tree faults → IsParsed ls tree faults

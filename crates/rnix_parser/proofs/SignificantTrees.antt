@@ -1,15 +1,13 @@
 -- The tree of a text, without its trivia, is what its items are read as.
 use Rattle.std.proofs.Common.{◌≡◌, ◌↔◌, ◌≤◌, Bool, true, false, List, [], refl, ap, sym, ◌∙◌, subst}
-use Rattle.std.proofs.lemmas.Bool.{and_parts as and_both}
 use Rattle.rnix_kinds.specs.declared.kinds.SyntaxKind.{SyntaxKind, TheVariants.{TOKEN_CUR_POS, TOKEN_IDENT, TOKEN_OR, NODE_CUR_POS, NODE_ERROR, NODE_IDENT, NODE_ROOT}}
 use Rattle.rnix_kinds.specs.{Lexical.Tokens.Lexeme, SyntaxKind.is_trivia}
 use Rattle.rnix_green.specs.{Forest.{Forest, node}, Tree.Tree}
 use Rattle.rnix_grammar.specs.AnnotatedForest.{Token, AnnotatedForest, blank, token, branch, fault, forget, without_trivia, token_if, placed_from, leaf_kind_as, HaveLeafKinds}
-use Rattle.rnix_grammar.specs.{Corners.has_no_corner, Derivation.{laid, has_tokens_alone, IsDerivation}, Fault.Fault, Grammar.IsExpression, Layout.items, Nest.nest}
-use Rattle.rnix_grammar.specs.{Parsed.IsParsed, Plain.ArePaths, Repaired.{repaired, ended_count}, Named.{is_repeated, Lacks}, Strict.is_strict_expression, Tables.depth_limit}
+use Rattle.rnix_grammar.specs.{Corners.has_no_corner, Derivation.{laid, IsDerivation}, Fault.Fault, Grammar.IsExpression, Layout.items, Nest.nest}
+use Rattle.rnix_grammar.specs.{Parsed.IsParsed, Plain.ArePaths, Repaired.{repaired, ended_count}, Named.{is_repeated, Lacks}, Tables.depth_limit}
 use Rattle.rnix_rows.proofs.{Exactly.laid_same, ReadsShapes.{AreBareRows, repaired_none, whole_rows}, WithTriviaWhole.without_trivia_items}
-use Rattle.rnix_strict.proofs.GrammarStrict.{expression_strict}
-use Rattle.rnix_soundness.proofs.StrictCorners.{strict_no_corner}
+use Rattle.rnix_strict.proofs.GrammarStrict.{expression_no_corner}
 use Rattle.rnix_proof_rules.proofs.ReadsAlike.{whole_old}
 use Rattle.rnix_parser.specs.Significant.{leaf_unless, significant}
 
@@ -89,4 +87,4 @@ tree_exactly {ls = ls} {tree = tree} {faults = faults} p = (there, back)
         → (faults ≡ []) × (has_no_corner NODE_ROOT (significant tree.children) ≡ true) × ArePaths (laid (significant tree.children) (items (placed_from 0 ls))) []
     back d =
         let t = significant tree.children in
-        ((tree_found p t d).0, strict_no_corner t (and_both (has_tokens_alone t) (is_strict_expression t) (expression_strict t d.strict)).1, d.joined)
+        ((tree_found p t d).0, expression_no_corner t d.strict, d.joined)

@@ -4,18 +4,19 @@ use Rattle.{std.proofs.{Common.{◌+◌, arith}, lemmas.Bool.{and_from, and_part
 use Rattle.rnix_kinds.specs.declared.kinds.SyntaxKind.TheVariants.{TOKEN_AT, NODE_IDENT, NODE_LITERAL, NODE_PAT_BIND, NODE_PAT_ENTRY, TOKEN_INTEGER, NODE_ROOT}
 use Rattle.{rnix_kinds.proofs.AllKinds.implied, rnix_green.specs.Forest.{Forest, empty, leaf, node}, rnix_grammar.specs.declared.place.Place.Place}
 use Rattle.rnix_grammar.specs.{declared.until.Until.Until, Fault.{Fault, named_twice}, AnnotatedForest.{Token, Note, Stray, Unwanted, Extra, Twice, TooDeep}}
-use Rattle.rnix_grammar.specs.AnnotatedForest.{AnnotatedForest, blank, branch, ◌⊕◌, one_token, one_branch, one_fault, tokens_in, leaf_kind, extent_of}
+use Rattle.rnix_grammar.specs.AnnotatedForest.{AnnotatedForest, blank, branch, ◌⊕◌, one_token, one_branch, one_fault, tokens_in, leaf_kind, extent_of, row_of}
 use Rattle.rnix_grammar.specs.{Reports.{report, repeated, repeated_if, entry_name, is_same_name, has_entry, repeats}, Rows.{is_expression, RowState, Start, At}}
 use Rattle.rnix_grammar.specs.{Rows.{advance, first, first_bind, live, whole, start}, PlaceReads.{Reads, ReadsWhole, end, leaf as leafed, missing_part, wrong}}
 use Rattle.rnix_grammar.specs.{PlaceReads.{second, inner, IsWrong, deeper}, Strict.{may_stand, is_grouped, is_strict, entry_text, are_entries_new}}
 use Rattle.rnix_grammar.specs.{Strict.{first_is_no_or, binds_no_or, is_strict_expression}, Tables.is_among, Repaired.{repaired, patch, is_ended, ended_count}}
 use Rattle.rnix_grammar.specs.{Corners.{is_corner, has_no_corner}, Names.is_name_at, Named.{is_spelled, AreSpelled, AreNamed, is_repeated, Lacks}}
-use Rattle.{rnix_grammar.specs.{BehindErrors.{go_run, go_error}, Missing.missing}, rnix_lemmas.proofs.{Basics.true_is_not_false, OpeningRows.{HasRow, Opening}}}
-use Rattle.rnix_lemmas.proofs.OpeningRows.{number_wrong, leveled, by_token, by_branch, by_fault, opened, is_place, spelled_first, spelled_rest}
-use Rattle.rnix_lemmas.proofs.{MissingFacts.missing_ended, EntryNames.{has-⊕, if_not}, NestRowStates.wrong_goes}
-use Rattle.rnix_soundness.proofs.RepairedRowStates.{Similar, similar_same, similar_two, similar_run, similar_past, IsHome, home_go, home_start, home_run}
-use Rattle.rnix_soundness.proofs.{RepairedRowStates.home_past, FirstTrees.{IsLed, led, token_first, no_operand}, RepairedLevels.named_no_or}
-use Rattle.rnix_soundness.proofs.{RepairedStands.{IsThere, stands_there, suits_named, number_stands}, RepairedGroups.grouped}
+use Rattle.{rnix_grammar.specs.{BehindErrors.{go_run, go_error}, Missing.missing, Operands.level_at}, rnix_lemmas.proofs.Basics.true_is_not_false}
+use Rattle.rnix_lemmas.proofs.OpeningRows.{HasRow, Opening, number_wrong, leveled, by_token, by_branch, by_fault, opened, is_place, spelled_first, spelled_rest}
+use Rattle.rnix_lemmas.proofs.{MissingFacts.missing_ended, EntryNames.{has-⊕, if_not}, NestRowStates.wrong_goes, NestPlaces.{IsExpected, go_expected}}
+use Rattle.{rnix_lemmas.proofs.NestPlaces.start_expected, rnix_soundness.proofs.RepairedRowStates.{Similar, similar_same, similar_two, similar_run}}
+use Rattle.rnix_soundness.proofs.{RepairedRowStates.{similar_past, expected_run}, RepairedStands.{stray_small, counted_small, IsThere, stands_there}}
+use Rattle.rnix_soundness.proofs.{RepairedStands.{suits_named, number_stands}, RepairedLevels.{IsLed, led, token_first, no_operand, named_no_or}}
+use Rattle.rnix_soundness.proofs.RepairedGroups.{grouped}
 use Rattle.rnix_grammar.specs.declared.place.Place.TheVariants as p
 
 -- errors of two rows
@@ -185,20 +186,20 @@ strict_leaf s q k t f sim l r =
     and_from (live (advance s k)) (is_strict (advance s k) f) (ap live same ∙ l) (ap (λ z. is_strict z f) same ∙ r)
 
 -- behind an error node the row goes on
-strict_fault : (m : Note) (k : SyntaxKind) (d : ℕ) (s q r : RowState) (ts vs : List Token) (f : Forest) → IsWrong m d q r ts vs → Similar s q → IsHome k q
-    → ((z : RowState) → Similar z r → IsHome k r → is_strict z f ≡ true) → is_strict s (patch m f) ≡ true
+strict_fault : (m : Note) (k : SyntaxKind) (d : ℕ) (s q r : RowState) (ts vs : List Token) (f : Forest) → IsWrong m d q r ts vs → Similar s q → IsExpected k q
+    → ((z : RowState) → Similar z r → IsExpected k r → is_strict z f ≡ true) → is_strict s (patch m f) ≡ true
 strict_fault Stray k d s q r ts vs f h sim home rest =
-    strict_node s q NODE_LITERAL (leaf TOKEN_INTEGER (codes "0") empty) f sim (ap live h.3 ∙ h.4) (number_stands k q home) refl refl
-    (ap (λ z. is_strict z f) h.3 ∙ rest r (similar_same r) (subst (IsHome k) h.3 (home_go k q NODE_LITERAL home)))
+    strict_node s q NODE_LITERAL (leaf TOKEN_INTEGER (codes "0") empty) f sim (ap live h.3 ∙ h.4) (number_stands q (stray_small (level_at q blank) (row_of ts) vs h.2)) refl refl
+    (ap (λ z. is_strict z f) h.3 ∙ rest r (similar_same r) (subst (IsExpected k) h.3 (go_expected k q NODE_LITERAL home)))
 strict_fault (Unwanted until) k d s q r ts vs f h sim home rest =
     let from : Similar s (At h.2) = subst (Similar s) h.4 sim in
-    let here : IsHome k (At h.2) = subst (IsHome k) h.4 home in
-    rest s (subst (Similar s) (sym h.5) (similar_two from (similar_run h.2 h.3 until h.6))) (subst (IsHome k) (sym h.5) (home_run k h.2 h.3 until h.6 here))
-strict_fault Extra k d s q r ts vs f h sim home rest = rest s (subst (Similar s) (sym h.3) sim) (subst (IsHome k) (sym h.3) home)
+    let here : IsExpected k (At h.2) = subst (IsExpected k) h.4 home in
+    rest s (subst (Similar s) (sym h.5) (similar_two from (similar_run h.2 h.3 until h.6))) (subst (IsExpected k) (sym h.5) (expected_run k h.2 h.3 until h.6 here))
+strict_fault Extra k d s q r ts vs f h sim home rest = rest s (subst (Similar s) (sym h.3) sim) (subst (IsExpected k) (sym h.3) home)
 strict_fault Twice k d s q r ts vs f h sim home rest = absurd h
 strict_fault TooDeep k d s q r ts vs f h sim home rest =
-    strict_node s q NODE_LITERAL (leaf TOKEN_INTEGER (codes "0") empty) f sim (ap live h.3 ∙ h.4) (number_stands k q home) refl refl
-    (ap (λ z. is_strict z f) h.3 ∙ rest r (similar_same r) (subst (IsHome k) h.3 (home_go k q NODE_LITERAL home)))
+    strict_node s q NODE_LITERAL (leaf TOKEN_INTEGER (codes "0") empty) f sim (ap live h.3 ∙ h.4) (number_stands q (counted_small q h.1)) refl refl
+    (ap (λ z. is_strict z f) h.3 ∙ rest r (similar_same r) (subst (IsExpected k) h.3 (go_expected k q NODE_LITERAL home)))
 
 -- the corners of a row behind an error node
 corners_behind : (m : Note) (k : SyntaxKind) (f : Forest) → has_no_corner k (patch m f) ≡ true → has_no_corner k f ≡ true
@@ -207,11 +208,11 @@ corners_behind _ k f h = assumption
 
 -- a row whose errors are repaired is strict
 row : {k : SyntaxKind} {d n : ℕ} {q q' : RowState} {b : AnnotatedForest} {us : List Token} {f : AnnotatedForest} {es : List Fault} → Reads k d n q q' b us f es → (s : RowState) → Similar s q → whole q' ≡ true
-    → IsHome k q → AreSpelled (tokens_in f) → AreNamed q f → has_no_corner k (repaired f) ≡ true → Lacks is_ended es → Lacks is_repeated es → is_strict s (repaired f) ≡ true
+    → IsExpected k q → AreSpelled (tokens_in f) → AreNamed q f → has_no_corner k (repaired f) ≡ true → Lacks is_ended es → Lacks is_repeated es → is_strict s (repaired f) ≡ true
 row end s sim done home w n o l m = sim.like.ends ∙ done
 row {k = k₀} {q = q} (leafed {r = r} {f = f} {k = k} {t = t} h _ _ op g v c _ y) s sim done home w n o l m =
     strict_leaf s q k t.text (repaired f) sim (ap live g ∙ v)
-    (ap (λ z. is_strict z (repaired f)) g ∙ row y r (similar_same r) done (subst (IsHome k₀) g (home_go k₀ q k home)) w.1 (subst (λ z. AreNamed z f) g n) o l m)
+    (ap (λ z. is_strict z (repaired f)) g ∙ row y r (similar_same r) done (subst (IsExpected k₀) g (go_expected k₀ q k home)) w.1 (subst (λ z. AreNamed z f) g n) o l m)
 row (missing_part {x = x} {y = y} u v g _ j z) s sim done home w n o l m = no_missing_part x y g z l
 row {k = k} {d = d₀} {q = q} (wrong {r = r} {vs = vs} {c = c} {f = f} {es = es} note ts h v _ _ beside x _ y z) s sim done home w n o l m =
     strict_fault note k d₀ s q r ts vs (repaired f) beside sim home
@@ -219,7 +220,7 @@ row {k = k} {d = d₀} {q = q} (wrong {r = r} {vs = vs} {c = c} {f = f} {es = es
     (corners_behind note k (repaired f) o) (misses_rest is_ended (report note ts ∷ []) es (subst (Lacks is_ended) z l))
     (misses_rest is_repeated (report note ts ∷ []) es (subst (Lacks is_repeated) z m)))
 row {k = k} {q = q₁} (second {c = c} {f = f} {ds = ds} {es = es} v y _ x q r d g z) s sim done home w n o l m =
-    row g s (subst (Similar s) (sym r) (similar_past s (subst (Similar s) q sim))) done (subst (IsHome k) (sym r) (home_past k q₁ q home))
+    row g s (subst (Similar s) (sym r) (similar_past s (subst (Similar s) q sim))) done (subst (IsExpected k) (sym r) (subst (IsExpected k) q home))
     (spelled_rest (tokens_in c) (tokens_in f) w) (subst (λ u. AreNamed u f) (sym r) n) o
     (misses_rest is_ended (ds ++ report Twice (tokens_in c) ∷ []) es (subst (Lacks is_ended) z l)) (misses_rest is_repeated (ds ++ report Twice (tokens_in c) ∷ []) es (subst (Lacks is_repeated) z m))
 row {k = k₀} {d = d₀} {n = n₀} {q = q} {b = b} (inner {r = r} {s = x} {vs = vs} {ws = ws} {c = c} {f = f} {ds = ds} {es = es} {k = k} v _ y _ whole_there own _ fo op g alive d rest z) s sim done home w n o l m =
@@ -234,8 +235,8 @@ row {k = k₀} {d = d₀} {n = n₀} {q = q} {b = b} (inner {r = r} {s = x} {vs 
     let there : IsThere k₀ q b k c = record { row = has; spelled = w₁; leveled = leveled q b k c n₀ ws vs own fo op; goes = ap live g ∙ alive; suited = n.0; home = home; no_corner = first_parts.0 } in
     strict_node s q k (repaired c) (repaired f) sim (ap live g ∙ alive) (stands_there k₀ q b k c there)
     (grouped k₀ k c has w₁ n.1 more_parts.0 first_parts.0 (entries y [] (λ u. refl) w₁ l₁ m₁) (λ e. binds y (ap start e) w₁ n.1 l₁))
-    (row y (start k) (similar_same (start k)) whole_there.0 (home_start k) w₁ n.1 more_parts.0 l₁ m₁) (ap (λ u. is_strict u (repaired f)) g
-    ∙ row rest r (similar_same r) done (subst (IsHome k₀) g (home_go k₀ q k home)) (spelled_rest (tokens_in c) (tokens_in f) w) (subst (λ u. AreNamed u f) g n.2) more_parts.1
+    (row y (start k) (similar_same (start k)) whole_there.0 (start_expected k) w₁ n.1 more_parts.0 l₁ m₁) (ap (λ u. is_strict u (repaired f)) g
+    ∙ row rest r (similar_same r) done (subst (IsExpected k₀) g (go_expected k₀ q k home)) (spelled_rest (tokens_in c) (tokens_in f) w) (subst (λ u. AreNamed u f) g n.2) more_parts.1
     (misses_rest is_ended (ds ++ repeats k b c) es all) (misses_rest is_repeated (ds ++ repeats k b c) es new))
 
 -- no error of the end is counted
@@ -250,4 +251,4 @@ none_counted (e ∷ es) h = by (is_ended e) refl h (none_counted es)
 -- the repaired tree of a text is strict, if no error is of its end or of a repeated name, and no tree is a corner
 pub converse : (f : AnnotatedForest) (faults : List Fault) → ReadsWhole f faults → AreNamed (At p.RootStart) f → AreSpelled (tokens_in f) → ended_count faults ≡ 0
     → Lacks is_repeated faults → has_no_corner NODE_ROOT (repaired f) ≡ true → is_strict_expression (repaired f) ≡ true
-converse f faults h named w e m o = row h (At p.RootStart) (similar_same (At p.RootStart)) refl (home_start NODE_ROOT) w named o (none_counted faults e) m
+converse f faults h named w e m o = row h (At p.RootStart) (similar_same (At p.RootStart)) refl (start_expected NODE_ROOT) w named o (none_counted faults e) m

@@ -10,8 +10,8 @@ use Rattle.rnix_grammar.specs.{Strict.{is_strict_atom, is_grouped, first_stands,
 use Rattle.rnix_grammar.specs.{Corners.{holds_no_lambda, is_corner, has_no_corner}, Names.{is_plain, is_no_or, is_named, is_name_at}, Named.AreSpelled}
 use Rattle.{rnix_grammar.specs.{Named.AreNamed, Operands.IsFollowed}, rnix_lemmas.proofs.{Basics.{true_is_not_false, choice}, LevelLemmas.at_most_true}}
 use Rattle.rnix_lemmas.proofs.{LevelLemmas.{questioned_operand, operand_expression, at_most}, OpeningRows.{HasRow, Opening, by_token, by_branch, by_fault}}
-use Rattle.{rnix_lemmas.proofs.OpeningRows.{opened, live_to, spelled_first, spelled_rest}, rnix_soundness.proofs.FirstTrees.{IsLed, led, token_first, numbered}}
-use Rattle.rnix_soundness.proofs.{FirstTrees.patch_number, RepairedLevels.{is_lambda, second_atom, calls_behind, by_first, simple_expression, named_plain}}
+use Rattle.{rnix_lemmas.proofs.OpeningRows.{opened, live_to, spelled_first, spelled_rest}, rnix_soundness.proofs.RepairedLevels.{IsLed, led, token_first}}
+use Rattle.rnix_soundness.proofs.RepairedLevels.{numbered, patch_number, is_lambda, second_atom, calls_behind, by_first, simple_expression, named_plain}
 use Rattle.rnix_soundness.proofs.{RepairedLevels.{named_no_or, no_lambda, same_least, stands_level}, RepairedStands.suits_named}
 use Rattle.rnix_grammar.specs.Corners as corners
 use Rattle.rnix_grammar.specs.Strict as strict

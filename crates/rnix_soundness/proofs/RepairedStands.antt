@@ -1,29 +1,27 @@
 -- A tree whose errors are repaired may stand where it stands.
-use Rattle.std.proofs.Common.{◌≡◌, Bool, true, false, refl, ap, sym, ◌∙◌, ℕ, Option, Some, None, codes, if◌then◌else◌, ◌&&◌, ◌||◌, nat_eq, nat_le}
-use Rattle.{std.proofs.lemmas.Bool.{and_parts, and_from, or_right}, rnix_kinds.specs.declared.kinds.SyntaxKind.{SyntaxKind, TheVariants.NODE_APPLY}}
+use Rattle.std.proofs.Common.{◌≡◌, Bool, true, false, refl, ap, sym, ◌∙◌, ℕ, Option, Some, None, codes, if◌then◌else◌, ◌||◌, nat_eq, nat_le, List}
+use Rattle.{std.proofs.lemmas.Bool.{or_right}, rnix_kinds.specs.declared.kinds.SyntaxKind.{SyntaxKind, TheVariants.NODE_APPLY}}
 use Rattle.rnix_kinds.{specs.declared.kinds.SyntaxKind.TheVariants.{NODE_BIN_OP, NODE_LITERAL, NODE_PAT_BIND, TOKEN_INTEGER}, proofs.AllKinds.implied}
 use Rattle.{rnix_green.specs.Forest.{Forest, empty, leaf}, rnix_grammar.specs.{declared.{place.Place.Place, symbol.Symbol.Symbol}, Symbols.symbol_at}}
-use Rattle.rnix_grammar.specs.{Symbols.level_in, AnnotatedForest.{Token, AnnotatedForest, blank, one_branch, tokens_in}, Rows.{is_simple, fits, RowState}}
-use Rattle.rnix_grammar.specs.{Rows.{Start, BeforeArgument, At, to, advance, advance_symbol, live, start}, Reports.only_token, TreeLevels.is_or_row}
-use Rattle.rnix_grammar.specs.{Strict.{may_stand, stands_at, stands_in, begins_with_leaf, is_or_name}, Repaired.repaired, Corners.{holds_no_lambda, is_corner}}
-use Rattle.rnix_grammar.specs.{Names.{is_named, is_named_in, is_name_in, is_plain}, Named.{AreSpelled, begins_with_token, is_bind_at, suits}}
-use Rattle.rnix_lemmas.proofs.{Basics.{true_is_not_false, some_same}, NestPlaces.{is_expected, owner}, OpeningRows.{HasRow, IsLeveled, Opening, by_fault}}
-use Rattle.{rnix_lemmas.proofs.{OpeningRows.{opened, live_to, no_closing}, NodeKinds.fits_expression}, rnix_soundness.proofs.FirstTrees.patch_number}
-use Rattle.rnix_soundness.proofs.{RepairedRowStates.IsHome, RepairedLevels.{same_or, simple_expression, named_plain, named_called, no_lambda, same_least}}
-use Rattle.rnix_soundness.proofs.RepairedLevels.{least_in, stands_level}
+use Rattle.rnix_grammar.specs.{Symbols.level_in, AnnotatedForest.{Token, AnnotatedForest, blank, one_branch, tokens_in, Stray, one_fault}, Rows.is_simple}
+use Rattle.rnix_grammar.specs.{Rows.{fits, RowState, Start, BeforeArgument, At, to, advance, advance_symbol, live, start, counts}, Reports.only_token}
+use Rattle.rnix_grammar.specs.{TreeLevels.is_or_row, Strict.{may_stand, stands_at, stands_in, begins_with_leaf, is_or_name}, Repaired.repaired}
+use Rattle.rnix_grammar.specs.{Corners.{holds_no_lambda, is_corner}, Names.{is_named, is_named_in, is_name_in, is_plain}, Named.{AreSpelled, begins_with_token}}
+use Rattle.{rnix_grammar.specs.{Named.{is_bind_at, suits}, Operands.{IsOperand, level_at}}, rnix_lemmas.proofs.Basics.{true_is_not_false, some_same}}
+use Rattle.rnix_lemmas.proofs.{NestPlaces.{is_expected, owner, IsExpected}, OpeningRows.{HasRow, IsLeveled, Opening, by_fault, opened, live_to, no_closing}}
+use Rattle.{rnix_lemmas.proofs.{NodeKinds.fits_expression, LevelLemmas.at_most_true}, rnix_soundness.proofs.RepairedLevels.{patch_number, same_or}}
+use Rattle.rnix_soundness.proofs.RepairedLevels.{simple_expression, named_plain, named_called, no_lambda, same_least, least_in, stands_level}
 use Rattle.rnix_grammar.specs.declared.place.Place.TheVariants as p
 use Rattle.rnix_grammar.specs.declared.symbol.Symbol.TheVariants as s
 
--- where operands of a positive level stand no operand is a lambda, and no level is beyond the tightest
+-- where operands of a positive level stand no operand is a lambda
 abbrev is_bound : SyntaxKind → Option ℕ → Bool
 is_bound k None = true
-is_bound k (Some level) = (nat_eq level 0 || holds_no_lambda k) && nat_le level 16
+is_bound k (Some level) = nat_eq level 0 || holds_no_lambda k
 
-bound_home : (k : SyntaxKind) (x : Place) → IsHome k (At x) → is_bound k (level_in (symbol_at x)) ≡ true
-bound_home k (p.Right level) h = and_from (nat_eq level 0 || holds_no_lambda k) (nat_le level 16)
-    (or_right (nat_eq level 0) (holds_no_lambda k) (implied (is_expected (Some NODE_BIN_OP)) holds_no_lambda refl k h.expected))
-    (and_parts (nat_le 1 level) (nat_le level 16) h.bounded).1
-bound_home k x h = implied (is_expected (owner (At x))) (λ k. is_bound k (level_in (symbol_at x))) refl k h.expected
+bound_home : (k : SyntaxKind) (x : Place) → IsExpected k (At x) → is_bound k (level_in (symbol_at x)) ≡ true
+bound_home k (p.Right level) h = or_right (nat_eq level 0) (holds_no_lambda k) (implied (is_expected (Some NODE_BIN_OP)) holds_no_lambda refl k h)
+bound_home k x h = implied (is_expected (owner (At x))) (λ k. is_bound k (level_in (symbol_at x))) refl k h
 
 -- a node that suits its state is named as it may be there
 pub suits_named : (q : RowState) (k : SyntaxKind) (c : AnnotatedForest) → suits q k c ≡ true → is_named q k c ≡ true
@@ -37,7 +35,7 @@ pub record IsThere (parent : SyntaxKind) (q : RowState) (b : AnnotatedForest) (k
   pub leveled : IsLeveled q b (one_branch k c)
   pub goes : live (advance q k) ≡ true
   pub suited : suits q k c ≡ true
-  pub home : IsHome parent q
+  pub home : IsExpected parent q
   pub no_corner : (if is_corner parent k (repaired c) then false else true) ≡ true
 
 -- where an operand of a level stands what goes on the row fits it, and a name there is plain
@@ -60,7 +58,7 @@ stands_symbol parent x b k c (Some level) e h =
     let f = symbol_fits (symbol_at x) x level k e h.row h.goes in
     let bound : is_bound parent (Some level) ≡ true = sym (ap (is_bound parent) e) ∙ bound_home parent x h.home in
     stands_level level k (repaired c) (fits_expression level k f.0) (named_plain (At x) k h.row h.spelled f.1 (suits_named (At x) k c h.suited))
-    (least_in parent k level h.row h.spelled (and_parts (nat_eq level 0 || holds_no_lambda parent) (nat_le level 16) bound).0 h.no_corner
+    (least_in parent k level h.row h.spelled bound h.no_corner
     (h.leveled.tight level e))
 
 -- an argument
@@ -75,7 +73,7 @@ stands_argument parent b k c h = by (is_or_row (one_branch k c)) refl
     by false e = ap (λ z. if z then true else stands_at 16 k (repaired c)) (same ∙ e)
         ∙ stands_level 16 k (repaired c) (simple_expression k (live_to (is_simple k) (At p.Past) h.goes)) (named_called k h.row h.spelled e (suits_named BeforeArgument k c h.suited))
         (same_least k 16 h.row h.spelled (no_lambda parent k (repaired c)
-        (implied (is_expected (Some NODE_APPLY)) holds_no_lambda refl parent h.home.expected) h.no_corner) (h.leveled.tight 16 (ap (λ z. if z then None else Some 16) e)))
+        (implied (is_expected (Some NODE_APPLY)) holds_no_lambda refl parent h.home) h.no_corner) (h.leveled.tight 16 (ap (λ z. if z then None else Some 16) e)))
 
 -- the name that a pattern is bound to
 same_begin : {c : AnnotatedForest} → HasRow NODE_PAT_BIND (Start NODE_PAT_BIND) blank c → begins_with_leaf (repaired c) ≡ begins_with_token c
@@ -114,11 +112,26 @@ pub stands_there : (parent : SyntaxKind) (q : RowState) (b : AnnotatedForest) (k
 stands_there parent q b NODE_PAT_BIND c h = bind_stands q c h.row h.suited
 stands_there parent q b k c h = may_by q k (repaired c) refl (asked parent q b k c h)
 
--- and so may a number
-pub number_stands : (parent : SyntaxKind) (q : RowState) → IsHome parent q → may_stand q NODE_LITERAL (leaf TOKEN_INTEGER (codes "0") empty) ≡ true
-number_stands parent (At x) h = by (level_in (symbol_at x)) (bound_home parent x h)
+-- a level is at most the tightest
+abbrev is_small : Option ℕ → Bool
+is_small None = true
+is_small (Some level) = nat_le level 16
+
+-- so is that of an operand for which a number stands, and that of each place that is counted
+pub stray_small : (o : Option ℕ) (c : AnnotatedForest) (us : List Token) → IsOperand o (one_fault Stray c) us → is_small o ≡ true
+stray_small None c us h = refl
+stray_small (Some level) c us h = at_most_true level 16 h.0
+
+pub counted_small : (q : RowState) → counts q ≡ true → is_small (level_at q blank) ≡ true
+counted_small (At (p.Right level)) h = absurd (true_is_not_false (sym h))
+counted_small (At _) h = refl
+counted_small _ h = absurd (true_is_not_false (sym h))
+
+-- then a number may stand there
+pub number_stands : (q : RowState) → is_small (level_at q blank) ≡ true → may_stand q NODE_LITERAL (leaf TOKEN_INTEGER (codes "0") empty) ≡ true
+number_stands (At x) h = by (level_in (symbol_at x)) h
   where
-    by : (o : Option ℕ) → is_bound parent o ≡ true → stands_in o NODE_LITERAL (leaf TOKEN_INTEGER (codes "0") empty) ≡ true
-    by None b = refl
-    by (Some level) b = (and_parts (nat_eq level 0 || holds_no_lambda parent) (nat_le level 16) b).1
-number_stands parent _ h = cc
+    by : (o : Option ℕ) → is_small o ≡ true → stands_in o NODE_LITERAL (leaf TOKEN_INTEGER (codes "0") empty) ≡ true
+    by None h = refl
+    by (Some level) h = h
+number_stands _ h = refl

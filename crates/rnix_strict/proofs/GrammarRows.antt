@@ -1,17 +1,18 @@
 -- Rows of the strict grammar that pass the test, tree by tree and form by form.
 use Rattle.std.proofs.Common.{◌≡◌, ℕ, ◌≤◌, Bool, true, false, List, refl, ap, ◌∙◌, arith, sym, ◌&&◌, Some, None, if◌then◌else◌, ◌∷◌, nat_le}
-use Rattle.{std.proofs.lemmas.Bool.{and_from, and_parts}, rnix_kinds.specs.declared.kinds.SyntaxKind.{SyntaxKind, TheVariants.{NODE_IDENT, NODE_PAT_BIND}}}
-use Rattle.rnix_kinds.specs.declared.kinds.SyntaxKind.TheVariants.{TOKEN_IDENT, TOKEN_INTERPOL_END, TOKEN_R_BRACK, NODE_APPLY, NODE_ATTRPATH}
+use Rattle.{std.proofs.lemmas.Bool.{and_from, and_parts, Decides.nat_tests}, rnix_kinds.specs.declared.kinds.SyntaxKind.{SyntaxKind, TheVariants.NODE_IDENT}}
+use Rattle.rnix_kinds.specs.declared.kinds.SyntaxKind.TheVariants.{NODE_PAT_BIND, TOKEN_IDENT, TOKEN_INTERPOL_END, TOKEN_R_BRACK, NODE_APPLY, NODE_ATTRPATH}
 use Rattle.rnix_kinds.specs.declared.kinds.SyntaxKind.TheVariants.{NODE_ATTRPATH_VALUE, NODE_BIN_OP, NODE_HAS_ATTR, NODE_INHERIT, NODE_LAMBDA, NODE_PAT_ENTRY}
-use Rattle.rnix_kinds.{specs.{declared.kinds.SyntaxKind.TheVariants.NODE_SELECT, SyntaxKind.is_token}, proofs.AllKinds.implied}
+use Rattle.rnix_kinds.{specs.{declared.kinds.SyntaxKind.TheVariants.{NODE_SELECT, NODE_DYNAMIC, NODE_PATTERN}, SyntaxKind.is_token}, proofs.AllKinds.implied}
 use Rattle.{rnix_green.specs.Forest.{Forest, empty, leaf, node}, rnix_grammar.specs.{declared.place.Place.Place, Tables.{is_cur_pos, is_or, is_among}}}
 use Rattle.rnix_grammar.specs.{TokenKinds.is_path_piece, Symbols.{symbol_at, level_in}, Rows.{is_expression, is_infix, is_plain_literal, is_attr, fits}}
 use Rattle.rnix_grammar.specs.Rows.{RowState, Start, BeforeArgument, At, advance_symbol, advance, to, live, whole, start, is_atom, is_simple, BeforeOperator}
 use Rattle.rnix_grammar.specs.{Rows.{BeforeDot, BeforeQuestion}, Strict.{only_text, is_or_name, stands_at, stands_in, may_stand, is_grouped, is_strict}}
 use Rattle.rnix_grammar.specs.{Strict.{is_named, first_stands, is_strict_atom, entry_text, are_entries_new}, Derivation.has_tokens_alone, Levels.binding_power}
-use Rattle.{rnix_grammar.specs.{Levels.{left_of, right_of}, Grammar.{name, PatternEnd, pattern_end, bound_behind}}, rnix_lemmas.proofs.Basics.true_is_not_false}
-use Rattle.rnix_lemmas.proofs.{Basics.choice, StrictParts.{standing, stands_so, left_least, atom_level, atom_stands}, LevelLemmas.{atom_simple, atom_fits}}
-use Rattle.rnix_lemmas.proofs.{LevelLemmas.{operates, at_most_true, fits_looser}, NodeKinds.fits_expression}
+use Rattle.rnix_grammar.specs.{Levels.{left_of, right_of}, Grammar.{name, PatternEnd, pattern_end, bound_behind}, Corners.{has_no_corner, holds_no_lambda}}
+use Rattle.{rnix_grammar.specs.Corners.is_corner, rnix_lemmas.proofs.{Basics.{true_is_not_false, choice}, StrictParts.{standing, stands_so, left_least}}}
+use Rattle.rnix_lemmas.proofs.{StrictParts.{atom_level, atom_stands}, LevelLemmas.{atom_simple, atom_fits, operates, at_most_true, fits_looser}}
+use Rattle.rnix_lemmas.proofs.NodeKinds.{fits_expression}
 use Rattle.rnix_grammar.specs.declared.place.Place.TheVariants as p
 use Rattle.rnix_grammar.specs.declared.symbol.Symbol.TheVariants as s
 
@@ -55,15 +56,27 @@ pub may_attr : (x : Place) (k : SyntaxKind) (c : Forest) → level_in (symbol_at
 may_attr x NODE_PAT_BIND c e h = absurd (true_is_not_false (sym h))
 may_attr x k c e h = ap (λ o. stands_in o k c) e
 
--- from a state on the row passes the test, and its leaves are tokens
-pub record Passes (q : RowState) (f : Forest) : Type 0 where
+-- where no lambda stands below some nodes, no tree of a level is a corner
+pub no_corner : (parent k : SyntaxKind) (level : ℕ) (c : Forest) → (if holds_no_lambda parent then nat_le 1 level else true) ≡ true → stands_at level k c ≡ true
+    → (if is_corner parent k c then false else true) ≡ true
+no_corner parent NODE_LAMBDA level c e h = by (holds_no_lambda parent) e
+  where
+    by : (w : Bool) → (if w then nat_le 1 level else true) ≡ true → (if w then false else true) ≡ true
+    by true e = absurd (grind (arith, nat_tests, e, h))
+    by false e = refl
+no_corner parent NODE_DYNAMIC level c e h = absurd (true_is_not_false (sym h))
+no_corner parent _ level c e h = refl
+
+-- from a state on the row of a node passes the test, its leaves are tokens, and it has no corner
+pub record Passes (parent : SyntaxKind) (q : RowState) (f : Forest) : Type 0 where
   pub strict : is_strict q f ≡ true
   pub tokens : has_tokens_alone f ≡ true
+  pub corner : has_no_corner parent f ≡ true
 
 -- the children of a node pass it
 pub record Good (k : SyntaxKind) (c : Forest) : Type 0 where
   pub grouped : is_grouped k c ≡ true
-  pub row : Passes (start k) c
+  pub row : Passes k (start k) c
 
 -- a node that stands at a level
 pub record StandsAt (level : ℕ) (k : SyntaxKind) (c : Forest) : Type 0 where
@@ -72,46 +85,52 @@ pub record StandsAt (level : ℕ) (k : SyntaxKind) (c : Forest) : Type 0 where
   pub good : Good k c
 
 -- a node whose row passes
-pub good : {k : SyntaxKind} {c : Forest} → is_grouped k c ≡ true → Passes (start k) c → Good k c
+pub good : {k : SyntaxKind} {c : Forest} → is_grouped k c ≡ true → Passes k (start k) c → Good k c
 good g h = record { grouped = g; row = h }
 
 -- and which stands at a level
 pub stands : {level : ℕ} {k : SyntaxKind} {c : Forest} → fits level k ≡ true → stands_at level k c ≡ true → is_grouped k c ≡ true
-    → Passes (start k) c → StandsAt level k c
+    → Passes k (start k) c → StandsAt level k c
 stands f s g h = record { fit = f; stands = s; good = good g h }
 
 -- a row that may end
-pub passes_end : {q : RowState} → whole q ≡ true → Passes q empty
-passes_end h = record { strict = h; tokens = refl }
+pub passes_end : {parent : SyntaxKind} {q : RowState} → whole q ≡ true → Passes parent q empty
+passes_end h = record { strict = h; tokens = refl; corner = refl }
 
 -- a row that begins with a leaf, behind which it stands at a state
-pub passes_leaf_to : (q r : RowState) (k : SyntaxKind) {t : List ℕ} {f : Forest} → advance q k ≡ r → live r ≡ true → is_token k ≡ true → Passes r f → Passes q (leaf k t f)
+pub passes_leaf_to : {parent : SyntaxKind} (q r : RowState) (k : SyntaxKind) {t : List ℕ} {f : Forest} → advance q k ≡ r → live r ≡ true → is_token k ≡ true → Passes parent r f
+    → Passes parent q (leaf k t f)
 passes_leaf_to q r k {t = t} {f = f} e l i h = record {
   strict = ap (λ x. live x && is_strict x f) e ∙ ap (λ w. w && is_strict r f) l ∙ h.strict;
   tokens = ap (λ w. w && has_tokens_alone f) i ∙ h.tokens;
+  corner = h.corner;
 }
 
-pub passes_leaf : {q : RowState} {k : SyntaxKind} {t : List ℕ} {f : Forest} → live (advance q k) ≡ true → is_token k ≡ true → Passes (advance q k) f → Passes q (leaf k t f)
+pub passes_leaf : {parent : SyntaxKind} {q : RowState} {k : SyntaxKind} {t : List ℕ} {f : Forest} → live (advance q k) ≡ true → is_token k ≡ true → Passes parent (advance q k) f
+    → Passes parent q (leaf k t f)
 passes_leaf {q = q} {k = k} l i h = passes_leaf_to q (advance q k) k refl l i h
 
 -- a row that begins with a node
-pub passes_node_to : (q r : RowState) (k : SyntaxKind) {c f : Forest} → advance q k ≡ r → live r ≡ true → may_stand q k c ≡ true → Good k c → Passes r f → Passes q (node k c f)
-passes_node_to q r k {c = c} {f = f} e l m g h =
+pub passes_node_to : {parent : SyntaxKind} (q r : RowState) (k : SyntaxKind) {c f : Forest} → advance q k ≡ r → live r ≡ true → may_stand q k c ≡ true
+    → (if is_corner parent k c then false else true) ≡ true → Good k c → Passes parent r f → Passes parent q (node k c f)
+passes_node_to q r k {c = c} {f = f} e l m n g h =
     let t : live (advance q k) ≡ true = ap live e ∙ l in
     record {
       strict = and_from _ _ t (and_from _ _ m (and_from _ _ g.grouped (and_from _ _ g.row.strict (ap (λ x. is_strict x f) e ∙ h.strict))));
       tokens = and_from _ _ g.row.tokens h.tokens;
+      corner = and_from _ _ n (and_from _ _ g.row.corner h.corner);
     }
 
-pub passes_node : {q : RowState} {k : SyntaxKind} {c f : Forest} → live (advance q k) ≡ true → may_stand q k c ≡ true → Good k c → Passes (advance q k) f
-    → Passes q (node k c f)
-passes_node {q = q} {k = k} l m g h = passes_node_to q (advance q k) k refl l m g h
+pub passes_node : {parent : SyntaxKind} {q : RowState} {k : SyntaxKind} {c f : Forest} → live (advance q k) ≡ true → may_stand q k c ≡ true
+    → (if is_corner parent k c then false else true) ≡ true → Good k c → Passes parent (advance q k) f → Passes parent q (node k c f)
+passes_node {q = q} {k = k} l m n g h = passes_node_to q (advance q k) k refl l m n g h
 
 -- a row that begins with an operand
-pub passes_operand : {x behind : Place} {level : ℕ} {counted : Bool} {k : SyntaxKind} {c f : Forest} → symbol_at x ≡ s.Operand level counted behind
-    → StandsAt level k c → Passes (At behind) f → Passes (At x) (node k c f)
-passes_operand {x = x} {behind = behind} {level = level} {k = k} {c = c} e w h =
-    passes_node_to (At x) (At behind) k (ap (λ z. advance_symbol z x k) e ∙ ap (λ z. to z (At behind)) w.fit) refl (may_operand x level k c (ap level_in e) w.stands) w.good h
+pub passes_operand : {parent : SyntaxKind} {x behind : Place} {level : ℕ} {counted : Bool} {k : SyntaxKind} {c f : Forest} → symbol_at x ≡ s.Operand level counted behind
+    → (if holds_no_lambda parent then nat_le 1 level else true) ≡ true → StandsAt level k c → Passes parent (At behind) f → Passes parent (At x) (node k c f)
+passes_operand {parent = parent} {x = x} {behind = behind} {level = level} {k = k} {c = c} e n w h =
+    passes_node_to (At x) (At behind) k (ap (λ z. advance_symbol z x k) e ∙ ap (λ z. to z (At behind)) w.fit) refl (may_operand x level k c (ap level_in e) w.stands)
+    (no_corner parent k level c n w.stands) w.good h
 
 -- what an atom, an attribute, a parameter, an entry and the rest of a pattern are to the test
 pub record PassesAtom (k : SyntaxKind) (c : Forest) : Type 0 where
@@ -119,16 +138,18 @@ pub record PassesAtom (k : SyntaxKind) (c : Forest) : Type 0 where
   pub good : Good k c
 
 -- a node whose row passes, and which is an atom
-pub atom_row : {k : SyntaxKind} {c : Forest} → is_strict_atom k c ≡ true → is_grouped k c ≡ true → Passes (start k) c → PassesAtom k c
+pub atom_row : {k : SyntaxKind} {c : Forest} → is_strict_atom k c ≡ true → is_grouped k c ≡ true → Passes k (start k) c → PassesAtom k c
 atom_row a g h = record { atom = a; good = good g h }
 
 pub record PassesAttr (k : SyntaxKind) (c : Forest) : Type 0 where
   pub attr : is_attr k ≡ true
+  pub corner : (parent : SyntaxKind) → (if is_corner parent k c then false else true) ≡ true
   pub good : Good k c
 
 pub record PassesParameter (k : SyntaxKind) (c : Forest) : Type 0 where
   pub goes : advance (start NODE_LAMBDA) k ≡ At p.LambdaColon
   pub may : may_stand (start NODE_LAMBDA) k c ≡ true
+  pub corner : (if is_corner NODE_LAMBDA k c then false else true) ≡ true
   pub good : Good k c
 
 pub record PassesFormal (x : List ℕ) (c : Forest) : Type 0 where
@@ -136,13 +157,13 @@ pub record PassesFormal (x : List ℕ) (c : Forest) : Type 0 where
   pub good : Good NODE_PAT_ENTRY c
 
 pub record PassesFormals (bound : Bool) (names : List (List ℕ)) (f : Forest) : Type 0 where
-  pub first : Passes (At (p.PatternStart bound)) f
-  pub inside : Passes (At (p.PatternInside bound)) f
+  pub first : Passes NODE_PATTERN (At (p.PatternStart bound)) f
+  pub inside : Passes NODE_PATTERN (At (p.PatternInside bound)) f
   pub new : are_entries_new names f ≡ true
 
 pub record PassesNames (f : Forest) : Type 0 where
-  pub source : Passes (At p.InheritStart) f
-  pub names : Passes (At p.InheritNames) f
+  pub source : Passes NODE_INHERIT (At p.InheritStart) f
+  pub names : Passes NODE_INHERIT (At p.InheritNames) f
 
 -- entries may stand at a place, which they do not leave
 pub record Gathers (x : Place) : Type 0 where
@@ -198,17 +219,20 @@ pub stands_expression : {n : ℕ} {k : SyntaxKind} {c : Forest} → StandsAt n k
 stands_expression {n = n} {k = k} h = fits_expression n k h.fit
 
 -- rows that begin with an atom, a called expression, an operand
-pub atom_first : {k : SyntaxKind} {a f : Forest} → PassesAtom k a → Passes BeforeDot f → Passes (start NODE_SELECT) (node k a f)
+pub atom_first : {k : SyntaxKind} {a f : Forest} → PassesAtom k a → Passes NODE_SELECT BeforeDot f → Passes NODE_SELECT (start NODE_SELECT) (node k a f)
 atom_first {k = k} {a = a} h r =
-    passes_node_to (start NODE_SELECT) BeforeDot k (ap (λ w. to w BeforeDot) (atom_kind k a h.atom)) refl (may_start NODE_SELECT k a (atom_level k a h.atom).2) h.good r
+    passes_node_to (start NODE_SELECT) BeforeDot k (ap (λ w. to w BeforeDot) (atom_kind k a h.atom)) refl (may_start NODE_SELECT k a (atom_level k a h.atom).2)
+    (no_corner NODE_SELECT k 16 a refl (atom_stands_at h).stands) h.good r
 
-pub called_first : {k : SyntaxKind} {a f : Forest} → is_simple k ≡ true → is_expression k ≡ true → Good k a → Passes BeforeArgument f → Passes (start NODE_APPLY) (node k a f)
-called_first {k = k} {a = a} s e g r = passes_node_to (start NODE_APPLY) BeforeArgument k (ap (λ w. to w BeforeArgument) s) refl (may_start NODE_APPLY k a e) g r
+pub called_first : {level : ℕ} {k : SyntaxKind} {a f : Forest} → is_simple k ≡ true → (if holds_no_lambda NODE_APPLY then nat_le 1 level else true) ≡ true → StandsAt level k a
+    → Passes NODE_APPLY BeforeArgument f → Passes NODE_APPLY (start NODE_APPLY) (node k a f)
+called_first {level = level} {k = k} {a = a} s n w r =
+    passes_node_to (start NODE_APPLY) BeforeArgument k (ap (λ w. to w BeforeArgument) s) refl (may_start NODE_APPLY k a (stands_expression w)) (no_corner NODE_APPLY k level a n w.stands) w.good r
 
-pub select_good : {k : SyntaxKind} {a f : Forest} → PassesAtom k a → Passes BeforeDot f → StandsAt 16 NODE_SELECT (node k a f)
+pub select_good : {k : SyntaxKind} {a f : Forest} → PassesAtom k a → Passes NODE_SELECT BeforeDot f → StandsAt 16 NODE_SELECT (node k a f)
 select_good h r = stands refl refl h.atom (atom_first h r)
 
-pub attr_good : {f : Forest} → Passes (start NODE_ATTRPATH) f → Good NODE_ATTRPATH f
+pub attr_good : {f : Forest} → Passes NODE_ATTRPATH (start NODE_ATTRPATH) f → Good NODE_ATTRPATH f
 attr_good h = good refl h
 
 pub apply_or_good : {k : SyntaxKind} {a : Forest} {t : List ℕ} → PassesAtom k a → is_or t ≡ true → StandsAt 16 NODE_APPLY (node k a (name t empty))
@@ -217,8 +241,8 @@ apply_or_good {k = k} {a = a} {t = t} h e = record {
   stands = ap (λ w. nat_le 16 (if w then 16 else 15)) e;
   good = record {
     grouped = ap (λ w. if w then is_strict_atom k a else first_stands 15 (node k a (name t empty))) e ∙ h.atom;
-    row = called_first (atom_simple k (atom_kind k a h.atom)) (atom_level k a h.atom).2 h.good
-        (passes_node refl (ap (λ w. if w then true else stands_at 16 NODE_IDENT (leaf TOKEN_IDENT t empty)) e) name_good (passes_end refl));
+    row = called_first (atom_simple k (atom_kind k a h.atom)) refl (atom_stands_at h)
+        (passes_node refl (ap (λ w. if w then true else stands_at 16 NODE_IDENT (leaf TOKEN_IDENT t empty)) e) refl name_good (passes_end refl));
   };
 }
 
@@ -228,19 +252,19 @@ apply_good {j = j} {k = k} {a = a} {b = b} h i = record {
   stands = choice (λ n. nat_le 15 n ≡ true) (is_or_name k b) refl refl;
   good = record {
     grouped = ap (λ w. if w then is_strict_atom j a else stands_at 15 j a) (stands_no_or 16 k b i.stands) ∙ h.stands;
-    row = called_first h.fit (stands_expression h) h.good
-        (passes_node_to BeforeArgument (At p.Past) k (ap (λ w. to w (At p.Past)) i.fit) refl (may_argument k b i.stands) i.good (passes_end refl));
+    row = called_first h.fit refl h (passes_node_to BeforeArgument (At p.Past) k (ap (λ w. to w (At p.Past)) i.fit) refl (may_argument k b i.stands)
+        (no_corner NODE_APPLY k 16 b refl i.stands) i.good (passes_end refl));
   };
 }
 
-pub has_good : {k : SyntaxKind} {a f : Forest} → StandsAt 13 k a → Passes BeforeQuestion f → StandsAt 13 NODE_HAS_ATTR (node k a f)
+pub has_good : {k : SyntaxKind} {a f : Forest} → StandsAt 13 k a → Passes NODE_HAS_ATTR BeforeQuestion f → StandsAt 13 NODE_HAS_ATTR (node k a f)
 has_good {k = k} {a = a} h r = record {
   fit = refl;
   stands = refl;
   good = record {
     grouped = h.stands;
     row = passes_node_to (start NODE_HAS_ATTR) BeforeQuestion k (ap (λ w. to w BeforeQuestion) h.fit) refl
-        (may_start NODE_HAS_ATTR k a (stands_expression h)) h.good r;
+        (may_start NODE_HAS_ATTR k a (stands_expression h)) (no_corner NODE_HAS_ATTR k 13 a refl h.stands) h.good r;
   };
 }
 
@@ -253,16 +277,17 @@ binary_good {o = o} {j = j} {a = a} h l r = record {
     grouped = l.stands;
     row = passes_node_to (start NODE_BIN_OP) BeforeOperator j
         (ap (λ w. to w BeforeOperator) (fits_looser 1 (left_of o) j (omega (arith, left_least o h, (operates o h).positive)) l.fit)) refl
-        (may_start NODE_BIN_OP j a (stands_expression l)) l.good
+        (may_start NODE_BIN_OP j a (stands_expression l))
+        (no_corner NODE_BIN_OP j (left_of o) a (at_most_true 1 (left_of o) (omega (arith, left_least o h, (operates o h).positive))) l.stands) l.good
         (passes_leaf_to BeforeOperator (At (p.Right (right_of o))) o (ap (λ w. to w (At (p.Right (right_of o)))) h) refl (infix_token o h)
-        (passes_operand refl r (passes_end refl)));
+        (passes_operand refl (implied is_infix (λ i. nat_le 1 (right_of i)) refl o h) r (passes_end refl)));
   };
 }
 
-pub pattern_end_passes : {bound : Bool} {f : Forest} → PatternEnd bound f → Passes (At (p.PatternEnd bound)) f
+pub pattern_end_passes : {bound : Bool} {f : Forest} → PatternEnd bound f → Passes NODE_PATTERN (At (p.PatternEnd bound)) f
 pattern_end_passes pattern_end = passes_end refl
 pattern_end_passes (bound_behind {t = t} h) =
-    passes_node refl refl (good (no_or t h) (passes_leaf refl refl (passes_node refl refl name_good (passes_end refl)))) (passes_end refl)
+    passes_node refl refl refl (good (no_or t h) (passes_leaf refl refl (passes_node refl refl refl name_good (passes_end refl)))) (passes_end refl)
 
 pub end_new : {bound : Bool} {f : Forest} (names : List (List ℕ)) → PatternEnd bound f → are_entries_new names f ≡ true
 end_new names pattern_end = refl
