@@ -1,13 +1,14 @@
 -- How an operand begins, on what the reader holds.
 use Rattle.std.proofs.Common.{◌≡◌, ◌+◌, ℕ, Bool, suc, true, false, if◌then◌else◌, nat_le, List, [], ◌∷◌, refl, ap, ◌∙◌, add-one}
 use Rattle.rnix_kinds.specs.declared.kinds.SyntaxKind.{SyntaxKind, TheVariants.{NODE_ERROR, NODE_IDENT, NODE_LAMBDA, NODE_IDENT_PARAM, NODE_PATTERN, NODE_PAT_BIND, NODE_LEGACY_LET}}
-use Rattle.rnix_grammar.specs.{declared.{place.Place.Place, begin.Begin.Begin}, Tables.depth_limit, Fault.{Fault, too_deep}, Layout.{items, from_item, tail_of}, Reports.report}
+use Rattle.rnix_grammar.specs.{declared.{place.Place.Place, begin.Begin.Begin, until.Until.TheVariants.End}, Tables.depth_limit, Fault.{Fault, too_deep}, Layout.{items, from_item, tail_of}, Reports.report}
 use Rattle.rnix_grammar.specs.AnnotatedForest.{Token, Stray, TooDeep, AnnotatedForest, head_of, end_from, blank, ◌⊕◌, one_branch, one_fault}
 use Rattle.rnix_grammar.specs.Machine.{Node, Operand, Frame, put, opened, ate, leaf, behind, reach, machine, begun, operand_on, reading, limited, run_row, run_rest}
 use Rattle.rnix_reader.specs.{declared.mark.Mark.Mark, State.{State, eaten, bumped, started_here, started, ended, failed}, Flat.{flat, flat_with}}
 use Rattle.rnix_reader.specs.Steps.{node_here, noded, node_begun, operand_here, operand_begun, lambda_begun, leafed, parameter_read, binding_read, begins_with}
 use Rattle.rnix_reader.{specs.{Performed.{begun_as, operand_with, operand_read, expression_read}, Reported.limit_reported}}
-use Rattle.rnix_reader.proofs.FlatLemmas.{flat-eaten, flat-settled, flat-run, flat-bumped, flat-next, flat-started, flat-first, flat-closed, flat-noded, flat-operand}
+use Rattle.rnix_reader.proofs.RunLemmas.{run_all}
+use Rattle.rnix_reader.proofs.FlatLemmas.{flat-eaten, flat-settled, flat-over, flat-bumped, flat-next, flat-started, flat-first, flat-closed, flat-noded, flat-operand}
 use Rattle.rnix_grammar.specs.declared.place.Place.TheVariants as p
 use Rattle.rnix_grammar.specs.declared.begin.Begin.TheVariants as b
 
@@ -94,7 +95,7 @@ module _ (f : Frame) (fs : List Frame) (ts : List Token) (n : ℕ) (es : List Fa
   deep =
       let run : List Token = items ts in
       let g : Frame = put f.place (ate true f.row ts ⊕ one_fault TooDeep (run_row true run ts)) f in
-      ap (λ x. failed too_deep (eaten x)) (flat-run _ TooDeep run f fs ts n es)
+      ap (λ x. failed too_deep (eaten x)) (flat-over _ TooDeep End run f fs ts n es (run_all run))
       ∙ ap (failed too_deep) (flat-eaten _ g fs (run_rest true run ts) (end_from n run) es)
 
   -- an operand is read as the machine's, counted or not

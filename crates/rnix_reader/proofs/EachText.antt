@@ -5,7 +5,7 @@ use Rattle.rnix_grammar.specs.{declared.action.Action.Action, Fault.Fault, Annot
 use Rattle.rnix_grammar.specs.{Actions.action_at, Sorts.{sort_of, AreKept}, Machine.{Frame, Machine, machine, begins, ate, perform, rest as here}}
 use Rattle.{rnix_grammar.specs.{Machine.then as further, Document.IsRead, Allowed.Allowed}, rnix_lemmas.proofs.Basics.true_is_not_false}
 use Rattle.rnix_lemmas.proofs.{PlaceLemmas.{head_root, root_alone, root_lowest, step_kept, begins_kept}, AllowedLemmas.allowed}
-use Rattle.rnix_reader.{specs.{Performed.is_finish, Holds.IsThrough}, proofs.{SortLemmas.is_root, DocumentLemmas.read_of, RunLemmas.no_items, WorkLemmas.{cost, cost_of, perform_less}}}
+use Rattle.rnix_reader.{specs.{Performed.is_finish, Holds.IsThrough}, proofs.{DocumentLemmas.read_of, RunLemmas.no_items, WorkLemmas.{cost, cost_of, perform_less}}}
 use Rattle.rnix_grammar.specs.declared.action.Action.TheVariants as a
 
 finish_is : (action : Action) → is_finish action ≡ true → action ≡ a.Finish
@@ -43,7 +43,7 @@ through (suc c) (f ∷ fs) ts n es l k = by (λ hs us m gs x y. through c hs us 
           nothing = no_items (items ts) ends.1;
         }
     by again false e =
-        let less : cost_of next < cost (items ts) (f ∷ fs) = perform_less action f fs ts n es (λ x. ap is_root (root_lowest f.head f.place fs k x).1) may e in
+        let less : cost_of next < cost (items ts) (f ∷ fs) = perform_less action f fs ts n es k may e in
         let rest : IsThrough next =
         again next.frames next.left next.reached next.faults (omega (arith, less, l)) (step_kept true (machine (f ∷ fs) ts n es) k) in
         record { last = rest.last; runs = further rest.runs; root = rest.root; alone = rest.alone; head = rest.head; place = rest.place; nothing = rest.nothing }

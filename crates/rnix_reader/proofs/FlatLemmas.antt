@@ -1,12 +1,12 @@
 -- The reader's single steps on what it holds of a machine.
 use Rattle.{std.proofs.Common.{◌≡◌, ℕ, true, false, List, [], ◌∷◌, ◌++◌, refl, ap, sym, ◌∙◌}, rnix_kinds.specs.declared.kinds.SyntaxKind.{SyntaxKind, TheVariants.NODE_ERROR}}
 use Rattle.rnix_green.{specs.{Forest.{Forest, join, tree_count}, Draft.wrapped-join, ForestCode.join_empty}, proofs.ForestLemmas.join_assoc}
-use Rattle.rnix_grammar.specs.{declared.place.Place.Place, Fault.Fault, Layout.{from_item, trivia_before, tail_of, with_trivia}}
+use Rattle.rnix_grammar.specs.{declared.{place.Place.Place, until.Until.Until}, Fault.Fault, Missing.run_of, Layout.{items, from_item, trivia_before, tail_of, with_trivia}}
 use Rattle.rnix_grammar.specs.AnnotatedForest.{Token, Note, AnnotatedForest, blank, ◌⊕◌, one_branch, one_fault, row_of, forget, end_from}
 use Rattle.rnix_grammar.specs.Machine.{Head, Node, Second, Operand, Frame, put, opened, ate, leaf, leaf_in, behind, reach, end_of, made, run_row, run_rest, machine, closed}
-use Rattle.{rnix_grammar.specs.Sorts.{Loose, sort_of, sort_of_head, StandsOn}, rnix_lemmas.proofs.{Basics.true_is_not_false, LayoutLemmas.from_item-from_item, AnnotatedForestLemmas.forget-⊕}}
-use Rattle.rnix_reader.specs.{declared.mark.Mark.Mark, State.{eaten, taken, bumped, skipped, started_here, started, started_at, ended, failed, marked}}
-use Rattle.rnix_reader.{specs.{Flat.{trees_of, marks_of, mark_at, flat, flat_with, popped}, Steps.{node_here, operand_here, leafed}}, proofs.SortLemmas.{is_loose, is_root, node_loose, head_loose}}
+use Rattle.{rnix_grammar.specs.Sorts.{Loose, sort_of, sort_of_head, StandsOn}, rnix_lemmas.proofs.{Basics.true_is_not_false, LayoutLemmas.{from_item-from_item, items-from_item}, AnnotatedForestLemmas.forget-⊕}}
+use Rattle.rnix_reader.specs.{declared.mark.Mark.Mark, State.{State, eaten, taken, bumped, skipped, started_here, started, started_at, ended, failed, marked}}
+use Rattle.rnix_reader.{specs.{Flat.{trees_of, marks_of, mark_at, flat, flat_with, popped}, Steps.{node_here, operand_here, leafed}, Reported.error_over}, proofs.SortLemmas.{is_loose, is_root, node_loose, head_loose}}
 use Rattle.rnix_reader.proofs.StateLemmas.{state_is, eaten-settled}
 
 -- more in a row
@@ -88,36 +88,38 @@ unfolding failed
 closed_failed e f [] ts n es = refl
 closed_failed e f (g ∷ fs) ts n es = refl
 
-leaf_here : (ms : List Mark) (k : SyntaxKind) (f : Frame) (fs : List Frame) (ts : List Token) (n : ℕ) (es : List Fault)
-    → ended (bumped k (started_here k (flat_with ms (machine (f ∷ fs) (from_item ts) n es))))
-    ≡ flat_with ms (machine (put f.place (f.row ⊕ one_branch k (leaf true k ts)) f ∷ fs) (behind true ts) (reach true n ts) es)
-leaf_here ms k f fs ts n es =
-    let node : Frame = opened (Node k) f.place f.depth blank in
-    ap (λ x. ended (bumped k x)) (flat-started ms k f.place f.depth (f ∷ fs) (from_item ts) n es) ∙ ap ended (flat-next ms k node (f ∷ fs) ts n es)
-    ∙ flat-closed ms (Node k) f.place f.depth (leaf true k ts) f fs (behind true ts) (reach true n ts) es (node_loose k)
+leaf_here : (ms : List Mark) (k : SyntaxKind) (f : Frame) (fs : List Frame) (us : List Token) (n : ℕ) (es : List Fault)
+    → ended (taken k (started_here k (flat_with ms (machine (f ∷ fs) us n es))))
+    ≡ flat_with ms (machine (put f.place (f.row ⊕ one_branch k (leaf_in k us)) f ∷ fs) (tail_of us) (end_of n us) es)
+leaf_here ms k f fs us n es =
+    ap (λ x. ended (taken k x)) (flat-started ms k f.place f.depth (f ∷ fs) us n es)
+    ∙ ap ended (flat-taken ms k (opened (Node k) f.place f.depth blank) (f ∷ fs) us n es)
+    ∙ flat-closed ms (Node k) f.place f.depth (leaf_in k us) f fs (tail_of us) (end_of n us) es (node_loose k)
 
 -- a node over the next item
 pub flat-leafed : (ms : List Mark) (k : SyntaxKind) (f : Frame) (fs : List Frame) (ts : List Token) (n : ℕ) (es : List Fault)
     → leafed k (flat_with ms (machine (f ∷ fs) ts n es))
     ≡ flat_with ms (machine (put f.place (ate true f.row ts ⊕ one_branch k (leaf true k ts)) f ∷ fs) (behind true ts) (reach true n ts) es)
 flat-leafed ms k f fs ts n es =
-    ap (λ x. ended (bumped k (started_here k x))) (flat-eaten ms f fs ts n es) ∙ leaf_here ms k (put f.place (ate true f.row ts) f) fs ts n es
+    ap (λ x. ended (taken k (started_here k x))) (flat-eaten ms f fs ts n es) ∙ leaf_here ms k (put f.place (ate true f.row ts) f) fs (from_item ts) n es
 
 -- behind the trivia it stands there alone
 pub flat-first : (ms : List Mark) (k : SyntaxKind) (f : Frame) (fs : List Frame) (ts : List Token) (n : ℕ) (es : List Fault)
     → leafed k (flat_with ms (machine (f ∷ fs) (from_item ts) n es))
     ≡ flat_with ms (machine (put f.place (f.row ⊕ one_branch k (leaf true k ts)) f ∷ fs) (behind true ts) (reach true n ts) es)
-flat-first ms k f fs ts n es = ap (λ x. ended (bumped k (started_here k x))) (flat-settled ms (f ∷ fs) ts n es) ∙ leaf_here ms k f fs ts n es
+flat-first ms k f fs ts n es = ap (λ x. ended (taken k (started_here k x))) (flat-settled ms (f ∷ fs) ts n es) ∙ leaf_here ms k f fs (from_item ts) n es
 
 -- an error node over a run
-pub flat-run : (ms : List Mark) (note : Note) (run : List Token) (f : Frame) (fs : List Frame) (ts : List Token) (n : ℕ) (es : List Fault)
-    → ended (skipped run (started NODE_ERROR (flat_with ms (machine (f ∷ fs) ts n es))))
+pub flat-over : (ms : List Mark) (note : Note) (until : Until) (run : List Token) (f : Frame) (fs : List Frame) (ts : List Token) (n : ℕ) (es : List Fault) → run_of until (items ts) ≡ run
+    → error_over until (flat_with ms (machine (f ∷ fs) ts n es))
     ≡ flat_with ms (machine (put f.place (ate true f.row ts ⊕ one_fault note (run_row true run ts)) f ∷ fs) (run_rest true run ts) (end_from n run) es)
-unfolding ended skipped started_at
-flat-run ms note run f fs ts n es =
+unfolding ended skipped started_at eaten
+flat-over ms note until run f fs ts n es r =
     let row : AnnotatedForest = ate true f.row ts in
     let made : Forest = forget (with_trivia (row_of run) (from_item ts)) in
-    ap (λ x. ended (skipped run (started_here NODE_ERROR x))) (flat-eaten ms f fs ts n es)
+    let s : State = flat_with ms (machine (f ∷ fs) ts n es) in
+    ap (λ x. ended (skipped x (started NODE_ERROR s))) (ap (run_of until) (items-from_item ts) ∙ r)
+    ∙ ap (λ x. ended (skipped run (started_here NODE_ERROR x))) (flat-eaten ms f fs ts n es)
     ∙ state_is refl (wrapped-join NODE_ERROR (join (trees_of fs) (forget row)) made ∙ grown (trees_of fs) row (one_fault note (run_row true run ts))) refl refl refl refl
 
 -- an operand becomes part of a node

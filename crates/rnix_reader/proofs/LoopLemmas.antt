@@ -7,7 +7,7 @@ use Rattle.rnix_lemmas.proofs.{Basics.{not_nil, none_right}, PlaceLemmas.{step_k
 use Rattle.rnix_reader.specs.{declared.{mark.Mark.Mark, names.Names.Names}, Placed.AreInOrder, Names.entries_in, State.{State, with_marks, eaten, ended}}
 use Rattle.rnix_reader.specs.{Flat.{marks_of, mark_of, flat, flat_with, popped}, Holds.{IsGoing, IsReadTo, work}, Performed.{Performed, NamesAfter, IsReady, action_of, is_finish}}
 use Rattle.rnix_reader.proofs.{StateLemmas.state_is, SortLemmas.head_sort, FlatLemmas.flat-eaten, StepLemmas.{ready, performs}, GoesLemmas.Goes, PerformLemmas.perform_goes, RunLemmas.no_items}
-use Rattle.rnix_reader.proofs.WorkLemmas.{work_is, perform_less, fit_bottom}
+use Rattle.rnix_reader.proofs.WorkLemmas.{work_is, perform_less}
 use Rattle.rnix_grammar.specs.declared.place.Place.TheVariants as p
 use Rattle.rnix_grammar.specs.declared.action.Action.TheVariants as a
 
@@ -30,10 +30,6 @@ starts s names e o k t = record {
   well = record { fit = (refl, refl); range = tt; order = o };
   named = record { begun = (tt, tt); sets = k; entries = t };
 }
-
--- something is open
-pub something_open : (first : List Token) (s : State) (names : Names) → IsGoing first s names → s.marks ≡ [] → ⊥
-something_open first s names g e = not_nil (none_right (marks_of g.under) (mark_of g.top g.under ∷ []) (sym (ap (λ x. x.marks) g.state) ∙ e))
 
 -- equal lists have the same last element
 last_same : {A : Type 0} (xs ys : List A) (x y : A) → xs ++ x ∷ [] ≡ ys ++ y ∷ [] → (xs ≡ ys) × (x ≡ y)
@@ -99,7 +95,7 @@ module _ (first : List Token) (s : State) (names : Names) (g : IsGoing first s n
           arith,
           ap work state ∙ work_is after,
           ap work g.state ∙ work_is before,
-          perform_less action g.top g.under g.left g.reached g.faults (fit_bottom g.top g.under g.well.fit) may q,
+          perform_less action g.top g.under g.left g.reached g.faults g.well.fit may q,
         ),
       )
 

@@ -2,14 +2,14 @@
 use Rattle.std.proofs.Common.{◌≡◌, ◌≤◌, ◌<◌, ℕ, true, false, List, [], ◌∷◌, length, Option, Some, None, refl, ap, sym, ◌∙◌, subst, arith, if◌then◌else◌}
 use Rattle.{std.specs.Option.option_map, rnix_kinds.specs.{declared.kinds.SyntaxKind.{SyntaxKind, TheVariants.NODE_ERROR}, SyntaxKind.is_trivia}}
 use Rattle.rnix_green.{specs.{Forest.{empty, leaf, join}, Range.Extent, ForestCode.join_empty}, proofs.ForestLemmas.join_assoc}
-use Rattle.rnix_grammar.specs.{declared.{until.Until.{Until, TheVariants.End}, place.Place.Place}, Fault.{unwanted, extra, bound_twice}, Tables.is_wanted}
-use Rattle.rnix_grammar.specs.{Tables.{stops, wanted_kinds, operand_kinds}, AnnotatedForest.{Token, token, row_of, forget, head_of, head_kind, kind_in}}
-use Rattle.rnix_grammar.specs.{AnnotatedForest.{end_from, extent_of, Unwanted as UnwantedNote, Extra as ExtraNote, Stray as StrayNote}, Layout.items}
+use Rattle.rnix_grammar.specs.{declared.{until.Until.{Until, TheVariants.End}, place.Place.Place}, Fault.{unwanted}, Tables.is_wanted}
+use Rattle.rnix_grammar.specs.{Tables.{stops, operand_kinds}, AnnotatedForest.{Token, token, row_of, forget, head_of, head_kind}}
+use Rattle.rnix_grammar.specs.{AnnotatedForest.{end_from, extent_of, Stray as StrayNote}, Layout.items}
 use Rattle.rnix_grammar.specs.{Layout.{from_item, trivia_before, tail_of, with_trivia, item_if}, Machine.{leaf_in, end_of}, Missing.run_of, Reports.report}
-use Rattle.{rnix_grammar.specs.Allowed.is_there, rnix_lemmas.proofs.{Basics.true_is_not_false, LayoutLemmas.{first_item, items-from_item}}}
+use Rattle.{rnix_lemmas.proofs.{LayoutLemmas.{first_item, items-from_item}}}
 use Rattle.{rnix_lemmas.proofs.{AnnotatedForestLemmas.forget-⊕, RunLemmas.run_begins}, rnix_reader.specs.declared.cursor.PlacedToken.PlacedToken}
-use Rattle.rnix_reader.specs.{Steps.operand_begun, Placed.{token_of, AreInOrder}, State.{State, items_left, eaten, bumped, skipped, started}}
-use Rattle.rnix_reader.{specs.State.{started_at, ended, failed, marked}, proofs.{CursorLemmas.in_order_from, StateLemmas.state_is}}
+use Rattle.rnix_reader.specs.{Steps.operand_begun, Reported.{error_over, next_run}, Placed.{token_of, AreInOrder}, State.{State, items_left, eaten, bumped, skipped, started}}
+use Rattle.rnix_reader.{specs.State.{started_at, ended, marked}, proofs.{CursorLemmas.in_order_from, StateLemmas.state_is}}
 
 -- nothing is skipped
 pub skipped-none : (s : State) → skipped [] s ≡ s
@@ -95,15 +95,10 @@ shorter t s s' h e =
     let all = first_of (items s.rest) t h in
     omega (arith, ap length all, ap length (left_bumped NODE_ERROR t (tail_of (items s.rest)) s s' all e))
 
--- what is left where a node is opened
-pub left_started : (k : SyntaxKind) (s : State) → items (started k s).rest ≡ items s.rest
-unfolding started_at eaten
-left_started k s = items-from_item s.rest
-
 -- a run as a node reaches as far as its tokens
-pub reached_run : (run : List Token) (s : State) → (ended (skipped run (started NODE_ERROR s))).reached ≡ end_from s.reached run
+reached_over : (u : Until) (s : State) → (error_over u s).reached ≡ end_from s.reached (run_of u (items s.rest))
 unfolding ended skipped started_at eaten
-reached_run run s = refl
+reached_over u s = ap (λ x. end_from s.reached (run_of u x)) (items-from_item s.rest)
 
 -- tokens in order end behind their first
 pub in_order_items : (n : ℕ) (ts : List Token) → AreInOrder n ts → AreInOrder n (items ts)
@@ -122,35 +117,22 @@ pub item_in_order : (s : State) (t : Token) → AreInOrder 0 s.rest → head_of 
 item_in_order s t o e = (subst (AreInOrder 0) (first_of (items s.rest) t e) (in_order_items 0 s.rest o)).1
 
 -- where a run ends, by the first of its items
-pub run_first : (u : Until) (n : ℕ) (t : Token) (ts : List Token) → head_of ts ≡ Some t → is_wanted u t.kind ≡ false → run_of u ts ≡ t ∷ run_of u (tail_of ts)
-run_first u n t ts h off = ap (run_of u) (first_of ts t h) ∙ run_begins u t (tail_of ts) off
+run_first : (u : Until) (t : Token) (ts : List Token) → head_of ts ≡ Some t → is_wanted u t.kind ≡ false → run_of u ts ≡ t ∷ run_of u (tail_of ts)
+run_first u t ts h off = ap (run_of u) (first_of ts t h) ∙ run_begins u t (tail_of ts) off
 
 -- a run reaches at least as far as its first item begins
-pub run_reach : (u : Until) (s s' : State) (t : Token) → AreInOrder 0 s.rest → head_of (items_left s) ≡ Some t → is_wanted u t.kind ≡ false
-    → s' ≡ ended (skipped (run_of u (items_left s)) (started NODE_ERROR s)) → t.start ≤ s'.reached
+pub run_reach : (u : Until) (s s' : State) (t : Token) → AreInOrder 0 s.rest → head_of (items_left s) ≡ Some t → is_wanted u t.kind ≡ false → s' ≡ error_over u s → t.start ≤ s'.reached
 run_reach u s s' t o h off e =
-    let all = first_of (items s.rest) t h in
-    let inside : AreInOrder 0 (t ∷ tail_of (items s.rest)) = subst (AreInOrder 0) all (in_order_items 0 s.rest o) in
-    let far : t.end ≤ end_from t.end (run_of u (tail_of (items s.rest))) = run_end u t.end (tail_of (items s.rest)) inside.2 in
-    let is : s'.reached ≡ end_from s.reached (run_of u (items s.rest)) = ap (λ x. x.reached) e ∙ reached_run (run_of u (items s.rest)) s in
-    let first : end_from s.reached (run_of u (items s.rest)) ≡ end_from t.end (run_of u (tail_of (items s.rest))) = ap (end_from s.reached) (run_first u 0 t (items s.rest) h off) in
-    omega (arith, inside.1, far, is, first)
+    let inside : AreInOrder 0 (t ∷ tail_of (items s.rest)) = subst (AreInOrder 0) (first_of (items s.rest) t h) (in_order_items 0 s.rest o) in
+    let is : s'.reached ≡ end_from t.end (run_of u (tail_of (items s.rest))) = ap (λ x. x.reached) e ∙ reached_over u s ∙ ap (end_from s.reached) (run_first u t (items s.rest) h off) in
+    omega (arith, inside.1, run_end u t.end (tail_of (items s.rest)) inside.2, is)
 
 -- the range of a run is that of its tokens
-pub run_extent : (u : Until) (s s' : State) (t : Token) (range : Extent) → head_of (items_left s) ≡ Some t → is_wanted u t.kind ≡ false
-    → s' ≡ ended (skipped (run_of u (items_left s)) (started NODE_ERROR s)) → range ≡ record { start = t.start; end = s'.reached } → range ≡ extent_of (run_of u (items_left s))
+pub run_extent : (u : Until) (s s' : State) (t : Token) (range : Extent) → head_of (items_left s) ≡ Some t → is_wanted u t.kind ≡ false → s' ≡ error_over u s
+    → range ≡ record { start = t.start; end = s'.reached } → range ≡ extent_of (next_run u s)
 run_extent u s s' t range h off e r =
-    let run = run_of u (tail_of (items s.rest)) in
-    let is : s'.reached ≡ end_from s.reached (run_of u (items s.rest)) = ap (λ x. x.reached) e ∙ reached_run (run_of u (items s.rest)) s in
-    let first : run_of u (items s.rest) ≡ t ∷ run = run_first u 0 t (items s.rest) h off in
-    r ∙ ap (λ x. let y : Extent = record { start = t.start; end = x } in y) (is ∙ ap (end_from s.reached) first) ∙ sym (ap extent_of first)
-
--- how a run is reported
-pub run_report : (u : Until) (ts : List Token) (t : Token) (range : Extent) (wanted : List SyntaxKind) → head_of ts ≡ Some t → is_wanted u t.kind ≡ false → range ≡ extent_of (run_of u ts) → wanted ≡ wanted_kinds u
-    → unwanted t.kind range wanted ≡ report (UnwantedNote u) (run_of u ts)
-run_report u ts t range wanted h off r w =
-    ap (λ x. unwanted t.kind x wanted) r ∙ ap (unwanted t.kind (extent_of (run_of u ts))) w
-    ∙ ap (λ x. unwanted t.kind (extent_of x) (wanted_kinds u)) (run_first u 0 t ts h off) ∙ sym (ap (report (UnwantedNote u)) (run_first u 0 t ts h off))
+    let first : run_of u (items s.rest) ≡ t ∷ run_of u (tail_of (items s.rest)) = run_first u t (items s.rest) h off in
+    r ∙ ap (λ x. let y : Extent = record { start = t.start; end = x } in y) (ap (λ x. x.reached) e ∙ reached_over u s ∙ ap (end_from s.reached) first) ∙ sym (ap extent_of first)
 
 -- what is told of a token that begins no operand
 pub stray_report : (t : Token) (range : Extent) (wanted : List SyntaxKind) → range ≡ record { start = t.start; end = t.end } → wanted ≡ operand_kinds
@@ -158,43 +140,8 @@ pub stray_report : (t : Token) (range : Extent) (wanted : List SyntaxKind) → r
 stray_report t range wanted r w = ap (λ x. unwanted t.kind x wanted) r ∙ ap (unwanted t.kind record { start = t.start; end = t.end }) w
 
 -- an error node over a run
-pub run_made : (u : Until) (s s1 s2 s3 : State) → s1 ≡ started NODE_ERROR s → s2 ≡ skipped (run_of u (items_left s1)) s1 → s3 ≡ ended s2
-    → s3 ≡ ended (skipped (run_of u (items_left s)) (started NODE_ERROR s))
-run_made u s s1 s2 s3 a b c =
-    c ∙ ap ended (b ∙ ap (λ x. skipped (run_of u (items_left x)) x) a ∙ ap (λ x. skipped (run_of u x) (started NODE_ERROR s)) (left_started NODE_ERROR s))
-
--- and over all items
-pub all_made : (s : State) → ended (skipped (run_of End (items_left s)) (started NODE_ERROR s)) ≡ ended (skipped (items_left s) (started NODE_ERROR s))
-all_made s = ap (λ x. ended (skipped x (started NODE_ERROR s))) (run_all (items_left s))
-
--- what is told of the tokens behind the root's expression
-pub extra_made : (s s1 s2 : State) (range : Extent) → s1 ≡ ended (skipped (run_of End (items_left s)) (started NODE_ERROR s)) → range ≡ extent_of (run_of End (items_left s)) → s2 ≡ failed (extra range) s1
-    → s2 ≡ failed (report ExtraNote (items_left s)) (ended (skipped (items_left s) (started NODE_ERROR s)))
-extra_made s s1 s2 range a r c =
-    c ∙ ap (λ x. failed (extra x) s1) (r ∙ ap extent_of (run_all (items_left s))) ∙ ap (failed (report ExtraNote (items_left s))) (a ∙ all_made s)
-
--- a node that is closed ends no item
-pub reached_ended : (s s' : State) → s' ≡ ended s → s'.reached ≡ s.reached
-unfolding ended
-reached_ended s s' e = ap (λ x. x.reached) e
-
--- a second name is told
-pub twice_made : (start : ℕ) (s s1 s2 : State) (range : Extent) → s1 ≡ ended s → range ≡ record { start = start; end = s1.reached } → s2 ≡ failed (bound_twice range) s1
-    → s2 ≡ failed (bound_twice record { start = start; end = s.reached }) (ended s)
-twice_made start s s1 s2 range a r c =
-    c ∙ ap (λ x. failed (bound_twice x) s1) (r ∙ ap (λ x. let y : Extent = record { start = start; end = x } in y) (reached_ended s s1 a))
-    ∙ ap (failed (bound_twice record { start = start; end = s.reached })) a
-
--- nothing is no item
-pub no_item : (ts : List Token) (r : Option PlacedToken) → option_map token_of r ≡ head_of ts → r ≡ None → is_there (head_kind ts) ≡ true → ⊥
-no_item ts r e h t = absurd (false_is_not_true (sym (ap (λ x. is_there (kind_in x)) (sym e ∙ ap (option_map token_of) h)) ∙ t))
-  where
-    false_is_not_true : false ≡ true → ⊥
-    false_is_not_true e = cc
-
--- a run that nothing stops has an item
-pub no_stop : (u : Until) (ts : List Token) (r : Option PlacedToken) → option_map token_of r ≡ head_of ts → r ≡ None → stops u (head_kind ts) ≡ false → ⊥
-no_stop u ts r e h t = absurd (true_is_not_false (sym (ap (λ x. stops u (kind_in x)) (sym e ∙ ap (option_map token_of) h)) ∙ t))
+pub run_made : (u : Until) (s s1 s2 s3 : State) → s1 ≡ started NODE_ERROR s → s2 ≡ skipped (next_run u s1) s1 → s3 ≡ ended s2 → s3 ≡ error_over u s
+run_made u s s1 s2 s3 a b c = c ∙ ap ended (b ∙ ap (λ x. skipped (next_run u x) x) a)
 
 -- the items are left where an operand begins
 pub left_operand : (over : Place) (d : ℕ) (s s' : State) → s' ≡ operand_begun over d s → items s'.rest ≡ items s.rest

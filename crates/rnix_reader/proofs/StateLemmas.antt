@@ -1,11 +1,11 @@
 -- The steps of the reader, one token at a time.
 use Rattle.std.{proofs.Common.{◌≡◌, ℕ, ◌<◌, true, List, [], ◌∷◌, Option, Some, None, drop, refl, ap, sym, ◌∙◌}, specs.{Prelude.MatchOption, Option.option_map}}
 use Rattle.{rnix_kinds.specs.{declared.kinds.SyntaxKind.SyntaxKind, SyntaxKind.is_trivia}, rnix_green.specs.Forest.{Forest, empty, leaf, join, tree_count}}
-use Rattle.rnix_green.{specs.{Draft.{Draft, OpenNode, leaf_added, node_opened, node_closed}, ForestCode.join_empty}, proofs.ForestLemmas.join_assoc}
+use Rattle.rnix_green.{specs.{Draft.{Draft, OpenNode, leaf_added, node_opened, node_closed, wrapped}, ForestCode.join_empty}, proofs.ForestLemmas.join_assoc}
 use Rattle.rnix_grammar.specs.{Fault.Fault, AnnotatedForest.{Token, forget, head_of, leaf_kind}, Layout.{items, from_item, from_item_if, trivia_before}}
 use Rattle.{rnix_grammar.specs.{Layout.{trivia_if, tail_of}, Machine.{leaf_in, end_of}}, rnix_lemmas.proofs.LayoutLemmas.{items_head, items-view}}
-use Rattle.{rnix_lemmas.proofs.LayoutLemmas.{from_item-from_item, trivia-from_item}, rnix_reader.specs.declared.cursor.PlacedToken.PlacedToken}
-use Rattle.rnix_reader.specs.{declared.mark.Mark.Mark, Placed.{token_of, BeginsWithTrivia}, State.{State, eaten, taken, bumped, started_at, ended}}
+use Rattle.{rnix_lemmas.proofs.LayoutLemmas.{trivia-from_item}, rnix_reader.specs.declared.cursor.PlacedToken.PlacedToken}
+use Rattle.rnix_reader.specs.{declared.mark.Mark.Mark, Placed.{token_of, BeginsWithTrivia}, State.{State, eaten, taken, bumped, started_here, started_at, ended}}
 use Rattle.rnix_reader.{specs.Steps.leafed, proofs.CursorLemmas.before_item}
 
 -- states with the same parts are one
@@ -74,25 +74,13 @@ bumped-item k s s1 s' t e here r x o f n m =
     state_is r (x ∙ ap (λ y. join s1.trees (forget (leaf_in k y))) (sym here)) o f (n ∙ ap (end_of s1.reached) (sym here)) m ∙ ap (taken k) e
 
 -- nor is an item
+taken-none : (k : SyntaxKind) (s : State) → s.rest ≡ [] → s ≡ taken k s
+taken-none k s none =
+    state_is (none ∙ ap tail_of (sym none)) (sym (join_empty s.trees) ∙ ap (λ y. join s.trees (forget (leaf_in k y))) (sym none)) refl refl (ap (end_of s.reached) (sym none)) refl
+
 pub bumped-end : (k : SyntaxKind) (s s1 : State) → s1 ≡ eaten s → s1.rest ≡ [] → s1 ≡ bumped k s
 unfolding bumped
-bumped-end k s s1 e none =
-    state_is (none ∙ ap tail_of (sym none)) (sym (join_empty s1.trees) ∙ ap (λ y. join s1.trees (forget (leaf_in k y))) (sym none)) refl refl
-    (ap (end_of s1.reached) (sym none)) refl ∙ ap (taken k) e
-
--- behind trivia that are read none are left
-eaten-opened : (k : SyntaxKind) (n : ℕ) (s s1 : State) → s1 ≡ eaten s → eaten (started_at n k s1) ≡ started_at n k s1
-unfolding eaten started_at
-eaten-opened k n s s1 e =
-    let rest : s1.rest ≡ from_item s.rest = ap (λ x. x.rest) e in
-    state_is (ap from_item rest ∙ from_item-from_item s.rest ∙ sym rest)
-    (ap (λ x. join s1.trees (forget (trivia_before x))) rest ∙ ap (λ x. join s1.trees (forget x)) (trivia-from_item s.rest) ∙ join_empty s1.trees) refl refl refl refl
-
--- a builder that opened a node makes the state with the node begun
-opened_at : (k : SyntaxKind) (s s' : State) (d : Draft) → d ≡ node_opened k (tree_count s.trees) record { finished = s.trees; open_nodes = s.open_nodes } → s'.rest ≡ s.rest
-    → s'.trees ≡ d.finished → s'.open_nodes ≡ d.open_nodes → s'.faults ≡ s.faults → s'.reached ≡ s.reached → s'.marks ≡ s.marks → s' ≡ started_at (tree_count s.trees) k s
-unfolding started_at
-opened_at k s s' d e r x o f n m = state_is r (x ∙ ap (λ y. y.finished) e) (o ∙ ap (λ y. y.open_nodes) e) f n m
+bumped-end k s s1 e none = taken-none k s1 none ∙ ap (taken k) e
 
 -- a node over the next item
 pub leafed-item : (k : SyntaxKind) (s s1 s' : State) (t : Token) (d : Draft) → s1 ≡ eaten s → s1.rest ≡ t ∷ tail_of s1.rest
@@ -100,25 +88,15 @@ pub leafed-item : (k : SyntaxKind) (s s1 s' : State) (t : Token) (d : Draft) →
     → s'.rest ≡ tail_of s1.rest → s'.trees ≡ d.finished → s'.open_nodes ≡ d.open_nodes → s'.faults ≡ s1.faults → s'.reached ≡ t.end → s'.marks ≡ s1.marks → s' ≡ leafed k s
 unfolding ended started_at
 leafed-item k s s1 s' t d e here b r x o f n m =
-    let place : ℕ = tree_count s1.trees in
-    let begun : State = started_at place k s1 in
-    let read : State = record {
-      rest = tail_of s1.rest;
-      trees = join s1.trees (leaf (leaf_kind k t) t.text empty);
-      open_nodes = (k, place) ∷ s1.open_nodes;
-      faults = s1.faults;
-      reached = t.end;
-      marks = s1.marks;
-    } in
-    let taken : read ≡ bumped k begun = bumped-item k begun begun read t (sym (eaten-opened k place s s1 e)) here refl refl refl refl refl refl in
-    let closed : s' ≡ ended read = state_is r (x ∙ ap (λ y. y.finished) b) (o ∙ ap (λ y. y.open_nodes) b) f n m in
-    closed ∙ ap ended taken ∙ ap (λ y. ended (bumped k (started_at (tree_count y.trees) k y))) e
+    state_is r (x ∙ ap (λ y. y.finished) b ∙ ap (λ y. wrapped k (tree_count s1.trees) (join s1.trees (forget (leaf_in k y)))) (sym here)) (o ∙ ap (λ y. y.open_nodes) b) f
+    (n ∙ ap (end_of s1.reached) (sym here)) m
+    ∙ ap (λ y. ended (taken k (started_here k y))) e
 
 -- a node over nothing, where no item is left
 pub leafed-end : (k : SyntaxKind) (s s1 s2 s' : State) (d : Draft) → s1 ≡ eaten s → s1.rest ≡ []
     → d ≡ node_opened k (tree_count s1.trees) record { finished = s1.trees; open_nodes = s1.open_nodes } → s2.rest ≡ s1.rest → s2.trees ≡ d.finished → s2.open_nodes ≡ d.open_nodes
     → s2.faults ≡ s1.faults → s2.reached ≡ s1.reached → s2.marks ≡ s1.marks → s' ≡ ended s2 → s' ≡ leafed k s
+unfolding started_at
 leafed-end k s s1 s2 s' d e none b r x o f n m closed =
-    let begun : s2 ≡ started_at (tree_count s1.trees) k s1 = opened_at k s1 s2 d b r x o f n m in
-    let same : s2 ≡ eaten s2 = begun ∙ sym (eaten-opened k (tree_count s1.trees) s s1 e) ∙ ap eaten (sym begun) in
-    closed ∙ ap ended (bumped-end k s2 s2 same (r ∙ none)) ∙ ap (λ y. ended (bumped k y)) begun ∙ ap (λ y. ended (bumped k (started_at (tree_count y.trees) k y))) e
+    let begun : s2 ≡ started_here k s1 = state_is r (x ∙ ap (λ y. y.finished) b) (o ∙ ap (λ y. y.open_nodes) b) f n m in
+    closed ∙ ap ended (taken-none k s2 (r ∙ none) ∙ ap (taken k) begun) ∙ ap (λ y. ended (taken k (started_here k y))) e

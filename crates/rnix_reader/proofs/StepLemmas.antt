@@ -2,14 +2,14 @@
 use Rattle.std.proofs.{Common.{◌≡◌, ◌≤◌, ◌<◌, nat_le, length, arith, ℕ, true, false, List, [], ◌∷◌, refl, ap, ◌∙◌, subst}, lemmas.Bool.le-leb}
 use Rattle.rnix_kinds.specs.declared.kinds.SyntaxKind.{SyntaxKind, TheVariants.{NODE_ERROR, NODE_ROOT, NODE_IDENT, NODE_PAT_ENTRY, NODE_APPLY}}
 use Rattle.rnix_green.{specs.{Forest.tree_count, Draft.{OpenNode, is_inside}, ForestCode.join_empty}, proofs.ForestLemmas.tree_count-join}
-use Rattle.rnix_grammar.specs.{declared.{place.Place.Place, action.Action.Action}, Fault.{Fault, bound_twice}, Layout.{items, from_item}, Missing.run_of, Reports.report}
+use Rattle.rnix_grammar.specs.{declared.{place.Place.Place, action.Action.Action, until.Until.TheVariants.End}, Fault.{Fault, bound_twice}, Layout.{items, from_item}, Missing.run_of, Reports.report}
 use Rattle.rnix_grammar.specs.AnnotatedForest.{Token, Unwanted, Extra, Twice, AnnotatedForest, forget, without_trivia, tokens_in, blank, ◌⊕◌, one_branch, head_kind}
 use Rattle.rnix_grammar.specs.Machine.{Head, Node, Second, Operand, Frame, put, opened, ate, leaf, behind, reach, machine, perform, low_of}
 use Rattle.{rnix_grammar.specs.{Sorts.{Again, Loose, sort_of, sort_of_head}, Allowed.Allowed}, rnix_lemmas.proofs.Basics.true_is_not_false}
-use Rattle.rnix_reader.specs.{declared.names.Names.Names, State.{State, bumped, started_at, ended, failed, marked}, Steps.{noded, node_here, node_wrapped, leafed}, Holds.{HasRange, IsWell, AreNamed}}
+use Rattle.rnix_reader.specs.{declared.names.Names.Names, State.{State, bumped, started_at, ended, failed, marked}, Reported.error_over, Steps.{noded, node_here, node_wrapped, leafed}, Holds.{HasRange, IsWell, AreNamed}}
 use Rattle.rnix_reader.specs.{Flat.{trees_of, nodes_of, mark_of, opened_on, flat, popped}, Performed.{Performed, IsReady, IsCheckpoint, expression_read, is_finish}}
-use Rattle.rnix_reader.proofs.{SortLemmas.{is_loose, is_root, is_name, head_loose, head_again, head_sort, place_named, own_leaf}, BegunLemmas.expression_is, EntryLemmas.done_entry}
-use Rattle.rnix_reader.proofs.FlatLemmas.{flat-eaten, flat-bumped, flat-next, flat-noded, flat-leafed, flat-first, flat-run, flat-wrapped, flat-closed, closes, settles, closed_failed}
+use Rattle.rnix_reader.proofs.{SortLemmas.{is_loose, is_root, is_name, head_loose, head_again, head_sort, place_named, own_leaf}, BegunLemmas.expression_is, RunLemmas.run_all, EntryLemmas.done_entry}
+use Rattle.rnix_reader.proofs.FlatLemmas.{flat-eaten, flat-bumped, flat-next, flat-noded, flat-leafed, flat-first, flat-over, flat-wrapped, flat-closed, closes, settles, closed_failed}
 use Rattle.rnix_grammar.specs.declared.place.Place.TheVariants as p
 use Rattle.rnix_grammar.specs.declared.action.Action.TheVariants as a
 
@@ -87,7 +87,9 @@ module _ (f : Frame) (fs : List Frame) (ts : List Token) (n : ℕ) (es : List Fa
       ∙ closed_failed (report Twice tokens) f fs ts n es
   performs a.Finish s' names' k al g d = absurd (true_is_not_false g)
   performs a.Settle s' names' k al g d = d ∙ settles f fs ts n es w.fit al
-  performs a.Extra s' names' k al g d = d ∙ ap (failed (report Extra (items ts))) (flat-run _ Extra (items ts) f fs ts n es)
+  performs a.Extra s' names' k al g d =
+      let run : List Token = items ts in
+      d ∙ ap (λ x. failed (report Extra x) (error_over End (flat (machine (f ∷ fs) ts n es)))) (run_all run) ∙ ap (failed (report Extra run)) (flat-over _ Extra End run f fs ts n es (run_all run))
   performs (a.Take after) s' names' k al g d =
       d ∙ flat-bumped _ NODE_ROOT (put after f.row f) fs ts n es
       ∙ ap (λ x. flat (machine (put after (ate true f.row ts ⊕ x) f ∷ fs) (behind true ts) (reach true n ts) es)) (own_leaf f.head (from_item ts) (ap is_name sort ∙ place_named f.place))
@@ -95,7 +97,7 @@ module _ (f : Frame) (fs : List Frame) (ts : List Token) (n : ℕ) (es : List Fa
   performs (a.MissWanted until after) s' names' k al g d = d
   performs (a.Run until after) s' names' k al g d =
       let run : List Token = run_of until (items ts) in
-      d ∙ ap (failed (report (Unwanted until) run)) (flat-run _ (Unwanted until) run (put after f.row f) fs ts n es)
+      d ∙ ap (failed (report (Unwanted until) run)) (flat-over _ (Unwanted until) until run (put after f.row f) fs ts n es refl)
   performs (a.Leaf j after) s' names' k al g d = d ∙ flat-leafed _ j (put after f.row f) fs ts n es
   performs (a.Open j inside after) s' names' k al g d =
       d ∙ ap (bumped j) (opens j inside after) ∙ flat-next _ j (opened (Node j) inside f.depth blank) (put after (ate true f.row ts) f ∷ fs) ts n es

@@ -7,7 +7,7 @@ use Rattle.rnix_grammar.specs.{Layout.{items, from_item, tail_of}, Machine.{Node
 use Rattle.rnix_grammar.specs.{Machine.{run_rest, dropped, begun, operand_on, reading, perform}, Missing.run_of, Sorts.{Sort, Plain, sort_of, sort_in}}
 use Rattle.rnix_grammar.specs.{Sorts.StandsOn, Weights.{weight, bonus_in, bonus}, Allowed.{Allowed, IsNext, is_there}}
 use Rattle.rnix_lemmas.proofs.{Basics.true_is_not_false, LayoutLemmas.items-from_item, WithoutTriviaLemmas.{items_behind, run_prefix, all_prefix, run_bared}}
-use Rattle.rnix_lemmas.proofs.{RunLemmas.{dropped_all, run_begins}, PlaceLemmas.root_lowest, AllowedLemmas.{sort_there, weight_there}}
+use Rattle.rnix_lemmas.proofs.{RunLemmas.{dropped_all, run_begins}, AllowedLemmas.{sort_there, weight_there}}
 use Rattle.rnix_reader.{specs.{declared.mark.Mark.Mark, Flat.{marks_of, mark_of, flat}, Performed.is_finish, Holds.{weights, bonus_on, work}}, proofs.SortLemmas.is_root}
 use Rattle.rnix_reader.proofs.RunLemmas.{no_items}
 use Rattle.rnix_grammar.specs.declared.place.Place.TheVariants as p
@@ -124,9 +124,6 @@ left_none : (ts : List Token) → items (run_rest true (items ts) ts) ≡ []
 left_none ts = (run_bared (items ts) ts (dropped (items ts) (items ts)) (all_prefix (items ts))).left ∙ dropped_all (items ts)
 
 -- the sums
-item_less : (l k v w c x z : ℕ) → suc k ≤ l → v ≤ 60 → c ≤ 30 → 100 * k + (v + z) + c < 100 * l + (w + z) + x
-item_less l k v w c x z h g e = omega (arith, h, g, e)
-
 close_less : (us : List Token) (place below : Place) (z : ℕ) → bonus place ≡ 30
     → 100 * length us + (weight below + z) + bonus_at us below < 100 * length us + (weight place + (weight below + z)) + bonus_at us place
 close_less [] place below z e = omega (arith, weight_some place)
@@ -142,9 +139,9 @@ next_less [] place after h e = h.1
 next_less (t ∷ us) place after h e = absurd (cc)
 
 -- a node is complete
-closed_less : (f : Frame) (fs : List Frame) (ts : List Token) (n : ℕ) (es : List Fault) → (fs ≡ [] → is_root (sort_of f.place) ≡ true) → is_root (sort_of f.place) ≡ false → bonus f.place ≡ 30
+closed_less : (f : Frame) (fs : List Frame) (ts : List Token) (n : ℕ) (es : List Fault) → StandsOn f.head f.place fs → is_root (sort_of f.place) ≡ false → bonus f.place ≡ 30
     → cost_of (closed f fs ts n es) < cost (items ts) (f ∷ fs)
-closed_less f [] ts n es w r e = absurd (true_is_not_false (sym (w refl) ∙ r))
+closed_less f [] ts n es w r e = absurd (true_is_not_false (sym (ap is_root w.1) ∙ r))
 closed_less f (g ∷ fs) ts n es w r e = close_less (items ts) f.place g.place (weight_of fs) e
 
 -- an operand begins
@@ -196,12 +193,12 @@ nothing_there : (us : List Token) → us ≡ [] → is_there (head_kind us) ≡ 
 nothing_there [] e h = true_is_not_false (sym h)
 nothing_there (t ∷ us) e h = cc
 
--- each action, where the lowest frame stands at a place of the root
-pub perform_less : (action : Action) (f : Frame) (fs : List Frame) (ts : List Token) (n : ℕ) (es : List Fault) → (fs ≡ [] → is_root (sort_of f.place) ≡ true) → Allowed f.place (head_kind (items ts)) action
+-- each action
+pub perform_less : (action : Action) (f : Frame) (fs : List Frame) (ts : List Token) (n : ℕ) (es : List Fault) → StandsOn f.head f.place fs → Allowed f.place (head_kind (items ts)) action
     → is_finish action ≡ false → cost_of (perform true action f fs ts n es) < cost (items ts) (f ∷ fs)
 perform_less a.Close f fs ts n es w al g = closed_less f fs ts n es w (ap is_root al.0) al.1
 perform_less a.ClosePattern f fs ts n es w al g = closed_less f fs ts n es w (ap is_root al) (bonus_full f.place (ap is_plain al))
-perform_less a.CloseEntry f [] ts n es w al g = absurd (true_is_not_false (sym (w refl) ∙ ap is_root al))
+perform_less a.CloseEntry f [] ts n es w al g = absurd (true_is_not_false (sym (ap is_root w.1) ∙ ap is_root al))
 perform_less a.CloseEntry f (g' ∷ fs) ts n es w al g = closed_less f (g' ∷ fs) ts n es w (ap is_root al) (bonus_full f.place (ap is_plain al))
 perform_less a.CloseTwice f fs ts n es w al g = closed_less f fs ts n _ w (ap is_root al) (bonus_full f.place (ap is_plain al))
 perform_less a.Finish f fs ts n es w al g = absurd (true_is_not_false g)
@@ -209,8 +206,7 @@ perform_less a.Settle f fs ts n es w al g = closed_less f fs ts n es w (ap is_ro
 perform_less a.Extra f fs ts n es w al g =
     omega (arith, ap length (left_none ts), ap (λ x. bonus_at x f.place) (left_none ts), there (items ts) al.0)
 perform_less (a.Take after) f fs ts n es w al g =
-    item_less (length (items ts)) (length (items (behind true ts))) (weight after) (weight f.place) (bonus_at (items (behind true ts)) after) (bonus_at (items ts) f.place) (weight_of fs)
-    (omega (arith, there (items ts) al.0, left_behind ts)) (omega (arith, weight_most after)) (bonus_small (items (behind true ts)) after)
+    omega (arith, there (items ts) al.0, left_behind ts, weight_most after, bonus_small (items (behind true ts)) after)
 perform_less (a.Miss after) f fs ts n es w al g =
     let none = no_items (items ts) al.0 in
     ended_less (items ts) f.place after (weight_of fs) none (next_less (items ts) f.place after al.1 none)
@@ -218,12 +214,10 @@ perform_less (a.MissWanted until after) f fs ts n es w al g =
     let none = no_items (items ts) al.0 in
     ended_less (items ts) f.place after (weight_of fs) none (next_less (items ts) f.place after al.1 none)
 perform_less (a.Run until after) f fs ts n es w al g =
-    let us : List Token = run_rest true (run_of until (items ts)) ts in
-    item_less (length (items ts)) (length (items us)) (weight after) (weight f.place) (bonus_at (items us) after) (bonus_at (items ts) f.place) (weight_of fs)
-    (omega (arith, run_less until (items ts) al.0, ap length (left_run until ts))) (omega (arith, weight_most after)) (bonus_small (items us) after)
+    let us : List Token = items (run_rest true (run_of until (items ts)) ts) in
+    omega (arith, run_less until (items ts) al.0, ap length (left_run until ts), weight_most after, bonus_small us after)
 perform_less (a.Leaf k after) f fs ts n es w al g =
-    item_less (length (items ts)) (length (items (behind true ts))) (weight after) (weight f.place) (bonus_at (items (behind true ts)) after) (bonus_at (items ts) f.place) (weight_of fs)
-    (omega (arith, there (items ts) al.0, left_behind ts)) (omega (arith, weight_most after)) (bonus_small (items (behind true ts)) after)
+    omega (arith, there (items ts) al.0, left_behind ts, weight_most after, bonus_small (items (behind true ts)) after)
 perform_less (a.Open k inside after) f fs ts n es w al g =
     omega (arith, there (items ts) al.0, left_behind ts, weight_most after, weight_most inside, bonus_small (items (behind true ts)) inside)
 perform_less (a.Begin k inside after) f fs ts n es w al g =
@@ -249,7 +243,3 @@ perform_less a.Apply f fs ts n es w al g =
     }
 perform_less a.ApplyOr f fs ts n es w al g =
     omega (arith, there (items ts) al.0, left_behind ts, bonus_small (items (behind true ts)) (p.Behind (low_of f.place) 15))
-
--- frames that fit stand on the root
-pub fit_bottom : (f : Frame) (fs : List Frame) → StandsOn f.head f.place fs → fs ≡ [] → is_root (sort_of f.place) ≡ true
-fit_bottom f fs w e = ap is_root (root_lowest f.head f.place fs w e).1

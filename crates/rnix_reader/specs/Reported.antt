@@ -2,9 +2,10 @@
 use Rattle.std.specs.Prelude.{ℕ, List, [], ◌∷◌}
 use Rattle.rnix_kinds.specs.declared.kinds.SyntaxKind.TheVariants.{NODE_ERROR}
 use Rattle.rnix_grammar.specs.declared.until.Until.{Until}
+use Rattle.rnix_grammar.specs.declared.until.Until.TheVariants.{End}
 use Rattle.rnix_grammar.specs.Fault.{ended_before, bound_twice, too_deep}
 use Rattle.rnix_grammar.specs.Tables.{wanted_kinds}
-use Rattle.rnix_grammar.specs.AnnotatedForest.{Token, Note, Stray, Unwanted, Extra}
+use Rattle.rnix_grammar.specs.AnnotatedForest.{Token, Stray, Unwanted, Extra}
 use Rattle.rnix_grammar.specs.Missing.{run_of}
 use Rattle.rnix_grammar.specs.Reports.{report}
 use Rattle.rnix_reader.specs.State.{State, items_left, eaten, skipped, started, ended, failed}
@@ -14,21 +15,17 @@ use Rattle.rnix_reader.specs.Steps.{leafed}
 abbrev pub next_run : Until → State → List Token
 next_run until s = run_of until (items_left s)
 
--- an error node over a run of items
-abbrev pub error_over : List Token → State → State
-error_over run s = ended (skipped run (started NODE_ERROR s))
+-- an error node over the items that come next, up to one that stops a run
+abbrev pub error_over : Until → State → State
+error_over until s = ended (skipped (next_run until (started NODE_ERROR s)) (started NODE_ERROR s))
 
--- an error node over a run of items, and its error
-abbrev pub reported : Note → List Token → State → State
-reported note run s = failed (report note run) (error_over run s)
-
--- so it is with the items that come next where others are wanted
+-- and its error, where others are wanted
 abbrev pub unwanted_reported : Until → State → State
-unwanted_reported until s = reported (Unwanted until) (next_run until s) s
+unwanted_reported until s = failed (report (Unwanted until) (next_run until s)) (error_over until s)
 
--- and with all that is left behind the root's expression
+-- so it is with all that is left behind the root's expression
 abbrev pub extra_reported : State → State
-extra_reported s = reported Extra (items_left s) s
+extra_reported s = failed (report Extra (next_run End s)) (error_over End s)
 
 -- an error node over an item that begins no operand, and its error
 abbrev pub stray_reported : Token → State → State
@@ -36,7 +33,7 @@ stray_reported t s = failed (report Stray (t ∷ [])) (leafed NODE_ERROR s)
 
 -- an error node over all that is left, which is nested too deep, and its error
 abbrev pub limit_reported : State → State
-limit_reported s = failed too_deep (eaten (error_over (items_left s) s))
+limit_reported s = failed too_deep (eaten (error_over End s))
 
 -- the text ends where some kinds are wanted
 abbrev pub end_reported : Until → State → State

@@ -9,7 +9,7 @@ use Rattle.rnix_grammar.specs.declared.place.Place.TheVariants.{EntryMore, Lambd
 use Rattle.rnix_grammar.specs.Begins.{begin_of, second_kind}
 use Rattle.rnix_grammar.specs.AnnotatedForest.{Token, head_kind}
 use Rattle.rnix_reader.specs.declared.mark.Mark.{Mark}
-use Rattle.rnix_reader.specs.State.{State, eaten, bumped, started, started_here, started_at, ended, marked}
+use Rattle.rnix_reader.specs.State.{State, eaten, taken, bumped, started, started_here, started_at, ended, marked}
 use Rattle.rnix_reader.specs.Flat.{mark_at}
 
 -- what is open goes on at another place
@@ -30,7 +30,7 @@ node_begun k inside d s = bumped k (noded k inside d s)
 
 -- a node over the next item alone
 abbrev pub leafed : SyntaxKind → State → State
-leafed k s = ended (bumped k (started k s))
+leafed k s = ended (taken k (started k s))
 
 -- an entry of a pattern is open, with its name
 abbrev pub entry_begun : Place → Mark → State → State

@@ -34,6 +34,7 @@ impl<'t> NameSet<'t> {
     }
 
     /// Adds a name.
+    #[tactic(auto, using(crate::proofs::NameLemmas::names_updated))]
     pub(crate) fn insert(&mut self, name: &'t str) -> Result<(), AllocError>
         ensures { (other : List ℕ) → OnOk result (has_name other self.new ≡ has_with other name.now self.old) }
     {

@@ -55,6 +55,7 @@ impl<'t> Parser<'t> {
     }
 
     /// How an operand begins, by the next item.
+    #[tactic(auto, using(crate::proofs::BeginLemmas::begin_alone))]
     #[inline(always)]
     pub(crate) fn beginning(&self, level: u8, first: PlacedToken<'_>) -> Begin
         requires { IsNextItem (token_of first) (state self.now) }

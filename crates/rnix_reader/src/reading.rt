@@ -157,6 +157,7 @@ fn close_entry<'t>(p: &mut Parser<'t>, names: &mut Names<'t>) -> Result<(), Allo
 }
 
 // Completes the second name of a pattern.
+#[tactic(auto, unfolding(crate::specs::State::ended))]
 fn close_twice(p: &mut Parser<'_>, start: usize) -> Result<(), AllocError>
     requires open { 0 < length p.old.builder.draft.open_nodes }
     requires order { start ≤ (state p.old).reached }

@@ -56,7 +56,7 @@ impl<'t> Parser<'t> {
     fn error_run(&mut self, until: Until, first: PlacedToken<'_>) -> Result<TextRange, AllocError>
         requires first { IsNextItem (token_of first) (state self.old) }
         requires unwanted { stops until (Some first.kind) ≡ false }
-        ensures state { OnOk result (state self.new ≡ error_over (next_run until (state self.old)) (state self.old)) }
+        ensures state { OnOk result (state self.new ≡ error_over until (state self.old)) }
         ensures range { IfOk result (λ range. bounds_of range ≡ extent_of (next_run until (state self.old))) }
     {
         self.ordered();

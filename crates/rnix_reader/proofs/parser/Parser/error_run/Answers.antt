@@ -6,9 +6,6 @@ new-requires c =
     run_reach c.args.until (state c.args.self.now) _ (token_of c.args.first) c.ordered.ensures c.requires.first c.requires.unwanted
     (run_made c.args.until (state c.args.self.now) _ _ _ c.in_ok-start_node.ensures.state c.in_ok-skip.ensures.state c.in_ok-finish_node.ensures)
 
-pub returns-clause-state : goal.returns-clause-state
-returns-clause-state c = run_made c.args.until (state c.args.self.now) _ _ _ c.in_ok-start_node.ensures.state c.in_ok-skip.ensures.state c.in_ok-finish_node.ensures
-
 pub returns-clause-range : goal.returns-clause-range
 returns-clause-range c =
     run_extent c.args.until (state c.args.self.now) _ (token_of c.args.first) _ c.requires.first c.requires.unwanted
