@@ -10,7 +10,10 @@
  * the things written stays as it was. NULL may stand for a text of 0 bytes and an array of no room, and nowhere else. The arrays may not
  * overlap each other or the text.
  *
- * An answer below 0 is a refusal (enum rnix_refusal). What the caller gave is then as it was, but for the tokens of rnix_tokens.
+ * An answer below 0 is a refusal (enum rnix_refusal). What the caller gave is then as it was, but for the tokens of rnix_tokens. Of a text that
+ * is not UTF-8 every call answers RNIX_NOT_UTF8, and of no other text.
+ *
+ * What each call answers, and what it leaves in the arrays, is proved: docs/theorems.md, "Calls from C".
  *
  * Any thread may call at any time: calls share nothing but the C library's malloc, realloc and free, which may be called by several threads.
  * No function may be called from a signal handler. No text makes a call need a deep stack.
@@ -35,7 +38,7 @@ uint32_t rnix_version(void);
 enum rnix_refusal {
     RNIX_NOT_UTF8 = -1,  /* the text is not UTF-8 */
     RNIX_NO_MEMORY = -2, /* malloc or realloc answered NULL, or the text has 2^32 bytes or its tree as many elements: no room helps then */
-    RNIX_NONE_SUCH = -3  /* there is no such kind, name, error or string */
+    RNIX_NONE_SUCH = -3  /* there is no such kind, name, error or string; it comes exactly then, unless one of the other two does */
 };
 
 /* An offset, or the number of an element, that is none. */
@@ -197,7 +200,7 @@ struct rnix_part {
 
 /*
  * The tokens of a text, one behind another: each begins where the one before ends, the first at 0, and the last ends at the end of the text.
- * Answers how many there are. Refusals: RNIX_NOT_UTF8; RNIX_NO_MEMORY, where the first of the tokens may be written all the same.
+ * Answers how many there are. Refusals: RNIX_NOT_UTF8; RNIX_NO_MEMORY, where some of the first tokens may be written all the same.
  */
 int64_t rnix_tokens(const uint8_t *text, size_t len, struct rnix_token *tokens, size_t room);
 
@@ -227,7 +230,7 @@ int64_t rnix_parse(const uint8_t *text, size_t len, struct rnix_element *element
 int64_t rnix_error_text(const uint8_t *text, size_t len, size_t error, uint8_t *buffer, size_t room);
 
 /*
- * What is said of all errors of a text, each ended by a line feed, which stands nowhere else in it; the text is read once.
+ * What is said of all errors of a text, in the order of rnix_errors, each ended by a line feed (no error's text has one); the text is read once.
  * Answers how many bytes there are. Refusals: RNIX_NOT_UTF8, RNIX_NO_MEMORY.
  */
 int64_t rnix_error_texts(const uint8_t *text, size_t len, uint8_t *buffer, size_t room);
@@ -244,7 +247,8 @@ int64_t rnix_kind_of_name(const uint8_t *name, size_t len);
 /*
  * The text that a string stands for, in UTF-8 with no zero at the end: without its indentation if it is one in '', with what its escapes
  * stand for, and without its interpolations. The string is given by its number among the elements; its kind is RNIX_NODE_STRING. The text is
- * read anew. Answers how many bytes there are. Refusals: RNIX_NOT_UTF8, RNIX_NO_MEMORY, and RNIX_NONE_SUCH where no string has this number.
+ * read anew. Answers how many bytes there are. Refusals: RNIX_NOT_UTF8, RNIX_NO_MEMORY, and RNIX_NONE_SUCH where no node of this kind has the
+ * number.
  */
 int64_t rnix_string_text(const uint8_t *text, size_t len, size_t element, uint8_t *buffer, size_t room);
 

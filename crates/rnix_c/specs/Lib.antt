@@ -1,1 +1,7 @@
 pub mod Answers
+pub mod Elements
+pub mod Errors
+pub mod Kinds
+pub mod Messages
+pub mod Strings
+pub mod Tokens

@@ -1,27 +1,31 @@
 //! The errors of a text.
 
-ghost use Rattle.std.specs.Prelude.{◌≡◌, ◌⊎◌, negsuc, map, length};
-ghost use Rattle.rnix_grammar.specs.Fault.{fault_of, fault_text};
-ghost use Rattle.rnix_c.specs.Answers.{Answers, IsAnswer, IsWritten, TellsFault};
+ghost use Rattle.std.specs.Prelude.{◌≡◌, map};
+ghost use Rattle.rnix_kinds.specs.KindNumbers.{number_of};
+ghost use Rattle.rnix_kinds.specs.TokenSet.{set_of};
+ghost use Rattle.rnix_green.specs.Range.{bounds_of};
+ghost use Rattle.rnix_grammar.specs.Fault.{fault_of};
+ghost use Rattle.rnix_c.specs.Answers.{filled};
+ghost use Rattle.rnix_c.specs.Errors.{unplaced, placed, wanted_of, error_of, errors_of};
 
-use crate::answers::{self, NO_KIND, NO_MEMORY, NO_NUMBER, NONE_SUCH, parsed};
+use crate::answers::{NO_KIND, NO_NUMBER};
 use rnix::{ParseError, SyntaxKind, TextRange};
-use std::alloc::Global;
-use std::fmt::Write;
 
 /// An error: its variant and range, the kind of the token that stands there, and the set of the kinds that are wanted.
 #[repr(C)]
 #[derive(Clone, Copy)]
 pub struct RnixError {
-    start: u64,
-    end: u64,
-    wanted: [u64; 2],
-    variant: u32,
-    found: u32,
+    pub start: u64,
+    pub end: u64,
+    pub wanted: [u64; 2],
+    pub variant: u32,
+    pub found: u32,
 }
 
 // An error of this variant and no range.
-fn unplaced(variant: u32) -> RnixError {
+fn unplaced(variant: u32) -> RnixError
+    ensures { result ≡ unplaced variant }
+{
     RnixError {
         start: NO_NUMBER,
         end: NO_NUMBER,
@@ -32,7 +36,9 @@ fn unplaced(variant: u32) -> RnixError {
 }
 
 // An error of this variant and range.
-fn placed(variant: u32, range: TextRange) -> RnixError {
+fn placed(variant: u32, range: TextRange) -> RnixError
+    ensures { result ≡ placed variant (bounds_of range) }
+{
     RnixError {
         start: range.start() as u64,
         end: range.end() as u64,
@@ -40,34 +46,41 @@ fn placed(variant: u32, range: TextRange) -> RnixError {
     }
 }
 
-// A set of kinds: one bit for each, from the lowest of the first number on.
-fn set_of(kinds: &[SyntaxKind]) -> [u64; 2] {
-    let mut set = [0, 0];
+// A set of kinds: the bit of each kind's number is set.
+fn bits_of(kinds: &[SyntaxKind]) -> u128
+    ensures { result ≡ number_of (set_of kinds.now) }
+{
+    let mut bits: u128 = 0;
     for kind in kinds {
-        let number = *kind as u32;
-        if number < u64::BITS {
-            set[0] |= 1 << number;
-        } else {
-            set[1] |= 1 << (number % u64::BITS);
-        }
+        bits |= 1 << (*kind as u32);
     }
-    set
+    bits
+}
+
+// The same set in two numbers, of which the first has the lower bits.
+fn wanted_of(kinds: &[SyntaxKind]) -> [u64; 2]
+    ensures { result ≡ wanted_of kinds.now }
+{
+    let bits = bits_of(kinds);
+    [(bits % (1 << u64::BITS)) as u64, (bits >> u64::BITS) as u64]
 }
 
 // An error as numbers. The header names the variants.
-fn record_of(error: &ParseError) -> RnixError {
+fn record_of(error: &ParseError) -> RnixError
+    ensures { result ≡ error_of (fault_of error.now) }
+{
     match error {
         ParseError::Unexpected(range) => placed(0, *range),
         ParseError::UnexpectedExtra(range) => placed(1, *range),
         ParseError::UnexpectedWanted(kind, range, wanted) => RnixError {
             found: *kind as u32,
-            wanted: set_of(wanted),
+            wanted: wanted_of(wanted),
             ..placed(2, *range)
         },
         ParseError::UnexpectedDoubleBind(range) => placed(3, *range),
         ParseError::UnexpectedEOF => unplaced(4),
         ParseError::UnexpectedEOFWanted(wanted) => RnixError {
-            wanted: set_of(wanted),
+            wanted: wanted_of(wanted),
             ..unplaced(5)
         },
         ParseError::DuplicatedArgs(range, _name) => placed(6, *range),
@@ -75,66 +88,11 @@ fn record_of(error: &ParseError) -> RnixError {
     }
 }
 
-// Writes the errors, as far as there is room.
-fn fill(errors: &[ParseError], room: &mut [RnixError]) {
-    for (place, error) in room.iter_mut().zip(errors) {
-        *place = record_of(error);
-    }
-}
-
-/// Writes the errors, as far as there is room, and answers how many there are.
-pub fn written(errors: &[ParseError], room: &mut [RnixError]) -> usize
-    ensures { result ≡ length errors.now }
+/// Writes the first errors, as many as there is room for.
+pub fn fill(errors: &[ParseError], room: &mut [RnixError])
+    ensures { room.new ≡ filled (errors_of (map fault_of errors.now)) room.old }
 {
-    fill(errors, room);
-    errors.len()
-}
-
-// Writes what is said of an error: how many bytes it has.
-fn told(alloc: Global, error: &ParseError, room: &mut [u8]) -> i64
-    ensures { (result ≡ negsuc 1) ⊎ IsWritten (fault_text (fault_of error.now)) result room.old room.new }
-{
-    match error.to_string(alloc) {
-        Ok(text) => answers::written(&text, room),
-        Err(_) => NO_MEMORY,
+    for number in 0..errors.len().min(room.len()) {
+        room[number] = record_of(&errors[number]);
     }
-}
-
-// Writes what is said of the error of this number.
-fn told_of(alloc: Global, errors: &[ParseError], number: usize, room: &mut [u8]) -> i64
-    ensures { (result ≡ negsuc 1) ⊎ TellsFault (map fault_of errors.now) number result room.old room.new }
-{
-    match errors.get(number) {
-        Some(error) => told(alloc, error, room),
-        None => NONE_SUCH,
-    }
-}
-
-/// The text of one error of a text: how many bytes it has.
-#[unsafe(no_mangle)]
-pub extern "C" fn rnix_error_text(alloc: Global, text: &[u8], number: usize, room: &mut [u8]) -> i64
-    ensures { Answers text.now result (λ _ faults. TellsFault faults number result room.old room.new) }
-{
-    match parsed(alloc, text) {
-        Ok(read) => told_of(alloc, read.errors(), number, room),
-        Err(answer) => answer,
-    }
-}
-
-/// The texts of all errors of a text, each on a line: how many bytes these are.
-#[unsafe(no_mangle)]
-pub extern "C" fn rnix_error_texts(alloc: Global, text: &[u8], room: &mut [u8]) -> i64
-    ensures { IsAnswer text.now result }
-{
-    let read = match parsed(alloc, text) {
-        Ok(read) => read,
-        Err(answer) => return answer,
-    };
-    let mut lines = String::new(alloc);
-    for error in read.errors() {
-        if write!(lines, "{error}\n").is_err() {
-            return NO_MEMORY;
-        }
-    }
-    answers::written(&lines, room)
 }

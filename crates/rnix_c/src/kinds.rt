@@ -1,9 +1,8 @@
 //! The kinds by their numbers.
 
-ghost use Rattle.std.specs.Prelude.{◌≡◌, ◌≤◌, IfSome, IfNone, ◌⊎◌, pos, negsuc};
-ghost use Rattle.rnix_kinds.specs.declared.kinds.SyntaxKind.{SyntaxKind};
-ghost use Rattle.rnix_kinds.specs.SyntaxKind.{name_of, place_of, kind_count};
-ghost use Rattle.rnix_c.specs.Answers.{NamesKind};
+ghost use Rattle.std.specs.Prelude.{◌≡◌, ◌≤◌, IfSome, IfNone};
+ghost use Rattle.rnix_kinds.specs.SyntaxKind.{place_of, kind_count};
+ghost use Rattle.rnix_c.specs.Kinds.{NamesKind, FindsKind};
 
 use crate::answers::{NONE_SUCH, written};
 use rnix::SyntaxKind;
@@ -30,7 +29,7 @@ pub extern "C" fn rnix_kind_name(kind: u32, room: &mut [u8]) -> i64
 /// The number of the kind that has the name.
 #[unsafe(no_mangle)]
 pub extern "C" fn rnix_kind_of_name(name: &[u8]) -> i64
-    ensures { (result ≡ negsuc 2) ⊎ ((k : SyntaxKind) × (name_of k ≡ name.now) × (result ≡ pos (place_of k))) }
+    ensures { FindsKind name.now result }
 {
     let Ok(name) = str::from_utf8(name) else {
         return NONE_SUCH;

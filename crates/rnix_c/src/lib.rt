@@ -7,6 +7,7 @@ mod answers;
 mod elements;
 mod errors;
 mod kinds;
+mod messages;
 mod strings;
 mod tokens;
 mod tree;

@@ -1,41 +1,70 @@
 //! What strings stand for.
 
-ghost use Rattle.std.specs.Prelude.{◌≡◌, ◌⊎◌, negsuc, IfErr};
-ghost use Rattle.rnix_c.specs.Answers.{IsAnswerOfOne};
+ghost use Rattle.std.specs.Prelude.{◌≡◌, ◌⊎◌, IfSome, IfNone, IfOk, IfErr, option_map, slice_get, string_bytes};
+ghost use Rattle.std.specs.List.{flat_map};
+ghost use Rattle.rnix_green.specs.Walk.{elements_of};
+ghost use Rattle.rnix_tree.specs.Spots.{spot_of};
+ghost use Rattle.rnix_base.specs.Normal.{owned, with_text};
+ghost use Rattle.rnix.specs.Strings.{normalized_parts};
+ghost use Rattle.rnix_c.specs.Answers.{none_such, no_memory, filled, IsWritten, Answers};
+ghost use Rattle.rnix_c.specs.Strings.{located, IsString, literal_text, string_text, end_after, part_at, parts_from, parts_written, WritesString};
 
-use crate::answers::{NO_MEMORY, NONE_SUCH, count_of, parsed, written};
+use crate::answers::{NO_MEMORY, NONE_SUCH, parsed, written};
 use rnix::ast::{AstNode, InterpolPart, Str};
-use rnix::{NodeOrToken, Parse};
+use rnix::{GreenNode, NodeOrToken, SyntaxElement, SyntaxNode};
 use std::alloc::{AllocError, Global};
 
 /// A part of a string: a range of its text, or that of an interpolation.
 #[repr(C)]
 #[derive(Clone, Copy)]
 pub struct RnixPart {
-    start: u64,
-    end: u64,
-    is_interpolation: u32,
+    pub start: u64,
+    pub end: u64,
+    pub is_interpolation: u32,
+}
+
+// The element of this number.
+fn element_at<'t>(green: &'t GreenNode, number: usize) -> Option<SyntaxElement<'t>>
+    ensures { option_map spot_of result ≡ slice_get (elements_of (located green.now 0)) number }
+{
+    let root = SyntaxNode::new_root(green);
+    root.descendants_with_tokens().nth(number)
+}
+
+// The string that is the element of this number.
+fn string_at<'t>(green: &'t GreenNode, number: usize) -> Option<Str<'t>>
+    ensures found { IfSome result (λ string. (string ≡ located green.now number) × IsString (located green.now number)) }
+    ensures missing { IfNone result (¬ IsString (located green.now number)) }
+{
+    let NodeOrToken::Node(node) = element_at(green, number)? else {
+        return None;
+    };
+    Str::cast(node)
 }
 
 // The parts of the string that is the element of this number, or why there are none.
 fn parts_of<'t>(
     alloc: Global,
-    read: &'t Parse,
+    green: &'t GreenNode,
     number: usize,
 ) -> Result<Vec<InterpolPart<'t, String>>, i64>
-    ensures { IfErr result (λ answer. (answer ≡ negsuc 1) ⊎ (answer ≡ negsuc 2)) }
+    ensures string { IfOk result (λ _. IsString (located green.now number)) }
+    ensures parts { IfOk result (λ parts. owned parts.items ≡ normalized_parts (located green.now number)) }
+    ensures refused { IfErr result (λ answer. ((answer ≡ none_such) × ¬ IsString (located green.now number)) ⊎ (answer ≡ no_memory)) }
 {
-    let Some(NodeOrToken::Node(node)) = read.syntax().descendants_with_tokens().nth(number) else {
+    let Some(string) = string_at(green, number) else {
         return Err(NONE_SUCH);
     };
-    let Some(string) = Str::cast(node) else {
-        return Err(NONE_SUCH);
-    };
-    string.normalized_parts(alloc).map_err(|_| NO_MEMORY)
+    match string.normalized_parts(alloc) {
+        Ok(parts) => Ok(parts),
+        Err(_) => Err(NO_MEMORY),
+    }
 }
 
 // The texts between the interpolations, one behind the other.
-fn text_of(alloc: Global, parts: &[InterpolPart<'_, String>]) -> Result<String, AllocError> {
+fn text_of(alloc: Global, parts: &[InterpolPart<'_, String>]) -> Result<String, AllocError>
+    ensures { IfOk result (λ text. string_bytes text ≡ flat_map literal_text (owned parts.now)) }
+{
     let mut text = String::new(alloc);
     for part in parts {
         if let InterpolPart::Literal(literal) = part {
@@ -45,12 +74,24 @@ fn text_of(alloc: Global, parts: &[InterpolPart<'_, String>]) -> Result<String, 
     Ok(text)
 }
 
-// A part, where so many bytes of the string's text stand before it.
-fn part_of(part: &InterpolPart<'_, String>, before: usize) -> RnixPart {
+// Where the string's text ends behind a part, of which so many bytes stand before it.
+fn end_after(part: &InterpolPart<'_, String>, before: usize) -> usize
+    ensures { result ≡ end_after before (with_text string_bytes part.now) }
+{
     match part {
-        InterpolPart::Literal(literal) => RnixPart {
+        InterpolPart::Literal(literal) => before.saturating_add(literal.len()),
+        InterpolPart::Interpolation(_) => before,
+    }
+}
+
+// A part, where so many bytes of the string's text stand before it.
+fn part_at(part: &InterpolPart<'_, String>, before: usize) -> RnixPart
+    ensures { result ≡ part_at before (with_text string_bytes part.now) }
+{
+    match part {
+        InterpolPart::Literal(_) => RnixPart {
             start: before as u64,
-            end: before.saturating_add(literal.len()) as u64,
+            end: end_after(part, before) as u64,
             is_interpolation: 0,
         },
         InterpolPart::Interpolation(node) => {
@@ -64,15 +105,24 @@ fn part_of(part: &InterpolPart<'_, String>, before: usize) -> RnixPart {
     }
 }
 
-// Writes the parts, as far as there is room.
-fn fill(parts: &[InterpolPart<'_, String>], room: &mut [RnixPart]) {
+// Writes the first parts, as many as there is room for.
+fn fill(parts: &[InterpolPart<'_, String>], room: &mut [RnixPart])
+    ensures { room.new ≡ filled (parts_from 0 (owned parts.now)) room.old }
+{
     let mut before: usize = 0;
-    for (place, part) in room.iter_mut().zip(parts) {
-        *place = part_of(part, before);
-        if let InterpolPart::Literal(literal) = part {
-            before = before.saturating_add(literal.len());
-        }
+    for number in 0..parts.len().min(room.len()) {
+        let part = &parts[number];
+        room[number] = part_at(part, before);
+        before = end_after(part, before);
     }
+}
+
+// Writes the first parts, as many as there is room for, and returns how many there are.
+fn write_parts(parts: &[InterpolPart<'_, String>], room: &mut [RnixPart]) -> i64
+    ensures { IsWritten (parts_from 0 (owned parts.now)) result room.old room.new }
+{
+    fill(parts, room);
+    parts.len() as i64
 }
 
 /// What a string stands for, without its interpolations: how many bytes these are.
@@ -83,13 +133,13 @@ pub extern "C" fn rnix_string_text(
     element: usize,
     room: &mut [u8],
 ) -> i64
-    ensures { IsAnswerOfOne text.now result }
+    ensures { Answers text.now result (room.new ≡ room.old) (λ tree _. WritesString string_text tree element result room.old room.new) }
 {
-    let read = match parsed(alloc, text) {
+    let (green, _errors) = match parsed(alloc, text) {
         Ok(read) => read,
         Err(answer) => return answer,
     };
-    let parts = match parts_of(alloc, &read, element) {
+    let parts = match parts_of(alloc, &green, element) {
         Ok(parts) => parts,
         Err(answer) => return answer,
     };
@@ -107,17 +157,14 @@ pub extern "C" fn rnix_string_parts(
     element: usize,
     room: &mut [RnixPart],
 ) -> i64
-    ensures { IsAnswerOfOne text.now result }
+    ensures { Answers text.now result (room.new ≡ room.old) (λ tree _. WritesString parts_written tree element result room.old room.new) }
 {
-    let read = match parsed(alloc, text) {
+    let (green, _errors) = match parsed(alloc, text) {
         Ok(read) => read,
         Err(answer) => return answer,
     };
-    match parts_of(alloc, &read, element) {
-        Ok(parts) => {
-            fill(&parts, room);
-            count_of(parts.len())
-        }
+    match parts_of(alloc, &green, element) {
+        Ok(parts) => write_parts(&parts, room),
         Err(answer) => answer,
     }
 }

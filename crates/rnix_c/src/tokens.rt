@@ -1,8 +1,8 @@
 //! The tokens of a text.
 
-ghost use Rattle.rnix_c.specs.Answers.{IsAnswer};
+ghost use Rattle.rnix_c.specs.Tokens.{AnswersTokens, WritesTokens};
 
-use crate::answers::{NO_MEMORY, NOT_UTF8, count_of};
+use crate::answers::{NO_MEMORY, NOT_UTF8};
 use rnix::tokenize;
 use std::alloc::Global;
 
@@ -10,37 +10,42 @@ use std::alloc::Global;
 #[repr(C)]
 #[derive(Clone, Copy)]
 pub struct RnixToken {
-    start: u64,
-    end: u64,
-    kind: u32,
+    pub start: u64,
+    pub end: u64,
+    pub kind: u32,
 }
 
-/// The tokens of a text: how many there are.
-#[unsafe(no_mangle)]
-pub extern "C" fn rnix_tokens(alloc: Global, text: &[u8], room: &mut [RnixToken]) -> i64
-    ensures { IsAnswer text.now result }
+// Writes the first tokens of the text, as many as there is room for, and returns how many it has.
+fn written(alloc: Global, text: &str, room: &mut [RnixToken]) -> i64
+    ensures { WritesTokens text.now result room.old room.new }
 {
-    let Ok(text) = str::from_utf8(text) else {
-        return NOT_UTF8;
-    };
     let mut tokens = tokenize(alloc, text);
     let (mut count, mut start): (usize, usize) = (0, 0);
-    for _byte in 0..text.len() {
-        let (kind, token) = match tokens.next_token() {
-            Some(Ok(token)) => token,
-            Some(Err(_)) => return NO_MEMORY,
-            None => break,
+    while let Some(next) = tokens.next_token() {
+        let Ok((kind, token)) = next else {
+            return NO_MEMORY;
         };
-        let end = start.saturating_add(token.len());
-        if let Some(place) = room.get_mut(count) {
-            *place = RnixToken {
+        let end = start + token.len();
+        if count < room.len() {
+            room[count] = RnixToken {
                 start: start as u64,
                 end: end as u64,
                 kind: kind as u32,
             };
         }
-        count = count.saturating_add(1);
+        count += 1;
         start = end;
     }
-    count_of(count)
+    count as i64
+}
+
+/// The tokens of a text: how many there are.
+#[unsafe(no_mangle)]
+pub extern "C" fn rnix_tokens(alloc: Global, text: &[u8], room: &mut [RnixToken]) -> i64
+    ensures { AnswersTokens text.now result room.old room.new }
+{
+    match str::from_utf8(text) {
+        Ok(text) => written(alloc, text, room),
+        Err(_) => NOT_UTF8,
+    }
 }

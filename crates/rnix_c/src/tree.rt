@@ -1,10 +1,11 @@
 //! A text's tree and errors.
 
 ghost use Rattle.std.specs.Prelude.{◌≡◌, length};
-ghost use Rattle.rnix_green.specs.Walk.{elements_of};
-ghost use Rattle.rnix_c.specs.Answers.{Answers, Counts, root};
+ghost use Rattle.rnix_c.specs.Answers.{filled, IsWritten, Answers};
+ghost use Rattle.rnix_c.specs.Elements.{elements_of};
+ghost use Rattle.rnix_c.specs.Errors.{errors_of};
 
-use crate::answers::{count_of, parsed};
+use crate::answers::parsed;
 use crate::elements::{self, RnixElement};
 use crate::errors::{self, RnixError};
 use std::alloc::Global;
@@ -18,24 +19,27 @@ pub extern "C" fn rnix_parse(
     errors: &mut [RnixError],
     error_count: &mut u64,
 ) -> i64
-    ensures elements { Answers text.now result (λ tree _. Counts (length (elements_of (root tree))) result) }
-    ensures errors { Answers text.now result (λ _ faults. error_count.new ≡ length faults) }
+    ensures { Answers text.now result ((elements.new ≡ elements.old) × (errors.new ≡ errors.old) × (error_count.new ≡ error_count.old))
+        (λ tree faults. IsWritten (elements_of tree) result elements.old elements.new
+        × (errors.new ≡ filled (errors_of faults) errors.old) × (error_count.new ≡ length faults)) }
 {
-    let read = match parsed(alloc, text) {
-        Ok(read) => read,
-        Err(answer) => return answer,
-    };
-    *error_count = errors::written(read.errors(), errors) as u64;
-    elements::written(&read.syntax(), elements)
+    match parsed(alloc, text) {
+        Ok((green, faults)) => {
+            errors::fill(&faults, errors);
+            *error_count = faults.len() as u64;
+            elements::written(&green, elements)
+        }
+        Err(answer) => answer,
+    }
 }
 
 /// The elements of a text's tree, in preorder: how many there are.
 #[unsafe(no_mangle)]
 pub extern "C" fn rnix_elements(alloc: Global, text: &[u8], room: &mut [RnixElement]) -> i64
-    ensures { Answers text.now result (λ tree _. Counts (length (elements_of (root tree))) result) }
+    ensures { Answers text.now result (room.new ≡ room.old) (λ tree _. IsWritten (elements_of tree) result room.old room.new) }
 {
     match parsed(alloc, text) {
-        Ok(read) => elements::written(&read.syntax(), room),
+        Ok((green, _errors)) => elements::written(&green, room),
         Err(answer) => answer,
     }
 }
@@ -43,10 +47,13 @@ pub extern "C" fn rnix_elements(alloc: Global, text: &[u8], room: &mut [RnixElem
 /// The errors of a text: how many there are.
 #[unsafe(no_mangle)]
 pub extern "C" fn rnix_errors(alloc: Global, text: &[u8], room: &mut [RnixError]) -> i64
-    ensures { Answers text.now result (λ _ faults. Counts (length faults) result) }
+    ensures { Answers text.now result (room.new ≡ room.old) (λ _ faults. IsWritten (errors_of faults) result room.old room.new) }
 {
     match parsed(alloc, text) {
-        Ok(read) => count_of(errors::written(read.errors(), room)),
+        Ok((_green, errors)) => {
+            errors::fill(&errors, room);
+            errors.len() as i64
+        }
         Err(answer) => answer,
     }
 }

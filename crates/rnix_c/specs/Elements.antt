@@ -1,0 +1,25 @@
+-- The elements of a tree as they are written for C.
+use Rattle.std.specs.Prelude.{ℕ, ◌-◌, ◌^◌, cond, List, map, Option, Some, None}
+use Rattle.rnix_kinds.specs.SyntaxKind.{place_of}
+use Rattle.rnix_green.specs.Tree.{Tree, Item, items_of}
+use Rattle.rnix_c.specs.declared.elements.RnixElement.{RnixElement}
+
+-- the number of an element; 2 ^ 64 - 1 where there is none
+abbrev pub number_or_none : Option ℕ → ℕ
+number_or_none None = 2 ^ 64 - 1
+number_or_none (Some number) = number
+
+-- what is written of an element
+abbrev pub element_of : Item → RnixElement
+element_of i = record {
+  start = i.start;
+  end = i.end;
+  parent = number_or_none i.parent;
+  inside = i.below;
+  kind = place_of i.kind;
+  is_token = cond i.is_node 0 1;
+}
+
+-- what is written of a tree: of each element, in preorder
+abbrev pub elements_of : Tree → List RnixElement
+elements_of tree = map element_of (items_of tree)
