@@ -1,10 +1,13 @@
 //! Looking at a text.
 
-ghost use Rattle.std.specs.Prelude.{◌≡◌, ◌<◌, ◌≤◌, length, slice_index};
+ghost use Rattle.std.specs.Prelude.{◌≡◌, ◌<◌, ◌≤◌, true, length, slice_index};
 ghost use Rattle.std.specs.List.{prefix_len};
 ghost use Rattle.rnix_kinds.specs.Lexical.Texts.{run_end, before_pair, char_len, begins_space, is_blank, space_len};
 ghost use Rattle.rnix_kinds.specs.Lexical.Classes.{class_test};
 ghost use Rattle.rnix_kinds.specs.Lexical.ClassTable.{has_flag};
+
+use super::lanes::{LANES, lanes_in};
+use std::simd::prelude::*;
 
 /// A set of bytes, to find runs of.
 #[derive(Clone, Copy)]
@@ -25,6 +28,10 @@ pub enum Class {
     Line,
     /// Any byte but `"`, `\`, `$` and `'`.
     Content,
+    /// White space of ASCII.
+    Blank,
+    /// Any byte but `*`.
+    Comment,
 }
 
 const DIGIT: u8 = 1;
@@ -84,6 +91,8 @@ pub fn is_in(class: Class, b: u8) -> bool
         Class::Uri => has_flag(URI, b),
         Class::Content => has_flag(CONTENT, b),
         Class::Line => b != b'\n',
+        Class::Blank => matches!(b, b' ' | b'\t'..=b'\r'),
+        Class::Comment => b != b'*',
     }
 }
 
@@ -103,17 +112,59 @@ pub fn byte_at(text: &str, index: usize) -> u8
     byte_of(text.as_bytes(), index)
 }
 
-// The length of the longest run at the front.
+// The length of the longest run at the front, one byte at a time.
+#[inline(always)]
+fn short_run_len(bytes: &[u8], class: Class) -> usize
+    ensures len { result ≡ prefix_len (class_test class) bytes.now }
+    ensures within { result ≤ length bytes.now }
+{
+    let mut at = 0;
+    while at < bytes.len() && is_in(class, bytes[at]) {
+        at += 1;
+    }
+    at
+}
+
+// The length of the longest run at the front, many bytes at a time.
+#[inline(always)]
+fn long_run_len(bytes: &[u8], class: Class) -> usize
+    ensures len { result ≡ prefix_len (class_test class) bytes.now }
+    ensures within { result ≤ length bytes.now }
+{
+    let mut at = 0;
+    while bytes.len() - at >= LANES {
+        let len = lanes_in(u8x16::from_slice(&bytes[at..]), class);
+        if len < LANES {
+            return at + len;
+        }
+        at += LANES;
+    }
+    at + short_run_len(&bytes[at..], class)
+}
+
+// Whether most runs of the class have few bytes.
+#[inline(always)]
+fn is_short(class: Class) -> bool {
+    matches!(class, Class::Digit | Class::Path | Class::Angle)
+}
+
+// The length of the longest run at the front, which often is none.
 #[inline(always)]
 fn run_len(bytes: &[u8], class: Class) -> usize
     ensures len { result ≡ prefix_len (class_test class) bytes.now }
     ensures within { result ≤ length bytes.now }
 {
-    bytes.iter().take_while(|b| is_in(class, **b)).count()
+    if is_short(class) {
+        short_run_len(bytes, class)
+    } else if bytes.is_empty() || !is_in(class, bytes[0]) {
+        0
+    } else {
+        long_run_len(bytes, class)
+    }
 }
 
 /// Where the longest run of the class ends that begins at `from`.
-#[inline]
+#[inline(always)]
 pub fn run_end_of(bytes: &[u8], from: usize, class: Class) -> usize
     requires { from ≤ length bytes.now }
     ensures end { result ≡ run_end (class_test class) from bytes.now }
@@ -124,7 +175,7 @@ pub fn run_end_of(bytes: &[u8], from: usize, class: Class) -> usize
 }
 
 /// Where the longest run of the class ends that begins at the byte `from` of a text.
-#[inline]
+#[inline(always)]
 pub fn run_end(text: &str, from: usize, class: Class) -> usize
     requires { from ≤ length text.now }
     ensures end { result ≡ run_end (class_test class) from text.now }
@@ -134,32 +185,37 @@ pub fn run_end(text: &str, from: usize, class: Class) -> usize
     run_end_of(text.as_bytes(), from, class)
 }
 
-// Whether the byte is white space of ASCII.
+/// Where the longest run of the class ends that the first byte begins.
 #[inline(always)]
-fn is_blank(b: u8) -> bool
-    ensures { result ≡ is_blank b }
+pub fn first_run_end(text: &str, class: Class) -> usize
+    requires some { 0 < length text.now }
+    requires first { class_test class (slice_index text.now 0) ≡ true }
+    ensures end { result ≡ run_end (class_test class) 0 text.now }
+    ensures within { result ≤ length text.now }
 {
-    matches!(b, b' ' | b'\t'..=b'\r')
+    run_end(text, 1, class)
 }
 
-// How many blanks come first.
-#[inline(always)]
-fn blank_len(bytes: &[u8]) -> usize
-    ensures { result ≡ prefix_len is_blank bytes.now }
+// How many bytes of white space come first, of all characters.
+#[inline(never)]
+fn wide_space_len(text: &str) -> usize
+    ensures { result ≡ space_len text.now }
 {
-    bytes.iter().take_while(|b| is_blank(**b)).count()
+    text.len() - text.trim_start().len()
 }
 
 /// How many bytes of white space come first.
-#[inline]
+#[inline(always)]
 pub fn space_len(text: &str) -> usize
     ensures { result ≡ space_len text.now }
 {
-    let blanks = blank_len(text.as_bytes());
-    if byte_at(text, blanks) < 128 {
-        return blanks;
+    if is_in(Class::Blank, byte_at(text, 0)) {
+        let blanks = first_run_end(text, Class::Blank);
+        if byte_at(text, blanks) < 128 {
+            return blanks;
+        }
     }
-    text.len() - text.trim_start().len()
+    wide_space_len(text)
 }
 
 /// Whether white space comes first.
