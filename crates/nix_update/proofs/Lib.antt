@@ -1,1 +1,2 @@
 pub mod OneChange
+mod QuotedLemmas
