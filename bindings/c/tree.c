@@ -12,6 +12,9 @@ enum { GOOD = 0, WRONG = 1, REFUSED = 2 };
 /* The longest name of a kind, with its zero, is shorter. */
 #define NAME_ROOM 32
 
+/* The deepest level that is indented. */
+enum { INDENTED = 100 };
+
 static char names[RNIX_KINDS][NAME_ROOM];
 
 static int refuse(const char *why) {
@@ -79,7 +82,18 @@ static int print_errors(const uint8_t *text, size_t len) {
     return answer < 0 ? refuse_answer(answer) : GOOD;
 }
 
-/* Prints the elements, each on a line, two spaces further to the right than the node around it. */
+/* Prints how a line begins: with two spaces for each level, and deeper than 100 levels with the number of its level. */
+static void print_margin(size_t depth) {
+    if (depth > INDENTED) {
+        printf("%zu ", depth);
+        return;
+    }
+    for (size_t level = 0; level < depth; level++) {
+        fputs("  ", stdout);
+    }
+}
+
+/* Prints the elements, each on a line, one level deeper than the node around it. */
 static void print_elements(const struct rnix_element *elements, uint64_t count) {
     size_t depth = 0;
     for (uint64_t number = 0; number < count; number++) {
@@ -93,9 +107,7 @@ static void print_elements(const struct rnix_element *elements, uint64_t count) 
                 depth--;
             }
         }
-        for (size_t level = 0; level < depth; level++) {
-            fputs("  ", stdout);
-        }
+        print_margin(depth);
         printf("%s@%" PRIu64 "..%" PRIu64 "\n", names[element->kind], element->start, element->end);
     }
 }

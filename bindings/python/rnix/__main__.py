@@ -10,6 +10,14 @@ from typing import Iterator
 
 import rnix
 
+# The deepest level that is indented.
+INDENTED = 100
+
+
+def margin(depth: int) -> str:
+    """Returns how a line begins: with two spaces for each level, and deeper than 100 levels with the number of its level."""
+    return "  " * depth if depth <= INDENTED else f"{depth} "
+
 
 def lines(tree: rnix.Tree) -> Iterator[str]:
     """Returns the lines of a text's errors and of its tree."""
@@ -19,7 +27,7 @@ def lines(tree: rnix.Tree) -> Iterator[str]:
     for element in tree.root.walk():
         around = element.parent
         depth = depths[element] = 0 if around is None else depths[around] + 1
-        yield f"{'  ' * depth}{element.kind}@{element.start}..{element.end}\n"
+        yield f"{margin(depth)}{element.kind}@{element.start}..{element.end}\n"
 
 
 def read(name: str | None) -> bytes:

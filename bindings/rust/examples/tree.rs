@@ -7,6 +7,18 @@ use std::io::{self, Read, Write};
 use std::process::ExitCode;
 use std::{env, fs, str};
 
+// The deepest level that is indented.
+const INDENTED: usize = 100;
+
+// How a line begins: with two spaces for each level, and deeper than 100 levels with the number of its level.
+fn margin(depth: usize) -> String {
+    if depth > INDENTED {
+        format!("{depth} ")
+    } else {
+        " ".repeat(2 * depth)
+    }
+}
+
 // Prints a text's errors and its tree, and answers whether it has errors.
 fn print(text: &[u8], out: &mut impl Write) -> Result<bool, Box<dyn Error>> {
     let parse = Root::try_parse(str::from_utf8(text)?)?;
@@ -19,14 +31,7 @@ fn print(text: &[u8], out: &mut impl Write) -> Result<bool, Box<dyn Error>> {
             depth -= 1;
             continue;
         };
-        writeln!(
-            out,
-            "{:width$}{:?}@{:?}",
-            "",
-            element.kind(),
-            element.text_range(),
-            width = 2 * depth
-        )?;
+        writeln!(out, "{}{:?}@{:?}", margin(depth), element.kind(), element.text_range())?;
         depth += 1;
     }
     Ok(!parse.errors().is_empty())

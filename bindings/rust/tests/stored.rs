@@ -22,6 +22,15 @@ fn stored(list: &str) -> Vec<(String, String)> {
     cases
 }
 
+// How `nix-tree` begins a line: with two spaces for each level, and deeper than 100 levels with the number of its level.
+fn margin(depth: usize) -> String {
+    if depth > 100 {
+        format!("{depth} ")
+    } else {
+        " ".repeat(2 * depth)
+    }
+}
+
 // What `nix-tree` prints of a text.
 fn printed(parse: &Parse<Root>) -> String {
     let mut printed = String::new();
@@ -36,11 +45,10 @@ fn printed(parse: &Parse<Root>) -> String {
         };
         writeln!(
             printed,
-            "{:width$}{:?}@{:?}",
-            "",
+            "{}{:?}@{:?}",
+            margin(depth),
             element.kind(),
-            element.text_range(),
-            width = 2 * depth
+            element.text_range()
         )
         .unwrap();
         depth += 1;

@@ -5,6 +5,7 @@ mod outcome;
 mod printing;
 mod reading;
 mod running;
+mod tree_lines;
 
 pub use outcome::{RunError, complaint, status};
 pub use rnix_tree::dump;

@@ -1,4 +1,4 @@
-//! What is printed of the errors of a text.
+//! The lines of errors.
 
 ghost use Rattle.std.specs.Prelude.{OnOk, map};
 ghost use Rattle.std.specs.Io.KnownBytes.{Appends};

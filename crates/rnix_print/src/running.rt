@@ -10,10 +10,11 @@ ghost use Rattle.rnix_print.specs.Lines.{output};
 use crate::outcome::RunError;
 use crate::printing::write_errors;
 use crate::reading::read_all;
+use crate::tree_lines::write_tree;
 use rnix_grammar::ParseError;
 use rnix_kinds::tokenize;
 use rnix_parser::parse;
-use rnix_tree::{GreenNode, SyntaxNode, dump};
+use rnix_tree::{GreenNode, SyntaxNode};
 use std::alloc::Global;
 use std::io;
 use std::io::{Read, Write};
@@ -23,8 +24,7 @@ fn print<W: Write>(tree: &GreenNode, errors: &[ParseError], out: &mut W) -> io::
     ensures { OnOk result (Appends (W.contents out.old) (W.contents out.new) (output tree.now (map fault_of errors.now))) }
 {
     write_errors(errors, out)?;
-    dump(&SyntaxNode::new_root(tree), out)?;
-    Ok(())
+    write_tree(&SyntaxNode::new_root(tree), out)
 }
 
 /// Reads all of the input and prints its errors and its tree: true if there are no errors. A refusal other than `Write` leaves the writer

@@ -26,6 +26,8 @@ mod pointers;
 #[cfg(test)]
 mod printed;
 #[cfg(test)]
+mod proportion;
+#[cfg(test)]
 mod ranges;
 #[cfg(test)]
 mod runs;

@@ -1,0 +1,3 @@
+mod DigitsWritten
+mod WalkLines
+mod Indented
