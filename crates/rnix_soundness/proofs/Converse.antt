@@ -1,23 +1,68 @@
 -- A row without errors of the end, repeated names and corners is strict, once its errors are repaired and its names stand where they may.
-use Rattle.std.{specs.Str.bytes_eq, proofs.Common.{◌≡◌, ℕ, Bool, true, false, List, [], ◌∷◌, ◌++◌, Some, refl, ap, sym, ◌∙◌, subst, codes, if◌then◌else◌, ◌&&◌}}
-use Rattle.{std.proofs.{Common.{◌+◌, arith}, lemmas.Bool.{and_from, and_parts, false_from_ne_true}}, rnix_kinds.specs.declared.kinds.SyntaxKind.SyntaxKind}
-use Rattle.rnix_kinds.specs.declared.kinds.SyntaxKind.TheVariants.{TOKEN_AT, NODE_IDENT, NODE_LITERAL, NODE_PAT_BIND, NODE_PAT_ENTRY, TOKEN_INTEGER, NODE_ROOT}
-use Rattle.{rnix_kinds.proofs.AllKinds.implied, rnix_green.specs.Forest.{Forest, empty, leaf, node}, rnix_grammar.specs.declared.place.Place.Place}
-use Rattle.rnix_grammar.specs.{declared.until.Until.Until, Fault.{Fault, named_twice}, AnnotatedForest.{Token, Note, Stray, Unwanted, Extra, Twice, TooDeep}}
-use Rattle.rnix_grammar.specs.AnnotatedForest.{AnnotatedForest, blank, branch, ◌⊕◌, one_token, one_branch, one_fault, tokens_in, leaf_kind, extent_of, row_of}
-use Rattle.rnix_grammar.specs.{Reports.{report, repeated, repeated_if, entry_name, is_same_name, has_entry, repeats}, Rows.{is_expression, RowState, Start, At}}
-use Rattle.rnix_grammar.specs.{Rows.{advance, first, first_bind, live, whole, start}, PlaceReads.{Reads, ReadsWhole, end, leaf as leafed, missing_part, wrong}}
-use Rattle.rnix_grammar.specs.{PlaceReads.{second, inner, IsWrong, deeper}, Strict.{may_stand, is_grouped, is_strict, entry_text, are_entries_new}}
-use Rattle.rnix_grammar.specs.{Strict.{first_is_no_or, binds_no_or, is_strict_expression}, Tables.is_among, Repaired.{repaired, patch, is_ended, ended_count}}
-use Rattle.rnix_grammar.specs.{Corners.{is_corner, has_no_corner}, Names.is_name_at, Named.{is_spelled, AreSpelled, AreNamed, is_repeated, Lacks}}
-use Rattle.{rnix_grammar.specs.{BehindErrors.{go_run, go_error}, Missing.missing, Operands.level_at}, rnix_lemmas.proofs.Basics.true_is_not_false}
-use Rattle.rnix_lemmas.proofs.OpeningRows.{HasRow, Opening, number_wrong, leveled, by_token, by_branch, by_fault, opened, is_place, spelled_first, spelled_rest}
-use Rattle.rnix_lemmas.proofs.{MissingFacts.missing_ended, EntryNames.{has-⊕, if_not}, NestRowStates.wrong_goes, NestPlaces.{IsExpected, go_expected}}
-use Rattle.{rnix_lemmas.proofs.NestPlaces.start_expected, rnix_soundness.proofs.RepairedRowStates.{Similar, similar_same, similar_two, similar_run}}
-use Rattle.rnix_soundness.proofs.{RepairedRowStates.{similar_past, expected_run}, RepairedStands.{stray_small, counted_small, IsThere, stands_there}}
-use Rattle.rnix_soundness.proofs.{RepairedStands.{suits_named, number_stands}, RepairedLevels.{IsLed, led, token_first, no_operand, named_no_or}}
-use Rattle.rnix_soundness.proofs.RepairedGroups.{grouped}
+use Rattle.std.proofs.Common.{◌≡◌, true, Option, Some, None, refl, ap, sym, ◌∙◌, subst, ℕ, Bool, false, List, [], ◌∷◌, ◌++◌, codes, if◌then◌else◌, ◌&&◌, ◌+◌}
+use Rattle.std.{proofs.{Common.arith, lemmas.Bool.{and_from, and_parts, false_from_ne_true}}, specs.Str.bytes_eq}
+use Rattle.rnix_kinds.specs.declared.kinds.SyntaxKind.{SyntaxKind, TheVariants.{NODE_PAT_BIND, TOKEN_AT, NODE_IDENT, NODE_LITERAL, NODE_PAT_ENTRY}}
+use Rattle.{rnix_kinds.{specs.declared.kinds.SyntaxKind.TheVariants.{TOKEN_INTEGER, NODE_ROOT}, proofs.AllKinds.implied}, rnix_green.specs.Forest.Forest}
+use Rattle.{rnix_green.specs.Forest.{empty, leaf, node}, rnix_grammar.specs.{declared.{place.Place.Place, until.Until.Until}, Symbols.{symbol_at, level_in}}}
+use Rattle.rnix_grammar.specs.{Rows.{RowState, At, advance, live, is_expression, Start, first, first_bind, whole, start}, Strict.{may_stand, stands_in}}
+use Rattle.rnix_grammar.specs.{Strict.{is_grouped, is_strict, entry_text, are_entries_new, first_is_no_or, binds_no_or, is_strict_expression}, Missing.run_at}
+use Rattle.rnix_grammar.specs.{Missing.missing, BehindErrors.{go_run, go_error}, Fault.{Fault, named_twice}, AnnotatedForest.{Token, Note, Stray, Unwanted}}
+use Rattle.rnix_grammar.specs.AnnotatedForest.{Extra, Twice, TooDeep, AnnotatedForest, blank, branch, ◌⊕◌, one_token, one_branch, one_fault, tokens_in}
+use Rattle.rnix_grammar.specs.{AnnotatedForest.{leaf_kind, extent_of, row_of}, Reports.{report, repeated, repeated_if, entry_name, is_same_name, has_entry}}
+use Rattle.rnix_grammar.specs.{Reports.repeats, PlaceReads.{Reads, ReadsWhole, end, leaf as leafed, missing_part, wrong, second, inner, IsWrong, deeper}}
+use Rattle.rnix_grammar.specs.{Tables.is_among, Repaired.{repaired, patch, is_ended, ended_count}, Corners.{is_corner, has_no_corner}, Names.is_name_at}
+use Rattle.{rnix_grammar.specs.{Named.{is_spelled, AreSpelled, AreNamed, is_repeated, Lacks}, Operands.level_at}, rnix_lemmas.proofs.Basics.true_is_not_false}
+use Rattle.rnix_lemmas.proofs.{ImitateLemmas.{Imitates, imitates_self, imitates_both, run_imitates, second_imitates}, NestPlaces.{IsExpected, go_expected}}
+use Rattle.rnix_lemmas.proofs.{NestPlaces.start_expected, OpeningRows.{HasRow, Opening, number_wrong, leveled, by_token, by_branch, by_fault, opened, is_place}}
+use Rattle.rnix_lemmas.proofs.{OpeningRows.{spelled_first, spelled_rest}, MissingFacts.missing_ended, EntryNames.{has-⊕, if_not}, NestRowStates.wrong_goes}
+use Rattle.rnix_soundness.proofs.{RepairedStands.{stray_small, counted_small, IsThere, stands_there, suits_named, number_stands, grouped}, RepairedLevels.IsLed}
+use Rattle.rnix_soundness.proofs.RepairedLevels.{led, token_first, no_operand, named_no_or}
 use Rattle.rnix_grammar.specs.declared.place.Place.TheVariants as p
+
+-- from the first state a row goes on as from the second, wherever it may go on from there
+pub record Similar (x y : RowState) : Type 0 where
+  pub like : Imitates x y
+  pub stands : (k : SyntaxKind) (c : Forest) → live (advance y k) ≡ true → may_stand y k c ≡ true → may_stand x k c ≡ true
+
+-- a state is similar to itself
+pub similar_same : (x : RowState) → Similar x x
+similar_same x = record { like = imitates_self x; stands = λ k c l m. m }
+
+-- and to what a similar one is similar to
+pub similar_two : {x y z : RowState} → Similar x y → Similar y z → Similar x z
+similar_two h j = record { like = imitates_both h.like j.like; stands = λ k c l m. h.stands k c (ap live (j.like.goes k l) ∙ l) (j.stands k c l m) }
+
+-- operands of one level stand at both places
+abbrev IsLevel : Place → Option (Until × Place) → Type 0
+IsLevel x None = Unit {0}
+IsLevel x (Some w) = level_in (symbol_at w.1) ≡ level_in (symbol_at x)
+
+run_level : (x : Place) → IsLevel x (run_at x)
+run_level p.ParenEnd = refl
+run_level _ = cc
+
+-- then the same trees may stand there
+same_stands : (x y : Place) (k : SyntaxKind) (c : Forest) → level_in (symbol_at y) ≡ level_in (symbol_at x) → may_stand (At y) k c ≡ true
+    → may_stand (At x) k c ≡ true
+same_stands x y NODE_PAT_BIND c e m = m
+same_stands x y k c e m = ap (λ o. stands_in o k c) (sym e) ∙ m
+
+-- a place is similar to the one behind a run of unwanted tokens
+pub similar_run : (x y : Place) (until : Until) → run_at x ≡ Some (until, y) → Similar (At x) (At y)
+similar_run x y until h = record { like = run_imitates x y until h; stands = λ k c l m. same_stands x y k c (subst (IsLevel x) h (run_level x)) m }
+
+-- a second name of a pattern ends it
+pub similar_past : (x : RowState) → Similar x (At (p.PatternEnd true)) → Similar x (At p.PatternPast)
+similar_past x h = record { like = imitates_both h.like second_imitates; stands = λ k c l m. absurd (true_is_not_false (sym l)) }
+
+-- behind a run a row is of the same kind
+expected_in : (k : SyntaxKind) (x : Place) → IsExpected k (At x) → IsExpected k (go_run (run_at x))
+expected_in k p.ParenEnd h = h
+expected_in k _ h = assumption
+
+-- and behind a run of unwanted tokens
+pub expected_run : (k : SyntaxKind) (x y : Place) (until : Until) → run_at x ≡ Some (until, y) → IsExpected k (At x) → IsExpected k (At y)
+expected_run k x y until e h = subst (IsExpected k) (ap go_run e) (expected_in k x h)
 
 -- errors of two rows
 misses_first : (test : Fault → Bool) (ds es : List Fault) → Lacks test (ds ++ es) → Lacks test ds

@@ -1,5 +1,3 @@
-pub mod RepairedLevels
-pub mod RepairedRowStates
 pub mod RepairedStands
-pub mod RepairedGroups
 pub mod Converse
+pub mod RepairedLevels
