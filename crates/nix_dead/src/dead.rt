@@ -1,10 +1,12 @@
 //! The names that a text binds and never uses.
 
-ghost use Rattle.std.specs.Prelude.{◌≡◌, IfOk};
-ghost use Rattle.std.specs.List.Sorted.{IsNonDecreasingBy};
+ghost use Rattle.std.specs.Prelude.{◌≡◌, ◌++◌, map, IfOk, OnOk};
+ghost use Rattle.std.specs.List.Sorted.{IsNonDecreasingBy, IsPermutation};
+ghost use Rattle.nix_scopes.specs.Bound.{bound_of};
+ghost use Rattle.nix_dead.specs.Dead.{is_unmeant, is_judged, marked, AreMarked, listed_name, unmarked, unmarked_from, dead_in};
 ghost use Rattle.nix_dead.specs.declared.dead.Name.{Name as Dead};
 
-use nix_scopes::{Binding, Resolution, resolve};
+use nix_scopes::{Binding, Reference, resolve};
 use rnix::{SyntaxKind, SyntaxNode};
 use std::alloc::{AllocError, Global};
 
@@ -15,45 +17,91 @@ pub struct Name<'t> {
     pub start: usize,
 }
 
+// Whether a name is meant to be unused.
+fn is_unmeant(name: &str) -> bool
+    ensures { result ≡ is_unmeant name.now }
+{
+    name.as_bytes().starts_with(b"_")
+}
+
 // Whether a binding is told if nothing uses it. The names of a `rec` set are its attributes, and the old `let` stands for its `body`.
-fn is_judged(binding: &Binding<'_>) -> bool {
-    match binding.scope.kind() {
-        SyntaxKind::NODE_ATTR_SET => false,
-        SyntaxKind::NODE_LEGACY_LET if binding.text == "body" => false,
-        _ => !binding.text.starts_with('_'),
+fn is_judged(binding: &Binding<'_>) -> bool
+    ensures { result ≡ is_judged (bound_of binding.now) }
+{
+    let scope = binding.scope.kind();
+    let is_body = scope == SyntaxKind::NODE_LEGACY_LET && binding.text == "body";
+    scope != SyntaxKind::NODE_ATTR_SET && !is_body && !is_unmeant(binding.text)
+}
+
+// Marks a number that is one of those that there are.
+fn mark(is_used: &mut Vec<bool>, number: usize)
+    ensures { is_used.new.items ≡ marked is_used.old.items number }
+{
+    if number < is_used.len() {
+        is_used[number] = true;
     }
 }
 
 // Of each binding, by its number, whether a name refers to it.
-fn used_bindings(alloc: Global, names: &Resolution<'_>) -> Result<Vec<bool>, AllocError> {
+fn used_bindings(
+    alloc: Global,
+    count: usize,
+    references: &[Reference<'_>],
+) -> Result<Vec<bool>, AllocError>
+    ensures { IfOk result (λ is_used. AreMarked count references.now is_used.items) }
+{
     let mut is_used = Vec::new(alloc);
-    is_used.resize(names.bindings().len(), false)?;
-    for reference in names.references() {
+    is_used.resize(count, false)?;
+    for reference in references {
         if let Some(number) = reference.binding {
-            if let Some(is_used) = is_used.get_mut(number) {
-                *is_used = true;
-            }
+            mark(&mut is_used, number);
         }
     }
     Ok(is_used)
 }
 
+// Lists a binding, if it is the first of its name, judged and not used.
+fn add_unused<'t>(
+    number: usize,
+    binding: &Binding<'t>,
+    is_used: &[bool],
+    dead: &mut Vec<Name<'t>>,
+) -> Result<(), AllocError>
+    ensures { OnOk result (map listed_name dead.new.items ≡ map listed_name dead.old.items ++ unmarked is_used.now number binding.now) }
+{
+    let is_used = is_used.get(number).copied().unwrap_or(true);
+    if binding.first == number && is_judged(binding) && !is_used {
+        dead.push(Name {
+            text: binding.text,
+            start: binding.node.text_range().start(),
+        })?;
+    }
+    Ok(())
+}
+
+// The bindings that are not used, in the order of their numbers.
+fn unused<'t>(
+    alloc: Global,
+    bindings: &[Binding<'t>],
+    is_used: &[bool],
+) -> Result<Vec<Name<'t>>, AllocError>
+    ensures { IfOk result (λ dead. map listed_name dead.items ≡ unmarked_from is_used.now 0 bindings.now) }
+{
+    let mut dead = Vec::new(alloc);
+    for number in 0..bindings.len() {
+        add_unused(number, &bindings[number], is_used, &mut dead)?;
+    }
+    Ok(dead)
+}
+
 /// The names of `let` and of parameters that nothing in their scope uses, but those that begin with `_`, in the order of the text.
 pub fn dead_names<'t>(alloc: Global, root: &SyntaxNode<'t>) -> Result<Vec<Name<'t>>, AllocError>
-    ensures { IfOk result (λ names. IsNonDecreasingBy (λ (name : Dead). name.start) names.items) }
+    ensures exactly { IfOk result (λ names. IsPermutation (dead_in root.now) (map listed_name names.items)) }
+    ensures order { IfOk result (λ names. IsNonDecreasingBy (λ (name : Dead). name.start) names.items) }
 {
     let names = resolve(alloc, root)?;
-    let is_used = used_bindings(alloc, &names)?;
-    let mut dead = Vec::new(alloc);
-    for (number, binding) in names.bindings().iter().enumerate() {
-        let is_first = binding.first == number;
-        if is_first && is_judged(binding) && !is_used.get(number).copied().unwrap_or(true) {
-            dead.push(Name {
-                text: binding.text,
-                start: binding.node.text_range().start(),
-            })?;
-        }
-    }
+    let is_used = used_bindings(alloc, names.bindings().len(), names.references())?;
+    let mut dead = unused(alloc, names.bindings(), &is_used)?;
     dead.sort_by_key(
         |name: &Name<'_>| -> usize
             ensures { result ≡ name.now.start }

@@ -1,5 +1,19 @@
-use Rattle.std.proofs.{Common.rules, lemmas.List.Sorted.IsNonDecreasingBy-from_sort_by_key}
+use Rattle.std.proofs.{Common.{rules, ◌≡◌, ◌∙◌, length, map, subst, ap}, lemmas.List.Sorted.IsNonDecreasingBy-from_sort_by_key}
+use Rattle.nix_dead.specs.Dead.{AreMarked, listed_name, unmarked_from}
+use Rattle.nix_dead.proofs.DeadLemmas.{dead_exactly}
 use Rattle.nix_dead.proofs.dead.dead_names.Goals as goal
 
-pub returns : goal.returns
-returns c = IsNonDecreasingBy-from_sort_by_key (λ name. name.start) _ c.in_ok-sort_by_key.ensures.sorted (λ a r q k. search rules)
+pub returns-clause-order : goal.returns-clause-order
+returns-clause-order c = IsNonDecreasingBy-from_sort_by_key (λ name. name.start) _ c.in_ok-sort_by_key.ensures.sorted (λ a r q k. search rules)
+
+pub returns-clause-exactly : goal.returns-clause-exactly
+returns-clause-exactly c =
+    let names = c.in_ok-names.names in
+    let marks = c.in_ok-is_used.is_used.items in
+    let are_marked : AreMarked (length names.bindings.items) names.references.items marks =
+    subst (λ rs. AreMarked (length names.bindings.items) rs marks) c.references.ensures
+    (subst (λ bs. AreMarked (length bs) c.references.result.now marks) c.bindings.ensures c.in_ok-is_used.ensures) in
+    let listing : map listed_name c.in_ok-dead.dead.items ≡ unmarked_from marks 0 names.bindings.items =
+    c.in_ok-dead.ensures ∙ ap (λ us. unmarked_from us 0 c.bindings-2.result.now) c.deref.ensures.value ∙ ap (unmarked_from marks 0) c.bindings-2.ensures in
+    dead_exactly c.args.root.now names.bindings.items names.references.items marks c.in_ok-dead.dead.items c.sort_by_key.new.self.items
+    c.in_ok-names.ensures.bindings c.in_ok-names.ensures.resolved c.in_ok-names.ensures.firsts are_marked listing c.in_ok-sort_by_key.ensures.permutation
