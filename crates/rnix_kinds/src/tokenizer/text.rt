@@ -196,6 +196,19 @@ pub fn first_run_end(text: &str, class: Class) -> usize
     run_end(text, 1, class)
 }
 
+/// The length of the longest run at the front of a text, which often is of one byte.
+#[inline(always)]
+pub fn front_run_len(text: &str, class: Class) -> usize
+    ensures len { result ≡ prefix_len (class_test class) text.now }
+    ensures within { result ≤ length text.now }
+{
+    if text.is_empty() || !is_in(class, byte_at(text, 0)) {
+        0
+    } else {
+        first_run_end(text, class)
+    }
+}
+
 // How many bytes of white space come first, of all characters.
 #[inline(never)]
 fn wide_space_len(text: &str) -> usize
