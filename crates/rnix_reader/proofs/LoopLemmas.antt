@@ -43,7 +43,7 @@ last_same (a ∷ xs) (b ∷ ys) x y e =
     (ap (λ z. a ∷ z) more.0 ∙ ap (λ z. z ∷ ys) heads, more.1)
 
 -- another action does not end the text
-pub not_finish : (action : Action) → (action ≡ a.Finish → ⊥) → is_finish action ≡ false
+not_finish : (action : Action) → (action ≡ a.Finish → ⊥) → is_finish action ≡ false
 not_finish a.Finish h = absurd (h refl)
 not_finish action h = refl
 
@@ -57,12 +57,12 @@ root_ended h place d row ts n es e = rw e (state_is refl (wrapped-join NODE_ROOT
 -- what follows where the innermost mark is taken: an action may be performed, and it leaves less to do, or the text is read
 pub record Turn (first : List Token) (s : State) (names : Names) (mark : Mark) (s1 : State) (action : Action) : Type 0 where
   pub ready : IsReady action mark s1 names
-  pub goes : (s' : State) (names' : Names) → is_finish action ≡ false → Performed action mark s1 names s' names' → NamesAfter action mark s1 names names'
+  pub goes : (s' : State) (names' : Names) → (action ≡ a.Finish → ⊥) → Performed action mark s1 names s' names' → NamesAfter action mark s1 names names'
       → IsGoing first s' names' × (work s' < work s)
   pub root : action ≡ a.Finish → 0 < length s1.open_nodes
   pub finished : (s' : State) → action ≡ a.Finish → s' ≡ ended (eaten s1) → IsReadTo first s'
 
-module _ (first : List Token) (s : State) (names : Names) (g : IsGoing first s names) where
+module _ {first : List Token} {s : State} {names : Names} (g : IsGoing first s names) where
   abbrev before : Machine
   before = machine (g.top ∷ g.under) g.left g.reached g.faults
 
@@ -73,9 +73,10 @@ module _ (first : List Token) (s : State) (names : Names) (g : IsGoing first s n
   may = allowed g.top.place (head_kind (items g.left)) (touches g.reached (items g.left))
 
   -- a step is taken
-  going : (s' : State) (names' : Names) → is_finish action ≡ false → Performed action (mark_of g.top g.under) (popped before) names s' names'
+  going : (s' : State) (names' : Names) → (action ≡ a.Finish → ⊥) → Performed action (mark_of g.top g.under) (popped before) names s' names'
       → NamesAfter action (mark_of g.top g.under) (popped before) names names' → IsGoing first s' names' × (work s' < work s)
-  going s' names' q d k =
+  going s' names' other d k =
+      let q : is_finish action ≡ false = not_finish action other in
       let after : Machine = step true before in
       let done : Goes after names' = perform_goes action g.top g.under g.left g.reached g.faults names names' g.named g.well may q k in
       let whole : after ≡ machine (done.top ∷ done.under) after.left after.reached after.faults = ap (λ x. machine x after.left after.reached after.faults) done.frames in
@@ -128,8 +129,9 @@ module _ (first : List Token) (s : State) (names : Names) (g : IsGoing first s n
       record { ready = needs; goes = going; root = λ e. subst (λ x. IsReady x (mark_of g.top g.under) (popped before) names) e needs; finished = read }
 
   -- so it is for the mark that is taken
-  pub turn : (mark : Mark) (s1 : State) (x : Action) → s.marks ≡ s1.marks ++ mark ∷ [] → s1 ≡ with_marks s1.marks s → x ≡ action_of mark.place s1 → Turn first s names mark s1 x
-  turn mark s1 x e k a =
-      let two = last_same s1.marks (marks_of g.under) mark (mark_of g.top g.under) (sym e ∙ ap (λ x. x.marks) g.state) in
-      let same : s1 ≡ popped before = k ∙ ap (with_marks s1.marks) g.state ∙ ap (λ x. with_marks x (flat before)) two.0 in
-      rw (a, same, two.1) concrete
+  pub turn : (ms : List Mark) (mark : Mark) (x : Action) → s.marks ≡ ms ++ mark ∷ [] → x ≡ action_of mark.place (with_marks ms s) → Turn first s names mark (with_marks ms s) x
+  turn ms mark x e k =
+      let two = last_same ms (marks_of g.under) mark (mark_of g.top g.under) (sym e ∙ ap (λ x. x.marks) g.state) in
+      let same : with_marks ms s ≡ popped before = ap (with_marks ms) g.state ∙ ap (λ x. with_marks x (flat before)) two.0 in
+      let act : x ≡ action = k ∙ ap (action_of mark.place) same ∙ ap (λ m. action_of m.place (popped before)) two.1 in
+      rw (act, same, two.1) concrete

@@ -92,7 +92,8 @@ module _ (f : Frame) (fs : List Frame) (ts : List Token) (n : ℕ) (es : List Fa
       d ∙ ap (λ x. failed (report Extra x) (error_over End (flat (machine (f ∷ fs) ts n es)))) (run_all run) ∙ ap (failed (report Extra run)) (flat-over _ Extra End run f fs ts n es (run_all run))
   performs (a.Take after) s' names' k al g d =
       d ∙ flat-bumped _ NODE_ROOT (put after f.row f) fs ts n es
-      ∙ ap (λ x. flat (machine (put after (ate true f.row ts ⊕ x) f ∷ fs) (behind true ts) (reach true n ts) es)) (own_leaf f.head (from_item ts) (ap is_name sort ∙ place_named f.place))
+      ∙ ap (λ x. flat (machine (put after (ate true f.row ts ⊕ x) f ∷ fs) (behind true ts) (reach true n ts) es))
+      (own_leaf f.head (from_item ts) (ap is_name sort ∙ place_named f.place))
   performs (a.Miss after) s' names' k al g d = d
   performs (a.MissWanted until after) s' names' k al g d = d
   performs (a.Run until after) s' names' k al g d =
