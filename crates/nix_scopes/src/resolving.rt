@@ -26,7 +26,8 @@ fn add_reference<'t>(
     references: &mut Vec<Reference<'t>>,
 ) -> Result<(), AllocError>
     requires { depth ≤ length around.now.scopes.items }
-    ensures { OnOk result (map resolved_of references.new.items ≡ map resolved_of references.old.items ++ seen around.now depth is_inherited (named name.entry) ∷ []) }
+    ensures { OnOk result (map resolved_of references.new.items ≡ map resolved_of references.old.items
+        ++ seen around.now depth is_inherited (named name.entry) ∷ []) }
 {
     let binding = around.binding(depth, name.text);
     references.push(Reference {
@@ -47,7 +48,8 @@ fn add_inherited<'t>(
     references: &mut Vec<Reference<'t>>,
 ) -> Result<(), AllocError>
     requires { depth ≤ length around.now.scopes.items }
-    ensures { OnOk result (map resolved_of references.new.items ≡ map resolved_of references.old.items ++ map (seen around.now depth true) (named_if node.now (attr_text node.now))) }
+    ensures { OnOk result (map resolved_of references.new.items ≡ map resolved_of references.old.items
+        ++ map (seen around.now depth true) (named_if node.now (attr_text node.now))) }
 {
     match attr_text(node) {
         Some(text) => {
@@ -95,7 +97,8 @@ fn add_references<'t>(
     node: SyntaxNode<'t>,
     references: &mut Vec<Reference<'t>>,
 ) -> Result<(), AllocError>
-    ensures { OnOk result (map resolved_of references.new.items ≡ map resolved_of references.old.items ++ map (seen_at around.now node.entry) (references_at node.entry)) }
+    ensures { OnOk result (map resolved_of references.new.items ≡ map resolved_of references.old.items
+        ++ map (seen_at around.now node.entry) (references_at node.entry)) }
 {
     if is_expression(&node) {
         let text = node.text();
