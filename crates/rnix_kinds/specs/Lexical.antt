@@ -11,4 +11,3 @@ pub mod Tokens
 pub mod Ahead
 pub mod PathKinds
 pub mod Longest
-pub mod Lanes

@@ -13,7 +13,6 @@ ghost use Rattle.rnix_kinds.specs.declared.kinds.SyntaxKind.{SyntaxKind};
 ghost use Rattle.rnix_kinds.specs.declared.tokenizer.text.Class.TheVariants.{Scheme};
 
 mod ahead;
-mod lanes;
 mod modes;
 mod normal;
 mod number;

@@ -5,7 +5,7 @@ ghost use Rattle.std.specs.List.{prefix_len};
 ghost use Rattle.rnix_kinds.specs.Lexical.Classes.{class_test};
 ghost use Rattle.rnix_kinds.specs.Lexical.Ahead.{IsRunEnd};
 
-use super::text::{Class, front_run_len};
+use super::text::{Class, run_end};
 
 /// Where the runs end that were looked over last, told by the length of the text that is left there.
 #[derive(Clone, Copy)]
@@ -22,7 +22,7 @@ pub fn looked(text: &str, left: &mut usize, class: Class) -> usize
     ensures left { IsRunEnd class left.new text.now }
 {
     if *left >= text.len() {
-        *left = text.len() - front_run_len(text, class);
+        *left = text.len() - run_end(text, 0, class);
     }
     text.len() - *left
 }

@@ -14,7 +14,7 @@ use super::operator::{closing_brace, ellipsis, opener, opening_brace, operator};
 use super::path::{home, relative, search_path, slash};
 use super::rule::{Cut, Mode, plain};
 use super::space::{block_comment, line_comment, space};
-use super::text::{Class, byte_at, char_len, first_run_end, is_in, space_len};
+use super::text::{Class, byte_at, char_len, is_in, run_end, space_len};
 use super::word::{uri, word};
 use crate::kinds::SyntaxKind;
 
@@ -46,7 +46,7 @@ fn named(text: &str, ahead: &mut Ahead) -> Cut
     ensures cut { result ≡ first_that_fits (relative text.now ∷ uri text.now ∷ word text.now ∷ []) (one_error text.now) }
     ensures ahead { IsAhead ahead.new text.now }
 {
-    let end = first_run_end(text, Class::Name);
+    let end = run_end(text, 0, Class::Name);
     if goes_past_name(byte_at(text, end)) {
         if let Some(cut) = relative(text, looked(text, &mut ahead.step, Class::Step)) {
             return cut;

@@ -4,7 +4,7 @@ ghost use Rattle.std.specs.Prelude.{◌≡◌, ◌≤◌, length};
 ghost use Rattle.rnix_kinds.specs.Lexical.Numbers.{number, fraction, exponent, exponent_digits};
 
 use super::rule::{Cut, plain};
-use super::text::{Class, byte_at, first_run_end, run_end};
+use super::text::{Class, byte_at, run_end};
 use crate::kinds::SyntaxKind;
 
 // The digits of an exponent, which must be there.
@@ -50,7 +50,7 @@ pub fn number(text: &str) -> Option<Cut>
     ensures { result ≡ number text.now }
 {
     if byte_at(text, 0).is_ascii_digit() {
-        let end = first_run_end(text, Class::Digit);
+        let end = run_end(text, 0, Class::Digit);
         let is_whole = byte_at(text, 0) == b'0' && byte_at(text, 1) != b'.';
         if byte_at(text, end) == b'.' && !is_whole {
             Some(fraction(text, end + 1))

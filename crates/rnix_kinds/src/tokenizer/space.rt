@@ -8,7 +8,7 @@ ghost use Rattle.rnix_kinds.specs.Lexical.Texts.{before_pair, run_end};
 ghost use Rattle.rnix_kinds.specs.Lexical.Plain.{plain, space, block_comment};
 
 use super::rule::{Cut, plain};
-use super::text::{Class, byte_of, run_end, run_end_of, space_len};
+use super::text::{Class, before_pair, run_end, space_len};
 use crate::kinds::SyntaxKind;
 
 /// White space.
@@ -31,19 +31,6 @@ pub fn line_comment(text: &str) -> Cut
     plain(SyntaxKind::TOKEN_COMMENT, run_end(text, 0, Class::Line))
 }
 
-// How many bytes come before the first `*/`; all, if there is none.
-#[inline(always)]
-fn comment_len(inside: &[u8]) -> usize
-    ensures value { result ≡ before_pair 42 47 inside.now }
-    ensures within { result ≤ length inside.now }
-{
-    let mut at = run_end_of(inside, 0, Class::Comment);
-    while at < inside.len() && byte_of(inside, at + 1) != b'/' {
-        at = run_end_of(inside, at + 1, Class::Comment);
-    }
-    at
-}
-
 /// A comment through `*/`. Without a `*/` the rest of the text is an error.
 #[inline(always)]
 pub fn block_comment(text: &str) -> Cut
@@ -51,7 +38,7 @@ pub fn block_comment(text: &str) -> Cut
     ensures { result ≡ block_comment (before_pair 42 47 (drop 2 text.now)) text.now }
 {
     let inside = &text.as_bytes()[2..];
-    let len = comment_len(inside);
+    let len = before_pair(inside, b'*', b'/');
     if len == inside.len() {
         plain(SyntaxKind::TOKEN_ERROR, text.len())
     } else {

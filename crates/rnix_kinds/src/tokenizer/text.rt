@@ -1,13 +1,10 @@
 //! Looking at a text.
 
-ghost use Rattle.std.specs.Prelude.{◌≡◌, ◌<◌, ◌≤◌, true, length, slice_index};
+ghost use Rattle.std.specs.Prelude.{◌≡◌, ◌<◌, ◌≤◌, length, slice_index};
 ghost use Rattle.std.specs.List.{prefix_len};
 ghost use Rattle.rnix_kinds.specs.Lexical.Texts.{run_end, before_pair, char_len, begins_space, is_blank, space_len};
 ghost use Rattle.rnix_kinds.specs.Lexical.Classes.{class_test};
 ghost use Rattle.rnix_kinds.specs.Lexical.ClassTable.{has_flag};
-
-use super::lanes::{LANES, lanes_in};
-use std::simd::prelude::*;
 
 /// A set of bytes, to find runs of.
 #[derive(Clone, Copy)]
@@ -28,10 +25,6 @@ pub enum Class {
     Line,
     /// Any byte but `"`, `\`, `$` and `'`.
     Content,
-    /// White space of ASCII.
-    Blank,
-    /// Any byte but `*`.
-    Comment,
 }
 
 const DIGIT: u8 = 1;
@@ -91,8 +84,6 @@ pub fn is_in(class: Class, b: u8) -> bool
         Class::Uri => has_flag(URI, b),
         Class::Content => has_flag(CONTENT, b),
         Class::Line => b != b'\n',
-        Class::Blank => matches!(b, b' ' | b'\t'..=b'\r'),
-        Class::Comment => b != b'*',
     }
 }
 
@@ -112,59 +103,17 @@ pub fn byte_at(text: &str, index: usize) -> u8
     byte_of(text.as_bytes(), index)
 }
 
-// The length of the longest run at the front, one byte at a time.
-#[inline(always)]
-fn short_run_len(bytes: &[u8], class: Class) -> usize
-    ensures len { result ≡ prefix_len (class_test class) bytes.now }
-    ensures within { result ≤ length bytes.now }
-{
-    let mut at = 0;
-    while at < bytes.len() && is_in(class, bytes[at]) {
-        at += 1;
-    }
-    at
-}
-
-// The length of the longest run at the front, many bytes at a time.
-#[inline(always)]
-fn long_run_len(bytes: &[u8], class: Class) -> usize
-    ensures len { result ≡ prefix_len (class_test class) bytes.now }
-    ensures within { result ≤ length bytes.now }
-{
-    let mut at = 0;
-    while bytes.len() - at >= LANES {
-        let len = lanes_in(u8x16::from_slice(&bytes[at..]), class);
-        if len < LANES {
-            return at + len;
-        }
-        at += LANES;
-    }
-    at + short_run_len(&bytes[at..], class)
-}
-
-// Whether most runs of the class have few bytes.
-#[inline(always)]
-fn is_short(class: Class) -> bool {
-    matches!(class, Class::Digit | Class::Path | Class::Angle)
-}
-
-// The length of the longest run at the front, which often is none.
+// The length of the longest run at the front.
 #[inline(always)]
 fn run_len(bytes: &[u8], class: Class) -> usize
     ensures len { result ≡ prefix_len (class_test class) bytes.now }
     ensures within { result ≤ length bytes.now }
 {
-    if is_short(class) {
-        short_run_len(bytes, class)
-    } else if bytes.is_empty() || !is_in(class, bytes[0]) {
-        0
-    } else {
-        long_run_len(bytes, class)
-    }
+    bytes.iter().take_while(|b| is_in(class, **b)).count()
 }
 
 /// Where the longest run of the class ends that begins at `from`.
-#[inline(always)]
+#[inline]
 pub fn run_end_of(bytes: &[u8], from: usize, class: Class) -> usize
     requires { from ≤ length bytes.now }
     ensures end { result ≡ run_end (class_test class) from bytes.now }
@@ -175,7 +124,7 @@ pub fn run_end_of(bytes: &[u8], from: usize, class: Class) -> usize
 }
 
 /// Where the longest run of the class ends that begins at the byte `from` of a text.
-#[inline(always)]
+#[inline]
 pub fn run_end(text: &str, from: usize, class: Class) -> usize
     requires { from ≤ length text.now }
     ensures end { result ≡ run_end (class_test class) from text.now }
@@ -185,50 +134,32 @@ pub fn run_end(text: &str, from: usize, class: Class) -> usize
     run_end_of(text.as_bytes(), from, class)
 }
 
-/// Where the longest run of the class ends that the first byte begins.
+// Whether the byte is white space of ASCII.
 #[inline(always)]
-pub fn first_run_end(text: &str, class: Class) -> usize
-    requires some { 0 < length text.now }
-    requires first { class_test class (slice_index text.now 0) ≡ true }
-    ensures end { result ≡ run_end (class_test class) 0 text.now }
-    ensures within { result ≤ length text.now }
+fn is_blank(b: u8) -> bool
+    ensures { result ≡ is_blank b }
 {
-    run_end(text, 1, class)
+    matches!(b, b' ' | b'\t'..=b'\r')
 }
 
-/// The length of the longest run at the front of a text, which often is of one byte.
+// How many blanks come first.
 #[inline(always)]
-pub fn front_run_len(text: &str, class: Class) -> usize
-    ensures len { result ≡ prefix_len (class_test class) text.now }
-    ensures within { result ≤ length text.now }
+fn blank_len(bytes: &[u8]) -> usize
+    ensures { result ≡ prefix_len is_blank bytes.now }
 {
-    if text.is_empty() || !is_in(class, byte_at(text, 0)) {
-        0
-    } else {
-        first_run_end(text, class)
-    }
-}
-
-// How many bytes of white space come first, of all characters.
-#[inline(never)]
-fn wide_space_len(text: &str) -> usize
-    ensures { result ≡ space_len text.now }
-{
-    text.len() - text.trim_start().len()
+    bytes.iter().take_while(|b| is_blank(**b)).count()
 }
 
 /// How many bytes of white space come first.
-#[inline(always)]
+#[inline]
 pub fn space_len(text: &str) -> usize
     ensures { result ≡ space_len text.now }
 {
-    if is_in(Class::Blank, byte_at(text, 0)) {
-        let blanks = first_run_end(text, Class::Blank);
-        if byte_at(text, blanks) < 128 {
-            return blanks;
-        }
+    let blanks = blank_len(text.as_bytes());
+    if byte_at(text, blanks) < 128 {
+        return blanks;
     }
-    wide_space_len(text)
+    text.len() - text.trim_start().len()
 }
 
 /// Whether white space comes first.

@@ -7,7 +7,7 @@ use Rattle.rnix_kinds.proofs.tokenizer.normal.named.Goals as goal
 pub returns-clause-cut : goal.returns-clause-cut
 returns-clause-cut c =
     let text = c.args.text.now in
-    let behind : c.byte_at.result ≡ get_or text (prefix_len (class_test Name) text) 0 = rw (c.first_run_end-end.ensures.end, zero-add) at c.byte_at.ensures in
+    let behind : c.byte_at.result ≡ get_or text (prefix_len (class_test Name) text) 0 = rw (c.run_end-end.ensures.end, zero-add) at c.byte_at.ensures in
     let none : (relative text ≡ None) × (uri text ≡ None) = elim c.if-goes_past_name.branch [
       | then-goes_past_name+in_default+in_default-uri w ↦ (sym w.relative.ensures ∙ w.in_default.is, sym w.uri.ensures ∙ w.in_default-uri.is)
       | else-goes_past_name w ↦ (
