@@ -1,12 +1,12 @@
-//! Tells where the static library is: RNIX_LIBRARY_FOLDER, or where bindings/build puts it.
+//! Links librnix.a from the folder RNIX_LIBRARY_FOLDER, or from where bindings/build puts it.
 
 use std::env;
 use std::path::PathBuf;
 
 fn main() {
     println!("cargo:rerun-if-env-changed=RNIX_LIBRARY_FOLDER");
-    let built = || PathBuf::from(env!("CARGO_MANIFEST_DIR")).join("../out");
-    let folder = env::var_os("RNIX_LIBRARY_FOLDER").map_or_else(built, PathBuf::from);
+    let default = || PathBuf::from(env!("CARGO_MANIFEST_DIR")).join("../out");
+    let folder = env::var_os("RNIX_LIBRARY_FOLDER").map_or_else(default, PathBuf::from);
     let library = folder.join("librnix.a");
     assert!(
         library.is_file(),

@@ -1,12 +1,12 @@
-//! Prints the errors of each file with their lines and columns: check FILE..
-//! It ends with 0 if no file has errors, with 1 if one has, and with 2 if one cannot be read.
+//! Usage: check FILE..
+//! Prints the errors of each file with their lines and columns. The exit status is 0 without errors, 1 with some, and 2 if a file cannot be read.
 
 use rnix::{ColumnUnit, LineIndex, ParseError, Root};
 use std::error::Error;
 use std::process::ExitCode;
 use std::{env, fs};
 
-// Where an error is; one without a range is at the end of the text.
+// The offset of an error; one without a range is at the end of the text.
 fn offset(text: &str, error: &ParseError) -> usize {
     match error {
         ParseError::Unexpected(range)
@@ -23,8 +23,8 @@ fn check(file: &str) -> Result<bool, Box<dyn Error>> {
     let parse = Root::try_parse(&text)?;
     let lines = LineIndex::new(&text, ColumnUnit::Chars);
     for error in parse.errors() {
-        if let Some(place) = lines.position(offset(&text, error)) {
-            println!("{file}:{}:{}: {error}", place.line + 1, place.column + 1);
+        if let Some(position) = lines.position(offset(&text, error)) {
+            println!("{file}:{}:{}: {error}", position.line + 1, position.column + 1);
         }
     }
     Ok(parse.errors().is_empty())

@@ -1,5 +1,5 @@
-//! Prints the names that a `let` binds and that stand nowhere in it as values, a line each: dead < FILE
-//! It looks at names alone: one that an inner expression binds again counts as used where that one is.
+//! Usage: dead < FILE
+//! Prints each name that a `let` binds but never uses. It compares names only, so a use of an inner binding with the same name counts too.
 
 use rnix::ast::{Attr, AttrpathValue, HasEntry, Ident, LetIn};
 use rnix::syntax::ast::AstNode;
@@ -7,7 +7,7 @@ use rnix::{ColumnUnit, LineIndex, Root, SyntaxKind};
 use std::collections::HashSet;
 use std::io::{self, Read};
 
-// The name that an entry binds, if it is a plain one.
+// The name that an entry binds, if it is an identifier.
 fn bound(entry: &AttrpathValue) -> Option<Ident> {
     match entry.attrpath()?.attrs().next()? {
         Attr::Ident(name) => Some(name),
@@ -15,12 +15,15 @@ fn bound(entry: &AttrpathValue) -> Option<Ident> {
     }
 }
 
-// The names that stand as values in a `let`.
+// The names that are used as values in a `let`.
 fn used(let_in: &LetIn) -> HashSet<String> {
     let names = let_in.syntax().descendants().filter_map(Ident::cast);
-    let is_value = |name: &Ident| match name.syntax().parent().map(|around| around.kind()) {
-        Some(SyntaxKind::NODE_ATTRPATH | SyntaxKind::NODE_PAT_ENTRY | SyntaxKind::NODE_IDENT_PARAM) => false,
-        _ => true,
+    let is_value = |name: &Ident| {
+        let parent = name.syntax().parent().map(|parent| parent.kind());
+        !matches!(
+            parent,
+            Some(SyntaxKind::NODE_ATTRPATH | SyntaxKind::NODE_PAT_ENTRY | SyntaxKind::NODE_IDENT_PARAM)
+        )
     };
     names.filter(is_value).map(|name| name.to_string()).collect()
 }
@@ -35,8 +38,8 @@ fn main() -> io::Result<()> {
             if used.contains(&name.to_string()) {
                 continue;
             }
-            if let Some(place) = lines.position(name.syntax().text_range().start().into()) {
-                println!("{}:{}: {name} is not used", place.line + 1, place.column + 1);
+            if let Some(position) = lines.position(name.syntax().text_range().start().into()) {
+                println!("{}:{}: {name} is not used", position.line + 1, position.column + 1);
             }
         }
     }

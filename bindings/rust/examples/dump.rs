@@ -1,4 +1,5 @@
-//! Prints the tree of standard input with the text of each token: dump < FILE
+//! Usage: dump < FILE
+//! Prints the errors of standard input, and its tree with the text of each token.
 
 use rnix::Root;
 use std::io::{self, Read};

@@ -1,4 +1,5 @@
-//! Gives every name of a text that is spelled so another spelling, strings and comments aside: rename OLD NEW < FILE
+//! Usage: rename OLD NEW < FILE
+//! Replaces every identifier OLD by NEW, but not in strings and comments. It does not look at scopes.
 
 use rnix::ast::Ident;
 use rnix::syntax::ast::AstNode;

@@ -1,5 +1,6 @@
-//! Prints the errors and the tree of each file, or of standard input, as nix-tree does: tree [FILE..]
-//! It ends with 0 if no text has errors, with 1 if one has, and with 2 if something is refused.
+//! Usage: tree [FILE..]
+//! Prints the errors and the tree of each file, or of standard input, as nix-tree does. The exit status is 0 without errors, 1 with some, and 2 if a
+//! text is refused or cannot be read.
 
 use rnix::{Root, WalkEvent};
 use std::error::Error;
@@ -7,10 +8,10 @@ use std::io::{self, Read, Write};
 use std::process::ExitCode;
 use std::{env, fs, str};
 
-// The deepest level that is indented.
+// The greatest depth that is shown by indentation.
 const INDENTED: usize = 100;
 
-// How a line begins: with two spaces for each level, and deeper than 100 levels with the number of its level.
+// The start of a line: two spaces per level, or the depth as a number where it is greater than `INDENTED`.
 fn margin(depth: usize) -> String {
     if depth > INDENTED {
         format!("{depth} ")
@@ -19,7 +20,7 @@ fn margin(depth: usize) -> String {
     }
 }
 
-// Prints a text's errors and its tree, and answers whether it has errors.
+// Prints the errors and the tree of a text, and returns whether it has errors.
 fn print(text: &[u8], out: &mut impl Write) -> Result<bool, Box<dyn Error>> {
     let parse = Root::try_parse(str::from_utf8(text)?)?;
     for error in parse.errors() {
@@ -39,23 +40,23 @@ fn print(text: &[u8], out: &mut impl Write) -> Result<bool, Box<dyn Error>> {
 
 fn print_all(files: &[String]) -> Result<bool, Box<dyn Error>> {
     let mut out = io::BufWriter::new(io::stdout().lock());
-    let mut wrong = false;
+    let mut has_errors = false;
     if files.is_empty() {
         let mut text = Vec::new();
         io::stdin().read_to_end(&mut text)?;
-        wrong = print(&text, &mut out)?;
+        has_errors = print(&text, &mut out)?;
     }
     for file in files {
-        wrong |= print(&fs::read(file)?, &mut out)?;
+        has_errors |= print(&fs::read(file)?, &mut out)?;
     }
     out.flush()?;
-    Ok(wrong)
+    Ok(has_errors)
 }
 
 fn main() -> ExitCode {
     let files: Vec<String> = env::args().skip(1).collect();
     match print_all(&files) {
-        Ok(wrong) => ExitCode::from(u8::from(wrong)),
+        Ok(has_errors) => ExitCode::from(u8::from(has_errors)),
         Err(refusal) => {
             eprintln!("tree: {refusal}");
             ExitCode::from(2)

@@ -17,23 +17,23 @@ pub use tokens::{Comment, Float, Integer, PathContent, StrContent, Uri, Whitespa
 
 use crate::{syntax, NixLanguage, SyntaxKind, SyntaxToken};
 
-/// A type of nodes. Its calls are those of [`syntax::ast::AstNode`].
+/// A typed node of a Nix tree. Its methods are those of [`syntax::ast::AstNode`].
 pub trait AstNode: syntax::ast::AstNode<Language = NixLanguage> {}
 
 impl<T: syntax::ast::AstNode<Language = NixLanguage>> AstNode for T {}
 
-/// A type of tokens.
+/// A typed token.
 pub trait AstToken {
-    /// Tells whether tokens of the kind are of the type.
+    /// Returns whether a token of this kind has the type.
     fn can_cast(from: SyntaxKind) -> bool
     where
         Self: Sized;
 
-    /// Returns the token as one of the type, if it is of the type.
+    /// Returns the token as a typed one, or `None` if its kind is another.
     fn cast(from: SyntaxToken) -> Option<Self>
     where
         Self: Sized;
 
-    /// Lends the token.
+    /// Returns the untyped token.
     fn syntax(&self) -> &SyntaxToken;
 }

@@ -7,11 +7,11 @@ use std::ops::Range;
 #[derive(Clone, Copy, Debug, PartialEq, Eq)]
 #[non_exhaustive]
 pub enum EditError {
-    /// The range ends before it begins, or behind the text.
+    /// The range ends before it starts, or after the end of the text.
     OutOfRange,
-    /// The range begins or ends inside a character.
+    /// The range starts or ends inside a character.
     InsideChar,
-    /// The range has a byte in common with that of another edit, or one of them lies inside the other.
+    /// The range overlaps that of another edit, or one of them is inside the other.
     Overlap,
 }
 
@@ -19,7 +19,7 @@ impl fmt::Display for EditError {
     fn fmt(&self, f: &mut fmt::Formatter<'_>) -> fmt::Result {
         f.write_str(match self {
             EditError::OutOfRange => "the range is not in the text",
-            EditError::InsideChar => "the range begins or ends inside a character",
+            EditError::InsideChar => "the range starts or ends inside a character",
             EditError::Overlap => "the range overlaps that of another edit",
         })
     }
@@ -27,7 +27,7 @@ impl fmt::Display for EditError {
 
 impl std::error::Error for EditError {}
 
-/// Edits of a text: ranges of bytes in ascending order that do not overlap, each with a new text.
+/// Edits of a text: disjoint byte ranges, each with its replacement.
 #[derive(Clone, Debug)]
 pub struct Edits<'t> {
     text: &'t str,
@@ -35,7 +35,7 @@ pub struct Edits<'t> {
 }
 
 impl<'t> Edits<'t> {
-    /// Makes no edits of a text.
+    /// Creates an empty set of edits of `text`.
     pub fn new(text: &'t str) -> Edits<'t> {
         Edits {
             text,
@@ -43,11 +43,11 @@ impl<'t> Edits<'t> {
         }
     }
 
-    /// Replaces a range of the text, in bytes; an offset of an edited node is `node.text_range().into()`. Edits that insert at one offset stand in
-    /// the order in which they were added.
+    /// Replaces a range of the text, in bytes; a node is replaced by its `text_range()`. Edits may be added in any order. Insertions at the same
+    /// offset are applied in the order in which they were added.
     ///
     /// # Errors
-    /// The range is no range of the text, or overlaps another. The edits stay then as they are.
+    /// The range is not one of the text, splits a character, or overlaps another edit's. The edits are then unchanged.
     pub fn replace(&mut self, range: impl Into<Range<usize>>, new: impl Into<String>) -> Result<(), EditError> {
         let range = range.into();
         if range.start > range.end || range.end > self.text.len() {
@@ -60,9 +60,9 @@ impl<'t> Edits<'t> {
             .edits
             .partition_point(|(other, _)| (other.start, other.end) <= (range.start, range.end));
         let before = at.checked_sub(1).map(|index| &self.edits[index].0);
-        let behind = self.edits.get(at).map(|(other, _)| other);
+        let after = self.edits.get(at).map(|(other, _)| other);
         let overlaps =
-            before.is_some_and(|other| other.end > range.start) || behind.is_some_and(|other| range.end > other.start);
+            before.is_some_and(|other| other.end > range.start) || after.is_some_and(|other| range.end > other.start);
         if overlaps {
             return Err(EditError::Overlap);
         }
@@ -70,7 +70,7 @@ impl<'t> Edits<'t> {
         Ok(())
     }
 
-    /// Returns the text with the edits: in the place of each range its new text, and all else as it was.
+    /// Returns the edited text. Every byte outside the replaced ranges stays as it was.
     pub fn apply(&self) -> String {
         let mut edited = String::with_capacity(self.text.len());
         let mut kept = 0;

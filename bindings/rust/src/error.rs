@@ -1,16 +1,16 @@
-//! The errors of a text, and refusals.
+//! Parse errors, and refusals.
 
 use crate::SyntaxKind::{self, *};
 use crate::{ffi, TextRange, TextSize};
 use std::fmt;
 
-/// Why a text was not read.
+/// Why a text was not parsed.
 #[derive(Clone, Copy, Debug, PartialEq, Eq)]
 #[non_exhaustive]
 pub enum Refused {
     /// The text is not UTF-8.
     NotUtf8,
-    /// No memory is left, or the text has 2^32 bytes.
+    /// Memory ran out, or the text has 2^32 bytes or more.
     NoMemory,
 }
 
@@ -18,32 +18,32 @@ impl fmt::Display for Refused {
     fn fmt(&self, f: &mut fmt::Formatter<'_>) -> fmt::Result {
         f.write_str(match self {
             Refused::NotUtf8 => "the text is not UTF-8",
-            Refused::NoMemory => "no memory is left",
+            Refused::NoMemory => "out of memory, or the text is too long",
         })
     }
 }
 
 impl std::error::Error for Refused {}
 
-/// An error of a text.
+/// A parse error.
 #[derive(Clone, Debug, PartialEq)]
 #[non_exhaustive]
 pub enum ParseError {
-    /// No cause is told. The parser never makes it.
+    /// An error without a cause. The parser never produces it.
     Unexpected(TextRange),
-    /// Tokens follow the expression.
+    /// Extra tokens after the expression.
     UnexpectedExtra(TextRange),
-    /// A token of the first kind stands where one of the others is wanted.
+    /// A token of the first kind, at the range, where one of the listed kinds was expected.
     UnexpectedWanted(SyntaxKind, TextRange, Box<[SyntaxKind]>),
-    /// A pattern is bound to two names.
+    /// A pattern that is bound to a name twice, as in `a @ { b } @ c: d`.
     UnexpectedDoubleBind(TextRange),
-    /// The text ends where more is wanted.
+    /// An unexpected end of the text.
     UnexpectedEOF,
-    /// The text ends where one of these kinds is wanted.
+    /// The end of the text where one of the listed kinds was expected.
     UnexpectedEOFWanted(Box<[SyntaxKind]>),
-    /// Two entries of a pattern have one name: the place of the second, and the name.
+    /// A formal argument with the same name as an earlier one: its range and its name.
     DuplicatedArgs(TextRange, String),
-    /// Expressions are nested too deep.
+    /// Expressions are nested too deeply.
     RecursionLimitExceeded,
 }
 
@@ -66,7 +66,7 @@ impl fmt::Display for ParseError {
 
 impl std::error::Error for ParseError {}
 
-// The lists of more than one wanted kind, in the order of rnix; the library gives sets.
+// The lists of several expected kinds in the order in which rnix lists them; the library returns sets.
 const LISTS: [&[SyntaxKind]; 4] = [
     &[
         TOKEN_L_PAREN,
@@ -81,13 +81,12 @@ const LISTS: [&[SyntaxKind]; 4] = [
     &[TOKEN_R_BRACE, TOKEN_ELLIPSIS, TOKEN_IDENT],
 ];
 
-// Whether a kind is in a set of the library.
 fn is_in(set: &[u64; 2], kind: SyntaxKind) -> bool {
     let number = kind as usize;
     set[number / 64] >> (number % 64) & 1 == 1
 }
 
-// The kinds of a set of the library.
+// The kinds of a set that the library returned.
 fn kinds_of(set: &[u64; 2]) -> Box<[SyntaxKind]> {
     let kinds: Vec<SyntaxKind> = SyntaxKind::ALL
         .iter()
@@ -101,7 +100,7 @@ fn kinds_of(set: &[u64; 2]) -> Box<[SyntaxKind]> {
         .map_or(kinds.clone().into(), |list| (*list).into())
 }
 
-// The error that the library gave in numbers.
+// The error that the library encoded as numbers.
 fn error_of(text: &str, fault: &ffi::Fault) -> ParseError {
     let wanted = kinds_of(&fault.wanted);
     let offset = |offset: u64| TextSize::try_from(offset as usize).unwrap_or_default();
@@ -118,9 +117,9 @@ fn error_of(text: &str, fault: &ffi::Fault) -> ParseError {
     }
 }
 
-/// Returns the errors of a text that has so many.
+/// Returns the errors of a text that has `count` of them.
 pub(crate) fn errors_of(text: &str, count: usize) -> Result<Vec<ParseError>, Refused> {
-    // SAFETY: the call fills its array as `listed` asks.
+    // SAFETY: the call fills its array as `listed` requires.
     let faults = unsafe {
         ffi::listed(count, |room, len| {
             ffi::rnix_errors(text.as_ptr(), text.len(), room, len)

@@ -1,16 +1,16 @@
-//! The functions of the library, as `bindings/rnix.h` describes them, and safe calls of those that fill an array.
+//! The functions that `bindings/rnix.h` declares, and a wrapper for those that fill an array.
 
 use crate::error::Refused;
 use std::mem::MaybeUninit;
 
-/// The interface that this file describes.
+/// The version of the interface that this file declares.
 pub const VERSION: u32 = 1;
 
-/// Refusals.
+/// Negative results: why a call was refused.
 pub const NOT_UTF8: i64 = -1;
 pub const NO_MEMORY: i64 = -2;
 
-/// An offset or a number that is none.
+/// The value of an offset or number that is absent.
 pub const NO_NUMBER: u64 = u64::MAX;
 
 /// A token: 24 bytes.
@@ -71,32 +71,32 @@ extern "C" {
     pub fn rnix_string_parts(text: *const u8, len: usize, element: usize, parts: *mut Part, room: usize) -> i64;
 }
 
-/// The count that an answer is, or why the call was refused.
-pub fn answered(answer: i64) -> Result<usize, Refused> {
-    match answer {
+/// Returns the count that a call returned, or why it was refused.
+pub fn count_of(result: i64) -> Result<usize, Refused> {
+    match result {
         NOT_UTF8 => Err(Refused::NotUtf8),
         NO_MEMORY => Err(Refused::NoMemory),
-        _ => Ok(usize::try_from(answer).expect("the library answers a count, and the caller asks for what there is")),
+        _ => Ok(usize::try_from(result).expect("the caller names an element that exists")),
     }
 }
 
-/// All that a call writes, where there are perhaps `guess` of them.
+/// Returns the whole list that a call writes. `guess` is the initial capacity; if it is too small, the call is repeated with enough.
 ///
 /// # Safety
-/// The call must write into the array that it is given, from its beginning, as many as it answers or as there is room for, whichever is less.
+/// The call must return the length of the list, and write as much of it to the start of its array as there is room for.
 pub unsafe fn listed<T: Copy>(guess: usize, call: impl Fn(*mut T, usize) -> i64) -> Result<Vec<T>, Refused> {
     let mut list: Vec<T> = Vec::new();
-    let mut wanted = guess;
+    let mut capacity = guess;
     loop {
-        list.try_reserve_exact(wanted).map_err(|_| Refused::NoMemory)?;
+        list.try_reserve_exact(capacity).map_err(|_| Refused::NoMemory)?;
         let room: &mut [MaybeUninit<T>] = list.spare_capacity_mut();
-        let count = answered(call(room.as_mut_ptr().cast(), room.len()))?;
+        let count = count_of(call(room.as_mut_ptr().cast(), room.len()))?;
         if count <= room.len() {
-            // SAFETY: the call has written the first `count`.
+            // SAFETY: the call has initialized the first `count` elements.
             unsafe { list.set_len(count) };
             return Ok(list);
         }
-        wanted = count;
+        capacity = count;
     }
 }
 
@@ -123,7 +123,7 @@ mod tests {
     fn kinds_have_the_names_of_the_library() {
         for (number, kind) in SyntaxKind::ALL.iter().enumerate() {
             let number = number as u32;
-            // SAFETY: the call fills its array as `listed` asks.
+            // SAFETY: the call fills its array as `listed` requires.
             let name = unsafe { listed(32, |room, len| rnix_kind_name(number, room, len)) }.unwrap();
             assert_eq!(String::from_utf8(name).unwrap(), kind.name());
         }
@@ -131,6 +131,7 @@ mod tests {
         // SAFETY: there is no room, so nothing is written.
         assert!(unsafe { rnix_kind_name(end, std::ptr::null_mut(), 0) } < 0);
     }
+
     #[test]
     fn errors_are_displayed_as_by_the_library() {
         for text in [
@@ -149,7 +150,7 @@ mod tests {
         ] {
             let errors: Vec<ParseError> = Root::parse(text).errors().to_vec();
             let shown: String = errors.iter().map(|error| format!("{error}\n")).collect();
-            // SAFETY: the call fills its array as `listed` asks.
+            // SAFETY: the call fills its array as `listed` requires.
             let texts =
                 unsafe { listed(64, |room, len| rnix_error_texts(text.as_ptr(), text.len(), room, len)) }.unwrap();
             assert_eq!(shown, String::from_utf8(texts).unwrap(), "{text}");

@@ -5,7 +5,7 @@ use std::str::FromStr;
 
 macro_rules! kinds {
     ($($name:ident,)*) => {
-        /// What a token or a node is. The kinds of tokens come before those of nodes.
+        /// The kind of a token or a node. Token kinds precede node kinds.
         #[allow(non_camel_case_types, missing_docs)]
         #[derive(Clone, Copy, Debug, PartialEq, Eq, PartialOrd, Ord, Hash)]
         #[repr(u16)]
@@ -15,10 +15,10 @@ macro_rules! kinds {
         }
 
         impl SyntaxKind {
-            /// Every kind, by its number.
+            /// All kinds, in the order of their numbers.
             pub const ALL: &'static [SyntaxKind] = &[$(SyntaxKind::$name,)*];
 
-            /// Returns the kind's own name, as `TOKEN_ADD`.
+            /// Returns the kind's name, such as `TOKEN_ADD`.
             pub const fn name(self) -> &'static str {
                 match self {
                     $(SyntaxKind::$name => stringify!($name),)*
@@ -125,12 +125,12 @@ kinds! {
 }
 
 impl SyntaxKind {
-    /// Tells whether it is a comment or white space.
+    /// Returns whether this is a comment or whitespace.
     pub fn is_trivia(self) -> bool {
         matches!(self, SyntaxKind::TOKEN_COMMENT | SyntaxKind::TOKEN_WHITESPACE)
     }
 
-    /// Tells whether it is the first token of a number, a path or an address.
+    /// Returns whether this is a number, path or URI token.
     pub fn is_literal(self) -> bool {
         use SyntaxKind::*;
         matches!(
@@ -145,7 +145,7 @@ impl SyntaxKind {
         )
     }
 
-    /// Tells whether an argument of a function may begin with it.
+    /// Returns whether a function argument may start with this token.
     pub fn is_fn_arg(self) -> bool {
         use SyntaxKind::*;
         self.is_literal()
@@ -161,13 +161,13 @@ impl SyntaxKind {
             )
     }
 
-    // The kind of a number that the library gave.
+    // The kind that has a number in the library.
     pub(crate) fn at(number: u32) -> SyntaxKind {
         SyntaxKind::ALL[number as usize]
     }
 }
 
-/// The error for a text that is the name of no kind.
+/// The error for a string that is not the name of a kind.
 #[derive(Clone, Debug, PartialEq, Eq)]
 pub struct ParseSyntaxKindError;
 

@@ -1,29 +1,34 @@
-//! The language of the trees, as programs over rowan name it.
+//! The language of the trees, as programs that use rowan name it.
 
+use crate::syntax::walk::{Preorder, PreorderWithTokens};
 use crate::{SyntaxElement, SyntaxElementChildren, SyntaxKind, SyntaxNode, SyntaxNodeChildren, SyntaxToken};
 use std::fmt;
 use std::hash::Hash;
 
-/// A kind as a number.
+/// A kind, as its number.
 #[derive(Clone, Copy, Debug, PartialEq, Eq, PartialOrd, Ord, Hash)]
 pub struct RawKind(pub u16);
 
-/// A language with trees.
+/// A language, with the types of its syntax trees.
 pub trait Language: Sized + Copy + fmt::Debug + Eq + Ord + Hash {
-    /// Its kinds of tokens and nodes.
+    /// The kinds of tokens and nodes.
     type Kind: Sized + Copy + fmt::Debug + Eq + Ord + Hash;
-    /// Its nodes.
+    /// A node.
     type Node;
-    /// Its tokens.
+    /// A token.
     type Token;
-    /// Its nodes and tokens.
+    /// A node or a token.
     type Element;
-    /// The nodes right below a node.
+    /// The iterator over a node's child nodes.
     type NodeChildren;
-    /// The nodes and tokens right below a node.
+    /// The iterator over a node's child nodes and tokens.
     type ElementChildren;
+    /// The walk that enters and leaves nodes.
+    type Preorder;
+    /// The walk that enters and leaves nodes and tokens.
+    type PreorderWithTokens;
 
-    /// Returns the kind of a number.
+    /// Returns the kind that has a number.
     fn kind_from_raw(raw: RawKind) -> Self::Kind;
 
     /// Returns the number of a kind.
@@ -41,8 +46,10 @@ impl Language for NixLanguage {
     type Element = SyntaxElement;
     type NodeChildren = SyntaxNodeChildren;
     type ElementChildren = SyntaxElementChildren;
+    type Preorder = Preorder;
+    type PreorderWithTokens = PreorderWithTokens;
 
-    /// Returns the kind of a number.
+    /// Returns the kind that has a number.
     ///
     /// # Panics
     /// If no kind has the number.

@@ -1,8 +1,8 @@
-//! A lossless parser of the Nix language, with the names of the crate rnix 0.14.0 for all that reads. A text gives a tree that keeps every byte,
-//! comments and broken parts included, and a list of errors.
+//! A lossless parser for the Nix language, with the API of the crate rnix 0.14.0 except what builds or changes trees. Parsing returns a list of
+//! errors and a tree that keeps every byte of the text, comments and broken parts included.
 //!
-//! The parser is proved code behind a C interface (`bindings/rnix.h`). What it answers is copied once; nodes and tokens are numbers in that list,
-//! with a share of it. Ranges are half-open and in bytes.
+//! The parser is proved code behind a C interface (`bindings/rnix.h`); this crate itself is tested, not proved. A tree is one array of elements
+//! behind an `Arc`; nodes and tokens are indices into it. Ranges are half-open, in bytes.
 //!
 //! ```
 //! use rnix::ast::{Expr, HasEntry};
@@ -15,7 +15,7 @@
 //! assert_eq!(let_in.entries().next().unwrap().syntax().text(), "a = 1;");
 //! ```
 //!
-//! Trees do not change: there is no `clone_for_update`, `splice_children`, `detach` or `replace_with`. [`Edits`] makes the edited text.
+//! Trees are immutable: there is no `clone_for_update`, `splice_children`, `detach` or `replace_with`. To change a text, use [`Edits`].
 
 #[macro_use]
 mod macros;

@@ -7,11 +7,11 @@ pub enum ColumnUnit {
     Bytes,
     /// Characters.
     Chars,
-    /// Units of 16 bits of UTF-16, as editors count.
+    /// UTF-16 code units, as the Language Server Protocol counts.
     Utf16,
 }
 
-/// A line and a column in it, both from 0.
+/// A line and a column, both counted from 0.
 #[derive(Clone, Copy, Debug, PartialEq, Eq, PartialOrd, Ord, Hash)]
 pub struct Position {
     /// The line.
@@ -20,7 +20,7 @@ pub struct Position {
     pub column: usize,
 }
 
-/// The lines of a text, which end with `\n`.
+/// Converts between offsets and positions in a text. Lines end with `\n`.
 #[derive(Clone, Debug)]
 pub struct LineIndex<'t> {
     text: &'t str,
@@ -29,17 +29,17 @@ pub struct LineIndex<'t> {
 }
 
 impl<'t> LineIndex<'t> {
-    /// Makes the index of a text, with columns that count the unit.
+    /// Indexes the lines of a text. Columns count `unit`.
     pub fn new(text: &'t str, unit: ColumnUnit) -> LineIndex<'t> {
-        let behind = text.match_indices('\n').map(|(end, _)| end + 1);
+        let after_newlines = text.match_indices('\n').map(|(newline, _)| newline + 1);
         LineIndex {
             text,
-            starts: std::iter::once(0).chain(behind).collect(),
+            starts: std::iter::once(0).chain(after_newlines).collect(),
             unit,
         }
     }
 
-    // How many units a character has.
+    // The width of a character in the index's unit.
     fn width(&self, c: char) -> usize {
         match self.unit {
             ColumnUnit::Bytes => c.len_utf8(),
@@ -48,7 +48,7 @@ impl<'t> LineIndex<'t> {
         }
     }
 
-    /// Returns the position of an offset in bytes, if it lies in the text and not inside a character.
+    /// Returns the position of a byte offset, or `None` if it is after the end of the text or inside a character.
     pub fn position(&self, offset: usize) -> Option<Position> {
         let line = self.starts.partition_point(|start| *start <= offset) - 1;
         let before = self.text.get(self.starts[line]..offset)?;
@@ -58,7 +58,7 @@ impl<'t> LineIndex<'t> {
         })
     }
 
-    /// Returns the offset in bytes of a position, if there is one: not inside a character, and not behind the end of a line.
+    /// Returns the byte offset of a position, or `None` if it is after the end of its line or of the text, or inside a character.
     pub fn offset(&self, position: Position) -> Option<usize> {
         let start = *self.starts.get(position.line)?;
         let line = self.text[start..].split('\n').next()?;

@@ -1,6 +1,6 @@
-//! Kinds by their signs, and a `match` over types of nodes.
+//! The macros `T!` and `match_ast!`.
 
-/// The kind of a token by its sign or word, as `T![let]` or `T!['{']`; or a kind by its name.
+/// The kind of a keyword or punctuation token, such as `T![let]` or `T!['{']`, or a kind by its name.
 #[macro_export]
 #[rustfmt::skip]
 macro_rules! T {
@@ -50,7 +50,7 @@ macro_rules! T {
     ($kind:ident) => { $crate::SyntaxKind::$kind };
 }
 
-/// A `match` over types of nodes or tokens:
+/// Matches a node or token against types of `ast`:
 ///
 /// ```
 /// use rnix::{ast, match_ast};

@@ -1,4 +1,4 @@
-//! What reading a text gives.
+//! The result of parsing.
 
 use crate::ast::{AstNode, Root};
 use crate::error::{ParseError, Refused};
@@ -16,21 +16,21 @@ pub struct Parse<T> {
 }
 
 impl Root {
-    /// Reads a text. Each text has a tree, also where it has errors.
+    /// Parses a text. Every text has a tree, even one with errors.
     ///
     /// # Panics
-    /// If no memory is left, or the text has 2^32 bytes; and if `librnix.a` is of another version than this crate.
+    /// If memory runs out, if the text has 2^32 bytes or more, or if `librnix.a` has another version than this crate expects.
     pub fn parse(text: &str) -> Parse<Root> {
         Root::try_parse(text).unwrap_or_else(|refused| panic!("{refused}"))
     }
 
-    /// Reads a text.
+    /// Parses a text.
     ///
     /// # Errors
-    /// No memory is left, or the text has 2^32 bytes.
+    /// Memory runs out for the tree, or the text has 2^32 bytes or more. If memory runs out for the list of errors, the program aborts.
     ///
     /// # Panics
-    /// If `librnix.a` is of another version than this crate.
+    /// If `librnix.a` has another version than this crate expects.
     pub fn try_parse(text: &str) -> Result<Parse<Root>, Refused> {
         let (tree, errors) = Tree::read(text)?;
         Ok(Parse {
@@ -42,24 +42,24 @@ impl Root {
 }
 
 impl<T> Parse<T> {
-    /// Returns the root.
+    /// Returns the root node.
     pub fn syntax(&self) -> SyntaxNode {
         SyntaxNode::at(&self.tree, 0)
     }
 }
 
 impl<T: AstNode> Parse<T> {
-    /// Returns the root as a typed node.
+    /// Returns the typed root node.
     pub fn tree(&self) -> T {
         T::cast(self.syntax()).expect("the root is of this type")
     }
 
-    /// Lends the errors, in the order in which they were found.
+    /// Returns the errors, in the order in which they were found.
     pub fn errors(&self) -> &[ParseError] {
         &self.errors
     }
 
-    /// Returns the root as a typed node, if there are no errors.
+    /// Returns the typed root node if there are no errors.
     ///
     /// # Errors
     /// The first error.

@@ -1,6 +1,5 @@
-//! Syntax trees: the names of the crate rowan for what reads them. There is nothing that changes a tree; a text is edited by
-//! [`Edits`](crate::Edits). A program that says `use rowan::..` depends on the crate in `rowan/`, which has these names, or says
-//! `use rnix::syntax::..`.
+//! Syntax trees, with the names of the crate rowan that read them. Trees are immutable; [`Edits`](crate::Edits) edits a text. A program that says
+//! `use rowan::..` depends on the crate in `rowan/`, which re-exports this module, or says `use rnix::syntax::..` instead.
 
 pub(crate) mod children;
 pub(crate) mod element;
@@ -18,29 +17,37 @@ pub use self::offset::TokenAtOffset;
 pub use self::text::SyntaxText;
 pub use self::walk::{Direction, WalkEvent};
 pub use crate::language::{Language, RawKind as SyntaxKind};
-pub use crate::text_size::{TextRange, TextSize};
+pub use crate::text_size::{TextLen, TextRange, TextSize};
 
-/// The nodes of a language.
+/// A node of a language.
 pub type SyntaxNode<L> = <L as Language>::Node;
 
-/// The tokens of a language.
+/// A token of a language.
 pub type SyntaxToken<L> = <L as Language>::Token;
 
-/// The nodes and tokens of a language.
+/// A node or token of a language.
 pub type SyntaxElement<L> = <L as Language>::Element;
 
-/// The nodes right below a node.
+/// The iterator over a node's child nodes.
 pub type SyntaxNodeChildren<L> = <L as Language>::NodeChildren;
 
-/// The nodes and tokens right below a node.
+/// The iterator over a node's child nodes and tokens.
 pub type SyntaxElementChildren<L> = <L as Language>::ElementChildren;
 
 /// Walks over trees.
 pub mod api {
-    pub use crate::syntax::walk::{Preorder, PreorderWithTokens};
+    use super::Language;
+
+    pub use super::{SyntaxElement, SyntaxElementChildren, SyntaxNode, SyntaxNodeChildren, SyntaxToken};
+
+    /// The walk that enters and leaves nodes.
+    pub type Preorder<L> = <L as Language>::Preorder;
+
+    /// The walk that enters and leaves nodes and tokens.
+    pub type PreorderWithTokens<L> = <L as Language>::PreorderWithTokens;
 }
 
-/// Types of nodes.
+/// Typed nodes.
 pub mod ast {
     use super::{Language, SyntaxNode};
     use crate::{NixLanguage, SyntaxNodeChildren};
@@ -49,26 +56,26 @@ pub mod ast {
 
     pub use crate::syntax::pointer::{AstPtr, SyntaxNodePtr};
 
-    /// A type of nodes.
+    /// A typed node.
     pub trait AstNode {
         /// The language of the nodes.
         type Language: Language;
 
-        /// Tells whether nodes of the kind are of the type.
+        /// Returns whether a node of this kind has the type.
         fn can_cast(kind: <Self::Language as Language>::Kind) -> bool
         where
             Self: Sized;
 
-        /// Returns the node as one of the type, if it is of the type.
+        /// Returns the node as a typed one, or `None` if its kind is another.
         fn cast(node: SyntaxNode<Self::Language>) -> Option<Self>
         where
             Self: Sized;
 
-        /// Lends the node.
+        /// Returns the untyped node.
         fn syntax(&self) -> &SyntaxNode<Self::Language>;
     }
 
-    /// The children of a type, in order.
+    /// The iterator over the children of one type.
     #[derive(Clone, Debug)]
     pub struct AstChildren<N> {
         nodes: SyntaxNodeChildren,
@@ -94,22 +101,22 @@ pub mod ast {
 
     impl<N: AstNode<Language = NixLanguage>> FusedIterator for AstChildren<N> {}
 
-    /// What accessors of one's own are made of.
+    /// Functions to write accessors with.
     pub mod support {
         use super::{AstChildren, AstNode};
         use crate::{NixLanguage, NodeOrToken, SyntaxKind, SyntaxNode, SyntaxToken};
 
-        /// Returns the first child of a type.
+        /// Returns the first child of type `N`.
         pub fn child<N: AstNode<Language = NixLanguage>>(parent: &SyntaxNode) -> Option<N> {
             parent.children().find_map(N::cast)
         }
 
-        /// Goes over the children of a type.
+        /// Returns an iterator over the children of type `N`.
         pub fn children<N: AstNode<Language = NixLanguage>>(parent: &SyntaxNode) -> AstChildren<N> {
             AstChildren::of(parent)
         }
 
-        /// Returns the first token of a kind right below a node.
+        /// Returns the first child token of a kind.
         pub fn token(parent: &SyntaxNode, kind: SyntaxKind) -> Option<SyntaxToken> {
             let mut tokens = parent.children_with_tokens().filter_map(NodeOrToken::into_token);
             tokens.find(|token| token.kind() == kind)

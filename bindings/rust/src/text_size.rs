@@ -1,31 +1,31 @@
-//! Offsets and ranges in bytes, of 32 bits.
+//! Offsets and ranges in bytes, in 32 bits.
 
 use std::fmt;
 use std::iter::Sum;
 use std::num::TryFromIntError;
 use std::ops::{Add, AddAssign, Bound, Index, IndexMut, Range, RangeBounds, Sub, SubAssign};
 
-/// A number of bytes of a text, or an offset in it.
+/// A length of text in bytes, or an offset into it.
 #[derive(Clone, Copy, Default, PartialEq, Eq, PartialOrd, Ord, Hash)]
 pub struct TextSize {
     raw: u32,
 }
 
 impl TextSize {
-    /// Makes a size of so many bytes.
+    /// Creates a size of `raw` bytes.
     pub const fn new(raw: u32) -> TextSize {
         TextSize { raw }
     }
 
-    /// Returns the size of a text.
+    /// Returns the size of a text or a character.
     ///
     /// # Panics
     /// If the text has 2^32 bytes or more.
-    pub fn of(text: impl AsRef<str>) -> TextSize {
-        TextSize::try_from(text.as_ref().len()).expect("a text has fewer than 2^32 bytes")
+    pub fn of<T: TextLen>(text: T) -> TextSize {
+        text.text_len()
     }
 
-    /// Returns the sum, or `None` where it has more than 32 bits.
+    /// Returns the sum, or `None` if it overflows 32 bits.
     pub const fn checked_add(self, other: TextSize) -> Option<TextSize> {
         match self.raw.checked_add(other.raw) {
             Some(raw) => Some(TextSize { raw }),
@@ -33,7 +33,7 @@ impl TextSize {
         }
     }
 
-    /// Returns the difference, or `None` where the other is greater.
+    /// Returns the difference, or `None` if `other` is greater.
     pub const fn checked_sub(self, other: TextSize) -> Option<TextSize> {
         match self.raw.checked_sub(other.raw) {
             Some(raw) => Some(TextSize { raw }),
@@ -76,7 +76,7 @@ impl TryFrom<usize> for TextSize {
     }
 }
 
-impl Add for TextSize {
+impl Add<TextSize> for TextSize {
     type Output = TextSize;
 
     fn add(self, other: TextSize) -> TextSize {
@@ -84,7 +84,7 @@ impl Add for TextSize {
     }
 }
 
-impl Sub for TextSize {
+impl Sub<TextSize> for TextSize {
     type Output = TextSize;
 
     fn sub(self, other: TextSize) -> TextSize {
@@ -92,25 +92,78 @@ impl Sub for TextSize {
     }
 }
 
-impl AddAssign for TextSize {
-    fn add_assign(&mut self, other: TextSize) {
-        *self = *self + other;
-    }
+// The same operators with a reference on either side, and the assigning one.
+macro_rules! operator_by_reference {
+    ($Op:ident $op:ident, $OpAssign:ident $op_assign:ident, $name:ident) => {
+        impl $Op<&TextSize> for $name {
+            type Output = $name;
+
+            fn $op(self, other: &TextSize) -> $name {
+                $Op::$op(self, *other)
+            }
+        }
+
+        impl<T> $Op<T> for &$name
+        where
+            $name: $Op<T, Output = $name>,
+        {
+            type Output = $name;
+
+            fn $op(self, other: T) -> $name {
+                $Op::$op(*self, other)
+            }
+        }
+
+        impl<T> $OpAssign<T> for $name
+        where
+            $name: $Op<T, Output = $name>,
+        {
+            fn $op_assign(&mut self, other: T) {
+                *self = $Op::$op(*self, other);
+            }
+        }
+    };
 }
 
-impl SubAssign for TextSize {
-    fn sub_assign(&mut self, other: TextSize) {
-        *self = *self - other;
-    }
-}
+operator_by_reference! { Add add, AddAssign add_assign, TextSize }
+operator_by_reference! { Sub sub, SubAssign sub_assign, TextSize }
+operator_by_reference! { Add add, AddAssign add_assign, TextRange }
+operator_by_reference! { Sub sub, SubAssign sub_assign, TextRange }
 
-impl Sum for TextSize {
-    fn sum<I: Iterator<Item = TextSize>>(sizes: I) -> TextSize {
+impl<T> Sum<T> for TextSize
+where
+    TextSize: Add<T, Output = TextSize>,
+{
+    fn sum<I: Iterator<Item = T>>(sizes: I) -> TextSize {
         sizes.fold(TextSize::default(), Add::add)
     }
 }
 
-/// A range of a text, from its first byte to the byte behind its last.
+/// Text that has a length in bytes.
+pub trait TextLen: Copy {
+    /// Returns the length in bytes.
+    fn text_len(self) -> TextSize;
+}
+
+impl TextLen for &str {
+    fn text_len(self) -> TextSize {
+        TextSize::try_from(self.len()).expect("a text has fewer than 2^32 bytes")
+    }
+}
+
+impl TextLen for &String {
+    fn text_len(self) -> TextSize {
+        self.as_str().text_len()
+    }
+}
+
+impl TextLen for char {
+    fn text_len(self) -> TextSize {
+        TextSize::new(self.len_utf8() as u32)
+    }
+}
+
+/// A half-open range of a text, in bytes.
 #[derive(Clone, Copy, Default, PartialEq, Eq, Hash)]
 pub struct TextRange {
     start: TextSize,
@@ -118,21 +171,21 @@ pub struct TextRange {
 }
 
 impl TextRange {
-    /// Makes a range.
+    /// Creates the range `start..end`.
     ///
     /// # Panics
-    /// If it ends before it starts.
+    /// If `end` is less than `start`.
     pub fn new(start: TextSize, end: TextSize) -> TextRange {
-        assert!(start <= end, "a range starts where it ends, or before");
+        assert!(start <= end, "the end of a range is not before its start");
         TextRange { start, end }
     }
 
-    /// Makes a range of a length.
+    /// Creates the range of `len` bytes from `start` on.
     pub fn at(start: TextSize, len: TextSize) -> TextRange {
         TextRange::new(start, start + len)
     }
 
-    /// Makes an empty range.
+    /// Creates the empty range at `offset`.
     pub const fn empty(offset: TextSize) -> TextRange {
         TextRange {
             start: offset,
@@ -140,7 +193,7 @@ impl TextRange {
         }
     }
 
-    /// Makes the range of all that is before an offset.
+    /// Creates the range `0..end`.
     pub const fn up_to(end: TextSize) -> TextRange {
         TextRange {
             start: TextSize::new(0),
@@ -148,48 +201,48 @@ impl TextRange {
         }
     }
 
-    /// Returns the offset of its first byte.
+    /// Returns the start offset.
     pub const fn start(self) -> TextSize {
         self.start
     }
 
-    /// Returns the offset behind its last byte.
+    /// Returns the end offset, which is exclusive.
     pub const fn end(self) -> TextSize {
         self.end
     }
 
-    /// Returns how many bytes it has.
-    pub fn len(self) -> TextSize {
-        self.end - self.start
+    /// Returns the length in bytes.
+    pub const fn len(self) -> TextSize {
+        TextSize::new(self.end.raw - self.start.raw)
     }
 
-    /// Tells whether it has no bytes.
-    pub fn is_empty(self) -> bool {
-        self.start == self.end
+    /// Returns whether the range is empty.
+    pub const fn is_empty(self) -> bool {
+        self.start.raw == self.end.raw
     }
 
-    /// Tells whether the byte at an offset is inside.
+    /// Returns whether the range contains `offset`, the end excluded.
     pub fn contains(self, offset: TextSize) -> bool {
         self.start <= offset && offset < self.end
     }
 
-    /// Tells whether an offset is inside, or at the end.
+    /// Returns whether the range contains `offset`, the end included.
     pub fn contains_inclusive(self, offset: TextSize) -> bool {
         self.start <= offset && offset <= self.end
     }
 
-    /// Tells whether a range is inside.
+    /// Returns whether the range contains all of `other`.
     pub fn contains_range(self, other: TextRange) -> bool {
         self.start <= other.start && other.end <= self.end
     }
 
-    /// Returns what two ranges share, perhaps nothing where they touch; `None` where they are apart.
+    /// Returns the intersection, which is empty where the ranges only touch, or `None` if they are disjoint.
     pub fn intersect(self, other: TextRange) -> Option<TextRange> {
         let (start, end) = (self.start.max(other.start), self.end.min(other.end));
         (start <= end).then_some(TextRange { start, end })
     }
 
-    /// Returns the smallest range around both.
+    /// Returns the smallest range that contains both.
     pub fn cover(self, other: TextRange) -> TextRange {
         TextRange {
             start: self.start.min(other.start),
@@ -197,12 +250,12 @@ impl TextRange {
         }
     }
 
-    /// Returns the smallest range around it and an offset.
+    /// Returns the smallest range that contains this one and `offset`.
     pub fn cover_offset(self, offset: TextSize) -> TextRange {
         self.cover(TextRange::empty(offset))
     }
 
-    /// Returns the range so many bytes later, or `None` where it has no 32 bits.
+    /// Returns the range shifted right by `offset`, or `None` if it overflows 32 bits.
     pub fn checked_add(self, offset: TextSize) -> Option<TextRange> {
         Some(TextRange {
             start: self.start.checked_add(offset)?,
@@ -210,7 +263,7 @@ impl TextRange {
         })
     }
 
-    /// Returns the range so many bytes earlier, or `None` where it would start before 0.
+    /// Returns the range shifted left by `offset`, or `None` if it would start before 0.
     pub fn checked_sub(self, offset: TextSize) -> Option<TextRange> {
         Some(TextRange {
             start: self.start.checked_sub(offset)?,
@@ -218,7 +271,7 @@ impl TextRange {
         })
     }
 
-    /// Tells which of two ranges comes first; they are equal where they share bytes.
+    /// Compares two ranges by position; ranges that overlap are equal.
     pub fn ordering(self, other: TextRange) -> std::cmp::Ordering {
         if self.end <= other.start {
             std::cmp::Ordering::Less
@@ -293,5 +346,11 @@ impl Index<TextRange> for String {
 
     fn index(&self, range: TextRange) -> &str {
         &self[Range::<usize>::from(range)]
+    }
+}
+
+impl IndexMut<TextRange> for String {
+    fn index_mut(&mut self, range: TextRange) -> &mut str {
+        &mut self[Range::<usize>::from(range)]
     }
 }

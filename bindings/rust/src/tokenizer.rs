@@ -1,25 +1,25 @@
-//! The tokens of a text, without a tree.
+//! The tokenizer.
 
 use crate::error::Refused;
 use crate::{ffi, SyntaxKind};
 
-/// The kind and the text of a token.
+/// A token's kind and text.
 pub type Token<'a> = (SyntaxKind, &'a str);
 
-/// Goes over the tokens of a text, in order; joined, they are the text.
+/// Returns an iterator over the tokens of a text; concatenated, they are the text.
 ///
 /// # Panics
-/// If no memory is left.
+/// If memory runs out.
 pub fn tokenize(input: &str) -> impl Iterator<Item = Token<'_>> + '_ {
     try_tokenize(input).unwrap_or_else(|refused| panic!("{refused}"))
 }
 
-/// Goes over the tokens of a text, in order; joined, they are the text.
+/// Returns an iterator over the tokens of a text; concatenated, they are the text.
 ///
 /// # Errors
-/// No memory is left.
+/// Memory runs out.
 pub fn try_tokenize(input: &str) -> Result<impl Iterator<Item = Token<'_>> + '_, Refused> {
-    // SAFETY: the call fills its array as `listed` asks.
+    // SAFETY: the call fills its array as `listed` requires.
     let tokens = unsafe {
         ffi::listed(input.len(), |room, len| {
             ffi::rnix_tokens(input.as_ptr(), input.len(), room, len)

@@ -1,36 +1,36 @@
-//! A text with the elements of its tree, which nodes and tokens share.
+//! A text and the elements of its tree, which nodes and tokens share.
 
 use crate::error::{errors_of, ParseError, Refused};
 use crate::{ffi, SyntaxKind, TextRange, TextSize};
 
-/// The number of the parent of the root: there is none.
+/// The parent of the root.
 const NO_PARENT: u32 = u32::MAX;
 
-/// An element of a tree: 20 bytes.
+/// An element of a tree, in 20 bytes.
 #[derive(Clone, Copy, Debug)]
 struct Record {
     start: u32,
     end: u32,
     parent: u32,
-    // How many elements are inside it.
+    // The number of elements in its subtree, itself excluded.
     inside: u32,
     kind: SyntaxKind,
     is_token: bool,
 }
 
-/// A text and its elements in preorder: an element is its number there, from 0, the root.
+/// A text and its elements in preorder. An element is identified by its index; the root is 0.
 #[derive(Debug)]
 pub(crate) struct Tree {
     text: Box<str>,
     records: Box<[Record]>,
 }
 
-// For how many elements there is room at first: mostly there are fewer than bytes.
-fn usual_count(text: &str) -> usize {
+// Initial capacity: trees mostly have fewer elements than bytes.
+fn initial_capacity(text: &str) -> usize {
     text.len().saturating_add(8)
 }
 
-// A record of what the library gave. Its numbers have 32 bits, as the text has fewer than 2^32 bytes and the tree fewer elements.
+// The record of an element. Its numbers fit in 32 bits: the library refuses texts of 2^32 bytes and trees of as many elements.
 fn record(element: &ffi::Element) -> Record {
     Record {
         start: element.start as u32,
@@ -47,16 +47,16 @@ fn record(element: &ffi::Element) -> Record {
 }
 
 impl Tree {
-    /// Reads a text.
+    /// Parses a text.
     pub(crate) fn read(text: &str) -> Result<(Tree, Vec<ParseError>), Refused> {
-        // SAFETY: the function reads and writes nothing.
+        // SAFETY: the function takes no pointers.
         let version = unsafe { ffi::rnix_version() };
         assert_eq!(version, ffi::VERSION, "librnix.a is of another version than this crate");
         let mut error_count = 0;
         let count: *mut u64 = &mut error_count;
-        // SAFETY: the call fills its array as `listed` asks; it is given no room for errors, and `count` points to a number of this function.
+        // SAFETY: the call fills its array as `listed` requires; the array of errors has no room, and `count` points to a local variable.
         let elements = unsafe {
-            ffi::listed(usual_count(text), |room, len| {
+            ffi::listed(initial_capacity(text), |room, len| {
                 ffi::rnix_parse(text.as_ptr(), text.len(), room, len, std::ptr::null_mut(), 0, count)
             })
         }?;
@@ -64,9 +64,17 @@ impl Tree {
             0 => Vec::new(),
             count => errors_of(text, count)?,
         };
+        let mut records = Vec::new();
+        records
+            .try_reserve_exact(elements.len())
+            .map_err(|_| Refused::NoMemory)?;
+        records.extend(elements.iter().map(record));
+        let mut copy = String::new();
+        copy.try_reserve_exact(text.len()).map_err(|_| Refused::NoMemory)?;
+        copy.push_str(text);
         let tree = Tree {
-            text: text.into(),
-            records: elements.iter().map(record).collect(),
+            text: copy.into(),
+            records: records.into(),
         };
         Ok((tree, errors))
     }
@@ -75,12 +83,12 @@ impl Tree {
         &self.records[number as usize]
     }
 
-    /// Returns how many elements there are.
+    /// Returns the number of elements.
     pub(crate) fn count(&self) -> u32 {
         self.records.len() as u32
     }
 
-    /// Tells whether an element is a token.
+    /// Returns whether an element is a token.
     pub(crate) fn is_token(&self, number: u32) -> bool {
         self.record(number).is_token
     }
@@ -101,51 +109,71 @@ impl Tree {
         &self.text[self.range(number)]
     }
 
-    /// Returns the node around an element, if it is not the root.
+    /// Returns the parent of an element, or `None` for the root.
     pub(crate) fn parent(&self, number: u32) -> Option<u32> {
         let parent = self.record(number).parent;
         (parent != NO_PARENT).then_some(parent)
     }
 
-    /// Returns the number behind an element and all that is inside it.
+    /// Returns the number of the first element after the subtree of `number`.
     pub(crate) fn end(&self, number: u32) -> u32 {
         number + 1 + self.record(number).inside
     }
 
-    /// Returns the first element inside a node.
+    /// Returns the first child of a node.
     pub(crate) fn first_child(&self, number: u32) -> Option<u32> {
         (number + 1 < self.end(number)).then_some(number + 1)
     }
 
-    /// Returns the last element right below a node: the outermost one inside it that ends with it.
+    /// Returns the last child of a node.
     pub(crate) fn last_child(&self, number: u32) -> Option<u32> {
         self.first_child(number)?;
-        Some(self.below(number, self.end(number) - 1))
+        Some(self.child_with(number, self.end(number) - 1))
     }
 
-    /// Returns the next element with the same parent.
+    /// Returns the next sibling of an element.
     pub(crate) fn next_sibling(&self, number: u32) -> Option<u32> {
         let next = self.end(number);
         (next < self.end(self.parent(number)?)).then_some(next)
     }
 
-    /// Returns the element before it with the same parent.
+    /// Returns the previous sibling of an element.
     pub(crate) fn prev_sibling(&self, number: u32) -> Option<u32> {
         let parent = self.parent(number)?;
-        (parent + 1 < number).then(|| self.below(parent, number - 1))
+        (parent + 1 < number).then(|| self.child_with(parent, number - 1))
     }
 
-    // The element right below a node that holds an element inside it.
-    fn below(&self, node: u32, inside: u32) -> u32 {
-        let mut number = inside;
+    // The child of a node whose subtree contains a descendant of the node.
+    fn child_with(&self, node: u32, descendant: u32) -> u32 {
+        let mut number = descendant;
         while let Some(parent) = self.parent(number).filter(|parent| *parent != node) {
             number = parent;
         }
         number
     }
 
-    /// Returns how many of the elements start before an offset. They are the first ones, since starts ascend in preorder.
+    /// Returns how many elements start before an offset. They come first, since starts ascend in preorder.
     pub(crate) fn count_before(&self, offset: TextSize) -> u32 {
         self.records.partition_point(|record| record.start < offset.into()) as u32
+    }
+
+    /// Returns the subtree of a node as a tree of its own, with offsets from 0.
+    pub(crate) fn subtree(&self, node: u32) -> Tree {
+        let base = self.record(node).start;
+        let moved = |record: &Record| Record {
+            start: record.start - base,
+            end: record.end - base,
+            parent: record.parent.wrapping_sub(node),
+            ..*record
+        };
+        let mut records: Vec<Record> = self.records[node as usize..self.end(node) as usize]
+            .iter()
+            .map(moved)
+            .collect();
+        records[0].parent = NO_PARENT;
+        Tree {
+            text: self.text(node).into(),
+            records: records.into(),
+        }
     }
 }

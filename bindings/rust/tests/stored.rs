@@ -1,23 +1,22 @@
-//! The stored cases of the repository, of which what `nix-tree` prints is known.
+//! The stored cases of the repository, each with what `nix-tree` prints.
 
 use rnix::ast::{Expr, InterpolPart};
 use rnix::{tokenize, Direction, NodeOrToken, Parse, Root, SyntaxNode, TextSize, TokenAtOffset, WalkEvent};
 use std::fmt::Write;
 use std::{env, fs, path};
 
-// The texts of a stored list, each with what is wanted of it: a line with two numbers, so many bytes of text, so many that are wanted, and the
-// end of the line.
+// The texts of a stored list, each with the expected output. A case is a line with the lengths of both, then both, then a newline.
 fn stored(list: &str) -> Vec<(String, String)> {
     let folder = path::Path::new(env!("CARGO_MANIFEST_DIR")).join("../../crates/rnix_cases/data");
     let all = fs::read_to_string(folder.join(list)).unwrap();
     let mut rest = all.as_str();
     let mut cases = Vec::new();
-    while let Some((head, behind)) = rest.split_once('\n') {
+    while let Some((head, tail)) = rest.split_once('\n') {
         let (text_len, wanted_len) = head.split_once(' ').unwrap();
-        let (text, behind) = behind.split_at(text_len.parse().unwrap());
-        let (wanted, behind) = behind.split_at(wanted_len.parse().unwrap());
+        let (text, tail) = tail.split_at(text_len.parse().unwrap());
+        let (wanted, tail) = tail.split_at(wanted_len.parse().unwrap());
         cases.push((text.to_owned(), wanted.to_owned()));
-        rest = &behind[1..];
+        rest = &tail[1..];
     }
     cases
 }

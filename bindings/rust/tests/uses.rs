@@ -1,4 +1,4 @@
-//! What programs do with trees, and what they may rely on.
+//! What programs do with trees, and may rely on.
 
 use rnix::ast::{self, Attr, BinOpKind, Entry, Expr, HasEntry, InterpolPart, LiteralKind, Param};
 use rnix::syntax::ast::{support, AstNode};
@@ -62,7 +62,7 @@ fn errors_are_those_of_rnix() {
 }
 
 #[test]
-fn names_of_rowan_mean_what_they_mean_there() {
+fn methods_do_what_those_of_rowan_do() {
     let root = Root::parse("let a = 1; in a + 2").syntax();
     let token = root.token_at_offset(14.into()).right_biased().unwrap();
     assert_eq!(
@@ -190,7 +190,7 @@ fn strings_with_errors_have_the_parts_of_their_nodes() {
     );
 }
 
-// The strings of a tree as expressions.
+// Casts strings to expressions.
 trait CastStr: Sized {
     fn cast_str(node: SyntaxNode) -> Option<Self>;
 }

@@ -1,3 +1,3 @@
-//! The names of the crate rowan that read trees, for programs that say `use rowan::..` beside `use rnix::..`.
+//! The names of rowan that read trees, for programs that use rowan beside rnix.
 
 pub use rnix::syntax::*;

@@ -5,8 +5,8 @@ use super::Interpol;
 /// A part of a string or a path.
 #[derive(Clone, Debug, PartialEq, Eq, Hash)]
 pub enum InterpolPart<T> {
-    /// What stands there as it is.
+    /// Literal text.
     Literal(T),
-    /// A value, `${..}`.
+    /// An interpolation, `${..}`.
     Interpolation(Interpol),
 }

@@ -1,14 +1,14 @@
-//! What a literal is.
+//! Kinds of literals.
 
 use super::{Float, Integer, Uri};
 
-/// What a literal is, with its token.
+/// The kind of a literal, with its token.
 #[derive(Clone, Debug, PartialEq, Eq, Hash)]
 pub enum LiteralKind {
-    /// A number with a point or an exponent.
+    /// A floating-point number.
     Float(Float),
-    /// A whole number.
+    /// An integer.
     Integer(Integer),
-    /// An address.
+    /// A URI.
     Uri(Uri),
 }

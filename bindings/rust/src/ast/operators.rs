@@ -7,11 +7,11 @@ macro_rules! operators {
         $(#[$meta])*
         #[derive(Clone, Copy, Debug, PartialEq, Eq, Hash)]
         pub enum $name {
-            $(#[doc = concat!("The sign `", $sign, "`.")] $variant,)+
+            $(#[doc = concat!("The operator `", $sign, "`.")] $variant,)+
         }
 
         impl $name {
-            /// Returns the operator that a token of the kind is, if it is one.
+            /// Returns the operator that tokens of this kind are, if they are one.
             pub fn from_kind(kind: SyntaxKind) -> Option<Self> {
                 match kind {
                     $($token => Some($name::$variant),)+
@@ -23,7 +23,7 @@ macro_rules! operators {
 }
 
 operators! {
-    /// An operator between two operands.
+    /// A binary operator.
     BinOpKind {
         Concat = TOKEN_CONCAT, "++";
         Update = TOKEN_UPDATE, "//";
@@ -46,7 +46,7 @@ operators! {
 }
 
 operators! {
-    /// An operator before its operand.
+    /// A unary operator.
     UnaryOpKind {
         Invert = TOKEN_INVERT, "!";
         Negate = TOKEN_SUB, "-";

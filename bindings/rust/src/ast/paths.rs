@@ -4,7 +4,6 @@ use super::{AstNode, AstToken, Interpol, InterpolPart, Path, PathAbs, PathConten
 use crate::syntax::ast::AstNode as _;
 use crate::NodeOrToken;
 
-// The parts of a path, in order.
 fn parts(path: &impl AstNode) -> Vec<InterpolPart<PathContent>> {
     let part = |child| match child {
         NodeOrToken::Node(node) => Interpol::cast(node).map(InterpolPart::Interpolation),
@@ -16,7 +15,7 @@ fn parts(path: &impl AstNode) -> Vec<InterpolPart<PathContent>> {
 macro_rules! have_parts {
     ($($name:ident)+) => {$(
         impl $name {
-            /// Returns its parts, in order.
+            /// Returns the path's parts, in order.
             pub fn parts(&self) -> Vec<InterpolPart<PathContent>> {
                 parts(self)
             }
@@ -27,17 +26,17 @@ macro_rules! have_parts {
 have_parts! { PathAbs PathRel PathHome }
 
 impl Path {
-    /// Returns its parts, in order; one of a path that is searched for.
+    /// Returns the path's parts, in order. A search path has one.
     pub fn parts(&self) -> Vec<InterpolPart<PathContent>> {
         parts(self)
     }
 
-    /// Tells whether it is searched for, as `<a>`.
+    /// Returns whether the path is a search path, such as `<a>`.
     pub fn is_search(&self) -> bool {
         matches!(self, Path::PathSearch(_))
     }
 
-    /// Tells whether it may have interpolations.
+    /// Returns whether the path may contain interpolations.
     pub fn is_interpolatable(&self) -> bool {
         !self.is_search()
     }

@@ -6,13 +6,13 @@ use crate::error::Refused;
 use crate::syntax::ast::AstNode as _;
 use crate::{ffi, NodeOrToken, SyntaxKind};
 
-// A string read alone is the first element below the root.
+// The number of a string that is a text of its own: the first child of the root.
 const ALONE: u32 = 1;
 
-// What the library gives of the string that is an element of a text: its text, and its parts as ranges of that, in order.
+// Asks the library about the string that has a number in a text: returns its value, and its parts as ranges of the value.
 fn read(text: &str, number: u32, len: usize) -> Result<(String, Vec<ffi::Part>), Refused> {
     let element = number as usize;
-    // SAFETY: both calls fill their array as `listed` asks.
+    // SAFETY: both calls fill their array as `listed` requires.
     let value = unsafe {
         ffi::listed(len, |room, room_len| {
             ffi::rnix_string_text(text.as_ptr(), text.len(), element, room, room_len)
@@ -28,7 +28,7 @@ fn read(text: &str, number: u32, len: usize) -> Result<(String, Vec<ffi::Part>),
 }
 
 impl Str {
-    /// Goes over its parts as they are written.
+    /// Returns an iterator over the string's parts as they are written.
     pub fn parts(&self) -> impl Iterator<Item = InterpolPart<StrContent>> {
         self.syntax().children_with_tokens().filter_map(|child| match child {
             NodeOrToken::Node(node) => Interpol::cast(node).map(InterpolPart::Interpolation),
@@ -36,7 +36,7 @@ impl Str {
         })
     }
 
-    // Whether all of it was read as the grammar asks: then it is read alone as it is read in its text.
+    // Whether the string is closed and has no error nodes. Then it parses alone just as it does within its text.
     fn is_whole(&self) -> bool {
         let ends = token(self, SyntaxKind::TOKEN_STRING_END).is_some();
         ends && self
@@ -45,17 +45,17 @@ impl Str {
             .all(|node| node.kind() != SyntaxKind::NODE_ERROR)
     }
 
-    /// Returns its parts as Nix means them: without the indentation of a string in `''`, and with what escapes stand for. The string is read
-    /// anew, alone; one that has errors with its whole text.
+    /// Returns the string's parts with escapes replaced and, in a `''` string, the indentation stripped. This parses the string again: alone,
+    /// or with its whole text if the string contains errors.
     ///
     /// # Panics
     /// If no memory is left.
     pub fn normalized_parts(&self) -> Vec<InterpolPart<String>> {
         let node = self.syntax();
-        let own = node.text();
-        let len = own.as_str().len();
+        let text = node.text();
+        let len = text.as_str().len();
         let read = if self.is_whole() {
-            read(own.as_str(), ALONE, len)
+            read(text.as_str(), ALONE, len)
         } else {
             read(node.tree.text(0), node.number, len)
         };

@@ -1,41 +1,41 @@
-//! How accessors find what they give, and the types of nodes that have them.
+//! Functions and macros that the typed nodes are made of.
 
 use super::{AstNode, AstToken, Float, Integer, Literal, LiteralKind, Uri};
 use crate::syntax::ast::AstChildren;
 use crate::{NodeOrToken, SyntaxKind, SyntaxToken};
 
-// The tokens right below a node.
+// The child tokens of a node.
 pub(super) fn tokens(node: &impl AstNode) -> impl Iterator<Item = SyntaxToken> {
     node.syntax().children_with_tokens().filter_map(NodeOrToken::into_token)
 }
 
-// The first token of a kind.
+// The first child token of a kind.
 pub(super) fn token(node: &impl AstNode, kind: SyntaxKind) -> Option<SyntaxToken> {
     tokens(node).find(|token| token.kind() == kind)
 }
 
-// The first token of a type.
+// The first child token of a type.
 pub(super) fn token_of_type<T: AstToken>(node: &impl AstNode) -> Option<T> {
     tokens(node).find_map(T::cast)
 }
 
-// What the first token is that is an operator.
+// The operator that the first operator token stands for.
 pub(super) fn operator<K>(node: &impl AstNode, from_kind: impl Fn(SyntaxKind) -> Option<K>) -> Option<K> {
     tokens(node).find_map(|token| from_kind(token.kind()))
 }
 
-// What a literal is.
+// The kind of a literal.
 pub(super) fn literal(node: &Literal) -> LiteralKind {
     let float = || token_of_type::<Float>(node).map(LiteralKind::Float);
     let integer = || token_of_type::<Integer>(node).map(LiteralKind::Integer);
     let uri = || token_of_type::<Uri>(node).map(LiteralKind::Uri);
     let found = float().or_else(integer).or_else(uri);
-    found.expect("a literal has a number or an address")
+    found.expect("a literal has a number or a URI")
 }
 
-// The child of a type that has a number, from 0 on.
-pub(super) fn nth<N: AstNode>(node: &impl AstNode, number: usize) -> Option<N> {
-    children(node).nth(number)
+// The child of a type that has an index among those of the type.
+pub(super) fn nth<N: AstNode>(node: &impl AstNode, index: usize) -> Option<N> {
+    children(node).nth(index)
 }
 
 // The children of a type.
@@ -43,7 +43,7 @@ pub(super) fn children<N: AstNode>(node: &impl AstNode) -> AstChildren<N> {
     AstChildren::of(node.syntax())
 }
 
-// A type of nodes of one kind.
+// Defines the type of the nodes of one kind.
 macro_rules! node {
     ($(#[$meta:meta])* $name:ident = $kind:ident) => {
         $(#[$meta])*
@@ -51,7 +51,7 @@ macro_rules! node {
         pub struct $name(crate::SyntaxNode);
 
         impl $name {
-            /// The kind of its nodes.
+            /// The kind of these nodes.
             pub const KIND: crate::SyntaxKind = crate::SyntaxKind::$kind;
         }
 
@@ -79,7 +79,7 @@ macro_rules! node {
     };
 }
 
-// A type of nodes of several kinds.
+// Defines the enum of several types of nodes.
 macro_rules! sum {
     ($(#[$meta:meta])* $name:ident = $($member:ident)|+) => {
         $(#[$meta])*

@@ -34,42 +34,42 @@ macro_rules! token {
 }
 
 token! {
-    /// White space.
+    /// Whitespace.
     Whitespace = TOKEN_WHITESPACE
 }
 
 token! {
-    /// A comment, as `# a` or `/* a */`.
+    /// A comment, such as `# a` or `/* a */`.
     Comment = TOKEN_COMMENT
 }
 
 token! {
-    /// A number with a point or an exponent.
+    /// A floating-point number.
     Float = TOKEN_FLOAT
 }
 
 token! {
-    /// A whole number.
+    /// An integer.
     Integer = TOKEN_INTEGER
 }
 
 token! {
-    /// What a path says, as it is written.
+    /// Literal text of a path.
     PathContent = TOKEN_PATH_ABS | TOKEN_PATH_REL | TOKEN_PATH_HOME | TOKEN_PATH_SEARCH
 }
 
 token! {
-    /// A piece of a string, as it is written.
+    /// Literal text of a string, as it is written.
     StrContent = TOKEN_STRING_CONTENT
 }
 
 token! {
-    /// An address.
+    /// A URI.
     Uri = TOKEN_URI
 }
 
 impl Comment {
-    /// Returns what stands behind `#`, or between `/*` and `*/`; of a comment that is not closed the whole text.
+    /// Returns the text after `#`, or between `/*` and `*/`. For an unclosed comment, returns the whole text.
     pub fn text(&self) -> &str {
         let text = self.0.text();
         let block = || text.strip_prefix("/*")?.strip_suffix("*/");
@@ -81,7 +81,7 @@ impl Float {
     /// Returns the number.
     ///
     /// # Errors
-    /// Those of std.
+    /// Those of `str::parse`.
     pub fn value(&self) -> Result<f64, ParseFloatError> {
         self.0.text().parse()
     }
@@ -91,39 +91,39 @@ impl Integer {
     /// Returns the number.
     ///
     /// # Errors
-    /// Those of std: a number that has more than 64 bits.
+    /// The number does not fit in an `i64`.
     pub fn value(&self) -> Result<i64, ParseIntError> {
         self.0.text().parse()
     }
 }
 
 impl PathContent {
-    /// Returns what the path says, as it is written.
+    /// Returns the text.
     pub fn text(&self) -> &str {
         self.0.text()
     }
 
-    /// Returns the kind of its token.
+    /// Returns the kind of the token.
     pub fn path_kind(&self) -> SyntaxKind {
         self.0.kind()
     }
 
-    /// Tells whether the path goes from the root.
+    /// Returns whether the path is absolute.
     pub fn is_absolute(&self) -> bool {
         self.path_kind() == TOKEN_PATH_ABS
     }
 
-    /// Tells whether the path goes from the file's own directory.
+    /// Returns whether the path is relative to the file's directory.
     pub fn is_relative(&self) -> bool {
         self.path_kind() == TOKEN_PATH_REL
     }
 
-    /// Tells whether the path goes from the user's directory.
+    /// Returns whether the path is relative to the home directory.
     pub fn is_home(&self) -> bool {
         self.path_kind() == TOKEN_PATH_HOME
     }
 
-    /// Tells whether the path is searched for.
+    /// Returns whether the path is a search path, such as `<a>`.
     pub fn is_search(&self) -> bool {
         self.path_kind() == TOKEN_PATH_SEARCH
     }

@@ -1,14 +1,15 @@
-//! What stands right below a node, and beside an element.
+//! Children and siblings.
 
 use super::element::SyntaxElement;
 use super::node::SyntaxNode;
 use super::walk::Direction;
 use crate::tree::Tree;
+use crate::SyntaxKind;
 use std::fmt;
 use std::iter::FusedIterator;
 use std::sync::Arc;
 
-/// The nodes and tokens right below a node, in order.
+/// The child nodes and tokens of a node, in order.
 #[derive(Clone)]
 pub struct SyntaxElementChildren {
     tree: Arc<Tree>,
@@ -23,6 +24,11 @@ impl SyntaxElementChildren {
             next: node.number + 1,
             end: node.tree.end(node.number),
         }
+    }
+
+    /// Returns an iterator over the nodes and tokens among these whose kind passes a test.
+    pub fn by_kind(self, matcher: impl Fn(SyntaxKind) -> bool) -> impl Iterator<Item = SyntaxElement> {
+        self.filter(move |element| matcher(element.kind()))
     }
 
     // The number of the next child.
@@ -50,7 +56,7 @@ impl fmt::Debug for SyntaxElementChildren {
     }
 }
 
-/// The nodes right below a node, in order.
+/// The child nodes of a node, in order.
 #[derive(Clone)]
 pub struct SyntaxNodeChildren {
     elements: SyntaxElementChildren,
@@ -61,6 +67,11 @@ impl SyntaxNodeChildren {
         SyntaxNodeChildren {
             elements: SyntaxElementChildren::of(node),
         }
+    }
+
+    /// Returns an iterator over the nodes among these whose kind passes a test.
+    pub fn by_kind(self, matcher: impl Fn(SyntaxKind) -> bool) -> impl Iterator<Item = SyntaxNode> {
+        self.filter(move |node| matcher(node.kind()))
     }
 }
 
@@ -85,7 +96,7 @@ impl fmt::Debug for SyntaxNodeChildren {
     }
 }
 
-/// A node or token and those with the same parent in a direction.
+/// A node or token, then its siblings in one direction.
 #[derive(Clone, Debug)]
 pub struct Siblings {
     next: Option<SyntaxElement>,

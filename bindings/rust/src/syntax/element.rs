@@ -1,4 +1,4 @@
-//! What is a node or a token.
+//! Nodes or tokens.
 
 use super::node::{Ancestors, SyntaxNode};
 use super::token::SyntaxToken;
@@ -36,12 +36,12 @@ impl<N, T> NodeOrToken<N, T> {
         }
     }
 
-    /// Lends the node, if it is one.
+    /// Returns a reference to the node, if it is one.
     pub fn as_node(&self) -> Option<&N> {
         self.as_ref().into_node()
     }
 
-    /// Lends the token, if it is one.
+    /// Returns a reference to the token, if it is one.
     pub fn as_token(&self) -> Option<&T> {
         self.as_ref().into_token()
     }
@@ -73,26 +73,26 @@ impl SyntaxElement {
         }
     }
 
-    pub(crate) fn place(&self) -> (&Arc<Tree>, u32) {
+    pub(crate) fn location(&self) -> (&Arc<Tree>, u32) {
         match self {
             NodeOrToken::Node(node) => (&node.tree, node.number),
             NodeOrToken::Token(token) => (&token.tree, token.number),
         }
     }
 
-    /// Returns its kind.
+    /// Returns the kind.
     pub fn kind(&self) -> SyntaxKind {
-        let (tree, number) = self.place();
+        let (tree, number) = self.location();
         tree.kind(number)
     }
 
-    /// Returns its range in the text.
+    /// Returns the range in the text.
     pub fn text_range(&self) -> TextRange {
-        let (tree, number) = self.place();
+        let (tree, number) = self.location();
         tree.range(number)
     }
 
-    /// Returns how many elements with the same parent stand before it.
+    /// Returns the index among the siblings, nodes and tokens.
     pub fn index(&self) -> usize {
         match self {
             NodeOrToken::Node(node) => node.index(),
@@ -100,7 +100,7 @@ impl SyntaxElement {
         }
     }
 
-    /// Returns the node around it; `None` of the root.
+    /// Returns the parent, or `None` for the root.
     pub fn parent(&self) -> Option<SyntaxNode> {
         match self {
             NodeOrToken::Node(node) => node.parent(),
@@ -108,7 +108,7 @@ impl SyntaxElement {
         }
     }
 
-    /// Goes over the node itself, or the node around the token, and all nodes around that, from the inside out.
+    /// Returns an iterator over the node itself, if it is one, and its ancestors up to the root.
     pub fn ancestors(&self) -> Ancestors {
         match self {
             NodeOrToken::Node(node) => node.ancestors(),
@@ -132,15 +132,15 @@ impl SyntaxElement {
         }
     }
 
-    /// Returns the next element with the same parent.
+    /// Returns the next sibling node or token.
     pub fn next_sibling_or_token(&self) -> Option<SyntaxElement> {
-        let (tree, number) = self.place();
+        let (tree, number) = self.location();
         Some(SyntaxElement::at(tree, tree.next_sibling(number)?))
     }
 
-    /// Returns the element before it with the same parent.
+    /// Returns the previous sibling node or token.
     pub fn prev_sibling_or_token(&self) -> Option<SyntaxElement> {
-        let (tree, number) = self.place();
+        let (tree, number) = self.location();
         Some(SyntaxElement::at(tree, tree.prev_sibling(number)?))
     }
 }

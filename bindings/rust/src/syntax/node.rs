@@ -13,7 +13,7 @@ use std::hash::{Hash, Hasher};
 use std::iter::FusedIterator;
 use std::sync::Arc;
 
-/// A node of a tree. It owns a share of the tree, so a clone costs a count; two are equal if they are the same node of the same tree.
+/// A node of a tree, which it keeps alive. Cloning it only counts a reference; two nodes are equal if they are the same node of the same tree.
 #[derive(Clone)]
 pub struct SyntaxNode {
     pub(crate) tree: Arc<Tree>,
@@ -28,64 +28,63 @@ impl SyntaxNode {
         }
     }
 
-    // The element of a number.
     fn element_at(&self, number: u32) -> SyntaxElement {
         SyntaxElement::at(&self.tree, number)
     }
 
-    /// Returns its kind.
+    /// Returns the node's kind.
     pub fn kind(&self) -> SyntaxKind {
         self.tree.kind(self.number)
     }
 
-    /// Returns its range in the text.
+    /// Returns the node's range in the text.
     pub fn text_range(&self) -> TextRange {
         self.tree.range(self.number)
     }
 
-    /// Returns how many elements with the same parent stand before it.
+    /// Returns the node's index among its siblings, tokens included.
     pub fn index(&self) -> usize {
         self.siblings_with_tokens(Direction::Prev).skip(1).count()
     }
 
-    /// Returns its text.
+    /// Returns the node's text.
     pub fn text(&self) -> SyntaxText {
         SyntaxText::of(self)
     }
 
-    /// Returns the node around it; `None` of the root.
+    /// Returns the parent, or `None` for the root.
     pub fn parent(&self) -> Option<SyntaxNode> {
         Some(SyntaxNode::at(&self.tree, self.tree.parent(self.number)?))
     }
 
-    /// Goes over it and the nodes around it, from the inside out.
+    /// Returns an iterator over the node and its ancestors, up to the root.
     pub fn ancestors(&self) -> Ancestors {
         Ancestors {
             next: Some(self.clone()),
         }
     }
 
-    /// Goes over the nodes right below it.
+    /// Returns an iterator over the child nodes.
     pub fn children(&self) -> SyntaxNodeChildren {
         SyntaxNodeChildren::of(self)
     }
 
-    /// Goes over the nodes and tokens right below it.
+    /// Returns an iterator over the child nodes and tokens.
     pub fn children_with_tokens(&self) -> SyntaxElementChildren {
         SyntaxElementChildren::of(self)
     }
 
-    /// Returns the first node right below it.
+    /// Returns the first child node.
     pub fn first_child(&self) -> Option<SyntaxNode> {
         self.children().next()
     }
 
-    /// Returns the first node right below it whose kind passes a test.
+    /// Returns the first child node whose kind passes a test.
     pub fn first_child_by_kind(&self, matcher: &impl Fn(SyntaxKind) -> bool) -> Option<SyntaxNode> {
         self.children().find(|node| matcher(node.kind()))
     }
 
-    /// Returns the last node right below it.
+    /// Returns the last child node.
     pub fn last_child(&self) -> Option<SyntaxNode> {
         let last = self.last_child_or_token()?;
         match last {
@@ -96,53 +95,53 @@ impl SyntaxNode {
         }
     }
 
-    /// Returns the first node or token right below it.
+    /// Returns the first child node or token.
     pub fn first_child_or_token(&self) -> Option<SyntaxElement> {
         Some(self.element_at(self.tree.first_child(self.number)?))
     }
 
-    /// Returns the first node or token right below it whose kind passes a test.
+    /// Returns the first child node or token whose kind passes a test.
     pub fn first_child_or_token_by_kind(&self, matcher: &impl Fn(SyntaxKind) -> bool) -> Option<SyntaxElement> {
         self.children_with_tokens().find(|element| matcher(element.kind()))
     }
 
-    /// Returns the last node or token right below it.
+    /// Returns the last child node or token.
     pub fn last_child_or_token(&self) -> Option<SyntaxElement> {
         Some(self.element_at(self.tree.last_child(self.number)?))
     }
 
-    /// Returns the next node with the same parent.
+    /// Returns the next sibling node.
     pub fn next_sibling(&self) -> Option<SyntaxNode> {
         self.siblings(Direction::Next).nth(1)
     }
 
-    /// Returns the next node with the same parent whose kind passes a test.
+    /// Returns the next sibling node whose kind passes a test.
     pub fn next_sibling_by_kind(&self, matcher: &impl Fn(SyntaxKind) -> bool) -> Option<SyntaxNode> {
         self.siblings(Direction::Next).skip(1).find(|node| matcher(node.kind()))
     }
 
-    /// Returns the node before it with the same parent.
+    /// Returns the previous sibling node.
     pub fn prev_sibling(&self) -> Option<SyntaxNode> {
         self.siblings(Direction::Prev).nth(1)
     }
 
-    /// Returns the next node or token with the same parent.
+    /// Returns the next sibling node or token.
     pub fn next_sibling_or_token(&self) -> Option<SyntaxElement> {
         Some(self.element_at(self.tree.next_sibling(self.number)?))
     }
 
-    /// Returns the next node or token with the same parent whose kind passes a test.
+    /// Returns the next sibling node or token whose kind passes a test.
     pub fn next_sibling_or_token_by_kind(&self, matcher: &impl Fn(SyntaxKind) -> bool) -> Option<SyntaxElement> {
-        let mut behind = self.siblings_with_tokens(Direction::Next).skip(1);
-        behind.find(|element| matcher(element.kind()))
+        let mut following = self.siblings_with_tokens(Direction::Next).skip(1);
+        following.find(|element| matcher(element.kind()))
     }
 
-    /// Returns the node or token before it with the same parent.
+    /// Returns the previous sibling node or token.
     pub fn prev_sibling_or_token(&self) -> Option<SyntaxElement> {
         Some(self.element_at(self.tree.prev_sibling(self.number)?))
     }
 
-    /// Returns the first token inside it.
+    /// Returns the first token of the subtree.
     pub fn first_token(&self) -> Option<SyntaxToken> {
         let mut inside = self.number..self.tree.end(self.number);
         let number = inside.find(|number| self.tree.is_token(*number))?;
@@ -152,7 +151,7 @@ impl SyntaxNode {
         })
     }
 
-    /// Returns the last token inside it.
+    /// Returns the last token of the subtree.
     pub fn last_token(&self) -> Option<SyntaxToken> {
         let mut inside = (self.number..self.tree.end(self.number)).rev();
         let number = inside.find(|number| self.tree.is_token(*number))?;
@@ -162,17 +161,17 @@ impl SyntaxNode {
         })
     }
 
-    /// Goes over it and the nodes with the same parent in a direction.
+    /// Returns an iterator over the node, then its sibling nodes in one direction.
     pub fn siblings(&self, direction: Direction) -> impl Iterator<Item = SyntaxNode> {
         self.siblings_with_tokens(direction).filter_map(NodeOrToken::into_node)
     }
 
-    /// Goes over it and the nodes and tokens with the same parent in a direction.
+    /// Returns an iterator over the node, then its sibling nodes and tokens in one direction.
     pub fn siblings_with_tokens(&self, direction: Direction) -> Siblings {
         Siblings::from(self.clone().into(), direction)
     }
 
-    /// Goes over it and the nodes inside it, in preorder.
+    /// Returns an iterator over the nodes of the subtree in preorder, from the node itself.
     pub fn descendants(&self) -> impl Iterator<Item = SyntaxNode> {
         let tree = Arc::clone(&self.tree);
         let mut inside = self.number..tree.end(self.number);
@@ -182,23 +181,23 @@ impl SyntaxNode {
         })
     }
 
-    /// Goes over it and the nodes and tokens inside it, in preorder.
+    /// Returns an iterator over the nodes and tokens of the subtree in preorder, from the node itself.
     pub fn descendants_with_tokens(&self) -> impl Iterator<Item = SyntaxElement> {
         let tree = Arc::clone(&self.tree);
         (self.number..self.tree.end(self.number)).map(move |number| SyntaxElement::at(&tree, number))
     }
 
-    /// Enters and leaves it and the nodes inside it.
+    /// Returns a walk that enters and leaves each node of the subtree.
     pub fn preorder(&self) -> Preorder {
         Preorder::of(self)
     }
 
-    /// Enters and leaves it and the nodes and tokens inside it.
+    /// Returns a walk that enters and leaves each node and token of the subtree.
     pub fn preorder_with_tokens(&self) -> PreorderWithTokens {
         PreorderWithTokens::of(self)
     }
 
-    /// Returns the tokens that an offset is in or between.
+    /// Returns the token that contains an offset, or the two tokens that meet there.
     ///
     /// # Panics
     /// If the offset is outside the node's range.
@@ -206,10 +205,10 @@ impl SyntaxNode {
         TokenAtOffset::of(self, offset)
     }
 
-    /// Returns the innermost node or token whose range holds a range.
+    /// Returns the innermost node or token whose range contains `range`.
     ///
     /// # Panics
-    /// If the range is not inside the node's.
+    /// If the node's range does not contain `range`.
     pub fn covering_element(&self, range: TextRange) -> SyntaxElement {
         assert!(
             self.text_range().contains_range(range),
@@ -225,10 +224,20 @@ impl SyntaxNode {
         }
     }
 
-    /// Returns the first node or token right below it whose range holds a range.
+    /// Returns the first child node or token whose range contains `range`.
     pub fn child_or_token_at_range(&self, range: TextRange) -> Option<SyntaxElement> {
         self.children_with_tokens()
             .find(|element| element.text_range().contains_range(range))
+    }
+
+    /// Returns a copy of the subtree as a tree of its own, whose root is the copy of the node. Its offsets start at 0.
+    pub fn clone_subtree(&self) -> SyntaxNode {
+        SyntaxNode::at(&Arc::new(self.tree.subtree(self.number)), 0)
+    }
+
+    /// Returns false: trees are immutable.
+    pub fn is_mutable(&self) -> bool {
+        false
     }
 }
 
@@ -253,7 +262,7 @@ impl fmt::Display for SyntaxNode {
     }
 }
 
-/// `KIND@start..end`; with `{:#?}` a line for it and for each node and token inside it, indented by two blanks for each node around it.
+/// Prints `KIND@start..end`. With `{:#?}`, prints a line for each node and token of the subtree, indented by two spaces per level.
 impl fmt::Debug for SyntaxNode {
     fn fmt(&self, f: &mut fmt::Formatter<'_>) -> fmt::Result {
         if !f.alternate() {
@@ -275,7 +284,7 @@ impl fmt::Debug for SyntaxNode {
     }
 }
 
-/// A node and the nodes around it, from the inside out.
+/// A node, then its ancestors up to the root.
 #[derive(Clone, Debug)]
 pub struct Ancestors {
     pub(crate) next: Option<SyntaxNode>,

@@ -1,23 +1,23 @@
-//! Which tokens stand at an offset.
+//! The tokens at an offset.
 
 use super::node::SyntaxNode;
 use super::token::SyntaxToken;
 use crate::TextSize;
 use std::sync::Arc;
 
-/// The tokens that an offset is in or between.
+/// The token that contains an offset, or the two tokens that meet there.
 #[derive(Clone, Debug, PartialEq, Eq, Hash)]
 pub enum TokenAtOffset<T> {
-    /// The node has no text.
+    /// No token: the node has no text.
     None,
-    /// The offset is inside the token, or at an end of the text beside it.
+    /// The token that contains the offset, or that starts or ends the node at the offset.
     Single(T),
-    /// The offset is between the two tokens.
+    /// The two tokens that meet at the offset.
     Between(T, T),
 }
 
 impl<T> TokenAtOffset<T> {
-    /// Returns what a function makes of the tokens.
+    /// Applies a function to each token.
     pub fn map<U>(self, function: impl Fn(T) -> U) -> TokenAtOffset<U> {
         match self {
             TokenAtOffset::None => TokenAtOffset::None,
@@ -26,7 +26,7 @@ impl<T> TokenAtOffset<T> {
         }
     }
 
-    /// Returns the token, of two the one on the right.
+    /// Returns the token, or the right one of two.
     pub fn right_biased(self) -> Option<T> {
         match self {
             TokenAtOffset::None => None,
@@ -34,7 +34,7 @@ impl<T> TokenAtOffset<T> {
         }
     }
 
-    /// Returns the token, of two the one on the left.
+    /// Returns the token, or the left one of two.
     pub fn left_biased(self) -> Option<T> {
         match self {
             TokenAtOffset::None => None,
@@ -76,8 +76,8 @@ impl TokenAtOffset<SyntaxToken> {
             range.contains_inclusive(offset),
             "the offset {offset:?} is not inside {node:?}"
         );
-        let left = (range.start() < offset).then(|| token_that_holds(node, offset - TextSize::new(1)));
-        let right = (offset < range.end()).then(|| token_that_holds(node, offset));
+        let left = (range.start() < offset).then(|| token_containing(node, offset - TextSize::new(1)));
+        let right = (offset < range.end()).then(|| token_containing(node, offset));
         match (left, right) {
             (None, None) => TokenAtOffset::None,
             (Some(token), None) | (None, Some(token)) => TokenAtOffset::Single(token),
@@ -87,13 +87,13 @@ impl TokenAtOffset<SyntaxToken> {
     }
 }
 
-// The token that holds a byte of the text: of the elements that start before the next byte the last token.
-fn token_that_holds(node: &SyntaxNode, offset: TextSize) -> SyntaxToken {
+// The token that contains the byte at an offset: the last one that starts there or before and is not empty.
+fn token_containing(node: &SyntaxNode, offset: TextSize) -> SyntaxToken {
     let tree = &node.tree;
-    let mut before = (0..tree.count_before(offset + TextSize::new(1))).rev();
-    let held = before.find(|number| tree.is_token(*number) && tree.range(*number).contains(offset));
+    let mut candidates = (0..tree.count_before(offset + TextSize::new(1))).rev();
+    let found = candidates.find(|number| tree.is_token(*number) && tree.range(*number).contains(offset));
     SyntaxToken {
         tree: Arc::clone(tree),
-        number: held.expect("each byte of a text is in a token"),
+        number: found.expect("each byte of a text is in a token"),
     }
 }

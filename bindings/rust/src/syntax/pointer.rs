@@ -1,21 +1,22 @@
-//! Places of nodes, kept without the tree.
+//! Pointers to nodes that do not keep the tree alive.
 
 use super::node::SyntaxNode;
+use crate::language::Language;
 use crate::syntax::ast::AstNode;
 use crate::{NixLanguage, SyntaxKind, TextRange};
 use std::fmt;
 use std::hash::{Hash, Hasher};
 use std::marker::PhantomData;
 
-/// The kind and the range of a node, by which it is found again in its tree, or in one of the same text.
+/// The kind and range of a node, which find it again in its tree or in another tree of the same text.
 #[derive(Clone, Debug, PartialEq, Eq, Hash)]
-pub struct SyntaxNodePtr {
-    kind: SyntaxKind,
+pub struct SyntaxNodePtr<L: Language = NixLanguage> {
+    kind: L::Kind,
     range: TextRange,
 }
 
 impl SyntaxNodePtr {
-    /// Keeps a node.
+    /// Returns a pointer to a node.
     pub fn new(node: &SyntaxNode) -> SyntaxNodePtr {
         SyntaxNodePtr {
             kind: node.kind(),
@@ -23,15 +24,15 @@ impl SyntaxNodePtr {
         }
     }
 
-    /// Returns the node in a tree, which is given by its root.
+    /// Returns the node in the tree that has this root.
     ///
     /// # Panics
-    /// If there is no such node.
+    /// If the tree has no such node, or `root` has a parent.
     pub fn to_node(&self, root: &SyntaxNode) -> SyntaxNode {
         self.try_to_node(root).unwrap_or_else(|| panic!("there is no {self:?}"))
     }
 
-    /// Returns the node in a tree, which is given by its root; `None` where there is no such node, or it is no root.
+    /// Returns the node in the tree that has this root, or `None` if the tree has no such node or `root` has a parent.
     pub fn try_to_node(&self, root: &SyntaxNode) -> Option<SyntaxNode> {
         if root.parent().is_some() {
             return None;
@@ -44,7 +45,7 @@ impl SyntaxNodePtr {
         inwards.find(|node| node.text_range() == self.range && node.kind() == self.kind)
     }
 
-    /// Returns the pointer as one to a type of nodes, if the kind is of the type.
+    /// Returns the pointer as one to a typed node, or `None` if the kind is another.
     pub fn cast<N: AstNode<Language = NixLanguage>>(self) -> Option<AstPtr<N>> {
         N::can_cast(self.kind).then_some(AstPtr {
             pointer: self,
@@ -52,25 +53,25 @@ impl SyntaxNodePtr {
         })
     }
 
-    /// Returns the node's kind.
+    /// Returns the kind of the node.
     pub fn kind(&self) -> SyntaxKind {
         self.kind
     }
 
-    /// Returns the node's range.
+    /// Returns the range of the node.
     pub fn text_range(&self) -> TextRange {
         self.range
     }
 }
 
-/// A pointer to a node of a type.
+/// A pointer to a typed node.
 pub struct AstPtr<N> {
     pointer: SyntaxNodePtr,
     of: PhantomData<fn() -> N>,
 }
 
 impl<N: AstNode<Language = NixLanguage>> AstPtr<N> {
-    /// Keeps a node.
+    /// Returns a pointer to a node.
     pub fn new(node: &N) -> AstPtr<N> {
         AstPtr {
             pointer: SyntaxNodePtr::new(node.syntax()),
@@ -78,15 +79,15 @@ impl<N: AstNode<Language = NixLanguage>> AstPtr<N> {
         }
     }
 
-    /// Returns the node in a tree, which is given by its root.
+    /// Returns the node in the tree that has this root.
     ///
     /// # Panics
-    /// If there is no such node.
+    /// If the tree has no such node, or `root` has a parent.
     pub fn to_node(&self, root: &SyntaxNode) -> N {
         N::cast(self.pointer.to_node(root)).expect("the kind was tested")
     }
 
-    /// Returns the node in a tree, which is given by its root; `None` where there is no such node, or it is no root.
+    /// Returns the node in the tree that has this root, or `None` if the tree has no such node or `root` has a parent.
     pub fn try_to_node(&self, root: &SyntaxNode) -> Option<N> {
         N::cast(self.pointer.try_to_node(root)?)
     }
@@ -96,14 +97,20 @@ impl<N: AstNode<Language = NixLanguage>> AstPtr<N> {
         self.pointer.clone()
     }
 
-    /// Returns the pointer as one to another type, if the kind is of that type.
+    /// Returns the pointer as one to another type, or `None` if that type does not have the kind.
     pub fn cast<U: AstNode<Language = NixLanguage>>(self) -> Option<AstPtr<U>> {
         self.pointer.cast()
     }
 
-    /// Returns the node's range.
+    /// Returns the range of the node.
     pub fn text_range(&self) -> TextRange {
         self.pointer.range
+    }
+}
+
+impl<N> From<AstPtr<N>> for SyntaxNodePtr {
+    fn from(pointer: AstPtr<N>) -> SyntaxNodePtr {
+        pointer.pointer
     }
 }
 

@@ -7,12 +7,12 @@ use std::fmt;
 use std::ops::{Bound, RangeBounds};
 use std::sync::Arc;
 
-/// The text of a node, or a part of it.
+/// The text of a node, or a slice of it.
 #[derive(Clone)]
 pub struct SyntaxText {
     tree: Arc<Tree>,
     number: u32,
-    // The part, by offsets in the text of the node.
+    // The slice, relative to the node's text.
     range: TextRange,
 }
 
@@ -26,41 +26,41 @@ impl SyntaxText {
         }
     }
 
-    /// Lends the text.
+    /// Returns the text as a string slice.
     pub fn as_str(&self) -> &str {
         &self.tree.text(self.number)[self.range]
     }
 
-    /// Returns how many bytes it has.
+    /// Returns the length in bytes.
     pub fn len(&self) -> TextSize {
         self.range.len()
     }
 
-    /// Tells whether it has no bytes.
+    /// Returns whether the text is empty.
     pub fn is_empty(&self) -> bool {
         self.range.is_empty()
     }
 
-    /// Tells whether it has a character.
+    /// Returns whether the text contains a character.
     pub fn contains_char(&self, c: char) -> bool {
         self.as_str().contains(c)
     }
 
-    /// Returns the offset of the first of a character.
+    /// Returns the offset of the first occurrence of a character.
     pub fn find_char(&self, c: char) -> Option<TextSize> {
         let offset = self.as_str().find(c)?;
         TextSize::try_from(offset).ok()
     }
 
-    /// Returns the character at an offset, if one begins there.
+    /// Returns the character that starts at an offset, if one does.
     pub fn char_at(&self, offset: TextSize) -> Option<char> {
         self.as_str().get(offset.into()..)?.chars().next()
     }
 
-    /// Returns the part in a range of offsets of it.
+    /// Returns a slice of the text. The range is relative to this text.
     ///
     /// # Panics
-    /// If the range is not inside it.
+    /// If the range ends after the text, or before it starts.
     pub fn slice(&self, range: impl RangeBounds<TextSize>) -> SyntaxText {
         let one = TextSize::new(1);
         let start = match range.start_bound() {
@@ -73,7 +73,7 @@ impl SyntaxText {
             Bound::Excluded(end) => *end,
             Bound::Unbounded => self.len(),
         };
-        assert!(end <= self.len(), "the range ends behind the text");
+        assert!(end <= self.len(), "the range ends after the text");
         let range = TextRange::new(start, end) + self.range.start();
         SyntaxText {
             tree: Arc::clone(&self.tree),
@@ -82,7 +82,7 @@ impl SyntaxText {
         }
     }
 
-    /// Folds the pieces of the text; here there is one.
+    /// Folds over the chunks of the text; there is exactly one.
     ///
     /// # Errors
     /// Those of the function.
@@ -93,7 +93,7 @@ impl SyntaxText {
         function(init, self.as_str())
     }
 
-    /// Hands the pieces of the text to a function; here there is one.
+    /// Calls a function with each chunk of the text; there is exactly one.
     ///
     /// # Errors
     /// Those of the function.
@@ -104,7 +104,7 @@ impl SyntaxText {
         function(self.as_str())
     }
 
-    /// Hands the pieces of the text to a function; here there is one.
+    /// Calls a function with each chunk of the text; there is exactly one.
     pub fn for_each_chunk<F: FnMut(&str)>(&self, mut function: F) {
         function(self.as_str());
     }

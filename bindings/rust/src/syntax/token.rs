@@ -10,11 +10,13 @@ use std::fmt;
 use std::hash::{Hash, Hasher};
 use std::sync::Arc;
 
-/// How many bytes of a token's text `{:?}` shows at most, and how many where it is longer.
+/// `{:?}` shows a text whole if it has fewer bytes than this.
 const SHOWN_WHOLE: usize = 25;
+
+/// How many bytes of a longer text `{:?}` shows, or a few more so as not to split a character.
 const SHOWN_BEGINNING: usize = 21;
 
-/// A token of a tree. It owns a share of the tree, so a clone costs a count; two are equal if they are the same token of the same tree.
+/// A token of a tree, which it keeps alive. Cloning it only counts a reference; two tokens are equal if they are the same token of the same tree.
 #[derive(Clone)]
 pub struct SyntaxToken {
     pub(crate) tree: Arc<Tree>,
@@ -26,65 +28,65 @@ impl SyntaxToken {
         SyntaxElement::at(&self.tree, number)
     }
 
-    /// Returns its kind.
+    /// Returns the token's kind.
     pub fn kind(&self) -> SyntaxKind {
         self.tree.kind(self.number)
     }
 
-    /// Returns its range in the text.
+    /// Returns the token's range in the text.
     pub fn text_range(&self) -> TextRange {
         self.tree.range(self.number)
     }
 
-    /// Returns how many elements with the same parent stand before it.
+    /// Returns the token's index among its siblings, nodes included.
     pub fn index(&self) -> usize {
         self.siblings_with_tokens(Direction::Prev).skip(1).count()
     }
 
-    /// Returns its text.
+    /// Returns the token's text.
     pub fn text(&self) -> &str {
         self.tree.text(self.number)
     }
 
-    /// Returns the node around it, which is always there.
+    /// Returns the parent, which every token has.
     pub fn parent(&self) -> Option<SyntaxNode> {
         Some(SyntaxNode::at(&self.tree, self.tree.parent(self.number)?))
     }
 
-    /// Goes over the nodes around it, from the inside out.
+    /// Returns an iterator over the token's ancestors, up to the root.
     pub fn parent_ancestors(&self) -> Ancestors {
         Ancestors { next: self.parent() }
     }
 
-    /// Returns the next node or token with the same parent.
+    /// Returns the next sibling node or token.
     pub fn next_sibling_or_token(&self) -> Option<SyntaxElement> {
         Some(self.element_at(self.tree.next_sibling(self.number)?))
     }
 
-    /// Returns the node or token before it with the same parent.
+    /// Returns the previous sibling node or token.
     pub fn prev_sibling_or_token(&self) -> Option<SyntaxElement> {
         Some(self.element_at(self.tree.prev_sibling(self.number)?))
     }
 
-    /// Goes over it and the nodes and tokens with the same parent in a direction.
+    /// Returns an iterator over the token, then its sibling nodes and tokens in one direction.
     pub fn siblings_with_tokens(&self, direction: Direction) -> Siblings {
         Siblings::from(self.clone().into(), direction)
     }
 
-    /// Returns the next token of the text.
+    /// Returns the next token in the text.
     pub fn next_token(&self) -> Option<SyntaxToken> {
-        let mut behind = self.number + 1..self.tree.count();
-        let number = behind.find(|number| self.tree.is_token(*number))?;
+        let mut following = self.number + 1..self.tree.count();
+        let number = following.find(|number| self.tree.is_token(*number))?;
         Some(SyntaxToken {
             tree: Arc::clone(&self.tree),
             number,
         })
     }
 
-    /// Returns the token of the text before it.
+    /// Returns the previous token in the text.
     pub fn prev_token(&self) -> Option<SyntaxToken> {
-        let mut before = (0..self.number).rev();
-        let number = before.find(|number| self.tree.is_token(*number))?;
+        let mut preceding = (0..self.number).rev();
+        let number = preceding.find(|number| self.tree.is_token(*number))?;
         Some(SyntaxToken {
             tree: Arc::clone(&self.tree),
             number,
@@ -113,7 +115,7 @@ impl fmt::Display for SyntaxToken {
     }
 }
 
-/// `KIND@start..end "text"`; of a long text the beginning.
+/// Prints `KIND@start..end "text"`, with only the beginning of a long text.
 impl fmt::Debug for SyntaxToken {
     fn fmt(&self, f: &mut fmt::Formatter<'_>) -> fmt::Result {
         let text = self.text();

@@ -4,38 +4,38 @@ use super::element::SyntaxElement;
 use super::node::SyntaxNode;
 use std::iter::FusedIterator;
 
-/// Which way siblings are gone over.
+/// The direction in which siblings are visited.
 #[derive(Clone, Copy, Debug, PartialEq, Eq, Hash)]
 pub enum Direction {
-    /// To the end of the text.
+    /// Towards the end of the text.
     Next,
-    /// To its beginning.
+    /// Towards the start of the text.
     Prev,
 }
 
-/// What a walk does at a node or token.
+/// A step of a walk.
 #[derive(Clone, Copy, Debug, PartialEq, Eq, Hash)]
 pub enum WalkEvent<T> {
-    /// It is met before what is inside it.
+    /// Before the children.
     Enter(T),
-    /// It is met again, after what is inside it.
+    /// After the children.
     Leave(T),
 }
 
 impl<T> WalkEvent<T> {
-    /// Returns the event of what a function makes of the node or token.
+    /// Applies a function to the node or token.
     pub fn map<U>(self, function: impl FnOnce(T) -> U) -> WalkEvent<U> {
         match self {
-            WalkEvent::Enter(met) => WalkEvent::Enter(function(met)),
-            WalkEvent::Leave(met) => WalkEvent::Leave(function(met)),
+            WalkEvent::Enter(element) => WalkEvent::Enter(function(element)),
+            WalkEvent::Leave(element) => WalkEvent::Leave(function(element)),
         }
     }
 }
 
-// What is done next, by the number of an element.
+// The next step, with the number of its element.
 type Next = Option<WalkEvent<u32>>;
 
-/// A walk that enters and leaves a node and the nodes and tokens inside it.
+/// A walk that enters and leaves each node and token of a subtree.
 #[derive(Clone, Debug)]
 pub struct PreorderWithTokens {
     root: SyntaxNode,
@@ -50,7 +50,7 @@ impl PreorderWithTokens {
         }
     }
 
-    /// Leaves out what is inside the node that was entered last.
+    /// Skips the children of the node that was entered last.
     pub fn skip_subtree(&mut self) {
         self.next = match self.next {
             Some(WalkEvent::Enter(first)) => self.root.tree.parent(first).map(WalkEvent::Leave),
@@ -58,7 +58,7 @@ impl PreorderWithTokens {
         };
     }
 
-    // What is done behind an element that was entered or left.
+    // The step after an event.
     fn after(&self, event: WalkEvent<u32>) -> Next {
         let tree = &self.root.tree;
         let number = match event {
@@ -71,16 +71,11 @@ impl PreorderWithTokens {
         if number == self.root.number {
             return None;
         }
-        let around = tree.parent(number)?;
-        let next = tree.end(number);
-        Some(if next < tree.end(around) {
-            WalkEvent::Enter(next)
-        } else {
-            WalkEvent::Leave(around)
-        })
+        let sibling = tree.next_sibling(number).map(WalkEvent::Enter);
+        sibling.or_else(|| tree.parent(number).map(WalkEvent::Leave))
     }
 
-    // The next event, by number.
+    // Takes the next step.
     fn step(&mut self) -> Next {
         let event = self.next?;
         self.next = self.after(event);
@@ -99,7 +94,7 @@ impl Iterator for PreorderWithTokens {
 
 impl FusedIterator for PreorderWithTokens {}
 
-/// A walk that enters and leaves a node and the nodes inside it.
+/// A walk that enters and leaves each node of a subtree.
 #[derive(Clone, Debug)]
 pub struct Preorder {
     elements: PreorderWithTokens,
@@ -112,7 +107,7 @@ impl Preorder {
         }
     }
 
-    /// Leaves out what is inside the node that was entered last.
+    /// Skips the children of the node that was entered last.
     pub fn skip_subtree(&mut self) {
         self.elements.skip_subtree();
     }
