@@ -1,4 +1,4 @@
-"""Puts the library that bindings/build makes into the package, and says that a wheel of it is for one kind of machine."""
+"""Adds the library that bindings/build makes to the package, and marks its wheels as specific to a platform."""
 
 import pathlib
 import shutil
@@ -10,7 +10,7 @@ HERE = pathlib.Path(__file__).resolve().parent
 
 
 class WithLibrary(build_py):
-    """Copies the library beside the modules."""
+    """Copies the library next to the modules."""
 
     def run(self):
         library = HERE.parent / "out" / "librnix.so"
@@ -20,11 +20,11 @@ class WithLibrary(build_py):
         shutil.copy(library, pathlib.Path(self.build_lib) / "rnix" / "librnix.so")
 
 
-class OfOneMachine(Distribution):
-    """A package with code of a machine."""
+class PlatformDistribution(Distribution):
+    """A package that contains machine code."""
 
     def has_ext_modules(self):
         return True
 
 
-setup(cmdclass={"build_py": WithLibrary}, distclass=OfOneMachine)
+setup(cmdclass={"build_py": WithLibrary}, distclass=PlatformDistribution)

@@ -1,4 +1,4 @@
-"""Prints where each name of a text stands, with its line and column: names.py < FILE"""
+"""Prints each name in a text with its line and column. Usage: names.py < FILE"""
 
 from __future__ import annotations
 

@@ -1,4 +1,4 @@
-"""A lossless parser of the Nix language: `parse(text)` gives a tree that keeps every byte, and the errors of the text.
+"""A lossless parser for the Nix language: `parse(text)` returns a tree that keeps every byte of the text, and a list of errors.
 
     >>> import rnix
     >>> tree = rnix.parse("let a = 1; in a")
@@ -9,7 +9,7 @@
     ...         print(body)
     a
 
-Ranges are half-open and in bytes of the text in UTF-8. A tree does not change, so threads may share it.
+Ranges are half-open, in bytes of the UTF-8 text. Trees are immutable, so threads may share them.
 """
 
 from rnix import ast

@@ -1,6 +1,6 @@
-"""Prints the errors and the tree of each file, or of standard input, as nix-tree does: python -m rnix [FILE..]
+"""Prints the errors and the tree of each file, or of standard input, as nix-tree does. Usage: python -m rnix [FILE..]
 
-It ends with 0 if no text has errors, with 1 if one has, and with 2 if something is refused.
+The exit status is 0 without errors, 1 with some, and 2 if a text is refused or cannot be read.
 """
 
 from __future__ import annotations
@@ -10,23 +10,23 @@ from typing import Iterator
 
 import rnix
 
-# The deepest level that is indented.
+# The greatest depth that is shown by indentation.
 INDENTED = 100
 
 
 def margin(depth: int) -> str:
-    """Returns how a line begins: with two spaces for each level, and deeper than 100 levels with the number of its level."""
+    """Returns the start of a line: two spaces per level, or the depth as a number where it is greater than INDENTED."""
     return "  " * depth if depth <= INDENTED else f"{depth} "
 
 
 def lines(tree: rnix.Tree) -> Iterator[str]:
-    """Returns the lines of a text's errors and of its tree."""
+    """Yields a line for each error of a text, then for each element of its tree."""
     for error in tree.errors:
         yield f"error: {error}\n"
     depths: dict[rnix.Element, int] = {}
     for element in tree.root.walk():
-        around = element.parent
-        depth = depths[element] = 0 if around is None else depths[around] + 1
+        parent = element.parent
+        depth = depths[element] = 0 if parent is None else depths[parent] + 1
         yield f"{margin(depth)}{element.kind}@{element.start}..{element.end}\n"
 
 
@@ -39,7 +39,7 @@ def read(name: str | None) -> bytes:
 
 
 def main() -> int:
-    """Prints each tree, and answers the status."""
+    """Prints each tree, and returns the exit status."""
     status = 0
     try:
         names: list[str | None] = [*sys.argv[1:]]

@@ -1,4 +1,4 @@
-"""The errors of a text."""
+"""Parse errors."""
 
 from __future__ import annotations
 
@@ -20,10 +20,10 @@ VARIANTS = (
 
 
 class ParseError:
-    """An error of a text; `str` gives what is said of it.
+    """A parse error; `str` returns its message.
 
-    `variant` is one of VARIANTS; `range` is a pair of bytes or None; `found` is the kind of the token that stands there or None; `wanted` is
-    the set of the kinds of which one is wanted.
+    `variant` is one of VARIANTS, `range` a pair of byte offsets or None, `found` the kind of the unexpected token or None, and `wanted` the set of
+    the kinds that were expected.
     """
 
     __slots__ = ("found", "message", "range", "variant", "wanted")
@@ -44,16 +44,16 @@ class ParseError:
 
 
 def errors_of(source: bytes, count: int) -> list[ParseError]:
-    """The errors of a text, which has so many."""
+    """Returns the errors of a text that has `count` of them."""
     faults, _ = library.listed(
         library.Fault,
         lambda room, room_len: LIBRARY.rnix_errors(source, len(source), room, room_len),
         guess=count,
     )
-    said, said_len = library.listed(
+    texts, texts_len = library.listed(
         ctypes.c_char,
         lambda room, room_len: LIBRARY.rnix_error_texts(source, len(source), room, room_len),
         guess=128 * count,
     )
-    messages = said.raw[:said_len].decode().split("\n")
+    messages = texts.raw[:texts_len].decode().split("\n")
     return [ParseError(fault, message) for fault, message in zip(faults, messages)]

@@ -1,8 +1,8 @@
-"""The kinds that are asked for by name."""
+"""Groups of kinds."""
 
 from __future__ import annotations
 
-# The signs of the operators between two operands, by the kinds of their tokens.
+# The binary operators, by the kinds of their tokens.
 BINARY_OPERATORS: dict[str, str] = {
     "TOKEN_CONCAT": "++",
     "TOKEN_UPDATE": "//",
@@ -23,7 +23,7 @@ BINARY_OPERATORS: dict[str, str] = {
     "TOKEN_PIPE_LEFT": "<|",
 }
 
-# The signs of the operators before an operand, by the kinds of their tokens.
+# The unary operators, by the kinds of their tokens.
 UNARY_OPERATORS: dict[str, str] = {"TOKEN_INVERT": "!", "TOKEN_SUB": "-"}
 
 TRIVIA = frozenset(("TOKEN_COMMENT", "TOKEN_WHITESPACE"))

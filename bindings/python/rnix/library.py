@@ -1,4 +1,4 @@
-"""The shared library, and its functions as `bindings/rnix.h` describes them."""
+"""The shared library, with the functions that `bindings/rnix.h` declares."""
 
 from __future__ import annotations
 
@@ -15,13 +15,13 @@ NO_KIND = 2**32 - 1
 
 
 class Token(ctypes.Structure):
-    """A token, in numbers."""
+    """struct rnix_token."""
 
     _fields_ = [("start", ctypes.c_uint64), ("end", ctypes.c_uint64), ("kind", ctypes.c_uint32)]
 
 
 class Element(ctypes.Structure):
-    """A node or a token of a tree, in numbers."""
+    """struct rnix_element."""
 
     _fields_ = [
         ("start", ctypes.c_uint64),
@@ -34,7 +34,7 @@ class Element(ctypes.Structure):
 
 
 class Fault(ctypes.Structure):
-    """An error, in numbers."""
+    """struct rnix_error."""
 
     _fields_ = [
         ("start", ctypes.c_uint64),
@@ -46,17 +46,17 @@ class Fault(ctypes.Structure):
 
 
 class Part(ctypes.Structure):
-    """A part of a string, in numbers."""
+    """struct rnix_part."""
 
     _fields_ = [("start", ctypes.c_uint64), ("end", ctypes.c_uint64), ("is_interpolation", ctypes.c_uint32)]
 
 
 class Refused(Exception):
-    """A call that was refused: the text is not UTF-8."""
+    """A refused call: the text is not UTF-8."""
 
 
 def _path() -> str:
-    """Where the library is: RNIX_LIBRARY, beside this file, or where bindings/build puts it."""
+    """Returns the path of the library: RNIX_LIBRARY if set, else next to this file, else where bindings/build puts it."""
     here = pathlib.Path(__file__).resolve().parent
     named = os.environ.get("RNIX_LIBRARY")
     places = [pathlib.Path(named)] if named else [here / "librnix.so", here.parents[1] / "out" / "librnix.so"]
@@ -67,12 +67,12 @@ def _path() -> str:
 
 
 def _text(*more: Any) -> list[Any]:
-    """The types of a call's arguments: a text, and what is behind it."""
+    """The parameter types of a function: a text, then these."""
     return [ctypes.c_char_p, ctypes.c_size_t, *more]
 
 
 def _array(kind: Any) -> list[Any]:
-    """The types of an array's arguments."""
+    """The parameter types of an array."""
     return [ctypes.POINTER(kind), ctypes.c_size_t]
 
 
@@ -91,12 +91,12 @@ _ARGUMENTS = {
 
 
 def _load() -> ctypes.CDLL:
-    """The library, with the types of its functions."""
+    """Loads the library and declares its functions."""
     library = ctypes.CDLL(_path())
     library.rnix_version.argtypes = []
     library.rnix_version.restype = ctypes.c_uint32
     if library.rnix_version() != VERSION:
-        raise ImportError("librnix.so has another version than this module")
+        raise ImportError("librnix.so has another version than this package expects")
     for name, arguments in _ARGUMENTS.items():
         function = getattr(library, name)
         function.argtypes = arguments
@@ -107,42 +107,42 @@ def _load() -> ctypes.CDLL:
 LIBRARY = _load()
 
 
-def answered(answer: int) -> int:
-    """An answer that is no refusal."""
-    if answer == NOT_UTF8:
+def count_of(result: int) -> int:
+    """Returns the count that a call returned; raises an exception if the call was refused."""
+    if result == NOT_UTF8:
         raise Refused("the text is not UTF-8")
-    if answer == NO_MEMORY:
-        raise MemoryError("no memory is left")
-    if answer == NONE_SUCH:
-        raise LookupError("there is none such")
-    return answer
+    if result == NO_MEMORY:
+        raise MemoryError("out of memory, or the text is too long")
+    if result == NONE_SUCH:
+        raise LookupError("no element of the text has this number")
+    return result
 
 
 def _room(kind: Any, count: int) -> Any:
-    """An array of the type with room for so many, whose pages cost nothing until they are written."""
+    """Returns an array of `count` values. A large one is mapped, so that its pages cost nothing until they are written."""
     size = ctypes.sizeof(kind) * count
     return (kind * count).from_buffer(mmap.mmap(-1, size)) if size > mmap.PAGESIZE else (kind * count)()
 
 
 def listed(kind: Any, call: Callable[[Any, int], Any], guess: int = 0) -> tuple[Any, int]:
-    """All things that a call writes: an array of the type, and how many of its first there are.
+    """Returns the list that a call writes: an array, and the number of its elements in use.
 
-    The call takes an array and its room; the guess is how many there may be.
+    The call takes an array and its capacity. `guess` is the initial capacity; if it is too small, the call is repeated with enough.
     """
     room = _room(kind, guess)
-    count = answered(call(room, guess))
+    count = count_of(call(room, guess))
     if count > guess:
         room = _room(kind, count)
-        answered(call(room, count))
+        count_of(call(room, count))
     return room, count
 
 
 def _kind_names() -> tuple[str, ...]:
-    """The names of the kinds, by their numbers."""
+    """Returns the names of the kinds, in the order of their numbers."""
     names: list[str] = []
     room = ctypes.create_string_buffer(64)
     while (count := LIBRARY.rnix_kind_name(len(names), room, len(room))) != NONE_SUCH:
-        names.append(room.raw[: answered(count)].decode("ascii"))
+        names.append(room.raw[: count_of(count)].decode("ascii"))
     return tuple(names)
 
 
@@ -150,9 +150,9 @@ KINDS = _kind_names()
 
 
 def source_of(text: str | bytes | bytearray | memoryview) -> bytes:
-    """The bytes of a text; what is no text raises TypeError."""
+    """Returns the bytes of a text; raises TypeError for other types."""
     if isinstance(text, str):
         return text.encode()
     if isinstance(text, (bytes, bytearray, memoryview)):
         return bytes(text)
-    raise TypeError(f"a text is a str or bytes, and no {type(text).__name__}")
+    raise TypeError(f"expected str or bytes, not {type(text).__name__}")

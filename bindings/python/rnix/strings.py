@@ -1,4 +1,4 @@
-"""What strings and paths stand for."""
+"""The parts of strings and paths."""
 
 from __future__ import annotations
 
@@ -9,7 +9,7 @@ from rnix.ast import Interpol, PathAbs, PathHome, PathRel, PathSearch, Str
 from rnix.library import KINDS, LIBRARY
 from rnix.tree import Group
 
-# A string read alone is the first element below the root.
+# The number of a string that is a text of its own: the first child of the root.
 _ALONE = 1
 
 _INTERPOL = Group(Interpol)
@@ -17,15 +17,15 @@ _END, _ERROR = KINDS.index("TOKEN_STRING_END"), KINDS.index("NODE_ERROR")
 
 
 def _is_whole(string: Str) -> bool:
-    """Whether all of a string was read as the grammar asks: then it is read alone as it is read in its text."""
-    inside = string.tree._kinds[string._number + 1 : string._behind()].tolist()
+    """Whether the string is closed and has no error nodes. Then it parses alone just as it does within its text."""
+    inside = string.tree._kinds[string._number + 1 : string._subtree_end()].tolist()
     return _END in inside and _ERROR not in inside
 
 
 def parts(string: Str) -> list[str | Interpol]:
-    """Returns the parts of a string as Nix means them: texts without indentation and escapes, and interpolations.
+    """Returns the parts of a string: texts, with escapes replaced and the indentation stripped, and interpolations.
 
-    The string is read anew, alone; one that has errors with its whole text.
+    This parses the string again: alone, or with its whole text if the string contains errors.
     """
     alone = _is_whole(string)
     source = string.text.encode() if alone else string.tree.source
@@ -41,13 +41,13 @@ def parts(string: Str) -> list[str | Interpol]:
         lambda room, room_len: LIBRARY.rnix_string_parts(source, len(source), number, room, room_len),
         guess=2 + length // 8,
     )
-    said = value.raw[:value_len]
-    inner = iter(string._children(_INTERPOL))
-    return [next(inner) if part.is_interpolation else said[part.start : part.end].decode() for part in found[:count]]
+    text = value.raw[:value_len]
+    interpolations = iter(string._children(_INTERPOL))
+    return [next(interpolations) if part.is_interpolation else text[part.start : part.end].decode() for part in found[:count]]
 
 
 def value(string: Str) -> str | None:
-    """Returns what a string stands for, if it has no interpolations."""
+    """Returns the value of a string, or None if it has interpolations."""
     found = parts(string)
     return "".join(part for part in found if isinstance(part, str)) if all(isinstance(part, str) for part in found) else None
 

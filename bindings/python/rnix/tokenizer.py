@@ -1,4 +1,4 @@
-"""The tokens of a text, without a tree."""
+"""The tokenizer."""
 
 from __future__ import annotations
 
@@ -17,7 +17,7 @@ class Lexeme(NamedTuple):
 
 
 def tokenize(text: str | bytes) -> list[Lexeme]:
-    """Returns the tokens of a text, in order; joined, they are the text."""
+    """Returns the tokens of a text; concatenated, they are the text."""
     source = library.source_of(text)
     found, count = library.listed(
         library.Token,

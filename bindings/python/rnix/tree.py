@@ -1,4 +1,4 @@
-"""Trees, and the nodes and tokens in them."""
+"""Trees, nodes and tokens."""
 
 from __future__ import annotations
 
@@ -16,15 +16,14 @@ if TYPE_CHECKING:
 T = TypeVar("T")
 E = TypeVar("E", bound="Element")
 
-# An element is four numbers of 64 bits, where it begins and ends, its parent, and how many elements are inside it, and two of 32: its kind, and
-# whether it is a token.
+# The layout of struct rnix_element, counted in 64-bit and in 32-bit numbers: start, end, parent and inside have 64 bits, kind and is_token 32.
 _LONGS = 5
 _WORDS = 2 * _LONGS
 _KIND = _WORDS - 2
 
 
 class Tree:
-    """The tree of a text, and its errors. It does not change, so threads may share it."""
+    """The tree of a text, and its errors. It is immutable, so threads may share it."""
 
     __slots__ = ("_kinds", "_starts", "_ends", "_parents", "_insides", "errors", "source")
 
@@ -44,12 +43,12 @@ class Tree:
 
     @property
     def text(self) -> str:
-        """The text."""
+        """The whole text."""
         return self.source.decode()
 
     @property
     def root(self) -> Root:
-        """The root: the node of the whole text."""
+        """The root node."""
         root: Root = self._at(0)  # type: ignore[assignment]
         return root
 
@@ -57,24 +56,24 @@ class Tree:
         return _CLASSES[self._kinds[number]](self, number)
 
     def position(self, offset: int) -> tuple[int, int]:
-        """Returns the line and the column of an offset in bytes, both from 1; the column counts characters."""
+        """Returns the line and column of a byte offset, both counted from 1. Columns count characters."""
         before = self.source[:offset]
         line_start = before.rfind(b"\n") + 1
         return before.count(b"\n") + 1, len(before[line_start:].decode(errors="ignore")) + 1
 
     def token_at(self, offset: int) -> Token | None:
-        """Returns the token that holds the byte at an offset, if the text has such a byte."""
-        around: Element = self.root
-        while isinstance(around, Node):
-            inside = next((child for child in around if child.start <= offset < child.end), None)
-            if inside is None:
+        """Returns the token that contains the byte at an offset, or None if the text has no such byte."""
+        element: Element = self.root
+        while isinstance(element, Node):
+            child = next((child for child in element if child.start <= offset < child.end), None)
+            if child is None:
                 return None
-            around = inside
-        return around if isinstance(around, Token) else None
+            element = child
+        return element if isinstance(element, Token) else None
 
 
 class Element:
-    """A node or a token of a tree. Two are equal if they are the same element of the same tree; `str` gives its text."""
+    """A node or token of a tree. Two are equal if they are the same element of the same tree; `str` returns the text."""
 
     __slots__ = ("_number", "tree")
 
@@ -84,68 +83,68 @@ class Element:
 
     @property
     def kind(self) -> str:
-        """The name of its kind, as NODE_LET_IN: one of KINDS."""
+        """The name of its kind, one of KINDS, such as NODE_LET_IN."""
         return KINDS[self.tree._kinds[self._number]]
 
     @property
     def start(self) -> int:
-        """Where it begins, in bytes of the text in UTF-8."""
+        """The start offset, in bytes of the UTF-8 text."""
         return self.tree._starts[self._number]
 
     @property
     def end(self) -> int:
-        """The byte behind its end."""
+        """The end offset, exclusive, in bytes of the UTF-8 text."""
         return self.tree._ends[self._number]
 
     @property
     def range(self) -> tuple[int, int]:
-        """Where it begins, and the byte behind its end."""
+        """The start and end offsets."""
         return self.start, self.end
 
     @property
     def position(self) -> tuple[int, int]:
-        """The line and the column where it begins, both from 1; the column counts characters."""
+        """The line and column of the start, both counted from 1. Columns count characters."""
         return self.tree.position(self.start)
 
     @property
     def text(self) -> str:
-        """Its text."""
+        """The text."""
         return self.tree.source[self.start : self.end].decode()
 
     @property
     def parent(self) -> Node | None:
-        """The node around it; None of the root."""
+        """The parent, or None for the root."""
         number = self.tree._parents[self._number]
-        around = None if number == NO_NUMBER else self.tree._at(number)
-        return around if isinstance(around, Node) else None
+        parent = None if number == NO_NUMBER else self.tree._at(number)
+        return parent if isinstance(parent, Node) else None
 
     @property
     def ancestors(self) -> Iterator[Node]:
-        """The nodes around it, the innermost first."""
-        around = self.parent
-        while around is not None:
-            yield around
-            around = around.parent
+        """The ancestors, from the parent to the root."""
+        node = self.parent
+        while node is not None:
+            yield node
+            node = node.parent
 
-    def _behind(self) -> int:
-        """The number behind it and all that is inside it."""
+    def _subtree_end(self) -> int:
+        """The number of the first element after its subtree."""
         return self._number + 1 + self.tree._insides[self._number]
 
     @property
     def next_sibling(self) -> Element | None:
-        """The next element with the same parent."""
-        around = self.parent
-        behind = self._behind()
-        return self.tree._at(behind) if around is not None and behind < around._behind() else None
+        """The next sibling, a node or token."""
+        parent = self.parent
+        number = self._subtree_end()
+        return self.tree._at(number) if parent is not None and number < parent._subtree_end() else None
 
     @property
     def previous_sibling(self) -> Element | None:
-        """The element before it with the same parent."""
-        around = self.parent
-        if around is None or self._number == around._number + 1:
+        """The previous sibling, a node or token."""
+        parent = self.parent
+        if parent is None or self._number == parent._number + 1:
             return None
         number = self._number - 1
-        while self.tree._parents[number] != around._number:
+        while self.tree._parents[number] != parent._number:
             number = self.tree._parents[number]
         return self.tree._at(number)
 
@@ -169,12 +168,12 @@ class Token(Element):
 
     @property
     def is_trivia(self) -> bool:
-        """Whether it is a comment or white space."""
+        """Whether it is a comment or whitespace."""
         return self.kind in TRIVIA
 
 
 class Group(Generic[T]):
-    """Classes of nodes among which accessors look for a child."""
+    """The classes that an accessor looks for."""
 
     __slots__ = ("classes",)
 
@@ -183,33 +182,33 @@ class Group(Generic[T]):
 
 
 class Node(Element):
-    """A node: iteration gives the nodes and tokens right below it, in order."""
+    """A node. Iterating over it yields its child nodes and tokens, in order."""
 
     __slots__ = ()
 
     KIND = ""
 
     def __iter__(self) -> Iterator[Element]:
-        number, behind = self._number + 1, self._behind()
+        number, end = self._number + 1, self._subtree_end()
         tree = self.tree
-        while number < behind:
+        while number < end:
             yield _CLASSES[tree._kinds[number]](tree, number)
             number += 1 + tree._insides[number]
 
     @property
     def children(self) -> list[Node]:
-        """The nodes right below it, in order."""
+        """The child nodes, in order."""
         return [child for child in self if isinstance(child, Node)]
 
     @property
     def tokens(self) -> list[Token]:
-        """The tokens right below it, in order."""
+        """The child tokens, in order."""
         return [child for child in self if isinstance(child, Token)]
 
     def walk(self) -> Iterator[Element]:
-        """Goes over it and the nodes and tokens inside it, in preorder."""
+        """Yields the nodes and tokens of the subtree in preorder, from the node itself."""
         tree, first = self.tree, self._number
-        for number, kind in enumerate(tree._kinds[first : self._behind()], first):
+        for number, kind in enumerate(tree._kinds[first : self._subtree_end()], first):
             yield _CLASSES[kind](tree, number)
 
     @overload
@@ -217,16 +216,16 @@ class Node(Element):
     @overload
     def find(self, wanted: type[E] | tuple[type[E], ...]) -> Iterator[E]: ...
     def find(self, wanted: str | type[E] | tuple[type[E], ...]) -> Iterator[Element]:
-        """Goes over the nodes and tokens inside it, itself included, of a kind, a class or several classes, in preorder."""
+        """Yields the nodes and tokens of the subtree, itself included, that have a kind, a class or one of several classes, in preorder."""
         is_wanted = [name == wanted if isinstance(wanted, str) else issubclass(one, wanted) for name, one in zip(KINDS, _CLASSES)]
         classes = [one if is_one else None for one, is_one in zip(_CLASSES, is_wanted)]
         tree, first = self.tree, self._number
-        for number, kind in enumerate(tree._kinds[first : self._behind()], first):
+        for number, kind in enumerate(tree._kinds[first : self._subtree_end()], first):
             if (one := classes[kind]) is not None:
                 yield one(tree, number)
 
     def _nth(self, group: Group[T], number: int) -> T | None:
-        """The child of these classes that has a number, from 0 on."""
+        """The child at an index among those of these classes."""
         found = self._children(group)
         return found[number] if number < len(found) else None
 
@@ -236,15 +235,15 @@ class Node(Element):
         return [child for child in below if isinstance(child, group.classes)]
 
     def _first_token(self, kind: str) -> Token | None:
-        """The first token of a kind."""
+        """The first child token of a kind."""
         return next((token for token in self.tokens if token.kind == kind), None)
 
     def _operator(self, signs: dict[str, str]) -> str | None:
-        """The sign of the first token that is an operator."""
+        """The operator that the first operator token stands for."""
         return next((signs[token.kind] for token in self.tokens if token.kind in signs), None)
 
     def _literal(self) -> float | int | str | None:
-        """The value of the first number, or the text of the address."""
+        """The value of the first number, or the text of the first URI."""
         for kind, read in (("TOKEN_FLOAT", float), ("TOKEN_INTEGER", int), ("TOKEN_URI", str)):
             if (token := self._first_token(kind)) is not None:
                 value: float | int | str = read(token.text)
@@ -252,20 +251,23 @@ class Node(Element):
         return None
 
     def _path(self) -> str | None:
-        """The text of the first token of a path."""
+        """The text of the first path token."""
         return next((token.text for token in self.tokens if token.kind in PATHS), None)
 
 
-# The classes of the elements by the numbers of their kinds; a kind of nodes that is not registered has none of its own.
+# The class of each kind, by number. rnix.ast registers those of the nodes.
 _CLASSES: list[type[Element]] = [Node if name.startswith("NODE_") else Token for name in KINDS]
 
 
 def register(*classes: type[Node]) -> None:
-    """Makes the nodes of their kinds of these classes."""
+    """Uses each class for the nodes of its kind."""
     for one in classes:
         _CLASSES[KINDS.index(one.KIND)] = one
 
 
 def parse(text: str | bytes) -> Tree:
-    """Returns the tree of a text. Each text in UTF-8 has one; other bytes raise Refused, what is no text TypeError, want of memory MemoryError."""
+    """Returns the tree of a text.
+
+    Every text has a tree, even one with errors. Bytes that are not UTF-8 raise Refused, other types TypeError, and a lack of memory MemoryError.
+    """
     return Tree(library.source_of(text))

@@ -1,4 +1,4 @@
-"""The stored cases of the repository: cases.py FOLDER writes each text of a tree to a file of its own, and what nix-tree prints of all to `wanted`."""
+"""The stored cases of the repository. `cases.py FOLDER` writes each text to a file of its own, and the output of nix-tree for all to `wanted`."""
 
 import pathlib
 import sys
@@ -7,7 +7,7 @@ DATA = pathlib.Path(__file__).resolve().parents[3] / "crates" / "rnix_cases" / "
 
 
 def stored(name):
-    """The texts of a stored list, each with what is wanted of it: two numbers on a line, so many bytes and so many, and the end of the line."""
+    """Yields each text of a stored list with its expected output. A case is a line with the lengths of both, then both, then a newline."""
     data = (DATA / name).read_bytes()
     at = 0
     while at < len(data):
@@ -19,7 +19,7 @@ def stored(name):
 
 
 def write(folder):
-    """Writes the texts and what is wanted; the names of the files are in the order of the cases."""
+    """Writes the texts and their expected output. The names of the files sort in the order of the cases."""
     texts = folder / "texts"
     texts.mkdir()
     with open(folder / "wanted", "w", encoding="utf-8", newline="") as wanted:

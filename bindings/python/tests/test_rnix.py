@@ -1,4 +1,4 @@
-"""Tests of the module: the stored cases of the repository, errors, refusals, threads, and what the header says."""
+"""Tests of the package: the stored cases of the repository, errors, refusals, threads, and the header."""
 
 import ctypes
 import pathlib
@@ -171,22 +171,25 @@ class Edits(unittest.TestCase):
         self.assertEqual(edits.apply(), "x12äb")
 
     def test_the_example_updates_pins(self):
-        text = '{\n  version = "1.0"; # pinned\n  src.hash = "old"; name = "a";\n}\n'
+        text = b'{\r\n  version = "1.0"; # pinned\r\n  src.hash = "old"; name = "a";\n}\n'
+        new = 'a\\b"$${c}'
         with tempfile.TemporaryDirectory() as folder:
             file = pathlib.Path(folder) / "package.nix"
-            file.write_text(text)
+            file.write_bytes(text)
             example = BINDINGS / "python" / "examples" / "pins.py"
-            subprocess.run([sys.executable, example, file, "version=1.1", "src.hash=new"], check=True)
-            self.assertEqual(file.read_text(), text.replace("1.0", "1.1").replace("old", "new"))
+            subprocess.run([sys.executable, example, file, "version=1.1", f"src.hash={new}"], check=True)
+            updated = file.read_bytes()
+        self.assertEqual(updated, text.replace(b"1.0", b"1.1").replace(b"old", rb"a\\b\"$\${c}"))
+        self.assertIn(new, [rnix.value(string) for string in rnix.parse(updated).root.find(ast.Str)])
 
 
 class Header(unittest.TestCase):
-    """What `rnix.h` says is what the library and this module say."""
+    """`rnix.h` agrees with the library and this package."""
 
     source = (BINDINGS / "rnix.h").read_text()
 
     def numbers(self, enum):
-        """The names and numbers of an enum, without their prefix. One that says no number has that of its place."""
+        """Returns the names of an enum, without their prefix, and its numbers, which default to the positions."""
         body = re.search(rf"enum {enum} {{(.*?)}};", self.source, re.S).group(1)
         found = re.findall(r"RNIX_(\w+)(?: = (-?\d+))?", body)
         return [(name, int(number or place)) for place, (name, number) in enumerate(found)]
