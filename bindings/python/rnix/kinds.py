@@ -24,7 +24,10 @@ BINARY_OPERATORS: dict[str, str] = {
 }
 
 # The unary operators, by the kinds of their tokens.
-UNARY_OPERATORS: dict[str, str] = {"TOKEN_INVERT": "!", "TOKEN_SUB": "-"}
+UNARY_OPERATORS: dict[str, str] = {
+    "TOKEN_INVERT": "!",
+    "TOKEN_SUB": "-",
+}
 
 TRIVIA = frozenset(("TOKEN_COMMENT", "TOKEN_WHITESPACE"))
 
