@@ -1,4 +1,5 @@
 -- What ends behind a step at an open node or a second name ends before it, whatever stands there.
+use Rattle.rnix_lemmas.proofs.PlaceTests.{own_next, own_at}
 use Rattle.std.proofs.Common.{◌≡◌, inl, inr, ℕ, ◌≤◌, Bool, true, false, List, [], ◌∷◌, Some, None, refl, ap, sym, ◌∙◌, subst}
 use Rattle.rnix_kinds.specs.declared.kinds.SyntaxKind.{SyntaxKind, TheVariants.{NODE_IDENT, NODE_PAT_ENTRY}}
 use Rattle.rnix_grammar.specs.declared.{place.Place.Place, symbol.Symbol.Symbol, action.Action.Action}
@@ -7,7 +8,7 @@ use Rattle.rnix_grammar.specs.{AnnotatedForest.{Token, AnnotatedForest, leaf_kin
 use Rattle.rnix_grammar.specs.{Rows.{At, advance, whole}, Reports.repeats, PlaceReads.IsOver}
 use Rattle.rnix_lemmas.proofs.{Basics.{true_is_not_false, some_same}, EveryKind.only, NodeKinds.told_plain, NestTrees.is_formal, OpenHeads.is_open}
 use Rattle.rnix_existence.proofs.{OpenFrames.{closing, EndsBy}, Frames.{row_at, Other, Below, AtNode, AtSecond}, BelowKept.alone}
-use Rattle.rnix_existence.proofs.{BeginReads.{read_ends, series_ends}, StepTable.{is_own, own_same, MayRead, Suits, is_in_row, suits}}
+use Rattle.rnix_existence.proofs.{BeginReads.{read_ends, series_ends}, StepTable.{MayRead, Suits, is_in_row, suits}}
 use Rattle.rnix_existence.proofs.{RowSteps.{takes, misses, runs_by, left_over, names}, NodeOpens.{opens, begins_node, begins_entry, begins_second, closes, closes_entry, closes_twice}}
 use Rattle.rnix_grammar.specs.declared.place.Place.TheVariants as p
 use Rattle.rnix_grammar.specs.declared.symbol.Symbol.TheVariants as s
@@ -24,8 +25,8 @@ record IsInnermost (f : Frame) (fs : List Frame) : Type 0 where
   second : row_at f.place ≡ None → (f.head ≡ Second) × Below Other fs
 
 -- a row may end where it is whole and what comes next is not its own
-over : (x : Place) (n : ℕ) (ts : List Token) → whole (At x) ≡ true → is_own x (touches n ts) (head_kind ts) ≡ false → IsOver (At x) n ts
-over x n ts w own = (w, own_same x n ts ∙ own)
+over : (x : Place) (n : ℕ) (ts : List Token) → whole (At x) ≡ true → own_next (symbol_at x) (touches n ts) (head_kind ts) ≡ false → IsOver (At x) n ts
+over x n ts w own = (w, own_at x n ts ∙ own)
 
 -- a second name is complete
 ends_second : (f : Frame) (fs : List Frame) (ts : List Token) (n : ℕ) (gs : List Fault) → (f.head ≡ Second) × Below Other fs → IsOver (At f.place) n ts → EndsBy a.CloseTwice f fs ts n gs

@@ -1,4 +1,5 @@
 -- What ends behind a step that opens or closes a node or a second name ends before it.
+use Rattle.rnix_lemmas.proofs.PlaceTests.{own_at}
 use Rattle.std.proofs.Common.{◌≡◌, ℕ, suc, Bool, true, List, [], ◌∷◌, ◌++◌, Option, refl, ap, sym, ◌∙◌, subst, append_assoc, append-nil}
 use Rattle.std.proofs.Common.{if◌then◌else◌}
 use Rattle.rnix_kinds.specs.declared.kinds.SyntaxKind.{SyntaxKind, TheVariants.{NODE_IDENT, NODE_PAT_ENTRY, TOKEN_AT, TOKEN_IDENT}}
@@ -9,7 +10,7 @@ use Rattle.rnix_grammar.specs.{Rows.{At, advance, first, start}, Operands.IsOper
 use Rattle.{rnix_grammar.specs.PlaceReads.{end, leaf, second, inner}, rnix_lemmas.proofs.{Basics.true_is_not_false, AnnotatedForestLemmas.{⊕-blank, tokens_two}}}
 use Rattle.{rnix_lemmas.proofs.OpenHeads.is_open, rnix_existence.proofs.{OpenFrames.{closing, Ends, open_frame, EndsBy}, RowFronts.{end_two, prepended}}}
 use Rattle.{std.proofs.Common.{Some, nat_eq}, rnix_grammar.specs.AnnotatedForest.{head_kind, touches}}
-use Rattle.rnix_existence.proofs.{OperandEnds.{OpenEnds, open_ends}, OperandTrees.past_over, StepTable.{IsAt, own_same}}
+use Rattle.rnix_existence.proofs.{OperandEnds.{OpenEnds, open_ends}, OperandTrees.past_over, StepTable.IsAt}
 use Rattle.rnix_grammar.specs.declared.place.Place.TheVariants as p
 use Rattle.rnix_grammar.specs.declared.action.Action.TheVariants as a
 
@@ -30,7 +31,7 @@ opens_by f fs ts us n m row es k z y x o e l reads w ends = by (open_ends (opene
         (all ∙ ap (λ z. z ++ q.left) (sym (append-nil (tokens_in (x ⊕ q.rest))))) (reach ∙ ap (end_from n) (sym (append-nil (tokens_in (x ⊕ q.rest)))))
         (λ vs s r cs h i. inner h all
         (subst (λ (z : Bool). Reads k (if z then suc f.depth else f.depth) n (start k) q.row_state blank q.left (x ⊕ q.rest) q.inside) (sym w.0) (reads q.left q.row_state q.rest q.inside q.items q.reads))
-        reach q.over (own_same f.place n ts ∙ w.2) (λ x. absurd (true_is_not_false (sym x ∙ w.0))) tt (subst (λ (z : Option ℕ). IsOperand z (one_branch k (x ⊕ q.rest)) q.left) (sym w.1) tt) w.3 refl refl i refl) q.ends)
+        reach q.over (own_at f.place n ts ∙ w.2) (λ x. absurd (true_is_not_false (sym x ∙ w.0))) tt (subst (λ (z : Option ℕ). IsOperand z (one_branch k (x ⊕ q.rest)) q.left) (sym w.1) tt) w.3 refl refl i refl) q.ends)
 
 -- a node opens with the next item
 pub opens : (f : Frame) (fs : List Frame) (t : Token) (ts : List Token) (n : ℕ) (gs : List Fault) (k : SyntaxKind) (z y : Place)

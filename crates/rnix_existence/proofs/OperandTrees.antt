@@ -4,7 +4,7 @@ use Rattle.{rnix_kinds.specs.declared.kinds.SyntaxKind.{SyntaxKind, TheVariants.
 use Rattle.rnix_grammar.specs.AnnotatedForest.{Token, Stray, AnnotatedForest, blank, ◌⊕◌, one_branch, one_fault, row_of, tokens_in, head_kind, end_from}
 use Rattle.rnix_grammar.specs.{Rows.{is_expression, fits, RowState, Start, At, advance, live}, Reports.repeats, TreeLevels.is_or_row, ExpectedItems.IsExpected}
 use Rattle.rnix_grammar.specs.{ExpectedItems.stands_expected, Operands.{IsFollowed, IsOperand, level_at}, PlaceReads.{Reads, wrong, inner, IsRoom, IsOver, deeper}}
-use Rattle.{rnix_lemmas.proofs.{Basics.true_is_not_false, NodeKinds.fits_expression}, rnix_existence.proofs.OpenFrames.{seen_kind, Lone, a_node, an_error}}
+use Rattle.{rnix_lemmas.proofs.{Basics.true_is_not_false, NodeKinds.{fits_expression, unreported}}, rnix_existence.proofs.OpenFrames.{seen_kind, Lone, a_node, an_error}}
 use Rattle.rnix_grammar.specs.declared.place.Place.TheVariants as p
 
 -- behind its last place a row may end
@@ -16,13 +16,9 @@ past_over m (t ∷ us) = (refl, refl)
 alone_end : (m n : ℕ) (c : AnnotatedForest) → m ≡ end_from n (tokens_in (one_branch NODE_LITERAL c)) → m ≡ end_from n (tokens_in c)
 alone_end m n c e = e ∙ ap (end_from n) (append-nil (tokens_in c))
 
-expression_new : (k : SyntaxKind) (b c : AnnotatedForest) → is_expression k ≡ true → repeats k b c ≡ []
-expression_new NODE_PAT_ENTRY b c h = absurd (true_is_not_false (sym h))
-expression_new _ b c h = refl
-
 -- no operand is an entry of a pattern
 pub fit_new : (n : ℕ) (k : SyntaxKind) (b c : AnnotatedForest) → fits n k ≡ true → repeats k b c ≡ []
-fit_new n k b c h = expression_new k b c (fits_expression n k h)
+fit_new n k b c h = unreported k b c (fits_expression n k h)
 
 -- an operand repeats no name
 none_repeated : (level : ℕ) (k : SyntaxKind) (b c : AnnotatedForest) (ds : List Fault) → fits level k ≡ true → ds ++ repeats k b c ≡ ds

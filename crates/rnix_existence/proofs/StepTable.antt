@@ -1,4 +1,5 @@
 -- What is done at each place of a row, by the next item, is what may stand there by the rules.
+use Rattle.rnix_lemmas.proofs.PlaceTests.{own_next}
 use Rattle.std.proofs.Common.{◌≡◌, ℕ, Bool, true, false, List, [], ◌∷◌, Option, Some, None, refl}
 use Rattle.rnix_kinds.specs.declared.kinds.SyntaxKind.{SyntaxKind, TheVariants.{NODE_IDENT, NODE_PAT_ENTRY, TOKEN_IDENT, TOKEN_AT}}
 use Rattle.rnix_grammar.specs.{declared.{place.Place.Place, symbol.Symbol.Symbol, action.Action.Action}, Fault.{Fault, ended, ended_before}}
@@ -10,24 +11,14 @@ use Rattle.rnix_grammar.specs.declared.place.Place.TheVariants as p
 use Rattle.rnix_grammar.specs.declared.symbol.Symbol.TheVariants as s
 use Rattle.rnix_grammar.specs.declared.action.Action.TheVariants as a
 
--- the next item, or the end of the text, is a place's own
-abbrev pub is_own : Place → Bool → Option SyntaxKind → Bool
-is_own x touch None = expects_end (symbol_at x)
-is_own x touch (Some k) = expects_in (symbol_at x) touch k
-
--- so before some items
-pub own_same : (x : Place) (n : ℕ) (ts : List Token) → expects x n ts ≡ is_own x (touches n ts) (head_kind ts)
-own_same x n [] = refl
-own_same x n (t ∷ ts) = refl
-
 -- a node of a kind that is no operand may stand at a place, and the row goes on behind it at another
 abbrev pub IsAt : Place → Bool → Option SyntaxKind → SyntaxKind → Place → Type 0
 IsAt x touch next k y =
-    (counts (At x) ≡ false) × (level_in (symbol_at x) ≡ None) × (is_own x touch next ≡ stands_expected_in (symbol_at x) k) × (advance (At x) k ≡ At y)
+    (counts (At x) ≡ false) × (level_in (symbol_at x) ≡ None) × (own_next (symbol_at x) touch next ≡ stands_expected_in (symbol_at x) k) × (advance (At x) k ≡ At y)
 
 -- a row of some nodes may end at a place
 abbrev pub MayEnd : Place → Bool → Option SyntaxKind → Option Bool → Type 0
-MayEnd x touch next row = (whole (At x) ≡ true) × (is_own x touch next ≡ false) × (row_at x ≡ row)
+MayEnd x touch next row = (whole (At x) ≡ true) × (own_next (symbol_at x) touch next ≡ false) × (row_at x ≡ row)
 
 -- what is reported at a place where the text ends
 abbrev pub IsMissing : Place → Fault → Place → Type 0

@@ -41,3 +41,13 @@ none_right (x ∷ xs) ys h = absurd (not_nil h)
 -- and so it cannot hold
 pub both_fail : (b x y : Bool) → x ≡ false → y ≡ false → (if b then x else y) ≡ true → ⊥
 both_fail b x y h k e = true_is_not_false (sym e ∙ no_way b x y h k)
+
+-- what holds where a test does
+abbrev pub Where : Bool → Type 0 → Type 0
+Where true P = P
+Where false P = Unit {0}
+
+-- and it does
+pub where_one : {P : Type 0} (w : Bool) → w ≡ true → Where w P → P
+where_one true e h = h
+where_one false e h = absurd (true_is_not_false (sym e))

@@ -1,10 +1,9 @@
 -- Kinds of operands and powers of tokens.
-use Rattle.std.{specs.List.list_all, proofs.{lemmas.Bool.{and_parts, and_from, cases_lt, agree_below_at, Decides.nat_tests}, Common.{◌≡◌, ◌⊎◌, inl, inr, ℕ}}}
-use Rattle.std.proofs.Common.{zero, suc, ◌+◌, ◌≤◌, ◌<◌, Bool, true, false, refl, ap, sym, ◌∙◌, arith, ◌||◌, ◌&&◌, if◌then◌else◌, nat_eq, nat_le}
+use Rattle.std.{specs.List.list_all, proofs.{lemmas.Bool.{and_parts, cases_lt, agree_below_at, Decides.nat_tests}, Common.{◌≡◌, ◌⊎◌, inl, inr, ℕ}}}
+use Rattle.std.proofs.Common.{zero, suc, ◌+◌, ◌≤◌, ◌<◌, Bool, true, false, refl, ap, sym, ◌∙◌, arith, ◌&&◌, if◌then◌else◌, nat_eq, nat_le}
 use Rattle.rnix_kinds.{specs.declared.kinds.SyntaxKind.{SyntaxKind}, proofs.AllKinds.{all_kinds, every, implied}}
-use Rattle.rnix_grammar.specs.{Levels.{binding_power, left_of, right_of, high_of}, Rows.{is_atom, is_simple, is_negated, is_questioned, is_operand}}
-use Rattle.{rnix_grammar.specs.Rows.{is_expression, fits, is_infix}, rnix_lemmas.proofs.EveryKind.whenever_two}
-use Rattle.rnix_lemmas.proofs.EveryKind as every
+use Rattle.rnix_grammar.specs.{Levels.{binding_power, right_of, high_of}, Rows.{is_atom, is_simple, is_negated, is_questioned, is_operand}}
+use Rattle.{rnix_grammar.specs.Rows.{is_expression, fits, is_infix}}
 
 -- each class is in the next
 pub atom_simple : (k : SyntaxKind) → is_atom k ≡ true → is_simple k ≡ true
@@ -99,35 +98,6 @@ operates k h =
       most = q.1;
       high = at_most (high_of k) (binding_power k) (implied is_infix (λ o. nat_le (high_of o) (binding_power o)) refl k h);
     }
-
--- the levels whose operators group to the left
-abbrev pub is_left : ℕ → Bool
-is_left n = nat_eq n 2 || (nat_eq n 4 || (nat_eq n 5 || (nat_eq n 10 || nat_eq n 11)))
-
--- the levels beside an operator, by whether it groups to the left
-pub record Sided (k : SyntaxKind) : Type 0 where
-  pub left : left_of k ≡ (if is_left (binding_power k) then binding_power k else suc (binding_power k))
-  pub high : suc (high_of k) ≡ (if is_left (binding_power k) then suc (binding_power k) else binding_power k)
-  pub most : left_of k ≤ 13
-
--- and the levels of its two sides
-pub sided : (k : SyntaxKind) → is_infix k ≡ true → Sided k
-sided k h = record {
-  left = same_number _ _ (implied is_infix (λ o. nat_eq (left_of o) (if is_left (binding_power o) then binding_power o else suc (binding_power o))) refl k h);
-  high = same_number _ _ (implied is_infix (λ o. nat_eq (suc (high_of o)) (if is_left (binding_power o) then suc (binding_power o) else binding_power o)) refl k h);
-  most = at_most (left_of k) 13 (implied is_infix (λ o. nat_le (left_of o) 13) refl k h);
-}
-
--- an operator that may follow what another has made takes it as its left operand
-pub left_rule : (j k : SyntaxKind) → is_infix j ≡ true → is_infix k ≡ true → binding_power j ≤ high_of k → left_of j ≤ binding_power k
-left_rule j k h i l =
-    at_most (left_of j) (binding_power k)
-    (whenever_two (λ j k. is_infix j && (is_infix k && nat_le (binding_power j) (high_of k))) (λ j k. nat_le (left_of j) (binding_power k)) refl j k
-    (and_from _ _ h (and_from _ _ i (at_most_true (binding_power j) (high_of k) l))))
-
--- a left operand is tighter than the operator by one level at most
-pub next_left : (j : SyntaxKind) → is_infix j ≡ true → left_of j ≤ suc (binding_power j)
-next_left = every.at_most is_infix left_of (λ j. suc (binding_power j)) refl
 
 -- the loosest level of a right operand lies between these
 pub right_within : (k : SyntaxKind) → (1 ≤ right_of k) × (right_of k ≤ 16)

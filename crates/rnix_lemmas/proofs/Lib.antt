@@ -9,7 +9,6 @@ pub mod NodeKinds
 pub mod Basics
 pub mod AnnotatedForestLemmas
 pub mod Places
-pub mod PlaceTables
 pub mod RunLemmas
 pub mod LevelLemmas
 pub mod LayoutLemmas
@@ -38,3 +37,4 @@ pub mod NestKinds
 pub mod NestTrees
 pub mod PlainPlaces
 pub mod PlaceTests
+pub mod PastRows

@@ -1,7 +1,7 @@
 -- What kinds of nodes are: those whose leaves keep their kinds, expressions, attributes and entries.
-use Rattle.std.proofs.Common.{◌≡◌, ℕ, Bool, true, false, refl, sym, ◌∙◌, arith}
-use Rattle.rnix_kinds.{specs.declared.kinds.SyntaxKind.{SyntaxKind, TheVariants.{NODE_ERROR, NODE_IDENT, NODE_CUR_POS}}, proofs.AllKinds.implied}
-use Rattle.rnix_grammar.specs.{AnnotatedForest.leaf_kind_as, Rows.{fits, is_expression, is_attr, is_entry}, Plain.is_node}
+use Rattle.std.proofs.Common.{◌≡◌, ℕ, Bool, true, false, [], refl, sym, ◌∙◌, arith}
+use Rattle.rnix_kinds.{specs.declared.kinds.SyntaxKind.{SyntaxKind, TheVariants.{NODE_ERROR, NODE_IDENT, NODE_CUR_POS, NODE_PAT_ENTRY}}, proofs.AllKinds.implied}
+use Rattle.rnix_grammar.specs.{AnnotatedForest.{AnnotatedForest, leaf_kind_as}, Reports.repeats, Rows.{fits, is_expression, is_attr, is_entry}, Plain.is_node}
 use Rattle.rnix_lemmas.proofs.{Basics.true_is_not_false, LevelLemmas.fits_looser}
 
 -- error nodes, and nodes of one name, whose leaf may have another kind than its token
@@ -35,3 +35,8 @@ fits_expression n k h = fits_looser 0 n k (omega arith) h
 -- a kind is of a token or of a node
 pub not_both : (k : SyntaxKind) → is_node k ≡ false → is_node k ≡ true → ⊥
 not_both k h j = true_is_not_false (sym j ∙ h)
+
+-- expressions are not reported
+pub unreported : (k : SyntaxKind) (b c : AnnotatedForest) → is_expression k ≡ true → repeats k b c ≡ []
+unreported NODE_PAT_ENTRY b c h = absurd (true_is_not_false (sym h))
+unreported _ b c h = refl

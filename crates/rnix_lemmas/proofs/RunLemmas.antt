@@ -1,7 +1,7 @@
 -- Runs of items that are not wanted.
-use Rattle.std.proofs.Common.{◌≡◌, Bool, true, false, List, [], ◌∷◌, ◌++◌, refl, ap, if◌then◌else◌}
-use Rattle.rnix_grammar.specs.{declared.until.Until.Until, Tables.{is_wanted, stops}, AnnotatedForest.{Token, head_kind}, Machine.dropped, Missing.run_of}
-use Rattle.rnix_grammar.specs.ErrorNodes.{AreUnwanted}
+use Rattle.std.proofs.Common.{◌≡◌, Bool, true, false, List, [], ◌∷◌, ◌++◌, refl, sym, ap, if◌then◌else◌}
+use Rattle.rnix_grammar.specs.{declared.until.Until.Until, Tables.{is_wanted, stops}, AnnotatedForest.{Token, head_kind, is_some}, Machine.dropped, Missing.run_of}
+use Rattle.{rnix_grammar.specs.ErrorNodes.AreUnwanted, rnix_lemmas.proofs.Basics.true_is_not_false}
 
 -- what a run and the items behind it are
 pub record Parted (until : Until) (ts run : List Token) : Type 0 where
@@ -27,3 +27,8 @@ run_begins until t ts e = ap (λ w. if w then [] else t ∷ run_of until ts) e
 pub dropped_all : (ts : List Token) → dropped ts ts ≡ []
 dropped_all [] = refl
 dropped_all (t ∷ ts) = dropped_all ts
+
+-- some tokens with more behind them are some
+pub some_left : (ts us : List Token) → is_some ts ≡ true → is_some (ts ++ us) ≡ true
+some_left [] us h = absurd (true_is_not_false (sym h))
+some_left (t ∷ ts) us h = refl

@@ -1,4 +1,5 @@
 -- What is read by places is read along the rows, and the other way.
+use Rattle.rnix_lemmas.proofs.RunLemmas.{some_left}
 use Rattle.std.proofs.Common.{◌≡◌, ◌∙◌, ℕ, suc, Bool, true, false, List, [], ◌∷◌, ◌++◌, Option, Some, None, length, refl, sym, ap, subst, append-nil, arith}
 use Rattle.std.specs.Prelude.{if◌then◌else◌}
 use Rattle.rnix_kinds.specs.declared.kinds.SyntaxKind.{SyntaxKind}
@@ -237,14 +238,10 @@ long_some : (ts us : List Token) → length ts ≡ 1 → is_some (ts ++ us) ≡ 
 long_some [] us h = absurd (omega arith)
 long_some (t ∷ ts) us h = refl
 
-some_more : (ts us : List Token) → is_some ts ≡ true → is_some (ts ++ us) ≡ true
-some_more [] us h = absurd (true_is_not_false (sym h))
-some_more (t ∷ ts) us h = refl
-
 wrong_some : (note : Note) (d : ℕ) (q : RowState) (r s : Row) (ts us : List Token) → rest_of q ≡ r → new.IsWrong note d r s ts us → q ≡ BeforeArgument → is_some (ts ++ us) ≡ true
 wrong_some Stray d q r s ts us e h a = long_some ts us h.0
-wrong_some (Unwanted until) d q r s ts us e h a = some_more ts us h.0
-wrong_some Extra d q r s ts us e h a = some_more ts us h.0
+wrong_some (Unwanted until) d q r s ts us e h a = some_left ts us h.0
+wrong_some Extra d q r s ts us e h a = some_left ts us h.0
 wrong_some Twice d q r s ts us e h a = absurd h
 wrong_some TooDeep d q r s ts us e h a = absurd (true_is_not_false (sym h.1 ∙ ap counts (sym e ∙ ap rest_of a)))
 

@@ -1,4 +1,5 @@
 -- Which rows have items: each that begins at no place. Where no item is left, no node but error nodes is read, if no attribute path may be.
+use Rattle.rnix_lemmas.proofs.RunLemmas.{some_left}
 use Rattle.std.proofs.Common.{◌≡◌, ℕ, Bool, true, false, List, [], ◌∷◌, ◌++◌, Option, Some, None, refl, ap, sym, ◌∙◌, subst, arith, if◌then◌else◌}
 use Rattle.rnix_kinds.{specs.declared.kinds.SyntaxKind.{SyntaxKind, TheVariants.NODE_ATTRPATH_VALUE}, proofs.AllKinds.implied}
 use Rattle.rnix_grammar.specs.{declared.{place.Place.Place, symbol.Symbol.Symbol}, Fault.Fault, Symbols.{symbol_at, level_in}}
@@ -12,10 +13,6 @@ use Rattle.rnix_lemmas.proofs.{RowKinds.{has_row, no_wanted, no_closing}, Openin
 use Rattle.rnix_lemmas.proofs.{RowEndings.row_tokens, AnnotatedForestLemmas.tokens_in-row_of}
 use Rattle.rnix_rows.proofs.BareFacts.{is_bare, missing_bare, literal_bare}
 use Rattle.rnix_grammar.specs.declared.symbol.Symbol.TheVariants as s
-
-some_left : (ts us : List Token) → is_some ts ≡ true → is_some (ts ++ us) ≡ true
-some_left [] us h = absurd (true_is_not_false (sym h))
-some_left (t ∷ ts) us h = refl
 
 -- the row of a node that stands at no place begins at none
 pub unplaced_start : (q : RowState) (k : SyntaxKind) → is_place q ≡ false → live (advance q k) ≡ true → is_place (start k) ≡ false

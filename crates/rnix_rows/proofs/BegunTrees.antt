@@ -1,4 +1,5 @@
 -- What the first item of an operand is, by the kind of the operand's first tree; so it is at each state where a node stands.
+use Rattle.rnix_lemmas.proofs.Basics.{Where, where_one}
 use Rattle.std.{proofs.Common.{◌≡◌, ℕ, Bool, true, false, List, [], ◌∷◌, ◌++◌, Option, Some, None, refl, ap, sym, subst, append-nil}}
 use Rattle.std.proofs.Common.{if◌then◌else◌, nat_eq, nat_le}
 use Rattle.rnix_kinds.specs.declared.kinds.SyntaxKind.{SyntaxKind, TheVariants.{TOKEN_AT, TOKEN_COLON, TOKEN_IDENT, TOKEN_INVERT, TOKEN_SUB, TOKEN_LET}}
@@ -177,15 +178,6 @@ abbrev may_stand : RowState → Bool → SyntaxKind → AnnotatedForest → Synt
 may_stand (Start i) touch k f kind text = may_begin (first_tree (one_branch i f)) kind text
 may_stand (At x) touch k f kind text = is_same (expects_in (symbol_at x) touch kind) (stands_expected_in (symbol_at x) k)
 may_stand q touch k f kind text = false
-
--- what holds where a test does
-abbrev Where : Bool → Type 0 → Type 0
-Where true P = P
-Where false P = Unit {0}
-
-where_one : {P : Type 0} (w : Bool) → w ≡ true → Where w P → P
-where_one true e h = h
-where_one false e h = absurd (true_is_not_false (sym e))
 
 -- so much is known by the first item's kind
 abbrev KnownBy : RowState → Bool → SyntaxKind → AnnotatedForest → AnnotatedForest → Token → List Token → SyntaxKind → Type 0

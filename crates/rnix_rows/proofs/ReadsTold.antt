@@ -1,4 +1,5 @@
 -- Leaves have the kinds of tokens, also in a repaired tree; in a row that is read each has the kind of its token, and each name holds that alone.
+use Rattle.rnix_lemmas.proofs.PastRows.{past_ends}
 use Rattle.std.proofs.Common.{◌≡◌, ℕ, true, List, refl, ap, ◌∙◌, [], ◌∷◌, Some, None, sym, subst}
 use Rattle.rnix_kinds.specs.declared.kinds.SyntaxKind.{SyntaxKind, TheVariants.{TOKEN_CUR_POS, TOKEN_IDENT, TOKEN_OR, NODE_CUR_POS, NODE_IDENT, NODE_ERROR}}
 use Rattle.rnix_kinds.specs.{declared.kinds.SyntaxKind.TheVariants.{NODE_LITERAL, NODE_PAT_ENTRY}, SyntaxKind.is_token}
@@ -52,29 +53,6 @@ reads_told {p = p} (wrong {f = f} note ts h v _ _ x d _ s z) = (subst (λ (y : A
 reads_told (second v s _ y e r d x z) = (reads_told s, reads_told x)
 reads_told (inner v _ s _ y _ _ _ _ g l d x z) = (reads_told s, reads_told x)
 
--- something is not nothing
-some_none : {A : Type 0} {x : A} → Some x ≡ None → ⊥
-some_none e = cc
-
--- behind the last child of a row nothing stands
-past_aside : {n : Note} {r : RowState} {ts : List Token} → IsAside n (At places.Past) r ts → ⊥
-past_aside (a_number g l) = true_is_not_false (sym l ∙ sym (ap live g))
-past_aside (a_run x y until n t e f w) =
-    let same : places.Past ≡ x = cc in
-    some_none (sym w ∙ ap run_at (sym same))
-past_aside (at_end t e) = absurd (cc)
-
-past_blank : {p : SyntaxKind} {d n : ℕ} {q q' : RowState} {b : AnnotatedForest} {us : List Token} {f : AnnotatedForest} {es : List Fault} → Reads p d n q q' b us f es → q ≡ At places.Past → f ≡ blank
-past_blank end h = refl
-past_blank {q = q} (leaf {k = k} e _ _ _ g l c _ s) h = absurd (true_is_not_false (sym l ∙ sym (ap live g) ∙ ap (λ x. live (advance x k)) h))
-past_blank (missing_part {x = x} {y = y} {e = e} u n l _ s z) h =
-    let same : x ≡ places.Past = cc in
-    absurd (some_none (sym l ∙ ap missing same))
-past_blank {d = d₀} {q = q} (wrong {r = r} {vs = vs} note ts e v _ _ w d _ s z) h =
-    absurd (past_aside (subst (λ x. IsAside note x r ts) h (aside note d₀ q r ts vs w)))
-past_blank (second v s _ y e r d x z) h = let same : At (places.PatternEnd true) ≡ At places.Past = sym e ∙ h in absurd (cc)
-past_blank {q = q} (inner {k = k} v _ s _ y _ _ _ _ g l d x z) h = absurd (true_is_not_false (sym l ∙ sym (ap live g) ∙ ap (λ x. live (advance x k)) h))
-
 -- the node of a name holds nothing but a token
 name_past : (k : SyntaxKind) → live (advance (Start NODE_IDENT) k) ≡ true → advance (Start NODE_IDENT) k ≡ At places.Past
 name_past TOKEN_IDENT l = refl
@@ -88,7 +66,7 @@ name_bare : {p : SyntaxKind} {d n : ℕ} {q q' : RowState} {b : AnnotatedForest}
 name_bare end w e = refl
 name_bare (leaf {f = f} {k = k} {t = t} h _ _ _ g l c _ s) w e =
     let from : advance (Start NODE_IDENT) k ≡ _ = ap (λ x. advance x k) (sym e) ∙ g in
-    one_bare k t f (past_blank s (sym from ∙ name_past k (ap live from ∙ l)))
+    one_bare k t f (past_ends s (sym from ∙ name_past k (ap live from ∙ l))).row
 name_bare (missing_part u n l _ s z) w e = absurd (true_is_not_false (ap is_place e))
 name_bare {d = d₀} {q = q} (wrong {r = r} {vs = vs} note ts h v _ _ x d _ s z) w e = absurd (by (aside note d₀ q r ts vs x) e)
   where

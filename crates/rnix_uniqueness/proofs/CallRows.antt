@@ -1,4 +1,5 @@
 -- Calls are read as operands, of a tree with an argument and with the name `or`, if smaller trees are read.
+use Rattle.rnix_lemmas.proofs.{PastRows.{Ended, past_ends}, NodeKinds.unreported}
 use Rattle.std.proofs.Common.{◌≡◌, ℕ, ◌≤◌, Bool, true, false, List, [], ◌∷◌, ◌++◌, Some, None, refl, ap, sym, ◌∙◌, subst, append-nil, arith, ◌||◌}
 use Rattle.std.proofs.{Common.{◌&&◌, if◌then◌else◌}, lemmas.Bool.and_parts}
 use Rattle.rnix_kinds.specs.{declared.kinds.SyntaxKind.{SyntaxKind, TheVariants.{TOKEN_FLOAT, TOKEN_OR, NODE_APPLY, NODE_IDENT}}, SyntaxKind.is_fn_arg}
@@ -11,8 +12,8 @@ use Rattle.{rnix_grammar.specs.{Operands.{IsFollowed, IsOperand, goes_on}, Place
 use Rattle.rnix_lemmas.proofs.{EveryKind.{never, only}, OpeningRows.live_to, FirstTrees.{IsSingle, first_in, single_calls}}
 use Rattle.{rnix_lemmas.proofs.FollowLemmas.{followed_call, followed_tight, follows_token}, rnix_uniqueness.proofs.Runs.{runs_on, runs_to}}
 use Rattle.rnix_uniqueness.proofs.{Runs.step_to, StepReads.{IsOperandRead, ReadsTree}, ReadingHeights.{Short, Trees, Front, by_leaf, by_stray, by_node}}
-use Rattle.rnix_uniqueness.proofs.{ReadingHeights.front_of, FirstItems.{Ended, past_ends, name_item}, OperandGoesOn.{settles, continued}}
-use Rattle.rnix_uniqueness.proofs.{ItemRows.stray_reads, OperatorRows.{Leading, leading, leading_reads, unreported}}
+use Rattle.rnix_uniqueness.proofs.{ReadingHeights.front_of, FirstItems.name_item, OperandGoesOn.{settles, continued}}
+use Rattle.rnix_uniqueness.proofs.{ItemRows.stray_reads, OperatorRows.{Leading, leading, leading_reads}}
 use Rattle.rnix_grammar.specs.declared.place.Place.TheVariants as p
 use Rattle.rnix_grammar.specs.declared.action.Action.TheVariants as a
 

@@ -1,4 +1,5 @@
 -- Expressions that begin with an item are read as operands, if smaller rows are read.
+use Rattle.rnix_lemmas.proofs.{PastRows.{Ended, past_ends}}
 use Rattle.std.proofs.Common.{◌≡◌, ℕ, true, false, List, [], ◌∷◌, ◌++◌, Some, refl, ap, sym, ◌∙◌, subst, append-nil}
 use Rattle.rnix_kinds.specs.declared.kinds.SyntaxKind.{SyntaxKind, TheVariants.{TOKEN_L_BRACE, TOKEN_LET, NODE_ERROR, NODE_LEGACY_LET}}
 use Rattle.{rnix_kinds.proofs.AllKinds.implied, rnix_grammar.specs.{Fault.Fault, Begins.{begin_of, second_kind}, AnnotatedForest.{Token, Stray}}}
@@ -7,7 +8,7 @@ use Rattle.rnix_grammar.specs.{AnnotatedForest.end_from, Reports.report, Machine
 use Rattle.{rnix_grammar.specs.{Rows.{BeforeBrace, At, first, advance, live}, PlaceReads.IsOver}, rnix_lemmas.proofs.EveryKind.{alike, only}}
 use Rattle.{rnix_lemmas.proofs.FollowLemmas.{FollowedTo, atom_tight, followed_atom, followed_loose}, rnix_uniqueness.proofs.Runs.{runs_to, runs_from}}
 use Rattle.rnix_uniqueness.proofs.{StepReads.{IsOperandRead, ReadsTree}, ReadingHeights.{Short, AllRows, Front, front_of, short_to}, RowClasses.class_of}
-use Rattle.rnix_uniqueness.proofs.{RowClasses.read_on, RowEnds.operand_read, FirstItems.{is_bare, item_next, past_ends}, OperandBegins.{is_led, LedBy, by_leaf}}
+use Rattle.rnix_uniqueness.proofs.{RowClasses.read_on, RowEnds.operand_read, FirstItems.{is_bare, item_next}, OperandBegins.{is_led, LedBy, by_leaf}}
 use Rattle.rnix_uniqueness.proofs.OperandBegins.{by_node, begins_led, begins_special, followed_led}
 use Rattle.rnix_grammar.specs.declared.place.Place.TheVariants as p
 

@@ -1,4 +1,5 @@
 -- Operators, selections and tests for attributes are read as operands, if smaller rows and trees are read.
+use Rattle.rnix_lemmas.proofs.{NodeKinds.unreported}
 use Rattle.std.proofs.Common.{◌≡◌, ℕ, Bool, true, false, List, [], ◌∷◌, ◌++◌, Some, refl, ap, sym, ◌∙◌, subst, append-nil, arith}
 use Rattle.rnix_kinds.specs.declared.kinds.SyntaxKind.{SyntaxKind, TheVariants.{TOKEN_ADD, TOKEN_DOT, TOKEN_QUESTION, NODE_BIN_OP, NODE_HAS_ATTR, NODE_LITERAL}}
 use Rattle.{rnix_kinds.{specs.declared.kinds.SyntaxKind.TheVariants.NODE_SELECT, proofs.AllKinds.implied}, rnix_grammar.specs.declared.place.Place.Place}
@@ -34,10 +35,6 @@ pub record Leading (m : ℕ) (k : SyntaxKind) (d n : ℕ) (q s : RowState) (us :
 pub record BeginsWithTree (k : SyntaxKind) (q : RowState) (test : SyntaxKind → Bool) : Type 0 where
   pub goes : (j : SyntaxKind) → advance (Start k) j ≡ to (test j) q
   pub fitting : (j : SyntaxKind) → test j ≡ true → is_expression j ≡ true
-
--- expressions are not reported
-pub unreported : (k : SyntaxKind) (b c : AnnotatedForest) → is_expression k ≡ true → repeats k b c ≡ []
-unreported k b c h = quiet k b c (alike is_expression (λ j. class_of (Some j)) (λ j. 0) refl k h)
 
 -- the first tree is read, if no lone token is first
 pub leading : (m : ℕ) → Trees m → (k : SyntaxKind) (d n : ℕ) (q s : RowState) (us : List Token) (c : AnnotatedForest) (es : List Fault) (test : SyntaxKind → Bool)

@@ -1,4 +1,6 @@
 -- How a node that stands at a place is read there.
+use Rattle.rnix_lemmas.proofs.PlaceTests.{own_next, own_at}
+use Rattle.rnix_lemmas.proofs.Basics.{Where, where_one}
 use Rattle.std.{specs.List.list_all, proofs.Common.{◌≡◌, ◌⊎◌, inl, inr, arith, ℕ, Bool, true, false, List, [], ◌∷◌, Option, Some, None, refl, ap, sym, ◌∙◌, subst, if◌then◌else◌, nat_eq}}
 use Rattle.std.proofs.lemmas.Bool.Decides.{nat_tests}
 use Rattle.rnix_kinds.specs.{SyntaxKind.place_of, declared.kinds.SyntaxKind.{SyntaxKind, TheVariants.{TOKEN_AT}}}
@@ -15,16 +17,6 @@ use Rattle.rnix_grammar.specs.declared.place.Place.TheVariants as p
 use Rattle.rnix_grammar.specs.declared.symbol.Symbol.TheVariants as s
 use Rattle.rnix_grammar.specs.declared.until.Until.TheVariants as u
 use Rattle.rnix_grammar.specs.declared.action.Action.TheVariants as a
-
--- the next item, or the end of the text, is a symbol's own
-abbrev pub own_next : Symbol → Bool → Option SyntaxKind → Bool
-own_next symbol touch None = expects_end symbol
-own_next symbol touch (Some k) = expects_in symbol touch k
-
--- so at a place
-pub own_at : (x : Place) (n : ℕ) (ts : List Token) → expects x n ts ≡ own_next (symbol_at x) (touches n ts) (head_kind ts)
-own_at x n [] = refl
-own_at x n (t ∷ ts) = refl
 
 -- the token that a kind's row begins with, and the place behind it
 abbrev pub IsOpener : SyntaxKind → SyntaxKind → Place → Type 0
@@ -55,15 +47,6 @@ stands_none : (symbol : Symbol) (k : SyntaxKind) (l : ℕ) → level_in symbol �
 stands_none (s.Operand level counted z) k l e = refl
 stands_none (s.Series level closer) k l e = refl
 stands_none _ k l e = absurd (cc)
-
--- where a test holds
-abbrev pub Where : Bool → Type 0 → Type 0
-Where true P = P
-Where false P = Unit {0}
-
-pub where_one : {P : Type 0} (w : Bool) → w ≡ true → Where w P → P
-where_one true e h = h
-where_one false e h = absurd (true_is_not_false (sym e))
 
 -- where two tests have one answer
 abbrev WhereSame : Bool → Bool → Type 0 → Type 0
