@@ -1,10 +1,10 @@
-//! From a node outwards.
+//! The nodes around a node.
 
 use crate::node::SyntaxNode;
 use rnix_green::GreenNode;
 use std::marker::Model;
 
-/// A node and the nodes around it, the innermost first.
+/// An iterator over a node and its ancestors, innermost first.
 #[derive(Drop)]
 pub struct Ancestors<'t> {
     pub(crate) green: &'t GreenNode,

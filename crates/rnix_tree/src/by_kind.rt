@@ -1,4 +1,4 @@
-//! What is of a kind, among children and siblings.
+//! Children and siblings of one kind.
 
 ghost use Rattle.std.specs.Prelude.{◌≡◌, ◌≤◌, length, drop, filter, find, option_map};
 ghost use Rattle.rnix_green.specs.Equality.{same_kind};
@@ -16,14 +16,14 @@ use crate::walk::SyntaxElementChildren;
 use rnix_kinds::SyntaxKind;
 use std::marker::Model;
 
-// Whether the kinds are one.
+// Returns whether the kinds are equal.
 fn same_kind(a: SyntaxKind, b: SyntaxKind) -> bool
     ensures { result ≡ same_kind a b }
 {
     a == b
 }
 
-/// The nodes of a kind right below a node, in order.
+/// An iterator over the child nodes of one kind, in order.
 #[derive(Drop)]
 pub struct SyntaxNodeChildrenByKind<'t> {
     nodes: SyntaxNodeChildren<'t>,
@@ -44,7 +44,7 @@ impl<'t> Model for SyntaxNodeChildrenByKind<'t> {
 }
 
 impl<'t> SyntaxNodeChildren<'t> {
-    /// Those of the nodes that are left that have the kind.
+    /// Returns those of the remaining nodes that have the kind.
     #[tactic(auto, using(crate::proofs::ListLemmas::filter_most))]
     pub fn by_kind(self, kind: SyntaxKind) -> SyntaxNodeChildrenByKind<'t>
         ensures children { result ≡ filter (is_of_kind kind) self.entry }
@@ -73,7 +73,7 @@ impl<'t> Iterator for SyntaxNodeChildrenByKind<'t> {
     }
 }
 
-/// The nodes and tokens of a kind right below a node, in order.
+/// An iterator over the children of one kind, nodes and tokens, in order.
 #[derive(Drop)]
 pub struct SyntaxElementChildrenByKind<'t> {
     elements: SyntaxElementChildren<'t>,
@@ -93,7 +93,7 @@ impl<'t> Model for SyntaxElementChildrenByKind<'t> {
 }
 
 impl<'t> SyntaxElementChildren<'t> {
-    /// Those of the nodes and tokens that are left that have the kind.
+    /// Returns those of the remaining nodes and tokens that have the kind.
     #[tactic(auto, using(crate::proofs::ListLemmas::filter_most))]
     pub fn by_kind(self, kind: SyntaxKind) -> SyntaxElementChildrenByKind<'t>
         ensures children { result ≡ filter (is_spot_of_kind kind) self.entry }
@@ -126,7 +126,7 @@ impl<'t> Iterator for SyntaxElementChildrenByKind<'t> {
     }
 }
 
-// The first sibling of a kind.
+// Returns the first sibling node of a kind.
 fn first_node<'t>(mut nodes: Siblings<'t>, kind: SyntaxKind) -> Option<SyntaxNode<'t>>
     ensures { result ≡ find (is_of_kind kind) nodes.entry }
 {
@@ -138,7 +138,7 @@ fn first_node<'t>(mut nodes: Siblings<'t>, kind: SyntaxKind) -> Option<SyntaxNod
     None
 }
 
-// The same among nodes and tokens.
+// Returns the first sibling of a kind, node or token.
 fn first_element<'t>(
     mut elements: SiblingsWithTokens<'t>,
     kind: SyntaxKind,
@@ -154,7 +154,7 @@ fn first_element<'t>(
 }
 
 impl<'t> SyntaxNode<'t> {
-    /// The first node of a kind right below this one.
+    /// Returns the first child node of a kind.
     #[tactic(auto, using(crate::proofs::ListLemmas::found_itself))]
     pub fn first_child_by_kind(&self, kind: SyntaxKind) -> Option<SyntaxNode<'t>>
         ensures { result ≡ find (is_of_kind kind) (nodes_in (children_of self.now)) }
@@ -162,7 +162,7 @@ impl<'t> SyntaxNode<'t> {
         self.children().by_kind(kind).next()
     }
 
-    /// The first node or token of a kind right below this one.
+    /// Returns the first child of a kind, node or token.
     #[tactic(auto, using(crate::proofs::ListLemmas::found_first))]
     pub fn first_child_or_token_by_kind(&self, kind: SyntaxKind) -> Option<SyntaxElement<'t>>
         ensures { option_map spot_of result ≡ find (is_spot_of_kind kind) (children_of self.now) }
@@ -170,7 +170,7 @@ impl<'t> SyntaxNode<'t> {
         self.children_with_tokens().by_kind(kind).next()
     }
 
-    /// The next node of a kind with the same parent.
+    /// Returns the next sibling node of a kind.
     pub fn next_sibling_by_kind(&self, kind: SyntaxKind) -> Option<SyntaxNode<'t>>
         ensures { result ≡ find (is_of_kind kind) (drop 1 (nodes_in (siblings_of direction.Next self.now))) }
     {
@@ -179,7 +179,7 @@ impl<'t> SyntaxNode<'t> {
         first_node(nodes, kind)
     }
 
-    /// The previous node of a kind with the same parent.
+    /// Returns the previous sibling node of a kind.
     pub fn prev_sibling_by_kind(&self, kind: SyntaxKind) -> Option<SyntaxNode<'t>>
         ensures { result ≡ find (is_of_kind kind) (drop 1 (nodes_in (siblings_of direction.Prev self.now))) }
     {
@@ -188,7 +188,7 @@ impl<'t> SyntaxNode<'t> {
         first_node(nodes, kind)
     }
 
-    /// The next node or token of a kind with the same parent.
+    /// Returns the next sibling of a kind, node or token.
     pub fn next_sibling_or_token_by_kind(&self, kind: SyntaxKind) -> Option<SyntaxElement<'t>>
         ensures { option_map spot_of result ≡ find (is_spot_of_kind kind) (drop 1 (siblings_of direction.Next self.now)) }
     {
@@ -197,7 +197,7 @@ impl<'t> SyntaxNode<'t> {
         first_element(elements, kind)
     }
 
-    /// The previous node or token of a kind with the same parent.
+    /// Returns the previous sibling of a kind, node or token.
     pub fn prev_sibling_or_token_by_kind(&self, kind: SyntaxKind) -> Option<SyntaxElement<'t>>
         ensures { option_map spot_of result ≡ find (is_spot_of_kind kind) (drop 1 (siblings_of direction.Prev self.now)) }
     {

@@ -1,4 +1,4 @@
-//! The elements that hold a range.
+//! The elements that contain a range.
 
 ghost use Rattle.std.specs.Prelude.{◌≡◌, option_map};
 ghost use Rattle.rnix_green.specs.Range.{bounds_of};
@@ -9,7 +9,7 @@ use crate::element::{NodeOrToken, SyntaxElement};
 use crate::node::SyntaxNode;
 use rnix_green::TextRange;
 
-// Whether a range lies in another; an empty one strictly between its ends.
+// Returns whether a range lies in another; an empty range lies strictly between its ends.
 fn holds(range: TextRange, place: TextRange) -> bool
     ensures { result ≡ holds (bounds_of range) (bounds_of place) }
 {
@@ -18,7 +18,7 @@ fn holds(range: TextRange, place: TextRange) -> bool
 }
 
 impl<'t> SyntaxNode<'t> {
-    /// The child that a range lies in. An empty range between two children lies in neither.
+    /// Returns the child that contains the range. An empty range between two children is in neither.
     pub fn child_or_token_at_range(&self, range: TextRange) -> Option<SyntaxElement<'t>>
         ensures { option_map spot_of result ≡ child_at_range (bounds_of range) self.now }
     {
@@ -31,7 +31,7 @@ impl<'t> SyntaxNode<'t> {
         None
     }
 
-    /// The innermost element that a range lies in: the node, or one inside it. None where the range does not lie in the node.
+    /// Returns the innermost element that contains the range: the node, or one inside it. Returns `None` if the node does not contain the range.
     pub fn covering_element(&self, range: TextRange) -> Option<SyntaxElement<'t>>
         ensures { IsCovering (bounds_of range) self.now (option_map place_of result) }
     {

@@ -15,22 +15,22 @@ use rnix_kinds::SyntaxKind;
 use std::fmt;
 use std::fmt::{InlineText, Write};
 
-// A token's text is printed whole if it has fewer bytes.
+// A token's text of fewer bytes is printed whole.
 const LONG: usize = 25;
 
-// A longer text is cut at the first character that begins at this byte or behind it.
+// A longer text is cut at the first character that begins at this byte or after it.
 const CUT: usize = 21;
 
-// What stands behind a text that was cut.
+// What follows a text that was cut.
 const MORE: &str = " ...";
 
-// How many bytes such a text has with it, at most: a character has no more than four.
+// The greatest number of bytes of such a text with its ending: a character has at most four.
 const START_LEN: usize = 28;
 
-// More bytes than are shown of an element: a byte is escaped by no more than six.
+// More bytes than an element is printed with: a byte is escaped by at most six.
 const TEXT_LEN: usize = 256;
 
-// A kind with its range.
+// Prints a kind with its range.
 fn write_place<W: fmt::Write>(
     kind: SyntaxKind,
     range: TextRange,
@@ -42,7 +42,7 @@ fn write_place<W: fmt::Write>(
     write!(f, "{name}@{start}..{end}")
 }
 
-// The start of a long text, in quotes.
+// Prints the start of a long text, in quotes.
 fn write_start<W: fmt::Write>(text: &str, f: &mut fmt::Formatter<W>) -> fmt::Result
     requires { 25 ≤ length text.now }
     ensures { DisplaysOnOk W.write_str_gives f.old result (debug_str (shown text.now)) f.new }
@@ -55,7 +55,7 @@ fn write_start<W: fmt::Write>(text: &str, f: &mut fmt::Formatter<W>) -> fmt::Res
     write!(f, "{start:?}")
 }
 
-// A token's text in quotes.
+// Prints a token's text in quotes.
 fn write_text<W: fmt::Write>(text: &str, f: &mut fmt::Formatter<W>) -> fmt::Result
     ensures { DisplaysOnOk W.write_str_gives f.old result (debug_str (shown text.now)) f.new }
 {
@@ -66,7 +66,7 @@ fn write_text<W: fmt::Write>(text: &str, f: &mut fmt::Formatter<W>) -> fmt::Resu
     }
 }
 
-// A token: its kind, its range, and its text in quotes.
+// Prints a token: its kind, its range, and its text in quotes.
 fn write_token<W: fmt::Write>(token: &SyntaxToken<'_>, f: &mut fmt::Formatter<W>) -> fmt::Result
     ensures { DisplaysOnOk W.write_str_gives f.old result (token_text token.now) f.new }
 {
@@ -75,7 +75,7 @@ fn write_token<W: fmt::Write>(token: &SyntaxToken<'_>, f: &mut fmt::Formatter<W>
     write_text(token.text(), f)
 }
 
-// What `{:?}` prints of an element.
+// Prints what `{:?}` shows of an element.
 fn text_of(element: &SyntaxElement<'_>) -> Result<InlineText<TEXT_LEN>, fmt::Error>
     ensures { IfOk result (λ text. IfSome (spot_text (spot_of element.now)) (λ bs. inline_text text ≡ bs)) }
 {
@@ -87,7 +87,7 @@ fn text_of(element: &SyntaxElement<'_>) -> Result<InlineText<TEXT_LEN>, fmt::Err
     Ok(f.into_inner())
 }
 
-// An element on a line of its own, behind two spaces for each level.
+// Prints an element on a line of its own, indented by two spaces for each level.
 fn write_line<W: fmt::Write>(
     element: &SyntaxElement<'_>,
     depth: usize,
@@ -101,7 +101,7 @@ fn write_line<W: fmt::Write>(
     f.write_str("\n")
 }
 
-// The node and all that is inside it, in preorder, one line for each element.
+// Prints the node and everything inside it, in preorder, one line for each element.
 fn write_tree<W: fmt::Write>(node: &SyntaxNode<'_>, f: &mut fmt::Formatter<W>) -> fmt::Result
     ensures { DisplaysStyledOnOk W.write_str_gives f.old result (text_lines_of node.now) f.new }
 {

@@ -1,11 +1,11 @@
-//! An element and all that is inside it, in preorder.
+//! A node and everything inside it, in preorder.
 
 use crate::element::{NodeOrToken, SyntaxElement, element_at};
 use crate::node::SyntaxNode;
 use rnix_green::GreenNode;
 use std::marker::Model;
 
-/// A node and all nodes and tokens inside it, a node before what is inside it.
+/// An iterator over a node and everything inside it, nodes and tokens, in preorder.
 #[derive(Drop)]
 pub struct DescendantsWithTokens<'t> {
     pub(crate) green: &'t GreenNode,
@@ -48,7 +48,7 @@ impl<'t> Iterator for DescendantsWithTokens<'t> {
     }
 }
 
-/// A node and all nodes inside it, a node before what is inside it.
+/// An iterator over a node and all nodes inside it, in preorder.
 #[derive(Drop)]
 pub struct Descendants<'t> {
     pub(crate) elements: DescendantsWithTokens<'t>,

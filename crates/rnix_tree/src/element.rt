@@ -1,4 +1,4 @@
-//! What stands in a tree: nodes and tokens.
+//! Nodes or tokens, and the events of a walk.
 
 ghost use Rattle.std.specs.Prelude.{◌≡◌, ◌<◌, length, option_map};
 ghost use Rattle.rnix_green.specs.Range.{bounds_of};
@@ -21,17 +21,17 @@ pub enum NodeOrToken<N, T> {
 /// A node or a token of a tree.
 pub type SyntaxElement<'t> = NodeOrToken<SyntaxNode<'t>, SyntaxToken<'t>>;
 
-/// What a walk does at an element.
+/// An event of a walk.
 #[derive(Clone, Debug, Drop)]
 pub enum WalkEvent<T> {
-    /// The element is met before what is inside it.
+    /// The walk enters the element, before what is inside it.
     Enter(T),
-    /// The element is met again, after what is inside it.
+    /// The walk leaves the element, after what is inside it.
     Leave(T),
 }
 
 impl<N, T> NodeOrToken<N, T> {
-    /// The node, if it is one.
+    /// Returns the node, if it is one.
     pub fn as_node(&self) -> Option<&N>
         ensures { option_map (λ node. node.now) result ≡ node_in self.now }
     {
@@ -41,7 +41,7 @@ impl<N, T> NodeOrToken<N, T> {
         }
     }
 
-    /// The token, if it is one.
+    /// Returns the token, if it is one.
     pub fn as_token(&self) -> Option<&T>
         ensures { option_map (λ token. token.now) result ≡ token_in self.now }
     {
@@ -53,7 +53,7 @@ impl<N, T> NodeOrToken<N, T> {
 }
 
 impl<T> WalkEvent<T> {
-    /// The same event of what `f` makes of the element.
+    /// Returns the same event with the element mapped by `f`.
     pub fn map<F: FnOnce(T) -> U, U>(self, f: F) -> WalkEvent<U>
         requires { F.pre f (element_in self) }
         ensures { MapsEvent (F.post f) self result }
@@ -66,7 +66,7 @@ impl<T> WalkEvent<T> {
 }
 
 impl<N: Drop, T: Drop> NodeOrToken<N, T> {
-    /// The node, if it is one.
+    /// Returns the node, if it is one.
     pub fn into_node(self) -> Option<N>
         ensures { result ≡ node_in self }
     {
@@ -76,7 +76,7 @@ impl<N: Drop, T: Drop> NodeOrToken<N, T> {
         }
     }
 
-    /// The token, if it is one.
+    /// Returns the token, if it is one.
     pub fn into_token(self) -> Option<T>
         ensures { result ≡ token_in self }
     {
@@ -88,7 +88,7 @@ impl<N: Drop, T: Drop> NodeOrToken<N, T> {
 }
 
 impl<'t> NodeOrToken<SyntaxNode<'t>, SyntaxToken<'t>> {
-    /// The same element once more.
+    /// Returns a copy, without allocating.
     pub fn clone(&self) -> Self
         ensures { result ≡ self.now }
     {
@@ -98,7 +98,7 @@ impl<'t> NodeOrToken<SyntaxNode<'t>, SyntaxToken<'t>> {
         }
     }
 
-    /// The element's kind.
+    /// Returns the element's kind.
     pub fn kind(&self) -> SyntaxKind
         ensures { result ≡ (item_of (place_of self.now)).kind }
     {
@@ -108,7 +108,7 @@ impl<'t> NodeOrToken<SyntaxNode<'t>, SyntaxToken<'t>> {
         }
     }
 
-    /// The element's place in the text, in bytes.
+    /// Returns the element's range in the text, in bytes.
     pub fn text_range(&self) -> TextRange
         ensures { bounds_of result ≡ extent_of (place_of self.now) }
     {
@@ -139,7 +139,7 @@ impl<'t> From<SyntaxToken<'t>> for NodeOrToken<SyntaxNode<'t>, SyntaxToken<'t>> 
     }
 }
 
-/// The element of a number.
+/// Returns the element with a number in preorder.
 pub(crate) fn element_at<'t>(green: &'t GreenNode, number: usize) -> SyntaxElement<'t>
     requires { number < length (items_of green.now) }
     ensures spot { spot_of result ≡ spot_at green.now number }

@@ -12,7 +12,7 @@ use rnix_kinds::SyntaxKind;
 use std::fmt;
 use std::hash::{Hash, Hasher};
 
-// A number with a kind and a range.
+// Hashes a number with a kind and a range.
 fn hash_place<H: Hasher>(number: usize, kind: SyntaxKind, range: TextRange, state: &mut H)
     ensures { state.new ≡ fold H.write state.old (hashed_at number kind (bounds_of range)) }
 {

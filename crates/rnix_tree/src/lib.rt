@@ -1,4 +1,4 @@
-//! Nodes and tokens: they borrow a tree, and go over it.
+//! Nodes and tokens, which borrow a tree: navigation, walks, and printing.
 #![tactic(auto)]
 
 mod ancestors;

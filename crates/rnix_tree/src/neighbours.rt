@@ -1,4 +1,4 @@
-//! From an element to those around it, beside it and inside it.
+//! Parents, children, siblings and adjacent tokens.
 
 ghost use Rattle.std.specs.Prelude.{◌≡◌, ◌<◌, ◌^◌, length, option_map, is_some, true};
 ghost use Rattle.rnix_tree.specs.Spots.{place_of};
@@ -12,7 +12,7 @@ use crate::relatives;
 use crate::token::SyntaxToken;
 use rnix_green::GreenNode;
 
-// The node of a number, if there is one.
+// Returns the node with a number, if there is one.
 fn node_if<'t>(green: &'t GreenNode, number: Option<usize>) -> Option<SyntaxNode<'t>>
     requires { IsNodeIfAny green.now number }
     ensures { result ≡ located green.now number }
@@ -23,7 +23,7 @@ fn node_if<'t>(green: &'t GreenNode, number: Option<usize>) -> Option<SyntaxNode
     }
 }
 
-// The token of a number, if there is one.
+// Returns the token with a number, if there is one.
 fn token_if<'t>(green: &'t GreenNode, number: Option<usize>) -> Option<SyntaxToken<'t>>
     requires { IsTokenIfAny green.now number }
     ensures { result ≡ located green.now number }
@@ -34,7 +34,7 @@ fn token_if<'t>(green: &'t GreenNode, number: Option<usize>) -> Option<SyntaxTok
     }
 }
 
-// The element of a number, if there is one.
+// Returns the element with a number, if there is one.
 fn element_if<'t>(green: &'t GreenNode, number: Option<usize>) -> Option<SyntaxElement<'t>>
     requires { IsThereIfAny green.now number }
     ensures { option_map place_of result ≡ located green.now number }
@@ -46,14 +46,14 @@ fn element_if<'t>(green: &'t GreenNode, number: Option<usize>) -> Option<SyntaxE
 }
 
 impl<'t> SyntaxNode<'t> {
-    /// The node that this one lies in; None at the root.
+    /// Returns the parent; `None` for the root.
     pub fn parent(&self) -> Option<SyntaxNode<'t>>
         ensures { result ≡ parent_of self.now }
     {
         node_if(self.green, self.green.element(self.number).parent)
     }
 
-    /// The first node right below this one.
+    /// Returns the first child node.
     pub fn first_child(&self) -> Option<SyntaxNode<'t>>
         ensures { IsFirstChildNode self.now result }
     {
@@ -61,7 +61,7 @@ impl<'t> SyntaxNode<'t> {
         node_if(self.green, relatives::first_node(self.green, first))
     }
 
-    /// The last node right below this one.
+    /// Returns the last child node.
     pub fn last_child(&self) -> Option<SyntaxNode<'t>>
         ensures { IsLastChildNode self.now result }
     {
@@ -69,21 +69,21 @@ impl<'t> SyntaxNode<'t> {
         node_if(self.green, relatives::last_node(self.green, last))
     }
 
-    /// The first node or token right below this one.
+    /// Returns the first child, node or token.
     pub fn first_child_or_token(&self) -> Option<SyntaxElement<'t>>
         ensures { IsFirstChild self.now (option_map place_of result) }
     {
         element_if(self.green, relatives::first_child(self.green, self.number))
     }
 
-    /// The last node or token right below this one.
+    /// Returns the last child, node or token.
     pub fn last_child_or_token(&self) -> Option<SyntaxElement<'t>>
         ensures { IsLastChild self.now (option_map place_of result) }
     {
         element_if(self.green, relatives::last_child(self.green, self.number))
     }
 
-    /// The next node with the same parent.
+    /// Returns the next sibling node.
     pub fn next_sibling(&self) -> Option<SyntaxNode<'t>>
         ensures { IsNextSiblingNode self.now result }
     {
@@ -91,7 +91,7 @@ impl<'t> SyntaxNode<'t> {
         node_if(self.green, relatives::first_node(self.green, next))
     }
 
-    /// The previous node with the same parent.
+    /// Returns the previous sibling node.
     pub fn prev_sibling(&self) -> Option<SyntaxNode<'t>>
         ensures { IsPrevSiblingNode self.now result }
     {
@@ -99,21 +99,21 @@ impl<'t> SyntaxNode<'t> {
         node_if(self.green, relatives::last_node(self.green, prev))
     }
 
-    /// The next node or token with the same parent.
+    /// Returns the next sibling, node or token.
     pub fn next_sibling_or_token(&self) -> Option<SyntaxElement<'t>>
         ensures { IsNextSibling self.now (option_map place_of result) }
     {
         element_if(self.green, relatives::next_sibling(self.green, self.number))
     }
 
-    /// The previous node or token with the same parent.
+    /// Returns the previous sibling, node or token.
     pub fn prev_sibling_or_token(&self) -> Option<SyntaxElement<'t>>
         ensures { IsPrevSibling self.now (option_map place_of result) }
     {
         element_if(self.green, relatives::prev_sibling(self.green, self.number))
     }
 
-    /// The first token inside this node, at any depth.
+    /// Returns the first token inside the node, at any depth.
     pub fn first_token(&self) -> Option<SyntaxToken<'t>>
         ensures { IsFirstToken self.now result }
     {
@@ -125,7 +125,7 @@ impl<'t> SyntaxNode<'t> {
         )
     }
 
-    /// The last token inside this node, at any depth.
+    /// Returns the last token inside the node, at any depth.
     pub fn last_token(&self) -> Option<SyntaxToken<'t>>
         ensures { IsLastToken self.now result }
     {
@@ -139,7 +139,7 @@ impl<'t> SyntaxNode<'t> {
 }
 
 impl<'t> SyntaxToken<'t> {
-    /// The node that this token lies in.
+    /// Returns the parent.
     pub fn parent(&self) -> Option<SyntaxNode<'t>>
         ensures parent { result ≡ parent_of self.now }
         ensures some { is_some result ≡ true }
@@ -147,7 +147,7 @@ impl<'t> SyntaxToken<'t> {
         node_if(self.green, self.green.element(self.number).parent)
     }
 
-    /// The nodes that this token lies in, the innermost first.
+    /// Returns the nodes around the token, innermost first.
     pub fn parent_ancestors(&self) -> Ancestors<'t>
         ensures ancestors { result ≡ parent_ancestors_of self.now }
         ensures fits { length result < 2 ^ 64 }
@@ -158,7 +158,7 @@ impl<'t> SyntaxToken<'t> {
         }
     }
 
-    /// The next token of the tree.
+    /// Returns the next token of the tree.
     pub fn next_token(&self) -> Option<SyntaxToken<'t>>
         ensures { IsNextToken self.now result }
     {
@@ -169,7 +169,7 @@ impl<'t> SyntaxToken<'t> {
         )
     }
 
-    /// The previous token of the tree.
+    /// Returns the previous token of the tree.
     pub fn prev_token(&self) -> Option<SyntaxToken<'t>>
         ensures { IsPrevToken self.now result }
     {
@@ -179,14 +179,14 @@ impl<'t> SyntaxToken<'t> {
         )
     }
 
-    /// The next node or token with the same parent.
+    /// Returns the next sibling, node or token.
     pub fn next_sibling_or_token(&self) -> Option<SyntaxElement<'t>>
         ensures { IsNextSibling self.now (option_map place_of result) }
     {
         element_if(self.green, relatives::next_sibling(self.green, self.number))
     }
 
-    /// The previous node or token with the same parent.
+    /// Returns the previous sibling, node or token.
     pub fn prev_sibling_or_token(&self) -> Option<SyntaxElement<'t>>
         ensures { IsPrevSibling self.now (option_map place_of result) }
     {
@@ -195,7 +195,7 @@ impl<'t> SyntaxToken<'t> {
 }
 
 impl<'t> NodeOrToken<SyntaxNode<'t>, SyntaxToken<'t>> {
-    /// The node that this element lies in; None at the root.
+    /// Returns the parent; `None` for the root.
     pub fn parent(&self) -> Option<SyntaxNode<'t>>
         ensures { result ≡ parent_of (place_of self.now) }
     {
@@ -205,7 +205,7 @@ impl<'t> NodeOrToken<SyntaxNode<'t>, SyntaxToken<'t>> {
         }
     }
 
-    /// The nodes around the element, the innermost first; a node comes before them itself.
+    /// Returns the nodes around the element, innermost first; a node itself comes first.
     pub fn ancestors(&self) -> Ancestors<'t>
         ensures ancestors { result ≡ nodes_around self.now }
         ensures fits { length result < 2 ^ 64 }
@@ -216,7 +216,7 @@ impl<'t> NodeOrToken<SyntaxNode<'t>, SyntaxToken<'t>> {
         }
     }
 
-    /// The first token inside a node, at any depth; a token itself.
+    /// Returns the first token inside a node, at any depth; for a token, the token itself.
     pub fn first_token(&self) -> Option<SyntaxToken<'t>>
         ensures { IsFirstTokenOf self.now result }
     {
@@ -226,7 +226,7 @@ impl<'t> NodeOrToken<SyntaxNode<'t>, SyntaxToken<'t>> {
         }
     }
 
-    /// The last token inside a node, at any depth; a token itself.
+    /// Returns the last token inside a node, at any depth; for a token, the token itself.
     pub fn last_token(&self) -> Option<SyntaxToken<'t>>
         ensures { IsLastTokenOf self.now result }
     {
@@ -236,7 +236,7 @@ impl<'t> NodeOrToken<SyntaxNode<'t>, SyntaxToken<'t>> {
         }
     }
 
-    /// The next node or token with the same parent.
+    /// Returns the next sibling, node or token.
     pub fn next_sibling_or_token(&self) -> Option<SyntaxElement<'t>>
         ensures { IsNextSibling (place_of self.now) (option_map place_of result) }
     {
@@ -246,7 +246,7 @@ impl<'t> NodeOrToken<SyntaxNode<'t>, SyntaxToken<'t>> {
         }
     }
 
-    /// The previous node or token with the same parent.
+    /// Returns the previous sibling, node or token.
     pub fn prev_sibling_or_token(&self) -> Option<SyntaxElement<'t>>
         ensures { IsPrevSibling (place_of self.now) (option_map place_of result) }
     {

@@ -15,8 +15,8 @@ use rnix_green::{GreenNode, TextRange};
 use rnix_kinds::SyntaxKind;
 use std::marker::Model;
 
-/// A node of a tree, which it borrows. Where two nodes have one number, `==` compares their whole trees, also where they are one tree:
-/// `SyntaxNodePtr` compares and hashes in constant time.
+/// A node, which borrows its tree. `==` on two nodes with the same number compares their whole trees, even if both borrow the same one;
+/// a `SyntaxNodePtr` compares and hashes in constant time.
 #[derive(Clone, Drop)]
 pub struct SyntaxNode<'t> {
     pub(crate) green: &'t GreenNode,
@@ -36,14 +36,14 @@ impl<'t> Model for SyntaxNode<'t> {
 }
 
 impl<'t> SyntaxNode<'t> {
-    /// The node at the root of a tree.
+    /// Returns the root of a tree.
     pub fn new_root(green: &'t GreenNode) -> Self
         ensures { result ≡ record { tree = green.now; number = 0 } }
     {
         SyntaxNode { green, number: 0 }
     }
 
-    /// The same node once more. It copies a reference and a number, so nothing can be refused.
+    /// Returns a copy, without allocating: a reference and a number.
     pub fn clone(&self) -> Self
         ensures { result ≡ self.now }
     {
@@ -53,14 +53,14 @@ impl<'t> SyntaxNode<'t> {
         }
     }
 
-    /// The node's kind.
+    /// Returns the node's kind.
     pub fn kind(&self) -> SyntaxKind
         ensures { result ≡ (item_of self.now).kind }
     {
         self.green.element(self.number).kind
     }
 
-    /// The node's place in the text, in bytes.
+    /// Returns the node's range in the text, in bytes.
     pub fn text_range(&self) -> TextRange
         ensures { bounds_of result ≡ extent_of self.now }
     {
@@ -68,21 +68,21 @@ impl<'t> SyntaxNode<'t> {
         TextRange::new(element.start, element.end)
     }
 
-    /// The node's text, a slice of the tree's.
+    /// Returns the node's text, a slice of the tree's text.
     pub fn text(&self) -> &'t str
         ensures { result.now ≡ text_at self.now }
     {
         self.green.text_at(self.number)
     }
 
-    /// How many nodes and tokens are inside the node, itself not counted. It falls from a node to its children.
+    /// Returns the number of nodes and tokens inside the node, not counting itself. It is smaller for each child, so a recursion can end by it.
     pub fn inside_count(&self) -> usize
         ensures { result ≡ inside_count self.now }
     {
         self.green.element(self.number).below
     }
 
-    /// The nodes and tokens right below the node, in order.
+    /// Returns the children, nodes and tokens, in order.
     pub fn children_with_tokens(&self) -> SyntaxElementChildren<'t>
         ensures children { result ≡ children_of self.now }
         ensures fits { length result < 2 ^ 64 }
@@ -95,7 +95,7 @@ impl<'t> SyntaxNode<'t> {
         }
     }
 
-    /// The nodes right below the node, in order.
+    /// Returns the child nodes, in order.
     pub fn children(&self) -> SyntaxNodeChildren<'t>
         ensures children { result ≡ nodes_in (children_of self.now) }
         ensures fits { length result < 2 ^ 64 }
@@ -105,7 +105,7 @@ impl<'t> SyntaxNode<'t> {
         }
     }
 
-    /// The node and the nodes around it, the innermost first.
+    /// Returns the node and its ancestors, innermost first.
     pub fn ancestors(&self) -> Ancestors<'t>
         ensures ancestors { result ≡ ancestors_of self.now }
         ensures fits { length result < 2 ^ 64 }
@@ -117,7 +117,7 @@ impl<'t> SyntaxNode<'t> {
         }
     }
 
-    /// The node and all nodes and tokens inside it, in preorder.
+    /// Returns the node and everything inside it, nodes and tokens, in preorder.
     pub fn descendants_with_tokens(&self) -> DescendantsWithTokens<'t>
         ensures elements { result ≡ elements_of self.now }
         ensures fits { length result < 2 ^ 64 }
@@ -130,7 +130,7 @@ impl<'t> SyntaxNode<'t> {
         }
     }
 
-    /// The node and all nodes inside it, in preorder.
+    /// Returns the node and all nodes inside it, in preorder.
     pub fn descendants(&self) -> Descendants<'t>
         ensures nodes { result ≡ nodes_in (elements_of self.now) }
         ensures fits { length result < 2 ^ 64 }
@@ -140,7 +140,7 @@ impl<'t> SyntaxNode<'t> {
         }
     }
 
-    /// A walk that enters and leaves the node and all nodes inside it.
+    /// Returns a walk that enters and leaves the node and each node inside it.
     pub fn preorder(&self) -> Preorder<'t>
         ensures walk { result ≡ preorder_of self.now }
         ensures fits { length (node_events result) < 2 ^ 64 }
@@ -150,7 +150,7 @@ impl<'t> SyntaxNode<'t> {
         }
     }
 
-    /// A walk that enters and leaves the node and all that is inside it.
+    /// Returns a walk that enters and leaves the node and each node and token inside it.
     pub fn preorder_with_tokens(&self) -> PreorderWithTokens<'t>
         ensures walk { result ≡ preorder_of self.now }
         ensures count { element_count (part_at self.now) < 2 ^ 64 }

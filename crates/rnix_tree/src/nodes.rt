@@ -1,4 +1,4 @@
-//! Walks that give nodes alone.
+//! Iterators over nodes, without tokens.
 
 ghost use Rattle.std.specs.Prelude.{◌≡◌, ◌≤◌, length};
 ghost use Rattle.rnix_green.specs.Walk.{from_leaving, node_events};
@@ -8,7 +8,7 @@ use crate::node::SyntaxNode;
 use crate::walk::{PreorderWithTokens, SyntaxElementChildren};
 use std::marker::Model;
 
-/// The nodes right below a node, in order.
+/// An iterator over the child nodes, in order.
 #[derive(Drop)]
 pub struct SyntaxNodeChildren<'t> {
     pub(crate) elements: SyntaxElementChildren<'t>,
@@ -46,7 +46,7 @@ impl<'t> Iterator for SyntaxNodeChildren<'t> {
     }
 }
 
-/// A walk that enters and leaves each node, a node before what is inside it.
+/// A walk that enters and leaves each node, in preorder.
 #[derive(Drop)]
 pub struct Preorder<'t> {
     pub(crate) events: PreorderWithTokens<'t>,
@@ -64,7 +64,7 @@ impl<'t> Model for Preorder<'t> {
 }
 
 impl<'t> Preorder<'t> {
-    /// Goes on where the innermost node is left that was entered, without what is inside it. A walk that has entered none ends.
+    /// Skips the rest of the innermost node that was entered: the next event leaves it. A walk that has entered none ends.
     pub fn skip_subtree(&mut self)
         ensures walk { self.new ≡ from_leaving 0 self.old }
         ensures shorter { length (node_events self.new) ≤ length (node_events self.old) }

@@ -10,7 +10,7 @@ use crate::token::SyntaxToken;
 use rnix_green::{GreenNode, TextSize};
 use std::mem;
 
-/// The tokens at an offset: two where one ends and the other begins.
+/// The tokens at an offset: two if one ends where the other begins.
 #[derive(Clone, Debug, Drop)]
 pub enum TokenAtOffset<T> {
     None,
@@ -19,7 +19,7 @@ pub enum TokenAtOffset<T> {
 }
 
 impl<T> TokenAtOffset<T> {
-    /// What `f` makes of each token.
+    /// Maps each token by `f`.
     pub fn map<F: Fn(T) -> U, U>(self, f: F) -> TokenAtOffset<U>
         requires { ForTokens (F.pre f) self }
         ensures { MapsTokens (F.post f) self result }
@@ -55,7 +55,7 @@ impl<T: Drop> Iterator for TokenAtOffset<T> {
 }
 
 impl<T: Drop> TokenAtOffset<T> {
-    /// The token, or of two the left one.
+    /// Returns the token, or the left one of two.
     pub fn left_biased(self) -> Option<T>
         ensures { result ≡ left_of self }
     {
@@ -66,7 +66,7 @@ impl<T: Drop> TokenAtOffset<T> {
         }
     }
 
-    /// The token, or of two the right one.
+    /// Returns the token, or the right one of two.
     pub fn right_biased(self) -> Option<T>
         ensures { result ≡ right_of self }
     {
@@ -78,7 +78,7 @@ impl<T: Drop> TokenAtOffset<T> {
     }
 }
 
-// The token inside the node that has the byte before the offset. It is the last element that starts before the offset.
+// Returns the token inside the node that holds the byte before the offset: the last element that starts before the offset.
 fn token_before(green: &GreenNode, number: usize, offset: usize) -> usize
     requires node { IsNodeIn green.now number }
     requires low { (item green.now number).start < offset }
@@ -91,7 +91,7 @@ fn token_before(green: &GreenNode, number: usize, offset: usize) -> usize
 }
 
 impl<'t> SyntaxNode<'t> {
-    /// The tokens inside the node whose ranges hold the offset, their ends included. Empty tokens are left out.
+    /// Returns the tokens inside the node whose ranges, with their ends, contain the offset. Empty tokens are left out.
     pub fn token_at_offset(&self, offset: TextSize) -> TokenAtOffset<SyntaxToken<'t>>
         ensures { AreTouched self.now offset result }
     {
@@ -103,7 +103,7 @@ impl<'t> SyntaxNode<'t> {
         }
     }
 
-    // The tokens at an offset of the node, where it is not empty.
+    // Returns the tokens at an offset of the node, which is not empty.
     fn tokens_inside(&self, offset: TextSize) -> TokenAtOffset<SyntaxToken<'t>>
         requires some { (item_of self.now).start < (item_of self.now).end }
         requires low { (item_of self.now).start ≤ offset }

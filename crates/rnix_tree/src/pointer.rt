@@ -1,4 +1,4 @@
-//! Pointers to nodes, which borrow nothing.
+//! Pointers to nodes that borrow nothing.
 
 ghost use Rattle.std.specs.Prelude.{◌≡◌};
 ghost use Rattle.std.specs.Bool.{Decides};
@@ -10,8 +10,8 @@ use crate::node::SyntaxNode;
 use rnix_green::{Element, GreenNode, TextRange};
 use rnix_kinds::SyntaxKind;
 
-/// Where a node stands: its number in preorder, its kind and its range. It outlives the tree, and finds the node again in the same tree
-/// or an equal one. Comparing and hashing it takes constant time.
+/// A pointer to a node: its number in preorder, its kind and its range. It outlives the tree and finds the node again in the same tree
+/// or an equal one. It compares and hashes in constant time.
 #[derive(Clone, Copy, Debug, PartialEq, Eq, Hash)]
 pub struct SyntaxNodePtr {
     number: usize,
@@ -19,7 +19,7 @@ pub struct SyntaxNodePtr {
     range: TextRange,
 }
 
-// Whether the element is a node of the pointer's kind and range.
+// Returns whether the element is a node of the pointer's kind and range.
 fn fits(element: Element, pointer: SyntaxNodePtr) -> bool
     ensures { result ≡ fits (item_from element) (address_in pointer) }
 {
@@ -29,7 +29,7 @@ fn fits(element: Element, pointer: SyntaxNodePtr) -> bool
         && element.end == pointer.range.end()
 }
 
-// Whether the tree has a node of the pointer's number, kind and range.
+// Returns whether the tree has a node of the pointer's number, kind and range.
 fn has_node(green: &GreenNode, pointer: SyntaxNodePtr) -> bool
     ensures { Decides result (HasNode green.now (address_in pointer)) }
 {
@@ -37,7 +37,7 @@ fn has_node(green: &GreenNode, pointer: SyntaxNodePtr) -> bool
 }
 
 impl SyntaxNodePtr {
-    /// The pointer to a node.
+    /// Returns the pointer to a node.
     pub fn new(node: &SyntaxNode<'_>) -> Self
         ensures { address_in result ≡ address_of node.now }
     {
@@ -48,22 +48,22 @@ impl SyntaxNodePtr {
         }
     }
 
-    /// The node's kind.
+    /// Returns the node's kind.
     pub fn kind(self) -> SyntaxKind
         ensures { result ≡ (address_in self).kind }
     {
         self.kind
     }
 
-    /// The node's place in the text, in bytes.
+    /// Returns the node's range in the text, in bytes.
     pub fn text_range(self) -> TextRange
         ensures { bounds_of result ≡ (address_in self).extent }
     {
         self.range
     }
 
-    /// The node in the tree of `root`, whichever node of the tree that is: the node that the pointer was made of where the trees are
-    /// equal, and `None` where no node has the pointer's number, kind and range.
+    /// Returns the node in the tree of `root`, which may be any node of it: the node that the pointer was made from if the trees are
+    /// equal, and `None` if no node has the pointer's number, kind and range.
     pub fn try_to_node<'t>(self, root: &SyntaxNode<'t>) -> Option<SyntaxNode<'t>>
         ensures found { IsFoundIn root.now.tree (address_in self) result }
         ensures same { FindsItsNode root.now.tree (address_in self) result }

@@ -1,4 +1,4 @@
-//! What is printed of a tree.
+//! Printing trees.
 
 ghost use Rattle.std.specs.Prelude.{OnOk};
 ghost use Rattle.std.specs.Io.KnownBytes.{Appends};
@@ -13,13 +13,13 @@ use rnix_green::TextRange;
 use std::io;
 use std::io::Write;
 
-// How many levels are indented by one write.
+// The number of levels that one write indents.
 const LEVELS: usize = 32;
 
 // Two spaces for each of them.
 static SPACES: [u8; 64] = [b' '; 64];
 
-// How many bytes a range takes in decimal, at most, with `@` before it and the end of its line.
+// The greatest number of bytes of a range in decimal, with `@` before it and the end of its line.
 const RANGE_LEN: usize = 44;
 
 // Prints two spaces for each level.
@@ -58,7 +58,7 @@ fn write_line<W: Write>(element: &SyntaxElement<'_>, depth: usize, out: &mut W) 
     write_range(element.text_range(), out)
 }
 
-/// Prints the node and all that is inside it, in preorder, one line for each element: `NODE_LIST@4..9`, behind two spaces for each level.
+/// Prints the node and everything inside it, in preorder, one line for each element: `NODE_LIST@4..9`, indented by two spaces for each level.
 pub fn dump<W: Write>(node: &SyntaxNode<'_>, out: &mut W) -> io::Result<()>
     ensures { OnOk result (Appends (W.contents out.old) (W.contents out.new) (lines_of node.now)) }
 {

@@ -1,4 +1,4 @@
-//! What stands beside an element and inside it, by numbers.
+//! Siblings, children and tokens of an element, by their numbers.
 
 ghost use Rattle.std.specs.Prelude.{◌≤◌, ◌<◌, ◌+◌, length};
 ghost use Rattle.rnix_green.specs.Tree.{items_of, item};
@@ -7,7 +7,7 @@ ghost use Rattle.rnix_tree.specs.Around.{IsThereIfAny, IsOnWayTo, FirstNodeFrom,
 
 use rnix_green::GreenNode;
 
-/// The element behind this one with the same parent.
+/// Returns the next sibling.
 pub(crate) fn next_sibling(green: &GreenNode, number: usize) -> Option<usize>
     requires { number < length (items_of green.now) }
     ensures { IsFirst (IsSibling record { tree = green.now; number = number }) number result }
@@ -24,7 +24,7 @@ pub(crate) fn next_sibling(green: &GreenNode, number: usize) -> Option<usize>
     }
 }
 
-// The child of `parent` in which the element lies.
+// Returns the child of `parent` that contains the element.
 fn child_over(green: &GreenNode, parent: usize, number: usize) -> usize
     requires there { parent < length (items_of green.now) }
     requires low { parent < number }
@@ -41,7 +41,7 @@ fn child_over(green: &GreenNode, parent: usize, number: usize) -> usize
     child
 }
 
-/// The element before this one with the same parent.
+/// Returns the previous sibling.
 pub(crate) fn prev_sibling(green: &GreenNode, number: usize) -> Option<usize>
     requires { number < length (items_of green.now) }
     ensures { IsLast (IsSibling record { tree = green.now; number = number }) number result }
@@ -56,7 +56,7 @@ pub(crate) fn prev_sibling(green: &GreenNode, number: usize) -> Option<usize>
     }
 }
 
-/// The first element right below this one.
+/// Returns the first child.
 pub(crate) fn first_child(green: &GreenNode, number: usize) -> Option<usize>
     requires { number < length (items_of green.now) }
     ensures { IsFirst (IsChild record { tree = green.now; number = number }) number result }
@@ -68,7 +68,7 @@ pub(crate) fn first_child(green: &GreenNode, number: usize) -> Option<usize>
     }
 }
 
-/// The last element right below this one.
+/// Returns the last child.
 pub(crate) fn last_child(green: &GreenNode, number: usize) -> Option<usize>
     requires { number < length (items_of green.now) }
     ensures { IsLast (IsChild record { tree = green.now; number = number }) (length (items_of green.now)) result }
@@ -81,7 +81,7 @@ pub(crate) fn last_child(green: &GreenNode, number: usize) -> Option<usize>
     }
 }
 
-/// The first node among this element, if there is one, and its siblings behind it.
+/// Returns the first node among this element, if there is one, and its next siblings.
 pub(crate) fn first_node(green: &GreenNode, start: Option<usize>) -> Option<usize>
     requires { IsThereIfAny green.now start }
     ensures { FirstNodeFrom green.now start result }
@@ -96,7 +96,7 @@ pub(crate) fn first_node(green: &GreenNode, start: Option<usize>) -> Option<usiz
     None
 }
 
-/// The last node among this element, if there is one, and its siblings before it.
+/// Returns the last node among this element, if there is one, and its previous siblings.
 pub(crate) fn last_node(green: &GreenNode, start: Option<usize>) -> Option<usize>
     requires { IsThereIfAny green.now start }
     ensures { LastNodeFrom green.now start result }
@@ -111,7 +111,7 @@ pub(crate) fn last_node(green: &GreenNode, start: Option<usize>) -> Option<usize
     None
 }
 
-/// The first token among the elements from `from` up to `end`, which is not one of them.
+/// Returns the first token among the elements from `from` to `end`, exclusive.
 pub(crate) fn first_token(green: &GreenNode, from: usize, end: usize) -> Option<usize>
     requires { end ≤ length (items_of green.now) }
     ensures { IsFirstTokenAmong green.now from end result }
@@ -124,7 +124,7 @@ pub(crate) fn first_token(green: &GreenNode, from: usize, end: usize) -> Option<
     None
 }
 
-/// The last token among the elements from `from` up to `end`, which is not one of them.
+/// Returns the last token among the elements from `from` to `end`, exclusive.
 pub(crate) fn last_token(green: &GreenNode, from: usize, end: usize) -> Option<usize>
     requires { end ≤ length (items_of green.now) }
     ensures { IsLastTokenAmong green.now from end result }

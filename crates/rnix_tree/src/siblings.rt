@@ -1,4 +1,4 @@
-//! From an element along its siblings.
+//! Siblings of an element, in either direction.
 
 ghost use Rattle.std.specs.Prelude.{◌≡◌, ◌<◌, ◌^◌, length};
 ghost use Rattle.rnix_green.specs.Tree.{items_of};
@@ -14,7 +14,7 @@ use crate::token::SyntaxToken;
 use rnix_green::GreenNode;
 use std::marker::Model;
 
-/// Which way to go along siblings.
+/// The direction of a walk along siblings.
 #[derive(Clone, Copy, Debug, PartialEq, Eq, Hash)]
 pub enum Direction {
     /// Towards the end of the text.
@@ -23,7 +23,7 @@ pub enum Direction {
     Prev,
 }
 
-/// An element and its siblings on one side, nodes and tokens, the nearest first.
+/// An iterator over an element and its siblings on one side, nodes and tokens, nearest first.
 #[derive(Drop)]
 pub struct SiblingsWithTokens<'t> {
     green: &'t GreenNode,
@@ -61,7 +61,7 @@ impl<'t> SiblingsWithTokens<'t> {
     }
 }
 
-// The nearest sibling on one side.
+// Returns the nearest sibling on one side.
 fn sibling(green: &GreenNode, direction: Direction, number: usize) -> Option<usize>
     requires { number < length (items_of green.now) }
     ensures there { IsThereIfAny green.now result }
@@ -93,7 +93,7 @@ impl<'t> Iterator for SiblingsWithTokens<'t> {
     }
 }
 
-/// A node and those of its siblings on one side that are nodes, the nearest first.
+/// An iterator over a node and its sibling nodes on one side, nearest first.
 #[derive(Drop)]
 pub struct Siblings<'t> {
     elements: SiblingsWithTokens<'t>,
@@ -132,7 +132,7 @@ impl<'t> Iterator for Siblings<'t> {
 }
 
 impl<'t> SyntaxNode<'t> {
-    /// The node and its siblings on one side, nodes and tokens, the nearest first.
+    /// Returns the node and its siblings on one side, nodes and tokens, nearest first.
     pub fn siblings_with_tokens(&self, direction: Direction) -> SiblingsWithTokens<'t>
         ensures siblings { result ≡ siblings_of direction self.now }
         ensures fits { length result < 2 ^ 64 }
@@ -140,7 +140,7 @@ impl<'t> SyntaxNode<'t> {
         SiblingsWithTokens::new(self.green, direction, self.number)
     }
 
-    /// The node and those of its siblings on one side that are nodes, the nearest first.
+    /// Returns the node and its sibling nodes on one side, nearest first.
     pub fn siblings(&self, direction: Direction) -> Siblings<'t>
         ensures siblings { result ≡ nodes_in (siblings_of direction self.now) }
         ensures fits { length result < 2 ^ 64 }
@@ -150,7 +150,7 @@ impl<'t> SyntaxNode<'t> {
         }
     }
 
-    /// How many siblings, nodes and tokens, stand before the node.
+    /// Returns the number of siblings, nodes and tokens, before the node.
     pub fn index(&self) -> usize
         ensures { result ≡ index_of self.now }
     {
@@ -159,7 +159,7 @@ impl<'t> SyntaxNode<'t> {
 }
 
 impl<'t> SyntaxToken<'t> {
-    /// The token and its siblings on one side, nodes and tokens, the nearest first.
+    /// Returns the token and its siblings on one side, nodes and tokens, nearest first.
     pub fn siblings_with_tokens(&self, direction: Direction) -> SiblingsWithTokens<'t>
         ensures siblings { result ≡ siblings_of direction self.now }
         ensures fits { length result < 2 ^ 64 }
@@ -167,7 +167,7 @@ impl<'t> SyntaxToken<'t> {
         SiblingsWithTokens::new(self.green, direction, self.number)
     }
 
-    /// How many siblings, nodes and tokens, stand before the token.
+    /// Returns the number of siblings, nodes and tokens, before the token.
     pub fn index(&self) -> usize
         ensures { result ≡ index_of self.now }
     {
@@ -176,7 +176,7 @@ impl<'t> SyntaxToken<'t> {
 }
 
 impl<'t> NodeOrToken<SyntaxNode<'t>, SyntaxToken<'t>> {
-    /// The element and its siblings on one side, nodes and tokens, the nearest first.
+    /// Returns the element and its siblings on one side, nodes and tokens, nearest first.
     pub fn siblings_with_tokens(&self, direction: Direction) -> SiblingsWithTokens<'t>
         ensures siblings { result ≡ siblings_of direction (place_of self.now) }
         ensures fits { length result < 2 ^ 64 }
@@ -187,7 +187,7 @@ impl<'t> NodeOrToken<SyntaxNode<'t>, SyntaxToken<'t>> {
         }
     }
 
-    /// How many siblings, nodes and tokens, stand before the element.
+    /// Returns the number of siblings, nodes and tokens, before the element.
     pub fn index(&self) -> usize
         ensures { result ≡ index_of (place_of self.now) }
     {

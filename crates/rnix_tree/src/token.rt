@@ -8,7 +8,7 @@ use rnix_green::{GreenNode, TextRange};
 use rnix_kinds::SyntaxKind;
 use std::marker::Model;
 
-/// A token of a tree, which it borrows. Where two tokens have one number, `==` compares their whole trees, also where they are one tree.
+/// A token, which borrows its tree. `==` on two tokens with the same number compares their whole trees, even if both borrow the same one.
 #[derive(Clone, Drop)]
 pub struct SyntaxToken<'t> {
     pub(crate) green: &'t GreenNode,
@@ -28,7 +28,7 @@ impl<'t> Model for SyntaxToken<'t> {
 }
 
 impl<'t> SyntaxToken<'t> {
-    /// The same token once more. It copies a reference and a number, so nothing can be refused.
+    /// Returns a copy, without allocating: a reference and a number.
     pub fn clone(&self) -> Self
         ensures { result ≡ self.now }
     {
@@ -38,14 +38,14 @@ impl<'t> SyntaxToken<'t> {
         }
     }
 
-    /// The token's kind.
+    /// Returns the token's kind.
     pub fn kind(&self) -> SyntaxKind
         ensures { result ≡ (item_of self.now).kind }
     {
         self.green.element(self.number).kind
     }
 
-    /// The token's place in the text, in bytes.
+    /// Returns the token's range in the text, in bytes.
     pub fn text_range(&self) -> TextRange
         ensures { bounds_of result ≡ extent_of self.now }
     {
@@ -53,7 +53,7 @@ impl<'t> SyntaxToken<'t> {
         TextRange::new(element.start, element.end)
     }
 
-    /// The token's text, a slice of the tree's.
+    /// Returns the token's text, a slice of the tree's text.
     pub fn text(&self) -> &'t str
         ensures { result.now ≡ text_at self.now }
     {

@@ -1,4 +1,4 @@
-//! Walks over a tree, without memory and without recursion.
+//! Walks over a tree, without allocation or recursion.
 
 ghost use Rattle.std.specs.Prelude.{◌≡◌, ◌<◌, ◌≤◌, length};
 ghost use Rattle.rnix_green.specs.Tree.{items_of};
@@ -55,7 +55,7 @@ impl<'t> Iterator for SyntaxElementChildren<'t> {
     }
 }
 
-// Where a walk stands: what it does next, at which element.
+// The state of a walk: what it does next, at which element.
 #[derive(Clone, Copy)]
 pub(crate) enum Next {
     Enter(usize),
@@ -63,7 +63,7 @@ pub(crate) enum Next {
     Done,
 }
 
-/// A walk that enters and leaves each node and token, an element before what is inside it.
+/// A walk that enters and leaves each node and token, in preorder.
 #[derive(Drop)]
 pub struct PreorderWithTokens<'t> {
     green: &'t GreenNode,
@@ -98,7 +98,7 @@ impl<'t> PreorderWithTokens<'t> {
         }
     }
 
-    /// Goes on where the innermost element is left that was entered, without what is inside it. A walk that has entered none ends.
+    /// Skips the rest of the innermost element that was entered: the next event leaves it. A walk that has entered none ends.
     pub fn skip_subtree(&mut self)
         ensures walk { self.new ≡ from_leaving 0 self.old }
         ensures shorter { length self.new ≤ length self.old }
@@ -107,7 +107,7 @@ impl<'t> PreorderWithTokens<'t> {
     }
 }
 
-// What a walk does after it entered the element.
+// Returns what a walk does after it entered the element.
 fn after_enter(green: &GreenNode, number: usize) -> Next
     requires { number < length (items_of green.now) }
     ensures { result ≡ after_enter green.now number }
@@ -119,7 +119,7 @@ fn after_enter(green: &GreenNode, number: usize) -> Next
     }
 }
 
-// What a walk from the root does after it left the element.
+// Returns what a walk from the root does after it left the element.
 fn after_leave(green: &GreenNode, root: usize, number: usize) -> Next
     requires { number < length (items_of green.now) }
     ensures { result ≡ after_leave green.now root number }
@@ -138,7 +138,7 @@ fn after_leave(green: &GreenNode, root: usize, number: usize) -> Next
     }
 }
 
-// What a walk from the root does where what is inside the innermost open element is passed over.
+// Returns what a walk from the root does when the rest of the innermost open element is skipped.
 fn after_skip(green: &GreenNode, root: usize, next: Next) -> Next
     requires { IsNextWithin green.now root next }
     ensures { result ≡ after_skip green.now root next }
