@@ -9,28 +9,28 @@ from rnix.tree import Group, Node, Token, register
 
 
 class HasEntry(Node):
-    """A type of nodes with entries."""
+    """Nodes with entries: sets and `let`."""
 
     __slots__ = ()
 
     @property
     def entries(self) -> list[Entry]:
-        """The entries, in order."""
+        """Returns the entries, in order."""
         return self._children(_ENTRY)
 
     @property
     def attrpath_values(self) -> list[AttrpathValue]:
-        """The entries with a value, in order."""
+        """Returns the entries with a value, in order."""
         return self._children(_ATTRPATH_VALUE)
 
     @property
     def inherits(self) -> list[Inherit]:
-        """The entries that are taken from elsewhere, in order."""
+        """Returns the `inherit` entries, in order."""
         return self._children(_INHERIT)
 
 
 class Ident(Node):
-    """A name, as `a`."""
+    """An identifier: `a`."""
 
     __slots__ = ()
 
@@ -38,12 +38,12 @@ class Ident(Node):
 
     @property
     def ident_token(self) -> Token | None:
-        """The name itself."""
+        """Returns the token of the name."""
         return self._first_token("TOKEN_IDENT")
 
 
 class Attrpath(Node):
-    """The names that lead to a value in a set, as `a.b`."""
+    """An attribute path: `a.b`."""
 
     __slots__ = ()
 
@@ -51,12 +51,12 @@ class Attrpath(Node):
 
     @property
     def attrs(self) -> list[Attr]:
-        """The names, in order."""
+        """Returns the names, in order."""
         return self._children(_ATTR)
 
 
 class Dynamic(Node):
-    """A name that is computed, as `${a}`."""
+    """A dynamic attribute: `${a}`."""
 
     __slots__ = ()
 
@@ -64,22 +64,22 @@ class Dynamic(Node):
 
     @property
     def interpol_start_token(self) -> Token | None:
-        """The sign `${`."""
+        """Returns the `${` token."""
         return self._first_token("TOKEN_INTERPOL_START")
 
     @property
     def expr(self) -> Expr | None:
-        """What the name is computed from."""
+        """Returns the expression that computes the name."""
         return self._nth(_EXPR, 0)
 
     @property
     def interpol_end_token(self) -> Token | None:
-        """The sign `}`."""
+        """Returns the `}` token."""
         return self._first_token("TOKEN_INTERPOL_END")
 
 
 class CurPos(Node):
-    """The place where it stands, `__curPos`."""
+    """The current position: `__curPos`."""
 
     __slots__ = ()
 
@@ -87,12 +87,12 @@ class CurPos(Node):
 
     @property
     def cur_pos_token(self) -> Token | None:
-        """The word `__curPos`."""
+        """Returns the `__curPos` token."""
         return self._first_token("TOKEN_CUR_POS")
 
 
 class Select(Node):
-    """A value of a set, as `a.b` or `a.b or c`."""
+    """A selection from a set: `a.b` or `a.b or c`."""
 
     __slots__ = ()
 
@@ -100,32 +100,32 @@ class Select(Node):
 
     @property
     def expr(self) -> Expr | None:
-        """The set."""
+        """Returns the set."""
         return self._nth(_EXPR, 0)
 
     @property
     def dot_token(self) -> Token | None:
-        """The sign `.`."""
+        """Returns the `.` token."""
         return self._first_token("TOKEN_DOT")
 
     @property
     def attrpath(self) -> Attrpath | None:
-        """The names that lead to the value."""
+        """Returns the attribute path."""
         return self._nth(_ATTRPATH, 0)
 
     @property
     def or_token(self) -> Token | None:
-        """The word `or`."""
+        """Returns the `or` token."""
         return self._first_token("TOKEN_OR")
 
     @property
     def default_expr(self) -> Expr | None:
-        """What stands for the value where the set has none."""
+        """Returns the default after `or`."""
         return self._nth(_EXPR, 1)
 
 
 class HasAttr(Node):
-    """Whether a set has a value, as `a ? b`."""
+    """A test for an attribute: `a ? b`."""
 
     __slots__ = ()
 
@@ -133,22 +133,22 @@ class HasAttr(Node):
 
     @property
     def expr(self) -> Expr | None:
-        """The set."""
+        """Returns the set."""
         return self._nth(_EXPR, 0)
 
     @property
     def question_token(self) -> Token | None:
-        """The sign `?`."""
+        """Returns the `?` token."""
         return self._first_token("TOKEN_QUESTION")
 
     @property
     def attrpath(self) -> Attrpath | None:
-        """The names that lead to the value."""
+        """Returns the attribute path."""
         return self._nth(_ATTRPATH, 0)
 
 
 class Apply(Node):
-    """A function with its argument, as `f a`."""
+    """A function application: `f a`."""
 
     __slots__ = ()
 
@@ -156,17 +156,17 @@ class Apply(Node):
 
     @property
     def function(self) -> Expr | None:
-        """The function."""
+        """Returns the function."""
         return self._nth(_EXPR, 0)
 
     @property
     def argument(self) -> Expr | None:
-        """The argument."""
+        """Returns the argument."""
         return self._nth(_EXPR, 1)
 
 
 class BinOp(Node):
-    """Two operands with an operator between them, as `a + b`."""
+    """A binary operation: `a + b`."""
 
     __slots__ = ()
 
@@ -174,22 +174,22 @@ class BinOp(Node):
 
     @property
     def lhs(self) -> Expr | None:
-        """The operand on the left."""
+        """Returns the left operand."""
         return self._nth(_EXPR, 0)
 
     @property
     def operator(self) -> str | None:
-        """The operator."""
+        """Returns the operator."""
         return self._operator(BINARY_OPERATORS)
 
     @property
     def rhs(self) -> Expr | None:
-        """The operand on the right."""
+        """Returns the right operand."""
         return self._nth(_EXPR, 1)
 
 
 class UnaryOp(Node):
-    """An operator before its operand, as `-a`."""
+    """A prefix operation: `-a`."""
 
     __slots__ = ()
 
@@ -197,17 +197,17 @@ class UnaryOp(Node):
 
     @property
     def operator(self) -> str | None:
-        """The operator."""
+        """Returns the operator."""
         return self._operator(UNARY_OPERATORS)
 
     @property
     def expr(self) -> Expr | None:
-        """The operand."""
+        """Returns the operand."""
         return self._nth(_EXPR, 0)
 
 
 class IfElse(Node):
-    """One of two values, as `if a then b else c`."""
+    """A conditional: `if a then b else c`."""
 
     __slots__ = ()
 
@@ -215,37 +215,37 @@ class IfElse(Node):
 
     @property
     def if_token(self) -> Token | None:
-        """The word `if`."""
+        """Returns the `if` token."""
         return self._first_token("TOKEN_IF")
 
     @property
     def condition(self) -> Expr | None:
-        """What decides."""
+        """Returns the condition."""
         return self._nth(_EXPR, 0)
 
     @property
     def then_token(self) -> Token | None:
-        """The word `then`."""
+        """Returns the `then` token."""
         return self._first_token("TOKEN_THEN")
 
     @property
     def body(self) -> Expr | None:
-        """The value where the condition holds."""
+        """Returns the expression after `then`."""
         return self._nth(_EXPR, 1)
 
     @property
     def else_token(self) -> Token | None:
-        """The word `else`."""
+        """Returns the `else` token."""
         return self._first_token("TOKEN_ELSE")
 
     @property
     def else_body(self) -> Expr | None:
-        """The value where the condition does not hold."""
+        """Returns the expression after `else`."""
         return self._nth(_EXPR, 2)
 
 
 class Assert(Node):
-    """A value under a condition, as `assert a; b`."""
+    """An assertion: `assert a; b`."""
 
     __slots__ = ()
 
@@ -253,22 +253,22 @@ class Assert(Node):
 
     @property
     def assert_token(self) -> Token | None:
-        """The word `assert`."""
+        """Returns the `assert` token."""
         return self._first_token("TOKEN_ASSERT")
 
     @property
     def condition(self) -> Expr | None:
-        """The condition."""
+        """Returns the condition."""
         return self._nth(_EXPR, 0)
 
     @property
     def body(self) -> Expr | None:
-        """The value."""
+        """Returns the body."""
         return self._nth(_EXPR, 1)
 
 
 class With(Node):
-    """A value that may name what is in a set, as `with a; b`."""
+    """An expression with the attributes of a set in scope: `with a; b`."""
 
     __slots__ = ()
 
@@ -276,27 +276,27 @@ class With(Node):
 
     @property
     def with_token(self) -> Token | None:
-        """The word `with`."""
+        """Returns the `with` token."""
         return self._first_token("TOKEN_WITH")
 
     @property
     def namespace(self) -> Expr | None:
-        """The set."""
+        """Returns the set."""
         return self._nth(_EXPR, 0)
 
     @property
     def semicolon_token(self) -> Token | None:
-        """The sign `;`."""
+        """Returns the `;` token."""
         return self._first_token("TOKEN_SEMICOLON")
 
     @property
     def body(self) -> Expr | None:
-        """The value."""
+        """Returns the body."""
         return self._nth(_EXPR, 1)
 
 
 class Paren(Node):
-    """An expression in parentheses, as `(a)`."""
+    """An expression in parentheses: `(a)`."""
 
     __slots__ = ()
 
@@ -304,22 +304,22 @@ class Paren(Node):
 
     @property
     def l_paren_token(self) -> Token | None:
-        """The sign `(`."""
+        """Returns the `(` token."""
         return self._first_token("TOKEN_L_PAREN")
 
     @property
     def expr(self) -> Expr | None:
-        """The expression."""
+        """Returns the expression."""
         return self._nth(_EXPR, 0)
 
     @property
     def r_paren_token(self) -> Token | None:
-        """The sign `)`."""
+        """Returns the `)` token."""
         return self._first_token("TOKEN_R_PAREN")
 
 
 class List(Node):
-    """A list, as `[ a b ]`."""
+    """A list: `[ a b ]`."""
 
     __slots__ = ()
 
@@ -327,17 +327,17 @@ class List(Node):
 
     @property
     def l_brack_token(self) -> Token | None:
-        """The sign `[`."""
+        """Returns the `[` token."""
         return self._first_token("TOKEN_L_BRACK")
 
     @property
     def items(self) -> list[Expr]:
-        """The items, in order."""
+        """Returns the items, in order."""
         return self._children(_EXPR)
 
     @property
     def r_brack_token(self) -> Token | None:
-        """The sign `]`."""
+        """Returns the `]` token."""
         return self._first_token("TOKEN_R_BRACK")
 
 
@@ -350,12 +350,12 @@ class Root(Node):
 
     @property
     def expr(self) -> Expr | None:
-        """The expression that the text is."""
+        """Returns the expression of the text."""
         return self._nth(_EXPR, 0)
 
 
 class Error(Node):
-    """Text that could not be read, as `)` before all else."""
+    """An error node: text that fits nowhere, such as a `)` at the start."""
 
     __slots__ = ()
 
@@ -363,7 +363,7 @@ class Error(Node):
 
 
 class AttrSet(HasEntry):
-    """A set, as `{ a = b; }` or `rec { a = b; }`."""
+    """An attribute set: `{ a = b; }` or `rec { a = b; }`."""
 
     __slots__ = ()
 
@@ -371,22 +371,22 @@ class AttrSet(HasEntry):
 
     @property
     def rec_token(self) -> Token | None:
-        """The word `rec`."""
+        """Returns the `rec` token."""
         return self._first_token("TOKEN_REC")
 
     @property
     def l_curly_token(self) -> Token | None:
-        """The sign `{`."""
+        """Returns the `{` token."""
         return self._first_token("TOKEN_L_BRACE")
 
     @property
     def r_curly_token(self) -> Token | None:
-        """The sign `}`."""
+        """Returns the `}` token."""
         return self._first_token("TOKEN_R_BRACE")
 
 
 class AttrpathValue(Node):
-    """An entry with its value, as `a.b = c;`."""
+    """An entry with a value: `a.b = c;`."""
 
     __slots__ = ()
 
@@ -394,22 +394,22 @@ class AttrpathValue(Node):
 
     @property
     def attrpath(self) -> Attrpath | None:
-        """The names that lead to the value."""
+        """Returns the attribute path."""
         return self._nth(_ATTRPATH, 0)
 
     @property
     def assign_token(self) -> Token | None:
-        """The sign `=`."""
+        """Returns the `=` token."""
         return self._first_token("TOKEN_ASSIGN")
 
     @property
     def value(self) -> Expr | None:
-        """The value."""
+        """Returns the value."""
         return self._nth(_EXPR, 0)
 
 
 class Inherit(Node):
-    """Entries that are taken from around the set or from another one, as `inherit a b;` or `inherit (c) a b;`."""
+    """Inherited entries: `inherit a b;` or `inherit (c) a b;`."""
 
     __slots__ = ()
 
@@ -417,22 +417,22 @@ class Inherit(Node):
 
     @property
     def inherit_token(self) -> Token | None:
-        """The word `inherit`."""
+        """Returns the `inherit` token."""
         return self._first_token("TOKEN_INHERIT")
 
     @property
     def source(self) -> InheritFrom | None:
-        """The set that the entries are taken from."""
+        """Returns the source, if there is one."""
         return self._nth(_INHERIT_FROM, 0)
 
     @property
     def attrs(self) -> list[Attr]:
-        """The names of the entries, in order."""
+        """Returns the names, in order."""
         return self._children(_ATTR)
 
 
 class InheritFrom(Node):
-    """The set that entries are taken from, as `(c)`."""
+    """The source of inherited entries: `(c)`."""
 
     __slots__ = ()
 
@@ -440,22 +440,22 @@ class InheritFrom(Node):
 
     @property
     def l_paren_token(self) -> Token | None:
-        """The sign `(`."""
+        """Returns the `(` token."""
         return self._first_token("TOKEN_L_PAREN")
 
     @property
     def expr(self) -> Expr | None:
-        """The set."""
+        """Returns the set."""
         return self._nth(_EXPR, 0)
 
     @property
     def r_paren_token(self) -> Token | None:
-        """The sign `)`."""
+        """Returns the `)` token."""
         return self._first_token("TOKEN_R_PAREN")
 
 
 class LetIn(HasEntry):
-    """A value with entries that it may name, as `let a = b; in c`."""
+    """A `let` expression: `let a = b; in c`."""
 
     __slots__ = ()
 
@@ -463,22 +463,22 @@ class LetIn(HasEntry):
 
     @property
     def let_token(self) -> Token | None:
-        """The word `let`."""
+        """Returns the `let` token."""
         return self._first_token("TOKEN_LET")
 
     @property
     def in_token(self) -> Token | None:
-        """The word `in`."""
+        """Returns the `in` token."""
         return self._first_token("TOKEN_IN")
 
     @property
     def body(self) -> Expr | None:
-        """The value."""
+        """Returns the body."""
         return self._nth(_EXPR, 0)
 
 
 class LegacyLet(HasEntry):
-    """The entry `body` of entries that may name one another, as `let { body = a; }`."""
+    """An old `let` expression, whose value is its entry `body`: `let { body = a; }`."""
 
     __slots__ = ()
 
@@ -486,22 +486,22 @@ class LegacyLet(HasEntry):
 
     @property
     def let_token(self) -> Token | None:
-        """The word `let`."""
+        """Returns the `let` token."""
         return self._first_token("TOKEN_LET")
 
     @property
     def curly_open_token(self) -> Token | None:
-        """The sign `{`."""
+        """Returns the `{` token."""
         return self._first_token("TOKEN_L_BRACE")
 
     @property
     def curly_close_token(self) -> Token | None:
-        """The sign `}`."""
+        """Returns the `}` token."""
         return self._first_token("TOKEN_R_BRACE")
 
 
 class Lambda(Node):
-    """A function, as `a: b` or `{ a }: b`."""
+    """A function: `a: b` or `{ a }: b`."""
 
     __slots__ = ()
 
@@ -509,22 +509,22 @@ class Lambda(Node):
 
     @property
     def param(self) -> Param | None:
-        """The parameter."""
+        """Returns the parameter."""
         return self._nth(_PARAM, 0)
 
     @property
     def token_colon(self) -> Token | None:
-        """The sign `:`."""
+        """Returns the `:` token."""
         return self._first_token("TOKEN_COLON")
 
     @property
     def body(self) -> Expr | None:
-        """The value."""
+        """Returns the body."""
         return self._nth(_EXPR, 0)
 
 
 class IdentParam(Node):
-    """A parameter that is a name, as `a` in `a: b`."""
+    """A parameter that is an identifier: `a` in `a: b`."""
 
     __slots__ = ()
 
@@ -532,12 +532,12 @@ class IdentParam(Node):
 
     @property
     def ident(self) -> Ident | None:
-        """The name."""
+        """Returns the name."""
         return self._nth(_IDENT, 0)
 
 
 class Pattern(Node):
-    """A parameter that is a set, as `{ a, b ? c, ... }` in `{ a, b ? c, ... }: d`."""
+    """A set pattern: `{ a, b ? c, ... }` in `{ a, b ? c, ... }: d`."""
 
     __slots__ = ()
 
@@ -545,27 +545,27 @@ class Pattern(Node):
 
     @property
     def at_token(self) -> Token | None:
-        """The sign `@`, if it stands right below. In a tree that is read it stands in the `PatBind`."""
+        """Returns the `@`, if it is a child of the pattern. In a parsed tree it is in the `PatBind`."""
         return self._first_token("TOKEN_AT")
 
     @property
     def pat_entries(self) -> list[PatEntry]:
-        """The entries, in order."""
+        """Returns the entries, in order."""
         return self._children(_PAT_ENTRY)
 
     @property
     def ellipsis_token(self) -> Token | None:
-        """The sign `...`."""
+        """Returns the `...` token."""
         return self._first_token("TOKEN_ELLIPSIS")
 
     @property
     def pat_bind(self) -> PatBind | None:
-        """The name of the whole set."""
+        """Returns the name bound to the whole argument."""
         return self._nth(_PAT_BIND, 0)
 
 
 class PatEntry(Node):
-    """An entry of a parameter, as `a` or `b ? c`."""
+    """An entry of a pattern: `a` or `b ? c`."""
 
     __slots__ = ()
 
@@ -573,22 +573,22 @@ class PatEntry(Node):
 
     @property
     def ident(self) -> Ident | None:
-        """The name."""
+        """Returns the name."""
         return self._nth(_IDENT, 0)
 
     @property
     def question_token(self) -> Token | None:
-        """The sign `?`."""
+        """Returns the `?` token."""
         return self._first_token("TOKEN_QUESTION")
 
     @property
     def default(self) -> Expr | None:
-        """What stands for the entry where the argument has none."""
+        """Returns the default after `?`."""
         return self._nth(_EXPR, 1)
 
 
 class PatBind(Node):
-    """The name of a whole parameter, as `a @` in `a @ { b }: c`."""
+    """The name bound to the whole argument: `a @` in `a @ { b }: c`."""
 
     __slots__ = ()
 
@@ -596,12 +596,12 @@ class PatBind(Node):
 
     @property
     def ident(self) -> Ident | None:
-        """The name."""
+        """Returns the name."""
         return self._nth(_IDENT, 0)
 
 
 class Str(Node):
-    """A string, as `"a ${b}"` or `''a ${b}''`."""
+    """A string: `"a ${b}"` or `''a ${b}''`."""
 
     __slots__ = ()
 
@@ -609,7 +609,7 @@ class Str(Node):
 
 
 class Interpol(Node):
-    """A value inside a string or a path, as `${b}`."""
+    """An interpolation in a string or a path: `${b}`."""
 
     __slots__ = ()
 
@@ -617,12 +617,12 @@ class Interpol(Node):
 
     @property
     def expr(self) -> Expr | None:
-        """The value."""
+        """Returns the value."""
         return self._nth(_EXPR, 0)
 
 
 class Literal(Node):
-    """A number or an address, as `1`, `1.5` or `https://nixos.org`."""
+    """A number or a URI: `1`, `1.5` or `https://nixos.org`."""
 
     __slots__ = ()
 
@@ -630,12 +630,12 @@ class Literal(Node):
 
     @property
     def value(self) -> float | int | str | None:
-        """What it is: the first number with a point, else the first whole number, else the first address."""
+        """Returns the literal: the first float among the tokens, else the first integer, else the first URI."""
         return self._literal()
 
 
 class PathAbs(Node):
-    """A path from the root, as `/a/b`."""
+    """An absolute path: `/a/b`."""
 
     __slots__ = ()
 
@@ -643,7 +643,7 @@ class PathAbs(Node):
 
 
 class PathRel(Node):
-    """A path from the file's own directory, as `./a`."""
+    """A path relative to the file's directory: `./a`."""
 
     __slots__ = ()
 
@@ -651,7 +651,7 @@ class PathRel(Node):
 
 
 class PathHome(Node):
-    """A path from the user's directory, as `~/a`."""
+    """A path relative to the user's home directory: `~/a`."""
 
     __slots__ = ()
 
@@ -659,7 +659,7 @@ class PathHome(Node):
 
 
 class PathSearch(Node):
-    """A path that is searched for, as `<a>`."""
+    """A search path: `<a>`."""
 
     __slots__ = ()
 
@@ -667,7 +667,7 @@ class PathSearch(Node):
 
     @property
     def content(self) -> str | None:
-        """What the path says, as it is written."""
+        """Returns the token of the path."""
         return self._path()
 
 

@@ -1,4 +1,4 @@
-//! What holds of every text, as functions whose contracts are the statements. They compute nothing; calling one gives the proof its clauses.
+//! Laws that hold for every text. Each is the contract of a function that computes nothing; calling it gives the proof its clauses.
 
 pub use crate::whole::nodes_have_parts;
 pub use rnix_kinds::{longest, one_list};

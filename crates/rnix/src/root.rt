@@ -14,7 +14,7 @@ use rnix_tree::{GreenNode, SyntaxNode};
 use std::alloc::{AllocError, Global};
 use std::marker::Model;
 
-/// The tree of a text, and its errors in the order in which they were found. A text always has a tree.
+/// The tree of a text, and its errors in the order in which the parser found them. Every text has a tree.
 #[derive(Drop)]
 pub struct Parse {
     green: GreenNode,
@@ -40,7 +40,7 @@ impl Model for Parse {
 }
 
 impl<'t> Root<'t> {
-    /// Reads a text. Ranges are bytes of the text.
+    /// Parses a text. Ranges count its bytes.
     pub fn parse(alloc: Global, text: &str) -> Result<Parse, AllocError>
         ensures { IfOk result (λ read. IsParsed (tokens_of text.now) read.tree read.faults) }
     {
@@ -49,7 +49,7 @@ impl<'t> Root<'t> {
     }
 }
 
-// A copy of each error.
+// Returns a copy of each error.
 fn copies(alloc: Global, errors: &[ParseError]) -> Result<Vec<ParseError>, AllocError>
     ensures { IfOk result (λ copies. map fault_of copies.items ≡ map fault_of errors.now) }
 {
@@ -61,21 +61,21 @@ fn copies(alloc: Global, errors: &[ParseError]) -> Result<Vec<ParseError>, Alloc
 }
 
 impl Parse {
-    /// The node at the root.
+    /// Returns the root as an untyped node.
     pub fn syntax(&self) -> SyntaxNode<'_>
         ensures { result ≡ root_of self.now }
     {
         SyntaxNode::new_root(&self.green)
     }
 
-    /// The root.
+    /// Returns the root.
     pub fn tree(&self) -> Root<'_>
         ensures { result ≡ root_of self.now }
     {
         Root::new(SyntaxNode::new_root(&self.green))
     }
 
-    /// The errors, in the order in which they were found. Of what `Root::parse` gave there are none exactly if each node has the shape of its
+    /// Returns the errors, in the order in which they were found. Of what `Root::parse` gave there are none exactly if each node has the shape of its
     /// kind, and no two entries of a pattern have one name.
     pub fn errors(&self) -> &[ParseError]
         ensures { map fault_of result.now ≡ self.now.faults }
@@ -83,7 +83,7 @@ impl Parse {
         &self.errors
     }
 
-    /// The root, exactly if there is no error, and else the first error.
+    /// Returns the root if there are no errors, else the first error.
     pub fn ok(&self) -> Result<Root<'_>, &ParseError>
         ensures root { IfOk result (λ root. (self.now.faults ≡ []) × (root ≡ root_of self.now)) }
         ensures error { IfErr result (λ error. slice_get self.now.faults 0 ≡ Some (fault_of error.now)) }
@@ -94,7 +94,7 @@ impl Parse {
         }
     }
 
-    /// A copy of the tree and the errors.
+    /// Returns a copy of the tree and the errors.
     pub fn try_clone(&self) -> Result<Parse, AllocError>
         ensures { IfOk result (λ copy. copy ≡ self.now) }
     {

@@ -11,7 +11,7 @@ use rnix_kinds::SyntaxKind;
 use rnix_tree::{NodeOrToken, SyntaxNode, SyntaxToken};
 use std::marker::PhantomData;
 
-/// The nodes right below this one that cast to `T`, in order.
+/// Returns the child nodes that cast to `T`, in order.
 #[tactic(auto, using(crate::proofs::SelectLemmas::those_fit))]
 pub fn children<'t, T: AstNode<'t>>(parent: &SyntaxNode<'t>) -> AstChildren<'t, T>
     ensures children { those_of T.kinds result ≡ nodes_of T.kinds parent.now }
@@ -23,7 +23,7 @@ pub fn children<'t, T: AstNode<'t>>(parent: &SyntaxNode<'t>) -> AstChildren<'t, 
     }
 }
 
-/// The node of a number, from 0, among those right below this one that cast to `T`.
+/// Returns the child node with a number, from 0, among those that cast to `T`.
 pub fn child_at<'t, T: AstNode<'t>>(parent: &SyntaxNode<'t>, number: usize) -> Option<T>
     ensures { option_map T.node result ≡ child_of T.kinds number parent.now }
 {
@@ -38,21 +38,21 @@ pub fn child_at<'t, T: AstNode<'t>>(parent: &SyntaxNode<'t>, number: usize) -> O
     None
 }
 
-/// The first node right below this one that casts to `T`.
+/// Returns the first child node that casts to `T`.
 pub fn first_child<'t, T: AstNode<'t>>(parent: &SyntaxNode<'t>) -> Option<T>
     ensures { option_map T.node result ≡ child_of T.kinds 0 parent.now }
 {
     children::<T>(parent).next()
 }
 
-// Whether the kinds are equal.
+// Returns whether the kinds are equal.
 fn same_kind(a: SyntaxKind, b: SyntaxKind) -> bool
     ensures { result ≡ same_kind a b }
 {
     a == b
 }
 
-/// The first token right below this node that has the kind.
+/// Returns the first child token of the kind.
 pub fn first_token<'t>(parent: &SyntaxNode<'t>, kind: SyntaxKind) -> Option<SyntaxToken<'t>>
     ensures { result ≡ token_of (same_kind kind) parent.now }
 {
@@ -67,7 +67,7 @@ pub fn first_token<'t>(parent: &SyntaxNode<'t>, kind: SyntaxKind) -> Option<Synt
     None
 }
 
-/// The first token right below this node that casts to `T`.
+/// Returns the first child token that casts to `T`.
 pub fn child_token<'t, T: AstToken<'t>>(parent: &SyntaxNode<'t>) -> Option<T>
     ensures { option_map T.token result ≡ token_of T.kinds parent.now }
 {

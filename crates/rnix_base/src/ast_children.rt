@@ -4,7 +4,7 @@ use crate::node::AstNode;
 use rnix_tree::SyntaxNodeChildren;
 use std::marker::{Model, PhantomData};
 
-/// The nodes right below a node that cast to `T`, in order.
+/// An iterator over the child nodes that cast to `T`, in order.
 #[derive(Drop)]
 pub struct AstChildren<'t, T> {
     pub(crate) nodes: SyntaxNodeChildren<'t>,

@@ -1,11 +1,11 @@
-//! What the text inside a string stands for.
+//! The values of texts inside strings.
 
 ghost use Rattle.std.specs.Prelude.{◌≡◌, [], IfOk, MatchOption, string_bytes, true, false};
 ghost use Rattle.rnix_base.specs.Escapes.{unescaped, Begins, Escapes, IsFirstChar};
 
 use std::alloc::{AllocError, Global};
 
-// The first character, and the rest.
+// Returns the first character, and the rest.
 fn first_char(text: &str) -> Option<(&str, &str)>
     ensures { MatchOption result (text.now ≡ []) (λ p. IsFirstChar text.now p.0.now p.1.now) }
 {
@@ -14,7 +14,7 @@ fn first_char(text: &str) -> Option<(&str, &str)>
     Some(text.split_at(c.len_utf8()))
 }
 
-// What the first character stands for after a backslash, and the rest.
+// Returns the value of the first character after a backslash, and the rest.
 fn escape(text: &str) -> Option<(&str, &str)>
     ensures { MatchOption result (text.now ≡ []) (λ p. Escapes text.now p.0.now p.1.now) }
 {
@@ -28,7 +28,7 @@ fn escape(text: &str) -> Option<(&str, &str)>
     Some((value, rest))
 }
 
-// The value of the first piece of a string in `"`, and the rest. None where no piece fits.
+// Returns the value of the first piece of a string in `"`, and the rest; `None` if no piece fits.
 fn quoted_piece(text: &str) -> Option<(&str, &str)>
     ensures { MatchOption result (unescaped false text.now ≡ []) (λ p. Begins false text.now p.0.now p.1.now) }
 {
@@ -41,7 +41,7 @@ fn quoted_piece(text: &str) -> Option<(&str, &str)>
     }
 }
 
-// The value of the first piece of a string in `''`, and the rest. None where no piece fits.
+// Returns the value of the first piece of a string in `''`, and the rest; `None` if no piece fits.
 fn indented_piece(text: &str) -> Option<(&str, &str)>
     ensures { MatchOption result (unescaped true text.now ≡ []) (λ p. Begins true text.now p.0.now p.1.now) }
 {
@@ -60,7 +60,7 @@ fn indented_piece(text: &str) -> Option<(&str, &str)>
     first_char(text)
 }
 
-// The value of the first piece, and the rest. None where no piece fits.
+// Returns the value of the first piece, and the rest; `None` if no piece fits.
 fn first_piece(text: &str, multiline: bool) -> Option<(&str, &str)>
     ensures { MatchOption result (unescaped multiline text.now ≡ []) (λ p. Begins multiline text.now p.0.now p.1.now) }
 {
@@ -71,7 +71,7 @@ fn first_piece(text: &str, multiline: bool) -> Option<(&str, &str)>
     }
 }
 
-/// What the text inside a string stands for: of a string in `''` if it is multiline, and else of one in `"`.
+/// Returns the value of a text inside a string: in `''` if `multiline`, else in `"`.
 pub fn unescape(alloc: Global, text: &str, multiline: bool) -> Result<String, AllocError>
     ensures { IfOk result (λ value. string_bytes value ≡ unescaped multiline text.now) }
 {

@@ -16,12 +16,12 @@ const LIMIT: usize = 1_000_000;
 pub(crate) struct Indent {
     // The smallest indentation.
     least: usize,
-    // How many spaces the current line has, as long as it has nothing else.
+    // The number of spaces at the start of the current line, while it has nothing else.
     spaces: Option<usize>,
 }
 
 impl Indent {
-    // After one more symbol: a byte, or an interpolation.
+    // Returns the state after one more symbol: a byte, or an interpolation.
     fn after(self, symbol: Option<u8>) -> Indent
         ensures { result ≡ indent_after self symbol }
     {
@@ -42,7 +42,7 @@ impl Indent {
         }
     }
 
-    // After the bytes of a text.
+    // Returns the state after the bytes of a text.
     fn behind(self, bytes: &[u8]) -> Indent
         ensures { result ≡ indent_behind self bytes.now }
     {
@@ -54,7 +54,7 @@ impl Indent {
     }
 }
 
-/// The smallest indentation of a line that has text.
+/// Returns the smallest indentation of a line that has text.
 pub(crate) fn least_indentation<I>(parts: &[InterpolPart<&str, I>]) -> usize
     ensures { result ≡ (indent_of no_indent (borrowed parts.now)).least }
 {
@@ -71,7 +71,7 @@ pub(crate) fn least_indentation<I>(parts: &[InterpolPart<&str, I>]) -> usize
     indent.least
 }
 
-/// What is left of the lines of a text, and how many spaces its last line still loses. Each line loses up to `least`, the first one `left`.
+/// Returns the unindented lines of a text, and how many spaces its last line still loses. Each line loses up to `least`, the first one `left`.
 pub(crate) fn unindented(
     alloc: Global,
     text: &str,
@@ -95,14 +95,14 @@ pub(crate) fn unindented(
     Ok((kept, left))
 }
 
-// How many spaces the bytes begin with.
+// Returns the number of spaces that the bytes begin with.
 fn spaces_before(bytes: &[u8]) -> usize
     ensures { result ≡ spaces bytes.now }
 {
     bytes.iter().take_while(|b| **b == b' ').count()
 }
 
-/// What follows the first line feed, if nothing but spaces comes before it.
+/// Returns what follows the first line feed, if only spaces precede it.
 pub(crate) fn behind_blank(text: &str) -> Option<&str>
     ensures { MatchOption result (opens_blank text.now ≡ false) (λ rest. IsBehindBlank text.now rest.now) }
 {
@@ -115,7 +115,7 @@ pub(crate) fn behind_blank(text: &str) -> Option<&str>
     }
 }
 
-// The length of the bytes without the spaces at their end.
+// Returns the length of the bytes without the spaces at their end.
 fn trimmed_len(bytes: &[u8]) -> usize
     ensures value { result + suffix_len is_space bytes.now ≡ length bytes.now }
     ensures within { result ≤ length bytes.now }
@@ -127,7 +127,7 @@ fn trimmed_len(bytes: &[u8]) -> usize
     end
 }
 
-/// A text without the spaces after its last line feed, if nothing else follows it.
+/// Returns the text without the spaces after its last line feed, if nothing else follows it.
 pub(crate) fn without_last_spaces(text: &str) -> &str
     ensures { result.now ≡ without_last_spaces text.now }
 {

@@ -1,4 +1,4 @@
-//! Typed nodes and tokens: their traits, the children that they select, the tokens with a meaning of their own, and the operators.
+//! The traits of typed nodes and tokens, child selection, typed tokens, operators, and the values of strings.
 #![tactic(auto)]
 
 mod accessors;

@@ -15,7 +15,7 @@ use std::marker::Model;
 use std::num::{ParseFloatError, ParseIntError};
 use std::str::FromStr;
 
-/// What a literal is.
+/// The kinds of literals, with their tokens.
 #[derive(Clone, Debug, PartialEq, Eq, Hash, Drop)]
 pub enum LiteralKind<'t> {
     Float(Float<'t>),
@@ -23,7 +23,7 @@ pub enum LiteralKind<'t> {
     Uri(Uri<'t>),
 }
 
-/// A number with a point, as `1.5`.
+/// A floating-point number: `1.5`.
 #[derive(Clone, Debug, PartialEq, Eq, Hash, Drop)]
 pub struct Float<'t> {
     syntax: SyntaxToken<'t>,
@@ -82,14 +82,14 @@ impl<'t> fmt::Display for Float<'t> {
 }
 
 impl<'t> Float<'t> {
-    /// The number, as Rust parses its text: the nearest to it that an `f64` holds.
+    /// Returns the number as Rust parses its text, rounded to the nearest `f64`.
     pub fn value(&self) -> Result<f64, ParseFloatError>
         ensures { ⟦<f64 as FromStr>⟧.from_str_gives (text_at self.now) result }
     {
         self.syntax.text().parse()
     }
 
-    /// The same token once more.
+    /// Returns a copy, without allocating.
     pub fn clone(&self) -> Self
         ensures { result ≡ self.now }
     {
@@ -99,7 +99,7 @@ impl<'t> Float<'t> {
     }
 }
 
-/// A whole number, as `42`.
+/// An integer: `42`.
 #[derive(Clone, Debug, PartialEq, Eq, Hash, Drop)]
 pub struct Integer<'t> {
     syntax: SyntaxToken<'t>,
@@ -158,7 +158,7 @@ impl<'t> fmt::Display for Integer<'t> {
 }
 
 impl<'t> Integer<'t> {
-    /// The same token once more.
+    /// Returns a copy, without allocating.
     pub fn clone(&self) -> Self
         ensures { result ≡ self.now }
     {
@@ -167,7 +167,7 @@ impl<'t> Integer<'t> {
         }
     }
 
-    /// The number, as Rust parses its text.
+    /// Returns the number as Rust parses its text.
     pub fn value(&self) -> Result<i64, ParseIntError>
         ensures { ⟦<i64 as FromStr>⟧.from_str_gives (text_at self.now) result }
     {
@@ -175,7 +175,7 @@ impl<'t> Integer<'t> {
     }
 }
 
-/// An address that stands without quotes, as `https://nixos.org`.
+/// An unquoted URI: `https://nixos.org`.
 #[derive(Clone, Debug, PartialEq, Eq, Hash, Drop)]
 pub struct Uri<'t> {
     syntax: SyntaxToken<'t>,
@@ -234,7 +234,7 @@ impl<'t> fmt::Display for Uri<'t> {
 }
 
 impl<'t> Uri<'t> {
-    /// The same token once more.
+    /// Returns a copy, without allocating.
     pub fn clone(&self) -> Self
         ensures { result ≡ self.now }
     {
@@ -244,7 +244,7 @@ impl<'t> Uri<'t> {
     }
 }
 
-/// What the first literal right below the node is: the first number with a point, else the first whole number, else the first address.
+/// Returns the literal: the first float among the node's tokens, else the first integer, else the first URI.
 pub fn first_literal<'t>(parent: &SyntaxNode<'t>) -> Option<LiteralKind<'t>>
     ensures { result ≡ first_literal parent.now }
 {

@@ -13,16 +13,16 @@ pub trait AstNode<'t>: Sized + Drop {
 
     ghost node: { Self → Located };
 
-    /// Whether the kind is one of the type's.
+    /// Returns whether the kind is one of the type's.
     fn can_cast(kind: SyntaxKind) -> bool
         ensures { result ≡ kinds kind };
 
-    /// The node as a value of the type, exactly if its kind is one of the type's.
+    /// Casts a node; returns a value exactly if the node's kind is one of the type's.
     fn cast(syntax: SyntaxNode<'t>) -> Option<Self>
         ensures some { is_some result ≡ kinds (item_of syntax.entry).kind }
         ensures same { IfSome result (λ value. node value ≡ syntax.entry) };
 
-    /// The node that was cast. Its kind is one of the type's.
+    /// Returns the node that was cast. Its kind is one of the type's.
     fn syntax(&self) -> &SyntaxNode<'t>
         ensures node { result.now ≡ node self.now }
         ensures kind { kinds (item_of result.now).kind ≡ true };

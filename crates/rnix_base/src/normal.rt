@@ -8,7 +8,7 @@ use crate::indent::{behind_blank, least_indentation, unindented, without_last_sp
 use crate::parts::InterpolPart;
 use std::alloc::{AllocError, Global};
 
-// The parts without the spaces and the line feed that the first one begins with.
+// Returns the parts without the spaces and the line feed at the start of the first.
 fn opened<'t, I: Drop>(parts: Vec<InterpolPart<&'t str, I>>) -> Vec<InterpolPart<&'t str, I>>
     ensures { borrowed result.items ≡ opened (borrowed parts.entry.items) }
 {
@@ -25,7 +25,7 @@ fn opened<'t, I: Drop>(parts: Vec<InterpolPart<&'t str, I>>) -> Vec<InterpolPart
     parts
 }
 
-/// The parts of a string in `''`: without indentation, and with what their escapes stand for.
+/// Returns the parts of a string in `''` without indentation and with their escapes replaced.
 pub fn indented_parts<'t, I: Drop>(
     alloc: Global,
     parts: Vec<InterpolPart<&'t str, I>>,
@@ -58,7 +58,7 @@ pub fn indented_parts<'t, I: Drop>(
     Ok(normal)
 }
 
-/// The parts of a string in `"`, with what their escapes stand for.
+/// Returns the parts of a string in `"` with their escapes replaced.
 pub fn quoted_parts<'t, I: Drop>(
     alloc: Global,
     parts: Vec<InterpolPart<&'t str, I>>,

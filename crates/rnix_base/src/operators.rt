@@ -8,7 +8,7 @@ ghost use Rattle.rnix_base.specs.Operators.{binary_operator, unary_operator, Eac
 use rnix_kinds::SyntaxKind;
 use rnix_tree::{NodeOrToken, SyntaxNode};
 
-/// An operator between two operands.
+/// A binary operator.
 #[derive(Clone, Copy, Debug, PartialEq, Eq, Hash)]
 pub enum BinOpKind {
     Concat,
@@ -30,7 +30,7 @@ pub enum BinOpKind {
     PipeLeft,
 }
 
-/// An operator before its operand.
+/// A prefix operator.
 #[derive(Clone, Copy, Debug, PartialEq, Eq, Hash)]
 pub enum UnaryOpKind {
     Invert,
@@ -38,7 +38,7 @@ pub enum UnaryOpKind {
 }
 
 impl BinOpKind {
-    /// The operator that tokens of the kind stand for, if any. No two kinds stand for one operator.
+    /// Returns the operator of a kind of token, if it is one. No two kinds have the same operator.
     #[tactic(auto, using(crate::proofs::OperatorLemmas::binary_has_one_kind))]
     pub fn from_kind(kind: SyntaxKind) -> Option<Self>
         ensures operator { result ≡ binary_operator kind }
@@ -68,7 +68,7 @@ impl BinOpKind {
 }
 
 impl UnaryOpKind {
-    /// The operator that tokens of the kind stand for, if any. No two kinds stand for one operator.
+    /// Returns the operator of a kind of token, if it is one. No two kinds have the same operator.
     #[tactic(auto, using(crate::proofs::OperatorLemmas::unary_has_one_kind))]
     pub fn from_kind(kind: SyntaxKind) -> Option<Self>
         ensures operator { result ≡ unary_operator kind }
@@ -82,7 +82,7 @@ impl UnaryOpKind {
     }
 }
 
-/// The first operator between two operands among the tokens right below the node.
+/// Returns the first binary operator among the node's own tokens.
 pub fn first_binary(parent: &SyntaxNode<'_>) -> Option<BinOpKind>
     ensures { result ≡ first_operator binary_operator (tokens_in (children_of parent.now)) }
 {
@@ -97,7 +97,7 @@ pub fn first_binary(parent: &SyntaxNode<'_>) -> Option<BinOpKind>
     None
 }
 
-/// The first operator before an operand among the tokens right below the node.
+/// Returns the first prefix operator among the node's own tokens.
 pub fn first_unary(parent: &SyntaxNode<'_>) -> Option<UnaryOpKind>
     ensures { result ≡ first_operator unary_operator (tokens_in (children_of parent.now)) }
 {

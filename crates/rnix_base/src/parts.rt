@@ -14,11 +14,11 @@ use std::marker::{Model, PhantomData};
 pub enum InterpolPart<T, I> {
     /// A text.
     Literal(T),
-    /// An expression between `${` and `}`.
+    /// An interpolation: an expression between `${` and `}`.
     Interpolation(I),
 }
 
-/// The tokens right below a node that cast to `T`, and the nodes that cast to `I`, in order.
+/// An iterator over the child tokens that cast to `T` and the child nodes that cast to `I`, in order.
 #[derive(Drop)]
 pub struct InterpolParts<'t, T, I> {
     pub(crate) elements: SyntaxElementChildren<'t>,
@@ -66,7 +66,7 @@ impl<'t, T: AstToken<'t>, I: AstNode<'t>> Iterator for InterpolParts<'t, T, I> {
     }
 }
 
-/// The tokens right below this node that cast to `T`, and the nodes that cast to `I`, in order.
+/// Returns the child tokens that cast to `T` and the child nodes that cast to `I`, in order.
 #[tactic(auto, using(crate::proofs::SelectLemmas::parts_fit))]
 pub fn parts_in<'t, T: AstToken<'t>, I: AstNode<'t>>(
     parent: &SyntaxNode<'t>,
@@ -81,7 +81,7 @@ pub fn parts_in<'t, T: AstToken<'t>, I: AstNode<'t>>(
     }
 }
 
-/// The same parts, in a vector.
+/// Collects the parts in a vector.
 pub fn all_parts<'t, T: AstToken<'t>, I: AstNode<'t>>(
     alloc: Global,
     parent: &SyntaxNode<'t>,
@@ -96,7 +96,7 @@ pub fn all_parts<'t, T: AstToken<'t>, I: AstNode<'t>>(
     Ok(all)
 }
 
-/// The same parts, with the texts of the tokens.
+/// Collects the parts in a vector, with the texts of the tokens.
 pub fn text_parts<'t, T: AstToken<'t>, I: AstNode<'t>>(
     alloc: Global,
     parent: &SyntaxNode<'t>,
@@ -119,7 +119,7 @@ pub fn text_parts<'t, T: AstToken<'t>, I: AstNode<'t>>(
     Ok(all)
 }
 
-/// Whether the first token right below a node is `''`.
+/// Returns whether the node's first token is `''`.
 pub fn is_indented(parent: &SyntaxNode<'_>) -> bool
     ensures { result ≡ is_indented parent.now }
 {

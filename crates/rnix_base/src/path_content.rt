@@ -11,7 +11,7 @@ use rnix_kinds::SyntaxKind;
 use rnix_tree::SyntaxToken;
 use std::marker::Model;
 
-/// What a path says between its interpolations, as `./so` or `<so>`.
+/// The text of a path between its interpolations: `./so` or `<so>`.
 #[derive(Clone, Debug, PartialEq, Eq, Hash, Drop)]
 pub struct PathContent<'t> {
     syntax: SyntaxToken<'t>,
@@ -64,7 +64,7 @@ impl<'t> AstToken<'t> for PathContent<'t> {
 }
 
 impl<'t> PathContent<'t> {
-    /// The same token once more.
+    /// Returns a copy, without allocating.
     pub fn clone(&self) -> Self
         ensures { result ≡ self.now }
     {
@@ -73,14 +73,14 @@ impl<'t> PathContent<'t> {
         }
     }
 
-    /// The text, as it is written.
+    /// Returns the text as written.
     pub fn text(&self) -> &'t str
         ensures { result.now ≡ text_at self.now }
     {
         self.syntax.text()
     }
 
-    /// Which of the four kinds of path token it is.
+    /// Returns which of the four kinds of path token it is.
     pub fn path_kind(&self) -> SyntaxKind
         ensures kind { result ≡ (item_of self.now).kind }
         ensures path { is_path_token result ≡ true }
@@ -88,21 +88,21 @@ impl<'t> PathContent<'t> {
         self.syntax.kind()
     }
 
-    /// Whether the token is a TOKEN_PATH_ABS, as `/so`.
+    /// Returns whether the token is a TOKEN_PATH_ABS, such as `/so`.
     pub fn is_absolute(&self) -> bool
         ensures { result ≡ same_kind k.TOKEN_PATH_ABS (item_of self.now).kind }
     {
         self.path_kind() == SyntaxKind::TOKEN_PATH_ABS
     }
 
-    /// Whether the token is a TOKEN_PATH_REL, as `./so`.
+    /// Returns whether the token is a TOKEN_PATH_REL, such as `./so`.
     pub fn is_relative(&self) -> bool
         ensures { result ≡ same_kind k.TOKEN_PATH_REL (item_of self.now).kind }
     {
         self.path_kind() == SyntaxKind::TOKEN_PATH_REL
     }
 
-    /// Whether the token is a TOKEN_PATH_HOME, as `~/so`. After an interpolation a token may be of another kind than its path, as `~/b` in
+    /// Returns whether the token is a TOKEN_PATH_HOME, such as `~/so`. After an interpolation a token may have another kind than its path, as `~/b` in
     /// `./a${x}~/b`.
     pub fn is_home(&self) -> bool
         ensures { result ≡ same_kind k.TOKEN_PATH_HOME (item_of self.now).kind }
@@ -110,7 +110,7 @@ impl<'t> PathContent<'t> {
         self.path_kind() == SyntaxKind::TOKEN_PATH_HOME
     }
 
-    /// Whether the token is a TOKEN_PATH_SEARCH, as `<so>`.
+    /// Returns whether the token is a TOKEN_PATH_SEARCH, such as `<so>`.
     pub fn is_search(&self) -> bool
         ensures { result ≡ same_kind k.TOKEN_PATH_SEARCH (item_of self.now).kind }
     {

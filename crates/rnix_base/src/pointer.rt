@@ -8,13 +8,13 @@ use crate::node::AstNode;
 use rnix_tree::{SyntaxNode, SyntaxNodePtr};
 use std::marker::PhantomData;
 
-/// What names a type of nodes without the lifetime of their tree.
+/// A name of a type of nodes that does not mention the lifetime of their tree.
 pub trait Pointee<'t> {
-    /// The type, in a tree of that lifetime.
+    /// The type of nodes of a tree with that lifetime.
     type Node: AstNode<'t>;
 }
 
-/// Where a typed node stands: a `SyntaxNodePtr` that keeps the type.
+/// A pointer to a typed node: a `SyntaxNodePtr` with the type.
 #[derive_where(Clone, Copy, Debug, PartialEq, Eq, Hash)]
 pub struct AstPtr<T> {
     raw: SyntaxNodePtr,
@@ -22,7 +22,7 @@ pub struct AstPtr<T> {
 }
 
 impl<T> AstPtr<T> {
-    /// The pointer to a typed node.
+    /// Returns the pointer to a typed node.
     pub fn new<'t>(node: &T::Node) -> Self
     where
         T: Pointee<'t>,
@@ -35,14 +35,14 @@ impl<T> AstPtr<T> {
         }
     }
 
-    /// The pointer without the type.
+    /// Returns the untyped pointer.
     pub fn syntax_node_ptr(self) -> SyntaxNodePtr
         ensures { address_in result ≡ address_under self }
     {
         self.raw
     }
 
-    /// The pointer as one of another type, exactly if the node's kind is one of that type's.
+    /// Casts the pointer; returns a value exactly if the node's kind is one of the other type's.
     pub fn cast<'t, U: Pointee<'t>>(self) -> Option<AstPtr<U>>
         ensures some { is_some result ≡ U.Node.kinds (address_under self).kind }
         ensures same { IfSome result (λ pointer. address_under pointer ≡ address_under self) }
@@ -57,8 +57,8 @@ impl<T> AstPtr<T> {
         }
     }
 
-    /// The typed node in the tree of `root`, whichever node of the tree that is: the node that the pointer was made of where the trees are
-    /// equal, and `None` where no node of the type has the pointer's number, kind and range.
+    /// Returns the typed node in the tree of `root`, which may be any node of it: the node that the pointer was made from if the trees are
+    /// equal, and `None` if no node of the type has the pointer's number, kind and range.
     pub fn try_to_node<'t>(self, root: &SyntaxNode<'t>) -> Option<T::Node>
     where
         T: Pointee<'t>,

@@ -13,16 +13,16 @@ pub trait AstToken<'t>: Sized + Drop {
 
     ghost token: { Self → Located };
 
-    /// Whether the kind is one of the type's.
+    /// Returns whether the kind is one of the type's.
     fn can_cast(kind: SyntaxKind) -> bool
         ensures { result ≡ kinds kind };
 
-    /// The token as a value of the type, exactly if its kind is one of the type's.
+    /// Casts a token; returns a value exactly if the token's kind is one of the type's.
     fn cast(syntax: SyntaxToken<'t>) -> Option<Self>
         ensures some { is_some result ≡ kinds (item_of syntax.entry).kind }
         ensures same { IfSome result (λ value. token value ≡ syntax.entry) };
 
-    /// The token that was cast. Its kind is one of the type's.
+    /// Returns the token that was cast. Its kind is one of the type's.
     fn syntax(&self) -> &SyntaxToken<'t>
         ensures token { result.now ≡ token self.now }
         ensures kind { kinds (item_of result.now).kind ≡ true };

@@ -71,7 +71,7 @@ impl<'t> fmt::Display for Whitespace<'t> {
 }
 
 impl<'t> Whitespace<'t> {
-    /// The same token once more.
+    /// Returns a copy, without allocating.
     pub fn clone(&self) -> Self
         ensures { result ≡ self.now }
     {
@@ -81,7 +81,7 @@ impl<'t> Whitespace<'t> {
     }
 }
 
-/// A comment, as `# so` or `/* so */`.
+/// A comment: `# so` or `/* so */`.
 #[derive(Clone, Debug, PartialEq, Eq, Hash, Drop)]
 pub struct Comment<'t> {
     syntax: SyntaxToken<'t>,
@@ -139,14 +139,14 @@ impl<'t> fmt::Display for Comment<'t> {
     }
 }
 
-// What stands between `/*` and `*/` of a block comment, if the text is one.
+// Returns the text between `/*` and `*/`, if the text is a block comment.
 fn inside_block(text: &str) -> Option<&str>
     ensures { MatchOption result ((said : List ℕ) → ¬ IsBlock text.now said) (λ said. IsBlock text.now said.now) }
 {
     text.strip_prefix("/*")?.strip_suffix("*/")
 }
 
-// What a comment says.
+// Returns the text of comments.
 fn said(text: &str) -> &str
     ensures { Says text.now result.now }
 {
@@ -160,7 +160,7 @@ fn said(text: &str) -> &str
 }
 
 impl<'t> Comment<'t> {
-    /// The same token once more.
+    /// Returns a copy, without allocating.
     pub fn clone(&self) -> Self
         ensures { result ≡ self.now }
     {
@@ -169,7 +169,7 @@ impl<'t> Comment<'t> {
         }
     }
 
-    /// What the comment says: the text after `#`, or between `/*` and `*/`. A text that is neither is given whole.
+    /// Returns the text after `#`, or between `/*` and `*/`. A text that is neither is returned whole.
     pub fn text(&self) -> &'t str
         ensures { Says (text_at self.now) result.now }
     {
@@ -177,7 +177,7 @@ impl<'t> Comment<'t> {
     }
 }
 
-/// The text of a string between its quotes and interpolations, as it is written.
+/// The content of a string between its quotes and interpolations, as written.
 #[derive(Clone, Debug, PartialEq, Eq, Hash, Drop)]
 pub struct StrContent<'t> {
     syntax: SyntaxToken<'t>,
@@ -236,7 +236,7 @@ impl<'t> fmt::Display for StrContent<'t> {
 }
 
 impl<'t> StrContent<'t> {
-    /// The same token once more.
+    /// Returns a copy, without allocating.
     pub fn clone(&self) -> Self
         ensures { result ≡ self.now }
     {

@@ -1,4 +1,4 @@
-//! Building a tree from left to right.
+//! The builder of trees, from left to right.
 
 ghost use Rattle.std.specs.Prelude.{◌≡◌, ◌<◌, length, map, IsTrue, IfOk, OnOk, OnErr, slice_index_or};
 ghost use Rattle.rnix_green.specs.Forest.{tree_count};
@@ -14,14 +14,14 @@ use rnix_kinds::SyntaxKind;
 use std::alloc::{AllocError, Global};
 use std::marker::Model;
 
-// An open node, and how many finished trees stand before its first child.
+// An open node, and the number of finished trees before its first child.
 #[derive(Clone, Copy)]
 pub(crate) struct OpenNode {
     pub(crate) kind: SyntaxKind,
     pub(crate) place: usize,
 }
 
-/// How many trees were finished at some moment: a place at which a node can be opened later.
+/// A point in the children built so far, before which a node can be opened later.
 #[derive(Clone, Copy, Debug)]
 pub struct Checkpoint {
     pub(crate) place: usize,
@@ -37,10 +37,10 @@ impl Model for Checkpoint {
     ghost inverse = { λ n. record { place = n } };
 }
 
-/// Builds a tree. A call that is refused memory leaves the builder as it was. A text of 2^32 bytes or as many elements are refused so.
+/// Builds a tree. A call that is refused memory leaves the builder unchanged. A text of 2^32 bytes, or that many elements, is refused in the same way.
 #[derive(Drop)]
 pub struct GreenNodeBuilder {
-    // The elements of the finished trees: each node stands behind its children.
+    // The elements of the finished trees, each node after its children.
     entries: Vec<Packed>,
     text: String,
     pending: Vec<OpenNode>,
@@ -63,7 +63,7 @@ impl Model for GreenNodeBuilder {
     ghost invariant = { λ b. IsBuilder (string_bytes b.text) b.entries.items b.pending.items b.starts.items };
 }
 
-// Whether the last tree is a node.
+// Returns whether the last tree is a node.
 fn ends_with_node(entries: &[Packed]) -> bool
     ensures { result ≡ is_node_last (map entry_of entries.now) }
 {
@@ -73,7 +73,7 @@ fn ends_with_node(entries: &[Packed]) -> bool
     }
 }
 
-/// The entry at which the tree of that place begins, or the end where there is none.
+/// Returns the entry at which a finished tree begins, or the end if there is no such tree.
 pub(crate) fn start_at(starts: &[usize], place: usize, end: usize) -> usize
     ensures { result ≡ slice_index_or starts.now place end }
 {
@@ -81,7 +81,7 @@ pub(crate) fn start_at(starts: &[usize], place: usize, end: usize) -> usize
 }
 
 impl GreenNodeBuilder {
-    /// A builder of no trees.
+    /// Returns a builder without trees.
     pub fn new(alloc: Global) -> Self
         ensures { result ≡ blank }
     {
@@ -93,7 +93,7 @@ impl GreenNodeBuilder {
         }
     }
 
-    /// Makes room for so many more elements, and so many more bytes of text.
+    /// Reserves room for more elements and more bytes of text.
     pub fn reserve(&mut self, elements: usize, bytes: usize) -> Result<(), AllocError>
         ensures { self.new ≡ self.old }
     {
@@ -101,7 +101,7 @@ impl GreenNodeBuilder {
         self.text.reserve_exact(bytes)
     }
 
-    /// Opens a node behind the finished trees.
+    /// Opens a node after the finished trees.
     #[inline(always)]
     pub fn start_node(&mut self, kind: SyntaxKind) -> Result<(), AllocError>
         ensures ok { OnOk result (self.new ≡ node_opened kind (tree_count self.old.finished) self.old) }
@@ -130,7 +130,7 @@ impl GreenNodeBuilder {
         Ok(())
     }
 
-    /// The place behind the finished trees.
+    /// Returns the point after the finished trees.
     pub fn checkpoint(&self) -> Checkpoint
         ensures place { result ≡ tree_count self.now.finished }
         ensures inside { IsTrue (is_checkpoint_of self.now result) }
@@ -155,7 +155,7 @@ impl GreenNodeBuilder {
         Ok(())
     }
 
-    /// Closes the innermost open node over all trees from its place on.
+    /// Closes the innermost open node: its children are the trees finished since it was opened.
     #[inline(always)]
     pub fn finish_node(&mut self) -> Result<(), AllocError>
         requires { 0 < length self.old.open_nodes }
@@ -174,7 +174,7 @@ impl GreenNodeBuilder {
         Ok(())
     }
 
-    /// Adds a node over one leaf, as `start_node`, `token` and `finish_node` do.
+    /// Adds a node with one leaf, like `start_node`, `token` and `finish_node` together.
     #[inline(always)]
     pub fn leaf_node(
         &mut self,
@@ -198,14 +198,14 @@ impl GreenNodeBuilder {
         Ok(())
     }
 
-    /// How many nodes are open.
+    /// Returns the number of open nodes.
     pub fn open_nodes(&self) -> usize
         ensures { result ≡ length self.now.open_nodes }
     {
         self.pending.len()
     }
 
-    /// Whether a node may be opened at the checkpoint: not before the first child of an open node.
+    /// Returns whether a node may be opened at the checkpoint, which must not precede the first child of an open node.
     pub fn is_valid_checkpoint(&self, checkpoint: Checkpoint) -> bool
         ensures { result ≡ is_checkpoint_of self.now checkpoint }
     {
@@ -216,7 +216,7 @@ impl GreenNodeBuilder {
             }
     }
 
-    /// Whether no node is open and the one finished tree is a node.
+    /// Returns whether no node is open and the only finished tree is a node.
     pub fn is_complete(&self) -> bool
         ensures { result ≡ is_complete_of self.now }
     {
@@ -229,7 +229,7 @@ impl GreenNodeBuilder {
         ends_with_node(&self.entries)
     }
 
-    /// The finished tree. Where memory is refused there is neither tree nor builder.
+    /// Returns the finished tree. It consumes the builder, also if memory is refused.
     pub fn finish(self) -> Result<GreenNode, AllocError>
         requires { IsTrue (is_complete_of self) }
         ensures { IfOk result (λ tree. forest_of tree ≡ self.finished) }

@@ -1,4 +1,4 @@
-//! A tree that does not change: its elements in preorder beside one text.
+//! Immutable trees: a list of elements in preorder, and one text.
 
 ghost use Rattle.std.specs.Bool.{Decides};
 ghost use Rattle.std.specs.Prelude.{◌≡◌};
@@ -17,11 +17,11 @@ pub struct Element {
     pub start: usize,
     pub end: usize,
     pub parent: Option<usize>,
-    /// How many elements are inside.
+    /// Returns the number of elements inside.
     pub below: usize,
 }
 
-/// A whole tree. Nodes and tokens borrow it.
+/// An immutable tree, which nodes and tokens borrow.
 #[derive(Drop)]
 pub struct GreenNode {
     elements: Vec<Packed>,
@@ -43,14 +43,14 @@ impl Model for GreenNode {
     ghost invariant = { λ g. IsKept (tree_from g.elements.items (string_bytes g.text)) g.elements.items (string_bytes g.text) };
 }
 
-// The parent that is kept of the element of a number; the first has none.
+// Returns the stored parent of an element; the first element has none.
 fn parent_kept(number: usize, parent: usize) -> Option<usize>
     ensures { result ≡ parent_kept number parent }
 {
     if number == 0 { None } else { Some(parent) }
 }
 
-// Whether two lists hold equal elements.
+// Returns whether two lists hold equal elements.
 fn same_elements(a: &[Packed], b: &[Packed]) -> bool
     ensures { Decides result (a.now ≡ b.now) }
 {
@@ -69,7 +69,7 @@ impl GreenNode {
         GreenNode { elements, text }
     }
 
-    /// A copy of the whole tree.
+    /// Returns a copy of the tree.
     pub fn try_clone(&self) -> Result<GreenNode, AllocError>
         ensures { IfOk result (λ tree. tree ≡ self.now) }
     {
@@ -78,7 +78,7 @@ impl GreenNode {
         Ok(GreenNode { elements, text })
     }
 
-    // Where the element of a number starts, or the end of the text where there is none.
+    // Returns where an element starts, or the end of the text if there is no such element.
     fn start_at(&self, number: usize) -> usize
         ensures { result ≡ start_at self.now number }
     {
@@ -89,7 +89,7 @@ impl GreenNode {
         }
     }
 
-    /// The element of a number.
+    /// Returns the element with a number in preorder.
     pub fn element(&self, number: usize) -> Element
         requires { number < length (items_of self.now) }
         ensures is { item_from result ≡ item self.now number }
@@ -110,14 +110,14 @@ impl GreenNode {
         }
     }
 
-    /// Whether the trees are equal as values.
+    /// Returns whether the trees are equal as values.
     pub fn is_same(&self, other: &GreenNode) -> bool
         ensures { Decides result (self.now ≡ other.now) }
     {
         self.text == other.text && same_elements(&self.elements, &other.elements)
     }
 
-    /// Where the elements from `from` up to `end` begin to start at the offset or behind it.
+    /// Returns the first of the elements from `from` to `end` that starts at the offset or after it.
     pub fn first_from(&self, from: usize, end: usize, offset: usize) -> usize
         requires ordered { from ≤ end }
         requires there { end ≤ length (items_of self.now) }
@@ -129,7 +129,7 @@ impl GreenNode {
         from + self.elements[from..end].partition_point(|element| element.place() < offset)
     }
 
-    /// How many elements the tree has.
+    /// Returns the number of elements in the tree.
     pub fn element_count(&self) -> usize
         ensures value { result ≡ length (items_of self.now) }
         ensures fits { result < 2 ^ 64 }
@@ -137,7 +137,7 @@ impl GreenNode {
         self.elements.len()
     }
 
-    /// The text of the element of a number.
+    /// Returns the text of the element with a number in preorder.
     pub fn text_at(&self, number: usize) -> &str
         requires { number < length (items_of self.now) }
         ensures { result.now ≡ text_at record { tree = self.now; number = number } }

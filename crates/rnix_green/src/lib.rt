@@ -1,4 +1,4 @@
-//! Syntax trees as data: a builder, and a tree that does not change.
+//! Syntax trees as data: a builder, and the immutable tree that it makes.
 #![tactic(auto)]
 
 mod builder;

@@ -1,4 +1,4 @@
-//! An element as a tree keeps it, in 16 bytes.
+//! Elements as a tree stores them, in 16 bytes.
 
 ghost use Rattle.std.specs.Prelude.{◌≡◌, ◌+◌, ◌<◌, ◌≤◌, OnOk, OnErr};
 ghost use Rattle.rnix_green.specs.Equality.{same_kind};
@@ -8,7 +8,7 @@ ghost use Rattle.rnix_green.specs.Packed.{limit, word_of, packed, place_in, pare
 use rnix_kinds::SyntaxKind;
 use std::alloc::AllocError;
 
-/// A text has fewer bytes and a tree fewer elements: what has more is refused as memory is.
+/// The limit on bytes of a text and elements of a tree. What reaches it is refused as if memory had run out.
 const LIMIT: usize = 1 << 32;
 
 /// Three numbers below the limit, and a kind.
@@ -28,7 +28,7 @@ fn word(number: usize) -> u32
     (number % LIMIT) as u32
 }
 
-/// Refuses more than fits below the limit.
+/// Refuses sizes that reach the limit.
 pub(crate) fn room(held: usize, more: usize) -> Result<(), AllocError>
     ensures ok { OnOk result (held + more < limit) }
     ensures err { OnErr result (limit ≤ held + more) }
@@ -41,7 +41,7 @@ pub(crate) fn room(held: usize, more: usize) -> Result<(), AllocError>
 }
 
 impl Packed {
-    /// An element of so many elements, itself one of them where it is a node; a token has 0.
+    /// Returns an element with a count: the size of a node's subtree with the node itself, or 0 for a token.
     pub(crate) fn new(kind: SyntaxKind, place: usize, parent: usize, size: usize) -> Packed
         ensures { result ≡ packed kind place parent size }
     {
@@ -59,21 +59,21 @@ impl Packed {
         self.kind
     }
 
-    /// The length of a token's text until the element is placed, and then where it starts.
+    /// Returns the length of a token's text until the element is placed; then the offset at which it starts.
     pub(crate) fn place(&self) -> usize
         ensures { result ≡ place_in self.now }
     {
         self.place as usize
     }
 
-    /// The number of the parent; 0 at the root.
+    /// Returns the number of the parent; 0 for the root.
     pub(crate) fn parent(&self) -> usize
         ensures { result ≡ parent_in self.now }
     {
         self.parent as usize
     }
 
-    /// How many elements a node has, itself one of them; 0 at a token.
+    /// Returns the size of a node's subtree with the node itself; 0 for a token.
     pub(crate) fn size(&self) -> usize
         ensures { result ≡ size_in self.now }
     {
@@ -81,14 +81,14 @@ impl Packed {
     }
 }
 
-// Whether the kinds are one.
+// Returns whether the kinds are equal.
 fn same_kind(a: SyntaxKind, b: SyntaxKind) -> bool
     ensures { result ≡ same_kind a b }
 {
     a == b
 }
 
-// Whether the numbers are.
+// Returns whether the numbers are equal.
 fn same_numbers(a: &Packed, b: &Packed) -> bool
     ensures { result ≡ same_numbers a.now b.now }
 {

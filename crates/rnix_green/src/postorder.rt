@@ -1,4 +1,4 @@
-//! From the order in which nodes close to the order in which they open.
+//! Reorders elements from postorder to preorder, in place.
 
 ghost use Rattle.std.specs.Prelude.{◌≡◌, map, reverse, IfOk, None, MatchOption};
 ghost use Rattle.rnix_green.specs.Forest.{text_of};
@@ -10,7 +10,7 @@ use crate::packed::Packed;
 use rnix_kinds::SyntaxKind;
 use std::alloc::AllocError;
 
-// A node whose children are being placed, the last one first: its number, and which entry is its first.
+// A node whose children are being placed, last one first: its number, and the entry that is its first child.
 #[derive(Clone, Copy)]
 pub(crate) struct Frame {
     kind: SyntaxKind,
@@ -32,7 +32,7 @@ impl Frame {
     }
 }
 
-// The number of the innermost node; 0 where there is none.
+// Returns the number of the innermost node, or 0.
 fn innermost_number(frames: &[Frame]) -> usize
     ensures { result ≡ parent_or_root (parent_number (reverse frames.now)) }
 {
@@ -42,7 +42,7 @@ fn innermost_number(frames: &[Frame]) -> usize
     }
 }
 
-// The innermost frame, where all its entries are read.
+// Returns the innermost frame if all its entries have been placed.
 fn reached(frames: &[Frame], left: usize) -> Option<Frame>
     ensures { MatchOption result (HasMore (reverse frames.now) left) (λ frame. IsReached frames.now left frame) }
 {

@@ -5,10 +5,10 @@ ghost use Rattle.std.specs.Prelude.{◌≡◌, ◌≤◌, ◌<◌, ◌-◌, ◌+
 use std::cmp::Ordering;
 use std::ops::Range;
 
-/// A place in a text, in bytes.
+/// An offset in a text, in bytes.
 pub type TextSize = usize;
 
-/// A half-open range of bytes: its end is not inside.
+/// A half-open range of bytes.
 #[derive(Clone, Copy, PartialEq, Eq, Hash, Debug)]
 pub struct TextRange {
     start: usize,
@@ -19,7 +19,7 @@ pub struct TextRange {
 impl TextRange {
     ghost use Rattle.rnix_green.specs.Range.{bounds_of};
 
-    /// The range from `start` up to `end`.
+    /// Returns the range from `start` to `end`.
     pub fn new(start: TextSize, end: TextSize) -> Self
         requires { start ≤ end }
         ensures { bounds_of result ≡ record { start = start; end = end } }
@@ -27,7 +27,7 @@ impl TextRange {
         TextRange { start, end }
     }
 
-    /// The range of `len` bytes from `offset` on.
+    /// Returns the range of `len` bytes that starts at `offset`.
     pub fn at(offset: TextSize, len: TextSize) -> Self
         requires { offset + len < 2 ^ 64 }
         ensures { bounds_of result ≡ record { start = offset; end = offset + len } }
@@ -35,28 +35,28 @@ impl TextRange {
         TextRange::new(offset, offset + len)
     }
 
-    /// The range of no bytes at `offset`.
+    /// Returns the empty range at `offset`.
     pub fn empty(offset: TextSize) -> Self
         ensures { bounds_of result ≡ record { start = offset; end = offset } }
     {
         TextRange::new(offset, offset)
     }
 
-    /// The range of the bytes in front of `end`.
+    /// Returns the range of the bytes before `end`.
     pub fn up_to(end: TextSize) -> Self
         ensures { bounds_of result ≡ record { start = 0; end = end } }
     {
         TextRange::new(0, end)
     }
 
-    /// Where the range begins.
+    /// Returns the offset of the first byte.
     pub fn start(self) -> TextSize
         ensures { result ≡ self.start }
     {
         self.start
     }
 
-    /// Where the range ends, which is the place behind its last byte.
+    /// Returns the offset after the last byte.
     pub fn end(self) -> TextSize
         ensures value { result ≡ self.end }
         ensures ordered { self.start ≤ result }
@@ -64,42 +64,42 @@ impl TextRange {
         self.end
     }
 
-    /// How many bytes the range has.
+    /// Returns the number of bytes in the range.
     pub fn len(self) -> TextSize
         ensures { result ≡ self.end - self.start }
     {
         self.end - self.start
     }
 
-    /// Whether the range has no bytes.
+    /// Returns whether the range is empty.
     pub fn is_empty(self) -> bool
         ensures { IsTrue result ↔ (self.start ≡ self.end) }
     {
         self.start == self.end
     }
 
-    /// Whether the byte at the offset is inside.
+    /// Returns whether the range contains the byte at the offset.
     pub fn contains(self, offset: TextSize) -> bool
         ensures { IsTrue result ↔ ((self.start ≤ offset) × (offset < self.end)) }
     {
         self.start <= offset && offset < self.end
     }
 
-    /// Whether the offset is inside or at the end.
+    /// Returns whether the offset is inside the range or at its end.
     pub fn contains_inclusive(self, offset: TextSize) -> bool
         ensures { IsTrue result ↔ ((self.start ≤ offset) × (offset ≤ self.end)) }
     {
         self.start <= offset && offset <= self.end
     }
 
-    /// Whether the other range lies inside.
+    /// Returns whether the range contains the other range.
     pub fn contains_range(self, other: TextRange) -> bool
         ensures { IsTrue result ↔ ((self.start ≤ other.start) × (other.end ≤ self.end)) }
     {
         self.start <= other.start && other.end <= self.end
     }
 
-    /// What lies in both ranges: an empty range where they only touch, and nothing where they do not meet.
+    /// Returns the part that both ranges share: an empty range if they only touch, `None` if they are apart.
     pub fn intersect(self, other: TextRange) -> Option<TextRange>
         ensures { SomeIff (option_map bounds_of result) (max self.start other.start ≤ min self.end other.end)
             (record { start = max self.start other.start; end = min self.end other.end }) }
@@ -112,21 +112,21 @@ impl TextRange {
         }
     }
 
-    /// The smallest range that both ranges lie in.
+    /// Returns the smallest range that contains both ranges.
     pub fn cover(self, other: TextRange) -> TextRange
         ensures { bounds_of result ≡ record { start = min self.start other.start; end = max self.end other.end } }
     {
         TextRange::new(self.start.min(other.start), self.end.max(other.end))
     }
 
-    /// The smallest range that the range lies in and that has the offset inside or at an end.
+    /// Returns the smallest range that contains the range and has the offset inside or at an end.
     pub fn cover_offset(self, offset: TextSize) -> TextRange
         ensures { bounds_of result ≡ record { start = min self.start offset; end = max self.end offset } }
     {
         self.cover(TextRange::empty(offset))
     }
 
-    /// The range moved to the right by some bytes, if its end is still a `TextSize`.
+    /// Returns the range moved right, or `None` if its end is no longer a `TextSize`.
     pub fn checked_add(self, offset: TextSize) -> Option<TextRange>
         ensures { SomeIff (option_map bounds_of result) (self.end + offset < 2 ^ 64)
             (record { start = self.start + offset; end = self.end + offset }) }
@@ -135,7 +135,7 @@ impl TextRange {
         Some(TextRange::new(self.start + offset, end))
     }
 
-    /// The range moved to the left by some bytes, if its start is still a `TextSize`.
+    /// Returns the range moved left, or `None` if its start would be negative.
     pub fn checked_sub(self, offset: TextSize) -> Option<TextRange>
         ensures { SomeIff (option_map bounds_of result) (offset ≤ self.start)
             (record { start = self.start - offset; end = self.end - offset }) }
@@ -144,7 +144,7 @@ impl TextRange {
         Some(TextRange::new(start, self.end - offset))
     }
 
-    /// Which range lies in front of the other; ranges with a byte in common are `Equal`.
+    /// Compares the positions of two ranges; ranges with a byte in common are `Equal`.
     pub fn ordering(self, other: TextRange) -> Ordering
         ensures less { (result ≡ Ordering.Less) ↔ (self.end ≤ other.start) }
         ensures equal { (result ≡ Ordering.Equal) ↔ ((other.start < self.end) × (self.start < other.end)) }
@@ -160,7 +160,7 @@ impl TextRange {
     }
 }
 
-/// The range of no bytes at the start of a text.
+/// Returns the empty range at offset 0.
 impl Default for TextRange {
     ghost use Rattle.std.specs.Prelude.{◌≡◌};
     ghost use Rattle.rnix_green.specs.Range.{bounds_of};

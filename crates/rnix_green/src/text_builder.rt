@@ -1,4 +1,4 @@
-//! Building the tree of a text that is there, from left to right: its leaves take the text.
+//! The builder of the tree of a given text: its leaves take the text from left to right.
 
 ghost use Rattle.std.specs.Prelude.{◌≡◌, ◌<◌, length, IsTrue, IfOk, OnOk, OnErr};
 ghost use Rattle.rnix_green.specs.Forest.{tree_count};
@@ -13,14 +13,14 @@ use rnix_kinds::SyntaxKind;
 use std::alloc::{AllocError, Global};
 use std::marker::Model;
 
-/// Builds the tree of a text, which is copied once, at the end. A call that is refused memory leaves the builder as it was. A text of
-/// 2^32 bytes or as many elements are refused so.
+/// Builds the tree of a text, which is copied once, at the end. A call that is refused memory leaves the builder unchanged. A text of
+/// 2^32 bytes, or that many elements, is refused as if memory had run out.
 #[derive(Drop)]
 pub struct TextBuilder<'t> {
     text: &'t str,
-    // How many bytes of the text have leaves.
+    // The number of bytes of the text that have leaves.
     taken: usize,
-    // The elements of the finished trees: each node stands behind its children.
+    // The elements of the finished trees, each node after its children.
     entries: Vec<Packed>,
     pending: Vec<OpenNode>,
     // The entry at which each finished tree begins.
@@ -43,7 +43,7 @@ impl<'t> Model for TextBuilder<'t> {
 }
 
 impl<'t> TextBuilder<'t> {
-    /// A builder of no trees.
+    /// Returns a builder without trees.
     pub fn new(alloc: Global, text: &'t str) -> Result<Self, AllocError>
         ensures { IfOk result (λ builder. builder ≡ blank_of text.now) }
     {
@@ -57,14 +57,14 @@ impl<'t> TextBuilder<'t> {
         })
     }
 
-    /// Makes room for so many more elements.
+    /// Reserves room for more elements.
     pub fn reserve(&mut self, elements: usize) -> Result<(), AllocError>
         ensures { self.new ≡ self.old }
     {
         self.entries.reserve_exact(elements)
     }
 
-    /// Opens a node behind the finished trees.
+    /// Opens a node after the finished trees.
     #[inline(always)]
     pub fn start_node(&mut self, kind: SyntaxKind) -> Result<(), AllocError>
         ensures ok { OnOk result (self.new ≡ with_draft (node_opened kind (tree_count self.old.draft.finished) self.old.draft) self.old) }
@@ -76,7 +76,7 @@ impl<'t> TextBuilder<'t> {
         Ok(())
     }
 
-    /// Adds a leaf, whose text is the next part of the text.
+    /// Adds a leaf that takes the next part of the text.
     #[inline(always)]
     pub fn token(&mut self, kind: SyntaxKind, part: &str) -> Result<(), AllocError>
         requires { IsNext part.now self.old }
@@ -94,7 +94,7 @@ impl<'t> TextBuilder<'t> {
         Ok(())
     }
 
-    /// The place behind the finished trees.
+    /// Returns the point after the finished trees.
     pub fn checkpoint(&self) -> Checkpoint
         ensures place { result ≡ tree_count self.now.draft.finished }
         ensures inside { IsTrue (is_checkpoint_of self.now.draft result) }
@@ -120,7 +120,7 @@ impl<'t> TextBuilder<'t> {
         Ok(())
     }
 
-    /// Closes the innermost open node over all trees from its place on.
+    /// Closes the innermost open node: its children are the trees finished since it was opened.
     #[inline(always)]
     pub fn finish_node(&mut self) -> Result<(), AllocError>
         requires { 0 < length self.old.draft.open_nodes }
@@ -139,7 +139,7 @@ impl<'t> TextBuilder<'t> {
         Ok(())
     }
 
-    /// Adds a node over one leaf, as `start_node`, `token` and `finish_node` do.
+    /// Adds a node with one leaf, like `start_node`, `token` and `finish_node` together.
     #[inline(always)]
     pub fn leaf_node(
         &mut self,
@@ -163,7 +163,7 @@ impl<'t> TextBuilder<'t> {
         Ok(())
     }
 
-    /// The finished tree, of the text that its leaves took. Where memory is refused there is neither tree nor builder.
+    /// Returns the finished tree, with the text that its leaves took. It consumes the builder, also if memory is refused.
     pub fn finish(self) -> Result<GreenNode, AllocError>
         requires { IsTrue (is_complete_of self.draft) }
         ensures { IfOk result (λ tree. forest_of tree ≡ self.entry.draft.finished) }

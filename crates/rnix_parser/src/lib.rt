@@ -1,4 +1,4 @@
-//! From the tokens of a text to its tree and its errors, with all that is promised of them.
+//! The parser: from tokens to a tree and errors, with all that is promised of them.
 #![tactic(auto)]
 
 mod derivation;

@@ -1,4 +1,4 @@
-//! From the tokens of a text to its tree and its errors.
+//! Parsing tokens.
 
 ghost use Rattle.std.specs.Prelude.{map, IfOk};
 ghost use Rattle.rnix_grammar.specs.Fault.{fault_of};
@@ -10,7 +10,7 @@ use rnix_kinds::Tokenizer;
 use rnix_reader::read_tokens;
 use std::alloc::{AllocError, Global};
 
-/// The tree of the tokens that are left, with a NODE_ROOT at its top, and the errors in the order in which they were found. Ranges are bytes
+/// Returns the tree of the tokens that are left, with a NODE_ROOT at its top, and the errors in the order in which they were found. Ranges are bytes
 /// from the first of these tokens on.
 pub fn parse(
     alloc: Global,

@@ -1,4 +1,4 @@
-//! Why an edit is refused.
+//! The reason why an edit is refused.
 
 ghost use Rattle.std.specs.Prelude.{◌≡◌};
 ghost use Rattle.rnix_text.specs.declared.edit_error.EditError.TheVariants.{Memory};
@@ -7,16 +7,16 @@ use std::alloc::{AllocError, AllocFailed};
 use std::error::Error;
 use std::fmt;
 
-/// Why an edit is refused.
+/// The reason why an edit is refused.
 #[derive(Clone, Copy, PartialEq, Eq, Debug)]
 pub enum EditError {
-    /// The range ends before it begins, or behind the text.
+    /// The range ends before it begins, or beyond the text.
     OutOfText,
     /// The range begins or ends inside a character.
     InsideCharacter,
-    /// The range has a byte in common with that of another edit, or one of them lies inside the other.
+    /// The range shares a byte with that of another edit, or one of them is inside the other.
     Overlap,
-    /// There is no memory for the edit.
+    /// Memory for the edit was refused.
     Memory,
 }
 

@@ -9,7 +9,7 @@ use std::alloc::{AllocError, Global};
 use std::marker::Model;
 use std::ops::Range;
 
-// A range of a text and what comes in its place.
+// A range of a text, and its replacement.
 #[derive(Drop)]
 pub(crate) struct Edit {
     pub(crate) start: usize,
@@ -36,7 +36,7 @@ impl<'t> Model for Edits<'t> {
     ghost invariant = { λ e. AreInOrder e.text.now 0 (map change_of e.edits.items) };
 }
 
-// Where an edit of a range stands, if it overlaps none: behind those that end at its start or in front of it.
+// Returns the index for an edit of a range, if it overlaps none: after the edits that end at its start or before it.
 fn place(edits: &[Edit], start: usize, end: usize) -> Option<usize>
     requires order { start ≤ end }
     requires ascending { AreAscending 0 (map change_of edits.now) }
@@ -56,7 +56,7 @@ fn place(edits: &[Edit], start: usize, end: usize) -> Option<usize>
     Some(at)
 }
 
-// A text with edits.
+// Returns a text with edits.
 fn changed(alloc: Global, text: &str, edits: &[Edit]) -> Result<String, AllocError>
     requires { AreInOrder text.now 0 (map change_of edits.now) }
     ensures { IfOk result (λ made. string_bytes made ≡ changed_from 0 (map change_of edits.now) text.now) }
@@ -73,7 +73,7 @@ fn changed(alloc: Global, text: &str, edits: &[Edit]) -> Result<String, AllocErr
 }
 
 impl<'t> Edits<'t> {
-    /// No edits of a text.
+    /// Returns an empty list of edits of a text.
     pub fn new(alloc: Global, text: &'t str) -> Self
         ensures { result ≡ record { text = text.now; changes = [] } }
     {
@@ -83,8 +83,8 @@ impl<'t> Edits<'t> {
         }
     }
 
-    /// Replaces a range of the text, in bytes. Where it is refused, the edits stay as they are.
-    /// Edits that insert at one offset stand in the order in which they were added.
+    /// Adds an edit that replaces a range of bytes. If it is refused, the edits are unchanged.
+    /// Insertions at one offset keep the order in which they were added.
     pub fn replace(&mut self, range: Range<usize>, new: &str) -> Result<(), EditError>
         ensures text { self.new.text ≡ self.old.text }
         ensures added { OnOk result (IsAdded (replacing range.start range.end new.now) self.old.changes self.new.changes) }
@@ -106,7 +106,7 @@ impl<'t> Edits<'t> {
         Ok(())
     }
 
-    /// The text with the edits: in the place of each range its new text, and all else as it was.
+    /// Returns the text with each range replaced and all other bytes unchanged.
     pub fn apply(&self, alloc: Global) -> Result<String, AllocError>
         ensures { IfOk result (λ text. string_bytes text ≡ changed_from 0 self.now.changes self.now.text) }
     {

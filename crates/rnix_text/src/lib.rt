@@ -1,4 +1,4 @@
-//! Texts: the lines and columns of offsets, and edits of ranges.
+//! Lines, columns and edits of texts. Depends on std alone.
 #![tactic(auto)]
 
 mod edit_error;

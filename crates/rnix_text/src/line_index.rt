@@ -10,7 +10,7 @@ use crate::mark::{ColumnUnit, Mark, Position, moves_alike};
 use std::alloc::{AllocError, Global};
 use std::marker::Model;
 
-/// The lines of a text, which end with `\n`. Making it takes the time of a walk over the text, and asking it the
+/// The lines of a text, which end with `\n`. Building it takes time linear in the text, a query takes the
 /// logarithm of the text's length.
 #[derive(Drop)]
 pub struct LineIndex<'t> {
@@ -31,7 +31,7 @@ impl<'t> Model for LineIndex<'t> {
     ghost invariant = { λ i. i.marks.items ≡ marks_of i.unit i.text.now };
 }
 
-// The marks of a text.
+// Returns the marks of a text.
 fn marks_of(alloc: Global, bytes: &[u8], unit: ColumnUnit) -> Result<Vec<Mark>, AllocError>
     ensures { IfOk result (λ marks. marks.items ≡ marks_of unit bytes.now) }
 {
@@ -48,7 +48,7 @@ fn marks_of(alloc: Global, bytes: &[u8], unit: ColumnUnit) -> Result<Vec<Mark>, 
 }
 
 impl<'t> LineIndex<'t> {
-    /// The lines of a text, with columns that count the unit.
+    /// Indexes the lines of a text, with columns that count the unit.
     pub fn new(alloc: Global, text: &'t str, unit: ColumnUnit) -> Result<Self, AllocError>
         ensures { IfOk result (λ index. index ≡ record { text = text.now; unit = unit }) }
     {
@@ -56,7 +56,7 @@ impl<'t> LineIndex<'t> {
         Ok(LineIndex { text, unit, marks })
     }
 
-    // The last mark at an offset or in front of it.
+    // Returns the last mark at an offset or before it.
     fn mark_before(&self, offset: usize) -> Mark
         ensures { result ≡ last_mark (is_before offset) self.now }
     {
@@ -68,7 +68,7 @@ impl<'t> LineIndex<'t> {
         self.marks[behind - 1]
     }
 
-    // The last mark at a position or in front of it.
+    // Returns the last mark at a position or before it.
     fn mark_up_to(&self, position: Position) -> Mark
         ensures mark { result ≡ last_mark (is_up_to position) self.now }
         ensures fits { length self.now.text < 2 ^ 63 }
@@ -81,7 +81,7 @@ impl<'t> LineIndex<'t> {
         self.marks[behind - 1]
     }
 
-    /// The position of an offset in bytes, if it lies in the text and not inside a character.
+    /// Returns the position of a byte offset, or `None` if it is beyond the text or inside a character.
     pub fn position(&self, offset: usize) -> Option<Position>
         ensures { SomeIff result (IsCharBoundary self.now.text offset)
             (position_at self.now.unit self.now.text offset) }
@@ -92,14 +92,14 @@ impl<'t> LineIndex<'t> {
         Some(self.mark_before(offset).position_of(offset))
     }
 
-    // Whether an offset has a position.
+    // Returns whether an offset has a position.
     fn is_at(&self, position: Position, offset: usize) -> bool
         ensures { IsTrue result ↔ IsAt self.now.unit self.now.text position offset }
     {
         self.position(offset) == Some(position)
     }
 
-    /// The offset in bytes of a position, if there is one: not inside a character, and not behind the end of a line.
+    /// Returns the byte offset of a position, or `None` if the position is inside a character or beyond the end of its line.
     pub fn offset(&self, position: Position) -> Option<usize>
         ensures found { IfSome result (λ offset. IsAt self.now.unit self.now.text position offset) }
         ensures only { (offset : ℕ) → IsAt self.now.unit self.now.text position offset → result ≡ Some offset }

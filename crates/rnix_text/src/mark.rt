@@ -1,10 +1,10 @@
-//! Positions in a text, and the marks from which positions are counted.
+//! Positions in a text, and the marks from which they are counted.
 
 ghost use Rattle.std.specs.Prelude.{◌≡◌, ◌+◌, ◌-◌, ◌<◌, ◌≤◌, ◌^◌, fold};
 ghost use Rattle.rnix_text.specs.Positions.{weight, step};
 ghost use Rattle.rnix_text.specs.Marks.{is_plain, first_mark, mark_behind, position_behind, is_up_to};
 
-/// What a column counts.
+/// The unit that columns count.
 #[derive(Clone, Copy, PartialEq, Eq, Hash, Debug)]
 pub enum ColumnUnit {
     /// Bytes of UTF-8.
@@ -15,7 +15,7 @@ pub enum ColumnUnit {
     Utf16,
 }
 
-/// A line and a column in it, both from 0.
+/// A line and a column, both from 0.
 #[derive(Clone, Copy, PartialEq, Eq, PartialOrd, Ord, Hash, Debug, Default)]
 pub struct Position {
     pub line: usize,
@@ -38,7 +38,7 @@ const LEAD: u8 = 0xc0;
 // The first byte that begins a character of two units in UTF-16.
 const LEAD_OF_PAIR: u8 = 0xf0;
 
-// What a byte adds to the column of its line.
+// Returns what a byte adds to the column of its line.
 pub(crate) fn weight_of(unit: ColumnUnit, byte: u8) -> usize
     ensures value { result ≡ weight unit byte }
     ensures small { result ≤ 2 }
@@ -52,7 +52,7 @@ pub(crate) fn weight_of(unit: ColumnUnit, byte: u8) -> usize
     }
 }
 
-// Whether a byte moves the column as far as the offset.
+// Returns whether a byte moves the column as far as the offset.
 pub(crate) fn moves_alike(unit: ColumnUnit, byte: u8) -> bool
     ensures { result ≡ is_plain unit byte }
 {
@@ -60,7 +60,7 @@ pub(crate) fn moves_alike(unit: ColumnUnit, byte: u8) -> bool
 }
 
 impl Mark {
-    // The start of a text.
+    // Returns the start of a text.
     pub(crate) fn first() -> Mark
         ensures { result ≡ first_mark }
     {
@@ -70,7 +70,7 @@ impl Mark {
         }
     }
 
-    // The place behind a byte.
+    // Returns the position after a byte.
     pub(crate) fn behind(self, unit: ColumnUnit, byte: u8) -> Mark
         requires offset { self.offset + 1 < 2 ^ 64 }
         requires line { self.position.line + 1 < 2 ^ 64 }
@@ -94,7 +94,7 @@ impl Mark {
         }
     }
 
-    // The position of an offset behind the mark, with bytes between them that move the column as far as the offset.
+    // Returns the position of an offset after the mark, if each byte between them moves the column as far as the offset.
     pub(crate) fn position_of(self, offset: usize) -> Position
         requires order { self.offset ≤ offset }
         requires fits { self.position.column + (offset - self.offset) < 2 ^ 64 }
@@ -106,7 +106,7 @@ impl Mark {
         }
     }
 
-    // Whether the mark is at a position or in front of it.
+    // Returns whether the mark is at a position or before it.
     pub(crate) fn is_up_to(self, position: Position) -> bool
         ensures { result ≡ is_up_to position self }
     {

@@ -16,7 +16,7 @@ sum! {
 }
 
 sum! {
-    /// A name in a set, as `a`, `"a"` or `${a}`.
+    /// A part of an attribute path: `a`, `"a"` or `${a}`.
     Attr = Ident | Dynamic | Str
 }
 
@@ -26,18 +26,18 @@ sum! {
 }
 
 sum! {
-    /// The parameter of a function, as `a` or `{ a }`.
+    /// The parameter of a function: `a` or `{ a }`.
     Param = Pattern | IdentParam
 }
 
 sum! {
-    /// An entry of a set, as `a = b;` or `inherit a;`.
+    /// An entry of a set or a `let`: `a = b;` or `inherit a;`.
     Entry = Inherit | AttrpathValue
 }
 
-/// A type of nodes with entries.
+/// Nodes with entries: sets and `let`.
 pub trait HasEntry: AstNode {
-    /// The entries, in order.
+    /// Returns the entries, in order.
     fn entries(&self) -> AstChildren<Entry>
     where
         Self: Sized,
@@ -45,7 +45,7 @@ pub trait HasEntry: AstNode {
         children(self)
     }
 
-    /// The entries with a value, in order.
+    /// Returns the entries with a value, in order.
     fn attrpath_values(&self) -> AstChildren<AttrpathValue>
     where
         Self: Sized,
@@ -53,7 +53,7 @@ pub trait HasEntry: AstNode {
         children(self)
     }
 
-    /// The entries that are taken from elsewhere, in order.
+    /// Returns the `inherit` entries, in order.
     fn inherits(&self) -> AstChildren<Inherit>
     where
         Self: Sized,
@@ -69,298 +69,298 @@ impl HasEntry for LetIn {}
 impl HasEntry for LegacyLet {}
 
 node! {
-    /// A name, as `a`.
+    /// An identifier: `a`.
     Ident = NODE_IDENT
 }
 
 impl Ident {
-    /// The name itself.
+    /// Returns the token of the name.
     pub fn ident_token(&self) -> Option<SyntaxToken> {
         token(self, SyntaxKind::TOKEN_IDENT)
     }
 }
 
 node! {
-    /// The names that lead to a value in a set, as `a.b`.
+    /// An attribute path: `a.b`.
     Attrpath = NODE_ATTRPATH
 }
 
 impl Attrpath {
-    /// The names, in order.
+    /// Returns the names, in order.
     pub fn attrs(&self) -> AstChildren<Attr> {
         children(self)
     }
 }
 
 node! {
-    /// A name that is computed, as `${a}`.
+    /// A dynamic attribute: `${a}`.
     Dynamic = NODE_DYNAMIC
 }
 
 impl Dynamic {
-    /// The sign `${`.
+    /// Returns the `${` token.
     pub fn interpol_start_token(&self) -> Option<SyntaxToken> {
         token(self, SyntaxKind::TOKEN_INTERPOL_START)
     }
 
-    /// What the name is computed from.
+    /// Returns the expression that computes the name.
     pub fn expr(&self) -> Option<Expr> {
         nth(self, 0)
     }
 
-    /// The sign `}`.
+    /// Returns the `}` token.
     pub fn interpol_end_token(&self) -> Option<SyntaxToken> {
         token(self, SyntaxKind::TOKEN_INTERPOL_END)
     }
 }
 
 node! {
-    /// The place where it stands, `__curPos`.
+    /// The current position: `__curPos`.
     CurPos = NODE_CUR_POS
 }
 
 impl CurPos {
-    /// The word `__curPos`.
+    /// Returns the `__curPos` token.
     pub fn cur_pos_token(&self) -> Option<SyntaxToken> {
         token(self, SyntaxKind::TOKEN_CUR_POS)
     }
 }
 
 node! {
-    /// A value of a set, as `a.b` or `a.b or c`.
+    /// A selection from a set: `a.b` or `a.b or c`.
     Select = NODE_SELECT
 }
 
 impl Select {
-    /// The set.
+    /// Returns the set.
     pub fn expr(&self) -> Option<Expr> {
         nth(self, 0)
     }
 
-    /// The sign `.`.
+    /// Returns the `.` token.
     pub fn dot_token(&self) -> Option<SyntaxToken> {
         token(self, SyntaxKind::TOKEN_DOT)
     }
 
-    /// The names that lead to the value.
+    /// Returns the attribute path.
     pub fn attrpath(&self) -> Option<Attrpath> {
         nth(self, 0)
     }
 
-    /// The word `or`.
+    /// Returns the `or` token.
     pub fn or_token(&self) -> Option<SyntaxToken> {
         token(self, SyntaxKind::TOKEN_OR)
     }
 
-    /// What stands for the value where the set has none.
+    /// Returns the default after `or`.
     pub fn default_expr(&self) -> Option<Expr> {
         nth(self, 1)
     }
 }
 
 node! {
-    /// Whether a set has a value, as `a ? b`.
+    /// A test for an attribute: `a ? b`.
     HasAttr = NODE_HAS_ATTR
 }
 
 impl HasAttr {
-    /// The set.
+    /// Returns the set.
     pub fn expr(&self) -> Option<Expr> {
         nth(self, 0)
     }
 
-    /// The sign `?`.
+    /// Returns the `?` token.
     pub fn question_token(&self) -> Option<SyntaxToken> {
         token(self, SyntaxKind::TOKEN_QUESTION)
     }
 
-    /// The names that lead to the value.
+    /// Returns the attribute path.
     pub fn attrpath(&self) -> Option<Attrpath> {
         nth(self, 0)
     }
 }
 
 node! {
-    /// A function with its argument, as `f a`.
+    /// A function application: `f a`.
     Apply = NODE_APPLY
 }
 
 impl Apply {
-    /// The function.
+    /// Returns the function.
     pub fn lambda(&self) -> Option<Expr> {
         nth(self, 0)
     }
 
-    /// The argument.
+    /// Returns the argument.
     pub fn argument(&self) -> Option<Expr> {
         nth(self, 1)
     }
 }
 
 node! {
-    /// Two operands with an operator between them, as `a + b`.
+    /// A binary operation: `a + b`.
     BinOp = NODE_BIN_OP
 }
 
 impl BinOp {
-    /// The operand on the left.
+    /// Returns the left operand.
     pub fn lhs(&self) -> Option<Expr> {
         nth(self, 0)
     }
 
-    /// The operator.
+    /// Returns the operator.
     pub fn operator(&self) -> Option<BinOpKind> {
         operator(self, BinOpKind::from_kind)
     }
 
-    /// The operand on the right.
+    /// Returns the right operand.
     pub fn rhs(&self) -> Option<Expr> {
         nth(self, 1)
     }
 }
 
 node! {
-    /// An operator before its operand, as `-a`.
+    /// A prefix operation: `-a`.
     UnaryOp = NODE_UNARY_OP
 }
 
 impl UnaryOp {
-    /// The operator.
+    /// Returns the operator.
     pub fn operator(&self) -> Option<UnaryOpKind> {
         operator(self, UnaryOpKind::from_kind)
     }
 
-    /// The operand.
+    /// Returns the operand.
     pub fn expr(&self) -> Option<Expr> {
         nth(self, 0)
     }
 }
 
 node! {
-    /// One of two values, as `if a then b else c`.
+    /// A conditional: `if a then b else c`.
     IfElse = NODE_IF_ELSE
 }
 
 impl IfElse {
-    /// The word `if`.
+    /// Returns the `if` token.
     pub fn if_token(&self) -> Option<SyntaxToken> {
         token(self, SyntaxKind::TOKEN_IF)
     }
 
-    /// What decides.
+    /// Returns the condition.
     pub fn condition(&self) -> Option<Expr> {
         nth(self, 0)
     }
 
-    /// The word `then`.
+    /// Returns the `then` token.
     pub fn then_token(&self) -> Option<SyntaxToken> {
         token(self, SyntaxKind::TOKEN_THEN)
     }
 
-    /// The value where the condition holds.
+    /// Returns the expression after `then`.
     pub fn body(&self) -> Option<Expr> {
         nth(self, 1)
     }
 
-    /// The word `else`.
+    /// Returns the `else` token.
     pub fn else_token(&self) -> Option<SyntaxToken> {
         token(self, SyntaxKind::TOKEN_ELSE)
     }
 
-    /// The value where the condition does not hold.
+    /// Returns the expression after `else`.
     pub fn else_body(&self) -> Option<Expr> {
         nth(self, 2)
     }
 }
 
 node! {
-    /// A value under a condition, as `assert a; b`.
+    /// An assertion: `assert a; b`.
     Assert = NODE_ASSERT
 }
 
 impl Assert {
-    /// The word `assert`.
+    /// Returns the `assert` token.
     pub fn assert_token(&self) -> Option<SyntaxToken> {
         token(self, SyntaxKind::TOKEN_ASSERT)
     }
 
-    /// The condition.
+    /// Returns the condition.
     pub fn condition(&self) -> Option<Expr> {
         nth(self, 0)
     }
 
-    /// The value.
+    /// Returns the body.
     pub fn body(&self) -> Option<Expr> {
         nth(self, 1)
     }
 }
 
 node! {
-    /// A value that may name what is in a set, as `with a; b`.
+    /// An expression with the attributes of a set in scope: `with a; b`.
     With = NODE_WITH
 }
 
 impl With {
-    /// The word `with`.
+    /// Returns the `with` token.
     pub fn with_token(&self) -> Option<SyntaxToken> {
         token(self, SyntaxKind::TOKEN_WITH)
     }
 
-    /// The set.
+    /// Returns the set.
     pub fn namespace(&self) -> Option<Expr> {
         nth(self, 0)
     }
 
-    /// The sign `;`.
+    /// Returns the `;` token.
     pub fn semicolon_token(&self) -> Option<SyntaxToken> {
         token(self, SyntaxKind::TOKEN_SEMICOLON)
     }
 
-    /// The value.
+    /// Returns the body.
     pub fn body(&self) -> Option<Expr> {
         nth(self, 1)
     }
 }
 
 node! {
-    /// An expression in parentheses, as `(a)`.
+    /// An expression in parentheses: `(a)`.
     Paren = NODE_PAREN
 }
 
 impl Paren {
-    /// The sign `(`.
+    /// Returns the `(` token.
     pub fn l_paren_token(&self) -> Option<SyntaxToken> {
         token(self, SyntaxKind::TOKEN_L_PAREN)
     }
 
-    /// The expression.
+    /// Returns the expression.
     pub fn expr(&self) -> Option<Expr> {
         nth(self, 0)
     }
 
-    /// The sign `)`.
+    /// Returns the `)` token.
     pub fn r_paren_token(&self) -> Option<SyntaxToken> {
         token(self, SyntaxKind::TOKEN_R_PAREN)
     }
 }
 
 node! {
-    /// A list, as `[ a b ]`.
+    /// A list: `[ a b ]`.
     List = NODE_LIST
 }
 
 impl List {
-    /// The sign `[`.
+    /// Returns the `[` token.
     pub fn l_brack_token(&self) -> Option<SyntaxToken> {
         token(self, SyntaxKind::TOKEN_L_BRACK)
     }
 
-    /// The items, in order.
+    /// Returns the items, in order.
     pub fn items(&self) -> AstChildren<Expr> {
         children(self)
     }
 
-    /// The sign `]`.
+    /// Returns the `]` token.
     pub fn r_brack_token(&self) -> Option<SyntaxToken> {
         token(self, SyntaxKind::TOKEN_R_BRACK)
     }
@@ -372,295 +372,295 @@ node! {
 }
 
 impl Root {
-    /// The expression that the text is.
+    /// Returns the expression of the text.
     pub fn expr(&self) -> Option<Expr> {
         nth(self, 0)
     }
 }
 
 node! {
-    /// Text that could not be read, as `)` before all else.
+    /// An error node: text that fits nowhere, such as a `)` at the start.
     Error = NODE_ERROR
 }
 
 node! {
-    /// A set, as `{ a = b; }` or `rec { a = b; }`.
+    /// An attribute set: `{ a = b; }` or `rec { a = b; }`.
     AttrSet = NODE_ATTR_SET
 }
 
 impl AttrSet {
-    /// The word `rec`.
+    /// Returns the `rec` token.
     pub fn rec_token(&self) -> Option<SyntaxToken> {
         token(self, SyntaxKind::TOKEN_REC)
     }
 
-    /// The sign `{`.
+    /// Returns the `{` token.
     pub fn l_curly_token(&self) -> Option<SyntaxToken> {
         token(self, SyntaxKind::TOKEN_L_BRACE)
     }
 
-    /// The sign `}`.
+    /// Returns the `}` token.
     pub fn r_curly_token(&self) -> Option<SyntaxToken> {
         token(self, SyntaxKind::TOKEN_R_BRACE)
     }
 }
 
 node! {
-    /// An entry with its value, as `a.b = c;`.
+    /// An entry with a value: `a.b = c;`.
     AttrpathValue = NODE_ATTRPATH_VALUE
 }
 
 impl AttrpathValue {
-    /// The names that lead to the value.
+    /// Returns the attribute path.
     pub fn attrpath(&self) -> Option<Attrpath> {
         nth(self, 0)
     }
 
-    /// The sign `=`.
+    /// Returns the `=` token.
     pub fn assign_token(&self) -> Option<SyntaxToken> {
         token(self, SyntaxKind::TOKEN_ASSIGN)
     }
 
-    /// The value.
+    /// Returns the value.
     pub fn value(&self) -> Option<Expr> {
         nth(self, 0)
     }
 }
 
 node! {
-    /// Entries that are taken from around the set or from another one, as `inherit a b;` or `inherit (c) a b;`.
+    /// Inherited entries: `inherit a b;` or `inherit (c) a b;`.
     Inherit = NODE_INHERIT
 }
 
 impl Inherit {
-    /// The word `inherit`.
+    /// Returns the `inherit` token.
     pub fn inherit_token(&self) -> Option<SyntaxToken> {
         token(self, SyntaxKind::TOKEN_INHERIT)
     }
 
-    /// The set that the entries are taken from.
+    /// Returns the source, if there is one.
     pub fn from(&self) -> Option<InheritFrom> {
         nth(self, 0)
     }
 
-    /// The names of the entries, in order.
+    /// Returns the names, in order.
     pub fn attrs(&self) -> AstChildren<Attr> {
         children(self)
     }
 }
 
 node! {
-    /// The set that entries are taken from, as `(c)`.
+    /// The source of inherited entries: `(c)`.
     InheritFrom = NODE_INHERIT_FROM
 }
 
 impl InheritFrom {
-    /// The sign `(`.
+    /// Returns the `(` token.
     pub fn l_paren_token(&self) -> Option<SyntaxToken> {
         token(self, SyntaxKind::TOKEN_L_PAREN)
     }
 
-    /// The set.
+    /// Returns the set.
     pub fn expr(&self) -> Option<Expr> {
         nth(self, 0)
     }
 
-    /// The sign `)`.
+    /// Returns the `)` token.
     pub fn r_paren_token(&self) -> Option<SyntaxToken> {
         token(self, SyntaxKind::TOKEN_R_PAREN)
     }
 }
 
 node! {
-    /// A value with entries that it may name, as `let a = b; in c`.
+    /// A `let` expression: `let a = b; in c`.
     LetIn = NODE_LET_IN
 }
 
 impl LetIn {
-    /// The word `let`.
+    /// Returns the `let` token.
     pub fn let_token(&self) -> Option<SyntaxToken> {
         token(self, SyntaxKind::TOKEN_LET)
     }
 
-    /// The word `in`.
+    /// Returns the `in` token.
     pub fn in_token(&self) -> Option<SyntaxToken> {
         token(self, SyntaxKind::TOKEN_IN)
     }
 
-    /// The value.
+    /// Returns the body.
     pub fn body(&self) -> Option<Expr> {
         nth(self, 0)
     }
 }
 
 node! {
-    /// The entry `body` of entries that may name one another, as `let { body = a; }`.
+    /// An old `let` expression, whose value is its entry `body`: `let { body = a; }`.
     LegacyLet = NODE_LEGACY_LET
 }
 
 impl LegacyLet {
-    /// The word `let`.
+    /// Returns the `let` token.
     pub fn let_token(&self) -> Option<SyntaxToken> {
         token(self, SyntaxKind::TOKEN_LET)
     }
 
-    /// The sign `{`.
+    /// Returns the `{` token.
     pub fn curly_open_token(&self) -> Option<SyntaxToken> {
         token(self, SyntaxKind::TOKEN_L_BRACE)
     }
 
-    /// The sign `}`.
+    /// Returns the `}` token.
     pub fn curly_close_token(&self) -> Option<SyntaxToken> {
         token(self, SyntaxKind::TOKEN_R_BRACE)
     }
 }
 
 node! {
-    /// A function, as `a: b` or `{ a }: b`.
+    /// A function: `a: b` or `{ a }: b`.
     Lambda = NODE_LAMBDA
 }
 
 impl Lambda {
-    /// The parameter.
+    /// Returns the parameter.
     pub fn param(&self) -> Option<Param> {
         nth(self, 0)
     }
 
-    /// The sign `:`.
+    /// Returns the `:` token.
     pub fn token_colon(&self) -> Option<SyntaxToken> {
         token(self, SyntaxKind::TOKEN_COLON)
     }
 
-    /// The value.
+    /// Returns the body.
     pub fn body(&self) -> Option<Expr> {
         nth(self, 0)
     }
 }
 
 node! {
-    /// A parameter that is a name, as `a` in `a: b`.
+    /// A parameter that is an identifier: `a` in `a: b`.
     IdentParam = NODE_IDENT_PARAM
 }
 
 impl IdentParam {
-    /// The name.
+    /// Returns the name.
     pub fn ident(&self) -> Option<Ident> {
         nth(self, 0)
     }
 }
 
 node! {
-    /// A parameter that is a set, as `{ a, b ? c, ... }` in `{ a, b ? c, ... }: d`.
+    /// A set pattern: `{ a, b ? c, ... }` in `{ a, b ? c, ... }: d`.
     Pattern = NODE_PATTERN
 }
 
 impl Pattern {
-    /// The sign `@`, if it stands right below. In a tree that is read it stands in the `PatBind`.
+    /// Returns the `@`, if it is a child of the pattern. In a parsed tree it is in the `PatBind`.
     pub fn at_token(&self) -> Option<SyntaxToken> {
         token(self, SyntaxKind::TOKEN_AT)
     }
 
-    /// The entries, in order.
+    /// Returns the entries, in order.
     pub fn pat_entries(&self) -> AstChildren<PatEntry> {
         children(self)
     }
 
-    /// The sign `...`.
+    /// Returns the `...` token.
     pub fn ellipsis_token(&self) -> Option<SyntaxToken> {
         token(self, SyntaxKind::TOKEN_ELLIPSIS)
     }
 
-    /// The name of the whole set.
+    /// Returns the name bound to the whole argument.
     pub fn pat_bind(&self) -> Option<PatBind> {
         nth(self, 0)
     }
 }
 
 node! {
-    /// An entry of a parameter, as `a` or `b ? c`.
+    /// An entry of a pattern: `a` or `b ? c`.
     PatEntry = NODE_PAT_ENTRY
 }
 
 impl PatEntry {
-    /// The name.
+    /// Returns the name.
     pub fn ident(&self) -> Option<Ident> {
         nth(self, 0)
     }
 
-    /// The sign `?`.
+    /// Returns the `?` token.
     pub fn question_token(&self) -> Option<SyntaxToken> {
         token(self, SyntaxKind::TOKEN_QUESTION)
     }
 
-    /// What stands for the entry where the argument has none.
+    /// Returns the default after `?`.
     pub fn default(&self) -> Option<Expr> {
         nth(self, 1)
     }
 }
 
 node! {
-    /// The name of a whole parameter, as `a @` in `a @ { b }: c`.
+    /// The name bound to the whole argument: `a @` in `a @ { b }: c`.
     PatBind = NODE_PAT_BIND
 }
 
 impl PatBind {
-    /// The name.
+    /// Returns the name.
     pub fn ident(&self) -> Option<Ident> {
         nth(self, 0)
     }
 }
 
 node! {
-    /// A string, as `"a ${b}"` or `''a ${b}''`.
+    /// A string: `"a ${b}"` or `''a ${b}''`.
     Str = NODE_STRING
 }
 
 node! {
-    /// A value inside a string or a path, as `${b}`.
+    /// An interpolation in a string or a path: `${b}`.
     Interpol = NODE_INTERPOL
 }
 
 impl Interpol {
-    /// The value.
+    /// Returns the value.
     pub fn expr(&self) -> Option<Expr> {
         nth(self, 0)
     }
 }
 
 node! {
-    /// A number or an address, as `1`, `1.5` or `https://nixos.org`.
+    /// A number or a URI: `1`, `1.5` or `https://nixos.org`.
     Literal = NODE_LITERAL
 }
 
 impl Literal {
-    /// What it is: the first number with a point, else the first whole number, else the first address.
+    /// Returns the literal: the first float among the tokens, else the first integer, else the first URI.
     pub fn kind(&self) -> LiteralKind {
         literal(self)
     }
 }
 
 node! {
-    /// A path from the root, as `/a/b`.
+    /// An absolute path: `/a/b`.
     PathAbs = NODE_PATH_ABS
 }
 
 node! {
-    /// A path from the file's own directory, as `./a`.
+    /// A path relative to the file's directory: `./a`.
     PathRel = NODE_PATH_REL
 }
 
 node! {
-    /// A path from the user's directory, as `~/a`.
+    /// A path relative to the user's home directory: `~/a`.
     PathHome = NODE_PATH_HOME
 }
 
 node! {
-    /// A path that is searched for, as `<a>`.
+    /// A search path: `<a>`.
     PathSearch = NODE_PATH_SEARCH
 }
 
 impl PathSearch {
-    /// What the path says, as it is written.
+    /// Returns the token of the path.
     pub fn content(&self) -> Option<PathContent> {
         token_of_type(self)
     }

@@ -14,7 +14,7 @@ use rnix_kinds::SyntaxKind;
 use rnix_tree::SyntaxNode;
 use std::fmt;
 
-/// A name in a set, as `a`, `"a"` or `${a}`.
+/// A part of an attribute path: `a`, `"a"` or `${a}`.
 #[derive(Clone, Debug, PartialEq, Eq, Hash, Drop)]
 pub enum Attr<'t> {
     Ident(Ident<'t>),
@@ -67,7 +67,7 @@ impl<'t> fmt::Display for Attr<'t> {
 }
 
 impl<'t> Attr<'t> {
-    /// The same node once more.
+    /// Returns a copy, without allocating.
     pub fn clone(&self) -> Self
         ensures { result ≡ self.now }
     {
@@ -201,7 +201,7 @@ impl<'t> fmt::Display for Path<'t> {
 }
 
 impl<'t> Path<'t> {
-    /// The same node once more.
+    /// Returns a copy, without allocating.
     pub fn clone(&self) -> Self
         ensures { result ≡ self.now }
     {

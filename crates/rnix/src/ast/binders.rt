@@ -14,7 +14,7 @@ use rnix_kinds::SyntaxKind;
 use rnix_tree::SyntaxNode;
 use std::fmt;
 
-/// The parameter of a function, as `a` or `{ a }`.
+/// The parameter of a function: `a` or `{ a }`.
 #[derive(Clone, Debug, PartialEq, Eq, Hash, Drop)]
 pub enum Param<'t> {
     Pattern(Pattern<'t>),
@@ -64,7 +64,7 @@ impl<'t> fmt::Display for Param<'t> {
 }
 
 impl<'t> Param<'t> {
-    /// The same node once more.
+    /// Returns a copy, without allocating.
     pub fn clone(&self) -> Self
         ensures { result ≡ self.now }
     {
@@ -117,7 +117,7 @@ impl<'t> TryFrom<Param<'t>> for IdentParam<'t> {
     }
 }
 
-/// An entry of a set, as `a = b;` or `inherit a;`.
+/// An entry of a set or a `let`: `a = b;` or `inherit a;`.
 #[derive(Clone, Debug, PartialEq, Eq, Hash, Drop)]
 pub enum Entry<'t> {
     Inherit(Inherit<'t>),
@@ -169,7 +169,7 @@ impl<'t> fmt::Display for Entry<'t> {
 }
 
 impl<'t> Entry<'t> {
-    /// The same node once more.
+    /// Returns a copy, without allocating.
     pub fn clone(&self) -> Self
         ensures { result ≡ self.now }
     {

@@ -14,7 +14,7 @@ use rnix_base::{child_at, first_token};
 use rnix_kinds::SyntaxKind;
 use rnix_tree::SyntaxToken;
 
-/// One of two values, as `if a then b else c`.
+/// A conditional: `if a then b else c`.
 pub type IfElse<'t> = TypedNode<'t, pointee::IfElse>;
 
 impl NodeType for pointee::IfElse {
@@ -29,42 +29,42 @@ impl<'t> IfElse<'t> {
     /// The kind of these nodes.
     pub const KIND: SyntaxKind = SyntaxKind::NODE_IF_ELSE;
 
-    /// The word `if`.
+    /// Returns the `if` token.
     pub fn if_token(&self) -> Option<SyntaxToken<'t>>
         ensures { result ≡ token_of (same_kind k.TOKEN_IF) self.now }
     {
         first_token(&self.syntax, SyntaxKind::TOKEN_IF)
     }
 
-    /// What decides.
+    /// Returns the condition.
     pub fn condition(&self) -> Option<Expr<'t>>
         ensures { option_map expr_node result ≡ child_of is_expr 0 self.now }
     {
         child_at(&self.syntax, 0)
     }
 
-    /// The word `then`.
+    /// Returns the `then` token.
     pub fn then_token(&self) -> Option<SyntaxToken<'t>>
         ensures { result ≡ token_of (same_kind k.TOKEN_THEN) self.now }
     {
         first_token(&self.syntax, SyntaxKind::TOKEN_THEN)
     }
 
-    /// The value where the condition holds.
+    /// Returns the expression after `then`.
     pub fn body(&self) -> Option<Expr<'t>>
         ensures { option_map expr_node result ≡ child_of is_expr 1 self.now }
     {
         child_at(&self.syntax, 1)
     }
 
-    /// The word `else`.
+    /// Returns the `else` token.
     pub fn else_token(&self) -> Option<SyntaxToken<'t>>
         ensures { result ≡ token_of (same_kind k.TOKEN_ELSE) self.now }
     {
         first_token(&self.syntax, SyntaxKind::TOKEN_ELSE)
     }
 
-    /// The value where the condition does not hold.
+    /// Returns the expression after `else`.
     pub fn else_body(&self) -> Option<Expr<'t>>
         ensures { option_map expr_node result ≡ child_of is_expr 2 self.now }
     {
@@ -72,7 +72,7 @@ impl<'t> IfElse<'t> {
     }
 }
 
-/// A value under a condition, as `assert a; b`.
+/// An assertion: `assert a; b`.
 pub type Assert<'t> = TypedNode<'t, pointee::Assert>;
 
 impl NodeType for pointee::Assert {
@@ -87,21 +87,21 @@ impl<'t> Assert<'t> {
     /// The kind of these nodes.
     pub const KIND: SyntaxKind = SyntaxKind::NODE_ASSERT;
 
-    /// The word `assert`.
+    /// Returns the `assert` token.
     pub fn assert_token(&self) -> Option<SyntaxToken<'t>>
         ensures { result ≡ token_of (same_kind k.TOKEN_ASSERT) self.now }
     {
         first_token(&self.syntax, SyntaxKind::TOKEN_ASSERT)
     }
 
-    /// The condition.
+    /// Returns the condition.
     pub fn condition(&self) -> Option<Expr<'t>>
         ensures { option_map expr_node result ≡ child_of is_expr 0 self.now }
     {
         child_at(&self.syntax, 0)
     }
 
-    /// The value.
+    /// Returns the body.
     pub fn body(&self) -> Option<Expr<'t>>
         ensures { option_map expr_node result ≡ child_of is_expr 1 self.now }
     {
@@ -109,7 +109,7 @@ impl<'t> Assert<'t> {
     }
 }
 
-/// A value that may name what is in a set, as `with a; b`.
+/// An expression with the attributes of a set in scope: `with a; b`.
 pub type With<'t> = TypedNode<'t, pointee::With>;
 
 impl NodeType for pointee::With {
@@ -124,28 +124,28 @@ impl<'t> With<'t> {
     /// The kind of these nodes.
     pub const KIND: SyntaxKind = SyntaxKind::NODE_WITH;
 
-    /// The word `with`.
+    /// Returns the `with` token.
     pub fn with_token(&self) -> Option<SyntaxToken<'t>>
         ensures { result ≡ token_of (same_kind k.TOKEN_WITH) self.now }
     {
         first_token(&self.syntax, SyntaxKind::TOKEN_WITH)
     }
 
-    /// The set.
+    /// Returns the set.
     pub fn namespace(&self) -> Option<Expr<'t>>
         ensures { option_map expr_node result ≡ child_of is_expr 0 self.now }
     {
         child_at(&self.syntax, 0)
     }
 
-    /// The sign `;`.
+    /// Returns the `;` token.
     pub fn semicolon_token(&self) -> Option<SyntaxToken<'t>>
         ensures { result ≡ token_of (same_kind k.TOKEN_SEMICOLON) self.now }
     {
         first_token(&self.syntax, SyntaxKind::TOKEN_SEMICOLON)
     }
 
-    /// The value.
+    /// Returns the body.
     pub fn body(&self) -> Option<Expr<'t>>
         ensures { option_map expr_node result ≡ child_of is_expr 1 self.now }
     {

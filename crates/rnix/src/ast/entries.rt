@@ -11,19 +11,19 @@ use crate::ast::lets::{LegacyLet, LetIn};
 use crate::ast::sets::{AttrSet, AttrpathValue, Inherit};
 use rnix_base::{AstChildren, AstNode, children};
 
-/// A type of nodes with entries.
+/// Nodes with entries: sets and `let`.
 pub trait HasEntry<'t>: AstNode<'t> {
-    /// The entries, in order.
+    /// Returns the entries, in order.
     fn entries(&self) -> AstChildren<'t, Entry<'t>>
         ensures children { AreChildren is_entry result (Self.node self.now) }
         ensures fits { length (those_of is_entry result) < 2 ^ 64 };
 
-    /// The entries with a value, in order.
+    /// Returns the entries with a value, in order.
     fn attrpath_values(&self) -> AstChildren<'t, AttrpathValue<'t>>
         ensures children { AreChildren (same_kind k.NODE_ATTRPATH_VALUE) result (Self.node self.now) }
         ensures fits { length (those_of (same_kind k.NODE_ATTRPATH_VALUE) result) < 2 ^ 64 };
 
-    /// The entries that are taken from elsewhere, in order.
+    /// Returns the `inherit` entries, in order.
     fn inherits(&self) -> AstChildren<'t, Inherit<'t>>
         ensures children { AreChildren (same_kind k.NODE_INHERIT) result (Self.node self.now) }
         ensures fits { length (those_of (same_kind k.NODE_INHERIT) result) < 2 ^ 64 };

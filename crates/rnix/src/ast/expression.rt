@@ -158,7 +158,7 @@ impl<'t> fmt::Display for Expr<'t> {
 }
 
 impl<'t> Expr<'t> {
-    /// The same node once more.
+    /// Returns a copy, without allocating.
     pub fn clone(&self) -> Self
         ensures { result ≡ self.now }
     {

@@ -14,7 +14,7 @@ use rnix_base::{AstChildren, child_at, children, first_token};
 use rnix_kinds::SyntaxKind;
 use rnix_tree::SyntaxToken;
 
-/// An expression in parentheses, as `(a)`.
+/// An expression in parentheses: `(a)`.
 pub type Paren<'t> = TypedNode<'t, pointee::Paren>;
 
 impl NodeType for pointee::Paren {
@@ -29,21 +29,21 @@ impl<'t> Paren<'t> {
     /// The kind of these nodes.
     pub const KIND: SyntaxKind = SyntaxKind::NODE_PAREN;
 
-    /// The sign `(`.
+    /// Returns the `(` token.
     pub fn l_paren_token(&self) -> Option<SyntaxToken<'t>>
         ensures { result ≡ token_of (same_kind k.TOKEN_L_PAREN) self.now }
     {
         first_token(&self.syntax, SyntaxKind::TOKEN_L_PAREN)
     }
 
-    /// The expression.
+    /// Returns the expression.
     pub fn expr(&self) -> Option<Expr<'t>>
         ensures { option_map expr_node result ≡ child_of is_expr 0 self.now }
     {
         child_at(&self.syntax, 0)
     }
 
-    /// The sign `)`.
+    /// Returns the `)` token.
     pub fn r_paren_token(&self) -> Option<SyntaxToken<'t>>
         ensures { result ≡ token_of (same_kind k.TOKEN_R_PAREN) self.now }
     {
@@ -51,7 +51,7 @@ impl<'t> Paren<'t> {
     }
 }
 
-/// A list, as `[ a b ]`.
+/// A list: `[ a b ]`.
 pub type List<'t> = TypedNode<'t, pointee::List>;
 
 impl NodeType for pointee::List {
@@ -66,14 +66,14 @@ impl<'t> List<'t> {
     /// The kind of these nodes.
     pub const KIND: SyntaxKind = SyntaxKind::NODE_LIST;
 
-    /// The sign `[`.
+    /// Returns the `[` token.
     pub fn l_brack_token(&self) -> Option<SyntaxToken<'t>>
         ensures { result ≡ token_of (same_kind k.TOKEN_L_BRACK) self.now }
     {
         first_token(&self.syntax, SyntaxKind::TOKEN_L_BRACK)
     }
 
-    /// The items, in order.
+    /// Returns the items, in order.
     pub fn items(&self) -> AstChildren<'t, Expr<'t>>
         ensures children { AreChildren is_expr result self.now }
         ensures fits { length (those_of is_expr result) < 2 ^ 64 }
@@ -81,7 +81,7 @@ impl<'t> List<'t> {
         children(&self.syntax)
     }
 
-    /// The sign `]`.
+    /// Returns the `]` token.
     pub fn r_brack_token(&self) -> Option<SyntaxToken<'t>>
         ensures { result ≡ token_of (same_kind k.TOKEN_R_BRACK) self.now }
     {
@@ -104,7 +104,7 @@ impl<'t> Root<'t> {
     /// The kind of these nodes.
     pub const KIND: SyntaxKind = SyntaxKind::NODE_ROOT;
 
-    /// The expression that the text is.
+    /// Returns the expression of the text.
     pub fn expr(&self) -> Option<Expr<'t>>
         ensures { option_map expr_node result ≡ child_of is_expr 0 self.now }
     {
@@ -112,7 +112,7 @@ impl<'t> Root<'t> {
     }
 }
 
-/// Text that could not be read, as `)` before all else.
+/// An error node: text that fits nowhere, such as a `)` at the start.
 pub type Error<'t> = TypedNode<'t, pointee::Error>;
 
 impl NodeType for pointee::Error {

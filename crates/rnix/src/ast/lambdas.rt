@@ -16,7 +16,7 @@ use rnix_base::{child_at, first_child, first_token};
 use rnix_kinds::SyntaxKind;
 use rnix_tree::SyntaxToken;
 
-/// A function, as `a: b` or `{ a }: b`.
+/// A function: `a: b` or `{ a }: b`.
 pub type Lambda<'t> = TypedNode<'t, pointee::Lambda>;
 
 impl NodeType for pointee::Lambda {
@@ -31,21 +31,21 @@ impl<'t> Lambda<'t> {
     /// The kind of these nodes.
     pub const KIND: SyntaxKind = SyntaxKind::NODE_LAMBDA;
 
-    /// The parameter.
+    /// Returns the parameter.
     pub fn param(&self) -> Option<Param<'t>>
         ensures { option_map param_node result ≡ child_of is_param 0 self.now }
     {
         first_child(&self.syntax)
     }
 
-    /// The sign `:`.
+    /// Returns the `:` token.
     pub fn token_colon(&self) -> Option<SyntaxToken<'t>>
         ensures { result ≡ token_of (same_kind k.TOKEN_COLON) self.now }
     {
         first_token(&self.syntax, SyntaxKind::TOKEN_COLON)
     }
 
-    /// The value.
+    /// Returns the body.
     pub fn body(&self) -> Option<Expr<'t>>
         ensures { option_map expr_node result ≡ child_of is_expr 0 self.now }
     {
@@ -53,7 +53,7 @@ impl<'t> Lambda<'t> {
     }
 }
 
-/// A parameter that is a name, as `a` in `a: b`.
+/// A parameter that is an identifier: `a` in `a: b`.
 pub type IdentParam<'t> = TypedNode<'t, pointee::IdentParam>;
 
 impl NodeType for pointee::IdentParam {
@@ -68,7 +68,7 @@ impl<'t> IdentParam<'t> {
     /// The kind of these nodes.
     pub const KIND: SyntaxKind = SyntaxKind::NODE_IDENT_PARAM;
 
-    /// The name.
+    /// Returns the name.
     pub fn ident(&self) -> Option<Ident<'t>>
         ensures { result ≡ child_of (same_kind k.NODE_IDENT) 0 self.now }
     {

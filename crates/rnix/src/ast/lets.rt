@@ -14,7 +14,7 @@ use rnix_base::{child_at, first_token};
 use rnix_kinds::SyntaxKind;
 use rnix_tree::SyntaxToken;
 
-/// A value with entries that it may name, as `let a = b; in c`.
+/// A `let` expression: `let a = b; in c`.
 pub type LetIn<'t> = TypedNode<'t, pointee::LetIn>;
 
 impl NodeType for pointee::LetIn {
@@ -29,21 +29,21 @@ impl<'t> LetIn<'t> {
     /// The kind of these nodes.
     pub const KIND: SyntaxKind = SyntaxKind::NODE_LET_IN;
 
-    /// The word `let`.
+    /// Returns the `let` token.
     pub fn let_token(&self) -> Option<SyntaxToken<'t>>
         ensures { result ≡ token_of (same_kind k.TOKEN_LET) self.now }
     {
         first_token(&self.syntax, SyntaxKind::TOKEN_LET)
     }
 
-    /// The word `in`.
+    /// Returns the `in` token.
     pub fn in_token(&self) -> Option<SyntaxToken<'t>>
         ensures { result ≡ token_of (same_kind k.TOKEN_IN) self.now }
     {
         first_token(&self.syntax, SyntaxKind::TOKEN_IN)
     }
 
-    /// The value.
+    /// Returns the body.
     pub fn body(&self) -> Option<Expr<'t>>
         ensures { option_map expr_node result ≡ child_of is_expr 0 self.now }
     {
@@ -51,7 +51,7 @@ impl<'t> LetIn<'t> {
     }
 }
 
-/// The entry `body` of entries that may name one another, as `let { body = a; }`.
+/// An old `let` expression, whose value is its entry `body`: `let { body = a; }`.
 pub type LegacyLet<'t> = TypedNode<'t, pointee::LegacyLet>;
 
 impl NodeType for pointee::LegacyLet {
@@ -66,21 +66,21 @@ impl<'t> LegacyLet<'t> {
     /// The kind of these nodes.
     pub const KIND: SyntaxKind = SyntaxKind::NODE_LEGACY_LET;
 
-    /// The word `let`.
+    /// Returns the `let` token.
     pub fn let_token(&self) -> Option<SyntaxToken<'t>>
         ensures { result ≡ token_of (same_kind k.TOKEN_LET) self.now }
     {
         first_token(&self.syntax, SyntaxKind::TOKEN_LET)
     }
 
-    /// The sign `{`.
+    /// Returns the `{` token.
     pub fn curly_open_token(&self) -> Option<SyntaxToken<'t>>
         ensures { result ≡ token_of (same_kind k.TOKEN_L_BRACE) self.now }
     {
         first_token(&self.syntax, SyntaxKind::TOKEN_L_BRACE)
     }
 
-    /// The sign `}`.
+    /// Returns the `}` token.
     pub fn curly_close_token(&self) -> Option<SyntaxToken<'t>>
         ensures { result ≡ token_of (same_kind k.TOKEN_R_BRACE) self.now }
     {

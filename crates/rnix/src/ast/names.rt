@@ -15,7 +15,7 @@ use rnix_base::{AstChildren, child_at, children, first_token};
 use rnix_kinds::SyntaxKind;
 use rnix_tree::SyntaxToken;
 
-/// A name, as `a`.
+/// An identifier: `a`.
 pub type Ident<'t> = TypedNode<'t, pointee::Ident>;
 
 impl NodeType for pointee::Ident {
@@ -30,7 +30,7 @@ impl<'t> Ident<'t> {
     /// The kind of these nodes.
     pub const KIND: SyntaxKind = SyntaxKind::NODE_IDENT;
 
-    /// The name itself.
+    /// Returns the token of the name.
     pub fn ident_token(&self) -> Option<SyntaxToken<'t>>
         ensures { result ≡ token_of (same_kind k.TOKEN_IDENT) self.now }
     {
@@ -38,7 +38,7 @@ impl<'t> Ident<'t> {
     }
 }
 
-/// The names that lead to a value in a set, as `a.b`.
+/// An attribute path: `a.b`.
 pub type Attrpath<'t> = TypedNode<'t, pointee::Attrpath>;
 
 impl NodeType for pointee::Attrpath {
@@ -53,7 +53,7 @@ impl<'t> Attrpath<'t> {
     /// The kind of these nodes.
     pub const KIND: SyntaxKind = SyntaxKind::NODE_ATTRPATH;
 
-    /// The names, in order.
+    /// Returns the names, in order.
     pub fn attrs(&self) -> AstChildren<'t, Attr<'t>>
         ensures children { AreChildren is_attr result self.now }
         ensures fits { length (those_of is_attr result) < 2 ^ 64 }
@@ -62,7 +62,7 @@ impl<'t> Attrpath<'t> {
     }
 }
 
-/// A name that is computed, as `${a}`.
+/// A dynamic attribute: `${a}`.
 pub type Dynamic<'t> = TypedNode<'t, pointee::Dynamic>;
 
 impl NodeType for pointee::Dynamic {
@@ -77,21 +77,21 @@ impl<'t> Dynamic<'t> {
     /// The kind of these nodes.
     pub const KIND: SyntaxKind = SyntaxKind::NODE_DYNAMIC;
 
-    /// The sign `${`.
+    /// Returns the `${` token.
     pub fn interpol_start_token(&self) -> Option<SyntaxToken<'t>>
         ensures { result ≡ token_of (same_kind k.TOKEN_INTERPOL_START) self.now }
     {
         first_token(&self.syntax, SyntaxKind::TOKEN_INTERPOL_START)
     }
 
-    /// What the name is computed from.
+    /// Returns the expression that computes the name.
     pub fn expr(&self) -> Option<Expr<'t>>
         ensures { option_map expr_node result ≡ child_of is_expr 0 self.now }
     {
         child_at(&self.syntax, 0)
     }
 
-    /// The sign `}`.
+    /// Returns the `}` token.
     pub fn interpol_end_token(&self) -> Option<SyntaxToken<'t>>
         ensures { result ≡ token_of (same_kind k.TOKEN_INTERPOL_END) self.now }
     {
@@ -99,7 +99,7 @@ impl<'t> Dynamic<'t> {
     }
 }
 
-/// The place where it stands, `__curPos`.
+/// The current position: `__curPos`.
 pub type CurPos<'t> = TypedNode<'t, pointee::CurPos>;
 
 impl NodeType for pointee::CurPos {
@@ -114,7 +114,7 @@ impl<'t> CurPos<'t> {
     /// The kind of these nodes.
     pub const KIND: SyntaxKind = SyntaxKind::NODE_CUR_POS;
 
-    /// The word `__curPos`.
+    /// Returns the `__curPos` token.
     pub fn cur_pos_token(&self) -> Option<SyntaxToken<'t>>
         ensures { result ≡ token_of (same_kind k.TOKEN_CUR_POS) self.now }
     {

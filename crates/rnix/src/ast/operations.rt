@@ -14,7 +14,7 @@ use crate::ast::typed_node::{NodeType, TypedNode};
 use rnix_base::{BinOpKind, UnaryOpKind, child_at, first_binary, first_unary};
 use rnix_kinds::SyntaxKind;
 
-/// A function with its argument, as `f a`.
+/// A function application: `f a`.
 pub type Apply<'t> = TypedNode<'t, pointee::Apply>;
 
 impl NodeType for pointee::Apply {
@@ -29,14 +29,14 @@ impl<'t> Apply<'t> {
     /// The kind of these nodes.
     pub const KIND: SyntaxKind = SyntaxKind::NODE_APPLY;
 
-    /// The function.
+    /// Returns the function.
     pub fn lambda(&self) -> Option<Expr<'t>>
         ensures { option_map expr_node result ≡ child_of is_expr 0 self.now }
     {
         child_at(&self.syntax, 0)
     }
 
-    /// The argument.
+    /// Returns the argument.
     pub fn argument(&self) -> Option<Expr<'t>>
         ensures { option_map expr_node result ≡ child_of is_expr 1 self.now }
     {
@@ -44,7 +44,7 @@ impl<'t> Apply<'t> {
     }
 }
 
-/// Two operands with an operator between them, as `a + b`.
+/// A binary operation: `a + b`.
 pub type BinOp<'t> = TypedNode<'t, pointee::BinOp>;
 
 impl NodeType for pointee::BinOp {
@@ -59,21 +59,21 @@ impl<'t> BinOp<'t> {
     /// The kind of these nodes.
     pub const KIND: SyntaxKind = SyntaxKind::NODE_BIN_OP;
 
-    /// The operand on the left.
+    /// Returns the left operand.
     pub fn lhs(&self) -> Option<Expr<'t>>
         ensures { option_map expr_node result ≡ child_of is_expr 0 self.now }
     {
         child_at(&self.syntax, 0)
     }
 
-    /// The operator.
+    /// Returns the operator.
     pub fn operator(&self) -> Option<BinOpKind>
         ensures { result ≡ first_operator binary_operator (tokens_in (children_of self.now)) }
     {
         first_binary(&self.syntax)
     }
 
-    /// The operand on the right.
+    /// Returns the right operand.
     pub fn rhs(&self) -> Option<Expr<'t>>
         ensures { option_map expr_node result ≡ child_of is_expr 1 self.now }
     {
@@ -81,7 +81,7 @@ impl<'t> BinOp<'t> {
     }
 }
 
-/// An operator before its operand, as `-a`.
+/// A prefix operation: `-a`.
 pub type UnaryOp<'t> = TypedNode<'t, pointee::UnaryOp>;
 
 impl NodeType for pointee::UnaryOp {
@@ -96,14 +96,14 @@ impl<'t> UnaryOp<'t> {
     /// The kind of these nodes.
     pub const KIND: SyntaxKind = SyntaxKind::NODE_UNARY_OP;
 
-    /// The operator.
+    /// Returns the operator.
     pub fn operator(&self) -> Option<UnaryOpKind>
         ensures { result ≡ first_operator unary_operator (tokens_in (children_of self.now)) }
     {
         first_unary(&self.syntax)
     }
 
-    /// The operand.
+    /// Returns the operand.
     pub fn expr(&self) -> Option<Expr<'t>>
         ensures { option_map expr_node result ≡ child_of is_expr 0 self.now }
     {

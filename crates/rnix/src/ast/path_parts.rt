@@ -11,7 +11,7 @@ use rnix_base::{PathContent, all_parts};
 use rnix_tree::SyntaxNode;
 use std::alloc::{AllocError, Global};
 
-// The contents and the interpolations of a path.
+// Returns the contents and the interpolations of a path.
 fn parts_of_node<'t>(
     alloc: Global,
     syntax: &SyntaxNode<'t>,
@@ -22,7 +22,7 @@ fn parts_of_node<'t>(
 }
 
 impl<'t> PathAbs<'t> {
-    /// The contents and the interpolations of the path, in order. Other children are left out.
+    /// Returns the contents and interpolations of the path, in order. Other children are left out.
     pub fn parts(&self, alloc: Global) -> Result<Vec<InterpolPart<'t, PathContent<'t>>>, AllocError>
         ensures { IfOk result (λ parts. parts.items ≡ path_parts self.now) }
     {
@@ -31,7 +31,7 @@ impl<'t> PathAbs<'t> {
 }
 
 impl<'t> PathRel<'t> {
-    /// The contents and the interpolations of the path, in order. Other children are left out.
+    /// Returns the contents and interpolations of the path, in order. Other children are left out.
     pub fn parts(&self, alloc: Global) -> Result<Vec<InterpolPart<'t, PathContent<'t>>>, AllocError>
         ensures { IfOk result (λ parts. parts.items ≡ path_parts self.now) }
     {
@@ -40,7 +40,7 @@ impl<'t> PathRel<'t> {
 }
 
 impl<'t> PathHome<'t> {
-    /// The contents and the interpolations of the path, in order. Other children are left out.
+    /// Returns the contents and interpolations of the path, in order. Other children are left out.
     pub fn parts(&self, alloc: Global) -> Result<Vec<InterpolPart<'t, PathContent<'t>>>, AllocError>
         ensures { IfOk result (λ parts. parts.items ≡ path_parts self.now) }
     {
@@ -49,7 +49,7 @@ impl<'t> PathHome<'t> {
 }
 
 impl<'t> Path<'t> {
-    /// The parts of the path; of one that is searched for, its content alone.
+    /// Returns the parts of the path; of a search path, its content alone.
     pub fn parts(&self, alloc: Global) -> Result<Vec<InterpolPart<'t, PathContent<'t>>>, AllocError>
         ensures { IfOk result (λ parts. parts.items ≡ parts_of_path self.now) }
     {
@@ -67,14 +67,14 @@ impl<'t> Path<'t> {
         }
     }
 
-    /// Whether the path is searched for, as `<a>`.
+    /// Returns whether the path is a search path, such as `<a>`.
     pub fn is_search(&self) -> bool
         ensures { result ≡ is_search self.now }
     {
         matches!(self, Path::PathSearch(_))
     }
 
-    /// Whether the path may have interpolations.
+    /// Returns whether the path may contain interpolations.
     pub fn is_interpolatable(&self) -> bool
         ensures { result ≡ not (is_search self.now) }
     {

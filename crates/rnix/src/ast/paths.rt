@@ -10,7 +10,7 @@ use crate::ast::typed_node::{NodeType, TypedNode};
 use rnix_base::{PathContent, child_token};
 use rnix_kinds::SyntaxKind;
 
-/// A path from the root, as `/a/b`.
+/// An absolute path: `/a/b`.
 pub type PathAbs<'t> = TypedNode<'t, pointee::PathAbs>;
 
 impl NodeType for pointee::PathAbs {
@@ -26,7 +26,7 @@ impl<'t> PathAbs<'t> {
     pub const KIND: SyntaxKind = SyntaxKind::NODE_PATH_ABS;
 }
 
-/// A path from the file's own directory, as `./a`.
+/// A path relative to the file's directory: `./a`.
 pub type PathRel<'t> = TypedNode<'t, pointee::PathRel>;
 
 impl NodeType for pointee::PathRel {
@@ -42,7 +42,7 @@ impl<'t> PathRel<'t> {
     pub const KIND: SyntaxKind = SyntaxKind::NODE_PATH_REL;
 }
 
-/// A path from the user's directory, as `~/a`.
+/// A path relative to the user's home directory: `~/a`.
 pub type PathHome<'t> = TypedNode<'t, pointee::PathHome>;
 
 impl NodeType for pointee::PathHome {
@@ -58,7 +58,7 @@ impl<'t> PathHome<'t> {
     pub const KIND: SyntaxKind = SyntaxKind::NODE_PATH_HOME;
 }
 
-/// A path that is searched for, as `<a>`.
+/// A search path: `<a>`.
 pub type PathSearch<'t> = TypedNode<'t, pointee::PathSearch>;
 
 impl NodeType for pointee::PathSearch {
@@ -73,7 +73,7 @@ impl<'t> PathSearch<'t> {
     /// The kind of these nodes.
     pub const KIND: SyntaxKind = SyntaxKind::NODE_PATH_SEARCH;
 
-    /// What the path says, as it is written.
+    /// Returns the token of the path.
     pub fn content(&self) -> Option<PathContent<'t>>
         ensures { result ≡ token_of is_path_token self.now }
     {

@@ -15,7 +15,7 @@ use rnix_base::{AstChildren, child_at, children, first_child, first_token};
 use rnix_kinds::SyntaxKind;
 use rnix_tree::SyntaxToken;
 
-/// A parameter that is a set, as `{ a, b ? c, ... }` in `{ a, b ? c, ... }: d`.
+/// A set pattern: `{ a, b ? c, ... }` in `{ a, b ? c, ... }: d`.
 pub type Pattern<'t> = TypedNode<'t, pointee::Pattern>;
 
 impl NodeType for pointee::Pattern {
@@ -30,14 +30,14 @@ impl<'t> Pattern<'t> {
     /// The kind of these nodes.
     pub const KIND: SyntaxKind = SyntaxKind::NODE_PATTERN;
 
-    /// The sign `@`, if it stands right below. In a tree that is read it stands in the `PatBind`.
+    /// Returns the `@`, if it is a child of the pattern. In a parsed tree it is in the `PatBind`.
     pub fn at_token(&self) -> Option<SyntaxToken<'t>>
         ensures { result ≡ token_of (same_kind k.TOKEN_AT) self.now }
     {
         first_token(&self.syntax, SyntaxKind::TOKEN_AT)
     }
 
-    /// The entries, in order.
+    /// Returns the entries, in order.
     pub fn pat_entries(&self) -> AstChildren<'t, PatEntry<'t>>
         ensures children { AreChildren (same_kind k.NODE_PAT_ENTRY) result self.now }
         ensures fits { length (those_of (same_kind k.NODE_PAT_ENTRY) result) < 2 ^ 64 }
@@ -45,14 +45,14 @@ impl<'t> Pattern<'t> {
         children(&self.syntax)
     }
 
-    /// The sign `...`.
+    /// Returns the `...` token.
     pub fn ellipsis_token(&self) -> Option<SyntaxToken<'t>>
         ensures { result ≡ token_of (same_kind k.TOKEN_ELLIPSIS) self.now }
     {
         first_token(&self.syntax, SyntaxKind::TOKEN_ELLIPSIS)
     }
 
-    /// The name of the whole set.
+    /// Returns the name bound to the whole argument.
     pub fn pat_bind(&self) -> Option<PatBind<'t>>
         ensures { result ≡ child_of (same_kind k.NODE_PAT_BIND) 0 self.now }
     {
@@ -60,7 +60,7 @@ impl<'t> Pattern<'t> {
     }
 }
 
-/// An entry of a parameter, as `a` or `b ? c`.
+/// An entry of a pattern: `a` or `b ? c`.
 pub type PatEntry<'t> = TypedNode<'t, pointee::PatEntry>;
 
 impl NodeType for pointee::PatEntry {
@@ -75,21 +75,21 @@ impl<'t> PatEntry<'t> {
     /// The kind of these nodes.
     pub const KIND: SyntaxKind = SyntaxKind::NODE_PAT_ENTRY;
 
-    /// The name.
+    /// Returns the name.
     pub fn ident(&self) -> Option<Ident<'t>>
         ensures { result ≡ child_of (same_kind k.NODE_IDENT) 0 self.now }
     {
         first_child(&self.syntax)
     }
 
-    /// The sign `?`.
+    /// Returns the `?` token.
     pub fn question_token(&self) -> Option<SyntaxToken<'t>>
         ensures { result ≡ token_of (same_kind k.TOKEN_QUESTION) self.now }
     {
         first_token(&self.syntax, SyntaxKind::TOKEN_QUESTION)
     }
 
-    /// What stands for the entry where the argument has none.
+    /// Returns the default after `?`.
     pub fn default(&self) -> Option<Expr<'t>>
         ensures { option_map expr_node result ≡ child_of is_expr 1 self.now }
     {
@@ -97,7 +97,7 @@ impl<'t> PatEntry<'t> {
     }
 }
 
-/// The name of a whole parameter, as `a @` in `a @ { b }: c`.
+/// The name bound to the whole argument: `a @` in `a @ { b }: c`.
 pub type PatBind<'t> = TypedNode<'t, pointee::PatBind>;
 
 impl NodeType for pointee::PatBind {
@@ -112,7 +112,7 @@ impl<'t> PatBind<'t> {
     /// The kind of these nodes.
     pub const KIND: SyntaxKind = SyntaxKind::NODE_PAT_BIND;
 
-    /// The name.
+    /// Returns the name.
     pub fn ident(&self) -> Option<Ident<'t>>
         ensures { result ≡ child_of (same_kind k.NODE_IDENT) 0 self.now }
     {

@@ -15,7 +15,7 @@ use rnix_base::{child_at, first_child, first_token};
 use rnix_kinds::SyntaxKind;
 use rnix_tree::SyntaxToken;
 
-/// A value of a set, as `a.b` or `a.b or c`.
+/// A selection from a set: `a.b` or `a.b or c`.
 pub type Select<'t> = TypedNode<'t, pointee::Select>;
 
 impl NodeType for pointee::Select {
@@ -30,35 +30,35 @@ impl<'t> Select<'t> {
     /// The kind of these nodes.
     pub const KIND: SyntaxKind = SyntaxKind::NODE_SELECT;
 
-    /// The set.
+    /// Returns the set.
     pub fn expr(&self) -> Option<Expr<'t>>
         ensures { option_map expr_node result ≡ child_of is_expr 0 self.now }
     {
         child_at(&self.syntax, 0)
     }
 
-    /// The sign `.`.
+    /// Returns the `.` token.
     pub fn dot_token(&self) -> Option<SyntaxToken<'t>>
         ensures { result ≡ token_of (same_kind k.TOKEN_DOT) self.now }
     {
         first_token(&self.syntax, SyntaxKind::TOKEN_DOT)
     }
 
-    /// The names that lead to the value.
+    /// Returns the attribute path.
     pub fn attrpath(&self) -> Option<Attrpath<'t>>
         ensures { result ≡ child_of (same_kind k.NODE_ATTRPATH) 0 self.now }
     {
         first_child(&self.syntax)
     }
 
-    /// The word `or`.
+    /// Returns the `or` token.
     pub fn or_token(&self) -> Option<SyntaxToken<'t>>
         ensures { result ≡ token_of (same_kind k.TOKEN_OR) self.now }
     {
         first_token(&self.syntax, SyntaxKind::TOKEN_OR)
     }
 
-    /// What stands for the value where the set has none.
+    /// Returns the default after `or`.
     pub fn default_expr(&self) -> Option<Expr<'t>>
         ensures { option_map expr_node result ≡ child_of is_expr 1 self.now }
     {
@@ -66,7 +66,7 @@ impl<'t> Select<'t> {
     }
 }
 
-/// Whether a set has a value, as `a ? b`.
+/// A test for an attribute: `a ? b`.
 pub type HasAttr<'t> = TypedNode<'t, pointee::HasAttr>;
 
 impl NodeType for pointee::HasAttr {
@@ -81,21 +81,21 @@ impl<'t> HasAttr<'t> {
     /// The kind of these nodes.
     pub const KIND: SyntaxKind = SyntaxKind::NODE_HAS_ATTR;
 
-    /// The set.
+    /// Returns the set.
     pub fn expr(&self) -> Option<Expr<'t>>
         ensures { option_map expr_node result ≡ child_of is_expr 0 self.now }
     {
         child_at(&self.syntax, 0)
     }
 
-    /// The sign `?`.
+    /// Returns the `?` token.
     pub fn question_token(&self) -> Option<SyntaxToken<'t>>
         ensures { result ≡ token_of (same_kind k.TOKEN_QUESTION) self.now }
     {
         first_token(&self.syntax, SyntaxKind::TOKEN_QUESTION)
     }
 
-    /// The names that lead to the value.
+    /// Returns the attribute path.
     pub fn attrpath(&self) -> Option<Attrpath<'t>>
         ensures { result ≡ child_of (same_kind k.NODE_ATTRPATH) 0 self.now }
     {

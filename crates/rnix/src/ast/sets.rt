@@ -16,7 +16,7 @@ use rnix_base::{AstChildren, child_at, children, first_child, first_token};
 use rnix_kinds::SyntaxKind;
 use rnix_tree::SyntaxToken;
 
-/// A set, as `{ a = b; }` or `rec { a = b; }`.
+/// An attribute set: `{ a = b; }` or `rec { a = b; }`.
 pub type AttrSet<'t> = TypedNode<'t, pointee::AttrSet>;
 
 impl NodeType for pointee::AttrSet {
@@ -31,21 +31,21 @@ impl<'t> AttrSet<'t> {
     /// The kind of these nodes.
     pub const KIND: SyntaxKind = SyntaxKind::NODE_ATTR_SET;
 
-    /// The word `rec`.
+    /// Returns the `rec` token.
     pub fn rec_token(&self) -> Option<SyntaxToken<'t>>
         ensures { result ≡ token_of (same_kind k.TOKEN_REC) self.now }
     {
         first_token(&self.syntax, SyntaxKind::TOKEN_REC)
     }
 
-    /// The sign `{`.
+    /// Returns the `{` token.
     pub fn l_curly_token(&self) -> Option<SyntaxToken<'t>>
         ensures { result ≡ token_of (same_kind k.TOKEN_L_BRACE) self.now }
     {
         first_token(&self.syntax, SyntaxKind::TOKEN_L_BRACE)
     }
 
-    /// The sign `}`.
+    /// Returns the `}` token.
     pub fn r_curly_token(&self) -> Option<SyntaxToken<'t>>
         ensures { result ≡ token_of (same_kind k.TOKEN_R_BRACE) self.now }
     {
@@ -53,7 +53,7 @@ impl<'t> AttrSet<'t> {
     }
 }
 
-/// An entry with its value, as `a.b = c;`.
+/// An entry with a value: `a.b = c;`.
 pub type AttrpathValue<'t> = TypedNode<'t, pointee::AttrpathValue>;
 
 impl NodeType for pointee::AttrpathValue {
@@ -68,21 +68,21 @@ impl<'t> AttrpathValue<'t> {
     /// The kind of these nodes.
     pub const KIND: SyntaxKind = SyntaxKind::NODE_ATTRPATH_VALUE;
 
-    /// The names that lead to the value.
+    /// Returns the attribute path.
     pub fn attrpath(&self) -> Option<Attrpath<'t>>
         ensures { result ≡ child_of (same_kind k.NODE_ATTRPATH) 0 self.now }
     {
         first_child(&self.syntax)
     }
 
-    /// The sign `=`.
+    /// Returns the `=` token.
     pub fn assign_token(&self) -> Option<SyntaxToken<'t>>
         ensures { result ≡ token_of (same_kind k.TOKEN_ASSIGN) self.now }
     {
         first_token(&self.syntax, SyntaxKind::TOKEN_ASSIGN)
     }
 
-    /// The value.
+    /// Returns the value.
     pub fn value(&self) -> Option<Expr<'t>>
         ensures { option_map expr_node result ≡ child_of is_expr 0 self.now }
     {
@@ -90,7 +90,7 @@ impl<'t> AttrpathValue<'t> {
     }
 }
 
-/// Entries that are taken from around the set or from another one, as `inherit a b;` or `inherit (c) a b;`.
+/// Inherited entries: `inherit a b;` or `inherit (c) a b;`.
 pub type Inherit<'t> = TypedNode<'t, pointee::Inherit>;
 
 impl NodeType for pointee::Inherit {
@@ -105,21 +105,21 @@ impl<'t> Inherit<'t> {
     /// The kind of these nodes.
     pub const KIND: SyntaxKind = SyntaxKind::NODE_INHERIT;
 
-    /// The word `inherit`.
+    /// Returns the `inherit` token.
     pub fn inherit_token(&self) -> Option<SyntaxToken<'t>>
         ensures { result ≡ token_of (same_kind k.TOKEN_INHERIT) self.now }
     {
         first_token(&self.syntax, SyntaxKind::TOKEN_INHERIT)
     }
 
-    /// The set that the entries are taken from.
+    /// Returns the source, if there is one.
     pub fn from(&self) -> Option<InheritFrom<'t>>
         ensures { result ≡ child_of (same_kind k.NODE_INHERIT_FROM) 0 self.now }
     {
         first_child(&self.syntax)
     }
 
-    /// The names of the entries, in order.
+    /// Returns the names, in order.
     pub fn attrs(&self) -> AstChildren<'t, Attr<'t>>
         ensures children { AreChildren is_attr result self.now }
         ensures fits { length (those_of is_attr result) < 2 ^ 64 }
@@ -128,7 +128,7 @@ impl<'t> Inherit<'t> {
     }
 }
 
-/// The set that entries are taken from, as `(c)`.
+/// The source of inherited entries: `(c)`.
 pub type InheritFrom<'t> = TypedNode<'t, pointee::InheritFrom>;
 
 impl NodeType for pointee::InheritFrom {
@@ -143,21 +143,21 @@ impl<'t> InheritFrom<'t> {
     /// The kind of these nodes.
     pub const KIND: SyntaxKind = SyntaxKind::NODE_INHERIT_FROM;
 
-    /// The sign `(`.
+    /// Returns the `(` token.
     pub fn l_paren_token(&self) -> Option<SyntaxToken<'t>>
         ensures { result ≡ token_of (same_kind k.TOKEN_L_PAREN) self.now }
     {
         first_token(&self.syntax, SyntaxKind::TOKEN_L_PAREN)
     }
 
-    /// The set.
+    /// Returns the set.
     pub fn expr(&self) -> Option<Expr<'t>>
         ensures { option_map expr_node result ≡ child_of is_expr 0 self.now }
     {
         child_at(&self.syntax, 0)
     }
 
-    /// The sign `)`.
+    /// Returns the `)` token.
     pub fn r_paren_token(&self) -> Option<SyntaxToken<'t>>
         ensures { result ≡ token_of (same_kind k.TOKEN_R_PAREN) self.now }
     {

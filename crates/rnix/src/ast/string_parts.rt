@@ -16,11 +16,11 @@ use std::alloc::{AllocError, Global};
 /// A part of a string or of a path.
 pub type InterpolPart<'t, T> = rnix_base::InterpolPart<T, Interpol<'t>>;
 
-/// The parts of a string, in order.
+/// An iterator over the parts of a string, in order.
 pub type StrParts<'t> = InterpolParts<'t, StrContent<'t>, Interpol<'t>>;
 
 impl<'t> Str<'t> {
-    /// The contents and the interpolations of the string, in order. Other children are left out.
+    /// Returns the contents and interpolations of the string, in order. Other children are left out.
     pub fn parts(&self) -> StrParts<'t>
         ensures parts { parts_of (same_kind k.TOKEN_STRING_CONTENT) (same_kind k.NODE_INTERPOL) result ≡ string_parts self.now }
         ensures fits { length (parts_of (same_kind k.TOKEN_STRING_CONTENT) (same_kind k.NODE_INTERPOL) result) < 2 ^ 64 }
@@ -28,7 +28,7 @@ impl<'t> Str<'t> {
         parts_in::<StrContent<'t>, Interpol<'t>>(&self.syntax)
     }
 
-    /// The parts as they are meant: without the indentation of a string in `''`, and with what their escapes stand for.
+    /// Returns the parts with escapes replaced and, in `''`, without the indentation.
     pub fn normalized_parts(
         &self,
         alloc: Global,

@@ -13,7 +13,7 @@ use crate::ast::typed_node::{NodeType, TypedNode};
 use rnix_base::{LiteralKind, child_at, first_literal};
 use rnix_kinds::SyntaxKind;
 
-/// A string, as `"a ${b}"` or `''a ${b}''`.
+/// A string: `"a ${b}"` or `''a ${b}''`.
 pub type Str<'t> = TypedNode<'t, pointee::Str>;
 
 impl NodeType for pointee::Str {
@@ -29,7 +29,7 @@ impl<'t> Str<'t> {
     pub const KIND: SyntaxKind = SyntaxKind::NODE_STRING;
 }
 
-/// A value inside a string or a path, as `${b}`.
+/// An interpolation in a string or a path: `${b}`.
 pub type Interpol<'t> = TypedNode<'t, pointee::Interpol>;
 
 impl NodeType for pointee::Interpol {
@@ -44,7 +44,7 @@ impl<'t> Interpol<'t> {
     /// The kind of these nodes.
     pub const KIND: SyntaxKind = SyntaxKind::NODE_INTERPOL;
 
-    /// The value.
+    /// Returns the value.
     pub fn expr(&self) -> Option<Expr<'t>>
         ensures { option_map expr_node result ≡ child_of is_expr 0 self.now }
     {
@@ -52,7 +52,7 @@ impl<'t> Interpol<'t> {
     }
 }
 
-/// A number or an address, as `1`, `1.5` or `https://nixos.org`.
+/// A number or a URI: `1`, `1.5` or `https://nixos.org`.
 pub type Literal<'t> = TypedNode<'t, pointee::Literal>;
 
 impl NodeType for pointee::Literal {
@@ -67,7 +67,7 @@ impl<'t> Literal<'t> {
     /// The kind of these nodes.
     pub const KIND: SyntaxKind = SyntaxKind::NODE_LITERAL;
 
-    /// What it is: the first number with a point, else the first whole number, else the first address.
+    /// Returns the literal: the first float among the tokens, else the first integer, else the first URI.
     pub fn kind(&self) -> Option<LiteralKind<'t>>
         ensures { result ≡ first_literal self.now }
     {

@@ -11,7 +11,7 @@ use rnix_tree::SyntaxNode;
 use std::fmt;
 use std::marker::{Model, PhantomData};
 
-/// What names a kind of nodes, as `pointee::LetIn` does.
+/// A name for a kind of nodes, such as `pointee::LetIn`.
 pub trait NodeType: Drop {
     ghost KIND: { SyntaxKind };
 
@@ -22,7 +22,7 @@ pub trait NodeType: Drop {
     const NAME: &'static str;
 }
 
-/// A node of one kind. `LetIn` and the like are its names at each kind.
+/// A node of one kind. `LetIn` and the like are its names for each kind.
 #[derive(Drop)]
 #[derive_where(Clone, PartialEq, Eq, Hash)]
 pub struct TypedNode<'t, K: NodeType> {
@@ -45,7 +45,7 @@ impl<'t, K: NodeType> Model for TypedNode<'t, K> {
     ghost invariant = { λ n. HasKind K.KIND n.syntax };
 }
 
-// Whether the kinds are one.
+// Returns whether the kinds are equal.
 fn same_kind(a: SyntaxKind, b: SyntaxKind) -> bool
     ensures { result ≡ same_kind a b }
 {
@@ -96,7 +96,7 @@ impl<'t, K: NodeType> fmt::Debug for TypedNode<'t, K> {
 }
 
 impl<'t, K: NodeType> TypedNode<'t, K> {
-    // The node, which has the kind.
+    // Returns the node, which has the kind.
     pub(crate) fn new(syntax: SyntaxNode<'t>) -> Self
         requires { HasKind K.KIND syntax }
         ensures { result ≡ syntax.entry }
@@ -107,7 +107,7 @@ impl<'t, K: NodeType> TypedNode<'t, K> {
         }
     }
 
-    /// The same node once more.
+    /// Returns a copy, without allocating.
     pub fn clone(&self) -> Self
         ensures { result ≡ self.now }
     {
