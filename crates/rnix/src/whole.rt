@@ -9,7 +9,7 @@ ghost use Rattle.rnix_grammar.specs.Parsed.{IsParsed};
 ghost use Rattle.rnix_base.specs.Select.{nodes_of, child_of};
 ghost use Rattle.rnix.specs.WholeTree.{HasTokensAlone, IsWhole, IsInTree};
 
-/// Returns the nodes of a text without errors have their parts, and so have those of each tree whose nodes have their shapes and whose leaves are tokens.
+/// The nodes of a text without errors have their parts, and so have those of each tree whose nodes have their shapes and whose leaves are tokens.
 /// Children belong to the tree of their parent, so this extends to them.
 pub fn nodes_have_parts(text: &str)
     ensures read { (kind : SyntaxKind) (n : Located) → IsParsed (tokens_of text.now) n.tree [] → IsWhole kind n }

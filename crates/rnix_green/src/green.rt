@@ -17,7 +17,7 @@ pub struct Element {
     pub start: usize,
     pub end: usize,
     pub parent: Option<usize>,
-    /// Returns the number of elements inside.
+    /// The number of elements inside.
     pub below: usize,
 }
 

@@ -160,7 +160,7 @@ impl TextRange {
     }
 }
 
-/// Returns the empty range at offset 0.
+/// The default is the empty range at offset 0.
 impl Default for TextRange {
     ghost use Rattle.std.specs.Prelude.{◌≡◌};
     ghost use Rattle.rnix_green.specs.Range.{bounds_of};
