@@ -1,10 +1,11 @@
 -- What is still to come where an operand has begun: the whole operand, and what comes behind it.
 use Rattle.std.proofs.Common.{◌≡◌, ℕ, true, false, List, [], ◌∷◌, ◌++◌, Some, refl, ap, sym, ◌∙◌, subst, append_assoc}
-use Rattle.{rnix_kinds.specs.declared.kinds.SyntaxKind.SyntaxKind, rnix_grammar.specs.{Fault.Fault, AnnotatedForest.{Token, AnnotatedForest, blank, token}}}
-use Rattle.rnix_grammar.specs.{AnnotatedForest.{◌⊕◌, one_token, one_branch, tokens_in, leaf_kind, end_from}, Machine.{Operand, Frame, put, opened}, Rows.fits}
-use Rattle.rnix_grammar.specs.{Rows.{RowState, Start, At, advance, live, start}, TreeLevels.is_or_row, ExpectedItems.IsExpected, Operands.first_tree}
-use Rattle.{rnix_grammar.specs.{Operands.{IsFollowed, IsBegun, IsOperand}, PlaceReads.{Reads, end, leaf}}, rnix_lemmas.proofs.FollowLemmas.Stops}
-use Rattle.rnix_existence.proofs.{OpenFrames.{seen_kind, Lone, a_node, Ends}, OperandTrees.past_over, OperandEnds.{OperandEnds, operand_ends}}
+use Rattle.rnix_kinds.specs.declared.kinds.SyntaxKind.{SyntaxKind}
+use Rattle.rnix_grammar.specs.{Fault.{Fault}, AnnotatedForest.{Token, AnnotatedForest, blank, token, ◌⊕◌, one_token, one_branch, tokens_in, leaf_kind}}
+use Rattle.rnix_grammar.specs.{AnnotatedForest.{end_from}, Machine.{Operand, Frame, put, opened}, Rows.{fits}, TreeLevels.{is_or_row}, Operands.{first_tree}}
+use Rattle.rnix_grammar.specs.{Beginnings.{BeginsAs, IsOperandOf}, Reads.{Reads, end}, Rules.{Row, after, done, row as whole_row}}
+use Rattle.rnix_lemmas.proofs.{FollowLemmas.{Stops}, RowParts.{IsFront}, ReadsFrom.{leaf_from, past_over}}
+use Rattle.rnix_existence.proofs.{OpenFrames.{seen_kind, Lone, a_node, Ends}, OperandEnds.{OperandEnds, operand_ends}}
 use Rattle.rnix_grammar.specs.declared.place.Place.TheVariants as p
 
 -- a whole operand of a level above a frame that waits for it, and what comes behind it: gs are the errors before it, and hs all errors
@@ -17,14 +18,14 @@ pub record BeginEnds (level d : ℕ) (g : Frame) (fs : List Frame) (ts : List To
   pub lone : Lone d n tree left inside
   pub fit : fits level (seen_kind tree) ≡ true
   pub no_or : is_or_row tree ≡ false
-  pub operand : IsOperand (Some level) tree left
+  pub operand : IsOperandOf (Some level) tree left
   pub items : ts ≡ tokens_in tree ++ left
   pub reach : reached ≡ end_from n (tokens_in tree)
   pub ends : Ends (put g.place (g.row ⊕ tree) g ∷ fs) left reached row behind
   pub faults : gs ++ (inside ++ behind) ≡ hs
 
 -- trees with one first tree begin alike
-pub begun_same : (level : ℕ) (x y : AnnotatedForest) (ts : List Token) → first_tree y ≡ first_tree x → IsBegun level x ts → IsBegun level y ts
+pub begun_same : (level : ℕ) (x y : AnnotatedForest) (ts : List Token) → first_tree y ≡ first_tree x → BeginsAs level x ts → BeginsAs level y ts
 begun_same level x y [] e h = h
 begun_same level x y (t ∷ ts) e h = h ∙ sym e
 
@@ -36,7 +37,7 @@ under_same e = cc
 
 -- the first tree of an operand goes on to the whole operand
 pub tree_ends : (level high d : ℕ) (g : Frame) (fs : List Frame) (ts us : List Token) (n m : ℕ) (row x : AnnotatedForest) (cs es gs hs : List Fault) → Stops high x
-    → ts ≡ tokens_in x ++ us → m ≡ end_from n (tokens_in x) → IsBegun level x ts → Lone d n x us cs
+    → ts ≡ tokens_in x ++ us → m ≡ end_from n (tokens_in x) → BeginsAs level x ts → Lone d n x us cs
     → Ends (opened Operand (p.Behind level high) d x ∷ (put g.place g.row g ∷ fs)) us m row es → gs ++ (cs ++ es) ≡ hs → BeginEnds level d g fs ts n row gs hs
 tree_ends level high d g fs ts us n m row x cs es gs hs stops items reach begun lone ends faults = record {
   left = o.left;
@@ -49,7 +50,7 @@ tree_ends level high d g fs ts us n m row x cs es gs hs stops items reach begun 
   no_or = o.grows.no_or;
   operand = (
     o.grows.least,
-    subst (IsBegun level o.tree) all (begun_same level x o.tree ts o.grows.first begun),
+    subst (BeginsAs level o.tree) all (begun_same level x o.tree ts o.grows.first begun),
     o.grows.calm stops,
   );
   items = all;
@@ -67,11 +68,11 @@ tree_ends level high d g fs ts us n m row x cs es gs hs stops items reach begun 
     all = items ∙ o.grows.items
 
 -- an item where the row of a node begins
-pub first_leaf : {d n : ℕ} {q s : RowState} {us : List Token} {f : AnnotatedForest} {es : List Fault} (k : SyntaxKind) (t : Token) → start k ≡ Start k → advance (start k) (leaf_kind k t) ≡ q → live q ≡ true
-    → Reads k d t.end q s (one_token (leaf_kind k t) t) us f es → Reads k d n (start k) s blank us (token (leaf_kind k t) t f) es
-first_leaf {n = n} {us = us} {f = f} k t e g l z =
-    leaf refl refl (subst (λ (y : RowState). IsExpected y n (t ∷ (tokens_in f ++ us)) true) (sym e) tt) (subst (λ (y : RowState). IsFollowed y blank (Some (leaf_kind k t))) (sym e) tt) g l refl refl z
+pub first_leaf : {d n : ℕ} {q s : Row} {us : List Token} {f : AnnotatedForest} {es : List Fault} (k : SyntaxKind) (t : Token) → IsFront (whole_row k)
+    → after (whole_row k) (leaf_kind k t) ≡ q → Reads k d t.end q s (one_token (leaf_kind k t) t) us f es → Reads k d n (whole_row k) s blank us (token (leaf_kind k t) t f) es
+first_leaf {n = n} {us = us} {f = f} k t w g z = leaf_from refl (w.expected n (t ∷ (tokens_in f ++ us)) true) (w.followed blank (Some (leaf_kind k t))) g z
 
 -- a node of one item
-pub leaf_node : {d n : ℕ} {us : List Token} (k : SyntaxKind) (t : Token) → start k ≡ Start k → advance (start k) (leaf_kind k t) ≡ At p.Past → Lone d n (one_branch k (one_token (leaf_kind k t) t)) us []
-leaf_node {us = us} k t e g = a_node (first_leaf k t e g refl end) refl (past_over t.end us)
+pub leaf_node : {d n : ℕ} {us : List Token} (k : SyntaxKind) (t : Token) → IsFront (whole_row k) → after (whole_row k) (leaf_kind k t) ≡ done
+    → Lone d n (one_branch k (one_token (leaf_kind k t) t)) us []
+leaf_node {us = us} k t w g = a_node (first_leaf k t w g end) refl (past_over t.end us)

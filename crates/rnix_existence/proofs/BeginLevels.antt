@@ -1,13 +1,16 @@
 -- How an operand begins: its first tree, and what may go on with it.
 use Rattle.std.proofs.Common.{◌≡◌, ℕ, ◌≤◌, Bool, true, false, List, Option, Some, refl, ap, sym, ◌∙◌, subst, arith, if◌then◌else◌, nat_eq, nat_le, ◌||◌, ◌-◌}
-use Rattle.rnix_kinds.specs.declared.kinds.SyntaxKind.{SyntaxKind, TheVariants.{TOKEN_IDENT, TOKEN_L_BRACE, TOKEN_COLON, TOKEN_AT, TOKEN_LET, TOKEN_INVERT, TOKEN_SUB}}
-use Rattle.rnix_kinds.specs.declared.kinds.SyntaxKind.TheVariants.{NODE_APPLY, NODE_BIN_OP, NODE_HAS_ATTR, NODE_IDENT, NODE_ROOT, NODE_SELECT, NODE_UNARY_OP}
-use Rattle.rnix_grammar.specs.declared.{begin.Begin.Begin}
-use Rattle.rnix_grammar.specs.{Begins.{is_pattern, begin_name, begin_let, begin_keyword, begin_scope, begin_of}, Tables.is_cur_pos, TokenKinds.is_or, Operands.first_tree}
-use Rattle.rnix_grammar.specs.AnnotatedForest.{Token, AnnotatedForest, token, one_token, one_branch, leaf_kind_as}
-use Rattle.rnix_grammar.specs.{Rows.{is_atom, is_expression, is_loose, fits, Start, At, advance, start}, TreeLevels.{is_or_row, is_atom_row, row_level}}
-use Rattle.rnix_lemmas.proofs.{Basics.{true_is_not_false, choice}, LevelLemmas.{atom_fits, fits_looser, at_most, same_number}, NodeKinds.is_error, NestTrees.is_formal}
-use Rattle.rnix_lemmas.proofs.FollowLemmas.{FollowedTo, followed_atom, followed_negated, followed_inverted, followed_loose}
+use Rattle.rnix_kinds.specs.{declared.kinds.SyntaxKind.{SyntaxKind}, declared.kinds.SyntaxKind.TheVariants.{TOKEN_IDENT, TOKEN_L_BRACE, TOKEN_COLON}}
+use Rattle.rnix_kinds.specs.declared.kinds.SyntaxKind.TheVariants.{TOKEN_AT, TOKEN_LET, TOKEN_INVERT, TOKEN_SUB, NODE_APPLY, NODE_BIN_OP, NODE_HAS_ATTR}
+use Rattle.rnix_kinds.specs.declared.kinds.SyntaxKind.TheVariants.{NODE_IDENT, NODE_SELECT, NODE_UNARY_OP}
+use Rattle.rnix_kinds.proofs.AllKinds.{implied}
+use Rattle.rnix_grammar.specs.{declared.begin.Begin.{Begin}, Begins.{is_pattern, begin_name, begin_let, begin_keyword, begin_scope, begin_of}}
+use Rattle.rnix_grammar.specs.{Tables.{is_cur_pos}, TokenKinds.{is_or}, Operands.{first_tree}, AnnotatedForest.{Token, AnnotatedForest, token, one_token}}
+use Rattle.rnix_grammar.specs.{AnnotatedForest.{one_branch, leaf_kind_as}, Rows.{is_atom, is_expression, is_loose, fits}, TreeLevels.{is_or_row, is_atom_row}}
+use Rattle.rnix_grammar.specs.{TreeLevels.{row_level}, Rules.{after, done, row as whole_row}}
+use Rattle.rnix_lemmas.proofs.{Basics.{true_is_not_false, choice}, LevelLemmas.{atom_fits, fits_looser, at_most, same_number}, NodeKinds.{is_error}}
+use Rattle.rnix_lemmas.proofs.{NestTrees.{is_formal}, FollowLemmas.{FollowedTo, followed_atom, followed_negated, followed_inverted, followed_loose}}
+use Rattle.rnix_lemmas.proofs.{RowParts.{IsFront, front, is_front}, RestAt.{rest_at}}
 use Rattle.rnix_existence.proofs.{Frames.{row_at, MayGrow}, Growing.{no_name, grows_by}}
 use Rattle.rnix_grammar.specs.declared.place.Place.TheVariants as p
 use Rattle.rnix_grammar.specs.declared.begin.Begin.TheVariants as b
@@ -21,9 +24,8 @@ is_begun NODE_SELECT = false
 is_begun k = is_expression k
 
 -- the row of such a node begins with its first child
-pub begun_start : (k : SyntaxKind) → is_begun k ≡ true → start k ≡ Start k
-begun_start NODE_ROOT h = absurd (true_is_not_false (sym h))
-begun_start _ h = cc
+pub begun_front : (k : SyntaxKind) → is_begun k ≡ true → IsFront (whole_row k)
+begun_front k h = front (whole_row k) (implied is_begun (λ j. is_front (whole_row j)) refl k h)
 
 -- and it is its own first tree
 pub own_first : (k j : SyntaxKind) (t : Token) (r : AnnotatedForest) → is_begun k ≡ true → first_tree (one_branch k (token j t r)) ≡ k
@@ -43,9 +45,9 @@ high_at k kind = tight_at k kind
 
 -- what is known of the first items, and of the tree that begins so: an atom, or a node that is no looser than the level
 abbrev pub BeginsTree : Begin → ℕ → SyntaxKind → Option SyntaxKind → Type 0
-BeginsTree (b.Leaf k) level kind second = (advance (start k) (leaf_kind_as k kind) ≡ At p.Past) × (is_begun k ≡ true) × (is_atom k ≡ true) × ((if is_error k then is_or kind else false) ≡ false)
+BeginsTree (b.Leaf k) level kind second = (after (whole_row k) (leaf_kind_as k kind) ≡ done) × (is_begun k ≡ true) × (is_atom k ≡ true) × ((if is_error k then is_or kind else false) ≡ false)
 BeginsTree (b.Node k z high) level kind second =
-    (advance (start k) (leaf_kind_as k kind) ≡ At z) × (is_begun k ≡ true) × ((is_atom k || nat_le level (tight_at k kind)) ≡ true) × (is_error k ≡ false) × (row_at z ≡ Some (is_formal k)) × (high_at k kind ≡ high)
+    (after (whole_row k) (leaf_kind_as k kind) ≡ rest_at z) × (is_begun k ≡ true) × ((is_atom k || nat_le level (tight_at k kind)) ≡ true) × (is_error k ≡ false) × (row_at z ≡ Some (is_formal k)) × (high_at k kind ≡ high)
 BeginsTree b.LegacyLet level kind second = (kind ≡ TOKEN_LET) × (second ≡ Some TOKEN_L_BRACE) × (level ≡ 0)
 BeginsTree b.NameLambda level kind second = kind ≡ TOKEN_IDENT
 BeginsTree b.BoundLambda level kind second = (kind ≡ TOKEN_IDENT) × (second ≡ Some TOKEN_AT)

@@ -1,17 +1,18 @@
 -- What ends behind a step at an open node or a second name ends before it, whatever stands there.
-use Rattle.rnix_lemmas.proofs.PlaceTests.{own_next, own_at}
-use Rattle.std.proofs.Common.{◌≡◌, inl, inr, ℕ, ◌≤◌, Bool, true, false, List, [], ◌∷◌, Some, None, refl, ap, sym, ◌∙◌, subst}
-use Rattle.rnix_kinds.specs.declared.kinds.SyntaxKind.{SyntaxKind, TheVariants.{NODE_IDENT, NODE_PAT_ENTRY}}
-use Rattle.rnix_grammar.specs.declared.{place.Place.Place, symbol.Symbol.Symbol, action.Action.Action}
-use Rattle.rnix_grammar.specs.{Fault.{Fault, ended, ended_before}, Tables.{depth_limit, wanted_kinds}, Symbols.{symbol_at, level_in}, Actions.action_at}
-use Rattle.rnix_grammar.specs.{AnnotatedForest.{Token, AnnotatedForest, leaf_kind, head_kind, touches}, Machine.{Node, Second, Frame, kind_of}}
-use Rattle.rnix_grammar.specs.{Rows.{At, advance, whole}, Reports.repeats, PlaceReads.IsOver}
-use Rattle.rnix_lemmas.proofs.{Basics.{true_is_not_false, some_same}, EveryKind.only, NodeKinds.told_plain, NestTrees.is_formal, OpenHeads.is_open}
-use Rattle.rnix_existence.proofs.{OpenFrames.{closing, EndsBy}, Frames.{row_at, Other, Below, AtNode, AtSecond}, BelowKept.alone}
-use Rattle.rnix_existence.proofs.{BeginReads.{read_ends, series_ends}, StepTable.{MayRead, Suits, is_in_row, suits}}
-use Rattle.rnix_existence.proofs.{RowSteps.{takes, misses, runs_by, left_over, names}, NodeOpens.{opens, begins_node, begins_entry, begins_second, closes, closes_entry, closes_twice}}
+use Rattle.std.proofs.Common.{◌≡◌, inl, inr, ℕ, ◌≤◌, Bool, true, false, List, [], ◌∷◌, Some, None, refl, ap, sym, ◌∙◌}
+use Rattle.rnix_kinds.specs.{declared.kinds.SyntaxKind.{SyntaxKind}, declared.kinds.SyntaxKind.TheVariants.{NODE_IDENT, NODE_PAT_ENTRY}}
+use Rattle.rnix_grammar.specs.{declared.place.Place.{Place}, declared.action.Action.{Action}, Fault.{Fault, ended, ended_before}, Tables.{depth_limit}}
+use Rattle.rnix_grammar.specs.{Tables.{wanted_kinds}, Actions.{action_at}, AnnotatedForest.{Token, AnnotatedForest, leaf_kind, head_kind, touches, blank}}
+use Rattle.rnix_grammar.specs.{Machine.{Node, Second, Frame, kind_of}, Reports.{repeats}, Rules.{IsExpected, after, level_at, missing, row as whole_row}}
+use Rattle.rnix_grammar.specs.Reads.{IsOver}
+use Rattle.rnix_lemmas.proofs.{Basics.{true_is_not_false, some_same, not_nil}, EveryKind.{only}, NodeKinds.{told_plain}, NestTrees.{is_formal}}
+use Rattle.rnix_lemmas.proofs.{OpenHeads.{is_open}, PlaceTable.{IsOperandHere, MayEnd, Suits, is_in_row, suits}, RowParts.{expected_as, expects_at}}
+use Rattle.rnix_lemmas.proofs.{RowParts.{expects_next, front}, RestAt.{left_at, rest_at}}
+use Rattle.rnix_existence.proofs.{OpenFrames.{closing, EndsBy}, Frames.{row_at, Other, Below, AtNode, AtSecond}, BelowKept.{alone}, RowSteps.{takes, misses}}
+use Rattle.rnix_existence.proofs.{RowSteps.{runs_by, left_over, names, node_at}, NodeOpens.{opens, begins_node, begins_entry, begins_second, closes}}
+use Rattle.rnix_existence.proofs.{NodeOpens.{closes_entry, closes_twice}, PlaceRows.{ClosesAt, closes_at}, OperandTrees.{left_takes}}
+use Rattle.rnix_existence.proofs.BeginReads.{reading_ends}
 use Rattle.rnix_grammar.specs.declared.place.Place.TheVariants as p
-use Rattle.rnix_grammar.specs.declared.symbol.Symbol.TheVariants as s
 use Rattle.rnix_grammar.specs.declared.action.Action.TheVariants as a
 
 -- what is known of the innermost frame, if it is a node or a second name
@@ -19,48 +20,56 @@ record IsInnermost (f : Frame) (fs : List Frame) : Type 0 where
   wide : is_open f.head ≡ true
   plain : (t : Token) → leaf_kind (kind_of f.head) t ≡ t.kind
   in_row : is_in_row f.place ≡ true
-  shallow : (level : ℕ) → level_in (symbol_at f.place) ≡ Some level → f.depth ≤ depth_limit
+  shallow : (level : ℕ) → level_at (rest_at f.place) blank ≡ Some level → f.depth ≤ depth_limit
   silent : row_at f.place ≡ Some false → (b c : AnnotatedForest) → closing f.head b c ≡ []
   formal : row_at f.place ≡ Some true → f.head ≡ Node NODE_PAT_ENTRY
   second : row_at f.place ≡ None → (f.head ≡ Second) × Below Other fs
 
--- a row may end where it is whole and what comes next is not its own
-over : (x : Place) (n : ℕ) (ts : List Token) → whole (At x) ≡ true → own_next (symbol_at x) (touches n ts) (head_kind ts) ≡ false → IsOver (At x) n ts
-over x n ts w own = (w, own_at x n ts ∙ own)
+-- the next item, or the end of the text, is expected, or not
+expected : (x : Place) (n : ℕ) (ts : List Token) (own : Bool) → expects_next (rest_at x) (touches n ts) (head_kind ts) ≡ own → IsExpected (rest_at x) n ts own
+expected x n ts own h = expected_as (rest_at x) n ts own (expects_at (rest_at x) n ts ∙ h)
+
+-- a row may end here
+over : (x : Place) (n : ℕ) (ts : List Token) → MayEnd (rest_at x) (touches n ts) (head_kind ts) → IsOver (rest_at x) n ts
+over x n ts w = (w.0, expected x n ts false w.1)
 
 -- a second name is complete
-ends_second : (f : Frame) (fs : List Frame) (ts : List Token) (n : ℕ) (gs : List Fault) → (f.head ≡ Second) × Below Other fs → IsOver (At f.place) n ts → EndsBy a.CloseTwice f fs ts n gs
+ends_second : (f : Frame) (fs : List Frame) (ts : List Token) (n : ℕ) (gs : List Fault) → (f.head ≡ Second) × Below Other fs → IsOver (rest_at f.place) n ts
+    → EndsBy a.CloseTwice f fs ts n gs
 ends_second f [] ts n gs h o = absurd (alone h.1)
 ends_second f (g ∷ fs) ts n gs h o = closes_twice f g fs ts n gs h.0 o
 
 -- an operand
-ends_read : (symbol : Symbol) (f : Frame) (fs : List Frame) (ts : List Token) (n : ℕ) (gs : List Fault) (level : ℕ) (counted : Bool) (y : Place) → IsInnermost f fs
-    → symbol_at f.place ≡ symbol → MayRead symbol f.place (head_kind ts) level counted y → EndsBy (a.Read level counted y) f fs ts n gs
-ends_read (s.Operand l c z) f fs ts n gs level counted y r e w = read_ends f fs ts n gs level counted y r.wide (r.shallow l (ap level_in e)) (cc)
-ends_read (s.Series l closer) f fs (t ∷ ts) n gs level counted y r e w = series_ends f fs t ts n gs level closer counted y r.wide (r.shallow l (ap level_in e)) (cc) w.3 w.1 w.2
-ends_read _ f fs ts n gs level counted y r e w = absurd w
+ends_read : (f : Frame) (fs : List Frame) (ts : List Token) (n : ℕ) (gs : List Fault) (level : ℕ) (counted : Bool) (y : Place) → IsInnermost f fs
+    → IsOperandHere (rest_at f.place) (touches n ts) (head_kind ts) level counted (rest_at y)
+    → (ts ≡ [] → missing (rest_at f.place) ≡ Some (ended, rest_at y)) → EndsBy (a.Read level counted y) f fs ts n gs
+ends_read f fs ts n gs level counted y r w lost =
+    reading_ends f fs ts n gs level counted y r.wide (r.shallow level w.0) (left_takes (rest_at f.place) level (rest_at y) (left_at f.place) w.0 w.3) w.1
+    (expected f.place n ts false w.2) lost
 
--- what suits its place stands in the row
-ends_by : (action : Action) (f : Frame) (fs : List Frame) (ts : List Token) (n : ℕ) (gs : List Fault) → IsInnermost f fs → Suits f.place (touches n ts) (head_kind ts) action
-    → EndsBy action f fs ts n gs
-ends_by a.Close f fs ts n gs r w = closes f fs ts n gs r.wide (over f.place n ts w.0 w.1) (r.silent w.2)
-ends_by a.ClosePattern f fs ts n gs r w = closes f fs ts n gs r.wide (over f.place n ts w.0 w.1) (r.silent w.2)
-ends_by a.CloseEntry f fs ts n gs r w = closes_entry f fs ts n gs (r.formal w.2) (over f.place n ts w.0 w.1)
-ends_by a.CloseTwice f fs ts n gs r w = ends_second f fs ts n gs (r.second w.2) (over f.place n ts w.0 w.1)
-ends_by a.Finish f fs ts n gs r w = λ row es ends. (es, (ends, refl))
-ends_by a.Extra f fs (t ∷ ts) n gs r w = left_over f fs t ts n gs r.wide w
-ends_by (a.Take y) f fs (t ∷ ts) n gs r w = takes f fs t ts n gs y r.wide w.0 (ap (advance (At f.place)) (r.plain t) ∙ w.1)
-ends_by (a.Miss y) f fs [] n gs r w = misses f fs n gs ended y r.wide w
-ends_by (a.MissWanted until y) f fs [] n gs r w = misses f fs n gs (ended_before (wanted_kinds until)) y r.wide w
-ends_by (a.Run until y) f fs (t ∷ ts) n gs r w = runs_by f fs t ts n gs until y r.wide w.0 w.1 w.2
-ends_by (a.Leaf NODE_IDENT y) f fs (t ∷ ts) n gs r w = names f fs t ts n gs y r.wide w.0 w.1
-ends_by (a.Open k z y) f fs (t ∷ ts) n gs r w = opens f fs t ts n gs k z y r.wide w.1 w.2 w.0
-ends_by (a.Begin k z y) f fs ts n gs r w = begins_node f fs ts n gs k z y r.wide w.1 w.0
-ends_by (a.Entry y) f fs (t ∷ ts) n gs r w = begins_entry f fs t ts n gs y r.wide w.1 w.0
-ends_by (a.Twice y) f fs (t ∷ ts) n gs r w = subst (λ (z : Place). EndsBy (a.Twice z) f fs (t ∷ ts) n gs) (sym w.2) (begins_second f fs t ts n gs r.wide w.0 w.1)
-ends_by (a.Read level counted y) f fs ts n gs r w = ends_read (symbol_at f.place) f fs ts n gs level counted y r refl w
-ends_by _ f fs [] n gs r w = absurd w
-ends_by _ f fs (t ∷ ts) n gs r w = absurd w
+-- what is allowed at its place stands in the row
+ends_by : (action : Action) (f : Frame) (fs : List Frame) (ts : List Token) (n : ℕ) (gs : List Fault) → IsInnermost f fs
+    → Suits (rest_at f.place) (touches n ts) (head_kind ts) action → ClosesAt f.place action → EndsBy action f fs ts n gs
+ends_by a.Close f fs ts n gs r w z = closes f fs ts n gs r.wide (over f.place n ts w) (r.silent z)
+ends_by a.ClosePattern f fs ts n gs r w z = closes f fs ts n gs r.wide (over f.place n ts w) (r.silent z)
+ends_by a.CloseEntry f fs ts n gs r w z = closes_entry f fs ts n gs (r.formal z) (over f.place n ts w)
+ends_by a.CloseTwice f fs ts n gs r w z = ends_second f fs ts n gs (r.second z) (over f.place n ts w)
+ends_by a.Finish f fs ts n gs r w z = λ row es ends. (es, (ends, refl))
+ends_by a.Extra f fs (t ∷ ts) n gs r w z = left_over f fs t ts n gs r.wide w
+ends_by (a.Take y) f fs (t ∷ ts) n gs r w z =
+    takes f fs t ts n gs y r.wide (expected f.place n (t ∷ ts) true w.0) (ap (after (rest_at f.place)) (r.plain t) ∙ w.1)
+ends_by (a.Miss y) f fs [] n gs r w z = misses f fs n gs ended y r.wide w
+ends_by (a.MissWanted until y) f fs [] n gs r w z = misses f fs n gs (ended_before (wanted_kinds until)) y r.wide w
+ends_by (a.Run until y) f fs (t ∷ ts) n gs r w z = runs_by f fs t ts n gs until y r.wide (expected f.place n (t ∷ ts) false w.0) w.1 w.2
+ends_by (a.Leaf NODE_IDENT y) f fs (t ∷ ts) n gs r w z = names f fs t ts n gs y r.wide (node_at f.place n (t ∷ ts) NODE_IDENT y w.0) w.1
+ends_by (a.Open k x y) f fs (t ∷ ts) n gs r w z = opens f fs t ts n gs k x y r.wide (front (whole_row k) w.1) w.2 (node_at f.place n (t ∷ ts) k y w.0)
+ends_by (a.Begin k x y) f fs ts n gs r w z = begins_node f fs ts n gs k x y r.wide w.1 (node_at f.place n ts k y w.0)
+ends_by (a.Entry y) f fs (t ∷ ts) n gs r w z = begins_entry f fs t ts n gs y r.wide w.1 (node_at f.place n (t ∷ ts) NODE_PAT_ENTRY y w.0)
+ends_by (a.Twice y) f fs (t ∷ ts) n gs r w z = begins_second f fs t ts n gs y r.wide w.0 w.1 w.2
+ends_by (a.Read level counted y) f fs [] n gs r w z = ends_read f fs [] n gs level counted y r w.0 (λ e. w.1)
+ends_by (a.Read level counted y) f fs (t ∷ ts) n gs r w z = ends_read f fs (t ∷ ts) n gs level counted y r w (λ e. absurd (not_nil e))
+ends_by _ f fs [] n gs r w z = absurd w
+ends_by _ f fs (t ∷ ts) n gs r w z = absurd w
 
 -- an open node is such a frame
 node_innermost : (f : Frame) (fs : List Frame) → AtNode f fs → IsInnermost f fs
@@ -94,15 +103,20 @@ second_innermost f fs r = record {
   second = λ h. (r.head, r.below);
 }
   where
-    here : (is_in_row f.place ≡ true) × (level_in (symbol_at f.place) ≡ None) × (row_at f.place ≡ None)
-    here = elim r.place [ inl e ↦ (ap is_in_row e, ap (λ z. level_in (symbol_at z)) e, ap row_at e) | inr e ↦ (ap is_in_row e, ap (λ z. level_in (symbol_at z)) e, ap row_at e) ]
+    here : (is_in_row f.place ≡ true) × (level_at (rest_at f.place) blank ≡ None) × (row_at f.place ≡ None)
+    here = elim r.place [ inl e ↦ (ap is_in_row e, ap (λ z. level_at (rest_at z) blank) e, ap row_at e) | inr e ↦ (ap is_in_row e, ap (λ z. level_at (rest_at z) blank) e, ap row_at e) ]
 
--- what ends behind a step at an open node ends before it
+-- what ends behind a step at such a frame ends before it
+innermost_ends : (f : Frame) (fs : List Frame) (ts : List Token) (n : ℕ) (gs : List Fault) → IsInnermost f fs
+    → EndsBy (action_at f.place (head_kind ts) (touches n ts)) f fs ts n gs
+innermost_ends f fs ts n gs i =
+    ends_by (action_at f.place (head_kind ts) (touches n ts)) f fs ts n gs i (suits f.place (touches n ts) (head_kind ts) i.in_row)
+    (closes_at f.place (head_kind ts) (touches n ts) i.in_row)
+
+-- so it does at an open node
 pub node_ends : (f : Frame) (fs : List Frame) (ts : List Token) (n : ℕ) (gs : List Fault) → AtNode f fs → EndsBy (action_at f.place (head_kind ts) (touches n ts)) f fs ts n gs
-node_ends f fs ts n gs r =
-    let i = node_innermost f fs r in ends_by (action_at f.place (head_kind ts) (touches n ts)) f fs ts n gs i (suits f.place (touches n ts) (head_kind ts) i.in_row)
+node_ends f fs ts n gs r = innermost_ends f fs ts n gs (node_innermost f fs r)
 
--- what ends behind a step at a second name ends before it
+-- and at a second name
 pub second_ends : (f : Frame) (fs : List Frame) (ts : List Token) (n : ℕ) (gs : List Fault) → AtSecond f fs → EndsBy (action_at f.place (head_kind ts) (touches n ts)) f fs ts n gs
-second_ends f fs ts n gs r =
-    let i = second_innermost f fs r in ends_by (action_at f.place (head_kind ts) (touches n ts)) f fs ts n gs i (suits f.place (touches n ts) (head_kind ts) i.in_row)
+second_ends f fs ts n gs r = innermost_ends f fs ts n gs (second_innermost f fs r)

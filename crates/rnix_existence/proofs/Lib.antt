@@ -8,7 +8,6 @@ pub mod BeginKept
 pub mod NodeKept
 pub mod OperandKept
 pub mod RowFronts
-pub mod StepTable
 pub mod RowSteps
 pub mod NodeOpens
 pub mod OperandTrees

@@ -1,10 +1,11 @@
 -- What is still to come of each open frame, seen from where the text is read to its end.
 use Rattle.std.proofs.Common.{◌≡◌, ℕ, ◌≤◌, true, false, List, [], ◌∷◌, ◌++◌}
-use Rattle.{rnix_kinds.specs.declared.kinds.SyntaxKind.{SyntaxKind, TheVariants.{NODE_ROOT, NODE_LITERAL}}, rnix_grammar.specs.declared.action.Action.Action}
-use Rattle.rnix_grammar.specs.{Fault.Fault, AnnotatedForest.{Token, Stray, Twice, AnnotatedForest, blank, branch, ◌⊕◌, one_branch, one_fault, row_of}}
-use Rattle.rnix_grammar.specs.{AnnotatedForest.{tokens_in, end_from}, Reports.{report, repeats}, Machine.{Head, Node, Second, Operand, Frame, put, kind_of}}
-use Rattle.rnix_grammar.specs.{Machine.{made, perform}, Rows.{fits, RowState, At, start}, TreeLevels.{row_level, is_or_row}, Operands.{first_tree, goes_on}}
-use Rattle.{rnix_grammar.specs.PlaceReads.{Reads, IsOver}, rnix_lemmas.proofs.{FollowLemmas.Stops, OpenHeads.is_open}}
+use Rattle.rnix_kinds.specs.{declared.kinds.SyntaxKind.{SyntaxKind}, declared.kinds.SyntaxKind.TheVariants.{NODE_ROOT, NODE_LITERAL}}
+use Rattle.rnix_grammar.specs.{declared.action.Action.{Action}, Fault.{Fault}, AnnotatedForest.{Token, Stray, Twice, AnnotatedForest, blank, branch, ◌⊕◌}}
+use Rattle.rnix_grammar.specs.{AnnotatedForest.{one_branch, one_fault, row_of, tokens_in, end_from}, Reports.{report, repeats}, Machine.{Head, Node, Second}}
+use Rattle.rnix_grammar.specs.{Machine.{Operand, Frame, put, kind_of, made, perform}, Rows.{fits}, TreeLevels.{row_level, is_or_row}, Operands.{first_tree}}
+use Rattle.rnix_grammar.specs.{Operands.{goes_on}, Reads.{IsOver, Reads}, Rules.{Row, row as whole_row}}
+use Rattle.rnix_lemmas.proofs.{FollowLemmas.{Stops}, OpenHeads.{is_open}, RestAt.{rest_at}}
 use Rattle.rnix_grammar.specs.declared.place.Place.TheVariants as p
 
 -- the kind by which a row goes on behind a tree: an error node counts as a literal
@@ -14,9 +15,9 @@ seen_kind f = NODE_LITERAL
 
 -- One tree that may be an operand, inside so many counted places, with its errors: the item before it ends at n, these items come after it.
 pub data Lone (d n : ℕ) : AnnotatedForest → List Token → List Fault → Type 0 where
-  a_node : {m : ℕ} {k : SyntaxKind} {s : RowState} {c : AnnotatedForest} {after : List Token} {ds : List Fault}
-      → Reads k d n (start k) s blank after c ds → m ≡ end_from n (tokens_in c) → IsOver s m after → Lone d n (one_branch k c) after ds
-  an_error : {t : Token} {after : List Token} → Lone d n (one_fault Stray (row_of (t ∷ []))) after (report Stray (t ∷ []) ∷ [])
+  a_node : {m : ℕ} {k : SyntaxKind} {s : Row} {c : AnnotatedForest} {us : List Token} {ds : List Fault}
+      → Reads k d n (whole_row k) s blank us c ds → m ≡ end_from n (tokens_in c) → IsOver s m us → Lone d n (one_branch k c) us ds
+  an_error : {t : Token} {us : List Token} → Lone d n (one_fault Stray (row_of (t ∷ []))) us (report Stray (t ∷ []) ∷ [])
 
 -- An operand goes on from one tree x to another y, over items from ts to us, and reaches from n to m, with these errors.
 pub record Grows (low high d : ℕ) (x y : AnnotatedForest) (ts us : List Token) (n m : ℕ) (ds : List Fault) : Type 0 where
@@ -38,10 +39,10 @@ closing Operand before row = []
 -- Some frames, with these items left, reaching so far, become the row of the root in the end, with these errors still to come.
 pub data Ends : List Frame → List Token → ℕ → AnnotatedForest → List Fault → Type 0 where
   root_frame : {f : Frame} {ts : List Token} {n : ℕ} {row r : AnnotatedForest} {es : List Fault}
-      → f.head ≡ Node NODE_ROOT → Reads NODE_ROOT f.depth n (At f.place) (At p.RootEnd) f.row [] r es → ts ≡ tokens_in r → row ≡ f.row ⊕ r
+      → f.head ≡ Node NODE_ROOT → Reads NODE_ROOT f.depth n (rest_at f.place) (rest_at p.RootEnd) f.row [] r es → ts ≡ tokens_in r → row ≡ f.row ⊕ r
       → Ends (f ∷ []) ts n row es
-  open_frame : {f g : Frame} {fs : List Frame} {ts us : List Token} {n m : ℕ} {s : RowState} {row r : AnnotatedForest} {ds es gs : List Fault}
-      → is_open f.head ≡ true → Reads (kind_of f.head) f.depth n (At f.place) s f.row us r ds → ts ≡ tokens_in r ++ us → m ≡ end_from n (tokens_in r) → IsOver s m us
+  open_frame : {f g : Frame} {fs : List Frame} {ts us : List Token} {n m : ℕ} {s : Row} {row r : AnnotatedForest} {ds es gs : List Fault}
+      → is_open f.head ≡ true → Reads (kind_of f.head) f.depth n (rest_at f.place) s f.row us r ds → ts ≡ tokens_in r ++ us → m ≡ end_from n (tokens_in r) → IsOver s m us
       → Ends (put g.place (g.row ⊕ made f.head (f.row ⊕ r)) g ∷ fs) us m row es → gs ≡ ds ++ (closing f.head g.row (f.row ⊕ r) ++ es)
       → Ends (f ∷ g ∷ fs) ts n row gs
   operand_frame : {f g : Frame} {fs : List Frame} {ts us : List Token} {n m : ℕ} {row y : AnnotatedForest} {ds es gs : List Fault} (low high : ℕ)

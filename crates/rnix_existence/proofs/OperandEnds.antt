@@ -1,20 +1,20 @@
 -- What is still to come of an operand.
 use Rattle.std.proofs.Common.{◌≡◌, ℕ, true, List, ◌∷◌, ◌++◌, refl, ap, sym, ◌∙◌, subst, append_assoc}
-use Rattle.rnix_grammar.specs.{Fault.Fault, AnnotatedForest.{Token, AnnotatedForest, ◌⊕◌, tokens_in, end_from}, Machine.{Head, Operand, Frame, put, kind_of}}
-use Rattle.{rnix_grammar.specs.{Machine.made, Rows.{RowState, At}, Operands.first_tree, PlaceReads.{Reads, IsOver}}, rnix_lemmas.proofs.Basics.true_is_not_false}
-use Rattle.{rnix_lemmas.proofs.{FollowLemmas.Stops, OpenHeads.is_open}, rnix_existence.proofs.OpenFrames.{Lone, Grows, closing, Ends, root_frame, open_frame}}
-use Rattle.rnix_existence.proofs.OpenFrames.{operand_frame}
+use Rattle.rnix_grammar.specs.{Fault.{Fault}, AnnotatedForest.{Token, AnnotatedForest, ◌⊕◌, tokens_in, end_from}, Machine.{Head, Operand, Frame, put}}
+use Rattle.rnix_grammar.specs.{Machine.{kind_of, made}, Operands.{first_tree}, Reads.{IsOver, Reads}, Rules.{Row}}
+use Rattle.rnix_lemmas.proofs.{Basics.{true_is_not_false}, FollowLemmas.{Stops}, OpenHeads.{is_open}, RestAt.{rest_at}}
+use Rattle.rnix_existence.proofs.OpenFrames.{Lone, Grows, closing, Ends, root_frame, open_frame, operand_frame}
 use Rattle.rnix_grammar.specs.declared.place.Place.TheVariants as p
 
 -- what is still to come of an open frame above another
 pub record OpenEnds (f g : Frame) (fs : List Frame) (ts : List Token) (n : ℕ) (row : AnnotatedForest) (gs : List Fault) : Type 0 where
   pub left : List Token
   pub reached : ℕ
-  pub row_state : RowState
+  pub row_state : Row
   pub rest : AnnotatedForest
   pub inside : List Fault
   pub behind : List Fault
-  pub reads : Reads (kind_of f.head) f.depth n (At f.place) row_state f.row left rest inside
+  pub reads : Reads (kind_of f.head) f.depth n (rest_at f.place) row_state f.row left rest inside
   pub items : ts ≡ tokens_in rest ++ left
   pub reach : reached ≡ end_from n (tokens_in rest)
   pub over : IsOver row_state reached left

@@ -1,15 +1,17 @@
 -- Steps at an operand: what ends behind each of them ends before it.
 use Rattle.std.proofs.Common.{◌≡◌, ℕ, true, false, List, [], ◌∷◌, ◌++◌, Some, None, refl, ap, sym, ◌∙◌, subst, append_assoc, ◌||◌, ◌&&◌, if◌then◌else◌}
-use Rattle.rnix_kinds.specs.{declared.kinds.SyntaxKind.{SyntaxKind, TheVariants.{TOKEN_OR, NODE_APPLY, NODE_IDENT}}, SyntaxKind.is_fn_arg}
-use Rattle.rnix_grammar.specs.{declared.place.Place.Place, Fault.Fault, Actions.goes_on, TokenKinds.is_or, AnnotatedForest.{Token, AnnotatedForest, blank}}
-use Rattle.rnix_grammar.specs.{AnnotatedForest.{token, ◌⊕◌, one_token, one_branch, tokens_in, leaf_kind, leaf_kind_as, head_kind, end_from}, Machine.Head}
-use Rattle.rnix_grammar.specs.{Machine.{Node, Operand, Frame, put, opened, made, low_of, operand_on}, Rows.{RowState, Start, BeforeArgument, At, to, advance}}
-use Rattle.rnix_grammar.specs.{Rows.{live, start}, Reports.repeats, ExpectedItems.IsExpected, Operands.{first_tree, follows, IsFollowed, IsOperand}, PlaceReads.end}
-use Rattle.{rnix_grammar.specs.PlaceReads.{leaf, inner}, rnix_lemmas.proofs.{Basics.true_is_not_false, AnnotatedForestLemmas.{⊕-assoc, tokens_two}}}
-use Rattle.{rnix_lemmas.proofs.FollowLemmas.{Stops, stops_simple}, rnix_existence.proofs.OpenFrames.{seen_kind, Ends, operand_frame, EndsBy}}
-use Rattle.rnix_existence.proofs.{Frames.AtOperand, BelowKept.alone, RowFronts.end_two, OperandTrees.{past_over, Takes, placed}, OperandEnds.OpenEnds}
-use Rattle.rnix_existence.proofs.{OperandEnds.open_ends, OperandWraps.wrapped_ends, OperandFollows.grown_none, BeginEnds.{BeginEnds, first_leaf}}
-use Rattle.rnix_existence.proofs.BeginReads.{begin_ends}
+use Rattle.rnix_kinds.specs.{declared.kinds.SyntaxKind.{SyntaxKind}, declared.kinds.SyntaxKind.TheVariants.{TOKEN_OR, NODE_APPLY, NODE_IDENT}}
+use Rattle.rnix_kinds.specs.SyntaxKind.{is_fn_arg}
+use Rattle.rnix_grammar.specs.{declared.place.Place.{Place}, Fault.{Fault}, Actions.{goes_on}, TokenKinds.{is_or}, AnnotatedForest.{Token, AnnotatedForest}}
+use Rattle.rnix_grammar.specs.AnnotatedForest.{blank, token, ◌⊕◌, one_token, one_branch, tokens_in, leaf_kind, leaf_kind_as, head_kind, end_from}
+use Rattle.rnix_grammar.specs.{Machine.{Head, Node, Operand, Frame, put, opened, made, low_of, operand_on}, Reports.{repeats}, Operands.{first_tree, follows}}
+use Rattle.rnix_grammar.specs.{declared.rules.Part.TheVariants.{Argument}, Rules.{IsExpected, IsFollowed, Row, after, done, row as whole_row, ◌·◌, only}}
+use Rattle.rnix_grammar.specs.{Beginnings.{IsOperandOf}, Reads.{end}}
+use Rattle.rnix_lemmas.proofs.{Basics.{true_is_not_false}, AnnotatedForestLemmas.{⊕-assoc, tokens_two}, FollowLemmas.{Stops, stops_simple}}
+use Rattle.rnix_lemmas.proofs.{RowParts.{IsFront, front}, ReadsFrom.{inner_from, leaf_from, name_reads, past_over}, RestAt.{rest_at}}
+use Rattle.rnix_existence.proofs.{OpenFrames.{seen_kind, Ends, operand_frame, EndsBy}, Frames.{AtOperand}, BelowKept.{alone}, RowFronts.{end_two}}
+use Rattle.rnix_existence.proofs.{OperandTrees.{Takes, placed}, OperandEnds.{OpenEnds, open_ends}, OperandWraps.{wrapped_ends}, OperandFollows.{grown_none}}
+use Rattle.rnix_existence.proofs.{BeginEnds.{BeginEnds}, BeginReads.{begin_ends}}
 use Rattle.rnix_grammar.specs.declared.place.Place.TheVariants as p
 use Rattle.rnix_grammar.specs.declared.action.Action.TheVariants as a
 
@@ -28,11 +30,11 @@ settle_ends f (g ∷ fs) ts n gs r h row es ends = (
 )
 
 -- the operand becomes the first tree of a node that the next item goes on with
-pub wrap_ends : (f : Frame) (fs : List Frame) (t : Token) (ts : List Token) (n : ℕ) (gs : List Fault) (k : SyntaxKind) (row_state : RowState) (x : Place) (other : ℕ) (r : AtOperand f fs)
-    → start k ≡ Start k → advance (Start k) (seen_kind f.row) ≡ row_state → live row_state ≡ true → ((us : List Token) → IsExpected row_state n us true) → IsFollowed row_state f.row (Some (leaf_kind k t)) → advance row_state (leaf_kind k t) ≡ At x
+pub wrap_ends : (f : Frame) (fs : List Frame) (t : Token) (ts : List Token) (n : ℕ) (gs : List Fault) (k : SyntaxKind) (row_state : Row) (x : Place) (other : ℕ) (r : AtOperand f fs)
+    → IsFront (whole_row k) → after (whole_row k) (seen_kind f.row) ≡ row_state → ((us : List Token) → IsExpected row_state n us true) → IsFollowed row_state f.row (Some (leaf_kind k t)) → after row_state (leaf_kind k t) ≡ rest_at x
     → ((c : AnnotatedForest) → first_tree (one_branch k c) ≡ first_tree c) → ((rest : AnnotatedForest) → Stops other (one_branch k (f.row ⊕ token (leaf_kind k t) t rest))) → ((b c : AnnotatedForest) → repeats k b c ≡ [])
     → EndsBy (a.Wrap k x other) f fs (t ∷ ts) n gs
-wrap_ends f fs t ts n gs k row_state x other r st g l own fo h first stops none row es ends = (es, (subst (Ends (f ∷ fs) (t ∷ ts) n row) (sym all) whole, refl))
+wrap_ends f fs t ts n gs k row_state x other r st g own fo h first stops none row es ends = (es, (subst (Ends (f ∷ fs) (t ∷ ts) n row) (sym all) whole, refl))
   where
     o : OpenEnds (opened (Node k) x f.depth (f.row ⊕ one_token (leaf_kind k t) t)) (opened Operand (p.Behind r.low other) f.depth blank) fs ts t.end row es
     o =
@@ -45,16 +47,16 @@ wrap_ends f fs t ts n gs k row_state x other r st g l own fo h first stops none 
     whole : Ends (f ∷ fs) (t ∷ ts) n row (o.inside ++ o.behind)
     whole =
         wrapped_ends f fs (t ∷ ts) n row o.behind r.low r.high other k row_state o.row_state (token (leaf_kind k t) t o.rest) o.left o.reached o.inside r.head r.place r.single
-        r.grows.fit st g l (first (f.row ⊕ token (leaf_kind k t) t o.rest)) (stops o.rest) (ap (λ z. t ∷ z) o.items) o.reach o.over
-        (leaf refl refl (own (t ∷ (tokens_in o.rest ++ o.left))) fo h refl refl refl o.reads)
+        r.grows.fit st g (first (f.row ⊕ token (leaf_kind k t) t o.rest)) (stops o.rest) (ap (λ z. t ∷ z) o.items) o.reach o.over
+        (leaf_from refl (own (t ∷ (tokens_in o.rest ++ o.left))) fo h o.reads)
         (subst (λ (z : AnnotatedForest). Ends (opened Operand (p.Behind r.low other) f.depth (one_branch k z) ∷ fs) o.left o.reached row o.behind) (⊕-assoc f.row (one_token (leaf_kind k t) t) o.rest) o.ends)
 
 -- an argument stands behind what is called
-argument_takes : Takes BeforeArgument 16 (At p.Past)
-argument_takes = record { leveled = λ x h. ap (λ w. if w then None else Some 16) h; expected = λ k c h. h; goes = λ k h. ap (λ w. to w (At p.Past)) h; live = refl }
+argument_takes : Takes (Argument · done) 16 done
+argument_takes = record { leveled = λ x h. ap (λ w. if w then None else Some 16) h; expected = λ k c h. h; goes = λ k h. ap (λ w. only w done) h }
 
 -- the operand is called
-pub apply_ends : (f : Frame) (fs : List Frame) (t : Token) (ts : List Token) (n : ℕ) (gs : List Fault) (r : AtOperand f fs) → advance (Start NODE_APPLY) (seen_kind f.row) ≡ BeforeArgument
+pub apply_ends : (f : Frame) (fs : List Frame) (t : Token) (ts : List Token) (n : ℕ) (gs : List Fault) (r : AtOperand f fs) → after (whole_row NODE_APPLY) (seen_kind f.row) ≡ Argument · done
     → is_or t.kind ≡ false → is_fn_arg t.kind ≡ true → follows t.kind f.row ≡ true → EndsBy a.Apply f fs (t ∷ ts) n gs
 apply_ends f fs t ts n gs r g nor arg fo row es ends = ((b.inside ++ o.inside) ++ o.behind, (whole, faults))
   where
@@ -73,30 +75,30 @@ apply_ends f fs t ts n gs r g nor arg fo row es ends = ((b.inside ++ o.inside) +
     faults : gs ++ ((b.inside ++ o.inside) ++ o.behind) ≡ (operand_on false 16 f.depth node (below ∷ fs) (t ∷ ts) (t ∷ ts) n gs).faults ++ es
     faults = ap (λ z. gs ++ z) (append_assoc b.inside o.inside o.behind ∙ ap (λ z. b.inside ++ z) (sym o.faults)) ∙ b.faults
 
-    followed : IsFollowed BeforeArgument f.row (Some t.kind)
+    followed : IsFollowed (Argument · done) f.row (Some t.kind)
     followed = ap (λ w. (w || is_or t.kind) && follows t.kind f.row) arg ∙ fo
 
     whole : Ends (f ∷ fs) (t ∷ ts) n row ((b.inside ++ o.inside) ++ o.behind)
     whole =
-        wrapped_ends f fs (t ∷ ts) n row o.behind r.low r.high 15 NODE_APPLY BeforeArgument o.row_state (b.tree ⊕ o.rest) o.left o.reached (b.inside ++ o.inside) r.head r.place r.single
-        r.grows.fit refl g refl refl (stops_simple (one_branch NODE_APPLY (f.row ⊕ (b.tree ⊕ o.rest))) refl)
+        wrapped_ends f fs (t ∷ ts) n row o.behind r.low r.high 15 NODE_APPLY (Argument · done) o.row_state (b.tree ⊕ o.rest) o.left o.reached (b.inside ++ o.inside) r.head r.place r.single
+        r.grows.fit (front (whole_row NODE_APPLY) refl) g refl (stops_simple (one_branch NODE_APPLY (f.row ⊕ (b.tree ⊕ o.rest))) refl)
         (b.items ∙ ap (λ z. tokens_in b.tree ++ z) o.items ∙ sym (tokens_two b.tree o.rest o.left)) (o.reach ∙ ap (λ j. end_from j (tokens_in o.rest)) b.reach ∙ sym (end_two n b.tree o.rest)) o.over
         (placed argument_takes b.lone b.fit b.no_or b.operand o.items b.items b.reach nor (λ e. absurd (true_is_not_false (sym e))) followed o.reads)
         (subst (λ (m : ℕ). Ends (opened Operand (p.Behind m 15) f.depth (one_branch NODE_APPLY (f.row ⊕ (b.tree ⊕ o.rest))) ∷ fs) o.left o.reached row o.behind) (ap low_of r.place)
         (subst (λ (z : AnnotatedForest). Ends (opened Operand (p.Behind (low_of f.place) 15) f.depth (one_branch NODE_APPLY z) ∷ fs) o.left o.reached row o.behind) (⊕-assoc f.row b.tree o.rest) o.ends))
 
 -- the operand is called with the name `or`
-pub apply_or_ends : (f : Frame) (fs : List Frame) (t : Token) (ts : List Token) (n : ℕ) (gs : List Fault) (r : AtOperand f fs) → advance (Start NODE_APPLY) (seen_kind f.row) ≡ BeforeArgument
+pub apply_or_ends : (f : Frame) (fs : List Frame) (t : Token) (ts : List Token) (n : ℕ) (gs : List Fault) (r : AtOperand f fs) → after (whole_row NODE_APPLY) (seen_kind f.row) ≡ Argument · done
     → t.kind ≡ TOKEN_OR → follows TOKEN_OR f.row ≡ true → EndsBy a.ApplyOr f fs (t ∷ ts) n gs
 apply_or_ends f fs t ts n gs r g e fo row es ends = (es, (whole, refl))
   where
     whole : Ends (f ∷ fs) (t ∷ ts) n row es
     whole =
-        wrapped_ends f fs (t ∷ ts) n row es r.low r.high 15 NODE_APPLY BeforeArgument (At p.Past) (one_branch NODE_IDENT (one_token (leaf_kind NODE_IDENT t) t)) ts t.end [] r.head r.place r.single
-        r.grows.fit refl g refl refl (stops_simple (one_branch NODE_APPLY (f.row ⊕ one_branch NODE_IDENT (one_token (leaf_kind NODE_IDENT t) t))) refl)
+        wrapped_ends f fs (t ∷ ts) n row es r.low r.high 15 NODE_APPLY (Argument · done) done (one_branch NODE_IDENT (one_token (leaf_kind NODE_IDENT t) t)) ts t.end [] r.head r.place r.single
+        r.grows.fit (front (whole_row NODE_APPLY) refl) g refl (stops_simple (one_branch NODE_APPLY (f.row ⊕ one_branch NODE_IDENT (one_token (leaf_kind NODE_IDENT t) t))) refl)
         refl refl (past_over t.end ts)
-        (inner refl refl (first_leaf NODE_IDENT t refl (ap (λ k. advance (Start NODE_IDENT) (leaf_kind_as NODE_IDENT k)) e) refl end) refl (past_over t.end ts) refl
-        (λ v. absurd (true_is_not_false (sym v))) (subst (λ (k : SyntaxKind). IsFollowed BeforeArgument f.row (Some k)) (sym e) fo)
-        (subst (λ (k : SyntaxKind). IsOperand (if is_or k then None else Some 16) (one_branch NODE_IDENT (one_token (leaf_kind NODE_IDENT t) t)) ts) (sym e) tt)
-        refl refl refl end refl)
+        (inner_from refl refl (name_reads t (ap (λ k. after (whole_row NODE_IDENT) (leaf_kind_as NODE_IDENT k)) e)) refl (past_over t.end ts) refl
+        (λ v. absurd (true_is_not_false (sym v))) (subst (λ (k : SyntaxKind). IsFollowed (Argument · done) f.row (Some k)) (sym e) fo)
+        (subst (λ (k : SyntaxKind). IsOperandOf (if is_or k then None else Some 16) (one_branch NODE_IDENT (one_token (leaf_kind NODE_IDENT t) t)) ts) (sym e) tt)
+        refl end refl)
         (subst (λ (m : ℕ). Ends (opened Operand (p.Behind m 15) f.depth (one_branch NODE_APPLY (f.row ⊕ one_branch NODE_IDENT (one_token (leaf_kind NODE_IDENT t) t))) ∷ fs) ts t.end row es) (ap low_of r.place) ends)

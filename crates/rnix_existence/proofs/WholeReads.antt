@@ -1,11 +1,11 @@
 -- What the machine of steps makes of a list of items satisfies the rules of readings.
 use Rattle.std.proofs.Common.{◌≡◌, ℕ, false, List, [], ◌∷◌, ◌++◌, refl, ap, sym, ◌∙◌, subst, append-nil, arith}
-use Rattle.{rnix_kinds.specs.declared.kinds.SyntaxKind.TheVariants.NODE_ROOT, rnix_grammar.specs.{declared.place.Place.Place, Fault.Fault}}
-use Rattle.rnix_grammar.specs.{AnnotatedForest.{Token, AnnotatedForest, blank, tokens_in, touches}, Machine.{Machine, Node, Frame, opened, step_on, begins}}
-use Rattle.rnix_grammar.specs.{Machine.{Runs, rest, then as further}, Rows.At, PlaceReads.{Reads, end, ReadsWhole}}
-use Rattle.{rnix_lemmas.proofs.AnnotatedForestLemmas.⊕-blank, rnix_existence.proofs.{OpenFrames.{Ends, root_frame}, Frames.{no_frame, Reading, node, operand}}}
-use Rattle.rnix_existence.proofs.{Frames.second, NodeKept.{node_kept, second_kept}, OperandKept.operand_kept, OperandWhole.operand_step, FrameEnds.node_ends}
-use Rattle.rnix_existence.proofs.FrameEnds.{second_ends}
+use Rattle.rnix_kinds.specs.declared.kinds.SyntaxKind.TheVariants.{NODE_ROOT}
+use Rattle.rnix_grammar.specs.{declared.place.Place.{Place}, Fault.{Fault}, AnnotatedForest.{Token, AnnotatedForest, blank, tokens_in, touches}}
+use Rattle.rnix_grammar.specs.{Machine.{Machine, Node, Frame, opened, step_on, begins, Runs, rest, then as further}, Reads.{Reads, ReadsWhole, end}}
+use Rattle.rnix_lemmas.proofs.{AnnotatedForestLemmas.{⊕-blank}, RestAt.{rest_at}}
+use Rattle.rnix_existence.proofs.{OpenFrames.{Ends, root_frame}, Frames.{no_frame, Reading, node, operand, second}, NodeKept.{node_kept, second_kept}}
+use Rattle.rnix_existence.proofs.{OperandKept.{operand_kept}, OperandWhole.{operand_step}, FrameEnds.{node_ends, second_ends}}
 use Rattle.rnix_grammar.specs.declared.place.Place.TheVariants as p
 
 -- a machine ends as a row, with the errors that are still to come, so that all its errors are these
@@ -52,7 +52,7 @@ whole_reads ts m f s e h x l = by (runs_end f.row m.faults s (begun ts) ended)
       coming = [];
       ends =
           subst (λ (z : List Frame). Ends z m.left m.reached f.row []) (sym e)
-          (root_frame h (subst (λ (z : Place). Reads NODE_ROOT f.depth m.reached (At z) (At p.RootEnd) f.row [] blank []) (sym x) end) l (sym (⊕-blank f.row)));
+          (root_frame h (subst (λ (z : Place). Reads NODE_ROOT f.depth m.reached (rest_at z) (rest_at p.RootEnd) f.row [] blank []) (sym x) end) l (sym (⊕-blank f.row)));
       faults = append-nil m.faults;
     }
 

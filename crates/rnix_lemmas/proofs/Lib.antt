@@ -38,3 +38,8 @@ pub mod NestTrees
 pub mod PlainPlaces
 pub mod PlaceTests
 pub mod PastRows
+pub mod RowParts
+pub mod RestAt
+pub mod ReadsFrom
+pub mod PlaceTable
+pub mod BeginAlike

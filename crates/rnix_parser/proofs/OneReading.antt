@@ -3,11 +3,11 @@ use Rattle.std.{proofs.Common.{◌≡◌, ℕ, true, List, [], ◌∷◌, ◌++�
 use Rattle.rnix_kinds.specs.{declared.kinds.SyntaxKind.TheVariants.NODE_ROOT, Lexical.Tokens.{Lexeme, text_of as lexeme_text, AreSound, tokens_of}}
 use Rattle.{rnix_green.specs.{Forest.text_of, Tree.Tree}, rnix_grammar.specs.{Fault.Fault, AnnotatedForest.{Token, AnnotatedForest, blank, token, branch}}}
 use Rattle.rnix_grammar.specs.{AnnotatedForest.{fault, forget, tokens_in, without_trivia, placed_from}, Layout.{items, with_trivia_whole}, Machine.ate}
-use Rattle.rnix_grammar.specs.{WithoutTrivia.{without_trivia_machine, without_trivia_frame, without_trivia_frames}, PlaceReads.ReadsWhole, Reading.IsReading}
+use Rattle.rnix_grammar.specs.{WithoutTrivia.{without_trivia_machine, without_trivia_frame, without_trivia_frames}, Reads.ReadsWhole, Reading.IsReading}
 use Rattle.{rnix_grammar.specs.{Parsed.IsParsed, Document.IsRead}, rnix_lemmas.proofs.{ReportLemmas.without_trivia_tokens, SpelledLemmas.AreRuled}}
 use Rattle.{rnix_lemmas.proofs.WithoutTriviaLemmas.{runs_without_trivia, ate_without_trivia}, rnix_rows.proofs.WithTriviaWhole.with_trivia_whole_tokens}
 use Rattle.{rnix_rows.proofs.WithTriviaWhole.{with_trivia_same, read_with_trivia}, rnix_existence.proofs.WholeReads.whole_reads}
-use Rattle.{rnix_uniqueness.proofs.AllReads.one_row, rnix_proof_rules.proofs.ReadsAlike.{whole_new, whole_old}, rnix_reader.specs.Placed.texts_in}
+use Rattle.{rnix_uniqueness.proofs.AllReads.one_row, rnix_proof_rules.proofs.ReadsAlike.whole_old, rnix_reader.specs.Placed.texts_in}
 use Rattle.{rnix_reader.proofs.{EachText.each_read, TextLemmas.placed_text}, rnix_parser.proofs.ParsedLemmas.all_follows}
 
 -- the items of a reading are those of the tokens
@@ -62,7 +62,7 @@ read_reading ls tree faults r =
       tree_is = r.tree_is;
       leaves = ap tokens_in laid ∙ with_trivia_whole_tokens (without_trivia g) ts (read.0 ∙ ap tokens_in (sym bare));
       laid = laid;
-      reads = whole_new (without_trivia g) faults (subst (λ (f : AnnotatedForest). ReadsWhole f faults) (sym bare) (subst (ReadsWhole (without_trivia r.root.row)) (sym r.faults_are) read.1));
+      reads = subst (λ (f : AnnotatedForest). ReadsWhole f faults) (sym bare) (subst (ReadsWhole (without_trivia r.root.row)) (sym r.faults_are) read.1);
     }
 
 -- the tokens of a text have a reading

@@ -15,7 +15,8 @@ use Rattle.rnix_grammar.specs.ExpectedItems as e
 use Rattle.rnix_grammar.specs.Operands as o
 use Rattle.rnix_grammar.specs.Rules.{Row, missing, run_at, expects_item, expects_end, stands_expected, level_at, counts}
 use Rattle.rnix_lemmas.proofs.EachKind.{each_kind}
-use Rattle.rnix_proof_rules.proofs.RowsAreRules.{rest_at, rest_of}
+use Rattle.rnix_proof_rules.proofs.RowsAreRules.{rest_of}
+use Rattle.rnix_lemmas.proofs.RestAt.{rest_at}
 
 -- an error and what is left after what is missing
 abbrev pub missing_rest : Option (Fault × Place) → Option (Fault × Row)

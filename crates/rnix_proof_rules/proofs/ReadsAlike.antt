@@ -1,4 +1,4 @@
--- What is read by places is read along the rows, and the other way.
+-- What is read along the rows is read by places.
 use Rattle.rnix_lemmas.proofs.RunLemmas.{some_left}
 use Rattle.std.proofs.Common.{◌≡◌, ◌∙◌, ℕ, suc, Bool, true, false, List, [], ◌∷◌, ◌++◌, Option, Some, None, length, refl, sym, ap, subst, append-nil, arith}
 use Rattle.std.specs.Prelude.{if◌then◌else◌}
@@ -12,8 +12,7 @@ use Rattle.rnix_grammar.specs.declared.until.Until.TheVariants as u
 use Rattle.rnix_grammar.specs.declared.rules.Part.TheVariants.{Argument, TextEnd}
 use Rattle.rnix_grammar.specs.Fault.{Fault}
 use Rattle.rnix_grammar.specs.Tables.{wanted_kinds}
-use Rattle.rnix_grammar.specs.AnnotatedForest.{Token, Note, Stray, Unwanted, Extra, Twice, TooDeep, AnnotatedForest, blank, token, branch, fault, ◌⊕◌, one_token, one_branch, one_fault, row_of, tokens_in, is_some, leaf_kind, head_kind, end_from}
-use Rattle.rnix_grammar.specs.Reports.{report}
+use Rattle.rnix_grammar.specs.AnnotatedForest.{Token, Note, Stray, Unwanted, Extra, Twice, TooDeep, AnnotatedForest, blank, ◌⊕◌, one_token, one_branch, one_fault, row_of, tokens_in, is_some, leaf_kind, head_kind, end_from}
 use Rattle.rnix_grammar.specs.Rows.{RowState, BeforeArgument, SecondStart, At, advance, start}
 use Rattle.rnix_grammar.specs.Rows as rows
 use Rattle.rnix_grammar.specs.Missing as m
@@ -27,34 +26,18 @@ use Rattle.rnix_grammar.specs.Rules.{Row, done, ◌·◌, second_name, row, afte
 use Rattle.rnix_grammar.specs.Rules as rules
 use Rattle.rnix_grammar.specs.TreeLevels.{is_or_row}
 use Rattle.rnix_lemmas.proofs.Basics.{true_is_not_false}
-use Rattle.rnix_proof_rules.proofs.BeginAlike.{operand_by_rules, operand_by_steps}
-use Rattle.rnix_proof_rules.proofs.RowsAreRules.{rest_at, rest_of, row_is, may_end_is, after_is}
+use Rattle.rnix_lemmas.proofs.BeginAlike.{operand_by_steps}
+use Rattle.rnix_proof_rules.proofs.RowsAreRules.{rest_of, row_is, may_end_is, after_is}
 use Rattle.rnix_proof_rules.proofs.PlacesAreRules.{missing_rest, missing_of, missing_is, run_rest, run_of, run_is, expects_end_is, stands_same, level_is, counts_is}
-use Rattle.rnix_proof_rules.proofs.Expected.{is_live, live_before, end_live, state_live, expected_at, expected_new, expected_old, over_new, followed_new, followed_old, is_text_end, text_end_is, is_bound, bound_is}
-
--- a reading from what is equal
-moved : {p : SyntaxKind} {d m m' : ℕ} {r r' q' : Row} {b b' f : AnnotatedForest} {us : List Token} {es : List Fault}
-    → m ≡ m' → r ≡ r' → b ≡ b' → new.Reads p d m r q' b us f es → new.Reads p d m' r' q' b' us f es
-moved {p} {d} {m} {m'} {r} {r'} {q'} {b} {b'} {f} {us} {es} i j k h =
-    subst (λ b. new.Reads p d m' r' q' b us f es) k (subst (λ r. new.Reads p d m' r q' b us f es) j (subst (λ m. new.Reads p d m r q' b us f es) i h))
-
--- a state and what it leads to
-led : (q r : RowState) (k : SyntaxKind) → advance q k ≡ r → rest_of r ≡ after (rest_of q) k
-led q r k h = ap rest_of (sym h) ∙ after_is q k
+use Rattle.rnix_proof_rules.proofs.Expected.{is_live, live_before, end_live, state_live, expected_old, followed_old, is_text_end, text_end_is, is_bound, bound_is}
+use Rattle.rnix_lemmas.proofs.RestAt.{rest_at}
 
 -- the counted places
 deeper_is : (q : RowState) (d : ℕ) → old.deeper q d ≡ new.deeper (rest_of q) d
 deeper_is q d = ap (λ (w : Bool). if w then suc d else d) (counts_is q)
 
-room_new : (q : RowState) (d : ℕ) → old.IsRoom q d → new.IsRoom (rest_of q) d
-room_new q d h w = h (counts_is q ∙ w)
-
 room_old : (q : RowState) (d : ℕ) → new.IsRoom (rest_of q) d → old.IsRoom q d
 room_old q d h w = h (sym (counts_is q) ∙ w)
-
--- the end of a row
-over_new' : (q : RowState) (n : ℕ) (ts : List Token) → old.IsOver q n ts → new.IsOver (rest_of q) n ts
-over_new' q n ts h = (sym (may_end_is q) ∙ h.0, over_new q n ts h.0 h.1)
 
 no_end : (q : RowState) → rows.whole q ≡ true → q ≡ BeforeArgument → ⊥
 no_end q w h = true_is_not_false (sym w ∙ ap rows.whole h)
@@ -126,72 +109,8 @@ run_old : (q : RowState) (until : Until) (r : Row) → run_of q ≡ Some (wanted
 run_old (At x) until r h = run_from x until r (m.run_at x) refl h
 run_old _ until r h = absurd (cc)
 
--- the levels of operands
-operand_new : (q : RowState) (x y : AnnotatedForest) (us : List Token) → IsOperand (o.level_at q x) y us → IsOperandOf (level_at (rest_of q) x) y us
-operand_new q x y us h = operand_by_rules (level_at (rest_of q) x) y us (subst (λ l. IsOperand l y us) (level_is q x) h)
-
 operand_old : (q : RowState) (x y : AnnotatedForest) (us : List Token) → IsOperandOf (level_at (rest_of q) x) y us → IsOperand (o.level_at q x) y us
 operand_old q x y us h = subst (λ l. IsOperand l y us) (sym (level_is q x)) (operand_by_steps (level_at (rest_of q) x) y us h)
-
--- error nodes
-wrong_new : (note : Note) (d : ℕ) (q r : RowState) (ts us : List Token) → old.IsWrong note d q r ts us → new.IsWrong note d (rest_of q) (rest_of r) ts us
-wrong_new Stray d q r ts us h = (h.0, room_new q d h.1, operand_new q blank (one_fault Stray (row_of ts)) us h.2, sym (led q r NODE_LITERAL h.3))
-wrong_new (Unwanted until) d q r ts us h =
-    let run : run_at (rest_at h.2) ≡ Some (wanted_kinds until, rest_at h.3) = sym (run_is (At h.2)) ∙ ap run_rest h.6 in
-    (h.0, h.1, ap (λ q. run_at (rest_of q)) h.4 ∙ run ∙ ap (λ r. Some (wanted_kinds until, rest_of r)) (sym h.5))
-wrong_new Extra d q r ts us h = (h.0, h.1, ap rest_of h.2, ap rest_of h.3)
-wrong_new Twice d q r ts us h = h
-wrong_new TooDeep d q r ts us h = (h.0, sym (counts_is q) ∙ h.1, h.2, sym (led q r NODE_LITERAL h.3))
-
--- what is asked of the next item at an error node
-wrong_expected : (note : Note) (d n : ℕ) (q r : RowState) (ts us : List Token) → old.IsWrong note d q r ts us → expected.IsExpected q n (ts ++ us) false → IsExpected (rest_of q) n (ts ++ us) false
-wrong_expected Stray d n q r ts us h g = expected_new q NODE_LITERAL n (ts ++ us) false (ap rows.live h.3 ∙ h.4) g
-wrong_expected (Unwanted until) d n q r ts us h g =
-    subst (λ q. IsExpected (rest_of q) n (ts ++ us) false) (sym h.4) (expected_at h.2 n (ts ++ us) false (subst (λ q. expected.IsExpected q n (ts ++ us) false) h.4 g))
-wrong_expected Extra d n q r ts us h g =
-    subst (λ q. IsExpected (rest_of q) n (ts ++ us) false) (sym h.2) (expected_at p.RootEnd n (ts ++ us) false (subst (λ q. expected.IsExpected q n (ts ++ us) false) h.2 g))
-wrong_expected Twice d n q r ts us h g = absurd h
-wrong_expected TooDeep d n q r ts us h g = expected_new q NODE_LITERAL n (ts ++ us) false (ap rows.live h.3 ∙ h.4) g
-
--- what is read by places is read along the rows
-pub reads_new : {p : SyntaxKind} {d n : ℕ} {q q' : RowState} {b : AnnotatedForest} {us : List Token} {f : AnnotatedForest} {es : List Fault}
-    → old.Reads p d n q q' b us f es → new.Reads p d n (rest_of q) (rest_of q') b us f es
-reads_new old.end = new.end
-reads_new {p} {d} {n} {q} {q'} {b} {us} (old.leaf {r = r} {vs = vs} {f = f} {es = es} {k = k} {t = t} ke ve x w a l ce me s) =
-    let goes : IsExpected (rest_of q) n (t ∷ vs) true = expected_new q k n (t ∷ vs) true (ap rows.live a ∙ l) x in
-    subst (λ k. new.Reads p d n (rest_of q) (rest_of q') b us (token k t f) es) (sym ke) (new.leaf
-    (subst (λ vs. IsExpected (rest_of q) n (t ∷ vs) true) ve goes)
-    (subst (λ k. rules.IsFollowed (rest_of q) b (Some k)) ke (followed_new q b (Some k) w))
-    (moved me (led q r k a ∙ ap (after (rest_of q)) ke) (ce ∙ ap (λ k. b ⊕ one_token k t) ke) (reads_new s)))
-reads_new {p} {d} {n} {q} {q'} {b} {us} {f} (old.missing_part {x = x} {y = y} hu hf hm hr s hfs) =
-    subst (λ fs. new.Reads p d n (rest_at x) (rest_of q') b us f fs) (sym hfs) (new.missing_part hu hf (sym (missing_is (At x)) ∙ ap missing_rest hm)
-    (λ z. room_new (At x) d (hr (expects_end_is x ∙ z))) (reads_new s))
-reads_new {p} {d} {n} {q} {q'} {b} {us} (old.wrong {r = r} {vs = vs} {c = c} {f = f} {es = es} {fs = fs} note ts hc hv hx hw hi hg hm s hfs) =
-    subst (λ fs. new.Reads p d n (rest_of q) (rest_of q') b us (fault note c f) fs) (sym hfs)
-    (subst (λ c. new.Reads p d n (rest_of q) (rest_of q') b us (fault note c f) (report note ts ∷ es)) (sym hc) (new.wrong note ts
-    (subst (λ vs. IsExpected (rest_of q) n (ts ++ vs) false) hv (wrong_expected note d n q r ts vs hi hx))
-    (followed_new q b (head_kind ts) hw)
-    (subst (λ vs. new.IsWrong note d (rest_of q) (rest_of r) ts vs) hv (wrong_new note d q r ts vs hi))
-    (moved hm refl (hg ∙ ap (λ c. b ⊕ one_fault note c) hc) (reads_new s))))
-reads_new {p} {d} {n} {q} {q'} {b} {us} (old.second {m = m} {r = r} {s = s} {vs = vs} {c = c} {f = f} {ds = ds} {es = es} hv hs hm ho hq hr hg h hfs) =
-    subst (λ fs. new.Reads p d n (rest_of q) (rest_of q') b us (fault Twice c f) fs) (sym hfs)
-    (subst (λ q. new.Reads p d n (rest_of q) (rest_of q') b us (fault Twice c f) ((ds ++ report Twice (tokens_in c) ∷ []) ++ es)) (sym hq) (new.second
-    (subst (λ vs. new.Reads NODE_ERROR d n second_name (rest_of s) blank vs c ds) hv (reads_new hs))
-    (subst (λ vs. new.IsOver (rest_of s) (end_from n (tokens_in c)) vs) hv (subst (λ m. new.IsOver (rest_of s) m vs) hm (over_new' s m vs ho)))
-    (moved hm (ap rest_of hr) hg (reads_new h))))
-reads_new {p} {d} {n} {q} {q'} {b} {us} (old.inner {m = m} {r = r} {s = s} {vs = vs} {ws = ws} {c = c} {f = f} {ds = ds} {es = es} {k = k} hv hw hs hm ho hx hi hj hk ha hl hg h hfs) =
-    let items : ws ≡ tokens_in c ++ (tokens_in f ++ us) = hw ∙ ap (λ vs. tokens_in c ++ vs) hv in
-    let goes : IsExpected (rest_of q) n ws (expected.stands_expected q k c) = expected_new q k n ws (expected.stands_expected q k c) (ap rows.live ha ∙ hl) hx in
-    let below : new.Reads k (new.deeper (rest_of q) d) n (rest_of (start k)) (rest_of s) blank vs c ds =
-    subst (λ d. new.Reads k d n (rest_of (start k)) (rest_of s) blank vs c ds) (deeper_is q d) (reads_new hs) in
-    subst (λ fs. new.Reads p d n (rest_of q) (rest_of q') b us (branch k c f) fs) (sym hfs) (new.inner
-    (room_new q d hi)
-    (subst (λ vs. new.Reads k (new.deeper (rest_of q) d) n (row k) (rest_of s) blank vs c ds) hv (subst (λ r. new.Reads k (new.deeper (rest_of q) d) n r (rest_of s) blank vs c ds) (row_is k) below))
-    (subst (λ vs. new.IsOver (rest_of s) (end_from n (tokens_in c)) vs) hv (subst (λ m. new.IsOver (rest_of s) m vs) hm (over_new' s m vs ho)))
-    (subst (λ ws. IsExpected (rest_of q) n ws (rules.stands_expected (rest_of q) k c)) items (subst (λ w. IsExpected (rest_of q) n ws w) (stands_same q k c) goes))
-    (subst (λ ws. rules.IsFollowed (rest_of q) b (head_kind ws)) items (followed_new q b (head_kind ws) hj))
-    (subst (λ vs. IsOperandOf (level_at (rest_of q) (one_branch k c)) (one_branch k c) vs) hv (operand_new q (one_branch k c) (one_branch k c) vs hk))
-    (moved hm (led q r k ha) hg (reads_new h)))
 
 -- a row is live where one is left after it
 missing_live : (q r : Row) (e : Fault) → missing q ≡ Some (e, r) → is_live q ≡ true
@@ -330,9 +249,6 @@ reads_old {p} {d} {n} {q} {r} {b} {us} (new.second {s = s} {c = c} {f = f} {ds =
     )
 
 -- a whole text is read alike
-pub whole_new : (f : AnnotatedForest) (es : List Fault) → old.ReadsWhole f es → new.ReadsWhole f es
-whole_new f es h = reads_new h
-
 pub whole_old : (f : AnnotatedForest) (es : List Fault) → new.ReadsWhole f es → old.ReadsWhole f es
 whole_old f es h =
     let o : ReadsOld NODE_ROOT 0 0 (At p.RootStart) (TextEnd · done) blank [] f es = reads_old h (At p.RootStart) refl refl in

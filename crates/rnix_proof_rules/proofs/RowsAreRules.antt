@@ -1,85 +1,15 @@
 -- The rows as data say what the automaton over places says.
 use Rattle.std.proofs.Common.{◌≡◌, Bool, true, false, refl}
 use Rattle.rnix_kinds.specs.declared.kinds.SyntaxKind.{SyntaxKind}
-use Rattle.rnix_kinds.specs.declared.kinds.SyntaxKind.TheVariants.{TOKEN_R_PAREN, TOKEN_L_BRACE, TOKEN_R_BRACE, TOKEN_IN, TOKEN_R_BRACK, TOKEN_SEMICOLON, TOKEN_ASSIGN, TOKEN_COLON, TOKEN_THEN, TOKEN_ELSE, TOKEN_INTERPOL_END, TOKEN_STRING_END, TOKEN_DOT, TOKEN_AT, TOKEN_QUESTION, TOKEN_OR, NODE_ATTRPATH, NODE_ATTRPATH_VALUE, NODE_IDENT, NODE_INTERPOL, NODE_INHERIT_FROM, NODE_PAT_BIND, NODE_ROOT}
-use Rattle.rnix_grammar.specs.declared.place.Place.{Place}
-use Rattle.rnix_grammar.specs.declared.rules.Part.TheVariants.{Child, Suffix, Binary, Argument, Operand, Many, Entries, Wanted, Attr, Attrpath, MoreAttrs, Names, Pieces, PathPieces, Formals, FormalsAfterComma, Comma, Optional, EndOr, BoundAlready, TextEnd}
-use Rattle.rnix_grammar.specs.declared.rules.TheConstants.{EXPRESSION}
+use Rattle.rnix_kinds.specs.declared.kinds.SyntaxKind.TheVariants.{TOKEN_L_BRACE, TOKEN_R_BRACE, TOKEN_DOT, TOKEN_AT, TOKEN_QUESTION, TOKEN_OR, NODE_ATTRPATH, NODE_ATTRPATH_VALUE, NODE_ROOT}
+use Rattle.rnix_grammar.specs.declared.rules.Part.TheVariants.{Child, Suffix, Binary, Argument, Operand, Entries, Attrpath, EndOr}
 use Rattle.rnix_grammar.specs.declared.place.Place.TheVariants as p
-use Rattle.rnix_grammar.specs.Levels.{expression_level, negation_level, inversion_level, selection_level, right_of}
+use Rattle.rnix_grammar.specs.Levels.{selection_level, right_of}
 use Rattle.rnix_grammar.specs.Rows.{RowState, Start, BeforeOperator, BeforeDot, BeforeQuestion, BeforeArgument, BeforeAt, BeforeBrace, SecondStart, At, Nowhere, advance, whole, start, to, is_infix, fits}
 use Rattle.rnix_grammar.specs.Rules.{Row, never, done, ◌·◌, row, second_name, only, after, may_end}
 use Rattle.rnix_lemmas.proofs.EachKind.{Each, each_kind}
 use Rattle.rnix_kinds.proofs.AllKinds.{all_kinds}
-
--- what stands after a pattern's braces
-abbrev pub tail_of : Bool → Row
-tail_of true = BoundAlready · done
-tail_of false = EndOr NODE_PAT_BIND · done
-
--- what is left of a row at a place
-abbrev pub rest_at : Place → Row
-rest_at p.RootStart = EXPRESSION · TextEnd · done
-rest_at p.RootEnd = TextEnd · done
-rest_at p.ParenInside = EXPRESSION · Wanted TOKEN_R_PAREN · done
-rest_at p.ParenEnd = Wanted TOKEN_R_PAREN · done
-rest_at p.ListInside = Many selection_level TOKEN_R_BRACK · done
-rest_at p.DynamicInside = Many expression_level TOKEN_INTERPOL_END · done
-rest_at p.InterpolInside = EXPRESSION · Wanted TOKEN_INTERPOL_END · done
-rest_at p.InterpolEnd = Wanted TOKEN_INTERPOL_END · done
-rest_at p.StringInside = Pieces · Wanted TOKEN_STRING_END · done
-rest_at p.StringEnd = Wanted TOKEN_STRING_END · done
-rest_at p.PathFirst = EndOr NODE_INTERPOL · PathPieces · done
-rest_at p.PathMore = PathPieces · done
-rest_at p.SetBrace = Wanted TOKEN_L_BRACE · Entries TOKEN_R_BRACE · done
-rest_at p.SetInside = Entries TOKEN_R_BRACE · done
-rest_at p.LegacyInside = Entries TOKEN_R_BRACE · done
-rest_at p.LetInside = Entries TOKEN_IN · EXPRESSION · done
-rest_at p.LetBody = EXPRESSION · done
-rest_at p.InheritStart = Optional NODE_INHERIT_FROM · Names · Wanted TOKEN_SEMICOLON · done
-rest_at p.InheritNames = Names · Wanted TOKEN_SEMICOLON · done
-rest_at p.InheritName = Attr · Names · Wanted TOKEN_SEMICOLON · done
-rest_at p.InheritEnd = Wanted TOKEN_SEMICOLON · done
-rest_at p.FromInside = EXPRESSION · Wanted TOKEN_R_PAREN · done
-rest_at p.FromEnd = Wanted TOKEN_R_PAREN · done
-rest_at p.ValuePath = Attrpath · Wanted TOKEN_ASSIGN · EXPRESSION · Wanted TOKEN_SEMICOLON · done
-rest_at p.ValueAssign = Wanted TOKEN_ASSIGN · EXPRESSION · Wanted TOKEN_SEMICOLON · done
-rest_at p.ValueInside = EXPRESSION · Wanted TOKEN_SEMICOLON · done
-rest_at p.ValueEnd = Wanted TOKEN_SEMICOLON · done
-rest_at p.AttrpathStart = Attr · MoreAttrs · done
-rest_at p.AttrpathMore = MoreAttrs · done
-rest_at p.WithScope = EXPRESSION · Wanted TOKEN_SEMICOLON · EXPRESSION · done
-rest_at p.WithEnd = Wanted TOKEN_SEMICOLON · EXPRESSION · done
-rest_at p.WithBody = EXPRESSION · done
-rest_at p.AssertCondition = EXPRESSION · Wanted TOKEN_SEMICOLON · EXPRESSION · done
-rest_at p.AssertEnd = Wanted TOKEN_SEMICOLON · EXPRESSION · done
-rest_at p.AssertBody = EXPRESSION · done
-rest_at p.IfCondition = EXPRESSION · Wanted TOKEN_THEN · EXPRESSION · Wanted TOKEN_ELSE · EXPRESSION · done
-rest_at p.IfThen = Wanted TOKEN_THEN · EXPRESSION · Wanted TOKEN_ELSE · EXPRESSION · done
-rest_at p.IfConsequence = EXPRESSION · Wanted TOKEN_ELSE · EXPRESSION · done
-rest_at p.IfElse = Wanted TOKEN_ELSE · EXPRESSION · done
-rest_at p.IfAlternative = EXPRESSION · done
-rest_at p.LambdaColon = Wanted TOKEN_COLON · EXPRESSION · done
-rest_at p.LambdaBody = EXPRESSION · done
-rest_at p.PatternBrace = Wanted TOKEN_L_BRACE · Formals · tail_of true
-rest_at (p.PatternStart bound) = Formals · tail_of bound
-rest_at (p.PatternInside bound) = FormalsAfterComma · tail_of bound
-rest_at (p.PatternAfter bound) = Comma · tail_of bound
-rest_at (p.PatternClose bound) = Wanted TOKEN_R_BRACE · tail_of bound
-rest_at (p.PatternEnd bound) = tail_of bound
-rest_at p.EntryMore = EndOr TOKEN_QUESTION · EXPRESSION · done
-rest_at p.EntryDefault = EXPRESSION · done
-rest_at p.BindName = Wanted NODE_IDENT · done
-rest_at p.TwiceName = Wanted NODE_IDENT · done
-rest_at p.SelectPath = Attrpath · EndOr TOKEN_OR · Operand selection_level false · done
-rest_at p.SelectOr = EndOr TOKEN_OR · Operand selection_level false · done
-rest_at p.SelectDefault = Operand selection_level false · done
-rest_at p.HasPath = Attrpath · done
-rest_at p.Negated = Operand negation_level true · done
-rest_at p.Inverted = Operand inversion_level true · done
-rest_at (p.Right n) = Operand n false · done
-rest_at (p.Behind low high) = never
-rest_at place = done
+use Rattle.rnix_lemmas.proofs.RestAt.{rest_at}
 
 -- what is left of a row where a node begins; three kinds begin at a place
 abbrev pub rest_of_start : SyntaxKind → Row
