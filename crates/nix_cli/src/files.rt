@@ -1,0 +1,147 @@
+//! The texts that names stand for.
+
+use crate::arguments::Program;
+use crate::replacing::replace_text;
+use std::io::{Read, Write};
+use std::{fs, io};
+
+/// The files that some names stand for.
+#[derive(Drop)]
+pub struct Files {
+    /// Their names, `-` for standard input.
+    pub names: Vec<String>,
+    /// How many names stand for nothing that can be read.
+    pub failed: usize,
+}
+
+// Whether a name is that of a folder. What cannot be asked for is none, and is refused when it is read.
+fn is_folder(rt: &HostRuntime, name: &str) -> bool {
+    match fs::metadata(rt, name) {
+        Ok(data) => data.is_dir(),
+        Err(_) => false,
+    }
+}
+
+// The names of a folder: of its own files that end with `.nix`, and of the folders in it. No link to a folder is followed.
+fn list(
+    rt: &HostRuntime,
+    folder: &str,
+    found: &mut Vec<String>,
+    folders: &mut Vec<String>,
+) -> io::Result<()> {
+    for entry in fs::read_dir(rt, folder)? {
+        let entry = entry?;
+        let name = String::from_str(rt.alloc(), entry.path().as_str())?;
+        if entry.file_type()?.is_dir() {
+            folders.push(name)?;
+        } else if name.ends_with(".nix") {
+            found.push(name)?;
+        }
+    }
+    Ok(())
+}
+
+// The names of all files that end with `.nix` in a folder and below it, sorted.
+fn files_below(rt: &HostRuntime, folder: &str) -> io::Result<Vec<String>> {
+    let mut found = Vec::new(rt.alloc());
+    let mut folders = Vec::new(rt.alloc());
+    folders.push(String::from_str(rt.alloc(), folder)?)?;
+    for _folder in 0..u64::MAX {
+        let Some(next) = folders.pop() else {
+            break;
+        };
+        list(rt, next.as_str(), &mut found, &mut folders)?;
+    }
+    found.sort()?;
+    Ok(found)
+}
+
+/// The files that names stand for: `-` for standard input, a folder for all that end with `.nix` in it and below, and else the file of that
+/// name. Without a name it is standard input. A folder that cannot be read is reported and counted.
+pub fn find_files(rt: &HostRuntime, program: &Program, names: &[String]) -> io::Result<Files> {
+    let mut found = Files {
+        names: Vec::new(rt.alloc()),
+        failed: 0,
+    };
+    if names.is_empty() {
+        found.names.push(String::from_str(rt.alloc(), "-")?)?;
+    }
+    for name in names {
+        if !is_folder(rt, name.as_str()) {
+            found.names.push(name.clone()?)?;
+            continue;
+        }
+        match files_below(rt, name.as_str()) {
+            Ok(below) => found.names.extend(below)?,
+            Err(error) => {
+                found.failed = found.failed.saturating_add(1);
+                eprintln!(rt; "{}: {name}: {error}", program.name)?;
+            }
+        }
+    }
+    Ok(found)
+}
+
+/// What a message calls a file.
+pub fn shown_name(name: &str) -> &str {
+    if name == "-" { "<stdin>" } else { name }
+}
+
+// The number of the line and of the character in it, both from 1, behind a text.
+fn place_behind(text: &str) -> (usize, usize) {
+    let line = text.bytes().filter(|byte| *byte == b'\n').count();
+    let own = match text.rsplit_once('\n') {
+        Some((_, own)) => own,
+        None => text,
+    };
+    (
+        line.saturating_add(1),
+        own.chars().count().saturating_add(1),
+    )
+}
+
+/// The number of the line and of the character in it, both from 1, that begins at an offset.
+pub fn place_of(text: &str, offset: usize) -> (usize, usize) {
+    place_behind(text.get(..offset).unwrap_or(text))
+}
+
+/// Reads the text of a file, or of standard input for `-`. What cannot be read is reported: None.
+pub fn read_text(rt: &HostRuntime, program: &Program, name: &str) -> io::Result<Option<String>> {
+    let mut bytes = Vec::new(rt.alloc());
+    let outcome = if name == "-" {
+        rt.stdin().read_to_end(&mut bytes).map(|_count| ())
+    } else {
+        fs::read(rt, name).map(|read| bytes = read)
+    };
+    let shown = shown_name(name);
+    if let Err(error) = outcome {
+        eprintln!(rt; "{}: {shown}: {error}", program.name)?;
+        return Ok(None);
+    }
+    match String::from_utf8(bytes) {
+        Ok(text) => Ok(Some(text)),
+        Err(error) => {
+            let valid = error.utf8_error().valid_up_to();
+            let (line, column) = match std::str::from_utf8(
+                error.as_bytes().get(..valid).unwrap_or(b""),
+            ) {
+                Ok(text) => place_behind(text),
+                Err(_) => (1, 1),
+            };
+            eprintln!(rt;
+                "{}: {shown}:{line}:{column}: this is not UTF-8",
+                program.name
+            )?;
+            Ok(None)
+        }
+    }
+}
+
+/// Where a text goes that is made of the text of a file: over that file, or to standard output.
+pub fn write_text(rt: &HostRuntime, name: &str, text: &str, in_place: bool) -> io::Result<()> {
+    if in_place {
+        replace_text(rt, name, text)
+    } else {
+        rt.stdout().write_all(text.as_bytes())
+    }
+}

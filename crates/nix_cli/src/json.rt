@@ -1,0 +1,17 @@
+//! Texts in JSON.
+
+use std::io::{self, Write};
+
+/// Prints a text as a string.
+pub fn write_json_string<W: Write>(text: &str, out: &mut W) -> io::Result<()> {
+    out.write_all(b"\"")?;
+    for letter in text.chars() {
+        match letter {
+            '"' => out.write_all(b"\\\"")?,
+            '\\' => out.write_all(b"\\\\")?,
+            '\0'..='\u{1f}' => write!(out, "\\u{:04x}", u32::from(letter))?,
+            _ => write!(out, "{letter}")?,
+        }
+    }
+    out.write_all(b"\"")
+}
