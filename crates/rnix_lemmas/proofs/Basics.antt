@@ -1,5 +1,5 @@
 -- Small facts that many proofs take.
-use Rattle.std.proofs.Common.{◌∙◌, ◌≡◌, Bool, true, false, List, [], ◌∷◌, ◌++◌, Some, refl, sym, if◌then◌else◌}
+use Rattle.std.proofs.Common.{◌≡◌, Bool, true, false, List, [], ◌∷◌, ◌++◌, Some, refl, sym, if◌then◌else◌}
 
 -- a test has one answer
 pub true_is_not_false : true ≡ false → ⊥
@@ -9,11 +9,6 @@ true_is_not_false h = cc
 pub not_if : (b : Bool) → (if b then false else true) ≡ true → b ≡ false
 not_if true h = absurd (true_is_not_false (sym h))
 not_if false h = refl
-
--- where neither side of a choice holds, the choice does not
-pub no_way : (b x y : Bool) → x ≡ false → y ≡ false → (if b then x else y) ≡ false
-no_way true x y h k = h
-no_way false x y h k = k
 
 -- what is so on both sides of a choice is so of what is chosen
 pub choice : {A : Type 0} (P : A → Type 0) (b : Bool) {x y : A} → P x → P y → P (if b then x else y)
@@ -37,10 +32,6 @@ none_left (x ∷ xs) ys h = absurd (not_nil h)
 pub none_right : {A : Type 0} (xs ys : List A) → xs ++ ys ≡ [] → ys ≡ []
 none_right [] ys h = h
 none_right (x ∷ xs) ys h = absurd (not_nil h)
-
--- and so it cannot hold
-pub both_fail : (b x y : Bool) → x ≡ false → y ≡ false → (if b then x else y) ≡ true → ⊥
-both_fail b x y h k e = true_is_not_false (sym e ∙ no_way b x y h k)
 
 -- what holds where a test does
 abbrev pub Where : Bool → Type 0 → Type 0

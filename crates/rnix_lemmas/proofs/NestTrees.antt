@@ -148,7 +148,8 @@ HaveRows empty = Unit {0}
 HaveRows (leaf k t f) = HaveRows f
 HaveRows (node k c f) = (is_row k (kinds_of c) ≡ true) × HaveRows c × HaveRows f
 
-whole_row : (k : SyntaxKind) (ks : List SyntaxKind) → is_row k ks ≡ true → has_row k ≡ true
+-- a kind with a row is one that has rows
+pub whole_row : (k : SyntaxKind) (ks : List SyntaxKind) → is_row k ks ≡ true → has_row k ≡ true
 whole_row k [] h = implied (λ k. whole (start k)) has_row refl k h
 whole_row k (j ∷ ks) h = starts_row k j (run_live (advance (start k) j) ks h)
 

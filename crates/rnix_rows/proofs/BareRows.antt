@@ -1,18 +1,17 @@
 -- Which rows have items: each that begins at no place. Where no item is left, no node but error nodes is read, if no attribute path may be.
 use Rattle.rnix_lemmas.proofs.RunLemmas.{some_left}
-use Rattle.std.proofs.Common.{◌≡◌, ℕ, Bool, true, false, List, [], ◌∷◌, ◌++◌, Option, Some, None, refl, ap, sym, ◌∙◌, subst, arith, if◌then◌else◌}
-use Rattle.rnix_kinds.{specs.declared.kinds.SyntaxKind.{SyntaxKind, TheVariants.NODE_ATTRPATH_VALUE}, proofs.AllKinds.implied}
-use Rattle.rnix_grammar.specs.{declared.{place.Place.Place, symbol.Symbol.Symbol}, Fault.Fault, Symbols.{symbol_at, level_in}}
-use Rattle.rnix_grammar.specs.{Tables.{is_wanted, closes}, AnnotatedForest.{Token, Note, Stray, Unwanted, Extra, Twice, TooDeep, AnnotatedForest}}
-use Rattle.rnix_grammar.specs.AnnotatedForest.{blank, token, branch, fault, one_branch, is_some, tokens_in}
-use Rattle.rnix_grammar.specs.Rows.{is_entry, RowState, Start, At, to, advance, advance_symbol, first, live, start, whole, counts}
+use Rattle.std.proofs.Common.{◌≡◌, ℕ, Bool, true, false, List, [], ◌∷◌, ◌++◌, Option, Some, None, refl, ap, sym, ◌∙◌, subst, arith, if◌then◌else◌, ◌&&◌}
+use Rattle.{rnix_kinds.{specs.declared.kinds.SyntaxKind.{SyntaxKind, TheVariants.NODE_LITERAL}, proofs.AllKinds.{all_kinds, implied}}, rnix_lemmas.proofs.EachKind.{Each, each_kind}}
+use Rattle.rnix_grammar.specs.{declared.place.Place.Place, Fault.Fault, Symbols.{symbol_at, level_in}}
+use Rattle.rnix_grammar.specs.{AnnotatedForest.{Token, Note, Stray, Unwanted, Extra, Twice, TooDeep, AnnotatedForest}}
+use Rattle.rnix_grammar.specs.AnnotatedForest.{blank, token, branch, fault, one_branch, is_some, row_of, tokens_in}
+use Rattle.rnix_grammar.specs.{Missing.missing, Rows.{RowState, Start, At, advance, first, live, start, whole, counts}}
 use Rattle.rnix_grammar.specs.{ExpectedItems.{expects_end, stands_expected_in, stands_expected, IsExpected}, Operands.{IsBegun, IsOperand, level_at}}
 use Rattle.rnix_grammar.specs.PlaceReads.{Reads, end, leaf, missing_part, wrong, second, inner, IsWrong}
-use Rattle.rnix_lemmas.proofs.{Basics.{true_is_not_false, not_if, not_nil, none_left, none_right}, EveryKind.{never, only_both, whenever_two}}
-use Rattle.rnix_lemmas.proofs.{RowKinds.{has_row, no_wanted, no_closing}, OpeningRows.{is_place, unplaced, live_to}, NestRowStates.is_pathless}
-use Rattle.rnix_lemmas.proofs.{RowEndings.row_tokens, AnnotatedForestLemmas.tokens_in-row_of}
-use Rattle.rnix_rows.proofs.BareFacts.{is_bare, missing_bare, literal_bare}
-use Rattle.rnix_grammar.specs.declared.symbol.Symbol.TheVariants as s
+use Rattle.rnix_lemmas.proofs.{Basics.{true_is_not_false, not_if, not_nil, none_left, none_right, Where, where_one}, EveryKind.whenever_two, EntryNames.both_true}
+use Rattle.rnix_lemmas.proofs.{OpeningRows.{is_place, unplaced}, AnnotatedForestLemmas.tokens_in-row_of}
+use Rattle.rnix_rows.proofs.BegunTrees.{is_free, is_same, same_true}
+use Rattle.rnix_grammar.specs.declared.place.Place.TheVariants as p
 
 -- the row of a node that stands at no place begins at none
 pub unplaced_start : (q : RowState) (k : SyntaxKind) → is_place q ≡ false → live (advance q k) ≡ true → is_place (start k) ≡ false
@@ -42,37 +41,59 @@ row_some (second v c i x q r g t z) h w = absurd (true_is_not_false (sym (ap is_
 row_some {q = q} (inner {c = c} {f = f} {k = k} v u r i x y j z t g l hg r' hf) h w =
     some_left (tokens_in c) (tokens_in f) (row_some r (unplaced_start q k h (ap live g ∙ l)) x.0)
 
--- an error node without tokens stands for an operand that counts, and no attribute path follows
-pub wrong_empty : (n : Note) (d : ℕ) (q r : RowState) (vs : List Token) → IsWrong n d q r [] vs → (counts q ≡ true) × (is_bare r ≡ true)
+-- no attribute path stands at a state
+abbrev pub is_bare : RowState → Bool
+is_bare (At p.ValuePath) = false
+is_bare (At p.SelectPath) = false
+is_bare (At p.HasPath) = false
+is_bare q = true
+
+-- what is missing leads to no such place
+abbrev IsBareBehind : Option (Fault × Place) → Type 0
+IsBareBehind None = Unit {0}
+IsBareBehind (Some w) = is_bare (At w.1) ≡ true
+
+missing_well : (x : Place) → IsBareBehind (missing x)
+missing_well p.RootEnd = tt
+missing_well _ = cc
+
+-- what is missing leads to a place without attribute paths
+pub missing_bare : (x y : Place) (e : Fault) → missing x ≡ Some (e, y) → is_bare (At y) ≡ true
+missing_bare x y e h = subst IsBareBehind h (missing_well x)
+
+-- nor does an operand that counts
+counted_bare : (q : RowState) → Where (counts q) (is_bare (advance q NODE_LITERAL) ≡ true)
+counted_bare (At p.ParenInside) = refl
+counted_bare _ = assumption
+
+-- the tokens of a row of leaves
+pub row_tokens : (c : AnnotatedForest) (ts : List Token) → c ≡ row_of ts → tokens_in c ≡ [] → ts ≡ []
+row_tokens c ts h n = sym (tokens_in-row_of ts) ∙ ap tokens_in (sym h) ∙ n
+
+-- an error node without tokens stands for an operand that counts, and no attribute path and no item follow
+pub wrong_empty : (n : Note) (d : ℕ) (q r : RowState) (vs : List Token) → IsWrong n d q r [] vs → (counts q ≡ true) × (is_bare r ≡ true) × (vs ≡ [])
 wrong_empty Stray d q r vs h = absurd (omega (arith, h.0))
 wrong_empty (Unwanted until) d q r vs h = absurd (true_is_not_false (sym h.0))
 wrong_empty Extra d q r vs h = absurd (true_is_not_false (sym h.0))
 wrong_empty Twice d q r vs h = absurd h
-wrong_empty TooDeep d q r vs h = (h.1, subst (λ z. is_bare z ≡ true) h.3 (literal_bare q))
+wrong_empty TooDeep d q r vs h = (h.1, subst (λ z. is_bare z ≡ true) h.3 (where_one (counts q) h.1 (counted_bare q)), h.0)
 
--- where no item is left a node whose row begins at a place is an operand or an attribute path
-placed_start : (symbol : Symbol) (x : Place) (k : SyntaxKind) → level_in symbol ≡ None → is_pathless symbol ≡ true → expects_end symbol ≡ stands_expected_in symbol k
-    → live (advance_symbol symbol x k) ≡ true → is_place (start k) ≡ true → ⊥
-placed_start (s.Token until behind) x k n h e l i =
-    true_is_not_false (sym (live_to (is_wanted until k) (At behind) l) ∙ no_wanted until k (implied (λ k. is_place (start k)) has_row refl k i))
-placed_start (s.Operand level counted behind) x k n h e l i = absurd (cc)
-placed_start (s.Series level closer) x k n h e l i = absurd (cc)
-placed_start (s.Entries closer behind) x k n h e l i =
-    let inside : closes closer k ≡ false = no_closing closer k (implied (λ k. is_place (start k)) has_row refl k i) in
-    let entry : is_entry k ≡ true = live_to (is_entry k) (At x) (subst (λ w. live (if w then At behind else to (is_entry k) (At x)) ≡ true) inside l) in
-    true_is_not_false (e ∙ ap (stands_expected_in (s.Entries closer behind)) (only_both is_entry (λ k. is_place (start k)) NODE_ATTRPATH_VALUE refl k entry i))
-placed_start (s.Attrpath behind) x k n h e l i = true_is_not_false (sym h)
-placed_start (s.Bind true) x k n h e l i = true_is_not_false (sym l)
-placed_start symbol x k n h e l i = never (λ k. live (advance_symbol symbol x k)) (λ k. is_place (start k)) refl k l i
+-- a node of a kind may stand at a place where no item is left
+abbrev is_next : Place → SyntaxKind → Bool
+is_next x k = is_same (expects_end (symbol_at x)) (stands_expected_in (symbol_at x) k) && live (advance (At x) k)
 
--- so if neither may stand, its row begins at no place
+-- its row begins at none, if no operand and no attribute path may stand there
+next_unplaced : (x : Place) → Where (is_free (level_in (symbol_at x)) && is_bare (At x)) (Each (λ k. Where (is_next x k) (is_place (start k) ≡ false)) all_kinds)
+next_unplaced (p.PatternEnd true) = assumption
+next_unplaced (p.PatternEnd false) = assumption
+next_unplaced _ = assumption
+
 begins_unplaced : (q : RowState) (k : SyntaxKind) (c : AnnotatedForest) (n : ℕ) → is_bare q ≡ true → IsExpected q n [] (stands_expected q k c)
     → level_at q (one_branch k c) ≡ None → live (advance q k) ≡ true → is_place (start k) ≡ false
-begins_unplaced (At x) k c n h o e l = by (is_place (start k)) refl
-  where
-    by : (w : Bool) → is_place (start k) ≡ w → is_place (start k) ≡ false
-    by true i = absurd (placed_start (symbol_at x) x k e h o l i)
-    by false i = i
+begins_unplaced (At x) k c n h o e l =
+    let all = where_one (is_free (level_in (symbol_at x)) && is_bare (At x)) (both_true (is_free (level_in (symbol_at x))) _ (ap is_free e) h) (next_unplaced x) in
+    where_one (is_next x k) (both_true (is_same (expects_end (symbol_at x)) (stands_expected_in (symbol_at x) k)) _ (same_true _ _ o) l)
+    (each_kind (λ k. Where (is_next x k) (is_place (start k) ≡ false)) all k)
 begins_unplaced q k c n h o e l = unplaced_start q k refl l
 
 -- where no item is left, no operand stands that is no error node

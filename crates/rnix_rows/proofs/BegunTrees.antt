@@ -165,11 +165,11 @@ is_settled (At x) = is_free (level_in (symbol_at x))
 is_settled q = false
 
 -- two tests have one answer
-abbrev is_same : Bool → Bool → Bool
+abbrev pub is_same : Bool → Bool → Bool
 is_same true w = w
 is_same false w = if w then false else true
 
-same_true : (v w : Bool) → v ≡ w → is_same v w ≡ true
+pub same_true : (v w : Bool) → v ≡ w → is_same v w ≡ true
 same_true true w e = sym e
 same_true false w e = ap (λ z. if z then false else true) (sym e)
 

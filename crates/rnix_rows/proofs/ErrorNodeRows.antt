@@ -1,37 +1,30 @@
 -- What the error nodes of a row that is read hold, and in which nodes they stand.
-use Rattle.std.proofs.Common.{◌≡◌, ℕ, true, Option, Some, None, List, [], ◌∷◌, ◌++◌, refl, ap, sym, ◌∙◌, subst}
+use Rattle.std.proofs.Common.{ℕ, true, Option, Some, None, List, [], ◌∷◌, ◌++◌, refl, ap, sym, ◌∙◌, subst}
 use Rattle.rnix_kinds.specs.declared.kinds.SyntaxKind.{SyntaxKind, TheVariants.{NODE_ERROR, NODE_LITERAL, NODE_PATTERN, NODE_ROOT}}
-use Rattle.{rnix_green.specs.Equality.same_kind-decides, rnix_grammar.specs.{declared.{place.Place.Place, until.Until.Until}, Fault.Fault, Missing.run_at}}
+use Rattle.{rnix_green.specs.Equality.same_kind-decides, rnix_grammar.specs.{declared.place.Place.Place, Fault.Fault, Missing.{missing, run_at}}}
 use Rattle.rnix_grammar.specs.AnnotatedForest.{Token, Note, Stray, Unwanted, Extra, Twice, TooDeep, AnnotatedForest, row_of, tokens_in}
 use Rattle.rnix_grammar.specs.{Rows.{RowState, At}, PlaceReads.{Reads, ReadsWhole, end, leaf, missing_part, wrong, second, inner, IsWrong}}
 use Rattle.rnix_grammar.specs.ErrorNodes.{AreUnwanted, IsErrorNode, AreErrorNodes}
-use Rattle.rnix_lemmas.proofs.{NestPlaces.{is_expected, IsExpected, start_expected, go_expected}, Places.{home, IsSame, missing_leads_on}}
+use Rattle.rnix_lemmas.proofs.NestPlaces.{IsExpected, start_expected, go_expected}
 use Rattle.{rnix_lemmas.proofs.{RunLemmas.parted, AnnotatedForestLemmas.tokens_in-row_of}, rnix_rows.proofs.BareRows.row_some}
 use Rattle.rnix_grammar.specs.declared.place.Place.TheVariants as p
 
--- behind a run a row goes on in the same node
-abbrev RunLeads : Place → Option (Until × Place) → Type 0
-RunLeads x None = Unit {0}
-RunLeads x (Some w) = home w.1 ≡ home x
+-- behind a run, and behind what is missing, a row goes on in the same node
+abbrev GoesOn : {A : Type 0} → SyntaxKind → Option (A × Place) → Type 0
+GoesOn i None = Unit {0}
+GoesOn i (Some w) = IsExpected i (At w.1)
 
-run_leads : (x : Place) → RunLeads x (run_at x)
-run_leads p.RootStart = tt
-run_leads _ = assumption
+goes_on : (i : SyntaxKind) (x : Place) → IsExpected i (At x) → GoesOn i (run_at x) × GoesOn i (missing x)
+goes_on i p.RootStart h = assumption (h)
+goes_on i _ h = assumption (h)
 
 -- and so behind each error node
 wrong_expected : (note : Note) (i : SyntaxKind) (d : ℕ) (q r : RowState) (ts vs : List Token) → IsWrong note d q r ts vs → IsExpected i q → IsExpected i r
 wrong_expected Stray i d q r ts vs w h = subst (IsExpected i) w.3 (go_expected i q NODE_LITERAL h)
-wrong_expected (Unwanted until) i d q r ts vs w h =
-    subst (IsExpected i) (sym w.5) (ap (λ o. is_expected o i) (subst (RunLeads w.2) w.6 (run_leads w.2)) ∙ subst (IsExpected i) w.4 h)
+wrong_expected (Unwanted until) i d q r ts vs w h = subst (IsExpected i) (sym w.5) (subst (GoesOn i) w.6 (goes_on i w.2 (subst (IsExpected i) w.4 h)).0)
 wrong_expected Extra i d q r ts vs w h = subst (IsExpected i) (sym w.3) h
 wrong_expected Twice i d q r ts vs w h = absurd w
 wrong_expected TooDeep i d q r ts vs w h = subst (IsExpected i) w.3 (go_expected i q NODE_LITERAL h)
-
--- and where something is missing
-same_home : (g h : Option SyntaxKind) (i : SyntaxKind) → IsSame g h → is_expected g i ≡ true → is_expected h i ≡ true
-same_home g None i s o = refl
-same_home None (Some k) i s o = absurd (cc)
-same_home (Some j) (Some k) i s o = ap (λ w. is_expected w i) (sym s) ∙ o
 
 -- an error node over tokens holds what it may
 holds : (note : Note) (i : SyntaxKind) (d : ℕ) (q r : RowState) (ts vs : List Token) → IsWrong note d q r ts vs → IsExpected i q → IsErrorNode note i ts
@@ -50,7 +43,7 @@ pub error_nodes : {i : SyntaxKind} {d n : ℕ} {q q' : RowState} {b : AnnotatedF
     → IsExpected i q → AreErrorNodes i f
 error_nodes end h = tt
 error_nodes {i = i} {q = q} (leaf {k = k} _ _ _ _ g _ _ _ s) h = error_nodes s (subst (IsExpected i) g (go_expected i q k h))
-error_nodes {i = i} (missing_part {x = x} {y = y} {e = e} _ _ l _ s _) h = error_nodes s (same_home (home x) (home y) i (missing_leads_on x y e l) h)
+error_nodes {i = i} (missing_part {x = x} _ _ l _ s _) h = error_nodes s (subst (GoesOn i) l (goes_on i x h).1)
 error_nodes {i = i} {d = d} {q = q} (wrong {r = r} {vs = vs} note ts e _ _ _ w _ _ s _) h = (
   subst (IsErrorNode note i) (sym (ap tokens_in e ∙ tokens_in-row_of ts)) (holds note i d q r ts vs w h),
   subst (AreErrorNodes NODE_ERROR) (sym e) (leaves_alone ts),

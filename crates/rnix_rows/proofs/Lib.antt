@@ -3,7 +3,6 @@ pub mod WithTrivia
 pub mod WithTriviaWhole
 pub mod ReadsFaults
 pub mod ReadsRows
-pub mod BareFacts
 pub mod ReadsBegun
 pub mod ReadsShapes
 pub mod ReadsFilled

@@ -11,7 +11,7 @@ use Rattle.rnix_grammar.specs.{Reports.only_token, TokenKinds.is_at}
 use Rattle.rnix_lemmas.proofs.{Basics.{true_is_not_false, not_if}, EveryKind.never, LaterRowStates.{is_start, go_later}, NodeKinds.fits_expression}
 use Rattle.rnix_lemmas.proofs.OpeningRows.{HasRow, Opening, by_token, by_branch, by_fault, opened, no_row, live_to}
 use Rattle.rnix_lemmas.proofs.NestRowStates.{wrong_goes}
-use Rattle.rnix_rows.proofs.{BareFacts.missing_bare, BareRows.{HasNoNode, bare_row}, BegunTrees.{MayBegin, Names, Fronts, Known, begins_pattern, node_known}}
+use Rattle.rnix_rows.proofs.{BareRows.{missing_bare, HasNoNode, bare_row}, BegunTrees.{MayBegin, Names, Fronts, Known, begins_pattern, node_known}}
 use Rattle.rnix_grammar.specs.declared.place.Place.TheVariants as p
 
 -- no name begins with `@`

@@ -1,11 +1,11 @@
 -- The rows of a tree at each of its elements.
-use Rattle.std.proofs.{Common.{◌≡◌, ℕ, ◌+◌, Bool, true, false, List, [], ◌∷◌, refl, ap, sym, ◌∙◌, subst, if◌then◌else◌, ◌==◌, nat_lt}, lemmas.Bool.and_parts}
+use Rattle.std.proofs.{Common.{◌≡◌, ℕ, ◌+◌, true, false, List, [], refl, ap, sym, ◌∙◌, subst, if◌then◌else◌, ◌==◌, nat_lt}, lemmas.Bool.and_parts}
 use Rattle.rnix_kinds.specs.{declared.kinds.SyntaxKind.{SyntaxKind, TheVariants.{NODE_ERROR, NODE_ROOT}}, SyntaxKind.is_token, Lexical.Tokens.Lexeme}
 use Rattle.{rnix_kinds.proofs.AllKinds.implied, rnix_green.specs.{Forest.{Forest, empty, leaf, node, element_count}, Tree.{Tree, forest_of, part_of}}}
 use Rattle.rnix_grammar.specs.{Fault.Fault, AnnotatedForest.{AnnotatedForest, blank, token, branch, fault, forget, tokens_in, HaveLeafKinds}, Rows.is_row}
-use Rattle.rnix_grammar.specs.{Rows.{whole, start, advance}, Shape.{item_kinds, AreRows, IsShaped}, Named.AreSpelled, Derivation.has_tokens_alone}
-use Rattle.{rnix_grammar.specs.Parsed.IsParsed, rnix_lemmas.proofs.{Basics.not_if, EntryNames.both_true, SpelledLemmas.{AreRuled, spelled_from}}}
-use Rattle.rnix_lemmas.proofs.{RowKinds.{has_row, starts_row}, ImitateLemmas.run_live, OpeningRows.{spelled_first, spelled_rest}}
+use Rattle.rnix_grammar.specs.{Shape.{item_kinds, AreRows, IsShaped}, Named.AreSpelled, Derivation.has_tokens_alone}
+use Rattle.{rnix_grammar.specs.Parsed.IsParsed, rnix_lemmas.proofs.{Basics.{choice, not_if}, EntryNames.both_true, SpelledLemmas.{AreRuled, spelled_from}}}
+use Rattle.rnix_lemmas.proofs.{RowKinds.has_row, NestTrees.whole_row, OpeningRows.{spelled_first, spelled_rest}}
 use Rattle.rnix_rows.proofs.ReadsTold.{told_token, spelled_token}
 
 -- each node has a row of its kind
@@ -23,19 +23,12 @@ rows_alone (node k c f) h = (h.0, rows_alone c h.2, rows_alone f h.3)
 pub shaped_rows : (t : Tree) → IsShaped t → HasRows (forest_of t)
 shaped_rows t h = (h.0, rows_alone t.children h.1, tt)
 
--- what holds of both of two rows holds of the one that is chosen
-either_of : (P : Forest → Type 0) (w : Bool) (f g : Forest) → P f → P g → P (if w then f else g)
-either_of P true f g h k = h
-either_of P false f g h k = k
-
 -- and so at each element
 pub rows_part : (m n : ℕ) (f : Forest) → HasRows f → HasRows (part_of m n f)
 rows_part m n empty h = tt
-rows_part m n (leaf k t f) h = either_of HasRows (m == n) (leaf k t empty) (part_of m (n + 1) f) tt (rows_part m (n + 1) f h)
+rows_part m n (leaf k t f) h = choice HasRows (m == n) tt (rows_part m (n + 1) f h)
 rows_part m n (node k c f) h =
-    either_of HasRows (m == n) (node k c empty) (if nat_lt m (n + 1 + element_count c) then part_of m (n + 1) c else part_of m (n + 1 + element_count c) f) (h.0, h.1, tt)
-    (either_of HasRows (nat_lt m (n + 1 + element_count c)) (part_of m (n + 1) c) (part_of m (n + 1 + element_count c) f) (rows_part m (n + 1) c h.1)
-    (rows_part m (n + 1 + element_count c) f h.2))
+    choice HasRows (m == n) (h.0, h.1, tt) (choice HasRows (nat_lt m (n + 1 + element_count c)) (rows_part m (n + 1) c h.1) (rows_part m (n + 1 + element_count c) f h.2))
 
 -- each leaf has the kind of a token, at each element
 abbrev pub HasTokens : Forest → Type 0
@@ -46,13 +39,11 @@ pub tokens_part : (m n : ℕ) (f : Forest) → HasTokens f → HasTokens (part_o
 tokens_part m n empty h = refl
 tokens_part m n (leaf k t f) h =
     let both = and_parts (is_token k) (has_tokens_alone f) h in
-    either_of HasTokens (m == n) (leaf k t empty) (part_of m (n + 1) f) (both_true (is_token k) true both.0 refl) (tokens_part m (n + 1) f both.1)
+    choice HasTokens (m == n) (both_true (is_token k) true both.0 refl) (tokens_part m (n + 1) f both.1)
 tokens_part m n (node k c f) h =
     let both = and_parts (has_tokens_alone c) (has_tokens_alone f) h in
-    either_of HasTokens (m == n) (node k c empty) (if nat_lt m (n + 1 + element_count c) then part_of m (n + 1) c else part_of m (n + 1 + element_count c) f)
-    (both_true (has_tokens_alone c) true both.0 refl)
-    (either_of HasTokens (nat_lt m (n + 1 + element_count c)) (part_of m (n + 1) c) (part_of m (n + 1 + element_count c) f) (tokens_part m (n + 1) c both.0)
-    (tokens_part m (n + 1 + element_count c) f both.1))
+    choice HasTokens (m == n) (both_true (has_tokens_alone c) true both.0 refl)
+    (choice HasTokens (nat_lt m (n + 1 + element_count c)) (tokens_part m (n + 1) c both.0) (tokens_part m (n + 1 + element_count c) f both.1))
 
 -- the leaves of a tree that is read have the kinds of tokens
 forgotten_tokens : (p : SyntaxKind) (f : AnnotatedForest) → HaveLeafKinds p f → AreSpelled (tokens_in f) → HasTokens (forget f)
@@ -75,5 +66,4 @@ parsed_tokens tokens tree faults ruled h =
 
 -- a kind that has rows is that of a node
 pub row_of_node : (k : SyntaxKind) (ks : List SyntaxKind) → is_row k ks ≡ true → is_token k ≡ false
-row_of_node k [] h = not_if (is_token k) (implied (λ k. whole (start k)) (λ k. if is_token k then false else true) refl k h)
-row_of_node k (j ∷ ks) h = not_if (is_token k) (implied has_row (λ k. if is_token k then false else true) refl k (starts_row k j (run_live (advance (start k) j) ks h)))
+row_of_node k ks h = not_if (is_token k) (implied has_row (λ k. if is_token k then false else true) refl k (whole_row k ks h))

@@ -5,8 +5,8 @@ use Rattle.rnix_grammar.specs.{Fault.Fault, AnnotatedForest.{Token, Note, Stray,
 use Rattle.rnix_grammar.specs.{Rows.{At, advance, whole, live, start, run, IsBeginning}, PlaceReads.{Reads, end, leaf, missing_part, wrong, second, inner, IsWrong}}
 use Rattle.{rnix_grammar.specs.{Repaired.{patch, held, kinds_of, AreBegun}}, rnix_lemmas.proofs.AnnotatedForestLemmas.tokens_in-row_of}
 use Rattle.rnix_lemmas.proofs.{Completable.IsCompletable, ImitateLemmas.{Imitates, imitates_self, imitates_same, imitates_both, second_imitates, patched}}
-use Rattle.rnix_lemmas.proofs.{ImitateLemmas.{wrong_imitates, imitates_completable}, RowEndings.{wrong_last}, Basics.{not_nil}}
-use Rattle.{rnix_lemmas.proofs.Basics.{none_right, none_left}, rnix_rows.proofs.{BareFacts.missing_bare, BareRows.{HasNoNode, bare_row, wrong_empty}}}
+use Rattle.rnix_lemmas.proofs.{ImitateLemmas.{wrong_imitates, imitates_completable}, Basics.{not_nil}}
+use Rattle.{rnix_lemmas.proofs.Basics.{none_right, none_left}, rnix_rows.proofs.{BareRows.{missing_bare, HasNoNode, bare_row, wrong_empty}}}
 use Rattle.rnix_rows.proofs.ReadsRows.{reads_completable}
 use Rattle.rnix_grammar.specs.declared.place.Place.TheVariants as places
 
@@ -56,7 +56,7 @@ reads_begun {d = d₀} {q = q} {us = us} q0 (wrong {r = r} {vs = vs} {c = c} {f 
     by_tokens : (xs : List Token) → ts ≡ xs → IsCompletable q → IsBegun (patched n q0) (held f) → IsBegun q0 (held (fault n c f))
     by_tokens [] e here more =
         let none : IsWrong n d₀ q r [] vs = subst (λ z. IsWrong n d₀ q r z vs) e x in
-        let all : tokens_in f ++ us ≡ [] = sym v ∙ wrong_last n d₀ q r vs none in
+        let all : tokens_in f ++ us ≡ [] = sym v ∙ (wrong_empty n d₀ q r vs none).2 in
         let last : tokens_in f ≡ [] = none_left (tokens_in f) us all in
         none_begun q0 (held (fault n c f)) (ap (λ o. if is_some o then patch n (held f) else held f) (same ∙ e) ∙ none_held f (bare_row s (wrong_empty n d₀ q r vs none).1 (none_right (tokens_in f) us all) last) last)
         (imitates_completable m here)

@@ -9,7 +9,7 @@ use Rattle.rnix_grammar.specs.{Layout.items, Missing.{missing, run_at}, Repaired
 use Rattle.rnix_grammar.specs.{Rows.whole, PlaceReads.{Reads, end, leaf, missing_part, wrong, second, inner, IsWrong}, Named.begins_with_token}
 use Rattle.{rnix_grammar.specs.Ranges.is_error_node, rnix_lemmas.proofs.{Basics.{true_is_not_false, not_if}, ImitateLemmas.start_half, RowKinds.has_row}}
 use Rattle.{rnix_lemmas.proofs.{ReportLemmas.without_trivia_tokens, OpeningRows.is_place}, rnix_rows.proofs.BareRows.row_some}
-use Rattle.rnix_rows.proofs.{DressLemmas.HasTree, ReadsRows.{IsAside, a_number, a_run, at_end, aside, reads_row}, ReadsShapes.AreBareRows}
+use Rattle.rnix_rows.proofs.{DressLemmas.HasTree, ReadsRows.reads_row, ReadsShapes.AreBareRows}
 use Rattle.rnix_grammar.specs.declared.place.Place.TheVariants as p
 
 -- each node of a row has trees, and none is that of what is too deep
@@ -99,12 +99,14 @@ pub record IsCalmFault (n : Note) (r : RowState) (ts : List Token) : Type 0 wher
   pub some : is_some ts ≡ true
   pub calm : is_calm r ≡ true
 
-calm_fault : {n : Note} {q r : RowState} {ts : List Token} → IsAside n q r ts → is_calm q ≡ true → IsCalmFault n r ts
-calm_fault {q = q} (a_number g l) h = absurd (true_is_not_false (sym l ∙ sym (ap live g) ∙ (calm q h).0))
-calm_fault (a_run x y until n t e f w) h =
-    let here : is_calm (At x) ≡ true = sym (ap is_calm e) ∙ h in
-    record { last = n; some = t; calm = ap is_calm f ∙ ap is_calm_behind (sym w) ∙ (and_parts (is_calm_behind (missing x)) (is_calm_behind (run_at x)) (calm (At x) here).1).1 }
-calm_fault (at_end t e) h = absurd (true_is_not_false (sym h ∙ ap is_calm e))
+calm_fault : (note : Note) (d : ℕ) (q r : RowState) (ts vs : List Token) → IsWrong note d q r ts vs → is_calm q ≡ true → IsCalmFault note r ts
+calm_fault Stray d q r ts vs w h = absurd (true_is_not_false (sym w.4 ∙ sym (ap live w.3) ∙ (calm q h).0))
+calm_fault (Unwanted until) d q r ts vs w h =
+    let led = and_parts (is_calm_behind (missing w.2)) (is_calm_behind (run_at w.2)) (calm (At w.2) (sym (ap is_calm w.4) ∙ h)).1 in
+    record { last = refl; some = w.0; calm = ap is_calm w.5 ∙ ap is_calm_behind (sym w.6) ∙ led.1 }
+calm_fault Extra d q r ts vs w h = absurd (true_is_not_false (sym h ∙ ap is_calm w.2))
+calm_fault Twice d q r ts vs w h = absurd w
+calm_fault TooDeep d q r ts vs w h = absurd (true_is_not_false (sym w.4 ∙ sym (ap live w.3) ∙ (calm q h).0))
 
 -- the row of a name, and that of a second name, have trees wherever they have nodes
 pub calm_filled : {p : SyntaxKind} {d n : ℕ} {q q' : RowState} {b : AnnotatedForest} {us : List Token} {f : AnnotatedForest} {es : List Fault}
@@ -113,12 +115,12 @@ calm_filled end m = tt
 calm_filled {q = q} (leaf {k = k} h _ _ _ g l c _ s) m = calm_filled s (sym (ap is_calm g) ∙ (calm_goes q k m (ap live g ∙ l)).0)
 calm_filled (missing_part {x = x} {y = y} {e = e} u n l _ s z) m = calm_filled s (ap is_calm_behind (sym l) ∙ (and_parts (is_calm_behind (missing x)) (is_calm_behind (run_at x)) (calm (At x) m).1).0)
 calm_filled {d = d₀} {q = q} (wrong {r = r} {vs = vs} note ts h v _ _ w d _ s z) m =
-    let x : IsCalmFault note r ts = calm_fault (aside note d₀ q r ts vs w) m in
+    let x : IsCalmFault note r ts = calm_fault note d₀ q r ts vs w m in
     (x.last, subst HasTree (sym h) (row_tree ts x.some), subst AreFilled (sym h) (row_filled ts), calm_filled s x.calm)
 calm_filled (second v s _ y e r d x z) m = absurd (true_is_not_false (sym m ∙ ap is_calm e))
 calm_filled {q = q} (inner {c = c} {k = k} v _ s _ y _ _ _ _ g l d x z) m =
     let live_ : live (advance q k) ≡ true = ap live g ∙ l in
-    let name : k ≡ NODE_IDENT = calm_name q k m live_ (reads_row k s refl y.0) in
+    let name : k ≡ NODE_IDENT = calm_name q k m live_ (reads_row k s y.0) in
     let some : is_some (tokens_in c) ≡ true = row_some s (ap (λ z. is_place (start z)) name) y.0 in
     (tokens_tree c some, calm_filled s (ap (λ w. is_calm (start w)) name), calm_filled x (sym (ap is_calm g) ∙ (calm_goes q k m live_).0))
 
@@ -174,7 +176,7 @@ reads_marked {d = d₀} {q = q} (wrong {r = r} {vs = vs} n ts h v _ _ w d _ s z)
 )
 reads_marked (second v s _ w q r d z o) = (row_some s refl w.0, reads_marked s, reads_marked z)
 reads_marked (inner {k = k} v _ s _ w _ _ _ _ h l d z o) = (
-  not_if (is_error_node k) (implied has_row (λ j. if is_error_node j then false else true) refl k (reads_row k s refl w.0)),
+  not_if (is_error_node k) (implied has_row (λ j. if is_error_node j then false else true) refl k (reads_row k s w.0)),
   reads_marked s,
   reads_marked z,
 )

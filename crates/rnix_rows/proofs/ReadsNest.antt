@@ -10,7 +10,7 @@ use Rattle.rnix_grammar.specs.{PlaceReads.{Reads, end}}
 use Rattle.rnix_grammar.specs.{PlaceReads.{leaf, missing_part, wrong, second, inner, deeper, IsWrong, ReadsWhole}, Nesting.{depth_of, IsLimited, AreLimited}}
 use Rattle.{rnix_grammar.specs.Nest.nest}
 use Rattle.rnix_lemmas.proofs.{NestRowStates.wrong_goes}
-use Rattle.{rnix_lemmas.proofs.RowNesting.nesting, rnix_rows.proofs.{BareFacts.missing_bare, BareRows.{HasNoNode, bare_row}}}
+use Rattle.{rnix_lemmas.proofs.RowNesting.nesting, rnix_rows.proofs.{BareRows.{missing_bare, HasNoNode, bare_row}}}
 use Rattle.rnix_rows.proofs.{ReadsShapes.{AreBareRows, IsBare}, Exactly.bare_nest}
 
 -- over what is nested too deep it is inside as many counted places as may be

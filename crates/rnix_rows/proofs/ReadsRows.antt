@@ -2,47 +2,17 @@
 use Rattle.std.proofs.Common.{◌≡◌, ◌⊎◌, inl, inr, ℕ, ◌+◌, ◌≤◌, Bool, true, false, List, [], ◌∷◌, ◌++◌, Option, Some, None, refl, ap, sym, ◌∙◌, subst, arith}
 use Rattle.std.proofs.Common.{if◌then◌else◌}
 use Rattle.{rnix_kinds.specs.declared.kinds.SyntaxKind.{SyntaxKind, TheVariants.{NODE_LITERAL, NODE_PATTERN}}, rnix_green.specs.Forest.Forest}
-use Rattle.rnix_grammar.specs.{declared.place.Place.Place, Fault.Fault, AnnotatedForest.{Token, Note, Stray, Unwanted, Extra, Twice, TooDeep, AnnotatedForest}}
-use Rattle.rnix_grammar.specs.{AnnotatedForest.{tokens_in, is_some}, Reports.{report, repeats}, Rows.{RowState, At, advance, whole, live, start, run}}
+use Rattle.rnix_grammar.specs.{declared.place.Place.Place, Fault.Fault, AnnotatedForest.{Token, Note, Stray, Twice, TooDeep, AnnotatedForest}}
+use Rattle.rnix_grammar.specs.{AnnotatedForest.tokens_in, Reports.{report, repeats}, Rows.{RowState, At, advance, whole, live, start, run, counts}}
 use Rattle.rnix_grammar.specs.{PlaceReads.{Reads, end, leaf, missing_part, wrong, second, inner, IsWrong}, Repaired.{patch, repaired, kinds_of, incomplete}}
-use Rattle.rnix_grammar.specs.{Repaired.{is_ended, ended_count}, declared.until.Until.Until, Layout.is_last, Missing.{missing, run_at}}
+use Rattle.rnix_grammar.specs.{Repaired.{is_ended, ended_count}, Missing.missing}
 use Rattle.rnix_lemmas.proofs.{MissingFacts.missing_ended, Completable.{IsCompletable, completed_at, lost_inside}, Owing.{owes, owing, owing_half, owing_goes}}
-use Rattle.rnix_lemmas.proofs.{RowEnds.{is_final, lost_final, final_full, final_goes, lost_half}, RowKinds.{has_row, starts_row}, ImitateLemmas.Imitates}
+use Rattle.rnix_lemmas.proofs.{EachKind.{Each, each_kind}, RowKinds.has_row, ImitateLemmas.Imitates, NestTrees.whole_row}
 use Rattle.rnix_lemmas.proofs.ImitateLemmas.{imitates_self, imitates_same, imitates_both, second_imitates, patched, run_patch, wrong_imitates}
-use Rattle.rnix_lemmas.proofs.{ImitateLemmas.{wrong_completable, pattern_goes, start_half, start_place}, Basics.{true_is_not_false, not_nil, none_right}}
-use Rattle.{rnix_grammar.specs.ErrorNodes.AreErrorNodes, rnix_lemmas.proofs.{Basics.none_left, RowEndings.row_tokens}, rnix_rows.proofs.ReadsFaults.{HasEnded, AreCalm, plain_report, calm_second}}
-use Rattle.rnix_rows.proofs.ReadsFaults.{calm_repeats, reads_errors}
+use Rattle.rnix_lemmas.proofs.{ImitateLemmas.{wrong_completable, pattern_goes}, Basics.{true_is_not_false, not_nil, none_left, none_right, Where, where_one}}
+use Rattle.{rnix_kinds.proofs.AllKinds.all_kinds, rnix_grammar.specs.ErrorNodes.AreErrorNodes, rnix_rows.proofs.BareRows.{row_tokens, wrong_empty}}
+use Rattle.rnix_rows.proofs.ReadsFaults.{HasEnded, AreCalm, plain_report, calm_second, calm_repeats, reads_errors}
 use Rattle.rnix_grammar.specs.declared.place.Place.TheVariants as places
-
--- how an error node over tokens stands at a state
-pub data IsAside (n : Note) (q r : RowState) (ts : List Token) : Type 0 where
-  a_number : advance q NODE_LITERAL ≡ r → live r ≡ true → IsAside n q r ts
-  a_run : (x y : Place) (until : Until) → is_last n ≡ false → is_some ts ≡ true → q ≡ At x → r ≡ At y → run_at x ≡ Some (until, y) → IsAside n q r ts
-  at_end : is_some ts ≡ true → q ≡ At places.RootEnd → IsAside n q r ts
-
--- each is so
-pub aside : (note : Note) (d : ℕ) (q r : RowState) (ts vs : List Token) → IsWrong note d q r ts vs → IsAside note q r ts
-aside Stray d q r ts vs w = a_number w.3 w.4
-aside (Unwanted until) d q r ts vs w = a_run w.2 w.3 until refl w.0 w.4 w.5 w.6
-aside Extra d q r ts vs w = at_end w.0 w.2
-aside Twice d q r ts vs w = absurd w
-aside TooDeep d q r ts vs w = a_number w.3 w.4
-
--- a row with an error node begins as its kind's rows do
-aside_row : {n : Note} {q r : RowState} {ts : List Token} (k : SyntaxKind) → IsAside n q r ts → q ≡ start k → has_row k ≡ true
-aside_row k (a_number g l) e = starts_row k NODE_LITERAL (ap (λ x. live (advance x NODE_LITERAL)) (sym e) ∙ ap live g ∙ l)
-aside_row k (a_run x y until n t f g w) e = start_place k x (sym f ∙ e)
-aside_row k (at_end t f) e = start_place k places.RootEnd (sym f ∙ e)
-
--- a node that is complete is of a kind with rows
-pub reads_row : {p : SyntaxKind} {d n : ℕ} {q q' : RowState} {b : AnnotatedForest} {us : List Token} {f : AnnotatedForest} {es : List Fault} (k : SyntaxKind)
-    → Reads p d n q q' b us f es → q ≡ start k → whole q' ≡ true → has_row k ≡ true
-reads_row k end e w = absurd (true_is_not_false (sym w ∙ ap whole e ∙ start_half k))
-reads_row k (leaf {k = j} h _ _ _ g l c _ s) e w = starts_row k j (ap (λ x. live (advance x j)) (sym e) ∙ ap live g ∙ l)
-reads_row k (missing_part {x = x} u n l _ s z) e w = start_place k x e
-reads_row {d = d₀} {q = q} k (wrong {r = r} {vs = vs} n ts h v _ _ x d _ s z) e w = aside_row k (aside n d₀ q r ts vs x) e
-reads_row k (second v s _ y q r d x z) e w = start_place k (places.PatternEnd true) (sym q ∙ e)
-reads_row k (inner {k = j} v _ s _ y _ _ _ _ g l d x z) e w = starts_row k j (ap (λ x. live (advance x j)) (sym e) ∙ ap live g ∙ l)
 
 -- a row that ends whole can be completed from where it begins
 pub reads_completable : {p : SyntaxKind} {d n : ℕ} {q q' : RowState} {b : AnnotatedForest} {us : List Token} {f : AnnotatedForest} {es : List Fault}
@@ -54,6 +24,42 @@ reads_completable {d = d₀} {q = q} (wrong {r = r} {vs = vs} n ts h v _ _ x d _
     wrong_completable n d₀ q r ts vs x (reads_completable s w)
 reads_completable (second v s _ y q r d x z) w = subst IsCompletable (sym q) (completed_at (places.PatternEnd true) refl)
 reads_completable (inner {k = k} v _ s _ y _ _ _ _ g l d x z) w = let m = reads_completable x w in (k ∷ m.0, ap (λ x. whole (run x m.0)) g ∙ m.1)
+
+-- so a node that is complete is of a kind with rows
+pub reads_row : {p : SyntaxKind} {d n : ℕ} {q' : RowState} {b : AnnotatedForest} {us : List Token} {f : AnnotatedForest} {es : List Fault} (k : SyntaxKind)
+    → Reads p d n (start k) q' b us f es → whole q' ≡ true → has_row k ≡ true
+reads_row k s w = let m : IsCompletable (start k) = reads_completable s w in whole_row k m.0 m.1
+
+-- nothing but a token may follow
+abbrev is_final : Place → Bool
+is_final places.RootEnd = true
+is_final places.AttrpathMore = true
+is_final places.PatternPast = true
+is_final places.EntryPast = true
+is_final places.TwicePast = true
+is_final (places.Operated level) = true
+is_final places.Past = true
+is_final place = false
+
+-- so nothing is missing there, no operand counts, and no node goes on
+abbrev IsFinal : Place → Type 0
+IsFinal x = (missing x ≡ None) × (counts (At x) ≡ false) × Each (λ k. Where (has_row k) (live (advance (At x) k) ≡ false)) all_kinds
+
+final_at : (x : Place) → Where (is_final x) (IsFinal x)
+final_at places.RootEnd = assumption
+final_at _ = assumption
+
+final : (x : Place) → is_final x ≡ true → IsFinal x
+final x h = where_one (is_final x) h (final_at x)
+
+-- where something is missing the row is not whole, and where no token is owed either nothing but a token may follow
+abbrev WhereLost : Place → Option (Fault × Place) → Type 0
+WhereLost x None = Unit {0}
+WhereLost x (Some w) = (whole (At x) ≡ false) × Where (if owes x then false else true) (is_final w.1 ≡ true)
+
+lost_at : (x : Place) → WhereLost x (missing x)
+lost_at places.RootStart = assumption
+lost_at _ = assumption
 
 -- a patch pays no token
 owing_patch : (n : Note) (q : RowState) (f : Forest) → owing q ≡ true → ((r : RowState) → owing r ≡ true → owing (run r (kinds_of f)) ≡ true) → owing (run q (kinds_of (patch n f))) ≡ true
@@ -70,13 +76,7 @@ owing_rest (missing_part u x l _ s z) n q0 o = owing_rest s n q0 o
 owing_rest (wrong {c = c} {f = f} note ts h v _ _ x d _ s z) n q0 o = owing_patch note q0 (repaired f) o (owing_rest s (none_right (tokens_in c) (tokens_in f) n))
 owing_rest (second {c = c} {f = f} v s _ y q r d x z) n q0 o = owing_rest x (none_right (tokens_in c) (tokens_in f) n) q0 o
 owing_rest (inner {c = c} {f = f} {k = k} v _ s _ y _ _ _ _ g l d x z) n q0 o =
-    owing_rest x (none_right (tokens_in c) (tokens_in f) n) (advance q0 k) (owing_goes q0 k o (reads_row k s refl y.0))
-
--- where nothing but a token may follow, nothing without one follows
-final_aside : {n : Note} {q r : RowState} {ts : List Token} (y : Place) → IsAside n q r ts → ts ≡ [] → q ≡ At y → is_final y ≡ true → ⊥
-final_aside y (a_number g l) n e m = true_is_not_false (sym l ∙ ap live (sym g) ∙ ap (λ x. live (advance x NODE_LITERAL)) e ∙ final_goes y NODE_LITERAL m refl)
-final_aside y (a_run x z until o t f g w) n e m = true_is_not_false (sym t ∙ ap is_some n)
-final_aside y (at_end t f) n e m = true_is_not_false (sym t ∙ ap is_some n)
+    owing_rest x (none_right (tokens_in c) (tokens_in f) n) (advance q0 k) (owing_goes q0 k o (reads_row k s y.0))
 
 -- something is missing or nothing
 some_is_not_none : {e : Fault} {y : Place} {o : Option (Fault × Place)} → o ≡ Some (e, y) → o ≡ None → ⊥
@@ -89,21 +89,26 @@ final_rest y end e m n = refl
 final_rest y (leaf h _ _ _ g l c _ s) e m n = absurd (not_nil n)
 final_rest y (missing_part {x = x} u v l _ s z) e m n =
     let same : x ≡ y = cc in
-    absurd (some_is_not_none l (ap missing same ∙ final_full y m))
+    absurd (some_is_not_none l (ap missing same ∙ (final y m).0))
 final_rest {d = d₀} {q = q} y (wrong {r = r} {vs = vs} {c = c} {f = f} note ts h v _ _ x d _ s z) e m n =
-    absurd (final_aside y (aside note d₀ q r ts vs x) (row_tokens c ts h (none_left (tokens_in c) (tokens_in f) n)) e m)
+    let none : ts ≡ [] = row_tokens c ts h (none_left (tokens_in c) (tokens_in f) n) in
+    let counted : counts q ≡ true = (wrong_empty note d₀ q r vs (subst (λ z. IsWrong note d₀ q r z vs) none x)).0 in
+    absurd (true_is_not_false (sym counted ∙ ap counts e ∙ (final y m).1))
 final_rest y (second v s _ w q r d x z) e m n =
     let same : places.PatternEnd true ≡ y = let both : At (places.PatternEnd true) ≡ At y = sym q ∙ e in cc in
     absurd (true_is_not_false (sym m ∙ ap is_final (sym same)))
 final_rest y (inner {k = k} v _ s _ w _ _ _ _ g l d x z) e m n =
-    absurd (true_is_not_false (sym l ∙ ap live (sym g) ∙ ap (λ x. live (advance x k)) e ∙ final_goes y k m (reads_row k s refl w.0)))
+    let dead : live (advance (At y) k) ≡ false = where_one (has_row k) (reads_row k s w.0) (each_kind (λ k. Where (has_row k) (live (advance (At y) k) ≡ false)) (final y m).2 k) in
+    absurd (true_is_not_false (sym l ∙ ap live (sym g) ∙ ap (λ x. live (advance x k)) e ∙ dead))
 
 -- a row with a part that is missing is not whole, however it is repaired
 lost_by : {p : SyntaxKind} {d n : ℕ} {x y : Place} {q0 q' : RowState} {b : AnnotatedForest} {us : List Token} {f : AnnotatedForest} {es : List Fault} {e : Fault} (o : Bool)
     → owes x ≡ o → Imitates q0 (At x) → missing x ≡ Some (e, y) → tokens_in f ≡ [] → Reads p d n (At y) q' b us f es → whole (run q0 (kinds_of (repaired f))) ≡ false
 lost_by {q0 = q0} {f = f} true h m l n s = owing_half (run q0 (kinds_of (repaired f))) (owing_rest s n q0 (m.owes h))
 lost_by {x = x} {y = y} {q0 = q0} {e = e} false h m l n s =
-    ap (λ ks. whole (run q0 ks)) (final_rest y s refl (lost_final x y e l h) n) ∙ m.ends ∙ lost_half x y e l
+    let w : WhereLost x (Some (e, y)) = subst (WhereLost x) l (lost_at x) in
+    let last : is_final y ≡ true = where_one (if owes x then false else true) (ap (λ v. if v then false else true) h) w.1 in
+    ap (λ ks. whole (run q0 ks)) (final_rest y s refl last n) ∙ m.ends ∙ w.0
 
 -- nodes that are not whole, and errors of the end; in a pattern the last name may miss an end that the node around the pattern misses too
 pub record Counts (m n : ℕ) (Loose : Type 0) : Type 0 where

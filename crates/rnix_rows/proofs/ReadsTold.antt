@@ -1,15 +1,14 @@
 -- Leaves have the kinds of tokens, also in a repaired tree; in a row that is read each has the kind of its token, and each name holds that alone.
 use Rattle.rnix_lemmas.proofs.PastRows.{past_ends}
-use Rattle.std.proofs.Common.{◌≡◌, ℕ, true, List, refl, ap, ◌∙◌, [], ◌∷◌, Some, None, sym, subst}
+use Rattle.std.proofs.Common.{◌≡◌, ℕ, true, List, refl, ap, ◌∙◌, [], ◌∷◌, sym, subst}
 use Rattle.rnix_kinds.specs.declared.kinds.SyntaxKind.{SyntaxKind, TheVariants.{TOKEN_CUR_POS, TOKEN_IDENT, TOKEN_OR, NODE_CUR_POS, NODE_IDENT, NODE_ERROR}}
 use Rattle.rnix_kinds.specs.{declared.kinds.SyntaxKind.TheVariants.{NODE_LITERAL, NODE_PAT_ENTRY}, SyntaxKind.is_token}
 use Rattle.rnix_grammar.specs.AnnotatedForest.{Note, Stray, AnnotatedForest, blank, token, branch, fault, tokens_in, leaf_kind_as, HaveLeafKinds, Token, row_of}
 use Rattle.rnix_grammar.specs.{Repaired.{repaired, patch}, Named.{is_spelled, AreSpelled}, Derivation.has_tokens_alone, Fault.Fault}
-use Rattle.rnix_grammar.specs.{Missing.{missing, run_at}, Rows.{RowState, Start, At, first, advance, live, whole, start}, PlaceReads.{Reads, end, leaf}}
+use Rattle.rnix_grammar.specs.{Rows.{RowState, Start, At, first, advance, live, whole, start}, PlaceReads.{Reads, end, leaf}}
 use Rattle.rnix_grammar.specs.{PlaceReads.{missing_part, wrong, second, inner}, Trim.{is_bare, begins_with_node, HasBareName, AreNamesBare}}
-use Rattle.rnix_lemmas.proofs.{EntryNames.both_true, OpeningRows.{spelled_first, spelled_rest, Opening, by_token, by_branch, by_fault, opening, is_place}}
-use Rattle.{rnix_lemmas.proofs.{Basics.true_is_not_false, EveryKind.never, RowKinds.has_row}, rnix_rows.proofs.ReadsRows.{IsAside, a_number, a_run, at_end}}
-use Rattle.rnix_rows.proofs.ReadsRows.{aside, reads_row}
+use Rattle.rnix_lemmas.proofs.{EntryNames.both_true, OpeningRows.{spelled_first, spelled_rest, Opening, by_token, by_branch, by_fault, opening, is_place, number_wrong}}
+use Rattle.{rnix_lemmas.proofs.{Basics.true_is_not_false, EveryKind.never, RowKinds.has_row}, rnix_rows.proofs.ReadsRows.reads_row}
 use Rattle.rnix_grammar.specs.declared.place.Place.TheVariants as places
 
 -- a token's leaf has the kind of a token
@@ -68,15 +67,12 @@ name_bare (leaf {f = f} {k = k} {t = t} h _ _ _ g l c _ s) w e =
     let from : advance (Start NODE_IDENT) k ≡ _ = ap (λ x. advance x k) (sym e) ∙ g in
     one_bare k t f (past_ends s (sym from ∙ name_past k (ap live from ∙ l))).row
 name_bare (missing_part u n l _ s z) w e = absurd (true_is_not_false (ap is_place e))
-name_bare {d = d₀} {q = q} (wrong {r = r} {vs = vs} note ts h v _ _ x d _ s z) w e = absurd (by (aside note d₀ q r ts vs x) e)
-  where
-    by : {n : Note} {q r : RowState} {ts : List Token} → IsAside n q r ts → q ≡ Start NODE_IDENT → ⊥
-    by (a_number g l) e = true_is_not_false (sym l ∙ sym (ap live g) ∙ ap (λ x. live (advance x NODE_LITERAL)) e)
-    by (a_run x y until n t f g w) e = true_is_not_false (sym (ap is_place f) ∙ ap is_place e)
-    by (at_end t f) e = true_is_not_false (sym (ap is_place f) ∙ ap is_place e)
+name_bare {d = d₀} {q = q} (wrong {r = r} {vs = vs} note ts h v _ _ x d _ s z) w e =
+    let o = number_wrong note d₀ q r ts vs x (ap is_place e) in
+    absurd (true_is_not_false (sym o.2 ∙ sym (ap live o.1) ∙ ap (λ x. live (advance x NODE_LITERAL)) e))
 name_bare (second v s _ y q r d x z) w e = absurd (true_is_not_false (sym (ap is_place q) ∙ ap is_place e))
 name_bare (inner {k = k} v _ s _ y _ _ _ _ g l d x z) w e =
-    absurd (never (λ j. live (advance (Start NODE_IDENT) j)) has_row refl k (ap (λ x. live (advance x k)) (sym e) ∙ ap live g ∙ l) (reads_row k s refl y.0))
+    absurd (never (λ j. live (advance (Start NODE_IDENT) j)) has_row refl k (ap (λ x. live (advance x k)) (sym e) ∙ ap live g ∙ l) (reads_row k s y.0))
 
 -- an entry of a pattern begins with its name
 entry_opens : {q : RowState} {b f : AnnotatedForest} → Opening NODE_PAT_ENTRY q b f → q ≡ Start NODE_PAT_ENTRY → AreSpelled (tokens_in f) → begins_with_node f ≡ true

@@ -3,12 +3,12 @@ use Rattle.std.proofs.Common.{◌≡◌, ◌↔◌, ℕ, Bool, true, false, List
 use Rattle.rnix_kinds.specs.declared.kinds.SyntaxKind.{SyntaxKind, TheVariants.{NODE_ROOT, NODE_ERROR, NODE_IDENT, NODE_PAT_BIND, NODE_PAT_ENTRY}}
 use Rattle.{rnix_kinds.specs.SyntaxKind.is_trivia, rnix_green.specs.Forest.Forest, rnix_grammar.specs.{Fault.{Fault, named_twice}, AnnotatedForest.Token}}
 use Rattle.rnix_grammar.specs.AnnotatedForest.{AnnotatedForest, blank, token, branch, fault, ◌⊕◌, one_token, one_branch, one_fault, forget, without_trivia}
-use Rattle.rnix_grammar.specs.{AnnotatedForest.{token_if, leaf_kind, HaveLeafKinds, tokens_in, extent_of}, Reports.{report, repeated_if, entry_name}}
+use Rattle.rnix_grammar.specs.{AnnotatedForest.{token_if, leaf_kind, HaveLeafKinds, tokens_in, extent_of}, Reports.{repeated_if, entry_name}}
 use Rattle.rnix_grammar.specs.{Reports.{only_token, is_same_name, has_entry, repeats}, Rows.{whole, is_row}, PlaceReads.ReadsWhole, Named.begins_with_token}
 use Rattle.rnix_grammar.specs.{Repaired.kinds_of, Trim.{AreNodesTrimmed, AreFaultsTrimmed}, Shape.{item_kinds, begins_with_leaf, is_bind_formed}}
 use Rattle.rnix_grammar.specs.Shape.{are_binds_formed, AreRows, IsShaped, leaf_text, text_if, name_in, name_if, with_name, entry_names, AreNew, AreUnrepeated}
 use Rattle.{rnix_grammar.specs.{Shape.{IsUnrepeated, reports_behind, reports_within}, Tables.is_among}, rnix_lemmas.proofs.ImitateLemmas.nowhere}
-use Rattle.rnix_lemmas.proofs.{Basics.{true_is_not_false, none_left, none_right, not_nil}, EntryNames.{bare_name, has_branch, either_assoc, has-⊕, if_not}}
+use Rattle.rnix_lemmas.proofs.{Basics.{true_is_not_false, none_left, none_right}, EntryNames.{bare_name, has_branch, either_assoc, has-⊕, if_not}}
 use Rattle.rnix_lemmas.proofs.{AnnotatedForestLemmas.⊕-blank, LayoutLemmas.without_trivia-⊕, ReportLemmas.{without_trivia_tokens, same_report}}
 use Rattle.rnix_rows.proofs.{WithTriviaEdges.told_alike, ReadsShapes.{bare_bind, bare_binds, AreBareRows, IsBare, whole_rows}}
 
@@ -59,36 +59,23 @@ without_trivia_binds p first (branch k c f) h =
     ap (λ x. x && bare_binds false (without_trivia f)) (without_trivia_bind first k c h.0) ∙ ap (λ x. is_bind_formed first k (forget c) && x) (without_trivia_binds p false f h.1)
 without_trivia_binds p first (fault n c f) h = without_trivia_binds p false f h.1 ∙ sym (error_bind first (forget c) (are_binds_formed false (forget f)))
 
--- the rows of the tree are those without trivia
-rows_if : (x : Bool) (k : SyntaxKind) (t : Token) (f : AnnotatedForest) → AreBareRows (token_if x k t f) → AreBareRows f
-rows_if true k t f h = h
-rows_if false k t f h = h
-
--- and the other way
-rows_of_if : (x : Bool) (k : SyntaxKind) (t : Token) (f : AnnotatedForest) → AreBareRows f → AreBareRows (token_if x k t f)
-rows_of_if true k t f h = h
-rows_of_if false k t f h = h
-
--- with trivia each node has its row
-tree_rows : (p : SyntaxKind) (f : AnnotatedForest) → HaveLeafKinds p f → AreBareRows (without_trivia f) → AreRows (forget f)
-tree_rows p blank h r = tt
-tree_rows p (token k t f) h r = tree_rows p f h.1 (rows_if (is_trivia t.kind) k t (without_trivia f) r)
-tree_rows p (branch k c f) h r =
-    (ap (is_row k) (sym (without_trivia_kinds k c h.0)) ∙ r.0, sym (without_trivia_binds k true c h.0) ∙ r.1, tree_rows k c h.0 r.2, tree_rows p f h.1 r.3)
-tree_rows p (fault n c f) h r = absurd r
-
 -- an error node has no row
 no_error_row : (ks : List SyntaxKind) → is_row NODE_ERROR ks ≡ true → ⊥
 no_error_row [] h = true_is_not_false (sym h)
 no_error_row (k ∷ ks) h = true_is_not_false (sym h ∙ ap whole (nowhere ks))
 
--- without trivia each node has its row
-bare_rows : (p : SyntaxKind) (f : AnnotatedForest) → HaveLeafKinds p f → AreRows (forget f) → AreBareRows (without_trivia f)
-bare_rows p blank h r = tt
-bare_rows p (token k t f) h r = rows_of_if (is_trivia t.kind) k t (without_trivia f) (bare_rows p f h.1 r)
-bare_rows p (branch k c f) h r =
-    (ap (is_row k) (without_trivia_kinds k c h.0) ∙ r.0, without_trivia_binds k true c h.0 ∙ r.1, bare_rows k c h.0 r.2, bare_rows p f h.1 r.3)
-bare_rows p (fault n c f) h r = absurd (no_error_row (item_kinds (forget c)) r.0)
+-- each node has its row with trivia if it has it without
+are_rows : (p : SyntaxKind) (f : AnnotatedForest) → HaveLeafKinds p f → AreBareRows (without_trivia f) ↔ AreRows (forget f)
+are_rows p blank h = (λ r. tt, λ r. tt)
+are_rows p (token k t f) h =
+    elim (is_trivia t.kind) as (λ x. AreBareRows (token_if x k t (without_trivia f)) ↔ AreRows (forget f)) [ true ↦ are_rows p f h.1 | false ↦ are_rows p f h.1 ]
+are_rows p (branch k c f) h =
+    let kinds = ap (is_row k) (without_trivia_kinds k c h.0) in
+    let binds = without_trivia_binds k true c h.0 in
+    let inside = are_rows k c h.0 in
+    let later = are_rows p f h.1 in
+    (λ r. (sym kinds ∙ r.0, sym binds ∙ r.1, inside.0 r.2, later.0 r.3), λ r. (kinds ∙ r.0, binds ∙ r.1, inside.1 r.2, later.1 r.3))
+are_rows p (fault n c f) h = (λ r. absurd r, λ r. absurd (no_error_row (item_kinds (forget c)) r.0))
 
 -- the text of a token, if there is one
 abbrev pub text_in : Option Token → Option (List ℕ)
@@ -159,82 +146,59 @@ abbrev pub IsNew : List (List ℕ) → Option (List ℕ) → Type 0
 IsNew names None = Unit {0}
 IsNew names (Some name) = is_among name names ≡ false
 
--- a new name, and the names behind it
-new_all : (before : List (List ℕ)) (o : Option (List ℕ)) (names : List (List ℕ)) → IsNew before o → AreNew (added before o) names → AreNew before (with_name o names)
-new_all before None names h k = k
-new_all before (Some name) names h k = (h, k)
-
--- and the other way
-new_first : (before : List (List ℕ)) (o : Option (List ℕ)) (names : List (List ℕ)) → AreNew before (with_name o names) → IsNew before o × AreNew (added before o) names
-new_first before None names h = (tt, h)
-new_first before (Some name) names h = (h.0, h.1)
-
--- what is not reported is new
-repeated_new : (names : List (List ℕ)) (b : AnnotatedForest) (o : Option Token) → Lists names b → repeated_if o b ≡ [] → IsNew names (text_in o)
-repeated_new names b None h e = tt
-repeated_new names b (Some t) h e = sym (h t.text) ∙ by_entry (has_entry t.text b) e
-  where
-    by_entry : (x : Bool) → (if x then named_twice (extent_of (t ∷ [])) t.text ∷ [] else []) ≡ [] → x ≡ false
-    by_entry true e = absurd (cc)
-    by_entry false e = refl
+-- the first name and those behind it
+new_all : (before : List (List ℕ)) (o : Option (List ℕ)) (names : List (List ℕ)) → AreNew before (with_name o names) ↔ (IsNew before o × AreNew (added before o) names)
+new_all before None names = (λ h. (tt, h), λ h. h.1)
+new_all before (Some name) names = (λ h. (h.0, h.1), λ h. (h.0, h.1))
 
 -- what is new is not reported
-new_repeated : (names : List (List ℕ)) (b : AnnotatedForest) (o : Option Token) → Lists names b → IsNew names (text_in o) → repeated_if o b ≡ []
-new_repeated names b None h e = refl
-new_repeated names b (Some t) h e = ap (λ x. if x then named_twice (extent_of (t ∷ [])) t.text ∷ [] else []) (h t.text ∙ e)
-
--- where nothing is reported no name is repeated
-pub silent_new : (p : SyntaxKind) (g : AnnotatedForest) (b : AnnotatedForest) (names : List (List ℕ)) → HaveLeafKinds p g → Lists names b → reports_behind b (without_trivia g) ≡ []
-    → AreNew names (entry_names (forget g)) × AreUnrepeated (forget g)
-silent_new p blank b names h l e = (tt, tt)
-silent_new p (token k t f) b names h l e = by_trivia (is_trivia t.kind) e (silent_new p f b names h.1 l) (silent_new p f (b ⊕ one_token k t) names h.1 (lists_token names b k t l))
+new_repeated : (names : List (List ℕ)) (b : AnnotatedForest) (o : Option Token) → Lists names b → (repeated_if o b ≡ []) ↔ IsNew names (text_in o)
+new_repeated names b None h = (λ e. tt, λ e. refl)
+new_repeated names b (Some t) h = subst (λ x. ((if x then named_twice (extent_of (t ∷ [])) t.text ∷ [] else []) ≡ []) ↔ (is_among t.text names ≡ false)) (sym (h t.text)) (by (is_among t.text names))
   where
-    by_trivia : (x : Bool) → reports_behind b (token_if x k t (without_trivia f)) ≡ [] → (reports_behind b (without_trivia f) ≡ [] → AreNew names (entry_names (forget f)) × AreUnrepeated (forget f))
-        → (reports_behind (b ⊕ one_token k t) (without_trivia f) ≡ [] → AreNew names (entry_names (forget f)) × AreUnrepeated (forget f))
-        → AreNew names (entry_names (forget f)) × AreUnrepeated (forget f)
-    by_trivia true e i j = i e
-    by_trivia false e i j = j e
-silent_new p (branch k c f) b names h l e =
-    let below : reports_behind blank (without_trivia c) ≡ [] =
-    none_left (reports_behind blank (without_trivia c)) (repeats k b (without_trivia c) ++ reports_behind (b ⊕ one_branch k (without_trivia c)) (without_trivia f)) e in
-    let rest : repeats k b (without_trivia c) ++ reports_behind (b ⊕ one_branch k (without_trivia c)) (without_trivia f) ≡ [] =
-    none_right (reports_behind blank (without_trivia c)) (repeats k b (without_trivia c) ++ reports_behind (b ⊕ one_branch k (without_trivia c)) (without_trivia f)) e in
-    let here : repeated_if (bare_name k (without_trivia c)) b ≡ [] =
-    sym (repeats_named k b (without_trivia c)) ∙ none_left (repeats k b (without_trivia c)) (reports_behind (b ⊕ one_branch k (without_trivia c)) (without_trivia f)) rest in
-    let inside = silent_new k c blank [] h.0 (λ name. refl) below in
-    let more =
-    silent_new p f (b ⊕ one_branch k (without_trivia c)) (added names (text_in (bare_name k (without_trivia c)))) h.1 (lists_branch names b k (without_trivia c) l)
-    (none_right (repeats k b (without_trivia c)) (reports_behind (b ⊕ one_branch k (without_trivia c)) (without_trivia f)) rest) in
-    let o : text_in (bare_name k (without_trivia c)) ≡ name_if k (forget c) = without_trivia_name k c h.0 in (
-      subst (λ (x : Option (List ℕ)). AreNew names (with_name x (entry_names (forget f)))) o
-          (new_all names (text_in (bare_name k (without_trivia c))) (entry_names (forget f)) (repeated_new names b (bare_name k (without_trivia c)) l here) more.0),
-      (inside.0, inside.1, more.1),
+    by : (x : Bool) → ((if x then named_twice (extent_of (t ∷ [])) t.text ∷ [] else []) ≡ []) ↔ (x ≡ false)
+    by true = (λ e. cc, λ e. cc)
+    by false = (λ e. refl, λ e. refl)
+
+-- two lists are empty together if each is
+none_all : (es fs : List Fault) → (es ++ fs ≡ []) ↔ ((es ≡ []) × (fs ≡ []))
+none_all es fs = (λ h. (none_left es fs h, none_right es fs h), λ h. ap (λ x. x ++ fs) h.0 ∙ h.1)
+
+-- the names of a row's entries are none of those before it, and no name is repeated in it
+abbrev IsNewRow : List (List ℕ) → Forest → Type 0
+IsNewRow names f = AreNew names (entry_names f) × AreUnrepeated f
+
+-- where every node has its row nothing is reported exactly if no name is repeated
+silent : (p : SyntaxKind) (g b : AnnotatedForest) (names : List (List ℕ)) → HaveLeafKinds p g → Lists names b → AreBareRows (without_trivia g)
+    → (reports_behind b (without_trivia g) ≡ []) ↔ IsNewRow names (forget g)
+silent p blank b names h l r = (λ e. (tt, tt), λ w. refl)
+silent p (token k t f) b names h l r =
+    elim (is_trivia t.kind) as
+    (λ x. AreBareRows (token_if x k t (without_trivia f)) → (reports_behind b (token_if x k t (without_trivia f)) ≡ []) ↔ IsNewRow names (forget f))
+    [ true ↦ silent p f b names h.1 l | false ↦ silent p f (b ⊕ one_token k t) names h.1 (lists_token names b k t l) ] r
+silent p (branch k c f) b names h l r =
+    let d : AnnotatedForest = without_trivia c in
+    let o : Option (List ℕ) = text_in (bare_name k d) in
+    let inside : (reports_behind blank d ≡ []) ↔ IsNewRow [] (forget c) = silent k c blank [] h.0 (λ name. refl) r.2 in
+    let later : (reports_behind (b ⊕ one_branch k d) (without_trivia f) ≡ []) ↔ IsNewRow (added names o) (forget f) =
+    silent p f (b ⊕ one_branch k d) (added names o) h.1 (lists_branch names b k d l) r.3 in
+    let here : (repeated_if (bare_name k d) b ≡ []) ↔ IsNew names o = new_repeated names b (bare_name k d) l in
+    let all : AreNew names (with_name (name_if k (forget c)) (entry_names (forget f))) ↔ (IsNew names o × AreNew (added names o) (entry_names (forget f))) =
+    subst (λ (x : Option (List ℕ)). AreNew names (with_name x (entry_names (forget f))) ↔ (IsNew names o × AreNew (added names o) (entry_names (forget f)))) (without_trivia_name k c h.0)
+    (new_all names o (entry_names (forget f))) in
+    let first = none_all (reports_behind blank d) (repeats k b d ++ reports_behind (b ⊕ one_branch k d) (without_trivia f)) in
+    let second = none_all (repeats k b d) (reports_behind (b ⊕ one_branch k d) (without_trivia f)) in (
+      λ e.
+          (let more = second.0 (first.0 e).1 in
+          let below : IsNewRow [] (forget c) = inside.0 (first.0 e).0 in
+          let rest : IsNewRow (added names o) (forget f) = later.0 more.1 in
+          (all.1 (here.0 (sym (repeats_named k b d) ∙ more.0), rest.0), (below.0, below.1, rest.1))),
+      λ w.
+          (let news = all.0 w.0 in
+          let parts : AreUnrepeated (forget (branch k c f)) = w.1 in
+          first.1 (inside.1 (parts.0, parts.1), second.1 (repeats_named k b d ∙ here.1 news.0, later.1 (news.1, parts.2)))),
     )
-silent_new p (fault n c f) b names h l e =
-    absurd (not_nil (none_right (reports_behind blank (without_trivia c)) (report n (tokens_in (without_trivia c)) ∷ reports_behind (b ⊕ one_fault n (without_trivia c)) (without_trivia f)) e))
-
--- two empty lists
-both_none : {es fs : List Fault} → es ≡ [] → fs ≡ [] → es ++ fs ≡ []
-both_none {fs = fs} e h = ap (λ x. x ++ fs) e ∙ h
-
--- where every node has its row and no name is repeated nothing is reported
-pub new_silent : (p : SyntaxKind) (g : AnnotatedForest) (b : AnnotatedForest) (names : List (List ℕ)) → HaveLeafKinds p g → Lists names b → AreRows (forget g)
-    → AreNew names (entry_names (forget g)) → AreUnrepeated (forget g) → reports_behind b (without_trivia g) ≡ []
-new_silent p blank b names h l r n m = refl
-new_silent p (token k t f) b names h l r n m =
-    by_trivia (is_trivia t.kind) (new_silent p f b names h.1 l r n m) (new_silent p f (b ⊕ one_token k t) names h.1 (lists_token names b k t l) r n m)
-  where
-    by_trivia : (x : Bool) → reports_behind b (without_trivia f) ≡ [] → reports_behind (b ⊕ one_token k t) (without_trivia f) ≡ [] → reports_behind b (token_if x k t (without_trivia f)) ≡ []
-    by_trivia true i j = i
-    by_trivia false i j = j
-new_silent p (branch k c f) b names h l r n m =
-    let o : text_in (bare_name k (without_trivia c)) ≡ name_if k (forget c) = without_trivia_name k c h.0 in
-    let w =
-    new_first names (text_in (bare_name k (without_trivia c))) (entry_names (forget f)) (subst (λ (x : Option (List ℕ)). AreNew names (with_name x (entry_names (forget f)))) (sym o) n) in
-    both_none (new_silent k c blank [] h.0 (λ name. refl) r.2 m.0 m.1)
-    (both_none (repeats_named k b (without_trivia c) ∙ new_repeated names b (bare_name k (without_trivia c)) l w.0)
-    (new_silent p f (b ⊕ one_branch k (without_trivia c)) (added names (text_in (bare_name k (without_trivia c)))) h.1 (lists_branch names b k (without_trivia c) l) r.3 w.1 m.2))
-new_silent p (fault n c f) b names h l r i m = absurd (no_error_row (item_kinds (forget c)) r.0)
+silent p (fault n c f) b names h l r = absurd r
 
 -- a text has no error exactly if its tree has its shape and no name of a pattern is repeated
 pub whole_shaped : (f g : AnnotatedForest) (es : List Fault) → ReadsWhole f es → without_trivia g ≡ f → HaveLeafKinds NODE_ROOT g
@@ -245,17 +209,18 @@ whole_shaped f g es s e h t = (there, back)
     there : es ≡ [] → IsShaped (record { kind = NODE_ROOT; children = forget g }) × IsUnrepeated (record { kind = NODE_ROOT; children = forget g })
     there n =
         let w : IsBare (without_trivia g) = subst IsBare (sym e) ((whole_rows s).0 n) in
-        let new = silent_new NODE_ROOT g blank [] h (λ name. refl) w.silent in
-        (((ap (is_row NODE_ROOT) (sym (without_trivia_kinds NODE_ROOT g h)) ∙ w.root, tree_rows NODE_ROOT g h w.nodes, t n)), (new.0, new.1, tt))
+        let new = (silent NODE_ROOT g blank [] h (λ name. refl) w.nodes).0 w.silent in
+        (((ap (is_row NODE_ROOT) (sym (without_trivia_kinds NODE_ROOT g h)) ∙ w.root, (are_rows NODE_ROOT g h).0 w.nodes, t n)), (new.0, new.1, tt))
 
     back : IsShaped (record { kind = NODE_ROOT; children = forget g }) × IsUnrepeated (record { kind = NODE_ROOT; children = forget g }) → es ≡ []
     back w =
         let shape : IsShaped (record { kind = NODE_ROOT; children = forget g }) = w.0 in
         let new : IsUnrepeated (record { kind = NODE_ROOT; children = forget g }) = w.1 in
+        let rows : AreBareRows (without_trivia g) = (are_rows NODE_ROOT g h).1 shape.1 in
         let bare : IsBare (without_trivia g) = record {
           root = ap (is_row NODE_ROOT) (without_trivia_kinds NODE_ROOT g h) ∙ shape.0;
-          nodes = bare_rows NODE_ROOT g h shape.1;
-          silent = new_silent NODE_ROOT g blank [] h (λ name. refl) shape.1 new.0 new.1;
+          nodes = rows;
+          silent = (silent NODE_ROOT g blank [] h (λ name. refl) rows).1 (new.0, new.1);
         } in
         (whole_rows s).1 (subst IsBare e bare)
 
