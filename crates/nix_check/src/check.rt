@@ -1,43 +1,109 @@
 //! The errors of a text, as people read them.
 
 use crate::excerpt::write_excerpt;
-use nix_diagnostics::{Diagnostic, diagnostics};
-use rnix::Root;
+use crate::json::write_json;
+use nix_diagnostics::{Diagnostic, Note, diagnostics};
+use rnix::{Root, TextRange};
 use rnix_text::{ColumnUnit, LineIndex, Position};
 use std::alloc::Global;
 use std::io;
 use std::io::Write;
 
-// The message with its place, the line and the carets.
-fn write_diagnostic<W: Write>(
-    name: &str,
-    text: &str,
-    index: &LineIndex<'_>,
-    diagnostic: &Diagnostic,
-    out: &mut W,
-) -> io::Result<()> {
-    let (range, message) = (diagnostic.range, &diagnostic.message);
-    let Position { line, column } = index.position(range.start()).unwrap_or_default();
-    let (line, column) = (line.saturating_add(1), column.saturating_add(1));
-    writeln!(out, "{name}:{line}:{column}: error: {message}")?;
-    write_excerpt(text, range, out)
+/// How errors are printed.
+#[derive(Clone, Copy)]
+pub struct Style {
+    /// The most diagnostics of a file that are printed.
+    pub limit: usize,
+    /// As JSON, a line for each diagnostic.
+    pub is_json: bool,
+    /// With colors.
+    pub is_colored: bool,
 }
 
-/// Writes the errors of a text, at most `limit` of them, each with its place and its line, and returns how many there are. Columns count
-/// characters, from 1.
+// A text with its name and lines.
+#[derive(Clone, Copy)]
+struct Source<'a> {
+    name: &'a str,
+    text: &'a str,
+    index: &'a LineIndex<'a>,
+}
+
+// Prints a word in bold letters of a color.
+fn write_word<W: Write>(word: &str, color: &str, style: Style, out: &mut W) -> io::Result<()> {
+    if style.is_colored {
+        write!(out, "\x1b[1;{color}m{word}\x1b[0m")
+    } else {
+        out.write_all(word.as_bytes())
+    }
+}
+
+// The name of the text and a place in it, both numbers from 1.
+fn write_place<W: Write>(source: Source<'_>, range: TextRange, out: &mut W) -> io::Result<()> {
+    let Position { line, column } = source.index.position(range.start()).unwrap_or_default();
+    let (line, column) = (line.saturating_add(1), column.saturating_add(1));
+    write!(out, "{}:{line}:{column}: ", source.name)
+}
+
+// A note with its place, the line and the carets, or help without a place.
+fn write_note<W: Write>(
+    source: Source<'_>,
+    note: Note,
+    style: Style,
+    out: &mut W,
+) -> io::Result<()> {
+    let Some(range) = note.range else {
+        out.write_all(b"  ")?;
+        write_word("help:", "36", style, out)?;
+        return writeln!(out, " {}", note.message);
+    };
+    write_place(source, range, out)?;
+    write_word("note:", "36", style, out)?;
+    writeln!(out, " {}", note.message)?;
+    write_excerpt(source.text, range, out)
+}
+
+// The message with its place, the line and the carets, and the notes.
+fn write_diagnostic<W: Write>(
+    source: Source<'_>,
+    diagnostic: &Diagnostic,
+    style: Style,
+    out: &mut W,
+) -> io::Result<()> {
+    if style.is_json {
+        return write_json(source.name, source.index, diagnostic, out);
+    }
+    write_place(source, diagnostic.range, out)?;
+    write_word("error:", "31", style, out)?;
+    writeln!(out, " {}", diagnostic.message)?;
+    write_excerpt(source.text, diagnostic.range, out)?;
+    for note in &diagnostic.notes {
+        write_note(source, *note, style, out)?;
+    }
+    Ok(())
+}
+
+/// Writes the errors of a text, each with its place and its line, and returns how many there are. Columns count characters, from 1.
 pub fn check_text<W: Write>(
     alloc: Global,
     name: &str,
     text: &str,
-    limit: usize,
+    style: Style,
     out: &mut W,
 ) -> io::Result<usize> {
     let found = diagnostics(alloc, &Root::parse(alloc, text)?)?;
-    let index = LineIndex::new(alloc, text, ColumnUnit::Chars)?;
-    for diagnostic in found.iter().take(limit) {
-        write_diagnostic(name, text, &index, diagnostic, out)?;
+    if found.is_empty() {
+        return Ok(0);
     }
-    match found.len().saturating_sub(limit) {
+    let index = LineIndex::new(alloc, text, ColumnUnit::Chars)?;
+    let source = Source {
+        name,
+        text,
+        index: &index,
+    };
+    for diagnostic in found.iter().take(style.limit) {
+        write_diagnostic(source, diagnostic, style, out)?;
+    }
+    match found.len().saturating_sub(style.limit) {
         0 => {}
         1 => writeln!(out, "{name}: 1 more error (shown with --all)")?,
         more => writeln!(out, "{name}: {more} more errors (shown with --all)")?,

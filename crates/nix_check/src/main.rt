@@ -1,35 +1,45 @@
-//! Says where files have errors by rnix's grammar: `nix_check [--all] FILE..`, or with no file the text on standard input.
+//! Says where files have errors by rnix's grammar: `nix-check [OPTION..] [FILE..]`, or with no file the text on standard input.
 #![tactic(auto)]
 
 mod check;
 mod excerpt;
-mod options;
+mod json;
 mod progress;
 
-use check::check_text;
-use options::{Options, Task};
+use check::{Style, check_text};
+use nix_cli::{
+    Arguments, FAILED, FOUND, Program, Start, end, find_files, is_colored, read_arguments,
+    read_text, shown_name,
+};
 use progress::Progress;
+use std::io;
 use std::io::{BufWriter, Write};
 use std::process::ExitCode;
-use std::{env, fs, io};
 
-// The statuses where some text has an error, and where something could not be done.
-const ERRORS: u8 = 1;
+// Errors of a file that are printed, unless all are asked for.
+const LIMIT: usize = 20;
 
-const FAILED: u8 = 2;
+const PROGRAM: Program = Program {
+    name: "nix-check",
+    help: "\
+nix-check [OPTION..] [FILE..]
 
-const HELP: &str = "\
-nix-check [--all] [FILE..]
-
-Prints the errors of Nix files, or of standard input: the place, the line, and what was expected there.
+Prints the errors of Nix files: the place, the line, what was expected there, and what may help. A mistake that leads to several errors is
+printed once. A folder stands for all files in it and below that end with .nix; - and no FILE stand for standard input.
 Files are judged by the grammar of rnix 0.14, which is not quite that of Nix: docs/nix.md says where they differ.
 
-    --all     print all errors of a file, not only the first 20
-    --help    print this
-    --        what follows are names of files
-
-Ends with 0 if there are no errors, 1 if there are some, 2 if a file could not be read.
-";
+    --all      print all errors of a file, not only the first 20
+    --json     print each error as a line of JSON
+    --color WHEN    use colors: auto (at a terminal, unless NO_COLOR is set), always or never
+",
+    statuses: "
+Ends with 0 if there are no errors, 1 if there are some, 2 if something could not be read or written.
+",
+    flags: &["--all", "--json"],
+    has_colors: true,
+    least: 0,
+    most: usize::MAX,
+};
 
 // What was found in all files.
 #[derive(Clone, Copy, Default)]
@@ -38,35 +48,41 @@ struct Tally {
     unread: usize,
 }
 
-// Checks one more file. A file that cannot be read is reported and counted.
+// Checks one more file. A file that cannot be read is counted.
 fn check_file<W: Write>(
     rt: &HostRuntime,
     name: &str,
-    limit: usize,
+    style: Style,
     tally: &mut Tally,
     out: &mut W,
 ) -> io::Result<()> {
-    match fs::read_to_string(rt, name) {
-        Ok(text) => {
-            let found = check_text(rt.alloc(), name, text.as_str(), limit, out)?;
+    match read_text(rt, &PROGRAM, name)? {
+        Some(text) => {
+            let found = check_text(rt.alloc(), shown_name(name), text.as_str(), style, out)?;
             tally.errors = tally.errors.saturating_add(found);
-            Ok(())
         }
-        Err(error) => {
-            tally.unread = tally.unread.saturating_add(1);
-            eprintln!(rt; "nix-check: {name}: {error}")
-        }
+        None => tally.unread = tally.unread.saturating_add(1),
     }
+    Ok(())
 }
 
 // Checks the files in order.
-fn check_files<W: Write>(rt: &HostRuntime, options: &Options, out: &mut W) -> io::Result<Tally> {
-    let progress = Progress::of(rt, options.names.len());
-    let mut tally = Tally::default();
-    for (number, name) in options.names.iter().enumerate() {
+fn check_files<W: Write>(
+    rt: &HostRuntime,
+    names: &[String],
+    style: Style,
+    out: &mut W,
+) -> io::Result<Tally> {
+    let files = find_files(rt, &PROGRAM, names)?;
+    let progress = Progress::of(rt, files.names.len());
+    let mut tally = Tally {
+        errors: 0,
+        unread: files.failed,
+    };
+    for (number, name) in files.names.iter().enumerate() {
         progress.show(rt, number)?;
         let before = tally.errors;
-        check_file(rt, name.as_str(), options.limit, &mut tally, out)?;
+        check_file(rt, name.as_str(), style, &mut tally, out)?;
         if tally.errors != before {
             progress.clear(rt)?;
             out.flush()?;
@@ -76,54 +92,50 @@ fn check_files<W: Write>(rt: &HostRuntime, options: &Options, out: &mut W) -> io
     Ok(tally)
 }
 
-// The last line of the output.
+// The last line of the output. That there are no errors is said only of files that were all read.
 fn write_count<W: Write>(tally: Tally, out: &mut W) -> io::Result<()> {
-    match tally.errors {
-        0 => writeln!(out, "no errors"),
-        1 => writeln!(out, "1 error"),
-        count => writeln!(out, "{count} errors"),
+    match (tally.errors, tally.unread) {
+        (0, 0) => writeln!(out, "no errors"),
+        (0, _) => Ok(()),
+        (1, _) => writeln!(out, "1 error"),
+        (count, _) => writeln!(out, "{count} errors"),
     }
 }
 
-// Checks what the options name, and returns the status of the program.
-fn run<W: Write>(rt: &HostRuntime, options: &Options, out: &mut W) -> io::Result<u8> {
-    let mut tally = Tally::default();
-    if options.names.is_empty() {
-        let text = io::read_to_string(rt.alloc(), rt.stdin())?;
-        tally.errors = check_text(rt.alloc(), "<stdin>", text.as_str(), options.limit, out)?;
-    } else {
-        tally = check_files(rt, options, out)?;
+// Checks what the command line names, and returns the status of the program.
+fn check_all(rt: &HostRuntime, arguments: &Arguments) -> io::Result<u8> {
+    let is_json = arguments.has("--json");
+    let style = Style {
+        limit: if is_json || arguments.has("--all") {
+            usize::MAX
+        } else {
+            LIMIT
+        },
+        is_json,
+        is_colored: is_colored(rt, arguments),
+    };
+    let mut out = BufWriter::new(rt.alloc(), rt.stdout())?;
+    let tally = check_files(rt, &arguments.words, style, &mut out)?;
+    if !is_json {
+        write_count(tally, &mut out)?;
     }
-    write_count(tally, out)?;
+    out.flush()?;
     Ok(match (tally.errors, tally.unread) {
         (0, 0) => 0,
-        (_, 0) => ERRORS,
+        (_, 0) => FOUND,
         _ => FAILED,
     })
 }
 
-// Refuses an option that does not exist.
-fn refuse(rt: &HostRuntime, options: &Options) -> io::Result<u8> {
-    for option in &options.names {
-        eprintln!(rt; "nix-check: there is no option {option}; nix-check --help lists them")?;
+// Does what the command line asks for.
+fn run(rt: &HostRuntime) -> io::Result<u8> {
+    match read_arguments(rt, &PROGRAM)? {
+        Start::Run(arguments) => check_all(rt, &arguments),
+        Start::End(status) => Ok(status),
     }
-    Ok(FAILED)
 }
 
-fn main(rt: HostRuntime) -> io::Result<ExitCode> {
-    let mut options = Options::new(Vec::new(rt.alloc()));
-    for argument in env::args(&rt)?.skip(1) {
-        options.add(argument)?;
-    }
-    let mut out = BufWriter::new(rt.alloc(), rt.stdout())?;
-    let status = match options.task {
-        Task::Check => run(&rt, &options, &mut out)?,
-        Task::Help => {
-            out.write_all(HELP.as_bytes())?;
-            0
-        }
-        Task::Refuse => refuse(&rt, &options)?,
-    };
-    out.flush()?;
-    Ok(ExitCode::from(status))
+fn main(rt: HostRuntime) -> ExitCode {
+    let outcome = run(&rt);
+    end(&rt, &PROGRAM, outcome)
 }

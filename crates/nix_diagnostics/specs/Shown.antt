@@ -1,5 +1,5 @@
 -- Where the errors of a text have to be shown, and how a list of diagnostics shows them.
-use Rattle.std.specs.Prelude.{◌≡◌, ℕ, ◌-◌, ◌<◌, ◌==◌, ◌&&◌, Bool, List, [], ◌∷◌, ◌++◌, length, slice_get, find, Option, Some, None, option_map, string_bytes, if◌then◌else◌}
+use Rattle.std.specs.Prelude.{◌≡◌, ℕ, ◌+◌, ◌<◌, ◌==◌, ◌&&◌, Bool, List, [], ◌∷◌, ◌++◌, length, find, Option, Some, None, option_map, string_bytes, if◌then◌else◌}
 use Rattle.rnix_kinds.specs.SyntaxKind.{is_trivia}
 use Rattle.rnix_green.specs.Range.{Extent, bounds_of}
 use Rattle.rnix_green.specs.Tree.{Located, item_of, extent_of}
@@ -47,16 +47,21 @@ place_of root fault = range_or (end_of_items root) (own_range root fault)
 abbrev pub IsWorded : Diagnostic → Type 0
 IsWorded d = 0 < length (string_bytes d.message)
 
--- the last of some diagnostics stands at a range
-pub record IsLastAt (range : Extent) (ds : List Diagnostic) : Type 0 where
-  pub d : Diagnostic
-  pub is_last : slice_get ds (length ds - 1) ≡ Some d
-  pub is_at : bounds_of d.range ≡ range
-
--- diagnostics show errors, in their order: each error has a diagnostic of its own, or shares the last one, which stands at its place
+-- diagnostics show errors: in order, each error belongs to one diagnostic, which stands for an unbroken run of them, at the place of the first
 pub data AreShown (root : Located) : List Fault → List Diagnostic → Type 0 where
   none : AreShown root [] []
-  shown : (faults : List Fault) (ds : List Diagnostic) (fault : Fault) (d : Diagnostic) →
-      AreShown root faults ds → bounds_of d.range ≡ place_of root fault → IsWorded d → AreShown root (faults ++ fault ∷ []) (ds ++ d ∷ [])
-  shared : (faults : List Fault) (ds : List Diagnostic) (fault : Fault) →
-      AreShown root faults ds → IsLastAt (place_of root fault) ds → AreShown root (faults ++ fault ∷ []) ds
+  shown : (faults more : List Fault) (ds : List Diagnostic) (fault : Fault) (d : Diagnostic) → AreShown root faults ds →
+      bounds_of d.range ≡ place_of root fault → IsWorded d → d.first_error ≡ length faults → d.end_error ≡ length (faults ++ fault ∷ more) →
+      AreShown root (faults ++ fault ∷ more) (ds ++ d ∷ [])
+
+-- the last of some diagnostics stands for one error more, up to a number
+pub record IsFolded (number : ℕ) (old new : List Diagnostic) : Type 0 where
+  pub before : List Diagnostic
+  pub d : Diagnostic
+  pub next : Diagnostic
+  pub was : old ≡ before ++ d ∷ []
+  pub is : new ≡ before ++ next ∷ []
+  pub range : next.range ≡ d.range
+  pub message : next.message ≡ d.message
+  pub first : next.first_error ≡ d.first_error
+  pub end : next.end_error ≡ number + 1

@@ -1,21 +1,35 @@
 //! Where errors are shown, and what is said of them.
 
-ghost use Rattle.std.specs.Prelude.{◌≡◌, ◌<◌, length, option_map, IfOk, OnOk, IsTrue, string_bytes};
+ghost use Rattle.std.specs.Prelude.{◌≡◌, ◌+◌, ◌^◌, ◌<◌, length, option_map, IfOk, OnOk, string_bytes};
 ghost use Rattle.rnix_green.specs.Range.{bounds_of};
 ghost use Rattle.rnix_grammar.specs.Fault.{fault_of};
 ghost use Rattle.rnix.specs.Reading.{root_of};
-ghost use Rattle.nix_diagnostics.specs.Shown.{end_of_items, error_range, own_range, place_of, IsLastAt, AreShown};
+ghost use Rattle.nix_diagnostics.specs.Shown.{end_of_items, error_range, own_range, place_of, IsFolded, AreShown};
 
+use crate::brackets::mismatch_in;
+use crate::folding::Folding;
 use crate::message::message;
+use crate::notes::{Note, notes};
 use rnix::{NodeOrToken, Parse, ParseError, SyntaxKind, SyntaxNode, TextRange};
 use std::alloc::{AllocError, Global};
 
-/// An error of a text: the bytes to underline, none where something is missing at the end, and a message such as
+/// What is wrong at a place of a text: the bytes to underline, none where something is missing at the end, and a message such as
 /// `expected ";" after the value of "a", found the name "b"`.
+///
+/// It stands for some of the text's errors, which follow one another in `Parse::errors`: the first of them stands at its place, and the
+/// others follow from it.
 #[derive(Drop)]
 pub struct Diagnostic {
+    /// The bytes to underline.
     pub range: TextRange,
+    /// What is wrong there, in one line.
     pub message: String,
+    /// The number of the first error that it stands for.
+    pub first_error: usize,
+    /// The number behind that of the last error that it stands for.
+    pub end_error: usize,
+    /// What may help: what is not closed, where something is missing, what was meant.
+    pub notes: Vec<Note>,
 }
 
 // The end of the last token that is neither white space nor a comment.
@@ -64,17 +78,22 @@ fn place_of(error: &ParseError, root: &SyntaxNode<'_>, end: usize) -> TextRange
     own_range(error, root, end).unwrap_or(TextRange::empty(end))
 }
 
-// Whether the last diagnostic says the same of the same place.
-fn is_said(found: &[Diagnostic], range: TextRange, message: &str) -> bool
-    ensures { IsTrue result → IsLastAt (bounds_of range) found.now }
+// The last diagnostic stands for one more error.
+fn fold(found: &mut Vec<Diagnostic>, number: usize) -> Result<(), AllocError>
+    requires some { 0 < length found.old.items }
+    requires room { number + 1 < 2 ^ 64 }
+    ensures { OnOk result (IsFolded number found.old.items found.new.items) }
 {
-    match found.last() {
-        Some(last) => last.range == range && last.message.as_str() == message,
-        None => false,
+    if let Some(last) = found.pop() {
+        found.push(Diagnostic {
+            end_error: number + 1,
+            ..last
+        })?;
     }
+    Ok(())
 }
 
-/// The errors of a text, in the order in which they were found. What is said twice in a row of one place stands once.
+/// What is wrong in a text, in the order in which its errors were found. What merely follows from an error stands in its diagnostic.
 pub fn diagnostics(alloc: Global, read: &Parse) -> Result<Vec<Diagnostic>, AllocError>
     ensures { IfOk result (λ found. AreShown (root_of read.now) read.now.faults found.items) }
 {
@@ -85,11 +104,24 @@ pub fn diagnostics(alloc: Global, read: &Parse) -> Result<Vec<Diagnostic>, Alloc
     }
     let root = read.syntax();
     let end = end_of_items(&root);
-    for error in errors {
-        let message = message(alloc, error, &root)?;
+    let mismatch = mismatch_in(alloc, &root)?;
+    let mut folding = Folding::new(mismatch, end);
+    for number in 0..errors.len() {
+        let error = &errors[number];
         let range = place_of(error, &root, end);
-        if !is_said(&found, range, message.as_str()) {
-            found.push(Diagnostic { range, message })?;
+        let folds = folding.folds(alloc, &root, error, range)?;
+        if folds && !found.is_empty() {
+            fold(&mut found, number)?;
+        } else {
+            let message = message(alloc, error, &root)?;
+            let notes = notes(alloc, error, &root, range, mismatch)?;
+            found.push(Diagnostic {
+                range,
+                message,
+                first_error: number,
+                end_error: number + 1,
+                notes,
+            })?;
         }
     }
     Ok(found)

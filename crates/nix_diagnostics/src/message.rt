@@ -2,25 +2,12 @@
 
 ghost use Rattle.std.specs.Prelude.{◌<◌, length, IfOk, string_bytes};
 
-use crate::words::{LONGEST, add_found, add_wanted};
+use crate::place::error_node;
+use crate::words::{LONGEST, add_found, add_shown, add_wanted};
 use rnix::ast::{AstNode, Attrpath, AttrpathValue};
-use rnix::{ParseError, SyntaxKind, SyntaxNode, TextRange};
+use rnix::{ParseError, SyntaxKind, SyntaxNode};
 use std::alloc::{AllocError, Global};
 use std::fmt::Write;
-
-// The error node of a range.
-fn error_node<'t>(root: &SyntaxNode<'t>, range: TextRange) -> Option<SyntaxNode<'t>> {
-    if !root.text_range().contains_range(range) {
-        return None;
-    }
-    let token = root.token_at_offset(range.start()).right_biased()?;
-    for node in token.parent()?.ancestors() {
-        if node.kind() == SyntaxKind::NODE_ERROR && node.text_range() == range {
-            return Some(node);
-        }
-    }
-    None
-}
 
 // Behind what in its node a token is missing.
 fn behind(wanted: SyntaxKind, parent: SyntaxKind) -> &'static str {
@@ -37,16 +24,19 @@ fn behind(wanted: SyntaxKind, parent: SyntaxKind) -> &'static str {
     }
 }
 
-// Adds behind what of its entry a token is missing. A long name is not quoted.
+// Adds behind what of its entry a token is missing. A name that is long or of several lines is not quoted.
 fn add_entry(wanted: SyntaxKind, path: &Attrpath<'_>, text: &mut String) -> Result<(), AllocError> {
     let name = path.syntax().text();
+    let is_long = name.len() > LONGEST || name.contains('\n');
     match wanted {
-        SyntaxKind::TOKEN_SEMICOLON if name.len() > LONGEST => text.push_str(" after the value"),
-        SyntaxKind::TOKEN_SEMICOLON => write!(text, " after the value of \"{name}\""),
-        SyntaxKind::TOKEN_ASSIGN if name.len() > LONGEST => text.push_str(" after the name"),
-        SyntaxKind::TOKEN_ASSIGN => write!(text, " after \"{name}\""),
-        _ => Ok(()),
+        SyntaxKind::TOKEN_SEMICOLON if is_long => return text.push_str(" after the value"),
+        SyntaxKind::TOKEN_ASSIGN if is_long => return text.push_str(" after the name"),
+        SyntaxKind::TOKEN_SEMICOLON => text.push_str(" after the value of \"")?,
+        SyntaxKind::TOKEN_ASSIGN => text.push_str(" after \"")?,
+        _ => return Ok(()),
     }
+    add_shown(name, text)?;
+    text.push('"')
 }
 
 // Adds behind what the missing token should stand; of an entry, its name is told.
@@ -72,6 +62,12 @@ fn add_unwanted(
         add_behind(*kind, parent, text)?;
     }
     if let Some(token) = node.first_token() {
+        let is_string = node
+            .parent()
+            .is_some_and(|parent| parent.kind() == SyntaxKind::NODE_STRING);
+        if is_string && token.kind() == SyntaxKind::TOKEN_ERROR {
+            return text.push_str(", found the end of the file");
+        }
         text.push_str(", found ")?;
         add_found(&token, text)?;
     }

@@ -2,10 +2,11 @@
 
 use rnix::{SyntaxKind, SyntaxToken};
 use std::alloc::AllocError;
-use std::fmt::Write;
 
 /// Longer texts are not quoted in a message.
 pub const LONGEST: usize = 40;
+// Shown for characters that a terminal would act on.
+const REPLACEMENT: char = '\u{fffd}';
 
 // What a message calls a token that is missing.
 fn word(kind: SyntaxKind) -> &'static str {
@@ -60,13 +61,39 @@ fn sort(kind: SyntaxKind) -> Option<&'static str> {
     }
 }
 
+// What is shown of a character: a picture for a control character, a replacement for one that changes the direction of the text.
+fn shown(letter: char) -> char {
+    match letter {
+        '\0'..='\u{1f}' => char::from_u32(0x2400 | u32::from(letter)).unwrap_or(REPLACEMENT),
+        '\u{7f}'..='\u{9f}' | '\u{200b}'..='\u{200f}' | '\u{202a}'..='\u{202e}' => REPLACEMENT,
+        '\u{2060}'..='\u{2069}' | '\u{feff}' => REPLACEMENT,
+        _ => letter,
+    }
+}
+
+/// Adds a text, so that each of its characters is seen and none ends the line.
+pub fn add_shown(own: &str, text: &mut String) -> Result<(), AllocError> {
+    for letter in own.chars() {
+        text.push(shown(letter))?;
+    }
+    Ok(())
+}
+
 /// Adds what a token is that stands there.
 pub fn add_found(token: &SyntaxToken<'_>, text: &mut String) -> Result<(), AllocError> {
     let (sort, own) = (sort(token.kind()), token.text());
+    let is_long = own.len() > LONGEST || own.contains('\n');
     match sort {
-        _ if token.kind() == SyntaxKind::TOKEN_STRING_START => text.push_str("a string"),
-        Some(sort) if own.len() > LONGEST || own.contains('\n') => text.push_str(sort),
-        Some(sort) => write!(text, "{sort} \"{own}\""),
-        None => write!(text, "\"{own}\""),
+        _ if token.kind() == SyntaxKind::TOKEN_STRING_START => return text.push_str("a string"),
+        Some(sort) if is_long => return text.push_str(sort),
+        None if is_long => return text.push_str(token.kind().name()),
+        Some(sort) => {
+            text.push_str(sort)?;
+            text.push(' ')?;
+        }
+        None => {}
     }
+    text.push('"')?;
+    add_shown(own, text)?;
+    text.push('"')
 }

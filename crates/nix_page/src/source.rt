@@ -92,7 +92,7 @@ pub fn write_source<W: Write>(alloc: Global, read: &Parse, out: &mut W) -> io::R
     };
     write_tokens(read, &mut errors, out)?;
     out.write_all(b"</pre>\n<ul id=\"errors\">\n")?;
-    for Diagnostic { range, message } in &found {
+    for Diagnostic { range, message, .. } in &found {
         out.write_all(b"<li")?;
         write_range(*range, out)?;
         write_text(message.as_str(), out)?;

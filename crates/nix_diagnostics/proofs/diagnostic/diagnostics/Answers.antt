@@ -1,28 +1,28 @@
-use Rattle.std.proofs.Common.{rules, arith, ap, subst, map, [], ◌∷◌, ◌++◌, ◌≡◌, take, ◌+◌, refl}
-use Rattle.std.proofs.lemmas.List.{map_more}
+use Rattle.std.proofs.Common.{rules, arith, ap, sym, subst, map, [], take, ◌+◌, refl}
 use Rattle.rnix_grammar.specs.Fault.{fault_of}
-use Rattle.nix_diagnostics.specs.Shown.{IsLastAt}
-use Rattle.rnix_green.specs.Range.{bounds_of}
-use Rattle.nix_diagnostics.proofs.ShownLemmas.{nothing_shown, shown_added, shown_again}
-use Rattle.nix_diagnostics.proofs.diagnostic.diagnostics.Goals.{then-not-is_said+in_ok-push, else-not-is_said}
+use Rattle.nix_diagnostics.specs.Shown.{IsFolded}
+use Rattle.nix_diagnostics.proofs.ShownLemmas.{nothing_shown, shown_added, shown_folded, count_before, one_more}
+use Rattle.nix_diagnostics.proofs.diagnostic.diagnostics.Goals.{then-folds+then-not-is_empty+in_ok-fold, else-folds+in_ok-message+in_ok-notes+in_ok-push}
 use Rattle.nix_diagnostics.proofs.diagnostic.diagnostics.Goals as goal
 
 pub returns-then-is_empty : goal.returns-then-is_empty
 returns-then-is_empty c = nothing_shown _ c.errors-errors.result.now _ _ (search rules) c.errors-errors.ensures (search rules)
 
-pub loop-error-init : goal.loop-error-init
-loop-error-init c = nothing_shown _ [] _ _ refl refl (search rules)
+pub loop-number-init : goal.loop-number-init
+loop-number-init c = nothing_shown _ [] _ _ refl refl (search rules)
 
-pub loop-error-preserved : goal.loop-error-preserved
-loop-error-preserved c =
+pub loop-number-preserved : goal.loop-number-preserved
+loop-number-preserved c =
     let errors = c.errors-errors.result.now in
-    let i = c.loop-error.error-index in
-    let e = c.error-item.result in
-    let more : map fault_of (take (i + 1) errors) ≡ map fault_of (take i errors) ++ fault_of e ∷ [] = search (map_more fault_of errors i e, c.error-item.is, rules) in
-    elim c.if-not-is_said.branch [
-      | then-not-is_said+in_ok-push w ↦ shown_added _ _ _ c.loop-error.found.items _ (fault_of e) record { range = c.place_of-range.result; message = c.in_ok-message.message }
-          c.loop-error.invariant c.place_of-range.ensures c.in_ok-message.ensures more (grind (arith, w.found-is, w.in_ok-push.ensures.items))
-      | else-not-is_said w ↦ shown_again _ _ _ c.loop-error.found.items _ (fault_of e) c.loop-error.invariant
-          (subst (λ range. IsLastAt range c.loop-error.found.items) c.place_of-range.ensures
-          (subst (λ ds. IsLastAt (bounds_of c.place_of-range.result) ds) c.deref.ensures.value (c.is_said.ensures (search rules)))) more (ap (λ v. v.items) w.found-is)
+    let i = c.loop-number.number in
+    let e = c.index-errors-number.result in
+    let counts = count_before errors i c.loop-number-test.true in
+    let more = one_more errors i e c.loop-number-test.true c.index-errors-number.is in
+    elim c.if-folds.branch [
+      | then-folds+then-not-is_empty+in_ok-fold w ↦ shown_folded _ (map fault_of (take i errors)) _ i c.loop-number.found.items _ (fault_of e) c.loop-number.invariant
+          (subst (λ xs. IsFolded i c.loop-number.found.items xs) (sym (ap (λ v. v.items) w.found-is)) w.in_ok-fold.ensures) counts more
+      | else-folds+in_ok-message+in_ok-notes+in_ok-push w ↦ shown_added _ (map fault_of (take i errors)) _ c.loop-number.found.items _ (fault_of e)
+          record { range = c.place_of-range.result; message = w.in_ok-message.message; first_error = i; end_error = i + 1; notes = w.in_ok-notes.notes }
+          c.loop-number.invariant c.place_of-range.ensures w.in_ok-message.ensures counts (ap (λ n. n + 1) counts) more
+          (grind (arith, w.found-is, w.in_ok-push.ensures.items))
     ]

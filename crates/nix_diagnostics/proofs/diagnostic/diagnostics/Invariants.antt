@@ -3,5 +3,5 @@ use Rattle.rnix_grammar.specs.Fault.{fault_of}
 use Rattle.nix_diagnostics.specs.Shown.{AreShown}
 use Rattle.nix_diagnostics.proofs.diagnostic.diagnostics.Given as goal
 
-abbrev pub invariant-loop-error : goal.invariant-loop-error
-invariant-loop-error l = AreShown l.root (map fault_of (take l.error-index l.errors)) l.found.items
+abbrev pub invariant-loop-number : goal.invariant-loop-number
+invariant-loop-number l = AreShown l.root (map fault_of (take l.number l.errors)) l.found.items

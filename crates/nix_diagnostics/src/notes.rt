@@ -1,0 +1,128 @@
+//! What is noted at an error: what is opened and not closed, where something is missing, what was meant.
+
+use crate::brackets::{Mismatch, Opening};
+use crate::hints::hint;
+use crate::place::token_before;
+use crate::unwanted::Unwanted;
+use SyntaxKind::*;
+use rnix::ast::{AstNode, Pattern};
+use rnix::{ParseError, SyntaxKind, SyntaxNode, TextRange};
+use std::alloc::{AllocError, Global};
+
+/// What may help with an error.
+#[derive(Clone, Copy)]
+pub struct Note {
+    /// The bytes that the note is about, if they are others than those of the error.
+    pub range: Option<TextRange>,
+    /// What is said of them.
+    pub message: &'static str,
+}
+
+// What is said of a token that opens something.
+fn opened(opening: Opening) -> &'static str {
+    match opening.kind {
+        TOKEN_STRING_START if opening.is_long => {
+            "this string goes on in the next line: is a quote missing?"
+        }
+        TOKEN_STRING_START => "this string is not closed",
+        TOKEN_L_BRACE => "this \"{\" is not closed",
+        TOKEN_L_BRACK => "this \"[\" is not closed",
+        TOKEN_L_PAREN => "this \"(\" is not closed",
+        TOKEN_INTERPOL_START => "this \"${\" is not closed",
+        TOKEN_LET => "this \"let\" has no \"in\"",
+        TOKEN_IF => "this \"if\" has no \"then\"",
+        _ => "this \"then\" has no \"else\"",
+    }
+}
+
+// The first argument of a name, in the pattern in which it stands again at a range.
+fn first_argument(root: &SyntaxNode<'_>, range: TextRange, name: &str) -> Option<Note> {
+    if !root.text_range().contains_inclusive(range.start()) {
+        return None;
+    }
+    let token = root.token_at_offset(range.start()).right_biased()?;
+    for node in token.parent_ancestors() {
+        if let Some(pattern) = Pattern::cast(node) {
+            let first = pattern.pat_entries().find_map(|entry| {
+                entry.ident().filter(|ident| ident.syntax().text() == name)
+            })?;
+            return Some(Note {
+                range: Some(first.syntax().text_range()),
+                message: "it stands here first",
+            });
+        }
+    }
+    None
+}
+
+// Where a ";" is missing before an unwanted token.
+fn missing_semicolon(unwanted: &Unwanted<'_>) -> Option<Note> {
+    let offset = match unwanted.parent.kind() {
+        NODE_INHERIT if unwanted.token.kind() == TOKEN_ASSIGN => {
+            token_before(unwanted.before.as_ref()?)?.text_range().end()
+        }
+        NODE_INHERIT => unwanted.before.as_ref()?.text_range().end(),
+        _ if unwanted.wanted == Some(TOKEN_SEMICOLON) => unwanted.end_of_value()?,
+        _ => return None,
+    };
+    Some(Note {
+        range: Some(TextRange::empty(offset)),
+        message: "\";\" is missing here",
+    })
+}
+
+// The hint or the missing token at an unwanted one. Where something is not closed, that is why a token is unwanted.
+fn remark(unwanted: &Unwanted<'_>, mismatch: &Mismatch) -> Option<Note> {
+    let kind = unwanted.token.kind();
+    let is_explained = mismatch.unclosed.is_some();
+    let is_closing = matches!(kind, TOKEN_R_BRACE | TOKEN_R_BRACK | TOKEN_R_PAREN);
+    if is_closing && !is_explained && mismatch.extra == Some(unwanted.token.text_range()) {
+        return Some(Note {
+            range: None,
+            message: "nothing is open that this closes",
+        });
+    }
+    match hint(unwanted) {
+        Some(_) if is_explained && kind == TOKEN_SEMICOLON && unwanted.wants_expression() => None,
+        Some(message) => Some(Note {
+            range: None,
+            message,
+        }),
+        None if is_explained => None,
+        None => missing_semicolon(unwanted),
+    }
+}
+
+/// What is noted at an error that stands at a place, in a text of which it is known what does not fit together.
+pub fn notes(
+    alloc: Global,
+    error: &ParseError,
+    root: &SyntaxNode<'_>,
+    place: TextRange,
+    mismatch: Mismatch,
+) -> Result<Vec<Note>, AllocError> {
+    let mut notes = Vec::new(alloc);
+    if let ParseError::DuplicatedArgs(range, name) = error {
+        notes.extend(first_argument(root, *range, name.as_str()))?;
+        return Ok(notes);
+    }
+    let unclosed = mismatch
+        .unclosed
+        .filter(|opening| opening.range.start() <= place.start());
+    if let Some(opening) = unclosed {
+        notes.push(Note {
+            range: Some(opening.range),
+            message: opened(opening),
+        })?;
+    }
+    if let Some(unwanted) = Unwanted::of(error, root) {
+        notes.extend(remark(
+            &unwanted,
+            &Mismatch {
+                unclosed,
+                ..mismatch
+            },
+        ))?;
+    }
+    Ok(notes)
+}
