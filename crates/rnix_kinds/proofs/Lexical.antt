@@ -11,3 +11,5 @@ pub mod TokensLemmas
 pub mod WordsLemmas
 pub mod OperatorsLemmas
 pub mod SchemeLemmas
+pub mod LaneLemmas
+pub mod CommentLemmas

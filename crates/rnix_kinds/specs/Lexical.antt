@@ -11,3 +11,4 @@ pub mod Tokens
 pub mod Ahead
 pub mod PathKinds
 pub mod Longest
+pub mod Lanes

@@ -13,6 +13,8 @@ ghost use Rattle.rnix_kinds.specs.declared.kinds.SyntaxKind.{SyntaxKind};
 ghost use Rattle.rnix_kinds.specs.declared.tokenizer.text.Class.TheVariants.{Scheme};
 
 mod ahead;
+mod lanes;
+mod long;
 mod modes;
 mod normal;
 mod number;

@@ -6,7 +6,7 @@ use Rattle.std.proofs.lemmas.{List.Sums.{prefix_len-le-length, prefix_len_passes
 use Rattle.std.proofs.lemmas.Str.{scalars-chars, len_utf8_bounds, IsCharBoundary-past_char, IsCharBoundary-at_seam, IsCharBoundary-start, IsCharBoundary-end}
 use Rattle.std.{proofs.lemmas.Str.{IsCharBoundary-before_ascii, IsCharBoundary-after_ascii}, specs.{List.{prefix_len, take_while}, Char.is_whitespace}}
 use Rattle.std.specs.{Char.len_utf8, Str.{chars, encode_utf8_all, all_scalars, skip_leading_whitespace, trim_start, IsCharBoundary}}
-use Rattle.rnix_kinds.specs.declared.tokenizer.{ahead.Ahead.Ahead, text.Class.{Class, TheVariants.{Digit, Name, Path, Step, Scheme, Angle, Uri, Line, Content}}}
+use Rattle.rnix_kinds.specs.declared.tokenizer.{ahead.Ahead.Ahead, text.Class.{Class, TheVariants.{Digit, Name, Path, Step, Scheme, Angle, Uri, Line, Content, Blank, Comment}}}
 use Rattle.rnix_kinds.specs.Lexical.{Classes.class_test, Ahead.{IsRunEnd, IsAhead}, Texts.{before_pair, is_blank, space_len, char_len}}
 use lib.Utf8.{encode}
 
@@ -115,6 +115,8 @@ IsCharBoundary-run Angle bs utf8 = IsCharBoundary-ascii_run (class_test Angle) b
 IsCharBoundary-run Uri bs utf8 = IsCharBoundary-ascii_run (class_test Uri) bs utf8 (λ c e. grind (arith, nat_tests))
 IsCharBoundary-run Content bs utf8 = IsCharBoundary-wide_run (class_test Content) bs (λ c e. grind (arith, nat_tests))
 IsCharBoundary-run Line bs utf8 = IsCharBoundary-wide_run (class_test Line) bs (λ c e. grind (arith, nat_tests))
+IsCharBoundary-run Comment bs utf8 = IsCharBoundary-wide_run (class_test Comment) bs (λ c e. grind (arith, nat_tests))
+IsCharBoundary-run Blank bs utf8 = IsCharBoundary-ascii_run (class_test Blank) bs utf8 (λ c e. grind (arith, nat_tests))
 
 prefix_len_drop_step : (p : ℕ → Bool) (b : Bool) (n x : ℕ) (xs : List ℕ) → p x ≡ b → suc n < prefix_len p (x ∷ xs) → (n < prefix_len p xs → prefix_len p (drop n xs) ≡ prefix_len p xs - n) → prefix_len p (drop n xs) ≡ prefix_len p (x ∷ xs) - suc n
 prefix_len_drop_step p true n x xs e h more =

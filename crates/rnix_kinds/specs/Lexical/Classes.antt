@@ -1,8 +1,11 @@
 -- The sets of bytes that runs are made of.
 use Rattle.std.specs.Prelude.{ℕ, Bool, not, ◌==◌, ◌&&◌, ◌||◌}
 use Rattle.std.specs.Char.{is_ascii_alphanumeric, is_ascii_digit}
+use Rattle.rnix_kinds.specs.Lexical.Texts.{is_blank}
 use Rattle.rnix_kinds.specs.declared.tokenizer.text.Class.{Class}
-use Rattle.rnix_kinds.specs.declared.tokenizer.text.Class.TheVariants.{Digit, Name, Path, Step, Scheme, Angle, Uri, Line, Content}
+use Rattle.rnix_kinds.specs.declared.tokenizer.text.Class.TheVariants.{Digit, Name, Path, Step, Scheme, Angle, Uri, Line, Content, Blank, Comment}
+use Rattle.rnix_kinds.specs.declared.tokenizer.long.LongClass.{LongClass}
+use Rattle.rnix_kinds.specs.declared.tokenizer.long.LongClass.TheVariants as long
 
 -- a path character: a letter, a digit, `/`, `_`, `.`, `+` or `-`
 abbrev pub is_path : ℕ → Bool
@@ -24,3 +27,12 @@ class_test Angle = λ b. is_path b || b == 60
 class_test Uri = is_uri
 class_test Line = λ b. not (b == 10)
 class_test Content = λ b. not (b == 34) && not (b == 92) && not (b == 36) && not (b == 39)
+class_test Blank = is_blank
+class_test Comment = λ b. not (b == 42)
+
+-- the set of bytes whose runs are often long
+abbrev pub class_of : LongClass → Class
+class_of long.Blank = Blank
+class_of long.Line = Line
+class_of long.Comment = Comment
+class_of long.Content = Content

@@ -7,8 +7,9 @@ ghost use Rattle.rnix_kinds.specs.Lexical.Classes.{class_test};
 ghost use Rattle.rnix_kinds.specs.Lexical.Texts.{before_pair, run_end};
 ghost use Rattle.rnix_kinds.specs.Lexical.Plain.{plain, space, block_comment};
 
+use super::long::{LongClass, long_run_end};
 use super::rule::{Cut, plain};
-use super::text::{Class, before_pair, run_end, space_len};
+use super::text::{byte_of, space_len};
 use crate::kinds::SyntaxKind;
 
 /// White space.
@@ -23,12 +24,33 @@ pub fn space(text: &str) -> Option<Cut>
     }
 }
 
+// Returns how many bytes come before the first line feed; all, if there is none.
+#[inline(never)]
+fn line_len(text: &str) -> usize
+    ensures { result ≡ run_end (class_test Line) 0 text.now }
+{
+    long_run_end(text.as_bytes(), 0, LongClass::Line)
+}
+
 /// A comment up to the end of its line.
 #[inline(always)]
 pub fn line_comment(text: &str) -> Cut
     ensures { result ≡ plain TOKEN_COMMENT (run_end (class_test Line) 0 text.now) }
 {
-    plain(SyntaxKind::TOKEN_COMMENT, run_end(text, 0, Class::Line))
+    plain(SyntaxKind::TOKEN_COMMENT, line_len(text))
+}
+
+// Returns how many bytes come before the first `*/`; all, if there is none.
+#[inline(never)]
+fn comment_len(inside: &[u8]) -> usize
+    ensures value { result ≡ before_pair 42 47 inside.now }
+    ensures within { result ≤ length inside.now }
+{
+    let mut at = long_run_end(inside, 0, LongClass::Comment);
+    while at < inside.len() && byte_of(inside, at + 1) != b'/' {
+        at = long_run_end(inside, at + 1, LongClass::Comment);
+    }
+    at
 }
 
 /// A comment through `*/`. Without a `*/` the rest of the text is an error.
@@ -38,7 +60,7 @@ pub fn block_comment(text: &str) -> Cut
     ensures { result ≡ block_comment (before_pair 42 47 (drop 2 text.now)) text.now }
 {
     let inside = &text.as_bytes()[2..];
-    let len = before_pair(inside, b'*', b'/');
+    let len = comment_len(inside);
     if len == inside.len() {
         plain(SyntaxKind::TOKEN_ERROR, text.len())
     } else {

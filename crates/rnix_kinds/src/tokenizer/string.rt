@@ -3,8 +3,9 @@
 ghost use Rattle.std.specs.Prelude.{◌≡◌, ◌≤◌, length};
 ghost use Rattle.rnix_kinds.specs.Lexical.Strings.{piece_len, content_len, string_cut};
 
+use super::long::{LongClass, long_run_end};
 use super::rule::{Change, Cut, Mode, plain};
-use super::text::{Class, byte_at, byte_of, run_end_of};
+use super::text::{byte_at, byte_of};
 use crate::kinds::SyntaxKind;
 
 /// The length of the first piece; 0 where the closer or `${` stands.
@@ -38,12 +39,12 @@ fn piece_len(rest: &[u8], multiline: bool) -> usize
 }
 
 /// The length of the pieces before the closer or `${`.
-#[inline(always)]
+#[inline(never)]
 fn content_len(bytes: &[u8], multiline: bool) -> usize
     ensures value { result ≡ content_len multiline bytes.now }
     ensures within { result ≤ length bytes.now }
 {
-    let mut at = run_end_of(bytes, 0, Class::Content);
+    let mut at = long_run_end(bytes, 0, LongClass::Content);
     while at < bytes.len() {
         let len = piece_len(&bytes[at..], multiline);
         if len == 0 {
@@ -52,7 +53,7 @@ fn content_len(bytes: &[u8], multiline: bool) -> usize
         if len > bytes.len() - at {
             return bytes.len();
         }
-        at = run_end_of(bytes, at + len, Class::Content);
+        at = long_run_end(bytes, at + len, LongClass::Content);
     }
     at
 }

@@ -2,9 +2,11 @@
 
 ghost use Rattle.std.specs.Prelude.{◌≡◌, ◌<◌, ◌≤◌, length, slice_index};
 ghost use Rattle.std.specs.List.{prefix_len};
-ghost use Rattle.rnix_kinds.specs.Lexical.Texts.{run_end, before_pair, char_len, begins_space, is_blank, space_len};
+ghost use Rattle.rnix_kinds.specs.Lexical.Texts.{run_end, before_pair, char_len, begins_space, space_len};
 ghost use Rattle.rnix_kinds.specs.Lexical.Classes.{class_test};
 ghost use Rattle.rnix_kinds.specs.Lexical.ClassTable.{has_flag};
+
+use super::long::{LongClass, long_run_end};
 
 /// A set of bytes, to find runs of.
 #[derive(Clone, Copy)]
@@ -25,6 +27,10 @@ pub enum Class {
     Line,
     /// Any byte but `"`, `\`, `$` and `'`.
     Content,
+    /// White space of ASCII.
+    Blank,
+    /// Any byte but `*`.
+    Comment,
 }
 
 const DIGIT: u8 = 1;
@@ -84,6 +90,8 @@ pub fn is_in(class: Class, b: u8) -> bool
         Class::Uri => has_flag(URI, b),
         Class::Content => has_flag(CONTENT, b),
         Class::Line => b != b'\n',
+        Class::Blank => matches!(b, b' ' | b'\t'..=b'\r'),
+        Class::Comment => b != b'*',
     }
 }
 
@@ -134,32 +142,26 @@ pub fn run_end(text: &str, from: usize, class: Class) -> usize
     run_end_of(text.as_bytes(), from, class)
 }
 
-// Whether the byte is white space of ASCII.
-#[inline(always)]
-fn is_blank(b: u8) -> bool
-    ensures { result ≡ is_blank b }
+// Returns how many bytes of white space come first, which may be of any characters.
+#[inline(never)]
+fn wide_space_len(text: &str) -> usize
+    ensures { result ≡ space_len text.now }
 {
-    matches!(b, b' ' | b'\t'..=b'\r')
-}
-
-// How many blanks come first.
-#[inline(always)]
-fn blank_len(bytes: &[u8]) -> usize
-    ensures { result ≡ prefix_len is_blank bytes.now }
-{
-    bytes.iter().take_while(|b| is_blank(**b)).count()
+    text.len() - text.trim_start().len()
 }
 
 /// How many bytes of white space come first.
-#[inline]
+#[inline(never)]
 pub fn space_len(text: &str) -> usize
     ensures { result ≡ space_len text.now }
 {
-    let blanks = blank_len(text.as_bytes());
-    if byte_at(text, blanks) < 128 {
-        return blanks;
+    if is_in(Class::Blank, byte_at(text, 0)) {
+        let blanks = long_run_end(text.as_bytes(), 1, LongClass::Blank);
+        if byte_at(text, blanks) < 128 {
+            return blanks;
+        }
     }
-    text.len() - text.trim_start().len()
+    wide_space_len(text)
 }
 
 /// Whether white space comes first.

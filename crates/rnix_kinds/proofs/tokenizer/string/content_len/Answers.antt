@@ -15,8 +15,8 @@ returns-then-len-bytes-clause-value c =
 
 pub loop-at-init : goal.loop-at-init
 loop-at-init c = record {
-  within = c.run_end_of-at.ensures.within;
-  so_far = content_len-run_end c.args.multiline 0 c.run_end_of-at.result c.args.bytes.now (omega arith) c.run_end_of-at.ensures.end;
+  within = c.long_run_end-at.ensures.within;
+  so_far = content_len-run_end c.args.multiline 0 c.long_run_end-at.result c.args.bytes.now (omega arith) c.long_run_end-at.ensures.end;
 }
 
 pub loop-at-preserved : goal.loop-at-preserved
@@ -26,8 +26,8 @@ loop-at-preserved c =
     let so_far : content_len c.args.multiline c.args.bytes.now ≡ (c.loop-at.at + c.piece_len-len.result) + content_len c.args.multiline (drop (c.loop-at.at + c.piece_len-len.result) c.args.bytes.now)
     = omega (arith, c.loop-at.invariant.so_far, more, ap (content_len c.args.multiline) (drop-drop c.piece_len-len.result c.loop-at.at c.args.bytes.now)) in
     record {
-      within = c.run_end_of-at-in-loop-at.ensures.within;
-      so_far = content_len-run_end c.args.multiline (c.loop-at.at + c.piece_len-len.result) c.run_end_of-at-in-loop-at.result c.args.bytes.now so_far c.run_end_of-at-in-loop-at.ensures.end;
+      within = c.long_run_end-at-in-loop-at.ensures.within;
+      so_far = content_len-run_end c.args.multiline (c.loop-at.at + c.piece_len-len.result) c.long_run_end-at-in-loop-at.result c.args.bytes.now so_far c.long_run_end-at-in-loop-at.ensures.end;
     }
 
 pub returns-clause-value : goal.returns-clause-value

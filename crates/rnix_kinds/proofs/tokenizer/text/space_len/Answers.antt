@@ -1,12 +1,12 @@
-use Rattle.{std.{proofs.Common.{◌≡◌, ◌<◌, ◌∙◌, sym, subst, arith, get_or}, specs.List.prefix_len}, rnix_kinds.specs.Lexical.Texts.is_blank}
-use Rattle.rnix_kinds.proofs.Lexical.WordsLemmas.{space_len-trim_start, space_len-blanks}
+use Rattle.{std.{proofs.Common.{◌≡◌, ◌<◌, ◌≤◌, ◌∙◌, sym, subst, arith, get_or, zero-add, true, length}, specs.List.prefix_len}, rnix_kinds.specs.Lexical.Texts.is_blank}
+use Rattle.rnix_kinds.proofs.Lexical.{LaneLemmas.run_end-first, WordsLemmas.space_len-blanks}
 use Rattle.rnix_kinds.proofs.tokenizer.text.space_len.Goals as goal
 
 pub returns-then-byte_at-lt128 : goal.returns-then-byte_at-lt128
 returns-then-byte_at-lt128 c =
     let text = c.args.text.now in
-    let blanks : c.blank_len-blanks.result ≡ prefix_len is_blank text = rw c.as_bytes.ensures.value at c.blank_len-blanks.ensures in
-    blanks ∙ sym (space_len-blanks text (subst (λ n. get_or text n 0 < 128) blanks (omega (arith, c.byte_at.ensures, c.if-byte_at-lt128.true))))
-
-pub returns : goal.returns
-returns c = rw c.trim_start.ensures.trim (space_len-trim_start c.args.text.now c.utf8.text)
+    let first : is_blank (get_or text 0 0) ≡ true = subst (λ b. is_blank b ≡ true) c.byte_at.ensures (sym c.is_in.ensures ∙ c.if-is_in.true) in
+    let within : c.long_run_end-blanks.result ≤ length text = rw c.as_bytes.ensures.value at c.long_run_end-blanks.ensures.within in
+    let end = rw c.as_bytes.ensures.value at c.long_run_end-blanks.ensures.end in
+    let blanks : c.long_run_end-blanks.result ≡ prefix_len is_blank text = end ∙ run_end-first is_blank text (omega (arith, within, c.long_run_end-blanks.ensures.onward)) first ∙ zero-add _ in
+    blanks ∙ sym (space_len-blanks text (subst (λ n. get_or text n 0 < 128) blanks (omega (arith, c.byte_at-then-is_in.ensures, c.if-byte_at-lt128.true))))
