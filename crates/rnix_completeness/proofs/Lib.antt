@@ -1,10 +1,7 @@
-pub mod RowOperands
-pub mod RowFunctions
-pub mod FirstTokens
-pub mod RowAsks
-pub mod PlainNames
-pub mod RowFits
-pub mod RowBehind
-pub mod RowGroups
-pub mod RowStands
-pub mod StrictReads
+pub mod OverTokens
+pub mod PartReads
+pub mod GoodOperands
+pub mod NamesAndBraces
+pub mod OperatorRows
+pub mod GrammarParts
+pub mod GrammarReads

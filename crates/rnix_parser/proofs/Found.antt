@@ -1,9 +1,9 @@
 -- Derivations are found, and found alone.
-use Rattle.{std.proofs.{Common.{◌≡◌, true, List, [], ap, sym, ◌∙◌}, lemmas.Bool.and_parts as and_both}, rnix_green.specs.Forest.Forest}
+use Rattle.{std.proofs.{Common.{◌≡◌, List, [], ap, sym, subst, ◌∙◌}, lemmas.Bool.and_parts as and_both}, rnix_green.specs.Forest.Forest}
 use Rattle.rnix_grammar.specs.{Fault.Fault, AnnotatedForest.{Token, AnnotatedForest, tokens_in, forget}, PlaceReads.ReadsWhole, Strict.is_strict_expression}
 use Rattle.{rnix_grammar.specs.Derivation.{laid, has_tokens_alone, IsDerivation}, rnix_lemmas.proofs.LaidLemmas.{IsLaidWhole, laid_whole}}
-use Rattle.{rnix_lemmas.proofs.NestTrees.strict_nest, rnix_completeness.proofs.StrictReads.strict_reads, rnix_uniqueness.proofs.AllReads.one_row}
-use Rattle.rnix_strict.proofs.GrammarStrict.{expression_strict}
+use Rattle.{rnix_completeness.proofs.{GrammarReads.expression_reads, OverTokens.{Over, over_trees}}, rnix_uniqueness.proofs.AllReads.one_row}
+use Rattle.{rnix_strict.proofs.GrammarStrict.expression_strict, rnix_proof_rules.proofs.ReadsAlike.whole_old}
 
 -- a derivation over its items
 laid_over : (t : Forest) (ts : List Token) → IsDerivation t ts → IsLaidWhole t ts
@@ -13,8 +13,8 @@ laid_over t ts d = laid_whole t ts (and_both (has_tokens_alone t) (is_strict_exp
 derivation_reads : (t : Forest) (ts : List Token) → IsDerivation t ts → ReadsWhole (laid t ts) []
 derivation_reads t ts d =
     let l = laid_over t ts d in
-    let strict : is_strict_expression t ≡ true = (and_both (has_tokens_alone t) (is_strict_expression t) (expression_strict t d.strict)).1 in
-    strict_reads (laid t ts) (ap is_strict_expression l.forest ∙ strict) l.spelled d.joined (rw (l.forest, sym (strict_nest t strict)) d.shallow)
+    let over : Over t (laid t ts) = subst (λ z. Over z (laid t ts)) l.forest (over_trees (laid t ts) l.spelled) in
+    whole_old (laid t ts) [] (expression_reads d.strict (laid t ts) over d.joined d.shallow)
 
 -- what the items of a derivation are read as is the derivation, without errors
 pub derivation_found : (f : AnnotatedForest) (ts : List Token) (es : List Fault) → ReadsWhole f es → tokens_in f ≡ ts → (t : Forest) → IsDerivation t ts → (es ≡ []) × (forget f ≡ t)
