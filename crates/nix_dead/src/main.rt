@@ -1,89 +1,124 @@
-//! Names the bindings that nothing uses: `nix_dead FILE..`, or with no file in the text on standard input.
+//! Names the bindings that nothing uses: `nix-dead [OPTION..] [FILE..]`, or with no file in the text on standard input.
 #![tactic(auto)]
 
 mod dead;
 
 use dead::{Name, dead_names};
-use rnix::Root;
+use nix_cli::{
+    Arguments, FAILED, FOUND, Program, Start, end, find_files, place_of, read_arguments, read_text,
+    shown_name, write_json_string,
+};
+use rnix::{Parse, Root};
 use rnix_text::{ColumnUnit, LineIndex};
+use std::io;
 use std::io::{BufWriter, Write};
 use std::process::ExitCode;
-use std::{env, fs, io};
 
-// How a run ends: from the best to the worst.
-#[derive(Clone, Copy, PartialEq, Eq, PartialOrd, Ord)]
-enum End {
-    AllUsed,
-    SomeDead,
-    // A file cannot be read, or is not Nix.
-    NotRead,
-}
+const PROGRAM: Program = Program {
+    name: "nix-dead",
+    help: "\
+nix-dead [OPTION..] [FILE..]
 
-impl End {
-    // The status of the program.
-    fn status(self) -> u8 {
-        match self {
-            End::AllUsed => 0,
-            End::SomeDead => 1,
-            End::NotRead => 2,
-        }
-    }
-}
+Prints the names of let and of parameters that nothing uses, but those that begin with _. A folder stands for all files in it and below
+that end with .nix; - and no FILE stand for standard input.
+
+    --json     print each name as a line of JSON
+",
+    statuses: "
+Ends with 0 if all names are used, 1 if some are not, 2 if something is not Nix, or could not be read or written.
+",
+    flags: &["--json"],
+    has_colors: false,
+    least: 0,
+    most: usize::MAX,
+};
 
 // Writes a line for each name.
 fn write_names<W: Write>(
     file: &str,
     names: &[Name<'_>],
     index: &LineIndex<'_>,
+    is_json: bool,
     out: &mut W,
 ) -> io::Result<()> {
     for name in names {
         let place = index.position(name.start).unwrap_or_default();
         let (line, column) = (place.line.saturating_add(1), place.column.saturating_add(1));
         let text = name.text;
-        writeln!(out, "{file}:{line}:{column}: {text} is never used")?;
+        if is_json {
+            out.write_all(b"{\"file\":")?;
+            write_json_string(file, out)?;
+            write!(
+                out,
+                ",\"line\":{line},\"column\":{column},\"start\":{},\"name\":",
+                name.start
+            )?;
+            write_json_string(text, out)?;
+            out.write_all(b"}\n")?;
+        } else {
+            writeln!(out, "{file}:{line}:{column}: {text} is never used")?;
+        }
     }
     Ok(())
 }
 
-// Names what is never used in a text. A text with errors is not judged.
-fn report<W: Write>(rt: &HostRuntime, file: &str, text: &str, out: &mut W) -> io::Result<End> {
+// Says where the first error of a text is.
+fn refuse_text(rt: &HostRuntime, file: &str, text: &str, read: &Parse) -> io::Result<()> {
+    let range = read.errors().first().and_then(|error| error.range());
+    let (line, column) = place_of(text, range.map_or(text.len(), |range| range.start()));
+    eprintln!(rt; "nix-dead: {file}:{line}:{column}: this is not Nix")
+}
+
+// Names what is never used in a text, and returns the status. A text with errors is not judged.
+fn report<W: Write>(
+    rt: &HostRuntime,
+    file: &str,
+    text: &str,
+    is_json: bool,
+    out: &mut W,
+) -> io::Result<u8> {
     let read = Root::parse(rt.alloc(), text)?;
     if !read.errors().is_empty() {
-        eprintln!(rt; "nix-dead: {file}: this is not Nix")?;
-        return Ok(End::NotRead);
+        refuse_text(rt, file, text, &read)?;
+        return Ok(FAILED);
     }
     let names = dead_names(rt.alloc(), &read.syntax())?;
     if names.is_empty() {
-        return Ok(End::AllUsed);
+        return Ok(0);
     }
     let index = LineIndex::new(rt.alloc(), text, ColumnUnit::Chars)?;
-    write_names(file, &names, &index, out)?;
-    Ok(End::SomeDead)
+    write_names(file, &names, &index, is_json, out)?;
+    Ok(FOUND)
 }
 
-// Names what is never used in a file. One that cannot be read is told.
-fn report_file<W: Write>(rt: &HostRuntime, file: &str, out: &mut W) -> io::Result<End> {
-    match fs::read_to_string(rt, file) {
-        Ok(text) => report(rt, file, text.as_str(), out),
-        Err(error) => {
-            eprintln!(rt; "nix-dead: {file}: {error}")?;
-            Ok(End::NotRead)
-        }
-    }
-}
-
-fn main(rt: HostRuntime) -> io::Result<ExitCode> {
+// Names what is never used in the files that the command line names, and returns the worst status of all.
+fn report_files(rt: &HostRuntime, arguments: &Arguments) -> io::Result<u8> {
     let mut out = BufWriter::new(rt.alloc(), rt.stdout())?;
-    let mut files = env::args(&rt)?.skip(1).peekable();
-    let mut end = End::AllUsed;
-    if files.peek().is_none() {
-        let text = io::read_to_string(rt.alloc(), rt.stdin())?;
-        end = report(&rt, "<stdin>", text.as_str(), &mut out)?;
-    }
-    for file in files {
-        end = end.max(report_file(&rt, file.as_str(), &mut out)?);
+    let files = find_files(rt, &PROGRAM, &arguments.words)?;
+    let mut status = if files.failed == 0 { 0 } else { FAILED };
+    for file in &files.names {
+        let own = match read_text(rt, &PROGRAM, file.as_str())? {
+            Some(text) => {
+                let (name, is_json) = (shown_name(file.as_str()), arguments.has("--json"));
+                report(rt, name, text.as_str(), is_json, &mut out)?
+            }
+            None => FAILED,
+        };
+        status = status.max(own);
     }
     out.flush()?;
-    Ok(ExitCode::from(end.status()))
+    Ok(status)
+}
+
+// Does what the command line asks for.
+fn run(rt: &HostRuntime) -> io::Result<u8> {
+    match read_arguments(rt, &PROGRAM)? {
+        Start::Run(arguments) => report_files(rt, &arguments),
+        Start::End(status) => Ok(status),
+    }
+}
+
+fn main(rt: HostRuntime) -> ExitCode {
+    let outcome = run(&rt);
+    end(&rt, &PROGRAM, outcome)
 }
