@@ -1,6 +1,7 @@
 pub mod ElementNumbers
 pub mod FilledLemmas
 pub mod KindNames
-pub mod WantedLemmas
+pub mod NumberedSpots
+pub mod WrittenNames
 pub mod WrittenParts
 pub mod WrittenTokens

@@ -1,5 +1,5 @@
 -- What calls return, and what they leave in the arrays that they are given.
-use Rattle.std.specs.Prelude.{◌≡◌, ◌⊎◌, ℕ, ℤ, pos, negsuc, List, ◌++◌, length, take, drop, IsUtf8}
+use Rattle.std.specs.Prelude.{◌≡◌, ◌⊎◌, ◌≤◌, ◌^◌, ℕ, ℤ, pos, negsuc, List, ◌++◌, length, take, drop, IsUtf8}
 use Rattle.rnix_kinds.specs.Lexical.Tokens.{tokens_of}
 use Rattle.rnix_green.specs.Tree.{Tree}
 use Rattle.rnix_grammar.specs.Fault.{Fault}
@@ -13,9 +13,13 @@ not_utf8 = negsuc 0
 abbrev pub no_memory : ℤ
 no_memory = negsuc 1
 
--- -3: there is no such kind, error or string
+-- -3: there is no such kind, error, string or unit of columns
 abbrev pub none_such : ℤ
 none_such = negsuc 2
+
+-- -4: the text is too long
+abbrev pub too_long : ℤ
+too_long = negsuc 3
 
 -- the first of some items, as many as there is room for, and then what the rest of the room held before
 abbrev pub filled : {A : Type 0} → List A → List A → List A
@@ -25,9 +29,11 @@ filled items room = take (length room) items ++ drop (length items) room
 abbrev pub IsWritten : {A : Type 0} → List A → ℤ → List A → List A → Type 0
 IsWritten items answer old new = (answer ≡ pos (length items)) × (new ≡ filled items old)
 
--- why a text is not read: it is not UTF-8, or it is and memory is refused
+-- why a text is not read: it is not UTF-8, or it is and has 2 ^ 32 bytes or more, or memory is refused
 abbrev pub IsRefused : List ℕ → ℤ → Type 0
-IsRefused text answer = ((answer ≡ not_utf8) × ¬ IsUtf8 text) ⊎ ((answer ≡ no_memory) × IsUtf8 text)
+IsRefused text answer =
+    ((answer ≡ not_utf8) × ¬ IsUtf8 text)
+    ⊎ (((answer ≡ too_long) × IsUtf8 text × (2 ^ 32 ≤ length text)) ⊎ ((answer ≡ no_memory) × IsUtf8 text))
 
 -- the call is refused and what it was given is unchanged, or the promise holds of the tree and the errors of the text
 abbrev pub Answers : List ℕ → ℤ → Type 0 → (Tree → List Fault → Type 0) → Type 0

@@ -1,24 +1,27 @@
 -- The errors of a text as they are written for C.
-use Rattle.std.specs.Prelude.{ℕ, ◌-◌, ◌^◌, ◌%◌, ◌/◌, List, [], ◌∷◌, map}
+use Rattle.std.specs.Prelude.{ℕ, ◌-◌, ◌^◌, List, map, replicate}
 use Rattle.rnix_kinds.specs.declared.kinds.SyntaxKind.{SyntaxKind}
 use Rattle.rnix_kinds.specs.SyntaxKind.{place_of}
-use Rattle.rnix_kinds.specs.TokenSet.{set_of}
-use Rattle.rnix_kinds.specs.KindNumbers.{number_of}
 use Rattle.rnix_green.specs.Range.{Extent}
 use Rattle.rnix_grammar.specs.Fault.{Fault, untold, extra, unwanted, bound_twice, ended, ended_before, named_twice, too_deep}
 use Rattle.rnix_c.specs.declared.errors.RnixError.{RnixError}
+use Rattle.rnix_c.specs.Answers.{filled}
+
+-- the numbers of the first 16 of some kinds, in their order, and 255 in the places that are left
+abbrev pub wanted_of : List SyntaxKind → List ℕ
+wanted_of kinds = filled (map place_of kinds) (replicate 16 255)
+
+-- no kinds
+abbrev pub none_wanted : List ℕ
+none_wanted = replicate 16 255
 
 -- an error of a variant that has no range and names no kind
 abbrev pub unplaced : ℕ → RnixError
-unplaced variant = record { start = 2 ^ 64 - 1; end = 2 ^ 64 - 1; wanted = 0 ∷ 0 ∷ []; variant = variant; found = 2 ^ 32 - 1 }
+unplaced variant = record { start = 2 ^ 64 - 1; end = 2 ^ 64 - 1; wanted = none_wanted; variant = variant; found = 2 ^ 32 - 1 }
 
 -- an error of a variant that has a range and names no kind
 abbrev pub placed : ℕ → Extent → RnixError
-placed variant range = record { start = range.start; end = range.end; wanted = 0 ∷ 0 ∷ []; variant = variant; found = 2 ^ 32 - 1 }
-
--- the bits of some kinds, the lower 64 first: that of a kind's number is set if the kind is among them
-abbrev pub wanted_of : List SyntaxKind → List ℕ
-wanted_of kinds = number_of (set_of kinds) % 2 ^ 64 ∷ number_of (set_of kinds) / 2 ^ 64 ∷ []
+placed variant range = record { start = range.start; end = range.end; wanted = none_wanted; variant = variant; found = 2 ^ 32 - 1 }
 
 -- what is written of an error
 abbrev pub error_of : Fault → RnixError

@@ -1,7 +1,11 @@
+pub mod AllStrings
 pub mod Answers
+pub mod Diagnostics
 pub mod Elements
 pub mod Errors
 pub mod Kinds
 pub mod Messages
+pub mod Names
+pub mod Positions
 pub mod Strings
 pub mod Tokens

@@ -1,12 +1,12 @@
 //! What calls return: how many things there are, or why a call is refused.
 
-ghost use Rattle.std.specs.Prelude.{◌≡◌, map, IfOk, IfErr, IsUtf8};
+ghost use Rattle.std.specs.Prelude.{◌≡◌, ◌<◌, ◌^◌, length, map, IfOk, IfErr, IsUtf8};
 ghost use Rattle.rnix_kinds.specs.Lexical.Tokens.{tokens_of};
 ghost use Rattle.rnix_grammar.specs.Fault.{fault_of};
 ghost use Rattle.rnix_grammar.specs.Parsed.{IsParsed};
-ghost use Rattle.rnix_c.specs.Answers.{IsRefused, IsWritten};
+ghost use Rattle.rnix_c.specs.Answers.{filled, IsRefused, IsWritten};
 
-use rnix::{GreenNode, ParseError, tokenize};
+use rnix::{GreenNode, Parse, ParseError, Root, tokenize};
 use rnix_parser::parse;
 use std::alloc::Global;
 
@@ -16,27 +16,67 @@ pub const NOT_UTF8: i64 = -1;
 /// Memory is refused.
 pub const NO_MEMORY: i64 = -2;
 
-/// There is no such kind, error or string.
+/// There is no such kind, error, string or unit of columns.
 pub const NONE_SUCH: i64 = -3;
 
-/// An offset or a number that is none.
+/// The text is too long: 2^32 bytes or more.
+pub const TOO_LONG: i64 = -4;
+
+/// An absent offset or number.
 pub const NO_NUMBER: u64 = u64::MAX;
 
-/// A kind that is none.
+/// An absent kind.
 pub const NO_KIND: u32 = u32::MAX;
 
-/// The tree and the errors of a text, or why it is not read.
+/// The text, or why it cannot be parsed.
+pub fn checked<'t>(text: &'t [u8]) -> Result<&'t str, i64>
+    ensures utf8 { IfOk result (λ _. IsUtf8 text.now) }
+    ensures same { IfOk result (λ checked. checked.now ≡ text.now) }
+    ensures refused { IfErr result (λ answer. IsRefused text.now answer) }
+{
+    let Ok(checked) = str::from_utf8(text) else {
+        return Err(NOT_UTF8);
+    };
+    if checked.len() > u32::MAX as usize {
+        return Err(TOO_LONG);
+    }
+    Ok(checked)
+}
+
+/// Parses a text. Returns its tree and its errors, or why it is refused.
 pub fn parsed(alloc: Global, text: &[u8]) -> Result<(GreenNode, Vec<ParseError>), i64>
     ensures utf8 { IfOk result (λ _. IsUtf8 text.now) }
     ensures read { IfOk result (λ read. IsParsed (tokens_of text.now) read.0 (map fault_of read.1.items)) }
     ensures refused { IfErr result (λ answer. IsRefused text.now answer) }
 {
-    let Ok(text) = str::from_utf8(text) else {
-        return Err(NOT_UTF8);
-    };
+    let text = checked(text)?;
     match parse(alloc, tokenize(alloc, text)) {
         Ok(read) => Ok(read),
         Err(_) => Err(NO_MEMORY),
+    }
+}
+
+/// Parses a text, like `parsed`.
+pub fn parse_of(alloc: Global, text: &[u8]) -> Result<Parse, i64>
+    ensures utf8 { IfOk result (λ _. IsUtf8 text.now) }
+    ensures read { IfOk result (λ read. IsParsed (tokens_of text.now) read.tree read.faults) }
+    ensures refused { IfErr result (λ answer. IsRefused text.now answer) }
+{
+    let text = checked(text)?;
+    match Root::parse(alloc, text) {
+        Ok(read) => Ok(read),
+        Err(_) => Err(NO_MEMORY),
+    }
+}
+
+/// Writes the first items, as many as there is room for.
+pub fn fill<T: Copy>(items: &[T], room: &mut [T])
+    ensures { room.new ≡ filled items.now room.old }
+{
+    if items.len() <= room.len() {
+        room[..items.len()].copy_from_slice(items);
+    } else {
+        room.copy_from_slice(&items[..room.len()]);
     }
 }
 
@@ -44,11 +84,6 @@ pub fn parsed(alloc: Global, text: &[u8]) -> Result<(GreenNode, Vec<ParseError>)
 pub fn written(text: &str, room: &mut [u8]) -> i64
     ensures { IsWritten text.now result room.old room.new }
 {
-    let bytes = text.as_bytes();
-    if bytes.len() <= room.len() {
-        room[..bytes.len()].copy_from_slice(bytes);
-    } else {
-        room.copy_from_slice(&bytes[..room.len()]);
-    }
-    bytes.len() as i64
+    fill(text.as_bytes(), room);
+    text.len() as i64
 }

@@ -22,8 +22,8 @@ pub struct RnixElement {
     pub is_token: u32,
 }
 
-// The number of a parent, if there is one.
-fn number_or_none(number: Option<usize>) -> u64
+/// A number, or the one that stands for none.
+pub fn number_or_none(number: Option<usize>) -> u64
     ensures { result ≡ number_or_none number }
 {
     match number {

@@ -1,8 +1,6 @@
 //! The errors of a text.
 
 ghost use Rattle.std.specs.Prelude.{◌≡◌, map};
-ghost use Rattle.rnix_kinds.specs.KindNumbers.{number_of};
-ghost use Rattle.rnix_kinds.specs.TokenSet.{set_of};
 ghost use Rattle.rnix_green.specs.Range.{bounds_of};
 ghost use Rattle.rnix_grammar.specs.Fault.{fault_of};
 ghost use Rattle.rnix_c.specs.Answers.{filled};
@@ -11,13 +9,19 @@ ghost use Rattle.rnix_c.specs.Errors.{unplaced, placed, wanted_of, error_of, err
 use crate::answers::{NO_KIND, NO_NUMBER};
 use rnix::{ParseError, SyntaxKind, TextRange};
 
-/// An error: its variant and range, the kind of the token that stands there, and the set of the kinds that are wanted.
+/// How many wanted kinds an error has room for.
+const WANTED_ROOM: usize = 16;
+
+/// A wanted kind that is absent.
+const NOT_WANTED: u8 = u8::MAX;
+
+/// An error: its variant and range, the kinds that are wanted, in rnix's order, and the kind of the token that was found.
 #[repr(C)]
 #[derive(Clone, Copy)]
 pub struct RnixError {
     pub start: u64,
     pub end: u64,
-    pub wanted: [u64; 2],
+    pub wanted: [u8; 16],
     pub variant: u32,
     pub found: u32,
 }
@@ -29,7 +33,7 @@ fn unplaced(variant: u32) -> RnixError
     RnixError {
         start: NO_NUMBER,
         end: NO_NUMBER,
-        wanted: [0, 0],
+        wanted: [NOT_WANTED; 16],
         variant,
         found: NO_KIND,
     }
@@ -46,23 +50,15 @@ fn placed(variant: u32, range: TextRange) -> RnixError
     }
 }
 
-// A set of kinds: the bit of each kind's number is set.
-fn bits_of(kinds: &[SyntaxKind]) -> u128
-    ensures { result ≡ number_of (set_of kinds.now) }
-{
-    let mut bits: u128 = 0;
-    for kind in kinds {
-        bits |= 1 << (*kind as u32);
-    }
-    bits
-}
-
-// The same set in two numbers, of which the first has the lower bits.
-fn wanted_of(kinds: &[SyntaxKind]) -> [u64; 2]
+// The numbers of the wanted kinds.
+fn wanted_of(kinds: &[SyntaxKind]) -> [u8; 16]
     ensures { result ≡ wanted_of kinds.now }
 {
-    let bits = bits_of(kinds);
-    [(bits % (1 << u64::BITS)) as u64, (bits >> u64::BITS) as u64]
+    let mut wanted = [NOT_WANTED; 16];
+    for number in 0..kinds.len().min(WANTED_ROOM) {
+        wanted[number] = kinds[number] as u8;
+    }
+    wanted
 }
 
 // An error as numbers. The header names the variants.

@@ -3,11 +3,15 @@
 
 ghost use Rattle.std.specs.Prelude.{◌≡◌};
 
+mod all_strings;
 mod answers;
+mod diagnostics;
 mod elements;
 mod errors;
 mod kinds;
 mod messages;
+mod names;
+mod positions;
 mod strings;
 mod tokens;
 mod tree;
@@ -15,7 +19,7 @@ mod tree;
 /// The number of this interface. It changes where a function, a struct or the number of a kind does.
 #[unsafe(no_mangle)]
 pub extern "C" fn rnix_version() -> u32
-    ensures { result ≡ 1 }
+    ensures { result ≡ 2 }
 {
-    1
+    2
 }

@@ -1,0 +1,39 @@
+-- What calls write of diagnostics.
+use Rattle.std.specs.Prelude.{ℕ, List, [], ◌∷◌, ◌++◌, length, fold, string_bytes}
+use Rattle.rnix_green.specs.Range.{bounds_of}
+use Rattle.rnix_green.specs.Tree.{Tree}
+use Rattle.rnix_grammar.specs.Fault.{Fault}
+use Rattle.nix_diagnostics.specs.declared.diagnostic.Diagnostic.{Diagnostic}
+use Rattle.nix_diagnostics.specs.Shown.{AreShown}
+use Rattle.rnix_c.specs.declared.diagnostics.RnixDiagnostic.{RnixDiagnostic}
+use Rattle.rnix_c.specs.Strings.{located}
+
+-- some diagnostics as they are written for C, and their joined messages
+pub record Said : Type 0 where
+  pub records : List RnixDiagnostic
+  pub messages : List ℕ
+
+abbrev pub said : List RnixDiagnostic → List ℕ → Said
+said records messages = record { records = records; messages = messages }
+
+-- a diagnostic more: its range in the text, and that of its message in the joined messages
+abbrev pub with_diagnostic : Said → Diagnostic → Said
+with_diagnostic before diagnostic =
+    said
+    (before.records
+    ++ record {
+      start = (bounds_of diagnostic.range).start;
+      end = (bounds_of diagnostic.range).end;
+      message_start = length before.messages;
+      message_end = length (before.messages ++ string_bytes diagnostic.message);
+    }
+    ∷ [])
+    (before.messages ++ string_bytes diagnostic.message)
+
+-- what is written of some diagnostics
+abbrev pub said_of : List Diagnostic → Said
+said_of all = fold with_diagnostic (said [] []) all
+
+-- the diagnostics show the errors of a tree
+abbrev pub AreSaid : Tree → List Fault → List Diagnostic → Type 0
+AreSaid tree faults all = AreShown (located tree 0) faults all

@@ -1,0 +1,43 @@
+-- What calls write of bindings and references.
+use Rattle.std.specs.Prelude.{ℕ, cond, List, map}
+use Rattle.rnix_kinds.specs.SyntaxKind.{place_of}
+use Rattle.rnix_green.specs.Tree.{Located, item_of}
+use Rattle.nix_scopes.specs.Scopes.{Bound, Resolved, number_in, bindings_in, resolved_in}
+use Rattle.rnix_c.specs.declared.names.RnixBinding.{RnixBinding}
+use Rattle.rnix_c.specs.declared.names.RnixReference.{RnixReference}
+use Rattle.rnix_c.specs.Elements.{number_or_none}
+
+-- what is written of a binding, where the first binding of its name in its scope has this number
+abbrev pub binding_of : ℕ → Bound → RnixBinding
+binding_of first bound = record {
+  start = (item_of bound.node).start;
+  end = (item_of bound.node).end;
+  scope_start = (item_of bound.scope).start;
+  scope_end = (item_of bound.scope).end;
+  first = first;
+  kind = place_of (item_of bound.node).kind;
+  scope_kind = place_of (item_of bound.scope).kind;
+}
+
+-- what is written of a reference
+abbrev pub reference_of : Resolved → RnixReference
+reference_of name = record {
+  start = (item_of name.node).start;
+  end = (item_of name.node).end;
+  binding = number_or_none name.binding;
+  kind = place_of (item_of name.node).kind;
+  is_inherited = cond name.is_inherited 1 0;
+  is_open = cond name.is_open 1 0;
+}
+
+-- what is written of a binding among others
+abbrev pub binding_among : List Bound → Bound → RnixBinding
+binding_among bindings bound = binding_of (number_or_none (number_in bindings bound.text bound.scope)) bound
+
+-- what is written of the bindings inside a node
+abbrev pub bindings_written : Located → List RnixBinding
+bindings_written root = map (binding_among (bindings_in root)) (bindings_in root)
+
+-- what is written of the references inside a node
+abbrev pub references_written : Located → List RnixReference
+references_written root = map reference_of (resolved_in root)

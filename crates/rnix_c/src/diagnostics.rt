@@ -1,0 +1,86 @@
+//! The errors of a text in words for people.
+
+ghost use Rattle.std.specs.Prelude.{◌≡◌, List, length, IfOk, OnOk, string_bytes};
+ghost use Rattle.nix_diagnostics.specs.declared.diagnostic.Diagnostic.{Diagnostic as Worded};
+ghost use Rattle.rnix_c.specs.Answers.{filled, IsWritten, Answers};
+ghost use Rattle.rnix_c.specs.Diagnostics.{said, with_diagnostic, said_of, AreSaid};
+
+use crate::answers::{NO_MEMORY, fill, parse_of};
+use nix_diagnostics::{Diagnostic, diagnostics};
+use std::alloc::{AllocError, Global};
+
+/// A diagnostic: a range of the text, and the range of its message in the joined messages.
+#[repr(C)]
+#[derive(Clone, Copy)]
+pub struct RnixDiagnostic {
+    pub start: u64,
+    pub end: u64,
+    pub message_start: u64,
+    pub message_end: u64,
+}
+
+// Adds a diagnostic and its message.
+fn add(
+    diagnostic: &Diagnostic,
+    records: &mut Vec<RnixDiagnostic>,
+    messages: &mut String,
+) -> Result<(), AllocError>
+    ensures { OnOk result (said records.new.items (string_bytes messages.new)
+        ≡ with_diagnostic (said records.old.items (string_bytes messages.old)) diagnostic.now) }
+{
+    let message_start = messages.len();
+    messages.push_str(diagnostic.message.as_str())?;
+    records.push(RnixDiagnostic {
+        start: diagnostic.range.start() as u64,
+        end: diagnostic.range.end() as u64,
+        message_start: message_start as u64,
+        message_end: messages.len() as u64,
+    })?;
+    Ok(())
+}
+
+// The diagnostics as numbers, and their joined messages.
+fn said_of(
+    alloc: Global,
+    diagnostics: &[Diagnostic],
+) -> Result<(Vec<RnixDiagnostic>, String), AllocError>
+    ensures { IfOk result (λ all. said all.0.items (string_bytes all.1) ≡ said_of diagnostics.now) }
+{
+    let mut records = Vec::new(alloc);
+    let mut messages = String::new(alloc);
+    for diagnostic in diagnostics {
+        add(diagnostic, &mut records, &mut messages)?;
+    }
+    Ok((records, messages))
+}
+
+/// The diagnostics of a text: how many there are. Their messages are written too, and how many bytes these have.
+#[unsafe(no_mangle)]
+pub extern "C" fn rnix_diagnostics(
+    alloc: Global,
+    text: &[u8],
+    room: &mut [RnixDiagnostic],
+    buffer: &mut [u8],
+    buffer_len: &mut u64,
+) -> i64
+    ensures { Answers text.now result ((room.new ≡ room.old) × (buffer.new ≡ buffer.old) × (buffer_len.new ≡ buffer_len.old))
+        (λ tree faults. (all : List Worded) × AreSaid tree faults all × IsWritten (said_of all).records result room.old room.new
+        × (buffer.new ≡ filled (said_of all).messages buffer.old) × (buffer_len.new ≡ length (said_of all).messages)) }
+{
+    let read = match parse_of(alloc, text) {
+        Ok(read) => read,
+        Err(answer) => return answer,
+    };
+    let Ok(all) = diagnostics(alloc, &read) else {
+        return NO_MEMORY;
+    };
+    match said_of(alloc, &all) {
+        Ok((records, messages)) => {
+            fill(&records, room);
+            fill(messages.as_bytes(), buffer);
+            *buffer_len = messages.len() as u64;
+            records.len() as i64
+        }
+        Err(_) => NO_MEMORY,
+    }
+}
