@@ -1,22 +1,22 @@
 /*
- * rnix: a lossless parser of the Nix language, for C and C++ and for what calls C.
+ * rnix: a lossless parser for the Nix language, for C, C++ and languages that call C.
  *
- * Texts are UTF-8, given as bytes and their number; they need no zero at the end. All offsets are in bytes from the beginning of the text, and
- * all ranges are half-open: the byte at `end` is not inside.
+ * Texts are UTF-8, given as a pointer and a length; they need no terminating zero. Offsets are in bytes from the start of the text, and ranges
+ * are half-open: the byte at `end` is not part of the range.
  *
- * Nothing is kept and nothing is handed over: a call reads the text, writes into the arrays of the caller, and has freed what memory it took
- * when it returns. A function that lists things takes an array and how many of them it has room for. It writes the first of them, as many as
- * there is room for, and answers how many there are, also where that is more: so a call with no room (NULL and 0) counts. What lies behind
- * the things written stays as it was. NULL may stand for a text of 0 bytes and an array of no room, and nowhere else. The arrays may not
- * overlap each other or the text.
+ * The library keeps no state. A call parses the text, writes into the caller's arrays, and frees all its memory before it returns. A function
+ * that returns a list takes an array and its capacity (`room`). It writes as many items as fit, from the first on, and returns how many there
+ * are, even if that is more than the capacity: to count, pass NULL and 0, which writes nothing. The rest of the array is left unchanged. NULL is
+ * allowed for a text of 0 bytes and for an array of capacity 0, and nowhere else. Arrays must not overlap each other or the text.
  *
- * An answer below 0 is a refusal (enum rnix_refusal). What the caller gave is then as it was, but for the tokens of rnix_tokens. Of a text that
- * is not UTF-8 every call answers RNIX_NOT_UTF8, and of no other text.
+ * A negative result is a refusal (enum rnix_refusal). The caller's arrays are then unchanged, except those of rnix_tokens. A text that is not
+ * UTF-8 is always refused with RNIX_NOT_UTF8.
  *
- * What each call answers, and what it leaves in the arrays, is proved: docs/theorems.md, "Calls from C".
+ * The result of each call, and what it writes, are proved: docs/theorems.md, "Calls from C". This header, and callers in other languages, are
+ * tested.
  *
- * Any thread may call at any time: calls share nothing but the C library's malloc, realloc and free, which may be called by several threads.
- * No function may be called from a signal handler. No text makes a call need a deep stack.
+ * Any number of threads may call at the same time: calls share only the C library's malloc, realloc and free, which must be thread-safe. Do not
+ * call from a signal handler. No text makes a call need a deep stack. The code needs a processor of the level x86-64-v2 (since about 2009).
  */
 #ifndef RNIX_H
 #define RNIX_H
@@ -28,125 +28,154 @@
 extern "C" {
 #endif
 
-/* The interface that this header describes. */
-#define RNIX_VERSION 1u
+/* The version of the interface that this header describes. */
+#define RNIX_VERSION 2u
 
-/* The interface of the library, which should be RNIX_VERSION. It changes where a function, a struct or a number in this header does. */
+/* Returns the version of the library's interface, which must be RNIX_VERSION. It changes with a function, a struct or a number of this header. */
 uint32_t rnix_version(void);
 
-/* Why a call is refused. */
+/* Why a call was refused. */
 enum rnix_refusal {
     RNIX_NOT_UTF8 = -1,  /* the text is not UTF-8 */
-    RNIX_NO_MEMORY = -2, /* malloc or realloc answered NULL, or the text has 2^32 bytes or its tree as many elements: no room helps then */
-    RNIX_NONE_SUCH = -3  /* there is no such kind, name, error or string; it comes exactly then, unless one of the other two does */
+    RNIX_NO_MEMORY = -2, /* malloc or realloc returned NULL, or the tree has 2^32 elements or more */
+    RNIX_NONE_SUCH = -3, /* there is no such kind, name, error, string or unit of columns; no other refusal applies then */
+    RNIX_TOO_LONG = -4   /* the text has 2^32 bytes or more; rnix_tokens has no such limit */
 };
 
-/* An offset, or the number of an element, that is none. */
+/* A text for a refusal: a string literal. */
+#define RNIX_REFUSAL_TEXT(answer)                                    \
+    ((answer) == RNIX_NOT_UTF8    ? "the text is not UTF-8"          \
+     : (answer) == RNIX_NO_MEMORY ? "out of memory"                  \
+     : (answer) == RNIX_NONE_SUCH ? "there is no such item"          \
+     : (answer) == RNIX_TOO_LONG  ? "the text has 2^32 bytes or more" \
+                                  : "not refused")
+
+/* An absent offset or number. */
 #define RNIX_NO_NUMBER UINT64_MAX
 
-/* A kind that is none. */
+/* An absent kind. */
 #define RNIX_NO_KIND UINT32_MAX
 
-/* What a token or a node is, numbered from 0 in this order. The kinds of tokens come before those of nodes. */
+/* What a token or a node is. The kinds of tokens come before those of nodes. */
 enum rnix_kind {
-    RNIX_TOKEN_ADD,
-    RNIX_TOKEN_AND_AND,
-    RNIX_TOKEN_ASSIGN,
-    RNIX_TOKEN_ASSERT,
-    RNIX_TOKEN_AT,
-    RNIX_TOKEN_COLON,
-    RNIX_TOKEN_COMMA,
-    RNIX_TOKEN_COMMENT,
-    RNIX_TOKEN_CONCAT,
-    RNIX_TOKEN_CUR_POS,
-    RNIX_TOKEN_DIV,
-    RNIX_TOKEN_DOT,
-    RNIX_TOKEN_ELLIPSIS,
-    RNIX_TOKEN_ELSE,
-    RNIX_TOKEN_EQUAL,
-    RNIX_TOKEN_ERROR,
-    RNIX_TOKEN_FLOAT,
-    RNIX_TOKEN_IDENT,
-    RNIX_TOKEN_IF,
-    RNIX_TOKEN_IMPLICATION,
-    RNIX_TOKEN_IN,
-    RNIX_TOKEN_INHERIT,
-    RNIX_TOKEN_INTEGER,
-    RNIX_TOKEN_INTERPOL_END,
-    RNIX_TOKEN_INTERPOL_START,
-    RNIX_TOKEN_INVERT,
-    RNIX_TOKEN_L_BRACE,
-    RNIX_TOKEN_L_BRACK,
-    RNIX_TOKEN_L_PAREN,
-    RNIX_TOKEN_LESS,
-    RNIX_TOKEN_LESS_OR_EQ,
-    RNIX_TOKEN_LET,
-    RNIX_TOKEN_MORE,
-    RNIX_TOKEN_MORE_OR_EQ,
-    RNIX_TOKEN_MUL,
-    RNIX_TOKEN_NOT_EQUAL,
-    RNIX_TOKEN_OR,
-    RNIX_TOKEN_OR_OR,
-    RNIX_TOKEN_PATH_ABS,
-    RNIX_TOKEN_PATH_HOME,
-    RNIX_TOKEN_PATH_REL,
-    RNIX_TOKEN_PATH_SEARCH,
-    RNIX_TOKEN_PIPE_LEFT,
-    RNIX_TOKEN_PIPE_RIGHT,
-    RNIX_TOKEN_QUESTION,
-    RNIX_TOKEN_R_BRACE,
-    RNIX_TOKEN_R_BRACK,
-    RNIX_TOKEN_R_PAREN,
-    RNIX_TOKEN_REC,
-    RNIX_TOKEN_SEMICOLON,
-    RNIX_TOKEN_STRING_CONTENT,
-    RNIX_TOKEN_STRING_END,
-    RNIX_TOKEN_STRING_START,
-    RNIX_TOKEN_SUB,
-    RNIX_TOKEN_THEN,
-    RNIX_TOKEN_UPDATE,
-    RNIX_TOKEN_URI,
-    RNIX_TOKEN_WHITESPACE,
-    RNIX_TOKEN_WITH,
-    RNIX_NODE_APPLY,
-    RNIX_NODE_ASSERT,
-    RNIX_NODE_ATTR_SET,
-    RNIX_NODE_ATTRPATH,
-    RNIX_NODE_ATTRPATH_VALUE,
-    RNIX_NODE_BIN_OP,
-    RNIX_NODE_CUR_POS,
-    RNIX_NODE_DYNAMIC,
-    RNIX_NODE_ERROR,
-    RNIX_NODE_HAS_ATTR,
-    RNIX_NODE_IDENT,
-    RNIX_NODE_IDENT_PARAM,
-    RNIX_NODE_IF_ELSE,
-    RNIX_NODE_INHERIT,
-    RNIX_NODE_INHERIT_FROM,
-    RNIX_NODE_INTERPOL,
-    RNIX_NODE_LAMBDA,
-    RNIX_NODE_LEGACY_LET,
-    RNIX_NODE_LET_IN,
-    RNIX_NODE_LIST,
-    RNIX_NODE_LITERAL,
-    RNIX_NODE_PAREN,
-    RNIX_NODE_PAT_BIND,
-    RNIX_NODE_PAT_ENTRY,
-    RNIX_NODE_PATTERN,
-    RNIX_NODE_PATH_ABS,
-    RNIX_NODE_PATH_HOME,
-    RNIX_NODE_PATH_REL,
-    RNIX_NODE_PATH_SEARCH,
-    RNIX_NODE_ROOT,
-    RNIX_NODE_SELECT,
-    RNIX_NODE_STRING,
-    RNIX_NODE_UNARY_OP,
-    RNIX_NODE_WITH};
+    RNIX_TOKEN_ADD = 0,
+    RNIX_TOKEN_AND_AND = 1,
+    RNIX_TOKEN_ASSIGN = 2,
+    RNIX_TOKEN_ASSERT = 3,
+    RNIX_TOKEN_AT = 4,
+    RNIX_TOKEN_COLON = 5,
+    RNIX_TOKEN_COMMA = 6,
+    RNIX_TOKEN_COMMENT = 7,
+    RNIX_TOKEN_CONCAT = 8,
+    RNIX_TOKEN_CUR_POS = 9,
+    RNIX_TOKEN_DIV = 10,
+    RNIX_TOKEN_DOT = 11,
+    RNIX_TOKEN_ELLIPSIS = 12,
+    RNIX_TOKEN_ELSE = 13,
+    RNIX_TOKEN_EQUAL = 14,
+    RNIX_TOKEN_ERROR = 15,
+    RNIX_TOKEN_FLOAT = 16,
+    RNIX_TOKEN_IDENT = 17,
+    RNIX_TOKEN_IF = 18,
+    RNIX_TOKEN_IMPLICATION = 19,
+    RNIX_TOKEN_IN = 20,
+    RNIX_TOKEN_INHERIT = 21,
+    RNIX_TOKEN_INTEGER = 22,
+    RNIX_TOKEN_INTERPOL_END = 23,
+    RNIX_TOKEN_INTERPOL_START = 24,
+    RNIX_TOKEN_INVERT = 25,
+    RNIX_TOKEN_L_BRACE = 26,
+    RNIX_TOKEN_L_BRACK = 27,
+    RNIX_TOKEN_L_PAREN = 28,
+    RNIX_TOKEN_LESS = 29,
+    RNIX_TOKEN_LESS_OR_EQ = 30,
+    RNIX_TOKEN_LET = 31,
+    RNIX_TOKEN_MORE = 32,
+    RNIX_TOKEN_MORE_OR_EQ = 33,
+    RNIX_TOKEN_MUL = 34,
+    RNIX_TOKEN_NOT_EQUAL = 35,
+    RNIX_TOKEN_OR = 36,
+    RNIX_TOKEN_OR_OR = 37,
+    RNIX_TOKEN_PATH_ABS = 38,
+    RNIX_TOKEN_PATH_HOME = 39,
+    RNIX_TOKEN_PATH_REL = 40,
+    RNIX_TOKEN_PATH_SEARCH = 41,
+    RNIX_TOKEN_PIPE_LEFT = 42,
+    RNIX_TOKEN_PIPE_RIGHT = 43,
+    RNIX_TOKEN_QUESTION = 44,
+    RNIX_TOKEN_R_BRACE = 45,
+    RNIX_TOKEN_R_BRACK = 46,
+    RNIX_TOKEN_R_PAREN = 47,
+    RNIX_TOKEN_REC = 48,
+    RNIX_TOKEN_SEMICOLON = 49,
+    RNIX_TOKEN_STRING_CONTENT = 50,
+    RNIX_TOKEN_STRING_END = 51,
+    RNIX_TOKEN_STRING_START = 52,
+    RNIX_TOKEN_SUB = 53,
+    RNIX_TOKEN_THEN = 54,
+    RNIX_TOKEN_UPDATE = 55,
+    RNIX_TOKEN_URI = 56,
+    RNIX_TOKEN_WHITESPACE = 57,
+    RNIX_TOKEN_WITH = 58,
+    RNIX_NODE_APPLY = 59,
+    RNIX_NODE_ASSERT = 60,
+    RNIX_NODE_ATTR_SET = 61,
+    RNIX_NODE_ATTRPATH = 62,
+    RNIX_NODE_ATTRPATH_VALUE = 63,
+    RNIX_NODE_BIN_OP = 64,
+    RNIX_NODE_CUR_POS = 65,
+    RNIX_NODE_DYNAMIC = 66,
+    RNIX_NODE_ERROR = 67,
+    RNIX_NODE_HAS_ATTR = 68,
+    RNIX_NODE_IDENT = 69,
+    RNIX_NODE_IDENT_PARAM = 70,
+    RNIX_NODE_IF_ELSE = 71,
+    RNIX_NODE_INHERIT = 72,
+    RNIX_NODE_INHERIT_FROM = 73,
+    RNIX_NODE_INTERPOL = 74,
+    RNIX_NODE_LAMBDA = 75,
+    RNIX_NODE_LEGACY_LET = 76,
+    RNIX_NODE_LET_IN = 77,
+    RNIX_NODE_LIST = 78,
+    RNIX_NODE_LITERAL = 79,
+    RNIX_NODE_PAREN = 80,
+    RNIX_NODE_PAT_BIND = 81,
+    RNIX_NODE_PAT_ENTRY = 82,
+    RNIX_NODE_PATTERN = 83,
+    RNIX_NODE_PATH_ABS = 84,
+    RNIX_NODE_PATH_HOME = 85,
+    RNIX_NODE_PATH_REL = 86,
+    RNIX_NODE_PATH_SEARCH = 87,
+    RNIX_NODE_ROOT = 88,
+    RNIX_NODE_SELECT = 89,
+    RNIX_NODE_STRING = 90,
+    RNIX_NODE_UNARY_OP = 91,
+    RNIX_NODE_WITH = 92
+};
 
-/* How many kinds there are. */
+/* The number of kinds. */
 #define RNIX_KINDS (RNIX_NODE_WITH + 1u)
 
-/* A token: 24 bytes, of which the last 4 are not used. */
+/* The names of the kinds, by number, with terminating zeros: static const char *const names[] = RNIX_KIND_NAMES; */
+#define RNIX_KIND_NAMES \
+    { \
+        "TOKEN_ADD", "TOKEN_AND_AND", "TOKEN_ASSIGN", "TOKEN_ASSERT", "TOKEN_AT", "TOKEN_COLON", "TOKEN_COMMA", "TOKEN_COMMENT", \
+        "TOKEN_CONCAT", "TOKEN_CUR_POS", "TOKEN_DIV", "TOKEN_DOT", "TOKEN_ELLIPSIS", "TOKEN_ELSE", "TOKEN_EQUAL", "TOKEN_ERROR", \
+        "TOKEN_FLOAT", "TOKEN_IDENT", "TOKEN_IF", "TOKEN_IMPLICATION", "TOKEN_IN", "TOKEN_INHERIT", "TOKEN_INTEGER", \
+        "TOKEN_INTERPOL_END", "TOKEN_INTERPOL_START", "TOKEN_INVERT", "TOKEN_L_BRACE", "TOKEN_L_BRACK", "TOKEN_L_PAREN", \
+        "TOKEN_LESS", "TOKEN_LESS_OR_EQ", "TOKEN_LET", "TOKEN_MORE", "TOKEN_MORE_OR_EQ", "TOKEN_MUL", "TOKEN_NOT_EQUAL", \
+        "TOKEN_OR", "TOKEN_OR_OR", "TOKEN_PATH_ABS", "TOKEN_PATH_HOME", "TOKEN_PATH_REL", "TOKEN_PATH_SEARCH", "TOKEN_PIPE_LEFT", \
+        "TOKEN_PIPE_RIGHT", "TOKEN_QUESTION", "TOKEN_R_BRACE", "TOKEN_R_BRACK", "TOKEN_R_PAREN", "TOKEN_REC", "TOKEN_SEMICOLON", \
+        "TOKEN_STRING_CONTENT", "TOKEN_STRING_END", "TOKEN_STRING_START", "TOKEN_SUB", "TOKEN_THEN", "TOKEN_UPDATE", "TOKEN_URI", \
+        "TOKEN_WHITESPACE", "TOKEN_WITH", "NODE_APPLY", "NODE_ASSERT", "NODE_ATTR_SET", "NODE_ATTRPATH", "NODE_ATTRPATH_VALUE", \
+        "NODE_BIN_OP", "NODE_CUR_POS", "NODE_DYNAMIC", "NODE_ERROR", "NODE_HAS_ATTR", "NODE_IDENT", "NODE_IDENT_PARAM", \
+        "NODE_IF_ELSE", "NODE_INHERIT", "NODE_INHERIT_FROM", "NODE_INTERPOL", "NODE_LAMBDA", "NODE_LEGACY_LET", "NODE_LET_IN", \
+        "NODE_LIST", "NODE_LITERAL", "NODE_PAREN", "NODE_PAT_BIND", "NODE_PAT_ENTRY", "NODE_PATTERN", "NODE_PATH_ABS", \
+        "NODE_PATH_HOME", "NODE_PATH_REL", "NODE_PATH_SEARCH", "NODE_ROOT", "NODE_SELECT", "NODE_STRING", "NODE_UNARY_OP", \
+        "NODE_WITH" \
+    }
+
+/* A token: 24 bytes, the last 4 unused. */
 struct rnix_token {
     uint64_t start;
     uint64_t end;
@@ -154,109 +183,196 @@ struct rnix_token {
 };
 
 /*
- * An element of a tree, a node or a token: 40 bytes. Elements are numbered in preorder from 0, the root: first a node, then what is inside it.
- * So the elements inside element n are n + 1 up to n + inside, the first child is n + 1 (if inside > 0), and the next element behind it with
- * the same parent is n + 1 + inside (if that is inside the parent).
+ * An element of a tree, a node or a token: 40 bytes. Elements are numbered in preorder: the root is 0, and a node comes before its descendants.
+ * The descendants of element n are n + 1 to n + inside. Its first child is n + 1 (if inside > 0), and its next sibling is n + 1 + inside (if
+ * that is a descendant of the parent).
  */
 struct rnix_element {
     uint64_t start;
     uint64_t end;
-    uint64_t parent;   /* the number of the node around it; RNIX_NO_NUMBER of the root */
-    uint64_t inside;   /* how many elements are inside it; 0 of a token */
+    uint64_t parent;   /* the number of the parent; RNIX_NO_NUMBER for the root */
+    uint64_t inside;   /* the number of descendants; 0 for a token */
     uint32_t kind;     /* enum rnix_kind */
-    uint32_t is_token; /* 1 of a token, 0 of a node */
+    uint32_t is_token; /* 1 for a token, 0 for a node */
 };
 
-/* What an error is. Those with a range say where: of an error node in the tree, or, of RNIX_DUPLICATED_ARGS, of the repeated name. */
+/* What an error is. The range is that of an error node of the tree or, for RNIX_DUPLICATED_ARGS, of the repeated name. */
 enum rnix_error_variant {
-    RNIX_UNEXPECTED = 0,               /* no cause is told; the parser never makes it; it has a range */
-    RNIX_UNEXPECTED_EXTRA = 1,         /* tokens follow the expression; it has a range */
-    RNIX_UNEXPECTED_WANTED = 2,        /* another kind of token is wanted; it has a range, `found` and `wanted` */
-    RNIX_UNEXPECTED_DOUBLE_BIND = 3,   /* a pattern is bound to two names; it has a range */
-    RNIX_UNEXPECTED_EOF = 4,           /* the text ends where more is wanted */
-    RNIX_UNEXPECTED_EOF_WANTED = 5,    /* the text ends where a token is wanted; it has `wanted` */
-    RNIX_DUPLICATED_ARGS = 6,          /* two entries of a pattern have one name; it has a range */
-    RNIX_RECURSION_LIMIT_EXCEEDED = 7  /* expressions are nested too deep */
+    RNIX_UNEXPECTED = 0,               /* an error without a cause, which the parser never produces; it has a range */
+    RNIX_UNEXPECTED_EXTRA = 1,         /* extra tokens after the expression; it has a range */
+    RNIX_UNEXPECTED_WANTED = 2,        /* a token where another kind was expected; it has a range, `found` and `wanted` */
+    RNIX_UNEXPECTED_DOUBLE_BIND = 3,   /* a pattern that is bound to a name twice; it has a range */
+    RNIX_UNEXPECTED_EOF = 4,           /* the text ends where more was expected */
+    RNIX_UNEXPECTED_EOF_WANTED = 5,    /* the text ends where a token was expected; it has `wanted` */
+    RNIX_DUPLICATED_ARGS = 6,          /* two entries of a pattern with the same name; it has a range */
+    RNIX_RECURSION_LIMIT_EXCEEDED = 7  /* expressions are nested too deeply */
 };
+
+/* How many kinds `wanted` has room for. No error wants more than 6. */
+#define RNIX_WANTED_ROOM 16
+
+/* A place of `wanted` that no kind has. */
+#define RNIX_NOT_WANTED 255
 
 /* An error: 40 bytes. */
 struct rnix_error {
-    uint64_t start;     /* RNIX_NO_NUMBER where the error has no range */
-    uint64_t end;       /* RNIX_NO_NUMBER where the error has no range */
-    uint64_t wanted[2]; /* the set of the kinds of which one is wanted: RNIX_WANTS */
-    uint32_t variant;   /* enum rnix_error_variant */
-    uint32_t found;     /* the kind of the token that stands there, or RNIX_NO_KIND */
+    uint64_t start;                   /* RNIX_NO_NUMBER if the error has no range */
+    uint64_t end;                     /* RNIX_NO_NUMBER if the error has no range */
+    uint8_t wanted[RNIX_WANTED_ROOM]; /* the kinds that were expected, in rnix's order, followed by RNIX_NOT_WANTED */
+    uint32_t variant;                 /* enum rnix_error_variant */
+    uint32_t found;                   /* the kind of the token at the range, or RNIX_NO_KIND */
 };
 
-/* Whether the error (a pointer to it) wants the kind (a number below RNIX_KINDS). */
-#define RNIX_WANTS(error, kind) ((int)(((error)->wanted[(kind) / 64] >> ((kind) % 64)) & 1))
+/* Whether an error (a pointer to it) wants a kind. It uses memchr, of <string.h>. */
+#define RNIX_WANTS(error, kind) (memchr((error)->wanted, (kind), RNIX_WANTED_ROOM) != NULL)
 
-/* A part of a string: 24 bytes, of which the last 4 are not used. */
+/* A part of a string: 24 bytes, the last 4 unused. */
 struct rnix_part {
-    uint64_t start; /* of an interpolation its range in the text; else a range of what rnix_string_text writes */
+    uint64_t start; /* for an interpolation, its range in the text; otherwise a range of what rnix_string_text writes */
     uint64_t end;
-    uint32_t is_interpolation; /* 1 of `${..}`, 0 of text */
+    uint32_t is_interpolation; /* 1 for `${..}`, 0 for text */
+};
+
+/* A part of one of the strings of a text: 32 bytes, the last 4 unused. */
+struct rnix_string_part {
+    uint64_t string; /* the number of the string among the elements */
+    uint64_t start;  /* for an interpolation, its range in the text; otherwise a range of the joined text */
+    uint64_t end;
+    uint32_t is_interpolation; /* 1 for `${..}`, 0 for text */
+};
+
+/* A line and a column, both counted from 0: 16 bytes. */
+struct rnix_position {
+    uint64_t line;   /* RNIX_NO_NUMBER if the offset has no position */
+    uint64_t column; /* RNIX_NO_NUMBER if the offset has no position */
+};
+
+/* What columns count. */
+enum rnix_unit {
+    RNIX_BYTES = 0, /* bytes of UTF-8 */
+    RNIX_CHARS = 1, /* characters */
+    RNIX_UTF16 = 2  /* UTF-16 code units, as the Language Server Protocol counts */
+};
+
+/* A diagnostic, which describes an error for people: 32 bytes. */
+struct rnix_diagnostic {
+    uint64_t start; /* the range of the text to mark; empty if something is missing at the end */
+    uint64_t end;
+    uint64_t message_start; /* the range of the message in the joined messages */
+    uint64_t message_end;
+};
+
+/* A name that a `let`, a `rec` set or a function binds: 48 bytes. */
+struct rnix_binding {
+    uint64_t start; /* the range of the name, with the quotes if it is a string */
+    uint64_t end;
+    uint64_t scope_start; /* the range of the scope in which the name is visible */
+    uint64_t scope_end;
+    uint64_t first;      /* the number of the first binding of this name in this scope: its own, unless a set is written in parts */
+    uint32_t kind;       /* the kind of the name: RNIX_NODE_IDENT or RNIX_NODE_STRING */
+    uint32_t scope_kind; /* the kind of the scope: RNIX_NODE_LET_IN, RNIX_NODE_LEGACY_LET, RNIX_NODE_ATTR_SET or RNIX_NODE_LAMBDA */
+};
+
+/* A name that refers to a binding: 40 bytes, the last 4 unused. */
+struct rnix_reference {
+    uint64_t start; /* the range of the name, with the quotes if it is a string */
+    uint64_t end;
+    uint64_t binding;      /* the number of the binding, in the innermost scope that binds the name; RNIX_NO_NUMBER if no scope does */
+    uint32_t kind;         /* the kind of the name: RNIX_NODE_IDENT or RNIX_NODE_STRING */
+    uint32_t is_inherited; /* 1 for a name of an `inherit` without a source */
+    uint32_t is_open;      /* 1 if it has no binding and is in the body of a `with` */
 };
 
 /*
- * The tokens of a text, one behind another: each begins where the one before ends, the first at 0, and the last ends at the end of the text.
- * Answers how many there are. Refusals: RNIX_NOT_UTF8; RNIX_NO_MEMORY, where some of the first tokens may be written all the same.
+ * Writes the tokens of a text. They are contiguous: the first starts at 0, each starts where the previous one ends, and the last ends at the end
+ * of the text. Returns their number. Refusals: RNIX_NOT_UTF8; RNIX_NO_MEMORY, where some tokens may have been written.
  */
 int64_t rnix_tokens(const uint8_t *text, size_t len, struct rnix_token *tokens, size_t room);
 
 /*
- * The elements of a text's tree in preorder. Each text has a tree, also where it has errors; its leaves are the tokens of the text.
- * Answers how many there are, at least 1. Refusals: RNIX_NOT_UTF8, RNIX_NO_MEMORY.
+ * Writes the elements of a text's tree, in preorder. Every text has a tree, even one with errors; its tokens are those of the text.
+ * Returns the number of elements, at least 1. Refusals: RNIX_NOT_UTF8, RNIX_TOO_LONG, RNIX_NO_MEMORY.
  */
 int64_t rnix_elements(const uint8_t *text, size_t len, struct rnix_element *elements, size_t room);
 
 /*
- * The errors of a text, in the order in which they were found.
- * Answers how many there are. Refusals: RNIX_NOT_UTF8, RNIX_NO_MEMORY.
+ * Writes the errors of a text, in the order in which they were found.
+ * Returns their number. Refusals: RNIX_NOT_UTF8, RNIX_TOO_LONG, RNIX_NO_MEMORY.
  */
 int64_t rnix_errors(const uint8_t *text, size_t len, struct rnix_error *errors, size_t room);
 
 /*
- * The elements and the errors of a text, which is read once. How many errors there are is written to *error_count, which may not be NULL.
- * Answers how many elements there are. Refusals: RNIX_NOT_UTF8, RNIX_NO_MEMORY.
+ * Parses a text once, and writes its elements and its errors, and the number of errors to *error_count (not NULL).
+ * Returns the number of elements. Refusals: RNIX_NOT_UTF8, RNIX_TOO_LONG, RNIX_NO_MEMORY.
  */
 int64_t rnix_parse(const uint8_t *text, size_t len, struct rnix_element *elements, size_t element_room, struct rnix_error *errors,
                    size_t error_room, uint64_t *error_count);
 
 /*
- * What is said of one error of a text (its number in rnix_errors, from 0), in UTF-8, with no zero at the end. The text is read anew.
- * Answers how many bytes it has. Refusals: RNIX_NOT_UTF8, RNIX_NO_MEMORY, and RNIX_NONE_SUCH where there are not so many errors.
+ * Writes the message of one error of a text (its number in rnix_errors, from 0) in UTF-8, without a terminating zero. This parses the text again.
+ * Returns the number of bytes. Refusals: RNIX_NOT_UTF8, RNIX_TOO_LONG, RNIX_NO_MEMORY; RNIX_NONE_SUCH if no error has the number.
  */
 int64_t rnix_error_text(const uint8_t *text, size_t len, size_t error, uint8_t *buffer, size_t room);
 
 /*
- * What is said of all errors of a text, in the order of rnix_errors, each ended by a line feed (no error's text has one); the text is read once.
- * Answers how many bytes there are. Refusals: RNIX_NOT_UTF8, RNIX_NO_MEMORY.
+ * Writes the messages of all errors of a text, in the order of rnix_errors, each followed by a line feed; no message contains one.
+ * Returns the number of bytes. Refusals: RNIX_NOT_UTF8, RNIX_TOO_LONG, RNIX_NO_MEMORY.
  */
 int64_t rnix_error_texts(const uint8_t *text, size_t len, uint8_t *buffer, size_t room);
 
 /*
- * The name of a kind in ASCII, as TOKEN_ADD, with no zero at the end.
- * Answers how many bytes it has. Refusal: RNIX_NONE_SUCH where no kind has this number.
+ * Writes the diagnostics of a text, which describe its errors in plain words, and their joined messages in UTF-8, and the length of these to
+ * *buffer_len (not NULL). An error that would repeat the message of the previous one at the same place has none of its own.
+ * Returns the number of diagnostics. Refusals: RNIX_NOT_UTF8, RNIX_TOO_LONG, RNIX_NO_MEMORY.
+ */
+int64_t rnix_diagnostics(const uint8_t *text, size_t len, struct rnix_diagnostic *diagnostics, size_t room, uint8_t *buffer, size_t buffer_room,
+                         uint64_t *buffer_len);
+
+/*
+ * Writes the name of a kind in ASCII, such as TOKEN_ADD, without a terminating zero (RNIX_KIND_NAMES has one).
+ * Returns the number of bytes. Refusal: RNIX_NONE_SUCH if no kind has the number.
  */
 int64_t rnix_kind_name(uint32_t kind, uint8_t *buffer, size_t room);
 
-/* Answers the number of the kind that has this name. Refusal: RNIX_NONE_SUCH where no kind has it. */
+/* Returns the number of the kind that has a name. Refusal: RNIX_NONE_SUCH if no kind has it. */
 int64_t rnix_kind_of_name(const uint8_t *name, size_t len);
 
 /*
- * The text that a string stands for, in UTF-8 with no zero at the end: without its indentation if it is one in '', with what its escapes
- * stand for, and without its interpolations. The string is given by its number among the elements; its kind is RNIX_NODE_STRING. The text is
- * read anew. Answers how many bytes there are. Refusals: RNIX_NOT_UTF8, RNIX_NO_MEMORY, and RNIX_NONE_SUCH where no node of this kind has the
- * number.
+ * Writes the parts of all strings of a text, in preorder of the strings, and their joined text in UTF-8, and its length to *buffer_len (not
+ * NULL). The text of a part has its escapes replaced and, in a '' string, the indentation removed. A string without text has no parts.
+ * Returns the number of parts. Refusals: RNIX_NOT_UTF8, RNIX_TOO_LONG, RNIX_NO_MEMORY.
+ */
+int64_t rnix_strings(const uint8_t *text, size_t len, struct rnix_string_part *parts, size_t room, uint8_t *buffer, size_t buffer_room,
+                     uint64_t *buffer_len);
+
+/*
+ * Writes the text of one string without its interpolations, in UTF-8, without a terminating zero. The string is given by its number among the
+ * elements; its kind is RNIX_NODE_STRING. This parses the text again: for many strings, use rnix_strings. Returns the number of bytes.
+ * Refusals: RNIX_NOT_UTF8, RNIX_TOO_LONG, RNIX_NO_MEMORY; RNIX_NONE_SUCH if the number is not that of a string.
  */
 int64_t rnix_string_text(const uint8_t *text, size_t len, size_t element, uint8_t *buffer, size_t room);
 
 /*
- * The parts of a string, in order: pieces of what rnix_string_text writes, and the interpolations between them.
- * Answers how many there are. Refusals: as those of rnix_string_text.
+ * Writes the parts of one string: ranges of what rnix_string_text writes, and the interpolations between them.
+ * Returns the number of parts. Refusals: those of rnix_string_text.
  */
 int64_t rnix_string_parts(const uint8_t *text, size_t len, size_t element, struct rnix_part *parts, size_t room);
+
+/*
+ * Writes the lines and columns of offsets. `unit` is what columns count (enum rnix_unit). An offset after the end of the text, or inside a
+ * character, has no position. Lines end with a line feed.
+ * Returns `count`. Refusals: RNIX_NOT_UTF8, RNIX_TOO_LONG, RNIX_NO_MEMORY; RNIX_NONE_SUCH if no unit has the number.
+ */
+int64_t rnix_positions(const uint8_t *text, size_t len, uint32_t unit, const uint64_t *offsets, size_t count, struct rnix_position *positions,
+                       size_t room);
+
+/*
+ * Writes the names that a text binds, in the order of their scopes, and the names that refer to bindings, in the order of the text, and the
+ * number of these to *reference_count (not NULL). The names inside parts of the text with errors are included as far as they are recognized.
+ * Returns the number of bindings. Refusals: RNIX_NOT_UTF8, RNIX_TOO_LONG, RNIX_NO_MEMORY.
+ */
+int64_t rnix_names(const uint8_t *text, size_t len, struct rnix_binding *bindings, size_t binding_room, struct rnix_reference *references,
+                   size_t reference_room, uint64_t *reference_count);
 
 #ifdef __cplusplus
 }

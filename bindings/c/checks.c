@@ -1,11 +1,13 @@
-/* Checks of the library through its header: what the structs are, arrays of too little room and of none, refusals, a deep text, and threads.
- * Prints what fails, and ends with 1 if something does. It is linked with --wrap=malloc and --wrap=realloc. */
-#define _POSIX_C_SOURCE 200809L
+/* Checks the library through its header: structs, arrays with little room and none, refusals, numbers at their limits, a deep text, threads.
+ * Prints what fails, and ends with 1 if something does. With an argument, it leaves out the text of 2^32 bytes. It is linked with --wrap=malloc
+ * and --wrap=realloc. */
+#define _DEFAULT_SOURCE
 
 #include <pthread.h>
 #include <stdio.h>
 #include <stdlib.h>
 #include <string.h>
+#include <sys/mman.h>
 
 #include "rnix.h"
 
@@ -30,15 +32,24 @@ static void check_structs(void) {
     CHECK(sizeof(struct rnix_element) == 40);
     CHECK(sizeof(struct rnix_error) == 40);
     CHECK(sizeof(struct rnix_part) == 24);
+    CHECK(sizeof(struct rnix_string_part) == 32);
+    CHECK(sizeof(struct rnix_position) == 16);
+    CHECK(sizeof(struct rnix_diagnostic) == 32);
+    CHECK(sizeof(struct rnix_binding) == 48);
+    CHECK(sizeof(struct rnix_reference) == 40);
     CHECK(offsetof(struct rnix_element, kind) == 32);
     CHECK(offsetof(struct rnix_error, wanted) == 16);
 }
 
+static const char *const names[] = RNIX_KIND_NAMES;
+
 static void check_kinds(void) {
     uint8_t name[32];
+    CHECK(sizeof names / sizeof *names == RNIX_KINDS);
     for (uint32_t kind = 0; kind < RNIX_KINDS; kind++) {
         int64_t count = rnix_kind_name(kind, name, sizeof name);
         CHECK(count > 0 && rnix_kind_of_name(name, (size_t)count) == kind);
+        CHECK(strlen(names[kind]) == (size_t)count && memcmp(names[kind], name, (size_t)count) == 0);
     }
     CHECK(rnix_kind_name(RNIX_KINDS, name, sizeof name) == RNIX_NONE_SUCH);
     CHECK(rnix_kind_name(RNIX_NO_KIND, NULL, 0) == RNIX_NONE_SUCH);
@@ -73,6 +84,8 @@ static void check_other_rooms(void) {
     CHECK(rnix_errors(text, len, &error, 1) == 1 && rnix_errors(text, len, NULL, 0) == 1);
     CHECK(error.variant == RNIX_UNEXPECTED_WANTED && error.found == RNIX_TOKEN_SEMICOLON && error.start == 11 && error.end == 12);
     CHECK(RNIX_WANTS(&error, RNIX_TOKEN_IDENT) && !RNIX_WANTS(&error, RNIX_NODE_WITH));
+    const uint8_t wanted[] = {RNIX_TOKEN_L_PAREN, RNIX_TOKEN_REC, RNIX_TOKEN_L_BRACE, RNIX_TOKEN_L_BRACK, RNIX_TOKEN_STRING_START, RNIX_TOKEN_IDENT, RNIX_NOT_WANTED};
+    CHECK(memcmp(error.wanted, wanted, sizeof wanted) == 0);
     uint64_t errors = 0;
     CHECK(rnix_parse(text, len, NULL, 0, NULL, 0, &errors) == rnix_elements(text, len, NULL, 0) && errors == 1);
     uint8_t said[256] = {0}, start[256] = {0};
@@ -108,6 +121,81 @@ static void check_strings(void) {
     CHECK(rnix_string_parts(text, len, SIZE_MAX, parts, 3) == RNIX_NONE_SUCH);
 }
 
+/* The parts of all strings are those of each string, and their text is what the strings' texts are, joined. */
+static void check_all_strings(void) {
+    static const char two[] = "[ \"a\\n${\"b\"}c\" \"\" ''\n  d\n'' ]";
+    const uint8_t *const strings = (const uint8_t *)two;
+    const size_t strings_len = sizeof two - 1;
+    struct rnix_string_part parts[16], blank[16];
+    struct rnix_part own[16];
+    uint8_t joined[64] = {0}, own_text[64];
+    uint64_t joined_len = 0;
+    memset(parts, 0x5a, sizeof parts);
+    memset(blank, 0x5a, sizeof blank);
+    int64_t count = rnix_strings(strings, strings_len, parts, 16, joined, sizeof joined, &joined_len);
+    CHECK(count == 5 && joined_len == 6 && memcmp(joined, "a\ncbd\n", 7) == 0);
+    CHECK(memcmp(parts + count, blank + count, (16 - (size_t)count) * sizeof *parts) == 0);
+    for (int64_t at = 0, base = 0; at < count && count <= 16;) {
+        int64_t own_count = rnix_string_parts(strings, strings_len, parts[at].string, own, 16);
+        int64_t own_len = rnix_string_text(strings, strings_len, parts[at].string, own_text, sizeof own_text);
+        CHECK(own_count > 0 && memcmp(own_text, joined + base, (size_t)own_len) == 0);
+        for (int64_t index = 0; index < own_count; index++, at++) {
+            uint64_t from = own[index].is_interpolation ? 0 : (uint64_t)base;
+            CHECK(parts[at].start == own[index].start + from && parts[at].end == own[index].end + from);
+            CHECK(parts[at].is_interpolation == own[index].is_interpolation);
+        }
+        base += own_len;
+    }
+    struct rnix_string_part one = {0};
+    CHECK(rnix_strings(strings, strings_len, &one, 1, NULL, 0, &joined_len) == 5 && memcmp(&one, parts, sizeof one) == 0);
+}
+
+static void check_positions(void) {
+    static const char lines[] = "a\n\xc3\xa4\xf0\x9f\x98\x80 b";
+    const uint64_t offsets[] = {0, 1, 2, 3, 4, 8, 10, 11, UINT64_MAX};
+    const uint64_t columns[3][6] = {{0, 1, 0, 2, 6, 8}, {0, 1, 0, 1, 2, 4}, {0, 1, 0, 1, 3, 5}};
+    for (uint32_t unit = RNIX_BYTES; unit <= RNIX_UTF16; unit++) {
+        struct rnix_position at[9];
+        CHECK(rnix_positions((const uint8_t *)lines, 10, unit, offsets, 9, at, 9) == 9);
+        for (size_t number = 0, place = 0; number < 9; number++) {
+            int is_place = offsets[number] <= 10 && offsets[number] != 3;
+            CHECK(is_place ? at[number].line == (number > 1) && at[number].column == columns[unit][place] : at[number].line == RNIX_NO_NUMBER);
+            place += is_place ? 1 : 0;
+        }
+        CHECK(rnix_positions((const uint8_t *)lines, 10, unit, NULL, 0, NULL, 0) == 0);
+        CHECK(rnix_positions((const uint8_t *)lines, 10, unit, offsets, 9, NULL, 0) == 9);
+    }
+    CHECK(rnix_positions(text, len, 3, offsets, 9, NULL, 0) == RNIX_NONE_SUCH);
+    CHECK(rnix_positions(text, len, UINT32_MAX, NULL, 0, NULL, 0) == RNIX_NONE_SUCH);
+}
+
+static void check_diagnostics(void) {
+    static const char wrong[] = "{ a = 1 }";
+    struct rnix_diagnostic found[4];
+    uint8_t said[256];
+    uint64_t said_len = 0;
+    int64_t count = rnix_diagnostics((const uint8_t *)wrong, sizeof wrong - 1, found, 4, said, sizeof said, &said_len);
+    static const char message[] = "expected \";\" after the value of \"a\", found \"}\"";
+    CHECK(count >= 1 && found[0].start == 8 && found[0].end == 9);
+    CHECK(found[0].message_start == 0 && found[0].message_end == sizeof message - 1 && memcmp(said, message, sizeof message - 1) == 0);
+    CHECK(rnix_diagnostics((const uint8_t *)"a", 1, NULL, 0, NULL, 0, &said_len) == 0 && said_len == 0);
+}
+
+static void check_names(void) {
+    static const char let[] = "let a = 1; in with b; { inherit a; c = d; \"e\" = x: x; }";
+    struct rnix_binding bindings[4];
+    struct rnix_reference references[8];
+    uint64_t reference_count = 0;
+    CHECK(rnix_names((const uint8_t *)let, sizeof let - 1, bindings, 4, references, 8, &reference_count) == 2 && reference_count == 4);
+    CHECK(bindings[0].start == 4 && bindings[0].end == 5 && bindings[0].scope_start == 0 && bindings[0].scope_end == sizeof let - 1);
+    CHECK(bindings[0].kind == RNIX_NODE_IDENT && bindings[0].scope_kind == RNIX_NODE_LET_IN && bindings[0].first == 0);
+    CHECK(bindings[1].scope_kind == RNIX_NODE_LAMBDA && bindings[1].first == 1);
+    CHECK(references[0].binding == RNIX_NO_NUMBER && !references[0].is_open && !references[0].is_inherited);
+    CHECK(references[1].binding == 0 && references[1].is_inherited == 1 && references[1].is_open == 0);
+    CHECK(references[2].binding == RNIX_NO_NUMBER && references[2].is_open == 1);
+    CHECK(references[3].binding == 1 && references[3].kind == RNIX_NODE_IDENT);
+}
+
 static void check_refusals(void) {
     const uint8_t bytes[] = {'a', ' ', 0xff};
     uint64_t errors = 7;
@@ -119,7 +207,30 @@ static void check_refusals(void) {
     CHECK(rnix_error_texts(bytes, sizeof bytes, NULL, 0) == RNIX_NOT_UTF8);
     CHECK(rnix_string_text(bytes, sizeof bytes, 0, NULL, 0) == RNIX_NOT_UTF8);
     CHECK(rnix_string_parts(bytes, sizeof bytes, 0, NULL, 0) == RNIX_NOT_UTF8);
+    CHECK(rnix_strings(bytes, sizeof bytes, NULL, 0, NULL, 0, &errors) == RNIX_NOT_UTF8 && errors == 7);
+    CHECK(rnix_diagnostics(bytes, sizeof bytes, NULL, 0, NULL, 0, &errors) == RNIX_NOT_UTF8 && errors == 7);
+    CHECK(rnix_names(bytes, sizeof bytes, NULL, 0, NULL, 0, &errors) == RNIX_NOT_UTF8 && errors == 7);
+    CHECK(rnix_positions(bytes, sizeof bytes, 0, NULL, 0, NULL, 0) == RNIX_NOT_UTF8);
+    CHECK(rnix_positions(bytes, sizeof bytes, 9, NULL, 0, NULL, 0) == RNIX_NOT_UTF8);
     CHECK(rnix_kind_of_name(bytes, sizeof bytes) == RNIX_NONE_SUCH);
+    for (int64_t answer = RNIX_TOO_LONG; answer < 1; answer++) {
+        CHECK(strlen(RNIX_REFUSAL_TEXT(answer)) > 5);
+    }
+}
+
+/* A text of 2^32 bytes is refused. */
+static void check_too_long(void) {
+    size_t long_len = (size_t)1 << 32;
+    uint8_t *long_text = mmap(NULL, long_len, PROT_READ, MAP_PRIVATE | MAP_ANONYMOUS | MAP_NORESERVE, -1, 0);
+    CHECK(long_text != MAP_FAILED);
+    if (long_text == MAP_FAILED) {
+        return;
+    }
+    struct rnix_element element;
+    uint64_t errors = 7;
+    CHECK(rnix_parse(long_text, long_len, &element, 1, NULL, 0, &errors) == RNIX_TOO_LONG && errors == 7);
+    CHECK(rnix_strings(long_text, long_len, NULL, 0, NULL, 0, &errors) == RNIX_TOO_LONG && errors == 7);
+    munmap(long_text, long_len);
 }
 
 /* How many more blocks are given out; below 0 there is no limit. */
@@ -145,26 +256,64 @@ void *__wrap_realloc(void *block, size_t size) {
     return is_refused() ? NULL : __real_realloc(block, size);
 }
 
-/* Each block that a call asks for is refused in turn, until a call is not refused. What was given is as it was, but for some tokens. */
-static void check_memory(void) {
-    struct rnix_element elements[64], blank[64];
-    int64_t answer = RNIX_NO_MEMORY;
-    memset(blank, 0, sizeof blank);
-    for (long given = 1; answer == RNIX_NO_MEMORY; given++) {
-        uint64_t errors = 7;
-        memset(elements, 0, sizeof elements);
-        blocks = given;
-        answer = rnix_parse(text, len, elements, 64, NULL, 0, &errors);
-        blocks = -1;
-        CHECK(answer == RNIX_NO_MEMORY ? errors == 7 && memcmp(elements, blank, sizeof blank) == 0 : errors == 1 && given > 5);
+/* What calls write into, in one block, so that it can be compared with what it was. */
+static struct rooms {
+    struct rnix_token tokens[64];
+    struct rnix_element elements[64];
+    struct rnix_error errors[4];
+    struct rnix_part parts[8];
+    struct rnix_string_part string_parts[8];
+    struct rnix_position positions[2];
+    struct rnix_diagnostic diagnostics[4];
+    struct rnix_binding bindings[4];
+    struct rnix_reference references[4];
+    uint8_t bytes[512];
+    uint64_t count;
+} rooms, untouched;
+
+enum { CALLS = 10 };
+
+/* A call of each function that allocates; its arrays are those of `rooms`. */
+static int64_t call(int number, size_t string) {
+    const uint64_t offsets[2] = {0, 1};
+    switch (number) {
+    case 0: return rnix_parse(text, len, rooms.elements, 64, rooms.errors, 4, &rooms.count);
+    case 1: return rnix_elements(text, len, rooms.elements, 64);
+    case 2: return rnix_errors(text, len, rooms.errors, 4);
+    case 3: return rnix_error_text(text, len, 0, rooms.bytes, sizeof rooms.bytes);
+    case 4: return rnix_error_texts(text, len, rooms.bytes, sizeof rooms.bytes);
+    case 5: return rnix_string_text(text, len, string, rooms.bytes, sizeof rooms.bytes);
+    case 6: return rnix_string_parts(text, len, string, rooms.parts, 8);
+    case 7: return rnix_strings(text, len, rooms.string_parts, 8, rooms.bytes, sizeof rooms.bytes, &rooms.count);
+    case 8: return rnix_diagnostics(text, len, rooms.diagnostics, 4, rooms.bytes, sizeof rooms.bytes, &rooms.count);
+    case 9: return rnix_names(text, len, rooms.bindings, 4, rooms.references, 4, &rooms.count);
+    default: return rnix_positions(text, len, RNIX_UTF16, offsets, 2, rooms.positions, 2);
     }
-    CHECK(answer > 10);
-    blocks = 1;
-    CHECK(rnix_tokens(text, len, NULL, 0) == RNIX_NO_MEMORY);
-    blocks = 1;
-    CHECK(rnix_error_texts(text, len, NULL, 0) == RNIX_NO_MEMORY);
-    blocks = 1;
-    CHECK(rnix_string_text(text, len, 0, NULL, 0) == RNIX_NO_MEMORY);
+}
+
+/* Refuses each block that a call asks for in turn, until none is refused. A refused call leaves all as it was, but for some tokens. */
+static void check_memory(void) {
+    size_t string = first_of(RNIX_NODE_STRING);
+    memset(&untouched, 0x5a, sizeof untouched);
+    for (int number = 0; number <= CALLS; number++) {
+        int64_t answer = RNIX_NO_MEMORY;
+        long given = 1;
+        for (; answer == RNIX_NO_MEMORY; given++) {
+            memcpy(&rooms, &untouched, sizeof rooms);
+            blocks = given;
+            answer = call(number, string);
+            blocks = -1;
+            CHECK((answer == RNIX_NO_MEMORY) == (memcmp(&rooms, &untouched, sizeof rooms) == 0));
+        }
+        CHECK(answer >= 0 && given > (number < CALLS ? 5 : 2));
+    }
+    int64_t answer = RNIX_NO_MEMORY;
+    for (long given = 1; answer == RNIX_NO_MEMORY; given++) {
+        blocks = given;
+        answer = rnix_tokens(text, len, rooms.tokens, 64);
+        blocks = -1;
+    }
+    CHECK(answer > 5);
     blocks = 1;
     CHECK(rnix_kind_name(0, NULL, 0) > 0 && rnix_kind_of_name(NULL, 0) == RNIX_NONE_SUCH);
     blocks = -1;
@@ -175,6 +324,15 @@ static void check_empty(void) {
     CHECK(rnix_tokens(NULL, 0, NULL, 0) == 0);
     CHECK(rnix_elements(NULL, 0, &root, 1) == 1 && root.kind == RNIX_NODE_ROOT && root.end == 0 && root.inside == 0);
     CHECK(rnix_errors(NULL, 0, NULL, 0) == 1);
+    uint64_t count = 7;
+    CHECK(rnix_parse(NULL, 0, NULL, 0, NULL, 0, &count) == 1 && count == 1);
+    CHECK(rnix_error_text(NULL, 0, 0, NULL, 0) > 0 && rnix_error_texts(NULL, 0, NULL, 0) > 0);
+    CHECK(rnix_error_text(NULL, 0, SIZE_MAX, NULL, 0) == RNIX_NONE_SUCH);
+    CHECK(rnix_string_text(NULL, 0, 0, NULL, 0) == RNIX_NONE_SUCH && rnix_string_parts(NULL, 0, SIZE_MAX, NULL, 0) == RNIX_NONE_SUCH);
+    CHECK(rnix_strings(NULL, 0, NULL, 0, NULL, 0, &count) == 0 && count == 0);
+    CHECK(rnix_diagnostics(NULL, 0, NULL, 0, NULL, 0, &count) == 1 && count > 0);
+    CHECK(rnix_names(NULL, 0, NULL, 0, NULL, 0, &count) == 0 && count == 0);
+    CHECK(rnix_positions(NULL, 0, RNIX_BYTES, NULL, 0, NULL, 0) == 0);
 }
 
 static void check_deep(void) {
@@ -212,13 +370,21 @@ static void check_threads(void) {
     }
 }
 
-int main(void) {
+int main(int argc, char **argv) {
+    (void)argv;
     check_structs();
     check_kinds();
     check_rooms_of_elements();
     check_other_rooms();
     check_strings();
+    check_all_strings();
+    check_positions();
+    check_diagnostics();
+    check_names();
     check_refusals();
+    if (argc < 2) {
+        check_too_long();
+    }
     check_memory();
     check_empty();
     check_deep();

@@ -16,25 +16,33 @@ from rnix import ast
 from rnix.edits import EditError, Edits
 from rnix.errors import ParseError
 from rnix.library import KINDS, Refused
+from rnix.messages import Diagnostic, diagnostics
+from rnix.scopes import Binding, Reference, Resolution, resolve
 from rnix.strings import parts, path_parts, value
 from rnix.tokenizer import Lexeme, tokenize
 from rnix.tree import Element, Node, Token, Tree, parse
 
 __all__ = [
     "KINDS",
+    "Binding",
+    "Diagnostic",
     "EditError",
     "Edits",
     "Element",
     "Lexeme",
     "Node",
     "ParseError",
+    "Reference",
     "Refused",
+    "Resolution",
     "Token",
     "Tree",
     "ast",
+    "diagnostics",
     "parse",
     "parts",
     "path_parts",
+    "resolve",
     "tokenize",
     "value",
 ]

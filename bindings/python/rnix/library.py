@@ -8,10 +8,12 @@ import os
 import pathlib
 from typing import Any, Callable
 
-VERSION = 1
-NOT_UTF8, NO_MEMORY, NONE_SUCH = -1, -2, -3
+VERSION = 2
+NOT_UTF8, NO_MEMORY, NONE_SUCH, TOO_LONG = -1, -2, -3, -4
 NO_NUMBER = 2**64 - 1
 NO_KIND = 2**32 - 1
+NOT_WANTED = 255
+CHARS = 1
 
 
 class Token(ctypes.Structure):
@@ -39,7 +41,7 @@ class Fault(ctypes.Structure):
     _fields_ = [
         ("start", ctypes.c_uint64),
         ("end", ctypes.c_uint64),
-        ("wanted", ctypes.c_uint64 * 2),
+        ("wanted", ctypes.c_uint8 * 16),
         ("variant", ctypes.c_uint32),
         ("found", ctypes.c_uint32),
     ]
@@ -51,8 +53,63 @@ class Part(ctypes.Structure):
     _fields_ = [("start", ctypes.c_uint64), ("end", ctypes.c_uint64), ("is_interpolation", ctypes.c_uint32)]
 
 
+class StringPart(ctypes.Structure):
+    """struct rnix_string_part."""
+
+    _fields_ = [
+        ("string", ctypes.c_uint64),
+        ("start", ctypes.c_uint64),
+        ("end", ctypes.c_uint64),
+        ("is_interpolation", ctypes.c_uint32),
+    ]
+
+
+class Position(ctypes.Structure):
+    """struct rnix_position."""
+
+    _fields_ = [("line", ctypes.c_uint64), ("column", ctypes.c_uint64)]
+
+
+class Diagnostic(ctypes.Structure):
+    """struct rnix_diagnostic."""
+
+    _fields_ = [
+        ("start", ctypes.c_uint64),
+        ("end", ctypes.c_uint64),
+        ("message_start", ctypes.c_uint64),
+        ("message_end", ctypes.c_uint64),
+    ]
+
+
+class Binding(ctypes.Structure):
+    """struct rnix_binding."""
+
+    _fields_ = [
+        ("start", ctypes.c_uint64),
+        ("end", ctypes.c_uint64),
+        ("scope_start", ctypes.c_uint64),
+        ("scope_end", ctypes.c_uint64),
+        ("first", ctypes.c_uint64),
+        ("kind", ctypes.c_uint32),
+        ("scope_kind", ctypes.c_uint32),
+    ]
+
+
+class Reference(ctypes.Structure):
+    """struct rnix_reference."""
+
+    _fields_ = [
+        ("start", ctypes.c_uint64),
+        ("end", ctypes.c_uint64),
+        ("binding", ctypes.c_uint64),
+        ("kind", ctypes.c_uint32),
+        ("is_inherited", ctypes.c_uint32),
+        ("is_open", ctypes.c_uint32),
+    ]
+
+
 class Refused(Exception):
-    """A refused call: the text is not UTF-8."""
+    """A refused call: the text is not UTF-8, or it has 2^32 bytes or more."""
 
 
 def _path() -> str:
@@ -85,6 +142,10 @@ _ARGUMENTS = {
     "rnix_error_texts": _text(*_array(ctypes.c_char)),
     "rnix_kind_name": [ctypes.c_uint32, *_array(ctypes.c_char)],
     "rnix_kind_of_name": _text(),
+    "rnix_diagnostics": _text(*_array(Diagnostic), *_array(ctypes.c_char), ctypes.POINTER(ctypes.c_uint64)),
+    "rnix_names": _text(*_array(Binding), *_array(Reference), ctypes.POINTER(ctypes.c_uint64)),
+    "rnix_positions": _text(ctypes.c_uint32, ctypes.POINTER(ctypes.c_uint64), ctypes.c_size_t, *_array(Position)),
+    "rnix_strings": _text(*_array(StringPart), *_array(ctypes.c_char), ctypes.POINTER(ctypes.c_uint64)),
     "rnix_string_text": _text(ctypes.c_size_t, *_array(ctypes.c_char)),
     "rnix_string_parts": _text(ctypes.c_size_t, *_array(Part)),
 }
@@ -112,9 +173,11 @@ def count_of(result: int) -> int:
     if result == NOT_UTF8:
         raise Refused("the text is not UTF-8")
     if result == NO_MEMORY:
-        raise MemoryError("out of memory, or the text is too long")
+        raise MemoryError("out of memory")
+    if result == TOO_LONG:
+        raise Refused("the text has 2^32 bytes or more")
     if result == NONE_SUCH:
-        raise LookupError("no element of the text has this number")
+        raise LookupError("there is no such item")
     return result
 
 
@@ -135,6 +198,21 @@ def listed(kind: Any, call: Callable[[Any, int], Any], guess: int = 0) -> tuple[
         room = _room(kind, count)
         count_of(call(room, count))
     return room, count
+
+
+def listed_twice(first: Any, second: Any, call: Callable[[Any, int, Any, int, Any], Any], guesses: tuple[int, int]) -> tuple[Any, int, Any, int]:
+    """Returns the two lists that a call writes, each as an array and the number of its elements in use.
+
+    The call takes both arrays, each with its capacity, and where to write the length of the second list. `guesses` are the initial capacities; if
+    one is too small, the call is repeated with enough.
+    """
+    other_len = ctypes.c_uint64(0)
+    while True:
+        room, other = _room(first, guesses[0]), _room(second, guesses[1])
+        count = count_of(call(room, guesses[0], other, guesses[1], ctypes.byref(other_len)))
+        if count <= guesses[0] and other_len.value <= guesses[1]:
+            return room, count, other, other_len.value
+        guesses = count, other_len.value
 
 
 def _kind_names() -> tuple[str, ...]:

@@ -2,6 +2,7 @@
 
 from __future__ import annotations
 
+import bisect
 import ctypes
 from typing import TYPE_CHECKING, Any, Generic, Iterator, TypeVar, overload
 
@@ -21,25 +22,34 @@ _LONGS = 5
 _WORDS = 2 * _LONGS
 _KIND = _WORDS - 2
 
+# Initial capacity for the errors.
+_ERRORS = 16
+
+# The layout of struct rnix_string_part: string, start and end have 64 bits, is_interpolation 32.
+_PART_LONGS = 4
+
 
 class Tree:
     """The tree of a text, and its errors. It is immutable, so threads may share it."""
 
-    __slots__ = ("_kinds", "_starts", "_ends", "_parents", "_insides", "errors", "source")
+    __slots__ = ("_ends", "_insides", "_kinds", "_line_starts", "_parents", "_parts", "_starts", "errors", "source")
 
     def __init__(self, source: bytes) -> None:
         count = ctypes.c_uint64(0)
+        faults = (library.Fault * _ERRORS)()
         room, length = library.listed(
             library.Element,
-            lambda room, room_len: LIBRARY.rnix_parse(source, len(source), room, room_len, None, 0, ctypes.byref(count)),
-            guess=len(source) + 8,
+            lambda room, room_len: LIBRARY.rnix_parse(source, len(source), room, room_len, faults, _ERRORS, ctypes.byref(count)),
+            guess=2 * len(source) + 8,
         )
         whole = memoryview(room).cast("B")[: ctypes.sizeof(library.Element) * length]
         longs = whole.cast("Q")
         self._starts, self._ends, self._parents, self._insides = (longs[column::_LONGS] for column in range(_LONGS - 1))
         self._kinds = whole.cast("I")[_KIND::_WORDS]
         self.source = source
-        self.errors: list[ParseError] = errors_of(source, count.value) if count.value else []
+        self.errors: list[ParseError] = errors_of(source, faults, count.value) if count.value else []
+        self._line_starts: list[int] | None = None
+        self._parts: dict[int, list[str | None]] | None = None
 
     @property
     def text(self) -> str:
@@ -57,9 +67,41 @@ class Tree:
 
     def position(self, offset: int) -> tuple[int, int]:
         """Returns the line and column of a byte offset, both counted from 1. Columns count characters."""
-        before = self.source[:offset]
-        line_start = before.rfind(b"\n") + 1
-        return before.count(b"\n") + 1, len(before[line_start:].decode(errors="ignore")) + 1
+        if self._line_starts is None:
+            starts = [0]
+            while (feed := self.source.find(b"\n", starts[-1])) >= 0:
+                starts.append(feed + 1)
+            self._line_starts = starts
+        line = bisect.bisect_right(self._line_starts, offset)
+        return line, len(self.source[self._line_starts[line - 1] : offset].decode(errors="ignore")) + 1
+
+    def _string_parts(self) -> dict[int, list[str | None]]:
+        """The parts of all strings that have some, by the numbers of the strings. None stands for an interpolation."""
+        if self._parts is None:
+            source = self.source
+            room, count, text, text_len = library.listed_twice(
+                library.StringPart,
+                ctypes.c_char,
+                lambda *rooms: LIBRARY.rnix_strings(source, len(source), *rooms),
+                (len(source) // 2 + 8, len(source) + 8),
+            )
+            longs = memoryview(room).cast("B")[: 8 * _PART_LONGS * count].cast("Q")
+            columns = (longs[column::_PART_LONGS].tolist() for column in range(_PART_LONGS))
+            joined = memoryview(text).cast("B")[:text_len].tobytes()
+            parts: dict[int, list[str | None]] = {}
+            for string, start, end, is_interpolation in zip(*columns):
+                parts.setdefault(string, []).append(None if is_interpolation & 1 else joined[start:end].decode())
+            self._parts = parts
+        return self._parts
+
+    def _node_at(self, kind: int, start: int, end: int) -> Node:
+        """Returns the node of a kind and a range."""
+        number = bisect.bisect_left(self._starts, start)
+        while self._kinds[number] != kind or self._ends[number] != end:
+            number += 1
+        node = self._at(number)
+        assert isinstance(node, Node) and node.start == start
+        return node
 
     def token_at(self, offset: int) -> Token | None:
         """Returns the token that contains the byte at an offset, or None if the text has no such byte."""

@@ -93,12 +93,13 @@ class Trees(unittest.TestCase):
         (error,) = rnix.parse("a (b").errors
         self.assertEqual(str(error), "unexpected end of file, wanted any of [TOKEN_R_PAREN]")
         self.assertEqual((error.variant, error.range, error.found), ("UnexpectedEOFWanted", None, None))
-        self.assertEqual(error.wanted, {"TOKEN_R_PAREN"})
+        self.assertEqual(error.wanted, ("TOKEN_R_PAREN",))
         (error,) = rnix.parse("{ a, a }: a").errors
         self.assertEqual((error.variant, error.range), ("DuplicatedArgs", (5, 6)))
         error = rnix.parse("()").errors[0]
         self.assertEqual((error.found, error.range), ("TOKEN_R_PAREN", (1, 2)))
-        self.assertIn("TOKEN_IDENT", error.wanted)
+        wanted = "TOKEN_L_PAREN TOKEN_REC TOKEN_L_BRACE TOKEN_L_BRACK TOKEN_STRING_START TOKEN_IDENT"
+        self.assertEqual(error.wanted, tuple(wanted.split()))
 
     def test_each_error_has_its_text(self):
         text = b"{ a = ; b : } )"
@@ -153,6 +154,58 @@ class Trees(unittest.TestCase):
             self.assertEqual(run.returncode, status)
 
 
+class Batches(unittest.TestCase):
+    """Calls that return what a whole text has."""
+
+    def test_all_strings_have_the_parts_that_each_has(self):
+        room, parts = ctypes.create_string_buffer(4096), (library.Part * 256)()
+        for text, _ in list(stored("trees"))[::23]:
+            tree = rnix.parse(text)
+            for string in tree.root.find(ast.Str):
+                text_len = library.LIBRARY.rnix_string_text(text, len(text), string._number, room, len(room))
+                count = library.LIBRARY.rnix_string_parts(text, len(text), string._number, parts, len(parts))
+                wanted = [room.raw[part.start : part.end].decode() for part in parts[:count] if not part.is_interpolation]
+                found = rnix.parts(string)
+                self.assertEqual([part for part in found if isinstance(part, str)], wanted, text)
+                self.assertEqual("".join(wanted).encode(), room.raw[:text_len])
+                inner = [(part.start, part.end) for part in parts[:count] if part.is_interpolation]
+                self.assertEqual([part.range for part in found if not isinstance(part, str)], inner)
+
+    def test_positions_are_those_of_the_library(self):
+        for text in ("", "a", "a\nä😀 b\r\n", "\n\n"):
+            data = text.encode()
+            tree = rnix.parse(data)
+            offsets = [len(text[:count].encode()) for count in range(len(text) + 1)]
+            at = (library.Position * len(offsets))()
+            given = (ctypes.c_uint64 * len(offsets))(*offsets)
+            count = library.LIBRARY.rnix_positions(data, len(data), library.CHARS, given, len(offsets), at, len(offsets))
+            self.assertEqual(count, len(offsets))
+            self.assertEqual([tree.position(offset) for offset in offsets], [(one.line + 1, one.column + 1) for one in at])
+
+    def test_diagnostics_say_what_is_wrong(self):
+        (found, *_) = rnix.diagnostics(rnix.parse('# ä\n{ a = 1 }'))
+        self.assertEqual(found.message, 'expected ";" after the value of "a", found "}"')
+        self.assertEqual(found.range, (13, 14))
+        self.assertEqual(rnix.diagnostics(rnix.parse("a")), [])
+        for text, _ in list(stored("trees"))[::41]:
+            tree = rnix.parse(text)
+            self.assertEqual(bool(rnix.diagnostics(tree)), bool(tree.errors))
+
+    def test_names_have_their_bindings(self):
+        tree = rnix.parse('let a = 1; "b" = a; in with c; { d }: [ a d e ({ inherit b; }) ]')
+        names = rnix.resolve(tree)
+        self.assertEqual([str(binding.name) for binding in names.bindings], ["a", '"b"', "d"])
+        self.assertEqual([type(binding.scope) for binding in names.bindings], [ast.LetIn, ast.LetIn, ast.Lambda])
+        self.assertEqual([binding.first for binding in names.bindings], [0, 1, 2])
+        wanted = [("a", 0, False), ("c", None, False), ("a", 0, False), ("d", 2, False), ("e", None, True), ("b", 1, False)]
+        self.assertEqual([(str(one.name), one.binding, one.is_open) for one in names.references], wanted)
+        self.assertEqual([one.is_inherited for one in names.references], [False] * 5 + [True])
+        self.assertEqual([one.name.start for one in names.uses(0)], [17, 40])
+        for text, _ in list(stored("trees"))[::41]:
+            names = rnix.resolve(rnix.parse(text))
+            self.assertTrue(all(one.binding is None or one.binding < len(names.bindings) for one in names.references))
+
+
 class Edits(unittest.TestCase):
     def test_a_value_is_replaced_and_all_else_stays(self):
         text = '{ # ä\n  version = "1.0"; }'
@@ -204,13 +257,25 @@ class Header(unittest.TestCase):
     def test_variants_and_refusals_have_their_numbers(self):
         named = [(name.replace("_", "").lower(), number) for name, number in self.numbers("rnix_error_variant")]
         self.assertEqual(named, [(name.lower(), number) for number, name in enumerate(errors.VARIANTS)])
-        refusals = [("NOT_UTF8", library.NOT_UTF8), ("NO_MEMORY", library.NO_MEMORY), ("NONE_SUCH", library.NONE_SUCH)]
+        refusals = [(name, getattr(library, name)) for name in ("NOT_UTF8", "NO_MEMORY", "NONE_SUCH", "TOO_LONG")]
         self.assertEqual(self.numbers("rnix_refusal"), refusals)
+        self.assertIn(("CHARS", library.CHARS), self.numbers("rnix_unit"))
+        self.assertIn(f"#define RNIX_NOT_WANTED {library.NOT_WANTED}", self.source)
 
     def test_structs_have_their_sizes(self):
         said = re.findall(r": (\d+) bytes[^*]*\*/\s*struct (rnix_\w+) {|: (\d+) bytes\..*?\*/\s*struct (rnix_\w+) {", self.source, re.S)
         sizes = {name or other: int(size or number) for size, name, number, other in said}
-        types = {"rnix_token": library.Token, "rnix_element": library.Element, "rnix_error": library.Fault, "rnix_part": library.Part}
+        types = {
+            "rnix_token": library.Token,
+            "rnix_element": library.Element,
+            "rnix_error": library.Fault,
+            "rnix_part": library.Part,
+            "rnix_string_part": library.StringPart,
+            "rnix_position": library.Position,
+            "rnix_diagnostic": library.Diagnostic,
+            "rnix_binding": library.Binding,
+            "rnix_reference": library.Reference,
+        }
         self.assertEqual(sizes, {name: ctypes.sizeof(kind) for name, kind in types.items()})
 
 

@@ -1,7 +1,6 @@
 //! Parse errors, and refusals.
 
-use crate::SyntaxKind::{self, *};
-use crate::{ffi, TextRange, TextSize};
+use crate::{ffi, SyntaxKind, TextRange, TextSize};
 use std::fmt;
 
 /// Why a text was not parsed.
@@ -10,15 +9,18 @@ use std::fmt;
 pub enum Refused {
     /// The text is not UTF-8.
     NotUtf8,
-    /// Memory ran out, or the text has 2^32 bytes or more.
+    /// Memory ran out, or the tree has 2^32 elements or more.
     NoMemory,
+    /// The text has 2^32 bytes or more.
+    TooLong,
 }
 
 impl fmt::Display for Refused {
     fn fmt(&self, f: &mut fmt::Formatter<'_>) -> fmt::Result {
         f.write_str(match self {
             Refused::NotUtf8 => "the text is not UTF-8",
-            Refused::NoMemory => "out of memory, or the text is too long",
+            Refused::NoMemory => "out of memory",
+            Refused::TooLong => "the text has 2^32 bytes or more",
         })
     }
 }
@@ -66,43 +68,10 @@ impl fmt::Display for ParseError {
 
 impl std::error::Error for ParseError {}
 
-// The lists of several expected kinds in the order in which rnix lists them; the library returns sets.
-const LISTS: [&[SyntaxKind]; 4] = [
-    &[
-        TOKEN_L_PAREN,
-        TOKEN_REC,
-        TOKEN_L_BRACE,
-        TOKEN_L_BRACK,
-        TOKEN_STRING_START,
-        TOKEN_IDENT,
-    ],
-    &[TOKEN_STRING_END, TOKEN_STRING_CONTENT, TOKEN_INTERPOL_START],
-    &[TOKEN_IDENT, TOKEN_OR, TOKEN_CUR_POS],
-    &[TOKEN_R_BRACE, TOKEN_ELLIPSIS, TOKEN_IDENT],
-];
-
-fn is_in(set: &[u64; 2], kind: SyntaxKind) -> bool {
-    let number = kind as usize;
-    set[number / 64] >> (number % 64) & 1 == 1
-}
-
-// The kinds of a set that the library returned.
-fn kinds_of(set: &[u64; 2]) -> Box<[SyntaxKind]> {
-    let kinds: Vec<SyntaxKind> = SyntaxKind::ALL
-        .iter()
-        .copied()
-        .filter(|kind| is_in(set, *kind))
-        .collect();
-    let is_set = |list: &&&[SyntaxKind]| list.len() == kinds.len() && list.iter().all(|kind| is_in(set, *kind));
-    LISTS
-        .iter()
-        .find(is_set)
-        .map_or(kinds.clone().into(), |list| (*list).into())
-}
-
 // The error that the library encoded as numbers.
 fn error_of(text: &str, fault: &ffi::Fault) -> ParseError {
-    let wanted = kinds_of(&fault.wanted);
+    let numbers = fault.wanted.iter().filter(|number| **number != ffi::NOT_WANTED);
+    let wanted = numbers.map(|number| SyntaxKind::at(u32::from(*number))).collect();
     let offset = |offset: u64| TextSize::try_from(offset as usize).unwrap_or_default();
     let range = || TextRange::new(offset(fault.start), offset(fault.end));
     match fault.variant {
@@ -117,13 +86,7 @@ fn error_of(text: &str, fault: &ffi::Fault) -> ParseError {
     }
 }
 
-/// Returns the errors of a text that has `count` of them.
-pub(crate) fn errors_of(text: &str, count: usize) -> Result<Vec<ParseError>, Refused> {
-    // SAFETY: the call fills its array as `listed` requires.
-    let faults = unsafe {
-        ffi::listed(count, |room, len| {
-            ffi::rnix_errors(text.as_ptr(), text.len(), room, len)
-        })
-    }?;
-    Ok(faults.iter().map(|fault| error_of(text, fault)).collect())
+/// Returns the errors of a text that the library encoded.
+pub(crate) fn errors_of(text: &str, faults: &[ffi::Fault]) -> Vec<ParseError> {
+    faults.iter().map(|fault| error_of(text, fault)).collect()
 }

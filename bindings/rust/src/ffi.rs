@@ -1,17 +1,24 @@
 //! The functions that `bindings/rnix.h` declares, and a wrapper for those that fill an array.
 
 use crate::error::Refused;
-use std::mem::MaybeUninit;
+use std::cell::Cell;
 
 /// The version of the interface that this file declares.
-pub const VERSION: u32 = 1;
+pub const VERSION: u32 = 2;
 
 /// Negative results: why a call was refused.
 pub const NOT_UTF8: i64 = -1;
 pub const NO_MEMORY: i64 = -2;
+pub const TOO_LONG: i64 = -4;
 
 /// The value of an offset or number that is absent.
 pub const NO_NUMBER: u64 = u64::MAX;
+
+/// How many kinds an error can want.
+pub const WANTED_ROOM: usize = 16;
+
+/// A place of a list of wanted kinds that no kind has.
+pub const NOT_WANTED: u8 = u8::MAX;
 
 /// A token: 24 bytes.
 #[repr(C)]
@@ -40,18 +47,54 @@ pub struct Element {
 pub struct Fault {
     pub start: u64,
     pub end: u64,
-    pub wanted: [u64; 2],
+    pub wanted: [u8; WANTED_ROOM],
     pub variant: u32,
     pub found: u32,
 }
 
-/// A part of a string: 24 bytes.
+/// A part of one of the strings of a text: 32 bytes.
 #[repr(C)]
 #[derive(Clone, Copy, Debug)]
-pub struct Part {
+pub struct StringPart {
+    pub string: u64,
     pub start: u64,
     pub end: u64,
     pub is_interpolation: u32,
+}
+
+/// A diagnostic: 32 bytes.
+#[repr(C)]
+#[derive(Clone, Copy, Debug)]
+pub struct Diagnostic {
+    pub start: u64,
+    pub end: u64,
+    pub message_start: u64,
+    pub message_end: u64,
+}
+
+/// A binding: 48 bytes.
+#[repr(C)]
+#[derive(Clone, Copy, Debug)]
+pub struct Binding {
+    pub start: u64,
+    pub end: u64,
+    pub scope_start: u64,
+    pub scope_end: u64,
+    pub first: u64,
+    pub kind: u32,
+    pub scope_kind: u32,
+}
+
+/// A reference: 40 bytes.
+#[repr(C)]
+#[derive(Clone, Copy, Debug)]
+pub struct Reference {
+    pub start: u64,
+    pub end: u64,
+    pub binding: u64,
+    pub kind: u32,
+    pub is_inherited: u32,
+    pub is_open: u32,
 }
 
 extern "C" {
@@ -66,9 +109,33 @@ extern "C" {
         error_room: usize,
         error_count: *mut u64,
     ) -> i64;
-    pub fn rnix_errors(text: *const u8, len: usize, errors: *mut Fault, room: usize) -> i64;
-    pub fn rnix_string_text(text: *const u8, len: usize, element: usize, buffer: *mut u8, room: usize) -> i64;
-    pub fn rnix_string_parts(text: *const u8, len: usize, element: usize, parts: *mut Part, room: usize) -> i64;
+    pub fn rnix_strings(
+        text: *const u8,
+        len: usize,
+        parts: *mut StringPart,
+        room: usize,
+        buffer: *mut u8,
+        buffer_room: usize,
+        buffer_len: *mut u64,
+    ) -> i64;
+    pub fn rnix_diagnostics(
+        text: *const u8,
+        len: usize,
+        diagnostics: *mut Diagnostic,
+        room: usize,
+        buffer: *mut u8,
+        buffer_room: usize,
+        buffer_len: *mut u64,
+    ) -> i64;
+    pub fn rnix_names(
+        text: *const u8,
+        len: usize,
+        bindings: *mut Binding,
+        binding_room: usize,
+        references: *mut Reference,
+        reference_room: usize,
+        reference_count: *mut u64,
+    ) -> i64;
 }
 
 /// Returns the count that a call returned, or why it was refused.
@@ -76,6 +143,7 @@ pub fn count_of(result: i64) -> Result<usize, Refused> {
     match result {
         NOT_UTF8 => Err(Refused::NotUtf8),
         NO_MEMORY => Err(Refused::NoMemory),
+        TOO_LONG => Err(Refused::TooLong),
         _ => Ok(usize::try_from(result).expect("the caller names an element that exists")),
     }
 }
@@ -86,17 +154,47 @@ pub fn count_of(result: i64) -> Result<usize, Refused> {
 /// The call must return the length of the list, and write as much of it to the start of its array as there is room for.
 pub unsafe fn listed<T: Copy>(guess: usize, call: impl Fn(*mut T, usize) -> i64) -> Result<Vec<T>, Refused> {
     let mut list: Vec<T> = Vec::new();
-    let mut capacity = guess;
+    // If there is no memory for the guess, the first call only counts.
+    let _ = list.try_reserve_exact(guess);
     loop {
-        list.try_reserve_exact(capacity).map_err(|_| Refused::NoMemory)?;
-        let room: &mut [MaybeUninit<T>] = list.spare_capacity_mut();
+        let room = list.spare_capacity_mut();
         let count = count_of(call(room.as_mut_ptr().cast(), room.len()))?;
         if count <= room.len() {
             // SAFETY: the call has initialized the first `count` elements.
             unsafe { list.set_len(count) };
             return Ok(list);
         }
-        capacity = count;
+        list.try_reserve_exact(count).map_err(|_| Refused::NoMemory)?;
+    }
+}
+
+/// Returns both lists that a call writes, as `listed` does for one. The call also takes where to write the length of the second list.
+///
+/// # Safety
+/// The call must return the length of the first list and write that of the second, and write as much of each as there is room for.
+pub unsafe fn listed_twice<A: Copy, B: Copy>(
+    guesses: (usize, usize),
+    call: impl Fn(*mut A, usize, *mut B, usize, *mut u64) -> i64,
+) -> Result<(Vec<A>, Vec<B>), Refused> {
+    let mut other: Vec<B> = Vec::new();
+    let _ = other.try_reserve_exact(guesses.1);
+    loop {
+        let room = other.spare_capacity_mut();
+        let (second, second_room) = (room.as_mut_ptr().cast::<B>(), room.len());
+        let count = Cell::new(0);
+        // SAFETY: the call fills its first array as `listed` requires.
+        let list = unsafe {
+            listed(guesses.0, |first, len| {
+                call(first, len, second, second_room, count.as_ptr())
+            })
+        }?;
+        let other_len = usize::try_from(count.get()).map_err(|_| Refused::NoMemory)?;
+        if other_len <= second_room {
+            // SAFETY: the call has initialized the first `other_len` elements.
+            unsafe { other.set_len(other_len) };
+            return Ok((list, other));
+        }
+        other.try_reserve_exact(other_len).map_err(|_| Refused::NoMemory)?;
     }
 }
 
@@ -116,7 +214,10 @@ mod tests {
         assert_eq!((size_of::<Token>(), align_of::<Token>()), (24, 8));
         assert_eq!((size_of::<Element>(), align_of::<Element>()), (40, 8));
         assert_eq!((size_of::<Fault>(), align_of::<Fault>()), (40, 8));
-        assert_eq!((size_of::<Part>(), align_of::<Part>()), (24, 8));
+        assert_eq!((size_of::<StringPart>(), align_of::<StringPart>()), (32, 8));
+        assert_eq!((size_of::<Diagnostic>(), align_of::<Diagnostic>()), (32, 8));
+        assert_eq!((size_of::<Binding>(), align_of::<Binding>()), (48, 8));
+        assert_eq!((size_of::<Reference>(), align_of::<Reference>()), (40, 8));
     }
 
     #[test]

@@ -20,6 +20,7 @@
 #[macro_use]
 mod macros;
 pub mod ast;
+pub mod diagnostics;
 mod edits;
 mod error;
 mod ffi;
@@ -27,6 +28,8 @@ mod kind;
 mod language;
 mod line_index;
 mod parse;
+pub mod scopes;
+mod strings;
 pub mod syntax;
 mod text_size;
 mod tokenizer;

@@ -1,7 +1,9 @@
 //! A text and the elements of its tree, which nodes and tokens share.
 
 use crate::error::{errors_of, ParseError, Refused};
+use crate::strings::Strings;
 use crate::{ffi, SyntaxKind, TextRange, TextSize};
+use std::sync::{Arc, OnceLock};
 
 /// The parent of the root.
 const NO_PARENT: u32 = u32::MAX;
@@ -23,12 +25,19 @@ struct Record {
 pub(crate) struct Tree {
     text: Box<str>,
     records: Box<[Record]>,
+    // The tree of which this one is a copy of the subtree of a node.
+    origin: Option<(Arc<Tree>, u32)>,
+    // The parts of all strings, once they have been read.
+    strings: OnceLock<Strings>,
 }
 
-// Initial capacity: trees mostly have fewer elements than bytes.
+// Initial capacity: long texts have fewer elements than two per byte.
 fn initial_capacity(text: &str) -> usize {
-    text.len().saturating_add(8)
+    text.len().saturating_mul(2).saturating_add(8)
 }
+
+// Initial capacity for errors.
+const ERRORS: usize = 16;
 
 // The record of an element. Its numbers fit in 32 bits: the library refuses texts of 2^32 bytes and trees of as many elements.
 fn record(element: &ffi::Element) -> Record {
@@ -52,18 +61,16 @@ impl Tree {
         // SAFETY: the function takes no pointers.
         let version = unsafe { ffi::rnix_version() };
         assert_eq!(version, ffi::VERSION, "librnix.a is of another version than this crate");
-        let mut error_count = 0;
-        let count: *mut u64 = &mut error_count;
-        // SAFETY: the call fills its array as `listed` requires; the array of errors has no room, and `count` points to a local variable.
-        let elements = unsafe {
-            ffi::listed(initial_capacity(text), |room, len| {
-                ffi::rnix_parse(text.as_ptr(), text.len(), room, len, std::ptr::null_mut(), 0, count)
-            })
+        // SAFETY: the call fills its arrays as `listed_twice` requires.
+        let (elements, faults) = unsafe {
+            ffi::listed_twice(
+                (initial_capacity(text), ERRORS),
+                |room, len, errors, error_room, error_count| {
+                    ffi::rnix_parse(text.as_ptr(), text.len(), room, len, errors, error_room, error_count)
+                },
+            )
         }?;
-        let errors = match error_count as usize {
-            0 => Vec::new(),
-            count => errors_of(text, count)?,
-        };
+        let errors = errors_of(text, &faults);
         let mut records = Vec::new();
         records
             .try_reserve_exact(elements.len())
@@ -75,6 +82,8 @@ impl Tree {
         let tree = Tree {
             text: copy.into(),
             records: records.into(),
+            origin: None,
+            strings: OnceLock::new(),
         };
         Ok((tree, errors))
     }
@@ -157,8 +166,29 @@ impl Tree {
         self.records.partition_point(|record| record.start < offset.into()) as u32
     }
 
+    /// Returns the parts of the string that has a number, where `None` stands for an interpolation. All strings of the text are read once.
+    ///
+    /// # Panics
+    /// If memory runs out.
+    pub(crate) fn string_parts(&self, number: u32) -> Vec<Option<&str>> {
+        match &self.origin {
+            Some((whole, node)) => whole.string_parts(number + node),
+            None => {
+                let read = || Strings::read(&self.text).unwrap_or_else(|refused| panic!("{refused}"));
+                self.strings.get_or_init(read).parts(number)
+            }
+        }
+    }
+
+    /// Returns the node of a kind and a range.
+    pub(crate) fn node_at(&self, kind: SyntaxKind, range: TextRange) -> Option<u32> {
+        let first = self.count_before(range.start());
+        let is_it = |number: &u32| self.kind(*number) == kind && self.range(*number) == range;
+        (first..self.count()).find(is_it)
+    }
+
     /// Returns the subtree of a node as a tree of its own, with offsets from 0.
-    pub(crate) fn subtree(&self, node: u32) -> Tree {
+    pub(crate) fn subtree(self: &Arc<Tree>, node: u32) -> Tree {
         let base = self.record(node).start;
         let moved = |record: &Record| Record {
             start: record.start - base,
@@ -174,6 +204,8 @@ impl Tree {
         Tree {
             text: self.text(node).into(),
             records: records.into(),
+            origin: Some((Arc::clone(self), node)),
+            strings: OnceLock::new(),
         }
     }
 }

@@ -1,31 +1,8 @@
 //! Parts of strings.
 
-use super::support::token;
 use super::{AstToken, Interpol, InterpolPart, Str, StrContent};
-use crate::error::Refused;
 use crate::syntax::ast::AstNode as _;
-use crate::{ffi, NodeOrToken, SyntaxKind};
-
-// The number of a string that is a text of its own: the first child of the root.
-const ALONE: u32 = 1;
-
-// Asks the library about the string that has a number in a text: returns its value, and its parts as ranges of the value.
-fn read(text: &str, number: u32, len: usize) -> Result<(String, Vec<ffi::Part>), Refused> {
-    let element = number as usize;
-    // SAFETY: both calls fill their array as `listed` requires.
-    let value = unsafe {
-        ffi::listed(len, |room, room_len| {
-            ffi::rnix_string_text(text.as_ptr(), text.len(), element, room, room_len)
-        })
-    }?;
-    let parts = unsafe {
-        ffi::listed(len / 4 + 2, |room, room_len| {
-            ffi::rnix_string_parts(text.as_ptr(), text.len(), element, room, room_len)
-        })
-    }?;
-    let value = String::from_utf8(value).map_err(|_| Refused::NotUtf8)?;
-    Ok((value, parts))
-}
+use crate::NodeOrToken;
 
 impl Str {
     /// Returns an iterator over the string's parts as they are written.
@@ -36,37 +13,19 @@ impl Str {
         })
     }
 
-    // Whether the string is closed and has no error nodes. Then it parses alone just as it does within its text.
-    fn is_whole(&self) -> bool {
-        let ends = token(self, SyntaxKind::TOKEN_STRING_END).is_some();
-        ends && self
-            .syntax()
-            .descendants()
-            .all(|node| node.kind() != SyntaxKind::NODE_ERROR)
-    }
-
-    /// Returns the string's parts with escapes replaced and, in a `''` string, the indentation stripped. This parses the string again: alone,
-    /// or with its whole text if the string contains errors.
+    /// Returns the string's parts with escapes replaced and, in a `''` string, the indentation removed. The first call for a tree reads the parts
+    /// of all its strings.
     ///
     /// # Panics
-    /// If no memory is left.
+    /// If memory runs out.
     pub fn normalized_parts(&self) -> Vec<InterpolPart<String>> {
         let node = self.syntax();
-        let text = node.text();
-        let len = text.as_str().len();
-        let read = if self.is_whole() {
-            read(text.as_str(), ALONE, len)
-        } else {
-            read(node.tree.text(0), node.number, len)
-        };
-        let (value, parts) = read.unwrap_or_else(|refused| panic!("{refused}"));
         let mut interpolations = node.children().filter_map(Interpol::cast);
-        let part = |part: &ffi::Part| match part.is_interpolation {
-            0 => Some(InterpolPart::Literal(
-                value[part.start as usize..part.end as usize].to_owned(),
-            )),
-            _ => interpolations.next().map(InterpolPart::Interpolation),
+        let part = |part: Option<&str>| match part {
+            Some(text) => Some(InterpolPart::Literal(text.to_owned())),
+            None => interpolations.next().map(InterpolPart::Interpolation),
         };
-        parts.iter().filter_map(part).collect()
+        let parts = node.tree.string_parts(node.number);
+        parts.into_iter().filter_map(part).collect()
     }
 }

@@ -1,0 +1,105 @@
+//! The names that a text binds, and the bindings that its names refer to.
+//!
+//! ```
+//! let parse = rnix::Root::parse("let a = 1; b = 2; in a");
+//! let names = rnix::scopes::resolve(&parse);
+//! assert_eq!(names.bindings[0].name.text(), "a");
+//! assert_eq!(names.references[0].binding, Some(0));
+//! assert_eq!(names.uses(1).count(), 0);
+//! ```
+
+use crate::error::Refused;
+use crate::syntax::node::SyntaxNode;
+use crate::{ffi, Parse, Root, SyntaxKind, TextRange, TextSize};
+
+/// A name that a scope binds: a `let`, a `rec` set or a function.
+#[derive(Clone, Debug)]
+pub struct Binding {
+    /// The identifier or string that writes the name.
+    pub name: SyntaxNode,
+    /// The node in which the name is visible.
+    pub scope: SyntaxNode,
+    /// The index of the first binding of this name in this scope: its own, unless a set is written in parts, as in `a.b = 1; a.c = 2;`.
+    pub first: usize,
+}
+
+/// A name that refers to a binding.
+#[derive(Clone, Debug)]
+pub struct Reference {
+    /// The identifier or string that writes the name.
+    pub name: SyntaxNode,
+    /// The index of the binding, in the innermost scope that binds the name, or `None` if no scope does.
+    pub binding: Option<usize>,
+    /// Whether it is a name of an `inherit` without a source.
+    pub is_inherited: bool,
+    /// Whether it has no binding and is in the body of a `with`.
+    pub is_open: bool,
+}
+
+/// The bindings of a text, in the order of their scopes, and its references, in the order of the text.
+#[derive(Clone, Debug)]
+pub struct Resolution {
+    /// The bindings.
+    pub bindings: Vec<Binding>,
+    /// The references.
+    pub references: Vec<Reference>,
+}
+
+impl Resolution {
+    /// Returns an iterator over the references to the binding of an index.
+    pub fn uses(&self, binding: usize) -> impl Iterator<Item = &Reference> {
+        self.references
+            .iter()
+            .filter(move |reference| reference.binding == Some(binding))
+    }
+}
+
+// Encodes the bindings and references of a text.
+fn read(text: &str) -> Result<(Vec<ffi::Binding>, Vec<ffi::Reference>), Refused> {
+    let guesses = (text.len() / 4 + 8, text.len() / 2 + 8);
+    // SAFETY: the call fills its arrays as `listed_twice` requires.
+    unsafe {
+        ffi::listed_twice(guesses, |room, len, references, reference_room, reference_count| {
+            ffi::rnix_names(
+                text.as_ptr(),
+                text.len(),
+                room,
+                len,
+                references,
+                reference_room,
+                reference_count,
+            )
+        })
+    }
+}
+
+// The node of a kind and a range.
+fn node(root: &SyntaxNode, kind: u32, start: u64, end: u64) -> SyntaxNode {
+    let range = TextRange::new(TextSize::new(start as u32), TextSize::new(end as u32));
+    let number = root.tree.node_at(SyntaxKind::at(kind), range);
+    SyntaxNode::at(&root.tree, number.expect("the library names a node of the tree"))
+}
+
+/// Returns the bindings and references of a text.
+///
+/// # Panics
+/// If memory runs out.
+pub fn resolve(parse: &Parse<Root>) -> Resolution {
+    let root = parse.syntax();
+    let (bindings, references) = read(root.tree.text(0)).unwrap_or_else(|refused| panic!("{refused}"));
+    let binding = |one: &ffi::Binding| Binding {
+        name: node(&root, one.kind, one.start, one.end),
+        scope: node(&root, one.scope_kind, one.scope_start, one.scope_end),
+        first: one.first as usize,
+    };
+    let reference = |one: &ffi::Reference| Reference {
+        name: node(&root, one.kind, one.start, one.end),
+        binding: (one.binding != ffi::NO_NUMBER).then_some(one.binding as usize),
+        is_inherited: one.is_inherited == 1,
+        is_open: one.is_open == 1,
+    };
+    Resolution {
+        bindings: bindings.iter().map(binding).collect(),
+        references: references.iter().map(reference).collect(),
+    }
+}
