@@ -4,14 +4,14 @@ use Rattle.{rnix_kinds.specs.{declared.kinds.SyntaxKind.TheVariants.NODE_ROOT, L
 use Rattle.rnix_grammar.specs.{Tables.depth_limit, AnnotatedForest.{Token, AnnotatedForest, blank, forget, tokens_in, without_trivia, placed_from}}
 use Rattle.rnix_grammar.specs.{AnnotatedForest.HaveLeafKinds, Layout.items, Trim.{AreFaultsTrimmed, AreNodesTrimmed}, Shape.{IsShaped, IsUnrepeated, reports}}
 use Rattle.rnix_grammar.specs.{Seams.AreTriviaBetween, Named.{AreSpelled, is_repeated, Lacks}, Repaired.{repaired, ended_count}, Corners.has_no_corner}
-use Rattle.rnix_grammar.specs.{Fault.Fault, Plain.ArePaths, Nest.nest, Strict.is_strict_expression, Grammar.IsExpression, Derivation.has_tokens_alone}
+use Rattle.rnix_grammar.specs.{Fault.Fault, Plain.ArePaths, Nest.nest, Grammar.IsExpression}
 use Rattle.rnix_grammar.specs.{Derivation.IsDerivation, PlaceReads.ReadsWhole, Reading.IsReading, Parsed.IsParsed}
 use Rattle.rnix_rows.proofs.{ReadsFaults.{Errors, reads_errors}, ReadsWhole.{whole_few, whole_ended, whole_begun, whole_last}, TreeShapes.whole_shaped}
 use Rattle.rnix_rows.proofs.{TreeShapes.without_trivia_reports, SeamLemmas.trivia_between, ReadsNest.reads_nested, NamedRows.are_named}
-use Rattle.rnix_rows.proofs.{WithTriviaWhole.{without_trivia_items, laid_told, laid_trimmed, laid_bare, laid_nodes}, ReadsTold.{reads_told, repaired_tokens}}
+use Rattle.rnix_rows.proofs.{WithTriviaWhole.{without_trivia_items, laid_told, laid_trimmed, laid_bare, laid_nodes}, ReadsTold.reads_told}
 use Rattle.{rnix_rows.proofs.{ReadsShapes.{AreBareRows, repaired_none, whole_rows}, Exactly.derived}, rnix_soundness.proofs.Converse.converse}
 use Rattle.{rnix_lemmas.proofs.SpelledLemmas.{AreRuled, spelled_from, without_trivia_spelled}}
-use Rattle.{rnix_lemmas.proofs.EntryNames.both_true, rnix_strict.proofs.{GrammarStrict.expression_no_corner, GrammarTrees.strict_expression}}
+use Rattle.rnix_strict.proofs.GrammarLeaves.{expression_fine}
 use Rattle.{rnix_proof_rules.proofs.ReadsAlike.whole_old, rnix_parser.proofs.Found.derivation_found}
 
 -- a tree without trivia, and its errors, as they must be to be a derivation
@@ -36,7 +36,7 @@ exact f ts es w paths = (there, back)
     back : ((t : Forest) × IsDerivation t ts) → (es ≡ []) × (has_no_corner NODE_ROOT (forget f) ≡ true)
     back h =
         let r = w.found h.0 h.1 in
-        (r.0, ap (has_no_corner NODE_ROOT) r.1 ∙ expression_no_corner h.0 h.1.strict)
+        (r.0, ap (has_no_corner NODE_ROOT) r.1 ∙ (expression_fine h.1.strict).corner)
 
 -- all that is promised of a tree and its errors follows from their being a reading
 pub all_follows : (ls : List Lexeme) (tree : Tree) (faults : List Fault) → AreRuled ls → IsReading ls tree faults → IsParsed ls tree faults
@@ -52,9 +52,7 @@ all_follows ls tree faults ruled r =
     let spelled : AreSpelled (tokens_in (without_trivia g)) = without_trivia_spelled g (subst AreSpelled (sym r.leaves) (spelled_from 0 ls ruled)) in
     let nested : faults ≡ [] → nest NODE_ROOT (forget (without_trivia g)) ≤ depth_limit = λ h. reads_nested (without_trivia g) faults reads ((whole_rows reads).0 h) in
     let strict : ended_count faults ≡ 0 → Lacks is_repeated faults → has_no_corner NODE_ROOT (repaired (without_trivia g)) ≡ true → IsExpression (repaired (without_trivia g)) = λ n r o.
-    strict_expression (repaired (without_trivia g))
-    (both_true (has_tokens_alone (repaired (without_trivia g))) (is_strict_expression (repaired (without_trivia g)))
-    (repaired_tokens NODE_ROOT (without_trivia g) (reads_told reads) spelled) (converse (without_trivia g) faults reads (are_named reads) spelled n r o)) in
+    converse (without_trivia g) faults reads (are_named reads) spelled n r o in
     let met : (t : Forest) → IsDerivation t (items ts) → (faults ≡ []) × (forget (without_trivia g) ≡ t) = derivation_found (without_trivia g) (items ts) faults reads (sym own) in
     record {
       reading = r;

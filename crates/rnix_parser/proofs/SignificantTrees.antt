@@ -7,7 +7,7 @@ use Rattle.rnix_grammar.specs.AnnotatedForest.{Token, AnnotatedForest, blank, to
 use Rattle.rnix_grammar.specs.{Corners.has_no_corner, Derivation.{laid, IsDerivation}, Fault.Fault, Grammar.IsExpression, Layout.items, Nest.nest}
 use Rattle.rnix_grammar.specs.{Parsed.IsParsed, Plain.ArePaths, Repaired.{repaired, ended_count}, Named.{is_repeated, Lacks}, Tables.depth_limit}
 use Rattle.rnix_rows.proofs.{Exactly.laid_same, ReadsShapes.{AreBareRows, repaired_none, whole_rows}, WithTriviaWhole.without_trivia_items}
-use Rattle.rnix_strict.proofs.GrammarStrict.{expression_no_corner}
+use Rattle.rnix_strict.proofs.GrammarLeaves.{expression_fine}
 use Rattle.rnix_proof_rules.proofs.ReadsAlike.{whole_old}
 use Rattle.rnix_parser.specs.Significant.{leaf_unless, significant}
 
@@ -87,4 +87,4 @@ tree_exactly {ls = ls} {tree = tree} {faults = faults} p = (there, back)
         → (faults ≡ []) × (has_no_corner NODE_ROOT (significant tree.children) ≡ true) × ArePaths (laid (significant tree.children) (items (placed_from 0 ls))) []
     back d =
         let t = significant tree.children in
-        ((tree_found p t d).0, expression_no_corner t d.strict, d.joined)
+        ((tree_found p t d).0, (expression_fine d.strict).corner, d.joined)

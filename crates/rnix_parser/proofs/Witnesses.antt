@@ -1,5 +1,5 @@
 -- Wrong trees of broken texts, and proofs that none of them is what the text is read as, whatever its errors.
-use Rattle.std.{proofs.Common.{◌≡◌, true, false, Bool, List, ℕ, [], refl, ap, sym, ◌∙◌}, specs.{Prelude.{codes, ◌&&◌}, Str.chars, Char.encode_utf8}}
+use Rattle.std.{proofs.Common.{◌≡◌, true, false, Bool, List, ℕ, refl, ap, sym, ◌∙◌}, specs.{Prelude.{codes, ◌&&◌}, Str.chars, Char.encode_utf8}}
 use Rattle.rnix_kinds.specs.Lexical.{Tokens.{tokens_of, normal_cut, cut_at, tokens_behind}, Texts.{space_len, begins_space, char_len}}
 use Rattle.{rnix_green.specs.{Equality.same_kind, Forest.{Forest, empty, leaf, node}, Tree.Tree}, rnix_grammar.specs.{Fault.Fault, AnnotatedForest.Token}}
 use Rattle.rnix_grammar.specs.{AnnotatedForest.{AnnotatedForest, forget, tokens_in, without_trivia, placed_from}, Layout.{items, with_trivia_whole}}

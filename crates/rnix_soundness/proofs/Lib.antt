@@ -1,3 +1,5 @@
-pub mod RepairedStands
 pub mod Converse
-pub mod RepairedLevels
+pub mod LedForms
+pub mod RowForms
+pub mod RowViews
+pub mod SoundRows

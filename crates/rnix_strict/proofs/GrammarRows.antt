@@ -2,7 +2,7 @@
 use Rattle.std.proofs.Common.{◌≡◌, ℕ, ◌≤◌, Bool, true, false, List, refl, ap, ◌∙◌, arith, sym, ◌&&◌, Some, None, if◌then◌else◌, ◌∷◌, nat_le}
 use Rattle.{std.proofs.lemmas.Bool.{and_from, and_parts, Decides.nat_tests}, rnix_kinds.specs.declared.kinds.SyntaxKind.{SyntaxKind, TheVariants.NODE_IDENT}}
 use Rattle.rnix_kinds.specs.declared.kinds.SyntaxKind.TheVariants.{NODE_PAT_BIND, TOKEN_IDENT, TOKEN_INTERPOL_END, TOKEN_R_BRACK, NODE_APPLY, NODE_ATTRPATH}
-use Rattle.rnix_kinds.specs.declared.kinds.SyntaxKind.TheVariants.{NODE_ATTRPATH_VALUE, NODE_BIN_OP, NODE_HAS_ATTR, NODE_INHERIT, NODE_LAMBDA, NODE_PAT_ENTRY}
+use Rattle.rnix_kinds.specs.declared.kinds.SyntaxKind.TheVariants.{NODE_BIN_OP, NODE_HAS_ATTR, NODE_LAMBDA, NODE_PAT_ENTRY}
 use Rattle.rnix_kinds.{specs.{declared.kinds.SyntaxKind.TheVariants.{NODE_SELECT, NODE_DYNAMIC, NODE_PATTERN}, SyntaxKind.is_token}, proofs.AllKinds.implied}
 use Rattle.{rnix_green.specs.Forest.{Forest, empty, leaf, node}, rnix_grammar.specs.{declared.place.Place.Place, Tables.{is_cur_pos, is_or, is_among}}}
 use Rattle.rnix_grammar.specs.{TokenKinds.is_path_piece, Symbols.{symbol_at, level_in}, Rows.{is_expression, is_infix, is_plain_literal, is_attr, fits}}
@@ -132,7 +132,7 @@ passes_operand {parent = parent} {x = x} {behind = behind} {level = level} {k = 
     passes_node_to (At x) (At behind) k (ap (λ z. advance_symbol z x k) e ∙ ap (λ z. to z (At behind)) w.fit) refl (may_operand x level k c (ap level_in e) w.stands)
     (no_corner parent k level c n w.stands) w.good h
 
--- what an atom, an attribute, a parameter, an entry and the rest of a pattern are to the test
+-- what an atom, an attribute and an entry of a pattern are to the test
 pub record PassesAtom (k : SyntaxKind) (c : Forest) : Type 0 where
   pub atom : is_strict_atom k c ≡ true
   pub good : Good k c
@@ -146,40 +146,9 @@ pub record PassesAttr (k : SyntaxKind) (c : Forest) : Type 0 where
   pub corner : (parent : SyntaxKind) → (if is_corner parent k c then false else true) ≡ true
   pub good : Good k c
 
-pub record PassesParameter (k : SyntaxKind) (c : Forest) : Type 0 where
-  pub goes : advance (start NODE_LAMBDA) k ≡ At p.LambdaColon
-  pub may : may_stand (start NODE_LAMBDA) k c ≡ true
-  pub corner : (if is_corner NODE_LAMBDA k c then false else true) ≡ true
-  pub good : Good k c
-
 pub record PassesFormal (x : List ℕ) (c : Forest) : Type 0 where
   pub text : entry_text c ≡ x
   pub good : Good NODE_PAT_ENTRY c
-
-pub record PassesFormals (bound : Bool) (names : List (List ℕ)) (f : Forest) : Type 0 where
-  pub first : Passes NODE_PATTERN (At (p.PatternStart bound)) f
-  pub inside : Passes NODE_PATTERN (At (p.PatternInside bound)) f
-  pub new : are_entries_new names f ≡ true
-
-pub record PassesNames (f : Forest) : Type 0 where
-  pub source : Passes NODE_INHERIT (At p.InheritStart) f
-  pub names : Passes NODE_INHERIT (At p.InheritNames) f
-
--- entries may stand at a place, which they do not leave
-pub record Gathers (x : Place) : Type 0 where
-  pub inherit_stays : advance (At x) NODE_INHERIT ≡ At x
-  pub bind_stays : advance (At x) NODE_ATTRPATH_VALUE ≡ At x
-  pub inherit_may : (c : Forest) → may_stand (At x) NODE_INHERIT c ≡ true
-  pub bind_may : (c : Forest) → may_stand (At x) NODE_ATTRPATH_VALUE c ≡ true
-
-pub in_set : Gathers p.SetInside
-in_set = record { inherit_stays = refl; bind_stays = refl; inherit_may = λ c. refl; bind_may = λ c. refl }
-
-pub in_legacy : Gathers p.LegacyInside
-in_legacy = record { inherit_stays = refl; bind_stays = refl; inherit_may = λ c. refl; bind_may = λ c. refl }
-
-pub in_let : Gathers p.LetInside
-in_let = record { inherit_stays = refl; bind_stays = refl; inherit_may = λ c. refl; bind_may = λ c. refl }
 
 pub name_good : {t : List ℕ} → Good NODE_IDENT (leaf TOKEN_IDENT t empty)
 name_good = good refl (passes_leaf refl refl (passes_end refl))

@@ -1,5 +1,4 @@
+pub mod GrammarLeaves
 pub mod GrammarRows
 pub mod StrictExamples
 pub mod GrammarStrict
-pub mod GrammarViews
-pub mod GrammarTrees

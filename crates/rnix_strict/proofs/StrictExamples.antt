@@ -3,10 +3,10 @@ use Rattle.{std.proofs.Common.{◌≡◌, ℕ, Bool, true, false, List, [], ◌�
 use Rattle.rnix_kinds.specs.declared.kinds.SyntaxKind.TheVariants.{TOKEN_IDENT, TOKEN_CUR_POS, TOKEN_INTEGER, TOKEN_ADD, TOKEN_SUB, TOKEN_MUL, TOKEN_EQUAL}
 use Rattle.rnix_kinds.specs.declared.kinds.SyntaxKind.TheVariants.{TOKEN_INVERT, TOKEN_COLON, TOKEN_COMMA, TOKEN_QUESTION, TOKEN_AT, TOKEN_DOT, TOKEN_OR}
 use Rattle.rnix_kinds.specs.declared.kinds.SyntaxKind.TheVariants.{TOKEN_L_BRACE, TOKEN_R_BRACE, TOKEN_L_BRACK, TOKEN_R_BRACK, TOKEN_L_PAREN, TOKEN_R_PAREN}
-use Rattle.rnix_kinds.specs.declared.kinds.SyntaxKind.TheVariants.{TOKEN_INTERPOL_START, TOKEN_INTERPOL_END, TOKEN_CONCAT, NODE_APPLY, NODE_ATTRPATH}
+use Rattle.rnix_kinds.specs.declared.kinds.SyntaxKind.TheVariants.{TOKEN_INTERPOL_START, TOKEN_INTERPOL_END, NODE_APPLY, NODE_ATTRPATH}
 use Rattle.rnix_kinds.specs.declared.kinds.SyntaxKind.TheVariants.{NODE_BIN_OP, NODE_CUR_POS, NODE_DYNAMIC, NODE_HAS_ATTR, NODE_IDENT, NODE_IDENT_PARAM}
 use Rattle.rnix_kinds.specs.declared.kinds.SyntaxKind.TheVariants.{NODE_LAMBDA, NODE_LIST, NODE_LITERAL, NODE_PAREN, NODE_PATTERN, NODE_PAT_BIND}
-use Rattle.rnix_kinds.specs.declared.kinds.SyntaxKind.TheVariants.{NODE_PAT_ENTRY, NODE_ROOT, NODE_SELECT, NODE_UNARY_OP, TOKEN_LESS, TOKEN_IMPLICATION}
+use Rattle.rnix_kinds.specs.declared.kinds.SyntaxKind.TheVariants.{NODE_PAT_ENTRY, NODE_ROOT, NODE_SELECT, NODE_UNARY_OP}
 use Rattle.{rnix_green.specs.Forest.{Forest, empty, leaf, node}, rnix_grammar.specs.declared.place.Place.TheVariants.{RootStart, AttrpathStart, InheritName}}
 use Rattle.rnix_grammar.specs.{declared.place.Place.TheVariants.BindName, AnnotatedForest.{Token, AnnotatedForest, Stray, Extra, one_token, one_fault}}
 use Rattle.rnix_grammar.specs.{Rows.{Start, BeforeArgument, At}, Strict.is_strict_expression, Repaired.repaired, Nest.nest, Names.is_named}
@@ -72,38 +72,6 @@ bound_behind f = node NODE_PAT_BIND (leaf TOKEN_AT (codes "@") (named (codes "x"
 -- whether each of some trees is strict
 abbrev strictness : List (Forest → Forest) → List Bool
 strictness ts = map (λ t. is_strict_expression (t empty)) ts
-
--- strict, with the text of each
-strict_trees : strictness
-    (binary TOKEN_ADD one (binary TOKEN_MUL one one)  -- 1 + 1 * 1
-    ∷ binary TOKEN_SUB (binary TOKEN_ADD one one) one  -- 1 + 1 - 1
-    ∷ binary TOKEN_CONCAT one (binary TOKEN_CONCAT one one)  -- 1 ++ (1 ++ 1) without parentheses
-    ∷ binary TOKEN_IMPLICATION one (binary TOKEN_IMPLICATION one one)  -- 1 -> 1 -> 1
-    ∷ binary TOKEN_EQUAL (parens (binary TOKEN_EQUAL one one)) one  -- (1 == 1) == 1
-    ∷ binary TOKEN_EQUAL (binary TOKEN_LESS one one) one  -- 1 < 1 == 1
-    ∷ minus (minus one)  -- --1
-    ∷ nots (binary TOKEN_ADD one one)  -- !1 + 1
-    ∷ nots (asked one)  -- !1 ? b
-    ∷ asked (minus one)  -- -1 ? b
-    ∷ asked (asked one)  -- 1 ? b ? b
-    ∷ lambda one  -- a: 1
-    ∷ lambda (lambda one)  -- a: a: 1
-    ∷ applied (applied one one) one  -- 1 1 1
-    ∷ applied (named (codes "a")) (named (codes "or"))  -- a or
-    ∷ applied one (applied one (named (codes "or")))  -- 1 (1 or), where `or` is an argument
-    ∷ selected (path (codes "or"))  -- a.or
-    ∷ selected (λ f. path (codes "b") (leaf TOKEN_OR (codes "or") (named (codes "c") f)))  -- a.b or c
-    ∷ selected (dynamic one)  -- a.${1}
-    ∷ (λ f. node NODE_CUR_POS (leaf TOKEN_CUR_POS (codes "__curPos") empty) f)  -- __curPos
-    ∷ list (λ f. named (codes "a") (parens (named (codes "b")) f))  -- [a (b)]
-    ∷ list (applied (named (codes "a")) (named (codes "or")))  -- [a or]
-    ∷ patterned (braces (λ f. entry (codes "a") (leaf TOKEN_COMMA (codes ",") (default_entry f))))  -- {a, b ? 1}: a
-    ∷ patterned (λ f. bound_before (braces (λ g. g) f))  -- x@{}: a
-    ∷ patterned (λ f. braces (λ g. g) (bound_behind f))  -- {}@x: a
-    ∷ (λ f. leaf NODE_PAREN (codes "x") f)  -- a leaf with the kind of a node stands for one
-    ∷ [])
-    ≡ true ∷ true ∷ true ∷ true ∷ true ∷ true ∷ true ∷ true ∷ true ∷ true ∷ true ∷ true ∷ true ∷ true ∷ true ∷ true ∷ true ∷ true ∷ true ∷ true ∷ true ∷ true ∷ true ∷ true ∷ true ∷ true ∷ []
-strict_trees = refl
 
 -- not strict
 other_trees : strictness
