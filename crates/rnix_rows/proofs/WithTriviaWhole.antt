@@ -7,7 +7,7 @@ use Rattle.rnix_grammar.specs.{Named.AreSpelled, PlaceReads.ReadsWhole, Trim.{Ar
 use Rattle.rnix_lemmas.proofs.{AnnotatedForestLemmas.tokens_in-⊕, LayoutLemmas.{items-view, IsBared, bared, with_trivia_tokens, trivia_tokens, nothing_from}}
 use Rattle.rnix_lemmas.proofs.{LayoutLemmas.{leaf_kind-⊕, told_trivia, told_with_trivia}, ReportLemmas.without_trivia_tokens, EdgeLemmas.faults_trimmed-⊕}
 use Rattle.{rnix_lemmas.proofs.EdgeLemmas.faults_trimmed_trivia, rnix_rows.proofs.{WithTrivia.whole_with_trivia, ReadsShapes.whole_rows}}
-use Rattle.rnix_rows.proofs.{ReadsFilled.{rows_filled, reads_filled}, ReadsTold.{reads_told, reads_bare}, WithTriviaEdges.{edged-⊕, edged_trivia}}
+use Rattle.rnix_rows.proofs.{ReadsFilled.reads_filled, ReadsTold.{reads_told, reads_bare}, WithTriviaEdges.{edged-⊕, edged_trivia}}
 use Rattle.rnix_rows.proofs.{WithTriviaEdges.{with_trivia_edged, with_trivia_trimmed, nodes_trimmed}, WithTriviaNames.{bare-⊕, bare_trivia, with_trivia_bare}}
 
 -- all items, with nothing behind them
@@ -60,4 +60,4 @@ pub laid_nodes : (f g : AnnotatedForest) (ts : List Token) (es : List Fault) →
 laid_nodes f g ts es e i s n =
     subst (λ (x : AnnotatedForest). AreNodesTrimmed (forget x)) (sym e)
     (nodes_trimmed NODE_ROOT (with_trivia_whole f ts) (with_trivia_whole_told NODE_ROOT f ts (reads_told s))
-    (edged-⊕ (with_trivia f ts) (trivia_before (left_after f ts)) (with_trivia_edged f ts [] (all_items f ts i) (rows_filled f ((whole_rows s).0 n).nodes)) (edged_trivia (left_after f ts))))
+    (edged-⊕ (with_trivia f ts) (trivia_before (left_after f ts)) (with_trivia_edged f ts [] (all_items f ts i) ((whole_rows s).0 n).nodes) (edged_trivia (left_after f ts))))
