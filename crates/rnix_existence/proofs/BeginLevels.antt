@@ -2,8 +2,7 @@
 use Rattle.std.proofs.Common.{◌≡◌, ℕ, ◌≤◌, Bool, true, false, List, Option, Some, refl, ap, sym, ◌∙◌, subst, arith, if◌then◌else◌, nat_eq, nat_le, ◌||◌, ◌-◌}
 use Rattle.rnix_kinds.specs.{declared.kinds.SyntaxKind.{SyntaxKind}, declared.kinds.SyntaxKind.TheVariants.{TOKEN_IDENT, TOKEN_L_BRACE, TOKEN_COLON}}
 use Rattle.rnix_kinds.specs.declared.kinds.SyntaxKind.TheVariants.{TOKEN_AT, TOKEN_LET, TOKEN_INVERT, TOKEN_SUB, NODE_APPLY, NODE_BIN_OP, NODE_HAS_ATTR}
-use Rattle.rnix_kinds.specs.declared.kinds.SyntaxKind.TheVariants.{NODE_IDENT, NODE_SELECT, NODE_UNARY_OP}
-use Rattle.rnix_kinds.proofs.AllKinds.{implied}
+use Rattle.{rnix_kinds.specs.declared.kinds.SyntaxKind.TheVariants.{NODE_IDENT, NODE_SELECT, NODE_UNARY_OP}, rnix_kinds.proofs.AllKinds.{implied}}
 use Rattle.rnix_grammar.specs.{declared.begin.Begin.{Begin}, Begins.{is_pattern, begin_name, begin_let, begin_keyword, begin_scope, begin_of}}
 use Rattle.rnix_grammar.specs.{Tables.{is_cur_pos}, TokenKinds.{is_or}, Operands.{first_tree}, AnnotatedForest.{Token, AnnotatedForest, token, one_token}}
 use Rattle.rnix_grammar.specs.{AnnotatedForest.{one_branch, leaf_kind_as}, Rows.{is_atom, is_expression, is_loose, fits}, TreeLevels.{is_or_row, is_atom_row}}

@@ -5,7 +5,7 @@ use Rattle.rnix_kinds.specs.declared.kinds.SyntaxKind.TheVariants.{NODE_LITERAL}
 use Rattle.rnix_grammar.specs.{declared.place.Place.{Place}, Fault.{Fault, ended, too_deep}, Tables.{depth_limit}, Begins.{begin_of, second_kind}}
 use Rattle.rnix_grammar.specs.AnnotatedForest.{Token, TooDeep, AnnotatedForest, blank, ◌⊕◌, one_fault, row_of, tokens_in, head_kind, end_from}
 use Rattle.rnix_grammar.specs.{Machine.{Machine, Frame, kind_of, put, operand_on, limited}, Rules.{IsExpected, counts, missing}, Reads.{IsRoom, Reads}}
-use Rattle.rnix_grammar.specs.Reads.{deeper, missing_part}
+use Rattle.rnix_grammar.specs.{Reads.{deeper, missing_part}, declared.begin.Begin.{Begin}}
 use Rattle.rnix_lemmas.proofs.{Basics.{true_is_not_false, none_left, none_right}, AnnotatedForestLemmas.{⊕-blank, tokens_in-row_of}, LevelLemmas.{atom_fits}}
 use Rattle.rnix_lemmas.proofs.{RunLemmas.{dropped_all}, OpenHeads.{is_open}, RestAt.{followed_at, rest_at}, ReadsFrom.{wrong_from}}
 use Rattle.rnix_existence.proofs.{OpenFrames.{Lone, Ends, EndsBy}, RowFronts.{prepended}, OperandTrees.{Takes, placed}, BeginLevels.{begun_tree}}
@@ -18,8 +18,8 @@ pub begin_ends : (level d : ℕ) (t : Token) (us : List Token) (g : Frame) (fs :
     (operand_on false level d g fs (t ∷ us) (t ∷ us) n gs).reached row es
     → BeginEnds level d g fs (t ∷ us) n row gs ((operand_on false level d g fs (t ∷ us) (t ∷ us) n gs).faults ++ es)
 begin_ends level d t us g fs n gs row es ends =
-    begun_ends (begin_of level t.kind t.text (head_kind us) (second_kind us)) level d t us g fs n gs row es refl
-    (begun_tree (begin_of level t.kind t.text (head_kind us) (second_kind us)) level t.kind t.text (head_kind us) (second_kind us) refl) ends
+    let begin : Begin = begin_of level t.kind t.text (head_kind us) (second_kind us) in
+    begun_ends level d g fs row n gs begin t us es refl (begun_tree begin level t.kind t.text (head_kind us) (second_kind us) refl) ends
 
 -- what ends behind some machine ends before it, with the errors in between
 abbrev pub EndsAfter : Machine → Frame → List Frame → List Token → ℕ → List Fault → Type 0

@@ -1,9 +1,8 @@
 -- What is known of the frames below, as a row goes on.
-use Rattle.std.proofs.Common.{◌≡◌, ℕ, List, [], ◌∷◌, refl, sym, ◌∙◌, subst}
+use Rattle.{std.proofs.Common.{◌≡◌, ℕ, List, [], ◌∷◌, refl, sym, ◌∙◌, subst}, rnix_existence.proofs.Frames.{an_operand, AtNode, Reading, node}}
 use Rattle.{rnix_kinds.specs.declared.kinds.SyntaxKind.SyntaxKind, rnix_grammar.specs.{declared.place.Place.Place, Fault.Fault, AnnotatedForest.Token}}
 use Rattle.rnix_grammar.specs.{AnnotatedForest.{AnnotatedForest, ◌⊕◌, one_branch}, Machine.{Frame, put, made, closed}}
 use Rattle.{rnix_lemmas.proofs.AnnotatedForestLemmas.⊕-assoc, rnix_existence.proofs.Frames.{row_at, MayGrow, Above, One, Other, Below, no_frame, a_row}}
-use Rattle.rnix_existence.proofs.Frames.{an_operand, AtNode, Reading, node}
 
 -- more trees in its row change nothing below an open node
 below_more : {k : SyntaxKind} {row : AnnotatedForest} {fs : List Frame} (x : AnnotatedForest) → Below (One k row) fs → Below (One k (row ⊕ x)) fs

@@ -1,17 +1,15 @@
 -- What ends behind a step at an open node or a second name ends before it, whatever stands there.
-use Rattle.std.proofs.Common.{◌≡◌, inl, inr, ℕ, ◌≤◌, Bool, true, false, List, [], ◌∷◌, Some, None, refl, ap, sym, ◌∙◌}
+use Rattle.{std.proofs.Common.{◌≡◌, inl, inr, ℕ, ◌≤◌, Bool, true, false, List, [], ◌∷◌, Some, None, refl, ap, sym, ◌∙◌}, rnix_grammar.specs.Reads.{IsOver}}
 use Rattle.rnix_kinds.specs.{declared.kinds.SyntaxKind.{SyntaxKind}, declared.kinds.SyntaxKind.TheVariants.{NODE_IDENT, NODE_PAT_ENTRY}}
 use Rattle.rnix_grammar.specs.{declared.place.Place.{Place}, declared.action.Action.{Action}, Fault.{Fault, ended, ended_before}, Tables.{depth_limit}}
 use Rattle.rnix_grammar.specs.{Tables.{wanted_kinds}, Actions.{action_at}, AnnotatedForest.{Token, AnnotatedForest, leaf_kind, head_kind, touches, blank}}
 use Rattle.rnix_grammar.specs.{Machine.{Node, Second, Frame, kind_of}, Reports.{repeats}, Rules.{IsExpected, after, level_at, missing, row as whole_row}}
-use Rattle.rnix_grammar.specs.Reads.{IsOver}
 use Rattle.rnix_lemmas.proofs.{Basics.{true_is_not_false, some_same, not_nil}, EveryKind.{only}, NodeKinds.{told_plain}, NestTrees.{is_formal}}
 use Rattle.rnix_lemmas.proofs.{OpenHeads.{is_open}, PlaceTable.{IsOperandHere, MayEnd, Suits, is_in_row, suits}, RowParts.{expected_as, expects_at}}
-use Rattle.rnix_lemmas.proofs.{RowParts.{expects_next, front}, RestAt.{left_at, rest_at}}
+use Rattle.{rnix_lemmas.proofs.{RowParts.{expects_next, front}, RestAt.{left_at, rest_at}}, rnix_existence.proofs.BeginReads.{reading_ends}}
 use Rattle.rnix_existence.proofs.{OpenFrames.{closing, EndsBy}, Frames.{row_at, Other, Below, AtNode, AtSecond}, BelowKept.{alone}, RowSteps.{takes, misses}}
 use Rattle.rnix_existence.proofs.{RowSteps.{runs_by, left_over, names, node_at}, NodeOpens.{opens, begins_node, begins_entry, begins_second, closes}}
 use Rattle.rnix_existence.proofs.{NodeOpens.{closes_entry, closes_twice}, PlaceRows.{ClosesAt, closes_at}, OperandTrees.{left_takes}}
-use Rattle.rnix_existence.proofs.BeginReads.{reading_ends}
 use Rattle.rnix_grammar.specs.declared.place.Place.TheVariants as p
 use Rattle.rnix_grammar.specs.declared.action.Action.TheVariants as a
 

@@ -1,16 +1,14 @@
 -- What ends behind a step that opens or closes a node or a second name ends before it.
 use Rattle.std.proofs.Common.{◌≡◌, ℕ, true, List, [], ◌∷◌, ◌++◌, refl, ap, sym, ◌∙◌, subst, append_assoc, append-nil, Some}
 use Rattle.rnix_kinds.specs.{declared.kinds.SyntaxKind.{SyntaxKind}, declared.kinds.SyntaxKind.TheVariants.{NODE_IDENT, NODE_PAT_ENTRY, TOKEN_AT}}
-use Rattle.rnix_kinds.specs.declared.kinds.SyntaxKind.TheVariants.{TOKEN_IDENT}
+use Rattle.{rnix_kinds.specs.declared.kinds.SyntaxKind.TheVariants.{TOKEN_IDENT}, rnix_grammar.specs.Rules.{row as whole_row, ◌·◌}}
 use Rattle.rnix_grammar.specs.{declared.place.Place.{Place}, Fault.{Fault}, AnnotatedForest.{Token, Twice, AnnotatedForest, blank, ◌⊕◌, one_token}}
 use Rattle.rnix_grammar.specs.{AnnotatedForest.{one_branch, one_fault, tokens_in, leaf_kind, leaf_kind_as, end_from, head_kind}, Reports.{report, repeated}}
-use Rattle.rnix_grammar.specs.{Reports.{repeats}, Machine.{Head, Node, Second, Frame, opened, put, made, closed}}
+use Rattle.{rnix_grammar.specs.{Reports.{repeats}, Machine.{Head, Node, Second, Frame, opened, put, made, closed}}, rnix_existence.proofs.RowSteps.{IsNodeAt}}
 use Rattle.rnix_grammar.specs.{declared.rules.Part.TheVariants.{BoundAlready}, Reads.{IsOver, Reads, end}, Rules.{Row, after, done, second_name}}
-use Rattle.rnix_grammar.specs.Rules.{row as whole_row, ◌·◌}
 use Rattle.rnix_lemmas.proofs.{AnnotatedForestLemmas.{⊕-blank, tokens_two}, OpenHeads.{is_open}, RowParts.{IsFront, front}, RestAt.{followed_at}}
 use Rattle.rnix_lemmas.proofs.{RestAt.{rest_at}, ReadsFrom.{leaf_from, name_reads, past_over, plain_from, second_from}}
 use Rattle.rnix_existence.proofs.{OpenFrames.{closing, Ends, open_frame, EndsBy}, RowFronts.{end_two, prepended}, OperandEnds.{OpenEnds, open_ends}}
-use Rattle.rnix_existence.proofs.RowSteps.{IsNodeAt}
 use Rattle.rnix_grammar.specs.declared.place.Place.TheVariants as p
 use Rattle.rnix_grammar.specs.declared.action.Action.TheVariants as a
 

@@ -1,11 +1,10 @@
 -- What goes on with an operand follows its tree, and where nothing does the operand is whole.
 use Rattle.std.proofs.Common.{◌≡◌, ℕ, ◌≤◌, Bool, true, false, List, [], ◌∷◌, Some, refl, sym, ◌∙◌, subst, append-nil, arith, ◌&&◌}
-use Rattle.std.proofs.{Common.{nat_eq, nat_le}, lemmas.Bool.Decides.nat_tests}
+use Rattle.{std.proofs.{Common.{nat_eq, nat_le}, lemmas.Bool.Decides.nat_tests}, rnix_existence.proofs.OpenFrames.{seen_kind, Lone, Grows}}
 use Rattle.rnix_kinds.{specs.{declared.kinds.SyntaxKind.{SyntaxKind}, SyntaxKind.is_fn_arg}, proofs.AllKinds.implied}
 use Rattle.rnix_grammar.specs.{Levels.{binding_power}, AnnotatedForest.{Token, AnnotatedForest, head_kind}}
 use Rattle.rnix_grammar.specs.{Rows.{fits}, TreeLevels.{row_level, is_or_row}, Operands.{follows, goes_on}}
 use Rattle.rnix_lemmas.proofs.{Basics.{true_is_not_false}, LevelLemmas.at_most_true, FollowLemmas.{Stops, follows_binding_power}}
-use Rattle.rnix_existence.proofs.OpenFrames.{seen_kind, Lone, Grows}
 use Rattle.rnix_grammar.specs.Actions as a
 
 -- a token of level 15 begins an argument

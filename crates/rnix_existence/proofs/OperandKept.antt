@@ -1,6 +1,6 @@
 -- Steps at an operand keep what is known of the frames.
 use Rattle.std.proofs.Common.{◌≡◌, ℕ, ◌≤◌, Bool, true, false, List, [], ◌∷◌, Some, None, refl, ap, sym, ◌∙◌, subst, arith, if◌then◌else◌, ◌&&◌, nat_le}
-use Rattle.std.proofs.lemmas.Bool.{and_parts}
+use Rattle.{std.proofs.lemmas.Bool.{and_parts}, rnix_lemmas.proofs.FollowLemmas.{followed_tight, followed_question}}
 use Rattle.rnix_kinds.specs.declared.kinds.SyntaxKind.{SyntaxKind, TheVariants.{TOKEN_DOT, TOKEN_OR, TOKEN_QUESTION, NODE_SELECT, NODE_APPLY, NODE_HAS_ATTR}}
 use Rattle.{rnix_kinds.specs.declared.kinds.SyntaxKind.TheVariants.{NODE_BIN_OP, NODE_IDENT}, rnix_grammar.specs.declared.place.Place.Place}
 use Rattle.rnix_grammar.specs.{declared.action.Action.Action, Fault.Fault, Levels.{binding_power, right_of, high_of}, Actions.{follow, goes_on, more_action}}
@@ -9,7 +9,6 @@ use Rattle.rnix_grammar.specs.{Machine.{Node, Operand, Frame, opened, leaf, low_
 use Rattle.{rnix_grammar.specs.TreeLevels.{operator_in, calls_or}, rnix_lemmas.proofs.{AnnotatedForestLemmas.⊕-assoc, LevelLemmas.at_most}}
 use Rattle.rnix_lemmas.proofs.{LevelLemmas.{at_most_true, right_within}, FirstTrees.{a_node, single_operator, single_calls}}
 use Rattle.rnix_existence.proofs.{Frames.{MayGrow, an_operand, AtNode, AtOperand, Reading, node, operand}, Growing.{grows_by, call_grows}}
-use Rattle.rnix_lemmas.proofs.FollowLemmas.{followed_tight, followed_question}
 use Rattle.rnix_existence.proofs.{Growing.operator_grows, PlaceRows.IsRow, BelowKept.landed_kept, BeginKept.reading_kept}
 use Rattle.rnix_grammar.specs.declared.place.Place.TheVariants as p
 use Rattle.rnix_grammar.specs.declared.action.Action.TheVariants as a

@@ -1,12 +1,11 @@
 -- Steps at an operand: what ends behind each of them ends before it.
 use Rattle.std.proofs.Common.{◌≡◌, ℕ, true, false, List, [], ◌∷◌, ◌++◌, Some, None, refl, ap, sym, ◌∙◌, subst, append_assoc, ◌||◌, ◌&&◌, if◌then◌else◌}
 use Rattle.rnix_kinds.specs.{declared.kinds.SyntaxKind.{SyntaxKind}, declared.kinds.SyntaxKind.TheVariants.{TOKEN_OR, NODE_APPLY, NODE_IDENT}}
-use Rattle.rnix_kinds.specs.SyntaxKind.{is_fn_arg}
+use Rattle.{rnix_kinds.specs.SyntaxKind.{is_fn_arg}, rnix_grammar.specs.{Beginnings.{IsOperandOf}, Reads.{end}}}
 use Rattle.rnix_grammar.specs.{declared.place.Place.{Place}, Fault.{Fault}, Actions.{goes_on}, TokenKinds.{is_or}, AnnotatedForest.{Token, AnnotatedForest}}
 use Rattle.rnix_grammar.specs.AnnotatedForest.{blank, token, ◌⊕◌, one_token, one_branch, tokens_in, leaf_kind, leaf_kind_as, head_kind, end_from}
 use Rattle.rnix_grammar.specs.{Machine.{Head, Node, Operand, Frame, put, opened, made, low_of, operand_on}, Reports.{repeats}, Operands.{first_tree, follows}}
 use Rattle.rnix_grammar.specs.{declared.rules.Part.TheVariants.{Argument}, Rules.{IsExpected, IsFollowed, Row, after, done, row as whole_row, ◌·◌, only}}
-use Rattle.rnix_grammar.specs.{Beginnings.{IsOperandOf}, Reads.{end}}
 use Rattle.rnix_lemmas.proofs.{Basics.{true_is_not_false}, AnnotatedForestLemmas.{⊕-assoc, tokens_two}, FollowLemmas.{Stops, stops_simple}}
 use Rattle.rnix_lemmas.proofs.{RowParts.{IsFront, front}, ReadsFrom.{inner_from, leaf_from, name_reads, past_over}, RestAt.{rest_at}}
 use Rattle.rnix_existence.proofs.{OpenFrames.{seen_kind, Ends, operand_frame, EndsBy}, Frames.{AtOperand}, BelowKept.{alone}, RowFronts.{end_two}}

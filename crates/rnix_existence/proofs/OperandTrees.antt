@@ -4,9 +4,8 @@ use Rattle.rnix_kinds.specs.{declared.kinds.SyntaxKind.{SyntaxKind}, declared.ki
 use Rattle.rnix_grammar.specs.{Fault.{Fault}, AnnotatedForest.{Token, Stray, AnnotatedForest, blank, ◌⊕◌, one_branch, one_fault, row_of, tokens_in}}
 use Rattle.rnix_grammar.specs.{AnnotatedForest.{head_kind, end_from}, Rows.{fits}, Reports.{repeats}, TreeLevels.{is_or_row}, Rules.{IsExpected, IsFollowed}}
 use Rattle.rnix_grammar.specs.{Rules.{Row, after, level_at, stands_expected, row as whole_row}, Beginnings.{IsOperandOf}, Reads.{IsOver, IsRoom, Reads}}
-use Rattle.rnix_grammar.specs.Reads.{deeper}
+use Rattle.{rnix_grammar.specs.Reads.{deeper}, rnix_lemmas.proofs.{RowParts.{operand_stands}, ReadsFrom.{inner_from, plain_from, wrong_from}}}
 use Rattle.rnix_lemmas.proofs.{NodeKinds.{fits_expression, unreported}, RowParts.{IsFront, is_left, left_level, left_stands, operand_goes}}
-use Rattle.rnix_lemmas.proofs.{RowParts.{operand_stands}, ReadsFrom.{inner_from, plain_from, wrong_from}}
 use Rattle.rnix_existence.proofs.OpenFrames.{seen_kind, Lone, a_node, an_error}
 
 -- a tree's last item, without the empty row behind the tree

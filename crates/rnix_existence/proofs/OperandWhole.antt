@@ -1,14 +1,12 @@
 -- Each step at an operand: what ends behind it ends before it.
 use Rattle.std.proofs.Common.{◌≡◌, ℕ, Bool, true, false, List, [], ◌∷◌, refl, ap, sym, ◌∙◌, subst, arith, if◌then◌else◌, nat_eq}
-use Rattle.std.proofs.lemmas.Bool.Decides.{nat_tests}
+use Rattle.{std.proofs.lemmas.Bool.Decides.{nat_tests}, rnix_kinds.proofs.AllKinds.{implied}, rnix_grammar.specs.Rules.{after, only}}
 use Rattle.rnix_kinds.specs.{declared.kinds.SyntaxKind.{SyntaxKind}, declared.kinds.SyntaxKind.TheVariants.{NODE_SELECT, NODE_HAS_ATTR, NODE_BIN_OP}}
 use Rattle.rnix_kinds.specs.{declared.kinds.SyntaxKind.TheVariants.{TOKEN_DOT, TOKEN_QUESTION}, SyntaxKind.{is_fn_arg}}
-use Rattle.rnix_kinds.proofs.AllKinds.{implied}
 use Rattle.rnix_grammar.specs.{declared.place.Place.{Place}, declared.action.Action.{Action}, Fault.{Fault}, Levels.{binding_power, right_of, high_of}}
 use Rattle.rnix_grammar.specs.{Actions.{follow, goes_on, more_action, action_at}, TokenKinds.{is_or}, AnnotatedForest.{Token, token, ◌⊕◌, one_branch}}
 use Rattle.rnix_grammar.specs.{AnnotatedForest.{leaf_kind, leaf_kind_as, head_kind, touches, AnnotatedForest}, Machine.{Frame}, Operands.{follows}}
 use Rattle.rnix_grammar.specs.{TreeLevels.{is_atom_row}, declared.rules.Part.TheVariants.{Argument, Binary, Suffix}, Rules.{done, row as whole_row, ◌·◌}}
-use Rattle.rnix_grammar.specs.Rules.{after, only}
 use Rattle.rnix_lemmas.proofs.{Basics.{not_if, some_same}, LevelLemmas.{fits_looser}, FollowLemmas.{stops_simple, stops_at, followed_question}}
 use Rattle.rnix_lemmas.proofs.{FollowLemmas.{followed_infix}, FirstTrees.{single_operator}, RowParts.{front}, RestAt.{rest_at}}
 use Rattle.rnix_existence.proofs.{OpenFrames.{seen_kind, EndsBy}, Frames.{AtOperand}, OperandKept.{FollowsBy, by_dot, by_or, by_question, by_operator}}

@@ -1,6 +1,5 @@
 -- A node whose first tree was an operand is itself one.
-use Rattle.std.proofs.Common.{◌≡◌, ℕ, true, List, ◌∷◌, ◌++◌, refl, ap, sym, ◌∙◌, append-nil}
-use Rattle.rnix_kinds.specs.declared.kinds.SyntaxKind.{SyntaxKind}
+use Rattle.{std.proofs.Common.{◌≡◌, ℕ, true, List, ◌∷◌, ◌++◌, refl, ap, sym, ◌∙◌, append-nil}, rnix_kinds.specs.declared.kinds.SyntaxKind.{SyntaxKind}}
 use Rattle.rnix_grammar.specs.{Fault.{Fault}, AnnotatedForest.{Token, AnnotatedForest, ◌⊕◌, one_branch, tokens_in, end_from}, Machine.{Operand, Frame}}
 use Rattle.rnix_grammar.specs.{Machine.{opened}, Rows.{fits}, Operands.{first_tree}, Reads.{IsOver, Reads}, Rules.{Row, after, row as whole_row}}
 use Rattle.rnix_lemmas.proofs.{AnnotatedForestLemmas.{tokens_two}, FollowLemmas.{Stops}, FirstTrees.{IsSingle, first_in}, RowParts.{IsFront}}

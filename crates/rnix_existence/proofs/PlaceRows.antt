@@ -1,9 +1,8 @@
 -- What is done at a place of a node's row leaves it in its row, and opens nodes at places of theirs.
-use Rattle.std.proofs.Common.{◌≡◌, Bool, true, false, Option, Some, None, refl, ap, sym, if◌then◌else◌, nat_le}
+use Rattle.{std.proofs.Common.{◌≡◌, Bool, true, false, Option, Some, None, refl, ap, sym, if◌then◌else◌, nat_le}, rnix_existence.proofs.Frames.{row_at}}
 use Rattle.rnix_kinds.specs.declared.kinds.SyntaxKind.{SyntaxKind}
 use Rattle.rnix_grammar.specs.{declared.place.Place.{Place}, declared.action.Action.{Action}, Actions.{action_at}, AnnotatedForest.{touches}}
 use Rattle.rnix_lemmas.proofs.{NodeKinds.{is_error}, EachKind.{each_next}, NestTrees.{is_formal}, PlaceTable.{is_in_row}}
-use Rattle.rnix_existence.proofs.Frames.{row_at}
 use Rattle.rnix_grammar.specs.declared.place.Place.TheVariants as p
 use Rattle.rnix_grammar.specs.declared.action.Action.TheVariants as a
 

@@ -1,10 +1,8 @@
 -- What is read in the row of an open frame, in front of what is still to come of it.
-use Rattle.std.proofs.Common.{◌≡◌, ℕ, true, List, [], ◌∷◌, ◌++◌, ap, sym, ◌∙◌, subst, append_assoc, append-nil}
-use Rattle.rnix_kinds.specs.declared.kinds.SyntaxKind.{SyntaxKind}
+use Rattle.{std.proofs.Common.{◌≡◌, ℕ, true, List, [], ◌∷◌, ◌++◌, ap, sym, ◌∙◌, subst, append_assoc, append-nil}, rnix_lemmas.proofs.RestAt.{rest_at}}
+use Rattle.{rnix_kinds.specs.declared.kinds.SyntaxKind.{SyntaxKind}, rnix_grammar.specs.{Machine.{Frame, put, kind_of, made}, Reads.{Reads}, Rules.{Row}}}
 use Rattle.rnix_grammar.specs.{declared.place.Place.{Place}, Fault.{Fault}, AnnotatedForest.{Token, AnnotatedForest, ◌⊕◌, tokens_in, end_from}}
-use Rattle.rnix_grammar.specs.{Machine.{Frame, put, kind_of, made}, Reads.{Reads}, Rules.{Row}}
 use Rattle.rnix_lemmas.proofs.{Basics.{true_is_not_false}, AnnotatedForestLemmas.{⊕-assoc, tokens_two, tokens_in-⊕}, StrictParts.{end_behind}, OpenHeads.{is_open}}
-use Rattle.rnix_lemmas.proofs.RestAt.{rest_at}
 use Rattle.rnix_existence.proofs.OpenFrames.{closing, Ends, root_frame, open_frame, operand_frame}
 use Rattle.rnix_grammar.specs.declared.place.Place.TheVariants as p
 

@@ -1,9 +1,8 @@
 -- What the machine of steps makes of a list of items satisfies the rules of readings.
 use Rattle.std.proofs.Common.{◌≡◌, ℕ, false, List, [], ◌∷◌, ◌++◌, refl, ap, sym, ◌∙◌, subst, append-nil, arith}
-use Rattle.rnix_kinds.specs.declared.kinds.SyntaxKind.TheVariants.{NODE_ROOT}
+use Rattle.{rnix_kinds.specs.declared.kinds.SyntaxKind.TheVariants.{NODE_ROOT}, rnix_lemmas.proofs.{AnnotatedForestLemmas.{⊕-blank}, RestAt.{rest_at}}}
 use Rattle.rnix_grammar.specs.{declared.place.Place.{Place}, Fault.{Fault}, AnnotatedForest.{Token, AnnotatedForest, blank, tokens_in, touches}}
 use Rattle.rnix_grammar.specs.{Machine.{Machine, Node, Frame, opened, step_on, begins, Runs, rest, then as further}, Reads.{Reads, ReadsWhole, end}}
-use Rattle.rnix_lemmas.proofs.{AnnotatedForestLemmas.{⊕-blank}, RestAt.{rest_at}}
 use Rattle.rnix_existence.proofs.{OpenFrames.{Ends, root_frame}, Frames.{no_frame, Reading, node, operand, second}, NodeKept.{node_kept, second_kept}}
 use Rattle.rnix_existence.proofs.{OperandKept.{operand_kept}, OperandWhole.{operand_step}, FrameEnds.{node_ends, second_ends}}
 use Rattle.rnix_grammar.specs.declared.place.Place.TheVariants as p

@@ -1,11 +1,10 @@
 -- The parts of a reading, each from what is equal to what it is read from.
-use Rattle.std.proofs.Common.{◌≡◌, ℕ, true, false, List, [], ◌∷◌, ◌++◌, Some, ap, sym, ◌∙◌, subst, refl}
+use Rattle.{std.proofs.Common.{◌≡◌, ℕ, true, false, List, [], ◌∷◌, ◌++◌, Some, ap, sym, ◌∙◌, subst, refl}, rnix_grammar.specs.Reads.{IsWrong, end}}
 use Rattle.rnix_kinds.specs.{declared.kinds.SyntaxKind.{SyntaxKind}, declared.kinds.SyntaxKind.TheVariants.{NODE_ERROR, NODE_IDENT}}
 use Rattle.rnix_grammar.specs.{declared.rules.Part.TheVariants.{BoundAlready}, AnnotatedForest.{Token, Note, Twice, AnnotatedForest, blank, token, branch}}
 use Rattle.rnix_grammar.specs.AnnotatedForest.{fault, ◌⊕◌, one_token, one_branch, one_fault, row_of, tokens_in, leaf_kind, head_kind, end_from}
 use Rattle.rnix_grammar.specs.{Fault.{Fault}, Reports.{report, repeats}, Beginnings.{IsOperandOf}, Rules.{Row, done, ◌·◌, row, second_name, after}}
 use Rattle.rnix_grammar.specs.{Rules.{IsExpected, stands_expected, level_at, IsFollowed}, Reads.{Reads, leaf, inner, wrong, second, IsRoom, deeper, IsOver}}
-use Rattle.rnix_grammar.specs.Reads.{IsWrong, end}
 use Rattle.rnix_lemmas.proofs.RowParts.{IsBare}
 
 -- an item

@@ -1,15 +1,13 @@
 -- What is left of a row at a place.
-use Rattle.std.proofs.Common.{◌≡◌, Bool, true, false, refl, Option}
+use Rattle.{std.proofs.Common.{◌≡◌, Bool, true, false, refl, Option}, rnix_kinds.specs.declared.kinds.SyntaxKind.{SyntaxKind}}
 use Rattle.rnix_kinds.specs.declared.kinds.SyntaxKind.TheVariants.{TOKEN_R_PAREN, TOKEN_L_BRACE, TOKEN_R_BRACE, TOKEN_IN, TOKEN_R_BRACK, TOKEN_SEMICOLON}
 use Rattle.rnix_kinds.specs.declared.kinds.SyntaxKind.TheVariants.{TOKEN_ASSIGN, TOKEN_COLON, TOKEN_THEN, TOKEN_ELSE, TOKEN_INTERPOL_END, TOKEN_STRING_END}
 use Rattle.rnix_kinds.specs.declared.kinds.SyntaxKind.TheVariants.{TOKEN_QUESTION, TOKEN_OR, NODE_IDENT, NODE_INTERPOL, NODE_INHERIT_FROM, NODE_PAT_BIND}
-use Rattle.rnix_kinds.specs.declared.kinds.SyntaxKind.{SyntaxKind}
 use Rattle.rnix_grammar.specs.{declared.place.Place.{Place}, declared.rules.TheConstants.{EXPRESSION}, declared.rules.Part.TheVariants.{Operand, Many}}
 use Rattle.rnix_grammar.specs.declared.rules.Part.TheVariants.{Entries, Wanted, Attr, Attrpath, MoreAttrs, Names, Pieces, PathPieces, Formals}
 use Rattle.rnix_grammar.specs.{declared.rules.Part.TheVariants.{FormalsAfterComma, Comma, Optional, EndOr, BoundAlready, TextEnd}, Levels.{expression_level}}
 use Rattle.rnix_grammar.specs.{Levels.{negation_level, inversion_level, selection_level}, Rules.{Row, never, done, ◌·◌, IsFollowed}}
-use Rattle.rnix_grammar.specs.AnnotatedForest.{AnnotatedForest}
-use Rattle.rnix_lemmas.proofs.RowParts.{is_left, left_followed}
+use Rattle.{rnix_grammar.specs.AnnotatedForest.{AnnotatedForest}, rnix_lemmas.proofs.RowParts.{is_left, left_followed}}
 use Rattle.rnix_grammar.specs.declared.place.Place.TheVariants as p
 
 -- what stands after a pattern's braces

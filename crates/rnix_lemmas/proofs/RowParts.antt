@@ -1,8 +1,7 @@
 -- What is asked of what stands where a row begins, and of what stands at a place of it.
 use Rattle.std.proofs.Common.{◌≡◌, ℕ, Bool, true, false, List, [], ◌∷◌, Option, Some, None, refl, ap, sym, ◌∙◌, subst, suc, if◌then◌else◌}
 use Rattle.rnix_kinds.specs.{declared.kinds.SyntaxKind.{SyntaxKind}, declared.kinds.SyntaxKind.TheVariants.{NODE_LITERAL}, SyntaxKind.{is_token}}
-use Rattle.rnix_kinds.proofs.AllKinds.{implied}
-use Rattle.rnix_green.specs.Equality.{same_kind}
+use Rattle.{rnix_kinds.proofs.AllKinds.{implied}, rnix_green.specs.Equality.{same_kind}}
 use Rattle.rnix_grammar.specs.{declared.rules.Part.TheVariants.{Child, Atom, First, Suffix, Binary, Argument, Operand, Many}, AnnotatedForest.{Token}}
 use Rattle.rnix_grammar.specs.{AnnotatedForest.{AnnotatedForest, blank, head_kind, touches}, Rows.{fits, is_expression}, Rules.{Row, ◌·◌, ◌/◌, only, after}}
 use Rattle.rnix_grammar.specs.Rules.{expects, expects_item, expects_end, IsExpected, IsFollowed, level_at, counts, stands_expected}
@@ -96,16 +95,6 @@ expected_as (Suffix token · r) n ts own h = tt
 expected_as (Binary · r) n ts own h = tt
 expected_as (r / s) n ts own h = tt
 expected_as _ n ts own h = h
-
--- and the other way at a place
-pub as_expected : (r : Row) → is_left r ≡ true → (n : ℕ) (ts : List Token) (own : Bool) → IsExpected r n ts own → expects r n ts ≡ own
-as_expected (Child kind · r) i n ts own h = absurd (cc)
-as_expected (Atom · r) i n ts own h = absurd (cc)
-as_expected (First m · r) i n ts own h = absurd (cc)
-as_expected (Suffix token · r) i n ts own h = absurd (cc)
-as_expected (Binary · r) i n ts own h = absurd (cc)
-as_expected (r / s) i n ts own h = absurd (cc)
-as_expected _ i n ts own h = h
 
 -- no expression is a token
 no_token : (closer k : SyntaxKind) → is_token closer ≡ true → is_expression k ≡ true → same_kind closer k ≡ false
