@@ -1,54 +1,137 @@
-//! Renames a binding and its uses: `nix_rename OFFSET NAME [FILE]` reads FILE or standard input, and prints the text in which what is
-//! bound to the name at OFFSET, in bytes, is bound to NAME. It refuses where that would change what some name means.
+//! Renames a binding and its uses: `nix-rename [-i] FILE LINE:COLUMN NAME` prints the text of FILE in which what is bound to the name at
+//! that place is bound to NAME. It refuses where that would change what some name means.
 #![tactic(auto)]
 
 mod rename;
 
+use nix_cli::{
+    Arguments, FAILED, FOUND, Program, Start, end, place_of, read_arguments, read_text, refuse,
+    shown_name, write_text,
+};
 use rename::{Renaming, rename};
-use rnix::Root;
-use std::io::Write;
+use rnix::{Parse, Root};
+use rnix_text::{ColumnUnit, LineIndex, Position};
+use std::io;
 use std::process::ExitCode;
-use std::{env, fs, io};
 
-// The name cannot be renamed so.
-const REFUSED: u8 = 1;
-// The program is called with other arguments, or the text cannot be read.
-const NOT_READ: u8 = 2;
+const PROGRAM: Program = Program {
+    name: "nix-rename",
+    help: "\
+nix-rename [-i] FILE LINE:COLUMN NAME
 
-// Says why nothing is printed.
-fn refuse(rt: &HostRuntime, reason: &str, status: u8) -> io::Result<ExitCode> {
-    eprintln!(rt; "nix-rename: {reason}")?;
-    Ok(ExitCode::from(status))
+Prints a Nix text in which what is bound to the name at a place is bound to NAME, with all its uses, and all else is as before. It refuses
+where some name would then mean something else. Lines and columns count from 1, columns in characters; an offset in bytes may stand in
+place of LINE:COLUMN. - stands for standard input.
+
+    -i         write the new text to FILE instead: to FILE.new, which is then renamed
+",
+    statuses: "
+Ends with 0, with 1 if the name cannot be renamed so, or with 2 if the text is not Nix, or cannot be read or written.
+",
+    flags: &["-i"],
+    has_colors: false,
+    least: 3,
+    most: 3,
+};
+
+// The offset of a place: a line and a column from 1, or an offset.
+fn offset_of(rt: &HostRuntime, text: &str, place: &str) -> io::Result<Option<usize>> {
+    let Some((line, column)) = place.split_once(':') else {
+        return Ok(place.parse::<usize>().ok());
+    };
+    let (Ok(line), Ok(column)) = (line.parse::<usize>(), column.parse::<usize>()) else {
+        return Ok(None);
+    };
+    if line == 0 || column == 0 {
+        return Ok(None);
+    }
+    let index = LineIndex::new(rt.alloc(), text, ColumnUnit::Chars)?;
+    Ok(index.offset(Position {
+        line: line - 1,
+        column: column - 1,
+    }))
 }
 
-// Prints the text with the new name.
-fn print_renamed(rt: &HostRuntime, text: &str, offset: usize, name: &str) -> io::Result<ExitCode> {
+// Says that a text is not Nix, and where its first error is.
+fn refuse_text(rt: &HostRuntime, name: &str, text: &str, read: &Parse) -> io::Result<u8> {
+    let range = read.errors().first().and_then(|error| error.range());
+    let (line, column) = place_of(text, range.map_or(text.len(), |range| range.start()));
+    eprintln!(rt;
+        "nix-rename: {}:{line}:{column}: this is not Nix",
+        shown_name(name)
+    )?;
+    Ok(FAILED)
+}
+
+// Writes the text with the new name of what stands at a place.
+fn rename_at(
+    rt: &HostRuntime,
+    name: &str,
+    text: &str,
+    place: &str,
+    new: &str,
+    in_place: bool,
+) -> io::Result<u8> {
     let read = Root::parse(rt.alloc(), text)?;
     if !read.errors().is_empty() {
-        return refuse(rt, "the text is not Nix", NOT_READ);
+        return refuse_text(rt, name, text, &read);
     }
-    match rename(rt.alloc(), text, &read.syntax(), offset, name) {
-        Ok(Renaming::Renamed(text)) => {
-            rt.stdout().write_all(text.as_bytes())?;
-            Ok(ExitCode::SUCCESS)
+    let Some(offset) = offset_of(rt, text, place)? else {
+        eprintln!(rt;
+            "nix-rename: {}: there is no place {place}",
+            shown_name(name)
+        )?;
+        return Ok(FAILED);
+    };
+    match rename(rt.alloc(), text, &read.syntax(), offset, new) {
+        Ok(Renaming::Renamed(made)) => {
+            write_text(rt, name, made.as_str(), in_place)?;
+            Ok(0)
         }
-        Ok(Renaming::Refused(reason)) => refuse(rt, reason, REFUSED),
-        Err(_) => refuse(rt, "out of memory", NOT_READ),
+        Ok(Renaming::Refused(reason)) => {
+            eprintln!(rt; "nix-rename: {}:{place}: {reason}", shown_name(name))?;
+            Ok(FOUND)
+        }
+        Err(_) => {
+            refuse(rt, &PROGRAM, "out of memory")?;
+            Ok(FAILED)
+        }
     }
 }
 
-fn main(rt: HostRuntime) -> io::Result<ExitCode> {
-    let mut args = env::args(&rt)?.skip(1);
-    let (Some(offset), Some(name)) = (args.next(), args.next()) else {
-        return refuse(&rt, "use it as nix_rename OFFSET NAME [FILE]", NOT_READ);
+// Renames in the file that the command line names.
+fn rename_in_file(rt: &HostRuntime, arguments: &Arguments) -> io::Result<u8> {
+    let mut words = arguments.words.iter();
+    let (Some(name), Some(place), Some(new)) = (words.next(), words.next(), words.next()) else {
+        return Ok(FAILED);
     };
-    let text = match args.next() {
-        Some(file) => fs::read_to_string(&rt, file.as_str()),
-        None => io::read_to_string(rt.alloc(), rt.stdin()),
-    };
-    match (text, offset.as_str().parse()) {
-        (Ok(text), Ok(offset)) => print_renamed(&rt, text.as_str(), offset, name.as_str()),
-        (Ok(_), Err(_)) => refuse(&rt, "OFFSET is not a number", NOT_READ),
-        (Err(_), _) => refuse(&rt, "the text cannot be read", NOT_READ),
+    let (name, in_place) = (name.as_str(), arguments.has("-i"));
+    if in_place && name == "-" {
+        refuse(rt, &PROGRAM, "-i needs a FILE")?;
+        return Ok(FAILED);
     }
+    match read_text(rt, &PROGRAM, name)? {
+        Some(text) => rename_at(
+            rt,
+            name,
+            text.as_str(),
+            place.as_str(),
+            new.as_str(),
+            in_place,
+        ),
+        None => Ok(FAILED),
+    }
+}
+
+// Does what the command line asks for.
+fn run(rt: &HostRuntime) -> io::Result<u8> {
+    match read_arguments(rt, &PROGRAM)? {
+        Start::Run(arguments) => rename_in_file(rt, &arguments),
+        Start::End(status) => Ok(status),
+    }
+}
+
+fn main(rt: HostRuntime) -> ExitCode {
+    let outcome = run(&rt);
+    end(&rt, &PROGRAM, outcome)
 }

@@ -102,7 +102,7 @@ pub fn rename(
         return Ok(Renaming::Refused("NAME is not a name"));
     }
     let Some(node) = name_at(root, offset) else {
-        return Ok(Renaming::Refused("no name stands at OFFSET"));
+        return Ok(Renaming::Refused("no name stands there"));
     };
     let names = resolve(alloc, root)?;
     let Some(binding) = names.binding_at(&node) else {
