@@ -1,7 +1,6 @@
 -- Calls are read as operands, of a tree with an argument and with the name `or`, if smaller trees are read.
-use Rattle.rnix_lemmas.proofs.{PastRows.{Ended, past_ends}, NodeKinds.unreported}
+use Rattle.{rnix_lemmas.proofs.{PastRows.{Ended, past_ends}, NodeKinds.unreported}, std.proofs.{Common.{◌&&◌, if◌then◌else◌}, lemmas.Bool.and_parts}}
 use Rattle.std.proofs.Common.{◌≡◌, ℕ, ◌≤◌, Bool, true, false, List, [], ◌∷◌, ◌++◌, Some, None, refl, ap, sym, ◌∙◌, subst, append-nil, arith, ◌||◌}
-use Rattle.std.proofs.{Common.{◌&&◌, if◌then◌else◌}, lemmas.Bool.and_parts}
 use Rattle.rnix_kinds.specs.{declared.kinds.SyntaxKind.{SyntaxKind, TheVariants.{TOKEN_FLOAT, TOKEN_OR, NODE_APPLY, NODE_IDENT}}, SyntaxKind.is_fn_arg}
 use Rattle.{rnix_kinds.proofs.AllKinds.implied, rnix_grammar.specs.{Fault.Fault, Actions.{follow as follow_of}, Levels.binding_power}}
 use Rattle.rnix_grammar.specs.{TokenKinds.is_or, AnnotatedForest.{Token, Stray, AnnotatedForest, blank, branch, fault, ◌⊕◌, one_token, one_branch, one_fault}}

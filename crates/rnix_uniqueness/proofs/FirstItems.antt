@@ -1,5 +1,5 @@
 -- What a row goes on with behind a state that is no place: an item, or a name.
-use Rattle.rnix_lemmas.proofs.PastRows.{past_ends}
+use Rattle.{rnix_lemmas.proofs.PastRows.{past_ends}, rnix_uniqueness.proofs.ReadingHeights.{Short, Front, by_leaf, by_stray, by_node, front_of}}
 use Rattle.std.{specs.List.list_all, proofs.Common.{◌≡◌, ℕ, Bool, true, false, List, [], ◌++◌, Option, Some, None, refl, ap, sym, ◌∙◌, subst, if◌then◌else◌}}
 use Rattle.rnix_kinds.{specs.declared.kinds.SyntaxKind.{SyntaxKind, TheVariants.{TOKEN_IDENT, NODE_IDENT, NODE_LITERAL, NODE_ROOT}}, proofs.AllKinds.all_kinds}
 use Rattle.{rnix_kinds.proofs.AllKinds.implied, rnix_grammar.specs.{Fault.Fault, Missing.{missing, run_at}, AnnotatedForest.{Token, Note, Stray, Unwanted}}}
@@ -7,7 +7,6 @@ use Rattle.rnix_grammar.specs.AnnotatedForest.{Extra, Twice, TooDeep, AnnotatedF
 use Rattle.rnix_grammar.specs.{AnnotatedForest.end_from, Reports.repeats, Rows.{RowState, Start, At, first, advance, live, start, whole}, Operands.IsFollowed}
 use Rattle.{rnix_grammar.specs.PlaceReads.{Reads, end, leaf, missing_part, wrong, second, inner, deeper, IsWrong}, rnix_lemmas.proofs.Basics.true_is_not_false}
 use Rattle.rnix_lemmas.proofs.{Basics.not_if, EveryKind.only, PlaceTests.same_place, RowKinds.{has_row, starts_row}}
-use Rattle.rnix_uniqueness.proofs.ReadingHeights.{Short, Front, by_leaf, by_stray, by_node, front_of}
 use Rattle.rnix_grammar.specs.declared.place.Place.TheVariants as p
 
 -- a kind without rows begins at no place

@@ -1,5 +1,5 @@
 -- Functions are read as operands, if smaller rows are read.
-use Rattle.rnix_lemmas.proofs.{PastRows.{Ended, past_ends}}
+use Rattle.{rnix_lemmas.proofs.{PastRows.{Ended, past_ends}}, rnix_uniqueness.proofs.OperandBegins.{begin_for, begins_special}}
 use Rattle.std.proofs.Common.{◌≡◌, ◌⊎◌, inl, inr, ℕ, true, false, List, [], ◌∷◌, ◌++◌, refl, ap, sym, ◌∙◌, subst, append_assoc}
 use Rattle.rnix_kinds.specs.declared.kinds.SyntaxKind.{SyntaxKind, TheVariants.{TOKEN_AT, TOKEN_IDENT, TOKEN_L_BRACE, NODE_IDENT, NODE_IDENT_PARAM}}
 use Rattle.{rnix_kinds.specs.declared.kinds.SyntaxKind.TheVariants.{NODE_LAMBDA, NODE_PATTERN, NODE_PAT_BIND}, rnix_grammar.specs.declared.place.Place.Place}
@@ -11,7 +11,6 @@ use Rattle.rnix_lemmas.proofs.{EveryKind.{only, only_both}, FollowLemmas.followe
 use Rattle.rnix_uniqueness.proofs.{Runs.{runs_on, runs_to, runs_from}, StepReads.{IsOperandRead, ReadsTree}, ReadingHeights.{Short, AllRows, Front, by_leaf}}
 use Rattle.rnix_uniqueness.proofs.{ReadingHeights.{by_stray, by_node, front_of, short_to}, RowClasses.{row_class, ReadOn, read_on}, RowEnds.node_read}
 use Rattle.rnix_uniqueness.proofs.{RowEnds.operand_read, FirstItems.{row_of_kind, item_next, item_alone, name_next}, OperandBegins.BegunBy}
-use Rattle.rnix_uniqueness.proofs.OperandBegins.{begin_for, begins_special}
 use Rattle.rnix_grammar.specs.declared.place.Place.TheVariants as p
 use Rattle.rnix_grammar.specs.declared.begin.Begin.TheVariants as b
 

@@ -1,6 +1,5 @@
 -- A node that stands at a place of a row is read there, if smaller rows and trees are read.
-use Rattle.rnix_lemmas.proofs.Basics.{where_one}
-use Rattle.rnix_lemmas.proofs.{NodeKinds.unreported}
+use Rattle.{rnix_lemmas.proofs.Basics.{where_one}, rnix_lemmas.proofs.{NodeKinds.unreported}, rnix_kinds.specs.SyntaxKind.place_of, std.proofs.Common.nat_eq}
 use Rattle.std.proofs.Common.{◌≡◌, inl, inr, None, ℕ, suc, true, List, [], ◌++◌, Option, Some, refl, ap, sym, ◌∙◌, subst, append-nil, if◌then◌else◌}
 use Rattle.rnix_kinds.specs.declared.kinds.SyntaxKind.{SyntaxKind, TheVariants.{NODE_ATTRPATH, NODE_ATTRPATH_VALUE, TOKEN_AT, TOKEN_IDENT, NODE_IDENT, NODE_PAT_BIND, NODE_PAT_ENTRY}}
 use Rattle.rnix_grammar.specs.{declared.{place.Place.Place, action.Action.Action}, Fault.Fault, Tables.is_wanted, Symbols.{symbol_at, level_in, is_counted}}
@@ -11,7 +10,6 @@ use Rattle.rnix_lemmas.proofs.{Basics.true_is_not_false, EveryKind.{only, only_b
 use Rattle.rnix_uniqueness.proofs.{ReadingHeights.{Short, AllRows, Trees, Front, by_leaf, by_stray, by_node, front_of, short_to}, RowClasses.class_of}
 use Rattle.rnix_uniqueness.proofs.{RowClasses.{row_class, read_on}, RowEnds.is_inner, FirstItems.{row_of_kind, item_next, name_item, name_next}}
 use Rattle.rnix_uniqueness.proofs.{PlacedNodes.{same_kinds, opener, Opens, Read, NodeRead}, RowTrees.ReadsOne}
-use Rattle.{rnix_kinds.specs.SyntaxKind.place_of, std.proofs.Common.nat_eq}
 use Rattle.rnix_uniqueness.proofs.RowTrees.{one_operand, one_begun, one_opened, one_named, one_entry}
 use Rattle.rnix_grammar.specs.declared.place.Place.TheVariants as p
 use Rattle.rnix_grammar.specs.declared.until.Until.TheVariants as u

@@ -1,5 +1,5 @@
 -- Expressions that begin with an item are read as operands, if smaller rows are read.
-use Rattle.rnix_lemmas.proofs.{PastRows.{Ended, past_ends}}
+use Rattle.{rnix_lemmas.proofs.{PastRows.{Ended, past_ends}}, rnix_uniqueness.proofs.OperandBegins.{by_node, begins_led, begins_special, followed_led}}
 use Rattle.std.proofs.Common.{◌≡◌, ℕ, true, false, List, [], ◌∷◌, ◌++◌, Some, refl, ap, sym, ◌∙◌, subst, append-nil}
 use Rattle.rnix_kinds.specs.declared.kinds.SyntaxKind.{SyntaxKind, TheVariants.{TOKEN_L_BRACE, TOKEN_LET, NODE_ERROR, NODE_LEGACY_LET}}
 use Rattle.{rnix_kinds.proofs.AllKinds.implied, rnix_grammar.specs.{Fault.Fault, Begins.{begin_of, second_kind}, AnnotatedForest.{Token, Stray}}}
@@ -9,7 +9,6 @@ use Rattle.{rnix_grammar.specs.{Rows.{BeforeBrace, At, first, advance, live}, Pl
 use Rattle.{rnix_lemmas.proofs.FollowLemmas.{FollowedTo, atom_tight, followed_atom, followed_loose}, rnix_uniqueness.proofs.Runs.{runs_to, runs_from}}
 use Rattle.rnix_uniqueness.proofs.{StepReads.{IsOperandRead, ReadsTree}, ReadingHeights.{Short, AllRows, Front, front_of, short_to}, RowClasses.class_of}
 use Rattle.rnix_uniqueness.proofs.{RowClasses.read_on, RowEnds.operand_read, FirstItems.{is_bare, item_next}, OperandBegins.{is_led, LedBy, by_leaf}}
-use Rattle.rnix_uniqueness.proofs.OperandBegins.{by_node, begins_led, begins_special, followed_led}
 use Rattle.rnix_grammar.specs.declared.place.Place.TheVariants as p
 
 -- an item that begins no operand

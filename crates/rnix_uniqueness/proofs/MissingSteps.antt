@@ -1,11 +1,9 @@
 -- What is done at a place where the text ends.
 use Rattle.std.proofs.Common.{◌≡◌, ℕ, ◌<◌, Bool, true, false, List, [], ◌∷◌, ◌++◌, Option, Some, None, refl, ap, ◌∙◌, arith, if◌then◌else◌, nat_le}
-use Rattle.std.proofs.lemmas.Bool.Decides.{nat_tests}
+use Rattle.{std.proofs.lemmas.Bool.Decides.{nat_tests}, rnix_grammar.specs.{Actions.{done_at}}, rnix_lemmas.proofs.Basics.{some_same}}
 use Rattle.rnix_grammar.specs.{declared.{place.Place.Place, symbol.Symbol.Symbol}, Fault.{Fault, ended}, Tables.{depth_limit}}
-use Rattle.rnix_grammar.specs.{Actions.{done_at}}
 use Rattle.rnix_grammar.specs.{AnnotatedForest.AnnotatedForest, Machine.{Head, Frame, machine, opened, perform, limited}, Missing.{missing_in}}
-use Rattle.{rnix_grammar.specs.{Symbols.is_counted, ExpectedItems.{expects_end}}}
-use Rattle.rnix_lemmas.proofs.Basics.{some_same}
+use Rattle.rnix_grammar.specs.{Symbols.is_counted, ExpectedItems.{expects_end}}
 use Rattle.rnix_grammar.specs.declared.symbol.Symbol.TheVariants as s
 
 -- what is missing is reported once

@@ -1,5 +1,5 @@
 -- Operators, selections and tests for attributes are read as operands, if smaller rows and trees are read.
-use Rattle.rnix_lemmas.proofs.{NodeKinds.unreported}
+use Rattle.{rnix_lemmas.proofs.{NodeKinds.unreported}, rnix_lemmas.proofs.FollowLemmas.{followed_infix, followed_question, followed_tight, follows_token}}
 use Rattle.std.proofs.Common.{◌≡◌, ℕ, Bool, true, false, List, [], ◌∷◌, ◌++◌, Some, refl, ap, sym, ◌∙◌, subst, append-nil, arith}
 use Rattle.rnix_kinds.specs.declared.kinds.SyntaxKind.{SyntaxKind, TheVariants.{TOKEN_ADD, TOKEN_DOT, TOKEN_QUESTION, NODE_BIN_OP, NODE_HAS_ATTR, NODE_LITERAL}}
 use Rattle.{rnix_kinds.{specs.declared.kinds.SyntaxKind.TheVariants.NODE_SELECT, proofs.AllKinds.implied}, rnix_grammar.specs.declared.place.Place.Place}
@@ -10,7 +10,6 @@ use Rattle.rnix_grammar.specs.Rows.{BeforeOperator, BeforeDot, BeforeQuestion, A
 use Rattle.rnix_grammar.specs.{Rows.to, TreeLevels.row_level, Operands.{follows, first_tree, IsFollowed}, PlaceReads.IsOver}
 use Rattle.rnix_lemmas.proofs.{EveryKind.{alike, only}, NodeKinds.{is_error, told_plain}, OpeningRows.{is_place, live_to}, AnnotatedForestLemmas.⊕-assoc}
 use Rattle.rnix_lemmas.proofs.{StrictParts.end_behind, FirstTrees.{IsSingle, a_node, an_error, first_in, single_operator}, FollowLemmas.FollowedTo}
-use Rattle.rnix_lemmas.proofs.FollowLemmas.{followed_infix, followed_question, followed_tight, follows_token}
 use Rattle.rnix_uniqueness.proofs.{Runs.{runs_to, runs_from}, StepReads.{ReadsTree}, ReadingHeights.{Short, AllRows, Trees}}
 use Rattle.rnix_uniqueness.proofs.{ReadingHeights.{Front, by_leaf, by_stray, by_node, front_of, short_to}, RowClasses.{class_of, row_class, ReadOn, read_on}}
 use Rattle.rnix_uniqueness.proofs.{RowEnds.{quiet, operand_read}, FirstItems.{is_bare, Item, item_next}, OperandGoesOn.continued, ItemRows.stray_reads}

@@ -1,8 +1,6 @@
 -- How a node that stands at a place is read there.
-use Rattle.rnix_lemmas.proofs.PlaceTests.{own_next, own_at}
-use Rattle.rnix_lemmas.proofs.Basics.{Where, where_one}
+use Rattle.{rnix_lemmas.proofs.PlaceTests.{own_next, own_at}, rnix_lemmas.proofs.Basics.{Where, where_one}, std.proofs.lemmas.Bool.Decides.{nat_tests}}
 use Rattle.std.{specs.List.list_all, proofs.Common.{◌≡◌, ◌⊎◌, inl, inr, arith, ℕ, Bool, true, false, List, [], ◌∷◌, Option, Some, None, refl, ap, sym, ◌∙◌, subst, if◌then◌else◌, nat_eq}}
-use Rattle.std.proofs.lemmas.Bool.Decides.{nat_tests}
 use Rattle.rnix_kinds.specs.{SyntaxKind.place_of, declared.kinds.SyntaxKind.{SyntaxKind, TheVariants.{TOKEN_AT}}}
 use Rattle.rnix_kinds.specs.declared.kinds.SyntaxKind.TheVariants.{TOKEN_INHERIT, TOKEN_INTERPOL_START, TOKEN_L_PAREN}
 use Rattle.rnix_kinds.specs.declared.kinds.SyntaxKind.TheVariants.{TOKEN_STRING_START, NODE_ATTRPATH, NODE_ATTRPATH_VALUE, NODE_DYNAMIC}

@@ -1,13 +1,12 @@
 -- Where a row ends, its node is complete and goes to the frame below.
 use Rattle.std.proofs.Common.{◌≡◌, ℕ, zero, suc, Bool, true, false, List, [], ◌∷◌, ◌++◌, Some, None, refl, ap, sym, ◌∙◌, append-nil, append_assoc, arith}
-use Rattle.std.proofs.Common.{if◌then◌else◌, nat_le}
+use Rattle.{std.proofs.Common.{if◌then◌else◌, nat_le}, rnix_uniqueness.proofs.RowClasses.{row_class, ReadOn}}
 use Rattle.rnix_kinds.{specs.declared.kinds.SyntaxKind.{SyntaxKind, TheVariants.NODE_PAT_ENTRY}, proofs.AllKinds.every}
 use Rattle.rnix_grammar.specs.{declared.{place.Place.Place, action.Action.Action}, Fault.Fault, Actions.action_at, Symbols.symbol_at, AnnotatedForest.Token}
 use Rattle.rnix_grammar.specs.AnnotatedForest.{Twice, AnnotatedForest, blank, ◌⊕◌, one_branch, one_fault, tokens_in, head_kind, end_from, touches}
 use Rattle.rnix_grammar.specs.{Machine.{Head, Node, Second, Operand, Frame, machine, put, opened, perform, step, Runs, rest as here}, Reports.report}
 use Rattle.rnix_grammar.specs.{Reports.{repeated, repeats}, Rows.{At, whole}, ExpectedItems.expects_in, PlaceReads.IsOver}
 use Rattle.{rnix_lemmas.proofs.{Basics.true_is_not_false, LevelLemmas.at_most}, rnix_uniqueness.proofs.{Runs.{runs_on, runs_to, step_to}, RowClasses.class_of}}
-use Rattle.rnix_uniqueness.proofs.RowClasses.{row_class, ReadOn}
 use Rattle.rnix_grammar.specs.declared.place.Place.TheVariants as p
 use Rattle.rnix_grammar.specs.declared.action.Action.TheVariants as a
 

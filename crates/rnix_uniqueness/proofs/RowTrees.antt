@@ -1,6 +1,6 @@
 -- How the steps read one more tree of a row, and the rest of the row behind it.
 use Rattle.std.proofs.Common.{◌≡◌, ℕ, suc, ◌<◌, ◌≤◌, Bool, true, false, List, [], ◌∷◌, ◌++◌, Some, refl, ap, sym, ◌∙◌, subst, append-nil, append_assoc, arith}
-use Rattle.std.proofs.{Common.{if◌then◌else◌, nat_le}, lemmas.Bool.Decides.nat_tests}
+use Rattle.{std.proofs.{Common.{if◌then◌else◌, nat_le}, lemmas.Bool.Decides.nat_tests}, rnix_uniqueness.proofs.RowEnds.{closes_second}}
 use Rattle.rnix_kinds.specs.declared.kinds.SyntaxKind.{SyntaxKind, TheVariants.{TOKEN_AT, NODE_IDENT, NODE_PAT_ENTRY, NODE_ERROR}}
 use Rattle.rnix_grammar.specs.{declared.place.Place.Place, Fault.{Fault, too_deep}, Tables.depth_limit, Symbols.{symbol_at, is_counted}, Actions.action_at}
 use Rattle.rnix_grammar.specs.AnnotatedForest.{Token, AnnotatedForest, blank, ◌⊕◌, one_token, tokens_in, leaf_kind, head_kind, end_from, touches, Unwanted}
@@ -11,7 +11,6 @@ use Rattle.{rnix_grammar.specs.{PlaceReads.deeper, declared.until.Until.Until, R
 use Rattle.rnix_lemmas.proofs.{AnnotatedForestLemmas.⊕-blank, StrictParts.end_behind, OpenHeads.is_open, RunLemmas.dropped_all}
 use Rattle.rnix_uniqueness.proofs.{Runs.{runs_on, runs_to, step_to}, StepReads.{ReadsRow, ReadsTree, IsOperandRead}, OwnTokens.{takes_at, runs_at}, MissingSteps.misses_in}
 use Rattle.rnix_uniqueness.proofs.{OperandGoesOn.settles, RowClasses.{class_of, row_class, ReadOn}, RowEnds.{is_inner, node_read}}
-use Rattle.rnix_uniqueness.proofs.RowEnds.{closes_second}
 use Rattle.rnix_grammar.specs.declared.place.Place.TheVariants as p
 use Rattle.rnix_grammar.specs.declared.action.Action.TheVariants as a
 

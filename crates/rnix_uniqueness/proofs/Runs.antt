@@ -1,6 +1,5 @@
 -- Steps one after another.
-use Rattle.std.proofs.Common.{◌≡◌, Bool, false, sym, subst}
-use Rattle.rnix_grammar.specs.Machine.{Machine, step, Runs, rest as here, then as further}
+use Rattle.{std.proofs.Common.{◌≡◌, Bool, false, sym, subst}, rnix_grammar.specs.Machine.{Machine, step, Runs, rest as here, then as further}}
 
 -- runs one after another
 pub runs_on : {raw : Bool} {l m n : Machine} → Runs raw l m → Runs raw m n → Runs raw l n

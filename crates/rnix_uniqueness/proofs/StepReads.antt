@@ -1,9 +1,8 @@
 -- What it means that the steps make a row, or an operand, of some items.
-use Rattle.std.proofs.Common.{◌≡◌, ℕ, ◌≤◌, true, false, List, ◌∷◌, ◌++◌}
+use Rattle.{std.proofs.Common.{◌≡◌, ℕ, ◌≤◌, true, false, List, ◌∷◌, ◌++◌}, rnix_lemmas.proofs.FollowLemmas.{FollowedTo}}
 use Rattle.{rnix_kinds.specs.declared.kinds.SyntaxKind.SyntaxKind, rnix_grammar.specs.{declared.place.Place.Place, Fault.Fault, AnnotatedForest.Token}}
 use Rattle.rnix_grammar.specs.{AnnotatedForest.{AnnotatedForest, ◌⊕◌, tokens_in, end_from}, Machine.{Head, Operand, Frame, machine, opened, kind_of}}
 use Rattle.{rnix_grammar.specs.{Machine.{operand_on, Runs}, TreeLevels.row_level, Operands.IsBegun}, rnix_lemmas.proofs.OpenHeads.is_open}
-use Rattle.rnix_lemmas.proofs.FollowLemmas.{FollowedTo}
 use Rattle.rnix_grammar.specs.declared.place.Place.TheVariants as p
 
 -- The steps read a row on from a place to another, in any open frame whose node has the kind.

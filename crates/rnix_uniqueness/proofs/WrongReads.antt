@@ -1,5 +1,5 @@
 -- An error node that stands at a place of a row is read there.
-use Rattle.rnix_lemmas.proofs.PlaceTests.{own_at}
+use Rattle.{rnix_lemmas.proofs.PlaceTests.{own_at}, rnix_uniqueness.proofs.{ItemRows.stray_reads, PlacedNodes.{Operands, operand_read_in}}}
 use Rattle.std.proofs.Common.{◌≡◌, ℕ, true, false, List, [], ◌∷◌, ◌++◌, Option, Some, None, length, refl, ap, sym, ◌∙◌, subst, append-nil}
 use Rattle.{rnix_kinds.specs.declared.kinds.SyntaxKind.{SyntaxKind, TheVariants.NODE_LITERAL}, rnix_grammar.specs.declared.place.Place.Place}
 use Rattle.rnix_grammar.specs.{declared.{until.Until.Until}, Tables.depth_limit, Symbols.{symbol_at, level_in, is_counted}}
@@ -7,7 +7,6 @@ use Rattle.rnix_grammar.specs.{Missing.{run_at, run_of}, AnnotatedForest.{touche
 use Rattle.rnix_grammar.specs.{AnnotatedForest.{one_fault, row_of, is_some, head_kind}, Reports.report, Rows.{RowState, At, Nowhere, advance}}
 use Rattle.rnix_grammar.specs.{Rows.{live}, ExpectedItems.expects, Operands.IsOperand, PlaceReads.{deeper, IsRoom, IsWrong}}
 use Rattle.rnix_lemmas.proofs.{Basics.true_is_not_false, PlaceTests.{same_place, no_place}, PlainPlaces.{Reaches, reaches}}
-use Rattle.{rnix_uniqueness.proofs.{ItemRows.stray_reads, PlacedNodes.{Operands, operand_read_in}}}
 use Rattle.rnix_uniqueness.proofs.{RowTrees.{ReadsOne, one_operand, one_unwanted, one_extra, one_deep}, ReadingHeights.lone_token}
 use Rattle.rnix_grammar.specs.declared.place.Place.TheVariants as p
 use Rattle.rnix_grammar.specs.declared.action.Action.TheVariants as a
