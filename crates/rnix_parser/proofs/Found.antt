@@ -1,13 +1,13 @@
 -- Derivations are found, and found alone.
-use Rattle.{std.proofs.{Common.{◌≡◌, List, [], ap, sym, subst, ◌∙◌}, lemmas.Bool.and_parts as and_both}, rnix_green.specs.Forest.Forest}
-use Rattle.rnix_grammar.specs.{Fault.Fault, AnnotatedForest.{Token, AnnotatedForest, tokens_in, forget}, PlaceReads.ReadsWhole, Strict.is_strict_expression}
-use Rattle.{rnix_grammar.specs.Derivation.{laid, has_tokens_alone, IsDerivation}, rnix_lemmas.proofs.LaidLemmas.{IsLaidWhole, laid_whole}}
+use Rattle.{std.proofs.Common.{◌≡◌, List, [], ap, sym, subst, ◌∙◌}, rnix_green.specs.Forest.Forest}
+use Rattle.rnix_grammar.specs.{Fault.Fault, AnnotatedForest.{Token, AnnotatedForest, tokens_in, forget}, PlaceReads.ReadsWhole}
+use Rattle.{rnix_grammar.specs.Derivation.{laid, IsDerivation}, rnix_lemmas.proofs.LaidLemmas.{IsLaidWhole, laid_whole}}
 use Rattle.{rnix_completeness.proofs.{GrammarReads.expression_reads, OverTokens.{Over, over_trees}}, rnix_uniqueness.proofs.AllReads.one_row}
-use Rattle.{rnix_strict.proofs.GrammarStrict.expression_strict, rnix_proof_rules.proofs.ReadsAlike.whole_old}
+use Rattle.{rnix_strict.proofs.GrammarLeaves.expression_fine, rnix_proof_rules.proofs.ReadsAlike.whole_old}
 
 -- a derivation over its items
 laid_over : (t : Forest) (ts : List Token) → IsDerivation t ts → IsLaidWhole t ts
-laid_over t ts d = laid_whole t ts (and_both (has_tokens_alone t) (is_strict_expression t) (expression_strict t d.strict)).0 d.yields
+laid_over t ts d = laid_whole t ts (expression_fine d.strict).tokens d.yields
 
 -- a derivation is a reading of its items, without errors
 derivation_reads : (t : Forest) (ts : List Token) → IsDerivation t ts → ReadsWhole (laid t ts) []

@@ -1,4 +1,2 @@
 pub mod GrammarLeaves
-pub mod GrammarRows
-pub mod StrictExamples
-pub mod GrammarStrict
+pub mod DepthExamples
