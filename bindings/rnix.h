@@ -322,7 +322,7 @@ int64_t rnix_error_texts(const uint8_t *text, size_t len, uint8_t *buffer, size_
 
 /*
  * Writes the diagnostics of a text, which describe its errors in plain words, and their joined messages in UTF-8, and the length of these to
- * *buffer_len (not NULL). An error that would repeat the message of the previous one at the same place has none of its own.
+ * *buffer_len (not NULL). A diagnostic may stand for several errors in a row, which follow from the first of them.
  * Returns the number of diagnostics. Refusals: RNIX_NOT_UTF8, RNIX_TOO_LONG, RNIX_NO_MEMORY.
  */
 int64_t rnix_diagnostics(const uint8_t *text, size_t len, struct rnix_diagnostic *diagnostics, size_t room, uint8_t *buffer, size_t buffer_room,

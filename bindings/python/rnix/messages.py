@@ -21,7 +21,7 @@ class Diagnostic:
 
 
 def diagnostics(tree: Tree) -> list[Diagnostic]:
-    """Returns the diagnostics of a text, in the order of its errors. A message that repeats the previous one at the same place is left out."""
+    """Returns the diagnostics of a text, in the order of its errors. One may stand for several errors in a row."""
     source = tree.source
     if not tree.errors:
         return []

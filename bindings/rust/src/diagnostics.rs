@@ -28,7 +28,7 @@ fn read(text: &str, count: usize) -> Result<(Vec<ffi::Diagnostic>, Vec<u8>), Ref
     }
 }
 
-/// Returns the diagnostics of a text, in the order of its errors. A message that repeats the previous one at the same place is left out.
+/// Returns the diagnostics of a text, in the order of its errors. One may stand for several errors in a row.
 ///
 /// # Panics
 /// If memory runs out.
