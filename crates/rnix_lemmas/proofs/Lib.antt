@@ -15,6 +15,7 @@ pub mod WithoutTriviaLemmas
 pub mod AllowedLemmas
 pub mod PlaceLemmas
 pub mod EachKind
+pub mod EachIndex
 pub mod EdgeLemmas
 pub mod ReportLemmas
 pub mod MissingFacts

@@ -2,8 +2,8 @@
 use Rattle.std.proofs.Common.{◌≡◌, ◌∙◌, ℕ, Bool, true, false, List, [], ◌∷◌, Option, Some, refl, sym}
 use Rattle.std.specs.Prelude.{nat_eq}
 use Rattle.rnix_kinds.specs.declared.kinds.SyntaxKind.{SyntaxKind}
-use Rattle.rnix_grammar.specs.declared.place.Place.{Place}
-use Rattle.rnix_grammar.specs.declared.place.Place.TheVariants as p
+use Rattle.rnix_grammar.specs.RowPlaces.{Place}
+use Rattle.rnix_grammar.specs.RowPlaces as p
 use Rattle.rnix_grammar.specs.declared.rules.Part.TheVariants.{BoundAlready, TextEnd}
 use Rattle.rnix_grammar.specs.AnnotatedForest.{Token, AnnotatedForest, is_some}
 use Rattle.rnix_grammar.specs.Rows.{RowState, Start, BeforeOperator, BeforeDot, BeforeQuestion, BeforeArgument, At, Nowhere, live}
@@ -14,7 +14,7 @@ use Rattle.rnix_lemmas.proofs.EachKind.{each_kind}
 use Rattle.rnix_lemmas.proofs.Basics.{true_is_not_false}
 use Rattle.rnix_proof_rules.proofs.RowsAreRules.{rest_of}
 use Rattle.rnix_proof_rules.proofs.PlacesAreRules.{expects_item_is, expects_end_is}
-use Rattle.rnix_lemmas.proofs.RestAt.{rest_at}
+use Rattle.rnix_proof_rules.proofs.PlaceRest.{rest_at}
 
 -- there is a row
 abbrev pub is_live : Row → Bool

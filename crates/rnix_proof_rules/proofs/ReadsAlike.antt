@@ -4,9 +4,9 @@ use Rattle.std.proofs.Common.{◌≡◌, ◌∙◌, ℕ, suc, Bool, true, false,
 use Rattle.std.specs.Prelude.{if◌then◌else◌}
 use Rattle.rnix_kinds.specs.declared.kinds.SyntaxKind.{SyntaxKind}
 use Rattle.rnix_kinds.specs.declared.kinds.SyntaxKind.TheVariants.{TOKEN_R_PAREN, TOKEN_L_BRACE, TOKEN_R_BRACE, TOKEN_SEMICOLON, TOKEN_ASSIGN, TOKEN_COLON, TOKEN_THEN, TOKEN_ELSE, TOKEN_INTERPOL_END, TOKEN_STRING_END, TOKEN_IDENT, NODE_ROOT, NODE_ERROR, NODE_LITERAL}
-use Rattle.rnix_grammar.specs.declared.place.Place.{Place}
-use Rattle.rnix_grammar.specs.declared.place.Place.TheVariants as p
-use Rattle.rnix_grammar.specs.declared.place.Place.TheVariants.{PatternPast}
+use Rattle.rnix_grammar.specs.RowPlaces.{Place}
+use Rattle.rnix_grammar.specs.RowPlaces as p
+use Rattle.rnix_grammar.specs.RowPlaces.{PatternPast}
 use Rattle.rnix_grammar.specs.declared.until.Until.{Until}
 use Rattle.rnix_grammar.specs.declared.until.Until.TheVariants as u
 use Rattle.rnix_grammar.specs.declared.rules.Part.TheVariants.{Argument, TextEnd}
@@ -30,7 +30,7 @@ use Rattle.rnix_lemmas.proofs.BeginAlike.{operand_by_steps}
 use Rattle.rnix_proof_rules.proofs.RowsAreRules.{rest_of, row_is, may_end_is, after_is}
 use Rattle.rnix_proof_rules.proofs.PlacesAreRules.{missing_rest, missing_of, missing_is, run_rest, run_of, run_is, expects_end_is, stands_same, level_is, counts_is}
 use Rattle.rnix_proof_rules.proofs.Expected.{is_live, live_before, end_live, state_live, expected_old, followed_old, is_text_end, text_end_is, is_bound, bound_is}
-use Rattle.rnix_lemmas.proofs.RestAt.{rest_at}
+use Rattle.rnix_proof_rules.proofs.PlaceRest.{rest_at}
 
 -- the counted places
 deeper_is : (q : RowState) (d : ℕ) → old.deeper q d ≡ new.deeper (rest_of q) d
