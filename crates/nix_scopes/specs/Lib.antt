@@ -5,4 +5,3 @@ pub mod Scopes
 pub mod Bound
 pub mod Occurrences
 pub mod Resolving
-pub mod Alike

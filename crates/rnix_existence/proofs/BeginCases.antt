@@ -1,5 +1,4 @@
 -- Each way in which an operand begins leads to a whole operand.
-use Rattle.rnix_grammar.specs.declared.position.TheConstants.{BOUND_PATTERN, LAMBDA, LEGACY_LET, PATTERN}
 use Rattle.std.proofs.Common.{◌≡◌, ℕ, true, false, List, [], ◌∷◌, ◌++◌, refl, ap, sym, ◌∙◌, subst, append_assoc, append-nil}
 use Rattle.rnix_kinds.specs.{declared.kinds.SyntaxKind.{SyntaxKind}, declared.kinds.SyntaxKind.TheVariants.{TOKEN_LET, TOKEN_L_BRACE, TOKEN_IDENT, TOKEN_AT}}
 use Rattle.rnix_kinds.specs.declared.kinds.SyntaxKind.TheVariants.{NODE_IDENT, NODE_IDENT_PARAM, NODE_LAMBDA, NODE_LEGACY_LET, NODE_PATTERN, NODE_PAT_BIND}
@@ -19,74 +18,6 @@ use Rattle.rnix_grammar.specs.declared.begin.Begin.TheVariants as b
 -- a name as a row
 name_of : {d n : ℕ} {us : List Token} (t : Token) → t.kind ≡ TOKEN_IDENT → Reads NODE_IDENT d n (whole_row NODE_IDENT) done blank us (one_token (leaf_kind NODE_IDENT t) t) []
 name_of t e = name_reads t (ap (λ k. after (whole_row NODE_IDENT) (leaf_kind_as NODE_IDENT k)) e)
-
--- a function whose pattern begins with some trees is the first tree of an operand
-pub pattern_ends : (level d : ℕ) (z : Place) (x : AnnotatedForest) (g : Frame) (fs : List Frame) (ts us : List Token) (n m : ℕ) (row : AnnotatedForest) (es gs : List Fault)
-    → ts ≡ tokens_in x ++ us → m ≡ end_from n (tokens_in x)
-    → ((left : List Token) (s : Row) (rest : AnnotatedForest) (ds : List Fault) → us ≡ tokens_in rest ++ left → Reads NODE_PATTERN d m (rest_at z) s x left rest ds
-    → Reads NODE_PATTERN d n (whole_row NODE_PATTERN) s blank left (x ⊕ rest) ds)
-    → ((c rest : AnnotatedForest) → BeginsAs level (one_branch NODE_LAMBDA (one_branch NODE_PATTERN c ⊕ rest)) ts)
-    → Ends (opened (Node NODE_PATTERN) z d x ∷ (opened (Node NODE_LAMBDA) LAMBDA d blank ∷ (opened Operand (p.Behind level 16) d blank ∷ (put g.place g.row g ∷ fs)))) us m row es
-    → BeginEnds level d g fs ts n row gs (gs ++ es)
-pattern_ends level d z x g fs ts us n m row es gs items reach reads begun ends =
-    node_ends level 16 d NODE_LAMBDA LAMBDA (one_branch NODE_PATTERN (x ⊕ o.rest)) g fs ts o.left n o.reached row o.inside o.behind gs (gs ++ es) (atom_fits level NODE_LAMBDA refl)
-    (items ∙ ap (λ y. tokens_in x ++ y) o.items ∙ sym (tokens_two x o.rest o.left) ∙ ap (λ y. y ++ o.left) (sym (alone_tokens NODE_PATTERN (x ⊕ o.rest))))
-    (last ∙ ap (end_from n) (sym (alone_tokens NODE_PATTERN (x ⊕ o.rest))))
-    (λ left s rest ds v w. plain_from in_lambda v refl (reads o.left o.row_state o.rest o.inside o.items o.reads) last o.over tt tt refl w
-    (ap (λ y. y ++ ds) (sym (append-nil o.inside))))
-    (λ rest. stops_all (one_branch NODE_LAMBDA (one_branch NODE_PATTERN (x ⊕ o.rest) ⊕ rest))) (begun (x ⊕ o.rest)) o.ends (ap (λ y. gs ++ y) (sym o.faults))
-  where
-    o : OpenEnds (opened (Node NODE_PATTERN) z d x) (opened (Node NODE_LAMBDA) LAMBDA d blank) (opened Operand (p.Behind level 16) d blank ∷ (put g.place g.row g ∷ fs)) us m row es
-    o = open_ends (opened (Node NODE_PATTERN) z d x) (opened (Node NODE_LAMBDA) LAMBDA d blank) (opened Operand (p.Behind level 16) d blank ∷ (put g.place g.row g ∷ fs)) us m row es refl ends
-
-    last : o.reached ≡ end_from n (tokens_in (x ⊕ o.rest))
-    last = o.reach ∙ ap (λ j. end_from j (tokens_in o.rest)) reach ∙ sym (end_two n x o.rest)
-
--- `let {`
-legacy : (level d : ℕ) (t u : Token) (us : List Token) (g : Frame) (fs : List Frame) (n : ℕ) (gs : List Fault) (row : AnnotatedForest) (es : List Fault) → t.kind ≡ TOKEN_LET → u.kind ≡ TOKEN_L_BRACE → level ≡ 0
-    → ((x : AnnotatedForest) → BeginsAs level (one_branch NODE_LEGACY_LET x) (t ∷ (u ∷ us)))
-    → Ends (begun false b.LegacyLet level d t g fs (t ∷ (u ∷ us)) n gs).frames us u.end row es → BeginEnds level d g fs (t ∷ (u ∷ us)) n row gs (gs ++ es)
-legacy level d t u us g fs n gs row es e h l w ends =
-    node_ends level 0 d NODE_LEGACY_LET LEGACY_LET (one_token (leaf_kind NODE_LEGACY_LET t) t ⊕ one_token (leaf_kind NODE_LEGACY_LET u) u) g fs (t ∷ (u ∷ us)) us n u.end row [] es gs (gs ++ es)
-    (subst (λ (v : ℕ). fits v NODE_LEGACY_LET ≡ true) (sym l) refl) refl refl
-    (λ left s rest ds v z. first_leaf NODE_LEGACY_LET t (front (whole_row NODE_LEGACY_LET) refl) (ap (λ k. after (whole_row NODE_LEGACY_LET) (leaf_kind_as NODE_LEGACY_LET k)) e)
-    (leaf_from refl tt tt (ap (λ k. after (after (whole_row NODE_LEGACY_LET) TOKEN_LET) (leaf_kind_as NODE_LEGACY_LET k)) h) z))
-    (λ rest. stops_at 0 (one_branch NODE_LEGACY_LET ((one_token (leaf_kind NODE_LEGACY_LET t) t ⊕ one_token (leaf_kind NODE_LEGACY_LET u) u) ⊕ rest)) (followed_loose (one_branch NODE_LEGACY_LET ((one_token (leaf_kind NODE_LEGACY_LET t) t ⊕ one_token (leaf_kind NODE_LEGACY_LET u) u) ⊕ rest)) refl refl))
-    (λ rest. w ((one_token (leaf_kind NODE_LEGACY_LET t) t ⊕ one_token (leaf_kind NODE_LEGACY_LET u) u) ⊕ rest)) ends refl
-
--- `name:`
-named : (level d : ℕ) (t : Token) (us : List Token) (g : Frame) (fs : List Frame) (n : ℕ) (gs : List Fault) (row : AnnotatedForest) (es : List Fault) → t.kind ≡ TOKEN_IDENT
-    → ((c rest : AnnotatedForest) → BeginsAs level (one_branch NODE_LAMBDA (one_branch NODE_IDENT_PARAM c ⊕ rest)) (t ∷ us))
-    → Ends (begun false b.NameLambda level d t g fs (t ∷ us) n gs).frames us t.end row es → BeginEnds level d g fs (t ∷ us) n row gs (gs ++ es)
-named level d t us g fs n gs row es e w ends =
-    node_ends level 16 d NODE_LAMBDA LAMBDA (one_branch NODE_IDENT_PARAM (one_branch NODE_IDENT (one_token (leaf_kind NODE_IDENT t) t))) g fs (t ∷ us) us n t.end row [] es gs (gs ++ es)
-    (atom_fits level NODE_LAMBDA refl) refl refl
-    (λ left s rest ds v z. plain_from in_lambda refl refl
-    (plain_from (front (whole_row NODE_IDENT_PARAM) refl).bare refl refl (name_of t e) refl (past_over t.end (tokens_in rest ++ left)) tt tt refl end refl)
-    refl (past_over t.end (tokens_in rest ++ left)) tt tt refl z refl)
-    (λ rest. stops_all (one_branch NODE_LAMBDA (one_branch NODE_IDENT_PARAM (one_branch NODE_IDENT (one_token (leaf_kind NODE_IDENT t) t)) ⊕ rest)))
-    (λ rest. w (one_branch NODE_IDENT (one_token (leaf_kind NODE_IDENT t) t)) rest) ends refl
-
--- `name@`
-bound : (level d : ℕ) (t u : Token) (us : List Token) (g : Frame) (fs : List Frame) (n : ℕ) (gs : List Fault) (row : AnnotatedForest) (es : List Fault) → t.kind ≡ TOKEN_IDENT → u.kind ≡ TOKEN_AT
-    → ((c rest : AnnotatedForest) → BeginsAs level (one_branch NODE_LAMBDA (one_branch NODE_PATTERN c ⊕ rest)) (t ∷ (u ∷ us)))
-    → Ends (begun false b.BoundLambda level d t g fs (t ∷ (u ∷ us)) n gs).frames us u.end row es → BeginEnds level d g fs (t ∷ (u ∷ us)) n row gs (gs ++ es)
-bound level d t u us g fs n gs row es e h w ends =
-    pattern_ends level d BOUND_PATTERN (one_branch NODE_PAT_BIND (one_branch NODE_IDENT (one_token (leaf_kind NODE_IDENT t) t) ⊕ one_token (leaf_kind NODE_PAT_BIND u) u)) g fs (t ∷ (u ∷ us)) us n u.end row es gs
-    refl refl
-    (λ left s rest ds v z. plain_from (front (whole_row NODE_PATTERN) refl).bare refl refl
-    (plain_from (front (whole_row NODE_PAT_BIND) refl).bare refl refl (name_of t e) refl (past_over t.end (u ∷ (tokens_in rest ++ left))) tt tt refl
-    (leaf_from refl tt tt (ap (λ k. after (after (whole_row NODE_PAT_BIND) NODE_IDENT) (leaf_kind_as NODE_PAT_BIND k)) h) end) refl)
-    refl (past_over u.end (tokens_in rest ++ left)) tt tt refl z refl)
-    w ends
-
--- `{` of a pattern
-patterned : (level d : ℕ) (t : Token) (us : List Token) (g : Frame) (fs : List Frame) (n : ℕ) (gs : List Fault) (row : AnnotatedForest) (es : List Fault) → t.kind ≡ TOKEN_L_BRACE
-    → ((c rest : AnnotatedForest) → BeginsAs level (one_branch NODE_LAMBDA (one_branch NODE_PATTERN c ⊕ rest)) (t ∷ us))
-    → Ends (begun false b.PatternLambda level d t g fs (t ∷ us) n gs).frames us t.end row es → BeginEnds level d g fs (t ∷ us) n row gs (gs ++ es)
-patterned level d t us g fs n gs row es e w ends =
-    pattern_ends level d PATTERN (one_token (leaf_kind NODE_PATTERN t) t) g fs (t ∷ us) us n t.end row es gs refl refl
-    (λ left s rest ds v z. first_leaf NODE_PATTERN t (front (whole_row NODE_PATTERN) refl) (ap (λ k. after (whole_row NODE_PATTERN) (leaf_kind_as NODE_PATTERN k)) e) z) w ends
 
 -- an operand begins as its first tree does
 begins_as : (level : ℕ) (t : Token) (us : List Token) (begin : Begin) (x : AnnotatedForest) → begin_of level t.kind t.text (head_kind us) (second_kind us) ≡ begin

@@ -1,5 +1,4 @@
 -- Steps that begin an operand keep what is known of the frames.
-use Rattle.rnix_grammar.specs.declared.position.TheConstants.{BOUND_PATTERN, LAMBDA, LEGACY_LET, PATTERN}
 use Rattle.std.proofs.Common.{◌≡◌, ℕ, suc, ◌≤◌, ◌<◌, Bool, true, false, List, [], ◌∷◌, Some, refl, subst, arith, if◌then◌else◌, nat_le}
 use Rattle.std.proofs.lemmas.Bool.Decides.{nat_tests}
 use Rattle.rnix_kinds.specs.declared.kinds.SyntaxKind.{SyntaxKind, TheVariants.{NODE_IDENT, NODE_IDENT_PARAM, NODE_LAMBDA, NODE_LEGACY_LET, NODE_PATTERN}}
@@ -24,19 +23,19 @@ on_operand k z d level high x g fs r i s grows = record {
 
 -- a function's node
 lambda_kept : (d level : ℕ) (x : AnnotatedForest) (g : Frame) (fs : List Frame) → AtNode g fs → d ≤ depth_limit → level ≤ 16
-    → AtNode (opened (Node NODE_LAMBDA) LAMBDA d x) (opened Operand (p.Behind level 16) d blank ∷ (put g.place g.row g ∷ fs))
+    → AtNode (opened (Node NODE_LAMBDA) p.LambdaColon d x) (opened Operand (p.Behind level 16) d blank ∷ (put g.place g.row g ∷ fs))
 lambda_kept d level x g fs r s l =
-    on_operand NODE_LAMBDA LAMBDA d level 16 x g fs r (refl, refl) s (λ rest. atom_grows level (one_branch NODE_LAMBDA (x ⊕ rest)) refl refl refl l)
+    on_operand NODE_LAMBDA p.LambdaColon d level 16 x g fs r (refl, refl) s (λ rest. atom_grows level (one_branch NODE_LAMBDA (x ⊕ rest)) refl refl refl l)
 
 -- a pattern in a function's node
 pattern_kept : (d level : ℕ) (z : Place) (x : AnnotatedForest) (g : Frame) (fs : List Frame) → AtNode g fs → d ≤ depth_limit → level ≤ 16
     → row_at z ≡ Some false
-    → Reading (opened (Node NODE_PATTERN) z d x ∷ (opened (Node NODE_LAMBDA) LAMBDA d blank ∷ (opened Operand (p.Behind level 16) d blank ∷ (put g.place g.row g ∷ fs))))
+    → Reading (opened (Node NODE_PATTERN) z d x ∷ (opened (Node NODE_LAMBDA) p.LambdaColon d blank ∷ (opened Operand (p.Behind level 16) d blank ∷ (put g.place g.row g ∷ fs))))
 pattern_kept d level z x g fs r s l h = node (record {
   kind = NODE_PATTERN;
   node = record { is = refl; sound = refl; home = h; shallow = s };
   below =
-      waits (opened (Node NODE_LAMBDA) LAMBDA d blank)
+      waits (opened (Node NODE_LAMBDA) p.LambdaColon d blank)
       (opened Operand (p.Behind level 16) d blank ∷ (put g.place g.row g ∷ fs)) (lambda_kept d level blank g fs r s l);
 })
 
@@ -60,15 +59,15 @@ begun_kept (b.Node k z high) level d t ts g fs n gs w r s l =
     (λ rest. subst (λ (v : ℕ). MayGrow level v (one_branch k (token (leaf_kind k t) t rest))) w.5 (begun_grows k t.kind level t rest w.1 w.2 w.3 l)))
 begun_kept b.LegacyLet level d t ts g fs n gs w r s l =
     let x : AnnotatedForest = leaf false NODE_LEGACY_LET (t ∷ ts) ⊕ leaf false NODE_LEGACY_LET (behind false (t ∷ ts)) in
-    node (on_operand NODE_LEGACY_LET LEGACY_LET d level 0 x g fs r (refl, refl) s
+    node (on_operand NODE_LEGACY_LET p.LegacyInside d level 0 x g fs r (refl, refl) s
     (λ rest. grows_by level 0 (one_branch NODE_LEGACY_LET (x ⊕ rest)) refl (omega (arith, w.2)) (omega arith) (followed_loose (one_branch NODE_LEGACY_LET (x ⊕ rest)) refl refl) refl))
 begun_kept b.NameLambda level d t ts g fs n gs w r s l =
     node (lambda_kept d level (one_branch NODE_IDENT_PARAM (one_branch NODE_IDENT (leaf false NODE_IDENT (t ∷ ts)))) g fs r s l)
 begun_kept b.BoundLambda level d t ts g fs n gs w r s l =
-    pattern_kept d level BOUND_PATTERN
+    pattern_kept d level p.PatternBrace
     (one_branch NODE_PAT_BIND (one_branch NODE_IDENT (leaf false NODE_IDENT (t ∷ ts)) ⊕ leaf false NODE_PAT_BIND (behind false (t ∷ ts)))) g fs r s l refl
 begun_kept b.PatternLambda level d t ts g fs n gs w r s l =
-    pattern_kept d level PATTERN (leaf false NODE_PATTERN (t ∷ ts)) g fs r s l refl
+    pattern_kept d level (p.PatternStart false) (leaf false NODE_PATTERN (t ∷ ts)) g fs r s l refl
 begun_kept b.Stray level d t ts g fs n gs w r s l = operand (record {
   low = level;
   high = 16;

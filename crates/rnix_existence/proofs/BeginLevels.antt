@@ -1,5 +1,4 @@
 -- How an operand begins: its first tree, and what may go on with it.
-use Rattle.rnix_grammar.specs.declared.position.TheConstants.{INVERSION, NEGATION}
 use Rattle.std.proofs.Common.{◌≡◌, ℕ, ◌≤◌, Bool, true, false, List, Option, Some, refl, ap, sym, ◌∙◌, subst, arith, if◌then◌else◌, nat_eq, nat_le, ◌||◌, ◌-◌}
 use Rattle.rnix_kinds.specs.{declared.kinds.SyntaxKind.{SyntaxKind}, declared.kinds.SyntaxKind.TheVariants.{TOKEN_IDENT, TOKEN_L_BRACE, TOKEN_COLON}}
 use Rattle.rnix_kinds.specs.declared.kinds.SyntaxKind.TheVariants.{TOKEN_AT, TOKEN_LET, TOKEN_INVERT, TOKEN_SUB, NODE_APPLY, NODE_BIN_OP, NODE_HAS_ATTR}
@@ -140,8 +139,8 @@ begins_tree : (level : ℕ) (kind : SyntaxKind) (text : List ℕ) (second third 
     → BeginsTree (begin_of level kind text second third) level kind second
 begins_tree level TOKEN_IDENT text second third = name_begins level text second
 begins_tree level TOKEN_L_BRACE text second third = choice (λ x. BeginsTree x level TOKEN_L_BRACE second) (is_pattern second third) refl (refl, refl, refl, refl, refl, refl)
-begins_tree level TOKEN_INVERT text second third = tested (b.Node NODE_UNARY_OP INVERSION 8) level TOKEN_INVERT second (nat_le level 9) (λ e. (refl, refl, e, refl, refl, refl))
-begins_tree level TOKEN_SUB text second third = tested (b.Node NODE_UNARY_OP NEGATION 13) level TOKEN_SUB second (nat_le level 14) (λ e. (refl, refl, e, refl, refl, refl))
+begins_tree level TOKEN_INVERT text second third = tested (b.Node NODE_UNARY_OP p.Inverted 8) level TOKEN_INVERT second (nat_le level 9) (λ e. (refl, refl, e, refl, refl, refl))
+begins_tree level TOKEN_SUB text second third = tested (b.Node NODE_UNARY_OP p.Negated 13) level TOKEN_SUB second (nat_le level 14) (λ e. (refl, refl, e, refl, refl, refl))
 begins_tree level TOKEN_LET text second third = scope_tree level TOKEN_LET second
 begins_tree level _ text second third = first_of (assumption, search scope_tree)
 

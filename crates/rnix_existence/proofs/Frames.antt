@@ -1,6 +1,4 @@
 -- What is known of the frames while the items of a text are read.
-use Rattle.rnix_grammar.specs.declared.position.TheConstants.{SECOND, SECOND_PAST}
-use Rattle.{rnix_kinds.specs.declared.kinds.SyntaxKind.TheVariants.{NODE_PAT_ENTRY, NODE_ERROR}, rnix_grammar.specs.Positions.{left_at, kind_at}, rnix_lemmas.proofs.PlaceTable.is_waiting}
 use Rattle.std.proofs.Common.{◌≡◌, ◌⊎◌, ℕ, ◌≤◌, Bool, true, false, List, [], ◌∷◌, Option, Some, None, if◌then◌else◌, nat_le}
 use Rattle.{rnix_kinds.specs.declared.kinds.SyntaxKind.SyntaxKind, rnix_grammar.specs.{declared.place.Place.Place}}
 use Rattle.rnix_grammar.specs.{Tables.depth_limit, AnnotatedForest.{AnnotatedForest, blank, ◌⊕◌, one_branch}, Machine.{Head, Node, Second, Operand, Frame}}
@@ -8,17 +6,16 @@ use Rattle.rnix_grammar.specs.{Rows.{fits}, TreeLevels.{row_level, is_or_row}}
 use Rattle.{rnix_lemmas.proofs.{FollowLemmas.FollowedTo, NodeKinds.is_error, NestTrees.is_formal, FirstTrees.IsSingle}, rnix_existence.proofs.OpenFrames.seen_kind}
 use Rattle.rnix_grammar.specs.declared.place.Place.TheVariants as p
 
--- whether a row is that of an entry of a pattern; none is that of a second name
-abbrev pub row_of_kind : SyntaxKind → Option Bool
-row_of_kind NODE_PAT_ENTRY = Some true
-row_of_kind NODE_ERROR = None
-row_of_kind kind = Some false
-
 -- whether a place of a node's row is in an entry of a pattern; none behind an operand, in a second name, or for a right operand above level 16
 abbrev pub row_at : Place → Option Bool
-row_at (p.Left i) = if is_waiting (left_at i) then row_of_kind (kind_at i) else None
-row_at (p.Behind low high) = None
+row_at p.EntryMore = Some true
+row_at p.EntryDefault = Some true
+row_at p.EntryPast = Some true
 row_at (p.Right level) = if nat_le level 16 then Some false else None
+row_at p.TwiceName = None
+row_at p.TwicePast = None
+row_at (p.Behind low high) = None
+row_at place = Some false
 
 -- One tree may be an operand of a level, and go on with what binds no tighter than another level.
 pub record MayGrow (low high : ℕ) (x : AnnotatedForest) : Type 0 where
@@ -68,7 +65,7 @@ pub record AtOperand (f : Frame) (fs : List Frame) : Type 0 where
 -- the innermost frame is a second name
 pub record AtSecond (f : Frame) (fs : List Frame) : Type 0 where
   pub head : f.head ≡ Second
-  pub place : (f.place ≡ SECOND) ⊎ (f.place ≡ SECOND_PAST)
+  pub place : (f.place ≡ p.TwiceName) ⊎ (f.place ≡ p.TwicePast)
   pub below : Below Other fs
 
 -- a text is being read: a node, an operand or a second name is innermost

@@ -1,8 +1,7 @@
 -- Steps at an open node or a second name keep what is known of the frames.
-use Rattle.rnix_grammar.specs.declared.position.TheConstants.{PAT_ENTRY, SECOND, SECOND_PAST}
 use Rattle.std.proofs.Common.{◌≡◌, ◌⊎◌, inl, inr, ℕ, Bool, false, List, [], ◌∷◌, ◌++◌, Option, Some, None, refl, ap, sym, ◌∙◌, subst}
 use Rattle.rnix_kinds.specs.declared.kinds.SyntaxKind.{SyntaxKind, TheVariants.{NODE_IDENT, NODE_PAT_ENTRY, TOKEN_IDENT}}
-use Rattle.rnix_grammar.specs.{declared.{place.Place.Place, action.Action.Action}, Fault.Fault, Actions.{action_at, wanted_action}, AnnotatedForest.Token}
+use Rattle.rnix_grammar.specs.{declared.{place.Place.Place, action.Action.Action}, Fault.Fault, Actions.{action_at, name_action}, AnnotatedForest.Token}
 use Rattle.rnix_grammar.specs.AnnotatedForest.{Extra, Twice, Unwanted, AnnotatedForest, blank, ◌⊕◌, one_branch, one_fault, row_of, tokens_in, head_kind}
 use Rattle.rnix_grammar.specs.{Machine.{Node, Frame, put, opened, leaf, kind_of, made, closed, entry_closed, perform}, Missing.run_of, Reports.report}
 use Rattle.{rnix_grammar.specs.Reports.repeated, rnix_lemmas.proofs.{LevelLemmas.at_most, AnnotatedForestLemmas.⊕-blank, FirstTrees.{IsSingle, a_node}}}
@@ -67,7 +66,7 @@ done_kept (a.Leaf k y) f fs ts n gs r l = node (grown f fs y (one_branch k (leaf
 done_kept (a.Open k z y) f fs ts n gs r l = opened_kept f fs k z y (leaf false k ts) r l.0 l.1
 done_kept (a.Begin k z y) f fs ts n gs r l = opened_kept f fs k z y blank r l.0 l.1
 done_kept (a.Entry y) f fs ts n gs r l =
-    opened_kept f fs NODE_PAT_ENTRY PAT_ENTRY y (one_branch NODE_IDENT (leaf false NODE_IDENT ts)) r (refl, refl) l
+    opened_kept f fs NODE_PAT_ENTRY p.EntryMore y (one_branch NODE_IDENT (leaf false NODE_IDENT ts)) r (refl, refl) l
 done_kept (a.Twice y) f fs ts n gs r l = second (record { head = refl; place = inl refl; below = waits (put y f.row f) fs (stayed f fs y r l) })
 done_kept (a.Read level counted y) f fs ts n gs r l =
     reading_kept level counted (put y f.row f) fs ts n gs (stayed f fs y r l.1) (at_most level 16 l.0)
@@ -86,15 +85,15 @@ pub second_kept : (f : Frame) (fs : List Frame) (ts : List Token) (n : ℕ) (gs 
     → Reading (perform false (action_at f.place (head_kind ts) touch) f fs ts n gs).frames
 second_kept f fs ts n gs touch r = by r.place
   where
-    again : (y : Place) (row : AnnotatedForest) → (y ≡ SECOND) ⊎ (y ≡ SECOND_PAST) → Reading (put y row f ∷ fs)
+    again : (y : Place) (row : AnnotatedForest) → (y ≡ p.TwiceName) ⊎ (y ≡ p.TwicePast) → Reading (put y row f ∷ fs)
     again y row h = second (record { head = r.head; place = h; below = r.below })
 
-    named : (next : Option SyntaxKind) → Reading (perform false (wanted_action NODE_IDENT SECOND SECOND_PAST next) f fs ts n gs).frames
-    named None = again SECOND_PAST f.row (inr refl)
-    named (Some TOKEN_IDENT) = again SECOND_PAST (f.row ⊕ one_branch NODE_IDENT (leaf false NODE_IDENT ts)) (inr refl)
-    named (Some k) = again SECOND (f.row ⊕ one_fault (Unwanted u.Ident) (row_of (run_of u.Ident ts))) (inl refl)
+    named : (next : Option SyntaxKind) → Reading (perform false (name_action p.TwiceName p.TwicePast next) f fs ts n gs).frames
+    named None = again p.TwicePast f.row (inr refl)
+    named (Some TOKEN_IDENT) = again p.TwicePast (f.row ⊕ one_branch NODE_IDENT (leaf false NODE_IDENT ts)) (inr refl)
+    named (Some k) = again p.TwiceName (f.row ⊕ one_fault (Unwanted u.Ident) (row_of (run_of u.Ident ts))) (inl refl)
 
-    by : (f.place ≡ SECOND) ⊎ (f.place ≡ SECOND_PAST) → Reading (perform false (action_at f.place (head_kind ts) touch) f fs ts n gs).frames
+    by : (f.place ≡ p.TwiceName) ⊎ (f.place ≡ p.TwicePast) → Reading (perform false (action_at f.place (head_kind ts) touch) f fs ts n gs).frames
     by (inl e) = subst (λ (z : Place). Reading (perform false (action_at z (head_kind ts) touch) f fs ts n gs).frames) (sym e) (named (head_kind ts))
     by (inr e) =
         subst (λ (z : Place). Reading (perform false (action_at z (head_kind ts) touch) f fs ts n gs).frames) (sym e)

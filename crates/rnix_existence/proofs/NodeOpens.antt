@@ -1,5 +1,4 @@
 -- What ends behind a step that opens or closes a node or a second name ends before it.
-use Rattle.rnix_grammar.specs.declared.position.TheConstants.{PAT_ENTRY, SECOND}
 use Rattle.std.proofs.Common.{◌≡◌, ℕ, true, List, [], ◌∷◌, ◌++◌, refl, ap, sym, ◌∙◌, subst, append_assoc, append-nil, Some}
 use Rattle.rnix_kinds.specs.{declared.kinds.SyntaxKind.{SyntaxKind}, declared.kinds.SyntaxKind.TheVariants.{NODE_IDENT, NODE_PAT_ENTRY, TOKEN_AT}}
 use Rattle.{rnix_kinds.specs.declared.kinds.SyntaxKind.TheVariants.{TOKEN_IDENT}, rnix_grammar.specs.Rules.{row as whole_row, ◌·◌}}
@@ -56,7 +55,7 @@ begins_entry f fs t ts n gs y o i w row es ends =
     let x : AnnotatedForest = one_branch NODE_IDENT (one_token (leaf_kind NODE_IDENT t) t) in (
       es,
       (
-        opens_by f fs (t ∷ ts) ts n t.end row es NODE_PAT_ENTRY PAT_ENTRY y x o refl refl
+        opens_by f fs (t ∷ ts) ts n t.end row es NODE_PAT_ENTRY p.EntryMore y x o refl refl
             (λ vs s r cs h q. plain_from (front (whole_row NODE_PAT_ENTRY) refl).bare h refl (name_reads t (ap (λ z. after (whole_row NODE_IDENT) (leaf_kind_as NODE_IDENT z)) i)) refl
             (past_over t.end ts) tt tt refl q refl) w ends,
         refl,
@@ -67,12 +66,12 @@ begins_entry f fs t ts n gs y o i w row es ends =
 pub begins_second : (f : Frame) (fs : List Frame) (t : Token) (ts : List Token) (n : ℕ) (gs : List Fault) (y : Place)
     → is_open f.head ≡ true → rest_at f.place ≡ BoundAlready · done → t.kind ≡ TOKEN_AT → rest_at y ≡ done → EndsBy (a.Twice y) f fs (t ∷ ts) n gs
 begins_second f fs t ts n gs y o i j l row es ends =
-    (es, (by (open_ends (opened Second SECOND f.depth x) (put y f.row f) fs ts t.end row es refl ends), refl))
+    (es, (by (open_ends (opened Second p.TwiceName f.depth x) (put y f.row f) fs ts t.end row es refl ends), refl))
   where
     x : AnnotatedForest
     x = one_token t.kind t
 
-    by : OpenEnds (opened Second SECOND f.depth x) (put y f.row f) fs ts t.end row es → Ends (f ∷ fs) (t ∷ ts) n row es
+    by : OpenEnds (opened Second p.TwiceName f.depth x) (put y f.row f) fs ts t.end row es → Ends (f ∷ fs) (t ∷ ts) n row es
     by q =
         let found : List Fault = q.inside ++ report Twice (t ∷ tokens_in q.rest) ∷ [] in
         let all : t ∷ ts ≡ t ∷ (tokens_in q.rest ++ q.left) = ap (λ z. t ∷ z) q.items in

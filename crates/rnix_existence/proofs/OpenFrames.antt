@@ -1,5 +1,4 @@
 -- What is still to come of each open frame, seen from where the text is read to its end.
-use Rattle.rnix_grammar.specs.declared.position.TheConstants.{ROOT_END}
 use Rattle.std.proofs.Common.{◌≡◌, ℕ, ◌≤◌, true, false, List, [], ◌∷◌, ◌++◌}
 use Rattle.rnix_kinds.specs.{declared.kinds.SyntaxKind.{SyntaxKind}, declared.kinds.SyntaxKind.TheVariants.{NODE_ROOT, NODE_LITERAL}}
 use Rattle.rnix_grammar.specs.{declared.action.Action.{Action}, Fault.{Fault}, AnnotatedForest.{Token, Stray, Twice, AnnotatedForest, blank, branch, ◌⊕◌}}
@@ -40,7 +39,7 @@ closing Operand before row = []
 -- Some frames, with these items left, reaching so far, become the row of the root in the end, with these errors still to come.
 pub data Ends : List Frame → List Token → ℕ → AnnotatedForest → List Fault → Type 0 where
   root_frame : {f : Frame} {ts : List Token} {n : ℕ} {row r : AnnotatedForest} {es : List Fault}
-      → f.head ≡ Node NODE_ROOT → Reads NODE_ROOT f.depth n (rest_at f.place) (rest_at ROOT_END) f.row [] r es → ts ≡ tokens_in r → row ≡ f.row ⊕ r
+      → f.head ≡ Node NODE_ROOT → Reads NODE_ROOT f.depth n (rest_at f.place) (rest_at p.RootEnd) f.row [] r es → ts ≡ tokens_in r → row ≡ f.row ⊕ r
       → Ends (f ∷ []) ts n row es
   open_frame : {f g : Frame} {fs : List Frame} {ts us : List Token} {n m : ℕ} {s : Row} {row r : AnnotatedForest} {ds es gs : List Fault}
       → is_open f.head ≡ true → Reads (kind_of f.head) f.depth n (rest_at f.place) s f.row us r ds → ts ≡ tokens_in r ++ us → m ≡ end_from n (tokens_in r) → IsOver s m us

@@ -1,5 +1,4 @@
 -- Steps at an operand keep what is known of the frames.
-use Rattle.rnix_grammar.specs.declared.position.TheConstants.{APPLIED, HAS_ATTR, SELECT}
 use Rattle.std.proofs.Common.{◌≡◌, ℕ, ◌≤◌, Bool, true, false, List, [], ◌∷◌, Some, None, refl, ap, sym, ◌∙◌, subst, arith, if◌then◌else◌, ◌&&◌, nat_le}
 use Rattle.{std.proofs.lemmas.Bool.{and_parts}, rnix_lemmas.proofs.FollowLemmas.{followed_tight, followed_question}}
 use Rattle.rnix_kinds.specs.declared.kinds.SyntaxKind.{SyntaxKind, TheVariants.{TOKEN_DOT, TOKEN_OR, TOKEN_QUESTION, NODE_SELECT, NODE_APPLY, NODE_HAS_ATTR}}
@@ -33,9 +32,9 @@ between low high k h =
 
 -- what a token that goes on with an operand makes of it
 pub data FollowsBy : SyntaxKind → Action → Type 0 where
-  by_dot : FollowsBy TOKEN_DOT (a.Wrap NODE_SELECT SELECT 15)
+  by_dot : FollowsBy TOKEN_DOT (a.Wrap NODE_SELECT p.SelectPath 15)
   by_or : FollowsBy TOKEN_OR a.ApplyOr
-  by_question : FollowsBy TOKEN_QUESTION (a.Wrap NODE_HAS_ATTR HAS_ATTR 13)
+  by_question : FollowsBy TOKEN_QUESTION (a.Wrap NODE_HAS_ATTR p.HasPath 13)
   by_operator : {k : SyntaxKind} → is_infix k ≡ true → FollowsBy k (a.Wrap NODE_BIN_OP (p.Right (right_of k)) (high_of k))
   by_argument : {k : SyntaxKind} → binding_power k ≡ 15 → FollowsBy k a.Apply
 
@@ -65,11 +64,11 @@ goes : (k : SyntaxKind) (action : Action) → FollowsBy k action
     → t.kind ≡ k → Between r.low r.high k → Reading (perform false action f fs (t ∷ ts) n gs).frames
 goes k action by_dot f fs t ts n gs r e x =
     let row : AnnotatedForest = f.row ⊕ leaf false NODE_SELECT (t ∷ ts) in
-    node (wrapped_kept f fs NODE_SELECT SELECT row 15 r (refl, refl)
+    node (wrapped_kept f fs NODE_SELECT p.SelectPath row 15 r (refl, refl)
     (λ rest. let s : AnnotatedForest = one_branch NODE_SELECT (row ⊕ rest) in grows_by r.low 15 s refl x.least (omega arith) (followed_tight s refl refl) refl))
 goes k action by_question f fs t ts n gs r e x =
     let row : AnnotatedForest = f.row ⊕ leaf false NODE_HAS_ATTR (t ∷ ts) in
-    node (wrapped_kept f fs NODE_HAS_ATTR HAS_ATTR row 13 r (refl, refl) (λ rest. let s : AnnotatedForest = one_branch NODE_HAS_ATTR (row ⊕ rest) in grows_by r.low 13 s refl x.least (omega arith) (followed_question s refl refl) refl))
+    node (wrapped_kept f fs NODE_HAS_ATTR p.HasPath row 13 r (refl, refl) (λ rest. let s : AnnotatedForest = one_branch NODE_HAS_ATTR (row ⊕ rest) in grows_by r.low 13 s refl x.least (omega arith) (followed_question s refl refl) refl))
 goes k action (by_operator h) f fs t ts n gs r e x =
     let leaves : AnnotatedForest = one_token (leaf_kind NODE_BIN_OP t) t in
     node (wrapped_kept f fs NODE_BIN_OP (p.Right (right_of k)) (f.row ⊕ leaves) (high_of k) r
@@ -91,8 +90,8 @@ goes k action by_or f fs t ts n gs r e x =
       below = r.below;
     })
 goes k action (by_argument h) f fs t ts n gs r e x =
-    reading_kept 16 false (opened (Node NODE_APPLY) APPLIED f.depth f.row) (opened Operand (p.Behind (low_of f.place) 15) f.depth blank ∷ fs) (t ∷ ts) n gs
-    (wrapped_kept f fs NODE_APPLY APPLIED f.row 15 r (refl, refl)
+    reading_kept 16 false (opened (Node NODE_APPLY) p.Past f.depth f.row) (opened Operand (p.Behind (low_of f.place) 15) f.depth blank ∷ fs) (t ∷ ts) n gs
+    (wrapped_kept f fs NODE_APPLY p.Past f.row 15 r (refl, refl)
     (λ rest. call_grows r.low (f.row ⊕ rest)
     (elim (calls_or (f.row ⊕ rest)) as (λ w. r.low ≤ (if w then 16 else 15)) [ true ↦ omega (arith, x.least, h) | false ↦ omega (arith, x.least, h) ])))
     (omega arith)

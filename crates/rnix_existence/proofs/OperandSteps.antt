@@ -1,5 +1,4 @@
 -- Steps at an operand: what ends behind each of them ends before it.
-use Rattle.rnix_grammar.specs.declared.position.TheConstants.{APPLIED}
 use Rattle.std.proofs.Common.{◌≡◌, ℕ, true, false, List, [], ◌∷◌, ◌++◌, Some, None, refl, ap, sym, ◌∙◌, subst, append_assoc, ◌||◌, ◌&&◌, if◌then◌else◌}
 use Rattle.rnix_kinds.specs.{declared.kinds.SyntaxKind.{SyntaxKind}, declared.kinds.SyntaxKind.TheVariants.{TOKEN_OR, NODE_APPLY, NODE_IDENT}}
 use Rattle.{rnix_kinds.specs.SyntaxKind.{is_fn_arg}, rnix_grammar.specs.{Beginnings.{IsOperandOf}, Reads.{end}}}
@@ -61,7 +60,7 @@ pub apply_ends : (f : Frame) (fs : List Frame) (t : Token) (ts : List Token) (n 
 apply_ends f fs t ts n gs r g nor arg fo row es ends = ((b.inside ++ o.inside) ++ o.behind, (whole, faults))
   where
     node : Frame
-    node = opened (Node NODE_APPLY) APPLIED f.depth f.row
+    node = opened (Node NODE_APPLY) p.Past f.depth f.row
 
     below : Frame
     below = opened Operand (p.Behind (low_of f.place) 15) f.depth blank
@@ -69,8 +68,8 @@ apply_ends f fs t ts n gs r g nor arg fo row es ends = ((b.inside ++ o.inside) +
     b : BeginEnds 16 f.depth node (below ∷ fs) (t ∷ ts) n row gs ((operand_on false 16 f.depth node (below ∷ fs) (t ∷ ts) (t ∷ ts) n gs).faults ++ es)
     b = begin_ends 16 f.depth t ts node (below ∷ fs) n gs row es ends
 
-    o : OpenEnds (opened (Node NODE_APPLY) APPLIED f.depth (f.row ⊕ b.tree)) below fs b.left b.reached row b.behind
-    o = open_ends (opened (Node NODE_APPLY) APPLIED f.depth (f.row ⊕ b.tree)) below fs b.left b.reached row b.behind refl b.ends
+    o : OpenEnds (opened (Node NODE_APPLY) p.Past f.depth (f.row ⊕ b.tree)) below fs b.left b.reached row b.behind
+    o = open_ends (opened (Node NODE_APPLY) p.Past f.depth (f.row ⊕ b.tree)) below fs b.left b.reached row b.behind refl b.ends
 
     faults : gs ++ ((b.inside ++ o.inside) ++ o.behind) ≡ (operand_on false 16 f.depth node (below ∷ fs) (t ∷ ts) (t ∷ ts) n gs).faults ++ es
     faults = ap (λ z. gs ++ z) (append_assoc b.inside o.inside o.behind ∙ ap (λ z. b.inside ++ z) (sym o.faults)) ∙ b.faults

@@ -1,5 +1,4 @@
 -- Each step at an operand: what ends behind it ends before it.
-use Rattle.rnix_grammar.specs.declared.position.TheConstants.{HAS_ATTR, SELECT}
 use Rattle.std.proofs.Common.{◌≡◌, ℕ, Bool, true, false, List, [], ◌∷◌, refl, ap, sym, ◌∙◌, subst, arith, if◌then◌else◌, nat_eq}
 use Rattle.{std.proofs.lemmas.Bool.Decides.{nat_tests}, rnix_kinds.proofs.AllKinds.{implied}, rnix_grammar.specs.Rules.{after, only}}
 use Rattle.rnix_kinds.specs.{declared.kinds.SyntaxKind.{SyntaxKind}, declared.kinds.SyntaxKind.TheVariants.{NODE_SELECT, NODE_HAS_ATTR, NODE_BIN_OP}}
@@ -26,15 +25,15 @@ goes : (k : SyntaxKind) (action : Action) → FollowsBy k action → (f : Frame)
     → t.kind ≡ k → Between r.low r.high k → EndsBy action f fs (t ∷ ts) n gs
 goes k action by_dot f fs t ts n gs r e x =
     let fo : is_atom_row f.row ≡ true = (r.grows.follow k).0 x.positive x.most in
-    wrap_ends f fs t ts n gs NODE_SELECT (Suffix TOKEN_DOT · rest_at SELECT) SELECT 15 r (front (whole_row NODE_SELECT) refl)
-    (ap (λ w. only w (Suffix TOKEN_DOT · rest_at SELECT)) (atom_seen f.row fo)) (λ us. tt) (subst (λ (j : SyntaxKind). follows j f.row ≡ true) (sym e) fo)
-    (ap (λ j. after (Suffix TOKEN_DOT · rest_at SELECT) (leaf_kind_as NODE_SELECT j)) e) (λ c. refl)
+    wrap_ends f fs t ts n gs NODE_SELECT (Suffix TOKEN_DOT · rest_at p.SelectPath) p.SelectPath 15 r (front (whole_row NODE_SELECT) refl)
+    (ap (λ w. only w (Suffix TOKEN_DOT · rest_at p.SelectPath)) (atom_seen f.row fo)) (λ us. tt) (subst (λ (j : SyntaxKind). follows j f.row ≡ true) (sym e) fo)
+    (ap (λ j. after (Suffix TOKEN_DOT · rest_at p.SelectPath) (leaf_kind_as NODE_SELECT j)) e) (λ c. refl)
     (λ rest. stops_simple (one_branch NODE_SELECT (f.row ⊕ token (leaf_kind NODE_SELECT t) t rest)) refl) (λ b c. refl)
 goes k action by_question f fs t ts n gs r e x =
-    wrap_ends f fs t ts n gs NODE_HAS_ATTR (Suffix TOKEN_QUESTION · rest_at HAS_ATTR) HAS_ATTR 13 r (front (whole_row NODE_HAS_ATTR) refl)
-    (ap (λ w. only w (Suffix TOKEN_QUESTION · rest_at HAS_ATTR)) (fits_looser 13 r.high (seen_kind f.row) x.most r.grows.tight)) (λ us. tt)
+    wrap_ends f fs t ts n gs NODE_HAS_ATTR (Suffix TOKEN_QUESTION · rest_at p.HasPath) p.HasPath 13 r (front (whole_row NODE_HAS_ATTR) refl)
+    (ap (λ w. only w (Suffix TOKEN_QUESTION · rest_at p.HasPath)) (fits_looser 13 r.high (seen_kind f.row) x.most r.grows.tight)) (λ us. tt)
     (subst (λ (j : SyntaxKind). follows j f.row ≡ true) (sym e) ((r.grows.follow k).0 x.positive x.most))
-    (ap (λ j. after (Suffix TOKEN_QUESTION · rest_at HAS_ATTR) (leaf_kind_as NODE_HAS_ATTR j)) e) (λ c. refl)
+    (ap (λ j. after (Suffix TOKEN_QUESTION · rest_at p.HasPath) (leaf_kind_as NODE_HAS_ATTR j)) e) (λ c. refl)
     (λ rest. let z : AnnotatedForest = one_branch NODE_HAS_ATTR (f.row ⊕ token (leaf_kind NODE_HAS_ATTR t) t rest) in stops_at 13 z (followed_question z refl refl)) (λ b c. refl)
 goes k action (by_operator h) f fs t ts n gs r e x =
     wrap_ends f fs t ts n gs NODE_BIN_OP (Binary · done) (p.Right (right_of k)) (high_of k) r (front (whole_row NODE_BIN_OP) refl)

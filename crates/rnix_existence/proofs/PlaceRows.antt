@@ -1,9 +1,8 @@
 -- What is done at a place of a node's row leaves it in its row, and opens nodes at places of theirs.
-use Rattle.std.proofs.Common.{◌≡◌, ℕ, Bool, true, false, Option, Some, None, refl, ap, sym, if◌then◌else◌, nat_le}
-use Rattle.rnix_kinds.{specs.declared.kinds.SyntaxKind.{SyntaxKind}, proofs.AllKinds.{all_kinds}}
-use Rattle.rnix_grammar.specs.{declared.place.Place.{Place}, declared.action.Action.{Action}, Actions.{left_action, action_at}, Positions.{left_at, kind_at}, AnnotatedForest.{touches}}
-use Rattle.rnix_lemmas.proofs.{NodeKinds.{is_error}, EachKind.{Each, each_next}, EachIndex.{each_index}, NestTrees.{is_formal}, PlaceTable.{is_in_row, is_waiting, IfWaiting, if_waiting, past_end}}
-use Rattle.rnix_existence.proofs.Frames.{row_at, row_of_kind}
+use Rattle.{std.proofs.Common.{◌≡◌, Bool, true, false, Option, Some, None, refl, ap, sym, if◌then◌else◌, nat_le}, rnix_existence.proofs.Frames.{row_at}}
+use Rattle.rnix_kinds.specs.declared.kinds.SyntaxKind.{SyntaxKind}
+use Rattle.rnix_grammar.specs.{declared.place.Place.{Place}, declared.action.Action.{Action}, Actions.{action_at}, AnnotatedForest.{touches}}
+use Rattle.rnix_lemmas.proofs.{NodeKinds.{is_error}, EachKind.{each_next}, NestTrees.{is_formal}, PlaceTable.{is_in_row}}
 use Rattle.rnix_grammar.specs.declared.place.Place.TheVariants as p
 use Rattle.rnix_grammar.specs.declared.action.Action.TheVariants as a
 
@@ -28,22 +27,6 @@ Leads x a.Apply = ⊥
 Leads x a.ApplyOr = ⊥
 Leads x action = Unit {0}
 
--- so it is at each index where a node is open
-abbrev LeadsAt : Bool → ℕ → Type 0
-LeadsAt touch i =
-    IfWaiting (is_waiting (left_at i)) (Leads (p.Left i) (left_action i None touch) × Each (λ k. Leads (p.Left i) (left_action i (Some k) touch)) all_kinds)
-
-leads_at : (touch : Bool) (i : ℕ) → LeadsAt touch i
-leads_at true = each_index (LeadsAt true) (assumption) (λ i e d. past_end
-    (λ i. Leads (p.Left i) (left_action i None true) × Each (λ k. Leads (p.Left i) (left_action i (Some k) true)) all_kinds) i d)
-leads_at false = each_index (LeadsAt false) (assumption) (λ i e d. past_end
-    (λ i. Leads (p.Left i) (left_action i None false) × Each (λ k. Leads (p.Left i) (left_action i (Some k) false)) all_kinds) i d)
-
--- a node is open at a place of its row
-row_waits : (w : Bool) (r : Option Bool) (b : Bool) → (if w then r else None) ≡ Some b → w ≡ true
-row_waits true r b h = refl
-row_waits false r b h = absurd (cc)
-
 -- each place of a node's row
 pub leads : (x : Place) (next : Option SyntaxKind) (touches b : Bool) → row_at x ≡ Some b → Leads x (action_at x next touches)
 leads (p.Right level) next touches b h = by (nat_le level 16) refl h
@@ -53,11 +36,13 @@ leads (p.Right level) next touches b h = by (nat_le level 16) refl h
     by true e h = (e, ap (λ w. if w then Some false else None) (sym e))
     by false e h = absurd (cc)
 leads (p.Behind low high) next touches b h = absurd (cc)
-leads (p.Left i) next touches b h =
-    let o : is_waiting (left_at i) ≡ true = row_waits (is_waiting (left_at i)) (row_of_kind (kind_at i)) b h in
-    let w : Leads (p.Left i) (left_action i None touches) × Each (λ k. Leads (p.Left i) (left_action i (Some k) touches)) all_kinds
-    = if_waiting (is_waiting (left_at i)) _ o (leads_at touches i) in
-    each_next (λ n. Leads (p.Left i) (left_action i n touches)) w.0 w.1 next
+leads p.PathMore next true b h = each_next (λ n. Leads p.PathMore (action_at p.PathMore n true)) (assumption) (assumption) next
+leads p.PathMore next false b h = each_next (λ n. Leads p.PathMore (action_at p.PathMore n false)) (assumption) (assumption) next
+leads (p.PatternEnd true) next touches b h =
+    each_next (λ n. Leads (p.PatternEnd true) (action_at (p.PatternEnd true) n touches)) (assumption) (assumption) next
+leads (p.PatternEnd false) next touches b h =
+    each_next (λ n. Leads (p.PatternEnd false) (action_at (p.PatternEnd false) n touches)) (assumption) (assumption) next
+leads x next touches b h = each_next (λ n. Leads x (action_at x n touches)) (assumption) (assumption) next
 
 -- the rows in which what is done at a place completes a frame
 abbrev pub ClosesAt : Place → Action → Type 0
@@ -67,22 +52,13 @@ ClosesAt x a.CloseEntry = row_at x ≡ Some true
 ClosesAt x a.CloseTwice = row_at x ≡ None
 ClosesAt x action = Unit {0}
 
--- so it is at each index where a node is open
-abbrev CompletesAt : Bool → ℕ → Type 0
-CompletesAt touch i =
-    IfWaiting (is_waiting (left_at i)) (ClosesAt (p.Left i) (left_action i None touch) × Each (λ k. ClosesAt (p.Left i) (left_action i (Some k) touch)) all_kinds)
-
-completes_at : (touch : Bool) (i : ℕ) → CompletesAt touch i
-completes_at true = each_index (CompletesAt true) (assumption) (λ i e d. past_end
-    (λ i. ClosesAt (p.Left i) (left_action i None true) × Each (λ k. ClosesAt (p.Left i) (left_action i (Some k) true)) all_kinds) i d)
-completes_at false = each_index (CompletesAt false) (assumption) (λ i e d. past_end
-    (λ i. ClosesAt (p.Left i) (left_action i None false) × Each (λ k. ClosesAt (p.Left i) (left_action i (Some k) false)) all_kinds) i d)
-
 -- each place of a row
 pub closes_at : (x : Place) (next : Option SyntaxKind) (touches : Bool) → is_in_row x ≡ true → ClosesAt x (action_at x next touches)
 closes_at (p.Behind low high) next touches h = absurd (cc)
-closes_at (p.Right level) next touches h = tt
-closes_at (p.Left i) next touches h =
-    let w : ClosesAt (p.Left i) (left_action i None touches) × Each (λ k. ClosesAt (p.Left i) (left_action i (Some k) touches)) all_kinds
-    = if_waiting (is_waiting (left_at i)) _ h (completes_at touches i) in
-    each_next (λ n. ClosesAt (p.Left i) (left_action i n touches)) w.0 w.1 next
+closes_at p.PathMore next true h = each_next (λ n. ClosesAt p.PathMore (action_at p.PathMore n true)) (assumption) (assumption) next
+closes_at p.PathMore next false h = each_next (λ n. ClosesAt p.PathMore (action_at p.PathMore n false)) (assumption) (assumption) next
+closes_at (p.PatternEnd true) next touches h =
+    each_next (λ n. ClosesAt (p.PatternEnd true) (action_at (p.PatternEnd true) n touches)) (assumption) (assumption) next
+closes_at (p.PatternEnd false) next touches h =
+    each_next (λ n. ClosesAt (p.PatternEnd false) (action_at (p.PatternEnd false) n touches)) (assumption) (assumption) next
+closes_at x next touches h = each_next (λ n. ClosesAt x (action_at x n touches)) (assumption) (assumption) next

@@ -1,7 +1,6 @@
 -- What is read in the row of an open frame, in front of what is still to come of it.
-use Rattle.rnix_grammar.specs.declared.position.TheConstants.{ROOT_END}
-use Rattle.std.proofs.Common.{◌≡◌, ℕ, true, List, [], ◌∷◌, ◌++◌, ap, sym, ◌∙◌, subst, append_assoc, append-nil}
-use Rattle.rnix_kinds.specs.declared.kinds.SyntaxKind.{SyntaxKind}
+use Rattle.{std.proofs.Common.{◌≡◌, ℕ, true, List, [], ◌∷◌, ◌++◌, ap, sym, ◌∙◌, subst, append_assoc, append-nil}, rnix_lemmas.proofs.RestAt.{rest_at}}
+use Rattle.{rnix_kinds.specs.declared.kinds.SyntaxKind.{SyntaxKind}, rnix_grammar.specs.{Machine.{Frame, put, kind_of, made}, Reads.{Reads}, Rules.{Row}}}
 use Rattle.rnix_grammar.specs.{declared.place.Place.{Place}, Fault.{Fault}, AnnotatedForest.{Token, AnnotatedForest, ◌⊕◌, tokens_in, end_from}}
 use Rattle.rnix_lemmas.proofs.{Basics.{true_is_not_false}, AnnotatedForestLemmas.{⊕-assoc, tokens_two, tokens_in-⊕}, StrictParts.{end_behind}, OpenHeads.{is_open}}
 use Rattle.rnix_existence.proofs.OpenFrames.{closing, Ends, root_frame, open_frame, operand_frame}
@@ -20,8 +19,8 @@ pub prepended : (f : Frame) (fs : List Frame) (ts us : List Token) (n m : ℕ) (
 prepended f fs ts us n m row ds es y g o e l reads (root_frame {r = r} a b c d) =
     let all : us ≡ tokens_in r ++ [] = c ∙ sym (append-nil (tokens_in r)) in
     root_frame a
-    (subst (λ (z : SyntaxKind). Reads z f.depth n (rest_at f.place) (rest_at ROOT_END) f.row [] (g ⊕ r) (ds ++ es)) (ap kind_of a)
-    (reads [] (rest_at ROOT_END) r es all (subst (λ (z : SyntaxKind). Reads z f.depth m (rest_at y) (rest_at ROOT_END) (f.row ⊕ g) [] r es) (sym (ap kind_of a)) b)))
+    (subst (λ (z : SyntaxKind). Reads z f.depth n (rest_at f.place) (rest_at p.RootEnd) f.row [] (g ⊕ r) (ds ++ es)) (ap kind_of a)
+    (reads [] (rest_at p.RootEnd) r es all (subst (λ (z : SyntaxKind). Reads z f.depth m (rest_at y) (rest_at p.RootEnd) (f.row ⊕ g) [] r es) (sym (ap kind_of a)) b)))
     (e ∙ ap (λ z. tokens_in g ++ z) c ∙ sym (tokens_in-⊕ g r)) (d ∙ ⊕-assoc f.row g r)
 prepended f fs ts us n m row ds es y g o e l reads (open_frame {g = h} {fs = hs} {us = us'} {m = m'} {s = s} {r = r} {ds = ds'} {es = es'} a b c d i j k) =
     open_frame o (reads us' s r ds' c b) (e ∙ ap (λ z. tokens_in g ++ z) c ∙ sym (tokens_two g r us')) (d ∙ ap (λ z. end_from z (tokens_in r)) l ∙ sym (end_two n g r)) i

@@ -1,5 +1,4 @@
 -- What the machine of steps makes of a list of items satisfies the rules of readings.
-use Rattle.rnix_grammar.specs.declared.position.TheConstants.{ROOT, ROOT_END}
 use Rattle.std.proofs.Common.{◌≡◌, ℕ, false, List, [], ◌∷◌, ◌++◌, refl, ap, sym, ◌∙◌, subst, append-nil, arith}
 use Rattle.{rnix_kinds.specs.declared.kinds.SyntaxKind.TheVariants.{NODE_ROOT}, rnix_lemmas.proofs.{AnnotatedForestLemmas.{⊕-blank}, RestAt.{rest_at}}}
 use Rattle.rnix_grammar.specs.{declared.place.Place.{Place}, Fault.{Fault}, AnnotatedForest.{Token, AnnotatedForest, blank, tokens_in, touches}}
@@ -43,7 +42,7 @@ begun ts = node (record { kind = NODE_ROOT; node = record { is = refl; sound = r
 
 -- if the steps end with the root's row complete and no item left, that row is a reading of all the items
 pub whole_reads : (ts : List Token) (m : Machine) (f : Frame) → Runs false (begins ts) m → m.frames ≡ f ∷ [] → f.head ≡ Node NODE_ROOT
-    → f.place ≡ ROOT_END → m.left ≡ []
+    → f.place ≡ p.RootEnd → m.left ≡ []
     → (ts ≡ tokens_in f.row) × ReadsWhole f.row m.faults
 whole_reads ts m f s e h x l = by (runs_end f.row m.faults s (begun ts) ended)
   where
@@ -52,11 +51,11 @@ whole_reads ts m f s e h x l = by (runs_end f.row m.faults s (begun ts) ended)
       coming = [];
       ends =
           subst (λ (z : List Frame). Ends z m.left m.reached f.row []) (sym e)
-          (root_frame h (subst (λ (z : Place). Reads NODE_ROOT f.depth m.reached (rest_at z) (rest_at ROOT_END) f.row [] blank []) (sym x) end) l (sym (⊕-blank f.row)));
+          (root_frame h (subst (λ (z : Place). Reads NODE_ROOT f.depth m.reached (rest_at z) (rest_at p.RootEnd) f.row [] blank []) (sym x) end) l (sym (⊕-blank f.row)));
       faults = append-nil m.faults;
     }
 
-    root : (row : AnnotatedForest) (zs : List Fault) → Ends (opened (Node NODE_ROOT) ROOT 0 blank ∷ []) ts 0 row zs
+    root : (row : AnnotatedForest) (zs : List Fault) → Ends (opened (Node NODE_ROOT) p.RootStart 0 blank ∷ []) ts 0 row zs
         → (ts ≡ tokens_in row) × ReadsWhole row zs
     root row zs (root_frame {r = r} a b c d) = (c ∙ ap tokens_in (sym d), subst (λ (z : AnnotatedForest). ReadsWhole z zs) (sym d) b)
 

@@ -1,5 +1,4 @@
 -- What is done where: which places follow which, and what each action needs.
-use Rattle.rnix_grammar.specs.declared.position.TheConstants.{ROOT_END}
 use Rattle.std.specs.Prelude.{◌≡◌, ◌<◌, ◌+◌, Bool, true, false, Option, Some, None}
 use Rattle.rnix_kinds.specs.declared.kinds.SyntaxKind.{SyntaxKind}
 use Rattle.rnix_kinds.specs.declared.kinds.SyntaxKind.TheVariants.{TOKEN_IDENT, NODE_IDENT}
@@ -27,7 +26,7 @@ Allowed place next a.Close = (sort_of place ≡ Plain) × (bonus place ≡ full_
 Allowed place next a.CloseEntry = sort_of place ≡ Entry
 Allowed place next a.ClosePattern = sort_of place ≡ Pattern
 Allowed place next a.CloseTwice = sort_of place ≡ Again
-Allowed place next a.Finish = (place ≡ ROOT_END) × (next ≡ None)
+Allowed place next a.Finish = (place ≡ p.RootEnd) × (next ≡ None)
 Allowed place next a.Settle = sort_of place ≡ Loose
 Allowed place next a.Extra = (is_there next ≡ true) × (sort_of place ≡ Root)
 Allowed place next (a.Take after) = (is_there next ≡ true) × (IsNext place next after) × (is_open (sort_of place) ≡ true)

@@ -1,5 +1,4 @@
 -- A whole text that is read.
-use Rattle.rnix_grammar.specs.declared.position.TheConstants.{ROOT_END}
 use Rattle.std.specs.Prelude.{◌≡◌, true, List, [], ◌∷◌}
 use Rattle.rnix_kinds.specs.declared.kinds.SyntaxKind.TheVariants.{NODE_ROOT}
 use Rattle.rnix_kinds.specs.Lexical.Tokens.{Lexeme}
@@ -17,7 +16,7 @@ pub record IsRead (lexemes : List Lexeme) (tree : Tree) (faults : List Fault) : 
   pub runs : Runs true (begins (placed_from 0 lexemes)) last
   pub alone : last.frames ≡ root ∷ []
   pub head : root.head ≡ Node NODE_ROOT
-  pub place : root.place ≡ ROOT_END
+  pub place : root.place ≡ p.RootEnd
   pub nothing : items last.left ≡ []
   pub tree_is : tree ≡ record { kind = NODE_ROOT; children = forget (ate true root.row last.left) }
   pub faults_are : faults ≡ last.faults

@@ -1,14 +1,11 @@
 -- How a repaired row comes as far as the row that is read: a run of unwanted tokens may leave the row at another place, where the same goes on.
 use Rattle.std.proofs.Common.{◌≡◌, ℕ, Bool, true, false, List, [], ◌∷◌, Option, Some, None, refl, ap, sym, ◌∙◌, subst}
 use Rattle.rnix_kinds.specs.declared.kinds.SyntaxKind.{SyntaxKind, TheVariants.{NODE_LITERAL, NODE_LAMBDA, NODE_PATTERN, NODE_ROOT}}
-use Rattle.rnix_grammar.specs.RowPlaces.{Place}
-use Rattle.rnix_kinds.proofs.AllKinds.{all_kinds}
-use Rattle.rnix_green.specs.Forest.{Forest}
-use Rattle.rnix_grammar.specs.declared.until.Until.{Until}
+use Rattle.{rnix_kinds.proofs.AllKinds.all_kinds, rnix_green.specs.Forest.Forest, rnix_grammar.specs.declared.{place.Place.Place, until.Until.Until}}
 use Rattle.rnix_grammar.specs.{AnnotatedForest.{Token, Note, Stray, Unwanted, Extra, Twice, TooDeep}, Rows.{RowState, Start, At, Nowhere, to, first, fits, advance, whole, live}}
 use Rattle.{rnix_grammar.specs.{Rows.{start, run}, PlaceReads.IsWrong, Repaired.{patch, kinds_of}, Missing.run_at}, rnix_lemmas.proofs.Completable.IsCompletable}
 use Rattle.rnix_lemmas.proofs.{Completable.{completed_at, run_inside}, Owing.owing, NodeKinds.fits_expression, Basics.{true_is_not_false, Where, where_one}, EachKind.{Each, each_kind}}
-use Rattle.rnix_grammar.specs.RowPlaces as p
+use Rattle.rnix_grammar.specs.declared.place.Place.TheVariants as p
 
 -- where the second state goes on the first goes on as well, and they end together
 pub record Imitates (q0 q : RowState) : Type 0 where

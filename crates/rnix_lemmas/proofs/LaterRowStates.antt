@@ -2,7 +2,7 @@
 use Rattle.std.{specs.List.list_all, proofs.Common.{◌≡◌, Bool, true, false, refl, if◌then◌else◌}}
 use Rattle.rnix_kinds.{specs.declared.kinds.SyntaxKind.SyntaxKind, proofs.AllKinds.{all_kinds, every}}
 use Rattle.{rnix_grammar.specs.Rows.{RowState, Start, At, first, fits, advance, to}, rnix_lemmas.proofs.{Basics.not_if, EachKind.each_kind}}
-use Rattle.rnix_grammar.specs.RowPlaces as p
+use Rattle.rnix_grammar.specs.declared.place.Place.TheVariants as p
 
 -- a state that the row of a kind of node begins at
 abbrev pub is_start : RowState → Bool

@@ -1,4 +1,3 @@
-pub mod RowEndings
 pub mod EntryNames
 pub mod EveryKind
 pub mod StrictParts
@@ -21,10 +20,8 @@ pub mod ReportLemmas
 pub mod MissingFacts
 pub mod Completable
 pub mod Owing
-pub mod RowEnds
 pub mod RowKinds
 pub mod ImitateLemmas
-pub mod RowStateCases
 pub mod OpeningRows
 pub mod SpelledLemmas
 pub mod PlainTables
@@ -43,4 +40,3 @@ pub mod RestAt
 pub mod ReadsFrom
 pub mod PlaceTable
 pub mod BeginAlike
-pub mod LiveRows

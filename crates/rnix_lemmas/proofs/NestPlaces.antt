@@ -5,7 +5,7 @@ use Rattle.rnix_kinds.{specs.declared.kinds.SyntaxKind.TheVariants.{NODE_PAT_BIN
 use Rattle.{rnix_green.specs.Equality.{same_kind, same_kind-decides}, rnix_grammar.specs.Levels.right_of}
 use Rattle.rnix_grammar.specs.Rows.{RowState, Start, BeforeOperator, BeforeDot, BeforeQuestion, BeforeArgument, BeforeAt, BeforeBrace, SecondStart, At, Nowhere}
 use Rattle.{rnix_grammar.specs.Rows.{first, advance, fits, is_infix, start, to}, rnix_lemmas.proofs.{EachKind.each_kind, Places.home}}
-use Rattle.rnix_grammar.specs.RowPlaces as p
+use Rattle.rnix_grammar.specs.declared.place.Place.TheVariants as p
 
 -- the kind of node in whose row a state is; some states are in those of many
 abbrev pub owner : RowState → Option SyntaxKind

@@ -1,13 +1,10 @@
 -- Rows that do not end without a token, and that no node pays it.
 use Rattle.std.proofs.Common.{◌≡◌, Bool, true, false, refl, if◌then◌else◌}
 use Rattle.rnix_kinds.{specs.declared.kinds.SyntaxKind.SyntaxKind, proofs.AllKinds.all_kinds}
-use Rattle.rnix_grammar.specs.RowPlaces.{Place}
-use Rattle.rnix_grammar.specs.RowSymbols.{Symbol}
-use Rattle.rnix_grammar.specs.Symbols.{symbol_at}
-use Rattle.rnix_grammar.specs.Rows.{RowState, At, Nowhere, advance, is_end, whole}
+use Rattle.rnix_grammar.specs.{declared.{place.Place.Place, symbol.Symbol.Symbol}, Symbols.symbol_at, Rows.{RowState, At, Nowhere, advance, is_end, whole}}
 use Rattle.rnix_lemmas.proofs.{Basics.{Where, where_one}, EachKind.{Each, each_kind}, RowKinds.has_row}
-use Rattle.rnix_grammar.specs.RowPlaces as p
-use Rattle.rnix_grammar.specs.RowSymbols as s
+use Rattle.rnix_grammar.specs.declared.place.Place.TheVariants as p
+use Rattle.rnix_grammar.specs.declared.symbol.Symbol.TheVariants as s
 
 -- the row goes on
 abbrev goes_further : Symbol → Bool

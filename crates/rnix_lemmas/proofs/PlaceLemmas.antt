@@ -1,5 +1,4 @@
 -- Each frame stands at a place of its sort and may stand inside the one below, and the lowest is the root.
-use Rattle.rnix_grammar.specs.declared.position.TheConstants.{APPLIED}
 use Rattle.std.proofs.Common.{◌≡◌, ℕ, suc, Bool, true, false, List, [], ◌∷◌, Option, Some, None, refl, sym, ap, ◌∙◌, if◌then◌else◌, nat_le, nat_eq}
 use Rattle.rnix_kinds.specs.declared.kinds.SyntaxKind.{SyntaxKind, TheVariants.{TOKEN_COLON, TOKEN_AT, TOKEN_IDENT, TOKEN_L_BRACE, TOKEN_INVERT, TOKEN_SUB}}
 use Rattle.{rnix_kinds.specs.declared.kinds.SyntaxKind.TheVariants.{TOKEN_LET, NODE_APPLY, NODE_ROOT}, rnix_grammar.specs.declared.place.Place.Place}
@@ -161,7 +160,7 @@ perform_kept raw action f fs ts n es al w = by action al
     by (a.Wrap k place high) al =
         inside k place (opened Operand (p.Behind (low_of f.place) high) f.depth blank) fs al.2 al.3 refl (instead f.head f.place (low_of f.place) high fs al.1 w)
     by a.Apply al =
-        reading_kept raw 16 false (opened (Node NODE_APPLY) APPLIED f.depth f.row) (opened Operand (p.Behind (low_of f.place) 15) f.depth blank ∷ fs) ts n es refl
+        reading_kept raw 16 false (opened (Node NODE_APPLY) p.Past f.depth f.row) (opened Operand (p.Behind (low_of f.place) 15) f.depth blank ∷ fs) ts n es refl
         (refl, refl, instead f.head f.place (low_of f.place) 15 fs al.1 w)
     by a.ApplyOr al = instead f.head f.place (low_of f.place) 15 fs al.1 w
 

@@ -4,10 +4,9 @@ use Rattle.rnix_kinds.specs.declared.kinds.SyntaxKind.{SyntaxKind, TheVariants.{
 use Rattle.rnix_kinds.specs.declared.kinds.SyntaxKind.TheVariants.{NODE_DYNAMIC, NODE_ERROR, NODE_HAS_ATTR, NODE_IF_ELSE, NODE_INHERIT, NODE_INHERIT_FROM}
 use Rattle.rnix_kinds.specs.declared.kinds.SyntaxKind.TheVariants.{NODE_INTERPOL, NODE_LAMBDA, NODE_LEGACY_LET, NODE_LET_IN, NODE_LIST, NODE_PAREN}
 use Rattle.rnix_kinds.specs.declared.kinds.SyntaxKind.TheVariants.{NODE_PATTERN, NODE_PAT_BIND, NODE_PAT_ENTRY, NODE_ROOT, NODE_SELECT, NODE_STRING}
-use Rattle.rnix_grammar.specs.RowPlaces.{Place}
-use Rattle.rnix_kinds.specs.declared.kinds.SyntaxKind.TheVariants.{NODE_UNARY_OP, NODE_WITH}
+use Rattle.{rnix_kinds.specs.declared.kinds.SyntaxKind.TheVariants.{NODE_UNARY_OP, NODE_WITH}, rnix_grammar.specs.declared.place.Place.Place}
 use Rattle.rnix_grammar.specs.Levels.{inversion_level, negation_level}
-use Rattle.rnix_grammar.specs.RowPlaces as p
+use Rattle.rnix_grammar.specs.declared.place.Place.TheVariants as p
 
 -- the kind of node that a place is in; some places are in many
 abbrev pub home : Place → Option SyntaxKind

@@ -1,15 +1,13 @@
 -- What is left of a row at a place.
-use Rattle.std.proofs.Common.{◌≡◌, Bool, true, false, refl, Option}
+use Rattle.{std.proofs.Common.{◌≡◌, Bool, true, false, refl, Option}, rnix_kinds.specs.declared.kinds.SyntaxKind.{SyntaxKind}}
 use Rattle.rnix_kinds.specs.declared.kinds.SyntaxKind.TheVariants.{TOKEN_R_PAREN, TOKEN_L_BRACE, TOKEN_R_BRACE, TOKEN_IN, TOKEN_R_BRACK, TOKEN_SEMICOLON}
 use Rattle.rnix_kinds.specs.declared.kinds.SyntaxKind.TheVariants.{TOKEN_ASSIGN, TOKEN_COLON, TOKEN_THEN, TOKEN_ELSE, TOKEN_INTERPOL_END, TOKEN_STRING_END}
 use Rattle.rnix_kinds.specs.declared.kinds.SyntaxKind.TheVariants.{TOKEN_QUESTION, TOKEN_OR, NODE_IDENT, NODE_INTERPOL, NODE_INHERIT_FROM, NODE_PAT_BIND}
-use Rattle.rnix_kinds.specs.declared.kinds.SyntaxKind.{SyntaxKind}
 use Rattle.rnix_grammar.specs.{declared.place.Place.{Place}, declared.rules.TheConstants.{EXPRESSION}, declared.rules.Part.TheVariants.{Operand, Many}}
 use Rattle.rnix_grammar.specs.declared.rules.Part.TheVariants.{Entries, Wanted, Attr, Attrpath, MoreAttrs, Names, Pieces, PathPieces, Formals}
 use Rattle.rnix_grammar.specs.{declared.rules.Part.TheVariants.{FormalsAfterComma, Comma, Optional, EndOr, BoundAlready, TextEnd}, Levels.{expression_level}}
 use Rattle.rnix_grammar.specs.{Levels.{negation_level, inversion_level, selection_level}, Rules.{Row, never, done, ◌·◌, IsFollowed}}
-use Rattle.rnix_grammar.specs.AnnotatedForest.{AnnotatedForest}
-use Rattle.rnix_lemmas.proofs.RowParts.{is_left, left_followed}
+use Rattle.{rnix_grammar.specs.AnnotatedForest.{AnnotatedForest}, rnix_lemmas.proofs.RowParts.{is_left, left_followed}}
 use Rattle.rnix_grammar.specs.declared.place.Place.TheVariants as p
 
 -- what stands after a pattern's braces
@@ -90,16 +88,3 @@ left_at _ = refl
 -- so no tree before it goes on there
 pub followed_at : (x : Place) (b : AnnotatedForest) (next : Option SyntaxKind) → IsFollowed (rest_at x) b next
 followed_at x = left_followed (rest_at x) (left_at x)
-
--- the text ends at one place
-pub text_end_at : (x : Place) → rest_at x ≡ TextEnd · done → x ≡ p.RootEnd
-text_end_at p.RootEnd h = refl
-text_end_at (p.PatternEnd true) h = absurd (cc)
-text_end_at (p.PatternEnd false) h = absurd (cc)
-text_end_at _ h = absurd (cc)
-
--- a pattern that has a name before it ends at one place
-pub bound_at : (x : Place) → rest_at x ≡ BoundAlready · done → x ≡ p.PatternEnd true
-bound_at (p.PatternEnd true) h = refl
-bound_at (p.PatternEnd false) h = absurd (cc)
-bound_at _ h = absurd (cc)

@@ -1,12 +1,9 @@
 -- The kinds of nodes that have rows: none is a token that closes a row.
 use Rattle.std.{specs.List.list_all, proofs.Common.{◌≡◌, Bool, true, false, refl, if◌then◌else◌}}
 use Rattle.rnix_kinds.{specs.{declared.kinds.SyntaxKind.{SyntaxKind, TheVariants.{NODE_ROOT, NODE_ERROR}}, SyntaxKind.is_token}, proofs.AllKinds.all_kinds}
-use Rattle.rnix_grammar.specs.RowClosers.{Closer}
-use Rattle.rnix_kinds.proofs.AllKinds.{implied}
-use Rattle.rnix_grammar.specs.Tables.{closes}
-use Rattle.rnix_grammar.specs.Rows.{advance}
+use Rattle.{rnix_kinds.proofs.AllKinds.implied, rnix_grammar.specs.{declared.until.Closer.Closer, Tables.closes, Rows.advance}}
 use Rattle.{rnix_grammar.specs.Rows.{live, start}, rnix_lemmas.proofs.Basics.not_if}
-use Rattle.rnix_grammar.specs.RowClosers as c
+use Rattle.rnix_grammar.specs.declared.until.Closer.TheVariants as c
 
 -- the kinds of nodes that have rows
 abbrev pub has_row : SyntaxKind → Bool

@@ -1,8 +1,7 @@
 -- What is asked of what stands where a row begins, and of what stands at a place of it.
 use Rattle.std.proofs.Common.{◌≡◌, ℕ, Bool, true, false, List, [], ◌∷◌, Option, Some, None, refl, ap, sym, ◌∙◌, subst, suc, if◌then◌else◌}
 use Rattle.rnix_kinds.specs.{declared.kinds.SyntaxKind.{SyntaxKind}, declared.kinds.SyntaxKind.TheVariants.{NODE_LITERAL}, SyntaxKind.{is_token}}
-use Rattle.rnix_kinds.proofs.AllKinds.{implied}
-use Rattle.rnix_green.specs.Equality.{same_kind}
+use Rattle.{rnix_kinds.proofs.AllKinds.{implied}, rnix_green.specs.Equality.{same_kind}}
 use Rattle.rnix_grammar.specs.{declared.rules.Part.TheVariants.{Child, Atom, First, Suffix, Binary, Argument, Operand, Many}, AnnotatedForest.{Token}}
 use Rattle.rnix_grammar.specs.{AnnotatedForest.{AnnotatedForest, blank, head_kind, touches}, Rows.{fits, is_expression}, Rules.{Row, ◌·◌, ◌/◌, only, after}}
 use Rattle.rnix_grammar.specs.Rules.{expects, expects_item, expects_end, IsExpected, IsFollowed, level_at, counts, stands_expected}
@@ -97,33 +96,13 @@ expected_as (Binary · r) n ts own h = tt
 expected_as (r / s) n ts own h = tt
 expected_as _ n ts own h = h
 
--- and the other way at a place
-pub as_expected : (r : Row) → is_left r ≡ true → (n : ℕ) (ts : List Token) (own : Bool) → IsExpected r n ts own → expects r n ts ≡ own
-as_expected (Child kind · r) i n ts own h = absurd (cc)
-as_expected (Atom · r) i n ts own h = absurd (cc)
-as_expected (First m · r) i n ts own h = absurd (cc)
-as_expected (Suffix token · r) i n ts own h = absurd (cc)
-as_expected (Binary · r) i n ts own h = absurd (cc)
-as_expected (r / s) i n ts own h = absurd (cc)
-as_expected _ i n ts own h = h
-
--- no token is another kind
-pub no_token : (closer k : SyntaxKind) → is_token closer ≡ true → is_token k ≡ false → same_kind closer k ≡ false
+-- no expression is a token
+no_token : (closer k : SyntaxKind) → is_token closer ≡ true → is_expression k ≡ true → same_kind closer k ≡ false
 no_token closer k h e = by (same_kind closer k) refl
   where
     by : (w : Bool) → same_kind closer k ≡ w → same_kind closer k ≡ false
-    by true i = absurd (true_is_not_false (sym h ∙ ap is_token (same closer k i) ∙ e))
+    by true i = absurd (true_is_not_false (sym h ∙ ap is_token (same closer k i) ∙ not_if (is_token k) (implied is_expression (λ j. if is_token j then false else true) refl k e)))
     by false i = i
-
--- no operand is a token
-fits_node : (n : ℕ) (k : SyntaxKind) → fits n k ≡ true → is_token k ≡ false
-fits_node n k h = not_if (is_token k) (implied is_expression (λ j. if is_token j then false else true) refl k (fits_expression n k h))
-
--- where none stands none is counted
-pub uncounted : (r : Row) → level_at r blank ≡ None → counts r ≡ false
-uncounted (Operand n counted · r) e = absurd (cc)
-uncounted (Many n closer · r) e = absurd (cc)
-uncounted _ e = refl
 
 -- where operands of a level stand, the row goes on after each that fits it as after an error node
 pub operand_goes : (r : Row) (n : ℕ) (k : SyntaxKind) → is_left r ≡ true → level_at r blank ≡ Some n → fits n k ≡ true → after r k ≡ after r NODE_LITERAL
@@ -132,7 +111,7 @@ operand_goes (Operand m counted · r) n k i e h =
 operand_goes (Many m closer · r) n k i e h =
     let j : m ≡ n = some_same m n e in
     let goes : (k : SyntaxKind) → fits m k ≡ true → after (Many m closer · r) k ≡ Many m closer · r =
-    λ k h. ap (λ w. if w then r else only (fits m k) (Many m closer · r)) (no_token closer k i (fits_node m k h)) ∙ ap (λ w. only w (Many m closer · r)) h in
+    λ k h. ap (λ w. if w then r else only (fits m k) (Many m closer · r)) (no_token closer k i (fits_expression m k h)) ∙ ap (λ w. only w (Many m closer · r)) h in
     goes k (ap (λ m. fits m k) j ∙ h) ∙ sym (goes NODE_LITERAL (atom_fits m NODE_LITERAL refl))
 operand_goes (Argument · r) n k i e h = absurd (cc)
 operand_goes _ n k i e h = absurd (cc)

@@ -1,5 +1,4 @@
 -- A step without its trivia is the step of the items alone.
-use Rattle.rnix_grammar.specs.declared.position.TheConstants.{APPLIED, BOUND_PATTERN, LAMBDA, LEGACY_LET, PATTERN, PAT_ENTRY, SECOND}
 use Rattle.std.proofs.Common.{◌≡◌, ℕ, suc, Bool, true, false, List, [], ◌∷◌, ◌++◌, refl, ap, sym, ◌∙◌, if◌then◌else◌, nat_le}
 use Rattle.rnix_kinds.specs.declared.kinds.SyntaxKind.{SyntaxKind, TheVariants.{NODE_IDENT, NODE_PAT_ENTRY, NODE_LAMBDA, NODE_IDENT_PARAM, NODE_PATTERN}}
 use Rattle.rnix_kinds.specs.declared.kinds.SyntaxKind.TheVariants.{NODE_PAT_BIND, NODE_LEGACY_LET, NODE_APPLY, NODE_ERROR}
@@ -140,24 +139,24 @@ begun_without_trivia (b.Node k place high) level d t f fs ts n es =
 begun_without_trivia b.LegacyLet level d t f fs ts n es =
     machine_same
     (cons_same
-    (row_same (Node NODE_LEGACY_LET) LEGACY_LET d
+    (row_same (Node NODE_LEGACY_LET) p.LegacyInside d
     (added_without_trivia (leaf true NODE_LEGACY_LET ts) (behind true ts) (leaf true NODE_LEGACY_LET (behind true ts)) (leaf_behind NODE_LEGACY_LET ts)
     ∙ ap (λ x. x ⊕ leaf_in NODE_LEGACY_LET (tail_of (items ts))) (leaf_without_trivia NODE_LEGACY_LET ts))) (cons_same refl (waiting_without_trivia f fs ts)))
     (behind_two ts) (reach_two n ts)
 begun_without_trivia b.NameLambda level d t f fs ts n es =
     machine_same
-    (cons_same (row_same (Node NODE_LAMBDA) LAMBDA d (ap (λ x. one_branch NODE_IDENT_PARAM (one_branch NODE_IDENT x)) (leaf_without_trivia NODE_IDENT ts)))
+    (cons_same (row_same (Node NODE_LAMBDA) p.LambdaColon d (ap (λ x. one_branch NODE_IDENT_PARAM (one_branch NODE_IDENT x)) (leaf_without_trivia NODE_IDENT ts)))
     (cons_same refl (waiting_without_trivia f fs ts))) (items_behind ts) (reach_items n ts)
 begun_without_trivia b.BoundLambda level d t f fs ts n es =
     machine_same
     (cons_same
-    (row_same (Node NODE_PATTERN) BOUND_PATTERN d
+    (row_same (Node NODE_PATTERN) p.PatternBrace d
     (ap (one_branch NODE_PAT_BIND)
     (added_without_trivia (one_branch NODE_IDENT (leaf true NODE_IDENT ts)) (behind true ts) (leaf true NODE_PAT_BIND (behind true ts)) (leaf_behind NODE_PAT_BIND ts)
     ∙ ap (λ x. one_branch NODE_IDENT x ⊕ leaf_in NODE_PAT_BIND (tail_of (items ts))) (leaf_without_trivia NODE_IDENT ts))))
     (cons_same refl (cons_same refl (waiting_without_trivia f fs ts)))) (behind_two ts) (reach_two n ts)
 begun_without_trivia b.PatternLambda level d t f fs ts n es =
-    machine_same (cons_same (row_same (Node NODE_PATTERN) PATTERN d (leaf_without_trivia NODE_PATTERN ts)) (cons_same refl (cons_same refl (waiting_without_trivia f fs ts))))
+    machine_same (cons_same (row_same (Node NODE_PATTERN) (p.PatternStart false) d (leaf_without_trivia NODE_PATTERN ts)) (cons_same refl (cons_same refl (waiting_without_trivia f fs ts))))
     (items_behind ts) (reach_items n ts)
 begun_without_trivia b.Stray level d t f fs ts n es =
     machine_same (cons_same (row_same Operand (p.Behind level 16) d (ap (one_fault Stray) (leaf_without_trivia NODE_ERROR ts))) (waiting_without_trivia f fs ts)) (items_behind ts) (reach_items n ts)
@@ -200,15 +199,15 @@ perform_without_trivia (a.Open k inside after) f fs ts n es =
     machine_same (cons_same (row_same (Node k) inside f.depth (leaf_without_trivia k ts)) (waiting_without_trivia (put after f.row f) fs ts)) (items_behind ts) (reach_items n ts)
 perform_without_trivia (a.Begin k inside after) f fs ts n es = machine_same (cons_same refl (waiting_without_trivia (put after f.row f) fs ts)) (items-from_item ts) refl
 perform_without_trivia (a.Entry after) f fs ts n es =
-    machine_same (cons_same (row_same (Node NODE_PAT_ENTRY) PAT_ENTRY f.depth (ap (one_branch NODE_IDENT) (leaf_without_trivia NODE_IDENT ts))) (waiting_without_trivia (put after f.row f) fs ts))
+    machine_same (cons_same (row_same (Node NODE_PAT_ENTRY) p.EntryMore f.depth (ap (one_branch NODE_IDENT) (leaf_without_trivia NODE_IDENT ts))) (waiting_without_trivia (put after f.row f) fs ts))
     (items_behind ts) (reach_items n ts)
 perform_without_trivia (a.Twice after) f fs ts n es =
-    machine_same (cons_same (row_same Second SECOND f.depth (leaf_without_trivia NODE_ERROR ts)) (waiting_without_trivia (put after f.row f) fs ts)) (items_behind ts) (reach_items n ts)
+    machine_same (cons_same (row_same Second p.TwiceName f.depth (leaf_without_trivia NODE_ERROR ts)) (waiting_without_trivia (put after f.row f) fs ts)) (items_behind ts) (reach_items n ts)
 perform_without_trivia (a.Read level counted after) f fs ts n es = reading_without_trivia level counted (put after f.row f) fs ts n es
 perform_without_trivia (a.Wrap k inside high) f fs ts n es =
     machine_same (cons_same (row_same (Node k) inside f.depth (added_without_trivia f.row ts (leaf true k ts) (leaf_without_trivia k ts))) refl) (items_behind ts) (reach_items n ts)
 perform_without_trivia a.Apply f fs ts n es =
-    reading_without_trivia 16 false (opened (Node NODE_APPLY) APPLIED f.depth f.row) (opened Operand (p.Behind (low_of f.place) 15) f.depth blank ∷ fs) ts n es
+    reading_without_trivia 16 false (opened (Node NODE_APPLY) p.Past f.depth f.row) (opened Operand (p.Behind (low_of f.place) 15) f.depth blank ∷ fs) ts n es
 perform_without_trivia a.ApplyOr f fs ts n es =
     machine_same
     (cons_same

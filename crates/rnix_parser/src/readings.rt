@@ -5,7 +5,7 @@ ghost use Rattle.rnix_kinds.specs.declared.kinds.SyntaxKind.TheVariants.{NODE_RO
 ghost use Rattle.rnix_kinds.specs.Lexical.Tokens.{Lexeme, tokens_of};
 ghost use Rattle.rnix_green.specs.Forest.{text_of};
 ghost use Rattle.rnix_green.specs.Tree.{Tree, forest_of};
-ghost use Rattle.rnix_grammar.specs.RowPlaces.{RootStart};
+ghost use Rattle.rnix_grammar.specs.declared.place.Place.TheVariants.{RootStart};
 ghost use Rattle.rnix_grammar.specs.Fault.{Fault};
 ghost use Rattle.rnix_grammar.specs.Tables.{depth_limit};
 ghost use Rattle.rnix_grammar.specs.Rows.{At};

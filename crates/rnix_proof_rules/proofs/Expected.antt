@@ -15,7 +15,21 @@ use Rattle.rnix_lemmas.proofs.Basics.{true_is_not_false}
 use Rattle.rnix_proof_rules.proofs.RowsAreRules.{rest_of}
 use Rattle.rnix_proof_rules.proofs.PlacesAreRules.{expects_item_is, expects_end_is}
 use Rattle.rnix_lemmas.proofs.RestAt.{rest_at}
-use Rattle.rnix_lemmas.proofs.LiveRows.{is_live, live_before, end_live, reads_live, until_of, until_is}
+
+-- there is a row
+abbrev pub is_live : Row → Bool
+is_live never = false
+is_live r = true
+
+-- what is live after a child was so before it
+pub live_before : (r : Row) (k : SyntaxKind) → is_live (after r k) ≡ true → is_live r ≡ true
+live_before never k h = h
+live_before _ k h = refl
+
+-- a complete row is live
+pub end_live : (r : Row) → may_end r ≡ true → is_live r ≡ true
+end_live never h = h
+end_live _ h = refl
 
 -- a state is live where its row is
 pub state_live : (q : RowState) → is_live (rest_of q) ≡ true → live q ≡ true

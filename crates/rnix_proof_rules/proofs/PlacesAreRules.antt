@@ -1,8 +1,8 @@
 -- What is said of a place is said of what is left of its row.
 use Rattle.std.proofs.Common.{◌≡◌, Bool, true, false, List, Option, Some, None, refl}
 use Rattle.rnix_kinds.specs.declared.kinds.SyntaxKind.{SyntaxKind}
-use Rattle.rnix_grammar.specs.RowPlaces.{Place}
-use Rattle.rnix_grammar.specs.RowPlaces as p
+use Rattle.rnix_grammar.specs.declared.place.Place.{Place}
+use Rattle.rnix_grammar.specs.declared.place.Place.TheVariants as p
 use Rattle.rnix_grammar.specs.declared.until.Until.{Until}
 use Rattle.rnix_grammar.specs.Fault.{Fault}
 use Rattle.rnix_grammar.specs.Tables.{wanted_kinds}
@@ -16,7 +16,7 @@ use Rattle.rnix_grammar.specs.Operands as o
 use Rattle.rnix_grammar.specs.Rules.{Row, missing, run_at, expects_item, expects_end, stands_expected, level_at, counts}
 use Rattle.rnix_lemmas.proofs.EachKind.{each_kind}
 use Rattle.rnix_proof_rules.proofs.RowsAreRules.{rest_of}
-use Rattle.rnix_proof_rules.proofs.PlaceRest.{rest_at}
+use Rattle.rnix_lemmas.proofs.RestAt.{rest_at}
 
 -- an error and what is left after what is missing
 abbrev pub missing_rest : Option (Fault × Place) → Option (Fault × Row)

@@ -31,7 +31,6 @@ use Rattle.rnix_proof_rules.proofs.RowsAreRules.{rest_of, row_is, may_end_is, af
 use Rattle.rnix_proof_rules.proofs.PlacesAreRules.{missing_rest, missing_of, missing_is, run_rest, run_of, run_is, expects_end_is, stands_same, level_is, counts_is}
 use Rattle.rnix_proof_rules.proofs.Expected.{is_live, live_before, end_live, state_live, expected_old, followed_old, is_text_end, text_end_is, is_bound, bound_is}
 use Rattle.rnix_lemmas.proofs.RestAt.{rest_at}
-use Rattle.rnix_lemmas.proofs.LiveRows.{is_live, live_before, end_live, reads_live, until_of, until_is}
 
 -- the counted places
 deeper_is : (q : RowState) (d : ℕ) → old.deeper q d ≡ new.deeper (rest_of q) d
@@ -47,6 +46,28 @@ over_old : (q : RowState) (n : ℕ) (ts : List Token) → new.IsOver (rest_of q)
 over_old q n ts h =
     let w : rows.whole q ≡ true = may_end_is q ∙ h.0 in
     (w, expected_old q n ts false (λ a. absurd (no_end q w a)) h.1)
+
+-- the kinds that are wanted say which they are
+abbrev until_of : List SyntaxKind → Until
+until_of (TOKEN_R_PAREN ∷ ks) = u.RParen
+until_of (TOKEN_L_BRACE ∷ ks) = u.LBrace
+until_of (TOKEN_R_BRACE ∷ []) = u.RBrace
+until_of (TOKEN_R_BRACE ∷ ks) = u.Entry
+until_of (TOKEN_SEMICOLON ∷ ks) = u.Semicolon
+until_of (TOKEN_ASSIGN ∷ ks) = u.Assign
+until_of (TOKEN_COLON ∷ ks) = u.Colon
+until_of (TOKEN_THEN ∷ ks) = u.Then
+until_of (TOKEN_ELSE ∷ ks) = u.Else
+until_of (TOKEN_INTERPOL_END ∷ ks) = u.InterpolEnd
+until_of (TOKEN_STRING_END ∷ []) = u.StringEnd
+until_of (TOKEN_STRING_END ∷ ks) = u.Piece
+until_of (TOKEN_IDENT ∷ []) = u.Ident
+until_of (TOKEN_IDENT ∷ ks) = u.Attr
+until_of ks = u.End
+
+until_is : (until : Until) → until_of (wanted_kinds until) ≡ until
+until_is u.RParen = refl
+until_is _ = refl
 
 -- the halves of a pair, if there is one
 abbrev left : {A B : Type 0} → A → Option (A × B) → A
@@ -90,6 +111,31 @@ run_old _ until r h = absurd (cc)
 
 operand_old : (q : RowState) (x y : AnnotatedForest) (us : List Token) → IsOperandOf (level_at (rest_of q) x) y us → IsOperand (o.level_at q x) y us
 operand_old q x y us h = subst (λ l. IsOperand l y us) (sym (level_is q x)) (operand_by_steps (level_at (rest_of q) x) y us h)
+
+-- a row is live where one is left after it
+missing_live : (q r : Row) (e : Fault) → missing q ≡ Some (e, r) → is_live q ≡ true
+missing_live rules.never r e h = absurd (cc)
+missing_live _ r e h = refl
+
+run_live : (q r : Row) (ks : List SyntaxKind) → run_at q ≡ Some (ks, r) → is_live q ≡ true
+run_live rules.never r ks h = absurd (cc)
+run_live _ r ks h = refl
+
+wrong_live : (note : Note) (d : ℕ) (q r : Row) (ts us : List Token) → new.IsWrong note d q r ts us → is_live r ≡ true → is_live q ≡ true
+wrong_live Stray d q r ts us h l = live_before q NODE_LITERAL (ap is_live h.3 ∙ l)
+wrong_live (Unwanted until) d q r ts us h l = run_live q r (wanted_kinds until) h.2
+wrong_live Extra d q r ts us h l = ap is_live h.2
+wrong_live Twice d q r ts us h l = absurd h
+wrong_live TooDeep d q r ts us h l = live_before q NODE_LITERAL (ap is_live h.3 ∙ l)
+
+reads_live : {p : SyntaxKind} {d n : ℕ} {q r : Row} {b : AnnotatedForest} {us : List Token} {f : AnnotatedForest} {es : List Fault}
+    → new.Reads p d n q r b us f es → is_live r ≡ true → is_live q ≡ true
+reads_live new.end l = l
+reads_live {p} {q = q} (new.leaf {t = t} x w h) l = live_before q (leaf_kind p t) (reads_live h l)
+reads_live {q = q} (new.inner {k = k} hi hs ho hx hj hk h) l = live_before q k (reads_live h l)
+reads_live {q = q} (new.missing_part {r = r} {e = e} hu hf hm hr h) l = missing_live q r e hm
+reads_live {d = d} {q = q} {us = us} (new.wrong {r = r} {f = f} note ts hx hw hi h) l = wrong_live note d q r ts (tokens_in f ++ us) hi (reads_live h l)
+reads_live (new.second hs ho h) l = refl
 
 -- an argument has an item
 argument_some : (w : Bool) (x : AnnotatedForest) (ts vs : List Token) (n : ℕ) → rules.expects (Argument · done) n ts ≡ w

@@ -3,13 +3,13 @@ use Rattle.std.proofs.Common.{◌≡◌, Bool, true, false, refl}
 use Rattle.rnix_kinds.specs.declared.kinds.SyntaxKind.{SyntaxKind}
 use Rattle.rnix_kinds.specs.declared.kinds.SyntaxKind.TheVariants.{TOKEN_L_BRACE, TOKEN_R_BRACE, TOKEN_DOT, TOKEN_AT, TOKEN_QUESTION, TOKEN_OR, NODE_ATTRPATH, NODE_ATTRPATH_VALUE, NODE_ROOT}
 use Rattle.rnix_grammar.specs.declared.rules.Part.TheVariants.{Child, Suffix, Binary, Argument, Operand, Entries, Attrpath, EndOr}
-use Rattle.rnix_grammar.specs.RowPlaces as p
+use Rattle.rnix_grammar.specs.declared.place.Place.TheVariants as p
 use Rattle.rnix_grammar.specs.Levels.{selection_level, right_of}
 use Rattle.rnix_grammar.specs.Rows.{RowState, Start, BeforeOperator, BeforeDot, BeforeQuestion, BeforeArgument, BeforeAt, BeforeBrace, SecondStart, At, Nowhere, advance, whole, start, to, is_infix, fits}
 use Rattle.rnix_grammar.specs.Rules.{Row, never, done, ◌·◌, row, second_name, only, after, may_end}
 use Rattle.rnix_lemmas.proofs.EachKind.{Each, each_kind}
 use Rattle.rnix_kinds.proofs.AllKinds.{all_kinds}
-use Rattle.rnix_proof_rules.proofs.PlaceRest.{rest_at}
+use Rattle.rnix_lemmas.proofs.RestAt.{rest_at}
 
 -- what is left of a row where a node begins; three kinds begin at a place
 abbrev pub rest_of_start : SyntaxKind → Row

@@ -1,5 +1,4 @@
 -- What each action makes of the frames.
-use Rattle.rnix_grammar.specs.declared.position.TheConstants.{APPLIED}
 use Rattle.std.proofs.Common.{◌≡◌, ◌≤◌, ℕ, true, false, List, [], ◌∷◌, ◌++◌, Some, refl, ap, sym, ◌∙◌, subst, arith, append-nil}
 use Rattle.rnix_kinds.specs.declared.kinds.SyntaxKind.{SyntaxKind, TheVariants.{NODE_ERROR, NODE_IDENT, NODE_APPLY}}
 use Rattle.rnix_green.specs.Range.{Extent}
@@ -129,8 +128,8 @@ perform_goes (a.Wrap j inside high) f fs ts n es names names' w v al g k =
 perform_goes a.Apply f fs ts n es names names' w v al g k =
     let over : Frame = opened Operand (p.Behind (low_of f.place) 15) f.depth blank in
     let loose = head_loose f.head (head_sort f.head f.place fs v.fit ∙ al.1) in
-    reading_goes 16 false (opened (Node NODE_APPLY) APPLIED f.depth f.row) (over ∷ fs) ts n es names names'
-    (push_node NODE_APPLY APPLIED f.depth f.row refl (instead (low_of f.place) 15 f.depth blank loose w)) refl v.order k
+    reading_goes 16 false (opened (Node NODE_APPLY) p.Past f.depth f.row) (over ∷ fs) ts n es names names'
+    (push_node NODE_APPLY p.Past f.depth f.row refl (instead (low_of f.place) 15 f.depth blank loose w)) refl v.order k
 perform_goes a.ApplyOr f fs ts n es names names' w v al g k =
     let loose = head_loose f.head (head_sort f.head f.place fs v.fit ∙ al.1) in
     let row : AnnotatedForest = one_branch NODE_APPLY (ate true f.row ts ⊕ one_branch NODE_IDENT (leaf true NODE_IDENT ts)) in

@@ -1,5 +1,4 @@
 -- What the reader's steps make of what it holds.
-use Rattle.rnix_grammar.specs.declared.position.TheConstants.{APPLIED, BOUND_PATTERN, LEGACY_LET, PATTERN}
 use Rattle.std.specs.Prelude.{◌≡◌, ◌≤◌, ◌<◌, ◌+◌, ℕ, Bool, true, false, List, [], ◌∷◌, Option, Some, None, length, ◌&&◌, nat_le, IsTrue, if◌then◌else◌}
 use Rattle.rnix_kinds.specs.declared.kinds.SyntaxKind.TheVariants.{NODE_APPLY, NODE_LEGACY_LET, NODE_PATTERN, NODE_ROOT}
 use Rattle.rnix_green.specs.Draft.{is_checkpoint_of}
@@ -28,10 +27,10 @@ use Rattle.rnix_reader.specs.Reported.{unwanted_reported, extra_reported, stray_
 abbrev pub begun_as : Begin → ℕ → ℕ → Token → State → State
 begun_as (b.Leaf k) level d t s = leafed k (operand_begun (p.Behind level selection_level) d s)
 begun_as (b.Node k place high) level d t s = node_operand_begun k place (p.Behind level high) d s
-begun_as b.LegacyLet level d t s = bumped NODE_LEGACY_LET (node_operand_begun NODE_LEGACY_LET LEGACY_LET (p.Behind level no_level) d s)
+begun_as b.LegacyLet level d t s = bumped NODE_LEGACY_LET (node_operand_begun NODE_LEGACY_LET p.LegacyInside (p.Behind level no_level) d s)
 begun_as b.NameLambda level d t s = parameter_read (lambda_begun (p.Behind level selection_level) d s)
-begun_as b.BoundLambda level d t s = binding_read (noded NODE_PATTERN BOUND_PATTERN d (lambda_begun (p.Behind level selection_level) d s))
-begun_as b.PatternLambda level d t s = node_begun NODE_PATTERN PATTERN d (lambda_begun (p.Behind level selection_level) d s)
+begun_as b.BoundLambda level d t s = binding_read (noded NODE_PATTERN p.PatternBrace d (lambda_begun (p.Behind level selection_level) d s))
+begun_as b.PatternLambda level d t s = node_begun NODE_PATTERN (p.PatternStart false) d (lambda_begun (p.Behind level selection_level) d s)
 begun_as b.Stray level d t s = stray_reported t (operand_begun (p.Behind level selection_level) d s)
 
 -- an operand of a level is read, by the next item and those behind it
@@ -69,7 +68,7 @@ performed (a.Twice after) m second s = second_begun after m s
 performed (a.Read level counted after) m second s = expression_read level counted m.depth (moved after m s)
 performed (a.Wrap k inside high) m second s = bumped k (node_wrapped k inside (p.Behind (low_of m.place) high) m s)
 performed a.Apply m second s =
-    expression_read selection_level false m.depth (node_wrapped NODE_APPLY APPLIED (p.Behind (low_of m.place) application_level) m s)
+    expression_read selection_level false m.depth (node_wrapped NODE_APPLY p.Past (p.Behind (low_of m.place) application_level) m s)
 performed a.ApplyOr m second s = or_applied (p.Behind (low_of m.place) application_level) m s
 
 -- an error is told, if there is one
@@ -149,5 +148,5 @@ NamesAfter (a.Entry after) m s n n' = (t : Token) → IsNextItem t s → EntryNa
 NamesAfter (a.Twice after) m s n n' = (t : Token) → IsNextItem t s → TwiceOpened t.start n n'
 NamesAfter (a.Read level counted after) m s n n' = NamesFor (opens_in m.depth counted level (moved after m s)) n n'
 NamesAfter a.Apply m s n n' =
-    NamesFor (opens_in m.depth false selection_level (node_wrapped NODE_APPLY APPLIED (p.Behind (low_of m.place) application_level) m s)) n n'
+    NamesFor (opens_in m.depth false selection_level (node_wrapped NODE_APPLY p.Past (p.Behind (low_of m.place) application_level) m s)) n n'
 NamesAfter action m s n n' = n' ≡ n

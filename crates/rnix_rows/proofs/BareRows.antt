@@ -2,9 +2,7 @@
 use Rattle.rnix_lemmas.proofs.RunLemmas.{some_left}
 use Rattle.std.proofs.Common.{◌≡◌, ℕ, Bool, true, false, List, [], ◌∷◌, ◌++◌, Option, Some, None, refl, ap, sym, ◌∙◌, subst, arith, if◌then◌else◌, ◌&&◌}
 use Rattle.{rnix_kinds.{specs.declared.kinds.SyntaxKind.{SyntaxKind, TheVariants.NODE_LITERAL}, proofs.AllKinds.{all_kinds, implied}}, rnix_lemmas.proofs.EachKind.{Each, each_kind}}
-use Rattle.rnix_grammar.specs.RowPlaces.{Place}
-use Rattle.rnix_grammar.specs.Fault.{Fault}
-use Rattle.rnix_grammar.specs.Symbols.{symbol_at, level_in}
+use Rattle.rnix_grammar.specs.{declared.place.Place.Place, Fault.Fault, Symbols.{symbol_at, level_in}}
 use Rattle.rnix_grammar.specs.{AnnotatedForest.{Token, Note, Stray, Unwanted, Extra, Twice, TooDeep, AnnotatedForest}}
 use Rattle.rnix_grammar.specs.AnnotatedForest.{blank, token, branch, fault, one_branch, is_some, row_of, tokens_in}
 use Rattle.rnix_grammar.specs.{Missing.missing, Rows.{RowState, Start, At, advance, first, live, start, whole, counts}}
@@ -13,7 +11,7 @@ use Rattle.rnix_grammar.specs.PlaceReads.{Reads, end, leaf, missing_part, wrong,
 use Rattle.rnix_lemmas.proofs.{Basics.{true_is_not_false, not_if, not_nil, none_left, none_right, Where, where_one}, EveryKind.whenever_two, EntryNames.both_true}
 use Rattle.rnix_lemmas.proofs.{OpeningRows.{is_place, unplaced}, AnnotatedForestLemmas.tokens_in-row_of}
 use Rattle.rnix_rows.proofs.BegunTrees.{is_free, is_same, same_true}
-use Rattle.rnix_grammar.specs.RowPlaces as p
+use Rattle.rnix_grammar.specs.declared.place.Place.TheVariants as p
 
 -- the row of a node that stands at no place begins at none
 pub unplaced_start : (q : RowState) (k : SyntaxKind) → is_place q ≡ false → live (advance q k) ≡ true → is_place (start k) ≡ false

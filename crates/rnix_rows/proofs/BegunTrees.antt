@@ -7,18 +7,15 @@ use Rattle.rnix_kinds.specs.declared.kinds.SyntaxKind.TheVariants.{TOKEN_L_BRACE
 use Rattle.rnix_kinds.specs.declared.kinds.SyntaxKind.TheVariants.{NODE_ATTRPATH_VALUE, NODE_BIN_OP, NODE_CUR_POS, NODE_HAS_ATTR, NODE_IDENT}
 use Rattle.rnix_kinds.specs.declared.kinds.SyntaxKind.TheVariants.{NODE_IDENT_PARAM, NODE_LAMBDA, NODE_PATTERN, NODE_PAT_BIND, NODE_PAT_ENTRY, NODE_ROOT}
 use Rattle.rnix_kinds.{specs.{declared.kinds.SyntaxKind.TheVariants.NODE_SELECT}, proofs.AllKinds.{all_kinds, implied}}
-use Rattle.rnix_grammar.specs.RowPlaces.{Place}
-use Rattle.rnix_grammar.specs.RowSymbols.{Symbol}
-use Rattle.rnix_grammar.specs.declared.begin.Begin.{Begin}
-use Rattle.rnix_grammar.specs.Begins.{begin_name, begin_let, begin_of, is_pattern}
+use Rattle.rnix_grammar.specs.{declared.{begin.Begin.Begin, place.Place.Place, symbol.Symbol.Symbol}, Begins.{begin_name, begin_let, begin_of, is_pattern}}
 use Rattle.rnix_grammar.specs.{Begins.second_kind, Names.{is_position, is_name_in, is_name_of, is_name_at, is_named_by}}
 use Rattle.rnix_grammar.specs.{ExpectedItems.{IsExpected, stands_expected, expects_in, stands_expected_in}, Operands.{first_tree, kind_of, IsBegun, IsOperand, level_at}, Rows.RowState}
 use Rattle.rnix_grammar.specs.{Rows.{Start, BeforeArgument, At, first, advance, live, start}, AnnotatedForest.{Token, AnnotatedForest, branch, one_branch}}
 use Rattle.rnix_grammar.specs.{AnnotatedForest.{tokens_in, head_kind}, Symbols.{symbol_at, level_in}, Tables.{is_cur_pos, is_wanted}, TokenKinds.{is_or}}
 use Rattle.{rnix_grammar.specs.{AnnotatedForest.blank, TreeLevels.is_or_row}, rnix_lemmas.proofs.{EachKind.{Each, each_kind}, Basics.{true_is_not_false, not_if, choice}, FirstTrees.{a_node, first_in}}}
 use Rattle.rnix_grammar.specs.declared.begin.Begin.TheVariants as b
-use Rattle.rnix_grammar.specs.RowPlaces as p
-use Rattle.rnix_grammar.specs.RowSymbols as s
+use Rattle.rnix_grammar.specs.declared.place.Place.TheVariants as p
+use Rattle.rnix_grammar.specs.declared.symbol.Symbol.TheVariants as s
 use Rattle.rnix_grammar.specs.declared.until.Until.TheVariants as u
 
 -- the first item of a pattern that stands before a function's body

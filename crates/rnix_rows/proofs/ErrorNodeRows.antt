@@ -1,16 +1,13 @@
 -- What the error nodes of a row that is read hold, and in which nodes they stand.
 use Rattle.std.proofs.Common.{ℕ, true, Option, Some, None, List, [], ◌∷◌, ◌++◌, refl, ap, sym, ◌∙◌, subst}
 use Rattle.rnix_kinds.specs.declared.kinds.SyntaxKind.{SyntaxKind, TheVariants.{NODE_ERROR, NODE_LITERAL, NODE_PATTERN, NODE_ROOT}}
-use Rattle.rnix_grammar.specs.RowPlaces.{Place}
-use Rattle.rnix_green.specs.Equality.{same_kind-decides}
-use Rattle.rnix_grammar.specs.Fault.{Fault}
-use Rattle.rnix_grammar.specs.Missing.{missing, run_at}
+use Rattle.{rnix_green.specs.Equality.same_kind-decides, rnix_grammar.specs.{declared.place.Place.Place, Fault.Fault, Missing.{missing, run_at}}}
 use Rattle.rnix_grammar.specs.AnnotatedForest.{Token, Note, Stray, Unwanted, Extra, Twice, TooDeep, AnnotatedForest, row_of, tokens_in}
 use Rattle.rnix_grammar.specs.{Rows.{RowState, At}, PlaceReads.{Reads, ReadsWhole, end, leaf, missing_part, wrong, second, inner, IsWrong}}
 use Rattle.rnix_grammar.specs.ErrorNodes.{AreUnwanted, IsErrorNode, AreErrorNodes}
 use Rattle.rnix_lemmas.proofs.NestPlaces.{IsExpected, start_expected, go_expected}
 use Rattle.{rnix_lemmas.proofs.{RunLemmas.parted, AnnotatedForestLemmas.tokens_in-row_of}, rnix_rows.proofs.BareRows.row_some}
-use Rattle.rnix_grammar.specs.RowPlaces as p
+use Rattle.rnix_grammar.specs.declared.place.Place.TheVariants as p
 
 -- behind a run, and behind what is missing, a row goes on in the same node
 abbrev GoesOn : {A : Type 0} → SyntaxKind → Option (A × Place) → Type 0

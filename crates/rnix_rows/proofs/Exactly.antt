@@ -4,7 +4,7 @@ use Rattle.std.proofs.lemmas.List.{map-append}
 use Rattle.rnix_kinds.specs.declared.kinds.SyntaxKind.{SyntaxKind, TheVariants.{TOKEN_CUR_POS, TOKEN_IDENT, TOKEN_OR, NODE_CUR_POS, NODE_IDENT, NODE_ROOT}}
 use Rattle.rnix_grammar.specs.AnnotatedForest.{Token, lexeme_of, AnnotatedForest, blank, token, branch, fault, tokens_in, forget, leaf_kind_as, HaveLeafKinds}
 use Rattle.rnix_grammar.specs.{Named.{is_spelled, AreSpelled}, Yield.{untold, yield}, Tables.{is_or, depth_limit}, Grammar.IsExpression, Derivation.beyond}
-use Rattle.rnix_grammar.specs.{Derivation.{laid, IsDerivation}, RowPlaces.RootStart, Rows.At, Plain.ArePaths, Nest.nest}
+use Rattle.rnix_grammar.specs.{Derivation.{laid, IsDerivation}, declared.place.Place.TheVariants.RootStart, Rows.At, Plain.ArePaths, Nest.nest}
 use Rattle.rnix_lemmas.proofs.{RowNesting.nesting, Basics.true_is_not_false, OpeningRows.{spelled_first, spelled_rest}, NestTrees.{HaveRows, rows_nest}}
 use Rattle.rnix_rows.proofs.ReadsShapes.{AreBareRows, IsBare}
 

@@ -2,10 +2,7 @@
 use Rattle.std.proofs.Common.{◌≡◌, ℕ, true, false, List, ◌++◌, Some, None, refl, ap, sym, ◌∙◌, subst, append_assoc, if◌then◌else◌}
 use Rattle.rnix_kinds.specs.declared.kinds.SyntaxKind.{SyntaxKind, TheVariants.{TOKEN_AT, TOKEN_IDENT, NODE_CUR_POS, NODE_IDENT}}
 use Rattle.rnix_kinds.{specs.declared.kinds.SyntaxKind.TheVariants.{NODE_LITERAL, NODE_PATTERN, NODE_PAT_BIND}, proofs.AllKinds.implied}
-use Rattle.rnix_grammar.specs.RowPlaces.{Place}
-use Rattle.rnix_grammar.specs.Fault.{Fault}
-use Rattle.rnix_grammar.specs.ExpectedItems.{IsExpected, stands_expected}
-use Rattle.rnix_grammar.specs.BehindErrors.{go_error}
+use Rattle.rnix_grammar.specs.{declared.place.Place.Place, Fault.Fault, ExpectedItems.{IsExpected, stands_expected}, BehindErrors.go_error}
 use Rattle.rnix_grammar.specs.PlaceReads.{Reads, ReadsWhole, end, leaf, missing_part, wrong, second, inner, IsWrong, deeper}
 use Rattle.rnix_grammar.specs.Rows.{RowState, Start, At, fits, first, advance, live, start}
 use Rattle.rnix_grammar.specs.AnnotatedForest.{Token, Note, Stray, Unwanted, Extra, Twice, TooDeep, AnnotatedForest, blank, token, branch, fault}
@@ -15,7 +12,7 @@ use Rattle.rnix_lemmas.proofs.{Basics.{true_is_not_false, not_if}, EveryKind.nev
 use Rattle.rnix_lemmas.proofs.OpeningRows.{HasRow, Opening, by_token, by_branch, by_fault, opened, no_row, live_to}
 use Rattle.rnix_lemmas.proofs.NestRowStates.{wrong_goes}
 use Rattle.rnix_rows.proofs.{BareRows.{missing_bare, HasNoNode, bare_row}, BegunTrees.{MayBegin, Names, Fronts, Known, begins_pattern, node_known}}
-use Rattle.rnix_grammar.specs.RowPlaces as p
+use Rattle.rnix_grammar.specs.declared.place.Place.TheVariants as p
 
 -- no name begins with `@`
 no_name : (n : ℕ) (us : List Token) {g : AnnotatedForest} → Opening NODE_IDENT (Start NODE_IDENT) blank g

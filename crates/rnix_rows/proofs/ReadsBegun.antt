@@ -8,7 +8,7 @@ use Rattle.rnix_lemmas.proofs.{Completable.IsCompletable, ImitateLemmas.{Imitate
 use Rattle.rnix_lemmas.proofs.{ImitateLemmas.{wrong_imitates, imitates_completable}, Basics.{not_nil}}
 use Rattle.{rnix_lemmas.proofs.Basics.{none_right, none_left}, rnix_rows.proofs.{BareRows.{missing_bare, HasNoNode, bare_row, wrong_empty}}}
 use Rattle.rnix_rows.proofs.ReadsRows.{reads_completable}
-use Rattle.rnix_grammar.specs.RowPlaces as places
+use Rattle.rnix_grammar.specs.declared.place.Place.TheVariants as places
 
 -- a row of error nodes without tokens holds nothing
 none_held : (f : AnnotatedForest) → HasNoNode f → tokens_in f ≡ [] → held f ≡ empty

@@ -3,16 +3,14 @@ use Rattle.std.{specs.List.list_all, proofs.Common.{◌≡◌, ℕ, Bool, true, 
 use Rattle.std.proofs.{Common.if◌then◌else◌, lemmas.Bool.and_parts}
 use Rattle.rnix_kinds.specs.{declared.kinds.SyntaxKind.{SyntaxKind, TheVariants.{NODE_IDENT, NODE_LITERAL}}, SyntaxKind.is_trivia}
 use Rattle.{rnix_kinds.proofs.AllKinds.{all_kinds, every, implied}, rnix_green.specs.Equality.{same_kind, same_kind-decides}}
-use Rattle.rnix_grammar.specs.RowPlaces.{Place}
-use Rattle.rnix_grammar.specs.Fault.{Fault}
-use Rattle.rnix_grammar.specs.AnnotatedForest.{Token, Note, AnnotatedForest, blank, token, branch, fault, row_of}
+use Rattle.rnix_grammar.specs.{declared.place.Place.Place, Fault.Fault, AnnotatedForest.{Token, Note, AnnotatedForest, blank, token, branch, fault, row_of}}
 use Rattle.rnix_grammar.specs.{AnnotatedForest.{forget, tokens_in, is_some, Stray, Unwanted, Extra, Twice, TooDeep, without_trivia, token_if}, Layout.is_last}
 use Rattle.rnix_grammar.specs.{Layout.items, Missing.{missing, run_at}, Repaired.kinds_of, Rows.{RowState, Start, SecondStart, At, run, advance, live, start}}
 use Rattle.rnix_grammar.specs.{Rows.whole, PlaceReads.{Reads, end, leaf, missing_part, wrong, second, inner, IsWrong}, Named.begins_with_token}
 use Rattle.{rnix_grammar.specs.Ranges.is_error_node, rnix_lemmas.proofs.{Basics.{true_is_not_false, not_if}, ImitateLemmas.start_half, RowKinds.has_row}}
 use Rattle.{rnix_lemmas.proofs.{ReportLemmas.without_trivia_tokens, OpeningRows.is_place}, rnix_rows.proofs.BareRows.row_some}
 use Rattle.rnix_rows.proofs.{DressLemmas.HasTree, ReadsRows.reads_row, ReadsShapes.AreBareRows}
-use Rattle.rnix_grammar.specs.RowPlaces as p
+use Rattle.rnix_grammar.specs.declared.place.Place.TheVariants as p
 
 -- each node of a row has trees, and none is that of what is too deep
 abbrev pub AreFilled : AnnotatedForest → Type 0

@@ -2,9 +2,7 @@
 use Rattle.std.proofs.Common.{◌≡◌, ◌⊎◌, inl, inr, ℕ, ◌+◌, ◌≤◌, Bool, true, false, List, [], ◌∷◌, ◌++◌, Option, Some, None, refl, ap, sym, ◌∙◌, subst, arith}
 use Rattle.std.proofs.Common.{if◌then◌else◌}
 use Rattle.{rnix_kinds.specs.declared.kinds.SyntaxKind.{SyntaxKind, TheVariants.{NODE_LITERAL, NODE_PATTERN}}, rnix_green.specs.Forest.Forest}
-use Rattle.rnix_grammar.specs.RowPlaces.{Place}
-use Rattle.rnix_grammar.specs.Fault.{Fault}
-use Rattle.rnix_grammar.specs.AnnotatedForest.{Token, Note, Stray, Twice, TooDeep, AnnotatedForest}
+use Rattle.rnix_grammar.specs.{declared.place.Place.Place, Fault.Fault, AnnotatedForest.{Token, Note, Stray, Twice, TooDeep, AnnotatedForest}}
 use Rattle.rnix_grammar.specs.{AnnotatedForest.tokens_in, Reports.{report, repeats}, Rows.{RowState, At, advance, whole, live, start, run, counts}}
 use Rattle.rnix_grammar.specs.{PlaceReads.{Reads, end, leaf, missing_part, wrong, second, inner, IsWrong}, Repaired.{patch, repaired, kinds_of, incomplete}}
 use Rattle.rnix_grammar.specs.{Repaired.{is_ended, ended_count}, Missing.missing}
@@ -14,7 +12,7 @@ use Rattle.rnix_lemmas.proofs.ImitateLemmas.{imitates_self, imitates_same, imita
 use Rattle.rnix_lemmas.proofs.{ImitateLemmas.{wrong_completable, pattern_goes}, Basics.{true_is_not_false, not_nil, none_left, none_right, Where, where_one}}
 use Rattle.{rnix_kinds.proofs.AllKinds.all_kinds, rnix_grammar.specs.ErrorNodes.AreErrorNodes, rnix_rows.proofs.BareRows.{row_tokens, wrong_empty}}
 use Rattle.rnix_rows.proofs.ReadsFaults.{HasEnded, AreCalm, plain_report, calm_second, calm_repeats, reads_errors}
-use Rattle.rnix_grammar.specs.RowPlaces as places
+use Rattle.rnix_grammar.specs.declared.place.Place.TheVariants as places
 
 -- a row that ends whole can be completed from where it begins
 pub reads_completable : {p : SyntaxKind} {d n : ℕ} {q q' : RowState} {b : AnnotatedForest} {us : List Token} {f : AnnotatedForest} {es : List Fault}

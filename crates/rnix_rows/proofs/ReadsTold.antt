@@ -9,7 +9,7 @@ use Rattle.rnix_grammar.specs.{Rows.{RowState, Start, At, first, advance, live, 
 use Rattle.rnix_grammar.specs.{PlaceReads.{missing_part, wrong, second, inner}, Trim.{is_bare, begins_with_node, HasBareName, AreNamesBare}}
 use Rattle.rnix_lemmas.proofs.{EntryNames.both_true, OpeningRows.{spelled_first, spelled_rest, Opening, by_token, by_branch, by_fault, opening, is_place, number_wrong}}
 use Rattle.{rnix_lemmas.proofs.{Basics.true_is_not_false, EveryKind.never, RowKinds.has_row}, rnix_rows.proofs.ReadsRows.reads_row}
-use Rattle.rnix_grammar.specs.RowPlaces as places
+use Rattle.rnix_grammar.specs.declared.place.Place.TheVariants as places
 
 -- a token's leaf has the kind of a token
 pub told_token : (p k : SyntaxKind) → is_token k ≡ true → is_token (leaf_kind_as p k) ≡ true

@@ -5,7 +5,7 @@ use Rattle.rnix_grammar.specs.{Fault.Fault, AnnotatedForest.{Token, AnnotatedFor
 use Rattle.rnix_grammar.specs.{Repaired.{kinds_of, incomplete, AreBegun, ended_count}, PlaceReads.{Reads, ReadsWhole, end, leaf, missing_part, wrong, second}}
 use Rattle.{rnix_grammar.specs.{PlaceReads.inner, Unfinished.AreIncompleteLast, ErrorNodes.AreErrorNodes}, rnix_lemmas.proofs.ImitateLemmas.imitates_self}
 use Rattle.rnix_rows.proofs.{ErrorNodeRows.whole_error_nodes, ReadsFaults.reads_errors, ReadsRows.{ended_or, half, reads_counts}, ReadsBegun.{beginning, reads_begun}}
-use Rattle.rnix_grammar.specs.RowPlaces as places
+use Rattle.rnix_grammar.specs.declared.place.Place.TheVariants as places
 
 -- the nodes of the repaired tree that are not whole are no more than the errors of the end of the text
 pub whole_few : {f : AnnotatedForest} {es : List Fault} → ReadsWhole f es → incomplete (node NODE_ROOT (repaired f) empty) ≤ ended_count es

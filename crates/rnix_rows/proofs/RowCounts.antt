@@ -2,15 +2,11 @@
 use Rattle.std.{specs.List.{filter, find, list_all}, proofs.Common.{◌≡◌, ℕ, zero, suc, ◌≤◌, Bool, true, false, cond, List, [], ◌∷◌, length, Option, Some, None}}
 use Rattle.std.proofs.{Common.{refl, ap, sym, ◌∙◌, arith, ◌&&◌, if◌then◌else◌, is_some, slice_get}, lemmas.Bool.and_parts}
 use Rattle.rnix_kinds.{specs.declared.kinds.SyntaxKind.{SyntaxKind, TheVariants.{NODE_ATTRPATH, NODE_IDENT}}, proofs.AllKinds.{all_kinds, every, implied}}
-use Rattle.rnix_grammar.specs.RowPlaces.{Place}
-use Rattle.rnix_grammar.specs.RowSymbols.{Symbol}
-use Rattle.rnix_grammar.specs.Tables.{is_wanted, closes}
-use Rattle.rnix_grammar.specs.Symbols.{symbol_at}
-use Rattle.rnix_grammar.specs.Rows.{is_entry, fits}
+use Rattle.rnix_grammar.specs.{declared.{place.Place.Place, symbol.Symbol.Symbol}, Tables.{is_wanted, closes}, Symbols.symbol_at, Rows.{is_entry, fits}}
 use Rattle.rnix_grammar.specs.Rows.{RowState, At, Nowhere, to, advance_symbol, advance, is_end, live, start, whole, run, is_row}
 use Rattle.rnix_lemmas.proofs.{Basics.true_is_not_false, ImitateLemmas.{nowhere, run_live}}
-use Rattle.rnix_grammar.specs.RowPlaces as p
-use Rattle.rnix_grammar.specs.RowSymbols as s
+use Rattle.rnix_grammar.specs.declared.place.Place.TheVariants as p
+use Rattle.rnix_grammar.specs.declared.symbol.Symbol.TheVariants as s
 
 -- a set of kinds
 abbrev pub Test : Type 0

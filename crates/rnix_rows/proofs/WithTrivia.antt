@@ -1,8 +1,7 @@
 -- Where the trivia of the open rows stand is told by their items and the tokens.
 use Rattle.std.proofs.Common.{◌≡◌, ℕ, suc, Bool, true, false, List, [], ◌∷◌, ◌++◌, Option, refl, sym, ap, ◌∙◌, subst, if◌then◌else◌, nat_le}
 use Rattle.rnix_kinds.specs.declared.kinds.SyntaxKind.{SyntaxKind, TheVariants.{NODE_ERROR, NODE_IDENT, NODE_IDENT_PARAM, NODE_APPLY, NODE_LEGACY_LET}}
-use Rattle.rnix_grammar.specs.RowPlaces.{Place}
-use Rattle.rnix_kinds.specs.declared.kinds.SyntaxKind.TheVariants.{NODE_PATTERN, NODE_PAT_BIND}
+use Rattle.{rnix_kinds.specs.declared.kinds.SyntaxKind.TheVariants.{NODE_PATTERN, NODE_PAT_BIND}, rnix_grammar.specs.declared.place.Place.Place}
 use Rattle.rnix_grammar.specs.{declared.{until.Until.Until, action.Action.Action, begin.Begin.Begin}, Fault.Fault, Tables.depth_limit, Actions.action_at}
 use Rattle.rnix_grammar.specs.{Begins.{begin_of, second_kind}, AnnotatedForest.{Token, Stray, Unwanted, Extra, Twice, TooDeep, AnnotatedForest, blank, ◌⊕◌}}
 use Rattle.rnix_grammar.specs.{AnnotatedForest.{one_branch, one_fault, without_trivia, head_kind, touches}, Layout.{from_item, tail_of, trivia_before, items}}
@@ -14,7 +13,7 @@ use Rattle.rnix_lemmas.proofs.{WithoutTriviaLemmas.{items_behind, ate_without_tr
 use Rattle.{rnix_lemmas.proofs.PlaceLemmas.{begin_inner, step_kept, begins_kept}, rnix_rows.proofs.DressLemmas.{HasTree, tree_behind, IsBare, bare_from}}
 use Rattle.rnix_rows.proofs.DressLemmas.{bare_trivia, HasTrivia, with_trivia_blank, with_trivia_added, tree_added, with_trivia_branch, with_trivia_fault}
 use Rattle.rnix_rows.proofs.DressLemmas.{with_trivia_last, with_trivia_leaf, tree_leaf, with_trivia_run}
-use Rattle.rnix_grammar.specs.RowPlaces as p
+use Rattle.rnix_grammar.specs.declared.place.Place.TheVariants as p
 use Rattle.rnix_grammar.specs.declared.action.Action.TheVariants as a
 use Rattle.rnix_grammar.specs.declared.begin.Begin.TheVariants as b
 

@@ -1,26 +1,21 @@
--- A row without errors of the end, repeated names and corners is strict, once its errors are repaired and its names stand where they may.
-use Rattle.std.proofs.Common.{◌≡◌, true, Option, Some, None, refl, ap, sym, ◌∙◌, subst, ℕ, Bool, false, List, [], ◌∷◌, ◌++◌, codes, if◌then◌else◌, ◌&&◌, ◌+◌}
-use Rattle.std.{proofs.{Common.arith, lemmas.Bool.{and_from, and_parts, false_from_ne_true}}, specs.Str.bytes_eq}
-use Rattle.rnix_kinds.specs.declared.kinds.SyntaxKind.{SyntaxKind, TheVariants.{NODE_PAT_BIND, TOKEN_AT, NODE_IDENT, NODE_LITERAL, NODE_PAT_ENTRY}}
-use Rattle.{rnix_kinds.{specs.declared.kinds.SyntaxKind.TheVariants.{TOKEN_INTEGER, NODE_ROOT}, proofs.AllKinds.implied}, rnix_green.specs.Forest.Forest}
-use Rattle.rnix_grammar.specs.RowPlaces.{Place}
-use Rattle.rnix_green.specs.Forest.{empty, leaf, node}
-use Rattle.rnix_grammar.specs.declared.until.Until.{Until}
-use Rattle.rnix_grammar.specs.Symbols.{symbol_at, level_in}
-use Rattle.rnix_grammar.specs.{Rows.{RowState, At, advance, live, is_expression, Start, first, first_bind, whole, start}, Strict.{may_stand, stands_in}}
-use Rattle.rnix_grammar.specs.{Strict.{is_grouped, is_strict, entry_text, are_entries_new, first_is_no_or, binds_no_or, is_strict_expression}, Missing.run_at}
-use Rattle.rnix_grammar.specs.{Missing.missing, BehindErrors.{go_run, go_error}, Fault.{Fault, named_twice}, AnnotatedForest.{Token, Note, Stray, Unwanted}}
-use Rattle.rnix_grammar.specs.AnnotatedForest.{Extra, Twice, TooDeep, AnnotatedForest, blank, branch, ◌⊕◌, one_token, one_branch, one_fault, tokens_in}
-use Rattle.rnix_grammar.specs.{AnnotatedForest.{leaf_kind, extent_of, row_of}, Reports.{report, repeated, repeated_if, entry_name, is_same_name, has_entry}}
-use Rattle.rnix_grammar.specs.{Reports.repeats, PlaceReads.{Reads, ReadsWhole, end, leaf as leafed, missing_part, wrong, second, inner, IsWrong, deeper}}
-use Rattle.rnix_grammar.specs.{Tables.is_among, Repaired.{repaired, patch, is_ended, ended_count}, Corners.{is_corner, has_no_corner}, Names.is_name_at}
-use Rattle.{rnix_grammar.specs.{Named.{is_spelled, AreSpelled, AreNamed, is_repeated, Lacks}, Operands.level_at}, rnix_lemmas.proofs.Basics.true_is_not_false}
-use Rattle.rnix_lemmas.proofs.{ImitateLemmas.{Imitates, imitates_self, imitates_both, run_imitates, second_imitates}, NestPlaces.{IsExpected, go_expected}}
-use Rattle.rnix_lemmas.proofs.{NestPlaces.start_expected, OpeningRows.{HasRow, Opening, number_wrong, leveled, by_token, by_branch, by_fault, opened, is_place}}
-use Rattle.rnix_lemmas.proofs.{OpeningRows.{spelled_first, spelled_rest}, MissingFacts.missing_ended, EntryNames.{has-⊕, if_not}, NestRowStates.wrong_goes}
-use Rattle.rnix_soundness.proofs.{RepairedStands.{stray_small, counted_small, IsThere, stands_there, suits_named, number_stands, grouped}, RepairedLevels.IsLed}
-use Rattle.rnix_soundness.proofs.RepairedLevels.{led, token_first, no_operand, named_no_or}
-use Rattle.rnix_grammar.specs.RowPlaces as p
+-- A text that is read without errors of its end, repeated names and corners is an expression of the strict grammar, once its errors are repaired.
+use Rattle.std.proofs.Common.{◌≡◌, true, Some, refl, ap, sym, ◌∙◌, subst, ℕ, Bool, false, List, [], ◌∷◌, ◌++◌, if◌then◌else◌, ◌&&◌, ◌+◌}
+use Rattle.std.{proofs.{Common.arith, lemmas.Bool.and_parts}, specs.Str.bytes_eq}
+use Rattle.rnix_kinds.{specs.{declared.kinds.SyntaxKind.{SyntaxKind, TheVariants.{NODE_PAT_ENTRY, NODE_ROOT}}, SyntaxKind.is_token}}
+use Rattle.rnix_green.specs.Forest.{Forest, node}
+use Rattle.rnix_grammar.specs.{declared.{place.Place.Place}, Rows.{RowState, At, advance, live, start, whole}, Plain.is_node}
+use Rattle.rnix_grammar.specs.{Strict.{entry_text, are_entries_new}, Missing.missing, Fault.{Fault, named_twice}, Grammar.{IsExpression, expression}}
+use Rattle.rnix_grammar.specs.AnnotatedForest.{Token, Note, Stray, Unwanted, Extra, Twice, TooDeep, AnnotatedForest, blank, token, branch, fault, ◌⊕◌, one_token}
+use Rattle.rnix_grammar.specs.{AnnotatedForest.{one_branch, one_fault, tokens_in, extent_of}, Tables.is_among, Corners.{is_corner, has_no_corner}}
+use Rattle.rnix_grammar.specs.{Reports.{report, repeated, repeated_if, entry_name, is_same_name, has_entry, repeats}, Repaired.{repaired, patch, is_ended, ended_count}}
+use Rattle.rnix_grammar.specs.PlaceReads.{Reads, ReadsWhole, end, leaf as leafed, missing_part, wrong, second, inner, IsWrong, deeper}
+use Rattle.rnix_grammar.specs.Named.{AreSpelled, AreNamed, is_repeated, Lacks}
+use Rattle.rnix_lemmas.proofs.{Basics.true_is_not_false, OpeningRows.{HasRow, leveled, no_row, spelled_first, spelled_rest}, MissingFacts.missing_ended}
+use Rattle.rnix_lemmas.proofs.{EntryNames.{has-⊕, if_not}, NestRowStates.wrong_goes}
+use Rattle.rnix_lemmas.proofs.RestAt.{rest_at}
+use Rattle.rnix_soundness.proofs.{RowViews.{ends, stands, View, view}, LedForms.{sound_made, sound_tokens}}
+use Rattle.rnix_soundness.proofs.SoundRows.{as_stray, as_deep, over_run, over_rest, over_second, Skips, IsEntry, Tokens, IsSound, sound_held}
+use Rattle.rnix_grammar.specs.declared.place.Place.TheVariants as p
 
 -- errors of two rows
 misses_first : (test : Fault → Bool) (ds es : List Fault) → Lacks test (ds ++ es) → Lacks test ds

@@ -1,45 +1,38 @@
 -- Each reading of some items is what the steps make of them; so there is one reading.
 use Rattle.std.proofs.Common.{◌≡◌, false, ℕ, zero, suc, ◌≤◌, List, [], ◌∷◌, refl, sym, subst, append-nil, arith}
-use Rattle.rnix_kinds.specs.{declared.kinds.SyntaxKind.{SyntaxKind}, declared.kinds.SyntaxKind.TheVariants.{NODE_ROOT}}
-use Rattle.rnix_grammar.specs.{declared.place.Place.{Place}, declared.place.Place.TheVariants.{RootStart, RootEnd}, Fault.{Fault}, AnnotatedForest.{Token}}
-use Rattle.rnix_grammar.specs.{AnnotatedForest.{AnnotatedForest, blank, tokens_in, end_from}, Machine.{Node, machine, opened, begins, Runs}, Reads.{Reads}}
-use Rattle.rnix_grammar.specs.{Reads.{ReadsWhole, end, missing_part}, Rules.{Row, done, ◌·◌}, declared.rules.Part.TheVariants.{TextEnd}}
-use Rattle.rnix_lemmas.proofs.RestAt.{rest_at, text_end_at}
-use Rattle.rnix_uniqueness.proofs.{Ended.{ended_with, ended_once}, ReadingHeights.{height, AllRows, Trees}, TreeReads.{tree_runs, no_tree}}
-use Rattle.rnix_uniqueness.proofs.{RowTrees.{row_end}, RowReads.{row_next}, StepReads.{ReadsTo}}
-use Rattle.rnix_grammar.specs.Reads.{leaf, inner, wrong, second}
+use Rattle.{rnix_kinds.specs.declared.kinds.SyntaxKind.{SyntaxKind, TheVariants.NODE_ROOT}, rnix_grammar.specs.declared.place.Place.Place}
+use Rattle.rnix_grammar.specs.{declared.place.Place.TheVariants.{RootStart, RootEnd}, Fault.Fault, AnnotatedForest.{Token, AnnotatedForest, blank, tokens_in}}
+use Rattle.rnix_grammar.specs.{AnnotatedForest.end_from, Machine.{Node, machine, opened, begins, Runs}, Rows.At, PlaceReads.{Reads, end, leaf, missing_part, wrong}}
+use Rattle.{rnix_grammar.specs.PlaceReads.{second, inner, ReadsWhole}, rnix_uniqueness.proofs.{Ended.{ended_with, ended_once}, StepReads.ReadsRow}}
+use Rattle.rnix_uniqueness.proofs.{ReadingHeights.{height, AllRows, Trees}, TreeReads.{tree_runs, no_tree}, RowTrees.row_end, RowReads.row_next}
 
 -- no reading is lower than none
 above : (a : ℕ) → suc a ≤ 0 → ⊥
 above a h = omega (arith, h)
 
 -- a reading of no height is read
-first_row : {k : SyntaxKind} {d n : ℕ} {q s : Row} {b : AnnotatedForest} {us : List Token} {f : AnnotatedForest} {es : List Fault} (x : Place) → rest_at x ≡ q
-    → (r : Reads k d n q s b us f es) → height r ≤ 0 → ReadsTo k d n x s b us f es
-first_row {k = k} {d = d} {n = n} {s = s} {b = b} {us = us} x i end h = row_end k d n x s b us i
-first_row x i (leaf o w r) h = absurd (above (height r) h)
-first_row x i (inner v c o y w j r) h = absurd (above _ h)
-first_row x i (missing_part u v l room r) h = absurd (above (height r) h)
-first_row x i (wrong note ts o w v r) h = absurd (above (height r) h)
-first_row x i (second c o r) h = absurd (above _ h)
+first_row : {k : SyntaxKind} {d n : ℕ} {x y : Place} {b : AnnotatedForest} {us : List Token} {f : AnnotatedForest} {es : List Fault} (r : Reads k d n (At x) (At y) b us f es) → height r ≤ 0 → ReadsRow k d n x y b us f es
+first_row {k = k} {d = d} {n = n} {x = x} {b = b} {us = us} end h = row_end k d n x b us
+first_row (leaf w v o fo g l c e r) h = absurd (above (height r) h)
+first_row (missing_part u v l room r i) h = absurd (above (height r) h)
+first_row (wrong note ts hc hv o fo w hg he r i) h = absurd (above (height r) h)
+first_row (second v r e over hq hr hg r' i) h = absurd (above _ h)
+first_row (inner v u r e over o room fo op g l hg r' i) h = absurd (above _ h)
 
 -- the steps read all rows and expressions
 pub all_read : (m : ℕ) → AllRows m × Trees m
-all_read zero = (λ k d n x s b us f es h l. first_row x refl h.reads h.short, no_tree)
+all_read zero = (λ k d n x y b us f es h. first_row h.reads h.short, no_tree)
 all_read (suc m) = by (all_read m)
   where
     by : AllRows m × Trees m → AllRows (suc m) × Trees (suc m)
-    by w = (λ k d n x s b us f es h l. row_next m w.0 w.1 x refl h.reads h.short l, tree_runs m w.0 w.1)
+    by w = (λ k d n x y b us f es h. row_next m w.0 w.1 h.reads h.short, tree_runs m w.0 w.1)
 
 -- a reading of some items is what the steps make of them
 pub reads_runs : (f : AnnotatedForest) (faults : List Fault) → ReadsWhole f faults
     → Runs false (begins (tokens_in f)) (machine (opened (Node NODE_ROOT) RootEnd 0 f ∷ []) [] (end_from 0 (tokens_in f)) faults)
 reads_runs f faults r =
-    let w : ReadsTo NODE_ROOT 0 0 RootStart (TextEnd · done) blank [] f faults =
-    (all_read (height r)).0 NODE_ROOT 0 0 RootStart (TextEnd · done) blank [] f faults (record { reads = r; short = omega arith }) refl in
     subst (λ (ts : List Token). Runs false (begins ts) (machine (opened (Node NODE_ROOT) RootEnd 0 f ∷ []) [] (end_from 0 (tokens_in f)) faults)) (append-nil (tokens_in f))
-    (subst (λ (y : Place). Runs false (begins (tokens_in f ++ [])) (machine (opened (Node NODE_ROOT) y 0 f ∷ []) [] (end_from 0 (tokens_in f)) faults)) (text_end_at w.place w.is)
-    (w.row (Node NODE_ROOT) [] [] refl refl))
+    ((all_read (height r)).0 NODE_ROOT 0 0 RootStart RootEnd blank [] f faults (record { reads = r; short = omega arith }) (Node NODE_ROOT) [] [] refl refl)
 
 -- two readings of the same items are one
 pub one_row : (f g : AnnotatedForest) (es fs : List Fault) → ReadsWhole f es → ReadsWhole g fs → tokens_in f ≡ tokens_in g → (f ≡ g) × (es ≡ fs)

@@ -1,21 +1,18 @@
 -- Calls are read as operands, of a tree with an argument and with the name `or`, if smaller trees are read.
-use Rattle.std.proofs.Common.{◌≡◌, ℕ, ◌≤◌, Bool, true, false, List, [], ◌∷◌, ◌++◌, Some, None, refl, ap, sym, ◌∙◌, subst, append-nil, arith, ◌||◌, ◌&&◌}
-use Rattle.std.proofs.{Common.{if◌then◌else◌}, lemmas.Bool.{and_parts}}
-use Rattle.rnix_kinds.specs.{declared.kinds.SyntaxKind.{SyntaxKind}, declared.kinds.SyntaxKind.TheVariants.{TOKEN_FLOAT, TOKEN_OR, NODE_APPLY, NODE_IDENT}}
-use Rattle.rnix_kinds.specs.SyntaxKind.{is_fn_arg}
-use Rattle.rnix_kinds.proofs.AllKinds.{implied}
-use Rattle.rnix_grammar.specs.{Fault.{Fault}, Actions.{follow as follow_of}, Levels.{binding_power}, TokenKinds.{is_or}, AnnotatedForest.{Token, Stray}}
-use Rattle.rnix_grammar.specs.AnnotatedForest.{AnnotatedForest, blank, branch, fault, ◌⊕◌, one_token, one_branch, one_fault, row_of, tokens_in, leaf_kind}
-use Rattle.rnix_grammar.specs.{AnnotatedForest.{head_kind, end_from}, Reports.{report, repeats}, Machine.{Node, Operand, Frame, machine, opened, perform}}
-use Rattle.rnix_grammar.specs.{Machine.{rest as here}, Rows.{is_simple, is_expression, fits}, TreeLevels.{row_level, is_or_row}, Operands.{follows, goes_on}}
-use Rattle.rnix_grammar.specs.{Operands.{IsBegun}, declared.rules.Part.TheVariants.{Argument}, Beginnings.{BeginsAs, IsOperandOf}, Rules.{IsExpected}}
-use Rattle.rnix_grammar.specs.{Rules.{IsFollowed, Row, done, may_end, row as whole_row, ◌·◌}, Reads.{IsOver, end}}
-use Rattle.rnix_lemmas.proofs.{NodeKinds.{unreported}, Basics.{true_is_not_false}, EveryKind.{alike, never, only}, OpeningRows.{live_only}}
-use Rattle.rnix_lemmas.proofs.{FirstTrees.{IsSingle, first_in, single_calls}, FollowLemmas.{followed_call, followed_tight, follows_token}}
-use Rattle.rnix_lemmas.proofs.{BeginAlike.{begins_by_steps}, LiveRows.{done_ends, end_live, is_live}, RestAt.{rest_at}}
-use Rattle.rnix_uniqueness.proofs.{Runs.{runs_on, runs_to, step_to}, StepReads.{IsOperandRead, ReadsTree}, ReadingHeights.{Short, Trees, Front, by_leaf}}
-use Rattle.rnix_uniqueness.proofs.{ReadingHeights.{by_stray, by_node, front_of}, FirstItems.{name_item}, OperandGoesOn.{settles, continued}}
-use Rattle.rnix_uniqueness.proofs.{ItemRows.{stray_reads}, OperatorRows.{Leading, leading, leading_reads}}
+use Rattle.{rnix_lemmas.proofs.{PastRows.{Ended, past_ends}, NodeKinds.unreported}, std.proofs.{Common.{◌&&◌, if◌then◌else◌}, lemmas.Bool.and_parts}}
+use Rattle.std.proofs.Common.{◌≡◌, ℕ, ◌≤◌, Bool, true, false, List, [], ◌∷◌, ◌++◌, Some, None, refl, ap, sym, ◌∙◌, subst, append-nil, arith, ◌||◌}
+use Rattle.rnix_kinds.specs.{declared.kinds.SyntaxKind.{SyntaxKind, TheVariants.{TOKEN_FLOAT, TOKEN_OR, NODE_APPLY, NODE_IDENT}}, SyntaxKind.is_fn_arg}
+use Rattle.{rnix_kinds.proofs.AllKinds.implied, rnix_grammar.specs.{Fault.Fault, Actions.{follow as follow_of}, Levels.binding_power}}
+use Rattle.rnix_grammar.specs.{TokenKinds.is_or, AnnotatedForest.{Token, Stray, AnnotatedForest, blank, branch, fault, ◌⊕◌, one_token, one_branch, one_fault}}
+use Rattle.rnix_grammar.specs.{AnnotatedForest.{row_of, tokens_in, leaf_kind, head_kind, end_from}, Reports.{report, repeats}, Machine.{Node, Operand, Frame}}
+use Rattle.rnix_grammar.specs.{Machine.{machine, opened, perform, rest as here}, Rows.{RowState, Start, BeforeArgument, At, is_simple}}
+use Rattle.rnix_grammar.specs.{Rows.{is_expression, start, to, whole}, TreeLevels.{row_level, is_or_row}, ExpectedItems.IsExpected, Operands.{follows, IsBegun}}
+use Rattle.{rnix_grammar.specs.{Operands.{IsFollowed, IsOperand, goes_on}, PlaceReads.IsOver}, rnix_lemmas.proofs.{Basics.true_is_not_false, EveryKind.alike}}
+use Rattle.rnix_lemmas.proofs.{EveryKind.{never, only}, OpeningRows.live_to, FirstTrees.{IsSingle, first_in, single_calls}}
+use Rattle.{rnix_lemmas.proofs.FollowLemmas.{followed_call, followed_tight, follows_token}, rnix_uniqueness.proofs.Runs.{runs_on, runs_to}}
+use Rattle.rnix_uniqueness.proofs.{Runs.step_to, StepReads.{IsOperandRead, ReadsTree}, ReadingHeights.{Short, Trees, Front, by_leaf, by_stray, by_node}}
+use Rattle.rnix_uniqueness.proofs.{ReadingHeights.front_of, FirstItems.name_item, OperandGoesOn.{settles, continued}}
+use Rattle.rnix_uniqueness.proofs.{ItemRows.stray_reads, OperatorRows.{Leading, leading, leading_reads}}
 use Rattle.rnix_grammar.specs.declared.place.Place.TheVariants as p
 use Rattle.rnix_grammar.specs.declared.action.Action.TheVariants as a
 
@@ -74,19 +71,15 @@ named_or NODE_IDENT e h = refl
 named_or _ e h = absurd (true_is_not_false (sym h))
 
 -- no lone token is called
-no_lone : {m d n : ℕ} {s : Row} {us : List Token} (j : SyntaxKind) (t : Token) {f : AnnotatedForest} {fs : List Fault}
-    → Front m NODE_APPLY d n (Argument · done) s (one_token j t) us f fs → ⊥
+no_lone : {m d n : ℕ} {s : RowState} {us : List Token} (j : SyntaxKind) (t : Token) {f : AnnotatedForest} {fs : List Fault}
+    → Front m NODE_APPLY d n BeforeArgument s (one_token j t) us f fs → ⊥
 no_lone j t (by_leaf {k = i} e w l q) = follows_token i j t blank (followed i (one_token j t) w).1
 no_lone j t (by_stray {t = v} o w x l q) = follows_token v.kind j t blank (followed v.kind (one_token j t) w).1
-no_lone {n = n} {us = us} j t (by_node {k = i} {c = c} {f = g} r o y w x l q) = by (tokens_in c ++ (tokens_in g ++ us)) refl w
+no_lone {n = n} {us = us} j t (by_node {k = i} {c = c} {f = g} r o y w x l q) = by (tokens_in c ++ (tokens_in g ++ us)) y w
   where
-    none : (v : Bool) → false ≡ v → IsOperandOf (if v then None else Some 16) (one_branch i c) (tokens_in g ++ us) → tokens_in c ++ (tokens_in g ++ us) ≡ [] → ⊥
-    none true y x e = true_is_not_false (sym y)
-    none false y x e = subst (BeginsAs 16 (one_branch i c)) (ap (λ z. z ++ (tokens_in g ++ us)) (append-nil (tokens_in c)) ∙ e) x.1
-
-    by : (ts : List Token) → tokens_in c ++ (tokens_in g ++ us) ≡ ts → IsFollowed (Argument · done) (one_token j t) (head_kind (tokens_in c ++ (tokens_in g ++ us))) → ⊥
-    by [] e w = none (is_or_row (one_branch i c)) (subst (λ z. IsExpected (Argument · done) n z (is_or_row (one_branch i c))) e y) x e
-    by (v ∷ vs) e w = follows_token v.kind j t blank (followed v.kind (one_token j t) (subst (λ z. IsFollowed (Argument · done) (one_token j t) (head_kind z)) e w)).1
+    by : (ts : List Token) → IsExpected BeforeArgument n ts (is_or_row (one_branch i c)) → IsFollowed BeforeArgument (one_token j t) (head_kind ts) → ⊥
+    by [] y w = y
+    by (v ∷ vs) y w = follows_token v.kind j t blank (followed v.kind (one_token j t) w).1
 
 -- a tree, read, and what is called with it
 abbrev Called : ℕ → ℕ → List Token → AnnotatedForest → List Token → List Fault → List Token → AnnotatedForest → List Fault → Type 0
@@ -94,57 +87,57 @@ Called d n zs x us es xs v ds = ReadsTree d n (zs ++ xs) (one_branch NODE_APPLY 
 
 -- an argument that is no name `or`
 argument : (d n : ℕ) (zs xs : List Token) (x v : AnnotatedForest) (us : List Token) (es ds : List Fault) → IsSingle x → ReadsTree d n zs x (xs ++ us) es
-    → IsExpected (Argument · done) (end_from n zs) (xs ++ us) false
-    → IsFollowed (Argument · done) x (head_kind (xs ++ us)) → is_or_row v ≡ false → 16 ≤ row_level v → IsBegun 16 v (xs ++ us)
+    → IsExpected BeforeArgument (end_from n zs) (xs ++ us) false
+    → IsFollowed BeforeArgument x (head_kind (xs ++ us)) → is_or_row v ≡ false → 16 ≤ row_level v → IsBegun 16 v (xs ++ us)
     → goes_on 16 v us ≡ false → ReadsTree d (end_from n zs) xs v us ds
     → Called d n zs x us es xs v ds
 argument d n zs xs x v us es ds one reads o w plain tight begun over tree = by (xs ++ us) refl o w
   where
-    by : (ts : List Token) → xs ++ us ≡ ts → IsExpected (Argument · done) (end_from n zs) ts false → IsFollowed (Argument · done) x (head_kind ts)
+    by : (ts : List Token) → xs ++ us ≡ ts → IsExpected BeforeArgument (end_from n zs) ts false → IsFollowed BeforeArgument x (head_kind ts)
         → Called d n zs x us es xs v ds
-    by [] h o w = absurd (subst (IsBegun 16 v) h begun)
+    by [] h o w = absurd o
     by (t ∷ ts) h o w =
         let f = followed t.kind x w in called zs xs x v t.kind d n us es ds one (ap head_kind h) (plainly (is_fn_arg t.kind) (is_or t.kind) f.0 o) f.1 reads tree plain tight begun over
 
 -- the name `or` as an argument
-name_or : (m d n : ℕ) (zs : List Token) (x : AnnotatedForest) (j : SyntaxKind) (c : AnnotatedForest) (z : Row) (us : List Token) (es ds : List Fault) → IsSingle x
+name_or : (m d n : ℕ) (zs : List Token) (x : AnnotatedForest) (j : SyntaxKind) (c : AnnotatedForest) (z : RowState) (us : List Token) (es ds : List Fault) → IsSingle x
     → ReadsTree d n zs x (tokens_in c ++ us) es
-    → Short m j d (end_from n zs) (whole_row j) z blank us c ds → may_end z ≡ true → IsFollowed (Argument · done) x (head_kind (tokens_in c ++ us))
+    → Short m j d (end_from n zs) (start j) z blank us c ds → whole z ≡ true → IsFollowed BeforeArgument x (head_kind (tokens_in c ++ us))
     → is_or_row (one_branch j c) ≡ true
     → Called d n zs x us es (tokens_in c) (one_branch j c) ds
 name_or m d n zs x j c z us es ds one reads r o w h =
-    subst (λ (i : SyntaxKind). Short m i d (end_from n zs) (whole_row i) z blank us c ds → is_or_row (one_branch i c) ≡ true
+    subst (λ (i : SyntaxKind). Short m i d (end_from n zs) (start i) z blank us c ds → is_or_row (one_branch i c) ≡ true
     → Called d n zs x us es (tokens_in c) (one_branch i c) ds) (sym (named_or j c h)) by r h
   where
-    by : Short m NODE_IDENT d (end_from n zs) (whole_row NODE_IDENT) z blank us c ds → is_or_row (one_branch NODE_IDENT c) ≡ true
+    by : Short m NODE_IDENT d (end_from n zs) (Start NODE_IDENT) z blank us c ds → is_or_row (one_branch NODE_IDENT c) ≡ true
         → Called d n zs x us es (tokens_in c) (one_branch NODE_IDENT c) ds
     by r h =
         let v = name_item r o in
         subst (λ (q : List Fault). Called d n zs x us es (tokens_in c) (one_branch NODE_IDENT c) q) (sym v.3)
         (subst
-        (λ (g : AnnotatedForest). ReadsTree d n zs x (tokens_in g ++ us) es → IsFollowed (Argument · done) x (head_kind (tokens_in g ++ us))
+        (λ (g : AnnotatedForest). ReadsTree d n zs x (tokens_in g ++ us) es → IsFollowed BeforeArgument x (head_kind (tokens_in g ++ us))
         → is_or_row (one_branch NODE_IDENT g) ≡ true
         → Called d n zs x us es (tokens_in g) (one_branch NODE_IDENT g) []) (sym v.1)
         (λ reads w h. called_or zs x v.0 d n us es one (only is_or TOKEN_OR refl v.0.kind h) (followed v.0.kind x w).1 h reads) reads w h)
 
 -- what is called with a tree is the last of its row
-last_reads : (m : ℕ) → Trees m → (d n : ℕ) (zs : List Token) (s : Row) (x : AnnotatedForest) (us : List Token) (f : AnnotatedForest) (es ds : List Fault)
-    → IsSingle x → is_live s ≡ true → ReadsTree d n zs x (tokens_in f ++ us) es
-    → Front m NODE_APPLY d (end_from n zs) (Argument · done) s x us f ds → Called d n zs x us es (tokens_in f) f ds
-last_reads m trees d n zs s x us _ es _ one alive reads (by_leaf {k = i} e w l r) =
-    absurd (never is_simple (λ j. is_fn_arg j || is_or j) refl i (live_only (is_simple i) (rest_at p.Past) l) (followed i x w).0)
-last_reads m trees d n zs s x us _ es _ one alive reads (by_stray {t = t} {f = f} {es = ds} o w q l r) =
-    let v = done_ends r.reads refl alive in
+last_reads : (m : ℕ) → Trees m → (d n : ℕ) (zs : List Token) (s : RowState) (x : AnnotatedForest) (us : List Token) (f : AnnotatedForest) (es ds : List Fault)
+    → IsSingle x → ReadsTree d n zs x (tokens_in f ++ us) es
+    → Front m NODE_APPLY d (end_from n zs) BeforeArgument s x us f ds → Called d n zs x us es (tokens_in f) f ds
+last_reads m trees d n zs s x us _ es _ one reads (by_leaf {k = i} e w l r) =
+    absurd (never is_simple (λ j. is_fn_arg j || is_or j) refl i (live_to (is_simple i) (At p.Past) l) (followed i x w).0)
+last_reads m trees d n zs s x us _ es _ one reads (by_stray {t = t} {f = f} {es = ds} o w q l r) =
+    let v = past_ends r.reads refl in
     let g : AnnotatedForest = one_fault Stray (row_of (t ∷ [])) in
-    subst (λ (z : List Fault). Called d n zs x us es (t ∷ tokens_in f) (fault Stray (row_of (t ∷ [])) f) (report Stray (t ∷ []) ∷ z)) (sym v.1)
+    subst (λ (z : List Fault). Called d n zs x us es (t ∷ tokens_in f) (fault Stray (row_of (t ∷ [])) f) (report Stray (t ∷ []) ∷ z)) (sym v.faults)
     (subst
-    (λ (z : AnnotatedForest). ReadsTree d n zs x (t ∷ (tokens_in z ++ us)) es → IsOperandOf (Some 16) g (tokens_in z ++ us)
-    → Called d n zs x us es (t ∷ tokens_in z) (fault Stray (row_of (t ∷ [])) z) (report Stray (t ∷ []) ∷ [])) (sym v.0)
-    (λ reads q. argument d n zs (t ∷ []) x g us es (report Stray (t ∷ []) ∷ []) one reads o w refl q.0 (begins_by_steps 16 g (t ∷ us) q.1) q.2 (stray_reads t d (end_from n zs) us)) reads q)
-last_reads m trees d n zs s x us _ es _ one alive reads (by_node {k = j} {c = c} {f = f} {z = z} {ds = ds} {es = fs} r over y w q l r') = by (is_or_row (one_branch j c)) refl y q
+    (λ (z : AnnotatedForest). ReadsTree d n zs x (t ∷ (tokens_in z ++ us)) es → IsOperand (Some 16) g (tokens_in z ++ us)
+    → Called d n zs x us es (t ∷ tokens_in z) (fault Stray (row_of (t ∷ [])) z) (report Stray (t ∷ []) ∷ [])) (sym v.row)
+    (λ reads q. argument d n zs (t ∷ []) x g us es (report Stray (t ∷ []) ∷ []) one reads o w refl q.0 q.1 q.2 (stray_reads t d (end_from n zs) us)) reads q)
+last_reads m trees d n zs s x us _ es _ one reads (by_node {k = j} {c = c} {f = f} {z = z} {ds = ds} {es = fs} r over y w q l r') = by (is_or_row (one_branch j c)) refl y q
   where
     simple : is_simple j ≡ true
-    simple = live_only (is_simple j) (rest_at p.Past) l
+    simple = live_to (is_simple j) (At p.Past) l
 
     fits : is_expression j ≡ true
     fits = implied is_simple is_expression refl j simple
@@ -152,46 +145,46 @@ last_reads m trees d n zs s x us _ es _ one alive reads (by_node {k = j} {c = c}
     at : ℕ
     at = end_from n zs
 
-    end : (f ≡ blank) × (fs ≡ [])
-    end = done_ends r'.reads (ap (λ v. only v done) simple) alive
+    end : Ended f fs
+    end = past_ends r'.reads (ap (λ v. to v (At p.Past)) simple)
 
     none : (ds ++ repeats j x c) ++ fs ≡ ds
-    none = ap (λ v. (ds ++ repeats j x c) ++ v) end.1 ∙ append-nil (ds ++ repeats j x c) ∙ ap (λ v. ds ++ v) (unreported j x c fits) ∙ append-nil ds
+    none = ap (λ v. (ds ++ repeats j x c) ++ v) end.faults ∙ append-nil (ds ++ repeats j x c) ∙ ap (λ v. ds ++ v) (unreported j x c fits) ∙ append-nil ds
 
-    by : (b : Bool) → is_or_row (one_branch j c) ≡ b → IsExpected (Argument · done) at (tokens_in c ++ (tokens_in f ++ us)) (is_or_row (one_branch j c))
-        → IsOperandOf (if is_or_row (one_branch j c) then None else Some 16) (one_branch j c) (tokens_in f ++ us)
+    by : (b : Bool) → is_or_row (one_branch j c) ≡ b → IsExpected BeforeArgument at (tokens_in c ++ (tokens_in f ++ us)) (is_or_row (one_branch j c))
+        → IsOperand (if is_or_row (one_branch j c) then None else Some 16) (one_branch j c) (tokens_in f ++ us)
         → Called d n zs x us es (tokens_in c ++ tokens_in f) (branch j c f) ((ds ++ repeats j x c) ++ fs)
     by b h y q =
         subst (λ (u : List Fault). Called d n zs x us es (tokens_in c ++ tokens_in f) (branch j c f) u) (sym none)
         (subst
-        (λ (g : AnnotatedForest). ReadsTree d n zs x ((tokens_in c ++ tokens_in g) ++ us) es → Short m j d at (whole_row j) z blank (tokens_in g ++ us) c ds
+        (λ (g : AnnotatedForest). ReadsTree d n zs x ((tokens_in c ++ tokens_in g) ++ us) es → Short m j d at (start j) z blank (tokens_in g ++ us) c ds
         → IsOver z (end_from at (tokens_in c)) (tokens_in g ++ us)
-        → IsExpected (Argument · done) at (tokens_in c ++ (tokens_in g ++ us)) b → IsFollowed (Argument · done) x (head_kind (tokens_in c ++ (tokens_in g ++ us)))
-        → IsOperandOf (if b then None else Some 16) (one_branch j c) (tokens_in g ++ us)
-        → Called d n zs x us es (tokens_in c ++ tokens_in g) (branch j c g) ds) (sym end.0)
+        → IsExpected BeforeArgument at (tokens_in c ++ (tokens_in g ++ us)) b → IsFollowed BeforeArgument x (head_kind (tokens_in c ++ (tokens_in g ++ us)))
+        → IsOperand (if b then None else Some 16) (one_branch j c) (tokens_in g ++ us)
+        → Called d n zs x us es (tokens_in c ++ tokens_in g) (branch j c g) ds) (sym end.row)
         (λ reads r over y w q.
         subst (λ (u : List Token). Called d n zs x us es u (one_branch j c) ds) (sym (append-nil (tokens_in c)))
         (on b h (subst (λ (u : List Token). ReadsTree d n zs x (u ++ us) es) (append-nil (tokens_in c)) reads) r over y w q))
-        reads r over (subst (λ (v : Bool). IsExpected (Argument · done) at (tokens_in c ++ (tokens_in f ++ us)) v) h y) w
-        (subst (λ (v : Bool). IsOperandOf (if v then None else Some 16) (one_branch j c) (tokens_in f ++ us)) h q))
+        reads r over (subst (λ (v : Bool). IsExpected BeforeArgument at (tokens_in c ++ (tokens_in f ++ us)) v) h y) w
+        (subst (λ (v : Bool). IsOperand (if v then None else Some 16) (one_branch j c) (tokens_in f ++ us)) h q))
       where
-        on : (b : Bool) → is_or_row (one_branch j c) ≡ b → ReadsTree d n zs x (tokens_in c ++ us) es → Short m j d at (whole_row j) z blank us c ds
+        on : (b : Bool) → is_or_row (one_branch j c) ≡ b → ReadsTree d n zs x (tokens_in c ++ us) es → Short m j d at (start j) z blank us c ds
             → IsOver z (end_from at (tokens_in c)) us
-            → IsExpected (Argument · done) at (tokens_in c ++ us) b → IsFollowed (Argument · done) x (head_kind (tokens_in c ++ us))
-            → IsOperandOf (if b then None else Some 16) (one_branch j c) us
+            → IsExpected BeforeArgument at (tokens_in c ++ us) b → IsFollowed BeforeArgument x (head_kind (tokens_in c ++ us))
+            → IsOperand (if b then None else Some 16) (one_branch j c) us
             → Called d n zs x us es (tokens_in c) (one_branch j c) ds
         on true h reads r over y w q = name_or m d n zs x j c z us es ds one reads r over.0 w h
         on false h reads r over y w q =
-            argument d n zs (tokens_in c) x (one_branch j c) us es ds one reads y w h q.0 (subst (λ (u : List Token). IsBegun 16 (one_branch j c) (u ++ us)) (append-nil (tokens_in c)) (begins_by_steps 16 (one_branch j c) (tokens_in (one_branch j c) ++ us) q.1)) q.2
+            argument d n zs (tokens_in c) x (one_branch j c) us es ds one reads y w h q.0 (subst (λ (u : List Token). IsBegun 16 (one_branch j c) (u ++ us)) (append-nil (tokens_in c)) q.1) q.2
             (trees j d at z us c ds r over fits)
 
 -- a call is read
-pub called_reads : (m : ℕ) → Trees m → (d n : ℕ) (s : Row) (us : List Token) (c : AnnotatedForest) (es : List Fault)
-    → Front m NODE_APPLY d n (whole_row NODE_APPLY) s blank us c es
+pub called_reads : (m : ℕ) → Trees m → (d n : ℕ) (s : RowState) (us : List Token) (c : AnnotatedForest) (es : List Fault)
+    → Front m NODE_APPLY d n (Start NODE_APPLY) s blank us c es
     → IsOver s (end_from n (tokens_in c)) us → ReadsTree d n (tokens_in c) (one_branch NODE_APPLY c) us es
 called_reads m trees d n s us c es r over =
-    by (leading m trees NODE_APPLY d n (Argument · done) s us c es is_simple (record { goes = λ j. refl; fitting = implied is_simple is_expression refl })
+    by (leading m trees NODE_APPLY d n BeforeArgument s us c es is_simple (record { goes = λ j. refl; fitting = implied is_simple is_expression refl })
     (λ j t f fs r. no_lone j t (front_of refl r refl over.0)) r)
   where
-    by : Leading m NODE_APPLY d n (Argument · done) s us c es → ReadsTree d n (tokens_in c) (one_branch NODE_APPLY c) us es
-    by l = leading_reads l (last_reads m trees d n l.items s l.tree us l.row l.before l.later l.one (end_live s over.0) l.reads (front_of refl l.rest refl over.0))
+    by : Leading m NODE_APPLY d n BeforeArgument s us c es → ReadsTree d n (tokens_in c) (one_branch NODE_APPLY c) us es
+    by l = leading_reads l (last_reads m trees d n l.items s l.tree us l.row l.before l.later l.one l.reads (front_of refl l.rest refl over.0))

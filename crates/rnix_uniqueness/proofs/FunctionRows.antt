@@ -1,18 +1,16 @@
 -- Functions are read as operands, if smaller rows are read.
+use Rattle.{rnix_lemmas.proofs.{PastRows.{Ended, past_ends}}, rnix_uniqueness.proofs.OperandBegins.{begin_for, begins_special}}
 use Rattle.std.proofs.Common.{◌≡◌, ◌⊎◌, inl, inr, ℕ, true, false, List, [], ◌∷◌, ◌++◌, refl, ap, sym, ◌∙◌, subst, append_assoc}
-use Rattle.rnix_kinds.specs.{declared.kinds.SyntaxKind.{SyntaxKind}, declared.kinds.SyntaxKind.TheVariants.{TOKEN_AT, TOKEN_IDENT, TOKEN_L_BRACE, NODE_IDENT}}
-use Rattle.rnix_kinds.specs.declared.kinds.SyntaxKind.TheVariants.{NODE_IDENT_PARAM, NODE_LAMBDA, NODE_PATTERN, NODE_PAT_BIND}
-use Rattle.rnix_grammar.specs.{declared.place.Place.{Place}, declared.begin.Begin.{Begin}, Fault.{Fault}, Begins.{begin_of, second_kind}}
-use Rattle.rnix_grammar.specs.AnnotatedForest.{Token, AnnotatedForest, blank, token, branch, ◌⊕◌, one_token, one_branch, tokens_in, leaf_kind, leaf_kind_as}
-use Rattle.rnix_grammar.specs.{AnnotatedForest.{head_kind, end_from, Stray}, Machine.{Node, Operand, Frame, machine, opened, begun, operand_on, Runs}}
-use Rattle.rnix_grammar.specs.{Reports.{repeats}, Operands.{kind_of}, declared.rules.Part.TheVariants.{Child}, Reads.{IsOver, end}, Rules.{Row, after, done}}
-use Rattle.rnix_grammar.specs.Rules.{may_end, row as whole_row, ◌·◌}
-use Rattle.rnix_lemmas.proofs.{Basics.{true_is_not_false}, EveryKind.{only, only_both}, FollowLemmas.{followed_atom}, RowKinds.{has_row}}
-use Rattle.rnix_lemmas.proofs.{StrictParts.{end_behind}, LiveRows.{done_ends, end_live, is_live}, RestAt.{rest_at}}
-use Rattle.rnix_uniqueness.proofs.{Runs.{runs_on, runs_to, runs_from}, StepReads.{IsOperandRead, ReadsTree, row_class}, ReadingHeights.{Short, AllRows}}
-use Rattle.rnix_uniqueness.proofs.{ReadingHeights.{Front, by_leaf, by_stray, by_node, front_of, short_to}, RowClasses.{ReadOn, read_on}, RowEnds.{node_read}}
-use Rattle.rnix_uniqueness.proofs.{RowEnds.{operand_read}, FirstItems.{row_of_kind, item_next, item_alone, name_next}, OperandBegins.{BegunBy, begin_for}}
-use Rattle.rnix_uniqueness.proofs.OperandBegins.{begins_special}
+use Rattle.rnix_kinds.specs.declared.kinds.SyntaxKind.{SyntaxKind, TheVariants.{TOKEN_AT, TOKEN_IDENT, TOKEN_L_BRACE, NODE_IDENT, NODE_IDENT_PARAM}}
+use Rattle.{rnix_kinds.specs.declared.kinds.SyntaxKind.TheVariants.{NODE_LAMBDA, NODE_PATTERN, NODE_PAT_BIND}, rnix_grammar.specs.declared.place.Place.Place}
+use Rattle.rnix_grammar.specs.{declared.begin.Begin.Begin, Fault.Fault, Begins.{begin_of, second_kind}, AnnotatedForest.{Token, AnnotatedForest, blank, token}}
+use Rattle.rnix_grammar.specs.{AnnotatedForest.{branch, ◌⊕◌, one_token, one_branch, tokens_in, leaf_kind, leaf_kind_as, head_kind, end_from}, Machine.Node}
+use Rattle.rnix_grammar.specs.{Machine.{Operand, Frame, machine, opened, begun, operand_on, Runs}, Rows.{RowState, Start, BeforeAt, At, first, advance, live}}
+use Rattle.{rnix_grammar.specs.{Rows.{start, whole}, Reports.repeats, Operands.kind_of, PlaceReads.IsOver}, rnix_lemmas.proofs.Basics.true_is_not_false}
+use Rattle.rnix_lemmas.proofs.{EveryKind.{only, only_both}, FollowLemmas.followed_atom, RowKinds.has_row, StrictParts.end_behind}
+use Rattle.rnix_uniqueness.proofs.{Runs.{runs_on, runs_to, runs_from}, StepReads.{IsOperandRead, ReadsTree}, ReadingHeights.{Short, AllRows, Front, by_leaf}}
+use Rattle.rnix_uniqueness.proofs.{ReadingHeights.{by_stray, by_node, front_of, short_to}, RowClasses.{row_class, ReadOn, read_on}, RowEnds.node_read}
+use Rattle.rnix_uniqueness.proofs.{RowEnds.operand_read, FirstItems.{row_of_kind, item_next, item_alone, name_next}, OperandBegins.BegunBy}
 use Rattle.rnix_grammar.specs.declared.place.Place.TheVariants as p
 use Rattle.rnix_grammar.specs.declared.begin.Begin.TheVariants as b
 
@@ -44,8 +42,8 @@ named_item t f d n us es k r level F fs gs low begins =
     (operand_read NODE_LAMBDA d t.end p.LambdaColon (one_branch NODE_IDENT_PARAM c) us f es r refl refl (p.Behind level 16) d (F ∷ fs) gs)
 
 -- the parameter of a function is a name
-parameter_first : (i : SyntaxKind) → is_live (after (whole_row NODE_IDENT_PARAM) i) ≡ true → i ≡ NODE_IDENT
-parameter_first i l = only (λ j. is_live (after (whole_row NODE_IDENT_PARAM) j)) NODE_IDENT refl i l
+parameter_first : (i : SyntaxKind) → live (first NODE_IDENT_PARAM i) ≡ true → i ≡ NODE_IDENT
+parameter_first i l = only (λ j. live (first NODE_IDENT_PARAM j)) NODE_IDENT refl i l
 
 -- no token has the kind of a name's node and of a name
 no_name : (k : SyntaxKind) → k ≡ NODE_IDENT → k ≡ TOKEN_IDENT → ⊥
@@ -55,18 +53,18 @@ no_name k e h = other (sym e ∙ h)
     other h = cc
 
 -- so it is by the row of the parameter
-named_reads : (m d n : ℕ) (z : Row) (us : List Token) (c f : AnnotatedForest) (ds es : List Fault)
-    → Front m NODE_IDENT_PARAM d n (whole_row NODE_IDENT_PARAM) z blank (tokens_in f ++ us) c ds → may_end z ≡ true
+named_reads : (m d n : ℕ) (z : RowState) (us : List Token) (c f : AnnotatedForest) (ds es : List Fault)
+    → Front m NODE_IDENT_PARAM d n (Start NODE_IDENT_PARAM) z blank (tokens_in f ++ us) c ds → whole z ≡ true
     → Body NODE_IDENT_PARAM d n c us f es → ReadsTree d n (tokens_in c ++ tokens_in f) (one_branch NODE_LAMBDA (branch NODE_IDENT_PARAM c f)) us ((ds ++ []) ++ es)
 named_reads m d n z us _ f _ es (by_leaf {k = i} {t = t} {f = g} e w l r) o more =
     λ level F fs gs low begins. absurd (no_name t.kind (sym e ∙ parameter_first i l) (begins_special NODE_IDENT_PARAM refl level t ((tokens_in g ++ tokens_in f) ++ us) begins).1)
 named_reads m d n z us _ f _ es (by_stray v w x l r) o more = absurd (true_is_not_false (sym l))
 named_reads m d n z us _ f _ es (by_node {k = i} {c = c} {f = g} {ds = ds} {es = hs} r v y w x l r') o more =
-    let w = name_next {q = whole_row NODE_IDENT_PARAM} i (parameter_first i l) r v.0 r' in
-    let u = done_ends w.rest.reads refl (end_live z o) in
+    let w = name_next {q = Start NODE_IDENT_PARAM} i (parameter_first i l) r v.0 r' in
+    let u = past_ends w.rest.reads refl in
     let e : branch i c g ≡ one_branch NODE_IDENT (one_token (leaf_kind NODE_IDENT w.item) w.item) = w.is
-    ∙ ap (λ q. branch NODE_IDENT (one_token (leaf_kind NODE_IDENT w.item) w.item) q) u.0 in
-    subst (λ (q : List Fault). ReadsTree d n ((tokens_in c ++ tokens_in g) ++ tokens_in f) (one_branch NODE_LAMBDA (branch NODE_IDENT_PARAM (branch i c g) f)) us ((q ++ []) ++ es)) (sym u.1)
+    ∙ ap (λ q. branch NODE_IDENT (one_token (leaf_kind NODE_IDENT w.item) w.item) q) u.row in
+    subst (λ (q : List Fault). ReadsTree d n ((tokens_in c ++ tokens_in g) ++ tokens_in f) (one_branch NODE_LAMBDA (branch NODE_IDENT_PARAM (branch i c g) f)) us ((q ++ []) ++ es)) (sym u.faults)
     (subst (λ (q : AnnotatedForest). Body NODE_IDENT_PARAM d n q us f es
     → ReadsTree d n (tokens_in q ++ tokens_in f) (one_branch NODE_LAMBDA (branch NODE_IDENT_PARAM q f)) us es) (sym e)
     (named_item w.item f d n us es w.kind) more)
@@ -85,7 +83,7 @@ pattern_runs x g c f level d m F fs us es ds gs h row more =
     (operand_read NODE_LAMBDA d e p.LambdaColon (one_branch NODE_PATTERN (g ⊕ c)) us f ds more refl refl (p.Behind level 16) d (F ∷ fs) (gs ++ (es ++ []))))
 
 -- the first item of a pattern without a name before it
-brace_kind : (i : SyntaxKind) → is_live (after (whole_row NODE_PATTERN) i) ≡ true → BegunBy i (begin_for NODE_PATTERN i) → i ≡ TOKEN_L_BRACE
+brace_kind : (i : SyntaxKind) → live (first NODE_PATTERN i) ≡ true → BegunBy i (begin_for NODE_PATTERN i) → i ≡ TOKEN_L_BRACE
 brace_kind TOKEN_L_BRACE l w = refl
 brace_kind _ l w = cc
 
@@ -95,14 +93,14 @@ name_kind TOKEN_IDENT h w = refl
 name_kind _ h w = cc
 
 -- no pattern begins with a token of the row that binds its name
-no_bind : (i : SyntaxKind) → is_live (after (whole_row NODE_PAT_BIND) i) ≡ true → BegunBy i (begin_for NODE_PATTERN i) → ⊥
+no_bind : (i : SyntaxKind) → live (first NODE_PAT_BIND i) ≡ true → BegunBy i (begin_for NODE_PATTERN i) → ⊥
 no_bind TOKEN_AT l w = cc
 no_bind _ l w = cc
 
 -- a function of a pattern that begins with a brace
-braced_reads : (m : ℕ) → AllRows m → (d n : ℕ) (t : Token) (z : Row) (us : List Token) (c f : AnnotatedForest) (ds es : List Fault)
-    → is_live (after (whole_row NODE_PATTERN) t.kind) ≡ true
-    → Short m NODE_PATTERN d t.end (after (whole_row NODE_PATTERN) t.kind) z (one_token t.kind t) (tokens_in f ++ us) c ds
+braced_reads : (m : ℕ) → AllRows m → (d n : ℕ) (t : Token) (z : RowState) (us : List Token) (c f : AnnotatedForest) (ds es : List Fault)
+    → live (first NODE_PATTERN t.kind) ≡ true
+    → Short m NODE_PATTERN d t.end (first NODE_PATTERN t.kind) z (one_token t.kind t) (tokens_in f ++ us) c ds
     → IsOver z (end_from t.end (tokens_in c)) (tokens_in f ++ us)
     → Body NODE_PATTERN d n (token t.kind t c) us f es
     → ReadsTree d n (t ∷ (tokens_in c ++ tokens_in f)) (one_branch NODE_LAMBDA (branch NODE_PATTERN (token t.kind t c) f)) us ((ds ++ []) ++ es)
@@ -116,7 +114,7 @@ braced_reads m rows d n t z us c f ds es l r o more level F fs gs low begins =
     (runs_from (ap (λ z. machine (row ∷ (opened (Node NODE_LAMBDA) p.LambdaColon d blank ∷ (opened Operand (p.Behind level 16) d blank ∷ (F ∷ fs)))) z t.end gs) (append_assoc (tokens_in c) (tokens_in f) us))
     (runs_to (ap (λ z. machine (opened Operand (p.Behind level 16) d (one_branch NODE_LAMBDA x) ∷ (F ∷ fs)) us z (gs ++ ((ds ++ []) ++ es))) (sym (end_behind t.end (tokens_in c) (tokens_in f))))
     (pattern_runs (p.PatternStart false) (one_token t.kind t) c f level d t.end F fs us ds es gs refl
-    (read_on m rows NODE_PATTERN d t.end (p.PatternStart false) z (one_token t.kind t) (tokens_in f ++ us) c ds (short_to (ap (after (whole_row NODE_PATTERN)) k) refl refl r) o) more)))
+    (read_on m rows NODE_PATTERN d t.end (p.PatternStart false) z (one_token t.kind t) (tokens_in f ++ us) c ds (short_to (ap (first NODE_PATTERN) k) refl refl r) o) more)))
 
 -- a name and `@`
 abbrev name_at : Token → Token → AnnotatedForest
@@ -139,24 +137,24 @@ bound_item t v c f d n us ds es h r more level F fs gs low begins =
     (pattern_runs p.PatternBrace (one_branch NODE_PAT_BIND (name_at t v)) c f level d v.end F fs us ds es gs refl r more)))
 
 -- so it is by the row of the name
-bound_reads : (m : ℕ) → AllRows m → (d n : ℕ) (z y : Row) (us : List Token) (c g f : AnnotatedForest) (bs ds es : List Fault)
-    → Front m NODE_PAT_BIND d n (whole_row NODE_PAT_BIND) y blank (tokens_in g ++ (tokens_in f ++ us)) c bs → may_end y ≡ true
-    → Short m NODE_PATTERN d (end_from n (tokens_in c)) (rest_at p.PatternBrace) z (one_branch NODE_PAT_BIND c) (tokens_in f ++ us) g ds
+bound_reads : (m : ℕ) → AllRows m → (d n : ℕ) (z y : RowState) (us : List Token) (c g f : AnnotatedForest) (bs ds es : List Fault)
+    → Front m NODE_PAT_BIND d n (Start NODE_PAT_BIND) y blank (tokens_in g ++ (tokens_in f ++ us)) c bs → whole y ≡ true
+    → Short m NODE_PATTERN d (end_from n (tokens_in c)) (At p.PatternBrace) z (one_branch NODE_PAT_BIND c) (tokens_in f ++ us) g ds
     → IsOver z (end_from n (tokens_in c ++ tokens_in g)) (tokens_in f ++ us) → Body NODE_PATTERN d n (branch NODE_PAT_BIND c g) us f es
     → ReadsTree d n ((tokens_in c ++ tokens_in g) ++ tokens_in f) (one_branch NODE_LAMBDA (branch NODE_PATTERN (branch NODE_PAT_BIND c g) f)) us ((((bs ++ []) ++ ds) ++ []) ++ es)
 bound_reads m rows d n z y us _ g f _ ds es (by_leaf {k = i} {t = t} {f = a} e w l r) o r' over more =
-    λ level F fs gs low begins. absurd (no_bind t.kind (ap (λ j. is_live (after (whole_row NODE_PAT_BIND) j)) (sym e)
+    λ level F fs gs low begins. absurd (no_bind t.kind (ap (λ j. live (first NODE_PAT_BIND j)) (sym e)
     ∙ l) (begins_special NODE_PATTERN refl level t (((tokens_in a ++ tokens_in g) ++ tokens_in f) ++ us) begins).1)
 bound_reads m rows d n z y us _ g f _ ds es (by_stray v w x l r) o r' over more = absurd (true_is_not_false (sym l))
 bound_reads m rows d n z y us _ g f _ ds es (by_node {k = i} {c = c} {f = a} {ds = bs} {es = hs} r v u w x l q) o r' over more =
-    let w = name_next {q = whole_row NODE_PAT_BIND} i (only_both (λ j. is_live (after (whole_row NODE_PAT_BIND) j)) has_row NODE_IDENT refl i l (row_of_kind r v.0)) r v.0 q in
+    let w = name_next {q = Start NODE_PAT_BIND} i (only_both (λ j. live (first NODE_PAT_BIND j)) has_row NODE_IDENT refl i l (row_of_kind r v.0)) r v.0 q in
     let v = item_next refl (front_of refl w.rest refl o) in
-    let u = item_alone v o (ap (after (Child TOKEN_AT · done)) (only (λ j. is_live (after (Child TOKEN_AT · done) j)) TOKEN_AT refl v.item.kind v.alive)) in
+    let u = item_alone v (ap (advance BeforeAt) (only (λ j. live (advance BeforeAt j)) TOKEN_AT refl v.item.kind v.alive)) in
     let e : branch i c a ≡ name_at w.item v.item = w.is ∙ ap (λ q. branch NODE_IDENT (one_token (leaf_kind NODE_IDENT w.item) w.item) q) u.0 in
     subst (λ (q : List Fault). ReadsTree d n (((tokens_in c ++ tokens_in a) ++ tokens_in g) ++ tokens_in f) (one_branch NODE_LAMBDA (branch NODE_PATTERN (branch NODE_PAT_BIND (branch i c a) g) f)) us ((((q ++ []) ++ ds) ++ []) ++ es))
     (sym u.1)
     (subst
-    (λ (q : AnnotatedForest). Short m NODE_PATTERN d (end_from n (tokens_in q)) (rest_at p.PatternBrace) z (one_branch NODE_PAT_BIND q) (tokens_in f ++ us) g ds
+    (λ (q : AnnotatedForest). Short m NODE_PATTERN d (end_from n (tokens_in q)) (At p.PatternBrace) z (one_branch NODE_PAT_BIND q) (tokens_in f ++ us) g ds
     → IsOver z (end_from n (tokens_in q ++ tokens_in g)) (tokens_in f ++ us) → Body NODE_PATTERN d n (branch NODE_PAT_BIND q g) us f es
     → ReadsTree d n ((tokens_in q ++ tokens_in g) ++ tokens_in f) (one_branch NODE_LAMBDA (branch NODE_PATTERN (branch NODE_PAT_BIND q g) f)) us ((ds ++ []) ++ es)) (sym e)
     (λ r over more. bound_item w.item v.item g f d n us ds es w.kind
@@ -164,40 +162,40 @@ bound_reads m rows d n z y us _ g f _ ds es (by_node {k = i} {c = c} {f = a} {ds
     r' over more)
 
 -- a function of a pattern is read
-pattern_reads : (m : ℕ) → AllRows m → (d n : ℕ) (z : Row) (us : List Token) (c f : AnnotatedForest) (ds es : List Fault)
-    → Front m NODE_PATTERN d n (whole_row NODE_PATTERN) z blank (tokens_in f ++ us) c ds
+pattern_reads : (m : ℕ) → AllRows m → (d n : ℕ) (z : RowState) (us : List Token) (c f : AnnotatedForest) (ds es : List Fault)
+    → Front m NODE_PATTERN d n (Start NODE_PATTERN) z blank (tokens_in f ++ us) c ds
     → IsOver z (end_from n (tokens_in c)) (tokens_in f ++ us) → Body NODE_PATTERN d n c us f es
     → ReadsTree d n (tokens_in c ++ tokens_in f) (one_branch NODE_LAMBDA (branch NODE_PATTERN c f)) us ((ds ++ []) ++ es)
 pattern_reads m rows d n z us _ f _ es (by_leaf {k = i} {t = t} {f = g} {es = ds} e w l r) over more =
-    subst (λ (j : SyntaxKind). is_live (after (whole_row NODE_PATTERN) j) ≡ true
-    → Short m NODE_PATTERN d t.end (after (whole_row NODE_PATTERN) j) z (one_token j t) (tokens_in f ++ us) g ds → Body NODE_PATTERN d n (token j t g) us f es
+    subst (λ (j : SyntaxKind). live (first NODE_PATTERN j) ≡ true
+    → Short m NODE_PATTERN d t.end (first NODE_PATTERN j) z (one_token j t) (tokens_in f ++ us) g ds → Body NODE_PATTERN d n (token j t g) us f es
     → ReadsTree d n (t ∷ (tokens_in g ++ tokens_in f)) (one_branch NODE_LAMBDA (branch NODE_PATTERN (token j t g) f)) us ((ds ++ []) ++ es)) (sym e)
     (λ l r more. braced_reads m rows d n t z us g f ds es l r over more) l r more
 pattern_reads m rows d n z us _ f _ es (by_stray o w x l r) over more = absurd (true_is_not_false (sym l))
 pattern_reads m rows d n z us _ f _ es (by_node {k = i} {c = c} {f = g} {z = q} {ds = bs} {es = ds} r o y w x l r') over more =
     subst
-    (λ (j : SyntaxKind). Short m j d n (whole_row j) q blank (tokens_in g ++ (tokens_in f ++ us)) c bs
-    → Short m NODE_PATTERN d (end_from n (tokens_in c)) (after (whole_row NODE_PATTERN) j) z (one_branch j c) (tokens_in f ++ us) g ds
+    (λ (j : SyntaxKind). Short m j d n (start j) q blank (tokens_in g ++ (tokens_in f ++ us)) c bs
+    → Short m NODE_PATTERN d (end_from n (tokens_in c)) (first NODE_PATTERN j) z (one_branch j c) (tokens_in f ++ us) g ds
     → Body NODE_PATTERN d n (branch j c g) us f es
     → ReadsTree d n ((tokens_in c ++ tokens_in g) ++ tokens_in f) (one_branch NODE_LAMBDA (branch NODE_PATTERN (branch j c g) f)) us ((((bs ++ repeats j blank c) ++ ds) ++ []) ++ es))
-    (sym (only_both (λ j. is_live (after (whole_row NODE_PATTERN) j)) has_row NODE_PAT_BIND refl i l (row_of_kind r o.0)))
+    (sym (only_both (λ j. live (first NODE_PATTERN j)) has_row NODE_PAT_BIND refl i l (row_of_kind r o.0)))
     (λ r r' more. bound_reads m rows d n z q us c g f bs ds es (front_of refl r refl o.0) o.0 r' over more) r r' more
 
 -- the parameters of functions
-lambda_first : (i : SyntaxKind) → is_live (after (whole_row NODE_LAMBDA) i) ≡ true → (i ≡ NODE_IDENT_PARAM) ⊎ (i ≡ NODE_PATTERN)
+lambda_first : (i : SyntaxKind) → live (first NODE_LAMBDA i) ≡ true → (i ≡ NODE_IDENT_PARAM) ⊎ (i ≡ NODE_PATTERN)
 lambda_first NODE_IDENT_PARAM h = inl refl
 lambda_first NODE_PATTERN h = inr refl
 lambda_first _ h = absurd (true_is_not_false (sym h))
 
 -- the row of a function by its parameter
-abbrev Parameter : ℕ → ℕ → ℕ → Row → Row → List Token → AnnotatedForest → AnnotatedForest → List Fault → List Fault → SyntaxKind → Type 0
+abbrev Parameter : ℕ → ℕ → ℕ → RowState → RowState → List Token → AnnotatedForest → AnnotatedForest → List Fault → List Fault → SyntaxKind → Type 0
 Parameter m d n z s us c f ds es k =
-    Short m k d n (whole_row k) z blank (tokens_in f ++ us) c ds → Short m NODE_LAMBDA d (end_from n (tokens_in c)) (after (whole_row NODE_LAMBDA) k) s (one_branch k c) us f es
+    Short m k d n (start k) z blank (tokens_in f ++ us) c ds → Short m NODE_LAMBDA d (end_from n (tokens_in c)) (first NODE_LAMBDA k) s (one_branch k c) us f es
     → ReadsTree d n (tokens_in c ++ tokens_in f) (one_branch NODE_LAMBDA (branch k c f)) us ((ds ++ repeats k blank c) ++ es)
 
 -- a function is read
-pub lambda_reads : (m : ℕ) → AllRows m → (d n : ℕ) (s : Row) (us : List Token) (c : AnnotatedForest) (es : List Fault)
-    → Front m NODE_LAMBDA d n (whole_row NODE_LAMBDA) s blank us c es
+pub lambda_reads : (m : ℕ) → AllRows m → (d n : ℕ) (s : RowState) (us : List Token) (c : AnnotatedForest) (es : List Fault)
+    → Front m NODE_LAMBDA d n (Start NODE_LAMBDA) s blank us c es
     → IsOver s (end_from n (tokens_in c)) us → ReadsTree d n (tokens_in c) (one_branch NODE_LAMBDA c) us es
 lambda_reads m rows d n s us _ _ (by_leaf {t = t} {f = f} e w l r) over =
     λ level F fs gs low begins. absurd (no_lambda (begins_special NODE_LAMBDA refl level t (tokens_in f ++ us) begins).2)
@@ -207,7 +205,7 @@ lambda_reads m rows d n s us _ _ (by_leaf {t = t} {f = f} e w l r) over =
 lambda_reads m rows d n s us _ _ (by_stray o w x l r) over = absurd (true_is_not_false (sym l))
 lambda_reads m rows d n s us _ _ (by_node {k = i} {c = c} {f = f} {z = z} {ds = ds} {es = es} r o y w x l r') over = by (lambda_first i l) r r'
   where
-    body : (k : SyntaxKind) → Short m NODE_LAMBDA d (end_from n (tokens_in c)) (rest_at p.LambdaColon) s (one_branch k c) us f es → Body k d n c us f es
+    body : (k : SyntaxKind) → Short m NODE_LAMBDA d (end_from n (tokens_in c)) (At p.LambdaColon) s (one_branch k c) us f es → Body k d n c us f es
     body k r =
         read_on m rows NODE_LAMBDA d (end_from n (tokens_in c)) p.LambdaColon s (one_branch k c) us f es r
         (subst (λ (e : ℕ). IsOver s e us) (end_behind n (tokens_in c) (tokens_in f)) over)

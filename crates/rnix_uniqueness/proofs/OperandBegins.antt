@@ -1,15 +1,14 @@
 -- What the first items of an operand begin.
 use Rattle.std.proofs.Common.{◌≡◌, ℕ, Bool, true, false, List, Option, Some, None, refl, ap, sym, ◌∙◌, subst, if◌then◌else◌, nat_eq, nat_le}
-use Rattle.rnix_kinds.specs.{declared.kinds.SyntaxKind.{SyntaxKind}, declared.kinds.SyntaxKind.TheVariants.{TOKEN_AT, TOKEN_COLON, TOKEN_IDENT, TOKEN_INVERT}}
-use Rattle.rnix_kinds.specs.declared.kinds.SyntaxKind.TheVariants.{TOKEN_L_BRACE, TOKEN_LET, TOKEN_SUB, NODE_APPLY, NODE_BIN_OP, NODE_HAS_ATTR}
-use Rattle.rnix_kinds.specs.declared.kinds.SyntaxKind.TheVariants.{NODE_IDENT_PARAM, NODE_LAMBDA, NODE_LEGACY_LET, NODE_PATTERN, NODE_SELECT, NODE_UNARY_OP}
-use Rattle.rnix_grammar.specs.{declared.place.Place.{Place}, declared.begin.Begin.{Begin}, Tables.{is_cur_pos}, Begins.{begin_of, begin_name, begin_let}}
-use Rattle.rnix_grammar.specs.{Begins.{is_pattern, second_kind}, AnnotatedForest.{Token, AnnotatedForest, blank, token, branch, one_branch, leaf_kind_as}}
-use Rattle.rnix_grammar.specs.{AnnotatedForest.{head_kind, Stray}, Rows.{is_atom, is_expression}, TreeLevels.{level_of}, Operands.{first_tree, kind_of}}
-use Rattle.rnix_grammar.specs.{Machine.{Node}, Rules.{after, done, row as whole_row}}
+use Rattle.rnix_kinds.specs.declared.kinds.SyntaxKind.{SyntaxKind, TheVariants.{TOKEN_AT, TOKEN_COLON, TOKEN_IDENT, TOKEN_INVERT, TOKEN_L_BRACE, TOKEN_LET}}
+use Rattle.rnix_kinds.specs.declared.kinds.SyntaxKind.TheVariants.{TOKEN_SUB, NODE_APPLY, NODE_BIN_OP, NODE_HAS_ATTR, NODE_IDENT_PARAM, NODE_LAMBDA}
+use Rattle.rnix_kinds.specs.declared.kinds.SyntaxKind.TheVariants.{NODE_LEGACY_LET, NODE_PATTERN, NODE_SELECT, NODE_UNARY_OP}
+use Rattle.rnix_grammar.specs.{declared.{place.Place.Place, begin.Begin.Begin}, Tables.is_cur_pos, Begins.{begin_of, begin_name, begin_let, is_pattern}}
+use Rattle.rnix_grammar.specs.{Begins.second_kind, AnnotatedForest.{Token, AnnotatedForest, blank, token, branch, one_branch, leaf_kind_as, head_kind}, Rows.At}
+use Rattle.rnix_grammar.specs.{Rows.{first, is_atom, is_expression}, TreeLevels.level_of, Operands.{first_tree, kind_of}}
 use Rattle.rnix_lemmas.proofs.{Basics.{true_is_not_false, choice}, FollowLemmas.{FollowedTo, atom_tight, followed_atom, followed_negated, followed_inverted}}
-use Rattle.rnix_lemmas.proofs.{FollowLemmas.{followed_loose}, RestAt.{rest_at}}
-use Rattle.rnix_uniqueness.proofs.StepReads.{row_class}
+use Rattle.{rnix_lemmas.proofs.FollowLemmas.followed_loose, rnix_uniqueness.proofs.RowClasses.row_class}
+use Rattle.rnix_grammar.specs.declared.place.Place.TheVariants as p
 use Rattle.rnix_grammar.specs.declared.begin.Begin.TheVariants as b
 
 -- the kinds of expressions that begin with one item
@@ -30,8 +29,8 @@ high_at k i = if is_atom k then 16 else 0
 
 -- what an item of a kind begins
 abbrev pub BegunBy : SyntaxKind → Begin → Type 0
-BegunBy i (b.Leaf k) = (is_led k ≡ true) × (after (whole_row k) (leaf_kind_as k i) ≡ done) × (is_atom k ≡ true)
-BegunBy i (b.Node k z high) = (is_led k ≡ true) × (after (whole_row k) (leaf_kind_as k i) ≡ rest_at z) × (row_class z ≡ 0) × (high_at k i ≡ high)
+BegunBy i (b.Leaf k) = (is_led k ≡ true) × (first k (leaf_kind_as k i) ≡ At p.Past) × (is_atom k ≡ true)
+BegunBy i (b.Node k z high) = (is_led k ≡ true) × (first k (leaf_kind_as k i) ≡ At z) × (row_class z ≡ 0) × (high_at k i ≡ high)
 BegunBy i b.NameLambda = i ≡ TOKEN_IDENT
 BegunBy i b.BoundLambda = i ≡ TOKEN_IDENT
 BegunBy i b.PatternLambda = i ≡ TOKEN_L_BRACE
@@ -90,8 +89,8 @@ begins_special k h level t ts e =
 
 -- how an expression that begins with an item does so: it is the item, or a node that goes on at a place
 pub data LedBy (k i : SyntaxKind) (begin : Begin) : Type 0 where
-  by_leaf : begin ≡ b.Leaf k → after (whole_row k) (leaf_kind_as k i) ≡ done → is_atom k ≡ true → LedBy k i begin
-  by_node : (z : Place) (high : ℕ) → begin ≡ b.Node k z high → after (whole_row k) (leaf_kind_as k i) ≡ rest_at z → row_class z ≡ 0 → high_at k i ≡ high → LedBy k i begin
+  by_leaf : begin ≡ b.Leaf k → first k (leaf_kind_as k i) ≡ At p.Past → is_atom k ≡ true → LedBy k i begin
+  by_node : (z : Place) (high : ℕ) → begin ≡ b.Node k z high → first k (leaf_kind_as k i) ≡ At z → row_class z ≡ 0 → high_at k i ≡ high → LedBy k i begin
 
 -- each such expression begins so, by its beginning
 led_by : (k i : SyntaxKind) (begin : Begin) → is_led k ≡ true → kind_of begin ≡ k → BegunBy i begin → LedBy k i begin

@@ -1,14 +1,12 @@
 -- Where a row ends, its node is complete and goes to the frame below.
 use Rattle.std.proofs.Common.{◌≡◌, ℕ, zero, suc, Bool, true, false, List, [], ◌∷◌, ◌++◌, Some, None, refl, ap, sym, ◌∙◌, append-nil, append_assoc, arith}
-use Rattle.std.proofs.Common.{if◌then◌else◌, nat_le}
-use Rattle.rnix_kinds.specs.{declared.kinds.SyntaxKind.{SyntaxKind}, declared.kinds.SyntaxKind.TheVariants.{NODE_PAT_ENTRY}}
-use Rattle.rnix_kinds.proofs.AllKinds.{every}
-use Rattle.rnix_grammar.specs.{declared.place.Place.{Place}, declared.action.Action.{Action}, Fault.{Fault}, Actions.{action_at}, AnnotatedForest.{Token}}
+use Rattle.{std.proofs.Common.{if◌then◌else◌, nat_le}, rnix_uniqueness.proofs.RowClasses.{row_class, ReadOn}}
+use Rattle.rnix_kinds.{specs.declared.kinds.SyntaxKind.{SyntaxKind, TheVariants.NODE_PAT_ENTRY}, proofs.AllKinds.every}
+use Rattle.rnix_grammar.specs.{declared.{place.Place.Place, action.Action.Action}, Fault.Fault, Actions.action_at, Symbols.symbol_at, AnnotatedForest.Token}
 use Rattle.rnix_grammar.specs.AnnotatedForest.{Twice, AnnotatedForest, blank, ◌⊕◌, one_branch, one_fault, tokens_in, head_kind, end_from, touches}
-use Rattle.rnix_grammar.specs.{Machine.{Head, Node, Second, Operand, Frame, machine, put, opened, perform, step, Runs, rest as here}, Reports.{report}}
-use Rattle.rnix_grammar.specs.{Reports.{repeated, repeats}, Reads.{IsOver}, Rules.{expects_item, may_end}}
-use Rattle.rnix_lemmas.proofs.{Basics.{true_is_not_false}, LevelLemmas.{at_most}, RestAt.{rest_at}}
-use Rattle.rnix_uniqueness.proofs.{Runs.{runs_on, runs_to, step_to}, RowClasses.{ReadOn}, StepReads.{class_of, row_class}}
+use Rattle.rnix_grammar.specs.{Machine.{Head, Node, Second, Operand, Frame, machine, put, opened, perform, step, Runs, rest as here}, Reports.report}
+use Rattle.rnix_grammar.specs.{Reports.{repeated, repeats}, Rows.{At, whole}, ExpectedItems.expects_in, PlaceReads.IsOver}
+use Rattle.{rnix_lemmas.proofs.{Basics.true_is_not_false, LevelLemmas.at_most}, rnix_uniqueness.proofs.{Runs.{runs_on, runs_to, step_to}, RowClasses.class_of}}
 use Rattle.rnix_grammar.specs.declared.place.Place.TheVariants as p
 use Rattle.rnix_grammar.specs.declared.action.Action.TheVariants as a
 
@@ -22,7 +20,7 @@ is_ending (suc (suc (suc v))) act = true
 is_ending v act = false
 
 -- a row ends so before the end of the text
-ends_none : (x : Place) (touch : Bool) → may_end (rest_at x) ≡ true → is_ending (row_class x) (action_at x None touch) ≡ true
+ends_none : (x : Place) (touch : Bool) → whole (At x) ≡ true → is_ending (row_class x) (action_at x None touch) ≡ true
 ends_none p.RootEnd touch w = refl
 ends_none (p.PatternEnd true) touch w = refl
 ends_none (p.PatternEnd false) touch w = refl
@@ -30,7 +28,7 @@ ends_none _ touch w = cc
 
 -- a row ends before an item that is not the place's own
 abbrev ends_before : Place → Bool → SyntaxKind → Bool
-ends_before x touch k = if expects_item (rest_at x) touch k then true else (if may_end (rest_at x) then is_ending (row_class x) (action_at x (Some k) touch) else true)
+ends_before x touch k = if expects_in (symbol_at x) touch k then true else (if whole (At x) then is_ending (row_class x) (action_at x (Some k) touch) else true)
 
 -- a row ends so before each other item
 ends_some : (x : Place) (touch : Bool) (k : SyntaxKind) → ends_before x touch k ≡ true
@@ -41,11 +39,11 @@ ends_some p.PathMore false k = every (ends_before p.PathMore false) refl k
 ends_some x touch k = every (ends_before x touch) refl k
 
 -- a row ends where it may and the next item is not the place's own
-ends_at : (x : Place) (n : ℕ) (ts : List Token) → IsOver (rest_at x) n ts → is_ending (row_class x) (action_at x (head_kind ts) (touches n ts)) ≡ true
+ends_at : (x : Place) (n : ℕ) (ts : List Token) → IsOver (At x) n ts → is_ending (row_class x) (action_at x (head_kind ts) (touches n ts)) ≡ true
 ends_at x n [] o = ends_none x false o.0
 ends_at x n (t ∷ ts) o =
     let is : Bool = is_ending (row_class x) (action_at x (Some t.kind) (touches n (t ∷ ts))) in
-    sym (ap (λ w. if w then is else true) o.0) ∙ sym (ap (λ w. if w then true else (if may_end (rest_at x) then is else true)) o.1)
+    sym (ap (λ w. if w then is else true) o.0) ∙ sym (ap (λ w. if w then true else (if whole (At x) then is else true)) o.1)
     ∙ ends_some x (touches n (t ∷ ts)) t.kind
 
 -- entries alone are reported
@@ -103,7 +101,7 @@ twice_by a.CloseTwice i x d n c F fs ts gs = refl
 twice_by _ i x d n c F fs ts gs = absurd (true_is_not_false (sym i))
 
 -- a second name whose row ends is complete
-pub closes_second : (x : Place) (d n : ℕ) (c : AnnotatedForest) (F : Frame) (fs : List Frame) (ts : List Token) (gs : List Fault) → IsOver (rest_at x) n ts → row_class x ≡ 2
+pub closes_second : (x : Place) (d n : ℕ) (c : AnnotatedForest) (F : Frame) (fs : List Frame) (ts : List Token) (gs : List Fault) → IsOver (At x) n ts → row_class x ≡ 2
     → step false (machine (opened Second x d c ∷ (F ∷ fs)) ts n gs) ≡ machine (put F.place (F.row ⊕ one_fault Twice c) F ∷ fs) ts n (gs ++ report Twice (tokens_in c) ∷ [])
 closes_second x d n c F fs ts gs o e =
     twice_by (action_at x (head_kind ts) (touches n ts)) (sym (ap (λ v. is_ending v (action_at x (head_kind ts) (touches n ts))) e)

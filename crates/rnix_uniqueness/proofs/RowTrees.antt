@@ -1,19 +1,16 @@
 -- How the steps read one more tree of a row, and the rest of the row behind it.
 use Rattle.std.proofs.Common.{◌≡◌, ℕ, suc, ◌<◌, ◌≤◌, Bool, true, false, List, [], ◌∷◌, ◌++◌, Some, refl, ap, sym, ◌∙◌, subst, append-nil, append_assoc, arith}
-use Rattle.std.proofs.{Common.{if◌then◌else◌, nat_le, None}, lemmas.Bool.Decides.{nat_tests}}
-use Rattle.rnix_kinds.specs.{declared.kinds.SyntaxKind.{SyntaxKind}, declared.kinds.SyntaxKind.TheVariants.{TOKEN_AT, NODE_IDENT, NODE_PAT_ENTRY, NODE_ERROR}}
-use Rattle.rnix_grammar.specs.{declared.place.Place.{Place}, Fault.{Fault, too_deep}, Tables.{depth_limit, wanted_kinds}, Actions.{action_at}}
+use Rattle.{std.proofs.{Common.{if◌then◌else◌, nat_le}, lemmas.Bool.Decides.nat_tests}, rnix_uniqueness.proofs.RowEnds.{closes_second}}
+use Rattle.rnix_kinds.specs.declared.kinds.SyntaxKind.{SyntaxKind, TheVariants.{TOKEN_AT, NODE_IDENT, NODE_PAT_ENTRY, NODE_ERROR}}
+use Rattle.rnix_grammar.specs.{declared.place.Place.Place, Fault.{Fault, too_deep}, Tables.depth_limit, Symbols.{symbol_at, is_counted}, Actions.action_at}
 use Rattle.rnix_grammar.specs.AnnotatedForest.{Token, AnnotatedForest, blank, ◌⊕◌, one_token, tokens_in, leaf_kind, head_kind, end_from, touches, Unwanted}
 use Rattle.rnix_grammar.specs.{AnnotatedForest.{Extra, Twice, TooDeep, branch, token, one_branch, one_fault, row_of}, Machine.{Head, Operand, Frame, machine}}
-use Rattle.rnix_grammar.specs.{Machine.{opened, kind_of, limited, operand_on, perform, Runs, rest as here, Second, dropped, Node}, Missing.{run_of}}
-use Rattle.rnix_grammar.specs.{Operands.{goes_on, IsBegun}, TreeLevels.{row_level}, declared.until.Until.{Until}, Reports.{report, repeats}}
-use Rattle.rnix_grammar.specs.{declared.action.Action.{Action}, declared.begin.Begin.{Begin}, Rules.{IsExpected, Row, after, counts, expects_end, missing}}
-use Rattle.rnix_grammar.specs.{Rules.{run_at}, Reads.{IsRoom, deeper, end}}
-use Rattle.rnix_lemmas.proofs.{AnnotatedForestLemmas.{⊕-assoc, ⊕-blank}, StrictParts.{end_behind}, OpenHeads.{is_open}, RunLemmas.{dropped_all}}
-use Rattle.rnix_lemmas.proofs.{RowParts.{as_expected}, LiveRows.{is_live}, RestAt.{left_at, rest_at}}
-use Rattle.rnix_uniqueness.proofs.{Runs.{runs_on, runs_to, step_to}, StepReads.{ReadsRow, ReadsTree, IsOperandRead, ReadsTo, class_of, row_class}}
-use Rattle.rnix_uniqueness.proofs.{OwnTokens.{takes_at, runs_at}, MissingSteps.{misses_in, MissesBy, misses_at}, OperandGoesOn.{settles}, RowClasses.{ReadOn}}
-use Rattle.rnix_uniqueness.proofs.{RowClasses.{Goes, goal, stays}, RowEnds.{is_inner, node_read, closes_second}}
+use Rattle.rnix_grammar.specs.{Machine.{opened, kind_of, limited, operand_on, perform, Runs, rest as here, Second, dropped}, Missing.{missing, run_of, run_at}}
+use Rattle.rnix_grammar.specs.{Rows.{At, advance}, ExpectedItems.{expects, expects_end}, Operands.{IsBegun, goes_on}, TreeLevels.row_level, PlaceReads.IsRoom}
+use Rattle.{rnix_grammar.specs.{PlaceReads.deeper, declared.until.Until.Until, Reports.{report, repeats}}, rnix_lemmas.proofs.AnnotatedForestLemmas.⊕-assoc}
+use Rattle.rnix_lemmas.proofs.{AnnotatedForestLemmas.⊕-blank, StrictParts.end_behind, OpenHeads.is_open, RunLemmas.dropped_all}
+use Rattle.rnix_uniqueness.proofs.{Runs.{runs_on, runs_to, step_to}, StepReads.{ReadsRow, ReadsTree, IsOperandRead}, OwnTokens.{takes_at, runs_at}, MissingSteps.misses_in}
+use Rattle.rnix_uniqueness.proofs.{OperandGoesOn.settles, RowClasses.{class_of, row_class, ReadOn}, RowEnds.{is_inner, node_read}}
 use Rattle.rnix_grammar.specs.declared.place.Place.TheVariants as p
 use Rattle.rnix_grammar.specs.declared.action.Action.TheVariants as a
 
@@ -23,35 +20,16 @@ ReadsOne k d n x y b ts vs w ds =
     (h : Head) (fs : List Frame) (gs : List Fault) → is_open h ≡ true → kind_of h ≡ k
     → Runs false (machine (opened h x d b ∷ fs) (ts ++ vs) n gs) (machine (opened h y d (b ⊕ w) ∷ fs) vs (end_from n ts) (gs ++ ds))
 
--- So they do to a place of the same class, where this is left of the row.
-pub record OneTo (k : SyntaxKind) (d n : ℕ) (x : Place) (to : Row) (b : AnnotatedForest) (ts vs : List Token) (w : AnnotatedForest) (ds : List Fault) : Type 0 where
-  pub place : Place
-  pub is : rest_at place ≡ to
-  pub same : row_class place ≡ row_class x
-  pub one : ReadsOne k d n x place b ts vs w ds
-
--- so it is by what is done at the place
-pub goes_one : {k : SyntaxKind} {d n : ℕ} {x : Place} {to : Row} {b w : AnnotatedForest} {ts vs : List Token} {ds : List Fault} (f : Place → Action) → is_live (rest_at x) ≡ true
-    → Goes x to f (action_at x (head_kind (ts ++ vs)) (touches n (ts ++ vs)))
-    → ((y : Place) → action_at x (head_kind (ts ++ vs)) (touches n (ts ++ vs)) ≡ f y → ReadsOne k d n x y b ts vs w ds) → OneTo k d n x to b ts vs w ds
-goes_one {n = n} {x = x} {ts = ts} {vs = vs} f l g one =
-    let y : Place = goal x (action_at x (head_kind (ts ++ vs)) (touches n (ts ++ vs))) in
-    record { place = y; is = g.1; same = stays x (head_kind (ts ++ vs)) (touches n (ts ++ vs)) l; one = one y g.0 }
-
 -- nothing more
-pub row_end : (k : SyntaxKind) (d n : ℕ) (x : Place) (s : Row) (b : AnnotatedForest) (us : List Token) → rest_at x ≡ s → ReadsTo k d n x s b us blank []
-row_end k d n x s b us i = record {
-  place = x;
-  is = i;
-  same = refl;
-  row = λ h fs gs o e. runs_to (ap (λ z. machine (opened h x d z ∷ fs) us n gs) (sym (⊕-blank b)) ∙ ap (λ z. machine (opened h x d (b ⊕ blank) ∷ fs) us n z) (sym (append-nil gs))) here;
-}
+pub row_end : (k : SyntaxKind) (d n : ℕ) (x : Place) (b : AnnotatedForest) (us : List Token) → ReadsRow k d n x x b us blank []
+row_end k d n x b us h fs gs o e = runs_to (ap (λ z. machine (opened h x d z ∷ fs) us n gs) (sym (⊕-blank b))
+    ∙ ap (λ z. machine (opened h x d (b ⊕ blank) ∷ fs) us n z) (sym (append-nil gs))) here
 
 -- one more tree, and the rest
-row_after : (k : SyntaxKind) (d n : ℕ) (x z y : Place) (b : AnnotatedForest) (ts us : List Token) (w f : AnnotatedForest) (ds es : List Fault)
+pub row_on : (k : SyntaxKind) (d n : ℕ) (x z y : Place) (b : AnnotatedForest) (ts us : List Token) (w f : AnnotatedForest) (ds es : List Fault)
     → ReadsOne k d n x z b ts (tokens_in f ++ us) w ds
     → ReadsRow k d (end_from n ts) z y (b ⊕ w) us f es → tokens_in (w ⊕ f) ≡ ts ++ tokens_in f → ReadsRow k d n x y b us (w ⊕ f) (ds ++ es)
-row_after k d n x z y b ts us w f ds es one row t h fs gs o e =
+row_on k d n x z y b ts us w f ds es one row t h fs gs o e =
     subst (λ (v : List Token). Runs false (machine (opened h x d b ∷ fs) v n gs) (machine (opened h y d (b ⊕ (w ⊕ f)) ∷ fs) us (end_from n (tokens_in (w ⊕ f))) (gs ++ (ds ++ es))))
     (sym (ap (λ v. v ++ us) t ∙ append_assoc ts (tokens_in f) us))
     (runs_on (one h fs gs o e)
@@ -60,50 +38,24 @@ row_after k d n x z y b ts us w f ds es one row t h fs gs o e =
     ∙ ap (λ v. machine (opened h y d (b ⊕ (w ⊕ f)) ∷ fs) us (end_from n (tokens_in (w ⊕ f))) v) (append_assoc gs ds es))
     (row h fs (gs ++ ds) o e)))
 
--- so the row is read if its first tree is
-pub row_on : {k : SyntaxKind} {d n : ℕ} {x : Place} {to s : Row} {b : AnnotatedForest} {ts us : List Token} {w f : AnnotatedForest} {ds es : List Fault}
-    → (o : OneTo k d n x to b ts (tokens_in f ++ us) w ds) → ReadsTo k d (end_from n ts) o.place s (b ⊕ w) us f es → tokens_in (w ⊕ f) ≡ ts ++ tokens_in f
-    → ReadsTo k d n x s b us (w ⊕ f) (ds ++ es)
-row_on {k} {d} {n} {x} {b = b} {ts = ts} {us = us} {w = w} {f = f} {ds = ds} {es = es} o r t =
-    record { place = r.place; is = r.is; same = r.same ∙ o.same; row = row_after k d n x o.place r.place b ts us w f ds es o.one r.row t }
-
 -- a leaf
-pub one_leaf : (q : SyntaxKind) (d n : ℕ) (x : Place) (b : AnnotatedForest) (t : Token) (vs : List Token) → is_live (rest_at x) ≡ true → IsExpected (rest_at x) n (t ∷ vs) true
-    → is_live (after (rest_at x) (leaf_kind q t)) ≡ true → OneTo q d n x (after (rest_at x) (leaf_kind q t)) b (t ∷ []) vs (one_token (leaf_kind q t) t) []
-one_leaf q d n x b t vs l o g =
-    goes_one a.Take l (takes_at x q t.kind (touches n (t ∷ vs)) (as_expected (rest_at x) (left_at x) n (t ∷ vs) true o) g)
-    (λ y act h fs gs oh e. step_to (ap (λ z. perform false z (opened h x d b) fs (t ∷ vs) n gs) act)
-    (runs_to (ap (λ z. machine (opened h y d (b ⊕ one_token z t) ∷ fs) vs t.end gs) (ap (λ z. leaf_kind z t) e)
-    ∙ ap (λ z. machine (opened h y d (b ⊕ one_token (leaf_kind q t) t) ∷ fs) vs t.end z) (sym (append-nil gs))) here))
+pub one_leaf : (q : SyntaxKind) (d n : ℕ) (x y : Place) (b : AnnotatedForest) (t : Token) (vs : List Token) (k : SyntaxKind) → k ≡ leaf_kind q t
+    → expects x n (t ∷ vs) ≡ true → advance (At x) k ≡ At y
+    → ReadsOne q d n x y b (t ∷ []) vs (one_token k t) []
+one_leaf q d n x y b t vs k w o g h fs gs oh e =
+    step_to (ap (λ z. perform false z (opened h x d b) fs (t ∷ vs) n gs) (takes_at x y q t.kind _ o (ap (λ z. advance (At x) z) (sym w) ∙ g)))
+    (runs_to (ap (λ z. machine (opened h y d (b ⊕ one_token z t) ∷ fs) vs t.end gs) (ap (λ z. leaf_kind z t) e ∙ sym w)
+    ∙ ap (λ z. machine (opened h y d (b ⊕ one_token k t) ∷ fs) vs t.end z) (sym (append-nil gs))) here)
 
 -- what is missing where the text ends
-pub row_lost : (k : SyntaxKind) (d n : ℕ) (x : Place) (r s : Row) (b : AnnotatedForest) (us : List Token) (f : AnnotatedForest) (e : Fault) (es : List Fault) → is_live (rest_at x) ≡ true → us ≡ []
-    → tokens_in f ≡ [] → missing (rest_at x) ≡ Some (e, r) → (expects_end (rest_at x) ≡ false → IsRoom (rest_at x) d)
-    → ((z : Place) → rest_at z ≡ r → ReadsTo k d n z s b us f es) → ReadsTo k d n x s b us f (e ∷ es)
-row_lost k d n x r s b us f e es alive u v l room more =
-    record { place = q.place; is = q.is; same = q.same ∙ stays x None false alive; row = row }
-  where
-    act : Action
-    act = action_at x None false
-
-    z : Place
-    z = goal x act
-
-    lost : MissesBy (Some (e, r)) (rest_at x) act
-    lost = subst (λ w. MissesBy w (rest_at x) act) l (misses_at x false)
-
-    q : ReadsTo k d n z s b us f es
-    q = more z (misses_in act (rest_at x) r x e (Node k) d n b [] [] lost room).1
-
-    none : tokens_in f ++ us ≡ []
-    none = ap (λ q. q ++ us) v ∙ u
-
-    row : ReadsRow k d n x q.place b us f (e ∷ es)
-    row h fs gs o w =
-        runs_on
-        (subst (λ (q : List Token). Runs false (machine (opened h x d b ∷ fs) q n gs) (machine (opened h z d b ∷ fs) q n (gs ++ e ∷ []))) (sym none)
-        (step_to (misses_in act (rest_at x) r x e h d n b fs gs lost room).0 here))
-        (runs_to (ap (λ v. machine (opened h q.place d (b ⊕ f) ∷ fs) us (end_from n (tokens_in f)) v) (append_assoc gs (e ∷ []) es)) (q.row h fs (gs ++ e ∷ []) o w))
+pub row_lost : (k : SyntaxKind) (d n : ℕ) (x z y : Place) (b : AnnotatedForest) (us : List Token) (f : AnnotatedForest) (e : Fault) (es : List Fault) → us ≡ []
+    → tokens_in f ≡ [] → missing x ≡ Some (e, z)
+    → (expects_end (symbol_at x) ≡ false → IsRoom (At x) d) → ReadsRow k d n z y b us f es → ReadsRow k d n x y b us f (e ∷ es)
+row_lost k d n x z y b us f e es u v l r row h fs gs o w =
+    let none : tokens_in f ++ us ≡ [] = ap (λ q. q ++ us) v ∙ u in
+    runs_on
+    (subst (λ (q : List Token). Runs false (machine (opened h x d b ∷ fs) q n gs) (machine (opened h z d b ∷ fs) q n (gs ++ e ∷ []))) (sym none) (step_to (misses_in (symbol_at x) x z e h d n b fs gs false l r) here))
+    (runs_to (ap (λ q. machine (opened h y d (b ⊕ f) ∷ fs) us (end_from n (tokens_in f)) q) (append_assoc gs (e ∷ []) es)) (row h fs (gs ++ e ∷ []) o w))
 
 -- an operand within the limit is read
 reads_counted : (level : ℕ) (counted : Bool) (x y : Place) (d n : ℕ) (b : AnnotatedForest) (h : Head) (fs : List Frame) (ts : List Token) (gs : List Fault)
@@ -119,14 +71,14 @@ reads_counted level true x y d n b h fs ts gs r = by (nat_le depth_limit d) refl
 
 -- an operand
 pub one_operand : (q : SyntaxKind) (d n level : ℕ) (x y : Place) (b : AnnotatedForest) (ts : List Token) (w : AnnotatedForest) (vs : List Token) (ds : List Fault)
-    → action_at x (head_kind (ts ++ vs)) (touches n (ts ++ vs)) ≡ a.Read level (counts (rest_at x)) y → IsRoom (rest_at x) d → level ≤ row_level w
+    → action_at x (head_kind (ts ++ vs)) (touches n (ts ++ vs)) ≡ a.Read level (is_counted (symbol_at x)) y → IsRoom (At x) d → level ≤ row_level w
     → IsBegun level w (ts ++ vs) → goes_on level w vs ≡ false
-    → ReadsTree (deeper (rest_at x) d) n ts w vs ds → ReadsOne q d n x y b ts vs w ds
+    → ReadsTree (deeper (At x) d) n ts w vs ds → ReadsOne q d n x y b ts vs w ds
 one_operand q d n level x y b ts w vs ds act room low begun over tree h fs gs oh e =
-    let r : IsOperandRead level (deeper (rest_at x) d) n ts w vs ds (opened h y d b) fs gs = tree level (opened h y d b) fs gs low begun in
-    step_to (ap (λ z. perform false z (opened h x d b) fs (ts ++ vs) n gs) act ∙ reads_counted level (counts (rest_at x)) x y d n b h fs (ts ++ vs) gs room)
+    let r : IsOperandRead level (deeper (At x) d) n ts w vs ds (opened h y d b) fs gs = tree level (opened h y d b) fs gs low begun in
+    step_to (ap (λ z. perform false z (opened h x d b) fs (ts ++ vs) n gs) act ∙ reads_counted level (is_counted (symbol_at x)) x y d n b h fs (ts ++ vs) gs room)
     (runs_on r.runs
-    (step_to (ap (λ z. perform false z (opened Operand (p.Behind level r.high) (deeper (rest_at x) d) w) (opened h y d b ∷ fs) vs (end_from n ts) (gs ++ ds)) (settles level r.high w vs r.followed over)) here))
+    (step_to (ap (λ z. perform false z (opened Operand (p.Behind level r.high) (deeper (At x) d) w) (opened h y d b ∷ fs) vs (end_from n ts) (gs ++ ds)) (settles level r.high w vs r.followed over)) here))
 
 -- a node that begins with nothing read
 pub one_begun : (q : SyntaxKind) (d n : ℕ) (x y z : Place) (b : AnnotatedForest) (k : SyntaxKind) (c : AnnotatedForest) (vs : List Token) (ds : List Fault)
@@ -178,16 +130,15 @@ dropped_front [] vs = refl
 dropped_front (t ∷ ts) vs = dropped_front ts vs
 
 -- items that are not wanted
-pub one_unwanted : (q : SyntaxKind) (d n : ℕ) (x : Place) (r : Row) (b : AnnotatedForest) (until : Until) (t : Token) (ts vs : List Token) → is_live (rest_at x) ≡ true
-    → t ∷ ts ≡ run_of until (t ∷ ts ++ vs) → run_at (rest_at x) ≡ Some (wanted_kinds until, r) → IsExpected (rest_at x) n (t ∷ ts ++ vs) false
-    → OneTo q d n x r b (t ∷ ts) vs (one_fault (Unwanted until) (row_of (t ∷ ts))) (report (Unwanted until) (t ∷ ts) ∷ [])
-one_unwanted q d n x r b until t ts vs l i a o =
-    goes_one (a.Run until) l (runs_at x r until t.kind (touches n (t ∷ ts ++ vs)) a (as_expected (rest_at x) (left_at x) n (t ∷ ts ++ vs) false o))
-    (λ y act h fs gs oh e. step_to
-    (ap (λ v. perform false v (opened h x d b) fs (t ∷ ts ++ vs) n gs) act
-    ∙ ap (λ (v : List Token). machine (opened h y d (b ⊕ one_fault (Unwanted until) (row_of v)) ∷ fs) (dropped v (t ∷ ts ++ vs)) (end_from n v) (gs ++ report (Unwanted until) v ∷ [])) (sym i)
+pub one_unwanted : (q : SyntaxKind) (d n : ℕ) (x y : Place) (b : AnnotatedForest) (until : Until) (t : Token) (ts vs : List Token)
+    → t ∷ ts ≡ run_of until (t ∷ ts ++ vs) → run_at x ≡ Some (until, y)
+    → expects x n (t ∷ ts ++ vs) ≡ false → ReadsOne q d n x y b (t ∷ ts) vs (one_fault (Unwanted until) (row_of (t ∷ ts))) (report (Unwanted until) (t ∷ ts) ∷ [])
+one_unwanted q d n x y b until t ts vs r a o h fs gs oh e =
+    step_to
+    (ap (λ v. perform false v (opened h x d b) fs (t ∷ ts ++ vs) n gs) (runs_at x y until t.kind (touches n (t ∷ ts ++ vs)) a o)
+    ∙ ap (λ (v : List Token). machine (opened h y d (b ⊕ one_fault (Unwanted until) (row_of v)) ∷ fs) (dropped v (t ∷ ts ++ vs)) (end_from n v) (gs ++ report (Unwanted until) v ∷ [])) (sym r)
     ∙ ap (λ v. machine (opened h y d (b ⊕ one_fault (Unwanted until) (row_of (t ∷ ts))) ∷ fs) v (end_from n (t ∷ ts)) (gs ++ report (Unwanted until) (t ∷ ts) ∷ [])) (dropped_front (t ∷ ts) vs))
-    here)
+    here
 
 -- the items behind the root's expression
 pub one_extra : (q : SyntaxKind) (d n : ℕ) (b : AnnotatedForest) (t : Token) (ts : List Token)

@@ -1,62 +1,94 @@
 -- An error node that stands at a place of a row is read there.
-use Rattle.std.proofs.Common.{◌≡◌, ℕ, true, false, List, [], ◌∷◌, ◌++◌, Option, Some, None, refl, ap, sym, ◌∙◌, subst, append-nil, arith}
-use Rattle.rnix_kinds.specs.{declared.kinds.SyntaxKind.{SyntaxKind}, declared.kinds.SyntaxKind.TheVariants.{NODE_LITERAL}}
-use Rattle.rnix_grammar.specs.{declared.place.Place.{Place}, AnnotatedForest.{touches, Token, Note, Stray, Unwanted, Extra, Twice, TooDeep, AnnotatedForest}}
-use Rattle.rnix_grammar.specs.{AnnotatedForest.{one_fault, row_of, head_kind, blank}, Reports.{report}, Rules.{IsExpected, Row, after, counts, level_at}}
-use Rattle.rnix_grammar.specs.{Beginnings.{IsOperandOf}, Reads.{IsWrong, deeper}, Actions.{action_at}}
-use Rattle.rnix_lemmas.proofs.{Basics.{true_is_not_false}, RowParts.{as_expected, expects_at}, BeginAlike.{begins_by_steps}, LiveRows.{is_live}}
-use Rattle.rnix_lemmas.proofs.RestAt.{left_at, rest_at, text_end_at}
-use Rattle.rnix_uniqueness.proofs.{ItemRows.{stray_reads}, PlacedNodes.{Operands, operand_read_at}, RowTrees.{ReadsOne, one_operand, one_unwanted, one_extra}}
-use Rattle.rnix_uniqueness.proofs.{RowTrees.{one_deep, OneTo, goes_one}, WrongReads.{wrong_one}}
+use Rattle.{rnix_lemmas.proofs.PlaceTests.{own_at}, rnix_uniqueness.proofs.{ItemRows.stray_reads, PlacedNodes.{Operands, operand_read_in}}}
+use Rattle.std.proofs.Common.{◌≡◌, ℕ, true, false, List, [], ◌∷◌, ◌++◌, Option, Some, None, length, refl, ap, sym, ◌∙◌, subst, append-nil}
+use Rattle.{rnix_kinds.specs.declared.kinds.SyntaxKind.{SyntaxKind, TheVariants.NODE_LITERAL}, rnix_grammar.specs.declared.place.Place.Place}
+use Rattle.rnix_grammar.specs.{declared.{until.Until.Until}, Tables.depth_limit, Symbols.{symbol_at, level_in, is_counted}}
+use Rattle.rnix_grammar.specs.{Missing.{run_at, run_of}, AnnotatedForest.{touches, Token, Note, Stray, Unwanted, Extra, Twice, TooDeep, AnnotatedForest}}
+use Rattle.rnix_grammar.specs.{AnnotatedForest.{one_fault, row_of, is_some, head_kind}, Reports.report, Rows.{RowState, At, Nowhere, advance}}
+use Rattle.rnix_grammar.specs.{Rows.{live}, ExpectedItems.expects, Operands.IsOperand, PlaceReads.{deeper, IsRoom, IsWrong}}
+use Rattle.rnix_lemmas.proofs.{Basics.true_is_not_false, PlaceTests.{same_place, no_place}, PlainPlaces.{Reaches, reaches}}
+use Rattle.rnix_uniqueness.proofs.{RowTrees.{ReadsOne, one_operand, one_unwanted, one_extra, one_deep}, ReadingHeights.lone_token}
 use Rattle.rnix_grammar.specs.declared.place.Place.TheVariants as p
 use Rattle.rnix_grammar.specs.declared.action.Action.TheVariants as a
 
 -- no error node stands for an operand where none may stand
-no_literal : (x : Place) → level_at (rest_at x) blank ≡ None → is_live (after (rest_at x) NODE_LITERAL) ≡ false
+no_literal : (x : Place) → level_in (symbol_at x) ≡ None → advance (At x) NODE_LITERAL ≡ Nowhere
 no_literal (p.Right level) e = absurd (cc)
 no_literal (p.PatternEnd true) e = refl
 no_literal (p.PatternEnd false) e = refl
 no_literal _ e = cc
 
--- items at a place, in the row of a node, before others, where what is read ends in a row
-module _ (q : SyntaxKind) (d n : ℕ) (x : Place) (r : Row) (b : AnnotatedForest) (alive : is_live (rest_at x) ≡ true) (on : is_live r ≡ true) where
-  -- where an error node stands for an operand, an operand is read
-  literal_at : (ts : List Token) → after (rest_at x) NODE_LITERAL ≡ r → IsExpected (rest_at x) n ts false → Operands x r (touches n ts) (head_kind ts) NODE_LITERAL
-  literal_at ts h o = by (level_at (rest_at x) blank) refl
-    where
-      l : is_live (after (rest_at x) NODE_LITERAL) ≡ true
-      l = ap is_live h ∙ on
+-- where an error node stands for an operand, an operand is read
+literal_at : (x y : Place) (n : ℕ) (ts : List Token) → advance (At x) NODE_LITERAL ≡ At y → expects x n ts ≡ false
+    → Operands (symbol_at x) x y (touches n ts) (head_kind ts) NODE_LITERAL
+literal_at x y n ts h o = by (level_in (symbol_at x)) refl
+  where
+    by : (l : Option ℕ) → level_in (symbol_at x) ≡ l → Operands (symbol_at x) x y (touches n ts) (head_kind ts) NODE_LITERAL
+    by None e = absurd (no_place y (sym (no_literal x e) ∙ h))
+    by (Some l) e = operand_read_in (symbol_at x) x y (touches n ts) (head_kind ts) NODE_LITERAL l e refl (sym (own_at x n ts) ∙ o) h
 
-      by : (l : Option ℕ) → level_at (rest_at x) blank ≡ l → Operands x r (touches n ts) (head_kind ts) NODE_LITERAL
-      by None e = absurd (true_is_not_false (sym l ∙ no_literal x e))
-      by (Some v) e =
-          subst (λ r. Operands x r (touches n ts) (head_kind ts) NODE_LITERAL) h
-          (operand_read_at x (touches n ts) (head_kind ts) NODE_LITERAL v e refl (sym (expects_at (rest_at x) n ts) ∙ as_expected (rest_at x) (left_at x) n ts false o) l)
+-- an item that begins no operand
+stray_one : (q : SyntaxKind) (d n : ℕ) (x z : Place) (b : AnnotatedForest) (ts vs : List Token) → length ts ≡ 1 → expects x n (ts ++ vs) ≡ false → IsRoom (At x) d
+    → IsOperand (level_in (symbol_at x)) (one_fault Stray (row_of ts)) vs → advance (At x) NODE_LITERAL ≡ At z
+    → ReadsOne q d n x z b ts vs (one_fault Stray (row_of ts)) (report Stray ts ∷ [])
+stray_one q d n x z b ts vs l o room op g = by (lone_token ts l)
+  where
+    by : (t : Token) × (ts ≡ t ∷ []) → ReadsOne q d n x z b ts vs (one_fault Stray (row_of ts)) (report Stray ts ∷ [])
+    by w =
+        let r : Operands (symbol_at x) x z (touches n (w.0 ∷ vs)) (Some w.0.kind) NODE_LITERAL = literal_at x z n (w.0 ∷ vs) g (subst (λ (v : List Token). expects x n (v ++ vs) ≡ false) w.1 o) in
+        let p : IsOperand (Some r.level) (one_fault Stray (row_of (w.0 ∷ []))) vs =
+        subst (λ (v : Option ℕ). IsOperand v (one_fault Stray (row_of (w.0 ∷ []))) vs) r.is (subst (λ (v : List Token). IsOperand (level_in (symbol_at x)) (one_fault Stray (row_of v)) vs) w.1 op) in
+        subst (λ (v : List Token). ReadsOne q d n x z b v vs (one_fault Stray (row_of v)) (report Stray v ∷ [])) (sym w.1)
+        (one_operand q d n r.level x z b (w.0 ∷ []) (one_fault Stray (row_of (w.0 ∷ []))) vs (report Stray (w.0 ∷ []) ∷ []) r.act room p.0 p.1 p.2 (stray_reads w.0 (deeper (At x) d) n vs))
 
-  -- an error node at a place is read there
-  pub wrong_one : (note : Note) (ts vs : List Token) → IsExpected (rest_at x) n (ts ++ vs) false → IsWrong note d (rest_at x) r ts vs
-      → OneTo q d n x r b ts vs (one_fault note (row_of ts)) (report note ts ∷ [])
-  wrong_one Stray [] vs o w = absurd (cc w.0)
-  wrong_one Stray (t ∷ []) vs o w =
-      let v : Operands x r (touches n (t ∷ vs)) (Some t.kind) NODE_LITERAL = literal_at (t ∷ vs) w.3 o in
-      let g : AnnotatedForest = one_fault Stray (row_of (t ∷ [])) in
-      let i : IsOperandOf (Some v.level) g vs = subst (λ (l : Option ℕ). IsOperandOf l g vs) v.is w.2 in
-      goes_one (a.Read v.level (counts (rest_at x))) alive v.act
-      (λ y act. one_operand q d n v.level x y b (t ∷ []) g vs (report Stray (t ∷ []) ∷ []) act w.1 i.0 (begins_by_steps v.level g (t ∷ vs) i.1) i.2 (stray_reads t (deeper (rest_at x) d) n vs))
-  wrong_one Stray (t ∷ (u ∷ ts)) vs o w = absurd (omega (arith, w.0))
-  wrong_one (Unwanted until) [] vs o w = absurd (true_is_not_false (sym w.0))
-  wrong_one (Unwanted until) (t ∷ ts) vs o w = one_unwanted q d n x r b until t ts vs alive w.1 w.2 o
-  wrong_one Extra [] vs o w = absurd (true_is_not_false (sym w.0))
-  wrong_one Extra (t ∷ ts) vs o w =
-      let e : x ≡ p.RootEnd = text_end_at x w.2 in
-      subst (λ (v : List Token). OneTo q d n x r b (t ∷ ts) v (one_fault Extra (row_of (t ∷ ts))) (report Extra (t ∷ ts) ∷ [])) (sym w.1)
-      (record { place = x; is = sym w.3; same = refl; one = subst (λ (v : Place). ReadsOne q d n v v b (t ∷ ts) [] (one_fault Extra (row_of (t ∷ ts))) (report Extra (t ∷ ts) ∷ [])) (sym e) (one_extra q d n b t ts) })
-  wrong_one Twice ts vs o w = absurd w
-  wrong_one TooDeep ts vs o w =
-      subst (λ (v : List Token). IsExpected (rest_at x) n (ts ++ v) false → OneTo q d n x r b ts v (one_fault TooDeep (row_of ts)) (report TooDeep ts ∷ [])) (sym w.0) deep o
-    where
-      deep : IsExpected (rest_at x) n (ts ++ []) false → OneTo q d n x r b ts [] (one_fault TooDeep (row_of ts)) (report TooDeep ts ∷ [])
-      deep o =
-          let v : Operands x r (touches n (ts ++ [])) (head_kind (ts ++ [])) NODE_LITERAL = literal_at (ts ++ []) w.3 o in
-          goes_one (a.Read v.level (counts (rest_at x))) alive v.act
-          (λ y act. one_deep q d n v.level x y b ts (ap (λ z. action_at x (head_kind z) (touches n z)) (sym (append-nil ts)) ∙ act ∙ ap (λ z. a.Read v.level z y) w.1) w.2)
+-- items that are not wanted
+unwanted_one : (q : SyntaxKind) (d n : ℕ) (x z : Place) (b : AnnotatedForest) (until : Until) (ts vs : List Token) → is_some ts ≡ true
+    → ts ≡ run_of until (ts ++ vs) → run_at x ≡ Some (until, z)
+    → expects x n (ts ++ vs) ≡ false → ReadsOne q d n x z b ts vs (one_fault (Unwanted until) (row_of ts)) (report (Unwanted until) ts ∷ [])
+unwanted_one q d n x z b until [] vs i r a o = absurd (true_is_not_false (sym i))
+unwanted_one q d n x z b until (t ∷ ts) vs i r a o = one_unwanted q d n x z b until t ts vs r a o
+
+-- items behind the root's expression
+extra_one : (q : SyntaxKind) (d n : ℕ) (b : AnnotatedForest) (ts : List Token) → is_some ts ≡ true
+    → ReadsOne q d n p.RootEnd p.RootEnd b ts [] (one_fault Extra (row_of ts)) (report Extra ts ∷ [])
+extra_one q d n b [] i = absurd (true_is_not_false (sym i))
+extra_one q d n b (t ∷ ts) i = one_extra q d n b t ts
+
+-- items that are nested too deep
+deep_one : (q : SyntaxKind) (d n : ℕ) (x z : Place) (b : AnnotatedForest) (ts : List Token) → expects x n ts ≡ false → is_counted (symbol_at x) ≡ true
+    → d ≡ depth_limit → advance (At x) NODE_LITERAL ≡ At z
+    → ReadsOne q d n x z b ts [] (one_fault TooDeep (row_of ts)) (report TooDeep ts ∷ [])
+deep_one q d n x z b ts o k e g =
+    let r : Operands (symbol_at x) x z (touches n ts) (head_kind ts) NODE_LITERAL = literal_at x z n ts g o in
+    one_deep q d n r.level x z b ts (r.act ∙ ap (λ v. a.Read r.level v z) k) e
+
+-- an error node at a place, and the place behind it
+pub record WrongOne (q : SyntaxKind) (d n : ℕ) (x : Place) (r : RowState) (b : AnnotatedForest) (note : Note) (ts vs : List Token) : Type 0 where
+  pub place : Place
+  pub is : r ≡ At place
+  pub one : ReadsOne q d n x place b ts vs (one_fault note (row_of ts)) (report note ts ∷ [])
+
+-- an error node at a place is read there
+pub wrong_one : (q : SyntaxKind) (d n : ℕ) (x : Place) (r : RowState) (b : AnnotatedForest) (note : Note) (ts vs : List Token) → expects x n (ts ++ vs) ≡ false
+    → IsWrong note d (At x) r ts vs → WrongOne q d n x r b note ts vs
+wrong_one q d n x r b Stray ts vs o w = by (reaches x NODE_LITERAL (ap live w.3 ∙ w.4))
+  where
+    by : Reaches x (advance (At x) NODE_LITERAL) → WrongOne q d n x r b Stray ts vs
+    by h = record { place = h.place; is = sym w.3 ∙ h.is; one = stray_one q d n x h.place b ts vs w.0 o w.1 w.2 h.is }
+wrong_one q d n x r b (Unwanted until) ts vs o w =
+    record { place = w.3; is = w.5; one = unwanted_one q d n x w.3 b until ts vs w.0 w.1 (ap run_at (same_place x w.2 w.4) ∙ w.6) o }
+wrong_one q d n x r b Extra ts vs o w =
+    let e = same_place x p.RootEnd w.2 in
+    subst (λ (v : List Token). WrongOne q d n x r b Extra ts v) (sym w.1)
+    (subst (λ (v : Place). WrongOne q d n v r b Extra ts []) (sym e) (record { place = p.RootEnd; is = w.3 ∙ w.2; one = extra_one q d n b ts w.0 }))
+wrong_one q d n x r b Twice ts vs o w = absurd w
+wrong_one q d n x r b TooDeep ts vs o w = by (reaches x NODE_LITERAL (ap live w.3 ∙ w.4))
+  where
+    by : Reaches x (advance (At x) NODE_LITERAL) → WrongOne q d n x r b TooDeep ts vs
+    by h =
+        subst (λ (v : List Token). WrongOne q d n x r b TooDeep ts v) (sym w.0)
+        (record {
+          place = h.place;
+          is = sym w.3 ∙ h.is;
+          one = deep_one q d n x h.place b ts (ap (λ v. expects x n v) (sym (append-nil ts) ∙ ap (λ v. ts ++ v) (sym w.0)) ∙ o) w.1 w.2 h.is;
+        })
