@@ -1,3 +1,4 @@
+pub mod PastLemmas
 pub mod SortLemmas
 pub mod CursorLemmas
 pub mod StateLemmas
