@@ -1,8 +1,8 @@
 -- Where a row goes on behind an error node.
 use Rattle.std.specs.Prelude.{Option, Some, None}
 use Rattle.rnix_kinds.specs.declared.kinds.SyntaxKind.TheVariants.{NODE_LITERAL}
-use Rattle.rnix_grammar.specs.RowPlaces.{Place}
-use Rattle.rnix_grammar.specs.RowPlaces.{PatternPast}
+use Rattle.rnix_grammar.specs.declared.place.Place.{Place}
+use Rattle.rnix_grammar.specs.declared.place.Place.TheVariants.{PatternPast}
 use Rattle.rnix_grammar.specs.declared.until.Until.{Until}
 use Rattle.rnix_grammar.specs.AnnotatedForest.{Note, Stray, Unwanted, Extra, Twice, TooDeep}
 use Rattle.rnix_grammar.specs.Rows.{RowState, At, Nowhere, advance}

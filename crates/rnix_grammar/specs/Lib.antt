@@ -2,11 +2,7 @@ pub mod Fault
 pub mod SameFaults
 pub mod Tables
 pub mod Levels
-pub mod RowPlaces
-pub mod RowClosers
-pub mod RowSymbols
 pub mod Symbols
-pub mod Positions
 pub mod Actions
 pub mod Begins
 pub mod AnnotatedForest

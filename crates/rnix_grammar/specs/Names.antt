@@ -2,8 +2,8 @@
 use Rattle.std.specs.Prelude.{ℕ, Bool, true, false, List, Option, Some, None, if◌then◌else◌}
 use Rattle.rnix_kinds.specs.declared.kinds.SyntaxKind.{SyntaxKind}
 use Rattle.rnix_kinds.specs.declared.kinds.SyntaxKind.TheVariants.{TOKEN_CUR_POS, NODE_CUR_POS, NODE_IDENT, NODE_IDENT_PARAM, NODE_PAT_BIND, NODE_PAT_ENTRY}
-use Rattle.rnix_grammar.specs.RowSymbols.{Symbol}
-use Rattle.rnix_grammar.specs.RowSymbols.{Source, Names, Attr, Name}
+use Rattle.rnix_grammar.specs.declared.symbol.Symbol.{Symbol}
+use Rattle.rnix_grammar.specs.declared.symbol.Symbol.TheVariants.{Source, Names, Attr, Name}
 use Rattle.rnix_grammar.specs.Tables.{is_cur_pos}
 use Rattle.rnix_grammar.specs.Symbols.{symbol_at}
 use Rattle.rnix_grammar.specs.AnnotatedForest.{Token, AnnotatedForest}

@@ -7,9 +7,9 @@ use Rattle.rnix_kinds.specs.declared.kinds.SyntaxKind.TheVariants.{TOKEN_R_PAREN
 use Rattle.rnix_green.specs.Equality.{same_kind}
 use Rattle.rnix_grammar.specs.declared.until.Until.{Until}
 use Rattle.rnix_grammar.specs.declared.until.Until.TheVariants.{RParen, LBrace, RBrace, Semicolon, Assign, Colon, Then, Else, InterpolEnd, StringEnd, Ident, Piece, Attr, Entry, End}
-use Rattle.rnix_grammar.specs.RowClosers.{Closer}
-use Rattle.rnix_grammar.specs.RowClosers.{RBrack, In}
-use Rattle.rnix_grammar.specs.RowClosers as c
+use Rattle.rnix_grammar.specs.declared.until.Closer.{Closer}
+use Rattle.rnix_grammar.specs.declared.until.Closer.TheVariants.{RBrack, In}
+use Rattle.rnix_grammar.specs.declared.until.Closer.TheVariants as c
 
 -- the name that is read as the current position
 abbrev pub is_cur_pos : List ℕ → Bool

@@ -1,24 +1,16 @@
-//! What the reader does at each position, by the next token that is not trivia.
+//! What the reader does at each place, by the next token that is not trivia.
 
-ghost use Rattle.std.specs.Prelude.{◌≡◌, ◌<◌, IfSome, if◌then◌else◌};
-ghost use Rattle.rnix_grammar.specs.Positions.{slot_at};
-ghost use Rattle.rnix_grammar.specs.Actions.{until_of, token_action, name_action, wanted_action, many_action, entries_action, pieces_action, path_pieces_action, attr_action, names_action, source_action, formals_action, first_formals_action, comma_action, end_or_action, bound_action, more_attrs_action, end_action, child_action, close_action, part_action, follow, goes_on, more_action, left_action, is_plain_end, is_past, action_at};
+ghost use Rattle.std.specs.Prelude.{◌≡◌};
+ghost use Rattle.rnix_grammar.specs.Actions.{token_action, series_action, entries_action, pieces_action, first_piece_action, more_pieces_action, attr_action, names_action, source_action, more_attrs_action, name_action, formals_action, braces_action, comma_action, bind_action, default_action, or_action, end_action, action_at};
+ghost use Rattle.rnix_grammar.specs.TokenKinds.{is_path_piece, is_l_paren, is_comma};
 
-use crate::level::{
-    APPLICATION_LEVEL, HAS_ATTR_LEVEL, NO_LEVEL, binding_power, high_of, right_of,
-};
+use crate::operand::more_action;
 use crate::place::Place;
-use crate::position::{
-    AFTER_COMMA, AFTER_FORMAL, ATTRPATH, ATTRPATH_VALUE, BOUND_AFTER_COMMA, BOUND_AFTER_FORMAL,
-    BOUND_PATTERN_CLOSE, DYNAMIC, HAS_ATTR, INHERIT, INHERITED_NAME, INHERIT_END, INHERIT_FROM,
-    INHERIT_PAST, INTERPOL, OPERATED, PATTERN, PATTERN_CLOSE, PAT_BIND, SELECT, SLOTS, STRING, STRING_PAST,
-    Slot,
-};
-use crate::rules::Part;
-use crate::until::Until;
+use crate::symbol::{Symbol, symbol_at};
+use crate::until::{Closer, Until, closes, is_wanted};
 use rnix_kinds::SyntaxKind;
 
-/// One step of the reader. The last position is where the row goes on after it.
+/// One step of the reader. The last place is where the row goes on after it.
 #[derive(Clone, Copy)]
 pub enum Action {
     /// The node is complete.
@@ -36,25 +28,25 @@ pub enum Action {
     /// Items are left after the root's expression.
     Extra,
     /// The next token is a leaf.
-    Take(u8),
+    Take(Place),
     /// The text ends where more is wanted.
-    Miss(u8),
+    Miss(Place),
     /// The text ends where certain kinds are wanted.
-    MissWanted(Until, u8),
+    MissWanted(Until, Place),
     /// The tokens before those that are wanted are an error.
-    Run(Until, u8),
+    Run(Until, Place),
     /// The next token is a node of its own.
-    Leaf(SyntaxKind, u8),
-    /// The next token begins a node, which goes on at the first position.
-    Open(SyntaxKind, u8, u8),
+    Leaf(SyntaxKind, Place),
+    /// The next token begins a node, which goes on at the first place.
+    Open(SyntaxKind, Place, Place),
     /// A node begins before anything of it is read.
-    Begin(SyntaxKind, u8, u8),
+    Begin(SyntaxKind, Place, Place),
     /// A name begins an entry of a pattern.
-    Entry(u8),
+    Entry(Place),
     /// The next token begins a second name of a pattern.
-    Twice(u8),
+    Twice(Place),
     /// An operand of a level, which the limit of nesting counts or not.
-    Read(u8, bool, u8),
+    Read(u8, bool, Place),
     /// The next token makes a node with the operand before it, which goes on at the place; what follows the node is of at most the level.
     Wrap(SyntaxKind, Place, u8),
     /// An argument makes a node with the operand before it.
@@ -63,261 +55,167 @@ pub enum Action {
     ApplyOr,
 }
 
-// What an error says is wanted where a child of the kind is missing.
-fn until_of(kind: SyntaxKind) -> Until
-    ensures { result ≡ until_of kind }
-{
-    match kind {
-        SyntaxKind::TOKEN_R_PAREN => Until::RParen,
-        SyntaxKind::TOKEN_L_BRACE => Until::LBrace,
-        SyntaxKind::TOKEN_R_BRACE => Until::RBrace,
-        SyntaxKind::TOKEN_SEMICOLON => Until::Semicolon,
-        SyntaxKind::TOKEN_ASSIGN => Until::Assign,
-        SyntaxKind::TOKEN_COLON => Until::Colon,
-        SyntaxKind::TOKEN_THEN => Until::Then,
-        SyntaxKind::TOKEN_ELSE => Until::Else,
-        SyntaxKind::TOKEN_INTERPOL_END => Until::InterpolEnd,
-        SyntaxKind::TOKEN_STRING_END => Until::StringEnd,
-        _ => Until::Ident,
-    }
-}
-
 // A token that is wanted.
-#[inline(always)]
-fn token_action(wanted: SyntaxKind, left: u8, after: u8, kind: SyntaxKind) -> Action
-    ensures { result ≡ token_action wanted left after kind }
-{
-    if wanted == kind {
-        Action::Take(after)
-    } else {
-        Action::Run(until_of(wanted), left)
-    }
-}
-
-// A name that is wanted.
-fn name_action(left: u8, after: u8, kind: SyntaxKind) -> Action
-    ensures { result ≡ name_action left after kind }
-{
-    match kind {
-        SyntaxKind::TOKEN_IDENT => Action::Leaf(SyntaxKind::NODE_IDENT, after),
-        _ => Action::Run(Until::Ident, left),
-    }
-}
-
-// A child that is wanted.
-#[inline(always)]
-fn wanted_action(wanted: SyntaxKind, left: u8, after: u8, next: Option<SyntaxKind>) -> Action
-    ensures { result ≡ wanted_action wanted left after next }
+fn token_action(until: Until, place: Place, behind: Place, next: Option<SyntaxKind>) -> Action
+    ensures { result ≡ token_action until place behind next }
 {
     match next {
-        None => Action::MissWanted(until_of(wanted), after),
+        None => Action::MissWanted(until, behind),
         Some(kind) => {
-            match wanted {
-                SyntaxKind::NODE_IDENT => name_action(left, after, kind),
-                _ => token_action(wanted, left, after, kind),
-            }
-        }
-    }
-}
-
-#[inline(always)]
-fn many_action(
-    level: u8,
-    closer: SyntaxKind,
-    left: u8,
-    after: u8,
-    next: Option<SyntaxKind>,
-) -> Action
-    ensures { result ≡ many_action level closer left after next }
-{
-    match next {
-        None => Action::Miss(after),
-        Some(kind) => {
-            if closer == kind {
-                Action::Take(after)
+            if is_wanted(until, kind) {
+                Action::Take(behind)
             } else {
-                Action::Read(level, true, left)
+                Action::Run(until, place)
             }
         }
     }
 }
 
-#[inline(always)]
-fn entries_action(closer: SyntaxKind, left: u8, after: u8, next: Option<SyntaxKind>) -> Action
-    ensures { result ≡ entries_action closer left after next }
+fn series_action(level: u8, closer: Closer, place: Place, next: Option<SyntaxKind>) -> Action
+    ensures { result ≡ series_action level closer place next }
 {
     match next {
-        None => Action::Miss(after),
-        Some(SyntaxKind::TOKEN_INHERIT) => Action::Open(SyntaxKind::NODE_INHERIT, INHERIT, left),
+        None => Action::Miss(Place::Past),
         Some(kind) => {
-            if closer == kind {
-                Action::Take(after)
+            if closes(closer, kind) {
+                Action::Take(Place::Past)
             } else {
-                Action::Begin(SyntaxKind::NODE_ATTRPATH_VALUE, ATTRPATH_VALUE, left)
+                Action::Read(level, true, place)
             }
         }
     }
 }
 
-fn pieces_action(left: u8, after: u8, next: Option<SyntaxKind>) -> Action
-    ensures { result ≡ pieces_action left after next }
+fn entries_action(closer: Closer, place: Place, behind: Place, next: Option<SyntaxKind>) -> Action
+    ensures { result ≡ entries_action closer place behind next }
 {
     match next {
-        None => Action::MissWanted(Until::Piece, after),
-        Some(SyntaxKind::TOKEN_STRING_END) => Action::Take(STRING_PAST),
-        Some(SyntaxKind::TOKEN_STRING_CONTENT) => Action::Take(left),
-        Some(SyntaxKind::TOKEN_INTERPOL_START) => {
-            Action::Open(SyntaxKind::NODE_INTERPOL, INTERPOL, left)
+        None => Action::Miss(behind),
+        Some(SyntaxKind::TOKEN_INHERIT) => {
+            Action::Open(SyntaxKind::NODE_INHERIT, Place::InheritStart, place)
         }
-        Some(_) => Action::Run(Until::Piece, left),
+        Some(kind) => {
+            if closes(closer, kind) {
+                Action::Take(behind)
+            } else {
+                Action::Begin(SyntaxKind::NODE_ATTRPATH_VALUE, Place::ValuePath, place)
+            }
+        }
     }
 }
 
-fn path_pieces_action(left: u8, touches: bool, next: Option<SyntaxKind>) -> Action
-    ensures { result ≡ path_pieces_action left touches next }
+fn pieces_action(place: Place, next: Option<SyntaxKind>) -> Action
+    ensures { result ≡ pieces_action place next }
 {
-    if !touches {
-        return Action::Close;
-    }
     match next {
-        Some(
-            SyntaxKind::TOKEN_PATH_ABS | SyntaxKind::TOKEN_PATH_REL | SyntaxKind::TOKEN_PATH_HOME,
-        ) => Action::Take(left),
+        None => Action::MissWanted(Until::Piece, Place::StringEnd),
+        Some(SyntaxKind::TOKEN_STRING_END) => Action::Take(Place::Past),
+        Some(SyntaxKind::TOKEN_STRING_CONTENT) => Action::Take(place),
         Some(SyntaxKind::TOKEN_INTERPOL_START) => {
-            Action::Open(SyntaxKind::NODE_INTERPOL, INTERPOL, left)
+            Action::Open(SyntaxKind::NODE_INTERPOL, Place::InterpolInside, place)
+        }
+        Some(_) => Action::Run(Until::Piece, place),
+    }
+}
+
+fn first_piece_action(next: Option<SyntaxKind>) -> Action
+    ensures { result ≡ first_piece_action next }
+{
+    match next {
+        Some(SyntaxKind::TOKEN_INTERPOL_START) => {
+            Action::Open(
+                SyntaxKind::NODE_INTERPOL,
+                Place::InterpolInside,
+                Place::PathMore,
+            )
         }
         _ => Action::Close,
     }
 }
 
-// A name, a string or an interpolation; after a run of unwanted tokens, at another position.
-#[inline(always)]
-fn attr_action(again: u8, after: u8, next: Option<SyntaxKind>) -> Action
-    ensures { result ≡ attr_action again after next }
+// The tokens of a path that may be interpolated.
+fn is_path_piece(kind: SyntaxKind) -> bool
+    ensures { result ≡ is_path_piece kind }
+{
+    matches!(
+        kind,
+        SyntaxKind::TOKEN_PATH_ABS | SyntaxKind::TOKEN_PATH_REL | SyntaxKind::TOKEN_PATH_HOME
+    )
+}
+
+fn more_pieces_action(touches: bool, next: Option<SyntaxKind>) -> Action
+    ensures { result ≡ more_pieces_action touches next }
 {
     match next {
-        None => Action::MissWanted(Until::Attr, after),
+        None => Action::Close,
+        Some(kind) => {
+            if !touches {
+                Action::Close
+            } else if is_path_piece(kind) {
+                Action::Take(Place::PathMore)
+            } else {
+                first_piece_action(next)
+            }
+        }
+    }
+}
+
+// A name, a string or an interpolation; after a run of unwanted tokens, at another place.
+fn attr_action(again: Place, behind: Place, next: Option<SyntaxKind>) -> Action
+    ensures { result ≡ attr_action again behind next }
+{
+    match next {
+        None => Action::MissWanted(Until::Attr, behind),
         Some(SyntaxKind::TOKEN_INTERPOL_START) => {
-            Action::Open(SyntaxKind::NODE_DYNAMIC, DYNAMIC, after)
+            Action::Open(SyntaxKind::NODE_DYNAMIC, Place::DynamicInside, behind)
         }
         Some(SyntaxKind::TOKEN_STRING_START) => {
-            Action::Open(SyntaxKind::NODE_STRING, STRING, after)
+            Action::Open(SyntaxKind::NODE_STRING, Place::StringInside, behind)
         }
         Some(SyntaxKind::TOKEN_IDENT | SyntaxKind::TOKEN_OR | SyntaxKind::TOKEN_CUR_POS) => {
-            Action::Leaf(SyntaxKind::NODE_IDENT, after)
+            Action::Leaf(SyntaxKind::NODE_IDENT, behind)
         }
         Some(_) => Action::Run(Until::Attr, again),
     }
 }
 
-fn names_action(left: u8, after: u8, next: Option<SyntaxKind>) -> Action
-    ensures { result ≡ names_action left after next }
+fn names_action(next: Option<SyntaxKind>) -> Action
+    ensures { result ≡ names_action next }
 {
     match next {
-        None => Action::Miss(after),
+        None => Action::Miss(Place::InheritEnd),
         Some(kind) => {
-            if kind == SyntaxKind::TOKEN_SEMICOLON {
-                Action::Take(INHERIT_PAST)
+            if is_wanted(Until::Semicolon, kind) {
+                Action::Take(Place::Past)
             } else {
-                attr_action(INHERITED_NAME, left, next)
+                attr_action(Place::InheritName, Place::InheritNames, next)
             }
         }
     }
 }
 
-fn source_action(after: u8, next: Option<SyntaxKind>) -> Action
-    ensures { result ≡ source_action after next }
+fn is_l_paren(kind: SyntaxKind) -> bool
+    ensures { result ≡ is_l_paren kind }
+{
+    matches!(kind, SyntaxKind::TOKEN_L_PAREN)
+}
+
+fn source_action(next: Option<SyntaxKind>) -> Action
+    ensures { result ≡ source_action next }
 {
     match next {
-        None => names_action(after, INHERIT_END, next),
+        None => names_action(next),
         Some(kind) => {
-            if kind == SyntaxKind::TOKEN_L_PAREN {
-                Action::Open(SyntaxKind::NODE_INHERIT_FROM, INHERIT_FROM, after)
+            if is_l_paren(kind) {
+                Action::Open(
+                    SyntaxKind::NODE_INHERIT_FROM,
+                    Place::FromInside,
+                    Place::InheritNames,
+                )
             } else {
-                names_action(after, INHERIT_END, next)
+                names_action(next)
             }
         }
-    }
-}
-
-// One of two positions of patterns, by whether a name is bound before the pattern.
-fn of_pattern(bound: bool, after_bind: u8, alone: u8) -> u8
-    ensures { result ≡ (if bound then after_bind else alone) }
-{
-    if bound { after_bind } else { alone }
-}
-
-fn formals_action(bound: bool, after: u8, next: Option<SyntaxKind>) -> Action
-    ensures { result ≡ formals_action bound after next }
-{
-    match next {
-        None => Action::MissWanted(Until::Entry, after),
-        Some(SyntaxKind::TOKEN_R_BRACE) => Action::Take(after),
-        Some(SyntaxKind::TOKEN_ELLIPSIS) => {
-            Action::Take(of_pattern(bound, BOUND_PATTERN_CLOSE, PATTERN_CLOSE))
-        }
-        Some(SyntaxKind::TOKEN_IDENT) => {
-            Action::Entry(of_pattern(bound, BOUND_AFTER_FORMAL, AFTER_FORMAL))
-        }
-        Some(_) => Action::Run(
-            Until::Entry,
-            of_pattern(bound, BOUND_AFTER_COMMA, AFTER_COMMA),
-        ),
-    }
-}
-
-fn first_formals_action(bound: bool, after: u8, next: Option<SyntaxKind>) -> Action
-    ensures { result ≡ first_formals_action bound after next }
-{
-    match next {
-        None => Action::Miss(after),
-        _ => formals_action(bound, after, next),
-    }
-}
-
-// `,`, or the end of the braces.
-fn comma_action(bound: bool, after: u8, next: Option<SyntaxKind>) -> Action
-    ensures { result ≡ comma_action bound after next }
-{
-    let again = of_pattern(bound, BOUND_PATTERN_CLOSE, PATTERN_CLOSE);
-    match next {
-        None => wanted_action(SyntaxKind::TOKEN_R_BRACE, again, after, next),
-        Some(kind) => {
-            if kind == SyntaxKind::TOKEN_COMMA {
-                Action::Take(of_pattern(bound, BOUND_AFTER_COMMA, AFTER_COMMA))
-            } else {
-                wanted_action(SyntaxKind::TOKEN_R_BRACE, again, after, next)
-            }
-        }
-    }
-}
-
-// The end of the row, or a child of the kind.
-fn end_or_action(kind: SyntaxKind, after: u8, next: Option<SyntaxKind>) -> Action
-    ensures { result ≡ end_or_action kind after next }
-{
-    match (kind, next) {
-        (SyntaxKind::TOKEN_OR, Some(SyntaxKind::TOKEN_OR)) => Action::Take(after),
-        (SyntaxKind::TOKEN_QUESTION, Some(SyntaxKind::TOKEN_QUESTION)) => Action::Take(after),
-        (SyntaxKind::TOKEN_QUESTION, _) => Action::CloseEntry,
-        (SyntaxKind::NODE_INTERPOL, Some(SyntaxKind::TOKEN_INTERPOL_START)) => {
-            Action::Open(SyntaxKind::NODE_INTERPOL, INTERPOL, after)
-        }
-        (SyntaxKind::NODE_PAT_BIND, Some(SyntaxKind::TOKEN_AT)) => {
-            Action::Open(SyntaxKind::NODE_PAT_BIND, PAT_BIND, after)
-        }
-        (SyntaxKind::NODE_PAT_BIND, _) => Action::ClosePattern,
-        _ => Action::Close,
-    }
-}
-
-// The end of a pattern that has a name before it.
-fn bound_action(after: u8, next: Option<SyntaxKind>) -> Action
-    ensures { result ≡ bound_action after next }
-{
-    match next {
-        Some(SyntaxKind::TOKEN_AT) => Action::Twice(after),
-        _ => Action::ClosePattern,
     }
 }
 
@@ -325,7 +223,98 @@ fn more_attrs_action(next: Option<SyntaxKind>) -> Action
     ensures { result ≡ more_attrs_action next }
 {
     match next {
-        Some(SyntaxKind::TOKEN_DOT) => Action::Take(ATTRPATH),
+        Some(SyntaxKind::TOKEN_DOT) => Action::Take(Place::AttrpathStart),
+        _ => Action::Close,
+    }
+}
+
+fn name_action(place: Place, behind: Place, next: Option<SyntaxKind>) -> Action
+    ensures { result ≡ name_action place behind next }
+{
+    match next {
+        None => Action::MissWanted(Until::Ident, behind),
+        Some(SyntaxKind::TOKEN_IDENT) => Action::Leaf(SyntaxKind::NODE_IDENT, behind),
+        Some(_) => Action::Run(Until::Ident, place),
+    }
+}
+
+fn formals_action(bound: bool, next: Option<SyntaxKind>) -> Action
+    ensures { result ≡ formals_action bound next }
+{
+    match next {
+        None => Action::MissWanted(Until::Entry, Place::PatternEnd(bound)),
+        Some(SyntaxKind::TOKEN_R_BRACE) => Action::Take(Place::PatternEnd(bound)),
+        Some(SyntaxKind::TOKEN_ELLIPSIS) => Action::Take(Place::PatternClose(bound)),
+        Some(SyntaxKind::TOKEN_IDENT) => Action::Entry(Place::PatternAfter(bound)),
+        Some(_) => Action::Run(Until::Entry, Place::PatternInside(bound)),
+    }
+}
+
+fn braces_action(bound: bool, next: Option<SyntaxKind>) -> Action
+    ensures { result ≡ braces_action bound next }
+{
+    match next {
+        None => Action::Miss(Place::PatternEnd(bound)),
+        _ => formals_action(bound, next),
+    }
+}
+
+fn is_comma(kind: SyntaxKind) -> bool
+    ensures { result ≡ is_comma kind }
+{
+    matches!(kind, SyntaxKind::TOKEN_COMMA)
+}
+
+// `,`, or the end of the braces.
+fn comma_action(bound: bool, next: Option<SyntaxKind>) -> Action
+    ensures { result ≡ comma_action bound next }
+{
+    let (again, behind) = (Place::PatternClose(bound), Place::PatternEnd(bound));
+    match next {
+        None => token_action(Until::RBrace, again, behind, next),
+        Some(kind) => {
+            if is_comma(kind) {
+                Action::Take(Place::PatternInside(bound))
+            } else {
+                token_action(Until::RBrace, again, behind, next)
+            }
+        }
+    }
+}
+
+fn bind_action(bound: bool, next: Option<SyntaxKind>) -> Action
+    ensures { result ≡ bind_action bound next }
+{
+    match next {
+        Some(SyntaxKind::TOKEN_AT) => {
+            if bound {
+                Action::Twice(Place::PatternPast)
+            } else {
+                Action::Open(
+                    SyntaxKind::NODE_PAT_BIND,
+                    Place::BindName,
+                    Place::PatternPast,
+                )
+            }
+        }
+        _ => Action::ClosePattern,
+    }
+}
+
+fn default_action(next: Option<SyntaxKind>) -> Action
+    ensures { result ≡ default_action next }
+{
+    match next {
+        Some(SyntaxKind::TOKEN_QUESTION) => Action::Take(Place::EntryDefault),
+        _ => Action::CloseEntry,
+    }
+}
+
+fn or_action(next: Option<SyntaxKind>) -> Action
+    ensures { result ≡ or_action next }
+{
+    match next {
+        Some(SyntaxKind::TOKEN_OR) => Action::Take(Place::SelectDefault),
         _ => Action::Close,
     }
 }
@@ -339,176 +328,37 @@ fn end_action(next: Option<SyntaxKind>) -> Action
     }
 }
 
-// A child that is there whenever its node is; no open node is before one.
-fn child_action(after: u8, next: Option<SyntaxKind>) -> Action
-    ensures { result ≡ child_action after next }
-{
-    match next {
-        None => Action::Miss(after),
-        Some(_) => Action::Take(after),
-    }
-}
-
-// The end of a row of the kind.
-fn close_action(kind: SyntaxKind) -> Action
-    ensures { result ≡ close_action kind }
-{
-    match kind {
-        SyntaxKind::NODE_PAT_ENTRY => Action::CloseEntry,
-        SyntaxKind::NODE_PATTERN => Action::ClosePattern,
-        SyntaxKind::NODE_ERROR => Action::CloseTwice,
-        _ => Action::Close,
-    }
-}
-
-// What is done where a part of a row comes next.
-#[inline(always)]
-fn part_action(part: Part, left: u8, next: Option<SyntaxKind>, touches: bool) -> Action
-    requires { left < 255 }
-    ensures { result ≡ part_action part left next touches }
-{
-    let after = left + 1;
-    match part {
-        Part::Operand(level, counted) => Action::Read(level, counted, after),
-        Part::Wanted(kind) => wanted_action(kind, left, after, next),
-        Part::Many(level, closer) => many_action(level, closer, left, after, next),
-        Part::Entries(closer) => entries_action(closer, left, after, next),
-        Part::Attr => attr_action(left, after, next),
-        Part::Attrpath => Action::Begin(SyntaxKind::NODE_ATTRPATH, ATTRPATH, after),
-        Part::MoreAttrs => more_attrs_action(next),
-        Part::Names => names_action(left, after, next),
-        Part::Optional(_) => source_action(after, next),
-        Part::Pieces => pieces_action(left, after, next),
-        Part::PathPieces => path_pieces_action(left, touches, next),
-        Part::Formals => first_formals_action(left != PATTERN, after, next),
-        Part::FormalsAfterComma => formals_action(left != AFTER_COMMA, after, next),
-        Part::Comma => comma_action(left != AFTER_FORMAL, after, next),
-        Part::EndOr(kind) => end_or_action(kind, after, next),
-        Part::BoundAlready => bound_action(after, next),
-        Part::TextEnd => end_action(next),
-        _ => child_action(after, next),
-    }
-}
-
-// What is done with a token that continues an operand.
-fn follow(kind: SyntaxKind) -> Action
-    ensures { result ≡ follow kind }
-{
-    match kind {
-        SyntaxKind::TOKEN_DOT => Action::Wrap(
-            SyntaxKind::NODE_SELECT,
-            Place::Left(SELECT),
-            APPLICATION_LEVEL,
-        ),
-        SyntaxKind::TOKEN_OR => Action::ApplyOr,
-        SyntaxKind::TOKEN_QUESTION => {
-            Action::Wrap(
-                SyntaxKind::NODE_HAS_ATTR,
-                Place::Left(HAS_ATTR),
-                HAS_ATTR_LEVEL,
-            )
-        }
-        _ => {
-            if kind.is_fn_arg() {
-                Action::Apply
-            } else {
-                Action::Wrap(
-                    SyntaxKind::NODE_BIN_OP,
-                    Place::Right(right_of(kind)),
-                    high_of(kind),
-                )
-            }
-        }
-    }
-}
-
-/// Whether a token goes on with an operand, which operators of the levels from the first to the second continue.
-#[inline(always)]
-pub fn goes_on(low: u8, high: u8, kind: SyntaxKind) -> bool
-    ensures { result ≡ goes_on low high kind }
-{
-    let level = binding_power(kind);
-    level != NO_LEVEL && low <= level && level <= high
-}
-
-// What is done after an operand, which operators of the levels from the first to the second continue.
-fn more_action(low: u8, high: u8, next: Option<SyntaxKind>) -> Action
-    ensures { result ≡ more_action low high next }
-{
-    match next {
-        None => Action::Settle,
-        Some(kind) => {
-            if goes_on(low, high, kind) {
-                follow(kind)
-            } else {
-                Action::Settle
-            }
-        }
-    }
-}
-
-// What is at an index of the table.
-#[inline(always)]
-fn slot_at(left: u8) -> Option<Slot>
-    ensures slot { result ≡ slot_at left }
-    ensures within { IfSome result (λ slot. left < 255) }
-{
-    let at = usize::from(left);
-    if at < SLOTS.len() {
-        return Some(SLOTS[at]);
-    }
-    None
-}
-
-// What is done at a position of a row.
-#[inline(always)]
-fn left_action(left: u8, next: Option<SyntaxKind>, touches: bool) -> Action
-    ensures { result ≡ left_action left next touches }
-{
-    match slot_at(left) {
-        Some(Slot::Next(part)) => part_action(part, left, next, touches),
-        Some(Slot::End(kind)) => close_action(kind),
-        None => Action::Close,
-    }
-}
-
-// Whether nothing but the end of the node is to be done at the end of a row of the kind.
-#[inline(always)]
-fn is_plain_end(kind: SyntaxKind) -> bool
-    ensures { result ≡ is_plain_end kind }
-{
-    !matches!(
-        kind,
-        SyntaxKind::NODE_PAT_ENTRY | SyntaxKind::NODE_PATTERN | SyntaxKind::NODE_ERROR
-    )
-}
-
-/// Whether a row is complete at the place, and nothing but the end of its node is to be done.
-#[inline(always)]
-pub fn is_past(place: Place) -> bool
-    ensures { result ≡ is_past place }
-{
-    match place {
-        Place::Left(left) => {
-            match slot_at(left) {
-                Some(Slot::End(kind)) => is_plain_end(kind),
-                Some(Slot::Next(_)) => false,
-                None => false,
-            }
-        }
-        Place::Behind(_, _) => false,
-        Place::Right(_) => false,
-    }
-}
-
 /// What the reader does at a place, by the next token that is not trivia, and by whether it touches the one before.
-#[inline(always)]
 pub fn action_at(place: Place, next: Option<SyntaxKind>, touches: bool) -> Action
     ensures { result ≡ action_at place next touches }
 {
-    match place {
-        Place::Left(left) => left_action(left, next, touches),
-        Place::Behind(low, high) => more_action(low, high, next),
-        Place::Right(level) => Action::Read(level, false, OPERATED),
+    match symbol_at(place) {
+        Symbol::Done => Action::Close,
+        Symbol::EntryDone => Action::CloseEntry,
+        Symbol::PatternDone => Action::ClosePattern,
+        Symbol::TwiceDone => Action::CloseTwice,
+        Symbol::End => end_action(next),
+        Symbol::Token(until, behind) => token_action(until, place, behind, next),
+        Symbol::Operand(level, counted, behind) => Action::Read(level, counted, behind),
+        Symbol::Series(level, closer) => series_action(level, closer, place, next),
+        Symbol::Entries(closer, behind) => entries_action(closer, place, behind, next),
+        Symbol::Pieces => pieces_action(place, next),
+        Symbol::FirstPiece => first_piece_action(next),
+        Symbol::MorePieces => more_pieces_action(touches, next),
+        Symbol::Source => source_action(next),
+        Symbol::Names => names_action(next),
+        Symbol::Attr(behind) => attr_action(place, behind, next),
+        Symbol::MoreAttrs => more_attrs_action(next),
+        Symbol::Attrpath(behind) => {
+            Action::Begin(SyntaxKind::NODE_ATTRPATH, Place::AttrpathStart, behind)
+        }
+        Symbol::Name(behind) => name_action(place, behind, next),
+        Symbol::Braces(bound) => braces_action(bound, next),
+        Symbol::Formals(bound) => formals_action(bound, next),
+        Symbol::Comma(bound) => comma_action(bound, next),
+        Symbol::Bind(bound) => bind_action(bound, next),
+        Symbol::Default => default_action(next),
+        Symbol::Or => or_action(next),
+        Symbol::More(low, high) => more_action(low, high, next),
     }
 }

@@ -5,7 +5,7 @@ ghost use Rattle.rnix_grammar.specs.Tables.{is_cur_pos};
 ghost use Rattle.rnix_grammar.specs.Begins.{is_pattern, begin_name, begin_let, begin_keyword, begin_scope, begin_prefix, begin_of};
 
 use crate::level::{EXPRESSION_LEVEL, INVERSION_LEVEL, NEGATION_LEVEL, NO_LEVEL, SELECTION_LEVEL};
-use crate::position::{ASSERT, IF_ELSE, INVERSION, LET_IN, LIST, NEGATION, PAREN, PATH_ABS, PATH_HOME, PATH_REL, REC_SET, SET, STRING, WITH};
+use crate::place::Place;
 use rnix_kinds::{SyntaxKind, Token};
 
 /// How an operand begins.
@@ -13,8 +13,8 @@ use rnix_kinds::{SyntaxKind, Token};
 pub enum Begin {
     /// A node over one token.
     Leaf(SyntaxKind),
-    /// A node that begins with a token; the position after the token, and the tightest level of an operator that may follow the node.
-    Node(SyntaxKind, u8, u8),
+    /// A node that begins with a token; the place after the token, and the tightest level of an operator that may follow the node.
+    Node(SyntaxKind, Place, u8),
     /// `let {`
     LegacyLet,
     /// `name:`
@@ -78,7 +78,7 @@ fn begin_let(second: Option<SyntaxKind>) -> Begin
 {
     match second {
         Some(SyntaxKind::TOKEN_L_BRACE) => Begin::LegacyLet,
-        _ => Begin::Node(SyntaxKind::NODE_LET_IN, LET_IN, NO_LEVEL),
+        _ => Begin::Node(SyntaxKind::NODE_LET_IN, Place::LetInside, NO_LEVEL),
     }
 }
 
@@ -89,13 +89,13 @@ fn begin_keyword(kind: SyntaxKind, second: Option<SyntaxKind>) -> Begin
 {
     match kind {
         SyntaxKind::TOKEN_LET => begin_let(second),
-        SyntaxKind::TOKEN_WITH => Begin::Node(SyntaxKind::NODE_WITH, WITH, NO_LEVEL),
+        SyntaxKind::TOKEN_WITH => Begin::Node(SyntaxKind::NODE_WITH, Place::WithScope, NO_LEVEL),
         SyntaxKind::TOKEN_ASSERT => Begin::Node(
             SyntaxKind::NODE_ASSERT,
-            ASSERT,
+            Place::AssertCondition,
             NO_LEVEL,
         ),
-        SyntaxKind::TOKEN_IF => Begin::Node(SyntaxKind::NODE_IF_ELSE, IF_ELSE, NO_LEVEL),
+        SyntaxKind::TOKEN_IF => Begin::Node(SyntaxKind::NODE_IF_ELSE, Place::IfCondition, NO_LEVEL),
         _ => Begin::Stray,
     }
 }
@@ -122,7 +122,7 @@ fn begin_prefix(level: u8, kind: SyntaxKind) -> Begin
             if level <= INVERSION_LEVEL {
                 Begin::Node(
                     SyntaxKind::NODE_UNARY_OP,
-                    INVERSION,
+                    Place::Inverted,
                     INVERSION_LEVEL - 1,
                 )
             } else {
@@ -133,7 +133,7 @@ fn begin_prefix(level: u8, kind: SyntaxKind) -> Begin
             if level <= NEGATION_LEVEL {
                 Begin::Node(
                     SyntaxKind::NODE_UNARY_OP,
-                    NEGATION,
+                    Place::Negated,
                     NEGATION_LEVEL - 1,
                 )
             } else {
@@ -158,39 +158,39 @@ pub fn begin_of(
     match kind {
         SyntaxKind::TOKEN_L_PAREN => Begin::Node(
             SyntaxKind::NODE_PAREN,
-            PAREN,
+            Place::ParenInside,
             SELECTION_LEVEL,
         ),
         SyntaxKind::TOKEN_L_BRACK => Begin::Node(
             SyntaxKind::NODE_LIST,
-            LIST,
+            Place::ListInside,
             SELECTION_LEVEL,
         ),
         SyntaxKind::TOKEN_REC => Begin::Node(
             SyntaxKind::NODE_ATTR_SET,
-            REC_SET,
+            Place::SetBrace,
             SELECTION_LEVEL,
         ),
         SyntaxKind::TOKEN_STRING_START => {
             Begin::Node(
                 SyntaxKind::NODE_STRING,
-                STRING,
+                Place::StringInside,
                 SELECTION_LEVEL,
             )
         }
         SyntaxKind::TOKEN_PATH_ABS => Begin::Node(
             SyntaxKind::NODE_PATH_ABS,
-            PATH_ABS,
+            Place::PathFirst,
             SELECTION_LEVEL,
         ),
         SyntaxKind::TOKEN_PATH_REL => Begin::Node(
             SyntaxKind::NODE_PATH_REL,
-            PATH_REL,
+            Place::PathFirst,
             SELECTION_LEVEL,
         ),
         SyntaxKind::TOKEN_PATH_HOME => Begin::Node(
             SyntaxKind::NODE_PATH_HOME,
-            PATH_HOME,
+            Place::PathFirst,
             SELECTION_LEVEL,
         ),
         SyntaxKind::TOKEN_PATH_SEARCH => Begin::Leaf(SyntaxKind::NODE_PATH_SEARCH),
@@ -203,7 +203,7 @@ pub fn begin_of(
             if is_pattern(second, third) {
                 Begin::PatternLambda
             } else {
-                Begin::Node(SyntaxKind::NODE_ATTR_SET, SET, SELECTION_LEVEL)
+                Begin::Node(SyntaxKind::NODE_ATTR_SET, Place::SetInside, SELECTION_LEVEL)
             }
         }
         SyntaxKind::TOKEN_INVERT | SyntaxKind::TOKEN_SUB => begin_prefix(level, kind),

@@ -1,12 +1,9 @@
 -- Some kinds complete each row, from each of its places.
 use Rattle.std.proofs.Common.{◌≡◌, Bool, true, false, List, [], ◌∷◌, Some, refl, ap, ℕ, zero, suc, if◌then◌else◌}
 use Rattle.rnix_kinds.{specs.declared.kinds.SyntaxKind.{SyntaxKind, TheVariants.{NODE_LITERAL, TOKEN_STRING_END}}, proofs.AllKinds.all_kinds}
-use Rattle.rnix_grammar.specs.RowPlaces.{Place}
-use Rattle.rnix_grammar.specs.declared.until.Until.{Until}
-use Rattle.rnix_grammar.specs.Fault.{Fault}
-use Rattle.rnix_grammar.specs.Rows.{RowState, At, to, advance, live, whole, run}
+use Rattle.rnix_grammar.specs.{declared.{place.Place.Place, until.Until.Until}, Fault.Fault, Rows.{RowState, At, to, advance, live, whole, run}}
 use Rattle.{rnix_grammar.specs.Missing.{missing, run_at}, rnix_lemmas.proofs.{LevelLemmas.simple_fits, Basics.true_is_not_false}}
-use Rattle.rnix_grammar.specs.RowPlaces as p
+use Rattle.rnix_grammar.specs.declared.place.Place.TheVariants as p
 
 -- some kinds complete a row
 abbrev pub IsCompletable : RowState → Type 0

@@ -1,19 +1,11 @@
 -- How a repaired row comes as far as the row that is read: a run of unwanted tokens may leave the row at another place, where the same goes on.
-use Rattle.std.proofs.Common.{◌≡◌, ℕ, Bool, true, false, List, [], ◌∷◌, Option, Some, None, refl, ap, sym, ◌∙◌, subst, if◌then◌else◌, nat_eq, nat_le}
-use Rattle.rnix_kinds.specs.declared.kinds.SyntaxKind.{SyntaxKind, TheVariants.{TOKEN_R_BRACE, NODE_IDENT, NODE_LITERAL, NODE_LAMBDA, NODE_PATTERN, NODE_ROOT}}
-use Rattle.rnix_grammar.specs.RowPlaces.{Place}
-use Rattle.rnix_grammar.specs.RowSymbols.{Symbol}
-use Rattle.rnix_green.specs.Forest.{Forest}
-use Rattle.rnix_grammar.specs.declared.until.Until.{Until}
-use Rattle.rnix_grammar.specs.Tables.{is_wanted}
-use Rattle.rnix_grammar.specs.{Symbols.symbol_at, AnnotatedForest.{Token, Note, Stray, Unwanted, Extra, Twice, TooDeep}, Rows.{fits, is_attr}}
-use Rattle.rnix_grammar.specs.Rows.{RowState, Start, At, Nowhere, to, first, advance_source, advance_names, advance_comma, advance_symbol, advance, whole, live}
+use Rattle.std.proofs.Common.{◌≡◌, ℕ, Bool, true, false, List, [], ◌∷◌, Option, Some, None, refl, ap, sym, ◌∙◌, subst}
+use Rattle.rnix_kinds.specs.declared.kinds.SyntaxKind.{SyntaxKind, TheVariants.{NODE_LITERAL, NODE_LAMBDA, NODE_PATTERN, NODE_ROOT}}
+use Rattle.{rnix_kinds.proofs.AllKinds.all_kinds, rnix_green.specs.Forest.Forest, rnix_grammar.specs.declared.{place.Place.Place, until.Until.Until}}
+use Rattle.rnix_grammar.specs.{AnnotatedForest.{Token, Note, Stray, Unwanted, Extra, Twice, TooDeep}, Rows.{RowState, Start, At, Nowhere, to, first, fits, advance, whole, live}}
 use Rattle.{rnix_grammar.specs.{Rows.{start, run}, PlaceReads.IsWrong, Repaired.{patch, kinds_of}, Missing.run_at}, rnix_lemmas.proofs.Completable.IsCompletable}
-use Rattle.rnix_lemmas.proofs.{Completable.{completed_at, run_inside}, Owing.owing, RowKinds.{has_row, no_wanted, no_closing}, Basics.true_is_not_false}
-use Rattle.rnix_lemmas.proofs.Basics.{no_way}
-use Rattle.rnix_grammar.specs.RowPlaces as p
-use Rattle.rnix_grammar.specs.declared.until.Until.TheVariants as u
-use Rattle.rnix_grammar.specs.RowSymbols as s
+use Rattle.rnix_lemmas.proofs.{Completable.{completed_at, run_inside}, Owing.owing, NodeKinds.fits_expression, Basics.{true_is_not_false, Where, where_one}, EachKind.{Each, each_kind}}
+use Rattle.rnix_grammar.specs.declared.place.Place.TheVariants as p
 
 -- where the second state goes on the first goes on as well, and they end together
 pub record Imitates (q0 q : RowState) : Type 0 where
@@ -34,36 +26,23 @@ pub imitates_both : {q0 q r : RowState} → Imitates q0 q → Imitates q r → I
 imitates_both m n =
     record { goes = λ k l. m.goes k (ap live (n.goes k l) ∙ l) ∙ n.goes k l; ends = m.ends ∙ n.ends; owes = λ o. m.owes (n.owes o) }
 
--- behind a run of unwanted tokens
-pub source_attr : (k : SyntaxKind) → live (to (is_attr k) (At p.InheritNames)) ≡ true → advance_source k ≡ to (is_attr k) (At p.InheritNames)
-source_attr NODE_IDENT l = refl
-source_attr _ l = cc
-
--- and where more names are inherited
-pub names_attr : (k : SyntaxKind) → live (to (is_attr k) (At p.InheritNames)) ≡ true → advance_names k ≡ to (is_attr k) (At p.InheritNames)
-names_attr NODE_IDENT l = refl
-names_attr _ l = cc
-
--- and behind an entry of a pattern
-pub comma_brace : (bound : Bool) (k : SyntaxKind) → live (to (is_wanted u.RBrace k) (At (p.PatternEnd bound))) ≡ true → advance_comma bound k ≡ to (is_wanted u.RBrace k) (At (p.PatternEnd bound))
-comma_brace bound TOKEN_R_BRACE l = refl
-comma_brace bound _ l = absurd (true_is_not_false (sym l))
-
 -- where a run stands at a place the same goes on as behind it
 abbrev ImitatesRun : Place → Option (Until × Place) → Type 0
 ImitatesRun x None = Unit {0}
-ImitatesRun x (Some w) = Imitates (At x) (At w.1)
+ImitatesRun x (Some w) = Each (λ k. Where (live (advance (At w.1) k)) (advance (At x) k ≡ advance (At w.1) k)) all_kinds × (whole (At x) ≡ whole (At w.1)) × Where (owing (At w.1)) (owing (At x) ≡ true)
 
 imitated : (x : Place) → ImitatesRun x (run_at x)
-imitated p.InheritStart = record { goes = source_attr; ends = refl; owes = λ o. refl }
-imitated p.InheritNames = record { goes = names_attr; ends = refl; owes = λ o. refl }
-imitated (p.PatternStart bound) = record { goes = λ k l. refl; ends = refl; owes = λ o. refl }
-imitated (p.PatternAfter bound) = record { goes = comma_brace bound; ends = refl; owes = λ o. refl }
-imitated x = assumption (imitates_self (At x))
+imitated p.InheritStart = assumption
+imitated _ = assumption
 
--- so it is where one stands
 pub run_imitates : (x y : Place) (until : Until) → run_at x ≡ Some (until, y) → Imitates (At x) (At y)
-run_imitates x y until h = subst (ImitatesRun x) h (imitated x)
+run_imitates x y until h =
+    let w : ImitatesRun x (Some (until, y)) = subst (ImitatesRun x) h (imitated x) in
+    record {
+      goes = λ k l. where_one (live (advance (At y) k)) l (each_kind (λ k. Where (live (advance (At y) k)) (advance (At x) k ≡ advance (At y) k)) w.0 k);
+      ends = w.1;
+      owes = λ o. where_one (owing (At y)) o w.2;
+    }
 
 -- behind a second name
 pub second_imitates : Imitates (At (p.PatternEnd true)) (At p.PatternPast)
@@ -121,23 +100,16 @@ wrong_completable Extra d q r ts vs w m = subst IsCompletable w.3 m
 wrong_completable Twice d q r ts vs w m = absurd w
 wrong_completable TooDeep d q r ts vs w m = (NODE_LITERAL ∷ m.0, ap (λ x. whole (run x m.0)) w.3 ∙ m.1)
 
--- what is no operand fits no level
-unfit_by : (n : ℕ) → (if nat_eq n 0 then false else (if nat_le n 12 then false else (if nat_eq n 13 then false else (if nat_eq n 14 then false else false)))) ≡ false
-unfit_by n =
-    no_way (nat_eq n 0) false (if nat_le n 12 then false else (if nat_eq n 13 then false else (if nat_eq n 14 then false else false))) refl
-    (no_way (nat_le n 12) false (if nat_eq n 13 then false else (if nat_eq n 14 then false else false)) refl
-    (no_way (nat_eq n 13) false (if nat_eq n 14 then false else false) refl (no_way (nat_eq n 14) false false refl refl)))
-
 -- a pattern stands in a lambda alone
-pattern_symbol : (symbol : Symbol) (x : Place) → live (advance_symbol symbol x NODE_PATTERN) ≡ false
-pattern_symbol (s.Token until y) x = ap (λ z. live (to z (At y))) (no_wanted until NODE_PATTERN refl)
-pattern_symbol (s.Operand level counted y) x = ap (λ z. live (to z (At y))) (unfit_by level)
-pattern_symbol (s.Series level closer) x =
-    ap (λ z. live (if z then At p.Past else to (fits level NODE_PATTERN) (At x))) (no_closing closer NODE_PATTERN refl) ∙ ap (λ z. live (to z (At x))) (unfit_by level)
-pattern_symbol (s.Entries closer y) x = ap (λ z. live (if z then At y else Nowhere)) (no_closing closer NODE_PATTERN refl)
-pattern_symbol (s.Bind true) x = refl
-pattern_symbol (s.Bind false) x = refl
-pattern_symbol _ x = refl
+no_pattern : (x : Place) → live (advance (At x) NODE_PATTERN) ≡ false
+no_pattern (p.Right n) = by (fits n NODE_PATTERN) refl
+  where
+    by : (w : Bool) → fits n NODE_PATTERN ≡ w → live (to w (At (p.Operated n))) ≡ false
+    by true e = absurd (true_is_not_false (sym (fits_expression n NODE_PATTERN e)))
+    by false e = refl
+no_pattern (p.PatternEnd true) = refl
+no_pattern (p.PatternEnd false) = refl
+no_pattern _ = refl
 
 -- where a pattern comes first
 first_pattern_node : (node : SyntaxKind) → live (first node NODE_PATTERN) ≡ true → first node NODE_PATTERN ≡ At p.LambdaColon
@@ -147,15 +119,10 @@ first_pattern_node _ h = absurd (true_is_not_false (sym h))
 -- so a colon is wanted behind it
 pub pattern_goes : (q : RowState) → live (advance q NODE_PATTERN) ≡ true → advance q NODE_PATTERN ≡ At p.LambdaColon
 pattern_goes (Start node) h = first_pattern_node node h
-pattern_goes (At x) h = absurd (true_is_not_false (sym h ∙ pattern_symbol (symbol_at x) x))
+pattern_goes (At x) h = absurd (true_is_not_false (sym h ∙ no_pattern x))
 pattern_goes _ h = cc
 
 -- no row is whole where it begins
 pub start_half : (k : SyntaxKind) → whole (start k) ≡ false
 start_half NODE_ROOT = refl
 start_half _ = cc
-
--- a row that begins at a place is one of three
-pub start_place : (k : SyntaxKind) (x : Place) → At x ≡ start k → has_row k ≡ true
-start_place NODE_ROOT x e = refl
-start_place _ x e = cc

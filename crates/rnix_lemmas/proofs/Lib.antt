@@ -1,4 +1,3 @@
-pub mod RowEndings
 pub mod EntryNames
 pub mod EveryKind
 pub mod StrictParts
@@ -16,16 +15,13 @@ pub mod WithoutTriviaLemmas
 pub mod AllowedLemmas
 pub mod PlaceLemmas
 pub mod EachKind
-pub mod EachIndex
 pub mod EdgeLemmas
 pub mod ReportLemmas
 pub mod MissingFacts
 pub mod Completable
 pub mod Owing
-pub mod RowEnds
 pub mod RowKinds
 pub mod ImitateLemmas
-pub mod RowStateCases
 pub mod OpeningRows
 pub mod SpelledLemmas
 pub mod PlainTables

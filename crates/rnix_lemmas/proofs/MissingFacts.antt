@@ -1,15 +1,10 @@
 -- What is reported as missing at each place.
 use Rattle.std.proofs.Common.{◌≡◌, Bool, true, false, Option, Some, None, refl, ap, sym, ◌∙◌, subst}
-use Rattle.rnix_grammar.specs.RowPlaces.{Place}
-use Rattle.rnix_grammar.specs.RowSymbols.{Symbol}
-use Rattle.rnix_grammar.specs.declared.until.Until.{Until}
-use Rattle.rnix_grammar.specs.Symbols.{symbol_at}
-use Rattle.rnix_grammar.specs.Fault.{Fault}
-use Rattle.rnix_grammar.specs.Repaired.{is_ended}
+use Rattle.rnix_grammar.specs.{declared.{place.Place.Place, until.Until.Until, symbol.Symbol.Symbol}, Symbols.symbol_at, Fault.Fault, Repaired.is_ended}
 use Rattle.{rnix_grammar.specs.{Repaired.IsNamedList, Missing.{missing_in, missing}}, rnix_lemmas.proofs.Basics.true_is_not_false}
-use Rattle.rnix_grammar.specs.RowPlaces as p
+use Rattle.rnix_grammar.specs.declared.place.Place.TheVariants as p
 use Rattle.rnix_grammar.specs.declared.until.Until.TheVariants as u
-use Rattle.rnix_grammar.specs.RowSymbols as s
+use Rattle.rnix_grammar.specs.declared.symbol.Symbol.TheVariants as s
 
 -- an error of the end of the text, with a list of wanted kinds if any
 abbrev pub IsMissing : Option (Fault × Place) → Type 0

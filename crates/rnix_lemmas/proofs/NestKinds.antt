@@ -5,7 +5,7 @@ use Rattle.rnix_kinds.{specs.declared.kinds.SyntaxKind.{SyntaxKind, TheVariants.
 use Rattle.{rnix_green.specs.Equality.same_kind-decides, rnix_grammar.specs.Rows.{RowState, Start, At, first, advance, is_expression, live, counts}}
 use Rattle.{rnix_grammar.specs.Nest.{is_flat, nests}, rnix_lemmas.proofs.{Basics.{true_is_not_false, not_if, choice}, EveryKind.whenever_two, RowKinds.has_row}}
 use Rattle.rnix_lemmas.proofs.NestPlaces.{is_expected, owner, IsExpected}
-use Rattle.rnix_grammar.specs.RowPlaces as p
+use Rattle.rnix_grammar.specs.declared.place.Place.TheVariants as p
 
 -- a state where the row of an entry of a pattern begins
 abbrev pub is_formal_start : RowState → Bool

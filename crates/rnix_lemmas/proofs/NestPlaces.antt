@@ -1,15 +1,11 @@
 -- Which states are in the rows of which kinds.
-use Rattle.std.{specs.List.list_all, proofs.Common.{◌≡◌, Bool, true, Option, Some, None, refl, subst}}
+use Rattle.std.{specs.List.list_all, proofs.Common.{◌≡◌, Bool, true, false, Option, Some, None, refl, subst}}
 use Rattle.rnix_kinds.specs.declared.kinds.SyntaxKind.{SyntaxKind, TheVariants.{NODE_APPLY, NODE_BIN_OP, NODE_ERROR, NODE_HAS_ATTR, NODE_LEGACY_LET}}
 use Rattle.rnix_kinds.{specs.declared.kinds.SyntaxKind.TheVariants.{NODE_PAT_BIND, NODE_SELECT}, proofs.AllKinds.{all_kinds, every}}
-use Rattle.rnix_grammar.specs.RowPlaces.{Place}
-use Rattle.rnix_green.specs.Equality.{same_kind, same_kind-decides}
-use Rattle.rnix_grammar.specs.Levels.{right_of}
-use Rattle.rnix_grammar.specs.Symbols.{symbol_at}
+use Rattle.{rnix_green.specs.Equality.{same_kind, same_kind-decides}, rnix_grammar.specs.Levels.right_of}
 use Rattle.rnix_grammar.specs.Rows.{RowState, Start, BeforeOperator, BeforeDot, BeforeQuestion, BeforeArgument, BeforeAt, BeforeBrace, SecondStart, At, Nowhere}
-use Rattle.{rnix_grammar.specs.Rows.{first, advance, is_infix, start}, rnix_lemmas.proofs.{EachKind.each_kind, Places.home, RowStateCases.{case_to, Leads}}}
-use Rattle.rnix_lemmas.proofs.RowStateCases.{case_leads}
-use Rattle.rnix_grammar.specs.RowPlaces as p
+use Rattle.{rnix_grammar.specs.Rows.{first, advance, fits, is_infix, start, to}, rnix_lemmas.proofs.{EachKind.each_kind, Places.home}}
+use Rattle.rnix_grammar.specs.declared.place.Place.TheVariants as p
 
 -- the kind of node in whose row a state is; some states are in those of many
 abbrev pub owner : RowState → Option SyntaxKind
@@ -37,16 +33,13 @@ IsExpected kind q = is_expected (owner q) kind ≡ true
 pub start_expected : (k : SyntaxKind) → IsExpected k (start k)
 start_expected = every (λ k. is_expected (owner (start k)) k) refl
 
--- each place leads to places of the same kind
-leads_expected : (k : SyntaxKind) (x : Place) → IsExpected k (At x) → Leads (IsExpected k) (symbol_at x)
-leads_expected k p.RootStart h = h
-leads_expected k _ h = assumption (h)
-
 -- a row stays one of its kind
 pub go_expected : (k : SyntaxKind) (q : RowState) (j : SyntaxKind) → IsExpected k q → IsExpected k (advance q j)
 go_expected k (Start node) j h =
     subst (λ (x : SyntaxKind). is_expected (owner (first node j)) x ≡ true) ((same_kind-decides node k).0 h)
     (every (λ j. is_expected (owner (first node j)) node) (every (λ node. list_all (λ j. is_expected (owner (first node j)) node) all_kinds) refl node) j)
-go_expected k (At x) j h = case_leads (IsExpected k) refl refl (symbol_at x) x j h (leads_expected k x h)
-go_expected k BeforeOperator j h = case_to (IsExpected k) refl (is_infix j) (At (p.Right (right_of j))) h
+go_expected k BeforeOperator j h = elim (is_infix j) as (λ w. IsExpected k (to w (At (p.Right (right_of j))))) [ true ↦ h | false ↦ refl ]
+go_expected k (At (p.Right n)) j h = elim (fits n j) as (λ w. IsExpected k (to w (At (p.Operated n)))) [ true ↦ refl | false ↦ refl ]
+go_expected k (At (p.PatternEnd true)) j h = each_kind (λ j. IsExpected k (advance (At (p.PatternEnd true)) j)) (assumption (h)) j
+go_expected k (At (p.PatternEnd false)) j h = each_kind (λ j. IsExpected k (advance (At (p.PatternEnd false)) j)) (assumption (h)) j
 go_expected k q j h = each_kind (λ j. IsExpected k (advance q j)) (assumption (h)) j

@@ -1,15 +1,7 @@
--- Which symbols are for no attribute path, and where a row goes on behind an error node.
-use Rattle.std.proofs.Common.{◌≡◌, ℕ, Bool, true, false, List, sym, ap, ◌∙◌}
-use Rattle.rnix_grammar.specs.RowSymbols.{Symbol}
-use Rattle.rnix_grammar.specs.AnnotatedForest.{Token, Note, Stray}
-use Rattle.rnix_grammar.specs.{AnnotatedForest.{Unwanted, Extra, Twice, TooDeep}, Rows.RowState, PlaceReads.IsWrong, BehindErrors.go_run}
-use Rattle.rnix_grammar.specs.BehindErrors.{go_unwanted, go_error}
-use Rattle.rnix_grammar.specs.RowSymbols as s
-
--- no attribute path is to be read here
-abbrev pub is_pathless : Symbol → Bool
-is_pathless (s.Attrpath behind) = false
-is_pathless symbol = true
+-- Where a row goes on behind an error node.
+use Rattle.std.proofs.Common.{◌≡◌, ℕ, List, sym, ap, ◌∙◌}
+use Rattle.rnix_grammar.specs.AnnotatedForest.{Token, Note, Stray, Unwanted, Extra, Twice, TooDeep}
+use Rattle.rnix_grammar.specs.{Rows.RowState, PlaceReads.IsWrong, BehindErrors.{go_run, go_unwanted, go_error}}
 
 -- an error node goes on where it stands
 pub wrong_goes : (note : Note) (d : ℕ) (q r : RowState) (ts vs : List Token) → IsWrong note d q r ts vs → go_error q note ≡ r

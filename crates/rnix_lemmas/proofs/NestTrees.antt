@@ -7,7 +7,7 @@ use Rattle.rnix_grammar.specs.{Rows.{whole, start, run, is_row, counts}, Repaire
 use Rattle.{rnix_grammar.specs.Nest.nest, rnix_lemmas.proofs.{RowNesting.nesting, Basics.{true_is_not_false, choice}, EachKind.each_kind, EveryKind.only}}
 use Rattle.rnix_lemmas.proofs.{EveryKind.never, ImitateLemmas.run_live, RowKinds.{has_row, starts_row}, StrictParts.parts, NestPlaces.IsExpected}
 use Rattle.rnix_lemmas.proofs.{NestPlaces.{start_expected, go_expected}, NestKinds.{is_formal_start, counts_nests}, LaterRowStates.{is_start, go_later}}
-use Rattle.rnix_grammar.specs.RowPlaces as p
+use Rattle.rnix_grammar.specs.declared.place.Place.TheVariants as p
 
 -- each node in a row from a state on goes on with the row, and has a row of its kind
 abbrev pub Goes : RowState → Forest → Type 0
@@ -148,7 +148,8 @@ HaveRows empty = Unit {0}
 HaveRows (leaf k t f) = HaveRows f
 HaveRows (node k c f) = (is_row k (kinds_of c) ≡ true) × HaveRows c × HaveRows f
 
-whole_row : (k : SyntaxKind) (ks : List SyntaxKind) → is_row k ks ≡ true → has_row k ≡ true
+-- a kind with a row is one that has rows
+pub whole_row : (k : SyntaxKind) (ks : List SyntaxKind) → is_row k ks ≡ true → has_row k ≡ true
 whole_row k [] h = implied (λ k. whole (start k)) has_row refl k h
 whole_row k (j ∷ ks) h = starts_row k j (run_live (advance (start k) j) ks h)
 

@@ -3,9 +3,7 @@ use Rattle.std.{specs.List.list_all, proofs.Common.{◌≡◌, ℕ, ◌≤◌, B
 use Rattle.std.proofs.Common.{if◌then◌else◌}
 use Rattle.rnix_kinds.{specs.{declared.kinds.SyntaxKind.{SyntaxKind, TheVariants.{TOKEN_IDENT, TOKEN_OR, NODE_LITERAL}}, SyntaxKind.{is_fn_arg, is_token}}}
 use Rattle.rnix_kinds.proofs.AllKinds.{all_kinds, implied}
-use Rattle.rnix_grammar.specs.RowClosers.{Closer}
-use Rattle.rnix_grammar.specs.Fault.{Fault}
-use Rattle.rnix_grammar.specs.Tables.{closes}
+use Rattle.rnix_grammar.specs.{declared.{until.Closer.Closer}, Fault.Fault, Tables.closes}
 use Rattle.rnix_grammar.specs.AnnotatedForest.{Token, Note, Stray, Unwanted, Extra, Twice, TooDeep, AnnotatedForest, blank, token, branch, fault, ◌⊕◌}
 use Rattle.rnix_grammar.specs.AnnotatedForest.{one_branch, one_fault, leaf_kind, head_kind}
 use Rattle.rnix_grammar.specs.Rows.{RowState, Start, BeforeArgument, At, to, advance, first, live, start, whole, counts}
@@ -13,7 +11,7 @@ use Rattle.rnix_grammar.specs.PlaceReads.{Reads, IsWrong, deeper, end, leaf as l
 use Rattle.rnix_grammar.specs.{ExpectedItems.{IsExpected, stands_expected}, Operands.{follows, IsFollowed, IsOperand, level_at}, TokenKinds.is_or}
 use Rattle.rnix_grammar.specs.{TreeLevels.{is_or_row, row_level, is_atom_row}, Named.AreSpelled}
 use Rattle.rnix_lemmas.proofs.Basics.{true_is_not_false}
-use Rattle.rnix_grammar.specs.RowClosers as c
+use Rattle.rnix_grammar.specs.declared.until.Closer.TheVariants as c
 
 -- the tokens of the first of two rows
 pub spelled_first : (ts us : List Token) → AreSpelled (ts ++ us) → AreSpelled ts

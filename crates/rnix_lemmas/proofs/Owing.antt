@@ -1,16 +1,10 @@
 -- Rows that do not end without a token, and that no node pays it.
-use Rattle.std.proofs.Common.{◌≡◌, Bool, true, false, refl, ap, ◌∙◌, if◌then◌else◌}
-use Rattle.rnix_kinds.{specs.declared.kinds.SyntaxKind.{SyntaxKind, TheVariants.NODE_ATTRPATH}, proofs.AllKinds.implied}
-use Rattle.rnix_grammar.specs.RowPlaces.{Place}
-use Rattle.rnix_grammar.specs.RowClosers.{Closer}
-use Rattle.rnix_grammar.specs.RowSymbols.{Symbol}
-use Rattle.rnix_grammar.specs.declared.until.Until.{Until}
-use Rattle.rnix_grammar.specs.Tables.{is_wanted, closes}
-use Rattle.rnix_grammar.specs.{Symbols.symbol_at, Rows.{fits, is_attr, is_entry, RowState, At, Nowhere, to, advance_pieces, advance_names, advance_source}}
-use Rattle.rnix_grammar.specs.Rows.{advance_attrpath, advance_formals, advance_comma, advance_symbol, advance, is_end, whole}
-use Rattle.rnix_lemmas.proofs.RowKinds.{has_row, no_wanted, no_closing}
-use Rattle.rnix_grammar.specs.RowPlaces as p
-use Rattle.rnix_grammar.specs.RowSymbols as s
+use Rattle.std.proofs.Common.{◌≡◌, Bool, true, false, refl, if◌then◌else◌}
+use Rattle.rnix_kinds.{specs.declared.kinds.SyntaxKind.SyntaxKind, proofs.AllKinds.all_kinds}
+use Rattle.rnix_grammar.specs.{declared.{place.Place.Place, symbol.Symbol.Symbol}, Symbols.symbol_at, Rows.{RowState, At, Nowhere, advance, is_end, whole}}
+use Rattle.rnix_lemmas.proofs.{Basics.{Where, where_one}, EachKind.{Each, each_kind}, RowKinds.has_row}
+use Rattle.rnix_grammar.specs.declared.place.Place.TheVariants as p
+use Rattle.rnix_grammar.specs.declared.symbol.Symbol.TheVariants as s
 
 -- the row goes on
 abbrev goes_further : Symbol → Bool
@@ -44,53 +38,12 @@ owing_half (At x) h = by_place x h
     by_place _ h = cc
 owing_half _ h = cc
 
--- one of two states that owe a token
-owing_to : (b : Bool) (x : Place) → owes x ≡ true → owing (to b (At x)) ≡ true
-owing_to true x h = h
-owing_to false x h = refl
+-- a node pays no token at a place
+paid_at : (x : Place) → Where (owes x) (Each (λ k. Where (has_row k) (owing (advance (At x) k) ≡ true)) all_kinds)
+paid_at p.ParenInside = assumption
+paid_at _ = assumption
 
--- where a token is wanted
-owing_token : (until : Until) (k : SyntaxKind) (x : Place) → has_row k ≡ true → owing (to (is_wanted until k) (At x)) ≡ true
-owing_token until k x h = ap (λ z. owing (to z (At x))) (no_wanted until k h)
-
--- where a token closes the row
-owing_closer : (closer : Closer) (k : SyntaxKind) (x : Place) (q : RowState) → has_row k ≡ true → owing q ≡ true → owing (if closes closer k then At x else q) ≡ true
-owing_closer closer k x q h o = ap (λ z. owing (if z then At x else q)) (no_closing closer k h) ∙ o
-
--- before an attribute path
-owing_attrpath : (y : Place) (k : SyntaxKind) → owes y ≡ true → owing (advance_attrpath y k) ≡ true
-owing_attrpath y NODE_ATTRPATH o = o
-owing_attrpath y _ o = refl
-
--- what no node pays in a symbol
-abbrev owed : Symbol → Bool
-owed (s.Operand level counted y) = owes y
-owed (s.Attr y) = owes y
-owed (s.Attrpath y) = owes y
-owed (s.Name y) = false
-owed symbol = goes_further symbol
-
-owed_at : (x : Place) → owes x ≡ true → owed (symbol_at x) ≡ true
-owed_at p.ParenInside o = refl
-owed_at _ o = cc
-
--- a node pays no token in a symbol
-owing_symbol : (symbol : Symbol) (x : Place) (k : SyntaxKind) → owes x ≡ true → owed symbol ≡ true → has_row k ≡ true → owing (advance_symbol symbol x k) ≡ true
-owing_symbol (s.Token until y) x k o w h = owing_token until k y h
-owing_symbol (s.Operand level counted y) x k o w h = owing_to (fits level k) y w
-owing_symbol (s.Series level closer) x k o w h = owing_closer closer k p.Past (to (fits level k) (At x)) h (owing_to (fits level k) x o)
-owing_symbol (s.Entries closer y) x k o w h = owing_closer closer k y (to (is_entry k) (At x)) h (owing_to (is_entry k) x o)
-owing_symbol s.Pieces x k o w h = implied has_row (λ k. owing (advance_pieces k)) refl k h
-owing_symbol s.Source x k o w h = implied has_row (λ k. owing (advance_source k)) refl k h
-owing_symbol s.Names x k o w h = implied has_row (λ k. owing (advance_names k)) refl k h
-owing_symbol (s.Attr y) x k o w h = owing_to (is_attr k) y w
-owing_symbol (s.Attrpath y) x k o w h = owing_attrpath y k w
-owing_symbol (s.Braces bound) x k o w h = implied has_row (λ k. owing (advance_formals bound k)) refl k h
-owing_symbol (s.Formals bound) x k o w h = implied has_row (λ k. owing (advance_formals bound k)) refl k h
-owing_symbol (s.Comma bound) x k o w h = implied has_row (λ k. owing (advance_comma bound k)) refl k h
-owing_symbol _ x k o w h = cc
-
--- a node pays no token
+-- nor at a state
 pub owing_goes : (q : RowState) (k : SyntaxKind) → owing q ≡ true → has_row k ≡ true → owing (advance q k) ≡ true
-owing_goes (At x) k o h = owing_symbol (symbol_at x) x k o (owed_at x o) h
+owing_goes (At x) k o h = where_one (has_row k) h (each_kind (λ k. Where (has_row k) (owing (advance (At x) k) ≡ true)) (where_one (owes x) o (paid_at x)) k)
 owing_goes _ k o h = cc

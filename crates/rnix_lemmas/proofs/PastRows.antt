@@ -4,7 +4,7 @@ use Rattle.rnix_kinds.specs.declared.kinds.SyntaxKind.{SyntaxKind, TheVariants.N
 use Rattle.rnix_grammar.specs.{Fault.Fault, AnnotatedForest.{Token, Note, Stray, Unwanted, Extra, Twice, TooDeep, AnnotatedForest, blank}}
 use Rattle.rnix_grammar.specs.{Rows.{RowState, At, advance, live}, Missing.{missing, run_at}, PlaceReads.{Reads, end, leaf, missing_part, wrong, second, inner, IsWrong}}
 use Rattle.rnix_lemmas.proofs.{Basics.true_is_not_false, PlaceTests.same_place}
-use Rattle.rnix_grammar.specs.RowPlaces as p
+use Rattle.rnix_grammar.specs.declared.place.Place.TheVariants as p
 
 -- what a row is behind its last place
 pub record Ended (f : AnnotatedForest) (es : List Fault) : Type 0 where

@@ -1,15 +1,10 @@
 -- Where a test leads to a place, and what tests of places pass.
 use Rattle.std.proofs.Common.{◌≡◌, ℕ, Bool, true, false, List, [], ◌∷◌, Option, Some, None, refl, sym}
-use Rattle.rnix_grammar.specs.RowPlaces.{Place}
-use Rattle.rnix_grammar.specs.RowClosers.{Closer}
-use Rattle.rnix_kinds.specs.declared.kinds.SyntaxKind.{SyntaxKind}
-use Rattle.rnix_grammar.specs.declared.until.Until.{Until}
+use Rattle.{rnix_kinds.specs.declared.kinds.SyntaxKind.SyntaxKind, rnix_grammar.specs.declared.{place.Place.Place, until.{Until.Until, Closer.Closer}}}
 use Rattle.{rnix_grammar.specs.{Tables.{is_wanted, closes}, Rows.{At, Nowhere, to}, Plain.is_node}, rnix_lemmas.proofs.EveryKind.tokens_alone}
-use Rattle.rnix_grammar.specs.RowSymbols.{Symbol}
-use Rattle.rnix_grammar.specs.Symbols.{symbol_at}
-use Rattle.rnix_lemmas.proofs.Basics.{true_is_not_false}
+use Rattle.{rnix_grammar.specs.{declared.symbol.Symbol.Symbol, Symbols.symbol_at}, rnix_lemmas.proofs.Basics.true_is_not_false}
 use Rattle.rnix_grammar.specs.{AnnotatedForest.{Token, head_kind, touches}, ExpectedItems.{expects, expects_in, expects_end}}
-use Rattle.rnix_grammar.specs.RowClosers as c
+use Rattle.rnix_grammar.specs.declared.until.Closer.TheVariants as c
 use Rattle.rnix_grammar.specs.declared.until.Until.TheVariants as u
 
 -- equal states stand at one place

@@ -1,14 +1,12 @@
--- Which node each place is in, and what is missing there.
-use Rattle.std.proofs.Common.{◌≡◌, ℕ, Bool, true, false, Option, Some, None, refl, subst}
+-- Which node each place is in, and how tightly the operand there must bind.
+use Rattle.std.proofs.Common.{ℕ, Option, Some, None}
 use Rattle.rnix_kinds.specs.declared.kinds.SyntaxKind.{SyntaxKind, TheVariants.{NODE_ASSERT, NODE_ATTRPATH, NODE_ATTRPATH_VALUE, NODE_ATTR_SET, NODE_BIN_OP}}
 use Rattle.rnix_kinds.specs.declared.kinds.SyntaxKind.TheVariants.{NODE_DYNAMIC, NODE_ERROR, NODE_HAS_ATTR, NODE_IF_ELSE, NODE_INHERIT, NODE_INHERIT_FROM}
 use Rattle.rnix_kinds.specs.declared.kinds.SyntaxKind.TheVariants.{NODE_INTERPOL, NODE_LAMBDA, NODE_LEGACY_LET, NODE_LET_IN, NODE_LIST, NODE_PAREN}
 use Rattle.rnix_kinds.specs.declared.kinds.SyntaxKind.TheVariants.{NODE_PATTERN, NODE_PAT_BIND, NODE_PAT_ENTRY, NODE_ROOT, NODE_SELECT, NODE_STRING}
-use Rattle.rnix_grammar.specs.RowPlaces.{Place}
-use Rattle.rnix_kinds.specs.declared.kinds.SyntaxKind.TheVariants.{NODE_UNARY_OP, NODE_WITH}
-use Rattle.rnix_grammar.specs.Fault.{Fault}
-use Rattle.rnix_grammar.specs.{Levels.{inversion_level, negation_level}, Missing.missing}
-use Rattle.rnix_grammar.specs.RowPlaces as p
+use Rattle.{rnix_kinds.specs.declared.kinds.SyntaxKind.TheVariants.{NODE_UNARY_OP, NODE_WITH}, rnix_grammar.specs.declared.place.Place.Place}
+use Rattle.rnix_grammar.specs.Levels.{inversion_level, negation_level}
+use Rattle.rnix_grammar.specs.declared.place.Place.TheVariants as p
 
 -- the kind of node that a place is in; some places are in many
 abbrev pub home : Place → Option SyntaxKind
@@ -81,34 +79,3 @@ tight (p.Operated level) = Some level
 tight p.Inverted = Some inversion_level
 tight p.Negated = Some negation_level
 tight place = None
-
--- entries of patterns, and attribute paths
-abbrev pub is_pat_entry : SyntaxKind → Bool
-is_pat_entry NODE_PAT_ENTRY = true
-is_pat_entry NODE_ATTRPATH = true
-is_pat_entry kind = false
-
--- two places of one node: the second names the first's kind, or none
-abbrev pub IsSame : Option SyntaxKind → Option SyntaxKind → Type 0
-IsSame None None = Unit {0}
-IsSame (Some j) None = is_pat_entry j ≡ false
-IsSame h (Some k) = h ≡ Some k
-
--- a string of which the end alone is missing, or inherited names
-abbrev pub is_last : Place → Bool
-is_last p.StringEnd = true
-is_last p.InheritEnd = true
-is_last place = false
-
--- where the text ends, a row goes on in the same node
-abbrev pub MissingLeads : Place → Option (Fault × Place) → Type 0
-MissingLeads x None = Unit {0}
-MissingLeads x (Some l) = IsSame (home x) (home l.1)
-
-missing_leads : (x : Place) → MissingLeads x (missing x)
-missing_leads p.RootStart = refl
-missing_leads _ = assumption
-
--- a place leads to the one behind what is missing
-pub missing_leads_on : (x y : Place) (e : Fault) → missing x ≡ Some (e, y) → IsSame (home x) (home y)
-missing_leads_on x y e h = subst (λ (z : Option (Fault × Place)). MissingLeads x z) h (missing_leads x)

@@ -1,11 +1,8 @@
 -- Where a row goes on behind one more child.
 use Rattle.std.proofs.Common.{◌≡◌, Bool, true, false, refl, ap, sym}
-use Rattle.rnix_grammar.specs.RowPlaces.{Place}
-use Rattle.rnix_kinds.specs.declared.kinds.SyntaxKind.{SyntaxKind}
-use Rattle.rnix_kinds.proofs.AllKinds.{implied}
-use Rattle.rnix_grammar.specs.Rows.{fits}
+use Rattle.{rnix_kinds.{specs.declared.kinds.SyntaxKind.SyntaxKind, proofs.AllKinds.implied}, rnix_grammar.specs.{declared.place.Place.Place, Rows.fits}}
 use Rattle.{rnix_grammar.specs.Rows.{RowState, At, advance, live}, rnix_lemmas.proofs.{Basics.true_is_not_false, OpeningRows.to_live}}
-use Rattle.rnix_grammar.specs.RowPlaces as p
+use Rattle.rnix_grammar.specs.declared.place.Place.TheVariants as p
 
 -- a state is a place
 abbrev is_at : RowState → Bool

@@ -1,5 +1,4 @@
 -- A whole text.
-use Rattle.rnix_grammar.specs.declared.position.TheConstants.{ROOT}
 use Rattle.std.proofs.Common.{◌≡◌, ℕ, true, List, [], ◌∷◌, ◌++◌, map, refl, ap, sym, ◌∙◌, subst}
 use Rattle.{rnix_kinds.specs.{declared.kinds.SyntaxKind.TheVariants.NODE_ROOT, Lexical.Tokens.Lexeme}, rnix_green.specs.Forest.{Forest, empty, node}}
 use Rattle.rnix_green.specs.{Forest.tree_count, Draft.{Draft, blank, node_opened}, Tree.{Tree, forest_of}}
@@ -11,14 +10,14 @@ use Rattle.rnix_grammar.specs.declared.place.Place.TheVariants as p
 -- the root is open, and nothing is read
 pub opened_root : (r : List Token) (b b0 : Draft) (errors : List ParseError) (marks : List Mark) (at : ℕ) (s : State) → b0 ≡ blank → b ≡ node_opened NODE_ROOT (tree_count b0.finished) b0
     → errors ≡ [] → marks ≡ [] → at ≡ tree_count b0.finished
-    → s ≡ marked (mark_at (p.Left ROOT) 0 at) record { rest = r; trees = b.finished; open_nodes = b.open_nodes; faults = map fault_of errors; reached = 0; marks = marks }
+    → s ≡ marked (mark_at p.RootStart 0 at) record { rest = r; trees = b.finished; open_nodes = b.open_nodes; faults = map fault_of errors; reached = 0; marks = marks }
     → s ≡ flat (begins s.rest)
 unfolding marked
 opened_root r b b0 errors marks at s e0 e1 e2 e3 e4 e =
     let builder : b ≡ node_opened NODE_ROOT 0 blank = e1 ∙ ap (λ x. node_opened NODE_ROOT (tree_count x.finished) x) e0 in
     let first : s ≡ flat (begins r) =
     e ∙ state_is refl (ap (λ x. x.finished) builder) (ap (λ x. x.open_nodes) builder) (ap (map fault_of) e2) refl
-    (ap (λ x. x ++ mark_at (p.Left ROOT) 0 at ∷ []) e3 ∙ ap (λ x. mark_at (p.Left ROOT) 0 x ∷ []) (e4 ∙ ap (λ x. tree_count x.finished) e0)) in
+    (ap (λ x. x ++ mark_at p.RootStart 0 at ∷ []) e3 ∙ ap (λ x. mark_at p.RootStart 0 x ∷ []) (e4 ∙ ap (λ x. tree_count x.finished) e0)) in
     first ∙ ap (λ x. flat (begins x)) (sym (ap (λ x. x.rest) first))
 
 tree_is_node : (t : Tree) (f : Forest) → forest_of t ≡ node NODE_ROOT f empty → t ≡ record { kind = NODE_ROOT; children = f }

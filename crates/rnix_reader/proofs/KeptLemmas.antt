@@ -1,5 +1,4 @@
 -- Frames that are opened, grow and close: the names stay known.
-use Rattle.rnix_grammar.specs.declared.position.TheConstants.{PAT_ENTRY, SECOND}
 use Rattle.std.proofs.Common.{◌≡◌, ℕ, Bool, true, false, List, [], ◌∷◌, ◌++◌, Option, Some, None, refl, ap, sym, ◌∙◌, subst, append-nil, if◌then◌else◌}
 use Rattle.{std.specs.Str.bytes_eq, rnix_kinds.specs.declared.kinds.SyntaxKind.{SyntaxKind, TheVariants.{NODE_PATTERN, NODE_PAT_ENTRY}}}
 use Rattle.rnix_grammar.specs.{declared.place.Place.Place, Fault.Fault, AnnotatedForest.{Token, AnnotatedForest, ◌⊕◌, without_trivia}}
@@ -81,7 +80,7 @@ push_operand low high d row w = push Operand (p.Behind low high) d row refl tt w
 
 -- a second name is opened
 pub push_second : {f : Frame} {fs : List Frame} {names names' : Names} (d : ℕ) (row : AnnotatedForest) → IsBegun Second row
-    → names'.sets.items ≡ names.sets.items → entries_in names' ≡ entries_in names → AreNamed f fs names → AreNamed (opened Second (p.Left SECOND) d row) (f ∷ fs) names'
+    → names'.sets.items ≡ names.sets.items → entries_in names' ≡ entries_in names → AreNamed f fs names → AreNamed (opened Second p.TwiceName d row) (f ∷ fs) names'
 push_second {f = f} {fs = fs} d row i s e w = record {
   begun = (i, w.begun);
   sets = subst (Known (f ∷ fs)) (sym s) w.sets;
@@ -100,7 +99,7 @@ push_pattern {f = f} {fs = fs} {names = names} place d row none o w = record {
 -- an entry is opened, with its name
 pub push_entry : {f : Frame} {fs : List Frame} {names names' : Names} (d : ℕ) (row : AnnotatedForest) (t : Token)
     → entry_name (without_trivia row) ≡ Some t → EntryOpened (entry_at t) names names' → AreNamed f fs names
-    → AreNamed (opened (Node NODE_PAT_ENTRY) (p.Left PAT_ENTRY) d row) (f ∷ fs) names'
+    → AreNamed (opened (Node NODE_PAT_ENTRY) p.EntryMore d row) (f ∷ fs) names'
 push_entry {f = f} {fs = fs} d row t e o w = record {
   begun = ((t, e), w.begun);
   sets = subst (Known (f ∷ fs)) (sym o.sets) w.sets;

@@ -1,4 +1,3 @@
-pub mod PastLemmas
 pub mod SortLemmas
 pub mod CursorLemmas
 pub mod StateLemmas

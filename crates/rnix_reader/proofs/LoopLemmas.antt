@@ -1,5 +1,4 @@
 -- Reading step by step: the machine goes with the reader.
-use Rattle.rnix_grammar.specs.declared.position.TheConstants.{ROOT}
 use Rattle.std.proofs.Common.{◌≡◌, ◌<◌, ℕ, Bool, true, false, List, [], ◌∷◌, ◌++◌, length, refl, ap, sym, ◌∙◌, subst, arith}
 use Rattle.{rnix_kinds.specs.declared.kinds.SyntaxKind.TheVariants.NODE_ROOT, rnix_green.specs.{Forest.{empty, node}, Draft.wrapped-join}}
 use Rattle.rnix_grammar.specs.{declared.{action.Action.Action, place.Place.Place}, AnnotatedForest.{Token, AnnotatedForest, blank, forget, head_kind, touches}, Layout.{items, from_item}, Fault.Fault, Allowed.Allowed, Sorts.{sort_of, AreKept}}
@@ -21,7 +20,7 @@ runs_on raw a m (further r) = further (runs_on raw (step raw a) m r)
 pub starts : (s : State) (names : Names) → s ≡ flat (begins s.rest) → AreInOrder 0 s.rest → names.sets.items ≡ [] → entries_in names ≡ []
     → IsGoing s.rest s names
 starts s names e o k t = record {
-  top = opened (Node NODE_ROOT) (p.Left ROOT) 0 blank;
+  top = opened (Node NODE_ROOT) p.RootStart 0 blank;
   under = [];
   left = s.rest;
   reached = 0;

@@ -1,5 +1,4 @@
 -- What each action makes of the frames.
-use Rattle.rnix_grammar.specs.declared.position.TheConstants.{APPLIED}
 use Rattle.std.proofs.Common.{◌≡◌, ◌≤◌, ℕ, true, false, List, [], ◌∷◌, ◌++◌, Some, refl, ap, sym, ◌∙◌, subst, arith, append-nil}
 use Rattle.rnix_kinds.specs.declared.kinds.SyntaxKind.{SyntaxKind, TheVariants.{NODE_ERROR, NODE_IDENT, NODE_APPLY}}
 use Rattle.rnix_green.specs.Range.{Extent}
@@ -52,15 +51,15 @@ module _ (f : Frame) (fs : List Frame) (ts : List Token) (n : ℕ) (names : Name
       goes (grow_behind after ts g none w) (range_more names.second n m f.head (ate true f.row ts) g run (begun_more f.head f.row (trivia_before ts) begun) trivia i r l) o
 
   -- an entry of a pattern begins
-  entry_goes : (after : ℕ) (us : List Token) (es : List Fault) (names' : Names) → items ts ≡ us → is_there (head_kind us) ≡ true
+  entry_goes : (after : Place) (us : List Token) (es : List Fault) (names' : Names) → items ts ≡ us → is_there (head_kind us) ≡ true
       → ((t : Token) → head_of (items ts) ≡ Some t → EntryNamed t names names') → Goes (perform true (a.Entry after) f fs ts n es) names'
   entry_goes after [] es names' e h does = absurd (true_is_not_false (sym h))
   entry_goes after (t ∷ us) es names' e h does =
       let name = ap only_token (leaf_without_trivia NODE_IDENT ts ∙ ap (leaf_in NODE_IDENT) e) in
-      goes_open refl (push_entry f.depth (one_branch NODE_IDENT (leaf true NODE_IDENT ts)) t name (does t (ap head_of e)) (grow_trivia (p.Left after) ts w)) (order_behind n ts v.order)
+      goes_open refl (push_entry f.depth (one_branch NODE_IDENT (leaf true NODE_IDENT ts)) t name (does t (ap head_of e)) (grow_trivia after ts w)) (order_behind n ts v.order)
 
   -- a second name begins
-  twice_goes : (after : ℕ) (us : List Token) (es : List Fault) (names' : Names) → items ts ≡ us → is_there (head_kind us) ≡ true
+  twice_goes : (after : Place) (us : List Token) (es : List Fault) (names' : Names) → items ts ≡ us → is_there (head_kind us) ≡ true
       → ((t : Token) → head_of (items ts) ≡ Some t → TwiceOpened t.start names names') → Goes (perform true (a.Twice after) f fs ts n es) names'
   twice_goes after [] es names' e h does = absurd (true_is_not_false (sym h))
   twice_goes after (t ∷ us) es names' e h does =
@@ -72,7 +71,7 @@ module _ (f : Frame) (fs : List Frame) (ts : List Token) (n : ℕ) (names : Name
       let range : (let x : Extent = record { start = names'.second; end = reach true n ts } in x) ≡ extent_of (tokens_in (without_trivia row)) =
       ap (λ x. let y : Extent = record { start = x; end = reach true n ts } in y) new.second
       ∙ ap (λ x. let y : Extent = record { start = t.start; end = x } in y) end ∙ sym (ap extent_of tokens) in
-      goes (push_second f.depth row (t, [], tokens) new.sets new.entries (grow_trivia (p.Left after) ts w)) (range, omega (arith, ordered.1, end, new.second)) (order_behind n ts v.order)
+      goes (push_second f.depth row (t, [], tokens) new.sets new.entries (grow_trivia after ts w)) (range, omega (arith, ordered.1, end, new.second)) (order_behind n ts v.order)
 
 closing_pattern : (f : Frame) (fs : List Frame) (ts : List Token) (n : ℕ) (es : List Fault) (names names' : Names) → AreNamed f fs names → IsWell f fs ts n names.second
     → sort_of f.place ≡ Pattern → PatternClosed names names' → Goes (closed f fs ts n es) names'
@@ -100,28 +99,28 @@ perform_goes a.Extra f fs ts n es names names' w v al g k =
     (run_tokens Extra (items ts) (dropped (items ts) (items ts)) ts (all_prefix (items ts))) refl all.1 all.0)
 perform_goes (a.Take after) f fs ts n es names names' w v al g k =
     let row : AnnotatedForest = leaf true (kind_of f.head) ts in
-    stays k (grows f fs ts n names w v (p.Left after) row (firsts (items ts)) (behind true ts) (reach true n ts) es (no_entry_leaf (kind_of f.head) ts)
+    stays k (grows f fs ts n names w v after row (firsts (items ts)) (behind true ts) (reach true n ts) es (no_entry_leaf (kind_of f.head) ts)
     (leaf_tokens (kind_of f.head) ts) (leaf_end n ts) (reach_least n ts v.order) (order_behind n ts v.order))
-perform_goes (a.Miss after) f fs ts n es names names' w v al g k = stays k (goes (moved_on (p.Left after) w) v.range v.order)
-perform_goes (a.MissWanted until after) f fs ts n es names names' w v al g k = stays k (goes (moved_on (p.Left after) w) v.range v.order)
+perform_goes (a.Miss after) f fs ts n es names names' w v al g k = stays k (goes (moved_on after w) v.range v.order)
+perform_goes (a.MissWanted until after) f fs ts n es names names' w v al g k = stays k (goes (moved_on after w) v.range v.order)
 perform_goes (a.Run until after) f fs ts n es names names' w v al g k =
     let run : List Token = run_of until (items ts) in
     let row : AnnotatedForest = run_row true run ts in
     let all = order_run until n ts v.order in
-    stays k (grows f fs ts n names w v (p.Left after) (one_fault (Unwanted until) row) run (run_rest true run ts) (end_from n run) _ (no_entry_fault (Unwanted until) row)
+    stays k (grows f fs ts n names w v after (one_fault (Unwanted until) row) run (run_rest true run ts) (end_from n run) _ (no_entry_fault (Unwanted until) row)
     (run_tokens (Unwanted until) run (dropped run (items ts)) ts (run_prefix until (items ts))) refl all.1 all.0)
 perform_goes (a.Leaf j after) f fs ts n es names names' w v al g k =
     let row : AnnotatedForest = one_branch j (leaf true j ts) in
-    stays k (grows f fs ts n names w v (p.Left after) row (firsts (items ts)) (behind true ts) (reach true n ts) es (subst (λ x. HasNoEntry (one_branch x (leaf true x ts))) (sym al.2) (λ name. refl))
+    stays k (grows f fs ts n names w v after row (firsts (items ts)) (behind true ts) (reach true n ts) es (subst (λ x. HasNoEntry (one_branch x (leaf true x ts))) (sym al.2) (λ name. refl))
     (append-nil (tokens_in (without_trivia (leaf true j ts))) ∙ leaf_tokens j ts) (leaf_end n ts) (reach_least n ts v.order) (order_behind n ts v.order))
 perform_goes (a.Open j inside after) f fs ts n es names names' w v al g k =
-    stays k (goes_open (ap is_open al.2) (push_node j (p.Left inside) f.depth (leaf true j ts) al.2 (grow_trivia (p.Left after) ts w)) (order_behind n ts v.order))
+    stays k (goes_open (ap is_open al.2) (push_node j inside f.depth (leaf true j ts) al.2 (grow_trivia after ts w)) (order_behind n ts v.order))
 perform_goes (a.Begin j inside after) f fs ts n es names names' w v al g k =
-    stays k (goes_open (ap is_open al.1) (push_node j (p.Left inside) f.depth blank al.1 (grow_trivia (p.Left after) ts w)) (order_from n ts v.order))
+    stays k (goes_open (ap is_open al.1) (push_node j inside f.depth blank al.1 (grow_trivia after ts w)) (order_from n ts v.order))
 perform_goes (a.Entry after) f fs ts n es names names' w v al g k = entry_goes f fs ts n names w v after (items ts) es names' refl (ap is_there al.0) k
 perform_goes (a.Twice after) f fs ts n es names names' w v al g k = twice_goes f fs ts n names w v after (items ts) es names' refl al.0 k
 perform_goes (a.Read level counted after) f fs ts n es names names' w v al g k =
-    reading_goes level counted (put (p.Left after) f.row f) fs ts n es names names' (moved_on (p.Left after) w) (holder_open f fs Loose v.fit al.1) v.order k
+    reading_goes level counted (put after f.row f) fs ts n es names names' (moved_on after w) (holder_open f fs Loose v.fit al.1) v.order k
 perform_goes (a.Wrap j inside high) f fs ts n es names names' w v al g k =
     let loose = head_loose f.head (head_sort f.head f.place fs v.fit ∙ al.1) in
     let row : AnnotatedForest = ate true f.row ts ⊕ leaf true j ts in
@@ -129,8 +128,8 @@ perform_goes (a.Wrap j inside high) f fs ts n es names names' w v al g k =
 perform_goes a.Apply f fs ts n es names names' w v al g k =
     let over : Frame = opened Operand (p.Behind (low_of f.place) 15) f.depth blank in
     let loose = head_loose f.head (head_sort f.head f.place fs v.fit ∙ al.1) in
-    reading_goes 16 false (opened (Node NODE_APPLY) (p.Left APPLIED) f.depth f.row) (over ∷ fs) ts n es names names'
-    (push_node NODE_APPLY (p.Left APPLIED) f.depth f.row refl (instead (low_of f.place) 15 f.depth blank loose w)) refl v.order k
+    reading_goes 16 false (opened (Node NODE_APPLY) p.Past f.depth f.row) (over ∷ fs) ts n es names names'
+    (push_node NODE_APPLY p.Past f.depth f.row refl (instead (low_of f.place) 15 f.depth blank loose w)) refl v.order k
 perform_goes a.ApplyOr f fs ts n es names names' w v al g k =
     let loose = head_loose f.head (head_sort f.head f.place fs v.fit ∙ al.1) in
     let row : AnnotatedForest = one_branch NODE_APPLY (ate true f.row ts ⊕ one_branch NODE_IDENT (leaf true NODE_IDENT ts)) in

@@ -1,9 +1,8 @@
 -- Heads by the sorts of their places.
-use Rattle.{std.specs.Prelude.drop, rnix_grammar.specs.{declared.position.{Slot.{Slot, TheVariants.{Next, End}}, TheConstants.SLOTS}, Positions.kind_in}}
 use Rattle.{std.proofs.Common.{◌≡◌, Bool, true, false, List, [], ◌∷◌, refl, ap, sym, ◌∙◌}, rnix_kinds.specs.declared.kinds.SyntaxKind.SyntaxKind}
 use Rattle.rnix_kinds.specs.declared.kinds.SyntaxKind.TheVariants.{NODE_ROOT, NODE_IDENT, NODE_CUR_POS, NODE_PATTERN, NODE_PAT_ENTRY}
 use Rattle.rnix_grammar.specs.{declared.place.Place.Place, AnnotatedForest.{Token, one_token, leaf_kind_as}, Machine.{Head, Node, Second, Operand, Frame, kind_of, leaf_in}}
-use Rattle.{rnix_grammar.specs.Sorts.{Sort, Root, Pattern, Entry, Again, Loose, Name, sort_of, sort_of_row, sort_in, sort_of_head, sort_of_node, may_hold, StandsOn}, rnix_lemmas.proofs.Basics.true_is_not_false}
+use Rattle.{rnix_grammar.specs.Sorts.{Sort, Root, Pattern, Entry, Again, Loose, Name, sort_of, sort_of_head, sort_of_node, may_hold, StandsOn}, rnix_lemmas.proofs.Basics.true_is_not_false}
 use Rattle.rnix_grammar.specs.declared.place.Place.TheVariants as p
 
 -- the root's places
@@ -71,21 +70,10 @@ pub head_sort : (head : Head) (place : Place) (fs : List Frame) → StandsOn hea
 head_sort head place [] w = w.0
 head_sort head place (f ∷ fs) w = w.0
 
-row_named : (k : SyntaxKind) → is_name (sort_of_row k) ≡ false
-row_named NODE_ROOT = refl
-row_named _ = refl
-
-slots_named : (ss : List Slot) → is_name (sort_in ss) ≡ false
-slots_named [] = refl
-slots_named (End NODE_ROOT ∷ ss) = refl
-slots_named (End k ∷ ss) = row_named k
-slots_named (Next p ∷ ss) = row_named (kind_in ss)
-
 -- no place is that of a name
 pub place_named : (place : Place) → is_name (sort_of place) ≡ false
-place_named (p.Left i) = slots_named (drop i SLOTS)
-place_named (p.Behind low high) = refl
-place_named (p.Right level) = refl
+place_named p.RootStart = refl
+place_named place = refl
 
 leaf_kept : (k j : SyntaxKind) → is_name (sort_of_node k) ≡ false → leaf_kind_as k j ≡ j
 leaf_kept NODE_IDENT j e = cc

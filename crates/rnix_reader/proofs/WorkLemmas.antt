@@ -1,18 +1,18 @@
 -- Each step of the machine leaves less to do.
-use Rattle.std.proofs.Common.{◌≡◌, ◌≤◌, ◌<◌, ◌+◌, ◌*◌, ℕ, suc, length, true, false, Bool, List, [], ◌∷◌, ◌++◌, Option, Some, None, refl, ap, sym, ◌∙◌, subst, arith, nat_le}
-use Rattle.{std.proofs.{Common.if◌then◌else◌, lemmas.Bool.leb-true}, rnix_kinds.specs.declared.kinds.SyntaxKind.TheVariants.{NODE_APPLY}}
-use Rattle.rnix_grammar.specs.{declared.{place.Place.Place, until.Until.Until, action.Action.Action, begin.Begin.Begin, position.{Slot.{Slot, TheVariants.Next}, TheConstants.{APPLIED, LAMBDA, LEGACY_LET, PATTERN, BOUND_PATTERN, PAT_ENTRY, SECOND}}}, Fault.Fault}
-use Rattle.rnix_grammar.specs.{Tables.{stops, depth_limit}, Positions.slot_at, Begins.{begin_of, second_kind}, AnnotatedForest.{Token, blank, head_kind}}
+use Rattle.std.proofs.Common.{◌≡◌, ◌≤◌, ◌<◌, ◌+◌, ◌*◌, ℕ, suc, length, true, false, Bool, List, [], ◌∷◌, ◌++◌, None, refl, ap, sym, ◌∙◌, subst, arith, nat_le}
+use Rattle.{std.proofs.{Common.if◌then◌else◌, lemmas.Bool.leb-true}, rnix_kinds.specs.declared.kinds.SyntaxKind.TheVariants.NODE_APPLY}
+use Rattle.rnix_grammar.specs.{declared.{place.Place.Place, until.Until.Until, action.Action.Action, symbol.Symbol.Symbol, begin.Begin.Begin}, Fault.Fault}
+use Rattle.rnix_grammar.specs.{Tables.{stops, depth_limit}, Symbols.symbol_at, Begins.{begin_of, second_kind}, AnnotatedForest.{Token, blank, head_kind}}
 use Rattle.rnix_grammar.specs.{Layout.{items, from_item, tail_of}, Machine.{Node, Operand, Frame, Machine, put, opened, behind, closed, limited, low_of}}
-use Rattle.rnix_grammar.specs.{Machine.{run_rest, dropped, begun, operand_on, reading, perform}, Missing.run_of, Sorts.{Sort, Plain, sort_of}}
+use Rattle.rnix_grammar.specs.{Machine.{run_rest, dropped, begun, operand_on, reading, perform}, Missing.run_of, Sorts.{Sort, Plain, sort_of, sort_in}}
 use Rattle.rnix_grammar.specs.{Sorts.StandsOn, Weights.{weight, bonus_in, bonus}, Allowed.{Allowed, IsNext, is_there}}
 use Rattle.rnix_lemmas.proofs.{Basics.true_is_not_false, LayoutLemmas.items-from_item, WithoutTriviaLemmas.{items_behind, run_prefix, all_prefix, run_bared}}
-use Rattle.rnix_lemmas.proofs.{RunLemmas.{dropped_all, run_begins}, AllowedLemmas.{sort_by, sort_there, weight_there}}
+use Rattle.rnix_lemmas.proofs.{RunLemmas.{dropped_all, run_begins}, AllowedLemmas.{sort_there, weight_there}}
 use Rattle.rnix_reader.{specs.{declared.mark.Mark.Mark, Flat.{marks_of, mark_of, flat}, Performed.is_finish, Holds.{weights, bonus_on, work}}, proofs.SortLemmas.is_root}
 use Rattle.rnix_reader.proofs.RunLemmas.{no_items}
 use Rattle.rnix_grammar.specs.declared.place.Place.TheVariants as p
 use Rattle.rnix_grammar.specs.declared.action.Action.TheVariants as a
-use Rattle.rnix_grammar.specs.declared.rules.Part.TheVariants as r
+use Rattle.rnix_grammar.specs.declared.symbol.Symbol.TheVariants as s
 use Rattle.rnix_grammar.specs.declared.begin.Begin.TheVariants as b
 
 -- weights are small, and not nothing
@@ -22,15 +22,12 @@ weight_some place = leb-true 1 (weight place) (weight_there place).1
 weight_most : (place : Place) → weight place ≤ 7
 weight_most place = leb-true (weight place) 7 (weight_there place).2
 
-bonus_test : (slot : Option Slot) → nat_le (bonus_in slot) 30 ≡ true
-bonus_test (Some (Next r.Attr)) = refl
-bonus_test (Some (Next r.Attrpath)) = refl
-bonus_test _ = refl
+bonus_test : (symbol : Symbol) → nat_le (bonus_in symbol) 30 ≡ true
+bonus_test s.Done = refl
+bonus_test symbol = refl
 
 bonus_most : (place : Place) → bonus place ≤ 30
-bonus_most (p.Left i) = leb-true (bonus_in (slot_at i)) 30 (bonus_test (slot_at i))
-bonus_most (p.Behind low high) = leb-true 30 30 refl
-bonus_most (p.Right level) = leb-true 30 30 refl
+bonus_most place = leb-true (bonus place) 30 (bonus_test (symbol_at place))
 
 abbrev is_plain : Sort → Bool
 is_plain Plain = true
@@ -38,14 +35,12 @@ is_plain sort = false
 
 -- only in a plain node may a node begin without an item
 bonus_full : (place : Place) → is_plain (sort_of place) ≡ false → bonus place ≡ 30
-bonus_full (p.Behind low high) e = refl
-bonus_full (p.Right level) e = refl
-bonus_full (p.Left i) e = slot_full (slot_at i) (sort_there i)
+bonus_full place e = by (symbol_at place) (sort_there place)
   where
-    slot_full : (slot : Option Slot) → sort_of (p.Left i) ≡ sort_by slot (sort_of (p.Left i)) → bonus_in slot ≡ 30
-    slot_full (Some (Next r.Attrpath)) h = absurd (true_is_not_false (sym (ap is_plain h) ∙ e))
-    slot_full (Some (Next r.Attr)) h = absurd (true_is_not_false (sym (ap is_plain h) ∙ e))
-    slot_full _ h = refl
+    by : (symbol : Symbol) → sort_of place ≡ sort_in symbol (sort_of place) → bonus_in symbol ≡ 30
+    by (s.Attrpath behind) h = absurd (true_is_not_false (sym (ap is_plain h) ∙ e))
+    by (s.Attr behind) h = absurd (true_is_not_false (sym (ap is_plain h) ∙ e))
+    by symbol h = refl
 
 -- what frames and items cost
 abbrev pub weight_of : List Frame → ℕ
@@ -139,7 +134,7 @@ ended_less : (us : List Token) (place after : Place) (z : ℕ) → us ≡ [] →
 ended_less us place after z e h =
     subst (λ x. 100 * length x + (weight after + z) + bonus_at x after < 100 * length x + (weight place + z) + bonus_at x place) (sym e) (omega (arith, h))
 
-next_less : (us : List Token) (place : Place) (after : ℕ) → IsNext place (head_kind us) after → us ≡ [] → weight (p.Left after) < weight place
+next_less : (us : List Token) (place after : Place) → IsNext place (head_kind us) after → us ≡ [] → weight after < weight place
 next_less [] place after h e = h.1
 next_less (t ∷ us) place after h e = absurd (cc)
 
@@ -153,12 +148,11 @@ closed_less f (g ∷ fs) ts n es w r e = close_less (items ts) f.place g.place (
 begun_less : (begin : Begin) (level d : ℕ) (t : Token) (f : Frame) (fs : List Frame) (ts : List Token) (n : ℕ) (es : List Fault)
     → cost_of (begun true begin level d t f fs ts n es) ≤ 100 * length (tail_of (items ts)) + 51 + weight_of (f ∷ fs)
 begun_less (b.Leaf k) level d t f fs ts n es = omega (arith, left_behind ts, bonus_small (items (behind true ts)) (p.Behind level 16))
-begun_less (b.Node k left high) level d t f fs ts n es =
-    omega (arith, left_behind ts, bonus_small (items (behind true ts)) (p.Left left), weight_most (p.Left left))
-begun_less b.LegacyLet level d t f fs ts n es = omega (arith, left_twice ts, bonus_small (items (behind true (behind true ts))) (p.Left LEGACY_LET))
-begun_less b.NameLambda level d t f fs ts n es = omega (arith, left_behind ts, bonus_small (items (behind true ts)) (p.Left LAMBDA))
-begun_less b.BoundLambda level d t f fs ts n es = omega (arith, left_twice ts, bonus_small (items (behind true (behind true ts))) (p.Left BOUND_PATTERN))
-begun_less b.PatternLambda level d t f fs ts n es = omega (arith, left_behind ts, bonus_small (items (behind true ts)) (p.Left PATTERN))
+begun_less (b.Node k place high) level d t f fs ts n es = omega (arith, left_behind ts, bonus_small (items (behind true ts)) place, weight_most place)
+begun_less b.LegacyLet level d t f fs ts n es = omega (arith, left_twice ts, bonus_small (items (behind true (behind true ts))) p.LegacyInside)
+begun_less b.NameLambda level d t f fs ts n es = omega (arith, left_behind ts, bonus_small (items (behind true ts)) p.LambdaColon)
+begun_less b.BoundLambda level d t f fs ts n es = omega (arith, left_twice ts, bonus_small (items (behind true (behind true ts))) p.PatternBrace)
+begun_less b.PatternLambda level d t f fs ts n es = omega (arith, left_behind ts, bonus_small (items (behind true ts)) (p.PatternStart false))
 begun_less b.Stray level d t f fs ts n es = omega (arith, left_behind ts, bonus_small (items (behind true ts)) (p.Behind level 16))
 
 -- what an operand leaves is below a number
@@ -212,38 +206,38 @@ perform_less a.Settle f fs ts n es w al g = closed_less f fs ts n es w (ap is_ro
 perform_less a.Extra f fs ts n es w al g =
     omega (arith, ap length (left_none ts), ap (λ x. bonus_at x f.place) (left_none ts), there (items ts) al.0)
 perform_less (a.Take after) f fs ts n es w al g =
-    omega (arith, there (items ts) al.0, left_behind ts, weight_most (p.Left after), bonus_small (items (behind true ts)) (p.Left after))
+    omega (arith, there (items ts) al.0, left_behind ts, weight_most after, bonus_small (items (behind true ts)) after)
 perform_less (a.Miss after) f fs ts n es w al g =
     let none = no_items (items ts) al.0 in
-    ended_less (items ts) f.place (p.Left after) (weight_of fs) none (next_less (items ts) f.place after al.1 none)
+    ended_less (items ts) f.place after (weight_of fs) none (next_less (items ts) f.place after al.1 none)
 perform_less (a.MissWanted until after) f fs ts n es w al g =
     let none = no_items (items ts) al.0 in
-    ended_less (items ts) f.place (p.Left after) (weight_of fs) none (next_less (items ts) f.place after al.1 none)
+    ended_less (items ts) f.place after (weight_of fs) none (next_less (items ts) f.place after al.1 none)
 perform_less (a.Run until after) f fs ts n es w al g =
     let us : List Token = items (run_rest true (run_of until (items ts)) ts) in
-    omega (arith, run_less until (items ts) al.0, ap length (left_run until ts), weight_most (p.Left after), bonus_small us (p.Left after))
+    omega (arith, run_less until (items ts) al.0, ap length (left_run until ts), weight_most after, bonus_small us after)
 perform_less (a.Leaf k after) f fs ts n es w al g =
-    omega (arith, there (items ts) al.0, left_behind ts, weight_most (p.Left after), bonus_small (items (behind true ts)) (p.Left after))
+    omega (arith, there (items ts) al.0, left_behind ts, weight_most after, bonus_small (items (behind true ts)) after)
 perform_less (a.Open k inside after) f fs ts n es w al g =
-    omega (arith, there (items ts) al.0, left_behind ts, weight_most (p.Left after), weight_most (p.Left inside), bonus_small (items (behind true ts)) (p.Left inside))
+    omega (arith, there (items ts) al.0, left_behind ts, weight_most after, weight_most inside, bonus_small (items (behind true ts)) inside)
 perform_less (a.Begin k inside after) f fs ts n es w al g =
     let same : items (from_item ts) ≡ items ts = items-from_item ts in
-    let less : cost (items ts) (opened (Node k) (p.Left inside) f.depth blank ∷ (put (p.Left after) f.row f ∷ fs)) < cost (items ts) (f ∷ fs) =
-    begin_less (items ts) f.place (p.Left inside) (p.Left after) (weight_of fs) al.4 al.5 al.6 in
-    subst (λ x. 100 * length x + (weight (p.Left inside) + (weight (p.Left after) + weight_of fs)) + bonus_at x (p.Left inside) < cost (items ts) (f ∷ fs)) (sym same) less
+    let less : cost (items ts) (opened (Node k) inside f.depth blank ∷ (put after f.row f ∷ fs)) < cost (items ts) (f ∷ fs) =
+    begin_less (items ts) f.place inside after (weight_of fs) al.4 al.5 al.6 in
+    subst (λ x. 100 * length x + (weight inside + (weight after + weight_of fs)) + bonus_at x inside < cost (items ts) (f ∷ fs)) (sym same) less
 perform_less (a.Entry after) f fs ts n es w al g =
-    omega (arith, there (items ts) (ap is_there al.0), left_behind ts, weight_most (p.Left after), bonus_small (items (behind true ts)) (p.Left PAT_ENTRY))
+    omega (arith, there (items ts) (ap is_there al.0), left_behind ts, weight_most after, bonus_small (items (behind true ts)) p.EntryMore)
 perform_less (a.Twice after) f fs ts n es w al g =
-    omega (arith, there (items ts) al.0, left_behind ts, weight_most (p.Left after), bonus_small (items (behind true ts)) (p.Left SECOND))
+    omega (arith, there (items ts) al.0, left_behind ts, weight_most after, bonus_small (items (behind true ts)) p.TwiceName)
 perform_less (a.Read level counted after) f fs ts n es w al g =
-    reading_less level counted (put (p.Left after) f.row f) fs ts n es (cost (items ts) (f ∷ fs)) record {
+    reading_less level counted (put after f.row f) fs ts n es (cost (items ts) (f ∷ fs)) record {
       none = λ e. omega (arith, next_less (items ts) f.place after al.0 e);
-      some = λ e. omega (arith, there (items ts) e, weight_most (p.Left after));
+      some = λ e. omega (arith, there (items ts) e, weight_most after);
     }
 perform_less (a.Wrap k inside high) f fs ts n es w al g =
     omega (arith, there (items ts) al.0, left_behind ts, weight_most inside, bonus_small (items (behind true ts)) inside)
 perform_less a.Apply f fs ts n es w al g =
-    reading_less 16 false (opened (Node NODE_APPLY) (p.Left APPLIED) f.depth f.row) (opened Operand (p.Behind (low_of f.place) 15) f.depth blank ∷ fs) ts n es (cost (items ts) (f ∷ fs)) record {
+    reading_less 16 false (opened (Node NODE_APPLY) p.Past f.depth f.row) (opened Operand (p.Behind (low_of f.place) 15) f.depth blank ∷ fs) ts n es (cost (items ts) (f ∷ fs)) record {
       none = λ e. absurd (nothing_there (items ts) e al.0);
       some = λ e. omega (arith, there (items ts) e);
     }

@@ -1,5 +1,4 @@
 -- What the reader holds at each step of the machine.
-use Rattle.rnix_grammar.specs.declared.position.TheConstants.{ROOT}
 use Rattle.std.specs.Prelude.{◌≡◌, ◌≤◌, ◌+◌, ◌*◌, ℕ, true, List, [], ◌∷◌, ◌++◌, Option, Some, None, length}
 use Rattle.rnix_kinds.specs.declared.kinds.SyntaxKind.TheVariants.{NODE_ROOT, NODE_PATTERN, NODE_PAT_ENTRY}
 use Rattle.rnix_green.specs.Forest.{empty, node}
@@ -104,7 +103,7 @@ pub record IsThrough (from : Machine) : Type 0 where
   pub root : Frame
   pub alone : last.frames ≡ root ∷ []
   pub head : root.head ≡ Node NODE_ROOT
-  pub place : root.place ≡ p.Left (ROOT + 1)
+  pub place : root.place ≡ p.RootEnd
   pub nothing : items last.left ≡ []
 
 -- a whole text is read
