@@ -1,16 +1,16 @@
 -- How an operand begins: its first tree, and what may go on with it.
-use Rattle.std.proofs.Common.{◌≡◌, ℕ, ◌≤◌, Bool, true, false, List, Option, Some, refl, ap, sym, ◌∙◌, subst, arith, if◌then◌else◌, nat_eq, nat_le, ◌||◌, ◌-◌}
-use Rattle.rnix_kinds.specs.{declared.kinds.SyntaxKind.{SyntaxKind}, declared.kinds.SyntaxKind.TheVariants.{TOKEN_IDENT, TOKEN_L_BRACE, TOKEN_COLON}}
-use Rattle.rnix_kinds.specs.declared.kinds.SyntaxKind.TheVariants.{TOKEN_AT, TOKEN_LET, TOKEN_INVERT, TOKEN_SUB, NODE_APPLY, NODE_BIN_OP, NODE_HAS_ATTR}
-use Rattle.{rnix_kinds.specs.declared.kinds.SyntaxKind.TheVariants.{NODE_IDENT, NODE_SELECT, NODE_UNARY_OP}, rnix_kinds.proofs.AllKinds.{implied}}
-use Rattle.rnix_grammar.specs.{declared.begin.Begin.{Begin}, Begins.{is_pattern, begin_name, begin_let, begin_keyword, begin_scope, begin_of}}
-use Rattle.rnix_grammar.specs.{Tables.{is_cur_pos}, TokenKinds.{is_or}, Operands.{first_tree}, AnnotatedForest.{Token, AnnotatedForest, token, one_token}}
-use Rattle.rnix_grammar.specs.{AnnotatedForest.{one_branch, leaf_kind_as}, Rows.{is_atom, is_expression, is_loose, fits}, TreeLevels.{is_or_row, is_atom_row}}
-use Rattle.rnix_grammar.specs.{TreeLevels.{row_level}, Rules.{after, done, row as whole_row}}
-use Rattle.rnix_lemmas.proofs.{Basics.{true_is_not_false, choice}, LevelLemmas.{atom_fits, fits_looser, at_most, same_number}, NodeKinds.{is_error}}
-use Rattle.rnix_lemmas.proofs.{NestTrees.{is_formal}, FollowLemmas.{FollowedTo, followed_atom, followed_negated, followed_inverted, followed_loose}}
-use Rattle.rnix_lemmas.proofs.{RowParts.{IsFront, front, is_front}, RestAt.{rest_at}}
-use Rattle.rnix_existence.proofs.{Frames.{row_at, MayGrow}, Growing.{no_name, grows_by}}
+use Rattle.std.{specs.List.list_all, proofs.{lemmas.Bool.and_parts, Common.{◌≡◌, ℕ, ◌≤◌, Bool, true, false, List, Option, Some, refl, ap, sym, ◌∙◌, arith}}}
+use Rattle.{std.proofs.Common.{if◌then◌else◌, nat_eq, nat_le, ◌&&◌}, rnix_kinds.specs.declared.kinds.SyntaxKind.{SyntaxKind, TheVariants.TOKEN_IDENT}}
+use Rattle.rnix_kinds.specs.declared.kinds.SyntaxKind.TheVariants.{TOKEN_L_BRACE, TOKEN_COLON, TOKEN_AT, TOKEN_LET, TOKEN_INVERT, TOKEN_SUB, NODE_APPLY}
+use Rattle.rnix_kinds.specs.declared.kinds.SyntaxKind.TheVariants.{NODE_BIN_OP, NODE_HAS_ATTR, NODE_IDENT, NODE_SELECT, NODE_UNARY_OP}
+use Rattle.{rnix_kinds.proofs.AllKinds.{all_kinds, implied}, rnix_green.specs.Equality.same_kind, rnix_grammar.specs.declared.begin.Begin.Begin}
+use Rattle.rnix_grammar.specs.{declared.position.TheConstants.{INVERSION, NEGATION}, Begins.{is_pattern, begin_name, begin_let, begin_keyword, begin_scope}}
+use Rattle.rnix_grammar.specs.{Begins.begin_of, Tables.is_cur_pos, TokenKinds.is_or, Operands.first_tree, Positions.left_at, Machine.Node, Rules.{after, done}}
+use Rattle.rnix_grammar.specs.{Rules.row as whole_row, AnnotatedForest.{Token, AnnotatedForest, token, one_token, one_branch, leaf_kind_as}, Rows.is_atom}
+use Rattle.{rnix_grammar.specs.{Rows.{is_expression, is_loose, fits}, TreeLevels.{row_level, is_or_row}}, rnix_lemmas.proofs.Basics.{true_is_not_false, not_if}}
+use Rattle.rnix_lemmas.proofs.{Basics.choice, LevelLemmas.{at_most, same_number}, NodeKinds.is_error, RowParts.{IsFront, front, is_front}}
+use Rattle.{rnix_lemmas.proofs.FollowLemmas.{followed_by, is_followed}, rnix_existence.proofs.{Frames.{is_home, is_sound}, Growing.{MayGrow, no_name}}}
+use Rattle.rnix_existence.proofs.Growing.{grows_by}
 use Rattle.rnix_grammar.specs.declared.place.Place.TheVariants as p
 use Rattle.rnix_grammar.specs.declared.begin.Begin.TheVariants as b
 
@@ -31,22 +31,37 @@ pub own_first : (k j : SyntaxKind) (t : Token) (r : AnnotatedForest) → is_begu
 own_first NODE_APPLY j t r h = absurd (true_is_not_false (sym h))
 own_first _ j t r h = cc
 
--- its level, by its first item
-abbrev tight_at : SyntaxKind → SyntaxKind → ℕ
-tight_at NODE_UNARY_OP TOKEN_INVERT = 9
-tight_at NODE_UNARY_OP kind = 14
-tight_at k kind = if is_loose k then 0 else 16
+-- its level, by whether its first item is `!`
+abbrev tight_at : Bool → SyntaxKind → ℕ
+tight_at inverts NODE_UNARY_OP = if inverts then 9 else 14
+tight_at inverts k = if is_loose k then 0 else 16
 
 -- the tightest level of what goes on with it
-abbrev high_at : SyntaxKind → SyntaxKind → ℕ
-high_at NODE_UNARY_OP kind = tight_at NODE_UNARY_OP kind - 1
-high_at k kind = tight_at k kind
+abbrev high_at : Bool → SyntaxKind → ℕ
+high_at inverts NODE_UNARY_OP = if inverts then 8 else 13
+high_at inverts k = tight_at inverts k
 
--- what is known of the first items, and of the tree that begins so: an atom, or a node that is no looser than the level
+-- such a node fits its level, and what goes on with it is as tight as that
+abbrev grows_so : Bool → SyntaxKind → Bool
+grows_so inverts k =
+    fits (tight_at inverts k) k && (nat_le (high_at inverts k) (tight_at inverts k) && list_all
+    (is_followed (tight_at inverts k) (is_atom k) (high_at inverts k)) all_kinds)
+
+each_grows : (inverts : Bool) (k : SyntaxKind) → is_begun k ≡ true → grows_so inverts k ≡ true
+each_grows true = implied is_begun (grows_so true) refl
+each_grows false = implied is_begun (grows_so false) refl
+
+-- it begins with `!`
+abbrev inverts : SyntaxKind → Bool
+inverts kind = same_kind kind TOKEN_INVERT
+
+-- what is known of the first items, and of the tree that begins so: an atom of one item, or a node that is no looser than the level
 abbrev pub BeginsTree : Begin → ℕ → SyntaxKind → Option SyntaxKind → Type 0
-BeginsTree (b.Leaf k) level kind second = (after (whole_row k) (leaf_kind_as k kind) ≡ done) × (is_begun k ≡ true) × (is_atom k ≡ true) × ((if is_error k then is_or kind else false) ≡ false)
+BeginsTree (b.Leaf k) level kind second =
+    (after (whole_row k) (leaf_kind_as k kind) ≡ done) × (is_begun k ≡ true) × (is_atom k ≡ true) × ((if is_error k then is_or kind else false) ≡ false)
 BeginsTree (b.Node k z high) level kind second =
-    (after (whole_row k) (leaf_kind_as k kind) ≡ rest_at z) × (is_begun k ≡ true) × ((is_atom k || nat_le level (tight_at k kind)) ≡ true) × (is_error k ≡ false) × (row_at z ≡ Some (is_formal k)) × (high_at k kind ≡ high)
+    (after (whole_row k) (leaf_kind_as k kind) ≡ left_at z) × (is_begun k ≡ true) × (level ≤ tight_at (inverts kind) k) × (is_sound (Node k) ≡ true) ×
+    (is_home (p.Left z) k ≡ true) × (high_at (inverts kind) k ≡ high)
 BeginsTree b.LegacyLet level kind second = (kind ≡ TOKEN_LET) × (second ≡ Some TOKEN_L_BRACE) × (level ≡ 0)
 BeginsTree b.NameLambda level kind second = kind ≡ TOKEN_IDENT
 BeginsTree b.BoundLambda level kind second = (kind ≡ TOKEN_IDENT) × (second ≡ Some TOKEN_AT)
@@ -58,58 +73,24 @@ pub leaf_no_or : (k j : SyntaxKind) (t : Token) → (if is_error k then is_or t.
 leaf_no_or NODE_IDENT j t h = h
 leaf_no_or _ j t h = refl
 
-tight : (k kind : SyntaxKind) (t : Token) (r : AnnotatedForest) → is_begun k ≡ true → row_level (one_branch k (token (leaf_kind_as k kind) t r)) ≡ tight_at k kind
+tight : (k kind : SyntaxKind) (t : Token) (r : AnnotatedForest) → is_begun k ≡ true
+    → row_level (one_branch k (token (leaf_kind_as k kind) t r)) ≡ tight_at (inverts kind) k
 tight NODE_UNARY_OP TOKEN_INVERT t r h = refl
 tight NODE_UNARY_OP _ t r h = refl
 tight _ kind t r h = cc
 
-own_fits : (k kind : SyntaxKind) → is_begun k ≡ true → fits (tight_at k kind) k ≡ true
-own_fits NODE_UNARY_OP TOKEN_INVERT h = refl
-own_fits NODE_UNARY_OP _ h = refl
-own_fits _ kind h = cc
-
-loose_or_atom : (x : AnnotatedForest) (w : Bool) → row_level x ≡ (if w then 0 else 16) → is_atom_row x ≡ (if w then false else true) → FollowedTo (if w then 0 else 16) x
-loose_or_atom x true e h = followed_loose x e h
-loose_or_atom x false e h = followed_atom x e h
-
--- what goes on with such a node
-pub followed_begun : (k kind : SyntaxKind) (t : Token) (r : AnnotatedForest) → is_begun k ≡ true → FollowedTo (high_at k kind) (one_branch k (token (leaf_kind_as k kind) t r))
-followed_begun NODE_UNARY_OP TOKEN_INVERT t r h = followed_inverted (one_branch NODE_UNARY_OP (token TOKEN_INVERT t r)) refl refl
-followed_begun NODE_UNARY_OP _ t r h = first_of (search followed_negated)
-followed_begun k kind t r h = loose_or_atom (one_branch k (token (leaf_kind_as k kind) t r)) (is_loose k) (cc) (cc)
-
--- it is no looser than a level that it begins at
-begun_level : (k kind : SyntaxKind) (level : ℕ) → (is_atom k || nat_le level (tight_at k kind)) ≡ true → level ≤ 16 → level ≤ tight_at k kind
-begun_level k kind level h l = by (is_atom k) refl h
-  where
-    atom : (k : SyntaxKind) → is_atom k ≡ true → 16 ≡ tight_at k kind
-    atom NODE_UNARY_OP e = absurd (true_is_not_false (sym e))
-    atom _ e = cc
-
-    by : (w : Bool) → is_atom k ≡ w → (w || nat_le level (tight_at k kind)) ≡ true → level ≤ tight_at k kind
-    by true e h = omega (arith, atom k e)
-    by false e h = at_most level (tight_at k kind) h
-
--- so it fits the level
-pub begun_fits : (k kind : SyntaxKind) (level : ℕ) → is_begun k ≡ true → (is_atom k || nat_le level (tight_at k kind)) ≡ true → fits level k ≡ true
-begun_fits k kind level o h = by (is_atom k) refl h
-  where
-    by : (w : Bool) → is_atom k ≡ w → (w || nat_le level (tight_at k kind)) ≡ true → fits level k ≡ true
-    by true e h = atom_fits level k e
-    by false e h = fits_looser level (tight_at k kind) k (at_most level (tight_at k kind) h) (own_fits k kind o)
-
--- and goes on with what may follow it
-pub begun_grows : (k kind : SyntaxKind) (level : ℕ) (t : Token) (r : AnnotatedForest) → is_begun k ≡ true → (is_atom k || nat_le level (tight_at k kind)) ≡ true → is_error k ≡ false → level ≤ 16
-    → MayGrow level (high_at k kind) (one_branch k (token (leaf_kind_as k kind) t r))
-begun_grows k kind level t r o h sound l =
-    let x : AnnotatedForest = one_branch k (token (leaf_kind_as k kind) t r) in
-    let e : row_level x ≡ tight_at k kind = tight k kind t r o in
-    grows_by level (high_at k kind) x (ap (λ n. fits n k) e ∙ own_fits k kind o) (omega (arith, e, begun_level k kind level h l)) (omega (arith, e, high k)) (followed_begun k kind t r o)
-    (no_name k (token (leaf_kind_as k kind) t r) sound)
-  where
-    high : (k : SyntaxKind) → high_at k kind ≤ tight_at k kind
-    high NODE_UNARY_OP = omega arith
-    high _ = omega arith
+-- a node that begins so may be an operand of a level that it is no looser than
+pub begun_grows : (k kind : SyntaxKind) (level : ℕ) (t : Token) (r : AnnotatedForest) → is_begun k ≡ true → level ≤ tight_at (inverts kind) k
+    → is_sound (Node k) ≡ true
+    → MayGrow level (high_at (inverts kind) k) (one_branch k (token (leaf_kind_as k kind) t r))
+begun_grows k kind level t r o l sound =
+    let c : AnnotatedForest = token (leaf_kind_as k kind) t r in
+    let e : row_level (one_branch k c) ≡ tight_at (inverts kind) k = tight k kind t r o in
+    let q = and_parts _ _ (each_grows (inverts kind) k o) in
+    let z = and_parts _ _ q.1 in
+    let high : high_at (inverts kind) k ≤ tight_at (inverts kind) k = at_most _ _ z.0 in
+    grows_by level (high_at (inverts kind) k) (one_branch k c) (ap (λ n. fits n k) e ∙ q.0) (omega (arith, e, l)) (omega (arith, e, high))
+    (followed_by (tight_at (inverts kind) k) (is_atom k) (high_at (inverts kind) k) z.1 (one_branch k c) e refl) (no_name k c (not_if (is_error k) sound))
 
 -- what begins where a test holds
 tested : (begin : Begin) (level : ℕ) (kind : SyntaxKind) (second : Option SyntaxKind) (w : Bool) → (w ≡ true → BeginsTree begin level kind second)
@@ -122,29 +103,27 @@ name_begins level text (Some TOKEN_COLON) = refl
 name_begins level text (Some TOKEN_AT) = (refl, refl)
 name_begins level text second = choice (λ x. BeginsTree x level TOKEN_IDENT second) (is_cur_pos text) (refl, refl, refl, refl) (refl, refl, refl, refl)
 
-let_begins : (second : Option SyntaxKind) → BeginsTree (begin_let second) 0 TOKEN_LET second
-let_begins (Some TOKEN_L_BRACE) = (refl, refl, refl)
-let_begins second = (refl, refl, refl, refl, refl, refl)
+let_begins : (level : ℕ) (second : Option SyntaxKind) → level ≡ 0 → level ≤ 0 → BeginsTree (begin_let second) level TOKEN_LET second
+let_begins level (Some TOKEN_L_BRACE) e l = (refl, refl, e)
+let_begins level second e l = (refl, refl, l, refl, refl, refl)
 
-keyword_begins : (kind : SyntaxKind) (second : Option SyntaxKind) → BeginsTree (begin_keyword kind second) 0 kind second
-keyword_begins TOKEN_LET second = let_begins second
-keyword_begins _ second = assumption
+keyword_begins : (level : ℕ) (kind : SyntaxKind) (second : Option SyntaxKind) → level ≡ 0 → level ≤ 0 → BeginsTree (begin_keyword kind second) level kind second
+keyword_begins level TOKEN_LET second e l = let_begins level second e l
+keyword_begins level _ second e l = assumption
 
 scope_tree : (level : ℕ) (kind : SyntaxKind) (second : Option SyntaxKind) → BeginsTree (begin_scope level kind second) level kind second
-scope_tree level kind second =
-    tested (begin_keyword kind second) level kind second (nat_eq level 0)
-    (λ e. subst (λ n. BeginsTree (begin_keyword kind second) n kind second) (sym (same_number level 0 e)) (keyword_begins kind second))
-
-begins_tree : (level : ℕ) (kind : SyntaxKind) (text : List ℕ) (second third : Option SyntaxKind)
-    → BeginsTree (begin_of level kind text second third) level kind second
-begins_tree level TOKEN_IDENT text second third = name_begins level text second
-begins_tree level TOKEN_L_BRACE text second third = choice (λ x. BeginsTree x level TOKEN_L_BRACE second) (is_pattern second third) refl (refl, refl, refl, refl, refl, refl)
-begins_tree level TOKEN_INVERT text second third = tested (b.Node NODE_UNARY_OP p.Inverted 8) level TOKEN_INVERT second (nat_le level 9) (λ e. (refl, refl, e, refl, refl, refl))
-begins_tree level TOKEN_SUB text second third = tested (b.Node NODE_UNARY_OP p.Negated 13) level TOKEN_SUB second (nat_le level 14) (λ e. (refl, refl, e, refl, refl, refl))
-begins_tree level TOKEN_LET text second third = scope_tree level TOKEN_LET second
-begins_tree level _ text second third = first_of (assumption, search scope_tree)
+scope_tree level kind second = tested (begin_keyword kind second) level kind second (nat_eq level 0)
+    (λ e. let z : level ≡ 0 = same_number level 0 e in keyword_begins level kind second z (omega (arith, z)))
 
 -- the table read backwards
-pub begun_tree : (begin : Begin) (level : ℕ) (kind : SyntaxKind) (text : List ℕ) (second third : Option SyntaxKind)
-    → begin_of level kind text second third ≡ begin → BeginsTree begin level kind second
-begun_tree begin level kind text second third h = subst (λ (x : Begin). BeginsTree x level kind second) h (begins_tree level kind text second third)
+pub begun_tree : (level : ℕ) (kind : SyntaxKind) (text : List ℕ) (second third : Option SyntaxKind) → level ≤ 16
+    → BeginsTree (begin_of level kind text second third) level kind second
+begun_tree level TOKEN_IDENT text second third l = name_begins level text second
+begun_tree level TOKEN_L_BRACE text second third l =
+    choice (λ x. BeginsTree x level TOKEN_L_BRACE second) (is_pattern second third) refl (refl, refl, l, refl, refl, refl)
+begun_tree level TOKEN_INVERT text second third l =
+    tested (b.Node NODE_UNARY_OP INVERSION 8) level TOKEN_INVERT second (nat_le level 9) (λ e. (refl, refl, at_most level 9 e, refl, refl, refl))
+begun_tree level TOKEN_SUB text second third l =
+    tested (b.Node NODE_UNARY_OP NEGATION 13) level TOKEN_SUB second (nat_le level 14) (λ e. (refl, refl, at_most level 14 e, refl, refl, refl))
+begun_tree level TOKEN_LET text second third l = scope_tree level TOKEN_LET second
+begun_tree level _ text second third l = first_of (assumption, search scope_tree)

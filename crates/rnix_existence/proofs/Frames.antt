@@ -1,75 +1,139 @@
 -- What is known of the frames while the items of a text are read.
-use Rattle.std.proofs.Common.{◌≡◌, ◌⊎◌, ℕ, ◌≤◌, Bool, true, false, List, [], ◌∷◌, Option, Some, None, if◌then◌else◌, nat_le}
-use Rattle.{rnix_kinds.specs.declared.kinds.SyntaxKind.SyntaxKind, rnix_grammar.specs.{declared.place.Place.Place}}
-use Rattle.rnix_grammar.specs.{Tables.depth_limit, AnnotatedForest.{AnnotatedForest, blank, ◌⊕◌, one_branch}, Machine.{Head, Node, Second, Operand, Frame}}
-use Rattle.rnix_grammar.specs.{Rows.{fits}, TreeLevels.{row_level, is_or_row}}
-use Rattle.{rnix_lemmas.proofs.{FollowLemmas.FollowedTo, NodeKinds.is_error, NestTrees.is_formal, FirstTrees.IsSingle}, rnix_existence.proofs.OpenFrames.seen_kind}
+use Rattle.std.proofs.{Common.{◌≡◌, ℕ, ◌≤◌, Bool, true, false, List, [], ◌∷◌, refl, sym, subst, if◌then◌else◌, ◌&&◌, nat_le}, lemmas.Bool.and_parts}
+use Rattle.{rnix_kinds.specs.declared.kinds.SyntaxKind.{SyntaxKind, TheVariants.NODE_BIN_OP}, rnix_green.specs.Equality.same_kind}
+use Rattle.rnix_grammar.specs.{declared.place.Place.Place, Positions.{left_at, kind_at}, Tables.depth_limit, Rules.Row, Fault.Fault, Reports.{report, repeats}}
+use Rattle.rnix_grammar.specs.{AnnotatedForest.{Twice, AnnotatedForest, blank, ◌⊕◌, one_branch, tokens_in}, Machine.{Head, Node, Second, Operand, Frame, put}}
+use Rattle.{rnix_grammar.specs.Machine.{opened, made, kind_of}, rnix_lemmas.proofs.{Basics.true_is_not_false, AnnotatedForestLemmas.{⊕-assoc, ⊕-blank}}}
+use Rattle.rnix_lemmas.proofs.{NodeKinds.is_error, FirstTrees.{IsSingle, a_node}, OpenHeads.is_open, PlaceTable.{is_waiting, is_in_row}, RowParts.is_left}
+use Rattle.{rnix_lemmas.proofs.RestAt.rest_at, rnix_existence.proofs.Growing.MayGrow}
 use Rattle.rnix_grammar.specs.declared.place.Place.TheVariants as p
 
--- whether a place of a node's row is in an entry of a pattern; none behind an operand, in a second name, or for a right operand above level 16
-abbrev pub row_at : Place → Option Bool
-row_at p.EntryMore = Some true
-row_at p.EntryDefault = Some true
-row_at p.EntryPast = Some true
-row_at (p.Right level) = if nat_le level 16 then Some false else None
-row_at p.TwiceName = None
-row_at p.TwicePast = None
-row_at (p.Behind low high) = None
-row_at place = Some false
+-- a node of the kind may be open at the place; the level of a right operand is at most 16
+abbrev pub is_home : Place → SyntaxKind → Bool
+is_home (p.Left i) k = is_waiting (left_at i) && same_kind (kind_at i) k
+is_home (p.Behind low high) k = false
+is_home (p.Right level) k = nat_le level 16 && same_kind NODE_BIN_OP k
 
--- One tree may be an operand of a level, and go on with what binds no tighter than another level.
-pub record MayGrow (low high : ℕ) (x : AnnotatedForest) : Type 0 where
-  pub fit : fits low (seen_kind x) ≡ true
-  pub tight : fits high (seen_kind x) ≡ true
-  pub least : low ≤ row_level x
-  pub follow : FollowedTo high x
-  pub no_or : is_or_row x ≡ false
+-- such a place is in the row of a node
+pub in_row : (x : Place) (k : SyntaxKind) → is_home x k ≡ true → is_in_row x ≡ true
+in_row (p.Left i) k h = (and_parts (is_waiting (left_at i)) (same_kind (kind_at i) k) h).0
+in_row (p.Behind low high) k h = absurd (true_is_not_false (sym h))
+in_row (p.Right level) k h = refl
 
--- an open node of a kind, at a place, inside so many counted places
-pub record IsNode (head : Head) (place : Place) (depth : ℕ) (k : SyntaxKind) : Type 0 where
-  pub is : head ≡ Node k
-  pub sound : is_error k ≡ false
-  pub home : row_at place ≡ Some (is_formal k)
-  pub shallow : depth ≤ depth_limit
+waiting_left : (r : Row) → is_waiting r ≡ true → is_left r ≡ true
+waiting_left Row.never h = refl
+waiting_left _ h = h
 
--- what stands on some frames: an open node of a kind with its row so far, or an operand or a second name
+row_left : (x : Place) → is_in_row x ≡ true → is_left (rest_at x) ≡ true
+row_left (p.Left i) h = waiting_left (left_at i) h
+row_left (p.Behind low high) h = refl
+row_left (p.Right level) h = refl
+
+-- an open node whose leaves keep the kinds of their tokens, or a second name
+abbrev pub is_sound : Head → Bool
+is_sound (Node k) = if is_error k then false else true
+is_sound Second = true
+is_sound Operand = false
+
+-- an open node or second name, at a place of its row, not too deep
+pub record IsOpen (f : Frame) : Type 0 where
+  pub sound : is_sound f.head ≡ true
+  pub home : is_home f.place (kind_of f.head) ≡ true
+  pub shallow : f.depth ≤ depth_limit
+
+-- its row is open
+pub sound_open : (h : Head) → is_sound h ≡ true → is_open h ≡ true
+sound_open Operand e = e
+sound_open _ e = refl
+
+-- what is left of its row does not begin with a child that every such node has
+pub left_of : (f : Frame) → IsOpen f → is_left (rest_at f.place) ≡ true
+left_of f o = row_left f.place (in_row f.place (kind_of f.head) o.home)
+
+-- what some frames have above them: an open node with its row so far, or an operand or a second name
 pub data Above : Type 0 where
   One : SyntaxKind → AnnotatedForest → Above
   Other : Above
 
--- The frames below: nodes, and operands of which an open node becomes the first tree, whatever it holds in the end.
+abbrev pub above : Head → AnnotatedForest → Above
+above (Node k) row = One k row
+above h row = Other
+
+-- The frames below: open nodes, and operands of which an open node becomes the first tree, whatever it holds in the end.
 pub data Below : Above → List Frame → Type 0 where
   no_frame : {k : SyntaxKind} {row : AnnotatedForest} → Below (One k row) []
-  a_row : {w : Above} {f : Frame} {fs : List Frame} (k : SyntaxKind) → IsNode f.head f.place f.depth k → Below (One k f.row) fs → Below w (f ∷ fs)
-  an_operand : {k : SyntaxKind} {row : AnnotatedForest} {f : Frame} {fs : List Frame} (low high : ℕ)
-      → f.head ≡ Operand → f.place ≡ p.Behind low high → f.row ≡ blank → f.depth ≤ depth_limit
-      → ((rest : AnnotatedForest) → MayGrow low high (one_branch k (row ⊕ rest))) → Below Other fs → Below (One k row) (f ∷ fs)
+  a_row : {w : Above} {f : Frame} {fs : List Frame} → IsOpen f → Below (above f.head f.row) fs → Below w (f ∷ fs)
+  an_operand : {k : SyntaxKind} {row : AnnotatedForest} {fs : List Frame} (low high d : ℕ) → d ≤ depth_limit
+      → ((rest : AnnotatedForest) → MayGrow low high (one_branch k (row ⊕ rest))) → Below Other fs
+      → Below (One k row) (opened Operand (p.Behind low high) d blank ∷ fs)
 
--- the innermost frame is a node
-pub record AtNode (f : Frame) (fs : List Frame) : Type 0 where
-  pub kind : SyntaxKind
-  pub node : IsNode f.head f.place f.depth kind
-  pub below : Below (One kind f.row) fs
+-- the innermost frame is a node or a second name
+pub record AtOpen (f : Frame) (fs : List Frame) : Type 0 where
+  pub is : IsOpen f
+  pub below : Below (above f.head f.row) fs
 
--- the innermost frame is an operand
-pub record AtOperand (f : Frame) (fs : List Frame) : Type 0 where
-  pub low : ℕ
-  pub high : ℕ
-  pub head : f.head ≡ Operand
-  pub place : f.place ≡ p.Behind low high
-  pub single : IsSingle f.row
-  pub grows : MayGrow low high f.row
-  pub shallow : f.depth ≤ depth_limit
+-- the innermost frame is an operand that operators between two levels may continue, inside d counted places
+pub record AtOperand (low high d : ℕ) (x : AnnotatedForest) (fs : List Frame) : Type 0 where
+  pub single : IsSingle x
+  pub grows : MayGrow low high x
+  pub shallow : d ≤ depth_limit
   pub below : Below Other fs
 
--- the innermost frame is a second name
-pub record AtSecond (f : Frame) (fs : List Frame) : Type 0 where
-  pub head : f.head ≡ Second
-  pub place : (f.place ≡ p.TwiceName) ⊎ (f.place ≡ p.TwicePast)
-  pub below : Below Other fs
-
--- a text is being read: a node, an operand or a second name is innermost
+-- a text is being read: a node, a second name or an operand is innermost
 pub data Reading : List Frame → Type 0 where
-  node : {f : Frame} {fs : List Frame} → AtNode f fs → Reading (f ∷ fs)
-  operand : {f : Frame} {fs : List Frame} → AtOperand f fs → Reading (f ∷ fs)
-  second : {f : Frame} {fs : List Frame} → AtSecond f fs → Reading (f ∷ fs)
+  node : {f : Frame} {fs : List Frame} → AtOpen f fs → Reading (f ∷ fs)
+  operand : {low high d : ℕ} {x : AnnotatedForest} {fs : List Frame} → AtOperand low high d x fs → Reading (opened Operand (p.Behind low high) d x ∷ fs)
+
+-- the frames below an open frame stay as they are when its row gets more trees
+below_more : (h : Head) (row x : AnnotatedForest) {fs : List Frame} → Below (above h row) fs → Below (above h (row ⊕ x)) fs
+below_more (Node k) row x no_frame = no_frame
+below_more (Node k) row x (a_row i b) = a_row i b
+below_more (Node k) row x (an_operand low high d l grows b) =
+    an_operand low high d l (λ rest. subst (λ (z : AnnotatedForest). MayGrow low high (one_branch k z)) (sym (⊕-assoc row x rest)) (grows (x ⊕ rest))) b
+below_more Second row x b = b
+below_more Operand row x b = b
+
+-- an open frame moves to another place of its row
+went : (f : Frame) (fs : List Frame) (y : Place) (row : AnnotatedForest) → AtOpen f fs → is_home y (kind_of f.head) ≡ true → Below (above f.head row) fs
+    → AtOpen (put y row f) fs
+went f fs y row r h b = record { is = record { sound = r.is.sound; home = h; shallow = r.is.shallow }; below = b }
+
+-- with more trees
+pub grown : (f : Frame) (fs : List Frame) (y : Place) (x : AnnotatedForest) → AtOpen f fs → is_home y (kind_of f.head) ≡ true → AtOpen (put y (f.row ⊕ x) f) fs
+grown f fs y x r h = went f fs y (f.row ⊕ x) r h (below_more f.head f.row x r.below)
+
+-- with the same trees
+pub stayed : (f : Frame) (fs : List Frame) (y : Place) → AtOpen f fs → is_home y (kind_of f.head) ≡ true → AtOpen (put y f.row f) fs
+stayed f fs y r h = went f fs y f.row r h r.below
+
+-- an open frame is below what opens above it
+pub waits : {w : Above} (f : Frame) (fs : List Frame) → AtOpen f fs → Below w (f ∷ fs)
+waits f fs r = a_row r.is r.below
+
+-- a node opens above some frames
+pub opens_on : (k : SyntaxKind) (z : Place) (d : ℕ) (x : AnnotatedForest) (fs : List Frame) → is_sound (Node k) ≡ true → is_home z k ≡ true → d ≤ depth_limit
+    → Below (One k x) fs
+    → AtOpen (opened (Node k) z d x) fs
+opens_on k z d x fs s h l b = record { is = record { sound = s; home = h; shallow = l }; below = b }
+
+-- an operand or a second name has a frame below it
+pub alone : Below Other [] → ⊥
+alone b = elim b [ ]
+
+-- a complete frame becomes a tree of the frame below
+pub landed : (h : Head) (row : AnnotatedForest) (g : Frame) (fs : List Frame) → Below (above h row) (g ∷ fs) → Reading (put g.place (g.row ⊕ made h row) g ∷ fs)
+landed (Node k) row _ fs (an_operand low high d l grows b) = operand (record {
+  single = a_node;
+  grows = subst (λ (z : AnnotatedForest). MayGrow low high (one_branch k z)) (⊕-blank row) (grows blank);
+  shallow = l;
+  below = b;
+})
+landed (Node k) row g fs (a_row i b) = node (grown g fs g.place (one_branch k row) (record { is = i; below = b }) i.home)
+landed Second row g fs (a_row i b) = node (grown g fs g.place (made Second row) (record { is = i; below = b }) i.home)
+landed Operand row g fs (a_row i b) = node (grown g fs g.place row (record { is = i; below = b }) i.home)
+
+-- the errors that a frame reports when it is complete, given the trees before it
+abbrev pub closing : Head → AnnotatedForest → AnnotatedForest → List Fault
+closing (Node k) before row = repeats k before row
+closing Second before row = report Twice (tokens_in row) ∷ []
+closing Operand before row = []

@@ -1,10 +1,23 @@
 -- Which trees may be operands, and how they may go on, by their kinds and levels.
-use Rattle.std.proofs.Common.{◌≡◌, ℕ, ◌≤◌, Bool, true, false, refl, arith, ap, if◌then◌else◌}
-use Rattle.rnix_kinds.specs.declared.kinds.SyntaxKind.{SyntaxKind, TheVariants.{NODE_APPLY, NODE_BIN_OP, NODE_IDENT}}
-use Rattle.rnix_grammar.specs.{Levels.{binding_power, high_of}, AnnotatedForest.{AnnotatedForest, branch, one_branch}, Rows.{is_atom, is_infix, fits}}
-use Rattle.rnix_grammar.specs.TreeLevels.{row_level, is_or_row, is_atom_row, calls_or}
-use Rattle.rnix_lemmas.proofs.{Basics.true_is_not_false, NodeKinds.is_error, LevelLemmas.{operates, atom_fits, simple_fits, fits_looser}}
-use Rattle.{rnix_lemmas.proofs.FollowLemmas.{FollowedTo, followed_atom, followed_tight, followed_call, followed_infix}, rnix_existence.proofs.{OpenFrames.seen_kind, Frames.MayGrow}}
+use Rattle.{std.proofs.Common.{◌≡◌, ℕ, ◌≤◌, Bool, true, false, refl, arith, ap, if◌then◌else◌}, rnix_kinds.specs.declared.kinds.SyntaxKind.SyntaxKind}
+use Rattle.{rnix_kinds.specs.declared.kinds.SyntaxKind.TheVariants.{NODE_APPLY, NODE_BIN_OP, NODE_IDENT, NODE_LITERAL}, rnix_grammar.specs.Levels.binding_power}
+use Rattle.rnix_grammar.specs.{Levels.high_of, AnnotatedForest.{AnnotatedForest, branch, one_branch}, Rows.{is_atom, is_infix, fits}, TreeLevels.row_level}
+use Rattle.{rnix_grammar.specs.TreeLevels.{is_or_row, is_atom_row, calls_or}, rnix_lemmas.proofs.{Basics.true_is_not_false, NodeKinds.is_error}}
+use Rattle.rnix_lemmas.proofs.{LevelLemmas.{operates, atom_fits, simple_fits, fits_looser}, FollowLemmas.{FollowedTo, followed_atom, followed_tight}}
+use Rattle.rnix_lemmas.proofs.FollowLemmas.{followed_call, followed_infix}
+
+-- the kind by which a row goes on behind a tree: an error node counts as a literal
+abbrev pub seen_kind : AnnotatedForest → SyntaxKind
+seen_kind (branch k c f) = k
+seen_kind f = NODE_LITERAL
+
+-- One tree may be an operand of a level, and go on with what binds no tighter than another level.
+pub record MayGrow (low high : ℕ) (x : AnnotatedForest) : Type 0 where
+  pub fit : fits low (seen_kind x) ≡ true
+  pub tight : fits high (seen_kind x) ≡ true
+  pub least : low ≤ row_level x
+  pub follow : FollowedTo high x
+  pub no_or : is_or_row x ≡ false
 
 -- a node whose leaves keep their tokens' kinds is not the name `or`
 pub no_name : (k : SyntaxKind) (c : AnnotatedForest) → is_error k ≡ false → is_or_row (one_branch k c) ≡ false
@@ -17,7 +30,8 @@ atom_seen (branch k c f) h = h
 atom_seen _ h = cc
 
 -- a tree that fits its own level may be an operand of each looser one, and goes on with what may follow it
-pub grows_by : (low high : ℕ) (x : AnnotatedForest) → fits (row_level x) (seen_kind x) ≡ true → low ≤ row_level x → high ≤ row_level x → FollowedTo high x → is_or_row x ≡ false
+pub grows_by : (low high : ℕ) (x : AnnotatedForest) → fits (row_level x) (seen_kind x) ≡ true → low ≤ row_level x → high ≤ row_level x → FollowedTo high x
+    → is_or_row x ≡ false
     → MayGrow low high x
 grows_by low high x f l h w o = record {
   fit = fits_looser low (row_level x) (seen_kind x) l f;
@@ -29,7 +43,8 @@ grows_by low high x f l h w o = record {
 
 -- an atom goes on with everything
 pub atom_grows : (low : ℕ) (x : AnnotatedForest) → is_atom_row x ≡ true → row_level x ≡ 16 → is_or_row x ≡ false → low ≤ 16 → MayGrow low 16 x
-atom_grows low x h v o l = grows_by low 16 x (atom_fits (row_level x) (seen_kind x) (atom_seen x h)) (omega (arith, v, l)) (omega (arith, v)) (followed_atom x v h) o
+atom_grows low x h v o l =
+    grows_by low 16 x (atom_fits (row_level x) (seen_kind x) (atom_seen x h)) (omega (arith, v, l)) (omega (arith, v)) (followed_atom x v h) o
 
 -- a call goes on with arguments, and with what is looser
 pub call_grows : (low : ℕ) (c : AnnotatedForest) → low ≤ row_level (one_branch NODE_APPLY c) → MayGrow low 15 (one_branch NODE_APPLY c)
@@ -46,9 +61,11 @@ call_grows low c l = by (calls_or c) refl
     by false e = grows_by low 15 x (simple_fits (row_level x) NODE_APPLY refl) l (omega (arith, level false e)) (followed_call x (level false e) refl) refl
 
 -- the tree of a binary operator is continued by operators up to the operator's `high_of`
-pub operator_grows : (low : ℕ) (k : SyntaxKind) (c : AnnotatedForest) → is_infix k ≡ true → low ≤ binding_power k → row_level (one_branch NODE_BIN_OP c) ≡ binding_power k
+pub operator_grows : (low : ℕ) (k : SyntaxKind) (c : AnnotatedForest) → is_infix k ≡ true → low ≤ binding_power k
+    → row_level (one_branch NODE_BIN_OP c) ≡ binding_power k
     → MayGrow low (high_of k) (one_branch NODE_BIN_OP c)
 operator_grows low k c i l v =
     let x : AnnotatedForest = one_branch NODE_BIN_OP c in
-    grows_by low (high_of k) x (fits_looser (row_level x) 12 NODE_BIN_OP (omega (arith, v, (operates k i).most)) refl) (omega (arith, v, l)) (omega (arith, v, (operates k i).high))
+    grows_by low (high_of k) x (fits_looser (row_level x) 12 NODE_BIN_OP (omega (arith, v, (operates k i).most)) refl) (omega (arith, v, l))
+    (omega (arith, v, (operates k i).high))
     (followed_infix k i x v refl) refl

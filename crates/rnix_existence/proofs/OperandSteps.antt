@@ -1,103 +1,264 @@
--- Steps at an operand: what ends behind each of them ends before it.
-use Rattle.std.proofs.Common.{◌≡◌, ℕ, true, false, List, [], ◌∷◌, ◌++◌, Some, None, refl, ap, sym, ◌∙◌, subst, append_assoc, ◌||◌, ◌&&◌, if◌then◌else◌}
-use Rattle.rnix_kinds.specs.{declared.kinds.SyntaxKind.{SyntaxKind}, declared.kinds.SyntaxKind.TheVariants.{TOKEN_OR, NODE_APPLY, NODE_IDENT}}
-use Rattle.{rnix_kinds.specs.SyntaxKind.{is_fn_arg}, rnix_grammar.specs.{Beginnings.{IsOperandOf}, Reads.{end}}}
-use Rattle.rnix_grammar.specs.{declared.place.Place.{Place}, Fault.{Fault}, Actions.{goes_on}, TokenKinds.{is_or}, AnnotatedForest.{Token, AnnotatedForest}}
-use Rattle.rnix_grammar.specs.AnnotatedForest.{blank, token, ◌⊕◌, one_token, one_branch, tokens_in, leaf_kind, leaf_kind_as, head_kind, end_from}
-use Rattle.rnix_grammar.specs.{Machine.{Head, Node, Operand, Frame, put, opened, made, low_of, operand_on}, Reports.{repeats}, Operands.{first_tree, follows}}
-use Rattle.rnix_grammar.specs.{declared.rules.Part.TheVariants.{Argument}, Rules.{IsExpected, IsFollowed, Row, after, done, row as whole_row, ◌·◌, only}}
-use Rattle.rnix_lemmas.proofs.{Basics.{true_is_not_false}, AnnotatedForestLemmas.{⊕-assoc, tokens_two}, FollowLemmas.{Stops, stops_simple}}
-use Rattle.rnix_lemmas.proofs.{RowParts.{IsFront, front}, ReadsFrom.{inner_from, leaf_from, name_reads, past_over}, RestAt.{rest_at}}
-use Rattle.rnix_existence.proofs.{OpenFrames.{seen_kind, Ends, operand_frame, EndsBy}, Frames.{AtOperand}, BelowKept.{alone}, RowFronts.{end_two}}
-use Rattle.rnix_existence.proofs.{OperandTrees.{Takes, placed}, OperandEnds.{OpenEnds, open_ends}, OperandWraps.{wrapped_ends}, OperandFollows.{grown_none}}
-use Rattle.rnix_existence.proofs.{BeginEnds.{BeginEnds}, BeginReads.{begin_ends}}
+-- Steps at an operand keep what is known of the frames, and what ends behind each of them ends before it.
+use Rattle.std.proofs.Common.{◌≡◌, inr, ℕ, ◌≤◌, Bool, true, false, List, [], ◌∷◌, ◌++◌, Some, None, refl, ap, sym, ◌∙◌, subst, append_assoc, append-nil, arith}
+use Rattle.std.proofs.{Common.{◌||◌, ◌&&◌, if◌then◌else◌, nat_eq, nat_le}, lemmas.Bool.{and_parts, and_from, Decides.nat_tests}}
+use Rattle.rnix_kinds.specs.declared.kinds.SyntaxKind.{SyntaxKind, TheVariants.{TOKEN_DOT, TOKEN_OR, TOKEN_QUESTION, NODE_SELECT, NODE_APPLY, NODE_HAS_ATTR}}
+use Rattle.rnix_kinds.{specs.{declared.kinds.SyntaxKind.TheVariants.{NODE_BIN_OP, NODE_IDENT}, SyntaxKind.is_fn_arg}, proofs.AllKinds.implied}
+use Rattle.rnix_grammar.specs.declared.{place.Place.Place, action.Action.Action, position.TheConstants.{APPLIED, HAS_ATTR, SELECT}}
+use Rattle.rnix_grammar.specs.{declared.rules.Part.TheVariants.{Argument, Binary, Suffix}, Fault.Fault, Levels.{binding_power, right_of, high_of}}
+use Rattle.rnix_grammar.specs.{Actions.{follow, goes_on, more_action}, TokenKinds.is_or, Rows.{is_infix, fits}, AnnotatedForest.{Token, AnnotatedForest, blank}}
+use Rattle.rnix_grammar.specs.{AnnotatedForest.{◌⊕◌, one_branch, leaf_kind, leaf_kind_as, head_kind}, Machine.{Node, Operand, Frame, put, opened}}
+use Rattle.rnix_grammar.specs.{Reports.repeats, Operands.{first_tree, follows, goes_on as goes_behind}, TreeLevels.{row_level, operator_in, calls_or}}
+use Rattle.rnix_grammar.specs.{Reads.end, Beginnings.{BeginsAs, IsOperandOf}, Positions.left_at, Rules.{IsExpected, IsFollowed, Row, after, done}}
+use Rattle.{rnix_grammar.specs.Rules.{row as whole_row, ◌·◌, only}, rnix_lemmas.proofs.Basics.{true_is_not_false, not_if, some_same}}
+use Rattle.rnix_lemmas.proofs.{AnnotatedForestLemmas.⊕-assoc, LevelLemmas.{at_most, at_most_true, fits_looser, right_within, within}, FollowLemmas.FollowedTo}
+use Rattle.rnix_lemmas.proofs.{FollowLemmas.{followed_tight, followed_question}, FirstTrees.{a_node, first_in, single_operator, single_calls}, RowParts.IsFront}
+use Rattle.rnix_lemmas.proofs.{RowParts.front, ReadsFrom.{inner_from, leaf_from, name_reads, past_over}, RestAt.rest_at}
+use Rattle.rnix_existence.proofs.{Growing.{MayGrow, seen_kind, atom_seen, grows_by, call_grows, operator_grows}, OperandTrees.{argument_takes, first_placed}}
+use Rattle.rnix_existence.proofs.{OperandTrees.{placed, none_repeated}, Frames.{is_home, is_sound, AtOperand, Below, One, an_operand, node, operand, opens_on}}
+use Rattle.rnix_existence.proofs.{Frames.{landed, alone}, OpenFrames.{Outcome, Spans, spanned, spans_two, spans_made, item, a_node as lone_node, IsRead, Grows}}
+use Rattle.rnix_existence.proofs.{OpenFrames.{RowEnds, Closes, EndsOn, GoesBy, row_fronted, open_ends, operand_ends}, Beginnings.{BeginEnds, operand_begins}}
 use Rattle.rnix_grammar.specs.declared.place.Place.TheVariants as p
 use Rattle.rnix_grammar.specs.declared.action.Action.TheVariants as a
 
--- the operand is complete
-pub settle_ends : (f : Frame) (fs : List Frame) (ts : List Token) (n : ℕ) (gs : List Fault) (r : AtOperand f fs)
-    → ((j : SyntaxKind) → head_kind ts ≡ Some j → goes_on r.low r.high j ≡ false) → EndsBy a.Settle f fs ts n gs
-settle_ends f [] ts n gs r h row es ends = absurd (alone r.below)
-settle_ends f (g ∷ fs) ts n gs r h row es ends = (
-  es,
-  (
-    operand_frame r.low r.high r.head r.place
-        (grown_none r.low r.high f.depth f.row ts n r.grows.least r.grows.fit r.grows.no_or h)
-        (subst (λ (z : Head). Ends (put g.place (g.row ⊕ made z f.row) g ∷ fs) ts n row es) r.head ends) refl,
-    refl,
-  ),
-)
+-- a token of level 15 begins an argument, and is not the name `or`
+argument_is : (k : SyntaxKind) → binding_power k ≡ 15 → is_fn_arg k ≡ true
+argument_is k h = implied (λ o. nat_eq (binding_power o) 15) is_fn_arg refl k (grind (arith, nat_tests, h))
 
--- the operand becomes the first tree of a node that the next item goes on with
-pub wrap_ends : (f : Frame) (fs : List Frame) (t : Token) (ts : List Token) (n : ℕ) (gs : List Fault) (k : SyntaxKind) (row_state : Row) (x : Place) (other : ℕ) (r : AtOperand f fs)
-    → IsFront (whole_row k) → after (whole_row k) (seen_kind f.row) ≡ row_state → ((us : List Token) → IsExpected row_state n us true) → IsFollowed row_state f.row (Some (leaf_kind k t)) → after row_state (leaf_kind k t) ≡ rest_at x
-    → ((c : AnnotatedForest) → first_tree (one_branch k c) ≡ first_tree c) → ((rest : AnnotatedForest) → Stops other (one_branch k (f.row ⊕ token (leaf_kind k t) t rest))) → ((b c : AnnotatedForest) → repeats k b c ≡ [])
-    → EndsBy (a.Wrap k x other) f fs (t ∷ ts) n gs
-wrap_ends f fs t ts n gs k row_state x other r st g own fo h first stops none row es ends = (es, (subst (Ends (f ∷ fs) (t ∷ ts) n row) (sym all) whole, refl))
+argument_no_or : (k : SyntaxKind) → binding_power k ≡ 15 → is_or k ≡ false
+argument_no_or k h = not_if (is_or k) (implied (λ o. nat_eq (binding_power o) 15) (λ o. if is_or o then false else true) refl k (grind (arith, nat_tests, h)))
+
+-- an item that may not continue an operand between two levels does not continue a tree that allows no tighter one
+calm_behind : (low high : ℕ) (x : AnnotatedForest) (ts : List Token) → ((j : SyntaxKind) → head_kind ts ≡ Some j → goes_on low high j ≡ false)
+    → FollowedTo high x → goes_behind low x ts ≡ false
+calm_behind low high x [] h w = refl
+calm_behind low high x (t ∷ ts) h w = by (follows t.kind x) (nat_le low (binding_power t.kind)) refl refl
   where
-    o : OpenEnds (opened (Node k) x f.depth (f.row ⊕ one_token (leaf_kind k t) t)) (opened Operand (p.Behind r.low other) f.depth blank) fs ts t.end row es
-    o =
-        open_ends (opened (Node k) x f.depth (f.row ⊕ one_token (leaf_kind k t) t)) (opened Operand (p.Behind r.low other) f.depth blank) fs ts t.end row es refl
-        (subst (λ (m : ℕ). Ends (opened (Node k) x f.depth (f.row ⊕ one_token (leaf_kind k t) t) ∷ (opened Operand (p.Behind m other) f.depth blank ∷ fs)) ts t.end row es) (ap low_of r.place) ends)
+    by : (u v : Bool) → follows t.kind x ≡ u → nat_le low (binding_power t.kind) ≡ v → (u && v) ≡ false
+    by false v e f = refl
+    by true false e f = refl
+    by true true e f =
+        let q = (w t.kind).1 e in
+        absurd (true_is_not_false (sym (and_from _ _ (at_most_true 1 (binding_power t.kind) q.0)
+        (and_from _ _ f (at_most_true (binding_power t.kind) high q.1))) ∙ h t.kind refl))
 
-    all : es ≡ o.inside ++ o.behind
-    all = o.faults ∙ ap (λ z. o.inside ++ (z ++ o.behind)) (none blank ((f.row ⊕ one_token (leaf_kind k t) t) ⊕ o.rest))
+-- trees with one first tree begin alike
+begun_same : (level : ℕ) (x y : AnnotatedForest) (ts : List Token) → first_tree y ≡ first_tree x → BeginsAs level x ts → BeginsAs level y ts
+begun_same level x y [] e h = h
+begun_same level x y (t ∷ ts) e h = h ∙ sym e
 
-    whole : Ends (f ∷ fs) (t ∷ ts) n row (o.inside ++ o.behind)
-    whole =
-        wrapped_ends f fs (t ∷ ts) n row o.behind r.low r.high other k row_state o.row_state (token (leaf_kind k t) t o.rest) o.left o.reached o.inside r.head r.place r.single
-        r.grows.fit st g (first (f.row ⊕ token (leaf_kind k t) t o.rest)) (stops o.rest) (ap (λ z. t ∷ z) o.items) o.reach o.over
-        (leaf_from refl (own (t ∷ (tokens_in o.rest ++ o.left))) fo h o.reads)
-        (subst (λ (z : AnnotatedForest). Ends (opened Operand (p.Behind r.low other) f.depth (one_branch k z) ∷ fs) o.left o.reached row o.behind) (⊕-assoc f.row (one_token (leaf_kind k t) t) o.rest) o.ends)
+-- the level of a token lies between two
+abbrev Between : ℕ → ℕ → SyntaxKind → Type 0
+Between low high k = (1 ≤ binding_power k) × (low ≤ binding_power k) × (binding_power k ≤ high)
 
--- an argument stands behind what is called
-argument_takes : Takes (Argument · done) 16 done
-argument_takes = record { leveled = λ x h. ap (λ w. if w then None else Some 16) h; expected = λ k c h. h; goes = λ k h. ap (λ w. only w done) h }
+-- so does that of a token that continues an operand
+between : (low high : ℕ) (k : SyntaxKind) → goes_on low high k ≡ true → Between low high k
+between low high k h =
+    let x = and_parts _ _ h in let y = within low (binding_power k) high x.1 in (at_most 1 (binding_power k) x.0, y.0, y.1)
 
--- the operand is called
-pub apply_ends : (f : Frame) (fs : List Frame) (t : Token) (ts : List Token) (n : ℕ) (gs : List Fault) (r : AtOperand f fs) → after (whole_row NODE_APPLY) (seen_kind f.row) ≡ Argument · done
-    → is_or t.kind ≡ false → is_fn_arg t.kind ≡ true → follows t.kind f.row ≡ true → EndsBy a.Apply f fs (t ∷ ts) n gs
-apply_ends f fs t ts n gs r g nor arg fo row es ends = ((b.inside ++ o.inside) ++ o.behind, (whole, faults))
-  where
-    node : Frame
-    node = opened (Node NODE_APPLY) p.Past f.depth f.row
+-- the action of a token that continues an operand
+data FollowsBy : SyntaxKind → Action → Type 0 where
+  by_dot : FollowsBy TOKEN_DOT (a.Wrap NODE_SELECT (p.Left SELECT) 15)
+  by_or : FollowsBy TOKEN_OR a.ApplyOr
+  by_question : FollowsBy TOKEN_QUESTION (a.Wrap NODE_HAS_ATTR (p.Left HAS_ATTR) 13)
+  by_operator : {k : SyntaxKind} → is_infix k ≡ true → FollowsBy k (a.Wrap NODE_BIN_OP (p.Right (right_of k)) (high_of k))
+  by_argument : {k : SyntaxKind} → binding_power k ≡ 15 → FollowsBy k a.Apply
 
-    below : Frame
-    below = opened Operand (p.Behind (low_of f.place) 15) f.depth blank
+no_binding_power : (k : SyntaxKind) (action : Action) → 1 ≤ 0 → FollowsBy k action
+no_binding_power k action h = absurd (omega (arith, h))
 
-    b : BeginEnds 16 f.depth node (below ∷ fs) (t ∷ ts) n row gs ((operand_on false 16 f.depth node (below ∷ fs) (t ∷ ts) (t ∷ ts) n gs).faults ++ es)
-    b = begin_ends 16 f.depth t ts node (below ∷ fs) n gs row es ends
+-- each token with a level has such an action
+followed_by : (k : SyntaxKind) → 1 ≤ binding_power k → FollowsBy k (follow k)
+followed_by TOKEN_DOT h = by_dot
+followed_by TOKEN_OR h = by_or
+followed_by TOKEN_QUESTION h = by_question
+followed_by _ h = first_of (search by_operator, search by_argument, search (no_binding_power, h))
 
-    o : OpenEnds (opened (Node NODE_APPLY) p.Past f.depth (f.row ⊕ b.tree)) below fs b.left b.reached row b.behind
-    o = open_ends (opened (Node NODE_APPLY) p.Past f.depth (f.row ⊕ b.tree)) below fs b.left b.reached row b.behind refl b.ends
+-- an operand that operators between two levels may continue, inside d counted places; the last item that was read ends at n, and gs are the errors so far
+module _ (whole : Outcome) (low high d : ℕ) (x : AnnotatedForest) (n : ℕ) (gs : List Fault) where
+  -- its frame
+  abbrev frame : Frame
+  frame = opened Operand (p.Behind low high) d x
 
-    faults : gs ++ ((b.inside ++ o.inside) ++ o.behind) ≡ (operand_on false 16 f.depth node (below ∷ fs) (t ∷ ts) (t ∷ ts) n gs).faults ++ es
-    faults = ap (λ z. gs ++ z) (append_assoc b.inside o.inside o.behind ∙ ap (λ z. b.inside ++ z) (sym o.faults)) ∙ b.faults
+  -- its frame with another tree, which operators up to another level may continue
+  abbrev other_frame : ℕ → AnnotatedForest → Frame
+  other_frame other c = opened Operand (p.Behind low other) d c
 
-    followed : IsFollowed (Argument · done) f.row (Some t.kind)
-    followed = ap (λ w. (w || is_or t.kind) && follows t.kind f.row) arg ∙ fo
+  -- no item continues it, and it is complete
+  settles : (fs : List Frame) → AtOperand low high d x fs → (ts : List Token) → ((j : SyntaxKind) → head_kind ts ≡ Some j → goes_on low high j ≡ false)
+      → GoesBy whole a.Settle frame fs ts n gs
+  settles [] r ts h = absurd (alone r.below)
+  settles (g ∷ fs) r ts h = (
+    landed Operand x g fs r.below,
+    λ ends. inr (record {
+      left = ts;
+      reached = n;
+      tree = x;
+      inside = [];
+      is = refl;
+      whole = record { least = r.grows.least; fit = r.grows.fit; no_or = r.grows.no_or; calm = calm_behind low high x ts h r.grows.follow };
+      grows = λ l all cs i. subst (IsRead low d l all x ts n) (sym (append-nil cs)) i;
+      ends = subst (EndsOn whole fs (put g.place (g.row ⊕ x) g) ts n) (sym (append-nil gs)) ends;
+    }),
+  )
 
-    whole : Ends (f ∷ fs) (t ∷ ts) n row ((b.inside ++ o.inside) ++ o.behind)
-    whole =
-        wrapped_ends f fs (t ∷ ts) n row o.behind r.low r.high 15 NODE_APPLY (Argument · done) o.row_state (b.tree ⊕ o.rest) o.left o.reached (b.inside ++ o.inside) r.head r.place r.single
-        r.grows.fit (front (whole_row NODE_APPLY) refl) g refl (stops_simple (one_branch NODE_APPLY (f.row ⊕ (b.tree ⊕ o.rest))) refl)
-        (b.items ∙ ap (λ z. tokens_in b.tree ++ z) o.items ∙ sym (tokens_two b.tree o.rest o.left)) (o.reach ∙ ap (λ j. end_from j (tokens_in o.rest)) b.reach ∙ sym (end_two n b.tree o.rest)) o.over
-        (placed argument_takes b.lone b.fit b.no_or b.operand o.items b.items b.reach nor (λ e. absurd (true_is_not_false (sym e))) followed o.reads)
-        (subst (λ (m : ℕ). Ends (opened Operand (p.Behind m 15) f.depth (one_branch NODE_APPLY (f.row ⊕ (b.tree ⊕ o.rest))) ∷ fs) o.left o.reached row o.behind) (ap low_of r.place)
-        (subst (λ (z : AnnotatedForest). Ends (opened Operand (p.Behind (low_of f.place) 15) f.depth (one_branch NODE_APPLY z) ∷ fs) o.left o.reached row o.behind) (⊕-assoc f.row b.tree o.rest) o.ends))
+  -- the operand is the first tree of a node, and the rest of that row is read
+  abbrev WrapEnds : ℕ → SyntaxKind → Row → List Frame → List Token → Type 0
+  WrapEnds other k q fs ts = RowEnds (Node k) d q x (Closes (Node k) (other_frame other blank) (EndsOn whole fs)) ts n gs
 
--- the operand is called with the name `or`
-pub apply_or_ends : (f : Frame) (fs : List Frame) (t : Token) (ts : List Token) (n : ℕ) (gs : List Fault) (r : AtOperand f fs) → after (whole_row NODE_APPLY) (seen_kind f.row) ≡ Argument · done
-    → t.kind ≡ TOKEN_OR → follows TOKEN_OR f.row ≡ true → EndsBy a.ApplyOr f fs (t ∷ ts) n gs
-apply_or_ends f fs t ts n gs r g e fo row es ends = (es, (whole, refl))
-  where
-    whole : Ends (f ∷ fs) (t ∷ ts) n row es
-    whole =
-        wrapped_ends f fs (t ∷ ts) n row es r.low r.high 15 NODE_APPLY (Argument · done) done (one_branch NODE_IDENT (one_token (leaf_kind NODE_IDENT t) t)) ts t.end [] r.head r.place r.single
-        r.grows.fit (front (whole_row NODE_APPLY) refl) g refl (stops_simple (one_branch NODE_APPLY (f.row ⊕ one_branch NODE_IDENT (one_token (leaf_kind NODE_IDENT t) t))) refl)
-        refl refl (past_over t.end ts)
-        (inner_from refl refl (name_reads t (ap (λ k. after (whole_row NODE_IDENT) (leaf_kind_as NODE_IDENT k)) e)) refl (past_over t.end ts) refl
-        (λ v. absurd (true_is_not_false (sym v))) (subst (λ (k : SyntaxKind). IsFollowed (Argument · done) f.row (Some k)) (sym e) fo)
-        (subst (λ (k : SyntaxKind). IsOperandOf (if is_or k then None else Some 16) (one_branch NODE_IDENT (one_token (leaf_kind NODE_IDENT t) t)) ts) (sym e) tt)
-        refl end refl)
-        (subst (λ (m : ℕ). Ends (opened Operand (p.Behind m 15) f.depth (one_branch NODE_APPLY (f.row ⊕ one_branch NODE_IDENT (one_token (leaf_kind NODE_IDENT t) t))) ∷ fs) ts t.end row es) (ap low_of r.place) ends)
+  -- the node then is the operand
+  wraps_on : (fs : List Frame) → AtOperand low high d x fs → (other : ℕ) (k : SyntaxKind) (q : Row) (ts : List Token) → IsFront (whole_row k)
+      → after (whole_row k) (seen_kind x) ≡ q
+      → ((c : AnnotatedForest) → first_tree (one_branch k c) ≡ first_tree c) → fits low k ≡ true → WrapEnds other k q fs ts → EndsOn whole fs frame ts n gs
+  wraps_on [] r other k q ts st g first fit o = absurd (alone r.below)
+  wraps_on (j ∷ fs) r other k q ts st g first fit o =
+      let hs : List Fault = (gs ++ o.inside) ++ repeats k blank c in
+      let e = operand_ends whole j fs (other_frame other (one_branch k c)) o.left o.reached hs refl o.ends.1 in
+      inr (record {
+        left = e.left;
+        reached = e.reached;
+        tree = e.tree;
+        inside = o.inside ++ e.inside;
+        is = refl;
+        whole = e.whole;
+        grows = λ l all cs i. subst (IsRead low d l all e.tree e.left e.reached) (append_assoc cs o.inside e.inside)
+            (e.grows l all (cs ++ o.inside) (wrapped l all cs i));
+        ends =
+            subst (EndsOn whole fs (put j.place (j.row ⊕ e.tree) j) e.left e.reached)
+            (ap (λ z. z ++ e.inside) (none_repeated low k blank c (gs ++ o.inside) fit) ∙ append_assoc gs o.inside e.inside) e.ends;
+      })
+    where
+      c : AnnotatedForest
+      c = x ⊕ o.rest
+
+      wrapped : Grows low d x ts n (one_branch k c) o.left o.reached o.inside
+      wrapped l all cs i =
+          let span : Spans all l o.left o.reached c = spans_two x o.rest i.span o.span in
+          record {
+            span = spans_made (Node k) c span;
+            begins = begun_same low x (one_branch k c) all (first c ∙ first_in x o.rest r.single) i.begins;
+            lone = lone_node (first_placed low st i.lone r.grows.fit o.span.items i.span.reach g o.reads) span.reach o.ends.0;
+          }
+
+  module _ (fs : List Frame) (r : AtOperand low high d x fs) where
+    -- the next item makes it the first tree of a node
+    wraps : (t : Token) (ts : List Token) (k : SyntaxKind) (q : Row) (z : Place) (other : ℕ) → IsFront (whole_row k) → after (whole_row k) (seen_kind x) ≡ q
+        → ((us : List Token) → IsExpected q n us true) → IsFollowed q x (Some (leaf_kind k t)) → after q (leaf_kind k t) ≡ rest_at z
+        → ((c : AnnotatedForest) → first_tree (one_branch k c) ≡ first_tree c) → is_sound (Node k) ≡ true → is_home z k ≡ true
+        → ((rest : AnnotatedForest) → MayGrow low other (one_branch k ((x ⊕ item k t) ⊕ rest))) → GoesBy whole (a.Wrap k z other) frame fs (t ∷ ts) n gs
+    wraps t ts k q z other st g own fo h first sound home grows = (
+      node (opens_on k z d (x ⊕ item k t) (other_frame other blank ∷ fs) sound home r.shallow (an_operand low other d r.shallow grows r.below)),
+      λ ends. wraps_on fs r other k q (t ∷ ts) st g first (grows blank).fit
+          (row_fronted (item k t) [] spanned (sym (append-nil gs)) (λ vs s c es e w. leaf_from e (own (t ∷ ts)) fo h w)
+          (open_ends whole (other_frame other blank) fs (opened (Node k) z d (x ⊕ item k t)) ts t.end gs refl ends)),
+    )
+
+    -- an argument may follow it
+    is_called : 15 ≤ high → after (whole_row NODE_APPLY) (seen_kind x) ≡ Argument · done
+    is_called l = ap (λ w. only w (Argument · done)) (fits_looser 15 high (seen_kind x) l r.grows.tight)
+
+    -- an argument follows it
+    applies : (t : Token) (ts : List Token) → after (whole_row NODE_APPLY) (seen_kind x) ≡ Argument · done → low ≤ 15 → is_or t.kind ≡ false
+        → is_fn_arg t.kind ≡ true → follows t.kind x ≡ true
+        → GoesBy whole a.Apply frame fs (t ∷ ts) n gs
+    applies t ts g l nor arg fo =
+        let below : Below (One NODE_APPLY x) (under ∷ fs) = an_operand low 15 d r.shallow grows r.below in
+        let b = operand_begins whole 16 d (called x) (under ∷ fs) n gs (opens_on NODE_APPLY (p.Left APPLIED) d x (under ∷ fs) refl refl r.shallow below)
+        r.shallow (omega arith) t ts in
+        (b.0, λ ends. by (b.1 ends))
+      where
+        under : Frame
+        under = other_frame 15 blank
+
+        called : AnnotatedForest → Frame
+        called c = opened (Node NODE_APPLY) (p.Left APPLIED) d c
+
+        grows : (rest : AnnotatedForest) → MayGrow low 15 (one_branch NODE_APPLY (x ⊕ rest))
+        grows rest = call_grows low (x ⊕ rest) (elim (calls_or (x ⊕ rest)) as (λ w. low ≤ (if w then 16 else 15)) [ true ↦ omega (arith, l) | false ↦ l ])
+
+        followed : IsFollowed (Argument · done) x (Some t.kind)
+        followed = ap (λ w. (w || is_or t.kind) && follows t.kind x) arg ∙ fo
+
+        by : BeginEnds whole 16 d (called x) (under ∷ fs) (t ∷ ts) n gs → EndsOn whole fs frame (t ∷ ts) n gs
+        by e =
+            wraps_on fs r 15 NODE_APPLY (Argument · done) (t ∷ ts) (front (whole_row NODE_APPLY) refl) g (λ c. refl) (grows blank).fit
+            (row_fronted e.tree e.inside e.read.span refl
+            (λ vs s c es i z. placed argument_takes e.read e.is_whole i nor (λ v. absurd (true_is_not_false (sym v))) followed z)
+            (open_ends whole under fs (called (x ⊕ e.tree)) e.left e.reached (gs ++ e.inside) refl e.ends))
+
+    -- the name `or` follows it as an argument
+    applies_or : (t : Token) (ts : List Token) → after (whole_row NODE_APPLY) (seen_kind x) ≡ Argument · done → low ≤ 16 → t.kind ≡ TOKEN_OR
+        → follows TOKEN_OR x ≡ true
+        → GoesBy whole a.ApplyOr frame fs (t ∷ ts) n gs
+    applies_or t ts g l e fo = (
+      operand (record { single = a_node; grows = grows; shallow = r.shallow; below = r.below }),
+      λ ends. wraps_on fs r 15 NODE_APPLY (Argument · done) (t ∷ ts) (front (whole_row NODE_APPLY) refl) g (λ c. refl) grows.fit (record {
+        left = ts;
+        reached = t.end;
+        row_state = done;
+        rest = name;
+        inside = [];
+        opened = refl;
+        reads =
+            inner_from refl refl (name_reads t (ap (λ k. after (whole_row NODE_IDENT) (leaf_kind_as NODE_IDENT k)) e)) refl (past_over t.end ts) refl
+            (λ v. absurd (true_is_not_false (sym v))) (subst (λ (k : SyntaxKind). IsFollowed (Argument · done) x (Some k)) (sym e) fo)
+            (subst (λ (k : SyntaxKind). IsOperandOf (if is_or k then None else Some 16) name ts) (sym e) tt) refl end refl;
+        span = spanned;
+        ends = (
+          past_over t.end ts,
+          subst (EndsOn whole fs (other_frame 15 (one_branch NODE_APPLY (x ⊕ name))) ts t.end)
+              (sym (append-nil (gs ++ []) ∙ append-nil gs)) ends,
+        );
+      }),
+    )
+      where
+        name : AnnotatedForest
+        name = one_branch NODE_IDENT (item NODE_IDENT t)
+
+        level : row_level (one_branch NODE_APPLY (x ⊕ name)) ≡ 16
+        level = ap (λ w. if w then 16 else 15) (single_calls x name r.single ∙ ap is_or e)
+
+        grows : MayGrow low 15 (one_branch NODE_APPLY (x ⊕ name))
+        grows = call_grows low (x ⊕ name) (omega (arith, level, l))
+
+    -- an item of a level between the two continues it
+    follows_it : (k j : SyntaxKind) → j ≡ k → Between low high k → follows j x ≡ true
+    follows_it k j e w = subst (λ (j : SyntaxKind). follows j x ≡ true) (sym e) ((r.grows.follow k).0 w.0 w.2)
+
+    -- an item continues it
+    goes : (k : SyntaxKind) (action : Action) → FollowsBy k action → (t : Token) (ts : List Token) → t.kind ≡ k → Between low high k
+        → GoesBy whole action frame fs (t ∷ ts) n gs
+    goes k action by_dot t ts e w =
+        let node : AnnotatedForest → AnnotatedForest = λ rest. one_branch NODE_SELECT ((x ⊕ item NODE_SELECT t) ⊕ rest) in
+        let q : Row = Suffix TOKEN_DOT · left_at SELECT in
+        wraps t ts NODE_SELECT q (p.Left SELECT) 15 (front (whole_row NODE_SELECT) refl) (ap (λ w. only w q) (atom_seen x (follows_it k k refl w))) (λ us. tt)
+        (follows_it k t.kind e w)
+        (ap (λ j. after q (leaf_kind_as NODE_SELECT j)) e) (λ c. refl) refl refl
+        (λ rest. grows_by low 15 (node rest) refl w.1 (omega arith) (followed_tight (node rest) refl refl) refl)
+    goes k action by_question t ts e w =
+        let node : AnnotatedForest → AnnotatedForest = λ rest. one_branch NODE_HAS_ATTR ((x ⊕ item NODE_HAS_ATTR t) ⊕ rest) in
+        let q : Row = Suffix TOKEN_QUESTION · left_at HAS_ATTR in
+        wraps t ts NODE_HAS_ATTR q (p.Left HAS_ATTR) 13 (front (whole_row NODE_HAS_ATTR) refl)
+        (ap (λ w. only w q) (fits_looser 13 high (seen_kind x) w.2 r.grows.tight)) (λ us. tt)
+        (follows_it k t.kind e w) (ap (λ j. after q (leaf_kind_as NODE_HAS_ATTR j)) e) (λ c. refl) refl refl
+        (λ rest. grows_by low 13 (node rest) refl w.1 (omega arith) (followed_question (node rest) refl refl) refl)
+    goes k action (by_operator h) t ts e w =
+        wraps t ts NODE_BIN_OP (Binary · done) (p.Right (right_of k)) (high_of k) (front (whole_row NODE_BIN_OP) refl)
+        (ap (λ w. only w (Binary · done)) (fits_looser 1 high (seen_kind x) (omega (arith, w.2, w.0)) r.grows.tight)) (λ us. tt)
+        (follows_it k t.kind e w)
+        (ap (λ j. after (Binary · done) (leaf_kind_as NODE_BIN_OP j)) e ∙ ap (λ w. only w (rest_at (p.Right (right_of k)))) h) (λ c. refl) refl
+        (ap (λ w. w && true) (at_most_true (right_of k) 16 (right_within k).1))
+        (λ rest. operator_grows low k ((x ⊕ item NODE_BIN_OP t) ⊕ rest) h w.1
+        (ap binding_power (ap operator_in (⊕-assoc x (item NODE_BIN_OP t) rest) ∙ single_operator x rest (leaf_kind NODE_BIN_OP t) t r.single ∙ e)))
+    goes k action by_or t ts e w = applies_or t ts (is_called (omega (arith, w.2))) w.1 e (follows_it k k refl w)
+    goes k action (by_argument h) t ts e w =
+        applies t ts (is_called (omega (arith, w.2, h))) (omega (arith, w.1, h)) (ap is_or e ∙ argument_no_or k h) (ap is_fn_arg e ∙ argument_is k h)
+        (follows_it k t.kind e w)
+
+    -- each step at it
+    pub operand_step : (ts : List Token) → GoesBy whole (more_action low high (head_kind ts)) frame fs ts n gs
+    operand_step [] = settles fs r [] (λ j e. absurd (cc e))
+    operand_step (t ∷ ts) = by (goes_on low high t.kind) refl
+      where
+        by : (w : Bool) → goes_on low high t.kind ≡ w → GoesBy whole (if w then follow t.kind else a.Settle) frame fs (t ∷ ts) n gs
+        by true e = let w : Between low high t.kind = between low high t.kind e in goes t.kind (follow t.kind) (followed_by t.kind w.0) t ts refl w
+        by false e = settles fs r (t ∷ ts) (λ j h. subst (λ (k : SyntaxKind). goes_on low high k ≡ false) (some_same t.kind j h) e)

@@ -1,64 +1,65 @@
--- What is done at a place of a node's row leaves it in its row, and opens nodes at places of theirs.
-use Rattle.{std.proofs.Common.{◌≡◌, Bool, true, false, Option, Some, None, refl, ap, sym, if◌then◌else◌, nat_le}, rnix_existence.proofs.Frames.{row_at}}
-use Rattle.rnix_kinds.specs.declared.kinds.SyntaxKind.{SyntaxKind}
-use Rattle.rnix_grammar.specs.{declared.place.Place.{Place}, declared.action.Action.{Action}, Actions.{action_at}, AnnotatedForest.{touches}}
-use Rattle.rnix_lemmas.proofs.{NodeKinds.{is_error}, EachKind.{each_next}, NestTrees.{is_formal}, PlaceTable.{is_in_row}}
+-- Every action at a place of a node leads to places of the same row, and opens other nodes at places of theirs.
+use Rattle.std.{specs.List.list_all, proofs.Common.{◌≡◌, ℕ, Bool, true, false, Option, Some, None, ap, sym, ◌∙◌, subst, if◌then◌else◌, ◌&&◌, nat_le}}
+use Rattle.{std.proofs.lemmas.Bool.and_parts, rnix_kinds.{proofs.AllKinds.{all_kinds, every}, specs.declared.kinds.SyntaxKind.SyntaxKind}}
+use Rattle.{rnix_kinds.specs.declared.kinds.SyntaxKind.TheVariants.{NODE_ERROR, NODE_PAT_ENTRY}, rnix_green.specs.Equality.same_kind}
+use Rattle.rnix_grammar.specs.{declared.{place.Place.Place, action.Action.Action, position.TheConstants.SLOTS}, Actions.{left_action, action_at}, Machine.Node}
+use Rattle.{rnix_grammar.specs.Positions.{left_at, left_in, kind_at}, rnix_lemmas.proofs.{Basics.true_is_not_false, EveryKind.same, EachIndex.EachSlot}}
+use Rattle.{rnix_lemmas.proofs.{EachIndex.each_index, PlaceTable.is_waiting}, rnix_existence.proofs.Frames.{is_home, is_sound}}
 use Rattle.rnix_grammar.specs.declared.place.Place.TheVariants as p
 use Rattle.rnix_grammar.specs.declared.action.Action.TheVariants as a
 
--- a node of a kind may be open at a place
-abbrev pub IsRow : SyntaxKind → Place → Type 0
-IsRow k z = (is_error k ≡ false) × (row_at z ≡ Some (is_formal k))
+-- complete nodes of these kinds may report an error
+abbrev pub is_reported : SyntaxKind → Bool
+is_reported NODE_PAT_ENTRY = true
+is_reported NODE_ERROR = true
+is_reported kind = false
 
--- where what is done at a place of a node's row leads
-abbrev pub Leads : Place → Action → Type 0
-Leads x (a.Take y) = row_at y ≡ row_at x
-Leads x (a.Miss y) = row_at y ≡ row_at x
-Leads x (a.MissWanted until y) = row_at y ≡ row_at x
-Leads x (a.Run until y) = row_at y ≡ row_at x
-Leads x (a.Leaf k y) = row_at y ≡ row_at x
-Leads x (a.Entry y) = row_at y ≡ row_at x
-Leads x (a.Twice y) = row_at y ≡ row_at x
-Leads x (a.Open k z y) = IsRow k z × (row_at y ≡ row_at x)
-Leads x (a.Begin k z y) = IsRow k z × (row_at y ≡ row_at x)
-Leads x (a.Read level counted y) = (nat_le level 16 ≡ true) × (row_at y ≡ row_at x)
-Leads x (a.Wrap k z high) = ⊥
-Leads x a.Apply = ⊥
-Leads x a.ApplyOr = ⊥
-Leads x action = Unit {0}
+-- an action at a place of a node of the kind leads to places of its row, opens other nodes at places of theirs, or completes it as its kind asks
+abbrev pub leads : SyntaxKind → Action → Bool
+leads k a.Close = if is_reported k then false else true
+leads k a.ClosePattern = if is_reported k then false else true
+leads k a.CloseEntry = same_kind k NODE_PAT_ENTRY
+leads k a.CloseTwice = same_kind k NODE_ERROR
+leads k a.Finish = true
+leads k a.Extra = true
+leads k (a.Take y) = is_home (p.Left y) k
+leads k (a.Miss y) = is_home (p.Left y) k
+leads k (a.MissWanted until y) = is_home (p.Left y) k
+leads k (a.Run until y) = is_home (p.Left y) k
+leads k (a.Leaf j y) = is_home (p.Left y) k
+leads k (a.Entry y) = is_home (p.Left y) k
+leads k (a.Twice y) = is_home (p.Left y) k
+leads k (a.Open j z y) = is_sound (Node j) && (is_home (p.Left z) j && is_home (p.Left y) k)
+leads k (a.Begin j z y) = is_sound (Node j) && (is_home (p.Left z) j && is_home (p.Left y) k)
+leads k (a.Read level counted y) = nat_le level 16 && is_home (p.Left y) k
+leads k action = false
 
--- each place of a node's row
-pub leads : (x : Place) (next : Option SyntaxKind) (touches b : Bool) → row_at x ≡ Some b → Leads x (action_at x next touches)
-leads (p.Right level) next touches b h = by (nat_le level 16) refl h
+-- so do the actions at each index, whatever the next item is
+abbrev leads_from : Bool → ℕ → Bool
+leads_from touch i = leads (kind_at i) (left_action i None touch) && list_all (λ j. leads (kind_at i) (left_action i (Some j) touch)) all_kinds
+
+abbrev LeadsAt : Bool → ℕ → Type 0
+LeadsAt touch i = (if is_waiting (left_at i) then leads_from touch i else true) ≡ true
+
+leads_each : (touch : Bool) → EachSlot (LeadsAt touch) SLOTS
+leads_each true = assumption
+leads_each false = assumption
+
+leads_at : (touch : Bool) (i : ℕ) → LeadsAt touch i
+leads_at touch = each_index (LeadsAt touch) (leads_each touch) (λ i e d. ap (λ ss. if is_waiting (left_in ss) then leads_from touch i else true) d)
+
+-- and those at each place
+pub leads_on : (x : Place) (k : SyntaxKind) (next : Option SyntaxKind) (touch : Bool) → is_home x k ≡ true → leads k (action_at x next touch) ≡ true
+leads_on (p.Behind low high) k next touch h = absurd (true_is_not_false (sym h))
+leads_on (p.Right level) k next touch h = h
+leads_on (p.Left i) k next touch h = subst (λ (j : SyntaxKind). leads j (left_action i next touch) ≡ true) (same (kind_at i) k q.1) (by next)
   where
-    by : (w : Bool) → nat_le level 16 ≡ w → (if w then Some false else None) ≡ Some b
-        → (nat_le level 16 ≡ true) × (Some false ≡ (if nat_le level 16 then Some false else None))
-    by true e h = (e, ap (λ w. if w then Some false else None) (sym e))
-    by false e h = absurd (cc)
-leads (p.Behind low high) next touches b h = absurd (cc)
-leads p.PathMore next true b h = each_next (λ n. Leads p.PathMore (action_at p.PathMore n true)) (assumption) (assumption) next
-leads p.PathMore next false b h = each_next (λ n. Leads p.PathMore (action_at p.PathMore n false)) (assumption) (assumption) next
-leads (p.PatternEnd true) next touches b h =
-    each_next (λ n. Leads (p.PatternEnd true) (action_at (p.PatternEnd true) n touches)) (assumption) (assumption) next
-leads (p.PatternEnd false) next touches b h =
-    each_next (λ n. Leads (p.PatternEnd false) (action_at (p.PatternEnd false) n touches)) (assumption) (assumption) next
-leads x next touches b h = each_next (λ n. Leads x (action_at x n touches)) (assumption) (assumption) next
+    q : (is_waiting (left_at i) ≡ true) × (same_kind (kind_at i) k ≡ true)
+    q = and_parts (is_waiting (left_at i)) (same_kind (kind_at i) k) h
 
--- the rows in which what is done at a place completes a frame
-abbrev pub ClosesAt : Place → Action → Type 0
-ClosesAt x a.Close = row_at x ≡ Some false
-ClosesAt x a.ClosePattern = row_at x ≡ Some false
-ClosesAt x a.CloseEntry = row_at x ≡ Some true
-ClosesAt x a.CloseTwice = row_at x ≡ None
-ClosesAt x action = Unit {0}
+    all : (leads (kind_at i) (left_action i None touch) ≡ true) × (list_all (λ j. leads (kind_at i) (left_action i (Some j) touch)) all_kinds ≡ true)
+    all = and_parts _ _ (sym (ap (λ w. if w then leads_from touch i else true) q.0) ∙ leads_at touch i)
 
--- each place of a row
-pub closes_at : (x : Place) (next : Option SyntaxKind) (touches : Bool) → is_in_row x ≡ true → ClosesAt x (action_at x next touches)
-closes_at (p.Behind low high) next touches h = absurd (cc)
-closes_at p.PathMore next true h = each_next (λ n. ClosesAt p.PathMore (action_at p.PathMore n true)) (assumption) (assumption) next
-closes_at p.PathMore next false h = each_next (λ n. ClosesAt p.PathMore (action_at p.PathMore n false)) (assumption) (assumption) next
-closes_at (p.PatternEnd true) next touches h =
-    each_next (λ n. ClosesAt (p.PatternEnd true) (action_at (p.PatternEnd true) n touches)) (assumption) (assumption) next
-closes_at (p.PatternEnd false) next touches h =
-    each_next (λ n. ClosesAt (p.PatternEnd false) (action_at (p.PatternEnd false) n touches)) (assumption) (assumption) next
-closes_at x next touches h = each_next (λ n. ClosesAt x (action_at x n touches)) (assumption) (assumption) next
+    by : (next : Option SyntaxKind) → leads (kind_at i) (left_action i next touch) ≡ true
+    by None = all.0
+    by (Some j) = every (λ j. leads (kind_at i) (left_action i (Some j) touch)) all.1 j

@@ -1,170 +1,213 @@
--- What is done at each place, by the next token that is not trivia.
-use Rattle.std.specs.Prelude.{ℕ, Bool, true, false, ◌&&◌, Option, Some, None, if◌then◌else◌, nat_le}
+-- What is done at each position, by the next token that is not trivia.
+use Rattle.std.specs.Prelude.{ℕ, Bool, true, false, ◌+◌, ◌&&◌, Option, Some, None, if◌then◌else◌, nat_le, nat_eq}
 use Rattle.rnix_kinds.specs.declared.kinds.SyntaxKind.{SyntaxKind}
-use Rattle.rnix_kinds.specs.declared.kinds.SyntaxKind.TheVariants.{TOKEN_INHERIT, TOKEN_STRING_START, TOKEN_STRING_CONTENT, TOKEN_STRING_END, TOKEN_INTERPOL_START, TOKEN_IDENT, TOKEN_OR, TOKEN_CUR_POS, TOKEN_DOT, TOKEN_R_BRACE, TOKEN_ELLIPSIS, TOKEN_AT, TOKEN_QUESTION, NODE_INHERIT, NODE_ATTRPATH_VALUE, NODE_ATTRPATH, NODE_INTERPOL, NODE_DYNAMIC, NODE_STRING, NODE_IDENT, NODE_INHERIT_FROM, NODE_PAT_BIND, NODE_SELECT, NODE_HAS_ATTR, NODE_BIN_OP}
+use Rattle.rnix_kinds.specs.declared.kinds.SyntaxKind.TheVariants.{TOKEN_R_PAREN, TOKEN_L_PAREN, TOKEN_L_BRACE, TOKEN_R_BRACE, TOKEN_SEMICOLON, TOKEN_ASSIGN, TOKEN_COLON, TOKEN_COMMA, TOKEN_THEN, TOKEN_ELSE, TOKEN_INTERPOL_END, TOKEN_INHERIT, TOKEN_STRING_START, TOKEN_STRING_CONTENT, TOKEN_STRING_END, TOKEN_INTERPOL_START, TOKEN_PATH_ABS, TOKEN_PATH_REL, TOKEN_PATH_HOME, TOKEN_IDENT, TOKEN_OR, TOKEN_CUR_POS, TOKEN_DOT, TOKEN_ELLIPSIS, TOKEN_AT, TOKEN_QUESTION, NODE_INHERIT, NODE_ATTRPATH_VALUE, NODE_ATTRPATH, NODE_INTERPOL, NODE_DYNAMIC, NODE_STRING, NODE_IDENT, NODE_INHERIT_FROM, NODE_PAT_BIND, NODE_PAT_ENTRY, NODE_PATTERN, NODE_ERROR, NODE_SELECT, NODE_HAS_ATTR, NODE_BIN_OP}
 use Rattle.rnix_kinds.specs.SyntaxKind.{is_fn_arg}
+use Rattle.rnix_green.specs.Equality.{same_kind}
 use Rattle.rnix_grammar.specs.declared.place.Place.{Place}
 use Rattle.rnix_grammar.specs.declared.place.Place.TheVariants as p
+use Rattle.rnix_grammar.specs.declared.position.Slot.{Slot}
+use Rattle.rnix_grammar.specs.declared.position.Slot.TheVariants.{Next, End}
+use Rattle.rnix_grammar.specs.declared.position.TheConstants.{PATTERN, AFTER_COMMA, AFTER_FORMAL, PATTERN_CLOSE, BOUND_AFTER_COMMA, BOUND_AFTER_FORMAL, BOUND_PATTERN_CLOSE, DYNAMIC, STRING, STRING_PAST, INHERIT_END, INHERIT_PAST, INTERPOL, INHERIT, INHERIT_FROM, INHERITED_NAME, ATTRPATH, ATTRPATH_VALUE, PAT_BIND, SELECT, HAS_ATTR, OPERATED}
+use Rattle.rnix_grammar.specs.declared.rules.Part.{Part}
+use Rattle.rnix_grammar.specs.declared.rules.Part.TheVariants as r
 use Rattle.rnix_grammar.specs.declared.until.Until.{Until}
 use Rattle.rnix_grammar.specs.declared.until.Until.TheVariants as u
-use Rattle.rnix_grammar.specs.declared.until.Closer.{Closer}
-use Rattle.rnix_grammar.specs.declared.symbol.Symbol.{Symbol}
-use Rattle.rnix_grammar.specs.declared.symbol.Symbol.TheVariants as s
 use Rattle.rnix_grammar.specs.declared.action.Action.{Action}
 use Rattle.rnix_grammar.specs.declared.action.Action.TheVariants as a
-use Rattle.rnix_grammar.specs.Tables.{is_wanted, closes}
 use Rattle.rnix_grammar.specs.Levels.{has_attr_level, application_level, binding_power, right_of, high_of}
-use Rattle.rnix_grammar.specs.Symbols.{symbol_at}
-use Rattle.rnix_grammar.specs.TokenKinds.{is_l_paren, is_comma, is_path_piece}
+use Rattle.rnix_grammar.specs.Positions.{slot_at}
 
--- where a token is wanted
-abbrev pub token_action : Until → Place → Place → Option SyntaxKind → Action
-token_action until place behind None = a.MissWanted until behind
-token_action until place behind (Some kind) = if is_wanted until kind then a.Take behind else a.Run until place
+-- what an error says is wanted where a child of a kind is missing
+abbrev pub until_of : SyntaxKind → Until
+until_of TOKEN_R_PAREN = u.RParen
+until_of TOKEN_L_BRACE = u.LBrace
+until_of TOKEN_R_BRACE = u.RBrace
+until_of TOKEN_SEMICOLON = u.Semicolon
+until_of TOKEN_ASSIGN = u.Assign
+until_of TOKEN_COLON = u.Colon
+until_of TOKEN_THEN = u.Then
+until_of TOKEN_ELSE = u.Else
+until_of TOKEN_INTERPOL_END = u.InterpolEnd
+until_of TOKEN_STRING_END = u.StringEnd
+until_of kind = u.Ident
+
+-- a token that is wanted
+abbrev pub token_action : SyntaxKind → ℕ → ℕ → SyntaxKind → Action
+token_action wanted left after kind = if same_kind wanted kind then a.Take after else a.Run (until_of wanted) left
+
+-- a name that is wanted
+abbrev pub name_action : ℕ → ℕ → SyntaxKind → Action
+name_action left after TOKEN_IDENT = a.Leaf NODE_IDENT after
+name_action left after kind = a.Run u.Ident left
+
+-- where a child of a kind is wanted: a token, or a name
+abbrev pub wanted_action : SyntaxKind → ℕ → ℕ → Option SyntaxKind → Action
+wanted_action wanted left after None = a.MissWanted (until_of wanted) after
+wanted_action wanted left after (Some kind) = if same_kind wanted NODE_IDENT then name_action left after kind else token_action wanted left after kind
 
 -- where more operands of a level may stand, or what closes the row
-abbrev pub series_action : ℕ → Closer → Place → Option SyntaxKind → Action
-series_action level closer place None = a.Miss p.Past
-series_action level closer place (Some kind) = if closes closer kind then a.Take p.Past else a.Read level true place
+abbrev pub many_action : ℕ → SyntaxKind → ℕ → ℕ → Option SyntaxKind → Action
+many_action level closer left after None = a.Miss after
+many_action level closer left after (Some kind) = if same_kind closer kind then a.Take after else a.Read level true left
 
 -- where more entries of a set or of bindings may stand, or what closes the row
-abbrev pub entries_action : Closer → Place → Place → Option SyntaxKind → Action
-entries_action closer place behind None = a.Miss behind
-entries_action closer place behind (Some TOKEN_INHERIT) = a.Open NODE_INHERIT p.InheritStart place
-entries_action closer place behind (Some kind) = if closes closer kind then a.Take behind else a.Begin NODE_ATTRPATH_VALUE p.ValuePath place
+abbrev pub entries_action : SyntaxKind → ℕ → ℕ → Option SyntaxKind → Action
+entries_action closer left after None = a.Miss after
+entries_action closer left after (Some TOKEN_INHERIT) = a.Open NODE_INHERIT INHERIT left
+entries_action closer left after (Some kind) = if same_kind closer kind then a.Take after else a.Begin NODE_ATTRPATH_VALUE ATTRPATH_VALUE left
 
 -- inside a string
-abbrev pub pieces_action : Place → Option SyntaxKind → Action
-pieces_action place None = a.MissWanted u.Piece p.StringEnd
-pieces_action place (Some TOKEN_STRING_END) = a.Take p.Past
-pieces_action place (Some TOKEN_STRING_CONTENT) = a.Take place
-pieces_action place (Some TOKEN_INTERPOL_START) = a.Open NODE_INTERPOL p.InterpolInside place
-pieces_action place (Some kind) = a.Run u.Piece place
+abbrev pub pieces_action : ℕ → ℕ → Option SyntaxKind → Action
+pieces_action left after None = a.MissWanted u.Piece after
+pieces_action left after (Some TOKEN_STRING_END) = a.Take STRING_PAST
+pieces_action left after (Some TOKEN_STRING_CONTENT) = a.Take left
+pieces_action left after (Some TOKEN_INTERPOL_START) = a.Open NODE_INTERPOL INTERPOL left
+pieces_action left after (Some kind) = a.Run u.Piece left
 
--- behind the first token of a path
-abbrev pub first_piece_action : Option SyntaxKind → Action
-first_piece_action (Some TOKEN_INTERPOL_START) = a.Open NODE_INTERPOL p.InterpolInside p.PathMore
-first_piece_action next = a.Close
+-- a piece of a path
+abbrev pub piece_action : ℕ → Option SyntaxKind → Action
+piece_action left (Some TOKEN_PATH_ABS) = a.Take left
+piece_action left (Some TOKEN_PATH_REL) = a.Take left
+piece_action left (Some TOKEN_PATH_HOME) = a.Take left
+piece_action left (Some TOKEN_INTERPOL_START) = a.Open NODE_INTERPOL INTERPOL left
+piece_action left next = a.Close
 
--- behind a later piece of a path, by whether the next item touches it
-abbrev pub more_pieces_action : Bool → Option SyntaxKind → Action
-more_pieces_action touches None = a.Close
-more_pieces_action touches (Some kind) = if touches then (if is_path_piece kind then a.Take p.PathMore else first_piece_action (Some kind)) else a.Close
+-- where more pieces of a path may stand, by whether the next item touches what is before it
+abbrev pub path_pieces_action : ℕ → Bool → Option SyntaxKind → Action
+path_pieces_action left touches next = if touches then piece_action left next else a.Close
 
--- a name, a string or an interpolation; behind a run, at another place
-abbrev pub attr_action : Place → Place → Option SyntaxKind → Action
-attr_action again behind None = a.MissWanted u.Attr behind
-attr_action again behind (Some TOKEN_INTERPOL_START) = a.Open NODE_DYNAMIC p.DynamicInside behind
-attr_action again behind (Some TOKEN_STRING_START) = a.Open NODE_STRING p.StringInside behind
-attr_action again behind (Some TOKEN_IDENT) = a.Leaf NODE_IDENT behind
-attr_action again behind (Some TOKEN_OR) = a.Leaf NODE_IDENT behind
-attr_action again behind (Some TOKEN_CUR_POS) = a.Leaf NODE_IDENT behind
-attr_action again behind (Some kind) = a.Run u.Attr again
+-- a name, a string or an interpolation; after a run of other items, at another position
+abbrev pub attr_action : ℕ → ℕ → Option SyntaxKind → Action
+attr_action again after None = a.MissWanted u.Attr after
+attr_action again after (Some TOKEN_INTERPOL_START) = a.Open NODE_DYNAMIC DYNAMIC after
+attr_action again after (Some TOKEN_STRING_START) = a.Open NODE_STRING STRING after
+attr_action again after (Some TOKEN_IDENT) = a.Leaf NODE_IDENT after
+attr_action again after (Some TOKEN_OR) = a.Leaf NODE_IDENT after
+attr_action again after (Some TOKEN_CUR_POS) = a.Leaf NODE_IDENT after
+attr_action again after (Some kind) = a.Run u.Attr again
 
 -- where more inherited names may stand, or `;`
-abbrev pub names_action : Option SyntaxKind → Action
-names_action None = a.Miss p.InheritEnd
-names_action (Some kind) = if is_wanted u.Semicolon kind then a.Take p.Past else attr_action p.InheritName p.InheritNames (Some kind)
+abbrev pub names_action : ℕ → ℕ → Option SyntaxKind → Action
+names_action left after None = a.Miss after
+names_action left after (Some kind) = if same_kind kind TOKEN_SEMICOLON then a.Take INHERIT_PAST else attr_action INHERITED_NAME left (Some kind)
 
--- behind `inherit`: `(`, or names
-abbrev pub source_action : Option SyntaxKind → Action
-source_action None = names_action None
-source_action (Some kind) = if is_l_paren kind then a.Open NODE_INHERIT_FROM p.FromInside p.InheritNames else names_action (Some kind)
+-- after `inherit`: `(`, or names
+abbrev pub source_action : ℕ → Option SyntaxKind → Action
+source_action after None = names_action after INHERIT_END None
+source_action after (Some kind) =
+    if same_kind kind TOKEN_L_PAREN then a.Open NODE_INHERIT_FROM INHERIT_FROM after else names_action after INHERIT_END (Some kind)
 
--- behind an attribute: `.`, or the end of the path
+-- after an attribute: `.`, or the end of the path
 abbrev pub more_attrs_action : Option SyntaxKind → Action
-more_attrs_action (Some TOKEN_DOT) = a.Take p.AttrpathStart
+more_attrs_action (Some TOKEN_DOT) = a.Take ATTRPATH
 more_attrs_action next = a.Close
 
--- where a name is wanted
-abbrev pub name_action : Place → Place → Option SyntaxKind → Action
-name_action place behind None = a.MissWanted u.Ident behind
-name_action place behind (Some TOKEN_IDENT) = a.Leaf NODE_IDENT behind
-name_action place behind (Some kind) = a.Run u.Ident place
+-- inside the braces of a pattern, where a formal may stand, by whether a name is bound before them
+abbrev pub formals_action : Bool → ℕ → Option SyntaxKind → Action
+formals_action bound after None = a.MissWanted u.Entry after
+formals_action bound after (Some TOKEN_R_BRACE) = a.Take after
+formals_action bound after (Some TOKEN_ELLIPSIS) = a.Take (if bound then BOUND_PATTERN_CLOSE else PATTERN_CLOSE)
+formals_action bound after (Some TOKEN_IDENT) = a.Entry (if bound then BOUND_AFTER_FORMAL else AFTER_FORMAL)
+formals_action bound after (Some kind) = a.Run u.Entry (if bound then BOUND_AFTER_COMMA else AFTER_COMMA)
 
--- inside the braces of a pattern, where an entry may stand
-abbrev pub formals_action : Bool → Option SyntaxKind → Action
-formals_action bound None = a.MissWanted u.Entry (p.PatternEnd bound)
-formals_action bound (Some TOKEN_R_BRACE) = a.Take (p.PatternEnd bound)
-formals_action bound (Some TOKEN_ELLIPSIS) = a.Take (p.PatternClose bound)
-formals_action bound (Some TOKEN_IDENT) = a.Entry (p.PatternAfter bound)
-formals_action bound (Some kind) = a.Run u.Entry (p.PatternInside bound)
+-- after the opening brace of a pattern
+abbrev pub first_formals_action : Bool → ℕ → Option SyntaxKind → Action
+first_formals_action bound after None = a.Miss after
+first_formals_action bound after next = formals_action bound after next
 
--- behind the opening brace of a pattern
-abbrev pub braces_action : Bool → Option SyntaxKind → Action
-braces_action bound None = a.Miss (p.PatternEnd bound)
-braces_action bound next = formals_action bound next
+-- after a formal: `,`, or the closing brace
+abbrev pub comma_action : Bool → ℕ → Option SyntaxKind → Action
+comma_action bound after None = wanted_action TOKEN_R_BRACE (if bound then BOUND_PATTERN_CLOSE else PATTERN_CLOSE) after None
+comma_action bound after (Some kind) =
+    if same_kind kind TOKEN_COMMA then a.Take (if bound then BOUND_AFTER_COMMA else AFTER_COMMA)
+    else wanted_action TOKEN_R_BRACE (if bound then BOUND_PATTERN_CLOSE else PATTERN_CLOSE) after (Some kind)
 
--- behind an entry of a pattern: `,`, or the closing brace
-abbrev pub comma_action : Bool → Option SyntaxKind → Action
-comma_action bound None = token_action u.RBrace (p.PatternClose bound) (p.PatternEnd bound) None
-comma_action bound (Some kind) = if is_comma kind then a.Take (p.PatternInside bound) else token_action u.RBrace (p.PatternClose bound) (p.PatternEnd bound) (Some kind)
+-- where a row may end before a child of a kind
+abbrev pub end_or_action : SyntaxKind → ℕ → Option SyntaxKind → Action
+end_or_action TOKEN_OR after (Some TOKEN_OR) = a.Take after
+end_or_action TOKEN_QUESTION after (Some TOKEN_QUESTION) = a.Take after
+end_or_action TOKEN_QUESTION after next = a.CloseEntry
+end_or_action NODE_INTERPOL after (Some TOKEN_INTERPOL_START) = a.Open NODE_INTERPOL INTERPOL after
+end_or_action NODE_PAT_BIND after (Some TOKEN_AT) = a.Open NODE_PAT_BIND PAT_BIND after
+end_or_action NODE_PAT_BIND after next = a.ClosePattern
+end_or_action kind after next = a.Close
 
--- behind the braces of a pattern: `@`, or the end of the pattern
-abbrev pub bind_action : Bool → Option SyntaxKind → Action
-bind_action true (Some TOKEN_AT) = a.Twice p.PatternPast
-bind_action false (Some TOKEN_AT) = a.Open NODE_PAT_BIND p.BindName p.PatternPast
-bind_action bound next = a.ClosePattern
+-- after the braces of a pattern that has a name before it
+abbrev pub bound_action : ℕ → Option SyntaxKind → Action
+bound_action after (Some TOKEN_AT) = a.Twice after
+bound_action after next = a.ClosePattern
 
--- behind the name of an entry: `?`, or the end of the entry
-abbrev pub default_action : Option SyntaxKind → Action
-default_action (Some TOKEN_QUESTION) = a.Take p.EntryDefault
-default_action next = a.CloseEntry
-
--- behind the path of a selection: `or`, or the end
-abbrev pub or_action : Option SyntaxKind → Action
-or_action (Some TOKEN_OR) = a.Take p.SelectDefault
-or_action next = a.Close
-
--- behind the root's expression
+-- after the root's expression
 abbrev pub end_action : Option SyntaxKind → Action
 end_action None = a.Finish
 end_action (Some kind) = a.Extra
 
+-- a child that is there whenever its node is
+abbrev pub child_action : ℕ → Option SyntaxKind → Action
+child_action after None = a.Miss after
+child_action after (Some kind) = a.Take after
+
+-- the end of a row of a node of a kind
+abbrev pub close_action : SyntaxKind → Action
+close_action NODE_PAT_ENTRY = a.CloseEntry
+close_action NODE_PATTERN = a.ClosePattern
+close_action NODE_ERROR = a.CloseTwice
+close_action kind = a.Close
+
+-- another position
+abbrev pub is_not : ℕ → ℕ → Bool
+is_not left other = if nat_eq left other then false else true
+
+-- where a part of a row comes next, by its index
+abbrev pub part_action : Part → ℕ → Option SyntaxKind → Bool → Action
+part_action (r.Operand level counted) left next touches = a.Read level counted (left + 1)
+part_action (r.Wanted kind) left next touches = wanted_action kind left (left + 1) next
+part_action (r.Many level closer) left next touches = many_action level closer left (left + 1) next
+part_action (r.Entries closer) left next touches = entries_action closer left (left + 1) next
+part_action r.Attr left next touches = attr_action left (left + 1) next
+part_action r.Attrpath left next touches = a.Begin NODE_ATTRPATH ATTRPATH (left + 1)
+part_action r.MoreAttrs left next touches = more_attrs_action next
+part_action r.Names left next touches = names_action left (left + 1) next
+part_action (r.Optional kind) left next touches = source_action (left + 1) next
+part_action r.Pieces left next touches = pieces_action left (left + 1) next
+part_action r.PathPieces left next touches = path_pieces_action left touches next
+part_action r.Formals left next touches = first_formals_action (is_not left PATTERN) (left + 1) next
+part_action r.FormalsAfterComma left next touches = formals_action (is_not left AFTER_COMMA) (left + 1) next
+part_action r.Comma left next touches = comma_action (is_not left AFTER_FORMAL) (left + 1) next
+part_action (r.EndOr kind) left next touches = end_or_action kind (left + 1) next
+part_action r.BoundAlready left next touches = bound_action (left + 1) next
+part_action r.TextEnd left next touches = end_action next
+part_action part left next touches = child_action (left + 1) next
+
 -- what goes on with an operand
 abbrev pub follow : SyntaxKind → Action
-follow TOKEN_DOT = a.Wrap NODE_SELECT p.SelectPath application_level
+follow TOKEN_DOT = a.Wrap NODE_SELECT (p.Left SELECT) application_level
 follow TOKEN_OR = a.ApplyOr
-follow TOKEN_QUESTION = a.Wrap NODE_HAS_ATTR p.HasPath has_attr_level
+follow TOKEN_QUESTION = a.Wrap NODE_HAS_ATTR (p.Left HAS_ATTR) has_attr_level
 follow kind = if is_fn_arg kind then a.Apply else a.Wrap NODE_BIN_OP (p.Right (right_of kind)) (high_of kind)
 
 -- an operator goes on whose level is between these
 abbrev pub goes_on : ℕ → ℕ → SyntaxKind → Bool
 goes_on low high kind = nat_le 1 (binding_power kind) && (nat_le low (binding_power kind) && nat_le (binding_power kind) high)
 
--- behind an operand: what goes on with it at a level between two, or its end
+-- after an operand: what goes on with it at a level between two, or its end
 abbrev pub more_action : ℕ → ℕ → Option SyntaxKind → Action
 more_action low high None = a.Settle
 more_action low high (Some kind) = if goes_on low high kind then follow kind else a.Settle
 
--- what is done where something stands
-abbrev pub done_at : Symbol → Place → Option SyntaxKind → Bool → Action
-done_at s.Done place next touches = a.Close
-done_at s.EntryDone place next touches = a.CloseEntry
-done_at s.PatternDone place next touches = a.ClosePattern
-done_at s.TwiceDone place next touches = a.CloseTwice
-done_at s.End place next touches = end_action next
-done_at (s.Token until behind) place next touches = token_action until place behind next
-done_at (s.Operand level counted behind) place next touches = a.Read level counted behind
-done_at (s.Series level closer) place next touches = series_action level closer place next
-done_at (s.Entries closer behind) place next touches = entries_action closer place behind next
-done_at s.Pieces place next touches = pieces_action place next
-done_at s.FirstPiece place next touches = first_piece_action next
-done_at s.MorePieces place next touches = more_pieces_action touches next
-done_at s.Source place next touches = source_action next
-done_at s.Names place next touches = names_action next
-done_at (s.Attr behind) place next touches = attr_action place behind next
-done_at s.MoreAttrs place next touches = more_attrs_action next
-done_at (s.Attrpath behind) place next touches = a.Begin NODE_ATTRPATH p.AttrpathStart behind
-done_at (s.Name behind) place next touches = name_action place behind next
-done_at (s.Braces bound) place next touches = braces_action bound next
-done_at (s.Formals bound) place next touches = formals_action bound next
-done_at (s.Comma bound) place next touches = comma_action bound next
-done_at (s.Bind bound) place next touches = bind_action bound next
-done_at s.Default place next touches = default_action next
-done_at s.Or place next touches = or_action next
-done_at (s.More low high) place next touches = more_action low high next
+-- at a slot of the table
+abbrev pub slot_action : Option Slot → ℕ → Option SyntaxKind → Bool → Action
+slot_action None left next touches = a.Close
+slot_action (Some (Next part)) left next touches = part_action part left next touches
+slot_action (Some (End kind)) left next touches = close_action kind
+
+-- at a position of a row
+abbrev pub left_action : ℕ → Option SyntaxKind → Bool → Action
+left_action left next touches = slot_action (slot_at left) left next touches
 
 -- what is done at a place, by the next token that is not trivia, and by whether it touches the one before
 abbrev pub action_at : Place → Option SyntaxKind → Bool → Action
-action_at place next touches = done_at (symbol_at place) place next touches
+action_at (p.Left left) next touches = left_action left next touches
+action_at (p.Behind low high) next touches = more_action low high next
+action_at (p.Right level) next touches = a.Read level false OPERATED

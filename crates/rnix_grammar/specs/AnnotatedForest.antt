@@ -60,10 +60,6 @@ one_branch k c = branch k c blank
 abbrev pub one_fault : Note → AnnotatedForest → AnnotatedForest
 one_fault n c = fault n c blank
 
--- tokens as leaves of their own kinds
-abbrev pub leaf_of : Token → AnnotatedForest
-leaf_of t = one_token t.kind t
-
 -- tokens as a row of leaves of their own kinds
 abbrev pub row_of : List Token → AnnotatedForest
 row_of [] = blank

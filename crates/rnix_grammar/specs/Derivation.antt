@@ -6,7 +6,6 @@ use Rattle.rnix_green.specs.Forest.{Forest, empty, leaf, node}
 use Rattle.rnix_grammar.specs.Tables.{depth_limit}
 use Rattle.rnix_grammar.specs.AnnotatedForest.{Token, lexeme_of, AnnotatedForest, blank, token, branch}
 use Rattle.rnix_grammar.specs.Layout.{tail_of}
-use Rattle.rnix_grammar.specs.Strict.{is_strict_expression}
 use Rattle.rnix_grammar.specs.Yield.{yield}
 use Rattle.rnix_grammar.specs.Plain.{ArePaths}
 use Rattle.rnix_grammar.specs.Nest.{nest}
@@ -30,10 +29,6 @@ abbrev pub has_tokens_alone : Forest → Bool
 has_tokens_alone empty = true
 has_tokens_alone (leaf k t f) = is_token k && has_tokens_alone f
 has_tokens_alone (node k c f) = has_tokens_alone c && has_tokens_alone f
-
--- the test: a row is one expression, and its leaves are tokens
-abbrev pub is_strict_tree : Forest → Bool
-is_strict_tree f = has_tokens_alone f && is_strict_expression f
 
 -- A tree is an expression of the strict grammar, nests no more than 512 expressions that count, and has the items as its leaves, one by one; the
 -- pieces of its paths touch, and no item that touches a path would go on with it.

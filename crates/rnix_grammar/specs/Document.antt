@@ -1,9 +1,10 @@
 -- A whole text that is read.
-use Rattle.std.specs.Prelude.{◌≡◌, true, List, [], ◌∷◌}
+use Rattle.std.specs.Prelude.{◌≡◌, ◌+◌, true, List, [], ◌∷◌}
 use Rattle.rnix_kinds.specs.declared.kinds.SyntaxKind.TheVariants.{NODE_ROOT}
 use Rattle.rnix_kinds.specs.Lexical.Tokens.{Lexeme}
 use Rattle.rnix_green.specs.Tree.{Tree}
 use Rattle.rnix_grammar.specs.declared.place.Place.TheVariants as p
+use Rattle.rnix_grammar.specs.declared.position.TheConstants.{ROOT}
 use Rattle.rnix_grammar.specs.Fault.{Fault}
 use Rattle.rnix_grammar.specs.AnnotatedForest.{placed_from, forget}
 use Rattle.rnix_grammar.specs.Layout.{items}
@@ -16,7 +17,7 @@ pub record IsRead (lexemes : List Lexeme) (tree : Tree) (faults : List Fault) : 
   pub runs : Runs true (begins (placed_from 0 lexemes)) last
   pub alone : last.frames ≡ root ∷ []
   pub head : root.head ≡ Node NODE_ROOT
-  pub place : root.place ≡ p.RootEnd
+  pub place : root.place ≡ p.Left (ROOT + 1)
   pub nothing : items last.left ≡ []
   pub tree_is : tree ≡ record { kind = NODE_ROOT; children = forget (ate true root.row last.left) }
   pub faults_are : faults ≡ last.faults

@@ -2,7 +2,7 @@ pub mod Fault
 pub mod SameFaults
 pub mod Tables
 pub mod Levels
-pub mod Symbols
+pub mod Positions
 pub mod Actions
 pub mod Begins
 pub mod AnnotatedForest
@@ -11,7 +11,6 @@ pub mod Reports
 pub mod Machine
 pub mod Rows
 pub mod Missing
-pub mod Strict
 pub mod Grammar
 pub mod WithoutTrivia
 pub mod Sorts
@@ -33,12 +32,11 @@ pub mod Nest
 pub mod Nesting
 pub mod Unfinished
 pub mod Document
-pub mod ExpectedItems
 pub mod Operands
 pub mod Rules
+pub mod WholeRows
 pub mod Beginnings
 pub mod Reads
-pub mod PlaceReads
 pub mod Reading
 pub mod Ranges
 pub mod TokenKinds

@@ -5,6 +5,7 @@ use Rattle.rnix_kinds.specs.declared.kinds.SyntaxKind.{SyntaxKind}
 use Rattle.rnix_kinds.specs.declared.kinds.SyntaxKind.TheVariants.{NODE_ERROR, NODE_IDENT, NODE_PAT_ENTRY, NODE_LAMBDA, NODE_IDENT_PARAM, NODE_PATTERN, NODE_PAT_BIND, NODE_LEGACY_LET, NODE_APPLY, NODE_ROOT}
 use Rattle.rnix_grammar.specs.declared.place.Place.{Place}
 use Rattle.rnix_grammar.specs.declared.place.Place.TheVariants as p
+use Rattle.rnix_grammar.specs.declared.position.TheConstants.{ROOT, LEGACY_LET, LAMBDA, PATTERN, BOUND_PATTERN, PAT_ENTRY, SECOND, APPLIED}
 use Rattle.rnix_grammar.specs.declared.action.Action.{Action}
 use Rattle.rnix_grammar.specs.declared.action.Action.TheVariants as a
 use Rattle.rnix_grammar.specs.declared.begin.Begin.{Begin}
@@ -149,24 +150,24 @@ limited raw f fs ts n es =
 abbrev pub begun : Bool → Begin → ℕ → ℕ → Token → Frame → List Frame → List Token → ℕ → List Fault → Machine
 begun raw (b.Leaf k) level d t f fs ts n es =
     machine (opened Operand (p.Behind level selection_level) d (one_branch k (leaf raw k ts)) ∷ (put f.place (ate raw f.row ts) f ∷ fs)) (behind raw ts) (reach raw n ts) es
-begun raw (b.Node k place high) level d t f fs ts n es =
-    machine (opened (Node k) place d (leaf raw k ts) ∷ (opened Operand (p.Behind level high) d blank ∷ (put f.place (ate raw f.row ts) f ∷ fs)))
+begun raw (b.Node k left high) level d t f fs ts n es =
+    machine (opened (Node k) (p.Left left) d (leaf raw k ts) ∷ (opened Operand (p.Behind level high) d blank ∷ (put f.place (ate raw f.row ts) f ∷ fs)))
     (behind raw ts) (reach raw n ts) es
 begun raw b.LegacyLet level d t f fs ts n es =
-    machine (opened (Node NODE_LEGACY_LET) p.LegacyInside d (ate raw (leaf raw NODE_LEGACY_LET ts) (behind raw ts) ⊕ leaf raw NODE_LEGACY_LET (behind raw ts))
+    machine (opened (Node NODE_LEGACY_LET) (p.Left LEGACY_LET) d (ate raw (leaf raw NODE_LEGACY_LET ts) (behind raw ts) ⊕ leaf raw NODE_LEGACY_LET (behind raw ts))
     ∷ (opened Operand (p.Behind level no_level) d blank ∷ (put f.place (ate raw f.row ts) f ∷ fs)))
     (behind raw (behind raw ts)) (reach raw (reach raw n ts) (behind raw ts)) es
 begun raw b.NameLambda level d t f fs ts n es =
-    machine (opened (Node NODE_LAMBDA) p.LambdaColon d (one_branch NODE_IDENT_PARAM (one_branch NODE_IDENT (leaf raw NODE_IDENT ts)))
+    machine (opened (Node NODE_LAMBDA) (p.Left LAMBDA) d (one_branch NODE_IDENT_PARAM (one_branch NODE_IDENT (leaf raw NODE_IDENT ts)))
     ∷ (opened Operand (p.Behind level selection_level) d blank ∷ (put f.place (ate raw f.row ts) f ∷ fs))) (behind raw ts) (reach raw n ts) es
 begun raw b.BoundLambda level d t f fs ts n es =
-    machine (opened (Node NODE_PATTERN) p.PatternBrace d
+    machine (opened (Node NODE_PATTERN) (p.Left BOUND_PATTERN) d
     (one_branch NODE_PAT_BIND (ate raw (one_branch NODE_IDENT (leaf raw NODE_IDENT ts)) (behind raw ts) ⊕ leaf raw NODE_PAT_BIND (behind raw ts)))
-    ∷ (opened (Node NODE_LAMBDA) p.LambdaColon d blank ∷ (opened Operand (p.Behind level selection_level) d blank ∷ (put f.place (ate raw f.row ts) f ∷ fs))))
+    ∷ (opened (Node NODE_LAMBDA) (p.Left LAMBDA) d blank ∷ (opened Operand (p.Behind level selection_level) d blank ∷ (put f.place (ate raw f.row ts) f ∷ fs))))
     (behind raw (behind raw ts)) (reach raw (reach raw n ts) (behind raw ts)) es
 begun raw b.PatternLambda level d t f fs ts n es =
-    machine (opened (Node NODE_PATTERN) (p.PatternStart false) d (leaf raw NODE_PATTERN ts)
-    ∷ (opened (Node NODE_LAMBDA) p.LambdaColon d blank ∷ (opened Operand (p.Behind level selection_level) d blank ∷ (put f.place (ate raw f.row ts) f ∷ fs))))
+    machine (opened (Node NODE_PATTERN) (p.Left PATTERN) d (leaf raw NODE_PATTERN ts)
+    ∷ (opened (Node NODE_LAMBDA) (p.Left LAMBDA) d blank ∷ (opened Operand (p.Behind level selection_level) d blank ∷ (put f.place (ate raw f.row ts) f ∷ fs))))
     (behind raw ts) (reach raw n ts) es
 begun raw b.Stray level d t f fs ts n es =
     machine (opened Operand (p.Behind level selection_level) d (one_fault Stray (leaf raw NODE_ERROR ts)) ∷ (put f.place (ate raw f.row ts) f ∷ fs))
@@ -193,24 +194,24 @@ perform raw a.Settle f fs ts n es = closed f fs ts n es
 perform raw a.Extra f fs ts n es =
     machine (put f.place (ate raw f.row ts ⊕ one_fault Extra (run_row raw (seen raw ts) ts)) f ∷ fs) (run_rest raw (seen raw ts) ts) (end_from n (seen raw ts))
     (es ++ report Extra (seen raw ts) ∷ [])
-perform raw (a.Take after) f fs ts n es = machine (put after (ate raw f.row ts ⊕ leaf raw (kind_of f.head) ts) f ∷ fs) (behind raw ts) (reach raw n ts) es
-perform raw (a.Miss after) f fs ts n es = machine (put after f.row f ∷ fs) ts n (es ++ ended ∷ [])
-perform raw (a.MissWanted until after) f fs ts n es = machine (put after f.row f ∷ fs) ts n (es ++ ended_before (wanted_kinds until) ∷ [])
+perform raw (a.Take after) f fs ts n es = machine (put (p.Left after) (ate raw f.row ts ⊕ leaf raw (kind_of f.head) ts) f ∷ fs) (behind raw ts) (reach raw n ts) es
+perform raw (a.Miss after) f fs ts n es = machine (put (p.Left after) f.row f ∷ fs) ts n (es ++ ended ∷ [])
+perform raw (a.MissWanted until after) f fs ts n es = machine (put (p.Left after) f.row f ∷ fs) ts n (es ++ ended_before (wanted_kinds until) ∷ [])
 perform raw (a.Run until after) f fs ts n es =
-    machine (put after (ate raw f.row ts ⊕ one_fault (Unwanted until) (run_row raw (run_of until (seen raw ts)) ts)) f ∷ fs)
+    machine (put (p.Left after) (ate raw f.row ts ⊕ one_fault (Unwanted until) (run_row raw (run_of until (seen raw ts)) ts)) f ∷ fs)
     (run_rest raw (run_of until (seen raw ts)) ts) (end_from n (run_of until (seen raw ts))) (es ++ report (Unwanted until) (run_of until (seen raw ts)) ∷ [])
-perform raw (a.Leaf k after) f fs ts n es = machine (put after (ate raw f.row ts ⊕ one_branch k (leaf raw k ts)) f ∷ fs) (behind raw ts) (reach raw n ts) es
-perform raw (a.Open k inside after) f fs ts n es = machine (open_on raw (Node k) inside (leaf raw k ts) after f fs ts) (behind raw ts) (reach raw n ts) es
-perform raw (a.Begin k inside after) f fs ts n es = machine (open_on raw (Node k) inside blank after f fs ts) (past raw ts) n es
+perform raw (a.Leaf k after) f fs ts n es = machine (put (p.Left after) (ate raw f.row ts ⊕ one_branch k (leaf raw k ts)) f ∷ fs) (behind raw ts) (reach raw n ts) es
+perform raw (a.Open k inside after) f fs ts n es = machine (open_on raw (Node k) (p.Left inside) (leaf raw k ts) (p.Left after) f fs ts) (behind raw ts) (reach raw n ts) es
+perform raw (a.Begin k inside after) f fs ts n es = machine (open_on raw (Node k) (p.Left inside) blank (p.Left after) f fs ts) (past raw ts) n es
 perform raw (a.Entry after) f fs ts n es =
-    machine (open_on raw (Node NODE_PAT_ENTRY) p.EntryMore (one_branch NODE_IDENT (leaf raw NODE_IDENT ts)) after f fs ts) (behind raw ts) (reach raw n ts) es
-perform raw (a.Twice after) f fs ts n es = machine (open_on raw Second p.TwiceName (leaf raw NODE_ERROR ts) after f fs ts) (behind raw ts) (reach raw n ts) es
-perform raw (a.Read level counted after) f fs ts n es = reading raw level counted (put after f.row f) fs ts n es
+    machine (open_on raw (Node NODE_PAT_ENTRY) (p.Left PAT_ENTRY) (one_branch NODE_IDENT (leaf raw NODE_IDENT ts)) (p.Left after) f fs ts) (behind raw ts) (reach raw n ts) es
+perform raw (a.Twice after) f fs ts n es = machine (open_on raw Second (p.Left SECOND) (leaf raw NODE_ERROR ts) (p.Left after) f fs ts) (behind raw ts) (reach raw n ts) es
+perform raw (a.Read level counted after) f fs ts n es = reading raw level counted (put (p.Left after) f.row f) fs ts n es
 perform raw (a.Wrap k inside high) f fs ts n es =
     machine (opened (Node k) inside f.depth (ate raw f.row ts ⊕ leaf raw k ts) ∷ (opened Operand (p.Behind (low_of f.place) high) f.depth blank ∷ fs))
     (behind raw ts) (reach raw n ts) es
 perform raw a.Apply f fs ts n es =
-    reading raw selection_level false (opened (Node NODE_APPLY) p.Past f.depth f.row) (opened Operand (p.Behind (low_of f.place) application_level) f.depth blank ∷ fs) ts n es
+    reading raw selection_level false (opened (Node NODE_APPLY) (p.Left APPLIED) f.depth f.row) (opened Operand (p.Behind (low_of f.place) application_level) f.depth blank ∷ fs) ts n es
 perform raw a.ApplyOr f fs ts n es =
     machine (opened Operand (p.Behind (low_of f.place) application_level) f.depth (one_branch NODE_APPLY (ate raw f.row ts ⊕ one_branch NODE_IDENT (leaf raw NODE_IDENT ts))) ∷ fs)
     (behind raw ts) (reach raw n ts) es
@@ -226,7 +227,7 @@ step raw m = step_on raw m.frames m.left m.reached m.faults
 
 -- the text is about to be read
 abbrev pub begins : List Token → Machine
-begins ts = machine (opened (Node NODE_ROOT) p.RootStart 0 blank ∷ []) ts 0 []
+begins ts = machine (opened (Node NODE_ROOT) (p.Left ROOT) 0 blank ∷ []) ts 0 []
 
 -- some steps
 pub data Runs (raw : Bool) : Machine → Machine → Type 0 where

@@ -5,10 +5,11 @@ use Rattle.rnix_kinds.specs.SyntaxKind.{is_token}
 use Rattle.rnix_kinds.specs.declared.kinds.SyntaxKind.TheVariants.{TOKEN_IDENT, TOKEN_OR, TOKEN_CUR_POS, NODE_PAT_BIND}
 use Rattle.rnix_grammar.specs.Fault.{Fault, named_twice}
 use Rattle.rnix_grammar.specs.AnnotatedForest.{Token, AnnotatedForest, blank, token, branch, fault}
-use Rattle.rnix_grammar.specs.Rows.{RowState, At, advance, start}
+use Rattle.rnix_grammar.specs.declared.rules.Part.TheVariants.{EndOr}
+use Rattle.rnix_grammar.specs.Rules.{Row, ◌·◌, row, after}
 use Rattle.rnix_grammar.specs.Names.{is_named}
 use Rattle.rnix_grammar.specs.Tables.{is_or}
-use Rattle.rnix_grammar.specs.BehindErrors.{go_error}
+use Rattle.rnix_grammar.specs.BehindErrors.{after_error}
 
 -- a name is TOKEN_OR exactly if it is `or`; no token is TOKEN_CUR_POS, or has the kind of a node
 abbrev pub is_spelled : SyntaxKind → List ℕ → Bool
@@ -28,21 +29,21 @@ begins_with_token (token k t f) = true
 begins_with_token f = false
 
 -- the name that a pattern is bound to stands before `@` where the pattern begins, and behind it where the pattern ends
-abbrev pub is_bind_at : RowState → AnnotatedForest → Bool
-is_bind_at (At place) c = begins_with_token c
-is_bind_at row_state c = if begins_with_token c then false else true
+abbrev pub is_bind_at : Row → AnnotatedForest → Bool
+is_bind_at (EndOr kind · r) c = begins_with_token c
+is_bind_at r c = if begins_with_token c then false else true
 
 -- such a name stands where it may, and so do other names and the current position
-abbrev pub suits : RowState → SyntaxKind → AnnotatedForest → Bool
-suits row_state NODE_PAT_BIND c = is_bind_at row_state c
-suits row_state kind c = is_named row_state kind c
+abbrev pub suits : Row → SyntaxKind → AnnotatedForest → Bool
+suits q NODE_PAT_BIND c = is_bind_at q c
+suits q kind c = is_named q kind c
 
--- so does each of a row, from a state on
-abbrev pub AreNamed : RowState → AnnotatedForest → Type 0
+-- so does each of a row, from what is left of it on
+abbrev pub AreNamed : Row → AnnotatedForest → Type 0
 AreNamed q blank = Unit {0}
-AreNamed q (token k t f) = AreNamed (advance q k) f
-AreNamed q (branch k c f) = (suits q k c ≡ true) × AreNamed (start k) c × AreNamed (advance q k) f
-AreNamed q (fault n c f) = AreNamed (go_error q n) f
+AreNamed q (token k t f) = AreNamed (after q k) f
+AreNamed q (branch k c f) = (suits q k c ≡ true) × AreNamed (row k) c × AreNamed (after q k) f
+AreNamed q (fault n c f) = AreNamed (after_error q n) f
 
 -- a name is repeated
 abbrev pub is_repeated : Fault → Bool

@@ -2,15 +2,15 @@
 use Rattle.std.specs.Prelude.{◌≡◌, ℕ, suc, max, if◌then◌else◌}
 use Rattle.rnix_grammar.specs.Tables.{depth_limit}
 use Rattle.rnix_grammar.specs.AnnotatedForest.{Note, TooDeep, AnnotatedForest, blank, token, branch, fault}
-use Rattle.rnix_grammar.specs.Rows.{RowState, advance, start, counts}
-use Rattle.rnix_grammar.specs.BehindErrors.{go_error}
+use Rattle.rnix_grammar.specs.Rules.{Row, row, after, counts}
+use Rattle.rnix_grammar.specs.BehindErrors.{after_error}
 
--- how many counted places are inside one another, in a row from a state on; an error node counts none
-abbrev pub depth_of : RowState → AnnotatedForest → ℕ
+-- how many counted places are inside one another, in a row from what is left of it on; an error node counts none
+abbrev pub depth_of : Row → AnnotatedForest → ℕ
 depth_of q blank = 0
-depth_of q (token k t f) = depth_of (advance q k) f
-depth_of q (branch k c f) = max (if counts q then suc (depth_of (start k) c) else depth_of (start k) c) (depth_of (advance q k) f)
-depth_of q (fault n c f) = depth_of (go_error q n) f
+depth_of q (token k t f) = depth_of (after q k) f
+depth_of q (branch k c f) = max (if counts q then suc (depth_of (row k) c) else depth_of (row k) c) (depth_of (after q k) f)
+depth_of q (fault n c f) = depth_of (after_error q n) f
 
 -- an error node over what is nested too deep is inside as many counted places as may be; so many are around it
 abbrev pub IsLimited : ℕ → Note → Type 0
@@ -18,8 +18,8 @@ IsLimited d TooDeep = d ≡ depth_limit
 IsLimited d n = Unit {0}
 
 -- and so it is for each error node in a row
-abbrev pub AreLimited : ℕ → RowState → AnnotatedForest → Type 0
+abbrev pub AreLimited : ℕ → Row → AnnotatedForest → Type 0
 AreLimited d q blank = Unit {0}
-AreLimited d q (token k t f) = AreLimited d (advance q k) f
-AreLimited d q (branch k c f) = AreLimited (if counts q then suc d else d) (start k) c × AreLimited d (advance q k) f
-AreLimited d q (fault n c f) = IsLimited d n × AreLimited d (go_error q n) f
+AreLimited d q (token k t f) = AreLimited d (after q k) f
+AreLimited d q (branch k c f) = AreLimited (if counts q then suc d else d) (row k) c × AreLimited d (after q k) f
+AreLimited d q (fault n c f) = IsLimited d n × AreLimited d (after_error q n) f

@@ -1,17 +1,16 @@
 -- How an operand of a level begins and where it ends: it begins as its first three items say, and no item follows that could go on with it.
-use Rattle.std.specs.Prelude.{◌≡◌, ℕ, ◌≤◌, Bool, true, false, ◌||◌, ◌&&◌, List, [], ◌∷◌, ◌++◌, Option, Some, None, if◌then◌else◌, nat_le}
+use Rattle.std.specs.Prelude.{◌≡◌, ℕ, ◌≤◌, Bool, false, ◌||◌, ◌&&◌, List, [], ◌∷◌, ◌++◌, Option, Some, None, if◌then◌else◌, nat_le}
 use Rattle.rnix_kinds.specs.declared.kinds.SyntaxKind.{SyntaxKind}
 use Rattle.rnix_kinds.specs.declared.kinds.SyntaxKind.TheVariants.{NODE_IDENT_PARAM, NODE_PATTERN, NODE_BIN_OP, NODE_HAS_ATTR, NODE_APPLY, NODE_SELECT, NODE_LEGACY_LET, NODE_LAMBDA, NODE_ERROR}
 use Rattle.rnix_kinds.specs.SyntaxKind.{is_fn_arg}
 use Rattle.rnix_grammar.specs.declared.begin.Begin.{Begin}
 use Rattle.rnix_grammar.specs.declared.begin.Begin.TheVariants as b
-use Rattle.rnix_grammar.specs.Symbols.{symbol_at, level_in}
-use Rattle.rnix_grammar.specs.Levels.{has_attr_level, application_level, selection_level, binding_power, left_of}
+use Rattle.rnix_grammar.specs.Levels.{has_attr_level, application_level, binding_power, left_of}
 use Rattle.rnix_grammar.specs.AnnotatedForest.{Token, AnnotatedForest, branch, tokens_in, head_kind}
 use Rattle.rnix_grammar.specs.TokenKinds.{is_or, is_question, is_dot}
-use Rattle.rnix_grammar.specs.Rows.{is_infix, RowState, BeforeOperator, BeforeDot, BeforeQuestion, BeforeArgument, At}
+use Rattle.rnix_grammar.specs.Rows.{is_infix}
 use Rattle.rnix_grammar.specs.Begins.{begin_of, second_kind}
-use Rattle.rnix_grammar.specs.TreeLevels.{row_level, is_atom_row, is_or_row}
+use Rattle.rnix_grammar.specs.TreeLevels.{row_level, is_atom_row}
 
 -- the kind of the first tree of an operand, down the first trees of operators, calls and selections; a function is known by its parameter
 abbrev pub first_tree : AnnotatedForest → SyntaxKind
@@ -50,21 +49,7 @@ abbrev pub goes_on : ℕ → AnnotatedForest → List Token → Bool
 goes_on level x [] = false
 goes_on level x (t ∷ ts) = follows t.kind x && nat_le level (binding_power t.kind)
 
--- the first tree of an operator, a call or a selection stands before an item that goes on with it
-abbrev pub IsFollowed : RowState → AnnotatedForest → Option SyntaxKind → Type 0
-IsFollowed BeforeOperator x (Some kind) = follows kind x ≡ true
-IsFollowed BeforeDot x (Some kind) = follows kind x ≡ true
-IsFollowed BeforeQuestion x (Some kind) = follows kind x ≡ true
-IsFollowed BeforeArgument x (Some kind) = ((is_fn_arg kind || is_or kind) && follows kind x) ≡ true
-IsFollowed row_state x next = Unit {0}
-
 -- An operand of a level before some items binds as tightly as the level asks, begins as its items say, and the next item does not go on with it.
 abbrev pub IsOperand : Option ℕ → AnnotatedForest → List Token → Type 0
 IsOperand None x after = Unit {0}
 IsOperand (Some level) x after = (level ≤ row_level x) × IsBegun level x (tokens_in x ++ after) × (goes_on level x after ≡ false)
-
--- the level of the operand at a state, if any; an `or` that is an argument has none
-abbrev pub level_at : RowState → AnnotatedForest → Option ℕ
-level_at (At place) x = level_in (symbol_at place)
-level_at BeforeArgument x = if is_or_row x then None else Some selection_level
-level_at row_state x = None

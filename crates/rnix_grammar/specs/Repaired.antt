@@ -8,7 +8,7 @@ use Rattle.rnix_grammar.specs.declared.until.Until.TheVariants.{End}
 use Rattle.rnix_grammar.specs.Fault.{Fault, extra, unwanted, ended, ended_before}
 use Rattle.rnix_grammar.specs.Tables.{wanted_kinds}
 use Rattle.rnix_grammar.specs.AnnotatedForest.{Note, Stray, TooDeep, AnnotatedForest, blank, token, branch, fault, tokens_in, is_some}
-use Rattle.rnix_grammar.specs.Rows.{is_row, IsBeginning}
+use Rattle.rnix_grammar.specs.WholeRows.{is_row, IsBeginning}
 
 -- an error node in an operand's place becomes a number, others go with all that they hold
 abbrev pub patch : Note → Forest → Forest

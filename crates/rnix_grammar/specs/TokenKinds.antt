@@ -1,7 +1,7 @@
 -- Single kinds of tokens by name.
 use Rattle.std.specs.Prelude.{Bool, true, false}
 use Rattle.rnix_kinds.specs.declared.kinds.SyntaxKind.{SyntaxKind}
-use Rattle.rnix_kinds.specs.declared.kinds.SyntaxKind.TheVariants.{TOKEN_QUESTION, TOKEN_DOT, TOKEN_L_PAREN, TOKEN_COMMA, TOKEN_PATH_ABS, TOKEN_PATH_REL, TOKEN_PATH_HOME, TOKEN_INTERPOL_START, TOKEN_OR, TOKEN_AT, TOKEN_INHERIT}
+use Rattle.rnix_kinds.specs.declared.kinds.SyntaxKind.TheVariants.{TOKEN_QUESTION, TOKEN_DOT, TOKEN_PATH_ABS, TOKEN_PATH_REL, TOKEN_PATH_HOME, TOKEN_INTERPOL_START, TOKEN_OR, TOKEN_INHERIT}
 
 -- the token `?`
 abbrev pub is_question : SyntaxKind → Bool
@@ -12,16 +12,6 @@ is_question kind = false
 abbrev pub is_dot : SyntaxKind → Bool
 is_dot TOKEN_DOT = true
 is_dot kind = false
-
--- the token `(`
-abbrev pub is_l_paren : SyntaxKind → Bool
-is_l_paren TOKEN_L_PAREN = true
-is_l_paren kind = false
-
--- the token `,`
-abbrev pub is_comma : SyntaxKind → Bool
-is_comma TOKEN_COMMA = true
-is_comma kind = false
 
 -- the tokens of a path that may be interpolated
 abbrev pub is_path_piece : SyntaxKind → Bool
@@ -39,16 +29,6 @@ is_piece_start kind = is_path_piece kind
 abbrev pub is_or : SyntaxKind → Bool
 is_or TOKEN_OR = true
 is_or kind = false
-
--- the token `@`
-abbrev pub is_at : SyntaxKind → Bool
-is_at TOKEN_AT = true
-is_at kind = false
-
--- the token `${`
-abbrev pub is_interpol_start : SyntaxKind → Bool
-is_interpol_start TOKEN_INTERPOL_START = true
-is_interpol_start kind = false
 
 -- the token `inherit`
 abbrev pub is_inherit_token : SyntaxKind → Bool

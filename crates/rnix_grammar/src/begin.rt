@@ -5,7 +5,10 @@ ghost use Rattle.rnix_grammar.specs.Tables.{is_cur_pos};
 ghost use Rattle.rnix_grammar.specs.Begins.{is_pattern, begin_name, begin_let, begin_keyword, begin_scope, begin_prefix, begin_of};
 
 use crate::level::{EXPRESSION_LEVEL, INVERSION_LEVEL, NEGATION_LEVEL, NO_LEVEL, SELECTION_LEVEL};
-use crate::place::Place;
+use crate::position::{
+    ASSERT, IF_ELSE, INVERSION, LET_IN, LIST, NEGATION, PAREN, PATH_ABS, PATH_HOME, PATH_REL,
+    REC_SET, SET, STRING, WITH,
+};
 use rnix_kinds::{SyntaxKind, Token};
 
 /// How an operand begins.
@@ -13,8 +16,8 @@ use rnix_kinds::{SyntaxKind, Token};
 pub enum Begin {
     /// A node over one token.
     Leaf(SyntaxKind),
-    /// A node that begins with a token; the place after the token, and the tightest level of an operator that may follow the node.
-    Node(SyntaxKind, Place, u8),
+    /// A node that begins with a token; the position after the token, and the tightest level of an operator that may follow the node.
+    Node(SyntaxKind, u8, u8),
     /// `let {`
     LegacyLet,
     /// `name:`
@@ -78,7 +81,7 @@ fn begin_let(second: Option<SyntaxKind>) -> Begin
 {
     match second {
         Some(SyntaxKind::TOKEN_L_BRACE) => Begin::LegacyLet,
-        _ => Begin::Node(SyntaxKind::NODE_LET_IN, Place::LetInside, NO_LEVEL),
+        _ => Begin::Node(SyntaxKind::NODE_LET_IN, LET_IN, NO_LEVEL),
     }
 }
 
@@ -89,13 +92,9 @@ fn begin_keyword(kind: SyntaxKind, second: Option<SyntaxKind>) -> Begin
 {
     match kind {
         SyntaxKind::TOKEN_LET => begin_let(second),
-        SyntaxKind::TOKEN_WITH => Begin::Node(SyntaxKind::NODE_WITH, Place::WithScope, NO_LEVEL),
-        SyntaxKind::TOKEN_ASSERT => Begin::Node(
-            SyntaxKind::NODE_ASSERT,
-            Place::AssertCondition,
-            NO_LEVEL,
-        ),
-        SyntaxKind::TOKEN_IF => Begin::Node(SyntaxKind::NODE_IF_ELSE, Place::IfCondition, NO_LEVEL),
+        SyntaxKind::TOKEN_WITH => Begin::Node(SyntaxKind::NODE_WITH, WITH, NO_LEVEL),
+        SyntaxKind::TOKEN_ASSERT => Begin::Node(SyntaxKind::NODE_ASSERT, ASSERT, NO_LEVEL),
+        SyntaxKind::TOKEN_IF => Begin::Node(SyntaxKind::NODE_IF_ELSE, IF_ELSE, NO_LEVEL),
         _ => Begin::Stray,
     }
 }
@@ -120,22 +119,14 @@ fn begin_prefix(level: u8, kind: SyntaxKind) -> Begin
     match kind {
         SyntaxKind::TOKEN_INVERT => {
             if level <= INVERSION_LEVEL {
-                Begin::Node(
-                    SyntaxKind::NODE_UNARY_OP,
-                    Place::Inverted,
-                    INVERSION_LEVEL - 1,
-                )
+                Begin::Node(SyntaxKind::NODE_UNARY_OP, INVERSION, INVERSION_LEVEL - 1)
             } else {
                 Begin::Stray
             }
         }
         SyntaxKind::TOKEN_SUB => {
             if level <= NEGATION_LEVEL {
-                Begin::Node(
-                    SyntaxKind::NODE_UNARY_OP,
-                    Place::Negated,
-                    NEGATION_LEVEL - 1,
-                )
+                Begin::Node(SyntaxKind::NODE_UNARY_OP, NEGATION, NEGATION_LEVEL - 1)
             } else {
                 Begin::Stray
             }
@@ -156,41 +147,25 @@ pub fn begin_of(
 {
     let (kind, text) = first;
     match kind {
-        SyntaxKind::TOKEN_L_PAREN => Begin::Node(
-            SyntaxKind::NODE_PAREN,
-            Place::ParenInside,
-            SELECTION_LEVEL,
-        ),
-        SyntaxKind::TOKEN_L_BRACK => Begin::Node(
-            SyntaxKind::NODE_LIST,
-            Place::ListInside,
-            SELECTION_LEVEL,
-        ),
-        SyntaxKind::TOKEN_REC => Begin::Node(
-            SyntaxKind::NODE_ATTR_SET,
-            Place::SetBrace,
-            SELECTION_LEVEL,
-        ),
+        SyntaxKind::TOKEN_L_PAREN => Begin::Node(SyntaxKind::NODE_PAREN, PAREN, SELECTION_LEVEL),
+        SyntaxKind::TOKEN_L_BRACK => Begin::Node(SyntaxKind::NODE_LIST, LIST, SELECTION_LEVEL),
+        SyntaxKind::TOKEN_REC => Begin::Node(SyntaxKind::NODE_ATTR_SET, REC_SET, SELECTION_LEVEL),
         SyntaxKind::TOKEN_STRING_START => {
-            Begin::Node(
-                SyntaxKind::NODE_STRING,
-                Place::StringInside,
-                SELECTION_LEVEL,
-            )
+            Begin::Node(SyntaxKind::NODE_STRING, STRING, SELECTION_LEVEL)
         }
         SyntaxKind::TOKEN_PATH_ABS => Begin::Node(
             SyntaxKind::NODE_PATH_ABS,
-            Place::PathFirst,
+            PATH_ABS,
             SELECTION_LEVEL,
         ),
         SyntaxKind::TOKEN_PATH_REL => Begin::Node(
             SyntaxKind::NODE_PATH_REL,
-            Place::PathFirst,
+            PATH_REL,
             SELECTION_LEVEL,
         ),
         SyntaxKind::TOKEN_PATH_HOME => Begin::Node(
             SyntaxKind::NODE_PATH_HOME,
-            Place::PathFirst,
+            PATH_HOME,
             SELECTION_LEVEL,
         ),
         SyntaxKind::TOKEN_PATH_SEARCH => Begin::Leaf(SyntaxKind::NODE_PATH_SEARCH),
@@ -203,7 +178,7 @@ pub fn begin_of(
             if is_pattern(second, third) {
                 Begin::PatternLambda
             } else {
-                Begin::Node(SyntaxKind::NODE_ATTR_SET, Place::SetInside, SELECTION_LEVEL)
+                Begin::Node(SyntaxKind::NODE_ATTR_SET, SET, SELECTION_LEVEL)
             }
         }
         SyntaxKind::TOKEN_INVERT | SyntaxKind::TOKEN_SUB => begin_prefix(level, kind),

@@ -5,17 +5,19 @@ mod action;
 mod begin;
 mod error;
 mod level;
-mod operand;
+mod part_action;
 mod place;
+mod position;
 mod rules;
-mod symbol;
 mod until;
 
-pub use action::{Action, action_at};
+pub use action::{Action, action_at, goes_on, is_past};
 pub use begin::{Begin, begin_of};
 pub use error::ParseError;
 pub use level::{APPLICATION_LEVEL, EXPRESSION_LEVEL, NO_LEVEL, SELECTION_LEVEL};
-pub use operand::goes_on;
 pub use place::Place;
+pub use position::{
+    APPLIED, BOUND_PATTERN, LAMBDA, LEGACY_LET, PAT_ENTRY, PATTERN, ROOT, SECOND, SLOTS, Slot,
+};
 pub use rules::{Part, ROWS};
 pub use until::{Until, operand_kinds, stops, wanted_kinds};

@@ -1,7 +1,7 @@
 //! Where a run of unwanted tokens stops, and what is wanted there.
 
 ghost use Rattle.std.specs.Prelude.{◌≡◌};
-ghost use Rattle.rnix_grammar.specs.Tables.{stops, is_wanted, wanted_kinds, operand_kinds, closes};
+ghost use Rattle.rnix_grammar.specs.Tables.{stops, is_wanted, wanted_kinds, operand_kinds};
 
 use rnix_kinds::SyntaxKind;
 
@@ -93,25 +93,4 @@ pub fn operand_kinds() -> &'static [SyntaxKind]
         SyntaxKind::TOKEN_STRING_START,
         SyntaxKind::TOKEN_IDENT,
     ]
-}
-
-/// The token that closes a row of any length, where no list of wanted kinds is reported.
-#[derive(Clone, Copy)]
-pub enum Closer {
-    RBrack,
-    RBrace,
-    InterpolEnd,
-    In,
-}
-
-/// Whether a token of the kind closes the row.
-pub fn closes(closer: Closer, kind: SyntaxKind) -> bool
-    ensures { result ≡ closes closer kind }
-{
-    match closer {
-        Closer::RBrack => matches!(kind, SyntaxKind::TOKEN_R_BRACK),
-        Closer::RBrace => matches!(kind, SyntaxKind::TOKEN_R_BRACE),
-        Closer::InterpolEnd => matches!(kind, SyntaxKind::TOKEN_INTERPOL_END),
-        Closer::In => matches!(kind, SyntaxKind::TOKEN_IN),
-    }
 }

@@ -1,116 +1,197 @@
 -- The grammar's tables do what is allowed.
-use Rattle.std.proofs.Common.{◌≡◌, ℕ, Bool, true, false, Option, Some, None, refl, sym, ap, arith, nat_le, if◌then◌else◌}
-use Rattle.{rnix_kinds.specs.declared.kinds.SyntaxKind.{SyntaxKind, TheVariants.TOKEN_INHERIT}, rnix_grammar.specs.declared.place.Place.Place}
-use Rattle.rnix_grammar.specs.{declared.{until.{Until.Until, Closer.Closer}, symbol.Symbol.Symbol, action.Action.Action}, Tables.{is_wanted, closes}}
-use Rattle.rnix_grammar.specs.{Symbols.symbol_at, Actions.{token_action, series_action, entries_action, more_pieces_action, bind_action, follow, goes_on}}
-use Rattle.rnix_grammar.specs.{Actions.{done_at, action_at}, Sorts.{Loose, Plain, sort_of, may_hold, is_open, sort_in, may_stand, behind_in, place_in}}
-use Rattle.{rnix_grammar.specs.{Weights.{steps_with, weight, full_bonus, bonus_in, bonus}, Allowed.Allowed}, rnix_lemmas.proofs.EachKind.each_kind}
+use Rattle.std.proofs.Common.{◌≡◌, ℕ, ◌+◌, Bool, true, false, [], ◌∷◌, Option, Some, None, refl, sym, ap, subst, arith, nat_le, if◌then◌else◌, ◌||◌, ◌∙◌}
+use Rattle.std.specs.{Prelude.drop, List.list_any}
+use Rattle.rnix_kinds.specs.declared.kinds.SyntaxKind.{SyntaxKind, TheVariants.{TOKEN_INHERIT, TOKEN_OR, TOKEN_QUESTION, NODE_IDENT, NODE_INTERPOL, NODE_PAT_BIND, NODE_PATTERN, NODE_PAT_ENTRY, NODE_ERROR, NODE_ROOT}}
+use Rattle.rnix_green.specs.Equality.{same_kind}
+use Rattle.rnix_grammar.specs.declared.{place.Place.Place, action.Action.Action, rules.Part.Part, position.{Slot.{Slot, TheVariants.{Next, End}}, TheConstants.{SLOTS, ROOT, PATTERN, AFTER_COMMA, AFTER_FORMAL, PATTERN_CLOSE, BOUND_AFTER_COMMA, BOUND_AFTER_FORMAL, BOUND_PATTERN_CLOSE}}}
+use Rattle.rnix_grammar.specs.{Tables.wanted_kinds, Actions.{until_of, token_action, is_not, follow, goes_on, slot_action, action_at}, Positions.{slot_at}}
+use Rattle.rnix_grammar.specs.Sorts.{Sort, Root, Pattern, Entry, Loose, Plain, sort_of, sort_of_row, sort_in, may_hold, is_open}
+use Rattle.rnix_grammar.specs.{Weights.{steps_with, steps_from, weight, bonus_in, bonus}, Allowed.Allowed}
+use Rattle.rnix_lemmas.proofs.{EachKind.each_kind, EachIndex.{each_index}}
 use Rattle.rnix_grammar.specs.declared.place.Place.TheVariants as p
-use Rattle.rnix_grammar.specs.declared.symbol.Symbol.TheVariants as s
+use Rattle.rnix_grammar.specs.declared.rules.Part.TheVariants as r
 use Rattle.rnix_grammar.specs.declared.action.Action.TheVariants as a
 
--- what a place is by what stands there
-record StandsAt (symbol : Symbol) (place : Place) : Type 0 where
-  sort : sort_of place ≡ sort_in symbol (sort_of place)
-  same : sort_of (behind_in symbol place) ≡ sort_of place
-  free : may_stand symbol (sort_of place) ≡ true
-  here : place ≡ place_in symbol place
-  steps : weight place ≡ steps_with weight (done_at symbol place None false)
-  bonus : bonus place ≡ bonus_in symbol
+-- the sort of a place, by the part that comes next; tokens, operands and names stand at places of several sorts
+abbrev pub sort_by_part : Part → Sort → Sort
+sort_by_part (r.Many level closer) own = Plain
+sort_by_part (r.Entries closer) own = Plain
+sort_by_part r.Attr own = Plain
+sort_by_part r.Attrpath own = Plain
+sort_by_part r.MoreAttrs own = Plain
+sort_by_part r.Names own = Plain
+sort_by_part (r.Optional kind) own = Plain
+sort_by_part r.Pieces own = Plain
+sort_by_part r.PathPieces own = Plain
+sort_by_part r.Formals own = Pattern
+sort_by_part r.FormalsAfterComma own = Pattern
+sort_by_part r.Comma own = Pattern
+sort_by_part r.BoundAlready own = Pattern
+sort_by_part r.TextEnd own = Root
+sort_by_part (r.EndOr TOKEN_QUESTION) own = Entry
+sort_by_part (r.EndOr NODE_PAT_BIND) own = Pattern
+sort_by_part (r.EndOr kind) own = Plain
+sort_by_part part own = own
 
--- the sort of a place, by what stands there
-pub sort_there : (place : Place) → sort_of place ≡ sort_in (symbol_at place) (sort_of place)
-sort_there p.RootStart = refl
-sort_there _ = refl
+-- and by its slot
+abbrev pub sort_by : Option Slot → Sort → Sort
+sort_by None own = Plain
+sort_by (Some (End NODE_ROOT)) own = Plain
+sort_by (Some (End kind)) own = sort_of_row kind
+sort_by (Some (Next part)) own = sort_by_part part own
 
-same_there : (place : Place) → sort_of (behind_in (symbol_at place) place) ≡ sort_of place
-same_there p.RootStart = refl
-same_there _ = refl
+-- the sort of the place after a part
+abbrev sort_after : Option Slot → ℕ → Sort → Sort
+sort_after (Some (Next r.TextEnd)) i own = own
+sort_after (Some (Next part)) i own = sort_of (p.Left (i + 1))
+sort_after slot i own = own
 
-free_there : (place : Place) → may_stand (symbol_at place) (sort_of place) ≡ true
-free_there p.RootStart = refl
-free_there _ = refl
+-- a token stands in no second name, and an operand where one may stand
+abbrev may_stand : Option Slot → Sort → Bool
+may_stand (Some (Next (r.Operand level counted))) sort = may_hold sort Loose
+may_stand (Some (Next (r.Wanted NODE_IDENT))) sort = true
+may_stand (Some (Next part)) sort = is_open sort
+may_stand slot sort = true
 
-place_there : (place : Place) → place ≡ place_in (symbol_at place) place
-place_there p.RootStart = refl
-place_there _ = refl
+-- the end of the text stands at one place
+abbrev index_by : Option Slot → ℕ → ℕ
+index_by (Some (Next r.TextEnd)) i = ROOT + 1
+index_by slot i = i
+
+-- an error says that the child is wanted that is wanted
+abbrev IsToldWanted : Option Slot → Type 0
+IsToldWanted (Some (Next (r.Wanted NODE_IDENT))) = Unit {0}
+IsToldWanted (Some (Next (r.Wanted kind))) = wanted_kinds (until_of kind) ≡ kind ∷ []
+IsToldWanted slot = Unit {0}
+
+-- what an index is by its slot: its sort, that of the place after it, what may stand there, and the steps that follow where the text has ended
+abbrev StandsAt : Option Slot → ℕ → Type 0
+StandsAt slot i =
+    (sort_of (p.Left i) ≡ sort_by slot (sort_of (p.Left i))) × (sort_after slot i (sort_of (p.Left i)) ≡ sort_of (p.Left i))
+    × (may_stand slot (sort_of (p.Left i)) ≡ true) × (i ≡ index_by slot i) × (weight (p.Left i) ≡ steps_with weight (slot_action slot i None false))
+    × (nat_le 1 (weight (p.Left i)) ≡ true) × (nat_le (weight (p.Left i)) 7 ≡ true) × IsToldWanted slot
+
+past_end : (i : ℕ) → slot_at i ≡ None → drop i SLOTS ≡ [] → StandsAt (slot_at i) i
+past_end i e d =
+    let steps : weight (p.Left i) ≡ 1 = ap (λ s. steps_with (steps_from 6) (slot_action s i None false)) e in
+    subst (λ s. StandsAt s i) (sym e) (ap sort_in d, refl, refl, refl, steps, ap (nat_le 1) steps, ap (λ n. nat_le n 7) steps, tt)
+
+pub stands_there : (i : ℕ) → StandsAt (slot_at i) i
+stands_there = each_index (λ i. StandsAt (slot_at i) i) (assumption) past_end
+
+-- the sort of a place, by its slot
+pub sort_there : (i : ℕ) → sort_of (p.Left i) ≡ sort_by (slot_at i) (sort_of (p.Left i))
+sort_there i = (stands_there i).0
 
 -- the steps of a place, by what is done there; they are few, and not none
 pub weight_there : (place : Place)
     → (weight place ≡ steps_with weight (action_at place None false)) × (nat_le 1 (weight place) ≡ true) × (nat_le (weight place) 7 ≡ true)
-weight_there (p.PatternStart true) = (refl, refl, refl)
-weight_there (p.PatternInside true) = (refl, refl, refl)
-weight_there (p.PatternAfter true) = (refl, refl, refl)
-weight_there (p.PatternClose true) = (refl, refl, refl)
-weight_there (p.PatternEnd true) = (refl, refl, refl)
-weight_there _ = (refl, refl, refl)
-
--- so is each place
-stands_there : (place : Place) → StandsAt (symbol_at place) place
-stands_there place = record {
-  sort = sort_there place;
-  same = same_there place;
-  free = free_there place;
-  here = place_there place;
-  steps = (weight_there place).0;
-  bonus = refl;
-}
+weight_there (p.Left i) = let w = stands_there i in (w.4, w.5, w.6)
+weight_there (p.Behind low high) = (refl, refl, refl)
+weight_there (p.Right level) = (refl, refl, refl)
 
 -- a choice of two
 either : (place : Place) (next : Option SyntaxKind) (b : Bool) (x y : Action) → (b ≡ true → Allowed place next x) → (b ≡ false → Allowed place next y) → Allowed place next (if b then x else y)
 either place next true x y h k = h refl
 either place next false x y h k = k refl
 
-token : (until : Until) (place behind : Place) (kind : SyntaxKind) → sort_of behind ≡ sort_of place → is_open (sort_of place) ≡ true
-    → Allowed place (Some kind) (token_action until place behind (Some kind))
-token until place behind kind e o = either place (Some kind) (is_wanted until kind) (a.Take behind) (a.Run until place) (λ h. (refl, e, o)) (λ h. (h, refl))
-
--- a row of operands, of entries, of pieces
-series : (level : ℕ) (closer : Closer) (place : Place) (kind : SyntaxKind) → sort_of place ≡ Plain → Allowed place (Some kind) (series_action level closer place (Some kind))
-series level closer place kind e =
-    either place (Some kind) (closes closer kind) (a.Take p.Past) (a.Read level true place) (λ h. (refl, sym e, ap is_open e)) (λ h. (refl, ap (λ x. may_hold x Loose) e))
-
-entries : (closer : Closer) (place behind : Place) (kind : SyntaxKind) → sort_of place ≡ Plain → sort_of behind ≡ sort_of place → bonus place ≡ full_bonus
-    → Allowed place (Some kind) (entries_action closer place behind (Some kind))
-entries closer place behind TOKEN_INHERIT e f b = (refl, refl, refl, refl, ap is_open e)
-entries closer place behind kind e f b =
-    either place (Some kind) (closes closer kind) (a.Take behind) _ (λ h. (refl, f, ap is_open e)) (λ h. (refl, refl, refl, ap is_open e, refl, omega (arith, b), λ n. absurd (cc)))
-
 -- where the text has ended
-ended : (symbol : Symbol) (place : Place) (touches : Bool) → StandsAt symbol place → Allowed place None (done_at symbol place None touches)
-ended (s.Token until behind) place touches w = (refl, (w.same, omega (arith, w.steps)))
-ended (s.Operand level counted behind) place touches w = ((w.same, omega (arith, w.steps)), w.free)
-ended (s.Series level closer) place touches w = (refl, (sym w.sort, omega (arith, w.steps)))
-ended (s.Entries closer behind) place touches w = (refl, (w.same, omega (arith, w.steps)))
-ended s.Pieces place touches w = (refl, (sym w.sort, omega (arith, w.steps)))
-ended s.Source place touches w = (refl, (sym w.sort, omega (arith, w.steps)))
-ended s.Names place touches w = (refl, (sym w.sort, omega (arith, w.steps)))
-ended (s.Attr behind) place touches w = (refl, (w.same, omega (arith, w.steps)))
-ended (s.Attrpath behind) place touches w = (w.same, refl, refl, ap is_open w.sort, refl, omega (arith, w.steps), λ n. omega (arith, w.steps))
-ended (s.Name behind) place touches w = (refl, (w.same, omega (arith, w.steps)))
-ended (s.Braces bound) place touches w = (refl, (sym w.sort, omega (arith, w.steps)))
-ended (s.Formals bound) place touches w = (refl, (sym w.sort, omega (arith, w.steps)))
-ended (s.Comma bound) place touches w = (refl, (sym w.sort, omega (arith, w.steps)))
-ended (s.Bind true) place touches w = w.sort
-ended (s.Bind false) place touches w = w.sort
-ended symbol place touches w = assumption
+ended : (slot : Option Slot) (i : ℕ) (touches : Bool) → bonus (p.Left i) ≡ bonus_in slot → StandsAt slot i → Allowed (p.Left i) None (slot_action slot i None touches)
+ended None i touches e w = (w.0, e)
+ended (Some (End NODE_PAT_ENTRY)) i touches e w = w.0
+ended (Some (End NODE_PATTERN)) i touches e w = w.0
+ended (Some (End NODE_ERROR)) i touches e w = w.0
+ended (Some (End _)) i touches e w = (w.0, e)
+ended (Some (Next (r.Operand level counted))) i touches e w = ((w.1, omega (arith, w.4)), w.2)
+ended (Some (Next r.Attrpath)) i touches e w = (w.1, refl, refl, ap is_open w.0, refl, omega (arith, w.4), λ n. omega (arith, w.4))
+ended (Some (Next r.MoreAttrs)) i touches e w = (w.0, e)
+ended (Some (Next r.PathPieces)) i true e w = (w.0, e)
+ended (Some (Next r.PathPieces)) i false e w = (w.0, e)
+ended (Some (Next (r.Optional kind))) i touches e w = (refl, (sym w.0, omega (arith, w.4)))
+ended (Some (Next (r.EndOr TOKEN_QUESTION))) i touches e w = w.0
+ended (Some (Next (r.EndOr NODE_PAT_BIND))) i touches e w = w.0
+ended (Some (Next (r.EndOr _))) i touches e w = (w.0, e)
+ended (Some (Next r.BoundAlready)) i touches e w = w.0
+ended (Some (Next r.TextEnd)) i touches e w = (ap p.Left w.3, refl)
+ended (Some (Next (r.Wanted NODE_IDENT))) i touches e w = (refl, (w.1, omega (arith, w.4)))
+ended (Some (Next _)) i touches e w = (refl, (w.1, omega (arith, w.4)))
+
+-- the places of patterns
+same_sort : (bound : Bool) (i x y : ℕ) → sort_of (p.Left x) ≡ Pattern → sort_of (p.Left y) ≡ Pattern → sort_of (p.Left i) ≡ Pattern
+    → sort_of (p.Left (if bound then x else y)) ≡ sort_of (p.Left i)
+same_sort true i x y h k e = h ∙ sym e
+same_sort false i x y h k e = k ∙ sym e
+
+pattern_comma : (bound : Bool) (i : ℕ) → sort_of (p.Left i) ≡ Pattern → sort_of (p.Left (if bound then BOUND_AFTER_COMMA else AFTER_COMMA)) ≡ sort_of (p.Left i)
+pattern_comma bound i e = same_sort bound i BOUND_AFTER_COMMA AFTER_COMMA refl refl e
+
+pattern_formal : (bound : Bool) (i : ℕ) → sort_of (p.Left i) ≡ Pattern → sort_of (p.Left (if bound then BOUND_AFTER_FORMAL else AFTER_FORMAL)) ≡ sort_of (p.Left i)
+pattern_formal bound i e = same_sort bound i BOUND_AFTER_FORMAL AFTER_FORMAL refl refl e
+
+pattern_close : (bound : Bool) (i : ℕ) → sort_of (p.Left i) ≡ Pattern → sort_of (p.Left (if bound then BOUND_PATTERN_CLOSE else PATTERN_CLOSE)) ≡ sort_of (p.Left i)
+pattern_close bound i e = same_sort bound i BOUND_PATTERN_CLOSE PATTERN_CLOSE refl refl e
+
+-- a token that is wanted
+token_at : (wanted : SyntaxKind) (i : ℕ) (kind : SyntaxKind) → sort_of (p.Left (i + 1)) ≡ sort_of (p.Left i) → is_open (sort_of (p.Left i)) ≡ true
+    → wanted_kinds (until_of wanted) ≡ wanted ∷ [] → Allowed (p.Left i) (Some kind) (token_action wanted i (i + 1) kind)
+token_at wanted i kind n o t =
+    either (p.Left i) (Some kind) (same_kind wanted kind) (a.Take (i + 1)) (a.Run (until_of wanted) i) (λ h. (refl, n, o))
+    (λ h. (ap (list_any (λ k. same_kind k kind)) t ∙ ap (λ x. x || false) h, refl))
 
 -- where an item is at hand
-at_hand : (symbol : Symbol) (place : Place) (kind : SyntaxKind) (touches : Bool) → StandsAt symbol place → Allowed place (Some kind) (done_at symbol place (Some kind) touches)
-at_hand (s.Token until behind) place kind touches w = token until place behind kind w.same w.free
-at_hand (s.Operand level counted behind) place kind touches w = (w.same, w.free)
-at_hand (s.Series level closer) place kind touches w = series level closer place kind w.sort
-at_hand (s.Entries closer behind) place kind touches w = entries closer place behind kind w.sort w.same w.bonus
-at_hand (s.Attrpath behind) place kind touches w = (w.same, refl, refl, ap is_open w.sort, refl, omega (arith, w.steps), λ n. omega (arith, w.steps))
-at_hand (s.More low high) place kind touches w = either place (Some kind) (goes_on low high kind) (follow kind) a.Settle (λ h. each_kind (λ k. Allowed place (Some k) (follow k)) (assumption (w.sort)) kind) (λ h. w.sort)
-at_hand s.MorePieces place kind true w = each_kind (λ k. Allowed place (Some k) (more_pieces_action true (Some k))) (assumption (w.sort, sym w.sort, ap is_open w.sort, w.bonus)) kind
-at_hand s.MorePieces place kind false w = (w.sort, w.bonus)
-at_hand (s.Bind true) place kind touches w = each_kind (λ k. Allowed place (Some k) (bind_action true (Some k))) (assumption (w.sort, sym w.sort, ap is_open w.sort)) kind
-at_hand (s.Bind false) place kind touches w = each_kind (λ k. Allowed place (Some k) (bind_action false (Some k))) (assumption (w.sort, sym w.sort, ap is_open w.sort)) kind
-at_hand symbol place kind touches w =
-    each_kind (λ k. Allowed place (Some k) (done_at symbol place (Some k) touches)) (assumption (w.sort, sym w.sort, ap is_open w.sort, w.same, w.bonus)) kind
+at_hand : (slot : Option Slot) (i : ℕ) (kind : SyntaxKind) (touches : Bool) → bonus (p.Left i) ≡ bonus_in slot → StandsAt slot i
+    → Allowed (p.Left i) (Some kind) (slot_action slot i (Some kind) touches)
+at_hand None i kind touches e w = (w.0, e)
+at_hand (Some (End NODE_PAT_ENTRY)) i kind touches e w = w.0
+at_hand (Some (End NODE_PATTERN)) i kind touches e w = w.0
+at_hand (Some (End NODE_ERROR)) i kind touches e w = w.0
+at_hand (Some (End _)) i kind touches e w = (w.0, e)
+at_hand (Some (Next (r.Operand level counted))) i kind touches e w = (w.1, w.2)
+at_hand (Some (Next r.Attrpath)) i kind touches e w = (w.1, refl, refl, ap is_open w.0, refl, omega (arith, w.4), λ n. omega (arith, w.4))
+at_hand (Some (Next (r.Many level closer))) i kind touches e w =
+    either (p.Left i) (Some kind) (same_kind closer kind) (a.Take (i + 1)) (a.Read level true i) (λ h. (refl, w.1, ap is_open w.0)) (λ h. (refl, ap (λ x. may_hold x Loose) w.0))
+at_hand (Some (Next (r.Entries closer))) i TOKEN_INHERIT touches e w = (refl, refl, refl, refl, ap is_open w.0)
+at_hand (Some (Next (r.Entries closer))) i kind touches e w =
+    either (p.Left i) (Some kind) (same_kind closer kind) (a.Take (i + 1)) _ (λ h. (refl, w.1, ap is_open w.0)) (λ h. (refl, refl, refl, ap is_open w.0, refl, omega (arith, e), λ n. absurd (cc)))
+at_hand (Some (Next (r.Wanted NODE_IDENT))) i kind touches e w =
+    each_kind (λ k. Allowed (p.Left i) (Some k) (slot_action (Some (Next (r.Wanted NODE_IDENT))) i (Some k) touches)) (assumption (w.1)) kind
+at_hand (Some (Next (r.Wanted _))) i kind touches e w = token_at _ i kind w.1 w.2 w.7
+at_hand (Some (Next r.Formals)) i kind touches e w =
+    let b : Bool = is_not i PATTERN in
+    each_kind (λ k. Allowed (p.Left i) (Some k) (slot_action (Some (Next r.Formals)) i (Some k) touches))
+    (assumption (w.0, sym w.0, ap is_open w.0, w.1, pattern_comma b i w.0, pattern_formal b i w.0, pattern_close b i w.0)) kind
+at_hand (Some (Next r.FormalsAfterComma)) i kind touches e w =
+    let b : Bool = is_not i AFTER_COMMA in
+    each_kind (λ k. Allowed (p.Left i) (Some k) (slot_action (Some (Next r.FormalsAfterComma)) i (Some k) touches))
+    (assumption (w.0, sym w.0, ap is_open w.0, w.1, pattern_comma b i w.0, pattern_formal b i w.0, pattern_close b i w.0)) kind
+at_hand (Some (Next r.Comma)) i kind touches e w =
+    let b : Bool = is_not i AFTER_FORMAL in
+    each_kind (λ k. Allowed (p.Left i) (Some k) (slot_action (Some (Next r.Comma)) i (Some k) touches))
+    (assumption (w.0, sym w.0, ap is_open w.0, w.1, pattern_comma b i w.0, pattern_formal b i w.0, pattern_close b i w.0)) kind
+at_hand (Some (Next (r.EndOr TOKEN_OR))) i kind touches e w =
+    each_kind (λ k. Allowed (p.Left i) (Some k) (slot_action (Some (Next (r.EndOr TOKEN_OR))) i (Some k) touches)) (assumption (w.0, ap is_open w.0, w.1, e)) kind
+at_hand (Some (Next (r.EndOr TOKEN_QUESTION))) i kind touches e w =
+    each_kind (λ k. Allowed (p.Left i) (Some k) (slot_action (Some (Next (r.EndOr TOKEN_QUESTION))) i (Some k) touches)) (assumption (w.0, ap is_open w.0, w.1)) kind
+at_hand (Some (Next (r.EndOr NODE_INTERPOL))) i kind touches e w =
+    each_kind (λ k. Allowed (p.Left i) (Some k) (slot_action (Some (Next (r.EndOr NODE_INTERPOL))) i (Some k) touches)) (assumption (w.0, ap is_open w.0, w.1, e)) kind
+at_hand (Some (Next (r.EndOr NODE_PAT_BIND))) i kind touches e w =
+    each_kind (λ k. Allowed (p.Left i) (Some k) (slot_action (Some (Next (r.EndOr NODE_PAT_BIND))) i (Some k) touches)) (assumption (w.0, ap is_open w.0, w.1)) kind
+at_hand (Some (Next (r.EndOr _))) i kind touches e w = (w.0, e)
+at_hand (Some (Next r.PathPieces)) i kind true e w =
+    each_kind (λ k. Allowed (p.Left i) (Some k) (slot_action (Some (Next r.PathPieces)) i (Some k) true)) (assumption (w.0, sym w.0, ap is_open w.0, e)) kind
+at_hand (Some (Next r.PathPieces)) i kind false e w =
+    each_kind (λ k. Allowed (p.Left i) (Some k) (slot_action (Some (Next r.PathPieces)) i (Some k) false)) (assumption (w.0, sym w.0, ap is_open w.0, e)) kind
+at_hand (Some (Next r.TextEnd)) i kind touches e w = (refl, w.0)
+at_hand (Some (Next part)) i kind touches e w =
+    each_kind (λ k. Allowed (p.Left i) (Some k) (slot_action (Some (Next part)) i (Some k) touches)) (assumption (w.0, sym w.0, ap is_open w.0, w.1, w.2, e)) kind
 
 -- at each place
 pub allowed : (place : Place) (next : Option SyntaxKind) (touches : Bool) → Allowed place next (action_at place next touches)
-allowed place None touches = ended (symbol_at place) place touches (stands_there place)
-allowed place (Some kind) touches = at_hand (symbol_at place) place kind touches (stands_there place)
+allowed (p.Left i) None touches = ended (slot_at i) i touches refl (stands_there i)
+allowed (p.Left i) (Some kind) touches = at_hand (slot_at i) i kind touches refl (stands_there i)
+allowed (p.Right level) None touches = ((refl, omega (arith)), refl)
+allowed (p.Right level) (Some kind) touches = (refl, refl)
+allowed (p.Behind low high) None touches = refl
+allowed (p.Behind low high) (Some kind) touches =
+    either (p.Behind low high) (Some kind) (goes_on low high kind) (follow kind) a.Settle
+    (λ h. each_kind (λ k. Allowed (p.Behind low high) (Some k) (follow k)) (assumption) kind) (λ h. refl)

@@ -1,14 +1,14 @@
 -- The kinds that operands begin with are those of how the reader begins them.
-use Rattle.std.proofs.Common.{◌≡◌, ℕ, Bool, true, false, List, [], ◌∷◌, ◌++◌, Option, Some, None, refl, sym, ap, ◌∙◌}
+use Rattle.std.proofs.Common.{◌≡◌, ℕ, Bool, true, false, List, [], ◌∷◌, ◌++◌, Option, Some, None, refl, ap, ◌∙◌}
 use Rattle.{std.specs.Prelude.{if◌then◌else◌, nat_eq, nat_le}, rnix_kinds.specs.declared.kinds.SyntaxKind.{SyntaxKind}}
 use Rattle.rnix_kinds.specs.declared.kinds.SyntaxKind.TheVariants.{TOKEN_INVERT, TOKEN_SUB, TOKEN_WITH, TOKEN_ASSERT, TOKEN_IF, TOKEN_COLON, TOKEN_AT, NODE_ATTR_SET, NODE_CUR_POS, NODE_IDENT, NODE_ERROR}
 use Rattle.{rnix_grammar.specs.declared.begin.Begin.{Begin}, rnix_grammar.specs.Tables.{is_cur_pos}, rnix_lemmas.proofs.EachKind.{each_kind, each_next}}
 use Rattle.rnix_grammar.specs.Begins.{begin_of, second_kind, begin_name, begin_let, begin_prefix, begin_keyword, is_pattern}
+use Rattle.rnix_grammar.specs.declared.position.TheConstants.{SET}
 use Rattle.rnix_grammar.specs.Levels.{expression_level, inversion_level, negation_level, selection_level}
 use Rattle.{rnix_grammar.specs.AnnotatedForest.{Token, AnnotatedForest, tokens_in, head_kind}, rnix_grammar.specs.Operands.{kind_of, IsBegun, IsOperand}}
 use Rattle.rnix_grammar.specs.Beginnings.{first_kind, BeginsAs, IsOperandOf, first_kind_of_name, first_kind_of_let, kind_if}
 use Rattle.rnix_grammar.specs.declared.begin.Begin.TheVariants as b
-use Rattle.rnix_grammar.specs.declared.place.Place.TheVariants as p
 
 -- one of two
 kind_either : (w : Bool) (x y : Begin) → kind_of (if w then x else y) ≡ (if w then kind_of x else kind_of y)
@@ -40,7 +40,7 @@ pub beginning_is : (n : ℕ) (k : SyntaxKind) (text : List ℕ) (second third : 
 beginning_is n k text second third = each_kind (λ k. kind_of (begin_of n k text second third) ≡ first_kind n k text second third) (assumption (
   no_kind (nat_eq n expression_level),
   name_is text second,
-  kind_either (is_pattern second third) b.PatternLambda (b.Node NODE_ATTR_SET p.SetInside selection_level),
+  kind_either (is_pattern second third) b.PatternLambda (b.Node NODE_ATTR_SET SET selection_level),
   kind_only (nat_eq n expression_level) (begin_let second) ∙ ap (kind_if (nat_eq n expression_level)) (let_is second),
   kind_only (nat_le n inversion_level) (begin_prefix 0 TOKEN_INVERT),
   kind_only (nat_le n negation_level) (begin_prefix 0 TOKEN_SUB),

@@ -1,19 +1,13 @@
 -- What a test of all kinds says of each kind.
 use Rattle.std.{specs.List.list_all, proofs.Common.{◌≡◌, ◌≤◌, ℕ, Bool, true, false, ap, sym, ◌∙◌, arith, ◌&&◌, if◌then◌else◌, nat_eq, nat_le}}
 use Rattle.std.proofs.lemmas.Bool.Decides.{nat_tests}
-use Rattle.rnix_kinds.{specs.{SyntaxKind.{is_token, place_of}, declared.kinds.SyntaxKind.SyntaxKind}, proofs.AllKinds.{same_place, every, all_kinds, implied}}
-use Rattle.{rnix_grammar.specs.Plain.is_node, rnix_lemmas.proofs.Basics.{true_is_not_false, not_if}}
+use Rattle.rnix_kinds.{specs.{SyntaxKind.{place_of}, declared.kinds.SyntaxKind.SyntaxKind}, proofs.AllKinds.{same_place, every, all_kinds, implied}}
+use Rattle.{rnix_lemmas.proofs.Basics.{true_is_not_false}}
 
 -- two tests that are never passed together are not both passed
 pub not_together : {v w : Bool} → (v && w) ≡ false → v ≡ true → w ≡ true → ⊥
 not_together {v = true} h e f = true_is_not_false (sym f ∙ h)
 not_together {v = false} h e f = true_is_not_false (sym e)
-
--- where the second test is passed only if the first is, it is not passed alone
-pub not_alone : {v w : Bool} → (if v then true else (if w then false else true)) ≡ true → v ≡ false → w ≡ true → ⊥
-not_alone {v = true} h e f = true_is_not_false e
-not_alone {v = false} {w = true} h e f = true_is_not_false (sym h)
-not_alone {v = false} {w = false} h e f = true_is_not_false (sym f)
 
 -- numbers that are tested as equal are equal
 equal : (m n : ℕ) → nat_eq m n ≡ true → m ≡ n
@@ -41,10 +35,6 @@ only_both a b w h k e f = same k w (whenever_both a b (λ j. nat_eq (place_of j)
 pub never : (a b : SyntaxKind → Bool) → list_all (λ k. if a k then (if b k then false else true) else true) all_kinds ≡ true → (k : SyntaxKind) → a k ≡ true → b k ≡ true → ⊥
 never a b h k e f = true_is_not_false (sym (every (λ j. if a j then (if b j then false else true) else true) h k) ∙ ap (λ w. if w then (if b k then false else true) else true) e ∙ ap (λ w. if w then false else true) f)
 
--- so only tokens pass a test
-pub tokens_alone : (a : SyntaxKind → Bool) → list_all (λ k. if a k then is_token k else true) all_kinds ≡ true → (k : SyntaxKind) → a k ≡ true → is_node k ≡ false
-tokens_alone a h k e = ap (λ w. if w then false else true) (implied a is_token h k e)
-
 -- and of two kinds
 pub whenever_two : (a b : SyntaxKind → SyntaxKind → Bool) → list_all (λ j. list_all (λ k. if a j k then b j k else true) all_kinds) all_kinds ≡ true → (j k : SyntaxKind) → a j k ≡ true → b j k ≡ true
 whenever_two a b h j k e = implied (a j) (b j) (every (λ i. list_all (λ l. if a i l then b i l else true) all_kinds) h j) k e
@@ -56,7 +46,3 @@ at_most a f g h k e = let l : nat_le (f k) (g k) ≡ true = implied a (λ j. nat
 -- and is equal to it
 pub alike : (a : SyntaxKind → Bool) (f g : SyntaxKind → ℕ) → list_all (λ k. if a k then nat_eq (f k) (g k) else true) all_kinds ≡ true → (k : SyntaxKind) → a k ≡ true → f k ≡ g k
 alike a f g h k e = let l : nat_eq (f k) (g k) ≡ true = implied a (λ j. nat_eq (f j) (g j)) h k e in grind (arith, nat_tests, l)
-
--- a test that no listed kind passes fails for every kind
-pub no_kind : (a : SyntaxKind → Bool) → list_all (λ k. if a k then false else true) all_kinds ≡ true → (k : SyntaxKind) → a k ≡ false
-no_kind a h k = not_if (a k) (every (λ j. if a j then false else true) h k)

@@ -5,7 +5,7 @@ use Rattle.rnix_kinds.{specs.{declared.kinds.SyntaxKind.{SyntaxKind, TheVariants
 use Rattle.{rnix_kinds.proofs.AllKinds.implied, rnix_grammar.specs.{Levels.{binding_power, left_of, high_of}, TokenKinds.{is_or, is_question, is_dot}}}
 use Rattle.rnix_grammar.specs.{Rows.{is_atom, is_infix}, AnnotatedForest.{Token, AnnotatedForest, blank, token, branch, fault}, TreeLevels.row_level}
 use Rattle.{rnix_grammar.specs.{TreeLevels.{level_of, is_atom_row}, Operands.follows}, rnix_lemmas.proofs.{EntryNames.if_not, Basics.true_is_not_false}}
-use Rattle.rnix_lemmas.proofs.{Basics.not_if, LevelLemmas.{within, at_most, same_number, at_most_true, binding_power_max, operates}, StrictParts.left_least}
+use Rattle.rnix_lemmas.proofs.{Basics.not_if, LevelLemmas.{within, at_most, same_number, at_most_true}, StrictParts.left_least}
 
 -- how an item goes on with a tree of a level that is an atom or not: as an operator, by `?`, as an argument, or by `.` or `or`
 pub data Follows (j : SyntaxKind) (v : ℕ) (w : Bool) : Type 0 where
@@ -26,16 +26,6 @@ follows_by j x h = by (is_infix j) (is_question j) (is_fn_arg j) (is_dot j || is
     by false false true d e f g k h = by_argument (same_number (binding_power j) 15 (implied is_fn_arg (λ o. nat_eq (binding_power o) 15) refl j g)) (at_most 15 (row_level x) h)
     by false false false true e f g k h = by_name (same_number (binding_power j) 16 (implied (λ o. is_dot o || is_or o) (λ o. nat_eq (binding_power o) 16) refl j k)) h
     by false false false false e f g k h = absurd (true_is_not_false (sym h))
-
--- what goes on with a tree has a level
-pub follows_binding_power : (j : SyntaxKind) (x : AnnotatedForest) → follows j x ≡ true → 1 ≤ binding_power j
-follows_binding_power j x h = by (follows_by j x h)
-  where
-    by : {v : ℕ} {w : Bool} → Follows j v w → 1 ≤ binding_power j
-    by (by_operator i l) = (operates j i).positive
-    by (by_question p l) = omega (arith, p)
-    by (by_argument p l) = omega (arith, p)
-    by (by_name p e) = omega (arith, p)
 
 -- an atom is as tight as any operator wants
 pub atom_tight : (k : SyntaxKind) (c : AnnotatedForest) → is_atom k ≡ true → level_of k c ≡ 16
@@ -59,31 +49,9 @@ follows_level i x h = by (follows_by i x h) refl refl
     by (by_argument p l) d e = omega (arith, l, d, p)
     by (by_name p e) d u = omega (arith, p, atom_level x (sym u ∙ e))
 
--- What goes on with a tree binds no tighter than the level.
-abbrev pub Stops : ℕ → AnnotatedForest → Type 0
-Stops high x = (j : SyntaxKind) → follows j x ≡ true → binding_power j ≤ high
-
--- nothing binds tighter than 16
-pub stops_all : (x : AnnotatedForest) → Stops 16 x
-stops_all x j h = binding_power_max j
-
--- behind a tree that is no atom nothing binds tighter than an argument
-pub stops_simple : (x : AnnotatedForest) → is_atom_row x ≡ false → Stops 15 x
-stops_simple x a j h = by (follows_by j x h) refl
-  where
-    by : {v : ℕ} {w : Bool} → Follows j v w → w ≡ is_atom_row x → binding_power j ≤ 15
-    by (by_operator i l) e = omega (arith, (operates j i).most)
-    by (by_question p l) e = omega (arith, p)
-    by (by_argument p l) e = omega (arith, p)
-    by (by_name p e) u = absurd (true_is_not_false (sym e ∙ u ∙ a))
-
 -- What goes on with a tree is what binds no tighter than the level.
 abbrev pub FollowedTo : ℕ → AnnotatedForest → Type 0
 FollowedTo high x = (j : SyntaxKind) → ((1 ≤ binding_power j → binding_power j ≤ high → follows j x ≡ true) × (follows j x ≡ true → (1 ≤ binding_power j) × (binding_power j ≤ high)))
-
--- so no more does
-pub stops_at : (high : ℕ) (x : AnnotatedForest) → FollowedTo high x → Stops high x
-stops_at high x w j h = ((w j).1 h).1
 
 -- an item of the kind may go on with a tree of the level, which is an atom or is not
 abbrev pub goes_after : SyntaxKind → ℕ → Bool → Bool

@@ -9,22 +9,6 @@ use Rattle.{rnix_grammar.specs.Rows.{is_expression, fits, is_infix}}
 pub atom_simple : (k : SyntaxKind) → is_atom k ≡ true → is_simple k ≡ true
 atom_simple = implied is_atom is_simple refl
 
--- what may be called may be negated
-pub simple_negated : (k : SyntaxKind) → is_simple k ≡ true → is_negated k ≡ true
-simple_negated = implied is_simple is_negated refl
-
--- what may be negated may be asked for an attribute
-pub negated_questioned : (k : SyntaxKind) → is_negated k ≡ true → is_questioned k ≡ true
-negated_questioned = implied is_negated is_questioned refl
-
--- what may be asked for an attribute may be an operand
-pub questioned_operand : (k : SyntaxKind) → is_questioned k ≡ true → is_operand k ≡ true
-questioned_operand = implied is_questioned is_operand refl
-
--- an operand is an expression
-pub operand_expression : (k : SyntaxKind) → is_operand k ≡ true → is_expression k ≡ true
-operand_expression = implied is_operand is_expression refl
-
 -- from level 15 on what fits may be an argument
 fits_tight : (n : ℕ) (k : SyntaxKind) → 15 ≤ n → fits n k ≡ is_simple k
 fits_tight n k l = by (nat_eq n 0) (nat_le n 12) (nat_eq n 13) (nat_eq n 14) (grind (arith, nat_tests, l)) (grind (arith, nat_tests, l))

@@ -1,39 +1,51 @@
--- What is reported as missing at each place.
-use Rattle.std.proofs.Common.{◌≡◌, Bool, true, false, Option, Some, None, refl, ap, sym, ◌∙◌, subst}
-use Rattle.rnix_grammar.specs.{declared.{place.Place.Place, until.Until.Until, symbol.Symbol.Symbol}, Symbols.symbol_at, Fault.Fault, Repaired.is_ended}
-use Rattle.{rnix_grammar.specs.{Repaired.IsNamedList, Missing.{missing_in, missing}}, rnix_lemmas.proofs.Basics.true_is_not_false}
-use Rattle.rnix_grammar.specs.declared.place.Place.TheVariants as p
+-- What is reported where a part of a row is missing.
+use Rattle.std.proofs.Common.{◌≡◌, Bool, true, false, List, [], ◌∷◌, Option, Some, None, refl, ap, sym, ◌∙◌, subst}
+use Rattle.rnix_kinds.specs.declared.kinds.SyntaxKind.{SyntaxKind, TheVariants.{TOKEN_R_PAREN, TOKEN_L_BRACE, TOKEN_R_BRACE, TOKEN_SEMICOLON}}
+use Rattle.rnix_kinds.specs.declared.kinds.SyntaxKind.TheVariants.{TOKEN_ASSIGN, TOKEN_COLON, TOKEN_THEN, TOKEN_ELSE, TOKEN_INTERPOL_END, TOKEN_STRING_END}
+use Rattle.rnix_kinds.specs.declared.kinds.SyntaxKind.TheVariants.{TOKEN_IDENT}
+use Rattle.rnix_grammar.specs.{declared.until.Until.Until, Fault.{Fault, ended_before}, Tables.wanted_kinds, Repaired.{is_ended, IsNamedList}}
+use Rattle.rnix_grammar.specs.{Rules.{Row, missing}}
+use Rattle.rnix_lemmas.proofs.{Basics.true_is_not_false, KnownRows.{IsKnown, each_known}}
 use Rattle.rnix_grammar.specs.declared.until.Until.TheVariants as u
-use Rattle.rnix_grammar.specs.declared.symbol.Symbol.TheVariants as s
 
--- an error of the end of the text, with a list of wanted kinds if any
-abbrev pub IsMissing : Option (Fault × Place) → Type 0
+-- the kinds that are wanted say by which list they are
+abbrev until_of : List SyntaxKind → Until
+until_of (TOKEN_R_PAREN ∷ ks) = u.RParen
+until_of (TOKEN_L_BRACE ∷ ks) = u.LBrace
+until_of (TOKEN_R_BRACE ∷ []) = u.RBrace
+until_of (TOKEN_R_BRACE ∷ ks) = u.Entry
+until_of (TOKEN_SEMICOLON ∷ ks) = u.Semicolon
+until_of (TOKEN_ASSIGN ∷ ks) = u.Assign
+until_of (TOKEN_COLON ∷ ks) = u.Colon
+until_of (TOKEN_THEN ∷ ks) = u.Then
+until_of (TOKEN_ELSE ∷ ks) = u.Else
+until_of (TOKEN_INTERPOL_END ∷ ks) = u.InterpolEnd
+until_of (TOKEN_STRING_END ∷ []) = u.StringEnd
+until_of (TOKEN_STRING_END ∷ ks) = u.Piece
+until_of (TOKEN_IDENT ∷ []) = u.Ident
+until_of (TOKEN_IDENT ∷ ks) = u.Attr
+until_of ks = u.End
+
+abbrev is_end : Until → Bool
+is_end u.End = true
+is_end until = false
+
+-- a list of wanted kinds, if there is one, is one of those
+abbrev IsListed : Fault → Type 0
+IsListed (ended_before kinds) = (is_end (until_of kinds) ≡ false) × (kinds ≡ wanted_kinds (until_of kinds))
+IsListed e = Unit {0}
+
+listed : (e : Fault) → IsListed e → IsNamedList e
+listed (ended_before kinds) h = (until_of kinds, λ e. true_is_not_false (sym (ap is_end e) ∙ h.0), h.1)
+listed _ h = h
+
+-- an error of the end of the text
+abbrev IsMissing : Option (Fault × Row) → Type 0
 IsMissing None = Unit {0}
-IsMissing (Some w) = (is_ended w.0 ≡ true) × IsNamedList w.0
-
--- a token that is wanted in a symbol is of some kind
-abbrev is_wanting : Until → Bool
-is_wanting u.End = false
-is_wanting until = true
-
-abbrev wants : Symbol → Bool
-wants (s.Token until behind) = is_wanting until
-wants symbol = true
-
-wants_at : (x : Place) → wants (symbol_at x) ≡ true
-wants_at p.ParenEnd = refl
-wants_at _ = refl
-
--- so it is in each symbol
-misses_in : (symbol : Symbol) → wants symbol ≡ true → IsMissing (missing_in symbol)
-misses_in (s.Token until behind) w = (refl, (until, (λ e. true_is_not_false (sym w ∙ ap is_wanting e)), refl))
-misses_in s.Pieces w = (refl, (u.Piece, (λ e. cc), refl))
-misses_in (s.Attr behind) w = (refl, (u.Attr, (λ e. cc), refl))
-misses_in (s.Name behind) w = (refl, (u.Ident, (λ e. cc), refl))
-misses_in (s.Formals bound) w = (refl, (u.Entry, (λ e. cc), refl))
-misses_in (s.Comma bound) w = (refl, (u.RBrace, (λ e. cc), refl))
-misses_in _ w = assumption
+IsMissing (Some w) = (is_ended w.0 ≡ true) × IsListed w.0
 
 -- what is missing is reported by an error of the end of the text
-pub missing_ended : (x y : Place) (e : Fault) → missing x ≡ Some (e, y) → (is_ended e ≡ true) × IsNamedList e
-missing_ended x y e h = subst IsMissing h (misses_in (symbol_at x) (wants_at x))
+pub missing_ended : {i : SyntaxKind} {q r : Row} {e : Fault} → IsKnown i q → missing q ≡ Some (e, r) → (is_ended e ≡ true) × IsNamedList e
+missing_ended {i} {q} {r} {e} k m =
+    let both : IsMissing (Some (e, r)) = subst IsMissing m (each_known (λ i r. IsMissing (missing r)) (λ i. tt) (assumption) i q k) in
+    (both.0, listed e both.1)

@@ -1,7 +1,7 @@
 -- What kinds of nodes are: those whose leaves keep their kinds, expressions, attributes and entries.
-use Rattle.std.proofs.Common.{◌≡◌, ℕ, Bool, true, false, [], refl, sym, ◌∙◌, arith}
-use Rattle.rnix_kinds.{specs.declared.kinds.SyntaxKind.{SyntaxKind, TheVariants.{NODE_ERROR, NODE_IDENT, NODE_CUR_POS, NODE_PAT_ENTRY}}, proofs.AllKinds.implied}
-use Rattle.rnix_grammar.specs.{AnnotatedForest.{AnnotatedForest, leaf_kind_as}, Reports.repeats, Rows.{fits, is_expression, is_attr, is_entry}, Plain.is_node}
+use Rattle.std.proofs.Common.{◌≡◌, ℕ, Bool, true, false, [], refl, sym, arith}
+use Rattle.rnix_kinds.{specs.declared.kinds.SyntaxKind.{SyntaxKind, TheVariants.{NODE_ERROR, NODE_IDENT, NODE_CUR_POS, NODE_PAT_ENTRY}}}
+use Rattle.rnix_grammar.specs.{AnnotatedForest.{AnnotatedForest, leaf_kind_as}, Reports.repeats, Rows.{fits, is_expression}}
 use Rattle.rnix_lemmas.proofs.{Basics.true_is_not_false, LevelLemmas.fits_looser}
 
 -- error nodes, and nodes of one name, whose leaf may have another kind than its token
@@ -16,25 +16,9 @@ pub told_plain : (k kind : SyntaxKind) → is_error k ≡ false → leaf_kind_as
 told_plain NODE_IDENT kind h = absurd (true_is_not_false h)
 told_plain _ kind h = cc
 
--- expressions are nodes
-pub expression_node : (k : SyntaxKind) → is_expression k ≡ true → is_node k ≡ true
-expression_node = implied is_expression is_node refl
-
--- attributes are nodes
-pub attr_node : (k : SyntaxKind) → is_attr k ≡ true → is_node k ≡ true
-attr_node = implied is_attr is_node refl
-
--- so are entries
-pub entry_node : (k : SyntaxKind) → is_entry k ≡ true → is_node k ≡ true
-entry_node = implied is_entry is_node refl
-
 -- what fits an operand's place is an expression
 pub fits_expression : (n : ℕ) (k : SyntaxKind) → fits n k ≡ true → is_expression k ≡ true
 fits_expression n k h = fits_looser 0 n k (omega arith) h
-
--- a kind is of a token or of a node
-pub not_both : (k : SyntaxKind) → is_node k ≡ false → is_node k ≡ true → ⊥
-not_both k h j = true_is_not_false (sym j ∙ h)
 
 -- expressions are not reported
 pub unreported : (k : SyntaxKind) (b c : AnnotatedForest) → is_expression k ≡ true → repeats k b c ≡ []

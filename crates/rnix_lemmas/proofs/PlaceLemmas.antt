@@ -2,7 +2,7 @@
 use Rattle.std.proofs.Common.{◌≡◌, ℕ, suc, Bool, true, false, List, [], ◌∷◌, Option, Some, None, refl, sym, ap, ◌∙◌, if◌then◌else◌, nat_le, nat_eq}
 use Rattle.rnix_kinds.specs.declared.kinds.SyntaxKind.{SyntaxKind, TheVariants.{TOKEN_COLON, TOKEN_AT, TOKEN_IDENT, TOKEN_L_BRACE, TOKEN_INVERT, TOKEN_SUB}}
 use Rattle.{rnix_kinds.specs.declared.kinds.SyntaxKind.TheVariants.{TOKEN_LET, NODE_APPLY, NODE_ROOT}, rnix_grammar.specs.declared.place.Place.Place}
-use Rattle.rnix_grammar.specs.{declared.{action.Action.Action, begin.Begin.Begin}, Fault.Fault, Tables.{is_cur_pos, depth_limit}, Actions.action_at}
+use Rattle.rnix_grammar.specs.{declared.{position.TheConstants.APPLIED, action.Action.Action, begin.Begin.Begin}, Fault.Fault, Tables.{is_cur_pos, depth_limit}, Actions.action_at}
 use Rattle.rnix_grammar.specs.{Begins.{is_pattern, begin_name, begin_let, begin_of, second_kind}, AnnotatedForest.{Token, blank, head_kind, touches}}
 use Rattle.rnix_grammar.specs.Machine.{Head, Node, Second, Operand, Frame, Machine, put, opened, ate, seen, low_of, closed, entry_closed, limited, begun}
 use Rattle.rnix_grammar.specs.{Machine.{operand_on, reading, perform, step_on, step, begins}, Sorts.{Sort, Root, Entry, Again, Loose, Plain, sort_of}}
@@ -14,7 +14,7 @@ use Rattle.rnix_grammar.specs.declared.begin.Begin.TheVariants as b
 
 -- a node that begins an operand is plain, and two items begin one only where a second is left
 abbrev pub BeginsInner : Option SyntaxKind → Begin → Type 0
-BeginsInner second (b.Node k place high) = (sort_of_node k ≡ Plain) × (sort_of place ≡ Plain)
+BeginsInner second (b.Node k left high) = (sort_of_node k ≡ Plain) × (sort_of (p.Left left) ≡ Plain)
 BeginsInner second b.LegacyLet = is_there second ≡ true
 BeginsInner second b.BoundLambda = is_there second ≡ true
 BeginsInner second begin = Unit {0}
@@ -73,7 +73,7 @@ root_lowest head place [] w e = w
 root_lowest head place (g ∷ fs) w e = absurd (cc)
 
 -- the place that comes next is of the same sort
-pub next_sort : (place after : Place) (next : Option SyntaxKind) → IsNext place next after → sort_of after ≡ sort_of place
+pub next_sort : (place : Place) (after : ℕ) (next : Option SyntaxKind) → IsNext place next after → sort_of (p.Left after) ≡ sort_of place
 next_sort place after None h = h.0
 next_sort place after (Some kind) h = h
 
@@ -105,7 +105,7 @@ begun_kept : (raw : Bool) (second : Option SyntaxKind) (begin : Begin) (level d 
     → BeginsInner second begin → may_hold (sort_of f.place) Loose ≡ true → StandsOn f.head f.place fs → AreKept (begun raw begin level d t f fs ts n es).frames
 begun_kept raw second (b.Leaf k) level d t f fs ts n es i m w = (refl, m, w)
 begun_kept raw second (b.Node k place high) level d t f fs ts n es i m w =
-    inside k place (opened Operand (p.Behind level high) d blank) (put f.place (ate raw f.row ts) f ∷ fs) i.0 i.1 refl (refl, m, w)
+    inside k (p.Left place) (opened Operand (p.Behind level high) d blank) (put f.place (ate raw f.row ts) f ∷ fs) i.0 i.1 refl (refl, m, w)
 begun_kept raw second b.LegacyLet level d t f fs ts n es i m w = (refl, refl, (refl, m, w))
 begun_kept raw second b.NameLambda level d t f fs ts n es i m w = (refl, refl, (refl, m, w))
 begun_kept raw second b.BoundLambda level d t f fs ts n es i m w = (refl, refl, (refl, refl, (refl, m, w)))
@@ -133,11 +133,11 @@ perform_kept : (raw : Bool) (action : Action) (f : Frame) (fs : List Frame) (ts 
     → Allowed f.place (head_kind (seen raw ts)) action → StandsOn f.head f.place fs → AreKept (perform raw action f fs ts n es).frames
 perform_kept raw action f fs ts n es al w = by action al
   where
-    same : (after : Place) → IsNext f.place (head_kind (seen raw ts)) after → sort_of after ≡ sort_of f.place
+    same : (after : ℕ) → IsNext f.place (head_kind (seen raw ts)) after → sort_of (p.Left after) ≡ sort_of f.place
     same after h = next_sort f.place after (head_kind (seen raw ts)) h
 
-    next : (after : Place) → IsNext f.place (head_kind (seen raw ts)) after → StandsOn f.head after fs
-    next after h = onward f.head f.place after fs (same after h) w
+    next : (after : ℕ) → IsNext f.place (head_kind (seen raw ts)) after → StandsOn f.head (p.Left after) fs
+    next after h = onward f.head f.place (p.Left after) fs (same after h) w
 
     by : (action : Action) → Allowed f.place (head_kind (seen raw ts)) action → AreKept (perform raw action f fs ts n es).frames
     by a.Close al = closed_kept f fs ts n es w
@@ -152,15 +152,15 @@ perform_kept raw action f fs ts n es al w = by action al
     by (a.MissWanted until after) al = next after al.1
     by (a.Run until after) al = next after al.1
     by (a.Leaf k after) al = next after al.1
-    by (a.Open k place after) al = inside k place (put after (ate raw f.row ts) f) fs al.2 al.3 (ap is_open (same after al.1) ∙ al.4) (next after al.1)
-    by (a.Begin k place after) al = inside k place (put after (ate raw f.row ts) f) fs al.1 al.2 (ap is_open al.0 ∙ al.3) (onward f.head f.place after fs al.0 w)
+    by (a.Open k left after) al = inside k (p.Left left) (put (p.Left after) (ate raw f.row ts) f) fs al.2 al.3 (ap is_open (same after al.1) ∙ al.4) (next after al.1)
+    by (a.Begin k left after) al = inside k (p.Left left) (put (p.Left after) (ate raw f.row ts) f) fs al.1 al.2 (ap is_open al.0 ∙ al.3) (onward f.head f.place (p.Left after) fs al.0 w)
     by (a.Entry after) al = (refl, ap (λ x. may_hold x Entry) (same after al.1 ∙ al.2), next after al.1)
     by (a.Twice after) al = (refl, ap (λ x. may_hold x Again) (same after al.1 ∙ al.2), next after al.1)
-    by (a.Read level counted after) al = reading_kept raw level counted (put after f.row f) fs ts n es (ap (λ x. may_hold x Loose) (same after al.0) ∙ al.1) (next after al.0)
+    by (a.Read level counted after) al = reading_kept raw level counted (put (p.Left after) f.row f) fs ts n es (ap (λ x. may_hold x Loose) (same after al.0) ∙ al.1) (next after al.0)
     by (a.Wrap k place high) al =
         inside k place (opened Operand (p.Behind (low_of f.place) high) f.depth blank) fs al.2 al.3 refl (instead f.head f.place (low_of f.place) high fs al.1 w)
     by a.Apply al =
-        reading_kept raw 16 false (opened (Node NODE_APPLY) p.Past f.depth f.row) (opened Operand (p.Behind (low_of f.place) 15) f.depth blank ∷ fs) ts n es refl
+        reading_kept raw 16 false (opened (Node NODE_APPLY) (p.Left APPLIED) f.depth f.row) (opened Operand (p.Behind (low_of f.place) 15) f.depth blank ∷ fs) ts n es refl
         (refl, refl, instead f.head f.place (low_of f.place) 15 fs al.1 w)
     by a.ApplyOr al = instead f.head f.place (low_of f.place) 15 fs al.1 w
 

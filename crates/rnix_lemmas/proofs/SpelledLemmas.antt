@@ -4,7 +4,6 @@ use Rattle.std.proofs.lemmas.{List.Elements.{All-head, All-tail}, Slice.Eq.bytes
 use Rattle.rnix_kinds.specs.{declared.kinds.SyntaxKind.{SyntaxKind, TheVariants.{TOKEN_CUR_POS, TOKEN_IDENT, TOKEN_OR}}, SyntaxKind.is_trivia}
 use Rattle.{rnix_kinds.specs.Lexical.Tokens.{Lexeme, MayBe}, rnix_grammar.specs.AnnotatedForest.{Token, AnnotatedForest, blank, token, branch, fault, token_if}}
 use Rattle.rnix_grammar.specs.{AnnotatedForest.{tokens_in, without_trivia, placed_from}, Named.{is_spelled, AreSpelled}}
-use Rattle.rnix_lemmas.proofs.OpeningRows.{spelled_first, spelled_rest}
 use Rattle.rnix_grammar.specs.Tables as tables
 
 -- the word `or` is found
@@ -34,6 +33,16 @@ pub spelled_from : (n : ℕ) (tokens : List Lexeme) → AreRuled tokens → AreS
 spelled_from n [] h = tt
 spelled_from n (l ∷ ls) h =
     (spelled_by l.0 l.1 (All-head (λ (l : Lexeme). MayBe l.0 l.1) l ls h), spelled_from (n + length l.1) ls (All-tail (λ (l : Lexeme). MayBe l.0 l.1) l ls h))
+
+-- the tokens of the first of two rows
+pub spelled_first : (ts us : List Token) → AreSpelled (ts ++ us) → AreSpelled ts
+spelled_first [] us h = tt
+spelled_first (t ∷ ts) us h = (h.0, spelled_first ts us h.1)
+
+-- and of the second
+pub spelled_rest : (ts us : List Token) → AreSpelled (ts ++ us) → AreSpelled us
+spelled_rest [] us h = h
+spelled_rest (t ∷ ts) us h = spelled_rest ts us h.1
 
 -- so are those that are left of a row without its trivia
 spelled-++ : (ts us : List Token) → AreSpelled ts → AreSpelled us → AreSpelled (ts ++ us)

@@ -2,6 +2,7 @@
 use Rattle.std.proofs.Common.{◌≡◌, ℕ, suc, Bool, true, false, List, [], ◌∷◌, ◌++◌, refl, ap, sym, ◌∙◌, if◌then◌else◌, nat_le}
 use Rattle.rnix_kinds.specs.declared.kinds.SyntaxKind.{SyntaxKind, TheVariants.{NODE_IDENT, NODE_PAT_ENTRY, NODE_LAMBDA, NODE_IDENT_PARAM, NODE_PATTERN}}
 use Rattle.rnix_kinds.specs.declared.kinds.SyntaxKind.TheVariants.{NODE_PAT_BIND, NODE_LEGACY_LET, NODE_APPLY, NODE_ERROR}
+use Rattle.rnix_grammar.specs.declared.position.TheConstants.{LEGACY_LET, LAMBDA, PATTERN, BOUND_PATTERN, PAT_ENTRY, SECOND, APPLIED}
 use Rattle.rnix_grammar.specs.{declared.{place.Place.Place, until.Until.Until, action.Action.Action, begin.Begin.Begin}, Fault.Fault, Tables.is_wanted}
 use Rattle.rnix_grammar.specs.{Tables.depth_limit, Actions.action_at, Begins.{begin_of, second_kind}, AnnotatedForest.{Token, Stray, Unwanted, Extra, Twice}}
 use Rattle.rnix_grammar.specs.AnnotatedForest.{TooDeep, AnnotatedForest, blank, ◌⊕◌, one_branch, one_fault, row_of, tokens_in, without_trivia, token_if}
@@ -134,29 +135,29 @@ begun_without_trivia : (begin : Begin) (level d : ℕ) (t : Token) (f : Frame) (
     → without_trivia_machine (begun true begin level d t f fs ts n es) ≡ begun false begin level d t (without_trivia_frame f) (without_trivia_frames fs) (items ts) n es
 begun_without_trivia (b.Leaf k) level d t f fs ts n es =
     machine_same (cons_same (row_same Operand (p.Behind level 16) d (ap (one_branch k) (leaf_without_trivia k ts))) (waiting_without_trivia f fs ts)) (items_behind ts) (reach_items n ts)
-begun_without_trivia (b.Node k place high) level d t f fs ts n es =
-    machine_same (cons_same (row_same (Node k) place d (leaf_without_trivia k ts)) (cons_same refl (waiting_without_trivia f fs ts))) (items_behind ts) (reach_items n ts)
+begun_without_trivia (b.Node k left high) level d t f fs ts n es =
+    machine_same (cons_same (row_same (Node k) (p.Left left) d (leaf_without_trivia k ts)) (cons_same refl (waiting_without_trivia f fs ts))) (items_behind ts) (reach_items n ts)
 begun_without_trivia b.LegacyLet level d t f fs ts n es =
     machine_same
     (cons_same
-    (row_same (Node NODE_LEGACY_LET) p.LegacyInside d
+    (row_same (Node NODE_LEGACY_LET) (p.Left LEGACY_LET) d
     (added_without_trivia (leaf true NODE_LEGACY_LET ts) (behind true ts) (leaf true NODE_LEGACY_LET (behind true ts)) (leaf_behind NODE_LEGACY_LET ts)
     ∙ ap (λ x. x ⊕ leaf_in NODE_LEGACY_LET (tail_of (items ts))) (leaf_without_trivia NODE_LEGACY_LET ts))) (cons_same refl (waiting_without_trivia f fs ts)))
     (behind_two ts) (reach_two n ts)
 begun_without_trivia b.NameLambda level d t f fs ts n es =
     machine_same
-    (cons_same (row_same (Node NODE_LAMBDA) p.LambdaColon d (ap (λ x. one_branch NODE_IDENT_PARAM (one_branch NODE_IDENT x)) (leaf_without_trivia NODE_IDENT ts)))
+    (cons_same (row_same (Node NODE_LAMBDA) (p.Left LAMBDA) d (ap (λ x. one_branch NODE_IDENT_PARAM (one_branch NODE_IDENT x)) (leaf_without_trivia NODE_IDENT ts)))
     (cons_same refl (waiting_without_trivia f fs ts))) (items_behind ts) (reach_items n ts)
 begun_without_trivia b.BoundLambda level d t f fs ts n es =
     machine_same
     (cons_same
-    (row_same (Node NODE_PATTERN) p.PatternBrace d
+    (row_same (Node NODE_PATTERN) (p.Left BOUND_PATTERN) d
     (ap (one_branch NODE_PAT_BIND)
     (added_without_trivia (one_branch NODE_IDENT (leaf true NODE_IDENT ts)) (behind true ts) (leaf true NODE_PAT_BIND (behind true ts)) (leaf_behind NODE_PAT_BIND ts)
     ∙ ap (λ x. one_branch NODE_IDENT x ⊕ leaf_in NODE_PAT_BIND (tail_of (items ts))) (leaf_without_trivia NODE_IDENT ts))))
     (cons_same refl (cons_same refl (waiting_without_trivia f fs ts)))) (behind_two ts) (reach_two n ts)
 begun_without_trivia b.PatternLambda level d t f fs ts n es =
-    machine_same (cons_same (row_same (Node NODE_PATTERN) (p.PatternStart false) d (leaf_without_trivia NODE_PATTERN ts)) (cons_same refl (cons_same refl (waiting_without_trivia f fs ts))))
+    machine_same (cons_same (row_same (Node NODE_PATTERN) (p.Left PATTERN) d (leaf_without_trivia NODE_PATTERN ts)) (cons_same refl (cons_same refl (waiting_without_trivia f fs ts))))
     (items_behind ts) (reach_items n ts)
 begun_without_trivia b.Stray level d t f fs ts n es =
     machine_same (cons_same (row_same Operand (p.Behind level 16) d (ap (one_fault Stray) (leaf_without_trivia NODE_ERROR ts))) (waiting_without_trivia f fs ts)) (items_behind ts) (reach_items n ts)
@@ -188,26 +189,26 @@ perform_without_trivia a.Extra f fs ts n es =
     let w : IsBared (row_of run) (from_item ts) (dropped run run) = run_bared run ts (dropped run run) (all_prefix run) in
     machine_same (cons_same (row_same f.head f.place f.depth (added_without_trivia f.row ts (one_fault Extra (run_row true run ts)) (ap (one_fault Extra) w.same))) refl) w.left refl
 perform_without_trivia (a.Take after) f fs ts n es =
-    machine_same (cons_same (row_same f.head after f.depth (added_without_trivia f.row ts (leaf true (kind_of f.head) ts) (leaf_without_trivia (kind_of f.head) ts))) refl) (items_behind ts) (reach_items n ts)
+    machine_same (cons_same (row_same f.head (p.Left after) f.depth (added_without_trivia f.row ts (leaf true (kind_of f.head) ts) (leaf_without_trivia (kind_of f.head) ts))) refl) (items_behind ts) (reach_items n ts)
 perform_without_trivia (a.Run until after) f fs ts n es =
     let run : List Token = run_of until (items ts) in
     let w : IsBared (row_of run) (from_item ts) (dropped run (items ts)) = run_bared run ts (dropped run (items ts)) (run_prefix until (items ts)) in
-    machine_same (cons_same (row_same f.head after f.depth (added_without_trivia f.row ts (one_fault (Unwanted until) (run_row true run ts)) (ap (one_fault (Unwanted until)) w.same))) refl) w.left refl
+    machine_same (cons_same (row_same f.head (p.Left after) f.depth (added_without_trivia f.row ts (one_fault (Unwanted until) (run_row true run ts)) (ap (one_fault (Unwanted until)) w.same))) refl) w.left refl
 perform_without_trivia (a.Leaf k after) f fs ts n es =
-    machine_same (cons_same (row_same f.head after f.depth (added_without_trivia f.row ts (one_branch k (leaf true k ts)) (ap (one_branch k) (leaf_without_trivia k ts)))) refl) (items_behind ts) (reach_items n ts)
+    machine_same (cons_same (row_same f.head (p.Left after) f.depth (added_without_trivia f.row ts (one_branch k (leaf true k ts)) (ap (one_branch k) (leaf_without_trivia k ts)))) refl) (items_behind ts) (reach_items n ts)
 perform_without_trivia (a.Open k inside after) f fs ts n es =
-    machine_same (cons_same (row_same (Node k) inside f.depth (leaf_without_trivia k ts)) (waiting_without_trivia (put after f.row f) fs ts)) (items_behind ts) (reach_items n ts)
-perform_without_trivia (a.Begin k inside after) f fs ts n es = machine_same (cons_same refl (waiting_without_trivia (put after f.row f) fs ts)) (items-from_item ts) refl
+    machine_same (cons_same (row_same (Node k) (p.Left inside) f.depth (leaf_without_trivia k ts)) (waiting_without_trivia (put (p.Left after) f.row f) fs ts)) (items_behind ts) (reach_items n ts)
+perform_without_trivia (a.Begin k inside after) f fs ts n es = machine_same (cons_same refl (waiting_without_trivia (put (p.Left after) f.row f) fs ts)) (items-from_item ts) refl
 perform_without_trivia (a.Entry after) f fs ts n es =
-    machine_same (cons_same (row_same (Node NODE_PAT_ENTRY) p.EntryMore f.depth (ap (one_branch NODE_IDENT) (leaf_without_trivia NODE_IDENT ts))) (waiting_without_trivia (put after f.row f) fs ts))
+    machine_same (cons_same (row_same (Node NODE_PAT_ENTRY) (p.Left PAT_ENTRY) f.depth (ap (one_branch NODE_IDENT) (leaf_without_trivia NODE_IDENT ts))) (waiting_without_trivia (put (p.Left after) f.row f) fs ts))
     (items_behind ts) (reach_items n ts)
 perform_without_trivia (a.Twice after) f fs ts n es =
-    machine_same (cons_same (row_same Second p.TwiceName f.depth (leaf_without_trivia NODE_ERROR ts)) (waiting_without_trivia (put after f.row f) fs ts)) (items_behind ts) (reach_items n ts)
-perform_without_trivia (a.Read level counted after) f fs ts n es = reading_without_trivia level counted (put after f.row f) fs ts n es
+    machine_same (cons_same (row_same Second (p.Left SECOND) f.depth (leaf_without_trivia NODE_ERROR ts)) (waiting_without_trivia (put (p.Left after) f.row f) fs ts)) (items_behind ts) (reach_items n ts)
+perform_without_trivia (a.Read level counted after) f fs ts n es = reading_without_trivia level counted (put (p.Left after) f.row f) fs ts n es
 perform_without_trivia (a.Wrap k inside high) f fs ts n es =
     machine_same (cons_same (row_same (Node k) inside f.depth (added_without_trivia f.row ts (leaf true k ts) (leaf_without_trivia k ts))) refl) (items_behind ts) (reach_items n ts)
 perform_without_trivia a.Apply f fs ts n es =
-    reading_without_trivia 16 false (opened (Node NODE_APPLY) p.Past f.depth f.row) (opened Operand (p.Behind (low_of f.place) 15) f.depth blank ∷ fs) ts n es
+    reading_without_trivia 16 false (opened (Node NODE_APPLY) (p.Left APPLIED) f.depth f.row) (opened Operand (p.Behind (low_of f.place) 15) f.depth blank ∷ fs) ts n es
 perform_without_trivia a.ApplyOr f fs ts n es =
     machine_same
     (cons_same

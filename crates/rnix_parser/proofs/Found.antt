@@ -1,9 +1,9 @@
 -- Derivations are found, and found alone.
 use Rattle.{std.proofs.Common.{◌≡◌, List, [], ap, sym, subst, ◌∙◌}, rnix_green.specs.Forest.Forest}
-use Rattle.rnix_grammar.specs.{Fault.Fault, AnnotatedForest.{Token, AnnotatedForest, tokens_in, forget}, PlaceReads.ReadsWhole}
+use Rattle.rnix_grammar.specs.{Fault.Fault, AnnotatedForest.{Token, AnnotatedForest, tokens_in, forget}, Reads.ReadsWhole}
 use Rattle.{rnix_grammar.specs.Derivation.{laid, IsDerivation}, rnix_lemmas.proofs.LaidLemmas.{IsLaidWhole, laid_whole}}
 use Rattle.{rnix_completeness.proofs.{GrammarReads.expression_reads, OverTokens.{Over, over_trees}}, rnix_uniqueness.proofs.AllReads.one_row}
-use Rattle.{rnix_strict.proofs.GrammarLeaves.expression_fine, rnix_proof_rules.proofs.ReadsAlike.whole_old}
+use Rattle.rnix_strict.proofs.GrammarLeaves.{expression_fine}
 
 -- a derivation over its items
 laid_over : (t : Forest) (ts : List Token) → IsDerivation t ts → IsLaidWhole t ts
@@ -14,7 +14,7 @@ derivation_reads : (t : Forest) (ts : List Token) → IsDerivation t ts → Read
 derivation_reads t ts d =
     let l = laid_over t ts d in
     let over : Over t (laid t ts) = subst (λ z. Over z (laid t ts)) l.forest (over_trees (laid t ts) l.spelled) in
-    whole_old (laid t ts) [] (expression_reads d.strict (laid t ts) over d.joined d.shallow)
+    expression_reads d.strict (laid t ts) over d.joined d.shallow
 
 -- what the items of a derivation are read as is the derivation, without errors
 pub derivation_found : (f : AnnotatedForest) (ts : List Token) (es : List Fault) → ReadsWhole f es → tokens_in f ≡ ts → (t : Forest) → IsDerivation t ts → (es ≡ []) × (forget f ≡ t)

@@ -7,7 +7,7 @@ use Rattle.rnix_grammar.specs.{WithoutTrivia.{without_trivia_machine, without_tr
 use Rattle.{rnix_grammar.specs.{Parsed.IsParsed, Document.IsRead}, rnix_lemmas.proofs.{ReportLemmas.without_trivia_tokens, SpelledLemmas.AreRuled}}
 use Rattle.{rnix_lemmas.proofs.WithoutTriviaLemmas.{runs_without_trivia, ate_without_trivia}, rnix_rows.proofs.WithTriviaWhole.with_trivia_whole_tokens}
 use Rattle.{rnix_rows.proofs.WithTriviaWhole.{with_trivia_same, read_with_trivia}, rnix_existence.proofs.WholeReads.whole_reads}
-use Rattle.{rnix_uniqueness.proofs.AllReads.one_row, rnix_proof_rules.proofs.ReadsAlike.whole_old, rnix_reader.specs.Placed.texts_in}
+use Rattle.{rnix_uniqueness.proofs.AllReads.one_row, rnix_reader.specs.Placed.texts_in}
 use Rattle.{rnix_reader.proofs.{EachText.each_read, TextLemmas.placed_text}, rnix_parser.proofs.ParsedLemmas.all_follows}
 
 -- the items of a reading are those of the tokens
@@ -18,7 +18,7 @@ reading_items r = without_trivia_tokens r.annotated ∙ ap items r.leaves
 pub one_reading : (ls : List Lexeme) (t u : Tree) (ds es : List Fault) → IsReading ls t ds → IsReading ls u es → (t ≡ u) × (ds ≡ es)
 one_reading ls t u ds es r s =
     let same : (without_trivia r.annotated ≡ without_trivia s.annotated) × (ds ≡ es) = one_row (without_trivia r.annotated) (without_trivia s.annotated) ds es
-    (whole_old (without_trivia r.annotated) ds r.reads) (whole_old (without_trivia s.annotated) es s.reads) (reading_items r ∙ sym (reading_items s)) in
+    r.reads s.reads (reading_items r ∙ sym (reading_items s)) in
     let annotated : r.annotated ≡ s.annotated = with_trivia_same r.annotated s.annotated (placed_from 0 ls) r.laid s.laid same.0 in
     (r.tree_is ∙ ap (λ (f : AnnotatedForest). record { kind = NODE_ROOT; children = forget f }) annotated ∙ sym u_is, same.1)
   where

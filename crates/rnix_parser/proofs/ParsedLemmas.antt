@@ -5,14 +5,14 @@ use Rattle.rnix_grammar.specs.{Tables.depth_limit, AnnotatedForest.{Token, Annot
 use Rattle.rnix_grammar.specs.{AnnotatedForest.HaveLeafKinds, Layout.items, Trim.{AreFaultsTrimmed, AreNodesTrimmed}, Shape.{IsShaped, IsUnrepeated, reports}}
 use Rattle.rnix_grammar.specs.{Seams.AreTriviaBetween, Named.{AreSpelled, is_repeated, Lacks}, Repaired.{repaired, ended_count}, Corners.has_no_corner}
 use Rattle.rnix_grammar.specs.{Fault.Fault, Plain.ArePaths, Nest.nest, Grammar.IsExpression}
-use Rattle.rnix_grammar.specs.{Derivation.IsDerivation, PlaceReads.ReadsWhole, Reading.IsReading, Parsed.IsParsed}
+use Rattle.rnix_grammar.specs.{Derivation.IsDerivation, Reads.ReadsWhole, Reading.IsReading, Parsed.IsParsed}
 use Rattle.rnix_rows.proofs.{ReadsFaults.{Errors, reads_errors}, ReadsWhole.{whole_few, whole_ended, whole_begun, whole_last}, TreeShapes.whole_shaped}
 use Rattle.rnix_rows.proofs.{TreeShapes.without_trivia_reports, SeamLemmas.trivia_between, ReadsNest.reads_nested, NamedRows.are_named}
 use Rattle.rnix_rows.proofs.{WithTriviaWhole.{without_trivia_items, laid_told, laid_trimmed, laid_bare, laid_nodes}, ReadsTold.reads_told}
 use Rattle.{rnix_rows.proofs.{ReadsShapes.{AreBareRows, repaired_none, whole_rows}, Exactly.derived}, rnix_soundness.proofs.Converse.converse}
-use Rattle.{rnix_lemmas.proofs.SpelledLemmas.{AreRuled, spelled_from, without_trivia_spelled}}
+use Rattle.rnix_lemmas.proofs.{KnownRows.known_row, SpelledLemmas.{AreRuled, spelled_from, without_trivia_spelled}}
 use Rattle.rnix_strict.proofs.GrammarLeaves.{expression_fine}
-use Rattle.{rnix_proof_rules.proofs.ReadsAlike.whole_old, rnix_parser.proofs.Found.derivation_found}
+use Rattle.rnix_parser.proofs.Found.{derivation_found}
 
 -- a tree without trivia, and its errors, as they must be to be a derivation
 record IsFit (f : AnnotatedForest) (ts : List Token) (es : List Fault) : Type 0 where
@@ -44,8 +44,8 @@ all_follows ls tree faults ruled r =
     let ts : List Token = placed_from 0 ls in
     let g : AnnotatedForest = r.annotated in
     let own : items ts ≡ tokens_in (without_trivia g) = without_trivia_items g ts r.leaves in
-    let reads : ReadsWhole (without_trivia g) faults = whole_old (without_trivia g) faults r.reads in
-    let errors : Errors (without_trivia g) [] (reports (without_trivia g)) faults = reads_errors reads in
+    let reads : ReadsWhole (without_trivia g) faults = r.reads in
+    let errors : Errors (without_trivia g) [] (reports (without_trivia g)) faults = reads_errors reads (known_row NODE_ROOT) in
     let leaf_kind : HaveLeafKinds NODE_ROOT g = laid_told (without_trivia g) g ts faults r.laid reads in
     let trimmed : AreFaultsTrimmed g = laid_trimmed (without_trivia g) g ts faults r.laid own reads in
     let nodes : faults ≡ [] → AreNodesTrimmed (forget g) = laid_nodes (without_trivia g) g ts faults r.laid own reads in
@@ -53,7 +53,7 @@ all_follows ls tree faults ruled r =
     let nested : faults ≡ [] → nest NODE_ROOT (forget (without_trivia g)) ≤ depth_limit = λ h. reads_nested (without_trivia g) faults reads ((whole_rows reads).0 h) in
     let strict : ended_count faults ≡ 0 → Lacks is_repeated faults → has_no_corner NODE_ROOT (repaired (without_trivia g)) ≡ true → IsExpression (repaired (without_trivia g)) = λ n r o.
     converse (without_trivia g) faults reads (are_named reads) spelled n r o in
-    let met : (t : Forest) → IsDerivation t (items ts) → (faults ≡ []) × (forget (without_trivia g) ≡ t) = derivation_found (without_trivia g) (items ts) faults reads (sym own) in
+    let met : (t : Forest) → IsDerivation t (items ts) → (faults ≡ []) × (forget (without_trivia g) ≡ t) = derivation_found (without_trivia g) (items ts) faults r.reads (sym own) in
     record {
       reading = r;
       leaf_kind = leaf_kind;

@@ -8,7 +8,6 @@ use Rattle.rnix_grammar.specs.{Corners.has_no_corner, Derivation.{laid, IsDeriva
 use Rattle.rnix_grammar.specs.{Parsed.IsParsed, Plain.ArePaths, Repaired.{repaired, ended_count}, Named.{is_repeated, Lacks}, Tables.depth_limit}
 use Rattle.rnix_rows.proofs.{Exactly.laid_same, ReadsShapes.{AreBareRows, repaired_none, whole_rows}, WithTriviaWhole.without_trivia_items}
 use Rattle.rnix_strict.proofs.GrammarLeaves.{expression_fine}
-use Rattle.rnix_proof_rules.proofs.ReadsAlike.{whole_old}
 use Rattle.rnix_parser.specs.Significant.{leaf_unless, significant}
 
 -- a leaf is trivia exactly if its token is
@@ -53,7 +52,7 @@ tree_nested p h = subst (λ f. nest NODE_ROOT f ≤ depth_limit) (sym (significa
 bare : {ls : List Lexeme} {tree : Tree} {faults : List Fault} (p : IsParsed ls tree faults) → faults ≡ [] → AreBareRows (without_trivia p.reading.annotated)
 bare {faults = faults} p h =
     let f = without_trivia p.reading.annotated in
-    ((whole_rows (whole_old f faults p.reading.reads)).0 h).nodes
+    ((whole_rows p.reading.reads).0 h).nodes
 
 -- without errors and extensions it is an expression of the strict grammar
 pub tree_strict : {ls : List Lexeme} {tree : Tree} {faults : List Fault} → IsParsed ls tree faults

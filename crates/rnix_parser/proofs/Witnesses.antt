@@ -4,7 +4,7 @@ use Rattle.rnix_kinds.specs.Lexical.{Tokens.{tokens_of, normal_cut, cut_at, toke
 use Rattle.{rnix_green.specs.{Equality.same_kind, Forest.{Forest, empty, leaf, node}, Tree.Tree}, rnix_grammar.specs.{Fault.Fault, AnnotatedForest.Token}}
 use Rattle.rnix_grammar.specs.{AnnotatedForest.{AnnotatedForest, forget, tokens_in, without_trivia, placed_from}, Layout.{items, with_trivia_whole}}
 use Rattle.{rnix_grammar.specs.{Reading.IsReading, Parsed.IsParsed}, rnix_lemmas.proofs.{Basics.true_is_not_false, ReportLemmas.without_trivia_tokens}}
-use Rattle.{rnix_proof_rules.proofs.ReadsAlike.whole_old, rnix_uniqueness.proofs.OnlyReading.{Case, Holds, IsMade, holds, trees_in, items_of}}
+use Rattle.rnix_uniqueness.proofs.OnlyReading.{Case, Holds, IsMade, holds, trees_in, items_of}
 use Rattle.rnix_kinds.specs.declared.kinds.SyntaxKind.TheVariants as k
 use Rattle.rnix_uniqueness.proofs.Examples as of
 
@@ -25,7 +25,7 @@ read_as c only tree faults r =
     let ts : List Token = placed_from 0 (tokens_of c.text) in
     let own : tokens_in (without_trivia r.annotated) ≡ items_of c = without_trivia_tokens r.annotated ∙ ap items r.leaves in
     let same : trees_in c.right (items_of c) ≡ without_trivia r.annotated =
-    (only (without_trivia r.annotated) faults own (whole_old (without_trivia r.annotated) faults r.reads)).0 in
+    (only (without_trivia r.annotated) faults own r.reads).0 in
     ap (λ (t : Tree). t.children) r.tree_is ∙ ap forget r.laid ∙ ap (λ (f : AnnotatedForest). forget (with_trivia_whole f ts)) (sym same)
 
 -- the tree below the root that is claimed of a text

@@ -5,10 +5,9 @@ ghost use Rattle.rnix_kinds.specs.declared.kinds.SyntaxKind.TheVariants.{NODE_RO
 ghost use Rattle.rnix_kinds.specs.Lexical.Tokens.{Lexeme, tokens_of};
 ghost use Rattle.rnix_green.specs.Forest.{text_of};
 ghost use Rattle.rnix_green.specs.Tree.{Tree, forest_of};
-ghost use Rattle.rnix_grammar.specs.declared.place.Place.TheVariants.{RootStart};
 ghost use Rattle.rnix_grammar.specs.Fault.{Fault};
 ghost use Rattle.rnix_grammar.specs.Tables.{depth_limit};
-ghost use Rattle.rnix_grammar.specs.Rows.{At};
+ghost use Rattle.rnix_grammar.specs.Rules.{row};
 ghost use Rattle.rnix_grammar.specs.Named.{AreNamed};
 ghost use Rattle.rnix_grammar.specs.ErrorNodes.{AreErrorNodes};
 ghost use Rattle.rnix_grammar.specs.Nesting.{depth_of, AreLimited};
@@ -46,9 +45,9 @@ pub fn all_follows(text: &str)
 /// another, error nodes aside, and what is nested too deep is inside exactly 512.
 pub fn error_forms()
     ensures nodes { OfReadings (λ annotated faults. AreErrorNodes NODE_ROOT annotated) }
-    ensures named { OfReadings (λ annotated faults. AreNamed (At RootStart) annotated) }
-    ensures shallow { OfReadings (λ annotated faults. depth_of (At RootStart) annotated ≤ depth_limit) }
-    ensures limited { OfReadings (λ annotated faults. AreLimited 0 (At RootStart) annotated) }
+    ensures named { OfReadings (λ annotated faults. AreNamed (row NODE_ROOT) annotated) }
+    ensures shallow { OfReadings (λ annotated faults. depth_of (row NODE_ROOT) annotated ≤ depth_limit) }
+    ensures limited { OfReadings (λ annotated faults. AreLimited 0 (row NODE_ROOT) annotated) }
 {}
 
 /// The text of the tree that a text is read as is that text, byte for byte.

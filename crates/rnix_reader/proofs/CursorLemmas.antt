@@ -4,7 +4,7 @@ use Rattle.std.proofs.{Common.{sym, ◌∙◌, subst, arith, length-append, leng
 use Rattle.std.proofs.{Math.Seq.drop-append_seam, lemmas.{List.{drop_all, Concat.flat_map-cons, Elements.{All-head, All-tail}}, Str.IsUtf8-nil}}
 use Rattle.std.{proofs.lemmas.Str.{IsUtf8-append, IsCharBoundary-start, IsCharBoundary-from_drop}, specs.{List.{flat_map, All}, Str.IsCharBoundary}}
 use Rattle.rnix_kinds.specs.{declared.kinds.SyntaxKind.SyntaxKind, SyntaxKind.is_trivia, Lexical.Tokens.{Lexeme, AreSound, text_of}}
-use Rattle.rnix_grammar.specs.{AnnotatedForest.{Token, head_of, head_kind, placed_from}, Layout.{from_item, from_item_if, items, tail_of}}
+use Rattle.rnix_grammar.specs.{AnnotatedForest.{Token, head_of, kind_in, head_kind, placed_from}, Layout.{from_item, from_item_if, items, tail_of}}
 use Rattle.{rnix_lemmas.proofs.LayoutLemmas.{items-view, items_head}, rnix_reader.specs.{declared.cursor.TokenEnd.TokenEnd, Placed.{ends_from, token_cut}}}
 use Rattle.rnix_reader.specs.Placed.{tokens_cut, start_of, AreEnds, AreInOrder}
 
@@ -165,13 +165,17 @@ in_order_drop n zero ts o = o
 in_order_drop n (suc i) [] o = o
 in_order_drop n (suc i) (t ∷ ts) o = in_order_drop n i ts (in_order_from n t.end ts (omega (arith, o.0, o.1)) o.2)
 
--- the kind of the first item, by the tokens from it on
-pub head_item : (ts : List Token) → head_kind (items ts) ≡ head_kind (from_item ts)
-head_item ts = ap head_kind (items-view ts) ∙ by (from_item ts)
+-- the first item is the first from the first item on
+pub head_items : (ts : List Token) → head_of (from_item ts) ≡ head_of (items ts)
+head_items ts = by (from_item ts) ∙ sym (ap head_of (items-view ts))
   where
-    by : (xs : List Token) → head_kind (items_head xs) ≡ head_kind xs
+    by : (xs : List Token) → head_of xs ≡ head_of (items_head xs)
     by [] = refl
     by (x ∷ xs) = refl
+
+-- and so is its kind
+pub head_item : (ts : List Token) → head_kind (items ts) ≡ head_kind (from_item ts)
+head_item ts = ap kind_in (sym (head_items ts))
 
 -- the items behind the first
 pub tail_items : (ts : List Token) → tail_of (items ts) ≡ items (tail_of (from_item ts))

@@ -1,11 +1,11 @@
 -- The steps read each list of tokens to its end.
-use Rattle.std.proofs.Common.{◌≡◌, ◌<◌, ℕ, zero, suc, Bool, true, false, List, [], ◌∷◌, refl, ap, sym, ◌∙◌, subst, arith}
+use Rattle.std.proofs.Common.{◌≡◌, ◌<◌, ℕ, zero, suc, Bool, true, false, List, [], ◌∷◌, refl, sym, subst, arith}
 use Rattle.{rnix_kinds.specs.{declared.kinds.SyntaxKind.TheVariants.NODE_ROOT, Lexical.Tokens.Lexeme}, rnix_green.specs.Tree.Tree}
 use Rattle.rnix_grammar.specs.{declared.action.Action.Action, Fault.Fault, AnnotatedForest.{Token, placed_from, forget, head_kind, touches}, Layout.items}
-use Rattle.rnix_grammar.specs.{Actions.action_at, Sorts.{sort_of, AreKept}, Machine.{Frame, Machine, machine, begins, ate, perform, rest as here}}
+use Rattle.rnix_grammar.specs.{Actions.action_at, Sorts.AreKept, Machine.{Frame, Machine, machine, begins, ate, perform, rest as here}}
 use Rattle.{rnix_grammar.specs.{Machine.then as further, Document.IsRead, Allowed.Allowed}, rnix_lemmas.proofs.Basics.true_is_not_false}
-use Rattle.rnix_lemmas.proofs.{PlaceLemmas.{head_root, root_alone, root_lowest, step_kept, begins_kept}, AllowedLemmas.allowed}
-use Rattle.rnix_reader.{specs.{Performed.is_finish, Holds.IsThrough}, proofs.{DocumentLemmas.read_of, RunLemmas.no_items, WorkLemmas.{cost, cost_of, perform_less}}}
+use Rattle.rnix_lemmas.proofs.{PlaceLemmas.{step_kept, begins_kept}, AllowedLemmas.allowed}
+use Rattle.rnix_reader.{specs.{Performed.is_finish, Holds.IsThrough}, proofs.{DocumentLemmas.{root_through, read_of}, WorkLemmas.{cost_of, perform_less}}}
 use Rattle.rnix_grammar.specs.declared.action.Action.TheVariants as a
 
 finish_is : (action : Action) → is_finish action ≡ true → action ≡ a.Finish
@@ -13,7 +13,7 @@ finish_is a.Finish e = refl
 finish_is _ e = absurd (true_is_not_false (sym e))
 
 -- a machine with so much to do comes to its end
-through : (c : ℕ) (fs : List Frame) (ts : List Token) (n : ℕ) (es : List Fault) → cost (items ts) fs < c → AreKept fs → IsThrough (machine fs ts n es)
+through : (c : ℕ) (fs : List Frame) (ts : List Token) (n : ℕ) (es : List Fault) → cost_of (machine fs ts n es) < c → AreKept fs → IsThrough (machine fs ts n es)
 through zero fs ts n es l k = absurd (omega (arith, l))
 through (suc c) [] ts n es l k = absurd k
 through (suc c) (f ∷ fs) ts n es l k = by (λ hs us m gs x y. through c hs us m gs x y) (is_finish action) refl
@@ -27,30 +27,20 @@ through (suc c) (f ∷ fs) ts n es l k = by (λ hs us m gs x y. through c hs us 
     next : Machine
     next = perform true action f fs ts n es
 
-    by : ((hs : List Frame) (us : List Token) (m : ℕ) (gs : List Fault) → cost (items us) hs < c → AreKept hs → IsThrough (machine hs us m gs))
+    by : ((hs : List Frame) (us : List Token) (m : ℕ) (gs : List Fault) → cost_of (machine hs us m gs) < c → AreKept hs → IsThrough (machine hs us m gs))
         → (w : Bool) → is_finish action ≡ w → IsThrough (machine (f ∷ fs) ts n es)
     by again true e =
         let ends : Allowed f.place (head_kind (items ts)) a.Finish = subst (λ (x : Action). Allowed f.place (head_kind (items ts)) x) (finish_is action e) may in
-        let none : fs ≡ [] = root_alone f.head f.place fs k (ap sort_of ends.0) in
-        let low = root_lowest f.head f.place fs k none in
-        record {
-          last = machine (f ∷ fs) ts n es;
-          runs = here;
-          root = f;
-          alone = ap (λ (z : List Frame). f ∷ z) none;
-          head = head_root f.head (low.0 ∙ low.1);
-          place = ends.0;
-          nothing = no_items (items ts) ends.1;
-        }
+        root_through f fs ts n es here k ends
     by again false e =
-        let less : cost_of next < cost (items ts) (f ∷ fs) = perform_less action f fs ts n es k may e in
+        let less : cost_of next < cost_of (machine (f ∷ fs) ts n es) = perform_less f fs ts n es k action may e in
         let rest : IsThrough next =
         again next.frames next.left next.reached next.faults (omega (arith, less, l)) (step_kept true (machine (f ∷ fs) ts n es) k) in
         record { last = rest.last; runs = further rest.runs; root = rest.root; alone = rest.alone; head = rest.head; place = rest.place; nothing = rest.nothing }
 
 -- each list of tokens is read as a tree with errors
 pub each_read : (ls : List Lexeme) → (tree : Tree) × ((faults : List Fault) × IsRead ls tree faults)
-each_read ls = by (through (suc (cost (items ts) (begins ts).frames)) (begins ts).frames ts 0 [] (omega arith) (begins_kept ts))
+each_read ls = by (through (suc (cost_of (begins ts))) (begins ts).frames ts 0 [] (omega arith) (begins_kept ts))
   where
     ts : List Token
     ts = placed_from 0 ls

@@ -1,12 +1,12 @@
 -- The end of a pattern's entry: it is told if an earlier entry has its name.
 use Rattle.std.proofs.Common.{◌≡◌, ℕ, Bool, true, false, List, [], ◌∷◌, ◌++◌, Option, Some, None, refl, ap, sym, ◌∙◌, subst, append-nil, if◌then◌else◌}
-use Rattle.rnix_kinds.specs.declared.kinds.SyntaxKind.TheVariants.{NODE_PATTERN, NODE_PAT_ENTRY}
-use Rattle.rnix_grammar.specs.{Fault.{Fault, named_twice}, AnnotatedForest.{Token, AnnotatedForest, without_trivia, extent_of}, Reports.{entry_name, has_entry, repeated_if}}
-use Rattle.rnix_grammar.specs.{Machine.{Head, Node, Frame, machine, closed, perform}, Sorts.{Pattern, Entry, sort_of, may_hold, StandsOn}}
-use Rattle.{rnix_lemmas.proofs.Basics.true_is_not_false, rnix_reader.specs.declared.names.{NameSet.NameSet, Names.Names}}
-use Rattle.rnix_reader.specs.{Names.{has_name, entries_in, entry_at, EntryClosed, Entered}, State.{State, ended, failed}, Flat.{flat, popped}, Performed.{EntryTold, told_of}}
-use Rattle.rnix_reader.specs.Holds.{IsBegun, AreNamed, named_by, name_of, entries_of, Tops, Known, KnownOn}
-use Rattle.rnix_reader.proofs.{FlatLemmas.closes, SortLemmas.{is_loose, is_root, head_sort, head_entry, head_pattern, holds_entry}}
+use Rattle.{rnix_kinds.specs.declared.kinds.SyntaxKind.TheVariants.{NODE_PATTERN, NODE_PAT_ENTRY}, rnix_grammar.specs.Fault.{Fault, named_twice}}
+use Rattle.rnix_grammar.specs.{AnnotatedForest.{Token, AnnotatedForest, without_trivia, extent_of}, Reports.{entry_name, has_entry, repeated_if}, Machine.Head}
+use Rattle.rnix_grammar.specs.{Machine.{Node, Frame, machine, closed, perform}, Sorts.{Pattern, Entry, sort_of, may_hold, StandsOn}}
+use Rattle.{rnix_lemmas.proofs.Basics.true_is_not_false, rnix_reader.specs.{declared.names.{NameSet.NameSet, Names.Names}, Names.{has_name, entries_in}}}
+use Rattle.rnix_reader.specs.{Names.{entry_at, EntryClosed, Entered}, State.{State, ended, failed}, Flat.{flat, popped}, Performed.{EntryTold, told_of}}
+use Rattle.rnix_reader.{specs.Holds.{IsBegun, AreNamed, named_by, name_of, entries_of, Tops, Known, KnownOn}, proofs.{FlatLemmas.closes, SortLemmas.is_loose}}
+use Rattle.rnix_reader.proofs.SortLemmas.{is_root, head_sort, head_entry, head_pattern, holds_entry}
 use Rattle.rnix_grammar.specs.declared.action.Action.TheVariants as a
 
 -- a pattern has the last of the sets

@@ -1,4 +1,5 @@
 -- Each step of the machine keeps its tokens in order and the names known.
+use Rattle.rnix_grammar.specs.declared.position.TheConstants.{BOUND_PATTERN, LAMBDA, LEGACY_LET, PATTERN}
 use Rattle.std.proofs.Common.{◌≡◌, ℕ, suc, Bool, true, false, List, [], ◌∷◌, Option, refl, ap, sym, ◌∙◌, subst, if◌then◌else◌, ◌&&◌, nat_le}
 use Rattle.rnix_kinds.specs.declared.kinds.SyntaxKind.{SyntaxKind, TheVariants.{NODE_ERROR, NODE_IDENT, NODE_LAMBDA, NODE_PATTERN, NODE_PAT_BIND}}
 use Rattle.{rnix_kinds.specs.declared.kinds.SyntaxKind.TheVariants.{NODE_IDENT_PARAM, NODE_LEGACY_LET}, rnix_grammar.specs.declared.{begin.Begin.Begin}}
@@ -58,8 +59,8 @@ module _ (level d : ℕ) (f : Frame) (fs : List Frame) (ts : List Token) (n : �
   operand : (high : ℕ) (row : AnnotatedForest) → AreNamed (opened Operand (p.Behind level high) d row) waiting names
   operand high row = push_operand level high d row (grow_trivia f.place ts w)
 
-  function : AreNamed (opened (Node NODE_LAMBDA) p.LambdaColon d blank) (opened Operand (p.Behind level 16) d blank ∷ waiting) names
-  function = push_node NODE_LAMBDA p.LambdaColon d blank refl (operand 16 blank)
+  function : AreNamed (opened (Node NODE_LAMBDA) (p.Left LAMBDA) d blank) (opened Operand (p.Behind level 16) d blank ∷ waiting) names
+  function = push_node NODE_LAMBDA (p.Left LAMBDA) d blank refl (operand 16 blank)
 
   behind_twice : AreInOrder (reach true (reach true n ts) (behind true ts)) (behind true (behind true ts))
   behind_twice = order_behind (reach true n ts) (behind true ts) (order_behind n ts o)
@@ -67,20 +68,20 @@ module _ (level d : ℕ) (f : Frame) (fs : List Frame) (ts : List Token) (n : �
   begun_goes : (t : Token) (second : Option SyntaxKind) (begin : Begin) (names' : Names) → BeginsInner second begin → NamesFor (opens_pattern begin) names names'
       → Goes (begun true begin level d t f fs ts n es) names'
   begun_goes t second (b.Leaf k) names' fit e = stays e (goes_open refl (operand 16 (one_branch k (leaf true k ts))) (order_behind n ts o))
-  begun_goes t second (b.Node k place high) names' fit e =
-      stays e (goes_open (ap is_open fit.0) (push_node k place d (leaf true k ts) fit.0 (operand high blank)) (order_behind n ts o))
+  begun_goes t second (b.Node k left high) names' fit e =
+      stays e (goes_open (ap is_open fit.0) (push_node k (p.Left left) d (leaf true k ts) fit.0 (operand high blank)) (order_behind n ts o))
   begun_goes t second b.LegacyLet names' fit e =
       let row : AnnotatedForest = ate true (leaf true NODE_LEGACY_LET ts) (behind true ts) ⊕ leaf true NODE_LEGACY_LET (behind true ts) in
-      stays e (goes_open refl (push_node NODE_LEGACY_LET p.LegacyInside d row refl (operand 0 blank)) behind_twice)
+      stays e (goes_open refl (push_node NODE_LEGACY_LET (p.Left LEGACY_LET) d row refl (operand 0 blank)) behind_twice)
   begun_goes t second b.NameLambda names' fit e =
       let row : AnnotatedForest = one_branch NODE_IDENT_PARAM (one_branch NODE_IDENT (leaf true NODE_IDENT ts)) in
-      stays e (goes_open refl (push_node NODE_LAMBDA p.LambdaColon d row refl (operand 16 blank)) (order_behind n ts o))
+      stays e (goes_open refl (push_node NODE_LAMBDA (p.Left LAMBDA) d row refl (operand 16 blank)) (order_behind n ts o))
   begun_goes t second b.BoundLambda names' fit e =
       let name : AnnotatedForest = one_branch NODE_IDENT (leaf true NODE_IDENT ts) in
       let row : AnnotatedForest = one_branch NODE_PAT_BIND (ate true name (behind true ts) ⊕ leaf true NODE_PAT_BIND (behind true ts)) in
-      goes_open refl (push_pattern p.PatternBrace d row (λ name. refl) e function) behind_twice
+      goes_open refl (push_pattern (p.Left BOUND_PATTERN) d row (λ name. refl) e function) behind_twice
   begun_goes t second b.PatternLambda names' fit e =
-      goes_open refl (push_pattern (p.PatternStart false) d (leaf true NODE_PATTERN ts) (no_entry_leaf NODE_PATTERN ts) e function) (order_behind n ts o)
+      goes_open refl (push_pattern (p.Left PATTERN) d (leaf true NODE_PATTERN ts) (no_entry_leaf NODE_PATTERN ts) e function) (order_behind n ts o)
   begun_goes t second b.Stray names' fit e = stays e (goes_open refl (operand 16 (one_fault Stray (leaf true NODE_ERROR ts))) (order_behind n ts o))
 
   operand_goes : (us : List Token) (names' : Names) → is_open (sort_of_head f.head) ≡ true → NamesFor (opens_on level us) names names'

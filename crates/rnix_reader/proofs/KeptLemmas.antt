@@ -1,13 +1,13 @@
 -- Frames that are opened, grow and close: the names stay known.
 use Rattle.std.proofs.Common.{◌≡◌, ℕ, Bool, true, false, List, [], ◌∷◌, ◌++◌, Option, Some, None, refl, ap, sym, ◌∙◌, subst, append-nil, if◌then◌else◌}
 use Rattle.{std.specs.Str.bytes_eq, rnix_kinds.specs.declared.kinds.SyntaxKind.{SyntaxKind, TheVariants.{NODE_PATTERN, NODE_PAT_ENTRY}}}
-use Rattle.rnix_grammar.specs.{declared.place.Place.Place, Fault.Fault, AnnotatedForest.{Token, AnnotatedForest, ◌⊕◌, without_trivia}}
-use Rattle.rnix_grammar.specs.{Layout.trivia_before, Reports.entry_name, Machine.{Head, Node, Second, Operand, Frame, put, opened, ate, made}, Sorts.Sort}
-use Rattle.rnix_grammar.specs.Sorts.{Pattern, Entry, Plain, sort_of, sort_of_head, sort_of_node, may_hold, StandsOn}
+use Rattle.rnix_grammar.specs.{declared.{position.TheConstants.{PAT_ENTRY, SECOND}, place.Place.Place}, Fault.Fault, AnnotatedForest.{Token, AnnotatedForest}}
+use Rattle.rnix_grammar.specs.{AnnotatedForest.{◌⊕◌, without_trivia}, Layout.trivia_before, Reports.entry_name, Machine.{Head, Node, Second, Operand, Frame}}
+use Rattle.rnix_grammar.specs.{Machine.{put, opened, ate, made}, Sorts.{Sort, Pattern, Entry, Plain, sort_of, sort_of_head, sort_of_node, may_hold, StandsOn}}
 use Rattle.{rnix_lemmas.proofs.Basics.true_is_not_false, rnix_reader.specs.{declared.names.{NameSet.NameSet, Names.Names}, Names.{entries_in, entry_at}}}
 use Rattle.rnix_reader.specs.{Names.{PatternOpened, PatternClosed, EntryOpened}, Holds.{AreNamed, IsBegun, named_by, name_of, entries_of, Tops, Known, KnownOn}}
-use Rattle.rnix_reader.proofs.{EntryLemmas.{known_pattern, IsEntry}, SortLemmas.{is_pattern, head_sort}}
-use Rattle.rnix_reader.proofs.RowLemmas.{HasNoEntry, no_entry_trivia, begun_more, name_more, known_more, known_entry}
+use Rattle.rnix_reader.proofs.{EntryLemmas.{known_pattern, IsEntry}, SortLemmas.{is_pattern, head_sort}, RowLemmas.{HasNoEntry, no_entry_trivia, begun_more}}
+use Rattle.rnix_reader.proofs.RowLemmas.{name_more, known_more, known_entry}
 use Rattle.rnix_grammar.specs.declared.place.Place.TheVariants as p
 
 -- a row grows at its end
@@ -80,7 +80,7 @@ push_operand low high d row w = push Operand (p.Behind low high) d row refl tt w
 
 -- a second name is opened
 pub push_second : {f : Frame} {fs : List Frame} {names names' : Names} (d : ℕ) (row : AnnotatedForest) → IsBegun Second row
-    → names'.sets.items ≡ names.sets.items → entries_in names' ≡ entries_in names → AreNamed f fs names → AreNamed (opened Second p.TwiceName d row) (f ∷ fs) names'
+    → names'.sets.items ≡ names.sets.items → entries_in names' ≡ entries_in names → AreNamed f fs names → AreNamed (opened Second (p.Left SECOND) d row) (f ∷ fs) names'
 push_second {f = f} {fs = fs} d row i s e w = record {
   begun = (i, w.begun);
   sets = subst (Known (f ∷ fs)) (sym s) w.sets;
@@ -99,7 +99,7 @@ push_pattern {f = f} {fs = fs} {names = names} place d row none o w = record {
 -- an entry is opened, with its name
 pub push_entry : {f : Frame} {fs : List Frame} {names names' : Names} (d : ℕ) (row : AnnotatedForest) (t : Token)
     → entry_name (without_trivia row) ≡ Some t → EntryOpened (entry_at t) names names' → AreNamed f fs names
-    → AreNamed (opened (Node NODE_PAT_ENTRY) p.EntryMore d row) (f ∷ fs) names'
+    → AreNamed (opened (Node NODE_PAT_ENTRY) (p.Left PAT_ENTRY) d row) (f ∷ fs) names'
 push_entry {f = f} {fs = fs} d row t e o w = record {
   begun = ((t, e), w.begun);
   sets = subst (Known (f ∷ fs)) (sym o.sets) w.sets;

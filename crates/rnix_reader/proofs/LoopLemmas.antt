@@ -1,13 +1,14 @@
 -- Reading step by step: the machine goes with the reader.
-use Rattle.std.proofs.Common.{◌≡◌, ◌<◌, ℕ, Bool, true, false, List, [], ◌∷◌, ◌++◌, length, refl, ap, sym, ◌∙◌, subst, arith}
+use Rattle.std.proofs.{Common.{◌≡◌, ◌<◌, ℕ, Bool, true, false, List, [], ◌∷◌, ◌++◌, length, refl, ap, sym, ◌∙◌, subst, arith}, lemmas.List.same_from_push}
 use Rattle.{rnix_kinds.specs.declared.kinds.SyntaxKind.TheVariants.NODE_ROOT, rnix_green.specs.{Forest.{empty, node}, Draft.wrapped-join}}
-use Rattle.rnix_grammar.specs.{declared.{action.Action.Action, place.Place.Place}, AnnotatedForest.{Token, AnnotatedForest, blank, forget, head_kind, touches}, Layout.{items, from_item}, Fault.Fault, Allowed.Allowed, Sorts.{sort_of, AreKept}}
+use Rattle.rnix_grammar.specs.{declared.{position.TheConstants.ROOT, action.Action.Action, place.Place.Place}, AnnotatedForest.{Token, AnnotatedForest, blank}}
+use Rattle.rnix_grammar.specs.{AnnotatedForest.{forget, head_kind, touches}, Layout.{items, from_item}, Fault.Fault, Allowed.Allowed, Sorts.AreKept}
 use Rattle.rnix_grammar.specs.Machine.{Head, Node, Machine, opened, ate, machine, begins, step, Runs, rest as here, then as further}
-use Rattle.rnix_lemmas.proofs.{Basics.{not_nil, none_right}, PlaceLemmas.{step_kept, head_root, root_alone}, AllowedLemmas.allowed}
-use Rattle.rnix_reader.specs.{declared.{mark.Mark.Mark, names.Names.Names}, Placed.AreInOrder, Names.entries_in, State.{State, with_marks, eaten, ended}}
-use Rattle.rnix_reader.specs.{Flat.{marks_of, mark_of, flat, flat_with, popped}, Holds.{IsGoing, IsReadTo, work}, Performed.{Performed, NamesAfter, IsReady, action_of, is_finish}}
-use Rattle.rnix_reader.proofs.{StateLemmas.state_is, SortLemmas.head_sort, FlatLemmas.flat-eaten, StepLemmas.{ready, performs}, GoesLemmas.Goes, PerformLemmas.perform_goes, RunLemmas.no_items}
-use Rattle.rnix_reader.proofs.WorkLemmas.{work_is, perform_less}
+use Rattle.{rnix_lemmas.proofs.{PlaceLemmas.step_kept, AllowedLemmas.allowed}, rnix_reader.specs.declared.mark.Mark.Mark}
+use Rattle.rnix_reader.specs.{declared.names.Names.Names, Placed.AreInOrder, Names.entries_in, State.{State, with_marks, eaten, ended}, Flat.marks_of}
+use Rattle.rnix_reader.specs.{Flat.{mark_of, flat, flat_with, popped}, Holds.{IsGoing, IsThrough, IsReadTo, work}, Performed.{Performed, NamesAfter, IsReady}}
+use Rattle.rnix_reader.{specs.Performed.{action_of, is_finish}, proofs.{StateLemmas.state_is, DocumentLemmas.root_through, FlatLemmas.flat-eaten}}
+use Rattle.rnix_reader.proofs.{StepLemmas.{ready, performs}, GoesLemmas.Goes, PerformLemmas.perform_goes, WorkLemmas.{work_is, perform_less}}
 use Rattle.rnix_grammar.specs.declared.place.Place.TheVariants as p
 use Rattle.rnix_grammar.specs.declared.action.Action.TheVariants as a
 
@@ -20,7 +21,7 @@ runs_on raw a m (further r) = further (runs_on raw (step raw a) m r)
 pub starts : (s : State) (names : Names) → s ≡ flat (begins s.rest) → AreInOrder 0 s.rest → names.sets.items ≡ [] → entries_in names ≡ []
     → IsGoing s.rest s names
 starts s names e o k t = record {
-  top = opened (Node NODE_ROOT) p.RootStart 0 blank;
+  top = opened (Node NODE_ROOT) (p.Left ROOT) 0 blank;
   under = [];
   left = s.rest;
   reached = 0;
@@ -30,17 +31,6 @@ starts s names e o k t = record {
   well = record { fit = (refl, refl); range = tt; order = o };
   named = record { begun = (tt, tt); sets = k; entries = t };
 }
-
--- equal lists have the same last element
-last_same : {A : Type 0} (xs ys : List A) (x y : A) → xs ++ x ∷ [] ≡ ys ++ y ∷ [] → (xs ≡ ys) × (x ≡ y)
-last_same [] [] x y e = (refl, cc)
-last_same [] (b ∷ ys) x y e = absurd (not_nil (none_right ys (y ∷ []) (cc)))
-last_same (a ∷ xs) [] x y e = absurd (not_nil (none_right xs (x ∷ []) (cc)))
-last_same (a ∷ xs) (b ∷ ys) x y e =
-    let tails : xs ++ x ∷ [] ≡ ys ++ y ∷ [] = cc in
-    let heads : a ≡ b = cc in
-    let more = last_same xs ys x y tails in
-    (ap (λ z. a ∷ z) more.0 ∙ ap (λ z. z ∷ ys) heads, more.1)
 
 -- another action does not end the text
 not_finish : (action : Action) → (action ≡ a.Finish → ⊥) → is_finish action ≡ false
@@ -78,7 +68,7 @@ module _ {first : List Token} {s : State} {names : Names} (g : IsGoing first s n
   going s' names' other d k =
       let q : is_finish action ≡ false = not_finish action other in
       let after : Machine = step true before in
-      let done : Goes after names' = perform_goes action g.top g.under g.left g.reached g.faults names names' g.named g.well may q k in
+      let done : Goes after names' = perform_goes g.top g.under g.left g.reached names g.named g.well action g.faults names' may q k in
       let whole : after ≡ machine (done.top ∷ done.under) after.left after.reached after.faults = ap (λ x. machine x after.left after.reached after.faults) done.frames in
       let state : s' ≡ flat after = performs g.top g.under g.left g.reached g.faults names g.well action s' names' g.named may q d in (
         record {
@@ -96,7 +86,7 @@ module _ {first : List Token} {s : State} {names : Names} (g : IsGoing first s n
           arith,
           ap work state ∙ work_is after,
           ap work g.state ∙ work_is before,
-          perform_less action g.top g.under g.left g.reached g.faults g.well.fit may q,
+          perform_less g.top g.under g.left g.reached g.faults g.well.fit action may q,
         ),
       )
 
@@ -104,24 +94,10 @@ module _ {first : List Token} {s : State} {names : Names} (g : IsGoing first s n
   read : (s' : State) → action ≡ a.Finish → s' ≡ ended (eaten (popped before)) → IsReadTo first s'
   read s' q e =
       let end : Allowed g.top.place (head_kind (items g.left)) a.Finish = subst (Allowed g.top.place (head_kind (items g.left))) q may in
-      let none : g.under ≡ [] = root_alone g.top.head g.top.place g.under g.well.fit (ap sort_of end.0) in
-      let head = head_root g.top.head (head_sort g.top.head g.top.place g.under g.well.fit ∙ ap sort_of end.0) in
-      let state = e ∙ ap (λ x. ended (eaten (popped (machine (g.top ∷ x) g.left g.reached g.faults)))) none ∙ ap ended (flat-eaten [] g.top [] g.left g.reached g.faults)
-      ∙ root_ended g.top.head g.top.place g.top.depth (ate true g.top.row g.left) (from_item g.left) g.reached g.faults head in
-      record {
-        through = record {
-          last = before;
-          runs = g.runs;
-          root = g.top;
-          alone = ap (λ x. g.top ∷ x) none;
-          head = head;
-          place = end.0;
-          nothing = no_items (items g.left) end.1;
-        };
-        trees = ap (λ x. x.trees) state;
-        nodes = ap (λ x. x.open_nodes) state;
-        faults = ap (λ x. x.faults) state;
-      }
+      let through : IsThrough (begins first) = root_through g.top g.under g.left g.reached g.faults g.runs g.well.fit end in
+      let state = e ∙ ap (λ x. ended (eaten (popped (machine x g.left g.reached g.faults)))) through.alone ∙ ap ended (flat-eaten [] g.top [] g.left g.reached g.faults)
+      ∙ root_ended g.top.head g.top.place g.top.depth (ate true g.top.row g.left) (from_item g.left) g.reached g.faults through.head in
+      record { through = through; trees = ap (λ x. x.trees) state; nodes = ap (λ x. x.open_nodes) state; faults = ap (λ x. x.faults) state }
 
   concrete : Turn first s names (mark_of g.top g.under) (popped before) action
   concrete =
@@ -131,7 +107,7 @@ module _ {first : List Token} {s : State} {names : Names} (g : IsGoing first s n
   -- so it is for the mark that is taken
   pub turn : (ms : List Mark) (mark : Mark) (x : Action) → s.marks ≡ ms ++ mark ∷ [] → x ≡ action_of mark.place (with_marks ms s) → Turn first s names mark (with_marks ms s) x
   turn ms mark x e k =
-      let two = last_same ms (marks_of g.under) mark (mark_of g.top g.under) (sym e ∙ ap (λ x. x.marks) g.state) in
+      let two = same_from_push ms (marks_of g.under) mark (mark_of g.top g.under) (sym e ∙ ap (λ x. x.marks) g.state) in
       let same : with_marks ms s ≡ popped before = ap (with_marks ms) g.state ∙ ap (λ x. with_marks x (flat before)) two.0 in
       let act : x ≡ action = k ∙ ap (action_of mark.place) same ∙ ap (λ m. action_of m.place (popped before)) two.1 in
       rw (act, same, two.1) concrete

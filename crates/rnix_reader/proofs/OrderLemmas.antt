@@ -1,9 +1,9 @@
 -- Tokens that are left stay in order.
 use Rattle.{std.proofs.Common.{◌≡◌, ◌≤◌, ℕ, List, [], ◌∷◌, ◌++◌, true, false, ap, ◌∙◌, subst, arith}, rnix_kinds.specs.SyntaxKind.is_trivia}
-use Rattle.rnix_grammar.specs.{declared.until.Until.Until, AnnotatedForest.{Token, row_of, end_from}, Layout.{items, from_item, from_item_if, tail_of}}
+use Rattle.rnix_grammar.specs.{declared.until.Until.{Until, TheVariants.End}, AnnotatedForest.{Token, row_of, end_from}, Layout.{items, from_item, from_item_if, tail_of}}
 use Rattle.rnix_grammar.specs.{Layout.left_after, Machine.{behind, reach, end_of, run_rest, dropped}, Missing.run_of}
-use Rattle.rnix_lemmas.proofs.{WithoutTriviaLemmas.{run_prefix, all_prefix}, LayoutLemmas.{IsFirst, first_item, items-from_item}}
-use Rattle.rnix_reader.{specs.Placed.AreInOrder, proofs.CursorLemmas.in_order_from}
+use Rattle.rnix_lemmas.proofs.{WithoutTriviaLemmas.run_prefix, LayoutLemmas.{IsFirst, first_item, items-from_item}}
+use Rattle.rnix_reader.{specs.Placed.AreInOrder, proofs.{CursorLemmas.in_order_from, RunLemmas.run_all}}
 
 -- from the first item on tokens are in order
 pub order_from : (n : ℕ) (ts : List Token) → AreInOrder n ts → AreInOrder n (from_item ts)
@@ -52,7 +52,4 @@ order_run until n ts o =
 -- and behind all of them
 pub order_all : (n : ℕ) (ts : List Token) → AreInOrder n ts
     → AreInOrder (end_from n (items ts)) (run_rest true (items ts) ts) × (n ≤ end_from n (items ts))
-order_all n ts o =
-    let run : List Token = items ts in
-    let w = passed n run (dropped run run) (from_item ts) (items-from_item ts ∙ all_prefix run) (order_from n ts o) in
-    (w.order, w.least)
+order_all n ts o = subst (λ run. AreInOrder (end_from n run) (run_rest true run ts) × (n ≤ end_from n run)) (run_all (items ts)) (order_run End n ts o)

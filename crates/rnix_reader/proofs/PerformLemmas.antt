@@ -1,20 +1,19 @@
 -- What each action makes of the frames.
-use Rattle.std.proofs.Common.{◌≡◌, ◌≤◌, ℕ, true, false, List, [], ◌∷◌, ◌++◌, Some, refl, ap, sym, ◌∙◌, subst, arith, append-nil}
-use Rattle.rnix_kinds.specs.declared.kinds.SyntaxKind.{SyntaxKind, TheVariants.{NODE_ERROR, NODE_IDENT, NODE_APPLY}}
-use Rattle.rnix_green.specs.Range.{Extent}
-use Rattle.rnix_grammar.specs.{declared.{place.Place.Place, action.Action.Action}, Fault.Fault, AnnotatedForest.{Token, Note, Unwanted, Extra, AnnotatedForest}}
-use Rattle.rnix_grammar.specs.AnnotatedForest.{blank, ◌⊕◌, one_branch, one_fault, tokens_in, without_trivia, head_of, head_kind, end_from, extent_of}
-use Rattle.rnix_grammar.specs.{Layout.{items, from_item, trivia_before, tail_of}, Reports.only_token, Machine.{Node, Operand, Frame, put, opened}}
-use Rattle.rnix_grammar.specs.Machine.{ate, leaf, leaf_in, kind_of, low_of, behind, reach, end_of, run_row, run_rest, dropped, machine, closed, perform}
-use Rattle.rnix_grammar.specs.{Missing.run_of, Sorts.{Pattern, Loose, sort_of, is_open, StandsOn}, Allowed.{Allowed, is_there}}
-use Rattle.rnix_lemmas.proofs.{Basics.true_is_not_false, AnnotatedForestLemmas.tokens_in-row_of, WithoutTriviaLemmas.{leaf_without_trivia, reach_items}}
-use Rattle.rnix_lemmas.proofs.{WithoutTriviaLemmas.{run_prefix, all_prefix, run_bared}, LayoutLemmas.{first_item, without_trivia-trivia}}
-use Rattle.rnix_reader.specs.{declared.names.Names.Names, Names.{PatternClosed, EntryNamed}, Placed.AreInOrder, Flat.{mark_of, popped}, State.{marked, started_at}}
-use Rattle.rnix_reader.specs.{Holds.{IsBegun, AreNamed, IsWell}, Performed.{NamesAfter, TwiceOpened, is_finish}}
-use Rattle.rnix_reader.proofs.{SortLemmas.{head_loose, is_root, head_sort, head_pattern}, EntryLemmas.entry_there, OrderLemmas.{order_from, order_behind, reach_least, order_run, order_all}}
-use Rattle.rnix_reader.proofs.RowLemmas.{HasNoEntry, no_entry_leaf, no_entry_fault, begun_more, range_more}
-use Rattle.rnix_reader.proofs.KeptLemmas.{is_bare, moved_on, grow_trivia, grow_behind, push_node, push_second, push_entry, instead, pop, pop_pattern, pop_entry}
-use Rattle.rnix_reader.proofs.GoesLemmas.{Goes, goes, goes_open, holder_open, stays, reading_goes}
+use Rattle.std.proofs.Common.{◌≡◌, ◌≤◌, ℕ, true, false, List, [], ◌∷◌, ◌++◌, Option, Some, refl, ap, sym, ◌∙◌, subst, arith, append-nil}
+use Rattle.{rnix_kinds.specs.declared.kinds.SyntaxKind.{SyntaxKind, TheVariants.{NODE_ERROR, NODE_IDENT, NODE_APPLY}}, rnix_green.specs.Range.Extent}
+use Rattle.rnix_grammar.specs.{declared.{position.TheConstants.APPLIED, place.Place.Place, action.Action.Action}, Fault.Fault, AnnotatedForest.{Token, Note}}
+use Rattle.rnix_grammar.specs.AnnotatedForest.{Unwanted, Extra, AnnotatedForest, blank, ◌⊕◌, one_branch, one_fault, tokens_in, without_trivia, head_of}
+use Rattle.rnix_grammar.specs.{AnnotatedForest.{head_kind, end_from, extent_of}, Layout.{items, from_item, trivia_before, tail_of}, Reports.only_token}
+use Rattle.rnix_grammar.specs.Machine.{Node, Operand, Frame, put, opened, ate, leaf, leaf_in, kind_of, low_of, behind, reach, end_of, run_row, run_rest}
+use Rattle.rnix_grammar.specs.{Machine.{dropped, machine, closed, entry_closed, perform}, Missing.run_of, Sorts.{Pattern, Entry, Loose, sort_of, is_open, StandsOn}, Allowed.Allowed}
+use Rattle.{rnix_grammar.specs.Allowed.is_there, rnix_lemmas.proofs.{Basics.true_is_not_false, AnnotatedForestLemmas.tokens_in-row_of}}
+use Rattle.rnix_lemmas.proofs.{WithoutTriviaLemmas.{leaf_without_trivia, reach_items, run_prefix, all_prefix, run_bared}, LayoutLemmas.first_item}
+use Rattle.{rnix_lemmas.proofs.LayoutLemmas.without_trivia-trivia, rnix_reader.specs.{declared.names.Names.Names, Names.{PatternClosed, EntryClosed, EntryNamed}}}
+use Rattle.rnix_reader.specs.{Placed.AreInOrder, Flat.{mark_of, popped}, State.{marked, started_at}, Holds.{IsBegun, AreNamed, IsWell}, Performed.NamesAfter}
+use Rattle.rnix_reader.{specs.Performed.{TwiceOpened, is_finish}, proofs.{SortLemmas.{head_loose, is_root, head_sort, head_pattern}, EntryLemmas.entry_there}}
+use Rattle.rnix_reader.proofs.{OrderLemmas.{order_from, order_behind, reach_least, order_run, order_all}, RowLemmas.{HasNoEntry, no_entry_leaf, no_entry_fault}}
+use Rattle.rnix_reader.proofs.{RowLemmas.{begun_more, range_more}, KeptLemmas.{is_bare, moved_on, grow_trivia, grow_behind, push_node, push_second, push_entry}}
+use Rattle.rnix_reader.proofs.{KeptLemmas.{instead, pop, pop_pattern, pop_entry}, GoesLemmas.{Goes, goes, goes_open, holder_open, stays, reading_goes}}
 use Rattle.rnix_grammar.specs.declared.place.Place.TheVariants as p
 use Rattle.rnix_grammar.specs.declared.action.Action.TheVariants as a
 
@@ -33,6 +32,19 @@ run_tokens : (note : Note) (run us ts : List Token) → items ts ≡ run ++ us �
 run_tokens note run us ts e =
     append-nil (tokens_in (without_trivia (run_row true run ts))) ∙ ap tokens_in (run_bared run ts us e).same ∙ tokens_in-row_of run
 
+closing_pattern : (f : Frame) (fs : List Frame) (ts : List Token) (n : ℕ) (es : List Fault) (names names' : Names) → AreNamed f fs names → IsWell f fs ts n names.second
+    → sort_of f.place ≡ Pattern → PatternClosed names names' → Goes (closed f fs ts n es) names'
+closing_pattern f [] ts n es names names' w v e c = absurd (true_is_not_false (sym (ap is_root v.fit.1) ∙ ap is_root e))
+closing_pattern f (g ∷ fs) ts n es names names' w v e c =
+    goes_open (holder_open g fs (sort_of f.place) v.fit.2 v.fit.1) (pop_pattern (head_pattern f.head (v.fit.0 ∙ e)) c w) v.order
+
+-- and its entry
+closing_entry : (f : Frame) (fs : List Frame) (ts : List Token) (n : ℕ) (es : List Fault) (names names' : Names) → AreNamed f fs names → IsWell f fs ts n names.second
+    → sort_of f.place ≡ Entry → (again : Option Fault) × EntryClosed again names names' → Goes (entry_closed true f fs ts n es) names'
+closing_entry f [] ts n es names names' w v e c = absurd (true_is_not_false (sym (ap is_root v.fit.1) ∙ ap is_root e))
+closing_entry f (g ∷ fs) ts n es names names' w v e c =
+    goes_open (holder_open g fs (sort_of f.place) v.fit.2 v.fit.1) (pop_entry (entry_there f g fs names names' c.0 v.fit e w c.1) w) v.order
+
 module _ (f : Frame) (fs : List Frame) (ts : List Token) (n : ℕ) (names : Names) (w : AreNamed f fs names) (v : IsWell f fs ts n names.second) where
   -- a frame without names is complete
   closing : (es : List Fault) → is_bare (sort_of f.place) ≡ true → is_root (sort_of f.place) ≡ false → Goes (closed f fs ts n es) names
@@ -50,16 +62,20 @@ module _ (f : Frame) (fs : List Frame) (ts : List Token) (n : ℕ) (names : Name
       let trivia = range_more names.second n n f.head f.row (trivia_before ts) [] begun v.range (ap tokens_in (without_trivia-trivia ts)) refl (omega arith) in
       goes (grow_behind after ts g none w) (range_more names.second n m f.head (ate true f.row ts) g run (begun_more f.head f.row (trivia_before ts) begun) trivia i r l) o
 
+  -- at a place behind an operand an operand is open
+  loose : sort_of f.place ≡ Loose → f.head ≡ Operand
+  loose e = head_loose f.head (head_sort f.head f.place fs v.fit ∙ e)
+
   -- an entry of a pattern begins
-  entry_goes : (after : Place) (us : List Token) (es : List Fault) (names' : Names) → items ts ≡ us → is_there (head_kind us) ≡ true
+  entry_goes : (after : ℕ) (us : List Token) (es : List Fault) (names' : Names) → items ts ≡ us → is_there (head_kind us) ≡ true
       → ((t : Token) → head_of (items ts) ≡ Some t → EntryNamed t names names') → Goes (perform true (a.Entry after) f fs ts n es) names'
   entry_goes after [] es names' e h does = absurd (true_is_not_false (sym h))
   entry_goes after (t ∷ us) es names' e h does =
       let name = ap only_token (leaf_without_trivia NODE_IDENT ts ∙ ap (leaf_in NODE_IDENT) e) in
-      goes_open refl (push_entry f.depth (one_branch NODE_IDENT (leaf true NODE_IDENT ts)) t name (does t (ap head_of e)) (grow_trivia after ts w)) (order_behind n ts v.order)
+      goes_open refl (push_entry f.depth (one_branch NODE_IDENT (leaf true NODE_IDENT ts)) t name (does t (ap head_of e)) (grow_trivia (p.Left after) ts w)) (order_behind n ts v.order)
 
   -- a second name begins
-  twice_goes : (after : Place) (us : List Token) (es : List Fault) (names' : Names) → items ts ≡ us → is_there (head_kind us) ≡ true
+  twice_goes : (after : ℕ) (us : List Token) (es : List Fault) (names' : Names) → items ts ≡ us → is_there (head_kind us) ≡ true
       → ((t : Token) → head_of (items ts) ≡ Some t → TwiceOpened t.start names names') → Goes (perform true (a.Twice after) f fs ts n es) names'
   twice_goes after [] es names' e h does = absurd (true_is_not_false (sym h))
   twice_goes after (t ∷ us) es names' e h does =
@@ -71,66 +87,54 @@ module _ (f : Frame) (fs : List Frame) (ts : List Token) (n : ℕ) (names : Name
       let range : (let x : Extent = record { start = names'.second; end = reach true n ts } in x) ≡ extent_of (tokens_in (without_trivia row)) =
       ap (λ x. let y : Extent = record { start = x; end = reach true n ts } in y) new.second
       ∙ ap (λ x. let y : Extent = record { start = t.start; end = x } in y) end ∙ sym (ap extent_of tokens) in
-      goes (push_second f.depth row (t, [], tokens) new.sets new.entries (grow_trivia after ts w)) (range, omega (arith, ordered.1, end, new.second)) (order_behind n ts v.order)
+      goes (push_second f.depth row (t, [], tokens) new.sets new.entries (grow_trivia (p.Left after) ts w)) (range, omega (arith, ordered.1, end, new.second)) (order_behind n ts v.order)
 
-closing_pattern : (f : Frame) (fs : List Frame) (ts : List Token) (n : ℕ) (es : List Fault) (names names' : Names) → AreNamed f fs names → IsWell f fs ts n names.second
-    → sort_of f.place ≡ Pattern → PatternClosed names names' → Goes (closed f fs ts n es) names'
-closing_pattern f [] ts n es names names' w v e c = absurd (true_is_not_false (sym (ap is_root v.fit.1) ∙ ap is_root e))
-closing_pattern f (g ∷ fs) ts n es names names' w v e c =
-    goes_open (holder_open g fs (sort_of f.place) v.fit.2 v.fit.1) (pop_pattern (head_pattern f.head (v.fit.0 ∙ e)) c w) v.order
-
--- each action leaves a machine that goes on
-pub perform_goes : (action : Action) (f : Frame) (fs : List Frame) (ts : List Token) (n : ℕ) (es : List Fault) (names names' : Names) → AreNamed f fs names → IsWell f fs ts n names.second
-    → Allowed f.place (head_kind (items ts)) action → is_finish action ≡ false
-    → NamesAfter action (mark_of f fs) (popped (machine (f ∷ fs) ts n es)) names names' → Goes (perform true action f fs ts n es) names'
-unfolding marked started_at
-perform_goes a.Close f fs ts n es names names' w v al g k = stays k (closing f fs ts n names w v es (ap is_bare al.0) (ap is_root al.0))
-perform_goes a.ClosePattern f fs ts n es names names' w v al g k = closing_pattern f fs ts n es names names' w v al k
-perform_goes a.CloseEntry f [] ts n es names names' w v al g k = absurd (true_is_not_false (sym (ap is_root v.fit.1) ∙ ap is_root al))
-perform_goes a.CloseEntry f (h ∷ fs) ts n es names names' w v al g k =
-    goes_open (holder_open h fs (sort_of f.place) v.fit.2 v.fit.1) (pop_entry (entry_there f h fs names names' k.0 v.fit al w k.1) w) v.order
-perform_goes a.CloseTwice f fs ts n es names names' w v al g k = stays k (closing f fs ts n names w v _ (ap is_bare al) (ap is_root al))
-perform_goes a.Finish f fs ts n es names names' w v al g k = absurd (true_is_not_false g)
-perform_goes a.Settle f fs ts n es names names' w v al g k = stays k (closing f fs ts n names w v es (ap is_bare al) (ap is_root al))
-perform_goes a.Extra f fs ts n es names names' w v al g k =
-    let row : AnnotatedForest = run_row true (items ts) ts in
-    let all = order_all n ts v.order in
-    stays k (grows f fs ts n names w v f.place (one_fault Extra row) (items ts) (run_rest true (items ts) ts) (end_from n (items ts)) _ (no_entry_fault Extra row)
-    (run_tokens Extra (items ts) (dropped (items ts) (items ts)) ts (all_prefix (items ts))) refl all.1 all.0)
-perform_goes (a.Take after) f fs ts n es names names' w v al g k =
-    let row : AnnotatedForest = leaf true (kind_of f.head) ts in
-    stays k (grows f fs ts n names w v after row (firsts (items ts)) (behind true ts) (reach true n ts) es (no_entry_leaf (kind_of f.head) ts)
-    (leaf_tokens (kind_of f.head) ts) (leaf_end n ts) (reach_least n ts v.order) (order_behind n ts v.order))
-perform_goes (a.Miss after) f fs ts n es names names' w v al g k = stays k (goes (moved_on after w) v.range v.order)
-perform_goes (a.MissWanted until after) f fs ts n es names names' w v al g k = stays k (goes (moved_on after w) v.range v.order)
-perform_goes (a.Run until after) f fs ts n es names names' w v al g k =
-    let run : List Token = run_of until (items ts) in
-    let row : AnnotatedForest = run_row true run ts in
-    let all = order_run until n ts v.order in
-    stays k (grows f fs ts n names w v after (one_fault (Unwanted until) row) run (run_rest true run ts) (end_from n run) _ (no_entry_fault (Unwanted until) row)
-    (run_tokens (Unwanted until) run (dropped run (items ts)) ts (run_prefix until (items ts))) refl all.1 all.0)
-perform_goes (a.Leaf j after) f fs ts n es names names' w v al g k =
-    let row : AnnotatedForest = one_branch j (leaf true j ts) in
-    stays k (grows f fs ts n names w v after row (firsts (items ts)) (behind true ts) (reach true n ts) es (subst (λ x. HasNoEntry (one_branch x (leaf true x ts))) (sym al.2) (λ name. refl))
-    (append-nil (tokens_in (without_trivia (leaf true j ts))) ∙ leaf_tokens j ts) (leaf_end n ts) (reach_least n ts v.order) (order_behind n ts v.order))
-perform_goes (a.Open j inside after) f fs ts n es names names' w v al g k =
-    stays k (goes_open (ap is_open al.2) (push_node j inside f.depth (leaf true j ts) al.2 (grow_trivia after ts w)) (order_behind n ts v.order))
-perform_goes (a.Begin j inside after) f fs ts n es names names' w v al g k =
-    stays k (goes_open (ap is_open al.1) (push_node j inside f.depth blank al.1 (grow_trivia after ts w)) (order_from n ts v.order))
-perform_goes (a.Entry after) f fs ts n es names names' w v al g k = entry_goes f fs ts n names w v after (items ts) es names' refl (ap is_there al.0) k
-perform_goes (a.Twice after) f fs ts n es names names' w v al g k = twice_goes f fs ts n names w v after (items ts) es names' refl al.0 k
-perform_goes (a.Read level counted after) f fs ts n es names names' w v al g k =
-    reading_goes level counted (put after f.row f) fs ts n es names names' (moved_on after w) (holder_open f fs Loose v.fit al.1) v.order k
-perform_goes (a.Wrap j inside high) f fs ts n es names names' w v al g k =
-    let loose = head_loose f.head (head_sort f.head f.place fs v.fit ∙ al.1) in
-    let row : AnnotatedForest = ate true f.row ts ⊕ leaf true j ts in
-    stays k (goes_open (ap is_open al.2) (push_node j inside f.depth row al.2 (instead (low_of f.place) high f.depth blank loose w)) (order_behind n ts v.order))
-perform_goes a.Apply f fs ts n es names names' w v al g k =
-    let over : Frame = opened Operand (p.Behind (low_of f.place) 15) f.depth blank in
-    let loose = head_loose f.head (head_sort f.head f.place fs v.fit ∙ al.1) in
-    reading_goes 16 false (opened (Node NODE_APPLY) p.Past f.depth f.row) (over ∷ fs) ts n es names names'
-    (push_node NODE_APPLY p.Past f.depth f.row refl (instead (low_of f.place) 15 f.depth blank loose w)) refl v.order k
-perform_goes a.ApplyOr f fs ts n es names names' w v al g k =
-    let loose = head_loose f.head (head_sort f.head f.place fs v.fit ∙ al.1) in
-    let row : AnnotatedForest = one_branch NODE_APPLY (ate true f.row ts ⊕ one_branch NODE_IDENT (leaf true NODE_IDENT ts)) in
-    stays k (goes_open refl (instead (low_of f.place) 15 f.depth row loose w) (order_behind n ts v.order))
+  -- each action leaves a machine that goes on
+  pub perform_goes : (action : Action) (es : List Fault) (names' : Names) → Allowed f.place (head_kind (items ts)) action → is_finish action ≡ false
+      → NamesAfter action (mark_of f fs) (popped (machine (f ∷ fs) ts n es)) names names' → Goes (perform true action f fs ts n es) names'
+  unfolding marked started_at
+  perform_goes a.Close es names' al g k = stays k (closing es (ap is_bare al.0) (ap is_root al.0))
+  perform_goes a.ClosePattern es names' al g k = closing_pattern f fs ts n es names names' w v al k
+  perform_goes a.CloseEntry es names' al g k = closing_entry f fs ts n es names names' w v al k
+  perform_goes a.CloseTwice es names' al g k = stays k (closing _ (ap is_bare al) (ap is_root al))
+  perform_goes a.Finish es names' al g k = absurd (true_is_not_false g)
+  perform_goes a.Settle es names' al g k = stays k (closing es (ap is_bare al) (ap is_root al))
+  perform_goes a.Extra es names' al g k =
+      let row : AnnotatedForest = run_row true (items ts) ts in
+      let all = order_all n ts v.order in
+      stays k (grows f.place (one_fault Extra row) (items ts) (run_rest true (items ts) ts) (end_from n (items ts)) _ (no_entry_fault Extra row)
+      (run_tokens Extra (items ts) (dropped (items ts) (items ts)) ts (all_prefix (items ts))) refl all.1 all.0)
+  perform_goes (a.Take after) es names' al g k =
+      let row : AnnotatedForest = leaf true (kind_of f.head) ts in
+      stays k (grows (p.Left after) row (firsts (items ts)) (behind true ts) (reach true n ts) es (no_entry_leaf (kind_of f.head) ts)
+      (leaf_tokens (kind_of f.head) ts) (leaf_end n ts) (reach_least n ts v.order) (order_behind n ts v.order))
+  perform_goes (a.Miss after) es names' al g k = stays k (goes (moved_on (p.Left after) w) v.range v.order)
+  perform_goes (a.MissWanted until after) es names' al g k = stays k (goes (moved_on (p.Left after) w) v.range v.order)
+  perform_goes (a.Run until after) es names' al g k =
+      let run : List Token = run_of until (items ts) in
+      let row : AnnotatedForest = run_row true run ts in
+      let all = order_run until n ts v.order in
+      stays k (grows (p.Left after) (one_fault (Unwanted until) row) run (run_rest true run ts) (end_from n run) _ (no_entry_fault (Unwanted until) row)
+      (run_tokens (Unwanted until) run (dropped run (items ts)) ts (run_prefix until (items ts))) refl all.1 all.0)
+  perform_goes (a.Leaf j after) es names' al g k =
+      let row : AnnotatedForest = one_branch j (leaf true j ts) in
+      stays k (grows (p.Left after) row (firsts (items ts)) (behind true ts) (reach true n ts) es (subst (λ x. HasNoEntry (one_branch x (leaf true x ts))) (sym al.2) (λ name. refl))
+      (append-nil (tokens_in (without_trivia (leaf true j ts))) ∙ leaf_tokens j ts) (leaf_end n ts) (reach_least n ts v.order) (order_behind n ts v.order))
+  perform_goes (a.Open j inside after) es names' al g k =
+      stays k (goes_open (ap is_open al.2) (push_node j (p.Left inside) f.depth (leaf true j ts) al.2 (grow_trivia (p.Left after) ts w)) (order_behind n ts v.order))
+  perform_goes (a.Begin j inside after) es names' al g k =
+      stays k (goes_open (ap is_open al.1) (push_node j (p.Left inside) f.depth blank al.1 (grow_trivia (p.Left after) ts w)) (order_from n ts v.order))
+  perform_goes (a.Entry after) es names' al g k = entry_goes after (items ts) es names' refl (ap is_there al.0) k
+  perform_goes (a.Twice after) es names' al g k = twice_goes after (items ts) es names' refl al.0 k
+  perform_goes (a.Read level counted after) es names' al g k =
+      reading_goes level counted (put (p.Left after) f.row f) fs ts n es names names' (moved_on (p.Left after) w) (holder_open f fs Loose v.fit al.1) v.order k
+  perform_goes (a.Wrap j inside high) es names' al g k =
+      let row : AnnotatedForest = ate true f.row ts ⊕ leaf true j ts in
+      stays k (goes_open (ap is_open al.2) (push_node j inside f.depth row al.2 (instead (low_of f.place) high f.depth blank (loose al.1) w)) (order_behind n ts v.order))
+  perform_goes a.Apply es names' al g k =
+      let over : Frame = opened Operand (p.Behind (low_of f.place) 15) f.depth blank in
+      reading_goes 16 false (opened (Node NODE_APPLY) (p.Left APPLIED) f.depth f.row) (over ∷ fs) ts n es names names'
+      (push_node NODE_APPLY (p.Left APPLIED) f.depth f.row refl (instead (low_of f.place) 15 f.depth blank (loose al.1) w)) refl v.order k
+  perform_goes a.ApplyOr es names' al g k =
+      let row : AnnotatedForest = one_branch NODE_APPLY (ate true f.row ts ⊕ one_branch NODE_IDENT (leaf true NODE_IDENT ts)) in
+      stays k (goes_open refl (instead (low_of f.place) 15 f.depth row (loose al.1) w) (order_behind n ts v.order))

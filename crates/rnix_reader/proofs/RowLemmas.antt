@@ -1,17 +1,13 @@
 -- Rows that grow: what they begin with stays, and what is known of them.
-use Rattle.std.proofs.Common.{◌≡◌, ◌≤◌, ℕ, Bool, true, false, List, [], ◌∷◌, ◌++◌, Some, None, refl, ap, sym, ◌∙◌, arith, if◌then◌else◌}
+use Rattle.std.proofs.Common.{◌≡◌, ◌≤◌, ℕ, Bool, true, false, List, [], ◌∷◌, ◌++◌, Some, refl, ap, sym, ◌∙◌, arith, if◌then◌else◌}
 use Rattle.{std.{proofs.lemmas.Cmp.nat_list_eq_equiv, specs.Str.bytes_eq}, rnix_kinds.specs.declared.kinds.SyntaxKind.{SyntaxKind, TheVariants.NODE_IDENT}}
-use Rattle.{rnix_kinds.specs.declared.kinds.SyntaxKind.TheVariants.{NODE_PATTERN, NODE_PAT_ENTRY}, rnix_grammar.specs.AnnotatedForest.{Token, Note}}
-use Rattle.rnix_grammar.specs.AnnotatedForest.{AnnotatedForest, blank, token, branch, fault, ◌⊕◌, one_branch, one_fault, tokens_in, without_trivia, end_from}
-use Rattle.{rnix_green.specs.Range.Extent, rnix_grammar.specs.AnnotatedForest.extent_of}
-use Rattle.rnix_grammar.specs.{Layout.{items, trivia_before}, Reports.{entry_name, is_same_name, has_entry}, Machine.{Head, Node}}
-use Rattle.{rnix_grammar.specs.{Machine.{Second, Operand, leaf, leaf_in}, Sorts.sort_of_head}, rnix_lemmas.proofs.Basics.true_is_not_false}
+use Rattle.{rnix_kinds.specs.declared.kinds.SyntaxKind.TheVariants.{NODE_PATTERN, NODE_PAT_ENTRY}, rnix_green.specs.Range.Extent}
+use Rattle.rnix_grammar.specs.AnnotatedForest.{Token, Note, AnnotatedForest, blank, token, branch, fault, ◌⊕◌, one_branch, one_fault, tokens_in, without_trivia}
+use Rattle.rnix_grammar.specs.{AnnotatedForest.{end_from, extent_of}, Layout.{items, trivia_before}, Reports.{entry_name, is_same_name, has_entry}}
+use Rattle.{rnix_grammar.specs.{Machine.{Head, Node, Second, Operand, leaf, leaf_in}, Sorts.sort_of_head}, rnix_lemmas.proofs.Basics.true_is_not_false}
 use Rattle.rnix_lemmas.proofs.{AnnotatedForestLemmas.tokens_in-⊕, WithoutTriviaLemmas.leaf_without_trivia, LayoutLemmas.without_trivia-⊕}
 use Rattle.{rnix_lemmas.proofs.{LayoutLemmas.without_trivia-trivia, StrictParts.end_behind}, rnix_reader.specs.{declared.names.NameSet.NameSet, Names.has_name}}
 use Rattle.rnix_reader.{specs.Holds.{IsBegun, HasRange, name_of, KnownOn}, proofs.SortLemmas.is_pattern}
-
-none_is_not_some : {A : Type 0} {t : A} → None ≡ Some t → ⊥
-none_is_not_some e = cc
 
 -- a row has no entry of a pattern
 abbrev pub HasNoEntry : AnnotatedForest → Type 0
@@ -57,17 +53,13 @@ has_entry-more name (branch NODE_PAT_ENTRY d f) c =
 has_entry-more name (branch k d f) c = has_entry-more name f c
 has_entry-more name (fault n d f) c = has_entry-more name f c
 
--- texts are compared either way
-pub same_text : (xs ys : List ℕ) → bytes_eq xs ys ≡ bytes_eq ys xs
-same_text xs ys = nat_list_eq_equiv.symm xs ys
-
 -- the name of an entry stays
 entry_name-⊕ : (f g : AnnotatedForest) (t : Token) → entry_name f ≡ Some t → entry_name (f ⊕ g) ≡ Some t
-entry_name-⊕ blank g t e = absurd (none_is_not_some e)
-entry_name-⊕ (token k u f) g t e = absurd (none_is_not_some e)
+entry_name-⊕ blank g t e = absurd (cc)
+entry_name-⊕ (token k u f) g t e = absurd (cc)
 entry_name-⊕ (branch NODE_IDENT c f) g t e = e
-entry_name-⊕ (branch k c f) g t e = absurd (none_is_not_some e)
-entry_name-⊕ (fault n c f) g t e = absurd (none_is_not_some e)
+entry_name-⊕ (branch k c f) g t e = absurd (cc)
+entry_name-⊕ (fault n c f) g t e = absurd (cc)
 
 tokens_more : (f g : AnnotatedForest) → tokens_in (without_trivia (f ⊕ g)) ≡ tokens_in (without_trivia f) ++ tokens_in (without_trivia g)
 tokens_more f g = ap tokens_in (without_trivia-⊕ f g) ∙ tokens_in-⊕ (without_trivia f) (without_trivia g)
@@ -110,7 +102,7 @@ known_entry (Node NODE_PATTERN) f c t below s sets More q e a m is = record {
   set = s;
   all = a;
   is = λ name. is name
-      ∙ ap (λ x. if x then true else has_entry name (without_trivia f)) (same_text t.text name)
+      ∙ ap (λ x. if x then true else has_entry name (without_trivia f)) (nat_list_eq_equiv.symm t.text name)
       ∙ ap (λ x. if is_same_name name x then true else has_entry name (without_trivia f)) (sym e)
       ∙ sym (ap (has_entry name) (without_trivia-⊕ f (one_branch NODE_PAT_ENTRY c)) ∙ has_entry-more name (without_trivia f) (without_trivia c));
   more = m;

@@ -1,15 +1,13 @@
 -- Runs of items.
-use Rattle.std.proofs.Common.{◌≡◌, ◌≤◌, ◌<◌, ℕ, true, false, List, [], ◌∷◌, length, Option, Some, None, refl, ap, sym, ◌∙◌, subst, arith, if◌then◌else◌}
-use Rattle.{std.specs.Option.option_map, rnix_kinds.specs.{declared.kinds.SyntaxKind.{SyntaxKind, TheVariants.NODE_ERROR}, SyntaxKind.is_trivia}}
-use Rattle.rnix_green.{specs.{Forest.{empty, leaf, join}, Range.Extent, ForestCode.join_empty}, proofs.ForestLemmas.join_assoc}
-use Rattle.rnix_grammar.specs.{declared.{until.Until.{Until, TheVariants.End}, place.Place.Place}, Fault.{unwanted}, Tables.is_wanted}
-use Rattle.rnix_grammar.specs.{Tables.{stops, operand_kinds}, AnnotatedForest.{Token, token, row_of, forget, head_of, head_kind}}
-use Rattle.rnix_grammar.specs.{AnnotatedForest.{end_from, extent_of, Stray as StrayNote}, Layout.items}
+use Rattle.std.proofs.Common.{◌≡◌, ◌≤◌, ◌<◌, ℕ, true, false, List, [], ◌∷◌, length, Some, None, refl, ap, sym, ◌∙◌, subst, arith, if◌then◌else◌}
+use Rattle.{rnix_kinds.specs.{declared.kinds.SyntaxKind.{SyntaxKind, TheVariants.NODE_ERROR}, SyntaxKind.is_trivia}, rnix_green.specs.Forest.{empty, leaf}}
+use Rattle.rnix_green.{specs.{Forest.join, Range.Extent, ForestCode.join_empty}, proofs.ForestLemmas.join_assoc}
+use Rattle.rnix_grammar.specs.{declared.{until.Until.{Until, TheVariants.End}, place.Place.Place}, Fault.unwanted, Tables.{is_wanted, stops, operand_kinds}}
+use Rattle.rnix_grammar.specs.{AnnotatedForest.{Token, token, row_of, forget, head_of, head_kind, end_from, extent_of, Stray as StrayNote}, Layout.items}
 use Rattle.rnix_grammar.specs.{Layout.{from_item, trivia_before, tail_of, with_trivia, item_if}, Machine.{leaf_in, end_of}, Missing.run_of, Reports.report}
-use Rattle.{rnix_lemmas.proofs.{LayoutLemmas.{first_item, items-from_item}}}
-use Rattle.{rnix_lemmas.proofs.{AnnotatedForestLemmas.forget-⊕, RunLemmas.run_begins}, rnix_reader.specs.declared.cursor.PlacedToken.PlacedToken}
-use Rattle.rnix_reader.specs.{Steps.operand_begun, Reported.{error_over, next_run}, Placed.{token_of, AreInOrder}, State.{State, items_left, eaten, bumped, skipped, started}}
-use Rattle.rnix_reader.{specs.State.{started_at, ended, marked}, proofs.{CursorLemmas.in_order_from, StateLemmas.state_is}}
+use Rattle.rnix_lemmas.proofs.{LayoutLemmas.{first_item, items-from_item}, AnnotatedForestLemmas.forget-⊕, RunLemmas.run_begins}
+use Rattle.rnix_reader.specs.{Steps.operand_begun, Reported.{error_over, next_run}, Placed.AreInOrder, State.{State, items_left, eaten, bumped, skipped}}
+use Rattle.rnix_reader.{specs.State.{started, started_at, ended, marked}, proofs.{CursorLemmas.in_order_from, StateLemmas.{state_is, first_of, none_left}}}
 
 -- nothing is skipped
 pub skipped-none : (s : State) → skipped [] s ≡ s
@@ -46,30 +44,10 @@ pub run_all : (ts : List Token) → run_of End ts ≡ ts
 run_all [] = refl
 run_all (t ∷ ts) = ap (λ x. t ∷ x) (run_all ts)
 
--- the items, by the first of them
-pub item_there : (ts : List Token) (r : Option PlacedToken) (t : PlacedToken) → option_map token_of r ≡ head_of ts → r ≡ Some t → head_of ts ≡ Some (token_of t)
-item_there ts r t e h = sym e ∙ ap (option_map token_of) h
-
--- tokens with a first are that and those behind it
-pub first_of : (ts : List Token) (t : Token) → head_of ts ≡ Some t → ts ≡ t ∷ tail_of ts
-first_of [] t e = absurd (none_is_not_some e)
-  where
-    none_is_not_some : None ≡ Some t → ⊥
-    none_is_not_some e = cc
-first_of (u ∷ us) t e = let same : u ≡ t = cc in ap (λ x. x ∷ us) same
-
 -- where no kind comes next no token is left
 pub no_items : (ts : List Token) → head_kind ts ≡ None → ts ≡ []
 no_items [] e = refl
 no_items (t ∷ ts) e = absurd (cc)
-
--- where no token comes next none is left
-pub none_left : (ts : List Token) → head_of ts ≡ None → ts ≡ []
-none_left [] e = refl
-none_left (u ∷ us) e = absurd (some_is_not_none e)
-  where
-    some_is_not_none : Some u ≡ None → ⊥
-    some_is_not_none e = cc
 
 -- one turn of the loop that reads a run
 pub skip_turn : (u : Until) (t : Token) (s s' : State) → head_of (items s.rest) ≡ Some t → is_wanted u t.kind ≡ false → s' ≡ bumped NODE_ERROR s

@@ -1,8 +1,9 @@
 -- Heads by the sorts of their places.
 use Rattle.{std.proofs.Common.{◌≡◌, Bool, true, false, List, [], ◌∷◌, refl, ap, sym, ◌∙◌}, rnix_kinds.specs.declared.kinds.SyntaxKind.SyntaxKind}
 use Rattle.rnix_kinds.specs.declared.kinds.SyntaxKind.TheVariants.{NODE_ROOT, NODE_IDENT, NODE_CUR_POS, NODE_PATTERN, NODE_PAT_ENTRY}
-use Rattle.rnix_grammar.specs.{declared.place.Place.Place, AnnotatedForest.{Token, one_token, leaf_kind_as}, Machine.{Head, Node, Second, Operand, Frame, kind_of, leaf_in}}
-use Rattle.{rnix_grammar.specs.Sorts.{Sort, Root, Pattern, Entry, Again, Loose, Name, sort_of, sort_of_head, sort_of_node, may_hold, StandsOn}, rnix_lemmas.proofs.Basics.true_is_not_false}
+use Rattle.rnix_grammar.specs.{declared.place.Place.Place, AnnotatedForest.{Token, one_token, leaf_kind_as}, Machine.{Head, Node, Second, Operand, Frame}}
+use Rattle.rnix_grammar.specs.{Machine.{kind_of, leaf_in}, Sorts.{Sort, Root, Pattern, Entry, Again, Loose, Name, sort_of, sort_in, sort_of_head, sort_of_node}}
+use Rattle.{rnix_grammar.specs.Sorts.{may_hold, StandsOn}, rnix_lemmas.proofs.{Basics.true_is_not_false, EachIndex.each_index}}
 use Rattle.rnix_grammar.specs.declared.place.Place.TheVariants as p
 
 -- the root's places
@@ -72,8 +73,9 @@ head_sort head place (f ∷ fs) w = w.0
 
 -- no place is that of a name
 pub place_named : (place : Place) → is_name (sort_of place) ≡ false
-place_named p.RootStart = refl
-place_named place = refl
+place_named (p.Left i) = each_index (λ i. is_name (sort_of (p.Left i)) ≡ false) (assumption) (λ i e d. ap (λ ss. is_name (sort_in ss)) d) i
+place_named (p.Behind low high) = refl
+place_named (p.Right level) = refl
 
 leaf_kept : (k j : SyntaxKind) → is_name (sort_of_node k) ≡ false → leaf_kind_as k j ≡ j
 leaf_kept NODE_IDENT j e = cc

@@ -2,11 +2,11 @@
 use Rattle.std.{proofs.Common.{◌≡◌, ℕ, ◌<◌, true, List, [], ◌∷◌, Option, Some, None, drop, refl, ap, sym, ◌∙◌}, specs.{Prelude.MatchOption, Option.option_map}}
 use Rattle.{rnix_kinds.specs.{declared.kinds.SyntaxKind.SyntaxKind, SyntaxKind.is_trivia}, rnix_green.specs.Forest.{Forest, empty, leaf, join, tree_count}}
 use Rattle.rnix_green.{specs.{Draft.{Draft, OpenNode, leaf_added, node_opened, node_closed, wrapped}, ForestCode.join_empty}, proofs.ForestLemmas.join_assoc}
-use Rattle.rnix_grammar.specs.{Fault.Fault, AnnotatedForest.{Token, forget, head_of, leaf_kind}, Layout.{items, from_item, from_item_if, trivia_before}}
-use Rattle.{rnix_grammar.specs.{Layout.{trivia_if, tail_of}, Machine.{leaf_in, end_of}}, rnix_lemmas.proofs.LayoutLemmas.{items_head, items-view}}
-use Rattle.{rnix_lemmas.proofs.LayoutLemmas.{trivia-from_item}, rnix_reader.specs.declared.cursor.PlacedToken.PlacedToken}
-use Rattle.rnix_reader.specs.{declared.mark.Mark.Mark, Placed.{token_of, BeginsWithTrivia}, State.{State, eaten, taken, bumped, started_here, started_at, ended}}
-use Rattle.rnix_reader.{specs.Steps.leafed, proofs.CursorLemmas.before_item}
+use Rattle.rnix_grammar.specs.{Fault.Fault, AnnotatedForest.{Token, forget, head_of, leaf_kind}, Layout.{from_item, from_item_if, trivia_before}}
+use Rattle.{rnix_grammar.specs.{Layout.{trivia_if, tail_of}, Machine.{leaf_in, end_of}}}
+use Rattle.{rnix_lemmas.proofs.LayoutLemmas.trivia-from_item, rnix_reader.specs.{declared.{cursor.PlacedToken.PlacedToken, mark.Mark.Mark}, Placed.token_of}}
+use Rattle.rnix_reader.specs.{Placed.BeginsWithTrivia, State.{State, eaten, taken, bumped, started_here, started_at, ended}, Steps.leafed}
+use Rattle.rnix_reader.proofs.CursorLemmas.{before_item}
 
 -- states with the same parts are one
 pub state_is : {r r' : List Token} {x x' : Forest} {o o' : List OpenNode} {e e' : List Fault} {n n' : ℕ} {m m' : List Mark} → r ≡ r' → x ≡ x' → o ≡ o' → e ≡ e' → n ≡ n' → m ≡ m'
@@ -14,24 +14,25 @@ pub state_is : {r r' : List Token} {x x' : Forest} {o o' : List OpenNode} {e e' 
     ≡ (let z : State = record { rest = r'; trees = x'; open_nodes = o'; faults = e'; reached = n'; marks = m' } in z)
 state_is a b c d e f = cc
 
--- the tokens that are left, by the first of them
-pub first_there : (ts : List Token) (r : Option PlacedToken) (t : PlacedToken) → option_map token_of r ≡ head_of ts → r ≡ Some t → ts ≡ token_of t ∷ tail_of ts
-first_there [] r t e h = absurd (some_is_not_none (sym (ap (option_map token_of) h) ∙ e))
-  where
-    some_is_not_none : Some (token_of t) ≡ None → ⊥
-    some_is_not_none e = cc
-first_there (u ∷ us) r t e h =
-    let same : Some (token_of t) ≡ Some u = sym (ap (option_map token_of) h) ∙ e in
-    let one : u ≡ token_of t = cc in
-    ap (λ x. x ∷ us) one
+-- tokens with a first are that and those behind it
+pub first_of : (ts : List Token) (t : Token) → head_of ts ≡ Some t → ts ≡ t ∷ tail_of ts
+first_of [] t e = absurd (cc)
+first_of (u ∷ us) t e = let same : u ≡ t = cc in ap (λ x. x ∷ us) same
 
 -- where no token comes next none is left
+pub none_left : (ts : List Token) → head_of ts ≡ None → ts ≡ []
+none_left [] e = refl
+none_left (u ∷ us) e = absurd (cc)
+
+-- so it is where the first token is looked up
+pub item_there : (ts : List Token) (r : Option PlacedToken) (t : PlacedToken) → option_map token_of r ≡ head_of ts → r ≡ Some t → head_of ts ≡ Some (token_of t)
+item_there ts r t e h = sym e ∙ ap (option_map token_of) h
+
+pub first_there : (ts : List Token) (r : Option PlacedToken) (t : PlacedToken) → option_map token_of r ≡ head_of ts → r ≡ Some t → ts ≡ token_of t ∷ tail_of ts
+first_there ts r t e h = first_of ts (token_of t) (item_there ts r t e h)
+
 pub none_there : (ts : List Token) (r : Option PlacedToken) → option_map token_of r ≡ head_of ts → r ≡ None → ts ≡ []
-none_there [] r e h = refl
-none_there (u ∷ us) r e h = absurd (none_is_not_some (sym (ap (option_map token_of) h) ∙ e))
-  where
-    none_is_not_some : None ≡ Some u → ⊥
-    none_is_not_some e = cc
+none_there ts r e h = none_left ts (sym e ∙ ap (option_map token_of) h)
 
 -- the token before the next item, if there is one, is trivia
 pub first_trivia : (ts now : List Token) (at next : ℕ) (r : Option PlacedToken) → now ≡ drop at ts → from_item (drop at ts) ≡ drop next ts → at < next
@@ -40,14 +41,6 @@ first_trivia ts now at next None v f n e = let none : now ≡ [] = none_there no
 first_trivia ts now at next (Some t) v f n e =
     let there : now ≡ token_of t ∷ tail_of now = first_there now (Some t) t e refl in
     (there, before_item ts at next (token_of t) (tail_of now) (sym v ∙ there) f n)
-
--- the first item is the first from the first item on
-pub head_items : (ts : List Token) → head_of (from_item ts) ≡ head_of (items ts)
-head_items ts = by (from_item ts) ∙ sym (ap head_of (items-view ts))
-  where
-    by : (xs : List Token) → head_of xs ≡ head_of (items_head xs)
-    by [] = refl
-    by (x ∷ xs) = refl
 
 -- where no trivia come first, nothing is eaten
 pub eaten-settled : (s : State) → from_item s.rest ≡ s.rest → eaten s ≡ s

@@ -1,4 +1,5 @@
 -- Each step of the reader is the machine's.
+use Rattle.rnix_grammar.specs.declared.position.TheConstants.{APPLIED, PAT_ENTRY, SECOND}
 use Rattle.std.proofs.{Common.{◌≡◌, ◌≤◌, ◌<◌, nat_le, length, arith, ℕ, true, false, List, [], ◌∷◌, refl, ap, ◌∙◌, subst}, lemmas.Bool.le-leb}
 use Rattle.rnix_kinds.specs.declared.kinds.SyntaxKind.{SyntaxKind, TheVariants.{NODE_ERROR, NODE_ROOT, NODE_IDENT, NODE_PAT_ENTRY, NODE_APPLY}}
 use Rattle.rnix_green.{specs.{Forest.tree_count, Draft.{OpenNode, is_inside}, ForestCode.join_empty}, proofs.ForestLemmas.tree_count-join}
@@ -91,35 +92,35 @@ module _ (f : Frame) (fs : List Frame) (ts : List Token) (n : ℕ) (es : List Fa
       let run : List Token = items ts in
       d ∙ ap (λ x. failed (report Extra x) (error_over End (flat (machine (f ∷ fs) ts n es)))) (run_all run) ∙ ap (failed (report Extra run)) (flat-over _ Extra End run f fs ts n es (run_all run))
   performs (a.Take after) s' names' k al g d =
-      d ∙ flat-bumped _ NODE_ROOT (put after f.row f) fs ts n es
-      ∙ ap (λ x. flat (machine (put after (ate true f.row ts ⊕ x) f ∷ fs) (behind true ts) (reach true n ts) es))
+      d ∙ flat-bumped _ NODE_ROOT (put (p.Left after) f.row f) fs ts n es
+      ∙ ap (λ x. flat (machine (put (p.Left after) (ate true f.row ts ⊕ x) f ∷ fs) (behind true ts) (reach true n ts) es))
       (own_leaf f.head (from_item ts) (ap is_name sort ∙ place_named f.place))
   performs (a.Miss after) s' names' k al g d = d
   performs (a.MissWanted until after) s' names' k al g d = d
   performs (a.Run until after) s' names' k al g d =
       let run : List Token = run_of until (items ts) in
-      d ∙ ap (failed (report (Unwanted until) run)) (flat-over _ (Unwanted until) until run (put after f.row f) fs ts n es refl)
-  performs (a.Leaf j after) s' names' k al g d = d ∙ flat-leafed _ j (put after f.row f) fs ts n es
+      d ∙ ap (failed (report (Unwanted until) run)) (flat-over _ (Unwanted until) until run (put (p.Left after) f.row f) fs ts n es refl)
+  performs (a.Leaf j after) s' names' k al g d = d ∙ flat-leafed _ j (put (p.Left after) f.row f) fs ts n es
   performs (a.Open j inside after) s' names' k al g d =
-      d ∙ ap (bumped j) (opens j inside after) ∙ flat-next _ j (opened (Node j) inside f.depth blank) (put after (ate true f.row ts) f ∷ fs) ts n es
-  performs (a.Begin j inside after) s' names' k al g d = d ∙ opens j inside after
+      d ∙ ap (bumped j) (opens j (p.Left inside) (p.Left after)) ∙ flat-next _ j (opened (Node j) (p.Left inside) f.depth blank) (put (p.Left after) (ate true f.row ts) f ∷ fs) ts n es
+  performs (a.Begin j inside after) s' names' k al g d = d ∙ opens j (p.Left inside) (p.Left after)
   performs (a.Entry after) s' names' k al g d =
-      d ∙ ap (leafed NODE_IDENT) (opens NODE_PAT_ENTRY p.EntryMore after)
-      ∙ flat-first _ NODE_IDENT (opened (Node NODE_PAT_ENTRY) p.EntryMore f.depth blank) (put after (ate true f.row ts) f ∷ fs) ts n es
+      d ∙ ap (leafed NODE_IDENT) (opens NODE_PAT_ENTRY (p.Left PAT_ENTRY) (p.Left after))
+      ∙ flat-first _ NODE_IDENT (opened (Node NODE_PAT_ENTRY) (p.Left PAT_ENTRY) f.depth blank) (put (p.Left after) (ate true f.row ts) f ∷ fs) ts n es
   performs (a.Twice after) s' names' k al g d =
-      d ∙ ap (bumped NODE_ERROR) (opens NODE_ERROR p.TwiceName after) ∙ flat-next _ NODE_ERROR (opened Second p.TwiceName f.depth blank) (put after (ate true f.row ts) f ∷ fs) ts n es
-  performs (a.Read level counted after) s' names' k al g d = d ∙ expression_is (put after f.row f) fs ts n es level counted
+      d ∙ ap (bumped NODE_ERROR) (opens NODE_ERROR (p.Left SECOND) (p.Left after)) ∙ flat-next _ NODE_ERROR (opened Second (p.Left SECOND) f.depth blank) (put (p.Left after) (ate true f.row ts) f ∷ fs) ts n es
+  performs (a.Read level counted after) s' names' k al g d = d ∙ expression_is (put (p.Left after) f.row f) fs ts n es level counted
   performs (a.Wrap j inside high) s' names' k al g d =
       let over : Place = p.Behind (low_of f.place) high in
       d ∙ ap (bumped j) (wraps j inside over al.1) ∙ flat-bumped _ j (opened (Node j) inside f.depth f.row) (opened Operand over f.depth blank ∷ fs) ts n es
   performs a.Apply s' names' k al g d =
       let over : Place = p.Behind (low_of f.place) 15 in
-      d ∙ ap (expression_read 16 false f.depth) (wraps NODE_APPLY p.Past over al.1)
-      ∙ expression_is (opened (Node NODE_APPLY) p.Past f.depth f.row) (opened Operand over f.depth blank ∷ fs) ts n es 16 false
+      d ∙ ap (expression_read 16 false f.depth) (wraps NODE_APPLY (p.Left APPLIED) over al.1)
+      ∙ expression_is (opened (Node NODE_APPLY) (p.Left APPLIED) f.depth f.row) (opened Operand over f.depth blank ∷ fs) ts n es 16 false
   performs a.ApplyOr s' names' k al g d =
       let over : Place = p.Behind (low_of f.place) 15 in
       let row : AnnotatedForest = ate true f.row ts ⊕ one_branch NODE_IDENT (leaf true NODE_IDENT ts) in
       let gs : List Frame = opened Operand over f.depth blank ∷ fs in
-      d ∙ ap (λ x. ended (leafed NODE_IDENT x)) (flat-wrapped _ NODE_APPLY p.Past over f fs ts n es (head_loose f.head (sort ∙ al.1)))
-      ∙ ap ended (flat-leafed _ NODE_IDENT (opened (Node NODE_APPLY) p.Past f.depth f.row) gs ts n es)
-      ∙ flat-closed _ (Node NODE_APPLY) p.Past f.depth row (opened Operand over f.depth blank) fs (behind true ts) (reach true n ts) es refl
+      d ∙ ap (λ x. ended (leafed NODE_IDENT x)) (flat-wrapped _ NODE_APPLY (p.Left APPLIED) over f fs ts n es (head_loose f.head (sort ∙ al.1)))
+      ∙ ap ended (flat-leafed _ NODE_IDENT (opened (Node NODE_APPLY) (p.Left APPLIED) f.depth f.row) gs ts n es)
+      ∙ flat-closed _ (Node NODE_APPLY) (p.Left APPLIED) f.depth row (opened Operand over f.depth blank) fs (behind true ts) (reach true n ts) es refl

@@ -1,8 +1,10 @@
 -- What the reader holds at each step of the machine.
+use Rattle.rnix_grammar.specs.declared.position.TheConstants.{ROOT}
 use Rattle.std.specs.Prelude.{◌≡◌, ◌≤◌, ◌+◌, ◌*◌, ℕ, true, List, [], ◌∷◌, ◌++◌, Option, Some, None, length}
 use Rattle.rnix_kinds.specs.declared.kinds.SyntaxKind.TheVariants.{NODE_ROOT, NODE_PATTERN, NODE_PAT_ENTRY}
 use Rattle.rnix_green.specs.Forest.{empty, node}
 use Rattle.rnix_green.specs.Range.{Extent}
+use Rattle.rnix_grammar.specs.declared.place.Place.{Place}
 use Rattle.rnix_grammar.specs.declared.place.Place.TheVariants as p
 use Rattle.rnix_grammar.specs.AnnotatedForest.{Token, AnnotatedForest, tokens_in, without_trivia, forget, extent_of}
 use Rattle.rnix_grammar.specs.Layout.{items}
@@ -103,7 +105,7 @@ pub record IsThrough (from : Machine) : Type 0 where
   pub root : Frame
   pub alone : last.frames ≡ root ∷ []
   pub head : root.head ≡ Node NODE_ROOT
-  pub place : root.place ≡ p.RootEnd
+  pub place : root.place ≡ p.Left (ROOT + 1)
   pub nothing : items last.left ≡ []
 
 -- a whole text is read
@@ -113,18 +115,30 @@ pub record IsReadTo (ts : List Token) (s : State) : Type 0 where
   pub nodes : s.open_nodes ≡ []
   pub faults : s.faults ≡ through.last.faults
 
--- the weights of all that is open
-abbrev pub weights : List Mark → ℕ
+-- the places of what is open, the innermost first
+abbrev pub places_on : List Mark → List Place
+places_on [] = []
+places_on (m ∷ ms) = places_on ms ++ m.place ∷ []
+
+-- their weights
+abbrev pub weights : List Place → ℕ
 weights [] = 0
-weights (m ∷ ms) = weight m.place + weights ms
+weights (x ∷ xs) = weight x + weights xs
 
 -- what is added where a node may begin without an item
-abbrev pub bonus_on : List Token → List Mark → ℕ
-bonus_on [] ms = 0
-bonus_on (t ∷ ts) [] = 0
-bonus_on (t ∷ ts) (m ∷ []) = bonus m.place
-bonus_on (t ∷ ts) (m ∷ ms) = bonus_on (t ∷ ts) ms
+abbrev pub bonus_at : List Token → Place → ℕ
+bonus_at [] x = 0
+bonus_at (t ∷ ts) x = bonus x
+
+-- so it is at the innermost place
+abbrev pub bonus_on : List Token → List Place → ℕ
+bonus_on ts [] = 0
+bonus_on ts (x ∷ xs) = bonus_at ts x
+
+-- how much there is to do with some items at some places
+abbrev pub cost : List Token → List Place → ℕ
+cost ts xs = 100 * length ts + weights xs + bonus_on ts xs
 
 -- how much there is still to do
 abbrev pub work : State → ℕ
-work s = 100 * length (items_left s) + weights s.marks + bonus_on (items_left s) s.marks
+work s = cost (items_left s) (places_on s.marks)

@@ -1,4 +1,5 @@
 -- What the reader's steps make of what it holds.
+use Rattle.rnix_grammar.specs.declared.position.TheConstants.{APPLIED, BOUND_PATTERN, LEGACY_LET, PATTERN}
 use Rattle.std.specs.Prelude.{◌≡◌, ◌≤◌, ◌<◌, ◌+◌, ℕ, Bool, true, false, List, [], ◌∷◌, Option, Some, None, length, ◌&&◌, nat_le, IsTrue, if◌then◌else◌}
 use Rattle.rnix_kinds.specs.declared.kinds.SyntaxKind.TheVariants.{NODE_APPLY, NODE_LEGACY_LET, NODE_PATTERN, NODE_ROOT}
 use Rattle.rnix_green.specs.Draft.{is_checkpoint_of}
@@ -26,11 +27,11 @@ use Rattle.rnix_reader.specs.Reported.{unwanted_reported, extra_reported, stray_
 -- an operand of a level begins with this token, inside so many counted places
 abbrev pub begun_as : Begin → ℕ → ℕ → Token → State → State
 begun_as (b.Leaf k) level d t s = leafed k (operand_begun (p.Behind level selection_level) d s)
-begun_as (b.Node k place high) level d t s = node_operand_begun k place (p.Behind level high) d s
-begun_as b.LegacyLet level d t s = bumped NODE_LEGACY_LET (node_operand_begun NODE_LEGACY_LET p.LegacyInside (p.Behind level no_level) d s)
+begun_as (b.Node k left high) level d t s = node_operand_begun k (p.Left left) (p.Behind level high) d s
+begun_as b.LegacyLet level d t s = bumped NODE_LEGACY_LET (node_operand_begun NODE_LEGACY_LET (p.Left LEGACY_LET) (p.Behind level no_level) d s)
 begun_as b.NameLambda level d t s = parameter_read (lambda_begun (p.Behind level selection_level) d s)
-begun_as b.BoundLambda level d t s = binding_read (noded NODE_PATTERN p.PatternBrace d (lambda_begun (p.Behind level selection_level) d s))
-begun_as b.PatternLambda level d t s = node_begun NODE_PATTERN (p.PatternStart false) d (lambda_begun (p.Behind level selection_level) d s)
+begun_as b.BoundLambda level d t s = binding_read (noded NODE_PATTERN (p.Left BOUND_PATTERN) d (lambda_begun (p.Behind level selection_level) d s))
+begun_as b.PatternLambda level d t s = node_begun NODE_PATTERN (p.Left PATTERN) d (lambda_begun (p.Behind level selection_level) d s)
 begun_as b.Stray level d t s = stray_reported t (operand_begun (p.Behind level selection_level) d s)
 
 -- an operand of a level is read, by the next item and those behind it
@@ -56,19 +57,19 @@ performed a.CloseTwice m second s = second_reported second s
 performed a.Finish m second s = s
 performed a.Settle m second s = s
 performed a.Extra m second s = extra_reported (moved m.place m s)
-performed (a.Take after) m second s = bumped NODE_ROOT (moved after m s)
-performed (a.Miss after) m second s = failed ended_fault (moved after m s)
-performed (a.MissWanted until after) m second s = end_reported until (moved after m s)
-performed (a.Run until after) m second s = unwanted_reported until (moved after m s)
-performed (a.Leaf k after) m second s = leafed k (moved after m s)
-performed (a.Open k inside after) m second s = node_begun k inside m.depth (moved after m s)
-performed (a.Begin k inside after) m second s = noded k inside m.depth (moved after m s)
-performed (a.Entry after) m second s = entry_begun after m s
-performed (a.Twice after) m second s = second_begun after m s
-performed (a.Read level counted after) m second s = expression_read level counted m.depth (moved after m s)
+performed (a.Take after) m second s = bumped NODE_ROOT (moved (p.Left after) m s)
+performed (a.Miss after) m second s = failed ended_fault (moved (p.Left after) m s)
+performed (a.MissWanted until after) m second s = end_reported until (moved (p.Left after) m s)
+performed (a.Run until after) m second s = unwanted_reported until (moved (p.Left after) m s)
+performed (a.Leaf k after) m second s = leafed k (moved (p.Left after) m s)
+performed (a.Open k inside after) m second s = node_begun k (p.Left inside) m.depth (moved (p.Left after) m s)
+performed (a.Begin k inside after) m second s = noded k (p.Left inside) m.depth (moved (p.Left after) m s)
+performed (a.Entry after) m second s = entry_begun (p.Left after) m s
+performed (a.Twice after) m second s = second_begun (p.Left after) m s
+performed (a.Read level counted after) m second s = expression_read level counted m.depth (moved (p.Left after) m s)
 performed (a.Wrap k inside high) m second s = bumped k (node_wrapped k inside (p.Behind (low_of m.place) high) m s)
 performed a.Apply m second s =
-    expression_read selection_level false m.depth (node_wrapped NODE_APPLY p.Past (p.Behind (low_of m.place) application_level) m s)
+    expression_read selection_level false m.depth (node_wrapped NODE_APPLY (p.Left APPLIED) (p.Behind (low_of m.place) application_level) m s)
 performed a.ApplyOr m second s = or_applied (p.Behind (low_of m.place) application_level) m s
 
 -- an error is told, if there is one
@@ -108,7 +109,7 @@ IsReady a.CloseEntry m s n = 0 < length s.open_nodes
 IsReady a.CloseTwice m s n = (0 < length s.open_nodes) × (n.second ≤ s.reached)
 IsReady a.Finish m s n = 0 < length s.open_nodes
 IsReady a.Extra m s n = is_there (head_kind (items_left (moved m.place m s))) ≡ true
-IsReady (a.Run until after) m s n = stops until (head_kind (items_left (moved after m s))) ≡ false
+IsReady (a.Run until after) m s n = stops until (head_kind (items_left (moved (p.Left after) m s))) ≡ false
 IsReady (a.Wrap k inside high) m s n = IsCheckpoint m s
 IsReady a.Apply m s n = IsCheckpoint m s
 IsReady a.ApplyOr m s n = IsCheckpoint m s
@@ -146,7 +147,7 @@ NamesAfter a.ClosePattern m s n n' = PatternClosed n n'
 NamesAfter a.CloseEntry m s n n' = (again : Option Fault) × EntryClosed again n n'
 NamesAfter (a.Entry after) m s n n' = (t : Token) → IsNextItem t s → EntryNamed t n n'
 NamesAfter (a.Twice after) m s n n' = (t : Token) → IsNextItem t s → TwiceOpened t.start n n'
-NamesAfter (a.Read level counted after) m s n n' = NamesFor (opens_in m.depth counted level (moved after m s)) n n'
+NamesAfter (a.Read level counted after) m s n n' = NamesFor (opens_in m.depth counted level (moved (p.Left after) m s)) n n'
 NamesAfter a.Apply m s n n' =
-    NamesFor (opens_in m.depth false selection_level (node_wrapped NODE_APPLY p.Past (p.Behind (low_of m.place) application_level) m s)) n n'
+    NamesFor (opens_in m.depth false selection_level (node_wrapped NODE_APPLY (p.Left APPLIED) (p.Behind (low_of m.place) application_level) m s)) n n'
 NamesAfter action m s n n' = n' ≡ n

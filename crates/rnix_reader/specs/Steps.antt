@@ -1,11 +1,12 @@
 -- What the steps make of what is open.
+use Rattle.rnix_grammar.specs.declared.position.TheConstants.{LAMBDA, PAT_ENTRY, SECOND}
 use Rattle.std.specs.Prelude.{ℕ, Bool, true, false, List}
 use Rattle.rnix_kinds.specs.declared.kinds.SyntaxKind.{SyntaxKind}
 use Rattle.rnix_kinds.specs.declared.kinds.SyntaxKind.TheVariants.{TOKEN_IDENT, TOKEN_L_BRACE, TOKEN_LET, NODE_APPLY, NODE_ERROR, NODE_IDENT, NODE_IDENT_PARAM, NODE_LAMBDA, NODE_PAT_BIND, NODE_PAT_ENTRY}
 use Rattle.rnix_green.specs.Forest.{tree_count}
 use Rattle.rnix_grammar.specs.declared.begin.Begin.{Begin}
 use Rattle.rnix_grammar.specs.declared.place.Place.{Place}
-use Rattle.rnix_grammar.specs.declared.place.Place.TheVariants.{EntryMore, LambdaColon, TwiceName}
+use Rattle.rnix_grammar.specs.declared.place.Place.TheVariants.{Left}
 use Rattle.rnix_grammar.specs.Begins.{begin_of, second_kind}
 use Rattle.rnix_grammar.specs.AnnotatedForest.{Token, head_kind}
 use Rattle.rnix_reader.specs.declared.mark.Mark.{Mark}
@@ -34,11 +35,11 @@ leafed k s = ended (taken k (started k s))
 
 -- an entry of a pattern is open, with its name
 abbrev pub entry_begun : Place → Mark → State → State
-entry_begun after m s = leafed NODE_IDENT (noded NODE_PAT_ENTRY EntryMore m.depth (moved after m s))
+entry_begun after m s = leafed NODE_IDENT (noded NODE_PAT_ENTRY (Left PAT_ENTRY) m.depth (moved after m s))
 
 -- the second name of a pattern is open, with its first token
 abbrev pub second_begun : Place → Mark → State → State
-second_begun after m s = node_begun NODE_ERROR TwiceName m.depth (moved after m s)
+second_begun after m s = node_begun NODE_ERROR (Left SECOND) m.depth (moved after m s)
 
 -- a node is open from where the operand before it begins; the operand goes on behind the node
 abbrev pub node_wrapped : SyntaxKind → Place → Place → Mark → State → State
@@ -70,7 +71,7 @@ node_operand_begun k inside over d s = node_begun k inside d (operand_begun over
 
 -- an operand begins that is a function, before its parameter
 abbrev pub lambda_begun : Place → ℕ → State → State
-lambda_begun over d s = noded NODE_LAMBDA LambdaColon d (operand_begun over d s)
+lambda_begun over d s = noded NODE_LAMBDA (Left LAMBDA) d (operand_begun over d s)
 
 -- how an operand of a level begins with an item, by the items behind it
 abbrev pub begins_with : ℕ → Token → List Token → Begin

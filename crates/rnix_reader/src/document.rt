@@ -8,7 +8,7 @@ use crate::cursor::Cursor;
 use crate::names::Names;
 use crate::parser::Parser;
 use crate::reading::read_all;
-use rnix_grammar::{ParseError, Place};
+use rnix_grammar::{ParseError, Place, ROOT};
 use rnix_green::{GreenNode, TextBuilder};
 use rnix_kinds::{SyntaxKind, Tokenizer};
 use std::alloc::{AllocError, Global};
@@ -38,7 +38,7 @@ pub fn read_tokens(
     let mut names = Names::new(alloc);
     let at = p.here();
     p.builder.start_node(SyntaxKind::NODE_ROOT)?;
-    p.mark(Place::RootStart, 0, at)?;
+    p.mark(Place::Left(ROOT), 0, at)?;
     p.ordered();
     read_all(&mut p, &mut names)?;
     let Parser {

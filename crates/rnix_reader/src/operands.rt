@@ -10,7 +10,7 @@ ghost use Rattle.rnix_reader.specs.Steps.{operand_begun, looks_behind, is_brace,
 
 use crate::cursor::PlacedToken;
 use crate::parser::Parser;
-use rnix_grammar::{Begin, Place, begin_of};
+use rnix_grammar::{Begin, LAMBDA, Place, begin_of};
 use rnix_kinds::SyntaxKind;
 use std::alloc::AllocError;
 
@@ -125,7 +125,7 @@ impl<'t> Parser<'t> {
         ensures { OnOk result (state self.new ≡ lambda_begun over depth (state self.old)) }
     {
         self.open_operand(over, depth)?;
-        self.open_node(SyntaxKind::NODE_LAMBDA, Place::LambdaColon, depth)?;
+        self.open_node(SyntaxKind::NODE_LAMBDA, Place::Left(LAMBDA), depth)?;
         Ok(())
     }
 }

@@ -34,7 +34,7 @@ impl<'t> Parser<'t> {
     ghost use Rattle.rnix_reader.specs.Flat.{mark_at};
 
     /// The next token that is not trivia.
-    #[tactic(auto, using(crate::proofs::StateLemmas::head_items))]
+    #[tactic(auto, using(crate::proofs::CursorLemmas::head_items))]
     #[inline(always)]
     pub(crate) fn item(&self) -> Option<PlacedToken<'t>>
         ensures { option_map token_of result ≡ head_of (items_left (state self.now)) }

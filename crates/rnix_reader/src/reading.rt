@@ -2,7 +2,7 @@
 
 ghost use Rattle.std.specs.Prelude.{◌≡◌, ◌≤◌, ◌<◌, [], Bool, List, Option, length, OnOk, true};
 ghost use Rattle.rnix_kinds.specs.declared.kinds.SyntaxKind.{SyntaxKind};
-ghost use Rattle.rnix_grammar.specs.declared.action.Action.TheVariants.{Close, Settle};
+ghost use Rattle.rnix_grammar.specs.declared.action.Action.TheVariants.{Settle};
 ghost use Rattle.rnix_grammar.specs.declared.begin.Begin.TheVariants.{Leaf};
 ghost use Rattle.rnix_grammar.specs.Actions.{action_at};
 ghost use Rattle.rnix_grammar.specs.AnnotatedForest.{Token};
@@ -21,8 +21,9 @@ use crate::mark::Mark;
 use crate::names::Names;
 use crate::parser::Parser;
 use rnix_grammar::{
-    APPLICATION_LEVEL, Action, Begin, EXPRESSION_LEVEL, NO_LEVEL, ParseError, Place,
-    SELECTION_LEVEL, Until, action_at, goes_on,
+    APPLICATION_LEVEL, APPLIED, Action, BOUND_PATTERN, Begin, EXPRESSION_LEVEL, LEGACY_LET,
+    NO_LEVEL, PATTERN, ParseError, Place, SECOND, SELECTION_LEVEL, Until, action_at, goes_on,
+    is_past,
 };
 use rnix_green::TextRange;
 use rnix_kinds::SyntaxKind;
@@ -64,13 +65,13 @@ fn begin<'t>(
     match how {
         Begin::Leaf(kind) => begin_leaf(p, kind, level, depth, first)?,
         Begin::Node(kind, place, high) => {
-            p.node_operand(kind, place, Place::Behind(level, high), depth)?;
+            p.node_operand(kind, Place::Left(place), Place::Behind(level, high), depth)?;
         }
         Begin::LegacyLet => {
             let kind = SyntaxKind::NODE_LEGACY_LET;
             p.node_operand(
                 kind,
-                Place::LegacyInside,
+                Place::Left(LEGACY_LET),
                 Place::Behind(level, NO_LEVEL),
                 depth,
             )?;
@@ -82,13 +83,13 @@ fn begin<'t>(
         }
         Begin::BoundLambda => {
             p.lambda(over, depth)?;
-            p.open_node(SyntaxKind::NODE_PATTERN, Place::PatternBrace, depth)?;
+            p.open_node(SyntaxKind::NODE_PATTERN, Place::Left(BOUND_PATTERN), depth)?;
             p.binding()?;
             names.open_pattern()?;
         }
         Begin::PatternLambda => {
             p.lambda(over, depth)?;
-            p.open_node(SyntaxKind::NODE_PATTERN, Place::PatternStart(false), depth)?;
+            p.open_node(SyntaxKind::NODE_PATTERN, Place::Left(PATTERN), depth)?;
             p.bump(SyntaxKind::NODE_PATTERN)?;
             names.open_pattern()?;
         }
@@ -199,7 +200,7 @@ fn open_twice<'t>(
     if let Some(first) = p.item() {
         names.second = first.start;
     }
-    p.open(mark, SyntaxKind::NODE_ERROR, Place::TwiceName, after)?;
+    p.open(mark, SyntaxKind::NODE_ERROR, Place::Left(SECOND), after)?;
     Ok(())
 }
 
@@ -240,21 +241,31 @@ fn step<'t>(
             p.go_on(mark, mark.place)?;
             p.extra()?;
         }
-        Action::Take(after) => p.take(mark, after)?,
-        Action::Miss(after) => p.miss(mark, after)?,
-        Action::MissWanted(until, after) => p.miss_wanted(mark, until, after)?,
+        Action::Take(after) => p.take(mark, Place::Left(after))?,
+        Action::Miss(after) => p.miss(mark, Place::Left(after))?,
+        Action::MissWanted(until, after) => p.miss_wanted(mark, until, Place::Left(after))?,
         Action::Run(until, after) => {
-            p.go_on(mark, after)?;
+            p.go_on(mark, Place::Left(after))?;
             p.unwanted(until)?;
         }
-        Action::Leaf(kind, after) => p.leaf(mark, kind, after)?,
-        Action::Open(kind, inside, after) => p.open(mark, kind, inside, after)?,
-        Action::Begin(kind, inside, after) => p.begin(mark, kind, inside, after)?,
-        Action::Entry(after) => open_entry(p, names, mark, after)?,
-        Action::Twice(after) => open_twice(p, names, mark, after)?,
+        Action::Leaf(kind, after) => p.leaf(mark, kind, Place::Left(after))?,
+        Action::Open(kind, inside, after) => p.open(
+            mark,
+            kind,
+            Place::Left(inside),
+            Place::Left(after),
+        )?,
+        Action::Begin(kind, inside, after) => p.begin(
+            mark,
+            kind,
+            Place::Left(inside),
+            Place::Left(after),
+        )?,
+        Action::Entry(after) => open_entry(p, names, mark, Place::Left(after))?,
+        Action::Twice(after) => open_twice(p, names, mark, Place::Left(after))?,
         Action::Read(level, counted, after) => {
             let depth = mark.depth;
-            p.go_on(mark, after)?;
+            p.go_on(mark, Place::Left(after))?;
             read(p, names, level, counted, depth)?;
         }
         Action::Wrap(kind, inside, high) => {
@@ -267,21 +278,13 @@ fn step<'t>(
                 mark,
                 Place::Behind(low, APPLICATION_LEVEL),
                 SyntaxKind::NODE_APPLY,
-                Place::Past,
+                Place::Left(APPLIED),
             )?;
             read(p, names, SELECTION_LEVEL, false, depth)?;
         }
         Action::ApplyOr => p.apply_or(mark, Place::Behind(low, APPLICATION_LEVEL))?,
     }
     Ok(())
-}
-
-// Whether the row is complete at the place.
-#[inline(always)]
-fn is_past(place: Place) -> bool
-    ensures { (next : Option SyntaxKind) (touches : Bool) → result ≡ true → action_at place next touches ≡ Close }
-{
-    matches!(place, Place::Past | Place::Operated(_))
 }
 
 // Whether the place is behind an operand, and nothing goes on with it.

@@ -11,7 +11,7 @@ ghost use Rattle.rnix_reader.specs.Reported.{end_reported};
 use crate::cursor::PlacedToken;
 use crate::mark::Mark;
 use crate::parser::Parser;
-use rnix_grammar::{ParseError, Place, Until};
+use rnix_grammar::{PAT_ENTRY, ParseError, Place, Until};
 use rnix_kinds::SyntaxKind;
 use std::alloc::AllocError;
 
@@ -137,7 +137,12 @@ impl<'t> Parser<'t> {
     pub(crate) fn entry(&mut self, mark: Mark, after: Place) -> Result<(), AllocError>
         ensures { OnOk result (state self.new ≡ entry_begun after mark (state self.old)) }
     {
-        self.begin(mark, SyntaxKind::NODE_PAT_ENTRY, Place::EntryMore, after)?;
+        self.begin(
+            mark,
+            SyntaxKind::NODE_PAT_ENTRY,
+            Place::Left(PAT_ENTRY),
+            after,
+        )?;
         self.leaf_node(SyntaxKind::NODE_IDENT)?;
         Ok(())
     }

@@ -1,105 +1,172 @@
--- Which rows have items: each that begins at no place. Where no item is left, no node but error nodes is read, if no attribute path may be.
-use Rattle.rnix_lemmas.proofs.RunLemmas.{some_left}
-use Rattle.std.proofs.Common.{◌≡◌, ℕ, Bool, true, false, List, [], ◌∷◌, ◌++◌, Option, Some, None, refl, ap, sym, ◌∙◌, subst, arith, if◌then◌else◌, ◌&&◌}
-use Rattle.{rnix_kinds.{specs.declared.kinds.SyntaxKind.{SyntaxKind, TheVariants.NODE_LITERAL}, proofs.AllKinds.{all_kinds, implied}}, rnix_lemmas.proofs.EachKind.{Each, each_kind}}
-use Rattle.rnix_grammar.specs.{declared.place.Place.Place, Fault.Fault, Symbols.{symbol_at, level_in}}
-use Rattle.rnix_grammar.specs.{AnnotatedForest.{Token, Note, Stray, Unwanted, Extra, Twice, TooDeep, AnnotatedForest}}
-use Rattle.rnix_grammar.specs.AnnotatedForest.{blank, token, branch, fault, one_branch, is_some, row_of, tokens_in}
-use Rattle.rnix_grammar.specs.{Missing.missing, Rows.{RowState, Start, At, advance, first, live, start, whole, counts}}
-use Rattle.rnix_grammar.specs.{ExpectedItems.{expects_end, stands_expected_in, stands_expected, IsExpected}, Operands.{IsBegun, IsOperand, level_at}}
-use Rattle.rnix_grammar.specs.PlaceReads.{Reads, end, leaf, missing_part, wrong, second, inner, IsWrong}
-use Rattle.rnix_lemmas.proofs.{Basics.{true_is_not_false, not_if, not_nil, none_left, none_right, Where, where_one}, EveryKind.whenever_two, EntryNames.both_true}
-use Rattle.rnix_lemmas.proofs.{OpeningRows.{is_place, unplaced}, AnnotatedForestLemmas.tokens_in-row_of}
-use Rattle.rnix_rows.proofs.BegunTrees.{is_free, is_same, same_true}
-use Rattle.rnix_grammar.specs.declared.place.Place.TheVariants as p
+-- Which rows have items: each that begins with a child that is there whenever its node is. Where no item is left, no node but error nodes is read,
+-- if no attribute path may be.
+use Rattle.std.{specs.List.list_all, proofs.Common.{◌≡◌, ℕ, Bool, true, false, List, [], ◌∷◌, ◌++◌, Option, Some, None, refl, ap, sym, ◌∙◌, subst, arith}}
+use Rattle.std.proofs.{Common.{if◌then◌else◌, ◌&&◌}, lemmas.Bool.{and_from}}
+use Rattle.rnix_kinds.{specs.declared.kinds.SyntaxKind.{SyntaxKind, TheVariants.NODE_LITERAL}, proofs.AllKinds.{all_kinds, implied}}
+use Rattle.rnix_grammar.specs.{Fault.Fault, declared.rules.Part.TheVariants.{Child, Atom, First, Suffix, Binary, Argument, Attrpath, BoundAlready}}
+use Rattle.rnix_grammar.specs.AnnotatedForest.{Token, Note, Stray, Unwanted, Extra, Twice, TooDeep, AnnotatedForest, blank, token, branch, fault, one_branch}
+use Rattle.rnix_grammar.specs.{AnnotatedForest.{is_some, row_of, tokens_in}, Beginnings.{BeginsAs, IsOperandOf}}
+use Rattle.rnix_grammar.specs.{Reads.{Reads, end, leaf, missing_part, wrong, second, inner, IsWrong}}
+use Rattle.rnix_grammar.specs.Rules.{Row, never, done, ◌·◌, ◌/◌, row, after, may_end, missing, expects_end, IsExpected, stands_expected, level_at, counts}
+use Rattle.rnix_lemmas.proofs.{Basics.{true_is_not_false, not_nil, none_left, none_right}, AnnotatedForestLemmas.tokens_in-row_of, RunLemmas.some_left}
+use Rattle.rnix_lemmas.proofs.{KnownRows.{IsKnown, is_live, every_known, known_row, known_missing, known_past, known_wrong}}
+use Rattle.rnix_lemmas.proofs.{LiveRows.{end_live, reads_live}}
 
--- the row of a node that stands at no place begins at none
-pub unplaced_start : (q : RowState) (k : SyntaxKind) → is_place q ≡ false → live (advance q k) ≡ true → is_place (start k) ≡ false
-unplaced_start (Start n) k h l =
-    not_if (is_place (start k)) (whenever_two (λ n k. live (first n k)) (λ n k. if is_place (start k) then false else true) refl n k l)
-unplaced_start (At x) k h l = absurd (true_is_not_false h)
-unplaced_start q k h l = not_if (is_place (start k)) (implied (λ k. live (advance q k)) (λ k. if is_place (start k) then false else true) refl k l)
+-- a row begins with a child that is there whenever its node is, or there is none
+abbrev pub begins_with_child : Row → Bool
+begins_with_child never = true
+begins_with_child (Child kind · r) = true
+begins_with_child (Atom · r) = true
+begins_with_child (First n · r) = true
+begins_with_child (Suffix kind · r) = true
+begins_with_child (Binary · r) = true
+begins_with_child (Argument · r) = true
+begins_with_child (r / s) = true
+begins_with_child r = false
+
+-- so it does not end there, and nothing is missing there
+child_whole : (q : Row) → begins_with_child q ≡ true → may_end q ≡ false
+child_whole (Atom · r) h = refl
+child_whole _ h = cc
+
+child_counts : (q : Row) → begins_with_child q ≡ true → counts q ≡ false
+child_counts (Atom · r) h = refl
+child_counts _ h = cc
+
+child_lost : (q r : Row) (e : Fault) → begins_with_child q ≡ true → missing q ≡ Some (e, r) → ⊥
+child_lost (Atom · q) r e h m = absurd (cc)
+child_lost _ r e h m = absurd (cc)
+
+-- a test of the nodes that may stand at a row
+abbrev leads : (SyntaxKind → Bool) → Row → Bool
+leads test r = list_all (λ k. if test k && is_live (after r k) then begins_with_child (row k) else true) all_kinds
+
+leads_on : (test : SyntaxKind → Bool) (r : Row) (k : SyntaxKind) → leads test r ≡ true → test k ≡ true → is_live (after r k) ≡ true
+    → begins_with_child (row k) ≡ true
+leads_on test r k h t l = implied (λ k. test k && is_live (after r k)) (λ k. begins_with_child (row k)) h k (and_from _ _ t l)
+
+-- the row of a node that stands there begins so
+child_node : {i : SyntaxKind} (q : Row) (k : SyntaxKind) → IsKnown i q → begins_with_child q ≡ true → is_live (after q k) ≡ true
+    → begins_with_child (row k) ≡ true
+child_node {i} q k n h l =
+    leads_on (λ k. begins_with_child q) q k (every_known (λ i q. leads (λ k. begins_with_child q) q) (λ i. refl) refl i q n) h l
 
 -- an error node there has items
-wrong_some : (note : Note) (d : ℕ) (q r : RowState) (ts vs : List Token) → is_place q ≡ false → IsWrong note d q r ts vs → is_some ts ≡ true
+wrong_some : (note : Note) (d : ℕ) (q r : Row) (ts vs : List Token) → begins_with_child q ≡ true → IsWrong note d q r ts vs → is_some ts ≡ true
 wrong_some Stray d q r [] vs h w = absurd (cc)
 wrong_some Stray d q r (t ∷ ts) vs h w = refl
 wrong_some (Unwanted until) d q r ts vs h w = w.0
 wrong_some Extra d q r ts vs h w = w.0
 wrong_some Twice d q r ts vs h w = absurd w
-wrong_some TooDeep d q r ts vs h w = absurd (true_is_not_false (sym w.1 ∙ (unplaced q h).1))
+wrong_some TooDeep d q r ts vs h w = absurd (true_is_not_false (sym w.1 ∙ child_counts q h))
 
--- a complete row that begins at no place has items
-pub row_some : {i : SyntaxKind} {d n : ℕ} {q s : RowState} {b : AnnotatedForest} {us : List Token} {f : AnnotatedForest} {es : List Fault} → Reads i d n q s b us f es
-    → is_place q ≡ false → whole s ≡ true → is_some (tokens_in f) ≡ true
-row_some {q = q} end h w = absurd (true_is_not_false (sym w ∙ (unplaced q h).0))
-row_some (leaf e v x y g l c i r) h w = refl
-row_some (missing_part u f l x r z) h w = absurd (true_is_not_false h)
-row_some {d = d} {q = q} (wrong {r = r} {vs = vs} {c = c} {f = f} note ts hc hv x y v hg he r' hf) h w =
-    some_left (tokens_in c) (tokens_in f) (ap (λ z. is_some (tokens_in z)) hc ∙ ap is_some (tokens_in-row_of ts) ∙ wrong_some note d q r ts vs h v)
-row_some (second v c i x q r g t z) h w = absurd (true_is_not_false (sym (ap is_place q) ∙ h))
-row_some {q = q} (inner {c = c} {f = f} {k = k} v u r i x y j z t g l hg r' hf) h w =
-    some_left (tokens_in c) (tokens_in f) (row_some r (unplaced_start q k h (ap live g ∙ l)) x.0)
+-- a complete row that begins so has items
+pub row_some : {i : SyntaxKind} {d n : ℕ} {q s : Row} {b : AnnotatedForest} {us : List Token} {f : AnnotatedForest} {es : List Fault}
+    → Reads i d n q s b us f es
+    → IsKnown i q → begins_with_child q ≡ true → may_end s ≡ true → is_some (tokens_in f) ≡ true
+row_some {q = q} end i h w = absurd (true_is_not_false (sym w ∙ child_whole q h))
+row_some (leaf x o s) i h w = refl
+row_some {q = q} (missing_part {r = r} {e = e} u l m o s) i h w = absurd (child_lost q r e h m)
+row_some {d = d} {q = q} {us = us} (wrong {r = r} {f = f} note ts x o v s) i h w =
+    some_left (tokens_in (row_of ts)) (tokens_in f) (ap is_some (tokens_in-row_of ts) ∙ wrong_some note d q r ts (tokens_in f ++ us) h v)
+row_some (second s y o) i h w = absurd (true_is_not_false (sym h))
+row_some {q = q} (inner {k = k} {c = c} {f = f} o s y x j z t) i h w =
+    some_left (tokens_in c) (tokens_in f) (row_some s (known_row k) (child_node q k i h (reads_live t (end_live _ w))) y.0)
 
--- no attribute path stands at a state
-abbrev pub is_bare : RowState → Bool
-is_bare (At p.ValuePath) = false
-is_bare (At p.SelectPath) = false
-is_bare (At p.HasPath) = false
-is_bare q = true
+-- the end of a pattern that has a name before it
+abbrev pub is_bound : Row → Bool
+is_bound (BoundAlready · r) = true
+is_bound r = false
 
--- what is missing leads to no such place
-abbrev IsBareBehind : Option (Fault × Place) → Type 0
-IsBareBehind None = Unit {0}
-IsBareBehind (Some w) = is_bare (At w.1) ≡ true
+-- no attribute path stands here
+abbrev pub is_bare : Row → Bool
+is_bare (Attrpath · r) = false
+is_bare r = true
 
-missing_well : (x : Place) → IsBareBehind (missing x)
-missing_well p.RootEnd = tt
-missing_well _ = cc
+-- what is missing leads to no attribute path
+abbrev is_bare_behind : Option (Fault × Row) → Bool
+is_bare_behind None = true
+is_bare_behind (Some w) = is_bare w.1
 
--- what is missing leads to a place without attribute paths
-pub missing_bare : (x y : Place) (e : Fault) → missing x ≡ Some (e, y) → is_bare (At y) ≡ true
-missing_bare x y e h = subst IsBareBehind h (missing_well x)
+pub missing_bare : {i : SyntaxKind} {q r : Row} {e : Fault} → IsKnown i q → missing q ≡ Some (e, r) → is_bare r ≡ true
+missing_bare {i} {q} k m = sym (ap is_bare_behind m) ∙ every_known (λ i q. is_bare_behind (missing q)) (λ i. refl) refl i q k
 
 -- nor does an operand that counts
-counted_bare : (q : RowState) → Where (counts q) (is_bare (advance q NODE_LITERAL) ≡ true)
-counted_bare (At p.ParenInside) = refl
-counted_bare _ = assumption
-
--- the tokens of a row of leaves
-pub row_tokens : (c : AnnotatedForest) (ts : List Token) → c ≡ row_of ts → tokens_in c ≡ [] → ts ≡ []
-row_tokens c ts h n = sym (tokens_in-row_of ts) ∙ ap tokens_in (sym h) ∙ n
+counted_bare : {i : SyntaxKind} (q : Row) → IsKnown i q → counts q ≡ true → is_bare (after q NODE_LITERAL) ≡ true
+counted_bare {i} q k c = sym (ap (λ w. if w then is_bare (after q NODE_LITERAL) else true) c) ∙
+    every_known (λ i q. if counts q then is_bare (after q NODE_LITERAL) else true) (λ i. refl) refl i q k
 
 -- an error node without tokens stands for an operand that counts, and no attribute path and no item follow
-pub wrong_empty : (n : Note) (d : ℕ) (q r : RowState) (vs : List Token) → IsWrong n d q r [] vs → (counts q ≡ true) × (is_bare r ≡ true) × (vs ≡ [])
-wrong_empty Stray d q r vs h = absurd (omega (arith, h.0))
-wrong_empty (Unwanted until) d q r vs h = absurd (true_is_not_false (sym h.0))
-wrong_empty Extra d q r vs h = absurd (true_is_not_false (sym h.0))
-wrong_empty Twice d q r vs h = absurd h
-wrong_empty TooDeep d q r vs h = (h.1, subst (λ z. is_bare z ≡ true) h.3 (where_one (counts q) h.1 (counted_bare q)), h.0)
+pub wrong_empty : {i : SyntaxKind} (n : Note) (d : ℕ) (q r : Row) (vs : List Token) → IsKnown i q → IsWrong n d q r [] vs
+    → (counts q ≡ true) × (is_bare r ≡ true) × (vs ≡ [])
+wrong_empty Stray d q r vs k h = absurd (omega (arith, h.0))
+wrong_empty (Unwanted until) d q r vs k h = absurd (true_is_not_false (sym h.0))
+wrong_empty Extra d q r vs k h = absurd (true_is_not_false (sym h.0))
+wrong_empty Twice d q r vs k h = absurd h
+wrong_empty TooDeep d q r vs k h = (h.1, subst (λ z. is_bare z ≡ true) h.3 (counted_bare q k h.1), h.0)
 
--- a node of a kind may stand at a place where no item is left
-abbrev is_next : Place → SyntaxKind → Bool
-is_next x k = is_same (expects_end (symbol_at x)) (stands_expected_in (symbol_at x) k) && live (advance (At x) k)
+-- two tests have one answer
+abbrev pub is_same : Bool → Bool → Bool
+is_same true w = w
+is_same false w = if w then false else true
 
--- its row begins at none, if no operand and no attribute path may stand there
-next_unplaced : (x : Place) → Where (is_free (level_in (symbol_at x)) && is_bare (At x)) (Each (λ k. Where (is_next x k) (is_place (start k) ≡ false)) all_kinds)
-next_unplaced (p.PatternEnd true) = assumption
-next_unplaced (p.PatternEnd false) = assumption
-next_unplaced _ = assumption
+pub same_true : (v w : Bool) → v ≡ w → is_same v w ≡ true
+same_true true w e = sym e
+same_true false w e = ap (λ z. if z then false else true) (sym e)
 
-begins_unplaced : (q : RowState) (k : SyntaxKind) (c : AnnotatedForest) (n : ℕ) → is_bare q ≡ true → IsExpected q n [] (stands_expected q k c)
-    → level_at q (one_branch k c) ≡ None → live (advance q k) ≡ true → is_place (start k) ≡ false
-begins_unplaced (At x) k c n h o e l =
-    let all = where_one (is_free (level_in (symbol_at x)) && is_bare (At x)) (both_true (is_free (level_in (symbol_at x))) _ (ap is_free e) h) (next_unplaced x) in
-    where_one (is_next x k) (both_true (is_same (expects_end (symbol_at x)) (stands_expected_in (symbol_at x) k)) _ (same_true _ _ o) l)
-    (each_kind (λ k. Where (is_next x k) (is_place (start k) ≡ false)) all k)
-begins_unplaced q k c n h o e l = unplaced_start q k refl l
+-- elsewhere the next item is asked for, and neither the level of an operand nor what is expected is told by the tree
+abbrev Asks : Row → Type 0
+Asks q = ((n : ℕ) (own : Bool) → IsExpected q n [] own → expects_end q ≡ own) × ((x : AnnotatedForest) → level_at q x ≡ level_at q blank)
+    × ((k : SyntaxKind) (c : AnnotatedForest) → stands_expected q k c ≡ stands_expected q k blank)
+
+asks : (q : Row) → begins_with_child q ≡ false → Asks q
+asks done h = (λ n own e. e, λ x. refl, λ k c. refl)
+asks (Child kind · r) h = absurd (true_is_not_false h)
+asks (Atom · r) h = absurd (true_is_not_false h)
+asks (First m · r) h = absurd (true_is_not_false h)
+asks (Suffix kind · r) h = absurd (true_is_not_false h)
+asks (Binary · r) h = absurd (true_is_not_false h)
+asks (Argument · r) h = absurd (true_is_not_false h)
+asks (_ · r) h = (λ n own e. e, λ x. refl, λ k c. refl)
+asks _ h = absurd (true_is_not_false h)
+
+-- no level is asked for
+abbrev pub is_free : Option ℕ → Bool
+is_free None = true
+is_free (Some level) = false
+
+-- a place for neither an operand nor an attribute path
+abbrev is_settled : Row → Bool
+is_settled q = (if begins_with_child q then false else true) && (is_bare q && is_free (level_at q blank))
+
+-- a node that stands there where no item is left
+abbrev is_next : Row → SyntaxKind → Bool
+is_next q k = is_same (expects_end q) (stands_expected q k blank)
+
+settled_node : {i : SyntaxKind} (q : Row) (k : SyntaxKind) → IsKnown i q → is_settled q ≡ true → is_next q k ≡ true → is_live (after q k) ≡ true
+    → begins_with_child (row k) ≡ true
+settled_node {i} q k n h t l =
+    leads_on (is_next q) q k (sym (ap (λ w. if w then leads (is_next q) q else true) h) ∙
+    every_known (λ i q. if is_settled q then leads (is_next q) q else true) (λ i. refl) refl i q n) t l
+
+-- its row begins with a child that is there
+begins_child : {i : SyntaxKind} (q : Row) (k : SyntaxKind) (c : AnnotatedForest) (n : ℕ) → IsKnown i q → is_bare q ≡ true
+    → IsExpected q n [] (stands_expected q k c)
+    → level_at q (one_branch k c) ≡ None → is_live (after q k) ≡ true → begins_with_child (row k) ≡ true
+begins_child q k c n i h o e l = by (begins_with_child q) refl
+  where
+    by : (w : Bool) → begins_with_child q ≡ w → begins_with_child (row k) ≡ true
+    by true f = child_node q k i f l
+    by false f =
+        let a = asks q f in
+        settled_node q k i
+        (and_from _ _ (ap (λ w. if w then false else true) f) (and_from _ _ h (ap is_free (sym (a.1 (one_branch k c)) ∙ e))))
+        (same_true _ _ (a.0 n _ o ∙ a.2 k c)) l
 
 -- where no item is left, no operand stands that is no error node
-no_operand : (o : Option ℕ) (x : AnnotatedForest) (after : List Token) → tokens_in x ++ after ≡ [] → IsOperand o x after → o ≡ None
-no_operand None x after e h = refl
-no_operand (Some level) x after e h = absurd (subst (IsBegun level x) e h.1)
+no_operand : (o : Option ℕ) (x : AnnotatedForest) (us : List Token) → tokens_in x ++ us ≡ [] → IsOperandOf o x us → o ≡ None
+no_operand None x us e h = refl
+no_operand (Some level) x us e h = absurd (subst (BeginsAs level x) e h.1)
 
 -- no node but error nodes stands in a row
 abbrev pub HasNoNode : AnnotatedForest → Type 0
@@ -109,18 +176,21 @@ HasNoNode (branch k c f) = ⊥
 HasNoNode (fault n c f) = HasNoNode f
 
 -- none does in a row without tokens where no item is left and no attribute path is to be read
-pub bare_row : {p : SyntaxKind} {d n : ℕ} {q q' : RowState} {b : AnnotatedForest} {us : List Token} {f : AnnotatedForest} {es : List Fault}
-    → Reads p d n q q' b us f es → is_bare q ≡ true → us ≡ [] → tokens_in f ≡ [] → HasNoNode f
-bare_row end h u e = tt
-bare_row (leaf j v o t g l c m s) h u e = absurd (not_nil e)
-bare_row (missing_part {x = x} {y = y} {e = missing} w t l a s z) h u e = bare_row s (missing_bare x y missing l) u e
-bare_row {d = d} {q = q} (wrong {r = r} {vs = vs} {c = c} {f = f} note ts j v o t x g m s z) h u e =
-    let none : ts ≡ [] = row_tokens c ts j (none_left (tokens_in c) (tokens_in f) e) in
-    bare_row s (wrong_empty note d q r vs (subst (λ us. IsWrong note d q r us vs) none x)).1 u (none_right (tokens_in c) (tokens_in f) e)
-bare_row (second {c = c} {f = f} v s m o j r g x z) h u e = bare_row x (ap is_bare r) u (none_right (tokens_in c) (tokens_in f) e)
-bare_row {n = n} {q = q} {us = us} (inner {vs = vs} {c = c} {f = f} {k = k} v y s m o a i t j g l b x z) h u e =
+pub bare_row : {p : SyntaxKind} {d n : ℕ} {q q' : Row} {b : AnnotatedForest} {us : List Token} {f : AnnotatedForest} {es : List Fault}
+    → Reads p d n q q' b us f es → IsKnown p q → is_live q' ≡ true → is_bare q ≡ true → us ≡ [] → tokens_in f ≡ [] → HasNoNode f
+bare_row end i l h u e = tt
+bare_row (leaf x o s) i l h u e = absurd (not_nil e)
+bare_row (missing_part w t m o s) i l h u e = bare_row s (known_missing m i) l (missing_bare i m) u e
+bare_row {d = d} {q = q} {us = us} (wrong {r = r} {f = f} note ts x o v s) i l h u e =
+    let none : ts ≡ [] = sym (tokens_in-row_of ts) ∙ none_left (tokens_in (row_of ts)) (tokens_in f) e in
+    let empty = wrong_empty note d q r (tokens_in f ++ us) i (subst (λ ts. IsWrong note d q r ts (tokens_in f ++ us)) none v) in
+    bare_row s (known_wrong note _ _ _ v i) l empty.1 u (none_right (tokens_in (row_of ts)) (tokens_in f) e)
+bare_row (second {c = c} {f = f} s y o) i l h u e = bare_row o (known_past i) l refl u (none_right (tokens_in c) (tokens_in f) e)
+bare_row {n = n} {q = q} {us = us} (inner {k = k} {c = c} {f = f} o s y x j z t) i l h u e =
     let none : tokens_in c ≡ [] = none_left (tokens_in c) (tokens_in f) e in
-    let last : vs ≡ [] = v ∙ ap (λ ts. ts ++ us) (none_right (tokens_in c) (tokens_in f) e) ∙ u in
-    let own : IsExpected q n [] (stands_expected q k c) = subst (λ ts. IsExpected q n ts (stands_expected q k c)) (y ∙ ap (λ ts. ts ++ vs) none ∙ last) a in
-    let free : level_at q (one_branch k c) ≡ None = no_operand (level_at q (one_branch k c)) (one_branch k c) vs (ap (λ ts. (ts ++ []) ++ vs) none ∙ last) j in
-    absurd (true_is_not_false (sym (row_some s (begins_unplaced q k c n h own free (ap live g ∙ l)) o.0) ∙ ap is_some none))
+    let last : tokens_in f ++ us ≡ [] = ap (λ ts. ts ++ us) (none_right (tokens_in c) (tokens_in f) e) ∙ u in
+    let own : IsExpected q n [] (stands_expected q k c) =
+    subst (λ ts. IsExpected q n ts (stands_expected q k c)) (ap (λ ts. ts ++ (tokens_in f ++ us)) none ∙ last) x in
+    let free : level_at q (one_branch k c) ≡ None =
+    no_operand (level_at q (one_branch k c)) (one_branch k c) (tokens_in f ++ us) (ap (λ ts. (ts ++ []) ++ (tokens_in f ++ us)) none ∙ last) z in
+    absurd (true_is_not_false (sym (row_some s (known_row k) (begins_child q k c n i h own free (reads_live t l)) y.0) ∙ ap is_some none))

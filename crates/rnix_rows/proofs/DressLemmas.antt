@@ -76,7 +76,8 @@ ahead (branch k c f) ts h = record { same = rw (from_item-from_item ts, trivia-f
 ahead (fault n c f) ts h = record { same = rw (from_item-from_item ts, trivia-from_item ts) refl; left = rw (from_item-from_item ts) refl }
 
 -- a row with trivia and trees behind it
-pub with_trivia_added : (row g : AnnotatedForest) (ts us vs : List Token) → HasTrivia row ts us → HasTrivia g (from_item us) vs → HasTree (without_trivia g) → HasTrivia (ate true row us ⊕ g) ts vs
+pub with_trivia_added : (row g : AnnotatedForest) (ts us vs : List Token) → HasTrivia row ts us → HasTrivia g (from_item us) vs → HasTree (without_trivia g)
+    → HasTrivia (ate true row us ⊕ g) ts vs
 with_trivia_added row g ts us vs h j t =
     let parts : without_trivia (ate true row us ⊕ g) ≡ without_trivia row ⊕ without_trivia g = added_without_trivia row us g refl in
     let a : IsAhead (without_trivia g) us = ahead (without_trivia g) us t in
@@ -94,11 +95,13 @@ pub with_trivia_branch : (k : SyntaxKind) (row : AnnotatedForest) (ts us : List 
 with_trivia_branch k row ts us b h = record { same = rw (bare_trivia ts b, b, h.same) refl; left = ap (left_after (without_trivia row)) b ∙ h.left }
 
 -- an error node over a row, behind which trivia need not stand
-pub with_trivia_fault : (n : Note) (row : AnnotatedForest) (ts us : List Token) → is_last n ≡ false → IsBare ts → HasTrivia row ts us → HasTrivia (one_fault n row) ts us
+pub with_trivia_fault : (n : Note) (row : AnnotatedForest) (ts us : List Token) → is_last n ≡ false → IsBare ts → HasTrivia row ts us
+    → HasTrivia (one_fault n row) ts us
 with_trivia_fault n row ts us e b h = record { same = rw (bare_trivia ts b, b, e, h.same) refl; left = rw (b, e) h.left }
 
 -- the node of what is too deep, with the trivia behind it
-pub with_trivia_last : (row : AnnotatedForest) (ts us : List Token) → IsBare ts → HasTrivia row ts us → HasTrivia (ate true (one_fault TooDeep row) us) ts (from_item us)
+pub with_trivia_last : (row : AnnotatedForest) (ts us : List Token) → IsBare ts → HasTrivia row ts us
+    → HasTrivia (ate true (one_fault TooDeep row) us) ts (from_item us)
 with_trivia_last row ts us b h =
     let bare : without_trivia (ate true (one_fault TooDeep row) us) ≡ one_fault TooDeep (without_trivia row) = ate_without_trivia (one_fault TooDeep row) us in
     record {

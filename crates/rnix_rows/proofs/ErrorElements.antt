@@ -24,7 +24,8 @@ pub record IsSound (q : SyntaxKind) (s : ℕ) (f : AnnotatedForest) : Type 0 whe
   pub marked : AreMarked f
 
 -- the first token of an error node
-first_token : (t : Tree) (m s : ℕ) (c : AnnotatedForest) → IsRowIn t (m + 1) s (Some m) (forget c) → HaveLeafKinds NODE_ERROR c → begins_with_token c ≡ true → BeginsWith t m (first_kind (tokens_in c))
+first_token : (t : Tree) (m s : ℕ) (c : AnnotatedForest) → IsRowIn t (m + 1) s (Some m) (forget c) → HaveLeafKinds NODE_ERROR c → begins_with_token c ≡ true
+    → BeginsWith t m (first_kind (tokens_in c))
 first_token t m s (token k x f) h o b =
     let first : item t (m + 1) ≡ _ = row_first t (m + 1) s (Some m) (forget (token k x f)) h (omega arith) in
     record {
@@ -79,7 +80,8 @@ bare_name (token j y blank) x b h = subst (λ z. IsName x (token j z blank)) (sy
 bare_name _ x b h = absurd (true_is_not_false (sym b))
 
 -- a name at the head of an entry
-name_here : (t : Tree) (e s : ℕ) (x : Token) (d f : AnnotatedForest) → (item t e).kind ≡ NODE_PAT_ENTRY → IsRowIn t (e + 1) s (Some e) (forget (branch NODE_IDENT d f)) → ArePlaced s (tokens_in d)
+name_here : (t : Tree) (e s : ℕ) (x : Token) (d f : AnnotatedForest) → (item t e).kind ≡ NODE_PAT_ENTRY
+    → IsRowIn t (e + 1) s (Some e) (forget (branch NODE_IDENT d f)) → ArePlaced s (tokens_in d)
     → IsName x d → IsEntryName t e (place_of (x ∷ [])) x.text
 name_here t e s x _ f k h a (name j) =
     let n : ℕ = e + 1 in
@@ -97,7 +99,8 @@ name_here t e s x _ f k h a (name j) =
     }
 
 -- the name that the row of an entry begins with
-pub row_name : (t : Tree) (e s : ℕ) (c : AnnotatedForest) (x : Token) → (item t e).kind ≡ NODE_PAT_ENTRY → IsRowIn t (e + 1) s (Some e) (forget c) → ArePlaced s (tokens_in c)
+pub row_name : (t : Tree) (e s : ℕ) (c : AnnotatedForest) (x : Token) → (item t e).kind ≡ NODE_PAT_ENTRY → IsRowIn t (e + 1) s (Some e) (forget c)
+    → ArePlaced s (tokens_in c)
     → AreNamesBare c → begins_with_node c ≡ true → entry_name (without_trivia c) ≡ Some x → IsEntryName t e (place_of (x ∷ [])) x.text
 row_name t e s (branch j d f) x k h a r b g =
     let w = name_node j (without_trivia d) (without_trivia f) x g in

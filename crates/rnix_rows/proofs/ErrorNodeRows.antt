@@ -1,36 +1,30 @@
 -- What the error nodes of a row that is read hold, and in which nodes they stand.
-use Rattle.std.proofs.Common.{ℕ, true, Option, Some, None, List, [], ◌∷◌, ◌++◌, refl, ap, sym, ◌∙◌, subst}
-use Rattle.rnix_kinds.specs.declared.kinds.SyntaxKind.{SyntaxKind, TheVariants.{NODE_ERROR, NODE_LITERAL, NODE_PATTERN, NODE_ROOT}}
-use Rattle.{rnix_green.specs.Equality.same_kind-decides, rnix_grammar.specs.{declared.place.Place.Place, Fault.Fault, Missing.{missing, run_at}}}
-use Rattle.rnix_grammar.specs.AnnotatedForest.{Token, Note, Stray, Unwanted, Extra, Twice, TooDeep, AnnotatedForest, row_of, tokens_in}
-use Rattle.rnix_grammar.specs.{Rows.{RowState, At}, PlaceReads.{Reads, ReadsWhole, end, leaf, missing_part, wrong, second, inner, IsWrong}}
-use Rattle.rnix_grammar.specs.ErrorNodes.{AreUnwanted, IsErrorNode, AreErrorNodes}
-use Rattle.rnix_lemmas.proofs.NestPlaces.{IsExpected, start_expected, go_expected}
-use Rattle.{rnix_lemmas.proofs.{RunLemmas.parted, AnnotatedForestLemmas.tokens_in-row_of}, rnix_rows.proofs.BareRows.row_some}
-use Rattle.rnix_grammar.specs.declared.place.Place.TheVariants as p
+use Rattle.std.proofs.Common.{◌≡◌, ℕ, Bool, true, false, List, [], ◌∷◌, ◌++◌, refl, sym, subst}
+use Rattle.rnix_kinds.specs.declared.kinds.SyntaxKind.{SyntaxKind, TheVariants.{NODE_ERROR, NODE_PATTERN, NODE_ROOT}}
+use Rattle.rnix_grammar.specs.{declared.rules.Part.TheVariants.{BoundAlready, TextEnd}, Fault.Fault, Rules.{Row, done, ◌·◌}}
+use Rattle.rnix_grammar.specs.AnnotatedForest.{Token, Note, Stray, Unwanted, Extra, Twice, TooDeep, AnnotatedForest, row_of, tokens_in, leaf_kind}
+use Rattle.rnix_grammar.specs.{Reads.{Reads, ReadsWhole, end, leaf, missing_part, wrong, second, inner, IsWrong}}
+use Rattle.rnix_grammar.specs.{ErrorNodes.{AreUnwanted, IsErrorNode, AreErrorNodes}}
+use Rattle.rnix_lemmas.proofs.{Basics.{Where, where_one}, RunLemmas.parted, AnnotatedForestLemmas.tokens_in-row_of}
+use Rattle.rnix_lemmas.proofs.KnownRows.{IsKnown, each_known, known_row, known_second, known_after, known_missing, known_past, known_wrong}
+use Rattle.rnix_rows.proofs.BareRows.{is_bound, row_some}
 
--- behind a run, and behind what is missing, a row goes on in the same node
-abbrev GoesOn : {A : Type 0} → SyntaxKind → Option (A × Place) → Type 0
-GoesOn i None = Unit {0}
-GoesOn i (Some w) = IsExpected i (At w.1)
+-- the end of the text is in the root alone, and a second name in a pattern
+abbrev is_text_end : Row → Bool
+is_text_end (TextEnd · r) = true
+is_text_end r = false
 
-goes_on : (i : SyntaxKind) (x : Place) → IsExpected i (At x) → GoesOn i (run_at x) × GoesOn i (missing x)
-goes_on i p.RootStart h = assumption (h)
-goes_on i _ h = assumption (h)
+ends_root : {i : SyntaxKind} → IsKnown i (TextEnd · done) → i ≡ NODE_ROOT
+ends_root {i} k = where_one true refl (each_known (λ i r. Where (is_text_end r) (i ≡ NODE_ROOT)) (λ i. tt) (assumption) i (TextEnd · done) k)
 
--- and so behind each error node
-wrong_expected : (note : Note) (i : SyntaxKind) (d : ℕ) (q r : RowState) (ts vs : List Token) → IsWrong note d q r ts vs → IsExpected i q → IsExpected i r
-wrong_expected Stray i d q r ts vs w h = subst (IsExpected i) w.3 (go_expected i q NODE_LITERAL h)
-wrong_expected (Unwanted until) i d q r ts vs w h = subst (IsExpected i) (sym w.5) (subst (GoesOn i) w.6 (goes_on i w.2 (subst (IsExpected i) w.4 h)).0)
-wrong_expected Extra i d q r ts vs w h = subst (IsExpected i) (sym w.3) h
-wrong_expected Twice i d q r ts vs w h = absurd w
-wrong_expected TooDeep i d q r ts vs w h = subst (IsExpected i) w.3 (go_expected i q NODE_LITERAL h)
+ends_pattern : {i : SyntaxKind} → IsKnown i (BoundAlready · done) → i ≡ NODE_PATTERN
+ends_pattern {i} k = where_one true refl (each_known (λ i r. Where (is_bound r) (i ≡ NODE_PATTERN)) (λ i. tt) (assumption) i (BoundAlready · done) k)
 
 -- an error node over tokens holds what it may
-holds : (note : Note) (i : SyntaxKind) (d : ℕ) (q r : RowState) (ts vs : List Token) → IsWrong note d q r ts vs → IsExpected i q → IsErrorNode note i ts
+holds : (note : Note) (i : SyntaxKind) (d : ℕ) (q r : Row) (ts vs : List Token) → IsWrong note d q r ts vs → IsKnown i q → IsErrorNode note i ts
 holds Stray i d q r ts vs w h = w.0
 holds (Unwanted until) i d q r ts vs w h = (w.0, subst (AreUnwanted until) (sym w.1) (parted until (ts ++ vs)).unwanted)
-holds Extra i d q r ts vs w h = (w.0, sym ((same_kind-decides NODE_ROOT i).0 (subst (IsExpected i) w.2 h)))
+holds Extra i d q r ts vs w h = (w.0, ends_root (subst (IsKnown i) w.2 h))
 holds Twice i d q r ts vs w h = absurd w
 holds TooDeep i d q r ts vs w h = tt
 
@@ -39,22 +33,20 @@ leaves_alone [] = tt
 leaves_alone (t ∷ ts) = leaves_alone ts
 
 -- so does each error node of a row
-pub error_nodes : {i : SyntaxKind} {d n : ℕ} {q q' : RowState} {b : AnnotatedForest} {us : List Token} {f : AnnotatedForest} {es : List Fault} → Reads i d n q q' b us f es
-    → IsExpected i q → AreErrorNodes i f
+pub error_nodes : {i : SyntaxKind} {d n : ℕ} {q q' : Row} {b : AnnotatedForest} {us : List Token} {f : AnnotatedForest} {es : List Fault}
+    → Reads i d n q q' b us f es
+    → IsKnown i q → AreErrorNodes i f
 error_nodes end h = tt
-error_nodes {i = i} {q = q} (leaf {k = k} _ _ _ _ g _ _ _ s) h = error_nodes s (subst (IsExpected i) g (go_expected i q k h))
-error_nodes {i = i} (missing_part {x = x} _ _ l _ s _) h = error_nodes s (subst (GoesOn i) l (goes_on i x h).1)
-error_nodes {i = i} {d = d} {q = q} (wrong {r = r} {vs = vs} note ts e _ _ _ w _ _ s _) h = (
-  subst (IsErrorNode note i) (sym (ap tokens_in e ∙ tokens_in-row_of ts)) (holds note i d q r ts vs w h),
-  subst (AreErrorNodes NODE_ERROR) (sym e) (leaves_alone ts),
-  error_nodes s (wrong_expected note i d q r ts vs w h),
+error_nodes {i} (leaf {t = t} x o s) h = error_nodes s (known_after (leaf_kind i t) h)
+error_nodes (missing_part u l m o s) h = error_nodes s (known_missing m h)
+error_nodes {i} {d = d} {q = q} {us = us} (wrong {r = r} {f = f} note ts x o w s) h = (
+  subst (IsErrorNode note i) (sym (tokens_in-row_of ts)) (holds note i d q r ts (tokens_in f ++ us) w h),
+  leaves_alone ts,
+  error_nodes s (known_wrong note _ _ _ w h),
 )
-error_nodes {i = i} (second _ first _ over q r _ s _) h =
-    let here : IsExpected i (At (p.PatternEnd true)) = subst (IsExpected i) q h in
-    ((row_some first refl over.0, sym ((same_kind-decides NODE_PATTERN i).0 here)), error_nodes first refl, error_nodes s (subst (IsExpected i) (sym r) here))
-error_nodes {i = i} {q = q} (inner {k = k} _ _ inside _ _ _ _ _ _ g _ _ s _) h =
-    (error_nodes inside (start_expected k), error_nodes s (subst (IsExpected i) g (go_expected i q k h)))
+error_nodes (second first over s) h = ((row_some first known_second refl over.0, ends_pattern h), error_nodes first known_second, error_nodes s (known_past h))
+error_nodes (inner {k = k} o inside y x j z s) h = (error_nodes inside (known_row k), error_nodes s (known_after k h))
 
 -- so it is in a whole text
 pub whole_error_nodes : {f : AnnotatedForest} {es : List Fault} → ReadsWhole f es → AreErrorNodes NODE_ROOT f
-whole_error_nodes s = error_nodes s refl
+whole_error_nodes s = error_nodes s (known_row NODE_ROOT)

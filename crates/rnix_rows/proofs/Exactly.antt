@@ -4,9 +4,9 @@ use Rattle.std.proofs.lemmas.List.{map-append}
 use Rattle.rnix_kinds.specs.declared.kinds.SyntaxKind.{SyntaxKind, TheVariants.{TOKEN_CUR_POS, TOKEN_IDENT, TOKEN_OR, NODE_CUR_POS, NODE_IDENT, NODE_ROOT}}
 use Rattle.rnix_grammar.specs.AnnotatedForest.{Token, lexeme_of, AnnotatedForest, blank, token, branch, fault, tokens_in, forget, leaf_kind_as, HaveLeafKinds}
 use Rattle.rnix_grammar.specs.{Named.{is_spelled, AreSpelled}, Yield.{untold, yield}, Tables.{is_or, depth_limit}, Grammar.IsExpression, Derivation.beyond}
-use Rattle.rnix_grammar.specs.{Derivation.{laid, IsDerivation}, declared.place.Place.TheVariants.RootStart, Rows.At, Plain.ArePaths, Nest.nest}
-use Rattle.rnix_lemmas.proofs.{RowNesting.nesting, Basics.true_is_not_false, OpeningRows.{spelled_first, spelled_rest}, NestTrees.{HaveRows, rows_nest}}
-use Rattle.rnix_rows.proofs.ReadsShapes.{AreBareRows, IsBare}
+use Rattle.rnix_grammar.specs.{Derivation.{laid, IsDerivation}, Plain.ArePaths, Nest.nest}
+use Rattle.rnix_lemmas.proofs.{Basics.true_is_not_false, SpelledLemmas.{spelled_first, spelled_rest}}
+use Rattle.rnix_rows.proofs.ReadsShapes.{AreBareRows}
 
 -- the trees of a row without error nodes, over its tokens, are the row
 pub beyond_row : (f : AnnotatedForest) (us : List Token) → AreBareRows f → beyond (forget f) (tokens_in f ++ us) ≡ us
@@ -54,7 +54,8 @@ told_back NODE_CUR_POS k text h = kept_back k text h
 told_back _ k text h = kept_back k text h
 
 -- so the trees stand for the tokens
-pub yields_same : (p : SyntaxKind) (f : AnnotatedForest) → AreBareRows f → HaveLeafKinds p f → AreSpelled (tokens_in f) → yield (forget f) ≡ map lexeme_of (tokens_in f)
+pub yields_same : (p : SyntaxKind) (f : AnnotatedForest) → AreBareRows f → HaveLeafKinds p f → AreSpelled (tokens_in f)
+    → yield (forget f) ≡ map lexeme_of (tokens_in f)
 yields_same p blank h t s = refl
 yields_same p (token k x f) h t s =
     ap (λ z. (z, x.text) ∷ yield (forget f)) (ap (λ z. untold z x.text) t.0 ∙ told_back p x.kind x.text s.0) ∙ ap (λ z. lexeme_of x ∷ z) (yields_same p f h t.1 s.1)
@@ -63,19 +64,9 @@ yields_same p (branch k c f) h t s =
     ∙ ap (λ z. map lexeme_of (tokens_in c) ++ z) (yields_same p f h.3 t.1 (spelled_rest (tokens_in c) (tokens_in f) s)) ∙ sym (map-append lexeme_of (tokens_in c) (tokens_in f))
 yields_same p (fault n c f) h t s = absurd h
 
--- the trees of such a row have rows of their kinds
-have_rows : (f : AnnotatedForest) → AreBareRows f → HaveRows (forget f)
-have_rows blank h = tt
-have_rows (token k t f) h = have_rows f h
-have_rows (branch k c f) h = (h.0, have_rows c h.2, have_rows f h.3)
-have_rows (fault n c f) h = absurd h
-
--- so the trees of a whole text nest by their kinds as they do along the rows
-pub bare_nest : (f : AnnotatedForest) → IsBare f → nest NODE_ROOT (forget f) ≡ nesting (At RootStart) (forget f)
-bare_nest f h = rows_nest (forget f) h.root (have_rows f h.nodes)
-
 -- where the pieces of its paths touch, such a row is a derivation of its tokens
-pub derived : (f : AnnotatedForest) → AreBareRows f → HaveLeafKinds NODE_ROOT f → AreSpelled (tokens_in f) → IsExpression (forget f) → nest NODE_ROOT (forget f) ≤ depth_limit → ArePaths f []
+pub derived : (f : AnnotatedForest) → AreBareRows f → HaveLeafKinds NODE_ROOT f → AreSpelled (tokens_in f) → IsExpression (forget f)
+    → nest NODE_ROOT (forget f) ≤ depth_limit → ArePaths f []
     → IsDerivation (forget f) (tokens_in f)
 derived f h t s strict shallow paths = record {
   strict = strict;

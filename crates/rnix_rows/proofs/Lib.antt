@@ -2,6 +2,7 @@ pub mod DressLemmas
 pub mod WithTrivia
 pub mod WithTriviaWhole
 pub mod ReadsFaults
+pub mod Imitation
 pub mod ReadsRows
 pub mod ReadsBegun
 pub mod ReadsShapes

@@ -18,21 +18,25 @@ swapped true true = refl
 swapped _ _ = refl
 
 -- the names before a row, with that of one more node
-lists_node : (names : List (List ℕ)) (b : AnnotatedForest) (k : SyntaxKind) (c : AnnotatedForest) → Lists names b → Lists (with_name (name_of (bare_name k c)) names) (b ⊕ one_branch k c)
+lists_node : (names : List (List ℕ)) (b : AnnotatedForest) (k : SyntaxKind) (c : AnnotatedForest) → Lists names b
+    → Lists (with_name (name_of (bare_name k c)) names) (b ⊕ one_branch k c)
 lists_node names b k c h = λ name. has-⊕ name b (one_branch k c) ∙ ap (λ x. if has_entry name b then true else x) (has_branch name k c blank) ∙ by_name name (bare_name k c)
   where
-    by_name : (name : List ℕ) (o : Option Token) → (if has_entry name b then true else (if is_same_name name o then true else false)) ≡ is_among name (with_name (name_of o) names)
+    by_name : (name : List ℕ) (o : Option Token)
+        → (if has_entry name b then true else (if is_same_name name o then true else false)) ≡ is_among name (with_name (name_of o) names)
     by_name name None = if_not (has_entry name b) ∙ h name
     by_name name (Some x) = swapped (has_entry name b) (bytes_eq name x.text) ∙ ap (λ z. if bytes_eq name x.text then true else z) (h name)
 
 -- so with trivia
-lists_branch : (names : List (List ℕ)) (b : AnnotatedForest) (k : SyntaxKind) (c : AnnotatedForest) → HaveLeafKinds k c → Lists names (without_trivia b) → Lists (with_name (name_if k (forget c)) names) (without_trivia (b ⊕ one_branch k c))
+lists_branch : (names : List (List ℕ)) (b : AnnotatedForest) (k : SyntaxKind) (c : AnnotatedForest) → HaveLeafKinds k c → Lists names (without_trivia b)
+    → Lists (with_name (name_if k (forget c)) names) (without_trivia (b ⊕ one_branch k c))
 lists_branch names b k c o h =
     subst (λ z. Lists (with_name z names) (without_trivia (b ⊕ one_branch k c))) (without_trivia_name k c o)
     (subst (Lists (with_name (name_of (bare_name k (without_trivia c))) names)) (sym (without_trivia-⊕ b (one_branch k c))) (lists_node names (without_trivia b) k (without_trivia c) h))
 
 -- a leaf is no entry
-lists_token : (names : List (List ℕ)) (b : AnnotatedForest) (k : SyntaxKind) (x : Token) → Lists names (without_trivia b) → Lists names (without_trivia (b ⊕ one_token k x))
+lists_token : (names : List (List ℕ)) (b : AnnotatedForest) (k : SyntaxKind) (x : Token) → Lists names (without_trivia b)
+    → Lists names (without_trivia (b ⊕ one_token k x))
 lists_token names b k x h = λ name. ap (has_entry name) (without_trivia-⊕ b (one_token k x)) ∙ has-⊕ name (without_trivia b) (token_if (is_trivia x.kind) k x blank) ∙ by name (is_trivia x.kind)
   where
     by : (name : List ℕ) (i : Bool) → (if has_entry name (without_trivia b) then true else has_entry name (token_if i k x blank)) ≡ is_among name names
@@ -40,7 +44,8 @@ lists_token names b k x h = λ name. ap (has_entry name) (without_trivia-⊕ b (
     by name false = if_not (has_entry name (without_trivia b)) ∙ h name
 
 -- nor is an error node
-lists_fault : (names : List (List ℕ)) (b : AnnotatedForest) (n : Note) (c : AnnotatedForest) → Lists names (without_trivia b) → Lists names (without_trivia (b ⊕ one_fault n c))
+lists_fault : (names : List (List ℕ)) (b : AnnotatedForest) (n : Note) (c : AnnotatedForest) → Lists names (without_trivia b)
+    → Lists names (without_trivia (b ⊕ one_fault n c))
 lists_fault names b n c h = λ name. ap (has_entry name) (without_trivia-⊕ b (one_fault n c)) ∙ has-⊕ name (without_trivia b) (one_fault n (without_trivia c)) ∙ if_not (has_entry name (without_trivia b)) ∙ h name
 
 -- what has a name is an entry
@@ -49,7 +54,8 @@ named_entry NODE_PAT_ENTRY c x h = (refl, h)
 named_entry _ c x h = none_some x h
 
 -- an entry is reported exactly if its name is one of those before it
-entry_error : (t : Tree) (n : ℕ) (names : List (List ℕ)) (b : AnnotatedForest) (o : Option Token) → Lists names b → ((x : Token) → o ≡ Some x → IsEntryName t n (place_of (x ∷ [])) x.text)
+entry_error : (t : Tree) (n : ℕ) (names : List (List ℕ)) (b : AnnotatedForest) (o : Option Token) → Lists names b
+    → ((x : Token) → o ≡ Some x → IsEntryName t n (place_of (x ∷ [])) x.text)
     → AreErrorsOf t (repeated_if o b) (if is_among_if (name_of o) names then n ∷ [] else [])
 entry_error t n names b None l h = tt
 entry_error t n names b (Some x) l h =
@@ -57,7 +63,8 @@ entry_error t n names b (Some x) l h =
     (elim (has_entry x.text b) as (λ z. AreErrorsOf t (if z then named_twice (place_of (x ∷ [])) x.text ∷ [] else []) (if z then n ∷ [] else [])) [ true ↦ (h x refl, tt) | false ↦ tt ])
 
 -- so is a node
-node_error : (t : Tree) (n : ℕ) (names : List (List ℕ)) (b : AnnotatedForest) (k : SyntaxKind) (c : AnnotatedForest) → is_error_node k ≡ false → HaveLeafKinds k c → Lists names b
+node_error : (t : Tree) (n : ℕ) (names : List (List ℕ)) (b : AnnotatedForest) (k : SyntaxKind) (c : AnnotatedForest) → is_error_node k ≡ false
+    → HaveLeafKinds k c → Lists names b
     → ((x : Token) → k ≡ NODE_PAT_ENTRY → entry_name (without_trivia c) ≡ Some x → IsEntryName t n (place_of (x ∷ [])) x.text)
     → AreErrorsOf t (repeats k b (without_trivia c)) (if is_at_fault k (forget c) names then n ∷ [] else [])
 node_error t n names b k c e o l h =
@@ -68,7 +75,8 @@ node_error t n names b k c e o l h =
     (entry_error t n names b (bare_name k (without_trivia c)) l (λ x g. (let w = named_entry k (without_trivia c) x g in h x w.0 w.1))))
 
 -- the errors of a row are those of its elements
-pub row_errors : (t : Tree) (q : SyntaxKind) (n s : ℕ) (p : Option ℕ) (b : AnnotatedForest) (names : List (List ℕ)) (f : AnnotatedForest) → IsRowIn t n s p (forget f) → IsSound q s f → Lists names (without_trivia b)
+pub row_errors : (t : Tree) (q : SyntaxKind) (n s : ℕ) (p : Option ℕ) (b : AnnotatedForest) (names : List (List ℕ)) (f : AnnotatedForest)
+    → IsRowIn t n s p (forget f) → IsSound q s f → Lists names (without_trivia b)
     → AreErrorsOf t (reports_within b f) (at_fault_from n names (forget f))
 row_errors t q n s p b names blank h a l = tt
 row_errors t q n s p b names (token k x f) h a l =

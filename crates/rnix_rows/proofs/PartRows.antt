@@ -1,11 +1,11 @@
 -- The rows of a tree at each of its elements.
-use Rattle.std.proofs.{Common.{◌≡◌, ℕ, ◌+◌, true, false, List, [], refl, ap, sym, ◌∙◌, subst, if◌then◌else◌, ◌==◌, nat_lt}, lemmas.Bool.and_parts}
+use Rattle.std.proofs.{Common.{◌≡◌, ℕ, ◌+◌, true, false, List, refl, ap, sym, ◌∙◌, subst, if◌then◌else◌, ◌==◌, nat_lt}, lemmas.Bool.and_parts}
 use Rattle.rnix_kinds.specs.{declared.kinds.SyntaxKind.{SyntaxKind, TheVariants.{NODE_ERROR, NODE_ROOT}}, SyntaxKind.is_token, Lexical.Tokens.Lexeme}
 use Rattle.{rnix_kinds.proofs.AllKinds.implied, rnix_green.specs.{Forest.{Forest, empty, leaf, node, element_count}, Tree.{Tree, forest_of, part_of}}}
-use Rattle.rnix_grammar.specs.{Fault.Fault, AnnotatedForest.{AnnotatedForest, blank, token, branch, fault, forget, tokens_in, HaveLeafKinds}, Rows.is_row}
+use Rattle.rnix_grammar.specs.{Fault.Fault, AnnotatedForest.{AnnotatedForest, blank, token, branch, fault, forget, tokens_in, HaveLeafKinds}, WholeRows.is_row}
 use Rattle.rnix_grammar.specs.{Shape.{item_kinds, AreRows, IsShaped}, Named.AreSpelled, Derivation.has_tokens_alone}
 use Rattle.{rnix_grammar.specs.Parsed.IsParsed, rnix_lemmas.proofs.{Basics.{choice, not_if}, EntryNames.both_true, SpelledLemmas.{AreRuled, spelled_from}}}
-use Rattle.rnix_lemmas.proofs.{RowKinds.has_row, NestTrees.whole_row, OpeningRows.{spelled_first, spelled_rest}}
+use Rattle.rnix_lemmas.proofs.{RowKinds.has_row, LiveRows.whole_row, SpelledLemmas.{spelled_first, spelled_rest}}
 use Rattle.rnix_rows.proofs.ReadsTold.{told_token, spelled_token}
 
 -- each node has a row of its kind

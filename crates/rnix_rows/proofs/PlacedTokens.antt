@@ -59,5 +59,6 @@ placed_extent n m (t ∷ ts) s e h = same t.start n (end_from t.end ts) m h.0 (p
     same a b c d e g = cc
 
 -- the extent of a row's tokens is that of its trees' text
-pub row_extent : (s : ℕ) (f : AnnotatedForest) → is_some (tokens_in f) ≡ true → ArePlaced s (tokens_in f) → extent_of (tokens_in f) ≡ between s (s + length (text_of (forget f)))
+pub row_extent : (s : ℕ) (f : AnnotatedForest) → is_some (tokens_in f) ≡ true → ArePlaced s (tokens_in f)
+    → extent_of (tokens_in f) ≡ between s (s + length (text_of (forget f)))
 row_extent s f some h = placed_extent s (s + length (text_of (forget f))) (tokens_in f) some (ap (λ z. s + z) (sym (forget-length f))) h

@@ -2,11 +2,14 @@
 use Rattle.std.proofs.Common.{◌≡◌, ◌⊎◌, inl, inr, ℕ, true, false, List, [], ◌∷◌, ◌++◌, Option, Some, None, refl, ap, sym, ◌∙◌, subst, append_assoc}
 use Rattle.std.proofs.Common.{if◌then◌else◌}
 use Rattle.{rnix_kinds.specs.declared.kinds.SyntaxKind.{SyntaxKind, TheVariants.NODE_PAT_ENTRY}, rnix_grammar.specs.Fault.{Fault, named_twice}}
-use Rattle.rnix_grammar.specs.AnnotatedForest.{Token, Note, Stray, Unwanted, Extra, Twice, TooDeep, AnnotatedForest, blank, branch, fault, ◌⊕◌, one_token, one_fault, row_of}
-use Rattle.rnix_grammar.specs.{AnnotatedForest.{tokens_in, extent_of}, Reports.{report, repeated_if, entry_name, has_entry, repeats}, Rows.RowState}
-use Rattle.rnix_grammar.specs.{PlaceReads.{Reads, end, leaf, missing_part, wrong, second, inner, IsWrong}, Repaired.{is_ended, others, is_misplaced}}
+use Rattle.rnix_grammar.specs.AnnotatedForest.{Token, Note, Stray, Unwanted, Extra, Twice, TooDeep, AnnotatedForest, blank, branch, fault, ◌⊕◌, one_token}
+use Rattle.rnix_grammar.specs.AnnotatedForest.{one_fault, row_of}
+use Rattle.rnix_grammar.specs.{AnnotatedForest.{tokens_in, extent_of}, AnnotatedForest.leaf_kind, Reports.{report, repeated_if, entry_name, has_entry, repeats}}
+use Rattle.rnix_grammar.specs.Rules.{Row}
+use Rattle.rnix_grammar.specs.{Reads.{Reads, end, leaf, missing_part, wrong, second, inner, IsWrong}, Repaired.{is_ended, others, is_misplaced}}
 use Rattle.rnix_grammar.specs.{Repaired.{NoneMisplaced, AreSettled, IsNamedList, AreNamedLists}, Shape.reports_behind}
 use Rattle.rnix_lemmas.proofs.{AnnotatedForestLemmas.tokens_in-row_of, MissingFacts.missing_ended, Basics.{true_is_not_false, not_nil, none_right, none_left}}
+use Rattle.rnix_lemmas.proofs.KnownRows.{IsKnown, known_row, known_second, known_after, known_missing, known_past, known_wrong}
 
 -- the others of two lists
 pub others-++ : (es fs : List Fault) → others (es ++ fs) ≡ others es ++ others fs
@@ -99,7 +102,7 @@ calm_repeats NODE_PAT_ENTRY b c = by (entry_name c)
 calm_repeats _ b c = calm_none
 
 -- an error node with no token is nested too deep
-empty_report : (note : Note) (d : ℕ) (q r : RowState) (vs : List Token) → IsWrong note d q r [] vs → is_misplaced (report note []) ≡ false
+empty_report : (note : Note) (d : ℕ) (q r : Row) (vs : List Token) → IsWrong note d q r [] vs → is_misplaced (report note []) ≡ false
 empty_report Stray d q r vs w = absurd (cc)
 empty_report (Unwanted until) d q r vs w = absurd (true_is_not_false (sym w.0))
 empty_report Extra d q r vs w = absurd (true_is_not_false (sym w.0))
@@ -117,7 +120,8 @@ pub record Errors (f : AnnotatedForest) (us : List Token) (rs es : List Fault) :
   pub settled : AreSettled es
 
 -- those of a node, its own and those behind it
-joined : (c f g : AnnotatedForest) (us vs : List Token) (ds os es ps rs : List Fault) → tokens_in g ≡ tokens_in c ++ tokens_in f → vs ≡ tokens_in f ++ us → Errors c vs ps ds
+joined : (c f g : AnnotatedForest) (us vs : List Token) (ds os es ps rs : List Fault) → tokens_in g ≡ tokens_in c ++ tokens_in f → vs ≡ tokens_in f ++ us
+    → Errors c vs ps ds
     → AreCalm os → Errors f us rs es → Errors g us (ps ++ (os ++ rs)) ((ds ++ os) ++ es)
 joined c f g us vs ds os es ps rs t v h o w = record {
   reports = rw (others-++ (ds ++ os) es, others-++ ds os, h.reports, o.reports, w.reports) (append_assoc ps os rs);
@@ -134,43 +138,43 @@ joined c f g us vs ds os es ps rs t v h o w = record {
 }
 
 -- so it is with each row
-pub reads_errors : {p : SyntaxKind} {d n : ℕ} {q q' : RowState} {b : AnnotatedForest} {us : List Token} {f : AnnotatedForest} {es : List Fault}
-    → Reads p d n q q' b us f es → Errors f us (reports_behind b f) es
-reads_errors end = record { reports = refl; named = tt; none = λ n. tt; last = λ h. absurd h; settled = tt }
-reads_errors (leaf {f = f} h _ _ _ g l c _ s) =
-    let w = reads_errors s in
-    record { reports = w.reports ∙ ap (λ x. reports_behind x f) c; named = w.named; none = λ n. absurd (not_nil n); last = w.last; settled = w.settled }
-reads_errors {b = b} {us = us} {f = f} (missing_part {x = x} {y = y} {e = e} {es = es} u n l _ s z) =
-    let w = reads_errors s in
-    let missing = missing_ended x y e l in
-    subst (Errors f us (reports_behind b f)) (sym z) (record {
+pub reads_errors : {p : SyntaxKind} {d n : ℕ} {q q' : Row} {b : AnnotatedForest} {us : List Token} {f : AnnotatedForest} {es : List Fault}
+    → Reads p d n q q' b us f es → IsKnown p q → Errors f us (reports_behind b f) es
+reads_errors end i = record { reports = refl; named = tt; none = λ n. tt; last = λ h. absurd h; settled = tt }
+reads_errors {p} (leaf {t = t} x o h) i =
+    let w = reads_errors h (known_after (leaf_kind p t) i) in
+    record { reports = w.reports; named = w.named; none = λ n. absurd (not_nil n); last = w.last; settled = w.settled }
+reads_errors (missing_part {e = e} {es = es} u n l o h) i =
+    let w = reads_errors h (known_missing l i) in
+    let missing = missing_ended i l in
+    record {
       reports = ap (λ x. if x then others es else e ∷ others es) missing.0 ∙ w.reports;
       named = (missing.1, w.named);
       none = λ n. (ended_placed e missing.0, w.none n);
       last = λ h. u;
       settled = (w.settled, λ h. w.none n);
-    })
-reads_errors {d = d₀} {q = q} {b = b} {us = us} (wrong {r = r} {vs = vs} {c = c} {f = f} {es = es} n ts h v _ _ x d _ s z) =
-    let w = reads_errors s in
-    let same : tokens_in c ≡ ts = ap tokens_in h ∙ tokens_in-row_of ts in
-    subst (Errors (fault n c f) us (reports_behind b (fault n c f))) (sym z) (record {
-      reports = ap (λ x. if x then others es else report n ts ∷ others es) (plain_report n ts) ∙ ap (λ x. report n ts ∷ x) (w.reports ∙ ap (λ x. reports_behind x f) d)
+    }
+reads_errors {d = d} {q = q} {b = b} {us = us} (wrong {r = r} {f = f} {es = es} n ts x o v h) i =
+    let w = reads_errors h (known_wrong n _ _ _ v i) in
+    let c : AnnotatedForest = row_of ts in
+    let same : tokens_in c ≡ ts = tokens_in-row_of ts in
+    record {
+      reports = ap (λ x. if x then others es else report n ts ∷ others es) (plain_report n ts) ∙ ap (λ x. report n ts ∷ x) w.reports
           ∙ ap (λ x. report n x ∷ reports_behind (b ⊕ one_fault n c) f) (sym same)
-          ∙ ap (λ x. x ++ (report n (tokens_in c) ∷ reports_behind (b ⊕ one_fault n c) f)) (sym (ap (reports_behind blank) h ∙ reports-row_of blank ts));
+          ∙ ap (λ x. x ++ (report n (tokens_in c) ∷ reports_behind (b ⊕ one_fault n c) f)) (sym (reports-row_of blank ts));
       named = (named_report n ts, w.named);
       none = λ o.
           (let none : ts ≡ [] = sym same ∙ none_left (tokens_in c) (tokens_in f) o in (
-            ap (λ x. is_misplaced (report n x)) none ∙ empty_report n d₀ q r vs (subst (λ (x : List Token). IsWrong n d₀ q r x vs) none x),
+            ap (λ x. is_misplaced (report n x)) none
+                ∙ empty_report n d q r (tokens_in f ++ us) (subst (λ (x : List Token). IsWrong n d q r x (tokens_in f ++ us)) none v),
             w.none (none_right (tokens_in c) (tokens_in f) o),
           ));
       last = λ o. elim o [ inl e ↦ absurd (true_is_not_false (sym e ∙ plain_report n ts)) | inr e ↦ w.last e ];
       settled = (w.settled, λ e. absurd (true_is_not_false (sym e ∙ plain_report n ts)));
-    })
-reads_errors {b = b} {us = us} (second {vs = vs} {c = c} {f = f} {ds = ds} {es = es} v s _ y q r d x z) =
-    subst (Errors (fault Twice c f) us (reports_behind b (fault Twice c f))) (sym z)
-    (joined c f (fault Twice c f) us vs ds (report Twice (tokens_in c) ∷ []) es _ _ refl v (reads_errors s) (calm_second (tokens_in c))
-    (subst (λ z. Errors f us (reports_behind z f) es) d (reads_errors x)))
-reads_errors {b = b} {us = us} (inner {vs = vs} {c = c} {f = f} {ds = ds} {es = es} {k = k} v _ s _ y _ _ _ _ g l d x z) =
-    subst (Errors (branch k c f) us (reports_behind b (branch k c f))) (sym z)
-    (joined c f (branch k c f) us vs ds (repeats k b c) es _ _ refl v (reads_errors s) (calm_repeats k b c)
-    (subst (λ z. Errors f us (reports_behind z f) es) d (reads_errors x)))
+    }
+reads_errors {us = us} (second {c = c} {f = f} {ds = ds} {es = es} s y h) i =
+    joined c f (fault Twice c f) us (tokens_in f ++ us) ds (report Twice (tokens_in c) ∷ []) es _ _ refl refl (reads_errors s known_second)
+    (calm_second (tokens_in c)) (reads_errors h (known_past i))
+reads_errors {b = b} {us = us} (inner {k = k} {c = c} {f = f} {ds = ds} {es = es} o s y x j z h) i =
+    joined c f (branch k c f) us (tokens_in f ++ us) ds (repeats k b c) es _ _ refl refl (reads_errors s (known_row k)) (calm_repeats k b c)
+    (reads_errors h (known_after k i))

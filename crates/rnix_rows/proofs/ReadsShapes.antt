@@ -1,39 +1,38 @@
 -- A row that is read has no error exactly if each of its nodes has its shape, and nothing in it is reported.
-use Rattle.std.proofs.Common.{◌≡◌, ◌↔◌, inl, inr, ℕ, ◌+◌, Bool, true, false, List, [], ◌∷◌, ◌++◌, refl, ap, sym, ◌∙◌, subst, arith, if◌then◌else◌, ◌&&◌}
-use Rattle.{rnix_kinds.specs.declared.kinds.SyntaxKind.{SyntaxKind, TheVariants.{NODE_ROOT, NODE_PATTERN, NODE_PAT_BIND}}, rnix_green.specs.Forest.node}
-use Rattle.{rnix_green.specs.Forest.leaf as leaf_in, rnix_grammar.specs.{Fault.Fault, AnnotatedForest.{Token, AnnotatedForest, blank, token, branch, fault}}}
-use Rattle.rnix_grammar.specs.{AnnotatedForest.{forget, Twice, tokens_in}, Rows.{RowState, Start, At, advance, whole, live, start, run, is_row}}
-use Rattle.rnix_grammar.specs.{PlaceReads.{Reads, ReadsWhole, end, leaf, missing_part, wrong, second, inner}, Named.{AreNamed, begins_with_token, is_bind_at, suits}, ErrorNodes.AreErrorNodes, Reports.repeats}
-use Rattle.rnix_grammar.specs.{Reports.report, Repaired.{repaired, kinds_of, incomplete, is_ended, ended_count, others}, Shape.{reports_behind, reports}}
-use Rattle.rnix_lemmas.proofs.{ImitateLemmas.imitates_self, Basics.{true_is_not_false, not_nil, none_left, none_right}, LaterRowStates.{is_start, go_later}}
-use Rattle.{rnix_lemmas.proofs.EntryNames.both_true, rnix_rows.proofs.{NamedRows.are_named, ErrorNodeRows.whole_error_nodes, ReadsFaults.reads_errors, ReadsRows.{half, reads_counts}}}
-
--- a bound name stands first where a row begins, and behind the first child at a place
-abbrev pub is_at : RowState → Bool
-is_at (At place) = true
-is_at row_state = false
+use Rattle.std.specs.List.{list_all}
+use Rattle.std.{proofs.Common.{◌≡◌, ◌↔◌, inl, inr, ℕ, ◌+◌, Bool, true, false, List, [], ◌∷◌, ◌++◌, refl, ap, sym, ◌∙◌, arith, if◌then◌else◌, ◌&&◌}}
+use Rattle.rnix_kinds.{specs.declared.kinds.SyntaxKind.{SyntaxKind, TheVariants.{NODE_ROOT, NODE_PATTERN, NODE_PAT_BIND}}, proofs.AllKinds.{all_kinds, every}}
+use Rattle.{rnix_green.specs.Forest.{node, leaf as leaf_in}, rnix_grammar.specs.{declared.rules.Part.TheVariants.EndOr, Fault.Fault}}
+use Rattle.rnix_grammar.specs.AnnotatedForest.{Token, AnnotatedForest, blank, token, branch, fault, forget, Twice, tokens_in, leaf_kind}
+use Rattle.rnix_grammar.specs.{Rules.{Row, ◌·◌, row, after, may_end}, WholeRows.{after_all, is_row}}
+use Rattle.rnix_grammar.specs.{Reads.{Reads, ReadsWhole, end, leaf, missing_part, wrong, second, inner}}
+use Rattle.rnix_grammar.specs.{Named.{AreNamed, begins_with_token, is_bind_at, suits}, ErrorNodes.AreErrorNodes, Reports.{report, repeats}}
+use Rattle.rnix_grammar.specs.{Repaired.{repaired, kinds_of, incomplete, is_ended, ended_count, others}, Shape.{reports_behind, reports}}
+use Rattle.rnix_lemmas.proofs.{Basics.{true_is_not_false, not_nil, none_left, none_right, Where, where_one}, EachKind.each_kind, EntryNames.both_true}
+use Rattle.rnix_lemmas.proofs.{KnownRows.{IsKnown, is_live, every_known, known_row, known_after}, LiveRows.{end_live, reads_live}}
+use Rattle.rnix_rows.proofs.{NamedRows.{are_named, is_end_or}, ErrorNodeRows.whole_error_nodes, ReadsFaults.reads_errors, ReadsRows.{half, reads_counts}}
+use Rattle.rnix_rows.proofs.Imitation.{imitates_self}
 
 -- behind the first child
 abbrev pub not_first : Bool → Bool
 not_first first = if first then false else true
 
--- a state where a bound name may stand is a place exactly if a child stands before it
-abbrev pub Agrees : Bool → RowState → Type 0
-Agrees first q = live (advance q NODE_PAT_BIND) ≡ true → is_at q ≡ not_first first
+-- where a bound name may stand the row may end exactly if a child stands before it
+abbrev Agrees : Bool → Row → Type 0
+Agrees first q = is_live (after q NODE_PAT_BIND) ≡ true → is_end_or q ≡ not_first first
 
 -- so it is where a row begins
-pub agrees_start : (k : SyntaxKind) → Agrees true (start k)
-agrees_start NODE_ROOT = λ l. absurd (true_is_not_false (sym l))
-agrees_start _ = λ l. cc
-
--- so it is at each state but these
-later_agrees : (r : RowState) → is_start r ≡ false → Agrees false r
-later_agrees (Start k) h = λ l. absurd (true_is_not_false h)
-later_agrees _ h = λ l. cc
+agrees_start : (k : SyntaxKind) → Agrees true (row k)
+agrees_start k = λ l. where_one (is_live (after (row k) NODE_PAT_BIND)) l
+    (each_kind (λ k. Where (is_live (after (row k) NODE_PAT_BIND)) (is_end_or (row k) ≡ false)) (assumption) k)
 
 -- so it is behind a child
-pub agrees_later : (q : RowState) (k : SyntaxKind) → Agrees false (advance q k)
-agrees_later q k = later_agrees (advance q k) (go_later q k)
+abbrev binds_behind : Row → SyntaxKind → Bool
+binds_behind q k = if is_live (after (after q k) NODE_PAT_BIND) then is_end_or (after q k) else true
+
+agrees_later : {i : SyntaxKind} (q : Row) (k : SyntaxKind) → IsKnown i q → Agrees false (after q k)
+agrees_later {i} q k n = λ l. sym (ap (λ w. if w then is_end_or (after q k) else true) l)
+    ∙ every (binds_behind q) (every_known (λ i q. list_all (binds_behind q) all_kinds) (λ i. refl) refl i q n) k
 
 -- a bound name without trivia is formed by whether it is the first child
 abbrev pub bare_bind : Bool → SyntaxKind → AnnotatedForest → Bool
@@ -41,16 +40,17 @@ bare_bind true NODE_PAT_BIND c = if begins_with_token c then false else true
 bare_bind false NODE_PAT_BIND c = begins_with_token c
 bare_bind first k c = true
 
--- a bound name is formed by its state
-by_row_state : (first : Bool) (q : RowState) (c : AnnotatedForest) → is_at q ≡ not_first first → is_bind_at q c ≡ true → bare_bind first NODE_PAT_BIND c ≡ true
-by_row_state true (At x) c a h = cc
-by_row_state false (At x) c a h = h
-by_row_state true _ c a h = cc
-by_row_state false _ c a h = cc
+-- a bound name is formed by what is left of its row
+bound_formed : (first : Bool) (q : Row) (c : AnnotatedForest) → is_end_or q ≡ not_first first → is_bind_at q c ≡ true → bare_bind first NODE_PAT_BIND c ≡ true
+bound_formed true (EndOr kind · r) c a h = absurd (true_is_not_false a)
+bound_formed false (EndOr kind · r) c a h = h
+bound_formed true _ c a h = h
+bound_formed false _ c a h = absurd (true_is_not_false (sym a))
 
 -- so it is formed by whether it is the first child
-pub formed_bare : (first : Bool) (q : RowState) (k : SyntaxKind) (c : AnnotatedForest) → Agrees first q → live (advance q k) ≡ true → suits q k c ≡ true → bare_bind first k c ≡ true
-formed_bare first q NODE_PAT_BIND c a l h = by_row_state first q c (a l) h
+formed_bare : (first : Bool) (q : Row) (k : SyntaxKind) (c : AnnotatedForest) → Agrees first q → is_live (after q k) ≡ true → suits q k c ≡ true
+    → bare_bind first k c ≡ true
+formed_bare first q NODE_PAT_BIND c a l h = bound_formed first q c (a l) h
 formed_bare true q _ c a l h = refl
 formed_bare false q _ c a l h = refl
 
@@ -68,31 +68,32 @@ AreBareRows (token k t f) = AreBareRows f
 AreBareRows (branch k c f) = (is_row k (kinds_of (forget c)) ≡ true) × (bare_binds true c ≡ true) × AreBareRows c × AreBareRows f
 AreBareRows (fault n c f) = ⊥
 
--- a row of such nodes, from one state to another
-pub record IsBareRow (first : Bool) (q q' : RowState) (f : AnnotatedForest) : Type 0 where
+-- a row of such nodes, from what is left of it to what is left after them
+pub record IsBareRow (first : Bool) (q q' : Row) (f : AnnotatedForest) : Type 0 where
   pub nodes : AreBareRows f
   pub binds : bare_binds first f ≡ true
-  pub reaches : run q (kinds_of (forget f)) ≡ q'
+  pub reaches : after_all q (kinds_of (forget f)) ≡ q'
 
 -- without errors every node has its row
-pub reads_rows : {p : SyntaxKind} {d n : ℕ} {q q' : RowState} {b : AnnotatedForest} {us : List Token} {f : AnnotatedForest} {es : List Fault} (first : Bool)
-    → Reads p d n q q' b us f es → es ≡ [] → AreNamed q f → Agrees first q → IsBareRow first q q' f
-reads_rows first end n w g = record { nodes = tt; binds = refl; reaches = refl }
-reads_rows {q = q} first (leaf {f = f} {k = k} h _ _ _ g l c _ s) n names m =
-    let w = reads_rows false s n (subst (λ x. AreNamed x f) g names) (subst (Agrees false) g (agrees_later q k)) in
-    record { nodes = w.nodes; binds = w.binds; reaches = ap (λ x. run x (kinds_of (forget f))) g ∙ w.reaches }
-reads_rows first (missing_part u x l _ s z) n names m = absurd (not_nil (sym z ∙ n))
-reads_rows first (wrong note ts h v _ _ x d _ s z) n names m = absurd (not_nil (sym z ∙ n))
-reads_rows first (second {c = c} {ds = ds} {es = es} v s _ y e r d x z) n names m =
-    absurd (not_nil (none_right ds (report Twice (tokens_in c) ∷ []) (none_left (ds ++ report Twice (tokens_in c) ∷ []) es (sym z ∙ n))))
-reads_rows {q = q} {b = b} first (inner {c = c} {f = f} {ds = ds} {es = es} {k = k} v _ s _ y _ _ _ _ g l d x z) n names m =
-    let all : (ds ++ repeats k b c) ++ es ≡ [] = sym z ∙ n in
-    let below = reads_rows true s (none_left ds (repeats k b c) (none_left (ds ++ repeats k b c) es all)) names.1 (agrees_start k) in
-    let w = reads_rows false x (none_right (ds ++ repeats k b c) es all) (subst (λ x. AreNamed x f) g names.2) (subst (Agrees false) g (agrees_later q k)) in
+reads_rows : {p : SyntaxKind} {d n : ℕ} {q q' : Row} {b : AnnotatedForest} {us : List Token} {f : AnnotatedForest} {es : List Fault} (first : Bool)
+    → Reads p d n q q' b us f es → es ≡ [] → is_live q' ≡ true → IsKnown p q → AreNamed q f → Agrees first q → IsBareRow first q q' f
+reads_rows first end n l i w g = record { nodes = tt; binds = refl; reaches = refl }
+reads_rows {p} {q = q} first (leaf {t = t} x o s) n l i names m =
+    let k : SyntaxKind = leaf_kind p t in
+    let w = reads_rows false s n l (known_after k i) names (agrees_later q k i) in
+    record { nodes = w.nodes; binds = w.binds; reaches = w.reaches }
+reads_rows first (missing_part u t z o s) n l i names m = absurd (not_nil n)
+reads_rows first (wrong note ts x o v s) n l i names m = absurd (not_nil n)
+reads_rows first (second {c = c} {ds = ds} {es = es} s y x) n l i names m =
+    absurd (not_nil (none_right ds (report Twice (tokens_in c) ∷ []) (none_left (ds ++ report Twice (tokens_in c) ∷ []) es n)))
+reads_rows {q = q} {b = b} first (inner {k = k} {c = c} {f = f} {ds = ds} {es = es} o s y x j z t) n l i names m =
+    let none : ds ≡ [] = none_left ds (repeats k b c) (none_left (ds ++ repeats k b c) es n) in
+    let below = reads_rows true s none (end_live _ y.0) (known_row k) names.1 (agrees_start k) in
+    let w = reads_rows false t (none_right (ds ++ repeats k b c) es n) l (known_after k i) names.2 (agrees_later q k i) in
     record {
-      nodes = (ap whole below.reaches ∙ y.0, below.binds, below.nodes, w.nodes);
-      binds = both_true (bare_bind first k c) (bare_binds false f) (formed_bare first q k c m (ap live g ∙ l) names.0) w.binds;
-      reaches = ap (λ x. run x (kinds_of (forget f))) g ∙ w.reaches;
+      nodes = (ap may_end below.reaches ∙ y.0, below.binds, below.nodes, w.nodes);
+      binds = both_true (bare_bind first k c) (bare_binds false f) (formed_bare first q k c m (reads_live t l) names.0) w.binds;
+      reaches = w.reaches;
     }
 
 -- where no node is an error node nothing is repaired
@@ -122,13 +123,14 @@ none_in_all (e ∷ es) h k = by_first (is_ended e) refl
     by_first false i = absurd (not_nil (ap (λ x. if x then others es else e ∷ others es) (sym i) ∙ k))
 
 -- where every node has its row and nothing is reported there is no error
-pub rows_read : {p : SyntaxKind} {d n : ℕ} {q q' : RowState} {b : AnnotatedForest} {us : List Token} {f : AnnotatedForest} {es : List Fault}
-    → Reads p d n q q' b us f es → whole q' ≡ true → ((p ≡ NODE_PATTERN) → ⊥) → AreErrorNodes p f → AreBareRows f → whole (run q (kinds_of (forget f))) ≡ true → reports_behind b f ≡ [] → es ≡ []
-rows_read {q = q} {f = f} {es = es} s w not o r h n =
-    let row : half (whole (run q (kinds_of (repaired f)))) ≡ 0 = ap (λ x. half (whole (run q (kinds_of x)))) (repaired_none f r) ∙ ap half h in
+rows_read : {p : SyntaxKind} {d n : ℕ} {q q' : Row} {b : AnnotatedForest} {us : List Token} {f : AnnotatedForest} {es : List Fault}
+    → Reads p d n q q' b us f es → may_end q' ≡ true → IsKnown p q → ((p ≡ NODE_PATTERN) → ⊥) → AreErrorNodes p f → AreBareRows f
+    → may_end (after_all q (kinds_of (forget f))) ≡ true → reports_behind b f ≡ [] → es ≡ []
+rows_read {q = q} {f = f} {es = es} s w i not o r h n =
+    let row : half (may_end (after_all q (kinds_of (repaired f)))) ≡ 0 = ap (λ x. half (may_end (after_all q (kinds_of x)))) (repaired_none f r) ∙ ap half h in
     let all : incomplete (repaired f) ≡ 0 = ap incomplete (repaired_none f r) ∙ incomplete_none f r in
-    let counts = reads_counts q s w (imitates_self q) o in
-    none_in_all es (elim (counts.none (omega (arith, row, all))) [ inl e ↦ e | inr e ↦ absurd (not e.0) ]) ((reads_errors s).reports ∙ n)
+    let counts = reads_counts q s w i i (imitates_self q) o in
+    none_in_all es (elim (counts.none (omega (arith, row, all))) [ inl e ↦ e | inr e ↦ absurd (not e.0) ]) ((reads_errors s i).reports ∙ n)
 
 -- a whole text without trivia: no error exactly if the root and each node below it have their rows, and nothing is reported
 pub record IsBare (f : AnnotatedForest) : Type 0 where
@@ -138,9 +140,9 @@ pub record IsBare (f : AnnotatedForest) : Type 0 where
 
 -- a whole text has no error exactly if it is so
 pub whole_rows : {f : AnnotatedForest} {es : List Fault} → ReadsWhole f es → (es ≡ []) ↔ IsBare f
-whole_rows {f = f} {es = es} s = (there, λ w. rows_read s refl (λ e. cc) (whole_error_nodes s) w.nodes w.root w.silent)
+whole_rows {f = f} {es = es} s = (there, λ w. rows_read s refl (known_row NODE_ROOT) (λ e. cc) (whole_error_nodes s) w.nodes w.root w.silent)
   where
     there : es ≡ [] → IsBare f
     there n =
-        let w = reads_rows true s n (are_named s) (agrees_start NODE_ROOT) in
-        record { root = ap whole w.reaches; nodes = w.nodes; silent = sym (reads_errors s).reports ∙ ap others n }
+        let w = reads_rows true s n refl (known_row NODE_ROOT) (are_named s) (agrees_start NODE_ROOT) in
+        record { root = ap may_end w.reaches; nodes = w.nodes; silent = sym (reads_errors s (known_row NODE_ROOT)).reports ∙ ap others n }

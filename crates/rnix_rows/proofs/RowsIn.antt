@@ -29,7 +29,8 @@ pub row_first : (t : Tree) (n s : ℕ) (p : Option ℕ) (f : Forest) → IsRowIn
 row_first t n s p f h l = (let e : n + 0 ≡ n = omega arith in sym (ap (item t) e) ∙ h.items 0 l)
 
 -- the row behind a leaf
-pub row_behind_leaf : (t : Tree) (n s : ℕ) (p : Option ℕ) (k : SyntaxKind) (x : List ℕ) (f : Forest) → IsRowIn t n s p (leaf k x f) → IsRowIn t (n + 1) (s + length x) p f
+pub row_behind_leaf : (t : Tree) (n s : ℕ) (p : Option ℕ) (k : SyntaxKind) (x : List ℕ) (f : Forest) → IsRowIn t n s p (leaf k x f)
+    → IsRowIn t (n + 1) (s + length x) p f
 row_behind_leaf t n s p k x f h = record {
   there = omega (arith, h.there);
   items = λ i l. (let e : n + 1 + i ≡ n + suc i = omega arith in ap (item t) e ∙ h.items (suc i) (omega arith));
@@ -76,7 +77,8 @@ row_behind_node t n s p k c f h = record {
 }
 
 -- a node has the text of its children
-pub row_text : (t : Tree) (n s : ℕ) (p : Option ℕ) (k : SyntaxKind) (c f : Forest) → IsRowIn t n s p (node k c f) → text_at record { tree = t; number = n } ≡ text_of c
+pub row_text : (t : Tree) (n s : ℕ) (p : Option ℕ) (k : SyntaxKind) (c f : Forest) → IsRowIn t n s p (node k c f)
+    → text_at record { tree = t; number = n } ≡ text_of c
 row_text t n s p k c f h =
     let first : item t n ≡ at n s p (node k c f) 0 = row_first t n s p (node k c f) h (omega arith) in
     let start : (item t n).start ≡ s = ap (λ (i : Item). i.start) first in

@@ -48,7 +48,8 @@ ends_more js [] h e = absurd h
 ends_more js (k ∷ ks) h e = ends_behind js (k ∷ ks) (some k ks) e
 
 -- a row whose last tree holds an item ends with one
-ends_last : (f : Forest) (js ks : List SyntaxKind) → AreNodesTrimmed f → (HasItem ks → EndsWithItem ks) → HasItem (last_from ks f) → EndsWithItem ((js ++ ks) ++ leaf_kinds f)
+ends_last : (f : Forest) (js ks : List SyntaxKind) → AreNodesTrimmed f → (HasItem ks → EndsWithItem ks) → HasItem (last_from ks f)
+    → EndsWithItem ((js ++ ks) ++ leaf_kinds f)
 ends_last empty js ks h e i = subst EndsWithItem (sym (append-nil (js ++ ks))) (ends_more js ks i (e i))
 ends_last (leaf k t f) js ks h e i =
     subst EndsWithItem (append_assoc (js ++ ks) (k ∷ []) (leaf_kinds f)) (ends_last f (js ++ ks) (k ∷ []) h (one_item k) i)

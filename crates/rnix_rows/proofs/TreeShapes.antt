@@ -4,10 +4,11 @@ use Rattle.rnix_kinds.specs.declared.kinds.SyntaxKind.{SyntaxKind, TheVariants.{
 use Rattle.{rnix_kinds.specs.SyntaxKind.is_trivia, rnix_green.specs.Forest.Forest, rnix_grammar.specs.{Fault.{Fault, named_twice}, AnnotatedForest.Token}}
 use Rattle.rnix_grammar.specs.AnnotatedForest.{AnnotatedForest, blank, token, branch, fault, ◌⊕◌, one_token, one_branch, one_fault, forget, without_trivia}
 use Rattle.rnix_grammar.specs.{AnnotatedForest.{token_if, leaf_kind, HaveLeafKinds, tokens_in, extent_of}, Reports.{repeated_if, entry_name}}
-use Rattle.rnix_grammar.specs.{Reports.{only_token, is_same_name, has_entry, repeats}, Rows.{whole, is_row}, PlaceReads.ReadsWhole, Named.begins_with_token}
+use Rattle.rnix_grammar.specs.{Reports.{only_token, is_same_name, has_entry, repeats}, Rules.may_end, WholeRows.is_row, Reads.ReadsWhole}
+use Rattle.rnix_grammar.specs.Named.{begins_with_token}
 use Rattle.rnix_grammar.specs.{Repaired.kinds_of, Trim.{AreNodesTrimmed, AreFaultsTrimmed}, Shape.{item_kinds, begins_with_leaf, is_bind_formed}}
 use Rattle.rnix_grammar.specs.Shape.{are_binds_formed, AreRows, IsShaped, leaf_text, text_if, name_in, name_if, with_name, entry_names, AreNew, AreUnrepeated}
-use Rattle.{rnix_grammar.specs.{Shape.{IsUnrepeated, reports_behind, reports_within}, Tables.is_among}, rnix_lemmas.proofs.ImitateLemmas.nowhere}
+use Rattle.{rnix_grammar.specs.{Shape.{IsUnrepeated, reports_behind, reports_within}, Tables.is_among}, rnix_lemmas.proofs.LiveRows.nowhere}
 use Rattle.rnix_lemmas.proofs.{Basics.{true_is_not_false, none_left, none_right}, EntryNames.{bare_name, has_branch, either_assoc, has-⊕, if_not}}
 use Rattle.rnix_lemmas.proofs.{AnnotatedForestLemmas.⊕-blank, LayoutLemmas.without_trivia-⊕, ReportLemmas.{without_trivia_tokens, same_report}}
 use Rattle.rnix_rows.proofs.{WithTriviaEdges.told_alike, ReadsShapes.{bare_bind, bare_binds, AreBareRows, IsBare, whole_rows}}
@@ -17,7 +18,8 @@ leaf_trivia : (p k : SyntaxKind) (t : Token) → k ≡ leaf_kind p t → is_triv
 leaf_trivia p k t e = sym (ap is_trivia e ∙ told_alike p t.kind)
 
 -- what is told of a row by its first tree that is no trivia, or by all of these
-by_leaf : {A : Type 0} (x : Bool) (k : SyntaxKind) (t : Token) (f : AnnotatedForest) (h : AnnotatedForest → A) (a b : A) → h f ≡ a → h (token k t f) ≡ b → h (token_if x k t f) ≡ (if x then a else b)
+by_leaf : {A : Type 0} (x : Bool) (k : SyntaxKind) (t : Token) (f : AnnotatedForest) (h : AnnotatedForest → A) (a b : A) → h f ≡ a → h (token k t f) ≡ b
+    → h (token_if x k t f) ≡ (if x then a else b)
 by_leaf true k t f h a b e g = e
 by_leaf false k t f h a b e g = g
 
@@ -38,7 +40,8 @@ without_trivia_begins p (token k t f) h =
 without_trivia_begins p _ h = cc
 
 -- bound names
-without_trivia_bind : (first : Bool) (k : SyntaxKind) (c : AnnotatedForest) → HaveLeafKinds k c → bare_bind first k (without_trivia c) ≡ is_bind_formed first k (forget c)
+without_trivia_bind : (first : Bool) (k : SyntaxKind) (c : AnnotatedForest) → HaveLeafKinds k c
+    → bare_bind first k (without_trivia c) ≡ is_bind_formed first k (forget c)
 without_trivia_bind true NODE_PAT_BIND c h = ap (λ x. if x then false else true) (without_trivia_begins NODE_PAT_BIND c h)
 without_trivia_bind false NODE_PAT_BIND c h = without_trivia_begins NODE_PAT_BIND c h
 without_trivia_bind true _ c h = refl
@@ -50,7 +53,8 @@ error_bind true c b = refl
 error_bind false c b = refl
 
 -- bound names in a row
-without_trivia_binds : (p : SyntaxKind) (first : Bool) (f : AnnotatedForest) → HaveLeafKinds p f → bare_binds first (without_trivia f) ≡ are_binds_formed first (forget f)
+without_trivia_binds : (p : SyntaxKind) (first : Bool) (f : AnnotatedForest) → HaveLeafKinds p f
+    → bare_binds first (without_trivia f) ≡ are_binds_formed first (forget f)
 without_trivia_binds p first blank h = refl
 without_trivia_binds p first (token k t f) h =
     by_leaf (is_trivia t.kind) k t (without_trivia f) (bare_binds first) (are_binds_formed first (forget f)) (are_binds_formed false (forget f)) (without_trivia_binds p first f h.1) (without_trivia_binds p false f h.1)
@@ -62,7 +66,7 @@ without_trivia_binds p first (fault n c f) h = without_trivia_binds p false f h.
 -- an error node has no row
 no_error_row : (ks : List SyntaxKind) → is_row NODE_ERROR ks ≡ true → ⊥
 no_error_row [] h = true_is_not_false (sym h)
-no_error_row (k ∷ ks) h = true_is_not_false (sym h ∙ ap whole (nowhere ks))
+no_error_row (k ∷ ks) h = true_is_not_false (sym h ∙ ap may_end (nowhere ks))
 
 -- each node has its row with trivia if it has it without
 are_rows : (p : SyntaxKind) (f : AnnotatedForest) → HaveLeafKinds p f → AreBareRows (without_trivia f) ↔ AreRows (forget f)
@@ -90,7 +94,8 @@ without_trivia_text p (token k t f) h =
 without_trivia_text p _ h = cc
 
 -- the name of a node that may be one
-without_trivia_ident : (k : SyntaxKind) (c f : AnnotatedForest) → HaveLeafKinds k c → text_in (entry_name (branch k (without_trivia c) f)) ≡ text_if k (forget c)
+without_trivia_ident : (k : SyntaxKind) (c f : AnnotatedForest) → HaveLeafKinds k c
+    → text_in (entry_name (branch k (without_trivia c) f)) ≡ text_if k (forget c)
 without_trivia_ident NODE_IDENT c f h = without_trivia_text NODE_IDENT c h
 without_trivia_ident _ c f h = refl
 
@@ -132,7 +137,8 @@ added names None = names
 added names (Some name) = names ++ (name ∷ [])
 
 -- a node may have a name
-lists_branch : (names : List (List ℕ)) (b : AnnotatedForest) (k : SyntaxKind) (c : AnnotatedForest) → Lists names b → Lists (added names (text_in (bare_name k c))) (b ⊕ one_branch k c)
+lists_branch : (names : List (List ℕ)) (b : AnnotatedForest) (k : SyntaxKind) (c : AnnotatedForest) → Lists names b
+    → Lists (added names (text_in (bare_name k c))) (b ⊕ one_branch k c)
 lists_branch names b k c h = λ name.
     has-⊕ name b (one_branch k c) ∙ ap (λ x. if has_entry name b then true else x) (has_branch name k c blank) ∙ by_name name (bare_name k c)
   where
@@ -147,7 +153,8 @@ IsNew names None = Unit {0}
 IsNew names (Some name) = is_among name names ≡ false
 
 -- the first name and those behind it
-new_all : (before : List (List ℕ)) (o : Option (List ℕ)) (names : List (List ℕ)) → AreNew before (with_name o names) ↔ (IsNew before o × AreNew (added before o) names)
+new_all : (before : List (List ℕ)) (o : Option (List ℕ)) (names : List (List ℕ))
+    → AreNew before (with_name o names) ↔ (IsNew before o × AreNew (added before o) names)
 new_all before None names = (λ h. (tt, h), λ h. h.1)
 new_all before (Some name) names = (λ h. (h.0, h.1), λ h. (h.0, h.1))
 
@@ -225,7 +232,8 @@ whole_shaped f g es s e h t = (there, back)
         (whole_rows s).1 (subst IsBare e bare)
 
 -- a leaf reports nothing
-leaf_reports : (x : Bool) (k : SyntaxKind) (t : Token) (b f : AnnotatedForest) → reports_behind b (token_if x k t f) ≡ reports_behind (b ⊕ token_if x k t blank) f
+leaf_reports : (x : Bool) (k : SyntaxKind) (t : Token) (b f : AnnotatedForest)
+    → reports_behind b (token_if x k t f) ≡ reports_behind (b ⊕ token_if x k t blank) f
 leaf_reports true k t b f = ap (λ z. reports_behind z f) (sym (⊕-blank b))
 leaf_reports false k t b f = refl
 

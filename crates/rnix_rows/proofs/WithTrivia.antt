@@ -1,7 +1,8 @@
 -- Where the trivia of the open rows stand is told by their items and the tokens.
 use Rattle.std.proofs.Common.{◌≡◌, ℕ, suc, Bool, true, false, List, [], ◌∷◌, ◌++◌, Option, refl, sym, ap, ◌∙◌, subst, if◌then◌else◌, nat_le}
 use Rattle.rnix_kinds.specs.declared.kinds.SyntaxKind.{SyntaxKind, TheVariants.{NODE_ERROR, NODE_IDENT, NODE_IDENT_PARAM, NODE_APPLY, NODE_LEGACY_LET}}
-use Rattle.{rnix_kinds.specs.declared.kinds.SyntaxKind.TheVariants.{NODE_PATTERN, NODE_PAT_BIND}, rnix_grammar.specs.declared.place.Place.Place}
+use Rattle.rnix_grammar.specs.declared.{place.Place.Place, position.TheConstants.APPLIED}
+use Rattle.rnix_kinds.specs.declared.kinds.SyntaxKind.TheVariants.{NODE_PATTERN, NODE_PAT_BIND}
 use Rattle.rnix_grammar.specs.{declared.{until.Until.Until, action.Action.Action, begin.Begin.Begin}, Fault.Fault, Tables.depth_limit, Actions.action_at}
 use Rattle.rnix_grammar.specs.{Begins.{begin_of, second_kind}, AnnotatedForest.{Token, Stray, Unwanted, Extra, Twice, TooDeep, AnnotatedForest, blank, ◌⊕◌}}
 use Rattle.rnix_grammar.specs.{AnnotatedForest.{one_branch, one_fault, without_trivia, head_kind, touches}, Layout.{from_item, tail_of, trivia_before, items}}
@@ -79,16 +80,19 @@ operand_tree Operand row t = t
 operand_tree _ row t = tt
 
 -- an operand is no root, so it does not begin with trivia
-on_some : (all : List Token) (head : Head) (place : Place) (fs : List Frame) (ts : List Token) → sort_of place ≡ Loose → StandsOn head place fs → AreAwaiting all fs ts → IsBare ts
+on_some : (all : List Token) (head : Head) (place : Place) (fs : List Frame) (ts : List Token) → sort_of place ≡ Loose → StandsOn head place fs
+    → AreAwaiting all fs ts → IsBare ts
 on_some all head place [] ts e w h = absurd (cc)
 on_some all head place (f ∷ fs) ts e w h = awaited_bare f.row h.0 ts h.1.0
 
 -- a frame that waits for what begins with the next item
-waiting : (all : List Token) (f : Frame) (fs : List Frame) (ts : List Token) → HaveTrivia all (f ∷ fs) ts → AreAwaiting all (put f.place (ate true f.row ts) f ∷ fs) (from_item ts)
+waiting : (all : List Token) (f : Frame) (fs : List Frame) (ts : List Token) → HaveTrivia all (f ∷ fs) ts
+    → AreAwaiting all (put f.place (ate true f.row ts) f ∷ fs) (from_item ts)
 waiting all f fs ts h = (h.0, (awaits f.row h.0 ts h.1.0, h.1.1.1))
 
 -- a frame is complete
-closed_with_trivia : (all : List Token) (f : Frame) (fs : List Frame) (ts : List Token) (n : ℕ) (es : List Fault) → HaveTrivia all (f ∷ fs) ts → Dresses all (closed f fs ts n es)
+closed_with_trivia : (all : List Token) (f : Frame) (fs : List Frame) (ts : List Token) (n : ℕ) (es : List Fault) → HaveTrivia all (f ∷ fs) ts
+    → Dresses all (closed f fs ts n es)
 closed_with_trivia all f [] ts n es h = h
 closed_with_trivia all f (g ∷ fs) ts n es h =
     let below = h.1.1.1 in
@@ -102,13 +106,15 @@ closed_with_trivia all f (g ∷ fs) ts n es h =
     )
 
 -- an entry of a pattern is complete
-entry_with_trivia : (all : List Token) (f : Frame) (fs : List Frame) (ts : List Token) (n : ℕ) (es : List Fault) → HaveTrivia all (f ∷ fs) ts → Dresses all (entry_closed true f fs ts n es)
+entry_with_trivia : (all : List Token) (f : Frame) (fs : List Frame) (ts : List Token) (n : ℕ) (es : List Fault) → HaveTrivia all (f ∷ fs) ts
+    → Dresses all (entry_closed true f fs ts n es)
 entry_with_trivia all f [] ts n es h = h
 entry_with_trivia all f (g ∷ fs) ts n es h = closed_with_trivia all f (g ∷ fs) ts n (es ++ repeated (without_trivia g.row) (without_trivia f.row)) h
 
 -- a second item as a leaf behind a row that begins with the first
 two_with_trivia : (j : SyntaxKind) (row : AnnotatedForest) (ts : List Token) (x : Token) (us : List Token) → items ts ≡ x ∷ us → is_there (head_kind us) ≡ true
-    → HasTrivia row (from_item ts) (behind true ts) → HasTrivia (ate true row (behind true ts) ⊕ leaf true j (behind true ts)) (from_item ts) (behind true (behind true ts))
+    → HasTrivia row (from_item ts) (behind true ts)
+    → HasTrivia (ate true row (behind true ts) ⊕ leaf true j (behind true ts)) (from_item ts) (behind true (behind true ts))
 two_with_trivia j row ts x us i s h =
     let later : items (behind true ts) ≡ us = items_behind ts ∙ ap tail_of i in
     with_trivia_added row (leaf true j (behind true ts)) (from_item ts) (behind true ts) (behind true (behind true ts)) h (with_trivia_leaf j (behind true ts))
@@ -164,7 +170,8 @@ operand_with_trivia all level d f fs ts (t ∷ us) n es i h =
     (begin_inner level t.kind t.text (head_kind us) (second_kind us)) (waiting all f fs ts h)
 
 -- all that is left is too deep
-limited_with_trivia : (all : List Token) (f : Frame) (fs : List Frame) (ts : List Token) (n : ℕ) (es : List Fault) → HaveTrivia all (f ∷ fs) ts → Dresses all (limited true f fs ts n es)
+limited_with_trivia : (all : List Token) (f : Frame) (fs : List Frame) (ts : List Token) (n : ℕ) (es : List Fault) → HaveTrivia all (f ∷ fs) ts
+    → Dresses all (limited true f fs ts n es)
 limited_with_trivia all f fs ts n es h =
     let run : List Token = items ts in
     let node : AnnotatedForest = one_fault TooDeep (run_row true run ts) in
@@ -197,15 +204,18 @@ run_with_trivia until row vs ts h =
     (with_trivia_fault (Unwanted until) (run_row true run ts) (from_item ts) (run_rest true run ts) refl (bare_from ts) (with_trivia_run run ts (dropped run (items ts)) (run_prefix until (items ts)))) tt
 
 -- a leaf in a node, behind a row
-name_with_trivia : (j : SyntaxKind) (row : AnnotatedForest) (vs ts : List Token) → HasTrivia row vs ts → HasTrivia (ate true row ts ⊕ one_branch j (leaf true j ts)) vs (behind true ts)
+name_with_trivia : (j : SyntaxKind) (row : AnnotatedForest) (vs ts : List Token) → HasTrivia row vs ts
+    → HasTrivia (ate true row ts ⊕ one_branch j (leaf true j ts)) vs (behind true ts)
 name_with_trivia j row vs ts h = with_trivia_added row (one_branch j (leaf true j ts)) vs ts (behind true ts) h (one_with_trivia j ts) tt
 
 -- the next item behind a row
-next_with_trivia : (k : SyntaxKind) (row : AnnotatedForest) (vs ts : List Token) → is_there (head_kind (items ts)) ≡ true → HasTrivia row vs ts → HasTrivia (ate true row ts ⊕ leaf true k ts) vs (behind true ts)
+next_with_trivia : (k : SyntaxKind) (row : AnnotatedForest) (vs ts : List Token) → is_there (head_kind (items ts)) ≡ true → HasTrivia row vs ts
+    → HasTrivia (ate true row ts ⊕ leaf true k ts) vs (behind true ts)
 next_with_trivia k row vs ts f h = with_trivia_added row (leaf true k ts) vs ts (behind true ts) h (with_trivia_leaf k ts) (tree_leaf k ts f)
 
 -- a tree comes behind a row
-grown : (all : List Token) (f : Frame) (fs : List Frame) (ts us : List Token) (g : AnnotatedForest) → HasTree (without_trivia g) → ((vs : List Token) → HasTrivia f.row vs ts → HasTrivia (ate true f.row ts ⊕ g) vs us)
+grown : (all : List Token) (f : Frame) (fs : List Frame) (ts us : List Token) (g : AnnotatedForest) → HasTree (without_trivia g)
+    → ((vs : List Token) → HasTrivia f.row vs ts → HasTrivia (ate true f.row ts ⊕ g) vs us)
     → HaveTrivia all (f ∷ fs) ts → HaveTrivia all (put f.place (ate true f.row ts ⊕ g) f ∷ fs) us
 grown all f fs ts us g t d h = (h.0, (d h.0 h.1.0, (operand_tree f.head (ate true f.row ts ⊕ g) (tree_added f.row ts g t), h.1.1.1)))
 
@@ -233,13 +243,13 @@ perform_with_trivia all (a.Open j inside after) f fs ts n es al w h = (from_item
 perform_with_trivia all (a.Begin j inside after) f fs ts n es al w h = (from_item ts, (with_trivia_blank (from_item ts), (tt, waiting all f fs ts h)))
 perform_with_trivia all (a.Entry after) f fs ts n es al w h = (from_item ts, (one_with_trivia NODE_IDENT ts, (tt, waiting all f fs ts h)))
 perform_with_trivia all (a.Twice after) f fs ts n es al w h = (from_item ts, (with_trivia_leaf NODE_ERROR ts, (tt, waiting all f fs ts h)))
-perform_with_trivia all (a.Read level counted after) f fs ts n es al w h = reading_with_trivia all level counted (put after f.row f) fs ts n es h
+perform_with_trivia all (a.Read level counted after) f fs ts n es al w h = reading_with_trivia all level counted (put (p.Left after) f.row f) fs ts n es h
 perform_with_trivia all (a.Wrap j inside high) f fs ts n es al w h =
     let free : IsAwaiting blank h.0 h.0 = awaits_blank h.0 (on_some all f.head f.place fs h.0 al.1 w h.1.1.1) in
     (h.0, (next_with_trivia j f.row h.0 ts al.0 h.1.0, (tt, (h.0, (free, h.1.1.1)))))
 perform_with_trivia all a.Apply f fs ts n es al w h =
     let free : IsAwaiting blank h.0 h.0 = awaits_blank h.0 (on_some all f.head f.place fs h.0 al.1 w h.1.1.1) in
-    reading_with_trivia all 16 false (opened (Node NODE_APPLY) p.Past f.depth f.row) (opened Operand (p.Behind (low_of f.place) 15) f.depth blank ∷ fs) ts n es (h.0, (h.1.0, (tt, (h.0, (free, h.1.1.1)))))
+    reading_with_trivia all 16 false (opened (Node NODE_APPLY) (p.Left APPLIED) f.depth f.row) (opened Operand (p.Behind (low_of f.place) 15) f.depth blank ∷ fs) ts n es (h.0, (h.1.0, (tt, (h.0, (free, h.1.1.1)))))
 perform_with_trivia all a.ApplyOr f fs ts n es al w h =
     let inside : AnnotatedForest = ate true f.row ts ⊕ one_branch NODE_IDENT (leaf true NODE_IDENT ts) in
     (h.0, (with_trivia_branch NODE_APPLY inside h.0 (behind true ts) (on_some all f.head f.place fs h.0 al.1 w h.1.1.1) (name_with_trivia NODE_IDENT f.row h.0 ts h.1.0), (tt, h.1.1.1)))

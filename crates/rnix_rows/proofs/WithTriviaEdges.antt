@@ -6,7 +6,8 @@ use Rattle.rnix_grammar.specs.{AnnotatedForest.{tokens_in, forget, leaf_kind_as,
 use Rattle.rnix_grammar.specs.{Layout.{trivia_if, trivia_before, is_last, trivia_after, rest_after, left_after, with_trivia}, Trim.BeginsWithItem}
 use Rattle.rnix_grammar.specs.Trim.{EndsWithItem, leaf_kinds, token_kinds, AreFaultsTrimmed, AreNodesTrimmed}
 use Rattle.rnix_lemmas.proofs.LayoutLemmas.{IsFirst, first_item, IsBared, bared, items-from_item, items-rest_after, with_trivia_tokens}
-use Rattle.rnix_lemmas.proofs.EdgeLemmas.{IsSome, some, some_before, some_behind, ends_behind, ends_both, begins_part, token_kinds-++, kinds_in, kinds_in-⊕, faults_trimmed-⊕}
+use Rattle.rnix_lemmas.proofs.EdgeLemmas.{IsSome, some, some_before, some_behind, ends_behind, ends_both, begins_part, token_kinds-++, kinds_in, kinds_in-⊕}
+use Rattle.rnix_lemmas.proofs.EdgeLemmas.{faults_trimmed-⊕}
 use Rattle.{rnix_lemmas.proofs.EdgeLemmas.faults_trimmed_trivia, rnix_rows.proofs.DressLemmas.HasTree}
 use Rattle.rnix_rows.proofs.{ReadsFilled.{AreFilled, AreFaultsFilled, rows_filled}, ReadsShapes.AreBareRows}
 
@@ -40,7 +41,8 @@ record IsEnded (f g : AnnotatedForest) : Type 0 where
   pub ends : EndsWithItem (kinds_in g)
 
 -- so it is behind trivia, of a tree and those behind it
-ended_behind : (ts : List Token) (f x : AnnotatedForest) (js ks : List SyntaxKind) → kinds_in x ≡ js ++ ks → IsSome js → EndsWithItem js → EndsWithItem ks → IsEnded f (trivia_before ts ⊕ x)
+ended_behind : (ts : List Token) (f x : AnnotatedForest) (js ks : List SyntaxKind) → kinds_in x ≡ js ++ ks → IsSome js → EndsWithItem js → EndsWithItem ks
+    → IsEnded f (trivia_before ts ⊕ x)
 ended_behind ts f x js ks e s h j =
     let all : kinds_in (trivia_before ts ⊕ x) ≡ kinds_in (trivia_before ts) ++ (js ++ ks) = kinds_in-⊕ (trivia_before ts) x ∙ ap (λ z. kinds_in (trivia_before ts) ++ z) e in
     let more : IsSome (js ++ ks) = some_before js ks s in

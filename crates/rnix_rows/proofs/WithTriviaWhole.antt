@@ -3,7 +3,7 @@ use Rattle.std.proofs.Common.{◌≡◌, true, List, [], ◌++◌, ap, sym, ◌�
 use Rattle.{rnix_kinds.specs.{declared.kinds.SyntaxKind.{SyntaxKind, TheVariants.NODE_ROOT}, Lexical.Tokens.Lexeme}, rnix_green.specs.Tree.Tree}
 use Rattle.rnix_grammar.specs.{Fault.Fault, AnnotatedForest.{Token, AnnotatedForest, tokens_in, without_trivia, placed_from, HaveLeafKinds, forget}}
 use Rattle.rnix_grammar.specs.{Layout.{trivia_before, from_item, items, left_after, with_trivia, with_trivia_whole}, Machine.ate, Document.IsRead}
-use Rattle.rnix_grammar.specs.{Named.AreSpelled, PlaceReads.ReadsWhole, Trim.{AreFaultsTrimmed, AreNamesBare, AreNodesTrimmed}}
+use Rattle.rnix_grammar.specs.{Named.AreSpelled, Reads.ReadsWhole, Trim.{AreFaultsTrimmed, AreNamesBare, AreNodesTrimmed}}
 use Rattle.rnix_lemmas.proofs.{AnnotatedForestLemmas.tokens_in-⊕, LayoutLemmas.{items-view, IsBared, bared, with_trivia_tokens, trivia_tokens, nothing_from}}
 use Rattle.rnix_lemmas.proofs.{LayoutLemmas.{leaf_kind-⊕, told_trivia, told_with_trivia}, ReportLemmas.without_trivia_tokens, EdgeLemmas.faults_trimmed-⊕}
 use Rattle.{rnix_lemmas.proofs.EdgeLemmas.faults_trimmed_trivia, rnix_rows.proofs.{WithTrivia.whole_with_trivia, ReadsShapes.whole_rows}}
@@ -28,7 +28,8 @@ pub with_trivia_whole_told : (p : SyntaxKind) (f : AnnotatedForest) (ts : List T
 with_trivia_whole_told p f ts h = leaf_kind-⊕ p (with_trivia f ts) (trivia_before (left_after f ts)) (told_with_trivia p f ts h) (told_trivia p (left_after f ts))
 
 -- rows over the same tokens, each with its trivia where its items and the tokens tell it, are the same where they have the same items
-pub with_trivia_same : (f g : AnnotatedForest) (ts : List Token) → f ≡ with_trivia_whole (without_trivia f) ts → g ≡ with_trivia_whole (without_trivia g) ts → without_trivia f ≡ without_trivia g → f ≡ g
+pub with_trivia_same : (f g : AnnotatedForest) (ts : List Token) → f ≡ with_trivia_whole (without_trivia f) ts → g ≡ with_trivia_whole (without_trivia g) ts
+    → without_trivia f ≡ without_trivia g → f ≡ g
 with_trivia_same f g ts d e h = d ∙ ap (λ x. with_trivia_whole x ts) h ∙ sym e
 
 -- a row over some tokens has their items, without its trivia
@@ -45,18 +46,21 @@ pub laid_told : (f g : AnnotatedForest) (ts : List Token) (es : List Fault) → 
 laid_told f g ts es e s = subst (HaveLeafKinds NODE_ROOT) (sym e) (with_trivia_whole_told NODE_ROOT f ts (reads_told s))
 
 -- no error node begins or ends with trivia
-pub laid_trimmed : (f g : AnnotatedForest) (ts : List Token) (es : List Fault) → g ≡ with_trivia_whole f ts → items ts ≡ tokens_in f → ReadsWhole f es → AreFaultsTrimmed g
+pub laid_trimmed : (f g : AnnotatedForest) (ts : List Token) (es : List Fault) → g ≡ with_trivia_whole f ts → items ts ≡ tokens_in f → ReadsWhole f es
+    → AreFaultsTrimmed g
 laid_trimmed f g ts es e i s =
     subst AreFaultsTrimmed (sym e)
     (faults_trimmed-⊕ (with_trivia f ts) (trivia_before (left_after f ts)) (with_trivia_trimmed f ts [] (all_items f ts i) (reads_filled s)) (faults_trimmed_trivia (left_after f ts)))
 
 -- names hold their tokens alone, and an entry of a pattern begins with its name
-pub laid_bare : (f g : AnnotatedForest) (ts : List Token) (es : List Fault) → g ≡ with_trivia_whole f ts → AreSpelled (tokens_in f) → ReadsWhole f es → AreNamesBare g
+pub laid_bare : (f g : AnnotatedForest) (ts : List Token) (es : List Fault) → g ≡ with_trivia_whole f ts → AreSpelled (tokens_in f) → ReadsWhole f es
+    → AreNamesBare g
 laid_bare f g ts es e a s =
     subst AreNamesBare (sym e) (bare-⊕ (with_trivia f ts) (trivia_before (left_after f ts)) (with_trivia_bare f ts (reads_bare s a)) (bare_trivia (left_after f ts)))
 
 -- without errors no node begins or ends with trivia
-pub laid_nodes : (f g : AnnotatedForest) (ts : List Token) (es : List Fault) → g ≡ with_trivia_whole f ts → items ts ≡ tokens_in f → ReadsWhole f es → es ≡ [] → AreNodesTrimmed (forget g)
+pub laid_nodes : (f g : AnnotatedForest) (ts : List Token) (es : List Fault) → g ≡ with_trivia_whole f ts → items ts ≡ tokens_in f → ReadsWhole f es → es ≡ []
+    → AreNodesTrimmed (forget g)
 laid_nodes f g ts es e i s n =
     subst (λ (x : AnnotatedForest). AreNodesTrimmed (forget x)) (sym e)
     (nodes_trimmed NODE_ROOT (with_trivia_whole f ts) (with_trivia_whole_told NODE_ROOT f ts (reads_told s))

@@ -2,30 +2,41 @@
 use Rattle.std.proofs.Common.{◌≡◌, ◌⊎◌, inl, inr, ℕ, suc, Bool, true, false, List, [], ◌∷◌, refl, sym, ◌∙◌, subst, arith, if◌then◌else◌}
 use Rattle.{std.proofs.lemmas.Bool.Decides.nat_tests, rnix_kinds.specs.{declared.kinds.SyntaxKind.SyntaxKind, SyntaxKind.is_token}}
 use Rattle.{rnix_green.specs.Forest.{Forest, empty, leaf, node}, rnix_grammar.specs.{AnnotatedForest.AnnotatedForest, Tables.{is_among, is_or}}}
-use Rattle.rnix_grammar.specs.{Levels.{expression_level, selection_level}, TokenKinds.is_path_piece, Corners.{is_one, node_count, is_corner}, Rules.{Row, done, row}}
-use Rattle.rnix_grammar.specs.{Rows.{At, fits, is_atom, is_attr, is_entry, is_expression}, Strict.{are_entries_new, begins_with_leaf, entry_text}}
-use Rattle.rnix_grammar.specs.{Names.is_named, TreeLevels.level_of}
+use Rattle.rnix_grammar.specs.{Levels.{expression_level, selection_level}, TokenKinds.is_path_piece, Corners.{is_one, node_count, is_corner}}
+use Rattle.rnix_grammar.specs.{Rules.{Row, done, ◌·◌, row}, declared.rules.Part.TheVariants.EndOr}
+use Rattle.rnix_grammar.specs.{Rows.{fits, is_atom, is_attr, is_entry, is_expression}, Names.is_named, TreeLevels.level_of}
 use Rattle.rnix_lemmas.proofs.{Basics.{not_if, true_is_not_false}, EveryKind.{not_together, whenever_both, never as no_kind_both}, NodeKinds.fits_expression}
-use Rattle.rnix_soundness.proofs.RowViews.{IsBind, binds_before, binds_behind, IsPart, IsIn, Offers, attr_of, is_piece, goes_on, Ends, ends, Leads, leads, heads, One}
-use Rattle.rnix_soundness.proofs.RowViews.{Stands, stands, Several, over, and_leaf, and_node, Braces, closed, dotted, last, comma, View}
+use Rattle.rnix_soundness.proofs.RowViews.{begins_with_leaf, entry_text, IsBind, binds_before, binds_behind, IsPart, IsIn, Offers, attr_of, is_piece, goes_on}
+use Rattle.rnix_soundness.proofs.RowViews.{Ends, ends, Leads, leads, heads, One, Stands, stands, Several, over, and_leaf, and_node}
+use Rattle.rnix_soundness.proofs.RowViews.{Braces, closed, dotted, last, comma, View}
 use Rattle.rnix_grammar.specs.Grammar as G
-use Rattle.rnix_grammar.specs.declared.place.Place.TheVariants as p
 use Rattle.rnix_kinds.specs.declared.kinds.SyntaxKind.TheVariants as K
 
+-- no entry of a pattern has the name of one before it
+abbrev pub are_entries_new : List (List ℕ) → Forest → Bool
+are_entries_new names empty = true
+are_entries_new names (leaf k t f) = are_entries_new names f
+are_entries_new names (node K.NODE_PAT_ENTRY c f) = if is_among (entry_text c) names then false else are_entries_new (entry_text c ∷ names) f
+are_entries_new names (node k c f) = are_entries_new names f
+
 -- the tightest level of a node in the grammar: that of its row, but a lambda is as loose as can be
-abbrev pub bound : SyntaxKind → AnnotatedForest → ℕ
-bound K.NODE_LAMBDA c = expression_level
-bound k c = level_of k c
+abbrev pub tightest : SyntaxKind → AnnotatedForest → ℕ
+tightest K.NODE_LAMBDA c = expression_level
+tightest k c = level_of k c
 
 -- what `.` may follow in the grammar
 abbrev pub is_closed : SyntaxKind → Bool
 is_closed K.NODE_LAMBDA = false
 is_closed k = is_atom k
 
+-- a name is that of a value, and the current position is one
+abbrev pub is_value : SyntaxKind → AnnotatedForest → Bool
+is_value k c = is_named done k c
+
 -- what a node with these children, repaired, is in the grammar
 pub record IsMade (k : SyntaxKind) (c : AnnotatedForest) (g : Forest) : Type 0 where
-  pub atom : is_closed k ≡ true → is_named (At p.RootStart) k c ≡ true → G.Atom k g
-  pub strict : is_expression k ≡ true → is_named (At p.RootStart) k c ≡ true → G.Strict (bound k c) k g
+  pub atom : is_closed k ≡ true → is_value k c ≡ true → G.Atom k g
+  pub strict : is_expression k ≡ true → is_value k c ≡ true → G.Strict (tightest k c) k g
   pub part : (parent : SyntaxKind) → (if is_corner parent k g then false else true) ≡ true → IsPart k g
 
 -- a part of an expression, an atom, and another expression
@@ -33,10 +44,10 @@ of_part : {k : SyntaxKind} {c : AnnotatedForest} {g : Forest} → is_expression 
     → ((parent : SyntaxKind) → (if is_corner parent k g then false else true) ≡ true → IsPart k g) → IsMade k c g
 of_part e a m = record { atom = λ h n. absurd (true_is_not_false (sym h ∙ a)); strict = λ h n. absurd (true_is_not_false (sym h ∙ e)); part = m }
 
-of_atom : {k : SyntaxKind} {c : AnnotatedForest} {g : Forest} → bound k c ≡ selection_level → G.Atom k g → IsPart k g → IsMade k c g
+of_atom : {k : SyntaxKind} {c : AnnotatedForest} {g : Forest} → tightest k c ≡ selection_level → G.Atom k g → IsPart k g → IsMade k c g
 of_atom {k = k} {g = g} l a m = record { atom = λ h n. a; strict = λ h n. subst (λ n. G.Strict n k g) (sym l) (G.atom a); part = λ i h. m }
 
-pub of_strict : {k : SyntaxKind} {c : AnnotatedForest} {g : Forest} → is_closed k ≡ false → G.Strict (bound k c) k g → IsPart k g → IsMade k c g
+pub of_strict : {k : SyntaxKind} {c : AnnotatedForest} {g : Forest} → is_closed k ≡ false → G.Strict (tightest k c) k g → IsPart k g → IsMade k c g
 of_strict n a m = record { atom = λ h i. absurd (true_is_not_false (sym h ∙ n)); strict = λ e i. a; part = λ i h. m }
 
 -- a name that is not `or`
@@ -130,7 +141,7 @@ bound_end : {c : Forest} → IsBind c → begins_with_leaf c ≡ true → G.Patt
 bound_end (binds_before o) e = absurd (true_is_not_false (sym e))
 bound_end (binds_behind o) e = G.bound_behind o
 
-end_free : (f : Forest) → One false K.NODE_PAT_BIND done Ends f ⊎ Ends f → G.PatternEnd false f
+end_free : (f : Forest) → One false K.NODE_PAT_BIND (EndOr K.NODE_PAT_BIND · done) Ends f ⊎ Ends f → G.PatternEnd false f
 end_free _ (inl (heads m b ends)) = bound_end m b
 end_free _ (inr ends) = G.pattern_end
 

@@ -1,13 +1,29 @@
 -- A row of the children of a node, repaired, part by part along the grammar's row of its kind.
-use Rattle.std.proofs.Common.{◌≡◌, ◌⊎◌, inl, inr, ℕ, Bool, true, false, List, refl, sym, ◌∙◌, subst, ◌||◌, ◌&&◌, if◌then◌else◌, nat_eq, nat_le}
+use Rattle.std.proofs.Common.{◌≡◌, ◌⊎◌, inl, inr, ⊎_elim, ℕ, Bool, true, false, List, [], refl, sym, ◌∙◌, subst, ◌||◌, ◌&&◌, if◌then◌else◌, nat_eq, nat_le}
 use Rattle.{rnix_kinds.{specs.{declared.kinds.SyntaxKind.SyntaxKind, SyntaxKind.is_token}}, rnix_green.specs.Equality.same_kind}
-use Rattle.{rnix_green.specs.{Equality.same_kind-decides, Forest.{Forest, empty, leaf, node}}, rnix_grammar.specs.{Levels.selection_level, Rules.{Row, never, done}}}
-use Rattle.rnix_grammar.specs.{Rules.{◌·◌, ◌/◌, only, or_else, after, may_end}, TokenKinds.is_path_piece, Plain.is_node, Corners.holds_no_lambda}
-use Rattle.rnix_grammar.specs.{Rows.{is_attr, is_entry, is_expression, fits}, Strict.{begins_with_leaf, entry_text, only_text}, Tables.is_or}
+use Rattle.rnix_green.specs.{Equality.same_kind-decides, Forest.{Forest, empty, leaf, node}}
+use Rattle.rnix_grammar.specs.{Levels.selection_level, Rules.{Row, never, done, ◌·◌, ◌/◌, only, or_else, after, may_end}, TokenKinds.is_path_piece}
+use Rattle.rnix_grammar.specs.{Plain.is_node, Corners.holds_no_lambda}
+use Rattle.rnix_grammar.specs.{Rows.{is_attr, is_entry, is_expression, fits}, Tables.is_or}
 use Rattle.rnix_grammar.specs.Grammar.{name, Strict, Attr, Attrpath, last_attr, attr_dot, Binding, Formal, Inherit, Interpol, Parameter, Source}
 use Rattle.rnix_lemmas.proofs.{Basics.{not_if, true_is_not_false}, EveryKind.never as no_kind_both, NodeKinds.fits_expression}
 use Rattle.rnix_grammar.specs.declared.rules.Part.TheVariants as p
 use Rattle.rnix_kinds.specs.declared.kinds.SyntaxKind.TheVariants as K
+
+-- the text of the leaf that a row begins with
+abbrev pub only_text : Forest → List ℕ
+only_text (leaf k t f) = t
+only_text f = []
+
+-- the name that an entry of a pattern begins with
+abbrev pub entry_text : Forest → List ℕ
+entry_text (node K.NODE_IDENT c f) = only_text c
+entry_text f = []
+
+-- a row begins with a leaf
+abbrev pub begins_with_leaf : Forest → Bool
+begins_with_leaf (leaf k t f) = true
+begins_with_leaf f = false
 
 -- a name that a pattern is bound to, before `@` or behind it
 pub data IsBind : Forest → Type 0 where
@@ -44,21 +60,28 @@ IsIn parent n k c = (nat_le n selection_level && (nat_eq n 0 || holds_no_lambda 
 abbrev pub Offers : SyntaxKind → ℕ → SyntaxKind → Forest → Type 0
 Offers parent n k c = is_expression k ≡ true → IsIn parent n k c
 
--- the name that a pattern is bound to stands before `@` where more of the row is left after it, and behind it where none is; a name is `or` only
--- where more attributes may follow
-abbrev pub ends_here : Row → Bool
-ends_here done = true
-ends_here r = false
+-- a row may end here, or a child of a kind is next
+abbrev pub ends_or : Row → Bool
+ends_or (p.EndOr w · r) = true
+ends_or r = false
 
-abbrev pub lists_attrs : Row → Bool
-lists_attrs (p.MoreAttrs · r) = true
-lists_attrs (p.Names · r) = true
-lists_attrs r = false
+-- a name here may be `or`
+abbrev pub names_or : Row → Bool
+names_or (p.Attr · r) = true
+names_or (p.Names · r) = true
+names_or (p.Argument · r) = true
+names_or (p.Optional w · r) = names_or r
+names_or (r / s) = names_or r
+names_or r = false
+
+-- the name that a pattern is bound to follows `@` where the row may end, and precedes it elsewhere; other names are `or` only where they may be
+abbrev pub bound : Bool → Bool → SyntaxKind → Forest → Bool
+bound ends or K.NODE_PAT_BIND c = if ends then begins_with_leaf c else (if begins_with_leaf c then false else true)
+bound ends or K.NODE_IDENT c = if or then true else (if is_or (only_text c) then false else true)
+bound ends or k c = true
 
 abbrev pub binds : Row → SyntaxKind → Forest → Bool
-binds r K.NODE_PAT_BIND c = if ends_here r then begins_with_leaf c else (if begins_with_leaf c then false else true)
-binds r K.NODE_IDENT c = if lists_attrs r then true else (if is_or (only_text c) then false else true)
-binds r k c = true
+binds q k c = bound (ends_or q) (names_or q) k c
 
 -- the pieces of a string, and of a path
 abbrev pub is_piece : SyntaxKind → Bool
@@ -76,12 +99,12 @@ pub data Ends : Forest → Type 0 where
 pub data Leads (w : SyntaxKind) (Q : Forest → Type 0) : Forest → Type 0 where
   leads : {t : List ℕ} {f : Forest} → Q f → Leads w Q (leaf w t f)
 
-pub data Heads (w : SyntaxKind) (r : Row) (Q : Forest → Type 0) : Forest → Type 0 where
-  heads : {c f : Forest} → IsPart w c → binds r w c ≡ true → Q f → Heads w r Q (node w c f)
+pub data Heads (w : SyntaxKind) (q : Row) (Q : Forest → Type 0) : Forest → Type 0 where
+  heads : {c f : Forest} → IsPart w c → binds q w c ≡ true → Q f → Heads w q Q (node w c f)
 
 abbrev pub One : Bool → SyntaxKind → Row → (Forest → Type 0) → Forest → Type 0
-One true w r Q = Leads w Q
-One false w r Q = Heads w r Q
+One true w q Q = Leads w Q
+One false w q Q = Heads w q Q
 
 pub data Stands (A : SyntaxKind → Forest → Type 0) (Q : Forest → Type 0) : Forest → Type 0 where
   stands : {k : SyntaxKind} {c f : Forest} → A k c → Q f → Stands A Q (node k c f)
@@ -101,29 +124,40 @@ pub data Braces (Q : Forest → Type 0) : Forest → Type 0 where
 abbrev pub Asks : SyntaxKind → Row → SyntaxKind → Forest → Type 0
 Asks parent (p.Operand n counted · r) = Offers parent n
 Asks parent (p.Many n w · r) = Offers parent n
-Asks parent (r / s) = Asks parent s
 Asks parent r = λ k c. Unit {0}
 
--- a row of a node, from what is left of it on, whose children are what they are in the grammar
-abbrev pub Held : SyntaxKind → Row → Forest → Type 0
-Held parent r empty = may_end r ≡ true
-Held parent r (leaf k t f) = (is_token k ≡ true) × Held parent (after r k) f
-Held parent r (node k c f) = (is_node k ≡ true) × IsPart k c × Asks parent r k c × (binds (after r k) k c ≡ true) × Held parent (after r k) f
+abbrev pub Fits : SyntaxKind → Row → SyntaxKind → Forest → Type 0
+Fits parent q k c = Asks parent q k c × (binds q k c ≡ true)
+
+-- A row of a node, from what is left of it on, whose children are what they are in the grammar. A child that need not be there may be passed over.
+pub data Held (parent : SyntaxKind) : Row → Forest → Type 0 where
+  ended : {q : Row} → may_end q ≡ true → Held parent q empty
+  leafed : {q : Row} {k : SyntaxKind} {t : List ℕ} {f : Forest} → is_token k ≡ true → Held parent (after q k) f → Held parent q (leaf k t f)
+  noded : {q : Row} {k : SyntaxKind} {c f : Forest} → is_node k ≡ true → IsPart k c → Fits parent q k c → Held parent (after q k) f → Held parent q (node k c f)
+  passed : {w : SyntaxKind} {r : Row} {f : Forest} → Held parent r f → Held parent (p.Optional w · r) f
+
+-- a row whose first child need not be there
+abbrev pub is_optional : Row → Bool
+is_optional (p.Optional w · r) = true
+is_optional r = false
 
 -- a row seen so, behind the first operand of an operator, a call or a selection
 abbrev pub View : SyntaxKind → Row → Forest → Type 0
 View parent never = λ f. ⊥
-View parent ((p.Child w · r) / s) = λ f. One (is_token w) w r (View parent r) f ⊎ View parent s f
-View parent (p.Child w · r) = One (is_token w) w r (View parent r)
-View parent (p.Wanted w · r) = One (is_token w) w r (View parent r)
-View parent (p.Attrpath · r) = Heads K.NODE_ATTRPATH r (View parent r)
-View parent (p.EndOr w · r) = λ f. One (is_token w) w r (View parent r) f ⊎ Ends f
-View parent (p.Optional w · p.Names · r) = λ f. One (is_token w) w (p.Names · r) (View parent (p.Names · r)) f ⊎ View parent (p.Names · r) f
+View parent ((p.Child w · r) / (p.Child v · s)) = λ f. One (is_token w) w ((p.Child w · r) / (p.Child v · s)) (View parent r) f
+    ⊎ One (is_token v) v (p.Child v · s) (View parent s) f
+View parent ((p.Child w · r) / ((p.Child v · s) / z)) = λ f. One (is_token w) w ((p.Child w · r) / ((p.Child v · s) / z)) (View parent r) f
+    ⊎ View parent ((p.Child v · s) / z) f
+View parent (p.Child w · r) = One (is_token w) w (p.Child w · r) (View parent r)
+View parent (p.Wanted w · r) = One (is_token w) w (p.Wanted w · r) (View parent r)
+View parent (p.Attrpath · r) = Heads K.NODE_ATTRPATH (p.Attrpath · r) (View parent r)
+View parent (p.EndOr w · r) = λ f. One (is_token w) w (p.EndOr w · r) (View parent r) f ⊎ Ends f
+View parent (p.Optional w · p.Names · r) = λ f. One (is_token w) w (p.Optional w · p.Names · r) (View parent (p.Names · r)) f ⊎ View parent (p.Names · r) f
 View parent (p.Operand n counted · r) = Stands (IsIn parent n) (View parent r)
-View parent (p.Many n w · r) = Several (fits n) (Offers parent n) (One (is_token w) w r (View parent r))
-View parent (p.Entries w · r) = Several is_entry (λ k c. Unit {0}) (One (is_token w) w r (View parent r))
-View parent (p.Names · p.Wanted w · r) = Several is_attr (λ k c. Unit {0}) (One (is_token w) w r (View parent r))
-View parent (p.Pieces · p.Wanted w · r) = Several is_piece (λ k c. Unit {0}) (One (is_token w) w r (View parent r))
+View parent (p.Many n w · r) = Several (fits n) (Offers parent n) (One (is_token w) w (p.Many n w · r) (View parent r))
+View parent (p.Entries w · r) = Several is_entry (λ k c. Unit {0}) (One (is_token w) w (p.Entries w · r) (View parent r))
+View parent (p.Names · p.Wanted w · r) = Several is_attr (λ k c. Unit {0}) (One (is_token w) w (p.Names · p.Wanted w · r) (View parent r))
+View parent (p.Pieces · p.Wanted w · r) = Several is_piece (λ k c. Unit {0}) (One (is_token w) w (p.Pieces · p.Wanted w · r) (View parent r))
 View parent (p.PathPieces · r) = Several goes_on (λ k c. Unit {0}) Ends
 View parent (p.Attr · p.MoreAttrs · r) = Attrpath
 View parent (p.Formals · r) = Braces (View parent r)
@@ -133,185 +167,198 @@ View parent (p.BoundAlready · r) = Ends
 View parent (p.TextEnd · r) = Ends
 View parent r = λ f. Unit {0}
 
+same_rest : (w v : SyntaxKind) (r s : Row) → p.Optional w · r ≡ p.Optional v · s → r ≡ s
+same_rest w v r s h = cc
+
 module _ (parent : SyntaxKind) where
   -- no row goes on where there is none
-  pub lost : {A : Type 0} (f : Forest) → Held parent never f → A
-  lost empty h = absurd (true_is_not_false (sym h))
-  lost (leaf k t f) h = lost f h.1
-  lost (node k c f) h = lost f h.4
+  pub lost : {A : Type 0} {f : Forest} → Held parent never f → A
+  lost (ended e) = absurd (true_is_not_false (sym e))
+  lost (leafed i h) = lost h
+  lost (noded i m a h) = lost h
 
   -- a row that goes on only if a test holds
-  kept : (b : Bool) (r : Row) (f : Forest) → Held parent (only b r) f → (b ≡ true) × Held parent r f
-  kept true r f h = (refl, h)
-  kept false r f h = lost f h
+  kept : (w : Bool) (r : Row) {f : Forest} → Held parent (only w r) f → (w ≡ true) × Held parent r f
+  kept true r h = (refl, h)
+  kept false r h = lost h
 
-  over_here : (q : Row) → ((k : SyntaxKind) → after q k ≡ never) → (f : Forest) → Held parent q f → Ends f
-  over_here q d empty h = ends
-  over_here q d (leaf k t f) h = lost f (subst (λ r. Held parent r f) (d k) h.1)
-  over_here q d (node k c f) h = lost f (subst (λ r. Held parent r f) (d k) h.4)
+  -- behind a leaf, and behind a node
+  past_leaf : {q : Row} {k : SyntaxKind} {t : List ℕ} {f : Forest} → is_optional q ≡ false → Held parent q (leaf k t f) → Held parent (after q k) f
+  past_leaf o (leafed i h) = h
+  past_leaf o (passed h) = absurd (true_is_not_false o)
+
+  past_node : {q : Row} {k : SyntaxKind} {c f : Forest} → is_optional q ≡ false → Held parent q (node k c f) → (is_node k ≡ true) × Held parent (after q k) f
+  past_node o (noded i m a h) = (i, h)
+  past_node o (passed h) = absurd (true_is_not_false o)
+
+  over_here : (q : Row) → is_optional q ≡ false → ((k : SyntaxKind) → after q k ≡ never) → {f : Forest} → Held parent q f → Ends f
+  over_here q o d (ended h) = ends
+  over_here q o d (leafed {k = k} {f = f} i h) = lost (subst (λ r. Held parent r f) (d k) h)
+  over_here q o d (noded {k = k} {f = f} i m a h) = lost (subst (λ r. Held parent r f) (d k) h)
+  over_here _ o d (passed h) = absurd (true_is_not_false o)
 
   -- a row goes on as another that goes on with the same children
-  pub alike : (q s : Row) → (may_end s ≡ true → may_end q ≡ true) → ((k : SyntaxKind) (c : Forest) → Asks parent s k c → Asks parent q k c)
-      → ((H : Row → Type 0) (k : SyntaxKind) → ((r : Row) → H never → H r) → H (after s k) → H (after q k)) → (f : Forest) → Held parent s f → Held parent q f
-  alike q s e a step empty h = e h
-  alike q s e a step (leaf k t f) h = (h.0, step (λ r. Held parent r f) k (λ r w. lost f w) h.1)
-  alike q s e a step (node k c f) h =
-      let x = step (λ r. (binds r k c ≡ true) × Held parent r f) k (λ r w. lost f w.1) (h.3, h.4) in (h.0, h.1, a k c h.2, x.0, x.1)
+  pub alike : (q s : Row) → is_optional s ≡ false → (may_end s ≡ true → may_end q ≡ true)
+      → ((k : SyntaxKind) (c : Forest) → Fits parent s k c → Fits parent q k c)
+      → ((H : Row → Type 0) (k : SyntaxKind) → ((r : Row) → H never → H r) → H (after s k) → H (after q k)) → {f : Forest} → Held parent s f → Held parent q f
+  alike q s o e a step (ended h) = ended (e h)
+  alike q s o e a step (leafed {k = k} {f = f} i h) = leafed i (step (λ r. Held parent r f) k (λ r w. lost w) h)
+  alike q s o e a step (noded {k = k} {c = c} {f = f} i m x h) = noded i m (a k c x) (step (λ r. Held parent r f) k (λ r w. lost w) h)
+  alike q _ o e a step (passed h) = absurd (true_is_not_false o)
 
-  -- a child of a kind stands next, or the row goes on as another
-  one : (w : SyntaxKind) (q r s : Row) → (may_end q ≡ true → may_end s ≡ true) → ((k : SyntaxKind) (c : Forest) → Asks parent q k c → Asks parent s k c)
-      → ((H : Row → Type 0) (k : SyntaxKind) → H (after q k) → ((w ≡ k) × H r) ⊎ H (after s k)) → ((f : Forest) → Held parent r f → View parent r f)
-      → ((f : Forest) → Held parent s f → View parent s f) → (f : Forest) → Held parent q f → One (is_token w) w r (View parent r) f ⊎ View parent s f
-  one w q r s e a step v u empty h = inr (u empty (e h))
-  one w q r s e a step v u (leaf k t f) h = by (step (λ x. Held parent x f) k h.1)
-    where
-      by : ((w ≡ k) × Held parent r f) ⊎ Held parent (after s k) f → One (is_token w) w r (View parent r) (leaf k t f) ⊎ View parent s (leaf k t f)
-      by (inl x) = inl (subst (λ j. One (is_token j) j r (View parent r) (leaf k t f)) (sym x.0)
-          (subst (λ b. One b k r (View parent r) (leaf k t f)) (sym h.0) (leads (v f x.1))))
-      by (inr y) = inr (u (leaf k t f) (h.0, y))
-  one w q r s e a step v u (node k c f) h = by (step (λ x. (binds x k c ≡ true) × Held parent x f) k (h.3, h.4))
-    where
-      by : ((w ≡ k) × ((binds r k c ≡ true) × Held parent r f)) ⊎ ((binds (after s k) k c ≡ true) × Held parent (after s k) f)
-          → One (is_token w) w r (View parent r) (node k c f) ⊎ View parent s (node k c f)
-      by (inl x) = inl (subst (λ j. One (is_token j) j r (View parent r) (node k c f)) (sym x.0)
-          (subst (λ b. One b k r (View parent r) (node k c f)) (sym (not_if (is_token k) h.0)) (heads h.1 x.1.0 (v f x.1.1))))
-      by (inr y) = inr (u (node k c f) (h.0, h.1, a k c h.2, y.0, y.1))
+  -- the child of a kind that stands next
+  here_leaf : (w : SyntaxKind) (q r : Row) {V : Forest → Type 0} → ((f : Forest) → Held parent r f → V f) → (k : SyntaxKind) (t : List ℕ) (f : Forest)
+      → is_token k ≡ true → (w ≡ k) × Held parent r f → One (is_token w) w q V (leaf k t f)
+  here_leaf w q r {V} v k t f i x =
+      subst (λ j. One (is_token j) j q V (leaf k t f)) (sym x.0) (subst (λ b. One b k q V (leaf k t f)) (sym i) (leads (v f x.1)))
 
-  -- children that pass a test stand in a row, up to what it goes on as then
-  several : (b : SyntaxKind → Bool) (q r : Row) (V : Forest → Type 0) → may_end q ≡ may_end r → ((k : SyntaxKind) (c : Forest) → Asks parent r k c)
-      → ((H : Row → Type 0) (k : SyntaxKind) → H (after q k) → ((b k ≡ true) × H q) ⊎ H (after r k)) → ((f : Forest) → Held parent r f → V f)
-      → (f : Forest) → Held parent q f → Several b (Asks parent q) V f
-  several b q r V e a step v empty h = over (v empty (sym e ∙ h))
-  several b q r V e a step v (leaf k t f) h = by (several b q r V e a step v f) (step (λ x. Held parent x f) k h.1)
+  here_node : (w : SyntaxKind) (q r : Row) {V : Forest → Type 0} → ((f : Forest) → Held parent r f → V f) → (k : SyntaxKind) (c f : Forest)
+      → is_node k ≡ true → IsPart k c → binds q k c ≡ true → (w ≡ k) × Held parent r f → One (is_token w) w q V (node k c f)
+  here_node w q r {V} v k c f i m y x = subst (λ j. One (is_token j) j q V (node k c f)) (sym x.0)
+      (subst (λ b. One b k q V (node k c f)) (sym (not_if (is_token k) i)) (heads m y (v f x.1)))
+
+  this_kind : (w k : SyntaxKind) (r : Row) {f : Forest} → Held parent (only (same_kind w k) r) f → (w ≡ k) × Held parent r f
+  this_kind w k r h = let x = kept (same_kind w k) r h in ((same_kind-decides w k).0 x.0, x.1)
+
+  -- it stands next
+  child : (w : SyntaxKind) (q r : Row) → is_optional q ≡ false → may_end q ≡ false → ((k : SyntaxKind) → after q k ≡ only (same_kind w k) r)
+      → {V : Forest → Type 0} → ((f : Forest) → Held parent r f → V f) → (f : Forest) → Held parent q f → One (is_token w) w q V f
+  child w q r o e d v _ (ended h) = absurd (true_is_not_false (sym h ∙ e))
+  child w q r o e d v _ (leafed {k = k} {t = t} {f = f} i h) = here_leaf w q r v k t f i (this_kind w k r (subst (λ z. Held parent z f) (d k) h))
+  child w q r o e d v _ (noded {k = k} {c = c} {f = f} i m x h) = here_node w q r v k c f i m x.1 (this_kind w k r (subst (λ z. Held parent z f) (d k) h))
+  child w _ r o e d v f (passed h) = absurd (true_is_not_false o)
+
+  -- or the row goes on as another
+  one : (w : SyntaxKind) (q r s : Row) → (is_optional q ≡ true → q ≡ p.Optional w · s) → (may_end q ≡ true → may_end s ≡ true)
+      → ((k : SyntaxKind) (c f : Forest) → Held parent (after s k) f → Fits parent q k c → Fits parent s k c)
+      → ((k : SyntaxKind) (f : Forest) → Held parent (after q k) f → ((w ≡ k) × Held parent r f) ⊎ Held parent (after s k) f) → {V W : Forest → Type 0}
+      → ((f : Forest) → Held parent r f → V f) → ((f : Forest) → Held parent s f → W f) → (f : Forest) → Held parent q f → One (is_token w) w q V f ⊎ W f
+  one w q r s o e a step v u _ (ended h) = inr (u empty (ended (e h)))
+  one w q r s o e a step v u _ (leafed {k = k} {t = t} {f = f} i h) =
+      ⊎_elim (λ x. inl (here_leaf w q r v k t f i x)) (λ y. inr (u (leaf k t f) (leafed i y))) (step k f h)
+  one w q r s o e a step v u _ (noded {k = k} {c = c} {f = f} i m x h) =
+      ⊎_elim (λ y. inl (here_node w q r v k c f i m x.1 y)) (λ y. inr (u (node k c f) (noded i m (a k c f y x) y))) (step k f h)
+  one w _ r s o e a step v u f (passed {w = x} {r = y} h) = inr (u f (subst (λ z. Held parent z f) (same_rest x w y s (o refl)) h))
+
+  -- by whether a child is of the kind, in three sorts of rows
+  either : (w k : SyntaxKind) (r z : Row) {f : Forest} → Held parent (or_else (only (same_kind w k) r) z) f → ((w ≡ k) × Held parent r f) ⊎ Held parent z f
+  either w k r z {f} h = by (same_kind w k) r refl h
     where
-      by : (Held parent q f → Several b (Asks parent q) V f) → ((b k ≡ true) × Held parent q f) ⊎ Held parent (after r k) f
-          → Several b (Asks parent q) V (leaf k t f)
-      by more (inl x) = and_leaf h.0 x.0 (more x.1)
-      by more (inr y) = over (v (leaf k t f) (h.0, y))
-  several b q r V e a step v (node k c f) h = by (several b q r V e a step v f) (step (λ x. (binds x k c ≡ true) × Held parent x f) k (h.3, h.4))
+      by : (b : Bool) (r : Row) → same_kind w k ≡ b → Held parent (or_else (only b r) z) f → ((w ≡ k) × Held parent r f) ⊎ Held parent z f
+      by true never e h = inr h
+      by true r e h = inl ((same_kind-decides w k).0 e, h)
+      by false r e h = inr h
+
+  chosen : (w k : SyntaxKind) (r z : Row) {f : Forest} → Held parent (if same_kind w k then r else z) f → ((w ≡ k) × Held parent r f) ⊎ Held parent z f
+  chosen w k r z {f} h = by (same_kind w k) refl h
     where
-      by : (Held parent q f → Several b (Asks parent q) V f) → ((b k ≡ true) × ((binds q k c ≡ true) × Held parent q f)) ⊎ ((binds (after r k) k c ≡ true)
-          × Held parent (after r k) f) → Several b (Asks parent q) V (node k c f)
-      by more (inl x) = and_node h.0 x.0 h.2 h.1 (more x.1.1)
-      by more (inr y) = over (v (node k c f) (h.0, h.1, a k c, y.0, y.1))
+      by : (b : Bool) → same_kind w k ≡ b → Held parent (if b then r else z) f → ((w ≡ k) × Held parent r f) ⊎ Held parent z f
+      by true e h = inl ((same_kind-decides w k).0 e, h)
+      by false e h = inr h
+
+  -- children that pass a test stand in a row, and it behind them
+  several : (b : SyntaxKind → Bool) (w : SyntaxKind) (q r : Row) → is_optional q ≡ false → may_end q ≡ false
+      → ((k : SyntaxKind) (f : Forest) → Held parent (after q k) f → ((w ≡ k) × Held parent r f) ⊎ ((b k ≡ true) × Held parent q f)) → {V : Forest → Type 0}
+      → ((f : Forest) → Held parent r f → V f) → (f : Forest) → Held parent q f → Several b (Asks parent q) (One (is_token w) w q V) f
+  several b w q r o e step v empty (ended h) = absurd (true_is_not_false (sym h ∙ e))
+  several b w q r o e step v (leaf k t f) (leafed i h) =
+      ⊎_elim (λ x. over (here_leaf w q r v k t f i x)) (λ y. and_leaf i y.0 (several b w q r o e step v f y.1)) (step k f h)
+  several b w q r o e step v (node k c f) (noded i m x h) =
+      ⊎_elim (λ y. over (here_node w q r v k c f i m x.1 y)) (λ y. and_node i y.0 x.0 m (several b w q r o e step v f y.1)) (step k f h)
+  several b w _ r o e step v f (passed h) = absurd (true_is_not_false o)
+
+  -- where a child closes the row, or passes the test
+  closing : (w k : SyntaxKind) (b : Bool) (q r : Row) {f : Forest} → Held parent (if same_kind w k then r else only b q) f
+      → ((w ≡ k) × Held parent r f) ⊎ ((b ≡ true) × Held parent q f)
+  closing w k b q r h = ⊎_elim inl (λ x. inr (kept b q x)) (chosen w k r (only b q) h)
+
+  going : (w k : SyntaxKind) (b : Bool) (q r : Row) {f : Forest} → Held parent (if b then q else only (same_kind w k) r) f
+      → ((w ≡ k) × Held parent r f) ⊎ ((b ≡ true) × Held parent q f)
+  going w k true q r h = inr (refl, h)
+  going w k false q r h = inl (this_kind w k r h)
+
+  piece_on : (w k : SyntaxKind) (r : Row) {f : Forest} → Held parent (after (p.Pieces · p.Wanted w · r) k) f
+      → ((w ≡ k) × Held parent r f) ⊎ ((is_piece k ≡ true) × Held parent (p.Pieces · p.Wanted w · r) f)
+  piece_on w K.TOKEN_STRING_CONTENT r h = inr (refl, h)
+  piece_on w K.NODE_INTERPOL r h = inr (refl, h)
+  piece_on w k r h = inl (this_kind w k r h)
+
+  -- pieces of a path stand up to the end of the row
+  pieces : (r : Row) (f : Forest) → Held parent (p.PathPieces · r) f → Several goes_on (λ k c. Unit {0}) Ends f
+  pieces r empty (ended h) = over ends
+  pieces r (leaf k t f) (leafed i h) = let x = kept (goes_on k) (p.PathPieces · r) h in and_leaf i x.0 (pieces r f x.1)
+  pieces r (node k c f) (noded i m a h) = let x = kept (goes_on k) (p.PathPieces · r) h in and_node i x.0 tt m (pieces r f x.1)
 
   -- an operand stands next
-  operand : (n : ℕ) (counted : Bool) (r : Row) → ((f : Forest) → Held parent r f → View parent r f) → (f : Forest) → Held parent (p.Operand n counted · r) f
-      → Stands (IsIn parent n) (View parent r) f
-  operand n counted r v empty h = absurd (true_is_not_false (sym h))
-  operand n counted r v (leaf k t f) h = absurd (no_kind_both is_token is_expression refl k h.0 (fits_expression n k (kept (fits n k) r f h.1).0))
-  operand n counted r v (node k c f) h = let x = kept (fits n k) r f h.4 in stands (h.2 (fits_expression n k x.0)) (v f x.1)
+  operand : (n : ℕ) (counted : Bool) (r : Row) {V : Forest → Type 0} → ((f : Forest) → Held parent r f → V f) → (f : Forest)
+      → Held parent (p.Operand n counted · r) f → Stands (IsIn parent n) V f
+  operand n counted r v _ (ended h) = absurd (true_is_not_false (sym h))
+  operand n counted r v _ (leafed {k = k} i h) = absurd (no_kind_both is_token is_expression refl k i (fits_expression n k (kept (fits n k) r h).0))
+  operand n counted r v _ (noded {k = k} {f = f} i m a h) = let x = kept (fits n k) r h in stands (a.0 (fits_expression n k x.0)) (v f x.1)
 
   -- names of attributes with `.` between them
   path : (r : Row) (f : Forest) → Held parent (p.Attr · p.MoreAttrs · r) f → Attrpath f
-  path r empty h = absurd (true_is_not_false (sym h))
-  path r (leaf k t f) h = absurd (no_kind_both is_token is_attr refl k h.0 (kept (is_attr k) (p.MoreAttrs · r) f h.1).0)
-  path r (node k c empty) h = last_attr (attr_of k (kept (is_attr k) (p.MoreAttrs · r) empty h.4).0 h.1)
-  path r (node k c (leaf j t f)) h =
-      let x = kept (is_attr k) (p.MoreAttrs · r) (leaf j t f) h.4 in
-      let y = kept (same_kind K.TOKEN_DOT j) (p.Attr · p.MoreAttrs · r) f x.1.1 in
-      subst (λ i. Attrpath (node k c (leaf i t f))) ((same_kind-decides K.TOKEN_DOT j).0 y.0) (attr_dot (attr_of k x.0 h.1) (path r f y.1))
-  path r (node k c (node j d f)) h =
-      let x = kept (is_attr k) (p.MoreAttrs · r) (node j d f) h.4 in
-      absurd (no_kind_both is_node (same_kind K.TOKEN_DOT) refl j x.1.0 (kept (same_kind K.TOKEN_DOT j) (p.Attr · p.MoreAttrs · r) f x.1.4).0)
+  path r empty (ended h) = absurd (true_is_not_false (sym h))
+  path r (leaf k t f) (leafed i h) = absurd (no_kind_both is_token is_attr refl k i (kept (is_attr k) (p.MoreAttrs · r) h).0)
+  path r (node k c empty) (noded i m a h) = last_attr (attr_of k (kept (is_attr k) (p.MoreAttrs · r) h).0 m)
+  path r (node k c (leaf j t f)) (noded i m a h) =
+      let x = kept (is_attr k) (p.MoreAttrs · r) h in
+      let y = kept (same_kind K.TOKEN_DOT j) (p.Attr · p.MoreAttrs · r) (past_leaf refl x.1) in
+      subst (λ i. Attrpath (node k c (leaf i t f))) ((same_kind-decides K.TOKEN_DOT j).0 y.0) (attr_dot (attr_of k x.0 m) (path r f y.1))
+  path r (node k c (node j d f)) (noded i m a h) =
+      let x = past_node refl (kept (is_attr k) (p.MoreAttrs · r) h).1 in
+      absurd (no_kind_both is_node (same_kind K.TOKEN_DOT) refl j x.0 (kept (same_kind K.TOKEN_DOT j) (p.Attr · p.MoreAttrs · r) x.1).0)
 
   -- inside the braces of a pattern
-  braces : (r : Row) → ((f : Forest) → Held parent r f → View parent r f)
-      → ((f : Forest) → Held parent (p.Wanted K.TOKEN_R_BRACE · r) f → Leads K.TOKEN_R_BRACE (View parent r) f)
-      → (f : Forest) → Held parent (p.FormalsAfterComma · r) f → Braces (View parent r) f
-  braces r v u empty h = absurd (true_is_not_false (sym h))
-  braces r v u (leaf K.TOKEN_R_BRACE t f) h = closed (v f h.1)
-  braces r v u (leaf K.TOKEN_ELLIPSIS t f) h = dotted_row (u f h.1)
+  braces : (r : Row) {V : Forest → Type 0} → ((f : Forest) → Held parent r f → V f)
+      → ((f : Forest) → Held parent (p.Wanted K.TOKEN_R_BRACE · r) f → Leads K.TOKEN_R_BRACE V f)
+      → (f : Forest) → Held parent (p.FormalsAfterComma · r) f → Braces V f
+  braces r v u empty (ended h) = absurd (true_is_not_false (sym h))
+  braces r v u (leaf K.TOKEN_R_BRACE t f) (leafed i h) = closed (v f h)
+  braces r {V = V} v u (leaf K.TOKEN_ELLIPSIS t f) (leafed i h) = dotted_row (u f h)
     where
-      dotted_row : {g : Forest} → Leads K.TOKEN_R_BRACE (View parent r) g → Braces (View parent r) (leaf K.TOKEN_ELLIPSIS t g)
+      dotted_row : {g : Forest} → Leads K.TOKEN_R_BRACE V g → Braces V (leaf K.TOKEN_ELLIPSIS t g)
       dotted_row (leads q) = dotted q
-  braces r v u (leaf K.NODE_PAT_ENTRY t f) h = absurd (true_is_not_false (sym h.0))
-  braces r v u (leaf _ t f) h = lost f h.1
-  braces r v u (node K.NODE_PAT_ENTRY c empty) h = absurd (true_is_not_false (sym h.4))
-  braces r v u (node K.NODE_PAT_ENTRY c (leaf K.TOKEN_R_BRACE t f)) h = last h.1 (v f h.4.1)
-  braces r v u (node K.NODE_PAT_ENTRY c (leaf K.TOKEN_COMMA t f)) h = comma h.1 (braces r v u f h.4.1)
-  braces r v u (node K.NODE_PAT_ENTRY c (leaf _ t f)) h = lost f h.4.1
-  braces r v u (node K.NODE_PAT_ENTRY c (node K.TOKEN_R_BRACE d f)) h = absurd (true_is_not_false (sym h.4.0))
-  braces r v u (node K.NODE_PAT_ENTRY c (node K.TOKEN_COMMA d f)) h = absurd (true_is_not_false (sym h.4.0))
-  braces r v u (node K.NODE_PAT_ENTRY c (node _ d f)) h = lost f h.4.4
-  braces r v u (node K.TOKEN_R_BRACE c f) h = absurd (true_is_not_false (sym h.0))
-  braces r v u (node K.TOKEN_ELLIPSIS c f) h = absurd (true_is_not_false (sym h.0))
-  braces r v u (node _ c f) h = lost f h.4
-
--- by whether the child is of the kind
-chosen : {A B : Type 0} (w k : SyntaxKind) (T : Bool → Type 0) → (T true → A) → (T false → B) → T (same_kind w k) → ((w ≡ k) × A) ⊎ B
-chosen {A = A} {B = B} w k T a b h = by (same_kind w k) refl h
-  where
-    by : (v : Bool) → same_kind w k ≡ v → T v → ((w ≡ k) × A) ⊎ B
-    by true e h = inl ((same_kind-decides w k).0 e, a h)
-    by false e h = inr (b h)
-
-one_or_else : (H : Row → Type 0) (r s : Row) → H (or_else r s) → H r ⊎ H s
-one_or_else H never s h = inr h
-one_or_else H r s h = inl h
-
-one_of_two : {A B C : Type 0} → (A × (B ⊎ C)) ⊎ C → (A × B) ⊎ C
-one_of_two (inl (a, inl b)) = inl (a, b)
-one_of_two (inl (a, inr c)) = inr c
-one_of_two (inr c) = inr c
-
-this : {A : Type 0} → A ⊎ ⊥ → A
-this (inl a) = a
-this (inr b) = absurd b
-
--- by whether a child closes the row, or passes the test
-closing : (H : Row → Type 0) (v b : Bool) (q r : Row) → H (if v then r else only b q) → ((b ≡ true) × H q) ⊎ H (only v r)
-closing H true b q r h = inr h
-closing H false true q r h = inl (refl, h)
-closing H false false q r h = inr h
-
-going : (H : Row → Type 0) (b : Bool) (q s : Row) → H (if b then q else s) → ((b ≡ true) × H q) ⊎ H s
-going H true q s h = inl (refl, h)
-going H false q s h = inr h
-
-piece_on : (H : Row → Type 0) (r : Row) (k : SyntaxKind) → H (after (p.Pieces · r) k) → ((is_piece k ≡ true) × H (p.Pieces · r)) ⊎ H (after r k)
-piece_on H r K.TOKEN_STRING_CONTENT h = inl (refl, h)
-piece_on H r K.NODE_INTERPOL h = inl (refl, h)
-piece_on H r _ h = inr h
-
--- a child of a kind, and nothing else
-child : (parent w : SyntaxKind) (q r : Row) → may_end q ≡ false → ((H : Row → Type 0) (k : SyntaxKind) → H (after q k) → H (only (same_kind w k) r))
-    → ((f : Forest) → Held parent r f → View parent r f) → (f : Forest) → Held parent q f → One (is_token w) w r (View parent r) f
-child parent w q r d step v f h = this (one parent w q r never (λ h. sym d ∙ h) (λ k c h. tt)
-    (λ H k h. chosen w k (λ v. H (only v r)) (λ h. h) (λ h. h) (step H k h)) v (lost parent) f h)
-
-wanted : (parent w : SyntaxKind) (r : Row) → ((f : Forest) → Held parent r f → View parent r f) → (f : Forest) → Held parent (p.Wanted w · r) f
-    → One (is_token w) w r (View parent r) f
-wanted parent w r = child parent w (p.Wanted w · r) r refl (λ H k h. h)
+  braces r v u (leaf K.NODE_PAT_ENTRY t f) (leafed i h) = absurd (true_is_not_false (sym i))
+  braces r v u (leaf _ t f) (leafed i h) = lost h
+  braces r v u (node K.NODE_PAT_ENTRY c empty) (noded i m a (ended h)) = absurd (true_is_not_false (sym h))
+  braces r v u (node K.NODE_PAT_ENTRY c (leaf K.TOKEN_R_BRACE t f)) (noded i m a (leafed j h)) = last m (v f h)
+  braces r v u (node K.NODE_PAT_ENTRY c (leaf K.TOKEN_COMMA t f)) (noded i m a (leafed j h)) = comma m (braces r v u f h)
+  braces r v u (node K.NODE_PAT_ENTRY c (leaf _ t f)) (noded i m a (leafed j h)) = lost h
+  braces r v u (node K.NODE_PAT_ENTRY c (node K.TOKEN_R_BRACE d f)) (noded i m a (noded j n x h)) = absurd (true_is_not_false (sym j))
+  braces r v u (node K.NODE_PAT_ENTRY c (node K.TOKEN_COMMA d f)) (noded i m a (noded j n x h)) = absurd (true_is_not_false (sym j))
+  braces r v u (node K.NODE_PAT_ENTRY c (node _ d f)) (noded i m a (noded j n x h)) = lost h
+  braces r v u (node K.TOKEN_R_BRACE c f) (noded i m a h) = absurd (true_is_not_false (sym i))
+  braces r v u (node K.TOKEN_ELLIPSIS c f) (noded i m a h) = absurd (true_is_not_false (sym i))
+  braces r v u (node _ c f) (noded i m a h) = lost h
 
 -- each row is so
 pub view : (parent : SyntaxKind) (r : Row) (f : Forest) → Held parent r f → View parent r f
-view i never f h = lost i f h
-view i ((p.Child w · r) / s) f h = one i w ((p.Child w · r) / s) r s (λ h. absurd (true_is_not_false (sym h))) (λ k c h. h)
-    (λ H k h. one_of_two (chosen w k (λ v. H (or_else (only v r) (after s k))) (one_or_else H r (after s k)) (λ h. h) h)) (view i r) (view i s) f h
-view i (p.Child w · r) f h = child i w (p.Child w · r) r refl (λ H k h. h) (view i r) f h
-view i (p.Wanted w · r) f h = wanted i w r (view i r) f h
-view i (p.Attrpath · r) f h = child i K.NODE_ATTRPATH (p.Attrpath · r) r refl (λ H k h. h) (view i r) f h
-view i (p.EndOr w · r) f h = one i w (p.EndOr w · r) r done (λ h. h) (λ k c h. tt)
-    (λ H k h. chosen w k (λ v. H (only v r)) (λ h. h) (λ h. h) h) (view i r) (over_here i done (λ k. refl)) f h
-view i (p.Optional w · p.Names · r) f h = one i w (p.Optional w · p.Names · r) (p.Names · r) (p.Names · r) (λ h. h) (λ k c h. tt)
-    (λ H k h. chosen w k (λ v. H (if v then p.Names · r else after (p.Names · r) k)) (λ h. h) (λ h. h) h) (view i (p.Names · r)) (view i (p.Names · r)) f h
+view i never f h = lost i h
+view i ((p.Child w · r) / (p.Child v · s)) f h = one i w ((p.Child w · r) / (p.Child v · s)) r (p.Child v · s) (λ e. cc) (λ e. cc) (λ k c f h x. x)
+    (λ k f h. either i w k r (after (p.Child v · s) k) h) (view i r) (child i v (p.Child v · s) s refl refl (λ k. refl) (view i s)) f h
+view i ((p.Child w · r) / ((p.Child v · s) / z)) f h =
+    one i w ((p.Child w · r) / ((p.Child v · s) / z)) r ((p.Child v · s) / z) (λ e. cc) (λ e. cc) (λ k c f h x. x)
+    (λ k f h. either i w k r (after ((p.Child v · s) / z) k) h) (view i r) (view i ((p.Child v · s) / z)) f h
+view i (p.Child w · r) f h = child i w (p.Child w · r) r refl refl (λ k. refl) (view i r) f h
+view i (p.Wanted w · r) f h = child i w (p.Wanted w · r) r refl refl (λ k. refl) (view i r) f h
+view i (p.Attrpath · r) f h = child i K.NODE_ATTRPATH (p.Attrpath · r) r refl refl (λ k. refl) (view i r) f h
+view i (p.EndOr w · r) f h = one i w (p.EndOr w · r) r done (λ e. cc) (λ e. refl) (λ k c f h x. lost i h) (λ k f h. inl (this_kind i w k r h)) (view i r)
+    (λ f h. over_here i done refl (λ k. refl) h) f h
+view i (p.Optional w · p.Names · r) f h = one i w (p.Optional w · p.Names · r) (p.Names · r) (p.Names · r) (λ e. refl) (λ e. e) (λ k c f h x. x)
+    (λ k f h. chosen i w k (p.Names · r) (after (p.Names · r) k) h) (view i (p.Names · r)) (view i (p.Names · r)) f h
 view i (p.Operand n counted · r) f h = operand i n counted r (view i r) f h
-view i (p.Many n w · r) f h = several i (fits n) (p.Many n w · r) (p.Wanted w · r) (One (is_token w) w r (View i r)) refl (λ k c. tt)
-    (λ H k h. closing H (same_kind w k) (fits n k) (p.Many n w · r) r h) (wanted i w r (view i r)) f h
-view i (p.Entries w · r) f h = several i is_entry (p.Entries w · r) (p.Wanted w · r) (One (is_token w) w r (View i r)) refl (λ k c. tt)
-    (λ H k h. closing H (same_kind w k) (is_entry k) (p.Entries w · r) r h) (wanted i w r (view i r)) f h
-view i (p.Names · p.Wanted w · r) f h = several i is_attr (p.Names · p.Wanted w · r) (p.Wanted w · r) (One (is_token w) w r (View i r)) refl (λ k c. tt)
-    (λ H k h. going H (is_attr k) (p.Names · p.Wanted w · r) (only (same_kind w k) r) h) (wanted i w r (view i r)) f h
-view i (p.Pieces · p.Wanted w · r) f h = several i is_piece (p.Pieces · p.Wanted w · r) (p.Wanted w · r) (One (is_token w) w r (View i r)) refl (λ k c. tt)
-    (λ H k h. piece_on H (p.Wanted w · r) k h) (wanted i w r (view i r)) f h
-view i (p.PathPieces · r) f h = several i goes_on (p.PathPieces · r) done Ends refl (λ k c. tt)
-    (λ H k h. closing H false (goes_on k) (p.PathPieces · r) done h) (over_here i done (λ k. refl)) f h
+view i (p.Many n w · r) f h = several i (fits n) w (p.Many n w · r) r refl refl (λ k f h. closing i w k (fits n k) (p.Many n w · r) r h) (view i r) f h
+view i (p.Entries w · r) f h = several i is_entry w (p.Entries w · r) r refl refl (λ k f h. closing i w k (is_entry k) (p.Entries w · r) r h) (view i r) f h
+view i (p.Names · p.Wanted w · r) f h = several i is_attr w (p.Names · p.Wanted w · r) r refl refl
+    (λ k f h. going i w k (is_attr k) (p.Names · p.Wanted w · r) r h) (view i r) f h
+view i (p.Pieces · p.Wanted w · r) f h = several i is_piece w (p.Pieces · p.Wanted w · r) r refl refl (λ k f h. piece_on i w k r h) (view i r) f h
+view i (p.PathPieces · r) f h = pieces i r f h
 view i (p.Attr · p.MoreAttrs · r) f h = path i r f h
-view i (p.Formals · r) f h = braces i r (view i r) (wanted i K.TOKEN_R_BRACE r (view i r)) f
-    (alike i (p.FormalsAfterComma · r) (p.Formals · r) (λ h. h) (λ k c h. h) (λ H k no h. h) f h)
-view i (p.FormalsAfterComma · r) f h = braces i r (view i r) (wanted i K.TOKEN_R_BRACE r (view i r)) f h
-view i done f h = over_here i done (λ k. refl) f h
-view i (p.BoundAlready · r) f h = over_here i (p.BoundAlready · r) (λ k. refl) f h
-view i (p.TextEnd · r) f h = over_here i (p.TextEnd · r) (λ k. refl) f h
+view i (p.Formals · r) f h = braces i r (view i r) (child i K.TOKEN_R_BRACE (p.Wanted K.TOKEN_R_BRACE · r) r refl refl (λ k. refl) (view i r)) f
+    (alike i (p.FormalsAfterComma · r) (p.Formals · r) refl (λ h. h) (λ k c h. h) (λ H k no h. h) h)
+view i (p.FormalsAfterComma · r) f h = braces i r (view i r) (child i K.TOKEN_R_BRACE (p.Wanted K.TOKEN_R_BRACE · r) r refl refl (λ k. refl) (view i r)) f h
+view i done f h = over_here i done refl (λ k. refl) h
+view i (p.BoundAlready · r) f h = over_here i (p.BoundAlready · r) refl (λ k. refl) h
+view i (p.TextEnd · r) f h = over_here i (p.TextEnd · r) refl (λ k. refl) h
 view i r f h = tt

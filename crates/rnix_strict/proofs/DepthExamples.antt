@@ -1,5 +1,5 @@
 -- Which names may stand where, how error nodes are repaired, and how deep trees nest.
-use Rattle.{std.proofs.Common.{◌≡◌, ℕ, Bool, true, false, List, [], ◌∷◌, map, refl, codes}, rnix_kinds.specs.declared.kinds.SyntaxKind.SyntaxKind}
+use Rattle.{std.proofs.Common.{◌≡◌, ℕ, true, false, List, [], ◌∷◌, map, refl, codes}, rnix_kinds.specs.declared.kinds.SyntaxKind.SyntaxKind}
 use Rattle.rnix_kinds.specs.declared.kinds.SyntaxKind.TheVariants.{TOKEN_IDENT, TOKEN_INTEGER, TOKEN_ADD, TOKEN_SUB, TOKEN_MUL}
 use Rattle.rnix_kinds.specs.declared.kinds.SyntaxKind.TheVariants.{TOKEN_COLON, TOKEN_QUESTION, TOKEN_DOT, TOKEN_OR}
 use Rattle.rnix_kinds.specs.declared.kinds.SyntaxKind.TheVariants.{TOKEN_L_BRACE, TOKEN_R_BRACE, TOKEN_L_BRACK, TOKEN_R_BRACK, TOKEN_L_PAREN, TOKEN_R_PAREN}
@@ -7,9 +7,9 @@ use Rattle.rnix_kinds.specs.declared.kinds.SyntaxKind.TheVariants.{TOKEN_INTERPO
 use Rattle.rnix_kinds.specs.declared.kinds.SyntaxKind.TheVariants.{NODE_BIN_OP, NODE_CUR_POS, NODE_DYNAMIC, NODE_IDENT, NODE_IDENT_PARAM}
 use Rattle.rnix_kinds.specs.declared.kinds.SyntaxKind.TheVariants.{NODE_LAMBDA, NODE_LIST, NODE_LITERAL, NODE_PAREN, NODE_PATTERN}
 use Rattle.rnix_kinds.specs.declared.kinds.SyntaxKind.TheVariants.{NODE_PAT_ENTRY, NODE_ROOT, NODE_SELECT, NODE_UNARY_OP}
-use Rattle.{rnix_green.specs.Forest.{Forest, empty, leaf, node}, rnix_grammar.specs.declared.place.Place.TheVariants.{RootStart, AttrpathStart, InheritName}}
-use Rattle.rnix_grammar.specs.{declared.place.Place.TheVariants.BindName, AnnotatedForest.{Token, AnnotatedForest, Stray, Extra, one_token, one_fault}}
-use Rattle.rnix_grammar.specs.{Rows.{Start, BeforeArgument, At}, Repaired.repaired, Nest.nest, Names.is_named}
+use Rattle.{rnix_green.specs.Forest.{Forest, empty, leaf, node}, rnix_grammar.specs.declared.rules.Part.TheVariants.{Argument, Names, Wanted}}
+use Rattle.rnix_grammar.specs.AnnotatedForest.{Token, AnnotatedForest, Stray, Extra, one_token, one_fault}
+use Rattle.rnix_grammar.specs.{Rules.{done, ◌·◌, row}, Repaired.repaired, Nest.nest, Names.is_named}
 
 -- trees, each in front of some others
 abbrev named : List ℕ → Forest → Forest
@@ -65,16 +65,16 @@ abbrev cur_pos_leaf : AnnotatedForest
 cur_pos_leaf = one_token TOKEN_IDENT (record { kind = TOKEN_IDENT; text = codes "__curPos"; start = 0; end = 8 })
 
 names :
-    (is_named (At RootStart) NODE_IDENT or_leaf
-    ∷ is_named BeforeArgument NODE_IDENT or_leaf
-    ∷ is_named (At AttrpathStart) NODE_IDENT or_leaf
-    ∷ is_named (Start NODE_IDENT_PARAM) NODE_IDENT or_leaf
-    ∷ is_named (At BindName) NODE_IDENT or_leaf
-    ∷ is_named (At RootStart) NODE_IDENT cur_pos_leaf
-    ∷ is_named (Start NODE_IDENT_PARAM) NODE_IDENT cur_pos_leaf
-    ∷ is_named (At InheritName) NODE_IDENT cur_pos_leaf
-    ∷ is_named (At RootStart) NODE_CUR_POS cur_pos_leaf
-    ∷ is_named (At RootStart) NODE_CUR_POS or_leaf
+    (is_named (row NODE_ROOT) NODE_IDENT or_leaf
+    ∷ is_named (Argument · done) NODE_IDENT or_leaf
+    ∷ is_named (row NODE_ATTRPATH) NODE_IDENT or_leaf
+    ∷ is_named (row NODE_IDENT_PARAM) NODE_IDENT or_leaf
+    ∷ is_named (Wanted NODE_IDENT · done) NODE_IDENT or_leaf
+    ∷ is_named (row NODE_ROOT) NODE_IDENT cur_pos_leaf
+    ∷ is_named (row NODE_IDENT_PARAM) NODE_IDENT cur_pos_leaf
+    ∷ is_named (Names · done) NODE_IDENT cur_pos_leaf
+    ∷ is_named (row NODE_ROOT) NODE_CUR_POS cur_pos_leaf
+    ∷ is_named (row NODE_ROOT) NODE_CUR_POS or_leaf
     ∷ [])
     ≡ false ∷ true ∷ true ∷ false ∷ false ∷ false ∷ true ∷ true ∷ true ∷ false ∷ []
 names = refl

@@ -4,7 +4,8 @@ use Rattle.std.proofs.Common.{◌&&◌, if◌then◌else◌, nat_le}
 use Rattle.rnix_kinds.specs.declared.kinds.SyntaxKind.{SyntaxKind, TheVariants.{NODE_DYNAMIC, NODE_LAMBDA, NODE_LIST, NODE_PATTERN, NODE_ROOT, NODE_STRING}}
 use Rattle.rnix_kinds.specs.declared.kinds.SyntaxKind.TheVariants.{NODE_ATTRPATH, NODE_PAT_ENTRY, NODE_ATTRPATH_VALUE, NODE_INHERIT, NODE_INTERPOL}
 use Rattle.rnix_kinds.{specs.SyntaxKind.is_token, proofs.AllKinds.implied}
-use Rattle.{rnix_green.specs.Forest.{Forest, empty, leaf, node}, rnix_grammar.specs.{Corners.{has_no_corner, holds_no_lambda, is_corner}, Derivation.has_tokens_alone}}
+use Rattle.rnix_green.specs.Forest.{Forest, empty, leaf, node}
+use Rattle.rnix_grammar.specs.{Corners.{has_no_corner, holds_no_lambda, is_corner}, Derivation.has_tokens_alone}
 use Rattle.rnix_grammar.specs.{Levels.{expression_level, left_of, right_of}, Rows.{is_infix, is_plain_literal}, TokenKinds.is_path_piece}
 use Rattle.rnix_grammar.specs.Grammar as G
 

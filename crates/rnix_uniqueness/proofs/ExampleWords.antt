@@ -1,8 +1,8 @@
 -- Words for trees and errors of examples.
-use Rattle.{std.proofs.Common.{ℕ, zero, suc}, rnix_kinds.specs.declared.kinds.SyntaxKind.{SyntaxKind}, rnix_green.specs.Range.{Extent}}
-use Rattle.rnix_kinds.specs.declared.kinds.SyntaxKind.TheVariants.{NODE_ATTRPATH, NODE_BIN_OP, NODE_IDENT, NODE_IDENT_PARAM, NODE_LAMBDA, NODE_LIST, NODE_PAREN, NODE_PATTERN, NODE_PAT_ENTRY, NODE_SELECT}
-use Rattle.{rnix_grammar.specs.declared.until.Until.{Until}, rnix_grammar.specs.Fault.{Fault, extra, unwanted, ended_before}}
-use Rattle.{rnix_grammar.specs.Tables.{wanted_kinds}, rnix_grammar.specs.AnnotatedForest.{Unwanted, Extra}}
+use Rattle.{std.proofs.Common.{ℕ, zero, suc}, rnix_kinds.specs.declared.kinds.SyntaxKind.{SyntaxKind, TheVariants.{NODE_ATTRPATH, NODE_BIN_OP, NODE_IDENT}}}
+use Rattle.rnix_kinds.specs.declared.kinds.SyntaxKind.TheVariants.{NODE_IDENT_PARAM, NODE_LAMBDA, NODE_LIST, NODE_PAREN, NODE_PATTERN, NODE_PAT_ENTRY}
+use Rattle.{rnix_kinds.specs.declared.kinds.SyntaxKind.TheVariants.NODE_SELECT, rnix_green.specs.Range.Extent, rnix_grammar.specs.declared.until.Until.Until}
+use Rattle.rnix_grammar.specs.{Fault.{Fault, extra, unwanted, ended_before}, Tables.wanted_kinds, AnnotatedForest.{Unwanted, Extra}}
 use Rattle.rnix_uniqueness.proofs.OnlyReading.{Shape, done, item, node, wrong}
 
 -- a tree, before those behind it

@@ -1,9 +1,9 @@
 -- How some broken texts are read.
-use Rattle.std.{proofs.Common.{[], ◌∷◌}, specs.Prelude.codes}
-use Rattle.rnix_kinds.specs.declared.kinds.SyntaxKind.TheVariants.{NODE_IF_ELSE, NODE_PAT_BIND, TOKEN_R_BRACK}
-use Rattle.rnix_grammar.specs.{declared.until.Until.TheVariants.{RParen, Colon, Then, Else}, Fault.{ended, bound_twice}, AnnotatedForest.Twice}
-use Rattle.rnix_uniqueness.proofs.{OnlyReading.{done, item, node, wrong, Case}, ExampleWords.{paren, name, path, select, binary, function}}
-use Rattle.rnix_uniqueness.proofs.ExampleWords.{function_of, entry, no_list, unwanteds, extras, within, is_extra, instead, missing}
+use Rattle.{std.{proofs.Common.{[], ◌∷◌}, specs.Prelude.codes}, rnix_kinds.specs.declared.kinds.SyntaxKind.TheVariants.{NODE_IF_ELSE, NODE_PAT_BIND}}
+use Rattle.{rnix_kinds.specs.declared.kinds.SyntaxKind.TheVariants.TOKEN_R_BRACK, rnix_grammar.specs.declared.until.Until.TheVariants.{RParen, Colon, Then}}
+use Rattle.rnix_grammar.specs.{declared.until.Until.TheVariants.Else, Fault.{ended, bound_twice}, AnnotatedForest.Twice}
+use Rattle.rnix_uniqueness.proofs.{OnlyReading.{done, item, node, wrong, Case}, ExampleWords.{paren, name, path, select, binary, function, function_of, entry}}
+use Rattle.rnix_uniqueness.proofs.ExampleWords.{no_list, unwanteds, extras, within, is_extra, instead, missing}
 
 -- `if[]`: an `if` whose condition is a list, before the end of the text
 abbrev pub condition : Case

@@ -1,10 +1,9 @@
 -- How certain texts are read: the steps compute the one reading of their items.
-use Rattle.{std.proofs.Common.{◌≡◌, ℕ, zero, suc, false, List, [], ◌∷◌, refl, sym, subst}, rnix_kinds.specs.declared.kinds.SyntaxKind.{SyntaxKind}}
-use Rattle.{rnix_kinds.specs.declared.kinds.SyntaxKind.TheVariants.{NODE_ROOT, NODE_ERROR}, rnix_kinds.specs.Lexical.Tokens.{tokens_of}}
-use Rattle.{rnix_grammar.specs.Fault.{Fault}, rnix_grammar.specs.Layout.{items, tail_of}, rnix_grammar.specs.PlaceReads.{ReadsWhole}}
+use Rattle.{std.proofs.Common.{◌≡◌, ℕ, zero, suc, false, List, [], ◌∷◌, refl, sym, subst}, rnix_kinds.specs.declared.kinds.SyntaxKind.SyntaxKind}
+use Rattle.{rnix_kinds.specs.{declared.kinds.SyntaxKind.TheVariants.{NODE_ROOT, NODE_ERROR}, Lexical.Tokens.tokens_of}, rnix_grammar.specs.Fault.Fault}
 use Rattle.rnix_grammar.specs.AnnotatedForest.{Token, Note, AnnotatedForest, blank, token, branch, fault, leaf_kind, tokens_in, end_from, placed_from}
-use Rattle.{rnix_grammar.specs.Machine.{Machine, begins, step, Runs, rest as here, then as further}, rnix_uniqueness.proofs.Ended.{ended_with, ended_once}}
-use Rattle.rnix_uniqueness.proofs.AllReads.{reads_runs}
+use Rattle.rnix_grammar.specs.{Layout.{items, tail_of}, Machine.{Machine, begins, step, Runs, rest as here, then as further}, Reads.ReadsWhole}
+use Rattle.rnix_uniqueness.proofs.AllReads.{ended_with, ended_once, reads_runs}
 
 -- a row of trees without its items: each leaf takes the next one
 pub data Shape : Type 0 where

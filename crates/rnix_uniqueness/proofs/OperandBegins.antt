@@ -1,15 +1,71 @@
 -- What the first items of an operand begin.
-use Rattle.std.proofs.Common.{◌≡◌, ℕ, Bool, true, false, List, Option, Some, None, refl, ap, sym, ◌∙◌, subst, if◌then◌else◌, nat_eq, nat_le}
-use Rattle.rnix_kinds.specs.declared.kinds.SyntaxKind.{SyntaxKind, TheVariants.{TOKEN_AT, TOKEN_COLON, TOKEN_IDENT, TOKEN_INVERT, TOKEN_L_BRACE, TOKEN_LET}}
-use Rattle.rnix_kinds.specs.declared.kinds.SyntaxKind.TheVariants.{TOKEN_SUB, NODE_APPLY, NODE_BIN_OP, NODE_HAS_ATTR, NODE_IDENT_PARAM, NODE_LAMBDA}
-use Rattle.rnix_kinds.specs.declared.kinds.SyntaxKind.TheVariants.{NODE_LEGACY_LET, NODE_PATTERN, NODE_SELECT, NODE_UNARY_OP}
-use Rattle.rnix_grammar.specs.{declared.{place.Place.Place, begin.Begin.Begin}, Tables.is_cur_pos, Begins.{begin_of, begin_name, begin_let, is_pattern}}
-use Rattle.rnix_grammar.specs.{Begins.second_kind, AnnotatedForest.{Token, AnnotatedForest, blank, token, branch, one_branch, leaf_kind_as, head_kind}, Rows.At}
-use Rattle.rnix_grammar.specs.{Rows.{first, is_atom, is_expression}, TreeLevels.level_of, Operands.{first_tree, kind_of}}
-use Rattle.rnix_lemmas.proofs.{Basics.{true_is_not_false, choice}, FollowLemmas.{FollowedTo, atom_tight, followed_atom, followed_negated, followed_inverted}}
-use Rattle.{rnix_lemmas.proofs.FollowLemmas.followed_loose, rnix_uniqueness.proofs.RowClasses.row_class}
+use Rattle.std.proofs.{lemmas.Bool.and_parts, Common.{◌≡◌, ◌++◌, subst, append_assoc, arith, ℕ, ◌≤◌, Bool, true, false, List, [], ◌∷◌, Some, refl, ap, sym}}
+use Rattle.{std.proofs.Common.{◌∙◌, ◌&&◌, if◌then◌else◌, nat_le, Option, None, nat_eq}, rnix_kinds.specs.declared.kinds.SyntaxKind.SyntaxKind}
+use Rattle.rnix_kinds.specs.declared.kinds.SyntaxKind.TheVariants.{TOKEN_AT, TOKEN_COLON, TOKEN_IDENT, TOKEN_INVERT, TOKEN_L_BRACE, TOKEN_LET, TOKEN_SUB}
+use Rattle.rnix_kinds.specs.declared.kinds.SyntaxKind.TheVariants.{NODE_APPLY, NODE_BIN_OP, NODE_HAS_ATTR, NODE_IDENT_PARAM, NODE_LAMBDA, NODE_LEGACY_LET}
+use Rattle.{rnix_kinds.specs.declared.kinds.SyntaxKind.TheVariants.{NODE_PATTERN, NODE_SELECT, NODE_UNARY_OP}, rnix_grammar.specs.Actions.{follow, more_action}}
+use Rattle.rnix_grammar.specs.{Actions.{goes_on as goes_between}, Levels.binding_power, AnnotatedForest.{Token, AnnotatedForest, head_kind, end_from, blank}}
+use Rattle.rnix_grammar.specs.{AnnotatedForest.{token, branch, one_branch, leaf_kind_as, Stray}, Operands.{follows, first_tree, IsBegun, goes_on, kind_of}}
+use Rattle.rnix_grammar.specs.{declared.action.Action.Action, Fault.Fault, TreeLevels.{row_level, level_of}, Machine.{Operand, Frame, machine, opened, perform}}
+use Rattle.rnix_grammar.specs.{Machine.{operand_on, Runs, Node}, declared.{place.Place.Place, begin.Begin.Begin}, Tables.is_cur_pos, Begins.begin_of}
+use Rattle.rnix_grammar.specs.{Begins.{begin_name, begin_let, is_pattern, second_kind}, Rows.{is_atom, is_expression}, Rules.{after, done, row as whole_row}}
+use Rattle.{rnix_grammar.specs.Positions.left_at, rnix_lemmas.proofs.{Basics.{true_is_not_false, choice}, LevelLemmas.{at_most, at_most_true}}}
+use Rattle.rnix_lemmas.proofs.FollowLemmas.{FollowedTo, follows_level, atom_tight, followed_atom, followed_negated, followed_inverted, followed_loose}
+use Rattle.{rnix_lemmas.proofs.StrictParts.end_behind, rnix_uniqueness.proofs.StepReads.{runs_on, runs_to, runs_from, step_to, IsOperandRead, ReadsTree}}
+use Rattle.rnix_uniqueness.proofs.OneAction.{is_at}
 use Rattle.rnix_grammar.specs.declared.place.Place.TheVariants as p
+use Rattle.rnix_grammar.specs.declared.action.Action.TheVariants as a
 use Rattle.rnix_grammar.specs.declared.begin.Begin.TheVariants as b
+
+-- an item goes on with a tree, as far as the tree's level
+pub goes : (level high : ℕ) (i : SyntaxKind) (x : AnnotatedForest) → FollowedTo high x → follows i x ≡ true → level ≤ binding_power i → more_action level high (Some i) ≡ follow i
+goes level high i x b f l =
+    let w = (b i).1 f in
+    ap (λ z. if z then follow i else a.Settle) (all_three (nat_le 1 (binding_power i)) (nat_le level (binding_power i)) (nat_le (binding_power i) high) (at_most_true 1 (binding_power i) w.0) (at_most_true level (binding_power i) l) (at_most_true (binding_power i) high w.1))
+  where
+    all_three : (u v w : Bool) → u ≡ true → v ≡ true → w ≡ true → (u && (v && w)) ≡ true
+    all_three u v w e f g = ap (λ z. z && (v && w)) e ∙ ap (λ z. z && w) f ∙ g
+
+-- an operand that no item goes on with ends
+pub settles : (level high : ℕ) (x : AnnotatedForest) (us : List Token) → FollowedTo high x → goes_on level x us ≡ false → more_action level high (head_kind us) ≡ a.Settle
+settles level high x [] b h = refl
+settles level high x (t ∷ ts) b h = by (goes_between level high t.kind) refl
+  where
+    by : (w : Bool) → goes_between level high t.kind ≡ w → (if w then follow t.kind else a.Settle) ≡ a.Settle
+    by false e = refl
+    by true e =
+        let u = and_parts (nat_le 1 (binding_power t.kind)) (nat_le level (binding_power t.kind) && nat_le (binding_power t.kind) high) e in
+        let v = and_parts (nat_le level (binding_power t.kind)) (nat_le (binding_power t.kind) high) u.1 in
+        let f : follows t.kind x ≡ true = (b t.kind).0 (at_most 1 (binding_power t.kind) u.0) (at_most (binding_power t.kind) high v.1) in
+        absurd (true_is_not_false (sym (ap (λ z. z && nat_le level (binding_power t.kind)) f ∙ v.0) ∙ h))
+
+-- two trees whose first trees are of one kind begin alike
+pub begun_same : (level : ℕ) (x y : AnnotatedForest) (ts : List Token) → first_tree x ≡ first_tree y → IsBegun level x ts → IsBegun level y ts
+begun_same level x y [] e h = h
+begun_same level x y (t ∷ ts) e h = h ∙ e
+
+-- a tree with which an item goes on is the first of another that is read, if the steps read the rest of that
+pub continued : (zs xs : List Token) (x z : AnnotatedForest) (i : SyntaxKind) (action : Action) (high d n : ℕ) (us : List Token) (es ds : List Fault) → follows i x ≡ true
+    → head_kind (xs ++ us) ≡ Some i → follow i ≡ action → first_tree z ≡ first_tree x → row_level z ≤ binding_power i → FollowedTo high z → ReadsTree d n zs x (xs ++ us) es
+    → ((level other : ℕ) (f : Frame) (fs : List Frame) (gs : List Fault) → Runs false (perform false action (opened Operand (p.Behind level other) d x) (f ∷ fs) (xs ++ us) (end_from n zs) gs)
+    (machine (opened Operand (p.Behind level high) d z ∷ (f ∷ fs)) us (end_from (end_from n zs) xs) (gs ++ ds))) → ReadsTree d n (zs ++ xs) z us (es ++ ds)
+continued zs xs x z i action high d n us es ds goes_so next act same least followed tree rest level f fs gs low begins =
+    by (tree level f fs gs (omega (arith, low, least, follows_level i x goes_so)) (begun_same level z x (zs ++ (xs ++ us)) same (subst (IsBegun level z) (append_assoc zs xs us) begins)))
+  where
+    by : IsOperandRead level d n zs x (xs ++ us) es f fs gs → IsOperandRead level d n (zs ++ xs) z us (es ++ ds) f fs gs
+    by r = record {
+      high = high;
+      followed = followed;
+      runs =
+          runs_from (ap (λ w. operand_on false level d f fs w w n gs) (append_assoc zs xs us))
+          (runs_on r.runs
+          (step_to
+          (ap (λ w. perform false w (opened Operand (p.Behind level r.high) d x) (f ∷ fs) (xs ++ us) (end_from n zs) (gs ++ es))
+          (ap (more_action level r.high) next ∙ goes level r.high i x r.followed goes_so (omega (arith, low, least)) ∙ act))
+          (runs_to
+          (ap (λ w. machine (opened Operand (p.Behind level high) d z ∷ (f ∷ fs)) us (end_from (end_from n zs) xs) w) (append_assoc gs es ds)
+          ∙ ap (λ w. machine (opened Operand (p.Behind level high) d z ∷ (f ∷ fs)) us w (gs ++ (es ++ ds))) (sym (end_behind n zs xs))) (rest level r.high f fs (gs ++ es)))));
+    }
 
 -- the kinds of expressions that begin with one item
 abbrev pub is_led : SyntaxKind → Bool
@@ -29,8 +85,8 @@ high_at k i = if is_atom k then 16 else 0
 
 -- what an item of a kind begins
 abbrev pub BegunBy : SyntaxKind → Begin → Type 0
-BegunBy i (b.Leaf k) = (is_led k ≡ true) × (first k (leaf_kind_as k i) ≡ At p.Past) × (is_atom k ≡ true)
-BegunBy i (b.Node k z high) = (is_led k ≡ true) × (first k (leaf_kind_as k i) ≡ At z) × (row_class z ≡ 0) × (high_at k i ≡ high)
+BegunBy i (b.Leaf k) = (is_led k ≡ true) × (after (whole_row k) (leaf_kind_as k i) ≡ done) × (is_atom k ≡ true)
+BegunBy i (b.Node k z high) = (is_led k ≡ true) × (after (whole_row k) (leaf_kind_as k i) ≡ left_at z) × (is_at k (p.Left z) ≡ true) × (high_at k i ≡ high)
 BegunBy i b.NameLambda = i ≡ TOKEN_IDENT
 BegunBy i b.BoundLambda = i ≡ TOKEN_IDENT
 BegunBy i b.PatternLambda = i ≡ TOKEN_L_BRACE
@@ -89,15 +145,15 @@ begins_special k h level t ts e =
 
 -- how an expression that begins with an item does so: it is the item, or a node that goes on at a place
 pub data LedBy (k i : SyntaxKind) (begin : Begin) : Type 0 where
-  by_leaf : begin ≡ b.Leaf k → first k (leaf_kind_as k i) ≡ At p.Past → is_atom k ≡ true → LedBy k i begin
-  by_node : (z : Place) (high : ℕ) → begin ≡ b.Node k z high → first k (leaf_kind_as k i) ≡ At z → row_class z ≡ 0 → high_at k i ≡ high → LedBy k i begin
+  led_leaf : begin ≡ b.Leaf k → after (whole_row k) (leaf_kind_as k i) ≡ done → is_atom k ≡ true → LedBy k i begin
+  led_node : (z high : ℕ) → begin ≡ b.Node k z high → after (whole_row k) (leaf_kind_as k i) ≡ left_at z → is_at k (p.Left z) ≡ true → high_at k i ≡ high → LedBy k i begin
 
 -- each such expression begins so, by its beginning
 led_by : (k i : SyntaxKind) (begin : Begin) → is_led k ≡ true → kind_of begin ≡ k → BegunBy i begin → LedBy k i begin
 led_by k i (b.Leaf j) h e w =
-    let v = subst (λ (z : SyntaxKind). BegunBy i (b.Leaf z)) e w in by_leaf (ap b.Leaf e) v.1 v.2
+    let v = subst (λ (z : SyntaxKind). BegunBy i (b.Leaf z)) e w in led_leaf (ap b.Leaf e) v.1 v.2
 led_by k i (b.Node j z high) h e w =
-    let v = subst (λ (x : SyntaxKind). BegunBy i (b.Node x z high)) e w in by_node z high (ap (λ x. b.Node x z high) e) v.1 v.2 v.3
+    let v = subst (λ (x : SyntaxKind). BegunBy i (b.Node x z high)) e w in led_node z high (ap (λ x. b.Node x z high) e) v.1 v.2 v.3
 led_by k i _ h e w = absurd (true_is_not_false (sym h ∙ ap is_led (sym e)))
 
 -- such an expression is its own first tree

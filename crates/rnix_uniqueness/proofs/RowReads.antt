@@ -1,78 +1,208 @@
 -- A row from a place is read, if smaller rows and trees are.
-use Rattle.std.proofs.Common.{◌≡◌, ℕ, suc, ◌≤◌, true, false, List, [], ◌∷◌, ◌++◌, refl, ap, sym, ◌∙◌, subst}
-use Rattle.{rnix_kinds.specs.declared.kinds.SyntaxKind.{SyntaxKind, TheVariants.{TOKEN_AT, NODE_ERROR}}, rnix_grammar.specs.declared.place.Place.Place}
-use Rattle.rnix_grammar.specs.{Fault.Fault, Symbols.{symbol_at, level_in}, AnnotatedForest.{Token, Twice, AnnotatedForest, blank, token, branch, fault, ◌⊕◌}}
-use Rattle.rnix_grammar.specs.{AnnotatedForest.{one_token, one_branch, one_fault, row_of, tokens_in, leaf_kind, end_from}, Reports.{report, repeats}}
-use Rattle.rnix_grammar.specs.{Rows.{RowState, At, SecondStart, advance, live, start}, ExpectedItems.{expects, stands_expected_in}, Operands.IsOperand}
-use Rattle.{rnix_grammar.specs.PlaceReads.{Reads, end, leaf, missing_part, wrong, second, inner, deeper, IsOver, IsWrong}, rnix_lemmas.proofs.EveryKind.only}
-use Rattle.rnix_lemmas.proofs.{AnnotatedForestLemmas.tokens_in-row_of, PlaceTests.same_place, PlainPlaces.{Reaches, reaches}}
-use Rattle.rnix_uniqueness.proofs.{StepReads.ReadsRow, ReadingHeights.{height, Short, AllRows, Trees, front_of, short_to, less, less_left, less_right}}
-use Rattle.rnix_uniqueness.proofs.{PlacedNodes.node_read_at, RowTrees.{ReadsOne, row_end, row_on, row_lost, one_leaf, one_second}, RowClasses.read_on}
-use Rattle.rnix_uniqueness.proofs.{FirstItems.{row_of_kind, item_next}, InnerReads.inner_one, WrongReads.{WrongOne, wrong_one}}
+use Rattle.std.proofs.Common.{◌≡◌, ℕ, true, false, List, [], ◌∷◌, ◌++◌, Option, Some, refl, ap, sym, ◌∙◌, subst, append-nil, arith, ◌⊎◌, inl, inr, Bool, ◌&&◌}
+use Rattle.{std.proofs.{Common.{if◌then◌else◌, suc, ◌<◌, append_assoc}, lemmas.Bool.and_parts}, rnix_kinds.proofs.AllKinds.implied}
+use Rattle.rnix_kinds.specs.declared.kinds.SyntaxKind.{SyntaxKind, TheVariants.{NODE_LITERAL, NODE_IDENT, NODE_PAT_ENTRY, TOKEN_IDENT, TOKEN_AT, NODE_ERROR}}
+use Rattle.{rnix_green.specs.Equality.same_kind, rnix_grammar.specs.{declared.place.Place.Place, Actions.action_at, Reports.{report, repeats}, Reads.IsWrong}}
+use Rattle.rnix_grammar.specs.{Reads.{deeper, IsRoom, IsOver, Reads, end, leaf, inner, missing_part, wrong, second}, Beginnings.IsOperandOf}
+use Rattle.rnix_grammar.specs.AnnotatedForest.{Token, Note, Stray, Unwanted, Extra, Twice, TooDeep, AnnotatedForest, ◌⊕◌, one_fault, row_of, head_kind}
+use Rattle.rnix_grammar.specs.AnnotatedForest.{end_from, touches, blank, one_branch, tokens_in, leaf_kind_as, token, fault, one_token, leaf_kind}
+use Rattle.rnix_grammar.specs.{Machine.{machine, opened, perform, dropped, rest as stays, Frame, Second}, Rules.{IsExpected, Row, after, counts, level_at}}
+use Rattle.rnix_grammar.specs.{Rules.{stands_expected, row as whole_row, done, ◌·◌, expects_end, missing, second_name}, declared.action.Action.Action}
+use Rattle.rnix_grammar.specs.{declared.position.TheConstants.{PAT_ENTRY, SECOND}, Fault.Fault, Positions.{left_at, kind_at}, Rows.{fits, is_expression}}
+use Rattle.{rnix_grammar.specs.{Operands.IsBegun, declared.rules.Part.TheVariants.BoundAlready}, rnix_lemmas.proofs.Basics.true_is_not_false}
+use Rattle.rnix_lemmas.proofs.{BeginAlike.operand_by_steps, RunLemmas.dropped_all, RestAt.rest_at, NodeKinds.{unreported, fits_expression}}
+use Rattle.rnix_lemmas.proofs.{PlaceTable.is_waiting, RowParts.left_level, EveryKind.only, AnnotatedForestLemmas.tokens_in-row_of}
+use Rattle.rnix_uniqueness.proofs.{StepReads.{runs_from, runs_to, step_to, ReadsTo, runs_on}, LiveRows.{is_live, reads_live}, OneAction.{done_at, is_any}}
+use Rattle.rnix_uniqueness.proofs.OneAction.{is_at, next_is, or_true, Goes, opens_with_item, is_inner, is_name, is_opened, left_at_place, names_only}
+use Rattle.rnix_uniqueness.proofs.{OneAction.waiting_live, PlaceActions.{Operands, extra_at, reads_at, runs_at, IfNext, IsNode, by_begin, by_open, by_name}}
+use Rattle.rnix_uniqueness.proofs.{PlaceActions.{by_entry, NodeRead, node_at, twice_at}, FunctionRows.stray_reads, RowTrees.{OneTo, goes_one, one_operand}}
+use Rattle.rnix_uniqueness.proofs.RowTrees.{dropped_front, too_far, node_read, read_on, closes_second, row_end, row_on, row_lost, one_leaf}
+use Rattle.rnix_uniqueness.proofs.ReadingHeights.{Whole, AllRows, Trees, front_of, is_firm, whole_live, whole_to, Item, Name, name_item, item_or_name}
+use Rattle.rnix_uniqueness.proofs.ReadingHeights.{begins_so, height, less, less_left, less_right, item_next}
 use Rattle.rnix_grammar.specs.declared.place.Place.TheVariants as p
+use Rattle.rnix_grammar.specs.declared.action.Action.TheVariants as a
 
--- the rest of a row behind a place
-shift : (m : ℕ) {p : SyntaxKind} {d n e : ℕ} {q s : RowState} {x : Place} {b c : AnnotatedForest} {us : List Token} {f : AnnotatedForest} {es : List Fault} (r : Reads p d n q s b us f es) → height r ≤ m → q ≡ At x → b ≡ c → n ≡ e
-    → Short m p d e (At x) s c us f es
-shift m r h u v w = short_to u v w (record { reads = r; short = h })
+-- items at a place, in the row of a node, before others, where what is read ends in a row
+module _ (q : SyntaxKind) (d n : ℕ) (x : Place) (r : Row) (b : AnnotatedForest) (here : is_at q x ≡ true) (on : is_live r ≡ true) where
+  -- where an error node stands for an operand, an operand is read
+  stands : (ts : List Token) → after (rest_at x) NODE_LITERAL ≡ r → IsExpected (rest_at x) n ts false → Operands q (rest_at x) r (action_at x (head_kind ts) (touches n ts))
+  stands ts h o =
+      subst (λ r. Operands q (rest_at x) r (action_at x (head_kind ts) (touches n ts))) h
+      (reads_at (done_at q x (touches n ts) (head_kind ts) here) (next_is q x n ts false here o) (or_true (is_any (level_at (rest_at x) blank)) (ap is_live h ∙ on)))
+
+  -- an error node at a place is read there
+  pub wrong_one : (note : Note) (ts vs : List Token) → IsExpected (rest_at x) n (ts ++ vs) false → IsWrong note d (rest_at x) r ts vs
+      → OneTo q d n x r b ts vs (one_fault note (row_of ts)) (report note ts ∷ [])
+  wrong_one Stray [] vs o w = absurd (cc w.0)
+  wrong_one Stray (t ∷ []) vs o w =
+      let v : Operands q (rest_at x) r (action_at x (Some t.kind) (touches n (t ∷ vs))) = stands (t ∷ vs) w.3 o in
+      let g : AnnotatedForest = one_fault Stray (row_of (t ∷ [])) in
+      let i = operand_by_steps (Some v.level) g vs (subst (λ (l : Option ℕ). IsOperandOf l g vs) v.is w.2) in
+      goes_one (a.Read v.level (counts (rest_at x))) v.act (λ y h fs gs e. one_operand x b w.1 i.0 i.1 i.2 (stray_reads t (deeper (rest_at x) d) n vs) y h fs gs)
+  wrong_one Stray (t ∷ (u ∷ ts)) vs o w = absurd (omega (arith, w.0))
+  wrong_one (Unwanted until) [] vs o w = absurd (true_is_not_false (sym w.0))
+  wrong_one (Unwanted until) (t ∷ ts) vs o w =
+      let ws : List Token = t ∷ ts ++ vs in
+      goes_one (a.Run until) (runs_at until (done_at q x (touches n ws) (Some t.kind) here) (next_is q x n ws false here o) w.2)
+      (λ y h fs gs e. runs_from (ap (λ (v : List Token). machine (opened h (p.Left y) d (b ⊕ one_fault (Unwanted until) (row_of v)) ∷ fs) (dropped v ws) (end_from n v)
+      (gs ++ report (Unwanted until) v ∷ [])) (sym w.1)) (runs_to (cc (dropped_front (t ∷ ts) vs)) stays))
+  wrong_one Extra [] vs o w = absurd (true_is_not_false (sym w.0))
+  wrong_one Extra (t ∷ ts) vs o w =
+      let ws : List Token = t ∷ ts ++ vs in
+      let act = extra_at (done_at q x (touches n ws) (Some t.kind) here) (next_is q x n ws false here o) w.2 in
+      let all : ws ≡ t ∷ ts = ap (λ v. t ∷ ts ++ v) w.1 ∙ append-nil (t ∷ ts) in
+      record {
+        place = x;
+        is = sym w.3;
+        here = here;
+        one = λ h fs gs i e.
+            step_to (ap (λ z. perform false z (opened h x d b) fs ws n gs) act
+            ∙ ap (λ (v : List Token). machine (opened h x d (b ⊕ one_fault Extra (row_of v)) ∷ fs) (dropped v v) (end_from n v) (gs ++ report Extra v ∷ [])) all)
+            (runs_to (cc (dropped_all (t ∷ ts), w.1)) stays);
+      }
+  wrong_one Twice ts vs o w = absurd w
+  wrong_one TooDeep ts vs o w =
+      subst (λ (v : List Token). IsExpected (rest_at x) n (ts ++ v) false → OneTo q d n x r b ts v (one_fault TooDeep (row_of ts)) (report TooDeep ts ∷ [])) (sym w.0) deep o
+    where
+      deep : IsExpected (rest_at x) n (ts ++ []) false → OneTo q d n x r b ts [] (one_fault TooDeep (row_of ts)) (report TooDeep ts ∷ [])
+      deep o =
+          let v : Operands q (rest_at x) r (action_at x (head_kind (ts ++ [])) (touches n (ts ++ []))) = stands (ts ++ []) w.3 o in
+          goes_one (a.Read v.level (counts (rest_at x))) v.act
+          (λ y h fs gs e. runs_from (ap (λ z. perform false (a.Read v.level z y) (opened h x d b) fs (ts ++ []) n gs) w.1 ∙ too_far v.level d n y x h b fs (ts ++ []) gs w.2)
+          (runs_to (cc (append-nil ts, dropped_all ts)) stays))
+
+-- from a place of a row to another, behind some trees and before some tokens
+module _ (m : ℕ) (q : SyntaxKind) (d n : ℕ) (x : Place) (to : Row) (b : AnnotatedForest) (vs : List Token) where
+  -- what is to be shown of a node
+  abbrev Inner : SyntaxKind → List Fault → AnnotatedForest → Type 0
+  Inner k ds c = OneTo q d n x to b (tokens_in c) vs (one_branch k c) (ds ++ repeats k b c)
+
+  -- what is done before its items
+  abbrev act_before : AnnotatedForest → Action
+  act_before c = action_at x (head_kind (tokens_in c ++ vs)) (touches n (tokens_in c ++ vs))
+
+  -- an item opens it
+  abbrev Opened : SyntaxKind → ℕ → AnnotatedForest → Type 0
+  Opened k z c = IfNext (head_kind (tokens_in c ++ vs)) (λ j. after (whole_row k) (leaf_kind_as k j) ≡ left_at z)
+
+  -- a node that one token opens
+  inner_opens : AllRows m → (z : ℕ) (k : SyntaxKind) (c : AnnotatedForest) (ds : List Fault) → Whole m k d n (whole_row k) blank vs c ds
+      → is_inner k ≡ true → is_at k (p.Left z) ≡ true → opens_with_item k ≡ true → Opened k z c → Goes q to (a.Open k z) (act_before c) → Inner k ds c
+  inner_opens rows z k c ds r i l o g act = by (item_or_name tests.0 (front_of refl r tests.1.0))
+    where
+      tests : (names_only (whole_row k) ≡ true) × ((is_firm (whole_row k) ≡ true) × (is_opened k ≡ true))
+      tests =
+          let w = and_parts (names_only (whole_row k)) _ (implied opens_with_item (λ k. names_only (whole_row k) && (is_firm (whole_row k) && is_opened k)) refl k o) in
+          (w.0, and_parts (is_firm (whole_row k)) (is_opened k) w.1)
+
+      waits : (r : Row) → r ≡ left_at z → is_live r ≡ true
+      waits r e = ap is_live e ∙ waiting_live (left_at z) (and_parts (same_kind (kind_at z) k) (is_waiting (left_at z)) l).1
+
+      by : Item m k d (whole_row k) blank vs c ds ⊎ Name m k d (whole_row k) blank vs c ds → Inner k ds c
+      by (inl t) =
+          subst (λ (g : AnnotatedForest). Opened k z g → Goes q to (a.Open k z) (act_before g) → Inner k ds g) (sym t.is)
+          (λ g act. goes_one (a.Open k z) act (λ y h fs gs e. node_read (read_on rows (p.Left z) l (whole_to g refl t.rest)) i h (p.Left y) d b fs gs)) g act
+      by (inr t) =
+          let same : after (whole_row k) (leaf_kind_as k t.item.kind) ≡ left_at z = subst (Opened k z) t.is g in
+          let other = implied (λ j. is_live (after (whole_row k) (leaf_kind_as k j))) (λ j. if is_name j then false else true) tests.1.1 t.item.kind (waits _ same) in
+          absurd (true_is_not_false (sym other ∙ ap (λ j. if same_kind j TOKEN_IDENT then false else true) t.kind))
+
+  -- a name
+  inner_name : (c : AnnotatedForest) (ds : List Fault) → Whole m NODE_IDENT d n (whole_row NODE_IDENT) blank vs c ds → Goes q to (a.Leaf NODE_IDENT) (act_before c) → Inner NODE_IDENT ds c
+  inner_name c ds r act =
+      let w = name_item r in
+      subst (λ (v : List Fault). Inner NODE_IDENT v c) (sym w.3)
+      (subst (λ (v : AnnotatedForest). Goes q to (a.Leaf NODE_IDENT) (act_before v) → Inner NODE_IDENT [] v) (sym w.1)
+      (λ act. goes_one (a.Leaf NODE_IDENT) act (λ y h fs gs e. runs_to (cc (append-nil gs)) stays)) act)
+
+  -- an entry of a pattern
+  inner_entry : AllRows m → (c : AnnotatedForest) (ds : List Fault) → Whole m NODE_PAT_ENTRY d n (whole_row NODE_PAT_ENTRY) blank vs c ds
+      → IfNext (head_kind (tokens_in c ++ vs)) (λ j. j ≡ TOKEN_IDENT) → Goes q to a.Entry (act_before c) → Inner NODE_PAT_ENTRY ds c
+  inner_entry rows c ds r next act = by (item_or_name refl (front_of refl r refl))
+    where
+      by : Item m NODE_PAT_ENTRY d (whole_row NODE_PAT_ENTRY) blank vs c ds ⊎ Name m NODE_PAT_ENTRY d (whole_row NODE_PAT_ENTRY) blank vs c ds → Inner NODE_PAT_ENTRY ds c
+      by (inl t) =
+          let i : t.item.kind ≡ TOKEN_IDENT = subst (λ c. IfNext (head_kind (tokens_in c ++ vs)) (λ j. j ≡ TOKEN_IDENT)) t.is next in
+          absurd (true_is_not_false (sym t.alive ∙ ap (λ j. is_live (after (whole_row NODE_PAT_ENTRY) j)) i))
+      by (inr t) =
+          subst (λ (g : AnnotatedForest). Goes q to a.Entry (act_before g) → Inner NODE_PAT_ENTRY ds g) (sym t.is)
+          (λ act. goes_one a.Entry act (λ y h fs gs e. node_read (read_on rows (p.Left PAT_ENTRY) refl t.rest) refl h (p.Left y) d b fs gs)) act
+
+  -- a node that is no operand, by how it begins
+  inner_kind : AllRows m → (k : SyntaxKind) (c : AnnotatedForest) (ds : List Fault) → Whole m k d n (whole_row k) blank vs c ds → IsNode k q to (head_kind (tokens_in c ++ vs)) (act_before c)
+      → Inner k ds c
+  inner_kind rows k c ds r (by_begin z i e act) = goes_one (a.Begin k z) act (λ y h fs gs g. node_read (read_on rows (p.Left z) i.0 (whole_to e refl r)) i.1 h (p.Left y) d b fs gs)
+  inner_kind rows k c ds r (by_open z i g act) = inner_opens rows z k c ds r i.1 i.0 i.2 g act
+  inner_kind rows k c ds r (by_name e act) = subst (λ k. Whole m k d n (whole_row k) blank vs c ds → Inner k ds c) (sym e) (λ r. inner_name c ds r act) r
+  inner_kind rows k c ds r (by_entry e next act) = subst (λ k. Whole m k d n (whole_row k) blank vs c ds → Inner k ds c) (sym e) (λ r. inner_entry rows c ds r next act) r
+
+  -- an operand
+  inner_operand : Trees m → (level : ℕ) (k : SyntaxKind) (c : AnnotatedForest) (ds : List Fault) → Whole m k (deeper (rest_at x) d) n (whole_row k) blank vs c ds
+      → fits level k ≡ true → Goes q to (a.Read level (counts (rest_at x))) (act_before c) → IsRoom (rest_at x) d
+      → IsOperandOf (Some level) (one_branch k c) vs → Inner k ds c
+  inner_operand trees level k c ds r fit act room op =
+      let e : is_expression k ≡ true = fits_expression level k fit in
+      let i = operand_by_steps (Some level) (one_branch k c) vs op in
+      let begun : IsBegun level (one_branch k c) (tokens_in c ++ vs) = subst (λ (v : List Token). IsBegun level (one_branch k c) (v ++ vs)) (append-nil (tokens_in c)) i.1 in
+      subst (λ (v : List Fault). OneTo q d n x to b (tokens_in c) vs (one_branch k c) v) (sym (ap (λ v. ds ++ v) (unreported k b c e) ∙ append-nil ds))
+      (goes_one (a.Read level (counts (rest_at x))) act (λ y h fs gs g. one_operand x b room i.0 begun i.2 (trees k (deeper (rest_at x) d) n vs c ds r e) y h fs gs))
+
+-- a node that stands at a place is read there
+pub inner_one : (m : ℕ) → AllRows m → Trees m → {q k : SyntaxKind} {d n : ℕ} {x : Place} {b : AnnotatedForest} {vs : List Token} {c : AnnotatedForest} {ds : List Fault}
+    → is_at q x ≡ true → Whole m k (deeper (rest_at x) d) n (whole_row k) blank vs c ds → IsRoom (rest_at x) d
+    → IsExpected (rest_at x) n (tokens_in c ++ vs) (stands_expected (rest_at x) k c) → IsOperandOf (level_at (rest_at x) (one_branch k c)) (one_branch k c) vs
+    → is_live (after (rest_at x) k) ≡ true → OneTo q d n x (after (rest_at x) k) b (tokens_in c) vs (one_branch k c) (ds ++ repeats k b c)
+inner_one m rows trees {q} {k} {d} {n} {x} {b} {vs} {c} {ds} l r room o op g = by (node_at x n (tokens_in c ++ vs) k c l (whole_live r) g (begins_so r) o)
+  where
+    to : Row
+    to = after (rest_at x) k
+
+    by : NodeRead q x (head_kind (tokens_in c ++ vs)) k (action_at x (head_kind (tokens_in c ++ vs)) (touches n (tokens_in c ++ vs)))
+        → OneTo q d n x to b (tokens_in c) vs (one_branch k c) (ds ++ repeats k b c)
+    by (inl w) =
+        inner_operand m q d n x to b vs trees w.0.level k c ds r w.1 w.0.act room
+        (subst (λ (v : Option ℕ). IsOperandOf v (one_branch k c) vs) (left_level (rest_at x) (left_at_place q x l) (one_branch k c) ∙ w.0.is) op)
+    by (inr w) =
+        inner_kind m q d n x to b vs rows k c ds (subst (λ (v : ℕ). Whole m k v n (whole_row k) blank vs c ds) (w.0.deep d) r) w.1
 
 -- a second name is read
-second_one : (m : ℕ) → AllRows m → (q : SyntaxKind) (d n : ℕ) (b c : AnnotatedForest) (vs : List Token) (ds : List Fault) (s : RowState)
-    → Short m NODE_ERROR d n SecondStart s blank vs c ds
-    → IsOver s (end_from n (tokens_in c)) vs → ReadsOne q d n (p.PatternEnd true) p.PatternPast b (tokens_in c) vs (one_fault Twice c) (ds ++ report Twice (tokens_in c) ∷ [])
-second_one m rows q d n b c vs ds s r over =
-    let w = item_next refl (front_of refl r refl over.0) in
-    let e : w.item.kind ≡ TOKEN_AT = only (λ j. live (advance SecondStart j)) TOKEN_AT refl w.item.kind w.alive in
-    subst (λ (v : AnnotatedForest). IsOver s (end_from n (tokens_in v)) vs
-    → ReadsOne q d n (p.PatternEnd true) p.PatternPast b (tokens_in v) vs (one_fault Twice v) (ds ++ report Twice (tokens_in v) ∷ [])) (sym w.is)
-    (λ over. one_second q d n b w.item w.more vs ds e
-    (read_on m rows NODE_ERROR d w.item.end p.TwiceName s (one_token (leaf_kind NODE_ERROR w.item) w.item) vs w.more ds (short_to (ap (advance SecondStart) e) refl refl w.rest) over)) over
+second_one : {m : ℕ} → AllRows m → {q : SyntaxKind} {d n : ℕ} {x : Place} {b c : AnnotatedForest} {vs : List Token} {ds : List Fault} → is_at q x ≡ true
+    → rest_at x ≡ BoundAlready · done → Whole m NODE_ERROR d n second_name blank vs c ds → OneTo q d n x done b (tokens_in c) vs (one_fault Twice c) (ds ++ report Twice (tokens_in c) ∷ [])
+second_one rows {q} {d} {n} {x} {b} {c} {vs} {ds} l i r =
+    let t = item_next refl (front_of refl r refl) in
+    let at : t.item.kind ≡ TOKEN_AT = only (λ j. is_live (after second_name j)) TOKEN_AT refl t.item.kind t.alive in
+    let ts : List Token = t.item ∷ (tokens_in t.more ++ vs) in
+    subst (λ (v : AnnotatedForest). OneTo q d n x done b (tokens_in v) vs (one_fault Twice v) (ds ++ report Twice (tokens_in v) ∷ [])) (sym t.is)
+    (goes_one a.Twice
+    (subst (λ j. Goes q done a.Twice (action_at x (Some j) (touches n ts))) (sym at)
+    (twice_at (done_at q x (touches n ts) (Some TOKEN_AT) l) i))
+    (λ y h fs gs e.
+    let row = read_on rows (p.Left SECOND) refl (whole_to (ap (after second_name) at) refl t.rest) in
+    let f : Frame = opened h (p.Left y) d b in
+    runs_on (row.row Second (f ∷ fs) gs refl refl)
+    (step_to (closes_second row.place d (end_from t.item.end (tokens_in t.more)) (token (leaf_kind NODE_ERROR t.item) t.item t.more) f fs vs (gs ++ ds) row.here row.over)
+    (runs_to (cc (append_assoc gs ds (report Twice (t.item ∷ tokens_in t.more) ∷ []))) stays))))
 
--- a row that is at most one higher is read
-pub row_next : (m : ℕ) → AllRows m → Trees m → {k : SyntaxKind} {d n : ℕ} {x y : Place} {b : AnnotatedForest} {us : List Token} {f : AnnotatedForest} {es : List Fault}
-    (r : Reads k d n (At x) (At y) b us f es) → height r ≤ suc m → ReadsRow k d n x y b us f es
-row_next m rows trees {k = k} {d = d} {n = n} {x = x} {b = b} {us = us} end h = row_end k d n x b us
-row_next m rows trees {k = q} {d = d} {n = n} {x = x} {y = y} {b = b} {us = us} (leaf {f = f} {es = es} {k = k} {t = t} w v o fo g l c e r) h = on (reaches x k (ap live g ∙ l))
-  where
-    on : Reaches x (advance (At x) k) → ReadsRow q d n x y b us (token k t f) es
-    on z =
-        row_on q d n x z.place y b (t ∷ []) us (one_token k t) f [] es
-        (one_leaf q d n x z.place b t (tokens_in f ++ us) k w (subst (λ (vs : List Token). expects x n (t ∷ vs) ≡ true) v o) z.is)
-        (rows q d t.end z.place y (b ⊕ one_token k t) us f es (shift m r (less (height r) m h) (sym g ∙ z.is) c e)) refl
-row_next m rows trees {k = q} {d = d} {n = n} {x = x} {y = y} {b = b} {us = us} {f = f} (missing_part {y = z} {e = e} {es = es} u v l room r i) h =
-    subst (λ (fs : List Fault). ReadsRow q d n x y b us f fs) (sym i)
-    (row_lost q d n x z y b us f e es u v l room (rows q d n z y b us f es (record { reads = r; short = less (height r) m h })))
-row_next m rows trees {k = q} {d = d} {n = n} {x = x} {y = y} {b = b} {us = us} {es = gs} (wrong {r = s} {c = c} {f = f} {es = es} note ts hc hv o fo w hg he r i) h =
-    on (wrong_one q d n x s b note ts (tokens_in f ++ us) (subst (λ (vs : List Token). expects x n (ts ++ vs) ≡ false) hv o) (subst (λ (vs : List Token). IsWrong note d (At x) s ts vs) hv w))
-  where
-    on : WrongOne q d n x s b note ts (tokens_in f ++ us) → ReadsRow q d n x y b us (fault note c f) gs
-    on z =
-        subst (λ (fs : List Fault). ReadsRow q d n x y b us (fault note c f) fs) (sym i)
-        (subst (λ (v : AnnotatedForest). ReadsRow q d n x y b us (fault note v f) (report note ts ∷ es)) (sym hc)
-        (row_on q d n x z.place y b ts us (one_fault note (row_of ts)) f (report note ts ∷ []) es z.one
-        (rows q d (end_from n ts) z.place y (b ⊕ one_fault note (row_of ts)) us f es
-        (shift m r (less (height r) m h) z.is (hg ∙ ap (λ v. b ⊕ one_fault note v) hc) he))
-        (ap (λ v. v ++ tokens_in f) (tokens_in-row_of ts))))
-row_next m rows trees {k = q} {d = d} {n = n} {x = x} {y = y} {b = b} {us = us} {es = gs} (second {m = e'} {s = s} {vs = vs} {c = c} {f = f} {ds = ds} {es = es} v r e over hq hr hg r' i) h =
-    subst (λ (fs : List Fault). ReadsRow q d n x y b us (fault Twice c f) fs) (sym i)
-    (subst (λ (z : Place). ReadsRow q d n z y b us (fault Twice c f) ((ds ++ report Twice (tokens_in c) ∷ []) ++ es)) (sym (same_place x (p.PatternEnd true) hq))
-    (row_on q d n (p.PatternEnd true) p.PatternPast y b (tokens_in c) us (one_fault Twice c) f (ds ++ report Twice (tokens_in c) ∷ []) es
-    (second_one m rows q d n b c (tokens_in f ++ us) ds s
-    (subst (λ (w : List Token). Short m NODE_ERROR d n SecondStart s blank w c ds) v (record { reads = r; short = less_left (height r) (height r') m h }))
-    (subst (λ (w : List Token). IsOver s (end_from n (tokens_in c)) w) v (subst (λ (w : ℕ). IsOver s w vs) e over)))
-    (rows q d (end_from n (tokens_in c)) p.PatternPast y (b ⊕ one_fault Twice c) us f es (shift m r' (less_right (height r) (height r') m h) hr hg e)) refl))
-row_next m rows trees {k = q} {d = d} {n = n} {x = x} {y = y} {b = b} {us = us} {es = gs} (inner {m = e'} {s = s} {vs = vs} {c = c} {f = f} {ds = ds} {es = es} {k = k} v u r e over o room fo op g l hg r' i) h =
-    on (reaches x k (ap live g ∙ l))
-  where
-    on : Reaches x (advance (At x) k) → ReadsRow q d n x y b us (branch k c f) gs
-    on z =
-        subst (λ (fs : List Fault). ReadsRow q d n x y b us (branch k c f) fs) (sym i)
-        (row_on q d n x z.place y b (tokens_in c) us (one_branch k c) f (ds ++ repeats k b c) es
-        (inner_one m q d n x z.place b (tokens_in f ++ us) rows trees k c ds s
-        (subst (λ (w : List Token). Short m k (deeper (At x) d) n (start k) s blank w c ds) v (record { reads = r; short = less_left (height r) (height r') m h }))
-        (subst (λ (w : List Token). IsOver s (end_from n (tokens_in c)) w) v (subst (λ (w : ℕ). IsOver s w vs) e over))
-        room (subst (λ (w : List Token). IsOperand (level_in (symbol_at x)) (one_branch k c) w) v op)
-        (node_read_at x z.place n (tokens_in c ++ (tokens_in f ++ us)) k (row_of_kind (record { reads = r; short = less_left (height r) (height r') m h }) over.0) z.is
-        (subst (λ (w : List Token). expects x n (tokens_in c ++ w) ≡ stands_expected_in (symbol_at x) k) v (subst (λ (w : List Token). expects x n w ≡ stands_expected_in (symbol_at x) k) u o))))
-        (rows q d (end_from n (tokens_in c)) z.place y (b ⊕ one_branch k c) us f es (shift m r' (less_right (height r) (height r') m h) (sym g
-        ∙ z.is) hg e)) refl)
+-- a row that is not so high is read
+pub row_next : (m : ℕ) → AllRows m → Trees m → {k : SyntaxKind} {d n : ℕ} {q s : Row} {b : AnnotatedForest} {us : List Token} {f : AnnotatedForest} {es : List Fault} (x : Place)
+    → is_at k x ≡ true → rest_at x ≡ q → (r : Reads k d n q s b us f es) → height r < suc m → is_live s ≡ true → ReadsTo k d n x s b us f es
+row_next m rows trees {k} {d} {n} {s = s} {b} {us} x e i end h l = row_end k d n x s b us i e
+row_next m rows trees {k} {d} {n} {q} {b = b} {us} x e i (leaf {t = t} {f = f} o w r) h l =
+    row_on rows (subst (λ q. IsExpected q n (t ∷ (tokens_in f ++ us)) true → is_live (after q (leaf_kind k t)) ≡ true
+    → OneTo k d n x (after q (leaf_kind k t)) b (t ∷ []) (tokens_in f ++ us) (one_token (leaf_kind k t) t) []) i (one_leaf e) o (reads_live r l))
+    (record { reads = r; short = less (height r) m h }) l refl
+row_next m rows trees {d = d} x at i (missing_part u v g room t) h l =
+    row_lost rows at u v (ap missing i ∙ g) (subst (λ q. expects_end q ≡ false → IsRoom q d) (sym i) room) (record { reads = t; short = less (height t) m h }) l
+row_next m rows trees {k} {d} {n} {q} {b = b} {us} x e i (wrong {r = r} {f = f} note ts o w v t) h l =
+    row_on rows (wrong_one k d n x r b e (reads_live t l) note ts (tokens_in f ++ us) (subst (λ q. IsExpected q n (ts ++ (tokens_in f ++ us)) false) (sym i) o)
+    (subst (λ q. IsWrong note d q r ts (tokens_in f ++ us)) (sym i) v)) (record { reads = t; short = less (height t) m h }) l (ap (λ v. v ++ tokens_in f) (tokens_in-row_of ts))
+row_next m rows trees x e i (second {s = y} r over t) h l =
+    row_on rows (second_one rows e i (record { last = y; part = record { reads = r; short = less_left (height r) (height t) m h }; over = over }))
+    (record { reads = t; short = less_right (height r) (height t) m h }) l refl
+row_next m rows trees {k = p} {d} {n} {b = b} {us} x e i (inner {k = k} {s = y} {c = c} {f = f} {ds = ds} room r over o fo op t) h l =
+    let vs : List Token = tokens_in f ++ us in
+    row_on rows (subst (λ q. Whole m k (deeper q d) n (whole_row k) blank vs c ds → IsRoom q d → IsExpected q n (tokens_in c ++ vs) (stands_expected q k c)
+    → IsOperandOf (level_at q (one_branch k c)) (one_branch k c) vs → is_live (after q k) ≡ true → OneTo p d n x (after q k) b (tokens_in c) vs (one_branch k c) (ds ++ repeats k b c)) i
+    (λ r room o op g. inner_one m rows trees e r room o op g)
+    (record { last = y; part = record { reads = r; short = less_left (height r) (height t) m h }; over = over }) room o op (reads_live t l))
+    (record { reads = t; short = less_right (height r) (height t) m h }) l refl

@@ -1,18 +1,81 @@
 -- How the steps read one more tree of a row, and the rest of the row behind it.
-use Rattle.std.proofs.Common.{◌≡◌, ℕ, suc, ◌<◌, ◌≤◌, Bool, true, false, List, [], ◌∷◌, ◌++◌, Some, refl, ap, sym, ◌∙◌, subst, append-nil, append_assoc, arith}
-use Rattle.{std.proofs.{Common.{if◌then◌else◌, nat_le}, lemmas.Bool.Decides.nat_tests}, rnix_uniqueness.proofs.RowEnds.{closes_second}}
-use Rattle.rnix_kinds.specs.declared.kinds.SyntaxKind.{SyntaxKind, TheVariants.{TOKEN_AT, NODE_IDENT, NODE_PAT_ENTRY, NODE_ERROR}}
-use Rattle.rnix_grammar.specs.{declared.place.Place.Place, Fault.{Fault, too_deep}, Tables.depth_limit, Symbols.{symbol_at, is_counted}, Actions.action_at}
-use Rattle.rnix_grammar.specs.AnnotatedForest.{Token, AnnotatedForest, blank, ◌⊕◌, one_token, tokens_in, leaf_kind, head_kind, end_from, touches, Unwanted}
-use Rattle.rnix_grammar.specs.{AnnotatedForest.{Extra, Twice, TooDeep, branch, token, one_branch, one_fault, row_of}, Machine.{Head, Operand, Frame, machine}}
-use Rattle.rnix_grammar.specs.{Machine.{opened, kind_of, limited, operand_on, perform, Runs, rest as here, Second, dropped}, Missing.{missing, run_of, run_at}}
-use Rattle.rnix_grammar.specs.{Rows.{At, advance}, ExpectedItems.{expects, expects_end}, Operands.{IsBegun, goes_on}, TreeLevels.row_level, PlaceReads.IsRoom}
-use Rattle.{rnix_grammar.specs.{PlaceReads.deeper, declared.until.Until.Until, Reports.{report, repeats}}, rnix_lemmas.proofs.AnnotatedForestLemmas.⊕-assoc}
-use Rattle.rnix_lemmas.proofs.{AnnotatedForestLemmas.⊕-blank, StrictParts.end_behind, OpenHeads.is_open, RunLemmas.dropped_all}
-use Rattle.rnix_uniqueness.proofs.{Runs.{runs_on, runs_to, step_to}, StepReads.{ReadsRow, ReadsTree, IsOperandRead}, OwnTokens.{takes_at, runs_at}, MissingSteps.misses_in}
-use Rattle.rnix_uniqueness.proofs.{OperandGoesOn.settles, RowClasses.{class_of, row_class, ReadOn}, RowEnds.{is_inner, node_read}}
-use Rattle.rnix_grammar.specs.declared.place.Place.TheVariants as p
+use Rattle.std.proofs.Common.{◌≡◌, ℕ, Bool, true, false, List, [], ◌∷◌, ◌++◌, refl, ap, sym, ◌∙◌, subst, append-nil, append_assoc, suc, ◌<◌, ◌≤◌, Some, None}
+use Rattle.{std.proofs.{Common.{arith, if◌then◌else◌, nat_le}, lemmas.Bool.Decides.nat_tests}, rnix_kinds.specs.declared.kinds.SyntaxKind.SyntaxKind}
+use Rattle.{rnix_kinds.specs.declared.kinds.SyntaxKind.TheVariants.{NODE_PAT_ENTRY, NODE_ERROR, NODE_ROOT}, rnix_grammar.specs.declared.place.Place.Place}
+use Rattle.rnix_grammar.specs.{declared.action.Action.Action, Fault.Fault, Actions.action_at, Rules.{Row, IsExpected, after, counts, expects_end, missing}}
+use Rattle.rnix_grammar.specs.{Reads.{IsOver, IsRoom, deeper}, AnnotatedForest.{Token, Twice, AnnotatedForest, blank, ◌⊕◌, one_branch, one_fault, tokens_in}}
+use Rattle.rnix_grammar.specs.{AnnotatedForest.{head_kind, end_from, touches, one_token, leaf_kind}, Machine.{Head, Node, Second, Operand, Frame, machine, put}}
+use Rattle.rnix_grammar.specs.{Machine.{opened, perform, step, Runs, rest as here, kind_of, limited, operand_on, dropped}, Reports.{report, repeated, repeats}}
+use Rattle.{rnix_grammar.specs.{Tables.depth_limit, Operands.{goes_on, IsBegun}, TreeLevels.row_level}, rnix_lemmas.proofs.Basics.true_is_not_false}
+use Rattle.rnix_lemmas.proofs.{EveryKind.same, RestAt.rest_at, AnnotatedForestLemmas.{⊕-assoc, ⊕-blank}, StrictParts.end_behind, OpenHeads.is_open}
+use Rattle.rnix_uniqueness.proofs.{StepReads.{runs_on, runs_to, step_to, ReadsRow, runs_from, ReadsTree, IsOperandRead, ReadsTo}, LiveRows.{end_live, is_live}}
+use Rattle.rnix_uniqueness.proofs.{OneAction.{is_at, is_closed, is_ending, is_inner, Goes, done_at, goal, next_is}, PlaceActions.{ends_at, Misses, misses_at}}
+use Rattle.rnix_uniqueness.proofs.{PlaceActions.takes_at, ReadingHeights.{Whole, AllRows, Short}, OperandBegins.settles}
 use Rattle.rnix_grammar.specs.declared.action.Action.TheVariants as a
+use Rattle.rnix_grammar.specs.declared.place.Place.TheVariants as p
+
+-- the steps read the rest of a row from a place on, to a place where it ends
+pub record ReadOn (k : SyntaxKind) (d n : ℕ) (x : Place) (b : AnnotatedForest) (us : List Token) (f : AnnotatedForest) (es : List Fault) : Type 0 where
+  pub place : Place
+  pub row : ReadsRow k d n x place b us f es
+  pub here : is_at k place ≡ true
+  pub over : IsOver (rest_at place) (end_from n (tokens_in f)) us
+
+-- so they do with each row that is not so high
+pub read_on : {m : ℕ} {k : SyntaxKind} {d n : ℕ} {b : AnnotatedForest} {us : List Token} {f : AnnotatedForest} {es : List Fault} → AllRows m → (x : Place)
+    → is_at k x ≡ true → Whole m k d n (rest_at x) b us f es → ReadOn k d n x b us f es
+read_on {m} {k} {d} {n} {b} {us} {f} {es} rows x i w =
+    let r = rows k d n x w.last b us f es i w.part (end_live w.last w.over.0) in
+    record { place = r.place; row = r.row; here = r.here; over = subst (λ (s : Row). IsOver s (end_from n (tokens_in f)) us) (sym r.is) w.over }
+
+-- entries alone are reported
+pub quiet : (k : SyntaxKind) (b c : AnnotatedForest) → is_closed k ≡ true → repeats k b c ≡ []
+quiet NODE_PAT_ENTRY b c e = absurd (true_is_not_false (sym e))
+quiet _ b c e = refl
+
+-- the end of a row completes its node
+closes_by : (k : SyntaxKind) (act : Action) → is_ending k act ≡ true → (d n : ℕ) (x : Place) (c : AnnotatedForest) (F : Frame) (fs : List Frame) (ts : List Token) (gs : List Fault)
+    → is_inner k ≡ true
+    → perform false act (opened (Node k) x d c) (F ∷ fs) ts n gs ≡ machine (put F.place (F.row ⊕ one_branch k c) F ∷ fs) ts n (gs ++ repeats k F.row c)
+closes_by k a.Close i d n x c F fs ts gs h =
+    ap (λ z. machine (put F.place (F.row ⊕ one_branch k c) F ∷ fs) ts n z) (sym (append-nil gs) ∙ ap (λ z. gs ++ z) (sym (quiet k F.row c i)))
+closes_by k a.ClosePattern i d n x c F fs ts gs h =
+    ap (λ z. machine (put F.place (F.row ⊕ one_branch k c) F ∷ fs) ts n z) (sym (append-nil gs) ∙ ap (λ z. gs ++ z) (sym (quiet k F.row c i)))
+closes_by k a.CloseEntry i d n x c F fs ts gs h =
+    ap (λ j. machine (put F.place (F.row ⊕ one_branch k c) F ∷ fs) ts n (gs ++ repeats j F.row c)) (same NODE_PAT_ENTRY k i)
+closes_by k a.CloseTwice i d n x c F fs ts gs h = absurd (true_is_not_false (sym h ∙ ap is_inner (sym (same NODE_ERROR k i))))
+closes_by k _ i d n x c F fs ts gs h = absurd (true_is_not_false (sym h ∙ ap is_inner (sym (same NODE_ROOT k i))))
+
+-- a node whose row is read to its end is complete
+pub node_read : {k : SyntaxKind} {d m : ℕ} {x : Place} {g : AnnotatedForest} {vs : List Token} {f : AnnotatedForest} {ds : List Fault} → ReadOn k d m x g vs f ds
+    → is_inner k ≡ true → (h : Head) (y : Place) (e : ℕ) (b : AnnotatedForest) (fs : List Frame) (gs : List Fault)
+    → Runs false (machine (opened (Node k) x d g ∷ (opened h y e b ∷ fs)) (tokens_in f ++ vs) m gs)
+    (machine (opened h y e (b ⊕ one_branch k (g ⊕ f)) ∷ fs) vs (end_from m (tokens_in f)) (gs ++ (ds ++ repeats k b (g ⊕ f))))
+node_read {k} {d} {m} {x} {g} {vs} {f} {ds} r i h y e b fs gs =
+    let n : ℕ = end_from m (tokens_in f) in
+    runs_on (r.row (Node k) (opened h y e b ∷ fs) gs refl refl)
+    (step_to (closes_by k (action_at r.place (head_kind vs) (touches n vs)) (ends_at k r.place n vs r.here r.over) d n r.place (g ⊕ f) (opened h y e b) fs vs (gs ++ ds) i)
+    (runs_to (ap (λ q. machine (opened h y e (b ⊕ one_branch k (g ⊕ f)) ∷ fs) vs n q) (append_assoc gs ds (repeats k b (g ⊕ f)))) here))
+
+-- so is an operand's
+pub operand_read : {k : SyntaxKind} {d m : ℕ} {x : Place} {g : AnnotatedForest} {vs : List Token} {f : AnnotatedForest} {ds : List Fault} → ReadOn k d m x g vs f ds
+    → is_inner k ≡ true → is_closed k ≡ true → (y : Place) (e : ℕ) (fs : List Frame) (gs : List Fault)
+    → Runs false (machine (opened (Node k) x d g ∷ (opened Operand y e blank ∷ fs)) (tokens_in f ++ vs) m gs)
+    (machine (opened Operand y e (one_branch k (g ⊕ f)) ∷ fs) vs (end_from m (tokens_in f)) (gs ++ ds))
+operand_read {k} {d} {m} {x} {g} {vs} {f} {ds} r i q y e fs gs =
+    runs_to (ap (λ z. machine (opened Operand y e (one_branch k (g ⊕ f)) ∷ fs) vs (end_from m (tokens_in f)) (gs ++ z)) (ap (λ z. ds ++ z) (quiet k blank (g ⊕ f) q) ∙ append-nil ds))
+    (node_read r i Operand y e blank fs gs)
+
+-- the end of a second name completes it
+twice_by : (act : Action) → is_ending NODE_ERROR act ≡ true → (x : Place) (d n : ℕ) (c : AnnotatedForest) (F : Frame) (fs : List Frame) (ts : List Token) (gs : List Fault)
+    → perform false act (opened Second x d c) (F ∷ fs) ts n gs ≡ machine (put F.place (F.row ⊕ one_fault Twice c) F ∷ fs) ts n (gs ++ report Twice (tokens_in c) ∷ [])
+twice_by a.CloseTwice i x d n c F fs ts gs = refl
+twice_by _ i x d n c F fs ts gs = absurd (true_is_not_false (sym i))
+
+-- a second name whose row ends is complete
+pub closes_second : (x : Place) (d n : ℕ) (c : AnnotatedForest) (F : Frame) (fs : List Frame) (ts : List Token) (gs : List Fault) → is_at NODE_ERROR x ≡ true → IsOver (rest_at x) n ts
+    → step false (machine (opened Second x d c ∷ (F ∷ fs)) ts n gs) ≡ machine (put F.place (F.row ⊕ one_fault Twice c) F ∷ fs) ts n (gs ++ report Twice (tokens_in c) ∷ [])
+closes_second x d n c F fs ts gs h o = twice_by (action_at x (head_kind ts) (touches n ts)) (ends_at NODE_ERROR x n ts h o) x d n c F fs ts gs
 
 -- The steps read a tree of some items on, from a place of a row to another.
 abbrev pub ReadsOne : SyntaxKind → ℕ → ℕ → Place → Place → AnnotatedForest → List Token → List Token → AnnotatedForest → List Fault → Type 0
@@ -20,152 +83,112 @@ ReadsOne k d n x y b ts vs w ds =
     (h : Head) (fs : List Frame) (gs : List Fault) → is_open h ≡ true → kind_of h ≡ k
     → Runs false (machine (opened h x d b ∷ fs) (ts ++ vs) n gs) (machine (opened h y d (b ⊕ w) ∷ fs) vs (end_from n ts) (gs ++ ds))
 
--- nothing more
-pub row_end : (k : SyntaxKind) (d n : ℕ) (x : Place) (b : AnnotatedForest) (us : List Token) → ReadsRow k d n x x b us blank []
-row_end k d n x b us h fs gs o e = runs_to (ap (λ z. machine (opened h x d z ∷ fs) us n gs) (sym (⊕-blank b))
-    ∙ ap (λ z. machine (opened h x d (b ⊕ blank) ∷ fs) us n z) (sym (append-nil gs))) here
+-- So they do to a place of the row where this is left of it.
+pub record OneTo (k : SyntaxKind) (d n : ℕ) (x : Place) (to : Row) (b : AnnotatedForest) (ts vs : List Token) (w : AnnotatedForest) (ds : List Fault) : Type 0 where
+  pub place : Place
+  pub is : rest_at place ≡ to
+  pub here : is_at k place ≡ true
+  pub one : ReadsOne k d n x place b ts vs w ds
 
--- one more tree, and the rest
-pub row_on : (k : SyntaxKind) (d n : ℕ) (x z y : Place) (b : AnnotatedForest) (ts us : List Token) (w f : AnnotatedForest) (ds es : List Fault)
-    → ReadsOne k d n x z b ts (tokens_in f ++ us) w ds
-    → ReadsRow k d (end_from n ts) z y (b ⊕ w) us f es → tokens_in (w ⊕ f) ≡ ts ++ tokens_in f → ReadsRow k d n x y b us (w ⊕ f) (ds ++ es)
-row_on k d n x z y b ts us w f ds es one row t h fs gs o e =
-    subst (λ (v : List Token). Runs false (machine (opened h x d b ∷ fs) v n gs) (machine (opened h y d (b ⊕ (w ⊕ f)) ∷ fs) us (end_from n (tokens_in (w ⊕ f))) (gs ++ (ds ++ es))))
-    (sym (ap (λ v. v ++ us) t ∙ append_assoc ts (tokens_in f) us))
-    (runs_on (one h fs gs o e)
-    (runs_to (ap (λ v. machine (opened h y d v ∷ fs) us (end_from (end_from n ts) (tokens_in f)) ((gs ++ ds) ++ es)) (⊕-assoc b w f)
-    ∙ ap (λ v. machine (opened h y d (b ⊕ (w ⊕ f)) ∷ fs) us v ((gs ++ ds) ++ es)) (sym (ap (λ v. end_from n v) t ∙ end_behind n ts (tokens_in f)))
-    ∙ ap (λ v. machine (opened h y d (b ⊕ (w ⊕ f)) ∷ fs) us (end_from n (tokens_in (w ⊕ f))) v) (append_assoc gs ds es))
-    (row h fs (gs ++ ds) o e)))
+-- so it is by what is done at the place
+pub goes_one : {k : SyntaxKind} {d n : ℕ} {x : Place} {to : Row} {b w : AnnotatedForest} {ts vs : List Token} {ds : List Fault} (f : ℕ → Action)
+    → Goes k to f (action_at x (head_kind (ts ++ vs)) (touches n (ts ++ vs)))
+    → ((y : ℕ) (h : Head) (fs : List Frame) (gs : List Fault) → kind_of h ≡ k
+    → Runs false (perform false (f y) (opened h x d b) fs (ts ++ vs) n gs) (machine (opened h (p.Left y) d (b ⊕ w) ∷ fs) vs (end_from n ts) (gs ++ ds))) → OneTo k d n x to b ts vs w ds
+goes_one {d = d} {n} {x} {b = b} {ts = ts} {vs} f g one =
+    let action : Action = action_at x (head_kind (ts ++ vs)) (touches n (ts ++ vs)) in
+    record {
+      place = p.Left (goal action);
+      is = g.1;
+      here = g.2;
+      one = λ h fs gs o e. step_to (ap (λ z. perform false z (opened h x d b) fs (ts ++ vs) n gs) g.0) (one (goal action) h fs gs e);
+    }
+
+-- nothing more
+pub row_end : (k : SyntaxKind) (d n : ℕ) (x : Place) (s : Row) (b : AnnotatedForest) (us : List Token) → rest_at x ≡ s → is_at k x ≡ true → ReadsTo k d n x s b us blank []
+row_end k d n x s b us i e = record { place = x; is = i; here = e; row = λ h fs gs o e. runs_to (cc (⊕-blank b, append-nil gs)) here }
+
+-- so the row is read if its first tree is
+pub row_on : {m : ℕ} {k : SyntaxKind} {d n : ℕ} {x : Place} {to s : Row} {b : AnnotatedForest} {ts us : List Token} {w f : AnnotatedForest} {ds es : List Fault} → AllRows m
+    → (o : OneTo k d n x to b ts (tokens_in f ++ us) w ds) → Short m k d (end_from n ts) to s (b ⊕ w) us f es → is_live s ≡ true → tokens_in (w ⊕ f) ≡ ts ++ tokens_in f
+    → ReadsTo k d n x s b us (w ⊕ f) (ds ++ es)
+row_on {m} {k} {d} {n} {x} {to} {s} {b} {ts} {us} {w} {f} {ds} {es} rows o h l t = record { place = r.place; is = r.is; here = r.here; row = row }
+  where
+    r : ReadsTo k d (end_from n ts) o.place s (b ⊕ w) us f es
+    r = rows k d (end_from n ts) o.place s (b ⊕ w) us f es o.here (subst (λ q. Short m k d (end_from n ts) q s (b ⊕ w) us f es) (sym o.is) h) l
+
+    row : ReadsRow k d n x r.place b us (w ⊕ f) (ds ++ es)
+    row h fs gs i e =
+        runs_from (cc (t, append_assoc ts (tokens_in f) us))
+        (runs_on (o.one h fs gs i e)
+        (runs_to (cc (t, ⊕-assoc b w f, end_behind n ts (tokens_in f), append_assoc gs ds es)) (r.row h fs (gs ++ ds) i e)))
 
 -- a leaf
-pub one_leaf : (q : SyntaxKind) (d n : ℕ) (x y : Place) (b : AnnotatedForest) (t : Token) (vs : List Token) (k : SyntaxKind) → k ≡ leaf_kind q t
-    → expects x n (t ∷ vs) ≡ true → advance (At x) k ≡ At y
-    → ReadsOne q d n x y b (t ∷ []) vs (one_token k t) []
-one_leaf q d n x y b t vs k w o g h fs gs oh e =
-    step_to (ap (λ z. perform false z (opened h x d b) fs (t ∷ vs) n gs) (takes_at x y q t.kind _ o (ap (λ z. advance (At x) z) (sym w) ∙ g)))
-    (runs_to (ap (λ z. machine (opened h y d (b ⊕ one_token z t) ∷ fs) vs t.end gs) (ap (λ z. leaf_kind z t) e ∙ sym w)
-    ∙ ap (λ z. machine (opened h y d (b ⊕ one_token k t) ∷ fs) vs t.end z) (sym (append-nil gs))) here)
+pub one_leaf : {q : SyntaxKind} {d n : ℕ} {x : Place} {b : AnnotatedForest} {t : Token} {vs : List Token} → is_at q x ≡ true → IsExpected (rest_at x) n (t ∷ vs) true
+    → is_live (after (rest_at x) (leaf_kind q t)) ≡ true → OneTo q d n x (after (rest_at x) (leaf_kind q t)) b (t ∷ []) vs (one_token (leaf_kind q t) t) []
+one_leaf {q} {d} {n} {x} {b} {t} {vs} l o g =
+    goes_one a.Take (takes_at (done_at q x (touches n (t ∷ vs)) (Some t.kind) l) (next_is q x n (t ∷ vs) true l o) g)
+    (λ y h fs gs e. runs_to (cc (e, append-nil gs)) here)
 
 -- what is missing where the text ends
-pub row_lost : (k : SyntaxKind) (d n : ℕ) (x z y : Place) (b : AnnotatedForest) (us : List Token) (f : AnnotatedForest) (e : Fault) (es : List Fault) → us ≡ []
-    → tokens_in f ≡ [] → missing x ≡ Some (e, z)
-    → (expects_end (symbol_at x) ≡ false → IsRoom (At x) d) → ReadsRow k d n z y b us f es → ReadsRow k d n x y b us f (e ∷ es)
-row_lost k d n x z y b us f e es u v l r row h fs gs o w =
-    let none : tokens_in f ++ us ≡ [] = ap (λ q. q ++ us) v ∙ u in
-    runs_on
-    (subst (λ (q : List Token). Runs false (machine (opened h x d b ∷ fs) q n gs) (machine (opened h z d b ∷ fs) q n (gs ++ e ∷ []))) (sym none) (step_to (misses_in (symbol_at x) x z e h d n b fs gs false l r) here))
-    (runs_to (ap (λ q. machine (opened h y d (b ⊕ f) ∷ fs) us (end_from n (tokens_in f)) q) (append_assoc gs (e ∷ []) es)) (row h fs (gs ++ e ∷ []) o w))
+pub row_lost : {m : ℕ} {k : SyntaxKind} {d n : ℕ} {x : Place} {r s : Row} {b : AnnotatedForest} {us : List Token} {f : AnnotatedForest} {e : Fault} {es : List Fault} → AllRows m
+    → is_at k x ≡ true → us ≡ [] → tokens_in f ≡ [] → missing (rest_at x) ≡ Some (e, r) → (expects_end (rest_at x) ≡ false → IsRoom (rest_at x) d)
+    → Short m k d n r s b us f es → is_live s ≡ true → ReadsTo k d n x s b us f (e ∷ es)
+row_lost {m} {k} {d} {n} {x} {r} {s} {b} {us} {f} {e} {es} rows at u v l room h live = record { place = q.place; is = q.is; here = q.here; row = row }
+  where
+    lost : Misses k r d e (action_at x None false)
+    lost = misses_at (done_at k x false None at) l room
+
+    z : Place
+    z = p.Left (goal (action_at x None false))
+
+    q : ReadsTo k d n z s b us f es
+    q = rows k d n z s b us f es lost.here (subst (λ q. Short m k d n q s b us f es) (sym lost.rest) h) live
+
+    row : ReadsRow k d n x q.place b us f (e ∷ es)
+    row h fs gs o w =
+        runs_on
+        (subst (λ (q : List Token). Runs false (machine (opened h x d b ∷ fs) q n gs) (machine (opened h z d b ∷ fs) q n (gs ++ e ∷ []))) (sym (ap (λ q. q ++ us) v ∙ u))
+        (step_to (lost.steps h x n b fs gs) here))
+        (runs_to (cc (append_assoc gs (e ∷ []) es)) (q.row h fs (gs ++ e ∷ []) o w))
 
 -- an operand within the limit is read
-reads_counted : (level : ℕ) (counted : Bool) (x y : Place) (d n : ℕ) (b : AnnotatedForest) (h : Head) (fs : List Frame) (ts : List Token) (gs : List Fault)
+reads_counted : (level : ℕ) (counted : Bool) (x : Place) (y d n : ℕ) (b : AnnotatedForest) (h : Head) (fs : List Frame) (ts : List Token) (gs : List Fault)
     → (counted ≡ true → d < depth_limit)
-    → perform false (a.Read level counted y) (opened h x d b) fs ts n gs ≡ operand_on false level (if counted then suc d else d) (opened h y d b) fs ts ts n gs
+    → perform false (a.Read level counted y) (opened h x d b) fs ts n gs ≡ operand_on false level (if counted then suc d else d) (opened h (p.Left y) d b) fs ts ts n gs
 reads_counted level false x y d n b h fs ts gs r = refl
 reads_counted level true x y d n b h fs ts gs r = by (nat_le depth_limit d) refl
   where
     by : (w : Bool) → nat_le depth_limit d ≡ w
-        → (if w then limited false (opened h y d b) fs ts n gs else operand_on false level (suc d) (opened h y d b) fs ts ts n gs) ≡ operand_on false level (suc d) (opened h y d b) fs ts ts n gs
+        → (if w then limited false (opened h (p.Left y) d b) fs ts n gs else operand_on false level (suc d) (opened h (p.Left y) d b) fs ts ts n gs)
+        ≡ operand_on false level (suc d) (opened h (p.Left y) d b) fs ts ts n gs
     by true e = absurd (grind (arith, nat_tests, e, r refl))
     by false e = refl
 
 -- an operand
-pub one_operand : (q : SyntaxKind) (d n level : ℕ) (x y : Place) (b : AnnotatedForest) (ts : List Token) (w : AnnotatedForest) (vs : List Token) (ds : List Fault)
-    → action_at x (head_kind (ts ++ vs)) (touches n (ts ++ vs)) ≡ a.Read level (is_counted (symbol_at x)) y → IsRoom (At x) d → level ≤ row_level w
-    → IsBegun level w (ts ++ vs) → goes_on level w vs ≡ false
-    → ReadsTree (deeper (At x) d) n ts w vs ds → ReadsOne q d n x y b ts vs w ds
-one_operand q d n level x y b ts w vs ds act room low begun over tree h fs gs oh e =
-    let r : IsOperandRead level (deeper (At x) d) n ts w vs ds (opened h y d b) fs gs = tree level (opened h y d b) fs gs low begun in
-    step_to (ap (λ z. perform false z (opened h x d b) fs (ts ++ vs) n gs) act ∙ reads_counted level (is_counted (symbol_at x)) x y d n b h fs (ts ++ vs) gs room)
+pub one_operand : {d n level : ℕ} {w : AnnotatedForest} {ts vs : List Token} {ds : List Fault} (x : Place) (b : AnnotatedForest) → IsRoom (rest_at x) d → level ≤ row_level w
+    → IsBegun level w (ts ++ vs) → goes_on level w vs ≡ false → ReadsTree (deeper (rest_at x) d) n ts w vs ds → (y : ℕ) (h : Head) (fs : List Frame) (gs : List Fault)
+    → Runs false (perform false (a.Read level (counts (rest_at x)) y) (opened h x d b) fs (ts ++ vs) n gs) (machine (opened h (p.Left y) d (b ⊕ w) ∷ fs) vs (end_from n ts) (gs ++ ds))
+one_operand {d} {n} {level} {w} {ts} {vs} {ds} x b room low begun over tree y h fs gs =
+    let f : Frame = opened h (p.Left y) d b in
+    let r : IsOperandRead level (deeper (rest_at x) d) n ts w vs ds f fs gs = tree level f fs gs low begun in
+    runs_from (reads_counted level (counts (rest_at x)) x y d n b h fs (ts ++ vs) gs room)
     (runs_on r.runs
-    (step_to (ap (λ z. perform false z (opened Operand (p.Behind level r.high) (deeper (At x) d) w) (opened h y d b ∷ fs) vs (end_from n ts) (gs ++ ds)) (settles level r.high w vs r.followed over)) here))
-
--- a node that begins with nothing read
-pub one_begun : (q : SyntaxKind) (d n : ℕ) (x y z : Place) (b : AnnotatedForest) (k : SyntaxKind) (c : AnnotatedForest) (vs : List Token) (ds : List Fault)
-    → action_at x (head_kind (tokens_in c ++ vs)) (touches n (tokens_in c ++ vs)) ≡ a.Begin k z y → ReadOn k d n z blank vs c ds
-    → row_class z ≡ class_of (Some k) → is_inner k ≡ true
-    → ReadsOne q d n x y b (tokens_in c) vs (one_branch k c) (ds ++ repeats k b c)
-one_begun q d n x y z b k c vs ds act row r i h fs gs oh e =
-    step_to (ap (λ v. perform false v (opened h x d b) fs (tokens_in c ++ vs) n gs) act) (node_read k d n z blank vs c ds row r i h y d b fs gs)
-
--- a node that its first item opens
-pub one_opened : (q : SyntaxKind) (d n : ℕ) (x y z : Place) (b : AnnotatedForest) (k : SyntaxKind) (t : Token) (f : AnnotatedForest) (vs : List Token) (ds : List Fault)
-    → action_at x (Some t.kind) (touches n (t ∷ (tokens_in f ++ vs))) ≡ a.Open k z y → ReadOn k d t.end z (one_token (leaf_kind k t) t) vs f ds
-    → row_class z ≡ class_of (Some k) → is_inner k ≡ true
-    → ReadsOne q d n x y b (t ∷ tokens_in f) vs (one_branch k (token (leaf_kind k t) t f)) (ds ++ repeats k b (token (leaf_kind k t) t f))
-one_opened q d n x y z b k t f vs ds act row r i h fs gs oh e =
-    step_to (ap (λ v. perform false v (opened h x d b) fs (t ∷ (tokens_in f ++ vs)) n gs) act) (node_read k d t.end z (one_token (leaf_kind k t) t) vs f ds row r i h y d b fs gs)
-
--- a name
-pub one_named : (q : SyntaxKind) (d n : ℕ) (x y : Place) (b : AnnotatedForest) (t : Token) (vs : List Token)
-    → action_at x (Some t.kind) (touches n (t ∷ vs)) ≡ a.Leaf NODE_IDENT y
-    → ReadsOne q d n x y b (t ∷ []) vs (one_branch NODE_IDENT (one_token (leaf_kind NODE_IDENT t) t)) []
-one_named q d n x y b t vs act h fs gs oh e =
-    step_to (ap (λ v. perform false v (opened h x d b) fs (t ∷ vs) n gs) act)
-    (runs_to (ap (λ v. machine (opened h y d (b ⊕ one_branch NODE_IDENT (one_token (leaf_kind NODE_IDENT t) t)) ∷ fs) vs t.end v) (sym (append-nil gs))) here)
-
--- an entry of a pattern
-pub one_entry : (q : SyntaxKind) (d n : ℕ) (x y : Place) (b : AnnotatedForest) (t : Token) (f : AnnotatedForest) (vs : List Token) (ds : List Fault)
-    → action_at x (Some t.kind) (touches n (t ∷ (tokens_in f ++ vs))) ≡ a.Entry y
-    → ReadOn NODE_PAT_ENTRY d t.end p.EntryMore (one_branch NODE_IDENT (one_token (leaf_kind NODE_IDENT t) t)) vs f ds
-    → ReadsOne q d n x y b (t ∷ tokens_in f) vs (one_branch NODE_PAT_ENTRY (branch NODE_IDENT (one_token (leaf_kind NODE_IDENT t) t) f)) (ds ++ repeats NODE_PAT_ENTRY b (branch NODE_IDENT (one_token (leaf_kind NODE_IDENT t) t) f))
-one_entry q d n x y b t f vs ds act row h fs gs oh e =
-    step_to (ap (λ v. perform false v (opened h x d b) fs (t ∷ (tokens_in f ++ vs)) n gs) act)
-    (node_read NODE_PAT_ENTRY d t.end p.EntryMore (one_branch NODE_IDENT (one_token (leaf_kind NODE_IDENT t) t)) vs f ds row refl refl h y d b fs gs)
-
--- a second name of a pattern
-pub one_second : (q : SyntaxKind) (d n : ℕ) (b : AnnotatedForest) (t : Token) (f : AnnotatedForest) (vs : List Token) (ds : List Fault) → t.kind ≡ TOKEN_AT
-    → ReadOn NODE_ERROR d t.end p.TwiceName (one_token (leaf_kind NODE_ERROR t) t) vs f ds
-    → ReadsOne q d n (p.PatternEnd true) p.PatternPast b (t ∷ tokens_in f) vs (one_fault Twice (token (leaf_kind NODE_ERROR t) t f)) (ds ++ report Twice (t ∷ tokens_in f) ∷ [])
-one_second q d n b t f vs ds k row h fs gs oh e =
-    let c : AnnotatedForest = token (leaf_kind NODE_ERROR t) t f in
-    step_to (ap (λ v. perform false (action_at (p.PatternEnd true) (Some v) (touches n (t ∷ (tokens_in f ++ vs)))) (opened h (p.PatternEnd true) d b) fs (t ∷ (tokens_in f ++ vs)) n gs) k)
-    (runs_on (row.row Second (opened h p.PatternPast d b ∷ fs) gs refl refl)
-    (step_to (closes_second row.place d (end_from t.end (tokens_in f)) c (opened h p.PatternPast d b) fs vs (gs ++ ds) row.over row.same)
-    (runs_to (ap (λ v. machine (opened h p.PatternPast d (b ⊕ one_fault Twice c) ∷ fs) vs (end_from t.end (tokens_in f)) v) (append_assoc gs ds (report Twice (t ∷ tokens_in f) ∷ []))) here)))
+    (step_to (ap (λ z. perform false z (opened Operand (p.Behind level r.high) (deeper (rest_at x) d) w) (f ∷ fs) vs (end_from n ts) (gs ++ ds)) (settles level r.high w vs r.followed over)) here))
 
 -- the tokens behind a run
-dropped_front : (ts vs : List Token) → dropped ts (ts ++ vs) ≡ vs
+pub dropped_front : (ts vs : List Token) → dropped ts (ts ++ vs) ≡ vs
 dropped_front [] vs = refl
 dropped_front (t ∷ ts) vs = dropped_front ts vs
 
--- items that are not wanted
-pub one_unwanted : (q : SyntaxKind) (d n : ℕ) (x y : Place) (b : AnnotatedForest) (until : Until) (t : Token) (ts vs : List Token)
-    → t ∷ ts ≡ run_of until (t ∷ ts ++ vs) → run_at x ≡ Some (until, y)
-    → expects x n (t ∷ ts ++ vs) ≡ false → ReadsOne q d n x y b (t ∷ ts) vs (one_fault (Unwanted until) (row_of (t ∷ ts))) (report (Unwanted until) (t ∷ ts) ∷ [])
-one_unwanted q d n x y b until t ts vs r a o h fs gs oh e =
-    step_to
-    (ap (λ v. perform false v (opened h x d b) fs (t ∷ ts ++ vs) n gs) (runs_at x y until t.kind (touches n (t ∷ ts ++ vs)) a o)
-    ∙ ap (λ (v : List Token). machine (opened h y d (b ⊕ one_fault (Unwanted until) (row_of v)) ∷ fs) (dropped v (t ∷ ts ++ vs)) (end_from n v) (gs ++ report (Unwanted until) v ∷ [])) (sym r)
-    ∙ ap (λ v. machine (opened h y d (b ⊕ one_fault (Unwanted until) (row_of (t ∷ ts))) ∷ fs) v (end_from n (t ∷ ts)) (gs ++ report (Unwanted until) (t ∷ ts) ∷ [])) (dropped_front (t ∷ ts) vs))
-    here
-
--- the items behind the root's expression
-pub one_extra : (q : SyntaxKind) (d n : ℕ) (b : AnnotatedForest) (t : Token) (ts : List Token)
-    → ReadsOne q d n p.RootEnd p.RootEnd b (t ∷ ts) [] (one_fault Extra (row_of (t ∷ ts))) (report Extra (t ∷ ts) ∷ [])
-one_extra q d n b t ts h fs gs oh e =
-    step_to
-    (ap (λ (v : List Token). machine (opened h p.RootEnd d (b ⊕ one_fault Extra (row_of v)) ∷ fs) (dropped v v) (end_from n v) (gs ++ report Extra v ∷ [])) (append-nil (t ∷ ts))
-    ∙ ap (λ v. machine (opened h p.RootEnd d (b ⊕ one_fault Extra (row_of (t ∷ ts))) ∷ fs) v (end_from n (t ∷ ts)) (gs ++ report Extra (t ∷ ts) ∷ [])) (dropped_all (t ∷ ts)))
-    here
-
 -- an operand beyond the limit is not
-too_far : (level d n : ℕ) (y : Place) (b : AnnotatedForest) (h : Head) (fs : List Frame) (ts : List Token) (gs : List Fault) → d ≡ depth_limit
-    → (if nat_le depth_limit d then limited false (opened h y d b) fs ts n gs else operand_on false level (suc d) (opened h y d b) fs ts ts n gs) ≡ limited false (opened h y d b) fs ts n gs
-too_far level d n y b h fs ts gs r = by (nat_le depth_limit d) refl
+pub too_far : (level d n y : ℕ) (x : Place) (h : Head) (b : AnnotatedForest) (fs : List Frame) (ts : List Token) (gs : List Fault) → d ≡ depth_limit
+    → perform false (a.Read level true y) (opened h x d b) fs ts n gs ≡ limited false (opened h (p.Left y) d b) fs ts n gs
+too_far level d n y x h b fs ts gs r = by (nat_le depth_limit d) refl
   where
-    by : (w : Bool) → nat_le depth_limit d ≡ w
-        → (if w then limited false (opened h y d b) fs ts n gs else operand_on false level (suc d) (opened h y d b) fs ts ts n gs) ≡ limited false (opened h y d b) fs ts n gs
+    f : Frame
+    f = opened h (p.Left y) d b
+
+    by : (w : Bool) → nat_le depth_limit d ≡ w → (if w then limited false f fs ts n gs else operand_on false level (suc d) f fs ts ts n gs) ≡ limited false f fs ts n gs
     by true e = refl
     by false e = absurd (grind (arith, nat_tests, e, r))
-
--- all that is left, nested too deep
-pub one_deep : (q : SyntaxKind) (d n level : ℕ) (x y : Place) (b : AnnotatedForest) (ts : List Token)
-    → action_at x (head_kind ts) (touches n ts) ≡ a.Read level true y → d ≡ depth_limit
-    → ReadsOne q d n x y b ts [] (one_fault TooDeep (row_of ts)) (too_deep ∷ [])
-one_deep q d n level x y b ts act r h fs gs oh e =
-    subst (λ (v : List Token). Runs false (machine (opened h x d b ∷ fs) v n gs) (machine (opened h y d (b ⊕ one_fault TooDeep (row_of ts)) ∷ fs) [] (end_from n ts) (gs ++ too_deep ∷ []))) (sym (append-nil ts))
-    (step_to
-    (ap (λ v. perform false v (opened h x d b) fs ts n gs) act ∙ too_far level d n y b h fs ts gs r
-    ∙ ap (λ v. machine (opened h y d (b ⊕ one_fault TooDeep (row_of ts)) ∷ fs) v (end_from n ts) (gs ++ too_deep ∷ [])) (dropped_all ts))
-    here)

@@ -1,4 +1,4 @@
-use Rattle.{std.proofs.Common.{◌≡◌, sym, subst, ◌∙◌, ap, true, ◌<◌, length}, rnix_reader.{specs.State.{state, ended}, proofs.LoopLemmas.{starts, turn}}}
+use Rattle.{std.proofs.Common.{sym, subst, ◌∙◌, ap, ◌<◌, length}, rnix_reader.{specs.State.{state, ended}, proofs.LoopLemmas.{starts, turn}}}
 use Rattle.rnix_reader.proofs.reading.read_all.Goals as goal
 
 pub loop-mark-init : goal.loop-mark-init

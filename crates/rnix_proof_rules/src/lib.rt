@@ -1,2 +1,0 @@
-//! Facts: a reading by the states of rows is one by the rules of the grammar, and the other way.
-#![tactic(auto)]
