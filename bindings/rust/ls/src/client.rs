@@ -1,0 +1,80 @@
+//! What the client has said that it can do, and what the server says.
+
+use crate::features::tokens;
+use crate::json::{array, object, Value};
+use crate::text::Encoding;
+
+/// What the client can do.
+#[derive(Clone, Copy, Debug)]
+pub struct Client {
+    /// What columns count.
+    pub encoding: Encoding,
+    /// Whether it takes edits together with the version of the document.
+    pub takes_versions: bool,
+    /// Whether it takes symbols inside symbols.
+    pub takes_nested_symbols: bool,
+    /// Whether it takes quick fixes with their edits.
+    pub takes_actions: bool,
+    /// Whether it shows Markdown when the pointer hovers over a name.
+    pub takes_markdown: bool,
+}
+
+// Whether an array of the parameters has a string.
+fn lists(params: &Value, path: &[&str], word: &str) -> bool {
+    let words = params.at(path).and_then(Value::as_array).unwrap_or_default();
+    words.iter().any(|other| other.as_str() == Some(word))
+}
+
+impl Client {
+    /// Reads the parameters of `initialize`.
+    pub fn new(params: &Value) -> Client {
+        let can = |path: &[&str]| {
+            params
+                .get("capabilities")
+                .and_then(|all| all.at(path))
+                .is_some_and(Value::is_true)
+        };
+        let encodings = ["capabilities", "general", "positionEncodings"];
+        let formats = ["capabilities", "textDocument", "hover", "contentFormat"];
+        let literals = ["capabilities", "textDocument", "codeAction", "codeActionLiteralSupport"];
+        Client {
+            encoding: if lists(params, &encodings, "utf-8") {
+                Encoding::Utf8
+            } else {
+                Encoding::Utf16
+            },
+            takes_versions: can(&["workspace", "workspaceEdit", "documentChanges"]),
+            takes_nested_symbols: can(&["textDocument", "documentSymbol", "hierarchicalDocumentSymbolSupport"]),
+            takes_actions: params.at(&literals).is_some(),
+            takes_markdown: lists(params, &formats, "markdown"),
+        }
+    }
+
+    /// Returns the answer to `initialize`.
+    pub fn greeting(&self) -> Value {
+        let encoding = match self.encoding {
+            Encoding::Utf8 => "utf-8",
+            Encoding::Utf16 => "utf-16",
+        };
+        let sync = object([("openClose", true.into()), ("change", 2_usize.into())]);
+        let kinds = array(["quickfix".into()]);
+        let capabilities = object([
+            ("positionEncoding", encoding.into()),
+            ("textDocumentSync", sync),
+            ("hoverProvider", true.into()),
+            ("completionProvider", object([("resolveProvider", false.into())])),
+            ("definitionProvider", true.into()),
+            ("referencesProvider", true.into()),
+            ("documentHighlightProvider", true.into()),
+            ("documentSymbolProvider", true.into()),
+            ("codeActionProvider", object([("codeActionKinds", kinds)])),
+            ("renameProvider", object([("prepareProvider", true.into())])),
+            ("foldingRangeProvider", true.into()),
+            ("selectionRangeProvider", true.into()),
+            ("semanticTokensProvider", tokens::provider()),
+        ]);
+        let version = env!("CARGO_PKG_VERSION");
+        let server = object([("name", "rnix-ls".into()), ("version", version.into())]);
+        object([("capabilities", capabilities), ("serverInfo", server)])
+    }
+}

@@ -1,0 +1,15 @@
+//! What the server can do with a document, one file for each feature.
+
+pub mod actions;
+pub mod comments;
+pub mod completion;
+pub mod diagnostics;
+pub mod folding;
+pub mod globals;
+pub mod hover;
+pub mod navigation;
+pub mod rename;
+pub mod selection;
+pub mod symbols;
+pub mod tokens;
+pub mod unused;

@@ -1,0 +1,53 @@
+//! Ranges that grow along the tree.
+
+use crate::json::{array, object_of, Value};
+use crate::protocol::{position_of, size, Failure, Outcome};
+use crate::request::Request;
+use rnix::{TextRange, TextSize};
+
+/// How many ranges an answer has for one position. Chains of operators nest deeper.
+const MOST: usize = 200;
+
+// The ranges around an offset, innermost first.
+fn ranges(request: &Request, offset: TextSize) -> Vec<TextRange> {
+    let tokens: Vec<_> = request.analysis.tokens_at(offset).collect();
+    let is_name = |kind: rnix::SyntaxKind| !kind.is_trivia();
+    let token = tokens
+        .iter()
+        .rev()
+        .find(|token| is_name(token.kind()))
+        .or(tokens.last());
+    let Some(token) = token else {
+        return vec![request.analysis.root().text_range()];
+    };
+    let mut ranges = vec![token.text_range()];
+    ranges.extend(token.parent_ancestors().map(|node| node.text_range()));
+    ranges.dedup();
+    if ranges.len() > MOST {
+        ranges.drain(MOST - 1..ranges.len() - 1);
+    }
+    ranges
+}
+
+// The innermost range, inside its parent, and so on.
+fn nested(request: &Request, ranges: Vec<TextRange>) -> Value {
+    let outer = ranges.into_iter().rev().fold(None, |parent, range| {
+        Some(object_of([("range", Some(request.range(range))), ("parent", parent)]))
+    });
+    outer.unwrap_or(Value::Null)
+}
+
+/// Answers `textDocument/selectionRange`.
+///
+/// # Errors
+/// The parameters have no positions.
+pub fn selections(request: &Request) -> Outcome {
+    let positions = request.params.get("positions").and_then(Value::as_array);
+    let positions = positions.ok_or_else(|| Failure::params("positions is missing"))?;
+    let mut answers = Vec::new();
+    for position in positions {
+        let offset = request.text().offset(position_of(Some(position))?);
+        answers.push(nested(request, ranges(request, size(offset))));
+    }
+    Ok(array(answers))
+}

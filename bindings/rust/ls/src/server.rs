@@ -1,0 +1,205 @@
+//! The life of the server: it takes messages one after the other, and answers requests in their order.
+
+use crate::client::Client;
+use crate::documents::Documents;
+use crate::features::{
+    actions, completion, diagnostics, folding, hover, navigation, rename, selection, symbols, tokens,
+};
+use crate::json::{object, Value};
+use crate::protocol::{notification, response, Code, Failure, Outcome};
+use crate::queue::{Incoming, Queue};
+use crate::request::Request;
+use crate::text::Encoding;
+use crate::transport;
+use std::io::{self, Read, Write};
+use std::panic::{catch_unwind, AssertUnwindSafe};
+
+/// Where the server is in its life.
+#[derive(Clone, Copy, PartialEq, Eq)]
+enum Stage {
+    Started,
+    Initialized,
+    ShutDown,
+}
+
+/// A server with its open documents.
+struct Server<W> {
+    output: W,
+    stage: Stage,
+    client: Client,
+    documents: Documents,
+}
+
+/// Whether the server goes on, or ends with a status.
+enum Next {
+    Continue,
+    End(u8),
+}
+
+// The function that answers a request about a document.
+fn feature(method: &str) -> Option<fn(&Request) -> Outcome> {
+    Some(match method.strip_prefix("textDocument/")? {
+        "codeAction" => actions::actions,
+        "completion" => completion::completions,
+        "definition" => navigation::definition,
+        "documentHighlight" => navigation::highlights,
+        "documentSymbol" => symbols::symbols,
+        "foldingRange" => folding::folds,
+        "hover" => hover::hover,
+        "prepareRename" => rename::prepare,
+        "references" => navigation::references,
+        "rename" => rename::rename,
+        "selectionRange" => selection::selections,
+        "semanticTokens/full" => tokens::full,
+        "semanticTokens/range" => tokens::in_range,
+        _ => return None,
+    })
+}
+
+// Calls a function; its panic becomes an error.
+fn guarded<T>(call: impl FnOnce() -> Result<T, Failure>) -> Result<T, Failure> {
+    let fault = |_| Err(Failure::new(Code::InternalError, "a fault of the server"));
+    catch_unwind(AssertUnwindSafe(call)).unwrap_or_else(fault)
+}
+
+impl<W: Write> Server<W> {
+    fn send(&mut self, message: &Value) -> io::Result<()> {
+        transport::write(&mut self.output, &message.written())
+    }
+
+    // Tells the client of what went wrong with a notification, which has no answer.
+    fn log(&mut self, failure: &Failure) -> io::Result<()> {
+        let params = object([
+            ("type", 1_usize.into()),
+            ("message", format!("rnix-ls: {}", failure.message).into()),
+        ]);
+        self.send(&notification("window/logMessage", params))
+    }
+
+    // Answers a request about a document.
+    fn ask(&self, method: &str, params: &Value) -> Outcome {
+        let unknown = || Failure::new(Code::MethodNotFound, format!("there is no method {method}"));
+        let feature = feature(method).ok_or_else(unknown)?;
+        let document = self.documents.get(params)?;
+        guarded(|| {
+            feature(&Request {
+                document,
+                analysis: document.analysis()?,
+                client: &self.client,
+                params,
+            })
+        })
+    }
+
+    fn initialize(&mut self, params: &Value) -> Value {
+        self.stage = Stage::Initialized;
+        self.client = Client::new(params);
+        self.client.greeting()
+    }
+
+    fn request(&mut self, method: &str, params: &Value) -> Outcome {
+        match (self.stage, method) {
+            (Stage::Started, "initialize") => Ok(self.initialize(params)),
+            (Stage::Started, _) => Err(Failure::new(Code::ServerNotInitialized, "`initialize` comes first")),
+            (Stage::Initialized, "initialize") => {
+                Err(Failure::new(Code::InvalidRequest, "`initialize` comes only once"))
+            }
+            (Stage::Initialized, "shutdown") => {
+                self.stage = Stage::ShutDown;
+                Ok(Value::Null)
+            }
+            (Stage::Initialized, _) => self.ask(method, params),
+            (Stage::ShutDown, _) => Err(Failure::new(Code::InvalidRequest, "after `shutdown` only `exit` comes")),
+        }
+    }
+
+    fn notified(&mut self, method: &str, params: &Value) -> io::Result<()> {
+        let encoding = self.client.encoding;
+        let outcome = match method {
+            _ if self.stage != Stage::Initialized => Ok(()),
+            "textDocument/didOpen" => self.documents.open(params, encoding),
+            "textDocument/didChange" => self.documents.change(params, encoding),
+            "textDocument/didClose" => return self.closed(params),
+            _ => Ok(()),
+        };
+        outcome.or_else(|failure| self.log(&failure))
+    }
+
+    fn closed(&mut self, params: &Value) -> io::Result<()> {
+        match self.documents.close(params) {
+            Ok(uri) => {
+                let params = diagnostics::none_for(&uri);
+                self.send(&notification("textDocument/publishDiagnostics", params))
+            }
+            Err(failure) => self.log(&failure),
+        }
+    }
+
+    // Sends the diagnostics of one document that has changed. Returns whether there was one.
+    fn publish(&mut self) -> io::Result<bool> {
+        let Some(document) = self.documents.next_new() else {
+            return Ok(false);
+        };
+        match guarded(|| diagnostics::published(document)) {
+            Ok(params) => self.send(&notification("textDocument/publishDiagnostics", params))?,
+            Err(failure) => self.log(&failure)?,
+        }
+        Ok(true)
+    }
+
+    fn message(&mut self, message: &Value) -> io::Result<Next> {
+        let (id, params) = (message.get("id"), message.get("params").unwrap_or(&Value::Null));
+        match (message.get("method").and_then(Value::as_str), id) {
+            (Some(method), Some(id)) => {
+                let outcome = self.request(method, params);
+                self.send(&response(id.clone(), outcome))?;
+            }
+            (Some("exit"), None) => return Ok(Next::End(u8::from(self.stage != Stage::ShutDown))),
+            (Some(method), None) => self.notified(method, params)?,
+            // The answer to a request, of which the server makes none.
+            (None, Some(_)) if message.get("result").or(message.get("error")).is_some() => {}
+            _ => {
+                let failure = Failure::new(Code::InvalidRequest, "the message is no request");
+                self.send(&response(Value::Null, Err(failure)))?;
+            }
+        }
+        Ok(Next::Continue)
+    }
+
+    fn take(&mut self, incoming: Incoming) -> io::Result<Next> {
+        match incoming {
+            Incoming::Message(message) => return self.message(&message),
+            Incoming::Cancelled(id) => {
+                let failure = Failure::new(Code::RequestCancelled, "the request was cancelled");
+                self.send(&response(id, Err(failure)))?;
+            }
+            Incoming::Bad(failure) => self.send(&response(Value::Null, Err(failure)))?,
+            Incoming::End => return Ok(Next::End(u8::from(self.stage != Stage::ShutDown))),
+        }
+        Ok(Next::Continue)
+    }
+
+    fn serve(&mut self, queue: &mut Queue) -> io::Result<u8> {
+        loop {
+            if let Some(incoming) = queue.next_now() {
+                if let Next::End(status) = self.take(incoming)? {
+                    return Ok(status);
+                }
+            } else if !self.publish()? {
+                queue.wait();
+            }
+        }
+    }
+}
+
+/// Serves a client until it ends the server or is gone. Returns the exit status: 0 after `shutdown`, and 1 otherwise.
+pub fn serve(input: impl Read + Send + 'static, output: impl Write) -> u8 {
+    let mut server = Server {
+        output,
+        stage: Stage::Started,
+        client: Client::new(&Value::Null),
+        documents: Documents::default(),
+    };
+    debug_assert!(server.client.encoding == Encoding::Utf16);
+    server.serve(&mut Queue::new(input)).unwrap_or(1)
+}
