@@ -17,6 +17,9 @@ const ARRAY: usize = 18;
 const OBJECT: usize = 19;
 const NULL: usize = 21;
 
+/// Symbols are inside each other up to this depth, and deeper ones side by side, since clients limit how deep an answer may nest.
+const MOST_DEPTH: usize = 100;
+
 /// Names are cut to this many characters, since those with interpolations may be long.
 const MOST_CHARACTERS: usize = 100;
 
@@ -102,7 +105,7 @@ fn symbols_in(root: &SyntaxNode) -> Vec<Symbol> {
             {
                 open.pop();
             }
-            symbol.parent = open.last().copied();
+            symbol.parent = open.get(MOST_DEPTH - 1).or(open.last()).copied();
             open.push(symbols.len());
             symbols.push(symbol);
         }

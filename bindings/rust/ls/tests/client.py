@@ -1,0 +1,173 @@
+"""A client that drives rnix-ls over pipes. RNIX_LS names the program."""
+
+import json
+import os
+import subprocess
+
+PROGRAM = os.environ.get("RNIX_LS", "rnix-ls")
+URI = "file:///t.nix"
+
+# What an editor says that it can do.
+CAPABILITIES = {
+    "workspace": {"workspaceEdit": {"documentChanges": True}},
+    "textDocument": {
+        "hover": {"contentFormat": ["markdown", "plaintext"]},
+        "documentSymbol": {"hierarchicalDocumentSymbolSupport": True},
+        "codeAction": {"codeActionLiteralSupport": {"codeActionKind": {"valueSet": ["quickfix"]}}},
+    },
+}
+
+
+def frame(message):
+    """Returns a message with its header."""
+    body = message if isinstance(message, bytes) else json.dumps(message).encode()
+    return b"Content-Length: %d\r\n\r\n%s" % (len(body), body)
+
+
+class Client:
+    """A server with its pipes."""
+
+    def __init__(self, capabilities=None, is_initialized=True):
+        self.process = subprocess.Popen([PROGRAM, "--stdio"], stdin=subprocess.PIPE, stdout=subprocess.PIPE)
+        self.count = 0
+        self.notifications = []
+        self.version = 0
+        self.greeting = None
+        if is_initialized:
+            capabilities = CAPABILITIES if capabilities is None else capabilities
+            self.greeting = self.ask("initialize", {"processId": None, "rootUri": None, "capabilities": capabilities})
+            self.tell("initialized", {})
+
+    def __enter__(self):
+        return self
+
+    def __exit__(self, *_):
+        self.process.stdin.close()
+        self.process.stdout.close()
+        self.process.wait(60)
+
+    def write(self, raw):
+        """Sends bytes as they are."""
+        self.process.stdin.write(raw)
+        self.process.stdin.flush()
+
+    def send(self, message):
+        """Sends a message."""
+        self.write(frame(message))
+
+    def tell(self, method, params):
+        """Sends a notification."""
+        self.send({"jsonrpc": "2.0", "method": method, "params": params})
+
+    def request(self, method, params):
+        """Sends a request and returns its id."""
+        self.count += 1
+        self.send({"jsonrpc": "2.0", "id": self.count, "method": method, "params": params})
+        return self.count
+
+    def read(self):
+        """Returns the next message, or None at the end."""
+        length = None
+        while True:
+            line = self.process.stdout.readline()
+            if not line:
+                return None
+            if line == b"\r\n":
+                break
+            name, _, value = line.partition(b":")
+            if name == b"Content-Length":
+                length = int(value)
+        return json.loads(self.process.stdout.read(length).decode())
+
+    def response(self):
+        """Returns the next message that is a response, and keeps the notifications before it."""
+        while True:
+            message = self.read()
+            if message is None or "method" not in message:
+                return message
+            self.notifications.append(message)
+
+    def ask(self, method, params):
+        """Sends a request, and returns its result, or its error as it is."""
+        number = self.request(method, params)
+        answer = self.response()
+        assert answer["id"] == number and answer["jsonrpc"] == "2.0", answer
+        return answer["error"] if "error" in answer else answer["result"]
+
+    def open(self, text, uri=URI):
+        """Opens a document."""
+        self.version += 1
+        document = {"uri": uri, "languageId": "nix", "version": self.version, "text": text}
+        self.tell("textDocument/didOpen", {"textDocument": document})
+
+    def change(self, *changes, uri=URI):
+        """Changes a document: each change is a text, or a start, an end and a text."""
+        self.version += 1
+        document = {"uri": uri, "version": self.version}
+        self.tell("textDocument/didChange", {"textDocument": document, "contentChanges": [change_of(it) for it in changes]})
+
+    def diagnostics(self):
+        """Waits for diagnostics of the last version, and returns them."""
+        while True:
+            message = self.notifications.pop(0) if self.notifications else self.read()
+            if message.get("method") == "textDocument/publishDiagnostics":
+                if message["params"].get("version") == self.version:
+                    return message["params"]["diagnostics"]
+
+    def at(self, method, position=None, uri=URI, **others):
+        """Asks about a document."""
+        params = {"textDocument": {"uri": uri}, **others}
+        if position is not None:
+            params["position"] = place(position)
+        return self.ask(f"textDocument/{method}", params)
+
+    def memory(self):
+        """Returns the resident memory in bytes."""
+        with open(f"/proc/{self.process.pid}/statm", encoding="ascii") as file:
+            return int(file.read().split()[1]) * os.sysconf("SC_PAGE_SIZE")
+
+
+def place(position):
+    """Returns a position as the protocol writes it."""
+    return {"line": position[0], "character": position[1]}
+
+
+def change_of(change):
+    """Returns a change as the protocol writes it."""
+    if isinstance(change, str):
+        return {"text": change}
+    start, end, text = change
+    return {"range": {"start": place(start), "end": place(end)}, "text": text}
+
+
+def span(thing):
+    """Returns the range of an answer as four numbers."""
+    thing = thing.get("range", thing)
+    start, end = thing["start"], thing["end"]
+    return start["line"], start["character"], end["line"], end["character"]
+
+
+def position_of(text, offset):
+    """Returns the line and the UTF-16 column of an offset in a text with newlines."""
+    before = text[:offset]
+    line = before.rpartition("\n")[2]
+    return before.count("\n"), len(line.encode("utf-16-le")) // 2
+
+
+def applied(text, edits, unit="utf-16"):
+    """Returns the text after edits whose columns count UTF-16 units or bytes."""
+    lines = text.split("\n")
+
+    def offset(position):
+        line = lines[position["line"]]
+        column = position["character"]
+        if unit == "utf-8":
+            column = len(line.encode()[:column].decode())
+        else:
+            column = len(line.encode("utf-16-le")[: 2 * column].decode("utf-16-le"))
+        return sum(len(it) + 1 for it in lines[: position["line"]]) + column
+
+    spans = [(offset(it["range"]["start"]), offset(it["range"]["end"]), it["newText"]) for it in edits]
+    for start, end, new in sorted(spans, reverse=True):
+        text = text[:start] + new + text[end:]
+    return text
