@@ -1,0 +1,89 @@
+;; Drives rnix-ls from Emacs with eglot: emacs --batch -l emacs.el, with the program in RNIX_LS and a copy of example.nix in RNIX_FILE.
+(require 'package)
+(package-initialize)
+(require 'eglot)
+(require 'flymake)
+
+(define-derived-mode nix-mode prog-mode "Nix")
+(add-to-list 'auto-mode-alist '("\\.nix\\'" . nix-mode))
+(add-to-list 'eglot-server-programs (list 'nix-mode (getenv "RNIX_LS")))
+(setq eglot-sync-connect 20 eglot-confirm-server-initiated-edits nil make-backup-files nil create-lockfiles nil)
+
+(defun check (wanted found what)
+  (unless (equal wanted found)
+    (error "%s: wanted %S, found %S" what wanted found)))
+
+(defun wait-for (what get)
+  "Wait until GET returns a value."
+  (let ((end (+ (float-time) 20)) value)
+    (while (not (setq value (funcall get)))
+      (when (> (float-time) end) (error "no %s" what))
+      (accept-process-output nil 0.02))
+    value))
+
+(defun go-to (text)
+  "Go to the first place of TEXT."
+  (goto-char (point-min))
+  (search-forward text)
+  (goto-char (match-beginning 0)))
+
+(defun messages (count)
+  "Wait until there are COUNT diagnostics, and return their messages."
+  (mapcar (lambda (it) (substring-no-properties (flymake-diagnostic-text it)))
+          (wait-for (format "%d diagnostics" count)
+                    (lambda ()
+                      (flymake-start)
+                      (let ((found (flymake-diagnostics)))
+                        (and (= (length found) count) found))))))
+
+(defun changed ()
+  "Send the changes of the buffer."
+  (eglot--signal-textDocument/didChange))
+
+(defun ask (method &rest params)
+  (changed)
+  (jsonrpc-request (eglot--current-server-or-lose) method (append (eglot--TextDocumentPositionParams) params)))
+
+(defun run ()
+  (find-file (getenv "RNIX_FILE"))
+  (eglot-ensure)
+  (apply #'eglot (eglot--guess-contact))
+  (check '("rnix [unused]: `unused` is not used") (messages 1) "the unused name")
+
+  ;; An error, and its correction.
+  (go-to ";\n  archive")
+  (delete-char 1)
+  (changed)
+  (check t (and (member "rnix: expected \";\" after the value of \"version\", found \"=\"" (messages 2)) t) "the error")
+  (insert ";")
+  (changed)
+  (messages 1)
+
+  (go-to "archive}")
+  (xref-find-definitions (thing-at-point 'symbol))
+  (check "archive = " (buffer-substring (point) (+ (point) 10)) "the definition")
+
+  (go-to "pname}")
+  (xref-find-definitions (thing-at-point 'symbol))
+  (check "pname = \"" (buffer-substring (point) (+ (point) 9)) "the second definition")
+
+  (let ((text (buffer-string)))
+    (go-to "version}")
+    (eglot-rename "release")
+    (setq text (replace-regexp-in-string "version =" "release =" text t t))
+    (setq text (replace-regexp-in-string "{version}" "{release}" text t t))
+    (setq text (replace-regexp-in-string "inherit version" "version = release" text t t))
+    (check text (buffer-string) "the renamed text"))
+
+  (go-to "tools: map")
+  (check "with the new name, some name would refer to something else"
+         (condition-case refusal (progn (ask :textDocument/rename :newName "lib") nil)
+           (jsonrpc-error (alist-get 'jsonrpc-error-message (cddr refusal))))
+         "the refusal")
+
+  (set-buffer-modified-p nil)
+  (eglot-shutdown (eglot--current-server-or-lose)))
+
+(condition-case problem
+    (progn (run) (message "emacs: ok"))
+  (error (message "emacs: %s" (error-message-string problem)) (kill-emacs 1)))

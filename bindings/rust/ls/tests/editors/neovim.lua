@@ -1,0 +1,130 @@
+-- Drives rnix-ls from Neovim: nvim --headless -u NONE -S neovim.lua, with the program in RNIX_LS and a copy of example.nix in RNIX_FILE.
+local file = os.getenv('RNIX_FILE')
+
+local function fail(message)
+  io.stderr:write('neovim: ' .. message .. '\n')
+  vim.cmd('cquit 1')
+end
+
+local function check(wanted, found, what)
+  if not vim.deep_equal(wanted, found) then
+    fail(what .. ': wanted ' .. vim.inspect(wanted) .. ', found ' .. vim.inspect(found))
+  end
+end
+
+-- Waits until a function returns a value.
+local function wait_for(what, get)
+  local value
+  if not vim.wait(20000, function() value = get() return value end, 20) then
+    fail('no ' .. what)
+  end
+  return value
+end
+
+local function lines()
+  return vim.api.nvim_buf_get_lines(0, 0, -1, true)
+end
+
+-- The places of a word in the text, each as a line and a column from 0.
+local function places(word)
+  local found = {}
+  for number, line in ipairs(lines()) do
+    local from = 1
+    while line:find(word, from, true) do
+      local at = line:find(word, from, true)
+      table.insert(found, { number - 1, at - 1 })
+      from = at + 1
+    end
+  end
+  return found
+end
+
+local function go_to(place)
+  vim.api.nvim_win_set_cursor(0, { place[1] + 1, place[2] })
+end
+
+local function here()
+  local cursor = vim.api.nvim_win_get_cursor(0)
+  return { cursor[1] - 1, cursor[2] }
+end
+
+-- Waits until there are as many diagnostics as wanted, and returns them: a line, a column, a severity and a message.
+local function diagnostics(count)
+  local found
+  wait_for(count .. ' diagnostics', function()
+    found = vim.diagnostic.get(0)
+    return #found == count
+  end)
+  return vim.tbl_map(function(it) return { it.lnum, it.col, it.severity, it.message } end, found)
+end
+
+local function ask(method, params)
+  local answers = vim.lsp.buf_request_sync(0, 'textDocument/' .. method, params, 20000)
+  local _, answer = next(answers or {})
+  if not answer then
+    fail('no answer to ' .. method)
+  end
+  return answer.result, answer.error
+end
+
+local function run()
+  vim.cmd('edit ' .. file)
+  local client = vim.lsp.start_client({ name = 'rnix-ls', cmd = { os.getenv('RNIX_LS') } })
+  vim.lsp.buf_attach_client(0, client)
+  local place = places('unused')[1]
+  local hint = { place[1], place[2], vim.diagnostic.severity.HINT, '`unused` is not used' }
+  check({ hint }, diagnostics(1), 'the unused name')
+
+  -- An error while typing, and its correction.
+  local text = lines()
+  go_to(places('"2.12.1";')[1])
+  vim.cmd('normal! $x')
+  local found = diagnostics(2)
+  check('expected ";" after the value of "version", found "="', found[1][4], 'the error')
+  vim.cmd('normal! u')
+  check({ hint }, diagnostics(1), 'the correction')
+  check(text, lines(), 'the text')
+
+  go_to(places('archive}')[1])
+  vim.lsp.buf.definition()
+  wait_for('definition', function() return vim.deep_equal(here(), places('archive =')[1]) end)
+
+  -- The same in a line with a character of three bytes.
+  go_to(places('pname}')[1])
+  vim.lsp.buf.definition()
+  wait_for('second definition', function() return vim.deep_equal(here(), places('pname')[1]) end)
+
+  go_to(places('version}')[1])
+  vim.lsp.buf.rename('release')
+  wait_for('renaming', function() return #places('release') == 3 end)
+  local renamed = table.concat(text, '\n'):gsub('version =', 'release ='):gsub('{version}', '{release}'):gsub('inherit version', 'version = release')
+  check(vim.split(renamed, '\n'), lines(), 'the renamed text')
+
+  go_to(places('tools: map')[1])
+  local params = vim.lsp.util.make_position_params()
+  params.newName = 'lib'
+  local _, refusal = ask('rename', params)
+  check('with the new name, some name would refer to something else', refusal and refusal.message, 'the refusal')
+
+  local shown = ask('hover', vim.lsp.util.make_position_params()).contents.value
+  check('A parameter, line 9', shown:match('A parameter.*'), 'the hover')
+
+  -- The quick fix for the unused name.
+  go_to(places('unused')[1])
+  params = vim.lsp.util.make_range_params()
+  params.context = { diagnostics = {} }
+  local actions = ask('codeAction', params)
+  check('Remove `unused`', actions[1].title, 'the quick fix')
+  vim.lsp.util.apply_workspace_edit(actions[1].edit, 'utf-16')
+  check({}, places('unused'), 'the removed name')
+  wait_for('next unused name', function() return diagnostics(1)[1][4] == '`args` is not used' end)
+
+  vim.lsp.stop_client(client)
+  wait_for('end of the server', function() return #vim.lsp.get_active_clients() == 0 end)
+end
+
+local is_done, message = pcall(run)
+if not is_done then
+  fail(message)
+end
+vim.cmd('qall!')
