@@ -1,6 +1,4 @@
--- Drives rnix-ls from Neovim: nvim --headless -u NONE -S neovim.lua, with the program in RNIX_LS and a copy of example.nix in RNIX_FILE.
-local file = os.getenv('RNIX_FILE')
-
+-- Drives rnix-ls from Neovim: nvim --headless -S neovim.lua, beside a copy of example.nix, with an init.lua that starts rnix-ls.
 local function fail(message)
   io.stderr:write('neovim: ' .. message .. '\n')
   vim.cmd('cquit 1')
@@ -68,9 +66,7 @@ local function ask(method, params)
 end
 
 local function run()
-  vim.cmd('edit ' .. file)
-  local client = vim.lsp.start_client({ name = 'rnix-ls', cmd = { os.getenv('RNIX_LS') } })
-  vim.lsp.buf_attach_client(0, client)
+  vim.cmd('edit example.nix')
   local place = places('unused')[1]
   local hint = { place[1], place[2], vim.diagnostic.severity.HINT, '`unused` is not used' }
   check({ hint }, diagnostics(1), 'the unused name')
@@ -81,7 +77,7 @@ local function run()
   vim.cmd('normal! $x')
   local found = diagnostics(2)
   check('expected ";" after the value of "version", found "="', found[1][4], 'the error')
-  vim.cmd('normal! u')
+  vim.cmd('silent undo')
   check({ hint }, diagnostics(1), 'the correction')
   check(text, lines(), 'the text')
 
@@ -119,7 +115,7 @@ local function run()
   check({}, places('unused'), 'the removed name')
   wait_for('next unused name', function() return diagnostics(1)[1][4] == '`args` is not used' end)
 
-  vim.lsp.stop_client(client)
+  vim.lsp.stop_client(vim.lsp.get_active_clients())
   wait_for('end of the server', function() return #vim.lsp.get_active_clients() == 0 end)
 end
 
