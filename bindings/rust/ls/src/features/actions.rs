@@ -140,14 +140,14 @@ fn wants_fixes(request: &Request) -> bool {
     request.client.takes_actions && only.map_or(true, |kinds| kinds.iter().any(is_wanted))
 }
 
-/// Answers `textDocument/codeAction` with the quick fixes for the unused names in the range. There are none while the text has errors.
+/// Answers `textDocument/codeAction` with the quick fixes for the unused names in the range.
 ///
 /// # Errors
 /// The parameters have no range.
 pub fn actions(request: &Request) -> Outcome {
     let range = range_of(request.text(), request.params.get("range"))?;
     let analysis = request.analysis;
-    if !wants_fixes(request) || analysis.has_errors() {
+    if !wants_fixes(request) {
         return Ok(array([]));
     }
     let is_in_range = |number: &usize| {

@@ -12,8 +12,12 @@ fn is_reported(binding: &Binding) -> bool {
     scope != SyntaxKind::NODE_ATTR_SET && !is_body && !name.starts_with('_')
 }
 
-/// Returns the numbers of the names of `let` and of parameters that nothing uses, except those that begin with `_`.
+/// Returns the numbers of the names of `let` and of parameters that nothing uses, except those that begin with `_`. In a text with errors there are
+/// none, since a use may be in what could not be read.
 pub fn unused(analysis: &Analysis) -> Vec<usize> {
+    if analysis.has_errors() {
+        return Vec::new();
+    }
     let names = analysis.names();
     let mut is_used = vec![false; names.bindings.len()];
     for number in names.references.iter().filter_map(|reference| reference.binding) {
@@ -45,6 +49,11 @@ mod tests {
             unused_in("let a.b = 1; a.c = 2; \"q\" = 3; inherit (x) y; in 1"),
             ["a", "q", "y"]
         );
+    }
+
+    #[test]
+    fn in_a_text_with_errors_none_are_found() {
+        assert_eq!(unused_in("let a = 1; in (1"), [""; 0]);
     }
 
     #[test]

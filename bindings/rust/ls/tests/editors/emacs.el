@@ -20,14 +20,13 @@
   (search-forward text)
   (goto-char (match-beginning 0)))
 
-(defun messages (count)
-  "Wait until there are COUNT diagnostics, and return their messages."
-  (mapcar (lambda (it) (substring-no-properties (flymake-diagnostic-text it)))
-          (wait-for (format "%d diagnostics" count)
-                    (lambda ()
-                      (flymake-start)
-                      (let ((found (flymake-diagnostics)))
-                        (and (= (length found) count) found))))))
+(defun message-is (wanted)
+  "Wait until the only diagnostic has the message WANTED."
+  (wait-for wanted
+            (lambda ()
+              (flymake-start)
+              (equal (list wanted)
+                     (mapcar (lambda (it) (substring-no-properties (flymake-diagnostic-text it))) (flymake-diagnostics))))))
 
 (defun changed ()
   "Send the changes of the buffer."
@@ -40,16 +39,16 @@
 (defun run ()
   (find-file "example.nix")
   (apply #'eglot (eglot--guess-contact))
-  (check '("rnix [unused]: `unused` is not used") (messages 1) "the unused name")
+  (message-is "rnix [unused]: `unused` is not used")
 
   ;; An error, and its correction.
   (go-to ";\n  archive")
   (delete-char 1)
   (changed)
-  (check t (and (member "rnix: expected \";\" after the value of \"version\", found \"=\"" (messages 2)) t) "the error")
+  (message-is "rnix: expected \";\" after the value of \"version\", found \"=\"")
   (insert ";")
   (changed)
-  (messages 1)
+  (message-is "rnix [unused]: `unused` is not used")
 
   (go-to "archive}")
   (xref-find-definitions (thing-at-point 'symbol))

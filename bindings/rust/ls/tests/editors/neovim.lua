@@ -75,10 +75,10 @@ local function run()
   local text = lines()
   go_to(places('"2.12.1";')[1])
   vim.cmd('normal! $x')
-  local found = diagnostics(2)
-  check('expected ";" after the value of "version", found "="', found[1][4], 'the error')
+  local message = 'expected ";" after the value of "version", found "="'
+  wait_for('error', function() return diagnostics(1)[1][4] == message end)
   vim.cmd('silent undo')
-  check({ hint }, diagnostics(1), 'the correction')
+  wait_for('correction', function() return vim.deep_equal({ hint }, diagnostics(1)) end)
   check(text, lines(), 'the text')
 
   go_to(places('archive}')[1])
