@@ -13,6 +13,9 @@ use rnix::scopes::{resolve, Resolution};
 use rnix::syntax::ast::AstNode as _;
 use rnix::{Edits, Root, SyntaxKind, SyntaxNode, TextRange, TextSize};
 
+/// An answer has this many quick fixes at most, since each of them is tried out.
+const MOST: usize = 20;
+
 /// A quick fix: its title, and its edits.
 struct Fix {
     title: String,
@@ -162,7 +165,7 @@ pub fn actions(request: &Request) -> Outcome {
             removal(analysis, text, number).or_else(|| mark(analysis, number))?,
         ))
     };
-    let fixes = numbers.filter_map(fix);
+    let fixes = numbers.take(MOST).filter_map(fix);
     Ok(array(fixes.map(|(number, fix)| shown(request, number, &fix))))
 }
 

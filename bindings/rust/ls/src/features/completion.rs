@@ -18,6 +18,7 @@ const MOST: usize = 1000;
 const FUNCTION: usize = 3;
 const VARIABLE: usize = 6;
 const PROPERTY: usize = 10;
+const CONSTANT: usize = 21;
 
 /// Where the cursor is, if a name may come there.
 struct Place {
@@ -39,10 +40,7 @@ struct Item {
 // Whether a token is a name, or a keyword that may become one.
 fn is_word(token: &SyntaxToken) -> bool {
     let first = token.text().chars().next();
-    let starts_word = first.is_some_and(|c| c.is_ascii_alphabetic() || c == '_');
-    starts_word
-        && (token.kind() == SyntaxKind::TOKEN_IDENT
-            || (token.kind() < SyntaxKind::NODE_APPLY && !is_opaque(token.kind())))
+    !is_opaque(token.kind()) && first.is_some_and(|c| c.is_ascii_alphabetic() || c == '_')
 }
 
 // Whether no name may come in a token of a kind, or at its end.
@@ -182,6 +180,15 @@ fn kind_of(binding: &Binding) -> (usize, &'static str) {
     }
 }
 
+// What kind of item a name is that Nix binds.
+fn kind_of_global(name: &str) -> usize {
+    match name {
+        "builtins" => VARIABLE,
+        "false" | "null" | "true" => CONSTANT,
+        _ => FUNCTION,
+    }
+}
+
 // The names in sight, each once: the innermost binding of each, and those of Nix.
 fn items(request: &Request, place: &Place) -> Vec<Item> {
     let (mut items, mut seen): (Vec<Item>, HashSet<String>) = (Vec::new(), HashSet::new());
@@ -208,7 +215,7 @@ fn items(request: &Request, place: &Place) -> Vec<Item> {
         let (label, detail) = ((*name).to_owned(), "bound by Nix".to_owned());
         items.push(Item {
             label,
-            kind: FUNCTION,
+            kind: kind_of_global(name),
             detail,
             distance: distance + 1,
         });
