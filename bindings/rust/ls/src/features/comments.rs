@@ -51,7 +51,7 @@ pub fn comment_before(node: &SyntaxNode) -> Option<String> {
     (!text.is_empty()).then_some(text)
 }
 
-/// Returns the comments that are children of a node.
+/// Returns whether a comment is a child of a node.
 pub fn has_comment(node: &SyntaxNode) -> bool {
     let mut tokens = node.children_with_tokens().filter_map(NodeOrToken::into_token);
     tokens.any(|token| token.kind() == SyntaxKind::TOKEN_COMMENT)

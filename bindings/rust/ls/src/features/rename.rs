@@ -2,6 +2,7 @@
 //!
 //! It is refused where others see the name, and where a name would then refer to something else.
 
+use super::comments::has_comment;
 use crate::analysis::{Analysis, Name};
 use crate::json::{object, Value};
 use crate::protocol::{Failure, Outcome};
@@ -14,6 +15,7 @@ use rnix::{Edits, Root, SyntaxKind, SyntaxNode, TextRange, TextSize};
 /// An edit: a range and its new text.
 pub type Edit = (TextRange, String);
 
+const COMMENT: &str = "an `inherit` with comments has the name: give it its own entry first";
 const ELSE: &str = "with the new name, some name would refer to something else";
 
 // Whether a text is a name and nothing else.
@@ -50,9 +52,9 @@ fn renamed(analysis: &Analysis, name: Option<&Name>) -> Result<usize, Failure> {
     }
 }
 
-// The edit of a name in an `inherit` without a source: the name gets an entry of its own, and the other names stay inherited.
+// The edit of a name in an `inherit` without a source and comments: it gets an entry of its own, and the other names stay inherited.
 fn split(name: &SyntaxNode, new: &str) -> Option<Edit> {
-    let inherit = Inherit::cast(name.parent()?)?;
+    let inherit = Inherit::cast(name.parent()?).filter(|inherit| !has_comment(inherit.syntax()))?;
     let range = name.text_range();
     let is_after = |attr: &Attr| attr.syntax().text_range().start() > range.start();
     let has_after = inherit.attrs().any(|attr| is_after(&attr));
@@ -126,7 +128,8 @@ fn rename_to(analysis: &Analysis, name: Option<&Name>, new: &str) -> Result<Vec<
     }
     match edits(analysis, number, new) {
         Some(edits) if keeps_meaning(analysis, &edits) => Ok(edits),
-        _ => Err(Failure::refused(ELSE)),
+        Some(_) => Err(Failure::refused(ELSE)),
+        None => Err(Failure::refused(COMMENT)),
     }
 }
 
@@ -217,6 +220,7 @@ mod tests {
         assert!(refused("let inherit (x) |a; in a").contains("inherited"));
         assert!(refused("let \"|a\" = 1; in a").contains("quotes"));
         assert!(refused("let { |body = 1; }").contains("body"));
+        assert!(refused("|a: { inherit /* b */ a; }").contains("comments"));
         assert!(refused("|a").contains("nothing in this file binds"));
         assert!(refused("1 |+ 2").contains("no name"));
         assert!(refused("let |a = 1; in a )").contains("errors"));
