@@ -5,7 +5,7 @@ use Rattle.rnix_green.specs.Forest.{Forest, empty, leaf, node}
 use Rattle.rnix_grammar.specs.declared.rules.Part.TheVariants as p
 use Rattle.rnix_grammar.specs.AnnotatedForest.{Token, AnnotatedForest, blank, token, branch, fault, ◌⊕◌, one_token, one_branch, tokens_in, forget, head_kind, end_from, leaf_kind}
 use Rattle.rnix_grammar.specs.{Beginnings.IsOperandOf, Plain.AreUntold, Yield.untold, Reports.repeats}
-use Rattle.rnix_grammar.specs.Rules.{Row, ◌·◌, ◌/◌, row, after, expects, expects_item, IsExpected, stands_expected, level_at, IsFollowed}
+use Rattle.rnix_grammar.specs.Rules.{Row, ◌·◌, ◌or◌, row, after, expects, expects_item, IsExpected, stands_expected, level_at, IsFollowed}
 use Rattle.rnix_grammar.specs.Reads as read
 use Rattle.rnix_grammar.specs.Reads.{Reads, IsRoom, IsOver, deeper}
 use Rattle.rnix_lemmas.proofs.{Basics.not_if, StrictParts.end_behind}
@@ -71,7 +71,7 @@ stands_so (p.Atom · r) touches k w = true
 stands_so (p.First m · r) touches k w = true
 stands_so (p.Suffix kind · r) touches k w = true
 stands_so (p.Binary · r) touches k w = true
-stands_so (r / s) touches k w = true
+stands_so (r or s) touches k w = true
 stands_so r touches k w = alike (expects_item r touches k) w
 
 -- so the next item is
@@ -81,7 +81,7 @@ expected_so (p.Atom · r) n t ts w h = tt
 expected_so (p.First m · r) n t ts w h = tt
 expected_so (p.Suffix kind · r) n t ts w h = tt
 expected_so (p.Binary · r) n t ts w h = tt
-expected_so (r / s) n t ts w h = tt
+expected_so (r or s) n t ts w h = tt
 expected_so q n t ts w h = alike_so (expects q n (t ∷ ts)) w h
 
 -- some items begin with one whose kind passes a test

@@ -6,7 +6,7 @@ use Rattle.rnix_grammar.specs.declared.rules.Part.TheVariants.{Child, Wanted, Ar
 use Rattle.rnix_grammar.specs.Tables.{is_cur_pos}
 use Rattle.rnix_grammar.specs.AnnotatedForest.{Token, AnnotatedForest}
 use Rattle.rnix_grammar.specs.Reports.{only_token}
-use Rattle.rnix_grammar.specs.Rules.{Row, ◌·◌, ◌/◌ as ◌or◌}
+use Rattle.rnix_grammar.specs.Rules.{Row, ◌·◌, ◌or◌}
 use Rattle.rnix_grammar.specs.TokenKinds.{is_or}
 
 -- a name that is not `or`

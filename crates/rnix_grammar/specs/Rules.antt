@@ -18,12 +18,12 @@ use Rattle.rnix_grammar.specs.Rows.{is_atom, is_simple, is_infix, is_attr, is_en
 
 -- what is left of a row: no such row, nothing more, a part and what is after it, or one of two
 infixr 30 ◌·◌
-infixr 20 ◌/◌
+infixr 20 ◌or◌
 pub data Row : Type 0 where
   never : Row
   done : Row
   ◌·◌ : Part → Row → Row
-  ◌/◌ : Row → Row → Row
+  ◌or◌ : Row → Row → Row
 
 -- the parts of a row, one after another
 abbrev pub row_of : List Part → Row
@@ -33,7 +33,7 @@ row_of (p ∷ ps) = p · row_of ps
 -- a row, or one of others if there are any
 abbrev pub or_one_of : Row → Row → Row
 or_one_of r never = r
-or_one_of r s = r / s
+or_one_of r s = r or s
 
 -- the rows of a kind in a table
 abbrev pub rows_in : List (SyntaxKind × List Part) → SyntaxKind → Row
@@ -69,7 +69,7 @@ after_formals r k = never
 abbrev pub after : Row → SyntaxKind → Row
 after never k = never
 after done k = never
-after (r / s) k = or_else (after r k) (after s k)
+after (r or s) k = or_else (after r k) (after s k)
 after (Child kind · r) k = only (same_kind kind k) r
 after (Atom · r) k = only (is_atom k) r
 after (First n · r) k = only (fits n k) r
@@ -205,7 +205,7 @@ IsExpected (Atom · r) n ts own = Unit {0}
 IsExpected (First m · r) n ts own = Unit {0}
 IsExpected (Suffix token · r) n ts own = Unit {0}
 IsExpected (Binary · r) n ts own = Unit {0}
-IsExpected (r / s) n ts own = Unit {0}
+IsExpected (r or s) n ts own = Unit {0}
 IsExpected r n ts own = expects r n ts ≡ own
 
 -- a node stands where its first item is expected; operands, attribute paths and bindings stand where it is not, but for the name `or`

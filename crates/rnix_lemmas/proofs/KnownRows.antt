@@ -12,7 +12,7 @@ use Rattle.{rnix_grammar.specs.{declared.{position.{Slot.Slot, TheConstants.SLOT
 use Rattle.rnix_grammar.specs.declared.rules.Part.TheVariants.{Child, Atom, First, Suffix, Binary, Argument, Operand, Many, Entries, Wanted, Attr, Attrpath}
 use Rattle.rnix_grammar.specs.declared.rules.Part.TheVariants.{MoreAttrs, Names, Pieces, PathPieces, Formals, FormalsAfterComma, Comma, Optional, EndOr}
 use Rattle.rnix_grammar.specs.declared.rules.Part.TheVariants.{BoundAlready, TextEnd}
-use Rattle.rnix_grammar.specs.{Positions.{left_in, kind_in}, Rules.{Row, never, done, ◌·◌, ◌/◌, row, second_name, after, may_end, missing, run_at}}
+use Rattle.rnix_grammar.specs.{Positions.{left_in, kind_in}, Rules.{Row, never, done, ◌·◌, ◌or◌, row, second_name, after, may_end, missing, run_at}}
 use Rattle.rnix_grammar.specs.AnnotatedForest.{Token, Note, Stray, Unwanted, Extra, Twice, TooDeep}
 use Rattle.{rnix_grammar.specs.Reads.IsWrong, rnix_lemmas.proofs.Basics.true_is_not_false}
 
@@ -89,7 +89,7 @@ abbrev same_row : Row → Row → Bool
 same_row never never = true
 same_row done done = true
 same_row (p · r) (q · s) = same_part p q && same_row r s
-same_row (r / s) (t / u) = same_row r t && same_row s u
+same_row (r or s) (t or u) = same_row r t && same_row s u
 same_row r s = false
 
 row_is : (r s : Row) → same_row r s ≡ true → r ≡ s
@@ -98,9 +98,9 @@ row_is done done h = refl
 row_is (p · r) (q · s) h =
     let both = and_parts (same_part p q) (same_row r s) h in
     ap (λ p. p · r) (part_is p q both.0) ∙ ap (λ r. q · r) (row_is r s both.1)
-row_is (r / s) (t / u) h =
+row_is (r or s) (t or u) h =
     let both = and_parts (same_row r t) (same_row s u) h in
-    ap (λ r. r / s) (row_is r t both.0) ∙ ap (λ s. t / s) (row_is s u both.1)
+    ap (λ r. r or s) (row_is r t both.0) ∙ ap (λ s. t or s) (row_is s u both.1)
 row_is _ _ h = absurd (true_is_not_false (sym h))
 
 -- what is left of rows: at each index of the table, where a kind has several rows, and after an operator

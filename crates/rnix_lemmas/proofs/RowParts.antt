@@ -3,7 +3,7 @@ use Rattle.std.proofs.Common.{◌≡◌, ℕ, Bool, true, false, List, [], ◌�
 use Rattle.rnix_kinds.specs.{declared.kinds.SyntaxKind.{SyntaxKind}, declared.kinds.SyntaxKind.TheVariants.{NODE_LITERAL}, SyntaxKind.{is_token}}
 use Rattle.{rnix_kinds.proofs.AllKinds.{implied}, rnix_green.specs.Equality.{same_kind}}
 use Rattle.rnix_grammar.specs.{declared.rules.Part.TheVariants.{Child, Atom, First, Suffix, Binary, Argument, Operand, Many}, AnnotatedForest.{Token}}
-use Rattle.rnix_grammar.specs.{AnnotatedForest.{AnnotatedForest, blank, head_kind, touches}, Rows.{fits, is_expression}, Rules.{Row, ◌·◌, ◌/◌, only, after}}
+use Rattle.rnix_grammar.specs.{AnnotatedForest.{AnnotatedForest, blank, head_kind, touches}, Rows.{fits, is_expression}, Rules.{Row, ◌·◌, ◌or◌, only, after}}
 use Rattle.rnix_grammar.specs.Rules.{expects, expects_item, expects_end, IsExpected, IsFollowed, level_at, counts, stands_expected}
 use Rattle.rnix_grammar.specs.{Beginnings.{IsOperandOf}, Reads.{IsRoom, deeper}}
 use Rattle.rnix_lemmas.proofs.{Basics.{true_is_not_false, not_if, some_same}, EveryKind.{same}, LevelLemmas.{atom_fits}, NodeKinds.{fits_expression}}
@@ -13,7 +13,7 @@ abbrev pub is_front : Row → Bool
 is_front (Child kind · r) = true
 is_front (Atom · r) = true
 is_front (First m · r) = true
-is_front (r / s) = true
+is_front (r or s) = true
 is_front r = false
 
 -- no operand stands here
@@ -39,7 +39,7 @@ pub front : (r : Row) → is_front r ≡ true → IsFront r
 front (Child kind · r) h = record { expected = λ n ts own. tt; followed = λ x next. tt; bare = bare (Child kind · r) (λ x. refl) refl }
 front (Atom · r) h = record { expected = λ n ts own. tt; followed = λ x next. tt; bare = bare (Atom · r) (λ x. refl) refl }
 front (First m · r) h = record { expected = λ n ts own. tt; followed = λ x next. tt; bare = bare (First m · r) (λ x. refl) refl }
-front (r / s) h = record { expected = λ n ts own. tt; followed = λ x next. tt; bare = bare (r / s) (λ x. refl) refl }
+front (r or s) h = record { expected = λ n ts own. tt; followed = λ x next. tt; bare = bare (r or s) (λ x. refl) refl }
 front _ h = absurd (cc)
 
 -- what is left of a row at a place: a part that may be missing, or that the reader waits at
@@ -50,7 +50,7 @@ is_left (First m · r) = false
 is_left (Suffix token · r) = false
 is_left (Binary · r) = false
 is_left (Argument · r) = false
-is_left (r / s) = false
+is_left (r or s) = false
 is_left (Many n closer · r) = is_token closer
 is_left r = true
 
@@ -93,7 +93,7 @@ expected_as (Atom · r) n ts own h = tt
 expected_as (First m · r) n ts own h = tt
 expected_as (Suffix token · r) n ts own h = tt
 expected_as (Binary · r) n ts own h = tt
-expected_as (r / s) n ts own h = tt
+expected_as (r or s) n ts own h = tt
 expected_as _ n ts own h = h
 
 -- no expression is a token

@@ -7,7 +7,7 @@ use Rattle.rnix_grammar.specs.{Fault.Fault, declared.rules.Part.TheVariants.{Chi
 use Rattle.rnix_grammar.specs.AnnotatedForest.{Token, Note, Stray, Unwanted, Extra, Twice, TooDeep, AnnotatedForest, blank, token, branch, fault, one_branch}
 use Rattle.rnix_grammar.specs.{AnnotatedForest.{is_some, row_of, tokens_in}, Beginnings.{BeginsAs, IsOperandOf}}
 use Rattle.rnix_grammar.specs.{Reads.{Reads, end, leaf, missing_part, wrong, second, inner, IsWrong}}
-use Rattle.rnix_grammar.specs.Rules.{Row, never, done, ◌·◌, ◌/◌, row, after, may_end, missing, expects_end, IsExpected, stands_expected, level_at, counts}
+use Rattle.rnix_grammar.specs.Rules.{Row, never, done, ◌·◌, ◌or◌, row, after, may_end, missing, expects_end, IsExpected, stands_expected, level_at, counts}
 use Rattle.rnix_lemmas.proofs.{Basics.{true_is_not_false, not_nil, none_left, none_right}, AnnotatedForestLemmas.tokens_in-row_of, RunLemmas.some_left}
 use Rattle.rnix_lemmas.proofs.{KnownRows.{IsKnown, is_live, every_known, known_row, known_missing, known_past, known_wrong}}
 use Rattle.rnix_lemmas.proofs.{LiveRows.{end_live, reads_live}}
@@ -21,7 +21,7 @@ begins_with_child (First n · r) = true
 begins_with_child (Suffix kind · r) = true
 begins_with_child (Binary · r) = true
 begins_with_child (Argument · r) = true
-begins_with_child (r / s) = true
+begins_with_child (r or s) = true
 begins_with_child r = false
 
 -- so it does not end there, and nothing is missing there

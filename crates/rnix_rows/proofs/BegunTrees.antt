@@ -12,7 +12,7 @@ use Rattle.rnix_grammar.specs.{AnnotatedForest.{Token, AnnotatedForest, blank, b
 use Rattle.rnix_grammar.specs.Beginnings.{first_kind_of_name, first_kind_of_let, kind_if, first_kind, BeginsAs, IsOperandOf}
 use Rattle.rnix_grammar.specs.{Levels.{expression_level, inversion_level, negation_level, selection_level}, Names.{is_position, is_name_at, is_named_by}}
 use Rattle.rnix_grammar.specs.{Operands.first_tree, Tables.is_cur_pos, TokenKinds.is_or, TreeLevels.is_or_row}
-use Rattle.rnix_grammar.specs.Rules.{Row, never, done, ◌·◌, ◌/◌, row, after, expects_item, IsExpected, stands_expected, level_at}
+use Rattle.rnix_grammar.specs.Rules.{Row, never, done, ◌·◌, ◌or◌, row, after, expects_item, IsExpected, stands_expected, level_at}
 use Rattle.rnix_lemmas.proofs.{Basics.{true_is_not_false, not_if, choice, Where, where_one}, EachKind.{Each, each_kind}, FirstTrees.{a_node, first_in}}
 use Rattle.{rnix_lemmas.proofs.KnownRows.{IsKnown, is_live, known_rows, EachRow, each_parts, each_known, every_known}}
 use Rattle.{rnix_rows.proofs.BareRows.{is_free, is_same, same_true}}
@@ -80,7 +80,7 @@ abbrev pub is_first : Row → Bool
 is_first (Atom · r) = true
 is_first (First n · r) = true
 is_first (Child kind · r) = if is_token kind then false else true
-is_first (r / s) = true
+is_first (r or s) = true
 is_first r = false
 
 -- such a row in a node of the kind has items of which the first may begin the node's first tree
@@ -104,7 +104,7 @@ where_any false h = tt
 -- a name that is neither `or` nor `__curPos` may stand wherever a name may
 plain_named : (q : Row) (t : Token) → is_or t.kind ≡ false → is_cur_pos t.text ≡ false → is_name_at q t ≡ true
 plain_named (Optional kind · r) t e g = plain_named r t e g
-plain_named (r / s) t e g = plain_named r t e g
+plain_named (r or s) t e g = plain_named r t e g
 plain_named (_ · r) t e g = cc
 plain_named _ t e g = cc
 
@@ -257,7 +257,7 @@ asked (Binary · r) n t ts k c h f e = absurd (true_is_not_false h)
 asked (Argument · r) n t ts k c h f e = absurd (true_is_not_false h)
 asked (_ · r) n t ts k c h f e = same_true _ _ e
 asked never n t ts k c h f e = absurd (true_is_not_false h)
-asked (r / s) n t ts k c h f e = absurd (true_is_not_false f)
+asked (r or s) n t ts k c h f e = absurd (true_is_not_false f)
 
 -- where a row begins with a node, or a name or a parameter may stand
 by_item : {p : SyntaxKind} (q : Row) (k : SyntaxKind) (c f : AnnotatedForest) (n : ℕ) (ts : List Token) → IsKnown p q → is_settled p q ≡ true → is_told k ≡ true

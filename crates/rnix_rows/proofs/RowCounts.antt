@@ -4,7 +4,7 @@ use Rattle.std.proofs.{Common.{refl, ap, sym, ◌∙◌, arith, ◌&&◌, if◌t
 use Rattle.rnix_kinds.{specs.declared.kinds.SyntaxKind.{SyntaxKind, TheVariants.NODE_ATTRPATH}, proofs.AllKinds.{all_kinds, every, implied}}
 use Rattle.{rnix_green.specs.Equality.same_kind, rnix_grammar.specs.{declared.rules.Part.Part, Rows.{is_atom, is_simple, is_entry, fits}}}
 use Rattle.rnix_grammar.specs.declared.rules.Part.TheVariants.{Child, Atom, First, Suffix, Binary, Argument, Operand, Many, Entries, Wanted, Attrpath}
-use Rattle.rnix_grammar.specs.{Rules.{Row, never, done, ◌·◌, ◌/◌, row, only, after, may_end}, WholeRows.{after_all, is_row}}
+use Rattle.rnix_grammar.specs.{Rules.{Row, never, done, ◌·◌, ◌or◌, row, only, after, may_end}, WholeRows.{after_all, is_row}}
 use Rattle.rnix_lemmas.proofs.{Basics.true_is_not_false, KnownRows.is_live, LiveRows.{nowhere, later_live}}
 
 -- a set of kinds
@@ -88,7 +88,7 @@ has test (suc n) (suc m) done = false
 has test (suc n) (suc m) (p · r) =
     if passes p then has test (if is_sure test p then n else suc n) m r
     else is_binary p && each_step test (λ n q. has test n m q) n (p · r)
-has test (suc n) (suc m) (r / s) = each_step test (λ n q. has test n m q) n (r / s)
+has test (suc n) (suc m) (r or s) = each_step test (λ n q. has test n m q) n (r or s)
 
 -- one more child
 grown : (test : Test) (n : ℕ) (k : SyntaxKind) (ks : List SyntaxKind) → n ≤ length (filter test ks) → n ≤ length (filter test (k ∷ ks))
@@ -156,7 +156,7 @@ enough test (suc n) (suc m) (p · r) ks h w = by (passes p) refl h (λ n q ks h 
     by false e h ih =
         let both = and_parts (is_binary p) _ h in
         stepped test n m (p · r) ks both.1 (binary p both.0) w ih
-enough test (suc n) (suc m) (r / s) ks h w = stepped test n m (r / s) ks h refl w (λ n q ks h w. enough test n m q ks h w)
+enough test (suc n) (suc m) (r or s) ks h w = stepped test n m (r or s) ks h refl w (λ n q ks h w. enough test n m q ks h w)
 
 -- a number of steps in which each row passes all that it passes
 abbrev steps : ℕ

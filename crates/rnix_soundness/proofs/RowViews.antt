@@ -2,7 +2,7 @@
 use Rattle.std.proofs.Common.{◌≡◌, ◌⊎◌, inl, inr, ⊎_elim, ℕ, Bool, true, false, List, [], refl, sym, ◌∙◌, subst, ◌||◌, ◌&&◌, if◌then◌else◌, nat_eq, nat_le}
 use Rattle.{rnix_kinds.{specs.{declared.kinds.SyntaxKind.SyntaxKind, SyntaxKind.is_token}}, rnix_green.specs.Equality.same_kind}
 use Rattle.rnix_green.specs.{Equality.same_kind-decides, Forest.{Forest, empty, leaf, node}}
-use Rattle.rnix_grammar.specs.{Levels.selection_level, Rules.{Row, never, done, ◌·◌, ◌/◌, only, or_else, after, may_end}, TokenKinds.is_path_piece}
+use Rattle.rnix_grammar.specs.{Levels.selection_level, Rules.{Row, never, done, ◌·◌, ◌or◌, only, or_else, after, may_end}, TokenKinds.is_path_piece}
 use Rattle.rnix_grammar.specs.{Plain.is_node, Corners.holds_no_lambda}
 use Rattle.rnix_grammar.specs.{Rows.{is_attr, is_entry, is_expression, fits}, Tables.is_or}
 use Rattle.rnix_grammar.specs.Grammar.{name, Strict, Attr, Attrpath, last_attr, attr_dot, Binding, Formal, Inherit, Interpol, Parameter, Source}
@@ -71,7 +71,7 @@ names_or (p.Attr · r) = true
 names_or (p.Names · r) = true
 names_or (p.Argument · r) = true
 names_or (p.Optional w · r) = names_or r
-names_or (r / s) = names_or r
+names_or (r or s) = names_or r
 names_or r = false
 
 -- the name that a pattern is bound to follows `@` where the row may end, and precedes it elsewhere; other names are `or` only where they may be
@@ -144,10 +144,10 @@ is_optional r = false
 -- a row seen so, behind the first operand of an operator, a call or a selection
 abbrev pub View : SyntaxKind → Row → Forest → Type 0
 View parent never = λ f. ⊥
-View parent ((p.Child w · r) / (p.Child v · s)) = λ f. One (is_token w) w ((p.Child w · r) / (p.Child v · s)) (View parent r) f
+View parent ((p.Child w · r) or (p.Child v · s)) = λ f. One (is_token w) w ((p.Child w · r) or (p.Child v · s)) (View parent r) f
     ⊎ One (is_token v) v (p.Child v · s) (View parent s) f
-View parent ((p.Child w · r) / ((p.Child v · s) / z)) = λ f. One (is_token w) w ((p.Child w · r) / ((p.Child v · s) / z)) (View parent r) f
-    ⊎ View parent ((p.Child v · s) / z) f
+View parent ((p.Child w · r) or ((p.Child v · s) or z)) = λ f. One (is_token w) w ((p.Child w · r) or ((p.Child v · s) or z)) (View parent r) f
+    ⊎ View parent ((p.Child v · s) or z) f
 View parent (p.Child w · r) = One (is_token w) w (p.Child w · r) (View parent r)
 View parent (p.Wanted w · r) = One (is_token w) w (p.Wanted w · r) (View parent r)
 View parent (p.Attrpath · r) = Heads K.NODE_ATTRPATH (p.Attrpath · r) (View parent r)
@@ -335,11 +335,11 @@ module _ (parent : SyntaxKind) where
 -- each row is so
 pub view : (parent : SyntaxKind) (r : Row) (f : Forest) → Held parent r f → View parent r f
 view i never f h = lost i h
-view i ((p.Child w · r) / (p.Child v · s)) f h = one i w ((p.Child w · r) / (p.Child v · s)) r (p.Child v · s) (λ e. cc) (λ e. cc) (λ k c f h x. x)
+view i ((p.Child w · r) or (p.Child v · s)) f h = one i w ((p.Child w · r) or (p.Child v · s)) r (p.Child v · s) (λ e. cc) (λ e. cc) (λ k c f h x. x)
     (λ k f h. either i w k r (after (p.Child v · s) k) h) (view i r) (child i v (p.Child v · s) s refl refl (λ k. refl) (view i s)) f h
-view i ((p.Child w · r) / ((p.Child v · s) / z)) f h =
-    one i w ((p.Child w · r) / ((p.Child v · s) / z)) r ((p.Child v · s) / z) (λ e. cc) (λ e. cc) (λ k c f h x. x)
-    (λ k f h. either i w k r (after ((p.Child v · s) / z) k) h) (view i r) (view i ((p.Child v · s) / z)) f h
+view i ((p.Child w · r) or ((p.Child v · s) or z)) f h =
+    one i w ((p.Child w · r) or ((p.Child v · s) or z)) r ((p.Child v · s) or z) (λ e. cc) (λ e. cc) (λ k c f h x. x)
+    (λ k f h. either i w k r (after ((p.Child v · s) or z) k) h) (view i r) (view i ((p.Child v · s) or z)) f h
 view i (p.Child w · r) f h = child i w (p.Child w · r) r refl refl (λ k. refl) (view i r) f h
 view i (p.Wanted w · r) f h = child i w (p.Wanted w · r) r refl refl (λ k. refl) (view i r) f h
 view i (p.Attrpath · r) f h = child i K.NODE_ATTRPATH (p.Attrpath · r) r refl refl (λ k. refl) (view i r) f h

@@ -5,7 +5,7 @@ use Rattle.rnix_kinds.specs.declared.kinds.SyntaxKind.{SyntaxKind, TheVariants.{
 use Rattle.rnix_kinds.specs.declared.kinds.SyntaxKind.TheVariants.{NODE_CUR_POS, NODE_IDENT, NODE_LAMBDA, NODE_LITERAL, NODE_PAT_BIND, NODE_PAT_ENTRY}
 use Rattle.rnix_kinds.{specs.SyntaxKind.is_token}
 use Rattle.rnix_green.specs.{Equality.same_kind, Forest.{Forest, empty, leaf, node}}
-use Rattle.rnix_grammar.specs.{Rows.{is_attr, is_expression}, Rules.{Row, never, done, ◌·◌, ◌/◌, after, only, may_end, run_at, level_at}, Plain.is_node}
+use Rattle.rnix_grammar.specs.{Rows.{is_attr, is_expression}, Rules.{Row, never, done, ◌·◌, ◌or◌, after, only, may_end, run_at, level_at}, Plain.is_node}
 use Rattle.rnix_grammar.specs.{BehindErrors.{after_run, after_error}, Beginnings.IsOperandOf, Levels.selection_level, Rules.IsFollowed}
 use Rattle.rnix_grammar.specs.AnnotatedForest.{Token, Note, Stray, Unwanted, Extra, Twice, TooDeep, AnnotatedForest, blank, token, branch, fault, ◌⊕◌}
 use Rattle.rnix_grammar.specs.AnnotatedForest.{one_token, one_branch, one_fault, leaf_kind, leaf_kind_as}
@@ -170,7 +170,7 @@ or_there (p.Argument · r) t h = refl
 or_there (p.Optional w · r) t h = or_there r t h
 or_there (p.Child w · r) t h = h
 or_there (p.Wanted w · r) t h = h
-or_there (r / s) t h = or_there r t h
+or_there (r or s) t h = or_there r t h
 or_there _ t h = without_or (is_or t.kind) _ h
 
 name_at : (q : Row) {c : AnnotatedForest} → IsName c → suits q NODE_IDENT c ≡ true → binds q NODE_IDENT (repaired c) ≡ true

@@ -3,7 +3,7 @@ use Rattle.std.proofs.Common.{◌≡◌, ℕ, Bool, true, false, List, [], ◌�
 use Rattle.rnix_kinds.specs.declared.kinds.SyntaxKind.{SyntaxKind, TheVariants.{NODE_LITERAL, TOKEN_IDENT, TOKEN_R_BRACE, TOKEN_STRING_END}}
 use Rattle.rnix_grammar.specs.{declared.rules.Part.TheVariants.{Child, Atom, First, Suffix, Binary, Operand, Many}, AnnotatedForest.{AnnotatedForest, Extra}}
 use Rattle.rnix_grammar.specs.{AnnotatedForest.{Note, Stray, Token, TooDeep, Twice, Unwanted, blank, leaf_kind, tokens_in}, Fault.Fault, Tables.wanted_kinds}
-use Rattle.rnix_grammar.specs.{Reads.{IsWrong, Reads, end, missing_part, leaf, inner, wrong, second}, Rules.{Row, never, done, ◌·◌, ◌/◌, only, after, may_end}}
+use Rattle.rnix_grammar.specs.{Reads.{IsWrong, Reads, end, missing_part, leaf, inner, wrong, second}, Rules.{Row, never, done, ◌·◌, ◌or◌, only, after, may_end}}
 use Rattle.rnix_grammar.specs.{Rules.{missing, run_at, expects, IsExpected, level_at, counts}, declared.until.Until.Until, Actions.until_of}
 use Rattle.rnix_lemmas.proofs.{Basics.true_is_not_false, RowParts.is_left}
 use Rattle.rnix_grammar.specs.declared.until.Until.TheVariants as u
@@ -83,7 +83,7 @@ as_expected (Atom · r) i n ts own h = absurd (cc)
 as_expected (First m · r) i n ts own h = absurd (cc)
 as_expected (Suffix kind · r) i n ts own h = absurd (cc)
 as_expected (Binary · r) i n ts own h = absurd (cc)
-as_expected (r / s) i n ts own h = absurd (cc)
+as_expected (r or s) i n ts own h = absurd (cc)
 as_expected _ i n ts own h = h
 
 -- where no operand stands none is counted

@@ -6,7 +6,7 @@ use Rattle.{rnix_green.specs.Equality.same_kind, rnix_grammar.specs.declared.{pl
 use Rattle.rnix_grammar.specs.{declared.rules.Part.TheVariants.Suffix, Fault.Fault, Tables.wanted_kinds, AnnotatedForest.{Token, Note, Stray, Unwanted, Extra}}
 use Rattle.rnix_grammar.specs.AnnotatedForest.{Twice, TooDeep, AnnotatedForest, blank, token, branch, fault, ◌⊕◌, one_token, one_branch, one_fault, row_of}
 use Rattle.rnix_grammar.specs.{AnnotatedForest.{tokens_in, leaf_kind, head_kind, end_from}, Reports.{report, repeats}, Rows.fits, Beginnings.IsOperandOf}
-use Rattle.rnix_grammar.specs.Rules.{Row, done, ◌·◌, ◌/◌, after, counts, level_at, may_end, missing, run_at, stands_expected, row as whole_row, IsExpected}
+use Rattle.rnix_grammar.specs.Rules.{Row, done, ◌·◌, ◌or◌, after, counts, level_at, may_end, missing, run_at, stands_expected, row as whole_row, IsExpected}
 use Rattle.rnix_grammar.specs.{Rules.IsFollowed, Reads.{IsOver, IsWrong, Reads, deeper, end, leaf, inner, missing_part, wrong, second}}
 use Rattle.rnix_lemmas.proofs.{AnnotatedForestLemmas.tokens_in-row_of, Basics.{true_is_not_false, not_if}, RowParts.is_front, RestAt.rest_at}
 use Rattle.{rnix_lemmas.proofs.{StrictParts.end_behind, EveryKind.{only, only_both}}, rnix_uniqueness.proofs.LiveRows.{done_ends, end_live, is_live}}
@@ -82,7 +82,7 @@ firm (First m · r) h = (refl, refl, refl, refl)
 firm (Suffix kind · r) h = (refl, refl, refl, refl)
 firm (Binary · r) h = (refl, refl, refl, refl)
 firm (Argument · r) h = (refl, refl, refl, refl)
-firm (r / s) h = (refl, refl, refl, refl)
+firm (r or s) h = (refl, refl, refl, refl)
 firm _ h = absurd (cc)
 
 -- an equal row behind what is equal
