@@ -1,0 +1,10 @@
+pub mod Moved
+pub mod Bare
+pub mod Touch
+pub mod Moves
+pub mod ClosedInterpolations
+pub mod Faults
+pub mod JoinedRows
+pub mod MovedReadings
+pub mod AlikeReadings
+pub mod AlikeExamples

@@ -1,0 +1,2 @@
+//! Trivia between the items of a text change no tree.
+#![tactic(auto)]
