@@ -3,3 +3,4 @@ pub mod Found
 pub mod OneReading
 pub mod Witnesses
 pub mod SignificantTrees
+pub mod AlikeTexts

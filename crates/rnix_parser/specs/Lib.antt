@@ -1,2 +1,3 @@
 pub mod Significant
 pub mod Laws
+pub mod ReadAlike

@@ -9,4 +9,6 @@ mod readings;
 pub use derivation::{one_derivation, tree_derivation};
 pub use parsing::parse;
 pub use ranges::ranges_of_errors;
-pub use readings::{all_follows, error_forms, has_reading, one_reading, one_text, tree_text};
+pub use readings::{
+    all_follows, error_forms, has_reading, layout, one_reading, one_text, tree_text,
+};

@@ -13,6 +13,7 @@ ghost use Rattle.rnix_grammar.specs.ErrorNodes.{AreErrorNodes};
 ghost use Rattle.rnix_grammar.specs.Nesting.{depth_of, AreLimited};
 ghost use Rattle.rnix_grammar.specs.Reading.{IsReading};
 ghost use Rattle.rnix_grammar.specs.Parsed.{IsParsed};
+ghost use Rattle.rnix_parser.specs.ReadAlike.{AreReadAlike};
 ghost use Rattle.rnix_parser.specs.Laws.{OfRead, OfReadings, HaveOneReading, AreOneText};
 
 /// Tokens have one reading at most: two trees with their errors that are readings of one list of tokens are equal.
@@ -30,6 +31,14 @@ pub fn has_reading(text: &str)
 /// Two texts of which one tree is read are one text, with one list of errors.
 pub fn one_text(first: &str, second: &str)
     ensures { AreOneText first.now second.now }
+{
+    let _len = first.len().min(second.len());
+}
+
+/// Two texts whose items have the same kinds and texts, one by one, and touch alike inside paths are read as one tree but for trivia. Their errors are the
+/// same, one by one, but for their ranges, and these are those of the same items.
+pub fn layout(first: &str, second: &str)
+    ensures { AreReadAlike first.now second.now }
 {
     let _len = first.len().min(second.len());
 }
