@@ -9,7 +9,6 @@ use crate::json::{object, Value};
 use crate::protocol::{notification, response, Code, Failure, Outcome};
 use crate::queue::{Incoming, Queue};
 use crate::request::Request;
-use crate::text::Encoding;
 use crate::transport;
 use std::io::{self, Read, Write};
 use std::panic::{catch_unwind, AssertUnwindSafe};
@@ -200,6 +199,5 @@ pub fn serve(input: impl Read + Send + 'static, output: impl Write) -> u8 {
         client: Client::new(&Value::Null),
         documents: Documents::default(),
     };
-    debug_assert!(server.client.encoding == Encoding::Utf16);
     server.serve(&mut Queue::new(input)).unwrap_or(1)
 }

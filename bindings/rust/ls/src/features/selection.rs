@@ -11,11 +11,10 @@ const MOST: usize = 200;
 // The ranges around an offset, innermost first.
 fn ranges(request: &Request, offset: TextSize) -> Vec<TextRange> {
     let tokens: Vec<_> = request.analysis.tokens_at(offset).collect();
-    let is_name = |kind: rnix::SyntaxKind| !kind.is_trivia();
     let token = tokens
         .iter()
         .rev()
-        .find(|token| is_name(token.kind()))
+        .find(|token| !token.kind().is_trivia())
         .or(tokens.last());
     let Some(token) = token else {
         return vec![request.analysis.root().text_range()];
