@@ -1,1 +1,4 @@
+pub mod Places
+pub mod Following
+pub mod Known
 pub mod Shown

@@ -1,58 +1,34 @@
--- Where the errors of a text have to be shown, and how a list of diagnostics shows them.
-use Rattle.std.specs.Prelude.{◌≡◌, ℕ, ◌+◌, ◌<◌, ◌==◌, ◌&&◌, Bool, List, [], ◌∷◌, ◌++◌, length, find, Option, Some, None, option_map, string_bytes, if◌then◌else◌}
-use Rattle.rnix_kinds.specs.SyntaxKind.{is_trivia}
-use Rattle.rnix_green.specs.Range.{Extent, bounds_of}
-use Rattle.rnix_green.specs.Tree.{Located, item_of, extent_of}
-use Rattle.rnix_green.specs.Walk.{Spot, elements_of, nodes_in}
-use Rattle.rnix_grammar.specs.Fault.{Fault, too_deep}
-use Rattle.rnix_grammar.specs.Ranges.{range_in, is_error_node}
+-- How a list of diagnostics shows the errors of a text.
+use Rattle.std.specs.Prelude.{◌≡◌, ℕ, ◌+◌, ◌<◌, false, List, [], ◌∷◌, ◌++◌, length, string_bytes}
+use Rattle.rnix_green.specs.Range.{bounds_of}
+use Rattle.rnix_green.specs.Tree.{Located}
+use Rattle.rnix_grammar.specs.Fault.{Fault}
+use Rattle.nix_diagnostics.specs.Places.{place_of}
+use Rattle.nix_diagnostics.specs.Following.{must_follow, MayFollow}
 use Rattle.nix_diagnostics.specs.declared.diagnostic.Diagnostic.{Diagnostic}
-
--- the end of a token that is not trivia, and else the end so far
-abbrev pub end_after : ℕ → Spot → ℕ
-end_after end spot = if spot.0 then end else (if is_trivia (item_of spot.1).kind then end else (item_of spot.1).end)
-
--- the end of the last token of a walk that is not trivia, and else the end so far
-abbrev pub last_end : ℕ → List Spot → ℕ
-last_end end [] = end
-last_end end (spot ∷ spots) = last_end (end_after end spot) spots
-
--- where the last token inside an element ends that is not trivia, and 0 where there is none
-abbrev pub end_of_items : Located → ℕ
-end_of_items root = last_end 0 (elements_of root)
-
--- an error node that ends at an offset
-abbrev pub is_error_up_to : ℕ → Located → Bool
-is_error_up_to end e = is_error_node (item_of e).kind && (item_of e).end == end
-
--- the range of the first error node that ends at an offset, if there is one
-abbrev pub error_range : ℕ → Located → Option Extent
-error_range end root = option_map extent_of (find (is_error_up_to end) (nodes_in (elements_of root)))
-
--- a range, and else the empty one at an offset
-abbrev pub range_or : ℕ → Option Extent → Extent
-range_or end None = record { start = end; end = end }
-range_or end (Some range) = range
-
--- the range of an error, if it is at a part of the text: of the limit of nesting, that of the first error node that ends with the last token
-abbrev pub own_range : Located → Fault → Option Extent
-own_range root too_deep = error_range (end_of_items root) root
-own_range root fault = range_in fault
-
--- where an error has to be shown: at its range, and else at the end of the last token that is not trivia
-abbrev pub place_of : Located → Fault → Extent
-place_of root fault = range_or (end_of_items root) (own_range root fault)
 
 -- a diagnostic has something to say
 abbrev pub IsWorded : Diagnostic → Type 0
 IsWorded d = 0 < length (string_bytes d.message)
 
--- diagnostics show errors: in order, each error belongs to one diagnostic, which stands for an unbroken run of them, at the place of the first
-pub data AreShown (root : Located) : List Fault → List Diagnostic → Type 0 where
-  none : AreShown root [] []
-  shown : (faults more : List Fault) (ds : List Diagnostic) (fault : Fault) (d : Diagnostic) → AreShown root faults ds →
+-- each of some errors may share the diagnostic of those before it
+pub data MayAllFollow (root : Located) (all before : List Fault) : List Fault → Type 0 where
+  none : MayAllFollow root all before []
+  one_more : (faults : List Fault) (fault : Fault) → MayAllFollow root all before faults → MayFollow root all (before ++ faults) fault →
+      MayAllFollow root all before (faults ++ fault ∷ [])
+
+-- diagnostics show errors, in order: each error belongs to one diagnostic, which stands for an unbroken run of them, at the place of the first.
+-- That one need not follow from those before it, and each of the others may
+pub data Shows (root : Located) (all : List Fault) : List Fault → List Diagnostic → Type 0 where
+  none : Shows root all [] []
+  shown : (faults more : List Fault) (ds : List Diagnostic) (fault : Fault) (d : Diagnostic) → Shows root all faults ds →
+      must_follow root faults fault ≡ false → MayAllFollow root all (faults ++ fault ∷ []) more →
       bounds_of d.range ≡ place_of root fault → IsWorded d → d.first_error ≡ length faults → d.end_error ≡ length (faults ++ fault ∷ more) →
-      AreShown root (faults ++ fault ∷ more) (ds ++ d ∷ [])
+      Shows root all (faults ++ fault ∷ more) (ds ++ d ∷ [])
+
+-- diagnostics show all errors of a text
+abbrev pub AreShown : Located → List Fault → List Diagnostic → Type 0
+AreShown root all ds = Shows root all all ds
 
 -- the last of some diagnostics stands for one error more, up to a number
 pub record IsFolded (number : ℕ) (old new : List Diagnostic) : Type 0 where

@@ -1,8 +1,14 @@
 //! What is opened in a text and never closed, by its tokens alone.
 
+ghost use Rattle.std.specs.Prelude.{◌≡◌};
+ghost use Rattle.nix_diagnostics.specs.Following.{opens, closes};
+
 use SyntaxKind::*;
 use rnix::{NodeOrToken, SyntaxKind, SyntaxNode, SyntaxToken, TextRange};
 use std::alloc::{AllocError, Global};
+
+// What a token closes is looked for among so many innermost open things.
+const MOST_OPEN: usize = 64;
 
 /// A token that opens something, and the range of it.
 #[derive(Clone, Copy)]
@@ -18,8 +24,10 @@ pub struct Opening {
     indent: usize,
 }
 
-// Whether a token opens something.
-fn opens(kind: SyntaxKind) -> bool {
+/// Whether a token opens something.
+pub fn opens(kind: SyntaxKind) -> bool
+    ensures { result ≡ opens kind }
+{
     matches!(
         kind,
         TOKEN_L_BRACE
@@ -33,8 +41,10 @@ fn opens(kind: SyntaxKind) -> bool {
     )
 }
 
-// Whether a token closes something.
-fn closes(kind: SyntaxKind) -> bool {
+/// Whether a token closes something.
+pub fn closes(kind: SyntaxKind) -> bool
+    ensures { result ≡ closes kind }
+{
     matches!(
         kind,
         TOKEN_R_BRACE
@@ -120,14 +130,16 @@ impl Brackets {
 
     // Closes the innermost thing that the token closes. What is open inside that is never closed.
     fn close(&mut self, kind: SyntaxKind, range: TextRange) {
-        let found = self
-            .open
+        let outer = self.open.len().saturating_sub(MOST_OPEN);
+        let innermost = self.open.get(outer..).unwrap_or(&[]);
+        let found = innermost
             .iter()
             .rposition(|opening| is_closed_by(opening.kind, kind));
-        let Some(number) = found else {
+        let Some(inner) = found else {
             self.extra = Some(self.extra.unwrap_or(range));
             return;
         };
+        let number = outer.saturating_add(inner);
         if let Some(inside) = self.open.get(number.saturating_add(1)) {
             self.unclosed = Some(self.unclosed.unwrap_or(*inside));
         } else if let Some(own) = self.open.get(number) {

@@ -4,12 +4,14 @@ ghost use Rattle.std.specs.Prelude.{◌≡◌, ◌+◌, ◌^◌, ◌<◌, length
 ghost use Rattle.rnix_green.specs.Range.{bounds_of};
 ghost use Rattle.rnix_grammar.specs.Fault.{fault_of};
 ghost use Rattle.rnix.specs.Reading.{root_of};
-ghost use Rattle.nix_diagnostics.specs.Shown.{end_of_items, error_range, own_range, place_of, IsFolded, AreShown};
+ghost use Rattle.nix_diagnostics.specs.Places.{end_of_items, error_range, own_range, place_of};
+ghost use Rattle.nix_diagnostics.specs.Shown.{IsFolded, AreShown};
 
 use crate::brackets::mismatch_in;
 use crate::folding::Folding;
 use crate::message::message;
 use crate::notes::{Note, notes};
+use crate::place::error_node;
 use rnix::{NodeOrToken, Parse, ParseError, SyntaxKind, SyntaxNode, TextRange};
 use std::alloc::{AllocError, Global};
 
@@ -105,16 +107,17 @@ pub fn diagnostics(alloc: Global, read: &Parse) -> Result<Vec<Diagnostic>, Alloc
     let root = read.syntax();
     let end = end_of_items(&root);
     let mismatch = mismatch_in(alloc, &root)?;
-    let mut folding = Folding::new(mismatch, end);
+    let mut folding = Folding::new(&root, errors, mismatch, end);
     for number in 0..errors.len() {
         let error = &errors[number];
         let range = place_of(error, &root, end);
-        let folds = folding.folds(alloc, &root, error, range)?;
-        if folds && !found.is_empty() {
+        let node = error_node(&root, error);
+        let folds = folding.folds(&root, error, &node, range);
+        if folds {
             fold(&mut found, number)?;
         } else {
-            let message = message(alloc, error, &root)?;
-            let notes = notes(alloc, error, &root, range, mismatch)?;
+            let message = message(alloc, error, node.as_ref())?;
+            let notes = notes(alloc, error, &root, node, range, mismatch)?;
             found.push(Diagnostic {
                 range,
                 message,

@@ -2,7 +2,6 @@
 
 ghost use Rattle.std.specs.Prelude.{◌<◌, length, IfOk, string_bytes};
 
-use crate::place::error_node;
 use crate::words::{LONGEST, add_found, add_shown, add_wanted};
 use rnix::ast::{AstNode, Attrpath, AttrpathValue};
 use rnix::{ParseError, SyntaxKind, SyntaxNode};
@@ -90,18 +89,22 @@ fn headline(error: &ParseError) -> &'static str
 }
 
 // What follows the headline: what was wanted, where, and what was found.
-fn details(alloc: Global, error: &ParseError, root: &SyntaxNode<'_>) -> Result<String, AllocError> {
+fn details(
+    alloc: Global,
+    error: &ParseError,
+    node: Option<&SyntaxNode<'_>>,
+) -> Result<String, AllocError> {
     let mut text = String::new(alloc);
     match error {
-        ParseError::UnexpectedWanted(_, range, wanted) => {
+        ParseError::UnexpectedWanted(_, _, wanted) => {
             add_wanted(wanted, &mut text)?;
-            if let Some(node) = error_node(root, *range) {
-                add_unwanted(wanted, &node, &mut text)?;
+            if let Some(node) = node {
+                add_unwanted(wanted, node, &mut text)?;
             }
         }
-        ParseError::UnexpectedExtra(range) => {
-            if let Some(node) = error_node(root, *range) {
-                add_unwanted(&[], &node, &mut text)?;
+        ParseError::UnexpectedExtra(_) => {
+            if let Some(node) = node {
+                add_unwanted(&[], node, &mut text)?;
             }
         }
         ParseError::UnexpectedEOFWanted(wanted) => {
@@ -114,16 +117,16 @@ fn details(alloc: Global, error: &ParseError, root: &SyntaxNode<'_>) -> Result<S
     Ok(text)
 }
 
-/// The message of an error of a tree.
+/// The message of an error with its error node.
 pub fn message(
     alloc: Global,
     error: &ParseError,
-    root: &SyntaxNode<'_>,
+    node: Option<&SyntaxNode<'_>>,
 ) -> Result<String, AllocError>
     ensures { IfOk result (λ text. 0 < length (string_bytes text)) }
 {
     let mut text = String::new(alloc);
     text.push_str(headline(error))?;
-    text.push_str(details(alloc, error, root)?.as_str())?;
+    text.push_str(details(alloc, error, node)?.as_str())?;
     Ok(text)
 }

@@ -93,11 +93,12 @@ fn remark(unwanted: &Unwanted<'_>, mismatch: &Mismatch) -> Option<Note> {
     }
 }
 
-/// What is noted at an error that stands at a place, in a text of which it is known what does not fit together.
+/// What is noted at an error with its error node, shown at a place, in a text of which it is known what does not fit together.
 pub fn notes(
     alloc: Global,
     error: &ParseError,
     root: &SyntaxNode<'_>,
+    node: Option<SyntaxNode<'_>>,
     place: TextRange,
     mismatch: Mismatch,
 ) -> Result<Vec<Note>, AllocError> {
@@ -115,7 +116,7 @@ pub fn notes(
             message: opened(opening),
         })?;
     }
-    if let Some(unwanted) = Unwanted::of(error, root) {
+    if let Some(unwanted) = Unwanted::of(error, node) {
         notes.extend(remark(
             &unwanted,
             &Mismatch {

@@ -1,22 +1,28 @@
-//! Where errors stand in a tree.
+//! Where errors are in a tree.
 
-use rnix::{SyntaxKind, SyntaxNode, SyntaxToken, TextRange};
+ghost use Rattle.std.specs.Prelude.{IfSome};
+ghost use Rattle.rnix_grammar.specs.Fault.{fault_of};
+ghost use Rattle.nix_diagnostics.specs.Following.{IsErrorNode};
+
+use rnix::{ParseError, SyntaxKind, SyntaxNode, SyntaxToken, TextRange};
 
 // The most trivia that are skipped on the way to the token before another.
 const MOST_TRIVIA: usize = 64;
 
-/// The error node of a range.
-pub fn error_node<'t>(root: &SyntaxNode<'t>, range: TextRange) -> Option<SyntaxNode<'t>> {
-    if !root.text_range().contains_range(range) {
-        return None;
+/// The error node of an error.
+pub fn error_node<'t>(root: &SyntaxNode<'t>, error: &ParseError) -> Option<SyntaxNode<'t>>
+    ensures { IfSome result (λ node. IsErrorNode root.now (fault_of error.now) node) }
+{
+    let range = error.range()?;
+    let node = root
+        .token_at_offset(range.start())
+        .right_biased()?
+        .parent()?;
+    if node.kind() == SyntaxKind::NODE_ERROR && node.text_range() == range {
+        Some(node)
+    } else {
+        None
     }
-    let token = root.token_at_offset(range.start()).right_biased()?;
-    for node in token.parent()?.ancestors() {
-        if node.kind() == SyntaxKind::NODE_ERROR && node.text_range() == range {
-            return Some(node);
-        }
-    }
-    None
 }
 
 /// The token before another that is not trivia.

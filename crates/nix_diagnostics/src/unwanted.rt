@@ -1,6 +1,6 @@
 //! A token that stands where another is wanted, and what is around it.
 
-use crate::place::{error_node, token_before};
+use crate::place::token_before;
 use SyntaxKind::*;
 use rnix::ast::{AstNode, AttrpathValue};
 use rnix::{ParseError, SyntaxKind, SyntaxNode, SyntaxToken};
@@ -22,13 +22,13 @@ pub struct Unwanted<'t> {
 }
 
 impl<'t> Unwanted<'t> {
-    /// The unwanted token of an error, if it is one of these.
-    pub fn of(error: &ParseError, root: &SyntaxNode<'t>) -> Option<Unwanted<'t>> {
+    /// The unwanted token of an error, the first in its error node.
+    pub fn of(error: &ParseError, node: Option<SyntaxNode<'t>>) -> Option<Unwanted<'t>> {
         let wanted = match error {
             ParseError::UnexpectedWanted(_, _, wanted) => wanted.first().copied(),
             _ => None,
         };
-        let node = error_node(root, error.range()?)?;
+        let node = node?;
         let token = node.first_token()?;
         Some(Unwanted {
             before: token_before(&token),

@@ -1,28 +1,48 @@
 use Rattle.std.proofs.Common.{rules, arith, ap, sym, subst, map, [], take, ◌+◌, refl}
 use Rattle.rnix_grammar.specs.Fault.{fault_of}
+use Rattle.nix_diagnostics.specs.Known.{Knows}
 use Rattle.nix_diagnostics.specs.Shown.{IsFolded}
-use Rattle.nix_diagnostics.proofs.ShownLemmas.{nothing_shown, shown_added, shown_folded, count_before, one_more}
-use Rattle.nix_diagnostics.proofs.diagnostic.diagnostics.Goals.{then-folds+then-not-is_empty+in_ok-fold, else-folds+in_ok-message+in_ok-notes+in_ok-push}
+use Rattle.nix_diagnostics.proofs.ShownLemmas.{nothing_shown, no_errors, some_shown, shown_added, shown_folded, count_before, up_to}
+use Rattle.nix_diagnostics.proofs.diagnostic.diagnostics.Goals.{then-folds+in_ok-fold, else-folds+in_ok-message+in_ok-notes+in_ok-push}
 use Rattle.nix_diagnostics.proofs.diagnostic.diagnostics.Goals as goal
 
 pub returns-then-is_empty : goal.returns-then-is_empty
-returns-then-is_empty c = nothing_shown _ c.errors-errors.result.now _ _ (search rules) c.errors-errors.ensures (search rules)
+returns-then-is_empty c = no_errors _ c.errors-errors.result.now _ _ (search rules) c.errors-errors.ensures (search rules)
 
 pub loop-number-init : goal.loop-number-init
-loop-number-init c = nothing_shown _ [] _ _ refl refl (search rules)
+loop-number-init c = record { shown = nothing_shown _ _ [] _ refl (search rules); known = search rules }
+
+pub fold-requires-clause-some : goal.fold-requires-clause-some
+fold-requires-clause-some c =
+    let errors = c.errors-errors.result.now in
+    let all = map fault_of errors in
+    let before = map fault_of (take c.loop-number.number errors) in
+    let judged = c.folds-folds.ensures all before c.loop-number.invariant.known in
+    some_shown c.syntax-root.result all before c.loop-number.found.items (fault_of c.index-errors-number.result) c.loop-number.invariant.shown
+    (judged.0.0 c.if-folds.true)
 
 pub loop-number-preserved : goal.loop-number-preserved
 loop-number-preserved c =
+    let root = c.syntax-root.result in
     let errors = c.errors-errors.result.now in
+    let all = map fault_of errors in
     let i = c.loop-number.number in
     let e = c.index-errors-number.result in
+    let before = map fault_of (take i errors) in
     let counts = count_before errors i c.loop-number-test.true in
-    let more = one_more errors i e c.loop-number-test.true c.index-errors-number.is in
-    elim c.if-folds.branch [
-      | then-folds+then-not-is_empty+in_ok-fold w ↦ shown_folded _ (map fault_of (take i errors)) _ i c.loop-number.found.items _ (fault_of e) c.loop-number.invariant
-          (subst (λ xs. IsFolded i c.loop-number.found.items xs) (sym (ap (λ v. v.items) w.found-is)) w.in_ok-fold.ensures) counts more
-      | else-folds+in_ok-message+in_ok-notes+in_ok-push w ↦ shown_added _ (map fault_of (take i errors)) _ c.loop-number.found.items _ (fault_of e)
-          record { range = c.place_of-range.result; message = w.in_ok-message.message; first_error = i; end_error = i + 1; notes = w.in_ok-notes.notes }
-          c.loop-number.invariant c.place_of-range.ensures w.in_ok-message.ensures counts (ap (λ n. n + 1) counts) more
-          (grind (arith, w.found-is, w.in_ok-push.ensures.items))
-    ]
+    let more = up_to errors i e c.loop-number-test.true c.index-errors-number.is in
+    let judged = c.folds-folds.ensures all before c.loop-number.invariant.known in
+    record {
+      shown = elim c.if-folds.branch [
+        | then-folds+in_ok-fold w ↦
+            shown_folded root all before _ i c.loop-number.found.items _ (fault_of e) c.loop-number.invariant.shown
+            (subst (λ xs. IsFolded i c.loop-number.found.items xs) (sym (ap (λ v. v.items) w.found-is)) w.in_ok-fold.ensures)
+            (judged.0.0 w.if-folds.true) counts more
+        | else-folds+in_ok-message+in_ok-notes+in_ok-push w ↦
+            shown_added root all before _ c.loop-number.found.items _ (fault_of e)
+            record { range = c.place_of-range.result; message = w.in_ok-message.message; first_error = i; end_error = i + 1; notes = w.in_ok-notes.notes }
+            c.loop-number.invariant.shown (judged.0.1 w.if-folds.false) c.place_of-range.ensures w.in_ok-message.ensures counts (ap (λ n. n + 1) counts) more
+            (grind (arith, w.found-is, w.in_ok-push.ensures.items))
+      ];
+      known = subst (λ faults. Knows root all faults c.folds-folds.new.self) (sym more) judged.1;
+    }

@@ -1,5 +1,5 @@
 use Rattle.std.proofs.Common.{◌≡◌}
-use Rattle.nix_diagnostics.specs.Shown.{last_end, end_of_items}
+use Rattle.nix_diagnostics.specs.Places.{last_end, end_of_items}
 use Rattle.nix_diagnostics.proofs.diagnostic.end_of_items.Given as goal
 
 abbrev pub invariant-loop-element : goal.invariant-loop-element

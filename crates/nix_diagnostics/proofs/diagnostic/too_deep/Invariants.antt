@@ -1,7 +1,7 @@
 use Rattle.std.proofs.Common.{◌≡◌, option_map}
 use Rattle.std.specs.Prelude.{find}
 use Rattle.rnix_green.specs.Tree.{extent_of}
-use Rattle.nix_diagnostics.specs.Shown.{is_error_up_to, error_range}
+use Rattle.nix_diagnostics.specs.Places.{is_error_up_to, error_range}
 use Rattle.nix_diagnostics.proofs.diagnostic.too_deep.Given as goal
 
 abbrev pub invariant-loop-node : goal.invariant-loop-node

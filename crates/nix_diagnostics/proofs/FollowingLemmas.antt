@@ -1,0 +1,196 @@
+-- Facts on errors that follow from earlier ones.
+use Rattle.std.proofs.Common.{◌≡◌, ◌∙◌, ℕ, Bool, true, false, List, [], ◌∷◌, ◌++◌, map, Option, Some, None, ap, sym, subst, refl, arith, ◌+◌, ◌<◌}
+use Rattle.std.proofs.Common.{◌≤◌, length, if◌then◌else◌}
+use Rattle.std.proofs.lemmas.List.{append_assoc}
+use Rattle.std.specs.Prelude.{IfSome, option_map, is_some, ◌==◌, ◌&&◌}
+use Rattle.rnix_green.specs.Tree.{Tree, Located}
+use Rattle.rnix_green.specs.Walk.{Spot, spot_at}
+use Rattle.rnix_grammar.specs.Fault.{Fault, untold, extra, unwanted, bound_twice, ended, ended_before, named_twice, too_deep}
+use Rattle.rnix_green.specs.declared.range.TextRange.{TextRange}
+use Rattle.rnix_green.specs.Range.{bounds_of}
+use Rattle.nix_diagnostics.specs.Places.{place_of}
+use Rattle.nix_diagnostics.specs.Following.{is_slip, is_extra, last_from, last_slip, must_follow, is_near, IsErrorNode, IsInGroup, Skips, Loses}
+use Rattle.nix_diagnostics.specs.Following.{skips, behind, AreLost, MayFollow, follows, same_group, lost}
+use Rattle.nix_diagnostics.specs.Known.{are_shared, IsLostFrom, IsLastIn, Knows, Judges}
+use Rattle.nix_diagnostics.specs.declared.folding.Folding.{Folding}
+
+-- elements of a walk are in a tree
+abbrev pub AreIn : Tree → List Spot → Type 0
+AreIn t [] = Unit {0}
+AreIn t (spot ∷ spots) = (spot.1.tree ≡ t) × AreIn t spots
+
+-- the elements of some numbers are in their tree
+pub all_in : (t : Tree) (numbers : List ℕ) → AreIn t (map (spot_at t) numbers)
+all_in t [] = tt
+all_in t (n ∷ numbers) = (refl, all_in t numbers)
+
+-- one more error is the last one if it is about an unexpected or a missing token
+last_push : (before : Option Fault) (faults : List Fault) (fault : Fault) →
+    last_from before (faults ++ fault ∷ []) ≡ (if is_slip fault then Some fault else last_from before faults)
+last_push before [] fault = refl
+last_push before (f ∷ faults) fault = last_push (if is_slip f then Some f else before) faults fault
+
+-- such an error is then the last one
+pub slip_last : (faults : List Fault) (fault : Fault) → is_slip fault ≡ true → last_slip (faults ++ fault ∷ []) ≡ Some fault
+slip_last faults fault is = last_push None faults fault ∙ ap (λ b. if b then Some fault else last_from None faults) is
+
+-- another error changes nothing
+pub other_last : (faults : List Fault) (fault : Fault) → is_slip fault ≡ false → last_slip (faults ++ fault ∷ []) ≡ last_slip faults
+other_last faults fault is = last_push None faults fault ∙ ap (λ b. if b then Some fault else last_from None faults) is
+
+-- an error about an unexpected or a missing token has to follow if it is near
+pub slip_follows : (root : Located) (before : List Fault) (fault : Fault) → is_slip fault ≡ true →
+    must_follow root before fault ≡ is_near root (last_slip before) fault
+slip_follows root before (untold range) is = refl
+slip_follows root before (extra range) is = absurd (grind (arith, is))
+slip_follows root before (unwanted kind range kinds) is = refl
+slip_follows root before (bound_twice range) is = refl
+slip_follows root before ended is = refl
+slip_follows root before (ended_before kinds) is = refl
+slip_follows root before (named_twice range name) is = absurd (grind (arith, is))
+slip_follows root before too_deep is = refl
+
+-- the reader stays lost
+pub lost_more : (root : Located) (all before : List Fault) (fault : Fault) → AreLost root all before → AreLost root all (before ++ fault ∷ [])
+lost_more root all before fault are = record {
+  first = are.first;
+  fault = are.fault;
+  rest = are.rest ++ fault ∷ [];
+  is = ap (λ f. f ++ fault ∷ []) are.is ∙ append_assoc are.first (are.fault ∷ are.rest) (fault ∷ []);
+  loses = are.loses;
+}
+
+-- an error that loses the reader's way does so among the errors up to it
+pub lost_now : (root : Located) (all before : List Fault) (fault : Fault) → Loses root all fault → AreLost root all (before ++ fault ∷ [])
+lost_now root all before fault loses = record { first = before; fault = fault; rest = []; is = refl; loses = loses }
+
+-- behind where the reader lost its way an error may follow
+pub judged_lost : (root : Located) (all before : List Fault) (fault : Fault) (f : Folding) → Knows root all before f → f.is_lost ≡ true →
+    Judges root all before fault true
+judged_lost root all before fault f known is = (λ yes. lost (known.lost is), λ no. absurd (grind (arith, no)))
+
+-- in the list, pattern, .. of the last error an error may follow
+pub judged_shared : (root : Located) (all before : List Fault) (fault : Fault) (f : Folding) (group : Option TextRange) → Knows root all before f →
+    IfSome group (λ range. IsInGroup root fault (bounds_of range)) → are_shared group f.group ≡ true → Judges root all before fault true
+judged_shared root all before fault f group known is shared = (λ yes. found group f.group is known.group shared, λ no. absurd (grind (arith, no))) where
+  found : (own last : Option TextRange) → IfSome own (λ range. IsInGroup root fault (bounds_of range)) →
+      IfSome last (λ range. IsLastIn root before (bounds_of range)) → are_shared own last ≡ true → MayFollow root all before fault
+  found (Some own) (Some last) mine other same =
+      let start : own.start ≡ last.start = grind (arith, same) in
+      let end : own.end ≡ last.end = grind (arith, same) in
+      same_group other.last (bounds_of last) other.is other.group
+      (subst (λ x. IsInGroup root fault x) (λ k. record { start = start k; end = end k }) mine)
+  found (Some own) None mine other same = absurd (grind (arith, same))
+  found None last mine other same = absurd (grind (arith, same))
+
+-- what is known behind an error about an unexpected or a missing token
+pub knows_slip : (root : Located) (all before : List Fault) (fault : Fault) (f new : Folding) → Knows root all before f → is_slip fault ≡ true →
+    new.last ≡ Some (place_of root fault).end → new.end ≡ f.end → new.lost_from ≡ f.lost_from →
+    IfSome new.group (λ range. IsInGroup root fault (bounds_of range)) → (new.is_lost ≡ true → AreLost root all (before ++ fault ∷ [])) →
+    Knows root all (before ++ fault ∷ []) new
+knows_slip root all before fault f new known slip last end from group are =
+    let is : last_slip (before ++ fault ∷ []) ≡ Some fault = slip_last before fault slip in
+    record {
+      last = last ∙ ap (option_map (λ x. (place_of root x).end)) (sym is);
+      end = end ∙ known.end;
+      lost_from = subst (λ o. IfSome o (IsLostFrom root all)) (sym from) known.lost_from;
+      group = in_group new.group group;
+      lost = are;
+    } where
+      in_group : (o : Option TextRange) → IfSome o (λ range. IsInGroup root fault (bounds_of range)) →
+          IfSome o (λ range. IsLastIn root (before ++ fault ∷ []) (bounds_of range))
+      in_group None h = h
+      in_group (Some range) h = record { last = fault; is = slip_last before fault slip; group = h }
+
+-- what is known behind another error
+pub knows_other : (root : Located) (all before : List Fault) (fault : Fault) (f : Folding) → Knows root all before f → is_slip fault ≡ false →
+    Knows root all (before ++ fault ∷ []) f
+knows_other root all before fault f known other =
+    let is : last_slip (before ++ fault ∷ []) ≡ last_slip before = other_last before fault other in
+    record {
+      last = known.last ∙ ap (option_map (λ x. (place_of root x).end)) (sym is);
+      end = known.end;
+      lost_from = known.lost_from;
+      group = in_group f.group known.group;
+      lost = λ yes. lost_more root all before fault (known.lost yes);
+    } where
+      in_group : (o : Option TextRange) → IfSome o (λ range. IsLastIn root before (bounds_of range)) →
+          IfSome o (λ range. IsLastIn root (before ++ fault ∷ []) (bounds_of range))
+      in_group None h = h
+      in_group (Some range) h = record { last = h.last; is = other_last before fault other ∙ h.is; group = h.group }
+
+-- an error that says that tokens follow the expression has to follow if there is an error in it
+extra_follows : (root : Located) (before : List Fault) (fault : Fault) → is_extra fault ≡ true →
+    must_follow root before fault ≡ is_some (last_slip before)
+extra_follows root before (untold range) is = absurd (grind (arith, is))
+extra_follows root before (extra range) is = refl
+extra_follows root before (unwanted kind range kinds) is = absurd (grind (arith, is))
+extra_follows root before (bound_twice range) is = absurd (grind (arith, is))
+extra_follows root before ended is = absurd (grind (arith, is))
+extra_follows root before (ended_before kinds) is = absurd (grind (arith, is))
+extra_follows root before (named_twice range name) is = absurd (grind (arith, is))
+extra_follows root before too_deep is = absurd (grind (arith, is))
+
+-- a repeated name need not follow
+name_follows : (root : Located) (before : List Fault) (fault : Fault) → is_slip fault ≡ false → is_extra fault ≡ false →
+    must_follow root before fault ≡ false
+name_follows root before (untold range) other is = absurd (grind (arith, other))
+name_follows root before (extra range) other is = absurd (grind (arith, is))
+name_follows root before (unwanted kind range kinds) other is = absurd (grind (arith, other))
+name_follows root before (bound_twice range) other is = absurd (grind (arith, other))
+name_follows root before ended other is = absurd (grind (arith, other))
+name_follows root before (ended_before kinds) other is = absurd (grind (arith, other))
+name_follows root before (named_twice range name) other is = refl
+name_follows root before too_deep other is = absurd (grind (arith, other))
+
+-- whether a place is known is whether there is an error
+last_known : (root : Located) (o : Option Fault) (last : Option ℕ) → last ≡ option_map (λ fault. (place_of root fault).end) o → is_some o ≡ is_some last
+last_known root None last is = ap is_some (sym is)
+last_known root (Some fault) last is = ap is_some (sym is)
+
+-- tokens that follow the expression
+pub judged_extra : (root : Located) (all before : List Fault) (fault : Fault) (f : Folding) (b : Bool) → Knows root all before f →
+    is_extra fault ≡ true → b ≡ is_some f.last → Judges root all before fault b
+judged_extra root all before fault f b known is counts =
+    let must : must_follow root before fault ≡ b =
+    extra_follows root before fault is ∙ last_known root (last_slip before) f.last known.last ∙ sym counts in
+    (λ yes. follows (must ∙ yes), λ no. must ∙ no)
+
+-- a repeated name
+pub judged_name : (root : Located) (all before : List Fault) (fault : Fault) (f : Folding) → Knows root all before f → is_slip fault ≡ false →
+    is_extra fault ≡ false → Judges root all before fault f.is_lost
+judged_name root all before fault f known other is = (λ yes. lost (known.lost yes), λ no. name_follows root before fault other is)
+
+-- an error behind what is opened loses the reader's way
+pub lost_behind : (root : Located) (all : List Fault) (fault : Fault) (from : Option ℕ) (start at : ℕ) → IfSome from (IsLostFrom root all) →
+    from ≡ Some start → start ≤ at → at ≡ (place_of root fault).start → Loses root all fault
+lost_behind root all fault from start at known is low place =
+    let opening : IsLostFrom root all start = subst (λ o. IfSome o (IsLostFrom root all)) is known in
+    behind opening.token opening.is_token opening.opens (grind (arith, opening.start_is, low, place)) opening.early
+
+-- an error whose node skips brackets loses the reader's way
+pub lost_skipping : (root : Located) (all : List Fault) (fault : Fault) (found : Option Located) (node : Located) →
+    IfSome found (IsErrorNode root fault) → found ≡ Some node → Skips node → Loses root all fault
+lost_skipping root all fault found node known is skipped = skips node (subst (λ o. IfSome o (IsErrorNode root fault)) is known) skipped
+
+-- no list is empty that has an element
+not_empty : {X : Type 0} (front back : List X) (x : X) → [] ≡ front ++ x ∷ back → ⊥
+not_empty [] back x is = absurd (grind (arith, is))
+not_empty (y ∷ front) back x is = absurd (grind (arith, is))
+
+-- the first error follows from nothing
+none_follow : (root : Located) (fault : Fault) → must_follow root [] fault ≡ false
+none_follow root (untold range) = refl
+none_follow root (extra range) = refl
+none_follow root (unwanted kind range kinds) = refl
+none_follow root (bound_twice range) = refl
+none_follow root ended = refl
+none_follow root (ended_before kinds) = refl
+none_follow root (named_twice range name) = refl
+none_follow root too_deep = refl
+
+-- nor may it
+pub may_not : (root : Located) (all : List Fault) (fault : Fault) → MayFollow root all [] fault → ⊥
+may_not root all fault (follows is) = absurd (grind (arith, none_follow root fault, is))
+may_not root all fault (same_group last range is mine other) = absurd (grind (arith, is))
+may_not root all fault (lost are) = not_empty are.first are.rest are.fault are.is

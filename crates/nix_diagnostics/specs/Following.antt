@@ -1,0 +1,167 @@
+-- Which errors follow from an earlier one, so that they may share its diagnostic.
+use Rattle.std.specs.Prelude.{◌≡◌, ℕ, ◌+◌, ◌-◌, ◌≤◌, ◌==◌, Bool, true, false, not, nat_lt, ◌||◌, List, [], ◌∷◌, ◌++◌, take, drop, Option, Some, None}
+use Rattle.std.specs.Prelude.{is_some, if◌then◌else◌}
+use Rattle.std.specs.List.{list_any}
+use Rattle.rnix_kinds.specs.declared.kinds.SyntaxKind.{SyntaxKind}
+use Rattle.rnix_kinds.specs.declared.kinds.SyntaxKind.TheVariants.{NODE_LIST, NODE_PATTERN, NODE_STRING, NODE_DYNAMIC, NODE_INHERIT}
+use Rattle.rnix_kinds.specs.declared.kinds.SyntaxKind.TheVariants.{NODE_ATTRPATH_VALUE, TOKEN_L_BRACE, TOKEN_L_BRACK, TOKEN_L_PAREN}
+use Rattle.rnix_kinds.specs.declared.kinds.SyntaxKind.TheVariants.{TOKEN_INTERPOL_START, TOKEN_STRING_START, TOKEN_LET, TOKEN_IF, TOKEN_THEN}
+use Rattle.rnix_kinds.specs.declared.kinds.SyntaxKind.TheVariants.{TOKEN_R_BRACE, TOKEN_R_BRACK, TOKEN_R_PAREN, TOKEN_INTERPOL_END, TOKEN_STRING_END}
+use Rattle.rnix_kinds.specs.declared.kinds.SyntaxKind.TheVariants.{TOKEN_IN, TOKEN_ELSE}
+use Rattle.rnix_green.specs.Range.{Extent}
+use Rattle.rnix_green.specs.Tree.{Located, item_of, extent_of, text_at, IsTokenAt}
+use Rattle.rnix_green.specs.Relatives.{parent_of}
+use Rattle.rnix_grammar.specs.Fault.{Fault, extra, named_twice, ended, ended_before}
+use Rattle.rnix_grammar.specs.Ranges.{range_in, is_error_node}
+use Rattle.nix_diagnostics.specs.Places.{end_of_items, place_of}
+
+-- a token of the kind opens something that another closes
+abbrev pub opens : SyntaxKind → Bool
+opens TOKEN_L_BRACE = true
+opens TOKEN_L_BRACK = true
+opens TOKEN_L_PAREN = true
+opens TOKEN_INTERPOL_START = true
+opens TOKEN_STRING_START = true
+opens TOKEN_LET = true
+opens TOKEN_IF = true
+opens TOKEN_THEN = true
+opens kind = false
+
+-- a token of the kind closes something
+abbrev pub closes : SyntaxKind → Bool
+closes TOKEN_R_BRACE = true
+closes TOKEN_R_BRACK = true
+closes TOKEN_R_PAREN = true
+closes TOKEN_INTERPOL_END = true
+closes TOKEN_STRING_END = true
+closes TOKEN_IN = true
+closes TOKEN_THEN = true
+closes TOKEN_ELSE = true
+closes kind = false
+
+-- a node of the kind is one in which one mistake leads to several errors
+abbrev pub is_group : SyntaxKind → Bool
+is_group NODE_LIST = true
+is_group NODE_PATTERN = true
+is_group NODE_STRING = true
+is_group NODE_DYNAMIC = true
+is_group NODE_INHERIT = true
+is_group NODE_ATTRPATH_VALUE = true
+is_group kind = false
+
+-- the error says that a token is unexpected or missing: not that a name stands twice, nor that tokens follow the expression
+abbrev pub is_slip : Fault → Bool
+is_slip (extra range) = false
+is_slip (named_twice range name) = false
+is_slip fault = true
+
+-- the error says that tokens follow the expression
+abbrev pub is_extra : Fault → Bool
+is_extra (extra range) = true
+is_extra fault = false
+
+-- the last error of some that is about an unexpected or a missing token, and else the one before them
+abbrev pub last_from : Option Fault → List Fault → Option Fault
+last_from before [] = before
+last_from before (fault ∷ faults) = last_from (if is_slip fault then Some fault else before) faults
+
+-- the last such error
+abbrev pub last_slip : List Fault → Option Fault
+last_slip faults = last_from None faults
+
+-- the error is at the end of the text
+abbrev pub is_at_end : Fault → Bool
+is_at_end ended = true
+is_at_end (ended_before kinds) = true
+is_at_end fault = false
+
+-- white space
+abbrev pub is_blank : ℕ → Bool
+is_blank byte = byte == 32 || (byte == 10 || (byte == 9 || byte == 13))
+
+-- how many words begin in a text, behind white space or inside a word
+abbrev pub words : Bool → List ℕ → ℕ
+words inside [] = 0
+words inside (byte ∷ bytes) = (if is_blank byte || inside then 0 else 1) + words (not (is_blank byte)) bytes
+
+-- a text has no line feed, or at most two words
+abbrev pub is_short : List ℕ → Bool
+is_short text = not (list_any (λ byte. byte == 10) text) || nat_lt (words false text) 3
+
+-- between two offsets of a text, the first before the second, are no line feed, or at most two words
+abbrev pub are_close : List ℕ → ℕ → ℕ → Bool
+are_close text from to = is_short (take (to - from) (drop from text))
+
+-- an error begins where another ends or close behind, if there is another
+abbrev pub is_near : Located → Option Fault → Fault → Bool
+is_near root None fault = false
+is_near root (Some last) fault = are_close (text_at root) (place_of root last).end (place_of root fault).start
+
+-- an error follows from those before it: tokens follow the expression, and there is an error in it; or it is near the last error
+abbrev pub must_follow : Located → List Fault → Fault → Bool
+must_follow root before (extra range) = is_some (last_slip before)
+must_follow root before (named_twice range name) = false
+must_follow root before fault = is_near root (last_slip before) fault
+
+-- the error node of an error
+pub record IsErrorNode (root : Located) (fault : Fault) (node : Located) : Type 0 where
+  pub tree : node.tree ≡ root.tree
+  pub is_error : is_error_node (item_of node).kind ≡ true
+  pub range : range_in fault ≡ Some (extent_of node)
+
+-- the error is right below a list, pattern, string, interpolated name, `inherit` or entry with this range
+pub record IsInGroup (root : Located) (fault : Fault) (range : Extent) : Type 0 where
+  pub node : Located
+  pub is_node : IsErrorNode root fault node
+  pub around : Located
+  pub parent : parent_of node ≡ Some around
+  pub is_group : is_group (item_of around).kind ≡ true
+  pub range_is : range ≡ extent_of around
+
+-- a token of the kind begins a string
+abbrev pub begins_string : SyntaxKind → Bool
+begins_string TOKEN_STRING_START = true
+begins_string kind = false
+
+-- where what a token opens begins to count: a string that is not closed takes any text, so it counts from the beginning
+abbrev pub counts_from : Located → ℕ
+counts_from token = if begins_string (item_of token).kind then 0 else (item_of token).start
+
+-- a token of the text
+pub record IsTokenOf (root token : Located) : Type 0 where
+  pub tree : token.tree ≡ root.tree
+  pub is_token : IsTokenAt token
+
+-- a token in the range of a node opens or closes something
+pub record Skips (node : Located) : Type 0 where
+  pub token : Located
+  pub is_token : IsTokenOf node token
+  pub turns : (opens (item_of token).kind || closes (item_of token).kind) ≡ true
+  pub start : (item_of node).start ≤ (item_of token).start
+  pub end : (item_of token).end ≤ (item_of node).end
+
+-- the reader loses its way at an error
+pub data Loses (root : Located) (all : List Fault) (fault : Fault) : Type 0 where
+  -- of the limit of nesting, or at the end of the text
+  no_range : range_in fault ≡ None → Loses root all fault
+  at_end : end_of_items root ≤ (place_of root fault).end → Loses root all fault
+  -- where tokens are skipped of which one opens or closes something
+  skips : (node : Located) → IsErrorNode root fault node → Skips node → Loses root all fault
+  -- behind what is opened, in a text that ends too early
+  behind : (token : Located) → IsTokenOf root token → opens (item_of token).kind ≡ true → counts_from token ≤ (place_of root fault).start →
+      list_any is_at_end all ≡ true → Loses root all fault
+
+-- some error of these loses the reader's way
+pub record AreLost (root : Located) (all before : List Fault) : Type 0 where
+  pub first : List Fault
+  pub fault : Fault
+  pub rest : List Fault
+  pub is : before ≡ first ++ fault ∷ rest
+  pub loses : Loses root all fault
+
+-- an error may share the diagnostic of those before it
+pub data MayFollow (root : Located) (all before : List Fault) (fault : Fault) : Type 0 where
+  follows : must_follow root before fault ≡ true → MayFollow root all before fault
+  same_group : (last : Fault) (range : Extent) → last_slip before ≡ Some last → IsInGroup root last range → IsInGroup root fault range →
+      MayFollow root all before fault
+  lost : AreLost root all before → MayFollow root all before fault
