@@ -1,12 +1,17 @@
 //! The command line.
 
+ghost use Rattle.std.specs.Prelude.{◌≡◌, map, option_map, bytes_eq, IfOk, OnOk, string_bytes};
+ghost use Rattle.std.specs.List.{list_any};
+ghost use Rattle.nix_cli.specs.CommandLine.{runs, nothing, is_option, color_in, with_color, with_flag_in, with_option, with_argument, and_argument, read_from};
+ghost use Rattle.nix_cli.specs.Given.{takes_of, task_of, read_of};
+
 use crate::ending::{FAILED, refuse};
 use std::alloc::{AllocError, Global};
 use std::env;
 use std::io::{self, Write};
 
-// The version of all programs.
-const VERSION: &str = "0.14.0";
+/// The version of all programs.
+pub const VERSION: &str = "0.14.0";
 // The help that each program has.
 const COMMON: &str = "    --help     print this
     --version  print the version
@@ -65,9 +70,40 @@ pub enum Start {
     End(u8),
 }
 
+// Whether a text is one of some.
+fn is_among(texts: &[&'static str], text: &str) -> bool
+    ensures { result ≡ list_any (λ own. bytes_eq own text.now) (map (λ own. own.now) texts.now) }
+{
+    for own in texts {
+        if *own == text {
+            return true;
+        }
+    }
+    false
+}
+
+// Whether an argument is an option. `-` alone is none.
+fn is_option(text: &str) -> bool
+    ensures { result ≡ is_option text.now }
+{
+    text.len() > 1 && text.starts_with('-')
+}
+
+// What stands behind `--color=`, where the program takes it.
+fn color_in<'a>(program: &Program, option: &'a str) -> Option<&'a str>
+    ensures { option_map (λ when. when.now) result ≡ color_in (takes_of program.now) option.now }
+{
+    if !program.has_colors {
+        return None;
+    }
+    option.strip_prefix("--color=")
+}
+
 impl Arguments {
     // No arguments yet.
-    fn new(alloc: Global) -> Arguments {
+    fn new(alloc: Global) -> Arguments
+        ensures { read_of result ≡ nothing }
+    {
         Arguments {
             task: Task::Run,
             flags: Vec::new(alloc),
@@ -79,14 +115,24 @@ impl Arguments {
     }
 
     /// Whether an option is there.
-    pub fn has(&self, flag: &str) -> bool {
-        self.flags.iter().any(|given| given.as_str() == flag)
+    pub fn has(&self, flag: &str) -> bool
+        ensures { result ≡ list_any (λ own. bytes_eq own flag.now) (map string_bytes self.now.flags.items) }
+    {
+        for own in &self.flags {
+            if own.as_str() == flag {
+                return true;
+            }
+        }
+        false
     }
 
     // Takes one of the times at which colors are used.
-    fn set_color(&mut self, when: String) {
+    fn set_color(&mut self, when: String)
+        ensures { read_of self.new ≡ with_color (string_bytes when) (read_of self.old) }
+    {
         self.is_color_next = false;
-        if matches!(when.as_str(), "auto" | "always" | "never") {
+        let text = when.as_str();
+        if text == "auto" || text == "always" || text == "never" {
             self.color = Some(when);
         } else {
             self.task = Task::Refuse("--color is auto, always or never, and not", when);
@@ -94,46 +140,89 @@ impl Arguments {
     }
 
     // Reads an option.
-    fn add_option(&mut self, program: &Program, option: String) -> Result<(), AllocError> {
-        match option.as_str() {
-            "--help" | "-h" => self.task = Task::Help,
-            "--version" => self.task = Task::Version,
-            "--color" if program.has_colors => self.is_color_next = true,
-            name if program.flags.iter().any(|flag| *flag == name) => self.flags.push(option)?,
-            name => match name.strip_prefix("--color=") {
-                Some(when) if program.has_colors => {
-                    let when = String::from_str(*self.words.allocator(), when)?;
-                    self.set_color(when);
-                }
-                _ => self.task = Task::Refuse("there is no option", option),
-            },
+    fn add_option(&mut self, program: &Program, option: String) -> Result<(), AllocError>
+        ensures { OnOk result (read_of self.new ≡ with_option (takes_of program.now) (string_bytes option) (read_of self.old)) }
+    {
+        let text = option.as_str();
+        if text == "--help" || text == "-h" {
+            self.task = Task::Help;
+            return Ok(());
         }
+        if text == "--version" {
+            self.task = Task::Version;
+            return Ok(());
+        }
+        if program.has_colors && text == "--color" {
+            self.is_color_next = true;
+            return Ok(());
+        }
+        if let Some(when) = color_in(program, text) {
+            let when = String::from_str(*self.words.allocator(), when)?;
+            self.set_color(when);
+            return Ok(());
+        }
+        self.add_flag(program, option)
+    }
+
+    // Reads one of the program's options.
+    fn add_flag(&mut self, program: &Program, option: String) -> Result<(), AllocError>
+        ensures { OnOk result (read_of self.new ≡ with_flag_in (takes_of program.now) (string_bytes option) (read_of self.old)) }
+    {
+        if is_among(program.flags, option.as_str()) {
+            self.flags.push(option)?;
+            return Ok(());
+        }
+        self.task = Task::Refuse("there is no option", option);
+        Ok(())
+    }
+
+    // Reads one more argument, where the program is to run.
+    fn add_argument(&mut self, program: &Program, argument: String) -> Result<(), AllocError>
+        ensures { OnOk result (read_of self.new ≡ with_argument (takes_of program.now) (string_bytes argument) (read_of self.old)) }
+    {
+        if self.is_color_next {
+            self.set_color(argument);
+            return Ok(());
+        }
+        if is_option(argument.as_str()) && !self.only_words {
+            if argument.as_str() == "--" {
+                self.only_words = true;
+                return Ok(());
+            }
+            return self.add_option(program, argument);
+        }
+        if self.words.len() < program.most {
+            self.words.push(argument)?;
+            return Ok(());
+        }
+        self.task = Task::Refuse("this argument is too many:", argument);
         Ok(())
     }
 
     // Reads one more argument. Nothing is read behind what ends the program.
-    fn add(&mut self, program: &Program, argument: String) -> Result<(), AllocError> {
-        let text = argument.as_str();
-        let is_option = text.len() > 1 && text.starts_with('-');
+    fn add(&mut self, program: &Program, argument: String) -> Result<(), AllocError>
+        ensures { OnOk result (read_of self.new ≡ and_argument (takes_of program.now) (string_bytes argument) (read_of self.old)) }
+    {
         match self.task {
-            Task::Run => {}
-            _ => return Ok(()),
+            Task::Run => self.add_argument(program, argument),
+            Task::Help | Task::Version | Task::Refuse(..) => Ok(()),
         }
-        if self.is_color_next {
-            self.set_color(argument);
-        } else if is_option && !self.only_words {
-            if text == "--" {
-                self.only_words = true;
-            } else {
-                self.add_option(program, argument)?;
-            }
-        } else if self.words.len() == program.most {
-            self.task = Task::Refuse("this argument is too many:", argument);
-        } else {
-            self.words.push(argument)?;
-        }
-        Ok(())
     }
+}
+
+/// What some arguments ask a program for.
+pub fn parse_arguments(
+    alloc: Global,
+    program: &Program,
+    arguments: &[String],
+) -> Result<Arguments, AllocError>
+    ensures { IfOk result (λ given. read_of given ≡ read_from (takes_of program.now) nothing (map string_bytes arguments.now)) }
+{
+    let mut given = Arguments::new(alloc);
+    for argument in arguments {
+        given.add(program, argument.clone()?)?;
+    }
+    Ok(given)
 }
 
 // Prints the help.
@@ -146,10 +235,11 @@ fn help(rt: &HostRuntime, program: &Program) -> io::Result<()> {
 
 /// Reads the command line. The help and the version are printed here, and what is wrong is refused.
 pub fn read_arguments(rt: &HostRuntime, program: &Program) -> io::Result<Start> {
-    let mut given = Arguments::new(rt.alloc());
+    let mut arguments = Vec::new(rt.alloc());
     for argument in env::args(rt)?.skip(1) {
-        given.add(program, argument)?;
+        arguments.push(argument)?;
     }
+    let given = parse_arguments(rt.alloc(), program, &arguments)?;
     match &given.task {
         Task::Run if given.is_color_next => refuse(rt, program, "--color needs a value")?,
         Task::Run if given.words.len() < program.least => {
@@ -170,4 +260,79 @@ pub fn read_arguments(rt: &HostRuntime, program: &Program) -> io::Result<Start> 
     }
     eprintln!(rt; "{} --help says how it is called", program.name)?;
     Ok(Start::End(FAILED))
+}
+
+#[cfg(test)]
+mod tests {
+    use super::{Program, Task, parse_arguments};
+    use std::alloc::{AllocError, Global};
+    use std::test::Fail;
+
+    const PROGRAM: Program = Program {
+        name: "nix-try",
+        help: "",
+        statuses: "",
+        flags: &["--all"],
+        has_colors: true,
+        least: 1,
+        most: 2,
+    };
+
+    // What arguments ask for that are joined by spaces.
+    fn outcome(alloc: Global, line: &str) -> Result<String, AllocError> {
+        let mut arguments = Vec::new(alloc);
+        for argument in line.split(' ') {
+            arguments.push(String::from_str(alloc, argument)?)?;
+        }
+        let given = parse_arguments(alloc, &PROGRAM, &arguments)?;
+        let mut text = String::new(alloc);
+        match &given.task {
+            Task::Run => text.push_str("run")?,
+            Task::Help => text.push_str("help")?,
+            Task::Version => text.push_str("version")?,
+            Task::Refuse(_, argument) => {
+                text.push_str("refuse ")?;
+                text.push_str(argument.as_str())?;
+            }
+        }
+        for word in &given.words {
+            text.push(' ')?;
+            text.push_str(word.as_str())?;
+        }
+        if given.has("--all") {
+            text.push_str(", all")?;
+        }
+        if let Some(when) = &given.color {
+            text.push_str(", color ")?;
+            text.push_str(when.as_str())?;
+        }
+        Ok(text)
+    }
+
+    #[test]
+    fn command_lines(rt: HostRuntime) -> Result<(), Fail> {
+        let rows = [
+            ("a b", "run a b"),
+            ("--all a", "run a, all"),
+            ("a --all", "run a, all"),
+            ("- a", "run - a"),
+            ("-- --all -h", "run --all -h"),
+            ("a -- --", "run a --"),
+            ("a b c", "refuse c a b"),
+            ("--al a", "refuse --al"),
+            ("-x", "refuse -x"),
+            ("-h --bad", "help"),
+            ("--bad -h", "refuse --bad"),
+            ("a --version b", "version a"),
+            ("--color never a", "run a, color never"),
+            ("--color=always", "run, color always"),
+            ("--color=blue a", "refuse blue"),
+            ("--color --all", "refuse --all"),
+            ("--color", "run"),
+        ];
+        for (line, wanted) in rows {
+            assert_eq!(rt; outcome(rt.alloc(), line)?.as_str(), wanted);
+        }
+        Ok(())
+    }
 }

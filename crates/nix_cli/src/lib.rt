@@ -8,7 +8,7 @@ mod files;
 mod json;
 mod replacing;
 
-pub use arguments::{Arguments, Program, Start, read_arguments};
+pub use arguments::{Arguments, Program, Start, VERSION, parse_arguments, read_arguments};
 pub use colors::is_colored;
 pub use ending::{FAILED, FOUND, end, refuse};
 pub use files::{Files, find_files, place_of, read_text, shown_name, write_text};
