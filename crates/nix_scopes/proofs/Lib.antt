@@ -5,3 +5,5 @@ pub mod ScopeLemmas
 pub mod ResolvedLemmas
 pub mod ResolvingLemmas
 pub mod ScopeExamples
+pub mod AlikeLemmas
+pub mod AlikeExamples

@@ -5,3 +5,4 @@ pub mod Scopes
 pub mod Bound
 pub mod Occurrences
 pub mod Resolving
+pub mod Alike

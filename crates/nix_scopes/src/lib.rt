@@ -1,6 +1,7 @@
 //! The names that a text binds, and the binding that each name in it refers to.
 #![tactic(auto)]
 
+mod alike;
 mod environment;
 mod names;
 mod occurrences;

@@ -2,23 +2,36 @@
 
 ghost use Rattle.std.specs.Prelude.{◌≡◌, ◌++◌, map, IfOk, OnOk};
 ghost use Rattle.rnix_green.specs.Range.{bounds_of};
-ghost use Rattle.nix_scopes.specs.Occurrences.{written_at, referred_at, occurrences_of};
+ghost use Rattle.nix_scopes.specs.Occurrences.{identifier_of, IsNameAt, written_at, referred_at, occurrences_of};
 
 use crate::resolution::{Binding, Reference, Resolution};
-use rnix::{SyntaxKind, SyntaxNode, TextRange};
+use rnix::{SyntaxKind, SyntaxNode, SyntaxToken, TextRange, TokenAtOffset};
 use std::alloc::{AllocError, Global};
 
-/// The name at an offset, or right before it.
-pub fn name_at<'t>(root: &SyntaxNode<'t>, offset: usize) -> Option<SyntaxNode<'t>> {
-    let mut name = None;
-    for token in root.token_at_offset(offset) {
-        if let Some(node) = token.parent() {
-            if node.kind() == SyntaxKind::NODE_IDENT {
-                name = Some(node);
-            }
-        }
+// The identifier to which a token belongs, if it belongs to one.
+fn identifier<'t>(token: &SyntaxToken<'t>) -> Option<SyntaxNode<'t>>
+    ensures { result ≡ identifier_of token.now }
+{
+    let node = token.parent()?;
+    if node.kind() == SyntaxKind::NODE_IDENT {
+        Some(node)
+    } else {
+        None
     }
-    name
+}
+
+/// The name at an offset, or right before it.
+pub fn name_at<'t>(root: &SyntaxNode<'t>, offset: usize) -> Option<SyntaxNode<'t>>
+    ensures { IsNameAt root.now offset result }
+{
+    match root.token_at_offset(offset) {
+        TokenAtOffset::None => None,
+        TokenAtOffset::Single(token) => identifier(&token),
+        TokenAtOffset::Between(left, right) => match identifier(&right) {
+            Some(node) => Some(node),
+            None => identifier(&left),
+        },
+    }
 }
 
 // Adds where the binding of a number is written.

@@ -1,9 +1,12 @@
 //! What is bound in a text, and what its names refer to.
 
-ghost use Rattle.std.specs.Prelude.{◌≡◌};
+ghost use Rattle.std.specs.Prelude.{◌≡◌, option_map};
 ghost use Rattle.nix_scopes.specs.Bound.{bindings_of, references_of};
+ghost use Rattle.rnix_green.specs.Range.{bounds_of};
+ghost use Rattle.rnix_green.specs.Tree.{extent_of};
+ghost use Rattle.nix_scopes.specs.Occurrences.{is_at, binding_at, number_at, written_number, referred_number};
 
-use rnix::SyntaxNode;
+use rnix::{SyntaxNode, TextRange};
 
 /// A name that a scope binds: a `let`, a `rec` set or a lambda.
 #[derive(Drop)]
@@ -58,53 +61,51 @@ impl<'t> Resolution<'t> {
 
     /// The binding that a node writes, or that it refers to; its first part, where it has several. What is bound by an `inherit` is both,
     /// and answers what it binds.
-    pub fn binding_at(&self, node: &SyntaxNode<'_>) -> Option<&Binding<'t>> {
+    pub fn binding_at(&self, node: &SyntaxNode<'_>) -> Option<&Binding<'t>>
+        ensures { option_map (λ binding. binding.now) result ≡ binding_at self.now (extent_of node.now) }
+    {
         self.bindings.get(self.number_at(node)?)
     }
 
     // The number of the binding that a node writes, or that it refers to.
-    fn number_at(&self, node: &SyntaxNode<'_>) -> Option<usize> {
-        for binding in &self.bindings {
-            if binding.node.text_range() == node.text_range() {
-                return Some(binding.first);
-            }
+    fn number_at(&self, node: &SyntaxNode<'_>) -> Option<usize>
+        ensures { result ≡ number_at self.now (extent_of node.now) }
+    {
+        match written_number(&self.bindings, node.text_range()) {
+            Some(number) => Some(number),
+            None => referred_number(&self.references, node.text_range()),
         }
-        self.referred_at(node)
-    }
-
-    // The number of the binding that a node refers to.
-    fn referred_at(&self, node: &SyntaxNode<'_>) -> Option<usize> {
-        for reference in &self.references {
-            if reference.node.text_range() == node.text_range() {
-                return reference.binding;
-            }
-        }
-        None
-    }
-
-    /// Whether two texts have as many bindings and references, and those of one number refer to the bindings of one number.
-    pub fn is_like(&self, other: &Resolution<'_>) -> bool {
-        are_bound_alike(&self.bindings, &other.bindings)
-            && refer_alike(&self.references, &other.references)
     }
 }
 
-// Whether there are as many bindings, and the same of them bind a name again.
-fn are_bound_alike(bindings: &[Binding<'_>], others: &[Binding<'_>]) -> bool {
-    for (binding, other) in bindings.iter().zip(others.iter()) {
-        if binding.first != other.first {
-            return false;
-        }
-    }
-    bindings.len() == others.len()
+// Whether a node is at a place.
+fn is_at(node: &SyntaxNode<'_>, place: TextRange) -> bool
+    ensures { result ≡ is_at (bounds_of place) node.now }
+{
+    let range = node.text_range();
+    range.start() == place.start() && range.end() == place.end()
 }
 
-// Whether there are as many references, and they refer to the same bindings.
-fn refer_alike(references: &[Reference<'_>], others: &[Reference<'_>]) -> bool {
-    for (reference, other) in references.iter().zip(others.iter()) {
-        if reference.binding != other.binding {
-            return false;
+// The number of the binding that is written at a place.
+fn written_number(bindings: &[Binding<'_>], place: TextRange) -> Option<usize>
+    ensures { result ≡ written_number (bounds_of place) bindings.now }
+{
+    for binding in bindings {
+        if is_at(&binding.node, place) {
+            return Some(binding.first);
         }
     }
-    references.len() == others.len()
+    None
+}
+
+// The number of the binding to which the reference at a place refers.
+fn referred_number(references: &[Reference<'_>], place: TextRange) -> Option<usize>
+    ensures { result ≡ referred_number (bounds_of place) references.now }
+{
+    for reference in references {
+        if is_at(&reference.node, place) {
+            return reference.binding;
+        }
+    }
+    None
 }

@@ -1,0 +1,7 @@
+use Rattle.std.proofs.Common.{◌≡◌, drop}
+use Rattle.rnix_green.specs.Range.{bounds_of}
+use Rattle.nix_scopes.specs.Occurrences.{written_number}
+use Rattle.nix_scopes.proofs.resolution.written_number.Given as goal
+
+abbrev pub invariant-loop-binding : goal.invariant-loop-binding
+invariant-loop-binding l = written_number (bounds_of l.place) l.bindings ≡ written_number (bounds_of l.place) (drop l.binding-index l.bindings)

@@ -1,0 +1,73 @@
+-- What a resolution finds in a text, and when another text resolves alike, in which one binding has a new name.
+use Rattle.std.specs.Prelude.{◌≡◌, ℕ, ◌+◌, ◌*◌, nat_eq, nat_le, List, length, map, if◌then◌else◌}
+use Rattle.std.specs.List.{AllZip, filter}
+use Rattle.rnix_green.specs.Range.{Extent}
+use Rattle.rnix_green.specs.Tree.{Located, extent_of}
+use Rattle.nix_scopes.specs.declared.resolution.Binding.{Binding}
+use Rattle.nix_scopes.specs.declared.resolution.Reference.{Reference}
+use Rattle.nix_scopes.specs.declared.resolution.Resolution.{Resolution}
+use Rattle.nix_scopes.specs.declared.alike.NewName.{NewName}
+use Rattle.nix_scopes.specs.Scopes.{bindings_in, resolved_in}
+use Rattle.nix_scopes.specs.Bound.{bindings_of, references_of, bound_of, resolved_of, AreFirst}
+use Rattle.nix_scopes.specs.Occurrences.{is_number, occurrences_of}
+
+-- what `resolve` finds inside a node
+pub record IsResolution (root : Located) (names : Resolution) : Type 0 where
+  pub bindings : map bound_of (bindings_of names) ≡ bindings_in root
+  pub firsts : AreFirst (bindings_of names)
+  pub resolved : map resolved_of (references_of names) ≡ resolved_in root
+
+-- a new name for the binding of a number, the length of the old one, and how many of its occurrences end at an offset or before it
+pub record Rename : Type 0 where
+  pub number : ℕ
+  pub name : List ℕ
+  pub old : ℕ
+  pub ended : ℕ → ℕ
+
+-- how many of these ends are the offset or before it
+abbrev pub ended_by : List ℕ → ℕ → ℕ
+ended_by ends offset = length (filter (λ end. nat_le end offset) ends)
+
+-- a new name, from its parts
+abbrev pub rename_of : ℕ → ℕ → List ℕ → (ℕ → ℕ) → Rename
+rename_of number old name ended = record { number = number; name = name; old = old; ended = ended }
+
+-- the new name of the program
+abbrev pub rename_by : NewName → Rename
+rename_by new = rename_of new.number new.old new.text.now (ended_by new.ends.items)
+
+-- a new name for the binding of a number, in place of one of this length
+abbrev pub rename_in : Resolution → ℕ → ℕ → List ℕ → Rename
+rename_in names number old name = rename_of number old name (ended_by (map (λ place. place.end) (occurrences_of number names)))
+
+-- the offset moves to the other one: by the difference of the lengths for each occurrence that ends at it or before it
+abbrev pub IsMovedBy : ℕ → ℕ → ℕ → ℕ → ℕ → Type 0
+IsMovedBy ended old new from to = to + ended * old ≡ from + ended * new
+
+-- the same with a new name
+abbrev pub IsMoved : Rename → ℕ → ℕ → Type 0
+IsMoved rename from to = IsMovedBy (rename.ended from) rename.old (length rename.name) from to
+
+-- a node is moved to the other one
+abbrev pub IsNodeMoved : Rename → Located → Located → Type 0
+IsNodeMoved rename from to = IsMoved rename (extent_of from).start (extent_of to).start × IsMoved rename (extent_of from).end (extent_of to).end
+
+-- the other binding is the same one in the other text, with the new name if its number is that of the new name
+pub record IsBoundAlike (rename : Rename) (binding other : Binding) : Type 0 where
+  pub text : other.text.now ≡ (if nat_eq binding.first rename.number then rename.name else binding.text.now)
+  pub first : other.first ≡ binding.first
+  pub node : IsNodeMoved rename binding.node other.node
+  pub scope : IsNodeMoved rename binding.scope other.scope
+
+-- the other reference is the same one in the other text and refers to the same binding, by the new name if its number is that of the new name
+pub record RefersAlike (rename : Rename) (reference other : Reference) : Type 0 where
+  pub text : other.text.now ≡ (if is_number rename.number reference.binding then rename.name else reference.text.now)
+  pub binding : other.binding ≡ reference.binding
+  pub is_inherited : other.is_inherited ≡ reference.is_inherited
+  pub is_open : other.is_open ≡ reference.is_open
+  pub node : IsNodeMoved rename reference.node other.node
+
+-- another text has the same bindings and references, one for one, at the corresponding places
+pub record AreAlike (rename : Rename) (names others : Resolution) : Type 0 where
+  pub bindings : AllZip (IsBoundAlike rename) (bindings_of names) (bindings_of others)
+  pub references : AllZip (RefersAlike rename) (references_of names) (references_of others)
