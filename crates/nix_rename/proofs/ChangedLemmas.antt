@@ -1,8 +1,8 @@
 -- Changes of places of a text, one after the other.
-use Rattle.std.proofs.{Common.{◌≡◌, ℕ, ◌≤◌, ◌<◌, suc, List, [], ◌∷◌, ◌++◌, length, map, sym, subst, ◌∙◌, arith}, lemmas.List.{map-append, Elements.All-push}}
-use Rattle.std.{proofs.lemmas.List.Sorted.{IsPermutation-sym, IsPermutation-middle, IsPermutation-push_more}, specs.{Prelude.slice_range, List.All}}
-use Rattle.{std.specs.List.Sorted.IsPermutation, rnix_green.specs.Range.Extent, rnix_text.specs.Changes.{Change, Draft, AreAscending, IsAdded, replacing}}
-use Rattle.nix_rename.specs.Renamed.{StandsAt, change_at}
+use Rattle.std.proofs.{Common.{◌≡◌, ℕ, ◌≤◌, ◌<◌, suc, List, [], ◌∷◌, ◌++◌, length, get_or, take, map, Some, inl, inr, refl, ap, sym, subst, ◌∙◌, arith}, lemmas.{List.{map-append, get_or-map, get_or-take, length-map, length-take-le, Elements.{All-push, Contains-append_right}}, Option.slice_get-get_or}}
+use Rattle.std.{proofs.lemmas.List.Sorted.{IsPermutation-sym, IsPermutation-middle, IsPermutation-push_more, Contains-permutation}, specs.{Prelude.◌⊎◌, List.{All, Contains}}}
+use Rattle.{std.specs.List.Sorted.IsPermutation, rnix_green.specs.Range.Extent, rnix_text.specs.Changes.{Change, Draft, AreAscending, IsAdded, IsMet}}
+use Rattle.nix_rename.specs.Changed.{StandsAt, change_at, IsElsewhere, DoOverlap, IsUnchangeable}
 
 -- the rest of a list of which something holds
 rest_all : (P : Change → Type 0) (c : Change) (cs : List Change) → All P (c ∷ cs) → All P cs
@@ -42,7 +42,7 @@ pub record IsDrafted (text : List ℕ) (places : List Extent) (old new : List �
   pub each_old : All (StandsAt text old) places
 
 -- the changes of one place more
-drafted_more : (text : List ℕ) (places more : List Extent) (place : Extent) (old new : List ℕ) (before after : Draft) →
+pub drafted_more : (text : List ℕ) (places more : List Extent) (place : Extent) (old new : List ℕ) (before after : Draft) →
     IsDrafted text places old new before → more ≡ places ++ place ∷ [] → place.start ≤ place.end → StandsAt text old place →
     after.text ≡ before.text → IsAdded (change_at new place) before.changes after.changes → IsDrafted text more old new after
 drafted_more text places more place old new before after is more_is order stands same added =
@@ -54,18 +54,44 @@ drafted_more text places more place old new before after is more_is order stands
       each_old = All-push (StandsAt text old) places place is.each_old stands;
     })
 
--- the changes of one place more, at whose start and end the text was found that is the old name
-pub drafted_found : (text : List ℕ) (places more : List Extent) (place : Extent) (start end : ℕ) (found old new : List ℕ)
-    (before after : Draft) → IsDrafted text places old new before → more ≡ places ++ place ∷ [] → start ≡ place.start → end ≡ place.end →
-    place.start ≤ end → end ≤ length text → found ≡ slice_range text start end → found ≡ old → after.text ≡ before.text →
-    IsAdded (replacing start end new) before.changes after.changes → IsDrafted text more old new after
-drafted_found text places more place start end found old new before after is more_is start_is end_is order inside found_is same unchanged added =
-    let stands : slice_range text start end ≡ old = sym found_is ∙ same in
-    drafted_more text places more place old new before after is more_is
-    (subst (λ n. place.start ≤ n) end_is order) (
-      subst (λ n. n ≤ length text) end_is inside,
-      subst (λ n. slice_range text place.start n ≡ old) end_is (subst (λ n. slice_range text n end ≡ old) start_is stands),
-    )
-    unchanged
-    (subst (λ n. IsAdded (replacing place.start n new) before.changes after.changes) end_is
-    (subst (λ n. IsAdded (replacing n end new) before.changes after.changes) start_is added))
+-- a change is one of those among which it is
+met_contained : (cs front back : List Change) (c : Change) → cs ≡ front ++ c ∷ back → Contains cs c
+met_contained cs front back c is =
+    subst (λ xs. Contains xs c) (sym is) (Contains-append_right front (c ∷ back) c (0, omega arith, refl))
+
+-- a place overlaps one of those before it
+met_before : (places so_far : List Extent) (place : Extent) (new : List ℕ) (i : ℕ) (cs : List Change) → so_far ≡ take i places →
+    i < length places → get_or places i place ≡ place → IsPermutation (map (change_at new) so_far) cs → IsMet place.start place.end cs → DoOverlap places
+met_before places so_far place new i cs so_far_is there place_is same met =
+    let found : Contains (map (change_at new) so_far) met.change =
+    Contains-permutation cs (map (change_at new) so_far) met.change (IsPermutation-sym _ _ same) (met_contained cs met.front met.back met.change met.is) in
+    let k = found.0 in
+    let count : length so_far ≡ i = ap length so_far_is ∙ length-take-le i places (omega (arith, there)) in
+    let before : k < length so_far = omega (arith, found.1, length-map so_far (change_at new)) in
+    let other = get_or places k place in
+    let other_is : get_or so_far k place ≡ other =
+    ap (λ xs. get_or xs k place) so_far_is ∙ get_or-take i places k place (omega (arith, before, count)) in
+    let at : change_at new other ≡ met.change =
+    sym (get_or-map (change_at new) so_far k place met.change before ∙ ap (change_at new) other_is) ∙ found.2 in
+    record {
+      first = k;
+      second = i;
+      place = other;
+      other = place;
+      order = omega (arith, before, count);
+      first_is = slice_get-get_or places k place (omega (arith, before, count, there));
+      second_is = slice_get-get_or places i place there ∙ ap Some place_is;
+      overlap = (
+        subst (λ n. n < place.end) (sym (ap (λ (c : Change). c.start) at)) met.overlaps.1,
+        subst (λ n. place.start < n) (sym (ap (λ (c : Change). c.end) at)) met.overlaps.0,
+      );
+    }
+
+-- a place at which the old name does not stand, or which overlaps one of the places before it
+pub unfit_found : (text : List ℕ) (places so_far : List Extent) (place : Extent) (old new : List ℕ) (i : ℕ) (draft : Draft) → so_far ≡ take i places →
+    i < length places → get_or places i place ≡ place → IsDrafted text so_far old new draft →
+    (IsElsewhere text old place ⊎ IsMet place.start place.end draft.changes) → IsUnchangeable text places old
+unfit_found text places so_far place old new i draft so_far_is there place_is is (inl elsewhere) =
+    inl (record { place = place; is_one = (i, there, place_is); elsewhere = elsewhere })
+unfit_found text places so_far place old new i draft so_far_is there place_is is (inr met) =
+    inr (met_before places so_far place new i draft.changes so_far_is there place_is is.exactly met)

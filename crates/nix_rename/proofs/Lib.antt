@@ -1,1 +1,2 @@
 pub mod ChangedLemmas
+pub mod RenamedLemmas

@@ -1,22 +1,131 @@
--- What a renaming writes: a text in which another name stands at each of some places.
-use Rattle.std.specs.Prelude.{◌≡◌, ℕ, ◌≤◌, List, length, map, slice_range}
-use Rattle.std.specs.List.{All}
-use Rattle.std.specs.List.Sorted.{IsPermutation}
-use Rattle.rnix_green.specs.Range.{Extent}
-use Rattle.rnix_text.specs.Changes.{Change, AreAscending, changed_from, replacing}
+-- What a renaming writes, and why it writes nothing.
+use Rattle.std.specs.Prelude.{◌≡◌, ◌&&◌, ℕ, Bool, true, false, List, [], length, Option, Some, None, string_bytes}
+use Rattle.std.specs.Str.{bytes_eq}
+use Rattle.rnix_kinds.specs.Lexical.Tokens.{tokens_of}
+use Rattle.rnix_kinds.specs.declared.kinds.SyntaxKind.TheVariants as k
+use Rattle.rnix_green.specs.Equality.{same_kind}
+use Rattle.rnix_green.specs.Tree.{Located, item_of, extent_of, text_at}
+use Rattle.rnix_base.specs.Select.{child_of}
+use Rattle.rnix_grammar.specs.Parsed.{IsParsed}
+use Rattle.rnix.specs.NodeKinds.{is_expr}
+use Rattle.rnix.specs.Reading.{Reading, root_of}
+use Rattle.nix_scopes.specs.declared.resolution.Binding.{Binding}
+use Rattle.nix_scopes.specs.declared.resolution.Resolution.{Resolution}
+use Rattle.nix_scopes.specs.Occurrences.{IsNameAt, binding_at, occurrences_of}
+use Rattle.nix_scopes.specs.Alike.{IsResolution, AreAlike, rename_in}
+use Rattle.nix_rename.specs.declared.refusal.Refusal.{Refusal}
+use Rattle.nix_rename.specs.declared.refusal.Refusal.TheVariants as refusal
+use Rattle.nix_rename.specs.declared.rename.Renaming.{Renaming}
+use Rattle.nix_rename.specs.declared.rename.Renaming.TheVariants as renaming
+use Rattle.nix_rename.specs.Refused.{kept_name}
+use Rattle.nix_rename.specs.Changed.{IsChanged, IsUnchangeable}
 
--- a name stands at a place of the text
-abbrev pub StandsAt : List ℕ → List ℕ → Extent → Type 0
-StandsAt text name place = (place.end ≤ length text) × (slice_range text place.start place.end ≡ name)
+-- the reading of a text
+abbrev pub IsRead : List ℕ → Reading → Type 0
+IsRead text read = IsParsed (tokens_of text) read.tree read.faults
 
--- the change of a place into a new name
-abbrev pub change_at : List ℕ → Extent → Change
-change_at new place = replacing place.start place.end new
+-- whether a node is a name, and the whole of a text
+abbrev pub is_whole_name : Located → List ℕ → Bool
+is_whole_name e text = same_kind (item_of e).kind k.NODE_IDENT && bytes_eq (text_at e) text
 
--- the text in which a new name stands in place of the old one at exactly these places, and all else as it was
-pub record IsChanged (text : List ℕ) (places : List Extent) (old new made : List ℕ) : Type 0 where
-  pub changes : List Change
-  pub exactly : IsPermutation (map (change_at new) places) changes
-  pub ascending : AreAscending 0 changes
-  pub each_old : All (StandsAt text old) places
-  pub made_is : made ≡ changed_from 0 changes text
+-- whether there is a node, and it is a name and the whole of a text
+abbrev pub is_name_whole : Option Located → List ℕ → Bool
+is_name_whole None text = false
+is_name_whole (Some e) text = is_whole_name e text
+
+-- a text that is read so is a name and nothing else
+abbrev pub IsNameIn : Reading → List ℕ → Type 0
+IsNameIn read text = (read.faults ≡ []) × (is_name_whole (child_of is_expr 0 (root_of read)) text ≡ true)
+
+-- a text is a name and nothing else
+pub record IsName (text : List ℕ) : Type 0 where
+  pub read : Reading
+  pub is_read : IsRead text read
+  pub is_name : IsNameIn read text
+
+-- a text is no name, or not only one
+pub record IsNoName (text : List ℕ) : Type 0 where
+  pub read : Reading
+  pub is_read : IsRead text read
+  pub is_none : ¬ IsNameIn read text
+
+-- the bindings and references of a text are these, one for one, at the corresponding places, with a new name for the binding
+abbrev pub AreThese : Resolution → Binding → List ℕ → Resolution → Type 0
+AreThese names binding new others = AreAlike (rename_in names binding.first (length binding.text.now) new) names others
+
+-- a text is read without errors, and has the same bindings and references as these names
+pub record ResolvesLike (names : Resolution) (binding : Binding) (new text : List ℕ) : Type 0 where
+  pub read : Reading
+  pub is_read : IsRead text read
+  pub errors : read.faults ≡ []
+  pub others : Resolution
+  pub found : IsResolution (root_of read) others
+  pub alike : AreThese names binding new others
+
+-- a text is read with errors, or has other bindings or references than these names
+pub record ResolvesUnlike (names : Resolution) (binding : Binding) (new text : List ℕ) : Type 0 where
+  pub read : Reading
+  pub is_read : IsRead text read
+  pub others : Resolution
+  pub found : IsResolution (root_of read) others
+  pub unlike : ¬ ((read.faults ≡ []) × AreThese names binding new others)
+
+-- the text in which a binding that may be renamed has a new name at exactly its occurrences, and which, read again, resolves as before
+pub record IsNamed (text : List ℕ) (names : Resolution) (binding : Binding) (new made : List ℕ) : Type 0 where
+  pub free : kept_name binding.first names ≡ None
+  pub changed : IsChanged text (occurrences_of binding.first names) binding.text.now new made
+  pub alike : ResolvesLike names binding new made
+
+-- the text in which a binding has a new name has errors, or does not resolve as before
+pub record IsUnlike (text : List ℕ) (names : Resolution) (binding : Binding) (new : List ℕ) : Type 0 where
+  pub made : List ℕ
+  pub changed : IsChanged text (occurrences_of binding.first names) binding.text.now new made
+  pub unlike : ResolvesUnlike names binding new made
+
+-- why a binding gets no new name
+abbrev pub IsReason : Refusal → List ℕ → Resolution → Binding → List ℕ → Type 0
+IsReason (refusal.Kept kept) text names binding new = kept_name binding.first names ≡ Some kept
+IsReason refusal.OtherSpelling text names binding new = IsUnchangeable text (occurrences_of binding.first names) binding.text.now
+IsReason refusal.OtherMeaning text names binding new = IsUnlike text names binding new
+IsReason _ text names binding new = ⊥
+
+-- what the name at an offset refers to is this binding, if there is one
+pub record IsMeant (root : Located) (offset : ℕ) (names : Resolution) (binding : Option Binding) : Type 0 where
+  pub found : IsResolution root names
+  pub name : Located
+  pub at_offset : IsNameAt root offset (Some name)
+  pub is_binding : binding_at names (extent_of name) ≡ binding
+
+-- the text in which the binding of the name at an offset has a new name
+pub record IsRenamed (text : List ℕ) (root : Located) (offset : ℕ) (new made : List ℕ) : Type 0 where
+  pub is_name : IsName new
+  pub names : Resolution
+  pub binding : Binding
+  pub meant : IsMeant root offset names (Some binding)
+  pub named : IsNamed text names binding new made
+
+-- why the binding of the name at an offset gets no new name
+pub record IsHindered (refusal : Refusal) (text : List ℕ) (root : Located) (offset : ℕ) (new : List ℕ) : Type 0 where
+  pub names : Resolution
+  pub binding : Binding
+  pub meant : IsMeant root offset names (Some binding)
+  pub reason : IsReason refusal text names binding new
+
+-- why the name at an offset is not renamed
+abbrev pub IsCause : Refusal → List ℕ → Located → ℕ → List ℕ → Type 0
+IsCause refusal.NotAName text root offset new = IsNoName new
+IsCause refusal.NoName text root offset new = IsNameAt root offset None
+IsCause refusal.Unbound text root offset new = (names : Resolution) × IsMeant root offset names None
+IsCause (refusal.Kept kept) text root offset new = IsHindered (refusal.Kept kept) text root offset new
+IsCause refusal.OtherSpelling text root offset new = IsHindered refusal.OtherSpelling text root offset new
+IsCause refusal.OtherMeaning text root offset new = IsHindered refusal.OtherMeaning text root offset new
+
+-- P holds of the new text, if there is one
+abbrev pub IfRenamed : (List ℕ → Type 0) → Renaming → Type 0
+IfRenamed P (renaming.Renamed made) = P (string_bytes made)
+IfRenamed P (renaming.Refused refusal) = Unit {0}
+
+-- P holds of the refusal, if there is one
+abbrev pub IfRefused : (Refusal → Type 0) → Renaming → Type 0
+IfRefused P (renaming.Renamed made) = Unit {0}
+IfRefused P (renaming.Refused refusal) = P refusal

@@ -2,6 +2,7 @@
 //! that place is bound to NAME. It refuses where that would change what some name means.
 #![tactic(auto)]
 
+mod refusal;
 mod rename;
 
 use nix_cli::{

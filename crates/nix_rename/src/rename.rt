@@ -1,11 +1,17 @@
 //! The text in which a name is renamed with its binding.
 
-ghost use Rattle.std.specs.Prelude.{map, IfOk, IfSome, string_bytes};
+ghost use Rattle.std.specs.Prelude.{◌≡◌, map, string_bytes, IfOk, IfSome, IfNone};
+ghost use Rattle.std.specs.Bool.{MatchBool};
 ghost use Rattle.rnix_green.specs.Range.{bounds_of};
-ghost use Rattle.nix_rename.specs.Renamed.{IsChanged};
+ghost use Rattle.rnix_base.specs.Select.{child_of};
+ghost use Rattle.rnix.specs.NodeKinds.{is_expr};
+ghost use Rattle.nix_rename.specs.Changed.{IsChanged, IsUnchangeable, IsPlaceTested};
+ghost use Rattle.nix_rename.specs.Renamed.{is_whole_name, is_name_whole, IsName, IsNoName, ResolvesLike, ResolvesUnlike};
+ghost use Rattle.nix_rename.specs.Renamed.{IsNamed, IsReason, IsRenamed, IsCause, IfRenamed, IfRefused};
 
+use crate::refusal::{Refusal, kept_name};
 use nix_scopes::{Binding, Resolution, name_at, resolve};
-use rnix::ast::{AstNode, Expr};
+use rnix::ast::AstNode;
 use rnix::{Root, SyntaxKind, SyntaxNode, TextRange};
 use rnix_text::{EditError, Edits};
 use std::alloc::{AllocError, Global};
@@ -14,46 +20,56 @@ use std::alloc::{AllocError, Global};
 #[derive(Drop)]
 pub enum Renaming {
     Renamed(String),
-    Refused(&'static str),
+    Refused(Refusal),
+}
+
+// Whether a node is a name, and the whole of a text.
+fn is_whole_name(node: &SyntaxNode<'_>, text: &str) -> bool
+    ensures { result ≡ is_whole_name node.now text.now }
+{
+    node.kind() == SyntaxKind::NODE_IDENT && node.text() == text
+}
+
+// Whether the expression of a tree is a name, and the whole of a text.
+fn is_name_whole(root: &Root<'_>, text: &str) -> bool
+    ensures { result ≡ is_name_whole (child_of is_expr 0 root.now) text.now }
+{
+    match root.expr() {
+        Some(expr) => is_whole_name(expr.syntax(), text),
+        None => false,
+    }
 }
 
 // Whether a text is a name and nothing else.
-fn is_name(alloc: Global, text: &str) -> Result<bool, AllocError> {
+fn is_name(alloc: Global, text: &str) -> Result<bool, AllocError>
+    ensures { IfOk result (λ passes. MatchBool passes (IsName text.now) (IsNoName text.now)) }
+{
     let read = Root::parse(alloc, text)?;
-    let Ok(root) = read.ok() else {
-        return Ok(false);
-    };
-    Ok(match root.expr() {
-        Some(Expr::Ident(ident)) => ident.syntax().text() == text,
-        _ => false,
-    })
+    let is_whole = is_name_whole(&read.tree(), text);
+    Ok(is_whole && read.errors().is_empty())
 }
 
-// Why a part of a binding cannot be renamed, if it cannot.
-fn fixed(part: &Binding<'_>) -> Option<&'static str> {
-    match (part.node.parent()?.kind(), part.scope.kind()) {
-        (SyntaxKind::NODE_INHERIT, _) => Some("the name is inherited: give it its own entry first"),
-        (SyntaxKind::NODE_PAT_ENTRY, _) => Some("callers give this argument by its name"),
-        (_, SyntaxKind::NODE_ATTR_SET) => Some("the name is an attribute of a set"),
-        _ if part.node.kind() != SyntaxKind::NODE_IDENT => Some("the name is written in quotes"),
-        (_, SyntaxKind::NODE_LEGACY_LET) if part.text == "body" => {
-            Some("the old `let` needs its `body`")
-        }
-        _ => None,
+// Adds the change of a place, if the old name stands there and the place overlaps no other one that is changed.
+fn add_change(
+    edits: &mut Edits<'_>,
+    text: &str,
+    place: TextRange,
+    old: &str,
+    new: &str,
+) -> Result<bool, AllocError>
+    requires { edits.old.text ≡ text.now }
+    ensures text { edits.new.text ≡ edits.old.text }
+    ensures tested { IfOk result (λ is_added. IsPlaceTested text.now (bounds_of place) old.now new.now edits.old.changes edits.new.changes is_added) }
+{
+    let (start, end) = (place.start(), place.end());
+    match text.get(start..end) {
+        Some(found) if found == old => match edits.replace(start..end, new) {
+            Ok(()) => Ok(true),
+            Err(EditError::Memory) => Err(AllocError),
+            Err(_) => Ok(false),
+        },
+        _ => Ok(false),
     }
-}
-
-// Why the binding of a number cannot be renamed, if it cannot.
-fn refusal(names: &Resolution<'_>, number: usize) -> Option<&'static str> {
-    let mut parts = names.bindings().iter().filter(|part| part.first == number);
-    if let Some(reason) = parts.find_map(|part| fixed(part)) {
-        return Some(reason);
-    }
-    let mut references = names.references().iter();
-    if references.any(|name| name.is_inherited && name.binding == Some(number)) {
-        return Some("a set inherits the name: give it its own entry first");
-    }
-    None
 }
 
 // The text with a new name at these places, if the old one stands at each of them.
@@ -63,30 +79,60 @@ fn changed(
     places: &[TextRange],
     old: &str,
     new: &str,
-) -> Result<Option<String>, EditError>
-    ensures { IfOk result (λ made. IfSome made (λ made.
+) -> Result<Option<String>, AllocError>
+    ensures changed { IfOk result (λ made. IfSome made (λ made.
         IsChanged text.now (map bounds_of places.now) old.now new.now (string_bytes made))) }
+    ensures unchanged { IfOk result (λ made. IfNone made (IsUnchangeable text.now (map bounds_of places.now) old.now)) }
 {
     let mut edits = Edits::new(alloc, text);
     for place in places {
-        let (start, end) = (place.start(), place.end());
-        match text.get(start..end) {
-            Some(found) if found == old => edits.replace(start..end, new)?,
-            _ => return Ok(None),
+        if !add_change(&mut edits, text, *place, old, new)? {
+            return Ok(None);
         }
     }
     Ok(Some(edits.apply(alloc)?))
 }
 
-// A new text, if it is without errors and each name in it refers to what it referred to before.
-fn checked(alloc: Global, names: &Resolution<'_>, text: String) -> Result<Renaming, EditError> {
-    let read = Root::parse(alloc, text.as_str())?;
-    let is_like = resolve(alloc, &read.syntax())?.is_like(names);
-    Ok(if read.errors().is_empty() && is_like {
-        Renaming::Renamed(text)
+// Whether a text has no errors, and the same bindings and references as these, with a new name for one of the bindings.
+fn resolves_like(
+    alloc: Global,
+    names: &Resolution<'_>,
+    binding: &Binding<'_>,
+    new: &str,
+    text: &str,
+) -> Result<bool, AllocError>
+    ensures { IfOk result (λ passes. MatchBool passes (ResolvesLike names.now binding.now new.now text.now)
+        (ResolvesUnlike names.now binding.now new.now text.now)) }
+{
+    let read = Root::parse(alloc, text)?;
+    let others = resolve(alloc, &read.syntax())?;
+    let is_like = names.is_like(alloc, &others, binding.first, binding.text.len(), new)?;
+    Ok(is_like && read.errors().is_empty())
+}
+
+// The text in which a binding has a new name.
+fn named(
+    alloc: Global,
+    text: &str,
+    names: &Resolution<'_>,
+    binding: &Binding<'_>,
+    new: &str,
+) -> Result<Renaming, AllocError>
+    ensures named { IfOk result (IfRenamed (IsNamed text.now names.now binding.now new.now)) }
+    ensures refused { IfOk result (IfRefused (λ refusal. IsReason refusal text.now names.now binding.now new.now)) }
+{
+    if let Some(kept) = kept_name(names, binding.first) {
+        return Ok(Renaming::Refused(Refusal::Kept(kept)));
+    }
+    let places = names.occurrences(alloc, binding.first)?;
+    let Some(made) = changed(alloc, text, &places, binding.text, new)? else {
+        return Ok(Renaming::Refused(Refusal::OtherSpelling));
+    };
+    if resolves_like(alloc, names, binding, new, made.as_str())? {
+        Ok(Renaming::Renamed(made))
     } else {
-        Renaming::Refused("with the new name, some name would refer to something else")
-    })
+        Ok(Renaming::Refused(Refusal::OtherMeaning))
+    }
 }
 
 /// The text in which what the name at an offset refers to is renamed. It is refused where the text binds no such name, where others see
@@ -97,23 +143,19 @@ pub fn rename(
     root: &SyntaxNode<'_>,
     offset: usize,
     new: &str,
-) -> Result<Renaming, EditError> {
+) -> Result<Renaming, AllocError>
+    ensures renamed { IfOk result (IfRenamed (IsRenamed text.now root.now offset new.now)) }
+    ensures refused { IfOk result (IfRefused (λ refusal. IsCause refusal text.now root.now offset new.now)) }
+{
     if !is_name(alloc, new)? {
-        return Ok(Renaming::Refused("NAME is not a name"));
+        return Ok(Renaming::Refused(Refusal::NotAName));
     }
     let Some(node) = name_at(root, offset) else {
-        return Ok(Renaming::Refused("no name stands there"));
+        return Ok(Renaming::Refused(Refusal::NoName));
     };
     let names = resolve(alloc, root)?;
     let Some(binding) = names.binding_at(&node) else {
-        return Ok(Renaming::Refused("nothing in the text binds the name"));
+        return Ok(Renaming::Refused(Refusal::Unbound));
     };
-    if let Some(reason) = refusal(&names, binding.first) {
-        return Ok(Renaming::Refused(reason));
-    }
-    let places = names.occurrences(alloc, binding.first)?;
-    match changed(alloc, text, &places, binding.text, new)? {
-        Some(made) => checked(alloc, &names, made),
-        None => Ok(Renaming::Refused("the name is written in another way at some place")),
-    }
+    named(alloc, text, &names, binding, new)
 }

@@ -1,7 +1,7 @@
 -- The binding and the reference of `let x=1;in x` (without spaces) in which x is named yy, by computation.
 use Rattle.std.proofs.Common.{◌≡◌, List, ℕ, [], ◌∷◌, length, Option, Some, None, false, refl, ap, arith, codes}
 use Rattle.rnix_kinds.specs.declared.kinds.SyntaxKind.TheVariants as k
-use Rattle.rnix_green.specs.{Forest.{Forest, empty, leaf, node}, Tree.{Tree, Located}}
+use Rattle.rnix_green.specs.{Forest.{Forest, empty, leaf, node}, Tree.Tree}
 use Rattle.nix_scopes.specs.declared.resolution.{Binding.Binding, Reference.Reference}
 use Rattle.nix_scopes.specs.{Alike.{Rename, ended_by, IsBoundAlike, RefersAlike}, Occurrences.{written_number, referred_number}}
 

@@ -1,7 +1,6 @@
 -- What a resolution finds in a text, and when another text resolves alike, in which one binding has a new name.
 use Rattle.std.specs.Prelude.{◌≡◌, ℕ, ◌+◌, ◌*◌, nat_eq, nat_le, List, length, map, if◌then◌else◌}
 use Rattle.std.specs.List.{AllZip, filter}
-use Rattle.rnix_green.specs.Range.{Extent}
 use Rattle.rnix_green.specs.Tree.{Located, extent_of}
 use Rattle.nix_scopes.specs.declared.resolution.Binding.{Binding}
 use Rattle.nix_scopes.specs.declared.resolution.Reference.{Reference}

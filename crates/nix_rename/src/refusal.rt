@@ -1,0 +1,155 @@
+//! Why a name is not renamed.
+
+ghost use Rattle.std.specs.Prelude.{◌≡◌};
+ghost use Rattle.std.specs.List.{list_any};
+ghost use Rattle.nix_scopes.specs.Bound.{bound_of};
+ghost use Rattle.nix_rename.specs.Refused.{kept_text, refusal_text, kept_in, kept_part, kept_among, inherits, kept_name};
+
+use nix_scopes::{Binding, Reference, Resolution};
+use rnix::SyntaxKind;
+use std::fmt;
+
+/// Why a binding keeps its name.
+#[derive(Clone, Copy, PartialEq, Eq, Debug)]
+pub enum Kept {
+    /// An `inherit` binds it.
+    Inherited,
+    /// It is an argument that callers give by its name.
+    Argument,
+    /// It is an attribute of a set with `rec`.
+    Attribute,
+    /// It is written in quotes.
+    Quoted,
+    /// It is the `body` of an old `let`.
+    Body,
+    /// An `inherit` of a set or a `let` refers to it.
+    InheritedBySet,
+}
+
+/// Why a name is not renamed.
+#[derive(Clone, Copy, PartialEq, Eq, Debug)]
+pub enum Refusal {
+    /// The new name is no name.
+    NotAName,
+    /// There is no name at the offset.
+    NoName,
+    /// Nothing in the text binds the name.
+    Unbound,
+    /// The binding keeps its name.
+    Kept(Kept),
+    /// The old name is not what is written at one of the places.
+    OtherSpelling,
+    /// With the new name, the text does not resolve as before.
+    OtherMeaning,
+}
+
+impl Kept {
+    // The words for people.
+    fn text(self) -> &'static str
+        ensures { result.now ≡ kept_text self }
+    {
+        match self {
+            Kept::Inherited => "the name is inherited: give it its own entry first",
+            Kept::Argument => "callers give this argument by its name",
+            Kept::Attribute => "the name is an attribute of a set",
+            Kept::Quoted => "the name is written in quotes",
+            Kept::Body => "the old `let` needs its `body`",
+            Kept::InheritedBySet => "a set inherits the name: give it its own entry first",
+        }
+    }
+}
+
+impl Refusal {
+    // The words for people.
+    fn text(self) -> &'static str
+        ensures { result.now ≡ refusal_text self }
+    {
+        match self {
+            Refusal::NotAName => "NAME is not a name",
+            Refusal::NoName => "no name stands there",
+            Refusal::Unbound => "nothing in the text binds the name",
+            Refusal::Kept(kept) => kept.text(),
+            Refusal::OtherSpelling => "the name is written in another way at some place",
+            Refusal::OtherMeaning => "with the new name, some name would refer to something else",
+        }
+    }
+}
+
+impl fmt::Display for Refusal {
+    ghost use Rattle.std.specs.Prelude.{Some};
+    ghost use Rattle.nix_rename.specs.Refused.{refusal_text};
+
+    ghost output = { λ refusal. Some (refusal_text refusal) };
+
+    fn fmt<W: fmt::Write>(&self, f: &mut fmt::Formatter<W>) -> fmt::Result {
+        f.write_str(self.text())
+    }
+}
+
+// Why a part of a binding keeps its name, if it does, where the parent of its node is of this kind.
+fn kept_in(parent: SyntaxKind, part: &Binding<'_>) -> Option<Kept>
+    ensures { result ≡ kept_in parent (bound_of part.now) }
+{
+    let scope = part.scope.kind();
+    if parent == SyntaxKind::NODE_INHERIT {
+        Some(Kept::Inherited)
+    } else if parent == SyntaxKind::NODE_PAT_ENTRY {
+        Some(Kept::Argument)
+    } else if scope == SyntaxKind::NODE_ATTR_SET {
+        Some(Kept::Attribute)
+    } else if part.node.kind() != SyntaxKind::NODE_IDENT {
+        Some(Kept::Quoted)
+    } else if scope == SyntaxKind::NODE_LEGACY_LET && part.text == "body" {
+        Some(Kept::Body)
+    } else {
+        None
+    }
+}
+
+// The same, if it is a part of the binding of the number.
+fn kept_part(part: &Binding<'_>, number: usize) -> Option<Kept>
+    ensures { result ≡ kept_part number part.now }
+{
+    if part.first == number {
+        kept_in(part.node.parent()?.kind(), part)
+    } else {
+        None
+    }
+}
+
+// Why the first of these parts of the binding of a number keeps its name that does.
+fn kept_among(parts: &[Binding<'_>], number: usize) -> Option<Kept>
+    ensures { result ≡ kept_among number parts.now }
+{
+    for part in parts {
+        if let Some(kept) = kept_part(part, number) {
+            return Some(kept);
+        }
+    }
+    None
+}
+
+// Whether one of these references inherits the binding of a number.
+fn is_inherited(references: &[Reference<'_>], number: usize) -> bool
+    ensures { result ≡ list_any (inherits number) references.now }
+{
+    for reference in references {
+        if reference.is_inherited && reference.binding == Some(number) {
+            return true;
+        }
+    }
+    false
+}
+
+/// Why the binding of a number keeps its name, if it does.
+pub fn kept_name(names: &Resolution<'_>, number: usize) -> Option<Kept>
+    ensures { result ≡ kept_name number names.now }
+{
+    if let Some(kept) = kept_among(names.bindings(), number) {
+        return Some(kept);
+    }
+    if is_inherited(names.references(), number) {
+        return Some(Kept::InheritedBySet);
+    }
+    None
+}
