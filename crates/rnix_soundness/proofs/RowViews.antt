@@ -76,9 +76,9 @@ names_or r = false
 
 -- the name that a pattern is bound to follows `@` where the row may end, and precedes it elsewhere; other names are `or` only where they may be
 abbrev pub bound : Bool → Bool → SyntaxKind → Forest → Bool
-bound ends or K.NODE_PAT_BIND c = if ends then begins_with_leaf c else (if begins_with_leaf c then false else true)
-bound ends or K.NODE_IDENT c = if or then true else (if is_or (only_text c) then false else true)
-bound ends or k c = true
+bound ends any K.NODE_PAT_BIND c = if ends then begins_with_leaf c else (if begins_with_leaf c then false else true)
+bound ends any K.NODE_IDENT c = if any then true else (if is_or (only_text c) then false else true)
+bound ends any k c = true
 
 abbrev pub binds : Row → SyntaxKind → Forest → Bool
 binds q k c = bound (ends_or q) (names_or q) k c
