@@ -1,7 +1,7 @@
 //! Finds an attribute by its dotted path.
 
-use rnix::ast::{AstNode, Attrpath, AttrpathValue, Expr, InterpolPart, Str};
-use rnix::{SyntaxNode, TextRange};
+use rnix::ast::{AstNode, AttrpathValue, Expr, InterpolPart, Str};
+use rnix::{SyntaxKind, SyntaxNode, TextRange, WalkEvent};
 use std::alloc::{AllocError, Global};
 
 /// What was found: the place of one string, or why there is none.
@@ -14,32 +14,23 @@ pub enum Search {
     NoString,
 }
 
-// A path with dots between its names.
-fn dotted(alloc: Global, path: &Attrpath<'_>) -> Result<String, AllocError> {
-    let mut text = String::new(alloc);
-    for attr in path.attrs() {
-        if !text.is_empty() {
-            text.push('.')?;
-        }
-        text.push_str(attr.syntax().text())?;
+// Where a name ends in a path, each name behind a dot, if the path has this name at an offset.
+fn behind_name(path: &str, start: usize, name: &str) -> Option<usize> {
+    let rest = path.get(start..)?.strip_prefix('.')?.strip_prefix(name)?;
+    if rest.is_empty() || rest.starts_with('.') {
+        Some(path.len().saturating_sub(rest.len()))
+    } else {
+        None
     }
-    Ok(text)
 }
 
-// The whole path of an entry: behind those of the entries around it.
-fn whole_path(alloc: Global, entry: &AttrpathValue<'_>) -> Result<String, AllocError> {
-    let mut whole = String::new(alloc);
-    for node in entry.syntax().ancestors() {
-        if let Some(path) = AttrpathValue::cast(node).and_then(|around| around.attrpath()) {
-            let own = dotted(alloc, &path)?;
-            whole = if whole.is_empty() {
-                own
-            } else {
-                format!(in alloc; "{own}.{whole}")?
-            };
-        }
+// And where the names of an entry end.
+fn behind_entry(path: &str, start: usize, entry: &AttrpathValue<'_>) -> Option<usize> {
+    let mut end = start;
+    for attr in entry.attrpath()?.attrs() {
+        end = behind_name(path, end, attr.syntax().text())?;
     }
-    Ok(whole)
+    Some(end)
 }
 
 // Whether a string has an interpolation.
@@ -64,14 +55,31 @@ fn place(entry: &AttrpathValue<'_>) -> Search {
 
 /// The place of the string, with its quotes, that the only attribute of a dotted path is.
 pub fn find(alloc: Global, root: &SyntaxNode<'_>, path: &str) -> Result<Search, AllocError> {
+    let path = format!(in alloc; ".{path}")?;
     let mut found = Search::Nothing;
-    for node in root.descendants() {
-        if let Some(entry) = AttrpathValue::cast(node) {
-            if whole_path(alloc, &entry)?.as_str() == path {
-                if found != Search::Nothing {
-                    return Ok(Search::Several);
+    // Where the names of each entry around end in the path, the innermost last.
+    let mut around = Vec::new(alloc);
+    for event in root.preorder() {
+        match event {
+            WalkEvent::Enter(node) => {
+                if let Some(entry) = AttrpathValue::cast(node) {
+                    let end = match around.last().copied().unwrap_or(Some(0)) {
+                        Some(start) => behind_entry(path.as_str(), start, &entry),
+                        None => None,
+                    };
+                    around.push(end)?;
+                    if end == Some(path.len()) {
+                        if found != Search::Nothing {
+                            return Ok(Search::Several);
+                        }
+                        found = place(&entry);
+                    }
                 }
-                found = place(&entry);
+            }
+            WalkEvent::Leave(node) => {
+                if node.kind() == SyntaxKind::NODE_ATTRPATH_VALUE {
+                    let _left = around.pop();
+                }
             }
         }
     }
