@@ -21,7 +21,7 @@ returns c =
       | then-is_like w ↦ subst (λ b. MatchBool b ((read.faults ≡ []) × like) (¬ ((read.faults ≡ []) × like))) (sym w.result-is)
           (both_tested fault_of w.errors.result.now read.faults w.errors.ensures true w.is_empty.result (λ _. c.in_ok-is_like.ensures.0 w.if-is_like.true)
           (λ _. refl) w.is_empty.ensures)
-      | else-is_like w ↦ subst (λ b. MatchBool b ((read.faults ≡ []) × like) (¬ ((read.faults ≡ []) × like))) (sym w.result-is)
+      | else-is_like w ↦ subst (λ b. MatchBool b ((read.faults ≡ []) × like) (¬ ((read.faults ≡ []) × like))) (sym (w.result-is ∙ w.if-is_like.false))
           (λ both. false≢true (sym w.if-is_like.false ∙ c.in_ok-is_like.ensures.1 both.1))
     ] in
     resolved_tested c.args.text.now read c.in_ok-read.ensures c.args.names.now c.args.binding.now c.args.new.now others found c.if-is_like.result tested
