@@ -1,12 +1,12 @@
 //! What strings stand for.
 
-ghost use Rattle.std.specs.Prelude.{◌≡◌, ◌⊎◌, IfSome, IfNone, IfOk, IfErr, option_map, slice_get, string_bytes};
+ghost use Rattle.std.specs.Prelude.{◌≡◌, IfSome, IfNone, IfOk, option_map, slice_get, string_bytes};
 ghost use Rattle.std.specs.List.{flat_map};
 ghost use Rattle.rnix_green.specs.Walk.{elements_of};
 ghost use Rattle.rnix_tree.specs.Spots.{spot_of};
 ghost use Rattle.rnix_base.specs.Normal.{owned, with_text};
 ghost use Rattle.rnix.specs.Strings.{normalized_parts};
-ghost use Rattle.rnix_c.specs.Answers.{none_such, no_memory, filled, IsWritten, Answers};
+ghost use Rattle.rnix_c.specs.Answers.{filled, IsWritten, Answers};
 ghost use Rattle.rnix_c.specs.Strings.{located, IsString, literal_text, string_text, end_after, part_at, parts_from, parts_written, WritesString};
 
 use crate::answers::{NO_MEMORY, NONE_SUCH, parsed, written};
@@ -42,22 +42,22 @@ fn string_at<'t>(green: &'t GreenNode, number: usize) -> Option<Str<'t>>
     Str::cast(node)
 }
 
-// The parts of the string that is the element of this number, or why there are none.
+// The parts of the string that is the element of this number, if there is one.
 fn parts_of<'t>(
     alloc: Global,
     green: &'t GreenNode,
     number: usize,
-) -> Result<Vec<InterpolPart<'t, String>>, i64>
-    ensures string { IfOk result (λ _. IsString (located green.now number)) }
-    ensures parts { IfOk result (λ parts. owned parts.items ≡ normalized_parts (located green.now number)) }
-    ensures refused { IfErr result (λ answer. ((answer ≡ none_such) × ¬ IsString (located green.now number)) ⊎ (answer ≡ no_memory)) }
+) -> Result<Option<Vec<InterpolPart<'t, String>>>, AllocError>
+    ensures string { IfOk result (λ found. IfSome found (λ _. IsString (located green.now number))) }
+    ensures parts { IfOk result (λ found. IfSome found (λ parts. owned parts.items ≡ normalized_parts (located green.now number))) }
+    ensures missing { IfOk result (λ found. IfNone found (¬ IsString (located green.now number))) }
 {
     let Some(string) = string_at(green, number) else {
-        return Err(NONE_SUCH);
+        return Ok(None);
     };
     match string.normalized_parts(alloc) {
-        Ok(parts) => Ok(parts),
-        Err(_) => Err(NO_MEMORY),
+        Ok(parts) => Ok(Some(parts)),
+        Err(error) => Err(error),
     }
 }
 
@@ -139,12 +139,12 @@ pub extern "C" fn rnix_string_text(
         Ok(read) => read,
         Err(answer) => return answer,
     };
-    let parts = match parts_of(alloc, &green, element) {
-        Ok(parts) => parts,
-        Err(answer) => return answer,
-    };
-    match text_of(alloc, &parts) {
-        Ok(joined) => written(&joined, room),
+    match parts_of(alloc, &green, element) {
+        Ok(Some(parts)) => match text_of(alloc, &parts) {
+            Ok(joined) => written(&joined, room),
+            Err(_) => NO_MEMORY,
+        },
+        Ok(None) => NONE_SUCH,
         Err(_) => NO_MEMORY,
     }
 }
@@ -164,7 +164,8 @@ pub extern "C" fn rnix_string_parts(
         Err(answer) => return answer,
     };
     match parts_of(alloc, &green, element) {
-        Ok(parts) => write_parts(&parts, room),
-        Err(answer) => answer,
+        Ok(Some(parts)) => write_parts(&parts, room),
+        Ok(None) => NONE_SUCH,
+        Err(_) => NO_MEMORY,
     }
 }

@@ -1,6 +1,7 @@
 //! A text's tree and errors.
 
-ghost use Rattle.std.specs.Prelude.{◌≡◌, length};
+ghost use Rattle.std.specs.Prelude.{◌≡◌, length, map};
+ghost use Rattle.rnix_grammar.specs.Fault.{fault_of};
 ghost use Rattle.rnix_c.specs.Answers.{filled, IsWritten, Answers};
 ghost use Rattle.rnix_c.specs.Elements.{elements_of};
 ghost use Rattle.rnix_c.specs.Errors.{errors_of};
@@ -8,7 +9,25 @@ ghost use Rattle.rnix_c.specs.Errors.{errors_of};
 use crate::answers::parsed;
 use crate::elements::{self, RnixElement};
 use crate::errors::{self, RnixError};
+use rnix::{GreenNode, ParseError};
 use std::alloc::Global;
+
+// Writes the elements and the errors, and the number of errors, and returns how many elements there are.
+fn write_parse(
+    green: &GreenNode,
+    faults: &[ParseError],
+    elements: &mut [RnixElement],
+    errors: &mut [RnixError],
+    error_count: &mut u64,
+) -> i64
+    ensures elements { IsWritten (elements_of green.now) result elements.old elements.new }
+    ensures errors { errors.new ≡ filled (errors_of (map fault_of faults.now)) errors.old }
+    ensures count { error_count.new ≡ length (map fault_of faults.now) }
+{
+    errors::fill(faults, errors);
+    *error_count = faults.len() as u64;
+    elements::written(green, elements)
+}
 
 /// The elements and the errors of a text: how many elements there are. The number of errors is written too.
 #[unsafe(no_mangle)]
@@ -24,11 +43,7 @@ pub extern "C" fn rnix_parse(
         × (errors.new ≡ filled (errors_of faults) errors.old) × (error_count.new ≡ length faults)) }
 {
     match parsed(alloc, text) {
-        Ok((green, faults)) => {
-            errors::fill(&faults, errors);
-            *error_count = faults.len() as u64;
-            elements::written(&green, elements)
-        }
+        Ok((green, faults)) => write_parse(&green, &faults, elements, errors, error_count),
         Err(answer) => answer,
     }
 }
