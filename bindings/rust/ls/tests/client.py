@@ -2,6 +2,7 @@
 
 import json
 import os
+import select
 import subprocess
 
 PROGRAM = os.environ.get("RNIX_LS", "rnix-ls")
@@ -28,7 +29,8 @@ class Client:
     """A server with its pipes."""
 
     def __init__(self, capabilities=None, is_initialized=True):
-        self.process = subprocess.Popen([PROGRAM, "--stdio"], stdin=subprocess.PIPE, stdout=subprocess.PIPE)
+        self.process = subprocess.Popen([PROGRAM, "--stdio"], stdin=subprocess.PIPE, stdout=subprocess.PIPE, bufsize=0)
+        self.arrived = bytearray()
         self.count = 0
         self.notifications = []
         self.version = 0
@@ -46,10 +48,22 @@ class Client:
         self.process.stdout.close()
         self.process.wait(60)
 
+    def take(self):
+        """Waits for bytes from the server, and returns whether there were any."""
+        part = os.read(self.process.stdout.fileno(), 65536)
+        self.arrived += part
+        return bool(part)
+
     def write(self, raw):
-        """Sends bytes as they are."""
-        self.process.stdin.write(raw)
-        self.process.stdin.flush()
+        """Sends bytes as they are. What the server sends meanwhile is read, as an editor does, so that neither waits for the other."""
+        rest = memoryview(raw)
+        while rest:
+            outputs = [] if self.process.stdout.closed else [self.process.stdout]
+            readable, writable, _ = select.select(outputs, [self.process.stdin], [])
+            if writable:
+                rest = rest[os.write(self.process.stdin.fileno(), rest[:select.PIPE_BUF]):]
+            elif readable and not self.take():
+                raise BrokenPipeError
 
     def send(self, message):
         """Sends a message."""
@@ -67,17 +81,18 @@ class Client:
 
     def read(self):
         """Returns the next message, or None at the end."""
-        length = None
-        while True:
-            line = self.process.stdout.readline()
-            if not line:
+        while (end := self.arrived.find(b"\r\n\r\n")) < 0:
+            if not self.take():
                 return None
-            if line == b"\r\n":
-                break
-            name, _, value = line.partition(b":")
-            if name == b"Content-Length":
-                length = int(value)
-        return json.loads(self.process.stdout.read(length).decode())
+        lines = self.arrived[:end].split(b"\r\n")
+        length = int(next(it.partition(b":")[2] for it in lines if it.startswith(b"Content-Length:")))
+        start, end = end + 4, end + 4 + length
+        while len(self.arrived) < end:
+            if not self.take():
+                return None
+        body = self.arrived[start:end].decode()
+        del self.arrived[:end]
+        return json.loads(body)
 
     def response(self):
         """Returns the next message that is a response, and keeps the notifications before it."""
