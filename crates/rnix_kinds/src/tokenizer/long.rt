@@ -37,8 +37,8 @@ impl LongClass {
 }
 
 // Returns the length of the longest run at the front, and tests 16 bytes at a time.
-#[inline(never)]
-fn long_run_len(bytes: &[u8], class: LongClass) -> usize
+#[inline(always)]
+fn wide_run_len(bytes: &[u8], class: LongClass) -> usize
     ensures len { result ≡ prefix_len (class_test (class_of class)) bytes.now }
     ensures within { result ≤ length bytes.now }
 {
@@ -54,6 +54,15 @@ fn long_run_len(bytes: &[u8], class: LongClass) -> usize
         at += 1;
     }
     at
+}
+
+// Returns the length of the longest run at the front, as `wide_run_len` does, in a call that keeps its callers small.
+#[inline(never)]
+fn long_run_len(bytes: &[u8], class: LongClass) -> usize
+    ensures len { result ≡ prefix_len (class_test (class_of class)) bytes.now }
+    ensures within { result ≤ length bytes.now }
+{
+    wide_run_len(bytes, class)
 }
 
 // Returns the length of the longest run at the front.
@@ -81,4 +90,15 @@ pub fn long_run_end(bytes: &[u8], from: usize, class: LongClass) -> usize
     ensures onward { from ≤ result }
 {
     from + run_len(&bytes[from..], class)
+}
+
+/// Returns where the longest run of the class ends that begins at `from`, and tests 16 bytes at a time from there on.
+#[inline(always)]
+pub fn wide_run_end(bytes: &[u8], from: usize, class: LongClass) -> usize
+    requires { from ≤ length bytes.now }
+    ensures end { result ≡ run_end (class_test (class_of class)) from bytes.now }
+    ensures within { result ≤ length bytes.now }
+    ensures onward { from ≤ result }
+{
+    from + wide_run_len(&bytes[from..], class)
 }

@@ -7,7 +7,7 @@ ghost use Rattle.rnix_kinds.specs.Lexical.Classes.{class_test};
 ghost use Rattle.rnix_kinds.specs.Lexical.Texts.{before_pair, run_end};
 ghost use Rattle.rnix_kinds.specs.Lexical.Plain.{plain, space, block_comment};
 
-use super::long::{LongClass, long_run_end};
+use super::long::{LongClass, wide_run_end};
 use super::rule::{Cut, plain};
 use super::text::{byte_of, space_len};
 use crate::kinds::SyntaxKind;
@@ -29,7 +29,7 @@ pub fn space(text: &str) -> Option<Cut>
 fn line_len(text: &str) -> usize
     ensures { result ≡ run_end (class_test Line) 0 text.now }
 {
-    long_run_end(text.as_bytes(), 0, LongClass::Line)
+    wide_run_end(text.as_bytes(), 0, LongClass::Line)
 }
 
 /// A comment up to the end of its line.
@@ -46,9 +46,9 @@ fn comment_len(inside: &[u8]) -> usize
     ensures value { result ≡ before_pair 42 47 inside.now }
     ensures within { result ≤ length inside.now }
 {
-    let mut at = long_run_end(inside, 0, LongClass::Comment);
+    let mut at = wide_run_end(inside, 0, LongClass::Comment);
     while at < inside.len() && byte_of(inside, at + 1) != b'/' {
-        at = long_run_end(inside, at + 1, LongClass::Comment);
+        at = wide_run_end(inside, at + 1, LongClass::Comment);
     }
     at
 }

@@ -5,18 +5,18 @@ use Rattle.rnix_kinds.proofs.tokenizer.space.comment_len.Goals as goal
 
 pub loop-at-init : goal.loop-at-init
 loop-at-init c = record {
-  within = c.long_run_end-at.ensures.within;
-  star = star_follows 0 _ c.args.inside.now c.long_run_end-at.ensures.end;
-  so_far = comment_run_end 0 _ c.args.inside.now (omega arith) c.long_run_end-at.ensures.end;
+  within = c.wide_run_end-at.ensures.within;
+  star = star_follows 0 _ c.args.inside.now c.wide_run_end-at.ensures.end;
+  so_far = comment_run_end 0 _ c.args.inside.now (omega arith) c.wide_run_end-at.ensures.end;
 }
 
 pub loop-at-preserved : goal.loop-at-preserved
 loop-at-preserved c =
     let passed = star_passed c.loop-at.at c.args.inside.now _ c.loop-at-test.true (sym c.byte_of.ensures) c.if-byte_of-ne47.true c.loop-at.invariant.so_far in
     record {
-      within = c.long_run_end-at-in-loop-at.ensures.within;
-      star = star_follows (c.loop-at.at + 1) _ c.args.inside.now c.long_run_end-at-in-loop-at.ensures.end;
-      so_far = comment_run_end (c.loop-at.at + 1) _ c.args.inside.now passed c.long_run_end-at-in-loop-at.ensures.end;
+      within = c.wide_run_end-at-in-loop-at.ensures.within;
+      star = star_follows (c.loop-at.at + 1) _ c.args.inside.now c.wide_run_end-at-in-loop-at.ensures.end;
+      so_far = comment_run_end (c.loop-at.at + 1) _ c.args.inside.now passed c.wide_run_end-at-in-loop-at.ensures.end;
     }
 
 pub returns-else-byte_of-ne47-clause-value : goal.returns-else-byte_of-ne47-clause-value

@@ -1,6 +1,6 @@
 use Rattle.std.{proofs.Common.{◌≡◌, ◌+◌, ◌-◌, ◌≤◌, length, drop}, specs.List.prefix_len}
 use Rattle.rnix_kinds.specs.Lexical.Classes.{class_test, class_of}
-use Rattle.rnix_kinds.proofs.tokenizer.long.long_run_len.Given as goal
+use Rattle.rnix_kinds.proofs.tokenizer.long.wide_run_len.Given as goal
 
 abbrev pub invariant-loop-at : goal.invariant-loop-at
 invariant-loop-at l = record {
