@@ -45,7 +45,7 @@ pub struct GreenNodeBuilder {
     text: String,
     pending: Vec<OpenNode>,
     // The entry at which each finished tree begins.
-    starts: Vec<usize>,
+    starts: Vec<u32>,
 }
 
 impl Model for GreenNodeBuilder {
@@ -74,7 +74,7 @@ fn ends_with_node(entries: &[Packed]) -> bool
 }
 
 /// Returns the entry at which a finished tree begins, or the end if there is no such tree.
-pub(crate) fn start_at(starts: &[usize], place: usize, end: usize) -> usize
+pub(crate) fn start_at(starts: &[u32], place: usize, end: u32) -> u32
     ensures { result ≡ slice_index_or starts.now place end }
 {
     starts.get(place).copied().unwrap_or(end)
@@ -118,15 +118,15 @@ impl GreenNodeBuilder {
         ensures ok { OnOk result (self.new ≡ leaf_added kind text.now self.old) }
         ensures err { OnErr result (self.new ≡ self.old) }
     {
+        let start = self.entries.len();
         room(self.text.len(), text.len())?;
-        room(self.entries.len(), 1)?;
+        room(start, 1)?;
         self.entries.reserve(1)?;
         self.starts.reserve(1)?;
         self.text.push_str(text)?;
-        let start = self.entries.len();
         self.entries
             .push_reserved(Packed::new(kind, text.len(), 0, 0));
-        self.starts.push_reserved(start);
+        self.starts.push_reserved(start as u32);
         Ok(())
     }
 
@@ -164,10 +164,11 @@ impl GreenNodeBuilder {
     {
         let OpenNode { kind, place } = self.pending[self.pending.len() - 1];
         let end = self.entries.len();
-        let first = start_at(&self.starts, place, end);
         room(end, 1)?;
+        let first = start_at(&self.starts, place, end as u32);
         self.starts.reserve(1)?;
-        self.entries.push(Packed::new(kind, 0, 0, end - first + 1))?;
+        self.entries
+            .push(Packed::new(kind, 0, 0, end - first as usize + 1))?;
         self.pending.truncate(self.pending.len() - 1);
         self.starts.truncate(place);
         self.starts.push_reserved(first);
@@ -194,7 +195,7 @@ impl GreenNodeBuilder {
         self.entries
             .push_reserved(Packed::new(kind, text.len(), 0, 0));
         self.entries.push_reserved(Packed::new(node, 0, 0, 2));
-        self.starts.push_reserved(start);
+        self.starts.push_reserved(start as u32);
         Ok(())
     }
 

@@ -1,9 +1,10 @@
 //! Reorders elements from postorder to preorder, in place.
 
-ghost use Rattle.std.specs.Prelude.{◌≡◌, map, reverse, IfOk, None, MatchOption};
+ghost use Rattle.std.specs.Prelude.{◌≡◌, ◌<◌, length, map, reverse, IfOk, None, MatchOption};
 ghost use Rattle.rnix_green.specs.Forest.{text_of};
 ghost use Rattle.rnix_green.specs.Entries.{made};
 ghost use Rattle.rnix_green.specs.Kept.{parent_or_root, kept_from};
+ghost use Rattle.rnix_green.specs.Packed.{limit};
 ghost use Rattle.rnix_green.specs.Postorder.{entry_of, entries_of, parent_number, HasMore, IsReached};
 
 use crate::packed::Packed;
@@ -14,20 +15,25 @@ use std::alloc::AllocError;
 #[derive(Clone, Copy)]
 pub(crate) struct Frame {
     kind: SyntaxKind,
-    size: usize,
-    number: usize,
-    first: usize,
+    size: u32,
+    number: u32,
+    first: u32,
 }
+
+const _: () = prove!(size_of::<Frame>() == 16);
 
 impl Frame {
     fn new(kind: SyntaxKind, size: usize, number: usize, first: usize) -> Frame
+        requires size { size < limit }
+        requires number { number < limit }
+        requires first { first < limit }
         ensures { result ≡ record { kind = kind; size = size; number = number; first = first } }
     {
         Frame {
             kind,
-            size,
-            number,
-            first,
+            size: size as u32,
+            number: number as u32,
+            first: first as u32,
         }
     }
 }
@@ -37,7 +43,7 @@ fn innermost_number(frames: &[Frame]) -> usize
     ensures { result ≡ parent_or_root (parent_number (reverse frames.now)) }
 {
     match frames.last() {
-        Some(frame) => frame.number,
+        Some(frame) => frame.number as usize,
         None => 0,
     }
 }
@@ -48,7 +54,7 @@ fn reached(frames: &[Frame], left: usize) -> Option<Frame>
 {
     match frames.last() {
         Some(frame) => {
-            if frame.first == left {
+            if frame.first as usize == left {
                 Some(*frame)
             } else {
                 None
@@ -61,6 +67,7 @@ fn reached(frames: &[Frame], left: usize) -> Option<Frame>
 /// Puts each node before its children, by one pass from the last entry to the first. Entries that are left stand in front, placed
 /// elements at the end, and between them is one free place for each frame. A node that has one token alone needs no frame.
 pub(crate) fn in_preorder(mut elements: Vec<Packed>, text: &str) -> Result<Vec<Packed>, AllocError>
+    requires small { length elements.items < limit }
     requires entries_are { map entry_of elements.items ≡ entries_of (made text.now elements.items) }
     requires text_is { text.now ≡ text_of (made text.now elements.items) }
     ensures { IfOk result (λ v. v.items ≡ kept_from 0 0 None (made text.now elements.items)) }
@@ -73,7 +80,12 @@ pub(crate) fn in_preorder(mut elements: Vec<Packed>, text: &str) -> Result<Vec<P
             Some(frame) => {
                 frames.truncate(frames.len() - 1);
                 let parent = innermost_number(&frames);
-                elements[left + frames.len()] = Packed::new(frame.kind, offset, parent, frame.size);
+                elements[left + frames.len()] = Packed::new(
+                    frame.kind,
+                    offset,
+                    parent,
+                    frame.size as usize,
+                );
             }
             None => {
                 if left == 0 {

@@ -24,7 +24,7 @@ pub struct TextBuilder<'t> {
     entries: Vec<Packed>,
     pending: Vec<OpenNode>,
     // The entry at which each finished tree begins.
-    starts: Vec<usize>,
+    starts: Vec<u32>,
 }
 
 impl<'t> Model for TextBuilder<'t> {
@@ -83,13 +83,13 @@ impl<'t> TextBuilder<'t> {
         ensures ok { OnOk result (self.new ≡ taken (leaf_added kind part.now self.old.draft) part.now self.old) }
         ensures err { OnErr result (self.new ≡ self.old) }
     {
-        room(self.entries.len(), 1)?;
+        let start = self.entries.len();
+        room(start, 1)?;
         self.entries.reserve(1)?;
         self.starts.reserve(1)?;
-        let start = self.entries.len();
         self.entries
             .push_reserved(Packed::new(kind, part.len(), 0, 0));
-        self.starts.push_reserved(start);
+        self.starts.push_reserved(start as u32);
         self.taken += part.len();
         Ok(())
     }
@@ -129,10 +129,11 @@ impl<'t> TextBuilder<'t> {
     {
         let OpenNode { kind, place } = self.pending[self.pending.len() - 1];
         let end = self.entries.len();
-        let first = start_at(&self.starts, place, end);
         room(end, 1)?;
+        let first = start_at(&self.starts, place, end as u32);
         self.starts.reserve(1)?;
-        self.entries.push(Packed::new(kind, 0, 0, end - first + 1))?;
+        self.entries
+            .push(Packed::new(kind, 0, 0, end - first as usize + 1))?;
         self.pending.truncate(self.pending.len() - 1);
         self.starts.truncate(place);
         self.starts.push_reserved(first);
@@ -158,7 +159,7 @@ impl<'t> TextBuilder<'t> {
         self.entries
             .push_reserved(Packed::new(kind, part.len(), 0, 0));
         self.entries.push_reserved(Packed::new(node, 0, 0, 2));
-        self.starts.push_reserved(start);
+        self.starts.push_reserved(start as u32);
         self.taken += part.len();
         Ok(())
     }

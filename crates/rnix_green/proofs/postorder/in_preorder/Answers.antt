@@ -10,6 +10,7 @@ elements-init c =
     let es = c.args.elements.items in
     let count : c.len-left.result ≡ length es = c.len-left.ensures ∙ c.args.elements.ok.0 in
     record {
+      small = c.requires.small;
       few = omega (arith, ap length c.new-frames.ensures.items);
       work =
           init_work (made c.args.text.now es) es _ c.len-left.result c.args.text.now c.new-frames.result.items c.requires.entries_are refl count
@@ -29,6 +30,7 @@ elements-preserved-in-Some c =
     let value : c.new.result ≡ frame_kept c.in-Some.frame c.elements.offset (parent_number (reverse c.truncate.new.self.items)) =
     c.new.ensures ∙ ap (λ q. packed c.in-Some.frame.kind c.elements.offset q c.in-Some.frame.size) parent in
     record {
+      small = omega (arith, c.elements.invariant.small, length-set es (c.elements.left + c.len-in-Some.result) c.new.result);
       few =
           omega (
             arith,
@@ -82,6 +84,7 @@ elements-preserved-then-size-eq0 c =
     let token_is = rw (c.kind.ensures, c.place-offset.ensures) at c.new-then-size-eq0.ensures in
     let kept_is = rw (c.kind-kind.ensures, c.place-offset.ensures, parent) at c.new-then-size-eq0-2.ensures in
     record {
+      small = omega (arith, c.elements.invariant.small, length-set es (number + 1) token, length-set (set es (number + 1) token) number kept);
       few =
           omega (
             arith,
@@ -108,6 +111,19 @@ overflow_sub-first c =
     c.if-left-eq0.false c.index.ensures some refl refl open_ c.elements.invariant.work in
     omega (arith, r.fits, c.size-size.ensures, length-entries_before (c.elements.left - 1) es (omega (arith, c.elements.invariant.few)))
 
+pub new-requires-then-size-gt0-clause-size : goal.new-requires-then-size-gt0-clause-size
+new-requires-then-size-gt0-clause-size c =
+    let es = c.elements.elements.items in
+    let y = c.index.result.now in
+    let open_ : HasMore (reverse c.elements.frames.items) c.elements.left = rw c.deref.ensures.value at c.in-None.ensures in
+    let some : size_in y ≡ suc (size_in y - 1) = omega (arith, c.size-size.ensures, c.if-size-gt0.true) in
+    let r =
+    node_at (made c.args.text.now c.args.elements.items) es c.elements.left c.elements.offset _ _ y
+    record { kind = y.kind; size = size_in y; number = 0; first = 0 } (size_in y - 1) (omega (arith, c.elements.invariant.few))
+    c.if-left-eq0.false c.index.ensures some refl refl open_ c.elements.invariant.work in
+    let before = length-entries_before (c.elements.left - 1) es (omega (arith, c.elements.invariant.few)) in
+    omega (arith, r.fits, c.size-size.ensures, before, c.elements.invariant.few, c.elements.invariant.small)
+
 pub elements-preserved-in-Continue-1 : goal.elements-preserved-in-Continue-1
 elements-preserved-in-Continue-1 c =
     let es = c.elements.elements.items in
@@ -124,6 +140,7 @@ elements-preserved-in-Continue-1 c =
     (omega (arith, c.elements.invariant.few)) c.if-left-eq0.false c.index.ensures some c.kind-kind.ensures c.size-size.ensures open_ c.elements.invariant.work in
     let before = length-entries_before (c.elements.left - 1) es (omega (arith, c.elements.invariant.few)) in
     record {
+      small = c.elements.invariant.small;
       few = omega (arith, c.elements.invariant.few, ap length push_is, length_push old frame);
       work =
           node_framed (made c.args.text.now c.args.elements.items) es c.elements.left c.elements.offset old _ frame c.if-left-eq0.false
@@ -156,6 +173,7 @@ elements-preserved c =
     rw c.deref-else-size-gt0.ensures.value at c.innermost_number-parent-else-size-gt0.ensures in
     let value = rw (c.kind-kind.ensures, c.place-offset-else-size-gt0.ensures, parent) at c.new-else-size-gt0.ensures in
     record {
+      small = omega (arith, c.elements.invariant.small, length-set es (c.elements.left - 1 + c.len-else-size-gt0.result) c.new-else-size-gt0.result);
       few =
           omega (arith, c.elements.invariant.few, length-set es (c.elements.left - 1 + c.len-else-size-gt0.result) c.new-else-size-gt0.result);
       work =

@@ -1,4 +1,4 @@
-use Rattle.{std.proofs.Common.{◌≤◌, ◌+◌, ◌*◌, reverse, drop, length}, rnix_green.specs.{Postorder.IsWork, Entries.made}}
+use Rattle.{std.proofs.Common.{◌≤◌, ◌<◌, ◌+◌, ◌*◌, reverse, drop, length}, rnix_green.specs.{Postorder.IsWork, Entries.made, Packed.limit}}
 use Rattle.rnix_green.proofs.PostorderLemmas.{entries_before}
 use Rattle.rnix_green.proofs.postorder.in_preorder.Given as goal
 
@@ -6,6 +6,7 @@ abbrev pub invariant-elements : goal.invariant-elements
 invariant-elements l =
     let es = l.elements.items in
     record {
+      small : length es < limit;
       few : l.left + length l.frames.items ≤ length es;
       work :
           IsWork (made l.text l.initial.elements.items) (entries_before l.left es) l.offset (reverse l.frames.items)

@@ -1,6 +1,9 @@
-use Rattle.{std.{proofs.Common.{ap, ◌∙◌, ◌≡◌, true, None}, specs.String.string_bytes}, rnix_green.specs.{Draft.{Draft, is_one_node}, Entries.made, Kept.IsKept}}
+use Rattle.{std.{proofs.{Common.{ap, ◌∙◌, ◌≡◌, true, None, arith}, lemmas.List.length-map}, specs.String.string_bytes}, rnix_green.specs.{Draft.{Draft, is_one_node}, Entries.made, Kept.IsKept, Postorder.entry_of}}
 use Rattle.rnix_green.{specs.Kept.{as_tree, kept_from}, proofs.{EntriesLemmas.complete-parts, KeptLemmas.{finished_kept, kept, finished_is}}}
 use Rattle.rnix_green.proofs.builder.GreenNodeBuilder.finish.Goals as goal
+
+pub in_preorder-requires-clause-small : goal.in_preorder-requires-clause-small
+in_preorder-requires-clause-small c = omega (arith, c.self.invariant.few, length-map c.self.inside.entries.items entry_of)
 
 whole : (c : goal.In_ok-elements) →
     IsKept (as_tree (made (string_bytes c.self.inside.text) c.self.inside.entries.items)) c.in_ok-elements.elements.items (string_bytes c.self.inside.text)

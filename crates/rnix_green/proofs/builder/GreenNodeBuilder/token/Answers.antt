@@ -9,8 +9,8 @@ after c =
     let b = c.self.inside in
     built-token (made (string_bytes b.text) b.entries.items) (string_bytes b.text) _ c.args.text.now b.entries.items _ b.pending.items b.starts.items _
     c.args.kind _ c.len-start.result c.self.invariant c.utf8.text (omega (arith, c.len.ensures, c.in_ok-room.ensures.ok))
-    (omega (arith, c.len-2.ensures, b.entries.ok.0, c.in_ok-room-2.ensures.ok)) c.new.ensures
-    (c.len-start.ensures ∙ c.reserve.new.self.ok.0 ∙ ap length c.in_ok-reserve.ensures.items) c.in_ok-push_str.ensures.bytes
+    (omega (arith, c.len-start.ensures, b.entries.ok.0, c.in_ok-room-2.ensures.ok)) c.new.ensures
+    (c.len-start.ensures ∙ b.entries.ok.0) c.in_ok-push_str.ensures.bytes
     (rw c.in_ok-reserve.ensures.items at c.push_reserved.ensures.items) (rw c.in_ok-reserve-2.ensures.items at c.push_reserved-2.ensures.items)
 
 pub invariant_of-self-2 : goal.invariant_of-self-2

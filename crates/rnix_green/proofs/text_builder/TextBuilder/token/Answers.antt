@@ -18,8 +18,8 @@ after c =
     let h = c.self.invariant in
     built-token (made (take b.taken b.text.now) b.entries.items) (take b.taken b.text.now) _ c.args.part.now b.entries.items _ b.pending.items b.starts.items _
     c.args.kind _ c.len-start.result h.built c.utf8.part (omega (arith, length-take-le b.taken b.text.now h.within, within c, h.short))
-    (omega (arith, c.len.ensures, b.entries.ok.0, c.in_ok-room.ensures.ok)) c.new.ensures
-    (c.len-start.ensures ∙ c.reserve.new.self.ok.0 ∙ ap length c.in_ok-reserve.ensures.items) (taken_more b.text.now c.args.part.now b.taken h.within (next c))
+    (omega (arith, c.len-start.ensures, b.entries.ok.0, c.in_ok-room.ensures.ok)) c.new.ensures
+    (c.len-start.ensures ∙ b.entries.ok.0) (taken_more b.text.now c.args.part.now b.taken h.within (next c))
     (rw c.in_ok-reserve.ensures.items at c.push_reserved.ensures.items) (rw c.in_ok-reserve-2.ensures.items at c.push_reserved-2.ensures.items)
 
 pub invariant_of-self-2 : goal.invariant_of-self-2
