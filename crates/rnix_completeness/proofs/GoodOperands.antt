@@ -7,12 +7,12 @@ use Rattle.rnix_kinds.{specs.SyntaxKind.is_fn_arg, proofs.AllKinds.{all_kinds, i
 use Rattle.rnix_green.specs.{Equality.same_kind, Forest.{Forest, empty, leaf, node}}
 use Rattle.rnix_grammar.specs.declared.rules.Part.TheVariants.{Operand, Many, Argument}
 use Rattle.rnix_grammar.specs.AnnotatedForest.{Token, AnnotatedForest, blank, token, branch, ◌⊕◌, one_branch, tokens_in, head_kind}
-use Rattle.rnix_grammar.specs.{Begins.second_kind, Beginnings.{IsOperandOf, BeginsAs, first_kind, first_kind_of_let, kind_if}, Yield.untold, Reports.repeats, Nest.{nest, is_flat}, Tables.depth_limit}
+use Rattle.rnix_grammar.specs.{Begins.second_kind, Beginnings.{IsOperandOf, BeginsAs, first_kind, first_kind_of_let, kind_if}, Yield.kind_of_token, Reports.repeats, Nest.{nest, counts_no_child}, Tables.depth_limit}
 use Rattle.rnix_grammar.specs.{Levels.{binding_power, left_of}, TokenKinds.{is_dot, is_or, is_question}, Operands.{first_tree, follows, goes_on}}
 use Rattle.rnix_grammar.specs.{TreeLevels.{level_of, row_level, is_atom_row, is_or_row}, Rows.{is_atom, is_expression, is_infix, fits}}
-use Rattle.rnix_grammar.specs.Rules.{Row, done, ◌·◌, only, after, IsExpected, stands_expected, IsFollowed}
+use Rattle.rnix_grammar.specs.Rules.{Row, done, ◌·◌, only, after, IsExpected, is_first_expected, IsFollowed}
 use Rattle.rnix_lemmas.proofs.{Basics.{true_is_not_false, not_if}, EveryKind.whenever_both, LevelLemmas.{at_most, at_most_true, atom_fits, binding_power_max, fits_looser}}
-use Rattle.rnix_lemmas.proofs.{NodeKinds.{fits_expression, unreported}, PlainTables.{loose, below, is_bound}}
+use Rattle.rnix_lemmas.proofs.{KindsOfNodes.{fits_expression, unreported}, PlainTables.{binds_at_most, below, is_bound}}
 use Rattle.rnix_completeness.proofs.OverTokens.{Over, over_leaf, over_node, stands_so, Opens, opened_so}
 use Rattle.rnix_completeness.proofs.PartReads.{Follow, Before, depth_in, room, Rest, Any, Node, Next, Placed, node_on, is_part, part_so, uncounted}
 
@@ -25,7 +25,7 @@ operand_level i = if is_infix i then left_of i else (if is_question i then 13 el
 
 -- what binds at the first level may stand before operators up to the second: looser ones, and all that take it as their operand
 abbrev pub agree : ℕ → ℕ → Bool
-agree l h = nat_le l (suc h) && list_all (λ i. if takes_left i then (if nat_le (operand_level i) l then loose h (Some i) else true) else true) all_kinds
+agree l h = nat_le l (suc h) && list_all (λ i. if takes_left i then (if nat_le (operand_level i) l then binds_at_most h (Some i) else true) else true) all_kinds
 
 -- a token that takes a tree as its operand follows it
 pub follows_left : (i : SyntaxKind) (x : AnnotatedForest) → takes_left i ≡ true → nat_le (operand_level i) (row_level x) ≡ true → follows i x ≡ true
@@ -40,16 +40,16 @@ follows_left i x h e = by (is_infix i) (is_question i) (is_fn_arg i) h e
     by false false false h e = absurd (true_is_not_false (sym h))
 
 -- what may follow at a level may follow at a tighter one
-pub loose_more : (m n : ℕ) (next : Option SyntaxKind) → m ≤ n → loose m next ≡ true → loose n next ≡ true
-loose_more m n None l h = refl
-loose_more m n (Some k) l h = by (is_bound k) h
+pub binds_at_most_more : (m n : ℕ) (next : Option SyntaxKind) → m ≤ n → binds_at_most m next ≡ true → binds_at_most n next ≡ true
+binds_at_most_more m n None l h = refl
+binds_at_most_more m n (Some k) l h = by (is_bound k) h
   where
     by : (w : Bool) → (if w then false else nat_le (binding_power k) m) ≡ true → (if w then false else nat_le (binding_power k) n) ≡ true
     by true e = absurd (cc)
     by false e = let o = at_most (binding_power k) m e in at_most_true (binding_power k) n (omega (arith, l, o))
 
 -- and what may follow at any level ends a name
-pub wide : (m : ℕ) (next : Option SyntaxKind) → loose m next ≡ true → loose 16 next ≡ true
+pub wide : (m : ℕ) (next : Option SyntaxKind) → binds_at_most m next ≡ true → binds_at_most 16 next ≡ true
 wide m None h = refl
 wide m (Some k) h = by (is_bound k) h
   where
@@ -126,20 +126,20 @@ argument_is _ text second third h = cc
 -- An expression of the grammar that stands at a level: how tightly it binds, the tightest operators behind it, its row, and how it begins.
 pub record Good (n : ℕ) (k : SyntaxKind) (c : Forest) : Type 0 where
   pub level : ℕ
-  pub high : ℕ
-  pub low : n ≤ level
-  pub agrees : agree level high ≡ true
+  pub max_bp : ℕ
+  pub min_bp : n ≤ level
+  pub agrees : agree level max_bp ≡ true
   pub fit : fits n k ≡ true
-  pub node : Node (loose high) k c
+  pub node : Node (binds_at_most max_bp) k c
   pub tight : (b : AnnotatedForest) → Over c b → nat_le level (level_of k b) ≡ true
-  pub begins : (b f : AnnotatedForest) (us : List Token) → Over c b → loose 16 (head_kind us) ≡ true → Begun level (branch k b f) (tokens_in b ++ us)
+  pub begins : (b f : AnnotatedForest) (us : List Token) → Over c b → binds_at_most 16 (head_kind us) ≡ true → Begun level (branch k b f) (tokens_in b ++ us)
 
 -- and it stands at each looser level
 pub good_looser : {m n : ℕ} {k : SyntaxKind} {c : Forest} → n ≤ m → Good m k c → Good n k c
 good_looser {m} {n} {k} l g = record {
   level = g.level;
-  high = g.high;
-  low = omega (arith, l, g.low);
+  max_bp = g.max_bp;
+  min_bp = omega (arith, l, g.min_bp);
   agrees = g.agrees;
   fit = fits_looser n m k l g.fit;
   node = g.node;
@@ -152,19 +152,19 @@ pub node_looser : {N F : Follow} {k : SyntaxKind} {c : Forest} → ((o : Option 
 node_looser h w = record { reads = λ d n b us o j a m z. w.reads d n b us o j a m (h (head_kind us) z) }
 
 -- what may follow where a level is asked for may follow it
-pub good_node : {n : ℕ} {k : SyntaxKind} {c : Forest} → Good n k c → Node (loose (below n)) k c
-good_node {n} g = node_looser (λ o z. loose_more (below n) g.high o (by n g.low
-    (at_most g.level (suc g.high) (and_parts (nat_le g.level (suc g.high)) _ g.agrees).0)) z) g.node
+pub good_node : {n : ℕ} {k : SyntaxKind} {c : Forest} → Good n k c → Node (binds_at_most (below n)) k c
+good_node {n} g = node_looser (λ o z. binds_at_most_more (below n) g.max_bp o (by n g.min_bp
+    (at_most g.level (suc g.max_bp) (and_parts (nat_le g.level (suc g.max_bp)) _ g.agrees).0)) z) g.node
   where
-    by : (n : ℕ) → n ≤ g.level → g.level ≤ suc g.high → below n ≤ g.high
+    by : (n : ℕ) → n ≤ g.level → g.level ≤ suc g.max_bp → below n ≤ g.max_bp
     by zero l e = omega arith
     by (suc n) l e = omega (arith, l, e)
 
 -- it may stand before a token that takes it as its operand
 pub good_before : {n : ℕ} {k : SyntaxKind} {c : Forest} (g : Good n k c) (i : SyntaxKind) → takes_left i ≡ true → operand_level i ≤ n
-    → loose g.high (Some i) ≡ true
-good_before {n} g i t l = whenever_both takes_left (λ j. nat_le (operand_level j) g.level) (λ j. loose g.high (Some j))
-    (and_parts (nat_le g.level (suc g.high)) _ g.agrees).1 i t (at_most_true (operand_level i) g.level (omega (arith, l, g.low)))
+    → binds_at_most g.max_bp (Some i) ≡ true
+good_before {n} g i t l = whenever_both takes_left (λ j. nat_le (operand_level j) g.level) (λ j. binds_at_most g.max_bp (Some j))
+    (and_parts (nat_le g.level (suc g.max_bp)) _ g.agrees).1 i t (at_most_true (operand_level i) g.level (omega (arith, l, g.min_bp)))
 
 -- which follows it
 pub good_follows : {n : ℕ} {k : SyntaxKind} {c : Forest} → Good n k c → (i : SyntaxKind) → takes_left i ≡ true → operand_level i ≤ n → (b : AnnotatedForest)
@@ -172,7 +172,7 @@ pub good_follows : {n : ℕ} {k : SyntaxKind} {c : Forest} → Good n k c → (i
     → follows i (one_branch k b) ≡ true
 good_follows {n} {k} g i t l b o =
     let e : g.level ≤ level_of k b = at_most g.level (level_of k b) (g.tight b o) in
-    follows_left i (one_branch k b) t (at_most_true (operand_level i) (level_of k b) (omega (arith, l, g.low, e)))
+    follows_left i (one_branch k b) t (at_most_true (operand_level i) (level_of k b) (omega (arith, l, g.min_bp, e)))
 
 both_no : (v w : Bool) → (v ≡ true → w ≡ false) → (v && w) ≡ false
 both_no true w h = h refl
@@ -184,7 +184,7 @@ follows_binding_power TOKEN_DOT x h = refl
 follows_binding_power _ x h = cc
 
 -- where only looser operators follow, none goes on with an operand
-stops_here : (level : ℕ) (x : AnnotatedForest) (ts : List Token) → loose (below level) (head_kind ts) ≡ true → goes_on level x ts ≡ false
+stops_here : (level : ℕ) (x : AnnotatedForest) (ts : List Token) → binds_at_most (below level) (head_kind ts) ≡ true → goes_on level x ts ≡ false
 stops_here level x [] h = refl
 stops_here level x (t ∷ ts) h = both_no (follows t.kind x) (nat_le level (binding_power t.kind))
     (λ e. by level (is_bound t.kind) h (nat_le level (binding_power t.kind)) refl (at_most 1 (binding_power t.kind) (follows_binding_power t.kind x e)))
@@ -197,28 +197,28 @@ stops_here level x (t ∷ ts) h = both_no (follows t.kind x) (nat_le level (bind
     by (suc n) false h true e l = absurd (grind (arith, nat_tests, h, e))
 
 -- an expression is an operand before what is looser than its level
-pub operand_at : {n : ℕ} {k : SyntaxKind} {c : Forest} → Good n k c → (b : AnnotatedForest) (us : List Token) → Over c b → loose (below n) (head_kind us) ≡ true
+pub operand_at : {n : ℕ} {k : SyntaxKind} {c : Forest} → Good n k c → (b : AnnotatedForest) (us : List Token) → Over c b → binds_at_most (below n) (head_kind us) ≡ true
     → IsOperandOf (Some n) (one_branch k b) us
 operand_at {n} {k} g b us o z =
     let e : g.level ≤ level_of k b = at_most g.level (level_of k b) (g.tight b o) in (
-      omega (arith, e, g.low),
+      omega (arith, e, g.min_bp),
       subst (λ ts. BeginsAs n (one_branch k b) ts) (sym (append_assoc (tokens_in b) [] us))
-          (begun_as n (one_branch k b) (tokens_in b ++ us) (begun_lower n g.level (one_branch k b) (tokens_in b ++ us) g.low
+          (begun_as n (one_branch k b) (tokens_in b ++ us) (begun_lower n g.level (one_branch k b) (tokens_in b ++ us) g.min_bp
           (g.begins b blank us o (wide (below n) (head_kind us) z)))),
       stops_here n (one_branch k b) us z,
     )
 
 -- it begins with a token that an expression begins with
-pub good_opens : {n : ℕ} {k : SyntaxKind} {c : Forest} → Good n k c → (b : AnnotatedForest) (us : List Token) → Over c b → loose 16 (head_kind us) ≡ true
+pub good_opens : {n : ℕ} {k : SyntaxKind} {c : Forest} → Good n k c → (b : AnnotatedForest) (us : List Token) → Over c b → binds_at_most 16 (head_kind us) ≡ true
     → Opens is_start (tokens_in b ++ us)
 good_opens {k = k} g b us o z = begun_opens is_start 0 (one_branch k b) (tokens_in b ++ us) start_is
     (begun_lower 0 g.level (one_branch k b) (tokens_in b ++ us) (omega arith) (g.begins b blank us o z))
 
 -- and an argument with one that an argument begins with
-pub argument_opens : {k : SyntaxKind} {c : Forest} → Good 16 k c → (b : AnnotatedForest) (us : List Token) → Over c b → loose 16 (head_kind us) ≡ true
+pub argument_opens : {k : SyntaxKind} {c : Forest} → Good 16 k c → (b : AnnotatedForest) (us : List Token) → Over c b → binds_at_most 16 (head_kind us) ≡ true
     → Opens is_fn_arg (tokens_in b ++ us)
 argument_opens {k} g b us o z = begun_opens is_fn_arg 16 (one_branch k b) (tokens_in b ++ us) argument_is
-    (begun_lower 16 g.level (one_branch k b) (tokens_in b ++ us) g.low (g.begins b blank us o z))
+    (begun_lower 16 g.level (one_branch k b) (tokens_in b ++ us) g.min_bp (g.begins b blank us o z))
 
 opened_head : (test : SyntaxKind → Bool) (N : Follow) → ((i : SyntaxKind) → test i ≡ true → N (Some i) ≡ true) → (ts : List Token) → Opens test ts
     → N (head_kind ts) ≡ true
@@ -235,7 +235,7 @@ next_node {N} {M} {F} {k} {c} {t} test h opens behind = record { next = first }
         ∙ opened_head test N h (tokens_in b ++ (tokens_in e ++ us)) (opens b (tokens_in e ++ us) o (behind.next e us v z))
 
 -- where an operand stands there is room for it
-pub counted_fits : (w : Bool) (p k : SyntaxKind) (c t : Forest) (d : ℕ) → is_flat p ≡ (if w then false else true) → is_expression k ≡ true
+pub counted_fits : (w : Bool) (p k : SyntaxKind) (c t : Forest) (d : ℕ) → counts_no_child p ≡ (if w then false else true) → is_expression k ≡ true
     → d + nest p (node k c t) ≤ depth_limit
     → (w ≡ true → suc d ≤ depth_limit) × ((if w then suc d else d) + depth_in k c ≤ depth_limit)
 counted_fits true p k c t d f e m =
@@ -249,19 +249,19 @@ operand_expected n counted r m (t ∷ ts) = refl
 
 -- an operand
 pub operand_on : {p : SyntaxKind} {r : Row} {n : ℕ} {counted : Bool} {G : Before} {F : Follow} {k : SyntaxKind} {c t : Forest} → Good n k c
-    → is_flat p ≡ (if counted then false else true) → Next (loose (below n)) F t → Rest p r Any F t → Rest p (Operand n counted · r) G F (node k c t)
+    → counts_no_child p ≡ (if counted then false else true) → Next (binds_at_most (below n)) F t → Rest p r Any F t → Rest p (Operand n counted · r) G F (node k c t)
 operand_on {p} {r} {n} {counted} {G} {F} {k} {c} {t} g f behind rest =
     node_on (ap (λ w. only w r) g.fit) (λ d m. counted_fits counted p k c t d f (fits_expression n k g.fit) m) placed (λ x b o w. tt) (good_node g) behind rest
   where
-    placed : (m : ℕ) (x b : AnnotatedForest) (vs : List Token) → Over c b → G x → loose (below n) (head_kind vs) ≡ true
+    placed : (m : ℕ) (x b : AnnotatedForest) (vs : List Token) → Over c b → G x → binds_at_most (below n) (head_kind vs) ≡ true
         → Placed (Operand n counted · r) m x k b vs
     placed m x b vs o w z = (operand_expected n counted r m (tokens_in b ++ vs), tt, operand_at g b vs o z, unreported k x b (fits_expression n k g.fit))
 
 -- an operand of a series up to a token
 pub series_on : {p : SyntaxKind} {r : Row} {n : ℕ} {closer : SyntaxKind} {G : Before} {F : Follow} {k : SyntaxKind} {c t : Forest} → Good n k c
-    → is_flat p ≡ false → list_all (λ i. if is_expression i then (if same_kind closer i then false else true) else true) all_kinds ≡ true
+    → counts_no_child p ≡ false → list_all (λ i. if is_expression i then (if same_kind closer i then false else true) else true) all_kinds ≡ true
     → ((b : Bool) → list_all (λ i. if is_start i then stands_so (Many n closer · r) b i false else true) all_kinds ≡ true)
-    → Next (loose (below n)) F t → Rest p (Many n closer · r) Any F t → Rest p (Many n closer · r) G F (node k c t)
+    → Next (binds_at_most (below n)) F t → Rest p (Many n closer · r) Any F t → Rest p (Many n closer · r) G F (node k c t)
 series_on {p} {r} {n} {closer} {G} {F} {k} {c} {t} g f x y behind rest = node_on stays (λ d m. counted_fits true p k c t d f e m) placed (λ x b o w. tt)
     (good_node g) behind rest
   where
@@ -275,7 +275,7 @@ series_on {p} {r} {n} {closer} {G} {F} {k} {c} {t} g f x y behind rest = node_on
     stays : after (Many n closer · r) k ≡ Many n closer · r
     stays = not (same_kind closer k) (implied is_expression (λ i. if same_kind closer i then false else true) x k e)
 
-    placed : (m : ℕ) (x b : AnnotatedForest) (vs : List Token) → Over c b → G x → loose (below n) (head_kind vs) ≡ true → Placed (Many n closer · r) m x k b vs
+    placed : (m : ℕ) (x b : AnnotatedForest) (vs : List Token) → Over c b → G x → binds_at_most (below n) (head_kind vs) ≡ true → Placed (Many n closer · r) m x k b vs
     placed m x b vs o w z = (
       opened_so (Many n closer · r) m false is_start y (tokens_in b ++ vs)
           (good_opens g b vs o (wide (below n) (head_kind vs) z)),
@@ -295,7 +295,7 @@ first_on {p} {q} {r} {H} {N} {F} {k} {c} {t} e i x y before child behind rest =
   where
     placed : (m : ℕ) (g b : AnnotatedForest) (vs : List Token) → Over c b → g ≡ blank → N (head_kind vs) ≡ true → Placed q m g k b vs
     placed m g b vs o w z = (
-      x m (tokens_in b ++ vs) (stands_expected q k b),
+      x m (tokens_in b ++ vs) (is_first_expected q k b),
       (part_so q i).2 g (head_kind (tokens_in b ++ vs)),
       subst (λ l. IsOperandOf l (one_branch k b) vs) (sym ((part_so q i).1 (one_branch k b))) tt,
       y g b,
@@ -312,7 +312,7 @@ no_or_row NODE_IDENT _ vs o = refl
 no_or_row _ b vs o = refl
 
 -- an argument
-pub argument_on : {p : SyntaxKind} {F : Follow} {k : SyntaxKind} {c : Forest} → Good 16 k c → Next (loose 15) F empty
+pub argument_on : {p : SyntaxKind} {F : Follow} {k : SyntaxKind} {c : Forest} → Good 16 k c → Next (binds_at_most 15) F empty
     → Rest p done Any F empty → Rest p (Argument · done) (λ g. nat_le 15 (row_level g) ≡ true) F (node k c empty)
 argument_on {p} {F} {k} {c} g behind rest =
     node_on (ap (λ w. only w done) g.fit) (λ d m. (λ y. absurd (true_is_not_false (sym y)), (room p k c empty d m).0)) placed (λ x b o w. tt)
@@ -325,7 +325,7 @@ argument_on {p} {F} {k} {c} g behind rest =
     followed x [] o h = absurd o
     followed x (t ∷ ts) o h = argument_follows t.kind x o h
 
-    placed : (m : ℕ) (x b : AnnotatedForest) (vs : List Token) → Over c b → nat_le 15 (row_level x) ≡ true → loose 15 (head_kind vs) ≡ true
+    placed : (m : ℕ) (x b : AnnotatedForest) (vs : List Token) → Over c b → nat_le 15 (row_level x) ≡ true → binds_at_most 15 (head_kind vs) ≡ true
         → Placed (Argument · done) m x k b vs
     placed m x b vs o w z =
         let i : Opens is_fn_arg (tokens_in b ++ vs) = argument_opens g b vs o (wide 15 (head_kind vs) z) in
@@ -339,20 +339,20 @@ argument_on {p} {F} {k} {c} g behind rest =
 -- a row that begins with an expression begins as it does
 pub begins_first : {n : ℕ} {j : SyntaxKind} {a t : Forest} (l : ℕ) (k : SyntaxKind)
     → ((b f e : AnnotatedForest) → first_tree (branch j b f) ≡ first_tree (branch k (branch j b f) e))
-    → l ≤ n → Good n j a → Next (loose 16) (loose 16) t → (b f : AnnotatedForest) (us : List Token) → Over (node j a t) b → loose 16 (head_kind us) ≡ true
+    → l ≤ n → Good n j a → Next (binds_at_most 16) (binds_at_most 16) t → (b f : AnnotatedForest) (us : List Token) → Over (node j a t) b → binds_at_most 16 (head_kind us) ≡ true
     → Begun l (branch k b f) (tokens_in b ++ us)
 begins_first {n} {j} {a} {t} l k same m g behind b f us (over_node {b = x} {f = h} o v) z =
     subst (λ ts. Begun l (branch k (branch j x h) f) ts) (sym (append_assoc (tokens_in x) (tokens_in h) us))
     (begun_same l (branch j x h) (branch k (branch j x h) f) (tokens_in x ++ (tokens_in h ++ us)) (same x h f)
-    (begun_lower l g.level (branch j x h) (tokens_in x ++ (tokens_in h ++ us)) (omega (arith, m, g.low))
+    (begun_lower l g.level (branch j x h) (tokens_in x ++ (tokens_in h ++ us)) (omega (arith, m, g.min_bp))
     (g.begins x h (tokens_in h ++ us) o (behind.next h us v z))))
 
 -- one that begins with a token, as the token says
 pub begins_leaf : {i : SyntaxKind} {s : List ℕ} {c : Forest} (l : ℕ) (k : SyntaxKind) → ((b f : AnnotatedForest) → first_tree (branch k b f) ≡ k)
     → is_known k ≡ true
-    → ((text : List ℕ) (h : AnnotatedForest) (us : List Token) → text ≡ s → Over c h → loose 16 (head_kind us) ≡ true
-    → first_kind l (untold i s) text (head_kind (tokens_in h ++ us)) (second_kind (tokens_in h ++ us)) ≡ k)
-    → (b f : AnnotatedForest) (us : List Token) → Over (leaf i s c) b → loose 16 (head_kind us) ≡ true → Begun l (branch k b f) (tokens_in b ++ us)
+    → ((text : List ℕ) (h : AnnotatedForest) (us : List Token) → text ≡ s → Over c h → binds_at_most 16 (head_kind us) ≡ true
+    → first_kind l (kind_of_token i s) text (head_kind (tokens_in h ++ us)) (second_kind (tokens_in h ++ us)) ≡ k)
+    → (b f : AnnotatedForest) (us : List Token) → Over (leaf i s c) b → binds_at_most 16 (head_kind us) ≡ true → Begun l (branch k b f) (tokens_in b ++ us)
 begins_leaf l k same known tells b f us (over_leaf {x = x} {f = h} e w o) z = (
   ap (λ j. first_kind l j x.text (head_kind (tokens_in h ++ us)) (second_kind (tokens_in h ++ us))) e ∙ tells x.text h us w o z ∙ sym (same b f),
   ap is_known (same b f) ∙ known,
@@ -361,8 +361,8 @@ begins_leaf l k same known tells b f us (over_leaf {x = x} {f = h} e w o) z = (
 -- An atom: anything may follow it that makes no more of a name.
 pub record GoodAtom (k : SyntaxKind) (c : Forest) : Type 0 where
   pub atom : is_atom k ≡ true
-  pub node : Node (loose 16) k c
-  pub begins : (b f : AnnotatedForest) (us : List Token) → Over c b → loose 16 (head_kind us) ≡ true → Begun 16 (branch k b f) (tokens_in b ++ us)
+  pub node : Node (binds_at_most 16) k c
+  pub begins : (b f : AnnotatedForest) (us : List Token) → Over c b → binds_at_most 16 (head_kind us) ≡ true → Begun 16 (branch k b f) (tokens_in b ++ us)
 
 atom_level : (k : SyntaxKind) (b : AnnotatedForest) → is_atom k ≡ true → nat_le 16 (level_of k b) ≡ true
 atom_level NODE_PAREN b h = refl
@@ -372,8 +372,8 @@ atom_level _ b h = cc
 pub good_atom : {k : SyntaxKind} {c : Forest} → GoodAtom k c → Good 16 k c
 good_atom {k} a = record {
   level = 16;
-  high = 16;
-  low = omega arith;
+  max_bp = 16;
+  min_bp = omega arith;
   agrees = refl;
   fit = atom_fits 16 k a.atom;
   node = a.node;

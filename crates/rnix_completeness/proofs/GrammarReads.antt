@@ -10,18 +10,18 @@ use Rattle.rnix_grammar.specs.declared.rules.Part.TheVariants.{Attr, EndOr, Entr
 use Rattle.rnix_grammar.specs.Grammar as g
 use Rattle.rnix_grammar.specs.Reads as read
 use Rattle.rnix_grammar.specs.AnnotatedForest.{AnnotatedForest, blank, ◌⊕◌, one_token, one_branch, tokens_in, head_kind, end_from, touches}
-use Rattle.rnix_grammar.specs.{Begins.second_kind, Yield.untold, Tables.{is_or, depth_limit}}
-use Rattle.rnix_grammar.specs.{TokenKinds.{is_path_piece, is_piece_start}, Nest.nest, Plain.{joins, joins_first, ArePaths}}
-use Rattle.rnix_grammar.specs.{Rows.{is_expression, is_plain_literal}, Reads.ReadsWhole}
+use Rattle.rnix_grammar.specs.{Begins.second_kind, Yield.kind_of_token, Tables.{is_or, depth_limit}}
+use Rattle.rnix_grammar.specs.{TokenKinds.{is_path_piece, is_piece_start}, Nest.nest, PathPieces.{joins, joins_first, ArePaths}}
+use Rattle.rnix_grammar.specs.{Rows.{is_expression, is_plain_literal}, Reads.ReadsRoot}
 use Rattle.rnix_grammar.specs.Rules.{Row, done, ◌·◌, only, after, begins_attr}
-use Rattle.rnix_lemmas.proofs.{Basics.{true_is_not_false, choice}, NodeKinds.{told_plain, fits_expression, unreported}}
-use Rattle.rnix_lemmas.proofs.PlainTables.{loose, is_no_dot}
+use Rattle.rnix_lemmas.proofs.{Basics.{true_is_not_false, choice}, KindsOfNodes.{keeps_kind, fits_expression, unreported}}
+use Rattle.rnix_lemmas.proofs.PlainTables.{binds_at_most, is_no_dot}
 use Rattle.rnix_completeness.proofs.OverTokens.{Over, over_leaf, over_node, over_nothing, IsRead, token_read, node_read, node_reads, opened_so}
 use Rattle.rnix_completeness.proofs.PartReads.{Follow, room, Rest, Any, node_of, Next, next_leaf, next_end, next_any, follows_by, plain_node, next_more, anything, finished, leaf_on, item, Part, part_on}
 use Rattle.rnix_completeness.proofs.GoodOperands.{Good, GoodAtom, good_atom, good_looser, good_node, wide, next_node, argument_opens, operand_on, series_on, first_on, begins_leaf, operand_at, counted_fits, operand_expected}
 use Rattle.rnix_completeness.proofs.NamesAndBraces.{name_kind, entries_open, Covers, covers_leaf}
-use Rattle.rnix_completeness.proofs.OperatorRows.{ends, untold_plain, select_good, has_attr_good, binary_good, apply_good, apply_or_good, name_node}
-use Rattle.rnix_completeness.proofs.GrammarParts.{Gathers, GoodAttr, GoodAttrpath, GoodFormals, GoodItems, GoodNames, GoodParameter, PathReads, attr_new, entry_node, entry_on, good, in_braces, in_let, lambda_begins, let_kind, literal_after, literal_begins, name_begins, name_part, names_after, no_brace, no_interpol, no_piece, old_let_kind, part_leaf, part_node, path_node, pattern_end_rest, piece_expected, unary_tight}
+use Rattle.rnix_completeness.proofs.OperatorReadings.{ends, keeps_token_kind, select_good, has_attr_good, binary_good, apply_good, apply_or_good, name_node}
+use Rattle.rnix_completeness.proofs.GrammarParts.{Gathers, GoodAttr, GoodAttrpath, GoodFormals, GoodItems, GoodNames, GoodParameter, PathReads, attr_new, entry_node, entry_on, good, in_braces, in_let, lambda_begins, let_kind, literal_after, literal_begins, name_begins, name_part, names_after, no_brace, no_interpol, no_piece, old_let_kind, part_leaf, part_node, path_node, pattern_end_rest, piece_expected, unary_level}
 
 mutual
   -- an expression stands at its level
@@ -29,20 +29,20 @@ mutual
   strict_good (g.looser l h) = good_looser l (strict_good h)
   strict_good (g.atom h) = good_atom (atom_reads h)
   strict_good (g.select a q) = select_good (atom_reads a) (part_on refl refl (λ b x. refl) (λ x b. refl) (attrpath_reads q).part
-      (next_end (follows_by (loose 15) is_no_dot refl refl)) (ends refl (λ n. refl) (λ b. refl)))
+      (next_end (follows_by (binds_at_most 15) is_no_dot refl refl)) (ends refl (λ n. refl) (λ b. refl)))
   strict_good (g.select_or a q h) = select_good (atom_reads a) (part_on refl refl (λ b x. refl) (λ x b. refl) (attrpath_reads q).part (next_leaf refl)
       (item refl (λ b. refl) (λ x. tt) (operand_on (strict_good h) refl (next_end (λ o z. z)) finished)))
   strict_good (g.apply_or a h) = apply_or_good (atom_reads a) h
   strict_good (g.apply h i) = apply_good (strict_good h) (strict_good i)
   strict_good (g.negate h) = good 14 13 refl refl (plain_node refl (item refl (λ b. refl) (λ x. tt)
       (operand_on (strict_good h) refl (next_end (λ o z. z)) finished)))
-      (unary_tight 14 (λ x f. refl)) (begins_leaf 14 NODE_UNARY_OP (λ b f. refl) refl (λ text h us w o z. refl))
+      (unary_level 14 (λ x f. refl)) (begins_leaf 14 NODE_UNARY_OP (λ b f. refl) refl (λ text h us w o z. refl))
   strict_good (g.has_attr h q) = has_attr_good (strict_good h) (part_on refl refl (λ b x. refl) (λ x b. refl) (attrpath_reads q).part
-      (next_end (follows_by (loose 13) is_no_dot refl refl)) finished)
+      (next_end (follows_by (binds_at_most 13) is_no_dot refl refl)) finished)
   strict_good (g.binary e h i) = binary_good e (strict_good h) (strict_good i)
   strict_good (g.invert h) = good 9 8 refl refl (plain_node refl (item refl (λ b. refl) (λ x. tt)
       (operand_on (strict_good h) refl (next_end (λ o z. z)) finished)))
-      (unary_tight 9 (λ x f. refl)) (begins_leaf 9 NODE_UNARY_OP (λ b f. refl) refl (λ text h us w o z. refl))
+      (unary_level 9 (λ x f. refl)) (begins_leaf 9 NODE_UNARY_OP (λ b f. refl) refl (λ text h us w o z. refl))
   strict_good (g.lambda h i) =
       let w = parameter_reads h in
       good 0 0 refl refl (node_of refl refl (first_on {H = Any} w.goes refl (λ m ts w. tt) w.new (λ b o. tt) w.node (next_leaf refl)
@@ -54,7 +54,7 @@ mutual
   strict_good (g.let_in h i) = good 0 0 refl refl (plain_node refl (item refl (λ b. refl) (λ x. tt)
       (entries_rest h in_let (item refl (λ b. refl) (λ x. tt) (operand_on (strict_good i) refl (next_end (λ o z. z)) finished)))))
       (λ b o. refl) (begins_leaf 0 NODE_LET_IN (λ b f. refl) refl (λ text e us w o z. let_kind (head_kind (tokens_in e ++ us))
-      ((entries_next {F = loose 16} h (next_leaf refl)).next e us o z)))
+      ((entries_next {F = binds_at_most 16} h (next_leaf refl)).next e us o z)))
   strict_good (g.with_scope h i) = good 0 0 refl refl (plain_node refl (item refl (λ b. refl) (λ x. tt) (operand_on (strict_good h) refl (next_leaf refl)
       (item refl (λ b. refl) (λ x. tt) (operand_on (strict_good i) refl (next_end (λ o z. z)) finished)))))
       (λ b o. refl) (begins_leaf 0 NODE_WITH (λ b f. refl) refl (λ text h us w o z. refl))
@@ -115,8 +115,8 @@ mutual
   }
   atom_reads (g.literal {j = j} {s = s} h) = record {
     atom = refl;
-    node = plain_node refl (item (sym (told_plain NODE_LITERAL (untold j s) refl ∙ untold_plain is_plain_literal refl j s h)) (λ b. refl) (λ x. tt)
-        (subst (λ q. Rest NODE_LITERAL q Any (loose 16) empty) (sym (literal_after j h)) finished));
+    node = plain_node refl (item (sym (keeps_kind NODE_LITERAL (kind_of_token j s) refl ∙ keeps_token_kind is_plain_literal refl j s h)) (λ b. refl) (λ x. tt)
+        (subst (λ q. Rest NODE_LITERAL q Any (binds_at_most 16) empty) (sym (literal_after j h)) finished));
     begins = begins_leaf 16 NODE_LITERAL (λ b f. refl) refl (λ text e us w o z. literal_begins j s text (head_kind (tokens_in e ++ us))
         (second_kind (tokens_in e ++ us)) h);
   }
@@ -139,7 +139,7 @@ mutual
       let w = items_read r in
       record {
         rest = series_on (strict_good h) refl refl (λ b. refl) w.next w.rest;
-        next = next_node is_fn_arg (implied is_fn_arg (λ i. loose 15 (Some i)) refl) (argument_opens (strict_good h)) (next_more (wide 15) w.next);
+        next = next_node is_fn_arg (implied is_fn_arg (λ i. binds_at_most 15 (Some i)) refl) (argument_opens (strict_good h)) (next_more (wide 15) w.next);
       }
 
   pieces_rest : {F : Follow} {f : Forest} → g.Pieces f → Rest NODE_STRING (Pieces · Wanted TOKEN_STRING_END · done) Any F f
@@ -161,9 +161,9 @@ mutual
   path_pieces_read : {f : Forest} → g.PathPieces f → PathReads (PathPieces · done) joins f
   path_pieces_read g.pieces_end p sound d n x b us over_nothing a m j z = (PathPieces · done, read.end, (refl, no_piece n us j))
   path_pieces_read (g.piece {j = i} {s = s} l r) p sound d n x b us (over_leaf {x = y} {f = h} e w o) a m j z =
-      let told : y.kind ≡ i = e ∙ untold_plain is_path_piece refl i s l in
+      let told : y.kind ≡ i = e ∙ keeps_token_kind is_path_piece refl i s l in
       let u = and_parts (nat_eq y.start n) (joins y.end h us) j in
-      token_read (sym (told_plain p y.kind sound ∙ told)) (ap (λ w. w && is_piece_start y.kind) u.0 ∙ ap is_piece_start told
+      token_read (sym (keeps_kind p y.kind sound ∙ told)) (ap (λ w. w && is_piece_start y.kind) u.0 ∙ ap is_piece_start told
       ∙ implied is_path_piece is_piece_start refl i l) tt
       (subst (λ w. IsRead p d y.end (only (w || same_kind NODE_INTERPOL i) (PathPieces · done)) (x ⊕ one_token i y) h us) (sym l)
       (path_pieces_read r p sound d y.end (x ⊕ one_token i y) h us o a m u.1 z))
@@ -289,13 +289,13 @@ mutual
             (leaf_on refl (λ b. refl) (λ x c. tt) (λ w y c. covers_leaf (x ∷ names) w TOKEN_COMMA y c) v);
       }
 
-  entry_part : {x : List ℕ} {c : Forest} → g.Formal x c → Part (loose 0) (same_kind TOKEN_IDENT) NODE_PAT_ENTRY c
+  entry_part : {x : List ℕ} {c : Forest} → g.Formal x c → Part (binds_at_most 0) (same_kind TOKEN_IDENT) NODE_PAT_ENTRY c
   entry_part (g.entry n) = part_node (name_part n) (entry_node (ends refl (λ n. refl) (λ b. refl)))
   entry_part (g.default_entry n h) = part_node (name_part n) (entry_node
       (item refl (λ b. refl) (λ x. tt) (operand_on (strict_good h) refl (next_end (λ o z. z)) finished)))
 
 -- an expression that nests no deeper than the limit, its pieces of paths joined, is a reading of its items, without errors
-pub expression_reads : {t : Forest} → g.IsExpression t → (f : AnnotatedForest) → Over t f → ArePaths f [] → nest NODE_ROOT t ≤ depth_limit → ReadsWhole f []
+pub expression_reads : {t : Forest} → g.IsExpression t → (f : AnnotatedForest) → Over t f → ArePaths f [] → nest NODE_ROOT t ≤ depth_limit → ReadsRoot f []
 expression_reads (g.expression {k = k} {c = c} h) f (over_node {b = b} o over_nothing) a m =
     let w = strict_good h in
     let e : is_expression k ≡ true = fits_expression 0 k w.fit in

@@ -2,6 +2,6 @@ pub mod OverTokens
 pub mod PartReads
 pub mod GoodOperands
 pub mod NamesAndBraces
-pub mod OperatorRows
+pub mod OperatorReadings
 pub mod GrammarParts
 pub mod GrammarReads

@@ -4,14 +4,14 @@ use Rattle.rnix_kinds.specs.declared.kinds.SyntaxKind.{SyntaxKind, TheVariants.{
 use Rattle.rnix_kinds.specs.declared.kinds.SyntaxKind.TheVariants.{TOKEN_INTERPOL_START, TOKEN_OR, TOKEN_QUESTION, TOKEN_R_BRACE, TOKEN_STRING_START, NODE_ATTR_SET, NODE_IDENT, NODE_PAT_ENTRY, NODE_PATTERN}
 use Rattle.rnix_green.specs.Forest.{Forest, empty, leaf}
 use Rattle.rnix_grammar.specs.AnnotatedForest.{Token, AnnotatedForest, branch, ◌⊕◌, one_token, one_branch, tokens_in, head_kind, extent_of}
-use Rattle.rnix_grammar.specs.{Begins.{is_pattern, second_kind}, Beginnings.{first_kind, first_kind_of_name}, Yield.untold, Tables.{is_or, is_among}, Fault.named_twice, Reports.{repeats, has_entry}}
+use Rattle.rnix_grammar.specs.{Begins.{is_pattern, second_kind}, Beginnings.{first_kind, first_kind_of_name}, Yield.kind_of_token, Tables.{is_or, is_among}, Fault.named_twice, Reports.{repeats, has_entry}}
 use Rattle.rnix_grammar.specs.Grammar.{Entries, entries_end, inheriting, binding, bind, inherit_names, inherit_from, Attrpath, last_attr, attr_dot, Attr, named_attr, string_attr, dynamic_attr}
 use Rattle.rnix_grammar.specs.Grammar.{Parameter, parameter, pattern, bound_pattern, Formals, formals_end, ellipsis, last_entry, entry_comma, pattern_end, bound_behind, Formal, entry, default_entry}
-use Rattle.rnix_lemmas.proofs.{Basics.{true_is_not_false, not_if}, EntryNames.has-⊕, PlainTables.loose}
+use Rattle.rnix_lemmas.proofs.{Basics.{true_is_not_false, not_if}, EntryNames.has-⊕, PlainTables.binds_at_most}
 use Rattle.rnix_completeness.proofs.OverTokens.{Over, over_nothing, over_leaf, over_node}
 
 -- a name that is no `or` has the token of one
-pub name_kind : (s : List ℕ) → is_or s ≡ false → untold TOKEN_IDENT s ≡ TOKEN_IDENT
+pub name_kind : (s : List ℕ) → is_or s ≡ false → kind_of_token TOKEN_IDENT s ≡ TOKEN_IDENT
 name_kind s h = ap (λ w. if w then TOKEN_OR else TOKEN_IDENT) h
 
 -- `{` begins a pattern before these items
@@ -61,7 +61,7 @@ path_opens (attr_dot a r) b vs (over_node {b = c} o (over_leaf {x = x} {f = f} e
     ap opens_pattern (append_assoc (tokens_in c) (x ∷ tokens_in f) vs) ∙ attr_opens a c (x ∷ (tokens_in f ++ vs)) o (ap (λ z. is_no_tail (Some z)) e)
 
 -- before what makes more of a name it begins none
-no_binder : (next : Option SyntaxKind) → loose 16 next ≡ true → is_pattern (Some TOKEN_R_BRACE) next ≡ false
+no_binder : (next : Option SyntaxKind) → binds_at_most 16 next ≡ true → is_pattern (Some TOKEN_R_BRACE) next ≡ false
 no_binder None h = refl
 no_binder (Some TOKEN_COLON) h = absurd (true_is_not_false (sym h))
 no_binder (Some TOKEN_AT) h = absurd (true_is_not_false (sym h))
@@ -69,7 +69,7 @@ no_binder (Some _) h = refl
 
 -- so it begins none before the entries of a set
 pub entries_open : {f : Forest} {s : List ℕ} → Entries f (leaf TOKEN_R_BRACE s empty) → (h : AnnotatedForest) (vs : List Token) → Over f h
-    → loose 16 (head_kind vs) ≡ true → opens_pattern (tokens_in h ++ vs) ≡ false
+    → binds_at_most 16 (head_kind vs) ≡ true → opens_pattern (tokens_in h ++ vs) ≡ false
 entries_open entries_end h vs (over_leaf e i over_nothing) l = one _ TOKEN_R_BRACE e ∙ no_binder (head_kind vs) l
 entries_open (inheriting (inherit_names n) r) h vs (over_node (over_leaf e i o) v) l = one _ TOKEN_INHERIT e
 entries_open (inheriting (inherit_from q n) r) h vs (over_node (over_leaf e i o) v) l = one _ TOKEN_INHERIT e

@@ -4,21 +4,21 @@ use Rattle.rnix_kinds.{specs.declared.kinds.SyntaxKind.SyntaxKind, proofs.AllKin
 use Rattle.rnix_green.specs.Forest.{Forest, empty, leaf, node}
 use Rattle.rnix_grammar.specs.declared.rules.Part.TheVariants as p
 use Rattle.rnix_grammar.specs.AnnotatedForest.{Token, AnnotatedForest, blank, token, branch, fault, ◌⊕◌, one_token, one_branch, tokens_in, forget, head_kind, end_from, leaf_kind}
-use Rattle.rnix_grammar.specs.{Beginnings.IsOperandOf, Plain.AreUntold, Yield.untold, Reports.repeats}
-use Rattle.rnix_grammar.specs.Rules.{Row, ◌·◌, ◌or◌, row, after, expects, expects_item, IsExpected, stands_expected, level_at, IsFollowed}
+use Rattle.rnix_grammar.specs.{Beginnings.IsOperandOf, PathPieces.HaveTokenKinds, Yield.kind_of_token, Reports.repeats}
+use Rattle.rnix_grammar.specs.Rules.{Row, ◌·◌, ◌or◌, row, after, expects, expects_item, IsExpected, is_first_expected, level_at, IsFollowed}
 use Rattle.rnix_grammar.specs.Reads as read
 use Rattle.rnix_grammar.specs.Reads.{Reads, IsRoom, IsOver, deeper}
-use Rattle.rnix_lemmas.proofs.{Basics.not_if, StrictParts.end_behind}
+use Rattle.rnix_lemmas.proofs.{Basics.not_if, TokenEnds.end_behind}
 
 -- the leaves of a tree stand for tokens, each with the kind and the text that the leaf says
 pub data Over : Forest → AnnotatedForest → Type 0 where
   over_nothing : Over empty blank
-  over_leaf : {k : SyntaxKind} {s : List ℕ} {t : Forest} {x : Token} {f : AnnotatedForest} → x.kind ≡ untold k s → x.text ≡ s → Over t f
+  over_leaf : {k : SyntaxKind} {s : List ℕ} {t : Forest} {x : Token} {f : AnnotatedForest} → x.kind ≡ kind_of_token k s → x.text ≡ s → Over t f
       → Over (leaf k s t) (token k x f)
   over_node : {k : SyntaxKind} {c t : Forest} {b f : AnnotatedForest} → Over c b → Over t f → Over (node k c t) (branch k b f)
 
 -- each tree without error nodes is so
-pub over_trees : (f : AnnotatedForest) → AreUntold f → Over (forget f) f
+pub over_trees : (f : AnnotatedForest) → HaveTokenKinds f → Over (forget f) f
 over_trees blank v = over_nothing
 over_trees (token k x f) v = over_leaf v.1 refl (over_trees f v.2)
 over_trees (branch k c f) v = over_node (over_trees c v.0) (over_trees f v.1)
@@ -39,7 +39,7 @@ token_read {p} {q} {d} {n} {g} {f} {us} {k} {x} e i w h =
 -- a node, before a rest of a row that ends at another
 pub node_reads : {p : SyntaxKind} {q s z : Row} {d n : ℕ} {g f : AnnotatedForest} {us : List Token} {k : SyntaxKind} {c : AnnotatedForest} → after q k ≡ s
     → IsRoom q d
-    → IsRead k (deeper q d) n (row k) blank c (tokens_in f ++ us) → IsExpected q n (tokens_in c ++ (tokens_in f ++ us)) (stands_expected q k c)
+    → IsRead k (deeper q d) n (row k) blank c (tokens_in f ++ us) → IsExpected q n (tokens_in c ++ (tokens_in f ++ us)) (is_first_expected q k c)
     → IsFollowed q g (head_kind (tokens_in c ++ (tokens_in f ++ us))) → IsOperandOf (level_at q (one_branch k c)) (one_branch k c) (tokens_in f ++ us)
     → repeats k g c ≡ [] → Reads p d (end_from n (tokens_in c)) s z (g ⊕ one_branch k c) us f [] → Reads p d n q z g us (branch k c f) []
 node_reads {p} {q} {s} {z} {d} {n} {g} {f} {us} {k} {c} a room inside i w o e h =
@@ -49,7 +49,7 @@ node_reads {p} {q} {s} {z} {d} {n} {g} {f} {us} {k} {c} a room inside i w o e h 
 -- a node, and the rest of a row
 pub node_read : {p : SyntaxKind} {q s : Row} {d n : ℕ} {g f : AnnotatedForest} {us : List Token} {k : SyntaxKind} {c : AnnotatedForest} → after q k ≡ s
     → IsRoom q d
-    → IsRead k (deeper q d) n (row k) blank c (tokens_in f ++ us) → IsExpected q n (tokens_in c ++ (tokens_in f ++ us)) (stands_expected q k c)
+    → IsRead k (deeper q d) n (row k) blank c (tokens_in f ++ us) → IsExpected q n (tokens_in c ++ (tokens_in f ++ us)) (is_first_expected q k c)
     → IsFollowed q g (head_kind (tokens_in c ++ (tokens_in f ++ us))) → IsOperandOf (level_at q (one_branch k c)) (one_branch k c) (tokens_in f ++ us)
     → repeats k g c ≡ [] → IsRead p d (end_from n (tokens_in c)) s (g ⊕ one_branch k c) f us → IsRead p d n q g (branch k c f) us
 node_read {n = n} {f = f} {us = us} {c = c} a room inside i w o e h =

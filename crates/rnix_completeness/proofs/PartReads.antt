@@ -5,8 +5,8 @@ use Rattle.rnix_kinds.{specs.declared.kinds.SyntaxKind.{SyntaxKind, TheVariants.
 use Rattle.rnix_green.specs.Forest.{Forest, empty, leaf, node}
 use Rattle.rnix_grammar.specs.declared.rules.Part.TheVariants as p
 use Rattle.rnix_grammar.specs.AnnotatedForest.{Token, AnnotatedForest, blank, ◌⊕◌, one_token, one_branch, tokens_in, head_kind, end_from, leaf_kind_as}
-use Rattle.rnix_grammar.specs.{Beginnings.IsOperandOf, Plain.{is_path, is_joined, ArePaths}, Yield.untold, Reports.repeats, Nest.{nest, nests, is_flat}, Tables.depth_limit}
-use Rattle.rnix_grammar.specs.Rules.{Row, done, ◌·◌, row, after, may_end, IsExpected, stands_expected, level_at, counts, IsFollowed}
+use Rattle.rnix_grammar.specs.{Beginnings.IsOperandOf, PathPieces.{is_path, is_joined, ArePaths}, Yield.kind_of_token, Reports.repeats, Nest.{nest, nests, counts_no_child}, Tables.depth_limit}
+use Rattle.rnix_grammar.specs.Rules.{Row, done, ◌·◌, row, after, may_end, IsExpected, is_first_expected, level_at, counts, IsFollowed}
 use Rattle.rnix_grammar.specs.Reads as read
 use Rattle.rnix_grammar.specs.Reads.{IsRoom, deeper}
 use Rattle.rnix_lemmas.proofs.Basics.{true_is_not_false, choice}
@@ -19,7 +19,7 @@ depth_in k c = nest k c
 
 nest_is : (p k : SyntaxKind) (c t : Forest) → nest p (node k c t) ≡ max (if nests p k then suc (depth_in k c) else depth_in k c) (nest p t)
 nest_is p NODE_PAT_ENTRY (node j d e) t =
-    ap (λ w. max (if w then suc (nest NODE_PAT_ENTRY e) else nest NODE_PAT_ENTRY e) (nest p t)) (sym (choice (λ w. w ≡ false) (is_flat p) refl refl))
+    ap (λ w. max (if w then suc (nest NODE_PAT_ENTRY e) else nest NODE_PAT_ENTRY e) (nest p t)) (sym (choice (λ w. w ≡ false) (counts_no_child p) refl refl))
 nest_is p NODE_PAT_ENTRY _ t = refl
 nest_is p _ c t = refl
 
@@ -70,7 +70,7 @@ pub record Next (N F : Follow) (t : Forest) : Type 0 where
 pub next_more : {N M F : Follow} {t : Forest} → ((o : Option SyntaxKind) → N o ≡ true → M o ≡ true) → Next N F t → Next M F t
 next_more h w = record { next = λ f us o z. h (head_kind (tokens_in f ++ us)) (w.next f us o z) }
 
-pub next_leaf : {N F : Follow} {k : SyntaxKind} {s : List ℕ} {t : Forest} → N (Some (untold k s)) ≡ true → Next N F (leaf k s t)
+pub next_leaf : {N F : Follow} {k : SyntaxKind} {s : List ℕ} {t : Forest} → N (Some (kind_of_token k s)) ≡ true → Next N F (leaf k s t)
 next_leaf {N} {F} {k} {s} {t} h = record { next = first }
   where
     first : (f : AnnotatedForest) (us : List Token) → Over (leaf k s t) f → F (head_kind us) ≡ true → N (head_kind (tokens_in f ++ us)) ≡ true
@@ -114,7 +114,7 @@ finished {F = F} = finish refl over
 
 -- a token, which the trees before it may have to stand before
 pub leaf_on : {p : SyntaxKind} {q : Row} {G H : Before} {F : Follow} {k : SyntaxKind} {s : List ℕ} {t : Forest}
-    → k ≡ leaf_kind_as p (untold k s) → ((b : Bool) → stands_so q b (untold k s) true ≡ true) → ((g : AnnotatedForest) → G g → IsFollowed q g (Some k))
+    → k ≡ leaf_kind_as p (kind_of_token k s) → ((b : Bool) → stands_so q b (kind_of_token k s) true ≡ true) → ((g : AnnotatedForest) → G g → IsFollowed q g (Some k))
     → ((g : AnnotatedForest) (x : Token) → G g → H (g ⊕ one_token k x)) → Rest p (after q k) H F t → Rest p q G F (leaf k s t)
 leaf_on {p} {q} {G} {H} {F} {k} {s} {t} told own followed before r = record { reads = first }
   where
@@ -125,13 +125,13 @@ leaf_on {p} {q} {G} {H} {F} {k} {s} {t} told own followed before r = record { re
         (followed g c) (r.reads d x.end (g ⊕ one_token k x) h us o a m (before g x c) z)
 
 pub item : {p : SyntaxKind} {q : Row} {G : Before} {F : Follow} {k : SyntaxKind} {s : List ℕ} {t : Forest}
-    → k ≡ leaf_kind_as p (untold k s) → ((b : Bool) → stands_so q b (untold k s) true ≡ true) → ((g : AnnotatedForest) → IsFollowed q g (Some k))
+    → k ≡ leaf_kind_as p (kind_of_token k s) → ((b : Bool) → stands_so q b (kind_of_token k s) true ≡ true) → ((g : AnnotatedForest) → IsFollowed q g (Some k))
     → Rest p (after q k) Any F t → Rest p q G F (leaf k s t)
 item told own followed r = leaf_on told own (λ g c. followed g) (λ g x c. tt) r
 
 -- what is asked of a node where it stands, before some items
 abbrev pub Placed : Row → ℕ → AnnotatedForest → SyntaxKind → AnnotatedForest → List Token → Type 0
-Placed q n g k b vs = IsExpected q n (tokens_in b ++ vs) (stands_expected q k b) × IsFollowed q g (head_kind (tokens_in b ++ vs))
+Placed q n g k b vs = IsExpected q n (tokens_in b ++ vs) (is_first_expected q k b) × IsFollowed q g (head_kind (tokens_in b ++ vs))
     × IsOperandOf (level_at q (one_branch k b)) (one_branch k b) vs × (repeats k g b ≡ [])
 
 -- a node
@@ -180,7 +180,7 @@ pub record Part (N : Follow) (test : SyntaxKind → Bool) (k : SyntaxKind) (c : 
 
 -- stands where such a token is expected, or is not
 pub part_on : {p : SyntaxKind} {q s : Row} {G : Before} {N F : Follow} {test : SyntaxKind → Bool} {k : SyntaxKind} {c t : Forest} → after q k ≡ s
-    → is_part q ≡ true → ((b : Bool) (x : AnnotatedForest) → list_all (λ i. if test i then stands_so q b i (stands_expected q k x) else true) all_kinds ≡ true)
+    → is_part q ≡ true → ((b : Bool) (x : AnnotatedForest) → list_all (λ i. if test i then stands_so q b i (is_first_expected q k x) else true) all_kinds ≡ true)
     → ((g b : AnnotatedForest) → repeats k g b ≡ []) → Part N test k c → Next N F t → Rest p s Any F t → Rest p q G F (node k c t)
 part_on {p} {q} {s} {G} {N} {F} {test} {k} {c} {t} e h own new child behind r = node_on e fits placed (λ g b o w. tt) child.node behind r
   where
@@ -189,7 +189,7 @@ part_on {p} {q} {s} {G} {N} {F} {test} {k} {c} {t} e h own new child behind r = 
 
     placed : (n : ℕ) (g b : AnnotatedForest) (vs : List Token) → Over c b → G g → N (head_kind vs) ≡ true → Placed q n g k b vs
     placed n g b vs o w z = (
-      opened_so q n (stands_expected q k b) test (λ x. own x b) (tokens_in b ++ vs) (child.opens b vs o),
+      opened_so q n (is_first_expected q k b) test (λ x. own x b) (tokens_in b ++ vs) (child.opens b vs o),
       (part_so q h).2 g (head_kind (tokens_in b ++ vs)),
       subst (λ l. IsOperandOf l (one_branch k b) vs) (sym ((part_so q h).1 (one_branch k b))) tt,
       new g b,

@@ -2,9 +2,9 @@ pub mod Growing
 pub mod Frames
 pub mod BeginLevels
 pub mod OpenFrames
-pub mod PlaceRows
+pub mod ActionPositions
 pub mod OperandTrees
-pub mod Beginnings
+pub mod OperandFrames
 pub mod OperandSteps
 pub mod NodeSteps
-pub mod WholeReads
+pub mod StepsReadRoot

@@ -2,24 +2,24 @@
 use Rattle.std.proofs.Common.{◌≡◌, inl, ℕ, suc, ◌≤◌, ◌<◌, Bool, true, false, List, [], ◌∷◌, ◌++◌, Option, Some, refl, ap, sym, ◌∙◌, subst, append_assoc}
 use Rattle.std.proofs.{Common.{append-nil, arith, if◌then◌else◌, nat_le, ◌&&◌}, lemmas.Bool.{and_parts, Decides.nat_tests}}
 use Rattle.rnix_kinds.specs.declared.kinds.SyntaxKind.{SyntaxKind, TheVariants.{NODE_IDENT, NODE_PAT_ENTRY, NODE_ERROR, NODE_LITERAL, TOKEN_AT}}
-use Rattle.rnix_grammar.specs.declared.{place.Place.Place, until.Until.Until, action.Action.Action, position.TheConstants.{PAT_ENTRY, SECOND}}
-use Rattle.rnix_grammar.specs.{declared.rules.Part.TheVariants.{BoundAlready, TextEnd}, Positions.left_at, Fault.{Fault, ended, ended_before}}
-use Rattle.rnix_grammar.specs.{Tables.{depth_limit, is_wanted, wanted_kinds}, Reports.{report, repeats, repeated}, Missing.run_of, Actions.action_at}
-use Rattle.rnix_grammar.specs.AnnotatedForest.{Token, Note, Unwanted, Extra, Twice, TooDeep, AnnotatedForest, blank, ◌⊕◌, one_token, one_branch, one_fault}
-use Rattle.rnix_grammar.specs.{AnnotatedForest.{row_of, tokens_in, is_some, leaf_kind, end_from, head_kind, touches}, Machine.{Head, Node, Second, Operand}}
+use Rattle.rnix_grammar.specs.declared.{position.Position.Position, expected_set.ExpectedSet.ExpectedSet, action.Action.Action, slot_table.TheConstants.{PAT_ENTRY, SECOND_BIND}}
+use Rattle.rnix_grammar.specs.{declared.rules.Part.TheVariants.{BoundAlready, TextEnd}, SlotRows.left_at, Fault.{Fault, ended, ended_before}}
+use Rattle.rnix_grammar.specs.{Tables.{depth_limit, is_wanted, wanted_kinds}, Reports.{report, repeats, repeated}, UnwantedRun.run_of, Actions.action_at}
+use Rattle.rnix_grammar.specs.AnnotatedForest.{Token, Note, Unwanted, Extra, DoubleBind, TooDeep, AnnotatedForest, blank, ◌⊕◌, one_token, one_branch, one_fault}
+use Rattle.rnix_grammar.specs.{AnnotatedForest.{row_of, tokens_in, is_some, leaf_kind, end_from, head_kind, touches}, Machine.{Head, Node, SecondBind, Operand}}
 use Rattle.rnix_grammar.specs.{Machine.{Frame, put, opened, made, kind_of, dropped, closed, machine, operand_on, limited, reading}, Rules.IsExpected}
-use Rattle.rnix_grammar.specs.Rules.{IsFollowed, Row, after, counts, done, run_at, missing, expects_end, stands_expected, second_name, row as whole_row, ◌·◌}
+use Rattle.rnix_grammar.specs.Rules.{IsFollowed, Row, after, counts, done, run_at, missing, expects_end, is_first_expected, second_name, row as row_of_kind, ◌·◌}
 use Rattle.{rnix_grammar.specs.Reads.{IsOver, IsRoom, IsWrong, Reads, deeper, end, missing_part}, rnix_lemmas.proofs.Basics.{true_is_not_false, not_if}}
 use Rattle.rnix_lemmas.proofs.{Basics.{none_left, none_right, not_nil}, AnnotatedForestLemmas.{⊕-blank, tokens_in-row_of}, EveryKind.same, OpenHeads.is_open}
-use Rattle.rnix_lemmas.proofs.{RunLemmas.{parted, run_begins, dropped_all}, LevelLemmas.{at_most, atom_fits}, NodeKinds.{is_error, told_plain}, RestAt.rest_at}
-use Rattle.rnix_lemmas.proofs.{RowParts.{front, expected_as, expects_at, expects_next, is_left, left_bare, left_stands, left_followed}, PlaceTable.IsNodeHere}
-use Rattle.rnix_lemmas.proofs.{PlaceTable.{IsOperandHere, MayEnd, Suits, suits}, ReadsFrom.{leaf_from, name_reads, plain_from, second_from, wrong_from}}
-use Rattle.{rnix_lemmas.proofs.ReadsFrom.past_over, rnix_existence.proofs.Frames.{is_home, is_sound, in_row, AtOpen, node, sound_open, left_of, grown, stayed}}
-use Rattle.rnix_existence.proofs.{Frames.{waits, landed, alone, Below, above, closing}, PlaceRows.{is_reported, leads, leads_on}, OperandTrees.Takes}
-use Rattle.rnix_existence.proofs.{OperandTrees.{left_takes, placed}, Beginnings.{item_first, name_first, BeginEnds, operand_begins}, OpenFrames.Outcome}
+use Rattle.rnix_lemmas.proofs.{UnwantedRuns.{parted, run_begins, dropped_all}, LevelLemmas.{at_most, atom_fits}, KindsOfNodes.{is_error, keeps_kind}, RestAt.rest_at}
+use Rattle.rnix_lemmas.proofs.{RowParts.{front, expected_as, expects_at, expects_next, is_left, left_no_operand, left_first_expected, left_followed}, ActionTable.IsNodeHere}
+use Rattle.rnix_lemmas.proofs.{ActionTable.{IsOperandHere, MayEnd, IsActionAt, action_is_at}, ReadsFrom.{leaf_from, name_reads, plain_from, second_from, wrong_from}}
+use Rattle.{rnix_lemmas.proofs.ReadsFrom.past_over, rnix_existence.proofs.Frames.{is_in_row_of, is_sound, in_row, AtOpen, node, sound_open, left_of, grown, stayed}}
+use Rattle.rnix_existence.proofs.{Frames.{waits, landed, alone, Below, above, closing}, ActionPositions.{is_reported, leads, leads_on}, OperandTrees.Takes}
+use Rattle.rnix_existence.proofs.{OperandTrees.{left_takes, placed}, OperandFrames.{item_first, name_first, BeginEnds, operand_begins}, OpenFrames.Outcome}
 use Rattle.rnix_existence.proofs.OpenFrames.{Spans, spanned, spans_made, item, IsRead, EndsOn, RowEnds, Closes, Fronts, Goes, GoesBy, row_fronted, fronted}
 use Rattle.rnix_existence.proofs.OpenFrames.{open_ends}
-use Rattle.rnix_grammar.specs.declared.place.Place.TheVariants as p
+use Rattle.rnix_grammar.specs.declared.position.Position.TheVariants as p
 use Rattle.rnix_grammar.specs.declared.action.Action.TheVariants as a
 
 -- whether the next item, or the end of the text, is expected
@@ -46,8 +46,8 @@ below_limit d h = grind (arith, nat_tests, h)
 
 -- the leaves of an open frame keep their kinds
 plain : (h : Head) (t : Token) → is_sound h ≡ true → leaf_kind (kind_of h) t ≡ t.kind
-plain (Node k) t s = told_plain k t.kind (not_if (is_error k) s)
-plain Second t s = refl
+plain (Node k) t s = keeps_kind k t.kind (not_if (is_error k) s)
+plain SecondBind t s = refl
 plain Operand t s = refl
 
 -- the errors that a complete frame reports
@@ -62,24 +62,24 @@ silent f (g ∷ fs) s h = by f.head s h
     by : (h : Head) → is_sound h ≡ true → is_reported (kind_of h) ≡ false → closing h g.row f.row ≡ []
     by (Node NODE_PAT_ENTRY) s h = absurd (true_is_not_false h)
     by (Node _) s h = refl
-    by Second s h = absurd (true_is_not_false h)
+    by SecondBind s h = absurd (true_is_not_false h)
     by Operand s h = refl
 
 entry : (h : Head) (b c : AnnotatedForest) → kind_of h ≡ NODE_PAT_ENTRY → closing h b c ≡ repeated b c
 entry (Node k) b c h = ap (λ k. repeats k b c) h
-entry Second b c h = absurd (cc)
+entry SecondBind b c h = absurd (cc)
 entry Operand b c h = absurd (cc)
 
-is_second : (h : Head) → is_sound h ≡ true → kind_of h ≡ NODE_ERROR → h ≡ Second
+is_second : (h : Head) → is_sound h ≡ true → kind_of h ≡ NODE_ERROR → h ≡ SecondBind
 is_second (Node k) s h = absurd (true_is_not_false (sym s ∙ ap (λ k. is_sound (Node k)) h))
-is_second Second s h = refl
+is_second SecondBind s h = refl
 is_second Operand s h = absurd (cc)
 
 -- a frame; the last item that was read ends at n, and gs are the errors so far
 module _ (whole : Outcome) (f : Frame) (n : ℕ) (gs : List Fault) where
   -- what is left of its row, and its kind
   abbrev here : Row
-  here = rest_at f.place
+  here = rest_at f.position
 
   abbrev kind : SyntaxKind
   kind = kind_of f.head
@@ -92,7 +92,7 @@ module _ (whole : Outcome) (f : Frame) (n : ℕ) (gs : List Fault) where
     landed f.head f.row g fs r.below,
     λ ends. inl (record {
       left = ts;
-      reached = n;
+      prev_end = n;
       row_state = here;
       rest = blank;
       inside = [];
@@ -101,9 +101,9 @@ module _ (whole : Outcome) (f : Frame) (n : ℕ) (gs : List Fault) where
       span = spanned;
       ends = (
         over here n ts o,
-        subst (λ (z : AnnotatedForest). EndsOn whole fs (put g.place (g.row ⊕ made f.head z) g) ts n ((gs ++ []) ++ closing f.head g.row z))
+        subst (λ (z : AnnotatedForest). EndsOn whole fs (put g.position (g.row ⊕ made f.head z) g) ts n ((gs ++ []) ++ closing f.head g.row z))
             (sym (⊕-blank f.row))
-            (subst (EndsOn whole fs (put g.place (g.row ⊕ made f.head f.row) g) ts n) (h ∙ ap (λ z. z ++ closing f.head g.row f.row) (sym (append-nil gs)))
+            (subst (EndsOn whole fs (put g.position (g.row ⊕ made f.head f.row) g) ts n) (h ∙ ap (λ z. z ++ closing f.head g.row f.row) (sym (append-nil gs)))
             ends),
       );
     }),
@@ -116,10 +116,10 @@ module _ (whole : Outcome) (f : Frame) (n : ℕ) (gs : List Fault) where
   closes_entry (g ∷ fs) r ts o h = closes (g ∷ fs) r ts (gs ++ repeated g.row f.row) o (ap (λ z. gs ++ z) (sym (entry f.head g.row f.row h)))
 
   -- and a second name
-  closes_twice : (fs : List Frame) → AtOpen f fs → (ts : List Token) → MayEnd here (touches n ts) (head_kind ts) → f.head ≡ Second
-      → GoesBy whole a.CloseTwice f fs ts n gs
-  closes_twice [] r ts o h = absurd (alone (subst (λ (h : Head). Below (above h f.row) []) h r.below))
-  closes_twice (g ∷ fs) r ts o h = closes (g ∷ fs) r ts (gs ++ report Twice (tokens_in f.row) ∷ []) o (ap (λ z. gs ++ closing z g.row f.row) (sym h))
+  closes_double_bind : (fs : List Frame) → AtOpen f fs → (ts : List Token) → MayEnd here (touches n ts) (head_kind ts) → f.head ≡ SecondBind
+      → GoesBy whole a.CloseDoubleBind f fs ts n gs
+  closes_double_bind [] r ts o h = absurd (alone (subst (λ (h : Head). Below (above h f.row) []) h r.below))
+  closes_double_bind (g ∷ fs) r ts o h = closes (g ∷ fs) r ts (gs ++ report DoubleBind (tokens_in f.row) ∷ []) o (ap (λ z. gs ++ closing z g.row f.row) (sym h))
 
   module _ (fs : List Frame) (r : AtOpen f fs) where
     wide : is_open f.head ≡ true
@@ -130,22 +130,22 @@ module _ (whole : Outcome) (f : Frame) (n : ℕ) (gs : List Fault) where
     followed next = left_followed here (left_of f r.is) f.row next
 
     -- some trees are read, and the frame moves to another place
-    goes_on : (y : Place) (x : AnnotatedForest) (ts us : List Token) (m : ℕ) (ds hs : List Fault) → is_home y kind ≡ true → Spans ts n us m x → hs ≡ gs ++ ds
+    goes_on : (y : Position) (x : AnnotatedForest) (ts us : List Token) (m : ℕ) (ds hs : List Fault) → is_in_row_of y kind ≡ true → Spans ts n us m x → hs ≡ gs ++ ds
         → Fronts kind f.depth n here f.row x us m (rest_at y) ds → Goes whole (machine (put y (f.row ⊕ x) f ∷ fs) us m hs) f fs ts n gs
-    goes_on y x ts us m ds hs home v h reads = (node (grown f fs y x r home), fronted whole fs f y x ts us n m gs ds hs wide v h reads)
+    goes_on y x ts us m ds hs in_row_of v h reads = (node (grown f fs y x r in_row_of), fronted whole fs f y x ts us n m gs ds hs wide v h reads)
 
     -- the next item becomes a leaf
-    takes : (t : Token) (ts : List Token) (y : ℕ) → is_home (p.Left y) kind ≡ true → IsExpected here n (t ∷ ts) true → after here (leaf_kind kind t) ≡ left_at y
+    takes : (t : Token) (ts : List Token) (y : ℕ) → is_in_row_of (p.Left y) kind ≡ true → IsExpected here n (t ∷ ts) true → after here (leaf_kind kind t) ≡ left_at y
         → GoesBy whole (a.Take y) f fs (t ∷ ts) n gs
-    takes t ts y home w g =
-        goes_on (p.Left y) (item kind t) (t ∷ ts) ts t.end [] gs home spanned (sym (append-nil gs))
+    takes t ts y in_row_of w g =
+        goes_on (p.Left y) (item kind t) (t ∷ ts) ts t.end [] gs in_row_of spanned (sym (append-nil gs))
         (λ vs s x es e z. leaf_from e w (followed (Some (leaf_kind kind t))) g z)
 
     -- the text ends, and an error reports what is missing
-    misses : (e : Fault) (y : ℕ) → is_home (p.Left y) kind ≡ true → missing here ≡ Some (e, left_at y) → (expects_end here ≡ false → IsRoom here f.depth)
+    misses : (e : Fault) (y : ℕ) → is_in_row_of (p.Left y) kind ≡ true → missing here ≡ Some (e, left_at y) → (expects_end here ≡ false → IsRoom here f.depth)
         → Goes whole (machine (put (p.Left y) f.row f ∷ fs) [] n (gs ++ e ∷ [])) f fs [] n gs
-    misses e y home lost room = (
-      node (stayed f fs (p.Left y) r home),
+    misses e y in_row_of lost room = (
+      node (stayed f fs (p.Left y) r in_row_of),
       λ ends. fronted whole fs f (p.Left y) blank [] [] n n gs (e ∷ []) (gs ++ e ∷ []) wide spanned refl
           (λ vs s x es h z. missing_part (none_right (tokens_in x) vs (sym h)) (none_left (tokens_in x) vs (sym h)) lost room
           (subst (λ (b : AnnotatedForest). Reads kind f.depth n (left_at y) s b vs x es) (⊕-blank f.row) z))
@@ -153,62 +153,62 @@ module _ (whole : Outcome) (f : Frame) (n : ℕ) (gs : List Fault) where
     )
 
     -- some items become an error node
-    wrongs : (ts us run : List Token) (y : Place) (note : Note) → is_home y kind ≡ true → ts ≡ run ++ us → IsExpected here n ts false
+    wrongs : (ts us run : List Token) (y : Position) (note : Note) → is_in_row_of y kind ≡ true → ts ≡ run ++ us → IsExpected here n ts false
         → IsWrong note f.depth here (rest_at y) run us
         → Goes whole (machine (put y (f.row ⊕ one_fault note (row_of run)) f ∷ fs) us (end_from n run) (gs ++ report note run ∷ [])) f fs ts n gs
-    wrongs ts us run y note home e w x =
-        goes_on y (one_fault note (row_of run)) ts us (end_from n run) (report note run ∷ []) (gs ++ report note run ∷ []) home
-        (record { items = e ∙ ap (λ z. z ++ us) (sym (one_row run)); reach = ap (end_from n) (sym (one_row run)) }) refl
+    wrongs ts us run y note in_row_of e w x =
+        goes_on y (one_fault note (row_of run)) ts us (end_from n run) (report note run ∷ []) (gs ++ report note run ∷ []) in_row_of
+        (record { items = e ∙ ap (λ z. z ++ us) (sym (one_row run)); item_end = ap (end_from n) (sym (one_row run)) }) refl
         (λ vs s f es h z. wrong_from note run h (subst (λ (z : List Token). IsExpected here n z false) e w) (followed (head_kind run)) x refl z)
 
     -- a run of unwanted items becomes an error node
-    runs : (t : Token) (ts : List Token) (until : Until) (y : ℕ) → is_home (p.Left y) kind ≡ true → IsExpected here n (t ∷ ts) false
+    runs : (t : Token) (ts : List Token) (until : ExpectedSet) (y : ℕ) → is_in_row_of (p.Left y) kind ≡ true → IsExpected here n (t ∷ ts) false
         → is_wanted until t.kind ≡ false
         → run_at here ≡ Some (wanted_kinds until, left_at y) → GoesBy whole (a.Run until y) f fs (t ∷ ts) n gs
-    runs t ts until y home w u at =
+    runs t ts until y in_row_of w u at =
         let run : List Token = run_of until (t ∷ ts) in
         let all : t ∷ ts ≡ run ++ dropped run (t ∷ ts) = (parted until (t ∷ ts)).all in
-        wrongs (t ∷ ts) (dropped run (t ∷ ts)) run (p.Left y) (Unwanted until) home all w (ap is_some (run_begins until t ts u), ap (run_of until) all, at)
+        wrongs (t ∷ ts) (dropped run (t ∷ ts)) run (p.Left y) (Unwanted until) in_row_of all w (ap is_some (run_begins until t ts u), ap (run_of until) all, at)
 
     -- all items after the root's expression become one
     left_over : (t : Token) (ts : List Token) → here ≡ TextEnd · done → GoesBy whole a.Extra f fs (t ∷ ts) n gs
     left_over t ts e =
-        wrongs (t ∷ ts) (dropped (t ∷ ts) (t ∷ ts)) (t ∷ ts) f.place Extra r.is.home (all_left (t ∷ ts))
+        wrongs (t ∷ ts) (dropped (t ∷ ts) (t ∷ ts)) (t ∷ ts) f.position Extra r.is.in_row_of (all_left (t ∷ ts))
         (subst (λ (q : Row). IsExpected q n (t ∷ ts) false) (sym e) refl)
         (refl, dropped_all (t ∷ ts), e, refl)
 
     -- a node that is no operand is read in front of the rest of the row
     node_here : (k : SyntaxKind) (y : ℕ) (ts : List Token) → IsNodeHere here (touches n ts) (head_kind ts) k (left_at y)
-        → (c : AnnotatedForest) (us : List Token) (m : ℕ) (u : Row) (ds : List Fault) → Spans ts n us m c → Reads k f.depth n (whole_row k) u blank us c ds
+        → (c : AnnotatedForest) (us : List Token) (m : ℕ) (u : Row) (ds : List Fault) → Spans ts n us m c → Reads k f.depth n (row_of_kind k) u blank us c ds
         → IsOver u m us
         → Fronts kind f.depth n here f.row (one_branch k c) us m (left_at y) (ds ++ repeats k f.row c)
     node_here k y ts w c us m u ds v z o vs s x es h i =
         let l : is_left here ≡ true = left_of f r.is in
-        plain_from (left_bare here l w.0 w.1) h v.items z v.reach o (expected here n ts (stands_expected here k c) (w.2 ∙ sym (left_stands here l k c)))
+        plain_from (left_no_operand here l w.0 w.1) h v.items z v.item_end o (expected here n ts (is_first_expected here k c) (w.2 ∙ sym (left_first_expected here l k c)))
         (followed (head_kind ts)) w.3 i refl
 
     -- a name becomes a node
-    names : (t : Token) (ts : List Token) (y : ℕ) → is_home (p.Left y) kind ≡ true → IsNodeHere here (touches n (t ∷ ts)) (Some t.kind) NODE_IDENT (left_at y)
-        → after (whole_row NODE_IDENT) (leaf_kind NODE_IDENT t) ≡ done → GoesBy whole (a.Leaf NODE_IDENT y) f fs (t ∷ ts) n gs
-    names t ts y home w k =
-        goes_on (p.Left y) (one_branch NODE_IDENT (item NODE_IDENT t)) (t ∷ ts) ts t.end [] gs home spanned (sym (append-nil gs))
+    names : (t : Token) (ts : List Token) (y : ℕ) → is_in_row_of (p.Left y) kind ≡ true → IsNodeHere here (touches n (t ∷ ts)) (Some t.kind) NODE_IDENT (left_at y)
+        → after (row_of_kind NODE_IDENT) (leaf_kind NODE_IDENT t) ≡ done → GoesBy whole (a.Leaf NODE_IDENT y) f fs (t ∷ ts) n gs
+    names t ts y in_row_of w k =
+        goes_on (p.Left y) (one_branch NODE_IDENT (item NODE_IDENT t)) (t ∷ ts) ts t.end [] gs in_row_of spanned (sym (append-nil gs))
         (node_here NODE_IDENT y (t ∷ ts) w (item NODE_IDENT t) ts t.end done [] spanned (name_reads t k) (past_over t.end ts))
 
     -- another frame opens with some trees, and when it is complete it is read in front of the rest of the row
-    opens : (h : Head) (q : Row) (z : Place) (y : ℕ) (x : AnnotatedForest) (ts us : List Token) (m : ℕ) → is_sound h ≡ true
-        → (is_home z (kind_of h) && is_home (p.Left y) kind) ≡ true
+    opens : (h : Head) (q : Row) (z : Position) (y : ℕ) (x : AnnotatedForest) (ts us : List Token) (m : ℕ) → is_sound h ≡ true
+        → (is_in_row_of z (kind_of h) && is_in_row_of (p.Left y) kind) ≡ true
         → Spans ts n us m x → Fronts (kind_of h) f.depth n q blank x us m (rest_at z) []
         → ((c : AnnotatedForest) (left : List Token) (l : ℕ) (u : Row) (ds : List Fault) → Spans ts n left l c → Reads (kind_of h) f.depth n q u blank left c
         ds → IsOver u l left
         → Fronts kind f.depth n here f.row (made h c) left l (left_at y) (ds ++ closing h f.row c))
         → Goes whole (machine (opened h z f.depth x ∷ (put (p.Left y) f.row f ∷ fs)) us m gs) f fs ts n gs
-    opens h q z y x ts us m sound home v reads stands = (
-      node (record { is = record { sound = sound; home = homes.0; shallow = r.is.shallow }; below = waits g fs (stayed f fs (p.Left y) r homes.1) }),
+    opens h q z y x ts us m sound in_row_of v reads stands = (
+      node (record { is = record { sound = sound; in_row_of = homes.0; shallow = r.is.shallow }; below = waits g fs (stayed f fs (p.Left y) r homes.1) }),
       λ ends. by (row_fronted x [] v (sym (append-nil gs)) reads (open_ends whole g fs (opened h z f.depth x) us m gs (sound_open h sound) ends)),
     )
       where
-        homes : (is_home z (kind_of h) ≡ true) × (is_home (p.Left y) kind ≡ true)
-        homes = and_parts (is_home z (kind_of h)) (is_home (p.Left y) kind) home
+        homes : (is_in_row_of z (kind_of h) ≡ true) × (is_in_row_of (p.Left y) kind ≡ true)
+        homes = and_parts (is_in_row_of z (kind_of h)) (is_in_row_of (p.Left y) kind) in_row_of
 
         g : Frame
         g = put (p.Left y) f.row f
@@ -216,49 +216,49 @@ module _ (whole : Outcome) (f : Frame) (n : ℕ) (gs : List Fault) where
         by : RowEnds h f.depth q blank (Closes h g (EndsOn whole fs)) ts n gs → EndsOn whole fs f ts n gs
         by o =
             let ds : List Fault = closing h f.row o.rest in
-            fronted whole fs f (p.Left y) (made h o.rest) ts o.left n o.reached gs (o.inside ++ ds) ((gs ++ o.inside) ++ ds) wide (spans_made h o.rest o.span)
-            (append_assoc gs o.inside ds) (stands o.rest o.left o.reached o.row_state o.inside o.span o.reads o.ends.0) o.ends.1
+            fronted whole fs f (p.Left y) (made h o.rest) ts o.left n o.prev_end gs (o.inside ++ ds) ((gs ++ o.inside) ++ ds) wide (spans_made h o.rest o.span)
+            (append_assoc gs o.inside ds) (stands o.rest o.left o.prev_end o.row_state o.inside o.span o.reads o.ends.0) o.ends.1
 
     -- a node opens
     opens_node : (k : SyntaxKind) (z y : ℕ) (x : AnnotatedForest) (ts us : List Token) (m : ℕ)
-        → (is_sound (Node k) && (is_home (p.Left z) k && is_home (p.Left y) kind)) ≡ true
-        → Spans ts n us m x → Fronts k f.depth n (whole_row k) blank x us m (left_at z) [] → IsNodeHere here (touches n ts) (head_kind ts) k (left_at y)
+        → (is_sound (Node k) && (is_in_row_of (p.Left z) k && is_in_row_of (p.Left y) kind)) ≡ true
+        → Spans ts n us m x → Fronts k f.depth n (row_of_kind k) blank x us m (left_at z) [] → IsNodeHere here (touches n ts) (head_kind ts) k (left_at y)
         → Goes whole (machine (opened (Node k) (p.Left z) f.depth x ∷ (put (p.Left y) f.row f ∷ fs)) us m gs) f fs ts n gs
-    opens_node k z y x ts us m home v reads w =
-        let q = and_parts (is_sound (Node k)) (is_home (p.Left z) k && is_home (p.Left y) kind) home in
-        opens (Node k) (whole_row k) (p.Left z) y x ts us m q.0 q.1 v reads (node_here k y ts w)
+    opens_node k z y x ts us m in_row_of v reads w =
+        let q = and_parts (is_sound (Node k)) (is_in_row_of (p.Left z) k && is_in_row_of (p.Left y) kind) in_row_of in
+        opens (Node k) (row_of_kind k) (p.Left z) y x ts us m q.0 q.1 v reads (node_here k y ts w)
 
     -- a second name of a pattern opens with `@`
-    opens_second : (t : Token) (ts : List Token) (y : ℕ) → is_home (p.Left y) kind ≡ true → here ≡ BoundAlready · done → t.kind ≡ TOKEN_AT → left_at y ≡ done
-        → GoesBy whole (a.Twice y) f fs (t ∷ ts) n gs
-    opens_second t ts y home i j l =
-        opens Second second_name (p.Left SECOND) y (one_token t.kind t) (t ∷ ts) ts t.end refl home spanned
+    opens_second : (t : Token) (ts : List Token) (y : ℕ) → is_in_row_of (p.Left y) kind ≡ true → here ≡ BoundAlready · done → t.kind ≡ TOKEN_AT → left_at y ≡ done
+        → GoesBy whole (a.DoubleBind y) f fs (t ∷ ts) n gs
+    opens_second t ts y in_row_of i j l =
+        opens SecondBind second_name (p.Left SECOND_BIND) y (one_token t.kind t) (t ∷ ts) ts t.end refl in_row_of spanned
         (λ vs s x es e z. leaf_from e tt tt (ap (after second_name) j) z)
-        (λ c left m u ds v z o vs s x es e w. second_from e z v.reach o i l w)
+        (λ c left m u ds v z o vs s x es e w. second_from e z v.item_end o i l w)
 
     -- an operand of a level begins, inside d counted places, or the text ends
-    operand_at : (ts : List Token) (level d y : ℕ) → level ≤ 16 → d ≤ depth_limit → is_home (p.Left y) kind ≡ true → Takes here level (left_at y)
+    operand_at : (ts : List Token) (level d y : ℕ) → level ≤ 16 → d ≤ depth_limit → is_in_row_of (p.Left y) kind ≡ true → Takes here level (left_at y)
         → d ≡ deeper here f.depth → IsRoom here f.depth
         → IsExpected here n ts false → (ts ≡ [] → missing here ≡ Some (ended, left_at y))
         → Goes whole (operand_on false level d (put (p.Left y) f.row f) fs ts ts n gs) f fs ts n gs
-    operand_at [] level d y l s home takes e room own lost = misses ended y home (lost refl) (λ v. room)
-    operand_at (t ∷ us) level d y l s home takes e room own lost =
-        let b = operand_begins whole level d (put (p.Left y) f.row f) fs n gs (stayed f fs (p.Left y) r home) s l t us in (b.0, λ ends. by (b.1 ends))
+    operand_at [] level d y l s in_row_of takes e room own lost = misses ended y in_row_of (lost refl) (λ v. room)
+    operand_at (t ∷ us) level d y l s in_row_of takes e room own lost =
+        let b = operand_begins whole level d (put (p.Left y) f.row f) fs n gs (stayed f fs (p.Left y) r in_row_of) s l t us in (b.0, λ ends. by (b.1 ends))
       where
         by : BeginEnds whole level d (put (p.Left y) f.row f) fs (t ∷ us) n gs → EndsOn whole fs f (t ∷ us) n gs
         by b =
-            fronted whole fs f (p.Left y) b.tree (t ∷ us) b.left n b.reached gs b.inside (gs ++ b.inside) wide b.read.span refl
-            (λ vs s x es i z. placed takes (subst (λ (j : ℕ). IsRead level j n (t ∷ us) b.tree b.left b.reached b.inside) e b.read) b.is_whole i own room
+            fronted whole fs f (p.Left y) b.tree (t ∷ us) b.left n b.prev_end gs b.inside (gs ++ b.inside) wide b.read.span refl
+            (λ vs s x es i z. placed takes (subst (λ (j : ℕ). IsRead level j n (t ∷ us) b.tree b.left b.prev_end b.inside) e b.read) b.is_complete_operand i own room
             (followed (Some t.kind)) z) b.ends
 
     -- an operand of a level is read, unless it is nested too deep
-    reads_operand : (ts : List Token) (level : ℕ) (counted : Bool) (y : ℕ) → (nat_le level 16 && is_home (p.Left y) kind) ≡ true
+    reads_operand : (ts : List Token) (level : ℕ) (counted : Bool) (y : ℕ) → (nat_le level 16 && is_in_row_of (p.Left y) kind) ≡ true
         → IsOperandHere here (touches n ts) (head_kind ts) level counted (left_at y) → (ts ≡ [] → missing here ≡ Some (ended, left_at y))
         → GoesBy whole (a.Read level counted y) f fs ts n gs
     reads_operand ts level counted y h w lost = by counted w.1
       where
-        home : (nat_le level 16 ≡ true) × (is_home (p.Left y) kind ≡ true)
-        home = and_parts (nat_le level 16) (is_home (p.Left y) kind) h
+        in_row_of : (nat_le level 16 ≡ true) × (is_in_row_of (p.Left y) kind ≡ true)
+        in_row_of = and_parts (nat_le level 16) (is_in_row_of (p.Left y) kind) h
 
         takes : Takes here level (left_at y)
         takes = left_takes here level (left_at y) (left_of f r.is) w.0 w.3
@@ -268,13 +268,13 @@ module _ (whole : Outcome) (f : Frame) (n : ℕ) (gs : List Fault) where
 
         inside : (d : ℕ) → d ≤ depth_limit → d ≡ deeper here f.depth → IsRoom here f.depth
             → Goes whole (operand_on false level d (put (p.Left y) f.row f) fs ts ts n gs) f fs ts n gs
-        inside d s e room = operand_at ts level d y (at_most level 16 home.0) s home.1 takes e room own lost
+        inside d s e room = operand_at ts level d y (at_most level 16 in_row_of.0) s in_row_of.1 takes e room own lost
 
         limit : counts here ≡ true → (v : Bool) → nat_le depth_limit f.depth ≡ v
             → Goes whole (if v then limited false (put (p.Left y) f.row f) fs ts n gs else operand_on false level (suc f.depth) (put (p.Left y) f.row f) fs ts
             ts n gs) f fs ts n gs
         limit e true v =
-            wrongs ts (dropped ts ts) ts (p.Left y) TooDeep home.1 (all_left ts) own
+            wrongs ts (dropped ts ts) ts (p.Left y) TooDeep in_row_of.1 (all_left ts) own
             (dropped_all ts, e, at_limit f.depth v r.is.shallow, takes.goes NODE_LITERAL (atom_fits level NODE_LITERAL refl))
         limit e false v =
             inside (suc f.depth) (omega (arith, below_limit f.depth v)) (ap (λ w. if w then suc f.depth else f.depth) (sym e)) (λ u. below_limit f.depth v)
@@ -284,12 +284,12 @@ module _ (whole : Outcome) (f : Frame) (n : ℕ) (gs : List Fault) where
         by true e = limit e (nat_le depth_limit f.depth) refl
 
     -- each action that the rules allow at the place
-    done_by : (action : Action) (ts : List Token) → Suits here (touches n ts) (head_kind ts) action → leads kind action ≡ true
+    done_by : (action : Action) (ts : List Token) → IsActionAt here (touches n ts) (head_kind ts) action → leads kind action ≡ true
         → GoesBy whole action f fs ts n gs
     done_by a.Close ts w h = closes fs r ts gs w (sym (ap (λ z. gs ++ z) (silent f fs r.is.sound (not_if (is_reported kind) h)) ∙ append-nil gs))
     done_by a.ClosePattern ts w h = closes fs r ts gs w (sym (ap (λ z. gs ++ z) (silent f fs r.is.sound (not_if (is_reported kind) h)) ∙ append-nil gs))
     done_by a.CloseEntry ts w h = closes_entry fs r ts w (same kind NODE_PAT_ENTRY h)
-    done_by a.CloseTwice ts w h = closes_twice fs r ts w (is_second f.head r.is.sound (same kind NODE_ERROR h))
+    done_by a.CloseDoubleBind ts w h = closes_double_bind fs r ts w (is_second f.head r.is.sound (same kind NODE_ERROR h))
     done_by a.Finish ts w h = (node r, λ ends. ends)
     done_by a.Extra (t ∷ ts) w h = left_over t ts w
     done_by (a.Take y) (t ∷ ts) w h = takes t ts y h (expected here n (t ∷ ts) true w.0) (ap (after here) (plain f.head t r.is.sound) ∙ w.1)
@@ -298,20 +298,20 @@ module _ (whole : Outcome) (f : Frame) (n : ℕ) (gs : List Fault) where
     done_by (a.Run until y) (t ∷ ts) w h = runs t ts until y h (expected here n (t ∷ ts) false w.0) w.1 w.2
     done_by (a.Leaf NODE_IDENT y) (t ∷ ts) w h = names t ts y h w.0 w.1
     done_by (a.Open k z y) (t ∷ ts) w h = opens_node k z y (item k t) (t ∷ ts) ts t.end h spanned
-        (item_first k t ts (front (whole_row k) w.1) w.2) w.0
+        (item_first k t ts (front (row_of_kind k) w.1) w.2) w.0
     done_by (a.Begin k z y) ts w h =
         opens_node k z y blank ts ts n h spanned (λ vs s x es i q. subst (λ (r : Row). Reads k f.depth n r s blank vs x es) (sym w.1) q) w.0
     done_by (a.Entry y) (t ∷ ts) w h =
         opens_node NODE_PAT_ENTRY PAT_ENTRY y (one_branch NODE_IDENT (item NODE_IDENT t)) (t ∷ ts) ts t.end h spanned
-        (name_first NODE_PAT_ENTRY t ts (front (whole_row NODE_PAT_ENTRY) refl) w.1) w.0
-    done_by (a.Twice y) (t ∷ ts) w h = opens_second t ts y h w.0 w.1 w.2
+        (name_first NODE_PAT_ENTRY t ts (front (row_of_kind NODE_PAT_ENTRY) refl) w.1) w.0
+    done_by (a.DoubleBind y) (t ∷ ts) w h = opens_second t ts y h w.0 w.1 w.2
     done_by (a.Read level counted y) [] w h = reads_operand [] level counted y h w.0 (λ e. w.1)
     done_by (a.Read level counted y) (t ∷ ts) w h = reads_operand (t ∷ ts) level counted y h w (λ e. absurd (not_nil e))
     done_by _ [] w h = absurd w
     done_by _ (t ∷ ts) w h = absurd w
 
     -- each step at an open frame
-    pub node_step : (ts : List Token) → GoesBy whole (action_at f.place (head_kind ts) (touches n ts)) f fs ts n gs
+    pub node_step : (ts : List Token) → GoesBy whole (action_at f.position (head_kind ts) (touches n ts)) f fs ts n gs
     node_step ts =
-        done_by (action_at f.place (head_kind ts) (touches n ts)) ts (suits f.place (touches n ts) (head_kind ts) (in_row f.place kind r.is.home))
-        (leads_on f.place kind (head_kind ts) (touches n ts) r.is.home)
+        done_by (action_at f.position (head_kind ts) (touches n ts)) ts (action_is_at f.position (touches n ts) (head_kind ts) (in_row f.position kind r.is.in_row_of))
+        (leads_on f.position kind (head_kind ts) (touches n ts) r.is.in_row_of)

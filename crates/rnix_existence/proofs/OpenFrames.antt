@@ -1,36 +1,36 @@
 -- What each open frame still contains, once the text is read to its end.
 use Rattle.std.proofs.Common.{◌≡◌, ◌⊎◌, inl, inr, ℕ, ◌≤◌, true, false, List, [], ◌∷◌, ◌++◌, refl, ap, sym, ◌∙◌, subst, append_assoc, append-nil}
-use Rattle.{rnix_kinds.specs.declared.kinds.SyntaxKind.{SyntaxKind, TheVariants.NODE_ROOT}, rnix_grammar.specs.declared.place.Place.Place}
+use Rattle.{rnix_kinds.specs.declared.kinds.SyntaxKind.{SyntaxKind, TheVariants.NODE_ROOT}, rnix_grammar.specs.declared.position.Position.Position}
 use Rattle.rnix_grammar.specs.{declared.{action.Action.Action, rules.Part.TheVariants.TextEnd}, Fault.Fault, Rows.fits, TreeLevels.{row_level, is_or_row}}
 use Rattle.rnix_grammar.specs.{Beginnings.BeginsAs, Operands.goes_on, AnnotatedForest.{Token, Stray, AnnotatedForest, blank, ◌⊕◌, one_token, one_branch}}
-use Rattle.rnix_grammar.specs.{AnnotatedForest.{one_fault, row_of, tokens_in, leaf_kind, end_from}, Reports.report, Machine.{Machine, Head, Node, Second}}
-use Rattle.rnix_grammar.specs.{Machine.{Operand, Frame, put, kind_of, made, low_of, perform}, Reads.{IsOver, Reads}, Rules.{Row, done, ◌·◌, row as whole_row}}
-use Rattle.rnix_lemmas.proofs.{Basics.true_is_not_false, AnnotatedForestLemmas.{⊕-assoc, tokens_two, tokens_in-⊕}, StrictParts.end_behind, OpenHeads.is_open}
+use Rattle.rnix_grammar.specs.{AnnotatedForest.{one_fault, row_of, tokens_in, leaf_kind, end_from}, Reports.report, Machine.{Machine, Head, Node, SecondBind}}
+use Rattle.rnix_grammar.specs.{Machine.{Operand, Frame, put, kind_of, made, min_bp_of, perform}, Reads.{IsOver, Reads}, Rules.{Row, done, ◌·◌, row as row_of_kind}}
+use Rattle.rnix_lemmas.proofs.{Basics.true_is_not_false, AnnotatedForestLemmas.{⊕-assoc, tokens_two, tokens_in-⊕}, TokenEnds.end_behind, OpenHeads.is_open}
 use Rattle.{rnix_lemmas.proofs.RestAt.rest_at, rnix_existence.proofs.{Growing.seen_kind, Frames.{Reading, closing}}}
 
 -- the items from ts up to us are those of a row; the item before them ends at n, and the last of them at m
 pub record Spans (ts : List Token) (n : ℕ) (us : List Token) (m : ℕ) (x : AnnotatedForest) : Type 0 where
   pub items : ts ≡ tokens_in x ++ us
-  pub reach : m ≡ end_from n (tokens_in x)
+  pub item_end : m ≡ end_from n (tokens_in x)
 
 pub spanned : {us : List Token} {n : ℕ} {x : AnnotatedForest} → Spans (tokens_in x ++ us) n us (end_from n (tokens_in x)) x
-spanned = record { items = refl; reach = refl }
+spanned = record { items = refl; item_end = refl }
 
 -- two rows, one after the other
 pub spans_two : {ts us vs : List Token} {n m l : ℕ} (x y : AnnotatedForest) → Spans ts n us m x → Spans us m vs l y → Spans ts n vs l (x ⊕ y)
 spans_two {vs = vs} {n = n} x y v w = record {
   items = v.items ∙ ap (λ z. tokens_in x ++ z) w.items ∙ sym (tokens_two x y vs);
-  reach = w.reach ∙ ap (λ z. end_from z (tokens_in y)) v.reach ∙ sym (end_behind n (tokens_in x) (tokens_in y)) ∙ ap (end_from n) (sym (tokens_in-⊕ x y));
+  item_end = w.item_end ∙ ap (λ z. end_from z (tokens_in y)) v.item_end ∙ sym (end_behind n (tokens_in x) (tokens_in y)) ∙ ap (end_from n) (sym (tokens_in-⊕ x y));
 }
 
 -- a row in place of one of the same items
 spans_same : {ts us : List Token} {n m : ℕ} {x y : AnnotatedForest} → tokens_in x ≡ tokens_in y → Spans ts n us m x → Spans ts n us m y
-spans_same {us = us} {n = n} e v = record { items = v.items ∙ ap (λ z. z ++ us) e; reach = v.reach ∙ ap (end_from n) e }
+spans_same {us = us} {n = n} e v = record { items = v.items ∙ ap (λ z. z ++ us) e; item_end = v.item_end ∙ ap (end_from n) e }
 
 -- the tree of a complete frame
 pub spans_made : {ts us : List Token} {n m : ℕ} (h : Head) (c : AnnotatedForest) → Spans ts n us m c → Spans ts n us m (made h c)
 spans_made (Node k) c v = spans_same (sym (append-nil (tokens_in c))) v
-spans_made Second c v = spans_same (sym (append-nil (tokens_in c))) v
+spans_made SecondBind c v = spans_same (sym (append-nil (tokens_in c))) v
 spans_made Operand c v = v
 
 -- an item as a leaf below a node
@@ -38,23 +38,23 @@ abbrev pub item : SyntaxKind → Token → AnnotatedForest
 item k t = one_token (leaf_kind k t) t
 
 -- One tree that may be an operand, inside so many counted places, with its errors: the item before it ends at n, these items come after it.
-pub data Lone (d n : ℕ) : AnnotatedForest → List Token → List Fault → Type 0 where
+pub data OperandTree (d n : ℕ) : AnnotatedForest → List Token → List Fault → Type 0 where
   a_node : {m : ℕ} {k : SyntaxKind} {s : Row} {c : AnnotatedForest} {us : List Token} {ds : List Fault}
-      → Reads k d n (whole_row k) s blank us c ds → m ≡ end_from n (tokens_in c) → IsOver s m us → Lone d n (one_branch k c) us ds
-  an_error : {t : Token} {us : List Token} → Lone d n (one_fault Stray (row_of (t ∷ []))) us (report Stray (t ∷ []) ∷ [])
+      → Reads k d n (row_of_kind k) s blank us c ds → m ≡ end_from n (tokens_in c) → IsOver s m us → OperandTree d n (one_branch k c) us ds
+  an_error : {t : Token} {us : List Token} → OperandTree d n (one_fault Stray (row_of (t ∷ []))) us (report Stray (t ∷ []) ∷ [])
 
 -- An operand of a level, which begins with these items, is read as one tree up to others, with these errors.
 pub record IsRead (level d n : ℕ) (ts : List Token) (x : AnnotatedForest) (us : List Token) (m : ℕ) (ds : List Fault) : Type 0 where
   pub span : Spans ts n us m x
   pub begins : BeginsAs level x ts
-  pub lone : Lone d n x us ds
+  pub operand_tree : OperandTree d n x us ds
 
 -- A tree is a whole operand of a level before some items.
-pub record IsWhole (level : ℕ) (x : AnnotatedForest) (us : List Token) : Type 0 where
+pub record IsCompleteOperand (level : ℕ) (x : AnnotatedForest) (us : List Token) : Type 0 where
   pub least : level ≤ row_level x
   pub fit : fits level (seen_kind x) ≡ true
   pub no_or : is_or_row x ≡ false
-  pub calm : goes_on level x us ≡ false
+  pub not_followed : goes_on level x us ≡ false
 
 -- An operand that is read as x up to some items is read as y up to others, with more errors.
 abbrev pub Grows : ℕ → ℕ → AnnotatedForest → List Token → ℕ → AnnotatedForest → List Token → ℕ → List Fault → Type 0
@@ -70,29 +70,29 @@ AfterFrame = Frame → List Token → ℕ → List Fault → Type 0
 -- the rest of a row is read: q is left of it, after the trees b and inside d counted places
 pub record RowEnds (h : Head) (d : ℕ) (q : Row) (b : AnnotatedForest) (After : AfterRow) (ts : List Token) (n : ℕ) (gs : List Fault) : Type 0 where
   pub left : List Token
-  pub reached : ℕ
+  pub prev_end : ℕ
   pub row_state : Row
   pub rest : AnnotatedForest
   pub inside : List Fault
   pub opened : is_open h ≡ true
   pub reads : Reads (kind_of h) d n q row_state b left rest inside
-  pub span : Spans ts n left reached rest
-  pub ends : After row_state left reached (b ⊕ rest) (gs ++ inside)
+  pub span : Spans ts n left prev_end rest
+  pub ends : After row_state left prev_end (b ⊕ rest) (gs ++ inside)
 
 -- an operand above a frame becomes a whole one, which is a tree of that frame
 pub record OperandEnds (f g : Frame) (After : AfterFrame) (ts : List Token) (n : ℕ) (gs : List Fault) : Type 0 where
   pub left : List Token
-  pub reached : ℕ
+  pub prev_end : ℕ
   pub tree : AnnotatedForest
   pub inside : List Fault
   pub is : f.head ≡ Operand
-  pub whole : IsWhole (low_of f.place) tree left
-  pub grows : Grows (low_of f.place) f.depth f.row ts n tree left reached inside
-  pub ends : After (put g.place (g.row ⊕ tree) g) left reached (gs ++ inside)
+  pub whole : IsCompleteOperand (min_bp_of f.position) tree left
+  pub grows : Grows (min_bp_of f.position) f.depth f.row ts n tree left prev_end inside
+  pub ends : After (put g.position (g.row ⊕ tree) g) left prev_end (gs ++ inside)
 
 -- a row is complete, and its frame becomes a tree of the frame below
 abbrev pub Closes : Head → Frame → AfterFrame → AfterRow
-Closes h g After s us m row gs = IsOver s m us × After (put g.place (g.row ⊕ made h row) g) us m (gs ++ closing h g.row row)
+Closes h g After s us m row gs = IsOver s m us × After (put g.position (g.row ⊕ made h row) g) us m (gs ++ closing h g.row row)
 
 -- Trees x are read in front of the rest of a row of kind k, inside d counted places. Before them the last item ends at n, q is left of the row, and b is
 -- read of it. After them the items us are left, the last item ends at m, and r is left of the row. They have the errors ds.
@@ -107,7 +107,7 @@ pub row_fronted : {h : Head} {d n m : ℕ} {q r : Row} {b : AnnotatedForest} {Af
     → RowEnds h d q b After ts n gs
 row_fronted {b = b} {After = After} {gs = gs} {hs = hs} x ds v h reads o = record {
   left = o.left;
-  reached = o.reached;
+  prev_end = o.prev_end;
   row_state = o.row_state;
   rest = x ⊕ o.rest;
   inside = ds ++ o.inside;
@@ -115,8 +115,8 @@ row_fronted {b = b} {After = After} {gs = gs} {hs = hs} x ds v h reads o = recor
   reads = reads o.left o.row_state o.rest o.inside o.span.items o.reads;
   span = spans_two x o.rest v o.span;
   ends =
-      subst (λ (z : List Fault). After o.row_state o.left o.reached (b ⊕ (x ⊕ o.rest)) z) (ap (λ z. z ++ o.inside) h ∙ append_assoc gs ds o.inside)
-      (subst (λ (z : AnnotatedForest). After o.row_state o.left o.reached z (hs ++ o.inside)) (⊕-assoc b x o.rest) o.ends);
+      subst (λ (z : List Fault). After o.row_state o.left o.prev_end (b ⊕ (x ⊕ o.rest)) z) (ap (λ z. z ++ o.inside) h ∙ append_assoc gs ds o.inside)
+      (subst (λ (z : AnnotatedForest). After o.row_state o.left o.prev_end z (hs ++ o.inside)) (⊕-assoc b x o.rest) o.ends);
 }
 
 -- the root's row and all errors, at the end of the text
@@ -130,8 +130,8 @@ module _ (whole : Outcome) where
 
   -- With these frames, items, end of the last item, and errors so far, the text is read to that outcome.
   abbrev pub EndsOn : List Frame → AfterFrame
-  EndsOn [] f ts n gs = RowEnds f.head f.depth (rest_at f.place) f.row (IsRoot f.head) ts n gs
-  EndsOn (g ∷ fs) f ts n gs = RowEnds f.head f.depth (rest_at f.place) f.row (Closes f.head g (EndsOn fs)) ts n gs ⊎ OperandEnds f g (EndsOn fs) ts n gs
+  EndsOn [] f ts n gs = RowEnds f.head f.depth (rest_at f.position) f.row (IsRoot f.head) ts n gs
+  EndsOn (g ∷ fs) f ts n gs = RowEnds f.head f.depth (rest_at f.position) f.row (Closes f.head g (EndsOn fs)) ts n gs ⊎ OperandEnds f g (EndsOn fs) ts n gs
 
   -- the same of all frames
   abbrev pub EndsAll : List Frame → List Token → ℕ → List Fault → Type 0
@@ -140,7 +140,7 @@ module _ (whole : Outcome) where
 
   -- A step keeps what is known of the frames, and if the outcome is reached after it, then also before it.
   abbrev pub Goes : Machine → Frame → List Frame → List Token → ℕ → List Fault → Type 0
-  Goes m f fs ts n gs = Reading m.frames × (EndsAll m.frames m.left m.reached m.faults → EndsOn fs f ts n gs)
+  Goes m f fs ts n gs = Reading m.frames × (EndsAll m.frames m.left m.prev_end m.faults → EndsOn fs f ts n gs)
 
   -- so does the step of an action
   abbrev pub GoesBy : Action → Frame → List Frame → List Token → ℕ → List Fault → Type 0
@@ -148,7 +148,7 @@ module _ (whole : Outcome) where
 
   -- an open frame above another becomes complete
   pub open_ends : (g : Frame) (fs : List Frame) (f : Frame) (ts : List Token) (n : ℕ) (gs : List Fault) → is_open f.head ≡ true → EndsOn (g ∷ fs) f ts n gs
-      → RowEnds f.head f.depth (rest_at f.place) f.row (Closes f.head g (EndsOn fs)) ts n gs
+      → RowEnds f.head f.depth (rest_at f.position) f.row (Closes f.head g (EndsOn fs)) ts n gs
   open_ends g fs f ts n gs o (inl e) = e
   open_ends g fs f ts n gs o (inr e) = absurd (true_is_not_false (sym o ∙ ap is_open e.is))
 
@@ -159,8 +159,8 @@ module _ (whole : Outcome) where
   operand_ends g fs f ts n gs o (inr e) = e
 
   -- the same of a frame, with trees in front of the rest of its row
-  pub fronted : (fs : List Frame) (f : Frame) (y : Place) (x : AnnotatedForest) (ts us : List Token) (n m : ℕ) (gs ds hs : List Fault) → is_open f.head ≡ true
-      → Spans ts n us m x → hs ≡ gs ++ ds → Fronts (kind_of f.head) f.depth n (rest_at f.place) f.row x us m (rest_at y) ds
+  pub fronted : (fs : List Frame) (f : Frame) (y : Position) (x : AnnotatedForest) (ts us : List Token) (n m : ℕ) (gs ds hs : List Fault) → is_open f.head ≡ true
+      → Spans ts n us m x → hs ≡ gs ++ ds → Fronts (kind_of f.head) f.depth n (rest_at f.position) f.row x us m (rest_at y) ds
       → EndsOn fs (put y (f.row ⊕ x) f) us m hs → EndsOn fs f ts n gs
   fronted [] f y x ts us n m gs ds hs o v h reads ends = row_fronted x ds v h reads ends
   fronted (g ∷ fs) f y x ts us n m gs ds hs o v h reads ends = inl (row_fronted x ds v h reads (open_ends g fs (put y (f.row ⊕ x) f) us m hs o ends))

@@ -4,37 +4,37 @@ use Rattle.rnix_kinds.specs.declared.kinds.SyntaxKind.{SyntaxKind}
 use Rattle.rnix_kinds.specs.declared.kinds.SyntaxKind.TheVariants.{TOKEN_R_PAREN, TOKEN_L_PAREN, TOKEN_L_BRACE, TOKEN_R_BRACE, TOKEN_SEMICOLON, TOKEN_ASSIGN, TOKEN_COLON, TOKEN_COMMA, TOKEN_THEN, TOKEN_ELSE, TOKEN_INTERPOL_END, TOKEN_INHERIT, TOKEN_STRING_START, TOKEN_STRING_CONTENT, TOKEN_STRING_END, TOKEN_INTERPOL_START, TOKEN_PATH_ABS, TOKEN_PATH_REL, TOKEN_PATH_HOME, TOKEN_IDENT, TOKEN_OR, TOKEN_CUR_POS, TOKEN_DOT, TOKEN_ELLIPSIS, TOKEN_AT, TOKEN_QUESTION, NODE_INHERIT, NODE_ATTRPATH_VALUE, NODE_ATTRPATH, NODE_INTERPOL, NODE_DYNAMIC, NODE_STRING, NODE_IDENT, NODE_INHERIT_FROM, NODE_PAT_BIND, NODE_PAT_ENTRY, NODE_PATTERN, NODE_ERROR, NODE_SELECT, NODE_HAS_ATTR, NODE_BIN_OP}
 use Rattle.rnix_kinds.specs.SyntaxKind.{is_fn_arg}
 use Rattle.rnix_green.specs.Equality.{same_kind}
-use Rattle.rnix_grammar.specs.declared.place.Place.{Place}
-use Rattle.rnix_grammar.specs.declared.place.Place.TheVariants as p
-use Rattle.rnix_grammar.specs.declared.position.Slot.{Slot}
-use Rattle.rnix_grammar.specs.declared.position.Slot.TheVariants.{Next, End}
-use Rattle.rnix_grammar.specs.declared.position.TheConstants.{PATTERN, AFTER_COMMA, AFTER_FORMAL, PATTERN_CLOSE, BOUND_AFTER_COMMA, BOUND_AFTER_FORMAL, BOUND_PATTERN_CLOSE, DYNAMIC, STRING, STRING_PAST, INHERIT_END, INHERIT_PAST, INTERPOL, INHERIT, INHERIT_FROM, INHERITED_NAME, ATTRPATH, ATTRPATH_VALUE, PAT_BIND, SELECT, HAS_ATTR, OPERATED}
+use Rattle.rnix_grammar.specs.declared.position.Position.{Position}
+use Rattle.rnix_grammar.specs.declared.position.Position.TheVariants as p
+use Rattle.rnix_grammar.specs.declared.slot_table.Slot.{Slot}
+use Rattle.rnix_grammar.specs.declared.slot_table.Slot.TheVariants.{Next, End}
+use Rattle.rnix_grammar.specs.declared.slot_table.TheConstants.{PATTERN, AFTER_COMMA, AFTER_FORMAL, PATTERN_CLOSE, BOUND_AFTER_COMMA, BOUND_AFTER_FORMAL, BOUND_PATTERN_CLOSE, DYNAMIC, STRING, STRING_CLOSED, INHERIT_END, INHERIT_CLOSED, INTERPOL, INHERIT, INHERIT_FROM, INHERITED_NAME, ATTRPATH, ATTRPATH_VALUE, PAT_BIND, SELECT, HAS_ATTR, BIN_OP_END}
 use Rattle.rnix_grammar.specs.declared.rules.Part.{Part}
 use Rattle.rnix_grammar.specs.declared.rules.Part.TheVariants as r
-use Rattle.rnix_grammar.specs.declared.until.Until.{Until}
-use Rattle.rnix_grammar.specs.declared.until.Until.TheVariants as u
+use Rattle.rnix_grammar.specs.declared.expected_set.ExpectedSet.{ExpectedSet}
+use Rattle.rnix_grammar.specs.declared.expected_set.ExpectedSet.TheVariants as u
 use Rattle.rnix_grammar.specs.declared.action.Action.{Action}
 use Rattle.rnix_grammar.specs.declared.action.Action.TheVariants as a
-use Rattle.rnix_grammar.specs.Levels.{has_attr_level, application_level, binding_power, right_of, high_of}
-use Rattle.rnix_grammar.specs.Positions.{slot_at}
+use Rattle.rnix_grammar.specs.Levels.{has_attr_level, application_level, binding_power, right_of, max_bp_of}
+use Rattle.rnix_grammar.specs.SlotRows.{slot_at}
 
 -- what an error says is wanted where a child of a kind is missing
-abbrev pub until_of : SyntaxKind → Until
-until_of TOKEN_R_PAREN = u.RParen
-until_of TOKEN_L_BRACE = u.LBrace
-until_of TOKEN_R_BRACE = u.RBrace
-until_of TOKEN_SEMICOLON = u.Semicolon
-until_of TOKEN_ASSIGN = u.Assign
-until_of TOKEN_COLON = u.Colon
-until_of TOKEN_THEN = u.Then
-until_of TOKEN_ELSE = u.Else
-until_of TOKEN_INTERPOL_END = u.InterpolEnd
-until_of TOKEN_STRING_END = u.StringEnd
-until_of kind = u.Ident
+abbrev pub expected_set_of : SyntaxKind → ExpectedSet
+expected_set_of TOKEN_R_PAREN = u.RParen
+expected_set_of TOKEN_L_BRACE = u.LBrace
+expected_set_of TOKEN_R_BRACE = u.RBrace
+expected_set_of TOKEN_SEMICOLON = u.Semicolon
+expected_set_of TOKEN_ASSIGN = u.Assign
+expected_set_of TOKEN_COLON = u.Colon
+expected_set_of TOKEN_THEN = u.Then
+expected_set_of TOKEN_ELSE = u.Else
+expected_set_of TOKEN_INTERPOL_END = u.InterpolEnd
+expected_set_of TOKEN_STRING_END = u.StringEnd
+expected_set_of kind = u.Ident
 
 -- a token that is wanted
 abbrev pub token_action : SyntaxKind → ℕ → ℕ → SyntaxKind → Action
-token_action wanted left after kind = if same_kind wanted kind then a.Take after else a.Run (until_of wanted) left
+token_action wanted left after kind = if same_kind wanted kind then a.Take after else a.Run (expected_set_of wanted) left
 
 -- a name that is wanted
 abbrev pub name_action : ℕ → ℕ → SyntaxKind → Action
@@ -43,7 +43,7 @@ name_action left after kind = a.Run u.Ident left
 
 -- where a child of a kind is wanted: a token, or a name
 abbrev pub wanted_action : SyntaxKind → ℕ → ℕ → Option SyntaxKind → Action
-wanted_action wanted left after None = a.MissWanted (until_of wanted) after
+wanted_action wanted left after None = a.MissWanted (expected_set_of wanted) after
 wanted_action wanted left after (Some kind) = if same_kind wanted NODE_IDENT then name_action left after kind else token_action wanted left after kind
 
 -- where more operands of a level may stand, or what closes the row
@@ -60,7 +60,7 @@ entries_action closer left after (Some kind) = if same_kind closer kind then a.T
 -- inside a string
 abbrev pub pieces_action : ℕ → ℕ → Option SyntaxKind → Action
 pieces_action left after None = a.MissWanted u.Piece after
-pieces_action left after (Some TOKEN_STRING_END) = a.Take STRING_PAST
+pieces_action left after (Some TOKEN_STRING_END) = a.Take STRING_CLOSED
 pieces_action left after (Some TOKEN_STRING_CONTENT) = a.Take left
 pieces_action left after (Some TOKEN_INTERPOL_START) = a.Open NODE_INTERPOL INTERPOL left
 pieces_action left after (Some kind) = a.Run u.Piece left
@@ -90,7 +90,7 @@ attr_action again after (Some kind) = a.Run u.Attr again
 -- where more inherited names may stand, or `;`
 abbrev pub names_action : ℕ → ℕ → Option SyntaxKind → Action
 names_action left after None = a.Miss after
-names_action left after (Some kind) = if same_kind kind TOKEN_SEMICOLON then a.Take INHERIT_PAST else attr_action INHERITED_NAME left (Some kind)
+names_action left after (Some kind) = if same_kind kind TOKEN_SEMICOLON then a.Take INHERIT_CLOSED else attr_action INHERITED_NAME left (Some kind)
 
 -- after `inherit`: `(`, or names
 abbrev pub source_action : ℕ → Option SyntaxKind → Action
@@ -135,7 +135,7 @@ end_or_action kind after next = a.Close
 
 -- after the braces of a pattern that has a name before it
 abbrev pub bound_action : ℕ → Option SyntaxKind → Action
-bound_action after (Some TOKEN_AT) = a.Twice after
+bound_action after (Some TOKEN_AT) = a.DoubleBind after
 bound_action after next = a.ClosePattern
 
 -- after the root's expression
@@ -152,7 +152,7 @@ child_action after (Some kind) = a.Take after
 abbrev pub close_action : SyntaxKind → Action
 close_action NODE_PAT_ENTRY = a.CloseEntry
 close_action NODE_PATTERN = a.ClosePattern
-close_action NODE_ERROR = a.CloseTwice
+close_action NODE_ERROR = a.CloseDoubleBind
 close_action kind = a.Close
 
 -- another position
@@ -185,16 +185,16 @@ abbrev pub follow : SyntaxKind → Action
 follow TOKEN_DOT = a.Wrap NODE_SELECT (p.Left SELECT) application_level
 follow TOKEN_OR = a.ApplyOr
 follow TOKEN_QUESTION = a.Wrap NODE_HAS_ATTR (p.Left HAS_ATTR) has_attr_level
-follow kind = if is_fn_arg kind then a.Apply else a.Wrap NODE_BIN_OP (p.Right (right_of kind)) (high_of kind)
+follow kind = if is_fn_arg kind then a.Apply else a.Wrap NODE_BIN_OP (p.Right (right_of kind)) (max_bp_of kind)
 
 -- an operator goes on whose level is between these
 abbrev pub goes_on : ℕ → ℕ → SyntaxKind → Bool
-goes_on low high kind = nat_le 1 (binding_power kind) && (nat_le low (binding_power kind) && nat_le (binding_power kind) high)
+goes_on min_bp max_bp kind = nat_le 1 (binding_power kind) && (nat_le min_bp (binding_power kind) && nat_le (binding_power kind) max_bp)
 
 -- after an operand: what goes on with it at a level between two, or its end
 abbrev pub more_action : ℕ → ℕ → Option SyntaxKind → Action
-more_action low high None = a.Settle
-more_action low high (Some kind) = if goes_on low high kind then follow kind else a.Settle
+more_action min_bp max_bp None = a.EndOperand
+more_action min_bp max_bp (Some kind) = if goes_on min_bp max_bp kind then follow kind else a.EndOperand
 
 -- at a slot of the table
 abbrev pub slot_action : Option Slot → ℕ → Option SyntaxKind → Bool → Action
@@ -207,7 +207,7 @@ abbrev pub left_action : ℕ → Option SyntaxKind → Bool → Action
 left_action left next touches = slot_action (slot_at left) left next touches
 
 -- what is done at a place, by the next token that is not trivia, and by whether it touches the one before
-abbrev pub action_at : Place → Option SyntaxKind → Bool → Action
+abbrev pub action_at : Position → Option SyntaxKind → Bool → Action
 action_at (p.Left left) next touches = left_action left next touches
-action_at (p.Behind low high) next touches = more_action low high next
-action_at (p.Right level) next touches = a.Read level false OPERATED
+action_at (p.AfterOperand min_bp max_bp) next touches = more_action min_bp max_bp next
+action_at (p.Right level) next touches = a.Read level false BIN_OP_END

@@ -6,7 +6,7 @@ use Rattle.rnix_kinds.specs.SyntaxKind.{is_trivia}
 use Rattle.rnix_kinds.specs.Lexical.Tokens.{Lexeme}
 use Rattle.rnix_green.specs.Forest.{Forest, empty, leaf, node}
 use Rattle.rnix_green.specs.Range.{Extent}
-use Rattle.rnix_grammar.specs.declared.until.Until.{Until}
+use Rattle.rnix_grammar.specs.declared.expected_set.ExpectedSet.{ExpectedSet}
 
 -- a token of a text, with the bytes that it takes
 pub record Token : Type 0 where
@@ -28,9 +28,9 @@ placed_from n (l ∷ ls) = record { kind = l.0; text = l.1; start = n; end = n +
 -- the tokens behind the root's expression, a second name of a pattern, the tokens that are nested too deep
 pub data Note : Type 0 where
   Stray : Note
-  Unwanted : Until → Note
+  Unwanted : ExpectedSet → Note
   Extra : Note
-  Twice : Note
+  DoubleBind : Note
   TooDeep : Note
 
 -- a row of trees: a leaf has its kind and its token, an error node has its note

@@ -2,7 +2,7 @@
 use Rattle.std.specs.Prelude.{ℕ, ◌-◌, Bool, true, false, Option, Some, if◌then◌else◌, nat_le, nat_eq, List}
 use Rattle.rnix_kinds.specs.declared.kinds.SyntaxKind.{SyntaxKind}
 use Rattle.rnix_kinds.specs.declared.kinds.SyntaxKind.TheVariants.{TOKEN_L_PAREN, TOKEN_L_BRACK, TOKEN_REC, TOKEN_STRING_START, TOKEN_PATH_ABS, TOKEN_PATH_REL, TOKEN_PATH_HOME, TOKEN_PATH_SEARCH, TOKEN_FLOAT, TOKEN_INTEGER, TOKEN_URI, TOKEN_IDENT, TOKEN_CUR_POS, TOKEN_L_BRACE, TOKEN_R_BRACE, TOKEN_COMMA, TOKEN_QUESTION, TOKEN_ELLIPSIS, TOKEN_COLON, TOKEN_AT, TOKEN_LET, TOKEN_WITH, TOKEN_ASSERT, TOKEN_IF, TOKEN_INVERT, TOKEN_SUB, NODE_PAREN, NODE_LIST, NODE_ATTR_SET, NODE_STRING, NODE_PATH_ABS, NODE_PATH_REL, NODE_PATH_HOME, NODE_PATH_SEARCH, NODE_LITERAL, NODE_IDENT, NODE_CUR_POS, NODE_LET_IN, NODE_WITH, NODE_ASSERT, NODE_IF_ELSE, NODE_UNARY_OP}
-use Rattle.rnix_grammar.specs.declared.position.TheConstants.{PAREN, LIST, SET, REC_SET, STRING, PATH_ABS, PATH_REL, PATH_HOME, LET_IN, WITH, ASSERT, IF_ELSE, INVERSION, NEGATION}
+use Rattle.rnix_grammar.specs.declared.slot_table.TheConstants.{PAREN, LIST, SET, REC_SET, STRING, PATH_ABS, PATH_REL, PATH_HOME, LET_IN, WITH, ASSERT, IF_ELSE, INVERSION, NEGATION}
 use Rattle.rnix_grammar.specs.declared.begin.Begin.{Begin}
 use Rattle.rnix_grammar.specs.declared.begin.Begin.TheVariants as b
 use Rattle.rnix_grammar.specs.Tables.{is_cur_pos}

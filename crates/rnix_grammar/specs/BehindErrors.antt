@@ -2,7 +2,7 @@
 use Rattle.std.specs.Prelude.{List, Option, Some, None}
 use Rattle.rnix_kinds.specs.declared.kinds.SyntaxKind.{SyntaxKind}
 use Rattle.rnix_kinds.specs.declared.kinds.SyntaxKind.TheVariants.{NODE_LITERAL}
-use Rattle.rnix_grammar.specs.AnnotatedForest.{Note, Stray, Unwanted, Extra, Twice, TooDeep}
+use Rattle.rnix_grammar.specs.AnnotatedForest.{Note, Stray, Unwanted, Extra, DoubleBind, TooDeep}
 use Rattle.rnix_grammar.specs.Rules.{Row, never, done, after, run_at}
 
 -- what is left after a run of tokens, if one may stand
@@ -15,5 +15,5 @@ abbrev pub after_error : Row → Note → Row
 after_error q Stray = after q NODE_LITERAL
 after_error q (Unwanted until) = after_run (run_at q)
 after_error q Extra = q
-after_error q Twice = done
+after_error q DoubleBind = done
 after_error q TooDeep = after q NODE_LITERAL

@@ -7,7 +7,7 @@ use Rattle.rnix_grammar.specs.Tables.{depth_limit}
 use Rattle.rnix_grammar.specs.AnnotatedForest.{Token, lexeme_of, AnnotatedForest, blank, token, branch}
 use Rattle.rnix_grammar.specs.Layout.{tail_of}
 use Rattle.rnix_grammar.specs.Yield.{yield}
-use Rattle.rnix_grammar.specs.Plain.{ArePaths}
+use Rattle.rnix_grammar.specs.PathPieces.{ArePaths}
 use Rattle.rnix_grammar.specs.Nest.{nest}
 use Rattle.rnix_grammar.specs.Grammar.{IsExpression}
 
@@ -18,11 +18,11 @@ beyond (leaf k t f) ts = beyond f (tail_of ts)
 beyond (node k c f) ts = beyond f (beyond c ts)
 
 -- each leaf with its item, from left to right
-abbrev pub laid : Forest → List Token → AnnotatedForest
-laid empty ts = blank
-laid (leaf k t f) [] = blank
-laid (leaf k t f) (x ∷ ts) = token k x (laid f ts)
-laid (node k c f) ts = branch k (laid c ts) (laid f (beyond c ts))
+abbrev pub annotate : Forest → List Token → AnnotatedForest
+annotate empty ts = blank
+annotate (leaf k t f) [] = blank
+annotate (leaf k t f) (x ∷ ts) = token k x (annotate f ts)
+annotate (node k c f) ts = branch k (annotate c ts) (annotate f (beyond c ts))
 
 -- each leaf has the kind of a token
 abbrev pub has_tokens_alone : Forest → Bool
@@ -36,4 +36,4 @@ pub record IsDerivation (tree : Forest) (ts : List Token) : Type 0 where
   pub strict : IsExpression tree
   pub shallow : nest NODE_ROOT tree ≤ depth_limit
   pub yields : yield tree ≡ map lexeme_of ts
-  pub joined : ArePaths (laid tree ts) []
+  pub joined : ArePaths (annotate tree ts) []

@@ -2,12 +2,12 @@
 use Rattle.std.specs.Prelude.{◌≡◌, true, false, List, [], ◌∷◌, Some, length}
 use Rattle.rnix_kinds.specs.declared.kinds.SyntaxKind.{SyntaxKind}
 use Rattle.rnix_kinds.specs.declared.kinds.SyntaxKind.TheVariants.{NODE_ROOT, NODE_PATTERN, NODE_ERROR}
-use Rattle.rnix_grammar.specs.declared.until.Until.{Until}
+use Rattle.rnix_grammar.specs.declared.expected_set.ExpectedSet.{ExpectedSet}
 use Rattle.rnix_grammar.specs.Tables.{stops}
-use Rattle.rnix_grammar.specs.AnnotatedForest.{Token, Note, Stray, Unwanted, Extra, Twice, TooDeep, AnnotatedForest, blank, token, branch, fault, tokens_in, is_some}
+use Rattle.rnix_grammar.specs.AnnotatedForest.{Token, Note, Stray, Unwanted, Extra, DoubleBind, TooDeep, AnnotatedForest, blank, token, branch, fault, tokens_in, is_some}
 
 -- none of the tokens stops the run
-abbrev pub AreUnwanted : Until → List Token → Type 0
+abbrev pub AreUnwanted : ExpectedSet → List Token → Type 0
 AreUnwanted until [] = Unit {0}
 AreUnwanted until (t ∷ ts) = (stops until (Some t.kind) ≡ false) × AreUnwanted until ts
 
@@ -17,7 +17,7 @@ abbrev pub IsErrorNode : Note → SyntaxKind → List Token → Type 0
 IsErrorNode Stray parent ts = length ts ≡ 1
 IsErrorNode (Unwanted until) parent ts = (is_some ts ≡ true) × AreUnwanted until ts
 IsErrorNode Extra parent ts = (is_some ts ≡ true) × (parent ≡ NODE_ROOT)
-IsErrorNode Twice parent ts = (is_some ts ≡ true) × (parent ≡ NODE_PATTERN)
+IsErrorNode DoubleBind parent ts = (is_some ts ≡ true) × (parent ≡ NODE_PATTERN)
 IsErrorNode TooDeep parent ts = Unit {0}
 
 -- so it is with each error node of a row of a kind

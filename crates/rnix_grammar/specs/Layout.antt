@@ -71,5 +71,5 @@ with_trivia (fault n c f) ts =
     (trivia_after (is_last n) (left_after c (from_item ts)) ⊕ with_trivia f (rest_after (is_last n) (left_after c (from_item ts))))
 
 -- a whole text: the trivia behind the last item stand in the root
-abbrev pub with_trivia_whole : AnnotatedForest → List Token → AnnotatedForest
-with_trivia_whole f ts = with_trivia f ts ⊕ trivia_before (left_after f ts)
+abbrev pub with_all_trivia : AnnotatedForest → List Token → AnnotatedForest
+with_all_trivia f ts = with_trivia f ts ⊕ trivia_before (left_after f ts)

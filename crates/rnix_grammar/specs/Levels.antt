@@ -86,9 +86,9 @@ left_level level Left = level
 left_level level way = suc level
 
 -- the tightest level of an operator that may follow what an operator has made: its own where it groups to the left, else the one before
-abbrev pub high_level : ℕ → Associativity → ℕ
-high_level level Left = level
-high_level level way = level - 1
+abbrev pub max_bp_level : ℕ → Associativity → ℕ
+max_bp_level level Left = level
+max_bp_level level way = level - 1
 
 -- what a function of level and grouping says of an operator, or another number where there is none
 abbrev pub side_of : (ℕ → Associativity → ℕ) → ℕ → Option (ℕ × Associativity) → ℕ
@@ -104,5 +104,5 @@ abbrev pub left_of : SyntaxKind → ℕ
 left_of kind = side_of left_level selection_level (operator kind)
 
 -- the tightest level of an operator behind what an operator has made
-abbrev pub high_of : SyntaxKind → ℕ
-high_of kind = side_of high_level application_level (operator kind)
+abbrev pub max_bp_of : SyntaxKind → ℕ
+max_bp_of kind = side_of max_bp_level application_level (operator kind)

@@ -3,9 +3,9 @@
 use Rattle.std.specs.Prelude.{ℕ, suc, Bool, true, false, List, [], ◌∷◌, ◌++◌, if◌then◌else◌, nat_le}
 use Rattle.rnix_kinds.specs.declared.kinds.SyntaxKind.{SyntaxKind}
 use Rattle.rnix_kinds.specs.declared.kinds.SyntaxKind.TheVariants.{NODE_ERROR, NODE_IDENT, NODE_PAT_ENTRY, NODE_LAMBDA, NODE_IDENT_PARAM, NODE_PATTERN, NODE_PAT_BIND, NODE_LEGACY_LET, NODE_APPLY, NODE_ROOT}
-use Rattle.rnix_grammar.specs.declared.place.Place.{Place}
-use Rattle.rnix_grammar.specs.declared.place.Place.TheVariants as p
-use Rattle.rnix_grammar.specs.declared.position.TheConstants.{ROOT, LEGACY_LET, LAMBDA, PATTERN, BOUND_PATTERN, PAT_ENTRY, SECOND, APPLIED}
+use Rattle.rnix_grammar.specs.declared.position.Position.{Position}
+use Rattle.rnix_grammar.specs.declared.position.Position.TheVariants as p
+use Rattle.rnix_grammar.specs.declared.slot_table.TheConstants.{ROOT, LEGACY_LET, LAMBDA, PATTERN, BOUND_PATTERN, PAT_ENTRY, SECOND_BIND, APPLIED}
 use Rattle.rnix_grammar.specs.declared.action.Action.{Action}
 use Rattle.rnix_grammar.specs.declared.action.Action.TheVariants as a
 use Rattle.rnix_grammar.specs.declared.begin.Begin.{Begin}
@@ -14,22 +14,22 @@ use Rattle.rnix_grammar.specs.Fault.{Fault, ended, ended_before, too_deep}
 use Rattle.rnix_grammar.specs.Tables.{wanted_kinds, depth_limit}
 use Rattle.rnix_grammar.specs.Actions.{action_at}
 use Rattle.rnix_grammar.specs.Begins.{begin_of, second_kind}
-use Rattle.rnix_grammar.specs.AnnotatedForest.{Token, Stray, Unwanted, Extra, Twice, TooDeep, AnnotatedForest, blank, ◌⊕◌, one_token, one_branch, one_fault, row_of, tokens_in, without_trivia, leaf_kind, end_from, head_kind, touches}
+use Rattle.rnix_grammar.specs.AnnotatedForest.{Token, Stray, Unwanted, Extra, DoubleBind, TooDeep, AnnotatedForest, blank, ◌⊕◌, one_token, one_branch, one_fault, row_of, tokens_in, without_trivia, leaf_kind, end_from, head_kind, touches}
 use Rattle.rnix_grammar.specs.Layout.{items, from_item, tail_of, trivia_before, with_trivia, left_after}
 use Rattle.rnix_grammar.specs.Reports.{report, repeated}
-use Rattle.rnix_grammar.specs.Missing.{run_of}
+use Rattle.rnix_grammar.specs.UnwantedRun.{run_of}
 use Rattle.rnix_grammar.specs.Levels.{expression_level, no_level, application_level, selection_level}
 
 -- what is open: a node, the error node of a second name, an operand that may become part of a node
 pub data Head : Type 0 where
   Node : SyntaxKind → Head
-  Second : Head
+  SecondBind : Head
   Operand : Head
 
 -- with how far it is read, inside how many counted places, and the trees that it has so far
 pub record Frame : Type 0 where
   pub head : Head
-  pub place : Place
+  pub position : Position
   pub depth : ℕ
   pub row : AnnotatedForest
 
@@ -37,16 +37,16 @@ pub record Frame : Type 0 where
 pub record Machine : Type 0 where
   pub frames : List Frame
   pub left : List Token
-  pub reached : ℕ
+  pub prev_end : ℕ
   pub faults : List Fault
 
 -- a frame at another place, with another row
-abbrev pub put : Place → AnnotatedForest → Frame → Frame
-put place row f = record { head = f.head; place = place; depth = f.depth; row = row }
+abbrev pub put : Position → AnnotatedForest → Frame → Frame
+put position row f = record { head = f.head; position = position; depth = f.depth; row = row }
 
 -- an open node or operand
-abbrev pub opened : Head → Place → ℕ → AnnotatedForest → Frame
-opened head place depth row = record { head = head; place = place; depth = depth; row = row }
+abbrev pub opened : Head → Position → ℕ → AnnotatedForest → Frame
+opened head position depth row = record { head = head; position = position; depth = depth; row = row }
 
 -- the items that are left, where trivia are read
 abbrev pub seen : Bool → List Token → List Token
@@ -59,9 +59,9 @@ past true ts = from_item ts
 past false ts = ts
 
 -- a row with the trivia before the next item, where trivia are read
-abbrev pub ate : Bool → AnnotatedForest → List Token → AnnotatedForest
-ate true f ts = f ⊕ trivia_before ts
-ate false f ts = f
+abbrev pub with_leading : Bool → AnnotatedForest → List Token → AnnotatedForest
+with_leading true f ts = f ⊕ trivia_before ts
+with_leading false f ts = f
 
 -- the tokens behind the next item
 abbrev pub behind : Bool → List Token → List Token
@@ -73,8 +73,8 @@ end_of n [] = n
 end_of n (t ∷ ts) = t.end
 
 -- where the next item ends
-abbrev pub reach : Bool → ℕ → List Token → ℕ
-reach raw n ts = end_of n (past raw ts)
+abbrev pub item_end : Bool → ℕ → List Token → ℕ
+item_end raw n ts = end_of n (past raw ts)
 
 -- the next item as a leaf below a node
 abbrev pub leaf_in : SyntaxKind → List Token → AnnotatedForest
@@ -103,28 +103,28 @@ run_rest false run ts = dropped run ts
 -- the kind of a frame's node
 abbrev pub kind_of : Head → SyntaxKind
 kind_of (Node k) = k
-kind_of Second = NODE_ERROR
+kind_of SecondBind = NODE_ERROR
 kind_of Operand = NODE_ROOT
 
 -- what a frame's row becomes as it is complete
 abbrev pub made : Head → AnnotatedForest → AnnotatedForest
 made (Node k) row = one_branch k row
-made Second row = one_fault Twice row
+made SecondBind row = one_fault DoubleBind row
 made Operand row = row
 
 -- the loosest level with which an operand goes on
-abbrev pub low_of : Place → ℕ
-low_of (p.Behind low high) = low
-low_of place = expression_level
+abbrev pub min_bp_of : Position → ℕ
+min_bp_of (p.AfterOperand min_bp max_bp) = min_bp
+min_bp_of position = expression_level
 
 -- a machine with these frames, tokens, reach and errors
 abbrev pub machine : List Frame → List Token → ℕ → List Fault → Machine
-machine fs ts n es = record { frames = fs; left = ts; reached = n; faults = es }
+machine fs ts n es = record { frames = fs; left = ts; prev_end = n; faults = es }
 
 -- a frame is complete and goes to the one below
 abbrev pub closed : Frame → List Frame → List Token → ℕ → List Fault → Machine
 closed f [] ts n es = machine (f ∷ []) ts n es
-closed f (g ∷ fs) ts n es = machine (put g.place (g.row ⊕ made f.head f.row) g ∷ fs) ts n es
+closed f (g ∷ fs) ts n es = machine (put g.position (g.row ⊕ made f.head f.row) g ∷ fs) ts n es
 
 -- a row without trivia
 abbrev pub without_trivia_if : Bool → AnnotatedForest → AnnotatedForest
@@ -137,41 +137,41 @@ entry_closed raw f [] ts n es = machine (f ∷ []) ts n es
 entry_closed raw f (g ∷ fs) ts n es = closed f (g ∷ fs) ts n (es ++ repeated (without_trivia_if raw g.row) (without_trivia_if raw f.row))
 
 -- a node is opened with a row
-abbrev pub open_on : Bool → Head → Place → AnnotatedForest → Place → Frame → List Frame → List Token → List Frame
-open_on raw head inside row after f fs ts = opened head inside f.depth row ∷ (put after (ate raw f.row ts) f ∷ fs)
+abbrev pub open_on : Bool → Head → Position → AnnotatedForest → Position → Frame → List Frame → List Token → List Frame
+open_on raw head inside row after f fs ts = opened head inside f.depth row ∷ (put after (with_leading raw f.row ts) f ∷ fs)
 
 -- all that is left is nested too deep
 abbrev pub limited : Bool → Frame → List Frame → List Token → ℕ → List Fault → Machine
 limited raw f fs ts n es =
-    machine (put f.place (ate raw (ate raw f.row ts ⊕ one_fault TooDeep (run_row raw (seen raw ts) ts)) (run_rest raw (seen raw ts) ts)) f ∷ fs)
+    machine (put f.position (with_leading raw (with_leading raw f.row ts ⊕ one_fault TooDeep (run_row raw (seen raw ts) ts)) (run_rest raw (seen raw ts) ts)) f ∷ fs)
     (past raw (run_rest raw (seen raw ts) ts)) (end_from n (seen raw ts)) (es ++ too_deep ∷ [])
 
 -- an operand begins with the next item, inside so many counted places: f waits below
 abbrev pub begun : Bool → Begin → ℕ → ℕ → Token → Frame → List Frame → List Token → ℕ → List Fault → Machine
 begun raw (b.Leaf k) level d t f fs ts n es =
-    machine (opened Operand (p.Behind level selection_level) d (one_branch k (leaf raw k ts)) ∷ (put f.place (ate raw f.row ts) f ∷ fs)) (behind raw ts) (reach raw n ts) es
-begun raw (b.Node k left high) level d t f fs ts n es =
-    machine (opened (Node k) (p.Left left) d (leaf raw k ts) ∷ (opened Operand (p.Behind level high) d blank ∷ (put f.place (ate raw f.row ts) f ∷ fs)))
-    (behind raw ts) (reach raw n ts) es
+    machine (opened Operand (p.AfterOperand level selection_level) d (one_branch k (leaf raw k ts)) ∷ (put f.position (with_leading raw f.row ts) f ∷ fs)) (behind raw ts) (item_end raw n ts) es
+begun raw (b.Node k left max_bp) level d t f fs ts n es =
+    machine (opened (Node k) (p.Left left) d (leaf raw k ts) ∷ (opened Operand (p.AfterOperand level max_bp) d blank ∷ (put f.position (with_leading raw f.row ts) f ∷ fs)))
+    (behind raw ts) (item_end raw n ts) es
 begun raw b.LegacyLet level d t f fs ts n es =
-    machine (opened (Node NODE_LEGACY_LET) (p.Left LEGACY_LET) d (ate raw (leaf raw NODE_LEGACY_LET ts) (behind raw ts) ⊕ leaf raw NODE_LEGACY_LET (behind raw ts))
-    ∷ (opened Operand (p.Behind level no_level) d blank ∷ (put f.place (ate raw f.row ts) f ∷ fs)))
-    (behind raw (behind raw ts)) (reach raw (reach raw n ts) (behind raw ts)) es
+    machine (opened (Node NODE_LEGACY_LET) (p.Left LEGACY_LET) d (with_leading raw (leaf raw NODE_LEGACY_LET ts) (behind raw ts) ⊕ leaf raw NODE_LEGACY_LET (behind raw ts))
+    ∷ (opened Operand (p.AfterOperand level no_level) d blank ∷ (put f.position (with_leading raw f.row ts) f ∷ fs)))
+    (behind raw (behind raw ts)) (item_end raw (item_end raw n ts) (behind raw ts)) es
 begun raw b.NameLambda level d t f fs ts n es =
     machine (opened (Node NODE_LAMBDA) (p.Left LAMBDA) d (one_branch NODE_IDENT_PARAM (one_branch NODE_IDENT (leaf raw NODE_IDENT ts)))
-    ∷ (opened Operand (p.Behind level selection_level) d blank ∷ (put f.place (ate raw f.row ts) f ∷ fs))) (behind raw ts) (reach raw n ts) es
+    ∷ (opened Operand (p.AfterOperand level selection_level) d blank ∷ (put f.position (with_leading raw f.row ts) f ∷ fs))) (behind raw ts) (item_end raw n ts) es
 begun raw b.BoundLambda level d t f fs ts n es =
     machine (opened (Node NODE_PATTERN) (p.Left BOUND_PATTERN) d
-    (one_branch NODE_PAT_BIND (ate raw (one_branch NODE_IDENT (leaf raw NODE_IDENT ts)) (behind raw ts) ⊕ leaf raw NODE_PAT_BIND (behind raw ts)))
-    ∷ (opened (Node NODE_LAMBDA) (p.Left LAMBDA) d blank ∷ (opened Operand (p.Behind level selection_level) d blank ∷ (put f.place (ate raw f.row ts) f ∷ fs))))
-    (behind raw (behind raw ts)) (reach raw (reach raw n ts) (behind raw ts)) es
+    (one_branch NODE_PAT_BIND (with_leading raw (one_branch NODE_IDENT (leaf raw NODE_IDENT ts)) (behind raw ts) ⊕ leaf raw NODE_PAT_BIND (behind raw ts)))
+    ∷ (opened (Node NODE_LAMBDA) (p.Left LAMBDA) d blank ∷ (opened Operand (p.AfterOperand level selection_level) d blank ∷ (put f.position (with_leading raw f.row ts) f ∷ fs))))
+    (behind raw (behind raw ts)) (item_end raw (item_end raw n ts) (behind raw ts)) es
 begun raw b.PatternLambda level d t f fs ts n es =
     machine (opened (Node NODE_PATTERN) (p.Left PATTERN) d (leaf raw NODE_PATTERN ts)
-    ∷ (opened (Node NODE_LAMBDA) (p.Left LAMBDA) d blank ∷ (opened Operand (p.Behind level selection_level) d blank ∷ (put f.place (ate raw f.row ts) f ∷ fs))))
-    (behind raw ts) (reach raw n ts) es
+    ∷ (opened (Node NODE_LAMBDA) (p.Left LAMBDA) d blank ∷ (opened Operand (p.AfterOperand level selection_level) d blank ∷ (put f.position (with_leading raw f.row ts) f ∷ fs))))
+    (behind raw ts) (item_end raw n ts) es
 begun raw b.Stray level d t f fs ts n es =
-    machine (opened Operand (p.Behind level selection_level) d (one_fault Stray (leaf raw NODE_ERROR ts)) ∷ (put f.place (ate raw f.row ts) f ∷ fs))
-    (behind raw ts) (reach raw n ts) (es ++ report Stray (t ∷ []) ∷ [])
+    machine (opened Operand (p.AfterOperand level selection_level) d (one_fault Stray (leaf raw NODE_ERROR ts)) ∷ (put f.position (with_leading raw f.row ts) f ∷ fs))
+    (behind raw ts) (item_end raw n ts) (es ++ report Stray (t ∷ []) ∷ [])
 
 -- an operand of a level, where f goes on behind it
 abbrev pub operand_on : Bool → ℕ → ℕ → Frame → List Frame → List Token → List Token → ℕ → List Fault → Machine
@@ -188,42 +188,42 @@ abbrev pub perform : Bool → Action → Frame → List Frame → List Token →
 perform raw a.Close f fs ts n es = closed f fs ts n es
 perform raw a.ClosePattern f fs ts n es = closed f fs ts n es
 perform raw a.CloseEntry f fs ts n es = entry_closed raw f fs ts n es
-perform raw a.CloseTwice f fs ts n es = closed f fs ts n (es ++ report Twice (tokens_in (without_trivia_if raw f.row)) ∷ [])
+perform raw a.CloseDoubleBind f fs ts n es = closed f fs ts n (es ++ report DoubleBind (tokens_in (without_trivia_if raw f.row)) ∷ [])
 perform raw a.Finish f fs ts n es = machine (f ∷ fs) ts n es
-perform raw a.Settle f fs ts n es = closed f fs ts n es
+perform raw a.EndOperand f fs ts n es = closed f fs ts n es
 perform raw a.Extra f fs ts n es =
-    machine (put f.place (ate raw f.row ts ⊕ one_fault Extra (run_row raw (seen raw ts) ts)) f ∷ fs) (run_rest raw (seen raw ts) ts) (end_from n (seen raw ts))
+    machine (put f.position (with_leading raw f.row ts ⊕ one_fault Extra (run_row raw (seen raw ts) ts)) f ∷ fs) (run_rest raw (seen raw ts) ts) (end_from n (seen raw ts))
     (es ++ report Extra (seen raw ts) ∷ [])
-perform raw (a.Take after) f fs ts n es = machine (put (p.Left after) (ate raw f.row ts ⊕ leaf raw (kind_of f.head) ts) f ∷ fs) (behind raw ts) (reach raw n ts) es
+perform raw (a.Take after) f fs ts n es = machine (put (p.Left after) (with_leading raw f.row ts ⊕ leaf raw (kind_of f.head) ts) f ∷ fs) (behind raw ts) (item_end raw n ts) es
 perform raw (a.Miss after) f fs ts n es = machine (put (p.Left after) f.row f ∷ fs) ts n (es ++ ended ∷ [])
 perform raw (a.MissWanted until after) f fs ts n es = machine (put (p.Left after) f.row f ∷ fs) ts n (es ++ ended_before (wanted_kinds until) ∷ [])
 perform raw (a.Run until after) f fs ts n es =
-    machine (put (p.Left after) (ate raw f.row ts ⊕ one_fault (Unwanted until) (run_row raw (run_of until (seen raw ts)) ts)) f ∷ fs)
+    machine (put (p.Left after) (with_leading raw f.row ts ⊕ one_fault (Unwanted until) (run_row raw (run_of until (seen raw ts)) ts)) f ∷ fs)
     (run_rest raw (run_of until (seen raw ts)) ts) (end_from n (run_of until (seen raw ts))) (es ++ report (Unwanted until) (run_of until (seen raw ts)) ∷ [])
-perform raw (a.Leaf k after) f fs ts n es = machine (put (p.Left after) (ate raw f.row ts ⊕ one_branch k (leaf raw k ts)) f ∷ fs) (behind raw ts) (reach raw n ts) es
-perform raw (a.Open k inside after) f fs ts n es = machine (open_on raw (Node k) (p.Left inside) (leaf raw k ts) (p.Left after) f fs ts) (behind raw ts) (reach raw n ts) es
+perform raw (a.Leaf k after) f fs ts n es = machine (put (p.Left after) (with_leading raw f.row ts ⊕ one_branch k (leaf raw k ts)) f ∷ fs) (behind raw ts) (item_end raw n ts) es
+perform raw (a.Open k inside after) f fs ts n es = machine (open_on raw (Node k) (p.Left inside) (leaf raw k ts) (p.Left after) f fs ts) (behind raw ts) (item_end raw n ts) es
 perform raw (a.Begin k inside after) f fs ts n es = machine (open_on raw (Node k) (p.Left inside) blank (p.Left after) f fs ts) (past raw ts) n es
 perform raw (a.Entry after) f fs ts n es =
-    machine (open_on raw (Node NODE_PAT_ENTRY) (p.Left PAT_ENTRY) (one_branch NODE_IDENT (leaf raw NODE_IDENT ts)) (p.Left after) f fs ts) (behind raw ts) (reach raw n ts) es
-perform raw (a.Twice after) f fs ts n es = machine (open_on raw Second (p.Left SECOND) (leaf raw NODE_ERROR ts) (p.Left after) f fs ts) (behind raw ts) (reach raw n ts) es
+    machine (open_on raw (Node NODE_PAT_ENTRY) (p.Left PAT_ENTRY) (one_branch NODE_IDENT (leaf raw NODE_IDENT ts)) (p.Left after) f fs ts) (behind raw ts) (item_end raw n ts) es
+perform raw (a.DoubleBind after) f fs ts n es = machine (open_on raw SecondBind (p.Left SECOND_BIND) (leaf raw NODE_ERROR ts) (p.Left after) f fs ts) (behind raw ts) (item_end raw n ts) es
 perform raw (a.Read level counted after) f fs ts n es = reading raw level counted (put (p.Left after) f.row f) fs ts n es
-perform raw (a.Wrap k inside high) f fs ts n es =
-    machine (opened (Node k) inside f.depth (ate raw f.row ts ⊕ leaf raw k ts) ∷ (opened Operand (p.Behind (low_of f.place) high) f.depth blank ∷ fs))
-    (behind raw ts) (reach raw n ts) es
+perform raw (a.Wrap k inside max_bp) f fs ts n es =
+    machine (opened (Node k) inside f.depth (with_leading raw f.row ts ⊕ leaf raw k ts) ∷ (opened Operand (p.AfterOperand (min_bp_of f.position) max_bp) f.depth blank ∷ fs))
+    (behind raw ts) (item_end raw n ts) es
 perform raw a.Apply f fs ts n es =
-    reading raw selection_level false (opened (Node NODE_APPLY) (p.Left APPLIED) f.depth f.row) (opened Operand (p.Behind (low_of f.place) application_level) f.depth blank ∷ fs) ts n es
+    reading raw selection_level false (opened (Node NODE_APPLY) (p.Left APPLIED) f.depth f.row) (opened Operand (p.AfterOperand (min_bp_of f.position) application_level) f.depth blank ∷ fs) ts n es
 perform raw a.ApplyOr f fs ts n es =
-    machine (opened Operand (p.Behind (low_of f.place) application_level) f.depth (one_branch NODE_APPLY (ate raw f.row ts ⊕ one_branch NODE_IDENT (leaf raw NODE_IDENT ts))) ∷ fs)
-    (behind raw ts) (reach raw n ts) es
+    machine (opened Operand (p.AfterOperand (min_bp_of f.position) application_level) f.depth (one_branch NODE_APPLY (with_leading raw f.row ts ⊕ one_branch NODE_IDENT (leaf raw NODE_IDENT ts))) ∷ fs)
+    (behind raw ts) (item_end raw n ts) es
 
 -- one step at the innermost frame, if there is one
 abbrev pub step_on : Bool → List Frame → List Token → ℕ → List Fault → Machine
 step_on raw [] ts n es = machine [] ts n es
-step_on raw (f ∷ fs) ts n es = perform raw (action_at f.place (head_kind (seen raw ts)) (touches n (seen raw ts))) f fs ts n es
+step_on raw (f ∷ fs) ts n es = perform raw (action_at f.position (head_kind (seen raw ts)) (touches n (seen raw ts))) f fs ts n es
 
 -- one step of a machine
 abbrev pub step : Bool → Machine → Machine
-step raw m = step_on raw m.frames m.left m.reached m.faults
+step raw m = step_on raw m.frames m.left m.prev_end m.faults
 
 -- the text is about to be read
 abbrev pub begins : List Token → Machine

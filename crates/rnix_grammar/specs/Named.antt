@@ -7,7 +7,7 @@ use Rattle.rnix_grammar.specs.Fault.{Fault, named_twice}
 use Rattle.rnix_grammar.specs.AnnotatedForest.{Token, AnnotatedForest, blank, token, branch, fault}
 use Rattle.rnix_grammar.specs.declared.rules.Part.TheVariants.{EndOr}
 use Rattle.rnix_grammar.specs.Rules.{Row, ◌·◌, row, after}
-use Rattle.rnix_grammar.specs.Names.{is_named}
+use Rattle.rnix_grammar.specs.AllowedNames.{is_named}
 use Rattle.rnix_grammar.specs.Tables.{is_or}
 use Rattle.rnix_grammar.specs.BehindErrors.{after_error}
 
@@ -34,15 +34,15 @@ is_bind_at (EndOr kind · r) c = begins_with_token c
 is_bind_at r c = if begins_with_token c then false else true
 
 -- such a name stands where it may, and so do other names and the current position
-abbrev pub suits : Row → SyntaxKind → AnnotatedForest → Bool
-suits q NODE_PAT_BIND c = is_bind_at q c
-suits q kind c = is_named q kind c
+abbrev pub is_name_allowed : Row → SyntaxKind → AnnotatedForest → Bool
+is_name_allowed q NODE_PAT_BIND c = is_bind_at q c
+is_name_allowed q kind c = is_named q kind c
 
 -- so does each of a row, from what is left of it on
 abbrev pub AreNamed : Row → AnnotatedForest → Type 0
 AreNamed q blank = Unit {0}
 AreNamed q (token k t f) = AreNamed (after q k) f
-AreNamed q (branch k c f) = (suits q k c ≡ true) × AreNamed (row k) c × AreNamed (after q k) f
+AreNamed q (branch k c f) = (is_name_allowed q k c ≡ true) × AreNamed (row k) c × AreNamed (after q k) f
 AreNamed q (fault n c f) = AreNamed (after_error q n) f
 
 -- a name is repeated

@@ -6,20 +6,20 @@ use Rattle.rnix_green.specs.Forest.{Forest, empty, leaf, node}
 use Rattle.rnix_grammar.specs.Rows.{is_expression}
 
 -- no child of these counts: operands of binary operators, a function and its argument, what stands before `.` or `?`, the default behind `or`, and names
-abbrev pub is_flat : SyntaxKind → Bool
-is_flat NODE_BIN_OP = true
-is_flat NODE_APPLY = true
-is_flat NODE_SELECT = true
-is_flat NODE_HAS_ATTR = true
-is_flat NODE_ATTRPATH = true
-is_flat NODE_INHERIT = true
-is_flat NODE_IDENT_PARAM = true
-is_flat NODE_PAT_BIND = true
-is_flat kind = false
+abbrev pub counts_no_child : SyntaxKind → Bool
+counts_no_child NODE_BIN_OP = true
+counts_no_child NODE_APPLY = true
+counts_no_child NODE_SELECT = true
+counts_no_child NODE_HAS_ATTR = true
+counts_no_child NODE_ATTRPATH = true
+counts_no_child NODE_INHERIT = true
+counts_no_child NODE_IDENT_PARAM = true
+counts_no_child NODE_PAT_BIND = true
+counts_no_child kind = false
 
 -- a child of the second kind counts below a node of the first: it is an expression, and the node is none of those
 abbrev pub nests : SyntaxKind → SyntaxKind → Bool
-nests parent kind = if is_flat parent then false else is_expression kind
+nests parent kind = if counts_no_child parent then false else is_expression kind
 
 -- how many that count are inside one another in a row below a node of a kind; the name that an entry of a pattern begins with does not count
 abbrev pub nest : SyntaxKind → Forest → ℕ

@@ -25,7 +25,7 @@ first_tree f = NODE_ERROR
 -- the kind of the first tree of what begins so
 abbrev pub kind_of : Begin → SyntaxKind
 kind_of (b.Leaf k) = k
-kind_of (b.Node k place high) = k
+kind_of (b.Node k position max_bp) = k
 kind_of b.LegacyLet = NODE_LEGACY_LET
 kind_of b.NameLambda = NODE_IDENT_PARAM
 kind_of b.BoundLambda = NODE_PATTERN

@@ -8,14 +8,14 @@ use Rattle.rnix_grammar.specs.Fault.{Fault}
 use Rattle.rnix_grammar.specs.Tables.{depth_limit}
 use Rattle.rnix_grammar.specs.AnnotatedForest.{blank, forget, without_trivia, placed_from, HaveLeafKinds}
 use Rattle.rnix_grammar.specs.Reading.{IsReading}
-use Rattle.rnix_grammar.specs.Repaired.{repaired, held, incomplete, AreBegun, ended_count, others, AreSettled, AreNamedLists}
+use Rattle.rnix_grammar.specs.Repaired.{repaired, repaired_nonempty, incomplete, AreBegun, ended_count, others, NoErrorAfterEnd, AreNamedLists}
 use Rattle.rnix_grammar.specs.Unfinished.{AreIncompleteLast}
 use Rattle.rnix_grammar.specs.Shape.{IsShaped, IsUnrepeated, reports_within}
-use Rattle.rnix_grammar.specs.Trim.{AreFaultsTrimmed, AreNamesBare}
-use Rattle.rnix_grammar.specs.Seams.{AreTriviaBetween}
+use Rattle.rnix_grammar.specs.Trim.{AreFaultsTrimmed, AreNamesSingleTokens}
+use Rattle.rnix_grammar.specs.TriviaBetween.{AreTriviaBetween}
 use Rattle.rnix_grammar.specs.Named.{is_repeated, Lacks}
-use Rattle.rnix_grammar.specs.Corners.{has_no_corner}
-use Rattle.rnix_grammar.specs.Plain.{ArePaths}
+use Rattle.rnix_grammar.specs.Extensions.{has_no_extension}
+use Rattle.rnix_grammar.specs.PathPieces.{ArePaths}
 use Rattle.rnix_grammar.specs.Nest.{nest}
 use Rattle.rnix_grammar.specs.Grammar.{IsExpression}
 use Rattle.rnix_grammar.specs.Derivation.{IsDerivation}
@@ -30,7 +30,7 @@ pub record IsParsed (tokens : List Lexeme) (tree : Tree) (faults : List Fault) :
   -- no error node begins or ends with trivia
   pub trimmed : AreFaultsTrimmed reading.annotated
   -- the node of a name holds at most a token, and nothing else, and an entry of a pattern begins with its name
-  pub bare : AreNamesBare reading.annotated
+  pub bare : AreNamesSingleTokens reading.annotated
   -- the errors other than those of the end of the text are those of the error nodes and of repeated entries, in the order in which these close
   pub paired : others faults ≡ reports_within blank reading.annotated
   pub named : AreNamedLists faults
@@ -40,10 +40,10 @@ pub record IsParsed (tokens : List Lexeme) (tree : Tree) (faults : List Fault) :
   pub few_incomplete : incomplete (node NODE_ROOT (repaired (without_trivia reading.annotated)) empty) ≤ ended_count faults
   pub no_incomplete : (incomplete (node NODE_ROOT (repaired (without_trivia reading.annotated)) empty) ≡ 0) ↔ (ended_count faults ≡ 0)
   -- in the repaired tree, but for numbers that stand for no token, each node's children begin a row of its kind
-  pub begun : AreBegun (node NODE_ROOT (held (without_trivia reading.annotated)) empty)
+  pub begun : AreBegun (node NODE_ROOT (repaired_nonempty (without_trivia reading.annotated)) empty)
   -- behind a node that is not whole no item stands, and behind an error of the end of the text no token is reported as wrong
   pub last_incomplete : AreIncompleteLast (without_trivia reading.annotated) []
-  pub settled : AreSettled faults
+  pub settled : NoErrorAfterEnd faults
   -- without errors, trivia between two tokens stand in the smallest node that holds both
   pub between : faults ≡ [] → AreTriviaBetween tree
   -- without errors, no more expressions that count are inside one another than the limit
@@ -51,6 +51,6 @@ pub record IsParsed (tokens : List Lexeme) (tree : Tree) (faults : List Fault) :
   -- an expression of the strict grammar that the items have, nested no deeper than the limit, is found: there are no errors, and the tree without trivia is it
   pub found : (derivation : Forest) → IsDerivation derivation (items (placed_from 0 tokens)) → (faults ≡ []) × (forget (without_trivia reading.annotated) ≡ derivation)
   -- without errors of the end of the text and without repeated names, the repaired tree is an expression of the strict grammar if it has no corner
-  pub converse : ended_count faults ≡ 0 → Lacks is_repeated faults → has_no_corner NODE_ROOT (repaired (without_trivia reading.annotated)) ≡ true → IsExpression (repaired (without_trivia reading.annotated))
+  pub converse : ended_count faults ≡ 0 → Lacks is_repeated faults → has_no_extension NODE_ROOT (repaired (without_trivia reading.annotated)) ≡ true → IsExpression (repaired (without_trivia reading.annotated))
   -- where the pieces of its paths touch, a text is read without errors and corners exactly if its items have a derivation
-  pub exactly : ArePaths (without_trivia reading.annotated) [] → ((faults ≡ []) × (has_no_corner NODE_ROOT (forget (without_trivia reading.annotated)) ≡ true)) ↔ ((derivation : Forest) × IsDerivation derivation (items (placed_from 0 tokens)))
+  pub exactly : ArePaths (without_trivia reading.annotated) [] → ((faults ≡ []) × (has_no_extension NODE_ROOT (forget (without_trivia reading.annotated)) ≡ true)) ↔ ((derivation : Forest) × IsDerivation derivation (items (placed_from 0 tokens)))

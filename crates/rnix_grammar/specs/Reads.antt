@@ -5,11 +5,11 @@ use Rattle.rnix_kinds.specs.declared.kinds.SyntaxKind.TheVariants.{NODE_ROOT, NO
 use Rattle.rnix_grammar.specs.declared.rules.Part.TheVariants.{BoundAlready, TextEnd}
 use Rattle.rnix_grammar.specs.Fault.{Fault}
 use Rattle.rnix_grammar.specs.Tables.{wanted_kinds, depth_limit}
-use Rattle.rnix_grammar.specs.AnnotatedForest.{Token, Note, Stray, Unwanted, Extra, Twice, TooDeep, AnnotatedForest, blank, token, branch, fault, ◌⊕◌, one_token, one_branch, one_fault, row_of, tokens_in, is_some, leaf_kind, head_kind, end_from}
+use Rattle.rnix_grammar.specs.AnnotatedForest.{Token, Note, Stray, Unwanted, Extra, DoubleBind, TooDeep, AnnotatedForest, blank, token, branch, fault, ◌⊕◌, one_token, one_branch, one_fault, row_of, tokens_in, is_some, leaf_kind, head_kind, end_from}
 use Rattle.rnix_grammar.specs.Reports.{report, repeats}
-use Rattle.rnix_grammar.specs.Missing.{run_of}
+use Rattle.rnix_grammar.specs.UnwantedRun.{run_of}
 use Rattle.rnix_grammar.specs.Beginnings.{IsOperandOf}
-use Rattle.rnix_grammar.specs.Rules.{Row, done, ◌·◌, row, second_name, after, may_end, missing, run_at, expects_end, IsExpected, stands_expected, level_at, counts, IsFollowed}
+use Rattle.rnix_grammar.specs.Rules.{Row, done, ◌·◌, row, second_name, after, may_end, missing, run_at, expects_end, IsExpected, is_first_expected, level_at, counts, IsFollowed}
 
 -- one more operand may stand here, inside so many counted places
 abbrev pub IsRoom : Row → ℕ → Type 0
@@ -28,7 +28,7 @@ abbrev pub IsWrong : Note → ℕ → Row → Row → List Token → List Token 
 IsWrong Stray d q r ts us = (length ts ≡ 1) × IsRoom q d × IsOperandOf (level_at q blank) (one_fault Stray (row_of ts)) us × (after q NODE_LITERAL ≡ r)
 IsWrong (Unwanted until) d q r ts us = (is_some ts ≡ true) × (ts ≡ run_of until (ts ++ us)) × (run_at q ≡ Some (wanted_kinds until, r))
 IsWrong Extra d q r ts us = (is_some ts ≡ true) × (us ≡ []) × (q ≡ TextEnd · done) × (r ≡ q)
-IsWrong Twice d q r ts us = ⊥
+IsWrong DoubleBind d q r ts us = ⊥
 IsWrong TooDeep d q r ts us = (us ≡ []) × (counts q ≡ true) × (d ≡ depth_limit) × (after q NODE_LITERAL ≡ r)
 
 -- A row of children without trivia, with the errors that it is reported by. Known are the parent's kind, how many counted places are around the
@@ -44,7 +44,7 @@ pub data Reads : SyntaxKind → ℕ → ℕ → Row → Row → AnnotatedForest 
   -- a node
   inner : {p k : SyntaxKind} {d n : ℕ} {q q' s : Row} {b c f : AnnotatedForest} {us : List Token} {ds es : List Fault}
       → IsRoom q d → Reads k (deeper q d) n (row k) s blank (tokens_in f ++ us) c ds → IsOver s (end_from n (tokens_in c)) (tokens_in f ++ us)
-      → IsExpected q n (tokens_in c ++ (tokens_in f ++ us)) (stands_expected q k c) → IsFollowed q b (head_kind (tokens_in c ++ (tokens_in f ++ us)))
+      → IsExpected q n (tokens_in c ++ (tokens_in f ++ us)) (is_first_expected q k c) → IsFollowed q b (head_kind (tokens_in c ++ (tokens_in f ++ us)))
       → IsOperandOf (level_at q (one_branch k c)) (one_branch k c) (tokens_in f ++ us)
       → Reads p d (end_from n (tokens_in c)) (after q k) q' (b ⊕ one_branch k c) us f es
       → Reads p d n q q' b us (branch k c f) ((ds ++ repeats k b c) ++ es)
@@ -61,9 +61,9 @@ pub data Reads : SyntaxKind → ℕ → ℕ → Row → Row → AnnotatedForest 
   -- a second name of a pattern
   second : {p : SyntaxKind} {d n : ℕ} {q' s : Row} {b c f : AnnotatedForest} {us : List Token} {ds es : List Fault}
       → Reads NODE_ERROR d n second_name s blank (tokens_in f ++ us) c ds → IsOver s (end_from n (tokens_in c)) (tokens_in f ++ us)
-      → Reads p d (end_from n (tokens_in c)) done q' (b ⊕ one_fault Twice c) us f es
-      → Reads p d n (BoundAlready · done) q' b us (fault Twice c f) ((ds ++ report Twice (tokens_in c) ∷ []) ++ es)
+      → Reads p d (end_from n (tokens_in c)) done q' (b ⊕ one_fault DoubleBind c) us f es
+      → Reads p d n (BoundAlready · done) q' b us (fault DoubleBind c f) ((ds ++ report DoubleBind (tokens_in c) ∷ []) ++ es)
 
 -- a list of items is read as these trees below the root, with these errors
-abbrev pub ReadsWhole : AnnotatedForest → List Fault → Type 0
-ReadsWhole f faults = Reads NODE_ROOT 0 0 (row NODE_ROOT) (TextEnd · done) blank [] f faults
+abbrev pub ReadsRoot : AnnotatedForest → List Fault → Type 0
+ReadsRoot f faults = Reads NODE_ROOT 0 0 (row NODE_ROOT) (TextEnd · done) blank [] f faults

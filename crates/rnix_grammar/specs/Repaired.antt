@@ -3,32 +3,32 @@ use Rattle.std.specs.Prelude.{◌≡◌, ℕ, ◌+◌, Bool, true, false, List, 
 use Rattle.rnix_kinds.specs.declared.kinds.SyntaxKind.{SyntaxKind}
 use Rattle.rnix_kinds.specs.declared.kinds.SyntaxKind.TheVariants.{TOKEN_INTEGER, NODE_LITERAL}
 use Rattle.rnix_green.specs.Forest.{Forest, empty, leaf, node}
-use Rattle.rnix_grammar.specs.declared.until.Until.{Until}
-use Rattle.rnix_grammar.specs.declared.until.Until.TheVariants.{End}
+use Rattle.rnix_grammar.specs.declared.expected_set.ExpectedSet.{ExpectedSet}
+use Rattle.rnix_grammar.specs.declared.expected_set.ExpectedSet.TheVariants.{End}
 use Rattle.rnix_grammar.specs.Fault.{Fault, extra, unwanted, ended, ended_before}
 use Rattle.rnix_grammar.specs.Tables.{wanted_kinds}
 use Rattle.rnix_grammar.specs.AnnotatedForest.{Note, Stray, TooDeep, AnnotatedForest, blank, token, branch, fault, tokens_in, is_some}
-use Rattle.rnix_grammar.specs.WholeRows.{is_row, IsBeginning}
+use Rattle.rnix_grammar.specs.CompleteRows.{is_row, IsBeginning}
 
 -- an error node in an operand's place becomes a number, others go with all that they hold
-abbrev pub patch : Note → Forest → Forest
-patch Stray f = node NODE_LITERAL (leaf TOKEN_INTEGER (codes "0") empty) f
-patch TooDeep f = node NODE_LITERAL (leaf TOKEN_INTEGER (codes "0") empty) f
-patch n f = f
+abbrev pub repair : Note → Forest → Forest
+repair Stray f = node NODE_LITERAL (leaf TOKEN_INTEGER (codes "0") empty) f
+repair TooDeep f = node NODE_LITERAL (leaf TOKEN_INTEGER (codes "0") empty) f
+repair n f = f
 
 -- a repaired row
 abbrev pub repaired : AnnotatedForest → Forest
 repaired blank = empty
 repaired (token k t f) = leaf k t.text (repaired f)
 repaired (branch k c f) = node k (repaired c) (repaired f)
-repaired (fault n c f) = patch n (repaired f)
+repaired (fault n c f) = repair n (repaired f)
 
 -- the repaired trees, but for numbers that stand for no token: what is nested too deep, where the text has ended
-abbrev pub held : AnnotatedForest → Forest
-held blank = empty
-held (token k t f) = leaf k t.text (held f)
-held (branch k c f) = node k (held c) (held f)
-held (fault n c f) = if is_some (tokens_in c) then patch n (held f) else held f
+abbrev pub repaired_nonempty : AnnotatedForest → Forest
+repaired_nonempty blank = empty
+repaired_nonempty (token k t f) = leaf k t.text (repaired_nonempty f)
+repaired_nonempty (branch k c f) = node k (repaired_nonempty c) (repaired_nonempty f)
+repaired_nonempty (fault n c f) = if is_some (tokens_in c) then repair n (repaired_nonempty f) else repaired_nonempty f
 
 -- the kinds of a row's trees
 abbrev pub kinds_of : Forest → List SyntaxKind
@@ -76,13 +76,13 @@ NoneMisplaced [] = Unit {0}
 NoneMisplaced (e ∷ es) = (is_misplaced e ≡ false) × NoneMisplaced es
 
 -- behind an error of the end of the text no token is wrong
-abbrev pub AreSettled : List Fault → Type 0
-AreSettled [] = Unit {0}
-AreSettled (e ∷ es) = AreSettled es × ((is_ended e ≡ true) → NoneMisplaced es)
+abbrev pub NoErrorAfterEnd : List Fault → Type 0
+NoErrorAfterEnd [] = Unit {0}
+NoErrorAfterEnd (e ∷ es) = NoErrorAfterEnd es × ((is_ended e ≡ true) → NoneMisplaced es)
 
 -- a list of wanted kinds is one of those that tokens are wanted by
 abbrev pub IsNamedList : Fault → Type 0
-IsNamedList (ended_before kinds) = (until : Until) × ((until ≡ End) → ⊥) × (kinds ≡ wanted_kinds until)
+IsNamedList (ended_before kinds) = (until : ExpectedSet) × ((until ≡ End) → ⊥) × (kinds ≡ wanted_kinds until)
 IsNamedList e = Unit {0}
 
 -- and so in each error

@@ -5,7 +5,7 @@ use Rattle.rnix_kinds.specs.declared.kinds.SyntaxKind.{SyntaxKind}
 use Rattle.rnix_kinds.specs.declared.kinds.SyntaxKind.TheVariants.{NODE_ERROR, NODE_IDENT, NODE_PAT_ENTRY}
 use Rattle.rnix_grammar.specs.Fault.{Fault, extra, unwanted, bound_twice, named_twice, too_deep}
 use Rattle.rnix_grammar.specs.Tables.{wanted_kinds, operand_kinds}
-use Rattle.rnix_grammar.specs.AnnotatedForest.{Token, Note, Stray, Unwanted, Extra, Twice, TooDeep, AnnotatedForest, blank, token, branch, fault, extent_of}
+use Rattle.rnix_grammar.specs.AnnotatedForest.{Token, Note, Stray, Unwanted, Extra, DoubleBind, TooDeep, AnnotatedForest, blank, token, branch, fault, extent_of}
 
 -- the kind of the first token
 abbrev pub first_kind : List Token → SyntaxKind
@@ -17,7 +17,7 @@ abbrev pub report : Note → List Token → Fault
 report Stray ts = unwanted (first_kind ts) (extent_of ts) operand_kinds
 report (Unwanted until) ts = unwanted (first_kind ts) (extent_of ts) (wanted_kinds until)
 report Extra ts = extra (extent_of ts)
-report Twice ts = bound_twice (extent_of ts)
+report DoubleBind ts = bound_twice (extent_of ts)
 report TooDeep ts = too_deep
 
 -- the token that a row begins with, if it begins with one

@@ -56,8 +56,8 @@ is_expression NODE_ASSERT = true
 is_expression kind = is_operand kind
 
 -- expressions that reach as far as they can, and so are no operands
-abbrev pub is_loose : SyntaxKind → Bool
-is_loose kind = if is_operand kind then false else is_expression kind
+abbrev pub is_keyword_expression : SyntaxKind → Bool
+is_keyword_expression kind = if is_operand kind then false else is_expression kind
 
 -- what may stand where an operand of a level is wanted
 abbrev pub fits : ℕ → SyntaxKind → Bool

@@ -209,13 +209,13 @@ IsExpected (r or s) n ts own = Unit {0}
 IsExpected r n ts own = expects r n ts ≡ own
 
 -- a node stands where its first item is expected; operands, attribute paths and bindings stand where it is not, but for the name `or`
-abbrev pub stands_expected : Row → SyntaxKind → AnnotatedForest → Bool
-stands_expected (Argument · r) k c = is_or_row (one_branch k c)
-stands_expected (Operand n counted · r) k c = false
-stands_expected (Many n closer · r) k c = false
-stands_expected (Entries closer · r) k c = same_kind NODE_INHERIT k
-stands_expected (Attrpath · r) k c = false
-stands_expected r k c = true
+abbrev pub is_first_expected : Row → SyntaxKind → AnnotatedForest → Bool
+is_first_expected (Argument · r) k c = is_or_row (one_branch k c)
+is_first_expected (Operand n counted · r) k c = false
+is_first_expected (Many n closer · r) k c = false
+is_first_expected (Entries closer · r) k c = same_kind NODE_INHERIT k
+is_first_expected (Attrpath · r) k c = false
+is_first_expected r k c = true
 
 -- the level of the operand that stands here, if any; an `or` that is an argument has none
 abbrev pub level_at : Row → AnnotatedForest → Option ℕ

@@ -8,7 +8,7 @@ use Rattle.rnix_green.specs.Tree.{Tree, forest_of}
 use Rattle.rnix_grammar.specs.Fault.{Fault}
 use Rattle.rnix_grammar.specs.AnnotatedForest.{AnnotatedForest, blank, token, branch, fault, ◌⊕◌, one_token, one_branch, one_fault, tokens_in, without_trivia}
 use Rattle.rnix_grammar.specs.Reports.{report, repeats}
-use Rattle.rnix_grammar.specs.WholeRows.{is_row}
+use Rattle.rnix_grammar.specs.CompleteRows.{is_row}
 use Rattle.rnix_grammar.specs.Trim.{AreNodesTrimmed}
 use Rattle.rnix_grammar.specs.Tables.{is_among}
 

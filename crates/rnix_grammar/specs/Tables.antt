@@ -5,15 +5,15 @@ use Rattle.std.specs.Str.{bytes_eq}
 use Rattle.rnix_kinds.specs.declared.kinds.SyntaxKind.{SyntaxKind}
 use Rattle.rnix_kinds.specs.declared.kinds.SyntaxKind.TheVariants.{TOKEN_R_PAREN, TOKEN_L_PAREN, TOKEN_L_BRACE, TOKEN_R_BRACE, TOKEN_L_BRACK, TOKEN_SEMICOLON, TOKEN_ASSIGN, TOKEN_COLON, TOKEN_THEN, TOKEN_ELSE, TOKEN_INTERPOL_START, TOKEN_INTERPOL_END, TOKEN_STRING_START, TOKEN_STRING_CONTENT, TOKEN_STRING_END, TOKEN_IDENT, TOKEN_OR, TOKEN_CUR_POS, TOKEN_REC, TOKEN_ELLIPSIS}
 use Rattle.rnix_green.specs.Equality.{same_kind}
-use Rattle.rnix_grammar.specs.declared.until.Until.{Until}
-use Rattle.rnix_grammar.specs.declared.until.Until.TheVariants.{RParen, LBrace, RBrace, Semicolon, Assign, Colon, Then, Else, InterpolEnd, StringEnd, Ident, Piece, Attr, Entry, End}
+use Rattle.rnix_grammar.specs.declared.expected_set.ExpectedSet.{ExpectedSet}
+use Rattle.rnix_grammar.specs.declared.expected_set.ExpectedSet.TheVariants.{RParen, LBrace, RBrace, Semicolon, Assign, Colon, Then, Else, InterpolEnd, StringEnd, Ident, Piece, Attr, Entry, End}
 
 -- the name that is read as the current position
 abbrev pub is_cur_pos : List ℕ → Bool
 is_cur_pos name = bytes_eq name (codes "__curPos")
 
 -- the kinds that are wanted
-abbrev pub wanted_kinds : Until → List SyntaxKind
+abbrev pub wanted_kinds : ExpectedSet → List SyntaxKind
 wanted_kinds RParen = TOKEN_R_PAREN ∷ []
 wanted_kinds LBrace = TOKEN_L_BRACE ∷ []
 wanted_kinds RBrace = TOKEN_R_BRACE ∷ []
@@ -31,11 +31,11 @@ wanted_kinds Entry = TOKEN_R_BRACE ∷ (TOKEN_ELLIPSIS ∷ (TOKEN_IDENT ∷ []))
 wanted_kinds End = []
 
 -- a token of the kind is wanted
-abbrev pub is_wanted : Until → SyntaxKind → Bool
+abbrev pub is_wanted : ExpectedSet → SyntaxKind → Bool
 is_wanted until kind = list_any (λ wanted. same_kind wanted kind) (wanted_kinds until)
 
 -- a run of other tokens stops before a token of the kind, and at the end
-abbrev pub stops : Until → Option SyntaxKind → Bool
+abbrev pub stops : ExpectedSet → Option SyntaxKind → Bool
 stops until None = true
 stops until (Some kind) = is_wanted until kind
 

@@ -5,7 +5,7 @@ use Rattle.rnix_kinds.specs.declared.kinds.SyntaxKind.TheVariants.{TOKEN_INVERT,
 use Rattle.rnix_grammar.specs.Levels.{expression_level, no_level, inversion_level, has_attr_level, negation_level, application_level, selection_level, binding_power}
 use Rattle.rnix_grammar.specs.AnnotatedForest.{AnnotatedForest, blank, token, branch, fault}
 use Rattle.rnix_grammar.specs.TokenKinds.{is_or}
-use Rattle.rnix_grammar.specs.Rows.{is_atom, is_loose}
+use Rattle.rnix_grammar.specs.Rows.{is_atom, is_keyword_expression}
 
 -- the operator behind the first tree
 abbrev pub operator_in : AnnotatedForest → SyntaxKind
@@ -41,7 +41,7 @@ level_of NODE_BIN_OP c = binding_power (operator_in c)
 level_of NODE_HAS_ATTR c = has_attr_level
 level_of NODE_UNARY_OP c = prefix_in c
 level_of NODE_APPLY c = if calls_or c then selection_level else application_level
-level_of kind c = if is_loose kind then expression_level else selection_level
+level_of kind c = if is_keyword_expression kind then expression_level else selection_level
 
 -- the level of the first tree of a row; an error node counts as a literal
 abbrev pub row_level : AnnotatedForest → ℕ

@@ -42,10 +42,10 @@ AreNodesTrimmed (leaf k t f) = AreNodesTrimmed f
 AreNodesTrimmed (node k c f) = BeginsWithItem (leaf_kinds c) × EndsWithItem (leaf_kinds c) × AreNodesTrimmed c × AreNodesTrimmed f
 
 -- a row has no more than one token
-abbrev pub is_bare : AnnotatedForest → Bool
-is_bare blank = true
-is_bare (token k t blank) = true
-is_bare f = false
+abbrev pub is_single_token : AnnotatedForest → Bool
+is_single_token blank = true
+is_single_token (token k t blank) = true
+is_single_token f = false
 
 -- a row begins with a node
 abbrev pub begins_with_node : AnnotatedForest → Bool
@@ -53,12 +53,12 @@ begins_with_node (branch k c f) = true
 begins_with_node f = false
 
 -- the node of a name holds nothing but a token, and before the name of an entry of a pattern nothing stands in it
-abbrev pub HasBareName : SyntaxKind → AnnotatedForest → Type 0
-HasBareName kind c = (kind ≡ NODE_IDENT → is_bare c ≡ true) × (kind ≡ NODE_PAT_ENTRY → begins_with_node c ≡ true)
+abbrev pub HasSingleTokenName : SyntaxKind → AnnotatedForest → Type 0
+HasSingleTokenName kind c = (kind ≡ NODE_IDENT → is_single_token c ≡ true) × (kind ≡ NODE_PAT_ENTRY → begins_with_node c ≡ true)
 
 -- and so each node of a row
-abbrev pub AreNamesBare : AnnotatedForest → Type 0
-AreNamesBare blank = Unit {0}
-AreNamesBare (token k t f) = AreNamesBare f
-AreNamesBare (branch k c f) = HasBareName k c × AreNamesBare c × AreNamesBare f
-AreNamesBare (fault n c f) = AreNamesBare c × AreNamesBare f
+abbrev pub AreNamesSingleTokens : AnnotatedForest → Type 0
+AreNamesSingleTokens blank = Unit {0}
+AreNamesSingleTokens (token k t f) = AreNamesSingleTokens f
+AreNamesSingleTokens (branch k c f) = HasSingleTokenName k c × AreNamesSingleTokens c × AreNamesSingleTokens f
+AreNamesSingleTokens (fault n c f) = AreNamesSingleTokens c × AreNamesSingleTokens f

@@ -1,7 +1,7 @@
 -- Where a node stands that is not whole: behind it no item is left.
 use Rattle.std.specs.Prelude.{◌≡◌, false, List, [], ◌++◌}
 use Rattle.rnix_grammar.specs.AnnotatedForest.{Token, AnnotatedForest, blank, token, branch, fault, tokens_in}
-use Rattle.rnix_grammar.specs.WholeRows.{is_row}
+use Rattle.rnix_grammar.specs.CompleteRows.{is_row}
 use Rattle.rnix_grammar.specs.Repaired.{repaired, kinds_of}
 
 -- in a row before some items, no item stands behind a node that is not whole once its errors are repaired

@@ -7,13 +7,13 @@ use Rattle.rnix_green.specs.Forest.{Forest, empty, leaf, node}
 use Rattle.rnix_grammar.specs.Tables.{is_or}
 
 -- the kind of a leaf's token, by the leaf's kind and text
-abbrev pub untold : SyntaxKind → List ℕ → SyntaxKind
-untold TOKEN_IDENT text = if is_or text then TOKEN_OR else TOKEN_IDENT
-untold TOKEN_CUR_POS text = TOKEN_IDENT
-untold kind text = kind
+abbrev pub kind_of_token : SyntaxKind → List ℕ → SyntaxKind
+kind_of_token TOKEN_IDENT text = if is_or text then TOKEN_OR else TOKEN_IDENT
+kind_of_token TOKEN_CUR_POS text = TOKEN_IDENT
+kind_of_token kind text = kind
 
 -- the tokens that a tree stands for
 abbrev pub yield : Forest → List Lexeme
 yield empty = []
-yield (leaf k t f) = (untold k t, t) ∷ yield f
+yield (leaf k t f) = (kind_of_token k t, t) ∷ yield f
 yield (node k c f) = yield c ++ yield f

@@ -5,11 +5,13 @@ ghost use Rattle.rnix_kinds.specs.declared.kinds.SyntaxKind.{SyntaxKind};
 ghost use Rattle.rnix_grammar.specs.declared.action.Action.TheVariants.{Close};
 ghost use Rattle.rnix_grammar.specs.Actions.{close_action, follow, goes_on, more_action, left_action, action_at};
 
-use crate::level::{APPLICATION_LEVEL, HAS_ATTR_LEVEL, NO_LEVEL, binding_power, high_of, right_of};
+use crate::expected_set::ExpectedSet;
+use crate::level::{
+    APPLICATION_LEVEL, HAS_ATTR_LEVEL, NO_LEVEL, binding_power, max_bp_of, right_of,
+};
 use crate::part_action::part_action;
-use crate::place::Place;
-use crate::position::{HAS_ATTR, OPERATED, SELECT, Slot, slot_at};
-use crate::until::Until;
+use crate::position::Position;
+use crate::slot_table::{BIN_OP_END, HAS_ATTR, SELECT, Slot, slot_at};
 use rnix_kinds::SyntaxKind;
 
 /// One step of the reader. The last position is where the row goes on after it.
@@ -22,11 +24,11 @@ pub enum Action {
     /// A pattern is complete.
     ClosePattern,
     /// A second name of a pattern is complete.
-    CloseTwice,
+    CloseDoubleBind,
     /// The root is complete.
     Finish,
     /// The operand is complete.
-    Settle,
+    EndOperand,
     /// Items are left after the root's expression.
     Extra,
     /// The next token is a leaf.
@@ -34,9 +36,9 @@ pub enum Action {
     /// The text ends where more is wanted.
     Miss(u8),
     /// The text ends where certain kinds are wanted.
-    MissWanted(Until, u8),
+    MissWanted(ExpectedSet, u8),
     /// The tokens before those that are wanted are an error.
-    Run(Until, u8),
+    Run(ExpectedSet, u8),
     /// The next token is a node of its own.
     Leaf(SyntaxKind, u8),
     /// The next token begins a node, which goes on at the first position.
@@ -46,11 +48,11 @@ pub enum Action {
     /// A name begins an entry of a pattern.
     Entry(u8),
     /// The next token begins a second name of a pattern.
-    Twice(u8),
+    DoubleBind(u8),
     /// An operand of a level, which the limit of nesting counts or not.
     Read(u8, bool, u8),
     /// The next token makes a node with the operand before it, which goes on at the place; what follows the node is of at most the level.
-    Wrap(SyntaxKind, Place, u8),
+    Wrap(SyntaxKind, Position, u8),
     /// An argument makes a node with the operand before it.
     Apply,
     /// `or` makes a node with the operand before it.
@@ -64,7 +66,7 @@ fn close_action(kind: SyntaxKind) -> Action
     match kind {
         SyntaxKind::NODE_PAT_ENTRY => Action::CloseEntry,
         SyntaxKind::NODE_PATTERN => Action::ClosePattern,
-        SyntaxKind::NODE_ERROR => Action::CloseTwice,
+        SyntaxKind::NODE_ERROR => Action::CloseDoubleBind,
         _ => Action::Close,
     }
 }
@@ -76,14 +78,14 @@ fn follow(kind: SyntaxKind) -> Action
     match kind {
         SyntaxKind::TOKEN_DOT => Action::Wrap(
             SyntaxKind::NODE_SELECT,
-            Place::Left(SELECT),
+            Position::Left(SELECT),
             APPLICATION_LEVEL,
         ),
         SyntaxKind::TOKEN_OR => Action::ApplyOr,
         SyntaxKind::TOKEN_QUESTION => {
             Action::Wrap(
                 SyntaxKind::NODE_HAS_ATTR,
-                Place::Left(HAS_ATTR),
+                Position::Left(HAS_ATTR),
                 HAS_ATTR_LEVEL,
             )
         }
@@ -93,8 +95,8 @@ fn follow(kind: SyntaxKind) -> Action
             } else {
                 Action::Wrap(
                     SyntaxKind::NODE_BIN_OP,
-                    Place::Right(right_of(kind)),
-                    high_of(kind),
+                    Position::Right(right_of(kind)),
+                    max_bp_of(kind),
                 )
             }
         }
@@ -103,24 +105,24 @@ fn follow(kind: SyntaxKind) -> Action
 
 /// Whether a token goes on with an operand, which operators of the levels from the first to the second continue.
 #[inline(always)]
-pub fn goes_on(low: u8, high: u8, kind: SyntaxKind) -> bool
-    ensures { result ≡ goes_on low high kind }
+pub fn goes_on(min_bp: u8, max_bp: u8, kind: SyntaxKind) -> bool
+    ensures { result ≡ goes_on min_bp max_bp kind }
 {
     let level = binding_power(kind);
-    level != NO_LEVEL && low <= level && level <= high
+    level != NO_LEVEL && min_bp <= level && level <= max_bp
 }
 
 // What is done after an operand, which operators of the levels from the first to the second continue.
-fn more_action(low: u8, high: u8, next: Option<SyntaxKind>) -> Action
-    ensures { result ≡ more_action low high next }
+fn more_action(min_bp: u8, max_bp: u8, next: Option<SyntaxKind>) -> Action
+    ensures { result ≡ more_action min_bp max_bp next }
 {
     match next {
-        None => Action::Settle,
+        None => Action::EndOperand,
         Some(kind) => {
-            if goes_on(low, high, kind) {
+            if goes_on(min_bp, max_bp, kind) {
                 follow(kind)
             } else {
-                Action::Settle
+                Action::EndOperand
             }
         }
     }
@@ -151,11 +153,11 @@ fn is_plain_end(kind: SyntaxKind) -> bool
 
 /// Whether a row is complete at the place, and nothing but the end of its node is to be done.
 #[inline(always)]
-pub fn is_past(place: Place) -> bool
-    ensures { (next : Option SyntaxKind) (touches : Bool) → result ≡ true → action_at place next touches ≡ Close }
+pub fn is_past(position: Position) -> bool
+    ensures { (next : Option SyntaxKind) (touches : Bool) → result ≡ true → action_at position next touches ≡ Close }
 {
-    match place {
-        Place::Left(left) => {
+    match position {
+        Position::Left(left) => {
             match slot_at(left) {
                 Some(Slot::End(kind)) => is_plain_end(kind),
                 _ => false,
@@ -167,12 +169,12 @@ pub fn is_past(place: Place) -> bool
 
 /// What the reader does at a place, by the next token that is not trivia, and by whether it touches the one before.
 #[inline(always)]
-pub fn action_at(place: Place, next: Option<SyntaxKind>, touches: bool) -> Action
-    ensures { result ≡ action_at place next touches }
+pub fn action_at(position: Position, next: Option<SyntaxKind>, touches: bool) -> Action
+    ensures { result ≡ action_at position next touches }
 {
-    match place {
-        Place::Left(left) => left_action(left, next, touches),
-        Place::Behind(low, high) => more_action(low, high, next),
-        Place::Right(level) => Action::Read(level, false, OPERATED),
+    match position {
+        Position::Left(left) => left_action(left, next, touches),
+        Position::AfterOperand(min_bp, max_bp) => more_action(min_bp, max_bp, next),
+        Position::Right(level) => Action::Read(level, false, BIN_OP_END),
     }
 }

@@ -5,7 +5,7 @@ ghost use Rattle.rnix_grammar.specs.Tables.{is_cur_pos};
 ghost use Rattle.rnix_grammar.specs.Begins.{is_pattern, begin_name, begin_let, begin_keyword, begin_scope, begin_prefix, begin_of};
 
 use crate::level::{EXPRESSION_LEVEL, INVERSION_LEVEL, NEGATION_LEVEL, NO_LEVEL, SELECTION_LEVEL};
-use crate::position::{
+use crate::slot_table::{
     ASSERT, IF_ELSE, INVERSION, LET_IN, LIST, NEGATION, PAREN, PATH_ABS, PATH_HOME, PATH_REL,
     REC_SET, SET, STRING, WITH,
 };

@@ -86,10 +86,10 @@ fn same_kinds(a: &[SyntaxKind], b: &[SyntaxKind]) -> bool
 }
 
 // Whether two tokens are of one kind in one place.
-fn same_token(kind: SyntaxKind, range: TextRange, other: SyntaxKind, place: TextRange) -> bool
-    ensures { result ≡ (same_kind kind other && same_extent (bounds_of range) (bounds_of place)) }
+fn same_token(kind: SyntaxKind, range: TextRange, other: SyntaxKind, position: TextRange) -> bool
+    ensures { result ≡ (same_kind kind other && same_extent (bounds_of range) (bounds_of position)) }
 {
-    kind == other && range == place
+    kind == other && range == position
 }
 
 impl PartialEq for ParseError {

@@ -1,7 +1,7 @@
 //! The levels of precedence, by numbers: the binary operators have 1 to 8 and 10 to 12, from the loosest to the tightest.
 
 ghost use Rattle.std.specs.Prelude.{◌≡◌, ◌≤◌, IfSome};
-ghost use Rattle.rnix_grammar.specs.Levels.{concatenation_level, operator, plain_binding_power, binding_power, right_of, high_of};
+ghost use Rattle.rnix_grammar.specs.Levels.{concatenation_level, operator, plain_binding_power, binding_power, right_of, max_bp_of};
 
 use rnix_kinds::SyntaxKind;
 
@@ -105,8 +105,8 @@ pub fn right_of(kind: SyntaxKind) -> u8
 
 /// The tightest level of an operator that may follow the node of an operator.
 #[inline(never)]
-pub fn high_of(kind: SyntaxKind) -> u8
-    ensures { result ≡ high_of kind }
+pub fn max_bp_of(kind: SyntaxKind) -> u8
+    ensures { result ≡ max_bp_of kind }
 {
     match operator(kind) {
         Some((level, Associativity::Left)) => level,

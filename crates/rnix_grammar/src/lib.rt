@@ -4,20 +4,20 @@
 mod action;
 mod begin;
 mod error;
+mod expected_set;
 mod level;
 mod part_action;
-mod place;
 mod position;
 mod rules;
-mod until;
+mod slot_table;
 
 pub use action::{Action, action_at, goes_on, is_past};
 pub use begin::{Begin, begin_of};
 pub use error::ParseError;
+pub use expected_set::{ExpectedSet, operand_kinds, stops, wanted_kinds};
 pub use level::{APPLICATION_LEVEL, EXPRESSION_LEVEL, NO_LEVEL, SELECTION_LEVEL};
-pub use place::Place;
-pub use position::{
-    APPLIED, BOUND_PATTERN, LAMBDA, LEGACY_LET, PAT_ENTRY, PATTERN, ROOT, SECOND, SLOTS, Slot,
-};
+pub use position::Position;
 pub use rules::{Part, ROWS};
-pub use until::{Until, operand_kinds, stops, wanted_kinds};
+pub use slot_table::{
+    APPLIED, BOUND_PATTERN, LAMBDA, LEGACY_LET, PAT_ENTRY, PATTERN, ROOT, SECOND_BIND, SLOTS, Slot,
+};

@@ -1,34 +1,34 @@
 //! What the reader does where a part of a row comes next, by the next token that is not trivia.
 
 ghost use Rattle.std.specs.Prelude.{◌≡◌, ◌<◌, if◌then◌else◌};
-ghost use Rattle.rnix_grammar.specs.Actions.{until_of, token_action, name_action, wanted_action, many_action, entries_action, pieces_action, path_pieces_action, attr_action, names_action, source_action, formals_action, first_formals_action, comma_action, end_or_action, bound_action, more_attrs_action, end_action, child_action, part_action};
+ghost use Rattle.rnix_grammar.specs.Actions.{expected_set_of, token_action, name_action, wanted_action, many_action, entries_action, pieces_action, path_pieces_action, attr_action, names_action, source_action, formals_action, first_formals_action, comma_action, end_or_action, bound_action, more_attrs_action, end_action, child_action, part_action};
 
 use crate::action::Action;
-use crate::position::{
-    AFTER_COMMA, AFTER_FORMAL, ATTRPATH, ATTRPATH_VALUE, BOUND_AFTER_COMMA, BOUND_AFTER_FORMAL,
-    BOUND_PATTERN_CLOSE, DYNAMIC, INHERIT, INHERIT_END, INHERIT_FROM, INHERIT_PAST, INHERITED_NAME,
-    INTERPOL, PAT_BIND, PATTERN, PATTERN_CLOSE, STRING, STRING_PAST,
-};
+use crate::expected_set::ExpectedSet;
 use crate::rules::Part;
-use crate::until::Until;
+use crate::slot_table::{
+    AFTER_COMMA, AFTER_FORMAL, ATTRPATH, ATTRPATH_VALUE, BOUND_AFTER_COMMA, BOUND_AFTER_FORMAL,
+    BOUND_PATTERN_CLOSE, DYNAMIC, INHERIT, INHERIT_CLOSED, INHERIT_END, INHERIT_FROM,
+    INHERITED_NAME, INTERPOL, PAT_BIND, PATTERN, PATTERN_CLOSE, STRING, STRING_CLOSED,
+};
 use rnix_kinds::SyntaxKind;
 
 // What an error says is wanted where a child of the kind is missing.
-fn until_of(kind: SyntaxKind) -> Until
-    ensures { result ≡ until_of kind }
+fn expected_set_of(kind: SyntaxKind) -> ExpectedSet
+    ensures { result ≡ expected_set_of kind }
 {
     match kind {
-        SyntaxKind::TOKEN_R_PAREN => Until::RParen,
-        SyntaxKind::TOKEN_L_BRACE => Until::LBrace,
-        SyntaxKind::TOKEN_R_BRACE => Until::RBrace,
-        SyntaxKind::TOKEN_SEMICOLON => Until::Semicolon,
-        SyntaxKind::TOKEN_ASSIGN => Until::Assign,
-        SyntaxKind::TOKEN_COLON => Until::Colon,
-        SyntaxKind::TOKEN_THEN => Until::Then,
-        SyntaxKind::TOKEN_ELSE => Until::Else,
-        SyntaxKind::TOKEN_INTERPOL_END => Until::InterpolEnd,
-        SyntaxKind::TOKEN_STRING_END => Until::StringEnd,
-        _ => Until::Ident,
+        SyntaxKind::TOKEN_R_PAREN => ExpectedSet::RParen,
+        SyntaxKind::TOKEN_L_BRACE => ExpectedSet::LBrace,
+        SyntaxKind::TOKEN_R_BRACE => ExpectedSet::RBrace,
+        SyntaxKind::TOKEN_SEMICOLON => ExpectedSet::Semicolon,
+        SyntaxKind::TOKEN_ASSIGN => ExpectedSet::Assign,
+        SyntaxKind::TOKEN_COLON => ExpectedSet::Colon,
+        SyntaxKind::TOKEN_THEN => ExpectedSet::Then,
+        SyntaxKind::TOKEN_ELSE => ExpectedSet::Else,
+        SyntaxKind::TOKEN_INTERPOL_END => ExpectedSet::InterpolEnd,
+        SyntaxKind::TOKEN_STRING_END => ExpectedSet::StringEnd,
+        _ => ExpectedSet::Ident,
     }
 }
 
@@ -40,7 +40,7 @@ fn token_action(wanted: SyntaxKind, left: u8, after: u8, kind: SyntaxKind) -> Ac
     if wanted == kind {
         Action::Take(after)
     } else {
-        Action::Run(until_of(wanted), left)
+        Action::Run(expected_set_of(wanted), left)
     }
 }
 
@@ -50,7 +50,7 @@ fn name_action(left: u8, after: u8, kind: SyntaxKind) -> Action
 {
     match kind {
         SyntaxKind::TOKEN_IDENT => Action::Leaf(SyntaxKind::NODE_IDENT, after),
-        _ => Action::Run(Until::Ident, left),
+        _ => Action::Run(ExpectedSet::Ident, left),
     }
 }
 
@@ -60,7 +60,7 @@ fn wanted_action(wanted: SyntaxKind, left: u8, after: u8, next: Option<SyntaxKin
     ensures { result ≡ wanted_action wanted left after next }
 {
     match next {
-        None => Action::MissWanted(until_of(wanted), after),
+        None => Action::MissWanted(expected_set_of(wanted), after),
         Some(kind) => {
             if wanted == SyntaxKind::NODE_IDENT {
                 name_action(left, after, kind)
@@ -114,13 +114,13 @@ fn pieces_action(left: u8, after: u8, next: Option<SyntaxKind>) -> Action
     ensures { result ≡ pieces_action left after next }
 {
     match next {
-        None => Action::MissWanted(Until::Piece, after),
-        Some(SyntaxKind::TOKEN_STRING_END) => Action::Take(STRING_PAST),
+        None => Action::MissWanted(ExpectedSet::Piece, after),
+        Some(SyntaxKind::TOKEN_STRING_END) => Action::Take(STRING_CLOSED),
         Some(SyntaxKind::TOKEN_STRING_CONTENT) => Action::Take(left),
         Some(SyntaxKind::TOKEN_INTERPOL_START) => {
             Action::Open(SyntaxKind::NODE_INTERPOL, INTERPOL, left)
         }
-        Some(_) => Action::Run(Until::Piece, left),
+        Some(_) => Action::Run(ExpectedSet::Piece, left),
     }
 }
 
@@ -147,7 +147,7 @@ fn attr_action(again: u8, after: u8, next: Option<SyntaxKind>) -> Action
     ensures { result ≡ attr_action again after next }
 {
     match next {
-        None => Action::MissWanted(Until::Attr, after),
+        None => Action::MissWanted(ExpectedSet::Attr, after),
         Some(SyntaxKind::TOKEN_INTERPOL_START) => {
             Action::Open(SyntaxKind::NODE_DYNAMIC, DYNAMIC, after)
         }
@@ -157,7 +157,7 @@ fn attr_action(again: u8, after: u8, next: Option<SyntaxKind>) -> Action
         Some(SyntaxKind::TOKEN_IDENT | SyntaxKind::TOKEN_OR | SyntaxKind::TOKEN_CUR_POS) => {
             Action::Leaf(SyntaxKind::NODE_IDENT, after)
         }
-        Some(_) => Action::Run(Until::Attr, again),
+        Some(_) => Action::Run(ExpectedSet::Attr, again),
     }
 }
 
@@ -168,7 +168,7 @@ fn names_action(left: u8, after: u8, next: Option<SyntaxKind>) -> Action
         None => Action::Miss(after),
         Some(kind) => {
             if kind == SyntaxKind::TOKEN_SEMICOLON {
-                Action::Take(INHERIT_PAST)
+                Action::Take(INHERIT_CLOSED)
             } else {
                 attr_action(INHERITED_NAME, left, next)
             }
@@ -202,7 +202,7 @@ fn formals_action(bound: bool, after: u8, next: Option<SyntaxKind>) -> Action
     ensures { result ≡ formals_action bound after next }
 {
     match next {
-        None => Action::MissWanted(Until::Entry, after),
+        None => Action::MissWanted(ExpectedSet::Entry, after),
         Some(SyntaxKind::TOKEN_R_BRACE) => Action::Take(after),
         Some(SyntaxKind::TOKEN_ELLIPSIS) => {
             Action::Take(of_pattern(bound, BOUND_PATTERN_CLOSE, PATTERN_CLOSE))
@@ -211,7 +211,7 @@ fn formals_action(bound: bool, after: u8, next: Option<SyntaxKind>) -> Action
             Action::Entry(of_pattern(bound, BOUND_AFTER_FORMAL, AFTER_FORMAL))
         }
         Some(_) => Action::Run(
-            Until::Entry,
+            ExpectedSet::Entry,
             of_pattern(bound, BOUND_AFTER_COMMA, AFTER_COMMA),
         ),
     }
@@ -267,7 +267,7 @@ fn bound_action(after: u8, next: Option<SyntaxKind>) -> Action
     ensures { result ≡ bound_action after next }
 {
     match next {
-        Some(SyntaxKind::TOKEN_AT) => Action::Twice(after),
+        Some(SyntaxKind::TOKEN_AT) => Action::DoubleBind(after),
         _ => Action::ClosePattern,
     }
 }

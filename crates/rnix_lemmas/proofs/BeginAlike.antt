@@ -4,7 +4,7 @@ use Rattle.{std.specs.Prelude.{if◌then◌else◌, nat_eq, nat_le}, rnix_kinds.
 use Rattle.rnix_kinds.specs.declared.kinds.SyntaxKind.TheVariants.{TOKEN_INVERT, TOKEN_SUB, TOKEN_WITH, TOKEN_ASSERT, TOKEN_IF, TOKEN_COLON, TOKEN_AT, NODE_ATTR_SET, NODE_CUR_POS, NODE_IDENT, NODE_ERROR}
 use Rattle.{rnix_grammar.specs.declared.begin.Begin.{Begin}, rnix_grammar.specs.Tables.{is_cur_pos}, rnix_lemmas.proofs.EachKind.{each_kind, each_next}}
 use Rattle.rnix_grammar.specs.Begins.{begin_of, second_kind, begin_name, begin_let, begin_prefix, begin_keyword, is_pattern}
-use Rattle.rnix_grammar.specs.declared.position.TheConstants.{SET}
+use Rattle.rnix_grammar.specs.declared.slot_table.TheConstants.{SET}
 use Rattle.rnix_grammar.specs.Levels.{expression_level, inversion_level, negation_level, selection_level}
 use Rattle.{rnix_grammar.specs.AnnotatedForest.{Token, AnnotatedForest, tokens_in, head_kind}, rnix_grammar.specs.Operands.{kind_of, IsBegun, IsOperand}}
 use Rattle.rnix_grammar.specs.Beginnings.{first_kind, BeginsAs, IsOperandOf, first_kind_of_name, first_kind_of_let, kind_if}

@@ -4,12 +4,12 @@ use Rattle.{rnix_kinds.specs.declared.kinds.SyntaxKind.{SyntaxKind, TheVariants.
 use Rattle.rnix_grammar.specs.{AnnotatedForest.{blank, token, branch, fault, ◌⊕◌}, Reports.{entry_name, is_same_name, has_entry}}
 
 -- the names of entries, without trivia and with them
-abbrev pub bare_name : SyntaxKind → AnnotatedForest → Option Token
-bare_name NODE_PAT_ENTRY c = entry_name c
-bare_name k c = None
+abbrev pub name_of_items : SyntaxKind → AnnotatedForest → Option Token
+name_of_items NODE_PAT_ENTRY c = entry_name c
+name_of_items k c = None
 
 -- a node may be an entry of the name
-pub has_branch : (name : List ℕ) (k : SyntaxKind) (c f : AnnotatedForest) → has_entry name (branch k c f) ≡ (if is_same_name name (bare_name k c) then true else has_entry name f)
+pub has_branch : (name : List ℕ) (k : SyntaxKind) (c f : AnnotatedForest) → has_entry name (branch k c f) ≡ (if is_same_name name (name_of_items k c) then true else has_entry name f)
 has_branch name NODE_PAT_ENTRY c f = refl
 has_branch name _ c f = refl
 
@@ -23,8 +23,8 @@ pub has-⊕ : (name : List ℕ) (b c : AnnotatedForest) → has_entry name (b �
 has-⊕ name blank c = refl
 has-⊕ name (token k t f) c = has-⊕ name f c
 has-⊕ name (branch k d f) c =
-    has_branch name k d (f ⊕ c) ∙ ap (λ x. if is_same_name name (bare_name k d) then true else x) (has-⊕ name f c)
-    ∙ either_assoc (is_same_name name (bare_name k d)) (has_entry name f) (has_entry name c)
+    has_branch name k d (f ⊕ c) ∙ ap (λ x. if is_same_name name (name_of_items k d) then true else x) (has-⊕ name f c)
+    ∙ either_assoc (is_same_name name (name_of_items k d)) (has_entry name f) (has_entry name c)
     ∙ ap (λ x. if x then true else has_entry name c) (sym (has_branch name k d f))
 has-⊕ name (fault n d f) c = has-⊕ name f c
 

@@ -2,10 +2,10 @@
 use Rattle.std.{specs.List.list_all, proofs.{lemmas.Bool.and_from, Common.{◌≡◌, ℕ, ◌≤◌, Bool, true, false, refl, sym, ◌∙◌, subst, arith, ◌||◌, ◌&&◌}}}
 use Rattle.std.proofs.Common.{if◌then◌else◌, nat_eq, nat_le}
 use Rattle.rnix_kinds.{specs.{declared.kinds.SyntaxKind.{SyntaxKind, TheVariants.NODE_PAREN}, SyntaxKind.is_fn_arg}, proofs.AllKinds.{all_kinds, every}}
-use Rattle.{rnix_kinds.proofs.AllKinds.implied, rnix_grammar.specs.{Levels.{binding_power, left_of, high_of}, TokenKinds.{is_or, is_question, is_dot}}}
+use Rattle.{rnix_kinds.proofs.AllKinds.implied, rnix_grammar.specs.{Levels.{binding_power, left_of, max_bp_of}, TokenKinds.{is_or, is_question, is_dot}}}
 use Rattle.rnix_grammar.specs.{Rows.{is_atom, is_infix}, AnnotatedForest.{Token, AnnotatedForest, blank, token, branch, fault}, TreeLevels.row_level}
 use Rattle.{rnix_grammar.specs.{TreeLevels.{level_of, is_atom_row}, Operands.follows}, rnix_lemmas.proofs.{EntryNames.if_not, Basics.true_is_not_false}}
-use Rattle.rnix_lemmas.proofs.{Basics.not_if, LevelLemmas.{within, at_most, same_number, at_most_true}, StrictParts.left_least}
+use Rattle.rnix_lemmas.proofs.{Basics.not_if, LevelLemmas.{within, at_most, same_number, at_most_true}, TokenEnds.left_least}
 
 -- how an item goes on with a tree of a level that is an atom or not: as an operator, by `?`, as an argument, or by `.` or `or`
 pub data Follows (j : SyntaxKind) (v : ℕ) (w : Bool) : Type 0 where
@@ -28,13 +28,13 @@ follows_by j x h = by (is_infix j) (is_question j) (is_fn_arg j) (is_dot j || is
     by false false false false e f g k h = absurd (true_is_not_false (sym h))
 
 -- an atom is as tight as any operator wants
-pub atom_tight : (k : SyntaxKind) (c : AnnotatedForest) → is_atom k ≡ true → level_of k c ≡ 16
-atom_tight NODE_PAREN c h = refl
-atom_tight _ c h = cc
+pub atom_is_selection_level : (k : SyntaxKind) (c : AnnotatedForest) → is_atom k ≡ true → level_of k c ≡ 16
+atom_is_selection_level NODE_PAREN c h = refl
+atom_is_selection_level _ c h = cc
 
 -- so is a row of one atom
 pub atom_level : (x : AnnotatedForest) → is_atom_row x ≡ true → row_level x ≡ 16
-atom_level (branch k c f) h = atom_tight k c h
+atom_level (branch k c f) h = atom_is_selection_level k c h
 atom_level (fault n c f) h = refl
 atom_level blank h = absurd (true_is_not_false (sym h))
 atom_level (token k t f) h = absurd (true_is_not_false (sym h))
@@ -51,7 +51,7 @@ follows_level i x h = by (follows_by i x h) refl refl
 
 -- What goes on with a tree is what binds no tighter than the level.
 abbrev pub FollowedTo : ℕ → AnnotatedForest → Type 0
-FollowedTo high x = (j : SyntaxKind) → ((1 ≤ binding_power j → binding_power j ≤ high → follows j x ≡ true) × (follows j x ≡ true → (1 ≤ binding_power j) × (binding_power j ≤ high)))
+FollowedTo max_bp x = (j : SyntaxKind) → ((1 ≤ binding_power j → binding_power j ≤ max_bp → follows j x ≡ true) × (follows j x ≡ true → (1 ≤ binding_power j) × (binding_power j ≤ max_bp)))
 
 -- an item of the kind may go on with a tree of the level, which is an atom or is not
 abbrev pub goes_after : SyntaxKind → ℕ → Bool → Bool
@@ -61,29 +61,29 @@ goes_after kind level atom =
 
 -- it may do so if it binds no tighter than another level, and only then
 abbrev pub is_followed : ℕ → Bool → ℕ → SyntaxKind → Bool
-is_followed level atom high j =
-    if nat_le 1 (binding_power j) && nat_le (binding_power j) high then goes_after j level atom else (if goes_after j level atom then false else true)
+is_followed level atom max_bp j =
+    if nat_le 1 (binding_power j) && nat_le (binding_power j) max_bp then goes_after j level atom else (if goes_after j level atom then false else true)
 
-both_ways : (p high : ℕ) (w : Bool) → (if nat_le 1 p && nat_le p high then w else (if w then false else true)) ≡ true
-    → (1 ≤ p → p ≤ high → w ≡ true) × (w ≡ true → (1 ≤ p) × (p ≤ high))
-both_ways p high true h = (λ a b. refl, λ e. within 1 p high (sym (if_not (nat_le 1 p && nat_le p high)) ∙ h))
-both_ways p high false h = (
-  λ a b. absurd (true_is_not_false (sym (and_from _ _ (at_most_true 1 p a) (at_most_true p high b)) ∙ not_if (nat_le 1 p && nat_le p high) h)),
+both_ways : (p max_bp : ℕ) (w : Bool) → (if nat_le 1 p && nat_le p max_bp then w else (if w then false else true)) ≡ true
+    → (1 ≤ p → p ≤ max_bp → w ≡ true) × (w ≡ true → (1 ≤ p) × (p ≤ max_bp))
+both_ways p max_bp true h = (λ a b. refl, λ e. within 1 p max_bp (sym (if_not (nat_le 1 p && nat_le p max_bp)) ∙ h))
+both_ways p max_bp false h = (
+  λ a b. absurd (true_is_not_false (sym (and_from _ _ (at_most_true 1 p a) (at_most_true p max_bp b)) ∙ not_if (nat_le 1 p && nat_le p max_bp) h)),
   λ e. absurd (true_is_not_false (sym e)),
 )
 
 -- what is so of all kinds says what goes on with a tree of the level
-pub followed_by : (level : ℕ) (atom : Bool) (high : ℕ) → list_all (is_followed level atom high) all_kinds ≡ true → (x : AnnotatedForest) → row_level x ≡ level → is_atom_row x ≡ atom → FollowedTo high x
-followed_by level atom high h x e f j =
-    both_ways (binding_power j) high (follows j x) (subst (λ (a : Bool). is_followed (row_level x) a high j ≡ true) (sym f) (subst (λ (l : ℕ). is_followed l atom high j ≡ true) (sym e) (every (is_followed level atom high) h j)))
+pub followed_by : (level : ℕ) (atom : Bool) (max_bp : ℕ) → list_all (is_followed level atom max_bp) all_kinds ≡ true → (x : AnnotatedForest) → row_level x ≡ level → is_atom_row x ≡ atom → FollowedTo max_bp x
+followed_by level atom max_bp h x e f j =
+    both_ways (binding_power j) max_bp (follows j x) (subst (λ (a : Bool). is_followed (row_level x) a max_bp j ≡ true) (sym f) (subst (λ (l : ℕ). is_followed l atom max_bp j ≡ true) (sym e) (every (is_followed level atom max_bp) h j)))
 
 -- an atom, or an error node
 pub followed_atom : (x : AnnotatedForest) → row_level x ≡ 16 → is_atom_row x ≡ true → FollowedTo 16 x
 followed_atom = followed_by 16 true 16 refl
 
 -- a selection, or a call of the name `or`
-pub followed_tight : (x : AnnotatedForest) → row_level x ≡ 16 → is_atom_row x ≡ false → FollowedTo 15 x
-followed_tight = followed_by 16 false 15 refl
+pub followed_selection : (x : AnnotatedForest) → row_level x ≡ 16 → is_atom_row x ≡ false → FollowedTo 15 x
+followed_selection = followed_by 16 false 15 refl
 
 -- another call
 pub followed_call : (x : AnnotatedForest) → row_level x ≡ 15 → is_atom_row x ≡ false → FollowedTo 15 x
@@ -102,13 +102,13 @@ pub followed_inverted : (x : AnnotatedForest) → row_level x ≡ 9 → is_atom_
 followed_inverted = followed_by 9 false 8 refl
 
 -- what reaches as far as it can
-pub followed_loose : (x : AnnotatedForest) → row_level x ≡ 0 → is_atom_row x ≡ false → FollowedTo 0 x
-followed_loose = followed_by 0 false 0 refl
+pub followed_keyword : (x : AnnotatedForest) → row_level x ≡ 0 → is_atom_row x ≡ false → FollowedTo 0 x
+followed_keyword = followed_by 0 false 0 refl
 
 -- a binary operator with its operands
-pub followed_infix : (k : SyntaxKind) → is_infix k ≡ true → (x : AnnotatedForest) → row_level x ≡ binding_power k → is_atom_row x ≡ false → FollowedTo (high_of k) x
-followed_infix k h = followed_by (binding_power k) false (high_of k) (implied is_infix (λ i. list_all (is_followed (binding_power i) false (high_of i)) all_kinds) refl k h)
+pub followed_infix : (k : SyntaxKind) → is_infix k ≡ true → (x : AnnotatedForest) → row_level x ≡ binding_power k → is_atom_row x ≡ false → FollowedTo (max_bp_of k) x
+followed_infix k h = followed_by (binding_power k) false (max_bp_of k) (implied is_infix (λ i. list_all (is_followed (binding_power i) false (max_bp_of i)) all_kinds) refl k h)
 
 -- no item goes on with a lone token
 pub follows_token : (i k : SyntaxKind) (t : Token) (f : AnnotatedForest) → follows i (token k t f) ≡ true → ⊥
-follows_token i k t f h = let w = (followed_loose (token k t f) refl refl i).1 h in omega (arith, w.0, w.1)
+follows_token i k t f h = let w = (followed_keyword (token k t f) refl refl i).1 h in omega (arith, w.0, w.1)

@@ -201,10 +201,10 @@ trivia_place TOKEN_IDENT h = absurd (true_is_not_false (sym h))
 trivia_place _ h = refl
 
 -- below any parent
-pub trivia_told : (p k : SyntaxKind) → is_trivia k ≡ true → k ≡ leaf_kind_as p k
-trivia_told NODE_IDENT k h = trivia_name k h
-trivia_told NODE_CUR_POS k h = trivia_place k h
-trivia_told _ k h = refl
+pub trivia_keeps_kind : (p k : SyntaxKind) → is_trivia k ≡ true → k ≡ leaf_kind_as p k
+trivia_keeps_kind NODE_IDENT k h = trivia_name k h
+trivia_keeps_kind NODE_CUR_POS k h = trivia_place k h
+trivia_keeps_kind _ k h = refl
 
 -- two rows of told leaves
 pub leaf_kind-⊕ : (p : SyntaxKind) (f g : AnnotatedForest) → HaveLeafKinds p f → HaveLeafKinds p g → HaveLeafKinds p (f ⊕ g)
@@ -214,31 +214,31 @@ leaf_kind-⊕ p (branch j c f) g h k = (h.0, leaf_kind-⊕ p f g h.1 k)
 leaf_kind-⊕ p (fault n c f) g h k = (h.0, leaf_kind-⊕ p f g h.1 k)
 
 -- trivia are told below every parent
-pub told_trivia : (p : SyntaxKind) (ts : List Token) → HaveLeafKinds p (trivia_before ts)
-told_trivia p [] = tt
-told_trivia p (t ∷ ts) = advance (told_trivia p ts) (is_trivia t.kind) refl
+pub trivia_leaf_kinds : (p : SyntaxKind) (ts : List Token) → HaveLeafKinds p (trivia_before ts)
+trivia_leaf_kinds p [] = tt
+trivia_leaf_kinds p (t ∷ ts) = advance (trivia_leaf_kinds p ts) (is_trivia t.kind) refl
   where
     advance : HaveLeafKinds p (trivia_before ts) → (x : Bool) → is_trivia t.kind ≡ x → HaveLeafKinds p (trivia_if x t (trivia_before ts))
-    advance ih true e = (trivia_told p t.kind e, ih)
+    advance ih true e = (trivia_keeps_kind p t.kind e, ih)
     advance ih false e = tt
 
 -- and so behind a node
-told_trivia_after : (p : SyntaxKind) (x : Bool) (ts : List Token) → HaveLeafKinds p (trivia_after x ts)
-told_trivia_after p true ts = told_trivia p ts
-told_trivia_after p false ts = tt
+trivia_after_leaf_kinds : (p : SyntaxKind) (x : Bool) (ts : List Token) → HaveLeafKinds p (trivia_after x ts)
+trivia_after_leaf_kinds p true ts = trivia_leaf_kinds p ts
+trivia_after_leaf_kinds p false ts = tt
 
 -- the leaves of a forest with trivia are told
-pub told_with_trivia : (p : SyntaxKind) (f : AnnotatedForest) (ts : List Token) → HaveLeafKinds p f → HaveLeafKinds p (with_trivia f ts)
-told_with_trivia p blank ts h = tt
-told_with_trivia p (token k t f) ts h =
-    leaf_kind-⊕ p (trivia_before ts) (token k t (with_trivia f (tail_of (from_item ts)))) (told_trivia p ts) (h.0, told_with_trivia p f (tail_of (from_item ts)) h.1)
-told_with_trivia p (branch k c f) ts h =
-    leaf_kind-⊕ p (trivia_before ts) (branch k (with_trivia c (from_item ts)) (with_trivia f (left_after c (from_item ts)))) (told_trivia p ts)
-    (told_with_trivia k c (from_item ts) h.0, told_with_trivia p f (left_after c (from_item ts)) h.1)
-told_with_trivia p (fault n c f) ts h =
+pub with_trivia_leaf_kinds : (p : SyntaxKind) (f : AnnotatedForest) (ts : List Token) → HaveLeafKinds p f → HaveLeafKinds p (with_trivia f ts)
+with_trivia_leaf_kinds p blank ts h = tt
+with_trivia_leaf_kinds p (token k t f) ts h =
+    leaf_kind-⊕ p (trivia_before ts) (token k t (with_trivia f (tail_of (from_item ts)))) (trivia_leaf_kinds p ts) (h.0, with_trivia_leaf_kinds p f (tail_of (from_item ts)) h.1)
+with_trivia_leaf_kinds p (branch k c f) ts h =
+    leaf_kind-⊕ p (trivia_before ts) (branch k (with_trivia c (from_item ts)) (with_trivia f (left_after c (from_item ts)))) (trivia_leaf_kinds p ts)
+    (with_trivia_leaf_kinds k c (from_item ts) h.0, with_trivia_leaf_kinds p f (left_after c (from_item ts)) h.1)
+with_trivia_leaf_kinds p (fault n c f) ts h =
     let rest = left_after c (from_item ts) in
     let later = with_trivia f (rest_after (is_last n) rest) in
-    leaf_kind-⊕ p (trivia_before ts) (fault n (with_trivia c (from_item ts)) (trivia_after (is_last n) rest ⊕ later)) (told_trivia p ts) (
-      told_with_trivia NODE_ERROR c (from_item ts) h.0,
-      leaf_kind-⊕ p (trivia_after (is_last n) rest) later (told_trivia_after p (is_last n) rest) (told_with_trivia p f (rest_after (is_last n) rest) h.1),
+    leaf_kind-⊕ p (trivia_before ts) (fault n (with_trivia c (from_item ts)) (trivia_after (is_last n) rest ⊕ later)) (trivia_leaf_kinds p ts) (
+      with_trivia_leaf_kinds NODE_ERROR c (from_item ts) h.0,
+      leaf_kind-⊕ p (trivia_after (is_last n) rest) later (trivia_after_leaf_kinds p (is_last n) rest) (with_trivia_leaf_kinds p f (rest_after (is_last n) rest) h.1),
     )

@@ -2,7 +2,7 @@
 use Rattle.std.{specs.List.list_all, proofs.{lemmas.Bool.{and_parts, cases_lt, agree_below_at, Decides.nat_tests}, Common.{◌≡◌, ◌⊎◌, inl, inr, ℕ}}}
 use Rattle.std.proofs.Common.{zero, suc, ◌+◌, ◌≤◌, ◌<◌, Bool, true, false, refl, ap, sym, ◌∙◌, arith, ◌&&◌, if◌then◌else◌, nat_eq, nat_le}
 use Rattle.rnix_kinds.{specs.declared.kinds.SyntaxKind.{SyntaxKind}, proofs.AllKinds.{all_kinds, every, implied}}
-use Rattle.rnix_grammar.specs.{Levels.{binding_power, right_of, high_of}, Rows.{is_atom, is_simple, is_negated, is_questioned, is_operand}}
+use Rattle.rnix_grammar.specs.{Levels.{binding_power, right_of, max_bp_of}, Rows.{is_atom, is_simple, is_negated, is_questioned, is_operand}}
 use Rattle.{rnix_grammar.specs.Rows.{is_expression, fits, is_infix}}
 
 -- each class is in the next
@@ -71,7 +71,7 @@ binding_power_max j = at_most (binding_power j) 16 (every (λ k. nat_le (binding
 pub record Operates (k : SyntaxKind) : Type 0 where
   pub positive : 1 ≤ binding_power k
   pub most : binding_power k ≤ 12
-  pub high : high_of k ≤ binding_power k
+  pub max_bp : max_bp_of k ≤ binding_power k
 
 -- a binary operator has a level of its own
 pub operates : (k : SyntaxKind) → is_infix k ≡ true → Operates k
@@ -80,7 +80,7 @@ operates k h =
     record {
       positive = q.0;
       most = q.1;
-      high = at_most (high_of k) (binding_power k) (implied is_infix (λ o. nat_le (high_of o) (binding_power o)) refl k h);
+      max_bp = at_most (max_bp_of k) (binding_power k) (implied is_infix (λ o. nat_le (max_bp_of o) (binding_power o)) refl k h);
     }
 
 -- the loosest level of a right operand lies between these

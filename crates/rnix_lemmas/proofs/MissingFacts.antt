@@ -3,40 +3,40 @@ use Rattle.std.proofs.Common.{◌≡◌, Bool, true, false, List, [], ◌∷◌,
 use Rattle.rnix_kinds.specs.declared.kinds.SyntaxKind.{SyntaxKind, TheVariants.{TOKEN_R_PAREN, TOKEN_L_BRACE, TOKEN_R_BRACE, TOKEN_SEMICOLON}}
 use Rattle.rnix_kinds.specs.declared.kinds.SyntaxKind.TheVariants.{TOKEN_ASSIGN, TOKEN_COLON, TOKEN_THEN, TOKEN_ELSE, TOKEN_INTERPOL_END, TOKEN_STRING_END}
 use Rattle.rnix_kinds.specs.declared.kinds.SyntaxKind.TheVariants.{TOKEN_IDENT}
-use Rattle.rnix_grammar.specs.{declared.until.Until.Until, Fault.{Fault, ended_before}, Tables.wanted_kinds, Repaired.{is_ended, IsNamedList}}
+use Rattle.rnix_grammar.specs.{declared.expected_set.ExpectedSet.ExpectedSet, Fault.{Fault, ended_before}, Tables.wanted_kinds, Repaired.{is_ended, IsNamedList}}
 use Rattle.rnix_grammar.specs.{Rules.{Row, missing}}
-use Rattle.rnix_lemmas.proofs.{Basics.true_is_not_false, KnownRows.{IsKnown, each_known}}
-use Rattle.rnix_grammar.specs.declared.until.Until.TheVariants as u
+use Rattle.rnix_lemmas.proofs.{Basics.true_is_not_false, ReachableRows.{IsKnown, each_known}}
+use Rattle.rnix_grammar.specs.declared.expected_set.ExpectedSet.TheVariants as u
 
 -- the kinds that are wanted say by which list they are
-abbrev until_of : List SyntaxKind → Until
-until_of (TOKEN_R_PAREN ∷ ks) = u.RParen
-until_of (TOKEN_L_BRACE ∷ ks) = u.LBrace
-until_of (TOKEN_R_BRACE ∷ []) = u.RBrace
-until_of (TOKEN_R_BRACE ∷ ks) = u.Entry
-until_of (TOKEN_SEMICOLON ∷ ks) = u.Semicolon
-until_of (TOKEN_ASSIGN ∷ ks) = u.Assign
-until_of (TOKEN_COLON ∷ ks) = u.Colon
-until_of (TOKEN_THEN ∷ ks) = u.Then
-until_of (TOKEN_ELSE ∷ ks) = u.Else
-until_of (TOKEN_INTERPOL_END ∷ ks) = u.InterpolEnd
-until_of (TOKEN_STRING_END ∷ []) = u.StringEnd
-until_of (TOKEN_STRING_END ∷ ks) = u.Piece
-until_of (TOKEN_IDENT ∷ []) = u.Ident
-until_of (TOKEN_IDENT ∷ ks) = u.Attr
-until_of ks = u.End
+abbrev expected_set_of : List SyntaxKind → ExpectedSet
+expected_set_of (TOKEN_R_PAREN ∷ ks) = u.RParen
+expected_set_of (TOKEN_L_BRACE ∷ ks) = u.LBrace
+expected_set_of (TOKEN_R_BRACE ∷ []) = u.RBrace
+expected_set_of (TOKEN_R_BRACE ∷ ks) = u.Entry
+expected_set_of (TOKEN_SEMICOLON ∷ ks) = u.Semicolon
+expected_set_of (TOKEN_ASSIGN ∷ ks) = u.Assign
+expected_set_of (TOKEN_COLON ∷ ks) = u.Colon
+expected_set_of (TOKEN_THEN ∷ ks) = u.Then
+expected_set_of (TOKEN_ELSE ∷ ks) = u.Else
+expected_set_of (TOKEN_INTERPOL_END ∷ ks) = u.InterpolEnd
+expected_set_of (TOKEN_STRING_END ∷ []) = u.StringEnd
+expected_set_of (TOKEN_STRING_END ∷ ks) = u.Piece
+expected_set_of (TOKEN_IDENT ∷ []) = u.Ident
+expected_set_of (TOKEN_IDENT ∷ ks) = u.Attr
+expected_set_of ks = u.End
 
-abbrev is_end : Until → Bool
+abbrev is_end : ExpectedSet → Bool
 is_end u.End = true
 is_end until = false
 
 -- a list of wanted kinds, if there is one, is one of those
 abbrev IsListed : Fault → Type 0
-IsListed (ended_before kinds) = (is_end (until_of kinds) ≡ false) × (kinds ≡ wanted_kinds (until_of kinds))
+IsListed (ended_before kinds) = (is_end (expected_set_of kinds) ≡ false) × (kinds ≡ wanted_kinds (expected_set_of kinds))
 IsListed e = Unit {0}
 
 listed : (e : Fault) → IsListed e → IsNamedList e
-listed (ended_before kinds) h = (until_of kinds, λ e. true_is_not_false (sym (ap is_end e) ∙ h.0), h.1)
+listed (ended_before kinds) h = (expected_set_of kinds, λ e. true_is_not_false (sym (ap is_end e) ∙ h.0), h.1)
 listed _ h = h
 
 -- an error of the end of the text

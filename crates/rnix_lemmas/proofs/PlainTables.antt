@@ -11,9 +11,9 @@ is_bound TOKEN_INTERPOL_START = true
 is_bound kind = false
 
 -- the next token is at most an operator of the level, or ends an expression
-abbrev pub loose : ℕ → Option SyntaxKind → Bool
-loose h None = true
-loose h (Some k) = if is_bound k then false else nat_le (binding_power k) h
+abbrev pub binds_at_most : ℕ → Option SyntaxKind → Bool
+binds_at_most h None = true
+binds_at_most h (Some k) = if is_bound k then false else nat_le (binding_power k) h
 
 -- the next token is not `.`
 abbrev pub is_no_dot : Option SyntaxKind → Bool

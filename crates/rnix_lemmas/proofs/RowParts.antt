@@ -4,9 +4,9 @@ use Rattle.rnix_kinds.specs.{declared.kinds.SyntaxKind.{SyntaxKind}, declared.ki
 use Rattle.{rnix_kinds.proofs.AllKinds.{implied}, rnix_green.specs.Equality.{same_kind}}
 use Rattle.rnix_grammar.specs.{declared.rules.Part.TheVariants.{Child, Atom, First, Suffix, Binary, Argument, Operand, Many}, AnnotatedForest.{Token}}
 use Rattle.rnix_grammar.specs.{AnnotatedForest.{AnnotatedForest, blank, head_kind, touches}, Rows.{fits, is_expression}, Rules.{Row, ◌·◌, ◌or◌, only, after}}
-use Rattle.rnix_grammar.specs.Rules.{expects, expects_item, expects_end, IsExpected, IsFollowed, level_at, counts, stands_expected}
+use Rattle.rnix_grammar.specs.Rules.{expects, expects_item, expects_end, IsExpected, IsFollowed, level_at, counts, is_first_expected}
 use Rattle.rnix_grammar.specs.{Beginnings.{IsOperandOf}, Reads.{IsRoom, deeper}}
-use Rattle.rnix_lemmas.proofs.{Basics.{true_is_not_false, not_if, some_same}, EveryKind.{same}, LevelLemmas.{atom_fits}, NodeKinds.{fits_expression}}
+use Rattle.rnix_lemmas.proofs.{Basics.{true_is_not_false, not_if, some_same}, EveryKind.{same}, LevelLemmas.{atom_fits}, KindsOfNodes.{fits_expression}}
 
 -- a row begins with a child that is there whenever the node is
 abbrev pub is_front : Row → Bool
@@ -17,13 +17,13 @@ is_front (r or s) = true
 is_front r = false
 
 -- no operand stands here
-pub record IsBare (r : Row) : Type 0 where
+pub record HasNoOperand (r : Row) : Type 0 where
   pub operand : (x y : AnnotatedForest) (us : List Token) → IsOperandOf (level_at r x) y us
   pub room : (d : ℕ) → IsRoom r d
   pub deep : (d : ℕ) → deeper r d ≡ d
 
-pub bare : (r : Row) → ((x : AnnotatedForest) → level_at r x ≡ None) → counts r ≡ false → IsBare r
-bare r l c = record {
+pub no_operand : (r : Row) → ((x : AnnotatedForest) → level_at r x ≡ None) → counts r ≡ false → HasNoOperand r
+no_operand r l c = record {
   operand = λ x y us. subst (λ l. IsOperandOf l y us) (sym (l x)) tt;
   room = λ d e. absurd (true_is_not_false (sym e ∙ c));
   deep = λ d. ap (λ w. if w then suc d else d) c;
@@ -33,13 +33,13 @@ bare r l c = record {
 pub record IsFront (r : Row) : Type 0 where
   pub expected : (n : ℕ) (ts : List Token) (own : Bool) → IsExpected r n ts own
   pub followed : (x : AnnotatedForest) (next : Option SyntaxKind) → IsFollowed r x next
-  pub bare : IsBare r
+  pub no_operand : HasNoOperand r
 
 pub front : (r : Row) → is_front r ≡ true → IsFront r
-front (Child kind · r) h = record { expected = λ n ts own. tt; followed = λ x next. tt; bare = bare (Child kind · r) (λ x. refl) refl }
-front (Atom · r) h = record { expected = λ n ts own. tt; followed = λ x next. tt; bare = bare (Atom · r) (λ x. refl) refl }
-front (First m · r) h = record { expected = λ n ts own. tt; followed = λ x next. tt; bare = bare (First m · r) (λ x. refl) refl }
-front (r or s) h = record { expected = λ n ts own. tt; followed = λ x next. tt; bare = bare (r or s) (λ x. refl) refl }
+front (Child kind · r) h = record { expected = λ n ts own. tt; followed = λ x next. tt; no_operand = no_operand (Child kind · r) (λ x. refl) refl }
+front (Atom · r) h = record { expected = λ n ts own. tt; followed = λ x next. tt; no_operand = no_operand (Atom · r) (λ x. refl) refl }
+front (First m · r) h = record { expected = λ n ts own. tt; followed = λ x next. tt; no_operand = no_operand (First m · r) (λ x. refl) refl }
+front (r or s) h = record { expected = λ n ts own. tt; followed = λ x next. tt; no_operand = no_operand (r or s) (λ x. refl) refl }
 front _ h = absurd (cc)
 
 -- what is left of a row at a place: a part that may be missing, or that the reader waits at
@@ -68,13 +68,13 @@ left_level (Argument · r) h x = absurd (cc)
 left_level _ h x = refl
 
 -- so no operand stands where there is none
-pub left_bare : (r : Row) → is_left r ≡ true → counts r ≡ false → level_at r blank ≡ None → IsBare r
-left_bare r i c l = bare r (λ x. left_level r i x ∙ l) c
+pub left_no_operand : (r : Row) → is_left r ≡ true → counts r ≡ false → level_at r blank ≡ None → HasNoOperand r
+left_no_operand r i c l = no_operand r (λ x. left_level r i x ∙ l) c
 
 -- and so is what is expected
-pub left_stands : (r : Row) → is_left r ≡ true → (k : SyntaxKind) (c : AnnotatedForest) → stands_expected r k c ≡ stands_expected r k blank
-left_stands (Argument · r) h k c = absurd (cc)
-left_stands _ h k c = refl
+pub left_first_expected : (r : Row) → is_left r ≡ true → (k : SyntaxKind) (c : AnnotatedForest) → is_first_expected r k c ≡ is_first_expected r k blank
+left_first_expected (Argument · r) h k c = absurd (cc)
+left_first_expected _ h k c = refl
 
 -- the next item, or the end of the text, is expected
 abbrev pub expects_next : Row → Bool → Option SyntaxKind → Bool
@@ -117,8 +117,8 @@ operand_goes (Argument · r) n k i e h = absurd (cc)
 operand_goes _ n k i e h = absurd (cc)
 
 -- and operands are not expected
-pub operand_stands : (r : Row) (n : ℕ) (k : SyntaxKind) → is_left r ≡ true → level_at r blank ≡ Some n → stands_expected r k blank ≡ false
-operand_stands (Operand m counted · r) n k i e = refl
-operand_stands (Many m closer · r) n k i e = refl
-operand_stands (Argument · r) n k i e = absurd (cc)
-operand_stands _ n k i e = absurd (cc)
+pub operand_not_expected : (r : Row) (n : ℕ) (k : SyntaxKind) → is_left r ≡ true → level_at r blank ≡ Some n → is_first_expected r k blank ≡ false
+operand_not_expected (Operand m counted · r) n k i e = refl
+operand_not_expected (Many m closer · r) n k i e = refl
+operand_not_expected (Argument · r) n k i e = absurd (cc)
+operand_not_expected _ n k i e = absurd (cc)

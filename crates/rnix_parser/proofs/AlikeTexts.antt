@@ -4,7 +4,7 @@ use Rattle.{rnix_kinds.specs.Lexical.Tokens.{Lexeme, tokens_of}, rnix_green.spec
 use Rattle.rnix_grammar.specs.{Fault.Fault, AnnotatedForest.{Token, AnnotatedForest, forget, tokens_in, without_trivia, placed_from}, Layout.items}
 use Rattle.rnix_grammar.specs.{Reading.IsReading, Parsed.IsParsed}
 use Rattle.{rnix_lemmas.proofs.{ReportLemmas.without_trivia_tokens, SpelledLemmas.AreRuled}, rnix_uniqueness.proofs.AllReads.one_row}
-use Rattle.{rnix_proof_layout.specs.Alike.{AreAlike, AreSameFaults}, rnix_proof_layout.proofs.AlikeReadings.alike_readings}
+use Rattle.{rnix_proof_layout.specs.AlikeItems.{AreAlike, AreSameFaults}, rnix_proof_layout.proofs.AlikeReadings.alike_readings}
 use Rattle.rnix_parser.specs.ReadAlike.{items_of, AreReadAlike}
 use Rattle.rnix_parser.proofs.{ParsedLemmas.all_follows, SignificantTrees.significant_tree}
 

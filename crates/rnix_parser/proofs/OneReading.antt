@@ -2,13 +2,13 @@
 use Rattle.std.{proofs.Common.{◌≡◌, ℕ, true, List, [], ◌∷◌, ◌++◌, refl, ap, sym, ◌∙◌, subst, append_assoc}, specs.Prelude.flat_map}
 use Rattle.rnix_kinds.specs.{declared.kinds.SyntaxKind.TheVariants.NODE_ROOT, Lexical.Tokens.{Lexeme, text_of as lexeme_text, AreSound, tokens_of}}
 use Rattle.{rnix_green.specs.{Forest.text_of, Tree.Tree}, rnix_grammar.specs.{Fault.Fault, AnnotatedForest.{Token, AnnotatedForest, blank, token, branch}}}
-use Rattle.rnix_grammar.specs.{AnnotatedForest.{fault, forget, tokens_in, without_trivia, placed_from}, Layout.{items, with_trivia_whole}, Machine.ate}
-use Rattle.rnix_grammar.specs.{WithoutTrivia.{without_trivia_machine, without_trivia_frame, without_trivia_frames}, Reads.ReadsWhole, Reading.IsReading}
+use Rattle.rnix_grammar.specs.{AnnotatedForest.{fault, forget, tokens_in, without_trivia, placed_from}, Layout.{items, with_all_trivia}, Machine.with_leading}
+use Rattle.rnix_grammar.specs.{WithoutTrivia.{without_trivia_machine, without_trivia_frame, without_trivia_frames}, Reads.ReadsRoot, Reading.IsReading}
 use Rattle.{rnix_grammar.specs.{Parsed.IsParsed, Document.IsRead}, rnix_lemmas.proofs.{ReportLemmas.without_trivia_tokens, SpelledLemmas.AreRuled}}
-use Rattle.{rnix_lemmas.proofs.WithoutTriviaLemmas.{runs_without_trivia, ate_without_trivia}, rnix_rows.proofs.WithTriviaWhole.with_trivia_whole_tokens}
-use Rattle.{rnix_rows.proofs.WithTriviaWhole.{with_trivia_same, read_with_trivia}, rnix_existence.proofs.WholeReads.whole_reads}
+use Rattle.{rnix_lemmas.proofs.WithoutTriviaLemmas.{runs_without_trivia, with_leading_without_trivia}, rnix_rows.proofs.WithAllTrivia.with_all_trivia_tokens}
+use Rattle.{rnix_rows.proofs.WithAllTrivia.{with_trivia_same, read_with_trivia}, rnix_existence.proofs.StepsReadRoot.steps_read_root}
 use Rattle.{rnix_uniqueness.proofs.AllReads.one_row, rnix_reader.specs.Placed.texts_in}
-use Rattle.{rnix_reader.proofs.{EachText.each_read, TextLemmas.placed_text}, rnix_parser.proofs.ParsedLemmas.all_follows}
+use Rattle.{rnix_reader.proofs.{EachText.each_read, TextLeft.placed_text}, rnix_parser.proofs.ParsedLemmas.all_follows}
 
 -- the items of a reading are those of the tokens
 reading_items : {ls : List Lexeme} {tree : Tree} {faults : List Fault} (r : IsReading ls tree faults) → tokens_in (without_trivia r.annotated) ≡ items (placed_from 0 ls)
@@ -19,7 +19,7 @@ pub one_reading : (ls : List Lexeme) (t u : Tree) (ds es : List Fault) → IsRea
 one_reading ls t u ds es r s =
     let same : (without_trivia r.annotated ≡ without_trivia s.annotated) × (ds ≡ es) = one_row (without_trivia r.annotated) (without_trivia s.annotated) ds es
     r.reads s.reads (reading_items r ∙ sym (reading_items s)) in
-    let annotated : r.annotated ≡ s.annotated = with_trivia_same r.annotated s.annotated (placed_from 0 ls) r.laid s.laid same.0 in
+    let annotated : r.annotated ≡ s.annotated = with_trivia_same r.annotated s.annotated (placed_from 0 ls) r.placed s.placed same.0 in
     (r.tree_is ∙ ap (λ (f : AnnotatedForest). record { kind = NODE_ROOT; children = forget f }) annotated ∙ sym u_is, same.1)
   where
     u_is : u ≡ record { kind = NODE_ROOT; children = forget s.annotated }
@@ -52,17 +52,17 @@ one_text s t tree ds es x y r q =
 read_reading : (ls : List Lexeme) (tree : Tree) (faults : List Fault) → IsRead ls tree faults → IsReading ls tree faults
 read_reading ls tree faults r =
     let ts : List Token = placed_from 0 ls in
-    let g : AnnotatedForest = ate true r.root.row r.last.left in
-    let bare : without_trivia g ≡ without_trivia r.root.row = ate_without_trivia r.root.row r.last.left in
-    let read : (items ts ≡ tokens_in (without_trivia r.root.row)) × ReadsWhole (without_trivia r.root.row) r.last.faults =
-    whole_reads (items ts) (without_trivia_machine r.last) (without_trivia_frame r.root) (runs_without_trivia r.runs) (ap without_trivia_frames r.alone) r.head r.place r.nothing in
-    let laid : g ≡ with_trivia_whole (without_trivia g) ts = read_with_trivia ls tree faults r in
+    let g : AnnotatedForest = with_leading true r.root.row r.last.left in
+    let bare : without_trivia g ≡ without_trivia r.root.row = with_leading_without_trivia r.root.row r.last.left in
+    let read : (items ts ≡ tokens_in (without_trivia r.root.row)) × ReadsRoot (without_trivia r.root.row) r.last.faults =
+    steps_read_root (items ts) (without_trivia_machine r.last) (without_trivia_frame r.root) (runs_without_trivia r.runs) (ap without_trivia_frames r.alone) r.head r.position r.nothing in
+    let placed : g ≡ with_all_trivia (without_trivia g) ts = read_with_trivia ls tree faults r in
     record {
       annotated = g;
       tree_is = r.tree_is;
-      leaves = ap tokens_in laid ∙ with_trivia_whole_tokens (without_trivia g) ts (read.0 ∙ ap tokens_in (sym bare));
-      laid = laid;
-      reads = subst (λ (f : AnnotatedForest). ReadsWhole f faults) (sym bare) (subst (ReadsWhole (without_trivia r.root.row)) (sym r.faults_are) read.1);
+      leaves = ap tokens_in placed ∙ with_all_trivia_tokens (without_trivia g) ts (read.0 ∙ ap tokens_in (sym bare));
+      placed = placed;
+      reads = subst (λ (f : AnnotatedForest). ReadsRoot f faults) (sym bare) (subst (ReadsRoot (without_trivia r.root.row)) (sym r.faults_are) read.1);
     }
 
 -- the tokens of a text have a reading

@@ -3,40 +3,40 @@ use Rattle.std.proofs.{Common.{◌≡◌, ◌↔◌, ◌≤◌, true, List, [], 
 use Rattle.{rnix_kinds.specs.{declared.kinds.SyntaxKind.TheVariants.NODE_ROOT, Lexical.Tokens.Lexeme}, rnix_green.specs.{Forest.Forest, Tree.Tree}}
 use Rattle.rnix_grammar.specs.{Tables.depth_limit, AnnotatedForest.{Token, AnnotatedForest, blank, forget, tokens_in, without_trivia, placed_from}}
 use Rattle.rnix_grammar.specs.{AnnotatedForest.HaveLeafKinds, Layout.items, Trim.{AreFaultsTrimmed, AreNodesTrimmed}, Shape.{IsShaped, IsUnrepeated, reports}}
-use Rattle.rnix_grammar.specs.{Seams.AreTriviaBetween, Named.{AreSpelled, is_repeated, Lacks}, Repaired.{repaired, ended_count}, Corners.has_no_corner}
-use Rattle.rnix_grammar.specs.{Fault.Fault, Plain.ArePaths, Nest.nest, Grammar.IsExpression}
-use Rattle.rnix_grammar.specs.{Derivation.IsDerivation, Reads.ReadsWhole, Reading.IsReading, Parsed.IsParsed}
-use Rattle.rnix_rows.proofs.{ReadsFaults.{Errors, reads_errors}, ReadsWhole.{whole_few, whole_ended, whole_begun, whole_last}, TreeShapes.whole_shaped}
-use Rattle.rnix_rows.proofs.{TreeShapes.without_trivia_reports, SeamLemmas.trivia_between, ReadsNest.reads_nested, NamedRows.are_named}
-use Rattle.rnix_rows.proofs.{WithTriviaWhole.{without_trivia_items, laid_told, laid_trimmed, laid_bare, laid_nodes}, ReadsTold.reads_told}
-use Rattle.{rnix_rows.proofs.{ReadsShapes.{AreBareRows, repaired_none, whole_rows}, Exactly.derived}, rnix_soundness.proofs.Converse.converse}
-use Rattle.rnix_lemmas.proofs.{KnownRows.known_row, SpelledLemmas.{AreRuled, spelled_from, without_trivia_spelled}}
+use Rattle.rnix_grammar.specs.{TriviaBetween.AreTriviaBetween, Named.{AreSpelled, is_repeated, Lacks}, Repaired.{repaired, ended_count}, Extensions.has_no_extension}
+use Rattle.rnix_grammar.specs.{Fault.Fault, PathPieces.ArePaths, Nest.nest, Grammar.IsExpression}
+use Rattle.rnix_grammar.specs.{Derivation.IsDerivation, Reads.ReadsRoot, Reading.IsReading, Parsed.IsParsed}
+use Rattle.rnix_rows.proofs.{ReadsFaults.{Errors, reads_errors}, RootReadings.{root_few, root_end_errors, root_begun, root_last}, TreeShapes.root_shaped}
+use Rattle.rnix_rows.proofs.{TreeShapes.without_trivia_reports, TriviaBetweenLemmas.trivia_between, ReadsNest.reads_nested, NamedRows.are_named}
+use Rattle.rnix_rows.proofs.{WithAllTrivia.{without_trivia_items, placed_leaf_kinds, placed_faults_trimmed, placed_names, placed_nodes_trimmed}, ReadsLeafKinds.reads_leaf_kinds}
+use Rattle.{rnix_rows.proofs.{ReadsShapes.{AreErrorFreeRows, repaired_none, root_rows}, Exactly.derived}, rnix_soundness.proofs.Converse.converse}
+use Rattle.rnix_lemmas.proofs.{ReachableRows.known_row, SpelledLemmas.{AreRuled, spelled_from, without_trivia_spelled}}
 use Rattle.rnix_strict.proofs.GrammarLeaves.{expression_fine}
 use Rattle.rnix_parser.proofs.Found.{derivation_found}
 
 -- a tree without trivia, and its errors, as they must be to be a derivation
 record IsFit (f : AnnotatedForest) (ts : List Token) (es : List Fault) : Type 0 where
   pub tokens : tokens_in f ≡ ts
-  pub bare : es ≡ [] → AreBareRows f
+  pub bare : es ≡ [] → AreErrorFreeRows f
   pub leaf_kind : HaveLeafKinds NODE_ROOT f
   pub spelled : AreSpelled (tokens_in f)
   pub nested : es ≡ [] → nest NODE_ROOT (forget f) ≤ depth_limit
-  pub strict : es ≡ [] → has_no_corner NODE_ROOT (repaired f) ≡ true → IsExpression (repaired f)
+  pub strict : es ≡ [] → has_no_extension NODE_ROOT (repaired f) ≡ true → IsExpression (repaired f)
   pub found : (t : Forest) → IsDerivation t ts → (es ≡ []) × (forget f ≡ t)
 
 -- so it is one exactly if there is no error and no corner
-exact : (f : AnnotatedForest) (ts : List Token) (es : List Fault) → IsFit f ts es → ArePaths f [] → ((es ≡ []) × (has_no_corner NODE_ROOT (forget f) ≡ true)) ↔ ((t : Forest) × IsDerivation t ts)
+exact : (f : AnnotatedForest) (ts : List Token) (es : List Fault) → IsFit f ts es → ArePaths f [] → ((es ≡ []) × (has_no_extension NODE_ROOT (forget f) ≡ true)) ↔ ((t : Forest) × IsDerivation t ts)
 exact f ts es w paths = (there, back)
   where
-    there : (es ≡ []) × (has_no_corner NODE_ROOT (forget f) ≡ true) → (t : Forest) × IsDerivation t ts
+    there : (es ≡ []) × (has_no_extension NODE_ROOT (forget f) ≡ true) → (t : Forest) × IsDerivation t ts
     there h =
         let same : repaired f ≡ forget f = repaired_none f (w.bare h.0) in
-        (forget f, subst (IsDerivation (forget f)) w.tokens (derived f (w.bare h.0) w.leaf_kind w.spelled (subst IsExpression same (w.strict h.0 (ap (has_no_corner NODE_ROOT) same ∙ h.1))) (w.nested h.0) paths))
+        (forget f, subst (IsDerivation (forget f)) w.tokens (derived f (w.bare h.0) w.leaf_kind w.spelled (subst IsExpression same (w.strict h.0 (ap (has_no_extension NODE_ROOT) same ∙ h.1))) (w.nested h.0) paths))
 
-    back : ((t : Forest) × IsDerivation t ts) → (es ≡ []) × (has_no_corner NODE_ROOT (forget f) ≡ true)
+    back : ((t : Forest) × IsDerivation t ts) → (es ≡ []) × (has_no_extension NODE_ROOT (forget f) ≡ true)
     back h =
         let r = w.found h.0 h.1 in
-        (r.0, ap (has_no_corner NODE_ROOT) r.1 ∙ (expression_fine h.1.strict).corner)
+        (r.0, ap (has_no_extension NODE_ROOT) r.1 ∙ (expression_fine h.1.strict).extension)
 
 -- all that is promised of a tree and its errors follows from their being a reading
 pub all_follows : (ls : List Lexeme) (tree : Tree) (faults : List Fault) → AreRuled ls → IsReading ls tree faults → IsParsed ls tree faults
@@ -44,28 +44,28 @@ all_follows ls tree faults ruled r =
     let ts : List Token = placed_from 0 ls in
     let g : AnnotatedForest = r.annotated in
     let own : items ts ≡ tokens_in (without_trivia g) = without_trivia_items g ts r.leaves in
-    let reads : ReadsWhole (without_trivia g) faults = r.reads in
+    let reads : ReadsRoot (without_trivia g) faults = r.reads in
     let errors : Errors (without_trivia g) [] (reports (without_trivia g)) faults = reads_errors reads (known_row NODE_ROOT) in
-    let leaf_kind : HaveLeafKinds NODE_ROOT g = laid_told (without_trivia g) g ts faults r.laid reads in
-    let trimmed : AreFaultsTrimmed g = laid_trimmed (without_trivia g) g ts faults r.laid own reads in
-    let nodes : faults ≡ [] → AreNodesTrimmed (forget g) = laid_nodes (without_trivia g) g ts faults r.laid own reads in
+    let leaf_kind : HaveLeafKinds NODE_ROOT g = placed_leaf_kinds (without_trivia g) g ts faults r.placed reads in
+    let trimmed : AreFaultsTrimmed g = placed_faults_trimmed (without_trivia g) g ts faults r.placed own reads in
+    let nodes : faults ≡ [] → AreNodesTrimmed (forget g) = placed_nodes_trimmed (without_trivia g) g ts faults r.placed own reads in
     let spelled : AreSpelled (tokens_in (without_trivia g)) = without_trivia_spelled g (subst AreSpelled (sym r.leaves) (spelled_from 0 ls ruled)) in
-    let nested : faults ≡ [] → nest NODE_ROOT (forget (without_trivia g)) ≤ depth_limit = λ h. reads_nested (without_trivia g) faults reads ((whole_rows reads).0 h) in
-    let strict : ended_count faults ≡ 0 → Lacks is_repeated faults → has_no_corner NODE_ROOT (repaired (without_trivia g)) ≡ true → IsExpression (repaired (without_trivia g)) = λ n r o.
+    let nested : faults ≡ [] → nest NODE_ROOT (forget (without_trivia g)) ≤ depth_limit = λ h. reads_nested (without_trivia g) faults reads ((root_rows reads).0 h) in
+    let strict : ended_count faults ≡ 0 → Lacks is_repeated faults → has_no_extension NODE_ROOT (repaired (without_trivia g)) ≡ true → IsExpression (repaired (without_trivia g)) = λ n r o.
     converse (without_trivia g) faults reads (are_named reads) spelled n r o in
     let met : (t : Forest) → IsDerivation t (items ts) → (faults ≡ []) × (forget (without_trivia g) ≡ t) = derivation_found (without_trivia g) (items ts) faults r.reads (sym own) in
     record {
       reading = r;
       leaf_kind = leaf_kind;
       trimmed = trimmed;
-      bare = laid_bare (without_trivia g) g ts faults r.laid spelled reads;
+      bare = placed_names (without_trivia g) g ts faults r.placed spelled reads;
       paired = errors.reports ∙ without_trivia_reports blank g trimmed;
       named = errors.named;
-      shaped = subst (λ (t : Tree). (faults ≡ []) ↔ (IsShaped t × IsUnrepeated t)) (sym r.tree_is) (whole_shaped (without_trivia g) g faults reads refl leaf_kind nodes);
-      few_incomplete = whole_few reads;
-      no_incomplete = whole_ended reads;
-      begun = whole_begun reads;
-      last_incomplete = whole_last reads;
+      shaped = subst (λ (t : Tree). (faults ≡ []) ↔ (IsShaped t × IsUnrepeated t)) (sym r.tree_is) (root_shaped (without_trivia g) g faults reads refl leaf_kind nodes);
+      few_incomplete = root_few reads;
+      no_incomplete = root_end_errors reads;
+      begun = root_begun reads;
+      last_incomplete = root_last reads;
       settled = errors.settled;
       between = λ h. subst AreTriviaBetween (sym r.tree_is) (trivia_between (record { kind = NODE_ROOT; children = forget g }) (nodes h));
       nested = nested;
@@ -74,8 +74,8 @@ all_follows ls tree faults ruled r =
       exactly = exact (without_trivia g) (items ts) faults
           (record {
             tokens = sym own;
-            bare = λ h. ((whole_rows reads).0 h).nodes;
-            leaf_kind = reads_told reads;
+            bare = λ h. ((root_rows reads).0 h).nodes;
+            leaf_kind = reads_leaf_kinds reads;
             spelled = spelled;
             nested = nested;
             strict = λ h o. strict (ap ended_count h) (subst (Lacks is_repeated) (sym h) tt) o;

@@ -4,9 +4,9 @@ use Rattle.rnix_kinds.specs.declared.kinds.SyntaxKind.{SyntaxKind, TheVariants.{
 use Rattle.rnix_kinds.specs.{Lexical.Tokens.Lexeme, SyntaxKind.is_trivia}
 use Rattle.rnix_green.specs.{Forest.{Forest, node}, Tree.Tree}
 use Rattle.rnix_grammar.specs.AnnotatedForest.{Token, AnnotatedForest, blank, token, branch, fault, forget, without_trivia, token_if, placed_from, leaf_kind_as, HaveLeafKinds}
-use Rattle.rnix_grammar.specs.{Corners.has_no_corner, Derivation.{laid, IsDerivation}, Fault.Fault, Grammar.IsExpression, Layout.items, Nest.nest}
-use Rattle.rnix_grammar.specs.{Parsed.IsParsed, Plain.ArePaths, Repaired.{repaired, ended_count}, Named.{is_repeated, Lacks}, Tables.depth_limit}
-use Rattle.rnix_rows.proofs.{Exactly.laid_same, ReadsShapes.{AreBareRows, repaired_none, whole_rows}, WithTriviaWhole.without_trivia_items}
+use Rattle.rnix_grammar.specs.{Extensions.has_no_extension, Derivation.{annotate, IsDerivation}, Fault.Fault, Grammar.IsExpression, Layout.items, Nest.nest}
+use Rattle.rnix_grammar.specs.{Parsed.IsParsed, PathPieces.ArePaths, Repaired.{repaired, ended_count}, Named.{is_repeated, Lacks}, Tables.depth_limit}
+use Rattle.rnix_rows.proofs.{Exactly.annotate_same, ReadsShapes.{AreErrorFreeRows, repaired_none, root_rows}, WithAllTrivia.without_trivia_items}
 use Rattle.rnix_strict.proofs.GrammarLeaves.{expression_fine}
 use Rattle.rnix_parser.specs.Significant.{leaf_unless, significant}
 
@@ -49,41 +49,41 @@ pub tree_nested : {ls : List Lexeme} {tree : Tree} {faults : List Fault} → IsP
 tree_nested p h = subst (λ f. nest NODE_ROOT f ≤ depth_limit) (sym (significant_tree p)) (p.nested h)
 
 -- without errors no node is an error node
-bare : {ls : List Lexeme} {tree : Tree} {faults : List Fault} (p : IsParsed ls tree faults) → faults ≡ [] → AreBareRows (without_trivia p.reading.annotated)
-bare {faults = faults} p h =
+error_free : {ls : List Lexeme} {tree : Tree} {faults : List Fault} (p : IsParsed ls tree faults) → faults ≡ [] → AreErrorFreeRows (without_trivia p.reading.annotated)
+error_free {faults = faults} p h =
     let f = without_trivia p.reading.annotated in
-    ((whole_rows p.reading.reads).0 h).nodes
+    ((root_rows p.reading.reads).0 h).nodes
 
 -- without errors and extensions it is an expression of the strict grammar
 pub tree_strict : {ls : List Lexeme} {tree : Tree} {faults : List Fault} → IsParsed ls tree faults
-    → faults ≡ [] → has_no_corner NODE_ROOT (significant tree.children) ≡ true → IsExpression (significant tree.children)
+    → faults ≡ [] → has_no_extension NODE_ROOT (significant tree.children) ≡ true → IsExpression (significant tree.children)
 tree_strict {tree = tree} p h o =
     let f = without_trivia p.reading.annotated in
-    let same : repaired f ≡ significant tree.children = repaired_none f (bare p h) ∙ sym (significant_tree p) in
-    subst IsExpression same (p.converse (ap ended_count h) (subst (Lacks is_repeated) (sym h) tt) (ap (has_no_corner NODE_ROOT) same ∙ o))
+    let same : repaired f ≡ significant tree.children = repaired_none f (error_free p h) ∙ sym (significant_tree p) in
+    subst IsExpression same (p.converse (ap ended_count h) (subst (Lacks is_repeated) (sym h) tt) (ap (has_no_extension NODE_ROOT) same ∙ o))
 
 -- the tree is laid over its items as it was read
-laid_tree : {ls : List Lexeme} {tree : Tree} {faults : List Fault} (p : IsParsed ls tree faults) → faults ≡ []
-    → laid (significant tree.children) (items (placed_from 0 ls)) ≡ without_trivia p.reading.annotated
-laid_tree {ls = ls} p h =
+annotate_tree : {ls : List Lexeme} {tree : Tree} {faults : List Fault} (p : IsParsed ls tree faults) → faults ≡ []
+    → annotate (significant tree.children) (items (placed_from 0 ls)) ≡ without_trivia p.reading.annotated
+annotate_tree {ls = ls} p h =
     let f = without_trivia p.reading.annotated in
-    rw (significant_tree p, without_trivia_items p.reading.annotated (placed_from 0 ls) p.reading.leaves) (laid_same f (bare p h))
+    rw (significant_tree p, without_trivia_items p.reading.annotated (placed_from 0 ls) p.reading.leaves) (annotate_same f (error_free p h))
 
 -- and is a derivation exactly if there are no errors and no extensions and the pieces of its paths touch
 pub tree_exactly : {ls : List Lexeme} {tree : Tree} {faults : List Fault} → IsParsed ls tree faults
-    → ((faults ≡ []) × (has_no_corner NODE_ROOT (significant tree.children) ≡ true) × ArePaths (laid (significant tree.children) (items (placed_from 0 ls))) [])
+    → ((faults ≡ []) × (has_no_extension NODE_ROOT (significant tree.children) ≡ true) × ArePaths (annotate (significant tree.children) (items (placed_from 0 ls))) [])
     ↔ IsDerivation (significant tree.children) (items (placed_from 0 ls))
 tree_exactly {ls = ls} {tree = tree} {faults = faults} p = (there, back)
   where
-    there : (faults ≡ []) × (has_no_corner NODE_ROOT (significant tree.children) ≡ true) × ArePaths (laid (significant tree.children) (items (placed_from 0 ls))) []
+    there : (faults ≡ []) × (has_no_extension NODE_ROOT (significant tree.children) ≡ true) × ArePaths (annotate (significant tree.children) (items (placed_from 0 ls))) []
         → IsDerivation (significant tree.children) (items (placed_from 0 ls))
     there h =
-        let paths = subst (λ f. ArePaths f []) (laid_tree p h.0) h.2 in
-        let d = (p.exactly paths).0 (h.0, ap (has_no_corner NODE_ROOT) (sym (significant_tree p)) ∙ h.1) in
+        let paths = subst (λ f. ArePaths f []) (annotate_tree p h.0) h.2 in
+        let d = (p.exactly paths).0 (h.0, ap (has_no_extension NODE_ROOT) (sym (significant_tree p)) ∙ h.1) in
         subst (λ t. IsDerivation t (items (placed_from 0 ls))) (sym (tree_found p d.0 d.1).1) d.1
 
     back : IsDerivation (significant tree.children) (items (placed_from 0 ls))
-        → (faults ≡ []) × (has_no_corner NODE_ROOT (significant tree.children) ≡ true) × ArePaths (laid (significant tree.children) (items (placed_from 0 ls))) []
+        → (faults ≡ []) × (has_no_extension NODE_ROOT (significant tree.children) ≡ true) × ArePaths (annotate (significant tree.children) (items (placed_from 0 ls))) []
     back d =
         let t = significant tree.children in
-        ((tree_found p t d).0, (expression_fine d.strict).corner, d.joined)
+        ((tree_found p t d).0, (expression_fine d.strict).extension, d.joined)

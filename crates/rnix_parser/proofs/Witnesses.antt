@@ -2,7 +2,7 @@
 use Rattle.std.{proofs.Common.{◌≡◌, true, false, Bool, List, ℕ, refl, ap, sym, ◌∙◌}, specs.{Prelude.{codes, ◌&&◌}, Str.chars, Char.encode_utf8}}
 use Rattle.rnix_kinds.specs.Lexical.{Tokens.{tokens_of, normal_cut, cut_at, tokens_behind}, Texts.{space_len, begins_space, char_len}}
 use Rattle.{rnix_green.specs.{Equality.same_kind, Forest.{Forest, empty, leaf, node}, Tree.Tree}, rnix_grammar.specs.{Fault.Fault, AnnotatedForest.Token}}
-use Rattle.rnix_grammar.specs.{AnnotatedForest.{AnnotatedForest, forget, tokens_in, without_trivia, placed_from}, Layout.{items, with_trivia_whole}}
+use Rattle.rnix_grammar.specs.{AnnotatedForest.{AnnotatedForest, forget, tokens_in, without_trivia, placed_from}, Layout.{items, with_all_trivia}}
 use Rattle.{rnix_grammar.specs.{Reading.IsReading, Parsed.IsParsed}, rnix_lemmas.proofs.{Basics.true_is_not_false, ReportLemmas.without_trivia_tokens}}
 use Rattle.rnix_uniqueness.proofs.OnlyReading.{Case, Holds, IsMade, holds, trees_in, items_of}
 use Rattle.rnix_kinds.specs.declared.kinds.SyntaxKind.TheVariants as k
@@ -17,7 +17,7 @@ alike f g = false
 
 -- the trees of a text, with its trivia
 abbrev tree_of : Case → Forest
-tree_of c = forget (with_trivia_whole (trees_in c.right (items_of c)) (placed_from 0 (tokens_of c.text)))
+tree_of c = forget (with_all_trivia (trees_in c.right (items_of c)) (placed_from 0 (tokens_of c.text)))
 
 -- each reading of such a text has these trees
 read_as : (c : Case) → Holds c → (tree : Tree) (faults : List Fault) → IsReading (tokens_of c.text) tree faults → tree.children ≡ tree_of c
@@ -26,7 +26,7 @@ read_as c only tree faults r =
     let own : tokens_in (without_trivia r.annotated) ≡ items_of c = without_trivia_tokens r.annotated ∙ ap items r.leaves in
     let same : trees_in c.right (items_of c) ≡ without_trivia r.annotated =
     (only (without_trivia r.annotated) faults own r.reads).0 in
-    ap (λ (t : Tree). t.children) r.tree_is ∙ ap forget r.laid ∙ ap (λ (f : AnnotatedForest). forget (with_trivia_whole f ts)) (sym same)
+    ap (λ (t : Tree). t.children) r.tree_is ∙ ap forget r.placed ∙ ap (λ (f : AnnotatedForest). forget (with_all_trivia f ts)) (sym same)
 
 -- the tree below the root that is claimed of a text
 abbrev root : Forest → Tree

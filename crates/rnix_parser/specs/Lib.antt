@@ -1,3 +1,3 @@
 pub mod Significant
-pub mod Laws
+pub mod ReadingLaws
 pub mod ReadAlike

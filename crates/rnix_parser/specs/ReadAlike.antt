@@ -6,7 +6,7 @@ use Rattle.rnix_grammar.specs.Fault.{Fault}
 use Rattle.rnix_grammar.specs.AnnotatedForest.{Token, placed_from}
 use Rattle.rnix_grammar.specs.Layout.{items}
 use Rattle.rnix_grammar.specs.Reading.{IsReading}
-use Rattle.rnix_proof_layout.specs.Alike.{AreAlike, AreSameFaults}
+use Rattle.rnix_proof_layout.specs.AlikeItems.{AreAlike, AreSameFaults}
 use Rattle.rnix_parser.specs.Significant.{significant}
 
 -- the items of a text

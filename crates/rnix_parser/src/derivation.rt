@@ -5,14 +5,14 @@ ghost use Rattle.rnix_kinds.specs.declared.kinds.SyntaxKind.TheVariants.{NODE_RO
 ghost use Rattle.rnix_kinds.specs.Lexical.Tokens.{tokens_of};
 ghost use Rattle.rnix_green.specs.Forest.{Forest};
 ghost use Rattle.rnix_grammar.specs.AnnotatedForest.{placed_from};
-ghost use Rattle.rnix_grammar.specs.Corners.{has_no_corner};
-ghost use Rattle.rnix_grammar.specs.Derivation.{laid, IsDerivation};
+ghost use Rattle.rnix_grammar.specs.Extensions.{has_no_extension};
+ghost use Rattle.rnix_grammar.specs.Derivation.{annotate, IsDerivation};
 ghost use Rattle.rnix_grammar.specs.Grammar.{IsExpression};
 ghost use Rattle.rnix_grammar.specs.Layout.{items};
 ghost use Rattle.rnix_grammar.specs.Nest.{nest};
-ghost use Rattle.rnix_grammar.specs.Plain.{ArePaths};
+ghost use Rattle.rnix_grammar.specs.PathPieces.{ArePaths};
 ghost use Rattle.rnix_grammar.specs.Tables.{depth_limit};
-ghost use Rattle.rnix_parser.specs.Laws.{HaveOneDerivation, OfParsed};
+ghost use Rattle.rnix_parser.specs.ReadingLaws.{HaveOneDerivation, OfParsed};
 ghost use Rattle.rnix_parser.specs.Significant.{significant};
 
 /// A text has one derivation at most: two strict trees of its items, neither nested deeper than the limit, each path with all the pieces that
@@ -30,11 +30,11 @@ pub fn tree_derivation(text: &str)
     ensures found { OfParsed text.now (λ tree faults. (d : Forest) → IsDerivation d (items (placed_from 0 (tokens_of text.now)))
         → (faults ≡ []) × (significant tree.children ≡ d)) }
     ensures nested { OfParsed text.now (λ tree faults. faults ≡ [] → nest NODE_ROOT (significant tree.children) ≤ depth_limit) }
-    ensures strict { OfParsed text.now (λ tree faults. faults ≡ [] → has_no_corner NODE_ROOT (significant tree.children) ≡ true
+    ensures strict { OfParsed text.now (λ tree faults. faults ≡ [] → has_no_extension NODE_ROOT (significant tree.children) ≡ true
         → IsExpression (significant tree.children)) }
     ensures exactly { OfParsed text.now (λ tree faults.
-        ((faults ≡ []) × (has_no_corner NODE_ROOT (significant tree.children) ≡ true)
-        × ArePaths (laid (significant tree.children) (items (placed_from 0 (tokens_of text.now)))) [])
+        ((faults ≡ []) × (has_no_extension NODE_ROOT (significant tree.children) ≡ true)
+        × ArePaths (annotate (significant tree.children) (items (placed_from 0 (tokens_of text.now)))) [])
         ↔ IsDerivation (significant tree.children) (items (placed_from 0 (tokens_of text.now)))) }
 {
     let _len = text.len();

@@ -2,7 +2,7 @@
 
 ghost use Rattle.rnix_grammar.specs.Repaired.{others};
 ghost use Rattle.rnix_grammar.specs.Ranges.{of_nodes, error_nodes, at_fault, AreErrorsOf};
-ghost use Rattle.rnix_parser.specs.Laws.{OfParsed};
+ghost use Rattle.rnix_parser.specs.ReadingLaws.{OfParsed};
 
 /// The errors other than those of the end of the text are, one by one, those of the NODE_ERROR elements of the tree and of the NODE_PAT_ENTRY
 /// elements that have the name of one before them, in the order in which these close. An error that has a range has that of its NODE_ERROR, or

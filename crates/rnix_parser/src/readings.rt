@@ -14,7 +14,7 @@ ghost use Rattle.rnix_grammar.specs.Nesting.{depth_of, AreLimited};
 ghost use Rattle.rnix_grammar.specs.Reading.{IsReading};
 ghost use Rattle.rnix_grammar.specs.Parsed.{IsParsed};
 ghost use Rattle.rnix_parser.specs.ReadAlike.{AreReadAlike};
-ghost use Rattle.rnix_parser.specs.Laws.{OfRead, OfReadings, HaveOneReading, AreOneText};
+ghost use Rattle.rnix_parser.specs.ReadingLaws.{OfRead, OfReadings, HaveOneReading, AreOneText};
 
 /// Tokens have one reading at most: two trees with their errors that are readings of one list of tokens are equal.
 pub fn one_reading()

@@ -2,9 +2,9 @@
 use Rattle.std.{proofs.Common.{◌≡◌, ℕ, List, [], ◌∷◌, ◌++◌, Option, Some, None, refl, ap, sym, ◌∙◌, subst}, proofs.lemmas.List.append-nil}
 use Rattle.rnix_kinds.specs.declared.kinds.SyntaxKind.{SyntaxKind, TheVariants.NODE_ROOT}
 use Rattle.{rnix_green.specs.Range.Extent, rnix_grammar.specs.{Fault.Fault, AnnotatedForest.{Token, AnnotatedForest, blank, tokens_in, forget}}}
-use Rattle.rnix_grammar.specs.{declared.rules.Part.TheVariants.TextEnd, Rules.{done, ◌·◌, row}, Reads.ReadsWhole}
-use Rattle.{rnix_lemmas.proofs.KnownRows.known_row, rnix_proof_layout.specs.Alike.{AreAlike, AreSameFaults}}
-use Rattle.rnix_proof_layout.proofs.{Moved.{at, moved, moved_trees, tokens_moved, forget_moved}, Touch.Touching, JoinedRows.row_joins}
+use Rattle.rnix_grammar.specs.{declared.rules.Part.TheVariants.TextEnd, Rules.{done, ◌·◌, row}, Reads.ReadsRoot}
+use Rattle.{rnix_lemmas.proofs.ReachableRows.known_row, rnix_proof_layout.specs.AlikeItems.{AreAlike, AreSameFaults}}
+use Rattle.rnix_proof_layout.proofs.{MovedItems.{at, moved, moved_trees, tokens_moved, forget_moved}, Touch.Touching, JoinedRows.row_joins}
 use Rattle.rnix_proof_layout.proofs.MovedReadings.{moves, IsMoved}
 
 -- where some items stand
@@ -31,10 +31,10 @@ alike_touching prev n m (t ∷ ts) [] h = absurd h
 
 -- two readings of some items are one
 abbrev pub OneRow : Type 0
-OneRow = (f g : AnnotatedForest) (ds es : List Fault) → ReadsWhole f ds → ReadsWhole g es → tokens_in f ≡ tokens_in g → (f ≡ g) × (ds ≡ es)
+OneRow = (f g : AnnotatedForest) (ds es : List Fault) → ReadsRoot f ds → ReadsRoot g es → tokens_in f ≡ tokens_in g → (f ≡ g) × (ds ≡ es)
 
 -- so readings of items that are alike are one but for places
-pub alike_readings : (one : OneRow) (f g : AnnotatedForest) (ds es : List Fault) → ReadsWhole f ds → ReadsWhole g es
+pub alike_readings : (one : OneRow) (f g : AnnotatedForest) (ds es : List Fault) → ReadsRoot f ds → ReadsRoot g es
     → AreAlike None 0 0 (tokens_in f) (tokens_in g)
     → (forget f ≡ forget g) × AreSameFaults (tokens_in f) (tokens_in g) ds es
 alike_readings one f g ds es r s alike =

@@ -2,11 +2,11 @@
 use Rattle.std.proofs.Common.{◌≡◌, ℕ, true, false, List, [], ◌∷◌, ◌++◌, Option, Some, ap, sym, ◌∙◌, subst, ◌⊎◌, inl, inr}
 use Rattle.rnix_kinds.specs.declared.kinds.SyntaxKind.{SyntaxKind, TheVariants.{TOKEN_INTERPOL_START, TOKEN_INTERPOL_END, NODE_INTERPOL}}
 use Rattle.rnix_grammar.specs.{declared.rules.Part.TheVariants.{Child, Operand, Wanted}, Fault.{Fault}}
-use Rattle.rnix_grammar.specs.AnnotatedForest.{Token, Note, Stray, Unwanted, Extra, Twice, TooDeep, AnnotatedForest, tokens_in, leaf_kind, row_of}
+use Rattle.rnix_grammar.specs.AnnotatedForest.{Token, Note, Stray, Unwanted, Extra, DoubleBind, TooDeep, AnnotatedForest, tokens_in, leaf_kind, row_of}
 use Rattle.rnix_grammar.specs.Rules.{Row, done, ◌·◌, after, may_end}
 use Rattle.rnix_grammar.specs.Reads.{Reads, IsWrong, end, leaf, inner, missing_part, wrong, second}
-use Rattle.rnix_lemmas.proofs.{Basics.{true_is_not_false, none_right, some_same, Where, where_one}, EachKind.each_kind, RowKinds.has_row, KnownRows.is_live}
-use Rattle.rnix_lemmas.proofs.LiveRows.{reads_live, end_live, reads_row, past_ends}
+use Rattle.rnix_lemmas.proofs.{Basics.{true_is_not_false, none_right, some_same, Where, where_one}, EachKind.each_kind, RowKinds.has_row, ReachableRows.is_viable}
+use Rattle.rnix_lemmas.proofs.ViableRows.{reads_viable, end_viable, reads_row, past_ends}
 use Rattle.rnix_proof_layout.proofs.Touch.{last_kind, last_two}
 
 -- what is left of the row of an interpolation until it is closed
@@ -30,23 +30,23 @@ GoesOn r k = IsInside r ⊎ ((r ≡ done) × (k ≡ TOKEN_INTERPOL_END))
 dead : {A : Type 0} → false ≡ true → A
 dead h = absurd (true_is_not_false (sym h))
 
-goes_on : (q : Row) → IsInside q → (k : SyntaxKind) → is_live (after q k) ≡ true → GoesOn (after q k) k
+goes_on : (q : Row) → IsInside q → (k : SyntaxKind) → is_viable (after q k) ≡ true → GoesOn (after q k) k
 goes_on q at_start k l =
-    inl (where_one (is_live (after q k)) l (each_kind (λ k. Where (is_live (after q k)) (IsInside (after q k))) (assumption (at_operand)) k))
-goes_on q at_operand k l = inl (where_one (is_live (after q k)) l (each_kind (λ k. Where (is_live (after q k)) (IsInside (after q k))) (assumption (at_end)) k))
+    inl (where_one (is_viable (after q k)) l (each_kind (λ k. Where (is_viable (after q k)) (IsInside (after q k))) (assumption (at_operand)) k))
+goes_on q at_operand k l = inl (where_one (is_viable (after q k)) l (each_kind (λ k. Where (is_viable (after q k)) (IsInside (after q k))) (assumption (at_end)) k))
 goes_on q at_end k l =
-    inr (where_one (is_live (after q k)) l (each_kind (λ k. Where (is_live (after q k)) ((after q k ≡ done) × (k ≡ TOKEN_INTERPOL_END))) (assumption) k))
+    inr (where_one (is_viable (after q k)) l (each_kind (λ k. Where (is_viable (after q k)) ((after q k ≡ done) × (k ≡ TOKEN_INTERPOL_END))) (assumption) k))
 
 -- so does an error node
-wrong_inside : (q r : Row) → IsInside q → (note : Note) (d : ℕ) (ts us : List Token) → IsWrong note d q r ts us → is_live r ≡ true → IsInside r ⊎ (us ≡ [])
-wrong_inside q r at_start Stray d ts us w l = dead (ap is_live w.3 ∙ l)
+wrong_inside : (q r : Row) → IsInside q → (note : Note) (d : ℕ) (ts us : List Token) → IsWrong note d q r ts us → is_viable r ≡ true → IsInside r ⊎ (us ≡ [])
+wrong_inside q r at_start Stray d ts us w l = dead (ap is_viable w.3 ∙ l)
 wrong_inside q r at_operand Stray d ts us w l = inl (subst IsInside w.3 at_end)
-wrong_inside q r at_end Stray d ts us w l = dead (ap is_live w.3 ∙ l)
+wrong_inside q r at_end Stray d ts us w l = dead (ap is_viable w.3 ∙ l)
 wrong_inside q r at_start (Unwanted until) d ts us w l = absurd (cc)
 wrong_inside q r at_operand (Unwanted until) d ts us w l = absurd (cc)
 wrong_inside q r at_end (Unwanted until) d ts us w l = inl (subst IsInside (ap (λ z. z.1) (some_same _ _ w.2)) at_end)
 wrong_inside q r i Extra d ts us w l = inr w.1
-wrong_inside q r i Twice d ts us w l = absurd w
+wrong_inside q r i DoubleBind d ts us w l = absurd w
 wrong_inside q r i TooDeep d ts us w l = inr w.0
 
 -- what comes after one child or error node
@@ -61,13 +61,13 @@ closes end e at_start w = dead w
 closes end e at_operand w = dead w
 closes end e at_end w = dead w
 closes {p} {q = q} {s = s} {us = us} (leaf {t = t} {f = f} x o h) e i w =
-    either (after q (leaf_kind p t)) (t ∷ []) (tokens_in f) us (goes_on q i (leaf_kind p t) (reads_live h (end_live s w))) (λ j. closes h e j w)
-    (λ g. inr (λ prev. ap (λ f. last_kind (Some t.kind) (tokens_in f)) (past_ends h g.0 (end_live s w)).row ∙ ap Some (sym (ap (λ p. leaf_kind p t) e) ∙ g.1)))
+    either (after q (leaf_kind p t)) (t ∷ []) (tokens_in f) us (goes_on q i (leaf_kind p t) (reads_viable h (end_viable s w))) (λ j. closes h e j w)
+    (λ g. inr (λ prev. ap (λ f. last_kind (Some t.kind) (tokens_in f)) (past_ends h g.0 (end_viable s w)).row ∙ ap Some (sym (ap (λ p. leaf_kind p t) e) ∙ g.1)))
 closes {p} {q = q} {s = s} {us = us} (inner {k = k} {c = c} {f = f} o r v x z y h) e i w =
-    either (after q k) (tokens_in c) (tokens_in f) us (goes_on q i k (reads_live h (end_live s w))) (λ j. closes h e j w)
+    either (after q k) (tokens_in c) (tokens_in f) us (goes_on q i k (reads_viable h (end_viable s w))) (λ j. closes h e j w)
     (λ g. dead (sym (ap has_row g.1) ∙ reads_row r v.0))
 closes (missing_part u n m o h) e i w = inl u
 closes {d = d} {q = q} {s = s} {us = us} (wrong {r = r} {f = f} note ts x o v h) e i w =
-    either r (tokens_in (row_of ts)) (tokens_in f) us (wrong_inside q r i note d ts (tokens_in f ++ us) v (reads_live h (end_live s w))) (λ j. closes h e j w)
+    either r (tokens_in (row_of ts)) (tokens_in f) us (wrong_inside q r i note d ts (tokens_in f ++ us) v (reads_viable h (end_viable s w))) (λ j. closes h e j w)
     (λ g. inl (none_right (tokens_in f) us g))
 closes (second r o h) e i w = elim i [ ]

@@ -5,11 +5,11 @@ use Rattle.rnix_kinds.specs.declared.kinds.SyntaxKind.{SyntaxKind, TheVariants.{
 use Rattle.rnix_green.specs.Range.{Extent}
 use Rattle.rnix_grammar.specs.{Fault.{Fault, ended, ended_before, named_twice}, Repaired.is_ended}
 use Rattle.rnix_grammar.specs.Reports.{first_kind, report, repeats, entry_name, is_same_name, has_entry}
-use Rattle.rnix_grammar.specs.AnnotatedForest.{Token, Note, Stray, Unwanted, Extra, Twice, TooDeep, AnnotatedForest, blank, token, branch, fault, tokens_in}
+use Rattle.rnix_grammar.specs.AnnotatedForest.{Token, Note, Stray, Unwanted, Extra, DoubleBind, TooDeep, AnnotatedForest, blank, token, branch, fault, tokens_in}
 use Rattle.rnix_grammar.specs.AnnotatedForest.{extent_of}
 use Rattle.rnix_lemmas.proofs.Basics.{true_is_not_false}
-use Rattle.rnix_proof_layout.specs.Alike.{AreOfSameItems, IsSameFault, AreSameFaults}
-use Rattle.rnix_proof_layout.proofs.{Moved.{at, moved, past, later, moved_trees}, Bare.{bare, alike}}
+use Rattle.rnix_proof_layout.specs.AlikeItems.{AreOfSameItems, IsSameFault, AreSameFaults}
+use Rattle.rnix_proof_layout.proofs.{MovedItems.{at, moved, past, later, moved_trees}, Unplaced.{unplaced, alike}}
 
 -- the second of three lists of items
 middle : (a ts us : List Token) → take (length ts) (drop (length a) (a ++ (ts ++ us))) ≡ ts
@@ -42,7 +42,7 @@ pub report_same : (xs ys : List Token) (note : Note) (ts : List Token) (ps : Lis
 report_same xs ys Stray ts ps h = (first_moved ts ps, h, refl)
 report_same xs ys (Unwanted until) ts ps h = (first_moved ts ps, h, refl)
 report_same xs ys Extra ts ps h = h
-report_same xs ys Twice ts ps h = h
+report_same xs ys DoubleBind ts ps h = h
 report_same xs ys TooDeep ts ps h = tt
 
 -- the errors of the end of the text
@@ -60,7 +60,7 @@ same_append xs ys [] (e ∷ es) gs hs h g = absurd h
 same_append xs ys (d ∷ ds) [] gs hs h g = absurd h
 
 -- the names of the entries of a pattern do not depend on places
-name_same : (name : List ℕ) (c : AnnotatedForest) → is_same_name name (entry_name (bare c)) ≡ is_same_name name (entry_name c)
+name_same : (name : List ℕ) (c : AnnotatedForest) → is_same_name name (entry_name (unplaced c)) ≡ is_same_name name (entry_name c)
 name_same name blank = refl
 name_same name (token k t f) = refl
 name_same name (branch NODE_IDENT blank f) = refl
@@ -70,11 +70,11 @@ name_same name (branch NODE_IDENT (fault n d g) f) = refl
 name_same name (branch _ c f) = refl
 name_same name (fault n c f) = refl
 
-entry_same : (name : List ℕ) (x : AnnotatedForest) → has_entry name (bare x) ≡ has_entry name x
+entry_same : (name : List ℕ) (x : AnnotatedForest) → has_entry name (unplaced x) ≡ has_entry name x
 entry_same name blank = refl
 entry_same name (token k t f) = entry_same name f
 entry_same name (branch NODE_PAT_ENTRY c f) =
-    ap (λ w. if w then true else has_entry name (bare f)) (name_same name c)
+    ap (λ w. if w then true else has_entry name (unplaced f)) (name_same name c)
     ∙ ap (λ w. if is_same_name name (entry_name c) then true else w) (entry_same name f)
 entry_same name (branch _ c f) = entry_same name f
 entry_same name (fault n c f) = entry_same name f
@@ -87,7 +87,7 @@ one_if xs ys false false d e h g = tt
 one_if xs ys true false d e h g = absurd (true_is_not_false h)
 one_if xs ys false true d e h g = absurd (true_is_not_false (sym h))
 
-repeated_same : (ws a us : List Token) (qs : List Extent) (b b' c : AnnotatedForest) → bare b ≡ bare b' → ws ≡ a ++ (tokens_in c ++ us)
+repeated_same : (ws a us : List Token) (qs : List Extent) (b b' c : AnnotatedForest) → unplaced b ≡ unplaced b' → ws ≡ a ++ (tokens_in c ++ us)
     → AreSameFaults ws (moved ws qs) (repeats NODE_PAT_ENTRY b c) (repeats NODE_PAT_ENTRY b' (moved_trees c (past a qs)))
 repeated_same ws a us qs b b' (branch NODE_IDENT (token k t g) f) e h =
     one_if ws (moved ws qs) (has_entry t.text b) (has_entry t.text b') (named_twice (extent_of (t ∷ [])) t.text)
@@ -102,7 +102,7 @@ repeated_same ws a us qs b b' blank e h = tt
 repeated_same ws a us qs b b' (token k t f) e h = tt
 repeated_same ws a us qs b b' (fault n c f) e h = tt
 
-pub repeats_same : (ws a us : List Token) (qs : List Extent) (k : SyntaxKind) (b b' c : AnnotatedForest) → bare b ≡ bare b' → ws ≡ a ++ (tokens_in c ++ us)
+pub repeats_same : (ws a us : List Token) (qs : List Extent) (k : SyntaxKind) (b b' c : AnnotatedForest) → unplaced b ≡ unplaced b' → ws ≡ a ++ (tokens_in c ++ us)
     → AreSameFaults ws (moved ws qs) (repeats k b c) (repeats k b' (moved_trees c (past a qs)))
 repeats_same ws a us qs NODE_PAT_ENTRY b b' c e h = repeated_same ws a us qs b b' c e h
 repeats_same ws a us qs _ b b' c e h = tt

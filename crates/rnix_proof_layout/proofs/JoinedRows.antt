@@ -5,10 +5,10 @@ use Rattle.std.proofs.lemmas.Bool.{and_parts}
 use Rattle.rnix_kinds.specs.declared.kinds.SyntaxKind.{SyntaxKind, TheVariants.{NODE_IDENT, NODE_CUR_POS, NODE_INTERPOL, NODE_LITERAL, TOKEN_INTERPOL_END}}
 use Rattle.{rnix_kinds.proofs.AllKinds.{every, implied}, rnix_green.specs.Equality.{same_kind, same_kind-decides}}
 use Rattle.rnix_grammar.specs.{declared.rules.Part.TheVariants.{EndOr, PathPieces}, Fault.Fault, TokenKinds.{is_path_piece, is_piece_start}}
-use Rattle.rnix_grammar.specs.AnnotatedForest.{Token, Note, Stray, Unwanted, Extra, Twice, TooDeep, AnnotatedForest, tokens_in, leaf_kind, leaf_kind_as}
+use Rattle.rnix_grammar.specs.AnnotatedForest.{Token, Note, Stray, Unwanted, Extra, DoubleBind, TooDeep, AnnotatedForest, tokens_in, leaf_kind, leaf_kind_as}
 use Rattle.rnix_grammar.specs.{Rules.{Row, ◌·◌, row, after, may_end, run_at, opening, IsExpected}, Reads.{Reads, IsWrong}}
-use Rattle.rnix_lemmas.proofs.{Basics.{true_is_not_false, not_if}, RowKinds.has_row, KnownRows.{IsKnown, every_known}, LiveRows.reads_row}
-use Rattle.rnix_proof_layout.specs.Alike.{is_in_path}
+use Rattle.rnix_lemmas.proofs.{Basics.{true_is_not_false, not_if}, RowKinds.has_row, ReachableRows.{IsKnown, every_known}, ViableRows.reads_row}
+use Rattle.rnix_proof_layout.specs.AlikeItems.{is_in_path}
 use Rattle.rnix_proof_layout.proofs.{Touch.{asks_touch, Joins, last_kind}, Moves.joined, ClosedInterpolations.{IsInside, at_start, Closes, closes}}
 
 dead : {A : Type 0} → false ≡ true → A
@@ -107,5 +107,5 @@ wrong_joins q r Stray d ts us known v prev = literal_joins q r prev us known v.3
 wrong_joins {i} q r (Unwanted until) d ts us known v prev =
     no_joins r prev us (not_if (asks_touch r) (subst (λ w. no_touch w ≡ true) v.2 (every_known (λ i q. no_touch (run_at q)) (λ i. refl) refl i q known)))
 wrong_joins q r Extra d ts us known v prev = inl v.1
-wrong_joins q r Twice d ts us known v prev = absurd v
+wrong_joins q r DoubleBind d ts us known v prev = absurd v
 wrong_joins q r TooDeep d ts us known v prev = inl v.0

@@ -1,5 +1,5 @@
-pub mod Moved
-pub mod Bare
+pub mod MovedItems
+pub mod Unplaced
 pub mod Touch
 pub mod Moves
 pub mod ClosedInterpolations
@@ -7,4 +7,4 @@ pub mod Faults
 pub mod JoinedRows
 pub mod MovedReadings
 pub mod AlikeReadings
-pub mod AlikeExamples
+pub mod AlikeItemExamples

@@ -2,15 +2,15 @@
 use Rattle.std.proofs.Common.{◌≡◌, ℕ, true, false, List, [], ◌∷◌, ◌++◌, Option, Some, refl, ap, sym, ◌∙◌, subst, inl, append_assoc}
 use Rattle.rnix_kinds.specs.declared.kinds.SyntaxKind.{SyntaxKind, TheVariants.NODE_ERROR}
 use Rattle.{rnix_green.specs.Range.Extent, rnix_grammar.specs.{Fault.Fault, Reports.{report, repeats}}}
-use Rattle.rnix_grammar.specs.AnnotatedForest.{Token, Note, Twice, AnnotatedForest, blank, token, branch, fault, ◌⊕◌, one_token, one_branch, one_fault, row_of}
+use Rattle.rnix_grammar.specs.AnnotatedForest.{Token, Note, DoubleBind, AnnotatedForest, blank, token, branch, fault, ◌⊕◌, one_token, one_branch, one_fault, row_of}
 use Rattle.rnix_grammar.specs.AnnotatedForest.{tokens_in, leaf_kind, head_kind, end_from}
-use Rattle.rnix_grammar.specs.Rules.{Row, done, row, second_name, after, IsExpected, stands_expected, level_at, IsFollowed}
+use Rattle.rnix_grammar.specs.Rules.{Row, done, row, second_name, after, IsExpected, is_first_expected, level_at, IsFollowed}
 use Rattle.rnix_grammar.specs.{Beginnings.IsOperandOf, Reads.{Reads, IsOver, IsWrong, deeper, end, leaf, inner, missing_part, wrong, second}}
 use Rattle.rnix_lemmas.proofs.{AnnotatedForestLemmas.tokens_in-row_of}
-use Rattle.rnix_lemmas.proofs.{KnownRows.{IsKnown, known_row, known_second, known_after, known_missing, known_past, known_wrong}, MissingFacts.missing_ended}
-use Rattle.rnix_proof_layout.specs.Alike.{AreSameFaults, IsSameFault}
-use Rattle.rnix_proof_layout.proofs.Moved.{at, moved, past, later, moved_trees, moved_two, past_two, tokens_moved, tokens_after, row_moved, head_moved}
-use Rattle.rnix_proof_layout.proofs.Bare.{bare, bare-⊕, bare_moved, alike, stands_same, followed_same}
+use Rattle.rnix_lemmas.proofs.{ReachableRows.{IsKnown, known_row, known_second, known_after, known_missing, known_past, known_wrong}, MissingFacts.missing_ended}
+use Rattle.rnix_proof_layout.specs.AlikeItems.{AreSameFaults, IsSameFault}
+use Rattle.rnix_proof_layout.proofs.MovedItems.{at, moved, past, later, moved_trees, moved_two, past_two, tokens_moved, tokens_after, row_moved, head_moved}
+use Rattle.rnix_proof_layout.proofs.Unplaced.{unplaced, bare-⊕, unplaced_moved, alike, first_expected_same, followed_same}
 use Rattle.rnix_proof_layout.proofs.Touch.{Touching, Joins, last_kind, last_two, touching_after, expected_same}
 use Rattle.rnix_proof_layout.proofs.{Moves.{operand_at, wrong_same}, Faults.{same_here, report_same, ended_same, same_append, repeats_same}}
 use Rattle.rnix_proof_layout.proofs.JoinedRows.{no_joins, row_joins, leaf_joins, node_joins, wrong_joins}
@@ -24,8 +24,8 @@ pub record IsMoved (ws : List Token) (qs ps : List Extent) (p : SyntaxKind) (d m
   pub same : AreSameFaults ws (moved ws qs) es faults
   pub joins : Joins q' (last_kind prev (tokens_in f)) us
 
-bare_next : (b c x y : AnnotatedForest) → bare b ≡ bare c → bare x ≡ bare y → bare (b ⊕ x) ≡ bare (c ⊕ y)
-bare_next b c x y e h = bare-⊕ b x ∙ ap (λ z. z ⊕ bare x) e ∙ ap (λ z. bare c ⊕ z) h ∙ sym (bare-⊕ c y)
+unplaced_next : (b c x y : AnnotatedForest) → unplaced b ≡ unplaced c → unplaced x ≡ unplaced y → unplaced (b ⊕ x) ≡ unplaced (c ⊕ y)
+unplaced_next b c x y e h = bare-⊕ b x ∙ ap (λ z. z ⊕ unplaced x) e ∙ ap (λ z. unplaced c ⊕ z) h ∙ sym (bare-⊕ c y)
 
 -- the places of what follows some items
 places_after : (a xs : List Token) (ps qs : List Extent) → ps ≡ past a qs → past xs ps ≡ past (a ++ xs) qs
@@ -33,7 +33,7 @@ places_after a xs ps qs e = ap (past xs) e ∙ sym (past_two a xs qs)
 
 -- an item
 moved_leaf : {p : SyntaxKind} {d m : ℕ} {q q' : Row} {c : AnnotatedForest} {us : List Token} {t : Token} {f : AnnotatedForest} {es : List Fault}
-    (ws : List Token) (qs ps : List Extent) (prev : Option SyntaxKind) (n : ℕ) (b : AnnotatedForest) → bare b ≡ bare c → Joins q prev (t ∷ (tokens_in f ++ us))
+    (ws : List Token) (qs ps : List Extent) (prev : Option SyntaxKind) (n : ℕ) (b : AnnotatedForest) → unplaced b ≡ unplaced c → Joins q prev (t ∷ (tokens_in f ++ us))
     → Touching prev n m (t ∷ (tokens_in f ++ us)) ps → IsExpected q n (t ∷ (tokens_in f ++ us)) true
     → IsFollowed q b (Some (leaf_kind p t))
     → IsMoved ws qs (later ps) p d (at t ps).end (after q (leaf_kind p t)) q' (Some t.kind) (c ⊕ one_token (leaf_kind p t) (at t ps)) us f es
@@ -99,14 +99,14 @@ wrong_places {p} {d} {m} {q} {q'} {b} {es} note ts f us ps h =
 
 pub moves : {p : SyntaxKind} {d n : ℕ} {q q' : Row} {b : AnnotatedForest} {us : List Token} {f : AnnotatedForest} {es : List Fault}
     → Reads p d n q q' b us f es → (ws : List Token) (qs : List Extent) → IsKnown p q
-    → (prev : Option SyntaxKind) (m : ℕ) (b' : AnnotatedForest) (a : List Token) (ps : List Extent) → bare b ≡ bare b' → ws ≡ a ++ (tokens_in f ++ us)
+    → (prev : Option SyntaxKind) (m : ℕ) (b' : AnnotatedForest) (a : List Token) (ps : List Extent) → unplaced b ≡ unplaced b' → ws ≡ a ++ (tokens_in f ++ us)
     → ps ≡ past a qs
     → Joins q prev (tokens_in f ++ us) → Touching prev n m (tokens_in f ++ us) ps → IsMoved ws qs ps p d m q q' prev b' us f es
 moves end ws qs known prev m b' a ps e ew eps j touch = record { faults = []; reads = end; same = tt; joins = j }
 moves {p} {d} {n} {q} {q'} {b} {us} (leaf {t = t} {f = f} x w h) ws qs known prev m b' a ps e ew eps j touch =
     moved_leaf ws qs ps prev n b e j touch x w
     (moves h ws qs (known_after (leaf_kind p t) known) (Some t.kind) (at t ps).end (b' ⊕ one_token (leaf_kind p t) (at t ps)) (a ++ (t ∷ [])) (later ps)
-    (bare_next b b' (one_token (leaf_kind p t) t) (one_token (leaf_kind p t) (at t ps)) e refl) (ew ∙ sym (append_assoc a (t ∷ []) (tokens_in f ++ us)))
+    (unplaced_next b b' (one_token (leaf_kind p t) t) (one_token (leaf_kind p t) (at t ps)) e refl) (ew ∙ sym (append_assoc a (t ∷ []) (tokens_in f ++ us)))
     (places_after a (t ∷ []) ps qs eps) (leaf_joins known n t (tokens_in f ++ us) (tokens_in f ++ us) x) touch.1)
 moves {p} {d} {n} {q} {q'} {b} {us} (inner {k = k} {s = s} {c = c} {f = f} {ds = ds} {es = es} room hr over x w op h) ws qs
     known prev m b' a ps e ew eps j touch =
@@ -124,7 +124,7 @@ moves {p} {d} {n} {q} {q'} {b} {us} (inner {k = k} {s = s} {c = c} {f = f} {ds =
     (b' ⊕ one_branch k c') us f es =
     moves h ws qs (known_after k known) (last_kind prev (tokens_in c)) (end_from m (tokens_in c')) (b' ⊕ one_branch k c')
     (a ++ tokens_in c) (past (tokens_in c) ps)
-    (bare_next b b' (one_branch k c) (one_branch k c') e (ap (λ z. branch k z blank) (sym (bare_moved c ps)))) (ew' ∙ sym (append_assoc a (tokens_in c) rest))
+    (unplaced_next b b' (one_branch k c) (one_branch k c') e (ap (λ z. branch k z blank) (sym (unplaced_moved c ps)))) (ew' ∙ sym (append_assoc a (tokens_in c) rest))
     (places_after a (tokens_in c) ps qs eps) (node_joins known hr over.0 prev) touch1 in
     let repeated : AreSameFaults ws (moved ws qs) (repeats k b c) (repeats k b' c') =
     subst (λ z. AreSameFaults ws (moved ws qs) (repeats k b c) (repeats k b' (moved_trees c z))) (sym eps) (repeats_same ws a rest qs k b b' c e ew') in
@@ -135,9 +135,9 @@ moves {p} {d} {n} {q} {q'} {b} {us} (inner {k = k} {s = s} {c = c} {f = f} {ds =
           (subst (λ z. Reads k (deeper q d) m (row k) s blank z c' below.faults) (tokens_after f us (past (tokens_in c) ps)) below.reads)
           (over_same s (last_kind prev (tokens_in c)) (end_from n (tokens_in c)) (end_from m (tokens_in c')) us f (past (tokens_in c) ps)
           below.joins touch1 over)
-          (subst (λ z. IsExpected q m z (stands_expected q k c')) (both_after c f us ps)
-          (subst (λ v. IsExpected q m (moved (tokens_in c ++ rest) ps) v) (alike (stands_expected q k) (stands_same q k) c c' (sym (bare_moved c ps)))
-          (expected_same q prev n m (tokens_in c ++ rest) ps (stands_expected q k c) j' touch' x)))
+          (subst (λ z. IsExpected q m z (is_first_expected q k c')) (both_after c f us ps)
+          (subst (λ v. IsExpected q m (moved (tokens_in c ++ rest) ps) v) (alike (is_first_expected q k) (first_expected_same q k) c c' (sym (unplaced_moved c ps)))
+          (expected_same q prev n m (tokens_in c ++ rest) ps (is_first_expected q k c) j' touch' x)))
           (subst (IsFollowed q b') (sym (head_moved (tokens_in c ++ rest) ps) ∙ ap head_kind (both_after c f us ps))
           (followed_same q b b' (head_kind (tokens_in c ++ rest)) e w))
           (operand_moved q k c f us ps op) next.reads);
@@ -163,8 +163,8 @@ moves {p} {d} {n} {q} {q'} {b} {us} (wrong {r = r} {f = f} {es = es} note ts x w
     let next : IsMoved ws qs (past ts ps) p d (end_from m (moved ts ps)) r q' (last_kind prev ts) (b' ⊕ one_fault note (row_of (moved ts ps))) us f es =
     moves h ws qs (known_wrong note d ts rest v known) (last_kind prev ts) (end_from m (moved ts ps)) (b' ⊕ one_fault note (row_of (moved ts ps)))
     (a ++ ts) (past ts ps)
-    (bare_next b b' (one_fault note (row_of ts)) (one_fault note (row_of (moved ts ps))) e
-    (ap (λ z. fault note z blank) (sym (bare_moved (row_of ts) ps) ∙ ap bare (row_moved ts ps))))
+    (unplaced_next b b' (one_fault note (row_of ts)) (one_fault note (row_of (moved ts ps))) e
+    (ap (λ z. fault note z blank) (sym (unplaced_moved (row_of ts) ps) ∙ ap unplaced (row_moved ts ps))))
     (ew' ∙ sym (append_assoc a ts rest)) (places_after a ts ps qs eps) (wrong_joins q r note d ts rest known v (last_kind prev ts))
     (touching_after prev n m ts rest ps touch') in
     let ranges : IsSameFault ws (moved ws qs) (report note ts) (report note (moved ts ps)) =
@@ -194,24 +194,24 @@ moves {p = p} {d = d} {n = n} {q' = q'} {b = b} {us = us} (second {s = s} {c = c
     touching_node prev n m c rest ps touch' in
     let below : IsMoved ws qs ps NODE_ERROR d m second_name s prev blank rest c ds =
     moves hr ws qs known_second prev m blank a ps refl ew' eps (no_joins second_name prev (tokens_in c ++ rest) refl) touch' in
-    let next : IsMoved ws qs (past (tokens_in c) ps) p d (end_from m (tokens_in c')) done q' (last_kind prev (tokens_in c)) (b' ⊕ one_fault Twice c') us f es =
-    moves h ws qs (known_past known) (last_kind prev (tokens_in c)) (end_from m (tokens_in c')) (b' ⊕ one_fault Twice c')
+    let next : IsMoved ws qs (past (tokens_in c) ps) p d (end_from m (tokens_in c')) done q' (last_kind prev (tokens_in c)) (b' ⊕ one_fault DoubleBind c') us f es =
+    moves h ws qs (known_past known) (last_kind prev (tokens_in c)) (end_from m (tokens_in c')) (b' ⊕ one_fault DoubleBind c')
     (a ++ tokens_in c) (past (tokens_in c) ps)
-    (bare_next b b' (one_fault Twice c) (one_fault Twice c') e (ap (λ z. fault Twice z blank) (sym (bare_moved c ps))))
+    (unplaced_next b b' (one_fault DoubleBind c) (one_fault DoubleBind c') e (ap (λ z. fault DoubleBind z blank) (sym (unplaced_moved c ps))))
     (ew' ∙ sym (append_assoc a (tokens_in c) rest))
     (places_after a (tokens_in c) ps qs eps) (no_joins done (last_kind prev (tokens_in c)) rest refl) touch1 in
-    let ranges : IsSameFault ws (moved ws qs) (report Twice (tokens_in c)) (report Twice (tokens_in c')) =
-    subst (λ z. IsSameFault ws (moved ws qs) (report Twice (tokens_in c)) (report Twice z)) (sym (tokens_moved c ps))
-    (subst (λ z. IsSameFault ws (moved ws qs) (report Twice (tokens_in c)) (report Twice (moved (tokens_in c) z))) (sym eps)
-    (report_same ws (moved ws qs) Twice (tokens_in c) (past a qs) (same_here ws a (tokens_in c) rest qs ew'))) in
+    let ranges : IsSameFault ws (moved ws qs) (report DoubleBind (tokens_in c)) (report DoubleBind (tokens_in c')) =
+    subst (λ z. IsSameFault ws (moved ws qs) (report DoubleBind (tokens_in c)) (report DoubleBind z)) (sym (tokens_moved c ps))
+    (subst (λ z. IsSameFault ws (moved ws qs) (report DoubleBind (tokens_in c)) (report DoubleBind (moved (tokens_in c) z))) (sym eps)
+    (report_same ws (moved ws qs) DoubleBind (tokens_in c) (past a qs) (same_here ws a (tokens_in c) rest qs ew'))) in
     record {
-      faults = (below.faults ++ report Twice (tokens_in c') ∷ []) ++ next.faults;
+      faults = (below.faults ++ report DoubleBind (tokens_in c') ∷ []) ++ next.faults;
       reads = rest_places us (tokens_in c) (tokens_in f) ps
           (second
           (subst (λ z. Reads NODE_ERROR d m second_name s blank z c' below.faults) (tokens_after f us (past (tokens_in c) ps)) below.reads)
           (over_same s (last_kind prev (tokens_in c)) (end_from n (tokens_in c)) (end_from m (tokens_in c')) us f (past (tokens_in c) ps) below.joins touch1
           over) next.reads);
-      same = same_append ws (moved ws qs) (ds ++ report Twice (tokens_in c) ∷ []) (below.faults ++ report Twice (tokens_in c') ∷ []) es next.faults
-          (same_append ws (moved ws qs) ds below.faults (report Twice (tokens_in c) ∷ []) (report Twice (tokens_in c') ∷ []) below.same (ranges, tt)) next.same;
+      same = same_append ws (moved ws qs) (ds ++ report DoubleBind (tokens_in c) ∷ []) (below.faults ++ report DoubleBind (tokens_in c') ∷ []) es next.faults
+          (same_append ws (moved ws qs) ds below.faults (report DoubleBind (tokens_in c) ∷ []) (report DoubleBind (tokens_in c') ∷ []) below.same (ranges, tt)) next.same;
       joins = rest_joins q' prev (tokens_in c) (tokens_in f) us next.joins;
     }

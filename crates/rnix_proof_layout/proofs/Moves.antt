@@ -3,8 +3,8 @@ use Rattle.std.proofs.Common.{◌≡◌, ℕ, ◌≤◌, Bool, true, List, [], �
 use Rattle.std.proofs.Common.{◌&&◌, ◌||◌, nat_le}
 use Rattle.rnix_kinds.specs.declared.kinds.SyntaxKind.{SyntaxKind, TheVariants.{NODE_INTERPOL}}
 use Rattle.rnix_green.specs.Range.{Extent}
-use Rattle.rnix_grammar.specs.{Missing.run_of}
-use Rattle.rnix_grammar.specs.AnnotatedForest.{Token, Note, Stray, Unwanted, Extra, Twice, TooDeep, AnnotatedForest, blank}
+use Rattle.rnix_grammar.specs.{UnwantedRun.run_of}
+use Rattle.rnix_grammar.specs.AnnotatedForest.{Token, Note, Stray, Unwanted, Extra, DoubleBind, TooDeep, AnnotatedForest, blank}
 use Rattle.rnix_grammar.specs.AnnotatedForest.{one_fault}
 use Rattle.rnix_grammar.specs.{AnnotatedForest.{row_of, tokens_in, head_kind}, Beginnings.{first_kind, BeginsAs, IsOperandOf}}
 use Rattle.rnix_grammar.specs.{Operands.{first_tree, follows, goes_on}, TreeLevels.row_level}
@@ -13,18 +13,18 @@ use Rattle.rnix_grammar.specs.{Begins.second_kind, Levels.binding_power}
 use Rattle.rnix_grammar.specs.Reads.{IsWrong}
 use Rattle.{std.specs.List.list_all, rnix_kinds.proofs.AllKinds.{all_kinds, every}, rnix_green.specs.Equality.same_kind}
 use Rattle.{rnix_grammar.specs.TokenKinds.is_path_piece}
-use Rattle.rnix_lemmas.proofs.{KnownRows.{IsKnown, every_known}}
-use Rattle.rnix_proof_layout.proofs.Moved.{moved, past, later, moved_trees, moved_two, tokens_after, row_moved, head_moved, second_moved}
-use Rattle.rnix_proof_layout.proofs.Moved.{length_moved, some_moved, run_moved}
-use Rattle.rnix_proof_layout.proofs.Bare.{bare, bare_moved, alike, row_level_same, first_same, follows_same, asked_same}
+use Rattle.rnix_lemmas.proofs.{ReachableRows.{IsKnown, every_known}}
+use Rattle.rnix_proof_layout.proofs.MovedItems.{moved, past, later, moved_trees, moved_two, tokens_after, row_moved, head_moved, second_moved}
+use Rattle.rnix_proof_layout.proofs.MovedItems.{length_moved, some_moved, run_moved}
+use Rattle.rnix_proof_layout.proofs.Unplaced.{unplaced, unplaced_moved, alike, row_level_same, first_same, follows_same, asked_same}
 use Rattle.rnix_proof_layout.proofs.Touch.{asks_touch}
 
 -- the next item goes on with a tree, at other places
-goes_same : (level : ℕ) (x y : AnnotatedForest) (ts : List Token) (ps : List Extent) → bare x ≡ bare y → goes_on level x ts ≡ goes_on level y (moved ts ps)
+goes_same : (level : ℕ) (x y : AnnotatedForest) (ts : List Token) (ps : List Extent) → unplaced x ≡ unplaced y → goes_on level x ts ≡ goes_on level y (moved ts ps)
 goes_same level x y [] ps e = refl
 goes_same level x y (t ∷ ts) ps e = ap (λ w. w && nat_le level (binding_power t.kind)) (alike (follows t.kind) (follows_same t.kind) x y e)
 
-begins_same : (level : ℕ) (x y : AnnotatedForest) (ts : List Token) (ps : List Extent) → bare x ≡ bare y → BeginsAs level x ts → BeginsAs level y (moved ts ps)
+begins_same : (level : ℕ) (x y : AnnotatedForest) (ts : List Token) (ps : List Extent) → unplaced x ≡ unplaced y → BeginsAs level x ts → BeginsAs level y (moved ts ps)
 begins_same level x y [] ps e h = h
 begins_same level x y (t ∷ ts) ps e h =
     ap (λ next. first_kind level t.kind t.text next (second_kind (moved ts (later ps)))) (head_moved ts (later ps))
@@ -35,10 +35,10 @@ operand_same : (asked : Option ℕ) (x : AnnotatedForest) (us : List Token) (ps 
     → IsOperandOf asked (moved_trees x ps) (moved us (past (tokens_in x) ps))
 operand_same None x us ps h = tt
 operand_same (Some level) x us ps h = (
-  subst (λ n. level ≤ n) (alike row_level row_level_same x (moved_trees x ps) (sym (bare_moved x ps))) h.0,
+  subst (λ n. level ≤ n) (alike row_level row_level_same x (moved_trees x ps) (sym (unplaced_moved x ps))) h.0,
   subst (BeginsAs level (moved_trees x ps)) (tokens_after x us ps)
-      (begins_same level x (moved_trees x ps) (tokens_in x ++ us) ps (sym (bare_moved x ps)) h.1),
-  sym (goes_same level x (moved_trees x ps) us (past (tokens_in x) ps) (sym (bare_moved x ps))) ∙ h.2,
+      (begins_same level x (moved_trees x ps) (tokens_in x ++ us) ps (sym (unplaced_moved x ps)) h.1),
+  sym (goes_same level x (moved_trees x ps) us (past (tokens_in x) ps) (sym (unplaced_moved x ps))) ∙ h.2,
 )
 
 -- at a place of a row
@@ -46,7 +46,7 @@ pub operand_at : (q : Row) (x : AnnotatedForest) (us : List Token) (ps : List Ex
     → IsOperandOf (level_at q (moved_trees x ps)) (moved_trees x ps) (moved us (past (tokens_in x) ps))
 operand_at q x us ps h =
     subst (λ asked. IsOperandOf asked (moved_trees x ps) (moved us (past (tokens_in x) ps)))
-    (alike (level_at q) (asked_same q) x (moved_trees x ps) (sym (bare_moved x ps)))
+    (alike (level_at q) (asked_same q) x (moved_trees x ps) (sym (unplaced_moved x ps)))
     (operand_same (level_at q x) x us ps h)
 
 -- an error node
@@ -67,7 +67,7 @@ wrong_same Stray d q r ts us ps h = (
 wrong_same (Unwanted until) d q r ts us ps h =
     (some_moved ts ps ∙ h.0, ap (λ xs. moved xs ps) h.1 ∙ sym (run_moved until (ts ++ us) ps) ∙ ap (run_of until) (moved_two ts us ps), h.2)
 wrong_same Extra d q r ts us ps h = (some_moved ts ps ∙ h.0, ap (λ xs. moved xs (past ts ps)) h.1, h.2, h.3)
-wrong_same Twice d q r ts us ps h = absurd h
+wrong_same DoubleBind d q r ts us ps h = absurd h
 wrong_same TooDeep d q r ts us ps h = (ap (λ xs. moved xs (past ts ps)) h.0, h.1, h.2, h.3)
 
 -- a row where it counts whether an item touches begins after an item of a path, or after an interpolation

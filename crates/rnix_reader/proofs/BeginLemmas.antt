@@ -1,10 +1,10 @@
 -- How operands begin.
 use Rattle.{std.proofs.Common.{◌≡◌, ℕ, List, Option, None, refl, ap, if◌then◌else◌}, rnix_kinds.specs.declared.kinds.SyntaxKind.SyntaxKind}
 use Rattle.{rnix_kinds.specs.declared.kinds.SyntaxKind.TheVariants.TOKEN_IDENT, rnix_grammar.specs.Begins.begin_of, rnix_reader.specs.State.{State, eaten}}
-use Rattle.rnix_reader.specs.{State.{started_at, ended}, Steps.{leafed, looks_behind, is_brace}}
+use Rattle.rnix_reader.specs.{State.{started_at, ended}, Steps.{leaf_node_made, looks_behind, is_brace}}
 
 -- a leaf's node leaves what is open
-pub leaf_nodes : (k : SyntaxKind) (s s' : State) → s' ≡ leafed k s → s'.open_nodes ≡ s.open_nodes
+pub leaf_nodes : (k : SyntaxKind) (s s' : State) → s' ≡ leaf_node_made k s → s'.open_nodes ≡ s.open_nodes
 unfolding ended started_at eaten
 leaf_nodes k s s' e = ap (λ x. x.open_nodes) e
 

@@ -2,25 +2,25 @@
 use Rattle.std.proofs.Common.{◌≡◌, ℕ, true, List, [], ◌∷◌, ◌++◌, map, refl, ap, sym, ◌∙◌, subst}
 use Rattle.{rnix_kinds.specs.{declared.kinds.SyntaxKind.TheVariants.NODE_ROOT, Lexical.Tokens.Lexeme}, rnix_green.specs.Forest.{Forest, empty, node}}
 use Rattle.rnix_green.specs.{Forest.tree_count, Draft.{Draft, blank, node_opened}, Tree.{Tree, forest_of}}
-use Rattle.rnix_grammar.specs.{declared.{error.ParseError.ParseError, position.TheConstants.ROOT}, Fault.{Fault, fault_of}, Layout.items, Document.IsRead}
-use Rattle.rnix_grammar.specs.{AnnotatedForest.{Token, placed_from, forget, head_kind}, Machine.{Frame, Machine, machine, begins, ate, Runs}, Sorts.{sort_of, StandsOn}, Allowed.Allowed}
-use Rattle.{rnix_lemmas.proofs.PlaceLemmas.{head_root, root_alone}, rnix_reader.specs.{declared.mark.Mark.Mark, State.{State, marked}, Flat.{flat, mark_at}, Holds.{IsReadTo, IsThrough}}}
-use Rattle.rnix_reader.proofs.{SortLemmas.head_sort, StateLemmas.state_is, RunLemmas.no_items}
-use Rattle.rnix_grammar.specs.declared.place.Place.TheVariants as p
+use Rattle.rnix_grammar.specs.{declared.{error.ParseError.ParseError, slot_table.TheConstants.ROOT}, Fault.{Fault, fault_of}, Layout.items, Document.IsRead}
+use Rattle.rnix_grammar.specs.{AnnotatedForest.{Token, placed_from, forget, head_kind}, Machine.{Frame, Machine, machine, begins, with_leading, Runs}, FrameKinds.{frame_kind, IsStackedOn}, Allowed.Allowed}
+use Rattle.{rnix_lemmas.proofs.StackedFrames.{head_root, root_alone}, rnix_reader.specs.{declared.mark.Mark.Mark, State.{State, pushed}, Erase.{erase, mark_at}, Holds.{IsReadTo, IsThrough}}}
+use Rattle.rnix_reader.proofs.{FrameKindLemmas.head_sort, StateLemmas.state_is, SkippedRuns.no_items}
+use Rattle.rnix_grammar.specs.declared.position.Position.TheVariants as p
 use Rattle.rnix_grammar.specs.declared.action.Action.TheVariants as a
 
 -- the root is open, and nothing is read
 pub opened_root : (r : List Token) (b b0 : Draft) (errors : List ParseError) (marks : List Mark) (at : ℕ) (s : State) → b0 ≡ blank → b ≡ node_opened NODE_ROOT (tree_count b0.finished) b0
     → errors ≡ [] → marks ≡ [] → at ≡ tree_count b0.finished
-    → s ≡ marked (mark_at (p.Left ROOT) 0 at) record { rest = r; trees = b.finished; open_nodes = b.open_nodes; faults = map fault_of errors; reached = 0; marks = marks }
-    → s ≡ flat (begins s.rest)
-unfolding marked
+    → s ≡ pushed (mark_at (p.Left ROOT) 0 at) record { rest = r; trees = b.finished; open_nodes = b.open_nodes; faults = map fault_of errors; prev_end = 0; marks = marks }
+    → s ≡ erase (begins s.rest)
+unfolding pushed
 opened_root r b b0 errors marks at s e0 e1 e2 e3 e4 e =
     let builder : b ≡ node_opened NODE_ROOT 0 blank = e1 ∙ ap (λ x. node_opened NODE_ROOT (tree_count x.finished) x) e0 in
-    let first : s ≡ flat (begins r) =
+    let first : s ≡ erase (begins r) =
     e ∙ state_is refl (ap (λ x. x.finished) builder) (ap (λ x. x.open_nodes) builder) (ap (map fault_of) e2) refl
     (ap (λ x. x ++ mark_at (p.Left ROOT) 0 at ∷ []) e3 ∙ ap (λ x. mark_at (p.Left ROOT) 0 x ∷ []) (e4 ∙ ap (λ x. tree_count x.finished) e0)) in
-    first ∙ ap (λ x. flat (begins x)) (sym (ap (λ x. x.rest) first))
+    first ∙ ap (λ x. erase (begins x)) (sym (ap (λ x. x.rest) first))
 
 tree_is_node : (t : Tree) (f : Forest) → forest_of t ≡ node NODE_ROOT f empty → t ≡ record { kind = NODE_ROOT; children = f }
 tree_is_node t f e =
@@ -30,27 +30,27 @@ tree_is_node t f e =
 
 -- at the end of the text the root alone is open
 abbrev pub root_through : {from : Machine} (f : Frame) (fs : List Frame) (ts : List Token) (n : ℕ) (es : List Fault) → Runs true from (machine (f ∷ fs) ts n es)
-    → StandsOn f.head f.place fs → Allowed f.place (head_kind (items ts)) a.Finish → IsThrough from
+    → IsStackedOn f.head f.position fs → Allowed f.position (head_kind (items ts)) a.Finish → IsThrough from
 root_through f fs ts n es runs fit ends = record {
   last = machine (f ∷ fs) ts n es;
   runs = runs;
   root = f;
-  alone = ap (λ x. f ∷ x) (root_alone f.head f.place fs fit (ap sort_of ends.0));
-  head = head_root f.head (head_sort f.head f.place fs fit ∙ ap sort_of ends.0);
-  place = ends.0;
+  alone = ap (λ x. f ∷ x) (root_alone f.head f.position fs fit (ap frame_kind ends.0));
+  head = head_root f.head (head_sort f.head f.position fs fit ∙ ap frame_kind ends.0);
+  position = ends.0;
   nothing = no_items (items ts) ends.1;
 }
 
 -- where the text is read its tree and its errors are as promised
 pub read_of : (ls : List Lexeme) (t : IsThrough (begins (placed_from 0 ls))) (tree : Tree) (faults : List Fault)
-    → tree ≡ record { kind = NODE_ROOT; children = forget (ate true t.root.row t.last.left) } → faults ≡ t.last.faults → IsRead ls tree faults
+    → tree ≡ record { kind = NODE_ROOT; children = forget (with_leading true t.root.row t.last.left) } → faults ≡ t.last.faults → IsRead ls tree faults
 read_of ls t tree faults e f = record {
   root = t.root;
   last = t.last;
   runs = t.runs;
   alone = t.alone;
   head = t.head;
-  place = t.place;
+  position = t.position;
   nothing = t.nothing;
   tree_is = e;
   faults_are = f;
@@ -60,9 +60,9 @@ read_of ls t tree faults e f = record {
 pub read_made : (ls : List Lexeme) (ts : List Token) (s : State) (tree : Tree) → ts ≡ placed_from 0 ls → IsReadTo ts s → forest_of tree ≡ s.trees → IsRead ls tree s.faults
 read_made ls ts s tree e r t =
     let all : IsReadTo (placed_from 0 ls) s = subst (λ x. IsReadTo x s) e r in
-    read_of ls all.through tree s.faults (tree_is_node tree (forget (ate true all.through.root.row all.through.last.left)) (t ∙ all.trees)) all.faults
+    read_of ls all.through tree s.faults (tree_is_node tree (forget (with_leading true all.through.root.row all.through.last.left)) (t ∙ all.trees)) all.faults
 
 -- one more mark leaves the tokens
-pub rest_marked : (m : Mark) (s s' : State) → s' ≡ marked m s → s'.rest ≡ s.rest
-unfolding marked
+pub rest_marked : (m : Mark) (s s' : State) → s' ≡ pushed m s → s'.rest ≡ s.rest
+unfolding pushed
 rest_marked m s s' e = ap (λ x. x.rest) e

@@ -2,9 +2,9 @@
 use Rattle.std.proofs.Common.{◌≡◌, ◌<◌, ℕ, zero, suc, Bool, true, false, List, [], ◌∷◌, refl, sym, subst, arith}
 use Rattle.{rnix_kinds.specs.{declared.kinds.SyntaxKind.TheVariants.NODE_ROOT, Lexical.Tokens.Lexeme}, rnix_green.specs.Tree.Tree}
 use Rattle.rnix_grammar.specs.{declared.action.Action.Action, Fault.Fault, AnnotatedForest.{Token, placed_from, forget, head_kind, touches}, Layout.items}
-use Rattle.rnix_grammar.specs.{Actions.action_at, Sorts.AreKept, Machine.{Frame, Machine, machine, begins, ate, perform, rest as here}}
+use Rattle.rnix_grammar.specs.{Actions.action_at, FrameKinds.AreStacked, Machine.{Frame, Machine, machine, begins, with_leading, perform, rest as here}}
 use Rattle.{rnix_grammar.specs.{Machine.then as further, Document.IsRead, Allowed.Allowed}, rnix_lemmas.proofs.Basics.true_is_not_false}
-use Rattle.rnix_lemmas.proofs.{PlaceLemmas.{step_kept, begins_kept}, AllowedLemmas.allowed}
+use Rattle.rnix_lemmas.proofs.{StackedFrames.{step_stacked, begins_stacked}, AllowedLemmas.allowed}
 use Rattle.rnix_reader.{specs.{Performed.is_finish, Holds.IsThrough}, proofs.{DocumentLemmas.{root_through, read_of}, WorkLemmas.{cost_of, perform_less}}}
 use Rattle.rnix_grammar.specs.declared.action.Action.TheVariants as a
 
@@ -13,39 +13,39 @@ finish_is a.Finish e = refl
 finish_is _ e = absurd (true_is_not_false (sym e))
 
 -- a machine with so much to do comes to its end
-through : (c : ℕ) (fs : List Frame) (ts : List Token) (n : ℕ) (es : List Fault) → cost_of (machine fs ts n es) < c → AreKept fs → IsThrough (machine fs ts n es)
+through : (c : ℕ) (fs : List Frame) (ts : List Token) (n : ℕ) (es : List Fault) → cost_of (machine fs ts n es) < c → AreStacked fs → IsThrough (machine fs ts n es)
 through zero fs ts n es l k = absurd (omega (arith, l))
 through (suc c) [] ts n es l k = absurd k
 through (suc c) (f ∷ fs) ts n es l k = by (λ hs us m gs x y. through c hs us m gs x y) (is_finish action) refl
   where
     action : Action
-    action = action_at f.place (head_kind (items ts)) (touches n (items ts))
+    action = action_at f.position (head_kind (items ts)) (touches n (items ts))
 
-    may : Allowed f.place (head_kind (items ts)) action
-    may = allowed f.place (head_kind (items ts)) (touches n (items ts))
+    may : Allowed f.position (head_kind (items ts)) action
+    may = allowed f.position (head_kind (items ts)) (touches n (items ts))
 
     next : Machine
     next = perform true action f fs ts n es
 
-    by : ((hs : List Frame) (us : List Token) (m : ℕ) (gs : List Fault) → cost_of (machine hs us m gs) < c → AreKept hs → IsThrough (machine hs us m gs))
+    by : ((hs : List Frame) (us : List Token) (m : ℕ) (gs : List Fault) → cost_of (machine hs us m gs) < c → AreStacked hs → IsThrough (machine hs us m gs))
         → (w : Bool) → is_finish action ≡ w → IsThrough (machine (f ∷ fs) ts n es)
     by again true e =
-        let ends : Allowed f.place (head_kind (items ts)) a.Finish = subst (λ (x : Action). Allowed f.place (head_kind (items ts)) x) (finish_is action e) may in
+        let ends : Allowed f.position (head_kind (items ts)) a.Finish = subst (λ (x : Action). Allowed f.position (head_kind (items ts)) x) (finish_is action e) may in
         root_through f fs ts n es here k ends
     by again false e =
         let less : cost_of next < cost_of (machine (f ∷ fs) ts n es) = perform_less f fs ts n es k action may e in
         let rest : IsThrough next =
-        again next.frames next.left next.reached next.faults (omega (arith, less, l)) (step_kept true (machine (f ∷ fs) ts n es) k) in
-        record { last = rest.last; runs = further rest.runs; root = rest.root; alone = rest.alone; head = rest.head; place = rest.place; nothing = rest.nothing }
+        again next.frames next.left next.prev_end next.faults (omega (arith, less, l)) (step_stacked true (machine (f ∷ fs) ts n es) k) in
+        record { last = rest.last; runs = further rest.runs; root = rest.root; alone = rest.alone; head = rest.head; position = rest.position; nothing = rest.nothing }
 
 -- each list of tokens is read as a tree with errors
 pub each_read : (ls : List Lexeme) → (tree : Tree) × ((faults : List Fault) × IsRead ls tree faults)
-each_read ls = by (through (suc (cost_of (begins ts))) (begins ts).frames ts 0 [] (omega arith) (begins_kept ts))
+each_read ls = by (through (suc (cost_of (begins ts))) (begins ts).frames ts 0 [] (omega arith) (begins_stacked ts))
   where
     ts : List Token
     ts = placed_from 0 ls
 
     by : IsThrough (begins ts) → (tree : Tree) × ((faults : List Fault) × IsRead ls tree faults)
     by t =
-        let tree : Tree = record { kind = NODE_ROOT; children = forget (ate true t.root.row t.last.left) } in
+        let tree : Tree = record { kind = NODE_ROOT; children = forget (with_leading true t.root.row t.last.left) } in
         (tree, (t.last.faults, read_of ls t tree t.last.faults refl refl))

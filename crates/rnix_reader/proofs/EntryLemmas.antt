@@ -2,16 +2,16 @@
 use Rattle.std.proofs.Common.{◌≡◌, ℕ, Bool, true, false, List, [], ◌∷◌, ◌++◌, Option, Some, None, refl, ap, sym, ◌∙◌, subst, append-nil, if◌then◌else◌}
 use Rattle.{rnix_kinds.specs.declared.kinds.SyntaxKind.TheVariants.{NODE_PATTERN, NODE_PAT_ENTRY}, rnix_grammar.specs.Fault.{Fault, named_twice}}
 use Rattle.rnix_grammar.specs.{AnnotatedForest.{Token, AnnotatedForest, without_trivia, extent_of}, Reports.{entry_name, has_entry, repeated_if}, Machine.Head}
-use Rattle.rnix_grammar.specs.{Machine.{Node, Frame, machine, closed, perform}, Sorts.{Pattern, Entry, sort_of, may_hold, StandsOn}}
-use Rattle.{rnix_lemmas.proofs.Basics.true_is_not_false, rnix_reader.specs.{declared.names.{NameSet.NameSet, Names.Names}, Names.{has_name, entries_in}}}
-use Rattle.rnix_reader.specs.{Names.{entry_at, EntryClosed, Entered}, State.{State, ended, failed}, Flat.{flat, popped}, Performed.{EntryTold, told_of}}
-use Rattle.rnix_reader.{specs.Holds.{IsBegun, AreNamed, named_by, name_of, entries_of, Tops, Known, KnownOn}, proofs.{FlatLemmas.closes, SortLemmas.is_loose}}
-use Rattle.rnix_reader.proofs.SortLemmas.{is_root, head_sort, head_entry, head_pattern, holds_entry}
+use Rattle.rnix_grammar.specs.{Machine.{Node, Frame, machine, closed, perform}, FrameKinds.{Pattern, Entry, frame_kind, may_hold, IsStackedOn}}
+use Rattle.{rnix_lemmas.proofs.Basics.true_is_not_false, rnix_reader.specs.{declared.names.{NameSet.NameSet, Names.Names}, PatternNames.{has_name, entries_in}}}
+use Rattle.rnix_reader.specs.{PatternNames.{entry_at, EntryClosed, Entered}, State.{State, ended, failed}, Erase.{erase, popped}, Performed.{EntryReported, reported_if}}
+use Rattle.rnix_reader.{specs.Holds.{IsBegun, AreNamed, named_by, name_of, entries_of, TopSet, AreOpenSets, AreOpenSetsOn}, proofs.{EraseLemmas.closes, FrameKindLemmas.is_operand_frame}}
+use Rattle.rnix_reader.proofs.FrameKindLemmas.{is_root, head_sort, head_entry, head_pattern, holds_entry}
 use Rattle.rnix_grammar.specs.declared.action.Action.TheVariants as a
 
 -- a pattern has the last of the sets
-pub known_pattern : (h : Head) (row : AnnotatedForest) (sets : List NameSet) (More : List NameSet → Type 0) → h ≡ Node NODE_PATTERN → KnownOn h row sets More → Tops sets row More
-known_pattern h row sets More e k = subst (λ x. KnownOn x row sets More) e k
+pub known_pattern : (h : Head) (row : AnnotatedForest) (sets : List NameSet) (More : List NameSet → Type 0) → h ≡ Node NODE_PATTERN → AreOpenSetsOn h row sets More → TopSet sets row More
+known_pattern h row sets More e k = subst (λ x. AreOpenSetsOn x row sets More) e k
 
 -- an entry that is complete, in its pattern: its name, the sets, and what becomes of them
 pub record IsEntry (f g : Frame) (fs : List Frame) (names names' : Names) (again : Option Fault) : Type 0 where
@@ -19,43 +19,43 @@ pub record IsEntry (f g : Frame) (fs : List Frame) (names names' : Names) (again
   pub pattern : g.head ≡ Node NODE_PATTERN
   pub name : Token
   pub named : entry_name (without_trivia f.row) ≡ Some name
-  pub tops : Tops names.sets.items g.row (Known fs)
-  pub entered : Entered name.text tops.below tops.set names'
+  pub top_set : TopSet names.sets.items g.row (AreOpenSets fs)
+  pub entered : Entered name.text top_set.below top_set.set names'
   pub entries : entries_in names' ≡ entries_of (g ∷ fs)
-  pub told : again ≡ (if has_name name.text tops.set then Some (named_twice (extent_of (name ∷ [])) name.text) else None)
+  pub told : again ≡ (if has_name name.text top_set.set then Some (named_twice (extent_of (name ∷ [])) name.text) else None)
 
 -- so it is at an entry's place
-pub entry_there : (f g : Frame) (fs : List Frame) (names names' : Names) (again : Option Fault) → StandsOn f.head f.place (g ∷ fs) → sort_of f.place ≡ Entry
+pub entry_there : (f g : Frame) (fs : List Frame) (names names' : Names) (again : Option Fault) → IsStackedOn f.head f.position (g ∷ fs) → frame_kind f.position ≡ Entry
     → AreNamed f (g ∷ fs) names → EntryClosed again names names' → IsEntry f g fs names names' again
 entry_there f g fs names names' again st e w c =
     let entry : f.head ≡ Node NODE_PAT_ENTRY = head_entry f.head (st.0 ∙ e) in
-    let below : sort_of g.place ≡ Pattern = holds_entry (sort_of g.place) (ap (may_hold (sort_of g.place)) (sym e) ∙ st.1) in
-    let pattern : g.head ≡ Node NODE_PATTERN = head_pattern g.head (head_sort g.head g.place fs st.2 ∙ below) in
-    let tops : Tops names.sets.items g.row (Known fs) =
-    known_pattern g.head g.row names.sets.items (Known fs) pattern (subst (λ x. KnownOn x f.row names.sets.items (Known (g ∷ fs))) entry w.sets) in
+    let below : frame_kind g.position ≡ Pattern = holds_entry (frame_kind g.position) (ap (may_hold (frame_kind g.position)) (sym e) ∙ st.1) in
+    let pattern : g.head ≡ Node NODE_PATTERN = head_pattern g.head (head_sort g.head g.position fs st.2 ∙ below) in
+    let top_set : TopSet names.sets.items g.row (AreOpenSets fs) =
+    known_pattern g.head g.row names.sets.items (AreOpenSets fs) pattern (subst (λ x. AreOpenSetsOn x f.row names.sets.items (AreOpenSets (g ∷ fs))) entry w.sets) in
     let begun : IsBegun (Node NODE_PAT_ENTRY) f.row = subst (λ x. IsBegun x f.row) entry w.begun.0 in
     let t : Token = begun.0 in
     let named : name_of f.head f.row ≡ Some t = ap (λ x. name_of x f.row) entry ∙ begun.1 in
     let all : entries_in names ≡ entries_of (g ∷ fs) ++ entry_at t ∷ [] = w.entries ∙ ap (λ x. entries_of (g ∷ fs) ++ named_by x) named in
-    let done = c.entered (entries_of (g ∷ fs)) t.text (extent_of (t ∷ [])) tops.below tops.set all tops.all in
-    record { entry = entry; pattern = pattern; name = t; named = begun.1; tops = tops; entered = done.0; entries = done.1; told = done.2 }
+    let done = c.entered (entries_of (g ∷ fs)) t.text (extent_of (t ∷ [])) top_set.below top_set.set all top_set.all in
+    record { entry = entry; pattern = pattern; name = t; named = begun.1; top_set = top_set; entered = done.0; entries = done.1; told = done.2 }
 
 -- what is told
-told_once : (b : Bool) (e : Fault) (f g : Frame) (fs : List Frame) (ts : List Token) (n : ℕ) (es : List Fault)
-    → told_of (if b then Some e else None) (flat (closed f (g ∷ fs) ts n es)) ≡ flat (closed f (g ∷ fs) ts n (es ++ (if b then e ∷ [] else [])))
+reported_once : (b : Bool) (e : Fault) (f g : Frame) (fs : List Frame) (ts : List Token) (n : ℕ) (es : List Fault)
+    → reported_if (if b then Some e else None) (erase (closed f (g ∷ fs) ts n es)) ≡ erase (closed f (g ∷ fs) ts n (es ++ (if b then e ∷ [] else [])))
 unfolding failed
-told_once true e f g fs ts n es = refl
-told_once false e f g fs ts n es = ap (λ x. flat (closed f (g ∷ fs) ts n x)) (sym (append-nil es))
+reported_once true e f g fs ts n es = refl
+reported_once false e f g fs ts n es = ap (λ x. erase (closed f (g ∷ fs) ts n x)) (sym (append-nil es))
 
 -- an entry is complete
-pub done_entry : (f : Frame) (fs : List Frame) (ts : List Token) (n : ℕ) (es : List Fault) (names names' : Names) (s' : State) → StandsOn f.head f.place fs → AreNamed f fs names
-    → sort_of f.place ≡ Entry → EntryTold (popped (machine (f ∷ fs) ts n es)) names s' names' → s' ≡ flat (perform true a.CloseEntry f fs ts n es)
+pub done_entry : (f : Frame) (fs : List Frame) (ts : List Token) (n : ℕ) (es : List Fault) (names names' : Names) (s' : State) → IsStackedOn f.head f.position fs → AreNamed f fs names
+    → frame_kind f.position ≡ Entry → EntryReported (popped (machine (f ∷ fs) ts n es)) names s' names' → s' ≡ erase (perform true a.CloseEntry f fs ts n es)
 done_entry f [] ts n es names names' s' st w e d = absurd (true_is_not_false (sym (ap is_root st.1) ∙ ap is_root e))
 done_entry f (g ∷ fs) ts n es names names' s' st w e d =
     let q = entry_there f g fs names names' d.again st e w d.closed in
     let fault : Fault = named_twice (extent_of (q.name ∷ [])) q.name.text in
     let old : AnnotatedForest = without_trivia g.row in
-    d.state ∙ ap (λ x. told_of x (ended (popped (machine (f ∷ (g ∷ fs)) ts n es)))) (q.told ∙ ap (λ x. if x then Some fault else None) (q.tops.is q.name.text))
-    ∙ ap (told_of (if has_entry q.name.text old then Some fault else None)) (closes f (g ∷ fs) ts n es st (ap is_loose e) (ap is_root e))
-    ∙ told_once (has_entry q.name.text old) fault f g fs ts n es
-    ∙ ap (λ x. flat (closed f (g ∷ fs) ts n (es ++ repeated_if x old))) (sym q.named)
+    d.state ∙ ap (λ x. reported_if x (ended (popped (machine (f ∷ (g ∷ fs)) ts n es)))) (q.told ∙ ap (λ x. if x then Some fault else None) (q.top_set.is q.name.text))
+    ∙ ap (reported_if (if has_entry q.name.text old then Some fault else None)) (closes f (g ∷ fs) ts n es st (ap is_operand_frame e) (ap is_root e))
+    ∙ reported_once (has_entry q.name.text old) fault f g fs ts n es
+    ∙ ap (λ x. erase (closed f (g ∷ fs) ts n (es ++ repeated_if x old))) (sym q.named)

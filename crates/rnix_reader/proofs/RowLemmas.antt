@@ -4,10 +4,10 @@ use Rattle.{std.{proofs.lemmas.Cmp.nat_list_eq_equiv, specs.Str.bytes_eq}, rnix_
 use Rattle.{rnix_kinds.specs.declared.kinds.SyntaxKind.TheVariants.{NODE_PATTERN, NODE_PAT_ENTRY}, rnix_green.specs.Range.Extent}
 use Rattle.rnix_grammar.specs.AnnotatedForest.{Token, Note, AnnotatedForest, blank, token, branch, fault, ◌⊕◌, one_branch, one_fault, tokens_in, without_trivia}
 use Rattle.rnix_grammar.specs.{AnnotatedForest.{end_from, extent_of}, Layout.{items, trivia_before}, Reports.{entry_name, is_same_name, has_entry}}
-use Rattle.{rnix_grammar.specs.{Machine.{Head, Node, Second, Operand, leaf, leaf_in}, Sorts.sort_of_head}, rnix_lemmas.proofs.Basics.true_is_not_false}
+use Rattle.{rnix_grammar.specs.{Machine.{Head, Node, SecondBind, Operand, leaf, leaf_in}, FrameKinds.frame_kind_of_head}, rnix_lemmas.proofs.Basics.true_is_not_false}
 use Rattle.rnix_lemmas.proofs.{AnnotatedForestLemmas.tokens_in-⊕, WithoutTriviaLemmas.leaf_without_trivia, LayoutLemmas.without_trivia-⊕}
-use Rattle.{rnix_lemmas.proofs.{LayoutLemmas.without_trivia-trivia, StrictParts.end_behind}, rnix_reader.specs.{declared.names.NameSet.NameSet, Names.has_name}}
-use Rattle.rnix_reader.{specs.Holds.{IsBegun, HasRange, name_of, KnownOn}, proofs.SortLemmas.is_pattern}
+use Rattle.{rnix_lemmas.proofs.{LayoutLemmas.without_trivia-trivia, TokenEnds.end_behind}, rnix_reader.specs.{declared.names.NameSet.NameSet, PatternNames.has_name}}
+use Rattle.rnix_reader.{specs.Holds.{IsBegun, HasRange, name_of, AreOpenSetsOn}, proofs.FrameKindLemmas.is_pattern}
 
 -- a row has no entry of a pattern
 abbrev pub HasNoEntry : AnnotatedForest → Type 0
@@ -68,19 +68,19 @@ tokens_more f g = ap tokens_in (without_trivia-⊕ f g) ∙ tokens_in-⊕ (witho
 pub begun_more : (h : Head) (f g : AnnotatedForest) → IsBegun h f → IsBegun h (f ⊕ g)
 begun_more (Node NODE_PAT_ENTRY) f g w = (w.0, ap entry_name (without_trivia-⊕ f g) ∙ entry_name-⊕ (without_trivia f) (without_trivia g) w.0 w.1)
 begun_more (Node k) f g w = tt
-begun_more Second f g w = (w.0, w.1 ++ tokens_in (without_trivia g), tokens_more f g ∙ ap (λ x. x ++ tokens_in (without_trivia g)) w.2)
+begun_more SecondBind f g w = (w.0, w.1 ++ tokens_in (without_trivia g), tokens_more f g ∙ ap (λ x. x ++ tokens_in (without_trivia g)) w.2)
 begun_more Operand f g w = tt
 
 -- the name of an entry stays
 pub name_more : (h : Head) (f g : AnnotatedForest) → IsBegun h f → name_of h (f ⊕ g) ≡ name_of h f
 name_more (Node NODE_PAT_ENTRY) f g w = ap entry_name (without_trivia-⊕ f g) ∙ entry_name-⊕ (without_trivia f) (without_trivia g) w.0 w.1 ∙ sym w.1
 name_more (Node k) f g w = refl
-name_more Second f g w = refl
+name_more SecondBind f g w = refl
 name_more Operand f g w = refl
 
 -- a row without more entries has the same names
-pub known_more : (h : Head) (f g : AnnotatedForest) (sets : List NameSet) (More : List NameSet → Type 0) → (is_pattern (sort_of_head h) ≡ true → HasNoEntry g)
-    → KnownOn h f sets More → KnownOn h (f ⊕ g) sets More
+pub known_more : (h : Head) (f g : AnnotatedForest) (sets : List NameSet) (More : List NameSet → Type 0) → (is_pattern (frame_kind_of_head h) ≡ true → HasNoEntry g)
+    → AreOpenSetsOn h f sets More → AreOpenSetsOn h (f ⊕ g) sets More
 known_more (Node NODE_PATTERN) f g sets More q w = record {
   below = w.below;
   set = w.set;
@@ -89,14 +89,14 @@ known_more (Node NODE_PATTERN) f g sets More q w = record {
   more = w.more;
 }
 known_more (Node k) f g sets More q w = w
-known_more Second f g sets More q w = w
+known_more SecondBind f g sets More q w = w
 known_more Operand f g sets More q w = w
 
 -- an entry is complete: its pattern has one more
 pub known_entry : (h : Head) (f c : AnnotatedForest) (t : Token) (below : List NameSet) (s : NameSet) (sets : List NameSet) (More : List NameSet → Type 0)
-    → is_pattern (sort_of_head h) ≡ true → entry_name (without_trivia c) ≡ Some t → sets ≡ below ++ s ∷ [] → More below
+    → is_pattern (frame_kind_of_head h) ≡ true → entry_name (without_trivia c) ≡ Some t → sets ≡ below ++ s ∷ [] → More below
     → ((other : List ℕ) → has_name other s ≡ (if bytes_eq t.text other then true else has_entry other (without_trivia f)))
-    → KnownOn h (f ⊕ one_branch NODE_PAT_ENTRY c) sets More
+    → AreOpenSetsOn h (f ⊕ one_branch NODE_PAT_ENTRY c) sets More
 known_entry (Node NODE_PATTERN) f c t below s sets More q e a m is = record {
   below = below;
   set = s;
@@ -108,13 +108,13 @@ known_entry (Node NODE_PATTERN) f c t below s sets More q e a m is = record {
   more = m;
 }
 known_entry (Node k) f c t below s sets More q e a m is = absurd (true_is_not_false (sym q))
-known_entry Second f c t below s sets More q e a m is = absurd (true_is_not_false (sym q))
+known_entry SecondBind f c t below s sets More q e a m is = absurd (true_is_not_false (sym q))
 known_entry Operand f c t below s sets More q e a m is = absurd (true_is_not_false (sym q))
 
 -- a second name stays where it begins, and ends where the items behind it end
 pub range_more : (n m k : ℕ) (h : Head) (f g : AnnotatedForest) (us : List Token) → IsBegun h f → HasRange n m h f → tokens_in (without_trivia g) ≡ us → k ≡ end_from m us → m ≤ k → HasRange n k h (f ⊕ g)
 range_more n m k (Node j) f g us w e i r l = tt
-range_more n m k Second f g us w e i r l =
+range_more n m k SecondBind f g us w e i r l =
     let old : (let x : Extent = record { start = n; end = m } in x) ≡ extent_of (w.0 ∷ w.1) = e.0 ∙ ap extent_of w.2 in
     let new : tokens_in (without_trivia (f ⊕ g)) ≡ w.0 ∷ (w.1 ++ us) = tokens_more f g ∙ ap (λ x. x ++ tokens_in (without_trivia g)) w.2 ∙ ap (λ x. w.0 ∷ (w.1 ++ x)) i in
     let end : k ≡ end_from w.0.end (w.1 ++ us) = r ∙ ap (λ x. end_from x.end us) old ∙ sym (end_behind w.0.end w.1 us) in

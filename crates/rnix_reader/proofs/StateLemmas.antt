@@ -5,13 +5,13 @@ use Rattle.rnix_green.{specs.{Draft.{Draft, OpenNode, leaf_added, node_opened, n
 use Rattle.rnix_grammar.specs.{Fault.Fault, AnnotatedForest.{Token, forget, head_of, leaf_kind}, Layout.{from_item, from_item_if, trivia_before}}
 use Rattle.{rnix_grammar.specs.{Layout.{trivia_if, tail_of}, Machine.{leaf_in, end_of}}}
 use Rattle.{rnix_lemmas.proofs.LayoutLemmas.trivia-from_item, rnix_reader.specs.{declared.{cursor.PlacedToken.PlacedToken, mark.Mark.Mark}, Placed.token_of}}
-use Rattle.rnix_reader.specs.{Placed.BeginsWithTrivia, State.{State, eaten, taken, bumped, started_here, started_at, ended}, Steps.leafed}
+use Rattle.rnix_reader.specs.{Placed.BeginsWithTrivia, State.{State, eaten, taken, bumped, started_here, started_at, ended}, Steps.leaf_node_made}
 use Rattle.rnix_reader.proofs.CursorLemmas.{before_item}
 
 -- states with the same parts are one
 pub state_is : {r r' : List Token} {x x' : Forest} {o o' : List OpenNode} {e e' : List Fault} {n n' : ℕ} {m m' : List Mark} → r ≡ r' → x ≡ x' → o ≡ o' → e ≡ e' → n ≡ n' → m ≡ m'
-    → (let y : State = record { rest = r; trees = x; open_nodes = o; faults = e; reached = n; marks = m } in y)
-    ≡ (let z : State = record { rest = r'; trees = x'; open_nodes = o'; faults = e'; reached = n'; marks = m' } in z)
+    → (let y : State = record { rest = r; trees = x; open_nodes = o; faults = e; prev_end = n; marks = m } in y)
+    ≡ (let z : State = record { rest = r'; trees = x'; open_nodes = o'; faults = e'; prev_end = n'; marks = m' } in z)
 state_is a b c d e f = cc
 
 -- tokens with a first are that and those behind it
@@ -50,7 +50,7 @@ eaten-settled s e =
 
 -- one trivia token is eaten
 pub eaten-trivia : (s s' : State) (t : Token) (more : List Token) → s.rest ≡ t ∷ more → is_trivia t.kind ≡ true → s'.rest ≡ more → s'.trees ≡ join s.trees (leaf t.kind t.text empty)
-    → s'.open_nodes ≡ s.open_nodes → s'.faults ≡ s.faults → s'.reached ≡ s.reached → s'.marks ≡ s.marks → eaten s' ≡ eaten s
+    → s'.open_nodes ≡ s.open_nodes → s'.faults ≡ s.faults → s'.prev_end ≡ s.prev_end → s'.marks ≡ s.marks → eaten s' ≡ eaten s
 unfolding eaten
 eaten-trivia s s' t more e h r x o f n m =
     state_is (ap from_item r ∙ sym (ap from_item e ∙ ap (λ b. from_item_if b t more (from_item more)) h))
@@ -61,35 +61,35 @@ eaten-trivia s s' t more e h r x o f n m =
 
 -- the next item as a leaf
 pub bumped-item : (k : SyntaxKind) (s s1 s' : State) (t : Token) → s1 ≡ eaten s → s1.rest ≡ t ∷ tail_of s1.rest → s'.rest ≡ tail_of s1.rest
-    → s'.trees ≡ join s1.trees (leaf (leaf_kind k t) t.text empty) → s'.open_nodes ≡ s1.open_nodes → s'.faults ≡ s1.faults → s'.reached ≡ t.end → s'.marks ≡ s1.marks → s' ≡ bumped k s
+    → s'.trees ≡ join s1.trees (leaf (leaf_kind k t) t.text empty) → s'.open_nodes ≡ s1.open_nodes → s'.faults ≡ s1.faults → s'.prev_end ≡ t.end → s'.marks ≡ s1.marks → s' ≡ bumped k s
 unfolding bumped
 bumped-item k s s1 s' t e here r x o f n m =
-    state_is r (x ∙ ap (λ y. join s1.trees (forget (leaf_in k y))) (sym here)) o f (n ∙ ap (end_of s1.reached) (sym here)) m ∙ ap (taken k) e
+    state_is r (x ∙ ap (λ y. join s1.trees (forget (leaf_in k y))) (sym here)) o f (n ∙ ap (end_of s1.prev_end) (sym here)) m ∙ ap (taken k) e
 
 -- nor is an item
 taken-none : (k : SyntaxKind) (s : State) → s.rest ≡ [] → s ≡ taken k s
 taken-none k s none =
-    state_is (none ∙ ap tail_of (sym none)) (sym (join_empty s.trees) ∙ ap (λ y. join s.trees (forget (leaf_in k y))) (sym none)) refl refl (ap (end_of s.reached) (sym none)) refl
+    state_is (none ∙ ap tail_of (sym none)) (sym (join_empty s.trees) ∙ ap (λ y. join s.trees (forget (leaf_in k y))) (sym none)) refl refl (ap (end_of s.prev_end) (sym none)) refl
 
 pub bumped-end : (k : SyntaxKind) (s s1 : State) → s1 ≡ eaten s → s1.rest ≡ [] → s1 ≡ bumped k s
 unfolding bumped
 bumped-end k s s1 e none = taken-none k s1 none ∙ ap (taken k) e
 
 -- a node over the next item
-pub leafed-item : (k : SyntaxKind) (s s1 s' : State) (t : Token) (d : Draft) → s1 ≡ eaten s → s1.rest ≡ t ∷ tail_of s1.rest
+pub leaf_node_made-item : (k : SyntaxKind) (s s1 s' : State) (t : Token) (d : Draft) → s1 ≡ eaten s → s1.rest ≡ t ∷ tail_of s1.rest
     → d ≡ node_closed (leaf_added (leaf_kind k t) t.text (node_opened k (tree_count s1.trees) record { finished = s1.trees; open_nodes = s1.open_nodes }))
-    → s'.rest ≡ tail_of s1.rest → s'.trees ≡ d.finished → s'.open_nodes ≡ d.open_nodes → s'.faults ≡ s1.faults → s'.reached ≡ t.end → s'.marks ≡ s1.marks → s' ≡ leafed k s
+    → s'.rest ≡ tail_of s1.rest → s'.trees ≡ d.finished → s'.open_nodes ≡ d.open_nodes → s'.faults ≡ s1.faults → s'.prev_end ≡ t.end → s'.marks ≡ s1.marks → s' ≡ leaf_node_made k s
 unfolding ended started_at
-leafed-item k s s1 s' t d e here b r x o f n m =
+leaf_node_made-item k s s1 s' t d e here b r x o f n m =
     state_is r (x ∙ ap (λ y. y.finished) b ∙ ap (λ y. wrapped k (tree_count s1.trees) (join s1.trees (forget (leaf_in k y)))) (sym here)) (o ∙ ap (λ y. y.open_nodes) b) f
-    (n ∙ ap (end_of s1.reached) (sym here)) m
+    (n ∙ ap (end_of s1.prev_end) (sym here)) m
     ∙ ap (λ y. ended (taken k (started_here k y))) e
 
 -- a node over nothing, where no item is left
-pub leafed-end : (k : SyntaxKind) (s s1 s2 s' : State) (d : Draft) → s1 ≡ eaten s → s1.rest ≡ []
+pub leaf_node_made-end : (k : SyntaxKind) (s s1 s2 s' : State) (d : Draft) → s1 ≡ eaten s → s1.rest ≡ []
     → d ≡ node_opened k (tree_count s1.trees) record { finished = s1.trees; open_nodes = s1.open_nodes } → s2.rest ≡ s1.rest → s2.trees ≡ d.finished → s2.open_nodes ≡ d.open_nodes
-    → s2.faults ≡ s1.faults → s2.reached ≡ s1.reached → s2.marks ≡ s1.marks → s' ≡ ended s2 → s' ≡ leafed k s
+    → s2.faults ≡ s1.faults → s2.prev_end ≡ s1.prev_end → s2.marks ≡ s1.marks → s' ≡ ended s2 → s' ≡ leaf_node_made k s
 unfolding started_at
-leafed-end k s s1 s2 s' d e none b r x o f n m closed =
+leaf_node_made-end k s s1 s2 s' d e none b r x o f n m closed =
     let begun : s2 ≡ started_here k s1 = state_is r (x ∙ ap (λ y. y.finished) b) (o ∙ ap (λ y. y.open_nodes) b) f n m in
     closed ∙ ap ended (taken-none k s2 (r ∙ none) ∙ ap (taken k) begun) ∙ ap (λ y. ended (taken k (started_here k y))) e

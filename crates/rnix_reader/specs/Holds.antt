@@ -1,30 +1,30 @@
 -- What the reader holds at each step of the machine.
-use Rattle.rnix_grammar.specs.declared.position.TheConstants.{ROOT}
+use Rattle.rnix_grammar.specs.declared.slot_table.TheConstants.{ROOT}
 use Rattle.std.specs.Prelude.{◌≡◌, ◌≤◌, ◌+◌, ◌*◌, ℕ, true, List, [], ◌∷◌, ◌++◌, Option, Some, None, length}
 use Rattle.rnix_kinds.specs.declared.kinds.SyntaxKind.TheVariants.{NODE_ROOT, NODE_PATTERN, NODE_PAT_ENTRY}
 use Rattle.rnix_green.specs.Forest.{empty, node}
 use Rattle.rnix_green.specs.Range.{Extent}
-use Rattle.rnix_grammar.specs.declared.place.Place.{Place}
-use Rattle.rnix_grammar.specs.declared.place.Place.TheVariants as p
+use Rattle.rnix_grammar.specs.declared.position.Position.{Position}
+use Rattle.rnix_grammar.specs.declared.position.Position.TheVariants as p
 use Rattle.rnix_grammar.specs.AnnotatedForest.{Token, AnnotatedForest, tokens_in, without_trivia, forget, extent_of}
 use Rattle.rnix_grammar.specs.Layout.{items}
-use Rattle.rnix_grammar.specs.Machine.{Head, Node, Second, Frame, Machine, machine, begins, ate, Runs}
+use Rattle.rnix_grammar.specs.Machine.{Head, Node, SecondBind, Frame, Machine, machine, begins, with_leading, Runs}
 use Rattle.rnix_grammar.specs.Reports.{entry_name, has_entry}
 use Rattle.rnix_grammar.specs.Fault.{Fault}
-use Rattle.rnix_grammar.specs.Sorts.{StandsOn}
-use Rattle.rnix_grammar.specs.Weights.{weight, bonus}
+use Rattle.rnix_grammar.specs.FrameKinds.{IsStackedOn}
+use Rattle.rnix_grammar.specs.Measures.{measure, begin_measure}
 use Rattle.rnix_reader.specs.declared.mark.Mark.{Mark}
 use Rattle.rnix_reader.specs.declared.names.NameSet.{NameSet}
 use Rattle.rnix_reader.specs.declared.names.Names.{Names}
 use Rattle.rnix_reader.specs.Placed.{AreInOrder}
-use Rattle.rnix_reader.specs.Names.{has_name, entries_in, entry_at}
+use Rattle.rnix_reader.specs.PatternNames.{has_name, entries_in, entry_at}
 use Rattle.rnix_reader.specs.State.{State, items_left}
-use Rattle.rnix_reader.specs.Flat.{flat}
+use Rattle.rnix_reader.specs.Erase.{erase}
 
 -- an entry begins with its name, and a second name with a token
 abbrev pub IsBegun : Head → AnnotatedForest → Type 0
 IsBegun (Node NODE_PAT_ENTRY) row = (t : Token) × (entry_name (without_trivia row) ≡ Some t)
-IsBegun Second row = (t : Token) × (us : List Token) × (tokens_in (without_trivia row) ≡ t ∷ us)
+IsBegun SecondBind row = (t : Token) × (us : List Token) × (tokens_in (without_trivia row) ≡ t ∷ us)
 IsBegun head row = Unit {0}
 
 -- all frames
@@ -34,12 +34,12 @@ AreBegun (f ∷ fs) = IsBegun f.head f.row × AreBegun fs
 
 -- a second name takes the bytes between two places
 abbrev pub HasRange : ℕ → ℕ → Head → AnnotatedForest → Type 0
-HasRange start end Second row = ((let x : Extent = record { start = start; end = end } in x) ≡ extent_of (tokens_in (without_trivia row))) × (start ≤ end)
+HasRange start end SecondBind row = ((let x : Extent = record { start = start; end = end } in x) ≡ extent_of (tokens_in (without_trivia row))) × (start ≤ end)
 HasRange start end head row = Unit {0}
 
 -- the frames stand on one another, a second name ends where the last item ended, and the tokens are in order
 pub record IsWell (f : Frame) (fs : List Frame) (ts : List Token) (n second : ℕ) : Type 0 where
-  pub fit : StandsOn f.head f.place fs
+  pub fit : IsStackedOn f.head f.position fs
   pub range : HasRange second n f.head f.row
   pub order : AreInOrder n ts
 
@@ -63,7 +63,7 @@ abbrev pub IsOf : NameSet → AnnotatedForest → Type 0
 IsOf s row = (name : List ℕ) → has_name name s ≡ has_entry name (without_trivia row)
 
 -- the last of some sets is that of a pattern, and more holds of those below
-pub record Tops (sets : List NameSet) (row : AnnotatedForest) (More : List NameSet → Type 0) : Type 0 where
+pub record TopSet (sets : List NameSet) (row : AnnotatedForest) (More : List NameSet → Type 0) : Type 0 where
   pub below : List NameSet
   pub set : NameSet
   pub all : sets ≡ below ++ set ∷ []
@@ -71,19 +71,19 @@ pub record Tops (sets : List NameSet) (row : AnnotatedForest) (More : List NameS
   pub more : More below
 
 -- the sets that are open above others, by what is open
-abbrev pub KnownOn : Head → AnnotatedForest → List NameSet → (List NameSet → Type 0) → Type 0
-KnownOn (Node NODE_PATTERN) row sets More = Tops sets row More
-KnownOn head row sets More = More sets
+abbrev pub AreOpenSetsOn : Head → AnnotatedForest → List NameSet → (List NameSet → Type 0) → Type 0
+AreOpenSetsOn (Node NODE_PATTERN) row sets More = TopSet sets row More
+AreOpenSetsOn head row sets More = More sets
 
 -- the sets of names are those of the open patterns
-abbrev pub Known : List Frame → List NameSet → Type 0
-Known [] sets = sets ≡ []
-Known (f ∷ fs) sets = KnownOn f.head f.row sets (Known fs)
+abbrev pub AreOpenSets : List Frame → List NameSet → Type 0
+AreOpenSets [] sets = sets ≡ []
+AreOpenSets (f ∷ fs) sets = AreOpenSetsOn f.head f.row sets (AreOpenSets fs)
 
 -- the names that the reader keeps are those of the open patterns and entries
 pub record AreNamed (f : Frame) (fs : List Frame) (names : Names) : Type 0 where
   pub begun : AreBegun (f ∷ fs)
-  pub sets : Known (f ∷ fs) names.sets.items
+  pub sets : AreOpenSets (f ∷ fs) names.sets.items
   pub entries : entries_in names ≡ entries_of (f ∷ fs)
 
 -- the machine has come as far as the reader
@@ -91,11 +91,11 @@ pub record IsGoing (first : List Token) (s : State) (names : Names) : Type 0 whe
   pub top : Frame
   pub under : List Frame
   pub left : List Token
-  pub reached : ℕ
+  pub prev_end : ℕ
   pub faults : List Fault
-  pub runs : Runs true (begins first) (machine (top ∷ under) left reached faults)
-  pub state : s ≡ flat (machine (top ∷ under) left reached faults)
-  pub well : IsWell top under left reached names.second
+  pub runs : Runs true (begins first) (machine (top ∷ under) left prev_end faults)
+  pub state : s ≡ erase (machine (top ∷ under) left prev_end faults)
+  pub well : IsWell top under left prev_end names.second
   pub named : AreNamed top under names
 
 -- some steps lead to where the root alone is open and nothing is left
@@ -105,39 +105,39 @@ pub record IsThrough (from : Machine) : Type 0 where
   pub root : Frame
   pub alone : last.frames ≡ root ∷ []
   pub head : root.head ≡ Node NODE_ROOT
-  pub place : root.place ≡ p.Left (ROOT + 1)
+  pub position : root.position ≡ p.Left (ROOT + 1)
   pub nothing : items last.left ≡ []
 
 -- a whole text is read
 pub record IsReadTo (ts : List Token) (s : State) : Type 0 where
   pub through : IsThrough (begins ts)
-  pub trees : s.trees ≡ node NODE_ROOT (forget (ate true through.root.row through.last.left)) empty
+  pub trees : s.trees ≡ node NODE_ROOT (forget (with_leading true through.root.row through.last.left)) empty
   pub nodes : s.open_nodes ≡ []
   pub faults : s.faults ≡ through.last.faults
 
 -- the places of what is open, the innermost first
-abbrev pub places_on : List Mark → List Place
+abbrev pub places_on : List Mark → List Position
 places_on [] = []
-places_on (m ∷ ms) = places_on ms ++ m.place ∷ []
+places_on (m ∷ ms) = places_on ms ++ m.position ∷ []
 
 -- their weights
-abbrev pub weights : List Place → ℕ
-weights [] = 0
-weights (x ∷ xs) = weight x + weights xs
+abbrev pub measures : List Position → ℕ
+measures [] = 0
+measures (x ∷ xs) = measure x + measures xs
 
 -- what is added where a node may begin without an item
-abbrev pub bonus_at : List Token → Place → ℕ
-bonus_at [] x = 0
-bonus_at (t ∷ ts) x = bonus x
+abbrev pub begin_measure_at : List Token → Position → ℕ
+begin_measure_at [] x = 0
+begin_measure_at (t ∷ ts) x = begin_measure x
 
 -- so it is at the innermost place
-abbrev pub bonus_on : List Token → List Place → ℕ
-bonus_on ts [] = 0
-bonus_on ts (x ∷ xs) = bonus_at ts x
+abbrev pub begin_measure_on : List Token → List Position → ℕ
+begin_measure_on ts [] = 0
+begin_measure_on ts (x ∷ xs) = begin_measure_at ts x
 
 -- how much there is to do with some items at some places
-abbrev pub cost : List Token → List Place → ℕ
-cost ts xs = 100 * length ts + weights xs + bonus_on ts xs
+abbrev pub cost : List Token → List Position → ℕ
+cost ts xs = 100 * length ts + measures xs + begin_measure_on ts xs
 
 -- how much there is still to do
 abbrev pub work : State → ℕ

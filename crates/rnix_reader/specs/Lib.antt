@@ -1,7 +1,7 @@
 pub mod Placed
 pub mod State
-pub mod Names
-pub mod Flat
+pub mod PatternNames
+pub mod Erase
 pub mod Steps
 pub mod Reported
 pub mod Performed

@@ -17,7 +17,7 @@ pub record State : Type 0 where
   pub trees : Forest
   pub open_nodes : List OpenNode
   pub faults : List Fault
-  pub reached : ℕ
+  pub prev_end : ℕ
   pub marks : List Mark
 
 -- what a reader holds
@@ -27,13 +27,13 @@ state p = record {
   trees = p.builder.draft.finished;
   open_nodes = p.builder.draft.open_nodes;
   faults = map fault_of p.errors.items;
-  reached = p.reached;
+  prev_end = p.prev_end;
   marks = p.marks.items;
 }
 
 -- with other marks
 abbrev pub with_marks : List Mark → State → State
-with_marks ms s = record { rest = s.rest; trees = s.trees; open_nodes = s.open_nodes; faults = s.faults; reached = s.reached; marks = ms }
+with_marks ms s = record { rest = s.rest; trees = s.trees; open_nodes = s.open_nodes; faults = s.faults; prev_end = s.prev_end; marks = ms }
 
 -- the tokens that are left and are no trivia
 abbrev pub items_left : State → List Token
@@ -50,7 +50,7 @@ eaten s = record {
   trees = join s.trees (forget (trivia_before s.rest));
   open_nodes = s.open_nodes;
   faults = s.faults;
-  reached = s.reached;
+  prev_end = s.prev_end;
   marks = s.marks;
 }
 
@@ -61,7 +61,7 @@ taken k s = record {
   trees = join s.trees (forget (leaf_in k s.rest));
   open_nodes = s.open_nodes;
   faults = s.faults;
-  reached = end_of s.reached s.rest;
+  prev_end = end_of s.prev_end s.rest;
   marks = s.marks;
 }
 
@@ -76,18 +76,18 @@ skipped run s = record {
   trees = join s.trees (forget (with_trivia (row_of run) s.rest));
   open_nodes = s.open_nodes;
   faults = s.faults;
-  reached = end_from s.reached run;
+  prev_end = end_from s.prev_end run;
   marks = s.marks;
 }
 
 -- a node is opened at a place
 unfoldable pub started_at : ℕ → SyntaxKind → State → State
-started_at place k s = record {
+started_at position k s = record {
   rest = s.rest;
   trees = s.trees;
-  open_nodes = (k, place) ∷ s.open_nodes;
+  open_nodes = (k, position) ∷ s.open_nodes;
   faults = s.faults;
-  reached = s.reached;
+  prev_end = s.prev_end;
   marks = s.marks;
 }
 
@@ -101,7 +101,7 @@ started k s = started_here k (eaten s)
 
 -- a draft in place of the trees and the open nodes
 abbrev pub closed_on : Draft → State → State
-closed_on d s = record { rest = s.rest; trees = d.finished; open_nodes = d.open_nodes; faults = s.faults; reached = s.reached; marks = s.marks }
+closed_on d s = record { rest = s.rest; trees = d.finished; open_nodes = d.open_nodes; faults = s.faults; prev_end = s.prev_end; marks = s.marks }
 
 -- the innermost node is closed
 unfoldable pub ended : State → State
@@ -109,8 +109,8 @@ ended s = closed_on (node_closed record { finished = s.trees; open_nodes = s.ope
 
 -- an error is reported
 unfoldable pub failed : Fault → State → State
-failed e s = record { rest = s.rest; trees = s.trees; open_nodes = s.open_nodes; faults = s.faults ++ e ∷ []; reached = s.reached; marks = s.marks }
+failed e s = record { rest = s.rest; trees = s.trees; open_nodes = s.open_nodes; faults = s.faults ++ e ∷ []; prev_end = s.prev_end; marks = s.marks }
 
 -- something more is open
-unfoldable pub marked : Mark → State → State
-marked m s = record { rest = s.rest; trees = s.trees; open_nodes = s.open_nodes; faults = s.faults; reached = s.reached; marks = s.marks ++ m ∷ [] }
+unfoldable pub pushed : Mark → State → State
+pushed m s = record { rest = s.rest; trees = s.trees; open_nodes = s.open_nodes; faults = s.faults; prev_end = s.prev_end; marks = s.marks ++ m ∷ [] }

@@ -8,7 +8,7 @@ use crate::cursor::Cursor;
 use crate::names::Names;
 use crate::parser::Parser;
 use crate::reading::read_all;
-use rnix_grammar::{ParseError, Place, ROOT};
+use rnix_grammar::{ParseError, Position, ROOT};
 use rnix_green::{GreenNode, TextBuilder};
 use rnix_kinds::{SyntaxKind, Tokenizer};
 use std::alloc::{AllocError, Global};
@@ -32,20 +32,20 @@ pub fn read_tokens(
         cursor,
         builder,
         errors: Vec::new(alloc),
-        reached: 0,
+        prev_end: 0,
         marks: Vec::new(alloc),
     };
     let mut names = Names::new(alloc);
     let at = p.here();
     p.builder.start_node(SyntaxKind::NODE_ROOT)?;
-    p.mark(Place::Left(ROOT), 0, at)?;
+    p.mark(Position::Left(ROOT), 0, at)?;
     p.ordered();
     read_all(&mut p, &mut names)?;
     let Parser {
         cursor,
         builder,
         errors,
-        reached: _,
+        prev_end: _,
         marks,
     } = p;
     drop(cursor);

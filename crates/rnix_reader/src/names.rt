@@ -3,7 +3,7 @@
 ghost use Rattle.std.specs.Prelude.{◌≡◌, [], ℕ, List, IfOk, OnOk, option_map, false};
 ghost use Rattle.rnix_green.specs.Range.{bounds_of};
 ghost use Rattle.rnix_grammar.specs.Fault.{fault_of};
-ghost use Rattle.rnix_reader.specs.Names.{has_name, has_with, PatternOpened, PatternClosed, EntryOpened, EntryClosed};
+ghost use Rattle.rnix_reader.specs.PatternNames.{has_name, has_with, PatternOpened, PatternClosed, EntryOpened, EntryClosed};
 
 use rnix_grammar::ParseError;
 use rnix_green::TextRange;

@@ -6,11 +6,11 @@ ghost use Rattle.rnix_grammar.specs.AnnotatedForest.{head_kind};
 ghost use Rattle.rnix_grammar.specs.Layout.{tail_of};
 ghost use Rattle.rnix_reader.specs.Placed.{token_of};
 ghost use Rattle.rnix_reader.specs.State.{state, items_left, IsNextItem};
-ghost use Rattle.rnix_reader.specs.Steps.{operand_begun, looks_behind, is_brace, begins_with, binding_read, lambda_begun, leafed, node_operand_begun, parameter_read};
+ghost use Rattle.rnix_reader.specs.Steps.{operand_begun, looks_behind, is_brace, begins_with, binding_read, lambda_begun, leaf_node_made, node_operand_begun, parameter_read};
 
 use crate::cursor::PlacedToken;
 use crate::parser::Parser;
-use rnix_grammar::{Begin, LAMBDA, Place, begin_of};
+use rnix_grammar::{Begin, LAMBDA, Position, begin_of};
 use rnix_kinds::SyntaxKind;
 use std::alloc::AllocError;
 
@@ -93,10 +93,10 @@ impl<'t> Parser<'t> {
     pub(crate) fn leaf_operand(
         &mut self,
         kind: SyntaxKind,
-        over: Place,
+        over: Position,
         depth: usize,
     ) -> Result<(), AllocError>
-        ensures { OnOk result (state self.new ≡ leafed kind (operand_begun over depth (state self.old))) }
+        ensures { OnOk result (state self.new ≡ leaf_node_made kind (operand_begun over depth (state self.old))) }
     {
         self.open_operand(over, depth)?;
         self.leaf_node(kind)?;
@@ -108,8 +108,8 @@ impl<'t> Parser<'t> {
     pub(crate) fn node_operand(
         &mut self,
         kind: SyntaxKind,
-        inside: Place,
-        over: Place,
+        inside: Position,
+        over: Position,
         depth: usize,
     ) -> Result<(), AllocError>
         ensures { OnOk result (state self.new ≡ node_operand_begun kind inside over depth (state self.old)) }
@@ -121,11 +121,11 @@ impl<'t> Parser<'t> {
     }
 
     /// Begins an operand that is a function, before its parameter.
-    pub(crate) fn lambda(&mut self, over: Place, depth: usize) -> Result<(), AllocError>
+    pub(crate) fn lambda(&mut self, over: Position, depth: usize) -> Result<(), AllocError>
         ensures { OnOk result (state self.new ≡ lambda_begun over depth (state self.old)) }
     {
         self.open_operand(over, depth)?;
-        self.open_node(SyntaxKind::NODE_LAMBDA, Place::Left(LAMBDA), depth)?;
+        self.open_node(SyntaxKind::NODE_LAMBDA, Position::Left(LAMBDA), depth)?;
         Ok(())
     }
 }

@@ -6,7 +6,7 @@ ghost use Rattle.rnix_reader.specs.Placed.{texts_in};
 use crate::cursor::{Cursor, PlacedToken};
 use crate::leaf_kind::leaf_kind_as;
 use crate::mark::Mark;
-use rnix_grammar::{ParseError, Place};
+use rnix_grammar::{ParseError, Position};
 use rnix_green::{Checkpoint, TextBuilder};
 use rnix_kinds::SyntaxKind;
 use std::alloc::AllocError;
@@ -18,7 +18,7 @@ pub(crate) struct Parser<'t> {
     pub(crate) builder: TextBuilder<'t>,
     pub(crate) errors: Vec<ParseError>,
     /// Where the last item ended, in bytes.
-    pub(crate) reached: usize,
+    pub(crate) prev_end: usize,
     pub(crate) marks: Vec<Mark>,
     ghost left: { builder.left ≡ texts_in cursor },
 }
@@ -30,8 +30,8 @@ impl<'t> Parser<'t> {
     ghost use Rattle.rnix_grammar.specs.Fault.{fault_of, ended as ended_fault};
     ghost use Rattle.rnix_grammar.specs.AnnotatedForest.{head_of, head_kind, touches};
     ghost use Rattle.rnix_reader.specs.Placed.{token_of, AreInOrder};
-    ghost use Rattle.rnix_reader.specs.State.{State, state, items_left, eaten, bumped, started, started_at, ended, failed, marked};
-    ghost use Rattle.rnix_reader.specs.Flat.{mark_at};
+    ghost use Rattle.rnix_reader.specs.State.{State, state, items_left, eaten, bumped, started, started_at, ended, failed, pushed};
+    ghost use Rattle.rnix_reader.specs.Erase.{mark_at};
 
     /// The next token that is not trivia.
     #[tactic(auto, using(crate::proofs::CursorLemmas::head_items))]
@@ -51,10 +51,10 @@ impl<'t> Parser<'t> {
 
     /// Whether no trivia stand between the last item and the next.
     pub(crate) fn touches(&self) -> bool
-        ensures { result ≡ touches (state self.now).reached (items_left (state self.now)) }
+        ensures { result ≡ touches (state self.now).prev_end (items_left (state self.now)) }
     {
         match self.item() {
-            Some(item) => item.start == self.reached,
+            Some(item) => item.start == self.prev_end,
             None => false,
         }
     }
@@ -77,13 +77,13 @@ impl<'t> Parser<'t> {
     #[inline(always)]
     pub(crate) fn start_node(&mut self, kind: SyntaxKind) -> Result<Checkpoint, AllocError>
         ensures state { OnOk result (state self.new ≡ started kind (state self.old)) }
-        ensures place { IfOk result (λ place. place ≡ tree_count (eaten (state self.old)).trees) }
+        ensures position { IfOk result (λ position. position ≡ tree_count (eaten (state self.old)).trees) }
         ensures open { OnOk result (0 < length self.new.builder.draft.open_nodes) }
     {
         self.eat_trivia()?;
-        let place = self.builder.checkpoint();
+        let position = self.builder.checkpoint();
         self.builder.start_node(kind)?;
-        Ok(place)
+        Ok(position)
     }
 
     /// Opens a node before the trees that were read from a place on.
@@ -91,14 +91,14 @@ impl<'t> Parser<'t> {
     #[inline(always)]
     pub(crate) fn start_node_at(
         &mut self,
-        place: Checkpoint,
+        position: Checkpoint,
         kind: SyntaxKind,
     ) -> Result<(), AllocError>
-        requires { IsTrue (is_checkpoint_of self.old.builder.draft place) }
-        ensures state { OnOk result (state self.new ≡ started_at place kind (state self.old)) }
+        requires { IsTrue (is_checkpoint_of self.old.builder.draft position) }
+        ensures state { OnOk result (state self.new ≡ started_at position kind (state self.old)) }
         ensures open { OnOk result (0 < length self.new.builder.draft.open_nodes) }
     {
-        self.builder.start_node_at(place, kind)
+        self.builder.start_node_at(position, kind)
     }
 
     /// Closes the innermost node.
@@ -130,19 +130,23 @@ impl<'t> Parser<'t> {
     }
 
     /// Pushes the mark of a node or an operand, to be continued at the place.
-    #[tactic(auto, unfolding(crate::specs::State::marked))]
+    #[tactic(auto, unfolding(crate::specs::State::pushed))]
     #[inline(always)]
     pub(crate) fn mark(
         &mut self,
-        place: Place,
+        position: Position,
         depth: usize,
         at: Checkpoint,
     ) -> Result<(), AllocError>
-        ensures state { OnOk result (state self.new ≡ marked (mark_at place depth at) (state self.old)) }
+        ensures state { OnOk result (state self.new ≡ pushed (mark_at position depth at) (state self.old)) }
         ensures builder { OnOk result (self.new.builder ≡ self.old.builder) }
     {
         self.marks.reserve(1)?;
-        self.marks.push_reserved(Mark { place, depth, at });
+        self.marks.push_reserved(Mark {
+            position,
+            depth,
+            at,
+        });
         Ok(())
     }
 
@@ -157,14 +161,14 @@ impl<'t> Parser<'t> {
             self.builder
                 .token(leaf_kind_as(parent, token.kind), token.text)?;
             self.cursor.advance();
-            self.reached = token.end;
+            self.prev_end = token.end;
         }
         Ok(())
     }
 
     /// The place after the trees that were read so far.
     pub(crate) fn here(&self) -> Checkpoint
-        ensures place { result ≡ tree_count (state self.now).trees }
+        ensures position { result ≡ tree_count (state self.now).trees }
     {
         self.builder.checkpoint()
     }

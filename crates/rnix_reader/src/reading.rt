@@ -2,15 +2,15 @@
 
 ghost use Rattle.std.specs.Prelude.{◌≡◌, ◌≤◌, ◌<◌, [], Bool, List, Option, length, OnOk, true};
 ghost use Rattle.rnix_kinds.specs.declared.kinds.SyntaxKind.{SyntaxKind};
-ghost use Rattle.rnix_grammar.specs.declared.action.Action.TheVariants.{Settle};
+ghost use Rattle.rnix_grammar.specs.declared.action.Action.TheVariants.{EndOperand};
 ghost use Rattle.rnix_grammar.specs.declared.begin.Begin.TheVariants.{Leaf};
 ghost use Rattle.rnix_grammar.specs.Actions.{action_at};
 ghost use Rattle.rnix_grammar.specs.AnnotatedForest.{Token};
-ghost use Rattle.rnix_grammar.specs.Machine.{begins, low_of};
-ghost use Rattle.rnix_reader.specs.Flat.{flat};
+ghost use Rattle.rnix_grammar.specs.Machine.{begins, min_bp_of};
+ghost use Rattle.rnix_reader.specs.Erase.{erase};
 ghost use Rattle.rnix_reader.specs.Holds.{IsReadTo};
-ghost use Rattle.rnix_reader.specs.Names.{entries_in, EntryNamed};
-ghost use Rattle.rnix_reader.specs.Performed.{EntryTold, IsReady, NamesAfter, NamesFor, Performed, TwiceOpened, action_of, begun_as, expression_read, is_finish, opens_in, opens_on, opens_pattern, operand_read};
+ghost use Rattle.rnix_reader.specs.PatternNames.{entries_in, EntryNamed};
+ghost use Rattle.rnix_reader.specs.Performed.{EntryReported, IsReady, NamesAfter, NamesFor, Performed, DoubleBindOpened, action_of, begun_as, expression_read, is_finish, opens_in, opens_on, opens_pattern, operand_read};
 ghost use Rattle.rnix_reader.specs.Placed.{token_of, AreInOrder};
 ghost use Rattle.rnix_reader.specs.Reported.{second_reported};
 ghost use Rattle.rnix_reader.specs.State.{state, items_left, IsNextItem};
@@ -21,9 +21,9 @@ use crate::mark::Mark;
 use crate::names::Names;
 use crate::parser::Parser;
 use rnix_grammar::{
-    APPLICATION_LEVEL, APPLIED, Action, BOUND_PATTERN, Begin, EXPRESSION_LEVEL, LEGACY_LET,
-    NO_LEVEL, PATTERN, ParseError, Place, SECOND, SELECTION_LEVEL, Until, action_at, goes_on,
-    is_past,
+    APPLICATION_LEVEL, APPLIED, Action, BOUND_PATTERN, Begin, EXPRESSION_LEVEL, ExpectedSet,
+    LEGACY_LET, NO_LEVEL, PATTERN, ParseError, Position, SECOND_BIND, SELECTION_LEVEL, action_at,
+    goes_on, is_past,
 };
 use rnix_green::TextRange;
 use rnix_kinds::SyntaxKind;
@@ -43,7 +43,7 @@ fn begin_leaf<'t>(
 ) -> Result<(), AllocError>
     ensures { OnOk result (state p.new ≡ begun_as (Leaf kind) level depth (token_of first.entry) (state p.old)) }
 {
-    p.leaf_operand(kind, Place::Behind(level, SELECTION_LEVEL), depth)?;
+    p.leaf_operand(kind, Position::AfterOperand(level, SELECTION_LEVEL), depth)?;
     Ok(())
 }
 
@@ -61,18 +61,23 @@ fn begin<'t>(
     ensures state { OnOk result (state p.new ≡ begun_as how level depth (token_of first.entry) (state p.old)) }
     ensures names { OnOk result (NamesFor (opens_pattern how) names.old names.new) }
 {
-    let over = Place::Behind(level, SELECTION_LEVEL);
+    let over = Position::AfterOperand(level, SELECTION_LEVEL);
     match how {
         Begin::Leaf(kind) => begin_leaf(p, kind, level, depth, first)?,
-        Begin::Node(kind, place, high) => {
-            p.node_operand(kind, Place::Left(place), Place::Behind(level, high), depth)?;
+        Begin::Node(kind, position, max_bp) => {
+            p.node_operand(
+                kind,
+                Position::Left(position),
+                Position::AfterOperand(level, max_bp),
+                depth,
+            )?;
         }
         Begin::LegacyLet => {
             let kind = SyntaxKind::NODE_LEGACY_LET;
             p.node_operand(
                 kind,
-                Place::Left(LEGACY_LET),
-                Place::Behind(level, NO_LEVEL),
+                Position::Left(LEGACY_LET),
+                Position::AfterOperand(level, NO_LEVEL),
                 depth,
             )?;
             p.bump(kind)?;
@@ -83,13 +88,17 @@ fn begin<'t>(
         }
         Begin::BoundLambda => {
             p.lambda(over, depth)?;
-            p.open_node(SyntaxKind::NODE_PATTERN, Place::Left(BOUND_PATTERN), depth)?;
+            p.open_node(
+                SyntaxKind::NODE_PATTERN,
+                Position::Left(BOUND_PATTERN),
+                depth,
+            )?;
             p.binding()?;
             names.open_pattern()?;
         }
         Begin::PatternLambda => {
             p.lambda(over, depth)?;
-            p.open_node(SyntaxKind::NODE_PATTERN, Place::Left(PATTERN), depth)?;
+            p.open_node(SyntaxKind::NODE_PATTERN, Position::Left(PATTERN), depth)?;
             p.bump(SyntaxKind::NODE_PATTERN)?;
             names.open_pattern()?;
         }
@@ -148,7 +157,7 @@ fn read<'t>(
 // Completes an entry of a pattern.
 fn close_entry<'t>(p: &mut Parser<'t>, names: &mut Names<'t>) -> Result<(), AllocError>
     requires { 0 < length p.old.builder.draft.open_nodes }
-    ensures { OnOk result (EntryTold (state p.old) names.old (state p.new) names.new) }
+    ensures { OnOk result (EntryReported (state p.old) names.old (state p.new) names.new) }
 {
     p.finish_node()?;
     if let Some(error) = names.close_entry()? {
@@ -159,13 +168,13 @@ fn close_entry<'t>(p: &mut Parser<'t>, names: &mut Names<'t>) -> Result<(), Allo
 
 // Completes the second name of a pattern.
 #[tactic(auto, unfolding(crate::specs::State::ended))]
-fn close_twice(p: &mut Parser<'_>, start: usize) -> Result<(), AllocError>
+fn close_double_bind(p: &mut Parser<'_>, start: usize) -> Result<(), AllocError>
     requires open { 0 < length p.old.builder.draft.open_nodes }
-    requires order { start ≤ (state p.old).reached }
+    requires order { start ≤ (state p.old).prev_end }
     ensures { OnOk result (state p.new ≡ second_reported start (state p.old)) }
 {
     p.finish_node()?;
-    p.fail(ParseError::UnexpectedDoubleBind(TextRange::new(start, p.reached)))?;
+    p.fail(ParseError::UnexpectedDoubleBind(TextRange::new(start, p.prev_end)))?;
     Ok(())
 }
 
@@ -174,7 +183,7 @@ fn open_entry<'t>(
     p: &mut Parser<'t>,
     names: &mut Names<'t>,
     mark: Mark,
-    after: Place,
+    after: Position,
 ) -> Result<(), AllocError>
     ensures state { OnOk result (state p.new ≡ entry_begun after mark (state p.old)) }
     ensures names { (t : Token) → IsNextItem t (state p.old) → OnOk result (EntryNamed t names.old names.new) }
@@ -188,28 +197,33 @@ fn open_entry<'t>(
 }
 
 // Opens the second name of a pattern, with its first token.
-fn open_twice<'t>(
+fn open_double_bind<'t>(
     p: &mut Parser<'t>,
     names: &mut Names<'t>,
     mark: Mark,
-    after: Place,
+    after: Position,
 ) -> Result<(), AllocError>
     ensures state { OnOk result (state p.new ≡ second_begun after mark (state p.old)) }
-    ensures names { (t : Token) → IsNextItem t (state p.old) → OnOk result (TwiceOpened t.start names.old names.new) }
+    ensures names { (t : Token) → IsNextItem t (state p.old) → OnOk result (DoubleBindOpened t.start names.old names.new) }
 {
     if let Some(first) = p.item() {
         names.second = first.start;
     }
-    p.open(mark, SyntaxKind::NODE_ERROR, Place::Left(SECOND), after)?;
+    p.open(
+        mark,
+        SyntaxKind::NODE_ERROR,
+        Position::Left(SECOND_BIND),
+        after,
+    )?;
     Ok(())
 }
 
 // The loosest level of an operator that may continue an operand.
-fn low_of(place: Place) -> u8
-    ensures { result ≡ low_of place }
+fn min_bp_of(position: Position) -> u8
+    ensures { result ≡ min_bp_of position }
 {
-    match place {
-        Place::Behind(low, _) => low,
+    match position {
+        Position::AfterOperand(min_bp, _) => min_bp,
         _ => EXPRESSION_LEVEL,
     }
 }
@@ -226,7 +240,7 @@ fn step<'t>(
     ensures state { OnOk result (Performed action mark (state p.old) names.old (state p.new) names.new) }
     ensures names { OnOk result (NamesAfter action mark (state p.old) names.old names.new) }
 {
-    let low = low_of(mark.place);
+    let min_bp = min_bp_of(mark.position);
     match action {
         Action::Close => p.finish_node()?,
         Action::ClosePattern => {
@@ -234,96 +248,96 @@ fn step<'t>(
             p.finish_node()?;
         }
         Action::CloseEntry => close_entry(p, names)?,
-        Action::CloseTwice => close_twice(p, names.second)?,
+        Action::CloseDoubleBind => close_double_bind(p, names.second)?,
         Action::Finish => {}
-        Action::Settle => {}
+        Action::EndOperand => {}
         Action::Extra => {
-            p.go_on(mark, mark.place)?;
+            p.go_on(mark, mark.position)?;
             p.extra()?;
         }
-        Action::Take(after) => p.take(mark, Place::Left(after))?,
-        Action::Miss(after) => p.miss(mark, Place::Left(after))?,
-        Action::MissWanted(until, after) => p.miss_wanted(mark, until, Place::Left(after))?,
+        Action::Take(after) => p.take(mark, Position::Left(after))?,
+        Action::Miss(after) => p.miss(mark, Position::Left(after))?,
+        Action::MissWanted(until, after) => p.miss_wanted(mark, until, Position::Left(after))?,
         Action::Run(until, after) => {
-            p.go_on(mark, Place::Left(after))?;
+            p.go_on(mark, Position::Left(after))?;
             p.unwanted(until)?;
         }
-        Action::Leaf(kind, after) => p.leaf(mark, kind, Place::Left(after))?,
+        Action::Leaf(kind, after) => p.leaf(mark, kind, Position::Left(after))?,
         Action::Open(kind, inside, after) => p.open(
             mark,
             kind,
-            Place::Left(inside),
-            Place::Left(after),
+            Position::Left(inside),
+            Position::Left(after),
         )?,
         Action::Begin(kind, inside, after) => p.begin(
             mark,
             kind,
-            Place::Left(inside),
-            Place::Left(after),
+            Position::Left(inside),
+            Position::Left(after),
         )?,
-        Action::Entry(after) => open_entry(p, names, mark, Place::Left(after))?,
-        Action::Twice(after) => open_twice(p, names, mark, Place::Left(after))?,
+        Action::Entry(after) => open_entry(p, names, mark, Position::Left(after))?,
+        Action::DoubleBind(after) => open_double_bind(p, names, mark, Position::Left(after))?,
         Action::Read(level, counted, after) => {
             let depth = mark.depth;
-            p.go_on(mark, Place::Left(after))?;
+            p.go_on(mark, Position::Left(after))?;
             read(p, names, level, counted, depth)?;
         }
-        Action::Wrap(kind, inside, high) => {
-            p.wrap(mark, Place::Behind(low, high), kind, inside)?;
+        Action::Wrap(kind, inside, max_bp) => {
+            p.wrap(mark, Position::AfterOperand(min_bp, max_bp), kind, inside)?;
             p.bump(kind)?;
         }
         Action::Apply => {
             let depth = mark.depth;
             p.wrap(
                 mark,
-                Place::Behind(low, APPLICATION_LEVEL),
+                Position::AfterOperand(min_bp, APPLICATION_LEVEL),
                 SyntaxKind::NODE_APPLY,
-                Place::Left(APPLIED),
+                Position::Left(APPLIED),
             )?;
             read(p, names, SELECTION_LEVEL, false, depth)?;
         }
-        Action::ApplyOr => p.apply_or(mark, Place::Behind(low, APPLICATION_LEVEL))?,
+        Action::ApplyOr => p.apply_or(mark, Position::AfterOperand(min_bp, APPLICATION_LEVEL))?,
     }
     Ok(())
 }
 
 // Whether the place is behind an operand, and nothing goes on with it.
 #[inline(always)]
-fn is_settled(place: Place, next: Option<SyntaxKind>) -> bool
-    ensures { (touches : Bool) → result ≡ true → action_at place next touches ≡ Settle }
+fn is_settled(position: Position, next: Option<SyntaxKind>) -> bool
+    ensures { (touches : Bool) → result ≡ true → action_at position next touches ≡ EndOperand }
 {
-    match (place, next) {
-        (Place::Behind(low, high), Some(kind)) => !goes_on(low, high, kind),
-        (Place::Behind(_, _), None) => true,
+    match (position, next) {
+        (Position::AfterOperand(min_bp, max_bp), Some(kind)) => !goes_on(min_bp, max_bp, kind),
+        (Position::AfterOperand(_, _), None) => true,
         _ => false,
     }
 }
 
 // The action at a place; the most frequent ones are found without the table.
 #[inline(always)]
-fn next_action(p: &Parser<'_>, place: Place) -> Action
-    ensures { result ≡ action_of place (state p.now) }
+fn next_action(p: &Parser<'_>, position: Position) -> Action
+    ensures { result ≡ action_of position (state p.now) }
 {
-    if is_past(place) {
+    if is_past(position) {
         return Action::Close;
     }
     let next = p.peek();
-    if is_settled(place, next) {
-        return Action::Settle;
+    if is_settled(position, next) {
+        return Action::EndOperand;
     }
-    action_at(place, next, p.touches())
+    action_at(position, next, p.touches())
 }
 
 /// Reads until the root is complete.
 pub(crate) fn read_all<'t>(p: &mut Parser<'t>, names: &mut Names<'t>) -> Result<(), AllocError>
-    requires state { state p.old ≡ flat (begins (state p.old).rest) }
+    requires state { state p.old ≡ erase (begins (state p.old).rest) }
     requires order { AreInOrder 0 (state p.old).rest }
     requires sets { names.old.sets.items ≡ [] }
     requires entries { entries_in names.old ≡ [] }
     ensures { OnOk result (IsReadTo (state p.old).rest (state p.new)) }
 {
     while let Some(mark) = p.marks.pop() {
-        let action = next_action(p, mark.place);
+        let action = next_action(p, mark.position);
         if let Action::Finish = action {
             p.eat_trivia()?;
             p.finish_node()?;

@@ -8,12 +8,12 @@ ghost use Rattle.rnix_grammar.specs.AnnotatedForest.{extent_of, head_kind};
 ghost use Rattle.rnix_reader.specs.Placed.{token_of};
 ghost use Rattle.rnix_reader.specs.State.{state, items_left, skipped, IsNextItem};
 ghost use Rattle.rnix_reader.specs.Reported.{end_reported, error_over, extra_reported, limit_reported, next_run, stray_reported, unwanted_reported};
-ghost use Rattle.rnix_reader.specs.Steps.{leafed};
+ghost use Rattle.rnix_reader.specs.Steps.{leaf_node_made};
 
 use crate::cursor::PlacedToken;
 use crate::leaf_kind::leaf_kind_as;
 use crate::parser::Parser;
-use rnix_grammar::{ParseError, Until, operand_kinds, stops, wanted_kinds};
+use rnix_grammar::{ExpectedSet, ParseError, operand_kinds, stops, wanted_kinds};
 use rnix_green::TextRange;
 use rnix_kinds::SyntaxKind;
 use std::alloc::AllocError;
@@ -22,7 +22,7 @@ impl<'t> Parser<'t> {
     /// Makes a node of the next item.
     #[inline(always)]
     pub(crate) fn leaf_node(&mut self, kind: SyntaxKind) -> Result<(), AllocError>
-        ensures state { OnOk result (state self.new ≡ leafed kind (state self.old)) }
+        ensures state { OnOk result (state self.new ≡ leaf_node_made kind (state self.old)) }
         ensures nodes { OnOk result (self.new.builder.draft.open_nodes ≡ self.old.builder.draft.open_nodes) }
     {
         self.eat_trivia()?;
@@ -30,7 +30,7 @@ impl<'t> Parser<'t> {
             let leaf_kind = leaf_kind_as(kind, token.kind);
             self.builder.leaf_node(kind, leaf_kind, token.text)?;
             self.cursor.advance();
-            self.reached = token.end;
+            self.prev_end = token.end;
             return Ok(());
         }
         self.builder.start_node(kind)?;
@@ -39,7 +39,7 @@ impl<'t> Parser<'t> {
     }
 
     // Reads items up to one that stops the run.
-    fn skip(&mut self, until: Until) -> Result<(), AllocError>
+    fn skip(&mut self, until: ExpectedSet) -> Result<(), AllocError>
         ensures state { OnOk result (state self.new ≡ skipped (next_run until (state self.old)) (state self.old)) }
         ensures nodes { OnOk result (self.new.builder.draft.open_nodes ≡ self.old.builder.draft.open_nodes) }
     {
@@ -53,7 +53,11 @@ impl<'t> Parser<'t> {
     }
 
     // Makes an error node of a run of items, the first of which is given, and returns its range.
-    fn error_run(&mut self, until: Until, first: PlacedToken<'_>) -> Result<TextRange, AllocError>
+    fn error_run(
+        &mut self,
+        until: ExpectedSet,
+        first: PlacedToken<'_>,
+    ) -> Result<TextRange, AllocError>
         requires first { IsNextItem (token_of first) (state self.old) }
         requires unwanted { stops until (Some first.kind) ≡ false }
         ensures state { OnOk result (state self.new ≡ error_over until (state self.old)) }
@@ -63,11 +67,11 @@ impl<'t> Parser<'t> {
         self.start_node(SyntaxKind::NODE_ERROR)?;
         self.skip(until)?;
         self.finish_node()?;
-        Ok(TextRange::new(first.start, self.reached))
+        Ok(TextRange::new(first.start, self.prev_end))
     }
 
     /// Makes an error node of a run of items where others are wanted, and reports it.
-    pub(crate) fn unwanted(&mut self, until: Until) -> Result<(), AllocError>
+    pub(crate) fn unwanted(&mut self, until: ExpectedSet) -> Result<(), AllocError>
         requires { stops until (head_kind (items_left (state self.old))) ≡ false }
         ensures { OnOk result (state self.new ≡ unwanted_reported until (state self.old)) }
     {
@@ -85,7 +89,7 @@ impl<'t> Parser<'t> {
         ensures { OnOk result (state self.new ≡ extra_reported (state self.old)) }
     {
         if let Some(first) = self.item() {
-            let range = self.error_run(Until::End, first)?;
+            let range = self.error_run(ExpectedSet::End, first)?;
             self.fail(ParseError::UnexpectedExtra(range))?;
         }
         Ok(())
@@ -105,7 +109,7 @@ impl<'t> Parser<'t> {
     }
 
     /// Reports that the text ends where certain kinds are wanted.
-    pub(crate) fn missing(&mut self, until: Until) -> Result<(), AllocError>
+    pub(crate) fn missing(&mut self, until: ExpectedSet) -> Result<(), AllocError>
         ensures { OnOk result (state self.new ≡ end_reported until (state self.old)) }
     {
         let wanted = wanted_kinds(until).to_vec(*self.errors.allocator())?;
@@ -118,7 +122,7 @@ impl<'t> Parser<'t> {
         ensures { OnOk result (state self.new ≡ limit_reported (state self.old)) }
     {
         self.start_node(SyntaxKind::NODE_ERROR)?;
-        self.skip(Until::End)?;
+        self.skip(ExpectedSet::End)?;
         self.finish_node()?;
         self.eat_trivia()?;
         self.fail(ParseError::RecursionLimitExceeded)?;

@@ -5,21 +5,21 @@ ghost use Rattle.rnix_kinds.specs.declared.kinds.SyntaxKind.TheVariants.{NODE_RO
 ghost use Rattle.rnix_green.specs.Draft.{is_checkpoint_of};
 ghost use Rattle.rnix_grammar.specs.Fault.{ended as ended_fault};
 ghost use Rattle.rnix_reader.specs.State.{state, bumped, failed};
-ghost use Rattle.rnix_reader.specs.Steps.{moved, noded, operand_begun, entry_begun, leafed, node_begun, or_applied, node_wrapped};
+ghost use Rattle.rnix_reader.specs.Steps.{moved_to, node_started, operand_begun, entry_begun, leaf_node_made, node_begun, or_applied, node_wrapped};
 ghost use Rattle.rnix_reader.specs.Reported.{end_reported};
 
 use crate::cursor::PlacedToken;
 use crate::mark::Mark;
 use crate::parser::Parser;
-use rnix_grammar::{PAT_ENTRY, ParseError, Place, Until};
+use rnix_grammar::{ExpectedSet, PAT_ENTRY, ParseError, Position};
 use rnix_kinds::SyntaxKind;
 use std::alloc::AllocError;
 
 impl<'t> Parser<'t> {
     /// Continues what the mark stands for at another place.
     #[inline(always)]
-    pub(crate) fn go_on(&mut self, mark: Mark, after: Place) -> Result<(), AllocError>
-        ensures state { OnOk result (state self.new ≡ moved after mark (state self.old)) }
+    pub(crate) fn go_on(&mut self, mark: Mark, after: Position) -> Result<(), AllocError>
+        ensures state { OnOk result (state self.new ≡ moved_to after mark (state self.old)) }
         ensures builder { OnOk result (self.new.builder ≡ self.old.builder) }
     {
         self.mark(after, mark.depth, mark.at)
@@ -30,10 +30,10 @@ impl<'t> Parser<'t> {
     pub(crate) fn open_node(
         &mut self,
         kind: SyntaxKind,
-        inside: Place,
+        inside: Position,
         depth: usize,
     ) -> Result<(), AllocError>
-        ensures state { OnOk result (state self.new ≡ noded kind inside depth (state self.old)) }
+        ensures state { OnOk result (state self.new ≡ node_started kind inside depth (state self.old)) }
         ensures open { OnOk result (0 < length self.new.builder.draft.open_nodes) }
     {
         let at = self.start_node(kind)?;
@@ -43,7 +43,7 @@ impl<'t> Parser<'t> {
 
     /// Begins an operand at the next item, to be continued at the place.
     #[inline(always)]
-    pub(crate) fn open_operand(&mut self, inside: Place, depth: usize) -> Result<(), AllocError>
+    pub(crate) fn open_operand(&mut self, inside: Position, depth: usize) -> Result<(), AllocError>
         ensures { OnOk result (state self.new ≡ operand_begun inside depth (state self.old)) }
     {
         self.eat_trivia()?;
@@ -54,8 +54,8 @@ impl<'t> Parser<'t> {
 
     /// Takes the next item as a leaf.
     #[inline(always)]
-    pub(crate) fn take(&mut self, mark: Mark, after: Place) -> Result<(), AllocError>
-        ensures { OnOk result (state self.new ≡ bumped NODE_ROOT (moved after mark (state self.old))) }
+    pub(crate) fn take(&mut self, mark: Mark, after: Position) -> Result<(), AllocError>
+        ensures { OnOk result (state self.new ≡ bumped NODE_ROOT (moved_to after mark (state self.old))) }
     {
         self.go_on(mark, after)?;
         self.bump(SyntaxKind::NODE_ROOT)?;
@@ -63,8 +63,8 @@ impl<'t> Parser<'t> {
     }
 
     /// Reports that the text ends where more is wanted.
-    pub(crate) fn miss(&mut self, mark: Mark, after: Place) -> Result<(), AllocError>
-        ensures { OnOk result (state self.new ≡ failed ended_fault (moved after mark (state self.old))) }
+    pub(crate) fn miss(&mut self, mark: Mark, after: Position) -> Result<(), AllocError>
+        ensures { OnOk result (state self.new ≡ failed ended_fault (moved_to after mark (state self.old))) }
     {
         self.go_on(mark, after)?;
         self.fail_at_end()?;
@@ -75,10 +75,10 @@ impl<'t> Parser<'t> {
     pub(crate) fn miss_wanted(
         &mut self,
         mark: Mark,
-        until: Until,
-        after: Place,
+        until: ExpectedSet,
+        after: Position,
     ) -> Result<(), AllocError>
-        ensures { OnOk result (state self.new ≡ end_reported until (moved after mark (state self.old))) }
+        ensures { OnOk result (state self.new ≡ end_reported until (moved_to after mark (state self.old))) }
     {
         self.go_on(mark, after)?;
         self.missing(until)?;
@@ -91,9 +91,9 @@ impl<'t> Parser<'t> {
         &mut self,
         mark: Mark,
         kind: SyntaxKind,
-        after: Place,
+        after: Position,
     ) -> Result<(), AllocError>
-        ensures { OnOk result (state self.new ≡ leafed kind (moved after mark (state self.old))) }
+        ensures { OnOk result (state self.new ≡ leaf_node_made kind (moved_to after mark (state self.old))) }
     {
         self.go_on(mark, after)?;
         self.leaf_node(kind)?;
@@ -106,10 +106,10 @@ impl<'t> Parser<'t> {
         &mut self,
         mark: Mark,
         kind: SyntaxKind,
-        inside: Place,
-        after: Place,
+        inside: Position,
+        after: Position,
     ) -> Result<(), AllocError>
-        ensures { OnOk result (state self.new ≡ noded kind inside mark.depth (moved after mark (state self.old))) }
+        ensures { OnOk result (state self.new ≡ node_started kind inside mark.depth (moved_to after mark (state self.old))) }
     {
         let depth = mark.depth;
         self.go_on(mark, after)?;
@@ -123,10 +123,10 @@ impl<'t> Parser<'t> {
         &mut self,
         mark: Mark,
         kind: SyntaxKind,
-        inside: Place,
-        after: Place,
+        inside: Position,
+        after: Position,
     ) -> Result<(), AllocError>
-        ensures { OnOk result (state self.new ≡ node_begun kind inside mark.depth (moved after mark (state self.old))) }
+        ensures { OnOk result (state self.new ≡ node_begun kind inside mark.depth (moved_to after mark (state self.old))) }
     {
         self.begin(mark, kind, inside, after)?;
         self.bump(kind)?;
@@ -134,13 +134,13 @@ impl<'t> Parser<'t> {
     }
 
     /// Opens an entry of a pattern, with its name.
-    pub(crate) fn entry(&mut self, mark: Mark, after: Place) -> Result<(), AllocError>
+    pub(crate) fn entry(&mut self, mark: Mark, after: Position) -> Result<(), AllocError>
         ensures { OnOk result (state self.new ≡ entry_begun after mark (state self.old)) }
     {
         self.begin(
             mark,
             SyntaxKind::NODE_PAT_ENTRY,
-            Place::Left(PAT_ENTRY),
+            Position::Left(PAT_ENTRY),
             after,
         )?;
         self.leaf_node(SyntaxKind::NODE_IDENT)?;
@@ -152,9 +152,9 @@ impl<'t> Parser<'t> {
     pub(crate) fn wrap(
         &mut self,
         mark: Mark,
-        over: Place,
+        over: Position,
         kind: SyntaxKind,
-        inside: Place,
+        inside: Position,
     ) -> Result<(), AllocError>
         requires { IsTrue (is_checkpoint_of self.old.builder.draft mark.at) }
         ensures state { OnOk result (state self.new ≡ node_wrapped kind inside over mark (state self.old)) }
@@ -168,7 +168,7 @@ impl<'t> Parser<'t> {
     }
 
     /// Applies the operand before it to the name `or`.
-    pub(crate) fn apply_or(&mut self, mark: Mark, over: Place) -> Result<(), AllocError>
+    pub(crate) fn apply_or(&mut self, mark: Mark, over: Position) -> Result<(), AllocError>
         requires { IsTrue (is_checkpoint_of self.old.builder.draft mark.at) }
         ensures { OnOk result (state self.new ≡ or_applied over mark (state self.old)) }
     {

@@ -10,12 +10,12 @@ use Rattle.{rnix_kinds.{specs.SyntaxKind.is_token, proofs.AllKinds.{all_kinds, i
 use Rattle.rnix_grammar.specs.declared.rules.Part.TheVariants.{Child, Atom, First, Suffix, Binary, Argument, Optional}
 use Rattle.rnix_grammar.specs.{AnnotatedForest.{Token, AnnotatedForest, blank, branch, one_branch, tokens_in, head_kind}, Begins.{second_kind, is_pattern}}
 use Rattle.rnix_grammar.specs.Beginnings.{first_kind_of_name, first_kind_of_let, kind_if, first_kind, BeginsAs, IsOperandOf}
-use Rattle.rnix_grammar.specs.{Levels.{expression_level, inversion_level, negation_level, selection_level}, Names.{is_position, is_name_at, is_named_by}}
+use Rattle.rnix_grammar.specs.{Levels.{expression_level, inversion_level, negation_level, selection_level}, AllowedNames.{is_position, is_name_at, is_named_by}}
 use Rattle.rnix_grammar.specs.{Operands.first_tree, Tables.is_cur_pos, TokenKinds.is_or, TreeLevels.is_or_row}
-use Rattle.rnix_grammar.specs.Rules.{Row, never, done, ◌·◌, ◌or◌, row, after, expects_item, IsExpected, stands_expected, level_at}
+use Rattle.rnix_grammar.specs.Rules.{Row, never, done, ◌·◌, ◌or◌, row, after, expects_item, IsExpected, is_first_expected, level_at}
 use Rattle.rnix_lemmas.proofs.{Basics.{true_is_not_false, not_if, choice, Where, where_one}, EachKind.{Each, each_kind}, FirstTrees.{a_node, first_in}}
-use Rattle.{rnix_lemmas.proofs.KnownRows.{IsKnown, is_live, known_rows, EachRow, each_parts, each_known, every_known}}
-use Rattle.{rnix_rows.proofs.BareRows.{is_free, is_same, same_true}}
+use Rattle.{rnix_lemmas.proofs.ReachableRows.{IsKnown, is_viable, known_rows, EachRow, each_parts, each_known, every_known}}
+use Rattle.{rnix_rows.proofs.RowsWithoutAttrpath.{is_free, is_same, same_true}}
 
 -- the first item of a pattern that stands before a function's body
 abbrev pub begins_pattern : SyntaxKind → Bool
@@ -123,56 +123,56 @@ operand_known q k c ts h = (names k ts h, where_any (is_first (row k)) h)
     names _ (t ∷ ts) h = refl
 
 -- nodes of operators, calls and selections, which begin with an operand
-abbrev is_led : SyntaxKind → Bool
-is_led NODE_APPLY = true
-is_led NODE_BIN_OP = true
-is_led NODE_HAS_ATTR = true
-is_led NODE_SELECT = true
-is_led k = false
+abbrev begins_with_operand : SyntaxKind → Bool
+begins_with_operand NODE_APPLY = true
+begins_with_operand NODE_BIN_OP = true
+begins_with_operand NODE_HAS_ATTR = true
+begins_with_operand NODE_SELECT = true
+begins_with_operand k = false
 
 -- nodes of which something need be known
-abbrev is_told : SyntaxKind → Bool
-is_told NODE_IDENT = true
-is_told NODE_CUR_POS = true
-is_told NODE_LAMBDA = true
-is_told NODE_PATTERN = true
-is_told NODE_IDENT_PARAM = true
-is_told NODE_PAT_BIND = true
-is_told NODE_PAT_ENTRY = true
-is_told k = is_led k
+abbrev is_constrained : SyntaxKind → Bool
+is_constrained NODE_IDENT = true
+is_constrained NODE_CUR_POS = true
+is_constrained NODE_LAMBDA = true
+is_constrained NODE_PATTERN = true
+is_constrained NODE_IDENT_PARAM = true
+is_constrained NODE_PAT_BIND = true
+is_constrained NODE_PAT_ENTRY = true
+is_constrained k = begins_with_operand k
 
 -- each of them is so
-abbrev EachTold : (SyntaxKind → Type 0) → Type 0
-EachTold P = P NODE_IDENT × P NODE_CUR_POS × P NODE_LAMBDA × P NODE_PATTERN × P NODE_IDENT_PARAM × P NODE_PAT_BIND × P NODE_PAT_ENTRY
+abbrev EachConstrained : (SyntaxKind → Type 0) → Type 0
+EachConstrained P = P NODE_IDENT × P NODE_CUR_POS × P NODE_LAMBDA × P NODE_PATTERN × P NODE_IDENT_PARAM × P NODE_PAT_BIND × P NODE_PAT_ENTRY
     × P NODE_APPLY × P NODE_BIN_OP × P NODE_HAS_ATTR × P NODE_SELECT
 
-each_told : (P : SyntaxKind → Type 0) → EachTold P → (k : SyntaxKind) → is_told k ≡ true → P k
-each_told P h NODE_IDENT w = h.0
-each_told P h NODE_CUR_POS w = h.1
-each_told P h NODE_LAMBDA w = h.2
-each_told P h NODE_PATTERN w = h.3
-each_told P h NODE_IDENT_PARAM w = h.4
-each_told P h NODE_PAT_BIND w = h.5
-each_told P h NODE_PAT_ENTRY w = h.6
-each_told P h NODE_APPLY w = h.7
-each_told P h NODE_BIN_OP w = h.8
-each_told P h NODE_HAS_ATTR w = h.9
-each_told P h NODE_SELECT w = h.10
-each_told P h _ w = absurd (true_is_not_false (sym w))
+each_constrained : (P : SyntaxKind → Type 0) → EachConstrained P → (k : SyntaxKind) → is_constrained k ≡ true → P k
+each_constrained P h NODE_IDENT w = h.0
+each_constrained P h NODE_CUR_POS w = h.1
+each_constrained P h NODE_LAMBDA w = h.2
+each_constrained P h NODE_PATTERN w = h.3
+each_constrained P h NODE_IDENT_PARAM w = h.4
+each_constrained P h NODE_PAT_BIND w = h.5
+each_constrained P h NODE_PAT_ENTRY w = h.6
+each_constrained P h NODE_APPLY w = h.7
+each_constrained P h NODE_BIN_OP w = h.8
+each_constrained P h NODE_HAS_ATTR w = h.9
+each_constrained P h NODE_SELECT w = h.10
+each_constrained P h _ w = absurd (true_is_not_false (sym w))
 
 -- of others
-other_known : (q : Row) (k : SyntaxKind) (c : AnnotatedForest) (ts : List Token) → is_told k ≡ false → Known q k c ts
+other_known : (q : Row) (k : SyntaxKind) (c : AnnotatedForest) (ts : List Token) → is_constrained k ≡ false → Known q k c ts
 other_known q k c [] h = (tt, where_any (is_first (row k)) tt)
 other_known q k c (t ∷ ts) h =
-    where_one (if is_told k then false else true) (ap (λ w. if w then false else true) h)
-    (each_kind (λ k. Where (if is_told k then false else true) (Known q k c (t ∷ ts))) (assumption) k)
+    where_one (if is_constrained k then false else true) (ap (λ w. if w then false else true) h)
+    (each_kind (λ k. Where (if is_constrained k then false else true) (Known q k c (t ∷ ts))) (assumption) k)
 
 -- of an operator's first operand, or of what is called or selected from
-led_known : (p : SyntaxKind) (q : Row) (k : SyntaxKind) (c f : AnnotatedForest) (ts : List Token) → is_led p ≡ true
+led_known : (p : SyntaxKind) (q : Row) (k : SyntaxKind) (c f : AnnotatedForest) (ts : List Token) → begins_with_operand p ≡ true
     → MayBegin (first_tree (one_branch p (branch k c f))) ts → Known q k c ts
 led_known p q k c f ts l h = operand_known q k c ts (subst (λ (g : SyntaxKind). MayBegin g ts) (first_in (one_branch k c) f a_node) (by p l h))
   where
-    by : (p : SyntaxKind) → is_led p ≡ true → MayBegin (first_tree (one_branch p (branch k c f))) ts → MayBegin (first_tree (branch k c f)) ts
+    by : (p : SyntaxKind) → begins_with_operand p ≡ true → MayBegin (first_tree (one_branch p (branch k c f))) ts → MayBegin (first_tree (branch k c f)) ts
     by NODE_APPLY l h = h
     by NODE_BIN_OP l h = h
     by NODE_HAS_ATTR l h = h
@@ -185,12 +185,12 @@ is_argument r = false
 
 -- rows where a name or a parameter may stand, and no operand
 abbrev is_settled : SyntaxKind → Row → Bool
-is_settled p q = if is_argument q then false else (if is_first q then (if is_led p then false else true) else is_free (level_at q blank))
+is_settled p q = if is_argument q then false else (if is_first q then (if begins_with_operand p then false else true) else is_free (level_at q blank))
 
 -- an item may be the first of a node there: as the row begins, or as it is expected or not
 abbrev may_stand : SyntaxKind → Row → Bool → SyntaxKind → AnnotatedForest → SyntaxKind → List ℕ → Bool
 may_stand p q touch k f kind text =
-    if is_first q then may_begin (first_tree (one_branch p f)) kind text else is_same (expects_item q touch kind) (stands_expected q k blank)
+    if is_first q then may_begin (first_tree (one_branch p f)) kind text else is_same (expects_item q touch kind) (is_first_expected q k blank)
 
 -- so much is known by the first item's kind
 abbrev KnownBy : SyntaxKind → Row → Bool → SyntaxKind → AnnotatedForest → AnnotatedForest → Token → List Token → SyntaxKind → Type 0
@@ -199,40 +199,40 @@ KnownBy p q touch k c f t ts j =
 
 abbrev AllKnown : Bool → AnnotatedForest → AnnotatedForest → Token → List Token → SyntaxKind → Row → Type 0
 AllKnown touch c f t ts p q =
-    Where (is_settled p q) (EachTold (λ k. Where (is_live (after q k)) (Each (KnownBy p q touch k c f t ts) all_kinds)))
+    Where (is_settled p q) (EachConstrained (λ k. Where (is_viable (after q k)) (Each (KnownBy p q touch k c f t ts) all_kinds)))
 
 -- computed for some rows at a time
-told_0 : (touch : Bool) (c f : AnnotatedForest) (t : Token) (ts : List Token) → EachRow (AllKnown touch c f t ts) (take 80 known_rows)
-told_0 touch c f t ts = assumption
+constrained_0 : (touch : Bool) (c f : AnnotatedForest) (t : Token) (ts : List Token) → EachRow (AllKnown touch c f t ts) (take 80 known_rows)
+constrained_0 touch c f t ts = assumption
 
-told_80 : (touch : Bool) (c f : AnnotatedForest) (t : Token) (ts : List Token) → EachRow (AllKnown touch c f t ts) (take 26 (drop 80 known_rows))
-told_80 touch c f t ts = assumption
+constrained_80 : (touch : Bool) (c f : AnnotatedForest) (t : Token) (ts : List Token) → EachRow (AllKnown touch c f t ts) (take 26 (drop 80 known_rows))
+constrained_80 touch c f t ts = assumption
 
-told_106 : (touch : Bool) (c f : AnnotatedForest) (t : Token) (ts : List Token) → EachRow (AllKnown touch c f t ts) (take 39 (drop 26 (drop 80 known_rows)))
-told_106 touch c f t ts = assumption
+constrained_106 : (touch : Bool) (c f : AnnotatedForest) (t : Token) (ts : List Token) → EachRow (AllKnown touch c f t ts) (take 39 (drop 26 (drop 80 known_rows)))
+constrained_106 touch c f t ts = assumption
 
-told_145 : (touch : Bool) (c f : AnnotatedForest) (t : Token) (ts : List Token)
+constrained_145 : (touch : Bool) (c f : AnnotatedForest) (t : Token) (ts : List Token)
     → EachRow (AllKnown touch c f t ts) (take 12 (drop 39 (drop 26 (drop 80 known_rows))))
-told_145 touch c f t ts = assumption
+constrained_145 touch c f t ts = assumption
 
-told_157 : (touch : Bool) (c f : AnnotatedForest) (t : Token) (ts : List Token)
+constrained_157 : (touch : Bool) (c f : AnnotatedForest) (t : Token) (ts : List Token)
     → EachRow (AllKnown touch c f t ts) (drop 12 (drop 39 (drop 26 (drop 80 known_rows))))
-told_157 touch c f t ts = assumption
+constrained_157 touch c f t ts = assumption
 
 all_known : (touch : Bool) (c f : AnnotatedForest) (t : Token) (ts : List Token) → EachRow (AllKnown touch c f t ts) known_rows
 all_known touch c f t ts =
-    each_parts (AllKnown touch c f t ts) 80 known_rows (told_0 touch c f t ts)
-    (each_parts (AllKnown touch c f t ts) 26 (drop 80 known_rows) (told_80 touch c f t ts)
-    (each_parts (AllKnown touch c f t ts) 39 (drop 26 (drop 80 known_rows)) (told_106 touch c f t ts)
-    (each_parts (AllKnown touch c f t ts) 12 (drop 39 (drop 26 (drop 80 known_rows))) (told_145 touch c f t ts) (told_157 touch c f t ts))))
+    each_parts (AllKnown touch c f t ts) 80 known_rows (constrained_0 touch c f t ts)
+    (each_parts (AllKnown touch c f t ts) 26 (drop 80 known_rows) (constrained_80 touch c f t ts)
+    (each_parts (AllKnown touch c f t ts) 39 (drop 26 (drop 80 known_rows)) (constrained_106 touch c f t ts)
+    (each_parts (AllKnown touch c f t ts) 12 (drop 39 (drop 26 (drop 80 known_rows))) (constrained_145 touch c f t ts) (constrained_157 touch c f t ts))))
 
 -- so it is of the first items
 settled_known : {p : SyntaxKind} (q : Row) (touch : Bool) (k : SyntaxKind) (c f : AnnotatedForest) (t : Token) (ts : List Token) → IsKnown p q
-    → is_settled p q ≡ true → is_told k ≡ true → is_live (after q k) ≡ true → may_stand p q touch k (branch k c f) t.kind t.text ≡ true → Known q k c (t ∷ ts)
+    → is_settled p q ≡ true → is_constrained k ≡ true → is_viable (after q k) ≡ true → may_stand p q touch k (branch k c f) t.kind t.text ≡ true → Known q k c (t ∷ ts)
 settled_known {p} q touch k c f t ts n s i l h =
     where_one (may_stand p q touch k (branch k c f) t.kind t.text) h
-    (each_kind (KnownBy p q touch k c f t ts) (where_one (is_live (after q k)) l
-    (each_told (λ k. Where (is_live (after q k)) (Each (KnownBy p q touch k c f t ts) all_kinds))
+    (each_kind (KnownBy p q touch k c f t ts) (where_one (is_viable (after q k)) l
+    (each_constrained (λ k. Where (is_viable (after q k)) (Each (KnownBy p q touch k c f t ts) all_kinds))
     (where_one (is_settled p q) s
     (each_known (AllKnown touch c f t ts) (λ p. where_any (is_settled p never) (assumption)) (all_known touch c f t ts) p q n)) k i)) t.kind)
 
@@ -247,7 +247,7 @@ is_child r = false
 
 -- elsewhere the next item is asked for, where the row does not begin with a node
 asked : (q : Row) (n : ℕ) (t : Token) (ts : List Token) (k : SyntaxKind) (c : AnnotatedForest) → is_child q ≡ false → is_first q ≡ false
-    → IsExpected q n (t ∷ ts) (stands_expected q k c) → is_same (expects_item q (nat_eq t.start n) t.kind) (stands_expected q k blank) ≡ true
+    → IsExpected q n (t ∷ ts) (is_first_expected q k c) → is_same (expects_item q (nat_eq t.start n) t.kind) (is_first_expected q k blank) ≡ true
 asked done n t ts k c h f e = same_true _ _ e
 asked (Child kind · r) n t ts k c h f e = absurd (true_is_not_false (sym (ap (λ w. if w then false else true) h) ∙ f))
 asked (Atom · r) n t ts k c h f e = absurd (true_is_not_false f)
@@ -260,34 +260,34 @@ asked never n t ts k c h f e = absurd (true_is_not_false h)
 asked (r or s) n t ts k c h f e = absurd (true_is_not_false f)
 
 -- where a row begins with a node, or a name or a parameter may stand
-by_item : {p : SyntaxKind} (q : Row) (k : SyntaxKind) (c f : AnnotatedForest) (n : ℕ) (ts : List Token) → IsKnown p q → is_settled p q ≡ true → is_told k ≡ true
-    → is_live (after q k) ≡ true → (is_first q ≡ false → is_child q ≡ false) → IsExpected q n ts (stands_expected q k c) → Fronts p q (branch k c f) ts
+by_item : {p : SyntaxKind} (q : Row) (k : SyntaxKind) (c f : AnnotatedForest) (n : ℕ) (ts : List Token) → IsKnown p q → is_settled p q ≡ true → is_constrained k ≡ true
+    → is_viable (after q k) ≡ true → (is_first q ≡ false → is_child q ≡ false) → IsExpected q n ts (is_first_expected q k c) → Fronts p q (branch k c f) ts
     → Known q k c ts
 by_item q k c f n [] i s o l a x h = (tt, where_any (is_first (row k)) tt)
 by_item {p} q k c f n (t ∷ ts) i s o l a x h = settled_known q (nat_eq t.start n) k c f t ts i s o l (by (is_first q) refl h)
   where
     by : (w : Bool) → is_first q ≡ w → Where w (MayBegin (first_tree (one_branch p (branch k c f))) (t ∷ ts))
         → (if w then may_begin (first_tree (one_branch p (branch k c f))) t.kind t.text
-        else is_same (expects_item q (nat_eq t.start n) t.kind) (stands_expected q k blank)) ≡ true
+        else is_same (expects_item q (nat_eq t.start n) t.kind) (is_first_expected q k blank)) ≡ true
     by true e h = h
     by false e h = asked q n t ts k c (a e) e x
 
 -- behind a token that is there whenever its node is no name and no parameter stands
-abbrev none_told : Row → Bool
-none_told q = list_all (λ k. if is_live (after q k) then (if is_told k then false else true) else true) all_kinds
+abbrev none_constrained : Row → Bool
+none_constrained q = list_all (λ k. if is_viable (after q k) then (if is_constrained k then false else true) else true) all_kinds
 
-abbrev is_untold : Row → Bool
-is_untold q = if is_child q then (if is_argument q then true else none_told q) else true
+abbrev is_unconstrained : Row → Bool
+is_unconstrained q = if is_child q then (if is_argument q then true else none_constrained q) else true
 
-child_untold : {p : SyntaxKind} (q : Row) (k : SyntaxKind) → IsKnown p q → is_child q ≡ true → is_argument q ≡ false → is_live (after q k) ≡ true
-    → is_told k ≡ false
-child_untold {p} q k n h a l = not_if (is_told k) (implied (λ k. is_live (after q k)) (λ k. if is_told k then false else true)
-    (sym (ap (λ w. if w then true else none_told q) a) ∙ sym (ap (λ w. if w then (if is_argument q then true else none_told q) else true) h)
-    ∙ every_known (λ p q. is_untold q) (λ p. refl) refl p q n) k l)
+child_unconstrained : {p : SyntaxKind} (q : Row) (k : SyntaxKind) → IsKnown p q → is_child q ≡ true → is_argument q ≡ false → is_viable (after q k) ≡ true
+    → is_constrained k ≡ false
+child_unconstrained {p} q k n h a l = not_if (is_constrained k) (implied (λ k. is_viable (after q k)) (λ k. if is_constrained k then false else true)
+    (sym (ap (λ w. if w then true else none_constrained q) a) ∙ sym (ap (λ w. if w then (if is_argument q then true else none_constrained q) else true) h)
+    ∙ every_known (λ p q. is_unconstrained q) (λ p. refl) refl p q n) k l)
 
 -- the name `or` after a function
 called_known : (q : Row) (k : SyntaxKind) (c : AnnotatedForest) (n : ℕ) (ts : List Token) → is_argument q ≡ true → level_at q (one_branch k c) ≡ None
-    → IsExpected q n ts (stands_expected q k c) → Known q k c ts
+    → IsExpected q n ts (is_first_expected q k c) → Known q k c ts
 called_known (Argument · r) k c n ts a e x = by (is_or_row (one_branch k c)) refl e x
   where
     named : (k : SyntaxKind) (ts : List Token) → is_or_row (one_branch k c) ≡ true → IsExpected (Argument · r) n ts true → Known (Argument · r) k c ts
@@ -307,35 +307,35 @@ level_alone (Argument · r) x h = absurd (true_is_not_false h)
 level_alone _ x h = refl
 
 -- where no level is asked for
-free_known : {p : SyntaxKind} (q : Row) (k : SyntaxKind) (c f : AnnotatedForest) (n : ℕ) (ts : List Token) → IsKnown p q → is_live (after q k) ≡ true
-    → IsExpected q n ts (stands_expected q k c) → Fronts p q (branch k c f) ts → level_at q (one_branch k c) ≡ None → is_argument q ≡ false → is_told k ≡ true
+free_known : {p : SyntaxKind} (q : Row) (k : SyntaxKind) (c f : AnnotatedForest) (n : ℕ) (ts : List Token) → IsKnown p q → is_viable (after q k) ≡ true
+    → IsExpected q n ts (is_first_expected q k c) → Fronts p q (branch k c f) ts → level_at q (one_branch k c) ≡ None → is_argument q ≡ false → is_constrained k ≡ true
     → Known q k c ts
-free_known {p} q k c f n ts i l x h e a o = by (is_first q) refl (is_led p) refl (is_child q) refl
+free_known {p} q k c f n ts i l x h e a o = by (is_first q) refl (begins_with_operand p) refl (is_child q) refl
   where
-    settled : (u v : Bool) → is_first q ≡ u → (if u then (if is_led p then false else true) else is_free (level_at q blank)) ≡ v → is_settled p q ≡ v
-    settled u v b g = ap (λ w. if w then false else (if is_first q then (if is_led p then false else true) else is_free (level_at q blank))) a
-        ∙ ap (λ w. if w then (if is_led p then false else true) else is_free (level_at q blank)) b ∙ g
+    settled : (u v : Bool) → is_first q ≡ u → (if u then (if begins_with_operand p then false else true) else is_free (level_at q blank)) ≡ v → is_settled p q ≡ v
+    settled u v b g = ap (λ w. if w then false else (if is_first q then (if begins_with_operand p then false else true) else is_free (level_at q blank))) a
+        ∙ ap (λ w. if w then (if begins_with_operand p then false else true) else is_free (level_at q blank)) b ∙ g
 
-    by : (u : Bool) → is_first q ≡ u → (v : Bool) → is_led p ≡ v → (w : Bool) → is_child q ≡ w → Known q k c ts
+    by : (u : Bool) → is_first q ≡ u → (v : Bool) → begins_with_operand p ≡ v → (w : Bool) → is_child q ≡ w → Known q k c ts
     by true b true g w d = led_known p q k c f ts g (where_one (is_first q) b h)
     by true b false g w d =
         by_item q k c f n ts i (settled true true b (ap (λ w. if w then false else true) g)) o l (λ z. absurd (true_is_not_false (sym b ∙ z))) x h
-    by false b v g true d = absurd (true_is_not_false (sym o ∙ child_untold q k i d a l))
+    by false b v g true d = absurd (true_is_not_false (sym o ∙ child_unconstrained q k i d a l))
     by false b v g false d = by_item q k c f n ts i (settled false true b (ap is_free (sym (level_alone q (one_branch k c) a) ∙ e))) o l (λ z. d) x h
 
 -- what is known of a node where it stands
-pub node_known : {p : SyntaxKind} (q : Row) (k : SyntaxKind) (c f : AnnotatedForest) (n : ℕ) (vs : List Token) → IsKnown p q → is_live (after q k) ≡ true
-    → IsExpected q n (tokens_in c ++ vs) (stands_expected q k c) → IsOperandOf (level_at q (one_branch k c)) (one_branch k c) vs
+pub node_known : {p : SyntaxKind} (q : Row) (k : SyntaxKind) (c f : AnnotatedForest) (n : ℕ) (vs : List Token) → IsKnown p q → is_viable (after q k) ≡ true
+    → IsExpected q n (tokens_in c ++ vs) (is_first_expected q k c) → IsOperandOf (level_at q (one_branch k c)) (one_branch k c) vs
     → Fronts p q (branch k c f) (tokens_in c ++ vs) → Known q k c (tokens_in c ++ vs)
 node_known q k c f n vs i l x w h = by_level (level_at q (one_branch k c)) refl w
   where
-    free : level_at q (one_branch k c) ≡ None → (u : Bool) → is_argument q ≡ u → (v : Bool) → is_told k ≡ v → Known q k c (tokens_in c ++ vs)
+    free : level_at q (one_branch k c) ≡ None → (u : Bool) → is_argument q ≡ u → (v : Bool) → is_constrained k ≡ v → Known q k c (tokens_in c ++ vs)
     free e true a v o = called_known q k c n (tokens_in c ++ vs) a e x
     free e false a true o = free_known q k c f n (tokens_in c ++ vs) i l x h e a o
     free e false a false o = other_known q k c (tokens_in c ++ vs) o
 
     by_level : (o : Option ℕ) → level_at q (one_branch k c) ≡ o → IsOperandOf o (one_branch k c) vs → Known q k c (tokens_in c ++ vs)
-    by_level None e w = free e (is_argument q) refl (is_told k) refl
+    by_level None e w = free e (is_argument q) refl (is_constrained k) refl
     by_level (Some level) e w =
         subst (Known q k c) (ap (λ us. us ++ vs) (append-nil (tokens_in c)))
         (operand_known q k c (tokens_in (one_branch k c) ++ vs) (operand_begins level (one_branch k c) (tokens_in (one_branch k c) ++ vs) w.1))

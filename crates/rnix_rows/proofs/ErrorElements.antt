@@ -2,11 +2,11 @@
 use Rattle.std.proofs.Common.{◌≡◌, ℕ, ◌+◌, true, List, [], ◌∷◌, ◌++◌, length, Some, refl, ap, sym, ◌∙◌, arith, Bool, false, None, subst, append-nil}
 use Rattle.rnix_kinds.specs.{declared.kinds.SyntaxKind.{SyntaxKind, TheVariants.{NODE_ERROR, NODE_IDENT, NODE_PAT_ENTRY}}, SyntaxKind.is_trivia}
 use Rattle.{rnix_green.specs.{Forest.{text_of, node}, Tree.{Tree, Item, item, extent_of}}, rnix_grammar.specs.{Fault.Fault, AnnotatedForest.{Note, Stray}}}
-use Rattle.rnix_grammar.specs.AnnotatedForest.{Unwanted, Extra, Twice, TooDeep, AnnotatedForest, token, tokens_in, forget, is_some, HaveLeafKinds}
+use Rattle.rnix_grammar.specs.AnnotatedForest.{Unwanted, Extra, DoubleBind, TooDeep, AnnotatedForest, token, tokens_in, forget, is_some, HaveLeafKinds}
 use Rattle.rnix_grammar.specs.{AnnotatedForest.{extent_of as place_of, Token, blank, branch, without_trivia, token_if}, Reports.{first_kind, report}}
-use Rattle.rnix_grammar.specs.{Reports.{only_token, entry_name}, Named.begins_with_token, Trim.{AreNamesBare, is_bare, begins_with_node}, Ranges.BeginsWith}
+use Rattle.rnix_grammar.specs.{Reports.{only_token, entry_name}, Named.begins_with_token, Trim.{AreNamesSingleTokens, is_single_token, begins_with_node}, Ranges.BeginsWith}
 use Rattle.{rnix_grammar.specs.Ranges.{IsErrorOf, AreErrorsOf, IsEntryName}, rnix_lemmas.proofs.Basics.{true_is_not_false, some_same}}
-use Rattle.rnix_rows.proofs.{ReadsFilled.{HasTokens, AreMarked}, PlacedTokens.{ArePlaced, between, row_extent, placed_first}, RowsIn.{IsRowIn, row_first}}
+use Rattle.rnix_rows.proofs.{ReadsFilled.{HasTokens, HaveFaultTokens}, PlacedTokens.{ArePlaced, between, row_extent, placed_first}, RowsIn.{IsRowIn, row_first}}
 use Rattle.rnix_rows.proofs.RowsIn.{row_text}
 
 -- errors and elements, one list behind another
@@ -20,8 +20,8 @@ errors-++ t (e ∷ es) fs (m ∷ ms) ns h k = (h.0, errors-++ t es fs ms ns h.1 
 pub record IsSound (q : SyntaxKind) (s : ℕ) (f : AnnotatedForest) : Type 0 where
   pub placed : ArePlaced s (tokens_in f)
   pub leaf_kind : HaveLeafKinds q f
-  pub bare : AreNamesBare f
-  pub marked : AreMarked f
+  pub bare : AreNamesSingleTokens f
+  pub marked : HaveFaultTokens f
 
 -- the first token of an error node
 first_token : (t : Tree) (m s : ℕ) (c : AnnotatedForest) → IsRowIn t (m + 1) s (Some m) (forget c) → HaveLeafKinds NODE_ERROR c → begins_with_token c ≡ true
@@ -47,15 +47,15 @@ report_error t m s n c some h w k a b = by n some
     begins_some (token k x f) h = refl
     begins_some _ h = absurd (true_is_not_false (sym h))
 
-    place : is_some (tokens_in c) ≡ true → place_of (tokens_in c) ≡ extent_of record { tree = t; number = m }
-    place some = row_extent s c some w.placed ∙ same (item t m).start (item t m).end s (s + length (text_of (forget c))) a b
+    position : is_some (tokens_in c) ≡ true → place_of (tokens_in c) ≡ extent_of record { tree = t; number = m }
+    position some = row_extent s c some w.placed ∙ same (item t m).start (item t m).end s (s + length (text_of (forget c))) a b
 
     by : (n : Note) → HasTokens n c → IsErrorOf t (report n (tokens_in c)) m
     by TooDeep some = (k, tt, tt)
-    by Stray some = (k, place (begins_some c some), first_token t m s c h w.leaf_kind some)
-    by (Unwanted until) some = (k, place (begins_some c some), first_token t m s c h w.leaf_kind some)
-    by Extra some = (k, place some, tt)
-    by Twice some = (k, place some, tt)
+    by Stray some = (k, position (begins_some c some), first_token t m s c h w.leaf_kind some)
+    by (Unwanted until) some = (k, position (begins_some c some), first_token t m s c h w.leaf_kind some)
+    by Extra some = (k, position some, tt)
+    by DoubleBind some = (k, position some, tt)
 
 -- nothing is no token
 pub none_some : {A : Type 0} (x : Token) → None ≡ Some x → A
@@ -70,14 +70,14 @@ name_node _ c f x h = none_some x h
 pub data IsName (x : Token) : AnnotatedForest → Type 0 where
   name : (j : SyntaxKind) → IsName x (token j x blank)
 
-bare_if : (b : Bool) (j : SyntaxKind) (y x : Token) → only_token (token_if b j y blank) ≡ Some x → y ≡ x
-bare_if true j y x h = none_some x h
-bare_if false j y x h = some_same y x h
+single_token_if : (b : Bool) (j : SyntaxKind) (y x : Token) → only_token (token_if b j y blank) ≡ Some x → y ≡ x
+single_token_if true j y x h = none_some x h
+single_token_if false j y x h = some_same y x h
 
-bare_name : (c : AnnotatedForest) (x : Token) → is_bare c ≡ true → only_token (without_trivia c) ≡ Some x → IsName x c
-bare_name blank x b h = none_some x h
-bare_name (token j y blank) x b h = subst (λ z. IsName x (token j z blank)) (sym (bare_if (is_trivia y.kind) j y x h)) (name j)
-bare_name _ x b h = absurd (true_is_not_false (sym b))
+single_token_name : (c : AnnotatedForest) (x : Token) → is_single_token c ≡ true → only_token (without_trivia c) ≡ Some x → IsName x c
+single_token_name blank x b h = none_some x h
+single_token_name (token j y blank) x b h = subst (λ z. IsName x (token j z blank)) (sym (single_token_if (is_trivia y.kind) j y x h)) (name j)
+single_token_name _ x b h = absurd (true_is_not_false (sym b))
 
 -- a name at the head of an entry
 name_here : (t : Tree) (e s : ℕ) (x : Token) (d f : AnnotatedForest) → (item t e).kind ≡ NODE_PAT_ENTRY
@@ -101,8 +101,8 @@ name_here t e s x _ f k h a (name j) =
 -- the name that the row of an entry begins with
 pub row_name : (t : Tree) (e s : ℕ) (c : AnnotatedForest) (x : Token) → (item t e).kind ≡ NODE_PAT_ENTRY → IsRowIn t (e + 1) s (Some e) (forget c)
     → ArePlaced s (tokens_in c)
-    → AreNamesBare c → begins_with_node c ≡ true → entry_name (without_trivia c) ≡ Some x → IsEntryName t e (place_of (x ∷ [])) x.text
+    → AreNamesSingleTokens c → begins_with_node c ≡ true → entry_name (without_trivia c) ≡ Some x → IsEntryName t e (place_of (x ∷ [])) x.text
 row_name t e s (branch j d f) x k h a r b g =
     let w = name_node j (without_trivia d) (without_trivia f) x g in
-    name_here t e s x d f k (subst (λ z. IsRowIn t (e + 1) s (Some e) (node z (forget d) (forget f))) w.0 h) (placed_first s (tokens_in d) (tokens_in f) a) (bare_name d x (r.0.0 w.0) w.1)
+    name_here t e s x d f k (subst (λ z. IsRowIn t (e + 1) s (Some e) (node z (forget d) (forget f))) w.0 h) (placed_first s (tokens_in d) (tokens_in f) a) (single_token_name d x (r.0.0 w.0) w.1)
 row_name t e s _ x k h a r b g = absurd (true_is_not_false (sym b))

@@ -2,12 +2,12 @@
 use Rattle.std.proofs.Common.{◌≡◌, ℕ, Bool, true, false, List, [], ◌∷◌, ◌++◌, refl, sym, subst}
 use Rattle.rnix_kinds.specs.declared.kinds.SyntaxKind.{SyntaxKind, TheVariants.{NODE_ERROR, NODE_PATTERN, NODE_ROOT}}
 use Rattle.rnix_grammar.specs.{declared.rules.Part.TheVariants.{BoundAlready, TextEnd}, Fault.Fault, Rules.{Row, done, ◌·◌}}
-use Rattle.rnix_grammar.specs.AnnotatedForest.{Token, Note, Stray, Unwanted, Extra, Twice, TooDeep, AnnotatedForest, row_of, tokens_in, leaf_kind}
-use Rattle.rnix_grammar.specs.{Reads.{Reads, ReadsWhole, end, leaf, missing_part, wrong, second, inner, IsWrong}}
+use Rattle.rnix_grammar.specs.AnnotatedForest.{Token, Note, Stray, Unwanted, Extra, DoubleBind, TooDeep, AnnotatedForest, row_of, tokens_in, leaf_kind}
+use Rattle.rnix_grammar.specs.{Reads.{Reads, ReadsRoot, end, leaf, missing_part, wrong, second, inner, IsWrong}}
 use Rattle.rnix_grammar.specs.{ErrorNodes.{AreUnwanted, IsErrorNode, AreErrorNodes}}
-use Rattle.rnix_lemmas.proofs.{Basics.{Where, where_one}, RunLemmas.parted, AnnotatedForestLemmas.tokens_in-row_of}
-use Rattle.rnix_lemmas.proofs.KnownRows.{IsKnown, each_known, known_row, known_second, known_after, known_missing, known_past, known_wrong}
-use Rattle.rnix_rows.proofs.BareRows.{is_bound, row_some}
+use Rattle.rnix_lemmas.proofs.{Basics.{Where, where_one}, UnwantedRuns.parted, AnnotatedForestLemmas.tokens_in-row_of}
+use Rattle.rnix_lemmas.proofs.ReachableRows.{IsKnown, each_known, known_row, known_second, known_after, known_missing, known_past, known_wrong}
+use Rattle.rnix_rows.proofs.RowsWithoutAttrpath.{is_bound, row_some}
 
 -- the end of the text is in the root alone, and a second name in a pattern
 abbrev is_text_end : Row → Bool
@@ -25,7 +25,7 @@ holds : (note : Note) (i : SyntaxKind) (d : ℕ) (q r : Row) (ts vs : List Token
 holds Stray i d q r ts vs w h = w.0
 holds (Unwanted until) i d q r ts vs w h = (w.0, subst (AreUnwanted until) (sym w.1) (parted until (ts ++ vs)).unwanted)
 holds Extra i d q r ts vs w h = (w.0, ends_root (subst (IsKnown i) w.2 h))
-holds Twice i d q r ts vs w h = absurd w
+holds DoubleBind i d q r ts vs w h = absurd w
 holds TooDeep i d q r ts vs w h = tt
 
 leaves_alone : (ts : List Token) → AreErrorNodes NODE_ERROR (row_of ts)
@@ -48,5 +48,5 @@ error_nodes (second first over s) h = ((row_some first known_second refl over.0,
 error_nodes (inner {k = k} o inside y x j z s) h = (error_nodes inside (known_row k), error_nodes s (known_after k h))
 
 -- so it is in a whole text
-pub whole_error_nodes : {f : AnnotatedForest} {es : List Fault} → ReadsWhole f es → AreErrorNodes NODE_ROOT f
-whole_error_nodes s = error_nodes s (known_row NODE_ROOT)
+pub root_error_nodes : {f : AnnotatedForest} {es : List Fault} → ReadsRoot f es → AreErrorNodes NODE_ROOT f
+root_error_nodes s = error_nodes s (known_row NODE_ROOT)

@@ -1,6 +1,6 @@
-pub mod DressLemmas
+pub mod AttachTriviaLemmas
 pub mod WithTrivia
-pub mod WithTriviaWhole
+pub mod WithAllTrivia
 pub mod ReadsFaults
 pub mod Imitation
 pub mod ReadsRows
@@ -10,9 +10,9 @@ pub mod ReadsFilled
 pub mod WithTriviaEdges
 pub mod WithTriviaNames
 pub mod TreeShapes
-pub mod ReadsWhole
-pub mod SeamLemmas
-pub mod ReadsTold
+pub mod ReadsRoot
+pub mod TriviaBetweenLemmas
+pub mod ReadsLeafKinds
 pub mod Exactly
 pub mod RowCounts
 pub mod PartRows
@@ -24,6 +24,6 @@ pub mod OrderedErrors
 pub mod ParsedRanges
 pub mod ReadsNest
 pub mod BegunTrees
-pub mod BareRows
+pub mod RowsWithoutAttrpath
 pub mod NamedRows
 pub mod ErrorNodeRows

@@ -7,7 +7,7 @@ use Rattle.rnix_grammar.specs.AnnotatedForest.{AnnotatedForest, blank, token, br
 use Rattle.rnix_grammar.specs.{AnnotatedForest.{without_trivia, token_if, HaveLeafKinds, extent_of as place_of}, Reports.{entry_name, is_same_name, has_entry}}
 use Rattle.rnix_grammar.specs.{Reports.{repeated_if, repeats}, Shape.{reports_within, name_if, with_name}, Tables.is_among, Ranges.{is_error_node, IsEntryName}}
 use Rattle.{rnix_grammar.specs.Ranges.{is_among_if, is_at_fault, at_fault_from, AreErrorsOf}, rnix_lemmas.proofs.LayoutLemmas.without_trivia-⊕}
-use Rattle.{rnix_lemmas.proofs.EntryNames.{bare_name, has_branch, has-⊕, if_not}, rnix_rows.proofs.TreeShapes.{Lists, without_trivia_name, repeats_named}}
+use Rattle.{rnix_lemmas.proofs.EntryNames.{name_of_items, has_branch, has-⊕, if_not}, rnix_rows.proofs.TreeShapes.{Lists, without_trivia_name, repeats_named}}
 use Rattle.rnix_rows.proofs.{TreeShapes.text_in as name_of, PlacedTokens.{ArePlaced, text_in, placed_first, placed_rest, forget-length}, RowsIn.IsRowIn}
 use Rattle.rnix_rows.proofs.{RowsIn.{row_first, row_inside, row_behind_leaf, row_behind_node}, ErrorElements.{errors-++, IsSound, report_error, row_name}}
 use Rattle.rnix_rows.proofs.ErrorElements.{none_some}
@@ -19,8 +19,8 @@ swapped _ _ = refl
 
 -- the names before a row, with that of one more node
 lists_node : (names : List (List ℕ)) (b : AnnotatedForest) (k : SyntaxKind) (c : AnnotatedForest) → Lists names b
-    → Lists (with_name (name_of (bare_name k c)) names) (b ⊕ one_branch k c)
-lists_node names b k c h = λ name. has-⊕ name b (one_branch k c) ∙ ap (λ x. if has_entry name b then true else x) (has_branch name k c blank) ∙ by_name name (bare_name k c)
+    → Lists (with_name (name_of (name_of_items k c)) names) (b ⊕ one_branch k c)
+lists_node names b k c h = λ name. has-⊕ name b (one_branch k c) ∙ ap (λ x. if has_entry name b then true else x) (has_branch name k c blank) ∙ by_name name (name_of_items k c)
   where
     by_name : (name : List ℕ) (o : Option Token)
         → (if has_entry name b then true else (if is_same_name name o then true else false)) ≡ is_among name (with_name (name_of o) names)
@@ -32,7 +32,7 @@ lists_branch : (names : List (List ℕ)) (b : AnnotatedForest) (k : SyntaxKind) 
     → Lists (with_name (name_if k (forget c)) names) (without_trivia (b ⊕ one_branch k c))
 lists_branch names b k c o h =
     subst (λ z. Lists (with_name z names) (without_trivia (b ⊕ one_branch k c))) (without_trivia_name k c o)
-    (subst (Lists (with_name (name_of (bare_name k (without_trivia c))) names)) (sym (without_trivia-⊕ b (one_branch k c))) (lists_node names (without_trivia b) k (without_trivia c) h))
+    (subst (Lists (with_name (name_of (name_of_items k (without_trivia c))) names)) (sym (without_trivia-⊕ b (one_branch k c))) (lists_node names (without_trivia b) k (without_trivia c) h))
 
 -- a leaf is no entry
 lists_token : (names : List (List ℕ)) (b : AnnotatedForest) (k : SyntaxKind) (x : Token) → Lists names (without_trivia b)
@@ -49,7 +49,7 @@ lists_fault : (names : List (List ℕ)) (b : AnnotatedForest) (n : Note) (c : An
 lists_fault names b n c h = λ name. ap (has_entry name) (without_trivia-⊕ b (one_fault n c)) ∙ has-⊕ name (without_trivia b) (one_fault n (without_trivia c)) ∙ if_not (has_entry name (without_trivia b)) ∙ h name
 
 -- what has a name is an entry
-named_entry : (k : SyntaxKind) (c : AnnotatedForest) (x : Token) → bare_name k c ≡ Some x → (k ≡ NODE_PAT_ENTRY) × (entry_name c ≡ Some x)
+named_entry : (k : SyntaxKind) (c : AnnotatedForest) (x : Token) → name_of_items k c ≡ Some x → (k ≡ NODE_PAT_ENTRY) × (entry_name c ≡ Some x)
 named_entry NODE_PAT_ENTRY c x h = (refl, h)
 named_entry _ c x h = none_some x h
 
@@ -68,11 +68,11 @@ node_error : (t : Tree) (n : ℕ) (names : List (List ℕ)) (b : AnnotatedForest
     → ((x : Token) → k ≡ NODE_PAT_ENTRY → entry_name (without_trivia c) ≡ Some x → IsEntryName t n (place_of (x ∷ [])) x.text)
     → AreErrorsOf t (repeats k b (without_trivia c)) (if is_at_fault k (forget c) names then n ∷ [] else [])
 node_error t n names b k c e o l h =
-    let same : is_among_if (name_of (bare_name k (without_trivia c))) names ≡ is_at_fault k (forget c) names =
+    let same : is_among_if (name_of (name_of_items k (without_trivia c))) names ≡ is_at_fault k (forget c) names =
     ap (λ z. is_among_if z names) (without_trivia_name k c o) ∙ sym (ap (λ z. z || is_among_if (name_if k (forget c)) names) e) in
     subst (λ z. AreErrorsOf t (repeats k b (without_trivia c)) (if z then n ∷ [] else [])) same
-    (subst (λ z. AreErrorsOf t z (if is_among_if (name_of (bare_name k (without_trivia c))) names then n ∷ [] else [])) (sym (repeats_named k b (without_trivia c)))
-    (entry_error t n names b (bare_name k (without_trivia c)) l (λ x g. (let w = named_entry k (without_trivia c) x g in h x w.0 w.1))))
+    (subst (λ z. AreErrorsOf t z (if is_among_if (name_of (name_of_items k (without_trivia c))) names then n ∷ [] else [])) (sym (repeats_named k b (without_trivia c)))
+    (entry_error t n names b (name_of_items k (without_trivia c)) l (λ x g. (let w = named_entry k (without_trivia c) x g in h x w.0 w.1))))
 
 -- the errors of a row are those of its elements
 pub row_errors : (t : Tree) (q : SyntaxKind) (n s : ℕ) (p : Option ℕ) (b : AnnotatedForest) (names : List (List ℕ)) (f : AnnotatedForest)

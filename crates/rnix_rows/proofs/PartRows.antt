@@ -2,11 +2,11 @@
 use Rattle.std.proofs.{Common.{◌≡◌, ℕ, ◌+◌, true, false, List, refl, ap, sym, ◌∙◌, subst, if◌then◌else◌, ◌==◌, nat_lt}, lemmas.Bool.and_parts}
 use Rattle.rnix_kinds.specs.{declared.kinds.SyntaxKind.{SyntaxKind, TheVariants.{NODE_ERROR, NODE_ROOT}}, SyntaxKind.is_token, Lexical.Tokens.Lexeme}
 use Rattle.{rnix_kinds.proofs.AllKinds.implied, rnix_green.specs.{Forest.{Forest, empty, leaf, node, element_count}, Tree.{Tree, forest_of, part_of}}}
-use Rattle.rnix_grammar.specs.{Fault.Fault, AnnotatedForest.{AnnotatedForest, blank, token, branch, fault, forget, tokens_in, HaveLeafKinds}, WholeRows.is_row}
+use Rattle.rnix_grammar.specs.{Fault.Fault, AnnotatedForest.{AnnotatedForest, blank, token, branch, fault, forget, tokens_in, HaveLeafKinds}, CompleteRows.is_row}
 use Rattle.rnix_grammar.specs.{Shape.{item_kinds, AreRows, IsShaped}, Named.AreSpelled, Derivation.has_tokens_alone}
 use Rattle.{rnix_grammar.specs.Parsed.IsParsed, rnix_lemmas.proofs.{Basics.{choice, not_if}, EntryNames.both_true, SpelledLemmas.{AreRuled, spelled_from}}}
-use Rattle.rnix_lemmas.proofs.{RowKinds.has_row, LiveRows.whole_row, SpelledLemmas.{spelled_first, spelled_rest}}
-use Rattle.rnix_rows.proofs.ReadsTold.{told_token, spelled_token}
+use Rattle.rnix_lemmas.proofs.{RowKinds.has_row, ViableRows.complete_has_row, SpelledLemmas.{spelled_first, spelled_rest}}
+use Rattle.rnix_rows.proofs.ReadsLeafKinds.{remapped_is_token, spelled_token}
 
 -- each node has a row of its kind
 abbrev pub HasRows : Forest → Type 0
@@ -49,7 +49,7 @@ tokens_part m n (node k c f) h =
 forgotten_tokens : (p : SyntaxKind) (f : AnnotatedForest) → HaveLeafKinds p f → AreSpelled (tokens_in f) → HasTokens (forget f)
 forgotten_tokens p blank t h = refl
 forgotten_tokens p (token k x f) t h =
-    both_true (is_token k) (has_tokens_alone (forget f)) (ap is_token t.0 ∙ told_token p x.kind (spelled_token x.kind x.text h.0)) (forgotten_tokens p f t.1 h.1)
+    both_true (is_token k) (has_tokens_alone (forget f)) (ap is_token t.0 ∙ remapped_is_token p x.kind (spelled_token x.kind x.text h.0)) (forgotten_tokens p f t.1 h.1)
 forgotten_tokens p (branch k c f) t h =
     both_true (has_tokens_alone (forget c)) (has_tokens_alone (forget f)) (forgotten_tokens k c t.0 (spelled_first (tokens_in c) (tokens_in f) h))
     (forgotten_tokens p f t.1 (spelled_rest (tokens_in c) (tokens_in f) h))
@@ -66,4 +66,4 @@ parsed_tokens tokens tree faults ruled h =
 
 -- a kind that has rows is that of a node
 pub row_of_node : (k : SyntaxKind) (ks : List SyntaxKind) → is_row k ks ≡ true → is_token k ≡ false
-row_of_node k ks h = not_if (is_token k) (implied has_row (λ k. if is_token k then false else true) refl k (whole_row k ks h))
+row_of_node k ks h = not_if (is_token k) (implied has_row (λ k. if is_token k then false else true) refl k (complete_has_row k ks h))

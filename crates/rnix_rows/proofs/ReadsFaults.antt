@@ -2,14 +2,14 @@
 use Rattle.std.proofs.Common.{◌≡◌, ◌⊎◌, inl, inr, ℕ, true, false, List, [], ◌∷◌, ◌++◌, Option, Some, None, refl, ap, sym, ◌∙◌, subst, append_assoc}
 use Rattle.std.proofs.Common.{if◌then◌else◌}
 use Rattle.{rnix_kinds.specs.declared.kinds.SyntaxKind.{SyntaxKind, TheVariants.NODE_PAT_ENTRY}, rnix_grammar.specs.Fault.{Fault, named_twice}}
-use Rattle.rnix_grammar.specs.AnnotatedForest.{Token, Note, Stray, Unwanted, Extra, Twice, TooDeep, AnnotatedForest, blank, branch, fault, ◌⊕◌, one_token}
+use Rattle.rnix_grammar.specs.AnnotatedForest.{Token, Note, Stray, Unwanted, Extra, DoubleBind, TooDeep, AnnotatedForest, blank, branch, fault, ◌⊕◌, one_token}
 use Rattle.rnix_grammar.specs.AnnotatedForest.{one_fault, row_of}
 use Rattle.rnix_grammar.specs.{AnnotatedForest.{tokens_in, extent_of}, AnnotatedForest.leaf_kind, Reports.{report, repeated_if, entry_name, has_entry, repeats}}
 use Rattle.rnix_grammar.specs.Rules.{Row}
 use Rattle.rnix_grammar.specs.{Reads.{Reads, end, leaf, missing_part, wrong, second, inner, IsWrong}, Repaired.{is_ended, others, is_misplaced}}
-use Rattle.rnix_grammar.specs.{Repaired.{NoneMisplaced, AreSettled, IsNamedList, AreNamedLists}, Shape.reports_behind}
+use Rattle.rnix_grammar.specs.{Repaired.{NoneMisplaced, NoErrorAfterEnd, IsNamedList, AreNamedLists}, Shape.reports_behind}
 use Rattle.rnix_lemmas.proofs.{AnnotatedForestLemmas.tokens_in-row_of, MissingFacts.missing_ended, Basics.{true_is_not_false, not_nil, none_right, none_left}}
-use Rattle.rnix_lemmas.proofs.KnownRows.{IsKnown, known_row, known_second, known_after, known_missing, known_past, known_wrong}
+use Rattle.rnix_lemmas.proofs.ReachableRows.{IsKnown, known_row, known_second, known_after, known_missing, known_past, known_wrong}
 
 -- the others of two lists
 pub others-++ : (es fs : List Fault) → others (es ++ fs) ≡ others es ++ others fs
@@ -57,7 +57,7 @@ none-++ [] fs h k = k
 none-++ (e ∷ es) fs h k = (h.0, none-++ es fs h.1 k)
 
 -- the order of two lists
-settled-++ : (es fs : List Fault) → AreSettled es → AreSettled fs → (HasEnded es → NoneMisplaced fs) → AreSettled (es ++ fs)
+settled-++ : (es fs : List Fault) → NoErrorAfterEnd es → NoErrorAfterEnd fs → (HasEnded es → NoneMisplaced fs) → NoErrorAfterEnd (es ++ fs)
 settled-++ [] fs h k r = k
 settled-++ (e ∷ es) fs h k r = (settled-++ es fs h.0 k (λ x. r (inr x)), λ x. none-++ es fs (h.1 x) (r (inl x)))
 
@@ -67,18 +67,18 @@ ended_placed (Fault.unwanted k r ks) h = absurd (true_is_not_false (sym h))
 ended_placed _ h = cc
 
 -- errors of which none is of the end of the text or of a wrong token
-pub record AreCalm (es : List Fault) : Type 0 where
+pub record NeitherEndNorMisplaced (es : List Fault) : Type 0 where
   pub reports : others es ≡ es
   pub named : AreNamedLists es
   pub none : NoneMisplaced es
-  pub settled : AreSettled es
+  pub settled : NoErrorAfterEnd es
   pub ended : HasEnded es → ⊥
 
-calm_none : AreCalm []
-calm_none = record { reports = refl; named = tt; none = tt; settled = tt; ended = λ h. h }
+neither_none : NeitherEndNorMisplaced []
+neither_none = record { reports = refl; named = tt; none = tt; settled = tt; ended = λ h. h }
 
-calm_one : (e : Fault) → is_ended e ≡ false → is_misplaced e ≡ false → IsNamedList e → AreCalm (e ∷ [])
-calm_one e p m n = record {
+neither_one : (e : Fault) → is_ended e ≡ false → is_misplaced e ≡ false → IsNamedList e → NeitherEndNorMisplaced (e ∷ [])
+neither_one e p m n = record {
   reports = ap (λ x. if x then [] else e ∷ []) p;
   named = (n, tt);
   none = (m, tt);
@@ -87,26 +87,26 @@ calm_one e p m n = record {
 }
 
 -- so is the error of a second name
-pub calm_second : (ts : List Token) → AreCalm (report Twice ts ∷ [])
-calm_second ts = calm_one (report Twice ts) refl refl tt
+pub neither_second : (ts : List Token) → NeitherEndNorMisplaced (report DoubleBind ts ∷ [])
+neither_second ts = neither_one (report DoubleBind ts) refl refl tt
 
 -- and so are those of a node that repeats a name
-pub calm_repeats : (k : SyntaxKind) (b c : AnnotatedForest) → AreCalm (repeats k b c)
-calm_repeats NODE_PAT_ENTRY b c = by (entry_name c)
+pub neither_repeats : (k : SyntaxKind) (b c : AnnotatedForest) → NeitherEndNorMisplaced (repeats k b c)
+neither_repeats NODE_PAT_ENTRY b c = by (entry_name c)
   where
-    by : (o : Option Token) → AreCalm (repeated_if o b)
-    by None = calm_none
+    by : (o : Option Token) → NeitherEndNorMisplaced (repeated_if o b)
+    by None = neither_none
     by (Some t) =
-        elim (has_entry t.text b) as (λ x. AreCalm (if x then named_twice (extent_of (t ∷ [])) t.text ∷ [] else []))
-        [ true ↦ calm_one (named_twice (extent_of (t ∷ [])) t.text) refl refl tt | false ↦ calm_none ]
-calm_repeats _ b c = calm_none
+        elim (has_entry t.text b) as (λ x. NeitherEndNorMisplaced (if x then named_twice (extent_of (t ∷ [])) t.text ∷ [] else []))
+        [ true ↦ neither_one (named_twice (extent_of (t ∷ [])) t.text) refl refl tt | false ↦ neither_none ]
+neither_repeats _ b c = neither_none
 
 -- an error node with no token is nested too deep
 empty_report : (note : Note) (d : ℕ) (q r : Row) (vs : List Token) → IsWrong note d q r [] vs → is_misplaced (report note []) ≡ false
 empty_report Stray d q r vs w = absurd (cc)
 empty_report (Unwanted until) d q r vs w = absurd (true_is_not_false (sym w.0))
 empty_report Extra d q r vs w = absurd (true_is_not_false (sym w.0))
-empty_report Twice d q r vs w = absurd w
+empty_report DoubleBind d q r vs w = absurd w
 empty_report TooDeep d q r vs w = refl
 
 -- What is so of the errors of a row: those that are not of the end of the text are those of the error nodes and of repeated entries, as these close;
@@ -117,12 +117,12 @@ pub record Errors (f : AnnotatedForest) (us : List Token) (rs es : List Fault) :
   pub named : AreNamedLists es
   pub none : tokens_in f ≡ [] → NoneMisplaced es
   pub last : HasEnded es → us ≡ []
-  pub settled : AreSettled es
+  pub settled : NoErrorAfterEnd es
 
 -- those of a node, its own and those behind it
 joined : (c f g : AnnotatedForest) (us vs : List Token) (ds os es ps rs : List Fault) → tokens_in g ≡ tokens_in c ++ tokens_in f → vs ≡ tokens_in f ++ us
     → Errors c vs ps ds
-    → AreCalm os → Errors f us rs es → Errors g us (ps ++ (os ++ rs)) ((ds ++ os) ++ es)
+    → NeitherEndNorMisplaced os → Errors f us rs es → Errors g us (ps ++ (os ++ rs)) ((ds ++ os) ++ es)
 joined c f g us vs ds os es ps rs t v h o w = record {
   reports = rw (others-++ (ds ++ os) es, others-++ ds os, h.reports, o.reports, w.reports) (append_assoc ps os rs);
   named = named-++ (ds ++ os) es (named-++ ds os h.named o.named) w.named;
@@ -173,8 +173,8 @@ reads_errors {d = d} {q = q} {b = b} {us = us} (wrong {r = r} {f = f} {es = es} 
       settled = (w.settled, λ e. absurd (true_is_not_false (sym e ∙ plain_report n ts)));
     }
 reads_errors {us = us} (second {c = c} {f = f} {ds = ds} {es = es} s y h) i =
-    joined c f (fault Twice c f) us (tokens_in f ++ us) ds (report Twice (tokens_in c) ∷ []) es _ _ refl refl (reads_errors s known_second)
-    (calm_second (tokens_in c)) (reads_errors h (known_past i))
+    joined c f (fault DoubleBind c f) us (tokens_in f ++ us) ds (report DoubleBind (tokens_in c) ∷ []) es _ _ refl refl (reads_errors s known_second)
+    (neither_second (tokens_in c)) (reads_errors h (known_past i))
 reads_errors {b = b} {us = us} (inner {k = k} {c = c} {f = f} {ds = ds} {es = es} o s y x j z h) i =
-    joined c f (branch k c f) us (tokens_in f ++ us) ds (repeats k b c) es _ _ refl refl (reads_errors s (known_row k)) (calm_repeats k b c)
+    joined c f (branch k c f) us (tokens_in f ++ us) ds (repeats k b c) es _ _ refl refl (reads_errors s (known_row k)) (neither_repeats k b c)
     (reads_errors h (known_after k i))

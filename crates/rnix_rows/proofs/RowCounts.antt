@@ -4,8 +4,8 @@ use Rattle.std.proofs.{Common.{refl, ap, sym, ◌∙◌, arith, ◌&&◌, if◌t
 use Rattle.rnix_kinds.{specs.declared.kinds.SyntaxKind.{SyntaxKind, TheVariants.NODE_ATTRPATH}, proofs.AllKinds.{all_kinds, every, implied}}
 use Rattle.{rnix_green.specs.Equality.same_kind, rnix_grammar.specs.{declared.rules.Part.Part, Rows.{is_atom, is_simple, is_entry, fits}}}
 use Rattle.rnix_grammar.specs.declared.rules.Part.TheVariants.{Child, Atom, First, Suffix, Binary, Argument, Operand, Many, Entries, Wanted, Attrpath}
-use Rattle.rnix_grammar.specs.{Rules.{Row, never, done, ◌·◌, ◌or◌, row, only, after, may_end}, WholeRows.{after_all, is_row}}
-use Rattle.rnix_lemmas.proofs.{Basics.true_is_not_false, KnownRows.is_live, LiveRows.{nowhere, later_live}}
+use Rattle.rnix_grammar.specs.{Rules.{Row, never, done, ◌·◌, ◌or◌, row, only, after, may_end}, CompleteRows.{after_all, is_row}}
+use Rattle.rnix_lemmas.proofs.{Basics.true_is_not_false, ReachableRows.is_viable, ViableRows.{nowhere, later_viable}}
 
 -- a set of kinds
 abbrev pub Test : Type 0
@@ -77,7 +77,7 @@ is_binary part = false
 
 -- so many are left to come behind each child of a row, by what is said of the rows behind it
 abbrev each_step : Test → (ℕ → Row → Bool) → ℕ → Row → Bool
-each_step test more n q = list_all (λ k. if is_live (after q k) then more (if test k then n else suc n) (after q k) else true) all_kinds
+each_step test more n q = list_all (λ k. if is_viable (after q k) then more (if test k then n else suc n) (after q k) else true) all_kinds
 
 -- each row from here on has so many children of a set, as so many steps along it show
 abbrev pub has : Test → ℕ → ℕ → Row → Bool
@@ -133,8 +133,8 @@ stepped test n m q (k ∷ ks) h e w ih =
     let left : ℕ = if test k then n else suc n in
     counted test (test k) n k ks (λ e. e)
     (ih left (after q k) ks
-    (sym (ap (λ v. if v then has test left m (after q k) else true) (later_live (after q k) ks w))
-    ∙ every (λ k. if is_live (after q k) then has test (if test k then n else suc n) m (after q k) else true) h k) w)
+    (sym (ap (λ v. if v then has test left m (after q k) else true) (later_viable (after q k) ks w))
+    ∙ every (λ k. if is_viable (after q k) then has test (if test k then n else suc n) m (after q k) else true) h k) w)
 
 -- what is computed is so
 enough : (test : Test) (n m : ℕ) (q : Row) (ks : List SyntaxKind) → has test n m q ≡ true → may_end (after_all q ks) ≡ true → n ≤ length (filter test ks)
@@ -193,7 +193,7 @@ row_nth kind ks test n h r = nth_some (filter test ks) n (enough test (suc n) st
 abbrev pub all_rows : ℕ → Row → (List SyntaxKind → Bool) → Bool
 all_rows zero q test = false
 all_rows (suc m) q test =
-    (if may_end q then test [] else true) && list_all (λ k. if is_live (after q k) then all_rows m (after q k) (λ ks. test (k ∷ ks)) else true) all_kinds
+    (if may_end q then test [] else true) && list_all (λ k. if is_viable (after q k) then all_rows m (after q k) (λ ks. test (k ∷ ks)) else true) all_kinds
 
 each_row : (m : ℕ) (q : Row) (test : List SyntaxKind → Bool) → all_rows m q test ≡ true → (ks : List SyntaxKind) → may_end (after_all q ks) ≡ true
     → test ks ≡ true
@@ -201,8 +201,8 @@ each_row zero q test h ks w = absurd (true_is_not_false (sym h))
 each_row (suc m) q test h [] w = sym (ap (λ v. if v then test [] else true) w) ∙ (and_parts (if may_end q then test [] else true) _ h).0
 each_row (suc m) q test h (k ∷ ks) w =
     each_row m (after q k) (λ ks. test (k ∷ ks))
-    (sym (ap (λ v. if v then all_rows m (after q k) (λ ks. test (k ∷ ks)) else true) (later_live (after q k) ks w))
-    ∙ every (λ k. if is_live (after q k) then all_rows m (after q k) (λ ks. test (k ∷ ks)) else true)
+    (sym (ap (λ v. if v then all_rows m (after q k) (λ ks. test (k ∷ ks)) else true) (later_viable (after q k) ks w))
+    ∙ every (λ k. if is_viable (after q k) then all_rows m (after q k) (λ ks. test (k ∷ ks)) else true)
     (and_parts (if may_end q then test [] else true) _ h).1 k) ks w
 
 -- so it is with each row of a kind

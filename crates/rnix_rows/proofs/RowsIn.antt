@@ -14,8 +14,8 @@ pub record IsRowIn (t : Tree) (n s : ℕ) (p : Option ℕ) (f : Forest) : Type 0
   pub offset : length before ≡ s
 
 -- a tree is a row of its own
-pub row_whole : (t : Tree) → IsRowIn t 0 0 None (forest_of t)
-row_whole t = record {
+pub row_of_tree : (t : Tree) → IsRowIn t 0 0 None (forest_of t)
+row_of_tree t = record {
   there = omega (arith, length-items_from 0 0 None (forest_of t));
   items = λ i l. (let e : 0 + i ≡ i = omega arith in ap (item t) e);
   before = [];
@@ -47,8 +47,8 @@ row_inside t n s p k c f h = record {
   items = λ i l.
       (let e : n + 1 + i ≡ n + suc i = omega arith in
       ap (item t) e ∙ h.items (suc i) (omega arith) ∙ elim (behind n s p k c f i) as (λ b. at n s p (node k c f) (suc i) ≡ at (n + 1) s (Some n) c i) [
-        | inside low g ↦ g
-        | beyond high g ↦ absurd (omega arith)
+        | inside min_bp g ↦ g
+        | beyond max_bp g ↦ absurd (omega arith)
       ]);
   before = h.before;
   after = text_of f ++ h.after;
@@ -67,8 +67,8 @@ row_behind_node t n s p k c f h = record {
       ap (item t) e ∙ h.items (suc (element_count c + i)) (omega arith)
       ∙ elim (behind n s p k c f (element_count c + i)) as
       (λ b. at n s p (node k c f) (suc (element_count c + i)) ≡ at (n + 1 + element_count c) (s + length (text_of c)) p f i) [
-        | inside low g ↦ absurd (omega arith)
-        | beyond high g ↦ g ∙ ap (at (n + 1 + element_count c) (s + length (text_of c)) p f) back
+        | inside min_bp g ↦ absurd (omega arith)
+        | beyond max_bp g ↦ g ∙ ap (at (n + 1 + element_count c) (s + length (text_of c)) p f) back
       ]);
   before = h.before ++ text_of c;
   after = h.after;

@@ -4,18 +4,18 @@ use Rattle.rnix_kinds.specs.declared.kinds.SyntaxKind.{SyntaxKind, TheVariants.{
 use Rattle.{rnix_kinds.specs.SyntaxKind.is_trivia, rnix_green.specs.Forest.Forest, rnix_grammar.specs.{Fault.{Fault, named_twice}, AnnotatedForest.Token}}
 use Rattle.rnix_grammar.specs.AnnotatedForest.{AnnotatedForest, blank, token, branch, fault, ◌⊕◌, one_token, one_branch, one_fault, forget, without_trivia}
 use Rattle.rnix_grammar.specs.{AnnotatedForest.{token_if, leaf_kind, HaveLeafKinds, tokens_in, extent_of}, Reports.{repeated_if, entry_name}}
-use Rattle.rnix_grammar.specs.{Reports.{only_token, is_same_name, has_entry, repeats}, Rules.may_end, WholeRows.is_row, Reads.ReadsWhole}
+use Rattle.rnix_grammar.specs.{Reports.{only_token, is_same_name, has_entry, repeats}, Rules.may_end, CompleteRows.is_row, Reads.ReadsRoot}
 use Rattle.rnix_grammar.specs.Named.{begins_with_token}
 use Rattle.rnix_grammar.specs.{Repaired.kinds_of, Trim.{AreNodesTrimmed, AreFaultsTrimmed}, Shape.{item_kinds, begins_with_leaf, is_bind_formed}}
 use Rattle.rnix_grammar.specs.Shape.{are_binds_formed, AreRows, IsShaped, leaf_text, text_if, name_in, name_if, with_name, entry_names, AreNew, AreUnrepeated}
-use Rattle.{rnix_grammar.specs.{Shape.{IsUnrepeated, reports_behind, reports_within}, Tables.is_among}, rnix_lemmas.proofs.LiveRows.nowhere}
-use Rattle.rnix_lemmas.proofs.{Basics.{true_is_not_false, none_left, none_right}, EntryNames.{bare_name, has_branch, either_assoc, has-⊕, if_not}}
+use Rattle.{rnix_grammar.specs.{Shape.{IsUnrepeated, reports_behind, reports_within}, Tables.is_among}, rnix_lemmas.proofs.ViableRows.nowhere}
+use Rattle.rnix_lemmas.proofs.{Basics.{true_is_not_false, none_left, none_right}, EntryNames.{name_of_items, has_branch, either_assoc, has-⊕, if_not}}
 use Rattle.rnix_lemmas.proofs.{AnnotatedForestLemmas.⊕-blank, LayoutLemmas.without_trivia-⊕, ReportLemmas.{without_trivia_tokens, same_report}}
-use Rattle.rnix_rows.proofs.{WithTriviaEdges.told_alike, ReadsShapes.{bare_bind, bare_binds, AreBareRows, IsBare, whole_rows}}
+use Rattle.rnix_rows.proofs.{WithTriviaEdges.remapped_is_trivia, ReadsShapes.{is_item_bind_formed, are_item_binds_formed, AreErrorFreeRows, IsErrorFree, root_rows}}
 
 -- whether a leaf is trivia, its token tells
 leaf_trivia : (p k : SyntaxKind) (t : Token) → k ≡ leaf_kind p t → is_trivia t.kind ≡ is_trivia k
-leaf_trivia p k t e = sym (ap is_trivia e ∙ told_alike p t.kind)
+leaf_trivia p k t e = sym (ap is_trivia e ∙ remapped_is_trivia p t.kind)
 
 -- what is told of a row by its first tree that is no trivia, or by all of these
 by_leaf : {A : Type 0} (x : Bool) (k : SyntaxKind) (t : Token) (f : AnnotatedForest) (h : AnnotatedForest → A) (a b : A) → h f ≡ a → h (token k t f) ≡ b
@@ -41,7 +41,7 @@ without_trivia_begins p _ h = cc
 
 -- bound names
 without_trivia_bind : (first : Bool) (k : SyntaxKind) (c : AnnotatedForest) → HaveLeafKinds k c
-    → bare_bind first k (without_trivia c) ≡ is_bind_formed first k (forget c)
+    → is_item_bind_formed first k (without_trivia c) ≡ is_bind_formed first k (forget c)
 without_trivia_bind true NODE_PAT_BIND c h = ap (λ x. if x then false else true) (without_trivia_begins NODE_PAT_BIND c h)
 without_trivia_bind false NODE_PAT_BIND c h = without_trivia_begins NODE_PAT_BIND c h
 without_trivia_bind true _ c h = refl
@@ -54,13 +54,13 @@ error_bind false c b = refl
 
 -- bound names in a row
 without_trivia_binds : (p : SyntaxKind) (first : Bool) (f : AnnotatedForest) → HaveLeafKinds p f
-    → bare_binds first (without_trivia f) ≡ are_binds_formed first (forget f)
+    → are_item_binds_formed first (without_trivia f) ≡ are_binds_formed first (forget f)
 without_trivia_binds p first blank h = refl
 without_trivia_binds p first (token k t f) h =
-    by_leaf (is_trivia t.kind) k t (without_trivia f) (bare_binds first) (are_binds_formed first (forget f)) (are_binds_formed false (forget f)) (without_trivia_binds p first f h.1) (without_trivia_binds p false f h.1)
+    by_leaf (is_trivia t.kind) k t (without_trivia f) (are_item_binds_formed first) (are_binds_formed first (forget f)) (are_binds_formed false (forget f)) (without_trivia_binds p first f h.1) (without_trivia_binds p false f h.1)
     ∙ ap (λ x. if x then are_binds_formed first (forget f) else are_binds_formed false (forget f)) (leaf_trivia p k t h.0)
 without_trivia_binds p first (branch k c f) h =
-    ap (λ x. x && bare_binds false (without_trivia f)) (without_trivia_bind first k c h.0) ∙ ap (λ x. is_bind_formed first k (forget c) && x) (without_trivia_binds p false f h.1)
+    ap (λ x. x && are_item_binds_formed false (without_trivia f)) (without_trivia_bind first k c h.0) ∙ ap (λ x. is_bind_formed first k (forget c) && x) (without_trivia_binds p false f h.1)
 without_trivia_binds p first (fault n c f) h = without_trivia_binds p false f h.1 ∙ sym (error_bind first (forget c) (are_binds_formed false (forget f)))
 
 -- an error node has no row
@@ -69,10 +69,10 @@ no_error_row [] h = true_is_not_false (sym h)
 no_error_row (k ∷ ks) h = true_is_not_false (sym h ∙ ap may_end (nowhere ks))
 
 -- each node has its row with trivia if it has it without
-are_rows : (p : SyntaxKind) (f : AnnotatedForest) → HaveLeafKinds p f → AreBareRows (without_trivia f) ↔ AreRows (forget f)
+are_rows : (p : SyntaxKind) (f : AnnotatedForest) → HaveLeafKinds p f → AreErrorFreeRows (without_trivia f) ↔ AreRows (forget f)
 are_rows p blank h = (λ r. tt, λ r. tt)
 are_rows p (token k t f) h =
-    elim (is_trivia t.kind) as (λ x. AreBareRows (token_if x k t (without_trivia f)) ↔ AreRows (forget f)) [ true ↦ are_rows p f h.1 | false ↦ are_rows p f h.1 ]
+    elim (is_trivia t.kind) as (λ x. AreErrorFreeRows (token_if x k t (without_trivia f)) ↔ AreRows (forget f)) [ true ↦ are_rows p f h.1 | false ↦ are_rows p f h.1 ]
 are_rows p (branch k c f) h =
     let kinds = ap (is_row k) (without_trivia_kinds k c h.0) in
     let binds = without_trivia_binds k true c h.0 in
@@ -108,12 +108,12 @@ without_trivia_entry p (branch k c f) h = without_trivia_ident k c (without_triv
 without_trivia_entry p _ h = assumption
 
 -- the name of a node that may be an entry
-pub without_trivia_name : (k : SyntaxKind) (c : AnnotatedForest) → HaveLeafKinds k c → text_in (bare_name k (without_trivia c)) ≡ name_if k (forget c)
+pub without_trivia_name : (k : SyntaxKind) (c : AnnotatedForest) → HaveLeafKinds k c → text_in (name_of_items k (without_trivia c)) ≡ name_if k (forget c)
 without_trivia_name NODE_PAT_ENTRY c h = without_trivia_entry NODE_PAT_ENTRY c h
 without_trivia_name _ c h = refl
 
 -- an entry is reported by its name
-pub repeats_named : (k : SyntaxKind) (b c : AnnotatedForest) → repeats k b c ≡ repeated_if (bare_name k c) b
+pub repeats_named : (k : SyntaxKind) (b c : AnnotatedForest) → repeats k b c ≡ repeated_if (name_of_items k c) b
 repeats_named NODE_PAT_ENTRY b c = refl
 repeats_named _ b c = refl
 
@@ -138,9 +138,9 @@ added names (Some name) = names ++ (name ∷ [])
 
 -- a node may have a name
 lists_branch : (names : List (List ℕ)) (b : AnnotatedForest) (k : SyntaxKind) (c : AnnotatedForest) → Lists names b
-    → Lists (added names (text_in (bare_name k c))) (b ⊕ one_branch k c)
+    → Lists (added names (text_in (name_of_items k c))) (b ⊕ one_branch k c)
 lists_branch names b k c h = λ name.
-    has-⊕ name b (one_branch k c) ∙ ap (λ x. if has_entry name b then true else x) (has_branch name k c blank) ∙ by_name name (bare_name k c)
+    has-⊕ name b (one_branch k c) ∙ ap (λ x. if has_entry name b then true else x) (has_branch name k c blank) ∙ by_name name (name_of_items k c)
   where
     by_name : (name : List ℕ) (o : Option Token)
         → (if has_entry name b then true else (if is_same_name name o then true else false)) ≡ is_among name (added names (text_in o))
@@ -176,20 +176,20 @@ abbrev IsNewRow : List (List ℕ) → Forest → Type 0
 IsNewRow names f = AreNew names (entry_names f) × AreUnrepeated f
 
 -- where every node has its row nothing is reported exactly if no name is repeated
-silent : (p : SyntaxKind) (g b : AnnotatedForest) (names : List (List ℕ)) → HaveLeafKinds p g → Lists names b → AreBareRows (without_trivia g)
+silent : (p : SyntaxKind) (g b : AnnotatedForest) (names : List (List ℕ)) → HaveLeafKinds p g → Lists names b → AreErrorFreeRows (without_trivia g)
     → (reports_behind b (without_trivia g) ≡ []) ↔ IsNewRow names (forget g)
 silent p blank b names h l r = (λ e. (tt, tt), λ w. refl)
 silent p (token k t f) b names h l r =
     elim (is_trivia t.kind) as
-    (λ x. AreBareRows (token_if x k t (without_trivia f)) → (reports_behind b (token_if x k t (without_trivia f)) ≡ []) ↔ IsNewRow names (forget f))
+    (λ x. AreErrorFreeRows (token_if x k t (without_trivia f)) → (reports_behind b (token_if x k t (without_trivia f)) ≡ []) ↔ IsNewRow names (forget f))
     [ true ↦ silent p f b names h.1 l | false ↦ silent p f (b ⊕ one_token k t) names h.1 (lists_token names b k t l) ] r
 silent p (branch k c f) b names h l r =
     let d : AnnotatedForest = without_trivia c in
-    let o : Option (List ℕ) = text_in (bare_name k d) in
+    let o : Option (List ℕ) = text_in (name_of_items k d) in
     let inside : (reports_behind blank d ≡ []) ↔ IsNewRow [] (forget c) = silent k c blank [] h.0 (λ name. refl) r.2 in
     let later : (reports_behind (b ⊕ one_branch k d) (without_trivia f) ≡ []) ↔ IsNewRow (added names o) (forget f) =
     silent p f (b ⊕ one_branch k d) (added names o) h.1 (lists_branch names b k d l) r.3 in
-    let here : (repeated_if (bare_name k d) b ≡ []) ↔ IsNew names o = new_repeated names b (bare_name k d) l in
+    let here : (repeated_if (name_of_items k d) b ≡ []) ↔ IsNew names o = new_repeated names b (name_of_items k d) l in
     let all : AreNew names (with_name (name_if k (forget c)) (entry_names (forget f))) ↔ (IsNew names o × AreNew (added names o) (entry_names (forget f))) =
     subst (λ (x : Option (List ℕ)). AreNew names (with_name x (entry_names (forget f))) ↔ (IsNew names o × AreNew (added names o) (entry_names (forget f)))) (without_trivia_name k c h.0)
     (new_all names o (entry_names (forget f))) in
@@ -208,14 +208,14 @@ silent p (branch k c f) b names h l r =
 silent p (fault n c f) b names h l r = absurd r
 
 -- a text has no error exactly if its tree has its shape and no name of a pattern is repeated
-pub whole_shaped : (f g : AnnotatedForest) (es : List Fault) → ReadsWhole f es → without_trivia g ≡ f → HaveLeafKinds NODE_ROOT g
+pub root_shaped : (f g : AnnotatedForest) (es : List Fault) → ReadsRoot f es → without_trivia g ≡ f → HaveLeafKinds NODE_ROOT g
     → (es ≡ [] → AreNodesTrimmed (forget g))
     → (es ≡ []) ↔ (IsShaped (record { kind = NODE_ROOT; children = forget g }) × IsUnrepeated (record { kind = NODE_ROOT; children = forget g }))
-whole_shaped f g es s e h t = (there, back)
+root_shaped f g es s e h t = (there, back)
   where
     there : es ≡ [] → IsShaped (record { kind = NODE_ROOT; children = forget g }) × IsUnrepeated (record { kind = NODE_ROOT; children = forget g })
     there n =
-        let w : IsBare (without_trivia g) = subst IsBare (sym e) ((whole_rows s).0 n) in
+        let w : IsErrorFree (without_trivia g) = subst IsErrorFree (sym e) ((root_rows s).0 n) in
         let new = (silent NODE_ROOT g blank [] h (λ name. refl) w.nodes).0 w.silent in
         (((ap (is_row NODE_ROOT) (sym (without_trivia_kinds NODE_ROOT g h)) ∙ w.root, (are_rows NODE_ROOT g h).0 w.nodes, t n)), (new.0, new.1, tt))
 
@@ -223,13 +223,13 @@ whole_shaped f g es s e h t = (there, back)
     back w =
         let shape : IsShaped (record { kind = NODE_ROOT; children = forget g }) = w.0 in
         let new : IsUnrepeated (record { kind = NODE_ROOT; children = forget g }) = w.1 in
-        let rows : AreBareRows (without_trivia g) = (are_rows NODE_ROOT g h).1 shape.1 in
-        let bare : IsBare (without_trivia g) = record {
+        let rows : AreErrorFreeRows (without_trivia g) = (are_rows NODE_ROOT g h).1 shape.1 in
+        let bare : IsErrorFree (without_trivia g) = record {
           root = ap (is_row NODE_ROOT) (without_trivia_kinds NODE_ROOT g h) ∙ shape.0;
           nodes = rows;
           silent = (silent NODE_ROOT g blank [] h (λ name. refl) rows).1 (new.0, new.1);
         } in
-        (whole_rows s).1 (subst IsBare e bare)
+        (root_rows s).1 (subst IsErrorFree e bare)
 
 -- a leaf reports nothing
 leaf_reports : (x : Bool) (k : SyntaxKind) (t : Token) (b f : AnnotatedForest)

@@ -8,8 +8,8 @@ use Rattle.rnix_grammar.specs.Trim.{EndsWithItem, leaf_kinds, token_kinds, AreFa
 use Rattle.rnix_lemmas.proofs.LayoutLemmas.{IsFirst, first_item, IsBared, bared, items-from_item, items-rest_after, with_trivia_tokens}
 use Rattle.rnix_lemmas.proofs.EdgeLemmas.{IsSome, some, some_before, some_behind, ends_behind, ends_both, begins_part, token_kinds-++, kinds_in, kinds_in-⊕}
 use Rattle.rnix_lemmas.proofs.EdgeLemmas.{faults_trimmed-⊕}
-use Rattle.{rnix_lemmas.proofs.EdgeLemmas.faults_trimmed_trivia, rnix_rows.proofs.DressLemmas.HasTree}
-use Rattle.rnix_rows.proofs.{ReadsFilled.{AreFilled, AreFaultsFilled, rows_filled}, ReadsShapes.AreBareRows}
+use Rattle.{rnix_lemmas.proofs.EdgeLemmas.faults_trimmed_trivia, rnix_rows.proofs.AttachTriviaLemmas.HasTree}
+use Rattle.rnix_rows.proofs.{ReadsFilled.{AreFilled, AreFaultsFilled, rows_filled}, ReadsShapes.AreErrorFreeRows}
 
 -- a row begins and ends with items, or is empty
 abbrev IsEdged : AnnotatedForest → Type 0
@@ -93,7 +93,7 @@ edged_trivia [] = tt
 edged_trivia (t ∷ ts) = elim (is_trivia t.kind) as (λ x. AreEdged (trivia_if x t (trivia_before ts))) [ true ↦ edged_trivia ts | false ↦ tt ]
 
 -- where each node has its row each begins and ends with items
-pub with_trivia_edged : (f : AnnotatedForest) (ts us : List Token) → items ts ≡ tokens_in f ++ us → AreBareRows f → AreEdged (with_trivia f ts)
+pub with_trivia_edged : (f : AnnotatedForest) (ts us : List Token) → items ts ≡ tokens_in f ++ us → AreErrorFreeRows f → AreEdged (with_trivia f ts)
 with_trivia_edged blank ts us e h = tt
 with_trivia_edged (token k x f) ts us e h =
     let rest : List Token = tail_of (from_item ts) in
@@ -168,15 +168,15 @@ place_alike TOKEN_IDENT = refl
 place_alike _ = refl
 
 -- below any parent
-pub told_alike : (p k : SyntaxKind) → is_trivia (leaf_kind_as p k) ≡ is_trivia k
-told_alike NODE_IDENT k = name_alike k
-told_alike NODE_CUR_POS k = place_alike k
-told_alike _ k = refl
+pub remapped_is_trivia : (p k : SyntaxKind) → is_trivia (leaf_kind_as p k) ≡ is_trivia k
+remapped_is_trivia NODE_IDENT k = name_alike k
+remapped_is_trivia NODE_CUR_POS k = place_alike k
+remapped_is_trivia _ k = refl
 
 -- the leaves of a row and its tokens
 leaves_alike : (p : SyntaxKind) (f : AnnotatedForest) → HaveLeafKinds p f → AreAlike (leaf_kinds (forget f)) (token_kinds (tokens_in f))
 leaves_alike p blank h = none
-leaves_alike p (token k t f) h = both (ap is_trivia h.0 ∙ told_alike p t.kind) (leaves_alike p f h.1)
+leaves_alike p (token k t f) h = both (ap is_trivia h.0 ∙ remapped_is_trivia p t.kind) (leaves_alike p f h.1)
 leaves_alike p (branch k c f) h =
     subst (AreAlike (leaf_kinds (forget c) ++ leaf_kinds (forget f))) (sym (token_kinds-++ (tokens_in c) (tokens_in f)))
     (alike-++ (leaves_alike k c h.0) (leaves_alike p f h.1))

@@ -1,5 +1,5 @@
 pub mod Converse
-pub mod LedForms
+pub mod TokenDependentForms
 pub mod RowForms
 pub mod RowViews
 pub mod SoundRows

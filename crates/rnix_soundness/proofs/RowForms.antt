@@ -2,12 +2,12 @@
 use Rattle.std.proofs.Common.{◌≡◌, ◌⊎◌, inl, inr, ℕ, suc, Bool, true, false, List, [], ◌∷◌, refl, sym, ◌∙◌, subst, arith, if◌then◌else◌}
 use Rattle.{std.proofs.lemmas.Bool.Decides.nat_tests, rnix_kinds.specs.{declared.kinds.SyntaxKind.SyntaxKind, SyntaxKind.is_token}}
 use Rattle.{rnix_green.specs.Forest.{Forest, empty, leaf, node}, rnix_grammar.specs.{AnnotatedForest.AnnotatedForest, Tables.{is_among, is_or}}}
-use Rattle.rnix_grammar.specs.{Levels.{expression_level, selection_level}, TokenKinds.is_path_piece, Corners.{is_one, node_count, is_corner}}
+use Rattle.rnix_grammar.specs.{Levels.{expression_level, selection_level}, TokenKinds.is_path_piece, Extensions.{is_one, node_count, is_extension}}
 use Rattle.rnix_grammar.specs.{Rules.{Row, done, ◌·◌, row}, declared.rules.Part.TheVariants.EndOr}
-use Rattle.rnix_grammar.specs.{Rows.{fits, is_atom, is_attr, is_entry, is_expression}, Names.is_named, TreeLevels.level_of}
-use Rattle.rnix_lemmas.proofs.{Basics.{not_if, true_is_not_false}, EveryKind.{not_together, whenever_both, never as no_kind_both}, NodeKinds.fits_expression}
+use Rattle.rnix_grammar.specs.{Rows.{fits, is_atom, is_attr, is_entry, is_expression}, AllowedNames.is_named, TreeLevels.level_of}
+use Rattle.rnix_lemmas.proofs.{Basics.{not_if, true_is_not_false}, EveryKind.{not_together, whenever_both, never as no_kind_both}, KindsOfNodes.fits_expression}
 use Rattle.rnix_soundness.proofs.RowViews.{begins_with_leaf, entry_text, IsBind, binds_before, binds_behind, IsPart, IsIn, Offers, attr_of, is_piece, goes_on}
-use Rattle.rnix_soundness.proofs.RowViews.{Ends, ends, Leads, leads, heads, One, Stands, stands, Several, over, and_leaf, and_node}
+use Rattle.rnix_soundness.proofs.RowViews.{Ends, ends, Leads, leads, heads, One, FirstNode, stands, Several, over, and_leaf, and_node}
 use Rattle.rnix_soundness.proofs.RowViews.{Braces, closed, dotted, last, comma, View}
 use Rattle.rnix_grammar.specs.Grammar as G
 use Rattle.rnix_kinds.specs.declared.kinds.SyntaxKind.TheVariants as K
@@ -37,11 +37,11 @@ is_value k c = is_named done k c
 pub record IsMade (k : SyntaxKind) (c : AnnotatedForest) (g : Forest) : Type 0 where
   pub atom : is_closed k ≡ true → is_value k c ≡ true → G.Atom k g
   pub strict : is_expression k ≡ true → is_value k c ≡ true → G.Strict (tightest k c) k g
-  pub part : (parent : SyntaxKind) → (if is_corner parent k g then false else true) ≡ true → IsPart k g
+  pub part : (parent : SyntaxKind) → (if is_extension parent k g then false else true) ≡ true → IsPart k g
 
 -- a part of an expression, an atom, and another expression
 of_part : {k : SyntaxKind} {c : AnnotatedForest} {g : Forest} → is_expression k ≡ false → is_closed k ≡ false
-    → ((parent : SyntaxKind) → (if is_corner parent k g then false else true) ≡ true → IsPart k g) → IsMade k c g
+    → ((parent : SyntaxKind) → (if is_extension parent k g then false else true) ≡ true → IsPart k g) → IsMade k c g
 of_part e a m = record { atom = λ h n. absurd (true_is_not_false (sym h ∙ a)); strict = λ h n. absurd (true_is_not_false (sym h ∙ e)); part = m }
 
 of_atom : {k : SyntaxKind} {c : AnnotatedForest} {g : Forest} → tightest k c ≡ selection_level → G.Atom k g → IsPart k g → IsMade k c g
@@ -113,7 +113,7 @@ gather (and_node {k = _} i b a m r) n = absurd (true_is_not_false (sym b))
 ended : {w : SyntaxKind} {t : List ℕ} {f g : Forest} → G.Entries f (leaf w t g) → Ends g → G.Entries f (leaf w t empty)
 ended e ends = e
 
-let_of : {s t : List ℕ} {f g : Forest} → G.Entries f (leaf K.TOKEN_IN t g) → Stands (IsIn K.NODE_LET_IN expression_level) Ends g
+let_of : {s t : List ℕ} {f g : Forest} → G.Entries f (leaf K.TOKEN_IN t g) → FirstNode (IsIn K.NODE_LET_IN expression_level) Ends g
     → G.Strict expression_level K.NODE_LET_IN (leaf K.TOKEN_LET s f)
 let_of e (stands d ends) = G.let_in e (d refl)
 
@@ -151,18 +151,18 @@ bound_first (binds_before o) e h = G.bound_pattern o h
 bound_first (binds_behind o) e h = absurd (true_is_not_false (sym e))
 
 -- the nodes whose levels or names depend on the tokens that they have
-abbrev pub is_led : SyntaxKind → Bool
-is_led K.NODE_IDENT = true
-is_led K.NODE_CUR_POS = true
-is_led K.NODE_SELECT = true
-is_led K.NODE_HAS_ATTR = true
-is_led K.NODE_APPLY = true
-is_led K.NODE_UNARY_OP = true
-is_led K.NODE_BIN_OP = true
-is_led k = false
+abbrev pub depends_on_tokens : SyntaxKind → Bool
+depends_on_tokens K.NODE_IDENT = true
+depends_on_tokens K.NODE_CUR_POS = true
+depends_on_tokens K.NODE_SELECT = true
+depends_on_tokens K.NODE_HAS_ATTR = true
+depends_on_tokens K.NODE_APPLY = true
+depends_on_tokens K.NODE_UNARY_OP = true
+depends_on_tokens K.NODE_BIN_OP = true
+depends_on_tokens k = false
 
 -- what the children of another node are
-pub made : (k : SyntaxKind) (c : AnnotatedForest) (g : Forest) → is_led k ≡ false → View k (row k) g → (k ≡ K.NODE_PATTERN → are_entries_new [] g ≡ true)
+pub made : (k : SyntaxKind) (c : AnnotatedForest) (g : Forest) → depends_on_tokens k ≡ false → View k (row k) g → (k ≡ K.NODE_PATTERN → are_entries_new [] g ≡ true)
     → IsMade k c g
 made K.NODE_STRING c _ e (leads v) n =
     record { atom = λ h i. G.string (pieces v); strict = λ h i. G.atom (G.string (pieces v)); part = λ i h. G.string_attr (pieces v) }

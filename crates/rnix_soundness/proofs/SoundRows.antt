@@ -5,15 +5,15 @@ use Rattle.rnix_kinds.specs.declared.kinds.SyntaxKind.{SyntaxKind, TheVariants.{
 use Rattle.rnix_kinds.specs.declared.kinds.SyntaxKind.TheVariants.{NODE_CUR_POS, NODE_IDENT, NODE_LAMBDA, NODE_LITERAL, NODE_PAT_BIND, NODE_PAT_ENTRY}
 use Rattle.rnix_kinds.{specs.SyntaxKind.is_token}
 use Rattle.rnix_green.specs.{Equality.same_kind, Forest.{Forest, empty, leaf, node}}
-use Rattle.rnix_grammar.specs.{Rows.{is_attr, is_expression}, Rules.{Row, never, done, ◌·◌, ◌or◌, after, only, may_end, run_at, level_at}, Plain.is_node}
+use Rattle.rnix_grammar.specs.{Rows.{is_attr, is_expression}, Rules.{Row, never, done, ◌·◌, ◌or◌, after, only, may_end, run_at, level_at}, PathPieces.is_node}
 use Rattle.rnix_grammar.specs.{BehindErrors.{after_run, after_error}, Beginnings.IsOperandOf, Levels.selection_level, Rules.IsFollowed}
-use Rattle.rnix_grammar.specs.AnnotatedForest.{Token, Note, Stray, Unwanted, Extra, Twice, TooDeep, AnnotatedForest, blank, token, branch, fault, ◌⊕◌}
+use Rattle.rnix_grammar.specs.AnnotatedForest.{Token, Note, Stray, Unwanted, Extra, DoubleBind, TooDeep, AnnotatedForest, blank, token, branch, fault, ◌⊕◌}
 use Rattle.rnix_grammar.specs.AnnotatedForest.{one_token, one_branch, one_fault, leaf_kind, leaf_kind_as}
-use Rattle.rnix_grammar.specs.{Names.{is_name_at, is_named_in, is_plain}, Named.{begins_with_token, is_repeated, is_spelled, suits, Lacks}}
-use Rattle.rnix_grammar.specs.{Corners.{holds_no_lambda, is_corner}, Repaired.{repaired}, Reports.{entry_name, only_token, repeats}}
+use Rattle.rnix_grammar.specs.{AllowedNames.{is_name_at, is_named_in, is_plain}, Named.{begins_with_token, is_repeated, is_spelled, is_name_allowed, Lacks}}
+use Rattle.rnix_grammar.specs.{Extensions.{holds_no_lambda, is_extension}, Repaired.{repaired}, Reports.{entry_name, only_token, repeats}}
 use Rattle.rnix_grammar.specs.{TreeLevels.{is_atom_row, is_or_row, level_of}, TokenKinds.is_or, Grammar.{Strict, looser, literal, atom}}
 use Rattle.rnix_lemmas.proofs.{Basics.{not_if, true_is_not_false}, EveryKind.whenever_two, LevelLemmas.at_most}
-use Rattle.rnix_soundness.proofs.{RowViews.{begins_with_leaf, entry_text, Offers, Asks, binds, names_or, Held, ended, leafed, noded, passed, alike, lost}}
+use Rattle.rnix_soundness.proofs.{RowViews.{begins_with_leaf, entry_text, Offers, Asks, binds, names_or, GrammarRow, ended, leaf_node_made, node_started, passed, alike, lost}}
 use Rattle.rnix_soundness.proofs.RowForms.{tightest, is_value, IsMade}
 use Rattle.rnix_grammar.specs.declared.rules.Part.{Part}
 use Rattle.rnix_grammar.specs.Tables as tables
@@ -53,7 +53,7 @@ Calls q b x = Unit {0}
 
 -- what is known of a leaf and of a node where this is left of a row, behind other trees
 pub record IsLeaf (parent : SyntaxKind) (q : Row) (b : AnnotatedForest) (k : SyntaxKind) (t : Token) : Type 0 where
-  pub told : k ≡ leaf_kind parent t
+  pub kind_is : k ≡ leaf_kind parent t
   pub spelled : is_spelled t.kind t.text ≡ true
   pub followed : IsFollowed q b (Some k)
 
@@ -64,14 +64,14 @@ pub record IsChild (parent : SyntaxKind) (q : Row) (b : AnnotatedForest) (k : Sy
   pub next : List Token
   pub operand : IsOperandOf (level_at q (one_branch k c)) (one_branch k c) next
   pub called : Calls q b (one_branch k c)
-  pub suited : suits q k c ≡ true
-  pub corner : (if is_corner parent k (repaired c) then false else true) ≡ true
+  pub suited : is_name_allowed q k c ≡ true
+  pub extension : (if is_extension parent k (repaired c) then false else true) ≡ true
   pub new : Lacks is_repeated (repeats k b c)
 
 -- where error nodes that are no operands stand
 abbrev pub Skips : Note → Row → Type 0
 Skips Extra q = q ≡ p.TextEnd · done
-Skips Twice q = q ≡ p.BoundAlready · done
+Skips DoubleBind q = q ≡ p.BoundAlready · done
 Skips note q = Unit {0}
 
 -- and of each tree of a row, from what is left of it on
@@ -94,12 +94,12 @@ pub nowhere : {A : Type 0} (parent : SyntaxKind) (b f : AnnotatedForest) → IsS
 nowhere parent b blank h = absurd (true_is_not_false (sym h))
 nowhere parent b (token k t f) h = nowhere parent (b ⊕ one_token k t) f h.1
 nowhere parent b (branch k c f) h = nowhere parent (b ⊕ one_branch k c) f h.1
-nowhere parent b (fault Twice c f) h = no_part never refl h.0
+nowhere parent b (fault DoubleBind c f) h = no_part never refl h.0
 nowhere parent b (fault n c f) h = nowhere parent (b ⊕ one_fault n c) f h.1
 
 -- a leaf is a token
 pub leaf_is_token : {parent : SyntaxKind} {q : Row} {b : AnnotatedForest} {k : SyntaxKind} {t : Token} → IsLeaf parent q b k t → is_token k ≡ true
-leaf_is_token {parent = parent} {t = t} h = ap is_token h.told ∙ leaf_token parent t.kind t.text h.spelled
+leaf_is_token {parent = parent} {t = t} h = ap is_token h.kind_is ∙ leaf_token parent t.kind t.text h.spelled
 
 -- a number in an operand's place
 abbrev pub zero : Forest
@@ -115,14 +115,14 @@ number_asked parent (p.Many n w · r) = number_in parent n
 number_asked parent _ = tt
 
 -- a node that suits its place is named as it may be there
-suits_named : (q : Row) (k : SyntaxKind) (c : AnnotatedForest) → suits q k c ≡ true → is_named_in q k (only_token c) ≡ true
-suits_named q NODE_PAT_BIND c h = elim (only_token c) as (λ o. is_named_in q NODE_PAT_BIND o ≡ true) [ None ↦ refl | Some t ↦ refl ]
-suits_named q k c h = h
+allowed_named : (q : Row) (k : SyntaxKind) (c : AnnotatedForest) → is_name_allowed q k c ≡ true → is_named_in q k (only_token c) ≡ true
+allowed_named q NODE_PAT_BIND c h = elim (only_token c) as (λ o. is_named_in q NODE_PAT_BIND o ≡ true) [ None ↦ refl | Some t ↦ refl ]
+allowed_named q k c h = h
 
 -- a name that is plain where it stands may be an expression
 pub named_value : (q : Row) (k : SyntaxKind) (c : AnnotatedForest) → (k ≡ NODE_IDENT → (t : Token) → is_name_at q t ≡ true → is_plain t ≡ true)
-    → suits q k c ≡ true → is_value k c ≡ true
-named_value q k c plain h = by k (only_token c) plain (suits_named q k c h)
+    → is_name_allowed q k c ≡ true → is_value k c ≡ true
+named_value q k c plain h = by k (only_token c) plain (allowed_named q k c h)
   where
     by : (k : SyntaxKind) (o : Option Token) → (k ≡ NODE_IDENT → (t : Token) → is_name_at q t ≡ true → is_plain t ≡ true) → is_named_in q k o ≡ true
         → is_named_in done k o ≡ true
@@ -132,20 +132,20 @@ named_value q k c plain h = by k (only_token c) plain (suits_named q k c h)
     by k (Some t) plain h = refl
 
 -- a tree that is no corner stands at each level at which it binds
-bounded : (parent k : SyntaxKind) (c : AnnotatedForest) (g : Forest) (n : ℕ) → n ≤ level_of k c → (if is_corner parent k g then false else true) ≡ true
+bounded : (parent k : SyntaxKind) (c : AnnotatedForest) (g : Forest) (n : ℕ) → n ≤ level_of k c → (if is_extension parent k g then false else true) ≡ true
     → (nat_eq n 0 || holds_no_lambda parent) ≡ true → n ≤ tightest k c
 bounded parent NODE_LAMBDA c g n l m o = ⊎_elim (λ e. grind (arith, nat_tests, e))
     (λ e. absurd (true_is_not_false (sym e ∙ not_if (holds_no_lambda parent) m))) (or_cases (nat_eq n 0) (holds_no_lambda parent) o)
 bounded parent _ c g n l m o = l
 
-pub level_stands : {parent k : SyntaxKind} {q : Row} {b c : AnnotatedForest} (n : ℕ) → IsChild parent q b k c → is_expression k ≡ true
+pub level_operand : {parent k : SyntaxKind} {q : Row} {b c : AnnotatedForest} (n : ℕ) → IsChild parent q b k c → is_expression k ≡ true
     → is_value k c ≡ true → n ≤ level_of k c → (nat_eq n 0 || holds_no_lambda parent) ≡ true → Strict n k (repaired c)
-level_stands {parent = parent} {k = k} {c = c} n h e named l o = looser (bounded parent k c (repaired c) n l h.corner o) (h.made.strict e named)
+level_operand {parent = parent} {k = k} {c = c} n h e named l o = looser (bounded parent k c (repaired c) n l h.extension o) (h.made.strict e named)
 
 -- so does an operand
 offered : {parent k : SyntaxKind} {q : Row} {b c : AnnotatedForest} (n : ℕ) → IsChild parent q b k c → is_value k c ≡ true → n ≤ level_of k c
     → Offers parent n k (repaired c)
-offered {parent = parent} n h v l i o = level_stands n h i v l (and_parts (nat_le n selection_level) (nat_eq n 0 || holds_no_lambda parent) o).1
+offered {parent = parent} n h v l i o = level_operand n h i v l (and_parts (nat_le n selection_level) (nat_eq n 0 || holds_no_lambda parent) o).1
 
 asked : (parent : SyntaxKind) (q : Row) (b : AnnotatedForest) (k : SyntaxKind) (c : AnnotatedForest) → IsChild parent q b k c → Asks parent q k (repaired c)
 asked parent (p.Operand n counted · r) b k c h = offered n h (named_value (p.Operand n counted · r) k c (λ i t e. e) h.suited) h.operand.0
@@ -153,7 +153,7 @@ asked parent (p.Many n w · r) b k c h = offered n h (named_value (p.Many n w ·
 asked parent _ b k c h = tt
 
 -- the name that a pattern is bound to stands where it may
-bound_at : (q : Row) (c : AnnotatedForest) → begins_with_leaf (repaired c) ≡ begins_with_token c → suits q NODE_PAT_BIND c ≡ true
+bound_at : (q : Row) (c : AnnotatedForest) → begins_with_leaf (repaired c) ≡ begins_with_token c → is_name_allowed q NODE_PAT_BIND c ≡ true
     → binds q NODE_PAT_BIND (repaired c) ≡ true
 bound_at (p.EndOr w · r) c e h = e ∙ h
 bound_at _ c e h = ap (λ w. if w then false else true) e ∙ h
@@ -173,10 +173,10 @@ or_there (p.Wanted w · r) t h = h
 or_there (r or s) t h = or_there r t h
 or_there _ t h = without_or (is_or t.kind) _ h
 
-name_at : (q : Row) {c : AnnotatedForest} → IsName c → suits q NODE_IDENT c ≡ true → binds q NODE_IDENT (repaired c) ≡ true
+name_at : (q : Row) {c : AnnotatedForest} → IsName c → is_name_allowed q NODE_IDENT c ≡ true → binds q NODE_IDENT (repaired c) ≡ true
 name_at q (name {t = t} e) h = ap (λ w. if names_or q then true else (if w then false else true)) e ∙ or_there q t h
 
-bound_child : (q : Row) (k : SyntaxKind) (c : AnnotatedForest) → Tokens k c → suits q k c ≡ true → binds q k (repaired c) ≡ true
+bound_child : (q : Row) (k : SyntaxKind) (c : AnnotatedForest) → Tokens k c → is_name_allowed q k c ≡ true → binds q k (repaired c) ≡ true
 bound_child q NODE_PAT_BIND c e h = bound_at q c e h
 bound_child q NODE_IDENT c e h = name_at q e h
 bound_child q k c e h = refl
@@ -192,7 +192,7 @@ braced H r k none h = none (after (p.Comma · r) k) h
 
 abbrev GoesOn : SyntaxKind → Row → Option (List SyntaxKind × Row) → Forest → Type 0
 GoesOn parent q None f = Unit {0}
-GoesOn parent q (Some w) f = Held parent w.1 f → Held parent q f
+GoesOn parent q (Some w) f = GrammarRow parent w.1 f → GrammarRow parent q f
 
 same : (A : Type 0) → A → A
 same A a = a
@@ -207,26 +207,26 @@ goes_on_at i (p.Names · r) f = alike i (p.Names · r) (p.Attr · p.Names · r) 
     (λ H k none h. only_if H (is_attr k) (p.Names · r) _ none h)
 goes_on_at i (p.Formals · r) f = alike i (p.Formals · r) (p.FormalsAfterComma · r) refl (λ e. cc) (λ k c x. x) (λ H k none h. h)
 goes_on_at i (p.Comma · r) f = alike i (p.Comma · r) (p.Wanted TOKEN_R_BRACE · r) refl (λ e. cc) (λ k c x. x) (λ H k none h. braced H r k none h)
-goes_on_at i q f = assumption (same (Held i q f))
+goes_on_at i q f = assumption (same (GrammarRow i q f))
 
-run_held : (parent : SyntaxKind) (q : Row) (f : Forest) (o : Option (List SyntaxKind × Row)) → GoesOn parent q o f → Held parent (after_run o) f
-    → Held parent q f
-run_held i q f None g h = lost i h
-run_held i q f (Some w) g h = g h
+grammar_row_run : (parent : SyntaxKind) (q : Row) (f : Forest) (o : Option (List SyntaxKind × Row)) → GoesOn parent q o f → GrammarRow parent (after_run o) f
+    → GrammarRow parent q f
+grammar_row_run i q f None g h = lost i h
+grammar_row_run i q f (Some w) g h = g h
 
-number_held : (parent : SyntaxKind) (q : Row) {f : Forest} → Held parent (after q NODE_LITERAL) f → Held parent q (node NODE_LITERAL zero f)
-number_held parent q h = noded refl tt (number_asked parent q, refl) h
+grammar_row_number : (parent : SyntaxKind) (q : Row) {f : Forest} → GrammarRow parent (after q NODE_LITERAL) f → GrammarRow parent q (node NODE_LITERAL zero f)
+grammar_row_number parent q h = node_started refl tt (number_asked parent q, refl) h
 
 -- so a sound row has children that are what they are in the grammar
-pub held : (parent : SyntaxKind) (q : Row) (b f : AnnotatedForest) → IsSound parent q b f → Held parent q (repaired f)
-held i q b blank h = ended h
-held i q b (token k t f) h = leafed (leaf_is_token h.0) (held i (after q k) (b ⊕ one_token k t) f h.1)
-held i q b (branch k c f) h = noded h.0.node (h.0.made.part i h.0.corner) (asked i q b k c h.0, bound_child q k c h.0.tokens h.0.suited)
-    (held i (after q k) (b ⊕ one_branch k c) f h.1)
-held i q b (fault Stray c f) h = number_held i q (held i (after q NODE_LITERAL) (b ⊕ one_fault Stray c) f h.1)
-held i q b (fault TooDeep c f) h = number_held i q (held i (after q NODE_LITERAL) (b ⊕ one_fault TooDeep c) f h.1)
-held i q b (fault (Unwanted u) c f) h =
-    run_held i q (repaired f) (run_at q) (goes_on_at i q (repaired f)) (held i (after_run (run_at q)) (b ⊕ one_fault (Unwanted u) c) f h.1)
-held i q b (fault Extra c f) h = held i q (b ⊕ one_fault Extra c) f h.1
-held i q b (fault Twice c f) h = subst (λ z. Held i z (repaired f)) (sym h.0)
-    (alike i (p.BoundAlready · done) done refl (λ e. refl) (λ k c x. x) (λ H k none h. h) (held i done (b ⊕ one_fault Twice c) f h.1))
+pub repaired_nonempty : (parent : SyntaxKind) (q : Row) (b f : AnnotatedForest) → IsSound parent q b f → GrammarRow parent q (repaired f)
+repaired_nonempty i q b blank h = ended h
+repaired_nonempty i q b (token k t f) h = leaf_node_made (leaf_is_token h.0) (repaired_nonempty i (after q k) (b ⊕ one_token k t) f h.1)
+repaired_nonempty i q b (branch k c f) h = node_started h.0.node (h.0.made.part i h.0.extension) (asked i q b k c h.0, bound_child q k c h.0.tokens h.0.suited)
+    (repaired_nonempty i (after q k) (b ⊕ one_branch k c) f h.1)
+repaired_nonempty i q b (fault Stray c f) h = grammar_row_number i q (repaired_nonempty i (after q NODE_LITERAL) (b ⊕ one_fault Stray c) f h.1)
+repaired_nonempty i q b (fault TooDeep c f) h = grammar_row_number i q (repaired_nonempty i (after q NODE_LITERAL) (b ⊕ one_fault TooDeep c) f h.1)
+repaired_nonempty i q b (fault (Unwanted u) c f) h =
+    grammar_row_run i q (repaired f) (run_at q) (goes_on_at i q (repaired f)) (repaired_nonempty i (after_run (run_at q)) (b ⊕ one_fault (Unwanted u) c) f h.1)
+repaired_nonempty i q b (fault Extra c f) h = repaired_nonempty i q (b ⊕ one_fault Extra c) f h.1
+repaired_nonempty i q b (fault DoubleBind c f) h = subst (λ z. GrammarRow i z (repaired f)) (sym h.0)
+    (alike i (p.BoundAlready · done) done refl (λ e. refl) (λ k c x. x) (λ H k none h. h) (repaired_nonempty i done (b ⊕ one_fault DoubleBind c) f h.1))

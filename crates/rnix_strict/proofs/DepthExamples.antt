@@ -9,7 +9,7 @@ use Rattle.rnix_kinds.specs.declared.kinds.SyntaxKind.TheVariants.{NODE_LAMBDA, 
 use Rattle.rnix_kinds.specs.declared.kinds.SyntaxKind.TheVariants.{NODE_PAT_ENTRY, NODE_ROOT, NODE_SELECT, NODE_UNARY_OP}
 use Rattle.{rnix_green.specs.Forest.{Forest, empty, leaf, node}, rnix_grammar.specs.declared.rules.Part.TheVariants.{Argument, Names, Wanted}}
 use Rattle.rnix_grammar.specs.AnnotatedForest.{Token, AnnotatedForest, Stray, Extra, one_token, one_fault}
-use Rattle.rnix_grammar.specs.{Rules.{done, ◌·◌, row}, Repaired.repaired, Nest.nest, Names.is_named}
+use Rattle.rnix_grammar.specs.{Rules.{done, ◌·◌, row}, Repaired.repaired, Nest.nest, AllowedNames.is_named}
 
 -- trees, each in front of some others
 abbrev named : List ℕ → Forest → Forest

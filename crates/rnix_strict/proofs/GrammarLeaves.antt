@@ -5,24 +5,24 @@ use Rattle.rnix_kinds.specs.declared.kinds.SyntaxKind.{SyntaxKind, TheVariants.{
 use Rattle.rnix_kinds.specs.declared.kinds.SyntaxKind.TheVariants.{NODE_ATTRPATH, NODE_PAT_ENTRY, NODE_ATTRPATH_VALUE, NODE_INHERIT, NODE_INTERPOL}
 use Rattle.rnix_kinds.{specs.SyntaxKind.is_token, proofs.AllKinds.implied}
 use Rattle.rnix_green.specs.Forest.{Forest, empty, leaf, node}
-use Rattle.rnix_grammar.specs.{Corners.{has_no_corner, holds_no_lambda, is_corner}, Derivation.has_tokens_alone}
+use Rattle.rnix_grammar.specs.{Extensions.{has_no_extension, holds_no_lambda, is_extension}, Derivation.has_tokens_alone}
 use Rattle.rnix_grammar.specs.{Levels.{expression_level, left_of, right_of}, Rows.{is_infix, is_plain_literal}, TokenKinds.is_path_piece}
 use Rattle.rnix_grammar.specs.Grammar as G
 
 -- a row below a node whose leaves are tokens, and none of whose trees is a corner
 pub record IsFine (parent : SyntaxKind) (f : Forest) : Type 0 where
   pub tokens : has_tokens_alone f ≡ true
-  pub corner : has_no_corner parent f ≡ true
+  pub extension : has_no_extension parent f ≡ true
 
 fine_end : {parent : SyntaxKind} → IsFine parent empty
-fine_end = record { tokens = refl; corner = refl }
+fine_end = record { tokens = refl; extension = refl }
 
 token_first : {parent k : SyntaxKind} {t : List ℕ} {f : Forest} → is_token k ≡ true → IsFine parent f → IsFine parent (leaf k t f)
-token_first {f = f} i h = record { tokens = ap (λ w. w && has_tokens_alone f) i ∙ h.tokens; corner = h.corner }
+token_first {f = f} i h = record { tokens = ap (λ w. w && has_tokens_alone f) i ∙ h.tokens; extension = h.extension }
 
-node_first : {parent k : SyntaxKind} {c f : Forest} → (if is_corner parent k c then false else true) ≡ true → IsFine k c → IsFine parent f
+node_first : {parent k : SyntaxKind} {c f : Forest} → (if is_extension parent k c then false else true) ≡ true → IsFine k c → IsFine parent f
     → IsFine parent (node k c f)
-node_first n c f = record { tokens = and_from _ _ c.tokens f.tokens; corner = and_from _ _ n (and_from _ _ c.corner f.corner) }
+node_first n c f = record { tokens = and_from _ _ c.tokens f.tokens; extension = and_from _ _ n (and_from _ _ c.extension f.extension) }
 
 one_token : {parent k : SyntaxKind} {t : List ℕ} → is_token k ≡ true → IsFine parent (leaf k t empty)
 one_token i = token_first i fine_end
@@ -43,24 +43,24 @@ dynamic_level : {n : ℕ} {c : Forest} → G.Strict n NODE_DYNAMIC c → ⊥
 dynamic_level (G.looser l h) = dynamic_level h
 dynamic_level (G.atom h) = no_dynamic h
 
-operand_corner : (parent k : SyntaxKind) {n : ℕ} {c : Forest} → (if holds_no_lambda parent then nat_le 1 n else true) ≡ true → G.Strict n k c
-    → (if is_corner parent k c then false else true) ≡ true
-operand_corner parent NODE_LAMBDA {n = n} h s = by (holds_no_lambda parent) (lambda_level s) h
+operand_extension : (parent k : SyntaxKind) {n : ℕ} {c : Forest} → (if holds_no_lambda parent then nat_le 1 n else true) ≡ true → G.Strict n k c
+    → (if is_extension parent k c then false else true) ≡ true
+operand_extension parent NODE_LAMBDA {n = n} h s = by (holds_no_lambda parent) (lambda_level s) h
   where
     by : (w : Bool) → n ≤ 0 → (if w then nat_le 1 n else true) ≡ true → (if w then false else true) ≡ true
     by true l h = absurd (grind (arith, nat_tests, l, h))
     by false l h = refl
-operand_corner parent NODE_DYNAMIC h s = absurd (dynamic_level s)
-operand_corner parent _ h s = refl
+operand_extension parent NODE_DYNAMIC h s = absurd (dynamic_level s)
+operand_extension parent _ h s = refl
 
 operand : {parent k : SyntaxKind} {n : ℕ} {c f : Forest} → (if holds_no_lambda parent then nat_le 1 n else true) ≡ true → G.Strict n k c → IsFine k c
     → IsFine parent f → IsFine parent (node k c f)
-operand {parent = parent} {k = k} h s c f = node_first (operand_corner parent k h s) c f
+operand {parent = parent} {k = k} h s c f = node_first (operand_extension parent k h s) c f
 
-attr_corner : {k : SyntaxKind} {c : Forest} (parent : SyntaxKind) → G.Attr k c → (if is_corner parent k c then false else true) ≡ true
-attr_corner parent G.named_attr = refl
-attr_corner parent (G.string_attr h) = refl
-attr_corner parent (G.dynamic_attr h) = refl
+attr_extension : {k : SyntaxKind} {c : Forest} (parent : SyntaxKind) → G.Attr k c → (if is_extension parent k c then false else true) ≡ true
+attr_extension parent G.named_attr = refl
+attr_extension parent (G.string_attr h) = refl
+attr_extension parent (G.dynamic_attr h) = refl
 
 name_first : {parent : SyntaxKind} {t : List ℕ} {f : Forest} → IsFine parent f → IsFine parent (G.name t f)
 name_first h = node_first refl (one_token refl) h
@@ -136,8 +136,8 @@ mutual
   attr_fine (G.dynamic_attr h) = between refl refl refl h (strict_fine h)
 
   attrpath_fine : {f : Forest} → G.Attrpath f → IsFine NODE_ATTRPATH f
-  attrpath_fine (G.last_attr h) = node_first (attr_corner NODE_ATTRPATH h) (attr_fine h) fine_end
-  attrpath_fine (G.attr_dot h r) = node_first (attr_corner NODE_ATTRPATH h) (attr_fine h) (token_first refl (attrpath_fine r))
+  attrpath_fine (G.last_attr h) = node_first (attr_extension NODE_ATTRPATH h) (attr_fine h) fine_end
+  attrpath_fine (G.attr_dot h r) = node_first (attr_extension NODE_ATTRPATH h) (attr_fine h) (token_first refl (attrpath_fine r))
 
   entries_fine : {parent : SyntaxKind} {f g : Forest} → G.Entries f g → IsFine parent g → IsFine parent f
   entries_fine G.entries_end w = w
@@ -153,7 +153,7 @@ mutual
 
   names_fine : {f : Forest} → G.Names f → IsFine NODE_INHERIT f
   names_fine G.names_end = one_token refl
-  names_fine (G.inherited h r) = node_first (attr_corner NODE_INHERIT h) (attr_fine h) (names_fine r)
+  names_fine (G.inherited h r) = node_first (attr_extension NODE_INHERIT h) (attr_fine h) (names_fine r)
 
   parameter_fine : {k : SyntaxKind} {c f : Forest} → G.Parameter k c → IsFine NODE_LAMBDA f → IsFine NODE_LAMBDA (node k c f)
   parameter_fine (G.parameter o) r = node_first refl (name_first fine_end) r

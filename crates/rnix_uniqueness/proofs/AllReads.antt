@@ -2,11 +2,11 @@
 use Rattle.std.proofs.Common.{◌≡◌, ℕ, suc, false, List, [], ◌∷◌, refl, ap, sym, ◌∙◌, true, zero, ◌<◌, ◌++◌, subst, append-nil, arith}
 use Rattle.{rnix_kinds.specs.declared.kinds.SyntaxKind.{TheVariants.NODE_ROOT, SyntaxKind}, rnix_grammar.specs.{Fault.Fault, AnnotatedForest.Token}}
 use Rattle.rnix_grammar.specs.{AnnotatedForest.{AnnotatedForest, blank, tokens_in, end_from}, Machine.{Node, Frame, Machine, machine, opened, begins, step}}
-use Rattle.rnix_grammar.specs.{Machine.{Runs, rest as here, then as further}, declared.{position.TheConstants.ROOT, place.Place.Place}}
-use Rattle.rnix_grammar.specs.{declared.rules.Part.TheVariants.TextEnd, Positions.{left_at, left_in}, Rules.{Row, done, ◌·◌}, Reads.ReadsWhole}
+use Rattle.rnix_grammar.specs.{Machine.{Runs, rest as here, then as further}, declared.{slot_table.TheConstants.ROOT, position.Position.Position}}
+use Rattle.rnix_grammar.specs.{declared.rules.Part.TheVariants.TextEnd, SlotRows.{left_at, left_in}, Rules.{Row, done, ◌·◌}, Reads.ReadsRoot}
 use Rattle.{rnix_lemmas.proofs.{Basics.{Where, where_one}, EachIndex.each_index, RestAt.rest_at}, rnix_uniqueness.proofs.ReadingHeights.{height, Short}}
 use Rattle.rnix_uniqueness.proofs.{ReadingHeights.{AllRows, Trees}, TreeReads.tree_runs, OneAction.{is_at, is_text_end}, RowReads.row_next, StepReads.ReadsTo}
-use Rattle.rnix_grammar.specs.declared.place.Place.TheVariants as p
+use Rattle.rnix_grammar.specs.declared.position.Position.TheVariants as p
 
 -- from where no step changes anything, all steps lead back
 leads_back : {a b c : Machine} → Runs false c b → c ≡ a → step false a ≡ a → a ≡ b
@@ -66,22 +66,22 @@ all_read (suc m) = by (all_read m)
 text_ends : (i : ℕ) → Where (is_text_end (left_at i)) (i ≡ root_end)
 text_ends = each_index (λ i. Where (is_text_end (left_at i)) (i ≡ root_end)) (assumption) (λ i e d. subst (λ ss. Where (is_text_end (left_in ss)) (i ≡ root_end)) (sym d) tt)
 
-text_end_at : (x : Place) → rest_at x ≡ TextEnd · done → x ≡ p.Left root_end
+text_end_at : (x : Position) → rest_at x ≡ TextEnd · done → x ≡ p.Left root_end
 text_end_at (p.Left i) h = ap p.Left (where_one (is_text_end (left_at i)) (ap is_text_end h) (text_ends i))
-text_end_at (p.Behind low high) h = absurd (cc)
+text_end_at (p.AfterOperand min_bp max_bp) h = absurd (cc)
 text_end_at (p.Right level) h = absurd (cc)
 
 -- a reading of some items is what the steps make of them
-pub reads_runs : (f : AnnotatedForest) (faults : List Fault) → ReadsWhole f faults → Runs false (begins (tokens_in f)) (ended_with f (end_from 0 (tokens_in f)) faults)
+pub reads_runs : (f : AnnotatedForest) (faults : List Fault) → ReadsRoot f faults → Runs false (begins (tokens_in f)) (ended_with f (end_from 0 (tokens_in f)) faults)
 reads_runs f faults r =
     let w : ReadsTo NODE_ROOT 0 0 (p.Left ROOT) (TextEnd · done) blank [] f faults =
     (all_read (suc (height r))).0 NODE_ROOT 0 0 (p.Left ROOT) (TextEnd · done) blank [] f faults refl (record { reads = r; short = omega arith }) refl in
     subst (λ (ts : List Token). Runs false (begins ts) (ended_with f (end_from 0 (tokens_in f)) faults)) (append-nil (tokens_in f))
-    (subst (λ (y : Place). Runs false (begins (tokens_in f ++ [])) (machine (opened (Node NODE_ROOT) y 0 f ∷ []) [] (end_from 0 (tokens_in f)) faults)) (text_end_at w.place w.is)
+    (subst (λ (y : Position). Runs false (begins (tokens_in f ++ [])) (machine (opened (Node NODE_ROOT) y 0 f ∷ []) [] (end_from 0 (tokens_in f)) faults)) (text_end_at w.position w.is)
     (w.row (Node NODE_ROOT) [] [] refl refl))
 
 -- two readings of the same items are one
-pub one_row : (f g : AnnotatedForest) (es fs : List Fault) → ReadsWhole f es → ReadsWhole g fs → tokens_in f ≡ tokens_in g → (f ≡ g) × (es ≡ fs)
+pub one_row : (f g : AnnotatedForest) (es fs : List Fault) → ReadsRoot f es → ReadsRoot g fs → tokens_in f ≡ tokens_in g → (f ≡ g) × (es ≡ fs)
 one_row f g es fs r s e =
     let h = ended_once (tokens_in f) f (end_from 0 (tokens_in f)) es (ended_with g (end_from 0 (tokens_in g)) fs) (reads_runs f es r)
     (subst (λ (ts : List Token). Runs false (begins ts) (ended_with g (end_from 0 (tokens_in g)) fs)) (sym e) (reads_runs g fs s)) refl in

@@ -1,7 +1,7 @@
 -- Words for trees and errors of examples.
 use Rattle.{std.proofs.Common.{ℕ, zero, suc}, rnix_kinds.specs.declared.kinds.SyntaxKind.{SyntaxKind, TheVariants.{NODE_ATTRPATH, NODE_BIN_OP, NODE_IDENT}}}
 use Rattle.rnix_kinds.specs.declared.kinds.SyntaxKind.TheVariants.{NODE_IDENT_PARAM, NODE_LAMBDA, NODE_LIST, NODE_PAREN, NODE_PATTERN, NODE_PAT_ENTRY}
-use Rattle.{rnix_kinds.specs.declared.kinds.SyntaxKind.TheVariants.NODE_SELECT, rnix_green.specs.Range.Extent, rnix_grammar.specs.declared.until.Until.Until}
+use Rattle.{rnix_kinds.specs.declared.kinds.SyntaxKind.TheVariants.NODE_SELECT, rnix_green.specs.Range.Extent, rnix_grammar.specs.declared.expected_set.ExpectedSet.ExpectedSet}
 use Rattle.rnix_grammar.specs.{Fault.{Fault, extra, unwanted, ended_before}, Tables.wanted_kinds, AnnotatedForest.{Unwanted, Extra}}
 use Rattle.rnix_uniqueness.proofs.OnlyReading.{Shape, done, item, node, wrong}
 
@@ -55,7 +55,7 @@ abbrev pub no_list : Grows
 no_list f = node NODE_LIST (run 2) f
 
 -- so many items, up to one that is wanted
-abbrev pub unwanteds : Until → ℕ → Grows
+abbrev pub unwanteds : ExpectedSet → ℕ → Grows
 unwanteds until n f = wrong (Unwanted until) (run n) f
 
 -- so many items behind the root's expression
@@ -71,9 +71,9 @@ abbrev pub is_extra : ℕ → ℕ → Fault
 is_extra start end = extra (within start end)
 
 -- items stand where others are wanted
-abbrev pub instead : Until → SyntaxKind → ℕ → ℕ → Fault
+abbrev pub instead : ExpectedSet → SyntaxKind → ℕ → ℕ → Fault
 instead until kind start end = unwanted kind (within start end) (wanted_kinds until)
 
 -- the text ends where an item is wanted
-abbrev pub missing : Until → Fault
+abbrev pub missing : ExpectedSet → Fault
 missing until = ended_before (wanted_kinds until)

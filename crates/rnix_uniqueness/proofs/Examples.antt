@@ -1,7 +1,7 @@
 -- How some broken texts are read.
 use Rattle.{std.{proofs.Common.{[], ◌∷◌}, specs.Prelude.codes}, rnix_kinds.specs.declared.kinds.SyntaxKind.TheVariants.{NODE_IF_ELSE, NODE_PAT_BIND}}
-use Rattle.{rnix_kinds.specs.declared.kinds.SyntaxKind.TheVariants.TOKEN_R_BRACK, rnix_grammar.specs.declared.until.Until.TheVariants.{RParen, Colon, Then}}
-use Rattle.rnix_grammar.specs.{declared.until.Until.TheVariants.Else, Fault.{ended, bound_twice}, AnnotatedForest.Twice}
+use Rattle.{rnix_kinds.specs.declared.kinds.SyntaxKind.TheVariants.TOKEN_R_BRACK, rnix_grammar.specs.declared.expected_set.ExpectedSet.TheVariants.{RParen, Colon, Then}}
+use Rattle.rnix_grammar.specs.{declared.expected_set.ExpectedSet.TheVariants.Else, Fault.{ended, bound_twice}, AnnotatedForest.DoubleBind}
 use Rattle.rnix_uniqueness.proofs.{OnlyReading.{done, item, node, wrong, Case}, ExampleWords.{paren, name, path, select, binary, function, function_of, entry}}
 use Rattle.rnix_uniqueness.proofs.ExampleWords.{no_list, unwanteds, extras, within, is_extra, instead, missing}
 
@@ -27,7 +27,7 @@ formals = record { text = codes "{a,b}:a)"; right = (function_of (item (entry (i
 
 -- `a @ { } @ b`: a function of a pattern with a second name
 abbrev pub second_name : Case
-second_name = record { text = codes "a @ { } @ b"; right = (function_of (node NODE_PAT_BIND (name (item done)) (item (item (wrong Twice (item (name done)) done)))) done done, bound_twice (within 8 11) ∷ missing Colon ∷ ended ∷ []) }
+second_name = record { text = codes "a @ { } @ b"; right = (function_of (node NODE_PAT_BIND (name (item done)) (item (item (wrong DoubleBind (item (name done)) done)))) done done, bound_twice (within 8 11) ∷ missing Colon ∷ ended ∷ []) }
 
 -- `[])`: a list with an extra item after it
 abbrev pub closed_list : Case

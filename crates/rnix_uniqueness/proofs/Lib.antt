@@ -1,4 +1,4 @@
-pub mod LiveRows
+pub mod ViableReadings
 pub mod OneAction
 pub mod PlaceActions
 pub mod StepReads

@@ -2,7 +2,7 @@
 use Rattle.{std.proofs.Common.{◌≡◌, ℕ, zero, suc, false, List, [], ◌∷◌, refl, sym, subst}, rnix_kinds.specs.declared.kinds.SyntaxKind.SyntaxKind}
 use Rattle.{rnix_kinds.specs.{declared.kinds.SyntaxKind.TheVariants.{NODE_ROOT, NODE_ERROR}, Lexical.Tokens.tokens_of}, rnix_grammar.specs.Fault.Fault}
 use Rattle.rnix_grammar.specs.AnnotatedForest.{Token, Note, AnnotatedForest, blank, token, branch, fault, leaf_kind, tokens_in, end_from, placed_from}
-use Rattle.rnix_grammar.specs.{Layout.{items, tail_of}, Machine.{Machine, begins, step, Runs, rest as here, then as further}, Reads.ReadsWhole}
+use Rattle.rnix_grammar.specs.{Layout.{items, tail_of}, Machine.{Machine, begins, step, Runs, rest as here, then as further}, Reads.ReadsRoot}
 use Rattle.rnix_uniqueness.proofs.AllReads.{ended_with, ended_once, reads_runs}
 
 -- a row of trees without its items: each leaf takes the next one
@@ -46,7 +46,7 @@ end_with ts r = ended_with (trees_in r ts) (end_from 0 ts) r.1
 
 -- each reading of some items has these trees and errors
 abbrev pub IsReadAs : List Token → Reading → Type 0
-IsReadAs ts right = (f : AnnotatedForest) (faults : List Fault) → tokens_in f ≡ ts → ReadsWhole f faults → (trees_in right ts ≡ f) × (right.1 ≡ faults)
+IsReadAs ts right = (f : AnnotatedForest) (faults : List Fault) → tokens_in f ≡ ts → ReadsRoot f faults → (trees_in right ts ≡ f) × (right.1 ≡ faults)
 
 -- a text, and how it is read
 pub record Case : Type 0 where
@@ -67,7 +67,7 @@ steps_run (suc n) m = further (steps_run n (step false m))
 
 -- where the steps end with some trees and errors, each reading of these items has them
 same : (ts : List Token) (f g : AnnotatedForest) (n : ℕ) (es fs : List Fault)
-    → Runs false (begins ts) (ended_with f n es) → tokens_in g ≡ ts → ReadsWhole g fs → (f ≡ g) × (es ≡ fs)
+    → Runs false (begins ts) (ended_with f n es) → tokens_in g ≡ ts → ReadsRoot g fs → (f ≡ g) × (es ≡ fs)
 same ts f g n es fs r e w =
     let k = end_from 0 (tokens_in g) in
     let h = ended_once ts f n es (ended_with g k fs) r (subst (λ (z : List Token). Runs false (begins z) (ended_with g k fs)) e (reads_runs g fs w)) refl in

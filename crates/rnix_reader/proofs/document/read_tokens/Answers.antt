@@ -1,5 +1,5 @@
 use Rattle.{std.proofs.Common.{ap, sym, ◌∙◌}, rnix_green.specs.Draft.TextDraft, rnix_reader.specs.{Placed.texts_in, State.state}}
-use Rattle.rnix_reader.proofs.{DocumentLemmas.{opened_root, read_made, rest_marked}, TextLemmas.placed_text}
+use Rattle.rnix_reader.proofs.{DocumentLemmas.{opened_root, read_made, rest_marked}, TextLeft.placed_text}
 use Rattle.rnix_reader.proofs.document.read_tokens.Goals as goal
 
 pub invariant_of-p : goal.invariant_of-p
@@ -10,7 +10,7 @@ invariant_of-p c = record {
 pub read_all-requires-clause-state : goal.read_all-requires-clause-state
 read_all-requires-clause-state c =
     opened_root c.in_ok-cursor.cursor c.start_node.new.self.draft c.reserve.new.self.draft c.new-3.result.items c.new-4.result.items c.here-at.result (state c.mark.new.self)
-    (ap (λ (x : TextDraft). x.draft) (c.reserve.ensures ∙ c.in_ok-builder.ensures)) (ap (λ (x : TextDraft). x.draft) c.in_ok-start_node.ensures.ok) c.new-3.ensures.items c.new-4.ensures.items c.here-at.ensures.place c.in_ok-mark.ensures.state
+    (ap (λ (x : TextDraft). x.draft) (c.reserve.ensures ∙ c.in_ok-builder.ensures)) (ap (λ (x : TextDraft). x.draft) c.in_ok-start_node.ensures.ok) c.new-3.ensures.items c.new-4.ensures.items c.here-at.ensures.position c.in_ok-mark.ensures.state
 
 pub returns : goal.returns
 returns c =

@@ -1,4 +1,4 @@
-use Rattle.{std.proofs.Common.{ap, ◌∙◌}, rnix_grammar.specs.AnnotatedForest.head_of, rnix_reader.{specs.State.state, proofs.RunLemmas.left_operand}}
+use Rattle.{std.proofs.Common.{ap, ◌∙◌}, rnix_grammar.specs.AnnotatedForest.head_of, rnix_reader.{specs.State.state, proofs.SkippedRuns.left_operand}}
 use Rattle.rnix_reader.proofs.reading.begin.Goals as goal
 
 pub stray-requires : goal.stray-requires

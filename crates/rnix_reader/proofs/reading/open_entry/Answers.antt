@@ -1,4 +1,4 @@
-use Rattle.rnix_reader.{specs.{Placed.token_of, State.state}, proofs.{StateLemmas.item_there, RunLemmas.item_in_order}}
+use Rattle.rnix_reader.{specs.{Placed.token_of, State.state}, proofs.{StateLemmas.item_there, SkippedRuns.item_in_order}}
 use Rattle.rnix_reader.proofs.reading.open_entry.Goals as goal
 
 pub new-requires : goal.new-requires

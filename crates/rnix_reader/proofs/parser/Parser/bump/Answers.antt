@@ -1,5 +1,5 @@
 use Rattle.{std.proofs.Common.{ap, refl, ◌∙◌}, rnix_green.specs.Draft.with_leaf, rnix_reader.specs.{Placed.token_of, State.state}}
-use Rattle.rnix_reader.proofs.{StateLemmas.{first_there, none_there, bumped-item, bumped-end}, TextLemmas.next_text}
+use Rattle.rnix_reader.proofs.{StateLemmas.{first_there, none_there, bumped-item, bumped-end}, TextLeft.next_text}
 use Rattle.rnix_reader.proofs.parser.Parser.bump.Goals as goal
 
 pub token-requires-in-Some : goal.token-requires-in-Some

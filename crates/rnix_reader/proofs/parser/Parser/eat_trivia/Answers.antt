@@ -1,5 +1,5 @@
 use Rattle.{std.proofs.Common.{sym, ap, ◌∙◌, refl}, rnix_reader.{specs.{Placed.token_of, State.state}, proofs.StateLemmas.{eaten-settled, eaten-trivia}}}
-use Rattle.rnix_reader.proofs.TextLemmas.{next_text}
+use Rattle.rnix_reader.proofs.TextLeft.{next_text}
 use Rattle.rnix_reader.proofs.parser.Parser.eat_trivia.Goals as goal
 
 pub token-requires : goal.token-requires

@@ -1,4 +1,4 @@
-use Rattle.rnix_reader.{specs.{Placed.token_of, State.state}, proofs.RunLemmas.{run_made, run_reach, run_extent}}
+use Rattle.rnix_reader.{specs.{Placed.token_of, State.state}, proofs.SkippedRuns.{run_made, run_reach, run_extent}}
 use Rattle.rnix_reader.proofs.parser.Parser.error_run.Goals as goal
 
 pub new-requires : goal.new-requires

@@ -1,5 +1,5 @@
 use Rattle.{std.{proofs.Common.{sym, ap, ◌∙◌}, specs.Option.option_map}, rnix_grammar.specs.{AnnotatedForest.kind_in, Tables.stops}}
-use Rattle.rnix_reader.{specs.{Placed.token_of, State.state}, proofs.{StateLemmas.item_there, RunLemmas.{skip_turn, skip_end, skip_none, shorter}}}
+use Rattle.rnix_reader.{specs.{Placed.token_of, State.state}, proofs.{StateLemmas.item_there, SkippedRuns.{skip_turn, skip_end, skip_none, shorter}}}
 use Rattle.rnix_reader.proofs.parser.Parser.skip.Goals as goal
 
 pub returns-then-stops-clause-state : goal.returns-then-stops-clause-state

@@ -1,4 +1,4 @@
-use Rattle.{std.proofs.Common.{◌≡◌, length}, rnix_grammar.specs.Missing.run_of, rnix_reader.specs.State.{state, items_left, skipped}}
+use Rattle.{std.proofs.Common.{◌≡◌, length}, rnix_grammar.specs.UnwantedRun.run_of, rnix_reader.specs.State.{state, items_left, skipped}}
 use Rattle.rnix_reader.proofs.parser.Parser.skip.Given as goal
 
 abbrev pub invariant-loop-item : goal.invariant-loop-item

@@ -1,5 +1,5 @@
 use Rattle.{std.proofs.Common.{◌≡◌, ap, ◌∙◌}, rnix_grammar.specs.Tables.operand_kinds, rnix_reader.specs.{Placed.token_of, State.{state, failed}}}
-use Rattle.rnix_reader.proofs.RunLemmas.{item_in_order, stray_report}
+use Rattle.rnix_reader.proofs.SkippedRuns.{item_in_order, stray_report}
 use Rattle.rnix_reader.proofs.parser.Parser.stray.Goals as goal
 
 pub new-range-requires : goal.new-range-requires

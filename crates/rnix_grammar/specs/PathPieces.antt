@@ -1,0 +1,56 @@
+-- What is asked of a strict tree, beside its shape, to be read as it is.
+use Rattle.std.specs.Prelude.{◌≡◌, ℕ, Bool, true, false, ◌&&◌, List, [], ◌∷◌, ◌++◌, if◌then◌else◌, nat_eq}
+use Rattle.rnix_kinds.specs.declared.kinds.SyntaxKind.{SyntaxKind}
+use Rattle.rnix_kinds.specs.declared.kinds.SyntaxKind.TheVariants.{NODE_PATH_ABS, NODE_PATH_HOME, NODE_PATH_REL}
+use Rattle.rnix_kinds.specs.SyntaxKind.{is_token}
+use Rattle.rnix_grammar.specs.AnnotatedForest.{Token, AnnotatedForest, blank, token, branch, fault, tokens_in, end_from, touches}
+use Rattle.rnix_grammar.specs.Yield.{kind_of_token}
+use Rattle.rnix_grammar.specs.TokenKinds.{is_piece_start}
+
+-- the kinds of nodes
+abbrev pub is_node : SyntaxKind → Bool
+is_node kind = if is_token kind then false else true
+
+-- the token of each leaf has the kind that the leaf's kind and text say, and no tree is an error node
+abbrev pub HaveTokenKinds : AnnotatedForest → Type 0
+HaveTokenKinds blank = Unit {0}
+HaveTokenKinds (token k t f) = (is_node k ≡ false) × (t.kind ≡ kind_of_token k t.text) × HaveTokenKinds f
+HaveTokenKinds (branch k c f) = HaveTokenKinds c × HaveTokenKinds f
+HaveTokenKinds (fault n c f) = ⊥
+
+-- the next item touches what ends here and would go on with the path
+abbrev pub goes_on_path : ℕ → List Token → Bool
+goes_on_path n [] = false
+goes_on_path n (t ∷ ts) = nat_eq t.start n && is_piece_start t.kind
+
+-- the pieces of a path, behind a place, touch one another, and what follows does not go on with them
+abbrev pub joins : ℕ → AnnotatedForest → List Token → Bool
+joins n blank rest = if goes_on_path n rest then false else true
+joins n (token k t f) rest = nat_eq t.start n && joins t.end f rest
+joins n (branch k c f) rest = touches n (tokens_in c ++ (tokens_in f ++ rest)) && joins (end_from n (tokens_in c)) f rest
+joins n (fault m c f) rest = false
+
+-- a path without interpolations is one token
+abbrev pub joins_first : ℕ → AnnotatedForest → List Token → Bool
+joins_first n blank rest = true
+joins_first n f rest = joins n f rest
+
+-- the row of a path touches so, behind its first token
+abbrev pub is_joined : AnnotatedForest → List Token → Bool
+is_joined (token k t f) rest = joins_first t.end f rest
+is_joined f rest = true
+
+-- the kinds of paths that may be interpolated
+abbrev pub is_path : SyntaxKind → Bool
+is_path NODE_PATH_ABS = true
+is_path NODE_PATH_REL = true
+is_path NODE_PATH_HOME = true
+is_path kind = false
+
+-- so it is for each path in a row, before these items
+abbrev pub ArePaths : AnnotatedForest → List Token → Type 0
+ArePaths blank rest = Unit {0}
+ArePaths (token k t f) rest = ArePaths f rest
+ArePaths (branch k c f) rest =
+    ((if is_path k then is_joined c (tokens_in f ++ rest) else true) ≡ true) × ArePaths c (tokens_in f ++ rest) × ArePaths f rest
+ArePaths (fault n c f) rest = ⊥

@@ -1,0 +1,160 @@
+-- Frames that are opened, grow and close: the names stay known.
+use Rattle.std.proofs.Common.{◌≡◌, ℕ, Bool, true, false, List, [], ◌∷◌, ◌++◌, Option, Some, None, refl, ap, sym, ◌∙◌, subst, append-nil, if◌then◌else◌}
+use Rattle.{std.specs.Str.bytes_eq, rnix_kinds.specs.declared.kinds.SyntaxKind.{SyntaxKind, TheVariants.{NODE_PATTERN, NODE_PAT_ENTRY}}}
+use Rattle.rnix_grammar.specs.{declared.{slot_table.TheConstants.{PAT_ENTRY, SECOND_BIND}, position.Position.Position}, Fault.Fault, AnnotatedForest.{Token, AnnotatedForest}}
+use Rattle.rnix_grammar.specs.{AnnotatedForest.{◌⊕◌, without_trivia}, Layout.trivia_before, Reports.entry_name, Machine.{Head, Node, SecondBind, Operand, Frame}}
+use Rattle.rnix_grammar.specs.{Machine.{put, opened, with_leading, made}, FrameKinds.{FrameKind, Pattern, Entry, NodeFrame, frame_kind, frame_kind_of_head, frame_kind_of_node, may_hold, IsStackedOn}}
+use Rattle.{rnix_lemmas.proofs.Basics.true_is_not_false, rnix_reader.specs.{declared.names.{NameSet.NameSet, Names.Names}, PatternNames.{entries_in, entry_at}}}
+use Rattle.rnix_reader.specs.{PatternNames.{PatternOpened, PatternClosed, EntryOpened}, Holds.{AreNamed, IsBegun, named_by, name_of, entries_of, TopSet, AreOpenSets, AreOpenSetsOn}}
+use Rattle.rnix_reader.proofs.{EntryLemmas.{known_pattern, IsEntry}, FrameKindLemmas.{is_pattern, head_sort}, RowLemmas.{HasNoEntry, no_entry_trivia, begun_more}}
+use Rattle.rnix_reader.proofs.RowLemmas.{name_more, known_more, known_entry}
+use Rattle.rnix_grammar.specs.declared.position.Position.TheVariants as p
+
+-- a row grows at its end
+pub grow : {f : Frame} {fs : List Frame} {names : Names} (after : Position) (g : AnnotatedForest) → (is_pattern (frame_kind_of_head f.head) ≡ true → HasNoEntry g)
+    → AreNamed f fs names → AreNamed (put after (f.row ⊕ g) f) fs names
+grow {f = f} {fs = fs} {names = names} after g q w = record {
+  begun = (begun_more f.head f.row g w.begun.0, w.begun.1);
+  sets = known_more f.head f.row g names.sets.items (AreOpenSets fs) q w.sets;
+  entries = w.entries ∙ ap (λ x. entries_of fs ++ named_by x) (sym (name_more f.head f.row g w.begun.0));
+}
+
+-- a row goes on at another place
+pub moved_on : {f : Frame} {fs : List Frame} {names : Names} (after : Position) → AreNamed f fs names → AreNamed (put after f.row f) fs names
+moved_on after w = record { begun = w.begun; sets = w.sets; entries = w.entries }
+
+-- a row grows by trivia
+pub grow_trivia : {f : Frame} {fs : List Frame} {names : Names} (after : Position) (ts : List Token) → AreNamed f fs names
+    → AreNamed (put after (with_leading true f.row ts) f) fs names
+grow_trivia after ts w = grow after (trivia_before ts) (λ q. no_entry_trivia ts) w
+
+-- and by more behind them
+pub grow_behind : {f : Frame} {fs : List Frame} {names : Names} (after : Position) (ts : List Token) (g : AnnotatedForest) → HasNoEntry g
+    → AreNamed f fs names → AreNamed (put after (with_leading true f.row ts ⊕ g) f) fs names
+grow_behind after ts g none w = grow after g (λ q. none) (grow_trivia after ts w)
+
+-- heads of which no names are known
+abbrev pub has_no_names : FrameKind → Bool
+has_no_names Pattern = false
+has_no_names Entry = false
+has_no_names s = true
+
+no_names_known : (h : Head) (row : AnnotatedForest) (sets : List NameSet) (More : List NameSet → Type 0) → has_no_names (frame_kind_of_head h) ≡ true → AreOpenSetsOn h row sets More ≡ More sets
+no_names_known (Node NODE_PATTERN) row sets More e = absurd (true_is_not_false (sym e))
+no_names_known (Node k) row sets More e = refl
+no_names_known SecondBind row sets More e = refl
+no_names_known Operand row sets More e = refl
+
+no_names_name : (h : Head) (row : AnnotatedForest) → has_no_names (frame_kind_of_head h) ≡ true → name_of h row ≡ None
+no_names_name (Node NODE_PAT_ENTRY) row e = absurd (true_is_not_false (sym e))
+no_names_name (Node k) row e = refl
+no_names_name SecondBind row e = refl
+no_names_name Operand row e = refl
+
+node_begun : (k : SyntaxKind) (row : AnnotatedForest) → has_no_names (frame_kind_of_node k) ≡ true → IsBegun (Node k) row
+node_begun NODE_PAT_ENTRY row e = absurd (true_is_not_false (sym e))
+node_begun k row e = tt
+
+-- no name is added
+same_entries : (fs : List Frame) (x : Option Token) → x ≡ None → entries_of fs ++ named_by x ≡ entries_of fs
+same_entries fs x e = ap (λ y. entries_of fs ++ named_by y) e ∙ append-nil (entries_of fs)
+
+-- a frame on others
+push : {f : Frame} {fs : List Frame} {names : Names} (h : Head) (position : Position) (d : ℕ) (row : AnnotatedForest) → has_no_names (frame_kind_of_head h) ≡ true
+    → IsBegun h row → AreNamed f fs names → AreNamed (opened h position d row) (f ∷ fs) names
+push {f = f} {fs = fs} {names = names} h position d row b i w = record {
+  begun = (i, w.begun);
+  sets = subst (λ A. A) (sym (no_names_known h row names.sets.items (AreOpenSets (f ∷ fs)) b)) w.sets;
+  entries = w.entries ∙ sym (same_entries (f ∷ fs) (name_of h row) (no_names_name h row b));
+}
+
+-- a node is opened above a frame
+pub push_node : {f : Frame} {fs : List Frame} {names : Names} (k : SyntaxKind) (position : Position) (d : ℕ) (row : AnnotatedForest) → frame_kind_of_node k ≡ NodeFrame
+    → AreNamed f fs names → AreNamed (opened (Node k) position d row) (f ∷ fs) names
+push_node k position d row s w = push (Node k) position d row (ap has_no_names s) (node_begun k row (ap has_no_names s)) w
+
+-- an operand is opened
+pub push_operand : {f : Frame} {fs : List Frame} {names : Names} (min_bp max_bp d : ℕ) (row : AnnotatedForest) → AreNamed f fs names
+    → AreNamed (opened Operand (p.AfterOperand min_bp max_bp) d row) (f ∷ fs) names
+push_operand min_bp max_bp d row w = push Operand (p.AfterOperand min_bp max_bp) d row refl tt w
+
+-- a second name is opened
+pub push_second : {f : Frame} {fs : List Frame} {names names' : Names} (d : ℕ) (row : AnnotatedForest) → IsBegun SecondBind row
+    → names'.sets.items ≡ names.sets.items → entries_in names' ≡ entries_in names → AreNamed f fs names → AreNamed (opened SecondBind (p.Left SECOND_BIND) d row) (f ∷ fs) names'
+push_second {f = f} {fs = fs} d row i s e w = record {
+  begun = (i, w.begun);
+  sets = subst (AreOpenSets (f ∷ fs)) (sym s) w.sets;
+  entries = e ∙ w.entries ∙ sym (append-nil (entries_of (f ∷ fs)));
+}
+
+-- a pattern is opened, with a new set
+pub push_pattern : {f : Frame} {fs : List Frame} {names names' : Names} (position : Position) (d : ℕ) (row : AnnotatedForest)
+    → HasNoEntry row → PatternOpened names names' → AreNamed f fs names → AreNamed (opened (Node NODE_PATTERN) position d row) (f ∷ fs) names'
+push_pattern {f = f} {fs = fs} {names = names} position d row none o w = record {
+  begun = (tt, w.begun);
+  sets = record { below = names.sets.items; set = o.set; all = o.sets; is = λ name. o.none name ∙ sym (none name); more = w.sets };
+  entries = o.entries ∙ w.entries ∙ sym (append-nil (entries_of (f ∷ fs)));
+}
+
+-- an entry is opened, with its name
+pub push_entry : {f : Frame} {fs : List Frame} {names names' : Names} (d : ℕ) (row : AnnotatedForest) (t : Token)
+    → entry_name (without_trivia row) ≡ Some t → EntryOpened (entry_at t) names names' → AreNamed f fs names
+    → AreNamed (opened (Node NODE_PAT_ENTRY) (p.Left PAT_ENTRY) d row) (f ∷ fs) names'
+push_entry {f = f} {fs = fs} d row t e o w = record {
+  begun = ((t, e), w.begun);
+  sets = subst (AreOpenSets (f ∷ fs)) (sym o.sets) w.sets;
+  entries = o.entries ∙ ap (λ x. x ++ entry_at t ∷ []) w.entries ∙ ap (λ x. entries_of (f ∷ fs) ++ named_by x) (sym e);
+}
+
+-- an operand in the place of another
+pub instead : {f : Frame} {fs : List Frame} {names : Names} (min_bp max_bp d : ℕ) (row : AnnotatedForest) → f.head ≡ Operand → AreNamed f fs names
+    → AreNamed (opened Operand (p.AfterOperand min_bp max_bp) d row) fs names
+instead {f = f} {fs = fs} {names = names} min_bp max_bp d row o w = record {
+  begun = (tt, w.begun.1);
+  sets = subst (λ h. AreOpenSetsOn h f.row names.sets.items (AreOpenSets fs)) o w.sets;
+  entries = w.entries ∙ ap (λ h. entries_of fs ++ named_by (name_of h f.row)) o;
+}
+
+-- what closes has no entry of its own
+made_quiet : (h : Head) (row : AnnotatedForest) (s : FrameKind) → has_no_names (frame_kind_of_head h) ≡ true → may_hold s (frame_kind_of_head h) ≡ true → is_pattern s ≡ true → HasNoEntry (made h row)
+made_quiet (Node NODE_PAT_ENTRY) row s b m q = absurd (true_is_not_false (sym b))
+made_quiet (Node k) row s b m q = λ name. refl
+made_quiet SecondBind row s b m q = λ name. refl
+made_quiet Operand row Pattern b m q = absurd (true_is_not_false (sym m))
+made_quiet Operand row s b m q = absurd (true_is_not_false (sym q))
+
+-- a frame is complete
+pub pop : {f g : Frame} {fs : List Frame} {names : Names} → IsStackedOn f.head f.position (g ∷ fs) → has_no_names (frame_kind f.position) ≡ true → AreNamed f (g ∷ fs) names
+    → AreNamed (put g.position (g.row ⊕ made f.head f.row) g) fs names
+pop {f = f} {g = g} {fs = fs} {names = names} st b w =
+    let bare : has_no_names (frame_kind_of_head f.head) ≡ true = ap has_no_names st.0 ∙ b in
+    let kept : AreNamed g fs names = record {
+      begun = w.begun.1;
+      sets = subst (λ A. A) (no_names_known f.head f.row names.sets.items (AreOpenSets (g ∷ fs)) bare) w.sets;
+      entries = w.entries ∙ same_entries (g ∷ fs) (name_of f.head f.row) (no_names_name f.head f.row bare);
+    } in
+    grow g.position (made f.head f.row)
+    (λ q. made_quiet f.head f.row (frame_kind g.position) bare (ap (may_hold (frame_kind g.position)) st.0 ∙ st.1) (ap is_pattern (sym (head_sort g.head g.position fs st.2)) ∙ q)) kept
+
+-- a pattern is complete, and its set is dropped
+pub pop_pattern : {f g : Frame} {fs : List Frame} {names names' : Names} → f.head ≡ Node NODE_PATTERN → PatternClosed names names' → AreNamed f (g ∷ fs) names
+    → AreNamed (put g.position (g.row ⊕ made f.head f.row) g) fs names'
+pop_pattern {f = f} {g = g} {fs = fs} {names = names} {names' = names'} e c w =
+    let top_set : TopSet names.sets.items f.row (AreOpenSets (g ∷ fs)) = known_pattern f.head f.row names.sets.items (AreOpenSets (g ∷ fs)) e w.sets in
+    let kept : AreNamed g fs names' = record {
+      begun = w.begun.1;
+      sets = subst (AreOpenSets (g ∷ fs)) (sym (c.sets top_set.below top_set.set top_set.all)) top_set.more;
+      entries = c.entries ∙ w.entries ∙ same_entries (g ∷ fs) (name_of f.head f.row) (ap (λ h. name_of h f.row) e);
+    } in
+    grow g.position (made f.head f.row) (λ q. subst (λ h. HasNoEntry (made h f.row)) (sym e) (λ name. refl)) kept
+
+-- an entry is complete, and its name is in the set
+pub pop_entry : {f g : Frame} {fs : List Frame} {names names' : Names} {again : Option Fault} → IsEntry f g fs names names' again → AreNamed f (g ∷ fs) names
+    → AreNamed (put g.position (g.row ⊕ made f.head f.row) g) fs names'
+pop_entry {f = f} {g = g} {fs = fs} {names' = names'} q w = record {
+  begun = (begun_more g.head g.row (made f.head f.row) w.begun.1.0, w.begun.1.1);
+  sets = subst (λ h. AreOpenSetsOn g.head (g.row ⊕ made h f.row) names'.sets.items (AreOpenSets fs)) (sym q.entry)
+      (known_entry g.head g.row f.row q.name q.top_set.below q.entered.set names'.sets.items (AreOpenSets fs) (ap (λ h. is_pattern (frame_kind_of_head h)) q.pattern) q.named q.entered.sets q.top_set.more
+      (λ other. q.entered.has other ∙ ap (λ x. if bytes_eq q.name.text other then true else x) (q.top_set.is other)));
+  entries = q.entries ∙ ap (λ x. entries_of fs ++ named_by x) (sym (name_more g.head g.row (made f.head f.row) w.begun.1.0));
+}
