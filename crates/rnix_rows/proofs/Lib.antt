@@ -10,7 +10,7 @@ pub mod ReadsFilled
 pub mod WithTriviaEdges
 pub mod WithTriviaNames
 pub mod TreeShapes
-pub mod ReadsRoot
+pub mod RootReadings
 pub mod TriviaBetweenLemmas
 pub mod ReadsLeafKinds
 pub mod Exactly
