@@ -17,7 +17,7 @@ use Rattle.rnix_lemmas.proofs.{ActionTable.{IsOperandHere, MayEnd, IsActionAt, a
 use Rattle.{rnix_lemmas.proofs.ReadsFrom.past_over, rnix_existence.proofs.Frames.{is_in_row_of, is_sound, in_row, AtOpen, node, sound_open, left_of, grown, stayed}}
 use Rattle.rnix_existence.proofs.{Frames.{waits, landed, alone, Below, above, closing}, ActionPositions.{is_reported, leads, leads_on}, OperandTrees.Takes}
 use Rattle.rnix_existence.proofs.{OperandTrees.{left_takes, placed}, OperandFrames.{item_first, name_first, BeginEnds, operand_begins}, OpenFrames.Outcome}
-use Rattle.rnix_existence.proofs.OpenFrames.{Spans, spanned, spans_made, item, IsRead, EndsOn, RowEnds, Closes, Fronts, Goes, GoesBy, row_fronted, fronted}
+use Rattle.rnix_existence.proofs.OpenFrames.{Spans, spanned, spans_made, item, IsRead, EndsOn, RowEnds, Closes, Fronts, IsPreserved, IsPreservedBy, row_fronted, fronted}
 use Rattle.rnix_existence.proofs.OpenFrames.{open_ends}
 use Rattle.rnix_grammar.specs.declared.position.Position.TheVariants as p
 use Rattle.rnix_grammar.specs.declared.action.Action.TheVariants as a
@@ -86,7 +86,7 @@ module _ (whole : Outcome) (f : Frame) (n : ℕ) (gs : List Fault) where
 
   -- its row is complete
   closes : (fs : List Frame) → AtOpen f fs → (ts : List Token) (hs : List Fault) → MayEnd here (touches n ts) (head_kind ts) → hs ≡ gs ++ reported f fs
-      → Goes whole (closed f fs ts n hs) f fs ts n gs
+      → IsPreserved whole (closed f fs ts n hs) f fs ts n gs
   closes [] r ts hs o h = (node r, λ ends. subst (EndsOn whole [] f ts n) (h ∙ append-nil gs) ends)
   closes (g ∷ fs) r ts hs o h = (
     landed f.head f.row g fs r.below,
@@ -111,13 +111,13 @@ module _ (whole : Outcome) (f : Frame) (n : ℕ) (gs : List Fault) where
 
   -- so is an entry of a pattern, which may repeat another's name
   closes_entry : (fs : List Frame) → AtOpen f fs → (ts : List Token) → MayEnd here (touches n ts) (head_kind ts) → kind ≡ NODE_PAT_ENTRY
-      → GoesBy whole a.CloseEntry f fs ts n gs
+      → IsPreservedBy whole a.CloseEntry f fs ts n gs
   closes_entry [] r ts o h = (node r, λ ends. ends)
   closes_entry (g ∷ fs) r ts o h = closes (g ∷ fs) r ts (gs ++ repeated g.row f.row) o (ap (λ z. gs ++ z) (sym (entry f.head g.row f.row h)))
 
   -- and a second name
   closes_double_bind : (fs : List Frame) → AtOpen f fs → (ts : List Token) → MayEnd here (touches n ts) (head_kind ts) → f.head ≡ SecondBind
-      → GoesBy whole a.CloseDoubleBind f fs ts n gs
+      → IsPreservedBy whole a.CloseDoubleBind f fs ts n gs
   closes_double_bind [] r ts o h = absurd (alone (subst (λ (h : Head). Below (above h f.row) []) h r.below))
   closes_double_bind (g ∷ fs) r ts o h = closes (g ∷ fs) r ts (gs ++ report DoubleBind (tokens_in f.row) ∷ []) o (ap (λ z. gs ++ closing z g.row f.row) (sym h))
 
@@ -131,19 +131,19 @@ module _ (whole : Outcome) (f : Frame) (n : ℕ) (gs : List Fault) where
 
     -- some trees are read, and the frame moves to another place
     goes_on : (y : Position) (x : AnnotatedForest) (ts us : List Token) (m : ℕ) (ds hs : List Fault) → is_in_row_of y kind ≡ true → Spans ts n us m x → hs ≡ gs ++ ds
-        → Fronts kind f.depth n here f.row x us m (rest_at y) ds → Goes whole (machine (put y (f.row ⊕ x) f ∷ fs) us m hs) f fs ts n gs
+        → Fronts kind f.depth n here f.row x us m (rest_at y) ds → IsPreserved whole (machine (put y (f.row ⊕ x) f ∷ fs) us m hs) f fs ts n gs
     goes_on y x ts us m ds hs in_row_of v h reads = (node (grown f fs y x r in_row_of), fronted whole fs f y x ts us n m gs ds hs wide v h reads)
 
     -- the next item becomes a leaf
     takes : (t : Token) (ts : List Token) (y : ℕ) → is_in_row_of (p.Left y) kind ≡ true → IsExpected here n (t ∷ ts) true → after here (leaf_kind kind t) ≡ left_at y
-        → GoesBy whole (a.Take y) f fs (t ∷ ts) n gs
+        → IsPreservedBy whole (a.Take y) f fs (t ∷ ts) n gs
     takes t ts y in_row_of w g =
         goes_on (p.Left y) (item kind t) (t ∷ ts) ts t.end [] gs in_row_of spanned (sym (append-nil gs))
         (λ vs s x es e z. leaf_from e w (followed (Some (leaf_kind kind t))) g z)
 
     -- the text ends, and an error reports what is missing
     misses : (e : Fault) (y : ℕ) → is_in_row_of (p.Left y) kind ≡ true → missing here ≡ Some (e, left_at y) → (expects_end here ≡ false → IsRoom here f.depth)
-        → Goes whole (machine (put (p.Left y) f.row f ∷ fs) [] n (gs ++ e ∷ [])) f fs [] n gs
+        → IsPreserved whole (machine (put (p.Left y) f.row f ∷ fs) [] n (gs ++ e ∷ [])) f fs [] n gs
     misses e y in_row_of lost room = (
       node (stayed f fs (p.Left y) r in_row_of),
       λ ends. fronted whole fs f (p.Left y) blank [] [] n n gs (e ∷ []) (gs ++ e ∷ []) wide spanned refl
@@ -155,7 +155,7 @@ module _ (whole : Outcome) (f : Frame) (n : ℕ) (gs : List Fault) where
     -- some items become an error node
     wrongs : (ts us run : List Token) (y : Position) (note : Note) → is_in_row_of y kind ≡ true → ts ≡ run ++ us → IsExpected here n ts false
         → IsWrong note f.depth here (rest_at y) run us
-        → Goes whole (machine (put y (f.row ⊕ one_fault note (row_of run)) f ∷ fs) us (end_from n run) (gs ++ report note run ∷ [])) f fs ts n gs
+        → IsPreserved whole (machine (put y (f.row ⊕ one_fault note (row_of run)) f ∷ fs) us (end_from n run) (gs ++ report note run ∷ [])) f fs ts n gs
     wrongs ts us run y note in_row_of e w x =
         goes_on y (one_fault note (row_of run)) ts us (end_from n run) (report note run ∷ []) (gs ++ report note run ∷ []) in_row_of
         (record { items = e ∙ ap (λ z. z ++ us) (sym (one_row run)); item_end = ap (end_from n) (sym (one_row run)) }) refl
@@ -164,14 +164,14 @@ module _ (whole : Outcome) (f : Frame) (n : ℕ) (gs : List Fault) where
     -- a run of unwanted items becomes an error node
     runs : (t : Token) (ts : List Token) (until : ExpectedSet) (y : ℕ) → is_in_row_of (p.Left y) kind ≡ true → IsExpected here n (t ∷ ts) false
         → is_wanted until t.kind ≡ false
-        → run_at here ≡ Some (wanted_kinds until, left_at y) → GoesBy whole (a.Run until y) f fs (t ∷ ts) n gs
+        → run_at here ≡ Some (wanted_kinds until, left_at y) → IsPreservedBy whole (a.Run until y) f fs (t ∷ ts) n gs
     runs t ts until y in_row_of w u at =
         let run : List Token = run_of until (t ∷ ts) in
         let all : t ∷ ts ≡ run ++ dropped run (t ∷ ts) = (parted until (t ∷ ts)).all in
         wrongs (t ∷ ts) (dropped run (t ∷ ts)) run (p.Left y) (Unwanted until) in_row_of all w (ap is_some (run_begins until t ts u), ap (run_of until) all, at)
 
     -- all items after the root's expression become one
-    left_over : (t : Token) (ts : List Token) → here ≡ TextEnd · done → GoesBy whole a.Extra f fs (t ∷ ts) n gs
+    left_over : (t : Token) (ts : List Token) → here ≡ TextEnd · done → IsPreservedBy whole a.Extra f fs (t ∷ ts) n gs
     left_over t ts e =
         wrongs (t ∷ ts) (dropped (t ∷ ts) (t ∷ ts)) (t ∷ ts) f.position Extra r.is.in_row_of (all_left (t ∷ ts))
         (subst (λ (q : Row). IsExpected q n (t ∷ ts) false) (sym e) refl)
@@ -189,7 +189,7 @@ module _ (whole : Outcome) (f : Frame) (n : ℕ) (gs : List Fault) where
 
     -- a name becomes a node
     names : (t : Token) (ts : List Token) (y : ℕ) → is_in_row_of (p.Left y) kind ≡ true → IsNodeHere here (touches n (t ∷ ts)) (Some t.kind) NODE_IDENT (left_at y)
-        → after (row_of_kind NODE_IDENT) (leaf_kind NODE_IDENT t) ≡ done → GoesBy whole (a.Leaf NODE_IDENT y) f fs (t ∷ ts) n gs
+        → after (row_of_kind NODE_IDENT) (leaf_kind NODE_IDENT t) ≡ done → IsPreservedBy whole (a.Leaf NODE_IDENT y) f fs (t ∷ ts) n gs
     names t ts y in_row_of w k =
         goes_on (p.Left y) (one_branch NODE_IDENT (item NODE_IDENT t)) (t ∷ ts) ts t.end [] gs in_row_of spanned (sym (append-nil gs))
         (node_here NODE_IDENT y (t ∷ ts) w (item NODE_IDENT t) ts t.end done [] spanned (name_reads t k) (past_over t.end ts))
@@ -201,7 +201,7 @@ module _ (whole : Outcome) (f : Frame) (n : ℕ) (gs : List Fault) where
         → ((c : AnnotatedForest) (left : List Token) (l : ℕ) (u : Row) (ds : List Fault) → Spans ts n left l c → Reads (kind_of h) f.depth n q u blank left c
         ds → IsOver u l left
         → Fronts kind f.depth n here f.row (made h c) left l (left_at y) (ds ++ closing h f.row c))
-        → Goes whole (machine (opened h z f.depth x ∷ (put (p.Left y) f.row f ∷ fs)) us m gs) f fs ts n gs
+        → IsPreserved whole (machine (opened h z f.depth x ∷ (put (p.Left y) f.row f ∷ fs)) us m gs) f fs ts n gs
     opens h q z y x ts us m sound in_row_of v reads stands = (
       node (record { is = record { sound = sound; in_row_of = homes.0; shallow = r.is.shallow }; below = waits g fs (stayed f fs (p.Left y) r homes.1) }),
       λ ends. by (row_fronted x [] v (sym (append-nil gs)) reads (open_ends whole g fs (opened h z f.depth x) us m gs (sound_open h sound) ends)),
@@ -223,14 +223,14 @@ module _ (whole : Outcome) (f : Frame) (n : ℕ) (gs : List Fault) where
     opens_node : (k : SyntaxKind) (z y : ℕ) (x : AnnotatedForest) (ts us : List Token) (m : ℕ)
         → (is_sound (Node k) && (is_in_row_of (p.Left z) k && is_in_row_of (p.Left y) kind)) ≡ true
         → Spans ts n us m x → Fronts k f.depth n (row_of_kind k) blank x us m (left_at z) [] → IsNodeHere here (touches n ts) (head_kind ts) k (left_at y)
-        → Goes whole (machine (opened (Node k) (p.Left z) f.depth x ∷ (put (p.Left y) f.row f ∷ fs)) us m gs) f fs ts n gs
+        → IsPreserved whole (machine (opened (Node k) (p.Left z) f.depth x ∷ (put (p.Left y) f.row f ∷ fs)) us m gs) f fs ts n gs
     opens_node k z y x ts us m in_row_of v reads w =
         let q = and_parts (is_sound (Node k)) (is_in_row_of (p.Left z) k && is_in_row_of (p.Left y) kind) in_row_of in
         opens (Node k) (row_of_kind k) (p.Left z) y x ts us m q.0 q.1 v reads (node_here k y ts w)
 
     -- a second name of a pattern opens with `@`
     opens_second : (t : Token) (ts : List Token) (y : ℕ) → is_in_row_of (p.Left y) kind ≡ true → here ≡ BoundAlready · done → t.kind ≡ TOKEN_AT → left_at y ≡ done
-        → GoesBy whole (a.DoubleBind y) f fs (t ∷ ts) n gs
+        → IsPreservedBy whole (a.DoubleBind y) f fs (t ∷ ts) n gs
     opens_second t ts y in_row_of i j l =
         opens SecondBind second_name (p.Left SECOND_BIND) y (one_token t.kind t) (t ∷ ts) ts t.end refl in_row_of spanned
         (λ vs s x es e z. leaf_from e tt tt (ap (after second_name) j) z)
@@ -240,7 +240,7 @@ module _ (whole : Outcome) (f : Frame) (n : ℕ) (gs : List Fault) where
     operand_at : (ts : List Token) (level d y : ℕ) → level ≤ 16 → d ≤ depth_limit → is_in_row_of (p.Left y) kind ≡ true → Takes here level (left_at y)
         → d ≡ deeper here f.depth → IsRoom here f.depth
         → IsExpected here n ts false → (ts ≡ [] → missing here ≡ Some (ended, left_at y))
-        → Goes whole (operand_on false level d (put (p.Left y) f.row f) fs ts ts n gs) f fs ts n gs
+        → IsPreserved whole (operand_on false level d (put (p.Left y) f.row f) fs ts ts n gs) f fs ts n gs
     operand_at [] level d y l s in_row_of takes e room own lost = misses ended y in_row_of (lost refl) (λ v. room)
     operand_at (t ∷ us) level d y l s in_row_of takes e room own lost =
         let b = operand_begins whole level d (put (p.Left y) f.row f) fs n gs (stayed f fs (p.Left y) r in_row_of) s l t us in (b.0, λ ends. by (b.1 ends))
@@ -254,7 +254,7 @@ module _ (whole : Outcome) (f : Frame) (n : ℕ) (gs : List Fault) where
     -- an operand of a level is read, unless it is nested too deep
     reads_operand : (ts : List Token) (level : ℕ) (counted : Bool) (y : ℕ) → (nat_le level 16 && is_in_row_of (p.Left y) kind) ≡ true
         → IsOperandHere here (touches n ts) (head_kind ts) level counted (left_at y) → (ts ≡ [] → missing here ≡ Some (ended, left_at y))
-        → GoesBy whole (a.Read level counted y) f fs ts n gs
+        → IsPreservedBy whole (a.Read level counted y) f fs ts n gs
     reads_operand ts level counted y h w lost = by counted w.1
       where
         in_row_of : (nat_le level 16 ≡ true) × (is_in_row_of (p.Left y) kind ≡ true)
@@ -267,11 +267,11 @@ module _ (whole : Outcome) (f : Frame) (n : ℕ) (gs : List Fault) where
         own = expected here n ts false w.2
 
         inside : (d : ℕ) → d ≤ depth_limit → d ≡ deeper here f.depth → IsRoom here f.depth
-            → Goes whole (operand_on false level d (put (p.Left y) f.row f) fs ts ts n gs) f fs ts n gs
+            → IsPreserved whole (operand_on false level d (put (p.Left y) f.row f) fs ts ts n gs) f fs ts n gs
         inside d s e room = operand_at ts level d y (at_most level 16 in_row_of.0) s in_row_of.1 takes e room own lost
 
         limit : counts here ≡ true → (v : Bool) → nat_le depth_limit f.depth ≡ v
-            → Goes whole (if v then limited false (put (p.Left y) f.row f) fs ts n gs else operand_on false level (suc f.depth) (put (p.Left y) f.row f) fs ts
+            → IsPreserved whole (if v then limited false (put (p.Left y) f.row f) fs ts n gs else operand_on false level (suc f.depth) (put (p.Left y) f.row f) fs ts
             ts n gs) f fs ts n gs
         limit e true v =
             wrongs ts (dropped ts ts) ts (p.Left y) TooDeep in_row_of.1 (all_left ts) own
@@ -279,13 +279,13 @@ module _ (whole : Outcome) (f : Frame) (n : ℕ) (gs : List Fault) where
         limit e false v =
             inside (suc f.depth) (omega (arith, below_limit f.depth v)) (ap (λ w. if w then suc f.depth else f.depth) (sym e)) (λ u. below_limit f.depth v)
 
-        by : (counted : Bool) → counts here ≡ counted → Goes whole (reading false level counted (put (p.Left y) f.row f) fs ts n gs) f fs ts n gs
+        by : (counted : Bool) → counts here ≡ counted → IsPreserved whole (reading false level counted (put (p.Left y) f.row f) fs ts n gs) f fs ts n gs
         by false e = inside f.depth r.is.shallow (ap (λ w. if w then suc f.depth else f.depth) (sym e)) (λ v. absurd (true_is_not_false (sym v ∙ e)))
         by true e = limit e (nat_le depth_limit f.depth) refl
 
     -- each action that the rules allow at the place
     done_by : (action : Action) (ts : List Token) → IsActionAt here (touches n ts) (head_kind ts) action → leads kind action ≡ true
-        → GoesBy whole action f fs ts n gs
+        → IsPreservedBy whole action f fs ts n gs
     done_by a.Close ts w h = closes fs r ts gs w (sym (ap (λ z. gs ++ z) (silent f fs r.is.sound (not_if (is_reported kind) h)) ∙ append-nil gs))
     done_by a.ClosePattern ts w h = closes fs r ts gs w (sym (ap (λ z. gs ++ z) (silent f fs r.is.sound (not_if (is_reported kind) h)) ∙ append-nil gs))
     done_by a.CloseEntry ts w h = closes_entry fs r ts w (same kind NODE_PAT_ENTRY h)
@@ -311,7 +311,7 @@ module _ (whole : Outcome) (f : Frame) (n : ℕ) (gs : List Fault) where
     done_by _ (t ∷ ts) w h = absurd w
 
     -- each step at an open frame
-    pub node_step : (ts : List Token) → GoesBy whole (action_at f.position (head_kind ts) (touches n ts)) f fs ts n gs
+    pub node_step : (ts : List Token) → IsPreservedBy whole (action_at f.position (head_kind ts) (touches n ts)) f fs ts n gs
     node_step ts =
         done_by (action_at f.position (head_kind ts) (touches n ts)) ts (action_is_at f.position (touches n ts) (head_kind ts) (in_row f.position kind r.is.in_row_of))
         (leads_on f.position kind (head_kind ts) (touches n ts) r.is.in_row_of)

@@ -139,12 +139,12 @@ module _ (whole : Outcome) where
   EndsAll (f ∷ fs) ts n gs = EndsOn fs f ts n gs
 
   -- A step keeps what is known of the frames, and if the outcome is reached after it, then also before it.
-  abbrev pub Goes : Machine → Frame → List Frame → List Token → ℕ → List Fault → Type 0
-  Goes m f fs ts n gs = Reading m.frames × (EndsAll m.frames m.left m.prev_end m.faults → EndsOn fs f ts n gs)
+  abbrev pub IsPreserved : Machine → Frame → List Frame → List Token → ℕ → List Fault → Type 0
+  IsPreserved m f fs ts n gs = Reading m.frames × (EndsAll m.frames m.left m.prev_end m.faults → EndsOn fs f ts n gs)
 
   -- so does the step of an action
-  abbrev pub GoesBy : Action → Frame → List Frame → List Token → ℕ → List Fault → Type 0
-  GoesBy action f fs ts n gs = Goes (perform false action f fs ts n gs) f fs ts n gs
+  abbrev pub IsPreservedBy : Action → Frame → List Frame → List Token → ℕ → List Fault → Type 0
+  IsPreservedBy action f fs ts n gs = IsPreserved (perform false action f fs ts n gs) f fs ts n gs
 
   -- an open frame above another becomes complete
   pub open_ends : (g : Frame) (fs : List Frame) (f : Frame) (ts : List Token) (n : ℕ) (gs : List Fault) → is_open f.head ≡ true → EndsOn (g ∷ fs) f ts n gs

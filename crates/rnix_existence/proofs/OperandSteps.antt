@@ -16,7 +16,7 @@ use Rattle.rnix_lemmas.proofs.{RowParts.front, ReadsFrom.{inner_from, leaf_from,
 use Rattle.rnix_existence.proofs.{Growing.{MayGrow, seen_kind, atom_seen, grows_by, call_grows, operator_grows}, OperandTrees.{argument_takes, first_placed}}
 use Rattle.rnix_existence.proofs.{OperandTrees.{placed, none_repeated}, Frames.{is_in_row_of, is_sound, AtOperand, Below, One, an_operand, node, operand, opens_on}}
 use Rattle.rnix_existence.proofs.{Frames.{landed, alone}, OpenFrames.{Outcome, Spans, spanned, spans_two, spans_made, item, a_node as lone_node, IsRead, Grows}}
-use Rattle.rnix_existence.proofs.{OpenFrames.{RowEnds, Closes, EndsOn, GoesBy, row_fronted, open_ends, operand_ends}, OperandFrames.{BeginEnds, operand_begins}}
+use Rattle.rnix_existence.proofs.{OpenFrames.{RowEnds, Closes, EndsOn, IsPreservedBy, row_fronted, open_ends, operand_ends}, OperandFrames.{BeginEnds, operand_begins}}
 use Rattle.rnix_grammar.specs.declared.position.Position.TheVariants as p
 use Rattle.rnix_grammar.specs.declared.action.Action.TheVariants as a
 
@@ -85,7 +85,7 @@ module _ (whole : Outcome) (min_bp max_bp d : ℕ) (x : AnnotatedForest) (n : �
 
   -- no item continues it, and it is complete
   settles : (fs : List Frame) → AtOperand min_bp max_bp d x fs → (ts : List Token) → ((j : SyntaxKind) → head_kind ts ≡ Some j → goes_on min_bp max_bp j ≡ false)
-      → GoesBy whole a.EndOperand frame fs ts n gs
+      → IsPreservedBy whole a.EndOperand frame fs ts n gs
   settles [] r ts h = absurd (alone r.below)
   settles (g ∷ fs) r ts h = (
     landed Operand x g fs r.below,
@@ -144,7 +144,7 @@ module _ (whole : Outcome) (min_bp max_bp d : ℕ) (x : AnnotatedForest) (n : �
     wraps : (t : Token) (ts : List Token) (k : SyntaxKind) (q : Row) (z : Position) (other : ℕ) → IsFront (row_of_kind k) → after (row_of_kind k) (seen_kind x) ≡ q
         → ((us : List Token) → IsExpected q n us true) → IsFollowed q x (Some (leaf_kind k t)) → after q (leaf_kind k t) ≡ rest_at z
         → ((c : AnnotatedForest) → first_tree (one_branch k c) ≡ first_tree c) → is_sound (Node k) ≡ true → is_in_row_of z k ≡ true
-        → ((rest : AnnotatedForest) → MayGrow min_bp other (one_branch k ((x ⊕ item k t) ⊕ rest))) → GoesBy whole (a.Wrap k z other) frame fs (t ∷ ts) n gs
+        → ((rest : AnnotatedForest) → MayGrow min_bp other (one_branch k ((x ⊕ item k t) ⊕ rest))) → IsPreservedBy whole (a.Wrap k z other) frame fs (t ∷ ts) n gs
     wraps t ts k q z other st g own fo h first sound in_row_of grows = (
       node (opens_on k z d (x ⊕ item k t) (other_frame other blank ∷ fs) sound in_row_of r.shallow (an_operand min_bp other d r.shallow grows r.below)),
       λ ends. wraps_on fs r other k q (t ∷ ts) st g first (grows blank).fit
@@ -159,7 +159,7 @@ module _ (whole : Outcome) (min_bp max_bp d : ℕ) (x : AnnotatedForest) (n : �
     -- an argument follows it
     applies : (t : Token) (ts : List Token) → after (row_of_kind NODE_APPLY) (seen_kind x) ≡ Argument · done → min_bp ≤ 15 → is_or t.kind ≡ false
         → is_fn_arg t.kind ≡ true → follows t.kind x ≡ true
-        → GoesBy whole a.Apply frame fs (t ∷ ts) n gs
+        → IsPreservedBy whole a.Apply frame fs (t ∷ ts) n gs
     applies t ts g l nor arg fo =
         let below : Below (One NODE_APPLY x) (under ∷ fs) = an_operand min_bp 15 d r.shallow grows r.below in
         let b = operand_begins whole 16 d (called x) (under ∷ fs) n gs (opens_on NODE_APPLY (p.Left APPLIED) d x (under ∷ fs) refl refl r.shallow below)
@@ -188,7 +188,7 @@ module _ (whole : Outcome) (min_bp max_bp d : ℕ) (x : AnnotatedForest) (n : �
     -- the name `or` follows it as an argument
     applies_or : (t : Token) (ts : List Token) → after (row_of_kind NODE_APPLY) (seen_kind x) ≡ Argument · done → min_bp ≤ 16 → t.kind ≡ TOKEN_OR
         → follows TOKEN_OR x ≡ true
-        → GoesBy whole a.ApplyOr frame fs (t ∷ ts) n gs
+        → IsPreservedBy whole a.ApplyOr frame fs (t ∷ ts) n gs
     applies_or t ts g l e fo = (
       operand (record { single = a_node; grows = grows; shallow = r.shallow; below = r.below }),
       λ ends. wraps_on fs r 15 NODE_APPLY (Argument · done) (t ∷ ts) (front (row_of_kind NODE_APPLY) refl) g (λ c. refl) grows.fit (record {
@@ -226,7 +226,7 @@ module _ (whole : Outcome) (min_bp max_bp d : ℕ) (x : AnnotatedForest) (n : �
 
     -- an item continues it
     goes : (k : SyntaxKind) (action : Action) → FollowsBy k action → (t : Token) (ts : List Token) → t.kind ≡ k → Between min_bp max_bp k
-        → GoesBy whole action frame fs (t ∷ ts) n gs
+        → IsPreservedBy whole action frame fs (t ∷ ts) n gs
     goes k action by_dot t ts e w =
         let node : AnnotatedForest → AnnotatedForest = λ rest. one_branch NODE_SELECT ((x ⊕ item NODE_SELECT t) ⊕ rest) in
         let q : Row = Suffix TOKEN_DOT · left_at SELECT in
@@ -255,10 +255,10 @@ module _ (whole : Outcome) (min_bp max_bp d : ℕ) (x : AnnotatedForest) (n : �
         (follows_it k t.kind e w)
 
     -- each step at it
-    pub operand_step : (ts : List Token) → GoesBy whole (more_action min_bp max_bp (head_kind ts)) frame fs ts n gs
+    pub operand_step : (ts : List Token) → IsPreservedBy whole (more_action min_bp max_bp (head_kind ts)) frame fs ts n gs
     operand_step [] = settles fs r [] (λ j e. absurd (cc e))
     operand_step (t ∷ ts) = by (goes_on min_bp max_bp t.kind) refl
       where
-        by : (w : Bool) → goes_on min_bp max_bp t.kind ≡ w → GoesBy whole (if w then follow t.kind else a.EndOperand) frame fs (t ∷ ts) n gs
+        by : (w : Bool) → goes_on min_bp max_bp t.kind ≡ w → IsPreservedBy whole (if w then follow t.kind else a.EndOperand) frame fs (t ∷ ts) n gs
         by true e = let w : Between min_bp max_bp t.kind = between min_bp max_bp t.kind e in goes t.kind (follow t.kind) (followed_by t.kind w.0) t ts refl w
         by false e = settles fs r (t ∷ ts) (λ j h. subst (λ (k : SyntaxKind). goes_on min_bp max_bp k ≡ false) (some_same t.kind j h) e)

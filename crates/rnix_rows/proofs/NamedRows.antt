@@ -15,7 +15,7 @@ use Rattle.rnix_grammar.specs.Rules.{Row, done, ◌·◌, row, only, after, may_
 use Rattle.rnix_lemmas.proofs.{Basics.{true_is_not_false, not_if, Where, where_one}, EveryKind.never, AfterErrors.wrong_goes}
 use Rattle.rnix_lemmas.proofs.ReachableRows.{IsKnown, is_viable, every_known, known_row, known_after, known_missing, known_past, known_wrong}
 use Rattle.{rnix_lemmas.proofs.ViableRows.{end_viable, reads_viable}, rnix_rows.proofs.{RowsWithoutAttrpath.{missing_no_attrpath, HasNoNode, no_attrpath_row}, ReadsLeafKinds.{child_is, no_wrong}}}
-use Rattle.rnix_rows.proofs.BegunTrees.{begins_pattern, MayBegin, Names, is_first, Fronts, Known, node_known}
+use Rattle.rnix_rows.proofs.FirstItems.{begins_pattern, MayBegin, Names, is_first, Fronts, Known, node_known}
 
 -- the first of some items passes a test
 abbrev Heads : (SyntaxKind → Bool) → List Token → Type 0

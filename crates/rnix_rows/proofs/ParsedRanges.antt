@@ -4,7 +4,7 @@ use Rattle.{rnix_kinds.specs.{declared.kinds.SyntaxKind.TheVariants.NODE_ROOT, L
 use Rattle.rnix_grammar.specs.{Fault.Fault, AnnotatedForest.{AnnotatedForest, blank, forget, without_trivia}, Repaired.others, Reads.ReadsRoot}
 use Rattle.rnix_grammar.specs.{Parsed.IsParsed, Ranges.{of_nodes, error_nodes, at_fault_from, at_fault, AreErrorsOf}}
 use Rattle.rnix_rows.proofs.{ReadsFilled.{reads_fault_tokens, fault_tokens_without_trivia}, PlacedTokens.{ArePlaced, placed_all}, RowsIn.{IsRowIn, row_of_tree, row_inside}}
-use Rattle.rnix_rows.proofs.{ErrorElements.IsSound, WalkErrors.{node_errors, walk_errors}, OrderedErrors.row_errors}
+use Rattle.rnix_rows.proofs.{ErrorElements.IsSound, ErrorsOfWalk.{node_errors, walk_errors}, OrderedErrors.row_errors}
 
 -- the tree of a forest
 abbrev pub tree_of : AnnotatedForest → Tree

@@ -8,8 +8,8 @@ use Rattle.{rnix_grammar.specs.Repaired.{repair, repaired_nonempty, kinds_of, Ar
 use Rattle.rnix_lemmas.proofs.{Basics.{not_nil, none_left, none_right}}
 use Rattle.rnix_lemmas.proofs.{ReachableRows.{IsKnown, is_viable, known_row, known_after, known_missing, known_past, known_wrong}}
 use Rattle.{rnix_lemmas.proofs.ViableRows.{end_viable, reads_viable}, rnix_rows.proofs.RowsWithoutAttrpath.{missing_no_attrpath, HasNoNode, no_attrpath_row, wrong_empty}}
-use Rattle.rnix_rows.proofs.Imitation.{IsCompletable, completed, Imitates, imitates_self, imitates_same, imitates_both, imitates_completable, second_imitates}
-use Rattle.rnix_rows.proofs.Imitation.{after_repair, wrong_imitates}
+use Rattle.rnix_rows.proofs.RepairedRows.{IsCompletable, completed, Simulates, simulates_self, simulates_same, simulates_both, simulates_completable, second_simulates}
+use Rattle.rnix_rows.proofs.RepairedRows.{after_repair, wrong_simulates}
 
 -- a row of error nodes without tokens holds nothing
 nonempty_none : (f : AnnotatedForest) → HasNoNode f → tokens_in f ≡ [] → repaired_nonempty f ≡ empty
@@ -41,19 +41,19 @@ begun_repair _ q f h = assumption
 
 -- each node of what is held begins its row, and so does the row itself
 pub reads_begun : {p : SyntaxKind} {d n : ℕ} {q q' : Row} {b : AnnotatedForest} {us : List Token} {f : AnnotatedForest} {es : List Fault} (q0 : Row)
-    → Reads p d n q q' b us f es → may_end q' ≡ true → IsKnown p q → Imitates q0 q → IsBegun q0 (repaired_nonempty f)
+    → Reads p d n q q' b us f es → may_end q' ≡ true → IsKnown p q → Simulates q0 q → IsBegun q0 (repaired_nonempty f)
 reads_begun q0 end w i m = record { row = ([], m.ends ∙ w); nodes = tt }
 reads_begun {p} {q = q} q0 (leaf {t = t} x o h) w i m =
     let k : SyntaxKind = leaf_kind p t in
     let on : after q0 k ≡ after q k = m.goes k (reads_viable h (end_viable _ w)) in
-    let more = reads_begun (after q0 k) h w (known_after k i) (imitates_same (after q0 k) (after q k) on) in
+    let more = reads_begun (after q0 k) h w (known_after k i) (simulates_same (after q0 k) (after q k) on) in
     record { row = more.row; nodes = more.nodes }
 reads_begun {q = q} q0 (missing_part {f = f} u n l room h) w i m =
     let lives : is_viable q ≡ true = reads_viable (missing_part u n l room h) (end_viable _ w) in
-    none_begun q0 (repaired_nonempty f) (nonempty_none f (no_attrpath_row h (known_missing l i) (end_viable _ w) (missing_no_attrpath i l) u n) n) (imitates_completable m (completed q i lives))
+    none_begun q0 (repaired_nonempty f) (nonempty_none f (no_attrpath_row h (known_missing l i) (end_viable _ w) (missing_no_attrpath i l) u n) n) (simulates_completable m (completed q i lives))
 reads_begun {p} {d} {q = q} {us = us} q0 (wrong {r = r} {f = f} n ts x o v h) w i m =
-    by_tokens ts refl (imitates_completable m (completed q i (reads_viable (wrong n ts x o v h) (end_viable _ w))))
-    (reads_begun (after_repair n q0) h w (known_wrong n _ _ _ v i) (wrong_imitates n d q0 q r ts (tokens_in f ++ us) i v (reads_viable h (end_viable _ w)) m))
+    by_tokens ts refl (simulates_completable m (completed q i (reads_viable (wrong n ts x o v h) (end_viable _ w))))
+    (reads_begun (after_repair n q0) h w (known_wrong n _ _ _ v i) (wrong_simulates n d q0 q r ts (tokens_in f ++ us) i v (reads_viable h (end_viable _ w)) m))
   where
     by_tokens : (xs : List Token) → ts ≡ xs → IsCompletable q0 → IsBegun (after_repair n q0) (repaired_nonempty f) → IsBegun q0 (repaired_nonempty (fault n (row_of ts) f))
     by_tokens [] e here more =
@@ -65,9 +65,9 @@ reads_begun {p} {d} {q = q} {us = us} q0 (wrong {r = r} {f = f} n ts x o v h) w 
         subst (IsBegun q0) (ap (λ o. if is_some o then repair n (repaired_nonempty f) else repaired_nonempty f) (sym (tokens_in-row_of ts ∙ e))) (begun_repair n q0 (repaired_nonempty f) more)
 reads_begun q0 (second {c = c} {f = f} s y h) w i m =
     subst (IsBegun q0) (elim (is_some (tokens_in c)) as (λ u. repaired_nonempty f ≡ (if u then repaired_nonempty f else repaired_nonempty f)) [ true ↦ refl | false ↦ refl ])
-    (reads_begun q0 h w (known_past i) (imitates_both m second_imitates))
+    (reads_begun q0 h w (known_past i) (simulates_both m second_simulates))
 reads_begun {q = q} q0 (inner {k = k} {c = c} o s y x j z h) w i m =
     let on : after q0 k ≡ after q k = m.goes k (reads_viable h (end_viable _ w)) in
-    let more = reads_begun (after q0 k) h w (known_after k i) (imitates_same (after q0 k) (after q k) on) in
-    let inside = reads_begun (row k) s y.0 (known_row k) (imitates_self (row k)) in
+    let more = reads_begun (after q0 k) h w (known_after k i) (simulates_same (after q0 k) (after q k) on) in
+    let inside = reads_begun (row k) s y.0 (known_row k) (simulates_self (row k)) in
     record { row = more.row; nodes = (beginning k (kinds_of (repaired_nonempty c)) inside.row, inside.nodes, more.nodes) }

@@ -11,7 +11,7 @@ use Rattle.rnix_grammar.specs.{Reads.{Reads, end, leaf, missing_part, wrong, sec
 use Rattle.rnix_lemmas.proofs.{Basics.{true_is_not_false, not_if, Where, where_one}, RowKinds.has_row, ReportLemmas.without_trivia_tokens}
 use Rattle.rnix_lemmas.proofs.ReachableRows.{IsKnown, is_viable, each_known, known_row, known_second, known_after, known_missing, known_wrong}
 use Rattle.{rnix_lemmas.proofs.ViableRows.{end_viable, reads_viable, reads_row}, rnix_rows.proofs.RowsWithoutAttrpath.{begins_with_child, row_some}}
-use Rattle.rnix_rows.proofs.{AttachTriviaLemmas.HasTree, Imitation.start_half, ReadsShapes.AreErrorFreeRows}
+use Rattle.rnix_rows.proofs.{AttachTriviaLemmas.HasTree, RepairedRows.start_half, ReadsShapes.AreErrorFreeRows}
 
 -- each node of a row has trees, and none is that of what is too deep
 abbrev pub AreFilled : AnnotatedForest → Type 0

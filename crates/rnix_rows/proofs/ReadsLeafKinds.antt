@@ -1,4 +1,4 @@
--- Leaves have the kinds of tokens, also in a repaired tree; in a row that is read each has the kind of its token, and each name holds that alone.
+-- Leaves have the kinds of tokens; in a row that is read each leaf has the kind of its token, and each name holds that token alone.
 use Rattle.std.proofs.Common.{◌≡◌, ℕ, Bool, true, false, List, refl, ap, ◌∙◌, [], ◌∷◌, ◌++◌, sym, subst}
 use Rattle.rnix_kinds.specs.declared.kinds.SyntaxKind.{SyntaxKind, TheVariants.{TOKEN_CUR_POS, TOKEN_IDENT, TOKEN_OR, NODE_CUR_POS, NODE_IDENT, NODE_ERROR}}
 use Rattle.rnix_kinds.specs.{declared.kinds.SyntaxKind.TheVariants.{NODE_LITERAL, NODE_PAT_ENTRY}, SyntaxKind.is_token}
@@ -25,21 +25,6 @@ remapped_is_token _ k h = h
 pub spelled_token : (k : SyntaxKind) (text : List ℕ) → is_spelled k text ≡ true → is_token k ≡ true
 spelled_token TOKEN_OR text h = refl
 spelled_token _ text h = assumption
-
-after_repair : (n : Note) (f : AnnotatedForest) → has_tokens_alone (repaired f) ≡ true → has_tokens_alone (repair n (repaired f)) ≡ true
-after_repair Stray f h = h
-after_repair _ f h = assumption
-
--- so it is in a repaired row
-pub repaired_tokens : (p : SyntaxKind) (f : AnnotatedForest) → HaveLeafKinds p f → AreSpelled (tokens_in f) → has_tokens_alone (repaired f) ≡ true
-repaired_tokens p blank t h = refl
-repaired_tokens p (token k x f) t h =
-    both_true (is_token k) (has_tokens_alone (repaired f)) (ap is_token t.0 ∙ remapped_is_token p x.kind (spelled_token x.kind x.text h.0))
-    (repaired_tokens p f t.1 h.1)
-repaired_tokens p (branch k c f) t h =
-    both_true (has_tokens_alone (repaired c)) (has_tokens_alone (repaired f)) (repaired_tokens k c t.0 (spelled_first (tokens_in c) (tokens_in f) h))
-    (repaired_tokens p f t.1 (spelled_rest (tokens_in c) (tokens_in f) h))
-repaired_tokens p (fault n c f) t h = after_repair n f (repaired_tokens p f t.1 (spelled_rest (tokens_in c) (tokens_in f) h))
 
 -- tokens of a run have their own kinds
 run_leaf_kinds : (ts : List Token) → HaveLeafKinds NODE_ERROR (row_of ts)

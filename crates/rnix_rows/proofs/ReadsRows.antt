@@ -13,8 +13,8 @@ use Rattle.rnix_lemmas.proofs.MissingFacts.{missing_ended}
 use Rattle.rnix_lemmas.proofs.ReachableRows.{IsKnown, is_viable, every_known, known_row, known_second, known_after, known_missing, known_past, known_wrong}
 use Rattle.rnix_lemmas.proofs.{ViableRows.{end_viable, reads_viable, reads_row}, RowKinds.has_row}
 use Rattle.rnix_rows.proofs.{RowsWithoutAttrpath.{is_bound, wrong_empty}, ReadsFaults.{HasEnded, NeitherEndNorMisplaced, plain_report, neither_second, neither_repeats, reads_errors}}
-use Rattle.rnix_rows.proofs.Imitation.{needs_token, needs_token_half, needs_token_goes, pattern_owes, Imitates, imitates_self, imitates_same, imitates_both, second_imitates}
-use Rattle.rnix_rows.proofs.Imitation.{after_repair, after_repair_all, known_after_repair, needs_token_after_repair, wrong_imitates}
+use Rattle.rnix_rows.proofs.RepairedRows.{needs_token, needs_token_half, needs_token_goes, pattern_owes, Simulates, simulates_self, simulates_same, simulates_both, second_simulates}
+use Rattle.rnix_rows.proofs.RepairedRows.{after_repair, after_repair_all, known_after_repair, needs_token_after_repair, wrong_simulates}
 
 -- what holds no token pays none
 pub needs_token_rest : {p i : SyntaxKind} {d n : ℕ} {q q' : Row} {b : AnnotatedForest} {us : List Token} {f : AnnotatedForest} {es : List Fault}
@@ -84,7 +84,7 @@ lost_well {i} {q} k m = sym (ap (is_lost_well q) m) ∙ every_known (λ i q. is_
 
 -- a row with a part that is missing may not end, however it is repaired
 lost_by : {p : SyntaxKind} {d n : ℕ} {q r q0 q' : Row} {b : AnnotatedForest} {us : List Token} {f : AnnotatedForest} {es : List Fault} {e : Fault}
-    → IsKnown p q0 → IsKnown p q → Imitates q0 q → missing q ≡ Some (e, r) → tokens_in f ≡ [] → Reads p d n r q' b us f es → is_viable q' ≡ true
+    → IsKnown p q0 → IsKnown p q → Simulates q0 q → missing q ≡ Some (e, r) → tokens_in f ≡ [] → Reads p d n r q' b us f es → is_viable q' ≡ true
     → may_end (after_all q0 (kinds_of (repaired f))) ≡ false
 lost_by {q = q} {r = r} {q0 = q0} {f = f} k0 k m l n s w = by (needs_token q) refl (and_parts (not (may_end q)) (needs_token q || is_final r) (lost_well k l))
   where
@@ -135,7 +135,7 @@ same_counts {m = m} {m' = m'} {n = n} {n' = n'} {L = L} e h c = subst (λ (x : �
 
 -- the nodes that are not whole are no more than the errors of the end, and are some where these are
 pub reads_counts : {p : SyntaxKind} {d n : ℕ} {q q' : Row} {b : AnnotatedForest} {us : List Token} {f : AnnotatedForest} {es : List Fault} (q0 : Row)
-    → Reads p d n q q' b us f es → may_end q' ≡ true → IsKnown p q0 → IsKnown p q → Imitates q0 q → AreErrorNodes p f
+    → Reads p d n q q' b us f es → may_end q' ≡ true → IsKnown p q0 → IsKnown p q → Simulates q0 q → AreErrorNodes p f
     → Counts (half (may_end (after_all q0 (kinds_of (repaired f)))) + incomplete (repaired f)) (ended_count es) ((p ≡ NODE_PATTERN) × (us ≡ []))
 reads_counts q0 end w k0 k m o =
     let all : half (may_end q0) ≡ 0 = ap half (m.ends ∙ w) in
@@ -143,22 +143,22 @@ reads_counts q0 end w k0 k m o =
 reads_counts {p} {q = q} q0 (leaf {t = t} x v h) w k0 k m o =
     let j : SyntaxKind = leaf_kind p t in
     let on : after q0 j ≡ after q j = m.goes j (reads_viable h (end_viable _ w)) in
-    reads_counts (after q0 j) h w (known_after j k0) (known_after j k) (imitates_same (after q0 j) (after q j) on) o
+    reads_counts (after q0 j) h w (known_after j k0) (known_after j k) (simulates_same (after q0 j) (after q j) on) o
 reads_counts q0 (missing_part {r = r} {f = f} {e = e} {es = es} u n l v h) w k0 k m o =
     let not : may_end (after_all q0 (kinds_of (repaired f))) ≡ false = lost_by k0 k m l n h (end_viable _ w) in
     let one : half (may_end (after_all q0 (kinds_of (repaired f)))) ≡ 1 = ap half not in
     let all = lost_counted e es (missing_ended k l).0 in
-    let ih = reads_counts r h w (known_missing l k) (known_missing l k) (imitates_self r) o in
+    let ih = reads_counts r h w (known_missing l k) (known_missing l k) (simulates_self r) o in
     let fewer : half (may_end (after_all r (kinds_of (repaired f)))) + incomplete (repaired f) ≤ ended_count es = ih.few in
     same_counts refl (sym all) (record { few = omega (arith, one, fewer); none = λ h. absurd (omega (arith, one, h)) })
 reads_counts {d = d} {q = q} {us = us} q0 (wrong {r = r} {f = f} {es = es} n ts x v z h) w k0 k m o =
-    let on : Imitates (after_repair n q0) r = wrong_imitates n d q0 q r ts (tokens_in f ++ us) k z (reads_viable h (end_viable _ w)) m in
+    let on : Simulates (after_repair n q0) r = wrong_simulates n d q0 q r ts (tokens_in f ++ us) k z (reads_viable h (end_viable _ w)) m in
     let ih = reads_counts (after_repair n q0) h w (known_after_repair n k0) (known_wrong n _ _ _ z k) on o.2 in
     same_counts (ap (λ r. half (may_end r) + incomplete (repaired f)) (sym (after_repair_all n q0 (repaired f)))
     ∙ ap (λ o. half (may_end (after_all q0 (kinds_of (repair n (repaired f))))) + o) (sym (incomplete_repair n (repaired f))))
     (sym (ap (λ x. (if x then 1 else 0) + ended_count es) (plain_report n ts) ∙ omega arith)) ih
 reads_counts {us = us} q0 (second {c = c} {f = f} {ds = ds} {es = es} s y h) w k0 k m o =
-    let ih = reads_counts q0 h w k0 (known_past k) (imitates_both m second_imitates) o.2 in
+    let ih = reads_counts q0 h w k0 (known_past k) (simulates_both m second_simulates) o.2 in
     let one : ended_count (report DoubleBind (tokens_in c) ∷ []) ≡ 0 = neither_count (report DoubleBind (tokens_in c) ∷ []) (neither_second (tokens_in c)) in
     let sum : ended_count ((ds ++ report DoubleBind (tokens_in c) ∷ []) ++ es) ≡ ended_count ds + ended_count es =
     ended_count-++ (ds ++ report DoubleBind (tokens_in c) ∷ []) es
@@ -175,8 +175,8 @@ reads_counts {us = us} q0 (second {c = c} {f = f} {ds = ds} {es = es} s y h) w k
 reads_counts {q = q} {b = b} {us = us} q0 (inner {k = k} {c = c} {f = f} {ds = ds} {es = es} v s y x j z h) w k0 i m o =
     let lives : is_viable (after q k) ≡ true = reads_viable h (end_viable _ w) in
     let on : after q0 k ≡ after q k = m.goes k lives in
-    let here = reads_counts (after q0 k) h w (known_after k k0) (known_after k i) (imitates_same (after q0 k) (after q k) on) o.1 in
-    let below = reads_counts (row k) s y.0 (known_row k) (known_row k) (imitates_self (row k)) o.0 in
+    let here = reads_counts (after q0 k) h w (known_after k k0) (known_after k i) (simulates_same (after q0 k) (after q k) on) o.1 in
+    let below = reads_counts (row k) s y.0 (known_row k) (known_row k) (simulates_self (row k)) o.0 in
     let none : ended_count (repeats k b c) ≡ 0 = neither_count (repeats k b c) (neither_repeats k b c) in
     let sum : ended_count ((ds ++ repeats k b c) ++ es) ≡ ended_count ds + ended_count es =
     ended_count-++ (ds ++ repeats k b c) es

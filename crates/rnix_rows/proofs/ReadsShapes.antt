@@ -11,7 +11,7 @@ use Rattle.rnix_grammar.specs.{Repaired.{repaired, kinds_of, incomplete, is_ende
 use Rattle.rnix_lemmas.proofs.{Basics.{true_is_not_false, not_nil, none_left, none_right, Where, where_one}, EachKind.each_kind, EntryNames.both_true}
 use Rattle.rnix_lemmas.proofs.{ReachableRows.{IsKnown, is_viable, every_known, known_row, known_after}, ViableRows.{end_viable, reads_viable}}
 use Rattle.rnix_rows.proofs.{NamedRows.{are_named, is_end_or}, ErrorNodeRows.root_error_nodes, ReadsFaults.reads_errors, ReadsRows.{half, reads_counts}}
-use Rattle.rnix_rows.proofs.Imitation.{imitates_self}
+use Rattle.rnix_rows.proofs.RepairedRows.{simulates_self}
 
 -- behind the first child
 abbrev pub not_first : Bool → Bool
@@ -129,7 +129,7 @@ rows_read : {p : SyntaxKind} {d n : ℕ} {q q' : Row} {b : AnnotatedForest} {us 
 rows_read {q = q} {f = f} {es = es} s w i not o r h n =
     let row : half (may_end (after_all q (kinds_of (repaired f)))) ≡ 0 = ap (λ x. half (may_end (after_all q (kinds_of x)))) (repaired_none f r) ∙ ap half h in
     let all : incomplete (repaired f) ≡ 0 = ap incomplete (repaired_none f r) ∙ incomplete_none f r in
-    let counts = reads_counts q s w i i (imitates_self q) o in
+    let counts = reads_counts q s w i i (simulates_self q) o in
     none_in_all es (elim (counts.none (omega (arith, row, all))) [ inl e ↦ e | inr e ↦ absurd (not e.0) ]) ((reads_errors s i).reports ∙ n)
 
 -- a whole text without trivia: no error exactly if the root and each node below it have their rows, and nothing is reported

@@ -6,7 +6,7 @@ use Rattle.rnix_grammar.specs.Unfinished.{AreIncompleteLast}
 use Rattle.rnix_grammar.specs.{Repaired.{repaired, repaired_nonempty, kinds_of, incomplete, AreBegun, ended_count}, Rules.{Row, row, may_end}, CompleteRows.{is_row}}
 use Rattle.{rnix_grammar.specs.Reads.{Reads, ReadsRoot, end, leaf, missing_part, wrong, second, inner}, rnix_rows.proofs.ErrorNodeRows.root_error_nodes}
 use Rattle.rnix_lemmas.proofs.ReachableRows.{known_row}
-use Rattle.rnix_rows.proofs.{Imitation.imitates_self, ReadsFaults.reads_errors, ReadsRows.{Counts, ended_or, half, reads_counts}}
+use Rattle.rnix_rows.proofs.{RepairedRows.simulates_self, ReadsFaults.reads_errors, ReadsRows.{Counts, ended_or, half, reads_counts}}
 use Rattle.rnix_rows.proofs.{ReadsBegun.{beginning, reads_begun}}
 
 -- what is counted in a whole row
@@ -14,7 +14,7 @@ row_counts : {k : SyntaxKind} {d n : ℕ} {s : Row} {b : AnnotatedForest} {us : 
     → Reads k d n (row k) s b us c es
     → may_end s ≡ true → AreErrorNodes k c
     → Counts (half (is_row k (kinds_of (repaired c))) + incomplete (repaired c)) (ended_count es) ((k ≡ NODE_PATTERN) × (us ≡ []))
-row_counts {k} s w o = reads_counts (row k) s w (known_row k) (known_row k) (imitates_self (row k)) o
+row_counts {k} s w o = reads_counts (row k) s w (known_row k) (known_row k) (simulates_self (row k)) o
 
 -- the nodes of the repaired tree that are not whole are no more than the errors of the end of the text
 pub root_few : {f : AnnotatedForest} {es : List Fault} → ReadsRoot f es → incomplete (node NODE_ROOT (repaired f) empty) ≤ ended_count es
@@ -39,7 +39,7 @@ root_end_errors {f = f} {es = es} s =
 -- in the repaired tree, but for numbers that stand for no token, each node's children begin a row of its kind
 pub root_begun : {f : AnnotatedForest} {es : List Fault} → ReadsRoot f es → AreBegun (node NODE_ROOT (repaired_nonempty f) empty)
 root_begun {f = f} s =
-    let begun = reads_begun (row NODE_ROOT) s refl (known_row NODE_ROOT) (imitates_self (row NODE_ROOT)) in
+    let begun = reads_begun (row NODE_ROOT) s refl (known_row NODE_ROOT) (simulates_self (row NODE_ROOT)) in
     (beginning NODE_ROOT (kinds_of (repaired_nonempty f)) begun.row, begun.nodes, tt)
 
 -- a node that is not whole misses an end, so it has no item behind it

@@ -4,7 +4,7 @@ use Rattle.{rnix_kinds.specs.declared.kinds.SyntaxKind.{TheVariants.NODE_ROOT, S
 use Rattle.rnix_grammar.specs.{AnnotatedForest.{AnnotatedForest, blank, tokens_in, end_from}, Machine.{Node, Frame, Machine, machine, opened, begins, step}}
 use Rattle.rnix_grammar.specs.{Machine.{Runs, rest as here, then as further}, declared.{slot_table.TheConstants.ROOT, position.Position.Position}}
 use Rattle.rnix_grammar.specs.{declared.rules.Part.TheVariants.TextEnd, SlotRows.{left_at, left_in}, Rules.{Row, done, ◌·◌}, Reads.ReadsRoot}
-use Rattle.{rnix_lemmas.proofs.{Basics.{Where, where_one}, EachIndex.each_index, RestAt.rest_at}, rnix_uniqueness.proofs.ReadingHeights.{height, Short}}
+use Rattle.{rnix_lemmas.proofs.{Basics.{Where, where_one}, EachIndex.each_index, RestAt.rest_at}, rnix_uniqueness.proofs.ReadingHeights.{height, IsLower}}
 use Rattle.rnix_uniqueness.proofs.{ReadingHeights.{AllRows, Trees}, TreeReads.tree_runs, OneAction.{is_at, is_text_end}, RowReads.row_next, StepReads.ReadsTo}
 use Rattle.rnix_grammar.specs.declared.position.Position.TheVariants as p
 
@@ -48,7 +48,7 @@ ended_once ts f n es m r q h =
     (ap (λ (z : Machine). row_in z.frames) e, ap (λ (z : Machine). z.faults) e)
 
 -- no reading is lower than none
-lowest : {A : Type 0} {k : SyntaxKind} {d n : ℕ} {q s : Row} {b : AnnotatedForest} {us : List Token} {f : AnnotatedForest} {es : List Fault} → Short 0 k d n q s b us f es → A
+lowest : {A : Type 0} {k : SyntaxKind} {d n : ℕ} {q s : Row} {b : AnnotatedForest} {us : List Token} {f : AnnotatedForest} {es : List Fault} → IsLower 0 k d n q s b us f es → A
 lowest h = absurd (by (height h.reads) h.short)
   where
     by : (a : ℕ) → a < 0 → ⊥

@@ -38,8 +38,8 @@ abbrev pub lands : SyntaxKind → Action → Bool
 lands k action = is_at k (p.Left (goal action))
 
 -- this is done, and leads to a place of the row of a node of a kind where that is left of it
-abbrev pub Goes : SyntaxKind → Row → (ℕ → Action) → Action → Type 0
-Goes k r to action = (action ≡ to (goal action)) × (left_at (goal action) ≡ r) × (is_at k (p.Left (goal action)) ≡ true)
+abbrev pub LeadsTo : SyntaxKind → Row → (ℕ → Action) → Action → Type 0
+LeadsTo k r to action = (action ≡ to (goal action)) × (left_at (goal action) ≡ r) × (is_at k (p.Left (goal action)) ≡ true)
 
 -- one test asks for another
 abbrev pub asks : Bool → Bool → Bool

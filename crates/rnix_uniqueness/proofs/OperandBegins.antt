@@ -175,9 +175,9 @@ is_unary NODE_UNARY_OP = true
 is_unary k = false
 
 -- the level of such an expression that is no atom and has no prefix operator
-loose_level : (k : SyntaxKind) (c : AnnotatedForest) → begins_with_item k ≡ true → is_atom k ≡ false → is_unary k ≡ false → level_of k c ≡ 0
-loose_level NODE_BIN_OP c h a u = absurd (true_is_not_false (sym h))
-loose_level _ c h a u = cc
+keyword_level : (k : SyntaxKind) (c : AnnotatedForest) → begins_with_item k ≡ true → is_atom k ≡ false → is_unary k ≡ false → level_of k c ≡ 0
+keyword_level NODE_BIN_OP c h a u = absurd (true_is_not_false (sym h))
+keyword_level _ c h a u = cc
 
 -- what goes on with it
 followed_plain : (k : SyntaxKind) (c : AnnotatedForest) → begins_with_item k ≡ true → is_unary k ≡ false → FollowedTo (if is_atom k then 16 else 0) (one_branch k c)
@@ -185,7 +185,7 @@ followed_plain k c h u = by (is_atom k) refl
   where
     by : (w : Bool) → is_atom k ≡ w → FollowedTo (if w then 16 else 0) (one_branch k c)
     by true a = followed_atom (one_branch k c) (atom_is_selection_level k c a) a
-    by false a = followed_keyword (one_branch k c) (loose_level k c h a u) a
+    by false a = followed_keyword (one_branch k c) (keyword_level k c h a u) a
 
 -- what goes on with such a tree
 pub followed_item_begun : (k i : SyntaxKind) (t : Token) (f : AnnotatedForest) → begins_with_item k ≡ true → FollowedTo (max_bp_at k i) (one_branch k (token (leaf_kind_as k i) t f))

@@ -10,7 +10,7 @@ use Rattle.rnix_grammar.specs.{Machine.{perform, limited}, Rules.{Row, done, ◌
 use Rattle.{rnix_grammar.specs.Rules.{is_first_expected, level_at, counts, IsExpected}, rnix_lemmas.proofs.Basics.{true_is_not_false, not_if, some_same}}
 use Rattle.rnix_lemmas.proofs.{EveryKind.same, ActionTable.IsActionAt, RestAt.rest_at, RowParts.{HasNoOperand, is_left, expects_next, left_no_operand, left_first_expected, operand_goes}}
 use Rattle.{rnix_lemmas.proofs.RowParts.operand_not_expected, rnix_uniqueness.proofs.{ViableReadings.{is_viable, viable_only, uncounted, until_in, until_is}, OneAction.is_at}}
-use Rattle.rnix_uniqueness.proofs.OneAction.{is_inner, goal, lands, Goes, asks, asked, is_any, is_take, is_double_bind, is_extra, is_run, is_read, is_miss, is_ending}
+use Rattle.rnix_uniqueness.proofs.OneAction.{is_inner, goal, lands, LeadsTo, asks, asked, is_any, is_take, is_double_bind, is_extra, is_run, is_read, is_miss, is_ending}
 use Rattle.rnix_uniqueness.proofs.OneAction.{opens, opens_with_item, is_bound, is_text_end, may_begin, is_same, IsDone, done_at, done_as, other_end, other_item}
 use Rattle.rnix_uniqueness.proofs.OneAction.{left_at_place, next_is}
 use Rattle.rnix_grammar.specs.declared.position.Position.TheVariants as p
@@ -18,12 +18,12 @@ use Rattle.rnix_grammar.specs.declared.action.Action.TheVariants as a
 
 -- an expected token that the row goes on with is a leaf of it
 takes_by : (k j : SyntaxKind) (r : Row) (touch : Bool) (action : Action) → IsActionAt r touch (Some j) action → is_take action ≡ true → lands k action ≡ true → leaf_kind_as k j ≡ j
-    → Goes k (after r (leaf_kind_as k j)) a.Take action
+    → LeadsTo k (after r (leaf_kind_as k j)) a.Take action
 takes_by k j r touch (a.Take y) s t l e = (refl, sym s.1 ∙ ap (after r) (sym e), l)
 takes_by k j r touch _ s t l e = absurd (true_is_not_false (sym t))
 
 pub takes_at : {k j : SyntaxKind} {r : Row} {touch : Bool} {action : Action} → IsDone k r touch (Some j) action → expects_next r touch (Some j) ≡ true
-    → is_viable (after r (leaf_kind_as k j)) ≡ true → Goes k (after r (leaf_kind_as k j)) a.Take action
+    → is_viable (after r (leaf_kind_as k j)) ≡ true → LeadsTo k (after r (leaf_kind_as k j)) a.Take action
 takes_at {k} {j} {r} {touch} {action} w o l =
     let t = asked (is_viable (after r (leaf_kind_as k j))) _ (and_parts (asks (is_viable (after r (leaf_kind_as k j))) _) _ (done_as true w o)).0 l in
     let u = and_parts (same_kind (leaf_kind_as k j) j) _ t in
@@ -36,13 +36,13 @@ two_same x y v w h e = let i = some_same (x, v) (y, w) (sym h ∙ e) in (ap (λ 
 
 -- where a run may stand, an item that is not expected begins it
 runs_by : (k j : SyntaxKind) (r s : Row) (touch : Bool) (until : ExpectedSet) (action : Action) → IsActionAt r touch (Some j) action → is_run action ≡ true → lands k action ≡ true
-    → run_at r ≡ Some (wanted_kinds until, s) → Goes k s (a.Run until) action
+    → run_at r ≡ Some (wanted_kinds until, s) → LeadsTo k s (a.Run until) action
 runs_by k j r s touch until (a.Run v y) w t l e =
     let i = two_same (wanted_kinds v) (wanted_kinds until) (left_at y) s w.2 e in (ap (λ v. a.Run v y) (sym (until_is v) ∙ ap until_in i.0 ∙ until_is until), i.1, l)
 runs_by k j r s touch until _ w t l e = absurd (true_is_not_false (sym t))
 
 pub runs_at : {k j : SyntaxKind} {r s : Row} {touch : Bool} {action : Action} (until : ExpectedSet) → IsDone k r touch (Some j) action → expects_next r touch (Some j) ≡ false
-    → run_at r ≡ Some (wanted_kinds until, s) → Goes k s (a.Run until) action
+    → run_at r ≡ Some (wanted_kinds until, s) → LeadsTo k s (a.Run until) action
 runs_at {k} {j} {r} {s} {touch} {action} until w o e =
     let t = asked (is_any (run_at r)) _ (and_parts (asks (is_any (run_at r)) _) _ (other_item w o)).0 (ap is_any e) in
     let v = and_parts (is_run action) (lands k action) t in
@@ -104,11 +104,11 @@ extra_at {r = r} {action = action} w o e = by action (asked (is_text_end r) _ (a
     by _ h = absurd (true_is_not_false (sym h))
 
 -- a second name of a pattern
-double_bind_by : (k : SyntaxKind) (r : Row) (touch : Bool) (action : Action) → IsActionAt r touch (Some TOKEN_AT) action → is_double_bind action ≡ true → lands k action ≡ true → Goes k done a.DoubleBind action
+double_bind_by : (k : SyntaxKind) (r : Row) (touch : Bool) (action : Action) → IsActionAt r touch (Some TOKEN_AT) action → is_double_bind action ≡ true → lands k action ≡ true → LeadsTo k done a.DoubleBind action
 double_bind_by k r touch (a.DoubleBind y) w t l = (refl, w.2, l)
 double_bind_by k r touch _ w t l = absurd (true_is_not_false (sym t))
 
-pub double_bind_at : {k : SyntaxKind} {r : Row} {touch : Bool} {action : Action} → IsDone k r touch (Some TOKEN_AT) action → r ≡ BoundAlready · done → Goes k done a.DoubleBind action
+pub double_bind_at : {k : SyntaxKind} {r : Row} {touch : Bool} {action : Action} → IsDone k r touch (Some TOKEN_AT) action → r ≡ BoundAlready · done → LeadsTo k done a.DoubleBind action
 double_bind_at {k} {r} {touch} {action} w e =
     let o = done_as true w (ap (λ r. expects_next r touch (Some TOKEN_AT)) e) in
     let v = and_parts (is_double_bind action) (lands k action) (asked (is_bound r) _ (and_parts (asks (is_viable (after r (leaf_kind_as k TOKEN_AT))) _) _ o).1 (ap is_bound e)) in
@@ -118,7 +118,7 @@ double_bind_at {k} {r} {touch} {action} w e =
 pub record Operands (k : SyntaxKind) (r s : Row) (action : Action) : Type 0 where
   pub level : ℕ
   pub is : level_at r blank ≡ Some level
-  pub act : Goes k s (a.Read level (counts r)) action
+  pub act : LeadsTo k s (a.Read level (counts r)) action
 
 reads_by : (k : SyntaxKind) (r : Row) (touch : Bool) (next : Option SyntaxKind) (action : Action) → IsActionAt r touch next action → is_read action ≡ true → lands k action ≡ true
     → Operands k r (after r NODE_LITERAL) action
@@ -141,11 +141,11 @@ IfNext (Some j) P = P j
 
 -- how a node of a kind begins that is no operand, in the row of another where this is left behind it
 pub data IsNode (k q : SyntaxKind) (r : Row) (next : Option SyntaxKind) (action : Action) : Type 0 where
-  by_begin : (z : ℕ) → (is_at k (p.Left z) ≡ true) × (is_inner k ≡ true) → row k ≡ left_at z → Goes q r (a.Begin k z) action → IsNode k q r next action
+  by_begin : (z : ℕ) → (is_at k (p.Left z) ≡ true) × (is_inner k ≡ true) → row k ≡ left_at z → LeadsTo q r (a.Begin k z) action → IsNode k q r next action
   by_open : (z : ℕ) → (is_at k (p.Left z) ≡ true) × (is_inner k ≡ true) × (opens_with_item k ≡ true) → IfNext next (λ j. after (row k) (leaf_kind_as k j) ≡ left_at z)
-      → Goes q r (a.Open k z) action → IsNode k q r next action
-  by_name : k ≡ NODE_IDENT → Goes q r (a.Leaf NODE_IDENT) action → IsNode k q r next action
-  by_entry : k ≡ NODE_PAT_ENTRY → IfNext next (λ j. j ≡ TOKEN_IDENT) → Goes q r a.Entry action → IsNode k q r next action
+      → LeadsTo q r (a.Open k z) action → IsNode k q r next action
+  by_name : k ≡ NODE_IDENT → LeadsTo q r (a.Leaf NODE_IDENT) action → IsNode k q r next action
+  by_entry : k ≡ NODE_PAT_ENTRY → IfNext next (λ j. j ≡ TOKEN_IDENT) → LeadsTo q r a.Entry action → IsNode k q r next action
 
 node_by : (q : SyntaxKind) (r : Row) (touch : Bool) (k : SyntaxKind) (next : Option SyntaxKind) (action : Action) → IsActionAt r touch next action → opens k action ≡ true
     → lands q action ≡ true → IsNode k q (after r k) next action

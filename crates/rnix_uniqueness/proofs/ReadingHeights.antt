@@ -23,7 +23,7 @@ height (wrong note ts x w i r) = suc (height r)
 height (second c o r) = suc (height c + height r)
 
 -- a reading that is not so high
-pub record Short (m : ℕ) (p : SyntaxKind) (d n : ℕ) (q s : Row) (b : AnnotatedForest) (us : List Token) (f : AnnotatedForest) (es : List Fault) : Type 0 where
+pub record IsLower (m : ℕ) (p : SyntaxKind) (d n : ℕ) (q s : Row) (b : AnnotatedForest) (us : List Token) (f : AnnotatedForest) (es : List Fault) : Type 0 where
   pub reads : Reads p d n q s b us f es
   pub short : height reads < m
 
@@ -31,12 +31,12 @@ pub record Short (m : ℕ) (p : SyntaxKind) (d n : ℕ) (q s : Row) (b : Annotat
 abbrev pub AllRows : ℕ → Type 0
 AllRows m =
     (k : SyntaxKind) (d n : ℕ) (x : Position) (s : Row) (b : AnnotatedForest) (us : List Token) (f : AnnotatedForest) (es : List Fault) → is_at k x ≡ true
-    → Short m k d n (rest_at x) s b us f es → is_viable s ≡ true → ReadsTo k d n x s b us f es
+    → IsLower m k d n (rest_at x) s b us f es → is_viable s ≡ true → ReadsTo k d n x s b us f es
 
 -- so is one that ends where its row may
 pub record Complete (m : ℕ) (p : SyntaxKind) (d n : ℕ) (q : Row) (b : AnnotatedForest) (us : List Token) (f : AnnotatedForest) (es : List Fault) : Type 0 where
   pub last : Row
-  pub part : Short m p d n q last b us f es
+  pub part : IsLower m p d n q last b us f es
   pub over : IsOver last (end_from n (tokens_in f)) us
 
 -- the steps read each expression that is not so high

@@ -13,7 +13,7 @@ use Rattle.{rnix_grammar.specs.{Operands.IsBegun, declared.rules.Part.TheVariant
 use Rattle.rnix_lemmas.proofs.{BeginAlike.operand_by_steps, UnwantedRuns.dropped_all, RestAt.rest_at, KindsOfNodes.{unreported, fits_expression}}
 use Rattle.rnix_lemmas.proofs.{ActionTable.is_waiting, RowParts.left_level, EveryKind.only, AnnotatedForestLemmas.tokens_in-row_of}
 use Rattle.rnix_uniqueness.proofs.{StepReads.{runs_from, runs_to, step_to, ReadsTo, runs_on}, ViableReadings.{is_viable, reads_viable}, OneAction.{done_at, is_any}}
-use Rattle.rnix_uniqueness.proofs.OneAction.{is_at, next_is, or_true, Goes, opens_with_item, is_inner, is_name, is_opened, left_at_place, names_only}
+use Rattle.rnix_uniqueness.proofs.OneAction.{is_at, next_is, or_true, LeadsTo, opens_with_item, is_inner, is_name, is_opened, left_at_place, names_only}
 use Rattle.rnix_uniqueness.proofs.{OneAction.waiting_viable, PlaceActions.{Operands, extra_at, reads_at, runs_at, IfNext, IsNode, by_begin, by_open, by_name}}
 use Rattle.rnix_uniqueness.proofs.{PlaceActions.{by_entry, NodeRead, node_at, double_bind_at}, FunctionRows.stray_reads, RowTrees.{OneTo, goes_one, one_operand}}
 use Rattle.rnix_uniqueness.proofs.RowTrees.{dropped_front, too_far, node_read, read_on, closes_second, row_end, row_on, row_lost, one_leaf}
@@ -87,7 +87,7 @@ module _ (m : ℕ) (q : SyntaxKind) (d n : ℕ) (x : Position) (to : Row) (b : A
 
   -- a node that one token opens
   inner_opens : AllRows m → (z : ℕ) (k : SyntaxKind) (c : AnnotatedForest) (ds : List Fault) → Complete m k d n (row_of_kind k) blank vs c ds
-      → is_inner k ≡ true → is_at k (p.Left z) ≡ true → opens_with_item k ≡ true → Opened k z c → Goes q to (a.Open k z) (act_before c) → Inner k ds c
+      → is_inner k ≡ true → is_at k (p.Left z) ≡ true → opens_with_item k ≡ true → Opened k z c → LeadsTo q to (a.Open k z) (act_before c) → Inner k ds c
   inner_opens rows z k c ds r i l o g act = by (item_or_name tests.0 (front_of refl r tests.1.0))
     where
       tests : (names_only (row_of_kind k) ≡ true) × ((is_firm (row_of_kind k) ≡ true) × (is_opened k ≡ true))
@@ -100,7 +100,7 @@ module _ (m : ℕ) (q : SyntaxKind) (d n : ℕ) (x : Position) (to : Row) (b : A
 
       by : Item m k d (row_of_kind k) blank vs c ds ⊎ Name m k d (row_of_kind k) blank vs c ds → Inner k ds c
       by (inl t) =
-          subst (λ (g : AnnotatedForest). Opened k z g → Goes q to (a.Open k z) (act_before g) → Inner k ds g) (sym t.is)
+          subst (λ (g : AnnotatedForest). Opened k z g → LeadsTo q to (a.Open k z) (act_before g) → Inner k ds g) (sym t.is)
           (λ g act. goes_one (a.Open k z) act (λ y h fs gs e. node_read (read_on rows (p.Left z) l (complete_to g refl t.rest)) i h (p.Left y) d b fs gs)) g act
       by (inr t) =
           let same : after (row_of_kind k) (leaf_kind_as k t.item.kind) ≡ left_at z = subst (Opened k z) t.is g in
@@ -108,16 +108,16 @@ module _ (m : ℕ) (q : SyntaxKind) (d n : ℕ) (x : Position) (to : Row) (b : A
           absurd (true_is_not_false (sym other ∙ ap (λ j. if same_kind j TOKEN_IDENT then false else true) t.kind))
 
   -- a name
-  inner_name : (c : AnnotatedForest) (ds : List Fault) → Complete m NODE_IDENT d n (row_of_kind NODE_IDENT) blank vs c ds → Goes q to (a.Leaf NODE_IDENT) (act_before c) → Inner NODE_IDENT ds c
+  inner_name : (c : AnnotatedForest) (ds : List Fault) → Complete m NODE_IDENT d n (row_of_kind NODE_IDENT) blank vs c ds → LeadsTo q to (a.Leaf NODE_IDENT) (act_before c) → Inner NODE_IDENT ds c
   inner_name c ds r act =
       let w = name_item r in
       subst (λ (v : List Fault). Inner NODE_IDENT v c) (sym w.3)
-      (subst (λ (v : AnnotatedForest). Goes q to (a.Leaf NODE_IDENT) (act_before v) → Inner NODE_IDENT [] v) (sym w.1)
+      (subst (λ (v : AnnotatedForest). LeadsTo q to (a.Leaf NODE_IDENT) (act_before v) → Inner NODE_IDENT [] v) (sym w.1)
       (λ act. goes_one (a.Leaf NODE_IDENT) act (λ y h fs gs e. runs_to (cc (append-nil gs)) stays)) act)
 
   -- an entry of a pattern
   inner_entry : AllRows m → (c : AnnotatedForest) (ds : List Fault) → Complete m NODE_PAT_ENTRY d n (row_of_kind NODE_PAT_ENTRY) blank vs c ds
-      → IfNext (head_kind (tokens_in c ++ vs)) (λ j. j ≡ TOKEN_IDENT) → Goes q to a.Entry (act_before c) → Inner NODE_PAT_ENTRY ds c
+      → IfNext (head_kind (tokens_in c ++ vs)) (λ j. j ≡ TOKEN_IDENT) → LeadsTo q to a.Entry (act_before c) → Inner NODE_PAT_ENTRY ds c
   inner_entry rows c ds r next act = by (item_or_name refl (front_of refl r refl))
     where
       by : Item m NODE_PAT_ENTRY d (row_of_kind NODE_PAT_ENTRY) blank vs c ds ⊎ Name m NODE_PAT_ENTRY d (row_of_kind NODE_PAT_ENTRY) blank vs c ds → Inner NODE_PAT_ENTRY ds c
@@ -125,7 +125,7 @@ module _ (m : ℕ) (q : SyntaxKind) (d n : ℕ) (x : Position) (to : Row) (b : A
           let i : t.item.kind ≡ TOKEN_IDENT = subst (λ c. IfNext (head_kind (tokens_in c ++ vs)) (λ j. j ≡ TOKEN_IDENT)) t.is next in
           absurd (true_is_not_false (sym t.alive ∙ ap (λ j. is_viable (after (row_of_kind NODE_PAT_ENTRY) j)) i))
       by (inr t) =
-          subst (λ (g : AnnotatedForest). Goes q to a.Entry (act_before g) → Inner NODE_PAT_ENTRY ds g) (sym t.is)
+          subst (λ (g : AnnotatedForest). LeadsTo q to a.Entry (act_before g) → Inner NODE_PAT_ENTRY ds g) (sym t.is)
           (λ act. goes_one a.Entry act (λ y h fs gs e. node_read (read_on rows (p.Left PAT_ENTRY) refl t.rest) refl h (p.Left y) d b fs gs)) act
 
   -- a node that is no operand, by how it begins
@@ -138,7 +138,7 @@ module _ (m : ℕ) (q : SyntaxKind) (d n : ℕ) (x : Position) (to : Row) (b : A
 
   -- an operand
   inner_operand : Trees m → (level : ℕ) (k : SyntaxKind) (c : AnnotatedForest) (ds : List Fault) → Complete m k (deeper (rest_at x) d) n (row_of_kind k) blank vs c ds
-      → fits level k ≡ true → Goes q to (a.Read level (counts (rest_at x))) (act_before c) → IsRoom (rest_at x) d
+      → fits level k ≡ true → LeadsTo q to (a.Read level (counts (rest_at x))) (act_before c) → IsRoom (rest_at x) d
       → IsOperandOf (Some level) (one_branch k c) vs → Inner k ds c
   inner_operand trees level k c ds r fit act room op =
       let e : is_expression k ≡ true = fits_expression level k fit in
@@ -174,7 +174,7 @@ second_one rows {q} {d} {n} {x} {b} {c} {vs} {ds} l i r =
     let ts : List Token = t.item ∷ (tokens_in t.more ++ vs) in
     subst (λ (v : AnnotatedForest). OneTo q d n x done b (tokens_in v) vs (one_fault DoubleBind v) (ds ++ report DoubleBind (tokens_in v) ∷ [])) (sym t.is)
     (goes_one a.DoubleBind
-    (subst (λ j. Goes q done a.DoubleBind (action_at x (Some j) (touches n ts))) (sym at)
+    (subst (λ j. LeadsTo q done a.DoubleBind (action_at x (Some j) (touches n ts))) (sym at)
     (double_bind_at (done_at q x (touches n ts) (Some TOKEN_AT) l) i))
     (λ y h fs gs e.
     let row = read_on rows (p.Left SECOND_BIND) refl (complete_to (ap (after second_name) at) refl t.rest) in

@@ -9,8 +9,8 @@ use Rattle.rnix_grammar.specs.{Machine.{opened, perform, step, Runs, rest as her
 use Rattle.{rnix_grammar.specs.{Tables.depth_limit, Operands.{goes_on, IsBegun}, TreeLevels.row_level}, rnix_lemmas.proofs.Basics.true_is_not_false}
 use Rattle.rnix_lemmas.proofs.{EveryKind.same, RestAt.rest_at, AnnotatedForestLemmas.{⊕-assoc, ⊕-blank}, TokenEnds.end_behind, OpenHeads.is_open}
 use Rattle.rnix_uniqueness.proofs.{StepReads.{runs_on, runs_to, step_to, ReadsRow, runs_from, ReadsTree, IsOperandRead, ReadsTo}, ViableReadings.{end_viable, is_viable}}
-use Rattle.rnix_uniqueness.proofs.{OneAction.{is_at, is_closed, is_ending, is_inner, Goes, done_at, goal, next_is}, PlaceActions.{ends_at, Misses, misses_at}}
-use Rattle.rnix_uniqueness.proofs.{PlaceActions.takes_at, ReadingHeights.{Complete, AllRows, Short}, OperandBegins.settles}
+use Rattle.rnix_uniqueness.proofs.{OneAction.{is_at, is_closed, is_ending, is_inner, LeadsTo, done_at, goal, next_is}, PlaceActions.{ends_at, Misses, misses_at}}
+use Rattle.rnix_uniqueness.proofs.{PlaceActions.takes_at, ReadingHeights.{Complete, AllRows, IsLower}, OperandBegins.settles}
 use Rattle.rnix_grammar.specs.declared.action.Action.TheVariants as a
 use Rattle.rnix_grammar.specs.declared.position.Position.TheVariants as p
 
@@ -92,7 +92,7 @@ pub record OneTo (k : SyntaxKind) (d n : ℕ) (x : Position) (to : Row) (b : Ann
 
 -- so it is by what is done at the place
 pub goes_one : {k : SyntaxKind} {d n : ℕ} {x : Position} {to : Row} {b w : AnnotatedForest} {ts vs : List Token} {ds : List Fault} (f : ℕ → Action)
-    → Goes k to f (action_at x (head_kind (ts ++ vs)) (touches n (ts ++ vs)))
+    → LeadsTo k to f (action_at x (head_kind (ts ++ vs)) (touches n (ts ++ vs)))
     → ((y : ℕ) (h : Head) (fs : List Frame) (gs : List Fault) → kind_of h ≡ k
     → Runs false (perform false (f y) (opened h x d b) fs (ts ++ vs) n gs) (machine (opened h (p.Left y) d (b ⊕ w) ∷ fs) vs (end_from n ts) (gs ++ ds))) → OneTo k d n x to b ts vs w ds
 goes_one {d = d} {n} {x} {b = b} {ts = ts} {vs} f g one =
@@ -110,12 +110,12 @@ row_end k d n x s b us i e = record { position = x; is = i; here = e; row = λ h
 
 -- so the row is read if its first tree is
 pub row_on : {m : ℕ} {k : SyntaxKind} {d n : ℕ} {x : Position} {to s : Row} {b : AnnotatedForest} {ts us : List Token} {w f : AnnotatedForest} {ds es : List Fault} → AllRows m
-    → (o : OneTo k d n x to b ts (tokens_in f ++ us) w ds) → Short m k d (end_from n ts) to s (b ⊕ w) us f es → is_viable s ≡ true → tokens_in (w ⊕ f) ≡ ts ++ tokens_in f
+    → (o : OneTo k d n x to b ts (tokens_in f ++ us) w ds) → IsLower m k d (end_from n ts) to s (b ⊕ w) us f es → is_viable s ≡ true → tokens_in (w ⊕ f) ≡ ts ++ tokens_in f
     → ReadsTo k d n x s b us (w ⊕ f) (ds ++ es)
 row_on {m} {k} {d} {n} {x} {to} {s} {b} {ts} {us} {w} {f} {ds} {es} rows o h l t = record { position = r.position; is = r.is; here = r.here; row = row }
   where
     r : ReadsTo k d (end_from n ts) o.position s (b ⊕ w) us f es
-    r = rows k d (end_from n ts) o.position s (b ⊕ w) us f es o.here (subst (λ q. Short m k d (end_from n ts) q s (b ⊕ w) us f es) (sym o.is) h) l
+    r = rows k d (end_from n ts) o.position s (b ⊕ w) us f es o.here (subst (λ q. IsLower m k d (end_from n ts) q s (b ⊕ w) us f es) (sym o.is) h) l
 
     row : ReadsRow k d n x r.position b us (w ⊕ f) (ds ++ es)
     row h fs gs i e =
@@ -133,7 +133,7 @@ one_leaf {q} {d} {n} {x} {b} {t} {vs} l o g =
 -- what is missing where the text ends
 pub row_lost : {m : ℕ} {k : SyntaxKind} {d n : ℕ} {x : Position} {r s : Row} {b : AnnotatedForest} {us : List Token} {f : AnnotatedForest} {e : Fault} {es : List Fault} → AllRows m
     → is_at k x ≡ true → us ≡ [] → tokens_in f ≡ [] → missing (rest_at x) ≡ Some (e, r) → (expects_end (rest_at x) ≡ false → IsRoom (rest_at x) d)
-    → Short m k d n r s b us f es → is_viable s ≡ true → ReadsTo k d n x s b us f (e ∷ es)
+    → IsLower m k d n r s b us f es → is_viable s ≡ true → ReadsTo k d n x s b us f (e ∷ es)
 row_lost {m} {k} {d} {n} {x} {r} {s} {b} {us} {f} {e} {es} rows at u v l room h viable = record { position = q.position; is = q.is; here = q.here; row = row }
   where
     lost : Misses k r d e (action_at x None false)
@@ -143,7 +143,7 @@ row_lost {m} {k} {d} {n} {x} {r} {s} {b} {us} {f} {e} {es} rows at u v l room h 
     z = p.Left (goal (action_at x None false))
 
     q : ReadsTo k d n z s b us f es
-    q = rows k d n z s b us f es lost.here (subst (λ q. Short m k d n q s b us f es) (sym lost.rest) h) viable
+    q = rows k d n z s b us f es lost.here (subst (λ q. IsLower m k d n q s b us f es) (sym lost.rest) h) viable
 
     row : ReadsRow k d n x q.position b us f (e ∷ es)
     row h fs gs o w =

@@ -77,33 +77,33 @@ pattern_owes {i} q n l = sym (ap (λ w. if w then needs_token (after q NODE_PATT
     every_known (λ i q. if is_viable (after q NODE_PATTERN) then needs_token (after q NODE_PATTERN) else true) (λ i. refl) refl i q n
 
 -- where the second row goes on the first goes on as well, and they end together
-pub record Imitates (q0 q : Row) : Type 0 where
+pub record Simulates (q0 q : Row) : Type 0 where
   pub goes : (k : SyntaxKind) → is_viable (after q k) ≡ true → after q0 k ≡ after q k
   pub ends : may_end q0 ≡ may_end q
   pub needs : needs_token q ≡ true → needs_token q0 ≡ true
 
--- a row imitates itself
-pub imitates_self : (q : Row) → Imitates q q
-imitates_self q = record { goes = λ k l. refl; ends = refl; needs = λ o. o }
+-- a row simulates itself
+pub simulates_self : (q : Row) → Simulates q q
+simulates_self q = record { goes = λ k l. refl; ends = refl; needs = λ o. o }
 
 -- so does an equal one
-pub imitates_same : (q0 q : Row) → q0 ≡ q → Imitates q0 q
-imitates_same q0 q e = subst (λ x. Imitates q0 x) e (imitates_self q0)
+pub simulates_same : (q0 q : Row) → q0 ≡ q → Simulates q0 q
+simulates_same q0 q e = subst (λ x. Simulates q0 x) e (simulates_self q0)
 
--- one imitates what another does
-pub imitates_both : {q0 q r : Row} → Imitates q0 q → Imitates q r → Imitates q0 r
-imitates_both m n =
+-- one simulates what another does
+pub simulates_both : {q0 q r : Row} → Simulates q0 q → Simulates q r → Simulates q0 r
+simulates_both m n =
     record { goes = λ k l. m.goes k (ap is_viable (n.goes k l) ∙ l) ∙ n.goes k l; ends = m.ends ∙ n.ends; needs = λ o. m.needs (n.needs o) }
 
 -- where a run stands the same goes on as behind it
-abbrev ImitatesRun : Row → Option (List SyntaxKind × Row) → Type 0
-ImitatesRun q None = Unit {0}
-ImitatesRun q (Some w) =
+abbrev SimulatesRun : Row → Option (List SyntaxKind × Row) → Type 0
+SimulatesRun q None = Unit {0}
+SimulatesRun q (Some w) =
     Each (λ k. Where (is_viable (after w.1 k)) (after q k ≡ after w.1 k)) all_kinds × (may_end q ≡ may_end w.1) × Where (needs_token w.1) (needs_token q ≡ true)
 
-pub run_imitates : {i : SyntaxKind} (q r : Row) (ks : List SyntaxKind) → IsKnown i q → run_at q ≡ Some (ks, r) → Imitates q r
-run_imitates {i} q r ks n h =
-    let w : ImitatesRun q (Some (ks, r)) = subst (ImitatesRun q) h (each_known (λ i q. ImitatesRun q (run_at q)) (λ i. tt) (assumption) i q n) in
+pub run_simulates : {i : SyntaxKind} (q r : Row) (ks : List SyntaxKind) → IsKnown i q → run_at q ≡ Some (ks, r) → Simulates q r
+run_simulates {i} q r ks n h =
+    let w : SimulatesRun q (Some (ks, r)) = subst (SimulatesRun q) h (each_known (λ i q. SimulatesRun q (run_at q)) (λ i. tt) (assumption) i q n) in
     record {
       goes = λ k l. where_one (is_viable (after r k)) l (each_kind (λ k. Where (is_viable (after r k)) (after q k ≡ after r k)) w.0 k);
       ends = w.1;
@@ -111,8 +111,8 @@ run_imitates {i} q r ks n h =
     }
 
 -- behind a second name
-pub second_imitates : Imitates (BoundAlready · done) done
-second_imitates = record { goes = λ k l. absurd (true_is_not_false (sym l)); ends = refl; needs = λ o. absurd (true_is_not_false (sym o)) }
+pub second_simulates : Simulates (BoundAlready · done) done
+second_simulates = record { goes = λ k l. absurd (true_is_not_false (sym l)); ends = refl; needs = λ o. absurd (true_is_not_false (sym o)) }
 
 -- behind an error node, and its patch
 abbrev pub after_repair : Note → Row → Row
@@ -137,27 +137,27 @@ needs_token_after_repair TooDeep q k o = needs_token_goes q NODE_LITERAL k o ref
 needs_token_after_repair _ q k o = o
 
 -- a number stands where an error node does
-literal_imitates : {q0 q r : Row} → Imitates q0 q → after q NODE_LITERAL ≡ r → is_viable r ≡ true → Imitates (after q0 NODE_LITERAL) r
-literal_imitates {q0 = q0} {r = r} m g l = imitates_same (after q0 NODE_LITERAL) r (m.goes NODE_LITERAL (ap is_viable g ∙ l) ∙ g)
+literal_simulates : {q0 q r : Row} → Simulates q0 q → after q NODE_LITERAL ≡ r → is_viable r ≡ true → Simulates (after q0 NODE_LITERAL) r
+literal_simulates {q0 = q0} {r = r} m g l = simulates_same (after q0 NODE_LITERAL) r (m.goes NODE_LITERAL (ap is_viable g ∙ l) ∙ g)
 
 -- behind the patch of an error node the same goes on as behind the error node
-pub wrong_imitates : {i : SyntaxKind} (note : Note) (d : ℕ) (q0 q r : Row) (ts us : List Token) → IsKnown i q → IsWrong note d q r ts us → is_viable r ≡ true
-    → Imitates q0 q
-    → Imitates (after_repair note q0) r
-wrong_imitates Stray d q0 q r ts us k w l m = literal_imitates m w.3 l
-wrong_imitates (Unwanted until) d q0 q r ts us k w l m = imitates_both m (run_imitates q r _ k w.2)
-wrong_imitates Extra d q0 q r ts us k w l m = subst (Imitates q0) (sym w.3) m
-wrong_imitates DoubleBind d q0 q r ts us k w l m = absurd w
-wrong_imitates TooDeep d q0 q r ts us k w l m = literal_imitates m w.3 l
+pub wrong_simulates : {i : SyntaxKind} (note : Note) (d : ℕ) (q0 q r : Row) (ts us : List Token) → IsKnown i q → IsWrong note d q r ts us → is_viable r ≡ true
+    → Simulates q0 q
+    → Simulates (after_repair note q0) r
+wrong_simulates Stray d q0 q r ts us k w l m = literal_simulates m w.3 l
+wrong_simulates (Unwanted until) d q0 q r ts us k w l m = simulates_both m (run_simulates q r _ k w.2)
+wrong_simulates Extra d q0 q r ts us k w l m = subst (Simulates q0) (sym w.3) m
+wrong_simulates DoubleBind d q0 q r ts us k w l m = absurd w
+wrong_simulates TooDeep d q0 q r ts us k w l m = literal_simulates m w.3 l
 
--- what completes a row completes each that imitates it
-imitates_all : {q0 q : Row} → Imitates q0 q → (ks : List SyntaxKind) → may_end (after_all q ks) ≡ true → may_end (after_all q0 ks) ≡ true
-imitates_all m [] h = m.ends ∙ h
-imitates_all {q = q} m (k ∷ ks) h = ap (λ z. may_end (after_all z ks)) (m.goes k (later_viable (after q k) ks h)) ∙ h
+-- what completes a row completes each that simulates it
+simulates_all : {q0 q : Row} → Simulates q0 q → (ks : List SyntaxKind) → may_end (after_all q ks) ≡ true → may_end (after_all q0 ks) ≡ true
+simulates_all m [] h = m.ends ∙ h
+simulates_all {q = q} m (k ∷ ks) h = ap (λ z. may_end (after_all z ks)) (m.goes k (later_viable (after q k) ks h)) ∙ h
 
 -- so it can be completed
-pub imitates_completable : {q0 q : Row} → Imitates q0 q → IsCompletable q → IsCompletable q0
-imitates_completable m w = (w.0, imitates_all m w.0 w.1)
+pub simulates_completable : {q0 q : Row} → Simulates q0 q → IsCompletable q → IsCompletable q0
+simulates_completable m w = (w.0, simulates_all m w.0 w.1)
 
 -- no row may end where it begins
 pub start_half : (k : SyntaxKind) → may_end (row k) ≡ false
