@@ -10,7 +10,7 @@ use Rattle.rnix_lemmas.proofs.{AnnotatedForestLemmas.tokens_in-row_of}
 use Rattle.rnix_lemmas.proofs.{ReachableRows.{IsKnown, known_row, known_second, known_after, known_missing, known_past, known_wrong}, MissingFacts.missing_ended}
 use Rattle.rnix_proof_layout.specs.AlikeItems.{AreSameFaults, IsSameFault}
 use Rattle.rnix_proof_layout.proofs.MovedItems.{at, moved, past, later, moved_trees, moved_two, past_two, tokens_moved, tokens_after, row_moved, head_moved}
-use Rattle.rnix_proof_layout.proofs.Unplaced.{unplaced, bare-⊕, unplaced_moved, alike, first_expected_same, followed_same}
+use Rattle.rnix_proof_layout.proofs.Unplaced.{unplaced, unplaced-⊕, unplaced_moved, alike, first_expected_same, followed_same}
 use Rattle.rnix_proof_layout.proofs.Touch.{Touching, Joins, last_kind, last_two, touching_after, expected_same}
 use Rattle.rnix_proof_layout.proofs.{Moves.{operand_at, wrong_same}, Faults.{same_here, report_same, ended_same, same_append, repeats_same}}
 use Rattle.rnix_proof_layout.proofs.JoinedRows.{no_joins, row_joins, leaf_joins, node_joins, wrong_joins}
@@ -25,7 +25,7 @@ pub record IsMoved (ws : List Token) (qs ps : List Extent) (p : SyntaxKind) (d m
   pub joins : Joins q' (last_kind prev (tokens_in f)) us
 
 unplaced_next : (b c x y : AnnotatedForest) → unplaced b ≡ unplaced c → unplaced x ≡ unplaced y → unplaced (b ⊕ x) ≡ unplaced (c ⊕ y)
-unplaced_next b c x y e h = bare-⊕ b x ∙ ap (λ z. z ⊕ unplaced x) e ∙ ap (λ z. unplaced c ⊕ z) h ∙ sym (bare-⊕ c y)
+unplaced_next b c x y e h = unplaced-⊕ b x ∙ ap (λ z. z ⊕ unplaced x) e ∙ ap (λ z. unplaced c ⊕ z) h ∙ sym (unplaced-⊕ c y)
 
 -- the places of what follows some items
 places_after : (a xs : List Token) (ps qs : List Extent) → ps ≡ past a qs → past xs ps ≡ past (a ++ xs) qs

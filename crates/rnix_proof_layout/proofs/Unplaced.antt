@@ -23,11 +23,11 @@ unplaced (token k t f) = token k (unplaced_token t) (unplaced f)
 unplaced (branch k c f) = branch k (unplaced c) (unplaced f)
 unplaced (fault n c f) = fault n (unplaced c) (unplaced f)
 
-pub bare-⊕ : (f g : AnnotatedForest) → unplaced (f ⊕ g) ≡ unplaced f ⊕ unplaced g
-bare-⊕ blank g = refl
-bare-⊕ (token k t f) g = ap (λ x. token k (unplaced_token t) x) (bare-⊕ f g)
-bare-⊕ (branch k c f) g = ap (λ x. branch k (unplaced c) x) (bare-⊕ f g)
-bare-⊕ (fault n c f) g = ap (λ x. fault n (unplaced c) x) (bare-⊕ f g)
+pub unplaced-⊕ : (f g : AnnotatedForest) → unplaced (f ⊕ g) ≡ unplaced f ⊕ unplaced g
+unplaced-⊕ blank g = refl
+unplaced-⊕ (token k t f) g = ap (λ x. token k (unplaced_token t) x) (unplaced-⊕ f g)
+unplaced-⊕ (branch k c f) g = ap (λ x. branch k (unplaced c) x) (unplaced-⊕ f g)
+unplaced-⊕ (fault n c f) g = ap (λ x. fault n (unplaced c) x) (unplaced-⊕ f g)
 
 -- moved trees are the same but for places
 pub unplaced_moved : (f : AnnotatedForest) (ps : List Extent) → unplaced (moved_trees f ps) ≡ unplaced f
