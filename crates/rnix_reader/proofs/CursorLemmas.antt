@@ -1,7 +1,7 @@
 -- The tokens from a place on.
 use Rattle.std.proofs.Common.{◌≡◌, ℕ, zero, suc, ◌+◌, ◌-◌, ◌<◌, ◌≤◌, Bool, true, false, List, [], ◌∷◌, ◌++◌, take, drop, length, get_or, IsUtf8, Some, refl, ap}
-use Rattle.std.proofs.{Common.{sym, ◌∙◌, subst, arith, length-append, length-drop, drop-drop}, Math.{Nat.add-sub_cancel_left, Seq.take-append_trivia_between}}
-use Rattle.std.proofs.{Math.Seq.drop-append_trivia_between, lemmas.{List.{drop_all, Concat.flat_map-cons, Elements.{All-head, All-tail}}, Str.IsUtf8-nil}}
+use Rattle.std.proofs.{Common.{sym, ◌∙◌, subst, arith, length-append, length-drop, drop-drop}, Math.{Nat.add-sub_cancel_left, Seq.take-append_seam}}
+use Rattle.std.proofs.{Math.Seq.drop-append_seam, lemmas.{List.{drop_all, Concat.flat_map-cons, Elements.{All-head, All-tail}}, Str.IsUtf8-nil}}
 use Rattle.std.{proofs.lemmas.Str.{IsUtf8-append, IsCharBoundary-start, IsCharBoundary-from_drop}, specs.{List.{flat_map, All}, Str.IsCharBoundary}}
 use Rattle.rnix_kinds.specs.{declared.kinds.SyntaxKind.SyntaxKind, SyntaxKind.is_trivia, Lexical.Tokens.{Lexeme, AreSound, text_of}}
 use Rattle.rnix_grammar.specs.{AnnotatedForest.{Token, head_of, kind_in, head_kind, placed_from}, Layout.{from_item, from_item_if, items, tail_of}}
@@ -48,7 +48,7 @@ cut_at_token text ts i d u e h = cut_from text 0 ts i d (IsCharBoundary-start te
 -- what is behind the first of the tokens of a text
 rest_behind : (text : List ℕ) (n : ℕ) (l : Lexeme) (ls : List Lexeme) → drop n text ≡ flat_map text_of (l ∷ ls) → drop (n + length l.1) text ≡ flat_map text_of ls
 rest_behind text n l ls h =
-    sym (drop-drop (length l.1) n text) ∙ ap (drop (length l.1)) (h ∙ flat_map-cons text_of l ls) ∙ drop-append_trivia_between l.1 (flat_map text_of ls)
+    sym (drop-drop (length l.1) n text) ∙ ap (drop (length l.1)) (h ∙ flat_map-cons text_of l ls) ∙ drop-append_seam l.1 (flat_map text_of ls)
 
 -- the token of these parts
 abbrev pub token_with : SyntaxKind → List ℕ → ℕ → ℕ → Token
@@ -60,7 +60,7 @@ tokens_cut-placed text n [] h = refl
 tokens_cut-placed text n (l ∷ ls) h =
     let end : ℕ = n + length l.1 in
     let cut : take (end - n) (drop n text) ≡ l.1 =
-    ap (λ k. take k (drop n text)) (add-sub_cancel_left n (length l.1)) ∙ ap (take (length l.1)) (h ∙ flat_map-cons text_of l ls) ∙ take-append_trivia_between l.1 (flat_map text_of ls) in
+    ap (λ k. take k (drop n text)) (add-sub_cancel_left n (length l.1)) ∙ ap (take (length l.1)) (h ∙ flat_map-cons text_of l ls) ∙ take-append_seam l.1 (flat_map text_of ls) in
     ap (λ x. token_with l.0 x n end ∷ tokens_cut text end (ends_from end ls)) cut ∙ ap (λ x. token_with l.0 l.1 n end ∷ x) (tokens_cut-placed text end ls (rest_behind text n l ls h))
 
 -- what is cut out at a token's place is that token
