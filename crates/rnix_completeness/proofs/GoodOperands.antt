@@ -368,7 +368,7 @@ atom_level : (k : SyntaxKind) (b : AnnotatedForest) → is_atom k ≡ true → n
 atom_level NODE_PAREN b h = refl
 atom_level _ b h = cc
 
--- it stands at the tightest level
+-- it stands at the highest level
 pub good_atom : {k : SyntaxKind} {c : Forest} → GoodAtom k c → Good 16 k c
 good_atom {k} a = record {
   level = 16;

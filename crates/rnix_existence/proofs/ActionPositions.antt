@@ -1,4 +1,4 @@
--- Every action at a place of a node leads to places of the same row, and opens other nodes at places of theirs.
+-- Every action at a position of a node leads to positions of the same row, and opens other nodes at positions of theirs.
 use Rattle.std.{specs.List.list_all, proofs.Common.{◌≡◌, ℕ, Bool, true, false, Option, Some, None, ap, sym, ◌∙◌, subst, if◌then◌else◌, ◌&&◌, nat_le}}
 use Rattle.{std.proofs.lemmas.Bool.and_parts, rnix_kinds.{proofs.AllKinds.{all_kinds, every}, specs.declared.kinds.SyntaxKind.SyntaxKind}}
 use Rattle.{rnix_kinds.specs.declared.kinds.SyntaxKind.TheVariants.{NODE_ERROR, NODE_PAT_ENTRY}, rnix_green.specs.Equality.same_kind}
@@ -14,7 +14,7 @@ is_reported NODE_PAT_ENTRY = true
 is_reported NODE_ERROR = true
 is_reported kind = false
 
--- an action at a place of a node of the kind leads to places of its row, opens other nodes at places of theirs, or completes it as its kind asks
+-- an action at a position of a node of the kind leads to positions of its row, opens other nodes at positions of theirs, or completes it as its kind asks
 abbrev pub leads : SyntaxKind → Action → Bool
 leads k a.Close = if is_reported k then false else true
 leads k a.ClosePattern = if is_reported k then false else true
@@ -48,7 +48,7 @@ leads_each false = assumption
 leads_at : (touch : Bool) (i : ℕ) → LeadsAt touch i
 leads_at touch = each_index (LeadsAt touch) (leads_each touch) (λ i e d. ap (λ ss. if is_waiting (left_in ss) then leads_from touch i else true) d)
 
--- and those at each place
+-- and those at each position
 pub leads_on : (x : Position) (k : SyntaxKind) (next : Option SyntaxKind) (touch : Bool) → is_in_row_of x k ≡ true → leads k (action_at x next touch) ≡ true
 leads_on (p.AfterOperand min_bp max_bp) k next touch h = absurd (true_is_not_false (sym h))
 leads_on (p.Right level) k next touch h = h

@@ -36,7 +36,7 @@ abbrev own_level : Bool → SyntaxKind → ℕ
 own_level inverts NODE_UNARY_OP = if inverts then 9 else 14
 own_level inverts k = if is_keyword_expression k then 0 else 16
 
--- the tightest level of what goes on with it
+-- the highest level of what goes on with it
 abbrev max_bp_at : Bool → SyntaxKind → ℕ
 max_bp_at inverts NODE_UNARY_OP = if inverts then 8 else 13
 max_bp_at inverts k = own_level inverts k

@@ -8,13 +8,13 @@ use Rattle.rnix_lemmas.proofs.{KindsOfNodes.is_error, FirstTrees.{IsSingle, a_no
 use Rattle.{rnix_lemmas.proofs.RestAt.rest_at, rnix_existence.proofs.Growing.MayGrow}
 use Rattle.rnix_grammar.specs.declared.position.Position.TheVariants as p
 
--- a node of the kind may be open at the place; the level of a right operand is at most 16
+-- a node of the kind may be open at the position; the level of a right operand is at most 16
 abbrev pub is_in_row_of : Position → SyntaxKind → Bool
 is_in_row_of (p.Left i) k = is_waiting (left_at i) && same_kind (kind_at i) k
 is_in_row_of (p.AfterOperand min_bp max_bp) k = false
 is_in_row_of (p.Right level) k = nat_le level 16 && same_kind NODE_BIN_OP k
 
--- such a place is in the row of a node
+-- such a position is in the row of a node
 pub in_row : (x : Position) (k : SyntaxKind) → is_in_row_of x k ≡ true → is_in_row x ≡ true
 in_row (p.Left i) k h = (and_parts (is_waiting (left_at i)) (same_kind (kind_at i) k) h).0
 in_row (p.AfterOperand min_bp max_bp) k h = absurd (true_is_not_false (sym h))
@@ -35,7 +35,7 @@ is_sound (Node k) = if is_error k then false else true
 is_sound SecondBind = true
 is_sound Operand = false
 
--- an open node or second name, at a place of its row, not too deep
+-- an open node or second name, at a position of its row, not too deep
 pub record IsOpen (f : Frame) : Type 0 where
   pub sound : is_sound f.head ≡ true
   pub in_row_of : is_in_row_of f.position (kind_of f.head) ≡ true
@@ -72,7 +72,7 @@ pub record AtOpen (f : Frame) (fs : List Frame) : Type 0 where
   pub is : IsOpen f
   pub below : Below (above f.head f.row) fs
 
--- the innermost frame is an operand that operators between two levels may continue, inside d counted places
+-- the innermost frame is an operand that operators between two levels may continue, inside d counted positions
 pub record AtOperand (min_bp max_bp d : ℕ) (x : AnnotatedForest) (fs : List Frame) : Type 0 where
   pub single : IsSingle x
   pub grows : MayGrow min_bp max_bp x
@@ -93,7 +93,7 @@ below_more (Node k) row x (an_operand min_bp max_bp d l grows b) =
 below_more SecondBind row x b = b
 below_more Operand row x b = b
 
--- an open frame moves to another place of its row
+-- an open frame moves to another position of its row
 went : (f : Frame) (fs : List Frame) (y : Position) (row : AnnotatedForest) → AtOpen f fs → is_in_row_of y (kind_of f.head) ≡ true → Below (above f.head row) fs
     → AtOpen (put y row f) fs
 went f fs y row r h b = record { is = record { sound = r.is.sound; in_row_of = h; shallow = r.is.shallow }; below = b }

@@ -125,11 +125,11 @@ module _ (whole : Outcome) (f : Frame) (n : ℕ) (gs : List Fault) where
     wide : is_open f.head ≡ true
     wide = sound_open f.head r.is.sound
 
-    -- no tree before this place asks for a certain next item
+    -- no tree before this position asks for a certain next item
     followed : (next : Option SyntaxKind) → IsFollowed here f.row next
     followed next = left_followed here (left_of f r.is) f.row next
 
-    -- some trees are read, and the frame moves to another place
+    -- some trees are read, and the frame moves to another position
     goes_on : (y : Position) (x : AnnotatedForest) (ts us : List Token) (m : ℕ) (ds hs : List Fault) → is_in_row_of y kind ≡ true → Spans ts n us m x → hs ≡ gs ++ ds
         → Fronts kind f.depth n here f.row x us m (rest_at y) ds → IsPreserved whole (machine (put y (f.row ⊕ x) f ∷ fs) us m hs) f fs ts n gs
     goes_on y x ts us m ds hs in_row_of v h reads = (node (grown f fs y x r in_row_of), fronted whole fs f y x ts us n m gs ds hs wide v h reads)
@@ -236,7 +236,7 @@ module _ (whole : Outcome) (f : Frame) (n : ℕ) (gs : List Fault) where
         (λ vs s x es e z. leaf_from e tt tt (ap (after second_name) j) z)
         (λ c left m u ds v z o vs s x es e w. second_from e z v.item_end o i l w)
 
-    -- an operand of a level begins, inside d counted places, or the text ends
+    -- an operand of a level begins, inside d counted positions, or the text ends
     operand_at : (ts : List Token) (level d y : ℕ) → level ≤ 16 → d ≤ depth_limit → is_in_row_of (p.Left y) kind ≡ true → Takes here level (left_at y)
         → d ≡ deeper here f.depth → IsRoom here f.depth
         → IsExpected here n ts false → (ts ≡ [] → missing here ≡ Some (ended, left_at y))
@@ -283,7 +283,7 @@ module _ (whole : Outcome) (f : Frame) (n : ℕ) (gs : List Fault) where
         by false e = inside f.depth r.is.shallow (ap (λ w. if w then suc f.depth else f.depth) (sym e)) (λ v. absurd (true_is_not_false (sym v ∙ e)))
         by true e = limit e (nat_le depth_limit f.depth) refl
 
-    -- each action that the rules allow at the place
+    -- each action that the rules allow at the position
     done_by : (action : Action) (ts : List Token) → IsActionAt here (touches n ts) (head_kind ts) action → leads kind action ≡ true
         → IsPreservedBy whole action f fs ts n gs
     done_by a.Close ts w h = closes fs r ts gs w (sym (ap (λ z. gs ++ z) (silent f fs r.is.sound (not_if (is_reported kind) h)) ∙ append-nil gs))

@@ -37,7 +37,7 @@ spans_made Operand c v = v
 abbrev pub item : SyntaxKind → Token → AnnotatedForest
 item k t = one_token (leaf_kind k t) t
 
--- One tree that may be an operand, inside so many counted places, with its errors: the item before it ends at n, these items come after it.
+-- One tree that may be an operand, inside so many counted positions, with its errors: the item before it ends at n, these items come after it.
 pub data OperandTree (d n : ℕ) : AnnotatedForest → List Token → List Fault → Type 0 where
   a_node : {m : ℕ} {k : SyntaxKind} {s : Row} {c : AnnotatedForest} {us : List Token} {ds : List Fault}
       → Reads k d n (row_of_kind k) s blank us c ds → m ≡ end_from n (tokens_in c) → IsOver s m us → OperandTree d n (one_branch k c) us ds
@@ -49,7 +49,7 @@ pub record IsRead (level d n : ℕ) (ts : List Token) (x : AnnotatedForest) (us 
   pub begins : BeginsAs level x ts
   pub operand_tree : OperandTree d n x us ds
 
--- A tree is a whole operand of a level before some items.
+-- A tree is a complete operand of a level before some items.
 pub record IsCompleteOperand (level : ℕ) (x : AnnotatedForest) (us : List Token) : Type 0 where
   pub least : level ≤ row_level x
   pub fit : fits level (seen_kind x) ≡ true
@@ -67,7 +67,7 @@ AfterRow = Row → List Token → ℕ → AnnotatedForest → List Fault → Typ
 abbrev AfterFrame : Type 1
 AfterFrame = Frame → List Token → ℕ → List Fault → Type 0
 
--- the rest of a row is read: q is left of it, after the trees b and inside d counted places
+-- the rest of a row is read: q is left of it, after the trees b and inside d counted positions
 pub record RowEnds (h : Head) (d : ℕ) (q : Row) (b : AnnotatedForest) (After : AfterRow) (ts : List Token) (n : ℕ) (gs : List Fault) : Type 0 where
   pub left : List Token
   pub prev_end : ℕ
@@ -79,7 +79,7 @@ pub record RowEnds (h : Head) (d : ℕ) (q : Row) (b : AnnotatedForest) (After :
   pub span : Spans ts n left prev_end rest
   pub ends : After row_state left prev_end (b ⊕ rest) (gs ++ inside)
 
--- an operand above a frame becomes a whole one, which is a tree of that frame
+-- an operand above a frame becomes a complete one, which is a tree of that frame
 pub record OperandEnds (f g : Frame) (After : AfterFrame) (ts : List Token) (n : ℕ) (gs : List Fault) : Type 0 where
   pub left : List Token
   pub prev_end : ℕ
@@ -94,7 +94,7 @@ pub record OperandEnds (f g : Frame) (After : AfterFrame) (ts : List Token) (n :
 abbrev pub Closes : Head → Frame → AfterFrame → AfterRow
 Closes h g After s us m row gs = IsOver s m us × After (put g.position (g.row ⊕ made h row) g) us m (gs ++ closing h g.row row)
 
--- Trees x are read in front of the rest of a row of kind k, inside d counted places. Before them the last item ends at n, q is left of the row, and b is
+-- Trees x are read in front of the rest of a row of kind k, inside d counted positions. Before them the last item ends at n, q is left of the row, and b is
 -- read of it. After them the items us are left, the last item ends at m, and r is left of the row. They have the errors ds.
 abbrev pub Fronts : SyntaxKind → ℕ → ℕ → Row → AnnotatedForest → AnnotatedForest → List Token → ℕ → Row → List Fault → Type 0
 Fronts k d n q b x us m r ds =
@@ -152,7 +152,7 @@ module _ (whole : Outcome) where
   open_ends g fs f ts n gs o (inl e) = e
   open_ends g fs f ts n gs o (inr e) = absurd (true_is_not_false (sym o ∙ ap is_open e.is))
 
-  -- an operand becomes a whole one
+  -- an operand becomes a complete one
   pub operand_ends : (g : Frame) (fs : List Frame) (f : Frame) (ts : List Token) (n : ℕ) (gs : List Fault) → f.head ≡ Operand → EndsOn (g ∷ fs) f ts n gs
       → OperandEnds f g (EndsOn fs) ts n gs
   operand_ends g fs f ts n gs o (inl e) = absurd (true_is_not_false (sym e.opened ∙ ap is_open o))

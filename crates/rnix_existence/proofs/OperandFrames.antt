@@ -1,4 +1,4 @@
--- However an operand begins, the step keeps what is known of the frames, and what is read from there on contains the whole operand.
+-- However an operand begins, the step keeps what is known of the frames, and what is read from there on contains the complete operand.
 use Rattle.std.proofs.Common.{◌≡◌, ℕ, ◌≤◌, true, false, List, [], ◌∷◌, ◌++◌, Some, refl, ap, sym, ◌∙◌, subst, arith, append_assoc, append-nil}
 use Rattle.rnix_kinds.specs.declared.kinds.SyntaxKind.{SyntaxKind, TheVariants.{TOKEN_LET, TOKEN_L_BRACE, TOKEN_IDENT, TOKEN_AT, NODE_IDENT, NODE_IDENT_PARAM}}
 use Rattle.rnix_kinds.specs.declared.kinds.SyntaxKind.TheVariants.{NODE_LAMBDA, NODE_LEGACY_LET, NODE_PATTERN, NODE_PAT_BIND}
@@ -41,7 +41,7 @@ begins_as : (level : ℕ) (t : Token) (us : List Token) (begin : Begin) (x : Ann
     → kind_of begin ≡ first_tree x → BeginsAs level x (t ∷ us)
 begins_as level t us begin x e h = sym (beginning_is level t.kind t.text (head_kind us) (second_kind us)) ∙ ap kind_of e ∙ h
 
--- a whole operand of a level is read, goes into the row of the frame that waits for it, and what follows ends as it should
+-- a complete operand of a level is read, goes into the row of the frame that waits for it, and what follows ends as it should
 pub record BeginEnds (whole : Outcome) (level d : ℕ) (g : Frame) (fs : List Frame) (ts : List Token) (n : ℕ) (gs : List Fault) : Type 0 where
   pub left : List Token
   pub prev_end : ℕ
@@ -51,7 +51,7 @@ pub record BeginEnds (whole : Outcome) (level d : ℕ) (g : Frame) (fs : List Fr
   pub read : IsRead level d n ts tree left prev_end inside
   pub ends : EndsOn whole fs (put g.position (g.row ⊕ tree) g) left prev_end (gs ++ inside)
 
--- an operand of a level, inside d counted places, above a frame that waits for it; the item before it ends at n, and gs are the errors before it
+-- an operand of a level, inside d counted positions, above a frame that waits for it; the item before it ends at n, and gs are the errors before it
 module _ (whole : Outcome) (level d : ℕ) (g : Frame) (fs : List Frame) (n : ℕ) (gs : List Fault) (r : AtOpen g fs) (s : d ≤ depth_limit) (l : level ≤ 16) where
   -- a machine that has read the beginning
   abbrev pub Begins : Machine → List Token → Type 0
@@ -68,7 +68,7 @@ module _ (whole : Outcome) (level d : ℕ) (g : Frame) (fs : List Frame) (n : �
   abbrev below : ℕ → List Frame
   below max_bp = under max_bp blank ∷ (g ∷ fs)
 
-  -- it begins with a whole tree
+  -- it begins with a complete tree
   tree_begins : (max_bp : ℕ) (x : AnnotatedForest) (ts us : List Token) (m : ℕ) (cs hs : List Fault) → IsSingle x → MayGrow level max_bp x
       → IsRead level d n ts x us m cs → hs ≡ gs ++ cs
       → Begins (machine (under max_bp x ∷ (g ∷ fs)) us m hs) ts

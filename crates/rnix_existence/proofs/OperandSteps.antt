@@ -73,7 +73,7 @@ followed_by TOKEN_OR h = by_or
 followed_by TOKEN_QUESTION h = by_question
 followed_by _ h = first_of (search by_operator, search by_argument, search (no_binding_power, h))
 
--- an operand that operators between two levels may continue, inside d counted places; the last item that was read ends at n, and gs are the errors so far
+-- an operand that operators between two levels may continue, inside d counted positions; the last item that was read ends at n, and gs are the errors so far
 module _ (whole : Outcome) (min_bp max_bp d : ℕ) (x : AnnotatedForest) (n : ℕ) (gs : List Fault) where
   -- its frame
   abbrev frame : Frame

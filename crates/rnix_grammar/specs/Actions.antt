@@ -206,7 +206,7 @@ slot_action (Some (End kind)) left next touches = close_action kind
 abbrev pub left_action : ℕ → Option SyntaxKind → Bool → Action
 left_action left next touches = slot_action (slot_at left) left next touches
 
--- what is done at a place, by the next token that is not trivia, and by whether it touches the one before
+-- what is done at a position, by the next token that is not trivia, and by whether it touches the one before
 abbrev pub action_at : Position → Option SyntaxKind → Bool → Action
 action_at (p.Left left) next touches = left_action left next touches
 action_at (p.AfterOperand min_bp max_bp) next touches = more_action min_bp max_bp next

@@ -1,4 +1,4 @@
--- What is done where: which places follow which, and what each action needs.
+-- What is done where: which positions follow which, and what each action needs.
 use Rattle.std.specs.Prelude.{◌≡◌, ◌<◌, ◌+◌, ℕ, Bool, true, false, Option, Some, None}
 use Rattle.rnix_kinds.specs.declared.kinds.SyntaxKind.{SyntaxKind}
 use Rattle.rnix_kinds.specs.declared.kinds.SyntaxKind.TheVariants.{TOKEN_IDENT, NODE_IDENT}
@@ -16,12 +16,12 @@ abbrev pub is_there : Option SyntaxKind → Bool
 is_there None = false
 is_there (Some kind) = true
 
--- a row goes on at another place: it stays in its sort; where the text has ended it comes nearer to its end
+-- a row goes on at another position: it stays in its frame kind; where the text has ended it comes nearer to its end
 abbrev pub IsNext : Position → Option SyntaxKind → ℕ → Type 0
 IsNext position None after = (frame_kind (p.Left after) ≡ frame_kind position) × (measure (p.Left after) < measure position)
 IsNext position (Some kind) after = frame_kind (p.Left after) ≡ frame_kind position
 
--- what an action needs: the sort of its place, an item or none, and where it leads
+-- what an action needs: the frame kind of its position, an item or none, and where it leads
 abbrev pub Allowed : Position → Option SyntaxKind → Action → Type 0
 Allowed position next a.Close = (frame_kind position ≡ NodeFrame) × (begin_measure position ≡ full_begin_measure)
 Allowed position next a.CloseEntry = frame_kind position ≡ Entry

@@ -8,18 +8,18 @@ use Rattle.rnix_green.specs.Forest.{Forest, empty, leaf, node}
 use Rattle.rnix_green.specs.Range.{Extent}
 use Rattle.rnix_grammar.specs.declared.expected_set.ExpectedSet.{ExpectedSet}
 
--- a token of a text, with the bytes that it takes
+-- a token of a text, with its range in bytes
 pub record Token : Type 0 where
   pub kind : SyntaxKind
   pub text : List ℕ
   pub start : ℕ
   pub end : ℕ
 
--- a token without its place
+-- a token without its range
 abbrev pub lexeme_of : Token → Lexeme
 lexeme_of t = (t.kind, t.text)
 
--- tokens one after another, the first at the given place
+-- tokens one after another, the first at the given offset
 abbrev pub placed_from : ℕ → List Lexeme → List Token
 placed_from n [] = []
 placed_from n (l ∷ ls) = record { kind = l.0; text = l.1; start = n; end = n + length l.1 } ∷ placed_from (n + length l.1) ls
@@ -120,7 +120,7 @@ abbrev pub end_from : ℕ → List Token → ℕ
 end_from n [] = n
 end_from n (t ∷ ts) = end_from t.end ts
 
--- the place that tokens take, from the first to the last
+-- the range of some tokens, from the first to the last
 abbrev pub extent_of : List Token → Extent
 extent_of [] = record { start = 0; end = 0 }
 extent_of (t ∷ ts) = record { start = t.start; end = end_from t.end ts }

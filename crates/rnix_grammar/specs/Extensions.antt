@@ -1,4 +1,4 @@
--- The corners of the grammar: what is read without an error and is not strict.
+-- The accepted extensions of the grammar: what is read without an error and is not strict.
 use Rattle.std.specs.Prelude.{ℕ, suc, Bool, true, false, ◌&&◌, if◌then◌else◌, nat_eq}
 use Rattle.rnix_kinds.specs.declared.kinds.SyntaxKind.{SyntaxKind}
 use Rattle.rnix_kinds.specs.declared.kinds.SyntaxKind.TheVariants.{NODE_APPLY, NODE_BIN_OP, NODE_DYNAMIC, NODE_HAS_ATTR, NODE_LAMBDA, NODE_LIST, NODE_SELECT, NODE_UNARY_OP}
@@ -30,7 +30,7 @@ is_extension parent NODE_DYNAMIC c = if is_one (node_count c) then false else tr
 is_extension parent NODE_LAMBDA c = holds_no_lambda parent
 is_extension parent kind c = false
 
--- no tree of a row below a node of the kind is a corner or holds one
+-- no tree of a row below a node of the kind is an accepted extension or holds one
 abbrev pub has_no_extension : SyntaxKind → Forest → Bool
 has_no_extension parent empty = true
 has_no_extension parent (leaf k t f) = has_no_extension parent f

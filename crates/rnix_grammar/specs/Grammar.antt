@@ -18,7 +18,7 @@ pub data PatternEnd : Bool → Forest → Type 0 where
   bound_behind : {s t : List ℕ} → is_or t ≡ false → PatternEnd false (node NODE_PAT_BIND (leaf TOKEN_AT s (name t empty)) empty)
 
 mutual
-  -- an expression that may stand where one of a level is asked for; the loosest level is that of all expressions, the tightest that of simple ones
+  -- an expression that may stand where one of a level is asked for; the lowest level is that of all expressions, the tightest that of simple ones
   pub data Strict : ℕ → SyntaxKind → Forest → Type 0 where
     -- what stands at a level stands at each looser one
     looser : {m n : ℕ} {k : SyntaxKind} {c : Forest} → n ≤ m → Strict m k c → Strict n k c

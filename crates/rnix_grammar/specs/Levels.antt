@@ -75,7 +75,7 @@ level_or n None = n
 abbrev pub binding_power : SyntaxKind → ℕ
 binding_power kind = level_or (plain_binding_power kind) (operator kind)
 
--- the loosest level of an operand on the right: the operator's own where it groups to the right, else the next
+-- the lowest level of an operand on the right: the operator's own where it groups to the right, else the next
 abbrev pub right_level : ℕ → Associativity → ℕ
 right_level level Right = level
 right_level level way = suc level
@@ -85,7 +85,7 @@ abbrev pub left_level : ℕ → Associativity → ℕ
 left_level level Left = level
 left_level level way = suc level
 
--- the tightest level of an operator that may follow what an operator has made: its own where it groups to the left, else the one before
+-- the highest level of an operator that may follow what an operator has made: its own where it groups to the left, else the one before
 abbrev pub max_bp_level : ℕ → Associativity → ℕ
 max_bp_level level Left = level
 max_bp_level level way = level - 1
@@ -95,14 +95,14 @@ abbrev pub side_of : (ℕ → Associativity → ℕ) → ℕ → Option (ℕ × 
 side_of side n (Some o) = side o.0 o.1
 side_of side n None = n
 
--- the loosest level of an operator's right operand
+-- the lowest level of an operator's right operand
 abbrev pub right_of : SyntaxKind → ℕ
 right_of kind = side_of right_level selection_level (operator kind)
 
--- the loosest level of an operator's left operand
+-- the lowest level of an operator's left operand
 abbrev pub left_of : SyntaxKind → ℕ
 left_of kind = side_of left_level selection_level (operator kind)
 
--- the tightest level of an operator behind what an operator has made
+-- the highest level of an operator behind what an operator has made
 abbrev pub max_bp_of : SyntaxKind → ℕ
 max_bp_of kind = side_of max_bp_level application_level (operator kind)

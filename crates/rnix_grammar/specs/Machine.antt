@@ -26,7 +26,7 @@ pub data Head : Type 0 where
   SecondBind : Head
   Operand : Head
 
--- with how far it is read, inside how many counted places, and the trees that it has so far
+-- with how far it is read, inside how many counted positions, and the trees that it has so far
 pub record Frame : Type 0 where
   pub head : Head
   pub position : Position
@@ -40,7 +40,7 @@ pub record Machine : Type 0 where
   pub prev_end : ℕ
   pub faults : List Fault
 
--- a frame at another place, with another row
+-- a frame at another position, with another row
 abbrev pub put : Position → AnnotatedForest → Frame → Frame
 put position row f = record { head = f.head; position = position; depth = f.depth; row = row }
 
@@ -112,7 +112,7 @@ made (Node k) row = one_branch k row
 made SecondBind row = one_fault DoubleBind row
 made Operand row = row
 
--- the loosest level with which an operand goes on
+-- the lowest level with which an operand goes on
 abbrev pub min_bp_of : Position → ℕ
 min_bp_of (p.AfterOperand min_bp max_bp) = min_bp
 min_bp_of position = expression_level
@@ -146,7 +146,7 @@ limited raw f fs ts n es =
     machine (put f.position (with_leading raw (with_leading raw f.row ts ⊕ one_fault TooDeep (run_row raw (seen raw ts) ts)) (run_rest raw (seen raw ts) ts)) f ∷ fs)
     (past raw (run_rest raw (seen raw ts) ts)) (end_from n (seen raw ts)) (es ++ too_deep ∷ [])
 
--- an operand begins with the next item, inside so many counted places: f waits below
+-- an operand begins with the next item, inside so many counted positions: f waits below
 abbrev pub begun : Bool → Begin → ℕ → ℕ → Token → Frame → List Frame → List Token → ℕ → List Fault → Machine
 begun raw (b.Leaf k) level d t f fs ts n es =
     machine (opened Operand (p.AfterOperand level selection_level) d (one_branch k (leaf raw k ts)) ∷ (put f.position (with_leading raw f.row ts) f ∷ fs)) (behind raw ts) (item_end raw n ts) es

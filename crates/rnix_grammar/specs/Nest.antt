@@ -1,4 +1,4 @@
--- How deep a tree nests: how many expressions that count are inside one another. Which count is told by the kinds of nodes alone.
+-- How deep a tree nests: how many expressions that count are inside one another. Whether one counts depends on the kinds of nodes alone.
 use Rattle.std.specs.Prelude.{ℕ, suc, max, Bool, true, false, if◌then◌else◌}
 use Rattle.rnix_kinds.specs.declared.kinds.SyntaxKind.{SyntaxKind}
 use Rattle.rnix_kinds.specs.declared.kinds.SyntaxKind.TheVariants.{NODE_APPLY, NODE_ATTRPATH, NODE_BIN_OP, NODE_HAS_ATTR, NODE_IDENT_PARAM, NODE_INHERIT, NODE_PAT_BIND, NODE_PAT_ENTRY, NODE_SELECT}

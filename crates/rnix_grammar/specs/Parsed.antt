@@ -36,12 +36,12 @@ pub record IsParsed (tokens : List Lexeme) (tree : Tree) (faults : List Fault) :
   pub named : AreNamedLists faults
   -- without errors exactly if each node has its shape and no entry is repeated
   pub shaped : (faults ≡ []) ↔ (IsShaped tree × IsUnrepeated tree)
-  -- errors of the end of the text: exactly if a node is not whole, and at least as many
+  -- errors of the end of the text: exactly if a node is incomplete, and at least as many
   pub few_incomplete : incomplete (node NODE_ROOT (repaired (without_trivia reading.annotated)) empty) ≤ ended_count faults
   pub no_incomplete : (incomplete (node NODE_ROOT (repaired (without_trivia reading.annotated)) empty) ≡ 0) ↔ (ended_count faults ≡ 0)
   -- in the repaired tree, but for numbers that stand for no token, each node's children begin a row of its kind
   pub begun : AreBegun (node NODE_ROOT (repaired_nonempty (without_trivia reading.annotated)) empty)
-  -- behind a node that is not whole no item stands, and behind an error of the end of the text no token is reported as wrong
+  -- behind an incomplete node no item stands, and behind an error of the end of the text no token is reported as wrong
   pub last_incomplete : AreIncompleteLast (without_trivia reading.annotated) []
   pub settled : NoErrorAfterEnd faults
   -- without errors, trivia between two tokens stand in the smallest node that holds both
@@ -50,7 +50,7 @@ pub record IsParsed (tokens : List Lexeme) (tree : Tree) (faults : List Fault) :
   pub nested : faults ≡ [] → nest NODE_ROOT (forget (without_trivia reading.annotated)) ≤ depth_limit
   -- an expression of the strict grammar that the items have, nested no deeper than the limit, is found: there are no errors, and the tree without trivia is it
   pub found : (derivation : Forest) → IsDerivation derivation (items (placed_from 0 tokens)) → (faults ≡ []) × (forget (without_trivia reading.annotated) ≡ derivation)
-  -- without errors of the end of the text and without repeated names, the repaired tree is an expression of the strict grammar if it has no corner
+  -- without errors of the end of the text and without repeated names, the repaired tree is an expression of the strict grammar if it has no accepted extension
   pub converse : ended_count faults ≡ 0 → Lacks is_repeated faults → has_no_extension NODE_ROOT (repaired (without_trivia reading.annotated)) ≡ true → IsExpression (repaired (without_trivia reading.annotated))
-  -- where the pieces of its paths touch, a text is read without errors and corners exactly if its items have a derivation
+  -- where the pieces of its paths touch, a text is read without errors and accepted extensions exactly if its items have a derivation
   pub exactly : ArePaths (without_trivia reading.annotated) [] → ((faults ≡ []) × (has_no_extension NODE_ROOT (forget (without_trivia reading.annotated)) ≡ true)) ↔ ((derivation : Forest) × IsDerivation derivation (items (placed_from 0 tokens)))

@@ -23,7 +23,7 @@ abbrev pub goes_on_path : ℕ → List Token → Bool
 goes_on_path n [] = false
 goes_on_path n (t ∷ ts) = nat_eq t.start n && is_piece_start t.kind
 
--- the pieces of a path, behind a place, touch one another, and what follows does not go on with them
+-- the pieces of a path, behind an offset, touch one another, and what follows does not go on with them
 abbrev pub joins : ℕ → AnnotatedForest → List Token → Bool
 joins n blank rest = if goes_on_path n rest then false else true
 joins n (token k t f) rest = nat_eq t.start n && joins t.end f rest

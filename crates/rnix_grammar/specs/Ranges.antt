@@ -92,7 +92,7 @@ pub record BeginsWith (tree : Tree) (m : ℕ) (kind : SyntaxKind) : Type 0 where
   pub parent : (item tree (m + 1)).parent ≡ Some m
   pub kind_is : (item tree (m + 1)).kind ≡ kind
 
--- an error that tells the kind of a token tells that of the element's first one
+-- the kind of a token in an error is that of the element's first token
 abbrev pub IsKindOf : Tree → Fault → ℕ → Type 0
 IsKindOf tree (unwanted kind range kinds) m = BeginsWith tree m kind
 IsKindOf tree e m = Unit {0}

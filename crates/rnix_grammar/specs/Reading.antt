@@ -17,6 +17,6 @@ pub record IsReading (tokens : List Lexeme) (tree : Tree) (faults : List Fault) 
   pub leaves : tokens_in annotated ≡ placed_from 0 tokens
   -- trivia before a token stand before it in its row; before the first item of a node they stand outside, before the node
   pub placed : annotated ≡ with_all_trivia (without_trivia annotated) (placed_from 0 tokens)
-  -- at each place of a row the next items decide what stands there; the errors are those of the error nodes, of what is missing at the end of
+  -- at each position of a row the next items decide what stands there; the errors are those of the error nodes, of what is missing at the end of
   -- the text, and of repeated entries, in the order in which these are met
   pub reads : ReadsRoot (without_trivia annotated) faults

@@ -1,4 +1,4 @@
--- How the items of a text are read along the rows: at each place of a row the next items decide what stands there.
+-- How the items of a text are read along the rows: at each position of a row the next items decide what stands there.
 use Rattle.std.specs.Prelude.{◌≡◌, ℕ, suc, ◌<◌, true, false, List, [], ◌∷◌, ◌++◌, Some, length, if◌then◌else◌}
 use Rattle.rnix_kinds.specs.declared.kinds.SyntaxKind.{SyntaxKind}
 use Rattle.rnix_kinds.specs.declared.kinds.SyntaxKind.TheVariants.{NODE_ROOT, NODE_ERROR, NODE_LITERAL}
@@ -11,11 +11,11 @@ use Rattle.rnix_grammar.specs.UnwantedRun.{run_of}
 use Rattle.rnix_grammar.specs.Beginnings.{IsOperandOf}
 use Rattle.rnix_grammar.specs.Rules.{Row, done, ◌·◌, row, second_name, after, may_end, missing, run_at, expects_end, IsExpected, is_first_expected, level_at, counts, IsFollowed}
 
--- one more operand may stand here, inside so many counted places
+-- one more operand may stand here, inside so many counted positions
 abbrev pub IsRoom : Row → ℕ → Type 0
 IsRoom q d = counts q ≡ true → d < depth_limit
 
--- how many counted places are around what stands here
+-- how many counted positions are around what stands here
 abbrev pub deeper : Row → ℕ → ℕ
 deeper q d = if counts q then suc d else d
 
@@ -23,7 +23,7 @@ deeper q d = if counts q then suc d else d
 abbrev pub IsOver : Row → ℕ → List Token → Type 0
 IsOver q n us = (may_end q ≡ true) × IsExpected q n us false
 
--- an error node over some items stands here before others, inside so many counted places; what is left of the row after it
+-- an error node over some items stands here before others, inside so many counted positions; what is left of the row after it
 abbrev pub IsWrong : Note → ℕ → Row → Row → List Token → List Token → Type 0
 IsWrong Stray d q r ts us = (length ts ≡ 1) × IsRoom q d × IsOperandOf (level_at q blank) (one_fault Stray (row_of ts)) us × (after q NODE_LITERAL ≡ r)
 IsWrong (Unwanted until) d q r ts us = (is_some ts ≡ true) × (ts ≡ run_of until (ts ++ us)) × (run_at q ≡ Some (wanted_kinds until, r))
@@ -31,7 +31,7 @@ IsWrong Extra d q r ts us = (is_some ts ≡ true) × (us ≡ []) × (q ≡ TextE
 IsWrong DoubleBind d q r ts us = ⊥
 IsWrong TooDeep d q r ts us = (us ≡ []) × (counts q ≡ true) × (d ≡ depth_limit) × (after q NODE_LITERAL ≡ r)
 
--- A row of children without trivia, with the errors that it is reported by. Known are the parent's kind, how many counted places are around the
+-- A row of children without trivia, with the errors that it is reported by. Known are the parent's kind, how many counted positions are around the
 -- row, where the item before it ends, what is left of the parent's row before it and after it, the trees before it, and the items after it.
 pub data Reads : SyntaxKind → ℕ → ℕ → Row → Row → AnnotatedForest → List Token → AnnotatedForest → List Fault → Type 0 where
   -- nothing more

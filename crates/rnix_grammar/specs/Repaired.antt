@@ -1,4 +1,4 @@
--- The tree with its faults repaired, and which of its nodes are whole; which errors are of the end of the text.
+-- The tree with its faults repaired, and which of its nodes are complete; which errors are of the end of the text.
 use Rattle.std.specs.Prelude.{◌≡◌, ℕ, ◌+◌, Bool, true, false, List, [], ◌∷◌, codes, if◌then◌else◌}
 use Rattle.rnix_kinds.specs.declared.kinds.SyntaxKind.{SyntaxKind}
 use Rattle.rnix_kinds.specs.declared.kinds.SyntaxKind.TheVariants.{TOKEN_INTEGER, NODE_LITERAL}
@@ -36,7 +36,7 @@ kinds_of empty = []
 kinds_of (leaf k t f) = k ∷ kinds_of f
 kinds_of (node k c f) = k ∷ kinds_of f
 
--- how many nodes are not whole
+-- how many nodes are incomplete
 abbrev pub incomplete : Forest → ℕ
 incomplete empty = 0
 incomplete (leaf k t f) = incomplete f

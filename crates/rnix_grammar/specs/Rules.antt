@@ -1,4 +1,4 @@
--- The grammar: each kind of node has one row, the children that it has. A place in a row is what is left of it.
+-- The grammar: each kind of node has one row, the children that it has. A position in a row is what is left of it.
 use Rattle.std.specs.Prelude.{◌≡◌, ℕ, Bool, true, false, ◌||◌, ◌&&◌, List, [], ◌∷◌, map, Option, Some, None, if◌then◌else◌, nat_eq}
 use Rattle.std.specs.List.{list_any}
 use Rattle.rnix_kinds.specs.declared.kinds.SyntaxKind.{SyntaxKind}
@@ -224,7 +224,7 @@ level_at (Many n closer · r) x = Some n
 level_at (Argument · r) x = if is_or_row x then None else Some selection_level
 level_at r x = None
 
--- an operand that stands here is inside one more counted place
+-- an operand that stands here is inside one more counted position
 abbrev pub counts : Row → Bool
 counts (Operand n counted · r) = counted
 counts (Many n closer · r) = true

@@ -43,7 +43,7 @@ stops until (Some kind) = is_wanted until kind
 abbrev pub operand_kinds : List SyntaxKind
 operand_kinds = TOKEN_L_PAREN ∷ (TOKEN_REC ∷ (TOKEN_L_BRACE ∷ (TOKEN_L_BRACK ∷ (TOKEN_STRING_START ∷ (TOKEN_IDENT ∷ [])))))
 
--- how many counted places may be nested
+-- how many counted positions may be nested
 abbrev pub depth_limit : ℕ
 depth_limit = 512
 

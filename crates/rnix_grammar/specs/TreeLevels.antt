@@ -35,7 +35,7 @@ calls_or (branch k c f) = is_or_row f
 calls_or (fault n c f) = is_or_row f
 calls_or f = false
 
--- the tightest level at which a tree of a row may stand, with its error nodes; 0 is a tree that only stands where any expression may
+-- the highest level at which a tree of a row may stand, with its error nodes; 0 is a tree that only stands where any expression may
 abbrev pub level_of : SyntaxKind → AnnotatedForest → ℕ
 level_of NODE_BIN_OP c = binding_power (operator_in c)
 level_of NODE_HAS_ATTR c = has_attr_level

@@ -1,10 +1,10 @@
--- Where a node stands that is not whole: behind it no item is left.
+-- Where an incomplete node is: no item follows it.
 use Rattle.std.specs.Prelude.{◌≡◌, false, List, [], ◌++◌}
 use Rattle.rnix_grammar.specs.AnnotatedForest.{Token, AnnotatedForest, blank, token, branch, fault, tokens_in}
 use Rattle.rnix_grammar.specs.CompleteRows.{is_row}
 use Rattle.rnix_grammar.specs.Repaired.{repaired, kinds_of}
 
--- in a row before some items, no item stands behind a node that is not whole once its errors are repaired
+-- in a row before some items, no item stands behind an incomplete node once its errors are repaired
 abbrev pub AreIncompleteLast : AnnotatedForest → List Token → Type 0
 AreIncompleteLast blank rest = Unit {0}
 AreIncompleteLast (token k t f) rest = AreIncompleteLast f rest

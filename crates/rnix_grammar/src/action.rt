@@ -1,4 +1,4 @@
-//! What the reader does at each place, by the next token that is not trivia.
+//! What the reader does at each position, by the next token that is not trivia.
 
 ghost use Rattle.std.specs.Prelude.{◌≡◌, Bool, Option, true};
 ghost use Rattle.rnix_kinds.specs.declared.kinds.SyntaxKind.{SyntaxKind};
@@ -51,7 +51,7 @@ pub enum Action {
     DoubleBind(u8),
     /// An operand of a level, which the limit of nesting counts or not.
     Read(u8, bool, u8),
-    /// The next token makes a node with the operand before it, which goes on at the place; what follows the node is of at most the level.
+    /// The next token makes a node with the operand before it, which goes on at the position; what follows the node is of at most the level.
     Wrap(SyntaxKind, Position, u8),
     /// An argument makes a node with the operand before it.
     Apply,
@@ -151,7 +151,7 @@ fn is_plain_end(kind: SyntaxKind) -> bool
     )
 }
 
-/// Whether a row is complete at the place, and nothing but the end of its node is to be done.
+/// Whether a row is complete at the position, and nothing but the end of its node is to be done.
 #[inline(always)]
 pub fn is_past(position: Position) -> bool
     ensures { (next : Option SyntaxKind) (touches : Bool) → result ≡ true → action_at position next touches ≡ Close }
@@ -167,7 +167,7 @@ pub fn is_past(position: Position) -> bool
     }
 }
 
-/// What the reader does at a place, by the next token that is not trivia, and by whether it touches the one before.
+/// What the reader does at a position, by the next token that is not trivia, and by whether it touches the one before.
 #[inline(always)]
 pub fn action_at(position: Position, next: Option<SyntaxKind>, touches: bool) -> Action
     ensures { result ≡ action_at position next touches }

@@ -16,7 +16,7 @@ use rnix_kinds::{SyntaxKind, Token};
 pub enum Begin {
     /// A node over one token.
     Leaf(SyntaxKind),
-    /// A node that begins with a token; the position after the token, and the tightest level of an operator that may follow the node.
+    /// A node that begins with a token; the position after the token, and the highest level of an operator that may follow the node.
     Node(SyntaxKind, u8, u8),
     /// `let {`
     LegacyLet,
@@ -49,7 +49,7 @@ pub fn is_pattern(second: Option<SyntaxKind>, third: Option<SyntaxKind>) -> bool
 
 const CUR_POS: &str = "__curPos";
 
-// Whether a name is read as the current position; most are told by their length.
+// Whether a name is read as the current position; most differ in length already.
 #[inline(always)]
 fn is_cur_pos(name: &str) -> bool
     ensures { result ≡ is_cur_pos name.now }

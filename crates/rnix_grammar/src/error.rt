@@ -19,7 +19,7 @@ use std::fmt;
 /// An error of a text. Its range, in bytes, is that of its error node in the tree, or of the repeated name.
 #[derive(Debug, Drop)]
 pub enum ParseError {
-    /// No cause is told. The reader never makes it.
+    /// An error without a cause. The parser never produces it.
     Unexpected(TextRange),
     /// Tokens follow the expression.
     UnexpectedExtra(TextRange),

@@ -5,7 +5,7 @@ ghost use Rattle.rnix_grammar.specs.Tables.{stops, is_wanted, wanted_kinds, oper
 
 use rnix_kinds::SyntaxKind;
 
-/// What is wanted at a place. A run of unwanted tokens stops before it, or at the end of the text.
+/// What is wanted at a position. A run of unwanted tokens stops before it, or at the end of the text.
 #[derive(Clone, Copy)]
 pub enum ExpectedSet {
     RParen,

@@ -91,7 +91,7 @@ pub fn binding_power(kind: SyntaxKind) -> u8
     }
 }
 
-/// The loosest level of the right operand of an operator.
+/// The lowest level of the right operand of an operator.
 #[inline(never)]
 pub fn right_of(kind: SyntaxKind) -> u8
     ensures { result ≡ right_of kind }
@@ -103,7 +103,7 @@ pub fn right_of(kind: SyntaxKind) -> u8
     }
 }
 
-/// The tightest level of an operator that may follow the node of an operator.
+/// The highest level of an operator that may follow the node of an operator.
 #[inline(never)]
 pub fn max_bp_of(kind: SyntaxKind) -> u8
     ensures { result ≡ max_bp_of kind }

@@ -1,4 +1,4 @@
--- What is done at each place of a row, by the next item, is what the rules allow there. This is one table, with a line for each action.
+-- What is done at each position of a row, by the next item, is what the rules allow there. This is one table, with a line for each action.
 use Rattle.std.proofs.Common.{◌≡◌, ℕ, Bool, true, false, [], Option, Some, None, refl, sym, ap, subst, take, drop}
 use Rattle.rnix_kinds.proofs.AllKinds.{all_kinds}
 use Rattle.rnix_kinds.specs.declared.kinds.SyntaxKind.{SyntaxKind, TheVariants.{NODE_IDENT, NODE_LITERAL, NODE_PAT_ENTRY, TOKEN_IDENT, TOKEN_AT}}
@@ -46,12 +46,12 @@ IsActionAt r touch None (a.Read level counted y) = IsOperandHere r touch None le
 IsActionAt r touch next (a.Read level counted y) = IsOperandHere r touch next level counted (left_at y)
 IsActionAt r touch next action = ⊥
 
--- what is left at a place where a node is open
+-- what is left at a position where a node is open
 abbrev pub is_waiting : Row → Bool
 is_waiting never = false
 is_waiting r = is_left r
 
--- a place of a row: not behind an operand
+-- a position of a row: not behind an operand
 abbrev pub is_in_row : Position → Bool
 is_in_row (p.Left i) = is_waiting (left_at i)
 is_in_row (p.AfterOperand min_bp max_bp) = false
@@ -114,7 +114,7 @@ before_item : (touch : Bool) (i : ℕ) → BeforeItem touch i
 before_item touch = each_index (BeforeItem touch) (before_each touch)
     (λ i e d. past_end (λ i. Each (λ k. IsActionAt (left_at i) touch (Some k) (left_action i (Some k) touch)) all_kinds) i d)
 
--- so it is at each place of a row
+-- so it is at each position of a row
 pub action_is_at : (x : Position) (touch : Bool) (next : Option SyntaxKind) → is_in_row x ≡ true → IsActionAt (rest_at x) touch next (action_at x next touch)
 action_is_at (p.AfterOperand min_bp max_bp) touch next h = absurd (cc)
 action_is_at (p.Right level) touch None h = ((refl, refl, refl, ap (λ w. only w done) (atom_fits level NODE_LITERAL refl)), refl)

@@ -12,7 +12,7 @@ use Rattle.rnix_grammar.specs.declared.position.Position.TheVariants as p
 use Rattle.rnix_grammar.specs.declared.rules.Part.TheVariants as r
 use Rattle.rnix_grammar.specs.declared.action.Action.TheVariants as a
 
--- the sort of a place, by the part that comes next; tokens, operands and names stand at places of several sorts
+-- the frame kind of a position, by the part that comes next; tokens, operands and names stand at positions of several frame kinds
 abbrev pub sort_by_part : Part → FrameKind → FrameKind
 sort_by_part (r.Many level closer) own = NodeFrame
 sort_by_part (r.Entries closer) own = NodeFrame
@@ -40,7 +40,7 @@ sort_by (Some (End NODE_ROOT)) own = NodeFrame
 sort_by (Some (End kind)) own = frame_kind_of_row kind
 sort_by (Some (Next part)) own = sort_by_part part own
 
--- the sort of the place after a part
+-- the frame kind of the position after a part
 abbrev sort_after : Option Slot → ℕ → FrameKind → FrameKind
 sort_after (Some (Next r.TextEnd)) i own = own
 sort_after (Some (Next part)) i own = frame_kind (p.Left (i + 1))
@@ -53,7 +53,7 @@ may_stand (Some (Next (r.Wanted NODE_IDENT))) sort = true
 may_stand (Some (Next part)) sort = is_open sort
 may_stand slot sort = true
 
--- the end of the text stands at one place
+-- the end of the text stands at one position
 abbrev index_by : Option Slot → ℕ → ℕ
 index_by (Some (Next r.TextEnd)) i = ROOT + 1
 index_by slot i = i
@@ -64,7 +64,7 @@ ReportsMissingChild (Some (Next (r.Wanted NODE_IDENT))) = Unit {0}
 ReportsMissingChild (Some (Next (r.Wanted kind))) = wanted_kinds (expected_set_of kind) ≡ kind ∷ []
 ReportsMissingChild slot = Unit {0}
 
--- what an index is by its slot: its sort, that of the place after it, what may stand there, and the steps that follow where the text has ended
+-- what an index is by its slot: its frame kind, that of the position after it, what may stand there, and the steps that follow where the text has ended
 abbrev SlotAgrees : Option Slot → ℕ → Type 0
 SlotAgrees slot i =
     (frame_kind (p.Left i) ≡ sort_by slot (frame_kind (p.Left i))) × (sort_after slot i (frame_kind (p.Left i)) ≡ frame_kind (p.Left i))
@@ -79,11 +79,11 @@ past_end i e d =
 pub slot_agrees : (i : ℕ) → SlotAgrees (slot_at i) i
 slot_agrees = each_index (λ i. SlotAgrees (slot_at i) i) (assumption) past_end
 
--- the sort of a place, by its slot
+-- the frame kind of a position, by its slot
 pub sort_there : (i : ℕ) → frame_kind (p.Left i) ≡ sort_by (slot_at i) (frame_kind (p.Left i))
 sort_there i = (slot_agrees i).0
 
--- the steps of a place, by what is done there; they are few, and not none
+-- the steps of a position, by what is done there; they are few, and not none
 pub measure_there : (position : Position)
     → (measure position ≡ steps_with measure (action_at position None false)) × (nat_le 1 (measure position) ≡ true) × (nat_le (measure position) 7 ≡ true)
 measure_there (p.Left i) = let w = slot_agrees i in (w.4, w.5, w.6)
@@ -116,7 +116,7 @@ ended (Some (Next r.TextEnd)) i touches e w = (ap p.Left w.3, refl)
 ended (Some (Next (r.Wanted NODE_IDENT))) i touches e w = (refl, (w.1, omega (arith, w.4)))
 ended (Some (Next _)) i touches e w = (refl, (w.1, omega (arith, w.4)))
 
--- the places of patterns
+-- the positions of patterns
 same_sort : (bound : Bool) (i x y : ℕ) → frame_kind (p.Left x) ≡ Pattern → frame_kind (p.Left y) ≡ Pattern → frame_kind (p.Left i) ≡ Pattern
     → frame_kind (p.Left (if bound then x else y)) ≡ frame_kind (p.Left i)
 same_sort true i x y h k e = h ∙ sym e
@@ -185,7 +185,7 @@ at_hand (Some (Next r.TextEnd)) i kind touches e w = (refl, w.0)
 at_hand (Some (Next part)) i kind touches e w =
     each_kind (λ k. Allowed (p.Left i) (Some k) (slot_action (Some (Next part)) i (Some k) touches)) (assumption (w.0, sym w.0, ap is_open w.0, w.1, w.2, e)) kind
 
--- at each place
+-- at each position
 pub allowed : (position : Position) (next : Option SyntaxKind) (touches : Bool) → Allowed position next (action_at position next touches)
 allowed (p.Left i) None touches = ended (slot_at i) i touches refl (slot_agrees i)
 allowed (p.Left i) (Some kind) touches = at_hand (slot_at i) i kind touches refl (slot_agrees i)

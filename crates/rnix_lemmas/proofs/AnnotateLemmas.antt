@@ -72,7 +72,7 @@ pub record IsAnnotatedRoot (f : Forest) (ts : List Token) : Type 0 where
   pub forest : forget (annotate f ts) ≡ f
   pub spelled : HaveTokenKinds (annotate f ts)
 
--- a strict tree is laid over tokens that it yields
+-- a strict tree, annotated with the tokens that it yields
 pub annotate_root : (f : Forest) (ts : List Token) → has_tokens_alone f ≡ true → yield f ≡ map lexeme_of ts → IsAnnotatedRoot f ts
 annotate_root f ts h e =
     let r = annotate_row f ts [] h (append-nil (yield f) ∙ e) in

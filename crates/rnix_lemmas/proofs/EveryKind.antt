@@ -13,7 +13,7 @@ not_together {v = false} h e f = true_is_not_false (sym e)
 equal : (m n : ℕ) → nat_eq m n ≡ true → m ≡ n
 equal m n h = grind (arith, nat_tests, h)
 
--- kinds at the same place of the list are the same
+-- kinds at the same position of the list are the same
 pub same : (k w : SyntaxKind) → nat_eq (place_of k) (place_of w) ≡ true → k ≡ w
 same k w h = same_place k w (equal (place_of k) (place_of w) h)
 

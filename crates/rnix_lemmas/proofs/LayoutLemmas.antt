@@ -206,14 +206,14 @@ trivia_keeps_kind NODE_IDENT k h = trivia_name k h
 trivia_keeps_kind NODE_CUR_POS k h = trivia_place k h
 trivia_keeps_kind _ k h = refl
 
--- two rows of told leaves
+-- two rows whose leaves have the kinds of their tokens below their parents
 pub leaf_kind-⊕ : (p : SyntaxKind) (f g : AnnotatedForest) → HaveLeafKinds p f → HaveLeafKinds p g → HaveLeafKinds p (f ⊕ g)
 leaf_kind-⊕ p blank g h k = k
 leaf_kind-⊕ p (token j t f) g h k = (h.0, leaf_kind-⊕ p f g h.1 k)
 leaf_kind-⊕ p (branch j c f) g h k = (h.0, leaf_kind-⊕ p f g h.1 k)
 leaf_kind-⊕ p (fault n c f) g h k = (h.0, leaf_kind-⊕ p f g h.1 k)
 
--- trivia are told below every parent
+-- trivia keep their kinds below every parent
 pub trivia_leaf_kinds : (p : SyntaxKind) (ts : List Token) → HaveLeafKinds p (trivia_before ts)
 trivia_leaf_kinds p [] = tt
 trivia_leaf_kinds p (t ∷ ts) = advance (trivia_leaf_kinds p ts) (is_trivia t.kind) refl
@@ -227,7 +227,7 @@ trivia_after_leaf_kinds : (p : SyntaxKind) (x : Bool) (ts : List Token) → Have
 trivia_after_leaf_kinds p true ts = trivia_leaf_kinds p ts
 trivia_after_leaf_kinds p false ts = tt
 
--- the leaves of a forest with trivia are told
+-- so have the leaves of a forest with trivia
 pub with_trivia_leaf_kinds : (p : SyntaxKind) (f : AnnotatedForest) (ts : List Token) → HaveLeafKinds p f → HaveLeafKinds p (with_trivia f ts)
 with_trivia_leaf_kinds p blank ts h = tt
 with_trivia_leaf_kinds p (token k t f) ts h =

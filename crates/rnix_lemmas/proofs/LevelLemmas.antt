@@ -83,6 +83,6 @@ operates k h =
       max_bp = at_most (max_bp_of k) (binding_power k) (implied is_infix (λ o. nat_le (max_bp_of o) (binding_power o)) refl k h);
     }
 
--- the loosest level of a right operand lies between these
+-- the lowest level of a right operand lies between these
 pub right_within : (k : SyntaxKind) → (1 ≤ right_of k) × (right_of k ≤ 16)
 right_within k = within 1 (right_of k) 16 (every (λ o. nat_le 1 (right_of o) && nat_le (right_of o) 16) refl k)

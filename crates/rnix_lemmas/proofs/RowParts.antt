@@ -1,4 +1,4 @@
--- What is asked of what stands where a row begins, and of what stands at a place of it.
+-- What is asked of what stands where a row begins, and of what stands at a position of it.
 use Rattle.std.proofs.Common.{◌≡◌, ℕ, Bool, true, false, List, [], ◌∷◌, Option, Some, None, refl, ap, sym, ◌∙◌, subst, suc, if◌then◌else◌}
 use Rattle.rnix_kinds.specs.{declared.kinds.SyntaxKind.{SyntaxKind}, declared.kinds.SyntaxKind.TheVariants.{NODE_LITERAL}, SyntaxKind.{is_token}}
 use Rattle.{rnix_kinds.proofs.AllKinds.{implied}, rnix_green.specs.Equality.{same_kind}}
@@ -42,7 +42,7 @@ front (First m · r) h = record { expected = λ n ts own. tt; followed = λ x ne
 front (r or s) h = record { expected = λ n ts own. tt; followed = λ x next. tt; no_operand = no_operand (r or s) (λ x. refl) refl }
 front _ h = absurd (cc)
 
--- what is left of a row at a place: a part that may be missing, or that the reader waits at
+-- what is left of a row at a position: a part that may be missing, or that the reader waits at
 abbrev pub is_left : Row → Bool
 is_left (Child kind · r) = false
 is_left (Atom · r) = false

@@ -1,4 +1,4 @@
--- Each frame stands at a place of its sort and may stand inside the one below, and the lowest is the root.
+-- Each frame stands at a position of its frame kind and may stand inside the one below, and the lowest is the root.
 use Rattle.std.proofs.Common.{◌≡◌, ℕ, suc, Bool, true, false, List, [], ◌∷◌, Option, Some, None, refl, sym, ap, ◌∙◌, if◌then◌else◌, nat_le, nat_eq}
 use Rattle.rnix_kinds.specs.declared.kinds.SyntaxKind.{SyntaxKind, TheVariants.{TOKEN_COLON, TOKEN_AT, TOKEN_IDENT, TOKEN_L_BRACE, TOKEN_INVERT, TOKEN_SUB}}
 use Rattle.{rnix_kinds.specs.declared.kinds.SyntaxKind.TheVariants.{TOKEN_LET, NODE_APPLY, NODE_ROOT}, rnix_grammar.specs.declared.position.Position.Position}
@@ -72,7 +72,7 @@ pub root_lowest : (head : Head) (position : Position) (fs : List Frame) → IsSt
 root_lowest head position [] w e = w
 root_lowest head position (g ∷ fs) w e = absurd (cc)
 
--- the place that comes next is of the same sort
+-- the position that comes next is of the same frame kind
 pub next_sort : (position : Position) (after : ℕ) (next : Option SyntaxKind) → IsNext position next after → frame_kind (p.Left after) ≡ frame_kind position
 next_sort position after None h = h.0
 next_sort position after (Some kind) h = h

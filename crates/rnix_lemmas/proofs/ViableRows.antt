@@ -6,12 +6,12 @@ use Rattle.rnix_grammar.specs.AnnotatedForest.{Token, Note, Stray, Unwanted, Ext
 use Rattle.rnix_grammar.specs.Reads.{Reads, end, leaf, inner, missing_part, wrong, second, IsWrong}
 use Rattle.rnix_lemmas.proofs.{Basics.true_is_not_false, ReachableRows.is_viable, RowKinds.has_row}
 
--- what is live after a child was so before it
+-- what is viable after a child was so before it
 pub viable_before : (r : Row) (k : SyntaxKind) → is_viable (after r k) ≡ true → is_viable r ≡ true
 viable_before never k h = h
 viable_before _ k h = refl
 
--- a complete row is live
+-- a complete row is viable
 pub end_viable : (r : Row) → may_end r ≡ true → is_viable r ≡ true
 end_viable never h = h
 end_viable _ h = refl
@@ -49,7 +49,7 @@ pub reads_row : {k : SyntaxKind} {d n : ℕ} {s : Row} {b : AnnotatedForest} {us
     → Reads k d n (row k) s b us f es → may_end s ≡ true → has_row k ≡ true
 reads_row {k} h w = viable_row k (reads_viable h (end_viable _ w))
 
--- nothing goes on behind no row, so what may end later is live
+-- nothing goes on behind no row, so what may end later is viable
 pub nowhere : (ks : List SyntaxKind) → after_all never ks ≡ never
 nowhere [] = refl
 nowhere (k ∷ ks) = nowhere ks

@@ -24,7 +24,7 @@ record IsFit (f : AnnotatedForest) (ts : List Token) (es : List Fault) : Type 0 
   pub strict : es ≡ [] → has_no_extension NODE_ROOT (repaired f) ≡ true → IsExpression (repaired f)
   pub found : (t : Forest) → IsDerivation t ts → (es ≡ []) × (forget f ≡ t)
 
--- so it is one exactly if there is no error and no corner
+-- so it is one exactly if there is no error and no accepted extension
 exact : (f : AnnotatedForest) (ts : List Token) (es : List Fault) → IsFit f ts es → ArePaths f [] → ((es ≡ []) × (has_no_extension NODE_ROOT (forget f) ≡ true)) ↔ ((t : Forest) × IsDerivation t ts)
 exact f ts es w paths = (there, back)
   where

@@ -62,7 +62,7 @@ tree_strict {tree = tree} p h o =
     let same : repaired f ≡ significant tree.children = repaired_none f (error_free p h) ∙ sym (significant_tree p) in
     subst IsExpression same (p.converse (ap ended_count h) (subst (Lacks is_repeated) (sym h) tt) (ap (has_no_extension NODE_ROOT) same ∙ o))
 
--- the tree is laid over its items as it was read
+-- the tree, annotated with its items, is as it was read
 annotate_tree : {ls : List Lexeme} {tree : Tree} {faults : List Fault} (p : IsParsed ls tree faults) → faults ≡ []
     → annotate (significant tree.children) (items (placed_from 0 ls)) ≡ without_trivia p.reading.annotated
 annotate_tree {ls = ls} p h =

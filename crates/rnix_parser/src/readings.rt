@@ -50,7 +50,7 @@ pub fn all_follows(text: &str)
     let _len = text.len();
 }
 
-/// What each error node of a reading holds, and in which nodes it stands; names stand where they may; at most 512 counted places are inside one
+/// What each error node of a reading holds, and in which nodes it stands; names stand where they may; at most 512 counted positions are inside one
 /// another, error nodes aside, and what is nested too deep is inside exactly 512.
 pub fn error_forms()
     ensures nodes { OfReadings (λ annotated faults. AreErrorNodes NODE_ROOT annotated) }

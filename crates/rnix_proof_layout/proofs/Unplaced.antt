@@ -1,4 +1,4 @@
--- Trees without the places of their tokens: what a reading asks of trees does not depend on places.
+-- Trees without the ranges of their tokens: what a reading asks of trees does not depend on ranges.
 use Rattle.std.proofs.Common.{◌≡◌, ℕ, List, Option, Some, None, refl, ap, sym, ◌∙◌, if◌then◌else◌, ◌&&◌, ◌||◌}
 use Rattle.rnix_kinds.specs.declared.kinds.SyntaxKind.{SyntaxKind}
 use Rattle.rnix_kinds.specs.declared.kinds.SyntaxKind.TheVariants.{NODE_LAMBDA}
@@ -38,7 +38,7 @@ unplaced_moved (branch k c f) ps =
 unplaced_moved (fault n c f) ps =
     ap (λ x. fault n x (unplaced (moved_trees f (past (tokens_in c) ps)))) (unplaced_moved c ps) ∙ ap (λ x. fault n (unplaced c) x) (unplaced_moved f (past (tokens_in c) ps))
 
--- what is the same of trees and of bare trees is the same of trees that differ in places alone
+-- what is the same of trees and of trees without ranges is the same of trees that differ in ranges alone
 pub alike : {A : Type 0} (F : AnnotatedForest → A) → ((x : AnnotatedForest) → F (unplaced x) ≡ F x) → (x y : AnnotatedForest) → unplaced x ≡ unplaced y → F x ≡ F y
 alike F h x y e = sym (h x) ∙ ap F e ∙ h y
 

@@ -1,4 +1,4 @@
--- The tokens from a place on.
+-- The tokens from an index on.
 use Rattle.std.proofs.Common.{◌≡◌, ℕ, zero, suc, ◌+◌, ◌-◌, ◌<◌, ◌≤◌, Bool, true, false, List, [], ◌∷◌, ◌++◌, take, drop, length, get_or, IsUtf8, Some, refl, ap}
 use Rattle.std.proofs.{Common.{sym, ◌∙◌, subst, arith, length-append, length-drop, drop-drop}, Math.{Nat.add-sub_cancel_left, Seq.take-append_seam}}
 use Rattle.std.proofs.{Math.Seq.drop-append_seam, lemmas.{List.{drop_all, Concat.flat_map-cons, Elements.{All-head, All-tail}}, Str.IsUtf8-nil}}
@@ -13,7 +13,7 @@ pub length-tokens_cut : (text : List ℕ) (n : ℕ) (ts : List TokenEnd) → len
 length-tokens_cut text n [] = refl
 length-tokens_cut text n (t ∷ ts) = ap suc (length-tokens_cut text t.end ts)
 
--- the token at a place within
+-- the token at an index within
 pub at_place : (text : List ℕ) (n : ℕ) (ts : List TokenEnd) (i : ℕ) (d : TokenEnd) → i < length ts
     → drop i (tokens_cut text n ts) ≡ token_cut text (start_of n i ts) (get_or ts i d) ∷ drop (suc i) (tokens_cut text n ts)
 at_place text n [] i d h = absurd (omega arith)
@@ -154,7 +154,7 @@ pub cut_in_order : (text : List ℕ) (n : ℕ) (ts : List TokenEnd) → AreEnds 
 cut_in_order text n [] e = tt
 cut_in_order text n (t ∷ ts) e = (omega arith, e.0, cut_in_order text t.end ts e.2)
 
--- tokens in order from a place are so from a place before it
+-- tokens in order from an offset are so from an offset before it
 pub in_order_from : (m n : ℕ) (ts : List Token) → m ≤ n → AreInOrder n ts → AreInOrder m ts
 in_order_from m n [] h o = tt
 in_order_from m n (t ∷ ts) h o = (omega (arith, o.0), o.1, o.2)

@@ -1,4 +1,4 @@
--- The end of a pattern's entry: it is told if an earlier entry has its name.
+-- The end of a pattern's entry: it is reported if an earlier entry has its name.
 use Rattle.std.proofs.Common.{◌≡◌, ℕ, Bool, true, false, List, [], ◌∷◌, ◌++◌, Option, Some, None, refl, ap, sym, ◌∙◌, subst, append-nil, if◌then◌else◌}
 use Rattle.{rnix_kinds.specs.declared.kinds.SyntaxKind.TheVariants.{NODE_PATTERN, NODE_PAT_ENTRY}, rnix_grammar.specs.Fault.{Fault, named_twice}}
 use Rattle.rnix_grammar.specs.{AnnotatedForest.{Token, AnnotatedForest, without_trivia, extent_of}, Reports.{entry_name, has_entry, repeated_if}, Machine.Head}
@@ -40,7 +40,7 @@ entry_there f g fs names names' again st e w c =
     let done = c.entered (entries_of (g ∷ fs)) t.text (extent_of (t ∷ [])) top_set.below top_set.set all top_set.all in
     record { entry = entry; pattern = pattern; name = t; named = begun.1; top_set = top_set; entered = done.0; entries = done.1; told = done.2 }
 
--- what is told
+-- what is reported
 reported_once : (b : Bool) (e : Fault) (f g : Frame) (fs : List Frame) (ts : List Token) (n : ℕ) (es : List Fault)
     → reported_if (if b then Some e else None) (erase (closed f (g ∷ fs) ts n es)) ≡ erase (closed f (g ∷ fs) ts n (es ++ (if b then e ∷ [] else [])))
 unfolding failed

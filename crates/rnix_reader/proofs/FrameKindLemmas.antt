@@ -1,4 +1,4 @@
--- Heads by the sorts of their places.
+-- Heads by the frame kinds of their positions.
 use Rattle.{std.proofs.Common.{◌≡◌, Bool, true, false, List, [], ◌∷◌, refl, ap, sym, ◌∙◌}, rnix_kinds.specs.declared.kinds.SyntaxKind.SyntaxKind}
 use Rattle.rnix_kinds.specs.declared.kinds.SyntaxKind.TheVariants.{NODE_ROOT, NODE_IDENT, NODE_CUR_POS, NODE_PATTERN, NODE_PAT_ENTRY}
 use Rattle.rnix_grammar.specs.{declared.position.Position.Position, AnnotatedForest.{Token, one_token, leaf_kind_as}, Machine.{Head, Node, SecondBind, Operand, Frame}}
@@ -39,24 +39,24 @@ node_not_second_bind : (k : SyntaxKind) → is_second_bind_frame (frame_kind_of_
 node_not_second_bind NODE_ROOT = refl
 node_not_second_bind k = refl
 
--- at a place behind an operand an operand is open
+-- at a position behind an operand an operand is open
 pub head_operand : (h : Head) → frame_kind_of_head h ≡ OperandFrame → h ≡ Operand
 head_operand (Node k) e = absurd (true_is_not_false (sym (ap is_operand_frame e) ∙ node_not_operand k))
 head_operand SecondBind e = cc
 head_operand Operand e = refl
 
--- at a place of a second name a second name is open
+-- at a position of a second name a second name is open
 pub head_second_bind : (h : Head) → frame_kind_of_head h ≡ SecondBindFrame → h ≡ SecondBind
 head_second_bind (Node k) e = absurd (true_is_not_false (sym (ap is_second_bind_frame e) ∙ node_not_second_bind k))
 head_second_bind SecondBind e = refl
 head_second_bind Operand e = cc
 
--- at a place of an entry an entry is open
+-- at a position of an entry an entry is open
 pub head_entry : (h : Head) → frame_kind_of_head h ≡ Entry → h ≡ Node NODE_PAT_ENTRY
 head_entry (Node NODE_PAT_ENTRY) e = refl
 head_entry _ e = cc
 
--- at a place of a pattern a pattern is open
+-- at a position of a pattern a pattern is open
 pub head_pattern : (h : Head) → frame_kind_of_head h ≡ Pattern → h ≡ Node NODE_PATTERN
 head_pattern (Node NODE_PATTERN) e = refl
 head_pattern _ e = cc
@@ -66,7 +66,7 @@ pub holds_entry : (s : FrameKind) → may_hold s Entry ≡ true → s ≡ Patter
 holds_entry Pattern e = refl
 holds_entry _ e = cc
 
--- a head stands at a place of its sort
+-- a head stands at a position of its frame kind
 pub head_sort : (head : Head) (position : Position) (fs : List Frame) → IsStackedOn head position fs → frame_kind_of_head head ≡ frame_kind position
 head_sort head position [] w = w.0
 head_sort head position (f ∷ fs) w = w.0

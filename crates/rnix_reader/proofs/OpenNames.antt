@@ -19,7 +19,7 @@ grow {f = f} {fs = fs} {names = names} after g q w = record {
   entries = w.entries ∙ ap (λ x. entries_of fs ++ named_by x) (sym (name_more f.head f.row g w.begun.0));
 }
 
--- a row goes on at another place
+-- a row goes on at another position
 pub moved_on : {f : Frame} {fs : List Frame} {names : Names} (after : Position) → AreNamed f fs names → AreNamed (put after f.row f) fs names
 moved_on after w = record { begun = w.begun; sets = w.sets; entries = w.entries }
 

@@ -62,7 +62,7 @@ module _ (f : Frame) (fs : List Frame) (ts : List Token) (n : ℕ) (names : Name
       let trivia = range_more names.second n n f.head f.row (trivia_before ts) [] begun v.range (ap tokens_in (without_trivia-trivia ts)) refl (omega arith) in
       goes (grow_behind after ts g none w) (range_more names.second n m f.head (with_leading true f.row ts) g run (begun_more f.head f.row (trivia_before ts) begun) trivia i r l) o
 
-  -- at a place behind an operand an operand is open
+  -- at a position behind an operand an operand is open
   loose : frame_kind f.position ≡ OperandFrame → f.head ≡ Operand
   loose e = head_operand f.head (head_sort f.head f.position fs v.fit ∙ e)
 

@@ -112,7 +112,7 @@ run_extent u s s' t range h off e r =
     let first : run_of u (items s.rest) ≡ t ∷ run_of u (tail_of (items s.rest)) = run_first u t (items s.rest) h off in
     r ∙ ap (λ x. let y : Extent = record { start = t.start; end = x } in y) (ap (λ x. x.prev_end) e ∙ reached_over u s ∙ ap (end_from s.prev_end) first) ∙ sym (ap extent_of first)
 
--- what is told of a token that begins no operand
+-- what is reported of a token that begins no operand
 pub stray_report : (t : Token) (range : Extent) (wanted : List SyntaxKind) → range ≡ record { start = t.start; end = t.end } → wanted ≡ operand_kinds
     → unwanted t.kind range wanted ≡ report StrayNote (t ∷ [])
 stray_report t range wanted r w = ap (λ x. unwanted t.kind x wanted) r ∙ ap (unwanted t.kind record { start = t.start; end = t.end }) w

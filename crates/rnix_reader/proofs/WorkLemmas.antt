@@ -46,7 +46,7 @@ begin_measure_full (p.Left i) e = slot_full (slot_at i) (sort_there i)
     slot_full (Some (Next r.Attr)) h = absurd (true_is_not_false (sym (ap is_plain h) ∙ e))
     slot_full _ h = refl
 
--- the places of frames
+-- the positions of frames
 abbrev pub places : List Frame → List Position
 places fs = map (λ (f : Frame). f.position) fs
 

@@ -32,7 +32,7 @@ abbrev pub AreBegun : List Frame → Type 0
 AreBegun [] = Unit {0}
 AreBegun (f ∷ fs) = IsBegun f.head f.row × AreBegun fs
 
--- a second name takes the bytes between two places
+-- a second name has the range between two offsets
 abbrev pub HasRange : ℕ → ℕ → Head → AnnotatedForest → Type 0
 HasRange start end SecondBind row = ((let x : Extent = record { start = start; end = end } in x) ≡ extent_of (tokens_in (without_trivia row))) × (start ≤ end)
 HasRange start end head row = Unit {0}
@@ -115,7 +115,7 @@ pub record IsReadTo (ts : List Token) (s : State) : Type 0 where
   pub nodes : s.open_nodes ≡ []
   pub faults : s.faults ≡ through.last.faults
 
--- the places of what is open, the innermost first
+-- the positions of what is open, the innermost first
 abbrev pub places_on : List Mark → List Position
 places_on [] = []
 places_on (m ∷ ms) = places_on ms ++ m.position ∷ []
@@ -130,12 +130,12 @@ abbrev pub begin_measure_at : List Token → Position → ℕ
 begin_measure_at [] x = 0
 begin_measure_at (t ∷ ts) x = begin_measure x
 
--- so it is at the innermost place
+-- so it is at the innermost position
 abbrev pub begin_measure_on : List Token → List Position → ℕ
 begin_measure_on ts [] = 0
 begin_measure_on ts (x ∷ xs) = begin_measure_at ts x
 
--- how much there is to do with some items at some places
+-- how much there is to do with some items at some positions
 abbrev pub cost : List Token → List Position → ℕ
 cost ts xs = 100 * length ts + measures xs + begin_measure_on ts xs
 

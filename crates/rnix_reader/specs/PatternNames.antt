@@ -56,7 +56,7 @@ pub record Entered (text : List ℕ) (below : List NameSet) (s : NameSet) (n' : 
   pub has : (other : List ℕ) → has_name other set ≡ has_with other text s
   pub sets : n'.sets.items ≡ below ++ set ∷ []
 
--- an entry is complete, and an error is told if it repeats a name
+-- an entry is complete, and an error is reported if it repeats a name
 pub record EntryClosed (again : Option Fault) (n n' : Names) : Type 0 where
   pub entered : (entries : List (List ℕ × Extent)) (text : List ℕ) (range : Extent) (below : List NameSet) (s : NameSet)
       → entries_in n ≡ entries ++ (text, range) ∷ [] → n.sets.items ≡ below ++ s ∷ []

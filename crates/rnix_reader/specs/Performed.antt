@@ -24,7 +24,7 @@ use Rattle.rnix_reader.specs.State.{State, items_left, IsNextItem, bumped, ended
 use Rattle.rnix_reader.specs.Steps.{moved_to, node_started, node_begun, leaf_node_made, entry_begun, second_begun, node_wrapped, or_applied, parameter_read, binding_read, operand_begun, node_operand_begun, lambda_begun, begins_with}
 use Rattle.rnix_reader.specs.Reported.{unwanted_reported, extra_reported, stray_reported, limit_reported, end_reported, second_reported}
 
--- an operand of a level begins with this token, inside so many counted places
+-- an operand of a level begins with this token, inside so many counted positions
 abbrev pub begun_as : Begin → ℕ → ℕ → Token → State → State
 begun_as (b.Leaf k) level d t s = leaf_node_made k (operand_begun (p.AfterOperand level selection_level) d s)
 begun_as (b.Node k left max_bp) level d t s = node_operand_begun k (p.Left left) (p.AfterOperand level max_bp) d s
@@ -72,7 +72,7 @@ performed a.Apply m second s =
     expression_read selection_level false m.depth (node_wrapped NODE_APPLY (p.Left APPLIED) (p.AfterOperand (min_bp_of m.position) application_level) m s)
 performed a.ApplyOr m second s = or_applied (p.AfterOperand (min_bp_of m.position) application_level) m s
 
--- an error is told, if there is one
+-- an error is reported, if there is one
 abbrev pub reported_if : Option Fault → State → State
 reported_if None s = s
 reported_if (Some e) s = failed e s
@@ -88,7 +88,7 @@ abbrev pub Performed : Action → Mark → State → Names → State → Names �
 Performed a.CloseEntry m s n s' n' = EntryReported s n s' n'
 Performed action m s n s' n' = s' ≡ performed action m n.second s
 
--- the action at a place
+-- the action at a position
 abbrev pub action_of : Position → State → Action
 action_of position s = action_at position (head_kind (items_left s)) (touches s.prev_end (items_left s))
 
@@ -126,7 +126,7 @@ abbrev pub opens_on : ℕ → List Token → Bool
 opens_on level [] = false
 opens_on level (t ∷ us) = opens_pattern (begins_with level t us)
 
--- an operand, counted by the limit or not, may begin with it inside so many counted places
+-- an operand, counted by the limit or not, may begin with it inside so many counted positions
 abbrev pub opens_in : ℕ → Bool → ℕ → State → Bool
 opens_in depth counted level s = if counted && nat_le depth_limit depth then false else opens_on level (items_left s)
 

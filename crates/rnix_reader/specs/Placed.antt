@@ -26,21 +26,21 @@ tokens_code =
 abbrev pub texts_in : List Token → List ℕ
 texts_in ts = flat_map (λ (t : Token). t.text) ts
 
--- the kinds and the ends of tokens, the first of which begins at a place
+-- the kinds and the ends of tokens, the first of which begins at an offset
 abbrev pub ends_from : ℕ → List Lexeme → List TokenEnd
 ends_from start [] = []
 ends_from start (l ∷ ls) = record { kind = l.0; end = start + length l.1 } ∷ ends_from (start + length l.1) ls
 
--- the token of a text that begins at a place, of a kind and an end
+-- the token of a text that begins at an offset, of a kind and an end
 abbrev pub token_cut : List ℕ → ℕ → TokenEnd → Token
 token_cut text start t = record { kind = t.kind; text = take (t.end - start) (drop start text); start = start; end = t.end }
 
--- the tokens of a text, of their kinds and ends, the first of which begins at a place
+-- the tokens of a text, of their kinds and ends, the first of which begins at an offset
 abbrev pub tokens_cut : List ℕ → ℕ → List TokenEnd → List Token
 tokens_cut text start [] = []
 tokens_cut text start (t ∷ ts) = token_cut text start t ∷ tokens_cut text t.end ts
 
--- where the token of a number begins, if the first begins at a place
+-- where the token of a number begins, if the first begins at an offset
 abbrev pub start_of : ℕ → ℕ → List TokenEnd → ℕ
 start_of start zero ts = start
 start_of start (suc i) [] = start
@@ -60,11 +60,11 @@ AreInOrder n (t ∷ ts) = (n ≤ t.start) × (t.start ≤ t.end) × AreInOrder t
 abbrev pub BeginsWithTrivia : Token → List Token → Type 0
 BeginsWithTrivia t ts = (ts ≡ t ∷ tail_of ts) × (is_trivia t.kind ≡ true)
 
--- the first item from a place on is at another
+-- the first item from an index on is at another
 abbrev pub IsItemFrom : List ℕ → List TokenEnd → ℕ → ℕ → Type 0
 IsItemFrom text ts from at = from_item (drop from (tokens_cut text 0 ts)) ≡ drop at (tokens_cut text 0 ts)
 
--- the tokens of the text from a place on are left, and the next item is at another
+-- the tokens of the text from an index on are left, and the next item is at another
 pub record IsCursor (text : List ℕ) (ts : List TokenEnd) (at next : ℕ) : Type 0 where
   pub ends : AreEnds text 0 ts
   pub item : IsItemFrom text ts at next

@@ -80,7 +80,7 @@ skipped run s = record {
   marks = s.marks;
 }
 
--- a node is opened at a place
+-- a node is opened at a checkpoint
 unfoldable pub started_at : ℕ → SyntaxKind → State → State
 started_at position k s = record {
   rest = s.rest;

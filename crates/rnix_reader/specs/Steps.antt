@@ -13,11 +13,11 @@ use Rattle.rnix_reader.specs.declared.mark.Mark.{Mark}
 use Rattle.rnix_reader.specs.State.{State, eaten, taken, bumped, started, started_here, started_at, ended, pushed}
 use Rattle.rnix_reader.specs.Erase.{mark_at}
 
--- what is open goes on at another place
+-- what is open goes on at another position
 abbrev pub moved_to : Position → Mark → State → State
 moved_to after m s = pushed (mark_at after m.depth m.at) s
 
--- a node is open behind the trees, and goes on at a place
+-- a node is open behind the trees, and goes on at a position
 abbrev pub node_here : SyntaxKind → Position → ℕ → State → State
 node_here k inside d s = pushed (mark_at inside d (tree_count s.trees)) (started_here k s)
 
@@ -77,14 +77,14 @@ lambda_begun over d s = node_started NODE_LAMBDA (Left LAMBDA) d (operand_begun 
 abbrev pub begins_with : ℕ → Token → List Token → Begin
 begins_with level t us = begin_of level t.kind t.text (head_kind us) (second_kind us)
 
--- the second item tells how an operand begins with this one
+-- how an operand begins with this item depends on the second
 abbrev pub looks_behind : SyntaxKind → Bool
 looks_behind TOKEN_IDENT = true
 looks_behind TOKEN_L_BRACE = true
 looks_behind TOKEN_LET = true
 looks_behind kind = false
 
--- the token `{`, with which the third item tells too
+-- the token `{`, with which it depends on the third too
 abbrev pub is_brace : SyntaxKind → Bool
 is_brace TOKEN_L_BRACE = true
 is_brace kind = false

@@ -79,7 +79,7 @@ fn token_ends(alloc: Global, tokens: Tokenizer<'_>) -> Result<Vec<TokenEnd>, All
     Ok(ends)
 }
 
-// Where the token at a place begins.
+// Where the token at an index begins.
 fn start_at(tokens: &[TokenEnd], at: usize) -> usize
     requires { at ≤ length tokens.now }
     ensures { result ≡ start_of 0 at tokens.now }
@@ -90,7 +90,7 @@ fn start_at(tokens: &[TokenEnd], at: usize) -> usize
     tokens[at - 1].end as usize
 }
 
-// The token of the text at a place.
+// The token of the text at an index.
 fn token_at<'t>(text: &'t str, tokens: &[TokenEnd], at: usize) -> Option<PlacedToken<'t>>
     requires { AreEnds text.now 0 tokens.now }
     ensures { option_map token_of result ≡ head_of (drop at (tokens_cut text.now 0 tokens.now)) }
@@ -108,7 +108,7 @@ fn token_at<'t>(text: &'t str, tokens: &[TokenEnd], at: usize) -> Option<PlacedT
     None
 }
 
-// Where the first item from a place on is.
+// Where the first item from an index on is.
 fn item_from(tokens: &[TokenEnd], from: usize) -> usize
     ensures { (text : List ℕ) → IsItemFrom text tokens.now from result }
 {
@@ -133,7 +133,7 @@ fn behind_item(tokens: &[TokenEnd], at: usize) -> usize
     at
 }
 
-// The kind of the token at a place.
+// The kind of the token at an index.
 fn kind_at(tokens: &[TokenEnd], at: usize) -> Option<SyntaxKind>
     ensures { (text : List ℕ) → result ≡ head_kind (drop at (tokens_cut text 0 tokens.now)) }
 {

@@ -86,7 +86,7 @@ impl<'t> Parser<'t> {
         Ok(position)
     }
 
-    /// Opens a node before the trees that were read from a place on.
+    /// Opens a node before the trees that were read since a checkpoint.
     #[tactic(auto, unfolding(crate::specs::State::started_at))]
     #[inline(always)]
     pub(crate) fn start_node_at(
@@ -129,7 +129,7 @@ impl<'t> Parser<'t> {
         Ok(())
     }
 
-    /// Pushes the mark of a node or an operand, to be continued at the place.
+    /// Pushes the mark of a node or an operand, to be continued at the position.
     #[tactic(auto, unfolding(crate::specs::State::pushed))]
     #[inline(always)]
     pub(crate) fn mark(
@@ -166,7 +166,7 @@ impl<'t> Parser<'t> {
         Ok(())
     }
 
-    /// The place after the trees that were read so far.
+    /// The checkpoint after the trees that were read so far.
     pub(crate) fn here(&self) -> Checkpoint
         ensures position { result ≡ tree_count (state self.now).trees }
     {

@@ -218,7 +218,7 @@ fn open_double_bind<'t>(
     Ok(())
 }
 
-// The loosest level of an operator that may continue an operand.
+// The lowest level of an operator that may continue an operand.
 fn min_bp_of(position: Position) -> u8
     ensures { result ≡ min_bp_of position }
 {
@@ -301,7 +301,7 @@ fn step<'t>(
     Ok(())
 }
 
-// Whether the place is behind an operand, and nothing goes on with it.
+// Whether the position is behind an operand, and nothing goes on with it.
 #[inline(always)]
 fn is_settled(position: Position, next: Option<SyntaxKind>) -> bool
     ensures { (touches : Bool) → result ≡ true → action_at position next touches ≡ EndOperand }
@@ -313,7 +313,7 @@ fn is_settled(position: Position, next: Option<SyntaxKind>) -> bool
     }
 }
 
-// The action at a place; the most frequent ones are found without the table.
+// The action at a position; the most frequent ones are found without the table.
 #[inline(always)]
 fn next_action(p: &Parser<'_>, position: Position) -> Action
     ensures { result ≡ action_of position (state p.now) }

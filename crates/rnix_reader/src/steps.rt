@@ -16,7 +16,7 @@ use rnix_kinds::SyntaxKind;
 use std::alloc::AllocError;
 
 impl<'t> Parser<'t> {
-    /// Continues what the mark stands for at another place.
+    /// Continues what the mark stands for at another position.
     #[inline(always)]
     pub(crate) fn go_on(&mut self, mark: Mark, after: Position) -> Result<(), AllocError>
         ensures state { OnOk result (state self.new ≡ moved_to after mark (state self.old)) }
@@ -25,7 +25,7 @@ impl<'t> Parser<'t> {
         self.mark(after, mark.depth, mark.at)
     }
 
-    /// Opens a node at the next item, to be continued at the place.
+    /// Opens a node at the next item, to be continued at the position.
     #[inline(always)]
     pub(crate) fn open_node(
         &mut self,
@@ -41,7 +41,7 @@ impl<'t> Parser<'t> {
         Ok(())
     }
 
-    /// Begins an operand at the next item, to be continued at the place.
+    /// Begins an operand at the next item, to be continued at the position.
     #[inline(always)]
     pub(crate) fn open_operand(&mut self, inside: Position, depth: usize) -> Result<(), AllocError>
         ensures { OnOk result (state self.new ≡ operand_begun inside depth (state self.old)) }

@@ -1,4 +1,4 @@
--- The errors of error nodes and of entries that repeat a name are of their elements: they have their ranges, and tell what these begin with.
+-- The errors of error nodes and of repeated entries are those of their elements: they have their ranges, and the kinds of the tokens that these begin with.
 use Rattle.std.proofs.Common.{◌≡◌, ℕ, ◌+◌, true, List, [], ◌∷◌, ◌++◌, length, Some, refl, ap, sym, ◌∙◌, arith, Bool, false, None, subst, append-nil}
 use Rattle.rnix_kinds.specs.{declared.kinds.SyntaxKind.{SyntaxKind, TheVariants.{NODE_ERROR, NODE_IDENT, NODE_PAT_ENTRY}}, SyntaxKind.is_trivia}
 use Rattle.{rnix_green.specs.{Forest.{text_of, node}, Tree.{Tree, Item, item, extent_of}}, rnix_grammar.specs.{Fault.Fault, AnnotatedForest.{Note, Stray}}}
@@ -66,7 +66,7 @@ name_node : (k : SyntaxKind) (c f : AnnotatedForest) (x : Token) → entry_name 
 name_node NODE_IDENT c f x h = (refl, h)
 name_node _ c f x h = none_some x h
 
--- a bare name with trivia is its token
+-- a name of a single token, with trivia, is that token
 pub data IsName (x : Token) : AnnotatedForest → Type 0 where
   name : (j : SyntaxKind) → IsName x (token j x blank)
 

@@ -1,4 +1,4 @@
--- What is read without an error and a corner is a derivation of its items.
+-- What is read without an error and an accepted extension is a derivation of its items.
 use Rattle.std.proofs.Common.{◌≡◌, ◌≤◌, ℕ, Bool, true, false, List, [], ◌∷◌, ◌++◌, refl, ap, sym, ◌∙◌, subst, append-nil, append_assoc, map, if◌then◌else◌}
 use Rattle.std.proofs.lemmas.List.{map-append}
 use Rattle.rnix_kinds.specs.declared.kinds.SyntaxKind.{SyntaxKind, TheVariants.{TOKEN_CUR_POS, TOKEN_IDENT, TOKEN_OR, NODE_CUR_POS, NODE_IDENT, NODE_ROOT}}
@@ -16,7 +16,7 @@ beyond_row (branch k c f) us h =
     rw (append_assoc (tokens_in c) (tokens_in f) us) (ap (beyond (forget f)) (beyond_row c (tokens_in f ++ us) h.2) ∙ beyond_row f us h.3)
 beyond_row (fault n c f) us h = absurd h
 
--- a row of bare trees, laid over its own tokens, is itself
+-- an error-free row, annotated with its own tokens, is itself
 pub annotate_row_same : (f : AnnotatedForest) (us : List Token) → AreErrorFreeRows f → annotate (forget f) (tokens_in f ++ us) ≡ f
 annotate_row_same blank us h = refl
 annotate_row_same (token k t f) us h = ap (token k t) (annotate_row_same f us h)

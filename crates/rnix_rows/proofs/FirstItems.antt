@@ -301,7 +301,7 @@ called_known (Argument · r) k c n ts a e x = by (is_or_row (one_branch k c)) re
     by false e l x = absurd (cc)
 called_known _ k c n ts a e x = absurd (true_is_not_false (sym a))
 
--- the level is told by the row alone but before an argument
+-- the level depends on the row alone, but before an argument
 level_alone : (q : Row) (x : AnnotatedForest) → is_argument q ≡ false → level_at q x ≡ level_at q blank
 level_alone (Argument · r) x h = absurd (true_is_not_false h)
 level_alone _ x h = refl

@@ -151,7 +151,7 @@ marked-row_of : (ts : List Token) → HaveFaultTokens (row_of ts)
 marked-row_of [] = tt
 marked-row_of (t ∷ ts) = marked-row_of ts
 
--- a row that is read is marked
+-- the error nodes of a row that is read have tokens
 pub reads_fault_tokens : {p : SyntaxKind} {d n : ℕ} {q q' : Row} {b : AnnotatedForest} {us : List Token} {f : AnnotatedForest} {es : List Fault}
     → Reads p d n q q' b us f es → HaveFaultTokens f
 reads_fault_tokens end = tt
@@ -186,7 +186,7 @@ fault_tokens_if : (x : Bool) (k : SyntaxKind) (t : Token) (f : AnnotatedForest) 
 fault_tokens_if true k t f h = h
 fault_tokens_if false k t f h = h
 
--- and a row is marked with its trivia as it is without
+-- so it is of a row with its trivia if it is of the row without
 pub fault_tokens_without_trivia : (f : AnnotatedForest) → HaveFaultTokens (without_trivia f) → HaveFaultTokens f
 fault_tokens_without_trivia blank h = tt
 fault_tokens_without_trivia (token k t f) h = fault_tokens_without_trivia f (fault_tokens_if (is_trivia t.kind) k t (without_trivia f) h)

@@ -31,7 +31,7 @@ run_leaf_kinds : (ts : List Token) → HaveLeafKinds NODE_ERROR (row_of ts)
 run_leaf_kinds [] = tt
 run_leaf_kinds (t ∷ ts) = (refl, run_leaf_kinds ts)
 
--- so each leaf is told in a row that is read
+-- so each leaf in a row that is read
 pub reads_leaf_kinds : {p : SyntaxKind} {d n : ℕ} {q q' : Row} {b : AnnotatedForest} {us : List Token} {f : AnnotatedForest} {es : List Fault}
     → Reads p d n q q' b us f es → HaveLeafKinds p f
 reads_leaf_kinds end = tt
@@ -103,7 +103,7 @@ run_names : (ts : List Token) → AreNamesSingleTokens (row_of ts)
 run_names [] = tt
 run_names (t ∷ ts) = run_names ts
 
--- the names of a row that is read are bare
+-- the names of a row that is read are single tokens
 pub reads_single_names : {p : SyntaxKind} {d n : ℕ} {q q' : Row} {b : AnnotatedForest} {us : List Token} {f : AnnotatedForest} {es : List Fault}
     → Reads p d n q q' b us f es → AreSpelled (tokens_in f) → AreNamesSingleTokens f
 reads_single_names end h = tt

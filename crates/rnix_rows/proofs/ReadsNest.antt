@@ -1,4 +1,4 @@
--- What is read nests no deeper than may be, error nodes aside, and what is nested too deep is inside as many counted places as may be.
+-- What is read nests no deeper than may be, error nodes aside, and what is nested too deep is inside as many counted positions as may be.
 use Rattle.std.specs.List.{list_all}
 use Rattle.std.{proofs.Common.{◌≡◌, ℕ, suc, ◌+◌, ◌<◌, ◌≤◌, Bool, true, false, List, [], ◌∷◌, ◌++◌, refl, ap, sym, ◌∙◌, subst, arith, max, ◌&&◌, if◌then◌else◌}}
 use Rattle.std.proofs.lemmas.Bool.{and_from}
@@ -14,12 +14,12 @@ use Rattle.rnix_lemmas.proofs.{ReachableRows.{IsKnown, is_viable, every_known, k
 use Rattle.rnix_lemmas.proofs.{ViableRows.{end_viable, later_viable, complete_has_row}}
 use Rattle.rnix_rows.proofs.{RowsWithoutAttrpath.{begins_with_child, missing_no_attrpath, HasNoNode, no_attrpath_row}, ReadsShapes.{AreErrorFreeRows, IsErrorFree}}
 
--- over what is nested too deep it is inside as many counted places as may be
+-- over what is nested too deep it is inside as many counted positions as may be
 wrong_limited : (n : Note) (d : ℕ) (q r : Row) (ts us : List Token) → IsWrong n d q r ts us → IsLimited d n
 wrong_limited TooDeep d q r ts us h = h.2
 wrong_limited _ d q r ts us h = tt
 
--- a row inside some counted places nests no deeper than may be, and what is nested too deep is inside as many as may be
+-- a row inside some counted positions nests no deeper than may be, and what is nested too deep is inside as many as may be
 abbrev Nests : ℕ → Row → AnnotatedForest → Type 0
 Nests d q f = (d + depth_of q f ≤ depth_limit) × AreLimited d q f
 
@@ -66,7 +66,7 @@ root_nest f es r = reads_nest r (known_row NODE_ROOT) refl (omega arith)
 pub reads_shallow : (f : AnnotatedForest) (es : List Fault) → ReadsRoot f es → depth_of (row NODE_ROOT) f ≤ depth_limit
 reads_shallow f es r = let w : 0 + depth_of (row NODE_ROOT) f ≤ depth_limit = (root_nest f es r).0 in omega (arith, w)
 
--- what is nested too deep in it is inside as many counted places as may be
+-- what is nested too deep in it is inside as many counted positions as may be
 pub reads_limited : (f : AnnotatedForest) (es : List Fault) → ReadsRoot f es → AreLimited 0 (row NODE_ROOT) f
 reads_limited f es r = (root_nest f es r).1
 

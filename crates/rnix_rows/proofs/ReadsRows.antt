@@ -93,7 +93,7 @@ lost_by {q = q} {r = r} {q0 = q0} {f = f} k0 k m l n s w = by (needs_token q) re
     by false o h =
         ap (λ ks. may_end (after_all q0 ks)) (final_rest s (known_missing l k) w (final r h.1) n) ∙ m.ends ∙ not_if (may_end q) h.0
 
--- nodes that are not whole, and errors of the end; in a pattern the last name may miss an end that the node around the pattern misses too
+-- nodes that are incomplete, and errors of the end; in a pattern the last name may miss an end that the node around the pattern misses too
 pub record Counts (m n : ℕ) (OperandFrame : Type 0) : Type 0 where
   pub few : m ≤ n
   pub none : m ≡ 0 → (n ≡ 0) ⊎ OperandFrame
@@ -107,7 +107,7 @@ ended_count-++ (e ∷ es) fs = let h : ended_count (es ++ fs) ≡ ended_count es
 lost_counted : (e : Fault) (es : List Fault) → is_ended e ≡ true → ended_count (e ∷ es) ≡ 1 + ended_count es
 lost_counted e es h = ap (λ x. (if x then 1 else 0) + ended_count es) h
 
--- a patch is whole
+-- a repair is complete
 incomplete_repair : (n : Note) (f : Forest) → incomplete (repair n f) ≡ incomplete f
 incomplete_repair Stray f = omega arith
 incomplete_repair _ f = first_of (omega arith, assumption, cc)
@@ -121,11 +121,11 @@ ended_or (e ∷ es) = by_first (is_ended e) refl (ended_or es)
     by_first true h w = inr (inl h)
     by_first false h w = elim w [ inl n ↦ inl (ap (λ x. (if x then 1 else 0) + ended_count es) h ∙ omega (arith, n)) | inr n ↦ inr (inr n) ]
 
--- calm errors are none of them
+-- errors that are neither of the end nor of a misplaced token are none of them
 neither_count : (es : List Fault) → NeitherEndNorMisplaced es → ended_count es ≡ 0
 neither_count es h = elim (ended_or es) [ inl n ↦ n | inr n ↦ absurd (h.ended n) ]
 
--- how far a repaired row is from whole
+-- how far a repaired row is from complete
 abbrev pub half : Bool → ℕ
 half w = if w then 0 else 1
 
@@ -133,7 +133,7 @@ half w = if w then 0 else 1
 same_counts : {m m' n n' : ℕ} {L : Type 0} → m ≡ m' → n ≡ n' → Counts m n L → Counts m' n' L
 same_counts {m = m} {m' = m'} {n = n} {n' = n'} {L = L} e h c = subst (λ (x : ℕ). Counts x n' L) e (subst (λ (x : ℕ). Counts m x L) h c)
 
--- the nodes that are not whole are no more than the errors of the end, and are some where these are
+-- the nodes that are incomplete are no more than the errors of the end, and are some where these are
 pub reads_counts : {p : SyntaxKind} {d n : ℕ} {q q' : Row} {b : AnnotatedForest} {us : List Token} {f : AnnotatedForest} {es : List Fault} (q0 : Row)
     → Reads p d n q q' b us f es → may_end q' ≡ true → IsKnown p q0 → IsKnown p q → Simulates q0 q → AreErrorNodes p f
     → Counts (half (may_end (after_all q0 (kinds_of (repaired f)))) + incomplete (repaired f)) (ended_count es) ((p ≡ NODE_PATTERN) × (us ≡ []))

@@ -103,7 +103,7 @@ repaired_none (token k t f) r = ap (leaf_in k t.text) (repaired_none f r)
 repaired_none (branch k c f) r = ap (λ x. node k x (repaired f)) (repaired_none c r.2) ∙ ap (node k (forget c)) (repaired_none f r.3)
 repaired_none (fault n c f) r = absurd r
 
--- where every node has its row all are whole
+-- where every node has its row all are complete
 pub incomplete_none : (f : AnnotatedForest) → AreErrorFreeRows f → incomplete (forget f) ≡ 0
 incomplete_none (token k t f) r = incomplete_none f r
 incomplete_none (branch k c f) r =

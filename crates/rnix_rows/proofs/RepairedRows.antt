@@ -114,13 +114,13 @@ run_simulates {i} q r ks n h =
 pub second_simulates : Simulates (BoundAlready · done) done
 second_simulates = record { goes = λ k l. absurd (true_is_not_false (sym l)); ends = refl; needs = λ o. absurd (true_is_not_false (sym o)) }
 
--- behind an error node, and its patch
+-- behind an error node, and its repair
 abbrev pub after_repair : Note → Row → Row
 after_repair Stray q = after q NODE_LITERAL
 after_repair TooDeep q = after q NODE_LITERAL
 after_repair n q = q
 
--- a row goes on behind a patch
+-- a row goes on behind a repair
 pub after_repair_all : (n : Note) (q : Row) (f : Forest) → after_all q (kinds_of (repair n f)) ≡ after_all (after_repair n q) (kinds_of f)
 after_repair_all Stray q f = refl
 after_repair_all _ q f = cc
@@ -130,7 +130,7 @@ known_after_repair Stray k = known_after NODE_LITERAL k
 known_after_repair TooDeep k = known_after NODE_LITERAL k
 known_after_repair _ k = k
 
--- a patch pays no token
+-- a repair pays no token
 pub needs_token_after_repair : {i : SyntaxKind} (n : Note) (q : Row) → IsKnown i q → needs_token q ≡ true → needs_token (after_repair n q) ≡ true
 needs_token_after_repair Stray q k o = needs_token_goes q NODE_LITERAL k o refl
 needs_token_after_repair TooDeep q k o = needs_token_goes q NODE_LITERAL k o refl
@@ -140,7 +140,7 @@ needs_token_after_repair _ q k o = o
 literal_simulates : {q0 q r : Row} → Simulates q0 q → after q NODE_LITERAL ≡ r → is_viable r ≡ true → Simulates (after q0 NODE_LITERAL) r
 literal_simulates {q0 = q0} {r = r} m g l = simulates_same (after q0 NODE_LITERAL) r (m.goes NODE_LITERAL (ap is_viable g ∙ l) ∙ g)
 
--- behind the patch of an error node the same goes on as behind the error node
+-- behind the repair of an error node the same goes on as behind the error node
 pub wrong_simulates : {i : SyntaxKind} (note : Note) (d : ℕ) (q0 q r : Row) (ts us : List Token) → IsKnown i q → IsWrong note d q r ts us → is_viable r ≡ true
     → Simulates q0 q
     → Simulates (after_repair note q0) r

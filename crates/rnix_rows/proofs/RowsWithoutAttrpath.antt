@@ -114,7 +114,7 @@ pub same_true : (v w : Bool) → v ≡ w → is_same v w ≡ true
 same_true true w e = sym e
 same_true false w e = ap (λ z. if z then false else true) (sym e)
 
--- elsewhere the next item is asked for, and neither the level of an operand nor what is expected is told by the tree
+-- elsewhere the next item is asked for, and neither the level of an operand nor what is expected depends on the tree
 abbrev Asks : Row → Type 0
 Asks q = ((n : ℕ) (own : Bool) → IsExpected q n [] own → expects_end q ≡ own) × ((x : AnnotatedForest) → level_at q x ≡ level_at q blank)
     × ((k : SyntaxKind) (c : AnnotatedForest) → is_first_expected q k c ≡ is_first_expected q k blank)

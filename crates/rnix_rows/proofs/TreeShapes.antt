@@ -1,4 +1,4 @@
--- The shape of a whole tree, with its trivia; a tree reports what its items report, where no error node begins or ends with trivia.
+-- The shape of a complete tree, with its trivia; a tree reports what its items report, where no error node begins or ends with trivia.
 use Rattle.std.proofs.Common.{◌≡◌, ◌↔◌, ℕ, Bool, true, false, List, [], ◌∷◌, ◌++◌, Option, Some, None, refl, ap, sym, ◌∙◌, subst, if◌then◌else◌, ◌&&◌, bytes_eq}
 use Rattle.rnix_kinds.specs.declared.kinds.SyntaxKind.{SyntaxKind, TheVariants.{NODE_ROOT, NODE_ERROR, NODE_IDENT, NODE_PAT_BIND, NODE_PAT_ENTRY}}
 use Rattle.{rnix_kinds.specs.SyntaxKind.is_trivia, rnix_green.specs.Forest.Forest, rnix_grammar.specs.{Fault.{Fault, named_twice}, AnnotatedForest.Token}}
@@ -13,11 +13,11 @@ use Rattle.rnix_lemmas.proofs.{Basics.{true_is_not_false, none_left, none_right}
 use Rattle.rnix_lemmas.proofs.{AnnotatedForestLemmas.⊕-blank, LayoutLemmas.without_trivia-⊕, ReportLemmas.{without_trivia_tokens, same_report}}
 use Rattle.rnix_rows.proofs.{WithTriviaEdges.remapped_is_trivia, ReadsShapes.{is_item_bind_formed, are_item_binds_formed, AreErrorFreeRows, IsErrorFree, root_rows}}
 
--- whether a leaf is trivia, its token tells
+-- a leaf is trivia exactly if its token is
 leaf_trivia : (p k : SyntaxKind) (t : Token) → k ≡ leaf_kind p t → is_trivia t.kind ≡ is_trivia k
 leaf_trivia p k t e = sym (ap is_trivia e ∙ remapped_is_trivia p t.kind)
 
--- what is told of a row by its first tree that is no trivia, or by all of these
+-- what depends on the first tree of a row that is no trivia, or by all of these
 by_leaf : {A : Type 0} (x : Bool) (k : SyntaxKind) (t : Token) (f : AnnotatedForest) (h : AnnotatedForest → A) (a b : A) → h f ≡ a → h (token k t f) ≡ b
     → h (token_if x k t f) ≡ (if x then a else b)
 by_leaf true k t f h a b e g = e

@@ -1,4 +1,4 @@
--- What is so of a whole text's trees, where their items and the tokens tell where the trivia stand, and if its items stand.
+-- What is so of a whole text's trees, where their items and the tokens determine where the trivia are, and if its items stand.
 use Rattle.std.proofs.Common.{◌≡◌, true, List, [], ◌++◌, ap, sym, ◌∙◌, append-nil, subst}
 use Rattle.{rnix_kinds.specs.{declared.kinds.SyntaxKind.{SyntaxKind, TheVariants.NODE_ROOT}, Lexical.Tokens.Lexeme}, rnix_green.specs.Tree.Tree}
 use Rattle.rnix_grammar.specs.{Fault.Fault, AnnotatedForest.{Token, AnnotatedForest, tokens_in, without_trivia, placed_from, HaveLeafKinds, forget}}
@@ -27,7 +27,7 @@ with_all_trivia_tokens f ts e =
 pub with_all_trivia_leaf_kinds : (p : SyntaxKind) (f : AnnotatedForest) (ts : List Token) → HaveLeafKinds p f → HaveLeafKinds p (with_all_trivia f ts)
 with_all_trivia_leaf_kinds p f ts h = leaf_kind-⊕ p (with_trivia f ts) (trivia_before (left_after f ts)) (with_trivia_leaf_kinds p f ts h) (trivia_leaf_kinds p (left_after f ts))
 
--- rows over the same tokens, each with its trivia where its items and the tokens tell it, are the same where they have the same items
+-- rows over the same tokens, each with its trivia where its items and the tokens determine it, are the same where they have the same items
 pub with_trivia_same : (f g : AnnotatedForest) (ts : List Token) → f ≡ with_all_trivia (without_trivia f) ts → g ≡ with_all_trivia (without_trivia g) ts
     → without_trivia f ≡ without_trivia g → f ≡ g
 with_trivia_same f g ts d e h = d ∙ ap (λ x. with_all_trivia x ts) h ∙ sym e

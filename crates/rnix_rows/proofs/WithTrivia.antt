@@ -1,4 +1,4 @@
--- Where the trivia of the open rows stand is told by their items and the tokens.
+-- Where the trivia of the open rows are is determined by their items and the tokens.
 use Rattle.std.proofs.Common.{◌≡◌, ℕ, suc, Bool, true, false, List, [], ◌∷◌, ◌++◌, Option, refl, sym, ap, ◌∙◌, subst, if◌then◌else◌, nat_le}
 use Rattle.rnix_kinds.specs.declared.kinds.SyntaxKind.{SyntaxKind, TheVariants.{NODE_ERROR, NODE_IDENT, NODE_IDENT_PARAM, NODE_APPLY, NODE_LEGACY_LET}}
 use Rattle.rnix_grammar.specs.declared.{position.Position.Position, slot_table.TheConstants.APPLIED}

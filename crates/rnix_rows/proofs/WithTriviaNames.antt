@@ -31,7 +31,7 @@ single_token_with_trivia blank ts h = refl
 single_token_with_trivia (token k t blank) ts h = rw (trivia-from_item ts) refl
 single_token_with_trivia _ ts h = absurd (true_is_not_false (sym h))
 
--- the names of a row with its trivia are bare
+-- the names of a row with its trivia are single tokens
 pub with_trivia_names : (f : AnnotatedForest) (ts : List Token) → AreNamesSingleTokens f → AreNamesSingleTokens (with_trivia f ts)
 with_trivia_names blank ts h = tt
 with_trivia_names (token k t f) ts h = let rest : List Token = tail_of (from_item ts) in bare-⊕ (trivia_before ts) (token k t (with_trivia f rest)) (trivia_names ts) (with_trivia_names f rest h)

@@ -1,4 +1,4 @@
--- A text that is read without errors of its end, repeated names and corners is an expression of the strict grammar, once its errors are repaired.
+-- A text that is read without errors of its end, repeated names and accepted extensions is an expression of the strict grammar, once its errors are repaired.
 use Rattle.std.proofs.Common.{◌≡◌, true, Some, None, Option, refl, ap, sym, ◌∙◌, subst, ℕ, Bool, false, List, [], ◌∷◌, ◌++◌, if◌then◌else◌, ◌&&◌, ◌||◌, ◌+◌}
 use Rattle.std.{proofs.{Common.arith, lemmas.Bool.and_parts}, specs.Str.bytes_eq}
 use Rattle.rnix_kinds.specs.{declared.kinds.SyntaxKind.{SyntaxKind, TheVariants.{TOKEN_OR, NODE_PAT_ENTRY, NODE_ROOT}}, SyntaxKind.{is_fn_arg}}
@@ -94,7 +94,7 @@ skips Extra d q r ts us w = w.2
 skips DoubleBind d q r ts us w = absurd w
 skips _ d q r ts us w = tt
 
--- the corners of a row behind an error node
+-- the accepted extensions of a row behind an error node
 extensions_behind : (m : Note) (k : SyntaxKind) (f : Forest) → has_no_extension k (repair m f) ≡ true → has_no_extension k f ≡ true
 extensions_behind Stray k f h = h
 extensions_behind _ k f h = assumption
@@ -163,7 +163,7 @@ none_counted (e ∷ es) h = by (is_ended e) refl h (none_counted es)
     by true m n more = absurd (omega (arith, n))
     by false m n more = (m, more (omega (arith, n)))
 
--- the repaired tree of a text is an expression, if no error is of its end or of a repeated name, and no tree is a corner
+-- the repaired tree of a text is an expression, if no error is of its end or of a repeated name, and no tree is an accepted extension
 one_expression : {g : Forest} → View NODE_ROOT (row NODE_ROOT) g → IsExpression g
 one_expression (stands a ends) = expression (a refl)
 

@@ -19,7 +19,7 @@ are_entries_new names (leaf k t f) = are_entries_new names f
 are_entries_new names (node K.NODE_PAT_ENTRY c f) = if is_among (entry_text c) names then false else are_entries_new (entry_text c ∷ names) f
 are_entries_new names (node k c f) = are_entries_new names f
 
--- the tightest level of a node in the grammar: that of its row, but a lambda is as loose as can be
+-- the highest level of a node in the grammar: that of its row, but a lambda is as loose as can be
 abbrev pub tightest : SyntaxKind → AnnotatedForest → ℕ
 tightest K.NODE_LAMBDA c = expression_level
 tightest k c = level_of k c

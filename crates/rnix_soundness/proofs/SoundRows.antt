@@ -131,7 +131,7 @@ named_value q k c plain h = by k (only_token c) plain (allowed_named q k c h)
     by NODE_CUR_POS (Some t) plain h = h
     by k (Some t) plain h = refl
 
--- a tree that is no corner stands at each level at which it binds
+-- a tree that is no accepted extension stands at each level at which it binds
 bounded : (parent k : SyntaxKind) (c : AnnotatedForest) (g : Forest) (n : ℕ) → n ≤ level_of k c → (if is_extension parent k g then false else true) ≡ true
     → (nat_eq n 0 || holds_no_lambda parent) ≡ true → n ≤ tightest k c
 bounded parent NODE_LAMBDA c g n l m o = ⊎_elim (λ e. grind (arith, nat_tests, e))

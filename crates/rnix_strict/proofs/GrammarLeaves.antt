@@ -1,4 +1,4 @@
--- The leaves of an expression of the strict grammar are tokens, and none of its trees is a corner.
+-- The leaves of an expression of the strict grammar are tokens, and none of its trees is an accepted extension.
 use Rattle.std.{proofs.{Common.{◌≡◌, ℕ, ◌≤◌, Bool, true, false, List, refl, ap, ◌∙◌, arith}, lemmas.Bool.{and_from, Decides.nat_tests}}}
 use Rattle.std.proofs.Common.{◌&&◌, if◌then◌else◌, nat_le}
 use Rattle.rnix_kinds.specs.declared.kinds.SyntaxKind.{SyntaxKind, TheVariants.{NODE_DYNAMIC, NODE_LAMBDA, NODE_LIST, NODE_PATTERN, NODE_ROOT, NODE_STRING}}
@@ -9,7 +9,7 @@ use Rattle.rnix_grammar.specs.{Extensions.{has_no_extension, holds_no_lambda, is
 use Rattle.rnix_grammar.specs.{Levels.{expression_level, left_of, right_of}, Rows.{is_infix, is_plain_literal}, TokenKinds.is_path_piece}
 use Rattle.rnix_grammar.specs.Grammar as G
 
--- a row below a node whose leaves are tokens, and none of whose trees is a corner
+-- a row below a node whose leaves are tokens, and none of whose trees is an accepted extension
 pub record IsFine (parent : SyntaxKind) (f : Forest) : Type 0 where
   pub tokens : has_tokens_alone f ≡ true
   pub extension : has_no_extension parent f ≡ true
@@ -27,7 +27,7 @@ node_first n c f = record { tokens = and_from _ _ c.tokens f.tokens; extension =
 one_token : {parent k : SyntaxKind} {t : List ℕ} → is_token k ≡ true → IsFine parent (leaf k t empty)
 one_token i = token_first i fine_end
 
--- a lambda stands at the loosest level alone, and an interpolation as an attribute at none
+-- a lambda stands at the lowest level alone, and an interpolation as an attribute at none
 no_lambda : {c : Forest} → G.Atom NODE_LAMBDA c → ⊥
 no_lambda h = elim h [ ]
 
@@ -170,6 +170,6 @@ mutual
   formal_fine (G.entry o) = name_first fine_end
   formal_fine (G.default_entry o h) = name_first (token_first refl (operand refl h (strict_fine h) fine_end))
 
--- an expression has tokens alone as leaves, and no corner
+-- an expression has tokens alone as leaves, and no accepted extension
 pub expression_fine : {f : Forest} → G.IsExpression f → IsFine NODE_ROOT f
 expression_fine (G.expression h) = operand refl h (strict_fine h) fine_end

@@ -23,7 +23,7 @@ same_end here s u v = stays u s
 same_end (further r) here u v = sym (stays v (further r))
 same_end (further r) (further s) u v = same_end r s u v
 
--- the root's row is whole, with one tree
+-- the root's row is complete, with one tree
 abbrev pub root_end : ℕ
 root_end = suc ROOT
 
@@ -62,7 +62,7 @@ all_read (suc m) = by (all_read m)
     by : AllRows m × Trees m → AllRows (suc m) × Trees (suc m)
     by w = (λ k d n x s b us f es i h l. row_next m w.0 w.1 x i refl h.reads h.short l, tree_runs m w.0 w.1)
 
--- the root's row ends at one place
+-- the root's row ends at one position
 text_ends : (i : ℕ) → Where (is_text_end (left_at i)) (i ≡ root_end)
 text_ends = each_index (λ i. Where (is_text_end (left_at i)) (i ≡ root_end)) (assumption) (λ i e d. subst (λ ss. Where (is_text_end (left_in ss)) (i ≡ root_end)) (sym d) tt)
 

@@ -1,4 +1,4 @@
--- What is done at each place of a row is the one thing that a reading may have there: this is one table of tests, beside PlaceTable.
+-- What is done at each position of a row is the one thing that a reading may have there: this is one table of tests, beside ActionTable.
 use Rattle.std.proofs.Common.{◌≡◌, ℕ, Bool, true, false, ◌&&◌, ◌||◌, List, [], ◌∷◌, Option, Some, None, refl, ap, sym, ◌∙◌, subst, if◌then◌else◌}
 use Rattle.{std.{proofs.lemmas.Bool.and_parts, specs.{List.{list_all, list_any}, Prelude.drop}}, rnix_kinds.proofs.AllKinds.{all_kinds, every}}
 use Rattle.rnix_kinds.specs.declared.kinds.SyntaxKind.{SyntaxKind, TheVariants.{NODE_BIN_OP, NODE_ERROR, NODE_IDENT, NODE_LITERAL, NODE_PAT_ENTRY, NODE_ROOT}}
@@ -13,7 +13,7 @@ use Rattle.rnix_uniqueness.proofs.ViableReadings.{is_viable, as_expected}
 use Rattle.rnix_grammar.specs.declared.position.Position.TheVariants as p
 use Rattle.rnix_grammar.specs.declared.action.Action.TheVariants as a
 
--- a place of the row of a node of a kind, where the reader waits
+-- a position of the row of a node of a kind, where the reader waits
 abbrev pub is_at : SyntaxKind → Position → Bool
 is_at k (p.Left i) = same_kind (kind_at i) k && is_waiting (left_at i)
 is_at k (p.AfterOperand min_bp max_bp) = false
@@ -33,11 +33,11 @@ goal (a.DoubleBind y) = y
 goal (a.Read level counted y) = y
 goal action = 0
 
--- that is a place of the row of a node of a kind
+-- that is a position of the row of a node of a kind
 abbrev pub lands : SyntaxKind → Action → Bool
 lands k action = is_at k (p.Left (goal action))
 
--- this is done, and leads to a place of the row of a node of a kind where that is left of it
+-- this is done, and leads to a position of the row of a node of a kind where that is left of it
 abbrev pub LeadsTo : SyntaxKind → Row → (ℕ → Action) → Action → Type 0
 LeadsTo k r to action = (action ≡ to (goal action)) × (left_at (goal action) ≡ r) × (is_at k (p.Left (goal action)) ≡ true)
 
@@ -233,7 +233,7 @@ left_done i touch next h =
           every_next (λ next. by_node (kind_at i) (left_at i) touch j next (left_action i next touch)) (asked (is_viable (row j)) _ (asked (is_viable (after (left_at i) j)) _ nodes l) o) next;
     }
 
--- so at each place of a row
+-- so at each position of a row
 pub done_at : (k : SyntaxKind) (x : Position) (touch : Bool) (next : Option SyntaxKind) → is_at k x ≡ true → IsDone k (rest_at x) touch next (action_at x next touch)
 done_at k (p.Left i) touch next h =
     let w = and_parts (same_kind (kind_at i) k) (is_waiting (left_at i)) h in
@@ -260,7 +260,7 @@ pub other_item : {k : SyntaxKind} {r : Row} {touch : Bool} {next : Option Syntax
     → by_item k r next action ≡ true
 other_item {k} {r} {action = action} w o = (and_parts (asks (may_end r) (is_ending k action)) _ (other_end w o)).1
 
--- what is left at such a place begins with no child that is there whenever the node is
+-- what is left at such a position begins with no child that is there whenever the node is
 waiting_left : (r : Row) → is_waiting r ≡ true → is_left r ≡ true
 waiting_left never h = refl
 waiting_left _ h = h
@@ -274,7 +274,7 @@ left_at_place k (p.Left i) h = waiting_left (left_at i) (and_parts (same_kind (k
 left_at_place k (p.AfterOperand min_bp max_bp) h = absurd (true_is_not_false (sym h))
 left_at_place k (p.Right level) h = refl
 
--- the next item is expected at a place as a reading says
+-- the next item is expected at a position as a reading says
 pub next_is : (k : SyntaxKind) (x : Position) (n : ℕ) (ts : List Token) (own : Bool) → is_at k x ≡ true → IsExpected (rest_at x) n ts own
     → expects_next (rest_at x) (touches n ts) (head_kind ts) ≡ own
 next_is k x n ts own h o = sym (expects_at (rest_at x) n ts) ∙ as_expected (rest_at x) (left_at_place k x h) n ts own o

@@ -77,7 +77,7 @@ begins_with_item NODE_LAMBDA = false
 begins_with_item NODE_LEGACY_LET = false
 begins_with_item k = is_expression k
 
--- the tightest level behind a node that begins with an item of a kind
+-- the highest level behind a node that begins with an item of a kind
 abbrev max_bp_at : SyntaxKind → SyntaxKind → ℕ
 max_bp_at NODE_UNARY_OP TOKEN_INVERT = 8
 max_bp_at NODE_UNARY_OP i = 13
@@ -125,7 +125,7 @@ begin_for NODE_PATTERN TOKEN_IDENT = b.BoundLambda
 begin_for NODE_PATTERN i = b.PatternLambda
 begin_for k i = b.Stray
 
--- what begins no such expression is told by the kind of the first tree
+-- what begins no such expression is known by the kind of the first tree
 special : (i k : SyntaxKind) (begin : Begin) → begins_with_item k ≡ false → kind_of begin ≡ k → BegunBy i begin → begin ≡ begin_for k i
 special i k (b.Leaf j) h e w = absurd (true_is_not_false (sym w.0 ∙ ap begins_with_item e ∙ h))
 special i k (b.Node j z max_bp) h e w = absurd (true_is_not_false (sym w.0 ∙ ap begins_with_item e ∙ h))
@@ -143,7 +143,7 @@ begins_special k h level t ts e =
     let s = special t.kind k begin h e w in
     (s, subst (BegunBy t.kind) s w, ap kind_of (sym s) ∙ e)
 
--- how an expression that begins with an item does so: it is the item, or a node that goes on at a place
+-- how an expression that begins with an item does so: it is the item, or a node that goes on at a position
 pub data BegunByItem (k i : SyntaxKind) (begin : Begin) : Type 0 where
   led_leaf : begin ≡ b.Leaf k → after (row_of_kind k) (leaf_kind_as k i) ≡ done → is_atom k ≡ true → BegunByItem k i begin
   led_node : (z max_bp : ℕ) → begin ≡ b.Node k z max_bp → after (row_of_kind k) (leaf_kind_as k i) ≡ left_at z → is_at k (p.Left z) ≡ true → max_bp_at k i ≡ max_bp → BegunByItem k i begin

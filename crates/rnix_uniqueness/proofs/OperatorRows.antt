@@ -47,7 +47,7 @@ leading {m} {k} {d} {n} {q} {us} {test} trees w dead more r = by r
         subst (λ v. ReadsTree d n (tokens_in c ++ tokens_in f) (one_branch k (branch j c f)) us (v ++ es)) (sym (ap (λ v. ds ++ v) (unreported j blank c fit) ∙ append-nil ds))
         (more (tokens_in c) (one_branch j c) f ds es a_node tree (complete_to (behind j l) refl r'))
 
--- a node whose row begins with a tree and an item, which leads to a place
+-- a node whose row begins with a tree and an item, which leads to a position
 record Joins (k : SyntaxKind) (q : Row) (test : SyntaxKind → Bool) (z : SyntaxKind → Position) (max_bp : SyntaxKind → ℕ) : Type 0 where
   begins : BeginsWithTree k q test
   known : (is_error k ≡ false) × (is_inner k ≡ true) × (is_closed k ≡ true) × (has_no_node_next q ≡ true) × (is_firm q ≡ true)

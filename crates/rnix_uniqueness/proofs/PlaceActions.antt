@@ -1,4 +1,4 @@
--- What is done at a place of a row, by what a reading has there.
+-- What is done at a position of a row, by what a reading has there.
 use Rattle.std.proofs.Common.{◌≡◌, ◌⊎◌, inl, inr, ℕ, ◌<◌, Bool, true, false, ◌&&◌, ◌||◌, List, [], ◌∷◌, ◌++◌, Option, Some, None, refl, ap, sym, ◌∙◌, subst}
 use Rattle.{std.proofs.{Common.{arith, if◌then◌else◌, nat_le}, lemmas.Bool.{and_parts, Decides.nat_tests}}, rnix_kinds.proofs.AllKinds.implied}
 use Rattle.rnix_kinds.specs.declared.kinds.SyntaxKind.{SyntaxKind, TheVariants.{NODE_IDENT, NODE_LITERAL, NODE_PAT_ENTRY, TOKEN_AT, TOKEN_IDENT}}
@@ -54,7 +54,7 @@ reads_none : (level : ℕ) (z : Position) (h : Head) (d n : ℕ) (b : AnnotatedF
 reads_none level z h d n b fs gs true e l = absurd (grind (arith, nat_tests, e, l))
 reads_none level z h d n b fs gs false e l = refl
 
--- where the text ends at a place, what is missing is reported, and this is left of the row
+-- where the text ends at a position, what is missing is reported, and this is left of the row
 pub record Misses (k : SyntaxKind) (r : Row) (d : ℕ) (e : Fault) (action : Action) : Type 0 where
   pub rest : left_at (goal action) ≡ r
   pub here : is_at k (p.Left (goal action)) ≡ true
@@ -190,12 +190,12 @@ same_answer true w e = sym e
 same_answer false true e = absurd (true_is_not_false (sym e))
 same_answer false false e = refl
 
--- how a node that stands at a place is read: as an operand, or by its kind
+-- how a node that stands at a position is read: as an operand, or by its kind
 abbrev pub NodeRead : SyntaxKind → Position → Option SyntaxKind → SyntaxKind → Action → Type 0
 NodeRead q x next k action =
     ((w : Operands q (rest_at x) (after (rest_at x) k) action) × (fits w.level k ≡ true)) ⊎ (HasNoOperand (rest_at x) × IsNode k q (after (rest_at x) k) next action)
 
--- a node that stands at a place is read so
+-- a node that stands at a position is read so
 pub node_at : {q : SyntaxKind} (x : Position) (n : ℕ) (ts : List Token) (k : SyntaxKind) (c : AnnotatedForest) → is_at q x ≡ true → is_viable (row k) ≡ true
     → is_viable (after (rest_at x) k) ≡ true → may_begin k (head_kind ts) ≡ true → IsExpected (rest_at x) n ts (is_first_expected (rest_at x) k c)
     → NodeRead q x (head_kind ts) k (action_at x (head_kind ts) (touches n ts))

@@ -27,7 +27,7 @@ pub record IsLower (m : ℕ) (p : SyntaxKind) (d n : ℕ) (q s : Row) (b : Annot
   pub reads : Reads p d n q s b us f es
   pub short : height reads < m
 
--- the steps read each row from a place that is not so high
+-- the steps read each row from a position that is not so high
 abbrev pub AllRows : ℕ → Type 0
 AllRows m =
     (k : SyntaxKind) (d n : ℕ) (x : Position) (s : Row) (b : AnnotatedForest) (us : List Token) (f : AnnotatedForest) (es : List Fault) → is_at k x ≡ true
@@ -90,7 +90,7 @@ pub complete_to : {m n : ℕ} {p : SyntaxKind} {d : ℕ} {q r : Row} {b c : Anno
     → r ≡ q → c ≡ b → Complete m p d n r c us f es → Complete m p d n q b us f es
 complete_to {m} {n} {p} {d} {q} {b = b} {c} {us} {f} {es} u v h = subst (λ b. Complete m p d n q b us f es) v (subst (λ q. Complete m p d n q c us f es) u h)
 
--- a row that ends is live, and where nothing is left of it nothing is read
+-- a row that ends is viable, and where nothing is left of it nothing is read
 pub complete_viable : {m n : ℕ} {p : SyntaxKind} {d : ℕ} {q : Row} {b : AnnotatedForest} {us : List Token} {f : AnnotatedForest} {es : List Fault} → Complete m p d n q b us f es
     → is_viable q ≡ true
 complete_viable w = reads_viable w.part.reads (end_viable w.last w.over.0)

@@ -1,4 +1,4 @@
--- A row from a place is read, if smaller rows and trees are.
+-- A row from a position is read, if smaller rows and trees are.
 use Rattle.std.proofs.Common.{◌≡◌, ℕ, true, false, List, [], ◌∷◌, ◌++◌, Option, Some, refl, ap, sym, ◌∙◌, subst, append-nil, arith, ◌⊎◌, inl, inr, Bool, ◌&&◌}
 use Rattle.{std.proofs.{Common.{if◌then◌else◌, suc, ◌<◌, append_assoc}, lemmas.Bool.and_parts}, rnix_kinds.proofs.AllKinds.implied}
 use Rattle.rnix_kinds.specs.declared.kinds.SyntaxKind.{SyntaxKind, TheVariants.{NODE_LITERAL, NODE_IDENT, NODE_PAT_ENTRY, TOKEN_IDENT, TOKEN_AT, NODE_ERROR}}
@@ -22,7 +22,7 @@ use Rattle.rnix_uniqueness.proofs.ReadingHeights.{begins_so, height, less, less_
 use Rattle.rnix_grammar.specs.declared.position.Position.TheVariants as p
 use Rattle.rnix_grammar.specs.declared.action.Action.TheVariants as a
 
--- items at a place, in the row of a node, before others, where what is read ends in a row
+-- items at a position, in the row of a node, before others, where what is read ends in a row
 module _ (q : SyntaxKind) (d n : ℕ) (x : Position) (r : Row) (b : AnnotatedForest) (here : is_at q x ≡ true) (on : is_viable r ≡ true) where
   -- where an error node stands for an operand, an operand is read
   stands : (ts : List Token) → after (rest_at x) NODE_LITERAL ≡ r → IsExpected (rest_at x) n ts false → Operands q (rest_at x) r (action_at x (head_kind ts) (touches n ts))
@@ -30,7 +30,7 @@ module _ (q : SyntaxKind) (d n : ℕ) (x : Position) (r : Row) (b : AnnotatedFor
       subst (λ r. Operands q (rest_at x) r (action_at x (head_kind ts) (touches n ts))) h
       (reads_at (done_at q x (touches n ts) (head_kind ts) here) (next_is q x n ts false here o) (or_true (is_any (level_at (rest_at x) blank)) (ap is_viable h ∙ on)))
 
-  -- an error node at a place is read there
+  -- an error node at a position is read there
   pub wrong_one : (note : Note) (ts vs : List Token) → IsExpected (rest_at x) n (ts ++ vs) false → IsWrong note d (rest_at x) r ts vs
       → OneTo q d n x r b ts vs (one_fault note (row_of ts)) (report note ts ∷ [])
   wrong_one Stray [] vs o w = absurd (cc w.0)
@@ -71,7 +71,7 @@ module _ (q : SyntaxKind) (d n : ℕ) (x : Position) (r : Row) (b : AnnotatedFor
           (λ y h fs gs e. runs_from (ap (λ z. perform false (a.Read v.level z y) (opened h x d b) fs (ts ++ []) n gs) w.1 ∙ too_far v.level d n y x h b fs (ts ++ []) gs w.2)
           (runs_to (cc (append-nil ts, dropped_all ts)) stays))
 
--- from a place of a row to another, behind some trees and before some tokens
+-- from a position of a row to another, behind some trees and before some tokens
 module _ (m : ℕ) (q : SyntaxKind) (d n : ℕ) (x : Position) (to : Row) (b : AnnotatedForest) (vs : List Token) where
   -- what is to be shown of a node
   abbrev Inner : SyntaxKind → List Fault → AnnotatedForest → Type 0
@@ -147,7 +147,7 @@ module _ (m : ℕ) (q : SyntaxKind) (d n : ℕ) (x : Position) (to : Row) (b : A
       subst (λ (v : List Fault). OneTo q d n x to b (tokens_in c) vs (one_branch k c) v) (sym (ap (λ v. ds ++ v) (unreported k b c e) ∙ append-nil ds))
       (goes_one (a.Read level (counts (rest_at x))) act (λ y h fs gs g. one_operand x b room i.0 begun i.2 (trees k (deeper (rest_at x) d) n vs c ds r e) y h fs gs))
 
--- a node that stands at a place is read there
+-- a node that stands at a position is read there
 pub inner_one : (m : ℕ) → AllRows m → Trees m → {q k : SyntaxKind} {d n : ℕ} {x : Position} {b : AnnotatedForest} {vs : List Token} {c : AnnotatedForest} {ds : List Fault}
     → is_at q x ≡ true → Complete m k (deeper (rest_at x) d) n (row_of_kind k) blank vs c ds → IsRoom (rest_at x) d
     → IsExpected (rest_at x) n (tokens_in c ++ vs) (is_first_expected (rest_at x) k c) → IsOperandOf (level_at (rest_at x) (one_branch k c)) (one_branch k c) vs

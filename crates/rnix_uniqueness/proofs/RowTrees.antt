@@ -14,7 +14,7 @@ use Rattle.rnix_uniqueness.proofs.{PlaceActions.takes_at, ReadingHeights.{Comple
 use Rattle.rnix_grammar.specs.declared.action.Action.TheVariants as a
 use Rattle.rnix_grammar.specs.declared.position.Position.TheVariants as p
 
--- the steps read the rest of a row from a place on, to a place where it ends
+-- the steps read the rest of a row from a position on, to a position where it ends
 pub record ReadOn (k : SyntaxKind) (d n : ℕ) (x : Position) (b : AnnotatedForest) (us : List Token) (f : AnnotatedForest) (es : List Fault) : Type 0 where
   pub position : Position
   pub row : ReadsRow k d n x position b us f es
@@ -77,20 +77,20 @@ pub closes_second : (x : Position) (d n : ℕ) (c : AnnotatedForest) (F : Frame)
     → step false (machine (opened SecondBind x d c ∷ (F ∷ fs)) ts n gs) ≡ machine (put F.position (F.row ⊕ one_fault DoubleBind c) F ∷ fs) ts n (gs ++ report DoubleBind (tokens_in c) ∷ [])
 closes_second x d n c F fs ts gs h o = double_bind_by (action_at x (head_kind ts) (touches n ts)) (ends_at NODE_ERROR x n ts h o) x d n c F fs ts gs
 
--- The steps read a tree of some items on, from a place of a row to another.
+-- The steps read a tree of some items on, from a position of a row to another.
 abbrev pub ReadsOne : SyntaxKind → ℕ → ℕ → Position → Position → AnnotatedForest → List Token → List Token → AnnotatedForest → List Fault → Type 0
 ReadsOne k d n x y b ts vs w ds =
     (h : Head) (fs : List Frame) (gs : List Fault) → is_open h ≡ true → kind_of h ≡ k
     → Runs false (machine (opened h x d b ∷ fs) (ts ++ vs) n gs) (machine (opened h y d (b ⊕ w) ∷ fs) vs (end_from n ts) (gs ++ ds))
 
--- So they do to a place of the row where this is left of it.
+-- So they do to a position of the row where this is left of it.
 pub record OneTo (k : SyntaxKind) (d n : ℕ) (x : Position) (to : Row) (b : AnnotatedForest) (ts vs : List Token) (w : AnnotatedForest) (ds : List Fault) : Type 0 where
   pub position : Position
   pub is : rest_at position ≡ to
   pub here : is_at k position ≡ true
   pub one : ReadsOne k d n x position b ts vs w ds
 
--- so it is by what is done at the place
+-- so it is by what is done at the position
 pub goes_one : {k : SyntaxKind} {d n : ℕ} {x : Position} {to : Row} {b w : AnnotatedForest} {ts vs : List Token} {ds : List Fault} (f : ℕ → Action)
     → LeadsTo k to f (action_at x (head_kind (ts ++ vs)) (touches n (ts ++ vs)))
     → ((y : ℕ) (h : Head) (fs : List Frame) (gs : List Fault) → kind_of h ≡ k

@@ -23,13 +23,13 @@ step_to {raw = raw} {n = n} e r = further (subst (λ (z : Machine). Runs raw z n
 pub runs_from : {l m n : Machine} → l ≡ m → Runs false m n → Runs false l n
 runs_from {n = n} e r = subst (λ (z : Machine). Runs false z n) (sym e) r
 
--- The steps read a row on from a place to another, in any open frame whose node has the kind.
+-- The steps read a row on from a position to another, in any open frame whose node has the kind.
 abbrev pub ReadsRow : SyntaxKind → ℕ → ℕ → Position → Position → AnnotatedForest → List Token → AnnotatedForest → List Fault → Type 0
 ReadsRow k d n x y b us f es =
     (h : Head) (fs : List Frame) (gs : List Fault) → is_open h ≡ true → kind_of h ≡ k
     → Runs false (machine (opened h x d b ∷ fs) (tokens_in f ++ us) n gs) (machine (opened h y d (b ⊕ f) ∷ fs) us (end_from n (tokens_in f)) (gs ++ es))
 
--- So they do to a place of the row where this is left of it.
+-- So they do to a position of the row where this is left of it.
 pub record ReadsTo (k : SyntaxKind) (d n : ℕ) (x : Position) (s : Row) (b : AnnotatedForest) (us : List Token) (f : AnnotatedForest) (es : List Fault) : Type 0 where
   pub position : Position
   pub is : rest_at position ≡ s

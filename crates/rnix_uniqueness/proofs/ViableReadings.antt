@@ -13,17 +13,17 @@ abbrev pub is_viable : Row → Bool
 is_viable never = false
 is_viable r = true
 
--- what is live after a child was so before it
+-- what is viable after a child was so before it
 pub viable_before : (r : Row) (k : SyntaxKind) → is_viable (after r k) ≡ true → is_viable r ≡ true
 viable_before never k h = h
 viable_before _ k h = refl
 
--- a complete row is live
+-- a complete row is viable
 pub end_viable : (r : Row) → may_end r ≡ true → is_viable r ≡ true
 end_viable never h = h
 end_viable _ h = refl
 
--- a row is live where one is left after it
+-- a row is viable where one is left after it
 missing_viable : (q r : Row) (e : Fault) → missing q ≡ Some (e, r) → is_viable q ≡ true
 missing_viable never r e h = absurd (cc)
 missing_viable _ r e h = refl
@@ -76,7 +76,7 @@ pub viable_only : (w : Bool) (r : Row) → is_viable (only w r) ≡ true → w �
 viable_only true r h = refl
 viable_only false r h = absurd (cc)
 
--- at a place, what is expected is what comes next
+-- at a position, what is expected is what comes next
 pub as_expected : (r : Row) → is_left r ≡ true → (n : ℕ) (ts : List Token) (own : Bool) → IsExpected r n ts own → expects r n ts ≡ own
 as_expected (Child kind · r) i n ts own h = absurd (cc)
 as_expected (Atom · r) i n ts own h = absurd (cc)
