@@ -166,8 +166,8 @@ begins_attr TOKEN_INTERPOL_START = true
 begins_attr TOKEN_STRING_START = true
 begins_attr kind = is_one_of (wanted_in Attr) kind
 
--- What stands here begins with the next item, if it is of such a kind; if not, an operand, an attribute path or a binding stands here, or the
--- row ends, or other items are wanted. A piece of a path touches what is before it.
+-- If the next item is in the first set of the position, the child that begins with it comes next. Otherwise an operand, an attribute path or a
+-- binding comes next, or the row ends, or other items are expected. A piece of a path touches what is before it.
 abbrev pub expects_item : Row → Bool → SyntaxKind → Bool
 expects_item (Argument · r) touches k = is_or k
 expects_item (Many n closer · r) touches k = same_kind closer k

@@ -1,4 +1,4 @@
-//! What the reader does at each position, by the next token that is not trivia.
+//! What the reader does at each position, by the next item.
 
 ghost use Rattle.std.specs.Prelude.{◌≡◌, Bool, Option, true};
 ghost use Rattle.rnix_kinds.specs.declared.kinds.SyntaxKind.{SyntaxKind};
@@ -33,7 +33,7 @@ pub enum Action {
     Extra,
     /// The next token is a leaf.
     Take(u8),
-    /// The text ends where more is wanted.
+    /// The text ends where more is expected.
     Miss(u8),
     /// The text ends where certain kinds are wanted.
     MissWanted(ExpectedSet, u8),
@@ -103,7 +103,7 @@ fn follow(kind: SyntaxKind) -> Action
     }
 }
 
-/// Whether a token goes on with an operand, which operators of the levels from the first to the second continue.
+/// Returns whether a token goes on with an operand, which operators of the levels from the first to the second continue.
 #[inline(always)]
 pub fn goes_on(min_bp: u8, max_bp: u8, kind: SyntaxKind) -> bool
     ensures { result ≡ goes_on min_bp max_bp kind }
@@ -151,7 +151,7 @@ fn is_plain_end(kind: SyntaxKind) -> bool
     )
 }
 
-/// Whether a row is complete at the position, and nothing but the end of its node is to be done.
+/// Returns whether a row is complete at the position, and nothing but the end of its node is to be done.
 #[inline(always)]
 pub fn is_past(position: Position) -> bool
     ensures { (next : Option SyntaxKind) (touches : Bool) → result ≡ true → action_at position next touches ≡ Close }
@@ -167,7 +167,7 @@ pub fn is_past(position: Position) -> bool
     }
 }
 
-/// What the reader does at a position, by the next token that is not trivia, and by whether it touches the one before.
+/// Returns what the reader does at a position, by the next token that is not trivia, and by whether it touches the one before.
 #[inline(always)]
 pub fn action_at(position: Position, next: Option<SyntaxKind>, touches: bool) -> Action
     ensures { result ≡ action_at position next touches }

@@ -30,7 +30,7 @@ pub enum Begin {
     Stray,
 }
 
-/// Whether `{` begins a pattern, by the next two tokens that are not trivia.
+/// Returns whether `{` begins a pattern, by the next two tokens that are not trivia.
 pub fn is_pattern(second: Option<SyntaxKind>, third: Option<SyntaxKind>) -> bool
     ensures { result ≡ is_pattern second third }
 {
@@ -135,7 +135,7 @@ fn begin_prefix(level: u8, kind: SyntaxKind) -> Begin
     }
 }
 
-/// How an operand of a level begins, by the next three tokens that are not trivia.
+/// Returns how an operand of a level begins, by the next three tokens that are not trivia.
 #[inline(always)]
 pub fn begin_of(
     level: u8,

@@ -23,13 +23,13 @@ pub enum ParseError {
     Unexpected(TextRange),
     /// Tokens follow the expression.
     UnexpectedExtra(TextRange),
-    /// A token of the first kind stands where one of the listed kinds is wanted.
+    /// A token of the first kind is where one of the listed kinds is expected.
     UnexpectedWanted(SyntaxKind, TextRange, Vec<SyntaxKind>),
     /// A pattern is bound to two names.
     UnexpectedDoubleBind(TextRange),
-    /// The text ends where more is wanted.
+    /// The text ends where more is expected.
     UnexpectedEOF,
-    /// The text ends where one of the listed kinds is wanted.
+    /// The text ends where one of the listed kinds is expected.
     UnexpectedEOFWanted(Vec<SyntaxKind>),
     /// Two entries of a pattern have one name.
     DuplicatedArgs(TextRange, String),
@@ -38,7 +38,7 @@ pub enum ParseError {
 }
 
 impl ParseError {
-    /// A copy of the error.
+    /// Returns a copy of the error.
     pub fn try_clone(&self) -> Result<ParseError, AllocError>
         ensures { IfOk result (λ error. fault_of error ≡ fault_of self.now) }
     {
@@ -61,7 +61,7 @@ impl ParseError {
         Ok(error)
     }
 
-    /// The error's range, in bytes. The errors at the end of the text have none, and neither has `RecursionLimitExceeded`.
+    /// Returns the error's range, in bytes. The errors at the end of the text have none, and neither has `RecursionLimitExceeded`.
     pub fn range(&self) -> Option<TextRange>
         ensures { option_map bounds_of result ≡ range_in (fault_of self.now) }
     {
@@ -122,7 +122,7 @@ impl PartialEq for ParseError {
     }
 }
 
-/// Whether two errors are of one variant with the same fields.
+/// Returns whether two errors are of one variant with the same fields.
 pub fn same_errors(a: &ParseError, b: &ParseError) -> bool
     ensures { Decides result (fault_of a.now ≡ fault_of b.now) }
 {

@@ -5,7 +5,7 @@ ghost use Rattle.rnix_grammar.specs.Tables.{stops, is_wanted, wanted_kinds, oper
 
 use rnix_kinds::SyntaxKind;
 
-/// What is wanted at a position. A run of unwanted tokens stops before it, or at the end of the text.
+/// The set of tokens that are expected at a position. A run of other tokens stops before one of the set, or at the end of the text.
 #[derive(Clone, Copy)]
 pub enum ExpectedSet {
     RParen,
@@ -29,7 +29,7 @@ pub enum ExpectedSet {
     End,
 }
 
-/// The kinds that are wanted where a run stops, as errors list them.
+/// Returns the kinds that are wanted where a run stops, as errors list them.
 pub fn wanted_kinds(until: ExpectedSet) -> &'static [SyntaxKind]
     ensures { result.now ≡ wanted_kinds until }
 {
@@ -64,14 +64,14 @@ pub fn wanted_kinds(until: ExpectedSet) -> &'static [SyntaxKind]
     }
 }
 
-/// Whether a token of the kind is wanted.
+/// Returns whether a token of the kind is wanted.
 pub fn is_wanted(until: ExpectedSet, kind: SyntaxKind) -> bool
     ensures { result ≡ is_wanted until kind }
 {
     wanted_kinds(until).contains(&kind)
 }
 
-/// Whether a run stops before the next token that is not trivia.
+/// Returns whether a run stops before the next token that is not trivia.
 pub fn stops(until: ExpectedSet, next: Option<SyntaxKind>) -> bool
     ensures { result ≡ stops until next }
 {
@@ -81,7 +81,7 @@ pub fn stops(until: ExpectedSet, next: Option<SyntaxKind>) -> bool
     }
 }
 
-/// The kinds that are wanted where an operand should begin, as errors list them.
+/// Returns the kinds that are wanted where an operand should begin, as errors list them.
 pub fn operand_kinds() -> &'static [SyntaxKind]
     ensures { result.now ≡ operand_kinds }
 {

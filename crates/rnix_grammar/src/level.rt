@@ -1,4 +1,4 @@
-//! The levels of precedence, by numbers: the binary operators have 1 to 8 and 10 to 12, from the loosest to the tightest.
+//! The levels of precedence, by numbers: the binary operators have 1 to 8 and 10 to 12, from the lowest precedence to the highest.
 
 ghost use Rattle.std.specs.Prelude.{◌≡◌, ◌≤◌, IfSome};
 ghost use Rattle.rnix_grammar.specs.Levels.{concatenation_level, operator, plain_binding_power, binding_power, right_of, max_bp_of};
@@ -37,7 +37,7 @@ pub enum Associativity {
     Neither,
 }
 
-/// The level of a binary operator, and which way it groups.
+/// Returns the level of a binary operator, and which way it groups.
 #[inline(always)]
 pub fn operator(kind: SyntaxKind) -> Option<(u8, Associativity)>
     ensures table { result ≡ operator kind }
@@ -80,7 +80,7 @@ fn plain_binding_power(kind: SyntaxKind) -> u8
     }
 }
 
-/// How tightly a token binds what stands before it: its level, and no level for one that ends an expression.
+/// Returns how tightly a token binds what stands before it: its level, and no level for one that ends an expression.
 #[inline(always)]
 pub fn binding_power(kind: SyntaxKind) -> u8
     ensures { result ≡ binding_power kind }
@@ -91,7 +91,7 @@ pub fn binding_power(kind: SyntaxKind) -> u8
     }
 }
 
-/// The lowest level of the right operand of an operator.
+/// Returns the lowest level of the right operand of an operator.
 #[inline(never)]
 pub fn right_of(kind: SyntaxKind) -> u8
     ensures { result ≡ right_of kind }
@@ -103,7 +103,7 @@ pub fn right_of(kind: SyntaxKind) -> u8
     }
 }
 
-/// The highest level of an operator that may follow the node of an operator.
+/// Returns the highest level of an operator that may follow the node of an operator.
 #[inline(never)]
 pub fn max_bp_of(kind: SyntaxKind) -> u8
     ensures { result ≡ max_bp_of kind }

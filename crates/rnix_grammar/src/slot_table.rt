@@ -144,7 +144,7 @@ pub const BOUND_PATTERN_CLOSE: u8 = BOUND_AFTER_FORMAL + 3;
 
 pub const SECOND_BIND: u8 = BOUND_PATTERN_CLOSE + 3;
 
-/// What is at an index of the table.
+/// Returns what is at an index of the table.
 #[inline(always)]
 pub(crate) fn slot_at(left: u8) -> Option<Slot>
     ensures slot { result ≡ slot_at left }

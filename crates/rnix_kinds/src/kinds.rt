@@ -7,7 +7,7 @@ use std::error::Error;
 use std::fmt;
 use std::str::FromStr;
 
-/// What a token or a node is. The order is that of the list: tokens first.
+/// The kind of a token or a node. Kinds are ordered as they are declared: tokens first.
 #[derive(Clone, Copy, Debug, PartialEq, Eq, PartialOrd, Ord, Hash)]
 #[allow(non_camel_case_types)]
 pub enum SyntaxKind {
@@ -106,7 +106,7 @@ pub enum SyntaxKind {
     NODE_WITH,
 }
 
-/// A text that is no kind's name.
+/// The error of parsing a text that is not the name of a kind.
 #[derive(Clone, Copy, Debug, PartialEq, Eq)]
 pub struct ParseSyntaxKindError;
 
@@ -208,7 +208,7 @@ pub(crate) const ALL: [SyntaxKind; 93] = [
 ];
 
 impl SyntaxKind {
-    /// The kind's own name, as `TOKEN_ADD`.
+    /// Returns the name of the kind, such as `TOKEN_ADD`.
     pub fn name(self) -> &'static str
         ensures { result.now ≡ name_of self }
     {
@@ -309,7 +309,7 @@ impl SyntaxKind {
         }
     }
 
-    /// Whether the token is a literal by itself: a number, a path or a URI.
+    /// Returns whether the token is a literal by itself: a number, a path or a URI.
     #[inline(always)]
     pub fn is_literal(self) -> bool
         ensures { result ≡ is_literal self }
@@ -326,7 +326,7 @@ impl SyntaxKind {
         )
     }
 
-    /// Whether the token may begin the argument of a function.
+    /// Returns whether the token can begin the argument of a function.
     #[inline(always)]
     pub fn is_fn_arg(self) -> bool
         ensures { result ≡ is_fn_arg self }
@@ -344,7 +344,7 @@ impl SyntaxKind {
             )
     }
 
-    /// Whether the token is a comment or white space.
+    /// Returns whether the token is a comment or white space.
     #[inline]
     pub fn is_trivia(self) -> bool
         ensures { result ≡ is_trivia self }

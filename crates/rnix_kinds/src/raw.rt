@@ -13,7 +13,7 @@ fn kind_at(kinds: &[SyntaxKind], place: usize) -> Option<SyntaxKind>
 }
 
 impl SyntaxKind {
-    /// The kind that has the number, which `kind as u16` gives: the kinds are numbered from 0, in the order of their declaration.
+    /// Returns the kind whose number, `kind as u16`, is this one. Kinds are numbered from 0, in the order of their declaration.
     pub fn from_raw(number: u16) -> Option<SyntaxKind>
         ensures found { IfSome result (λ kind. place_of kind ≡ number) }
         ensures missing { IfNone result (kind_count ≤ number) }

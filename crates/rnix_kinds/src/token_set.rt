@@ -39,7 +39,7 @@ impl TokenSet {
     /// The set of no kinds.
     pub const EMPTY: TokenSet = TokenSet { bits: 0 };
 
-    /// The set of one kind.
+    /// Returns the set of one kind.
     pub const fn new(kind: SyntaxKind) -> TokenSet
         ensures { result ≡ set_of (kind ∷ []) }
     {
@@ -48,7 +48,7 @@ impl TokenSet {
         }
     }
 
-    /// The set of the kinds in a slice.
+    /// Returns the set of the kinds in a slice.
     pub fn from_slice(kinds: &[SyntaxKind]) -> TokenSet
         ensures set { result ≡ set_of kinds.now }
         ensures kinds { (kind : SyntaxKind) → Decides (contains result kind) (Contains kinds.now kind) }
@@ -60,7 +60,7 @@ impl TokenSet {
         set
     }
 
-    /// The kinds that are in either set.
+    /// Returns the union of two sets.
     pub const fn union(self, other: TokenSet) -> TokenSet
         ensures { result ≡ union self other }
     {
@@ -69,7 +69,7 @@ impl TokenSet {
         }
     }
 
-    /// Whether the kind is in the set.
+    /// Returns whether the kind is in the set.
     pub const fn contains(&self, kind: SyntaxKind) -> bool
         ensures { result ≡ contains self.now kind }
     {
@@ -96,7 +96,7 @@ impl Eq for TokenSet {
     ghost laws = { same_number_laws };
 }
 
-/// Whether two sets hold the same kinds. They do exactly if they are equal.
+/// Returns whether two sets contain the same kinds, which they do exactly if they are equal.
 pub fn same_sets(a: TokenSet, b: TokenSet) -> bool
     ensures equal { Decides result (a ≡ b) }
     ensures kinds { Decides result ((kind : SyntaxKind) → contains a kind ≡ contains b kind) }

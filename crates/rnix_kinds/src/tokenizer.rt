@@ -36,10 +36,10 @@ use crate::kinds::SyntaxKind;
 use std::alloc::{AllocError, Global};
 use std::marker::Model;
 
-/// A kind and the text it was given for.
+/// The kind and the text of a token.
 pub type Token<'a> = (SyntaxKind, &'a str);
 
-/// The token that begins the text.
+/// Returns the token that begins the text.
 #[tactic(auto, unfolding(crate::specs::Lexical::Tokens::cut_at))]
 #[inline(always)]
 fn cut_at(text: &str, top: Option<Mode>, ahead: &mut Ahead) -> Cut
@@ -66,7 +66,7 @@ fn joined(modes: &Modes, text: &str)
     let _top = modes.top();
 }
 
-/// Cuts a text into its tokens. A clause sees the tokens that are left.
+/// Iterates over the tokens of a text. A clause sees the tokens that are left.
 #[derive(Drop)]
 pub struct Tokenizer<'a> {
     rest: &'a str,
@@ -98,7 +98,7 @@ impl<'a> Tokenizer<'a> {
         }
     }
 
-    /// The text that is left: its tokens are those that are left.
+    /// Returns the text that is left. Its tokens are the tokens that are left.
     pub fn rest(&self) -> &'a str
         ensures { AreSound result.now self.now }
     {
@@ -106,7 +106,7 @@ impl<'a> Tokenizer<'a> {
         self.rest
     }
 
-    /// The next token. After a refusal the same token comes next.
+    /// Returns the next token. If an allocation fails, the next call returns the same token.
     #[inline(always)]
     pub fn next_token(&mut self) -> Option<Result<Token<'a>, AllocError>>
         ensures { GivesNext self.old result self.new }
@@ -126,14 +126,14 @@ impl<'a> Tokenizer<'a> {
     }
 }
 
-/// The text's tokens.
+/// Returns an iterator over the tokens of a text.
 pub fn tokenize(alloc: Global, text: &str) -> Tokenizer<'_>
     ensures { result ≡ tokens_of text.now }
 {
     Tokenizer::new(alloc, text)
 }
 
-/// The tokens of a text are the one list that the rules give.
+/// The lexical rules allow exactly one token list for each text.
 pub fn one_list(text: &str)
     ensures are { AreTokens [] text.now (tokens_of text.now) }
     ensures only { (tokens : List Lexeme) → AreTokens [] text.now tokens → tokens ≡ tokens_of text.now }
@@ -142,7 +142,7 @@ pub fn one_list(text: &str)
     let _len = text.len();
 }
 
-/// The words on lengths mean what they are called.
+/// The definitions of lengths give the longest runs, rows and operators.
 pub fn longest(text: &str, multiline: bool)
     ensures run { (test : ℕ → Bool) → IsLongest (IsRun test text.now) (prefix_len test text.now) }
     ensures content { IsLongestContent multiline text.now (content_len multiline text.now) }

@@ -144,7 +144,7 @@ fn kind_at(tokens: &[TokenEnd], at: usize) -> Option<SyntaxKind>
 }
 
 impl<'t> Cursor<'t> {
-    /// A cursor before the first token.
+    /// Returns a cursor before the first token.
     pub(crate) fn new(alloc: Global, tokens: Tokenizer<'t>) -> Result<Self, AllocError>
         ensures { IfOk result (λ cursor. cursor ≡ placed_from 0 tokens.entry) }
     {
@@ -159,21 +159,21 @@ impl<'t> Cursor<'t> {
         })
     }
 
-    /// How many tokens are left.
+    /// Returns the number of tokens that are left.
     pub(crate) fn len(&self) -> usize
         ensures { result ≡ length self.now }
     {
         self.tokens.len().saturating_sub(self.at)
     }
 
-    /// The next token.
+    /// Returns the next token.
     pub(crate) fn token(&self) -> Option<PlacedToken<'t>>
         ensures { option_map token_of result ≡ head_of self.now }
     {
         token_at(self.text, &self.tokens, self.at)
     }
 
-    /// The next token, if it is trivia.
+    /// Returns the next token, if it is trivia.
     pub(crate) fn trivia(&self) -> Option<PlacedToken<'t>>
         ensures { MatchOption result (from_item self.now ≡ self.now) (λ t. BeginsWithTrivia (token_of t) self.now) }
     {
@@ -183,28 +183,28 @@ impl<'t> Cursor<'t> {
         None
     }
 
-    /// The next token that is not trivia.
+    /// Returns the next token that is not trivia.
     pub(crate) fn item(&self) -> Option<PlacedToken<'t>>
         ensures { option_map token_of result ≡ head_of (from_item self.now) }
     {
         token_at(self.text, &self.tokens, self.next)
     }
 
-    /// The kind of the next item.
+    /// Returns the kind of the next item.
     pub(crate) fn first(&self) -> Option<SyntaxKind>
         ensures { result ≡ head_kind (items self.now) }
     {
         kind_at(&self.tokens, self.next)
     }
 
-    /// The kind of the second item.
+    /// Returns the kind of the second item.
     pub(crate) fn second(&self) -> Option<SyntaxKind>
         ensures { result ≡ head_kind (tail_of (items self.now)) }
     {
         kind_at(&self.tokens, behind_item(&self.tokens, self.next))
     }
 
-    /// The kind of the third item.
+    /// Returns the kind of the third item.
     pub(crate) fn third(&self) -> Option<SyntaxKind>
         ensures { result ≡ head_kind (tail_of (tail_of (items self.now))) }
     {

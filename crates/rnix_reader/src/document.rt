@@ -1,4 +1,4 @@
-//! Reading a whole text.
+//! Parsing a whole text.
 
 ghost use Rattle.std.specs.Prelude.{map, IfOk};
 ghost use Rattle.rnix_grammar.specs.Fault.{fault_of};

@@ -1,4 +1,4 @@
-//! The reader: it goes over the tokens of a text step by step, and builds the tree.
+//! The reader: it processes the tokens of a text step by step, and builds the tree.
 #![tactic(auto)]
 
 mod cursor;

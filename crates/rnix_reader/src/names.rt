@@ -17,7 +17,7 @@ pub(crate) struct NameSet<'t> {
 }
 
 impl<'t> NameSet<'t> {
-    /// No names.
+    /// Returns an empty set.
     pub(crate) fn new(alloc: Global) -> Self
         ensures { (name : List ℕ) → has_name name result ≡ false }
     {
@@ -26,7 +26,7 @@ impl<'t> NameSet<'t> {
         }
     }
 
-    /// Whether it has the name.
+    /// Returns whether the set contains the name.
     pub(crate) fn contains(&self, name: &'t str) -> bool
         ensures { result ≡ has_name name.now self.now }
     {
@@ -61,7 +61,7 @@ pub(crate) struct Names<'t> {
 }
 
 impl<'t> Names<'t> {
-    /// No pattern and no entry is open.
+    /// Returns the names where no pattern and no entry is open.
     pub(crate) fn new(alloc: Global) -> Self
         ensures sets { result.sets.items ≡ [] }
         ensures entries { result.entries.items ≡ [] }
@@ -97,7 +97,7 @@ impl<'t> Names<'t> {
         Ok(())
     }
 
-    /// Closes the innermost entry; the error, if an earlier entry has its name.
+    /// Closes the innermost entry. Returns an error if an earlier entry has its name.
     pub(crate) fn close_entry(&mut self) -> Result<Option<ParseError>, AllocError>
         ensures { IfOk result (λ again. EntryClosed (option_map fault_of again) self.old self.new) }
     {

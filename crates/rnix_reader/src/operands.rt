@@ -54,7 +54,7 @@ impl<'t> Parser<'t> {
         None
     }
 
-    /// How an operand begins, by the next item.
+    /// Returns how an operand begins, by the next item.
     #[tactic(auto, using(crate::proofs::BeginLemmas::begin_alone))]
     #[inline(always)]
     pub(crate) fn beginning(&self, level: u8, first: PlacedToken<'_>) -> Begin

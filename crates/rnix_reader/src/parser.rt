@@ -33,7 +33,7 @@ impl<'t> Parser<'t> {
     ghost use Rattle.rnix_reader.specs.State.{State, state, items_left, eaten, bumped, started, started_at, ended, failed, pushed};
     ghost use Rattle.rnix_reader.specs.Erase.{mark_at};
 
-    /// The next token that is not trivia.
+    /// Returns the next token that is not trivia.
     #[tactic(auto, using(crate::proofs::CursorLemmas::head_items))]
     #[inline(always)]
     pub(crate) fn item(&self) -> Option<PlacedToken<'t>>
@@ -42,14 +42,14 @@ impl<'t> Parser<'t> {
         self.cursor.item()
     }
 
-    /// The kind of the next token that is not trivia.
+    /// Returns the kind of the next token that is not trivia.
     pub(crate) fn peek(&self) -> Option<SyntaxKind>
         ensures { result ≡ head_kind (items_left (state self.now)) }
     {
         self.cursor.first()
     }
 
-    /// Whether no trivia stand between the last item and the next.
+    /// Returns whether no trivia are between the last item and the next.
     pub(crate) fn touches(&self) -> bool
         ensures { result ≡ touches (state self.now).prev_end (items_left (state self.now)) }
     {
@@ -120,7 +120,7 @@ impl<'t> Parser<'t> {
         Ok(())
     }
 
-    /// Reports that the text ends where more is wanted.
+    /// Reports that the text ends where more is expected.
     #[inline(never)]
     pub(crate) fn fail_at_end(&mut self) -> Result<(), AllocError>
         ensures { OnOk result (state self.new ≡ failed ended_fault (state self.old)) }
@@ -166,7 +166,7 @@ impl<'t> Parser<'t> {
         Ok(())
     }
 
-    /// The checkpoint after the trees that were read so far.
+    /// Returns the checkpoint after the trees that were read so far.
     pub(crate) fn here(&self) -> Checkpoint
         ensures position { result ≡ tree_count (state self.now).trees }
     {

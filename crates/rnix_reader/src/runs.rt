@@ -70,7 +70,7 @@ impl<'t> Parser<'t> {
         Ok(TextRange::new(first.start, self.prev_end))
     }
 
-    /// Makes an error node of a run of items where others are wanted, and reports it.
+    /// Makes an error node of a run of items where others are expected, and reports it.
     pub(crate) fn unwanted(&mut self, until: ExpectedSet) -> Result<(), AllocError>
         requires { stops until (head_kind (items_left (state self.old))) ≡ false }
         ensures { OnOk result (state self.new ≡ unwanted_reported until (state self.old)) }
@@ -108,7 +108,7 @@ impl<'t> Parser<'t> {
         Ok(())
     }
 
-    /// Reports that the text ends where certain kinds are wanted.
+    /// Reports that the text ends where certain kinds are expected.
     pub(crate) fn missing(&mut self, until: ExpectedSet) -> Result<(), AllocError>
         ensures { OnOk result (state self.new ≡ end_reported until (state self.old)) }
     {

@@ -62,7 +62,7 @@ impl<'t> Parser<'t> {
         Ok(())
     }
 
-    /// Reports that the text ends where more is wanted.
+    /// Reports that the text ends where more is expected.
     pub(crate) fn miss(&mut self, mark: Mark, after: Position) -> Result<(), AllocError>
         ensures { OnOk result (state self.new ≡ failed ended_fault (moved_to after mark (state self.old))) }
     {
@@ -71,7 +71,7 @@ impl<'t> Parser<'t> {
         Ok(())
     }
 
-    /// Reports that the text ends where certain kinds are wanted.
+    /// Reports that the text ends where certain kinds are expected.
     pub(crate) fn miss_wanted(
         &mut self,
         mark: Mark,

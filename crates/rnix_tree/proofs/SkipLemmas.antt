@@ -23,7 +23,7 @@ balanced n (node k c f) (suc d) rest =
     ap (from_leaving (suc (suc d))) (append_assoc (steps_from (n + 1) c) ((false, n) ∷ behind) rest)
     ∙ balanced (n + 1) c (suc (suc d)) ((false, n) ∷ (behind ++ rest)) ∙ balanced (n + 1 + element_count c) f (suc d) rest
 
--- it is told by the steps alone which events are passed over
+-- which events are skipped depends on the steps alone
 by_steps : (t : Tree) (d : ℕ) (steps : List Step) → from_leaving d (map (event_at t) steps) ≡ map (event_at t) (from_leaving d steps)
 by_steps t zero [] = refl
 by_steps t (suc d) [] = refl

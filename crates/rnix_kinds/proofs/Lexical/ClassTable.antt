@@ -20,6 +20,6 @@ agree_at p q (suc n) h b low =
     let parts = and_parts (beq (p n) (q n)) (agree p q n) h in
     elim (cases_eq b n) [ inl here ↦ rw here (same (p n) (q n) parts.0) | inr before ↦ agree_at p q n parts.1 b (omega arith) ]
 
--- a class that agrees with its flag everywhere is told by it
+-- a class that agrees with its flag everywhere is the set of bytes with the flag
 pub from_table : (flag : ℕ) (class : Class) (b : ℕ) → b < 256 → agree (has_flag flag) (class_test class) 256 ≡ true → has_flag flag b ≡ class_test class b
 from_table flag class b low h = agree_at (has_flag flag) (class_test class) 256 h b low

@@ -7,7 +7,7 @@ ghost use Rattle.rnix_kinds.specs.Lexical.Ahead.{IsRunEnd};
 
 use super::text::{Class, run_end};
 
-/// Where the runs end that were looked over last, told by the length of the text that is left there.
+/// The ends of the runs that were scanned last, each as the length of the text after it.
 #[derive(Clone, Copy)]
 pub struct Ahead {
     pub step: usize,
@@ -15,7 +15,7 @@ pub struct Ahead {
     pub angle: usize,
 }
 
-/// The length of the run at the front, which may have been looked over before.
+/// Returns the length of the run at the start of the text, which may have been scanned before.
 pub fn looked(text: &str, left: &mut usize, class: Class) -> usize
     requires { IsRunEnd class left.old text.now }
     ensures len { result ≡ prefix_len (class_test class) text.now }

@@ -9,7 +9,7 @@ use super::rule::{Change, Mode};
 use std::alloc::{AllocError, Global};
 use std::marker::Model;
 
-/// The modes that are open; a clause sees the innermost one first.
+/// The stack of open modes. A clause sees the innermost one first.
 #[derive(Drop)]
 pub struct Modes {
     items: Vec<Mode>,
@@ -22,7 +22,7 @@ impl Model for Modes {
 }
 
 impl Modes {
-    /// No mode is open.
+    /// Returns an empty stack.
     pub fn new(alloc: Global) -> Self
         ensures { result ≡ [] }
     {
@@ -31,7 +31,7 @@ impl Modes {
         }
     }
 
-    /// The innermost mode.
+    /// Returns the innermost mode.
     pub fn top(&self) -> Option<Mode>
         ensures { result ≡ top self.now }
     {
@@ -45,7 +45,7 @@ impl Modes {
         self.items.pop();
     }
 
-    /// Leaves a path that does not go on.
+    /// Leaves the innermost mode if it is a path that does not continue.
     pub fn leave_ended_paths(&mut self, text: &str)
         ensures { self.new ≡ without_ended_paths self.old text.now }
     {
@@ -57,7 +57,7 @@ impl Modes {
         }
     }
 
-    /// What a token does to the modes. A refusal leaves them as they were.
+    /// Changes the modes as a token does. If an allocation fails, they stay as they were.
     #[inline(always)]
     pub fn change(&mut self, change: Change) -> Result<(), AllocError>
         ensures ok { OnOk result (self.new ≡ changed change self.old) }

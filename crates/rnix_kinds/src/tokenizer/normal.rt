@@ -121,7 +121,7 @@ fn other(text: &str) -> Cut
     }
 }
 
-/// The token of the first rule that fits.
+/// Returns the token of the first rule that matches.
 #[inline(always)]
 pub fn normal(text: &str, top: Option<Mode>, ahead: &mut Ahead) -> Cut
     requires some { 0 < length text.now }

@@ -44,7 +44,7 @@ fn fraction(text: &str, at: usize) -> Cut
     exponent(text, run_end(text, at, Class::Digit))
 }
 
-/// A number.
+/// Returns the token of a number.
 #[inline(always)]
 pub fn number(text: &str) -> Option<Cut>
     ensures { result ≡ number text.now }

@@ -7,7 +7,7 @@ use super::rule::{Change, Cut, Mode, plain};
 use super::text::byte_at;
 use crate::kinds::SyntaxKind;
 
-/// Three dots.
+/// Returns the token of three dots.
 pub fn ellipsis(text: &str) -> Option<Cut>
     ensures { result ≡ ellipsis text.now }
 {
@@ -18,7 +18,7 @@ pub fn ellipsis(text: &str) -> Option<Cut>
     }
 }
 
-/// What opens a string or an interpolation.
+/// Returns the token that opens a string or an interpolation.
 #[inline(always)]
 pub fn opener(text: &str) -> Option<Cut>
     ensures { result ≡ opener text.now }
@@ -44,7 +44,7 @@ pub fn opener(text: &str) -> Option<Cut>
     }
 }
 
-/// A `{`, which an interpolation counts.
+/// Returns the token `{`. An interpolation counts it.
 #[inline(always)]
 pub fn opening_brace(top: Option<Mode>) -> Cut
     requires { HasRoom top }
@@ -60,7 +60,7 @@ pub fn opening_brace(top: Option<Mode>) -> Cut
     }
 }
 
-/// A `}`. An interpolation ends at one too many.
+/// Returns the token `}`. An interpolation ends at an unmatched one.
 #[inline(always)]
 pub fn closing_brace(top: Option<Mode>) -> Cut
     ensures { result ≡ closing_brace top }
@@ -80,7 +80,7 @@ pub fn closing_brace(top: Option<Mode>) -> Cut
     }
 }
 
-/// An operator or a bracket, the longest that fits.
+/// Returns the token of the longest operator or bracket that matches.
 #[inline(always)]
 pub fn operator(text: &str) -> Option<Cut>
     ensures { result ≡ operator text.now }

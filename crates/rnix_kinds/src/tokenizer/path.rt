@@ -58,7 +58,7 @@ fn first_segment(text: &str, start: PathStart, from: usize) -> Cut
     )
 }
 
-/// `//`, an absolute path, or a division.
+/// Returns `//`, an absolute path, or a division.
 #[inline(always)]
 pub fn slash(text: &str) -> Cut
     requires { slice_index text.now 0 ≡ 47 }
@@ -74,7 +74,7 @@ pub fn slash(text: &str) -> Cut
     }
 }
 
-/// A path from the home folder, or an error over `~` and the next character.
+/// Returns a path from the home folder, or an error over `~` and the next character.
 #[inline(always)]
 pub fn home(text: &str) -> Cut
     requires { slice_index text.now 0 ≡ 126 }
@@ -103,7 +103,7 @@ fn goes_on_as_path(text: &str, len: usize) -> bool
         && !begins_space(&text[len + 1..])
 }
 
-/// A relative path; `step` is the run of path characters other than `/`.
+/// Returns a relative path; `step` is the length of the run of path characters other than `/`.
 #[inline(always)]
 pub fn relative(text: &str, step: usize) -> Option<Cut>
     requires { step ≡ prefix_len (class_test Class.Step) text.now }
@@ -116,7 +116,7 @@ pub fn relative(text: &str, step: usize) -> Option<Cut>
     }
 }
 
-/// A search path; `angle` is the run of path characters and `<`.
+/// Returns a search path; `angle` is the length of the run of path characters and `<`.
 #[inline(always)]
 pub fn search_path(text: &str, angle: usize) -> Option<Cut>
     requires { slice_index text.now 0 ≡ 60 → angle ≡ prefix_len (class_test Class.Angle) text.now }
@@ -135,14 +135,14 @@ pub fn search_path(text: &str, angle: usize) -> Option<Cut>
     }
 }
 
-/// Whether a path goes on after an interpolation.
+/// Returns whether a path continues after an interpolation.
 pub fn path_goes_on(text: &str) -> bool
     ensures { result ≡ path_goes_on text.now }
 {
     byte_at(text, 0) == b'$' && byte_at(text, 1) == b'{' || is_in(Class::Path, byte_at(text, 0))
 }
 
-/// What goes on a path behind an interpolation: a segment, or another interpolation.
+/// Returns the token that continues a path after an interpolation: a segment, or another interpolation.
 #[inline(always)]
 pub fn path(text: &str, start: PathStart) -> Cut
     requires { path_goes_on text.now ≡ true }

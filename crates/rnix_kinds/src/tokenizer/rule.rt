@@ -15,7 +15,7 @@ pub enum PathStart {
 impl PathStart {
     ghost use Rattle.rnix_kinds.specs.Lexical.PathKinds.{kind_of_path};
 
-    /// The kind of the path's tokens.
+    /// Returns the kind of the path's tokens.
     pub fn kind(self) -> SyntaxKind
         ensures { result ≡ kind_of_path self }
     {
@@ -27,7 +27,7 @@ impl PathStart {
     }
 }
 
-/// What is being read where the normal rules do not hold alone.
+/// A mode of the tokenizer, in which other rules than the normal ones apply too.
 #[derive(Clone, Copy, Debug, PartialEq, Eq)]
 pub enum Mode {
     /// A string, and whether it is a multiline one.
@@ -56,7 +56,7 @@ pub struct Cut {
     pub change: Change,
 }
 
-/// A token that leaves the modes alone.
+/// Returns a token that does not change the modes.
 pub fn plain(kind: SyntaxKind, len: usize) -> Cut
     ensures { result ≡ record { kind = kind; len = len; change = Change.Stay } }
 {

@@ -12,7 +12,7 @@ use super::rule::{Cut, plain};
 use super::text::{byte_of, space_len};
 use crate::kinds::SyntaxKind;
 
-/// White space.
+/// Returns the token of white space.
 pub fn space(text: &str) -> Option<Cut>
     ensures { result ≡ space text.now }
 {
@@ -32,7 +32,7 @@ fn line_len(text: &str) -> usize
     wide_run_end(text.as_bytes(), 0, LongClass::Line)
 }
 
-/// A comment up to the end of its line.
+/// Returns a comment up to the end of its line.
 #[inline(always)]
 pub fn line_comment(text: &str) -> Cut
     ensures { result ≡ plain TOKEN_COMMENT (run_end (class_test Line) 0 text.now) }
@@ -53,7 +53,7 @@ fn comment_len(inside: &[u8]) -> usize
     at
 }
 
-/// A comment through `*/`. Without a `*/` the rest of the text is an error.
+/// Returns a comment through `*/`. Without a `*/` the rest of the text is an error.
 #[inline(always)]
 pub fn block_comment(text: &str) -> Cut
     requires { 2 ≤ length text.now }

@@ -8,7 +8,7 @@ use super::rule::{Change, Cut, Mode, plain};
 use super::text::{byte_at, byte_of};
 use crate::kinds::SyntaxKind;
 
-/// The length of the first piece; 0 where the closer or `${` stands.
+/// Returns the length of the first piece, which is 0 at the closing quote and at `${`.
 fn piece_len(rest: &[u8], multiline: bool) -> usize
     ensures value { result ≡ piece_len multiline rest.now }
     ensures short { result ≤ 4 }
@@ -38,7 +38,7 @@ fn piece_len(rest: &[u8], multiline: bool) -> usize
     }
 }
 
-/// The length of the pieces before the closer or `${`.
+/// Returns the length of the pieces before the closing quote or `${`.
 #[inline(never)]
 fn content_len(bytes: &[u8], multiline: bool) -> usize
     ensures value { result ≡ content_len multiline bytes.now }
@@ -58,7 +58,7 @@ fn content_len(bytes: &[u8], multiline: bool) -> usize
     at
 }
 
-/// What stands inside a string: its content, an interpolation, its end, or an error where the text ends first.
+/// Returns the next token inside a string: its content, an interpolation, its end, or an error where the text ends first.
 #[inline(always)]
 pub fn string(text: &str, multiline: bool) -> Cut
     ensures { result ≡ string_cut multiline text.now }

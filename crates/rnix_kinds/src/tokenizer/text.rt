@@ -8,7 +8,7 @@ ghost use Rattle.rnix_kinds.specs.Lexical.ClassTable.{has_flag};
 
 use super::long::{LongClass, long_run_end};
 
-/// A set of bytes, to find runs of.
+/// A set of bytes whose runs are tokens or parts of tokens.
 #[derive(Clone, Copy)]
 pub enum Class {
     Digit,
@@ -75,7 +75,7 @@ fn has_flag(flag: u8, b: u8) -> bool
     CLASSES[b as usize] & flag != 0
 }
 
-/// Whether the byte is of the class.
+/// Returns whether the byte is in the class.
 #[inline(always)]
 pub fn is_in(class: Class, b: u8) -> bool
     ensures { result ≡ class_test class b }
@@ -95,7 +95,7 @@ pub fn is_in(class: Class, b: u8) -> bool
     }
 }
 
-/// The byte at `index`, or 0 past the end.
+/// Returns the byte at `index`, or 0 past the end.
 #[inline]
 pub fn byte_of(bytes: &[u8], index: usize) -> u8
     ensures { result ≡ slice_index bytes.now index }
@@ -103,7 +103,7 @@ pub fn byte_of(bytes: &[u8], index: usize) -> u8
     if index < bytes.len() { bytes[index] } else { 0 }
 }
 
-/// The byte of a text at `index`, or 0 past the end.
+/// Returns the byte of a text at `index`, or 0 past the end.
 #[inline]
 pub fn byte_at(text: &str, index: usize) -> u8
     ensures { result ≡ slice_index text.now index }
@@ -120,7 +120,7 @@ fn run_len(bytes: &[u8], class: Class) -> usize
     bytes.iter().take_while(|b| is_in(class, **b)).count()
 }
 
-/// Where the longest run of the class ends that begins at `from`.
+/// Returns where the longest run of the class ends that begins at `from`.
 #[inline]
 pub fn run_end_of(bytes: &[u8], from: usize, class: Class) -> usize
     requires { from ≤ length bytes.now }
@@ -131,7 +131,7 @@ pub fn run_end_of(bytes: &[u8], from: usize, class: Class) -> usize
     from + run_len(&bytes[from..], class)
 }
 
-/// Where the longest run of the class ends that begins at the byte `from` of a text.
+/// Returns where the longest run of the class ends that begins at the byte `from` of a text.
 #[inline]
 pub fn run_end(text: &str, from: usize, class: Class) -> usize
     requires { from ≤ length text.now }
@@ -150,7 +150,7 @@ fn wide_space_len(text: &str) -> usize
     text.len() - text.trim_start().len()
 }
 
-/// How many bytes of white space come first.
+/// Returns the number of bytes of white space at the start of the text.
 #[inline(never)]
 pub fn space_len(text: &str) -> usize
     ensures { result ≡ space_len text.now }
@@ -164,7 +164,7 @@ pub fn space_len(text: &str) -> usize
     wide_space_len(text)
 }
 
-/// Whether white space comes first.
+/// Returns whether white space comes first.
 pub fn begins_space(text: &str) -> bool
     ensures { result ≡ begins_space text.now }
 {
@@ -174,7 +174,7 @@ pub fn begins_space(text: &str) -> bool
     }
 }
 
-/// The length of the first character.
+/// Returns the length of the first character.
 pub fn char_len(text: &str) -> usize
     requires { 0 < length text.now }
     ensures value { result ≡ char_len text.now }
@@ -186,7 +186,7 @@ pub fn char_len(text: &str) -> usize
     }
 }
 
-/// How many bytes come before the first `a` that a `b` follows; all, if there is none.
+/// Returns how many bytes come before the first `a` that a `b` follows; all, if there is none.
 pub fn before_pair(bytes: &[u8], a: u8, b: u8) -> usize
     ensures value { result ≡ before_pair a b bytes.now }
     ensures within { result ≤ length bytes.now }

@@ -10,7 +10,7 @@ use super::rule::{Cut, plain};
 use super::text::{Class, byte_at, is_in, run_end};
 use crate::kinds::SyntaxKind;
 
-/// A URI; `scheme` is the run of the bytes that its scheme may have.
+/// Returns a URI; `scheme` is the run of the bytes that its scheme may have.
 #[inline(always)]
 pub fn uri(text: &str, scheme: usize) -> Option<Cut>
     requires { scheme ≡ prefix_len (class_test Class.Scheme) text.now }
@@ -46,7 +46,7 @@ fn kind_of_word(word: &str) -> SyntaxKind
     }
 }
 
-/// A keyword or a name; `end` is where it ends.
+/// Returns a keyword or a name; `end` is where it ends.
 #[inline(always)]
 pub fn word(text: &str, end: usize) -> Cut
     requires first { begins_word (slice_index text.now 0) ≡ true }
