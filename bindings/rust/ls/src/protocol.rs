@@ -1,4 +1,4 @@
-//! What requests and their answers are made of.
+//! The parts of requests and responses.
 
 use crate::json::{object, Value};
 use crate::text::{Position, Text};

@@ -1,4 +1,4 @@
-//! The life of the server: it takes messages one after the other, and answers requests in their order.
+//! The main loop of the server: it reads messages one by one, and responds to requests in their order.
 
 use crate::client::Client;
 use crate::documents::Documents;
@@ -35,7 +35,7 @@ enum Next {
     End(u8),
 }
 
-// The function that answers a request about a document.
+// The function that returns the response to a request about a document.
 fn feature(method: &str) -> Option<fn(&Request) -> Outcome> {
     Some(match method.strip_prefix("textDocument/")? {
         "codeAction" => actions::actions,
@@ -75,7 +75,7 @@ impl<W: Write> Server<W> {
         self.send(&notification("window/logMessage", params))
     }
 
-    // Answers a request about a document.
+    // Returns the response to a request about a document.
     fn ask(&self, method: &str, params: &Value) -> Outcome {
         let unknown = || Failure::new(Code::MethodNotFound, format!("there is no method {method}"));
         let feature = feature(method).ok_or_else(unknown)?;

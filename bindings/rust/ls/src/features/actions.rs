@@ -143,7 +143,7 @@ fn wants_fixes(request: &Request) -> bool {
     request.client.takes_actions && only.map_or(true, |kinds| kinds.iter().any(is_wanted))
 }
 
-/// Answers `textDocument/codeAction` with the quick fixes for the unused names in the range.
+/// Returns the response to `textDocument/codeAction`: the quick fixes for the unused names in the range.
 ///
 /// # Errors
 /// The parameters have no range.

@@ -237,7 +237,7 @@ fn shown(request: &Request, place: &Place, item: Item) -> Value {
     ])
 }
 
-/// Answers `textDocument/completion`. Where there are very many names, it has only those that begin with what has been typed.
+/// Returns the response to `textDocument/completion`. Where there are very many names, it has only those that begin with what has been typed.
 ///
 /// # Errors
 /// The parameters name no position.

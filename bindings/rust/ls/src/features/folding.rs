@@ -72,7 +72,7 @@ fn chosen(mut folds: Vec<Fold>) -> Vec<Fold> {
     folds
 }
 
-/// Answers `textDocument/foldingRange`.
+/// Returns the response to `textDocument/foldingRange`.
 ///
 /// # Errors
 /// Never.

@@ -68,7 +68,7 @@ fn parts(request: &Request, name: &Name) -> Option<(String, String, Option<Strin
     Some((first_line(&entry), bound_by(request, binding), comment_before(&entry)))
 }
 
-/// Answers `textDocument/hover`.
+/// Returns the response to `textDocument/hover`.
 ///
 /// # Errors
 /// The parameters name no position.

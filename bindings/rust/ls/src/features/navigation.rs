@@ -9,8 +9,8 @@ use rnix::TextRange;
 const READ: usize = 2;
 const WRITE: usize = 3;
 
-/// Answers `textDocument/definition`: each part of the binding that the name refers to, or its own. A name that an `inherit` binds refers to the
-/// one that it inherits.
+/// Returns the response to `textDocument/definition`: each part of the binding that the name refers to, or its own.
+/// A name that an `inherit` binds refers to the one that it inherits.
 ///
 /// # Errors
 /// The parameters name no position.
@@ -45,7 +45,7 @@ fn occurrences(request: &Request) -> Result<(Vec<TextRange>, Vec<TextRange>), Fa
     Ok((Vec::new(), alike.map(|one| one.name.text_range()).collect()))
 }
 
-/// Answers `textDocument/references`.
+/// Returns the response to `textDocument/references`.
 ///
 /// # Errors
 /// The parameters name no position.
@@ -63,7 +63,7 @@ pub fn references(request: &Request) -> Outcome {
     Ok(array(places.into_iter().map(|place| request.location(place))))
 }
 
-/// Answers `textDocument/documentHighlight`.
+/// Returns the response to `textDocument/documentHighlight`.
 ///
 /// # Errors
 /// The parameters name no position.

@@ -133,7 +133,7 @@ fn rename_to(analysis: &Analysis, name: Option<&Name>, new: &str) -> Result<Vec<
     }
 }
 
-/// Answers `textDocument/prepareRename` with the range and the text of the name.
+/// Returns the response to `textDocument/prepareRename`: the range and the text of the name.
 ///
 /// # Errors
 /// The name cannot be renamed; the message says why.
@@ -150,7 +150,7 @@ pub fn prepare(request: &Request) -> Outcome {
     Ok(node.map_or(Value::Null, answer))
 }
 
-/// Answers `textDocument/rename`.
+/// Returns the response to `textDocument/rename`.
 ///
 /// # Errors
 /// The name cannot be renamed; the message says why.

@@ -36,7 +36,7 @@ fn nested(request: &Request, ranges: Vec<TextRange>) -> Value {
     outer.unwrap_or(Value::Null)
 }
 
-/// Answers `textDocument/selectionRange`.
+/// Returns the response to `textDocument/selectionRange`.
 ///
 /// # Errors
 /// The parameters have no positions.

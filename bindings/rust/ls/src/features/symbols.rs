@@ -147,7 +147,7 @@ fn flat(request: &Request, symbols: &[Symbol]) -> Value {
     }))
 }
 
-/// Answers `textDocument/documentSymbol`.
+/// Returns the response to `textDocument/documentSymbol`.
 ///
 /// # Errors
 /// Never.

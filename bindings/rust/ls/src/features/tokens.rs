@@ -180,7 +180,7 @@ fn encoded(request: &Request, range: TextRange) -> Value {
     object([("data", Value::Numbers(encoder.numbers))])
 }
 
-/// Answers `textDocument/semanticTokens/full`.
+/// Returns the response to `textDocument/semanticTokens/full`.
 ///
 /// # Errors
 /// Never.
@@ -188,7 +188,7 @@ pub fn full(request: &Request) -> Outcome {
     Ok(encoded(request, request.analysis.root().text_range()))
 }
 
-/// Answers `textDocument/semanticTokens/range`.
+/// Returns the response to `textDocument/semanticTokens/range`.
 ///
 /// # Errors
 /// The parameters have no range.
