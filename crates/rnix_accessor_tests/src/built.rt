@@ -1,13 +1,13 @@
 //! The parts of nodes that were built by hand: without children, and with tokens that no text puts there.
 
+use crate::describe::describe_node;
 use crate::hand::node_over;
-use crate::told::told_of;
 use rnix::{SyntaxKind, SyntaxNode};
 use std::alloc::{AllocError, Global};
 use std::process::Abort;
 use std::test::Fail;
 
-// What the accessors of expressions without children answer.
+// What the accessors of expressions without children return.
 const EXPRESSIONS: [(SyntaxKind, &str); 24] = [
     (SyntaxKind::NODE_APPLY, "lambda=-; argument=-;"),
     (
@@ -65,7 +65,7 @@ const EXPRESSIONS: [(SyntaxKind, &str); 24] = [
     (SyntaxKind::NODE_CUR_POS, "cur_pos_token=-;"),
 ];
 
-// What the accessors of the other nodes answer, if they have no children.
+// What the accessors of the other nodes return, if they have no children.
 const OTHERS: [(SyntaxKind, &str); 10] = [
     (SyntaxKind::NODE_ATTRPATH, "attrs=-;"),
     (
@@ -97,42 +97,42 @@ const OTHERS: [(SyntaxKind, &str); 10] = [
     ),
 ];
 
-// What the accessors of a node over tokens answer.
-fn told_over(
+// Describes what the accessors of a node over tokens return.
+fn describe_built(
     alloc: Global,
     kind: SyntaxKind,
     tokens: &[(SyntaxKind, &str)],
 ) -> Result<String, AllocError> {
     let tree = node_over(alloc, kind, tokens)?;
-    told_of(alloc, SyntaxNode::new_root(&tree))
+    describe_node(alloc, SyntaxNode::new_root(&tree))
 }
 
-// What the accessors of a node without children answer.
-fn told_of_empty(alloc: Global, kind: SyntaxKind) -> Result<String, AllocError> {
-    told_over(alloc, kind, &[])
+// Describes what the accessors of a node without children return.
+fn describe_empty(alloc: Global, kind: SyntaxKind) -> Result<String, AllocError> {
+    describe_built(alloc, kind, &[])
 }
 
-// Asserts what the accessors of nodes without children answer, row by row.
-fn assert_told_of_empty(
-    rt: &impl Abort,
-    alloc: Global,
-    rows: &[(SyntaxKind, &str)],
-) -> Result<(), Fail> {
+// Asserts what the accessors of nodes without children return, row by row.
+fn assert_empty(rt: &impl Abort, alloc: Global, rows: &[(SyntaxKind, &str)]) -> Result<(), Fail> {
     for (kind, wanted) in rows {
         let name = kind.name();
-        assert_eq!(rt; told_of_empty(alloc, *kind)?.as_str(), *wanted, "of {name}");
+        assert_eq!(rt;
+            describe_empty(alloc, *kind)?.as_str(),
+            *wanted,
+            "of {name}"
+        );
     }
     Ok(())
 }
 
 #[test]
 fn nodes_without_children_have_no_parts(rt: HostRuntime) -> Result<(), Fail> {
-    assert_told_of_empty(&rt, rt.alloc(), &EXPRESSIONS)
+    assert_empty(&rt, rt.alloc(), &EXPRESSIONS)
 }
 
 #[test]
 fn parts_without_children_have_no_parts(rt: HostRuntime) -> Result<(), Fail> {
-    assert_told_of_empty(&rt, rt.alloc(), &OTHERS)
+    assert_empty(&rt, rt.alloc(), &OTHERS)
 }
 
 #[test]
@@ -143,7 +143,7 @@ fn a_pattern_has_a_sign_of_its_own(rt: HostRuntime) -> Result<(), Fail> {
         (SyntaxKind::TOKEN_ELLIPSIS, "..."),
     ];
     assert_eq!(rt;
-        told_over(rt.alloc(), SyntaxKind::NODE_PATTERN, &tokens)?.as_str(),
+        describe_built(rt.alloc(), SyntaxKind::NODE_PATTERN, &tokens)?.as_str(),
         "at_token=@; pat_entries=-; ellipsis_token=...; pat_bind=-;"
     );
     Ok(())
@@ -160,7 +160,7 @@ fn a_literal_of_several_tokens(rt: HostRuntime) -> Result<(), Fail> {
         ((SyntaxKind::TOKEN_INTEGER, "2"), "integer=1;"),
     ];
     for (last, wanted) in rows {
-        let found = told_over(rt.alloc(), SyntaxKind::NODE_LITERAL, &[uri, one, last])?;
+        let found = describe_built(rt.alloc(), SyntaxKind::NODE_LITERAL, &[uri, one, last])?;
         assert_eq!(rt; found.as_str(), wanted);
     }
     Ok(())

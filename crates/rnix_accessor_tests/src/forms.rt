@@ -1,6 +1,6 @@
 //! The parts that texts have.
 
-use crate::told::assert_told;
+use crate::describe::assert_described;
 use rnix::SyntaxKind;
 use std::alloc::Global;
 use std::process::Abort;
@@ -25,7 +25,7 @@ fn conditions_and_their_values(rt: HostRuntime) -> Result<(), Fail> {
             "with_token=with; namespace=a; semicolon_token=;; body=b;",
         ),
     ];
-    assert_told(&rt, rt.alloc(), &rows)
+    assert_described(&rt, rt.alloc(), &rows)
 }
 
 #[test]
@@ -63,7 +63,7 @@ fn names_and_what_they_select(rt: HostRuntime) -> Result<(), Fail> {
             "interpol_start_token=${; expr=a; interpol_end_token=};",
         ),
     ];
-    assert_told(&rt, rt.alloc(), &rows)
+    assert_described(&rt, rt.alloc(), &rows)
 }
 
 #[test]
@@ -93,7 +93,7 @@ fn sets_and_lets_have_entries(rt: HostRuntime) -> Result<(), Fail> {
              attrpath_values=(body = 1;); inherits=(inherit a;); curly_close_token=};",
         ),
     ];
-    assert_told(&rt, rt.alloc(), &rows)
+    assert_described(&rt, rt.alloc(), &rows)
 }
 
 #[test]
@@ -120,7 +120,7 @@ fn entries_have_names_and_values(rt: HostRuntime) -> Result<(), Fail> {
             "l_paren_token=(; expr=a; r_paren_token=);",
         ),
     ];
-    assert_told(&rt, rt.alloc(), &rows)
+    assert_described(&rt, rt.alloc(), &rows)
 }
 
 #[test]
@@ -139,7 +139,7 @@ fn functions_and_their_arguments(rt: HostRuntime) -> Result<(), Fail> {
         ),
         (SyntaxKind::NODE_IDENT_PARAM, "a: b", "ident=a;"),
     ];
-    assert_told(&rt, rt.alloc(), &rows)
+    assert_described(&rt, rt.alloc(), &rows)
 }
 
 #[test]
@@ -168,7 +168,7 @@ fn patterns_have_entries_and_a_name(rt: HostRuntime) -> Result<(), Fail> {
         (SyntaxKind::NODE_PAT_BIND, "{ a }@b: c", "ident=b;"),
         (SyntaxKind::NODE_PAT_BIND, "b@{ a }: c", "ident=b;"),
     ];
-    assert_told(&rt, rt.alloc(), &rows)
+    assert_described(&rt, rt.alloc(), &rows)
 }
 
 #[test]
@@ -193,7 +193,7 @@ fn groups_and_what_they_hold(rt: HostRuntime) -> Result<(), Fail> {
         ),
         (SyntaxKind::NODE_ERROR, "()", "syntax=);"),
     ];
-    assert_told(&rt, rt.alloc(), &rows)
+    assert_described(&rt, rt.alloc(), &rows)
 }
 
 #[test]
@@ -208,7 +208,7 @@ fn literals_strings_and_paths(rt: HostRuntime) -> Result<(), Fail> {
         (SyntaxKind::NODE_PATH_HOME, "~/a${b}", "parts=(~/a)(${b});"),
         (SyntaxKind::NODE_PATH_SEARCH, "<a>", "content=<a>;"),
     ];
-    assert_told(&rt, rt.alloc(), &rows)
+    assert_described(&rt, rt.alloc(), &rows)
 }
 
 // Asserts which operator stands between two names.
@@ -216,7 +216,7 @@ fn assert_operator(rt: &impl Abort, alloc: Global, sign: &str, name: &str) -> Re
     let text = format!(in alloc; "a {sign} b")?;
     let wanted = format!(in alloc; "lhs=a; operator={name}; rhs=b;")?;
     let row = (SyntaxKind::NODE_BIN_OP, text.as_str(), wanted.as_str());
-    assert_told(rt, alloc, &[row])
+    assert_described(rt, alloc, &[row])
 }
 
 #[test]
@@ -252,5 +252,5 @@ fn operators_before_their_operand(rt: HostRuntime) -> Result<(), Fail> {
         (SyntaxKind::NODE_UNARY_OP, "!a", "operator=Invert; expr=a;"),
         (SyntaxKind::NODE_UNARY_OP, "-a", "operator=Negate; expr=a;"),
     ];
-    assert_told(&rt, rt.alloc(), &rows)
+    assert_described(&rt, rt.alloc(), &rows)
 }

@@ -1,10 +1,12 @@
-//! Tests of what each accessor answers, on texts that have the parts and on nodes and tokens that were built by hand.
+//! Tests of what each accessor returns, on texts that have the parts and on nodes and tokens that were built by hand.
 #![tactic(auto)]
 
 #[cfg(test)]
-mod answers;
-#[cfg(test)]
 mod built;
+#[cfg(test)]
+mod describe;
+#[cfg(test)]
+mod description;
 #[cfg(test)]
 mod expressions;
 #[cfg(test)]
@@ -13,7 +15,5 @@ mod forms;
 mod hand;
 #[cfg(test)]
 mod parts;
-#[cfg(test)]
-mod told;
 #[cfg(test)]
 mod unusual;

@@ -1,11 +1,11 @@
-//! What is asked for again after a refusal. One growth at most is refused of each test, so the second answer has to come.
+//! Calls that are made again after a failed allocation. At most one allocation fails in each test, so the second call must succeed.
 
 use rnix::{Parse, Root};
 use std::alloc::{AllocError, Global};
 use std::process::Abort;
 
-/// The answer of a test that was refused memory, or was not.
-pub(crate) fn told(refused: bool) -> Result<(), AllocError> {
+/// Returns an error if an allocation of the test failed.
+pub(crate) fn report_refusal(refused: bool) -> Result<(), AllocError> {
     if refused {
         return Err(AllocError);
     }

@@ -1,6 +1,6 @@
 //! A tree that is built call by call, each refused call made again.
 
-use crate::again::{read_again, told};
+use crate::again::{read_again, report_refusal};
 use rnix::{Checkpoint, GreenNode, GreenNodeBuilder, SyntaxKind, SyntaxNode};
 use std::alloc::{AllocError, Global};
 use std::process::Abort;
@@ -120,5 +120,5 @@ fn a_tree_is_built_again(rt: HostRuntime) -> Result<(), AllocError> {
     let tree = build_again(&rt, rt.alloc(), &mut refused)?;
     let read = read_again(&rt, rt.alloc(), "a ++ b ++ c", &mut refused)?;
     assert!(rt; SyntaxNode::new_root(&tree) == read.syntax());
-    told(refused)
+    report_refusal(refused)
 }

@@ -1,6 +1,6 @@
 //! Copies that are made again after a refusal.
 
-use crate::again::{read_again, told};
+use crate::again::{read_again, report_refusal};
 use crate::compared::prints;
 use crate::parsed::EMPTY_PARENTHESIS;
 use rnix::Parse;
@@ -25,5 +25,5 @@ fn what_was_read_is_copied_again(rt: HostRuntime) -> Result<(), AllocError> {
     let read = read_again(&rt, rt.alloc(), "()", &mut refused)?;
     let copy = copy_again(&rt, &read, &mut refused)?;
     assert!(rt; prints(&read, EMPTY_PARENTHESIS) && prints(&copy, EMPTY_PARENTHESIS));
-    told(refused)
+    report_refusal(refused)
 }

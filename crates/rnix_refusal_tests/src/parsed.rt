@@ -1,7 +1,7 @@
 //! Texts that are read, and read again where that was refused. What they print was made by rnix 0.14.0 with the differences of
 //! DIFFERENCES.md.
 
-use crate::again::{read_again, told};
+use crate::again::{read_again, report_refusal};
 use crate::compared::{Compared, prints};
 use rnix_print::{RunError, run};
 use std::alloc::{AllocError, Global};
@@ -143,7 +143,7 @@ fn is_read(rt: &impl Abort, alloc: Global, text: &str, wanted: &str) -> Result<(
     let mut refused = false;
     let read = read_again(rt, alloc, text, &mut refused)?;
     assert!(rt; prints(&read, wanted));
-    told(refused)
+    report_refusal(refused)
 }
 
 #[test]
@@ -201,5 +201,5 @@ fn is_run(rt: &impl Abort, alloc: Global) -> bool {
 fn a_refused_run_writes_nothing(rt: HostRuntime) -> Result<(), AllocError> {
     let refused = !is_run(&rt, rt.alloc());
     assert!(rt; !refused || is_run(&rt, rt.alloc()));
-    told(refused)
+    report_refusal(refused)
 }

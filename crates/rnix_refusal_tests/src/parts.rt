@@ -1,6 +1,6 @@
 //! Parts of strings and paths, and values of texts, that are asked for again after a refusal.
 
-use crate::again::{read_again, told};
+use crate::again::{read_again, report_refusal};
 use rnix::Parse;
 use rnix::ast::{AstNode, Expr, InterpolPart, PathContent, unescape};
 use std::alloc::{AllocError, Global};
@@ -52,7 +52,7 @@ fn parts_of_an_indented_string_are_asked_for_again(rt: HostRuntime) -> Result<()
         holds = has_texts(rt.alloc(), &read, &wanted);
     }
     assert!(rt; holds == Some(true));
-    told(refused)
+    report_refusal(refused)
 }
 
 #[test]
@@ -66,7 +66,7 @@ fn parts_of_a_path_are_asked_for_again(rt: HostRuntime) -> Result<(), AllocError
         holds = has_pieces(rt.alloc(), &read, &wanted);
     }
     assert!(rt; holds == Some(true));
-    told(refused)
+    report_refusal(refused)
 }
 
 // Whether a text stands for the wanted one; None where that is refused.
@@ -90,5 +90,5 @@ fn values_of_texts_are_asked_for_again(rt: HostRuntime) -> Result<(), AllocError
         }
         assert!(rt; holds == Some(true));
     }
-    told(refused)
+    report_refusal(refused)
 }

@@ -1,6 +1,6 @@
 //! Tokens that are asked for again after a refusal.
 
-use crate::again::told;
+use crate::again::report_refusal;
 use rnix::{Token, Tokenizer, tokenize};
 use std::alloc::{AllocError, Global};
 use std::process::Abort;
@@ -31,7 +31,7 @@ fn are_asked_for_again(rt: &impl Abort, alloc: Global, text: &str) -> Result<(),
         assert!(rt; token == other);
     }
     assert!(rt; tokens.rest().is_empty() && others.rest().is_empty());
-    told(refused)
+    report_refusal(refused)
 }
 
 #[test]

@@ -1,4 +1,4 @@
-//! What an element answers, and the elements that hold a range.
+//! What the calls of an element return, and the elements that contain a range.
 
 use crate::found::{is_node, is_token};
 use crate::parsed::Parsed;
@@ -26,15 +26,15 @@ fn is_no_token(element: SyntaxElement<'_>) -> bool {
 }
 
 // Whether both are so of the `a`.
-fn answers_as_node(root: &SyntaxNode<'_>) -> Option<(bool, bool)> {
+fn agrees_with_node(root: &SyntaxNode<'_>) -> Option<(bool, bool)> {
     let element = SyntaxElement::from(root.first_child()?.first_child()?);
     Some((stands_first(&element), is_no_token(element)))
 }
 
 #[test]
-fn an_element_answers_as_its_node_does(rt: HostRuntime) -> Result<(), Fail> {
+fn an_element_returns_what_its_node_returns(rt: HostRuntime) -> Result<(), Fail> {
     let read = Parsed::new(rt.alloc(), "a b")?;
-    assert!(rt; answers_as_node(&read.syntax()) == Some((true, true)));
+    assert!(rt; agrees_with_node(&read.syntax()) == Some((true, true)));
     Ok(())
 }
 

@@ -22,7 +22,7 @@ NODE_ROOT@0..3
     TOKEN_ADD@2..3
 ";
 
-// What a write that fails answers: an error, or that it took nothing.
+// What a write that fails returns: an error, or that it wrote nothing.
 const FAULTS: [Option<ErrorKind>; 3] = [
     Some(ErrorKind::BrokenPipe),
     Some(ErrorKind::OutOfMemory),
@@ -56,7 +56,7 @@ fn fails_at_reads(rt: &impl Abort, alloc: Global, reads: u64, kind: ErrorKind, i
 }
 
 #[test]
-fn a_read_that_fails_is_told_and_nothing_is_written(rt: HostRuntime) {
+fn a_read_that_fails_is_reported_and_nothing_is_written(rt: HostRuntime) {
     for kind in [
         ErrorKind::Other,
         ErrorKind::OutOfMemory,
@@ -77,7 +77,7 @@ fn run_into(alloc: Global, fails_at: u64, kind: Option<ErrorKind>) -> (Option<Ru
 }
 
 #[test]
-fn a_write_that_fails_is_told(rt: HostRuntime) {
+fn a_write_that_fails_is_reported(rt: HostRuntime) {
     let wanted = PRINTED.as_bytes();
     for kind in FAULTS {
         let (_none, good) = run_into(rt.alloc(), NEVER, kind);
@@ -93,7 +93,7 @@ fn a_write_that_fails_is_told(rt: HostRuntime) {
 }
 
 #[test]
-fn dump_answers_the_error_of_the_writer(rt: HostRuntime) -> Result<(), Fail> {
+fn dump_returns_the_error_of_the_writer(rt: HostRuntime) -> Result<(), Fail> {
     let alloc = rt.alloc();
     let (tree, _errors) = parse(alloc, tokenize(alloc, TEXT))?;
     let root = SyntaxNode::new_root(&tree);
@@ -102,9 +102,9 @@ fn dump_answers_the_error_of_the_writer(rt: HostRuntime) -> Result<(), Fail> {
     for kind in FAULTS {
         for write in 0..good.writes {
             let mut out = Output::new(alloc, write, kind);
-            let told = dump(&root, &mut out).err().map(|error| error.kind());
+            let reported = dump(&root, &mut out).err().map(|error| error.kind());
             assert!(rt;
-                told == Some(kind.unwrap_or(ErrorKind::WriteZero)),
+                reported == Some(kind.unwrap_or(ErrorKind::WriteZero)),
                 "at {write}"
             );
             assert!(rt; out.stopped(good.bytes.as_slice()));

@@ -19,7 +19,7 @@ fn a_text_that_is_not_utf8_prints_nothing(rt: HostRuntime) {
 }
 
 // Whether a refusal has this complaint, and the status 2.
-fn is_told(error: RunError, wanted: &str) -> bool {
+fn is_reported(error: RunError, wanted: &str) -> bool {
     complaint(&error) == wanted && status(&Err(error)) == 2
 }
 
@@ -33,6 +33,6 @@ fn each_refusal_has_its_complaint(rt: HostRuntime) {
         (RunError::Write, "nix-tree: cannot write output"),
     ];
     for (error, wanted) in rows {
-        assert!(rt; is_told(error, wanted), "of {wanted}");
+        assert!(rt; is_reported(error, wanted), "of {wanted}");
     }
 }

@@ -1,66 +1,70 @@
-//! What the accessors of a node answer, in writing.
+//! What the accessors of a node return, as text.
 
 use rnix::SyntaxToken;
 use rnix::ast::{AstChildren, AstNode, Expr, HasEntry, InterpolPart, PathContent};
 use std::alloc::{AllocError, Global};
 
-/// Answers, each as `name=text;`, with a dash where there is nothing.
+/// Description, each as `name=text;`, with a dash where there is nothing.
 #[derive(Drop)]
-pub struct Answers {
+pub struct Description {
     pub alloc: Global,
-    said: String,
+    written: String,
     refused: Option<AllocError>,
 }
 
-/// A type of nodes whose answers are written.
-pub trait Tell<'t>: AstNode<'t> {
-    /// Writes the answer of each accessor.
-    fn tell(&self, answers: &mut Answers);
+/// A type of nodes whose accessors are described.
+pub trait Describe<'t>: AstNode<'t> {
+    /// Writes what each accessor returns.
+    fn describe(&self, out: &mut Description);
 }
 
-impl Answers {
-    /// No answers yet.
-    pub fn new(alloc: Global) -> Answers {
-        Answers {
+impl Description {
+    /// Returns an empty description.
+    pub fn new(alloc: Global) -> Description {
+        Description {
             alloc,
-            said: String::new(alloc),
+            written: String::new(alloc),
             refused: None,
         }
     }
 
-    /// The answers, or the error if a part of them was refused.
-    pub fn said(self) -> Result<String, AllocError> {
-        let Answers { said, refused, .. } = self;
+    /// Returns the description, or the error if an allocation failed.
+    pub fn finish(self) -> Result<String, AllocError> {
+        let Description {
+            written,
+            refused,
+            ..
+        } = self;
         match refused {
             Some(error) => Err(error),
-            None => Ok(said),
+            None => Ok(written),
         }
     }
 
     // Writes a text. A refusal is kept.
     fn write(&mut self, text: &str) {
-        if let Err(error) = self.said.push_str(text) {
+        if let Err(error) = self.written.push_str(text) {
             self.refused = Some(error);
         }
     }
 
-    /// Begins an answer.
+    /// Begins the result of an accessor.
     pub fn begin(&mut self, name: &str) {
-        if !self.said.is_empty() {
+        if !self.written.is_empty() {
             self.write(" ");
         }
         self.write(name);
         self.write("=");
     }
 
-    /// One of several texts of an answer.
+    /// Writes one of several texts of a result.
     pub fn part(&mut self, text: &str) {
         self.write("(");
         self.write(text);
         self.write(")");
     }
 
-    /// Ends an answer of several texts, of which there were any or none.
+    /// Ends a result of several texts, of which there were any or none.
     pub fn end(&mut self, any: bool) {
         self.write(if any { ";" } else { "-;" });
     }
