@@ -26,7 +26,7 @@ node_first : {d n m : ℕ} {u : Row} {ts us : List Token} {ds : List Fault} (k j
     → Reads j d n (row_of_kind j) u blank us c ds → IsOver u m us
     → Fronts k d n (row_of_kind k) blank (one_branch j c) us m (after (row_of_kind k) j) (ds ++ repeats j blank c)
 node_first {n = n} {ts = ts} k j c w v reads o vs s f es i z =
-    plain_from w.bare i v.items reads v.item_end o (w.expected n ts (is_first_expected (row_of_kind k) j c)) (w.followed blank (head_kind ts)) refl z refl
+    plain_from w.no_operand i v.items reads v.item_end o (w.expected n ts (is_first_expected (row_of_kind k) j c)) (w.followed blank (head_kind ts)) refl z refl
 
 -- it begins with a name
 pub name_first : {d n : ℕ} (k : SyntaxKind) (t : Token) (us : List Token) → IsFront (row_of_kind k) → t.kind ≡ TOKEN_IDENT

@@ -22,14 +22,14 @@ pub first_placed : {d n m : ℕ} {x f : AnnotatedForest} {vs us : List Token} {d
     → OperandTree d n x vs ds → fits level (seen_kind x) ≡ true → vs ≡ tokens_in f ++ us → m ≡ end_from n (tokens_in x) → after (row_of_kind k) (seen_kind x) ≡ q
     → Reads k d m q r x us f es → Reads k d n (row_of_kind k) r blank us (x ⊕ f) (ds ++ es)
 first_placed {n = n} {m = m} {vs = vs} {es = es} {k = i} level w (a_node {k = k} {s = s} {c = c} {ds = ds} y e o) h v u g z =
-    plain_from w.bare v refl y u' (subst (λ (j : ℕ). IsOver s j vs) (e ∙ sym u') o) (w.expected n (tokens_in c ++ vs) (is_first_expected (row_of_kind i) k c))
+    plain_from w.no_operand v refl y u' (subst (λ (j : ℕ). IsOver s j vs) (e ∙ sym u') o) (w.expected n (tokens_in c ++ vs) (is_first_expected (row_of_kind i) k c))
     (w.followed blank (head_kind (tokens_in c ++ vs))) g z (ap (λ y. y ++ es) (sym (none_repeated level k blank c ds h)))
   where
     u' : m ≡ end_from n (tokens_in c)
     u' = alone_end m n c u
 first_placed {d = d} {n = n} {vs = vs} level w (an_error {t = t}) h v u g z =
     wrong_from Stray (t ∷ []) v (w.expected n (t ∷ vs) false) (w.followed blank (Some t.kind))
-    (refl, w.bare.room d, w.bare.operand blank (one_fault Stray (row_of (t ∷ []))) vs, g) u z
+    (refl, w.no_operand.room d, w.no_operand.operand blank (one_fault Stray (row_of (t ∷ []))) vs, g) u z
 
 -- an operand of a level may come next in a row, and r is left after it
 pub record Takes (q : Row) (level : ℕ) (r : Row) : Type 0 where

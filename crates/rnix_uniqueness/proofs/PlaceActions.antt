@@ -28,7 +28,7 @@ takes_at {k} {j} {r} {touch} {action} w o l =
     let t = asked (is_viable (after r (leaf_kind_as k j))) _ (and_parts (asks (is_viable (after r (leaf_kind_as k j))) _) _ (done_as true w o)).0 l in
     let u = and_parts (same_kind (leaf_kind_as k j) j) _ t in
     let v = and_parts (is_take action) (lands k action) u.1 in
-    takes_by k j r touch action w.suits v.0 v.1 (same (leaf_kind_as k j) j u.0)
+    takes_by k j r touch action w.action_is_at v.0 v.1 (same (leaf_kind_as k j) j u.0)
 
 -- what two equal pairs hold is equal
 two_same : {A B : Type 0} (x y : A) (v w : B) {z : Option (A × B)} → z ≡ Some (x, v) → z ≡ Some (y, w) → (x ≡ y) × (v ≡ w)
@@ -46,7 +46,7 @@ pub runs_at : {k j : SyntaxKind} {r s : Row} {touch : Bool} {action : Action} (u
 runs_at {k} {j} {r} {s} {touch} {action} until w o e =
     let t = asked (is_any (run_at r)) _ (and_parts (asks (is_any (run_at r)) _) _ (other_item w o)).0 (ap is_any e) in
     let v = and_parts (is_run action) (lands k action) t in
-    runs_by k j r s touch until action w.suits v.0 v.1 e
+    runs_by k j r s touch until action w.action_is_at v.0 v.1 e
 
 -- an operand of which nothing is left
 reads_none : (level : ℕ) (z : Position) (h : Head) (d n : ℕ) (b : AnnotatedForest) (fs : List Frame) (gs : List Fault) (w : Bool) → nat_le depth_limit d ≡ w → d < depth_limit
@@ -86,7 +86,7 @@ pub misses_at : {k : SyntaxKind} {r s : Row} {touch : Bool} {d : ℕ} {e : Fault
 misses_at {k} {r} {s} {touch} {d} {e} {action} w m room =
     let t = asked (is_there (missing r)) _ (and_parts (asks (is_there (missing r)) _) _ w.only).0 (ap is_there m) in
     let v = and_parts (is_miss action) (lands k action) t in
-    misses_by k r s touch d e action w.suits v.0 v.1 m room
+    misses_by k r s touch d e action w.action_is_at v.0 v.1 m room
 
 -- a row ends where it may and what is expected does not come next
 pub ends_at : (k : SyntaxKind) (x : Position) (n : ℕ) (ts : List Token) → is_at k x ≡ true → IsOver (rest_at x) n ts
@@ -112,7 +112,7 @@ pub double_bind_at : {k : SyntaxKind} {r : Row} {touch : Bool} {action : Action}
 double_bind_at {k} {r} {touch} {action} w e =
     let o = done_as true w (ap (λ r. expects_next r touch (Some TOKEN_AT)) e) in
     let v = and_parts (is_double_bind action) (lands k action) (asked (is_bound r) _ (and_parts (asks (is_viable (after r (leaf_kind_as k TOKEN_AT))) _) _ o).1 (ap is_bound e)) in
-    double_bind_by k r touch action w.suits v.0 v.1
+    double_bind_by k r touch action w.action_is_at v.0 v.1
 
 -- an operand of a level is read where this is left of a row, and that is left behind it
 pub record Operands (k : SyntaxKind) (r s : Row) (action : Action) : Type 0 where
@@ -132,7 +132,7 @@ pub reads_at : {k : SyntaxKind} {r : Row} {touch : Bool} {next : Option SyntaxKi
 reads_at {k} {r} {touch} {next} {action} w o e =
     let stands : Bool = is_any (level_at r blank) || is_viable (after r NODE_LITERAL) in
     let v = and_parts (is_read action) (lands k action) (asked stands _ (and_parts (asks stands _) _ (done_as false w o)).0 e) in
-    reads_by k r touch next action w.suits v.0 v.1
+    reads_by k r touch next action w.action_is_at v.0 v.1
 
 -- what holds of the next item, if there is one
 abbrev pub IfNext : Option SyntaxKind → (SyntaxKind → Type 0) → Type 0
@@ -222,4 +222,4 @@ node_at {q} x n ts k c h r g b o = by (level_at (rest_at x) blank) refl
         let same : Bool = is_same (expects_next (rest_at x) (touches n ts) (head_kind ts)) (is_first_expected (rest_at x) k blank) in
         let both : (same && may_begin k (head_kind ts)) ≡ true = ap (λ w. w && may_begin k (head_kind ts)) (same_answer _ _ own) ∙ b in
         let v = and_parts (opens k action) (lands q action) (asked (same && may_begin k (head_kind ts)) _ (here.nodes k e g r) both) in
-        inr (left_no_operand (rest_at x) left (uncounted (rest_at x) e) e, node_by q (rest_at x) (touches n ts) k (head_kind ts) action here.suits v.0 v.1)
+        inr (left_no_operand (rest_at x) left (uncounted (rest_at x) e) e, node_by q (rest_at x) (touches n ts) k (head_kind ts) action here.action_is_at v.0 v.1)
