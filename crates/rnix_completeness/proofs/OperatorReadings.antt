@@ -134,6 +134,9 @@ apply_good {j} {k} {a} {b} g h = record {
     tight : (c : AnnotatedForest) → Over a c → nat_le 15 (level_of j c) ≡ true
     tight c o = let x = g.min_bp in let y = at_most g.level (level_of j c) (g.tight c o) in at_most_true 15 (level_of j c) (omega (arith, x, y))
 
+or_kind : (s : List ℕ) → is_or s ≡ true → kind_of_token TOKEN_IDENT s ≡ TOKEN_OR
+or_kind s h = ap (λ w. if w then TOKEN_OR else TOKEN_IDENT) h
+
 -- a name is read, which is a leaf
 pub name_node : {F : Follow} {s : List ℕ} → Node F NODE_IDENT (leaf TOKEN_IDENT s empty)
 name_node {s = s} = node_of {G = Any} refl tt (item (choice (λ k. TOKEN_IDENT ≡ leaf_kind_as NODE_IDENT k) (is_or s) refl refl) (λ b. refl) (λ g. tt) finished)
